@@ -1,0 +1,48 @@
+use super::*;
+use mini_text::Text;
+use std::test::Fail;
+
+#[test]
+fn numbers_to_texts(rt: HostRuntime) -> Result<(), Fail> {
+    let cases = [
+        (0, "0"),
+        (12, "12"),
+        (-5, "-5"),
+        (9_007_199_254_740_991, "9007199254740991"),
+        (i64::MIN, "-9223372036854775808"),
+    ];
+    for (number, spelled) in cases {
+        let text = decimal(rt.alloc(), number)?;
+        let back = text.to_utf8(rt.alloc())?;
+        assert_eq!(rt; back.as_str(), spelled);
+    }
+    Ok(())
+}
+
+#[test]
+fn texts_to_numbers(rt: HostRuntime) -> Result<(), Fail> {
+    let cases = [
+        ("0", Some(0)),
+        ("12", Some(12)),
+        ("-5", Some(-5)),
+        ("9007199254740991", Some(9_007_199_254_740_991)),
+        ("-9007199254740991", Some(-9_007_199_254_740_991)),
+        ("9007199254740992", None),
+        ("-9007199254740992", None),
+        ("99999999999999999999999", None),
+        ("012", None),
+        ("-0", None),
+        ("-012", None),
+        ("+1", None),
+        ("-", None),
+        ("", None),
+        ("1.0", None),
+        (" 1", None),
+        ("１", None),
+    ];
+    for (spelled, number) in cases {
+        let text = Text::from_str(rt.alloc(), spelled)?;
+        assert_eq!(rt; equivalent_number(&text), number);
+    }
+    Ok(())
+}
