@@ -1,0 +1,4 @@
+pub mod Ends
+pub mod Inside
+pub mod Joins
+pub mod Raw

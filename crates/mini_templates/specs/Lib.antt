@@ -1,0 +1,5 @@
+pub mod Examples
+pub mod Joined
+pub mod Reader
+pub mod Tails
+pub mod Templates
