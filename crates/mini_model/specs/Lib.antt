@@ -1,0 +1,7 @@
+pub mod Tree
+pub mod Position
+pub mod Weight
+pub mod Terms
+pub mod Redex
+pub mod Rewriting
+pub mod Examples
