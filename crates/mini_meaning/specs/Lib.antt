@@ -1,0 +1,11 @@
+pub mod Value
+pub mod State
+pub mod Demand
+pub mod Command
+pub mod Naming
+pub mod Step
+pub mod Fits
+pub mod Same
+pub mod Body
+pub mod Skeleton
+pub mod Examples
