@@ -1,0 +1,15 @@
+pub mod Weights
+pub mod Runs
+pub mod Truth
+pub mod Fitting
+pub mod Negation
+pub mod Rows
+pub mod Rewritten
+pub mod Simulation
+pub mod Flowing
+pub mod Knowing
+pub mod Fundamental
+pub mod Dead
+pub mod Congruent
+pub mod Thin
+pub mod Different

@@ -1,0 +1,9 @@
+pub mod Path
+pub mod Weights
+pub mod Truth
+pub mod Rows
+pub mod Rewritten
+pub mod Congruence
+pub mod Sameness
+pub mod Fewer
+pub mod Differences
