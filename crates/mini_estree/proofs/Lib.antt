@@ -1,0 +1,15 @@
+pub mod Names
+pub mod Under
+pub mod Steps
+pub mod Items
+pub mod Floats
+pub mod Results
+pub mod Depths
+pub mod Back
+pub mod Shaped
+pub mod Located
+pub mod Keys
+pub mod Light
+pub mod Shallow
+pub mod Lexed
+pub mod Counted

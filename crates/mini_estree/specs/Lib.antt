@@ -1,0 +1,8 @@
+pub mod Faults
+pub mod Fits
+pub mod Kinds
+pub mod Names
+pub mod Accept
+pub mod Written
+pub mod WellShaped
+pub mod Places
