@@ -1,0 +1,10 @@
+pub mod Faith
+pub mod Lists
+pub mod Negations
+pub mod Parts
+pub mod Passing
+pub mod Reaching
+pub mod Refusals
+pub mod Rows
+pub mod Shapes
+pub mod Walks

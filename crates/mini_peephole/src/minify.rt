@@ -1,0 +1,108 @@
+//! The library's top call: an ESTree value in, a lighter one out.
+
+ghost use Rattle.std.specs.Prelude.{◌≡◌, [], ◌∷◌, IfOk, IfErr, Ok, false};
+ghost use Rattle.serde_json.specs.View.{view};
+ghost use Rattle.serde_json.specs.Written.{has_float};
+ghost use Rattle.mini_tree.specs.Plain.{program_tree};
+ghost use Rattle.mini_estree.specs.Accept.{program_at};
+ghost use Rattle.mini_estree.specs.Fits.{Fits};
+ghost use Rattle.mini_peephole.specs.Faithful.{Faithful, PassesBounded};
+ghost use Rattle.mini_peephole.specs.Minified.{IsMinified, IsRewriting, IsRefusal};
+
+use crate::passes::{Passes, run_passes};
+use mini_estree::{MinifyError, read_program, unsupported, write_program};
+use mini_tree::{CompressOptions, Numbers, OutOfMemory, Program, drop_program};
+use serde_json::Value;
+use std::alloc::Global;
+
+/// What the minifier answers.
+#[derive(Drop)]
+pub struct Minified {
+    /// The lighter program, as ESTree.
+    pub program: Value,
+    /// For each numbered node of the answer, in preorder, its number in the input.
+    pub kept: Numbers,
+    /// For each symbol of the answer, its number in the input.
+    pub symbols: Numbers,
+    /// How many passes were made.
+    pub passes: u32,
+    /// Whether the last pass found nothing to rewrite.
+    pub settled: bool,
+}
+
+const ANY_DEPTH: u32 = 4_294_967_295;
+
+// The program of a value; every refusal becomes one at the root.
+fn read_script(
+    alloc: Global,
+    value: &Value,
+    options: &CompressOptions,
+) -> Result<Program, MinifyError>
+    requires { Fits (view value.now) }
+    ensures ok { IfOk result (λ p. program_at ANY_DEPTH (view value.now) ≡ Ok (program_tree p)) }
+    ensures refused { IfErr result (λ e. IsRefusal (view value.now) options.now e) }
+{
+    match read_program(alloc, value, ANY_DEPTH) {
+        Ok(program) => Ok(program),
+        Err(error) => {
+            if error.is_memory() {
+                Err(error)
+            } else {
+                Err(unsupported(alloc))
+            }
+        }
+    }
+}
+
+// The answer for a program that is written.
+fn answer(alloc: Global, program: Value, made: Passes) -> Result<Minified, OutOfMemory>
+    ensures { IfOk result (λ m. m ≡ record { program = program; kept = 0 ∷ []; symbols = []; passes = made.passes; settled = made.settled }) }
+{
+    let mut kept = Numbers::new(alloc);
+    kept.push(0)?;
+    let symbols = Numbers::new(alloc);
+    let Passes { passes, settled } = made;
+    Ok(Minified {
+        program,
+        kept,
+        symbols,
+        passes,
+        settled,
+    })
+}
+
+// The answer for a tree, which is rewritten in place.
+fn rewritten(alloc: Global, tree: &mut Program, max_passes: u32) -> Result<Minified, OutOfMemory>
+    ensures ok { IfOk result (λ m. IsRewriting (program_tree tree.old) max_passes m) }
+    ensures plain { IfOk result (λ m. has_float (view m.program) ≡ false) }
+{
+    let made = run_passes(alloc, tree, max_passes)?;
+    let program = write_program(alloc, tree)?;
+    answer(alloc, program, made)
+}
+
+/// Reads a program from its ESTree value, rewrites it until nothing is left to rewrite or the passes of the options
+/// are made, and writes it.
+///
+/// For now a value is refused as `Unsupported` at the root exactly where it is no script of expression statements and
+/// `if`s over identifiers, `!`, `&&`, `||`, conditionals and calls without arguments. `OutOfMemory` may come in place
+/// of any answer.
+///
+/// The value has to fit: `mini_estree::fits` tells, and what 16,777,216 bytes of JSON say does.
+pub fn minify_estree(
+    alloc: Global,
+    program: &Value,
+    options: &CompressOptions,
+) -> Result<Minified, MinifyError>
+    requires { Fits (view program.now) }
+    ensures faithful { IfOk result (λ m. Faithful (view program.now) options.now m) }
+    ensures passes { IfOk result (λ m. PassesBounded (view program.now) options.now m) }
+    ensures rewritten { IfOk result (λ m. IsMinified (view program.now) options.now m) }
+    ensures plain { IfOk result (λ m. has_float (view m.program) ≡ false) }
+    ensures refused { IfErr result (λ e. IsRefusal (view program.now) options.now e) }
+{
+    let mut tree = read_script(alloc, program, options)?;
+    let answer = rewritten(alloc, &mut tree, options.passes);
+    drop_program(tree);
+    Ok(answer?)
+}
