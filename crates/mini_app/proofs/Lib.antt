@@ -1,0 +1,5 @@
+pub mod Due
+pub mod Floats
+pub mod Known
+pub mod Moves
+pub mod Told

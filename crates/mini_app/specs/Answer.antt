@@ -1,0 +1,127 @@
+-- What a run answers, and when.
+use Rattle.std.specs.Prelude.{◌≡◌, ◌≢◌, ℕ, ◌<◌, ◌≤◌, ◌⊎◌, List, [], ◌∷◌, ◌++◌, length, true, false, codes, map, Option, Some, None, string_bytes, IsUtf8}
+use Rattle.std.specs.Io.KnownBytes.{Appends, Consumes, IsAtEnd}
+use Rattle.serde_json.specs.Data.{Data, unsigned, number, boolean, array, object, no_members, member}
+use Rattle.serde_json.specs.View.{view, items_of}
+use Rattle.serde_json.specs.Written.{compact_text}
+use Rattle.serde_json.specs.Read.{read}
+use Rattle.mini_tree.specs.declared.options.CompressOptions.{CompressOptions}
+use Rattle.mini_estree.specs.Faults.{Fault, fault_of, name_of_defect}
+use Rattle.mini_estree.specs.declared.error.MinifyError.{MinifyError}
+use Rattle.mini_peephole.specs.Faithful.{Faithful, PassesBounded}
+use Rattle.mini_peephole.specs.Minified.{IsMinified, IsRefusal}
+use Rattle.mini_peephole.specs.declared.minify.Minified.{Minified}
+use Rattle.mini_app.specs.Causes.{Rose, GrewWithin}
+use Rattle.mini_app.specs.declared.run.Outcome.{Outcome}
+use Rattle.mini_app.specs.declared.run.Outcome.TheVariants.{Answer, Unread, Faulty, NoRoom}
+use Rattle.mini_app.specs.declared.run.Status.{Status}
+use Rattle.mini_app.specs.declared.run.Status.TheVariants.{Done, BadWords, NotJson, Refused, ReadFault, WriteFault, TooLong, OutOfMemory}
+
+-- the options of a run
+abbrev pub run_options : CompressOptions
+run_options = record { sequences = true; join_vars = true; keep_names = record { function = false; class = false }; passes = 4294967295; max_depth = 120; pure_coercion = false; known_calls = false }
+
+-- the number that the process ends with
+abbrev pub code_of : Status → ℕ
+code_of Done = 0
+code_of BadWords = 1
+code_of NotJson = 2
+code_of Refused = 3
+code_of ReadFault = 4
+code_of WriteFault = 5
+code_of TooLong = 6
+code_of OutOfMemory = 7
+
+-- compact JSON, and a newline
+unfoldable pub line_of : Data → List ℕ
+line_of d = compact_text d ++ 10 ∷ []
+
+abbrev pub numbers_data : List ℕ → Data
+numbers_data ns = array (items_of (map (λ n. number (unsigned n)) ns))
+
+abbrev pub answer_data : Minified → Data
+answer_data m = object (member (codes "kept") (numbers_data m.kept) (member (codes "passes") (number (unsigned m.passes)) (member (codes "program") (view m.program) (member (codes "settled") (boolean m.settled) (member (codes "symbols") (numbers_data m.symbols) no_members)))))
+
+-- what is written for an answer
+abbrev pub answer_text : Minified → List ℕ
+answer_text m = line_of (answer_data m)
+
+-- what is told of a fault
+unfoldable pub note_text : Fault → List ℕ
+note_text f = codes "refused: " ++ (name_of_defect f.defect ++ (codes " at " ++ (f.at ++ 10 ∷ [])))
+
+abbrev pub IsNotJson : List ℕ → Type 0
+IsNotJson input = IsUtf8 input → read input ≡ None
+
+-- the bytes are JSON, of a program to which this answer is faithful, and from which it was made by rewrites
+pub record HasAnswer (input : List ℕ) (m : Minified) : Type 0 where
+  pub value : Data
+  pub reads : read input ≡ Some value
+  pub faithful : Faithful value run_options m
+  pub passes : PassesBounded value run_options m
+  pub minified : IsMinified value run_options m
+
+-- the bytes are JSON, of a program that is refused for this fault
+pub record HasFault (input : List ℕ) (f : Fault) : Type 0 where
+  pub value : Data
+  pub reads : read input ≡ Some value
+  pub error : MinifyError
+  pub refusal : IsRefusal value run_options error
+  pub told : fault_of error ≡ Some f
+
+-- what a whole input comes to
+abbrev pub IsOutcome : List ℕ → Outcome → Type 0
+IsOutcome input NoRoom = Unit {0}
+IsOutcome input Unread = IsNotJson input
+IsOutcome input (Faulty e) = (f : Fault) × HasFault input f × (fault_of e ≡ Some f)
+IsOutcome input (Answer s) = (m : Minified) × HasAnswer input m × (string_bytes s ≡ answer_text m)
+
+-- what a source or a sink told, and how often it had failed, before a call and after it
+pub record Change : Type 0 where
+  pub before : Option (List ℕ)
+  pub after : Option (List ℕ)
+  pub faults_before : ℕ
+  pub faults_after : ℕ
+
+-- no call was made
+pub record IsUntouched (c : Change) : Type 0 where
+  pub bytes : c.after ≡ c.before
+  pub faults : c.faults_after ≡ c.faults_before
+
+-- all of the line was written, unless the sink failed: then a beginning
+pub record IsTold (c : Change) (line : List ℕ) : Type 0 where
+  pub part : GrewWithin c.before c.after line
+  pub all : Rose c.faults_before c.faults_after ⊎ Appends c.before c.after line
+
+-- the source gave just these bytes, and its end
+pub record Gave (source : Change) (input : List ℕ) : Type 0 where
+  pub bytes : Consumes source.before source.after input
+  pub end : IsAtEnd source.after
+  pub short : length input ≤ 16777216
+
+-- the source gave these bytes, more than are read
+pub record GaveMore (source : Change) (input : List ℕ) : Type 0 where
+  pub bytes : Consumes source.before source.after input
+  pub long : 16777216 < length input
+
+-- what a status says of a whole input and of what was written
+abbrev pub IsDelivered : Status → List ℕ → Change → Change → Type 0
+IsDelivered Done input sink notes = (m : Minified) × HasAnswer input m × Appends sink.before sink.after (answer_text m) × IsUntouched notes
+IsDelivered WriteFault input sink notes = (m : Minified) × HasAnswer input m × GrewWithin sink.before sink.after (answer_text m) × Rose sink.faults_before sink.faults_after × IsUntouched notes
+IsDelivered NotJson input sink notes = IsNotJson input × IsUntouched sink × IsUntouched notes
+IsDelivered Refused input sink notes = (f : Fault) × HasFault input f × IsTold notes (note_text f) × IsUntouched sink
+IsDelivered OutOfMemory input sink notes = IsUntouched sink × IsUntouched notes
+IsDelivered BadWords input sink notes = ⊥
+IsDelivered ReadFault input sink notes = ⊥
+IsDelivered TooLong input sink notes = ⊥
+
+-- what a status says of a run
+abbrev pub IsDue : Status → List (List ℕ) → Change → Change → Change → Type 0
+IsDue BadWords words source sink notes = (words ≢ []) × IsUntouched source × IsUntouched sink × IsUntouched notes
+IsDue ReadFault words source sink notes = (words ≡ []) × Rose source.faults_before source.faults_after × IsUntouched sink × IsUntouched notes
+IsDue TooLong words source sink notes = (words ≡ []) × ((input : List ℕ) × GaveMore source input) × IsUntouched sink × IsUntouched notes
+IsDue OutOfMemory words source sink notes = (words ≡ []) × IsUntouched sink × IsUntouched notes
+IsDue Done words source sink notes = (words ≡ []) × (input : List ℕ) × Gave source input × IsDelivered Done input sink notes
+IsDue WriteFault words source sink notes = (words ≡ []) × (input : List ℕ) × Gave source input × IsDelivered WriteFault input sink notes
+IsDue NotJson words source sink notes = (words ≡ []) × (input : List ℕ) × Gave source input × IsDelivered NotJson input sink notes
+IsDue Refused words source sink notes = (words ≡ []) × (input : List ℕ) × Gave source input × IsDelivered Refused input sink notes
