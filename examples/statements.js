@@ -1,0 +1,11 @@
+if (!ready) start(); else resume();
+if (user) greet();
+if (!cached) load();
+!(!a && !b) && notify();
+a ? b() : c();
+!a ? b() : c();
+if (!(a || b)) first(); else if (c) second(); else third();
+x || (y && z());
+if (a) b; else c;
+!!$el ? stop() : go();
+if (a) if (!_b) undefined; else café();
