@@ -1,2 +1,3 @@
 pub mod Lends
 pub mod Texts
+pub mod formers

@@ -34,6 +34,11 @@ impl<T> OwnedList<T> {
         }
     }
 
+    /// The allocator that the list was made with.
+    pub fn allocator(&self) -> Global {
+        *self.items.allocator()
+    }
+
     /// How many items there are.
     pub fn len(&self) -> usize
         ensures { result ≡ length self.now }
