@@ -1,12 +1,19 @@
 -- Small trees with what the definitions say of them, worked out by hand: two for each character and what the comments
 -- of `Weight` add. a, b, c, d and e are names, and a text stands over each example.
-use Rattle.std.specs.Prelude.{◌≡◌, refl, true, false, Some, [], ◌∷◌, codes}
+use Rattle.std.specs.Prelude.{◌≡◌, refl, ℕ, true, false, Some, List, [], ◌∷◌, codes, ℤ, pos, negsuc}
+use Rattle.std.specs.Fmt.{digits}
 use Rattle.std.proofs.Common.{inl, inr, lit<}
-use Rattle.mini_model.specs.declared.operator.LogicalOperator.TheVariants.{Or, And}
+use Rattle.mini_model.specs.declared.kind.PropertyKind.TheVariants.{Init}
+use Rattle.mini_model.specs.declared.kind.VariableDeclarationKind.TheVariants.{Var}
+use Rattle.mini_model.specs.declared.operator.BinaryOperator.{BinaryOperator}
+use Rattle.mini_model.specs.declared.operator.BinaryOperator.TheVariants as binary
+use Rattle.mini_model.specs.declared.operator.LogicalOperator.TheVariants.{Or, And, Coalesce}
+use Rattle.mini_model.specs.declared.operator.UnaryOperator.TheVariants.{Void}
+use Rattle.mini_model.specs.declared.shape.Shape.TheVariants as shape
 use Rattle.mini_model.specs.declared.seat.Seat.{Seat}
 use Rattle.mini_model.specs.declared.seat.StmtSeat.TheVariants as stmt_seat
-use Rattle.mini_model.specs.Tree.{Tree, none, ◌▸◌, unresolved, identifier, null_literal, negation, logical, conditional, call, empty_statement, expression_statement, if_else, if_alone, program}
-use Rattle.mini_model.specs.Position.{Position, Expr, Stmt, seat_of_level, statement_expression_seat, if_test_seat, right_operand_seat}
+use Rattle.mini_model.specs.Tree.{Tree, Trees, node, none, ◌▸◌, leaf, listed, absent, unresolved, identifier, unary, null_literal, negation, logical, conditional, call, empty_statement, expression_statement, if_else, if_alone, program}
+use Rattle.mini_model.specs.Position.{Position, Expr, Stmt, seat_of_level, statement_expression_seat, if_test_seat, right_operand_seat, part_seat}
 use Rattle.mini_model.specs.Weight.{weight, program_weight}
 use Rattle.mini_model.specs.Terms.{is_boolean, neg, not_of, has_negated_result}
 use Rattle.mini_model.specs.Redex.{Row23, Row40, Contracts}
@@ -279,3 +286,147 @@ swapped_calls = record { row = inr (record { a = a; b = called b; c = called c; 
 -- in two steps, from 48 to 22
 two_steps : Reaches item (if_else (negation a) (call_statement b) (call_statement c)) (expression_statement (conditional a (called c) (called b)))
 two_steps = more _ _ _ _ (here _ _ _ conditional_written) (more _ _ _ _ (inside _ _ _ _ _ _ (first _ _ _ _ (here _ _ _ swapped_calls))) (done _ _))
+
+-- the other kinds
+
+abbrev says : BinaryOperator → Tree → Tree → Tree
+says o l r = node (shape.BinaryExpression o) [] 0 (l ▸ r ▸ none)
+
+abbrev number : ℤ → Tree
+number n = leaf (shape.NumericLiteral n)
+
+abbrev sequence : Trees → Tree
+sequence ts = node shape.SequenceExpression [] 0 (listed ts ▸ none)
+
+abbrev member : Tree → List ℕ → Tree
+member t s = node (shape.StaticMemberExpression false) [] 0 (t ▸ leaf (shape.IdentifierName s) ▸ none)
+
+abbrev block : Trees → Tree
+block ts = node shape.BlockStatement [] 0 (listed ts ▸ none)
+
+abbrev lambda : Trees → Tree
+lambda body = node (shape.Function false false []) [] 0 (absent ▸ listed none ▸ node shape.FunctionBody [] 0 (listed body ▸ none) ▸ none)
+
+abbrev object : Tree → Tree
+object p = node shape.ObjectExpression [] 0 (listed (p ▸ none) ▸ none)
+
+-- `12` and `-12`: two and three characters
+weight_of_twelve : weight value (number (pos 12)) ≡ 4
+unfolding digits
+weight_of_twelve = refl
+
+weight_of_minus_twelve : weight value (number (negsuc 11)) ≡ 6
+unfolding digits
+weight_of_minus_twelve = refl
+
+-- `-1 + a`, where the literal needs no parentheses, and `(-1) ** a`, where it does
+weight_of_a_negative_summand : weight value (says binary.Addition (number (negsuc 0)) a) ≡ 8
+unfolding digits
+weight_of_a_negative_summand = refl
+
+weight_of_a_negative_base : weight value (says binary.Exponential (number (negsuc 0)) a) ≡ 14
+unfolding digits
+weight_of_a_negative_base = refl
+
+-- `a ** b ** c`, and `(a ** b) ** c`
+weight_of_powers : weight value (says binary.Exponential a (says binary.Exponential b c)) ≡ 14
+weight_of_powers = refl
+
+weight_of_powers_from_the_left : weight value (says binary.Exponential (says binary.Exponential a b) c) ≡ 18
+weight_of_powers_from_the_left = refl
+
+-- `a ?? (b || c)`, and `a ?? b ?? c`: one is in parentheses for its level, the other for what stands in it
+weight_of_a_mixture : weight value (logical Coalesce (logical Or b c) a) ≡ 18
+weight_of_a_mixture = refl
+
+weight_of_coalesces : weight value (logical Coalesce (logical Coalesce a b) c) ≡ 14
+weight_of_coalesces = refl
+
+-- `null == a`, one more than its text, and `a == null`
+weight_of_a_plain_left_side : weight value (says binary.Equality null_literal a) ≡ 15
+weight_of_a_plain_left_side = refl
+
+weight_of_a_plain_right_side : weight value (says binary.Equality a null_literal) ≡ 14
+weight_of_a_plain_right_side = refl
+
+-- `void 0 == a`, one more too
+weight_of_void : weight value (says binary.Equality (unary Void (number (pos 0))) a) ≡ 19
+unfolding digits
+weight_of_void = refl
+
+-- `a != b ? c : d`, one more than its text
+weight_of_an_unequal_test : weight value (conditional (says binary.Inequality a b) c d) ≡ 17
+weight_of_an_unequal_test = refl
+
+-- `!(a, b)`, one more than its text
+weight_of_a_lifted_sequence : weight value (negation (sequence (a ▸ b ▸ none))) ≡ 13
+weight_of_a_lifted_sequence = refl
+
+-- `a, !(!b)`: the last part of a tested sequence is tested, and the others are left
+weight_of_a_sequence : weight value (sequence (a ▸ logical And b (logical And c d) ▸ e ▸ none)) ≡ 26
+weight_of_a_sequence = refl
+
+-- `a.x`, and `(a, b).x`
+weight_of_a_member : weight value (member a (codes "x")) ≡ 6
+weight_of_a_member = refl
+
+weight_of_a_member_of_a_sequence : weight value (member (sequence (a ▸ b ▸ none)) (codes "x")) ≡ 14
+weight_of_a_member_of_a_sequence = refl
+
+-- `(a?.x).x`, whose chain is in parentheses
+weight_of_a_chain_in_a_member : weight value (member (node shape.ChainExpression [] 0 (node (shape.StaticMemberExpression true) [] 0 (a ▸ leaf (shape.IdentifierName (codes "x")) ▸ none) ▸ none)) (codes "x")) ≡ 16
+weight_of_a_chain_in_a_member = refl
+
+-- `new (a())()`
+weight_of_new_of_a_call : weight value (node shape.NewExpression [] 0 (called a ▸ listed none ▸ none)) ≡ 22
+weight_of_new_of_a_call = refl
+
+-- `[a, , b]`: a hole adds its comma alone
+weight_of_a_hole : weight value (node shape.ArrayExpression [] 0 (listed (a ▸ absent ▸ b ▸ none) ▸ none)) ≡ 12
+weight_of_a_hole = refl
+
+-- `function () {}`
+weight_of_a_function : weight value (lambda none) ≡ 24
+weight_of_a_function = refl
+
+-- `{ x() {} }`: its key, and the function less 16
+weight_of_a_method : weight value (object (node (shape.ObjectProperty Init true false false) [] 0 (leaf (shape.IdentifierName (codes "x")) ▸ lambda none ▸ none))) ≡ 14
+weight_of_a_method = refl
+
+-- `{ x: a }`, and `{ a }`, which is written once
+weight_of_a_property : weight value (object (node (shape.ObjectProperty Init false false false) [] 0 (leaf (shape.IdentifierName (codes "x")) ▸ a ▸ none))) ≡ 10
+weight_of_a_property = refl
+
+weight_of_a_shorthand : weight value (object (node (shape.ObjectProperty Init false true false) [] 0 (leaf (shape.IdentifierName (codes "a")) ▸ a ▸ none))) ≡ 6
+weight_of_a_shorthand = refl
+
+-- as a consequent, `{ if (a) b(); else c(); }` has no braces of its own, and the bare `if` is one heavier
+weight_of_a_block_round_if : weight (Stmt stmt_seat.Consequent) (block (if_else a (call_statement b) (call_statement c) ▸ none)) ≡ 46
+weight_of_a_block_round_if = refl
+
+weight_of_the_bare_if : weight (Stmt stmt_seat.Consequent) (if_else a (call_statement b) (call_statement c)) ≡ 47
+weight_of_the_bare_if = refl
+
+weight_of_a_block_elsewhere : weight item (block (if_else a (call_statement b) (call_statement c) ▸ none)) ≡ 50
+weight_of_a_block_elsewhere = refl
+
+-- `var a;`, and `for (var a of b) ;`
+abbrev declared : Tree
+declared = node (shape.VariableDeclaration Var) [] 0 (listed (node shape.VariableDeclarator [] 0 (node shape.BindingIdentifier (unresolved (codes "a") ∷ []) 0 none ▸ absent ▸ none) ▸ none) ▸ none)
+
+weight_of_a_declaration : weight item declared ≡ 12
+weight_of_a_declaration = refl
+
+weight_of_a_loop : weight item (node shape.ForOfStatement [] 0 (declared ▸ b ▸ empty_statement ▸ none)) ≡ 30
+weight_of_a_loop = refl
+
+-- `\`a${b}c\``
+weight_of_a_template : weight value (node shape.TemplateLiteral [] 0 (listed (leaf (shape.TemplateElement false (codes "a") (Some (codes "a"))) ▸ leaf (shape.TemplateElement true (codes "c") (Some (codes "c"))) ▸ none) ▸ listed (b ▸ none) ▸ none)) ≡ 16
+weight_of_a_template = refl
+
+-- the last part of a sequence whose truth alone is asked for, and one before it
+seat_of_the_last_part : part_seat if_test_seat 3 2 ≡ record (seat_of_level 1) { boolean = true }
+seat_of_the_last_part = refl
+
+seat_of_a_passed_part : part_seat if_test_seat 3 1 ≡ record (seat_of_level 1) { unused = true }
+seat_of_a_passed_part = refl

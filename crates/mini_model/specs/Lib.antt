@@ -4,4 +4,5 @@ pub mod Weight
 pub mod Terms
 pub mod Redex
 pub mod Rewriting
+pub mod Paths
 pub mod Examples

@@ -3,7 +3,7 @@
 use Rattle.std.specs.Prelude.{◌≡◌, ◌<◌, ◌⊎◌, ℕ, zero, suc, true, false}
 use Rattle.mini_model.specs.declared.operator.LogicalOperator.TheVariants.{Or, And}
 use Rattle.mini_model.specs.declared.seat.Seat.{Seat}
-use Rattle.mini_model.specs.Tree.{Tree, Trees, node, none, ◌▸◌, expression_statement, if_else, if_alone, negation, logical, conditional}
+use Rattle.mini_model.specs.Tree.{Tree, Trees, node, none, ◌▸◌, count, expression_statement, if_else, if_alone, negation, logical, conditional}
 use Rattle.mini_model.specs.Position.{Position, Expr, Stmt, child_position, statement_expression_seat, left_operand_seat}
 use Rattle.mini_model.specs.Weight.{weight}
 use Rattle.mini_model.specs.Terms.{neg, not_of, has_negated_result}
@@ -65,7 +65,7 @@ pub record Redex (p : Position) (n : Tree) : Type 0 where
 -- no node of the tree is a redex in its place
 abbrev mutual
   pub HasNoRedex : Position → Tree → Type 0
-  HasNoRedex p (node h xs n ts) = (Redex p (node h xs n ts) → ⊥) × HaveNoRedex (child_position h p) ts
+  HasNoRedex p (node h xs n ts) = (Redex p (node h xs n ts) → ⊥) × HaveNoRedex (child_position h p (count ts)) ts
 
   pub HaveNoRedex : (ℕ → Position) → Trees → Type 0
   HaveNoRedex π none = Unit {0}

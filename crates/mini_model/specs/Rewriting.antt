@@ -2,7 +2,7 @@
 use Rattle.std.specs.Prelude.{ℕ, zero, suc, List}
 use Rattle.mini_model.specs.declared.name.Name.{Name}
 use Rattle.mini_model.specs.declared.shape.Shape.{Shape}
-use Rattle.mini_model.specs.Tree.{Tree, Trees, node, ◌▸◌}
+use Rattle.mini_model.specs.Tree.{Tree, Trees, node, ◌▸◌, count}
 use Rattle.mini_model.specs.Position.{Position, child_position}
 use Rattle.mini_model.specs.Redex.{Contracts}
 
@@ -10,7 +10,7 @@ mutual
   -- one rewrite, at the node or at a place in it
   pub data Step : Position → Tree → Tree → Type 0 where
     here : (p : Position) (n w : Tree) → Contracts p n w → Step p n w
-    inside : (p : Position) (h : Shape) (xs : List Name) (n : ℕ) (ts us : Trees) → StepIn (child_position h p) ts us → Step p (node h xs n ts) (node h xs n us)
+    inside : (p : Position) (h : Shape) (xs : List Name) (n : ℕ) (ts us : Trees) → StepIn (child_position h p (count ts)) ts us → Step p (node h xs n ts) (node h xs n us)
 
   -- the same of one of some children, which stand at these places
   pub data StepIn : (ℕ → Position) → Trees → Trees → Type 0 where

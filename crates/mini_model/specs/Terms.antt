@@ -1,7 +1,7 @@
 -- Terms of the rewrites: what always gives a boolean, and the negation of an expression.
 use Rattle.std.specs.Prelude.{ℕ, zero, suc, Bool, true, false, ◌&&◌, ◌||◌, List, [], ◌∷◌, nat_lt, if◌then◌else◌}
 use Rattle.mini_model.specs.declared.operator.LogicalOperator.{LogicalOperator}
-use Rattle.mini_model.specs.declared.operator.LogicalOperator.TheVariants.{Or, And}
+use Rattle.mini_model.specs.declared.operator.LogicalOperator.TheVariants.{Or, And, Coalesce}
 use Rattle.mini_model.specs.declared.operator.UnaryOperator.TheVariants.{LogicalNot}
 use Rattle.mini_model.specs.declared.name.Name.{Name}
 use Rattle.mini_model.specs.declared.seat.Seat.{Seat}
@@ -28,10 +28,11 @@ abbrev mutual
   are_boolean none = []
   are_boolean (t ▸ ts) = is_boolean t ∷ are_boolean ts
 
--- `!` and a logical operator with both sides negated (De Morgan)
+-- `&&` and `||` with both sides negated are turned into each other (De Morgan)
 abbrev pub turned : LogicalOperator → LogicalOperator
 turned And = Or
 turned Or = And
+turned Coalesce = Coalesce
 
 abbrev pub turned_seat : Shape → Seat → ℕ → Seat
 turned_seat (shape.LogicalExpression o) s i = operand_seat (turned o) s i
@@ -43,7 +44,8 @@ unwrapped true a n = a
 unwrapped false a n = negation n
 
 abbrev pub negated_by : Seat → Shape → List Name → ℕ → Trees → Trees → Tree
-negated_by s (shape.LogicalExpression o) xs n ts negated = node (shape.LogicalExpression (turned o)) xs n negated
+negated_by s (shape.LogicalExpression And) xs n ts negated = node (shape.LogicalExpression Or) xs n negated
+negated_by s (shape.LogicalExpression Or) xs n ts negated = node (shape.LogicalExpression And) xs n negated
 negated_by s (shape.UnaryExpression LogicalNot) xs n (a ▸ none) negated = unwrapped (s.boolean || is_boolean a) a (node (shape.UnaryExpression LogicalNot) xs n (a ▸ none))
 negated_by s h xs n ts negated = negation (node h xs n ts)
 

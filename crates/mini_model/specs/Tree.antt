@@ -31,6 +31,11 @@ abbrev mutual
   node_counts none = 0
   node_counts (t ▸ ts) = node_count t + node_counts ts
 
+-- how many trees there are in a list
+abbrev pub count : Trees → ℕ
+count none = 0
+count (t ▸ ts) = suc (count ts)
+
 -- reading definitions: one function a node
 
 -- a name that no scope declares

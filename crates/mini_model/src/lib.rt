@@ -5,12 +5,16 @@
 //! in it, and the seat in which it stands.
 #![tactic(auto)]
 
+mod kind;
 mod name;
 mod operator;
 mod seat;
 mod shape;
 
+pub use kind::{MetaPropertyKind, MethodDefinitionKind, PropertyKind, VariableDeclarationKind};
 pub use name::{Name, SymbolId};
-pub use operator::{LogicalOperator, UnaryOperator};
+pub use operator::{
+    AssignmentOperator, BinaryOperator, LogicalOperator, UnaryOperator, UpdateOperator,
+};
 pub use seat::{Guard, Mix, Seat, StmtSeat};
 pub use shape::Shape;

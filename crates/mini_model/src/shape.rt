@@ -1,33 +1,205 @@
-use crate::operator::{LogicalOperator, UnaryOperator};
-use mini_text::TextList;
+use crate::kind::{MetaPropertyKind, MethodDefinitionKind, PropertyKind, VariableDeclarationKind};
+use crate::operator::{
+    AssignmentOperator, BinaryOperator, LogicalOperator, UnaryOperator, UpdateOperator,
+};
+use mini_text::{Text, TextList};
 
 /// What a node of the plain form is: its kind with its plain fields. Its names, its number and its children stand
-/// beside it. A shape has one child for each field of the ESTree table, in the table's order; a list field is one
-/// child, `Listed` over its items, and a part that is absent is `Absent`.
+/// beside it. A shape has one child for each field of its type in ESTree (ES5 to ES2022) that holds a node or a list of
+/// nodes, in the order in which each variant names them; a list field is one child, `Listed` over its items, and a part
+/// that is absent is `Absent`.
 #[derive(Drop)]
 pub enum Shape {
-    /// A part that is absent.
+    /// A part that is absent, and a hole among the elements of an array.
     Absent,
     /// The items of a list field.
     Listed,
+    /// An inner expression of a carried node, which has a number of its own: its one child is the expression, or, in a
+    /// pattern, the member that is assigned to. No node of ESTree.
+    InnerExpression,
     /// `body`. The fields: whether it is a module, and its directives.
     Program(bool, TextList),
-    /// No child.
-    EmptyStatement,
+
+    // Statements
     /// `expression`.
     ExpressionStatement,
-    /// `test`, `consequent`, `alternate`.
+    /// No child.
+    EmptyStatement,
+    /// No child.
+    DebuggerStatement,
+    /// `body`.
+    BlockStatement,
+    /// `label`, an `IdentifierName`, and `body`.
+    LabeledStatement,
+    /// `label`, an `IdentifierName` or absent.
+    BreakStatement,
+    /// `label`, an `IdentifierName` or absent.
+    ContinueStatement,
+    /// `argument`, which may be absent.
+    ReturnStatement,
+    /// `argument`.
+    ThrowStatement,
+    /// `test`, `consequent`, `alternate`, which may be absent.
     IfStatement,
-    /// No child, one name.
+    /// `discriminant`, `cases`.
+    SwitchStatement,
+    /// `test`, absent in `default`, and `consequent`.
+    SwitchCase,
+    /// `block`, `handler`, `finalizer`; one of the two last may be absent.
+    TryStatement,
+    /// `param`, which may be absent, and `body`.
+    CatchClause,
+    /// `test`, `body`.
+    WhileStatement,
+    /// `body`, `test`.
+    DoWhileStatement,
+    /// `init`, `test`, `update`, which may be absent each, and `body`.
+    ForStatement,
+    /// `left`, `right`, `body`.
+    ForInStatement,
+    /// `left`, `right`, `body`.
+    ForOfStatement,
+    /// `declarations`.
+    VariableDeclaration(VariableDeclarationKind),
+    /// `id`, `init`, which may be absent.
+    VariableDeclarator,
+
+    // Functions and classes
+    /// `id`, which may be absent, `params`, `body`. The fields: whether it is a declaration, whether it is a generator,
+    /// and its directives.
+    Function(bool, bool, TextList),
+    /// `params`, `body`: a `FunctionBody` or an expression. The field: its directives.
+    ArrowFunctionExpression(TextList),
+    /// `body`: the statements of a function, which ESTree holds in a BlockStatement.
+    FunctionBody,
+    /// `id`, `superClass`, which may be absent each, and `body`. The field: whether it is a declaration.
+    Class(bool),
+    /// `body`.
+    ClassBody,
+    /// `key`, `value`. The fields: `kind`, `computed`, `static`.
+    MethodDefinition(MethodDefinitionKind, bool, bool),
+    /// `key`, `value`, which may be absent. The fields: `computed`, `static`.
+    PropertyDefinition(bool, bool),
+    /// `body`.
+    StaticBlock,
+
+    // Modules
+    /// `specifiers`, `source`.
+    ImportDeclaration,
+    /// `imported`, `local`.
+    ImportSpecifier,
+    /// `local`.
+    ImportDefaultSpecifier,
+    /// `local`.
+    ImportNamespaceSpecifier,
+    /// `declaration`, which may be absent, `specifiers`, `source`, which may be absent.
+    ExportNamedDeclaration,
+    /// `exported`, `local`.
+    ExportSpecifier,
+    /// `declaration`.
+    ExportDefaultDeclaration,
+    /// `exported`, which may be absent, and `source`.
+    ExportAllDeclaration,
+
+    // Names and literals
+    /// A name that is read or written: no child, one name.
     Identifier,
+    /// A name that is declared: no child, one name.
+    BindingIdentifier,
+    /// A name that names no variable, as a key's, a property's or a label's: no child. The field: its text.
+    IdentifierName(Text),
+    /// `#x`: no child. The field: the text after the `#`.
+    PrivateIdentifier(Text),
+    /// No child.
+    NumericLiteral(i64),
+    /// No child.
+    StringLiteral(Text),
+    /// No child.
+    BooleanLiteral(bool),
     /// No child.
     NullLiteral,
+    /// No child. The fields: `pattern`, `flags`.
+    RegExpLiteral(Text, Text),
+    /// No child.
+    BigIntLiteral(u128),
+
+    // Expressions
+    /// No child.
+    ThisExpression,
+    /// `super`, as the object or the callee of the three shapes named for it: no child.
+    Super,
+    /// `elements`.
+    ArrayExpression,
+    /// `properties`.
+    ObjectExpression,
+    /// `key`, `value`. The fields: `kind`, `method`, `shorthand`, `computed`.
+    ObjectProperty(PropertyKind, bool, bool, bool),
+    /// `argument`.
+    SpreadElement,
     /// `argument`.
     UnaryExpression(UnaryOperator),
+    /// `argument`. The fields: `operator`, `prefix`.
+    UpdateExpression(UpdateOperator, bool),
+    /// `left`, `right`.
+    BinaryExpression(BinaryOperator),
+    /// `left`, a `PrivateIdentifier`, and `right`.
+    PrivateInExpression,
     /// `left`, `right`.
     LogicalExpression(LogicalOperator),
+    /// `left`, `right`.
+    AssignmentExpression(AssignmentOperator),
     /// `test`, `consequent`, `alternate`.
     ConditionalExpression,
+    /// `expressions`.
+    SequenceExpression,
     /// `callee`, `arguments`. The field: `optional`.
     CallExpression(bool),
+    /// `callee`, which is `Super`, and `arguments`.
+    SuperCallExpression,
+    /// `callee`, `arguments`.
+    NewExpression,
+    /// `object`, `property`, an `IdentifierName`. The field: `optional`.
+    StaticMemberExpression(bool),
+    /// `object`, `property`. The field: `optional`.
+    ComputedMemberExpression(bool),
+    /// `object`, `property`, a `PrivateIdentifier`. The field: `optional`.
+    PrivateFieldExpression(bool),
+    /// `object`, which is `Super`, and `property`, an `IdentifierName`.
+    SuperStaticMemberExpression,
+    /// `object`, which is `Super`, and `property`.
+    SuperComputedMemberExpression,
+    /// `expression`.
+    ChainExpression,
+    /// `argument`, which may be absent. The field: `delegate`.
+    YieldExpression(bool),
+    /// `quasis`, `expressions`.
+    TemplateLiteral,
+    /// No child. The fields: `tail`, the raw text, and the cooked one, if there is one.
+    TemplateElement(bool, Text, Option<Text>),
+    /// `tag`, `quasi`.
+    TaggedTemplateExpression,
+    /// `meta`, `property`, each an `IdentifierName`.
+    MetaProperty(MetaPropertyKind),
+    /// `source`.
+    ImportExpression,
+
+    // Patterns
+    /// `properties`, of a declaration.
+    ObjectPattern,
+    /// `elements`, of a declaration.
+    ArrayPattern,
+    /// `key`, `value`. The fields: `shorthand`, `computed`.
+    BindingProperty(bool, bool),
+    /// `argument`.
+    RestElement,
+    /// `left`, `right`: a part of a pattern, or a parameter, with its default.
+    AssignmentPattern,
+    /// `properties`, of an assignment.
+    ObjectAssignmentTarget,
+    /// `elements`, of an assignment.
+    ArrayAssignmentTarget,
+    /// `key`, `value`: a shorthand property of an `ObjectAssignmentTarget`.
+    AssignmentTargetPropertyIdentifier,
+    /// `key`, `value`: another one. The field: `computed`.
+    AssignmentTargetPropertyProperty(bool),
 }
