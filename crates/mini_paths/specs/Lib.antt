@@ -1,0 +1,4 @@
+pub mod Finding
+pub mod Replacing
+pub mod Preorder
+pub mod Examples
