@@ -1,0 +1,3 @@
+pub mod WellShaped
+pub mod Examples
+pub mod Programs
