@@ -1,15 +1,17 @@
 -- A demand that fits a place gives each child one that fits its place.
 use Rattle.std.proofs.Common.{◌≡◌, ℕ, zero, suc, Bool, true, false, List, length, Option, None, refl, sym, ◌∙◌, inl, inr, true≢false, ⊎_elim}
-use Rattle.std.specs.Prelude.{◌⊎◌, ◌||◌}
+use Rattle.std.specs.Prelude.{◌⊎◌, ◌||◌, ◌&&◌}
 use Rattle.mini_model.specs.declared.operator.LogicalOperator.{LogicalOperator}
+use Rattle.mini_model.specs.declared.operator.UnaryOperator.TheVariants.{LogicalNot}
 use Rattle.mini_model.specs.declared.seat.Seat.{Seat}
 use Rattle.mini_model.specs.declared.seat.StmtSeat.TheVariants as stmt_seat
 use Rattle.mini_model.specs.declared.shape.Shape.{Shape}
 use Rattle.mini_model.specs.declared.shape.Shape.TheVariants as shape
-use Rattle.mini_model.specs.Position.{Position, Expr, Stmt, StatementList, ArgumentList, Elsewhere, seat_of_level, if_test_seat, not_operand_seat, conditional_test_seat, operand_seat, conditional_position, if_position, call_position, item_position, seat_at, child_position}
-use Rattle.mini_meaning.specs.Demand.{Want, Val, Test, Unused, Tail, Demand, As, Callee, Stat, Items}
-use Rattle.mini_meaning.specs.Naming.{Facts}
-use Rattle.mini_meaning.specs.Step.{pass, logical_demand, first_demand, last_tail, tail_demand, tail_of, list_demand, demand}
+use Rattle.mini_model.specs.Position.{Position, Expr, Stmt, StatementList, ArgumentList, Elsewhere, seat_of_level, if_test_seat, not_operand_seat, conditional_test_seat, is_and_or, operand_seat, conditional_position, if_position, call_position, item_position, seat_at, child_position}
+use Rattle.mini_meaning.specs.Demand.{Want, Val, Test, Unused, Tail, Demand, As, Callee, Stat, Items, Request}
+use Rattle.mini_meaning.specs.Command.{stuck}
+use Rattle.mini_meaning.specs.Naming.{NameKind, Facts}
+use Rattle.mini_meaning.specs.Step.{pass, logical_demand, first_demand, last_tail, tail_demand, tail_of, list_demand, demand, step}
 use Rattle.mini_meaning.specs.Fits.{Fits}
 
 or_true : (a b : Bool) → a || b ≡ true → (a ≡ true) ⊎ (b ≡ true)
@@ -20,16 +22,23 @@ or_false : (a b : Bool) → a ≡ false → b ≡ false → a || b ≡ false
 or_false true b h k = h
 or_false false b h k = k
 
+and_right : (a b : Bool) → a && b ≡ true → b ≡ true
+and_right true b h = h
+and_right false b h = absurd (true≢false (sym h))
+
 -- an operand of a logical expression
 pub fits_operand : (o : LogicalOperator) (s : Seat) (q : Demand) → Fits (Expr s) q → (i : ℕ) → Fits (Expr (operand_seat o s i)) (logical_demand (pass q) i)
-fits_operand o s (As Val) f zero = ((λ h. ⊎_elim (λ k. f.0 k) (λ k. ⊎_elim (λ u. cc) (λ u. u) (f.1 k)) (or_true s.boolean s.unused h)), (λ h. absurd (true≢false (sym h))))
-fits_operand o s (As Val) f (suc i) = (f.0, (λ h. absurd (true≢false (sym h))))
+fits_operand o s (As Val) f zero = (
+  (λ h. ⊎_elim (λ k. f.0 k) (λ k. ⊎_elim (λ u. cc) (λ u. u) (f.1 k)) (or_true s.boolean s.unused (and_right (is_and_or o) (s.boolean || s.unused) h))),
+  (λ h. absurd (true≢false (sym h))),
+)
+fits_operand o s (As Val) f (suc i) = ((λ h. f.0 (and_right (is_and_or o) s.boolean h)), (λ h. absurd (true≢false (sym h))))
 fits_operand o s (As Test) f zero = ((λ h. refl), (λ h. absurd (true≢false (sym h))))
 fits_operand o s (As Test) f (suc i) = ((λ h. refl), (λ h. absurd (true≢false (sym h))))
 fits_operand o s (As Unused) f zero = ((λ h. refl), (λ h. absurd (true≢false (sym h))))
-fits_operand o s (As Unused) f (suc i) = (f.0, (λ h. absurd (true≢false (sym h))))
-fits_operand o s Callee f zero = ((λ h. absurd (true≢false (sym h ∙ or_false s.boolean s.unused f.0 f.1))), (λ h. absurd (true≢false (sym h))))
-fits_operand o s Callee f (suc i) = ((λ h. absurd (true≢false (sym h ∙ f.0))), (λ h. absurd (true≢false (sym h))))
+fits_operand o s (As Unused) f (suc i) = ((λ h. f.0 (and_right (is_and_or o) s.boolean h)), (λ h. absurd (true≢false (sym h))))
+fits_operand o s Callee f zero = ((λ h. absurd (true≢false (sym (and_right (is_and_or o) (s.boolean || s.unused) h) ∙ or_false s.boolean s.unused f.0 f.1))), (λ h. absurd (true≢false (sym h))))
+fits_operand o s Callee f (suc i) = ((λ h. absurd (true≢false (sym (and_right (is_and_or o) s.boolean h) ∙ f.0))), (λ h. absurd (true≢false (sym h))))
 fits_operand o s (Stat t) f i = elim f [ ]
 fits_operand o s Items f i = elim f [ ]
 
@@ -51,27 +60,14 @@ unmarked_fits n w = (unmarked w false refl, not_unused w)
 tested : (s : Seat) → Fits (Expr s) (As Test)
 tested s = ((λ h. refl), (λ h. inr refl))
 
-fits_list : (fs : List Facts) (p : Position) (q : Demand) → Fits p q → (i : ℕ) → Fits (item_position p) (list_demand fs q i)
-fits_list fs (Expr s) (As w) f i = tt
-fits_list fs (Expr s) Callee f i = tt
-fits_list fs (Expr s) (Stat t) f i = elim f [ ]
-fits_list fs (Expr s) Items f i = elim f [ ]
-fits_list fs (Stmt k) (Stat t) f i = tail_fits Elsewhere (λ u. tt) (length fs) t i
-fits_list fs StatementList (Stat t) f i = tail_fits (Stmt stmt_seat.List) (λ u. tt) (length fs) t i
-fits_list fs ArgumentList Items f i = unmarked_fits 1 Val
-fits_list fs Elsewhere (Stat t) f i = tail_fits Elsewhere (λ u. tt) (length fs) t i
-fits_list fs (Stmt k) (As w) f i = elim f [ ]
-fits_list fs (Stmt k) Callee f i = elim f [ ]
-fits_list fs (Stmt k) Items f i = elim f [ ]
-fits_list fs StatementList (As w) f i = elim f [ ]
-fits_list fs StatementList Callee f i = elim f [ ]
-fits_list fs StatementList Items f i = elim f [ ]
-fits_list fs ArgumentList (As w) f i = elim f [ ]
-fits_list fs ArgumentList Callee f i = elim f [ ]
-fits_list fs ArgumentList (Stat t) f i = elim f [ ]
-fits_list fs Elsewhere (As w) f i = elim f [ ]
-fits_list fs Elsewhere Callee f i = elim f [ ]
-fits_list fs Elsewhere Items f i = elim f [ ]
+fits_list : (fs : List Facts) (p : Position) (q : Demand) → Fits p q → (n i : ℕ) → Fits (item_position p n i) (list_demand fs q i)
+fits_list fs (Expr s) (As w) f n i = tt
+fits_list fs (Expr s) Callee f n i = tt
+fits_list fs (Stmt k) (Stat t) f n i = tail_fits Elsewhere (λ u. tt) (length fs) t i
+fits_list fs StatementList (Stat t) f n i = tail_fits (Stmt stmt_seat.List) (λ u. tt) (length fs) t i
+fits_list fs ArgumentList Items f n i = unmarked_fits 1 Val
+fits_list fs Elsewhere (Stat t) f n i = tail_fits Elsewhere (λ u. tt) (length fs) t i
+fits_list fs p q f n i = absurd f
 
 fits_if : (q : Demand) (i : ℕ) → Fits (if_position i) (first_demand (As Test) (tail_of q) i)
 fits_if q zero = tested if_test_seat
@@ -88,24 +84,11 @@ fits_if Items (suc (suc i)) = tt
 passed_fits : (p : Position) (q : Demand) → Fits p q → Fits (Expr (seat_at p)) (As (pass q))
 passed_fits (Expr s) (As w) f = f
 passed_fits (Expr s) Callee f = (unmarked Val s.boolean f.0, (λ h. absurd (true≢false (sym h ∙ f.1))))
-passed_fits (Expr s) (Stat t) f = elim f [ ]
-passed_fits (Expr s) Items f = elim f [ ]
 passed_fits (Stmt k) (Stat t) f = unmarked_fits 0 Val
 passed_fits StatementList (Stat t) f = unmarked_fits 0 Val
 passed_fits ArgumentList Items f = unmarked_fits 0 Val
 passed_fits Elsewhere (Stat t) f = unmarked_fits 0 Val
-passed_fits (Stmt k) (As w) f = elim f [ ]
-passed_fits (Stmt k) Callee f = elim f [ ]
-passed_fits (Stmt k) Items f = elim f [ ]
-passed_fits StatementList (As w) f = elim f [ ]
-passed_fits StatementList Callee f = elim f [ ]
-passed_fits StatementList Items f = elim f [ ]
-passed_fits ArgumentList (As w) f = elim f [ ]
-passed_fits ArgumentList Callee f = elim f [ ]
-passed_fits ArgumentList (Stat t) f = elim f [ ]
-passed_fits Elsewhere (As w) f = elim f [ ]
-passed_fits Elsewhere Callee f = elim f [ ]
-passed_fits Elsewhere Items f = elim f [ ]
+passed_fits p q f = absurd f
 
 fits_conditional : (s : Seat) (w : Want) → Fits (Expr s) (As w) → (i : ℕ) → Fits (conditional_position s i) (first_demand (As Test) (As w) i)
 fits_conditional s w f zero = tested conditional_test_seat
@@ -115,12 +98,27 @@ fits_call : (i : ℕ) → Fits (call_position i) (first_demand Callee Items i)
 fits_call zero = (refl, refl)
 fits_call (suc i) = tt
 
-pub fits_child : (h : Shape) (fs : List Facts) (p : Position) (q : Demand) → Fits p q → (i : ℕ) → Fits (child_position h p i) (demand h fs q i)
-fits_child shape.Listed fs p q f i = fits_list fs p q f i
-fits_child shape.ExpressionStatement fs p q f i = (unmarked Unused false refl, (λ h. inl refl))
-fits_child shape.IfStatement fs p q f i = fits_if q i
-fits_child (shape.UnaryExpression o) fs p q f i = tested not_operand_seat
-fits_child (shape.LogicalExpression o) fs p q f i = fits_operand o (seat_at p) (As (pass q)) (passed_fits p q f) i
-fits_child shape.ConditionalExpression fs p q f i = fits_conditional (seat_at p) (pass q) (passed_fits p q f) i
-fits_child (shape.CallExpression b) fs p q f i = fits_call i
-fits_child h fs p q f i = tt
+-- a demand that fits the node's place gives each child one that fits its place
+abbrev pub FitsChildren : Shape → Type 0
+FitsChildren h = (fs : List Facts) (p : Position) (q : Demand) → Fits p q → (n i : ℕ) → Fits (child_position h p n i) (demand h fs q i)
+
+-- the node leaves the model, whatever is asked of it
+abbrev pub Leaves : Shape → Type 0
+Leaves h = (ks : List NameKind) (fs : List Facts) (q : Demand) (r : Request q) → step h ks fs q r ≡ stuck
+
+-- a kind has a meaning, or none yet
+pub fits_or_leaves : (h : Shape) → FitsChildren h ⊎ Leaves h
+unfolding step
+fits_or_leaves shape.Absent = inl (λ fs p q f n i. tt)
+fits_or_leaves shape.Listed = inl fits_list
+fits_or_leaves (shape.Program is_module directives) = inl (λ fs p q f n i. tt)
+fits_or_leaves shape.EmptyStatement = inl (λ fs p q f n i. tt)
+fits_or_leaves shape.ExpressionStatement = inl (λ fs p q f n i. (unmarked Unused false refl, (λ h. inl refl)))
+fits_or_leaves shape.IfStatement = inl (λ fs p q f n i. fits_if q i)
+fits_or_leaves shape.Identifier = inl (λ fs p q f n i. tt)
+fits_or_leaves shape.NullLiteral = inl (λ fs p q f n i. tt)
+fits_or_leaves (shape.UnaryExpression LogicalNot) = inl (λ fs p q f n i. tested not_operand_seat)
+fits_or_leaves (shape.LogicalExpression o) = inl (λ fs p q f n i. fits_operand o (seat_at p) (As (pass q)) (passed_fits p q f) i)
+fits_or_leaves shape.ConditionalExpression = inl (λ fs p q f n i. fits_conditional (seat_at p) (pass q) (passed_fits p q f) i)
+fits_or_leaves (shape.CallExpression optional) = inl (λ fs p q f n i. fits_call i)
+fits_or_leaves h = inr (λ ks fs q r. refl)

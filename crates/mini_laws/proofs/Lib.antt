@@ -1,4 +1,7 @@
+pub mod Outlines
 pub mod Weights
+pub mod Seats
+pub mod Lighter
 pub mod Runs
 pub mod Truth
 pub mod Fitting

@@ -2,7 +2,7 @@
 use Rattle.std.proofs.Common.{◌≡◌, ℕ, zero, suc, Bool, true, false, List, refl, sym, ap, ◌∙◌, inl, inr, true≢false, ⊎_elim}
 use Rattle.std.specs.Prelude.{◌⊎◌, ◌||◌, ◌&&◌, not}
 use Rattle.mini_model.specs.declared.operator.LogicalOperator.{LogicalOperator}
-use Rattle.mini_model.specs.declared.operator.LogicalOperator.TheVariants.{Or, And}
+use Rattle.mini_model.specs.declared.operator.LogicalOperator.TheVariants.{Or, And, Coalesce}
 use Rattle.mini_model.specs.declared.operator.UnaryOperator.TheVariants.{LogicalNot}
 use Rattle.mini_model.specs.declared.name.Name.{Name}
 use Rattle.mini_model.specs.declared.seat.Seat.{Seat}
@@ -90,6 +90,7 @@ module _ (e : Environment) where
       simp (runs, value_of a (and_left (is_boolean a) (is_boolean b) h)) (either_cong _ _ _ _ _ (each_bool _ (λ z. simp (runs, value_of b (and_right (is_boolean a) (is_boolean b) h))) (λ z. simp runs)) (λ x z. refl))
   value_of (node (shape.LogicalExpression Or) xs n (a ▸ (b ▸ none))) h s =
       simp (runs, value_of a (and_left (is_boolean a) (is_boolean b) h)) (either_cong _ _ _ _ _ (each_bool _ (λ z. simp runs) (λ z. simp (runs, value_of b (and_right (is_boolean a) (is_boolean b) h)))) (λ x z. refl))
+  value_of (node (shape.LogicalExpression Coalesce) xs n ts) h s = simp runs
   value_of (node shape.ConditionalExpression xs n (a ▸ (b ▸ (c ▸ none)))) h s =
       simp runs (either_cong _ _ _ _ _ (each_bool _ (λ z. simp (runs, value_of b (and_left (is_boolean b) (is_boolean c) h))) (λ z. simp (runs, value_of c (and_right (is_boolean b) (is_boolean c) h)))) (λ x z. refl))
   value_of (node g xs n ts) h s = absurd (true≢false (sym h))
@@ -133,6 +134,10 @@ module _ (e : Environment) where
 
   -- De Morgan
 
+  flipped_out : (w : Want) → out ≡ flipped w out
+  unfolding flipped
+  flipped_out w = sym (either_out _ _)
+
   module _ (names names' : Naming) (K' K : All) where
     Flips : ℕ → Want → Type 0
     Flips i w = (s : State) → K' i (As w) tt s ≡ flipped w (K i (As Test) tt s)
@@ -154,6 +159,7 @@ module _ (e : Environment) where
     logical_flips : (o : LogicalOperator) (w v : Want) → logical_demand w 0 ≡ As v → Flips 0 v → Flips 1 w → (s : State) → run e names (λ i. K' i (logical_demand w i)) (bind (logical_step (turned o) w) (passed (As w) tt)) s ≡ flipped w (run e names' (λ i. K i (logical_demand Test i)) (bind (logical_step o Test) (passed (As Test) tt)) s)
     logical_flips And w v u h0 h1 s = or_for_and w v u h0 h1 s
     logical_flips Or w v u h0 h1 s = and_for_or w v u h0 h1 s
+    logical_flips Coalesce w v u h0 h1 s = flipped_out w
 
   logical_as : (o : LogicalOperator) (xs : List Name) (n : ℕ) (ts us : Trees) (w v : Want) → logical_demand w 0 ≡ As v → ((s : State) → meaning e us 0 (As v) tt s ≡ flipped v (meaning e ts 0 (As Test) tt s)) → ((s : State) → meaning e us 1 (As w) tt s ≡ flipped w (meaning e ts 1 (As Test) tt s)) → (s : State) → means e (node (shape.LogicalExpression (turned o)) xs n us) (As w) tt s ≡ flipped w (means e (node (shape.LogicalExpression o) xs n ts) (As Test) tt s)
   unfolding means step Flips
@@ -162,10 +168,6 @@ module _ (e : Environment) where
   logical_called : (o : LogicalOperator) (xs : List Name) (n : ℕ) (us : Trees) (s : State) → means e (node (shape.LogicalExpression o) xs n us) Callee tt s ≡ called (means e (node (shape.LogicalExpression o) xs n us) (As Val) tt s)
   unfolding means step
   logical_called o xs n us s = passes (naming (shape.LogicalExpression o) (variables xs) n (summaries us)) (logical_demand Val) (logical_step o Val) (λ i r z. meaning e us i (logical_demand Val i) r z) s
-
-  flipped_out : (w : Want) → out ≡ flipped w out
-  unfolding flipped
-  flipped_out w = sym (either_out _ _)
 
   -- a logical expression, from its operands
   turns : (o : LogicalOperator) (xs : List Name) (n : ℕ) (ts us : Trees) (s : Seat) → ((i : ℕ) (w : Want) → Fits (Expr (operand_seat (turned o) s i)) (As w) → (z : State) → meaning e us i (As w) tt z ≡ flipped w (meaning e ts i (As Test) tt z)) → (q : Demand) → Fits (Expr s) q → (r : Request q) (z : State) → means e (negation (node (shape.LogicalExpression o) xs n ts)) q r z ≡ means e (node (shape.LogicalExpression (turned o)) xs n us) q r z
@@ -185,7 +187,8 @@ module _ (e : Environment) where
     unfolding meaning
 
     negated : (a : Tree) (s : Seat) (q : Demand) → Fits (Expr s) q → (r : Request q) (z : State) → means e (negation a) q r z ≡ means e (neg s a) q r z
-    negated (node (shape.LogicalExpression o) xs n ts) s q f r z = turns o xs n ts (neg_each (λ i. operand_seat (turned o) s i) ts) s (λ i w g y. each_negated ts (λ i. operand_seat (turned o) s i) i w g y) q f r z
+    negated (node (shape.LogicalExpression And) xs n ts) s q f r z = turns And xs n ts (neg_each (λ i. operand_seat Or s i) ts) s (λ i w g y. each_negated ts (λ i. operand_seat Or s i) i w g y) q f r z
+    negated (node (shape.LogicalExpression Or) xs n ts) s q f r z = turns Or xs n ts (neg_each (λ i. operand_seat And s i) ts) s (λ i w g y. each_negated ts (λ i. operand_seat And s i) i w g y) q f r z
     negated (node (shape.UnaryExpression LogicalNot) xs n (a ▸ none)) s q f r z = unwraps xs n a s (s.boolean || is_boolean a) (or_split s.boolean (is_boolean a)) q f r z
     negated (node h xs n ts) s q f r z = refl
 

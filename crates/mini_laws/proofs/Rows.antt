@@ -5,7 +5,7 @@ use Rattle.mini_model.specs.declared.operator.LogicalOperator.TheVariants.{Or, A
 use Rattle.mini_model.specs.declared.seat.Seat.{Seat}
 use Rattle.mini_model.specs.declared.seat.StmtSeat.{StmtSeat}
 use Rattle.mini_model.specs.Tree.{Tree, negation, logical, conditional, if_else, if_alone, expression_statement}
-use Rattle.mini_model.specs.Position.{Position, Expr, Stmt, StatementList, ArgumentList, Elsewhere, left_operand_seat, statement_expression_seat}
+use Rattle.mini_model.specs.Position.{Position, Expr, Stmt, left_operand_seat, statement_expression_seat}
 use Rattle.mini_model.specs.Weight.{weight}
 use Rattle.mini_model.specs.Terms.{neg, not_of}
 use Rattle.mini_model.specs.Redex.{Row23, Row40, Row82Else, Row82And, Row82Or, Row}
@@ -131,6 +131,4 @@ row_equal (Expr s) n w (inr r) = row_40_equal s n w r
 row_equal (Stmt q) n w (inl r) = row_82_else_equal q n w r
 row_equal (Stmt q) n w (inr (inl r)) = row_82_and_equal q n w r
 row_equal (Stmt q) n w (inr (inr r)) = row_82_or_equal q n w r
-row_equal StatementList n w r = elim r [ ]
-row_equal ArgumentList n w r = elim r [ ]
-row_equal Elsewhere n w r = elim r [ ]
+row_equal p n w r = absurd r

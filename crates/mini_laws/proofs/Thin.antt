@@ -13,7 +13,7 @@ use Rattle.mini_meaning.specs.Body.{BodyKind, Outcome, Ran, body_demand, body_re
 use Rattle.mini_meaning.specs.Same.{Relation, Goes, Initialised, Agree, Same}
 use Rattle.mini_meaning.specs.Skeleton.{Within, Rules, Sound}
 use Rattle.mini_laws.specs.Fewer as law
-use Rattle.mini_laws.specs.Fewer.{thin, limit, Thinner, FewerIn}
+use Rattle.mini_laws.specs.Fewer.{thin, limit, Thinner}
 use Rattle.mini_laws.proofs.Dead.{at_goes, self_goes}
 use Rattle.mini_laws.proofs.Congruent.{plain_goes}
 

@@ -1,6 +1,6 @@
 -- A node may be replaced, at any place, by one that means the same where it stands, and the whole means the same.
 use Rattle.std.specs.Prelude.{◌≡◌, true, false, List, [], ◌∷◌}
-use Rattle.mini_model.specs.Tree.{Tree, Trees, node, none, ◌▸◌}
+use Rattle.mini_model.specs.Tree.{Tree, Trees, node, none, ◌▸◌, count}
 use Rattle.mini_meaning.specs.Value.{Variable, VariableSet, variables, is_in}
 use Rattle.mini_meaning.specs.State.{State, Environment}
 use Rattle.mini_meaning.specs.Demand.{Demand, Request}
@@ -10,7 +10,7 @@ use Rattle.mini_meaning.specs.Step.{demand, means}
 use Rattle.mini_meaning.specs.Body.{BodyKind, body_demand, SameBody}
 use Rattle.mini_meaning.specs.Same.{Goes, Agree, Same}
 use Rattle.mini_meaning.specs.Skeleton.{Off, hidden, needs, Rules, TreesGo}
-use Rattle.mini_laws.specs.Path.{Path, here, inside, join, count, plug}
+use Rattle.mini_laws.specs.Path.{Path, here, inside, join, plug}
 
 abbrev pub NoneIn : VariableSet → List Variable → Type 0
 NoneIn D [] = Unit {0}

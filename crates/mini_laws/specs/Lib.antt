@@ -7,3 +7,4 @@ pub mod Congruence
 pub mod Sameness
 pub mod Fewer
 pub mod Differences
+pub mod Examples

@@ -9,12 +9,22 @@ ghost use Rattle.mini_laws.specs.Fewer.{Fewer, FewerSame, FewerBody};
 ghost use Rattle.mini_laws.specs.Rewritten.{StepSame, ReachesSame, ProgramSame, FrameKept};
 ghost use Rattle.mini_laws.specs.Rows.{NegationSame, LighterNegationSame, Row23Same, Row40Same, Row82ElseSame, Row82AndSame, Row82OrSame, RowSame};
 ghost use Rattle.mini_laws.specs.Truth.{Coherent};
-ghost use Rattle.mini_laws.specs.Weights.{Replacement, OwnWeightKept, StepLighter, ReachesLighter};
+ghost use Rattle.mini_laws.specs.Weights.{Replacement, OwnWeightKept, ReplacementFalls, FallsOtherwise, WholeFalls, StepLighter, ReachesLighter};
 
-/// The weight of a whole falls by what a part's falls, and by what the own weight of the node above it does.
+/// The weight of a whole falls by what a part's falls, and by what the own weights of the nodes above it do. Those read
+/// the outlines of their children alone.
 pub fn replacement()
     ensures falls { Replacement }
     ensures kept { OwnWeightKept }
+{}
+
+/// Where a part stands for another the nodes above grow no heavier, so that the whole falls by at least what the part
+/// does, with two exceptions: the braces of a block that is a consequent, where an `if` with `else` stood alone in it
+/// and no longer does, and an operand of an equality that gets to be `void 0`.
+pub fn replacement_of_parts()
+    ensures above { ReplacementFalls }
+    ensures otherwise { FallsOtherwise }
+    ensures whole { WholeFalls }
 {}
 
 /// Each rewrite makes the whole lighter by at least 1.

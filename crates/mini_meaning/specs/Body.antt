@@ -97,7 +97,7 @@ abbrev pub is_global : Variable → Bool
 is_global (Variable.Global s) = true
 is_global (Variable.Declared n) = false
 
--- what events show: the unresolved names. No shape declares a name yet that another body may see
+-- what events show: the unresolved names. No shape with a meaning declares a name yet that another body may see
 abbrev pub shared_of : Tree → VariableSet
 shared_of t x = is_global x && is_in x (mentioned t)
 

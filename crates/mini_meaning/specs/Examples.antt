@@ -1,7 +1,9 @@
 -- Runs of small programs, computed.
 use Rattle.std.specs.Prelude.{◌≡◌, refl, ℕ, true, false, List, [], ◌∷◌, Option, Some, None, codes, pos}
-use Rattle.mini_model.specs.declared.operator.LogicalOperator.TheVariants.{And}
-use Rattle.mini_model.specs.Tree.{Tree, Trees, none, ◌▸◌, unresolved, program, expression_statement, if_alone, identifier, negation, logical, conditional, call}
+use Rattle.mini_model.specs.declared.operator.LogicalOperator.TheVariants.{And, Coalesce}
+use Rattle.mini_model.specs.declared.operator.UnaryOperator.TheVariants.{Void}
+use Rattle.mini_model.specs.declared.shape.Shape.TheVariants as shape
+use Rattle.mini_model.specs.Tree.{Tree, Trees, none, ◌▸◌, unresolved, program, expression_statement, leaf, if_alone, identifier, unary, negation, logical, conditional, call}
 use Rattle.mini_meaning.specs.Value.{Value, Undefined, Null, Boolean, Number, Object, Variable, Global, Slot, Holds, Missing, choose, variable_eq}
 use Rattle.mini_meaning.specs.State.{Label, CallOf, DirectEval, Entry, Item, Event, Normal, Throws, Answer, State, Continued, NoTurns, Completion, ok, stop, halt, out, ended, either}
 use Rattle.mini_meaning.specs.Demand.{Val, Test, LoopTail, As}
@@ -166,6 +168,19 @@ not_a_number = refl
 undefined_name : outcome_of (run_of (one (name (codes "undefined"))) Null []) ≡ Some NormalEnd
 unfolding means meaning step either act at_variable read_slot answered heard
 undefined_name = refl
+
+-- a kind without a meaning yet leaves the model: `void a`, `a ?? b` and `debugger`
+void_operator : outcome_of (run_of (one (unary Void a)) Null []) ≡ None
+unfolding means meaning step either
+void_operator = refl
+
+coalesce_operator : outcome_of (run_of (one (logical Coalesce a b)) Null []) ≡ None
+unfolding means meaning step either
+coalesce_operator = refl
+
+debugger_statement : outcome_of (run_of (script (leaf shape.DebuggerStatement ▸ none)) Null []) ≡ None
+unfolding means meaning step either
+debugger_statement = refl
 
 -- `eval()` is a direct eval, with no `this`, and `eval?.()` is a call
 abbrev with_eval : Variable → Slot

@@ -1,5 +1,5 @@
 -- Which demand goes with which place: the marks of a seat say what the model asks there. A node that stands elsewhere, as
--- a program does, is run.
+-- a program does, is run. A place that only kinds without a meaning yet give has no demand that fits.
 use Rattle.std.specs.Prelude.{◌≡◌, ◌⊎◌, true, false}
 use Rattle.mini_model.specs.Position.{Position, Expr, Stmt, StatementList, ArgumentList, Elsewhere}
 use Rattle.mini_meaning.specs.Demand.{Test, Unused, Demand, As, Callee, Stat, Items}

@@ -50,16 +50,16 @@ abbrev pub facts_of : Shape → List Facts → Facts
 facts_of shape.Absent fs = record { absent = true }
 facts_of _ fs = record { absent = false }
 
--- no shape declares a name yet
+-- no shape with a meaning declares a name yet
 abbrev pub lets_of : Shape → List Variable → List Summary → List Variable
 lets_of shape.Listed xs is = lets_all is
 lets_of _ xs is = []
 
--- the variables of the scope that a node opens: no shape opens one yet
+-- the variables of the scope that a node opens: no shape with a meaning opens one yet
 abbrev pub scope_of : Shape → List Variable → List Summary → List Variable
 scope_of _ xs is = []
 
--- the variables that a node writes or initialises itself: no shape does yet
+-- the variables that a node writes or initialises itself: no shape with a meaning does yet
 abbrev pub written_of : Shape → List Variable → List Variable
 written_of _ xs = []
 

@@ -1,7 +1,7 @@
 -- What each shape asks of its children and does: its command, and by it the meaning of a tree.
 use Rattle.std.specs.Prelude.{ℕ, zero, suc, Bool, true, false, not, ◌&&◌, List, [], ◌∷◌, length, Option, Some, None}
 use Rattle.mini_model.specs.declared.operator.LogicalOperator.{LogicalOperator}
-use Rattle.mini_model.specs.declared.operator.LogicalOperator.TheVariants.{Or, And}
+use Rattle.mini_model.specs.declared.operator.LogicalOperator.TheVariants.{Or, And, Coalesce}
 use Rattle.mini_model.specs.declared.operator.UnaryOperator.TheVariants.{LogicalNot}
 use Rattle.mini_model.specs.declared.shape.Shape.{Shape}
 use Rattle.mini_model.specs.declared.shape.Shape.TheVariants as shape
@@ -52,6 +52,7 @@ list_demand fs (Stat t) = tail_demand (length fs) t
 list_demand fs Items = λ i. As Val
 list_demand fs q = λ i. Stat None
 
+-- a kind without a meaning yet asks nothing, whatever stands here
 abbrev pub demand : Shape → List Facts → Demand → ℕ → Demand
 demand shape.Listed fs q = list_demand fs q
 demand shape.ExpressionStatement fs q = λ i. As Unused
@@ -127,9 +128,11 @@ or_step Val = kid 0 tt (then (λ v. choose (truth v) (ret v) (kid 1 tt (then ret
 or_step Test = kid 0 tt (then (λ b. choose b (ret true) (kid 1 tt (then ret))))
 or_step Unused = kid 0 tt (then (λ b. choose b (ret tt) (kid 1 tt (then ret))))
 
+-- `??` has no meaning yet
 abbrev pub logical_step : LogicalOperator → (w : Want) → Command (logical_demand w) (Says w)
 logical_step And w = and_step w
 logical_step Or w = or_step w
+logical_step Coalesce w = stuck
 
 -- ECMA-262, "Conditional Operator"
 abbrev pub conditional_step : (w : Want) → Command (first_demand (As Test) (As w)) (Says w)
@@ -184,7 +187,7 @@ abbrev pub if_in : (fs : List Facts) (q : Demand) (r : Request q) → Command (f
 if_in fs (Stat t) labels = attempt (if_step t (nth_absent fs 2)) (merged t)
 if_in fs q r = stuck
 
--- what a node does where this is asked of it
+-- what a node does where this is asked of it: a kind without a meaning yet leaves the model, and asks no child
 unfoldable pub step : (h : Shape) (ks : List NameKind) (fs : List Facts) (q : Demand) (r : Request q) → Command (demand h fs q) (Reply q r)
 step shape.Absent ks fs q r = absent_step q r
 step shape.Listed ks fs q r = list_step fs q r
@@ -198,6 +201,7 @@ step (shape.UnaryExpression LogicalNot) ks fs q r = bind not_step (reply_truth q
 step (shape.LogicalExpression o) ks fs q r = bind (logical_step o (pass q)) (passed q r)
 step shape.ConditionalExpression ks fs q r = bind (conditional_step (pass q)) (passed q r)
 step (shape.CallExpression optional) ks fs q r = bind (call_step optional) (reply q r)
+step _ ks fs q r = stuck
 
 unfoldable mutual
   -- the meaning of a tree where this is asked of it
