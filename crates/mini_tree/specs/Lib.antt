@@ -1,3 +1,5 @@
+pub mod Options
 pub mod Plain
 pub mod Falls
 pub mod Lends
+pub mod Four

@@ -22,7 +22,9 @@ pub use ast::{
 pub use gone::{
     drop_boxed_expression, drop_boxed_statement, drop_expression, drop_program, drop_statement,
 };
-pub use mini_model::{Guard, LogicalOperator, Mix, Seat, Shape, StmtSeat, SymbolId, UnaryOperator};
+pub use mini_model::{
+    BinaryOperator, Guard, LogicalOperator, Mix, Seat, Shape, StmtSeat, SymbolId, UnaryOperator,
+};
 pub use mini_text::{Name, Numbers, OutOfMemory, OwnedList, Text, TextList};
 pub use options::{CompressOptions, KeepNames};
 pub use program::Program;

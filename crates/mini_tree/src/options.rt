@@ -1,4 +1,5 @@
-ghost use Rattle.std.specs.Prelude.{◌≡◌, true, false};
+ghost use Rattle.std.specs.Prelude.{◌≡◌};
+ghost use Rattle.mini_tree.specs.Options.{default_options};
 
 /// Whose names stay although nothing refers to them.
 #[derive(Clone, Copy, Debug, PartialEq, Eq)]
@@ -32,7 +33,7 @@ impl CompressOptions {
     /// Joins statements and declarations, keeps no names, makes as many passes as it takes, reads nodes to a depth
     /// of 120, and assumes nothing of the outside.
     pub fn new() -> CompressOptions
-        ensures { result ≡ record { sequences = true; join_vars = true; keep_names = record { function = false; class = false }; passes = 4294967295; max_depth = 120; pure_coercion = false; known_calls = false } }
+        ensures { result ≡ default_options }
     {
         CompressOptions {
             sequences: true,

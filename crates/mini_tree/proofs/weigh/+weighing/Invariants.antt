@@ -6,8 +6,8 @@ use Rattle.mini_tree.proofs.weigh.+weighing.Given as goal
 abbrev pub decreases-expr_weight : goal.decreases-expr_weight
 decreases-expr_weight l = 2 * node_count (expression_tree l.expr.now)
 
-abbrev pub decreases-negation_weight : goal.decreases-negation_weight
-decreases-negation_weight l = 2 * node_count (expression_tree l.argument.now) + 1
+abbrev pub decreases-unary_weight : goal.decreases-unary_weight
+decreases-unary_weight l = 2 * node_count (expression_tree l.argument.now) + 1
 
 abbrev pub decreases-logical_weight : goal.decreases-logical_weight
 decreases-logical_weight l = 2 * (node_count (expression_tree l.left.now) + node_count (expression_tree l.right.now)) + 1
