@@ -3,15 +3,17 @@ use Rattle.std.proofs.Common.{◌≡◌, ℕ, zero, suc, ◌+◌, ◌*◌, ◌^�
 use Rattle.std.specs.Prelude.{Option, Some, None, option_and_then, Ok, is_some, if◌then◌else◌, ⊤, nat_lt}
 use Rattle.serde_json.specs.Data.{Data, Items, no_items, item}
 use Rattle.serde_json.specs.Find.{get, as_null, as_array}
+use Rattle.mini_model.specs.declared.name.Name.{Name}
+use Rattle.mini_model.specs.declared.seat.Seat.{Seat}
 use Rattle.mini_model.specs.declared.seat.StmtSeat.{StmtSeat}
 use Rattle.mini_model.specs.declared.seat.StmtSeat.TheVariants as stmt_seat
 use Rattle.mini_model.specs.declared.operator.UnaryOperator.{UnaryOperator}
-use Rattle.mini_model.specs.declared.operator.UnaryOperator.TheVariants.{LogicalNot}
+use Rattle.mini_model.specs.declared.operator.UnaryOperator.TheVariants.{Typeof, Void, Delete}
 use Rattle.mini_model.specs.declared.shape.Shape.{Shape}
 use Rattle.mini_model.specs.declared.shape.Shape.TheVariants as shape
-use Rattle.mini_model.specs.Tree.{Tree, node, Trees, none, ◌▸◌, trees, absent, is_absent, child_or_absent}
-use Rattle.mini_model.specs.Position.{Position, Expr, Stmt, StatementList, Elsewhere, child_position, item_position}
-use Rattle.mini_model.specs.Weight.{weight, weights, spelled_weight, parentheses, bare_weight, bare_if_weight, place_weight, level_of, operator_weight, same_text}
+use Rattle.mini_model.specs.Tree.{Tree, node, none, ◌▸◌, trees, absent, unresolved, listed}
+use Rattle.mini_model.specs.Position.{Position, Expr, Stmt, Unwritten, Elsewhere, child_position}
+use Rattle.mini_model.specs.Weight.{Outline, outlines, nth_is_absent, weight, weights, own_weight, text_weight, where_present, spelled_weight, same_text, is_parenthesized, parentheses, is_awkward, awkward_weight, bare_weight, place_weight, unary_operator_weight}
 use Rattle.mini_estree.specs.Faults.{item_step}
 use Rattle.mini_estree.specs.Fits.{Fits, values_in, values_in_items}
 use Rattle.mini_estree.specs.Kinds.{kind_of, is_misplaced, Standing, unread, misplaced, standing}
@@ -36,32 +38,39 @@ spelled_light s =
     (chosen (same_text s (codes "Infinity")) _ _ 18 (omega arith)
     (chosen (same_text s (codes "NaN")) _ _ 18 (omega arith) (omega arith)))
 
-parentheses_light : (level least : ℕ) → parentheses level least ≤ 4
-parentheses_light level least = chosen (nat_lt level least) _ _ 4 (omega arith) (omega arith)
+parentheses_light : (h : Shape) (s : Seat) → parentheses h s ≤ 4
+parentheses_light h s = chosen (is_parenthesized h s) _ _ 4 (omega arith) (omega arith)
 
-bare_light : (q : StmtSeat) → bare_weight q ≤ 4
+awkward_light : (s : Seat) (h : Shape) (os : List Outline) → awkward_weight s h os ≤ 1
+awkward_light s h os = chosen (is_awkward s h os) _ _ 1 (omega arith) (omega arith)
+
+bare_light : (q : StmtSeat) → bare_weight q ≤ 5
 bare_light stmt_seat.Consequent = omega arith
 bare_light q = omega arith
 
-bare_if_light : (q : StmtSeat) (h : Shape) (ts : Trees) → bare_if_weight q h ts ≤ 4
-bare_if_light q shape.IfStatement ts = chosen (is_absent (child_or_absent ts 2)) _ _ 4 (omega arith) (bare_light q)
-bare_if_light q h ts = omega arith
+place_light : (p : Position) (h : Shape) (os : List Outline) → place_weight p h os ≤ 5
+place_light (Expr s) h os = omega (arith, parentheses_light h s, awkward_light s h os)
+place_light (Stmt q) shape.IfStatement os = chosen (nth_is_absent os 2) _ _ 5 (omega arith) (bare_light q)
+place_light p h os = omega arith
 
-place_light : (p : Position) (h : Shape) (ts : Trees) → place_weight p h ts ≤ 4
-place_light (Expr s) h ts = parentheses_light (level_of h) s.level
-place_light (Stmt q) h ts = bare_if_light q h ts
-place_light p h ts = omega arith
+-- a node adds at most 5 to its text
+own_light : (n : ℕ) (p : Position) (h : Shape) (xs : List Name) (os : List Outline) → text_weight h xs p os ≤ n → own_weight p h xs os ≤ n + 5
+own_light n Unwritten h xs os small = omega arith
+own_light n p h xs os small = omega (arith, small, place_light p h os)
 
-operator_light : (o : UnaryOperator) → operator_weight o ≤ 2
-operator_light LogicalNot = omega arith
+operator_light : (o : UnaryOperator) → unary_operator_weight o ≤ 14
+operator_light Typeof = omega arith
+operator_light Void = omega arith
+operator_light Delete = omega arith
+operator_light o = omega arith
 
 -- ---- fields
 
--- in any place, the trees of the part weigh at most 64 for each of these values; one that is absent may have parentheses
+-- in any place, the trees of the part weigh at most 64 for each of these values; one that is absent weighs 5 at most
 abbrev LightPart : Field → Part → ℕ → Type 0
 LightPart (plain x) p n = ⊤
 LightPart (child key c) p n = (π : Position) → weight π (tree_in p) ≤ 64 * n
-LightPart (optional_child key c) p n = (π : Position) → weight π (tree_in p) ≤ 64 * n + 4
+LightPart (optional_child key c) p n = (π : Position) → weight π (tree_in p) ≤ 64 * n + 5
 LightPart (children key c) p n = (π : Position) → weights (λ i. π) (trees (λ t. t) (trees_in p)) ≤ 64 * n
 
 -- the values at the field
@@ -90,15 +99,15 @@ child_light : (n : ℕ) → Light n → (c : Class) (key : List ℕ) (o : Option
 child_light n light c key None t e π = absurd (cc e)
 child_light n light c key (Some d) t e π = below_light n light c key d t e π
 
-absent_light : (π : Position) → weight π absent ≤ 4
-absent_light π = omega (arith, place_light π shape.Absent none)
+absent_light : (π : Position) → weight π absent ≤ 5
+absent_light π = omega (arith, own_light 0 π shape.Absent [] [] (omega arith))
 
-optional_by_null : (n : ℕ) → Light n → (c : Class) (key : List ℕ) (d : Data) (b : Bool) (t : Tree) → (if b then Ok absent else read_below (reads n) c key d) ≡ Ok t → (π : Position) → weight π t ≤ 64 * values_in d + 4
-optional_by_null n light c key d true t e π = subst (λ (u : Tree). weight π u ≤ 64 * values_in d + 4) (ok_same absent t e) (omega (arith, absent_light π))
+optional_by_null : (n : ℕ) → Light n → (c : Class) (key : List ℕ) (d : Data) (b : Bool) (t : Tree) → (if b then Ok absent else read_below (reads n) c key d) ≡ Ok t → (π : Position) → weight π t ≤ 64 * values_in d + 5
+optional_by_null n light c key d true t e π = subst (λ (u : Tree). weight π u ≤ 64 * values_in d + 5) (ok_same absent t e) (omega (arith, absent_light π))
 optional_by_null n light c key d false t e π = omega (arith, below_light n light c key d t e π)
 
-optional_light : (n : ℕ) → Light n → (c : Class) (key : List ℕ) (o : Option Data) (t : Tree) → optional_of (reads n) c key o ≡ Ok t → (π : Position) → weight π t ≤ 64 * values_found o + 4
-optional_light n light c key None t e π = subst (λ (u : Tree). weight π u ≤ 4) (ok_same absent t e) (absent_light π)
+optional_light : (n : ℕ) → Light n → (c : Class) (key : List ℕ) (o : Option Data) (t : Tree) → optional_of (reads n) c key o ≡ Ok t → (π : Position) → weight π t ≤ 64 * values_found o + 5
+optional_light n light c key None t e π = subst (λ (u : Tree). weight π u ≤ 5) (ok_same absent t e) (absent_light π)
 optional_light n light c key (Some d) t e π = optional_by_null n light c key d (is_some (as_null d)) t e π
 
 abbrev AllLight : ℕ → List Tree → Type 0
@@ -140,52 +149,56 @@ parts_light n light d (f ∷ fs) ps e =
 
 -- ---- nodes
 
-if_light : (ts : Trees) → cond (is_absent (child_or_absent ts 2)) 14 24 ≤ 24
-if_light ts = chosen (is_absent (child_or_absent ts 2)) 14 24 24 (omega arith) (omega arith)
+if_light : (p : Position) (os : List Outline) → text_weight shape.IfStatement [] p os ≤ 24
+if_light p os = let h : where_present os 2 10 ≤ 10 = chosen (nth_is_absent os 2) _ _ 10 (omega arith) (omega arith) in omega (arith, h)
 
 tree_light : (k : Kind) (ps : List Part) (d : Data) (π : Position) → LightParts 0 (fields_of k) ps d → weight π (tree_of k ps) ≤ 64 * values_in d
 tree_light kind.Program ps d π h =
     let ts = trees (λ t. t) (trees_in (part 1 ps)) in
-    omega (arith, place_light π (shape.Program false []) (node shape.Listed [] 0 ts ▸ none), h.1.0 (item_position StatementList), values_below (codes "body" ∷ []) d (tt, tt))
+    omega (arith, own_light 0 π (shape.Program false []) [] (outlines (listed ts ▸ none)) (omega arith), h.1.0 (Stmt stmt_seat.List), values_below (codes "body" ∷ []) d (tt, tt))
 tree_light kind.ExpressionStatement ps d π h =
-    omega (arith, place_light π shape.ExpressionStatement (tree_in (part 1 ps) ▸ none), h.1.0 (child_position shape.ExpressionStatement π 0), values_below (codes "expression" ∷ []) d (tt, tt))
+    let ts = tree_in (part 1 ps) ▸ none in
+    omega (arith, own_light 4 π shape.ExpressionStatement [] (outlines ts) (omega arith), h.1.0 (child_position shape.ExpressionStatement π 1 0), values_below (codes "expression" ∷ []) d (tt, tt))
 tree_light kind.IfStatement ps d π h =
     let ts = tree_in (part 0 ps) ▸ tree_in (part 1 ps) ▸ tree_in (part 2 ps) ▸ none in
     omega (
       arith,
-      if_light ts,
-      place_light π shape.IfStatement ts,
-      h.0 (child_position shape.IfStatement π 0),
-      h.1.0 (child_position shape.IfStatement π 1),
-      h.1.1.0 (child_position shape.IfStatement π 2),
+      own_light 24 π shape.IfStatement [] (outlines ts) (if_light π (outlines ts)),
+      h.0 (child_position shape.IfStatement π 3 0),
+      h.1.0 (child_position shape.IfStatement π 3 1),
+      h.1.1.0 (child_position shape.IfStatement π 3 2),
       values_below (codes "test" ∷ codes "consequent" ∷ codes "alternate" ∷ []) d ((refl, (refl, tt)), ((refl, tt), (tt, tt))),
     )
 tree_light kind.Identifier ps d π h =
-    omega (arith, spelled_light (name_in (part 0 ps)), place_light π shape.Identifier none, values_below [] d tt)
+    let x = unresolved (name_in (part 0 ps)) in
+    omega (arith, own_light 18 π shape.Identifier (x ∷ []) [] (omega (arith, spelled_light (name_in (part 0 ps)))), values_below [] d tt)
 tree_light kind.UnaryExpression ps d π h =
     let o = unary_operator_in (part 0 ps) in
-    omega (arith, operator_light o, place_light π (shape.UnaryExpression o) (tree_in (part 2 ps) ▸ none), h.1.1.0 (child_position (shape.UnaryExpression o) π 0), values_below (codes "argument" ∷ []) d (tt, tt))
+    let ts = tree_in (part 2 ps) ▸ none in
+    omega (arith, own_light 14 π (shape.UnaryExpression o) [] (outlines ts) (operator_light o), h.1.1.0 (child_position (shape.UnaryExpression o) π 1 0), values_below (codes "argument" ∷ []) d (tt, tt))
 tree_light kind.LogicalExpression ps d π h =
     let o = logical_operator_in (part 0 ps) in
+    let ts = tree_in (part 1 ps) ▸ tree_in (part 2 ps) ▸ none in
     omega (
       arith,
-      place_light π (shape.LogicalExpression o) (tree_in (part 1 ps) ▸ tree_in (part 2 ps) ▸ none),
-      h.1.0 (child_position (shape.LogicalExpression o) π 0),
-      h.1.1.0 (child_position (shape.LogicalExpression o) π 1),
+      own_light 4 π (shape.LogicalExpression o) [] (outlines ts) (omega arith),
+      h.1.0 (child_position (shape.LogicalExpression o) π 2 0),
+      h.1.1.0 (child_position (shape.LogicalExpression o) π 2 1),
       values_below (codes "left" ∷ codes "right" ∷ []) d ((refl, tt), (tt, tt)),
     )
 tree_light kind.ConditionalExpression ps d π h =
     let ts = tree_in (part 0 ps) ▸ tree_in (part 1 ps) ▸ tree_in (part 2 ps) ▸ none in
     omega (
       arith,
-      place_light π shape.ConditionalExpression ts,
-      h.0 (child_position shape.ConditionalExpression π 0),
-      h.1.0 (child_position shape.ConditionalExpression π 1),
-      h.1.1.0 (child_position shape.ConditionalExpression π 2),
+      own_light 4 π shape.ConditionalExpression [] (outlines ts) (omega arith),
+      h.0 (child_position shape.ConditionalExpression π 3 0),
+      h.1.0 (child_position shape.ConditionalExpression π 3 1),
+      h.1.1.0 (child_position shape.ConditionalExpression π 3 2),
       values_below (codes "test" ∷ codes "consequent" ∷ codes "alternate" ∷ []) d ((refl, (refl, tt)), ((refl, tt), (tt, tt))),
     )
 tree_light kind.CallExpression ps d π h =
-    omega (arith, place_light π (shape.CallExpression false) (tree_in (part 0 ps) ▸ node shape.Listed [] 0 none ▸ none), h.0 (child_position (shape.CallExpression false) π 0), values_below (codes "callee" ∷ []) d (tt, tt))
+    let ts = tree_in (part 0 ps) ▸ listed none ▸ none in
+    omega (arith, own_light 4 π (shape.CallExpression false) [] (outlines ts) (omega arith), h.0 (child_position (shape.CallExpression false) π 2 0), values_below (codes "callee" ∷ []) d (tt, tt))
 tree_light kind.Other ps d π h = omega (arith, absent_light π, values_below [] d tt)
 
 entry_light : (n : ℕ) → Light n → (k : Kind) (s : Standing) (d : Data) (t : Tree) → entry_at s k (reads n) d ≡ Ok t → (π : Position) → weight π t ≤ 64 * values_in d

@@ -1,6 +1,8 @@
--- The trees of accepted programs: each shape has the children that its type has in ESTree, no node has a number, and
--- each identifier has an unresolved name.
+-- The trees of accepted programs: each shape is one that is read, and has the children that its type has in ESTree, no
+-- node has a number, and each identifier has an unresolved name.
 use Rattle.std.specs.Prelude.{◌≡◌, List, [], ◌∷◌, Bool, true, false, ◌&&◌, ◌==◌, not, is_some}
+use Rattle.mini_model.specs.declared.operator.LogicalOperator.TheVariants.{Or, And}
+use Rattle.mini_model.specs.declared.operator.UnaryOperator.TheVariants.{LogicalNot}
 use Rattle.mini_model.specs.declared.name.Name.{Name}
 use Rattle.mini_model.specs.declared.shape.Shape.{Shape}
 use Rattle.mini_model.specs.declared.shape.Shape.TheVariants as shape
@@ -29,8 +31,9 @@ below_node class.Program (shape.Program false []) = these (some_nodes class.Stat
 below_node class.Statement shape.ExpressionStatement = these (a_node class.Expression ∷ [])
 below_node class.Statement shape.IfStatement = these (a_node class.Expression ∷ a_node class.Statement ∷ a_node_or_absent class.Statement ∷ [])
 below_node class.Expression shape.Identifier = these []
-below_node class.Expression (shape.UnaryExpression o) = these (a_node class.Expression ∷ [])
-below_node class.Expression (shape.LogicalExpression o) = these (a_node class.Expression ∷ a_node class.Expression ∷ [])
+below_node class.Expression (shape.UnaryExpression LogicalNot) = these (a_node class.Expression ∷ [])
+below_node class.Expression (shape.LogicalExpression Or) = these (a_node class.Expression ∷ a_node class.Expression ∷ [])
+below_node class.Expression (shape.LogicalExpression And) = these (a_node class.Expression ∷ a_node class.Expression ∷ [])
 below_node class.Expression shape.ConditionalExpression = these (a_node class.Expression ∷ a_node class.Expression ∷ a_node class.Expression ∷ [])
 below_node class.Expression (shape.CallExpression false) = these (a_node class.Callee ∷ no_nodes ∷ [])
 below_node class.Callee shape.Identifier = these []

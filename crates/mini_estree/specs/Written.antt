@@ -4,9 +4,9 @@ use Rattle.std.specs.Prelude.{ℕ, List, [], ◌∷◌, Bool, true, codes, if◌
 use Rattle.serde_json.specs.Data.{Data, null, boolean, string, array, object, Items, no_items, item, Members, no_members, member}
 use Rattle.mini_text.specs.Texts.{bytes_of}
 use Rattle.mini_model.specs.declared.operator.LogicalOperator.{LogicalOperator}
-use Rattle.mini_model.specs.declared.operator.LogicalOperator.TheVariants.{Or, And}
+use Rattle.mini_model.specs.declared.operator.LogicalOperator.TheVariants.{Or, And, Coalesce}
 use Rattle.mini_model.specs.declared.operator.UnaryOperator.{UnaryOperator}
-use Rattle.mini_model.specs.declared.operator.UnaryOperator.TheVariants.{LogicalNot}
+use Rattle.mini_model.specs.declared.operator.UnaryOperator.TheVariants.{UnaryPlus, UnaryNegation, LogicalNot, BitwiseNot, Typeof, Void, Delete}
 use Rattle.mini_model.specs.declared.name.Name.{Name}
 use Rattle.mini_model.specs.declared.shape.Shape.{Shape}
 use Rattle.mini_model.specs.declared.shape.Shape.TheVariants as shape
@@ -25,7 +25,13 @@ abbrev pub null_literal_data : Data
 null_literal_data = object (member (codes "type") (string (codes "Literal")) (member (codes "value") null no_members))
 
 abbrev pub unary_operator_text : UnaryOperator → List ℕ
+unary_operator_text UnaryPlus = codes "+"
+unary_operator_text UnaryNegation = codes "-"
 unary_operator_text LogicalNot = codes "!"
+unary_operator_text BitwiseNot = codes "~"
+unary_operator_text Typeof = codes "typeof"
+unary_operator_text Void = codes "void"
+unary_operator_text Delete = codes "delete"
 
 abbrev pub unary_data : UnaryOperator → Data → Data
 unary_data o a = object (member (codes "argument") a (member (codes "operator") (string (unary_operator_text o)) (member (codes "prefix") (boolean true) (type_member (codes "UnaryExpression")))))
@@ -33,6 +39,7 @@ unary_data o a = object (member (codes "argument") a (member (codes "operator") 
 abbrev pub logical_operator_text : LogicalOperator → List ℕ
 logical_operator_text Or = codes "||"
 logical_operator_text And = codes "&&"
+logical_operator_text Coalesce = codes "??"
 
 abbrev pub logical_data : LogicalOperator → Data → Data → Data
 logical_data o a b = object (member (codes "left") a (member (codes "operator") (string (logical_operator_text o)) (member (codes "right") b (type_member (codes "LogicalExpression")))))
@@ -106,6 +113,7 @@ abbrev pub program_by : Bool → List (List ℕ) → Items → Data
 program_by is_module directives (item body no_items) = program_object is_module (body_data directives body)
 program_by is_module directives _ = null
 
+-- A kind that isn't read yet is written as null; no tree that is read has one.
 abbrev pub node_data : Shape → List Name → Items → Data
 node_data shape.Absent xs ds = null
 node_data shape.Listed xs ds = array ds
@@ -119,6 +127,7 @@ node_data (shape.UnaryExpression o) xs ds = unary_by o ds
 node_data (shape.LogicalExpression o) xs ds = logical_by o ds
 node_data shape.ConditionalExpression xs ds = conditional_by ds
 node_data (shape.CallExpression optional) xs ds = call_by optional ds
+node_data _ xs ds = null
 
 -- ---- whole trees
 

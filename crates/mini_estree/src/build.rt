@@ -28,7 +28,13 @@ pub fn unary_value(
     ensures { IfOk result (λ v. view v ≡ unary_data operator (view argument)) }
 {
     let operator = match operator {
+        UnaryOperator::UnaryPlus => "+",
+        UnaryOperator::UnaryNegation => "-",
         UnaryOperator::LogicalNot => "!",
+        UnaryOperator::BitwiseNot => "~",
+        UnaryOperator::Typeof => "typeof",
+        UnaryOperator::Void => "void",
+        UnaryOperator::Delete => "delete",
     };
     json!(in alloc; {"type": "UnaryExpression", "operator": operator, "prefix": true, "argument": argument})
 }
@@ -44,6 +50,7 @@ pub fn logical_value(
     let operator = match operator {
         LogicalOperator::Or => "||",
         LogicalOperator::And => "&&",
+        LogicalOperator::Coalesce => "??",
     };
     json!(in alloc; {"type": "LogicalExpression", "operator": operator, "left": left, "right": right})
 }
