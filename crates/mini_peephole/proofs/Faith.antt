@@ -3,6 +3,8 @@ use Rattle.std.proofs.Common.{◌≡◌, ℕ, ◌+◌, ◌<◌, ◌≤◌, ◌^�
 use Rattle.std.specs.Prelude.{◌&&◌, ◌==◌, Contains, Option, Some}
 use Rattle.serde_json.specs.Data.{Data}
 use Rattle.serde_json.specs.View.{view}
+use Rattle.mini_model.specs.declared.operator.LogicalOperator.TheVariants.{Or, And}
+use Rattle.mini_model.specs.declared.operator.UnaryOperator.TheVariants.{LogicalNot}
 use Rattle.mini_model.specs.declared.shape.Shape.{Shape}
 use Rattle.mini_model.specs.declared.shape.Shape.TheVariants as shape
 use Rattle.mini_model.specs.Tree.{Tree, Trees, node, none, ◌▸◌}
@@ -63,8 +65,9 @@ inner_below_node class.Program (shape.Program false []) = (tt, tt)
 inner_below_node class.Statement shape.ExpressionStatement = (tt, tt)
 inner_below_node class.Statement shape.IfStatement = (tt, (tt, (tt, tt)))
 inner_below_node class.Expression shape.Identifier = tt
-inner_below_node class.Expression (shape.UnaryExpression o) = (tt, tt)
-inner_below_node class.Expression (shape.LogicalExpression o) = (tt, (tt, tt))
+inner_below_node class.Expression (shape.UnaryExpression LogicalNot) = (tt, tt)
+inner_below_node class.Expression (shape.LogicalExpression Or) = (tt, (tt, tt))
+inner_below_node class.Expression (shape.LogicalExpression And) = (tt, (tt, tt))
 inner_below_node class.Expression shape.ConditionalExpression = (tt, (tt, (tt, tt)))
 inner_below_node class.Expression (shape.CallExpression false) = (tt, (tt, tt))
 inner_below_node class.Callee shape.Identifier = tt
@@ -168,7 +171,7 @@ faithful_trees o m t u wt wu fits made kept symbols =
       weight = omega (arith, some, l);
       some_pass = made.some_pass;
       within = made.within;
-      settled = λ e. made.ended e fits;
+      settled = λ e. made.ended e fits (a_node class.Program, wu);
       unsettled = λ e. let s = made.stopped e in let same = s.0 in let less = s.1 in omega (arith, same, less);
     }
   where

@@ -4,7 +4,9 @@ pub mod Negations
 pub mod Parts
 pub mod Passing
 pub mod Reaching
-pub mod Refusals
 pub mod Rows
 pub mod Shapes
 pub mod Walks
+pub mod Unread
+pub mod Kept
+pub mod Present

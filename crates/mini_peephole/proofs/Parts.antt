@@ -1,51 +1,50 @@
 -- The parts of each node, and the rewrites at the node itself.
 use Rattle.std.proofs.Common.{◌≡◌, suc, ◌<◌, ◌≤◌, Bool, true, false, [], refl, sym, ap, ◌∙◌, subst, arith}
-use Rattle.std.specs.Prelude.{◌||◌}
+use Rattle.std.specs.Prelude.{◌+◌, ◌||◌, if◌then◌else◌}
 use Rattle.mini_model.specs.declared.operator.LogicalOperator.{LogicalOperator}
 use Rattle.mini_model.specs.declared.operator.UnaryOperator.{UnaryOperator}
+use Rattle.mini_model.specs.declared.operator.UnaryOperator.TheVariants.{LogicalNot}
 use Rattle.mini_model.specs.declared.seat.Seat.{Seat}
 use Rattle.mini_model.specs.declared.seat.StmtSeat.{StmtSeat}
 use Rattle.mini_model.specs.declared.seat.StmtSeat.TheVariants as stmt_seat
 use Rattle.mini_model.specs.declared.shape.Shape.TheVariants as shape
-use Rattle.mini_model.specs.Tree.{Tree, none, ◌▸◌, is_absent, absent, unary, logical, conditional, call, listed, expression_statement, if_else}
+use Rattle.mini_model.specs.Tree.{Tree, node, none, ◌▸◌, is_absent, absent, unary, negation, logical, conditional, call, listed, expression_statement, if_else}
 use Rattle.mini_model.specs.Position.{Position, Expr, Stmt, ArgumentList, child_position, statement_expression_seat, if_test_seat, not_operand_seat, left_operand_seat, right_operand_seat, conditional_test_seat, branch_seat, callee_seat}
-use Rattle.mini_model.specs.Weight.{weight}
+use Rattle.mini_model.specs.Weight.{outline, bare_weight, weight}
 use Rattle.mini_model.specs.Redex.{Contracts}
 use Rattle.mini_model.specs.Rewriting.{Reaches, done}
-use Rattle.mini_tree.specs.declared.ast.Statement.{Statement}
-use Rattle.mini_tree.specs.declared.ast.Statement.TheVariants as statement
-use Rattle.mini_tree.specs.Plain.{statement_tree}
 use Rattle.mini_model.specs.Terms.{neg}
 use Rattle.mini_peephole.specs.MinimizeUnary.{operand, minimizes_unary, minimized_unary}
 use Rattle.mini_peephole.specs.MinimizeConditionalExpression.{swapped, minimizes_conditional, minimized_conditional}
 use Rattle.mini_peephole.specs.MinimizeIf.{minimizes_if, minimized_if}
-use Rattle.mini_peephole.specs.Pass.{RootOutcome, Minimizes, MinimizesIn, MinimizesRoot, MinimizesParts}
+use Rattle.mini_peephole.specs.Pass.{RootOutcome, Minimizes, MinimizesIn, MinimizesRoot, MinimizesParts, walked}
 use Rattle.mini_peephole.proofs.Reaching.{reaches_trans, reaches_once, reaches_inside, reaches_first}
 use Rattle.mini_peephole.proofs.Rows.{left_alone, unary_contracts, conditional_contracts, if_contracts, no_expression_redex, no_statement_redex}
 use Rattle.mini_peephole.proofs.Walks.{minimizes_more, minimizes_one, or_false}
 
 -- expressions
 
-pub unary_parts : (o : UnaryOperator) (s : Seat) (a a' : Tree) (x : Bool) → Minimizes (Expr not_operand_seat) a a' x → MinimizesParts (Expr s) (unary o a) (unary o a') x
-unary_parts o s a a' x m = (a' ▸ none, refl, minimizes_one (child_position (shape.UnaryExpression o) (Expr s)) a a' x m, refl)
+pub unary_parts : (s : Seat) (a a' : Tree) (x : Bool) → Minimizes (Expr not_operand_seat) a a' x → MinimizesParts (Expr s) (negation a) (negation a') x
+unary_parts s a a' x m = walked (a' ▸ none, refl, minimizes_one (child_position (shape.UnaryExpression LogicalNot) (Expr s) 1) a a' x m, refl)
 
 pub logical_parts : (o : LogicalOperator) (s : Seat) (a a' b b' : Tree) (x y : Bool) → Minimizes (Expr (left_operand_seat o s)) a a' x → Minimizes (Expr (right_operand_seat o s)) b b' y → MinimizesParts (Expr s) (logical o a b) (logical o a' b') (x || y)
 logical_parts o s a a' b b' x y m n =
-    let π = child_position (shape.LogicalExpression o) (Expr s) in
-    (a' ▸ b' ▸ none, refl, minimizes_more π a a' (b ▸ none) (b' ▸ none) x y m (minimizes_one (λ i. π (suc i)) b b' y n), refl)
+    let π = child_position (shape.LogicalExpression o) (Expr s) 2 in
+    walked (a' ▸ b' ▸ none, refl, minimizes_more π a a' (b ▸ none) (b' ▸ none) x y m (minimizes_one (λ i. π (suc i)) b b' y n), refl)
 
 pub conditional_parts : (s : Seat) (a a' b b' c c' : Tree) (x y z : Bool) → Minimizes (Expr conditional_test_seat) a a' x → Minimizes (Expr (branch_seat s)) b b' y → Minimizes (Expr (branch_seat s)) c c' z → MinimizesParts (Expr s) (conditional a b c) (conditional a' b' c') (x || (y || z))
 conditional_parts s a a' b b' c c' x y z m n o =
-    let π = child_position shape.ConditionalExpression (Expr s) in
-    (a' ▸ b' ▸ c' ▸ none, refl, minimizes_more π a a' (b ▸ c ▸ none) (b' ▸ c' ▸ none) x (y || z) m (minimizes_more (λ i. π (suc i)) b b' (c ▸ none) (c' ▸ none) y z n (minimizes_one (λ i. π (suc (suc i))) c c' z o)), refl)
+    let π = child_position shape.ConditionalExpression (Expr s) 3 in
+    walked (a' ▸ b' ▸ c' ▸ none, refl, minimizes_more π a a' (b ▸ c ▸ none) (b' ▸ c' ▸ none) x (y || z) m (minimizes_more (λ i. π (suc i)) b b' (c ▸ none) (c' ▸ none) y z n (minimizes_one (λ i. π (suc (suc i))) c c' z o)), refl)
 
 -- an empty list of arguments has nothing to rewrite
 no_arguments : Minimizes ArgumentList (listed none) (listed none) false
-no_arguments = record { reached = done ArgumentList (listed none); outcome = (refl, λ fits. ((λ r. r.contracts.row), tt)) }
+no_arguments = record { reached = done ArgumentList (listed none); outcome = (refl, λ small read. ((λ r. r.contracts.row), tt)) }
 
 pub call_parts : (o : Bool) (s : Seat) (a a' : Tree) (x : Bool) → Minimizes (Expr callee_seat) a a' x → MinimizesParts (Expr s) (call o a none) (call o a' none) x
 call_parts o s a a' x m =
-    let π = child_position (shape.CallExpression o) (Expr s) in (
+    let π = child_position (shape.CallExpression o) (Expr s) 2 in
+    walked (
       a' ▸ listed none ▸ none,
       refl,
       subst (MinimizesIn π (a ▸ listed none ▸ none) (a' ▸ listed none ▸ none)) (or_false x)
@@ -81,22 +80,26 @@ lighter_by_conditional s t u e b = let l = (conditional_contracts s t b).lighter
 -- statements
 
 pub statement_parts : (q : StmtSeat) (a a' : Tree) (x : Bool) → Minimizes (Expr statement_expression_seat) a a' x → MinimizesParts (Stmt q) (expression_statement a) (expression_statement a') x
-statement_parts q a a' x m = (a' ▸ none, refl, minimizes_one (child_position shape.ExpressionStatement (Stmt q)) a a' x m, refl)
+statement_parts q a a' x m = walked (a' ▸ none, refl, minimizes_one (child_position shape.ExpressionStatement (Stmt q) 1) a a' x m, refl)
+
+outline_absent : (t : Tree) → (outline t).absent ≡ is_absent t
+outline_absent (node shape.Absent xs n ts) = refl
+outline_absent (node h xs n ts) = refl
 
 pub if_parts : (q : StmtSeat) (a a' b b' c c' : Tree) (x y z : Bool) → Minimizes (Expr if_test_seat) a a' x → Minimizes (Stmt stmt_seat.Consequent) b b' y → Minimizes (Stmt stmt_seat.Body) c c' z → is_absent c' ≡ is_absent c → MinimizesParts (Stmt q) (if_else a b c) (if_else a' b' c') (x || (y || z))
 if_parts q a a' b b' c c' x y z m n o same =
-    let π = child_position shape.IfStatement (Stmt q) in
-    (a' ▸ b' ▸ c' ▸ none, refl, minimizes_more π a a' (b ▸ c ▸ none) (b' ▸ c' ▸ none) x (y || z) m (minimizes_more (λ i. π (suc i)) b b' (c ▸ none) (c' ▸ none) y z n (minimizes_one (λ i. π (suc (suc i))) c c' z o)), rw same refl)
+    let π = child_position shape.IfStatement (Stmt q) 3 in
+    walked (a' ▸ b' ▸ c' ▸ none, refl, minimizes_more π a a' (b ▸ c ▸ none) (b' ▸ c' ▸ none) x (y || z) m (minimizes_more (λ i. π (suc i)) b b' (c ▸ none) (c' ▸ none) y z n (minimizes_one (λ i. π (suc (suc i))) c c' z o)), ap (λ d. (14 + (if d then 0 else 10)) + (if d then 0 else bare_weight q)) (outline_absent c' ∙ same ∙ sym (outline_absent c)))
 
 pub absent_alternate : Minimizes (Stmt stmt_seat.Body) absent absent false
-absent_alternate = record { reached = done (Stmt stmt_seat.Body) absent; outcome = (refl, λ fits. (no_statement_redex stmt_seat.Body absent refl (omega (arith, fits)), tt)) }
+absent_alternate = record { reached = done (Stmt stmt_seat.Body) absent; outcome = (refl, λ small read. (no_statement_redex stmt_seat.Body absent refl (omega (arith, small)), tt)) }
 
 pub statement_root_stays : (q : StmtSeat) (t : Tree) → minimizes_if q t ≡ false → MinimizesRoot (Stmt q) t t false
 statement_root_stays q t b = record { reached = done (Stmt q) t; outcome = (refl, λ fits. no_statement_redex q t b fits) }
 
 -- what is rewritten in the expression is so in its statement
 statement_of_expression : (q : StmtSeat) (a a' : Tree) (x : Bool) → MinimizesRoot (Expr statement_expression_seat) a a' x → Reaches (Stmt q) (expression_statement a) (expression_statement a')
-statement_of_expression q a a' x m = reaches_inside (Stmt q) shape.ExpressionStatement [] 0 (a ▸ none) (a' ▸ none) (reaches_first (child_position shape.ExpressionStatement (Stmt q)) a a' none m.reached)
+statement_of_expression q a a' x m = reaches_inside (Stmt q) shape.ExpressionStatement [] 0 (a ▸ none) (a' ▸ none) (reaches_first (child_position shape.ExpressionStatement (Stmt q) 1) a a' none m.reached)
 
 pub root_after_if : (q : StmtSeat) (t a a' : Tree) (x : Bool) → expression_statement a ≡ minimized_if q t → minimizes_if q t ≡ true → MinimizesRoot (Expr statement_expression_seat) a a' x → MinimizesRoot (Stmt q) t (expression_statement a') true
 root_after_if q t a a' x e b m =
@@ -108,11 +111,6 @@ root_after_if q t a a' x e b m =
       reached = reaches_trans (subst (Reaches (Stmt q) t) (sym e) (reaches_once (Stmt q) t (minimized_if q t) c)) (statement_of_expression q a a' x m);
       outcome = omega (arith, l, same, less);
     }
-
-pub statement_is_present : (s : Statement) → is_absent (statement_tree s) ≡ false
-statement_is_present statement.EmptyStatement = refl
-statement_is_present (statement.ExpressionStatement x) = refl
-statement_is_present (statement.IfStatement x) = refl
 
 -- after `minimize_unary` answered false
 
@@ -130,3 +128,26 @@ root_after_neither s t u v e b f d =
     let stays = sym (ap (minimizes_conditional s) same) ∙ d in
     let last = f ∙ left_alone (minimizes_conditional s u) (swapped u) u d ∙ same in
     subst (λ x. MinimizesRoot (Expr s) t x false) (sym last) (expression_root_stays s t b stays)
+
+-- ---- the same, of what a walk was given and gave
+
+pub unary_walked : (s q : Seat) (o : UnaryOperator) (t u a a' b : Tree) (x : Bool) → t ≡ unary o a → u ≡ unary o a' → o ≡ LogicalNot → q ≡ not_operand_seat → b ≡ a → Minimizes (Expr q) b a' x → MinimizesParts (Expr s) t u x
+unary_walked s q o t u a a' b x told written is seat part m =
+    let m' : Minimizes (Expr not_operand_seat) a a' x = subst (λ r. Minimizes (Expr r) a a' x) seat (subst (λ v. Minimizes (Expr q) v a' x) part m) in
+    subst (λ v. MinimizesParts (Expr s) v u x) (sym (told ∙ ap (λ r. unary r a) is)) (subst (λ v. MinimizesParts (Expr s) (negation a) v x) (sym (written ∙ ap (λ r. unary r a') is)) (unary_parts s a a' x m'))
+
+pub call_walked : (s q : Seat) (o : Bool) (t u a a' b : Tree) (x : Bool) → t ≡ call o a none → u ≡ call o a' none → q ≡ callee_seat → b ≡ a → Minimizes (Expr q) b a' x → MinimizesParts (Expr s) t u x
+call_walked s q o t u a a' b x told written seat part m =
+    let m' : Minimizes (Expr callee_seat) a a' x = subst (λ r. Minimizes (Expr r) a a' x) seat (subst (λ v. Minimizes (Expr q) v a' x) part m) in
+    subst (λ v. MinimizesParts (Expr s) v u x) (sym told) (subst (λ v. MinimizesParts (Expr s) (call o a none) v x) (sym written) (call_parts o s a a' x m'))
+
+pub statement_walked : (k : StmtSeat) (q : Seat) (t u a a' b : Tree) (x : Bool) → t ≡ expression_statement a → u ≡ expression_statement a' → q ≡ statement_expression_seat → b ≡ a → Minimizes (Expr q) b a' x → MinimizesParts (Stmt k) t u x
+statement_walked k q t u a a' b x told written seat part m =
+    let m' : Minimizes (Expr statement_expression_seat) a a' x = subst (λ r. Minimizes (Expr r) a a' x) seat (subst (λ v. Minimizes (Expr q) v a' x) part m) in
+    subst (λ v. MinimizesParts (Stmt k) v u x) (sym told) (subst (λ v. MinimizesParts (Stmt k) (expression_statement a) v x) (sym written) (statement_parts k a a' x m'))
+
+pub if_walked : (k : StmtSeat) (q : Seat) (t a a' b b' c c' ta tb : Tree) (x y z : Bool) → t ≡ if_else a b c → q ≡ if_test_seat → ta ≡ a → tb ≡ b → Minimizes (Expr q) ta a' x → Minimizes (Stmt stmt_seat.Consequent) tb b' y → Minimizes (Stmt stmt_seat.Body) c c' z → is_absent c' ≡ is_absent c → MinimizesParts (Stmt k) t (if_else a' b' c') (x || (y || z))
+if_walked k q t a a' b b' c c' ta tb x y z told seat first second m n o same =
+    let m' : Minimizes (Expr if_test_seat) a a' x = subst (λ r. Minimizes (Expr r) a a' x) seat (subst (λ v. Minimizes (Expr q) v a' x) first m) in
+    let n' : Minimizes (Stmt stmt_seat.Consequent) b b' y = subst (λ v. Minimizes (Stmt stmt_seat.Consequent) v b' y) second n in
+    subst (λ v. MinimizesParts (Stmt k) v (if_else a' b' c') (x || (y || z))) (sym told) (if_parts k a a' b b' c c' x y z m' n' o same)

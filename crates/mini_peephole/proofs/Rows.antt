@@ -157,3 +157,14 @@ no_statement_row q t w stays fits (inr (inr r)) l =
 
 pub no_statement_redex : (q : StmtSeat) (t : Tree) → minimizes_if q t ≡ false → weight (Stmt q) t < 2 ^ 64 → Redex (Stmt q) t → ⊥
 no_statement_redex q t stays fits r = no_statement_row q t r.to stays fits r.contracts.row r.contracts.lighter
+
+-- what an `if` becomes is an expression statement
+
+statement_of : (b : Bool) (x y : Tree) → is_expression_statement x ≡ true → is_expression_statement y ≡ true → is_expression_statement (if b then x else y) ≡ true
+statement_of true x y e f = e
+statement_of false x y e f = f
+
+pub minimized_is_statement : (q : StmtSeat) (t : Tree) → minimizes_if q t ≡ true → is_expression_statement (minimized_if q t) ≡ true
+minimized_is_statement q t e =
+    ap is_expression_statement (taken (minimizes_if q t) (if_expression t) t e)
+    ∙ statement_of (chooses t) (as_choice t) (as_logical t) refl (statement_of (has_negated_result (test_of t)) _ _ refl refl)

@@ -1,6 +1,7 @@
 -- Rewriting keeps a tree one that a value can be accepted as.
 use Rattle.std.proofs.Common.{◌≡◌, ℕ, zero, suc, Bool, true, false, List, [], ◌∷◌, refl, sym, ap, subst, inl, inr}
 use Rattle.std.specs.Prelude.{◌&&◌, ◌||◌, ◌==◌, nat_lt, if◌then◌else◌}
+use Rattle.std.proofs.lemmas.Bool.{and_parts}
 use Rattle.mini_model.specs.declared.operator.LogicalOperator.{LogicalOperator}
 use Rattle.mini_model.specs.declared.operator.LogicalOperator.TheVariants.{Or, And}
 use Rattle.mini_model.specs.declared.operator.UnaryOperator.TheVariants.{LogicalNot}
@@ -10,9 +11,9 @@ use Rattle.mini_model.specs.declared.shape.Shape.{Shape}
 use Rattle.mini_model.specs.declared.shape.Shape.TheVariants as shape
 use Rattle.mini_model.specs.Tree.{Tree, Trees, node, none, ◌▸◌, negation, conditional, logical, expression_statement, absent}
 use Rattle.mini_model.specs.Tree.{if_else}
-use Rattle.mini_model.specs.Position.{Position, Expr, Stmt, StatementList, ArgumentList, Elsewhere, statement_expression_seat, left_operand_seat}
+use Rattle.mini_model.specs.Position.{Position, Expr, Stmt, statement_expression_seat, left_operand_seat}
 use Rattle.mini_model.specs.Weight.{weight}
-use Rattle.mini_model.specs.Terms.{is_boolean, turned, turned_seat, unwrapped, neg, neg_each, not_of}
+use Rattle.mini_model.specs.Terms.{is_boolean, turned_seat, unwrapped, neg, neg_each, not_of}
 use Rattle.mini_model.specs.Redex.{Row}
 use Rattle.mini_model.specs.Rewriting.{Step, StepIn, here, inside, first, later, Reaches, done, more}
 use Rattle.mini_estree.specs.declared.kind.Class.TheVariants as class
@@ -93,9 +94,9 @@ of_if s a b c f = go s f
     go (a_node_or_absent class.Statement) g = let p = parts g in (tt, p.0, p.1, p.2)
     go s g = absurd (cc g)
 
-turned_names : (o : LogicalOperator) (xs : List Name) → has_names (shape.LogicalExpression o) xs ≡ true → has_names (shape.LogicalExpression (turned o)) xs ≡ true
-turned_names o [] f = refl
-turned_names o (x ∷ xs) f = f
+turned_names : (o p : LogicalOperator) (xs : List Name) → has_names (shape.LogicalExpression o) xs ≡ true → has_names (shape.LogicalExpression p) xs ≡ true
+turned_names o p [] f = refl
+turned_names o p (x ∷ xs) f = f
 
 -- the negation of an expression is one
 
@@ -110,15 +111,18 @@ unwrapped_fits false a n f g = both (fits expression n) true g refl
 
 mutual
   neg_fits : (t : Tree) (s : Seat) → fits expression t ≡ true → fits expression (neg s t) ≡ true
-  neg_fits (node (shape.LogicalExpression o) xs n ts) s f =
-      let names = right (n == 0) (has_names (shape.LogicalExpression o) xs && fit (these (expression ∷ expression ∷ [])) ts) f in
-      let parts = right (has_names (shape.LogicalExpression o) xs) (fit (these (expression ∷ expression ∷ [])) ts) names in
-      let σ = turned_seat (shape.LogicalExpression o) s in
-      both (n == 0) (has_names (shape.LogicalExpression (turned o)) xs && fit (these (expression ∷ expression ∷ [])) (neg_each σ ts))
-      (left (n == 0) (has_names (shape.LogicalExpression o) xs && fit (these (expression ∷ expression ∷ [])) ts) f)
-      (both (has_names (shape.LogicalExpression (turned o)) xs) (fit (these (expression ∷ expression ∷ [])) (neg_each σ ts))
-      (turned_names o xs (left (has_names (shape.LogicalExpression o) xs) (fit (these (expression ∷ expression ∷ [])) ts) names))
-      (neg_each_fit ts σ (expression ∷ expression ∷ []) tt parts))
+  neg_fits (node (shape.LogicalExpression And) xs n ts) s f =
+      let (zero_is, rest) = and_parts (n == 0) (has_names (shape.LogicalExpression And) xs && fit (these (expression ∷ expression ∷ [])) ts) f in
+      let (names, parts) = and_parts (has_names (shape.LogicalExpression And) xs) (fit (these (expression ∷ expression ∷ [])) ts) rest in
+      let σ = turned_seat (shape.LogicalExpression And) s in
+      both (n == 0) (has_names (shape.LogicalExpression Or) xs && fit (these (expression ∷ expression ∷ [])) (neg_each σ ts)) zero_is
+      (both (has_names (shape.LogicalExpression Or) xs) (fit (these (expression ∷ expression ∷ [])) (neg_each σ ts)) (turned_names And Or xs names) (neg_each_fit ts σ (expression ∷ expression ∷ []) tt parts))
+  neg_fits (node (shape.LogicalExpression Or) xs n ts) s f =
+      let (zero_is, rest) = and_parts (n == 0) (has_names (shape.LogicalExpression Or) xs && fit (these (expression ∷ expression ∷ [])) ts) f in
+      let (names, parts) = and_parts (has_names (shape.LogicalExpression Or) xs) (fit (these (expression ∷ expression ∷ [])) ts) rest in
+      let σ = turned_seat (shape.LogicalExpression Or) s in
+      both (n == 0) (has_names (shape.LogicalExpression And) xs && fit (these (expression ∷ expression ∷ [])) (neg_each σ ts)) zero_is
+      (both (has_names (shape.LogicalExpression And) xs) (fit (these (expression ∷ expression ∷ [])) (neg_each σ ts)) (turned_names Or And xs names) (neg_each_fit ts σ (expression ∷ expression ∷ []) tt parts))
   neg_fits (node (shape.UnaryExpression LogicalNot) xs n (a ▸ none)) s f =
       let names = right (n == 0) (has_names (shape.UnaryExpression LogicalNot) xs && (fits expression a && true)) f in
       let parts = right (has_names (shape.UnaryExpression LogicalNot) xs) (fits expression a && true) names in
@@ -144,8 +148,11 @@ not_of_fits s a f = chosen_fits (nat_lt (weight (Expr s) (negation a)) (weight (
 conditional_fits : (a b c : Tree) → fits expression a ≡ true → fits expression b ≡ true → fits expression c ≡ true → fits expression (conditional a b c) ≡ true
 conditional_fits a b c f g h = both (fits expression a) (fits expression b && (fits expression c && true)) f (both (fits expression b) (fits expression c && true) g (both (fits expression c) true h refl))
 
-logical_fits : (o : LogicalOperator) (a b : Tree) → fits expression a ≡ true → fits expression b ≡ true → fits expression (logical o a b) ≡ true
-logical_fits o a b f g = both (fits expression a) (fits expression b && true) f (both (fits expression b) true g refl)
+or_fits : (a b : Tree) → fits expression a ≡ true → fits expression b ≡ true → fits expression (logical Or a b) ≡ true
+or_fits a b f g = both (fits expression a) (fits expression b && true) f (both (fits expression b) true g refl)
+
+and_fits : (a b : Tree) → fits expression a ≡ true → fits expression b ≡ true → fits expression (logical And a b) ≡ true
+and_fits a b f g = both (fits expression a) (fits expression b && true) f (both (fits expression b) true g refl)
 
 statement_fits : (a : Tree) → fits expression a ≡ true → fits statement (expression_statement a) ≡ true
 statement_fits a f = both (fits expression a) true f refl
@@ -175,15 +182,13 @@ row_fits (Stmt q) t u (inl r) s f =
 row_fits (Stmt q) t u (inr (inl r)) s f =
     let parts = of_if s r.a (expression_statement r.b) absent (subst (λ x. fits s x ≡ true) r.shape f) in
     subst (λ x. fits s x ≡ true) (sym r.written)
-    (statement_taken s (expression_statement (logical And r.a r.b)) parts.0 (statement_fits (logical And r.a r.b) (logical_fits And r.a r.b parts.1 (of_statement r.b parts.2))))
+    (statement_taken s (expression_statement (logical And r.a r.b)) parts.0 (statement_fits (logical And r.a r.b) (and_fits r.a r.b parts.1 (of_statement r.b parts.2))))
 row_fits (Stmt q) t u (inr (inr r)) s f =
     let parts = of_if s r.a (expression_statement r.b) absent (subst (λ x. fits s x ≡ true) r.shape f) in
     let a : Tree = not_of (left_operand_seat Or statement_expression_seat) r.a in
     subst (λ x. fits s x ≡ true) (sym r.written)
-    (statement_taken s (expression_statement (logical Or a r.b)) parts.0 (statement_fits (logical Or a r.b) (logical_fits Or a r.b (not_of_fits (left_operand_seat Or statement_expression_seat) r.a parts.1) (of_statement r.b parts.2))))
-row_fits StatementList t u r s f = absurd r
-row_fits ArgumentList t u r s f = absurd r
-row_fits Elsewhere t u r s f = absurd r
+    (statement_taken s (expression_statement (logical Or a r.b)) parts.0 (statement_fits (logical Or a r.b) (or_fits a r.b (not_of_fits (left_operand_seat Or statement_expression_seat) r.a parts.1) (of_statement r.b parts.2))))
+row_fits p t u r s f = absurd r
 
 mutual
   step_fits : {p : Position} {t u : Tree} → Step p t u → (s : Slot) → fits s t ≡ true → fits s u ≡ true

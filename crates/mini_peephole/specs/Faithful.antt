@@ -1,6 +1,6 @@
 -- When an answer is faithful to the program that it was made from. Stated for any number of numbered nodes, bodies and
--- symbols; of the shapes so far the program alone has a number and a body, and none declares a symbol. None of them has
--- an early error.
+-- symbols; of the shapes that are read so far the program alone has a number and a body, and none declares a symbol. None
+-- of them has an early error.
 use Rattle.std.specs.Prelude.{◌≡◌, ℕ, ◌+◌, ◌<◌, ◌≤◌, max, Bool, true, false, List, [], ◌∷◌, ◌++◌, Contains, Option, Some, None}
 use Rattle.serde_json.specs.Data.{Data}
 use Rattle.serde_json.specs.View.{view}
@@ -18,7 +18,7 @@ use Rattle.mini_tree.specs.declared.options.CompressOptions.{CompressOptions}
 use Rattle.mini_estree.specs.Accept.{Accepts}
 use Rattle.mini_peephole.specs.declared.minify.Minified.{Minified}
 
--- the nodes that have a number, in preorder
+-- the nodes that have a number, in preorder: of those that are read, the program
 abbrev pub is_numbered : Shape → Bool
 is_numbered (shape.Program m ds) = true
 is_numbered _ = false

@@ -1,11 +1,11 @@
 -- What the top call answers.
-use Rattle.std.specs.Prelude.{◌≡◌, ℕ, [], ◌∷◌, Option, None, Some}
+use Rattle.std.specs.Prelude.{◌≡◌, ℕ, [], ◌∷◌, Err, IfSome}
 use Rattle.serde_json.specs.Data.{Data}
 use Rattle.serde_json.specs.View.{view}
 use Rattle.mini_model.specs.Tree.{Tree}
 use Rattle.mini_tree.specs.declared.options.CompressOptions.{CompressOptions}
-use Rattle.mini_estree.specs.Accept.{Accepts}
-use Rattle.mini_estree.specs.Faults.{fault_of, unsupported}
+use Rattle.mini_estree.specs.Accept.{program_at, Accepts}
+use Rattle.mini_estree.specs.Faults.{Fault, fault_of}
 use Rattle.mini_estree.specs.Written.{program_data}
 use Rattle.mini_estree.specs.declared.error.MinifyError.{MinifyError}
 use Rattle.mini_peephole.specs.Pass.{MakesPasses}
@@ -26,7 +26,10 @@ pub record IsMinified (d : Data) (o : CompressOptions) (m : Minified) : Type 0 w
   pub accepted : Accepts d input
   pub rewriting : IsRewriting input o.passes m
 
--- an error is want of memory; or the value is no program that is read, and the error says so at the root
-pub data IsRefusal (d : Data) (o : CompressOptions) (e : MinifyError) : Type 0 where
-  memory : fault_of e ≡ None → IsRefusal d o e
-  refused : fault_of e ≡ Some (record { defect = unsupported; at = [] }) → ((t : Tree) → Accepts d t → ⊥) → IsRefusal d o e
+-- reading the value to the depth of the options fails for this: the node at the pointer has the defect
+abbrev pub HasDefect : Data → CompressOptions → Fault → Type 0
+HasDefect d o f = program_at o.max_depth d ≡ Err f
+
+-- an error tells a defect of the value and its place, unless it is want of memory
+abbrev pub IsRefusal : Data → CompressOptions → MinifyError → Type 0
+IsRefusal d o e = IfSome (fault_of e) (λ f. HasDefect d o f)

@@ -1,11 +1,12 @@
 -- 23, `minimize_unary`: `!e` becomes the negation of e.
-use Rattle.std.specs.Prelude.{Bool, true, false, zero, [], if◌then◌else◌, ◌&&◌}
+use Rattle.std.specs.Prelude.{Bool, true, false, not, zero, [], if◌then◌else◌, ◌&&◌, ◌||◌}
 use Rattle.mini_model.specs.declared.operator.UnaryOperator.TheVariants.{LogicalNot}
 use Rattle.mini_model.specs.declared.seat.Seat.{Seat}
+use Rattle.mini_model.specs.declared.shape.Shape.{Shape}
 use Rattle.mini_model.specs.declared.shape.Shape.TheVariants as shape
-use Rattle.mini_model.specs.Tree.{Tree, node, none, ◌▸◌, children, first_or_absent}
-use Rattle.mini_model.specs.Position.{Expr}
-use Rattle.mini_model.specs.Terms.{neg}
+use Rattle.mini_model.specs.Tree.{Tree, Trees, node, none, ◌▸◌, children, first_or_absent}
+use Rattle.mini_model.specs.Position.{Expr, is_and_or}
+use Rattle.mini_model.specs.Terms.{is_boolean, neg}
 use Rattle.mini_peephole.specs.Choice.{is_lighter}
 
 -- `!a`
@@ -22,3 +23,12 @@ minimizes_unary s t = is_negation t && is_lighter (Expr s) (neg s (operand t)) t
 
 abbrev pub minimized_unary : Seat → Tree → Tree
 minimized_unary s t = if minimizes_unary s t then neg s (operand t) else t
+
+-- the negation is no more than a `!` before the expression
+abbrev pub keeps_by : Seat → Shape → Trees → Bool
+keeps_by s (shape.LogicalExpression o) ts = not (is_and_or o)
+keeps_by s (shape.UnaryExpression LogicalNot) (a ▸ none) = not (s.boolean || is_boolean a)
+keeps_by s h ts = true
+
+abbrev pub keeps_operand : Seat → Tree → Bool
+keeps_operand s (node h xs n ts) = keeps_by s h ts

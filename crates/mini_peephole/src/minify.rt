@@ -1,16 +1,15 @@
 //! The library's top call: an ESTree value in, a lighter one out.
 
-ghost use Rattle.std.specs.Prelude.{◌≡◌, [], ◌∷◌, IfOk, IfErr, Ok, false};
+ghost use Rattle.std.specs.Prelude.{◌≡◌, [], ◌∷◌, IfOk, IfErr, false};
 ghost use Rattle.serde_json.specs.View.{view};
 ghost use Rattle.serde_json.specs.Written.{has_float};
 ghost use Rattle.mini_tree.specs.Plain.{program_tree};
-ghost use Rattle.mini_estree.specs.Accept.{program_at};
 ghost use Rattle.mini_estree.specs.Fits.{Fits};
 ghost use Rattle.mini_peephole.specs.Faithful.{Faithful, PassesBounded};
 ghost use Rattle.mini_peephole.specs.Minified.{IsMinified, IsRewriting, IsRefusal};
 
 use crate::passes::{Passes, run_passes};
-use mini_estree::{MinifyError, read_program, unsupported, write_program};
+use mini_estree::{MinifyError, read_program, write_program};
 use mini_tree::{CompressOptions, Numbers, OutOfMemory, Program, drop_program};
 use serde_json::Value;
 use std::alloc::Global;
@@ -28,30 +27,6 @@ pub struct Minified {
     pub passes: u32,
     /// Whether the last pass found nothing to rewrite.
     pub settled: bool,
-}
-
-const ANY_DEPTH: u32 = 4_294_967_295;
-
-// The program of a value; every refusal becomes one at the root.
-fn read_script(
-    alloc: Global,
-    value: &Value,
-    options: &CompressOptions,
-) -> Result<Program, MinifyError>
-    requires { Fits (view value.now) }
-    ensures ok { IfOk result (λ p. program_at ANY_DEPTH (view value.now) ≡ Ok (program_tree p)) }
-    ensures refused { IfErr result (λ e. IsRefusal (view value.now) options.now e) }
-{
-    match read_program(alloc, value, ANY_DEPTH) {
-        Ok(program) => Ok(program),
-        Err(error) => {
-            if error.is_memory() {
-                Err(error)
-            } else {
-                Err(unsupported(alloc))
-            }
-        }
-    }
 }
 
 // The answer for a program that is written.
@@ -84,9 +59,9 @@ fn rewritten(alloc: Global, tree: &mut Program, max_passes: u32) -> Result<Minif
 /// Reads a program from its ESTree value, rewrites it until nothing is left to rewrite or the passes of the options
 /// are made, and writes it.
 ///
-/// For now a value is refused as `Unsupported` at the root exactly where it is no script of expression statements and
-/// `if`s over identifiers, `!`, `&&`, `||`, conditionals and calls without arguments. `OutOfMemory` may come in place
-/// of any answer.
+/// A value is refused exactly where reading it to the depth of the options fails, with the defect and the pointer that
+/// reading tells: `mini_estree::faults_are_there` says that the node at the pointer has the defect. `OutOfMemory` may
+/// come in place of any answer.
 ///
 /// The value has to fit: `mini_estree::fits` tells, and what 16,777,216 bytes of JSON say does.
 pub fn minify_estree(
@@ -101,7 +76,7 @@ pub fn minify_estree(
     ensures plain { IfOk result (λ m. has_float (view m.program) ≡ false) }
     ensures refused { IfErr result (λ e. IsRefusal (view program.now) options.now e) }
 {
-    let mut tree = read_script(alloc, program, options)?;
+    let mut tree = read_program(alloc, program, options.max_depth)?;
     let answer = rewritten(alloc, &mut tree, options.passes);
     drop_program(tree);
     Ok(answer?)

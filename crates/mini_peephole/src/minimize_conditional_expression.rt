@@ -25,6 +25,7 @@ fn is_heavy(expr: &Expression, seat: Seat) -> bool
                         seat,
                     ) < expr_weight(expr, seat)
                 }
+                _ => false,
             },
             _ => false,
         },

@@ -12,8 +12,8 @@ ghost use Rattle.mini_peephole.specs.MinimizeIf.{logical_statement, is_expressio
 use crate::minimize_not_expression::is_negation;
 use mini_tree::{
     BoxedExpression, ConditionalExpression, Expression, ExpressionStatement, IfStatement,
-    LogicalExpression, LogicalOperator, OutOfMemory, Statement, StmtSeat, conditional_weight,
-    drop_expression, drop_statement, logical_weight, seats, stmt_weight,
+    LogicalExpression, LogicalOperator, OutOfMemory, Statement, StmtSeat, UnaryOperator,
+    conditional_weight, drop_expression, drop_statement, logical_weight, seats, stmt_weight,
 };
 use std::alloc::Global;
 use std::mem;
@@ -70,40 +70,48 @@ fn guards(stmt: &Statement) -> bool
     }
 }
 
-// The weight of the expression statement that the `if` would become.
+// The weight of what `if (a) b;` would become.
 #[tactic(auto, using(crate::proofs::Negations::not_of_negation))]
+fn guarded_weight(test: &Expression, right: &Expression) -> u64
+    ensures { (q : StmtSeat) → result ≡ capped (weight (Stmt q) (logical_statement (expression_tree test.now) (expression_tree right.now))) }
+{
+    let seat = seats::statement_expression();
+    let expression = match test {
+        Expression::UnaryExpression(x) => match x.operator {
+            UnaryOperator::LogicalNot => {
+                logical_weight(LogicalOperator::Or, x.argument.get(), right, seat)
+            }
+            _ => logical_weight(LogicalOperator::And, test, right, seat),
+        },
+        _ => logical_weight(LogicalOperator::And, test, right, seat),
+    };
+    expression.saturating_add(4)
+}
+
+// The weight of the expression statement that the `if` would become.
 fn written_weight(stmt: &Statement) -> u64
     requires { (is_choice (statement_tree stmt.now) || is_guard (statement_tree stmt.now)) ≡ true }
     ensures { (q : StmtSeat) → result ≡ capped (weight (Stmt q) (if_expression (statement_tree stmt.now))) }
 {
-    let seat = seats::statement_expression();
-    let expression = match stmt {
-        Statement::IfStatement(x) => match (x.test.get(), x.consequent.get(), &x.alternate) {
-            (test, Statement::ExpressionStatement(b), Some(alternate)) => match alternate.get() {
+    match stmt {
+        Statement::IfStatement(x) => match (x.consequent.get(), &x.alternate) {
+            (Statement::ExpressionStatement(b), Some(alternate)) => match alternate.get() {
                 Statement::ExpressionStatement(c) => conditional_weight(
-                    test,
+                    x.test.get(),
                     b.expression.get(),
                     c.expression.get(),
-                    seat,
-                ),
+                    seats::statement_expression(),
+                )
+                .saturating_add(4),
                 _ => unreachable!(),
             },
-            (Expression::UnaryExpression(test), Statement::ExpressionStatement(b), None) => {
-                logical_weight(
-                    LogicalOperator::Or,
-                    test.argument.get(),
-                    b.expression.get(),
-                    seat,
-                )
-            }
-            (test, Statement::ExpressionStatement(b), None) => {
-                logical_weight(LogicalOperator::And, test, b.expression.get(), seat)
+            (Statement::ExpressionStatement(b), None) => {
+                guarded_weight(x.test.get(), b.expression.get())
             }
             _ => unreachable!(),
         },
         _ => unreachable!(),
-    };
-    expression.saturating_add(4)
+    }
 }
 
 // The expression that the `if` becomes, and the parts that are left over go.

@@ -1,16 +1,17 @@
 //! Row 23: `!e` becomes the negation of e, where that is lighter.
 
 ghost use Rattle.std.specs.Prelude.{◌≡◌, ◌+◌, OnOk, IfOk};
-ghost use Rattle.mini_model.specs.Position.{Expr, logical_level};
-ghost use Rattle.mini_model.specs.Weight.{capped, parentheses, weight};
-ghost use Rattle.mini_model.specs.Terms.{is_boolean as always_boolean, has_negated_result, neg, turned as turned_operator};
-ghost use Rattle.mini_model.specs.Tree.{negation};
-ghost use Rattle.mini_tree.specs.Plain.{expression_tree};
-ghost use Rattle.mini_peephole.specs.MinimizeUnary.{is_negation as is_a_negation, minimizes_unary, minimized_unary};
+ghost use Rattle.mini_model.specs.declared.shape.Shape.TheVariants.{LogicalExpression};
+ghost use Rattle.mini_model.specs.Position.{Expr, left_operand_seat, right_operand_seat};
+ghost use Rattle.mini_model.specs.Weight.{capped, is_parenthesized as in_parentheses, parentheses, weight};
+ghost use Rattle.mini_model.specs.Terms.{is_boolean as always_boolean, has_negated_result, neg};
+ghost use Rattle.mini_model.specs.Tree.{logical, negation};
+ghost use Rattle.mini_tree.specs.Plain.{expression_tree, logical_expression_tree};
+ghost use Rattle.mini_peephole.specs.MinimizeUnary.{is_negation as is_a_negation, keeps_operand, minimizes_unary, minimized_unary};
 
 use mini_tree::{
-    BoxedExpression, Expression, LogicalOperator, OutOfMemory, Seat, UnaryExpression,
-    UnaryOperator, drop_expression, expr_weight, negation_weight, seats,
+    BoxedExpression, Expression, LogicalExpression, LogicalOperator, Mix, OutOfMemory, Seat,
+    UnaryExpression, UnaryOperator, drop_expression, expr_weight, negation_weight, seats,
 };
 use std::alloc::Global;
 use std::mem;
@@ -23,6 +24,7 @@ pub fn is_negation(expr: &Expression) -> bool
     match expr {
         Expression::UnaryExpression(x) => match x.operator {
             UnaryOperator::LogicalNot => true,
+            _ => false,
         },
         _ => false,
     }
@@ -35,6 +37,7 @@ pub fn is_boolean(expr: &Expression) -> bool
     match expr {
         Expression::UnaryExpression(x) => match x.operator {
             UnaryOperator::LogicalNot => true,
+            _ => false,
         },
         Expression::LogicalExpression(x) => is_boolean(x.left.get()) && is_boolean(x.right.get()),
         Expression::ConditionalExpression(x) => {
@@ -44,41 +47,66 @@ pub fn is_boolean(expr: &Expression) -> bool
     }
 }
 
-// The operator that stands in the negation of the expression.
-fn turned(operator: LogicalOperator) -> LogicalOperator
-    ensures { result ≡ turned_operator operator }
+// Whether an expression of this operator wants parentheses in the seat.
+fn is_parenthesized(operator: LogicalOperator, seat: Seat) -> bool
+    ensures { result ≡ in_parentheses (LogicalExpression operator) seat }
 {
-    match operator {
-        LogicalOperator::And => LogicalOperator::Or,
-        LogicalOperator::Or => LogicalOperator::And,
-    }
+    let mixes = match (operator, seat.mix) {
+        (LogicalOperator::Coalesce, Mix::InAndOr) => true,
+        (LogicalOperator::Or, Mix::InCoalesce) => true,
+        (LogicalOperator::And, Mix::InCoalesce) => true,
+        _ => false,
+    };
+    seats::level_of_operator(operator) < seat.level || mixes
 }
 
-// What `a && b` or `a || b` weighs in the seat besides its operands.
+// What a logical expression weighs in the seat besides its operands.
 fn own_weight(operator: LogicalOperator, seat: Seat) -> u64
-    ensures { result ≡ 4 + parentheses (logical_level operator) seat.level }
+    ensures { result ≡ 4 + parentheses (LogicalExpression operator) seat }
 {
-    if seats::level_of_operator(operator) < seat.level {
+    if is_parenthesized(operator, seat) {
         8
     } else {
         4
     }
 }
 
+// The weight of a logical expression of this operator over the negations of two operands.
+#[cycle(weighing)]
+fn turned_weight(
+    operator: LogicalOperator,
+    left: &Expression,
+    right: &Expression,
+    seat: Seat,
+) -> u64
+    ensures { result ≡ capped (weight (Expr seat) (logical operator (neg (left_operand_seat operator seat) (expression_tree left.now)) (neg (right_operand_seat operator seat) (expression_tree right.now)))) }
+{
+    own_weight(operator, seat)
+        .saturating_add(neg_weight(left, seats::left_operand(operator, seat)))
+        .saturating_add(neg_weight(right, seats::right_operand(operator, seat)))
+}
+
 /// The weight of the negation of the expression, written in the seat.
+#[cycle(weighing)]
 pub fn neg_weight(expr: &Expression, seat: Seat) -> u64
     ensures { result ≡ capped (weight (Expr seat) (neg seat (expression_tree expr.now))) }
 {
     match expr {
-        Expression::LogicalExpression(x) => {
-            let operator = turned(x.operator);
-            own_weight(operator, seat)
-                .saturating_add(neg_weight(x.left.get(), seats::left_operand(operator, seat)))
-                .saturating_add(neg_weight(x.right.get(), seats::right_operand(operator, seat)))
-        }
-        Expression::UnaryExpression(x) if seat.boolean || is_boolean(x.argument.get()) => {
-            expr_weight(x.argument.get(), seat)
-        }
+        Expression::LogicalExpression(x) => match x.operator {
+            LogicalOperator::And => {
+                turned_weight(LogicalOperator::Or, x.left.get(), x.right.get(), seat)
+            }
+            LogicalOperator::Or => {
+                turned_weight(LogicalOperator::And, x.left.get(), x.right.get(), seat)
+            }
+            LogicalOperator::Coalesce => negation_weight(expr, seat),
+        },
+        Expression::UnaryExpression(x) => match x.operator {
+            UnaryOperator::LogicalNot if seat.boolean || is_boolean(x.argument.get()) => {
+                expr_weight(x.argument.get(), seat)
+            }
+            _ => negation_weight(expr, seat),
+        },
         _ => negation_weight(expr, seat),
     }
 }
@@ -95,32 +123,65 @@ fn wrap(alloc: Global, expr: &mut Expression) -> Result<(), OutOfMemory>
     Ok(())
 }
 
+// A logical expression of this operator over the negations of the operands, in place.
+#[cycle(negating)]
+fn turn(
+    alloc: Global,
+    x: &mut LogicalExpression,
+    operator: LogicalOperator,
+    seat: Seat,
+) -> Result<(), OutOfMemory>
+    ensures { OnOk result (logical_expression_tree x.new ≡ logical operator (neg (left_operand_seat operator seat) x.old.left) (neg (right_operand_seat operator seat) x.old.right)) }
+{
+    x.operator = operator;
+    negate(alloc, x.left.get_mut(), seats::left_operand(operator, seat))?;
+    negate(
+        alloc,
+        x.right.get_mut(),
+        seats::right_operand(operator, seat),
+    )?;
+    Ok(())
+}
+
+// Whether the negation of the expression, written in the seat, is no more than a `!` before it.
+fn is_kept(expr: &Expression, seat: Seat) -> bool
+    ensures { result ≡ keeps_operand seat (expression_tree expr.now) }
+{
+    match expr {
+        Expression::LogicalExpression(x) => match x.operator {
+            LogicalOperator::Coalesce => true,
+            _ => false,
+        },
+        Expression::UnaryExpression(x) => match x.operator {
+            UnaryOperator::LogicalNot => !(seat.boolean || is_boolean(x.argument.get())),
+            _ => true,
+        },
+        _ => true,
+    }
+}
+
 /// The negation of the expression, written in the seat, in place. The only error is that memory runs out; then the
 /// expression is fit only to be dropped.
+#[cycle(negating)]
+#[tactic(auto, using(crate::proofs::Kept::negation_kept))]
 pub fn negate(alloc: Global, expr: &mut Expression, seat: Seat) -> Result<(), OutOfMemory>
     ensures { OnOk result (expression_tree expr.new ≡ neg seat (expression_tree expr.old)) }
 {
+    if is_kept(expr, seat) {
+        return wrap(alloc, expr);
+    }
     match expr {
-        Expression::LogicalExpression(x) => {
-            x.operator = turned(x.operator);
-            negate(
-                alloc,
-                x.left.get_mut(),
-                seats::left_operand(x.operator, seat),
-            )?;
-            negate(
-                alloc,
-                x.right.get_mut(),
-                seats::right_operand(x.operator, seat),
-            )?;
-            Ok(())
-        }
-        Expression::UnaryExpression(x) if seat.boolean || is_boolean(x.argument.get()) => {
+        Expression::LogicalExpression(x) => match x.operator {
+            LogicalOperator::And => turn(alloc, x, LogicalOperator::Or, seat),
+            LogicalOperator::Or => turn(alloc, x, LogicalOperator::And, seat),
+            LogicalOperator::Coalesce => unreachable!(),
+        },
+        Expression::UnaryExpression(x) => {
             let argument = mem::replace(x.argument.get_mut(), Expression::NullLiteral);
             drop_expression(mem::replace(expr, argument));
             Ok(())
         }
-        _ => wrap(alloc, expr),
+        _ => unreachable!(),
     }
 }
 
@@ -142,6 +203,7 @@ pub fn minimize_unary(alloc: Global, expr: &mut Expression, seat: Seat) -> Resul
                 drop_expression(mem::replace(expr, argument));
                 Ok(true)
             }
+            _ => Ok(false),
         },
         _ => Ok(false),
     }

@@ -2,7 +2,8 @@
 
 ghost use Rattle.std.specs.Prelude.{◌≡◌, IfOk};
 ghost use Rattle.mini_model.specs.Tree.{trees};
-ghost use Rattle.mini_model.specs.Position.{StatementList, Elsewhere, item_position};
+ghost use Rattle.mini_model.specs.declared.seat.StmtSeat.TheVariants.{List};
+ghost use Rattle.mini_model.specs.Position.{Stmt, Elsewhere};
 ghost use Rattle.mini_tree.specs.Plain.{statement_tree, program_tree};
 ghost use Rattle.mini_peephole.specs.Pass.{Minimizes, MinimizesIn, MakesPasses};
 
@@ -21,7 +22,7 @@ pub struct Passes {
 
 // One walk over each statement of a list.
 fn minimize_statements(alloc: Global, list: &mut Statements) -> Result<bool, OutOfMemory>
-    ensures { IfOk result (λ changed. MinimizesIn (λ i. item_position StatementList) (trees statement_tree list.old) (trees statement_tree list.new) changed) }
+    ensures { IfOk result (λ changed. MinimizesIn (λ i. Stmt List) (trees statement_tree list.old) (trees statement_tree list.new) changed) }
 {
     let mut changed = false;
     let mut at = 0;

@@ -3,7 +3,7 @@
 // parts first, at each node the rewrites as long as the text gets shorter by them.
 use super::*;
 use mini_estree::fits;
-use serde_json::Value;
+use serde_json::{Value, json};
 use std::alloc::Global;
 use std::test::Fail;
 
@@ -70,12 +70,21 @@ const GUARD: &str =
 const GUARDED: &str =
     r#"{"body":[{"expression":{"left":{"name":"a","type":"Identifier"},"operator":"&&","right":{"arguments":[],"callee":{"name":"b","type":"Identifier"},"optional":false,"type":"CallExpression"},"type":"LogicalExpression"},"type":"ExpressionStatement"}],"sourceType":"script","type":"Program"}"#;
 
-// A module, `if (a) {}`, `f(a);`, and no program.
-const REFUSED: [&str; 4] = [
-    r#"{"type":"Program","sourceType":"module","body":[]}"#,
-    r#"{"type":"Program","sourceType":"script","body":[{"type":"IfStatement","test":{"type":"Identifier","name":"a"},"consequent":{"type":"BlockStatement","body":[]}}]}"#,
-    r#"{"type":"Program","sourceType":"script","body":[{"type":"ExpressionStatement","expression":{"type":"CallExpression","callee":{"type":"Identifier","name":"f"},"arguments":[{"type":"Identifier","name":"a"}]}}]}"#,
-    "null",
+// A module, `if (a) {}`, `f(a);`, and no program, and why and where each is refused.
+const REFUSED: [(&str, &str); 4] = [
+    (
+        r#"{"type":"Program","sourceType":"module","body":[]}"#,
+        "Unsupported ",
+    ),
+    (
+        r#"{"type":"Program","sourceType":"script","body":[{"type":"IfStatement","test":{"type":"Identifier","name":"a"},"consequent":{"type":"BlockStatement","body":[]}}]}"#,
+        "Unsupported /body/0/consequent",
+    ),
+    (
+        r#"{"type":"Program","sourceType":"script","body":[{"type":"ExpressionStatement","expression":{"type":"CallExpression","callee":{"type":"Identifier","name":"f"},"arguments":[{"type":"Identifier","name":"a"}]}}]}"#,
+        "Unsupported /body/0/expression",
+    ),
+    ("null", "BadShape "),
 ];
 
 // The last of the parts.
@@ -205,9 +214,57 @@ fn passes_are_bounded(rt: HostRuntime) -> Result<(), Fail> {
 
 #[test]
 fn other_programs_are_refused(rt: HostRuntime) -> Result<(), Fail> {
-    for text in REFUSED {
+    for (text, wanted) in REFUSED {
         let found = answer(rt.alloc(), text, 1)?;
-        assert_eq!(rt; found.as_str(), "Unsupported ", "{text}");
+        assert_eq!(rt; found.as_str(), wanted, "{text}");
     }
+    Ok(())
+}
+
+// A script of one statement over an identifier under so many `!`.
+fn negations(alloc: Global, count: usize) -> Result<Value, Fail> {
+    let mut expression = json!(in alloc; { "type": "Identifier", "name": "a" })?;
+    for _ in 0..count {
+        expression = json!(in alloc; {
+            "type": "UnaryExpression",
+            "operator": "!",
+            "prefix": true,
+            "argument": expression
+        })?;
+    }
+    Ok(json!(in alloc; {
+        "type": "Program",
+        "sourceType": "script",
+        "body": [{ "type": "ExpressionStatement", "expression": expression }]
+    })?)
+}
+
+// The variant of the refusal at this depth and how long its pointer is; an empty text where there is an answer.
+fn refusal(alloc: Global, program: &Value, max_depth: u32) -> Result<(String, usize), Fail> {
+    if !fits(program) {
+        return Ok((String::from_str(alloc, "no fitting value")?, 0));
+    }
+    let options = CompressOptions {
+        max_depth,
+        ..CompressOptions::new()
+    };
+    match minify_estree(alloc, program, &options) {
+        Ok(_) => Ok((String::new(alloc), 0)),
+        Err(error) => Ok((
+            String::from_str(alloc, error.variant())?,
+            error.place().len(),
+        )),
+    }
+}
+
+// The program is at depth 1, its statement at 2, and the identifier under 397 `!` at 400.
+#[test]
+fn the_depth_is_exact(rt: HostRuntime) -> Result<(), Fail> {
+    let program = negations(rt.alloc(), 397)?;
+    let (variant, _) = refusal(rt.alloc(), &program, 400)?;
+    assert_eq!(rt; variant.as_str(), "");
+    let (variant, length) = refusal(rt.alloc(), &program, 399)?;
+    assert_eq!(rt; variant.as_str(), "TooDeep");
+    assert_eq!(rt; length, "/body/0/expression".len() + 397 * 9);
     Ok(())
 }

@@ -1,16 +1,19 @@
 //! One walk over a tree, children first: at each node the rewrites are applied until they answer false.
 
-ghost use Rattle.std.specs.Prelude.{◌≡◌, IfOk};
+ghost use Rattle.std.specs.Prelude.{◌≡◌, IfOk, true};
 ghost use Rattle.mini_model.specs.declared.seat.StmtSeat.TheVariants.{Body};
 ghost use Rattle.mini_model.specs.Tree.{maybe, is_absent};
 ghost use Rattle.mini_model.specs.Position.{Expr, Stmt};
 ghost use Rattle.mini_tree.specs.Plain.{expression_tree, statement_tree};
-ghost use Rattle.mini_peephole.specs.Pass.{Minimizes, MinimizesParts, MinimizesRoot};
+ghost use Rattle.mini_peephole.specs.Pass.{is_read_root, Minimizes, MinimizesParts, MinimizesRoot};
 
 use crate::minimize_conditional_expression::minimize_conditional_expression;
 use crate::minimize_if_statement::try_minimize_if;
 use crate::minimize_not_expression::minimize_unary;
-use mini_tree::{BoxedStatement, Expression, OutOfMemory, Seat, Statement, StmtSeat, seats};
+use mini_tree::{
+    BoxedStatement, Expression, LogicalOperator, OutOfMemory, Seat, Statement, StmtSeat,
+    UnaryOperator, seats,
+};
 use std::alloc::Global;
 
 /// Rewrites an expression in its seat, its parts first. The answer says whether anything changed; the only error is that
@@ -29,18 +32,59 @@ pub fn minimize_expression(
     Ok(parts | root)
 }
 
-// The parts of an expression.
+// Whether the expression is of a form that is read.
+fn is_read(expr: &Expression) -> bool
+    ensures { result ≡ is_read_root (expression_tree expr.now) }
+{
+    match expr {
+        Expression::Identifier(_) => true,
+        Expression::UnaryExpression(x) => match x.operator {
+            UnaryOperator::LogicalNot => true,
+            _ => false,
+        },
+        Expression::LogicalExpression(x) => match x.operator {
+            LogicalOperator::Coalesce => false,
+            _ => true,
+        },
+        Expression::ConditionalExpression(_) => true,
+        Expression::CallExpression(x) => !x.optional,
+        _ => false,
+    }
+}
+
+// The parts of an expression; one that isn't read stays as it is.
+#[cycle(expressions)]
+#[tactic(auto, using(crate::proofs::Unread::parts_of_unread))]
+fn minimize_parts(alloc: Global, expr: &mut Expression, seat: Seat) -> Result<bool, OutOfMemory>
+    ensures { IfOk result (λ changed. MinimizesParts (Expr seat) (expression_tree expr.old) (expression_tree expr.new) changed) }
+{
+    if is_read(expr) {
+        minimize_read_parts(alloc, expr, seat)
+    } else {
+        Ok(false)
+    }
+}
+
+// The parts of an expression of a form that is read.
 #[cycle(expressions)]
 #[tactic(auto, using(crate::proofs::Walks::parts_of_leaf, crate::proofs::Parts::unary_parts, crate::proofs::Parts::logical_parts, crate::proofs::Parts::conditional_parts, crate::proofs::Parts::call_parts))]
-fn minimize_parts(alloc: Global, expr: &mut Expression, seat: Seat) -> Result<bool, OutOfMemory>
+fn minimize_read_parts(
+    alloc: Global,
+    expr: &mut Expression,
+    seat: Seat,
+) -> Result<bool, OutOfMemory>
+    requires { is_read_root (expression_tree expr.old) ≡ true }
     ensures { IfOk result (λ changed. MinimizesParts (Expr seat) (expression_tree expr.old) (expression_tree expr.new) changed) }
 {
     match expr {
         Expression::Identifier(_) => Ok(false),
-        Expression::NullLiteral => Ok(false),
-        Expression::UnaryExpression(x) => {
-            minimize_expression(alloc, x.argument.get_mut(), seats::not_operand())
-        }
+        Expression::UnaryExpression(x) => match x.operator {
+            UnaryOperator::LogicalNot => {
+                let a = minimize_expression(alloc, x.argument.get_mut(), seats::not_operand())?;
+                Ok(a)
+            }
+            _ => unreachable!(),
+        },
         Expression::LogicalExpression(x) => {
             let left = seats::left_operand(x.operator, seat);
             let right = seats::right_operand(x.operator, seat);
@@ -56,8 +100,10 @@ fn minimize_parts(alloc: Global, expr: &mut Expression, seat: Seat) -> Result<bo
             Ok(a | (b | c))
         }
         Expression::CallExpression(x) => {
-            minimize_expression(alloc, x.callee.get_mut(), seats::callee())
+            let a = minimize_expression(alloc, x.callee.get_mut(), seats::callee())?;
+            Ok(a)
         }
+        _ => unreachable!(),
     }
 }
 
@@ -95,7 +141,7 @@ pub fn minimize_statement(
 
 // The parts of a statement.
 #[cycle(statements)]
-#[tactic(auto, using(crate::proofs::Walks::parts_of_leaf, crate::proofs::Parts::statement_parts, crate::proofs::Parts::if_parts))]
+#[tactic(auto, using(crate::proofs::Unread::parts_of_unread, crate::proofs::Parts::statement_parts, crate::proofs::Parts::if_parts))]
 fn minimize_statement_parts(
     alloc: Global,
     stmt: &mut Statement,
@@ -104,9 +150,10 @@ fn minimize_statement_parts(
     ensures { IfOk result (λ changed. MinimizesParts (Stmt seat) (statement_tree stmt.old) (statement_tree stmt.new) changed) }
 {
     match stmt {
-        Statement::EmptyStatement => Ok(false),
         Statement::ExpressionStatement(x) => {
-            minimize_expression(alloc, x.expression.get_mut(), seats::statement_expression())
+            let expression = x.expression.get_mut();
+            let a = minimize_expression(alloc, expression, seats::statement_expression())?;
+            Ok(a)
         }
         Statement::IfStatement(x) => {
             let a = minimize_expression(alloc, x.test.get_mut(), seats::if_test())?;
@@ -114,12 +161,13 @@ fn minimize_statement_parts(
             let c = minimize_alternate(alloc, &mut x.alternate)?;
             Ok(a | (b | c))
         }
+        _ => Ok(false),
     }
 }
 
 // The `else` branch of an `if`, where there is one.
 #[cycle(statements)]
-#[tactic(auto, using(crate::proofs::Parts::absent_alternate, crate::proofs::Parts::statement_is_present))]
+#[tactic(auto, using(crate::proofs::Parts::absent_alternate, crate::proofs::Present::statement_is_present))]
 fn minimize_alternate(
     alloc: Global,
     alternate: &mut Option<BoxedStatement>,
