@@ -128,7 +128,7 @@ def run(program, data):
             os.dup2(sink.fileno(), 1)
             os.dup2(notes.fileno(), 2)
             try:
-                os.execv(program, [program])
+                os.execv(program, [program, "--max-depth=1000"])
             finally:
                 os._exit(127)
         _, code, usage = os.wait4(child, 0)

@@ -1,25 +1,23 @@
 -- What a run answers, and when.
-use Rattle.std.specs.Prelude.{◌≡◌, ◌≢◌, ℕ, ◌<◌, ◌≤◌, ◌⊎◌, List, [], ◌∷◌, ◌++◌, length, true, false, codes, map, Option, Some, None, string_bytes, IsUtf8}
+use Rattle.std.specs.Prelude.{◌≡◌, ℕ, ◌<◌, ◌≤◌, ◌⊎◌, List, [], ◌∷◌, ◌++◌, length, codes, map, Option, Some, None, Ok, string_bytes, IsUtf8}
 use Rattle.std.specs.Io.KnownBytes.{Appends, Consumes, IsAtEnd}
 use Rattle.serde_json.specs.Data.{Data, unsigned, number, boolean, array, object, no_members, member}
 use Rattle.serde_json.specs.View.{view, items_of}
 use Rattle.serde_json.specs.Written.{compact_text}
 use Rattle.serde_json.specs.Read.{read}
+use Rattle.mini_model.specs.Tree.{Tree}
 use Rattle.mini_tree.specs.declared.options.CompressOptions.{CompressOptions}
+use Rattle.mini_estree.specs.Accept.{program_at}
 use Rattle.mini_estree.specs.Faults.{Fault, fault_of, name_of_defect}
-use Rattle.mini_estree.specs.declared.error.MinifyError.{MinifyError}
 use Rattle.mini_peephole.specs.Faithful.{Faithful, PassesBounded}
-use Rattle.mini_peephole.specs.Minified.{IsMinified, IsRefusal}
+use Rattle.mini_peephole.specs.Minified.{IsMinified, HasDefect}
 use Rattle.mini_peephole.specs.declared.minify.Minified.{Minified}
 use Rattle.mini_app.specs.Causes.{Rose, GrewWithin}
+use Rattle.mini_app.specs.Words.{NameOptions, GoodWords}
 use Rattle.mini_app.specs.declared.run.Outcome.{Outcome}
 use Rattle.mini_app.specs.declared.run.Outcome.TheVariants.{Answer, Unread, Faulty, NoRoom}
 use Rattle.mini_app.specs.declared.run.Status.{Status}
 use Rattle.mini_app.specs.declared.run.Status.TheVariants.{Done, BadWords, NotJson, Refused, ReadFault, WriteFault, TooLong, OutOfMemory}
-
--- the options of a run
-abbrev pub run_options : CompressOptions
-run_options = record { sequences = true; join_vars = true; keep_names = record { function = false; class = false }; passes = 4294967295; max_depth = 120; pure_coercion = false; known_calls = false }
 
 -- the number that the process ends with
 abbrev pub code_of : Status → ℕ
@@ -54,27 +52,25 @@ abbrev pub IsNotJson : List ℕ → Type 0
 IsNotJson input = IsUtf8 input → read input ≡ None
 
 -- the bytes are JSON, of a program to which this answer is faithful, and from which it was made by rewrites
-pub record HasAnswer (input : List ℕ) (m : Minified) : Type 0 where
+pub record HasAnswer (o : CompressOptions) (input : List ℕ) (m : Minified) : Type 0 where
   pub value : Data
   pub reads : read input ≡ Some value
-  pub faithful : Faithful value run_options m
-  pub passes : PassesBounded value run_options m
-  pub minified : IsMinified value run_options m
+  pub faithful : Faithful value o m
+  pub passes : PassesBounded value o m
+  pub minified : IsMinified value o m
 
--- the bytes are JSON, of a program that is refused for this fault
-pub record HasFault (input : List ℕ) (f : Fault) : Type 0 where
+-- the bytes are JSON, of a value that has this defect
+pub record HasFault (o : CompressOptions) (input : List ℕ) (f : Fault) : Type 0 where
   pub value : Data
   pub reads : read input ≡ Some value
-  pub error : MinifyError
-  pub refusal : IsRefusal value run_options error
-  pub told : fault_of error ≡ Some f
+  pub defect : HasDefect value o f
 
 -- what a whole input comes to
-abbrev pub IsOutcome : List ℕ → Outcome → Type 0
-IsOutcome input NoRoom = Unit {0}
-IsOutcome input Unread = IsNotJson input
-IsOutcome input (Faulty e) = (f : Fault) × HasFault input f × (fault_of e ≡ Some f)
-IsOutcome input (Answer s) = (m : Minified) × HasAnswer input m × (string_bytes s ≡ answer_text m)
+abbrev pub IsOutcome : CompressOptions → List ℕ → Outcome → Type 0
+IsOutcome o input NoRoom = Unit {0}
+IsOutcome o input Unread = IsNotJson input
+IsOutcome o input (Faulty e) = (f : Fault) × HasFault o input f × (fault_of e ≡ Some f)
+IsOutcome o input (Answer s) = (m : Minified) × HasAnswer o input m × (string_bytes s ≡ answer_text m)
 
 -- what a source or a sink told, and how often it had failed, before a call and after it
 pub record Change : Type 0 where
@@ -104,24 +100,50 @@ pub record GaveMore (source : Change) (input : List ℕ) : Type 0 where
   pub bytes : Consumes source.before source.after input
   pub long : 16777216 < length input
 
--- what a status says of a whole input and of what was written
-abbrev pub IsDelivered : Status → List ℕ → Change → Change → Type 0
-IsDelivered Done input sink notes = (m : Minified) × HasAnswer input m × Appends sink.before sink.after (answer_text m) × IsUntouched notes
-IsDelivered WriteFault input sink notes = (m : Minified) × HasAnswer input m × GrewWithin sink.before sink.after (answer_text m) × Rose sink.faults_before sink.faults_after × IsUntouched notes
-IsDelivered NotJson input sink notes = IsNotJson input × IsUntouched sink × IsUntouched notes
-IsDelivered Refused input sink notes = (f : Fault) × HasFault input f × IsTold notes (note_text f) × IsUntouched sink
-IsDelivered OutOfMemory input sink notes = IsUntouched sink × IsUntouched notes
-IsDelivered BadWords input sink notes = ⊥
-IsDelivered ReadFault input sink notes = ⊥
-IsDelivered TooLong input sink notes = ⊥
+-- what a status says of a whole input, read under these options, and of what was written
+abbrev pub IsDelivered : Status → CompressOptions → List ℕ → Change → Change → Type 0
+IsDelivered Done o input sink notes = (m : Minified) × HasAnswer o input m × Appends sink.before sink.after (answer_text m) × IsUntouched notes
+IsDelivered WriteFault o input sink notes = (m : Minified) × HasAnswer o input m × GrewWithin sink.before sink.after (answer_text m) × Rose sink.faults_before sink.faults_after × IsUntouched notes
+IsDelivered NotJson o input sink notes = IsNotJson input × IsUntouched sink × IsUntouched notes
+IsDelivered Refused o input sink notes = (f : Fault) × HasFault o input f × IsTold notes (note_text f) × IsUntouched sink
+IsDelivered OutOfMemory o input sink notes = IsUntouched sink × IsUntouched notes
+IsDelivered BadWords o input sink notes = ⊥
+IsDelivered ReadFault o input sink notes = ⊥
+IsDelivered TooLong o input sink notes = ⊥
+
+-- all was read, under the options that the words name, and the status tells what came of it
+abbrev pub IsDueOfAll : Status → List (List ℕ) → Change → Change → Change → Type 0
+IsDueOfAll s words source sink notes = (o : CompressOptions) × NameOptions words o × (input : List ℕ) × Gave source input × IsDelivered s o input sink notes
 
 -- what a status says of a run
 abbrev pub IsDue : Status → List (List ℕ) → Change → Change → Change → Type 0
-IsDue BadWords words source sink notes = (words ≢ []) × IsUntouched source × IsUntouched sink × IsUntouched notes
-IsDue ReadFault words source sink notes = (words ≡ []) × Rose source.faults_before source.faults_after × IsUntouched sink × IsUntouched notes
-IsDue TooLong words source sink notes = (words ≡ []) × ((input : List ℕ) × GaveMore source input) × IsUntouched sink × IsUntouched notes
-IsDue OutOfMemory words source sink notes = (words ≡ []) × IsUntouched sink × IsUntouched notes
-IsDue Done words source sink notes = (words ≡ []) × (input : List ℕ) × Gave source input × IsDelivered Done input sink notes
-IsDue WriteFault words source sink notes = (words ≡ []) × (input : List ℕ) × Gave source input × IsDelivered WriteFault input sink notes
-IsDue NotJson words source sink notes = (words ≡ []) × (input : List ℕ) × Gave source input × IsDelivered NotJson input sink notes
-IsDue Refused words source sink notes = (words ≡ []) × (input : List ℕ) × Gave source input × IsDelivered Refused input sink notes
+IsDue BadWords words source sink notes = (GoodWords words → ⊥) × IsUntouched source × IsUntouched sink × IsUntouched notes
+IsDue ReadFault words source sink notes = GoodWords words × Rose source.faults_before source.faults_after × IsUntouched sink × IsUntouched notes
+IsDue TooLong words source sink notes = GoodWords words × ((input : List ℕ) × GaveMore source input) × IsUntouched sink × IsUntouched notes
+IsDue OutOfMemory words source sink notes = GoodWords words × IsUntouched sink × IsUntouched notes
+IsDue Done words source sink notes = IsDueOfAll Done words source sink notes
+IsDue WriteFault words source sink notes = IsDueOfAll WriteFault words source sink notes
+IsDue NotJson words source sink notes = IsDueOfAll NotJson words source sink notes
+IsDue Refused words source sink notes = IsDueOfAll Refused words source sink notes
+
+-- The words are good; the source tells its bytes, which aren't too many; and they are JSON of a program that is accepted
+-- under the options that the words name.
+pub record IsValidInput (words : List (List ℕ)) (before : Option (List ℕ)) : Type 0 where
+  pub options : CompressOptions
+  pub name : NameOptions words options
+  pub input : List ℕ
+  pub there : before ≡ Some input
+  pub short : length input ≤ 16777216
+  pub utf8 : IsUtf8 input
+  pub value : Data
+  pub reads : read input ≡ Some value
+  pub tree : Tree
+  pub accepted : program_at options.max_depth value ≡ Ok tree
+
+-- the answer was written, unless memory ran out, or the source or the sink failed, as their counts of faults show
+abbrev pub IsAnswered : Status → ℕ → ℕ → ℕ → ℕ → Type 0
+IsAnswered Done source_before source_after sink_before sink_after = Unit {0}
+IsAnswered OutOfMemory source_before source_after sink_before sink_after = Unit {0}
+IsAnswered ReadFault source_before source_after sink_before sink_after = Rose source_before source_after
+IsAnswered WriteFault source_before source_after sink_before sink_after = Rose sink_before sink_after
+IsAnswered _ source_before source_after sink_before sink_after = ⊥

@@ -1,3 +1,4 @@
 pub mod Causes
 pub mod Memory
+pub mod Words
 pub mod Answer

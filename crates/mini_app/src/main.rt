@@ -2,8 +2,11 @@
 #![tactic(auto)]
 
 pub mod adapters;
+pub mod choice;
+pub mod laws;
 pub mod memory;
 pub mod outside;
+pub mod plain;
 pub mod run;
 #[cfg(test)]
 mod tests;

@@ -114,8 +114,8 @@ impl MemSource {
     }
 }
 
-// Copies the front of the bytes.
-fn copy_front(piece: &mut [u8], bytes: &[u8], count: usize)
+/// Copies the front of the bytes.
+pub fn copy_front(piece: &mut [u8], bytes: &[u8], count: usize)
     requires room { count ≤ length piece.old }
     requires there { count ≤ length bytes.now }
     ensures { take count piece.new ≡ take count bytes.now }

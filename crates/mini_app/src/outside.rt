@@ -59,7 +59,8 @@ pub const LIMIT: usize = 16_777_216;
 /// How many bytes are asked for at once.
 const PIECE: usize = 16_384;
 
-/// All the bytes that are left, up to `LIMIT`.
+/// All the bytes that are left, up to `LIMIT`. Each turn of its loop takes at least one byte or ends: the measure starts at
+/// one more than `LIMIT`, and falls with each byte.
 pub fn read_all<S: Source>(alloc: Global, source: &mut S) -> Result<Vec<u8>, Stopped>
     ensures bytes { IfOk result (λ input. Consumes (S.left source.old) (S.left source.new) input.items) }
     ensures end { OnOk result (IsAtEnd (S.left source.new)) }

@@ -1,11 +1,12 @@
 // From the bytes in to the bytes out.
 
 ghost use Rattle.std.specs.Prelude.{◌≡◌, ◌≤◌, length, IfSome, IfOk, string_bytes, false};
-ghost use Rattle.mini_app.specs.Answer.{code_of, line_of, numbers_data, answer_text, answer_data, note_text, run_options, IsOutcome, IsDelivered, IsDue, IsTold};
+ghost use Rattle.mini_app.specs.Answer.{code_of, line_of, numbers_data, answer_text, answer_data, note_text, IsOutcome, IsDelivered, IsDue, IsTold, IsValidInput, IsAnswered};
 ghost use Rattle.serde_json.specs.View.{view};
 ghost use Rattle.serde_json.specs.Written.{has_float};
 ghost use Rattle.mini_estree.specs.Faults.{fault_of};
 
+use crate::choice::read_options;
 use crate::outside::{Sink, Source, Stopped, read_all, write_all};
 use crate::words::Words;
 use mini_peephole::{Minified, MinifyError, minify_estree};
@@ -107,9 +108,9 @@ fn answer(alloc: Global, minified: Minified) -> Result<String, AllocError>
     line(alloc, &value)
 }
 
-fn settle(alloc: Global, input: &[u8]) -> Outcome
+fn settle(alloc: Global, input: &[u8], options: &CompressOptions) -> Outcome
     requires { length input.now ≤ 16777216 }
-    ensures { IsOutcome input.now result }
+    ensures { IsOutcome options.now input.now result }
 {
     let value = match Value::from_slice(alloc, input) {
         Ok(value) => value,
@@ -120,7 +121,7 @@ fn settle(alloc: Global, input: &[u8]) -> Outcome
             return Outcome::Unread;
         }
     };
-    let minified = minify_estree(alloc, &value, &CompressOptions::new());
+    let minified = minify_estree(alloc, &value, options);
     drop(value);
     match minified {
         Ok(minified) => match answer(alloc, minified) {
@@ -161,13 +162,19 @@ fn tell<E: Sink>(notes: &mut E, line: &[u8])
     }
 }
 
-fn deliver<K: Sink, E: Sink>(alloc: Global, input: &[u8], sink: &mut K, notes: &mut E) -> Status
+fn deliver<K: Sink, E: Sink>(
+    alloc: Global,
+    input: &[u8],
+    options: &CompressOptions,
+    sink: &mut K,
+    notes: &mut E,
+) -> Status
     requires { length input.now ≤ 16777216 }
-    ensures { IsDelivered result input.now
+    ensures { IsDelivered result options.now input.now
         (record { before = K.written sink.old; after = K.written sink.new; faults_before = K.faults sink.old; faults_after = K.faults sink.new })
         (record { before = E.written notes.old; after = E.written notes.new; faults_before = E.faults notes.old; faults_after = E.faults notes.new }) }
 {
-    match settle(alloc, input) {
+    match settle(alloc, input, options) {
         Outcome::NoRoom => Status::OutOfMemory,
         Outcome::Unread => Status::NotJson,
         Outcome::Faulty(error) => match note(alloc, &error) {
@@ -184,7 +191,7 @@ fn deliver<K: Sink, E: Sink>(alloc: Global, input: &[u8], sink: &mut K, notes: &
     }
 }
 
-/// Reads all that the source gives, minifies it, and writes the answer, or why there is none.
+/// Reads the words and all that the source gives, minifies it, and writes the answer, or tells why there is none.
 pub fn run<S: Source, K: Sink, E: Sink>(
     alloc: Global,
     words: &Words,
@@ -192,16 +199,19 @@ pub fn run<S: Source, K: Sink, E: Sink>(
     sink: &mut K,
     notes: &mut E,
 ) -> Status
-    ensures { IsDue result words.now
+    ensures due { IsDue result words.now
         (record { before = S.left source.old; after = S.left source.new; faults_before = S.faults source.old; faults_after = S.faults source.new })
         (record { before = K.written sink.old; after = K.written sink.new; faults_before = K.faults sink.old; faults_after = K.faults sink.new })
         (record { before = E.written notes.old; after = E.written notes.new; faults_before = E.faults notes.old; faults_after = E.faults notes.new }) }
+    ensures answered { IsValidInput words.now (S.left source.old)
+        → IsAnswered result (S.faults source.old) (S.faults source.new) (K.faults sink.old) (K.faults sink.new) }
 {
-    if !words.is_empty() {
-        return Status::BadWords;
-    }
+    let options = match read_options(words) {
+        Some(options) => options,
+        None => return Status::BadWords,
+    };
     match read_all(alloc, source) {
-        Ok(input) => deliver(alloc, &input, sink, notes),
+        Ok(input) => deliver(alloc, &input, &options, sink, notes),
         Err(Stopped::Memory) => Status::OutOfMemory,
         Err(Stopped::Fault) => Status::ReadFault,
         Err(Stopped::TooLong) => Status::TooLong,

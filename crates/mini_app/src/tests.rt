@@ -2,11 +2,14 @@
 
 ghost use Rattle.std.specs.Prelude.{None};
 
+use crate::choice::read_options;
 use crate::memory::{MemSink, MemSource};
 use crate::outside::{Failed, LIMIT, Source};
+use crate::plain::{PlainSink, PlainSource};
 use crate::run::{Status, run};
 use crate::words::Words;
 use mini_text::OutOfMemory;
+use mini_tree::{CompressOptions, KeepNames};
 use std::alloc::{AllocError, Global};
 use std::process::Abort;
 use std::test::Fail;
@@ -19,6 +22,15 @@ const ANSWER: &str =
 const MODULE: &str = "{\"type\":\"Program\",\"sourceType\":\"module\",\"body\":[]}";
 
 const NOTE: &str = "refused: Unsupported at \n";
+
+// `a;`, whose identifier is at depth 3
+const NAME: &str =
+    "{\"type\":\"Program\",\"sourceType\":\"script\",\"body\":[{\"type\":\"ExpressionStatement\",\"expression\":{\"type\":\"Identifier\",\"name\":\"a\"}}]}";
+
+// A script, where the last of two equal keys counts.
+const TWICE: &str = "{\"body\":1,\"type\":\"Program\",\"sourceType\":\"script\",\"body\":[]}";
+
+const SHAPELESS: &str = "refused: BadShape at \n";
 
 const ROOM: usize = 1_000;
 
@@ -71,6 +83,13 @@ fn each_input_has_its_status(rt: HostRuntime) -> Result<(), Fail> {
         (&[], Status::NotJson, "", ""),
         (&[b'"', 255, b'"'], Status::NotJson, "", ""),
         (deep.as_slice(), Status::NotJson, "", ""),
+        (b"\"\\ud800\"", Status::NotJson, "", ""),
+        (b"1e999", Status::NotJson, "", ""),
+        (TWICE.as_bytes(), Status::Done, ANSWER, ""),
+        (b"-1", Status::Refused, "", SHAPELESS),
+        (b"1.0", Status::Refused, "", SHAPELESS),
+        (b"9007199254740991", Status::Refused, "", SHAPELESS),
+        (b"9007199254740992", Status::Refused, "", SHAPELESS),
     ];
     for (input, status, written, told) in cases {
         let case = Case {
@@ -137,22 +156,146 @@ fn notes_may_fail(rt: HostRuntime) -> Result<(), Fail> {
     assert_eq!(rt; status, Status::Refused);
     assert!(rt; output.written().is_empty());
     assert_eq!(rt; notes.written(), b"refused: U".as_slice());
+    let mut input = source(alloc, MODULE.as_bytes(), 10, &[])?;
+    let mut notes = sink(alloc, ROOM, 10, &[1])?;
+    let status = run(alloc, &words, &mut input, &mut output, &mut notes);
+    assert_eq!(rt; status, Status::Refused);
+    assert!(rt; output.written().is_empty() && notes.written().is_empty());
+    Ok(())
+}
+
+// The words of a line, between spaces.
+fn words_of(alloc: Global, line: &str) -> Result<Words, OutOfMemory> {
+    let mut words = Words::new(alloc);
+    for word in line.split(' ') {
+        words.push(word)?;
+    }
+    Ok(words)
+}
+
+// Lines of words that are refused: the first is one empty word.
+const BAD_LINES: [&str; 20] = [
+    "",
+    "-h",
+    "--help",
+    "--passes",
+    "--passes=",
+    "--passes=01",
+    "--passes=00",
+    "--passes=+5",
+    "--passes=-5",
+    "--passes=5x",
+    "--passes=4294967296",
+    "--passes=5 --passes=5",
+    "--passes=5 --known-calls --passes=6",
+    "--no-sequences --no-sequences",
+    "--max-depth=0",
+    "--max-depth=1001",
+    "--Known-calls",
+    "--known-calls ",
+    "--generate=3",
+    "--edition=2022",
+];
+
+fn check_bad(rt: &impl Abort, alloc: Global, words: &Words) -> Result<(), Fail> {
+    let mut input = source(alloc, SCRIPT.as_bytes(), 10, &[])?;
+    let mut output = sink(alloc, ROOM, 10, &[])?;
+    let mut notes = sink(alloc, ROOM, 10, &[])?;
+    let status = run(alloc, words, &mut input, &mut output, &mut notes);
+    assert_eq!(rt; status, Status::BadWords);
+    assert_eq!(rt; input.left(), SCRIPT.as_bytes());
+    assert!(rt; output.written().is_empty() && notes.written().is_empty());
     Ok(())
 }
 
 #[test]
-fn a_word_is_refused(rt: HostRuntime) -> Result<(), Fail> {
+fn other_words_are_refused(rt: HostRuntime) -> Result<(), Fail> {
     let alloc = rt.alloc();
-    let mut input = source(alloc, SCRIPT.as_bytes(), 10, &[])?;
-    let mut output = sink(alloc, ROOM, 10, &[])?;
-    let mut notes = sink(alloc, ROOM, 10, &[])?;
-    let mut words = Words::new(alloc);
-    words.push("")?;
-    assert_eq!(rt; words.len(), 1);
-    let status = run(alloc, &words, &mut input, &mut output, &mut notes);
-    assert_eq!(rt; status, Status::BadWords);
-    assert_eq!(rt; input.left(), SCRIPT.as_bytes());
-    assert!(rt; output.written().is_empty() && notes.written().is_empty());
+    for line in BAD_LINES {
+        check_bad(&rt, alloc, &words_of(alloc, line)?)?;
+    }
+    let mut word = String::from_str(alloc, "--passes=")?;
+    for _ in 0..10_000 {
+        word.push('1')?;
+    }
+    check_bad(&rt, alloc, &words_of(alloc, word.as_str())?)
+}
+
+const ALL: CompressOptions = CompressOptions {
+    sequences: false,
+    join_vars: false,
+    keep_names: KeepNames {
+        function: true,
+        class: true,
+    },
+    passes: 4_294_967_295,
+    max_depth: 1_000,
+    pure_coercion: true,
+    known_calls: true,
+};
+
+#[test]
+fn words_name_options(rt: HostRuntime) -> Result<(), Fail> {
+    let alloc = rt.alloc();
+    let none = Words::new(alloc);
+    assert_eq!(rt; read_options(&none), Some(CompressOptions::new()));
+    for line in [
+        "--no-sequences --no-join-vars --keep-function-names --keep-class-names --pure-coercion --known-calls --passes=4294967295 --max-depth=1000",
+        "--max-depth=1000 --passes=4294967295 --known-calls --pure-coercion --keep-class-names --keep-function-names --no-join-vars --no-sequences",
+    ] {
+        let words = words_of(alloc, line)?;
+        assert_eq!(rt; words.len(), 8);
+        assert_eq!(rt; read_options(&words), Some(ALL), "{line}");
+    }
+    let options = CompressOptions {
+        passes: 0,
+        max_depth: 1,
+        ..CompressOptions::new()
+    };
+    let words = words_of(alloc, "--max-depth=1 --passes=0")?;
+    assert_eq!(rt; read_options(&words), Some(options));
+    Ok(())
+}
+
+fn run_at_depth(alloc: Global, words: &str, notes: &mut MemSink) -> Result<(Status, usize), Fail> {
+    let mut input = source(alloc, NAME.as_bytes(), 100, &[])?;
+    let mut output = sink(alloc, ROOM, 100, &[])?;
+    let words = words_of(alloc, words)?;
+    let status = run(alloc, &words, &mut input, &mut output, notes);
+    Ok((status, output.written().len()))
+}
+
+#[test]
+fn depth_is_the_words(rt: HostRuntime) -> Result<(), Fail> {
+    let alloc = rt.alloc();
+    let mut notes = sink(alloc, ROOM, 100, &[])?;
+    let (status, count) = run_at_depth(alloc, "--max-depth=3", &mut notes)?;
+    assert!(rt; status == Status::Done && 100 < count && notes.written().is_empty());
+    let (status, count) = run_at_depth(alloc, "--max-depth=2", &mut notes)?;
+    assert!(rt; status == Status::Refused && count == 0);
+    assert_eq!(rt;
+        notes.written(),
+        b"refused: TooDeep at /body/0/expression\n".as_slice()
+    );
+    Ok(())
+}
+
+#[test]
+fn plain_ones_never_fail(rt: HostRuntime) -> Result<(), Fail> {
+    let alloc = rt.alloc();
+    let mut input = PlainSource::new(Vec::from_slice(alloc, SCRIPT.as_bytes())?);
+    let mut output = PlainSink::new();
+    let mut notes = PlainSink::new();
+    let status = run(
+        alloc,
+        &Words::new(alloc),
+        &mut input,
+        &mut output,
+        &mut notes,
+    );
+    assert_eq!(rt; status, Status::Done);
+    assert_eq!(rt; output.taken(), ANSWER.len() as u64);
+    assert_eq!(rt; notes.taken(), 0);
     Ok(())
 }
 

@@ -1,4 +1,4 @@
-ghost use Rattle.std.specs.Prelude.{◌≡◌, ◌∷◌, ◌++◌, [], length, IsTrue, ◌↔◌, OnOk, OnErr};
+ghost use Rattle.std.specs.Prelude.{◌≡◌, ◌∷◌, ◌++◌, [], length, map, string_bytes, OnOk, OnErr};
 
 use mini_text::OutOfMemory;
 use std::alloc::Global;
@@ -51,10 +51,10 @@ impl Words {
         self.words.len()
     }
 
-    /// Whether there is no word.
-    pub fn is_empty(&self) -> bool
-        ensures { IsTrue result ↔ (self.now ≡ []) }
+    /// The words, first to last.
+    pub fn as_slice(&self) -> &[String]
+        ensures { map string_bytes result.now ≡ self.now }
     {
-        self.words.is_empty()
+        self.words.as_slice()
     }
 }

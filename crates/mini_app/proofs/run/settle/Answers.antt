@@ -4,20 +4,20 @@ use Rattle.std.proofs.lemmas.Grind.{common_steps}
 use Rattle.serde_json.specs.View.{view}
 use Rattle.mini_estree.specs.Faults.{fault_of}
 use Rattle.mini_estree.proofs.Counted.{bytes_fit}
-use Rattle.mini_app.proofs.Told.{some_of}
+use Rattle.mini_app.proofs.Told.{defect_of}
 use Rattle.mini_app.proofs.run.settle.Goals as goal
 
 pub returns-else-is_memory-2 : goal.returns-else-is_memory-2
 returns-else-is_memory-2 c =
     let error = c.in-Err-minified.error in
     let tells : fault_of error ≡ None → ⊥ = (let h = c.if-is_memory-2.ensures in let k = c.if-is_memory-2.false in grind (arith, common_steps)) in
-    let (f, told) = some_of (fault_of error) tells in
-    (f, record { value = view c.in-Ok.value; reads = c.in-Ok.ensures.ok.1; error = error; refusal = rw c.new.ensures at c.in-Err-minified.ensures.refused; told = told }, told)
+    let (f, told, has) = defect_of (view c.in-Ok.value) c.args.options.now error c.in-Err-minified.ensures.refused tells in
+    (f, record { value = view c.in-Ok.value; reads = c.in-Ok.ensures.ok.1; defect = has }, told)
 
 pub returns-in-Ok-answer : goal.returns-in-Ok-answer
 returns-in-Ok-answer c = (
   c.in-Ok-minified.minified,
-  record { value = view c.in-Ok.value; reads = c.in-Ok.ensures.ok.1; faithful = rw c.new.ensures at c.in-Ok-minified.ensures.faithful; passes = rw c.new.ensures at c.in-Ok-minified.ensures.passes; minified = rw c.new.ensures at c.in-Ok-minified.ensures.rewritten },
+  record { value = view c.in-Ok.value; reads = c.in-Ok.ensures.ok.1; faithful = c.in-Ok-minified.ensures.faithful; passes = c.in-Ok-minified.ensures.passes; minified = c.in-Ok-minified.ensures.rewritten },
   c.in-Ok-answer.ensures,
 )
 
