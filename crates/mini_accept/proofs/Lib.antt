@@ -4,3 +4,12 @@ pub mod Refusals
 pub mod Planned
 pub mod Places
 pub mod Numbers
+pub mod Fitting
+pub mod Gathered
+pub mod Types
+pub mod Wholes
+pub mod Plains
+pub mod Statements
+pub mod Declarations
+pub mod Identifiers
+pub mod Literals
