@@ -13,3 +13,4 @@ pub mod Statements
 pub mod Declarations
 pub mod Identifiers
 pub mod Literals
+pub mod Marks
