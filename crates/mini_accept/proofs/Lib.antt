@@ -14,3 +14,4 @@ pub mod Declarations
 pub mod Identifiers
 pub mod Literals
 pub mod Marks
+pub mod Pieces
