@@ -15,3 +15,4 @@ pub mod Identifiers
 pub mod Literals
 pub mod Marks
 pub mod Pieces
+pub mod Patterns
