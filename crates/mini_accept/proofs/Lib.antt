@@ -16,3 +16,4 @@ pub mod Literals
 pub mod Marks
 pub mod Pieces
 pub mod Patterns
+pub mod Entries
