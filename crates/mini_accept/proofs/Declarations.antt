@@ -1,21 +1,20 @@
 -- The plans of functions, classes, imports and exports.
-use Rattle.std.proofs.Common.{◌≡◌, ℕ, suc, List, [], ◌∷◌, refl, ap, sym, ◌∙◌, subst, Bool, true, false, ◌&&◌, ◌||◌}
-use Rattle.std.specs.Prelude.{Option, Some, None, is_some, nat_eq, not, codes, if◌then◌else◌}
-use Rattle.std.proofs.lemmas.Bool.{and_from, and_parts, or_left, or_right, or_parts, not-true, false≢true, true≢false}
+use Rattle.std.proofs.Common.{◌≡◌, ℕ, suc, List, [], ◌∷◌, refl, ap, sym, ◌∙◌, Bool, true, false, ◌&&◌, ◌||◌}
+use Rattle.std.specs.Prelude.{Option, Some, None, is_some, not, codes, if◌then◌else◌}
+use Rattle.std.proofs.lemmas.Bool.{and_from, and_parts, or_right, or_parts, not-true, false≢true, true≢false}
 use Rattle.serde_json.specs.Data.{Data, Items, no_items, item}
 use Rattle.serde_json.specs.Find.{get}
-use Rattle.mini_model.specs.declared.name.Name.{Name}
 use Rattle.mini_model.specs.declared.kind.MethodDefinitionKind.{MethodDefinitionKind}
 use Rattle.mini_model.specs.declared.kind.MethodDefinitionKind.TheVariants as method
 use Rattle.mini_model.specs.declared.shape.Shape.{Shape}
 use Rattle.mini_model.specs.declared.shape.Shape.TheVariants as shape
-use Rattle.mini_model.specs.Tree.{Tree, node, Trees, is_absent, children, child_or_absent}
+use Rattle.mini_model.specs.Tree.{Tree, node, children, child_or_absent}
 use Rattle.mini_structure.specs.WellShaped as shaped
 use Rattle.mini_structure.specs.WellShaped.{Class, Depth, in_module, in_body, nested, Slot, slots_of, is_sloppy_function, is_strict_in, is_same_flag, is_numbered, has_names, has_plain_fields, has_its_parts, none_if, fits}
 use Rattle.mini_accept.specs.Places.{down, field, place, Place, at, an_exported, a_local_name}
 use Rattle.mini_accept.specs.Fields.{is_given, is_there_with, flag_at, list_at, no_item, has_type}
-use Rattle.mini_accept.specs.Standing.{is_unread, is_unread_form, is_unread_there, is_method, expression_types, statement_types, module_types}
-use Rattle.mini_accept.specs.Plans.{Part, hole, tree_at, inner_at, Child, one, many, child, inner, inner_key, optional, optional_inner, node_of, parts_from, list, each}
+use Rattle.mini_accept.specs.Standing.{is_unread, is_unread_form, is_method}
+use Rattle.mini_accept.specs.Plans.{hole, tree_at, inner_at, Child, one, child, inner_key, optional, optional_inner, node_of, parts_from, list, each}
 use Rattle.mini_accept.specs.Words.{word_at, method_kinds}
 use Rattle.mini_accept.specs.Functions as function
 use Rattle.mini_accept.specs.Functions.{directives_below, parameter}
@@ -23,7 +22,6 @@ use Rattle.mini_accept.specs.Modules as module'
 use Rattle.mini_accept.specs.Accept.{takes_number}
 use Rattle.mini_accept.proofs.Fitting.{KnownBelow, known_fits, OfParts, trees_of_parts, OfChildren, trees_of_children, PartFits, AllFit, ChildrenFit}
 use Rattle.mini_accept.proofs.Gathered.{WholeIf}
-use Rattle.mini_accept.proofs.Types.{Typed, typed_has, apart, types_at}
 use Rattle.mini_accept.proofs.Wholes.{bind_whole, require_whole, list_whole, inner_one, if_fits, optional_fits, optional_inner_fits, absent_fits, absent_or, not_absent, all_fit, none_if_false, whole_by, whole_at}
 use Rattle.mini_accept.proofs.Plains.{below_paired, parameters_fit}
 use Rattle.mini_accept.proofs.Statements.{is_function, not_sloppy}

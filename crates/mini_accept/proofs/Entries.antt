@@ -1,5 +1,5 @@
 -- The plan of each type of node gives a tree that is known, wherever the type may stand.
-use Rattle.std.proofs.Common.{◌≡◌, ℕ, List, [], ◌∷◌, refl, ap, sym, ◌∙◌, Bool, true, false, ◌&&◌, ◌||◌}
+use Rattle.std.proofs.Common.{◌≡◌, ℕ, List, refl, ap, sym, ◌∙◌, Bool, true, false, ◌&&◌, ◌||◌}
 use Rattle.std.specs.Prelude.{Option, codes, if◌then◌else◌}
 use Rattle.std.proofs.lemmas.Bool.{and_parts, false≢true}
 use Rattle.serde_json.specs.Data.{Data}
@@ -189,7 +189,7 @@ module _ (strict : Bool) (d : Data) where
 
   function_expression : (p : Place) → Aside d → is_one_of (types_at p) (codes "FunctionExpression") ≡ true → may_stand p d ≡ true → WholeIf strict p d (function.function false p d)
   function_expression (at shaped.a_method) a e stands = declarations.method_value strict d stands
-  function_expression p a e stands = plains.function_expression strict p d (function_there p e (λ m. cc m)) a
+  function_expression p a e stands = plains.function_expression strict p d (function_there p e (λ m. cc)) a
 
   expression_whole : (p : Place) (s : List ℕ) (o : Option Plan) → Typed d s → (is_one_of plain_types s && is_aside s) ≡ true → is_one_of (types_at p) s ≡ true → (is_expression_place p ≡ true → Aside d → WholeIf strict p d o) → WholeIf strict p d o
   expression_whole p s o typed plain there f =

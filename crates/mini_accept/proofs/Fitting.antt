@@ -1,19 +1,19 @@
 -- When the parts of a plan fill the slots of a shape, and that the trees which are read of them fill these.
-use Rattle.std.proofs.Common.{◌≡◌, ℕ, suc, List, [], ◌∷◌, refl, ap, sym, ◌∙◌, subst, inl, inr, Bool, true, false, ◌&&◌, ◌||◌}
-use Rattle.std.specs.Prelude.{◌⊎◌, ⊤, Option, Some, None, ℤ, not, is_some, if◌then◌else◌, codes}
-use Rattle.std.proofs.lemmas.Bool.{and_from, or_left, or_right, and_parts, false≢true, true≢false}
-use Rattle.serde_json.specs.Data.{Data, Items, no_items, item}
+use Rattle.std.proofs.Common.{◌≡◌, ℕ, List, [], ◌∷◌, refl, inl, inr, Bool, true, false}
+use Rattle.std.specs.Prelude.{◌⊎◌, ⊤, Option, Some, None, ℤ, codes}
+use Rattle.std.proofs.lemmas.Bool.{and_from, or_left, or_right, true≢false}
+use Rattle.serde_json.specs.Data.{Data}
 use Rattle.mini_text.specs.Texts.{units_of}
 use Rattle.mini_model.specs.declared.shape.Shape.{Shape}
 use Rattle.mini_model.specs.declared.shape.Shape.TheVariants as shape
 use Rattle.mini_model.specs.Paths.{append}
-use Rattle.mini_model.specs.Tree.{Tree, node, Trees, none, ◌▸◌, absent, listed, is_absent, count, children, child_or_absent}
+use Rattle.mini_model.specs.Tree.{Tree, node, Trees, none, ◌▸◌, absent, listed, children, child_or_absent}
 use Rattle.mini_structure.specs.WellShaped as shaped
 use Rattle.mini_structure.specs.WellShaped.{Class, Tagging, Slot, Filling, these, each, each_or_last, pieces, fits, fill, is_quasi, are_quasis, is_last, slots_of}
-use Rattle.mini_accept.specs.Places.{Step, down, place, Place, at, a_directive, a_directive_text, a_quasi, an_exported, a_local_name}
-use Rattle.mini_accept.specs.Fields.{has_type, is_given, item_count, no_item}
+use Rattle.mini_accept.specs.Places.{down, Place, at, a_directive, a_directive_text, a_quasi, an_exported, a_local_name}
+use Rattle.mini_accept.specs.Fields.{has_type, is_given}
 use Rattle.mini_accept.specs.Literals.{with_minus}
-use Rattle.mini_accept.specs.Plans.{Part, hole, tree_at, inner_at, checked, Child, one, many, ItemPart, parts_from}
+use Rattle.mini_accept.specs.Plans.{Part, hole, tree_at, inner_at, checked, Child, one, many}
 use Rattle.mini_accept.specs.Expressions.{has_mark, identifier_text, is_same_name, is_name_with_default}
 use Rattle.mini_accept.specs.Functions as function
 

@@ -1,6 +1,6 @@
 -- What is read of the parts of a plan is known of each part, where it is known of each node below.
 use Rattle.std.proofs.Common.{◌≡◌, ℕ, suc, List, [], ◌∷◌, refl, ap, sym, ◌∙◌, subst, Bool, true, false}
-use Rattle.std.specs.Prelude.{⊤, Option, Some, None, Result, Ok, Err}
+use Rattle.std.specs.Prelude.{⊤, Option, Some, None, Result, Ok}
 use Rattle.std.proofs.lemmas.Bool.{true≢false}
 use Rattle.serde_json.specs.Data.{Data}
 use Rattle.mini_model.specs.declared.name.Name.{Name}
@@ -12,7 +12,7 @@ use Rattle.mini_structure.specs.WellShaped.{is_strict_in}
 use Rattle.mini_accept.specs.Faults.{Fault}
 use Rattle.mini_accept.specs.Places.{Step, step_text, down, Place}
 use Rattle.mini_accept.specs.Plans.{Part, hole, tree_at, inner_at, checked, Child, one, many, Plan}
-use Rattle.mini_accept.specs.Accept.{Read, Reader, takes_number, below_by, read_below, read_part, read_parts, read_child, read_children, with_children, numbered, read_plan}
+use Rattle.mini_accept.specs.Accept.{Read, Reader, takes_number, below_by, read_below, read_part, read_parts, read_child, read_children, numbered, read_plan}
 use Rattle.mini_accept.proofs.Results.{ok_same, bind_ok, under_ok}
 use Rattle.mini_accept.proofs.Fitting.{Known, KnownBelow, Of, trees_of, OfParts, trees_of_parts, OfChild, trees_of_child, OfChildren, trees_of_children}
 

@@ -1,17 +1,17 @@
 -- The plans of names.
 use Rattle.std.proofs.Common.{◌≡◌, ℕ, List, [], ◌∷◌, refl, ap, sym, ◌∙◌, subst, Bool, true, false, ◌&&◌, ◌||◌}
-use Rattle.std.specs.Prelude.{Option, Some, None, option_and_then, option_map, ℤ, not, codes, if◌then◌else◌}
+use Rattle.std.specs.Prelude.{Option, Some, None, option_and_then, option_map, not, codes, if◌then◌else◌}
 use Rattle.std.proofs.lemmas.Bool.{and_parts, false≢true, true≢false}
 use Rattle.serde_json.specs.Data.{Data}
 use Rattle.serde_json.specs.Find.{get}
 use Rattle.mini_text.specs.Texts.{units_of, is_identifier_name}
 use Rattle.mini_model.specs.declared.shape.Shape.TheVariants as shape
-use Rattle.mini_model.specs.Tree.{Tree, node, Trees, none, unresolved}
+use Rattle.mini_model.specs.Tree.{Tree, node, none, unresolved}
 use Rattle.mini_structure.specs.WellShaped as shaped
 use Rattle.mini_structure.specs.WellShaped.{Class, in_module, is_text}
-use Rattle.mini_accept.specs.Places.{Place, at, an_exported, a_local_name}
+use Rattle.mini_accept.specs.Places.{Place, at, a_local_name}
 use Rattle.mini_accept.specs.Fields.{require, is_there_with, text_at, has_text, has_units, is_text_by, name_of_units, name_at, has_type, is_one_of}
-use Rattle.mini_accept.specs.Literals.{literal, is_string_shape, is_string_literal, with_minus}
+use Rattle.mini_accept.specs.Literals.{literal, is_string_shape, is_string_literal}
 use Rattle.mini_accept.specs.Standing.{is_identifier, may_stand}
 use Rattle.mini_accept.specs.Plans.{Plan}
 use Rattle.mini_accept.specs.Functions as function

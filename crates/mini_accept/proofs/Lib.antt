@@ -17,3 +17,4 @@ pub mod Marks
 pub mod Pieces
 pub mod Patterns
 pub mod Entries
+pub mod Shaped

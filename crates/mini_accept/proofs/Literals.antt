@@ -1,30 +1,29 @@
 -- The plans of literals.
-use Rattle.std.proofs.Common.{◌≡◌, ℕ, suc, zero, List, [], ◌∷◌, refl, ap, sym, ◌∙◌, subst, inl, inr, Bool, true, false, ◌&&◌, ◌||◌}
-use Rattle.std.specs.Prelude.{Option, Some, None, option_and_then, option_map, unwrap_or, is_some, nat_le, ℤ, pos, negsuc, not, codes, if◌then◌else◌}
+use Rattle.std.proofs.Common.{◌≡◌, ℕ, suc, zero, List, [], refl, ap, sym, ◌∙◌, subst, inl, inr, Bool, true, false, ◌&&◌, ◌||◌}
+use Rattle.std.specs.Prelude.{Option, Some, None, option_and_then, option_map, unwrap_or, nat_le, ℤ, pos, negsuc, not, codes, if◌then◌else◌}
 use Rattle.std.proofs.lemmas.Bool.{and_from, and_parts, or_cases, or_parts, not-false, false≢true, true≢false}
-use Rattle.serde_json.specs.Data.{Data, Num, unsigned, negative, float, null, boolean, number, string, array, object}
+use Rattle.serde_json.specs.Data.{Data, unsigned, negative, float, null, boolean, number, string, array, object}
 use Rattle.serde_json.specs.Find.{get, as_str}
 use Rattle.mini_text.specs.Texts.{units_of}
 use Rattle.mini_numerals.specs.Numerals.{max_safe_integer}
 use Rattle.mini_model.specs.declared.shape.Shape.{Shape}
 use Rattle.mini_model.specs.declared.shape.Shape.TheVariants as shape
-use Rattle.mini_model.specs.Tree.{Tree, node, Trees, none}
+use Rattle.mini_model.specs.Tree.{Tree, node, none}
 use Rattle.mini_structure.specs.WellShaped as shaped
 use Rattle.mini_structure.specs.WellShaped.{Class, in_module, is_text, is_numbered, has_plain_fields, has_its_parts, slots_of, fits}
 use Rattle.mini_accept.specs.Places.{Place, at, a_directive_text}
-use Rattle.mini_accept.specs.Fields.{◌>>=◌, require, is_given, text_at, units_at, paired_units, has_units, is_text_by, has_type, is_one_of}
-use Rattle.mini_accept.specs.Literals.{reg_exp, big_int, value_shape, literal, max_big_int, is_unread_number, is_unread_value, is_unread_raw, is_unread_literal, is_string_shape, is_number_shape, is_big_int_shape, is_literal_with, is_string_literal, is_big_int_literal, is_key_literal, negative_of, with_minus}
+use Rattle.mini_accept.specs.Fields.{◌>>=◌, require, is_given, text_at, units_at, has_units, is_text_by, has_type, is_one_of}
+use Rattle.mini_accept.specs.Literals.{reg_exp, big_int, value_shape, literal, max_big_int, is_unread_value, is_unread_literal, is_string_shape, is_number_shape, is_literal_with, is_string_literal, is_big_int_literal, is_key_literal, negative_of, with_minus}
 use Rattle.mini_accept.specs.Standing.{is_identifier, has_unread_type, has_unread_field, is_unread_form, is_unread_there, is_unread, may_stand}
-use Rattle.mini_accept.specs.Accept.{takes_number}
-use Rattle.mini_accept.specs.Plans.{Plan, node_of}
+use Rattle.mini_accept.specs.Plans.{node_of}
 use Rattle.mini_accept.specs.Functions as function
 use Rattle.mini_accept.specs.Expressions as expression
-use Rattle.mini_accept.proofs.Fitting.{Spelled, Expressed, Seen, Fits}
+use Rattle.mini_accept.proofs.Fitting.{Spelled, Expressed, Seen}
 use Rattle.mini_accept.proofs.Gathered.{WholeIf}
-use Rattle.mini_accept.proofs.Types.{some_same, text_same, Typed, typed_has, types_at, is_expression_place}
+use Rattle.mini_accept.proofs.Types.{some_same, Typed, typed_has, types_at, is_expression_place}
 use Rattle.mini_accept.proofs.Wholes.{bind_whole, unlinked, unmarked, whole_at, Expression, expression_fits}
 use Rattle.mini_accept.proofs.Plains.{units_paired}
-use Rattle.mini_accept.proofs.Identifiers.{text_symmetric, or_false}
+use Rattle.mini_accept.proofs.Identifiers.{text_symmetric}
 
 -- ---- what literals are
 
@@ -230,7 +229,7 @@ module _ (strict : Bool) (d : Data) (typed : Typed d (codes "Literal")) (h : Sha
   expressed n = record {
     not_positive = λ e. not_negative h n (sym minus_is ∙ e);
     safe = λ z e. negative_safe h z sound (sym minus_is ∙ e);
-    named = λ s e. absurd (cc (no_default, no_name, e))
+    named = λ s e. absurd (cc (no_default, no_name, e));
   }
 
   seen : (p : Place) → is_expression_place p ≡ true → (n : ℕ) → Seen p d (node h [] n none)

@@ -1,21 +1,21 @@
 -- The plans of calls and members, and the marks of the chains that they are links of.
-use Rattle.std.proofs.Common.{◌≡◌, Ordering, Less, Equal, Greater, ℕ, List, [], ◌∷◌, refl, ap, sym, ◌∙◌, subst, inl, inr, Bool, true, false, ◌&&◌, ◌||◌}
+use Rattle.std.proofs.Common.{◌≡◌, Ordering, Less, Equal, Greater, ℕ, List, [], ◌∷◌, refl, ap, sym, ◌∙◌, inl, inr, Bool, true, false, ◌&&◌, ◌||◌}
 use Rattle.std.specs.Prelude.{Option, Some, None, option_and_then, not, codes, if◌then◌else◌}
 use Rattle.std.specs.Ordering.{nat_cmp, match_ordering, is_eq}
 use Rattle.std.specs.Cmp.Lexicographic.{slice_cmp}
-use Rattle.std.proofs.lemmas.Bool.{and_parts, or_left, or_right, or_cases, not-true, false≢true, true≢false}
+use Rattle.std.proofs.lemmas.Bool.{and_parts, or_cases, not-true, false≢true, true≢false}
 use Rattle.std.proofs.lemmas.Map.Text.{is_eq-slice_cmp}
-use Rattle.serde_json.specs.Data.{Data, null, boolean, number, string, array, object, Items, Members, no_members, member}
+use Rattle.serde_json.specs.Data.{Data, null, boolean, number, string, array, object, Members, no_members, member}
 use Rattle.serde_json.specs.Find.{get, get_member, as_bool}
 use Rattle.mini_model.specs.declared.shape.Shape.{Shape}
 use Rattle.mini_model.specs.declared.shape.Shape.TheVariants as shape
-use Rattle.mini_model.specs.Tree.{Tree, node, Trees, none, ◌▸◌}
+use Rattle.mini_model.specs.Tree.{Tree, node, Trees}
 use Rattle.mini_structure.specs.WellShaped as shaped
 use Rattle.mini_structure.specs.WellShaped.{Class, in_module, Slot, slots_of, expression_slots, member_slots, variable_slots, pattern_target_slots, is_strict_in, has_names, has_plain_fields, has_its_parts, is_optional, is_text}
-use Rattle.mini_accept.specs.Places.{field, Place, at}
+use Rattle.mini_accept.specs.Places.{Place, at}
 use Rattle.mini_accept.specs.Fields.{require, is_there_with, text_at, flag_by, flag_at, is_text_by, has_type, child_has_type, is_one_of}
 use Rattle.mini_accept.specs.Standing.{has_true, is_true}
-use Rattle.mini_accept.specs.Plans.{tree_at, inner_at, Child, child, inner, node_of, list, list_child}
+use Rattle.mini_accept.specs.Plans.{tree_at, inner_at, Child, child, inner, node_of, list}
 use Rattle.mini_accept.specs.Expressions as expression
 use Rattle.mini_accept.specs.Expressions.{is_link, link_class, link_key, is_chain_link, has_mark, has_mark_at}
 use Rattle.mini_accept.proofs.Fitting.{KnownBelow, Marked, Expressed, Seen, OfChildren, trees_of_children, ChildrenFit, children_filled, is_ruled_by_class, parts_by_shape}
@@ -87,7 +87,7 @@ expressed : (d : Data) (t : Tree) → Linked d → shaped.is_not_positive_number
 expressed d t a positive = record {
   not_positive = λ e. positive;
   safe = λ z e. absurd (cc (a.literal, e));
-  named = λ s e. absurd (cc (a.default, a.name, e))
+  named = λ s e. absurd (cc (a.default, a.name, e));
 }
 
 seen_link : (p : Place) (d : Data) (t : Tree) → is_link_place p ≡ true → Linked d → shaped.is_not_positive_number t ≡ true → (is_link p ≡ true → Marked d t) → Seen p d t
@@ -170,9 +170,16 @@ module _ (strict : Bool) (d : Data) (typed : Typed d (codes "CallExpression")) w
   super_call : (p : Place) → is_link_place p ≡ true → (optional : Bool) → flag_at (codes "optional") d ≡ Some optional → child_has_type (codes "callee") (codes "Super") d ≡ true → WholeIf strict p d (expression.super_call optional d)
   super_call p e optional flag is_super = list_whole strict p d expression.inner_argument (codes "arguments") _ (λ ds. require_whole strict p d (not optional) _ (λ bare.
       super_at strict d call_linked p e shape.SuperCallExpression (child (codes "callee") shaped.a_super ∷ list expression.inner_argument (codes "arguments") ds ∷ [])
-      (record { slots = shaped.one shaped.a_super ∷ shaped.many shaped.an_inner_argument ∷ []; loose = refl; bare = refl; names = refl; plain = λ w. refl; parts = λ w. refl;
+      (record {
+        slots = shaped.one shaped.a_super ∷ shaped.many shaped.an_inner_argument ∷ [];
+        loose = refl;
+        bare = refl;
+        names = refl;
+        plain = λ w. refl;
+        parts = λ w. refl;
         filled = λ w. children_filled strict d (shaped.one shaped.a_super ∷ shaped.many shaped.an_inner_argument ∷ []) (child (codes "callee") shaped.a_super ∷ list expression.inner_argument (codes "arguments") ds ∷ []) w
-            (λ s t h. h, (all_fit (shaped.one shaped.an_inner_argument) expression.inner_argument (codes "arguments") 0 ds (λ last x q. if_fits (shaped.one shaped.an_inner_argument) (has_type (codes "SpreadElement") x) (tree_at q (at shaped.an_inner_argument)) (inner_at q (at shaped.an_expression)) (λ y s t h. h) (λ n s m t h. inner_one _ h)), tt)) })
+            (λ s t h. h, (all_fit (shaped.one shaped.an_inner_argument) expression.inner_argument (codes "arguments") 0 ds (λ last x q. if_fits (shaped.one shaped.an_inner_argument) (has_type (codes "SpreadElement") x) (tree_at q (at shaped.an_inner_argument)) (inner_at q (at shaped.an_expression)) (λ y s t h. h) (λ n s m t h. inner_one _ h)), tt));
+      })
       refl (λ n ts. refl) (λ n ts. refl) (super_bare d (codes "callee") call_key (flag ∙ ap Some (not-true optional bare)) is_super)))
 
   plain_call : (p : Place) → is_link_place p ≡ true → (optional : Bool) → flag_at (codes "optional") d ≡ Some optional → WholeIf strict p d (expression.plain_call optional p d)
@@ -236,8 +243,8 @@ module _ (strict : Bool) (d : Data) where
   target_form p e false computed bare = either_whole strict p d computed _ _
       (λ yes. target_at p e (shape.ComputedMemberExpression false) _ _ refl refl refl (λ ts. refl) (λ s t h. h, (λ s t h. h, tt)))
       (λ no. either_whole strict p d (child_has_type (codes "property") (codes "PrivateIdentifier") d) _ _
-        (λ private. target_at p e (shape.PrivateFieldExpression false) _ _ refl refl refl (λ ts. refl) (λ s n t h. inner_one _ h, (λ s t h. h, tt)))
-        (λ named. target_at p e (shape.StaticMemberExpression false) _ _ refl refl refl (λ ts. refl) (λ s t h. h, (λ s t h. h, tt))))
+      (λ private. target_at p e (shape.PrivateFieldExpression false) _ _ refl refl refl (λ ts. refl) (λ s n t h. inner_one _ h, (λ s t h. h, tt)))
+      (λ named. target_at p e (shape.StaticMemberExpression false) _ _ refl refl refl (λ ts. refl) (λ s t h. h, (λ s t h. h, tt))))
 
   target_plain : (p : Place) → is_member_place p ≡ true → (optional computed : Bool) → WholeIf strict p d (require (not optional || false) (if computed then expression.computed_member optional shaped.an_expression else expression.named_member optional shaped.an_expression d))
   target_plain p e optional computed = require_whole strict p d (not optional || false) _ (λ may. target_form p e optional computed (unoptional optional may))
@@ -265,23 +272,37 @@ module _ (strict : Bool) (d : Data) (typed : Typed d (codes "MemberExpression"))
 
   super_link : (p : Place) → is_link_place p ≡ true → (computed : Bool) → has_mark d ≡ false → WholeIf strict p d (expression.super_member computed)
   super_link p e computed bare = either_whole strict p d computed _ _
-      (λ yes. super_at strict d member_linked p e shape.SuperComputedMemberExpression _ (record { slots = shaped.one shaped.a_super ∷ shaped.one (shaped.an_inner shaped.an_expression) ∷ []; loose = refl; bare = refl; names = refl; plain = λ w. refl; parts = λ w. refl;
-        filled = λ w. children_filled strict d (shaped.one shaped.a_super ∷ shaped.one (shaped.an_inner shaped.an_expression) ∷ []) (child (codes "object") shaped.a_super ∷ inner (codes "property") shaped.an_expression ∷ []) w (λ s t h. h, (λ s n t h. inner_one _ h, tt)) })
-        refl (λ n ts. refl) (λ n ts. refl) bare)
-      (λ no. super_at strict d member_linked p e shape.SuperStaticMemberExpression _ (record { slots = shaped.one shaped.a_super ∷ shaped.one shaped.a_label ∷ []; loose = refl; bare = refl; names = refl; plain = λ w. refl; parts = λ w. refl;
-        filled = λ w. children_filled strict d (shaped.one shaped.a_super ∷ shaped.one shaped.a_label ∷ []) (child (codes "object") shaped.a_super ∷ child (codes "property") shaped.a_label ∷ []) w (λ s t h. h, (λ s t h. h, tt)) })
-        refl (λ n ts. refl) (λ n ts. refl) bare)
+      (λ yes. super_at strict d member_linked p e shape.SuperComputedMemberExpression _ (record {
+        slots = shaped.one shaped.a_super ∷ shaped.one (shaped.an_inner shaped.an_expression) ∷ [];
+        loose = refl;
+        bare = refl;
+        names = refl;
+        plain = λ w. refl;
+        parts = λ w. refl;
+        filled = λ w. children_filled strict d (shaped.one shaped.a_super ∷ shaped.one (shaped.an_inner shaped.an_expression) ∷ []) (child (codes "object") shaped.a_super ∷ inner (codes "property") shaped.an_expression ∷ []) w (λ s t h. h, (λ s n t h. inner_one _ h, tt));
+      })
+      refl (λ n ts. refl) (λ n ts. refl) bare)
+      (λ no. super_at strict d member_linked p e shape.SuperStaticMemberExpression _ (record {
+        slots = shaped.one shaped.a_super ∷ shaped.one shaped.a_label ∷ [];
+        loose = refl;
+        bare = refl;
+        names = refl;
+        plain = λ w. refl;
+        parts = λ w. refl;
+        filled = λ w. children_filled strict d (shaped.one shaped.a_super ∷ shaped.one shaped.a_label ∷ []) (child (codes "object") shaped.a_super ∷ child (codes "property") shaped.a_label ∷ []) w (λ s t h. h, (λ s t h. h, tt));
+      })
+      refl (λ n ts. refl) (λ n ts. refl) bare)
 
   link_form : (p : Place) → is_link_place p ≡ true → (optional computed : Bool) → flag_at (codes "optional") d ≡ Some optional → (not optional || is_link p) ≡ true
       → WholeIf strict p d (if computed then expression.computed_member optional (link_class p) else expression.named_member optional (link_class p) d)
   link_form p e optional computed flag may = either_whole strict p d computed _ _
       (λ yes. link_at strict d member_linked p e (shape.ComputedMemberExpression optional) (λ k. child (codes "object") k ∷ child (codes "property") shaped.an_expression ∷ []) (λ k. shaped.one k ∷ shaped.one shaped.an_expression ∷ []) (λ k. refl) refl refl refl (λ ts. refl)
-        (λ s t h. h, (λ s t h. h, tt)) (λ s t h. h, (λ s t h. h, tt)) (λ w n m. next_marked strict optional (get (codes "object") d) w.0.0 w.0.1 (marked_by d (codes "object") optional member_key flag m)) may)
+      (λ s t h. h, (λ s t h. h, tt)) (λ s t h. h, (λ s t h. h, tt)) (λ w n m. next_marked strict optional (get (codes "object") d) w.0.0 w.0.1 (marked_by d (codes "object") optional member_key flag m)) may)
       (λ no. either_whole strict p d (child_has_type (codes "property") (codes "PrivateIdentifier") d) _ _
-        (λ private. link_at strict d member_linked p e (shape.PrivateFieldExpression optional) (λ k. inner (codes "object") k ∷ child (codes "property") shaped.a_private_name ∷ []) (λ k. shaped.one (shaped.an_inner k) ∷ shaped.one shaped.a_private_name ∷ []) (λ k. refl) refl refl refl (λ ts. refl)
-          (λ s n t h. inner_one _ h, (λ s t h. h, tt)) (λ s n t h. inner_one _ h, (λ s t h. h, tt)) (λ w n m. next_marked strict optional (get (codes "object") d) w.0.1 w.0.2 (marked_by d (codes "object") optional member_key flag m)) may)
-        (λ named. link_at strict d member_linked p e (shape.StaticMemberExpression optional) (λ k. child (codes "object") k ∷ child (codes "property") shaped.a_label ∷ []) (λ k. shaped.one k ∷ shaped.one shaped.a_label ∷ []) (λ k. refl) refl refl refl (λ ts. refl)
-          (λ s t h. h, (λ s t h. h, tt)) (λ s t h. h, (λ s t h. h, tt)) (λ w n m. next_marked strict optional (get (codes "object") d) w.0.0 w.0.1 (marked_by d (codes "object") optional member_key flag m)) may))
+      (λ private. link_at strict d member_linked p e (shape.PrivateFieldExpression optional) (λ k. inner (codes "object") k ∷ child (codes "property") shaped.a_private_name ∷ []) (λ k. shaped.one (shaped.an_inner k) ∷ shaped.one shaped.a_private_name ∷ []) (λ k. refl) refl refl refl (λ ts. refl)
+      (λ s n t h. inner_one _ h, (λ s t h. h, tt)) (λ s n t h. inner_one _ h, (λ s t h. h, tt)) (λ w n m. next_marked strict optional (get (codes "object") d) w.0.1 w.0.2 (marked_by d (codes "object") optional member_key flag m)) may)
+      (λ named. link_at strict d member_linked p e (shape.StaticMemberExpression optional) (λ k. child (codes "object") k ∷ child (codes "property") shaped.a_label ∷ []) (λ k. shaped.one k ∷ shaped.one shaped.a_label ∷ []) (λ k. refl) refl refl refl (λ ts. refl)
+      (λ s t h. h, (λ s t h. h, tt)) (λ s t h. h, (λ s t h. h, tt)) (λ w n m. next_marked strict optional (get (codes "object") d) w.0.0 w.0.1 (marked_by d (codes "object") optional member_key flag m)) may))
 
   linked_member : (p : Place) → is_link_place p ≡ true → (optional computed : Bool) → flag_at (codes "optional") d ≡ Some optional
       → WholeIf strict p d (if child_has_type (codes "object") (codes "Super") d then require (not optional) (expression.super_member computed) else expression.plain_member optional computed p d)

@@ -1,24 +1,24 @@
 -- The plans of patterns.
 use Rattle.std.proofs.Common.{◌≡◌, ℕ, List, [], ◌∷◌, refl, ap, sym, ◌∙◌, subst, Bool, true, false, ◌&&◌, ◌||◌}
 use Rattle.std.specs.Prelude.{Option, Some, None, not, codes, if◌then◌else◌}
-use Rattle.std.proofs.lemmas.Bool.{and_parts, false≢true, true≢false}
+use Rattle.std.proofs.lemmas.Bool.{and_parts, false≢true}
 use Rattle.serde_json.specs.Data.{Data, Items}
 use Rattle.serde_json.specs.Find.{get}
 use Rattle.mini_text.specs.Texts.{units_of}
 use Rattle.mini_model.specs.declared.shape.Shape.TheVariants as shape
-use Rattle.mini_model.specs.Tree.{Tree, node, none, ◌▸◌}
+use Rattle.mini_model.specs.Tree.{Tree}
 use Rattle.mini_structure.specs.WellShaped as shaped
 use Rattle.mini_structure.specs.WellShaped.{Class, in_module, Slot, fits, is_init, is_same_spelling}
-use Rattle.mini_accept.specs.Places.{Step, field, Place, at}
+use Rattle.mini_accept.specs.Places.{Step, Place, at}
 use Rattle.mini_accept.specs.Fields.{◌>>=◌, is_there_with, flag_at, has_type, child_has_type, is_one_of}
-use Rattle.mini_accept.specs.Plans.{tree_at, inner_at, ItemPart, Child, one, child, inner, inner_key, target_part, target, node_of, parts_from, list, list_child, each, or_rest, or_hole}
+use Rattle.mini_accept.specs.Plans.{tree_at, inner_at, ItemPart, Child, child, inner, inner_key, target_part, target, node_of, parts_from, list, list_child, each, or_rest, or_hole}
 use Rattle.mini_accept.specs.Words.{word_at, property_kinds}
 use Rattle.mini_accept.specs.Expressions.{repeats_key, is_same_name, is_name_with_default}
 use Rattle.mini_accept.specs.Patterns as pattern
 use Rattle.mini_accept.proofs.Fitting.{KnownBelow, Spelled, Named, NamedBefore, PartFits, AllFitOrLast, ChildFits}
 use Rattle.mini_accept.proofs.Gathered.{WholeIf}
 use Rattle.mini_accept.proofs.Types.{Typed, typed_has, types_at}
-use Rattle.mini_accept.proofs.Wholes.{bind_whole, require_whole, either_whole, list_whole, inner_one, if_fits, absent_or, rest_fit, holes_fit, whole_at}
+use Rattle.mini_accept.proofs.Wholes.{bind_whole, require_whole, list_whole, inner_one, if_fits, absent_or, rest_fit, holes_fit, whole_at}
 use Rattle.mini_accept.proofs.Pieces.{repeated, object_property}
 
 -- ---- parts
@@ -185,7 +185,7 @@ module _ (strict : Bool) (d : Data) where
   property_by : (p : Place) (binds : Bool) → ((shorthand computed : Bool) → (not shorthand || (not computed && repeats_key d)) ≡ true → WholeIf strict p d (if binds then pattern.binding_property shorthand computed else pattern.target_property shorthand computed d)) → WholeIf strict p d (pattern.pattern_property binds d)
   property_by p binds f = bind_whole strict p d (word_at property_kinds (codes "kind") d) _ (λ k is. bind_whole strict p d (flag_at (codes "method") d) _ (λ is_method m. bind_whole strict p d (flag_at (codes "shorthand") d) _ (λ shorthand s. bind_whole strict p d (flag_at (codes "computed") d) _ (λ computed c.
       require_whole strict p d (is_init k && (not is_method && (not shorthand || (not computed && repeats_key d)))) _ (λ e.
-        f shorthand computed (and_parts (not is_method) _ (and_parts (is_init k) (not is_method && (not shorthand || (not computed && repeats_key d))) e).1).1)))))
+      f shorthand computed (and_parts (not is_method) _ (and_parts (is_init k) (not is_method && (not shorthand || (not computed && repeats_key d))) e).1).1)))))
 
   pub property : (p : Place) → is_one_of (types_at p) (codes "Property") ≡ true → WholeIf strict p d (pattern.property p d)
   property (at shaped.a_pattern_property) e = property_by (at shaped.a_pattern_property) true bound_property

@@ -1,7 +1,7 @@
 -- The plans of what expressions hold: templates and their pieces, spread elements, `super`, and properties.
 use Rattle.std.proofs.Common.{◌≡◌, ℕ, suc, List, [], ◌∷◌, refl, ap, sym, ◌∙◌, subst, Bool, true, false, ◌&&◌, ◌||◌}
-use Rattle.std.specs.Prelude.{Option, Some, None, option_and_then, is_some, nat_eq, ◌==◌, not, codes, if◌then◌else◌}
-use Rattle.std.proofs.lemmas.Bool.{and_from, and_parts, eqb-true, eq-eqb, false≢true, true≢false}
+use Rattle.std.specs.Prelude.{Option, Some, None, option_and_then, nat_eq, ◌==◌, not, codes, if◌then◌else◌}
+use Rattle.std.proofs.lemmas.Bool.{and_from, and_parts, eqb-true, eq-eqb, false≢true}
 use Rattle.serde_json.specs.Data.{Data, Items, no_items, item}
 use Rattle.serde_json.specs.Find.{get}
 use Rattle.mini_text.specs.Texts.{units_of}
@@ -9,20 +9,20 @@ use Rattle.mini_templates.specs.Templates.{cooked}
 use Rattle.mini_model.specs.declared.kind.PropertyKind.{PropertyKind}
 use Rattle.mini_model.specs.declared.kind.PropertyKind.TheVariants as property
 use Rattle.mini_model.specs.declared.shape.Shape.TheVariants as shape
-use Rattle.mini_model.specs.Tree.{Tree, node, Trees, none, ◌▸◌, count}
+use Rattle.mini_model.specs.Tree.{Tree, none, ◌▸◌, count}
 use Rattle.mini_structure.specs.WellShaped as shaped
 use Rattle.mini_structure.specs.WellShaped.{Class, in_module, Tagging, tagged, untagged, is_same_flag, is_text_of_cooked, is_same_spelling, value_class}
-use Rattle.mini_accept.specs.Places.{Step, down, field, place, Place, at, a_quasi}
+use Rattle.mini_accept.specs.Places.{down, field, place, Place, at, a_quasi}
 use Rattle.mini_accept.specs.Fields.{is_there_with, flag_at, item_count, list_at, units_at, has_type, is_one_of}
 use Rattle.mini_accept.specs.Standing.{is_piece, may_stand}
-use Rattle.mini_accept.specs.Plans.{tree_at, inner_at, Child, one, many, child, inner, node_of, parts_from, list}
+use Rattle.mini_accept.specs.Plans.{tree_at, Child, child, node_of, parts_from, list}
 use Rattle.mini_accept.specs.Words.{word_at, property_kinds}
 use Rattle.mini_accept.specs.Expressions as expression
 use Rattle.mini_accept.specs.Expressions.{tagging_of, quasi_part, piece_part, identifier_text, is_same_name, is_name_with_default}
 use Rattle.mini_accept.proofs.Fitting.{KnownBelow, known_fits, Spelled, NamedBefore, OfParts, trees_of_parts, OfChildren, PartFits, AllFit, ArePieces}
 use Rattle.mini_accept.proofs.Gathered.{WholeIf}
-use Rattle.mini_accept.proofs.Types.{text_is, Typed, typed_has, types_at, is_expression_place}
-use Rattle.mini_accept.proofs.Wholes.{bind_whole, require_whole, inner_one, all_fit, items_counted, Aside, aside, plain_whole, whole_at, whole_there}
+use Rattle.mini_accept.proofs.Types.{text_is, Typed, types_at, is_expression_place}
+use Rattle.mini_accept.proofs.Wholes.{bind_whole, require_whole, inner_one, all_fit, items_counted, Aside, aside, plain_whole, whole_at}
 use Rattle.mini_accept.proofs.Plains.{units_paired}
 
 -- ---- templates
@@ -64,8 +64,10 @@ module _ (strict : Bool) (d : Data) where
   template_by p g f = bind_whole strict p d (list_at (codes "quasis") d) _ (λ qs are. bind_whole strict p d (list_at (codes "expressions") d) _ (λ es too. require_whole strict p d _ _ (λ e. f qs es e)))
 
   plain_template : (p : Place) → is_expression_place p ≡ true → Aside d → WholeIf strict p d (expression.template untagged d)
-  plain_template p there a = template_by p untagged (λ qs es e. record { known = plain_whole strict p d there a shape.TemplateLiteral (template_children untagged qs es) refl (λ w. refl)
-      (λ w. one_more strict untagged d qs es w e) (pieces_fit untagged (codes "quasis") (item_count es) qs e, (plain_pieces (codes "expressions") es, tt)) })
+  plain_template p there a = template_by p untagged (λ qs es e. record {
+    known = plain_whole strict p d there a shape.TemplateLiteral (template_children untagged qs es) refl (λ w. refl)
+        (λ w. one_more strict untagged d qs es w e) (pieces_fit untagged (codes "quasis") (item_count es) qs e, (plain_pieces (codes "expressions") es, tt));
+  })
 
   tagged_one : WholeIf strict (at shaped.a_tagged_template) d (expression.template tagged d)
   tagged_one = template_by (at shaped.a_tagged_template) tagged (λ qs es e. whole_at strict (at shaped.a_tagged_template) shaped.a_tagged_template d shape.TemplateLiteral [] (template_children tagged qs es) (λ t h. h) (λ h. h) refl refl
@@ -168,5 +170,5 @@ module _ (strict : Bool) (d : Data) where
   object_property = bind_whole strict (at shaped.an_object_property) d (word_at property_kinds (codes "kind") d) _ (λ k is. bind_whole strict (at shaped.an_object_property) d (flag_at (codes "method") d) _ (λ is_method m.
       bind_whole strict (at shaped.an_object_property) d (flag_at (codes "shorthand") d) _ (λ shorthand s. bind_whole strict (at shaped.an_object_property) d (flag_at (codes "computed") d) _ (λ computed c.
       require_whole strict (at shaped.an_object_property) d (expression.is_whole_property k is_method shorthand computed d) _ (λ e. whole_at strict (at shaped.an_object_property) shaped.an_object_property d (shape.ObjectProperty k is_method shorthand computed) []
-        (child (codes "key") (shaped.a_key computed) ∷ child (codes "value") (value_class k is_method) ∷ []) (λ t h. h) (λ h. h) refl refl
-        (λ w. whole_property k is_method shorthand computed w.0.0 w.1.0.0 e w.0.1 w.1.0.1) (λ s t h. h, (value_fits (is_method || not (shaped.is_init k)), tt)) (λ w n. tt))))))
+      (child (codes "key") (shaped.a_key computed) ∷ child (codes "value") (value_class k is_method) ∷ []) (λ t h. h) (λ h. h) refl refl
+      (λ w. whole_property k is_method shorthand computed w.0.0 w.1.0.0 e w.0.1 w.1.0.1) (λ s t h. h, (value_fits (is_method || not (shaped.is_init k)), tt)) (λ w n. tt))))))

@@ -1,7 +1,7 @@
 -- The plans of expressions that stand nowhere but where an expression may.
-use Rattle.std.proofs.Common.{◌≡◌, ℕ, suc, List, [], ◌∷◌, length, refl, ap, sym, ◌∙◌, subst, inl, inr, Bool, true, false, ◌&&◌, ◌||◌}
+use Rattle.std.proofs.Common.{◌≡◌, ℕ, suc, List, [], ◌∷◌, length, refl, ap, sym, ◌∙◌, subst, Bool, true, false, ◌||◌}
 use Rattle.std.specs.Prelude.{Option, Some, None, option_and_then, option_map, unwrap_or, is_some, nat_eq, nat_le, not, codes, ℤ, pos, negsuc, if◌then◌else◌}
-use Rattle.std.proofs.lemmas.Bool.{and_from, and_parts, or_left, or_right, or_cases, false≢true, true≢false}
+use Rattle.std.proofs.lemmas.Bool.{and_from, or_right, false≢true, true≢false}
 use Rattle.std.specs.Str.{chars}
 use Rattle.serde_json.specs.Data.{Data, Items, no_items, item}
 use Rattle.serde_json.specs.Find.{get, as_null}
@@ -13,19 +13,19 @@ use Rattle.mini_model.specs.declared.operator.UnaryOperator.{UnaryOperator}
 use Rattle.mini_model.specs.declared.operator.UnaryOperator.TheVariants.{UnaryNegation}
 use Rattle.mini_model.specs.declared.shape.Shape.{Shape}
 use Rattle.mini_model.specs.declared.shape.Shape.TheVariants as shape
-use Rattle.mini_model.specs.Tree.{Tree, node, Trees, none, ◌▸◌, count}
+use Rattle.mini_model.specs.Tree.{Tree, none, ◌▸◌}
 use Rattle.mini_structure.specs.WellShaped as shaped
 use Rattle.mini_structure.specs.WellShaped.{expression_slots, is_strict_in, has_plain_fields, has_its_parts}
 use Rattle.mini_accept.specs.Places.{field, Place, at}
-use Rattle.mini_accept.specs.Fields.{require, is_given, is_there_with, flag_at, item_count, list_at, text_at, units_at, paired_units, has_type}
+use Rattle.mini_accept.specs.Fields.{require, is_given, is_there_with, flag_at, list_at, text_at, units_at, paired_units, has_type}
 use Rattle.mini_accept.specs.Literals.{literal, negative_of, with_minus}
-use Rattle.mini_accept.specs.Plans.{hole, tree_at, checked, Child, one, child, optional, optional_inner, node_of, parts_from, list, each, or_hole}
+use Rattle.mini_accept.specs.Plans.{hole, tree_at, checked, Child, one, child, optional, optional_inner, node_of, parts_from, each, or_hole}
 use Rattle.mini_accept.specs.Statements.{directive_text, directives_before, directives_of}
 use Rattle.mini_accept.specs.Functions as function
 use Rattle.mini_accept.specs.Functions.{directives_in, directives_below, parameter}
 use Rattle.mini_accept.specs.Words.{word_at, assignment_operators, binary_operators, logical_operators, unary_operators, update_operators}
 use Rattle.mini_accept.specs.Expressions as expression
-use Rattle.mini_accept.proofs.Fitting.{KnownBelow, known_fits, OfChildren, trees_of_children, PartFits, AllFit, AllFitOrLast, ChildrenFit}
+use Rattle.mini_accept.proofs.Fitting.{KnownBelow, known_fits, OfChildren, trees_of_children, AllFit, AllFitOrLast, ChildrenFit}
 use Rattle.mini_accept.proofs.Gathered.{WholeIf}
 use Rattle.mini_accept.proofs.Types.{some_same, is_expression_place}
 use Rattle.mini_accept.proofs.Wholes.{bind_whole, require_whole, either_whole, list_whole, inner_one, if_fits, optional_fits, optional_inner_fits, absent_fits, absent_or, all_fit, rest_fit, items_counted, Aside, taken, is_plain, filled_whole, plain_whole}
@@ -215,9 +215,11 @@ module _ (strict : Bool) (p : Place) (d : Data) (there : is_expression_place p �
   new = list_whole strict p d expression.argument (codes "arguments") _ (λ ds. plain shape.NewExpression _ refl refl (λ w. refl) (λ s t h. h, (arguments_fit (codes "arguments") ds, tt)))
 
   pub chain : WholeIf strict p d (expression.chain d)
-  chain = require_whole strict p d (is_there_with expression.has_mark (get (codes "expression") d)) _ (λ marked. record { known = filled_whole strict p d there a shape.ChainExpression (child (codes "expression") shaped.a_chain ∷ []) refl (λ w. refl)
-      (λ w. chain_marked strict (get (codes "expression") d) w.0.0 marked w.0.1)
-      (λ w. inner_one _ (known_fits strict (at shaped.a_chain) (get (codes "expression") d) w.0.0 w.0.1 (chain_marked strict (get (codes "expression") d) w.0.0 marked w.0.1))) })
+  chain = require_whole strict p d (is_there_with expression.has_mark (get (codes "expression") d)) _ (λ marked. record {
+    known = filled_whole strict p d there a shape.ChainExpression (child (codes "expression") shaped.a_chain ∷ []) refl (λ w. refl)
+        (λ w. chain_marked strict (get (codes "expression") d) w.0.0 marked w.0.1)
+        (λ w. inner_one _ (known_fits strict (at shaped.a_chain) (get (codes "expression") d) w.0.0 w.0.1 (chain_marked strict (get (codes "expression") d) w.0.0 marked w.0.1)));
+  })
 
   yield_by : (delegate given : Bool) → is_given (codes "argument") d ≡ given → (not delegate || given) ≡ true → WholeIf strict p d (node_of (shape.YieldExpression delegate) (optional (codes "argument") shaped.an_expression d ∷ []))
   yield_by true true is e = plain (shape.YieldExpression true) _ refl refl (λ w. refl) (if_fits (shaped.one shaped.an_expression) (is_given (codes "argument") d) (tree_at (field (codes "argument")) (at shaped.an_expression)) hole (λ y s t h. h) (λ n. absurd (true≢false (sym is ∙ n))), tt)

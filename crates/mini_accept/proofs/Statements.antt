@@ -1,28 +1,28 @@
 -- The plans of statements.
 use Rattle.std.proofs.Common.{◌≡◌, ℕ, suc, List, [], ◌∷◌, refl, arith, ap, sym, ◌∙◌, subst, inl, inr, Bool, true, false, ◌&&◌, ◌||◌}
-use Rattle.std.specs.Prelude.{◌⊎◌, Option, Some, None, option_and_then, option_map, unwrap_or, is_some, nat_eq, nat_le, not, codes, if◌then◌else◌}
+use Rattle.std.specs.Prelude.{Option, Some, None, option_and_then, option_map, unwrap_or, is_some, nat_le, not, codes, if◌then◌else◌}
 use Rattle.std.proofs.lemmas.Bool.{and_from, and_parts, or_left, or_right, or_cases, not-true, le-leb, false≢true, true≢false}
 use Rattle.serde_json.specs.Data.{Data, Items, no_items, item}
-use Rattle.serde_json.specs.Find.{get, get_item, as_array}
+use Rattle.serde_json.specs.Find.{get, get_item}
 use Rattle.mini_model.specs.declared.kind.VariableDeclarationKind.{VariableDeclarationKind}
 use Rattle.mini_model.specs.declared.kind.VariableDeclarationKind.TheVariants.{Var}
 use Rattle.mini_model.specs.declared.shape.Shape.{Shape}
 use Rattle.mini_model.specs.declared.shape.Shape.TheVariants as shape
-use Rattle.mini_model.specs.Tree.{Tree, node, Trees, none, ◌▸◌, is_absent, children, count}
+use Rattle.mini_model.specs.Tree.{Tree, is_absent, count}
 use Rattle.mini_structure.specs.WellShaped as shaped
 use Rattle.mini_structure.specs.WellShaped.{Class, Depth, in_module, in_body, nested, Slot, slots_of, is_sloppy_function, is_strict_in, is_numbered, has_names, has_plain_fields, has_its_parts, none_if, is_text}
-use Rattle.mini_accept.specs.Places.{Step, down, field, place, Place, at, a_directive}
-use Rattle.mini_accept.specs.Fields.{require, is_given, flag_at, item_count, list_at, no_item, text_at, has_text, is_text_by, has_type, word_in, is_one_of}
-use Rattle.mini_accept.specs.Standing.{is_head, is_head_by, expression_types, module_types, statement_types}
-use Rattle.mini_accept.specs.Plans.{Part, hole, tree_at, checked, Child, one, many, child, optional, node_of, parts_from, list, each}
+use Rattle.mini_accept.specs.Places.{down, field, place, Place, at, a_directive}
+use Rattle.mini_accept.specs.Fields.{is_given, item_count, list_at, no_item, text_at, has_text, is_text_by, word_in, is_one_of}
+use Rattle.mini_accept.specs.Standing.{is_head, is_head_by, expression_types}
+use Rattle.mini_accept.specs.Plans.{hole, tree_at, Child, one, child, optional, node_of, parts_from, list, each}
 use Rattle.mini_accept.specs.Words.{word_at, source_types, variable_kinds}
 use Rattle.mini_accept.specs.Accept.{takes_number}
 use Rattle.mini_accept.specs.Statements as statement
 use Rattle.mini_accept.specs.Statements.{directive_text, directives_of, body_part, body_parts}
-use Rattle.mini_accept.proofs.Fitting.{Known, Fits, KnownBelow, known_fits, Of, OfParts, trees_of_parts, OfChildren, trees_of_children, PartFits, ItemFits, AllFit, ChildrenFit}
+use Rattle.mini_accept.proofs.Fitting.{Fits, KnownBelow, known_fits, OfParts, trees_of_parts, OfChildren, trees_of_children, PartFits, ItemFits, AllFit, ChildrenFit}
 use Rattle.mini_accept.proofs.Gathered.{WholeIf}
-use Rattle.mini_accept.proofs.Types.{some_same, text_same, are_apart, apart, types_at}
-use Rattle.mini_accept.proofs.Wholes.{bind_whole, require_whole, either_whole, list_whole, if_fits, optional_fits, absent_fits, absent_or, not_absent, all_fit, items_counted, taken, none_if_false, whole_by, whole_at}
+use Rattle.mini_accept.proofs.Types.{some_same, text_same, apart, types_at}
+use Rattle.mini_accept.proofs.Wholes.{bind_whole, require_whole, list_whole, optional_fits, absent_fits, absent_or, not_absent, all_fit, items_counted, none_if_false, whole_by, whole_at}
 use Rattle.mini_accept.proofs.Plains.{directives_paired}
 
 -- the types of statements that stand nowhere else

@@ -1,7 +1,7 @@
 -- The types of nodes by their names, and which of them may stand in a place.
 use Rattle.std.proofs.Common.{◌≡◌, ℕ, List, [], ◌∷◌, ◌++◌, refl, ap, sym, ◌∙◌, subst, inl, inr, Bool, true, false, ◌&&◌, ◌||◌}
-use Rattle.std.specs.Prelude.{◌⊎◌, Option, Some, None, option_and_then, option_map, unwrap_or, is_some, not, codes, if◌then◌else◌}
-use Rattle.std.proofs.lemmas.Bool.{and_from, and_parts, or_cases, or_left, or_right, false≢true, true≢false}
+use Rattle.std.specs.Prelude.{Option, Some, None, option_and_then, option_map, unwrap_or, is_some, not, codes, if◌then◌else◌}
+use Rattle.std.proofs.lemmas.Bool.{and_parts, or_cases, or_left, or_right, false≢true}
 use Rattle.std.proofs.lemmas.Slice.Eq.{bytes_eq-Decides}
 use Rattle.serde_json.specs.Data.{Data}
 use Rattle.mini_structure.specs.WellShaped as shaped
@@ -11,7 +11,7 @@ use Rattle.mini_accept.specs.Kind.{Kind, types}
 use Rattle.mini_accept.specs.Places.{Place, at, a_directive, a_directive_text, a_quasi, an_exported, a_local_name}
 use Rattle.mini_accept.specs.Fields.{is_given, text_at, has_text, flag_at, is_text_by, word_in, is_one_of, kind_of, has_type, has_one_of}
 use Rattle.mini_accept.specs.Literals.{literal, is_string_shape, is_number_shape, is_big_int_shape, is_big_int_literal, is_string_literal, is_key_literal, is_literal_with}
-use Rattle.mini_accept.specs.Standing.{expression_types, declaration_types, statement_types, module_types, is_head, is_identifier, is_pattern, is_member_target, is_variable, is_expression, is_default, has_true, is_piece, may_stand, stands_as, is_statement_in}
+use Rattle.mini_accept.specs.Standing.{expression_types, declaration_types, statement_types, module_types, is_head, is_pattern, is_member_target, is_variable, is_expression, is_default, has_true, is_piece, may_stand, stands_as, is_statement_in}
 
 -- ---- texts
 
@@ -272,7 +272,6 @@ module _ (d : Data) (s : List ℕ) (typed : Typed d s) where
 
   default_or_pattern : (is_pattern d || is_default d) ≡ true → is_one_of (codes "AssignmentPattern" ∷ pattern_types) s ≡ true
   default_or_pattern e = either (is_pattern d) (is_default d) (codes "AssignmentPattern" ∷ pattern_types) (λ h. one_later s (codes "AssignmentPattern") pattern_types (some pattern_types h)) (this (codes "AssignmentPattern") pattern_types) e
-
 
   statement_at : (depth : Depth) → is_statement_in depth d ≡ true → is_one_of (types_as (shaped.a_statement depth)) s ≡ true
   statement_at in_module e = either (has_one_of statement_types d) (has_one_of module_types d) (statement_types ++ module_types) (λ h. one_before s statement_types module_types (some statement_types h)) (λ h. one_behind s statement_types module_types (some module_types h)) e

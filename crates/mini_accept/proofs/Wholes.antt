@@ -1,24 +1,23 @@
 -- How a plan is shown to give a tree that is known.
-use Rattle.std.proofs.Common.{◌≡◌, ℕ, suc, List, [], ◌∷◌, refl, ap, sym, ◌∙◌, subst, inl, inr, Bool, true, false, ◌&&◌, ◌||◌}
-use Rattle.std.specs.Prelude.{◌⊎◌, ⊤, Option, Some, None, option_and_then, option_map, unwrap_or, ◌==◌, not, is_some, if◌then◌else◌, codes, ℤ}
-use Rattle.std.proofs.lemmas.Bool.{and_from, and_parts, or_left, or_right, eq-eqb, not-true, false≢true, true≢false}
+use Rattle.std.proofs.Common.{◌≡◌, ℕ, suc, List, [], refl, ap, sym, ◌∙◌, subst, inl, inr, Bool, true, false, ◌&&◌, ◌||◌}
+use Rattle.std.specs.Prelude.{◌⊎◌, ⊤, Option, Some, None, option_map, ◌==◌, not, is_some, if◌then◌else◌, codes}
+use Rattle.std.proofs.lemmas.Bool.{and_from, and_parts, eq-eqb, not-true, false≢true, true≢false}
 use Rattle.serde_json.specs.Data.{Data, null, boolean, number, string, array, object, Items, no_items, item}
-use Rattle.serde_json.specs.Find.{get, as_null}
+use Rattle.serde_json.specs.Find.{as_null}
 use Rattle.mini_model.specs.declared.name.Name.{Name}
 use Rattle.mini_model.specs.declared.shape.Shape.{Shape}
 use Rattle.mini_model.specs.declared.shape.Shape.TheVariants as shape
 use Rattle.mini_model.specs.Paths.{append}
-use Rattle.mini_model.specs.Tree.{Tree, node, Trees, none, ◌▸◌, absent, listed, is_absent, count}
+use Rattle.mini_model.specs.Tree.{Tree, node, Trees, none, ◌▸◌, absent, is_absent, count}
 use Rattle.mini_structure.specs.WellShaped as shaped
 use Rattle.mini_structure.specs.WellShaped.{Class, Depth, Slot, fits, fill, these, slots_of, expression_slots, is_strict_in, is_numbered, has_names, has_plain_fields, has_its_parts, is_optional, none_if, unchained_slots, is_text}
-use Rattle.mini_accept.specs.Places.{Step, field, place, Place, at}
-use Rattle.mini_accept.specs.Fields.{◌>>=◌, require, is_given, list_at, item_count, text_at, has_type, is_there_with, no_item}
-use Rattle.mini_accept.specs.Literals.{literal, negative_of, with_minus}
-use Rattle.mini_accept.specs.Standing.{is_identifier, has_true}
-use Rattle.mini_accept.specs.Plans.{Part, hole, tree_at, inner_at, checked, Child, one, many, Plan, ItemPart, parts_from, list, list_child, each, or_rest, or_hole}
-use Rattle.mini_accept.specs.Expressions.{is_link, link_key, is_chain_link, has_mark, has_mark_at, is_same_name, is_name_with_default}
+use Rattle.mini_accept.specs.Places.{Step, place, Place, at}
+use Rattle.mini_accept.specs.Fields.{◌>>=◌, require, list_at, item_count, has_type, no_item}
+use Rattle.mini_accept.specs.Standing.{has_true}
+use Rattle.mini_accept.specs.Plans.{Part, hole, tree_at, inner_at, checked, Child, Plan, ItemPart, parts_from, list, list_child, or_rest, or_hole}
+use Rattle.mini_accept.specs.Expressions.{is_link, link_key, has_mark, has_mark_at}
 use Rattle.mini_accept.specs.Accept.{takes_number}
-use Rattle.mini_accept.proofs.Fitting.{class_at, Fits, Seen, Expressed, Marked, Known, Of, trees_of, OfParts, trees_of_parts, OfChildren, trees_of_children, PartFits, item_fits, AllFit, IsEnd, AllFitOrLast, ChildrenFit, children_filled, is_ruled_by_class, parts_by_shape}
+use Rattle.mini_accept.proofs.Fitting.{Fits, Seen, Expressed, Of, trees_of, OfParts, trees_of_parts, OfChildren, trees_of_children, PartFits, item_fits, AllFit, IsEnd, AllFitOrLast, ChildrenFit, children_filled, parts_by_shape}
 use Rattle.mini_accept.proofs.Gathered.{Whole, WholeIf}
 use Rattle.mini_accept.proofs.Types.{Typed, typed_has, is_expression_place}
 
@@ -202,7 +201,7 @@ expressed : (d : Data) (t : Tree) → Aside d → shaped.is_not_positive_number 
 expressed d t a positive = record {
   not_positive = λ e. positive;
   safe = λ z e. absurd (cc (a.literal, e));
-  named = λ s e. absurd (cc (a.default, a.name, e))
+  named = λ s e. absurd (cc (a.default, a.name, e));
 }
 
 pub seen_aside : (p : Place) (d : Data) (t : Tree) → is_expression_place p ≡ true → Aside d → shaped.is_not_positive_number t ≡ true → Seen p d t
@@ -318,8 +317,10 @@ pub whole_by : (strict : Bool) (p : Place) (c : Class) (d : Data) (h : Shape) (x
     → ((w : OfChildren (is_strict_in strict h) d cs) → has_its_parts c h (trees_of_children (is_strict_in strict h) d cs w) ≡ true) → ChildrenFit slots cs
     → ((w : OfChildren (is_strict_in strict h) d cs) (n : ℕ) → Seen p d (node h xs n (trees_of_children (is_strict_in strict h) d cs w)))
     → WholeIf strict p d (Some (record { shape = h; names = xs; children = cs }))
-whole_by strict p c d h xs cs slots there unnumbered stands names plain parts fit seen = record { known = λ w n numbered.
-    (there (node h xs n (trees_of_children (is_strict_in strict h) d cs w)) (fits_at strict c h xs n d cs slots w stands (λ e. numbered (unnumbered e)) names plain (parts w) fit), seen w n) }
+whole_by strict p c d h xs cs slots there unnumbered stands names plain parts fit seen = record {
+  known = λ w n numbered.
+      (there (node h xs n (trees_of_children (is_strict_in strict h) d cs w)) (fits_at strict c h xs n d cs slots w stands (λ e. numbered (unnumbered e)) names plain (parts w) fit), seen w n);
+}
 
 -- the same where the slots compute
 pub whole_at : (strict : Bool) (p : Place) (c : Class) (d : Data) (h : Shape) (xs : List Name) (cs : List Child) → ((t : Tree) → fits strict (shaped.one c) t ≡ true → Fits strict p t)

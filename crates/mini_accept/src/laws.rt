@@ -2,7 +2,7 @@
 ghost use Rattle.std.specs.Prelude.{◌≡◌, ◌≤◌, ℕ, false, Some, Ok, Err};
 ghost use Rattle.serde_json.specs.Data.{Data};
 ghost use Rattle.mini_model.specs.Tree.{Tree};
-ghost use Rattle.mini_structure.specs.WellShaped.{a_program};
+ghost use Rattle.mini_structure.specs.WellShaped.{a_program, IsWellShaped};
 ghost use Rattle.mini_accept.specs.Faults.{Fault, too_deep};
 ghost use Rattle.mini_accept.specs.Places.{at};
 ghost use Rattle.mini_accept.specs.Accept.{program_at, Accepts};
@@ -32,4 +32,9 @@ pub fn faults_are_there()
 /// The numbers of a tree that is read are those from 0 on, in preorder.
 pub fn numbers_in_preorder()
     ensures { (k : ℕ) (d : Data) (t : Tree) (n : ℕ) → program_at k d ≡ Ok (t, n) → next_after t 0 ≡ Some n }
+{}
+
+/// A tree that a value is accepted as is well shaped.
+pub fn accepted_is_well_shaped()
+    ensures { (k : ℕ) (d : Data) (t : Tree) (n : ℕ) → program_at k d ≡ Ok (t, n) → IsWellShaped t }
 {}
