@@ -18,3 +18,4 @@ pub mod Pieces
 pub mod Patterns
 pub mod Entries
 pub mod Shaped
+pub mod Texts

@@ -197,6 +197,11 @@ chain_below : IsRefused (script (says (chain (member_of false (chain (member_of 
 unfolding program_at digits
 chain_below = refl
 
+-- a mark below what is no link doesn't count, at an empty key either
+mark_at_an_empty_key : IsRefused (script (says (chain (member_of false (typed (codes "ThisExpression") (([], member_of true this) ∷ [])))) ∷ [])) bad_shape (codes "/body/0/expression")
+unfolding program_at digits
+mark_at_an_empty_key = refl
+
 -- this?.[0]; without a chain
 mark_outside_a_chain : IsRefused (script (says (member_of true this) ∷ [])) bad_shape (codes "/body/0/expression")
 unfolding program_at digits

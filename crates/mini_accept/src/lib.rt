@@ -9,5 +9,5 @@ mod laws;
 
 pub use laws::{
     accepted_is_well_shaped, accepts_one_tree, deeper, faults_are_there, numbers_in_preorder,
-    refused_deeper,
+    refused_deeper, texts_are_read,
 };
