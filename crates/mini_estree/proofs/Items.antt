@@ -7,8 +7,8 @@ use Rattle.serde_json.specs.View.{view, items_view}
 use Rattle.serde_json.specs.declared.value.Value.{Value}
 use Rattle.mini_model.specs.Tree.{Tree, trees, ◌▸◌}
 use Rattle.mini_text.specs.Texts.{bytes_of}
-use Rattle.mini_tree.specs.declared.ast.Statement.{Statement}
-use Rattle.mini_tree.specs.Plain.{statement_tree}
+use Rattle.mini_first.specs.declared.ast.Statement.{Statement}
+use Rattle.mini_first.specs.Plain.{statement_tree}
 use Rattle.mini_estree.specs.Faults.{Fault}
 use Rattle.mini_estree.specs.Written.{tree_data, trees_data, directive_data, with_directives}
 

@@ -4,7 +4,7 @@ ghost use Rattle.std.specs.Prelude.{◌≡◌, IfOk};
 ghost use Rattle.serde_json.specs.View.{view};
 ghost use Rattle.mini_estree.specs.Written.{identifier_data, null_literal_data, unary_data, logical_data, conditional_data, call_data, empty_statement_data, expression_statement_data, if_data, directive_data, program_object};
 
-use mini_tree::{LogicalOperator, UnaryOperator};
+use mini_first::{LogicalOperator, UnaryOperator};
 use serde_json::{Value, json};
 use std::alloc::{AllocError, Global};
 

@@ -7,8 +7,8 @@ ghost use Rattle.mini_estree.specs.Faults.{Gives};
 ghost use Rattle.mini_estree.specs.Accept.{text_at, text_by, script_of, name_of, unary_operator_of, logical_operator_of, nothing, plain_at, script, no_directive, prefix, no_arguments, not_optional};
 
 use crate::error::{MinifyError, bad_shape, unsupported};
+use mini_first::{LogicalOperator, UnaryOperator};
 use mini_text::{Name, Text};
-use mini_tree::{LogicalOperator, UnaryOperator};
 use serde_json::Value;
 use std::alloc::Global;
 

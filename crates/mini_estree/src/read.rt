@@ -3,7 +3,7 @@
 ghost use Rattle.std.specs.Prelude.{◌≡◌, map, IfOk};
 ghost use Rattle.serde_json.specs.View.{view, items_view};
 ghost use Rattle.mini_model.specs.Tree.{maybe};
-ghost use Rattle.mini_tree.specs.Plain.{expression_tree, statement_tree, program_tree};
+ghost use Rattle.mini_first.specs.Plain.{expression_tree, statement_tree, program_tree};
 ghost use Rattle.mini_estree.specs.declared.kind.Class.TheVariants as class;
 ghost use Rattle.mini_estree.specs.Faults.{Gives};
 ghost use Rattle.mini_estree.specs.Kinds.{kind_of as kind_at};
@@ -15,12 +15,12 @@ use crate::look::{
     array_field, check_arguments, check_directive, check_optional, check_prefix, check_script,
     logical_operator_field, name_field, unary_operator_field,
 };
-use mini_text::{OwnedList, TextList};
-use mini_tree::{
+use mini_first::{
     BoxedExpression, BoxedStatement, CallExpressionOf, ConditionalExpressionOf, Expression,
     ExpressionStatementOf, IdentifierReference, IfStatement, LogicalExpressionOf, Program,
     Statement, Statements, UnaryExpressionOf,
 };
+use mini_text::{OwnedList, TextList};
 use serde_json::Value;
 use std::alloc::Global;
 

@@ -1,5 +1,5 @@
 use super::*;
-use mini_tree::{
+use mini_first::{
     BoxedExpression, CallExpressionOf, Expression, ExpressionStatementOf, OwnedList, Program,
     Statement, Text, TextList,
 };

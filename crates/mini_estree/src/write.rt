@@ -5,7 +5,7 @@ ghost use Rattle.serde_json.specs.View.{view};
 ghost use Rattle.serde_json.specs.Data.{array};
 ghost use Rattle.mini_model.specs.Tree.{trees};
 ghost use Rattle.mini_text.specs.Texts.{bytes_of};
-ghost use Rattle.mini_tree.specs.Plain.{expression_tree, statement_tree, program_tree};
+ghost use Rattle.mini_first.specs.Plain.{expression_tree, statement_tree, program_tree};
 ghost use Rattle.mini_estree.specs.Written.{tree_data, trees_data, with_directives, program_data};
 
 use crate::build::{
@@ -13,7 +13,7 @@ use crate::build::{
     expression_statement_value, identifier_value, if_value, logical_value, null_literal_value,
     program_value, unary_value,
 };
-use mini_tree::{Expression, OutOfMemory, Program, Statement, Statements, Text, TextList};
+use mini_first::{Expression, OutOfMemory, Program, Statement, Statements, Text, TextList};
 use serde_json::Value;
 use std::alloc::{AllocError, Global};
 

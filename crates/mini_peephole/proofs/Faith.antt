@@ -16,7 +16,7 @@ use Rattle.mini_meaning.specs.Value.{nothing}
 use Rattle.mini_meaning.specs.State.{Environment}
 use Rattle.mini_meaning.specs.Body.{BodyKind, Program, SameBody, environment_of}
 use Rattle.mini_laws.proofs.Rewritten.{program_same, frame_kept}
-use Rattle.mini_tree.specs.declared.options.CompressOptions.{CompressOptions}
+use Rattle.mini_options.specs.declared.options.CompressOptions.{CompressOptions}
 use Rattle.mini_estree.specs.Accept.{Accepts}
 use Rattle.mini_estree.specs.declared.kind.Class.{Class}
 use Rattle.mini_estree.specs.declared.kind.Class.TheVariants as class

@@ -1,10 +1,10 @@
 -- A statement is no absent part.
 use Rattle.std.proofs.Common.{◌≡◌, refl, true, false}
 use Rattle.mini_model.specs.Tree.{Tree, is_absent}
-use Rattle.mini_tree.specs.declared.ast.ExpressionStatementOf.{ExpressionStatementOf}
-use Rattle.mini_tree.specs.declared.ast.Statement.{Statement}
-use Rattle.mini_tree.specs.declared.ast.Statement.TheVariants as statement
-use Rattle.mini_tree.specs.Plain.{statement_tree}
+use Rattle.mini_first.specs.declared.ast.ExpressionStatementOf.{ExpressionStatementOf}
+use Rattle.mini_first.specs.declared.ast.Statement.{Statement}
+use Rattle.mini_first.specs.declared.ast.Statement.TheVariants as statement
+use Rattle.mini_first.specs.Plain.{statement_tree}
 use Rattle.mini_peephole.specs.MinimizeIf.{is_expression_statement}
 
 pub statement_is_present : (s : Statement) → is_absent (statement_tree s) ≡ false

@@ -14,7 +14,7 @@ use Rattle.mini_model.specs.Redex.{HasNoRedex}
 use Rattle.mini_meaning.specs.Value.{nth, nothing}
 use Rattle.mini_meaning.specs.State.{Environment}
 use Rattle.mini_meaning.specs.Body.{BodyKind, Program, SameBody, environment_of, frame_of}
-use Rattle.mini_tree.specs.declared.options.CompressOptions.{CompressOptions}
+use Rattle.mini_options.specs.declared.options.CompressOptions.{CompressOptions}
 use Rattle.mini_estree.specs.Accept.{Accepts}
 use Rattle.mini_peephole.specs.declared.minify.Minified.{Minified}
 

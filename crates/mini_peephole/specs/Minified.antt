@@ -3,7 +3,7 @@ use Rattle.std.specs.Prelude.{◌≡◌, ℕ, [], ◌∷◌, Err, IfSome}
 use Rattle.serde_json.specs.Data.{Data}
 use Rattle.serde_json.specs.View.{view}
 use Rattle.mini_model.specs.Tree.{Tree}
-use Rattle.mini_tree.specs.declared.options.CompressOptions.{CompressOptions}
+use Rattle.mini_options.specs.declared.options.CompressOptions.{CompressOptions}
 use Rattle.mini_estree.specs.Accept.{program_at, Accepts}
 use Rattle.mini_estree.specs.Faults.{Fault, fault_of}
 use Rattle.mini_estree.specs.Written.{program_data}

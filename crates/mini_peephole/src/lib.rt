@@ -11,5 +11,5 @@ mod tests;
 mod walk;
 
 pub use mini_estree::{MinifyError, Pointer};
-pub use mini_tree::{CompressOptions, KeepNames, Numbers, OutOfMemory};
+pub use mini_first::{CompressOptions, KeepNames, Numbers, OutOfMemory};
 pub use minify::{Minified, minify_estree};

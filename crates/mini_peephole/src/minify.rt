@@ -3,14 +3,14 @@
 ghost use Rattle.std.specs.Prelude.{◌≡◌, [], ◌∷◌, IfOk, IfErr, false};
 ghost use Rattle.serde_json.specs.View.{view};
 ghost use Rattle.serde_json.specs.Written.{has_float};
-ghost use Rattle.mini_tree.specs.Plain.{program_tree};
+ghost use Rattle.mini_first.specs.Plain.{program_tree};
 ghost use Rattle.mini_estree.specs.Fits.{Fits};
 ghost use Rattle.mini_peephole.specs.Faithful.{Faithful, PassesBounded};
 ghost use Rattle.mini_peephole.specs.Minified.{IsMinified, IsRewriting, IsRefusal};
 
 use crate::passes::{Passes, run_passes};
 use mini_estree::{MinifyError, read_program, write_program};
-use mini_tree::{CompressOptions, Numbers, OutOfMemory, Program, drop_program};
+use mini_first::{CompressOptions, Numbers, OutOfMemory, Program, drop_program};
 use serde_json::Value;
 use std::alloc::Global;
 

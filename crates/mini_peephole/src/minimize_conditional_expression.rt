@@ -1,10 +1,10 @@
 //! Row 40: `!a ? b : c` becomes `a ? c : b`, where that is lighter.
 
 ghost use Rattle.std.specs.Prelude.{◌≡◌};
-ghost use Rattle.mini_tree.specs.Plain.{expression_tree};
+ghost use Rattle.mini_first.specs.Plain.{expression_tree};
 ghost use Rattle.mini_peephole.specs.MinimizeConditionalExpression.{minimizes_conditional, minimized_conditional};
 
-use mini_tree::{
+use mini_first::{
     Expression, Seat, UnaryOperator, conditional_weight, drop_boxed_expression, drop_expression,
     expr_weight,
 };

@@ -6,11 +6,11 @@ ghost use Rattle.mini_model.specs.Tree.{expression_statement};
 ghost use Rattle.mini_model.specs.Position.{Stmt};
 ghost use Rattle.mini_model.specs.Weight.{capped, weight};
 ghost use Rattle.mini_model.specs.declared.seat.StmtSeat.{StmtSeat};
-ghost use Rattle.mini_tree.specs.Plain.{expression_tree, statement_tree, if_statement_tree};
+ghost use Rattle.mini_first.specs.Plain.{expression_tree, statement_tree, if_statement_tree};
 ghost use Rattle.mini_peephole.specs.MinimizeIf.{logical_statement, is_expression_statement as is_an_expression_statement, is_bare_absent, chooses as is_choice, guards as is_guard, if_expression, minimizes_if, minimized_if};
 
 use crate::minimize_not_expression::is_negation;
-use mini_tree::{
+use mini_first::{
     BoxedExpression, ConditionalExpression, Expression, ExpressionStatement, IfStatement,
     LogicalExpression, LogicalOperator, OutOfMemory, Statement, StmtSeat, UnaryOperator,
     conditional_weight, drop_expression, drop_statement, logical_weight, seats, stmt_weight,

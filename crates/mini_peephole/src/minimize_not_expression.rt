@@ -6,10 +6,10 @@ ghost use Rattle.mini_model.specs.Position.{Expr, left_operand_seat, right_opera
 ghost use Rattle.mini_model.specs.Weight.{capped, is_parenthesized as in_parentheses, parentheses, weight};
 ghost use Rattle.mini_model.specs.Terms.{is_boolean as always_boolean, has_negated_result, neg};
 ghost use Rattle.mini_model.specs.Tree.{logical, negation};
-ghost use Rattle.mini_tree.specs.Plain.{expression_tree, logical_expression_tree};
+ghost use Rattle.mini_first.specs.Plain.{expression_tree, logical_expression_tree};
 ghost use Rattle.mini_peephole.specs.MinimizeUnary.{is_negation as is_a_negation, keeps_operand, minimizes_unary, minimized_unary};
 
-use mini_tree::{
+use mini_first::{
     BoxedExpression, Expression, LogicalExpression, LogicalOperator, Mix, OutOfMemory, Seat,
     UnaryExpression, UnaryOperator, drop_expression, expr_weight, negation_weight, seats,
 };

@@ -4,11 +4,11 @@ ghost use Rattle.std.specs.Prelude.{◌≡◌, IfOk};
 ghost use Rattle.mini_model.specs.Tree.{trees};
 ghost use Rattle.mini_model.specs.declared.seat.StmtSeat.TheVariants.{List};
 ghost use Rattle.mini_model.specs.Position.{Stmt, Elsewhere};
-ghost use Rattle.mini_tree.specs.Plain.{statement_tree, program_tree};
+ghost use Rattle.mini_first.specs.Plain.{statement_tree, program_tree};
 ghost use Rattle.mini_peephole.specs.Pass.{Minimizes, MinimizesIn, MakesPasses};
 
 use crate::walk::minimize_statement;
-use mini_tree::{OutOfMemory, Program, Statements, StmtSeat};
+use mini_first::{OutOfMemory, Program, Statements, StmtSeat};
 use std::alloc::Global;
 
 /// How many passes were made, and whether the last one found nothing.

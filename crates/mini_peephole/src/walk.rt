@@ -4,13 +4,13 @@ ghost use Rattle.std.specs.Prelude.{◌≡◌, IfOk, true};
 ghost use Rattle.mini_model.specs.declared.seat.StmtSeat.TheVariants.{Body};
 ghost use Rattle.mini_model.specs.Tree.{maybe, is_absent};
 ghost use Rattle.mini_model.specs.Position.{Expr, Stmt};
-ghost use Rattle.mini_tree.specs.Plain.{expression_tree, statement_tree};
+ghost use Rattle.mini_first.specs.Plain.{expression_tree, statement_tree};
 ghost use Rattle.mini_peephole.specs.Pass.{is_read_root, Minimizes, MinimizesParts, MinimizesRoot};
 
 use crate::minimize_conditional_expression::minimize_conditional_expression;
 use crate::minimize_if_statement::try_minimize_if;
 use crate::minimize_not_expression::minimize_unary;
-use mini_tree::{
+use mini_first::{
     BoxedStatement, Expression, LogicalOperator, OutOfMemory, Seat, Statement, StmtSeat,
     UnaryOperator, seats,
 };

@@ -1,6 +1,6 @@
 use Rattle.std.proofs.Common.{◌≡◌, map, drop}
 use Rattle.serde_json.specs.View.{items_view}
-use Rattle.mini_tree.specs.Plain.{statement_tree}
+use Rattle.mini_first.specs.Plain.{statement_tree}
 use Rattle.mini_estree.specs.declared.kind.Class.TheVariants as class
 use Rattle.mini_estree.specs.Accept.{reads, items_at}
 use Rattle.mini_estree.proofs.Items.{with_front}

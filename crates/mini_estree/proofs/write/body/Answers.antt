@@ -2,7 +2,7 @@ use Rattle.std.proofs.Common.{◌≡◌, ◌<◌, ◌≤◌, length, get_or, ap,
 use Rattle.serde_json.specs.Data.{array}
 use Rattle.serde_json.proofs.Views.{view-Array}
 use Rattle.mini_model.specs.Tree.{trees}
-use Rattle.mini_tree.specs.Plain.{statement_tree}
+use Rattle.mini_first.specs.Plain.{statement_tree}
 use Rattle.mini_estree.specs.Written.{trees_data, directive_data}
 use Rattle.mini_estree.proofs.Items.{with_no_values, directive_written, statement_written, statements_written}
 use Rattle.mini_estree.proofs.write.body.Goals as goal

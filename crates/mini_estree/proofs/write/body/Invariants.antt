@@ -1,6 +1,6 @@
 use Rattle.std.proofs.Common.{◌≡◌, drop}
 use Rattle.mini_model.specs.Tree.{trees}
-use Rattle.mini_tree.specs.Plain.{statement_tree}
+use Rattle.mini_first.specs.Plain.{statement_tree}
 use Rattle.mini_estree.specs.Written.{trees_data, with_directives}
 use Rattle.mini_estree.proofs.Items.{with_values}
 use Rattle.mini_estree.proofs.write.body.Given as goal

@@ -1,5 +1,5 @@
 use Rattle.std.proofs.Common.{arith}
-use Rattle.mini_tree.specs.Plain.{program_tree}
+use Rattle.mini_first.specs.Plain.{program_tree}
 use Rattle.mini_estree.proofs.Light.{accepted_light}
 use Rattle.mini_peephole.proofs.Faith.{faithful, passes_bounded}
 use Rattle.mini_peephole.proofs.minify.minify_estree.Goals as goal

@@ -2,7 +2,7 @@ use Rattle.std.proofs.Common.{◌≡◌, ◌∙◌, ap, false}
 use Rattle.std.proofs.lemmas.Result.{IfOk-weaker}
 use Rattle.serde_json.specs.View.{view}
 use Rattle.serde_json.specs.Written.{has_float}
-use Rattle.mini_tree.specs.Plain.{program_tree}
+use Rattle.mini_first.specs.Plain.{program_tree}
 use Rattle.mini_estree.proofs.Floats.{program_data-has_float}
 use Rattle.mini_text.specs.declared.memory.OutOfMemory.{OutOfMemory}
 use Rattle.mini_peephole.specs.declared.minify.Minified.{Minified}

@@ -1,6 +1,6 @@
 use Rattle.std.proofs.Common.{◌+◌, ◌*◌}
 use Rattle.mini_model.specs.Tree.{node_count}
-use Rattle.mini_tree.specs.Plain.{expression_tree}
+use Rattle.mini_first.specs.Plain.{expression_tree}
 use Rattle.mini_peephole.proofs.minimize_not_expression.+weighing.Given as goal
 
 abbrev pub decreases-neg_weight : goal.decreases-neg_weight

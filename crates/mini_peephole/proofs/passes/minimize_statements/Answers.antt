@@ -3,7 +3,7 @@ use Rattle.std.specs.Prelude.{◌||◌}
 use Rattle.mini_model.specs.Tree.{trees}
 use Rattle.mini_model.specs.declared.seat.StmtSeat.TheVariants as stmt_seat
 use Rattle.mini_model.specs.Position.{Stmt}
-use Rattle.mini_tree.specs.Plain.{statement_tree}
+use Rattle.mini_first.specs.Plain.{statement_tree}
 use Rattle.mini_peephole.proofs.Lists.{WalkedBelow, walked_none, walked_next, walked_all, trees-slice_set, tree_at-trees, slice_get-is_there}
 use Rattle.mini_peephole.proofs.passes.minimize_statements.Goals as goal
 

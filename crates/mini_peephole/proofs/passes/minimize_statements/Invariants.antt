@@ -2,7 +2,7 @@ use Rattle.std.proofs.Common.{◌-◌, length}
 use Rattle.mini_model.specs.Tree.{trees}
 use Rattle.mini_model.specs.declared.seat.StmtSeat.TheVariants as stmt_seat
 use Rattle.mini_model.specs.Position.{Stmt}
-use Rattle.mini_tree.specs.Plain.{statement_tree}
+use Rattle.mini_first.specs.Plain.{statement_tree}
 use Rattle.mini_peephole.proofs.Lists.{WalkedBelow}
 use Rattle.mini_peephole.proofs.passes.minimize_statements.Given as goal
 

@@ -1,5 +1,5 @@
 use Rattle.std.proofs.Common.{◌≡◌, ◌-◌, ◌≤◌}
-use Rattle.mini_tree.specs.Plain.{program_tree}
+use Rattle.mini_first.specs.Plain.{program_tree}
 use Rattle.mini_peephole.proofs.Passing.{SoFar}
 use Rattle.mini_peephole.proofs.passes.run_passes.Given as goal
 

@@ -1,5 +1,5 @@
 use Rattle.std.proofs.Common.{ap, refl}
-use Rattle.mini_tree.specs.Plain.{expression_tree}
+use Rattle.mini_first.specs.Plain.{expression_tree}
 use Rattle.mini_peephole.proofs.Parts.{unary_walked, call_walked}
 use Rattle.mini_peephole.proofs.Walks.{minimizes_both, parts_of_leaf}
 use Rattle.mini_peephole.proofs.walk.+expressions.Goals as goal

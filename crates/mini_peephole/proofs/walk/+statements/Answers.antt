@@ -1,5 +1,5 @@
 use Rattle.std.proofs.Common.{ap, refl}
-use Rattle.mini_tree.specs.Plain.{statement_tree}
+use Rattle.mini_first.specs.Plain.{statement_tree}
 use Rattle.mini_peephole.proofs.Parts.{statement_walked, if_walked}
 use Rattle.mini_peephole.proofs.Walks.{minimizes_both}
 use Rattle.mini_peephole.proofs.walk.+statements.Goals as goal

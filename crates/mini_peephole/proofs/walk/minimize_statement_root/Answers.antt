@@ -1,5 +1,5 @@
 use Rattle.std.proofs.Common.{◌∙◌, sym, ap, rules}
-use Rattle.mini_tree.specs.Plain.{expression_tree, statement_tree}
+use Rattle.mini_first.specs.Plain.{expression_tree, statement_tree}
 use Rattle.mini_peephole.specs.MinimizeIf.{is_expression_statement}
 use Rattle.mini_peephole.proofs.Parts.{root_after_if}
 use Rattle.mini_peephole.proofs.Present.{is_one}

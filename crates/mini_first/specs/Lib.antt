@@ -1,0 +1,4 @@
+pub mod Plain
+pub mod Falls
+pub mod Lends
+pub mod Four

@@ -1,0 +1,51 @@
+ghost use Rattle.std.specs.Prelude.{◌≡◌};
+ghost use Rattle.mini_options.specs.Options.{default_options};
+
+/// Whose names stay although nothing refers to them.
+#[derive(Clone, Copy, Debug, PartialEq, Eq)]
+pub struct KeepNames {
+    /// Of function expressions.
+    pub function: bool,
+    /// Of class expressions.
+    pub class: bool,
+}
+
+/// What the minifier may do, and how far it goes.
+#[derive(Clone, Copy, Debug, PartialEq, Eq)]
+pub struct CompressOptions {
+    /// Statements may be joined by commas.
+    pub sequences: bool,
+    /// Declarations may be joined.
+    pub join_vars: bool,
+    /// Whose names stay.
+    pub keep_names: KeepNames,
+    /// The most passes; 0 is read as 1.
+    pub passes: u32,
+    /// How deep the nodes of an input may nest, the program being at depth 1.
+    pub max_depth: u32,
+    /// Conversions of values to text and number are taken to have no effect.
+    pub pure_coercion: bool,
+    /// Calls of the global functions are taken to do what ECMA-262 says.
+    pub known_calls: bool,
+}
+
+impl CompressOptions {
+    /// Joins statements and declarations, keeps no names, makes as many passes as it takes, reads nodes to a depth
+    /// of 120, and assumes nothing of the outside.
+    pub fn new() -> CompressOptions
+        ensures { result ≡ default_options }
+    {
+        CompressOptions {
+            sequences: true,
+            join_vars: true,
+            keep_names: KeepNames {
+                function: false,
+                class: false,
+            },
+            passes: 4_294_967_295,
+            max_depth: 120,
+            pure_coercion: false,
+            known_calls: false,
+        }
+    }
+}

@@ -1,5 +1,0 @@
-pub mod Options
-pub mod Plain
-pub mod Falls
-pub mod Lends
-pub mod Four
