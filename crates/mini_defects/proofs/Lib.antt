@@ -1,0 +1,9 @@
+pub mod Lists
+pub mod Parts
+pub mod Bodies
+pub mod Strict
+pub mod Characters
+pub mod Plans
+pub mod Marks
+pub mod Cooked
+pub mod Planned
