@@ -1,6 +1,6 @@
 -- Raw texts and the texts that they cook to, unit by unit.
 use Rattle.std.proofs.Common.{◌≡◌, ℕ, ◌⊎◌, inl, inr, List, [], ◌∷◌, ◌++◌, Bool, true, false, refl, sym, ap, ◌∙◌, append_assoc, Option, Some, None, IsUtf8, encode_utf8}
-use Rattle.std.specs.Prelude.{◌&&◌, not, is_some, MatchOption, if◌then◌else◌}
+use Rattle.std.specs.Prelude.{◌&&◌, not, is_some, cond}
 use Rattle.std.specs.Char.Escape.{encode_utf16}
 use Rattle.std.specs.Str.Iter.{encode_utf16_pending, encode_utf16_rest, encode_utf16_steps}
 use Rattle.std.specs.declared.str.EncodeUtf16.{EncodeUtf16}
@@ -76,3 +76,39 @@ some_before units (Some rest) = refl
 pub some_then : (s : Step) (rest : Place → Option (List ℕ)) → is_some (then_rest s rest) ≡ has_rest (next_place s) rest
 some_then Malformed rest = refl
 some_then (Gives units p) rest = some_before units (rest p)
+
+-- ---- a raw text, a unit further
+
+pub some_step : (us vs : List ℕ) (p : Place) (u : ℕ) (s : Step) (o : Option Place) → us ≡ u ∷ vs → s ≡ step p u → o ≡ next_place s → is_some (cooked_from p us) ≡ has_rest o (λ q. cooked_from q vs)
+some_step us vs p u s o front is leads =
+    ap (λ ws. is_some (cooked_from p ws)) front
+    ∙ (some_then (step p u) (λ q. cooked_from q vs) ∙ ap (λ x. has_rest x (λ q. cooked_from q vs)) (ap next_place (sym is) ∙ sym leads))
+
+pub same_step : (text left us vs : List ℕ) (p : Place) (u : ℕ) (s : Step) (o : Option Place) → us ≡ u ∷ vs → s ≡ step p u → Follows o s text left → is_text_of_cooked (Some text) (cooked_from p us) ≡ is_rest o left (λ q. cooked_from q vs)
+same_step text left us vs p u s o front is follows =
+    ap (λ ws. is_text_of_cooked (Some text) (cooked_from p ws)) front
+    ∙ (ap (λ x. is_text_of_cooked (Some text) (then_rest x (λ q. cooked_from q vs))) (sym is) ∙ follows (λ q. cooked_from q vs))
+
+-- ---- the end of a raw text
+
+some_if : (b : Bool) → is_some {T = List ℕ} (cond {0} b (Some []) None) ≡ b
+some_if true = refl
+some_if false = refl
+
+pub some_end : (us : List ℕ) (p : Place) → us ≡ [] → is_some (cooked_from p us) ≡ may_end p
+some_end us p none = ap (λ ws. is_some (cooked_from p ws)) none ∙ some_if (may_end p)
+
+text_if : (text : List ℕ) (b : Bool) → is_text_of_cooked (Some text) (cond b (Some []) None) ≡ (b && is_text text [])
+text_if text true = refl
+text_if text false = refl
+
+pub text_end : (text us : List ℕ) (p : Place) → us ≡ [] → is_text_of_cooked (Some text) (cooked_from p us) ≡ (may_end p && is_text text [])
+text_end text us p none = ap (λ ws. is_text_of_cooked (Some text) (cooked_from p ws)) none ∙ text_if text (may_end p)
+
+pub is_no_text : (s t : EncodeUtf16) (r : Option ℕ) → encode_utf16_steps s r t → IsUtf8 (encode_utf16_rest s) → is_text (units_left s) [] ≡ not (is_some r)
+is_no_text s t None steps utf8 = ap (λ us. is_text us []) (no_unit s t steps)
+is_no_text s t (Some x) steps utf8 = ap (λ us. is_text us []) (next_unit s t x steps utf8)
+
+pub not_other : (a b : Bool) → a ≡ not b → b ≡ not a
+not_other a true e = sym (ap not e)
+not_other a false e = sym (ap not e)

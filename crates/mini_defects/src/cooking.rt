@@ -230,6 +230,7 @@ fn unit_is_next(rest: &mut EncodeUtf16<'_>, unit: u16) -> bool
 }
 
 // Whether the units of the code point are the next ones of the text (ECMA-262, UTF16EncodeCodePoint).
+#[tactic(auto, using(crate::proofs::Cooked::begins_with_two))]
 fn point_is_next(rest: &mut EncodeUtf16<'_>, point: CodePoint) -> bool
     requires { IsUtf8 (encode_utf16_rest rest.old) }
     ensures utf8 { IsUtf8 (encode_utf16_rest rest.new) }
@@ -245,6 +246,7 @@ fn point_is_next(rest: &mut EncodeUtf16<'_>, point: CodePoint) -> bool
 }
 
 // The place that the reading leads to, where what it gives is next in the text.
+#[tactic(auto, using(crate::proofs::Cooked::begins_with_none, crate::proofs::Cooked::follows_begun, crate::proofs::Cooked::follows_other))]
 fn follow(reading: Reading, rest: &mut EncodeUtf16<'_>) -> Option<State>
     requires { IsUtf8 (encode_utf16_rest rest.old) }
     ensures utf8 { IsUtf8 (encode_utf16_rest rest.new) }
