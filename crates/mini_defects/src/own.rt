@@ -13,7 +13,7 @@ use crate::standing::{is_unread, may_stand};
 use serde_json::Value;
 
 /// The defect that a node has itself where it stands, in strict or sloppy code; None where it has none.
-#[tactic(auto, using(crate::proofs::Planned::own_unread, crate::proofs::Planned::own_misplaced, crate::proofs::Planned::own_unknown, crate::proofs::Planned::own_known))]
+#[tactic(auto, using(crate::proofs::Planned::own_unread, crate::proofs::Planned::own_misplaced, crate::proofs::Planned::own_unknown))]
 pub fn own_defect(strict: bool, place: Place, value: &Value) -> Option<Defect>
     ensures { option_map defect_of result ≡ own_defect strict (place_of place) (view value.now) }
 {
