@@ -6,15 +6,9 @@ ghost use Rattle.mini_accept.specs.Entries.{entry};
 ghost use Rattle.mini_defects.specs.Placed.{holds};
 ghost use Rattle.mini_defects.specs.Views.{kind_of_node, place_of};
 
-use crate::calls;
-use crate::expressions;
-use crate::functions;
 use crate::kind::Kind;
-use crate::modules;
-use crate::patterns;
 use crate::place::Place;
-use crate::statements;
-use crate::templates;
+use crate::{calls, expressions, functions, modules, patterns, statements, templates};
 use serde_json::Value;
 
 /// Whether a node of this type has a plan, and the nodes below it stand where they may.
@@ -82,7 +76,11 @@ pub fn is_whole(strict: bool, kind: Kind, place: Place, value: &Value) -> bool
         Kind::MemberExpression => calls::member_expression(strict, place, value),
         Kind::ChainExpression => calls::chain(strict, value),
         Kind::YieldExpression => expressions::yield_expression(strict, value),
-        Kind::TemplateLiteral => templates::template(strict, templates::tagging_there(place), value),
+        Kind::TemplateLiteral => templates::template(
+            strict,
+            templates::tagging_there(place),
+            value,
+        ),
         Kind::TemplateElement => templates::quasi(strict, templates::tagging_at(place), value),
         Kind::TaggedTemplateExpression => templates::tagged_template(strict, value),
         Kind::MetaProperty => expressions::meta_property(strict, value),

@@ -179,13 +179,7 @@ pub fn sequence(strict: bool, value: &Value) -> bool
     let Some(parts) = list_at("expressions", value) else {
         return false;
     };
-    are_several(parts)
-        && list_stands(
-            strict,
-            Items::Each(Class::Expression),
-            "expressions",
-            value,
-        )
+    are_several(parts) && list_stands(strict, Items::Each(Class::Expression), "expressions", value)
 }
 
 // ---- others

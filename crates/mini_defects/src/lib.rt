@@ -21,6 +21,8 @@ mod properties;
 mod standing;
 mod statements;
 mod templates;
+#[cfg(test)]
+mod tests;
 mod words;
 
 pub use defect::Defect;
