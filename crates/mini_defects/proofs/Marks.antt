@@ -1,6 +1,6 @@
 -- Whether a chain has a mark, link by link.
-use Rattle.std.proofs.Common.{◌≡◌, ℕ, ◌+◌, ◌<◌, ◌≤◌, List, [], ◌∷◌, Bool, true, false, true≢false, refl, sym, ap, ◌∙◌, Option, Some, None, Ordering, Less, Equal, Greater, nat_cmp, is_eq, nat_eq, arith}
-use Rattle.std.specs.Prelude.{◌&&◌, ◌||◌, if◌then◌else◌, suc, zero}
+use Rattle.std.proofs.Common.{◌≡◌, ℕ, ◌+◌, ◌<◌, ◌≤◌, List, [], ◌∷◌, Bool, true, false, true≢false, refl, sym, ap, ◌∙◌, Some, None, Ordering, Less, Equal, Greater, nat_cmp, is_eq, arith}
+use Rattle.std.specs.Prelude.{◌||◌, if◌then◌else◌, suc}
 use Rattle.std.specs.Cmp.Lexicographic.{slice_cmp}
 use Rattle.std.specs.Ordering.{match_ordering}
 use Rattle.std.proofs.lemmas.Bool.{eq-eqb}

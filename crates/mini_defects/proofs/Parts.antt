@@ -1,15 +1,15 @@
 -- The parts of lists, and whether they stand where they may.
-use Rattle.std.proofs.Common.{◌≡◌, ℕ, zero, suc, ◌<◌, ◌+◌, length, get_or, List, [], ◌∷◌, Bool, true, false, drop, refl, sym, ◌∙◌, ap, arith, add-one, drop-cons, length-drop}
-use Rattle.std.specs.Prelude.{codes, ◌==◌, ◌&&◌, Option, Some, None, option_and_then, if◌then◌else◌, is_some}
+use Rattle.std.proofs.Common.{◌≡◌, ℕ, zero, suc, ◌<◌, ◌+◌, length, get_or, List, [], ◌∷◌, Bool, true, false, drop, refl, ◌∙◌, ap, arith, add-one, drop-cons, length-drop}
+use Rattle.std.specs.Prelude.{codes, ◌==◌, ◌&&◌, Some, option_and_then, if◌then◌else◌, is_some}
 use Rattle.serde_json.specs.Data.{Data, Items, no_items, item}
-use Rattle.serde_json.specs.Find.{get, get_item, as_array, as_null}
+use Rattle.serde_json.specs.Find.{get_item, as_null}
 use Rattle.serde_json.specs.View.{view, items_view}
 use Rattle.serde_json.specs.declared.value.Value.{Value}
 use Rattle.mini_structure.specs.WellShaped as shaped
 use Rattle.mini_structure.specs.WellShaped.{Class}
 use Rattle.mini_accept.specs.Places.{Step, field, place, down, Place, at, an_exported, a_quasi}
 use Rattle.mini_accept.specs.Fields.{no_item, list_at, has_type}
-use Rattle.mini_accept.specs.Plans.{Part, hole, tree_at, inner_at, checked, ItemPart, parts_from, each, or_hole, or_rest, target_part}
+use Rattle.mini_accept.specs.Plans.{Part, hole, tree_at, inner_at, ItemPart, parts_from, each, or_hole, or_rest, target_part}
 use Rattle.mini_defects.specs.declared.place.Tagging as tagging
 use Rattle.mini_defects.specs.declared.place.Tagging.TheVariants as variant
 use Rattle.mini_defects.specs.declared.items as items_module

@@ -2,7 +2,7 @@
 use Rattle.std.specs.Prelude.{ℕ, List, [], Bool, true, false, ◌&&◌, Option, Some, None}
 use Rattle.serde_json.specs.Data.{Data, Items, no_items, item}
 use Rattle.mini_structure.specs.WellShaped as shaped
-use Rattle.mini_accept.specs.Places.{Step, field, Place}
+use Rattle.mini_accept.specs.Places.{field, Place}
 use Rattle.mini_accept.specs.Fields.{no_item}
 use Rattle.mini_accept.specs.Plans.{Part, hole, tree_at, inner_at, checked, Child, ItemPart, each, or_hole, or_rest, list_child, target_part}
 use Rattle.mini_accept.specs.Functions.{parameter}

@@ -1,5 +1,5 @@
 -- What the program's types are as the definitions have them.
-use Rattle.std.specs.Prelude.{ℕ, List, [], ◌∷◌, take, drop, Option, true, false, codes}
+use Rattle.std.specs.Prelude.{ℕ, List, take, drop, Option, false, codes}
 use Rattle.mini_structure.specs.WellShaped as shaped
 use Rattle.mini_accept.specs.Faults as faults
 use Rattle.mini_accept.specs.Fields.{word_in}

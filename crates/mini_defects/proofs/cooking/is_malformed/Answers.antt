@@ -1,5 +1,5 @@
 use Rattle.std.proofs.Common.{None, Some, sym, ap, ◌∙◌}
-use Rattle.std.specs.Prelude.{not, is_some}
+use Rattle.std.specs.Prelude.{not}
 use Rattle.mini_defects.specs.Cooking.{state_of, step_of, units_left}
 use Rattle.mini_defects.proofs.Cooked.{next_unit, next_utf8, no_unit, some_step, some_end}
 use Rattle.mini_defects.proofs.cooking.is_malformed.Goals as goal
