@@ -64,6 +64,7 @@ fn plain_call(strict: bool, optional: bool, place: Place, value: &Value) -> bool
         && list_stands(strict, Items::Each(Class::Argument), "arguments", value)
 }
 
+/// `CallExpression`
 pub fn call(strict: bool, place: Place, value: &Value) -> bool
     ensures { result ≡ holds strict (view value.now) (expression.call (place_of place) (view value.now)) }
 {
@@ -77,6 +78,7 @@ pub fn call(strict: bool, place: Place, value: &Value) -> bool
     }
 }
 
+/// `NewExpression`
 pub fn new_expression(strict: bool, value: &Value) -> bool
     ensures { result ≡ holds strict (view value.now) (expression.new (view value.now)) }
 {
@@ -130,6 +132,7 @@ fn plain_member(strict: bool, optional: bool, computed: bool, place: Place, valu
     }
 }
 
+/// `MemberExpression`
 pub fn member_expression(strict: bool, place: Place, value: &Value) -> bool
     ensures { result ≡ holds strict (view value.now) (expression.member_expression (place_of place) (view value.now)) }
 {
@@ -183,6 +186,7 @@ fn has_mark(value: &Value) -> bool
     true
 }
 
+/// `ChainExpression`: some link of it is optional.
 pub fn chain(strict: bool, value: &Value) -> bool
     ensures { result ≡ holds strict (view value.now) (expression.chain (view value.now)) }
 {

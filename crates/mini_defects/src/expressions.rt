@@ -26,6 +26,7 @@ use serde_json::Value;
 
 // ---- names and literals
 
+/// `Identifier`
 #[tactic(auto, using(crate::proofs::Plans::identifier_holds))]
 pub fn identifier(strict: bool, place: Place, value: &Value) -> bool
     ensures { result ≡ holds strict (view value.now) (expression.identifier (place_of place) (view value.now)) }
@@ -33,13 +34,14 @@ pub fn identifier(strict: bool, place: Place, value: &Value) -> bool
     has_name(value)
 }
 
+/// `PrivateIdentifier`
 pub fn private_identifier(strict: bool, value: &Value) -> bool
     ensures { result ≡ holds strict (view value.now) (expression.private_identifier (view value.now)) }
 {
     has_name(value)
 }
 
-/// A directive's text is looked at for nothing else.
+/// `Literal`: a directive's text is looked at for nothing else.
 pub fn literal_node(strict: bool, place: Place, value: &Value) -> bool
     ensures { result ≡ holds strict (view value.now) (expression.literal_plan (place_of place) (view value.now)) }
 {
@@ -51,12 +53,14 @@ pub fn literal_node(strict: bool, place: Place, value: &Value) -> bool
 
 // ---- arrays and objects
 
+/// `ArrayExpression`
 pub fn array_expression(strict: bool, value: &Value) -> bool
     ensures { result ≡ holds strict (view value.now) (expression.array_expression (view value.now)) }
 {
     list_stands(strict, Items::Elements, "elements", value)
 }
 
+/// `ObjectExpression`
 pub fn object_expression(strict: bool, value: &Value) -> bool
     ensures { result ≡ holds strict (view value.now) (expression.object_expression (view value.now)) }
 {
@@ -68,6 +72,7 @@ pub fn object_expression(strict: bool, value: &Value) -> bool
     )
 }
 
+/// `SpreadElement`
 #[tactic(auto, using(crate::proofs::Plans::spread_holds))]
 pub fn spread(strict: bool, place: Place, value: &Value) -> bool
     ensures { result ≡ holds strict (view value.now) (expression.spread (place_of place) (view value.now)) }
@@ -87,6 +92,7 @@ fn is_prefix(value: &Value) -> bool
     }
 }
 
+/// `UnaryExpression`: with a minus before a number above 0 it is one literal.
 #[tactic(auto, using(crate::proofs::Plans::unary_holds))]
 pub fn unary(strict: bool, value: &Value) -> bool
     ensures { result ≡ holds strict (view value.now) (expression.unary (view value.now)) }
@@ -99,6 +105,7 @@ pub fn unary(strict: bool, value: &Value) -> bool
     }
 }
 
+/// `UpdateExpression`
 pub fn update(strict: bool, value: &Value) -> bool
     ensures { result ≡ holds strict (view value.now) (expression.update (view value.now)) }
 {
@@ -107,6 +114,7 @@ pub fn update(strict: bool, value: &Value) -> bool
         && child_stands(strict, Class::SimpleTarget, "argument", value)
 }
 
+/// `BinaryExpression`: before `in` a private name may stand.
 pub fn binary(strict: bool, value: &Value) -> bool
     ensures { result ≡ holds strict (view value.now) (expression.binary (view value.now)) }
 {
@@ -123,6 +131,7 @@ pub fn binary(strict: bool, value: &Value) -> bool
     }
 }
 
+/// `LogicalExpression`
 pub fn logical(strict: bool, value: &Value) -> bool
     ensures { result ≡ holds strict (view value.now) (expression.logical (view value.now)) }
 {
@@ -145,6 +154,7 @@ fn target_class(operator: AssignmentOperator) -> Class
     }
 }
 
+/// `AssignmentExpression`
 pub fn assignment(strict: bool, value: &Value) -> bool
     ensures { result ≡ holds strict (view value.now) (expression.assignment (view value.now)) }
 {
@@ -157,6 +167,7 @@ pub fn assignment(strict: bool, value: &Value) -> bool
     }
 }
 
+/// `ConditionalExpression`
 pub fn conditional(strict: bool, value: &Value) -> bool
     ensures { result ≡ holds strict (view value.now) (expression.conditional (view value.now)) }
 {
@@ -172,7 +183,7 @@ fn are_several(items: &[Value]) -> bool
     items.len() >= 2
 }
 
-/// Two parts or more.
+/// `SequenceExpression`: two parts or more.
 pub fn sequence(strict: bool, value: &Value) -> bool
     ensures { result ≡ holds strict (view value.now) (expression.sequence (view value.now)) }
 {
@@ -184,7 +195,7 @@ pub fn sequence(strict: bool, value: &Value) -> bool
 
 // ---- others
 
-/// What is delegated to is there.
+/// `YieldExpression`: what is delegated to is there.
 pub fn yield_expression(strict: bool, value: &Value) -> bool
     ensures { result ≡ holds strict (view value.now) (expression.yield (view value.now)) }
 {
@@ -213,6 +224,7 @@ fn words_stand(strict: bool, meta: MetaWord, property: MetaWord, value: &Value) 
         && child_stands(strict, Class::Word(property), "property", value)
 }
 
+/// `MetaProperty`: `new.target` or `import.meta`.
 pub fn meta_property(strict: bool, value: &Value) -> bool
     ensures { result ≡ holds strict (view value.now) (expression.meta_property (view value.now)) }
 {
@@ -225,6 +237,7 @@ pub fn meta_property(strict: bool, value: &Value) -> bool
     }
 }
 
+/// `ImportExpression`
 pub fn import_expression(strict: bool, value: &Value) -> bool
     ensures { result ≡ holds strict (view value.now) (expression.import_expression (view value.now)) }
 {

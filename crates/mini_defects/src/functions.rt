@@ -60,6 +60,7 @@ fn is_default_export(place: Place) -> bool
     }
 }
 
+/// `FunctionDeclaration` or `FunctionExpression`
 pub fn function(strict: bool, declaration: bool, place: Place, value: &Value) -> bool
     ensures { result ≡ holds strict (view value.now) (function.function declaration (place_of place) (view value.now)) }
 {
@@ -78,7 +79,7 @@ pub fn function(strict: bool, declaration: bool, place: Place, value: &Value) ->
         && child_stands(inside, Class::FunctionBody, "body", value)
 }
 
-/// `expression` says that the body is one.
+/// `ArrowFunctionExpression`: `expression` says that the body is one.
 pub fn arrow(strict: bool, value: &Value) -> bool
     ensures { result ≡ holds strict (view value.now) (function.arrow (view value.now)) }
 {
@@ -96,7 +97,7 @@ pub fn arrow(strict: bool, value: &Value) -> bool
 
 // ---- classes
 
-/// The code of a class is strict.
+/// `ClassDeclaration` or `ClassExpression`: its code is strict.
 pub fn class(strict: bool, declaration: bool, place: Place, value: &Value) -> bool
     ensures { result ≡ holds strict (view value.now) (function.class declaration (place_of place) (view value.now)) }
 {
@@ -106,6 +107,7 @@ pub fn class(strict: bool, declaration: bool, place: Place, value: &Value) -> bo
         && child_stands(true, Class::ClassBody, "body", value)
 }
 
+/// `ClassBody`
 pub fn class_body(strict: bool, value: &Value) -> bool
     ensures { result ≡ holds strict (view value.now) (function.class_body (view value.now)) }
 {
@@ -144,6 +146,7 @@ fn has_its_kind(kind: MethodDefinitionKind, is_it: bool) -> bool
     }
 }
 
+/// `MethodDefinition`
 pub fn method_definition(strict: bool, value: &Value) -> bool
     ensures { result ≡ holds strict (view value.now) (function.method_definition (view value.now)) }
 {
@@ -161,6 +164,7 @@ pub fn method_definition(strict: bool, value: &Value) -> bool
         && child_stands(strict, Class::Method, "value", value)
 }
 
+/// `PropertyDefinition`
 pub fn property_definition(strict: bool, value: &Value) -> bool
     ensures { result ≡ holds strict (view value.now) (function.property_definition (view value.now)) }
 {
@@ -172,6 +176,7 @@ pub fn property_definition(strict: bool, value: &Value) -> bool
         && optional_stands(strict, Class::Expression, "value", value)
 }
 
+/// `StaticBlock`
 pub fn static_block(strict: bool, value: &Value) -> bool
     ensures { result ≡ holds strict (view value.now) (function.static_block (view value.now)) }
 {

@@ -20,6 +20,7 @@ fn has_attributes(value: &Value) -> bool
     !is_given("attributes", value) || list_at("attributes", value).is_some()
 }
 
+/// `ImportDeclaration`
 pub fn import(strict: bool, value: &Value) -> bool
     ensures { result ≡ holds strict (view value.now) (imports.import (view value.now)) }
 {
@@ -28,6 +29,7 @@ pub fn import(strict: bool, value: &Value) -> bool
         && child_stands(strict, Class::String, "source", value)
 }
 
+/// `ImportSpecifier`
 pub fn import_specifier(strict: bool, value: &Value) -> bool
     ensures { result ≡ holds strict (view value.now) (imports.import_specifier (view value.now)) }
 {
@@ -35,12 +37,14 @@ pub fn import_specifier(strict: bool, value: &Value) -> bool
         && child_stands(strict, Class::Binding, "local", value)
 }
 
+/// `ImportDefaultSpecifier`
 pub fn import_default(strict: bool, value: &Value) -> bool
     ensures { result ≡ holds strict (view value.now) (imports.import_default (view value.now)) }
 {
     child_stands(strict, Class::Binding, "local", value)
 }
 
+/// `ImportNamespaceSpecifier`
 pub fn import_namespace(strict: bool, value: &Value) -> bool
     ensures { result ≡ holds strict (view value.now) (imports.import_namespace (view value.now)) }
 {
@@ -54,6 +58,7 @@ fn is_whole_export(value: &Value, specifiers: &[Value]) -> bool
     !is_given("declaration", value) || (has_no_item(specifiers) && !is_given("source", value))
 }
 
+/// `ExportNamedDeclaration`
 pub fn export_named(strict: bool, value: &Value) -> bool
     ensures { result ≡ holds strict (view value.now) (imports.export_named (view value.now)) }
 {
@@ -78,6 +83,7 @@ fn local_place(place: Place) -> Place
     }
 }
 
+/// `ExportSpecifier`
 pub fn export_specifier(strict: bool, place: Place, value: &Value) -> bool
     ensures { result ≡ holds strict (view value.now) (imports.export_specifier (place_of place) (view value.now)) }
 {
@@ -85,12 +91,14 @@ pub fn export_specifier(strict: bool, place: Place, value: &Value) -> bool
         && stands_at(strict, local_place(place), "local", value)
 }
 
+/// `ExportDefaultDeclaration`
 pub fn export_default(strict: bool, value: &Value) -> bool
     ensures { result ≡ holds strict (view value.now) (imports.export_default (view value.now)) }
 {
     child_stands(strict, Class::DefaultExport, "declaration", value)
 }
 
+/// `ExportAllDeclaration`
 pub fn export_all(strict: bool, value: &Value) -> bool
     ensures { result ≡ holds strict (view value.now) (imports.export_all (view value.now)) }
 {

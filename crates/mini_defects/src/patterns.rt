@@ -29,6 +29,7 @@ fn is_binding(place: Place) -> bool
     }
 }
 
+/// `ObjectPattern`
 pub fn object_pattern(strict: bool, place: Place, value: &Value) -> bool
     ensures { result ≡ holds strict (view value.now) (pattern.object_pattern (place_of place) (view value.now)) }
 {
@@ -40,6 +41,7 @@ pub fn object_pattern(strict: bool, place: Place, value: &Value) -> bool
     list_stands(strict, form, "properties", value)
 }
 
+/// `ArrayPattern`
 pub fn array_pattern(strict: bool, place: Place, value: &Value) -> bool
     ensures { result ≡ holds strict (view value.now) (pattern.array_pattern (place_of place) (view value.now)) }
 {
@@ -70,7 +72,7 @@ fn target_property(strict: bool, shorthand: bool, computed: bool, value: &Value)
     }
 }
 
-/// No method and no accessor; a shorthand property repeats its key.
+/// `Property` of a pattern: no method and no accessor; a shorthand property repeats its key.
 pub fn pattern_property(strict: bool, binds: bool, value: &Value) -> bool
     ensures { result ≡ holds strict (view value.now) (pattern.pattern_property binds (view value.now)) }
 {
@@ -96,6 +98,7 @@ pub fn pattern_property(strict: bool, binds: bool, value: &Value) -> bool
     }
 }
 
+/// `Property`, of a pattern or of an object literal.
 pub fn property(strict: bool, place: Place, value: &Value) -> bool
     ensures { result ≡ holds strict (view value.now) (pattern.property (place_of place) (view value.now)) }
 {
@@ -106,6 +109,7 @@ pub fn property(strict: bool, place: Place, value: &Value) -> bool
     }
 }
 
+/// `RestElement`
 pub fn rest(strict: bool, place: Place, value: &Value) -> bool
     ensures { result ≡ holds strict (view value.now) (pattern.rest (place_of place) (view value.now)) }
 {
@@ -127,6 +131,7 @@ fn left_stands(strict: bool, place: Place, value: &Value) -> bool
     }
 }
 
+/// `AssignmentPattern`
 pub fn default(strict: bool, place: Place, value: &Value) -> bool
     ensures { result ≡ holds strict (view value.now) (pattern.default (place_of place) (view value.now)) }
 {

@@ -102,6 +102,7 @@ fn value_class(kind: PropertyKind, is_method: bool) -> Class
     }
 }
 
+/// `Property` of an object literal.
 pub fn object_property(strict: bool, value: &Value) -> bool
     ensures { result ≡ holds strict (view value.now) (expression.object_property (view value.now)) }
 {

@@ -72,6 +72,7 @@ pub fn body_stands(strict: bool, depth: Depth, statements: &[Value]) -> bool
     true
 }
 
+/// `Program`
 #[tactic(auto, using(crate::proofs::Bodies::body_below))]
 pub fn program(strict: bool, value: &Value) -> bool
     ensures { result ≡ holds strict (view value.now) (statement.program (view value.now)) }
@@ -92,7 +93,7 @@ pub fn program(strict: bool, value: &Value) -> bool
 
 // ---- statements
 
-/// Only a directive has the field `directive`.
+/// `ExpressionStatement`: only a directive has the field `directive`.
 pub fn expression_statement(strict: bool, place: Place, value: &Value) -> bool
     ensures { result ≡ holds strict (view value.now) (statement.expression_statement (place_of place) (view value.now)) }
 {
@@ -103,6 +104,7 @@ pub fn expression_statement(strict: bool, place: Place, value: &Value) -> bool
     }
 }
 
+/// `BlockStatement`, but for the body of a function.
 pub fn block(strict: bool, value: &Value) -> bool
     ensures { result ≡ holds strict (view value.now) (statement.block (view value.now)) }
 {
@@ -114,6 +116,7 @@ pub fn block(strict: bool, value: &Value) -> bool
     )
 }
 
+/// `BlockStatement`, the body of a function.
 #[tactic(auto, using(crate::proofs::Bodies::body_below))]
 pub fn function_body(strict: bool, value: &Value) -> bool
     ensures { result ≡ holds strict (view value.now) (statement.function_body (view value.now)) }
@@ -124,6 +127,7 @@ pub fn function_body(strict: bool, value: &Value) -> bool
     }
 }
 
+/// `BlockStatement`
 pub fn block_in(strict: bool, place: Place, value: &Value) -> bool
     ensures { result ≡ holds strict (view value.now) (statement.block_in (place_of place) (view value.now)) }
 {
@@ -135,6 +139,7 @@ pub fn block_in(strict: bool, place: Place, value: &Value) -> bool
     }
 }
 
+/// `LabeledStatement`
 pub fn labeled(strict: bool, value: &Value) -> bool
     ensures { result ≡ holds strict (view value.now) (statement.labeled (view value.now)) }
 {
@@ -142,30 +147,35 @@ pub fn labeled(strict: bool, value: &Value) -> bool
         && child_stands(strict, Class::Statement(Depth::Nested), "body", value)
 }
 
+/// `BreakStatement`
 pub fn break_statement(strict: bool, value: &Value) -> bool
     ensures { result ≡ holds strict (view value.now) (statement.break (view value.now)) }
 {
     optional_stands(strict, Class::Label, "label", value)
 }
 
+/// `ContinueStatement`
 pub fn continue_statement(strict: bool, value: &Value) -> bool
     ensures { result ≡ holds strict (view value.now) (statement.continue (view value.now)) }
 {
     optional_stands(strict, Class::Label, "label", value)
 }
 
+/// `ReturnStatement`
 pub fn return_statement(strict: bool, value: &Value) -> bool
     ensures { result ≡ holds strict (view value.now) (statement.return (view value.now)) }
 {
     optional_stands(strict, Class::Expression, "argument", value)
 }
 
+/// `ThrowStatement`
 pub fn throw_statement(strict: bool, value: &Value) -> bool
     ensures { result ≡ holds strict (view value.now) (statement.throw (view value.now)) }
 {
     child_stands(strict, Class::Expression, "argument", value)
 }
 
+/// `IfStatement`
 pub fn if_statement(strict: bool, value: &Value) -> bool
     ensures { result ≡ holds strict (view value.now) (statement.if_statement (view value.now)) }
 {
@@ -174,6 +184,7 @@ pub fn if_statement(strict: bool, value: &Value) -> bool
         && optional_stands(strict, Class::Statement(Depth::Nested), "alternate", value)
 }
 
+/// `SwitchStatement`
 pub fn switch(strict: bool, value: &Value) -> bool
     ensures { result ≡ holds strict (view value.now) (statement.switch (view value.now)) }
 {
@@ -181,6 +192,7 @@ pub fn switch(strict: bool, value: &Value) -> bool
         && list_stands(strict, Items::Each(Class::Case), "cases", value)
 }
 
+/// `SwitchCase`
 pub fn switch_case(strict: bool, value: &Value) -> bool
     ensures { result ≡ holds strict (view value.now) (statement.switch_case (view value.now)) }
 {
@@ -193,6 +205,7 @@ pub fn switch_case(strict: bool, value: &Value) -> bool
         )
 }
 
+/// `TryStatement`: one of a handler and a finalizer is given.
 pub fn try_statement(strict: bool, value: &Value) -> bool
     ensures { result ≡ holds strict (view value.now) (statement.try (view value.now)) }
 {
@@ -202,6 +215,7 @@ pub fn try_statement(strict: bool, value: &Value) -> bool
         && optional_stands(strict, Class::Block, "finalizer", value)
 }
 
+/// `CatchClause`
 pub fn catch_clause(strict: bool, value: &Value) -> bool
     ensures { result ≡ holds strict (view value.now) (statement.catch (view value.now)) }
 {
@@ -211,6 +225,7 @@ pub fn catch_clause(strict: bool, value: &Value) -> bool
 
 // ---- loops
 
+/// `WhileStatement`
 pub fn while_statement(strict: bool, value: &Value) -> bool
     ensures { result ≡ holds strict (view value.now) (statement.while (view value.now)) }
 {
@@ -218,6 +233,7 @@ pub fn while_statement(strict: bool, value: &Value) -> bool
         && child_stands(strict, Class::Statement(Depth::Nested), "body", value)
 }
 
+/// `DoWhileStatement`
 pub fn do_while(strict: bool, value: &Value) -> bool
     ensures { result ≡ holds strict (view value.now) (statement.do_while (view value.now)) }
 {
@@ -225,6 +241,7 @@ pub fn do_while(strict: bool, value: &Value) -> bool
         && child_stands(strict, Class::Expression, "test", value)
 }
 
+/// `ForStatement`
 pub fn for_statement(strict: bool, value: &Value) -> bool
     ensures { result ≡ holds strict (view value.now) (statement.for (view value.now)) }
 {
@@ -234,6 +251,7 @@ pub fn for_statement(strict: bool, value: &Value) -> bool
         && child_stands(strict, Class::Statement(Depth::Nested), "body", value)
 }
 
+/// `ForInStatement`
 pub fn for_in(strict: bool, value: &Value) -> bool
     ensures { result ≡ holds strict (view value.now) (statement.for_in (view value.now)) }
 {
@@ -242,6 +260,7 @@ pub fn for_in(strict: bool, value: &Value) -> bool
         && child_stands(strict, Class::Statement(Depth::Nested), "body", value)
 }
 
+/// `ForOfStatement`
 pub fn for_of(strict: bool, value: &Value) -> bool
     ensures { result ≡ holds strict (view value.now) (statement.for_of (view value.now)) }
 {
@@ -253,6 +272,7 @@ pub fn for_of(strict: bool, value: &Value) -> bool
 
 // ---- variables
 
+/// `VariableDeclaration`: one declarator or more.
 pub fn variable(strict: bool, value: &Value) -> bool
     ensures { result ≡ holds strict (view value.now) (statement.variable (view value.now)) }
 {
@@ -266,6 +286,7 @@ pub fn variable(strict: bool, value: &Value) -> bool
         )
 }
 
+/// `VariableDeclarator`
 pub fn declarator(strict: bool, value: &Value) -> bool
     ensures { result ≡ holds strict (view value.now) (statement.declarator (view value.now)) }
 {

@@ -42,7 +42,7 @@ fn is_one_more(quasis: &[Value], expressions: &[Value]) -> bool
     quasis.len().checked_sub(1) == Some(expressions.len())
 }
 
-/// One quasi more than expressions.
+/// `TemplateLiteral`: one quasi more than expressions.
 pub fn template(strict: bool, tagging: Tagging, value: &Value) -> bool
     ensures { result ≡ holds strict (view value.now) (expression.template (tagging_of tagging) (view value.now)) }
 {
@@ -74,6 +74,7 @@ fn are_texts(tagging: Tagging, texts: &Value) -> bool
     }
 }
 
+/// `TemplateElement`
 #[tactic(auto, using(crate::proofs::Plans::quasi_holds))]
 pub fn quasi(strict: bool, tagging: Tagging, value: &Value) -> bool
     ensures { result ≡ holds strict (view value.now) (expression.quasi (tagging_of tagging) (view value.now)) }
@@ -87,6 +88,7 @@ pub fn quasi(strict: bool, tagging: Tagging, value: &Value) -> bool
     }
 }
 
+/// `TaggedTemplateExpression`
 pub fn tagged_template(strict: bool, value: &Value) -> bool
     ensures { result ≡ holds strict (view value.now) (expression.tagged_template (view value.now)) }
 {
