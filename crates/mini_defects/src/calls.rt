@@ -33,6 +33,7 @@ fn is_linked(optional: bool, place: Place) -> bool
     !optional || is_link(place)
 }
 
+// The class of the callee or the object, which in a chain is a link too.
 fn link_class(place: Place) -> Class
     ensures { class_of result ≡ link_class (place_of place) }
 {
@@ -45,6 +46,7 @@ fn link_class(place: Place) -> Class
 
 // ---- calls
 
+// A call of `super`, which is never optional.
 fn super_call(strict: bool, optional: bool, value: &Value) -> bool
     ensures { result ≡ holds strict (view value.now) (expression.super_call optional (view value.now)) }
 {
@@ -53,6 +55,7 @@ fn super_call(strict: bool, optional: bool, value: &Value) -> bool
         && list_stands(strict, Items::InnerArguments, "arguments", value)
 }
 
+// A call of an expression.
 #[tactic(auto, using(crate::proofs::Plans::plain_call_holds))]
 fn plain_call(strict: bool, optional: bool, place: Place, value: &Value) -> bool
     ensures { result ≡ holds strict (view value.now) (expression.plain_call optional (place_of place) (view value.now)) }
@@ -88,6 +91,7 @@ pub fn new_expression(strict: bool, value: &Value) -> bool
 
 // ---- members
 
+// A member of `super`, in brackets or by its name.
 fn super_member(strict: bool, computed: bool, value: &Value) -> bool
     ensures { result ≡ holds strict (view value.now) (expression.super_member computed) }
 {
@@ -100,6 +104,7 @@ fn super_member(strict: bool, computed: bool, value: &Value) -> bool
         && child_stands(strict, property, "property", value)
 }
 
+// A member in brackets, whose object is of the class.
 fn computed_member(strict: bool, class: Class, value: &Value) -> bool
     ensures { result ≡ are_below strict (view value.now) (child (codes "object") (class_of class) ∷ child (codes "property") an_expression ∷ []) }
 {
@@ -107,6 +112,7 @@ fn computed_member(strict: bool, class: Class, value: &Value) -> bool
         && child_stands(strict, Class::Expression, "property", value)
 }
 
+// A member by its name or a private name, whose object is of the class.
 fn named_member(strict: bool, class: Class, value: &Value) -> bool
     ensures { (optional : Bool) → result ≡ holds strict (view value.now) (expression.named_member optional (class_of class) (view value.now)) }
 {
@@ -119,6 +125,7 @@ fn named_member(strict: bool, class: Class, value: &Value) -> bool
         && child_stands(strict, property, "property", value)
 }
 
+// A member of an expression.
 fn plain_member(strict: bool, optional: bool, computed: bool, place: Place, value: &Value) -> bool
     ensures { result ≡ holds strict (view value.now) (expression.plain_member optional computed (place_of place) (view value.now)) }
 {

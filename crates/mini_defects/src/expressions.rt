@@ -176,6 +176,7 @@ pub fn conditional(strict: bool, value: &Value) -> bool
         && child_stands(strict, Class::Expression, "alternate", value)
 }
 
+// Whether there are two items or more.
 #[tactic(auto, using(crate::proofs::Lists::item_count_length))]
 fn are_several(items: &[Value]) -> bool
     ensures { result ≡ nat_le 2 (item_count (items_view items.now)) }

@@ -51,6 +51,7 @@ fn is_named(declaration: bool, place: Place, value: &Value) -> bool
     !declaration || is_default_export(place) || is_given("id", value)
 }
 
+// Whether a declaration there is exported by default.
 fn is_default_export(place: Place) -> bool
     ensures { result ≡ is_default_export (place_of place) }
 {

@@ -24,6 +24,7 @@ pub enum LiteralValue<'v> {
     String(&'v str),
 }
 
+// What a regular expression is, by its pattern and flags.
 fn reg_exp(value: &Value) -> Option<LiteralValue<'_>>
     ensures { option_map shape_of result ≡ reg_exp (view value.now) }
 {
@@ -54,6 +55,7 @@ fn with_digit(number: Option<u128>, digit: u8) -> Option<u128>
     number?.checked_mul(10)?.checked_add(u128::from(digit))
 }
 
+// What a literal of this value is.
 fn value_literal(value: &Value) -> Option<LiteralValue<'_>>
     ensures { option_map shape_of result ≡ value_shape (Some (view value.now)) }
 {
@@ -67,6 +69,7 @@ fn value_literal(value: &Value) -> Option<LiteralValue<'_>>
     }
 }
 
+// What a literal with the digits of a BigInt is.
 fn big_int(value: &Value) -> Option<LiteralValue<'_>>
     ensures { option_map shape_of result ≡ big_int_shape (view value.now) }
 {
@@ -90,6 +93,7 @@ pub fn literal(value: &Value) -> Option<LiteralValue<'_>>
     }
 }
 
+// Whether the number is fractional, written as a float, or not safe.
 fn is_unread_number(number: &Number) -> bool
     ensures { result ≡ is_unread_number (number_view number.now) }
 {
@@ -99,6 +103,7 @@ fn is_unread_number(number: &Number) -> bool
     }
 }
 
+// Whether a null literal's text isn't null, so that it stands for a value that JSON can't write.
 fn is_unread_raw(raw: Option<&Value>) -> bool
     ensures { result ≡ is_unread_raw (option_map (λ v. view v.now) raw.entry) }
 {
@@ -111,6 +116,7 @@ fn is_unread_raw(raw: Option<&Value>) -> bool
     }
 }
 
+// Whether the literal's value isn't read.
 fn is_unread_value(value: &Value) -> bool
     ensures { result ≡ is_unread_value (get (codes "value") (view value.now)) (get (codes "raw") (view value.now)) }
 {
@@ -134,6 +140,7 @@ pub fn is_unread_literal(value: &Value) -> bool
     }
 }
 
+// Whether the BigInt has more than 128 bits.
 fn is_unread_big_int(value: &Value) -> bool
     ensures { result ≡ unwrap_or (option_map (λ n. not (nat_le n max_big_int)) (big_int (view value.now))) false }
 {

@@ -53,6 +53,7 @@ pub fn array_pattern(strict: bool, place: Place, value: &Value) -> bool
     list_stands(strict, form, "elements", value)
 }
 
+// A property of a pattern that a declaration binds.
 fn binding_property(strict: bool, shorthand: bool, computed: bool, value: &Value) -> bool
     ensures { result ≡ holds strict (view value.now) (pattern.binding_property shorthand computed) }
 {
@@ -60,6 +61,7 @@ fn binding_property(strict: bool, shorthand: bool, computed: bool, value: &Value
         && child_stands(strict, Class::PatternElement, "value", value)
 }
 
+// A property of a pattern that is assigned to.
 fn target_property(strict: bool, shorthand: bool, computed: bool, value: &Value) -> bool
     ensures { result ≡ holds strict (view value.now) (pattern.target_property shorthand computed (view value.now)) }
 {

@@ -115,24 +115,28 @@ pub fn is_identifier(value: &Value) -> bool
     has_type("Identifier", value)
 }
 
+// Whether the value is a block.
 fn is_block(value: &Value) -> bool
     ensures { result ≡ is_block (view value.now) }
 {
     has_type("BlockStatement", value)
 }
 
+// Whether the value is a declaration of variables.
 fn is_variable(value: &Value) -> bool
     ensures { result ≡ is_variable (view value.now) }
 {
     has_type("VariableDeclaration", value)
 }
 
+// Whether the value is a name or a pattern without a default.
 fn is_pattern(value: &Value) -> bool
     ensures { result ≡ is_pattern (view value.now) }
 {
     has_one_of(&["Identifier", "ObjectPattern", "ArrayPattern"], value)
 }
 
+// Whether the value is a pattern with a default.
 fn is_default(value: &Value) -> bool
     ensures { result ≡ is_default (view value.now) }
 {
@@ -203,6 +207,7 @@ fn is_piece(last: bool, tail: Option<bool>) -> bool
 
 // ---- places
 
+// Whether the value is a statement that may stand in such a body.
 fn is_statement_in(depth: Depth, value: &Value) -> bool
     ensures { result ≡ is_statement_in (depth_of depth) (view value.now) }
 {
@@ -224,6 +229,7 @@ fn is_loop_left(enumerates: bool, value: &Value) -> bool
     }
 }
 
+// Whether the value is a member of a class.
 fn is_member_of_class(value: &Value) -> bool
     ensures { result ≡ stands_as (class_of class.ClassMember) (view value.now) }
 {
@@ -233,6 +239,7 @@ fn is_member_of_class(value: &Value) -> bool
     )
 }
 
+// Whether the value is a specifier of an import.
 fn is_import(value: &Value) -> bool
     ensures { result ≡ stands_as (class_of class.Import) (view value.now) }
 {
@@ -246,6 +253,7 @@ fn is_import(value: &Value) -> bool
     )
 }
 
+// Whether the value may be exported by default.
 fn is_default_export(value: &Value) -> bool
     ensures { result ≡ stands_as (class_of class.DefaultExport) (view value.now) }
 {
@@ -264,6 +272,7 @@ fn letters_of(word: MetaWord) -> &'static str
     }
 }
 
+// Whether the value is this word of a meta property.
 fn is_word(word: MetaWord, value: &Value) -> bool
     ensures { result ≡ stands_as (class_of (class.Word word)) (view value.now) }
 {
@@ -439,6 +448,7 @@ fn is_unread_form(place: Place, value: &Value) -> bool
     }
 }
 
+// Whether a statement there is in another one.
 fn is_nested(class: Class) -> bool
     ensures { result ≡ is_nested (class_of class) }
 {
@@ -448,6 +458,7 @@ fn is_nested(class: Class) -> bool
     }
 }
 
+// Whether a key there has no brackets.
 fn is_key(class: Class) -> bool
     ensures { result ≡ is_key (class_of class) }
 {

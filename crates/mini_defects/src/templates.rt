@@ -35,6 +35,7 @@ pub fn tagging_at(place: Place) -> Tagging
     }
 }
 
+// Whether there is one quasi more than expressions.
 #[tactic(auto, using(crate::proofs::Lists::item_count_length))]
 fn is_one_more(quasis: &[Value], expressions: &[Value]) -> bool
     ensures { result ≡ nat_eq (item_count (items_view quasis.now)) (suc (item_count (items_view expressions.now))) }
