@@ -2,6 +2,7 @@
 use Rattle.std.specs.Prelude.{◌≡◌, refl, ℕ, true, false, Bool, [], ◌∷◌, List, codes, pos, negsuc, Float, Ok, Err, Some, None}
 use Rattle.std.specs.Fmt.{digits}
 use Rattle.std.specs.Str.{chars}
+use Rattle.std.specs.Char.Utf16.{utf16_chars}
 use Rattle.serde_json.specs.Data.{Data, null, boolean, number, object, unsigned, negative, float, no_members}
 use Rattle.mini_text.specs.Texts.{units_of, is_identifier_name}
 use Rattle.mini_model.specs.declared.kind.MetaPropertyKind.TheVariants.{ImportMeta}
@@ -82,7 +83,7 @@ one_level_short = refl
 
 -- a directive's literal counts
 directive_too_deep : program_at 2 (script (directive (codes "a") ∷ [])) ≡ Err (record { defect = too_deep; at = codes "/body/0/expression" })
-unfolding program_at digits
+unfolding program_at digits chars utf16_chars
 directive_too_deep = refl
 
 -- ---- literals
@@ -146,7 +147,7 @@ big_int_as_key = refl
 
 -- "use strict";
 use_strict : IsTree (script (directive (codes "use strict") ∷ [])) (program false (codes "use strict" ∷ []) none) 1
-unfolding program_at chars
+unfolding program_at chars utf16_chars
 use_strict = refl
 
 -- this; "use strict";
@@ -156,7 +157,7 @@ directive_after_a_statement = refl
 
 -- a directive over null
 directive_over_null : IsRefused (script (typed (codes "ExpressionStatement") ((codes "directive", text (codes "a")) ∷ (codes "expression", literal null) ∷ []) ∷ [])) bad_shape (codes "/body/0")
-unfolding program_at digits
+unfolding program_at digits chars utf16_chars
 directive_over_null = refl
 
 -- ---- structure
@@ -196,6 +197,11 @@ chain_below : IsRefused (script (says (chain (member_of false (chain (member_of 
 unfolding program_at digits
 chain_below = refl
 
+-- a mark below what is no link doesn't count, at an empty key either
+mark_at_an_empty_key : IsRefused (script (says (chain (member_of false (typed (codes "ThisExpression") (([], member_of true this) ∷ [])))) ∷ [])) bad_shape (codes "/body/0/expression")
+unfolding program_at digits
+mark_at_an_empty_key = refl
+
 -- this?.[0]; without a chain
 mark_outside_a_chain : IsRefused (script (says (member_of true this) ∷ [])) bad_shape (codes "/body/0/expression")
 unfolding program_at digits
@@ -234,7 +240,7 @@ template quasis = typed (codes "TemplateLiteral") ((codes "quasis", list quasis)
 
 -- `\n`;
 one_quasi : IsTree (script (says (template (quasi true ∷ [])) ∷ [])) (said (node shape.TemplateLiteral [] 0 (listed (leaf (shape.TemplateElement true (codes "\\n") (Some (codes "\n"))) ▸ none) ▸ listed none ▸ none))) 1
-unfolding program_at chars
+unfolding program_at chars utf16_chars
 one_quasi = refl
 
 two_quasis : IsRefused (script (says (template (quasi false ∷ quasi true ∷ [])) ∷ [])) bad_shape (codes "/body/0/expression")
@@ -270,11 +276,11 @@ class_with kind = script (says (typed (codes "ClassExpression") ((codes "body", 
 -- (class { "constructor"() {} });
 constructor : IsTree (class_with (codes "constructor"))
     (said (node (shape.Class false) [] 1 (absent ▸ absent ▸ node shape.ClassBody [] 0 (listed (node (shape.MethodDefinition Constructor false false) [] 0 (leaf (shape.StringLiteral (codes "constructor")) ▸ node (shape.Function false false []) [] 2 (absent ▸ listed none ▸ node shape.FunctionBody [] 0 (listed none ▸ none) ▸ none) ▸ none) ▸ none) ▸ none) ▸ none))) 3
-unfolding program_at chars
+unfolding program_at chars utf16_chars
 constructor = refl
 
 constructor_as_a_method : IsRefused (class_with (codes "method")) bad_shape (codes "/body/0/expression/body/body/0")
-unfolding program_at digits
+unfolding program_at digits chars utf16_chars
 constructor_as_a_method = refl
 
 -- () => this; the body is an expression
@@ -294,7 +300,7 @@ arrow_that_says_block = refl
 -- import(this), /a/;
 inner_expression : IsTree (script (says (sequence (typed (codes "ImportExpression") ((codes "source", this) ∷ []) ∷ typed (codes "Literal") ((codes "regex", object (members ((codes "pattern", text (codes "a")) ∷ (codes "flags", text []) ∷ []))) ∷ []) ∷ [])) ∷ []))
     (said (node shape.SequenceExpression [] 0 (listed (node shape.ImportExpression [] 1 (node shape.InnerExpression [] 2 (this_tree ▸ none) ▸ none) ▸ node (shape.RegExpLiteral (codes "a") []) [] 3 none ▸ none) ▸ none))) 4
-unfolding program_at chars
+unfolding program_at chars utf16_chars
 inner_expression = refl
 
 -- ---- more that is refused
@@ -369,17 +375,17 @@ malformed = typed (codes "TemplateLiteral") ((codes "quasis", list (typed (codes
 
 malformed_with_a_tag : IsTree (script (says (typed (codes "TaggedTemplateExpression") ((codes "tag", this) ∷ (codes "quasi", malformed) ∷ [])) ∷ []))
     (said (node shape.TaggedTemplateExpression [] 1 (node shape.InnerExpression [] 2 (this_tree ▸ none) ▸ node shape.TemplateLiteral [] 0 (listed (leaf (shape.TemplateElement true (codes "\\u") None) ▸ none) ▸ listed none ▸ none) ▸ none))) 3
-unfolding program_at chars
+unfolding program_at chars utf16_chars
 malformed_with_a_tag = refl
 
 malformed_without_a_tag : IsRefused (script (says malformed ∷ [])) bad_shape (codes "/body/0/expression/quasis/0")
-unfolding program_at digits chars
+unfolding program_at digits chars utf16_chars
 malformed_without_a_tag = refl
 
 -- "use strict"; { function a() {} }
 strict_function_in_a_block : (s : List ℕ) → is_identifier_name (units_of s) ≡ true → IsTree (script (directive (codes "use strict") ∷ block (function_with ((codes "id", name s) ∷ []) ∷ []) ∷ []))
     (program false (codes "use strict" ∷ []) (node shape.BlockStatement [] 0 (listed (node (shape.Function true false []) [] 1 (node shape.BindingIdentifier (unresolved (units_of s) ∷ []) 0 none ▸ listed none ▸ node shape.FunctionBody [] 0 (listed none ▸ none) ▸ none) ▸ none) ▸ none) ▸ none)) 2
-unfolding program_at chars
+unfolding program_at chars utf16_chars
 strict_function_in_a_block s h = rw h refl
 
 -- import.meta;

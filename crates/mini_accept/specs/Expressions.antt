@@ -19,9 +19,9 @@ use Rattle.mini_model.specs.Tree.{unresolved}
 use Rattle.mini_structure.specs.WellShaped as shaped
 use Rattle.mini_structure.specs.WellShaped.{Class, Tagging, tagged, untagged, is_text, is_init, is_text_of_cooked, value_class}
 use Rattle.mini_accept.specs.Places.{field, Place, at, a_directive_text, a_quasi}
-use Rattle.mini_accept.specs.Fields.{◌>>=◌, require, is_given, is_there_with, text_at, has_text, flag_at, list_at, item_count, name_at, has_type, child_has_type}
+use Rattle.mini_accept.specs.Fields.{◌>>=◌, require, is_given, is_there_with, text_at, units_at, has_text, flag_at, list_at, item_count, name_at, has_type, child_has_type}
 use Rattle.mini_accept.specs.Literals.{literal, with_minus}
-use Rattle.mini_accept.specs.Standing.{is_identifier}
+use Rattle.mini_accept.specs.Standing.{is_identifier, has_true}
 use Rattle.mini_accept.specs.Words.{word_at, assignment_operators, binary_operators, logical_operators, property_kinds, unary_operators, update_operators}
 use Rattle.mini_accept.specs.Plans.{tree_at, inner_at, checked, Child, one, Plan, node_of, child, inner, optional, ItemPart, each, or_hole, list, list_child}
 
@@ -246,13 +246,14 @@ member_expression p d = do
 abbrev pub link_key : Data → List ℕ
 link_key d = if has_type (codes "CallExpression") d then codes "callee" else (if has_type (codes "MemberExpression") d then codes "object" else [])
 
-abbrev pub is_marked : Data → Bool
-is_marked d = not (is_text (link_key d) []) && unwrap_or (option_and_then as_bool (get (codes "optional") d)) false
+-- a call or a member
+abbrev pub is_chain_link : Data → Bool
+is_chain_link d = not (is_text (link_key d) [])
 
 -- some link of the chain is optional
 abbrev mutual
   pub has_mark : Data → Bool
-  has_mark (object ms) = is_marked (object ms) || has_mark_at (link_key (object ms)) ms
+  has_mark (object ms) = is_chain_link (object ms) && (has_true (codes "optional") (object ms) || has_mark_at (link_key (object ms)) ms)
   has_mark null = false
   has_mark (boolean b) = false
   has_mark (number n) = false
@@ -310,9 +311,9 @@ abbrev pub quasi : Tagging → Data → Option Plan
 quasi g d = do
   tail ← flag_at (codes "tail") d
   value ← get (codes "value") d
-  raw ← text_at (codes "raw") value
+  raw ← units_at (codes "raw") value
   c ← option_and_then cooked_by (get (codes "cooked") value)
-  require (may_be_cooked g c && is_text_of_cooked c (cooked (units_of raw))) (node_of (shape.TemplateElement tail (units_of raw) c) [])
+  require (may_be_cooked g c && is_text_of_cooked c (cooked raw)) (node_of (shape.TemplateElement tail raw c) [])
 
 abbrev pub tagged_template : Data → Option Plan
 tagged_template d = node_of shape.TaggedTemplateExpression (inner (codes "tag") shaped.an_expression ∷ child (codes "quasi") shaped.a_tagged_template ∷ [])

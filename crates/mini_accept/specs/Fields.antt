@@ -3,7 +3,7 @@ use Rattle.std.specs.Prelude.{ℕ, suc, List, [], ◌∷◌, Bool, true, false, 
 use Rattle.serde_json.specs.Data.{Data, Items, no_items, item}
 use Rattle.serde_json.specs.Find.{get, as_str, as_bool, as_array, as_null, as_object}
 use Rattle.mini_text.specs.Texts.{units_of, is_identifier_name}
-use Rattle.mini_structure.specs.WellShaped.{is_text}
+use Rattle.mini_structure.specs.WellShaped.{is_text, is_paired}
 use Rattle.mini_accept.specs.Kind.{Kind, types}
 
 infixl 10 ◌>>=◌
@@ -46,9 +46,20 @@ abbrev pub is_text_by : List ℕ → Option (List ℕ) → Bool
 is_text_by s None = false
 is_text_by s (Some r) = is_text s r
 
+-- the units of a text, if each half of a surrogate pair has the other, as in all UTF-8
+abbrev pub paired_units : List ℕ → Option (List ℕ)
+paired_units s = require (is_paired (units_of s)) (Some (units_of s))
+
+abbrev pub units_at : List ℕ → Data → Option (List ℕ)
+units_at key d = option_and_then paired_units (text_at key d)
+
 -- the field is this text
 abbrev pub has_text : List ℕ → List ℕ → Data → Bool
 has_text key s d = is_text_by s (text_at key d)
+
+-- the field is a text of these units
+abbrev pub has_units : List ℕ → List ℕ → Data → Bool
+has_units key s d = is_text_by s (option_map units_of (text_at key d))
 
 -- a flag: false where it is absent, and nothing where it is none
 abbrev pub flag_by : Option Data → Option Bool

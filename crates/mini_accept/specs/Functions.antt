@@ -8,7 +8,7 @@ use Rattle.mini_model.specs.declared.shape.Shape.TheVariants as shape
 use Rattle.mini_structure.specs.WellShaped as shaped
 use Rattle.mini_structure.specs.WellShaped.{in_body, is_same_flag}
 use Rattle.mini_accept.specs.Places.{Place, at}
-use Rattle.mini_accept.specs.Fields.{◌>>=◌, require, is_given, has_text, flag_at, list_at, is_there_with, child_has_type, has_type}
+use Rattle.mini_accept.specs.Fields.{◌>>=◌, require, is_given, has_units, flag_at, list_at, is_there_with, child_has_type, has_type}
 use Rattle.mini_accept.specs.Literals.{is_string_literal}
 use Rattle.mini_accept.specs.Standing.{is_identifier}
 use Rattle.mini_accept.specs.Words.{word_at, method_kinds}
@@ -64,7 +64,7 @@ class_body d = do
 
 -- a key that is the name or the text `constructor`
 abbrev pub names_constructor : Data → Bool
-names_constructor d = (is_identifier d && has_text (codes "name") (codes "constructor") d) || (is_string_literal d && has_text (codes "value") (codes "constructor") d)
+names_constructor d = (is_identifier d && has_units (codes "name") (codes "constructor") d) || (is_string_literal d && has_units (codes "value") (codes "constructor") d)
 
 abbrev pub is_constructor : Bool → Bool → Data → Bool
 is_constructor computed is_static d = not is_static && (not computed && is_there_with names_constructor (get (codes "key") d))

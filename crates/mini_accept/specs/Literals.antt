@@ -2,21 +2,20 @@
 use Rattle.std.specs.Prelude.{ℕ, suc, ◌+◌, ◌-◌, ◌*◌, nat_le, List, [], ◌∷◌, Bool, true, false, ◌&&◌, ◌||◌, not, Option, Some, None, option_and_then, option_map, unwrap_or, if◌then◌else◌, codes, ℤ, pos, negsuc}
 use Rattle.serde_json.specs.Data.{Data, Num, unsigned, negative, float, null, boolean, number, string, array, object}
 use Rattle.serde_json.specs.Find.{get}
-use Rattle.mini_text.specs.Texts.{units_of}
 use Rattle.mini_numerals.specs.Numerals.{max_safe_integer}
 use Rattle.mini_templates.specs.Templates.{is_digit}
 use Rattle.mini_model.specs.declared.shape.Shape.{Shape}
 use Rattle.mini_model.specs.declared.shape.Shape.TheVariants as shape
 use Rattle.mini_structure.specs.WellShaped.{is_text}
-use Rattle.mini_accept.specs.Fields.{◌>>=◌, is_given, text_at, has_type}
+use Rattle.mini_accept.specs.Fields.{◌>>=◌, is_given, text_at, paired_units, units_at, has_type}
 
 -- ---- regular expressions and BigInts
 
 abbrev pub reg_exp : Data → Option Shape
 reg_exp d = do
-  pattern ← text_at (codes "pattern") d
-  flags ← text_at (codes "flags") d
-  Some (shape.RegExpLiteral (units_of pattern) (units_of flags))
+  pattern ← units_at (codes "pattern") d
+  flags ← units_at (codes "flags") d
+  Some (shape.RegExpLiteral pattern flags)
 
 -- the value of decimal digits behind others of this value
 abbrev pub digits_from : ℕ → List ℕ → Option ℕ
@@ -42,7 +41,7 @@ value_shape None = None
 value_shape (Some null) = Some shape.NullLiteral
 value_shape (Some (boolean b)) = Some (shape.BooleanLiteral b)
 value_shape (Some (number n)) = number_shape n
-value_shape (Some (string s)) = Some (shape.StringLiteral (units_of s))
+value_shape (Some (string s)) = option_map shape.StringLiteral (paired_units s)
 value_shape (Some (array ds)) = None
 value_shape (Some (object ms)) = None
 

@@ -1,12 +1,11 @@
 -- The plans of statements (ESTree; ECMA-262, "Statements and Declarations").
 use Rattle.std.specs.Prelude.{ℕ, suc, List, [], ◌∷◌, Bool, true, false, ◌&&◌, ◌||◌, not, Option, Some, None, is_some, if◌then◌else◌, codes}
 use Rattle.serde_json.specs.Data.{Data, Items, no_items, item}
-use Rattle.mini_text.specs.Texts.{units_of}
 use Rattle.mini_model.specs.declared.shape.Shape.TheVariants as shape
 use Rattle.mini_structure.specs.WellShaped as shaped
 use Rattle.mini_structure.specs.WellShaped.{Depth, in_module, in_body, nested}
 use Rattle.mini_accept.specs.Places.{field, place, Place, at, a_directive, a_directive_text}
-use Rattle.mini_accept.specs.Fields.{◌>>=◌, require, is_given, text_at, flag_at, list_at, no_item, has_type}
+use Rattle.mini_accept.specs.Fields.{◌>>=◌, require, is_given, units_at, flag_at, list_at, no_item, has_type}
 use Rattle.mini_accept.specs.Words.{word_at, variable_kinds, source_types}
 use Rattle.mini_accept.specs.Plans.{Part, tree_at, checked, Child, one, many, Plan, node_of, child, optional, list, each, list_child}
 
@@ -14,11 +13,11 @@ use Rattle.mini_accept.specs.Plans.{Part, tree_at, checked, Child, one, many, Pl
 
 -- a directive (ECMA-262, "Directive Prologues and the Use Strict Directive")
 abbrev pub directive_text : Data → Option (List ℕ)
-directive_text d = if has_type (codes "ExpressionStatement") d then text_at (codes "directive") d else None
+directive_text d = if has_type (codes "ExpressionStatement") d then units_at (codes "directive") d else None
 
 abbrev pub directives_before : Option (List ℕ) → List (List ℕ) → List (List ℕ)
 directives_before None ss = []
-directives_before (Some s) ss = units_of s ∷ ss
+directives_before (Some s) ss = s ∷ ss
 
 -- the texts of the directives, which stand before all other statements
 abbrev pub directives_of : Items → List (List ℕ)

@@ -1,10 +1,12 @@
 //! Laws of the table, each as the contract of a function that does nothing.
-ghost use Rattle.std.specs.Prelude.{◌≡◌, ◌≤◌, ℕ, false, Some, Ok, Err};
+ghost use Rattle.std.specs.Prelude.{◌≡◌, ◌≤◌, ℕ, List, false, Some, Ok, Err, IsUtf8, IsAscii};
 ghost use Rattle.serde_json.specs.Data.{Data};
 ghost use Rattle.mini_model.specs.Tree.{Tree};
-ghost use Rattle.mini_structure.specs.WellShaped.{a_program};
+ghost use Rattle.mini_text.specs.Texts.{units_of};
+ghost use Rattle.mini_structure.specs.WellShaped.{a_program, is_text, IsWellShaped};
 ghost use Rattle.mini_accept.specs.Faults.{Fault, too_deep};
 ghost use Rattle.mini_accept.specs.Places.{at};
+ghost use Rattle.mini_accept.specs.Fields.{paired_units};
 ghost use Rattle.mini_accept.specs.Accept.{program_at, Accepts};
 ghost use Rattle.mini_accept.specs.Located.{Located};
 ghost use Rattle.mini_accept.specs.Numbered.{next_after};
@@ -32,4 +34,16 @@ pub fn faults_are_there()
 /// The numbers of a tree that is read are those from 0 on, in preorder.
 pub fn numbers_in_preorder()
     ensures { (k : ℕ) (d : Data) (t : Tree) (n : ℕ) → program_at k d ≡ Ok (t, n) → next_after t 0 ≡ Some n }
+{}
+
+/// A tree that a value is accepted as is well shaped.
+pub fn accepted_is_well_shaped()
+    ensures { (k : ℕ) (d : Data) (t : Tree) (n : ℕ) → program_at k d ≡ Ok (t, n) → IsWellShaped t }
+{}
+
+/// A text in UTF-8 is read as its units, none of which is a surrogate without a partner; these tell it from words in
+/// ASCII as its bytes do.
+pub fn texts_are_read()
+    ensures read { (s : List ℕ) → IsUtf8 s → paired_units s ≡ Some (units_of s) }
+    ensures told { (w : List ℕ) (s : List ℕ) → IsAscii w → IsUtf8 s → is_text w (units_of s) ≡ is_text w s }
 {}

@@ -1,12 +1,12 @@
 -- What was delivered of a whole input is what is due of a run that read it; and a valid input is answered.
-use Rattle.std.proofs.Common.{◌≡◌, ℕ, ◌≤◌, ◌<◌, ◌++◌, List, [], length, map, sym, ap, ◌∙◌, arith}
-use Rattle.std.specs.Prelude.{Option, Some, None, Ok, Err, IsUtf8}
+use Rattle.std.proofs.Common.{◌≡◌, ℕ, ◌≤◌, ◌++◌, List, [], length, sym, ap, ◌∙◌, arith}
+use Rattle.std.specs.Prelude.{Option, Some, None, Err}
 use Rattle.std.specs.Io.KnownBytes.{Consumes, IsAtEnd}
 use Rattle.std.proofs.lemmas.List.{length-append, append-nil}
 use Rattle.mini_tree.specs.declared.options.CompressOptions.{CompressOptions}
 use Rattle.mini_estree.specs.Accept.{program_at}
 use Rattle.mini_estree.specs.Faults.{Fault}
-use Rattle.mini_app.specs.Answer.{Change, Gave, GaveMore, HasFault, IsNotJson, IsDelivered, IsDue, IsValidInput, IsAnswered}
+use Rattle.mini_app.specs.Answer.{Change, Gave, HasFault, IsNotJson, IsDelivered, IsDue, IsValidInput, IsAnswered}
 use Rattle.mini_app.specs.Words.{NameOptions}
 use Rattle.mini_app.specs.declared.run.Status.{Status}
 use Rattle.mini_app.specs.declared.run.Status.TheVariants.{Done, BadWords, NotJson, Refused, ReadFault, WriteFault, TooLong, OutOfMemory}

@@ -8,6 +8,7 @@ pub mod memory;
 pub mod outside;
 pub mod plain;
 pub mod run;
+pub mod steps;
 #[cfg(test)]
 mod tests;
 pub mod words;

@@ -96,6 +96,7 @@ impl Model for MemSource {
 }
 
 impl MemSource {
+    /// All the bytes are still to come, at most `limit` a call; `fails` has the numbers of the calls that fail.
     pub fn new(bytes: Vec<u8>, limit: usize, fails: Vec<u32>) -> MemSource
         ensures { result ≡ record { left = bytes.items; schedule = record { limit = limit; fails = fails.items; calls = 0; faults = 0 } } }
     {
@@ -115,7 +116,7 @@ impl MemSource {
 }
 
 /// Copies the front of the bytes.
-pub fn copy_front(piece: &mut [u8], bytes: &[u8], count: usize)
+pub(crate) fn copy_front(piece: &mut [u8], bytes: &[u8], count: usize)
     requires room { count ≤ length piece.old }
     requires there { count ≤ length bytes.now }
     ensures { take count piece.new ≡ take count bytes.now }

@@ -1,11 +1,13 @@
 // What a run reads and writes.
 
-ghost use Rattle.std.specs.Prelude.{◌≡◌, ℕ, List, Option, ◌≤◌, ◌<◌, length, vec_len, IfOk, OnOk, OnErr, IsErrOf, Ok};
+ghost use Rattle.std.specs.Prelude.{◌≡◌, ◌+◌, ℕ, List, Option, ◌≤◌, ◌<◌, length, vec_len, IfOk, OnOk, OnErr, IsErrOf, Ok};
 ghost use Rattle.std.specs.Io.{ReadsAtMost, WritesAtMost};
 ghost use Rattle.std.specs.Io.KnownBytes.{ReadConsumes, WriteAppends, Consumes, Appends, IsAtEnd};
 ghost use Rattle.mini_app.specs.Causes.{Rose, HasCause, GrewWithin};
 
+use crate::steps::Steps;
 use std::alloc::Global;
+use std::sync::ledger::Ledger;
 
 /// A call outside failed.
 #[derive(Clone, Copy, PartialEq, Eq, Debug)]
@@ -59,21 +61,42 @@ pub const LIMIT: usize = 16_777_216;
 /// How many bytes are asked for at once.
 const PIECE: usize = 16_384;
 
-/// All the bytes that are left, up to `LIMIT`. Each turn of its loop takes at least one byte or ends: the measure starts at
-/// one more than `LIMIT`, and falls with each byte.
-pub fn read_all<S: Source>(alloc: Global, source: &mut S) -> Result<Vec<u8>, Stopped>
+// One call of the source, which is one step.
+fn read_step<S: Source, L: Ledger>(
+    source: &mut S,
+    piece: &mut [u8],
+    steps: &mut Steps<L>,
+) -> Result<usize, Failed>
+    ensures bound { ReadsAtMost result piece.new }
+    ensures bytes { ReadConsumes (S.left source.old) (S.left source.new) result piece.new }
+    ensures cause { HasCause (S.faults source.old) (S.faults source.new) result }
+    ensures step { steps.new ≡ steps.old + 1 }
+{
+    steps.tick();
+    source.read(piece)
+}
+
+/// All the bytes that are left, up to `LIMIT`. A step is a call of the source, and each turn of the loop makes one: each
+/// but the last takes at least one byte.
+pub fn read_all<S: Source, L: Ledger>(
+    alloc: Global,
+    source: &mut S,
+    steps: &mut Steps<L>,
+) -> Result<Vec<u8>, Stopped>
     ensures bytes { IfOk result (λ input. Consumes (S.left source.old) (S.left source.new) input.items) }
     ensures end { OnOk result (IsAtEnd (S.left source.new)) }
     ensures short { IfOk result (λ input. length input.items ≤ LIMIT) }
     ensures later { S.faults source.old ≤ S.faults source.new }
     ensures fault { IsErrOf result Stopped.Fault → Rose (S.faults source.old) (S.faults source.new) }
     ensures long { IsErrOf result Stopped.TooLong → (bytes : List ℕ) × (LIMIT < length bytes)
-        × Consumes (S.left source.old) (S.left source.new) bytes }
+        × Consumes (S.left source.old) (S.left source.new) bytes × (steps.new ≤ steps.old + length bytes) }
+    ensures turns { steps.new ≤ steps.old + 16777217 }
+    ensures one_each { IfOk result (λ input. steps.new ≤ steps.old + length input.items + 1) }
 {
     let mut piece = [0u8; PIECE];
     let mut input: Vec<u8> = Vec::new(alloc);
     'reading: while input.len() <= LIMIT {
-        let count = match source.read(&mut piece) {
+        let count = match read_step(source, &mut piece, steps) {
             Ok(count) => count,
             Err(_) => return Err(Stopped::Fault),
         };

@@ -28,6 +28,7 @@ impl Model for PlainSource {
 }
 
 impl PlainSource {
+    /// All the bytes are still to come.
     pub fn new(bytes: Vec<u8>) -> PlainSource
         ensures { result ≡ bytes.items }
     {
@@ -61,6 +62,7 @@ pub struct PlainSink {
 }
 
 impl PlainSink {
+    /// It took nothing yet.
     pub fn new() -> PlainSink
         ensures { result.taken ≡ 0 }
     {

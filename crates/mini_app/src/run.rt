@@ -1,18 +1,22 @@
 // From the bytes in to the bytes out.
 
-ghost use Rattle.std.specs.Prelude.{◌≡◌, ◌≤◌, length, IfSome, IfOk, string_bytes, false};
-ghost use Rattle.mini_app.specs.Answer.{code_of, line_of, numbers_data, answer_text, answer_data, note_text, IsOutcome, IsDelivered, IsDue, IsTold, IsValidInput, IsAnswered};
+ghost use Rattle.std.specs.Prelude.{◌≡◌, ◌<◌, ◌≤◌, ℕ, List, length, IfSome, IfOk, IsErrOf, string_bytes, false};
+ghost use Rattle.mini_app.specs.Answer.{code_of, line_of, numbers_data, answer_text, answer_data, note_text, IsOutcome, IsDelivered, IsDue, IsTold, Gave, GaveMore, IsValidInput, IsAnswered};
+ghost use Rattle.mini_app.specs.Causes.{Rose};
 ghost use Rattle.serde_json.specs.View.{view};
 ghost use Rattle.serde_json.specs.Written.{has_float};
 ghost use Rattle.mini_estree.specs.Faults.{fault_of};
 
 use crate::choice::read_options;
 use crate::outside::{Sink, Source, Stopped, read_all, write_all};
+use crate::steps::Steps;
 use crate::words::Words;
 use mini_peephole::{Minified, MinifyError, minify_estree};
 use mini_tree::{CompressOptions, Numbers};
 use serde_json::{Value, json};
 use std::alloc::{AllocError, Global};
+use std::marker::Brand;
+use std::sync::ledger::{Blank, Ledger};
 
 /// How a run ended.
 #[derive(Clone, Copy, PartialEq, Eq, Debug)]
@@ -191,6 +195,27 @@ fn deliver<K: Sink, E: Sink>(
     }
 }
 
+// Reads all, with a count of steps of its own.
+fn read_input<S: Source, L: Ledger>(
+    alloc: Global,
+    source: &mut S,
+    blank: Blank,
+) -> Result<Vec<u8>, Stopped>
+    requires name { blank.name ≡ L.name }
+    requires parts { blank.parts ≡ L.parts }
+    requires some { 0 < blank.parts }
+    ensures all { IfOk result (λ input. Gave
+        (record { before = S.left source.old; after = S.left source.new; faults_before = S.faults source.old; faults_after = S.faults source.new })
+        input.items) }
+    ensures fault { IsErrOf result Stopped.Fault → Rose (S.faults source.old) (S.faults source.new) }
+    ensures long { IsErrOf result Stopped.TooLong → (input : List ℕ) × GaveMore
+        (record { before = S.left source.old; after = S.left source.new; faults_before = S.faults source.old; faults_after = S.faults source.new })
+        input }
+{
+    let mut steps = Steps::<L>::new(blank);
+    read_all(alloc, source, &mut steps)
+}
+
 /// Reads the words and all that the source gives, minifies it, and writes the answer, or tells why there is none.
 pub fn run<S: Source, K: Sink, E: Sink>(
     alloc: Global,
@@ -210,7 +235,7 @@ pub fn run<S: Source, K: Sink, E: Sink>(
         Some(options) => options,
         None => return Status::BadWords,
     };
-    match read_all(alloc, source) {
+    match read_input::<S, Brand>(alloc, source, Blank::new(1)) {
         Ok(input) => deliver(alloc, &input, &options, sink, notes),
         Err(Stopped::Memory) => Status::OutOfMemory,
         Err(Stopped::Fault) => Status::ReadFault,

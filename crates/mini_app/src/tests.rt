@@ -32,6 +32,16 @@ const TWICE: &str = "{\"body\":1,\"type\":\"Program\",\"sourceType\":\"script\",
 
 const SHAPELESS: &str = "refused: BadShape at \n";
 
+// `!!a; if (!a) b(); else c();`, in 703 bytes
+const STATEMENTS: &str =
+    "{\"type\":\"Program\",\"sourceType\":\"script\",\"body\":[{\"type\":\"ExpressionStatement\",\"expression\":{\"type\":\"UnaryExpression\",\"operator\":\"!\",\"prefix\":true,\"argument\":{\"type\":\"UnaryExpression\",\"operator\":\"!\",\"prefix\":true,\"argument\":{\"type\":\"Identifier\",\"name\":\"a\"}}}},{\"type\":\"IfStatement\",\"test\":{\"type\":\"UnaryExpression\",\"operator\":\"!\",\"prefix\":true,\"argument\":{\"type\":\"Identifier\",\"name\":\"a\"}},\"consequent\":{\"type\":\"ExpressionStatement\",\"expression\":{\"type\":\"CallExpression\",\"callee\":{\"type\":\"Identifier\",\"name\":\"b\"},\"arguments\":[],\"optional\":false}},\"alternate\":{\"type\":\"ExpressionStatement\",\"expression\":{\"type\":\"CallExpression\",\"callee\":{\"type\":\"Identifier\",\"name\":\"c\"},\"arguments\":[],\"optional\":false}}}]}";
+
+// `!!a; a ? c() : b();`
+const STATEMENTS_ANSWER: &str =
+    "{\"kept\":[0],\"passes\":2,\"program\":{\"body\":[{\"expression\":{\"argument\":{\"argument\":{\"name\":\"a\",\"type\":\"Identifier\"},\"operator\":\"!\",\"prefix\":true,\"type\":\"UnaryExpression\"},\"operator\":\"!\",\"prefix\":true,\"type\":\"UnaryExpression\"},\"type\":\"ExpressionStatement\"},{\"expression\":{\"alternate\":{\"arguments\":[],\"callee\":{\"name\":\"b\",\"type\":\"Identifier\"},\"optional\":false,\"type\":\"CallExpression\"},\"consequent\":{\"arguments\":[],\"callee\":{\"name\":\"c\",\"type\":\"Identifier\"},\"optional\":false,\"type\":\"CallExpression\"},\"test\":{\"name\":\"a\",\"type\":\"Identifier\"},\"type\":\"ConditionalExpression\"},\"type\":\"ExpressionStatement\"}],\"sourceType\":\"script\",\"type\":\"Program\"},\"settled\":true,\"symbols\":[]}\n";
+
+const DEEP_NOTE: &str = "refused: TooDeep at /body/0/expression\n";
+
 const ROOM: usize = 1_000;
 
 fn source(
@@ -51,6 +61,49 @@ fn sink(alloc: Global, room: usize, limit: usize, fails: &[u32]) -> Result<MemSi
     }
 }
 
+/// How a run ended, and what is left, written and told.
+#[derive(Drop)]
+struct Ended {
+    status: Status,
+    input: MemSource,
+    output: MemSink,
+    notes: MemSink,
+}
+
+// A run over memory, of which nothing is said: what the tests ask of it is computed.
+fn run_over(
+    alloc: Global,
+    words: &Words,
+    mut input: MemSource,
+    mut output: MemSink,
+    mut notes: MemSink,
+) -> Ended {
+    let status = run(alloc, words, &mut input, &mut output, &mut notes);
+    Ended {
+        status,
+        input,
+        output,
+        notes,
+    }
+}
+
+/// Which calls of the source and of the sink fail, how many bytes another moves, and for how many the sink has room.
+#[derive(Clone, Copy)]
+struct Faults<'a> {
+    source: &'a [u32],
+    sink: &'a [u32],
+    limit: usize,
+    room: usize,
+}
+
+// A run without words, whose notes never fail.
+fn run_input(alloc: Global, bytes: &[u8], faults: Faults) -> Result<Ended, Fail> {
+    let input = source(alloc, bytes, faults.limit, faults.source)?;
+    let output = sink(alloc, faults.room, faults.limit, faults.sink)?;
+    let notes = sink(alloc, ROOM, faults.limit, &[])?;
+    Ok(run_over(alloc, &Words::new(alloc), input, output, notes))
+}
+
 /// What a run reads, how it ends, and what is written and told.
 #[derive(Clone, Copy)]
 struct Case<'a> {
@@ -61,106 +114,183 @@ struct Case<'a> {
 }
 
 fn check(rt: &impl Abort, alloc: Global, case: &Case, limit: usize) -> Result<(), Fail> {
-    let mut input = source(alloc, case.input, limit, &[])?;
-    let mut output = sink(alloc, ROOM, limit, &[])?;
-    let mut notes = sink(alloc, ROOM, limit, &[])?;
-    let words = Words::new(alloc);
-    let status = run(alloc, &words, &mut input, &mut output, &mut notes);
-    assert_eq!(rt; status, case.status);
-    assert_eq!(rt; output.written(), case.written.as_bytes());
-    assert_eq!(rt; notes.written(), case.told.as_bytes());
-    assert!(rt; input.left().is_empty());
+    let faults = Faults {
+        source: &[],
+        sink: &[],
+        limit,
+        room: ROOM,
+    };
+    let ended = run_input(alloc, case.input, faults)?;
+    assert_eq!(rt; ended.status, case.status);
+    assert_eq!(rt; ended.output.written(), case.written.as_bytes());
+    assert_eq!(rt; ended.notes.written(), case.told.as_bytes());
+    assert!(rt; ended.input.left().is_empty());
+    Ok(())
+}
+
+fn check_each(rt: &impl Abort, alloc: Global, case: Case) -> Result<(), Fail> {
+    for limit in [0, 1, 10, usize::MAX] {
+        check(rt, alloc, &case, limit)?;
+    }
+    Ok(())
+}
+
+fn check_not_json(rt: &impl Abort, alloc: Global, input: &[u8]) -> Result<(), Fail> {
+    let case = Case {
+        input,
+        status: Status::NotJson,
+        written: "",
+        told: "",
+    };
+    check_each(rt, alloc, case)
+}
+
+fn check_done(rt: &impl Abort, alloc: Global, input: &str) -> Result<(), Fail> {
+    let case = Case {
+        input: input.as_bytes(),
+        status: Status::Done,
+        written: ANSWER,
+        told: "",
+    };
+    check_each(rt, alloc, case)
+}
+
+fn check_refused(rt: &impl Abort, alloc: Global, input: &str, told: &str) -> Result<(), Fail> {
+    let case = Case {
+        input: input.as_bytes(),
+        status: Status::Refused,
+        written: "",
+        told,
+    };
+    check_each(rt, alloc, case)
+}
+
+#[test]
+fn an_empty_script_has_its_answer(rt: HostRuntime) -> Result<(), Fail> {
+    for input in [SCRIPT, TWICE] {
+        check_done(&rt, rt.alloc(), input)?;
+    }
     Ok(())
 }
 
 #[test]
-fn each_input_has_its_status(rt: HostRuntime) -> Result<(), Fail> {
+fn other_bytes_are_no_json(rt: HostRuntime) -> Result<(), Fail> {
     let mut deep = Vec::from_slice(rt.alloc(), &[b'['; 128])?;
     deep.extend_from_slice(&[b']'; 128])?;
-    let cases = [
-        (SCRIPT.as_bytes(), Status::Done, ANSWER, ""),
-        (MODULE.as_bytes(), Status::Refused, "", NOTE),
-        (&[], Status::NotJson, "", ""),
-        (&[b'"', 255, b'"'], Status::NotJson, "", ""),
-        (deep.as_slice(), Status::NotJson, "", ""),
-        (b"\"\\ud800\"", Status::NotJson, "", ""),
-        (b"1e999", Status::NotJson, "", ""),
-        (TWICE.as_bytes(), Status::Done, ANSWER, ""),
-        (b"-1", Status::Refused, "", SHAPELESS),
-        (b"1.0", Status::Refused, "", SHAPELESS),
-        (b"9007199254740991", Status::Refused, "", SHAPELESS),
-        (b"9007199254740992", Status::Refused, "", SHAPELESS),
-    ];
-    for (input, status, written, told) in cases {
-        let case = Case {
-            input,
-            status,
-            written,
-            told,
-        };
-        for limit in [0, 1, 10, usize::MAX] {
-            check(&rt, rt.alloc(), &case, limit)?;
-        }
+    check_not_json(&rt, rt.alloc(), deep.as_slice())?;
+    check_not_json(&rt, rt.alloc(), &[b'"', 255, b'"'])?;
+    for input in ["", "\"\\ud800\"", "1e999"] {
+        check_not_json(&rt, rt.alloc(), input.as_bytes())?;
     }
     Ok(())
 }
 
-/// A run of the script in pieces of 10 bytes, whose calls of these numbers fail.
-fn run_script(
-    alloc: Global,
-    source_fails: &[u32],
-    sink_fails: &[u32],
-    room: usize,
-) -> Result<(Status, MemSink), Fail> {
-    let mut input = source(alloc, SCRIPT.as_bytes(), 10, source_fails)?;
-    let mut output = sink(alloc, room, 10, sink_fails)?;
-    let mut notes = sink(alloc, ROOM, 10, &[])?;
-    let words = Words::new(alloc);
-    let status = run(alloc, &words, &mut input, &mut output, &mut notes);
-    Ok((status, output))
-}
-
-// The script takes 6 calls to read, the last of which gives the end, and the answer 12 to write.
 #[test]
-fn each_failing_call_shows(rt: HostRuntime) -> Result<(), Fail> {
-    for call in 1..7 {
-        let (status, output) = run_script(rt.alloc(), &[call], &[], ROOM)?;
-        assert_eq!(rt; status, Status::ReadFault, "call {call}");
-        assert!(rt; output.written().is_empty(), "call {call}");
+fn other_json_is_refused(rt: HostRuntime) -> Result<(), Fail> {
+    check_refused(&rt, rt.alloc(), MODULE, NOTE)?;
+    for input in ["-1", "1.0", "9007199254740991", "9007199254740992"] {
+        check_refused(&rt, rt.alloc(), input, SHAPELESS)?;
     }
-    for before in 0..12 {
-        let (status, output) = run_script(rt.alloc(), &[], &[before + 1], ROOM)?;
-        assert_eq!(rt; status, Status::WriteFault, "after {before} calls");
-        let part = ANSWER.as_bytes().get(..10 * before as usize);
-        assert_eq!(rt; Some(output.written()), part, "after {before} calls");
-    }
-    for room in 0..ANSWER.len() {
-        let (status, output) = run_script(rt.alloc(), &[], &[], room)?;
-        assert_eq!(rt; status, Status::WriteFault, "room {room}");
-        assert_eq!(rt; output.written(), &ANSWER.as_bytes()[..room], "room {room}");
-    }
-    let (status, output) = run_script(rt.alloc(), &[7], &[13], ANSWER.len())?;
-    assert_eq!(rt; status, Status::Done);
-    assert_eq!(rt; output.written(), ANSWER.as_bytes());
     Ok(())
+}
+
+// A run of the empty script whose calls of these numbers fail, where each other moves 10 bytes.
+fn run_script(alloc: Global, source: &[u32], sink: &[u32], room: usize) -> Result<Ended, Fail> {
+    let faults = Faults {
+        source,
+        sink,
+        limit: 10,
+        room,
+    };
+    run_input(alloc, SCRIPT.as_bytes(), faults)
+}
+
+// It takes 6 calls to read, the last of which gives the end.
+#[test]
+fn each_failing_read_shows(rt: HostRuntime) -> Result<(), Fail> {
+    for call in 1..7 {
+        let ended = run_script(rt.alloc(), &[call], &[], ROOM)?;
+        assert_eq!(rt; ended.status, Status::ReadFault, "call {call}");
+        assert!(rt; ended.output.written().is_empty(), "call {call}");
+    }
+    Ok(())
+}
+
+// Its answer takes 12 calls to write.
+#[test]
+fn each_failing_write_shows(rt: HostRuntime) -> Result<(), Fail> {
+    for before in 0..12 {
+        let ended = run_script(rt.alloc(), &[], &[before + 1], ROOM)?;
+        assert_eq!(rt; ended.status, Status::WriteFault, "after {before} calls");
+        let part = ANSWER.as_bytes().get(..10 * before as usize);
+        assert_eq!(rt; Some(ended.output.written()), part, "after {before} calls");
+    }
+    Ok(())
+}
+
+#[test]
+fn each_room_that_is_too_small_shows(rt: HostRuntime) -> Result<(), Fail> {
+    for room in 0..ANSWER.len() {
+        let ended = run_script(rt.alloc(), &[], &[], room)?;
+        assert_eq!(rt; ended.status, Status::WriteFault, "room {room}");
+        assert_eq!(rt;
+            Some(ended.output.written()),
+            ANSWER.as_bytes().get(..room),
+            "room {room}"
+        );
+    }
+    Ok(())
+}
+
+#[test]
+fn later_calls_are_not_made(rt: HostRuntime) -> Result<(), Fail> {
+    let ended = run_script(rt.alloc(), &[7], &[13], ANSWER.len())?;
+    assert_eq!(rt; ended.status, Status::Done);
+    assert_eq!(rt; ended.output.written(), ANSWER.as_bytes());
+    Ok(())
+}
+
+// The statements take 9 calls to read at 100 bytes a call, the last of which gives the end.
+#[test]
+fn each_failing_read_of_statements_shows(rt: HostRuntime) -> Result<(), Fail> {
+    for call in 1..10 {
+        let ended = run_statements(rt.alloc(), call)?;
+        assert_eq!(rt; ended.status, Status::ReadFault, "call {call}");
+        assert!(rt; ended.output.written().is_empty(), "call {call}");
+    }
+    let ended = run_statements(rt.alloc(), 10)?;
+    assert_eq!(rt; ended.status, Status::Done);
+    assert_eq!(rt; ended.output.written(), STATEMENTS_ANSWER.as_bytes());
+    Ok(())
+}
+
+fn run_statements(alloc: Global, call: u32) -> Result<Ended, Fail> {
+    let faults = Faults {
+        source: &[call],
+        sink: &[],
+        limit: 100,
+        room: ROOM,
+    };
+    run_input(alloc, STATEMENTS.as_bytes(), faults)
+}
+
+// A run of the module, at whose notes the call of this number fails.
+fn run_module(alloc: Global, call: u32) -> Result<Ended, Fail> {
+    let input = source(alloc, MODULE.as_bytes(), 10, &[])?;
+    let output = sink(alloc, ROOM, 10, &[])?;
+    let notes = sink(alloc, ROOM, 10, &[call])?;
+    Ok(run_over(alloc, &Words::new(alloc), input, output, notes))
 }
 
 #[test]
 fn notes_may_fail(rt: HostRuntime) -> Result<(), Fail> {
-    let alloc = rt.alloc();
-    let mut input = source(alloc, MODULE.as_bytes(), 10, &[])?;
-    let mut output = sink(alloc, ROOM, 10, &[])?;
-    let mut notes = sink(alloc, ROOM, 10, &[2])?;
-    let words = Words::new(alloc);
-    let status = run(alloc, &words, &mut input, &mut output, &mut notes);
-    assert_eq!(rt; status, Status::Refused);
-    assert!(rt; output.written().is_empty());
-    assert_eq!(rt; notes.written(), b"refused: U".as_slice());
-    let mut input = source(alloc, MODULE.as_bytes(), 10, &[])?;
-    let mut notes = sink(alloc, ROOM, 10, &[1])?;
-    let status = run(alloc, &words, &mut input, &mut output, &mut notes);
-    assert_eq!(rt; status, Status::Refused);
-    assert!(rt; output.written().is_empty() && notes.written().is_empty());
+    for before in 0..3 {
+        let ended = run_module(rt.alloc(), before + 1)?;
+        assert_eq!(rt; ended.status, Status::Refused);
+        assert!(rt; ended.output.written().is_empty());
+        let part = NOTE.as_bytes().get(..10 * before as usize);
+        assert_eq!(rt; Some(ended.notes.written()), part, "after {before} calls");
+    }
     Ok(())
 }
 
@@ -198,13 +328,13 @@ const BAD_LINES: [&str; 20] = [
 ];
 
 fn check_bad(rt: &impl Abort, alloc: Global, words: &Words) -> Result<(), Fail> {
-    let mut input = source(alloc, SCRIPT.as_bytes(), 10, &[])?;
-    let mut output = sink(alloc, ROOM, 10, &[])?;
-    let mut notes = sink(alloc, ROOM, 10, &[])?;
-    let status = run(alloc, words, &mut input, &mut output, &mut notes);
-    assert_eq!(rt; status, Status::BadWords);
-    assert_eq!(rt; input.left(), SCRIPT.as_bytes());
-    assert!(rt; output.written().is_empty() && notes.written().is_empty());
+    let input = source(alloc, SCRIPT.as_bytes(), 10, &[])?;
+    let output = sink(alloc, ROOM, 10, &[])?;
+    let notes = sink(alloc, ROOM, 10, &[])?;
+    let ended = run_over(alloc, words, input, output, notes);
+    assert_eq!(rt; ended.status, Status::BadWords);
+    assert_eq!(rt; ended.input.left(), SCRIPT.as_bytes());
+    assert!(rt; ended.output.written().is_empty() && ended.notes.written().is_empty());
     Ok(())
 }
 
@@ -257,26 +387,22 @@ fn words_name_options(rt: HostRuntime) -> Result<(), Fail> {
     Ok(())
 }
 
-fn run_at_depth(alloc: Global, words: &str, notes: &mut MemSink) -> Result<(Status, usize), Fail> {
-    let mut input = source(alloc, NAME.as_bytes(), 100, &[])?;
-    let mut output = sink(alloc, ROOM, 100, &[])?;
-    let words = words_of(alloc, words)?;
-    let status = run(alloc, &words, &mut input, &mut output, notes);
-    Ok((status, output.written().len()))
+fn run_at_depth(alloc: Global, line: &str) -> Result<Ended, Fail> {
+    let input = source(alloc, NAME.as_bytes(), 100, &[])?;
+    let output = sink(alloc, ROOM, 100, &[])?;
+    let notes = sink(alloc, ROOM, 100, &[])?;
+    Ok(run_over(alloc, &words_of(alloc, line)?, input, output, notes))
 }
 
 #[test]
 fn depth_is_the_words(rt: HostRuntime) -> Result<(), Fail> {
-    let alloc = rt.alloc();
-    let mut notes = sink(alloc, ROOM, 100, &[])?;
-    let (status, count) = run_at_depth(alloc, "--max-depth=3", &mut notes)?;
-    assert!(rt; status == Status::Done && 100 < count && notes.written().is_empty());
-    let (status, count) = run_at_depth(alloc, "--max-depth=2", &mut notes)?;
-    assert!(rt; status == Status::Refused && count == 0);
-    assert_eq!(rt;
-        notes.written(),
-        b"refused: TooDeep at /body/0/expression\n".as_slice()
-    );
+    let ended = run_at_depth(rt.alloc(), "--max-depth=3")?;
+    assert_eq!(rt; ended.status, Status::Done);
+    assert!(rt; 100 < ended.output.written().len() && ended.notes.written().is_empty());
+    let ended = run_at_depth(rt.alloc(), "--max-depth=2")?;
+    assert_eq!(rt; ended.status, Status::Refused);
+    assert!(rt; ended.output.written().is_empty());
+    assert_eq!(rt; ended.notes.written(), DEEP_NOTE.as_bytes());
     Ok(())
 }
 

@@ -1,5 +1,5 @@
-use Rattle.std.proofs.Common.{◌≡◌, ◌≢◌, map, take, drop, length, get_or, suc, refl, sym, ◌∙◌, arith}
-use Rattle.std.specs.Prelude.{Option, None, string_bytes}
+use Rattle.std.proofs.Common.{◌≡◌, ◌≢◌, map, take, drop, get_or, suc, refl, sym, ◌∙◌, arith}
+use Rattle.std.specs.Prelude.{None, string_bytes}
 use Rattle.std.proofs.lemmas.Grind.{common_steps}
 use Rattle.std.proofs.lemmas.List.{length-map, length-set}
 use Rattle.mini_app.specs.Words.{spelling, option_of}
