@@ -1,6 +1,6 @@
 -- Whether a chain has a mark, link by link.
 use Rattle.std.proofs.Common.{◌≡◌, ℕ, ◌+◌, ◌<◌, ◌≤◌, List, [], ◌∷◌, Bool, true, false, true≢false, refl, sym, ap, ◌∙◌, Some, None, Ordering, Less, Equal, Greater, nat_cmp, is_eq, arith}
-use Rattle.std.specs.Prelude.{◌||◌, if◌then◌else◌, suc}
+use Rattle.std.specs.Prelude.{◌&&◌, ◌||◌, if◌then◌else◌, suc, codes}
 use Rattle.std.specs.Cmp.Lexicographic.{slice_cmp}
 use Rattle.std.specs.Ordering.{match_ordering}
 use Rattle.std.proofs.lemmas.Bool.{eq-eqb}
@@ -10,7 +10,8 @@ use Rattle.serde_json.specs.Data.{Data, null, boolean, number, string, array, ob
 use Rattle.serde_json.specs.Find.{get, get_member}
 use Rattle.mini_structure.specs.WellShaped.{is_text}
 use Rattle.mini_accept.specs.Fields.{is_there_with}
-use Rattle.mini_accept.specs.Expressions.{link_key, is_marked, has_mark, has_mark_at}
+use Rattle.mini_accept.specs.Standing.{has_true}
+use Rattle.mini_accept.specs.Expressions.{link_key, is_chain_link, has_mark, has_mark_at}
 use Rattle.mini_defects.proofs.Strict.{is_text-same}
 
 -- ---- sizes
@@ -74,19 +75,23 @@ marks : (k : List ℕ) (ms : Members) → has_mark_at k ms ≡ is_there_with has
 marks k no_members = refl
 marks k (member l e ms) = mark_at (slice_cmp nat_cmp k l) k l e ms refl (marks k ms)
 
-pub marks_of : (d : Data) → has_mark d ≡ (is_marked d || is_there_with has_mark (get (link_key d) d))
+pub marks_of : (d : Data) → has_mark d ≡ (is_chain_link d && (has_true (codes "optional") d || is_there_with has_mark (get (link_key d) d)))
 marks_of null = refl
 marks_of (boolean b) = refl
 marks_of (number n) = refl
 marks_of (string s) = refl
 marks_of (array ds) = refl
-marks_of (object ms) = ap (λ b. is_marked (object ms) || b) (marks (link_key (object ms)) ms)
+marks_of (object ms) = ap (λ b. is_chain_link (object ms) && (has_true (codes "optional") (object ms) || b)) (marks (link_key (object ms)) ms)
 
-pub mark_here : (d : Data) → is_marked d ≡ true → has_mark d ≡ true
-mark_here d is = marks_of d ∙ rw is refl
+pub mark_here : (d : Data) → is_chain_link d ≡ true → has_true (codes "optional") d ≡ true → has_mark d ≡ true
+mark_here d linked is = marks_of d ∙ rw (linked, is) refl
 
-pub mark_below : (d e : Data) → is_marked d ≡ false → get (link_key d) d ≡ Some e → has_mark d ≡ has_mark e
-mark_below d e is found = marks_of d ∙ rw (is, found) refl
+pub mark_below : (d e : Data) → is_chain_link d ≡ true → has_true (codes "optional") d ≡ false → get (link_key d) d ≡ Some e → has_mark d ≡ has_mark e
+mark_below d e linked is found = marks_of d ∙ rw (linked, is, found) refl
 
-pub no_mark : (d : Data) → is_marked d ≡ false → get (link_key d) d ≡ None → has_mark d ≡ false
-no_mark d is found = marks_of d ∙ rw (is, found) refl
+pub no_mark : (d : Data) → is_chain_link d ≡ true → has_true (codes "optional") d ≡ false → get (link_key d) d ≡ None → has_mark d ≡ false
+no_mark d linked is found = marks_of d ∙ rw (linked, is, found) refl
+
+-- what is no link ends the chain
+pub off_chain : (d : Data) → is_chain_link d ≡ false → has_mark d ≡ false
+off_chain d is = marks_of d ∙ rw is refl

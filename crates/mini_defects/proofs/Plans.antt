@@ -3,14 +3,13 @@ use Rattle.std.proofs.Common.{◌≡◌, ℕ, List, [], ◌∷◌, Bool, true, f
 use Rattle.std.specs.Prelude.{◌&&◌, ◌||◌, not, is_some, option_map, option_and_then, if◌then◌else◌, codes, ℤ}
 use Rattle.serde_json.specs.Data.{Data}
 use Rattle.serde_json.specs.Find.{get}
-use Rattle.mini_text.specs.Texts.{units_of}
 use Rattle.mini_templates.specs.Templates.{cooked}
 use Rattle.mini_model.specs.declared.operator.UnaryOperator.{UnaryOperator}
 use Rattle.mini_model.specs.declared.shape.Shape.TheVariants as shape
 use Rattle.mini_structure.specs.WellShaped as shaped
 use Rattle.mini_structure.specs.WellShaped.{Class, Tagging, is_strict_in, is_text_of_cooked}
 use Rattle.mini_accept.specs.Places.{Place, at}
-use Rattle.mini_accept.specs.Fields.{◌>>=◌, require, name_at, text_at, flag_at}
+use Rattle.mini_accept.specs.Fields.{◌>>=◌, require, name_at, units_at, flag_at}
 use Rattle.mini_accept.specs.Plans.{Child, Plan, node_of, child, inner, list_child}
 use Rattle.mini_accept.specs.Expressions.{identifier, identifier_in, identifier_as, spread, is_inner_argument, unary_plan, quasi, cooked_by, may_be_cooked, argument, is_link, link_class, plain_call}
 use Rattle.mini_defects.specs.Placed.{is_below, is_child_below, are_below, holds}
@@ -67,16 +66,16 @@ unary_holds strict d o (Some n) = and_true _
 
 -- ---- pieces of templates
 
-required : (strict : Bool) (d : Data) (b tail : Bool) (raw : List ℕ) (c : Option (List ℕ)) → holds strict d (require b (node_of (shape.TemplateElement tail (units_of raw) c) [])) ≡ is_some (require b (Some raw))
+required : (strict : Bool) (d : Data) (b tail : Bool) (raw : List ℕ) (c : Option (List ℕ)) → holds strict d (require b (node_of (shape.TemplateElement tail raw c) [])) ≡ is_some (require b (Some raw))
 required strict d true tail raw c = refl
 required strict d false tail raw c = refl
 
 texts_hold : (strict : Bool) (d : Data) (g : Tagging) (tail : Bool) (r : Option (List ℕ)) (t : Option (Option (List ℕ)))
-    → holds strict d (r >>= λ raw. t >>= λ c. require (may_be_cooked g c && is_text_of_cooked c (cooked (units_of raw))) (node_of (shape.TemplateElement tail (units_of raw) c) []))
-    ≡ is_some (r >>= λ raw. t >>= λ c. require (may_be_cooked g c && is_text_of_cooked c (cooked (units_of raw))) (Some raw))
+    → holds strict d (r >>= λ raw. t >>= λ c. require (may_be_cooked g c && is_text_of_cooked c (cooked raw)) (node_of (shape.TemplateElement tail raw c) []))
+    ≡ is_some (r >>= λ raw. t >>= λ c. require (may_be_cooked g c && is_text_of_cooked c (cooked raw)) (Some raw))
 texts_hold strict d g tail None t = refl
 texts_hold strict d g tail (Some raw) None = refl
-texts_hold strict d g tail (Some raw) (Some c) = required strict d (may_be_cooked g c && is_text_of_cooked c (cooked (units_of raw))) tail raw c
+texts_hold strict d g tail (Some raw) (Some c) = required strict d (may_be_cooked g c && is_text_of_cooked c (cooked raw)) tail raw c
 
 after_flag : (strict : Bool) (d : Data) (b : Bool) (flag : Option Bool) (f : Bool → Option Plan) → is_some flag ≡ true → ((tail : Bool) → holds strict d (f tail) ≡ b) → holds strict d (flag >>= f) ≡ b
 after_flag strict d b None f e h = cc
@@ -85,7 +84,7 @@ after_flag strict d b (Some tail) f e h = h tail
 pub quasi_holds : (strict : Bool) (d : Data) (g : Tagging) (texts : Data) → is_some (flag_at (codes "tail") d) ≡ true → get (codes "value") d ≡ Some texts → holds strict d (quasi g d) ≡ is_some (text_of_quasi g texts)
 quasi_holds strict d g texts flag is =
     after_flag strict d (is_some (text_of_quasi g texts)) (flag_at (codes "tail") d) _ flag
-    (λ tail. rw is (texts_hold strict d g tail (text_at (codes "raw") texts) (option_and_then cooked_by (get (codes "cooked") texts))))
+    (λ tail. rw is (texts_hold strict d g tail (units_at (codes "raw") texts) (option_and_then cooked_by (get (codes "cooked") texts))))
 
 -- ---- calls
 

@@ -3,7 +3,7 @@
 ghost use Rattle.std.specs.Prelude.{◌≡◌, Bool, not, ◌||◌, [], ◌∷◌, codes};
 ghost use Rattle.serde_json.specs.View.{view};
 ghost use Rattle.mini_accept.specs.Expressions as expression;
-ghost use Rattle.mini_accept.specs.Expressions.{is_link, link_class, link_key, is_marked, has_mark};
+ghost use Rattle.mini_accept.specs.Expressions.{is_link, link_class, link_key, is_chain_link, has_mark};
 ghost use Rattle.mini_accept.specs.Plans.{child};
 ghost use Rattle.mini_structure.specs.WellShaped.{an_expression};
 ghost use Rattle.mini_defects.specs.Placed.{are_below, holds};
@@ -171,26 +171,29 @@ fn link_key(value: &Value) -> &'static str
     }
 }
 
-// Whether the node is a link that is optional.
-fn is_marked(value: &Value) -> bool
-    ensures { result ≡ is_marked (view value.now) }
+// Whether the node is a call or a member.
+fn is_chain_link(value: &Value) -> bool
+    ensures { result ≡ is_chain_link (view value.now) }
 {
-    !link_key(value).is_empty() && has_true("optional", value)
+    !link_key(value).is_empty()
 }
 
 // Whether some link of the chain is optional.
-#[tactic(auto, using(crate::proofs::Marks::mark_here, crate::proofs::Marks::mark_below, crate::proofs::Marks::no_mark, crate::proofs::Marks::below_is_smaller))]
+#[tactic(auto, using(crate::proofs::Marks::mark_here, crate::proofs::Marks::mark_below, crate::proofs::Marks::no_mark, crate::proofs::Marks::off_chain, crate::proofs::Marks::below_is_smaller))]
 fn has_mark(value: &Value) -> bool
     ensures { result ≡ has_mark (view value.now) }
 {
     let mut link = value;
-    'links: while !is_marked(link) {
+    'links: while is_chain_link(link) {
+        if has_true("optional", link) {
+            return true;
+        }
         match link.get(link_key(link)) {
             None => return false,
             Some(next) => link = next,
         }
     }
-    true
+    false
 }
 
 /// `ChainExpression`: some link of it is optional.

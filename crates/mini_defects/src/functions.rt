@@ -1,8 +1,10 @@
 // Functions and classes (ESTree; ECMA-262, "Functions and Classes").
 
-ghost use Rattle.std.specs.Prelude.{◌≡◌};
+ghost use Rattle.std.specs.Prelude.{◌≡◌, codes};
 ghost use Rattle.serde_json.specs.View.{view};
-ghost use Rattle.mini_structure.specs.WellShaped.{has_use_strict};
+ghost use Rattle.mini_text.specs.Texts.{units_of};
+ghost use Rattle.mini_structure.specs.WellShaped.{has_use_strict, is_text};
+ghost use Rattle.mini_accept.specs.Fields.{has_units};
 ghost use Rattle.mini_accept.specs.Functions as function;
 ghost use Rattle.mini_accept.specs.Functions.{directives_in, directives_below, is_default_export, is_named, names_constructor, is_constructor, has_its_kind};
 ghost use Rattle.mini_defects.specs.Placed.{holds};
@@ -10,7 +12,7 @@ ghost use Rattle.mini_defects.specs.Views.{place_of};
 
 use crate::items::{Items, list_stands};
 use crate::literals::is_string_literal;
-use crate::look::{child_has_type, flag_at, has_flag, has_text, has_type, is_given, list_at};
+use crate::look::{child_has_type, flag_at, has_flag, has_type, is_given, list_at, text_at};
 use crate::place::{Class, Depth, Place};
 use crate::placed::{child_stands, key_stands, optional_stands};
 use crate::standing::is_identifier;
@@ -115,12 +117,29 @@ pub fn class_body(strict: bool, value: &Value) -> bool
     list_stands(strict, Items::Each(Class::ClassMember), "body", value)
 }
 
+// Whether the text is `constructor`, unit by unit.
+fn is_constructor_text(text: &str) -> bool
+    ensures { result ≡ is_text (codes "constructor") (units_of text.now) }
+{
+    text == "constructor"
+}
+
+// Whether the field is the text `constructor`.
+fn says_constructor(key: &str, value: &Value) -> bool
+    ensures { result ≡ has_units key.now (codes "constructor") (view value.now) }
+{
+    match text_at(key, value) {
+        None => false,
+        Some(text) => is_constructor_text(text),
+    }
+}
+
 // Whether a key is the name or the text `constructor`.
 fn names_constructor(key: &Value) -> bool
     ensures { result ≡ names_constructor (view key.now) }
 {
-    (is_identifier(key) && has_text("name", "constructor", key))
-        || (is_string_literal(key) && has_text("value", "constructor", key))
+    (is_identifier(key) && says_constructor("name", key))
+        || (is_string_literal(key) && says_constructor("value", key))
 }
 
 // Whether the key makes a method that isn't static the constructor (ECMA-262, ConstructorMethod).

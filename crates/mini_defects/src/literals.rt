@@ -25,6 +25,7 @@ pub enum LiteralValue<'v> {
 }
 
 // What a regular expression is, by its pattern and flags.
+#[tactic(auto, using(mini_accept::proofs::Texts::text_read))]
 fn reg_exp(value: &Value) -> Option<LiteralValue<'_>>
     ensures { option_map shape_of result ≡ reg_exp (view value.now) }
 {

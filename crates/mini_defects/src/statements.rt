@@ -21,8 +21,9 @@ use serde_json::Value;
 // ---- bodies
 
 /// The text of a directive (ECMA-262, "Directive Prologues and the Use Strict Directive").
+#[tactic(auto, using(mini_accept::proofs::Texts::text_read))]
 pub fn directive_text(value: &Value) -> Option<&str>
-    ensures { option_map (λ s. s.now) result ≡ directive_text (view value.now) }
+    ensures { option_map (λ s. units_of s.now) result ≡ directive_text (view value.now) }
 {
     if has_type("ExpressionStatement", value) {
         text_at("directive", value)

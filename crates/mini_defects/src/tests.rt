@@ -40,7 +40,7 @@ const STATEMENTS: [(&str, &str); 12] = [
 ];
 
 // Expressions, each with its defect.
-const EXPRESSIONS: [(&str, &str); 12] = [
+const EXPRESSIONS: [(&str, &str); 13] = [
     (r#"{"type":"Identifier","name":"é$1"}"#, "none"),
     (r#"{"type":"Identifier","name":"1a"}"#, "bad shape"),
     (r#"{"type":"Literal","value":1.5}"#, "unsupported"),
@@ -71,6 +71,10 @@ const EXPRESSIONS: [(&str, &str); 12] = [
     (
         r#"{"type":"ChainExpression","expression":{"type":"CallExpression","callee":{"type":"MemberExpression","optional":true}}}"#,
         "none",
+    ),
+    (
+        r#"{"type":"ChainExpression","expression":{"type":"MemberExpression","object":{"type":"ThisExpression","":{"type":"MemberExpression","optional":true}}}}"#,
+        "bad shape",
     ),
     (
         r#"{"type":"ChainExpression","expression":{"type":"CallExpression","callee":{"type":"ThisExpression","optional":true}}}"#,
