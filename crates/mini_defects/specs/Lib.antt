@@ -1,0 +1,10 @@
+pub mod Views
+pub mod Literals
+pub mod Unread
+pub mod Placed
+pub mod Lists
+pub mod Bodies
+pub mod Names
+pub mod Cooking
+pub mod Templates
+pub mod Own
