@@ -1,10 +1,10 @@
-ghost use Rattle.std.specs.Prelude.{◌≡◌, [], ◌∷◌, ◌++◌, ◌<◌, ◌≤◌, ◌==◌, length, slice_get, insert, remove, OnOk, OnErr, OnSome, MatchOption};
+ghost use Rattle.std.specs.Prelude.{◌≡◌, [], ◌∷◌, ◌++◌, ◌<◌, ◌≤◌, ◌==◌, length, slice_get, insert, remove, IfErr, OnOk, OnErr, OnSome, MatchOption};
 ghost use Rattle.std.specs.Option.{option_copied};
 ghost use Rattle.std.specs.Borrow.{sem};
 ghost use Rattle.mini_text.specs.Lends.{LendsItem, lent_value};
 
 use crate::OutOfMemory;
-use std::alloc::Global;
+use std::alloc::{AllocFailed, Global};
 use std::marker::Model;
 
 /// A list that owns its items and keeps the allocator that it was made with. A contract sees the list of the items.
@@ -74,6 +74,25 @@ impl<T> OwnedList<T> {
         ensures value { lent_value result ≡ slice_get self.old at }
     {
         self.items.get_mut(at)
+    }
+
+    /// Puts the item last. Where there is no memory the list is as it was, and the item comes back.
+    pub fn try_push(&mut self, item: T) -> Result<(), AllocFailed<T>>
+        ensures ok { OnOk result (self.new ≡ self.old ++ item ∷ []) }
+        ensures err { OnErr result (self.new ≡ self.old) }
+        ensures comes_back { IfErr result (λ refused. refused.value ≡ item) }
+    {
+        self.items.push(item)
+    }
+
+    /// Puts the item at a place up to the length. Where there is no memory the list is as it was, and the item comes back.
+    pub fn try_insert(&mut self, at: usize, item: T) -> Result<(), AllocFailed<T>>
+        requires { at ≤ length self.old }
+        ensures ok { OnOk result (self.new ≡ insert self.old at item) }
+        ensures err { OnErr result (self.new ≡ self.old) }
+        ensures comes_back { IfErr result (λ refused. refused.value ≡ item) }
+    {
+        self.items.insert(at, item)
     }
 
     /// Takes the last item out; None exactly where the list is empty.

@@ -59,5 +59,9 @@ fn lists(rt: HostRuntime) -> Result<(), Fail> {
     assert_eq!(rt; numbers.pop(), Some(3));
     assert_eq!(rt; numbers.len(), 1);
     assert_eq!(rt; numbers.as_slice(), [7].as_slice());
+
+    assert!(rt; numbers.try_push(9).is_ok());
+    assert!(rt; numbers.try_insert(1, 8).is_ok());
+    assert_eq!(rt; numbers.as_slice(), [7, 8, 9].as_slice());
     Ok(())
 }
