@@ -1,6 +1,4 @@
-//! Building trees and letting them go: the calls that may have to drop a node, over types that are not generic.
-//!
-//! The drop of any node is proved over all types of nodes. It is proved here, once; the crates above call these.
+//! Building trees and letting them go: the calls that may have to let a node go, over types that are not generic.
 #![tactic(auto)]
 
 mod boxes;

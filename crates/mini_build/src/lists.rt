@@ -13,6 +13,7 @@ use mini_ast::{
     InnerArgument, InnerArguments, InnerExpression, InnerExpressions, ObjectPropertyKind,
     Properties, Statement, Statements, SwitchCase, VariableDeclarator,
 };
+use mini_drop::{Gone, let_go};
 use mini_text::OutOfMemory;
 
 /// Puts the expression last, in a box of its own. After `OutOfMemory` the list is as it was, and the expression is gone.
@@ -21,7 +22,13 @@ pub fn push_expression(list: &mut Exprs, item: Expression) -> Result<(), OutOfMe
     ensures err { OnErr result (list.new ≡ list.old) }
 {
     let boxed = boxed_expression(list.allocator(), item)?;
-    list.push(boxed)
+    match list.try_push(boxed) {
+        Ok(()) => Ok(()),
+        Err(refused) => {
+            let_go(Gone::BoxedExpression(refused.value));
+            Err(OutOfMemory)
+        }
+    }
 }
 
 /// Puts the expression at a place up to the length, in a box of its own. After `OutOfMemory` the list is as it was, and the
@@ -32,7 +39,13 @@ pub fn insert_expression(list: &mut Exprs, at: usize, item: Expression) -> Resul
     ensures err { OnErr result (list.new ≡ list.old) }
 {
     let boxed = boxed_expression(list.allocator(), item)?;
-    list.insert(at, boxed)
+    match list.try_insert(at, boxed) {
+        Ok(()) => Ok(()),
+        Err(refused) => {
+            let_go(Gone::BoxedExpression(refused.value));
+            Err(OutOfMemory)
+        }
+    }
 }
 
 /// Puts the statement last, in a box of its own. After `OutOfMemory` the list is as it was, and the statement is gone.
@@ -41,7 +54,13 @@ pub fn push_statement(list: &mut Statements, item: Statement) -> Result<(), OutO
     ensures err { OnErr result (list.new ≡ list.old) }
 {
     let boxed = boxed_statement(list.allocator(), item)?;
-    list.push(boxed)
+    match list.try_push(boxed) {
+        Ok(()) => Ok(()),
+        Err(refused) => {
+            let_go(Gone::BoxedStatement(refused.value));
+            Err(OutOfMemory)
+        }
+    }
 }
 
 /// Puts the statement at a place up to the length, in a box of its own. After `OutOfMemory` the list is as it was, and the
@@ -56,7 +75,13 @@ pub fn insert_statement(
     ensures err { OnErr result (list.new ≡ list.old) }
 {
     let boxed = boxed_statement(list.allocator(), item)?;
-    list.insert(at, boxed)
+    match list.try_insert(at, boxed) {
+        Ok(()) => Ok(()),
+        Err(refused) => {
+            let_go(Gone::BoxedStatement(refused.value));
+            Err(OutOfMemory)
+        }
+    }
 }
 
 /// Puts the element last. After `OutOfMemory` the list is as it was, and the element is gone.
@@ -64,7 +89,13 @@ pub fn push_element(list: &mut Elements, item: ArrayExpressionElement) -> Result
     ensures ok { OnOk result (list.new ≡ list.old ++ item ∷ []) }
     ensures err { OnErr result (list.new ≡ list.old) }
 {
-    list.push(item)
+    match list.try_push(item) {
+        Ok(()) => Ok(()),
+        Err(refused) => {
+            let_go(Gone::Element(refused.value));
+            Err(OutOfMemory)
+        }
+    }
 }
 
 /// Puts the argument last. After `OutOfMemory` the list is as it was, and the argument is gone.
@@ -72,7 +103,13 @@ pub fn push_argument(list: &mut Arguments, item: Argument) -> Result<(), OutOfMe
     ensures ok { OnOk result (list.new ≡ list.old ++ item ∷ []) }
     ensures err { OnErr result (list.new ≡ list.old) }
 {
-    list.push(item)
+    match list.try_push(item) {
+        Ok(()) => Ok(()),
+        Err(refused) => {
+            let_go(Gone::Argument(refused.value));
+            Err(OutOfMemory)
+        }
+    }
 }
 
 /// Puts the argument last. After `OutOfMemory` the list is as it was, and the argument is gone.
@@ -83,7 +120,13 @@ pub fn push_inner_argument(
     ensures ok { OnOk result (list.new ≡ list.old ++ item ∷ []) }
     ensures err { OnErr result (list.new ≡ list.old) }
 {
-    list.push(item)
+    match list.try_push(item) {
+        Ok(()) => Ok(()),
+        Err(refused) => {
+            let_go(Gone::InnerArgument(refused.value));
+            Err(OutOfMemory)
+        }
+    }
 }
 
 /// Puts the property last. After `OutOfMemory` the list is as it was, and the property is gone.
@@ -91,7 +134,13 @@ pub fn push_property(list: &mut Properties, item: ObjectPropertyKind) -> Result<
     ensures ok { OnOk result (list.new ≡ list.old ++ item ∷ []) }
     ensures err { OnErr result (list.new ≡ list.old) }
 {
-    list.push(item)
+    match list.try_push(item) {
+        Ok(()) => Ok(()),
+        Err(refused) => {
+            let_go(Gone::Property(refused.value));
+            Err(OutOfMemory)
+        }
+    }
 }
 
 /// Puts the expression last. After `OutOfMemory` the list is as it was, and the expression is gone.
@@ -102,7 +151,13 @@ pub fn push_inner_expression(
     ensures ok { OnOk result (list.new ≡ list.old ++ item ∷ []) }
     ensures err { OnErr result (list.new ≡ list.old) }
 {
-    list.push(item)
+    match list.try_push(item) {
+        Ok(()) => Ok(()),
+        Err(refused) => {
+            let_go(Gone::InnerExpression(refused.value));
+            Err(OutOfMemory)
+        }
+    }
 }
 
 /// Puts the parameter last. After `OutOfMemory` the list is as it was, and the parameter is gone.
@@ -113,7 +168,13 @@ pub fn push_formal_parameter(
     ensures ok { OnOk result (list.new ≡ list.old ++ item ∷ []) }
     ensures err { OnErr result (list.new ≡ list.old) }
 {
-    list.push(item)
+    match list.try_push(item) {
+        Ok(()) => Ok(()),
+        Err(refused) => {
+            let_go(Gone::FormalParameter(refused.value));
+            Err(OutOfMemory)
+        }
+    }
 }
 
 /// Puts the element last. After `OutOfMemory` the list is as it was, and the element is gone.
@@ -121,7 +182,13 @@ pub fn push_class_element(list: &mut ClassElements, item: ClassElement) -> Resul
     ensures ok { OnOk result (list.new ≡ list.old ++ item ∷ []) }
     ensures err { OnErr result (list.new ≡ list.old) }
 {
-    list.push(item)
+    match list.try_push(item) {
+        Ok(()) => Ok(()),
+        Err(refused) => {
+            let_go(Gone::ClassElement(refused.value));
+            Err(OutOfMemory)
+        }
+    }
 }
 
 /// Puts the property last. After `OutOfMemory` the list is as it was, and the property is gone.
@@ -132,7 +199,13 @@ pub fn push_binding_property(
     ensures ok { OnOk result (list.new ≡ list.old ++ item ∷ []) }
     ensures err { OnErr result (list.new ≡ list.old) }
 {
-    list.push(item)
+    match list.try_push(item) {
+        Ok(()) => Ok(()),
+        Err(refused) => {
+            let_go(Gone::BindingProperty(refused.value));
+            Err(OutOfMemory)
+        }
+    }
 }
 
 /// Puts the element last. After `OutOfMemory` the list is as it was, and the element is gone.
@@ -143,7 +216,13 @@ pub fn push_array_pattern_element(
     ensures ok { OnOk result (list.new ≡ list.old ++ item ∷ []) }
     ensures err { OnErr result (list.new ≡ list.old) }
 {
-    list.push(item)
+    match list.try_push(item) {
+        Ok(()) => Ok(()),
+        Err(refused) => {
+            let_go(Gone::ArrayPatternElement(refused.value));
+            Err(OutOfMemory)
+        }
+    }
 }
 
 /// Puts the property last. After `OutOfMemory` the list is as it was, and the property is gone.
@@ -154,7 +233,13 @@ pub fn push_assignment_target_property(
     ensures ok { OnOk result (list.new ≡ list.old ++ item ∷ []) }
     ensures err { OnErr result (list.new ≡ list.old) }
 {
-    list.push(item)
+    match list.try_push(item) {
+        Ok(()) => Ok(()),
+        Err(refused) => {
+            let_go(Gone::AssignmentTargetProperty(refused.value));
+            Err(OutOfMemory)
+        }
+    }
 }
 
 /// Puts the element last. After `OutOfMemory` the list is as it was, and the element is gone.
@@ -165,7 +250,13 @@ pub fn push_array_assignment_target_element(
     ensures ok { OnOk result (list.new ≡ list.old ++ item ∷ []) }
     ensures err { OnErr result (list.new ≡ list.old) }
 {
-    list.push(item)
+    match list.try_push(item) {
+        Ok(()) => Ok(()),
+        Err(refused) => {
+            let_go(Gone::ArrayAssignmentTargetElement(refused.value));
+            Err(OutOfMemory)
+        }
+    }
 }
 
 /// Puts the case last. After `OutOfMemory` the list is as it was, and the case is gone.
@@ -173,7 +264,13 @@ pub fn push_case(list: &mut Cases, item: SwitchCase) -> Result<(), OutOfMemory>
     ensures ok { OnOk result (list.new ≡ list.old ++ item ∷ []) }
     ensures err { OnErr result (list.new ≡ list.old) }
 {
-    list.push(item)
+    match list.try_push(item) {
+        Ok(()) => Ok(()),
+        Err(refused) => {
+            let_go(Gone::Case(refused.value));
+            Err(OutOfMemory)
+        }
+    }
 }
 
 /// Puts the declarator last. After `OutOfMemory` the list is as it was, and the declarator is gone.
@@ -181,7 +278,13 @@ pub fn push_declarator(list: &mut Declarators, item: VariableDeclarator) -> Resu
     ensures ok { OnOk result (list.new ≡ list.old ++ item ∷ []) }
     ensures err { OnErr result (list.new ≡ list.old) }
 {
-    list.push(item)
+    match list.try_push(item) {
+        Ok(()) => Ok(()),
+        Err(refused) => {
+            let_go(Gone::Declarator(refused.value));
+            Err(OutOfMemory)
+        }
+    }
 }
 
 /// Puts the declarator at a place up to the length. After `OutOfMemory` the list is as it was, and the declarator is
@@ -195,5 +298,11 @@ pub fn insert_declarator(
     ensures ok { OnOk result (list.new ≡ insert list.old at item) }
     ensures err { OnErr result (list.new ≡ list.old) }
 {
-    list.insert(at, item)
+    match list.try_insert(at, item) {
+        Ok(()) => Ok(()),
+        Err(refused) => {
+            let_go(Gone::Declarator(refused.value));
+            Err(OutOfMemory)
+        }
+    }
 }
