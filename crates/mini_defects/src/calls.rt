@@ -33,8 +33,8 @@ fn is_linked(optional: bool, place: Place) -> bool
     !optional || is_link(place)
 }
 
-// The class of the callee or the object, which in a chain is a link too.
-fn link_class(place: Place) -> Class
+/// The class of the callee or the object, which in a chain is a link too.
+pub fn link_class(place: Place) -> Class
     ensures { class_of result ≡ link_class (place_of place) }
 {
     if is_link(place) {

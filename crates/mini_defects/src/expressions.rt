@@ -144,8 +144,8 @@ pub fn logical(strict: bool, value: &Value) -> bool
     }
 }
 
-// Patterns stand under `=` alone.
-fn target_class(operator: AssignmentOperator) -> Class
+/// The class of what an assignment writes: patterns stand under `=` alone.
+pub fn target_class(operator: AssignmentOperator) -> Class
     ensures { class_of result ≡ target_class operator }
 {
     match operator {
@@ -207,8 +207,8 @@ pub fn yield_expression(strict: bool, value: &Value) -> bool
         && optional_stands(strict, Class::Expression, "argument", value)
 }
 
-// Whether it is a meta property of this keyword.
-fn has_meta(word: &str, value: &Value) -> bool
+/// Whether it is a meta property of this keyword.
+pub fn has_meta(word: &str, value: &Value) -> bool
     ensures { result ≡ expression.has_meta word.now (view value.now) }
 {
     match value.get("meta") {

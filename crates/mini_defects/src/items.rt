@@ -39,8 +39,8 @@ pub enum Items {
     TargetElements,
 }
 
-// The place of an item, which may be the last; None where it is a hole.
-fn place_in(form: Items, last: bool, value: &Value) -> Option<Place>
+/// The place of an item, which may be the last; None where it is a hole.
+pub fn place_in(form: Items, last: bool, value: &Value) -> Option<Place>
     ensures { option_map place_of result ≡ place_in (part_of form) last (view value.now) }
 {
     match form {

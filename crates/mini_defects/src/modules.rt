@@ -73,8 +73,8 @@ pub fn export_named(strict: bool, value: &Value) -> bool
         && optional_stands(strict, Class::String, "source", value)
 }
 
-// A name of this module is a variable; one of another module isn't.
-fn local_place(place: Place) -> Place
+/// The place of a specifier's local name: one of this module is a variable; one of another module isn't.
+pub fn local_place(place: Place) -> Place
     ensures { place_of result ≡ local_place (place_of place) }
 {
     match place {

@@ -16,8 +16,8 @@ use crate::properties::{is_init, object_property, repeats_key};
 use crate::words::property_kind_at;
 use serde_json::Value;
 
-// Whether the pattern is one that a declaration binds.
-fn is_binding(place: Place) -> bool
+/// Whether the pattern in the place is one that a declaration binds.
+pub fn is_binding(place: Place) -> bool
     ensures { result ≡ is_binding (place_of place) }
 {
     match place {

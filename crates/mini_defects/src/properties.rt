@@ -91,8 +91,8 @@ fn is_whole_property(
     !shorthand || (!computed && repeats_key(value))
 }
 
-// The class of a property's value.
-fn value_class(kind: PropertyKind, is_method: bool) -> Class
+/// The class of a property's value.
+pub fn value_class(kind: PropertyKind, is_method: bool) -> Class
     ensures { class_of result ≡ value_class kind is_method }
 {
     if is_method || !is_init(kind) {
