@@ -5,7 +5,7 @@ use Rattle.std.specs.Io.KnownBytes.{Consumes, IsAtEnd}
 use Rattle.std.proofs.lemmas.List.{length-append, append-nil}
 use Rattle.mini_options.specs.declared.options.CompressOptions.{CompressOptions}
 use Rattle.mini_estree.specs.Accept.{program_at}
-use Rattle.mini_estree.specs.Faults.{Fault}
+use Rattle.mini_errors.specs.Faults.{Fault}
 use Rattle.mini_app.specs.Answer.{Change, Gave, HasFault, IsNotJson, IsDelivered, IsDue, IsValidInput, IsAnswered}
 use Rattle.mini_app.specs.Words.{NameOptions}
 use Rattle.mini_app.specs.declared.run.Status.{Status}

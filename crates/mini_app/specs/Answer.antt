@@ -8,7 +8,7 @@ use Rattle.serde_json.specs.Read.{read}
 use Rattle.mini_model.specs.Tree.{Tree}
 use Rattle.mini_options.specs.declared.options.CompressOptions.{CompressOptions}
 use Rattle.mini_estree.specs.Accept.{program_at}
-use Rattle.mini_estree.specs.Faults.{Fault, fault_of, name_of_defect}
+use Rattle.mini_errors.specs.Faults.{Fault, fault_of, name_of_defect}
 use Rattle.mini_peephole.specs.Faithful.{Faithful, PassesBounded}
 use Rattle.mini_peephole.specs.Minified.{IsMinified, HasDefect}
 use Rattle.mini_peephole.specs.declared.minify.Minified.{Minified}

@@ -6,7 +6,7 @@ use Rattle.mini_model.specs.declared.operator.AssignmentOperator.TheVariants.{As
 use Rattle.mini_model.specs.declared.operator.BinaryOperator.TheVariants.{Equality}
 use Rattle.mini_model.specs.declared.operator.UnaryOperator.TheVariants.{UnaryPlus}
 use Rattle.mini_structure.specs.WellShaped as shaped
-use Rattle.mini_structure.specs.WellShaped.{Depth, in_module, in_body, nested, value_class}
+use Rattle.mini_structure.specs.WellShaped.{in_module, in_body, nested, value_class}
 use Rattle.mini_accept.specs.Kind as kind
 use Rattle.mini_accept.specs.Kind.{Kind}
 use Rattle.mini_accept.specs.Places.{field, Place, at, a_directive, a_directive_text}
@@ -32,12 +32,8 @@ has_flag key d = unwrap_or (flag_at key d) false
 
 -- ---- statements
 
-abbrev pub depth_by : Bool → Depth
-depth_by true = in_module
-depth_by false = in_body
-
 abbrev pub program : Data → List Child
-program d = body (depth_by (unwrap_or (word_at source_types (codes "sourceType") d) false)) (items_at (codes "body") d) ∷ []
+program d = body (if unwrap_or (word_at source_types (codes "sourceType") d) false then in_module else in_body) (items_at (codes "body") d) ∷ []
 
 abbrev pub expression_statement : Place → Data → List Child
 expression_statement a_directive d = one (tree_at (field (codes "expression")) a_directive_text) ∷ []

@@ -1,9 +1,10 @@
 // The children of expressions whose places depend on where the expression stands or on its fields.
 
-ghost use Rattle.std.specs.Prelude.{◌≡◌};
+ghost use Rattle.std.specs.Prelude.{◌≡◌, option_map};
 ghost use Rattle.serde_json.specs.View.{view};
 ghost use Rattle.serde_json.specs.Data.{Data};
 ghost use Rattle.mini_accept.specs.Expressions.{operands};
+ghost use Rattle.mini_defects.specs.Literals.{negative_literal};
 ghost use Rattle.mini_defects.specs.Views.{class_of, letters_of, place_of};
 ghost use Rattle.mini_children.specs.Table as table;
 ghost use Rattle.mini_children.specs.Views.{child_of, children_of};
@@ -29,12 +30,13 @@ pub fn spread(place: Place) -> Below
     }
 }
 
-// Whether the operand is a number above 0 behind a minus.
-fn is_negative(value: &Value) -> bool
+// The operand that is a number above 0 behind a minus.
+fn negated_number(value: &Value) -> Option<u64>
+    ensures { option_map negative_literal result ≡ table.minus (view value.now) }
 {
-    match (unary_operator_at("operator", value), value.get("argument")) {
-        (Some(UnaryOperator::UnaryNegation), Some(operand)) => positive_number(operand).is_some(),
-        _ => false,
+    match unary_operator_at("operator", value) {
+        Some(UnaryOperator::UnaryNegation) => positive_number(value.get("argument")?),
+        _ => None,
     }
 }
 
@@ -42,10 +44,9 @@ fn is_negative(value: &Value) -> bool
 pub fn unary(value: &Value) -> Below
     ensures { child_of (view value.now) result ≡ table.operand (table.minus (view value.now)) }
 {
-    if is_negative(value) {
-        Below::Checked("argument", Class::Expression)
-    } else {
-        Below::Node("argument", EXPRESSION)
+    match negated_number(value) {
+        Some(_) => Below::Checked("argument", Class::Expression),
+        None => Below::Node("argument", EXPRESSION),
     }
 }
 

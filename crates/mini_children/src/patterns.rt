@@ -11,7 +11,9 @@ ghost use Rattle.mini_children.specs.Views.{child_of, children_of};
 
 use crate::below::{Below, Children};
 use crate::functions::{is_set, key};
-use mini_defects::{Class, Items, Place, child_has_type, is_binding, property_kind_at, value_class};
+use mini_defects::{
+    Class, Items, Place, child_has_type, is_binding, property_kind_at, value_class,
+};
 use mini_model::PropertyKind;
 use serde_json::Value;
 

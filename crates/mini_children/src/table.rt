@@ -17,7 +17,9 @@ use mini_defects::{Class, Depth, Items, Kind, Place, is_given, local_place};
 use serde_json::Value;
 
 const EXPRESSION: Place = Place::At(Class::Expression);
+
 const NESTED: Class = Class::Statement(Depth::Nested);
+
 const STATEMENT: Place = Place::At(NESTED);
 
 /// The children of a node of this type in a place, if it has no defect itself.

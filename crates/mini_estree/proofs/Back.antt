@@ -13,7 +13,7 @@ use Rattle.mini_model.specs.declared.name.SymbolId.{SymbolId}
 use Rattle.mini_model.specs.declared.shape.Shape.{Shape}
 use Rattle.mini_model.specs.declared.shape.Shape.TheVariants as shape
 use Rattle.mini_model.specs.Tree.{Tree, node, Trees, none, ◌▸◌, trees, node_count, node_counts, unresolved, listed, identifier, unary, logical, conditional, call, expression_statement, if_else, program}
-use Rattle.mini_estree.specs.Faults.{item_step}
+use Rattle.mini_errors.specs.Faults.{item_step}
 use Rattle.mini_estree.specs.Names.{is_name}
 use Rattle.mini_estree.specs.declared.kind.Class.{Class}
 use Rattle.mini_estree.specs.declared.kind.Class.TheVariants as class

@@ -9,7 +9,7 @@ use Rattle.mini_estree.specs.declared.kind.Kind.{Kind}
 use Rattle.mini_estree.specs.declared.kind.Class.{Class}
 use Rattle.mini_estree.specs.declared.kind.Class.TheVariants as class
 use Rattle.mini_estree.specs.Accept.{Field, plain, child, optional_child, children, fields_of, Part, a_tree, some_trees, tree_of, Reader, read_below, child_of, child_at, optional_of, optional_at, items_at, list_of, list_at, part_at, parts_at, entry_at, node_by, reads, program_at, Accepts}
-use Rattle.mini_estree.specs.Faults.{item_step}
+use Rattle.mini_errors.specs.Faults.{item_step}
 use Rattle.mini_estree.proofs.Results.{ok_same, bind_ok, as_part_ok, placed_ok}
 
 -- the second reader reads whatever the first does

@@ -9,7 +9,7 @@ use Rattle.mini_model.specs.Tree.{Tree, trees, ◌▸◌}
 use Rattle.mini_text.specs.Texts.{bytes_of}
 use Rattle.mini_first.specs.declared.ast.Statement.{Statement}
 use Rattle.mini_first.specs.Plain.{statement_tree}
-use Rattle.mini_estree.specs.Faults.{Fault}
+use Rattle.mini_errors.specs.Faults.{Fault}
 use Rattle.mini_estree.specs.Written.{tree_data, trees_data, directive_data, with_directives}
 
 -- what was read of the items before

@@ -14,7 +14,7 @@ use Rattle.mini_model.specs.declared.shape.Shape.TheVariants as shape
 use Rattle.mini_model.specs.Tree.{Tree, node, none, ◌▸◌, trees, absent, unresolved, listed}
 use Rattle.mini_model.specs.Position.{Position, Expr, Stmt, Unwritten, Elsewhere, child_position}
 use Rattle.mini_model.specs.Weight.{Outline, outlines, nth_is_absent, weight, weights, own_weight, text_weight, where_present, spelled_weight, same_text, is_parenthesized, parentheses, is_awkward, awkward_weight, bare_weight, place_weight, unary_operator_weight}
-use Rattle.mini_estree.specs.Faults.{item_step}
+use Rattle.mini_errors.specs.Faults.{item_step}
 use Rattle.mini_estree.specs.Fits.{Fits, values_in, values_in_items}
 use Rattle.mini_estree.specs.Kinds.{kind_of, is_misplaced, Standing, unread, misplaced, standing}
 use Rattle.mini_estree.specs.Kinds as kinds

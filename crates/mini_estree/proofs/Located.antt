@@ -5,7 +5,7 @@ use Rattle.serde_json.specs.Data.{Data, Items, no_items, item}
 use Rattle.serde_json.specs.Find.{get, get_item, as_array, as_null, as_str, as_bool}
 use Rattle.mini_text.specs.Texts.{units_of}
 use Rattle.mini_model.specs.Tree.{Tree, absent}
-use Rattle.mini_estree.specs.Faults.{bad_shape, unsupported, too_deep, Fault, fault, fault_under, under, item_step, ◌>>=◌}
+use Rattle.mini_errors.specs.Faults.{bad_shape, unsupported, too_deep, Fault, fault, fault_under, under, item_step, ◌>>=◌}
 use Rattle.mini_estree.specs.Kinds.{is, kind_of, is_misplaced, Standing, fits, unread, misplaced, standing}
 use Rattle.mini_estree.specs.Names.{is_name}
 use Rattle.mini_estree.specs.declared.kind.Kind.{Kind}

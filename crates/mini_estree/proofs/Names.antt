@@ -10,7 +10,7 @@ use Rattle.std.proofs.lemmas.Str.{scalars-chars}
 use Rattle.std.proofs.lemmas.List.Elements.{All-nil, All-cons}
 use Rattle.mini_text.specs.Texts.{units_of, bytes_of, AllUnits, is_identifier_name}
 use Rattle.mini_text.proofs.Units.{encode_utf16-one, encode_utf16-two, units_of-bytes_of, is_identifier_name-paired}
-use Rattle.mini_estree.specs.Faults.{bad_shape, fault}
+use Rattle.mini_errors.specs.Faults.{bad_shape, fault}
 use Rattle.mini_estree.specs.Names.{are_units, is_name}
 use Rattle.mini_estree.specs.Accept.{name_of}
 

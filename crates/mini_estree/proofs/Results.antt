@@ -4,7 +4,7 @@ use Rattle.std.specs.Prelude.{Option, Some, None, Result, Ok, Err, is_some}
 use Rattle.serde_json.specs.Data.{Data, null, boolean, number, string, array, object}
 use Rattle.serde_json.specs.Find.{as_null}
 use Rattle.mini_model.specs.Tree.{Tree}
-use Rattle.mini_estree.specs.Faults.{Fault, ◌>>=◌}
+use Rattle.mini_errors.specs.Faults.{Fault, ◌>>=◌}
 use Rattle.mini_estree.specs.Kinds.{kind_of, Standing, fits, unread, misplaced, standing, is_misplaced}
 use Rattle.mini_estree.specs.declared.kind.Kind.{Kind}
 use Rattle.mini_estree.specs.declared.kind.Class.{Class}

@@ -4,7 +4,7 @@ use Rattle.std.specs.Prelude.{Option, Some, None, option_and_then, Ok, is_some, 
 use Rattle.serde_json.specs.Data.{Data, Items, no_items, item}
 use Rattle.serde_json.specs.Find.{get, as_null, as_array}
 use Rattle.mini_model.specs.Tree.{Tree, absent}
-use Rattle.mini_estree.specs.Faults.{item_step}
+use Rattle.mini_errors.specs.Faults.{item_step}
 use Rattle.mini_estree.specs.Fits.{Fits, values_in, values_in_items}
 use Rattle.mini_estree.specs.Kinds.{kind_of, Standing, fits, unread, misplaced, standing, is_misplaced}
 use Rattle.mini_estree.specs.declared.kind.Kind.{Kind}

@@ -11,7 +11,7 @@ use Rattle.mini_model.specs.declared.operator.UnaryOperator.{UnaryOperator}
 use Rattle.mini_model.specs.declared.operator.UnaryOperator.TheVariants.{LogicalNot}
 use Rattle.mini_model.specs.declared.shape.Shape.TheVariants as shape
 use Rattle.mini_model.specs.Tree.{Tree, node, Trees, trees, unary, logical, absent}
-use Rattle.mini_estree.specs.Faults.{Fault, item_step}
+use Rattle.mini_errors.specs.Faults.{Fault, item_step}
 use Rattle.mini_estree.specs.Kinds.{is, kind_of, is_misplaced, Standing, unread, misplaced, standing}
 use Rattle.mini_estree.specs.Kinds as kinds
 use Rattle.mini_estree.specs.Names.{is_name}

@@ -8,7 +8,7 @@ use Rattle.mini_model.specs.declared.operator.LogicalOperator.TheVariants.{Or, A
 use Rattle.mini_model.specs.declared.operator.UnaryOperator.{UnaryOperator}
 use Rattle.mini_model.specs.declared.operator.UnaryOperator.TheVariants.{LogicalNot}
 use Rattle.mini_model.specs.Tree.{Tree, none, trees, absent, unresolved, identifier, unary, logical, conditional, call, expression_statement, if_else, program}
-use Rattle.mini_estree.specs.Faults.{Fault, bad_shape, unsupported, too_deep, fault, under, item_step, ◌>>=◌}
+use Rattle.mini_errors.specs.Faults.{Fault, bad_shape, unsupported, too_deep, fault, under, item_step, ◌>>=◌}
 use Rattle.mini_estree.specs.Kinds.{is, kind_of, Standing, fits, unread, misplaced, standing, is_misplaced}
 use Rattle.mini_estree.specs.Names.{is_name}
 use Rattle.mini_estree.specs.declared.kind.Kind.{Kind}

@@ -1,4 +1,3 @@
-pub mod Faults
 pub mod Fits
 pub mod Kinds
 pub mod Names

@@ -2,7 +2,7 @@
 use Rattle.std.specs.Prelude.{◌≡◌, ◌⊎◌, ℕ, ◌+◌, List, [], ◌∷◌, ◌++◌, length, Option, Some, option_and_then}
 use Rattle.serde_json.specs.Data.{Data}
 use Rattle.serde_json.specs.Find.{get, get_item, as_array}
-use Rattle.mini_estree.specs.Faults.{too_deep, Fault, fault, item_step}
+use Rattle.mini_errors.specs.Faults.{too_deep, Fault, fault, item_step}
 use Rattle.mini_estree.specs.Kinds.{kind_of}
 use Rattle.mini_estree.specs.declared.kind.Kind.{Kind}
 use Rattle.mini_estree.specs.declared.kind.Class.{Class}

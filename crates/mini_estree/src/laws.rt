@@ -4,7 +4,7 @@ ghost use Rattle.serde_json.specs.Data.{Data};
 ghost use Rattle.mini_model.specs.Tree.{Tree};
 ghost use Rattle.mini_estree.specs.Accept.{program_at, Accepts};
 ghost use Rattle.mini_estree.specs.declared.kind.Class.TheVariants as class;
-ghost use Rattle.mini_estree.specs.Faults.{Fault};
+ghost use Rattle.mini_errors.specs.Faults.{Fault};
 ghost use Rattle.mini_estree.specs.Places.{Located};
 ghost use Rattle.mini_estree.specs.WellShaped.{IsWellShaped};
 ghost use Rattle.mini_estree.specs.Written.{program_data};

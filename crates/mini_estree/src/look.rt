@@ -3,10 +3,10 @@
 ghost use Rattle.std.specs.Prelude.{◌≡◌, codes, option_and_then, option_map};
 ghost use Rattle.serde_json.specs.View.{view, items_view};
 ghost use Rattle.serde_json.specs.Find.{get, as_array};
-ghost use Rattle.mini_estree.specs.Faults.{Gives};
+ghost use Rattle.mini_errors.specs.Faults.{Gives};
 ghost use Rattle.mini_estree.specs.Accept.{text_at, text_by, script_of, name_of, unary_operator_of, logical_operator_of, nothing, plain_at, script, no_directive, prefix, no_arguments, not_optional};
 
-use crate::error::{MinifyError, bad_shape, unsupported};
+use mini_errors::{MinifyError, bad_shape, unsupported};
 use mini_first::{LogicalOperator, UnaryOperator};
 use mini_text::{Name, Text};
 use serde_json::Value;

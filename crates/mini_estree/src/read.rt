@@ -5,16 +5,16 @@ ghost use Rattle.serde_json.specs.View.{view, items_view};
 ghost use Rattle.mini_model.specs.Tree.{maybe};
 ghost use Rattle.mini_first.specs.Plain.{expression_tree, statement_tree, program_tree};
 ghost use Rattle.mini_estree.specs.declared.kind.Class.TheVariants as class;
-ghost use Rattle.mini_estree.specs.Faults.{Gives};
+ghost use Rattle.mini_errors.specs.Faults.{Gives};
 ghost use Rattle.mini_estree.specs.Kinds.{kind_of as kind_at};
 ghost use Rattle.mini_estree.specs.Accept.{reads, node_by, read_below, child_at, optional_at, list_at, items_at, program_at};
 
-use crate::error::{MinifyError, bad_shape, too_deep, unsupported};
 use crate::kind::{Class, Kind, is_misplaced, kind_of};
 use crate::look::{
     array_field, check_arguments, check_directive, check_optional, check_prefix, check_script,
     logical_operator_field, name_field, unary_operator_field,
 };
+use mini_errors::{MinifyError, bad_shape, too_deep, unsupported};
 use mini_first::{
     BoxedExpression, BoxedStatement, CallExpressionOf, ConditionalExpressionOf, Expression,
     ExpressionStatementOf, IdentifierReference, IfStatement, LogicalExpressionOf, Program,
@@ -92,7 +92,7 @@ fn statement_form(alloc: Global, value: &Value, below: u32) -> Result<Statement,
 }
 
 #[cycle(statements)]
-#[tactic(auto, using(crate::proofs::Under::fails_under))]
+#[tactic(auto, using(mini_errors::proofs::Under::fails_under))]
 fn statement_below(
     alloc: Global,
     value: &Value,
@@ -163,7 +163,7 @@ fn statements_field(
     }
 }
 
-#[tactic(auto, using(crate::proofs::Under::fails_under))]
+#[tactic(auto, using(mini_errors::proofs::Under::fails_under))]
 fn statements(
     alloc: Global,
     items: &[Value],
@@ -247,7 +247,7 @@ fn expression_form(alloc: Global, value: &Value, below: u32) -> Result<Expressio
 }
 
 #[cycle(expressions)]
-#[tactic(auto, using(crate::proofs::Under::fails_under))]
+#[tactic(auto, using(mini_errors::proofs::Under::fails_under))]
 fn expression_field(
     alloc: Global,
     value: &Value,
@@ -268,7 +268,7 @@ fn expression_field(
     }
 }
 
-#[tactic(auto, using(crate::proofs::Under::fails_under))]
+#[tactic(auto, using(mini_errors::proofs::Under::fails_under))]
 fn callee_field(
     alloc: Global,
     value: &Value,

@@ -5,9 +5,9 @@ use Rattle.serde_json.specs.View.{view}
 use Rattle.mini_model.specs.Tree.{Tree}
 use Rattle.mini_options.specs.declared.options.CompressOptions.{CompressOptions}
 use Rattle.mini_estree.specs.Accept.{program_at, Accepts}
-use Rattle.mini_estree.specs.Faults.{Fault, fault_of}
+use Rattle.mini_errors.specs.Faults.{Fault, fault_of}
 use Rattle.mini_estree.specs.Written.{program_data}
-use Rattle.mini_estree.specs.declared.error.MinifyError.{MinifyError}
+use Rattle.mini_errors.specs.declared.error.MinifyError.{MinifyError}
 use Rattle.mini_peephole.specs.Pass.{MakesPasses}
 use Rattle.mini_peephole.specs.declared.minify.Minified.{Minified}
 

@@ -1,8 +1,8 @@
 // Why a value is refused, and where.
 
 ghost use Rattle.std.specs.Prelude.{◌≡◌, ◌↔◌, [], ◌∷◌, ◌++◌, None, Some, IsTrue, IfSome, IfOk, string_bytes};
-ghost use Rattle.mini_estree.specs.Faults.{pointer_text, fault_of, name_of_defect, IsUnder, item_step, bad_shape as wrong_shape, unsupported as unsupported_form, too_deep as deeper_than_allowed};
-ghost use Rattle.mini_estree.specs.declared.error.MinifyError.TheVariants.{OutOfMemory};
+ghost use Rattle.mini_errors.specs.Faults.{pointer_text, fault_of, name_of_defect, IsUnder, item_step, bad_shape as wrong_shape, unsupported as unsupported_form, too_deep as deeper_than_allowed};
+ghost use Rattle.mini_errors.specs.declared.error.MinifyError.TheVariants.{OutOfMemory};
 
 use mini_text::OutOfMemory as NoMemory;
 use std::alloc::{AllocError, AllocFailed, Global};

@@ -1,8 +1,8 @@
 -- A defect of a value, and the JSON pointer (RFC 6901) to the node that has it.
 use Rattle.std.specs.Prelude.{◌≡◌, ℕ, List, [], ◌∷◌, ◌++◌, codes, decimal, Option, Some, None, option_map, IfSome, Result, Ok, Err, string_bytes}
-use Rattle.mini_estree.specs.declared.error.Pointer.{Pointer}
-use Rattle.mini_estree.specs.declared.error.MinifyError.{MinifyError}
-use Rattle.mini_estree.specs.declared.error.MinifyError.TheVariants.{OutOfMemory, BadShape, Unsupported, TooDeep, EarlyName, EarlyJump}
+use Rattle.mini_errors.specs.declared.error.Pointer.{Pointer}
+use Rattle.mini_errors.specs.declared.error.MinifyError.{MinifyError}
+use Rattle.mini_errors.specs.declared.error.MinifyError.TheVariants.{OutOfMemory, BadShape, Unsupported, TooDeep, EarlyName, EarlyJump}
 
 pub data Defect : Type 0 where
   bad_shape : Defect

@@ -1,0 +1,6 @@
+//! Why a program is refused, and where.
+#![tactic(auto)]
+
+mod error;
+
+pub use error::{MinifyError, Pointer, bad_shape, too_deep, unsupported};
