@@ -18,7 +18,7 @@ pub use fit_laws::{accepted_weighs_little, fitting_is_read, read_bytes_fit};
 pub use laws::{
     accepted_is_well_shaped, accepts_one_tree, deeper, faults_are_there, written_is_accepted,
 };
+pub use mini_errors::{MinifyError, Pointer};
 pub use read::read_program;
 pub use size::fits;
-pub use mini_errors::{MinifyError, Pointer};
 pub use write::write_program;
