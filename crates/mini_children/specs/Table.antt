@@ -1,20 +1,20 @@
 -- The children of a node by its type, its place and its fields, where it has a plan.
-use Rattle.std.specs.Prelude.{ℕ, List, [], ◌∷◌, Bool, true, false, ◌&&◌, not, Option, Some, None, unwrap_or, if◌then◌else◌, codes, ℤ}
+use Rattle.std.specs.Prelude.{ℕ, List, [], ◌∷◌, Bool, true, false, ◌&&◌, ◌||◌, not, Option, Some, None, unwrap_or, if◌then◌else◌, codes, ℤ}
 use Rattle.serde_json.specs.Data.{Data, Items, no_items}
 use Rattle.mini_model.specs.declared.kind.PropertyKind.TheVariants.{Init}
 use Rattle.mini_model.specs.declared.operator.AssignmentOperator.TheVariants.{Assign}
 use Rattle.mini_model.specs.declared.operator.BinaryOperator.TheVariants.{Equality}
 use Rattle.mini_model.specs.declared.operator.UnaryOperator.TheVariants.{UnaryPlus}
 use Rattle.mini_structure.specs.WellShaped as shaped
-use Rattle.mini_structure.specs.WellShaped.{in_module, in_body, nested, value_class}
+use Rattle.mini_structure.specs.WellShaped.{in_module, in_body, nested, value_class, has_use_strict}
 use Rattle.mini_accept.specs.Kind as kind
 use Rattle.mini_accept.specs.Kind.{Kind}
 use Rattle.mini_accept.specs.Places.{field, Place, at, a_directive, a_directive_text}
 use Rattle.mini_accept.specs.Fields.{is_given, flag_at, list_at, child_has_type}
 use Rattle.mini_accept.specs.Words.{word_at, source_types, property_kinds, unary_operators, binary_operators, assignment_operators}
 use Rattle.mini_accept.specs.Plans.{tree_at, checked, Child, one, child, inner, optional, optional_inner, ItemPart, each, or_hole, or_rest, list, inner_key, target_part, target}
-use Rattle.mini_accept.specs.Statements.{body, loop_children}
-use Rattle.mini_accept.specs.Functions.{parameter}
+use Rattle.mini_accept.specs.Statements.{directives_of, body, loop_children}
+use Rattle.mini_accept.specs.Functions.{directives_below, parameter}
 use Rattle.mini_accept.specs.Modules.{export_part, local_place}
 use Rattle.mini_accept.specs.Expressions.{argument, inner_argument, is_inner_argument, minus_below, operands, is_in, target_class, link_class, tagging_of, quasi_part, piece_part, has_meta}
 use Rattle.mini_accept.specs.Patterns.{is_binding, default_left}
@@ -211,3 +211,15 @@ children_at kind.ObjectPattern p d = list_of (object_pattern p) (codes "properti
 children_at kind.ArrayPattern p d = list_of (array_pattern p) (codes "elements") d ∷ []
 children_at kind.RestElement p d = rest p d ∷ []
 children_at kind.AssignmentPattern p d = default_left p d ∷ inner (codes "right") shaped.an_expression ∷ []
+
+-- ---- strict code
+
+-- whether the code in the node is strict (ECMA-262, "Strict Mode Code")
+abbrev pub inside : Bool → Kind → Data → Bool
+inside strict kind.Program d = unwrap_or (word_at source_types (codes "sourceType") d) false || has_use_strict (directives_of (items_at (codes "body") d))
+inside strict kind.FunctionDeclaration d = strict || has_use_strict (directives_below d)
+inside strict kind.FunctionExpression d = strict || has_use_strict (directives_below d)
+inside strict kind.ArrowFunctionExpression d = strict || has_use_strict (directives_below d)
+inside strict kind.ClassDeclaration d = true
+inside strict kind.ClassExpression d = true
+inside strict _ d = strict

@@ -9,4 +9,4 @@ mod statements;
 mod table;
 
 pub use below::{Below, Children};
-pub use table::children;
+pub use table::{children, inside};

@@ -1,6 +1,7 @@
 // The children of statements whose places depend on where the statement stands or on its fields.
 
-ghost use Rattle.std.specs.Prelude.{◌≡◌};
+ghost use Rattle.std.specs.Prelude.{◌≡◌, false};
+ghost use Rattle.mini_accept.specs.Kind as kind;
 ghost use Rattle.serde_json.specs.View.{view};
 ghost use Rattle.serde_json.specs.Data.{Data};
 ghost use Rattle.mini_accept.specs.Statements.{loop_children};
@@ -9,7 +10,7 @@ ghost use Rattle.mini_children.specs.Table as table;
 ghost use Rattle.mini_children.specs.Views.{children_of};
 
 use crate::below::{Below, Children};
-use mini_defects::{Class, Depth, Items, Place, source_type_at};
+use mini_defects::{Class, Depth, Items, Place, has_use_strict, list_at, source_type_at};
 use serde_json::Value;
 
 /// `Program`
@@ -53,4 +54,17 @@ pub fn loop_children(enumerates: bool) -> Children
         Below::Node("right", Place::At(Class::Expression)),
         Below::Node("body", Place::At(Class::Statement(Depth::Nested))),
     )
+}
+
+/// Whether a program is a module, or a directive makes it strict.
+pub fn is_strict_program(value: &Value) -> bool
+    ensures { result ≡ table.inside false kind.Program (view value.now) }
+{
+    if source_type_at("sourceType", value) == Some(true) {
+        return true;
+    }
+    match list_at("body", value) {
+        None => false,
+        Some(statements) => has_use_strict(statements),
+    }
 }

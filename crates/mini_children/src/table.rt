@@ -3,7 +3,7 @@
 ghost use Rattle.std.specs.Prelude.{◌≡◌};
 ghost use Rattle.serde_json.specs.View.{view};
 ghost use Rattle.mini_defects.specs.Views.{kind_of_node, place_of};
-ghost use Rattle.mini_children.specs.Table.{children_at};
+ghost use Rattle.mini_children.specs.Table.{children_at, inside};
 ghost use Rattle.mini_children.specs.Views.{children_of};
 
 use crate::below::{Below, Children};
@@ -12,8 +12,8 @@ use crate::expressions::{
 };
 use crate::functions::{class, function, key};
 use crate::patterns::{array_pattern, default, object_pattern, property, rest};
-use crate::statements::{block, expression_statement, loop_children, program};
-use mini_defects::{Class, Depth, Items, Kind, Place, is_given, local_place};
+use crate::statements::{block, expression_statement, is_strict_program, loop_children, program};
+use mini_defects::{Class, Depth, Items, Kind, Place, is_given, is_strict_below, local_place};
 use serde_json::Value;
 
 const EXPRESSION: Place = Place::At(Class::Expression);
@@ -181,5 +181,18 @@ pub fn children(kind: Kind, place: Place, value: &Value) -> Children
             default(place, value),
             Below::Inner("right", Class::Expression),
         ),
+    }
+}
+
+/// Whether the code in a node of this type is strict, if the node has no defect itself (ECMA-262, "Strict Mode Code").
+pub fn inside(strict: bool, kind: Kind, value: &Value) -> bool
+    ensures { result ≡ inside strict (kind_of_node kind) (view value.now) }
+{
+    match kind {
+        Kind::Program => is_strict_program(value),
+        Kind::FunctionDeclaration | Kind::FunctionExpression | Kind::ArrowFunctionExpression =>
+            strict || is_strict_below(value),
+        Kind::ClassDeclaration | Kind::ClassExpression => true,
+        _ => strict,
     }
 }
