@@ -52,7 +52,7 @@ unless_below f strict false false d o cs b below e = absurd (cc e)
 kind_below : (f : FaultOf) (strict : Bool) (p : Place) (d : Data) (k : Kind) → kind_of d ≡ Some k → Below f strict d (plan strict p d) (children_at k p d) (inside strict k d)
 kind_below f strict p d k is =
     rw is (unless_below f strict (is_unread strict p d) (may_stand p d) d (placed_plan strict d (entry k p d)) (children_at k p d) (inside strict k d)
-        (placed_below f strict d (entry k p d) (children_at k p d) (inside strict k d) (entry_planned strict k p d)))
+    (placed_below f strict d (entry k p d) (children_at k p d) (inside strict k d) (entry_planned strict k p d)))
 
 pub kind_fault : (n : ℕ) (strict : Bool) (p : Place) (d : Data) (k : Kind) → 0 < n → own_defect strict p d ≡ None → kind_of d ≡ Some k → node_fault n strict p d ≡ children_fault (node_fault (n - 1)) (inside strict k d) d (children_at k p d)
 unfolding Below
