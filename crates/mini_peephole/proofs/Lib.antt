@@ -10,3 +10,4 @@ pub mod Walks
 pub mod Unread
 pub mod Kept
 pub mod Present
+pub mod Refused

@@ -71,18 +71,32 @@ const GUARDED: &str =
     r#"{"body":[{"expression":{"left":{"name":"a","type":"Identifier"},"operator":"&&","right":{"arguments":[],"callee":{"name":"b","type":"Identifier"},"optional":false,"type":"CallExpression"},"type":"LogicalExpression"},"type":"ExpressionStatement"}],"sourceType":"script","type":"Program"}"#;
 
 // A module, `if (a) {}`, `f(a);`, and no program, and why and where each is refused.
-const REFUSED: [(&str, &str); 4] = [
+const REFUSED: [(&str, &str); 7] = [
+    // what is read, and isn't rewritten yet
     (
         r#"{"type":"Program","sourceType":"module","body":[]}"#,
         "Unsupported ",
     ),
     (
         r#"{"type":"Program","sourceType":"script","body":[{"type":"IfStatement","test":{"type":"Identifier","name":"a"},"consequent":{"type":"BlockStatement","body":[]}}]}"#,
-        "Unsupported /body/0/consequent",
+        "Unsupported ",
     ),
     (
         r#"{"type":"Program","sourceType":"script","body":[{"type":"ExpressionStatement","expression":{"type":"CallExpression","callee":{"type":"Identifier","name":"f"},"arguments":[{"type":"Identifier","name":"a"}]}}]}"#,
+        "Unsupported ",
+    ),
+    // what isn't read
+    (
+        r#"{"type":"Program","sourceType":"script","body":[{"type":"ExpressionStatement","expression":{"type":"Literal","value":1.5,"raw":"1.5"}}]}"#,
         "Unsupported /body/0/expression",
+    ),
+    (
+        r#"{"type":"Program","sourceType":"script","body":[{"type":"BlockStatement","body":[{"type":"WithStatement"}]}]}"#,
+        "Unsupported /body/0/body/0",
+    ),
+    (
+        r#"{"type":"Program","sourceType":"script","body":[{"type":"ThrowStatement"}]}"#,
+        "BadShape /body/0",
     ),
     ("null", "BadShape "),
 ];

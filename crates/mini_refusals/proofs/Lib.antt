@@ -1,0 +1,4 @@
+pub mod Blamed
+pub mod Read
+pub mod Planned
+pub mod Items
