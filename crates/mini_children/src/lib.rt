@@ -4,9 +4,11 @@
 mod below;
 mod expressions;
 mod functions;
+mod laws;
 mod patterns;
 mod statements;
 mod table;
 
 pub use below::{Below, Children};
+pub use laws::plan_has_these_children;
 pub use table::{children, inside};

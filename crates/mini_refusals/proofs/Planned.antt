@@ -13,7 +13,7 @@ use Rattle.mini_accept.specs.Plans.{Child, Plan}
 use Rattle.mini_accept.specs.Entries.{entry}
 use Rattle.mini_accept.specs.Accept.{are_placed, plan_if, placed_plan, plan_by, plan_unless, plan}
 use Rattle.mini_children.specs.Table.{children_at, inside}
-use Rattle.mini_children.proofs.Planned.{OnPlan, entry_planned}
+use Rattle.mini_children.proofs.Planned.{OnPlan, plan_children, plan_strict, entry_planned}
 use Rattle.mini_defects.specs.Own.{own_defect}
 use Rattle.mini_refusals.specs.Walk.{FaultOf, own, children_fault, plan_fault, node_fault}
 
@@ -35,7 +35,7 @@ Below f strict d o cs b = result_err o ≡ None → plan_fault f strict d o ≡ 
 
 if_below : (f : FaultOf) (strict test : Bool) (d : Data) (x : Plan) (cs : List Child) (b : Bool) → OnPlan strict (Some x) cs b → Below f strict d (plan_if test x) cs b
 unfolding Below
-if_below f strict true d x cs b on e = ap₂ (λ s c. children_fault f s d c) on.1 on.0
+if_below f strict true d x cs b on e = ap₂ (λ s c. children_fault f s d c) (plan_strict strict x cs b on) (plan_children strict x cs b on)
 if_below f strict false d x cs b on e = absurd (cc e)
 
 placed_below : (f : FaultOf) (strict : Bool) (d : Data) (o : Option Plan) (cs : List Child) (b : Bool) → OnPlan strict o cs b → Below f strict d (placed_plan strict d o) cs b
