@@ -41,6 +41,5 @@ pub use properties::value_class;
 pub use statements::{directive_text, has_use_strict};
 pub use templates::tagging_there;
 pub use words::{
-    assignment_operator_at, binary_operator_at, property_kind_at, source_type_at,
-    unary_operator_at,
+    assignment_operator_at, binary_operator_at, property_kind_at, source_type_at, unary_operator_at,
 };
