@@ -1,8 +1,8 @@
 -- Errors of the first of two faults, and of a fault below.
-use Rattle.std.proofs.Common.{◌≡◌, ℕ, List, refl, ap, arith}
-use Rattle.std.specs.Prelude.{⊤, Option, Some, None, option_map, IfSome}
+use Rattle.std.proofs.Common.{◌≡◌, ℕ, List, arith}
+use Rattle.std.specs.Prelude.{Option, Some, None, option_map, IfSome}
 use Rattle.mini_accept.specs.Faults as accept
-use Rattle.mini_errors.specs.Faults.{Fault, fault_under, fault_of, IsUnder}
+use Rattle.mini_errors.specs.Faults.{Fault, fault_of, IsUnder}
 use Rattle.mini_errors.specs.declared.error.MinifyError.{MinifyError}
 use Rattle.mini_refusals.specs.Told.{fault_told, Blames}
 use Rattle.mini_refusals.specs.Walk.{first}

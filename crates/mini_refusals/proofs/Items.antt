@@ -1,5 +1,5 @@
 -- The fault of a list, item by item.
-use Rattle.std.proofs.Common.{◌≡◌, ℕ, zero, suc, ◌<◌, ◌+◌, length, get_or, List, [], ◌∷◌, Bool, true, false, drop, refl, ◌∙◌, ap, ap₂, arith, add-one, drop-cons, length-drop}
+use Rattle.std.proofs.Common.{◌≡◌, ℕ, suc, ◌<◌, ◌+◌, length, get_or, List, [], ◌∷◌, Bool, true, false, drop, refl, ◌∙◌, ap, ap₂, arith, add-one, drop-cons, length-drop}
 use Rattle.std.specs.Prelude.{codes, ◌==◌, ◌&&◌, Option, Some, None, option_map, if◌then◌else◌, is_some}
 use Rattle.serde_json.specs.Data.{Data, Items, no_items, item}
 use Rattle.serde_json.specs.Find.{as_null}
@@ -10,7 +10,7 @@ use Rattle.mini_structure.specs.WellShaped.{Class, Depth}
 use Rattle.mini_accept.specs.Faults.{Fault, fault_under}
 use Rattle.mini_accept.specs.Places.{Step, field, place, step_text, down, Place, at, an_exported, a_quasi}
 use Rattle.mini_accept.specs.Fields.{no_item, list_at, has_type}
-use Rattle.mini_accept.specs.Plans.{Part, hole, tree_at, inner_at, checked, ItemPart, parts_from, each, or_hole, or_rest, target_part}
+use Rattle.mini_accept.specs.Plans.{Part, hole, tree_at, inner_at, ItemPart, parts_from, each, or_hole, or_rest, target_part}
 use Rattle.mini_accept.specs.Statements.{directive_text, body_parts, body_part}
 use Rattle.mini_defects.specs.declared.place.Tagging as tagging
 use Rattle.mini_defects.specs.declared.place.Tagging.TheVariants as variant

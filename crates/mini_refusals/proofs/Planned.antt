@@ -1,10 +1,10 @@
 -- The fault of a node by its own defect, or by the children that the table gives it.
-use Rattle.std.proofs.Common.{◌≡◌, ℕ, zero, suc, ◌-◌, ◌<◌, List, [], ◌∷◌, refl, ap, ap₂, sym, subst, ◌∙◌, Bool, true, false, arith}
-use Rattle.std.specs.Prelude.{Option, Some, None, Result, Ok, Err}
+use Rattle.std.proofs.Common.{◌≡◌, ℕ, zero, suc, ◌-◌, ◌<◌, List, refl, ap, ap₂, sym, ◌∙◌, Bool, true, false, arith}
+use Rattle.std.specs.Prelude.{Option, Some, None, option_map, Result, Ok, Err}
 use Rattle.std.specs.Result.{result_err}
 use Rattle.serde_json.specs.Data.{Data}
 use Rattle.mini_structure.specs.WellShaped.{is_strict_in}
-use Rattle.mini_accept.specs.Faults.{Defect, bad_shape, Fault}
+use Rattle.mini_accept.specs.Faults.{Defect, bad_shape}
 use Rattle.mini_accept.specs.Kind.{Kind}
 use Rattle.mini_accept.specs.Places.{Place}
 use Rattle.mini_accept.specs.Fields.{kind_of}
@@ -15,6 +15,9 @@ use Rattle.mini_accept.specs.Accept.{are_placed, plan_if, placed_plan, plan_by, 
 use Rattle.mini_children.specs.Table.{children_at, inside}
 use Rattle.mini_children.proofs.Planned.{OnPlan, plan_children, plan_strict, entry_planned}
 use Rattle.mini_defects.specs.Own.{own_defect}
+use Rattle.mini_errors.specs.Faults.{fault_of}
+use Rattle.mini_errors.specs.declared.error.MinifyError.{MinifyError}
+use Rattle.mini_refusals.specs.Told.{fault_told, Blames}
 use Rattle.mini_refusals.specs.Walk.{FaultOf, own, children_fault, plan_fault, node_fault}
 
 -- ---- an own defect
@@ -26,6 +29,18 @@ by_defect f strict d (Err y) x e = grind (arith, e)
 pub own_fault : (k : ℕ) (strict : Bool) (p : Place) (d : Data) (x : Defect) → 0 < k → own_defect strict p d ≡ Some x → node_fault k strict p d ≡ own x
 own_fault zero strict p d x h e = absurd (omega (arith, h))
 own_fault (suc k) strict p d x h e = by_defect (node_fault k) strict d (plan strict p d) x e
+
+pub own_blamed : (e : MinifyError) (k : ℕ) (strict : Bool) (p : Place) (d : Data) (x : Defect) → 0 < k → own_defect strict p d ≡ Some x → fault_of e ≡ option_map fault_told (own x) → Blames e (node_fault k strict p d)
+own_blamed e k strict p d x h is told = rw (told, own_fault k strict p d x h is) refl
+
+-- a node of no type has a defect
+pub unknown_blamed : (e : MinifyError) (k : ℕ) (strict : Bool) (p : Place) (d : Data) → own_defect strict p d ≡ None → kind_of d ≡ None → Blames e (node_fault k strict p d)
+unknown_blamed e k strict p d fine is = absurd (unknown (is_unread strict p d) (may_stand p d) (plan_by strict p d (kind_of d)) (rw is refl) fine)
+  where
+    unknown : (unread stands : Bool) (o : Result Plan Defect) → o ≡ Err bad_shape → result_err (plan_unless unread stands o) ≡ None → ⊥
+    unknown true stands o e f = cc f
+    unknown false false o e f = cc f
+    unknown false true o e f = cc (sym (ap result_err e) ∙ f)
 
 -- ---- a plan
 

@@ -1,5 +1,5 @@
 -- The first fault is what reading ends with.
-use Rattle.std.proofs.Common.{◌≡◌, ℕ, zero, suc, List, [], ◌∷◌, refl, ap, sym, subst, ◌∙◌, Bool, true, false}
+use Rattle.std.proofs.Common.{◌≡◌, ℕ, zero, suc, List, [], ◌∷◌, refl, ap, subst, ◌∙◌, Bool, true, false}
 use Rattle.std.specs.Prelude.{Option, Some, None, option_map, Result, Ok, Err}
 use Rattle.std.specs.Result.{result_err}
 use Rattle.serde_json.specs.Data.{Data}
@@ -10,8 +10,8 @@ use Rattle.mini_structure.specs.WellShaped.{a_program, is_strict_in}
 use Rattle.mini_accept.specs.Faults.{Defect, Fault, fault_under, under, ◌>>=◌}
 use Rattle.mini_accept.specs.Places.{Step, step_text, down, Place, at}
 use Rattle.mini_accept.specs.Plans.{Part, hole, tree_at, inner_at, checked, Child, one, many, Plan}
-use Rattle.mini_accept.specs.Accept.{plan, Read, Reader, takes_number, below_by, read_below, read_part, read_parts, read_child, read_children, with_children, numbered, read_plan, reads, program_at}
-use Rattle.mini_refusals.specs.Walk.{FaultOf, first, own, below_fault, part_fault, parts_fault, child_fault, children_fault, plan_fault, node_fault}
+use Rattle.mini_accept.specs.Accept.{plan, Read, Reader, takes_number, below_by, read_below, read_part, read_parts, read_child, read_children, numbered, read_plan, reads, program_at}
+use Rattle.mini_refusals.specs.Walk.{FaultOf, first, below_fault, part_fault, parts_fault, child_fault, children_fault, plan_fault, node_fault}
 
 -- the reader ends with these faults, whatever the next number is
 abbrev Ends : Reader → FaultOf → Type 0

@@ -46,7 +46,7 @@ fn refusal(alloc: Global, defect: Defect) -> MinifyError
 
 // A node in strict or sloppy code, in a place, at most so deep.
 #[cycle(walk)]
-#[tactic(auto, using(crate::proofs::Planned::own_fault, crate::proofs::Planned::kind_fault))]
+#[tactic(auto, using(crate::proofs::Planned::own_blamed, crate::proofs::Planned::unknown_blamed, crate::proofs::Planned::kind_fault))]
 fn node(
     alloc: Global,
     strict: bool,
@@ -164,20 +164,23 @@ fn node_at(
     }
 }
 
-// The node at a place of a list.
+// The node at a place of a list, if there is one.
 #[cycle(walk)]
 #[tactic(auto, using(crate::proofs::Blamed::blames_under))]
 fn item(
     alloc: Global,
     strict: bool,
-    place: Place,
+    place: Option<Place>,
     key: &str,
     index: usize,
     value: &Value,
     depth: u32,
 ) -> Result<(), MinifyError>
-    ensures { Tells result (item_fault (node_fault depth) strict (Some (place_of place)) key.now index (view value.now)) }
+    ensures { Tells result (item_fault (node_fault depth) strict (option_map place_of place) key.now index (view value.now)) }
 {
+    let Some(place) = place else {
+        return Ok(());
+    };
     match node(alloc, strict, place, value, depth) {
         Ok(()) => Ok(()),
         Err(e) => Err(e.under_item(alloc, key, index)),
@@ -199,9 +202,8 @@ fn items(
 {
     for (index, value) in list.iter().enumerate() {
         let last = index + 1 == list.len();
-        if let Some(place) = place_in(form, last, value) {
-            item(alloc, strict, place, key, index, value, depth)?;
-        }
+        let place = place_in(form, last, value);
+        item(alloc, strict, place, key, index, value, depth)?;
     }
     Ok(())
 }
@@ -226,7 +228,7 @@ fn statements(
         } else {
             Place::At(Class::Statement(standing))
         };
-        item(alloc, strict, place, "body", index, value, depth)?;
+        item(alloc, strict, Some(place), "body", index, value, depth)?;
     }
     Ok(())
 }
