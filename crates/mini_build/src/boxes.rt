@@ -3,11 +3,11 @@
 ghost use Rattle.std.specs.Prelude.{◌≡◌, IfOk};
 ghost use Rattle.mini_ast.specs.Plain.{expression_tree, statement_tree, binding_pattern_tree, assignment_target_tree};
 
-use crate::gone::{drop_assignment_target, drop_binding_pattern, drop_expression, drop_statement};
 use mini_ast::{
     AssignmentTarget, BindingPattern, BoxedAssignmentTarget, BoxedBindingPattern, BoxedExpression,
     BoxedStatement, Expression, Statement,
 };
+use mini_drop::{drop_assignment_target, drop_binding_pattern, drop_expression, drop_statement};
 use mini_text::OutOfMemory;
 use std::alloc::Global;
 

@@ -13,7 +13,12 @@ use mini_ast::{
     InnerArgument, InnerArguments, InnerExpression, InnerExpressions, ObjectPropertyKind,
     Properties, Statement, Statements, SwitchCase, VariableDeclarator,
 };
-use mini_drop::{Gone, let_go};
+use mini_drop::{
+    drop_argument, drop_array_assignment_target_element, drop_array_pattern_element,
+    drop_assignment_target_property, drop_binding_property, drop_boxed_expression,
+    drop_boxed_statement, drop_case, drop_class_element, drop_declarator, drop_element,
+    drop_formal_parameter, drop_inner_argument, drop_inner_expression, drop_property,
+};
 use mini_text::OutOfMemory;
 
 /// Puts the expression last, in a box of its own. After `OutOfMemory` the list is as it was, and the expression is gone.
@@ -25,7 +30,7 @@ pub fn push_expression(list: &mut Exprs, item: Expression) -> Result<(), OutOfMe
     match list.try_push(boxed) {
         Ok(()) => Ok(()),
         Err(refused) => {
-            let_go(Gone::BoxedExpression(refused.value));
+            drop_boxed_expression(refused.value);
             Err(OutOfMemory)
         }
     }
@@ -42,7 +47,7 @@ pub fn insert_expression(list: &mut Exprs, at: usize, item: Expression) -> Resul
     match list.try_insert(at, boxed) {
         Ok(()) => Ok(()),
         Err(refused) => {
-            let_go(Gone::BoxedExpression(refused.value));
+            drop_boxed_expression(refused.value);
             Err(OutOfMemory)
         }
     }
@@ -57,7 +62,7 @@ pub fn push_statement(list: &mut Statements, item: Statement) -> Result<(), OutO
     match list.try_push(boxed) {
         Ok(()) => Ok(()),
         Err(refused) => {
-            let_go(Gone::BoxedStatement(refused.value));
+            drop_boxed_statement(refused.value);
             Err(OutOfMemory)
         }
     }
@@ -78,7 +83,7 @@ pub fn insert_statement(
     match list.try_insert(at, boxed) {
         Ok(()) => Ok(()),
         Err(refused) => {
-            let_go(Gone::BoxedStatement(refused.value));
+            drop_boxed_statement(refused.value);
             Err(OutOfMemory)
         }
     }
@@ -92,7 +97,7 @@ pub fn push_element(list: &mut Elements, item: ArrayExpressionElement) -> Result
     match list.try_push(item) {
         Ok(()) => Ok(()),
         Err(refused) => {
-            let_go(Gone::Element(refused.value));
+            drop_element(refused.value);
             Err(OutOfMemory)
         }
     }
@@ -106,7 +111,7 @@ pub fn push_argument(list: &mut Arguments, item: Argument) -> Result<(), OutOfMe
     match list.try_push(item) {
         Ok(()) => Ok(()),
         Err(refused) => {
-            let_go(Gone::Argument(refused.value));
+            drop_argument(refused.value);
             Err(OutOfMemory)
         }
     }
@@ -123,7 +128,7 @@ pub fn push_inner_argument(
     match list.try_push(item) {
         Ok(()) => Ok(()),
         Err(refused) => {
-            let_go(Gone::InnerArgument(refused.value));
+            drop_inner_argument(refused.value);
             Err(OutOfMemory)
         }
     }
@@ -137,7 +142,7 @@ pub fn push_property(list: &mut Properties, item: ObjectPropertyKind) -> Result<
     match list.try_push(item) {
         Ok(()) => Ok(()),
         Err(refused) => {
-            let_go(Gone::Property(refused.value));
+            drop_property(refused.value);
             Err(OutOfMemory)
         }
     }
@@ -154,7 +159,7 @@ pub fn push_inner_expression(
     match list.try_push(item) {
         Ok(()) => Ok(()),
         Err(refused) => {
-            let_go(Gone::InnerExpression(refused.value));
+            drop_inner_expression(refused.value);
             Err(OutOfMemory)
         }
     }
@@ -171,7 +176,7 @@ pub fn push_formal_parameter(
     match list.try_push(item) {
         Ok(()) => Ok(()),
         Err(refused) => {
-            let_go(Gone::FormalParameter(refused.value));
+            drop_formal_parameter(refused.value);
             Err(OutOfMemory)
         }
     }
@@ -185,7 +190,7 @@ pub fn push_class_element(list: &mut ClassElements, item: ClassElement) -> Resul
     match list.try_push(item) {
         Ok(()) => Ok(()),
         Err(refused) => {
-            let_go(Gone::ClassElement(refused.value));
+            drop_class_element(refused.value);
             Err(OutOfMemory)
         }
     }
@@ -202,7 +207,7 @@ pub fn push_binding_property(
     match list.try_push(item) {
         Ok(()) => Ok(()),
         Err(refused) => {
-            let_go(Gone::BindingProperty(refused.value));
+            drop_binding_property(refused.value);
             Err(OutOfMemory)
         }
     }
@@ -219,7 +224,7 @@ pub fn push_array_pattern_element(
     match list.try_push(item) {
         Ok(()) => Ok(()),
         Err(refused) => {
-            let_go(Gone::ArrayPatternElement(refused.value));
+            drop_array_pattern_element(refused.value);
             Err(OutOfMemory)
         }
     }
@@ -236,7 +241,7 @@ pub fn push_assignment_target_property(
     match list.try_push(item) {
         Ok(()) => Ok(()),
         Err(refused) => {
-            let_go(Gone::AssignmentTargetProperty(refused.value));
+            drop_assignment_target_property(refused.value);
             Err(OutOfMemory)
         }
     }
@@ -253,7 +258,7 @@ pub fn push_array_assignment_target_element(
     match list.try_push(item) {
         Ok(()) => Ok(()),
         Err(refused) => {
-            let_go(Gone::ArrayAssignmentTargetElement(refused.value));
+            drop_array_assignment_target_element(refused.value);
             Err(OutOfMemory)
         }
     }
@@ -267,7 +272,7 @@ pub fn push_case(list: &mut Cases, item: SwitchCase) -> Result<(), OutOfMemory>
     match list.try_push(item) {
         Ok(()) => Ok(()),
         Err(refused) => {
-            let_go(Gone::Case(refused.value));
+            drop_case(refused.value);
             Err(OutOfMemory)
         }
     }
@@ -281,7 +286,7 @@ pub fn push_declarator(list: &mut Declarators, item: VariableDeclarator) -> Resu
     match list.try_push(item) {
         Ok(()) => Ok(()),
         Err(refused) => {
-            let_go(Gone::Declarator(refused.value));
+            drop_declarator(refused.value);
             Err(OutOfMemory)
         }
     }
@@ -301,7 +306,7 @@ pub fn insert_declarator(
     match list.try_insert(at, item) {
         Ok(()) => Ok(()),
         Err(refused) => {
-            let_go(Gone::Declarator(refused.value));
+            drop_declarator(refused.value);
             Err(OutOfMemory)
         }
     }

@@ -1,7 +1,7 @@
 //! Letting trees go.
 //!
-//! The drop of any node is proved over all types of nodes. It is proved here, once, in one call: the crates above let no
-//! tree go by themselves.
+//! The drop of any node is proved over all types of nodes. It is proved here, once: a crate above calls these and lets no
+//! tree go by itself.
 #![tactic(auto)]
 
 use mini_ast::{
@@ -15,51 +15,197 @@ use mini_ast::{
     Statements, SwitchCase, VariableDeclarator,
 };
 
-/// A tree, or a part of one, that is let go.
-#[derive(Drop)]
-pub enum Gone {
-    Expression(Expression),
-    Statement(Statement),
-    BindingPattern(BindingPattern),
-    AssignmentTarget(AssignmentTarget),
-    BoxedExpression(BoxedExpression),
-    BoxedStatement(BoxedStatement),
-    BoxedBindingPattern(BoxedBindingPattern),
-    BoxedAssignmentTarget(BoxedAssignmentTarget),
-    Exprs(Exprs),
-    Statements(Statements),
-    Element(ArrayExpressionElement),
-    Elements(Elements),
-    Argument(Argument),
-    Arguments(Arguments),
-    InnerArgument(InnerArgument),
-    InnerArguments(InnerArguments),
-    InnerExpression(InnerExpression),
-    InnerExpressions(InnerExpressions),
-    Property(ObjectPropertyKind),
-    Properties(Properties),
-    FormalParameter(FormalParameter),
-    FormalParameters(FormalParameters),
-    Function(Function),
-    Class(Class),
-    ClassElement(ClassElement),
-    ClassElements(ClassElements),
-    BindingProperty(BindingPropertyKind),
-    BindingProperties(BindingProperties),
-    ArrayPatternElement(ArrayPatternElement),
-    ArrayPatternElements(ArrayPatternElements),
-    AssignmentTargetProperty(AssignmentTargetProperty),
-    AssignmentTargetProperties(AssignmentTargetProperties),
-    ArrayAssignmentTargetElement(ArrayAssignmentTargetElement),
-    ArrayAssignmentTargetElements(ArrayAssignmentTargetElements),
-    Case(SwitchCase),
-    Cases(Cases),
-    Declarator(VariableDeclarator),
-    Declarators(Declarators),
-    Program(Program),
+/// Lets an expression go.
+pub fn drop_expression(gone: Expression) {
+    drop(gone);
 }
 
-/// Lets the tree, or the part of one, go.
-pub fn let_go(gone: Gone) {
+/// Lets a statement go.
+pub fn drop_statement(gone: Statement) {
+    drop(gone);
+}
+
+/// Lets a binding pattern go.
+pub fn drop_binding_pattern(gone: BindingPattern) {
+    drop(gone);
+}
+
+/// Lets an assignment target go.
+pub fn drop_assignment_target(gone: AssignmentTarget) {
+    drop(gone);
+}
+
+/// Lets an expression go with its box.
+pub fn drop_boxed_expression(gone: BoxedExpression) {
+    drop(gone);
+}
+
+/// Lets a statement go with its box.
+pub fn drop_boxed_statement(gone: BoxedStatement) {
+    drop(gone);
+}
+
+/// Lets a binding pattern go with its box.
+pub fn drop_boxed_binding_pattern(gone: BoxedBindingPattern) {
+    drop(gone);
+}
+
+/// Lets an assignment target go with its box.
+pub fn drop_boxed_assignment_target(gone: BoxedAssignmentTarget) {
+    drop(gone);
+}
+
+/// Lets a list of expressions go.
+pub fn drop_exprs(gone: Exprs) {
+    drop(gone);
+}
+
+/// Lets a list of statements go.
+pub fn drop_statements(gone: Statements) {
+    drop(gone);
+}
+
+/// Lets the elements of an array literal go.
+pub fn drop_elements(gone: Elements) {
+    drop(gone);
+}
+
+/// Lets the arguments of a call go.
+pub fn drop_arguments(gone: Arguments) {
+    drop(gone);
+}
+
+/// Lets the arguments of a call of the parent's constructor go.
+pub fn drop_inner_arguments(gone: InnerArguments) {
+    drop(gone);
+}
+
+/// Lets the expressions of a tagged template go.
+pub fn drop_inner_expressions(gone: InnerExpressions) {
+    drop(gone);
+}
+
+/// Lets the properties of an object literal go.
+pub fn drop_properties(gone: Properties) {
+    drop(gone);
+}
+
+/// Lets the parameters of a function go.
+pub fn drop_formal_parameters(gone: FormalParameters) {
+    drop(gone);
+}
+
+/// Lets a function go.
+pub fn drop_function(gone: Function) {
+    drop(gone);
+}
+
+/// Lets a class go.
+pub fn drop_class(gone: Class) {
+    drop(gone);
+}
+
+/// Lets the elements of a class go.
+pub fn drop_class_elements(gone: ClassElements) {
+    drop(gone);
+}
+
+/// Lets the properties of an object pattern go.
+pub fn drop_binding_properties(gone: BindingProperties) {
+    drop(gone);
+}
+
+/// Lets the elements of an array pattern go.
+pub fn drop_array_pattern_elements(gone: ArrayPatternElements) {
+    drop(gone);
+}
+
+/// Lets the properties of an object pattern of an assignment go.
+pub fn drop_assignment_target_properties(gone: AssignmentTargetProperties) {
+    drop(gone);
+}
+
+/// Lets the elements of an array pattern of an assignment go.
+pub fn drop_array_assignment_target_elements(gone: ArrayAssignmentTargetElements) {
+    drop(gone);
+}
+
+/// Lets the cases of a `switch` go.
+pub fn drop_cases(gone: Cases) {
+    drop(gone);
+}
+
+/// Lets what a declaration declares go.
+pub fn drop_declarators(gone: Declarators) {
+    drop(gone);
+}
+
+/// Lets a program go.
+pub fn drop_program(gone: Program) {
+    drop(gone);
+}
+
+/// Lets an element of an array literal go.
+pub fn drop_element(gone: ArrayExpressionElement) {
+    drop(gone);
+}
+
+/// Lets an argument of a call go.
+pub fn drop_argument(gone: Argument) {
+    drop(gone);
+}
+
+/// Lets an argument of a call of the parent's constructor go.
+pub fn drop_inner_argument(gone: InnerArgument) {
+    drop(gone);
+}
+
+/// Lets an expression that its place carries go.
+pub fn drop_inner_expression(gone: InnerExpression) {
+    drop(gone);
+}
+
+/// Lets a property of an object literal go.
+pub fn drop_property(gone: ObjectPropertyKind) {
+    drop(gone);
+}
+
+/// Lets a parameter of a function go.
+pub fn drop_formal_parameter(gone: FormalParameter) {
+    drop(gone);
+}
+
+/// Lets an element of a class go.
+pub fn drop_class_element(gone: ClassElement) {
+    drop(gone);
+}
+
+/// Lets a property of an object pattern go.
+pub fn drop_binding_property(gone: BindingPropertyKind) {
+    drop(gone);
+}
+
+/// Lets an element of an array pattern go.
+pub fn drop_array_pattern_element(gone: ArrayPatternElement) {
+    drop(gone);
+}
+
+/// Lets a property of an object pattern of an assignment go.
+pub fn drop_assignment_target_property(gone: AssignmentTargetProperty) {
+    drop(gone);
+}
+
+/// Lets an element of an array pattern of an assignment go.
+pub fn drop_array_assignment_target_element(gone: ArrayAssignmentTargetElement) {
+    drop(gone);
+}
+
+/// Lets a case of a `switch` go.
+pub fn drop_case(gone: SwitchCase) {
+    drop(gone);
+}
+
+/// Lets what a declarator declares go.
+pub fn drop_declarator(gone: VariableDeclarator) {
     drop(gone);
 }
