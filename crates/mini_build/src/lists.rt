@@ -5,6 +5,7 @@ ghost use Rattle.std.specs.Prelude.{◌≡◌, [], ◌∷◌, ◌++◌, ◌≤�
 ghost use Rattle.mini_ast.specs.Plain.{expression_tree, statement_tree};
 
 use crate::boxes::{boxed_expression, boxed_statement};
+use crate::gone::{drop_boxed_expression, drop_boxed_statement};
 use mini_ast::{
     Argument, Arguments, ArrayAssignmentTargetElement, ArrayAssignmentTargetElements,
     ArrayExpressionElement, ArrayPatternElement, ArrayPatternElements, AssignmentTargetProperties,
@@ -15,9 +16,9 @@ use mini_ast::{
 };
 use mini_drop::{
     drop_argument, drop_array_assignment_target_element, drop_array_pattern_element,
-    drop_assignment_target_property, drop_binding_property, drop_boxed_expression,
-    drop_boxed_statement, drop_case, drop_class_element, drop_declarator, drop_element,
-    drop_formal_parameter, drop_inner_argument, drop_inner_expression, drop_property,
+    drop_assignment_target_property, drop_binding_property, drop_case, drop_class_element,
+    drop_declarator, drop_element, drop_formal_parameter, drop_inner_argument,
+    drop_inner_expression, drop_property,
 };
 use mini_text::OutOfMemory;
 

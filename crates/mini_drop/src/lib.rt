@@ -5,14 +5,10 @@
 #![tactic(auto)]
 
 use mini_ast::{
-    Argument, Arguments, ArrayAssignmentTargetElement, ArrayAssignmentTargetElements,
-    ArrayExpressionElement, ArrayPatternElement, ArrayPatternElements, AssignmentTarget,
-    AssignmentTargetProperties, AssignmentTargetProperty, BindingPattern, BindingProperties,
-    BindingPropertyKind, BoxedAssignmentTarget, BoxedBindingPattern, BoxedExpression,
-    BoxedStatement, Cases, Class, ClassElement, ClassElements, Declarators, Elements, Expression,
-    Exprs, FormalParameter, FormalParameters, Function, InnerArgument, InnerArguments,
-    InnerExpression, InnerExpressions, ObjectPropertyKind, Program, Properties, Statement,
-    Statements, SwitchCase, VariableDeclarator,
+    Argument, Arguments, ArrayAssignmentTargetElement, ArrayExpressionElement, ArrayPatternElement,
+    AssignmentTarget, AssignmentTargetProperty, BindingPattern, BindingPropertyKind, Cases,
+    ClassElement, Expression, FormalParameter, InnerArgument, InnerExpression, InnerExpressions,
+    ObjectPropertyKind, Program, Statement, SwitchCase, VariableDeclarator,
 };
 
 /// Lets an expression go.
@@ -35,48 +31,8 @@ pub fn drop_assignment_target(gone: AssignmentTarget) {
     drop(gone);
 }
 
-/// Lets an expression go with its box.
-pub fn drop_boxed_expression(gone: BoxedExpression) {
-    drop(gone);
-}
-
-/// Lets a statement go with its box.
-pub fn drop_boxed_statement(gone: BoxedStatement) {
-    drop(gone);
-}
-
-/// Lets a binding pattern go with its box.
-pub fn drop_boxed_binding_pattern(gone: BoxedBindingPattern) {
-    drop(gone);
-}
-
-/// Lets an assignment target go with its box.
-pub fn drop_boxed_assignment_target(gone: BoxedAssignmentTarget) {
-    drop(gone);
-}
-
-/// Lets a list of expressions go.
-pub fn drop_exprs(gone: Exprs) {
-    drop(gone);
-}
-
-/// Lets a list of statements go.
-pub fn drop_statements(gone: Statements) {
-    drop(gone);
-}
-
-/// Lets the elements of an array literal go.
-pub fn drop_elements(gone: Elements) {
-    drop(gone);
-}
-
 /// Lets the arguments of a call go.
 pub fn drop_arguments(gone: Arguments) {
-    drop(gone);
-}
-
-/// Lets the arguments of a call of the parent's constructor go.
-pub fn drop_inner_arguments(gone: InnerArguments) {
     drop(gone);
 }
 
@@ -85,58 +41,8 @@ pub fn drop_inner_expressions(gone: InnerExpressions) {
     drop(gone);
 }
 
-/// Lets the properties of an object literal go.
-pub fn drop_properties(gone: Properties) {
-    drop(gone);
-}
-
-/// Lets the parameters of a function go.
-pub fn drop_formal_parameters(gone: FormalParameters) {
-    drop(gone);
-}
-
-/// Lets a function go.
-pub fn drop_function(gone: Function) {
-    drop(gone);
-}
-
-/// Lets a class go.
-pub fn drop_class(gone: Class) {
-    drop(gone);
-}
-
-/// Lets the elements of a class go.
-pub fn drop_class_elements(gone: ClassElements) {
-    drop(gone);
-}
-
-/// Lets the properties of an object pattern go.
-pub fn drop_binding_properties(gone: BindingProperties) {
-    drop(gone);
-}
-
-/// Lets the elements of an array pattern go.
-pub fn drop_array_pattern_elements(gone: ArrayPatternElements) {
-    drop(gone);
-}
-
-/// Lets the properties of an object pattern of an assignment go.
-pub fn drop_assignment_target_properties(gone: AssignmentTargetProperties) {
-    drop(gone);
-}
-
-/// Lets the elements of an array pattern of an assignment go.
-pub fn drop_array_assignment_target_elements(gone: ArrayAssignmentTargetElements) {
-    drop(gone);
-}
-
 /// Lets the cases of a `switch` go.
 pub fn drop_cases(gone: Cases) {
-    drop(gone);
-}
-
-/// Lets what a declaration declares go.
-pub fn drop_declarators(gone: Declarators) {
     drop(gone);
 }
 
