@@ -28,10 +28,30 @@ fn accepts(rt: HostRuntime) -> Result<(), Fail> {
 }
 
 #[test]
-fn refuses(rt: HostRuntime) -> Result<(), Fail> {
-    for (what, text, variant, place) in refused::REFUSED {
+fn blames_the_node_above(rt: HostRuntime) -> Result<(), Fail> {
+    for (what, text, place) in refused::MISPLACED {
         let found = answer(&rt, text, 30)?;
-        let wanted = format!(in rt.alloc(); "{variant} {place}")?;
+        let wanted = format!(in rt.alloc(); "BadShape {place}")?;
+        assert_eq!(rt; found.as_str(), wanted.as_str(), "{what}");
+    }
+    Ok(())
+}
+
+#[test]
+fn refuses_what_is_no_node(rt: HostRuntime) -> Result<(), Fail> {
+    for (what, text, place) in refused::MISSHAPEN {
+        let found = answer(&rt, text, 30)?;
+        let wanted = format!(in rt.alloc(); "BadShape {place}")?;
+        assert_eq!(rt; found.as_str(), wanted.as_str(), "{what}");
+    }
+    Ok(())
+}
+
+#[test]
+fn refuses_what_is_not_read(rt: HostRuntime) -> Result<(), Fail> {
+    for (what, text, place) in refused::UNREAD {
+        let found = answer(&rt, text, 30)?;
+        let wanted = format!(in rt.alloc(); "Unsupported {place}")?;
         assert_eq!(rt; found.as_str(), wanted.as_str(), "{what}");
     }
     Ok(())
