@@ -1,11 +1,11 @@
 -- What was delivered of a whole input is what is due of a run that read it; and a valid input is answered.
-use Rattle.std.proofs.Common.{◌≡◌, ℕ, ◌≤◌, ◌++◌, List, [], length, sym, ap, ◌∙◌, arith}
-use Rattle.std.specs.Prelude.{Option, Some, None, Err}
+use Rattle.std.proofs.Common.{◌≡◌, ℕ, ◌≤◌, ◌++◌, List, [], length, sym, ap, ◌∙◌, inl, inr, arith}
+use Rattle.std.specs.Prelude.{◌⊎◌, Option, Some, None, is_ok, is_err}
 use Rattle.std.specs.Io.KnownBytes.{Consumes, IsAtEnd}
 use Rattle.std.proofs.lemmas.List.{length-append, append-nil}
 use Rattle.mini_options.specs.declared.options.CompressOptions.{CompressOptions}
-use Rattle.mini_estree.specs.Accept.{program_at}
 use Rattle.mini_errors.specs.Faults.{Fault}
+use Rattle.mini_peephole.specs.Minified.{HasDefect}
 use Rattle.mini_app.specs.Answer.{Change, Gave, HasFault, IsNotJson, IsDelivered, IsDue, IsValidInput, IsAnswered}
 use Rattle.mini_app.specs.Words.{NameOptions}
 use Rattle.mini_app.specs.declared.run.Status.{Status}
@@ -48,8 +48,11 @@ no_defect : (words : List (List ℕ)) (o : CompressOptions) (source : Change) (i
 no_defect words o source input valid name gave f has =
     let same = all_given source.before source.after valid.input input valid.there gave.bytes gave.end in
     let value : valid.value ≡ has.value = cc (sym valid.reads ∙ rw same at has.reads) in
-    let failed : program_at valid.options.max_depth valid.value ≡ Err f = rw (value, names_one words valid.options o valid.name name) has.defect in
-    cc (sym valid.accepted ∙ failed)
+    let defect : HasDefect valid.value valid.options f = rw (value, names_one words valid.options o valid.name name) has.defect in
+    elim defect [
+      | inl bad ↦ cc (sym valid.estree ∙ ap is_ok bad.1)
+      | inr outside ↦ cc (sym outside.1 ∙ ap is_err valid.accepted)
+    ]
 
 pub answered_of : (s : Status) (words : List (List ℕ)) (source sink notes : Change) → IsDue s words source sink notes → IsValidInput words source.before → IsAnswered s source.faults_before source.faults_after sink.faults_before sink.faults_after
 answered_of Done words source sink notes due valid = tt

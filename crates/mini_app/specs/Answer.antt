@@ -1,5 +1,5 @@
 -- What a run answers, and when.
-use Rattle.std.specs.Prelude.{◌≡◌, ℕ, ◌<◌, ◌≤◌, ◌⊎◌, List, [], ◌∷◌, ◌++◌, length, codes, map, Option, Some, None, Ok, string_bytes, IsUtf8}
+use Rattle.std.specs.Prelude.{◌≡◌, ℕ, ◌<◌, ◌≤◌, ◌⊎◌, List, [], ◌∷◌, ◌++◌, length, codes, map, Option, Some, None, Ok, string_bytes, IsOk, IsUtf8}
 use Rattle.std.specs.Io.KnownBytes.{Appends, Consumes, IsAtEnd}
 use Rattle.serde_json.specs.Data.{Data, unsigned, number, boolean, array, object, no_members, member}
 use Rattle.serde_json.specs.View.{view, items_of}
@@ -7,6 +7,7 @@ use Rattle.serde_json.specs.Written.{compact_text}
 use Rattle.serde_json.specs.Read.{read}
 use Rattle.mini_model.specs.Tree.{Tree}
 use Rattle.mini_options.specs.declared.options.CompressOptions.{CompressOptions}
+use Rattle.mini_accept.specs.Accept as table
 use Rattle.mini_estree.specs.Accept.{program_at}
 use Rattle.mini_errors.specs.Faults.{Fault, fault_of, name_of_defect}
 use Rattle.mini_peephole.specs.Faithful.{Faithful, PassesBounded}
@@ -126,8 +127,8 @@ IsDue WriteFault words source sink notes = IsDueOfAll WriteFault words source si
 IsDue NotJson words source sink notes = IsDueOfAll NotJson words source sink notes
 IsDue Refused words source sink notes = IsDueOfAll Refused words source sink notes
 
--- The words are good; the source tells its bytes, which aren't too many; and they are JSON of a program that is accepted
--- under the options that the words name.
+-- The words are good; the source tells its bytes, which aren't too many; and they are JSON of a program that is read
+-- under the options that the words name, and is of the first path.
 pub record IsValidInput (words : List (List ℕ)) (before : Option (List ℕ)) : Type 0 where
   pub options : CompressOptions
   pub name : NameOptions words options
@@ -137,6 +138,7 @@ pub record IsValidInput (words : List (List ℕ)) (before : Option (List ℕ)) :
   pub utf8 : IsUtf8 input
   pub value : Data
   pub reads : read input ≡ Some value
+  pub estree : IsOk (table.program_at options.max_depth value)
   pub tree : Tree
   pub accepted : program_at options.max_depth value ≡ Ok tree
 
