@@ -4,6 +4,9 @@
 //! type as a record over those. The types and their views are in `mini_ast`.
 #![tactic(auto)]
 
+#[cfg(test)]
+mod tests;
+
 pub use mini_ast::Argument;
 pub use mini_ast::ArgumentOf;
 pub use mini_ast::Arguments;
