@@ -1,8 +1,8 @@
-// What trees are made of that is no tree: names and texts.
+// What trees are made of: names, texts and a name that is written.
 
 use crate::{
-    BindingIdentifier, IdentifierReference, Name, OwnedList, Quasis, StringLiteral,
-    TemplateElement, TemplateElementValue, Text,
+    AssignmentTarget, BoxedAssignmentTarget, IdentifierReference, Name, OwnedList, Quasis,
+    StringLiteral, TemplateElement, TemplateElementValue, Text, boxed_assignment_target,
 };
 use std::alloc::Global;
 use std::test::Fail;
@@ -21,12 +21,10 @@ pub fn reference(alloc: Global, spelled: &str) -> Result<IdentifierReference, Fa
     })
 }
 
-/// A name that is declared.
-pub fn binding(alloc: Global, spelled: &str) -> Result<BindingIdentifier, Fail> {
-    Ok(BindingIdentifier {
-        name: name(alloc, spelled)?,
-        symbol: None,
-    })
+/// A name that is written.
+pub fn named_target(alloc: Global, spelled: &str) -> Result<BoxedAssignmentTarget, Fail> {
+    let name = reference(alloc, spelled)?;
+    Ok(boxed_assignment_target(alloc, AssignmentTarget::Identifier(name))?)
 }
 
 /// A text in quotes.

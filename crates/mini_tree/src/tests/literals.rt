@@ -1,13 +1,11 @@
 // Words that take no operand.
 
-use super::leaves::{name, reference, string};
-use super::patterns::named_target;
+use super::leaves::{name, named_target, reference, string};
 use crate::{
-    BigIntLiteral, BindingIdentifier, BooleanLiteral, Expression, Exprs, Function, MetaProperty,
-    MetaPropertyKind, NumericLiteral, OwnedList, RegExpLiteral, Statements,
-    SuperStaticMemberExpression, Text, UpdateExpressionOf, UpdateOperator, push_expression,
+    BigIntLiteral, BooleanLiteral, Expression, Exprs, Function, MetaProperty, MetaPropertyKind,
+    NumericLiteral, OwnedList, RegExpLiteral, Statements, SuperStaticMemberExpression, Text,
+    UpdateExpressionOf, UpdateOperator, push_expression,
 };
-use std::alloc::Global;
 use std::test::Fail;
 
 /// Puts a literal last, or what else is one word; false where the word is none.
@@ -27,10 +25,7 @@ pub fn literal(parts: &mut Exprs, word: &str) -> Result<bool, Fail> {
         "new.target" => new_target(parts)?,
         "x++" => update(parts)?,
         "super.p" => super_member(parts)?,
-        "function(){}" => {
-            let function = function(parts.allocator(), false, None);
-            push_expression(parts, Expression::FunctionExpression(function))?;
-        }
+        "function(){}" => function(parts)?,
         _ => return Ok(false),
     }
     Ok(true)
@@ -89,15 +84,17 @@ pub fn identifier(parts: &mut Exprs, spelled: &str) -> Result<(), Fail> {
     Ok(push_expression(parts, Expression::Identifier(name))?)
 }
 
-/// A function without parameters, whose body is empty.
-pub fn function(alloc: Global, declaration: bool, id: Option<BindingIdentifier>) -> Function {
-    Function {
+// A function without parameters, whose body is empty.
+fn function(parts: &mut Exprs) -> Result<(), Fail> {
+    let alloc = parts.allocator();
+    let function = Function {
         number: 0,
-        declaration,
+        declaration: false,
         generator: false,
-        id,
+        id: None,
         params: OwnedList::new(alloc),
         directives: OwnedList::new(alloc),
         body: Statements::new(alloc),
-    }
+    };
+    Ok(push_expression(parts, Expression::FunctionExpression(function))?)
 }

@@ -1,8 +1,6 @@
 // The operands that the words before have left. No tree is let go but by a call that says so.
 
-use crate::{
-    BoxedExpression, BoxedStatement, Exprs, Statements, drop_boxed_expression, drop_boxed_statement,
-};
+use crate::{BoxedExpression, Exprs, drop_boxed_expression};
 use std::test::Fail;
 
 /// The last expression.
@@ -20,29 +18,6 @@ pub fn last_two(parts: &mut Exprs) -> Result<(BoxedExpression, BoxedExpression),
         Ok(first) => Ok((first, second)),
         Err(fail) => {
             drop_boxed_expression(second);
-            Err(fail)
-        }
-    }
-}
-
-/// The last statement.
-pub fn last_statement(statements: &mut Statements) -> Result<BoxedStatement, Fail> {
-    match statements.pop() {
-        Some(statement) => Ok(statement),
-        None => Err(Fail::new("a statement is wanted")),
-    }
-}
-
-/// The last expression and the last statement.
-pub fn last_of_both(
-    parts: &mut Exprs,
-    statements: &mut Statements,
-) -> Result<(BoxedExpression, BoxedStatement), Fail> {
-    let part = last(parts)?;
-    match last_statement(statements) {
-        Ok(statement) => Ok((part, statement)),
-        Err(fail) => {
-            drop_boxed_expression(part);
             Err(fail)
         }
     }

@@ -1,12 +1,12 @@
 // Words of operators, which take their operands from the last on.
 
+use super::leaves::named_target;
 use super::operands::{last, last_two};
-use super::patterns::named_target;
 use crate::{
     AssignmentExpression, AssignmentOperator, BinaryExpressionOf, BinaryOperator,
-    BoxedAssignmentTarget, ConditionalExpressionOf, Expression, Exprs, LogicalExpressionOf,
-    LogicalOperator, OutOfMemory, SequenceExpressionOf, UnaryExpressionOf, UnaryOperator,
-    drop_boxed_assignment_target, drop_boxed_expression, drop_exprs, push_expression,
+    ConditionalExpressionOf, Expression, Exprs, LogicalExpressionOf, LogicalOperator, OutOfMemory,
+    SequenceExpressionOf, UnaryExpressionOf, UnaryOperator, drop_boxed_assignment_target,
+    drop_boxed_expression, drop_exprs, push_expression,
 };
 use std::test::Fail;
 
@@ -143,18 +143,9 @@ pub fn take_last(parts: &mut Exprs, list: &mut Exprs, count: usize) -> Result<()
     Ok(())
 }
 
-// A name on the left.
+// An assignment of the last operand to a name.
 fn name_assignment(parts: &mut Exprs, operator: AssignmentOperator) -> Result<(), Fail> {
     let left = named_target(parts.allocator(), "x")?;
-    assignment(parts, operator, left)
-}
-
-/// Puts an assignment of the last operand last.
-pub fn assignment(
-    parts: &mut Exprs,
-    operator: AssignmentOperator,
-    left: BoxedAssignmentTarget,
-) -> Result<(), Fail> {
     match last(parts) {
         Ok(right) => Ok(push_expression(
             parts,

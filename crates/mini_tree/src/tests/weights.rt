@@ -1,9 +1,7 @@
 // The weights of trees in postfix.
 
-use super::words::{read_expressions, read_statements};
-use crate::{
-    Exprs, Statements, StmtSeat, drop_exprs, drop_statements, expr_weight, seats, stmt_weight,
-};
+use super::words::read_expressions;
+use crate::{Exprs, drop_exprs, expr_weight, seats};
 use std::alloc::Global;
 use std::test::Fail;
 
@@ -18,23 +16,4 @@ pub fn expression_weight(alloc: Global, postfix: &str) -> Result<u64, Fail> {
     drop_exprs(parts);
     outcome?;
     Ok(found.ok_or("one expression is wanted")?)
-}
-
-/// The weights of the text's only statement in a list, as a body and as a consequent.
-pub fn statement_weights(alloc: Global, postfix: &str) -> Result<[u64; 3], Fail> {
-    let mut parts = Exprs::new(alloc);
-    let mut statements = Statements::new(alloc);
-    let outcome = read_statements(&mut parts, &mut statements, postfix);
-    let found = match statements.as_slice() {
-        [whole] => Some([
-            stmt_weight(whole.get(), StmtSeat::List),
-            stmt_weight(whole.get(), StmtSeat::Body),
-            stmt_weight(whole.get(), StmtSeat::Consequent),
-        ]),
-        _ => None,
-    };
-    drop_exprs(parts);
-    drop_statements(statements);
-    outcome?;
-    Ok(found.ok_or("one statement is wanted")?)
 }

@@ -1,17 +1,17 @@
-// Patterns, and words that have one.
+// Patterns, and the expressions that have one.
 
-use super::leaves::{binding, name, reference};
-use super::operators::assignment;
-use crate::{
+use super::leaves::{binding, name, reference, use_strict};
+use super::operands::last;
+use mini_tree::{
     ArrayAssignmentTargetElement, ArrayAssignmentTargetElements, ArrayAssignmentTargetOf,
-    ArrowFunctionBody, ArrowFunctionExpression, AssignmentOperator, AssignmentTarget,
-    AssignmentTargetRestOf, BindingElement, BindingPattern, BindingProperties, BindingProperty,
-    BindingPropertyKind, BindingRestElementOf, BoxedAssignmentTarget, BoxedBindingPattern,
-    Expression, Exprs, FormalParameter, FormalParameters, InnerPropertyKey, ObjectPatternOf,
-    PatternTargetOf, Statements, Text, TextList, boxed_assignment_target, boxed_binding_pattern,
-    drop_array_assignment_target_elements, drop_binding_properties, drop_formal_parameters,
-    push_array_assignment_target_element, push_binding_property, push_expression,
-    push_formal_parameter,
+    ArrowFunctionBody, ArrowFunctionExpression, AssignmentExpression, AssignmentOperator,
+    AssignmentTarget, AssignmentTargetRestOf, BindingElement, BindingPattern, BindingProperties,
+    BindingProperty, BindingPropertyKind, BindingRestElementOf, BoxedAssignmentTarget,
+    BoxedBindingPattern, Expression, Exprs, FormalParameter, FormalParameters, InnerPropertyKey,
+    ObjectPatternOf, PatternTargetOf, Statements, boxed_assignment_target, boxed_binding_pattern,
+    drop_array_assignment_target_elements, drop_binding_properties, drop_boxed_assignment_target,
+    drop_formal_parameters, push_array_assignment_target_element, push_binding_property,
+    push_expression, push_formal_parameter,
 };
 use std::alloc::Global;
 use std::test::Fail;
@@ -75,17 +75,23 @@ fn add_property(
     )?)
 }
 
-/// Puts an assignment to a pattern or an arrow function last; false where the word is none of these.
-pub fn pattern_expression(parts: &mut Exprs, word: &str) -> Result<bool, Fail> {
-    match word {
-        "[a,,...b]=" => {
-            let left = array_target(parts.allocator())?;
-            assignment(parts, AssignmentOperator::Assign, left)?;
+/// Puts `[a, , ...b] = c` last, an assignment of the last operand.
+pub fn array_assignment(parts: &mut Exprs) -> Result<(), Fail> {
+    let left = array_target(parts.allocator())?;
+    match last(parts) {
+        Ok(right) => Ok(push_expression(
+            parts,
+            Expression::AssignmentExpression(AssignmentExpression {
+                operator: AssignmentOperator::Assign,
+                left,
+                right,
+            }),
+        )?),
+        Err(fail) => {
+            drop_boxed_assignment_target(left);
+            Err(fail)
         }
-        "(a,...b)=>" => arrow(parts)?,
-        _ => return Ok(false),
     }
-    Ok(true)
 }
 
 // `[a, , ...b]`
@@ -122,8 +128,8 @@ fn add_elements(elements: &mut ArrayAssignmentTargetElements) -> Result<(), Fail
     )?)
 }
 
-// `(a, ...b) => { "use strict"; }`
-fn arrow(parts: &mut Exprs) -> Result<(), Fail> {
+/// Puts `(a, ...b) => { "use strict"; }` last.
+pub fn arrow(parts: &mut Exprs) -> Result<(), Fail> {
     let alloc = parts.allocator();
     let directives = use_strict(alloc)?;
     let mut params = FormalParameters::new(alloc);
@@ -152,11 +158,4 @@ fn add_parameters(params: &mut FormalParameters) -> Result<(), Fail> {
         params,
         FormalParameter::RestElement(BindingRestElementOf { argument: b }),
     )?)
-}
-
-/// The directive `"use strict"`.
-pub fn use_strict(alloc: Global) -> Result<TextList, Fail> {
-    let mut directives = TextList::new(alloc);
-    directives.push(Text::from_str(alloc, "use strict")?)?;
-    Ok(directives)
 }

@@ -1,20 +1,20 @@
 // Words of statements, which take the last expressions and statements.
 
 use super::leaves::{binding, name, string};
-use super::literals::function;
 use super::operands::{last, last_of_both, last_statement};
 use super::patterns::{named_pattern, named_target, object_pattern};
-use crate::{
-    BlockStatement, BlockStatementOf, BoxedBindingPattern, BoxedExpression, Cases, CatchClause,
-    Class, ClassBodyOf, ClassElement, ClassElements, Declarators, ExportDefaultDeclarationKind,
-    ExportDefaultDeclarationOf, ExpressionStatementOf, Exprs, ForOfStatement, ForStatement,
-    ForStatementInit, ForStatementLeft, IfStatement, ImportDeclaration, ImportDeclarationSpecifier,
-    ImportSpecifier, ImportSpecifiers, InnerPropertyKey, MethodDefinition, MethodDefinitionKind,
-    ModuleExportName, ReturnStatementOf, Statement, Statements, SwitchCase, SwitchStatement,
-    TryStatement, VariableDeclarationKind, VariableDeclarationOf, VariableDeclarator,
-    boxed_statement, drop_boxed_assignment_target, drop_boxed_binding_pattern,
-    drop_boxed_expression, drop_boxed_statement, drop_cases, drop_class_elements, drop_declarators,
-    push_case, push_class_element, push_declarator, push_statement,
+use mini_tree::{
+    BindingIdentifier, BlockStatement, BlockStatementOf, BoxedBindingPattern, BoxedExpression,
+    Cases, CatchClause, Class, ClassBodyOf, ClassElement, ClassElements, Declarators,
+    ExportDefaultDeclarationKind, ExportDefaultDeclarationOf, ExpressionStatementOf, Exprs,
+    ForOfStatement, ForStatement, ForStatementInit, ForStatementLeft, Function, IfStatement,
+    ImportDeclaration, ImportDeclarationSpecifier, ImportSpecifier, ImportSpecifiers,
+    InnerPropertyKey, MethodDefinition, MethodDefinitionKind, ModuleExportName, OwnedList,
+    ReturnStatementOf, Statement, Statements, SwitchCase, SwitchStatement, TryStatement,
+    VariableDeclarationKind, VariableDeclarationOf, VariableDeclarator, boxed_statement,
+    drop_boxed_assignment_target, drop_boxed_binding_pattern, drop_boxed_expression,
+    drop_boxed_statement, drop_cases, drop_class_elements, drop_declarators, push_case,
+    push_class_element, push_declarator, push_statement,
 };
 use std::alloc::Global;
 use std::mem;
@@ -314,4 +314,17 @@ fn add_method(body: &mut ClassElements) -> Result<(), Fail> {
             is_static: true,
         }),
     )?)
+}
+
+// A function without parameters, whose body is empty.
+fn function(alloc: Global, declaration: bool, id: Option<BindingIdentifier>) -> Function {
+    Function {
+        number: 0,
+        declaration,
+        generator: false,
+        id,
+        params: OwnedList::new(alloc),
+        directives: OwnedList::new(alloc),
+        body: Statements::new(alloc),
+    }
 }
