@@ -1,0 +1,4 @@
+pub mod Bodies
+pub mod Directives
+pub mod Ends
+pub mod Fields

@@ -1,0 +1,91 @@
+// How a node is read: with what memory, in strict or sloppy code, and how deep it may nest.
+
+ghost use Rattle.std.specs.Prelude.{◌≡◌, ◌∷◌, suc, IfOk};
+ghost use Rattle.serde_json.specs.View.{view};
+ghost use Rattle.mini_accept.specs.Accept.{reads};
+ghost use Rattle.mini_accept.specs.Entries.{entry};
+ghost use Rattle.mini_defects.specs.Views.{kind_of_node, place_of};
+ghost use Rattle.mini_reading.specs.Reads.{Enters, is_root};
+
+use mini_children::inside;
+use mini_defects::{Class, Kind, Place, kind_of, own_defect};
+use mini_text::OutOfMemory;
+use serde_json::Value;
+use std::alloc::Global;
+
+/// There is no tree: the value isn't one that is read, or no memory was left.
+#[derive(Clone, Copy, Debug, PartialEq, Eq)]
+pub struct Unread;
+
+impl From<OutOfMemory> for Unread {
+    fn from(_gone: OutOfMemory) -> Unread {
+        Unread
+    }
+}
+
+/// How nodes are read.
+#[derive(Clone, Copy)]
+pub struct Reading {
+    /// Where the tree goes.
+    pub alloc: Global,
+    /// Whether the code is strict.
+    pub strict: bool,
+    /// How deep a node may nest, the node itself counted.
+    pub depth: u32,
+}
+
+// Whether the place is the program's.
+fn is_root(place: Place) -> bool
+    ensures { result ≡ is_root (place_of place) }
+{
+    matches!(place, Place::At(Class::Program))
+}
+
+/// The type of a node without a defect of its own, and how the nodes below it are read.
+#[tactic(auto, using(crate::proofs::Entering::opened_below, crate::proofs::Entering::opened_root))]
+pub fn open(cx: Reading, place: Place, value: &Value) -> Result<(Kind, Reading), Unread>
+    ensures { IfOk result (λ r. Enters (λ n. reads cx.depth cx.strict (place_of place) n (view value.now)) (reads r.1.depth) r.1.strict (place_of place) (view value.now) (entry (kind_of_node r.0) (place_of place) (view value.now))) }
+{
+    if cx.depth == 0 || own_defect(cx.strict, place, value).is_some() {
+        return Err(Unread);
+    }
+    let Some(kind) = kind_of(value) else {
+        return Err(Unread);
+    };
+    let below = Reading {
+        alloc: cx.alloc,
+        strict: inside(cx.strict, kind, value),
+        depth: cx.depth - 1,
+    };
+    // only the program stands at the root
+    if !is_root(place) {
+        return Ok((kind, below));
+    }
+    match kind {
+        Kind::Program => Ok((kind, below)),
+        _ => Err(Unread),
+    }
+}
+
+/// How the nodes below a node of this type are read, if the node has no defect of its own.
+#[tactic(auto, using(crate::proofs::Entering::as_found))]
+pub fn enter(cx: Reading, place: Place, kind: Kind, value: &Value) -> Result<Reading, Unread>
+    ensures { IfOk result (λ below. Enters (λ n. reads cx.depth cx.strict (place_of place) n (view value.now)) (reads below.depth) below.strict (place_of place) (view value.now) (entry (kind_of_node kind) (place_of place) (view value.now))) }
+{
+    let (found, below) = open(cx, place, value)?;
+    if found == kind {
+        Ok(below)
+    } else {
+        Err(Unread)
+    }
+}
+
+/// The number behind this one.
+pub fn next_number(n: u32) -> Result<u32, Unread>
+    ensures { IfOk result (λ m. m ≡ suc n) }
+{
+    match n.checked_add(1) {
+        None => Err(Unread),
+        Some(next) => Ok(next),
+    }
+}
