@@ -1,0 +1,12 @@
+use Rattle.std.proofs.Common.{rules, ◌≡◌, true, false}
+use Rattle.std.specs.Prelude.{codes, option_map, Some}
+use Rattle.serde_json.specs.View.{view}
+use Rattle.mini_accept.specs.Accept.{reads}
+use Rattle.mini_accept.specs.Fields.{child_has_type}
+use Rattle.mini_accept.specs.Places.{at}
+use Rattle.mini_defects.specs.Views.{class_of}
+use Rattle.mini_read_expressions.proofs.Planned.{private_in_read}
+use Rattle.mini_read_expressions.proofs.operators.binary.Goals as goal
+
+pub returns-then-child_has_type : goal.returns-then-child_has_type
+returns-then-child_has_type g c k = private_in_read (λ t. t) c.private_in.result (reads c.args.below.depth) c.args.below.strict (at k) c.args.n (view c.args.value.now) (search rules) (search rules) (c.private_in.ensures k)
