@@ -1,0 +1,10 @@
+use Rattle.std.proofs.Common.{rules, true}
+use Rattle.serde_json.specs.View.{view}
+use Rattle.mini_ast.specs.Plain.{binding_property_tree}
+use Rattle.mini_accept.specs.Accept.{reads}
+use Rattle.mini_accept.specs.Places.{at}
+use Rattle.mini_read_patterns.proofs.Parts.{property_read}
+use Rattle.mini_read_patterns.proofs.patterns.binding_property.Goals as goal
+
+pub returns : goal.returns
+returns g c k = property_read binding_property_tree c.flagged_property.result (reads c.args.below.depth) c.args.below.strict (at k) c.args.n (view c.args.value.now) true c.in-Some._kind c.in-Some-flag_at._method c.in-Some-flag_at-2.shorthand c.in-Some-flag_at-3.computed (search rules) (search rules) (search rules) (search rules) (c.flagged_property.ensures k)
