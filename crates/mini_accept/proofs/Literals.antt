@@ -13,7 +13,7 @@ use Rattle.mini_structure.specs.WellShaped as shaped
 use Rattle.mini_structure.specs.WellShaped.{Class, in_module, is_text, is_numbered, has_plain_fields, has_its_parts, slots_of, fits}
 use Rattle.mini_accept.specs.Places.{Place, at, a_directive_text}
 use Rattle.mini_accept.specs.Fields.{◌>>=◌, require, is_given, text_at, units_at, has_units, is_text_by, has_type, is_one_of}
-use Rattle.mini_accept.specs.Literals.{reg_exp, big_int, value_shape, literal, max_big_int, is_unread_value, is_unread_literal, is_string_shape, is_number_shape, is_literal_with, is_string_literal, is_big_int_literal, is_key_literal, negative_of, with_minus}
+use Rattle.mini_accept.specs.Literals.{reg_exp, big_int, value_shape, literal, is_unread_value, is_unread_literal, is_string_shape, is_number_shape, is_literal_with, is_string_literal, is_big_int_literal, is_key_literal, negative_of, with_minus}
 use Rattle.mini_accept.specs.Standing.{is_identifier, has_unread_type, has_unread_field, is_unread_form, is_unread_there, is_unread, may_stand}
 use Rattle.mini_accept.specs.Plans.{node_of}
 use Rattle.mini_accept.specs.Functions as function
@@ -34,7 +34,7 @@ is_sound (shape.StringLiteral s) = shaped.is_paired s
 is_sound (shape.BooleanLiteral b) = true
 is_sound shape.NullLiteral = true
 is_sound (shape.RegExpLiteral pattern flags) = shaped.is_paired pattern && shaped.is_paired flags
-is_sound (shape.BigIntLiteral n) = true
+is_sound (shape.BigIntLiteral n) = nat_le n shaped.max_big_int
 is_sound h = false
 
 sound_some : (h k : Shape) → Some h ≡ Some k → is_sound h ≡ true → is_sound k ≡ true
@@ -49,9 +49,9 @@ reg_exp_sound : (o : Option Data) (h : Shape) → option_and_then reg_exp o ≡ 
 reg_exp_sound None h e = absurd (cc e)
 reg_exp_sound (Some d) h e = reg_exp_by d (units_at (codes "pattern") d) (units_at (codes "flags") d) h (units_paired (codes "pattern") d) (units_paired (codes "flags") d) e
 
-big_int_sound : (o : Option ℕ) (h : Shape) → option_map shape.BigIntLiteral o ≡ Some h → is_sound h ≡ true
-big_int_sound None h e = absurd (cc e)
-big_int_sound (Some n) h e = sound_some (shape.BigIntLiteral n) h e refl
+big_int_sound : (o : Option ℕ) (h : Shape) → option_map shape.BigIntLiteral o ≡ Some h → unwrap_or (option_map (λ n. not (nat_le n shaped.max_big_int)) o) false ≡ false → is_sound h ≡ true
+big_int_sound None h e r = absurd (cc e)
+big_int_sound (Some n) h e r = sound_some (shape.BigIntLiteral n) h e (not-false (nat_le n shaped.max_big_int) r)
 
 string_sound : (b : Bool) (u : List ℕ) (h : Shape) → shaped.is_paired u ≡ b → option_map shape.StringLiteral (require b (Some u)) ≡ Some h → is_sound h ≡ true
 string_sound true u h is e = sound_some (shape.StringLiteral u) h e is
@@ -68,14 +68,14 @@ value_sound (Some (string s)) raw h e r = string_sound (shaped.is_paired (units_
 value_sound (Some (array ds)) raw h e r = absurd (cc e)
 value_sound (Some (object ms)) raw h e r = absurd (cc e)
 
-literal_by : (a b x : Bool) (o : Option Data) (i : Option ℕ) (v raw : Option Data) (h : Shape) → (if a then option_and_then reg_exp o else (if b then option_map shape.BigIntLiteral i else value_shape v)) ≡ Some h
-    → (if a then false else (if b then x else is_unread_value v raw)) ≡ false → is_sound h ≡ true
-literal_by true b x o i v raw h e r = reg_exp_sound o h e
-literal_by false true x o i v raw h e r = big_int_sound i h e
-literal_by false false x o i v raw h e r = value_sound v raw h e r
+literal_by : (a b : Bool) (o : Option Data) (i : Option ℕ) (v raw : Option Data) (h : Shape) → (if a then option_and_then reg_exp o else (if b then option_map shape.BigIntLiteral i else value_shape v)) ≡ Some h
+    → (if a then false else (if b then unwrap_or (option_map (λ n. not (nat_le n shaped.max_big_int)) i) false else is_unread_value v raw)) ≡ false → is_sound h ≡ true
+literal_by true b o i v raw h e r = reg_exp_sound o h e
+literal_by false true o i v raw h e r = big_int_sound i h e r
+literal_by false false o i v raw h e r = value_sound v raw h e r
 
 pub literal_sound : (d : Data) (h : Shape) → literal d ≡ Some h → is_unread_literal d ≡ false → is_sound h ≡ true
-literal_sound d h e r = literal_by (is_given (codes "regex") d) (is_given (codes "bigint") d) (unwrap_or (option_map (λ n. not (nat_le n max_big_int)) (big_int d)) false) (get (codes "regex") d) (big_int d) (get (codes "value") d) (get (codes "raw") d) h e r
+literal_sound d h e r = literal_by (is_given (codes "regex") d) (is_given (codes "bigint") d) (get (codes "regex") d) (big_int d) (get (codes "value") d) (get (codes "raw") d) h e r
 
 -- a literal that is read, as any form but a directive
 pub literal_read : (strict : Bool) (c : Class) (d : Data) → has_type (codes "Literal") d ≡ true → is_unread strict (at c) d ≡ false → is_unread_literal d ≡ false
@@ -127,7 +127,7 @@ literal_expression strict d (shape.StringLiteral s) e = record { slots = []; loo
 literal_expression strict d (shape.BooleanLiteral b) e = record { slots = []; loose = refl; bare = refl; names = refl; plain = λ w. refl; parts = λ w. refl; filled = λ w. refl }
 literal_expression strict d shape.NullLiteral e = record { slots = []; loose = refl; bare = refl; names = refl; plain = λ w. refl; parts = λ w. refl; filled = λ w. refl }
 literal_expression strict d (shape.RegExpLiteral pattern flags) e = record { slots = []; loose = refl; bare = refl; names = refl; plain = λ w. e; parts = λ w. refl; filled = λ w. refl }
-literal_expression strict d (shape.BigIntLiteral n) e = record { slots = []; loose = refl; bare = refl; names = refl; plain = λ w. refl; parts = λ w. refl; filled = λ w. refl }
+literal_expression strict d (shape.BigIntLiteral n) e = record { slots = []; loose = refl; bare = refl; names = refl; plain = λ w. e; parts = λ w. refl; filled = λ w. refl }
 literal_expression strict d h e = absurd (false≢true e)
 
 sound_unchained : (h : Shape) → is_sound h ≡ true → shaped.is_chained h ≡ false

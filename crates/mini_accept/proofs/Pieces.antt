@@ -1,9 +1,9 @@
 -- The plans of what expressions hold: templates and their pieces, spread elements, `super`, and properties.
 use Rattle.std.proofs.Common.{◌≡◌, ℕ, suc, List, [], ◌∷◌, refl, ap, sym, ◌∙◌, subst, Bool, true, false, ◌&&◌, ◌||◌}
-use Rattle.std.specs.Prelude.{Option, Some, None, option_and_then, nat_eq, ◌==◌, not, codes, if◌then◌else◌}
+use Rattle.std.specs.Prelude.{Option, Some, None, option_and_then, option_map, is_some, nat_eq, ◌==◌, not, codes, if◌then◌else◌}
 use Rattle.std.proofs.lemmas.Bool.{and_from, and_parts, eqb-true, eq-eqb, false≢true}
 use Rattle.serde_json.specs.Data.{Data, Items, no_items, item}
-use Rattle.serde_json.specs.Find.{get}
+use Rattle.serde_json.specs.Find.{get, as_null, as_str}
 use Rattle.mini_text.specs.Texts.{units_of}
 use Rattle.mini_templates.specs.Templates.{cooked}
 use Rattle.mini_model.specs.declared.kind.PropertyKind.{PropertyKind}
@@ -13,7 +13,7 @@ use Rattle.mini_model.specs.Tree.{Tree, none, ◌▸◌, count}
 use Rattle.mini_structure.specs.WellShaped as shaped
 use Rattle.mini_structure.specs.WellShaped.{Class, in_module, Tagging, tagged, untagged, is_same_flag, is_text_of_cooked, is_same_spelling, value_class}
 use Rattle.mini_accept.specs.Places.{down, field, place, Place, at, a_quasi}
-use Rattle.mini_accept.specs.Fields.{is_there_with, flag_at, item_count, list_at, units_at, has_type, is_one_of}
+use Rattle.mini_accept.specs.Fields.{is_there_with, flag_at, item_count, list_at, paired_units, units_at, has_type, is_one_of}
 use Rattle.mini_accept.specs.Standing.{is_piece, may_stand}
 use Rattle.mini_accept.specs.Plans.{tree_at, Child, child, node_of, parts_from, list}
 use Rattle.mini_accept.specs.Words.{word_at, property_kinds}
@@ -21,9 +21,9 @@ use Rattle.mini_accept.specs.Expressions as expression
 use Rattle.mini_accept.specs.Expressions.{tagging_of, quasi_part, piece_part, identifier_text, is_same_name, is_name_with_default}
 use Rattle.mini_accept.proofs.Fitting.{KnownBelow, known_fits, Spelled, NamedBefore, OfParts, trees_of_parts, OfChildren, PartFits, AllFit, ArePieces}
 use Rattle.mini_accept.proofs.Gathered.{WholeIf}
-use Rattle.mini_accept.proofs.Types.{text_is, Typed, types_at, is_expression_place}
+use Rattle.mini_accept.proofs.Types.{some_same, text_is, Typed, types_at, is_expression_place}
 use Rattle.mini_accept.proofs.Wholes.{bind_whole, require_whole, inner_one, all_fit, items_counted, Aside, aside, plain_whole, whole_at}
-use Rattle.mini_accept.proofs.Plains.{units_paired}
+use Rattle.mini_accept.proofs.Plains.{text_paired, units_paired}
 
 -- ---- templates
 
@@ -95,6 +95,18 @@ piece_by : (g : Tagging) (last tail : Bool) (raw : List ℕ) (c : Option (List �
 piece_by tagged last tail raw c same may = same
 piece_by untagged last tail raw c same may = and_from _ _ same may
 
+cooked_paired : (o : Option (List ℕ)) (c : Option (List ℕ)) → ((s : List ℕ) → o ≡ Some s → shaped.is_paired s ≡ true) → option_map (λ s. Some s) o ≡ Some c → shaped.is_paired_cooked c ≡ true
+cooked_paired None c f e = absurd (cc e)
+cooked_paired (Some s) c f e = subst (λ x. shaped.is_paired_cooked x ≡ true) (some_same (Some s) c e) (f s refl)
+
+cooked_by_paired : (b : Bool) (o c : Option (List ℕ)) → (if b then Some None else option_map (λ s. Some s) (option_and_then paired_units o)) ≡ Some c → shaped.is_paired_cooked c ≡ true
+cooked_by_paired true o c e = subst (λ x. shaped.is_paired_cooked x ≡ true) (some_same None c e) refl
+cooked_by_paired false o c e = cooked_paired (option_and_then paired_units o) c (text_paired o) e
+
+paired_if_cooked : (o : Option Data) (c : Option (List ℕ)) → option_and_then expression.cooked_by o ≡ Some c → shaped.is_paired_cooked c ≡ true
+paired_if_cooked None c e = absurd (cc e)
+paired_if_cooked (Some d) c e = cooked_by_paired (is_some (as_null d)) (as_str d) c e
+
 module _ (strict : Bool) (g : Tagging) (last : Bool) (d : Data) (stands : may_stand (a_quasi g last) d ≡ true) where
   tail_same : (tail : Bool) → flag_at (codes "tail") d ≡ Some tail → is_same_flag tail last ≡ true
   tail_same tail is = flag_turned last tail (sym (ap (is_piece last) is) ∙ (and_parts (has_type (codes "TemplateElement") d) (is_piece last (flag_at (codes "tail") d)) stands).1)
@@ -103,7 +115,7 @@ module _ (strict : Bool) (g : Tagging) (last : Bool) (d : Data) (stands : may_st
   quasi = bind_whole strict (a_quasi g last) d (flag_at (codes "tail") d) _ (λ tail is. bind_whole strict (a_quasi g last) d (get (codes "value") d) _ (λ value there. bind_whole strict (a_quasi g last) d (units_at (codes "raw") value) _ (λ raw text.
       bind_whole strict (a_quasi g last) d (option_and_then expression.cooked_by (get (codes "cooked") value)) _ (λ c by. require_whole strict (a_quasi g last) d (expression.may_be_cooked g c && is_text_of_cooked c (cooked raw)) _ (λ e.
       let (may, same) = and_parts (expression.may_be_cooked g c) (is_text_of_cooked c (cooked raw)) e in
-      record { known = λ w n numbered. (and_from _ _ (piece_by g last tail raw c (tail_same tail is) may) (and_from (n == 0) _ (eq-eqb n 0 (numbered refl)) (and_from _ _ (units_paired (codes "raw") value raw text) same)), tt) })))))
+      record { known = λ w n numbered. (and_from _ _ (piece_by g last tail raw c (tail_same tail is) may) (and_from (n == 0) _ (eq-eqb n 0 (numbered refl)) (and_from _ _ (units_paired (codes "raw") value raw text) (and_from _ _ same (paired_if_cooked (get (codes "cooked") value) c by)))), tt) })))))
 
 -- ---- spread elements and `super`
 

@@ -35,7 +35,7 @@ require_paired : (b : Bool) (u v : List ℕ) → require b (Some u) ≡ Some v �
 require_paired true u v e is = subst (λ x. shaped.is_paired x ≡ true) (some_same u v e) is
 require_paired false u v e is = absurd (cc e)
 
-text_paired : (o : Option (List ℕ)) (v : List ℕ) → option_and_then paired_units o ≡ Some v → shaped.is_paired v ≡ true
+pub text_paired : (o : Option (List ℕ)) (v : List ℕ) → option_and_then paired_units o ≡ Some v → shaped.is_paired v ≡ true
 text_paired None v e = absurd (cc e)
 text_paired (Some s) v e = require_paired (shaped.is_paired (units_of s)) (units_of s) v e refl
 

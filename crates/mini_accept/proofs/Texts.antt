@@ -1,13 +1,16 @@
 -- The units of texts in UTF-8.
-use Rattle.std.proofs.Common.{◌≡◌, ℕ, List, [], ◌∷◌, Some, map, refl, ap, sym, ◌∙◌, Bool, true, false, not, is_some, IsUtf8}
+use Rattle.std.proofs.Common.{◌≡◌, ℕ, List, [], ◌∷◌, Some, None, map, refl, ap, sym, ◌∙◌, Bool, true, false, not, is_some, IsUtf8}
 use Rattle.std.specs.List.{list_any}
 use Rattle.std.specs.Str.{chars, IsAscii}
 use Rattle.std.proofs.lemmas.Str.{scalars-chars, IsUtf8-from_ascii}
+use Rattle.serde_json.specs.Data.{Data}
+use Rattle.serde_json.specs.Find.{as_null, as_str}
 use Rattle.mini_text.specs.Texts.{units_of, bytes_of}
 use Rattle.mini_text.proofs.Units.{utf16_chars-encode_utf16, bytes_of-units_of}
 use Rattle.mini_numerals.proofs.Decimals.{units_of-ascii}
 use Rattle.mini_structure.specs.WellShaped.{is_text, is_paired}
 use Rattle.mini_accept.specs.Fields.{require, paired_units}
+use Rattle.mini_accept.specs.Expressions.{cooked_by}
 use Rattle.mini_accept.proofs.Types.{text_same, text_is}
 
 all_there : (cs : List ℕ) → list_any (λ o. not (is_some o)) (map Some cs) ≡ false
@@ -20,6 +23,10 @@ text_paired s utf8 = ap (λ os. not (list_any (λ o. not (is_some o)) os)) (utf1
 -- a text is read as its units
 pub text_read : (s : List ℕ) → IsUtf8 s → paired_units s ≡ Some (units_of s)
 text_read s utf8 = ap (λ b. require b (Some (units_of s))) (text_paired s utf8)
+
+-- and a cooked one too
+pub cooked_read : (d : Data) (s : List ℕ) → as_null d ≡ None → as_str d ≡ Some s → IsUtf8 s → cooked_by d ≡ Some (Some (units_of s))
+cooked_read d s not_null is utf8 = rw (not_null, is, text_read s utf8) refl
 
 -- what is in ASCII is told by its units
 pub text_told : (w s : List ℕ) → IsAscii w → IsUtf8 s → is_text w (units_of s) ≡ is_text w s

@@ -19,7 +19,7 @@ use Rattle.mini_model.specs.Tree.{unresolved}
 use Rattle.mini_structure.specs.WellShaped as shaped
 use Rattle.mini_structure.specs.WellShaped.{Class, Tagging, tagged, untagged, is_text, is_init, is_text_of_cooked, value_class}
 use Rattle.mini_accept.specs.Places.{field, Place, at, a_directive_text, a_quasi}
-use Rattle.mini_accept.specs.Fields.{◌>>=◌, require, is_given, is_there_with, text_at, units_at, has_text, flag_at, list_at, item_count, name_at, has_type, child_has_type}
+use Rattle.mini_accept.specs.Fields.{◌>>=◌, require, is_given, is_there_with, text_at, paired_units, units_at, has_text, flag_at, list_at, item_count, name_at, has_type, child_has_type}
 use Rattle.mini_accept.specs.Literals.{literal, with_minus}
 use Rattle.mini_accept.specs.Standing.{is_identifier, has_true}
 use Rattle.mini_accept.specs.Words.{word_at, assignment_operators, binary_operators, logical_operators, property_kinds, unary_operators, update_operators}
@@ -296,7 +296,7 @@ template g d = do
 
 -- the cooked text, or null; nothing where it is neither
 abbrev pub cooked_by : Data → Option (Option (List ℕ))
-cooked_by d = if is_some (as_null d) then Some None else option_map (λ s. Some (units_of s)) (as_str d)
+cooked_by d = if is_some (as_null d) then Some None else option_map (λ s. Some s) (option_and_then paired_units (as_str d))
 
 -- malformed text has a tag
 abbrev pub may_be_cooked : Tagging → Option (List ℕ) → Bool

@@ -6,7 +6,7 @@ use Rattle.mini_numerals.specs.Numerals.{max_safe_integer}
 use Rattle.mini_templates.specs.Templates.{is_digit}
 use Rattle.mini_model.specs.declared.shape.Shape.{Shape}
 use Rattle.mini_model.specs.declared.shape.Shape.TheVariants as shape
-use Rattle.mini_structure.specs.WellShaped.{is_text}
+use Rattle.mini_structure.specs.WellShaped.{is_text, max_big_int}
 use Rattle.mini_accept.specs.Fields.{◌>>=◌, is_given, text_at, paired_units, units_at, has_type}
 
 -- ---- regular expressions and BigInts
@@ -52,10 +52,6 @@ literal d =
     else (if is_given (codes "bigint") d then option_map shape.BigIntLiteral (big_int d) else value_shape (get (codes "value") d))
 
 -- ---- the literals that aren't read
-
--- 2 ^ 128 - 1
-abbrev pub max_big_int : ℕ
-max_big_int = 340_282_366_920_938_463_463_374_607_431_768_211_455
 
 -- a number that is fractional, or written as a float, or not safe
 abbrev pub is_unread_number : Num → Bool

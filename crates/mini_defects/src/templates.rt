@@ -59,7 +59,7 @@ pub fn template(strict: bool, tagging: Tagging, value: &Value) -> bool
 }
 
 // Whether the cooked text is that of the raw one; only with a tag may it be null, where the raw text is malformed.
-#[tactic(auto, using(crate::proofs::Texts::units_there))]
+#[tactic(auto, using(crate::proofs::Texts::units_there, mini_accept::proofs::Texts::cooked_read))]
 fn are_texts(tagging: Tagging, texts: &Value) -> bool
     ensures { result ≡ is_some (text_of_quasi (tagging_of tagging) (view texts.now)) }
 {

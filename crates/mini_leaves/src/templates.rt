@@ -20,6 +20,7 @@ use serde_json::Value;
 use std::alloc::Global;
 
 // The cooked text; None where the raw one is malformed.
+#[tactic(auto, using(mini_accept::proofs::Texts::cooked_read))]
 fn cooked(alloc: Global, texts: &Value) -> Result<Option<Text>, Unread>
     ensures { IfOk result (λ c. option_and_then cooked_by (get (codes "cooked") (view texts.now)) ≡ Some c) }
 {

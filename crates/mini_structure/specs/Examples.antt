@@ -8,7 +8,7 @@ use Rattle.mini_model.specs.declared.operator.UnaryOperator.TheVariants.{UnaryNe
 use Rattle.mini_model.specs.declared.shape.Shape.TheVariants as shape
 use Rattle.mini_model.specs.Tree.{Tree, Trees, node, none, ◌▸◌, leaf, listed, absent, unresolved, unary, expression_statement, program}
 use Rattle.mini_text.specs.Texts.{is_identifier_name}
-use Rattle.mini_structure.specs.WellShaped.{fits, one, a_program, a_class_member, is_paired, has_plain_fields, has_its_parts}
+use Rattle.mini_structure.specs.WellShaped.{fits, one, a_program, a_class_member, a_key, is_paired, has_plain_fields, has_its_parts}
 
 abbrev script : Trees → Bool
 script ts = fits false (one a_program) (program false [] ts)
@@ -199,3 +199,18 @@ constructor_of_a_class = refl
 
 static_constructor : has_its_parts a_class_member (shape.MethodDefinition Method false true) (leaf (shape.IdentifierName (codes "constructor")) ▸ lambda 2 ▸ none) ≡ true
 static_constructor = refl
+
+-- `1` may be a key, and `-1` none
+number_as_a_key : fits false (one (a_key false)) (number 1) ≡ true
+number_as_a_key = refl
+
+negative_key : fits false (one (a_key false)) (leaf (shape.NumericLiteral (negsuc 0))) ≡ false
+negative_key = refl
+
+-- 2 ^ 128 is too great for a BigInt
+great_big_int : has_plain_fields (shape.BigIntLiteral 340_282_366_920_938_463_463_374_607_431_768_211_456) ≡ false
+great_big_int = refl
+
+-- raw text `\ud800`, whose cooked text is half a surrogate pair, which isn't written
+half_a_pair : has_plain_fields (shape.TemplateElement true (92 ∷ 117 ∷ 100 ∷ 56 ∷ 48 ∷ 48 ∷ []) (Some (55296 ∷ []))) ≡ (is_paired (92 ∷ 117 ∷ 100 ∷ 56 ∷ 48 ∷ 48 ∷ []) && is_paired (55296 ∷ []))
+half_a_pair = refl

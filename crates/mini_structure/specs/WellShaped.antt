@@ -124,6 +124,15 @@ abbrev pub are_paired : List (List ℕ) → Bool
 are_paired [] = true
 are_paired (s ∷ ss) = is_paired s && are_paired ss
 
+-- of malformed text there is no cooked one
+abbrev pub is_paired_cooked : Option (List ℕ) → Bool
+is_paired_cooked None = true
+is_paired_cooked (Some s) = is_paired s
+
+-- 2 ^ 128 - 1
+abbrev pub max_big_int : ℕ
+max_big_int = 340_282_366_920_938_463_463_374_607_431_768_211_455
+
 abbrev pub is_safe : ℤ → Bool
 is_safe (pos n) = nat_le n max_safe_integer
 is_safe (negsuc n) = nat_le (suc n) max_safe_integer
@@ -385,7 +394,7 @@ statement_slots strict d h = none_if (is_sloppy_function strict d h) (or_else (v
 abbrev pub key_slots : Shape → Option (List Slot)
 key_slots (shape.IdentifierName s) = Some []
 key_slots (shape.StringLiteral s) = Some []
-key_slots (shape.NumericLiteral n) = Some []
+key_slots (shape.NumericLiteral (pos n)) = Some []
 key_slots h = None
 
 abbrev pub private_or_key_slots : Shape → Option (List Slot)
@@ -533,7 +542,8 @@ has_plain_fields (shape.PrivateIdentifier s) = is_identifier_name s
 has_plain_fields (shape.NumericLiteral n) = is_safe n
 has_plain_fields (shape.StringLiteral s) = is_paired s
 has_plain_fields (shape.RegExpLiteral pattern flags) = is_paired pattern && is_paired flags
-has_plain_fields (shape.TemplateElement tail raw c) = is_paired raw && is_text_of_cooked c (cooked raw)
+has_plain_fields (shape.BigIntLiteral n) = nat_le n max_big_int
+has_plain_fields (shape.TemplateElement tail raw c) = is_paired raw && (is_text_of_cooked c (cooked raw) && is_paired_cooked c)
 has_plain_fields _ = true
 
 -- a local name that is exported from here is a variable; one that another module has is a name of its own
