@@ -5,10 +5,10 @@ use Rattle.serde_json.specs.Data.{Data}
 use Rattle.mini_model.specs.declared.shape.Shape.{Shape}
 use Rattle.mini_model.specs.declared.shape.Shape.TheVariants as shape
 use Rattle.mini_model.specs.Tree.{Tree, node, none, leaf}
-use Rattle.mini_structure.specs.WellShaped.{Class, is_numbered}
+use Rattle.mini_structure.specs.WellShaped.{Class, is_numbered, max_big_int}
 use Rattle.mini_accept.specs.Places.{at}
 use Rattle.mini_accept.specs.Fields.{◌>>=◌}
-use Rattle.mini_accept.specs.Literals.{literal, max_big_int}
+use Rattle.mini_accept.specs.Literals.{literal}
 use Rattle.mini_accept.specs.Plans.{node_of}
 use Rattle.mini_accept.specs.Expressions.{literal_plan}
 use Rattle.mini_accept.specs.Accept.{Reader, numbered}
