@@ -6,7 +6,7 @@ ghost use Rattle.serde_json.specs.Written.{has_float};
 ghost use Rattle.mini_first.specs.Plain.{program_tree};
 ghost use Rattle.mini_errors.specs.Faults.{fault_of};
 ghost use Rattle.mini_estree.specs.Accept.{program_at};
-ghost use Rattle.mini_estree.specs.Fits.{Fits};
+ghost use Rattle.mini_fits.specs.Fits.{Fits};
 ghost use Rattle.mini_peephole.specs.Faithful.{Faithful, PassesBounded};
 ghost use Rattle.mini_peephole.specs.Minified.{IsMinified, IsRewriting, IsRefusal, outside};
 

@@ -7,7 +7,7 @@ use Rattle.std.specs.Cmp.Lexicographic.{slice_cmp}
 use Rattle.std.specs.Ordering.{match_ordering}
 use Rattle.serde_json.specs.Data.{Data, null, boolean, number, string, array, object, Items, Members, no_members, member}
 use Rattle.serde_json.specs.Find.{get, get_member, as_array}
-use Rattle.mini_estree.specs.Fits.{values_in, values_in_items, values_in_members}
+use Rattle.mini_fits.specs.Fits.{values_in, values_in_items, values_in_members}
 
 -- the values of what was found
 abbrev pub values_found : Option Data → ℕ
