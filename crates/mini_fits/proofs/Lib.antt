@@ -1,3 +1,4 @@
 pub mod Keys
 pub mod Lexed
 pub mod Counted
+pub mod Shallow
