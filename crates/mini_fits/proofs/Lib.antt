@@ -2,3 +2,9 @@ pub mod Keys
 pub mod Lexed
 pub mod Counted
 pub mod Shallow
+pub mod Amounts
+pub mod Written
+pub mod Lists
+pub mod Plans
+pub mod Bodies
+pub mod Statements
