@@ -8,3 +8,5 @@ pub mod Lists
 pub mod Plans
 pub mod Bodies
 pub mod Statements
+pub mod Literals
+pub mod Expressions
