@@ -10,3 +10,5 @@ pub mod Bodies
 pub mod Statements
 pub mod Literals
 pub mod Expressions
+pub mod Pieces
+pub mod Light

@@ -64,7 +64,7 @@ absent_light π = omega (arith, own_light 0 π shape.Absent [] [] (omega arith))
 inner_light : (π : Position) (n : ℕ) (t : Tree) (m : ℕ) → ((ω : Position) → weight ω t ≤ m) → weight π (node shape.InnerExpression [] n (t ▸ none)) ≤ m + 5
 inner_light π n t m small = omega (arith, own_light 0 π shape.InnerExpression [] (outlines (t ▸ none)) (omega arith), small (child_position shape.InnerExpression π 1 0))
 
-outline_count : (ts : Trees) → length (outlines ts) ≡ count ts
+pub outline_count : (ts : Trees) → length (outlines ts) ≡ count ts
 outline_count none = refl
 outline_count (t ▸ ts) = ap suc (outline_count ts)
 
@@ -76,7 +76,7 @@ append_light : (a b : Trees) (m : ℕ) → ((ω : ℕ → Position) → weights 
 append_light none b m small ω = omega (arith, small ω)
 append_light (t ▸ a) b m small ω = omega (arith, append_light a b m small (λ i. ω (suc i)))
 
-trees_same : (y z : Trees × ℕ) → ◌≡◌ {A = Result (Trees × ℕ) Fault} (Ok y) (Ok z) → z.0 ≡ y.0
+pub trees_same : (y z : Trees × ℕ) → ◌≡◌ {A = Result (Trees × ℕ) Fault} (Ok y) (Ok z) → z.0 ≡ y.0
 trees_same y z e = ap (λ v. v.0) (sym (ok_same {E = Fault} y z e))
 
 -- ---- parts

@@ -6,5 +6,5 @@ mod size;
 #[cfg(test)]
 mod size_tests;
 
-pub use laws::{fitting_is_read, read_bytes_fit};
+pub use laws::{accepted_weighs_little, fitting_is_read, read_bytes_fit};
 pub use size::fits;
