@@ -1,14 +1,14 @@
 -- How much of a value there is, its texts counted: what stands at different keys is less than the value.
-use Rattle.std.proofs.Common.{◌≡◌, ℕ, zero, suc, ◌+◌, ◌*◌, ◌≤◌, List, [], ◌∷◌, length, Bool, true, false, ◌&&◌, Option, Some, None, option_and_then, Ordering, Less, Equal, Greater, nat_cmp, is_eq, refl, ap, arith}
-use Rattle.std.specs.Prelude.{⊤, not, nat_le}
+use Rattle.std.proofs.Common.{◌≡◌, ℕ, ◌+◌, ◌*◌, ◌≤◌, List, [], ◌∷◌, length, Bool, true, ◌&&◌, Option, Some, None, option_and_then, Ordering, Less, Equal, Greater, nat_cmp, is_eq, refl, ap, arith}
+use Rattle.std.specs.Prelude.{not, nat_le}
 use Rattle.std.proofs.lemmas.Bool.{and_parts, not-true, leb-true}
 use Rattle.std.specs.Cmp.Lexicographic.{slice_cmp}
 use Rattle.std.specs.Ordering.{match_ordering}
-use Rattle.serde_json.specs.Data.{Data, null, boolean, number, string, array, object, Items, no_items, item, Members, no_members, member}
+use Rattle.serde_json.specs.Data.{Data, null, boolean, number, string, array, object, Items, Members, no_members, member}
 use Rattle.serde_json.specs.Find.{get, get_member, as_str, as_array}
 use Rattle.mini_text.specs.Texts.{units_of}
 use Rattle.mini_fits.specs.Fits.{values_in, values_in_items, values_in_members, units_in, units_in_items, units_in_members}
-use Rattle.mini_fits.proofs.Keys.{IsOther, AreOther, AreDifferent, without, kept}
+use Rattle.mini_fits.proofs.Keys.{AreOther, AreDifferent, without, kept}
 
 -- 128 for each value and 2 for each unit
 abbrev pub amount : Data → ℕ

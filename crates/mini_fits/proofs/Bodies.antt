@@ -1,5 +1,5 @@
 -- Bodies with directives: the texts of these are made up for by the statements that they are.
-use Rattle.std.proofs.Common.{◌≡◌, ℕ, zero, suc, ◌+◌, ◌*◌, ◌≤◌, List, [], ◌∷◌, length, refl, ap, sym, ◌∙◌, codes, Bool, true, false, arith}
+use Rattle.std.proofs.Common.{◌≡◌, ℕ, suc, ◌+◌, ◌*◌, ◌≤◌, List, [], ◌∷◌, length, refl, ap, sym, codes, Bool, true, false, arith}
 use Rattle.std.specs.Prelude.{Option, Some, None, option_and_then, option_map, unwrap_or, is_some, if◌then◌else◌, ◌&&◌}
 use Rattle.serde_json.specs.Data.{Data, Items, no_items, item}
 use Rattle.serde_json.specs.Find.{get}
@@ -8,16 +8,15 @@ use Rattle.mini_model.specs.declared.shape.Shape.TheVariants as shape
 use Rattle.mini_model.specs.Weight.{directives_weight}
 use Rattle.mini_structure.specs.WellShaped as shaped
 use Rattle.mini_structure.specs.WellShaped.{Depth, in_module, in_body, is_paired}
-use Rattle.mini_accept.specs.Places.{place, down, Place, at, a_directive}
-use Rattle.mini_accept.specs.Fields.{◌>>=◌, require, text_at, paired_units, units_at, list_at, has_type}
+use Rattle.mini_accept.specs.Places.{place, down, at}
+use Rattle.mini_accept.specs.Fields.{require, text_at, paired_units, units_at, list_at, has_type}
 use Rattle.mini_accept.specs.Words.{word_at, source_types}
-use Rattle.mini_accept.specs.Plans.{Part, tree_at, checked, Child, Plan, node_of}
 use Rattle.mini_accept.specs.Statements as statement
 use Rattle.mini_accept.specs.Statements.{directive_text, directives_before, directives_of, body_part, body_parts, body}
 use Rattle.mini_accept.specs.Functions.{directives_in, directives_below}
 use Rattle.mini_accept.proofs.Types.{some_same}
 use Rattle.mini_fits.proofs.Amounts.{amount, found, amounts_below, text_length, text_within}
-use Rattle.mini_fits.proofs.Lists.{extra, extra_at, spare, spares, PartOf, PartsAt, ChildAt, From, from_next, from_first, starts}
+use Rattle.mini_fits.proofs.Lists.{extra_at, spare, spares, PartOf, PartsAt, ChildAt, From, from_next, from_first, starts}
 use Rattle.mini_fits.proofs.Plans.{LightIf, node_light, bind_light}
 
 -- ---- texts

@@ -1,36 +1,24 @@
 -- The plans of names, expressions and patterns weigh little.
-use Rattle.std.proofs.Common.{◌≡◌, ℕ, zero, suc, ◌+◌, ◌-◌, ◌*◌, ◌≤◌, List, [], ◌∷◌, length, refl, ap, sym, ◌∙◌, codes, Bool, true, false, arith}
-use Rattle.std.specs.Prelude.{Option, Some, None, option_and_then, option_map, if◌then◌else◌, ◌&&◌, ◌||◌, not, is_some, ℤ}
-use Rattle.std.specs.Fmt.{signed_decimal}
-use Rattle.serde_json.specs.Data.{Data, Items}
-use Rattle.serde_json.specs.Find.{get}
+use Rattle.std.proofs.Common.{◌≡◌, ℕ, List, [], ◌∷◌, refl, codes, Bool, true, false, arith}
+use Rattle.std.specs.Prelude.{Option, Some, None, option_map, ◌&&◌}
+use Rattle.serde_json.specs.Data.{Data}
 use Rattle.mini_model.specs.declared.kind.MetaPropertyKind.TheVariants.{NewTarget, ImportMeta}
-use Rattle.mini_model.specs.declared.operator.UnaryOperator.{UnaryOperator}
-use Rattle.mini_model.specs.declared.operator.UnaryOperator.TheVariants.{UnaryNegation}
 use Rattle.mini_model.specs.declared.shape.Shape.{Shape}
 use Rattle.mini_model.specs.declared.shape.Shape.TheVariants as shape
-use Rattle.mini_model.specs.Tree.{Tree, Trees, none, ◌▸◌, listed, unresolved, count}
-use Rattle.mini_model.specs.Paths.{append}
-use Rattle.mini_model.specs.Position.{Position}
-use Rattle.mini_model.specs.Weight.{Outline, outlines, weight, weights, own_weight, nth_items}
+use Rattle.mini_model.specs.Tree.{unresolved}
+use Rattle.mini_model.specs.Weight.{Outline}
 use Rattle.mini_structure.specs.WellShaped as shaped
 use Rattle.mini_structure.specs.WellShaped.{Class, Tagging, tagged, untagged}
-use Rattle.mini_accept.specs.Places.{Step, field, step_text, down, Place, at, a_directive, a_directive_text, a_quasi, an_exported, a_local_name}
-use Rattle.mini_accept.specs.Fields.{◌>>=◌, require, is_given, units_at, flag_at, list_at, name_at, has_type, child_has_type}
-use Rattle.mini_accept.specs.Literals.{with_minus}
-use Rattle.mini_accept.specs.Standing.{is_unread}
-use Rattle.mini_accept.specs.Words.{word_at, assignment_operators, binary_operators, logical_operators, property_kinds, unary_operators, update_operators}
-use Rattle.mini_accept.specs.Plans.{Part, tree_at, inner_at, checked, Child, one, many, Plan, node_of, child, inner, optional, ItemPart, each, or_hole, or_rest, list, target_part, target}
+use Rattle.mini_accept.specs.Places.{Place, at}
+use Rattle.mini_accept.specs.Fields.{is_given, flag_at, list_at, name_at, has_type, child_has_type}
+use Rattle.mini_accept.specs.Words.{word_at, assignment_operators, binary_operators, logical_operators, property_kinds, update_operators}
+use Rattle.mini_accept.specs.Plans.{tree_at, inner_at, Child, node_of, child, inner, optional, each, or_hole}
 use Rattle.mini_accept.specs.Expressions as expression
 use Rattle.mini_accept.specs.Expressions.{minus_below, unary_plan}
-use Rattle.mini_accept.specs.Patterns as pattern
-use Rattle.mini_accept.specs.Accept.{Read, Reader, below_by, read_below, read_part, read_child, read_children}
-use Rattle.mini_accept.proofs.Results.{bind_ok, under_ok}
-use Rattle.mini_fits.proofs.Amounts.{amount, found, found_at, some_amount, amount_at, are_few}
+use Rattle.mini_fits.proofs.Amounts.{are_few}
 use Rattle.mini_fits.proofs.Written.{spelled_light, wordy}
-use Rattle.mini_fits.proofs.Lists.{IsLight, ChildAt, ChildrenAt}
-use Rattle.mini_fits.proofs.Plans.{LightIf, node_bound, plain, leaf_light, nothing, bind_light, require_light, either_light, optional_at, either_at, inner_key_at, target_at, each_item, hole_item, rest_item, target_item, either_item, IsItemPart, list_is_at, list_light}
-use Rattle.mini_fits.proofs.Literals.{safe_light, minus_safe}
+use Rattle.mini_fits.proofs.Lists.{ChildAt, ChildrenAt}
+use Rattle.mini_fits.proofs.Plans.{LightIf, plain, leaf_light, nothing, bind_light, require_light, either_light, optional_at, either_at, each_item, hole_item, either_item, IsItemPart, list_is_at, list_light}
 
 module _ (d : Data) where
   -- the parts stand at keys of their own

@@ -1,5 +1,5 @@
 -- A tree that is read weighs little against the value that it was read from.
-use Rattle.std.proofs.Common.{◌≡◌, ℕ, zero, suc, ◌+◌, ◌*◌, ◌<◌, ◌≤◌, ◌^◌, ◌⊎◌, inl, inr, List, [], ◌∷◌, refl, ap, sym, ◌∙◌, subst, codes, Bool, true, false, arith}
+use Rattle.std.proofs.Common.{◌≡◌, ℕ, zero, suc, ◌+◌, ◌<◌, ◌≤◌, ◌^◌, ◌⊎◌, inl, inr, List, [], refl, ap, sym, ◌∙◌, subst, codes, Bool, true, false, arith}
 use Rattle.std.specs.Prelude.{Option, Some, None, Result, Ok, Err}
 use Rattle.serde_json.specs.Data.{Data}
 use Rattle.mini_model.specs.declared.name.Name.{Name}
@@ -7,22 +7,21 @@ use Rattle.mini_model.specs.declared.shape.Shape.{Shape}
 use Rattle.mini_model.specs.declared.shape.Shape.TheVariants as shape
 use Rattle.mini_model.specs.Tree.{Tree, node, Trees, count}
 use Rattle.mini_model.specs.Position.{Position, Elsewhere, child_position}
-use Rattle.mini_model.specs.Weight.{weight, directives_weight}
+use Rattle.mini_model.specs.Weight.{weight}
 use Rattle.mini_structure.specs.WellShaped as shaped
 use Rattle.mini_structure.specs.WellShaped.{a_program, is_strict_in, is_text}
 use Rattle.mini_accept.specs.Faults.{Defect, Fault}
 use Rattle.mini_accept.specs.Kind as kind
 use Rattle.mini_accept.specs.Kind.{Kind, types}
 use Rattle.mini_accept.specs.Places.{Place, at}
-use Rattle.mini_accept.specs.Fields.{text_at, word_in, is_text_by, kind_of, has_type}
+use Rattle.mini_accept.specs.Fields.{kind_of, has_type}
 use Rattle.mini_accept.specs.Standing.{may_stand, is_unread}
-use Rattle.mini_accept.specs.Plans.{Plan, node_of}
+use Rattle.mini_accept.specs.Plans.{Plan}
 use Rattle.mini_accept.specs.Statements as statement
 use Rattle.mini_accept.specs.Expressions as expression
 use Rattle.mini_accept.specs.Patterns as pattern
-use Rattle.mini_accept.specs.Functions.{directives_in}
 use Rattle.mini_accept.specs.Entries.{entry}
-use Rattle.mini_accept.specs.Accept.{are_placed, plan_if, placed_plan, plan_by, plan_unless, plan, Read, Reader, takes_number, read_children, with_children, numbered, read_plan, reads, program_at, Accepts}
+use Rattle.mini_accept.specs.Accept.{are_placed, plan_if, placed_plan, plan_by, plan_unless, plan, Read, Reader, takes_number, read_children, numbered, read_plan, reads, program_at, Accepts}
 use Rattle.mini_accept.proofs.Results.{ok_same, bind_ok}
 use Rattle.mini_accept.proofs.Types.{type_name, kind_typed, typed_has}
 use Rattle.mini_fits.specs.Fits.{Fits}

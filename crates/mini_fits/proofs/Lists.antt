@@ -1,22 +1,22 @@
 -- What is read of the parts of a plan weighs little against the values that they are read of.
-use Rattle.std.proofs.Common.{◌≡◌, ℕ, zero, suc, ◌+◌, ◌-◌, ◌*◌, ◌≤◌, List, [], ◌∷◌, length, refl, ap, sym, ◌∙◌, subst, codes, Bool, true, false, arith}
-use Rattle.std.specs.Prelude.{⊤, Option, Some, None, option_and_then, option_map, unwrap_or, Result, Ok, Err, is_some, if◌then◌else◌}
+use Rattle.std.proofs.Common.{◌≡◌, ℕ, zero, suc, ◌+◌, ◌-◌, ◌*◌, ◌≤◌, List, [], ◌∷◌, length, refl, ap, sym, subst, Bool, false, arith}
+use Rattle.std.specs.Prelude.{⊤, Option, Some, None, Result, Ok}
 use Rattle.serde_json.specs.Data.{Data, Items, no_items, item}
-use Rattle.serde_json.specs.Find.{get, get_item, as_array}
+use Rattle.serde_json.specs.Find.{get, get_item}
 use Rattle.mini_model.specs.declared.shape.Shape.TheVariants as shape
 use Rattle.mini_model.specs.Paths.{append}
 use Rattle.mini_model.specs.Tree.{Tree, node, Trees, none, ◌▸◌, absent, listed, count}
 use Rattle.mini_model.specs.Position.{Position, child_position}
-use Rattle.mini_model.specs.Weight.{Outline, outlines, weight, weights, own_weight, text_weight, directives_weight}
+use Rattle.mini_model.specs.Weight.{outlines, weight, weights, directives_weight}
 use Rattle.mini_structure.specs.WellShaped as shaped
 use Rattle.mini_structure.specs.WellShaped.{Class}
-use Rattle.mini_accept.specs.Faults.{Fault, under}
+use Rattle.mini_accept.specs.Faults.{Fault}
 use Rattle.mini_accept.specs.Places.{Step, field, place, step_text, down, Place, at}
 use Rattle.mini_accept.specs.Fields.{list_at}
 use Rattle.mini_accept.specs.Standing.{is_unread}
 use Rattle.mini_accept.specs.Plans.{Part, hole, tree_at, inner_at, checked, Child, one, many}
 use Rattle.mini_accept.specs.Functions.{directives_in}
-use Rattle.mini_accept.specs.Accept.{Read, Reader, below_by, read_below, read_part, read_parts, read_child, read_children}
+use Rattle.mini_accept.specs.Accept.{Reader, below_by, read_below, read_part, read_parts, read_child, read_children}
 use Rattle.mini_accept.proofs.Results.{ok_same, bind_ok, under_ok}
 use Rattle.mini_fits.proofs.Amounts.{amount, items_amount, found, found_items, found_at, some_amount, items_within}
 use Rattle.mini_fits.proofs.Written.{own_light, list_light}
@@ -192,14 +192,17 @@ module _ (r : Reader) (light : IsLight r) where
   list_read strict d key n xs y (ds, there, parts) e =
       let (x, read, same) = bind_ok (read_parts r strict d n xs) _ y e in
       let us = x.0 in
-      let all = parts_light strict d key 0 xs ds n x parts (starts d key ds there) read in
-      (us, trees_same (listed us ▸ none, x.1) y same, λ π. omega (
-        arith,
-        own_light (2 * length (outlines us)) π shape.Listed [] (outlines us) (list_light π (outlines us)),
-        outline_count us,
-        all (child_position shape.Listed π (count us)),
-        within d key ds there,
-      ))
+      let all = parts_light strict d key 0 xs ds n x parts (starts d key ds there) read in (
+        us,
+        trees_same (listed us ▸ none, x.1) y same,
+        λ π. omega (
+          arith,
+          own_light (2 * length (outlines us)) π shape.Listed [] (outlines us) (list_light π (outlines us)),
+          outline_count us,
+          all (child_position shape.Listed π (count us)),
+          within d key ds there,
+        ),
+      )
 
   one_light : (strict : Bool) (d : Data) (key : List ℕ) (n : ℕ) (x : Part) (y : Trees × ℕ) → PartOf (field key) x → read_part r strict d n x ≡ Ok y → (ω : ℕ → Position) → weights ω y.0 + spare d x ≤ 5 + found (get key d)
   one_light strict d key n hole y of e ω = let h = part_light strict d n hole y e in omega (arith, h ω, hole_count y (trees_same (absent ▸ none, n) y e))

@@ -1,11 +1,11 @@
 -- The plans of names and literals weigh little: numbers have few digits, and texts stand in the literal's fields.
-use Rattle.std.proofs.Common.{◌≡◌, ℕ, zero, suc, ◌+◌, ◌*◌, ◌≤◌, ◌^◌, List, [], ◌∷◌, length, refl, ap, sym, ◌∙◌, subst, codes, Bool, true, false, arith}
-use Rattle.std.specs.Prelude.{Option, Some, None, option_and_then, option_map, unwrap_or, is_some, if◌then◌else◌, nat_le, not, ◌&&◌, ◌||◌, ℤ, pos, negsuc}
+use Rattle.std.proofs.Common.{◌≡◌, ℕ, suc, ◌+◌, ◌≤◌, List, [], ◌∷◌, length, refl, ap, sym, ◌∙◌, subst, codes, Bool, true, false, arith}
+use Rattle.std.specs.Prelude.{Option, Some, None, option_and_then, option_map, unwrap_or, if◌then◌else◌, nat_le, not, ◌&&◌, ◌||◌, ℤ, pos, negsuc}
 use Rattle.std.specs.Fmt.{decimal, signed_decimal}
 use Rattle.std.proofs.lemmas.Fmt.{length-decimal-le_wide, length_signed_le}
 use Rattle.std.proofs.lemmas.Bool.{or_parts, not-false, leb-true}
 use Rattle.serde_json.specs.Data.{Data, unsigned, negative, float, null, boolean, number, string, array, object}
-use Rattle.serde_json.specs.Find.{get, as_str}
+use Rattle.serde_json.specs.Find.{get}
 use Rattle.mini_text.specs.Texts.{units_of}
 use Rattle.mini_numerals.specs.Numerals.{max_safe_integer}
 use Rattle.mini_model.specs.declared.shape.Shape.{Shape}
@@ -17,12 +17,12 @@ use Rattle.mini_structure.specs.WellShaped.{is_paired, is_safe, max_big_int}
 use Rattle.mini_accept.specs.Places.{Place, at, a_directive, a_directive_text, a_quasi, an_exported, a_local_name}
 use Rattle.mini_accept.specs.Fields.{◌>>=◌, require, is_given, text_at, units_at, is_bare, has_type}
 use Rattle.mini_accept.specs.Literals.{reg_exp, big_int, value_shape, literal, is_unread_value, is_unread_literal, negative_of, with_minus}
-use Rattle.mini_accept.specs.Standing.{has_unread_type, has_unread_field, is_unread_form, is_unread_there, is_unread}
+use Rattle.mini_accept.specs.Standing.{has_unread_type, has_unread_field, is_unread_form, is_unread}
 use Rattle.mini_accept.specs.Plans.{node_of}
 use Rattle.mini_accept.specs.Expressions as expression
 use Rattle.mini_accept.proofs.Types.{some_same}
 use Rattle.mini_accept.proofs.Literals.{literal_sound, literal_read}
-use Rattle.mini_fits.proofs.Amounts.{amount, found, found_at, amounts_below, text_length, text_within}
+use Rattle.mini_fits.proofs.Amounts.{amount, found, amounts_below, text_length, text_within}
 use Rattle.mini_fits.proofs.Plans.{LightIf, leaf_light, bind_light}
 use Rattle.mini_fits.proofs.Bodies.{units_within}
 

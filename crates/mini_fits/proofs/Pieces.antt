@@ -1,10 +1,9 @@
 -- The plans of templates, of numbers with a minus before them, and of patterns weigh little.
 use Rattle.std.proofs.Common.{◌≡◌, ℕ, zero, suc, ◌+◌, ◌-◌, ◌*◌, ◌≤◌, List, [], ◌∷◌, length, refl, ap, sym, ◌∙◌, subst, codes, Bool, true, false, arith}
-use Rattle.std.specs.Prelude.{Option, Some, None, option_and_then, if◌then◌else◌, ◌&&◌, not, Ok, ℤ}
+use Rattle.std.specs.Prelude.{Option, Some, None, option_and_then, if◌then◌else◌, Ok, ℤ}
 use Rattle.std.specs.Fmt.{signed_decimal}
-use Rattle.serde_json.specs.Data.{Data, Items}
+use Rattle.serde_json.specs.Data.{Data}
 use Rattle.serde_json.specs.Find.{get}
-use Rattle.mini_templates.specs.Templates.{cooked}
 use Rattle.mini_model.specs.declared.operator.UnaryOperator.{UnaryOperator}
 use Rattle.mini_model.specs.declared.operator.UnaryOperator.TheVariants.{UnaryNegation}
 use Rattle.mini_model.specs.declared.shape.Shape.{Shape}
@@ -15,12 +14,12 @@ use Rattle.mini_model.specs.Position.{Position}
 use Rattle.mini_model.specs.Weight.{Outline, outlines, weight, weights, own_weight}
 use Rattle.mini_structure.specs.WellShaped as shaped
 use Rattle.mini_structure.specs.WellShaped.{Class, Tagging, tagged, untagged}
-use Rattle.mini_accept.specs.Places.{Step, field, step_text, Place, at, a_quasi}
-use Rattle.mini_accept.specs.Fields.{◌>>=◌, require, units_at, flag_at, list_at}
+use Rattle.mini_accept.specs.Places.{Step, field, step_text, Place, at}
+use Rattle.mini_accept.specs.Fields.{units_at, flag_at, list_at}
 use Rattle.mini_accept.specs.Literals.{with_minus}
 use Rattle.mini_accept.specs.Standing.{is_unread}
 use Rattle.mini_accept.specs.Words.{word_at, property_kinds, unary_operators}
-use Rattle.mini_accept.specs.Plans.{Part, tree_at, inner_at, checked, Child, one, many, Plan, node_of, child, inner, each, or_hole, or_rest, parts_from, list, inner_key, target_part, target}
+use Rattle.mini_accept.specs.Plans.{Part, checked, Child, one, many, node_of, child, inner, each, or_hole, or_rest, parts_from, target_part, target}
 use Rattle.mini_accept.specs.Expressions as expression
 use Rattle.mini_accept.specs.Expressions.{minus_below, unary_plan}
 use Rattle.mini_accept.specs.Patterns as pattern
@@ -29,7 +28,7 @@ use Rattle.mini_accept.proofs.Results.{bind_ok, under_ok}
 use Rattle.mini_fits.proofs.Amounts.{amount, found, some_amount, amount_at, amounts_below}
 use Rattle.mini_fits.proofs.Written.{own_light, wordy, text_light}
 use Rattle.mini_fits.proofs.Lists.{IsLight, spares, ChildAt, trees_same, outline_count, list_read}
-use Rattle.mini_fits.proofs.Plans.{Holds, LightIf, node_bound, plain, leaf_light, nothing, bind_light, require_light, either_light, either_at, inner_key_at, target_at, each_item, hole_item, rest_item, target_item, IsItemPart, list_is_at, list_light}
+use Rattle.mini_fits.proofs.Plans.{Holds, LightIf, node_bound, plain, leaf_light, bind_light, require_light, either_light, either_at, inner_key_at, target_at, each_item, hole_item, rest_item, target_item, IsItemPart, list_is_at, list_light}
 use Rattle.mini_fits.proofs.Bodies.{units_within}
 use Rattle.mini_fits.proofs.Literals.{safe_light, minus_safe}
 
@@ -61,7 +60,7 @@ unary_by : (d : Data) (o : UnaryOperator) (m : Option ℤ) → minus_below o d �
 unary_by d o None e = plain d (codes "argument" ∷ []) (shape.UnaryExpression o) _ (refl, tt) refl (λ os. refl)
 unary_by d o (Some z) e = record {
   holds = λ r light strict n y read. node_bound d (codes "argument" ∷ []) 0 (record { shape = shape.NumericLiteral z; names = []; children = minus_child ∷ [] }) (refl, tt) refl r light strict n y read
-  (omega (arith, minus_bound d z (minus_is o d z e) r light strict n y read));
+      (omega (arith, minus_bound d z (minus_is o d z e) r light strict n y read));
 }
 
 pub unary : (d : Data) → LightIf d 0 (expression.unary d)
@@ -69,18 +68,18 @@ unary d = bind_light d 0 (word_at unary_operators (codes "operator") d) _ (λ o 
 
 -- ---- templates
 
-two_lists : (d : Data) (us vs : Trees) (m n : ℕ) → ((π : Position) → weight π (listed us) + 6 * count us + m ≤ 5 + found (get (codes "quasis") d))
+two_lists : (d : Data) (ts us vs : Trees) (m n : ℕ) → ts ≡ listed us ▸ listed vs ▸ none → ((π : Position) → weight π (listed us) + 6 * count us + m ≤ 5 + found (get (codes "quasis") d))
     → ((π : Position) → weight π (listed vs) + 6 * count vs + n ≤ 5 + found (get (codes "expressions") d))
-    → (π : Position) (ω : ℕ → Position) → own_weight π shape.TemplateLiteral [] (outlines (listed us ▸ listed vs ▸ none)) + weights ω (listed us ▸ listed vs ▸ none) + 0 + 13 ≤ amount d
-two_lists d us vs m n small others π ω =
+    → (π : Position) (ω : ℕ → Position) → own_weight π shape.TemplateLiteral [] (outlines ts) + weights ω ts + 0 + 13 ≤ amount d
+two_lists d ts us vs m n e small others π ω =
     let os = outlines (listed us ▸ listed vs ▸ none) in
-    omega (
+    rw e (omega (
       arith,
       own_light (40 + 6 * count vs) π shape.TemplateLiteral [] os (omega (arith, text_light shape.TemplateLiteral [] π os, outline_count vs)),
       small (ω zero),
       others (ω (suc zero)),
       amounts_below (codes "quasis" ∷ codes "expressions" ∷ []) d ((refl, tt), (tt, tt)),
-    )
+    ))
 
 joined : (a b c y us vs : Trees) → y ≡ append a b → b ≡ append c none → a ≡ listed us ▸ none → c ≡ listed vs ▸ none → y ≡ listed us ▸ listed vs ▸ none
 joined a b c y us vs p q e f = p ∙ rw (e, q, f) refl
@@ -93,7 +92,7 @@ lists_light d xs zs p q r light strict n y read π ω =
     let (us, first_is, small) = list_read r light strict d (codes "quasis") n xs a p first in
     let (vs, second_is, others) = list_read r light strict d (codes "expressions") a.1 zs c q second in
     let whole = joined a.0 b.0 c.0 y.0 us vs (trees_same (append a.0 b.0, b.1) y same) (trees_same (append c.0 none, c.1) b end) first_is second_is in
-    subst (λ (ts : Trees). own_weight π shape.TemplateLiteral [] (outlines ts) + weights ω ts + 0 + 13 ≤ amount d) (sym whole) (two_lists d us vs (spares d xs) (spares d zs) small others π ω)
+    two_lists d y.0 us vs (spares d xs) (spares d zs) whole small others π ω
 
 quasi_item : (g : Tagging) → IsItemPart (expression.quasi_part g)
 quasi_item g last a s = refl

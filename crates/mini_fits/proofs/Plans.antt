@@ -1,8 +1,8 @@
 -- How a plan is shown to weigh little.
-use Rattle.std.proofs.Common.{◌≡◌, ℕ, zero, suc, ◌+◌, ◌*◌, ◌≤◌, List, [], ◌∷◌, length, refl, ap, sym, ◌∙◌, subst, codes, Bool, true, false, arith}
-use Rattle.std.specs.Prelude.{⊤, Option, Some, None, option_and_then, option_map, Ok, is_some, if◌then◌else◌, ◌&&◌}
+use Rattle.std.proofs.Common.{◌≡◌, ℕ, suc, ◌+◌, ◌≤◌, List, [], refl, codes, Bool, true, false, arith}
+use Rattle.std.specs.Prelude.{⊤, Option, Some, None, option_map, Ok, is_some, if◌then◌else◌, ◌&&◌}
 use Rattle.serde_json.specs.Data.{Data, Items, no_items, item}
-use Rattle.serde_json.specs.Find.{get, as_null}
+use Rattle.serde_json.specs.Find.{as_null}
 use Rattle.mini_model.specs.declared.name.Name.{Name}
 use Rattle.mini_model.specs.declared.shape.Shape.{Shape}
 use Rattle.mini_model.specs.Tree.{Trees}
@@ -10,11 +10,11 @@ use Rattle.mini_model.specs.Position.{Position}
 use Rattle.mini_model.specs.Weight.{Outline, outlines, weights, own_weight, text_weight, names_weight}
 use Rattle.mini_structure.specs.WellShaped as shaped
 use Rattle.mini_structure.specs.WellShaped.{Class}
-use Rattle.mini_accept.specs.Places.{Step, field, place, Place, at}
-use Rattle.mini_accept.specs.Fields.{◌>>=◌, require, is_given, list_at, no_item, has_type, child_has_type}
-use Rattle.mini_accept.specs.Plans.{Part, hole, tree_at, inner_at, Child, one, many, Plan, node_of, child, inner, optional, optional_inner, ItemPart, parts_from, list, list_child, each, or_hole, or_rest, inner_key, target_part, target}
+use Rattle.mini_accept.specs.Places.{Step, field, place, at}
+use Rattle.mini_accept.specs.Fields.{◌>>=◌, require, list_at, no_item, has_type, child_has_type}
+use Rattle.mini_accept.specs.Plans.{Part, hole, tree_at, inner_at, Child, Plan, node_of, child, inner, ItemPart, parts_from, list, list_child, each, or_hole, or_rest, inner_key, target_part, target}
 use Rattle.mini_accept.specs.Accept.{Reader, read_children}
-use Rattle.mini_fits.proofs.Amounts.{amount, found, found_at, amounts_below, are_few, few_different, few_count}
+use Rattle.mini_fits.proofs.Amounts.{amount, found_at, amounts_below, are_few, few_different, few_count}
 use Rattle.mini_fits.proofs.Written.{own_light, wordy, text_light}
 use Rattle.mini_fits.proofs.Lists.{IsLight, children_spare, PartOf, PartsAt, ChildAt, ChildrenAt, children_light}
 
@@ -110,24 +110,21 @@ target_at d key c = either_at d key (child_has_type key (codes "MemberExpression
 abbrev pub IsItemPart : ItemPart → Type 0
 IsItemPart f = (last : Bool) (a : Data) (s : Step) → PartOf s (f last a s)
 
-part_either : (s : Step) (b : Bool) (x y : Part) → PartOf s x → PartOf s y → PartOf s (if b then x else y)
-part_either s true x y h k = h
-part_either s false x y h k = k
+pub either_item : (s : Step) (b : Bool) (x y : Part) → PartOf s x → PartOf s y → PartOf s (if b then x else y)
+either_item s true x y h k = h
+either_item s false x y h k = k
 
 pub each_item : (c : Class) → IsItemPart (each c)
 each_item c last a s = refl
 
 pub hole_item : (f : ItemPart) → IsItemPart f → IsItemPart (or_hole f)
-hole_item f h last a s = part_either s (is_some (as_null a)) hole (f last a s) tt (h last a s)
+hole_item f h last a s = either_item s (is_some (as_null a)) hole (f last a s) tt (h last a s)
 
 pub rest_item : (f : ItemPart) (c : Class) → IsItemPart f → IsItemPart (or_rest f c)
-rest_item f c h last a s = part_either s (last && has_type (codes "RestElement") a) (tree_at s (at c)) (f last a s) refl (h last a s)
+rest_item f c h last a s = either_item s (last && has_type (codes "RestElement") a) (tree_at s (at c)) (f last a s) refl (h last a s)
 
 pub target_item : (c : Class) → IsItemPart (target_part c)
-target_item c last a s = part_either s (has_type (codes "MemberExpression") a) (inner_at s (at shaped.a_member_target)) (tree_at s (at c)) refl refl
-
-pub either_item : (s : Step) (b : Bool) (x y : Part) → PartOf s x → PartOf s y → PartOf s (if b then x else y)
-either_item = part_either
+target_item c last a s = either_item s (has_type (codes "MemberExpression") a) (inner_at s (at shaped.a_member_target)) (tree_at s (at c)) refl refl
 
 from_at : (f : ItemPart) → IsItemPart f → (key : List ℕ) (i : ℕ) (ds : Items) → PartsAt key i (parts_from f key i ds) ds
 from_at f h key i no_items = tt

@@ -1,5 +1,5 @@
 -- A value nests no deeper than it has values, so within as many it is read.
-use Rattle.std.proofs.Common.{◌≡◌, ℕ, zero, suc, ◌+◌, ◌≤◌, List, [], ◌∷◌, refl, Bool, true, false, arith}
+use Rattle.std.proofs.Common.{◌≡◌, ℕ, zero, suc, ◌≤◌, List, [], ◌∷◌, refl, Bool, true, false, arith}
 use Rattle.std.specs.Prelude.{Option, Some, None, option_and_then, Result, Ok, Err}
 use Rattle.serde_json.specs.Data.{Data, Items, no_items, item}
 use Rattle.serde_json.specs.Find.{get, get_item, as_array}
@@ -7,7 +7,7 @@ use Rattle.mini_model.specs.declared.name.Name.{Name}
 use Rattle.mini_model.specs.declared.shape.Shape.{Shape}
 use Rattle.mini_model.specs.Tree.{Tree, Trees}
 use Rattle.mini_structure.specs.WellShaped.{a_program, is_strict_in}
-use Rattle.mini_accept.specs.Faults.{Defect, Fault}
+use Rattle.mini_accept.specs.Faults.{Defect}
 use Rattle.mini_accept.specs.Places.{Step, field, place, step_text, down, Place, at}
 use Rattle.mini_accept.specs.Plans.{Part, hole, tree_at, inner_at, checked, Child, one, many, Plan}
 use Rattle.mini_accept.specs.Accept.{plan, Read, Reader, takes_number, below_by, read_below, read_part, read_parts, read_child, read_children, with_children, numbered, read_plan, reads, program_at, Accepts}

@@ -1,15 +1,15 @@
 -- The plans of statements, functions, classes, imports and exports weigh little.
-use Rattle.std.proofs.Common.{◌≡◌, ℕ, ◌+◌, ◌≤◌, List, [], ◌∷◌, refl, ap, codes, Bool, true, false, arith}
-use Rattle.std.specs.Prelude.{Option, Some, None, if◌then◌else◌, ◌&&◌, ◌||◌, not, is_some}
-use Rattle.serde_json.specs.Data.{Data, Items}
+use Rattle.std.proofs.Common.{◌≡◌, ℕ, List, [], ◌∷◌, refl, codes, Bool, true, false, arith}
+use Rattle.std.specs.Prelude.{not}
+use Rattle.serde_json.specs.Data.{Data}
 use Rattle.mini_model.specs.declared.shape.Shape.{Shape}
 use Rattle.mini_model.specs.declared.shape.Shape.TheVariants as shape
 use Rattle.mini_structure.specs.WellShaped as shaped
 use Rattle.mini_structure.specs.WellShaped.{Class, nested, in_body}
-use Rattle.mini_accept.specs.Places.{field, Place, at, a_directive, a_directive_text, an_exported, a_local_name}
-use Rattle.mini_accept.specs.Fields.{◌>>=◌, require, is_given, flag_at, list_at, no_item, child_has_type}
+use Rattle.mini_accept.specs.Places.{Place, a_directive}
+use Rattle.mini_accept.specs.Fields.{require, is_given, flag_at, list_at}
 use Rattle.mini_accept.specs.Words.{word_at, variable_kinds, method_kinds}
-use Rattle.mini_accept.specs.Plans.{Part, tree_at, Child, one, Plan, node_of, child, inner, optional, optional_inner, list, each, or_rest, inner_key}
+use Rattle.mini_accept.specs.Plans.{Child, node_of, child, optional, optional_inner, each}
 use Rattle.mini_accept.specs.Statements as statement
 use Rattle.mini_accept.specs.Functions as functions
 use Rattle.mini_accept.specs.Modules as imports
@@ -18,7 +18,7 @@ use Rattle.mini_accept.specs.Functions.{directives_below}
 use Rattle.mini_fits.proofs.Amounts.{are_few}
 use Rattle.mini_fits.proofs.Written.{wordy}
 use Rattle.mini_fits.proofs.Lists.{ChildAt, ChildrenAt}
-use Rattle.mini_fits.proofs.Plans.{LightIf, node_light, plain, nothing, bind_light, require_light, either_light, optional_at, optional_inner_at, inner_key_at, each_item, rest_item, IsItemPart, list_is_at, list_light}
+use Rattle.mini_fits.proofs.Plans.{LightIf, node_light, plain, bind_light, require_light, optional_at, optional_inner_at, inner_key_at, each_item, rest_item, IsItemPart, list_is_at, list_light}
 use Rattle.mini_fits.proofs.Bodies.{below_function, below_arrow}
 
 module _ (d : Data) where

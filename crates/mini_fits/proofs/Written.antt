@@ -1,5 +1,5 @@
 -- What a node writes itself weighs little, but for its texts and its numbers.
-use Rattle.std.proofs.Common.{◌≡◌, ℕ, zero, suc, ◌+◌, ◌*◌, ◌≤◌, List, [], ◌∷◌, length, codes, Bool, true, false, cond, arith}
+use Rattle.std.proofs.Common.{ℕ, ◌+◌, ◌*◌, ◌≤◌, List, [], ◌∷◌, length, codes, Bool, true, false, cond, arith}
 use Rattle.std.specs.Prelude.{not, ◌||◌, nat_eq}
 use Rattle.std.specs.Fmt.{decimal, signed_decimal}
 use Rattle.mini_model.specs.declared.kind.MethodDefinitionKind.{MethodDefinitionKind}
@@ -20,7 +20,7 @@ use Rattle.mini_model.specs.declared.seat.StmtSeat.TheVariants as stmt_seat
 use Rattle.mini_model.specs.declared.shape.Shape.{Shape}
 use Rattle.mini_model.specs.declared.shape.Shape.TheVariants as shape
 use Rattle.mini_model.specs.Position.{Position, Expr, Stmt, Target, Method, Unwritten, ArgumentList, SequenceList, CommaList, is_accessor}
-use Rattle.mini_model.specs.Weight.{Outline, nth_is_absent, nth_items, first_chooses, own_weight, text_weight, names_weight, quoted_weight, directives_weight, where_present, flagged, spelled_weight, same_text, is_parenthesized, parentheses, is_awkward, awkward_weight, bare_weight, braces_weight, block_weight, place_weight, commas_weight, list_weight, unary_operator_weight, binary_operator_weight, assignment_operator_weight, declaring_weight, declaration_end, function_weight, accessor_weight, method_kind_weight, property_weight, template_weight}
+use Rattle.mini_model.specs.Weight.{Outline, nth_is_absent, nth_items, first_chooses, own_weight, text_weight, names_weight, directives_weight, where_present, flagged, spelled_weight, same_text, is_parenthesized, parentheses, is_awkward, awkward_weight, bare_weight, braces_weight, block_weight, place_weight, commas_weight, list_weight, unary_operator_weight, binary_operator_weight, assignment_operator_weight, declaring_weight, declaration_end, function_weight, method_kind_weight, property_weight}
 
 chosen : (b : Bool) (x y n : ℕ) → x ≤ n → y ≤ n → cond b x y ≤ n
 chosen true x y n p q = p

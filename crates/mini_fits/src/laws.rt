@@ -4,13 +4,14 @@ ghost use Rattle.serde_json.specs.Data.{Data};
 ghost use Rattle.serde_json.specs.Read.{read};
 ghost use Rattle.mini_model.specs.Tree.{Tree};
 ghost use Rattle.mini_model.specs.Position.{Elsewhere};
-ghost use Rattle.mini_model.specs.Weight.{weight};
+ghost use Rattle.mini_model.specs.Weight.{weight, program_weight};
 ghost use Rattle.mini_accept.specs.Accept.{program_at, Accepts};
 ghost use Rattle.mini_fits.specs.Fits.{Fits};
 
 /// The tree of a small enough value weighs less than 2^32.
 pub fn accepted_weighs_little()
-    ensures { (d : Data) (t : Tree) → Accepts d t → Fits d → weight Elsewhere t < 2 ^ 32 }
+    ensures tree { (d : Data) (t : Tree) → Accepts d t → Fits d → weight Elsewhere t < 2 ^ 32 }
+    ensures program { (d : Data) (t : Tree) → Accepts d t → Fits d → program_weight t < 2 ^ 32 }
 {}
 
 /// A small enough value nests no deeper than a u32 can say.
