@@ -1,5 +1,5 @@
 //! Laws of the values that are small enough, each as the contract of a function that does nothing.
-ghost use Rattle.std.specs.Prelude.{◌≡◌, ◌<◌, ◌^◌, ℕ, Ok};
+ghost use Rattle.std.specs.Prelude.{◌≡◌, ◌<◌, ◌^◌, Ok};
 ghost use Rattle.serde_json.specs.Data.{Data};
 ghost use Rattle.mini_model.specs.Tree.{Tree};
 ghost use Rattle.mini_model.specs.Position.{Elsewhere};

@@ -1,5 +1,5 @@
 -- The plans of templates, of numbers with a minus before them, and of patterns weigh little.
-use Rattle.std.proofs.Common.{◌≡◌, ℕ, zero, suc, ◌+◌, ◌-◌, ◌*◌, ◌≤◌, List, [], ◌∷◌, length, refl, ap, sym, ◌∙◌, subst, codes, Bool, true, false, arith}
+use Rattle.std.proofs.Common.{◌≡◌, ℕ, zero, suc, ◌+◌, ◌-◌, ◌*◌, ◌≤◌, List, [], ◌∷◌, length, refl, ap, sym, ◌∙◌, codes, Bool, true, false, arith}
 use Rattle.std.specs.Prelude.{Option, Some, None, option_and_then, if◌then◌else◌, Ok, ℤ}
 use Rattle.std.specs.Fmt.{signed_decimal}
 use Rattle.serde_json.specs.Data.{Data}
