@@ -8,8 +8,5 @@ pub mod Depths
 pub mod Back
 pub mod Shaped
 pub mod Located
-pub mod Keys
 pub mod Light
 pub mod Shallow
-pub mod Lexed
-pub mod Counted

@@ -15,7 +15,7 @@ use Rattle.mini_model.specs.Tree.{Tree, node, none, ◌▸◌, trees, absent, un
 use Rattle.mini_model.specs.Position.{Position, Expr, Stmt, Unwritten, Elsewhere, child_position}
 use Rattle.mini_model.specs.Weight.{Outline, outlines, nth_is_absent, weight, weights, own_weight, text_weight, where_present, spelled_weight, same_text, is_parenthesized, parentheses, is_awkward, awkward_weight, bare_weight, place_weight, unary_operator_weight}
 use Rattle.mini_errors.specs.Faults.{item_step}
-use Rattle.mini_estree.specs.Fits.{Fits, values_in, values_in_items}
+use Rattle.mini_fits.specs.Fits.{Fits, values_in, values_in_items}
 use Rattle.mini_estree.specs.Kinds.{kind_of, is_misplaced, Standing, unread, misplaced, standing}
 use Rattle.mini_estree.specs.Kinds as kinds
 use Rattle.mini_estree.specs.declared.kind.Kind.{Kind}
@@ -24,7 +24,7 @@ use Rattle.mini_estree.specs.declared.kind.Class.{Class}
 use Rattle.mini_estree.specs.declared.kind.Class.TheVariants as class
 use Rattle.mini_estree.specs.Accept.{Field, plain, child, optional_child, children, fields_of, Part, part, name_in, unary_operator_in, logical_operator_in, a_tree, tree_in, some_trees, trees_in, tree_of, read_below, child_of, child_at, optional_of, optional_at, items_at, list_of, list_at, part_at, parts_at, entry_at, node_by, reads, program_at, Accepts}
 use Rattle.mini_estree.proofs.Results.{ok_same, bind_ok, as_part_ok, placed_ok}
-use Rattle.mini_estree.proofs.Keys.{values_found, values_below, values_of_items, array_within}
+use Rattle.mini_fits.proofs.Keys.{values_found, values_below, values_of_items, array_within}
 
 -- ---- a node beside its children
 

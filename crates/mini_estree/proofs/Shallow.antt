@@ -5,14 +5,14 @@ use Rattle.serde_json.specs.Data.{Data, Items, no_items, item}
 use Rattle.serde_json.specs.Find.{get, as_null, as_array}
 use Rattle.mini_model.specs.Tree.{Tree, absent}
 use Rattle.mini_errors.specs.Faults.{item_step}
-use Rattle.mini_estree.specs.Fits.{Fits, values_in, values_in_items}
+use Rattle.mini_fits.specs.Fits.{Fits, values_in, values_in_items}
 use Rattle.mini_estree.specs.Kinds.{kind_of, Standing, fits, unread, misplaced, standing, is_misplaced}
 use Rattle.mini_estree.specs.declared.kind.Kind.{Kind}
 use Rattle.mini_estree.specs.declared.kind.Class.{Class}
 use Rattle.mini_estree.specs.declared.kind.Class.TheVariants as class
 use Rattle.mini_estree.specs.Accept.{Field, plain, child, optional_child, children, fields_of, Part, a_tree, some_trees, tree_of, Reader, read_below, child_of, child_at, optional_of, optional_at, items_at, list_of, list_at, part_at, parts_at, entry_at, node_by, reads, program_at, Accepts}
 use Rattle.mini_estree.proofs.Results.{bind_ok, as_part_ok, placed_ok}
-use Rattle.mini_estree.proofs.Keys.{values_found, values_below, values_of_items, array_within, some_value}
+use Rattle.mini_fits.proofs.Keys.{values_found, values_below, values_of_items, array_within, some_value}
 
 -- of the values that are at most so large, the second reader reads whatever the first does
 abbrev pub Covers : ℕ → Reader → Reader → Type 0

@@ -1,4 +1,3 @@
-pub mod Fits
 pub mod Kinds
 pub mod Names
 pub mod Accept

@@ -1,12 +1,11 @@
 //! Laws of the values that are small enough, each as the contract of a function that does nothing.
-ghost use Rattle.std.specs.Prelude.{◌≡◌, ◌≤◌, ◌<◌, ◌^◌, ℕ, List, length, Ok, Some};
+ghost use Rattle.std.specs.Prelude.{◌≡◌, ◌<◌, ◌^◌, Ok};
 ghost use Rattle.serde_json.specs.Data.{Data};
-ghost use Rattle.serde_json.specs.Read.{read};
 ghost use Rattle.mini_model.specs.Tree.{Tree};
 ghost use Rattle.mini_model.specs.Position.{Elsewhere};
 ghost use Rattle.mini_model.specs.Weight.{weight};
 ghost use Rattle.mini_estree.specs.Accept.{program_at, Accepts};
-ghost use Rattle.mini_estree.specs.Fits.{Fits};
+ghost use Rattle.mini_fits.specs.Fits.{Fits};
 
 /// The tree of a small enough value weighs less than 2^32.
 pub fn accepted_weighs_little()
@@ -16,9 +15,4 @@ pub fn accepted_weighs_little()
 /// A small enough value nests no deeper than a u32 can say.
 pub fn fitting_is_read()
     ensures { (d : Data) (t : Tree) → Accepts d t → Fits d → program_at 4294967295 d ≡ Ok t }
-{}
-
-/// What 16,777,216 bytes say is small enough.
-pub fn read_bytes_fit()
-    ensures { (bytes : List ℕ) (d : Data) → length bytes ≤ 16777216 → read bytes ≡ Some d → Fits d }
 {}

@@ -6,7 +6,7 @@ ghost use Rattle.serde_json.specs.Written.{has_float};
 ghost use Rattle.mini_first.specs.Plain.{program_tree};
 ghost use Rattle.mini_errors.specs.Faults.{fault_of};
 ghost use Rattle.mini_estree.specs.Accept.{program_at};
-ghost use Rattle.mini_estree.specs.Fits.{Fits};
+ghost use Rattle.mini_fits.specs.Fits.{Fits};
 ghost use Rattle.mini_peephole.specs.Faithful.{Faithful, PassesBounded};
 ghost use Rattle.mini_peephole.specs.Minified.{IsMinified, IsRewriting, IsRefusal, outside};
 
@@ -80,7 +80,7 @@ fn first_path(alloc: Global, program: &Value, max_depth: u32) -> Result<Program,
 /// and has nodes that aren't rewritten yet, is refused as `Unsupported` at the root. `OutOfMemory` may come in place of
 /// any answer.
 ///
-/// The value has to fit: `mini_estree::fits` tells, and what 16,777,216 bytes of JSON say does.
+/// The value has to fit: `mini_fits::fits` tells, and what 16,777,216 bytes of JSON say does.
 #[tactic(auto, using(crate::proofs::Refused::refused_by_table, crate::proofs::Refused::refused_outside))]
 pub fn minify_estree(
     alloc: Global,

@@ -7,7 +7,7 @@ use Rattle.std.specs.Cmp.Lexicographic.{slice_cmp}
 use Rattle.std.specs.Ordering.{match_ordering}
 use Rattle.serde_json.specs.Data.{Data, null, boolean, number, string, array, object, Items, Members, no_members, member}
 use Rattle.serde_json.specs.Find.{get, get_member, as_array}
-use Rattle.mini_estree.specs.Fits.{values_in, values_in_items, values_in_members}
+use Rattle.mini_fits.specs.Fits.{values_in, values_in_items, values_in_members}
 
 -- the values of what was found
 abbrev pub values_found : Option Data → ℕ
@@ -35,7 +35,7 @@ values_of_members [] ms = 0
 values_of_members (k ∷ ks) ms = values_found (get_member k ms) + values_of_members ks ms
 
 -- the members without the one that is found at k
-abbrev without : List ℕ → Members → Members
+abbrev pub without : List ℕ → Members → Members
 without k no_members = no_members
 without k (member l e ms) = match_ordering (slice_cmp nat_cmp k l) (member l e (without k ms)) ms (member l e (without k ms))
 
@@ -63,7 +63,7 @@ kept_at Less k q l e ms is other h = rw h refl
 kept_at Equal k q l e ms is other h = sym (either (slice_cmp nat_cmp q l) (get_member q ms) (Some e) (subst (λ (x : List ℕ). is_eq (slice_cmp nat_cmp q x) ≡ false) (same_key k l is) other))
 kept_at Greater k q l e ms is other h = rw h refl
 
-kept : (k q : List ℕ) (ms : Members) → IsOther k q → get_member q (without k ms) ≡ get_member q ms
+pub kept : (k q : List ℕ) (ms : Members) → IsOther k q → get_member q (without k ms) ≡ get_member q ms
 kept k q no_members other = refl
 kept k q (member l e ms) other = kept_at (slice_cmp nat_cmp k l) k q l e ms refl other (kept k q ms other)
 

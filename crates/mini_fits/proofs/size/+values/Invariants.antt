@@ -2,8 +2,8 @@
 use Rattle.std.proofs.Common.{◌≡◌, ◌+◌, ◌≤◌, drop}
 use Rattle.serde_json.specs.View.{items_view, members_view}
 use Rattle.mini_model.specs.Weight.{capped}
-use Rattle.mini_estree.specs.Fits.{values_in_items, values_in_members}
-use Rattle.mini_estree.proofs.size.+values.Given as goal
+use Rattle.mini_fits.specs.Fits.{values_in_items, values_in_members}
+use Rattle.mini_fits.proofs.size.+values.Given as goal
 
 abbrev pub invariant-count_item_values-loop-item : goal.invariant-count_item_values-loop-item
 invariant-count_item_values-loop-item l =

@@ -5,7 +5,7 @@ use Rattle.std.proofs.lemmas.List.{nil_from_length}
 use Rattle.std.proofs.lemmas.Str.{IsUtf8-past_char}
 use Rattle.mini_text.specs.Texts.{units_of}
 use Rattle.mini_text.proofs.Units.{units_of-cons, units_of-nil}
-use Rattle.mini_estree.proofs.size.count_text_units.Goals as goal
+use Rattle.mini_fits.proofs.size.count_text_units.Goals as goal
 
 module _ (waiting waiting' rest rest' : List ℕ) (u : ℕ) where
   -- the iterator moved over the unit u

@@ -3,7 +3,7 @@ use Rattle.std.proofs.Common.{◌≡◌, ◌+◌, ◌++◌, ◌≤◌, length, I
 use Rattle.std.specs.Str.Iter.{encode_utf16_pending, encode_utf16_rest}
 use Rattle.mini_text.specs.Texts.{units_of}
 use Rattle.mini_model.specs.Weight.{capped}
-use Rattle.mini_estree.proofs.size.count_text_units.Given as goal
+use Rattle.mini_fits.proofs.size.count_text_units.Given as goal
 
 abbrev pub invariant-units : goal.invariant-units
 invariant-units l = record {

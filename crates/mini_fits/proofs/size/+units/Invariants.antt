@@ -2,8 +2,8 @@
 use Rattle.std.proofs.Common.{◌≡◌, ◌+◌, ◌≤◌, drop}
 use Rattle.serde_json.specs.View.{items_view, members_view}
 use Rattle.mini_model.specs.Weight.{capped}
-use Rattle.mini_estree.specs.Fits.{units_in_items, units_in_members}
-use Rattle.mini_estree.proofs.size.+units.Given as goal
+use Rattle.mini_fits.specs.Fits.{units_in_items, units_in_members}
+use Rattle.mini_fits.proofs.size.+units.Given as goal
 
 abbrev pub invariant-count_item_units-loop-item : goal.invariant-count_item_units-loop-item
 invariant-count_item_units-loop-item l =

@@ -1,0 +1,14 @@
+pub mod Keys
+pub mod Lexed
+pub mod Counted
+pub mod Shallow
+pub mod Amounts
+pub mod Written
+pub mod Lists
+pub mod Plans
+pub mod Bodies
+pub mod Statements
+pub mod Literals
+pub mod Expressions
+pub mod Pieces
+pub mod Light

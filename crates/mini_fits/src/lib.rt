@@ -1,0 +1,10 @@
+//! How large a value of ESTree is, and the laws of those that are small enough.
+#![tactic(auto)]
+
+mod laws;
+mod size;
+#[cfg(test)]
+mod size_tests;
+
+pub use laws::{accepted_weighs_little, fitting_is_read, read_bytes_fit};
+pub use size::fits;
