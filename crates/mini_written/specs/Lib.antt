@@ -1,0 +1,4 @@
+pub mod Keys
+pub mod Objects
+pub mod Words
+pub mod Written
