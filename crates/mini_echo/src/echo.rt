@@ -1,0 +1,74 @@
+// Programs and values, read and written.
+
+use mini_drop::drop_program;
+use mini_errors::MinifyError;
+use mini_read::read_program;
+use mini_text::OutOfMemory;
+use mini_write::write_program;
+use serde_json::Value;
+use std::alloc::{AllocError, Global};
+use std::io;
+
+/// How deep the nodes of a program may nest.
+const MAX_DEPTH: u32 = 1000;
+
+/// Why nothing is written.
+#[derive(Debug, Drop)]
+pub enum EchoError {
+    /// The text is no JSON, or nests too deep.
+    NotJson,
+    /// The value is no program that is read.
+    Refused(MinifyError),
+    /// Reading or writing failed.
+    Outside,
+    /// No memory was left.
+    OutOfMemory,
+}
+
+impl From<serde_json::Error> for EchoError {
+    fn from(_error: serde_json::Error) -> EchoError {
+        EchoError::NotJson
+    }
+}
+
+impl From<MinifyError> for EchoError {
+    fn from(error: MinifyError) -> EchoError {
+        EchoError::Refused(error)
+    }
+}
+
+impl From<OutOfMemory> for EchoError {
+    fn from(_gone: OutOfMemory) -> EchoError {
+        EchoError::OutOfMemory
+    }
+}
+
+impl From<AllocError> for EchoError {
+    fn from(_gone: AllocError) -> EchoError {
+        EchoError::OutOfMemory
+    }
+}
+
+impl From<io::Error> for EchoError {
+    fn from(_error: io::Error) -> EchoError {
+        EchoError::Outside
+    }
+}
+
+/// The text of the program that a text says, as compact JSON.
+///
+/// The text must be JSON (`NotJson`) of a program that is read and whose nodes nest at most 1000 deep (`Refused`).
+pub fn echoed(alloc: Global, text: &str) -> Result<String, EchoError> {
+    let value = Value::from_str(alloc, text)?;
+    let program = read_program(alloc, &value, MAX_DEPTH)?;
+    drop(value);
+    let back = write_program(alloc, &program);
+    drop_program(program);
+    Ok(back?.to_string(alloc)?)
+}
+
+/// The text of the value that a text says, as compact JSON.
+pub fn same_json(alloc: Global, text: &str) -> Result<String, EchoError> {
+    let value = Value::from_str(alloc, text)?;
+    Ok(value.to_string(alloc)?)
+}

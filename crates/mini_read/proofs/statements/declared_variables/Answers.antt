@@ -1,0 +1,14 @@
+use Rattle.std.proofs.Common.{rules, true, false}
+use Rattle.serde_json.specs.View.{view}
+use Rattle.mini_accept.specs.Accept.{reads}
+use Rattle.mini_accept.specs.Functions as functions
+use Rattle.mini_accept.specs.Statements as statements
+use Rattle.mini_accept.specs.Entries.{entry}
+use Rattle.mini_accept.specs.Places.{at}
+use Rattle.mini_defects.specs.Views.{class_of, kind_of_node, letters_of}
+use Rattle.mini_ast.specs.Plain.{variable_declaration_tree}
+use Rattle.mini_read_expressions.proofs.Planned.{seen}
+use Rattle.mini_read.proofs.statements.declared_variables.Goals as goal
+
+pub returns : goal.returns
+returns g c k = seen variable_declaration_tree c.in_ok-found.found c.in_ok-found.n _ (reads c.args.below.depth) c.args.below.strict (at k) c.args.n (view c.args.value.now) (statements.variable (view c.args.value.now)) c.in_ok-boxed_statement.ensures (c.in_ok-found.ensures k)
