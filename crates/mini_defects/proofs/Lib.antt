@@ -8,3 +8,4 @@ pub mod Plans
 pub mod Marks
 pub mod Cooked
 pub mod Planned
+mod Typed

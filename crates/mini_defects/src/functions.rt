@@ -15,7 +15,6 @@ use crate::literals::is_string_literal;
 use crate::look::{child_has_type, flag_at, has_flag, has_type, is_given, list_at, text_at};
 use crate::place::{Class, Depth, Place};
 use crate::placed::{child_stands, key_stands, optional_stands};
-use crate::standing::is_identifier;
 use crate::statements::has_use_strict;
 use crate::words::method_kind_at;
 use mini_model::MethodDefinitionKind;
@@ -138,7 +137,7 @@ fn says_constructor(key: &str, value: &Value) -> bool
 fn names_constructor(key: &Value) -> bool
     ensures { result ≡ names_constructor (view key.now) }
 {
-    (is_identifier(key) && says_constructor("name", key))
+    (has_type("Identifier", key) && says_constructor("name", key))
         || (is_string_literal(key) && says_constructor("value", key))
 }
 

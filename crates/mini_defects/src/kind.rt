@@ -1,7 +1,8 @@
 // The types of nodes.
 
-ghost use Rattle.std.specs.Prelude.{◌≡◌, option_map};
+ghost use Rattle.std.specs.Prelude.{◌≡◌, Some, option_map};
 ghost use Rattle.serde_json.specs.View.{view};
+ghost use Rattle.mini_accept.specs.Kind as table;
 ghost use Rattle.mini_accept.specs.Kind.{types};
 ghost use Rattle.mini_accept.specs.Fields.{word_in, kind_of};
 ghost use Rattle.mini_defects.specs.Views.{part, kind_of_node};
@@ -240,9 +241,29 @@ fn kind_named(text: &str) -> Option<Kind>
     other(text)
 }
 
+// The type of this name, if it is one of those that most nodes have.
+fn frequent(text: &str) -> Option<Kind>
+    ensures { (k : table.Kind) → option_map kind_of_node result ≡ Some k → word_in types text.now ≡ Some k }
+{
+    match text {
+        "Identifier" => Some(Kind::Identifier),
+        "MemberExpression" => Some(Kind::MemberExpression),
+        "CallExpression" => Some(Kind::CallExpression),
+        "Literal" => Some(Kind::Literal),
+        "ExpressionStatement" => Some(Kind::ExpressionStatement),
+        "BlockStatement" => Some(Kind::BlockStatement),
+        "Property" => Some(Kind::Property),
+        _ => None,
+    }
+}
+
 /// The type that a value names; None where it names none of ESTree's.
 pub fn kind_of(value: &Value) -> Option<Kind>
     ensures { option_map kind_of_node result ≡ kind_of (view value.now) }
 {
-    kind_named(text_at("type", value)?)
+    let text = text_at("type", value)?;
+    match frequent(text) {
+        Some(kind) => Some(kind),
+        None => kind_named(text),
+    }
 }

@@ -12,7 +12,6 @@ ghost use Rattle.mini_defects.specs.Views.{class_of};
 use crate::look::{flag_at, has_text, has_type, text_at};
 use crate::place::Class;
 use crate::placed::child_stands;
-use crate::standing::is_identifier;
 use crate::words::property_kind_at;
 use mini_model::PropertyKind;
 use serde_json::Value;
@@ -23,7 +22,7 @@ fn is_same_name(name: Option<&str>, value: &Value) -> bool
 {
     match name {
         None => false,
-        Some(name) => is_identifier(value) && has_text("name", name, value),
+        Some(name) => has_type("Identifier", value) && has_text("name", name, value),
     }
 }
 
@@ -44,7 +43,7 @@ fn is_name_with_default(name: Option<&str>, value: &Value) -> bool
 fn identifier_text(value: &Value) -> Option<&str>
     ensures { option_map (λ s. s.now) result ≡ identifier_text (view value.now) }
 {
-    if is_identifier(value) {
+    if has_type("Identifier", value) {
         text_at("name", value)
     } else {
         None

@@ -1,14 +1,16 @@
 // Which nodes may stand in a place, and which forms aren't read.
 
-ghost use Rattle.std.specs.Prelude.{◌≡◌, ◌||◌, ◌&&◌, map, codes};
+ghost use Rattle.std.specs.Prelude.{◌≡◌, ◌∷◌, [], List, ℕ, Bool, None, Some, map, codes};
+ghost use Rattle.serde_json.specs.Data.{Data};
 ghost use Rattle.serde_json.specs.View.{view, items_view};
-ghost use Rattle.mini_accept.specs.Fields.{is_one_of, has_one_of};
+ghost use Rattle.mini_accept.specs.Kind.{types};
+ghost use Rattle.mini_accept.specs.Fields.{is_one_of, has_one_of, has_type, kind_of, word_in};
 ghost use Rattle.mini_accept.specs.Standing.{is_expression, is_identifier, is_block, is_variable, is_pattern, is_default, has_true, is_member_target, is_method, is_head_by, is_head, is_piece, is_statement_in, stands_as, may_stand, begins_with, has_unread_type, has_unread_field, is_unread_form, is_nested, is_key, is_unread_there, is_unread, is_misplaced};
 ghost use Rattle.mini_defects.specs.declared.place.Class.TheVariants as class;
-ghost use Rattle.mini_defects.specs.Unread.{is_foreign, is_async, is_using, has_import_attributes};
-ghost use Rattle.mini_defects.specs.Views.{depth_of, class_of, place_of, letters_of};
+ghost use Rattle.mini_defects.specs.Unread.{is_foreign, is_for_text, is_unread_itself};
+ghost use Rattle.mini_defects.specs.Views.{depth_of, class_of, place_of, letters_of, kind_of_node};
 
-use crate::kind::kind_of;
+use crate::kind::{Kind, kind_of};
 use crate::literals::{is_big_int_literal, is_key_literal, is_string_literal, is_unread_literal};
 use crate::look::{flag_at, has_text, has_type, is_bare, is_given, list_at, text_at};
 use crate::place::{Class, Depth, MetaWord, Place};
@@ -385,67 +387,75 @@ fn has_unread_type(value: &Value) -> bool
     ) || is_foreign(value)
 }
 
-// Whether it is an asynchronous function.
-fn is_async(value: &Value) -> bool
-    ensures { result ≡ is_async (view value.now) }
+// Whether the literal there is looked at for its text alone, as that of a directive is.
+fn is_for_text(place: Place) -> bool
+    ensures { result ≡ is_for_text (place_of place) }
 {
-    has_one_of(
-        &[
-            "FunctionDeclaration",
-            "FunctionExpression",
-            "ArrowFunctionExpression",
-        ],
-        value,
-    ) && has_true("async", value)
+    match place {
+        Place::DirectiveText => true,
+        _ => false,
+    }
 }
 
-// Whether it is a declaration of `using`.
-fn is_using(value: &Value) -> bool
-    ensures { result ≡ is_using (view value.now) }
+/// Whether a node whose type isn't in the table is a form that isn't read.
+#[tactic(auto, using(crate::proofs::Typed::unknown_unread))]
+pub fn is_unread_unknown(place: Place, value: &Value) -> bool
+    ensures { (strict : Bool) → kind_of (view value.now) ≡ None → result ≡ is_unread strict (place_of place) (view value.now) }
 {
-    is_variable(value)
-        && (has_text("kind", "using", value) || has_text("kind", "await using", value))
+    has_unread_type(value) || (!is_for_text(place) && !is_bare("decorators", value))
 }
 
-// Whether it is an import or an export with attributes.
-fn has_import_attributes(value: &Value) -> bool
-    ensures { result ≡ has_import_attributes (view value.now) }
+// Whether nodes of the type have the type that is wanted.
+fn is(kind: Kind, wanted: Kind) -> bool
+    ensures { (d : Data) (w : List ℕ) → kind_of d ≡ Some (kind_of_node kind) → word_in types w ≡ Some (kind_of_node wanted) → result ≡ has_type w d }
 {
-    has_one_of(
-        &[
-            "ImportDeclaration",
-            "ExportNamedDeclaration",
-            "ExportAllDeclaration",
-        ],
-        value,
-    ) && !is_bare("attributes", value)
+    kind == wanted
+}
+
+// Whether nodes of the type are functions, which may be asynchronous.
+#[tactic(auto, using(crate::proofs::Typed::one_of_three))]
+fn is_function(kind: Kind) -> bool
+    ensures { (d : Data) → kind_of d ≡ Some (kind_of_node kind) → result ≡ has_one_of (codes "FunctionDeclaration" ∷ codes "FunctionExpression" ∷ codes "ArrowFunctionExpression" ∷ []) d }
+{
+    is(kind, Kind::FunctionDeclaration)
+        || (is(kind, Kind::FunctionExpression) || is(kind, Kind::ArrowFunctionExpression))
+}
+
+// Whether nodes of the type name a module, and may have attributes of its import.
+#[tactic(auto, using(crate::proofs::Typed::one_of_three))]
+fn names_module(kind: Kind) -> bool
+    ensures { (d : Data) → kind_of d ≡ Some (kind_of_node kind) → result ≡ has_one_of (codes "ImportDeclaration" ∷ codes "ExportNamedDeclaration" ∷ codes "ExportAllDeclaration" ∷ []) d }
+{
+    is(kind, Kind::ImportDeclaration)
+        || (is(kind, Kind::ExportNamedDeclaration) || is(kind, Kind::ExportAllDeclaration))
 }
 
 // Whether it is an asynchronous function or loop, a declaration of `using`, or has import attributes or the options of
 // an import.
-fn has_unread_field(value: &Value) -> bool
-    ensures { result ≡ has_unread_field (view value.now) }
+fn has_unread_field(kind: Kind, value: &Value) -> bool
+    ensures { kind_of (view value.now) ≡ Some (kind_of_node kind) → result ≡ has_unread_field (view value.now) }
 {
-    is_async(value)
-        || (has_type("ForOfStatement", value) && has_true("await", value))
-        || is_using(value)
-        || has_import_attributes(value)
-        || (has_type("ImportExpression", value) && is_given("options", value))
+    (is_function(kind) && has_true("async", value))
+        || (is(kind, Kind::ForOfStatement) && has_true("await", value))
+        || (is(kind, Kind::VariableDeclaration)
+            && (has_text("kind", "using", value) || has_text("kind", "await using", value)))
+        || (names_module(kind) && !is_bare("attributes", value))
+        || (is(kind, Kind::ImportExpression) && is_given("options", value))
 }
 
-// Whether the form isn't read wherever it stands; a directive's literal is looked at for its text alone.
-fn is_unread_form(place: Place, value: &Value) -> bool
-    ensures { result ≡ is_unread_form (place_of place) (view value.now) }
+// Whether a field says that the form isn't read, or it is a literal that isn't.
+fn is_unread_itself(kind: Kind, value: &Value) -> bool
+    ensures { kind_of (view value.now) ≡ Some (kind_of_node kind) → result ≡ is_unread_itself (view value.now) }
 {
-    match place {
-        Place::DirectiveText => has_unread_type(value),
-        _ => {
-            has_unread_type(value)
-                || has_unread_field(value)
-                || !is_bare("decorators", value)
-                || (has_type("Literal", value) && is_unread_literal(value))
-        }
-    }
+    has_unread_field(kind, value)
+        || (!is_bare("decorators", value) || (is(kind, Kind::Literal) && is_unread_literal(value)))
+}
+
+// Whether the form isn't read wherever it stands.
+fn is_unread_form(place: Place, kind: Kind, value: &Value) -> bool
+    ensures { kind_of (view value.now) ≡ Some (kind_of_node kind) → result ≡ is_unread_form (place_of place) (view value.now) }
+{
+    !is_for_text(place) && is_unread_itself(kind, value)
 }
 
 // Whether a statement there is in another one.
@@ -470,31 +480,35 @@ fn is_key(class: Class) -> bool
 
 // Whether the form isn't read where it stands: a BigInt as a key without brackets, and a function of sloppy code that
 // isn't directly in a body.
-fn is_unread_there(strict: bool, place: Place, value: &Value) -> bool
-    ensures { result ≡ is_unread_there strict (place_of place) (view value.now) }
+fn is_unread_there(strict: bool, place: Place, kind: Kind, value: &Value) -> bool
+    ensures { kind_of (view value.now) ≡ Some (kind_of_node kind) → result ≡ is_unread_there strict (place_of place) (view value.now) }
 {
     match place {
         Place::At(class) => {
             (is_key(class) && is_big_int_literal(value))
-                || (!strict && is_nested(class) && has_type("FunctionDeclaration", value))
+                || (!strict && is_nested(class) && is(kind, Kind::FunctionDeclaration))
         }
         _ => false,
     }
 }
 
-/// Whether the node is a form that isn't read, in strict or sloppy code.
-pub fn is_unread(strict: bool, place: Place, value: &Value) -> bool
-    ensures { result ≡ is_unread strict (place_of place) (view value.now) }
+/// Whether a node of the type is a form that isn't read, in strict or sloppy code.
+pub fn is_unread(strict: bool, place: Place, kind: Kind, value: &Value) -> bool
+    ensures { kind_of (view value.now) ≡ Some (kind_of_node kind) → result ≡ is_unread strict (place_of place) (view value.now) }
 {
-    is_unread_form(place, value) || is_unread_there(strict, place, value)
+    is_unread_form(place, kind, value) || is_unread_there(strict, place, kind, value)
 }
 
 /// Whether the value is a defect of the node above: it is no object, or has another type than the place asks for.
+#[tactic(auto, using(crate::proofs::Typed::unknown_stands))]
 pub fn is_misplaced(strict: bool, place: Place, value: &Value) -> bool
     ensures { result ≡ is_misplaced strict (place_of place) (view value.now) }
 {
     if !value.is_object() {
         return true;
     }
-    !is_unread(strict, place, value) && kind_of(value).is_some() && !may_stand(place, value)
+    match kind_of(value) {
+        None => false,
+        Some(kind) => { !is_unread(strict, place, kind, value) && !may_stand(place, value) }
+    }
 }
