@@ -1,5 +1,8 @@
 // Programs and values, read and written.
 
+ghost use Rattle.std.specs.Prelude.{IfOk, string_bytes};
+ghost use Rattle.mini_echo.specs.Echo.{IsEcho, IsSameJson};
+
 use mini_drop::drop_program;
 use mini_errors::MinifyError;
 use mini_read::read_program;
@@ -15,7 +18,7 @@ const MAX_DEPTH: u32 = 1000;
 /// Why nothing is written.
 #[derive(Debug, Drop)]
 pub enum EchoError {
-    /// The text is no JSON, or nests too deep.
+    /// The text is no JSON, or nests too deep, or there was no memory for its value.
     NotJson,
     /// The value is no program that is read.
     Refused(MinifyError),
@@ -58,7 +61,9 @@ impl From<io::Error> for EchoError {
 /// The text of the program that a text says, as compact JSON.
 ///
 /// The text must be JSON (`NotJson`) of a program that is read and whose nodes nest at most 1000 deep (`Refused`).
-pub fn echoed(alloc: Global, text: &str) -> Result<String, EchoError> {
+pub fn echoed(alloc: Global, text: &str) -> Result<String, EchoError>
+    ensures { IfOk result (λ s. IsEcho text.now (string_bytes s)) }
+{
     let value = Value::from_str(alloc, text)?;
     let program = read_program(alloc, &value, MAX_DEPTH)?;
     drop(value);
@@ -68,7 +73,9 @@ pub fn echoed(alloc: Global, text: &str) -> Result<String, EchoError> {
 }
 
 /// The text of the value that a text says, as compact JSON.
-pub fn same_json(alloc: Global, text: &str) -> Result<String, EchoError> {
+pub fn same_json(alloc: Global, text: &str) -> Result<String, EchoError>
+    ensures { IfOk result (λ s. IsSameJson text.now (string_bytes s)) }
+{
     let value = Value::from_str(alloc, text)?;
     Ok(value.to_string(alloc)?)
 }
