@@ -4,11 +4,11 @@ use Rattle.std.specs.Prelude.{Option, Some, None, option_and_then, option_map, n
 use Rattle.std.proofs.lemmas.Bool.{and_parts, false≢true, true≢false}
 use Rattle.serde_json.specs.Data.{Data}
 use Rattle.serde_json.specs.Find.{get}
-use Rattle.mini_text.specs.Texts.{units_of, is_identifier_name}
+use Rattle.mini_text.specs.Texts.{units_of}
 use Rattle.mini_model.specs.declared.shape.Shape.TheVariants as shape
 use Rattle.mini_model.specs.Tree.{Tree, node, none, unresolved}
 use Rattle.mini_structure.specs.WellShaped as shaped
-use Rattle.mini_structure.specs.WellShaped.{Class, in_module, is_text}
+use Rattle.mini_structure.specs.WellShaped.{Class, in_module, is_text, is_name}
 use Rattle.mini_accept.specs.Places.{Place, at, a_local_name}
 use Rattle.mini_accept.specs.Fields.{require, is_there_with, text_at, has_text, has_units, is_text_by, name_of_units, name_at, has_type, is_one_of}
 use Rattle.mini_accept.specs.Literals.{literal, is_string_shape, is_string_literal}
@@ -36,25 +36,25 @@ or_false true = refl
 or_false false = refl
 
 -- the units of a name are those of its text
-name_of : (o : Option (List ℕ)) (s : List ℕ) → option_and_then (λ x. name_of_units (units_of x)) o ≡ Some s → is_identifier_name s ≡ true
+name_of : (o : Option (List ℕ)) (s : List ℕ) → option_and_then (λ x. name_of_units (units_of x)) o ≡ Some s → is_name s ≡ true
 name_of None s e = absurd (cc e)
-name_of (Some r) s e = by_test (is_identifier_name (units_of r)) (units_of r) refl e
+name_of (Some r) s e = by_test (is_name (units_of r)) (units_of r) refl e
   where
-    by_test : (b : Bool) (u : List ℕ) → is_identifier_name u ≡ b → require b (Some u) ≡ Some s → is_identifier_name s ≡ true
-    by_test true u is same = subst (λ x. is_identifier_name x ≡ true) (some_same u s same) is
+    by_test : (b : Bool) (u : List ℕ) → is_name u ≡ b → require b (Some u) ≡ Some s → is_name s ≡ true
+    by_test true u is same = subst (λ x. is_name x ≡ true) (some_same u s same) is
     by_test false u is same = absurd (cc same)
 
-pub name_is : (d : Data) (s : List ℕ) → name_at d ≡ Some s → is_identifier_name s ≡ true
+pub name_is : (d : Data) (s : List ℕ) → name_at d ≡ Some s → is_name s ≡ true
 name_is d s e = name_of (text_at (codes "name") d) s e
 
-by_name : (strict : Bool) (p : Place) (d : Data) (f : List ℕ → Plan) (b : Bool) (u : List ℕ) → is_identifier_name u ≡ b → (is_identifier_name u ≡ true → WholeIf strict p d (Some (f u))) → WholeIf strict p d (option_map f (require b (Some u)))
+by_name : (strict : Bool) (p : Place) (d : Data) (f : List ℕ → Plan) (b : Bool) (u : List ℕ) → is_name u ≡ b → (is_name u ≡ true → WholeIf strict p d (Some (f u))) → WholeIf strict p d (option_map f (require b (Some u)))
 by_name strict p d f true u is h = h is
 by_name strict p d f false u is h = record { known = tt }
 
-by_text : (strict : Bool) (p : Place) (d : Data) (f : List ℕ → Plan) (o : Option (List ℕ)) → ((r : List ℕ) → o ≡ Some r → is_identifier_name (units_of r) ≡ true → WholeIf strict p d (Some (f (units_of r))))
+by_text : (strict : Bool) (p : Place) (d : Data) (f : List ℕ → Plan) (o : Option (List ℕ)) → ((r : List ℕ) → o ≡ Some r → is_name (units_of r) ≡ true → WholeIf strict p d (Some (f (units_of r))))
     → WholeIf strict p d (option_map f (option_and_then (λ x. name_of_units (units_of x)) o))
 by_text strict p d f None h = record { known = tt }
-by_text strict p d f (Some r) h = by_name strict p d f (is_identifier_name (units_of r)) (units_of r) refl (h r refl)
+by_text strict p d f (Some r) h = by_name strict p d f (is_name (units_of r)) (units_of r) refl (h r refl)
 
 -- ---- identifiers
 
@@ -89,7 +89,7 @@ module _ (d : Data) (typed : Typed d (codes "Identifier")) (r : List ℕ) (text 
       text_symmetric (units_of r) (codes "constructor") ∙ (sym (ap (λ o. is_text_by (codes "constructor") (option_map units_of o)) text) ∙ (sym (or_false (has_units (codes "name") (codes "constructor") d))
       ∙ (sym (ap (λ b. has_units (codes "name") (codes "constructor") d || (b && has_units (codes "value") (codes "constructor") d)) no_string) ∙ sym (ap (λ b. (b && has_units (codes "name") (codes "constructor") d) || (is_string_literal d && has_units (codes "value") (codes "constructor") d)) is))))
 
-  module _ (strict : Bool) (test : is_identifier_name (units_of r) ≡ true) where
+  module _ (strict : Bool) (test : is_name (units_of r) ≡ true) where
     -- a word that the place asks for
     word_whole : (w : List ℕ) → (is_identifier d && has_text (codes "name") w d) ≡ true → WholeIf strict (at (shaped.a_word w)) d (Some (expression.word_plan (units_of r)))
     word_whole w stands =

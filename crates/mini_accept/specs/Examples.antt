@@ -4,13 +4,14 @@ use Rattle.std.specs.Fmt.{digits}
 use Rattle.std.specs.Str.{chars}
 use Rattle.std.specs.Char.Utf16.{utf16_chars}
 use Rattle.serde_json.specs.Data.{Data, null, boolean, number, object, unsigned, negative, float, no_members}
-use Rattle.mini_text.specs.Texts.{units_of, is_identifier_name}
+use Rattle.mini_text.specs.Texts.{units_of}
 use Rattle.mini_model.specs.declared.kind.MetaPropertyKind.TheVariants.{ImportMeta}
 use Rattle.mini_model.specs.declared.kind.MethodDefinitionKind.TheVariants.{Constructor}
 use Rattle.mini_model.specs.declared.operator.UnaryOperator.TheVariants.{UnaryNegation}
 use Rattle.mini_model.specs.declared.operator.UpdateOperator.TheVariants.{Increment}
 use Rattle.mini_model.specs.declared.shape.Shape.TheVariants as shape
 use Rattle.mini_model.specs.Tree.{Tree, node, none, ◌▸◌, leaf, listed, absent, unresolved, program}
+use Rattle.mini_structure.specs.WellShaped.{is_name}
 use Rattle.mini_accept.specs.Faults.{bad_shape, unsupported, too_deep}
 use Rattle.mini_accept.specs.Accept.{program_at}
 use Rattle.mini_accept.specs.Samples.{members, list, typed, text, script, says, this, literal, name, unary, member_of, chain, sequence, block, directive, this_tree, said, zero, IsTree, IsRefused}
@@ -306,7 +307,7 @@ inner_expression = refl
 -- ---- more that is refused
 
 -- 1a;
-no_name : (s : List ℕ) → is_identifier_name (units_of s) ≡ false → IsRefused (script (says (name s) ∷ [])) bad_shape (codes "/body/0/expression")
+no_name : (s : List ℕ) → is_name (units_of s) ≡ false → IsRefused (script (says (name s) ∷ [])) bad_shape (codes "/body/0/expression")
 unfolding program_at digits
 no_name s h = rw h refl
 
@@ -383,13 +384,13 @@ unfolding program_at digits chars utf16_chars
 malformed_without_a_tag = refl
 
 -- "use strict"; { function a() {} }
-strict_function_in_a_block : (s : List ℕ) → is_identifier_name (units_of s) ≡ true → IsTree (script (directive (codes "use strict") ∷ block (function_with ((codes "id", name s) ∷ []) ∷ []) ∷ []))
+strict_function_in_a_block : (s : List ℕ) → is_name (units_of s) ≡ true → IsTree (script (directive (codes "use strict") ∷ block (function_with ((codes "id", name s) ∷ []) ∷ []) ∷ []))
     (program false (codes "use strict" ∷ []) (node shape.BlockStatement [] 0 (listed (node (shape.Function true false []) [] 1 (node shape.BindingIdentifier (unresolved (units_of s) ∷ []) 0 none ▸ listed none ▸ node shape.FunctionBody [] 0 (listed none ▸ none) ▸ none) ▸ none) ▸ none) ▸ none)) 2
 unfolding program_at chars utf16_chars
 strict_function_in_a_block s h = rw h refl
 
 -- import.meta;
-import_meta : is_identifier_name (codes "import") ≡ true → is_identifier_name (codes "meta") ≡ true → IsTree (script (says (typed (codes "MetaProperty") ((codes "meta", name (codes "import")) ∷ (codes "property", name (codes "meta")) ∷ [])) ∷ []))
+import_meta : is_name (codes "import") ≡ true → is_name (codes "meta") ≡ true → IsTree (script (says (typed (codes "MetaProperty") ((codes "meta", name (codes "import")) ∷ (codes "property", name (codes "meta")) ∷ [])) ∷ []))
     (said (node (shape.MetaProperty ImportMeta) [] 1 (leaf (shape.IdentifierName (codes "import")) ▸ leaf (shape.IdentifierName (codes "meta")) ▸ none))) 2
 unfolding program_at chars
 import_meta h k = rw (h, k) refl

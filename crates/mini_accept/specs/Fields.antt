@@ -2,8 +2,8 @@
 use Rattle.std.specs.Prelude.{ℕ, suc, List, [], ◌∷◌, Bool, true, false, ◌||◌, not, Option, Some, None, option_and_then, option_map, is_some, unwrap_or, if◌then◌else◌, codes}
 use Rattle.serde_json.specs.Data.{Data, Items, no_items, item}
 use Rattle.serde_json.specs.Find.{get, as_str, as_bool, as_array, as_null, as_object}
-use Rattle.mini_text.specs.Texts.{units_of, is_identifier_name}
-use Rattle.mini_structure.specs.WellShaped.{is_text, is_paired}
+use Rattle.mini_text.specs.Texts.{units_of}
+use Rattle.mini_structure.specs.WellShaped.{is_text, is_paired, is_name}
 use Rattle.mini_accept.specs.Kind.{Kind, types}
 
 infixl 10 ◌>>=◌
@@ -87,7 +87,7 @@ item_count (item d ds) = suc (item_count ds)
 
 -- the units of an identifier's name
 abbrev pub name_of_units : List ℕ → Option (List ℕ)
-name_of_units units = require (is_identifier_name units) (Some units)
+name_of_units units = require (is_name units) (Some units)
 
 abbrev pub name_at : Data → Option (List ℕ)
 name_at d = option_and_then (λ s. name_of_units (units_of s)) (text_at (codes "name") d)

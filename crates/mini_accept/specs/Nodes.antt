@@ -4,7 +4,7 @@ use Rattle.std.specs.Prelude.{◌≡◌, refl, ℕ, true, false, Bool, [], ◌�
 use Rattle.std.specs.Str.{chars}
 use Rattle.std.specs.Char.Utf16.{utf16_chars}
 use Rattle.serde_json.specs.Data.{Data, null, boolean, number, unsigned, object}
-use Rattle.mini_text.specs.Texts.{units_of, is_identifier_name}
+use Rattle.mini_text.specs.Texts.{units_of}
 use Rattle.mini_model.specs.declared.kind.MetaPropertyKind.TheVariants.{NewTarget}
 use Rattle.mini_model.specs.declared.kind.MethodDefinitionKind.TheVariants as method
 use Rattle.mini_model.specs.declared.kind.PropertyKind.TheVariants as property
@@ -17,7 +17,7 @@ use Rattle.mini_model.specs.declared.operator.UpdateOperator.TheVariants.{Increm
 use Rattle.mini_model.specs.declared.shape.Shape.{Shape}
 use Rattle.mini_model.specs.declared.shape.Shape.TheVariants as shape
 use Rattle.mini_model.specs.Tree.{Tree, Trees, node, none, ◌▸◌, leaf, listed, absent, unresolved, expression_statement, program}
-use Rattle.mini_structure.specs.WellShaped.{IsWellShaped}
+use Rattle.mini_structure.specs.WellShaped.{IsWellShaped, is_name}
 use Rattle.mini_accept.specs.Accept.{program_at}
 use Rattle.mini_accept.specs.Samples.{members, list, typed, text, script, says, this, literal, name, member_of, block, this_tree, said, zero, unary, chain, sequence}
 
@@ -29,7 +29,7 @@ abbrev Reads : Data → Tree → ℕ → Type 0
 Reads d t n = (program_at 9 d ≡ Ok (t, n)) × IsWellShaped t
 
 abbrev IsName : List ℕ → Type 0
-IsName s = is_identifier_name (units_of s) ≡ true
+IsName s = is_name (units_of s) ≡ true
 
 -- ---- parts
 

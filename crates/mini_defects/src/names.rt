@@ -2,7 +2,8 @@
 
 ghost use Rattle.std.specs.Prelude.{◌≡◌, is_some};
 ghost use Rattle.serde_json.specs.View.{view};
-ghost use Rattle.mini_text.specs.Texts.{units_of, is_identifier_name, is_name_start, is_name_part};
+ghost use Rattle.mini_text.specs.Texts.{units_of, is_name_start, is_name_part};
+ghost use Rattle.mini_structure.specs.WellShaped.{is_name};
 ghost use Rattle.mini_accept.specs.Fields.{name_at};
 ghost use Rattle.mini_defects.specs.Names.{fits};
 
@@ -13,7 +14,7 @@ use unicode_ident::{is_xid_continue, is_xid_start};
 /// Whether the text is an identifier's name (ECMA-262, IdentifierName).
 #[tactic(auto, using(crate::proofs::Characters::is_name_of_text))]
 pub fn is_name(text: &str) -> bool
-    ensures { result ≡ is_identifier_name (units_of text.now) }
+    ensures { result ≡ is_name (units_of text.now) }
 {
     let mut first = true;
     for ch in text.chars() {

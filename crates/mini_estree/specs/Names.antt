@@ -1,11 +1,6 @@
 -- The names of identifiers.
-use Rattle.std.specs.Prelude.{ℕ, Bool, true, ◌&&◌, List, [], ◌∷◌, nat_lt}
-use Rattle.mini_text.specs.Texts.{is_identifier_name}
-
--- each unit has 16 bits
-abbrev pub are_units : List ℕ → Bool
-are_units [] = true
-are_units (u ∷ us) = nat_lt u 0x1_0000 && are_units us
+use Rattle.std.specs.Prelude.{ℕ, Bool, ◌&&◌, List}
+use Rattle.mini_text.specs.Texts.{are_units, is_identifier_name}
 
 -- The units spell a name (ECMA-262, IdentifierName). Those of a text always have 16 bits each.
 unfoldable pub is_name : List ℕ → Bool

@@ -22,6 +22,7 @@ use serde_json::Value;
 use std::alloc::Global;
 
 /// The name of an identifier.
+#[tactic(auto, using(mini_accept::proofs::Texts::name_read))]
 pub fn name(alloc: Global, value: &Value) -> Result<Name, Unread>
     ensures { IfOk result (λ s. name_at (view value.now) ≡ Some s) }
 {

@@ -6,12 +6,12 @@ use Rattle.std.specs.Char.Utf16.{utf16_chars}
 use Rattle.serde_json.specs.Data.{Data}
 use Rattle.mini_model.specs.Tree.{Tree}
 use Rattle.mini_ast.specs.Plain.{identifier_name}
-use Rattle.mini_structure.specs.WellShaped.{a_word}
+use Rattle.mini_structure.specs.WellShaped.{a_word, is_name}
 use Rattle.mini_accept.specs.Accept.{Read, Reader}
 use Rattle.mini_accept.specs.Expressions as expression
 use Rattle.mini_accept.specs.Places.{at}
 use Rattle.mini_reading.specs.Reads.{Enters}
-use Rattle.mini_text.specs.Texts.{units_of, is_identifier_name}
+use Rattle.mini_text.specs.Texts.{units_of}
 use Rattle.mini_accept.specs.Fields.{require, text_at, name_at, name_of_units}
 use Rattle.mini_defects.specs.Views.{letters_of}
 use Rattle.mini_defects.specs.declared.place.MetaWord.{MetaWord}
@@ -35,7 +35,7 @@ by_text : (o : Option (List ℕ)) (t s : List ℕ) → option_and_then (λ u. na
 by_text None t s named is e = absurd (cc is)
 by_text (Some u) t s named is e =
     let same : u ≡ t = some_same is in
-    of_units (units_of u) s (is_identifier_name (units_of u)) named ∙ ap Some (ap units_of same ∙ e)
+    of_units (units_of u) s (is_name (units_of u)) named ∙ ap Some (ap units_of same ∙ e)
 
 -- a name of these letters is the word
 pub word_named : (w : MetaWord) (d : Data) (s : List ℕ) → name_at d ≡ Some s → text_at (codes "name") d ≡ Some (letters_of w) → name_at d ≡ Some (letters_of w)

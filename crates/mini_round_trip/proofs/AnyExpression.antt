@@ -2,6 +2,7 @@
 use Rattle.std.proofs.Common.{◌≡◌, ℕ, suc, [], refl, ap, sym, ◌∙◌, Bool, true, false, ◌||◌}
 use Rattle.std.specs.Prelude.{not}
 use Rattle.std.proofs.lemmas.Bool.{and_parts, or_left, or_right, false≢true}
+use Rattle.mini_text.specs.Texts.{are_units}
 use Rattle.mini_model.specs.declared.kind.MetaPropertyKind.TheVariants.{NewTarget, ImportMeta}
 use Rattle.mini_model.specs.declared.operator.AssignmentOperator.TheVariants.{Assign}
 use Rattle.mini_model.specs.declared.operator.UnaryOperator.TheVariants as unary
@@ -11,7 +12,7 @@ use Rattle.mini_model.specs.Tree.{Trees}
 use Rattle.mini_structure.specs.WellShaped as shaped
 use Rattle.mini_structure.specs.WellShaped.{Class, filling_by, expression_slots, is_optional, has_names, has_plain_fields, has_its_parts, is_strict_in, is_paired}
 use Rattle.mini_accept.proofs.Fitting.{parts_by_shape}
-use Rattle.mini_round_trip.specs.Units.{fields_are_units, are_units}
+use Rattle.mini_round_trip.proofs.Units.{fields_are_units}
 use Rattle.mini_round_trip.proofs.Fits.{Filled, with_none, unless_filled}
 use Rattle.mini_round_trip.proofs.Slots.{Back}
 use Rattle.mini_round_trip.proofs.Bodies.{BodiesBack}

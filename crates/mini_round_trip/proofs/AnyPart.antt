@@ -3,12 +3,12 @@ use Rattle.std.proofs.Common.{◌≡◌, ℕ, suc, List, [], refl, ap, sym, ◌�
 use Rattle.std.specs.Prelude.{Some, not, codes, nat_le, pos}
 use Rattle.std.proofs.lemmas.Bool.{or_left, or_right, false≢true, true≢false}
 use Rattle.serde_json.specs.Data.{Data}
-use Rattle.mini_text.specs.Texts.{bytes_of, is_identifier_name}
+use Rattle.mini_text.specs.Texts.{bytes_of, are_units}
 use Rattle.mini_model.specs.declared.shape.Shape.{Shape}
 use Rattle.mini_model.specs.declared.shape.Shape.TheVariants as shape
 use Rattle.mini_model.specs.Tree.{Tree, Trees, is_absent}
 use Rattle.mini_structure.specs.WellShaped as shaped
-use Rattle.mini_structure.specs.WellShaped.{Class, Slot, these, each, filling_by, is_text, is_paired}
+use Rattle.mini_structure.specs.WellShaped.{Class, Slot, these, each, filling_by, is_text, is_paired, is_name}
 use Rattle.mini_accept.specs.Kind as kind
 use Rattle.mini_accept.specs.Fields.{is_there, has_type}
 use Rattle.mini_accept.specs.Literals.{is_string_literal}
@@ -18,7 +18,6 @@ use Rattle.mini_accept.specs.Expressions.{identifier_as, word_plan}
 use Rattle.mini_accept.proofs.Types.{text_same, text_is}
 use Rattle.mini_written.specs.Objects as objects
 use Rattle.mini_written.specs.Written.{tree_data, name}
-use Rattle.mini_round_trip.specs.Units.{are_units}
 use Rattle.mini_round_trip.proofs.Read.{plain_back, no_children}
 use Rattle.mini_round_trip.proofs.Texts.{ascii_bytes}
 use Rattle.mini_round_trip.proofs.Fits.{Filled, NodeFits, with_none, unless_filled}
@@ -134,7 +133,7 @@ module _ (k : ℕ) (back : Back k) (bodies : BodiesBack k) (strict : Bool) where
 
   -- ---- names, texts and keys
 
-  word_comes : (c : Class) → ((r : List ℕ) → identifier_as c r ≡ word_plan r) → (s : List ℕ) → stands_as c (name s) ≡ true → is_identifier_name s ≡ true → are_units s ≡ true → (ts : Trees) → Filled k strict (these []) ts → Comes k strict c (shape.IdentifierName s) ts
+  word_comes : (c : Class) → ((r : List ℕ) → identifier_as c r ≡ word_plan r) → (s : List ℕ) → stands_as c (name s) ≡ true → is_name s ≡ true → are_units s ≡ true → (ts : Trees) → Filled k strict (these []) ts → Comes k strict c (shape.IdentifierName s) ts
   word_comes c named s stands fields units = with_none k strict (Comes k strict c (shape.IdentifierName s)) (λ m n. word_back (suc (suc k)) strict c s m named stands fields units n)
 
   text_comes : (c : Class) → ((d : Data) → is_string_literal d ≡ true → has_type (codes "Identifier") d ≡ false → stands_as c d ≡ true) → (s : List ℕ) → is_paired s ≡ true → are_units s ≡ true → (ts : Trees) → Filled k strict (these []) ts → Comes k strict c (shape.StringLiteral s) ts

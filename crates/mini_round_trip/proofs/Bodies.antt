@@ -4,7 +4,7 @@ use Rattle.std.specs.Prelude.{Option, Some, None, option_and_then, is_some, not,
 use Rattle.std.proofs.lemmas.Bool.{and_parts, true≢false}
 use Rattle.serde_json.specs.Data.{Data, null, boolean, number, string, array, object, Items}
 use Rattle.serde_json.specs.Find.{get, get_item, as_array, as_str}
-use Rattle.mini_text.specs.Texts.{units_of, bytes_of}
+use Rattle.mini_text.specs.Texts.{units_of, bytes_of, are_units}
 use Rattle.mini_model.specs.declared.shape.Shape.TheVariants as shape
 use Rattle.mini_model.specs.Tree.{Tree, node, Trees, none, ◌▸◌, node_count, node_counts}
 use Rattle.mini_structure.specs.WellShaped as shaped
@@ -21,7 +21,7 @@ use Rattle.mini_accept.specs.Statements.{directive_text, directives_of, directiv
 use Rattle.mini_accept.proofs.Types.{text_same, some_same, kind_typed, type_name}
 use Rattle.mini_written.specs.Objects as objects
 use Rattle.mini_written.specs.Written.{tree_data, trees_data, with_directives, body}
-use Rattle.mini_round_trip.specs.Units.{are_units, all_are_units, has_units, have_units}
+use Rattle.mini_round_trip.proofs.Units.{all_are_units, has_units, have_units}
 use Rattle.mini_round_trip.proofs.Read.{ReadsBack, PartsBack, Stands, node_back, plain_back, no_children, no_parts, more_parts, one_child, list_child, ◌&◌, tree_back, checked_back}
 use Rattle.mini_round_trip.proofs.Fits.{Fit, Filled, with_one, with_list}
 use Rattle.mini_round_trip.proofs.Slots.{Back, Planned, fit_planned}

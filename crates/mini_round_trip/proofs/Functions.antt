@@ -20,7 +20,7 @@ use Rattle.mini_accept.proofs.Wholes.{absent_or}
 use Rattle.mini_written.specs.Objects as objects
 use Rattle.mini_written.specs.Written as written
 use Rattle.mini_written.specs.Written.{tree_data, trees_data, node_data, body}
-use Rattle.mini_round_trip.specs.Units.{all_are_units}
+use Rattle.mini_round_trip.proofs.Units.{all_are_units}
 use Rattle.mini_round_trip.proofs.Read.{node_back, plain_back, one_child, no_children, ◌&◌, tree_back}
 use Rattle.mini_round_trip.proofs.Fits.{Fit, Filled, node_fits, fit_more, and_false, with_one, with_two, with_three, with_list}
 use Rattle.mini_round_trip.proofs.Slots.{Back, Rested, child_back, optional_back, rest_back, fit_object, fit_apart, fit_stands, there_given}

@@ -2,12 +2,12 @@
 use Rattle.std.proofs.Common.{◌≡◌, ℕ, List, [], ◌∷◌, refl, ap, sym, ◌∙◌, subst, Bool, true, false, ◌&&◌, ◌||◌}
 use Rattle.std.specs.Prelude.{Option, Some, None, codes, pos, negsuc}
 use Rattle.std.proofs.lemmas.Bool.{and_parts, false≢true}
-use Rattle.mini_text.specs.Texts.{bytes_of, is_identifier_name}
+use Rattle.mini_text.specs.Texts.{bytes_of, are_units}
 use Rattle.mini_model.specs.declared.name.Name.{Name}
 use Rattle.mini_model.specs.declared.shape.Shape.{Shape}
 use Rattle.mini_model.specs.declared.shape.Shape.TheVariants as shape
 use Rattle.mini_model.specs.Tree.{Tree, node, Trees}
-use Rattle.mini_structure.specs.WellShaped.{Slot, is_text, is_paired, spelling, spelling_by, is_same_spelling, has_names, has_plain_fields, names_constructor}
+use Rattle.mini_structure.specs.WellShaped.{Slot, is_text, is_paired, spelling, spelling_by, is_same_spelling, has_names, has_plain_fields, names_constructor, is_name}
 use Rattle.mini_accept.specs.Fields.{has_units}
 use Rattle.mini_accept.specs.Expressions.{identifier_text, is_same_name, is_name_with_default}
 use Rattle.mini_accept.specs.Functions as function
@@ -15,7 +15,7 @@ use Rattle.mini_accept.proofs.Types.{text_same, text_is, some_same}
 use Rattle.mini_accept.proofs.Identifiers.{text_symmetric}
 use Rattle.mini_written.specs.Objects as objects
 use Rattle.mini_written.specs.Written.{tree_data, trees_data, node_data, name}
-use Rattle.mini_round_trip.specs.Units.{are_units, fields_are_units}
+use Rattle.mini_round_trip.proofs.Units.{fields_are_units}
 use Rattle.mini_round_trip.proofs.Fits.{Fit}
 use Rattle.mini_round_trip.proofs.Texts.{text_back, name_back}
 use Rattle.mini_round_trip.proofs.Leaves.{is_text_literal}
@@ -72,7 +72,7 @@ or_none : (b : Bool) → (b || false) ≡ b
 or_none true = refl
 or_none false = refl
 
-word_constructs : (s : List ℕ) → is_identifier_name s ≡ true → are_units s ≡ true → is_text s (codes "constructor") ≡ function.names_constructor (name s)
+word_constructs : (s : List ℕ) → is_name s ≡ true → are_units s ≡ true → is_text s (codes "constructor") ≡ function.names_constructor (name s)
 word_constructs s named units = text_symmetric s (codes "constructor") ∙ (ap (is_text (codes "constructor")) (sym (name_back s named units)) ∙ sym (or_none _))
 
 text_constructs : (s : List ℕ) → is_paired s ≡ true → are_units s ≡ true → is_text s (codes "constructor") ≡ function.names_constructor (objects.string_literal (bytes_of s))

@@ -4,13 +4,13 @@ use Rattle.std.specs.Prelude.{Some, option_map, unwrap_or, codes, nat_le, not, d
 use Rattle.std.proofs.lemmas.Bool.{true≢false}
 use Rattle.serde_json.specs.Data.{Data}
 use Rattle.mini_numerals.specs.Numerals.{max_safe_integer}
-use Rattle.mini_text.specs.Texts.{bytes_of, is_identifier_name}
+use Rattle.mini_text.specs.Texts.{bytes_of, are_units}
 use Rattle.mini_model.specs.declared.name.Name.{Name}
 use Rattle.mini_model.specs.declared.shape.Shape.{Shape}
 use Rattle.mini_model.specs.declared.shape.Shape.TheVariants as shape
 use Rattle.mini_model.specs.Tree.{node, none}
 use Rattle.mini_structure.specs.WellShaped as shaped
-use Rattle.mini_structure.specs.WellShaped.{Class, is_paired, is_safe, max_big_int, is_strict_in}
+use Rattle.mini_structure.specs.WellShaped.{Class, is_paired, is_safe, max_big_int, is_strict_in, is_name}
 use Rattle.mini_accept.specs.Kind as kind
 use Rattle.mini_accept.specs.Places.{field, at, a_local_name}
 use Rattle.mini_accept.specs.Fields.{kind_of}
@@ -20,7 +20,6 @@ use Rattle.mini_accept.specs.Plans.{node_of}
 use Rattle.mini_accept.specs.Expressions.{identifier_by, identifier_as, identifier_in, word_plan}
 use Rattle.mini_written.specs.Objects as objects
 use Rattle.mini_written.specs.Written.{name, number_literal}
-use Rattle.mini_round_trip.specs.Units.{are_units}
 use Rattle.mini_round_trip.proofs.Read.{ReadsBack, node_back, plain_back, quiet_read, is_quiet, no_children, one_child, ◌&◌, checked_back}
 use Rattle.mini_round_trip.proofs.Texts.{text_read, name_read}
 use Rattle.mini_round_trip.proofs.Digits.{big_int_back}
@@ -29,22 +28,22 @@ use Rattle.mini_round_trip.proofs.Entry.{bind_is}
 module _ (j : ℕ) (strict : Bool) where
   -- ---- names
 
-  pub identifier_back : (c : Class) (h : Shape) (x : Name) (m : ℕ) → ((s : List ℕ) → identifier_as c s ≡ identifier_by h s) → stands_as c (name x.spelling) ≡ true → is_identifier_name x.spelling ≡ true → are_units x.spelling ≡ true
+  pub identifier_back : (c : Class) (h : Shape) (x : Name) (m : ℕ) → ((s : List ℕ) → identifier_as c s ≡ identifier_by h s) → stands_as c (name x.spelling) ≡ true → is_name x.spelling ≡ true → are_units x.spelling ≡ true
       → (n : ℕ) → ReadsBack (suc j) strict (at c) n (name x.spelling) (node h (x ∷ []) m none)
   identifier_back c h x m named_as stands named units n =
       node_back j strict (at c) (name x.spelling) kind.Identifier (identifier_by h x.spelling) (x ∷ []) m none (quiet_read strict c (name x.spelling) refl) stands refl
       (ap (option_map (identifier_as c)) (name_read x.spelling named units) ∙ ap Some (named_as x.spelling)) refl no_children n
 
-  pub local_back : (x : Name) (m : ℕ) → is_identifier_name x.spelling ≡ true → are_units x.spelling ≡ true → (n : ℕ) → ReadsBack (suc j) strict a_local_name n (name x.spelling) (node shape.Identifier (x ∷ []) m none)
+  pub local_back : (x : Name) (m : ℕ) → is_name x.spelling ≡ true → are_units x.spelling ≡ true → (n : ℕ) → ReadsBack (suc j) strict a_local_name n (name x.spelling) (node shape.Identifier (x ∷ []) m none)
   local_back x m named units n =
       node_back j strict a_local_name (name x.spelling) kind.Identifier (identifier_by shape.Identifier x.spelling) (x ∷ []) m none refl refl refl
       (ap (option_map (identifier_in a_local_name)) (name_read x.spelling named units)) refl no_children n
 
-  pub word_back : (c : Class) (s : List ℕ) (m : ℕ) → ((r : List ℕ) → identifier_as c r ≡ word_plan r) → stands_as c (name s) ≡ true → is_identifier_name s ≡ true → are_units s ≡ true → (n : ℕ) → ReadsBack (suc j) strict (at c) n (name s) (node (shape.IdentifierName s) [] m none)
+  pub word_back : (c : Class) (s : List ℕ) (m : ℕ) → ((r : List ℕ) → identifier_as c r ≡ word_plan r) → stands_as c (name s) ≡ true → is_name s ≡ true → are_units s ≡ true → (n : ℕ) → ReadsBack (suc j) strict (at c) n (name s) (node (shape.IdentifierName s) [] m none)
   word_back c s m named_as stands named units n =
       plain_back j strict c (name s) kind.Identifier (shape.IdentifierName s) [] m none refl stands refl (ap (option_map (identifier_as c)) (name_read s named units) ∙ ap Some (named_as s)) no_children n
 
-  pub private_back : (c : Class) (s : List ℕ) (m : ℕ) → stands_as c (objects.private_identifier (bytes_of s)) ≡ true → is_identifier_name s ≡ true → are_units s ≡ true → (n : ℕ) → ReadsBack (suc j) strict (at c) n (objects.private_identifier (bytes_of s)) (node (shape.PrivateIdentifier s) [] m none)
+  pub private_back : (c : Class) (s : List ℕ) (m : ℕ) → stands_as c (objects.private_identifier (bytes_of s)) ≡ true → is_name s ≡ true → are_units s ≡ true → (n : ℕ) → ReadsBack (suc j) strict (at c) n (objects.private_identifier (bytes_of s)) (node (shape.PrivateIdentifier s) [] m none)
   private_back c s m stands named units n =
       plain_back j strict c (objects.private_identifier (bytes_of s)) kind.PrivateIdentifier (shape.PrivateIdentifier s) [] m none refl stands refl
       (bind_is _ s _ _ (name_read s named units) refl) no_children n

@@ -1,3 +1,4 @@
+pub mod Units
 pub mod Read
 pub mod Fits
 pub mod Slots
@@ -24,4 +25,3 @@ pub mod AnyPart
 pub mod Named
 pub mod Whole
 pub mod Programs
-pub mod Greater

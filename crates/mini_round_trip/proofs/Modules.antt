@@ -17,7 +17,7 @@ use Rattle.mini_accept.specs.Modules.{export_part, local_place}
 use Rattle.mini_accept.proofs.Wholes.{not_absent}
 use Rattle.mini_written.specs.Objects as objects
 use Rattle.mini_written.specs.Written.{tree_data, trees_data, node_data, with_directives}
-use Rattle.mini_round_trip.specs.Units.{all_are_units, has_units, have_units}
+use Rattle.mini_round_trip.proofs.Units.{all_are_units, has_units, have_units}
 use Rattle.mini_round_trip.proofs.Read.{ReadsBack, node_back, plain_back, one_child, list_child, no_children, ◌&◌, tree_back}
 use Rattle.mini_round_trip.proofs.Fits.{Fit, Filled, node_fits, fit_more, and_false, with_one, with_two, with_three, with_list, with_optional}
 use Rattle.mini_round_trip.proofs.Slots.{Back, AllBack, is_apart, child_back, optional_back, each_back, items_back, fit_object, there_given}

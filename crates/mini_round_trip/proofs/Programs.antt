@@ -9,7 +9,7 @@ use Rattle.mini_accept.specs.Places.{at}
 use Rattle.mini_accept.specs.Accept.{program_at, Accepts}
 use Rattle.mini_written.specs.Written.{tree_data, program_data}
 use Rattle.mini_round_trip.specs.Bare.{bare}
-use Rattle.mini_round_trip.specs.Units.{has_units}
+use Rattle.mini_round_trip.proofs.Units.{has_units}
 use Rattle.mini_round_trip.proofs.Read.{ReadsBack}
 use Rattle.mini_round_trip.proofs.Fits.{Fit, node_fits, and_false}
 use Rattle.mini_round_trip.proofs.Modules.{module_back, script_back}
@@ -26,10 +26,10 @@ read_whole false ss m ts e u =
     let w = node_fits (node_counts ts) false a_program (shape.Program false ss) [] m ts fit in
     script_back (node_counts ts) (all_back (node_counts ts)).trees ss w.fields w.field_units ts w.filled m 0
 
-pub written_is_accepted : (t : Tree) → IsWellShaped t → has_units t ≡ true → (u : Tree) × Accepts (program_data t) u × (bare u ≡ bare t)
+pub units_accepted : (t : Tree) → IsWellShaped t → has_units t ≡ true → (u : Tree) × Accepts (program_data t) u × (bare u ≡ bare t)
 unfolding program_at program_data
-written_is_accepted (node (shape.Program is_module ss) [] m ts) e u =
+units_accepted (node (shape.Program is_module ss) [] m ts) e u =
     let r = read_whole is_module ss m ts e u in
     (r.tree, (suc (suc (suc (node_counts ts))), r.next, r.read), r.same)
-written_is_accepted (node (shape.Program is_module ss) (x ∷ xs) m ts) e u = absurd (false≢true e)
-written_is_accepted (node h xs m ts) e u = absurd (and_false _ e)
+units_accepted (node (shape.Program is_module ss) (x ∷ xs) m ts) e u = absurd (false≢true e)
+units_accepted (node h xs m ts) e u = absurd (and_false _ e)

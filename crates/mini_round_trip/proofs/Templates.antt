@@ -3,7 +3,7 @@ use Rattle.std.proofs.Common.{◌≡◌, ℕ, suc, List, [], ◌∷◌, refl, ap
 use Rattle.std.specs.Prelude.{Option, Some, None, option_map, is_some, nat_eq, ◌==◌, codes}
 use Rattle.std.proofs.lemmas.Bool.{and_parts, and_from, false≢true}
 use Rattle.serde_json.specs.Data.{Data, array}
-use Rattle.mini_text.specs.Texts.{bytes_of}
+use Rattle.mini_text.specs.Texts.{bytes_of, are_units}
 use Rattle.mini_templates.specs.Templates.{cooked}
 use Rattle.mini_model.specs.declared.shape.Shape.{Shape}
 use Rattle.mini_model.specs.declared.shape.Shape.TheVariants as shape
@@ -18,7 +18,7 @@ use Rattle.mini_accept.specs.Expressions as table
 use Rattle.mini_accept.specs.Expressions.{cooked_by, quasi_part, piece_part, tagging_of, may_be_cooked}
 use Rattle.mini_written.specs.Objects as objects
 use Rattle.mini_written.specs.Written.{tree_data, trees_data, cooked_text}
-use Rattle.mini_round_trip.specs.Units.{are_units, are_units_if_some, has_units, have_units}
+use Rattle.mini_round_trip.proofs.Units.{are_units_if_some, has_units, have_units}
 use Rattle.mini_round_trip.proofs.Read.{ReadsBack, PartBack, node_back, no_children, ◌&◌, plain_back, tree_back}
 use Rattle.mini_round_trip.proofs.Fits.{Filled, with_two, with_list}
 use Rattle.mini_round_trip.proofs.Slots.{Back, AllBack, items_back, each_back, is_apart, Reads}

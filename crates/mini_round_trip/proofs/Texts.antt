@@ -4,35 +4,28 @@ use Rattle.std.specs.Prelude.{nat_lt, slice_index, not, Some}
 use Rattle.std.proofs.lemmas.Bool.{and_parts, ltb-true}
 use Rattle.std.proofs.lemmas.List.Elements.{All-nil, All-cons}
 use Rattle.std.specs.Char.Utf16.{has_unpaired_surrogate}
-use Rattle.mini_text.specs.Texts.{units_of, bytes_of, AllUnits, is_identifier_name}
-use Rattle.mini_text.proofs.Units.{units_of-bytes_of, bytes_of-units_of, is_identifier_name-paired}
+use Rattle.mini_text.specs.Texts.{units_of, bytes_of, are_units, is_identifier_name}
+use Rattle.mini_text.proofs.Units.{units_of-bytes_of, bytes_of-units_of, is_identifier_name-paired, AllUnits-are_units}
 use Rattle.mini_numerals.proofs.Decimals.{units_of-ascii}
 use Rattle.std.proofs.lemmas.Str.{IsUtf8-from_ascii}
-use Rattle.mini_structure.specs.WellShaped.{is_paired}
+use Rattle.mini_structure.specs.WellShaped.{is_paired, is_name}
 use Rattle.mini_accept.specs.Fields.{require, paired_units, name_of_units}
-use Rattle.mini_round_trip.specs.Units.{are_units}
 use Rattle.mini_round_trip.proofs.Slots.{are_ascii}
-
-all_units : (us : List ℕ) → are_units us ≡ true → AllUnits us
-all_units [] all = All-nil (λ u. u < 2 ^ 16)
-all_units (u ∷ us) all =
-    let parts = and_parts (nat_lt u 0x1_0000) (are_units us) all in
-    All-cons (λ u. u < 2 ^ 16) u us (ltb-true u 0x1_0000 parts.0) (all_units us parts.1)
 
 unpaired : (b : Bool) → not b ≡ true → b ≡ false
 unpaired true e = sym e
 unpaired false e = refl
 
 pub text_back : (s : List ℕ) → is_paired s ≡ true → are_units s ≡ true → units_of (bytes_of s) ≡ s
-text_back s paired units = units_of-bytes_of s (unpaired (has_unpaired_surrogate s) paired) (all_units s units)
+text_back s paired units = units_of-bytes_of s (unpaired (has_unpaired_surrogate s) (and_parts (are_units s) (not (has_unpaired_surrogate s)) paired).1) (AllUnits-are_units s units)
 
 pub text_read : (s : List ℕ) → is_paired s ≡ true → are_units s ≡ true → paired_units (bytes_of s) ≡ Some s
 text_read s paired units = ap (λ u. require (is_paired u) (Some u)) (text_back s paired units) ∙ ap (λ b. require b (Some s)) paired
 
-pub name_back : (s : List ℕ) → is_identifier_name s ≡ true → are_units s ≡ true → units_of (bytes_of s) ≡ s
-name_back s named units = units_of-bytes_of s (is_identifier_name-paired s named) (all_units s units)
+pub name_back : (s : List ℕ) → is_name s ≡ true → are_units s ≡ true → units_of (bytes_of s) ≡ s
+name_back s named units = units_of-bytes_of s (is_identifier_name-paired s (and_parts (are_units s) (is_identifier_name s) named).1) (AllUnits-are_units s units)
 
-pub name_read : (s : List ℕ) → is_identifier_name s ≡ true → are_units s ≡ true → name_of_units (units_of (bytes_of s)) ≡ Some s
+pub name_read : (s : List ℕ) → is_name s ≡ true → are_units s ≡ true → name_of_units (units_of (bytes_of s)) ≡ Some s
 name_read s named units = ap name_of_units (name_back s named units) ∙ ap (λ b. require b (Some s)) named
 
 -- a word in ASCII is its own bytes

@@ -1,3 +1,2 @@
 pub mod Bare
-pub mod Units
 pub mod RoundTrip

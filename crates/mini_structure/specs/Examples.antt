@@ -7,8 +7,7 @@ use Rattle.mini_model.specs.declared.kind.VariableDeclarationKind.TheVariants.{V
 use Rattle.mini_model.specs.declared.operator.UnaryOperator.TheVariants.{UnaryNegation}
 use Rattle.mini_model.specs.declared.shape.Shape.TheVariants as shape
 use Rattle.mini_model.specs.Tree.{Tree, Trees, node, none, ◌▸◌, leaf, listed, absent, unresolved, unary, expression_statement, program}
-use Rattle.mini_text.specs.Texts.{is_identifier_name}
-use Rattle.mini_structure.specs.WellShaped.{fits, one, a_program, a_class_member, a_key, is_paired, has_plain_fields, has_its_parts}
+use Rattle.mini_structure.specs.WellShaped.{fits, one, a_program, a_class_member, a_key, is_paired, has_plain_fields, has_its_parts, is_name}
 
 abbrev script : Trees → Bool
 script ts = fits false (one a_program) (program false [] ts)
@@ -104,14 +103,14 @@ chain_over_a_chain : script (says (chain (member false (chain (member true a))))
 chain_over_a_chain = refl
 
 -- `function f() {}`
-function_in_a_script : (f : List ℕ) → is_identifier_name f ≡ true → script (function f ▸ none) ≡ true
+function_in_a_script : (f : List ℕ) → is_name f ≡ true → script (function f ▸ none) ≡ true
 function_in_a_script f e = rw e refl
 
 -- `{ function f() {} }`, in sloppy code and in strict code
 function_in_a_block : (f : List ℕ) → script (block (function f) ▸ none) ≡ false
 function_in_a_block f = refl
 
-function_in_a_strict_block : (f : List ℕ) → is_identifier_name f ≡ true → is_paired (codes "use strict") ≡ true → strict_script (block (function f) ▸ none) ≡ true
+function_in_a_strict_block : (f : List ℕ) → is_name f ≡ true → is_paired (codes "use strict") ≡ true → strict_script (block (function f) ▸ none) ≡ true
 function_in_a_strict_block f e p = rw (e, p) refl
 
 -- `import "s";`, in a module and in a script
@@ -120,6 +119,10 @@ import_in_a_module s e = rw e refl
 
 import_in_a_script : (s : List ℕ) → script (node shape.ImportDeclaration [] 0 (listed none ▸ leaf (shape.StringLiteral s) ▸ none) ▸ none) ≡ false
 import_in_a_script s = refl
+
+-- a text of a number that is no unit
+greater_than_a_unit : script (says (leaf (shape.StringLiteral (0x1_0000 ∷ [])))) ≡ false
+greater_than_a_unit = refl
 
 -- a text with a half of a surrogate pair
 half_of_a_pair : (s : List ℕ) → is_paired s ≡ false → script (says (leaf (shape.StringLiteral s))) ≡ false
@@ -176,14 +179,14 @@ numbered_array : script (says (node shape.ArrayExpression [] 1 (listed none ▸ 
 numbered_array = refl
 
 -- `for (var f of this) ;`, and with an initializer
-head_of_for_of : (f : List ℕ) → is_identifier_name f ≡ true → script (node shape.ForOfStatement [] 0 (declaration f absent ▸ a ▸ leaf shape.EmptyStatement ▸ none) ▸ none) ≡ true
+head_of_for_of : (f : List ℕ) → is_name f ≡ true → script (node shape.ForOfStatement [] 0 (declaration f absent ▸ a ▸ leaf shape.EmptyStatement ▸ none) ▸ none) ≡ true
 head_of_for_of f e = rw e refl
 
 initialized_head_of_for_of : (f : List ℕ) → script (node shape.ForOfStatement [] 0 (declaration f b ▸ a ▸ leaf shape.EmptyStatement ▸ none) ▸ none) ≡ false
 initialized_head_of_for_of f = refl
 
 -- `for (var f = null in this) ;`
-initialized_head_of_for_in : (f : List ℕ) → is_identifier_name f ≡ true → script (node shape.ForInStatement [] 0 (declaration f b ▸ a ▸ leaf shape.EmptyStatement ▸ none) ▸ none) ≡ true
+initialized_head_of_for_in : (f : List ℕ) → is_name f ≡ true → script (node shape.ForInStatement [] 0 (declaration f b ▸ a ▸ leaf shape.EmptyStatement ▸ none) ▸ none) ≡ true
 initialized_head_of_for_in f e = rw e refl
 
 -- `try {}` alone

@@ -3,7 +3,7 @@
 use Rattle.std.specs.Prelude.{◌≡◌, ℕ, suc, List, [], ◌∷◌, length, Bool, true, false, ◌&&◌, ◌||◌, ◌==◌, not, nat_eq, nat_le, Option, Some, None, is_some, codes, ℤ, pos, negsuc, if◌then◌else◌}
 use Rattle.std.specs.Cmp.Lexicographic.{pointwise}
 use Rattle.std.specs.Char.Utf16.{has_unpaired_surrogate}
-use Rattle.mini_text.specs.Texts.{is_identifier_name}
+use Rattle.mini_text.specs.Texts.{are_units, is_identifier_name}
 use Rattle.mini_numerals.specs.Numerals.{max_safe_integer}
 use Rattle.mini_templates.specs.Templates.{cooked}
 use Rattle.mini_model.specs.declared.kind.MetaPropertyKind.TheVariants.{NewTarget, ImportMeta}
@@ -116,9 +116,13 @@ pub data Slot : Type 0 where
 abbrev pub is_text : List ℕ → List ℕ → Bool
 is_text = pointwise nat_eq
 
--- each half of a surrogate pair has the other (The Unicode Standard, D91 and D92)
+-- units of which each half of a surrogate pair has the other (The Unicode Standard, D91 and D92)
 abbrev pub is_paired : List ℕ → Bool
-is_paired s = not (has_unpaired_surrogate s)
+is_paired s = are_units s && not (has_unpaired_surrogate s)
+
+-- units that spell an identifier's name (ECMA-262, IdentifierName)
+abbrev pub is_name : List ℕ → Bool
+is_name s = are_units s && is_identifier_name s
 
 abbrev pub are_paired : List (List ℕ) → Bool
 are_paired [] = true
@@ -525,9 +529,9 @@ is_numbered a_parameter shape.AssignmentPattern = true
 is_numbered c _ = false
 
 abbrev pub has_names : Shape → List Name → Bool
-has_names shape.Identifier (x ∷ []) = is_identifier_name x.spelling
+has_names shape.Identifier (x ∷ []) = is_name x.spelling
 has_names shape.Identifier xs = false
-has_names shape.BindingIdentifier (x ∷ []) = is_identifier_name x.spelling
+has_names shape.BindingIdentifier (x ∷ []) = is_name x.spelling
 has_names shape.BindingIdentifier xs = false
 has_names h [] = true
 has_names h (x ∷ xs) = false
@@ -537,8 +541,8 @@ abbrev pub has_plain_fields : Shape → Bool
 has_plain_fields (shape.Program is_module ds) = are_paired ds
 has_plain_fields (shape.Function d g ds) = are_paired ds
 has_plain_fields (shape.ArrowFunctionExpression ds) = are_paired ds
-has_plain_fields (shape.IdentifierName s) = is_identifier_name s
-has_plain_fields (shape.PrivateIdentifier s) = is_identifier_name s
+has_plain_fields (shape.IdentifierName s) = is_name s
+has_plain_fields (shape.PrivateIdentifier s) = is_name s
 has_plain_fields (shape.NumericLiteral n) = is_safe n
 has_plain_fields (shape.StringLiteral s) = is_paired s
 has_plain_fields (shape.RegExpLiteral pattern flags) = is_paired pattern && is_paired flags

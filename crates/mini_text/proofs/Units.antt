@@ -4,13 +4,14 @@ use Rattle.std.specs.Char.{IsScalar}
 use Rattle.std.specs.Char.Escape.{encode_utf16}
 use Rattle.std.specs.Char.Utf16.{utf16_chars, utf16_lossy_chars, lone_unit_char, surrogate_pair_char, has_unpaired_surrogate}
 use Rattle.std.specs.List.{list_any}
+use Rattle.std.specs.Prelude.{nat_lt}
 use Rattle.std.specs.Option.{unwrap_or}
 use Rattle.std.specs.Str.{chars}
 use Rattle.std.proofs.Math.Utf8.{scalars, scalar_cases}
-use Rattle.std.proofs.lemmas.Bool.{cases_lt, lt-ltb, le-ltb, lt-leb, le-leb, and_parts, and_from, or_parts}
-use Rattle.std.proofs.lemmas.List.Elements.{All-head, All-tail}
+use Rattle.std.proofs.lemmas.Bool.{cases_lt, lt-ltb, ltb-true, le-ltb, lt-leb, le-leb, and_parts, and_from, or_parts}
+use Rattle.std.proofs.lemmas.List.Elements.{All-head, All-tail, All-nil, All-cons}
 use Rattle.std.proofs.lemmas.Str.{utf16_chars-nil, utf16_chars_lone, utf16_chars_pair, chars-nil, chars-encodes, chars_past_char, encodes-chars, scalars-chars}
-use Rattle.mini_text.specs.Texts.{units_of, bytes_of, AllUnits, is_name_start, is_name_part, are_name_parts, is_name_of_chars, is_identifier_name}
+use Rattle.mini_text.specs.Texts.{units_of, bytes_of, AllUnits, are_units, is_name_start, is_name_part, are_name_parts, is_name_of_chars, is_identifier_name}
 
 -- the first is a high surrogate, and the second a low one
 abbrev pub IsPair : ℕ → ℕ → Type 0
@@ -206,3 +207,35 @@ is_name_of_chars-paired (Some c ∷ cs) named = are_name_parts-paired cs (and_pa
 
 pub is_identifier_name-paired : (us : List ℕ) → is_identifier_name us ≡ true → has_unpaired_surrogate us ≡ false
 is_identifier_name-paired us named = is_name_of_chars-paired (utf16_chars us) named
+
+-- ---- units as a test tells them
+
+are_units-append : (us vs : List ℕ) → are_units us ≡ true → are_units vs ≡ true → are_units (us ++ vs) ≡ true
+are_units-append [] vs a b = b
+are_units-append (u ∷ us) vs a b =
+    let parts = and_parts (nat_lt u 0x1_0000) (are_units us) a in
+    and_from (nat_lt u 0x1_0000) (are_units (us ++ vs)) parts.0 (are_units-append us vs parts.1 b)
+
+are_units-encode : (c : ℕ) → IsScalar c → are_units (encode_utf16 c) ≡ true
+are_units-encode c is = elim (cases_lt c 0x1_0000) [
+  | inl low ↦ rw (encode_utf16-one c low, lt-ltb c 0x1_0000 low) refl
+  | inr high ↦
+      let below : c < 0x11_0000 = elim (scalar_cases c is) [ inl low ↦ omega arith | inr above ↦ omega arith ] in
+      rw (encode_utf16-two c high, lt-ltb (0xD800 + (c - 0x1_0000) / 0x400) 0x1_0000 (omega arith), lt-ltb (0xDC00 + (c - 0x1_0000) % 0x400) 0x1_0000 (omega arith)) refl
+]
+
+are_units-chars : (cs : List ℕ) → scalars cs ≡ true → are_units (flat_map encode_utf16 cs) ≡ true
+are_units-chars [] all = refl
+are_units-chars (c ∷ cs) all =
+    let parts = and_parts _ (scalars cs) all in
+    are_units-append (encode_utf16 c) (flat_map encode_utf16 cs) (are_units-encode c parts.0) (are_units-chars cs parts.1)
+
+-- the units of a text have 16 bits each
+pub are_units-units_of : (s : List ℕ) → IsUtf8 s → are_units (units_of s) ≡ true
+are_units-units_of s utf8 = are_units-chars (chars s) (scalars-chars s utf8)
+
+pub AllUnits-are_units : (us : List ℕ) → are_units us ≡ true → AllUnits us
+AllUnits-are_units [] all = All-nil (λ u. u < 2 ^ 16)
+AllUnits-are_units (u ∷ us) all =
+    let parts = and_parts (nat_lt u 0x1_0000) (are_units us) all in
+    All-cons (λ u. u < 2 ^ 16) u us (ltb-true u 0x1_0000 parts.0) (AllUnits-are_units us parts.1)

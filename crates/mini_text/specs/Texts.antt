@@ -1,5 +1,5 @@
 -- What texts are: their units, their bytes, and which of them are names.
-use Rattle.std.specs.Prelude.{ℕ, ◌^◌, ◌<◌, Bool, true, false, ◌&&◌, ◌||◌, ◌==◌, List, [], ◌∷◌, Option, Some, None, All, encode_utf8_all}
+use Rattle.std.specs.Prelude.{ℕ, ◌^◌, ◌<◌, nat_lt, Bool, true, false, ◌&&◌, ◌||◌, ◌==◌, List, [], ◌∷◌, Option, Some, None, All, encode_utf8_all}
 use Rattle.std.specs.Char.Escape.{encode_utf16}
 use Rattle.std.specs.Char.Utf16.{utf16_chars, utf16_lossy_chars}
 use Rattle.std.specs.List.{flat_map}
@@ -17,6 +17,11 @@ bytes_of units = encode_utf8_all (utf16_lossy_chars units)
 -- each unit has 16 bits (ECMA-262, The String Type)
 abbrev pub AllUnits : List ℕ → Type 0
 AllUnits units = All (λ unit. unit < 2 ^ 16) units
+
+-- the same as a test
+abbrev pub are_units : List ℕ → Bool
+are_units [] = true
+are_units (unit ∷ units) = nat_lt unit 0x1_0000 && are_units units
 
 -- a name may begin with the character: `$`, `_`, or one with XID_Start (ECMA-262, IdentifierStartChar; UAX #31, XID_Start)
 abbrev pub is_name_start : ℕ → Bool
