@@ -21,8 +21,6 @@ mod properties;
 mod standing;
 mod statements;
 mod templates;
-#[cfg(test)]
-mod tests;
 mod words;
 
 pub use calls::link_class;

@@ -7,8 +7,6 @@ mod kind;
 mod laws;
 mod look;
 mod read;
-#[cfg(test)]
-mod tests;
 mod write;
 
 pub use fit_laws::{accepted_weighs_little, fitting_is_read};

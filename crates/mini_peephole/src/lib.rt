@@ -6,8 +6,6 @@ mod minimize_conditional_expression;
 mod minimize_if_statement;
 mod minimize_not_expression;
 mod passes;
-#[cfg(test)]
-mod tests;
 mod walk;
 
 pub use mini_estree::{MinifyError, Pointer};

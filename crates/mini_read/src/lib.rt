@@ -5,7 +5,5 @@ mod expressions;
 mod knot;
 mod program;
 mod statements;
-#[cfg(test)]
-mod tests;
 
 pub use program::read_program;

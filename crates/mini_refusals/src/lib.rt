@@ -1,8 +1,6 @@
 //! Whether a program is one that is read, and else its first defect.
 #![tactic(auto)]
 
-#[cfg(test)]
-mod tests;
 mod walk;
 
 pub use walk::check_program;

@@ -1,8 +1,8 @@
 // The rows stand in postfix: each operator behind its operands, `?:` behind three, `;` behind an expression, `if` behind
 // a test and a statement, and `else` behind a test and two statements. What is wanted of each is worked out by hand: the
 // parts first, at each node the rewrites as long as the text gets shorter by them.
-use super::*;
 use mini_estree::fits;
+use mini_peephole::{CompressOptions, minify_estree};
 use serde_json::{Value, json};
 use std::alloc::Global;
 use std::test::Fail;

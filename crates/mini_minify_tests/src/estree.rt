@@ -1,4 +1,4 @@
-use super::*;
+use mini_estree::{read_program, write_program};
 use mini_first::{
     BoxedExpression, CallExpressionOf, Expression, ExpressionStatementOf, OwnedList, Program,
     Statement, Text, TextList,

@@ -1,4 +1,4 @@
-use super::*;
+use mini_defects::{Class, Defect, Depth, Place, Tagging, own_defect};
 use serde_json::Value;
 use std::test::Fail;
 

@@ -1,5 +1,5 @@
-use super::*;
 use mini_drop::drop_program;
+use mini_read::read_program;
 use serde_json::Value;
 use std::test::Fail;
 

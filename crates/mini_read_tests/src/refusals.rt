@@ -1,4 +1,4 @@
-use super::*;
+use mini_refusals::check_program;
 use serde_json::Value;
 use std::test::Fail;
 
