@@ -1,8 +1,7 @@
 -- Texts come back from their bytes.
-use Rattle.std.proofs.Common.{◌≡◌, ℕ, zero, suc, arith, ◌<◌, ◌^◌, List, [], ◌∷◌, refl, ap, sym, ◌∙◌, Bool, true, false}
+use Rattle.std.proofs.Common.{◌≡◌, ℕ, zero, suc, arith, ◌<◌, List, [], ◌∷◌, refl, ap, sym, ◌∙◌, Bool, true, false}
 use Rattle.std.specs.Prelude.{nat_lt, slice_index, not, Some}
 use Rattle.std.proofs.lemmas.Bool.{and_parts, ltb-true}
-use Rattle.std.proofs.lemmas.List.Elements.{All-nil, All-cons}
 use Rattle.std.specs.Char.Utf16.{has_unpaired_surrogate}
 use Rattle.mini_text.specs.Texts.{units_of, bytes_of, are_units, is_identifier_name}
 use Rattle.mini_text.proofs.Units.{units_of-bytes_of, bytes_of-units_of, is_identifier_name-paired, AllUnits-are_units}

@@ -3,4 +3,4 @@
 
 mod laws;
 
-pub use laws::written_is_accepted;
+pub use laws::{read_is_written, written_is_accepted};
