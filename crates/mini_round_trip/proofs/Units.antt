@@ -122,11 +122,11 @@ mutual
   filled_units strict (each_or_last s l) (t ▸ ts) e =
       let (first, rest) = and_parts (fits strict s t || (is_last ts && fits strict l t)) (fill strict (each_or_last s l) ts) e in
       and_from (has_units t) (have_units ts)
-          (elim (or_cases (fits strict s t) (is_last ts && fits strict l t) first) [
-            | inl here ↦ tree_units strict s t here
-            | inr later ↦ tree_units strict l t (and_parts (is_last ts) (fits strict l t) later).1
-          ])
-          (filled_units strict (each_or_last s l) ts rest)
+      (elim (or_cases (fits strict s t) (is_last ts && fits strict l t) first) [
+        | inl here ↦ tree_units strict s t here
+        | inr later ↦ tree_units strict l t (and_parts (is_last ts) (fits strict l t) later).1
+      ])
+      (filled_units strict (each_or_last s l) ts rest)
   filled_units strict (pieces g) none e = absurd (false≢true e)
   filled_units strict (pieces g) (t ▸ ts) e = quasis_units g (t ▸ ts) e
 
