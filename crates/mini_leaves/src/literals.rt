@@ -1,6 +1,6 @@
 // Literals, and the keys that are one or a name.
 
-ghost use Rattle.std.specs.Prelude.{◌≡◌, ◌<◌, ℕ, List, [], pos, true, false, Some, IfOk, IfSome, unwrap_or};
+ghost use Rattle.std.specs.Prelude.{◌≡◌, ◌<◌, ◌≤◌, ℕ, List, [], pos, true, false, Some, None, IfOk, IfErr, IfSome, IfNone, option_and_then, unwrap_or};
 ghost use Rattle.serde_json.specs.View.{view};
 ghost use Rattle.mini_text.specs.Texts.{units_of};
 ghost use Rattle.mini_model.specs.Tree.{node, none, leaf};
@@ -14,7 +14,7 @@ ghost use Rattle.mini_accept.specs.Expressions.{identifier_as, word_plan};
 ghost use Rattle.mini_accept.specs.Fields.{units_at};
 ghost use Rattle.mini_accept.specs.Literals as table;
 ghost use Rattle.mini_accept.specs.Places.{at};
-ghost use Rattle.mini_defects.specs.Literals.{shape_of, negative_literal};
+ghost use Rattle.mini_defects.specs.Literals.{capped, shape_of, negative_literal};
 ghost use Rattle.mini_defects.specs.Views.{class_of};
 ghost use Rattle.mini_leaves.specs.Keys.{key_shape};
 ghost use Rattle.mini_reading.specs.Reads.{ReadsAt, ReadsEntry};
@@ -35,7 +35,8 @@ use std::alloc::Global;
 
 /// The number below 0 that stands so far from it; None where it is out of range.
 pub fn negated(number: u64) -> Option<i64>
-    ensures { 0 < number → IfSome result (λ z. z ≡ negative_literal number) }
+    ensures in_range { 0 < number → IfSome result (λ z. z ≡ negative_literal number) }
+    ensures out_of_range { IfNone result (9223372036854775808 ≤ number) }
 {
     match i64::try_from(number) {
         Ok(positive) => Some(-positive),
@@ -45,7 +46,8 @@ pub fn negated(number: u64) -> Option<i64>
 
 // The literal of a number.
 fn numeric(number: u64) -> Result<NumericLiteral, Unread>
-    ensures { IfOk result (λ x. x.value ≡ pos number) }
+    ensures in_range { IfOk result (λ x. x.value ≡ pos number) }
+    ensures out_of_range { IfErr result (λ e. 9223372036854775808 ≤ number) }
 {
     match i64::try_from(number) {
         Ok(value) => Ok(NumericLiteral { value }),
@@ -56,7 +58,8 @@ fn numeric(number: u64) -> Result<NumericLiteral, Unread>
 // The literal of a BigInt with these digits.
 #[tactic(auto, using(crate::proofs::Values::digits_read))]
 fn big_int(digits: &str) -> Result<BigIntLiteral, Unread>
-    ensures { IfOk result (λ x. x.value ≡ unwrap_or (table.digits_value digits.now) 0) }
+    ensures in_range { IfOk result (λ x. x.value ≡ unwrap_or (table.digits_value digits.now) 0) }
+    ensures out_of_range { IfErr result (λ e. option_and_then capped (table.digits_value digits.now) ≡ None) }
 {
     match digits_value(digits) {
         Some(Some(value)) => Ok(BigIntLiteral { value }),

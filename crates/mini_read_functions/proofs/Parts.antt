@@ -12,22 +12,18 @@ use Rattle.mini_accept.specs.Functions.{directives_below, parameter, is_named, f
 use Rattle.mini_accept.specs.Places.{Place}
 use Rattle.mini_accept.specs.Plans.{Plan, node_of, child, optional, list_child, inner_key}
 use Rattle.mini_accept.specs.Words.{word_at, method_kinds}
+use Rattle.mini_reading.proofs.Entering.{required}
 use Rattle.mini_reading.specs.Reads.{ReadsEntry}
 use Rattle.mini_read_functions.specs.Nodes.{function_node, arrow_node, class_node, method_node}
 
 module _ {X E : Type 0} (view : X → Tree) (result : Result (X × ℕ) E) (r : Reader) (inside : Bool) (p : Place) (n : ℕ) (d : Data) where
-  -- what was read where the condition holds
-  required : (b : Bool) (o : Option Plan) → ReadsEntry view result r inside p n d o → ReadsEntry view result r inside p n d (require b o)
-  required true o h = h
-  required false o h = tt
-
   after : {A : Type 0} (o : Option A) (f : A → Option Plan) → ((x : A) → ReadsEntry view result r inside p n d (f x)) → ReadsEntry view result r inside p n d (o >>= f)
   after None f h = tt
   after (Some x) f h = h x
 
   required_after : {A : Type 0} (o : Option A) (b : Bool) (f : A → Option Plan) → ReadsEntry view result r inside p n d (o >>= f) → ReadsEntry view result r inside p n d (o >>= λ x. require b (f x))
   required_after None b f h = tt
-  required_after (Some x) b f h = required b (f x) h
+  required_after (Some x) b f h = required view result r inside p n d b (f x) h
 
   required_second : {A B : Type 0} (o : Option A) (q : Option B) (b : Bool) (f : A → B → Option Plan) → ReadsEntry view result r inside p n d (o >>= λ x. q >>= f x) → ReadsEntry view result r inside p n d (o >>= λ x. q >>= λ y. require b (f x y))
   required_second None q b f h = tt
@@ -37,7 +33,7 @@ module _ {X E : Type 0} (view : X → Tree) (result : Result (X × ℕ) E) (r : 
   required_third None q s b f h = tt
   required_third (Some x) None s b f h = tt
   required_third (Some x) (Some y) None b f h = tt
-  required_third (Some x) (Some y) (Some z) b f h = required (b x y z) (f x y z) h
+  required_third (Some x) (Some y) (Some z) b f h = required view result r inside p n d (b x y z) (f x y z) h
 
   pub function_read : (declaration : Bool) → ReadsEntry view result r inside p n d (function_node declaration d) → ReadsEntry view result r inside p n d (function declaration p d)
   function_read declaration h = required_second (flag_at (codes "generator") d) (list_child parameter (codes "params") d) (is_some (flag_at (codes "async") d) && is_named declaration p d)

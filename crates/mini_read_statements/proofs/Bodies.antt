@@ -14,24 +14,16 @@ use Rattle.mini_accept.specs.Fields.{list_at}
 use Rattle.mini_accept.specs.Statements.{body_parts, body_part}
 use Rattle.mini_accept.specs.Accept.{Read, Reader, read_part, read_parts}
 use Rattle.mini_defects.proofs.Parts.{drop_items, drop_items-dropped, drop_items-none, down_to_item}
+use Rattle.mini_reading.proofs.Items.{append-none, behind-more}
 use Rattle.mini_reading.specs.Reads.{read_item, behind}
 use Rattle.mini_read_statements.specs.Bodies.{some_list, some_trees, body_part_in, leads, read_body}
-use Rattle.mini_read_statements.proofs.Ends.{append-none}
 
 -- ---- items one by one
-
-append-append : (ts us vs : Trees) → append (append ts us) vs ≡ append ts (append us vs)
-append-append none us vs = refl
-append-append (t ▸ ts) us vs = ap (λ ws. t ▸ ws) (append-append ts us vs)
 
 trees-some : (acc : List Tree) (o : Option Tree) → trees (λ t. t) (acc ++ some_list o) ≡ append (trees (λ t. t) acc) (some_trees o)
 trees-some [] None = refl
 trees-some [] (Some t) = refl
 trees-some (y ∷ acc) o = ap (λ us. y ▸ us) (trees-some acc o)
-
-behind-more : (ts us : Trees) (m : Read Trees) → behind ts (m >>= λ q. Ok (append us q.0, q.1)) ≡ behind (append ts us) m
-behind-more ts us (Ok q) = ap (λ ws. Ok (ws, q.1)) (sym (append-append ts us q.0))
-behind-more ts us (Err e) = refl
 
 step : (r : Reader) (strict : Bool) (depth : Depth) (leading : Bool) (xs : List Value) (i n m : ℕ) (x : Value) (acc : List Tree) (o : Option Tree)
     → i < length xs → x ≡ get_or xs i x → read_item r strict (codes "body") i n (view x) (body_part_in depth (leads leading (view x))) ≡ Ok (some_trees o, m)
@@ -53,10 +45,6 @@ body_step r strict depth leading b xs i n m x acc acc' o whole before h is leads
 pub body_done : (r : Reader) (strict : Bool) (depth : Depth) (leading : Bool) (xs : List Value) (i n : ℕ) (acc : List Tree) (m : Read Trees)
     → length xs ≤ i → m ≡ behind (trees (λ t. t) acc) (read_body r strict depth leading i n (items_view (drop i xs))) → m ≡ Ok (trees (λ t. t) acc, n)
 body_done r strict depth leading xs i n acc m h e = e ∙ rw (drop_all i xs h) (ap (λ ts. Ok (ts, n)) (append-none (trees (λ t. t) acc)))
-
-pub body_begin : (m : Read Trees) → behind none m ≡ m
-body_begin (Ok q) = refl
-body_begin (Err e) = refl
 
 -- ---- parts
 

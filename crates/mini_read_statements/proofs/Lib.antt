@@ -1,4 +1,3 @@
 pub mod Bodies
 pub mod Directives
-pub mod Ends
 pub mod Fields

@@ -118,7 +118,7 @@ fn still_leads(leading: bool, value: &Value) -> bool
 }
 
 /// The statements of a body behind its directives, which are read and are no part of the list, and the next number.
-#[tactic(auto, using(crate::proofs::Bodies::body_step, crate::proofs::Bodies::body_begin))]
+#[tactic(auto, using(crate::proofs::Bodies::body_step, mini_reading::proofs::Items::items_begin))]
 pub fn body_statements<S>(
     cx: Reading,
     read: S,

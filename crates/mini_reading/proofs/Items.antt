@@ -1,5 +1,6 @@
 -- Lists, item by item.
-use Rattle.std.proofs.Common.{◌≡◌, subst, ℕ, zero, suc, ◌<◌, ◌≤◌, ◌+◌, length, get_or, List, [], ◌∷◌, ◌++◌, Bool, true, false, drop, refl, sym, ◌∙◌, ap, arith, add-one, drop-cons, length-drop}
+use Rattle.std.proofs.Common.{◌≡◌, subst, ℕ, suc, ◌<◌, ◌≤◌, ◌+◌, length, get_or, List, [], ◌∷◌, ◌++◌, Bool, true, false, drop, refl, sym, ◌∙◌, ap, arith, add-one, drop-cons, length-drop}
+use Rattle.std.proofs.lemmas.List.{drop_all}
 use Rattle.std.specs.Prelude.{codes, ◌==◌, ◌&&◌, Some, if◌then◌else◌, is_some, Ok, Err}
 use Rattle.serde_json.specs.Data.{Data, Items, no_items, item}
 use Rattle.serde_json.specs.Find.{as_null}
@@ -22,7 +23,7 @@ use Rattle.mini_reading.specs.Reads.{read_item, part_in, read_items, behind}
 
 -- ---- trees in a row
 
-append-none : (ts : Trees) → append ts none ≡ ts
+pub append-none : (ts : Trees) → append ts none ≡ ts
 append-none none = refl
 append-none (t ▸ ts) = ap (λ us. t ▸ us) (append-none ts)
 
@@ -43,7 +44,7 @@ no_item-length (x ∷ xs) = grind arith
 no_item-last : (xs : List Value) (i : ℕ) → i < length xs → no_item (items_view (drop (i + 1) xs)) ≡ (i + 1 == length xs)
 no_item-last xs i h = no_item-length (drop (i + 1) xs) ∙ grind (arith, length-drop (i + 1) xs)
 
-behind-more : (ts us : Trees) (m : Read Trees) → behind ts (m >>= λ q. Ok (append us q.0, q.1)) ≡ behind (append ts us) m
+pub behind-more : (ts us : Trees) (m : Read Trees) → behind ts (m >>= λ q. Ok (append us q.0, q.1)) ≡ behind (append ts us) m
 behind-more ts us (Ok q) = ap (λ ws. Ok (ws, q.1)) (sym (append-append ts us q.0))
 behind-more ts us (Err e) = refl
 
@@ -56,15 +57,9 @@ item_step v r strict part key xs i n m x acc y h is fine =
     rw (front, no_item-last xs i h, fine, add-one, trees-last v acc y) (behind-more (trees v acc) (v y ▸ none) (read_items r strict part key (suc i) m (items_view (drop (suc i) xs))))
 
 -- and ends behind the last one
-drop-all : (xs : List Value) (i : ℕ) → length xs ≤ i → drop i xs ≡ []
-drop-all [] zero h = refl
-drop-all [] (suc i) h = refl
-drop-all (x ∷ xs) zero h = absurd (omega (arith, h))
-drop-all (x ∷ xs) (suc i) h = drop-all xs i (omega (arith, h))
-
 pub items_end : {A : Type 0} (v : A → Tree) (r : Reader) (strict : Bool) (part : ItemPart) (key : List ℕ) (xs : List Value) (i n : ℕ) (acc : List A) (whole : Read Trees)
     → whole ≡ behind (trees v acc) (read_items r strict part key i n (items_view (drop i xs))) → length xs ≤ i → whole ≡ Ok (trees v acc, n)
-items_end v r strict part key xs i n acc whole e h = e ∙ rw (drop-all xs i h) (ap (λ ts. Ok (ts, n)) (append-none (trees v acc)))
+items_end v r strict part key xs i n acc whole e h = e ∙ rw (drop_all i xs h) (ap (λ ts. Ok (ts, n)) (append-none (trees v acc)))
 
 pub items_begin : (m : Read Trees) → behind none m ≡ m
 items_begin (Ok q) = refl

@@ -1,5 +1,5 @@
 -- What a call that reads gives back, and how a node is read by its entry in the table.
-use Rattle.std.specs.Prelude.{◌≡◌, ⊤, ℕ, suc, List, [], Bool, false, Option, Some, None, Result, Ok, Err}
+use Rattle.std.specs.Prelude.{◌≡◌, ◌≢◌, ⊤, ℕ, suc, List, [], Bool, false, Option, Some, None, Result, Ok, Err}
 use Rattle.std.specs.Borrow.{Bor}
 use Rattle.serde_json.specs.View.{view}
 use Rattle.serde_json.specs.declared.value.Value.{Value}
@@ -11,10 +11,11 @@ use Rattle.mini_model.specs.Tree.{Tree, node, Trees, none, ◌▸◌, absent}
 use Rattle.mini_structure.specs.WellShaped.{is_numbered}
 use Rattle.mini_accept.specs.Faults.{under, ◌>>=◌}
 use Rattle.mini_accept.specs.Places.{field, place, step_text, Place, at}
-use Rattle.mini_accept.specs.Fields.{no_item}
+use Rattle.mini_accept.specs.Fields.{no_item, kind_of}
 use Rattle.mini_accept.specs.Plans.{Part, hole, tree_at, inner_at, checked, Plan, ItemPart}
 use Rattle.mini_accept.specs.Accept.{Read, Reader, is_root as is_program, numbered, read_children, reads}
-use Rattle.mini_defects.specs.Views.{class_of}
+use Rattle.mini_defects.specs.Views.{class_of, kind_of_node}
+use Rattle.mini_defects.specs.declared.kind.Kind.{Kind}
 use Rattle.mini_defects.specs.declared.place.Class.{Class}
 use Rattle.mini_reading.specs.declared.reading.Reading.{Reading}
 use Rattle.mini_reading.specs.declared.reading.Unread.{Unread}
@@ -48,6 +49,10 @@ read_as read inside p n d x = numbered (has_number p x.shape) n x.shape x.names 
 abbrev pub Enters : (ℕ → Read Tree) → Reader → Bool → Place → Data → Option Plan → Type 0
 Enters whole read inside p d None = ⊥
 Enters whole read inside p d (Some x) = (n : ℕ) → whole n ≡ read_as read inside p n d x
+
+-- the node names a type other than this
+abbrev pub IsOfAnotherType : Kind → Data → Type 0
+IsOfAnotherType k d = (other : Kind) × (kind_of d ≡ Some (kind_of_node other)) × (other ≢ k)
 
 -- what was returned is what reading by the entry gives, if there is one
 abbrev pub ReadsEntry : {X E : Type 0} → (X → Tree) → Result (X × ℕ) E → Reader → Bool → Place → ℕ → Data → Option Plan → Type 0

@@ -1,11 +1,12 @@
 // How a node is read: with what memory, in strict or sloppy code, and how deep it may nest.
 
-ghost use Rattle.std.specs.Prelude.{◌≡◌, ◌∷◌, suc, IfOk};
+ghost use Rattle.std.specs.Prelude.{◌≡◌, ◌∷◌, ◌⊎◌, ℕ, suc, true, Some, IfOk, IfErr, is_err};
 ghost use Rattle.serde_json.specs.View.{view};
 ghost use Rattle.mini_accept.specs.Accept.{reads};
 ghost use Rattle.mini_accept.specs.Entries.{entry};
+ghost use Rattle.mini_accept.specs.Fields.{kind_of};
 ghost use Rattle.mini_defects.specs.Views.{kind_of_node, place_of};
-ghost use Rattle.mini_reading.specs.Reads.{Enters, is_root};
+ghost use Rattle.mini_reading.specs.Reads.{Enters, IsOfAnotherType};
 
 use mini_children::inside;
 use mini_defects::{Class, Kind, Place, kind_of, own_defect};
@@ -34,19 +35,18 @@ pub struct Reading {
     pub depth: u32,
 }
 
-// Whether the place is the program's.
-fn is_root(place: Place) -> bool
-    ensures { result ≡ is_root (place_of place) }
-{
-    matches!(place, Place::At(Class::Program))
-}
-
-/// The type of a node without a defect of its own, and how the nodes below it are read.
-#[tactic(auto, using(crate::proofs::Entering::opened_below, crate::proofs::Entering::opened_root))]
+/// The type of a node without a defect of its own, and how the nodes below it are read. It is refused only where
+/// reading refuses it.
+#[tactic(auto, using(crate::proofs::Entering::opened_there))]
 pub fn open(cx: Reading, place: Place, value: &Value) -> Result<(Kind, Reading), Unread>
-    ensures { IfOk result (λ r. Enters (λ n. reads cx.depth cx.strict (place_of place) n (view value.now)) (reads r.1.depth) r.1.strict (place_of place) (view value.now) (entry (kind_of_node r.0) (place_of place) (view value.now))) }
+    ensures entered { IfOk result (λ r. Enters (λ n. reads cx.depth cx.strict (place_of place) n (view value.now)) (reads r.1.depth) r.1.strict (place_of place) (view value.now) (entry (kind_of_node r.0) (place_of place) (view value.now))) }
+    ensures its_type { IfOk result (λ r. kind_of (view value.now) ≡ Some (kind_of_node r.0)) }
+    ensures refused { IfErr result (λ e. (n : ℕ) → is_err (reads cx.depth cx.strict (place_of place) n (view value.now)) ≡ true) }
 {
-    if cx.depth == 0 || own_defect(cx.strict, place, value).is_some() {
+    if cx.depth == 0 {
+        return Err(Unread);
+    }
+    if own_defect(cx.strict, place, value).is_some() {
         return Err(Unread);
     }
     let Some(kind) = kind_of(value) else {
@@ -57,20 +57,15 @@ pub fn open(cx: Reading, place: Place, value: &Value) -> Result<(Kind, Reading),
         strict: inside(cx.strict, kind, value),
         depth: cx.depth - 1,
     };
-    // only the program stands at the root
-    if !is_root(place) {
-        return Ok((kind, below));
-    }
-    match kind {
-        Kind::Program => Ok((kind, below)),
-        _ => Err(Unread),
-    }
+    Ok((kind, below))
 }
 
-/// How the nodes below a node of this type are read, if the node has no defect of its own.
+/// How the nodes below a node of this type are read, if the node has no defect of its own. It is refused only where
+/// reading refuses it, or where its type is another.
 #[tactic(auto, using(crate::proofs::Entering::as_found))]
 pub fn enter(cx: Reading, place: Place, kind: Kind, value: &Value) -> Result<Reading, Unread>
-    ensures { IfOk result (λ below. Enters (λ n. reads cx.depth cx.strict (place_of place) n (view value.now)) (reads below.depth) below.strict (place_of place) (view value.now) (entry (kind_of_node kind) (place_of place) (view value.now))) }
+    ensures entered { IfOk result (λ below. Enters (λ n. reads cx.depth cx.strict (place_of place) n (view value.now)) (reads below.depth) below.strict (place_of place) (view value.now) (entry (kind_of_node kind) (place_of place) (view value.now))) }
+    ensures refused { IfErr result (λ e. ((n : ℕ) → is_err (reads cx.depth cx.strict (place_of place) n (view value.now)) ≡ true) ⊎ IsOfAnotherType kind (view value.now)) }
 {
     let (found, below) = open(cx, place, value)?;
     if found == kind {
@@ -80,9 +75,10 @@ pub fn enter(cx: Reading, place: Place, kind: Kind, value: &Value) -> Result<Rea
     }
 }
 
-/// The number behind this one.
+/// The number behind this one, if it isn't the last.
 pub fn next_number(n: u32) -> Result<u32, Unread>
-    ensures { IfOk result (λ m. m ≡ suc n) }
+    ensures next { IfOk result (λ m. m ≡ suc n) }
+    ensures last { IfErr result (λ e. n ≡ 4294967295) }
 {
     match n.checked_add(1) {
         None => Err(Unread),

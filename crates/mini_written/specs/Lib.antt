@@ -2,3 +2,4 @@ pub mod Keys
 pub mod Objects
 pub mod Words
 pub mod Written
+pub mod Examples

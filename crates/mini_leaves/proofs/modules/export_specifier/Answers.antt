@@ -13,4 +13,4 @@ pub returns : goal.returns
 returns c = λ n.
     two_below (λ m. reads c.args.cx.depth c.args.cx.strict (an_exported c.args.own) m (view c.args.value.now)) (reads c.in_ok-below.below.depth) c.in_ok-below.below.strict
     (an_exported c.args.own) (view c.args.value.now) shape.ExportSpecifier (field (codes "exported")) (field (codes "local")) (at a_module_name) (local_place (an_exported c.args.own)) _ _ n
-    c.in_ok-below.ensures refl (c.in_ok-exported.ensures n) (rw c.local_place.ensures at (c.in_ok-local.ensures n))
+    c.in_ok-below.ensures.entered refl (c.in_ok-exported.ensures n) (rw c.local_place.ensures at (c.in_ok-local.ensures n))

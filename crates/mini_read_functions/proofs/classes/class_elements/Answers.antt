@@ -3,8 +3,8 @@ use Rattle.mini_ast.specs.Plain.{class_element_tree}
 use Rattle.mini_structure.specs.WellShaped.{a_class_member}
 use Rattle.mini_accept.specs.Accept.{reads}
 use Rattle.mini_accept.specs.Plans.{each}
-use Rattle.mini_read_statements.proofs.Ends.{items_done}
+use Rattle.mini_reading.proofs.Items.{items_end}
 use Rattle.mini_read_functions.proofs.classes.class_elements.Goals as goal
 
 pub returns : goal.returns
-returns g c = items_done class_element_tree (reads c.args.cx.depth) c.args.cx.strict (each a_class_member) c.args.key.now c.args.list.now c.loop-value.value-index c.loop-value.next c.loop-value.all _ (search rules) c.loop-value.invariant
+returns g c = items_end class_element_tree (reads c.args.cx.depth) c.args.cx.strict (each a_class_member) c.args.key.now c.args.list.now c.loop-value.value-index c.loop-value.next c.loop-value.all _ c.loop-value.invariant (search rules)

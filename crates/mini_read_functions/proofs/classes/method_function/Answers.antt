@@ -11,4 +11,4 @@ use Rattle.mini_read_functions.proofs.classes.method_function.Goals as goal
 pub returns : goal.returns
 returns g c =
     entered function_tree c.function.result (λ (m : ℕ). reads c.args.cx.depth c.args.cx.strict (at a_method) m (view c.args.value.now)) (reads c.in_ok-below.below.depth) c.in_ok-below.below.strict
-    (at a_method) c.args.n (view c.args.value.now) (functions.function false (at a_method) (view c.args.value.now)) c.in_ok-below.ensures (c.function.ensures a_method)
+    (at a_method) c.args.n (view c.args.value.now) (functions.function false (at a_method) (view c.args.value.now)) c.in_ok-below.ensures.entered (c.function.ensures a_method)

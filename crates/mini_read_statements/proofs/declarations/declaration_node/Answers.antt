@@ -11,4 +11,4 @@ use Rattle.mini_read_statements.proofs.declarations.declaration_node.Goals as go
 pub returns : goal.returns
 returns g c =
     entered variable_declaration_tree c.variables.result (λ (m : ℕ). reads c.args.cx.depth c.args.cx.strict (at (class_of c.args.class)) m (view c.args.value.now)) (reads c.in_ok-below.below.depth) c.in_ok-below.below.strict
-    (at (class_of c.args.class)) c.args.n (view c.args.value.now) (statement.variable (view c.args.value.now)) c.in_ok-below.ensures (c.variables.ensures (class_of c.args.class))
+    (at (class_of c.args.class)) c.args.n (view c.args.value.now) (statement.variable (view c.args.value.now)) c.in_ok-below.ensures.entered (c.variables.ensures (class_of c.args.class))

@@ -11,4 +11,4 @@ use Rattle.mini_read_statements.proofs.simple.block_statement.Goals as goal
 pub returns : goal.returns
 returns g c =
     entered block_statement_tree c.block.result (λ (m : ℕ). reads c.args.cx.depth c.args.cx.strict (at (a_block)) m (view c.args.value.now)) (reads c.in_ok-below.below.depth) c.in_ok-below.below.strict
-    (at (a_block)) c.args.n (view c.args.value.now) (statement.block (view c.args.value.now)) c.in_ok-below.ensures (c.block.ensures (a_block))
+    (at (a_block)) c.args.n (view c.args.value.now) (statement.block (view c.args.value.now)) c.in_ok-below.ensures.entered (c.block.ensures (a_block))
