@@ -44,7 +44,7 @@ module _ {X E : Type 0} (view : X → Tree) (result : Result (X × ℕ) E) (r : 
       (λ parameters. node_of (shape.ArrowFunctionExpression (directives_below d)) (parameters ∷ child (codes "body") shaped.an_arrow_body ∷ [])) h)
 
   pub class_read : (declaration : Bool) → ReadsEntry view result r inside p n d (class_node declaration d) → ReadsEntry view result r inside p n d (class declaration p d)
-  class_read declaration h = required (is_named declaration p d) (class_node declaration d) h
+  class_read declaration h = required view result r inside p n d (is_named declaration p d) (class_node declaration d) h
 
   pub method_read : ReadsEntry view result r inside p n d (method_node d) → ReadsEntry view result r inside p n d (method_definition d)
   method_read h = required_third (word_at method_kinds (codes "kind") d) (flag_at (codes "computed") d) (flag_at (codes "static") d) (λ kind computed is_static. has_its_kind kind (is_constructor computed is_static d))
