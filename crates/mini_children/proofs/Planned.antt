@@ -1,6 +1,6 @@
 -- The children of a plan are those of the table.
 use Rattle.std.proofs.Common.{◌≡◌, ℕ, List, [], ◌∷◌, refl, subst, Bool, true, false}
-use Rattle.std.specs.Prelude.{⊤, Option, Some, None, option_map, option_and_then, not, ◌&&◌, ◌||◌, is_some, if◌then◌else◌, codes, ℤ}
+use Rattle.std.specs.Prelude.{⊤, Option, Some, None, option_map, option_and_then, ◌&&◌, ◌||◌, if◌then◌else◌, codes, ℤ}
 use Rattle.serde_json.specs.Data.{Data, Num, unsigned, negative, float, null, boolean, number, string, array, object, Items}
 use Rattle.serde_json.specs.Find.{get}
 use Rattle.mini_model.specs.declared.operator.UnaryOperator.{UnaryOperator}
@@ -18,7 +18,6 @@ use Rattle.mini_accept.specs.Plans.{Child, Plan, ItemPart, list, list_child, eac
 use Rattle.mini_accept.specs.Entries.{entry}
 use Rattle.mini_accept.specs.Statements as statement
 use Rattle.mini_accept.specs.Functions as function
-use Rattle.mini_accept.specs.Modules as imports
 use Rattle.mini_accept.specs.Patterns as pattern
 use Rattle.mini_accept.specs.Expressions as expression
 use Rattle.mini_children.specs.Table as table

@@ -1,8 +1,8 @@
 -- What the program's children are as the definitions have them.
-use Rattle.std.specs.Prelude.{ℕ, List, [], ◌∷◌, codes}
+use Rattle.std.specs.Prelude.{List, [], ◌∷◌, codes}
 use Rattle.serde_json.specs.Data.{Data}
 use Rattle.mini_accept.specs.Places.{field, at}
-use Rattle.mini_accept.specs.Plans.{tree_at, inner_at, checked, Child, one, inner, optional, optional_inner}
+use Rattle.mini_accept.specs.Plans.{tree_at, checked, Child, one, inner, optional, optional_inner}
 use Rattle.mini_accept.specs.Statements.{body}
 use Rattle.mini_defects.specs.Lists.{part_of}
 use Rattle.mini_defects.specs.Views.{class_of, depth_of, place_of}

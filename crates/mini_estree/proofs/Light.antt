@@ -1,6 +1,6 @@
 -- A tree that is read weighs little against the values that it was read from.
 use Rattle.std.proofs.Common.{◌≡◌, ℕ, zero, suc, ◌+◌, ◌*◌, ◌^◌, ◌<◌, ◌≤◌, List, [], ◌∷◌, refl, subst, codes, Bool, true, false, cond, arith}
-use Rattle.std.specs.Prelude.{Option, Some, None, option_and_then, Ok, is_some, if◌then◌else◌, ⊤, nat_lt}
+use Rattle.std.specs.Prelude.{Option, Some, None, option_and_then, Ok, is_some, if◌then◌else◌, ⊤}
 use Rattle.serde_json.specs.Data.{Data, Items, no_items, item}
 use Rattle.serde_json.specs.Find.{get, as_null, as_array}
 use Rattle.mini_model.specs.declared.name.Name.{Name}
@@ -11,7 +11,7 @@ use Rattle.mini_model.specs.declared.operator.UnaryOperator.{UnaryOperator}
 use Rattle.mini_model.specs.declared.operator.UnaryOperator.TheVariants.{Typeof, Void, Delete}
 use Rattle.mini_model.specs.declared.shape.Shape.{Shape}
 use Rattle.mini_model.specs.declared.shape.Shape.TheVariants as shape
-use Rattle.mini_model.specs.Tree.{Tree, node, none, ◌▸◌, trees, absent, unresolved, listed}
+use Rattle.mini_model.specs.Tree.{Tree, none, ◌▸◌, trees, absent, unresolved, listed}
 use Rattle.mini_model.specs.Position.{Position, Expr, Stmt, Unwritten, Elsewhere, child_position}
 use Rattle.mini_model.specs.Weight.{Outline, outlines, nth_is_absent, weight, weights, own_weight, text_weight, where_present, spelled_weight, same_text, is_parenthesized, parentheses, is_awkward, awkward_weight, bare_weight, place_weight, unary_operator_weight}
 use Rattle.mini_errors.specs.Faults.{item_step}

@@ -1,13 +1,7 @@
 -- Names and their units.
-use Rattle.std.proofs.Common.{◌≡◌, ℕ, ◌<◌, ◌/◌, ◌%◌, ◌+◌, ◌-◌, ◌^◌, true, false, List, [], ◌∷◌, ◌++◌, flat_map, IsUtf8, refl, inl, inr, arith}
-use Rattle.std.specs.Prelude.{Ok, nat_lt}
-use Rattle.std.specs.Char.Escape.{encode_utf16}
-use Rattle.std.specs.Char.{IsScalar}
-use Rattle.std.specs.Str.{chars}
-use Rattle.std.proofs.Math.Utf8.{scalars, scalar_cases}
-use Rattle.std.proofs.lemmas.Bool.{cases_lt, lt-ltb, ltb-true, and_parts, and_from}
-use Rattle.std.proofs.lemmas.Str.{scalars-chars}
-use Rattle.std.proofs.lemmas.List.Elements.{All-nil, All-cons}
+use Rattle.std.proofs.Common.{◌≡◌, ℕ, ◌-◌, true, false, List, IsUtf8, refl}
+use Rattle.std.specs.Prelude.{Ok}
+use Rattle.std.proofs.lemmas.Bool.{and_parts}
 use Rattle.mini_text.specs.Texts.{units_of, bytes_of, are_units, is_identifier_name}
 use Rattle.mini_text.proofs.Units.{units_of-bytes_of, is_identifier_name-paired, are_units-units_of, AllUnits-are_units}
 use Rattle.mini_errors.specs.Faults.{bad_shape, fault}

@@ -1,6 +1,6 @@
 -- Passes of rewrites give a faithful answer.
 use Rattle.std.proofs.Common.{◌≡◌, ℕ, ◌+◌, ◌<◌, ◌≤◌, ◌^◌, Bool, true, false, List, [], ◌∷◌, ◌++◌, refl, sym, ap, ◌∙◌, subst, arith}
-use Rattle.std.specs.Prelude.{◌&&◌, ◌==◌, Contains, Option, Some}
+use Rattle.std.specs.Prelude.{◌&&◌, ◌==◌, Contains, Some}
 use Rattle.serde_json.specs.Data.{Data}
 use Rattle.serde_json.specs.View.{view}
 use Rattle.mini_model.specs.declared.operator.LogicalOperator.TheVariants.{Or, And}

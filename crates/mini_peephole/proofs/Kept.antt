@@ -1,12 +1,11 @@
 -- Where the negation of an expression is a `!` before it.
-use Rattle.std.proofs.Common.{◌≡◌, Bool, true, false, List, ℕ, refl, sym, ap, ◌∙◌}
+use Rattle.std.proofs.Common.{◌≡◌, Bool, true, false, refl}
 use Rattle.std.specs.Prelude.{not, ◌||◌}
-use Rattle.mini_model.specs.declared.name.Name.{Name}
-use Rattle.mini_model.specs.declared.operator.LogicalOperator.TheVariants.{Or, And, Coalesce}
+use Rattle.mini_model.specs.declared.operator.LogicalOperator.TheVariants.{Or, And}
 use Rattle.mini_model.specs.declared.operator.UnaryOperator.TheVariants.{LogicalNot}
 use Rattle.mini_model.specs.declared.seat.Seat.{Seat}
 use Rattle.mini_model.specs.declared.shape.Shape.TheVariants as shape
-use Rattle.mini_model.specs.Tree.{Tree, Trees, node, none, ◌▸◌, negation}
+use Rattle.mini_model.specs.Tree.{Tree, node, none, ◌▸◌, negation}
 use Rattle.mini_model.specs.Terms.{is_boolean, unwrapped, neg}
 use Rattle.mini_peephole.specs.MinimizeUnary.{keeps_operand}
 

@@ -9,7 +9,7 @@ use Rattle.mini_model.specs.declared.seat.Seat.{Seat}
 use Rattle.mini_model.specs.declared.shape.Shape.{Shape}
 use Rattle.mini_model.specs.declared.shape.Shape.TheVariants as shape
 use Rattle.mini_model.specs.Tree.{Tree, Trees, node, none, ◌▸◌, count, negation}
-use Rattle.mini_model.specs.Position.{Position, Expr, SequenceList, child_position, item_position, operand_seat, conditional_position, branch_seat, passed_part_seat, left_operand_seat, statement_expression_seat, not_operand_seat}
+use Rattle.mini_model.specs.Position.{Position, Expr, SequenceList, child_position, operand_seat, conditional_position, branch_seat, passed_part_seat, left_operand_seat, statement_expression_seat, not_operand_seat}
 use Rattle.mini_model.specs.Weight.{Outline, outlines, weight, weights, own_weight, text_weight, level_of, mixes, is_chain, is_call, is_plain, is_unequal, is_sequence, is_parenthesized}
 use Rattle.mini_model.specs.Terms.{not_of}
 

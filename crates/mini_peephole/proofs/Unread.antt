@@ -1,5 +1,5 @@
 -- The forms that aren't read.
-use Rattle.std.proofs.Common.{◌≡◌, ℕ, Bool, true, false, ◌&&◌, List, [], ◌∷◌, refl, sym, ◌∙◌}
+use Rattle.std.proofs.Common.{◌≡◌, true, false, ◌&&◌, [], ◌∷◌, refl, sym, ◌∙◌}
 use Rattle.std.specs.Prelude.{◌==◌, nat_eq}
 use Rattle.std.proofs.lemmas.Bool.{and_parts}
 use Rattle.mini_model.specs.declared.operator.LogicalOperator.TheVariants.{Or, And}
@@ -11,7 +11,7 @@ use Rattle.mini_model.specs.Position.{Position}
 use Rattle.mini_model.specs.Weight.{outlines, nth_items}
 use Rattle.mini_estree.specs.declared.kind.Class.{Class}
 use Rattle.mini_estree.specs.declared.kind.Class.TheVariants as class
-use Rattle.mini_estree.specs.WellShaped.{Slot, a_node, a_node_or_absent, some_nodes, no_nodes, Below, these, below, has_names, fits, fit}
+use Rattle.mini_estree.specs.WellShaped.{Slot, a_node, a_node_or_absent, some_nodes, no_nodes, these, below, has_names, fits, fit}
 use Rattle.mini_peephole.specs.Pass.{IsRead, is_read_shape, is_read_root, MinimizesParts, left}
 
 -- a call that is read has no arguments

@@ -8,7 +8,7 @@ use Rattle.mini_model.specs.Tree.{Tree, Trees, node, none, ◌▸◌, count}
 use Rattle.mini_model.specs.Position.{Position, child_position}
 use Rattle.mini_model.specs.Weight.{weight, weights, outlines, own_weight}
 use Rattle.mini_model.specs.Redex.{Redex}
-use Rattle.mini_estree.specs.WellShaped.{Slot, a_node, Below, these, any_number_of, refused, has_names, below, fits, fit}
+use Rattle.mini_estree.specs.WellShaped.{a_node, Below, these, any_number_of, refused, has_names, below, fits, fit}
 use Rattle.mini_peephole.specs.Pass.{IsRead, AreRead, done_in, Outcome, OutcomeIn, RootOutcome, Minimizes, MinimizesIn, MinimizesRoot, MinimizesParts, walked, left}
 use Rattle.mini_peephole.proofs.Reaching.{reaches_trans, reaches_in_trans, reaches_inside, reaches_in_count, reaches_first, reaches_later}
 

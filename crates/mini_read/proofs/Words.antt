@@ -1,6 +1,6 @@
 -- The words of meta properties.
-use Rattle.std.proofs.Common.{◌≡◌, subst, ℕ, List, refl, ap, sym, ◌∙◌, Bool, true, false}
-use Rattle.std.specs.Prelude.{Option, Some, None, Result, Ok, option_and_then, option_map, codes}
+use Rattle.std.proofs.Common.{◌≡◌, subst, ℕ, List, refl, ap, ◌∙◌, Bool, true, false}
+use Rattle.std.specs.Prelude.{Option, Some, None, Ok, option_and_then, option_map, codes}
 use Rattle.std.specs.Str.{chars}
 use Rattle.std.specs.Char.Utf16.{utf16_chars}
 use Rattle.serde_json.specs.Data.{Data}

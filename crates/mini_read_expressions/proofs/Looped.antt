@@ -1,6 +1,6 @@
 -- Lists of items that may be no nodes.
-use Rattle.std.proofs.Common.{◌≡◌, ℕ, ◌<◌, ◌+◌, length, get_or, List, [], ◌∷◌, ◌++◌, Bool, drop, refl, sym, subst, ◌∙◌, arith}
-use Rattle.std.specs.Prelude.{Result, Ok, Err, ◌==◌}
+use Rattle.std.proofs.Common.{◌≡◌, ℕ, ◌<◌, ◌+◌, length, get_or, List, [], ◌∷◌, ◌++◌, Bool, drop, refl, sym, subst, ◌∙◌}
+use Rattle.std.specs.Prelude.{Result, Ok, ◌==◌}
 use Rattle.serde_json.specs.View.{view, items_view}
 use Rattle.serde_json.specs.declared.value.Value.{Value}
 use Rattle.mini_model.specs.Tree.{Tree, Trees, none, ◌▸◌, trees}

@@ -1,6 +1,6 @@
 -- What is read by an entry that goes by the node's fields.
 use Rattle.std.proofs.Common.{◌≡◌, subst, ℕ, List, [], ◌∷◌, Bool, true, false}
-use Rattle.std.specs.Prelude.{Option, Some, None, option_map, Result, Ok, Err, codes, ◌&&◌, if◌then◌else◌, ℤ}
+use Rattle.std.specs.Prelude.{Option, Some, None, option_map, Result, Ok, codes, if◌then◌else◌, ℤ}
 use Rattle.serde_json.specs.Data.{Data, Items}
 use Rattle.mini_model.specs.declared.kind.PropertyKind.{PropertyKind}
 use Rattle.mini_model.specs.declared.operator.BinaryOperator.TheVariants.{In}
@@ -13,9 +13,9 @@ use Rattle.mini_accept.specs.Accept.{Reader}
 use Rattle.mini_accept.specs.Expressions as expression
 use Rattle.mini_accept.specs.Fields.{◌>>=◌, require, flag_at, list_at, child_has_type}
 use Rattle.mini_accept.specs.Places.{Place}
-use Rattle.mini_accept.specs.Plans.{Plan, Child, ItemPart, list, list_child, node_of, child, inner}
+use Rattle.mini_accept.specs.Plans.{Plan, Child, ItemPart, list, node_of, child, inner}
 use Rattle.mini_accept.specs.Words.{word_at, property_kinds, unary_operators, binary_operators}
-use Rattle.mini_reading.specs.Reads.{Reads, ReadsEntry}
+use Rattle.mini_reading.specs.Reads.{ReadsEntry}
 use Rattle.mini_reading.specs.declared.reading.Unread.{Unread}
 use Rattle.mini_read_expressions.specs.Calls.{callee_plan}
 

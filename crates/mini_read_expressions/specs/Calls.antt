@@ -1,5 +1,5 @@
 -- How a call of an expression is read.
-use Rattle.std.specs.Prelude.{List, [], ◌∷◌, Bool, Option, codes}
+use Rattle.std.specs.Prelude.{[], ◌∷◌, Bool, Option, codes}
 use Rattle.serde_json.specs.Data.{Data}
 use Rattle.mini_model.specs.declared.shape.Shape.TheVariants as shape
 use Rattle.mini_structure.specs.WellShaped.{Class}

@@ -1,5 +1,5 @@
 -- Entries of which something is required, which is no concern of those who read by them.
-use Rattle.std.proofs.Common.{ℕ, Bool, true, false, Option, Some, None, [], ◌∷◌}
+use Rattle.std.proofs.Common.{ℕ, Bool, false, Option, Some, None, [], ◌∷◌}
 use Rattle.std.specs.Prelude.{Result, codes, ◌&&◌, not, is_some}
 use Rattle.serde_json.specs.Data.{Data}
 use Rattle.mini_model.specs.declared.shape.Shape.TheVariants as shape

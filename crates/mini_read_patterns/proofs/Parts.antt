@@ -1,5 +1,5 @@
 -- Entries that go by flags, and that are there only where something holds.
-use Rattle.std.proofs.Common.{◌≡◌, subst, ℕ, List, Bool, true, false, Option, Some}
+use Rattle.std.proofs.Common.{◌≡◌, subst, ℕ, List, Bool, true, false, Some}
 use Rattle.std.specs.Prelude.{Result, codes, ◌&&◌, is_some, if◌then◌else◌}
 use Rattle.serde_json.specs.Data.{Data}
 use Rattle.mini_model.specs.declared.kind.PropertyKind.{PropertyKind}
@@ -8,10 +8,10 @@ use Rattle.mini_model.specs.Tree.{Tree, Trees}
 use Rattle.mini_structure.specs.WellShaped.{Class}
 use Rattle.mini_accept.specs.Accept.{Reader}
 use Rattle.mini_accept.specs.Expressions.{link_class, member_expression, super_member, computed_member, named_member}
-use Rattle.mini_accept.specs.Fields.{require, flag_at, has_type, child_has_type}
+use Rattle.mini_accept.specs.Fields.{flag_at, has_type, child_has_type}
 use Rattle.mini_accept.specs.Patterns.{pattern_property, binding_property, target_property}
 use Rattle.mini_accept.specs.Places.{Place}
-use Rattle.mini_accept.specs.Plans.{Plan, ItemPart, or_hole, or_rest}
+use Rattle.mini_accept.specs.Plans.{ItemPart, or_hole, or_rest}
 use Rattle.mini_accept.specs.Words.{word_at, property_kinds}
 use Rattle.mini_reading.proofs.Entering.{required}
 use Rattle.mini_reading.specs.Reads.{Reads, ReadsEntry, read_item, part_in}

@@ -1,12 +1,12 @@
 -- Bodies, item by item.
-use Rattle.std.proofs.Common.{◌≡◌, subst, ℕ, suc, ◌<◌, ◌≤◌, ◌+◌, length, get_or, List, [], ◌∷◌, ◌++◌, Bool, true, false, drop, refl, sym, ◌∙◌, ap, add-one, drop-cons}
+use Rattle.std.proofs.Common.{◌≡◌, subst, ℕ, suc, ◌<◌, ◌≤◌, ◌+◌, length, get_or, List, [], ◌∷◌, ◌++◌, Bool, true, false, drop, refl, ◌∙◌, ap, add-one, drop-cons}
 use Rattle.std.proofs.lemmas.List.{drop_all}
 use Rattle.std.specs.Prelude.{codes, Option, Some, None, Ok, Err}
 use Rattle.serde_json.specs.Data.{Data, Items, no_items, item}
 use Rattle.serde_json.specs.View.{view, items_view}
 use Rattle.serde_json.specs.declared.value.Value.{Value}
 use Rattle.mini_model.specs.Paths.{append}
-use Rattle.mini_model.specs.Tree.{Tree, Trees, none, ◌▸◌, trees}
+use Rattle.mini_model.specs.Tree.{Tree, Trees, ◌▸◌, trees}
 use Rattle.mini_structure.specs.WellShaped.{Depth}
 use Rattle.mini_accept.specs.Faults.{◌>>=◌}
 use Rattle.mini_accept.specs.Places.{place, down}

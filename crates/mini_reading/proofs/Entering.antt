@@ -1,5 +1,5 @@
 -- A node without a defect of its own is read by its entry in the table.
-use Rattle.std.proofs.Common.{◌≡◌, ℕ, zero, suc, ◌-◌, ◌<◌, List, refl, sym, ap, ap₂, subst, ◌∙◌, Bool, true, false, arith}
+use Rattle.std.proofs.Common.{◌≡◌, ◌≢◌, inl, inr, ℕ, zero, suc, ◌-◌, ◌<◌, List, refl, sym, ap, ap₂, subst, ◌∙◌, Bool, true, false, arith}
 use Rattle.std.specs.Prelude.{⊤, Option, Some, None, is_some, option_map, option_and_then, Result, Ok, Err, is_err, IfOk, IfErr, IsErr, codes}
 use Rattle.std.specs.Result.{result_err}
 use Rattle.serde_json.specs.Data.{Data}
@@ -27,7 +27,7 @@ use Rattle.mini_defects.specs.Own.{own_defect}
 use Rattle.mini_defects.specs.Views.{defect_of, kind_of_node}
 use Rattle.mini_defects.specs.declared.defect.Defect as found
 use Rattle.mini_defects.specs.declared.kind.Kind as node
-use Rattle.mini_reading.specs.Reads.{is_root, has_number, read_as, Reads, Enters, ReadsEntry}
+use Rattle.mini_reading.specs.Reads.{is_root, has_number, read_as, Reads, Enters, ReadsEntry, HasType, IsRefused, IsRefusedAs}
 
 -- ---- numbers
 
@@ -155,12 +155,14 @@ refused : (m : ℕ) (strict : Bool) (p : Place) (d : Data) → is_some (own_defe
 refused zero strict p d e n = refl
 refused (suc m) strict p d e n = refused_plan (reads m) strict p n d (plan strict p d) e
 
-pub refused_at : (m : ℕ) (strict : Bool) (p : Place) (d : Data) (o : Option found.Defect) → option_map defect_of o ≡ own_defect strict p d → is_some o ≡ true → (n : ℕ) → is_err (reads m strict p n d) ≡ true
-refused_at m strict p d None same e n = absurd (cc e)
-refused_at m strict p d (Some x) same e n = refused m strict p d (rw (← same) refl) n
+pub refused_at : (m : ℕ) (strict : Bool) (p : Place) (d : Data) (o : Option found.Defect) → option_map defect_of o ≡ own_defect strict p d → is_some o ≡ true → IsRefused (λ n. reads m strict p n d)
+unfolding IsRefused
+refused_at m strict p d None same e = absurd (cc e)
+refused_at m strict p d (Some x) same e = λ n. refused m strict p d (rw (← same) refl) n
 
-pub too_deep : (m : ℕ) (strict : Bool) (p : Place) (d : Data) → m ≡ 0 → (n : ℕ) → is_err (reads m strict p n d) ≡ true
-too_deep m strict p d e n = rw e refl
+pub too_deep : (m : ℕ) (strict : Bool) (p : Place) (d : Data) → m ≡ 0 → IsRefused (λ n. reads m strict p n d)
+unfolding IsRefused
+too_deep m strict p d e = λ n. rw e refl
 
 no_plan : (unread stands : Bool) (x : Defect) → is_some (result_err (plan_unless unread stands (Err x))) ≡ true
 no_plan true stands x = refl
@@ -172,8 +174,23 @@ unnamed : (m : ℕ) (strict : Bool) (p : Place) (d : Data) → kind_of d ≡ Non
 unnamed zero strict p d is n = refl
 unnamed (suc m) strict p d is n = refused_plan (reads m) strict p n d (plan strict p d) (rw is (no_plan (is_unread strict p d) (may_stand p d) bad_shape))
 
-pub unnamed_at : (m : ℕ) (strict : Bool) (p : Place) (d : Data) (o : Option node.Kind) → option_map kind_of_node o ≡ kind_of d → o ≡ None → (n : ℕ) → is_err (reads m strict p n d) ≡ true
-unnamed_at m strict p d o same e n = unnamed m strict p d (sym same ∙ ap (option_map kind_of_node) e) n
+pub unnamed_at : (m : ℕ) (strict : Bool) (p : Place) (d : Data) (o : Option node.Kind) → option_map kind_of_node o ≡ kind_of d → o ≡ None → IsRefused (λ n. reads m strict p n d)
+unfolding IsRefused
+unnamed_at m strict p d o same e = λ n. unnamed m strict p d (sym same ∙ ap (option_map kind_of_node) e) n
+
+-- the type that was found
+pub typed : (d : Data) (k : node.Kind) (o : Option node.Kind) → option_map kind_of_node o ≡ kind_of d → o ≡ Some k → HasType k d
+unfolding HasType
+typed d k o same e = sym same ∙ ap (option_map kind_of_node) e
+
+-- what isn't entered as a node of a type
+pub refused_as : (k : node.Kind) (whole : ℕ → Read Tree) (d : Data) → IsRefused whole → IsRefusedAs k whole d
+unfolding IsRefusedAs
+refused_as k whole d h = inl h
+
+pub other_type : (k other : node.Kind) (whole : ℕ → Read Tree) (d : Data) → HasType other d → other ≢ k → IsRefusedAs k whole d
+unfolding IsRefusedAs
+other_type k other whole d is differs = inr (other, is, differs)
 
 pub if_ok : {A E : Type 0} (P : A → Type 0) (o : Result A E) → IsErr o → IfOk o P
 if_ok P (Ok x) h = absurd (cc h)

@@ -1,5 +1,5 @@
 -- What a call that reads gives back, and how a node is read by its entry in the table.
-use Rattle.std.specs.Prelude.{◌≡◌, ◌≢◌, ⊤, ℕ, suc, List, [], Bool, false, Option, Some, None, Result, Ok, Err}
+use Rattle.std.specs.Prelude.{◌≡◌, ◌≢◌, ⊤, ◌⊎◌, ℕ, suc, List, [], Bool, true, false, Option, Some, None, Result, Ok, Err, is_err}
 use Rattle.std.specs.Borrow.{Bor}
 use Rattle.serde_json.specs.View.{view}
 use Rattle.serde_json.specs.declared.value.Value.{Value}
@@ -50,9 +50,21 @@ abbrev pub Enters : (ℕ → Read Tree) → Reader → Bool → Place → Data �
 Enters whole read inside p d None = ⊥
 Enters whole read inside p d (Some x) = (n : ℕ) → whole n ≡ read_as read inside p n d x
 
+-- the node names this type
+unfoldable pub HasType : Kind → Data → Type 0
+HasType k d = kind_of d ≡ Some (kind_of_node k)
+
 -- the node names a type other than this
 abbrev pub IsOfAnotherType : Kind → Data → Type 0
-IsOfAnotherType k d = (other : Kind) × (kind_of d ≡ Some (kind_of_node other)) × (other ≢ k)
+IsOfAnotherType k d = (other : Kind) × HasType other d × (other ≢ k)
+
+-- the node isn't read, from whatever number
+unfoldable pub IsRefused : (ℕ → Read Tree) → Type 0
+IsRefused whole = (n : ℕ) → is_err (whole n) ≡ true
+
+-- nor is it as a node of this type
+unfoldable pub IsRefusedAs : Kind → (ℕ → Read Tree) → Data → Type 0
+IsRefusedAs k whole d = IsRefused whole ⊎ IsOfAnotherType k d
 
 -- what was returned is what reading by the entry gives, if there is one
 abbrev pub ReadsEntry : {X E : Type 0} → (X → Tree) → Result (X × ℕ) E → Reader → Bool → Place → ℕ → Data → Option Plan → Type 0

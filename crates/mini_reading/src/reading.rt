@@ -1,12 +1,11 @@
 // How a node is read: with what memory, in strict or sloppy code, and how deep it may nest.
 
-ghost use Rattle.std.specs.Prelude.{◌≡◌, ◌∷◌, ◌⊎◌, ℕ, suc, true, Some, IfOk, IfErr, is_err};
+ghost use Rattle.std.specs.Prelude.{◌≡◌, ◌∷◌, suc, IfOk, IfErr};
 ghost use Rattle.serde_json.specs.View.{view};
 ghost use Rattle.mini_accept.specs.Accept.{reads};
 ghost use Rattle.mini_accept.specs.Entries.{entry};
-ghost use Rattle.mini_accept.specs.Fields.{kind_of};
 ghost use Rattle.mini_defects.specs.Views.{kind_of_node, place_of};
-ghost use Rattle.mini_reading.specs.Reads.{Enters, IsOfAnotherType};
+ghost use Rattle.mini_reading.specs.Reads.{Enters, HasType, IsRefused, IsRefusedAs};
 
 use mini_children::inside;
 use mini_defects::{Class, Kind, Place, kind_of, own_defect};
@@ -40,8 +39,8 @@ pub struct Reading {
 #[tactic(auto, using(crate::proofs::Entering::opened_there))]
 pub fn open(cx: Reading, place: Place, value: &Value) -> Result<(Kind, Reading), Unread>
     ensures entered { IfOk result (λ r. Enters (λ n. reads cx.depth cx.strict (place_of place) n (view value.now)) (reads r.1.depth) r.1.strict (place_of place) (view value.now) (entry (kind_of_node r.0) (place_of place) (view value.now))) }
-    ensures its_type { IfOk result (λ r. kind_of (view value.now) ≡ Some (kind_of_node r.0)) }
-    ensures refused { IfErr result (λ e. (n : ℕ) → is_err (reads cx.depth cx.strict (place_of place) n (view value.now)) ≡ true) }
+    ensures its_type { IfOk result (λ r. HasType r.0 (view value.now)) }
+    ensures refused { IfErr result (λ e. IsRefused (λ n. reads cx.depth cx.strict (place_of place) n (view value.now))) }
 {
     if cx.depth == 0 {
         return Err(Unread);
@@ -65,7 +64,7 @@ pub fn open(cx: Reading, place: Place, value: &Value) -> Result<(Kind, Reading),
 #[tactic(auto, using(crate::proofs::Entering::as_found))]
 pub fn enter(cx: Reading, place: Place, kind: Kind, value: &Value) -> Result<Reading, Unread>
     ensures entered { IfOk result (λ below. Enters (λ n. reads cx.depth cx.strict (place_of place) n (view value.now)) (reads below.depth) below.strict (place_of place) (view value.now) (entry (kind_of_node kind) (place_of place) (view value.now))) }
-    ensures refused { IfErr result (λ e. ((n : ℕ) → is_err (reads cx.depth cx.strict (place_of place) n (view value.now)) ≡ true) ⊎ IsOfAnotherType kind (view value.now)) }
+    ensures refused { IfErr result (λ e. IsRefusedAs kind (λ n. reads cx.depth cx.strict (place_of place) n (view value.now)) (view value.now)) }
 {
     let (found, below) = open(cx, place, value)?;
     if found == kind {

@@ -1,5 +1,5 @@
 -- The weight of a node at its places: what it writes itself, what the place adds, and its parts.
-use Rattle.std.proofs.Common.{◌≡◌, refl, ◌∙◌, ℕ, ◌+◌, ◌*◌, ◌≤◌, Bool, true, false, not, List, [], length, arith}
+use Rattle.std.proofs.Common.{◌≡◌, refl, ℕ, ◌+◌, ◌*◌, ◌≤◌, Bool, true, false, not, List, [], length, arith}
 use Rattle.std.specs.Prelude.{ℤ, pos, negsuc}
 use Rattle.std.proofs.lemmas.Grind.{common_steps}
 use Rattle.std.specs.Fmt.{signed_decimal}
@@ -8,8 +8,8 @@ use Rattle.mini_model.specs.declared.seat.StmtSeat.{StmtSeat}
 use Rattle.mini_model.specs.declared.seat.StmtSeat.TheVariants as stmt_seat
 use Rattle.mini_model.specs.declared.shape.Shape.TheVariants as shape
 use Rattle.mini_model.specs.Tree.{Tree, node, none, ◌▸◌, absent, leaf}
-use Rattle.mini_model.specs.Position.{Position, Expr, Stmt, Target, Method, Unwritten, Elsewhere, seat_at, whole_seat, argument_seat, written_key_position}
-use Rattle.mini_model.specs.Weight.{weight, outline, flagged, function_weight, quoted_weight}
+use Rattle.mini_model.specs.Position.{Position, Expr, Stmt, Target, Elsewhere, seat_at, argument_seat, written_key_position}
+use Rattle.mini_model.specs.Weight.{weight, outline, flagged, quoted_weight}
 use Rattle.mini_ast.specs.Plain.{expression_tree, statement_tree, binding_pattern_tree, assignment_target_tree, identifier_name, private_identifier}
 use Rattle.mini_ast.specs.declared.expression.Expression.{Expression}
 use Rattle.mini_ast.specs.declared.expression.Expression.TheVariants as expression

@@ -1,12 +1,11 @@
 -- The body of an arrow function is told by what is written of it.
-use Rattle.std.proofs.Common.{◌≡◌, ℕ, List, [], ◌∷◌, refl, sym, ap, ◌∙◌, subst, Bool, true, false, true≢false}
+use Rattle.std.proofs.Common.{◌≡◌, ℕ, List, refl, sym, subst, true, false, true≢false}
 use Rattle.std.specs.Prelude.{ℤ, pos, negsuc}
-use Rattle.serde_json.specs.Data.{Data, null, boolean, number, string, array, object, Items}
-use Rattle.mini_model.specs.Tree.{Tree, trees}
+use Rattle.serde_json.specs.Data.{Data, array}
+use Rattle.mini_model.specs.Tree.{Tree}
 use Rattle.mini_ast.specs.declared.expression.Expression.{Expression}
 use Rattle.mini_ast.specs.declared.expression.Expression.TheVariants as expression
-use Rattle.mini_ast.specs.Plain.{expression_tree, numeric_literal_tree}
-use Rattle.mini_ast.specs.declared.literal.NumericLiteral.{NumericLiteral}
+use Rattle.mini_ast.specs.Plain.{expression_tree}
 use Rattle.mini_written.specs.Written.{tree_data, is_expression, number_literal}
 use Rattle.mini_written.specs.Written as written
 

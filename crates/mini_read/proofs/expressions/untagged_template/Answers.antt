@@ -1,11 +1,5 @@
-use Rattle.std.proofs.Common.{rules, true, false}
-use Rattle.serde_json.specs.View.{view}
-use Rattle.mini_accept.specs.Accept.{reads}
-use Rattle.mini_accept.specs.Functions as functions
-use Rattle.mini_accept.specs.Statements as statements
-use Rattle.mini_accept.specs.Entries.{entry}
-use Rattle.mini_accept.specs.Places.{at}
-use Rattle.mini_defects.specs.Views.{class_of, kind_of_node, letters_of}
+use Rattle.std.proofs.Common.{rules}
+use Rattle.mini_defects.specs.Views.{class_of}
 use Rattle.mini_read.proofs.expressions.untagged_template.Goals as goal
 
 pub returns : goal.returns

@@ -1,11 +1,7 @@
-use Rattle.std.proofs.Common.{rules, true, false}
 use Rattle.serde_json.specs.View.{view}
 use Rattle.mini_accept.specs.Accept.{reads}
-use Rattle.mini_accept.specs.Functions as functions
 use Rattle.mini_accept.specs.Statements as statements
-use Rattle.mini_accept.specs.Entries.{entry}
 use Rattle.mini_accept.specs.Places.{at}
-use Rattle.mini_defects.specs.Views.{class_of, kind_of_node, letters_of}
 use Rattle.mini_ast.specs.Plain.{variable_declaration_tree}
 use Rattle.mini_read_expressions.proofs.Planned.{seen}
 use Rattle.mini_read.proofs.statements.declared_variables.Goals as goal

@@ -1,7 +1,5 @@
-use Rattle.std.proofs.Common.{rules}
 use Rattle.serde_json.specs.View.{view}
 use Rattle.mini_accept.specs.Accept.{reads}
-use Rattle.mini_accept.specs.Expressions as expression
 use Rattle.mini_accept.specs.Places.{at}
 use Rattle.mini_ast.specs.Plain.{private_field_expression_tree}
 use Rattle.std.specs.Prelude.{[], ◌∷◌, codes}

@@ -1,4 +1,3 @@
-use Rattle.std.proofs.Common.{rules}
 use Rattle.serde_json.specs.View.{view}
 use Rattle.mini_accept.specs.Accept.{reads}
 use Rattle.mini_accept.specs.Expressions as expression

@@ -1,10 +1,7 @@
-use Rattle.std.proofs.Common.{rules, ◌≡◌, true, false}
-use Rattle.std.specs.Prelude.{codes, option_map, Some}
+use Rattle.std.proofs.Common.{rules}
 use Rattle.serde_json.specs.View.{view}
 use Rattle.mini_accept.specs.Accept.{reads}
-use Rattle.mini_accept.specs.Fields.{child_has_type}
 use Rattle.mini_accept.specs.Places.{at}
-use Rattle.mini_defects.specs.Views.{class_of}
 use Rattle.mini_ast.specs.Plain.{object_property_tree}
 use Rattle.mini_read_expressions.proofs.Planned.{property_read}
 use Rattle.mini_read_expressions.proofs.objects.object_property.Goals as goal

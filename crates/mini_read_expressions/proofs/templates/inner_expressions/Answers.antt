@@ -1,10 +1,5 @@
-use Rattle.std.proofs.Common.{rules, ◌≡◌, true, false}
-use Rattle.std.specs.Prelude.{codes, option_map, Some}
-use Rattle.serde_json.specs.View.{view}
+use Rattle.std.proofs.Common.{rules}
 use Rattle.mini_accept.specs.Accept.{reads}
-use Rattle.mini_accept.specs.Fields.{child_has_type}
-use Rattle.mini_accept.specs.Places.{at}
-use Rattle.mini_defects.specs.Views.{class_of}
 use Rattle.mini_ast.specs.Plain.{inner_expression_tree}
 use Rattle.mini_accept.specs.Expressions.{piece_part}
 use Rattle.mini_structure.specs.WellShaped.{tagged}
