@@ -12,6 +12,7 @@ ghost use Rattle.mini_accept.specs.Patterns as pattern;
 ghost use Rattle.mini_accept.specs.Places.{at, field};
 ghost use Rattle.mini_defects.specs.Views.{class_of};
 ghost use Rattle.mini_reading.specs.Reads.{AllRead, Reads, ReadsAt, ReadsEntry};
+ghost use Rattle.mini_read_patterns.specs.Written.{is_written};
 
 use mini_ast::{
     AssignmentTargetProperty, AssignmentTargetPropertyIdentifier,
@@ -33,7 +34,8 @@ fn is_same_name(one: &Name, other: &Name) -> bool
 
 /// Whether an identifier that stands there is a name that is written.
 pub fn is_written(class: Class) -> bool
-    ensures { result ≡ true → (s : List ℕ) → identifier_as (class_of class) s ≡ identifier_by shape.Identifier s }
+    ensures exact { result ≡ is_written (class_of class) }
+    ensures names { result ≡ true → (s : List ℕ) → identifier_as (class_of class) s ≡ identifier_by shape.Identifier s }
 {
     matches!(
         class,
