@@ -284,7 +284,7 @@ swapped_calls : Contracts (Expr statement_expression_seat) (conditional (negatio
 swapped_calls = record { row = inr (record { a = a; b = called b; c = called c; shape = refl; written = refl }); lighter = lit< tt }
 
 -- in two steps, from 48 to 22
-two_steps : Reaches item (if_else (negation a) (call_statement b) (call_statement c)) (expression_statement (conditional a (called c) (called b)))
+two_steps : Reaches Contracts item (if_else (negation a) (call_statement b) (call_statement c)) (expression_statement (conditional a (called c) (called b)))
 two_steps = more _ _ _ _ (here _ _ _ conditional_written) (more _ _ _ _ (inside _ _ _ _ _ _ (first _ _ _ _ (here _ _ _ swapped_calls))) (done _ _))
 
 -- the other kinds

@@ -17,27 +17,8 @@ use Rattle.mini_model.specs.declared.seat.Mix.TheVariants as mix
 use Rattle.mini_model.specs.declared.seat.Guard.TheVariants as guard
 use Rattle.mini_model.specs.declared.shape.Shape.{Shape}
 use Rattle.mini_model.specs.declared.shape.Shape.TheVariants as shape
-
-pub data Position : Type 0 where
-  -- an expression in its seat; the head of a `for` may hold a declaration there, and the place of an arrow's body its
-  -- statements
-  Expr : Seat → Position
-  Stmt : StmtSeat → Position
-  -- what is assigned to; the head of a loop may hold a declaration there
-  Target : Position
-  -- the function that a method or an accessor is
-  Method : Position
-  -- the key of a shorthand property, which its value spells
-  Unwritten : Position
-  -- lists: of statements, of expressions with commas between them, of the parts of a sequence in its seat, of the
-  -- expressions of a template, and of other parts with commas between them
-  StatementList : Position
-  ArgumentList : Position
-  SequenceList : Seat → Position
-  TemplateList : Position
-  CommaList : Position
-  -- a place of no such kind, or a list without commas
-  Elsewhere : Position
+pub use Rattle.mini_model.specs.declared.place.Position.{Position}
+pub use Rattle.mini_model.specs.declared.place.Position.TheVariants.{Expr, Stmt, Target, Method, Unwritten, StatementList, ArgumentList, SequenceList, TemplateList, CommaList, Elsewhere}
 
 -- a seat with no mark
 abbrev pub seat_of_level : ℕ → Seat

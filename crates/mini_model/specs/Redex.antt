@@ -6,6 +6,7 @@ use Rattle.mini_model.specs.declared.seat.Seat.{Seat}
 use Rattle.mini_model.specs.Tree.{Tree, Trees, node, none, ◌▸◌, count, expression_statement, if_else, if_alone, negation, logical, conditional}
 use Rattle.mini_model.specs.Position.{Position, Expr, Stmt, child_position, statement_expression_seat, left_operand_seat}
 use Rattle.mini_model.specs.Weight.{weight}
+use Rattle.mini_model.specs.Rewriting.{Everywhere, EverywhereIn}
 use Rattle.mini_model.specs.Terms.{neg, not_of, has_negated_result}
 
 -- 23: `!e` becomes the negation of e
@@ -62,11 +63,13 @@ pub record Redex (p : Position) (n : Tree) : Type 0 where
   pub to : Tree
   pub contracts : Contracts p n to
 
--- no node of the tree is a redex in its place
-abbrev mutual
-  pub HasNoRedex : Position → Tree → Type 0
-  HasNoRedex p (node h xs n ts) = (Redex p (node h xs n ts) → ⊥) × HaveNoRedex (child_position h p (count ts)) ts
+-- there is nothing to rewrite at the node in its place
+abbrev pub IsSettled : Position → Tree → Type 0
+IsSettled p n = Redex p n → ⊥
 
-  pub HaveNoRedex : (ℕ → Position) → Trees → Type 0
-  HaveNoRedex π none = Unit {0}
-  HaveNoRedex π (t ▸ ts) = HasNoRedex (π zero) t × HaveNoRedex (λ i. π (suc i)) ts
+-- no node of the tree is a redex in its place
+abbrev pub HasNoRedex : Position → Tree → Type 0
+HasNoRedex p n = Everywhere IsSettled p n
+
+abbrev pub HaveNoRedex : (ℕ → Position) → Trees → Type 0
+HaveNoRedex π ts = EverywhereIn IsSettled π ts

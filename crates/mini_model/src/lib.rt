@@ -8,6 +8,7 @@
 mod kind;
 mod name;
 mod operator;
+mod place;
 mod seat;
 mod shape;
 
@@ -16,5 +17,6 @@ pub use name::{Name, SymbolId};
 pub use operator::{
     AssignmentOperator, BinaryOperator, LogicalOperator, UnaryOperator, UpdateOperator,
 };
+pub use place::Position;
 pub use seat::{Guard, Mix, Seat, StmtSeat};
 pub use shape::Shape;

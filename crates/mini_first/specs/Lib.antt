@@ -1,4 +1,0 @@
-pub mod Plain
-pub mod Falls
-pub mod Lends
-pub mod Four

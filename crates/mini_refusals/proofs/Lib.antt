@@ -1,4 +1,0 @@
-pub mod Blamed
-pub mod Read
-pub mod Planned
-pub mod Items

@@ -1,9 +1,0 @@
-use Rattle.std.proofs.Common.{◌≡◌, drop}
-use Rattle.mini_ast.specs.Plain.{export_specifier_tree}
-use Rattle.mini_model.specs.Tree.{trees}
-use Rattle.mini_written.specs.Written.{trees_data}
-use Rattle.mini_writing.proofs.Items.{with_values}
-use Rattle.mini_write_statements.proofs.modules.export_specifiers.Given as goal
-
-abbrev pub invariant-loop-part : goal.invariant-loop-part
-invariant-loop-part l = with_values l.values.items (trees_data (trees export_specifier_tree (drop l.part-index l.list))) ≡ trees_data (trees export_specifier_tree l.list)
