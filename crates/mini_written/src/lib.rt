@@ -5,7 +5,7 @@
 mod members;
 mod words;
 
-pub use members::{Key, Member, node, plain_object, text_value};
+pub use members::{Key, Member, key_text, node, plain_object, text_value};
 pub use words::{
     assignment_word, binary_word, class_type, function_type, logical_word, method_word,
     property_word, source_type, unary_word, update_word, variable_word,

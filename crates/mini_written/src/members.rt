@@ -139,8 +139,8 @@ pub enum Key {
     Value,
 }
 
-// The name.
-fn key_text(key: Key) -> &'static str
+/// The name of a field, as it stands in JSON.
+pub fn key_text(key: Key) -> &'static str
     ensures { result.now ≡ key_text key }
 {
     match key {

@@ -1,0 +1,208 @@
+// The nodes that no row has: what stands for others, leaves, texts, and what has directives.
+
+ghost use Rattle.std.specs.Prelude.{◌≡◌, codes, decimal, IfOk, MatchOption};
+ghost use Rattle.serde_json.specs.Data.{Data, null, string, object, member, no_members};
+ghost use Rattle.serde_json.specs.View.{view, items_view};
+ghost use Rattle.mini_text.specs.Texts.{bytes_of};
+ghost use Rattle.mini_node.specs.Children.{names};
+ghost use Rattle.mini_written.specs.Objects as objects;
+ghost use Rattle.mini_written.specs.Written as written;
+ghost use Rattle.mini_writer.specs.Special.{special_data};
+ghost use Rattle.mini_written.specs.Written.{of_one};
+
+use crate::bodies::{arrow, function, program};
+use itoa::Buffer;
+use mini_model::{Name, Shape, UnaryOperator};
+use mini_text::Text;
+use mini_written::{Key, Member, node, plain_object, text_value, unary_word};
+use serde_json::Value;
+use std::alloc::{AllocError, Global};
+
+// ---- texts
+
+/// The text, in UTF-8.
+pub fn text(alloc: Global, units: &Text) -> Result<Value, AllocError>
+    ensures { IfOk result (λ v. view v ≡ string (bytes_of units.now)) }
+{
+    match units.to_utf8(alloc) {
+        Ok(text) => text_value(alloc, text.as_str()),
+        Err(_) => Err(AllocError),
+    }
+}
+
+fn bare(alloc: Global, kind: &str) -> Result<Value, AllocError>
+    ensures { IfOk result (λ v. view v ≡ object (member (codes "type") (string kind.now) no_members)) }
+{
+    node(alloc, kind, Vec::new(alloc))
+}
+
+// `Identifier`
+fn identifier(alloc: Global, spelling: &Text) -> Result<Value, AllocError>
+    ensures { IfOk result (λ v. view v ≡ objects.identifier (bytes_of spelling.now)) }
+{
+    let name = text(alloc, spelling)?;
+    node(
+        alloc,
+        "Identifier",
+        Vec::from_array(alloc, [Member(Key::Name, name)])?,
+    )
+}
+
+// `Identifier` of a node's name.
+fn name(alloc: Global, name: &Option<Name>) -> Result<Value, AllocError>
+    ensures { IfOk result (λ v. view v ≡ written.name_of (names name.now)) }
+{
+    match name {
+        None => Ok(Value::Null),
+        Some(name) => identifier(alloc, &name.spelling),
+    }
+}
+
+// `PrivateIdentifier`
+fn private_identifier(alloc: Global, spelling: &Text) -> Result<Value, AllocError>
+    ensures { IfOk result (λ v. view v ≡ objects.private_identifier (bytes_of spelling.now)) }
+{
+    let name = text(alloc, spelling)?;
+    let members = Vec::from_array(alloc, [Member(Key::Name, name)])?;
+    node(alloc, "PrivateIdentifier", members)
+}
+
+// ---- literals
+
+// `Literal` of a value.
+fn literal(alloc: Global, value: Value) -> Result<Value, AllocError>
+    ensures { IfOk result (λ v. view v ≡ object (member (codes "type") (string (codes "Literal")) (member (codes "value") (view value) no_members))) }
+{
+    node(
+        alloc,
+        "Literal",
+        Vec::from_array(alloc, [Member(Key::Value, value)])?,
+    )
+}
+
+// `Literal` of a number, below 0 with a minus before it.
+fn number(alloc: Global, value: i64) -> Result<Value, AllocError>
+    ensures { IfOk result (λ v. view v ≡ written.number_literal value) }
+{
+    let found = literal(alloc, Value::from(value.unsigned_abs()))?;
+    if value >= 0 {
+        return Ok(found);
+    }
+    let minus = text_value(alloc, unary_word(UnaryOperator::UnaryNegation))?;
+    let members = Vec::from_array(
+        alloc,
+        [
+            Member(Key::Operator, minus),
+            Member(Key::Prefix, Value::Bool(true)),
+            Member(Key::Argument, found),
+        ],
+    )?;
+    node(alloc, "UnaryExpression", members)
+}
+
+// `Literal` of a regular expression.
+fn reg_exp(alloc: Global, pattern: &Text, flags: &Text) -> Result<Value, AllocError>
+    ensures { IfOk result (λ v. view v ≡ objects.reg_exp_literal (bytes_of pattern.now) (bytes_of flags.now)) }
+{
+    let pattern = text(alloc, pattern)?;
+    let flags = text(alloc, flags)?;
+    let members = Vec::from_array(
+        alloc,
+        [Member(Key::Flags, flags), Member(Key::Pattern, pattern)],
+    )?;
+    let regex = plain_object(alloc, members)?;
+    let members = Vec::from_array(
+        alloc,
+        [Member(Key::Regex, regex), Member(Key::Value, Value::Null)],
+    )?;
+    node(alloc, "Literal", members)
+}
+
+// `Literal` of a BigInt.
+fn big_int(alloc: Global, value: u128) -> Result<Value, AllocError>
+    ensures { IfOk result (λ v. view v ≡ objects.big_int_literal (decimal value)) }
+{
+    let mut buffer = Buffer::new();
+    let digits = text_value(alloc, buffer.format(value))?;
+    let members = Vec::from_array(
+        alloc,
+        [Member(Key::Bigint, digits), Member(Key::Value, Value::Null)],
+    )?;
+    node(alloc, "Literal", members)
+}
+
+// The cooked text, or null where the raw one is malformed.
+fn cooked_text(alloc: Global, cooked: &Option<Text>) -> Result<Value, AllocError>
+    ensures { IfOk result (λ v. view v ≡ written.cooked_text cooked.now) }
+{
+    match cooked {
+        None => Ok(Value::Null),
+        Some(units) => text(alloc, units),
+    }
+}
+
+// `TemplateElement`
+fn quasi(alloc: Global, tail: bool, raw: &Text, cooked: &Option<Text>) -> Result<Value, AllocError>
+    ensures { IfOk result (λ v. view v ≡ objects.template_element tail (bytes_of raw.now) (written.cooked_text cooked.now)) }
+{
+    let raw = text(alloc, raw)?;
+    let cooked = cooked_text(alloc, cooked)?;
+    let members = Vec::from_array(alloc, [Member(Key::Raw, raw), Member(Key::Cooked, cooked)])?;
+    let texts = plain_object(alloc, members)?;
+    let members = Vec::from_array(
+        alloc,
+        [
+            Member(Key::Tail, Value::Bool(tail)),
+            Member(Key::Value, texts),
+        ],
+    )?;
+    node(alloc, "TemplateElement", members)
+}
+
+// ---- children
+
+/// The only value, if there is just one.
+#[tactic(auto, using(crate::proofs::Values::only_one, crate::proofs::Values::more_than_one, crate::proofs::Values::none_of_one))]
+pub fn one(below: Vec<Value>) -> Option<Value>
+    ensures { MatchOption result ((f : Data → Data) → of_one f (items_view below.items) ≡ null) (λ v. (f : Data → Data) → of_one f (items_view below.items) ≡ f (view v)) }
+{
+    let mut rest = below;
+    let last = rest.pop()?;
+    if rest.is_empty() { Some(last) } else { None }
+}
+
+/// What is written for a leaf, or for a node that stands for its one child; null for another one.
+pub fn special_value(
+    alloc: Global,
+    shape: &Shape,
+    spelled: &Option<Name>,
+    below: Vec<Value>,
+) -> Result<Value, AllocError>
+    ensures { IfOk result (λ v. view v ≡ special_data shape.now (names spelled.now) (items_view below.items)) }
+{
+    match shape {
+        Shape::Absent => Ok(Value::Null),
+        Shape::Listed => Ok(Value::Array(below)),
+        Shape::InnerExpression | Shape::FunctionBody => Ok(one(below).unwrap_or(Value::Null)),
+        Shape::EmptyStatement => bare(alloc, "EmptyStatement"),
+        Shape::DebuggerStatement => bare(alloc, "DebuggerStatement"),
+        Shape::ThisExpression => bare(alloc, "ThisExpression"),
+        Shape::Super => bare(alloc, "Super"),
+        Shape::Identifier | Shape::BindingIdentifier => name(alloc, spelled),
+        Shape::IdentifierName(text) => identifier(alloc, text),
+        Shape::PrivateIdentifier(text) => private_identifier(alloc, text),
+        Shape::NumericLiteral(value) => number(alloc, *value),
+        Shape::StringLiteral(units) => literal(alloc, text(alloc, units)?),
+        Shape::BooleanLiteral(value) => literal(alloc, Value::Bool(*value)),
+        Shape::NullLiteral => literal(alloc, Value::Null),
+        Shape::RegExpLiteral(pattern, flags) => reg_exp(alloc, pattern, flags),
+        Shape::BigIntLiteral(value) => big_int(alloc, *value),
+        Shape::TemplateElement(tail, raw, cooked) => quasi(alloc, *tail, raw, cooked),
+        Shape::Program(is_module, texts) => program(alloc, *is_module, texts, below),
+        Shape::Function(declaration, generator, texts) => {
+            function(alloc, *declaration, *generator, texts, below)
+        }
+        Shape::ArrowFunctionExpression(texts) => arrow(alloc, texts, below),
+        _ => Ok(Value::Null),
+    }
+}
