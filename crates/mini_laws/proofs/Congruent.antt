@@ -5,31 +5,33 @@ use Rattle.mini_model.specs.Tree.{Tree, Trees, node, none, ◌▸◌, count}
 use Rattle.mini_meaning.specs.Value.{Variable, VariableSet, variables, nothing}
 use Rattle.mini_meaning.specs.State.{State, Completion, ok, stop, halt, out, Environment, seen}
 use Rattle.mini_meaning.specs.Demand.{Demand, Request}
-use Rattle.mini_meaning.specs.Naming.{summary, summaries, facts, facts_of}
-use Rattle.mini_meaning.specs.Step.{demand, means}
+use Rattle.mini_meaning.specs.Naming.{summary, summaries, facts}
+use Rattle.mini_meaning.specs.Asking.{demand}
+use Rattle.mini_meaning.specs.Step.{means}
 use Rattle.mini_meaning.specs.Body.{Outcome, body_demand, body_request, outcome_of_reply, outcome_of_stop, outcome_of_halt, ran, ends_as, start_of}
 use Rattle.mini_meaning.specs.Same.{Goes, Initialised, Agree, Same}
 use Rattle.mini_meaning.specs.Skeleton.{Within, Off, hidden, hidden_all, needs, Rules, Both, TreesGo}
 use Rattle.mini_laws.specs.Path.{Path, join, plug}
 use Rattle.mini_laws.specs.Congruence as law
-use Rattle.mini_laws.specs.Congruence.{NoneIn, dead_rules, Avoids, AllAvoid, PathAvoids, demand_at, known_at, Apart}
+use Rattle.mini_laws.specs.Congruence.{NoneIn, dead_rules, Avoids, AllAvoid, PathAvoids, demand_at, known_at, ReadAlike, Apart}
 use Rattle.mini_laws.specs.Sameness as order
 use Rattle.mini_laws.proofs.Simulation.{goes_map, within_refl, init_less}
 use Rattle.mini_laws.proofs.Fundamental.{one_node, PlaceGo, place_none, place_cons}
-use Rattle.mini_laws.proofs.Dead.{seen_agree, dead_sound, dead_self, alive_like}
+use Rattle.mini_laws.proofs.Dead.{seen_agree, dead_sound, dead_self, AllAlike, alike_self, all_alike_self, alike_cons, summary_alike, alive_alike}
 
 -- what a parent reads of its children
 
-facts_join : (pre post : Trees) (n w : Tree) → (summary n).facts ≡ (summary w).facts → facts (join pre n post) ≡ facts (join pre w post)
-facts_join none post n w e = ap (λ f. f ∷ facts post) e
-facts_join (t ▸ pre) post n w e = ap (λ fs. (summary t).facts ∷ fs) (facts_join pre post n w e)
+module _ (D : VariableSet) (e : Environment) where
+  pub summaries_join : (pre post : Trees) (n w : Tree) → ReadAlike D e (summary n) (summary w) → AllAlike D e (summaries (join pre n post)) (summaries (join pre w post))
+  summaries_join none post n w a = alike_cons D e (summary n) (summary w) (summaries post) (summaries post) a (all_alike_self D e (summaries post))
+  summaries_join (t ▸ pre) post n w a = alike_cons D e (summary t) (summary t) _ _ (alike_self D e (summary t)) (summaries_join pre post n w a)
 
-facts_plug : (k : Path) (n w : Tree) → (summary n).facts ≡ (summary w).facts → (summary (plug k n)).facts ≡ (summary (plug k w)).facts
-facts_plug Path.here n w e = e
-facts_plug (Path.inside h xs m pre k post) n w e = ap (facts_of h) (facts_join pre post (plug k n) (plug k w) (facts_plug k n w e))
+  pub summary_plug : (k : Path) (n w : Tree) → ReadAlike D e (summary n) (summary w) → ReadAlike D e (summary (plug k n)) (summary (plug k w))
+  summary_plug Path.here n w a = a
+  summary_plug (Path.inside h xs m pre k post) n w a = summary_alike D e h (variables xs) m _ _ (summaries_join pre post (plug k n) (plug k w) (summary_plug k n w a))
 
 module _ (D : VariableSet) (e : Environment) (apart : Apart e D) where
-  kids_self : (ts : Trees) → AllAvoid D ts → (X : ℕ → VariableSet) (σ : ℕ → Demand) → PlaceGo (dead_rules D e) (dead_sound D e apart) X σ (hidden_all ts) ts ts
+  pub kids_self : (ts : Trees) → AllAvoid D ts → (X : ℕ → VariableSet) (σ : ℕ → Demand) → PlaceGo (dead_rules D e) (dead_sound D e apart) X σ (hidden_all ts) ts ts
   kids_self none a X σ = place_none (dead_rules D e) (dead_sound D e apart) X σ
   kids_self (t ▸ ts) a X σ = place_cons (dead_rules D e) (dead_sound D e apart) t t ts ts X σ (dead_self D e apart t a.0 (X 0) (σ 0)) (kids_self ts a.1 (λ i. X (suc i)) (λ i. σ (suc i)))
 
@@ -37,12 +39,13 @@ module _ (D : VariableSet) (e : Environment) (apart : Apart e D) where
   kids_join none post n w a b X σ g = place_cons (dead_rules D e) (dead_sound D e apart) n w post post X σ g (kids_self post b (λ i. X (suc i)) (λ i. σ (suc i)))
   kids_join (t ▸ pre) post n w a b X σ g = place_cons (dead_rules D e) (dead_sound D e apart) t t (join pre n post) (join pre w post) X σ (dead_self D e apart t a.0 (X 0) (σ 0)) (kids_join pre post n w a.1 b (λ i. X (suc i)) (λ i. σ (suc i)) g)
 
-  place_goes : (k : Path) (n w : Tree) → PathAvoids D k → (summary n).facts ≡ (summary w).facts → (X : VariableSet) (q : Demand) → TreesGo (dead_rules D e) (known_at k n q X) (demand_at k n q) n w → TreesGo (dead_rules D e) X q (plug k n) (plug k w)
+  place_goes : (k : Path) (n w : Tree) → PathAvoids D k → ReadAlike D e (summary n) (summary w) → (X : VariableSet) (q : Demand) → TreesGo (dead_rules D e) (known_at k n q X) (demand_at k n q) n w → TreesGo (dead_rules D e) X q (plug k n) (plug k w)
   place_goes Path.here n w a like X q g = g
   place_goes (Path.inside h xs m pre k post) n w a like X q g =
-      one_node (dead_rules D e) (dead_sound D e apart) h xs xs m m (join pre (plug k n) post) (join pre (plug k w) post) X q (alive_like D h (variables xs) m (summaries (join pre (plug k n) post)) (summaries (join pre (plug k w) post)) a.0) refl (facts_join pre post (plug k n) (plug k w) (facts_plug k n w like))
-      (kids_join pre post (plug k n) (plug k w) a.1 a.3 (needs h q (variables xs) X (join pre (plug k n) post)) (demand h (facts (join pre (plug k n) post)) q)
-      (place_goes k n w a.2 like (needs h q (variables xs) X (join pre (plug k n) post) (count pre)) (demand h (facts (join pre (plug k n) post)) q (count pre)) g))
+      let alike = summaries_join D e pre post (plug k n) (plug k w) (summary_plug D e k n w like) in
+      one_node (dead_rules D e) (dead_sound D e apart) h xs xs m m (join pre (plug k n) post) (join pre (plug k w) post) X q (alive_alike D e h q (variables xs) m (summaries (join pre (plug k n) post)) (summaries (join pre (plug k w) post)) a.0 alike) refl alike.facts
+      (kids_join pre post (plug k n) (plug k w) a.1 a.3 (needs h q X (join pre (plug k n) post)) (demand h (facts (join pre (plug k n) post)) q)
+      (place_goes k n w a.2 like (needs h q X (join pre (plug k n) post) (count pre)) (demand h (facts (join pre (plug k n) post)) q (count pre)) g))
 
 -- states that agree
 
@@ -107,9 +110,9 @@ from_same D e apart X q n w av same r l within o s t b =
 
 pub congruence : law.Congruence
 congruence e D apart k n w pa av like X q same =
-    place_goes D e apart k n w pa like.facts X q (from_same D e apart (known_at k n q X) (demand_at k n q) n w av same)
+    place_goes D e apart k n w pa like X q (from_same D e apart (known_at k n q X) (demand_at k n q) n w av same)
 
-to_same : (D : VariableSet) (e : Environment) (X : VariableSet) (q : Demand) (n w : Tree) → Off (hidden n) X → TreesGo (dead_rules D e) X q n w → Same e D X q n w
+pub to_same : (D : VariableSet) (e : Environment) (X : VariableSet) (q : Demand) (n w : Tree) → Off (hidden n) X → TreesGo (dead_rules D e) X q n w → Same e D X q n w
 unfolding TreesGo
 to_same D e X q n w off g = record { by = λ r s i. goes_map true _ (λ a. Agree D) _ (Agree D) (Agree D) _ _ (λ a s t z. z.0) (λ s t z. z.0) (g r X (within_refl X) off s s (agree_refl D s, i)) }
 

@@ -14,5 +14,16 @@ pub mod Knowing
 pub mod Fundamental
 pub mod Dead
 pub mod Congruent
+pub mod Stretching
+pub mod Tailing
+pub mod Returning
+pub mod Sparing
+pub mod Substituted
+pub mod Renamed
 pub mod Thin
 pub mod Different
+pub mod Children
+pub mod Putting
+pub mod Finding
+pub mod Replacing
+pub mod Preorder

@@ -1,5 +1,5 @@
 -- The negation of an expression means what `!` over it does.
-use Rattle.std.proofs.Common.{◌≡◌, ℕ, zero, suc, Bool, true, false, List, refl, sym, ap, ◌∙◌, inl, inr, true≢false, ⊎_elim}
+use Rattle.std.proofs.Common.{◌≡◌, ℕ, zero, suc, Bool, true, false, List, Option, refl, sym, ap, ◌∙◌, inl, inr, true≢false, ⊎_elim}
 use Rattle.std.specs.Prelude.{◌⊎◌, ◌||◌, ◌&&◌, not}
 use Rattle.mini_model.specs.declared.operator.LogicalOperator.{LogicalOperator}
 use Rattle.mini_model.specs.declared.operator.LogicalOperator.TheVariants.{Or, And, Coalesce}
@@ -8,14 +8,18 @@ use Rattle.mini_model.specs.declared.name.Name.{Name}
 use Rattle.mini_model.specs.declared.seat.Seat.{Seat}
 use Rattle.mini_model.specs.declared.shape.Shape.TheVariants as shape
 use Rattle.mini_model.specs.Tree.{Tree, Trees, node, none, ◌▸◌, negation}
-use Rattle.mini_model.specs.Position.{Expr, operand_seat}
-use Rattle.mini_model.specs.Terms.{is_boolean, turned, unwrapped, neg, neg_each}
+use Rattle.mini_model.specs.declared.place.Position.TheVariants.{Expr}
+use Rattle.mini_model.specs.Position.{operand_seat}
+use Rattle.mini_model.specs.Terms.{is_boolean, unwrapped, neg, neg_each}
 use Rattle.mini_meaning.specs.Value.{Value, Boolean, variables}
-use Rattle.mini_meaning.specs.State.{State, Completion, ok, stop, out, either, Environment}
-use Rattle.mini_meaning.specs.Demand.{Want, Val, Test, Unused, Demand, As, Callee, Stat, Items, Called, Request, Reply, Says, says_truth, plain_call}
+use Rattle.mini_meaning.specs.State.{Item, State, Completion, ok, stop, out, either, Environment}
+use Rattle.mini_meaning.specs.Demand.{Want, Val, Test, Unused, Tail, Demand, As, Callee, OfType, Target, AnEntry, Stat, AValue, Prepare, Fetch, Put, Request, Reply, Says, says, plain_call}
 use Rattle.mini_meaning.specs.Command.{Naming, Command, bind, Kids, run}
 use Rattle.mini_meaning.specs.Naming.{summaries, naming}
-use Rattle.mini_meaning.specs.Step.{logical_demand, first_demand, passed, and_step, or_step, logical_step, conditional_step, step, means, meaning}
+use Rattle.mini_meaning.specs.Asking.{and_or_demand, logical_demand, first_demand}
+use Rattle.mini_meaning.specs.Replies.{passed}
+use Rattle.mini_meaning.specs.Expressions.{and_step, or_step, logical_step, conditional_step}
+use Rattle.mini_meaning.specs.Step.{step, means, meaning}
 use Rattle.mini_meaning.specs.Fits.{Fits}
 use Rattle.mini_laws.specs.Truth.{told}
 use Rattle.mini_laws.proofs.Runs.{either_cong, either_eta, either_out, runs, each_bool, run_bind}
@@ -28,17 +32,23 @@ not_not false = refl
 
 -- a truth, replied as it is wanted
 unfoldable told_truth : (w : Want) → Completion Bool → Completion (Says w)
-told_truth w x = either x (λ b s. ok (says_truth w b) s) (λ e s. stop e s)
-
-unfoldable called_truth : Completion Bool → Completion Called
-called_truth x = either x (λ b s. ok (plain_call (Boolean b)) s) (λ e s. stop e s)
+told_truth w x = either x (λ b s. ok (says w (Boolean b)) s) (λ e s. stop e s)
 
 -- what `!` makes of a truth
 unfoldable flipped : (w : Want) → Completion Bool → Completion (Says w)
-flipped w x = either x (λ b s. ok (says_truth w (not b)) s) (λ e s. stop e s)
+flipped w x = either x (λ b s. ok (says w (Boolean (not b))) s) (λ e s. stop e s)
 
-unfoldable called_flipped : Completion Bool → Completion Called
-called_flipped x = either x (λ b s. ok (plain_call (Boolean (not b))) s) (λ e s. stop e s)
+-- a value, replied as it is asked where not the value, its truth or nothing is
+unfoldable given : (q : Demand) (r : Request q) → Completion Value → Completion (Reply q r)
+given Callee r x = either x (λ v s. ok (plain_call v) s) (λ e s. stop e s)
+given OfType r x = either x (λ v s. ok v s) (λ e s. stop e s)
+given Target Prepare x = either x (λ v s. ok (AValue v) s) (λ e s. stop e s)
+given AnEntry r x = either x (λ v s. ok (Item v) s) (λ e s. stop e s)
+given q r x = out
+
+abbrev NotAs : Demand → Type 0
+NotAs (As w) = ⊥
+NotAs q = Unit {0}
 
 abbrev All : Type 0
 All = (i : ℕ) (q : Demand) (r : Request q) → State → Completion (Reply q r)
@@ -49,25 +59,56 @@ module _ (e : Environment) where
   unfolding means meaning step flipped
   not_as w n s = refl
 
-  not_called : (n : Tree) (s : State) → means e (negation n) Callee tt s ≡ called_flipped (means e n (As Test) tt s)
-  unfolding means meaning step called_flipped
-  not_called n s = refl
+  not_given : (q : Demand) → NotAs q → (r : Request q) (n : Tree) (s : State) → means e (negation n) q r s ≡ given q r (flipped Val (means e n (As Test) tt s))
+  unfolding means meaning step flipped given
+  not_given Callee o r n s = simp runs
+  not_given OfType o r n s = simp runs
+  not_given Target o Prepare n s = simp runs
+  not_given AnEntry o r n s = simp runs
+  not_given (As w) o r n s = absurd o
+  not_given Target o (Fetch x) n s = refl
+  not_given Target o (Put x v) n s = refl
+  not_given q o r n s = refl
 
-  -- what is asked of a part that gives the value, for a callee
-  unfoldable called : Completion Value → Completion Called
-  called x = either x (λ v s. ok (plain_call v) s) (λ x s. stop x s)
+  -- what is asked of a part that gives the value
+  module _ (names : Naming) (σ : ℕ → Demand) (c : Command σ Value) (K : Kids σ) (s : State) where
+    passes_callee : run e names K (bind c (passed Callee tt)) s ≡ given Callee tt (run e names K (bind c (passed (As Val) tt)) s)
+    unfolding given
+    passes_callee = run_bind e names c (passed Callee tt) K s ∙ sym (ap (given Callee tt) (run_bind e names c (passed (As Val) tt) K s ∙ either_eta (run e names K c s)))
 
-  passes : (names : Naming) (q : ℕ → Demand) (c : Command q Value) (K : Kids q) (s : State) → run e names K (bind c (passed Callee tt)) s ≡ called (run e names K (bind c (passed (As Val) tt)) s)
-  unfolding called
-  passes names q c K s = run_bind e names c (passed Callee tt) K s ∙ sym (ap called (run_bind e names c (passed (As Val) tt) K s ∙ either_eta (run e names K c s)))
+    passes_type : run e names K (bind c (passed OfType tt)) s ≡ given OfType tt (run e names K (bind c (passed (As Val) tt)) s)
+    unfolding given
+    passes_type = run_bind e names c (passed OfType tt) K s ∙ sym (ap (given OfType tt) (run_bind e names c (passed (As Val) tt) K s ∙ either_eta (run e names K c s)))
 
-  called_value : (x : Completion Bool) → called (told_truth Val x) ≡ called_truth x
-  unfolding called told_truth called_truth
-  called_value x = simp runs
+    passes_target : run e names K (bind c (passed Target Prepare)) s ≡ given Target Prepare (run e names K (bind c (passed (As Val) tt)) s)
+    unfolding given
+    passes_target = run_bind e names c (passed Target Prepare) K s ∙ sym (ap (given Target Prepare) (run_bind e names c (passed (As Val) tt) K s ∙ either_eta (run e names K c s)))
 
-  called_not : (x : Completion Bool) → called (flipped Val x) ≡ called_flipped x
-  unfolding called flipped called_flipped
-  called_not x = simp runs
+    passes_entry : run e names K (bind c (passed AnEntry tt)) s ≡ given AnEntry tt (run e names K (bind c (passed (As Val) tt)) s)
+    unfolding given
+    passes_entry = run_bind e names c (passed AnEntry tt) K s ∙ sym (ap (given AnEntry tt) (run_bind e names c (passed (As Val) tt) K s ∙ either_eta (run e names K c s)))
+
+  logical_given : (q : Demand) → NotAs q → (r : Request q) (o : LogicalOperator) (xs : List Name) (n : ℕ) (us : Trees) (s : State) → means e (node (shape.LogicalExpression o) xs n us) q r s ≡ given q r (means e (node (shape.LogicalExpression o) xs n us) (As Val) tt s)
+  unfolding means step given
+  logical_given Callee other r o xs n us s = passes_callee (naming (shape.LogicalExpression o) (As Val) (variables xs) n (summaries us)) (logical_demand o Val) (logical_step o Val) (λ i r z. meaning e us i (logical_demand o Val i) r z) s
+  logical_given OfType other r o xs n us s = passes_type (naming (shape.LogicalExpression o) (As Val) (variables xs) n (summaries us)) (logical_demand o Val) (logical_step o Val) (λ i r z. meaning e us i (logical_demand o Val i) r z) s
+  logical_given Target other Prepare o xs n us s = passes_target (naming (shape.LogicalExpression o) (As Val) (variables xs) n (summaries us)) (logical_demand o Val) (logical_step o Val) (λ i r z. meaning e us i (logical_demand o Val i) r z) s
+  logical_given AnEntry other r o xs n us s = passes_entry (naming (shape.LogicalExpression o) (As Val) (variables xs) n (summaries us)) (logical_demand o Val) (logical_step o Val) (λ i r z. meaning e us i (logical_demand o Val i) r z) s
+  logical_given (As w) other r o xs n us s = absurd other
+  logical_given Target other (Fetch x) o xs n us s = refl
+  logical_given Target other (Put x v) o xs n us s = refl
+  logical_given q other r o xs n us s = refl
+
+  conditional_given : (q : Demand) → NotAs q → (r : Request q) (xs : List Name) (n : ℕ) (us : Trees) (s : State) → means e (node shape.ConditionalExpression xs n us) q r s ≡ given q r (means e (node shape.ConditionalExpression xs n us) (As Val) tt s)
+  unfolding means step given
+  conditional_given Callee other r xs n us s = passes_callee (naming shape.ConditionalExpression (As Val) (variables xs) n (summaries us)) (first_demand (As Test) (As Val)) (conditional_step Val) (λ i r z. meaning e us i (first_demand (As Test) (As Val) i) r z) s
+  conditional_given OfType other r xs n us s = passes_type (naming shape.ConditionalExpression (As Val) (variables xs) n (summaries us)) (first_demand (As Test) (As Val)) (conditional_step Val) (λ i r z. meaning e us i (first_demand (As Test) (As Val) i) r z) s
+  conditional_given Target other Prepare xs n us s = passes_target (naming shape.ConditionalExpression (As Val) (variables xs) n (summaries us)) (first_demand (As Test) (As Val)) (conditional_step Val) (λ i r z. meaning e us i (first_demand (As Test) (As Val) i) r z) s
+  conditional_given AnEntry other r xs n us s = passes_entry (naming shape.ConditionalExpression (As Val) (variables xs) n (summaries us)) (first_demand (As Test) (As Val)) (conditional_step Val) (λ i r z. meaning e us i (first_demand (As Test) (As Val) i) r z) s
+  conditional_given (As w) other r xs n us s = absurd other
+  conditional_given Target other (Fetch x) xs n us s = refl
+  conditional_given Target other (Put x v) xs n us s = refl
+  conditional_given q other r xs n us s = refl
 
   -- a node each of whose values is a boolean
 
@@ -90,27 +131,34 @@ module _ (e : Environment) where
       simp (runs, value_of a (and_left (is_boolean a) (is_boolean b) h)) (either_cong _ _ _ _ _ (each_bool _ (λ z. simp (runs, value_of b (and_right (is_boolean a) (is_boolean b) h))) (λ z. simp runs)) (λ x z. refl))
   value_of (node (shape.LogicalExpression Or) xs n (a ▸ (b ▸ none))) h s =
       simp (runs, value_of a (and_left (is_boolean a) (is_boolean b) h)) (either_cong _ _ _ _ _ (each_bool _ (λ z. simp runs) (λ z. simp (runs, value_of b (and_right (is_boolean a) (is_boolean b) h)))) (λ x z. refl))
-  value_of (node (shape.LogicalExpression Coalesce) xs n ts) h s = simp runs
+  value_of (node (shape.LogicalExpression Coalesce) xs n (a ▸ (b ▸ none))) h s = simp (runs, value_of a (and_left (is_boolean a) (is_boolean b) h))
   value_of (node shape.ConditionalExpression xs n (a ▸ (b ▸ (c ▸ none)))) h s =
       simp runs (either_cong _ _ _ _ _ (each_bool _ (λ z. simp (runs, value_of b (and_left (is_boolean b) (is_boolean c) h))) (λ z. simp (runs, value_of c (and_right (is_boolean b) (is_boolean c) h)))) (λ x z. refl))
   value_of (node g xs n ts) h s = absurd (true≢false (sym h))
 
-  callee_of : (a : Tree) → is_boolean a ≡ true → (s : State) → means e a Callee tt s ≡ called (means e a (As Val) tt s)
-  unfolding means step called
-  callee_of (node (shape.UnaryExpression LogicalNot) xs n ts) h s = simp runs
-  callee_of (node (shape.LogicalExpression o) xs n (a ▸ (b ▸ none))) h s = passes (naming (shape.LogicalExpression o) (variables xs) n (summaries (a ▸ (b ▸ none)))) (logical_demand Val) (logical_step o Val) (λ i r z. meaning e (a ▸ (b ▸ none)) i (logical_demand Val i) r z) s
-  callee_of (node shape.ConditionalExpression xs n (a ▸ (b ▸ (c ▸ none)))) h s = passes (naming shape.ConditionalExpression (variables xs) n (summaries (a ▸ (b ▸ (c ▸ none))))) (first_demand (As Test) (As Val)) (conditional_step Val) (λ i r z. meaning e (a ▸ (b ▸ (c ▸ none))) i (first_demand (As Test) (As Val) i) r z) s
-  callee_of (node g xs n ts) h s = absurd (true≢false (sym h))
+  not_node_given : (q : Demand) → NotAs q → (r : Request q) (xs : List Name) (n : ℕ) (ts : Trees) (s : State) → means e (node (shape.UnaryExpression LogicalNot) xs n ts) q r s ≡ given q r (means e (node (shape.UnaryExpression LogicalNot) xs n ts) (As Val) tt s)
+  unfolding means step given
+  not_node_given Callee o r xs n ts s = simp runs
+  not_node_given OfType o r xs n ts s = simp runs
+  not_node_given Target o Prepare xs n ts s = simp runs
+  not_node_given AnEntry o r xs n ts s = simp runs
+  not_node_given (As w) o r xs n ts s = absurd o
+  not_node_given Target o (Fetch x) xs n ts s = refl
+  not_node_given Target o (Put x v) xs n ts s = refl
+  not_node_given q o r xs n ts s = refl
+
+  given_of : (a : Tree) → is_boolean a ≡ true → (q : Demand) → NotAs q → (r : Request q) (s : State) → means e a q r s ≡ given q r (means e a (As Val) tt s)
+  unfolding means step
+  given_of (node (shape.UnaryExpression LogicalNot) xs n ts) h q other r s = not_node_given q other r xs n ts s
+  given_of (node (shape.LogicalExpression o) xs n ts) h q other r s = logical_given q other r o xs n ts s
+  given_of (node shape.ConditionalExpression xs n ts) h q other r s = conditional_given q other r xs n ts s
+  given_of (node g xs n ts) h q other r s = absurd (true≢false (sym h))
 
   -- `!!a` for a
 
   twice : (w : Want) (x : Completion Bool) → flipped w (flipped Test x) ≡ told_truth w x
   unfolding flipped told_truth
   twice w x = simp (runs, not_not)
-
-  called_twice : (x : Completion Bool) → called_flipped (flipped Test x) ≡ called_truth x
-  unfolding called_flipped flipped called_truth
-  called_twice x = simp (runs, not_not)
 
   test_of : (x : Completion Bool) → told_truth Test x ≡ x
   unfolding told_truth
@@ -120,6 +168,16 @@ module _ (e : Environment) where
   unfolding means meaning step flipped
   inner_not xs n a s = refl
 
+  boolean_off : (s : Seat) (q : Demand) → NotAs q → Fits (Expr s) q → s.boolean ≡ false
+  boolean_off s (As w) o f = absurd o
+  boolean_off s (Stat t) o f = f
+  boolean_off s q o f = f.0
+
+  unwraps_given : (xs : List Name) (n : ℕ) (a : Tree) (s : Seat) → (s.boolean ≡ true) ⊎ (is_boolean a ≡ true) → (q : Demand) → NotAs q → s.boolean ≡ false → (r : Request q) (z : State) → means e (negation (node (shape.UnaryExpression LogicalNot) xs n (a ▸ none))) q r z ≡ means e a q r z
+  unwraps_given xs n a s h q other b r z =
+      not_given q other r _ z ∙ ap (given q r) (ap (flipped Val) (inner_not xs n a z) ∙ twice Val _)
+      ∙ sym (⊎_elim (λ k. absurd (true≢false (sym k ∙ b))) (λ k. given_of a k q other r z ∙ ap (given q r) (value_of a k z)) h)
+
   unwraps : (xs : List Name) (n : ℕ) (a : Tree) (s : Seat) (b : Bool) → (b ≡ true → (s.boolean ≡ true) ⊎ (is_boolean a ≡ true)) → (q : Demand) → Fits (Expr s) q → (r : Request q) (z : State) → means e (negation (node (shape.UnaryExpression LogicalNot) xs n (a ▸ none))) q r z ≡ means e (unwrapped b a (node (shape.UnaryExpression LogicalNot) xs n (a ▸ none))) q r z
   unwraps xs n a s false h q f r z = refl
   unwraps xs n a s true h (As w) f r z = not_as w _ z ∙ ap (flipped w) (inner_not xs n a z) ∙ twice w _ ∙ sym (go w f)
@@ -128,9 +186,10 @@ module _ (e : Environment) where
       go Test f = sym (test_of _)
       go Unused f = unused_of a z
       go Val f = ⊎_elim (λ k. let v : Val ≡ Test = f.0 k in cc) (λ k. value_of a k z) (h refl)
-  unwraps xs n a s true h Callee f r z = not_called _ z ∙ ap called_flipped (inner_not xs n a z) ∙ called_twice _ ∙ sym (⊎_elim (λ k. absurd (true≢false (sym k ∙ f.0))) (λ k. callee_of a k z ∙ ap called (value_of a k z) ∙ called_value _) (h refl))
-  unwraps xs n a s true h (Stat t) f r z = elim f [ ]
-  unwraps xs n a s true h Items f r z = elim f [ ]
+  unwraps xs n a s true h q f r z = unwraps_given xs n a s (h refl) q tt (boolean_off s q tt f) r z
+
+  unmarked_as : (s : Seat) → s.boolean ≡ false → s.unused ≡ false → Fits (Expr s) (As Val)
+  unmarked_as s b u = ((λ h. absurd (true≢false (sym h ∙ b))), (λ h. absurd (true≢false (sym h ∙ u))))
 
   -- De Morgan
 
@@ -142,42 +201,47 @@ module _ (e : Environment) where
     Flips : ℕ → Want → Type 0
     Flips i w = (s : State) → K' i (As w) tt s ≡ flipped w (K i (As Test) tt s)
 
-    or_for_and : (w v : Want) → logical_demand w 0 ≡ As v → Flips 0 v → Flips 1 w → (s : State) → run e names (λ i. K' i (logical_demand w i)) (bind (or_step w) (passed (As w) tt)) s ≡ flipped w (run e names' (λ i. K i (logical_demand Test i)) (bind (and_step Test) (passed (As Test) tt)) s)
+    or_for_and : (w v : Want) → and_or_demand w 0 ≡ As v → Flips 0 v → Flips 1 w → (s : State) → run e names (λ i. K' i (and_or_demand w i)) (bind (or_step w) (passed (As w) tt)) s ≡ flipped w (run e names' (λ i. K i (and_or_demand Test i)) (bind (and_step Test) (passed (As Test) tt)) s)
     unfolding Flips flipped
     or_for_and Val Val u h0 h1 s = simp (runs, h0) (either_cong _ _ _ _ _ (each_bool _ (λ z. simp (runs, h1)) (λ z. simp runs)) (λ x z. refl))
     or_for_and Test Test u h0 h1 s = simp (runs, h0) (either_cong _ _ _ _ _ (each_bool _ (λ z. simp (runs, h1)) (λ z. simp runs)) (λ x z. refl))
     or_for_and Unused Test u h0 h1 s = simp (runs, h0) (either_cong _ _ _ _ _ (each_bool _ (λ z. simp (runs, h1)) (λ z. simp runs)) (λ x z. refl))
     or_for_and w v u h0 h1 s = absurd (cc)
 
-    and_for_or : (w v : Want) → logical_demand w 0 ≡ As v → Flips 0 v → Flips 1 w → (s : State) → run e names (λ i. K' i (logical_demand w i)) (bind (and_step w) (passed (As w) tt)) s ≡ flipped w (run e names' (λ i. K i (logical_demand Test i)) (bind (or_step Test) (passed (As Test) tt)) s)
+    and_for_or : (w v : Want) → and_or_demand w 0 ≡ As v → Flips 0 v → Flips 1 w → (s : State) → run e names (λ i. K' i (and_or_demand w i)) (bind (and_step w) (passed (As w) tt)) s ≡ flipped w (run e names' (λ i. K i (and_or_demand Test i)) (bind (or_step Test) (passed (As Test) tt)) s)
     unfolding Flips flipped
     and_for_or Val Val u h0 h1 s = simp (runs, h0) (either_cong _ _ _ _ _ (each_bool _ (λ z. simp runs) (λ z. simp (runs, h1))) (λ x z. refl))
     and_for_or Test Test u h0 h1 s = simp (runs, h0) (either_cong _ _ _ _ _ (each_bool _ (λ z. simp runs) (λ z. simp (runs, h1))) (λ x z. refl))
     and_for_or Unused Test u h0 h1 s = simp (runs, h0) (either_cong _ _ _ _ _ (each_bool _ (λ z. simp runs) (λ z. simp (runs, h1))) (λ x z. refl))
     and_for_or w v u h0 h1 s = absurd (cc)
 
-    logical_flips : (o : LogicalOperator) (w v : Want) → logical_demand w 0 ≡ As v → Flips 0 v → Flips 1 w → (s : State) → run e names (λ i. K' i (logical_demand w i)) (bind (logical_step (turned o) w) (passed (As w) tt)) s ≡ flipped w (run e names' (λ i. K i (logical_demand Test i)) (bind (logical_step o Test) (passed (As Test) tt)) s)
-    logical_flips And w v u h0 h1 s = or_for_and w v u h0 h1 s
-    logical_flips Or w v u h0 h1 s = and_for_or w v u h0 h1 s
-    logical_flips Coalesce w v u h0 h1 s = flipped_out w
-
-  logical_as : (o : LogicalOperator) (xs : List Name) (n : ℕ) (ts us : Trees) (w v : Want) → logical_demand w 0 ≡ As v → ((s : State) → meaning e us 0 (As v) tt s ≡ flipped v (meaning e ts 0 (As Test) tt s)) → ((s : State) → meaning e us 1 (As w) tt s ≡ flipped w (meaning e ts 1 (As Test) tt s)) → (s : State) → means e (node (shape.LogicalExpression (turned o)) xs n us) (As w) tt s ≡ flipped w (means e (node (shape.LogicalExpression o) xs n ts) (As Test) tt s)
+  flips_and : (xs : List Name) (n : ℕ) (ts us : Trees) (w v : Want) → and_or_demand w 0 ≡ As v → ((s : State) → meaning e us 0 (As v) tt s ≡ flipped v (meaning e ts 0 (As Test) tt s)) → ((s : State) → meaning e us 1 (As w) tt s ≡ flipped w (meaning e ts 1 (As Test) tt s)) → (s : State) → means e (node (shape.LogicalExpression Or) xs n us) (As w) tt s ≡ flipped w (means e (node (shape.LogicalExpression And) xs n ts) (As Test) tt s)
   unfolding means step Flips
-  logical_as o xs n ts us w v u h0 h1 s = logical_flips (naming (shape.LogicalExpression (turned o)) (variables xs) n (summaries us)) (naming (shape.LogicalExpression o) (variables xs) n (summaries ts)) (meaning e us) (meaning e ts) o w v u h0 h1 s
+  flips_and xs n ts us w v u h0 h1 s = or_for_and (naming (shape.LogicalExpression Or) (As w) (variables xs) n (summaries us)) (naming (shape.LogicalExpression And) (As Test) (variables xs) n (summaries ts)) (meaning e us) (meaning e ts) w v u h0 h1 s
 
-  logical_called : (o : LogicalOperator) (xs : List Name) (n : ℕ) (us : Trees) (s : State) → means e (node (shape.LogicalExpression o) xs n us) Callee tt s ≡ called (means e (node (shape.LogicalExpression o) xs n us) (As Val) tt s)
-  unfolding means step
-  logical_called o xs n us s = passes (naming (shape.LogicalExpression o) (variables xs) n (summaries us)) (logical_demand Val) (logical_step o Val) (λ i r z. meaning e us i (logical_demand Val i) r z) s
+  flips_or : (xs : List Name) (n : ℕ) (ts us : Trees) (w v : Want) → and_or_demand w 0 ≡ As v → ((s : State) → meaning e us 0 (As v) tt s ≡ flipped v (meaning e ts 0 (As Test) tt s)) → ((s : State) → meaning e us 1 (As w) tt s ≡ flipped w (meaning e ts 1 (As Test) tt s)) → (s : State) → means e (node (shape.LogicalExpression And) xs n us) (As w) tt s ≡ flipped w (means e (node (shape.LogicalExpression Or) xs n ts) (As Test) tt s)
+  unfolding means step Flips
+  flips_or xs n ts us w v u h0 h1 s = and_for_or (naming (shape.LogicalExpression And) (As w) (variables xs) n (summaries us)) (naming (shape.LogicalExpression Or) (As Test) (variables xs) n (summaries ts)) (meaning e us) (meaning e ts) w v u h0 h1 s
+
+  left_out : (t : Option Tail) (r : Request (Stat t)) (x y : Completion Value) → given (Stat t) r x ≡ given (Stat t) r y
+  unfolding given
+  left_out t r x y = refl
+
+  -- what is asked of the operands, of an `&&` or `||` that is turned
+  abbrev TurnedAs : LogicalOperator → LogicalOperator → Type 0
+  TurnedAs o p = (xs : List Name) (n : ℕ) (ts us : Trees) (w v : Want) → and_or_demand w 0 ≡ As v → ((s : State) → meaning e us 0 (As v) tt s ≡ flipped v (meaning e ts 0 (As Test) tt s)) → ((s : State) → meaning e us 1 (As w) tt s ≡ flipped w (meaning e ts 1 (As Test) tt s)) → (s : State) → means e (node (shape.LogicalExpression p) xs n us) (As w) tt s ≡ flipped w (means e (node (shape.LogicalExpression o) xs n ts) (As Test) tt s)
 
   -- a logical expression, from its operands
-  turns : (o : LogicalOperator) (xs : List Name) (n : ℕ) (ts us : Trees) (s : Seat) → ((i : ℕ) (w : Want) → Fits (Expr (operand_seat (turned o) s i)) (As w) → (z : State) → meaning e us i (As w) tt z ≡ flipped w (meaning e ts i (As Test) tt z)) → (q : Demand) → Fits (Expr s) q → (r : Request q) (z : State) → means e (negation (node (shape.LogicalExpression o) xs n ts)) q r z ≡ means e (node (shape.LogicalExpression (turned o)) xs n us) q r z
-  turns o xs n ts us s ih (As Val) f r z = not_as Val _ z ∙ sym (logical_as o xs n ts us Val Val refl (ih 0 Val (fits_operand (turned o) s (As Val) f 0)) (ih 1 Val (fits_operand (turned o) s (As Val) f 1)) z)
-  turns o xs n ts us s ih (As Test) f r z = not_as Test _ z ∙ sym (logical_as o xs n ts us Test Test refl (ih 0 Test (fits_operand (turned o) s (As Test) f 0)) (ih 1 Test (fits_operand (turned o) s (As Test) f 1)) z)
-  turns o xs n ts us s ih (As Unused) f r z = not_as Unused _ z ∙ sym (logical_as o xs n ts us Unused Test refl (ih 0 Test (fits_operand (turned o) s (As Unused) f 0)) (ih 1 Unused (fits_operand (turned o) s (As Unused) f 1)) z)
-  turns o xs n ts us s ih Callee f r z =
-      not_called _ z ∙ sym (called_not _) ∙ sym (ap called (logical_as o xs n ts us Val Val refl (ih 0 Val (fits_operand (turned o) s Callee f 0)) (ih 1 Val (fits_operand (turned o) s Callee f 1)) z)) ∙ sym (logical_called (turned o) xs n us z)
-  turns o xs n ts us s ih (Stat t) f r z = elim f [ ]
-  turns o xs n ts us s ih Items f r z = elim f [ ]
+  module _ (o p : LogicalOperator) (turn : TurnedAs o p) (xs : List Name) (n : ℕ) (ts us : Trees) (s : Seat) (operand : (w : Want) → Fits (Expr s) (As w) → (i : ℕ) → Fits (Expr (operand_seat p s i)) (and_or_demand w i)) where
+    turns : ((i : ℕ) (w : Want) → Fits (Expr (operand_seat p s i)) (As w) → (z : State) → meaning e us i (As w) tt z ≡ flipped w (meaning e ts i (As Test) tt z)) → (q : Demand) → Fits (Expr s) q → (r : Request q) (z : State) → means e (negation (node (shape.LogicalExpression o) xs n ts)) q r z ≡ means e (node (shape.LogicalExpression p) xs n us) q r z
+    turns ih (As Val) f r z = not_as Val _ z ∙ sym (turn xs n ts us Val Val refl (ih 0 Val (operand Val f 0)) (ih 1 Val (operand Val f 1)) z)
+    turns ih (As Test) f r z = not_as Test _ z ∙ sym (turn xs n ts us Test Test refl (ih 0 Test (operand Test f 0)) (ih 1 Test (operand Test f 1)) z)
+    turns ih (As Unused) f r z = not_as Unused _ z ∙ sym (turn xs n ts us Unused Test refl (ih 0 Test (operand Unused f 0)) (ih 1 Unused (operand Unused f 1)) z)
+    turns ih (Stat t) f r z = not_given (Stat t) tt r _ z ∙ left_out t r _ _ ∙ sym (logical_given (Stat t) tt r p xs n us z)
+    turns ih q f r z =
+        not_given q tt r _ z
+        ∙ ap (given q r) (sym (turn xs n ts us Val Val refl (ih 0 Val (operand Val (unmarked_as s f.0 f.1) 0)) (ih 1 Val (operand Val (unmarked_as s f.0 f.1) 1)) z))
+        ∙ sym (logical_given q tt r p xs n us z)
 
   or_split : (a b : Bool) → a || b ≡ true → (a ≡ true) ⊎ (b ≡ true)
   or_split true b h = inl refl
@@ -187,8 +251,8 @@ module _ (e : Environment) where
     unfolding meaning
 
     negated : (a : Tree) (s : Seat) (q : Demand) → Fits (Expr s) q → (r : Request q) (z : State) → means e (negation a) q r z ≡ means e (neg s a) q r z
-    negated (node (shape.LogicalExpression And) xs n ts) s q f r z = turns And xs n ts (neg_each (λ i. operand_seat Or s i) ts) s (λ i w g y. each_negated ts (λ i. operand_seat Or s i) i w g y) q f r z
-    negated (node (shape.LogicalExpression Or) xs n ts) s q f r z = turns Or xs n ts (neg_each (λ i. operand_seat And s i) ts) s (λ i w g y. each_negated ts (λ i. operand_seat And s i) i w g y) q f r z
+    negated (node (shape.LogicalExpression And) xs n ts) s q f r z = turns And Or flips_and xs n ts (neg_each (λ i. operand_seat Or s i) ts) s (λ w. fits_operand Or s w) (λ i w g y. each_negated ts (λ i. operand_seat Or s i) i w g y) q f r z
+    negated (node (shape.LogicalExpression Or) xs n ts) s q f r z = turns Or And flips_or xs n ts (neg_each (λ i. operand_seat And s i) ts) s (λ w. fits_operand And s w) (λ i w g y. each_negated ts (λ i. operand_seat And s i) i w g y) q f r z
     negated (node (shape.UnaryExpression LogicalNot) xs n (a ▸ none)) s q f r z = unwraps xs n a s (s.boolean || is_boolean a) (or_split s.boolean (is_boolean a)) q f r z
     negated (node h xs n ts) s q f r z = refl
 

@@ -5,13 +5,15 @@ use Rattle.mini_model.specs.declared.operator.LogicalOperator.TheVariants.{Or, A
 use Rattle.mini_model.specs.declared.seat.Seat.{Seat}
 use Rattle.mini_model.specs.declared.seat.StmtSeat.{StmtSeat}
 use Rattle.mini_model.specs.Tree.{Tree, negation, logical, conditional, if_else, if_alone, expression_statement}
-use Rattle.mini_model.specs.Position.{Position, Expr, Stmt, left_operand_seat, statement_expression_seat}
+use Rattle.mini_model.specs.declared.place.Position.{Position}
+use Rattle.mini_model.specs.declared.place.Position.TheVariants.{Expr, Stmt}
+use Rattle.mini_model.specs.Position.{left_operand_seat, statement_expression_seat}
 use Rattle.mini_model.specs.Weight.{weight}
 use Rattle.mini_model.specs.Terms.{neg, not_of}
 use Rattle.mini_model.specs.Redex.{Row23, Row40, Row82Else, Row82And, Row82Or, Row}
 use Rattle.mini_meaning.specs.Value.{VariableSet}
 use Rattle.mini_meaning.specs.State.{State, Completion, ok, stop, halt, out, Environment}
-use Rattle.mini_meaning.specs.Demand.{Test, Tail, Demand, As, Callee, Stat, Items, LabelSet, Request}
+use Rattle.mini_meaning.specs.Demand.{Test, Tail, Demand, As, Callee, OfType, Target, AnEntry, Stat, Prepare, Fetch, Put, LabelSet, Request}
 use Rattle.mini_meaning.specs.Step.{step, means, meaning}
 use Rattle.mini_meaning.specs.Fits.{Fits}
 use Rattle.mini_meaning.specs.Same.{Goes, Agree, Same}
@@ -56,8 +58,12 @@ row_40 s a b c = record { by = λ e q f. go e q f }
     go : (e : Environment) (q : Demand) → Fits (Expr s) q → (r : Request q) (z : State) → means e (conditional (negation a) b c) q r z ≡ means e (conditional a c b) q r z
     go e (As w) f r z = simp runs (either_cong _ _ _ _ _ (each_bool _ (λ y. simp runs) (λ y. simp runs)) (λ x y. refl))
     go e Callee f r z = simp runs (either_cong _ _ _ _ _ (each_bool _ (λ y. refl) (λ y. refl)) (λ x y. refl))
-    go e (Stat t) f r z = elim f [ ]
-    go e Items f r z = elim f [ ]
+    go e OfType f r z = simp runs (either_cong _ _ _ _ _ (each_bool _ (λ y. refl) (λ y. refl)) (λ x y. refl))
+    go e Target f Prepare z = simp runs (either_cong _ _ _ _ _ (each_bool _ (λ y. refl) (λ y. refl)) (λ x y. refl))
+    go e AnEntry f r z = simp runs (either_cong _ _ _ _ _ (each_bool _ (λ y. refl) (λ y. refl)) (λ x y. refl))
+    go e Target f (Fetch x) z = refl
+    go e Target f (Put x v) z = refl
+    go e q f r z = refl
 
 module _ (e : Environment) (t : Option Tail) where
   else_same : (a b c : Tree) (ls : LabelSet) (z : State) → means e (if_else a (expression_statement b) (expression_statement c)) (Stat t) ls z ≡ means e (expression_statement (conditional a b c)) (Stat t) ls z
@@ -73,18 +79,14 @@ row_82_else q a b c = record { by = λ e d f. go e d f }
   where
     go : (e : Environment) (d : Demand) → Fits (Stmt q) d → (r : Request d) (z : State) → means e (if_else a (expression_statement b) (expression_statement c)) d r z ≡ means e (expression_statement (conditional a b c)) d r z
     go e (Stat t) f r z = else_same e t a b c r z
-    go e (As w) f r z = elim f [ ]
-    go e Callee f r z = elim f [ ]
-    go e Items f r z = elim f [ ]
+    go e d f r z = elim f [ ]
 
 row_82_and : (q : StmtSeat) (a b : Tree) → Equal (Stmt q) (if_alone a (expression_statement b)) (expression_statement (logical And a b))
 row_82_and q a b = record { by = λ e d f. go e d f }
   where
     go : (e : Environment) (d : Demand) → Fits (Stmt q) d → (r : Request d) (z : State) → means e (if_alone a (expression_statement b)) d r z ≡ means e (expression_statement (logical And a b)) d r z
     go e (Stat t) f r z = and_same e t a b r z
-    go e (As w) f r z = elim f [ ]
-    go e Callee f r z = elim f [ ]
-    go e Items f r z = elim f [ ]
+    go e d f r z = elim f [ ]
 
 -- the test of an `if` without `else`, turned
 module _ (e : Environment) (t : Option Tail) where
@@ -103,9 +105,7 @@ row_82_or q a b = record { by = λ e d f. go e d f }
     go e (Stat t) f r z =
         or_same e t a b r z
         ∙ or_left e t (negation a) (not_of (left_operand_seat Or statement_expression_seat) a) b r z (λ s. (not_equal (left_operand_seat Or statement_expression_seat) a).by e (As Test) ((λ h. refl), (λ h. absurd (true≢false (sym h)))) tt s)
-    go e (As w) f r z = elim f [ ]
-    go e Callee f r z = elim f [ ]
-    go e Items f r z = elim f [ ]
+    go e d f r z = elim f [ ]
 
 along : (p : Position) (n n' w w' : Tree) → n ≡ n' → w ≡ w' → Equal p n' w' → Equal p n w
 along p n n' w w' u v h = record { by = λ e q f r z. ap (λ t. means e t q r z) u ∙ h.by e q f r z ∙ sym (ap (λ t. means e t q r z) v) }

@@ -5,6 +5,16 @@ pub mod Rows
 pub mod Rewritten
 pub mod Congruence
 pub mod Sameness
+pub mod Stretches
+pub mod Tails
+pub mod Returns
+pub mod Steady
+pub mod Renaming
+pub mod Substitution
 pub mod Fewer
 pub mod Differences
 pub mod Examples
+pub mod Finding
+pub mod Replacing
+pub mod Preorder
+pub mod PathExamples

@@ -1,15 +1,31 @@
-//! Laws of the definitions: of the weight, and of what a tree means. Each function's contract is a law, and its body
-//! is empty.
+//! Laws of the definitions: of the weight, of what a tree means, and of paths in it. Each function's contract is a law,
+//! and its body is empty.
 #![tactic(auto)]
 
+mod paths;
+
+ghost use Rattle.std.specs.Prelude.{◌≡◌};
+ghost use Rattle.mini_model.specs.declared.place.Position.{Position};
+ghost use Rattle.mini_model.specs.Tree.{Tree};
 ghost use Rattle.mini_laws.specs.Congruence.{Insensitive, Congruence, CongruentSame, CongruentBody};
+ghost use Rattle.mini_laws.specs.Renaming.{RenamedSame};
 ghost use Rattle.mini_laws.specs.Sameness.{Reflexive, Transitive, Weaker, BodyReflexive, BodyTransitive, BodySame};
 ghost use Rattle.mini_laws.specs.Differences.{UnswappedDiffers, ValueDiffers, OneSideDiffers, OrDiffers, TestDroppedDiffers};
 ghost use Rattle.mini_laws.specs.Fewer.{Fewer, FewerSame, FewerBody};
-ghost use Rattle.mini_laws.specs.Rewritten.{StepSame, ReachesSame, ProgramSame, FrameKept};
+ghost use Rattle.mini_laws.specs.Returns.{ReturnsSame};
+ghost use Rattle.mini_laws.specs.Rewritten.{StepKeeps, StepReads, AnyStepSame, AnyReachesSame, AnyBodySame, AnyFrameKept, StepSame, ReachesSame, ProgramSame, FrameKept};
 ghost use Rattle.mini_laws.specs.Rows.{NegationSame, LighterNegationSame, Row23Same, Row40Same, Row82ElseSame, Row82AndSame, Row82OrSame, RowSame};
+ghost use Rattle.mini_laws.specs.Stretches.{StretchSame};
+ghost use Rattle.mini_laws.specs.Steady.{Steady};
+ghost use Rattle.mini_laws.specs.Substitution.{NumberSame};
+ghost use Rattle.mini_laws.specs.Tails.{TailSame, LastJumpSame};
 ghost use Rattle.mini_laws.specs.Truth.{Coherent};
-ghost use Rattle.mini_laws.specs.Weights.{Replacement, OwnWeightKept, ReplacementFalls, FallsOtherwise, WholeFalls, StepLighter, ReachesLighter};
+ghost use Rattle.mini_laws.specs.Weights.{Replacement, OwnWeightKept, ReplacementFalls, FallsOtherwise, WholeFalls, AnyStepLighter, AnyReachesLighter, StepLighter, ReachesLighter};
+
+pub use paths::{
+    found, heads_are_kept, paths_of_all_nodes, put_at_a_path, put_further, put_is_counted,
+    put_near_a_path,
+};
 
 /// The weight of a whole falls by what a part's falls, and by what the own weights of the nodes above it do. Those read
 /// the outlines of their children alone.
@@ -31,6 +47,28 @@ pub fn replacement_of_parts()
 pub fn rewriting_is_lighter()
     ensures step { StepLighter }
     ensures reaches { ReachesLighter }
+{}
+
+/// What may be made of which tree at a place, as a rule says it.
+pub trait Rewrites {
+    ghost gives: { Position → Tree → Tree → Type 0 };
+}
+
+/// A step at any place, and any number of them, keep what the tree means, where what is put there means the same as what
+/// stood there and is read alike by its parent. So a body runs as before, and a program keeps its frame.
+pub fn any_steps_are_same<R: Rewrites>()
+    ensures keeps { StepKeeps R.gives }
+    ensures reads { StepReads R.gives }
+    ensures step { AnyStepSame R.gives }
+    ensures reaches { AnyReachesSame R.gives }
+    ensures body { AnyBodySame R.gives }
+    ensures frame { AnyFrameKept R.gives }
+{}
+
+/// A step at any place, and any number of them, make the whole lighter, where what is put there is.
+pub fn any_steps_are_lighter<R: Rewrites>()
+    ensures step { AnyStepLighter R.gives }
+    ensures reaches { AnyReachesLighter R.gives }
 {}
 
 /// The truth that a test gets of an expression is that of the expression's value.
@@ -84,6 +122,39 @@ pub fn sameness()
 /// Bodies whose roots mean the same are the same.
 pub fn body_same()
     ensures { BodySame }
+{}
+
+/// In a tail a statement does what it does elsewhere, but for the jump that ends the turn or the function: so the last
+/// such jump may go.
+pub fn tails()
+    ensures tail { TailSame }
+    ensures jump { LastJumpSame }
+{}
+
+/// `if (a) return b; return c;` means what `return a ? b : c;` does, in any tail.
+pub fn returns_join()
+    ensures { ReturnsSame }
+{}
+
+/// Some statements of a list replaced by others that mean the same, however many they are, leave the list the same.
+pub fn stretches()
+    ensures { StretchSame }
+{}
+
+/// A variable that no node of a tree writes, and that no answer may change, keeps its value.
+pub fn spared_is_steady()
+    ensures { Steady }
+{}
+
+/// A tree whose symbols and numbers are renamed does the same of the renamed variables.
+pub fn renaming()
+    ensures { RenamedSame }
+{}
+
+/// A `let` that is initialised with a number may go where a statement after it, which mentions it once, has the number
+/// in its place, if no other body sees it.
+pub fn substitution()
+    ensures { NumberSame }
 {}
 
 /// What is the same over more shared and foreign variables is the same over fewer.

@@ -1,14 +1,24 @@
--- Which demand goes with which place: the marks of a seat say what the model asks there. A node that stands elsewhere, as
--- a program does, is run. A place that only kinds without a meaning yet give has no demand that fits.
+-- Which demand goes with which place: the marks of a seat say what the model asks there.
 use Rattle.std.specs.Prelude.{◌≡◌, ◌⊎◌, true, false}
-use Rattle.mini_model.specs.Position.{Position, Expr, Stmt, StatementList, ArgumentList, Elsewhere}
-use Rattle.mini_meaning.specs.Demand.{Test, Unused, Demand, As, Callee, Stat, Items}
+use Rattle.mini_model.specs.declared.place.Position.{Position}
+use Rattle.mini_model.specs.declared.place.Position.TheVariants.{Expr, Stmt, StatementList, ArgumentList, SequenceList, TemplateList}
+use Rattle.mini_meaning.specs.Demand.{Test, Unused, Demand, As, Items, Parts, Texts, Stat}
 
+-- in a seat with no mark anything may be asked; an unused one, in the head of a `for`, may hold a declaration. What no
+-- parent asks counts as a statement
 abbrev pub Fits : Position → Demand → Type 0
 Fits (Expr s) (As w) = (s.boolean ≡ true → w ≡ Test) × (s.unused ≡ true → (w ≡ Unused) ⊎ (w ≡ Test))
-Fits (Expr s) Callee = (s.boolean ≡ false) × (s.unused ≡ false)
-Fits (Stmt q) (Stat t) = Unit {0}
+Fits (Expr s) (Stat t) = s.boolean ≡ false
+Fits (Expr s) q = (s.boolean ≡ false) × (s.unused ≡ false)
+Fits (Stmt k) (Stat t) = Unit {0}
+Fits (Stmt k) q = ⊥
 Fits StatementList (Stat t) = Unit {0}
+Fits StatementList q = ⊥
 Fits ArgumentList Items = Unit {0}
-Fits Elsewhere (Stat t) = Unit {0}
-Fits _ _ = ⊥
+Fits ArgumentList (Stat t) = Unit {0}
+Fits ArgumentList q = ⊥
+Fits (SequenceList s) (Parts w) = (s.boolean ≡ true → w ≡ Test) × (s.unused ≡ true → (w ≡ Unused) ⊎ (w ≡ Test))
+Fits (SequenceList s) q = ⊥
+Fits TemplateList Texts = Unit {0}
+Fits TemplateList q = ⊥
+Fits p q = Unit {0}

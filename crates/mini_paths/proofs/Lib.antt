@@ -1,5 +1,0 @@
-pub mod Children
-pub mod Putting
-pub mod Finding
-pub mod Replacing
-pub mod Preorder

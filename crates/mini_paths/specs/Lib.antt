@@ -1,4 +1,0 @@
-pub mod Finding
-pub mod Replacing
-pub mod Preorder
-pub mod Examples
