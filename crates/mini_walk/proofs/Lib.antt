@@ -1,0 +1,4 @@
+pub mod Edits
+pub mod Reaching
+pub mod Walks
+pub mod Passing

@@ -1,0 +1,4 @@
+pub mod Rule
+pub mod Lighter
+pub mod Walk
+pub mod Passes

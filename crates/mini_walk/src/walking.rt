@@ -1,0 +1,72 @@
+//! One walk over a tree, children first.
+
+ghost use Rattle.std.specs.Prelude.{IfOk};
+ghost use Rattle.mini_walk.specs.Walk.{Walked, WalkedBelow, WalkedHere};
+
+use crate::rule::Rule;
+use mini_model::Position;
+use mini_node::Node;
+use mini_text::OutOfMemory;
+use mini_tree::child_place;
+use std::alloc::Global;
+
+/// Walks over a node, its children first, and at each node applies the rule until it answers false. The answer says
+/// whether anything changed; the only error is that memory runs out, and then the node is fit only to be dropped.
+#[cycle(nodes)]
+pub fn walk<R: Rule>(
+    rule: &R,
+    alloc: Global,
+    node: &mut Node,
+    place: Position,
+    context: &mut R::Context,
+) -> Result<bool, OutOfMemory>
+    ensures { IfOk result (λ changed. Walked R.gives R.rests place node.old node.new changed) }
+{
+    let below = walk_children(rule, alloc, node, place, context)?;
+    let here = settle(rule, alloc, node, place, context)?;
+    Ok(below | here)
+}
+
+// The children of the node, one after another.
+#[cycle(nodes)]
+fn walk_children<R: Rule>(
+    rule: &R,
+    alloc: Global,
+    node: &mut Node,
+    place: Position,
+    context: &mut R::Context,
+) -> Result<bool, OutOfMemory>
+    ensures { IfOk result (λ changed. WalkedBelow R.gives R.rests place node.old node.new changed) }
+{
+    let count = node.children().len();
+    let mut changed = false;
+    for at in 0..count {
+        let stands = child_place(node.shape(), place, count, at);
+        let child = walk(
+            rule,
+            alloc,
+            node.children_mut().child_mut(at),
+            stands,
+            context,
+        )?;
+        changed = changed | child;
+    }
+    Ok(changed)
+}
+
+// The node itself, until the rule answers false.
+fn settle<R: Rule>(
+    rule: &R,
+    alloc: Global,
+    node: &mut Node,
+    place: Position,
+    context: &mut R::Context,
+) -> Result<bool, OutOfMemory>
+    ensures { IfOk result (λ changed. WalkedHere R.gives R.rests place node.old node.new changed) }
+{
+    let mut changed = false;
+    'again: while rule.apply(alloc, node, place, context)? {
+        changed = true;
+    }
+    Ok(changed)
+}
