@@ -4,6 +4,7 @@ pub mod Refusals
 pub mod Planned
 pub mod Places
 pub mod Numbers
+pub mod Symbols
 pub mod Fitting
 pub mod Gathered
 pub mod Types

@@ -15,6 +15,7 @@ pub mod Entries
 pub mod Accept
 pub mod Located
 pub mod Numbered
+pub mod Symbols
 pub mod Samples
 pub mod Examples
 pub mod Nodes

@@ -1,5 +1,5 @@
 //! Laws of the table, each as the contract of a function that does nothing.
-ghost use Rattle.std.specs.Prelude.{◌≡◌, ◌≤◌, ℕ, List, false, Some, Ok, Err, IsUtf8, IsAscii};
+ghost use Rattle.std.specs.Prelude.{◌≡◌, ◌≤◌, ℕ, List, true, false, Some, Ok, Err, IsUtf8, IsAscii};
 ghost use Rattle.serde_json.specs.Data.{Data};
 ghost use Rattle.mini_model.specs.Tree.{Tree};
 ghost use Rattle.mini_text.specs.Texts.{units_of};
@@ -10,6 +10,7 @@ ghost use Rattle.mini_accept.specs.Fields.{paired_units};
 ghost use Rattle.mini_accept.specs.Accept.{program_at, Accepts};
 ghost use Rattle.mini_accept.specs.Located.{Located};
 ghost use Rattle.mini_accept.specs.Numbered.{next_after};
+ghost use Rattle.mini_accept.specs.Symbols.{has_no_symbol};
 
 /// What is read within a depth is read within any greater one, with the same numbers.
 pub fn deeper()
@@ -34,6 +35,11 @@ pub fn faults_are_there()
 /// The numbers of a tree that is read are those from 0 on, in preorder.
 pub fn numbers_in_preorder()
     ensures { (k : ℕ) (d : Data) (t : Tree) (n : ℕ) → program_at k d ≡ Ok (t, n) → next_after t 0 ≡ Some n }
+{}
+
+/// No name of a tree that is read has a symbol.
+pub fn names_have_no_symbol()
+    ensures { (k : ℕ) (d : Data) (t : Tree) (n : ℕ) → program_at k d ≡ Ok (t, n) → has_no_symbol t ≡ true }
 {}
 
 /// A tree that a value is accepted as is well shaped.

@@ -8,6 +8,6 @@
 mod laws;
 
 pub use laws::{
-    accepted_is_well_shaped, accepts_one_tree, deeper, faults_are_there, numbers_in_preorder,
-    refused_deeper, texts_are_read,
+    accepted_is_well_shaped, accepts_one_tree, deeper, faults_are_there, names_have_no_symbol,
+    numbers_in_preorder, refused_deeper, texts_are_read,
 };

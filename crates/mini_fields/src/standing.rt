@@ -1,0 +1,514 @@
+// Which nodes may stand in a place, and which forms aren't read.
+
+ghost use Rattle.std.specs.Prelude.{◌≡◌, ◌∷◌, [], List, ℕ, Bool, None, Some, map, codes};
+ghost use Rattle.serde_json.specs.Data.{Data};
+ghost use Rattle.serde_json.specs.View.{view, items_view};
+ghost use Rattle.mini_accept.specs.Kind.{types};
+ghost use Rattle.mini_accept.specs.Fields.{is_one_of, has_one_of, has_type, kind_of, word_in};
+ghost use Rattle.mini_accept.specs.Standing.{is_expression, is_identifier, is_block, is_variable, is_pattern, is_default, has_true, is_member_target, is_method, is_head_by, is_head, is_piece, is_statement_in, stands_as, may_stand, begins_with, has_unread_type, has_unread_field, is_unread_form, is_nested, is_key, is_unread_there, is_unread, is_misplaced};
+ghost use Rattle.mini_fields.specs.declared.place.Class.TheVariants as class;
+ghost use Rattle.mini_fields.specs.Unread.{is_foreign, is_for_text, is_unread_itself};
+ghost use Rattle.mini_fields.specs.Views.{depth_of, class_of, place_of, letters_of, kind_of_node};
+
+use crate::kind::{Kind, kind_of};
+use crate::literals::{is_big_int_literal, is_key_literal, is_string_literal, is_unread_literal};
+use crate::look::{flag_at, has_text, has_type, is_bare, is_given, list_at, text_at};
+use crate::place::{Class, Depth, MetaWord, Place};
+use serde_json::Value;
+
+// ---- types that stand in like places
+
+const EXPRESSION_TYPES: [&str; 24] = [
+    "Identifier",
+    "Literal",
+    "ThisExpression",
+    "ArrayExpression",
+    "ObjectExpression",
+    "FunctionExpression",
+    "ArrowFunctionExpression",
+    "ClassExpression",
+    "UnaryExpression",
+    "UpdateExpression",
+    "BinaryExpression",
+    "LogicalExpression",
+    "AssignmentExpression",
+    "ConditionalExpression",
+    "SequenceExpression",
+    "CallExpression",
+    "NewExpression",
+    "MemberExpression",
+    "ChainExpression",
+    "YieldExpression",
+    "TemplateLiteral",
+    "TaggedTemplateExpression",
+    "MetaProperty",
+    "ImportExpression",
+];
+
+const DECLARATION_TYPES: [&str; 3] = [
+    "VariableDeclaration",
+    "FunctionDeclaration",
+    "ClassDeclaration",
+];
+
+const STATEMENT_TYPES: [&str; 20] = [
+    "ExpressionStatement",
+    "EmptyStatement",
+    "DebuggerStatement",
+    "BlockStatement",
+    "LabeledStatement",
+    "BreakStatement",
+    "ContinueStatement",
+    "ReturnStatement",
+    "ThrowStatement",
+    "IfStatement",
+    "SwitchStatement",
+    "TryStatement",
+    "WhileStatement",
+    "DoWhileStatement",
+    "ForStatement",
+    "ForInStatement",
+    "ForOfStatement",
+    "VariableDeclaration",
+    "FunctionDeclaration",
+    "ClassDeclaration",
+];
+
+const MODULE_TYPES: [&str; 4] = [
+    "ImportDeclaration",
+    "ExportNamedDeclaration",
+    "ExportDefaultDeclaration",
+    "ExportAllDeclaration",
+];
+
+// Whether the text is one of the words.
+fn is_one_of(words: &[&str], text: &str) -> bool
+    ensures { result ≡ is_one_of (map (λ w. w.now) words.now) text.now }
+{
+    for word in words {
+        if text == *word {
+            return true;
+        }
+    }
+    false
+}
+
+/// Whether the value is a node of one of these types.
+pub fn has_one_of(types: &[&str], value: &Value) -> bool
+    ensures { result ≡ has_one_of (map (λ w. w.now) types.now) (view value.now) }
+{
+    match text_at("type", value) {
+        None => false,
+        Some(name) => is_one_of(types, name),
+    }
+}
+
+/// Whether the value is an expression.
+pub fn is_expression(value: &Value) -> bool
+    ensures { result ≡ is_expression (view value.now) }
+{
+    has_one_of(&EXPRESSION_TYPES, value)
+}
+
+/// Whether the value is an identifier.
+pub fn is_identifier(value: &Value) -> bool
+    ensures { result ≡ is_identifier (view value.now) }
+{
+    has_type("Identifier", value)
+}
+
+// Whether the value is a block.
+fn is_block(value: &Value) -> bool
+    ensures { result ≡ is_block (view value.now) }
+{
+    has_type("BlockStatement", value)
+}
+
+// Whether the value is a declaration of variables.
+fn is_variable(value: &Value) -> bool
+    ensures { result ≡ is_variable (view value.now) }
+{
+    has_type("VariableDeclaration", value)
+}
+
+// Whether the value is a name or a pattern without a default.
+fn is_pattern(value: &Value) -> bool
+    ensures { result ≡ is_pattern (view value.now) }
+{
+    has_one_of(&["Identifier", "ObjectPattern", "ArrayPattern"], value)
+}
+
+// Whether the value is a pattern with a default.
+fn is_default(value: &Value) -> bool
+    ensures { result ≡ is_default (view value.now) }
+{
+    has_type("AssignmentPattern", value)
+}
+
+// ---- forms of a type that a place asks for
+
+/// Whether the field is true.
+pub fn has_true(key: &str, value: &Value) -> bool
+    ensures { result ≡ has_true key.now (view value.now) }
+{
+    match value.get(key) {
+        None => false,
+        Some(found) => match found.as_bool() {
+            None => false,
+            Some(flag) => flag,
+        },
+    }
+}
+
+// Whether it is a member that may be assigned to (ECMA-262, AssignmentTargetType).
+fn is_member_target(value: &Value) -> bool
+    ensures { result ≡ is_member_target (view value.now) }
+{
+    has_type("MemberExpression", value) && !has_true("optional", value)
+}
+
+// Whether it is what a method has as its value.
+fn is_method(value: &Value) -> bool
+    ensures { result ≡ is_method (view value.now) }
+{
+    has_type("FunctionExpression", value) && !is_given("id", value)
+}
+
+// Whether there is one declarator, which has an initializer only where it may.
+#[tactic(auto, using(crate::proofs::Lists::is_head_by_many))]
+fn is_head_by(may_have_init: bool, declarators: &[Value]) -> bool
+    ensures { result ≡ is_head_by may_have_init (items_view declarators.now) }
+{
+    match declarators {
+        [declarator] => may_have_init || !is_given("init", declarator),
+        _ => false,
+    }
+}
+
+// Whether the declaration is the head of a `for..in` (true) or `for..of`.
+fn is_head(enumerates: bool, value: &Value) -> bool
+    ensures { result ≡ is_head enumerates (view value.now) }
+{
+    match list_at("declarations", value) {
+        None => false,
+        Some(declarators) => {
+            is_head_by(enumerates && has_text("kind", "var", value), declarators)
+        }
+    }
+}
+
+// Whether a piece of a template says that it is the last where it is; it may say nothing.
+fn is_piece(last: bool, tail: Option<bool>) -> bool
+    ensures { result ≡ is_piece last tail }
+{
+    match tail {
+        None => true,
+        Some(tail) => last == tail,
+    }
+}
+
+// ---- places
+
+// Whether the value is a statement that may stand in such a body.
+fn is_statement_in(depth: Depth, value: &Value) -> bool
+    ensures { result ≡ is_statement_in (depth_of depth) (view value.now) }
+{
+    match depth {
+        Depth::InModule => has_one_of(&STATEMENT_TYPES, value) || has_one_of(&MODULE_TYPES, value),
+        Depth::InBody => has_one_of(&STATEMENT_TYPES, value),
+        Depth::Nested => has_one_of(&STATEMENT_TYPES, value),
+    }
+}
+
+// Whether it is the head of a `for..in` (true) or `for..of`.
+fn is_loop_left(enumerates: bool, value: &Value) -> bool
+    ensures { result ≡ stands_as (class_of (class.LoopLeft enumerates)) (view value.now) }
+{
+    if is_variable(value) {
+        is_head(enumerates, value)
+    } else {
+        is_pattern(value) || is_member_target(value)
+    }
+}
+
+// Whether the value is a member of a class.
+fn is_member_of_class(value: &Value) -> bool
+    ensures { result ≡ stands_as (class_of class.ClassMember) (view value.now) }
+{
+    has_one_of(
+        &["MethodDefinition", "PropertyDefinition", "StaticBlock"],
+        value,
+    )
+}
+
+// Whether the value is a specifier of an import.
+fn is_import(value: &Value) -> bool
+    ensures { result ≡ stands_as (class_of class.Import) (view value.now) }
+{
+    has_one_of(
+        &[
+            "ImportSpecifier",
+            "ImportDefaultSpecifier",
+            "ImportNamespaceSpecifier",
+        ],
+        value,
+    )
+}
+
+// Whether the value may be exported by default.
+fn is_default_export(value: &Value) -> bool
+    ensures { result ≡ stands_as (class_of class.DefaultExport) (view value.now) }
+{
+    is_expression(value) || has_one_of(&["FunctionDeclaration", "ClassDeclaration"], value)
+}
+
+// The letters of a word of a meta property.
+fn letters_of(word: MetaWord) -> &'static str
+    ensures { result.now ≡ letters_of word }
+{
+    match word {
+        MetaWord::New => "new",
+        MetaWord::Target => "target",
+        MetaWord::Import => "import",
+        MetaWord::Meta => "meta",
+    }
+}
+
+// Whether the value is this word of a meta property.
+fn is_word(word: MetaWord, value: &Value) -> bool
+    ensures { result ≡ stands_as (class_of (class.Word word)) (view value.now) }
+{
+    is_identifier(value) && has_text("name", letters_of(word), value)
+}
+
+/// Whether the value may stand where this class is asked for.
+pub fn stands_as(class: Class, value: &Value) -> bool
+    ensures { result ≡ stands_as (class_of class) (view value.now) }
+{
+    match class {
+        Class::Program => has_type("Program", value),
+        Class::Statement(depth) => is_statement_in(depth, value),
+        Class::Block | Class::FunctionBody => is_block(value),
+        Class::Case => has_type("SwitchCase", value),
+        Class::Catch => has_type("CatchClause", value),
+        Class::Init => is_variable(value) || is_expression(value),
+        Class::LoopLeft(enumerates) => is_loop_left(enumerates, value),
+        Class::Declarator => has_type("VariableDeclarator", value),
+        Class::Pattern | Class::ElementTarget => is_pattern(value),
+        Class::PatternElement | Class::Parameter | Class::TargetElement => {
+            is_pattern(value) || is_default(value)
+        }
+        Class::PatternProperty | Class::TargetProperty => has_type("Property", value),
+        Class::PatternRest | Class::TargetRest => has_type("RestElement", value),
+        Class::Binding | Class::Label | Class::TargetName => is_identifier(value),
+        Class::PrivateName => has_type("PrivateIdentifier", value),
+        Class::ArrowBody => is_block(value) || is_expression(value),
+        Class::ClassBody => has_type("ClassBody", value),
+        Class::ClassMember => is_member_of_class(value),
+        Class::Method => is_method(value),
+        Class::Expression | Class::Link | Class::Key(true) => is_expression(value),
+        Class::Chain => has_one_of(&["CallExpression", "MemberExpression"], value),
+        Class::Argument => has_type("SpreadElement", value) || is_expression(value),
+        Class::InnerArgument => has_type("SpreadElement", value),
+        Class::Super => has_type("Super", value),
+        Class::ObjectProperty => has_one_of(&["Property", "SpreadElement"], value),
+        Class::Key(false) | Class::InnerKey => is_identifier(value) || is_key_literal(value),
+        Class::PrivateOrKey => {
+            is_identifier(value) || (is_key_literal(value) || has_type("PrivateIdentifier", value))
+        }
+        Class::TaggedTemplate => has_type("TemplateLiteral", value),
+        Class::Target => is_pattern(value) || is_member_target(value),
+        Class::SimpleTarget => is_identifier(value) || is_member_target(value),
+        Class::MemberTarget => is_member_target(value),
+        Class::NamedTarget => is_identifier(value) || is_default(value),
+        Class::Import => is_import(value),
+        Class::ModuleName => is_identifier(value) || is_string_literal(value),
+        Class::String => is_string_literal(value),
+        Class::ExportedDeclaration => has_one_of(&DECLARATION_TYPES, value),
+        Class::DefaultExport => is_default_export(value),
+        Class::Word(word) => is_word(word, value),
+    }
+}
+
+/// Whether the type of the node, and where the place asks for one its form, is one that stands there.
+pub fn may_stand(place: Place, value: &Value) -> bool
+    ensures { result ≡ may_stand (place_of place) (view value.now) }
+{
+    match place {
+        Place::At(class) => stands_as(class, value),
+        Place::Directive => has_type("ExpressionStatement", value),
+        Place::DirectiveText => has_type("Literal", value) && text_at("value", value).is_some(),
+        Place::Quasi(_, last) => {
+            has_type("TemplateElement", value) && is_piece(last, flag_at("tail", value))
+        }
+        Place::Exported(_) => has_type("ExportSpecifier", value),
+        Place::LocalName => is_identifier(value),
+    }
+}
+
+// ---- forms that aren't read
+
+// Whether the text begins with the other one.
+fn begins_with(start: &[u8], text: &[u8]) -> bool
+    ensures { result ≡ begins_with start.now text.now }
+{
+    match start {
+        [] => true,
+        [first, rest @ ..] => match text {
+            [] => false,
+            [byte, after @ ..] => *first == *byte && begins_with(rest, after),
+        },
+    }
+}
+
+// Whether it is a type of TypeScript's or of JSX's.
+fn is_foreign(value: &Value) -> bool
+    ensures { result ≡ is_foreign (view value.now) }
+{
+    match text_at("type", value) {
+        None => false,
+        Some(name) => begins_with(b"TS", name.as_bytes()) || begins_with(b"JSX", name.as_bytes()),
+    }
+}
+
+// Whether the type is TypeScript's, JSX's, or one of JavaScript's that isn't read.
+fn has_unread_type(value: &Value) -> bool
+    ensures { result ≡ has_unread_type (view value.now) }
+{
+    has_one_of(
+        &[
+            "AwaitExpression",
+            "WithStatement",
+            "ParenthesizedExpression",
+            "Decorator",
+            "AccessorProperty",
+        ],
+        value,
+    ) || is_foreign(value)
+}
+
+// Whether the literal there is looked at for its text alone, as that of a directive is.
+fn is_for_text(place: Place) -> bool
+    ensures { result ≡ is_for_text (place_of place) }
+{
+    match place {
+        Place::DirectiveText => true,
+        _ => false,
+    }
+}
+
+/// Whether a node whose type isn't in the table is a form that isn't read.
+#[tactic(auto, using(crate::proofs::Typed::unknown_unread))]
+pub fn is_unread_unknown(place: Place, value: &Value) -> bool
+    ensures { (strict : Bool) → kind_of (view value.now) ≡ None → result ≡ is_unread strict (place_of place) (view value.now) }
+{
+    has_unread_type(value) || (!is_for_text(place) && !is_bare("decorators", value))
+}
+
+// Whether nodes of the type have the type that is wanted.
+fn is(kind: Kind, wanted: Kind) -> bool
+    ensures { (d : Data) (w : List ℕ) → kind_of d ≡ Some (kind_of_node kind) → word_in types w ≡ Some (kind_of_node wanted) → result ≡ has_type w d }
+{
+    kind == wanted
+}
+
+// Whether nodes of the type are functions, which may be asynchronous.
+#[tactic(auto, using(crate::proofs::Typed::one_of_three))]
+fn is_function(kind: Kind) -> bool
+    ensures { (d : Data) → kind_of d ≡ Some (kind_of_node kind) → result ≡ has_one_of (codes "FunctionDeclaration" ∷ codes "FunctionExpression" ∷ codes "ArrowFunctionExpression" ∷ []) d }
+{
+    is(kind, Kind::FunctionDeclaration)
+        || (is(kind, Kind::FunctionExpression) || is(kind, Kind::ArrowFunctionExpression))
+}
+
+// Whether nodes of the type name a module, and may have attributes of its import.
+#[tactic(auto, using(crate::proofs::Typed::one_of_three))]
+fn names_module(kind: Kind) -> bool
+    ensures { (d : Data) → kind_of d ≡ Some (kind_of_node kind) → result ≡ has_one_of (codes "ImportDeclaration" ∷ codes "ExportNamedDeclaration" ∷ codes "ExportAllDeclaration" ∷ []) d }
+{
+    is(kind, Kind::ImportDeclaration)
+        || (is(kind, Kind::ExportNamedDeclaration) || is(kind, Kind::ExportAllDeclaration))
+}
+
+// Whether it is an asynchronous function or loop, a declaration of `using`, or has import attributes or the options of
+// an import.
+fn has_unread_field(kind: Kind, value: &Value) -> bool
+    ensures { kind_of (view value.now) ≡ Some (kind_of_node kind) → result ≡ has_unread_field (view value.now) }
+{
+    (is_function(kind) && has_true("async", value))
+        || (is(kind, Kind::ForOfStatement) && has_true("await", value))
+        || (is(kind, Kind::VariableDeclaration)
+            && (has_text("kind", "using", value) || has_text("kind", "await using", value)))
+        || (names_module(kind) && !is_bare("attributes", value))
+        || (is(kind, Kind::ImportExpression) && is_given("options", value))
+}
+
+// Whether a field says that the form isn't read, or it is a literal that isn't.
+fn is_unread_itself(kind: Kind, value: &Value) -> bool
+    ensures { kind_of (view value.now) ≡ Some (kind_of_node kind) → result ≡ is_unread_itself (view value.now) }
+{
+    has_unread_field(kind, value)
+        || (!is_bare("decorators", value) || (is(kind, Kind::Literal) && is_unread_literal(value)))
+}
+
+// Whether the form isn't read wherever it stands.
+fn is_unread_form(place: Place, kind: Kind, value: &Value) -> bool
+    ensures { kind_of (view value.now) ≡ Some (kind_of_node kind) → result ≡ is_unread_form (place_of place) (view value.now) }
+{
+    !is_for_text(place) && is_unread_itself(kind, value)
+}
+
+// Whether a statement there is in another one.
+fn is_nested(class: Class) -> bool
+    ensures { result ≡ is_nested (class_of class) }
+{
+    match class {
+        Class::Statement(Depth::Nested) => true,
+        _ => false,
+    }
+}
+
+// Whether a key there has no brackets.
+fn is_key(class: Class) -> bool
+    ensures { result ≡ is_key (class_of class) }
+{
+    match class {
+        Class::Key(false) | Class::PrivateOrKey | Class::InnerKey => true,
+        _ => false,
+    }
+}
+
+// Whether the form isn't read where it stands: a BigInt as a key without brackets, and a function of sloppy code that
+// isn't directly in a body.
+fn is_unread_there(strict: bool, place: Place, kind: Kind, value: &Value) -> bool
+    ensures { kind_of (view value.now) ≡ Some (kind_of_node kind) → result ≡ is_unread_there strict (place_of place) (view value.now) }
+{
+    match place {
+        Place::At(class) => {
+            (is_key(class) && is_big_int_literal(value))
+                || (!strict && is_nested(class) && is(kind, Kind::FunctionDeclaration))
+        }
+        _ => false,
+    }
+}
+
+/// Whether a node of the type is a form that isn't read, in strict or sloppy code.
+pub fn is_unread(strict: bool, place: Place, kind: Kind, value: &Value) -> bool
+    ensures { kind_of (view value.now) ≡ Some (kind_of_node kind) → result ≡ is_unread strict (place_of place) (view value.now) }
+{
+    is_unread_form(place, kind, value) || is_unread_there(strict, place, kind, value)
+}
+
+/// Whether the value is a defect of the node above: it is no object, or has another type than the place asks for.
+#[tactic(auto, using(crate::proofs::Typed::unknown_stands))]
+pub fn is_misplaced(strict: bool, place: Place, value: &Value) -> bool
+    ensures { result ≡ is_misplaced strict (place_of place) (view value.now) }
+{
+    if !value.is_object() {
+        return true;
+    }
+    match kind_of(value) {
+        None => false,
+        Some(kind) => { !is_unread(strict, place, kind, value) && !may_stand(place, value) }
+    }
+}

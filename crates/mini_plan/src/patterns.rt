@@ -1,0 +1,208 @@
+// Patterns: those that a declaration binds, and those that are assigned to (ESTree; ECMA-262, "Destructuring Binding
+// Patterns" and "Destructuring Assignment").
+
+ghost use Rattle.std.specs.Prelude.{◌≡◌, [], ◌∷◌, map, option_map, codes};
+ghost use Rattle.serde_json.specs.View.{view};
+ghost use Rattle.mini_accept.specs.Patterns as pattern;
+ghost use Rattle.mini_accept.specs.Patterns.{is_binding, default_left};
+ghost use Rattle.mini_accept.specs.Plans.{inner};
+ghost use Rattle.mini_structure.specs.WellShaped.{an_expression};
+ghost use Rattle.mini_fields.specs.Views.{place_of};
+ghost use Rattle.mini_plan.specs.Views.{child_of, plan_of};
+
+use crate::plan::{Below, Items, Plan};
+use crate::properties::{is_init, object_property, repeats_key};
+use mini_fields::{Class, Place, child_has_type, flag_at, list_at, property_kind_at};
+use mini_model::Shape;
+use serde_json::Value;
+
+// Whether the pattern in the place is one that a declaration binds.
+fn is_binding(place: Place) -> bool
+    ensures { result ≡ is_binding (place_of place) }
+{
+    match place {
+        Place::At(Class::Pattern)
+        | Place::At(Class::PatternElement)
+        | Place::At(Class::Parameter)
+        | Place::At(Class::PatternRest) => true,
+        _ => false,
+    }
+}
+
+const PATTERN_PROPERTIES: [Below; 1] = [Below::Many("properties", Items::PatternProperties)];
+
+const TARGET_PROPERTIES: [Below; 1] = [Below::Many("properties", Items::TargetProperties)];
+
+/// `ObjectPattern`
+pub fn object_pattern(place: Place, value: &Value) -> Option<Plan<'_>>
+    ensures { option_map (plan_of (view value.now)) result ≡ pattern.object_pattern (place_of place) (view value.now) }
+{
+    list_at("properties", value)?;
+    if is_binding(place) {
+        Plan::of(Shape::ObjectPattern, &PATTERN_PROPERTIES)
+    } else {
+        Plan::of(Shape::ObjectAssignmentTarget, &TARGET_PROPERTIES)
+    }
+}
+
+const PATTERN_ELEMENTS: [Below; 1] = [Below::Many("elements", Items::PatternElements)];
+
+const TARGET_ELEMENTS: [Below; 1] = [Below::Many("elements", Items::TargetElements)];
+
+/// `ArrayPattern`
+pub fn array_pattern(place: Place, value: &Value) -> Option<Plan<'_>>
+    ensures { option_map (plan_of (view value.now)) result ≡ pattern.array_pattern (place_of place) (view value.now) }
+{
+    list_at("elements", value)?;
+    if is_binding(place) {
+        Plan::of(Shape::ArrayPattern, &PATTERN_ELEMENTS)
+    } else {
+        Plan::of(Shape::ArrayAssignmentTarget, &TARGET_ELEMENTS)
+    }
+}
+
+const COMPUTED_BINDING: [Below; 2] = [
+    Below::Inner("key", Class::Expression),
+    Below::Node("value", Class::PatternElement),
+];
+
+const BINDING: [Below; 2] = [
+    Below::Node("key", Class::InnerKey),
+    Below::Node("value", Class::PatternElement),
+];
+
+const SHORTHAND: [Below; 2] = [
+    Below::Node("key", Class::Label),
+    Below::Node("value", Class::NamedTarget),
+];
+
+const COMPUTED_MEMBER: [Below; 2] = [
+    Below::Inner("key", Class::Expression),
+    Below::Inner("value", Class::MemberTarget),
+];
+
+const MEMBER: [Below; 2] = [
+    Below::Node("key", Class::InnerKey),
+    Below::Inner("value", Class::MemberTarget),
+];
+
+const COMPUTED_TARGET: [Below; 2] = [
+    Below::Inner("key", Class::Expression),
+    Below::Node("value", Class::TargetElement),
+];
+
+const TARGET: [Below; 2] = [
+    Below::Node("key", Class::InnerKey),
+    Below::Node("value", Class::TargetElement),
+];
+
+// A property of a pattern that is assigned to.
+fn target_property(shorthand: bool, computed: bool, value: &Value) -> Option<Plan<'_>>
+    ensures { option_map (plan_of (view value.now)) result ≡ pattern.target_property shorthand computed (view value.now) }
+{
+    if shorthand {
+        return Plan::of(Shape::AssignmentTargetPropertyIdentifier, &SHORTHAND);
+    }
+    let is_member = child_has_type("value", "MemberExpression", value);
+    let shape = Shape::AssignmentTargetPropertyProperty(computed);
+    match (is_member, computed) {
+        (true, true) => Plan::of(shape, &COMPUTED_MEMBER),
+        (true, false) => Plan::of(shape, &MEMBER),
+        (false, true) => Plan::of(shape, &COMPUTED_TARGET),
+        (false, false) => Plan::of(shape, &TARGET),
+    }
+}
+
+/// `Property` of a pattern: no method and no accessor; a shorthand property repeats its key.
+fn pattern_property(binds: bool, value: &Value) -> Option<Plan<'_>>
+    ensures { option_map (plan_of (view value.now)) result ≡ pattern.pattern_property binds (view value.now) }
+{
+    let kind = property_kind_at("kind", value)?;
+    let is_method = flag_at("method", value)?;
+    let shorthand = flag_at("shorthand", value)?;
+    let computed = flag_at("computed", value)?;
+    if !is_init(kind) || is_method || shorthand && (computed || !repeats_key(value)) {
+        return None;
+    }
+    if !binds {
+        return target_property(shorthand, computed, value);
+    }
+    let shape = Shape::BindingProperty(shorthand, computed);
+    Plan::of(
+        shape,
+        if computed {
+            &COMPUTED_BINDING
+        } else {
+            &BINDING
+        },
+    )
+}
+
+/// `Property`, of a pattern or of an object literal.
+pub fn property(place: Place, value: &Value) -> Option<Plan<'_>>
+    ensures { option_map (plan_of (view value.now)) result ≡ pattern.property (place_of place) (view value.now) }
+{
+    match place {
+        Place::At(Class::PatternProperty) => pattern_property(true, value),
+        Place::At(Class::TargetProperty) => pattern_property(false, value),
+        _ => object_property(value),
+    }
+}
+
+const PATTERN_REST: [Below; 1] = [Below::Node("argument", Class::Pattern)];
+
+const MEMBER_REST: [Below; 1] = [Below::Inner("argument", Class::MemberTarget)];
+
+const TARGET_REST: [Below; 1] = [Below::Node("argument", Class::ElementTarget)];
+
+/// `RestElement`
+pub fn rest(place: Place, value: &Value) -> Option<Plan<'_>>
+    ensures { option_map (plan_of (view value.now)) result ≡ pattern.rest (place_of place) (view value.now) }
+{
+    if is_binding(place) {
+        Plan::of(Shape::RestElement, &PATTERN_REST)
+    } else if child_has_type("argument", "MemberExpression", value) {
+        Plan::of(Shape::RestElement, &MEMBER_REST)
+    } else {
+        Plan::of(Shape::RestElement, &TARGET_REST)
+    }
+}
+
+const NAME_DEFAULT: [Below; 2] = [
+    Below::Node("left", Class::TargetName),
+    Below::Inner("right", Class::Expression),
+];
+
+const PATTERN_DEFAULT: [Below; 2] = [
+    Below::Node("left", Class::Pattern),
+    Below::Inner("right", Class::Expression),
+];
+
+const MEMBER_DEFAULT: [Below; 2] = [
+    Below::Inner("left", Class::MemberTarget),
+    Below::Inner("right", Class::Expression),
+];
+
+const TARGET_DEFAULT: [Below; 2] = [
+    Below::Node("left", Class::ElementTarget),
+    Below::Inner("right", Class::Expression),
+];
+
+// The children of a pattern with a default: a shorthand property's value is a name.
+fn default_children(place: Place, value: &Value) -> &'static [Below]
+    ensures { map (child_of (view value.now)) result.now ≡ default_left (place_of place) (view value.now) ∷ inner (codes "right") an_expression ∷ [] }
+{
+    match place {
+        Place::At(Class::NamedTarget) => &NAME_DEFAULT,
+        _ if is_binding(place) => &PATTERN_DEFAULT,
+        _ if child_has_type("left", "MemberExpression", value) => &MEMBER_DEFAULT,
+        _ => &TARGET_DEFAULT,
+    }
+}
+
+/// `AssignmentPattern`
+pub fn default(place: Place, value: &Value) -> Option<Plan<'_>>
+    ensures { option_map (plan_of (view value.now)) result ≡ pattern.default (place_of place) (view value.now) }
+{
+    Plan::of(Shape::AssignmentPattern, default_children(place, value))
+}
