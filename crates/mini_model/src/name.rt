@@ -1,3 +1,5 @@
+ghost use Rattle.std.specs.Prelude.{◌≡◌};
+
 use mini_text::Text;
 
 /// The number of a symbol: one declared name of the program, whatever its spelling.
@@ -6,8 +8,30 @@ pub struct SymbolId(pub u32);
 
 /// A name where it stands in a node: its spelling, and its symbol where a scope declares it. A name without a symbol
 /// is unresolved.
-#[derive(Drop)]
 pub struct Name {
     pub spelling: Text,
     pub symbol: Option<SymbolId>,
+}
+
+impl Name {
+    /// The name's spelling, without its symbol.
+    pub fn into_spelling(self) -> Text
+        ensures { result ≡ self.spelling }
+    {
+        let Name {
+            spelling,
+            symbol: _,
+        } = self;
+        spelling
+    }
+}
+
+impl Drop for Name {
+    fn drop(self) {
+        let Name {
+            spelling,
+            symbol: _,
+        } = self;
+        drop(spelling);
+    }
 }

@@ -2,13 +2,12 @@ use crate::kind::{MetaPropertyKind, MethodDefinitionKind, PropertyKind, Variable
 use crate::operator::{
     AssignmentOperator, BinaryOperator, LogicalOperator, UnaryOperator, UpdateOperator,
 };
-use mini_text::{Text, TextList};
+use mini_text::{BoxedText, Text, TextList};
 
 /// What a node of the plain form is: its kind with its plain fields. Its names, its number and its children stand
 /// beside it. A shape has one child for each field of its type in ESTree (ES5 to ES2022) that holds a node or a list of
 /// nodes, in the order in which each variant names them; a list field is one child, `Listed` over its items, and a part
 /// that is absent is `Absent`.
-#[derive(Drop)]
 pub enum Shape {
     /// A part that is absent, and a hole among the elements of an array.
     Absent,
@@ -119,7 +118,7 @@ pub enum Shape {
     /// No child.
     NullLiteral,
     /// No child. The fields: `pattern`, `flags`.
-    RegExpLiteral(Text, Text),
+    RegExpLiteral(BoxedText, BoxedText),
     /// No child.
     BigIntLiteral(u128),
 
@@ -175,7 +174,7 @@ pub enum Shape {
     /// `quasis`, `expressions`.
     TemplateLiteral,
     /// No child. The fields: `tail`, the raw text, and the cooked one, if there is one.
-    TemplateElement(bool, Text, Option<Text>),
+    TemplateElement(bool, BoxedText, Option<BoxedText>),
     /// `tag`, `quasi`.
     TaggedTemplateExpression,
     /// `meta`, `property`, each an `IdentifierName`.
@@ -202,4 +201,106 @@ pub enum Shape {
     AssignmentTargetPropertyIdentifier,
     /// `key`, `value`: another one. The field: `computed`.
     AssignmentTargetPropertyProperty(bool),
+}
+
+impl Drop for Shape {
+    fn drop(self) {
+        match self {
+            Shape::Absent
+            | Shape::Listed
+            | Shape::InnerExpression
+            | Shape::ExpressionStatement
+            | Shape::EmptyStatement
+            | Shape::DebuggerStatement
+            | Shape::BlockStatement
+            | Shape::LabeledStatement
+            | Shape::BreakStatement
+            | Shape::ContinueStatement
+            | Shape::ReturnStatement
+            | Shape::ThrowStatement
+            | Shape::IfStatement
+            | Shape::SwitchStatement
+            | Shape::SwitchCase
+            | Shape::TryStatement
+            | Shape::CatchClause
+            | Shape::WhileStatement
+            | Shape::DoWhileStatement
+            | Shape::ForStatement
+            | Shape::ForInStatement
+            | Shape::ForOfStatement
+            | Shape::VariableDeclaration(_)
+            | Shape::VariableDeclarator
+            | Shape::FunctionBody
+            | Shape::Class(_)
+            | Shape::ClassBody
+            | Shape::MethodDefinition(_, _, _)
+            | Shape::PropertyDefinition(_, _)
+            | Shape::StaticBlock
+            | Shape::ImportDeclaration
+            | Shape::ImportSpecifier
+            | Shape::ImportDefaultSpecifier
+            | Shape::ImportNamespaceSpecifier
+            | Shape::ExportNamedDeclaration
+            | Shape::ExportSpecifier
+            | Shape::ExportDefaultDeclaration
+            | Shape::ExportAllDeclaration
+            | Shape::Identifier
+            | Shape::BindingIdentifier
+            | Shape::NumericLiteral(_)
+            | Shape::BooleanLiteral(_)
+            | Shape::NullLiteral
+            | Shape::BigIntLiteral(_)
+            | Shape::ThisExpression
+            | Shape::Super
+            | Shape::ArrayExpression
+            | Shape::ObjectExpression
+            | Shape::ObjectProperty(_, _, _, _)
+            | Shape::SpreadElement
+            | Shape::UnaryExpression(_)
+            | Shape::UpdateExpression(_, _)
+            | Shape::BinaryExpression(_)
+            | Shape::PrivateInExpression
+            | Shape::LogicalExpression(_)
+            | Shape::AssignmentExpression(_)
+            | Shape::ConditionalExpression
+            | Shape::SequenceExpression
+            | Shape::CallExpression(_)
+            | Shape::SuperCallExpression
+            | Shape::NewExpression
+            | Shape::StaticMemberExpression(_)
+            | Shape::ComputedMemberExpression(_)
+            | Shape::PrivateFieldExpression(_)
+            | Shape::SuperStaticMemberExpression
+            | Shape::SuperComputedMemberExpression
+            | Shape::ChainExpression
+            | Shape::YieldExpression(_)
+            | Shape::TemplateLiteral
+            | Shape::TaggedTemplateExpression
+            | Shape::MetaProperty(_)
+            | Shape::ImportExpression
+            | Shape::ObjectPattern
+            | Shape::ArrayPattern
+            | Shape::BindingProperty(_, _)
+            | Shape::RestElement
+            | Shape::AssignmentPattern
+            | Shape::ObjectAssignmentTarget
+            | Shape::ArrayAssignmentTarget
+            | Shape::AssignmentTargetPropertyIdentifier
+            | Shape::AssignmentTargetPropertyProperty(_) => {}
+            Shape::Program(_, directives) => drop(directives),
+            Shape::Function(_, _, directives) => drop(directives),
+            Shape::ArrowFunctionExpression(directives) => drop(directives),
+            Shape::IdentifierName(text) => drop(text),
+            Shape::PrivateIdentifier(text) => drop(text),
+            Shape::StringLiteral(text) => drop(text),
+            Shape::RegExpLiteral(pattern, flags) => {
+                drop(pattern);
+                drop(flags);
+            }
+            Shape::TemplateElement(_, raw, cooked) => {
+                drop(raw);
+                drop(cooked);
+            }
+        }
+    }
 }

@@ -56,7 +56,6 @@ read [] i d h = absurd (omega arith)
 read (x ∷ xs) zero d h = refl
 read (x ∷ xs) (suc i) d h = read xs i d (omega arith)
 
-
 pub smaller : (ts : Trees) (i : ℕ) → i < count ts → node_count (child_or_absent ts i) ≤ node_counts ts
 smaller none i h = absurd (omega (arith, h))
 smaller (t ▸ ts) zero h = omega arith

@@ -5,7 +5,7 @@ ghost use Rattle.std.specs.Prelude.{◌≡◌, ◌<◌, ◌≤◌, ◌+◌, ◌=
 ghost use Rattle.std.specs.Borrow.{sem};
 ghost use Rattle.mini_model.specs.Tree.{node, none, ◌▸◌, count, absent, leaf, child_or_absent, shape_of, children, node_count, node_counts};
 ghost use Rattle.mini_model.specs.Paths.{append};
-ghost use Rattle.mini_node.specs.Children.{part, with_part, with_child, with_inserted, without, first_children, rest_children, with_swapped, is_bare as is_it_bare, is_nameless as is_it_nameless, like, names, names_of, trees_of};
+ghost use Rattle.mini_node.specs.Children.{part, with_part, with_child, with_inserted, without, first_children, rest_children, with_swapped, is_bare as is_it_bare, is_nameless as is_it_nameless, like, names, names_of, number_of, trees_of};
 ghost use Rattle.mini_node.specs.Lends.{LendsChild, LendsPart, LendsChildren};
 
 use mini_model::{Name, Shape};
@@ -16,7 +16,6 @@ use std::mem;
 
 /// A node of a syntax tree.
 #[cycle(nodes)]
-#[derive(Drop)]
 pub struct Node {
     shape: Shape,
     name: Option<Name>,
@@ -45,7 +44,6 @@ impl Model for Node {
 
 /// The children of a node, in order. A contract sees their trees.
 #[cycle(nodes)]
-#[derive(Drop)]
 pub struct Nodes {
     items: Vec<Node>,
 }
@@ -225,11 +223,41 @@ impl Node {
         }
     }
 
+    /// A node of these parts.
+    pub fn with(shape: Shape, name: Option<Name>, number: u32, children: Nodes) -> Node
+        ensures { result ≡ node shape (names name) number children }
+    {
+        Node {
+            shape,
+            name,
+            number,
+            children,
+        }
+    }
+
+    /// Its shape, its name, its number and its children.
+    pub fn into_parts(self) -> (Shape, Option<Name>, u32, Nodes)
+        ensures shape { result.0 ≡ shape_of self }
+        ensures name { names result.1 ≡ names_of self }
+        ensures number { result.2 ≡ number_of self }
+        ensures children { result.3 ≡ children self }
+        ensures smaller { node_counts result.3 < node_count self }
+    {
+        let Node {
+            shape,
+            name,
+            number,
+            children,
+        } = self;
+        (shape, name, number, children)
+    }
+
     /// The node over other children.
     pub fn over(self, children: Nodes) -> Node
         ensures { result ≡ like self children }
     {
-        Node { children, ..self }
+        let (shape, name, number, _) = self.into_parts();
+        Node::with(shape, name, number, children)
     }
 
     /// Takes its children out.
@@ -291,7 +319,8 @@ impl Node {
         ensures value { result ≡ children self }
         ensures smaller { node_counts result < node_count self }
     {
-        self.children
+        let (_, _, _, children) = self.into_parts();
+        children
     }
 
     /// The child at a place where there is one.
@@ -320,6 +349,29 @@ impl Node {
         ensures parts { result ≡ true → count (children self.now) ≡ arity }
     {
         self.is_nameless() && self.children.len() == arity
+    }
+}
+
+impl Drop for Nodes {
+    #[cycle(dropping)]
+    fn drop(self) {
+        let Nodes { items } = self;
+        drop(items);
+    }
+}
+
+impl Drop for Node {
+    #[cycle(dropping)]
+    fn drop(self) {
+        let Node {
+            shape,
+            name,
+            number: _,
+            children,
+        } = self;
+        drop(shape);
+        drop(name);
+        drop(children);
     }
 }
 

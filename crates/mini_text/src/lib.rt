@@ -1,6 +1,7 @@
 //! Lists that own their items, texts in UTF-16 units, and names.
 #![tactic(auto)]
 
+mod boxed;
 mod laws;
 mod list;
 mod memory;
@@ -9,6 +10,7 @@ mod name;
 mod tests;
 mod text;
 
+pub use boxed::BoxedText;
 pub use laws::{bytes_of_units, names_are_paired, units_of_bytes};
 pub use list::OwnedList;
 pub use memory::OutOfMemory;

@@ -8,7 +8,6 @@ use std::alloc::{AllocFailed, Global};
 use std::marker::Model;
 
 /// A list that owns its items and keeps the allocator that it was made with. A contract sees the list of the items.
-#[derive(Drop)]
 pub struct OwnedList<T> {
     items: Vec<T>,
 }
@@ -137,5 +136,12 @@ impl<T: Drop> OwnedList<T> {
             Ok(()) => Ok(()),
             Err(_) => Err(OutOfMemory),
         }
+    }
+}
+
+impl<T: Drop> Drop for OwnedList<T> {
+    fn drop(self) {
+        let OwnedList { items } = self;
+        drop(items);
     }
 }

@@ -7,7 +7,6 @@ use std::marker::Model;
 use unicode_ident::{is_xid_continue, is_xid_start};
 
 /// A text that is an identifier's name (ECMA-262, "Names and Keywords"). A contract sees the text.
-#[derive(Drop)]
 pub struct Name {
     text: Text,
 }
@@ -43,6 +42,13 @@ impl Name {
         ensures named { is_identifier_name self.now ≡ true }
     {
         &self.text
+    }
+}
+
+impl Drop for Name {
+    fn drop(self) {
+        let Name { text } = self;
+        drop(text);
     }
 }
 
