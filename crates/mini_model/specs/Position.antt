@@ -10,7 +10,6 @@ use Rattle.mini_model.specs.declared.operator.LogicalOperator.TheVariants.{Or, A
 use Rattle.mini_model.specs.declared.operator.UnaryOperator.{UnaryOperator}
 use Rattle.mini_model.specs.declared.operator.UnaryOperator.TheVariants.{UnaryPlus, UnaryNegation, LogicalNot, BitwiseNot, Typeof, Void, Delete}
 use Rattle.mini_model.specs.declared.seat.Seat.{Seat}
-use Rattle.mini_model.specs.declared.seat.StmtSeat.{StmtSeat}
 use Rattle.mini_model.specs.declared.seat.StmtSeat.TheVariants as stmt_seat
 use Rattle.mini_model.specs.declared.seat.Mix.{Mix}
 use Rattle.mini_model.specs.declared.seat.Mix.TheVariants as mix

@@ -1,10 +1,10 @@
 -- What can be rewritten: each row is a shape and what is written in its place. A node is a redex where a row names it
 -- and what is written weighs less there. No order of rewriting is meant.
-use Rattle.std.specs.Prelude.{◌≡◌, ◌<◌, ◌⊎◌, ℕ, zero, suc, true, false}
+use Rattle.std.specs.Prelude.{◌≡◌, ◌<◌, ◌⊎◌, ℕ, true, false}
 use Rattle.mini_model.specs.declared.operator.LogicalOperator.TheVariants.{Or, And}
 use Rattle.mini_model.specs.declared.seat.Seat.{Seat}
-use Rattle.mini_model.specs.Tree.{Tree, Trees, node, none, ◌▸◌, count, expression_statement, if_else, if_alone, negation, logical, conditional}
-use Rattle.mini_model.specs.Position.{Position, Expr, Stmt, child_position, statement_expression_seat, left_operand_seat}
+use Rattle.mini_model.specs.Tree.{Tree, Trees, expression_statement, if_else, if_alone, negation, logical, conditional}
+use Rattle.mini_model.specs.Position.{Position, Expr, Stmt, statement_expression_seat, left_operand_seat}
 use Rattle.mini_model.specs.Weight.{weight}
 use Rattle.mini_model.specs.Rewriting.{Everywhere, EverywhereIn}
 use Rattle.mini_model.specs.Terms.{neg, not_of, has_negated_result}

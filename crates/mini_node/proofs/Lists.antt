@@ -4,14 +4,16 @@ use Rattle.std.proofs.Common.{ap, sym, ◌∙◌, arith}
 use Rattle.std.specs.Borrow.{MutBor, Bor}
 use Rattle.std.specs.List.{IsItemAtMut}
 use Rattle.std.specs.Slice.{IsItemAt}
-use Rattle.std.specs.Prelude.{◌+◌, Bool, true, false, nat_eq, ◌&&◌}
+use Rattle.std.specs.Prelude.{◌+◌, true, nat_eq, ◌&&◌}
 use Rattle.std.proofs.lemmas.Bool.{eqb-true}
 use Rattle.std.proofs.Math.Dec.{eqb-zero-suc, eqb-suc-zero, eqb-suc-suc}
 use Rattle.mini_model.specs.declared.name.Name.{Name}
 use Rattle.mini_model.specs.declared.shape.Shape.{Shape}
 use Rattle.mini_model.specs.Tree.{Tree, Trees, node, none, ◌▸◌, count, child_or_absent, children, node_count, node_counts}
 use Rattle.mini_node.specs.Children.{trees_of, with_child, with_inserted, without, first_children, rest_children, has_count, is_bare, is_nameless}
-use Rattle.mini_model.specs.Paths.{append}
+use Rattle.mini_model.specs.Paths.{append, child_at}
+use Rattle.mini_node.specs.Children.{with_swapped}
+use Rattle.std.specs.Option.{option_copied, option_copied_mut}
 
 pub counted : (xs : List Tree) → length xs ≡ count (trees_of xs)
 counted [] = refl
@@ -96,3 +98,29 @@ popped_nodes (u ∷ us) t = let rest = popped_nodes us t in omega (arith, rest)
 
 pub window : (xs : List Tree) (i n : ℕ) → trees_of (take n (drop i xs)) ≡ first_children n (rest_children i (trees_of xs))
 window xs i n = first n (drop i xs) ∙ ap (first_children n) (rest i xs)
+
+pub swapped : (xs : List Tree) (i j : ℕ) → i < length xs → j < length xs → trees_of (swap xs i j) ≡ with_swapped (trees_of xs) i j
+swapped [] i j h k = absurd (omega arith)
+swapped (x ∷ xs) i j h k =
+    set (slice_set (x ∷ xs) i (slice_index_or (x ∷ xs) j x)) j (slice_index_or (x ∷ xs) i x)
+    ∙ ap (λ ts. with_child ts j (slice_index_or (x ∷ xs) i x)) (set (x ∷ xs) i (slice_index_or (x ∷ xs) j x))
+    ∙ ap (λ t. with_child (with_child (trees_of (x ∷ xs)) i t) j (slice_index_or (x ∷ xs) i x)) (read (x ∷ xs) j x k)
+    ∙ ap (λ t. with_child (with_child (trees_of (x ∷ xs)) i (child_or_absent (trees_of (x ∷ xs)) j)) j t) (read (x ∷ xs) i x h)
+
+-- an item that is lent
+
+pub seen_at : (xs : List Tree) (i : ℕ) (r : Option (Bor Tree)) → IsItemAt xs i r → option_copied r ≡ child_at (trees_of xs) i
+seen_at [] i None h = refl
+seen_at (x ∷ xs) zero None h = grind arith
+seen_at (x ∷ xs) (suc i) None h = grind (arith, seen_at xs i None)
+seen_at [] i (Some r) h = grind arith
+seen_at (x ∷ xs) zero (Some r) h = grind arith
+seen_at (x ∷ xs) (suc i) (Some r) h = grind (arith, seen_at xs i (Some r))
+
+pub lent_at : (xs : List Tree) (i : ℕ) (r : Option (MutBor Tree)) → IsItemAtMut xs i r → option_copied_mut r ≡ child_at (trees_of xs) i
+lent_at [] i None h = refl
+lent_at (x ∷ xs) zero None h = grind arith
+lent_at (x ∷ xs) (suc i) None h = grind (arith, lent_at xs i None)
+lent_at [] i (Some r) h = grind arith
+lent_at (x ∷ xs) zero (Some r) h = grind arith
+lent_at (x ∷ xs) (suc i) (Some r) h = grind (arith, lent_at xs i (Some r))

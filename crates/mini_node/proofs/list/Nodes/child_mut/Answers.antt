@@ -2,7 +2,7 @@ use Rattle.std.proofs.Common.{◌∙◌, ap, refl, arith}
 use Rattle.mini_model.specs.Tree.{count, child_or_absent}
 use Rattle.mini_node.specs.Children.{with_child}
 use Rattle.mini_node.proofs.Lists.{set, read, counted}
-use Rattle.mini_node.proofs.Nodes.child_mut.Goals as goal
+use Rattle.mini_node.proofs.list.Nodes.child_mut.Goals as goal
 
 pub returns : goal.returns
 returns c =
