@@ -1,0 +1,186 @@
+-- A resolved tree declares the same names, with the symbols that the scopes around give them.
+use Rattle.std.specs.Prelude.{ℕ, zero, suc, ◌+◌, ◌≡◌, refl, Bool, true, false, ◌&&◌, List, [], ◌∷◌, ◌++◌, length, map, Some, None, if◌then◌else◌}
+use Rattle.std.proofs.Common.{ap, ◌∙◌, sym}
+use Rattle.std.proofs.lemmas.List.{append-nil, map-append}
+use Rattle.mini_model.specs.declared.kind.VariableDeclarationKind.TheVariants.{Var, Let, Const}
+use Rattle.mini_model.specs.declared.name.Name.{Name}
+use Rattle.mini_model.specs.declared.shape.Shape.TheVariants as shape
+use Rattle.mini_model.specs.Tree.{Tree, Trees, node, none, ◌▸◌}
+use Rattle.mini_model.specs.Weight.{same_text}
+use Rattle.mini_names.proofs.Numbers.{none_if, symbol_of_both}
+use Rattle.mini_names.specs.declared.Use.{Use}
+use Rattle.mini_names.specs.declared.Use.TheVariants.{Read, Hoisted}
+use Rattle.mini_names.specs.declared.Binding.{Binding}
+use Rattle.mini_names.specs.declared.Declared.TheVariants as declared
+use Rattle.mini_names.specs.declared.Opening.{Opening}
+use Rattle.mini_names.specs.declared.Opening.TheVariants as opening
+use Rattle.mini_names.specs.DeclaredNames.{names_of, first_names, all_names, with_names}
+use Rattle.mini_names.specs.Scopes.{use_of, is_alone, opening_of, scopes_by, at_or_empty, opened}
+use Rattle.mini_names.specs.Resolved.{Environment, or_else, own_symbol, symbol_of, with_symbol, numbered, symbols, resolved, resolved_from}
+
+-- two lists joined, each of names with symbols
+joined : (u : Use) (env env' : Environment) (xs ys vs ws : List Name) → env ≡ env' → vs ≡ map (with_symbol u env) xs → ws ≡ map (with_symbol u env) ys → vs ++ ws ≡ map (with_symbol u env') (xs ++ ys)
+joined u env env' xs ys vs ws e p q =
+    ap (λ r. r ++ ws) p ∙ ap (λ r. map (with_symbol u env) xs ++ r) q
+    ∙ sym (map-append (with_symbol u env) xs ys) ∙ ap (λ v. map (with_symbol u v) (xs ++ ys)) e
+
+-- ---- the names that are bound
+
+mutual
+  unfolding names_of resolved scopes_by
+
+  pub bound_kept : (u : Use) (env : Environment) (s : ℕ) (t : Tree) → names_of declared.Bound (resolved u env s t) ≡ map (with_symbol u env) (names_of declared.Bound t)
+  bound_kept u env s (node shape.VariableDeclarator xs n ts) = first_kept u (use_of shape.VariableDeclarator u) env s ts refl
+  bound_kept u env s (node shape.Listed xs n ts) = all_bound_kept u 0 env s ts
+  bound_kept u env s (node shape.ObjectPattern xs n ts) = all_bound_kept u 0 env s ts
+  bound_kept u env s (node shape.ArrayPattern xs n ts) = all_bound_kept u 0 env s ts
+  bound_kept u env s (node (shape.BindingProperty shorthand computed) xs n ts) = all_bound_kept u 0 env s ts
+  bound_kept u env s (node shape.RestElement xs n ts) = all_bound_kept u 0 env s ts
+  bound_kept u env s (node shape.AssignmentPattern xs n ts) = all_bound_kept u 0 env s ts
+  bound_kept u env s (node shape.ImportSpecifier xs n ts) = all_bound_kept u 0 env s ts
+  bound_kept u env s (node shape.ImportDefaultSpecifier xs n ts) = all_bound_kept u 0 env s ts
+  bound_kept u env s (node shape.ImportNamespaceSpecifier xs n ts) = all_bound_kept u 0 env s ts
+  bound_kept u env s (node h xs n ts) = refl
+
+  first_kept : (u : Use) (us : ℕ → Use) (env : Environment) (s : ℕ) (ts : Trees) → us 0 ≡ u → first_names (resolved_from (λ k. []) us 0 env s ts) ≡ map (with_symbol u env) (first_names ts)
+  first_kept u us env s none e = refl
+  first_kept u us env s (t ▸ ts) e = ap (λ v. names_of declared.Bound (resolved v (env ++ []) (s + 0) t)) e ∙ bound_kept u (env ++ []) (s + 0) t ∙ ap (λ v. map (with_symbol u v) (names_of declared.Bound t)) (append-nil env)
+
+  pub all_bound_kept : (u : Use) (i : ℕ) (env : Environment) (s : ℕ) (ts : Trees) → all_names declared.Bound (resolved_from (λ k. []) (λ k. u) i env s ts) ≡ map (with_symbol u env) (all_names declared.Bound ts)
+  all_bound_kept u i env s none = refl
+  all_bound_kept u i env s (t ▸ ts) = joined u (env ++ []) env (names_of declared.Bound t) (all_names declared.Bound ts) _ _ (append-nil env) (bound_kept u (env ++ []) (s + 0) t) (all_bound_kept u (suc i) (env ++ []) (s + 0 + symbols u t) ts)
+
+-- ---- the names that are declared directly
+
+-- a declaration that doesn't stand alone has its name outside
+own_outside : (u : Use) (b : Bool) (g : Bool) (t : Tree) (ts : Trees) → b ≡ false → at_or_empty (scopes_by (opening.Function b) (t ▸ ts)) 0 ≡ []
+unfolding scopes_by with_names
+own_outside u true g t ts e = cc
+own_outside u false g t none e = refl
+own_outside u false g t (p ▸ none) e = refl
+own_outside u false g t (p ▸ (q ▸ ts)) e = refl
+
+class_outside : (b c : Bool) (t : Tree) (ts : Trees) → b ≡ false → at_or_empty (scopes_by (opening.Class b c) (t ▸ ts)) 0 ≡ []
+unfolding scopes_by with_names
+class_outside true c t ts e = cc
+class_outside false c t none e = refl
+class_outside false c t (a ▸ ts) e = refl
+
+-- a first child that is read with no scope before it
+read_first : (sc : ℕ → List Binding) (us : ℕ → Use) (env : Environment) (s : ℕ) (t : Tree) (ts : Trees) → sc 0 ≡ [] → us 0 ≡ Read → first_names (resolved_from sc us 0 env s (t ▸ ts)) ≡ map (with_symbol Read env) (first_names (t ▸ ts))
+unfolding names_of resolved
+read_first sc us env s t ts e f =
+    ap (λ v. names_of declared.Bound (resolved v (env ++ numbered s (sc 0)) (s + length (sc 0)) t)) f
+    ∙ bound_kept Read (env ++ numbered s (sc 0)) (s + length (sc 0)) t
+    ∙ ap (λ bs. map (with_symbol Read (env ++ numbered s bs)) (names_of declared.Bound t)) e
+    ∙ ap (λ v. map (with_symbol Read v) (names_of declared.Bound t)) (append-nil env)
+
+lexical_variable : (u : Use) (b : Bool) (env : Environment) (s : ℕ) (ts : Trees) → b ≡ false → all_names declared.Bound (resolved_from (at_or_empty (scopes_by (if b then opening.Bound else opening.Nothing) ts)) (λ k. Read) 0 env s ts) ≡ map (with_symbol Read env) (all_names declared.Bound ts)
+unfolding scopes_by
+lexical_variable u b env s ts e = ap (λ c. all_names declared.Bound (resolved_from (at_or_empty (scopes_by (if c then opening.Bound else opening.Nothing) ts)) (λ k. Read) 0 env s ts)) e ∙ all_bound_kept Read 0 env s ts
+
+mutual
+  unfolding names_of resolved scopes_by
+
+  pub lexical_kept : (u : Use) → is_alone u ≡ false → (env : Environment) (s : ℕ) (t : Tree) → names_of declared.Lexical (resolved u env s t) ≡ map (with_symbol Read env) (names_of declared.Lexical t)
+  lexical_kept u e env s (node (shape.VariableDeclaration Let) xs n ts) = lexical_variable u (is_alone u) env s ts e
+  lexical_kept u e env s (node (shape.VariableDeclaration Const) xs n ts) = lexical_variable u (is_alone u) env s ts e
+  lexical_kept u e env s (node (shape.Function true g ds) xs n none) = refl
+  lexical_kept u e env s (node (shape.Function true g ds) xs n (t ▸ ts)) = read_first (opened u (shape.Function true g ds) (t ▸ ts)) (use_of (shape.Function true g ds) u) env s t ts (own_outside u (is_alone u) g t ts e) refl
+  lexical_kept u e env s (node (shape.Class true) xs n none) = refl
+  lexical_kept u e env s (node (shape.Class true) xs n (t ▸ ts)) = read_first (opened u (shape.Class true) (t ▸ ts)) (use_of (shape.Class true) u) env s t ts (class_outside (is_alone u) true t ts e) refl
+  lexical_kept u e env s (node shape.ImportDeclaration xs n ts) = all_bound_kept Read 0 env s ts
+  lexical_kept u e env s (node shape.ExportNamedDeclaration xs n ts) = all_lexical_kept Read refl 0 env s ts
+  lexical_kept u e env s (node shape.ExportDefaultDeclaration xs n ts) = all_lexical_kept Read refl 0 env s ts
+  lexical_kept u e env s (node shape.SwitchCase xs n ts) = all_lexical_kept Read refl 0 env s ts
+  lexical_kept u e env s (node shape.Listed xs n ts) = all_lexical_kept u e 0 env s ts
+  lexical_kept u e env s (node h xs n ts) = refl
+
+  pub all_lexical_kept : (u : Use) → is_alone u ≡ false → (i : ℕ) (env : Environment) (s : ℕ) (ts : Trees) → all_names declared.Lexical (resolved_from (λ k. []) (λ k. u) i env s ts) ≡ map (with_symbol Read env) (all_names declared.Lexical ts)
+  all_lexical_kept u e i env s none = refl
+  all_lexical_kept u e i env s (t ▸ ts) = joined Read (env ++ []) env (names_of declared.Lexical t) (all_names declared.Lexical ts) _ _ (append-nil env) (lexical_kept u e (env ++ []) (s + 0) t) (all_lexical_kept u e (suc i) (env ++ []) (s + 0 + symbols u t) ts)
+
+-- ---- the names that are hoisted
+
+-- scopes to which no `var` goes
+abbrev pub NoHoists : List Binding → Type 0
+NoHoists [] = Unit {0}
+NoHoists (b ∷ bs) = (b.hoists ≡ false) × NoHoists bs
+
+not_hoisted : (s : List ℕ) (n : ℕ) (bs : List Binding) → NoHoists bs → symbol_of Hoisted s (numbered n bs) ≡ None
+not_hoisted s n [] h = refl
+not_hoisted s n (b ∷ bs) h =
+    let c : Binding = record { name = record { spelling = b.name.spelling; symbol = Some (record { 0 = n }) }; hoists = b.hoists } in
+    ap (λ r. or_else r (own_symbol Hoisted s c)) (not_hoisted s (suc n) bs h.1)
+    ∙ none_if (b.hoists && same_text b.name.spelling s) (Some (record { 0 = n })) (ap (λ v. v && same_text b.name.spelling s) h.0)
+
+hoisted_past : (s : List ℕ) (env : Environment) (n : ℕ) (bs : List Binding) → NoHoists bs → symbol_of Hoisted s (env ++ numbered n bs) ≡ symbol_of Hoisted s env
+hoisted_past s env n bs h = symbol_of_both Hoisted s env (numbered n bs) ∙ ap (λ r. or_else r (symbol_of Hoisted s env)) (not_hoisted s n bs h)
+
+all_past : (xs : List Name) (env : Environment) (n : ℕ) (bs : List Binding) → NoHoists bs → map (with_symbol Hoisted (env ++ numbered n bs)) xs ≡ map (with_symbol Hoisted env) xs
+all_past [] env n bs h = refl
+all_past (x ∷ xs) env n bs h =
+    ap (λ q. record { spelling = x.spelling; symbol = q } ∷ map (with_symbol Hoisted (env ++ numbered n bs)) xs) (hoisted_past x.spelling env n bs h)
+    ∙ ap (λ r. with_symbol Hoisted env x ∷ r) (all_past xs env n bs h)
+
+lexical_no_hoists : (xs : List Name) → NoHoists (map (λ x. record { name = x; hoists = false }) xs)
+lexical_no_hoists [] = tt
+lexical_no_hoists (x ∷ xs) = (refl, lexical_no_hoists xs)
+
+abbrev pub is_lexical : Opening → Bool
+is_lexical opening.Body = false
+is_lexical (opening.Function own) = false
+is_lexical opening.Arrow = false
+is_lexical o = true
+
+lexical_opening : (o : Opening) (ts : Trees) (k : ℕ) → is_lexical o ≡ true → NoHoists (at_or_empty (scopes_by o ts) k)
+unfolding scopes_by
+lexical_opening opening.Body ts k e = cc
+lexical_opening (opening.Function own) ts k e = cc
+lexical_opening opening.Arrow ts k e = cc
+lexical_opening opening.Nothing ts k e = tt
+lexical_opening opening.First none k e = tt
+lexical_opening opening.First (t ▸ ts) zero e = lexical_no_hoists _
+lexical_opening opening.First (t ▸ ts) (suc k) e = tt
+lexical_opening opening.Bound none k e = tt
+lexical_opening opening.Bound (t ▸ ts) zero e = lexical_no_hoists _
+lexical_opening opening.Bound (t ▸ ts) (suc k) e = tt
+lexical_opening (opening.Class own inside) none k e = tt
+lexical_opening (opening.Class own inside) (t ▸ none) k e = tt
+lexical_opening (opening.Class own inside) (t ▸ (a ▸ ts)) zero e = lexical_no_hoists _
+lexical_opening (opening.Class own inside) (t ▸ (a ▸ ts)) (suc zero) e = lexical_no_hoists _
+lexical_opening (opening.Class own inside) (t ▸ (a ▸ ts)) (suc (suc k)) e = tt
+lexical_opening opening.Second none k e = tt
+lexical_opening opening.Second (a ▸ none) k e = tt
+lexical_opening opening.Second (a ▸ (b ▸ ts)) zero e = tt
+lexical_opening opening.Second (a ▸ (b ▸ ts)) (suc zero) e = lexical_no_hoists _
+lexical_opening opening.Second (a ▸ (b ▸ ts)) (suc (suc k)) e = tt
+
+alone_lexical : (b : Bool) → is_lexical (if b then opening.Bound else opening.Nothing) ≡ true
+alone_lexical true = refl
+alone_lexical false = refl
+
+var_kept : (u : Use) (env : Environment) (s : ℕ) (ts : Trees) → all_names declared.Bound (resolved_from (opened u (shape.VariableDeclaration Var) ts) (λ k. Hoisted) 0 env s ts) ≡ map (with_symbol Hoisted env) (all_names declared.Bound ts)
+unfolding scopes_by
+var_kept u env s ts = all_bound_kept Hoisted 0 env s ts
+
+mutual
+  unfolding names_of resolved
+
+  pub hoisted_kept : (u : Use) (env : Environment) (s : ℕ) (t : Tree) → names_of declared.Hoisted (resolved u env s t) ≡ map (with_symbol Hoisted env) (names_of declared.Hoisted t)
+  hoisted_kept u env s (node (shape.VariableDeclaration Var) xs n ts) = var_kept u env s ts
+  hoisted_kept u env s (node (shape.VariableDeclaration Let) xs n ts) = all_hoisted_kept (opened u (shape.VariableDeclaration Let) ts) (λ k. Read) 0 env s ts (λ k. lexical_opening (opening_of u (shape.VariableDeclaration Let)) ts k (alone_lexical (is_alone u)))
+  hoisted_kept u env s (node (shape.VariableDeclaration Const) xs n ts) = all_hoisted_kept (opened u (shape.VariableDeclaration Const) ts) (λ k. Read) 0 env s ts (λ k. lexical_opening (opening_of u (shape.VariableDeclaration Const)) ts k (alone_lexical (is_alone u)))
+  hoisted_kept u env s (node (shape.Function d g ds) xs n ts) = refl
+  hoisted_kept u env s (node (shape.ArrowFunctionExpression ds) xs n ts) = refl
+  hoisted_kept u env s (node (shape.Class d) xs n ts) = refl
+  hoisted_kept u env s (node shape.StaticBlock xs n ts) = refl
+  hoisted_kept u env s (node (shape.Program is_module ds) xs n ts) = refl
+  hoisted_kept u env s (node h xs n ts) = all_hoisted_kept (opened u h ts) (use_of h u) 0 env s ts (λ k. lexical_opening (opening_of u h) ts k refl)
+
+  pub all_hoisted_kept : (sc : ℕ → List Binding) (us : ℕ → Use) (i : ℕ) (env : Environment) (s : ℕ) (ts : Trees) → ((k : ℕ) → NoHoists (sc k)) → all_names declared.Hoisted (resolved_from sc us i env s ts) ≡ map (with_symbol Hoisted env) (all_names declared.Hoisted ts)
+  all_hoisted_kept sc us i env s none h = refl
+  all_hoisted_kept sc us i env s (t ▸ ts) h =
+      let inner = env ++ numbered s (sc i) in
+      joined Hoisted inner inner (names_of declared.Hoisted t) (all_names declared.Hoisted ts) _ _ refl (hoisted_kept (us i) inner (s + length (sc i)) t) (all_hoisted_kept sc us (suc i) inner (s + length (sc i) + symbols (us i) t) ts h)
+      ∙ all_past (names_of declared.Hoisted t ++ all_names declared.Hoisted ts) env s (sc i) (h i)

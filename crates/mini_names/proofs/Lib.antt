@@ -1,0 +1,10 @@
+mod Lookups
+mod Drops
+mod Back
+mod Bare
+mod BodyNames
+mod Changes
+mod Kept
+mod Numbers
+mod Places
+mod Whole
