@@ -1,0 +1,77 @@
+-- A node of a kind is made of its parts.
+use Rattle.std.specs.Prelude.{zero, Bool, true, false, [], ◌&&◌, ◌≡◌, refl}
+use Rattle.std.proofs.Common.{ap, ◌∙◌}
+use Rattle.mini_model.specs.declared.operator.LogicalOperator.TheVariants.{Or, And, Coalesce}
+use Rattle.mini_model.specs.declared.operator.UnaryOperator.TheVariants.{LogicalNot}
+use Rattle.mini_model.specs.declared.shape.Shape.TheVariants as shape
+use Rattle.mini_model.specs.Tree.{Tree, node, none, ◌▸◌, children, absent, listed, negation, logical, conditional, expression_statement, empty_statement, if_else, if_alone}
+use Rattle.mini_node.specs.Children.{part}
+use Rattle.mini_node.specs.Kinds.{sequence, block, return_statement, throw_statement, is_absent_part, is_listed, is_negation, is_logical, is_conditional, is_sequence, is_expression_statement, is_empty_statement, is_block, is_if_statement, is_if_alone, is_return_statement, is_throw_statement}
+
+pub absent_is : (t : Tree) → is_absent_part t ≡ true → t ≡ absent
+absent_is (node shape.Absent [] zero none) e = refl
+absent_is t e = absurd (cc e)
+
+pub listed_is : (t : Tree) → is_listed t ≡ true → t ≡ listed (children t)
+listed_is (node shape.Listed [] zero ts) e = refl
+listed_is t e = absurd (cc e)
+
+pub negation_is : (t : Tree) → is_negation t ≡ true → t ≡ negation (part t 0)
+negation_is (node (shape.UnaryExpression LogicalNot) [] zero (a ▸ none)) e = refl
+negation_is t e = absurd (cc e)
+
+pub and_is : (t : Tree) → is_logical And t ≡ true → t ≡ logical And (part t 0) (part t 1)
+and_is (node (shape.LogicalExpression And) [] zero (a ▸ b ▸ none)) e = refl
+and_is t e = absurd (cc e)
+
+pub or_is : (t : Tree) → is_logical Or t ≡ true → t ≡ logical Or (part t 0) (part t 1)
+or_is (node (shape.LogicalExpression Or) [] zero (a ▸ b ▸ none)) e = refl
+or_is t e = absurd (cc e)
+
+pub coalesce_is : (t : Tree) → is_logical Coalesce t ≡ true → t ≡ logical Coalesce (part t 0) (part t 1)
+coalesce_is (node (shape.LogicalExpression Coalesce) [] zero (a ▸ b ▸ none)) e = refl
+coalesce_is t e = absurd (cc e)
+
+pub conditional_is : (t : Tree) → is_conditional t ≡ true → t ≡ conditional (part t 0) (part t 1) (part t 2)
+conditional_is (node shape.ConditionalExpression [] zero (a ▸ b ▸ c ▸ none)) e = refl
+conditional_is t e = absurd (cc e)
+
+pub sequence_is : (t : Tree) → is_sequence t ≡ true → t ≡ sequence (children (part t 0))
+sequence_is (node shape.SequenceExpression [] zero (node shape.Listed [] zero ts ▸ none)) e = refl
+sequence_is (node shape.SequenceExpression [] zero (u ▸ none)) e = absurd (cc e)
+sequence_is t e = absurd (cc e)
+
+pub expression_statement_is : (t : Tree) → is_expression_statement t ≡ true → t ≡ expression_statement (part t 0)
+expression_statement_is (node shape.ExpressionStatement [] zero (a ▸ none)) e = refl
+expression_statement_is t e = absurd (cc e)
+
+pub empty_statement_is : (t : Tree) → is_empty_statement t ≡ true → t ≡ empty_statement
+empty_statement_is (node shape.EmptyStatement [] zero none) e = refl
+empty_statement_is t e = absurd (cc e)
+
+pub block_is : (t : Tree) → is_block t ≡ true → t ≡ block (children (part t 0))
+block_is (node shape.BlockStatement [] zero (node shape.Listed [] zero ts ▸ none)) e = refl
+block_is (node shape.BlockStatement [] zero (u ▸ none)) e = absurd (cc e)
+block_is t e = absurd (cc e)
+
+pub if_statement_is : (t : Tree) → is_if_statement t ≡ true → t ≡ if_else (part t 0) (part t 1) (part t 2)
+if_statement_is (node shape.IfStatement [] zero (a ▸ b ▸ c ▸ none)) e = refl
+if_statement_is t e = absurd (cc e)
+
+both : (a b : Bool) → (a && b) ≡ true → (a ≡ true) × (b ≡ true)
+both true true e = (refl, refl)
+both true false e = absurd (cc e)
+both false b e = absurd (cc e)
+
+pub if_alone_is : (t : Tree) → is_if_alone t ≡ true → t ≡ if_alone (part t 0) (part t 1)
+if_alone_is t e =
+    let (statement, missing) = both (is_if_statement t) (is_absent_part (part t 2)) e in
+    if_statement_is t statement ∙ ap (λ u. if_else (part t 0) (part t 1) u) (absent_is (part t 2) missing)
+
+pub return_statement_is : (t : Tree) → is_return_statement t ≡ true → t ≡ return_statement (part t 0)
+return_statement_is (node shape.ReturnStatement [] zero (a ▸ none)) e = refl
+return_statement_is t e = absurd (cc e)
+
+pub throw_statement_is : (t : Tree) → is_throw_statement t ≡ true → t ≡ throw_statement (part t 0)
+throw_statement_is (node shape.ThrowStatement [] zero (a ▸ none)) e = refl
+throw_statement_is t e = absurd (cc e)
