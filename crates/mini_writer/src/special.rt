@@ -13,7 +13,7 @@ ghost use Rattle.mini_written.specs.Written.{of_one};
 use crate::bodies::{arrow, function, program};
 use itoa::Buffer;
 use mini_model::{Name, Shape, UnaryOperator};
-use mini_text::Text;
+use mini_text::{BoxedText, Text};
 use mini_written::{Key, Member, node, plain_object, text_value, unary_word};
 use serde_json::Value;
 use std::alloc::{AllocError, Global};
@@ -132,17 +132,22 @@ fn big_int(alloc: Global, value: u128) -> Result<Value, AllocError>
 }
 
 // The cooked text, or null where the raw one is malformed.
-fn cooked_text(alloc: Global, cooked: &Option<Text>) -> Result<Value, AllocError>
+fn cooked_text(alloc: Global, cooked: &Option<BoxedText>) -> Result<Value, AllocError>
     ensures { IfOk result (λ v. view v ≡ written.cooked_text cooked.now) }
 {
     match cooked {
         None => Ok(Value::Null),
-        Some(units) => text(alloc, units),
+        Some(units) => text(alloc, units.text()),
     }
 }
 
 // `TemplateElement`
-fn quasi(alloc: Global, tail: bool, raw: &Text, cooked: &Option<Text>) -> Result<Value, AllocError>
+fn quasi(
+    alloc: Global,
+    tail: bool,
+    raw: &Text,
+    cooked: &Option<BoxedText>,
+) -> Result<Value, AllocError>
     ensures { IfOk result (λ v. view v ≡ objects.template_element tail (bytes_of raw.now) (written.cooked_text cooked.now)) }
 {
     let raw = text(alloc, raw)?;
@@ -195,9 +200,9 @@ pub fn special_value(
         Shape::StringLiteral(units) => literal(alloc, text(alloc, units)?),
         Shape::BooleanLiteral(value) => literal(alloc, Value::Bool(*value)),
         Shape::NullLiteral => literal(alloc, Value::Null),
-        Shape::RegExpLiteral(pattern, flags) => reg_exp(alloc, pattern, flags),
+        Shape::RegExpLiteral(pattern, flags) => reg_exp(alloc, pattern.text(), flags.text()),
         Shape::BigIntLiteral(value) => big_int(alloc, *value),
-        Shape::TemplateElement(tail, raw, cooked) => quasi(alloc, *tail, raw, cooked),
+        Shape::TemplateElement(tail, raw, cooked) => quasi(alloc, *tail, raw.text(), cooked),
         Shape::Program(is_module, texts) => program(alloc, *is_module, texts, below),
         Shape::Function(declaration, generator, texts) => {
             function(alloc, *declaration, *generator, texts, below)
