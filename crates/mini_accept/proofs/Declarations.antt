@@ -8,9 +8,10 @@ use Rattle.mini_model.specs.declared.kind.MethodDefinitionKind.{MethodDefinition
 use Rattle.mini_model.specs.declared.kind.MethodDefinitionKind.TheVariants as method
 use Rattle.mini_model.specs.declared.shape.Shape.{Shape}
 use Rattle.mini_model.specs.declared.shape.Shape.TheVariants as shape
-use Rattle.mini_model.specs.Tree.{Tree, node, children, child_or_absent}
+use Rattle.mini_text.specs.Texts.{units_of}
+use Rattle.mini_model.specs.Tree.{Tree, node, children, child_or_absent, is_absent}
 use Rattle.mini_structure.specs.WellShaped as shaped
-use Rattle.mini_structure.specs.WellShaped.{Class, Depth, in_module, in_body, nested, Slot, slots_of, is_sloppy_function, is_strict_in, is_same_flag, is_numbered, has_names, has_plain_fields, has_its_parts, none_if, fits}
+use Rattle.mini_structure.specs.WellShaped.{Class, Depth, in_module, in_body, nested, Slot, slots_of, is_sloppy_function, is_strict_in, is_same_flag, is_same_spelling, is_numbered, has_names, has_plain_fields, has_its_parts, none_if, fits}
 use Rattle.mini_accept.specs.Places.{down, field, place, Place, at, an_exported, a_local_name}
 use Rattle.mini_accept.specs.Fields.{is_given, is_there_with, flag_at, list_at, no_item, has_type}
 use Rattle.mini_accept.specs.Standing.{is_unread, is_unread_form, is_method}
@@ -23,6 +24,7 @@ use Rattle.mini_accept.specs.Accept.{takes_number}
 use Rattle.mini_accept.proofs.Fitting.{KnownBelow, known_fits, OfParts, trees_of_parts, OfChildren, trees_of_children, PartFits, AllFit, ChildrenFit}
 use Rattle.mini_accept.proofs.Gathered.{WholeIf}
 use Rattle.mini_accept.proofs.Wholes.{bind_whole, require_whole, list_whole, inner_one, if_fits, optional_fits, optional_inner_fits, absent_fits, absent_or, not_absent, all_fit, none_if_false, whole_by, whole_at}
+use Rattle.mini_accept.proofs.Types.{some_same, text_is}
 use Rattle.mini_accept.proofs.Plains.{below_paired, parameters_fit}
 use Rattle.mini_accept.proofs.Statements.{is_function, not_sloppy}
 
@@ -76,19 +78,38 @@ module _ (strict : Bool) (d : Data) where
 
   -- ---- classes
 
-  class_by : (p : Place) → (function.is_named true p d ≡ true → WholeIf strict p d (node_of (shape.Class true) (optional (codes "id") shaped.a_binding d ∷ optional_inner (codes "superClass") shaped.an_expression d ∷ child (codes "body") shaped.a_class_body ∷ [])))
+  -- the name that a declaration holds once more is read of the same field
+  name_repeated : (o : Option Data) (t u : Tree) → KnownBelow true (at shaped.a_binding) o t → KnownBelow true (at shaped.a_binding) o u
+      → (if not (is_absent t) then is_same_spelling (shaped.spelling t) (shaped.spelling u) else is_absent u) ≡ true
+  name_repeated None t u k l = absurd k
+  name_repeated (Some e) t u k l =
+      ap (λ b. if not b then is_same_spelling (shaped.spelling t) (shaped.spelling u) else is_absent u) (not_absent true shaped.a_binding t k.0)
+      ∙ (ap (λ o. is_same_spelling o (shaped.spelling u)) k.1.2
+      ∙ (ap (is_same_spelling (Some (units_of k.1.0))) l.1.2 ∙ text_is (units_of k.1.0) (units_of l.1.0) (ap units_of (some_same k.1.0 l.1.0 (sym k.1.1 ∙ l.1.1)))))
+
+  abbrev class_children : Bool → Bool → List Child
+  class_children has_name extends = one (if has_name then tree_at (field (codes "id")) (at shaped.a_binding) else hole) ∷ one (if extends then inner_at (field (codes "superClass")) (at shaped.an_expression) else hole)
+      ∷ child (codes "body") shaped.a_class_body ∷ one (if has_name then tree_at (field (codes "id")) (at shaped.a_binding) else hole) ∷ []
+
+  name_held : (has_name extends : Bool) (w : OfChildren true d (class_children has_name extends)) → shaped.holds_its_name true (trees_of_children true d (class_children has_name extends) w) ≡ true
+  name_held true true w = name_repeated (get (codes "id") d) w.0.0 w.1.1.1.0.0 w.0.1 w.1.1.1.0.1
+  name_held true false w = name_repeated (get (codes "id") d) w.0.0 w.1.1.1.0.0 w.0.1 w.1.1.1.0.1
+  name_held false true w = refl
+  name_held false false w = refl
+
+  class_by : (p : Place) → (function.is_named true p d ≡ true → WholeIf strict p d (node_of (shape.Class true) (optional (codes "id") shaped.a_binding d ∷ optional_inner (codes "superClass") shaped.an_expression d ∷ child (codes "body") shaped.a_class_body ∷ function.name_held true d ∷ [])))
       → WholeIf strict p d (function.class true p d)
   class_by p f = require_whole strict p d (function.is_named true p d) _ f
 
   pub class_statement : (depth : Depth) → WholeIf strict (at (shaped.a_statement depth)) d (function.class true (at (shaped.a_statement depth)) d)
   class_statement depth = class_by (at (shaped.a_statement depth)) (λ is. whole_by strict (at (shaped.a_statement depth)) (shaped.a_statement depth) d (shape.Class true) [] _ _ (λ t e. e) (λ e. e)
-      (none_if_false (is_sloppy_function strict depth (shape.Class true)) _ (not_sloppy strict depth (shape.Class true) refl)) refl refl (λ w. refl) (named d is, (extends_fits d, (λ s t h. h, tt))) (λ w n. tt))
+      (none_if_false (is_sloppy_function strict depth (shape.Class true)) _ (not_sloppy strict depth (shape.Class true) refl)) refl refl (name_held (is_given (codes "id") d) (is_given (codes "superClass") d)) (named d is, (extends_fits d, (λ s t h. h, (perhaps_named d, tt)))) (λ w n. tt))
 
   pub exported_class : WholeIf strict (at shaped.an_exported_declaration) d (function.class true (at shaped.an_exported_declaration) d)
-  exported_class = class_by (at shaped.an_exported_declaration) (λ is. whole_at strict (at shaped.an_exported_declaration) shaped.an_exported_declaration d (shape.Class true) [] _ (λ t e. e) (λ e. e) refl refl (λ w. refl) (named d is, (extends_fits d, (λ s t h. h, tt))) (λ w n. tt))
+  exported_class = class_by (at shaped.an_exported_declaration) (λ is. whole_at strict (at shaped.an_exported_declaration) shaped.an_exported_declaration d (shape.Class true) [] _ (λ t e. e) (λ e. e) refl refl (name_held (is_given (codes "id") d) (is_given (codes "superClass") d)) (named d is, (extends_fits d, (λ s t h. h, (perhaps_named d, tt)))) (λ w n. tt))
 
   pub default_class : WholeIf strict (at shaped.a_default_export) d (function.class true (at shaped.a_default_export) d)
-  default_class = whole_at strict (at shaped.a_default_export) shaped.a_default_export d (shape.Class true) [] (optional (codes "id") shaped.a_binding d ∷ optional_inner (codes "superClass") shaped.an_expression d ∷ child (codes "body") shaped.a_class_body ∷ []) (λ t e. e) (λ e. e) refl refl (λ w. refl) (perhaps_named d, (extends_fits d, (λ s t h. h, tt))) (λ w n. tt)
+  default_class = whole_at strict (at shaped.a_default_export) shaped.a_default_export d (shape.Class true) [] (optional (codes "id") shaped.a_binding d ∷ optional_inner (codes "superClass") shaped.an_expression d ∷ child (codes "body") shaped.a_class_body ∷ function.name_held true d ∷ []) (λ t e. e) (λ e. e) refl refl (name_held (is_given (codes "id") d) (is_given (codes "superClass") d)) (perhaps_named d, (extends_fits d, (λ s t h. h, (perhaps_named d, tt)))) (λ w n. tt)
 
   pub class_body : WholeIf strict (at shaped.a_class_body) d (function.class_body d)
   class_body = list_whole strict (at shaped.a_class_body) d (each shaped.a_class_member) (codes "body") _ (λ ds. whole_at strict (at shaped.a_class_body) shaped.a_class_body d shape.ClassBody [] _ (λ t e. e) (λ e. e) refl refl (λ w. refl)

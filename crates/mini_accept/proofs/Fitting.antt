@@ -11,7 +11,7 @@ use Rattle.mini_model.specs.Tree.{Tree, node, Trees, none, ◌▸◌, absent, li
 use Rattle.mini_structure.specs.WellShaped as shaped
 use Rattle.mini_structure.specs.WellShaped.{Class, Tagging, Slot, Filling, these, each, each_or_last, pieces, fits, fill, is_quasi, are_quasis, is_last, slots_of}
 use Rattle.mini_accept.specs.Places.{down, Place, at, a_directive, a_directive_text, a_quasi, an_exported, a_local_name}
-use Rattle.mini_accept.specs.Fields.{has_type, is_given}
+use Rattle.mini_accept.specs.Fields.{text_at, has_type, is_given}
 use Rattle.mini_accept.specs.Literals.{with_minus}
 use Rattle.mini_accept.specs.Plans.{Part, hole, tree_at, inner_at, checked, Child, one, many}
 use Rattle.mini_accept.specs.Expressions.{has_mark, identifier_text, is_same_name, is_name_with_default}
@@ -50,6 +50,9 @@ Named d t = (s : List ℕ) → is_same_name (Some s) d ≡ true → shaped.spell
 abbrev pub NamedBefore : Data → Tree → Type 0
 NamedBefore d t = (s : List ℕ) → is_name_with_default (Some s) d ≡ true → shaped.spelling (shaped.without_default t) ≡ Some (units_of s)
 
+abbrev pub Bound : Data → Tree → Type 0
+Bound d t = (s : List ℕ) × (text_at (codes "name") d ≡ Some s) × (shaped.spelling t ≡ Some (units_of s))
+
 abbrev pub Marked : Data → Tree → Type 0
 Marked d t = has_mark d ≡ true → shaped.has_optional t ≡ true
 
@@ -71,6 +74,7 @@ Seen (at shaped.a_pattern_element) d t = NamedBefore d t
 Seen (at shaped.a_named_target) d t = NamedBefore d t
 Seen (at shaped.a_pattern) d t = Named d t
 Seen (at shaped.a_target_name) d t = Named d t
+Seen (at shaped.a_binding) d t = Bound d t
 Seen (at shaped.a_declarator) d t = is_given (codes "init") d ≡ false → shaped.is_initialized t ≡ false
 Seen (an_exported own) d t = shaped.is_reference (child_or_absent (children t) 1) ≡ own
 Seen a_local_name d t = shaped.is_reference t ≡ true

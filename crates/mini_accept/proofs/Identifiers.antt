@@ -115,7 +115,7 @@ module _ (d : Data) (typed : Typed d (codes "Identifier")) (r : List ℕ) (text 
     at_place (at shaped.a_pattern) e stands = whole_at strict (at shaped.a_pattern) shaped.a_pattern d shape.BindingIdentifier (unresolved (units_of r) ∷ []) [] (λ t h. h) (λ h. h) test refl (λ w. refl) tt (λ w n. named (node shape.BindingIdentifier (unresolved (units_of r) ∷ []) n none) refl)
     at_place (at shaped.a_pattern_element) e stands = whole_at strict (at shaped.a_pattern_element) shaped.a_pattern_element d shape.BindingIdentifier (unresolved (units_of r) ∷ []) [] (λ t h. h) (λ h. h) test refl (λ w. refl) tt (λ w n. named_before (node shape.BindingIdentifier (unresolved (units_of r) ∷ []) n none) refl)
     at_place (at shaped.a_parameter) e stands = whole_at strict (at shaped.a_parameter) shaped.a_parameter d shape.BindingIdentifier (unresolved (units_of r) ∷ []) [] (λ t h. h) (λ h. h) test refl (λ w. refl) tt (λ w n. tt)
-    at_place (at shaped.a_binding) e stands = whole_at strict (at shaped.a_binding) shaped.a_binding d shape.BindingIdentifier (unresolved (units_of r) ∷ []) [] (λ t h. h) (λ h. h) test refl (λ w. refl) tt (λ w n. tt)
+    at_place (at shaped.a_binding) e stands = whole_at strict (at shaped.a_binding) shaped.a_binding d shape.BindingIdentifier (unresolved (units_of r) ∷ []) [] (λ t h. h) (λ h. h) test refl (λ w. refl) tt (λ w n. (r, text, refl))
     at_place (at shaped.a_label) e stands = whole_at strict (at shaped.a_label) shaped.a_label d (shape.IdentifierName (units_of r)) [] [] (λ t h. h) (λ h. h) refl test (λ w. refl) tt (λ w n. spelled (node (shape.IdentifierName (units_of r)) [] n none) refl)
     at_place (at (shaped.a_key false)) e stands = whole_at strict (at (shaped.a_key false)) (shaped.a_key false) d (shape.IdentifierName (units_of r)) [] [] (λ t h. h) (λ h. h) refl test (λ w. refl) tt (λ w n. spelled (node (shape.IdentifierName (units_of r)) [] n none) refl)
     at_place (at (shaped.a_private_or_key computed)) e stands = whole_at strict (at (shaped.a_private_or_key computed)) (shaped.a_private_or_key false) d (shape.IdentifierName (units_of r)) [] [] (λ t h. h) (λ h. h) refl test (λ w. refl) tt (λ w n. constructs)

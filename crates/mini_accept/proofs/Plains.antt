@@ -19,7 +19,7 @@ use Rattle.mini_structure.specs.WellShaped.{expression_slots, is_strict_in, has_
 use Rattle.mini_accept.specs.Places.{field, Place, at}
 use Rattle.mini_accept.specs.Fields.{require, is_given, is_there_with, flag_at, list_at, text_at, units_at, paired_units, has_type}
 use Rattle.mini_accept.specs.Literals.{literal, negative_of, with_minus}
-use Rattle.mini_accept.specs.Plans.{hole, tree_at, checked, Child, one, child, optional, optional_inner, node_of, parts_from, each, or_hole}
+use Rattle.mini_accept.specs.Plans.{hole, tree_at, inner_at, checked, Child, one, child, optional, optional_inner, node_of, parts_from, each, or_hole}
 use Rattle.mini_accept.specs.Statements.{directive_text, directives_before, directives_of}
 use Rattle.mini_accept.specs.Functions as function
 use Rattle.mini_accept.specs.Functions.{directives_in, directives_below, parameter}
@@ -173,9 +173,20 @@ module _ (strict : Bool) (p : Place) (d : Data) (there : is_expression_place p �
       plain (shape.ArrowFunctionExpression (directives_below d)) _ refl (below_paired d) (λ w. arrow_body (is_strict_in strict (shape.ArrowFunctionExpression (directives_below d))) (get (codes "body") d) w.1.0.0 w.1.0.1)
       (parameters_fit (codes "params") ds, (λ s t h. h, tt)))))
 
+  -- an expression holds its name once
+  abbrev class_children : Bool → Bool → List Child
+  class_children has_name extends = one (if has_name then tree_at (field (codes "id")) (at shaped.a_binding) else hole) ∷ one (if extends then inner_at (field (codes "superClass")) (at shaped.an_expression) else hole)
+      ∷ child (codes "body") shaped.a_class_body ∷ one hole ∷ []
+
+  no_name_held : (has_name extends : Bool) (w : OfChildren true d (class_children has_name extends)) → shaped.holds_its_name false (trees_of_children true d (class_children has_name extends) w) ≡ true
+  no_name_held true true w = refl
+  no_name_held true false w = refl
+  no_name_held false true w = refl
+  no_name_held false false w = refl
+
   pub class_expression : WholeIf strict p d (function.class false p d)
-  class_expression = plain (shape.Class false) (optional (codes "id") shaped.a_binding d ∷ optional_inner (codes "superClass") shaped.an_expression d ∷ child (codes "body") shaped.a_class_body ∷ []) refl refl (λ w. refl)
-      (optional_fits shaped.a_binding (is_given (codes "id") d) (field (codes "id")) (at shaped.a_binding) (λ s t h. h), (optional_inner_fits (shaped.an_inner shaped.an_expression) (is_given (codes "superClass") d) (field (codes "superClass")) (at shaped.an_expression) (λ s n t h. inner_one _ h), (λ s t h. h, tt)))
+  class_expression = plain (shape.Class false) (optional (codes "id") shaped.a_binding d ∷ optional_inner (codes "superClass") shaped.an_expression d ∷ child (codes "body") shaped.a_class_body ∷ function.name_held false d ∷ []) refl refl (no_name_held (is_given (codes "id") d) (is_given (codes "superClass") d))
+      (optional_fits shaped.a_binding (is_given (codes "id") d) (field (codes "id")) (at shaped.a_binding) (λ s t h. h), (optional_inner_fits (shaped.an_inner shaped.an_expression) (is_given (codes "superClass") d) (field (codes "superClass")) (at shaped.an_expression) (λ s n t h. inner_one _ h), (λ s t h. h, (λ s. absent_fits s shaped.a_binding, tt))))
 
   unary_by : (o : UnaryOperator) (m : Option ℤ) → expression.minus_below o d ≡ m → WholeIf strict p d (expression.unary_plan o m)
   unary_by o None is = plain (shape.UnaryExpression o) _ refl refl (λ w. minus_left strict o d w.0.0 is w.0.1) (λ s t h. h, tt)

@@ -47,7 +47,7 @@ by_plan : (k : ℕ) → Knowing (reads k) → (strict : Bool) (p : Place) (n : �
 by_plan k knows strict p n d (Err f) x is e = absurd (cc e)
 by_plan k knows strict p n d (Ok y) x is e = plan_known (reads k) knows strict p n d y x (plan_whole strict p d y is) e
 
-reads_known : (k : ℕ) → Knowing (reads k)
+pub reads_known : (k : ℕ) → Knowing (reads k)
 reads_known zero strict p n d x e = absurd (cc e)
 reads_known (suc k) strict p n d x e = by_plan k (reads_known k) strict p n d (plan strict p d) x refl e
 

@@ -276,7 +276,7 @@ class_with kind = script (says (typed (codes "ClassExpression") ((codes "body", 
 
 -- (class { "constructor"() {} });
 constructor : IsTree (class_with (codes "constructor"))
-    (said (node (shape.Class false) [] 1 (absent ▸ absent ▸ node shape.ClassBody [] 0 (listed (node (shape.MethodDefinition Constructor false false) [] 0 (leaf (shape.StringLiteral (codes "constructor")) ▸ node (shape.Function false false []) [] 2 (absent ▸ listed none ▸ node shape.FunctionBody [] 0 (listed none ▸ none) ▸ none) ▸ none) ▸ none) ▸ none) ▸ none))) 3
+    (said (node (shape.Class false) [] 1 (absent ▸ absent ▸ node shape.ClassBody [] 0 (listed (node (shape.MethodDefinition Constructor false false) [] 0 (leaf (shape.StringLiteral (codes "constructor")) ▸ node (shape.Function false false []) [] 2 (absent ▸ listed none ▸ node shape.FunctionBody [] 0 (listed none ▸ none) ▸ none) ▸ none) ▸ none) ▸ none) ▸ absent ▸ none))) 3
 unfolding program_at chars utf16_chars
 constructor = refl
 

@@ -12,7 +12,7 @@ use Rattle.mini_accept.specs.Fields.{◌>>=◌, require, is_given, has_units, fl
 use Rattle.mini_accept.specs.Literals.{is_string_literal}
 use Rattle.mini_accept.specs.Standing.{is_identifier}
 use Rattle.mini_accept.specs.Words.{word_at, method_kinds}
-use Rattle.mini_accept.specs.Plans.{Plan, node_of, child, optional, optional_inner, ItemPart, each, or_rest, list_child, inner_key}
+use Rattle.mini_accept.specs.Plans.{Plan, node_of, hole, one, Child, child, optional, optional_inner, ItemPart, each, or_rest, list_child, inner_key}
 use Rattle.mini_accept.specs.Statements.{directives_of}
 
 -- ---- functions
@@ -53,9 +53,14 @@ arrow d = do
 
 -- ---- classes
 
+-- a declaration with a name holds it once more, which is read of the same field
+abbrev pub name_held : Bool → Data → Child
+name_held true d = optional (codes "id") shaped.a_binding d
+name_held false d = one hole
+
 abbrev pub class : Bool → Place → Data → Option Plan
 class declaration p d = require (is_named declaration p d)
-    (node_of (shape.Class declaration) (optional (codes "id") shaped.a_binding d ∷ optional_inner (codes "superClass") shaped.an_expression d ∷ child (codes "body") shaped.a_class_body ∷ []))
+    (node_of (shape.Class declaration) (optional (codes "id") shaped.a_binding d ∷ optional_inner (codes "superClass") shaped.an_expression d ∷ child (codes "body") shaped.a_class_body ∷ name_held declaration d ∷ []))
 
 abbrev pub class_body : Data → Option Plan
 class_body d = do

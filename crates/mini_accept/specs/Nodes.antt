@@ -252,15 +252,21 @@ class : (s : List ℕ) → IsName s → expresses (class_of ((codes "superClass"
     (plain (shape.MethodDefinition method.Method true true) (node shape.InnerExpression [] 3 (this_tree ▸ none) ▸ function_tree 4 ▸ none)
     ▸ plain (shape.PropertyDefinition false false) (leaf (shape.PrivateIdentifier (units_of s)) ▸ node shape.InnerExpression [] 5 (this_tree ▸ none) ▸ none)
     ▸ plain (shape.PropertyDefinition false false) (zero ▸ absent ▸ none)
-    ▸ node shape.StaticBlock [] 6 (listed none ▸ none) ▸ none) ▸ none) ▸ none)) 7
+    ▸ node shape.StaticBlock [] 6 (listed none ▸ none) ▸ none) ▸ none) ▸ absent ▸ none)) 7
 unfolding program_at
 class s h = (rw h refl, rw h refl)
 
 -- class a {}
-class_declaration : (s : List ℕ) → IsName s → code (typed (codes "ClassDeclaration") ((codes "id", name s) ∷ (codes "body", typed (codes "ClassBody") ((codes "body", list []) ∷ [])) ∷ []) ∷ [])
-    (node (shape.Class true) [] 1 (bound s ▸ absent ▸ plain shape.ClassBody (listed none ▸ none) ▸ none) ▸ none) 2
+class_declaration : IsName (codes "a") → code (typed (codes "ClassDeclaration") ((codes "id", name (codes "a")) ∷ (codes "body", typed (codes "ClassBody") ((codes "body", list []) ∷ [])) ∷ []) ∷ [])
+    (node (shape.Class true) [] 1 (bound (codes "a") ▸ absent ▸ plain shape.ClassBody (listed none ▸ none) ▸ bound (codes "a") ▸ none) ▸ none) 2
+unfolding program_at chars
+class_declaration h = (rw h refl, rw h refl)
+
+-- (class a {});
+class_expression : (s : List ℕ) → IsName s → expresses (class_of ((codes "id", name s) ∷ []) [])
+    (node (shape.Class false) [] 1 (bound s ▸ absent ▸ plain shape.ClassBody (listed none ▸ none) ▸ absent ▸ none)) 2
 unfolding program_at
-class_declaration s h = (rw h refl, rw h refl)
+class_expression s h = (rw h refl, rw h refl)
 
 -- ---- modules
 

@@ -177,6 +177,18 @@ weight_of_directives = refl
 weight_of_two_statements : program_weight (program true [] (call_statement a ▸ call_statement b ▸ none)) ≡ 20
 weight_of_two_statements = refl
 
+-- a declaration of a class with the name that it holds once more
+abbrev class_declaration : Tree → Tree → Tree
+class_declaration base again = node (shape.Class true) [] 1 (node shape.BindingIdentifier (unresolved (codes "a") ∷ []) 0 none ▸ base ▸ node shape.ClassBody [] 0 (listed none ▸ none) ▸ again ▸ none)
+
+-- `class a {}`: 16 and 2, and nothing for the name that is held once more
+weight_of_class : weight item (class_declaration absent (node shape.BindingIdentifier (unresolved (codes "a") ∷ []) 0 none)) ≡ 18
+weight_of_class = refl
+
+-- `class a extends b {}`: 16, 16, and two names of 2
+weight_of_derived_class : weight item (class_declaration b (node shape.BindingIdentifier (unresolved (codes "a") ∷ []) 0 none)) ≡ 36
+weight_of_derived_class = refl
+
 -- what always gives a boolean
 
 -- `!a && !b`

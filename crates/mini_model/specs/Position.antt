@@ -222,6 +222,13 @@ key_position computed = if computed then Expr argument_seat else Elsewhere
 abbrev pub written_key_position : Bool → Bool → Position
 written_key_position shorthand computed = if shorthand then Unwritten else key_position computed
 
+-- the name of a class declaration is written once, and held twice
+abbrev pub class_position : ℕ → Position
+class_position zero = Elsewhere
+class_position (suc zero) = Expr super_class_seat
+class_position (suc (suc zero)) = Elsewhere
+class_position (suc (suc (suc i))) = Unwritten
+
 abbrev pub is_accessor : PropertyKind → Bool
 is_accessor Init = false
 is_accessor _ = true
@@ -272,7 +279,7 @@ child_position shape.VariableDeclarator p n i = first_rest Elsewhere (Expr argum
 child_position (shape.Function d g ds) p n i = first_second_rest Elsewhere CommaList Elsewhere i
 child_position (shape.ArrowFunctionExpression ds) p n i = first_rest CommaList (Expr argument_seat) i
 child_position shape.FunctionBody p n i = StatementList
-child_position (shape.Class d) p n i = first_second_rest Elsewhere (Expr super_class_seat) Elsewhere i
+child_position (shape.Class d) p n i = class_position i
 child_position (shape.MethodDefinition k computed is_static) p n i = first_rest (key_position computed) Method i
 child_position (shape.PropertyDefinition computed is_static) p n i = first_rest (key_position computed) (Expr argument_seat) i
 child_position shape.StaticBlock p n i = StatementList

@@ -13,7 +13,7 @@ pub enum Position {
     Target,
     /// The function that a method or an accessor is.
     Method,
-    /// The key of a shorthand property, which its value spells.
+    /// The key of a shorthand property, which its value spells, and the name that a class declaration holds once more.
     Unwritten,
     /// A list of statements.
     StatementList,

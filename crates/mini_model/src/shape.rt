@@ -71,7 +71,10 @@ pub enum Shape {
     ArrowFunctionExpression(TextList),
     /// `body`: the statements of a function, which ESTree holds in a BlockStatement.
     FunctionBody,
-    /// `id`, `superClass`, which may be absent each, and `body`. The field: whether it is a declaration.
+    /// `id`, `superClass`, which may be absent each, `body`, and the name once more: a declaration has its name in the
+    /// scope around it, and holds it as a constant in a scope of its own, so of a declaration with a name the last child
+    /// is a `BindingIdentifier` of the same spelling, and of any other class it is absent. It is no node of ESTree and
+    /// isn't written (ECMA-262, ClassDefinitionEvaluation). The field: whether it is a declaration.
     Class(bool),
     /// `body`.
     ClassBody,

@@ -7,7 +7,7 @@ use Rattle.mini_model.specs.declared.kind.VariableDeclarationKind.TheVariants.{V
 use Rattle.mini_model.specs.declared.operator.UnaryOperator.TheVariants.{UnaryNegation}
 use Rattle.mini_model.specs.declared.shape.Shape.TheVariants as shape
 use Rattle.mini_model.specs.Tree.{Tree, Trees, node, none, ◌▸◌, leaf, listed, absent, unresolved, unary, expression_statement, program}
-use Rattle.mini_structure.specs.WellShaped.{fits, one, a_program, a_class_member, a_key, is_paired, has_plain_fields, has_its_parts, is_name}
+use Rattle.mini_structure.specs.WellShaped.{fits, one, a_program, a_class_member, a_key, is_paired, has_plain_fields, has_its_parts, is_name, is_text}
 
 abbrev script : Trees → Bool
 script ts = fits false (one a_program) (program false [] ts)
@@ -192,6 +192,33 @@ initialized_head_of_for_in f e = rw e refl
 -- `try {}` alone
 bare_try : script (node shape.TryStatement [] 0 (node shape.BlockStatement [] 0 (listed none ▸ none) ▸ absent ▸ absent ▸ none) ▸ none) ≡ false
 bare_try = refl
+
+-- a class without members, with the name that it holds once more
+abbrev class : Bool → Tree → Tree → Tree
+class declares id again = node (shape.Class declares) [] 1 (id ▸ absent ▸ node shape.ClassBody [] 0 (listed none ▸ none) ▸ again ▸ none)
+
+-- `class f {}`, which holds its name once more; it doesn't hold another, nor none
+class_in_a_script : (f : List ℕ) → is_name f ≡ true → is_text f f ≡ true → script (class true (bound f) (bound f) ▸ none) ≡ true
+class_in_a_script f e s = rw (e, s) refl
+
+class_with_another_name : script (class true (bound (codes "a")) (bound (codes "b")) ▸ none) ≡ false
+class_with_another_name = refl
+
+class_without_its_name : (f : List ℕ) → script (class true (bound f) absent ▸ none) ≡ false
+class_without_its_name f = refl
+
+-- `(class f {});`, which holds no name beside its own, nor does `export default class {}`
+class_expression : (f : List ℕ) → is_name f ≡ true → script (says (class false (bound f) absent)) ≡ true
+class_expression f e = rw e refl
+
+class_expression_with_a_name : (f : List ℕ) → script (says (class false (bound f) (bound f))) ≡ false
+class_expression_with_a_name f = refl
+
+class_without_a_name : module_of (node shape.ExportDefaultDeclaration [] 0 (class true absent absent ▸ none) ▸ none) ≡ true
+class_without_a_name = refl
+
+name_of_no_class : (f : List ℕ) → module_of (node shape.ExportDefaultDeclaration [] 0 (class true absent (bound f) ▸ none) ▸ none) ≡ false
+name_of_no_class f = refl
 
 -- a class whose constructor is said to be a method
 constructor_as_a_method : has_its_parts a_class_member (shape.MethodDefinition Method false false) (leaf (shape.IdentifierName (codes "constructor")) ▸ lambda 2 ▸ none) ≡ false

@@ -210,6 +210,11 @@ without_default t = t
 abbrev pub repeats_key : Trees → Bool
 repeats_key ts = is_same_spelling (spelling (child_or_absent ts 0)) (spelling (without_default (child_or_absent ts 1)))
 
+-- a class declaration with a name holds it once more, and any other class doesn't (ECMA-262, ClassDefinitionEvaluation)
+abbrev pub holds_its_name : Bool → Trees → Bool
+holds_its_name declaration ts =
+    if declaration && not (is_absent (child_or_absent ts 0)) then is_same_spelling (spelling (child_or_absent ts 0)) (spelling (child_or_absent ts 3)) else is_absent (child_or_absent ts 3)
+
 -- a method's key that makes it the constructor of its class: the name or the text `constructor`, without brackets
 abbrev pub names_constructor : Tree → Bool
 names_constructor (node (shape.IdentifierName s) xs n ts) = is_text s (codes "constructor")
@@ -272,7 +277,7 @@ expression_slots k shape.ArrayExpression = Some (many_or_holes an_argument ∷ [
 expression_slots k shape.ObjectExpression = Some (many an_object_property ∷ [])
 expression_slots k (shape.Function false g ds) = Some (one_or_absent a_binding ∷ many_and_rest a_parameter a_pattern_rest ∷ one a_function_body ∷ [])
 expression_slots k (shape.ArrowFunctionExpression ds) = Some (many_and_rest a_parameter a_pattern_rest ∷ one an_arrow_body ∷ [])
-expression_slots k (shape.Class false) = Some (one_or_absent a_binding ∷ one_or_absent (an_inner an_expression) ∷ one a_class_body ∷ [])
+expression_slots k (shape.Class false) = Some (one_or_absent a_binding ∷ one_or_absent (an_inner an_expression) ∷ one a_class_body ∷ one_or_absent a_binding ∷ [])
 expression_slots k (shape.UnaryExpression o) = Some (one an_expression ∷ [])
 expression_slots k (shape.UpdateExpression o prefix) = Some (one a_simple_target ∷ [])
 expression_slots k (shape.BinaryExpression o) = Some (one an_expression ∷ one an_expression ∷ [])
@@ -351,7 +356,7 @@ variable_slots h = None
 -- functions and classes as declarations, whose name's slot is given
 abbrev pub function_slots : Slot → Shape → Option (List Slot)
 function_slots name (shape.Function true g ds) = Some (name ∷ many_and_rest a_parameter a_pattern_rest ∷ one a_function_body ∷ [])
-function_slots name (shape.Class true) = Some (name ∷ one_or_absent (an_inner an_expression) ∷ one a_class_body ∷ [])
+function_slots name (shape.Class true) = Some (name ∷ one_or_absent (an_inner an_expression) ∷ one a_class_body ∷ one_or_absent a_binding ∷ [])
 function_slots name h = None
 
 abbrev pub or_else : Option (List Slot) → Option (List Slot) → Option (List Slot)
@@ -570,6 +575,7 @@ has_its_parts c (shape.VariableDeclaration k) ts = nat_le 1 (count (children (fi
 has_its_parts c shape.TryStatement ts = not (is_absent (child_or_absent ts 1) && is_absent (child_or_absent ts 2))
 has_its_parts a_method (shape.Function d g ds) ts = is_absent (first_item ts)
 has_its_parts c (shape.ArrowFunctionExpression ds) ts = nat_eq (length ds) 0 || is_function_body (child_or_absent ts 1)
+has_its_parts c (shape.Class declaration) ts = holds_its_name declaration ts
 has_its_parts c (shape.MethodDefinition k computed is_static) ts = has_its_kind k computed is_static (first_item ts)
 has_its_parts c (shape.ObjectProperty k is_method shorthand computed) ts = is_whole_property k is_method shorthand computed ts
 has_its_parts c (shape.BindingProperty shorthand computed) ts = not shorthand || (not computed && repeats_key ts)
