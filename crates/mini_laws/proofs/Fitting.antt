@@ -14,7 +14,7 @@ use Rattle.mini_model.specs.declared.shape.Shape.TheVariants as shape
 use Rattle.mini_model.specs.declared.place.Position.{Position}
 use Rattle.mini_model.specs.declared.place.Position.TheVariants.{Expr, Stmt, StatementList, ArgumentList, SequenceList, TemplateList, Elsewhere}
 use Rattle.mini_model.specs.declared.place.Position.TheVariants as place
-use Rattle.mini_model.specs.Position.{seat_of_level, argument_seat, branch_seat, passed_part_seat, new_callee_seat, object_seat, callee_seat, chained_seat, yield_argument_seat, if_test_seat, not_operand_seat, conditional_test_seat, is_and_or, operand_seat, unary_operand_seat, binary_operand_seat, part_seat, conditional_position, if_position, for_position, call_position, item_position, key_position, written_key_position, value_position, is_accessor, first_rest, first_second_rest, seat_at, child_position}
+use Rattle.mini_model.specs.Position.{seat_of_level, argument_seat, branch_seat, passed_part_seat, new_callee_seat, object_seat, callee_seat, chained_seat, yield_argument_seat, if_test_seat, not_operand_seat, conditional_test_seat, is_and_or, operand_seat, unary_operand_seat, binary_operand_seat, part_seat, conditional_position, class_position, if_position, for_position, call_position, item_position, key_position, written_key_position, value_position, is_accessor, first_rest, first_second_rest, seat_at, child_position}
 use Rattle.mini_meaning.specs.Demand.{Want, Val, Test, Unused, Tail, Demand, As, Callee, Target, Items, Parts, Texts, Stat, Binds, Cases}
 use Rattle.mini_meaning.specs.Naming.{Declared, Variables, AClass, Facts, first_facts}
 use Rattle.mini_meaning.specs.Asking.{pass, and_or_demand, logical_demand, operand_demand, chained, first_demand, last_tail, tail_demand, tail_of, parts_demand, sequence_demand, list_demand, for_demand, each_demand, do_demand, exported_demand, demand}
@@ -204,6 +204,12 @@ three_fit p p' p'' d f g h zero = f
 three_fit p p' p'' d f g h (suc zero) = g
 three_fit p p' p'' d f g h (suc (suc i)) = h
 
+class_fits : (i : ℕ) → Fits (class_position i) (Binds true)
+class_fits zero = tt
+class_fits (suc zero) = (refl, refl)
+class_fits (suc (suc zero)) = tt
+class_fits (suc (suc (suc i))) = tt
+
 each_fits : (p : Position) → Fits p (As Val) → (d : Option Declared) (i : ℕ) → Fits (first_second_rest place.Target p (Stmt stmt_seat.Body) i) (each_demand d i)
 each_fits p f d zero = tt
 each_fits p f d (suc zero) = f
@@ -237,7 +243,7 @@ fits_children shape.ForOfStatement fs p q f i = each_fits (Expr argument_seat) (
 fits_children shape.VariableDeclarator fs p q f i = first_fits Elsewhere (Expr argument_seat) _ (As Val) tt (unmarked_fits 1 Val) i
 fits_children (shape.Function d g ds) fs p q f i = three_fit Elsewhere place.CommaList Elsewhere (Stat None) tt tt tt i
 fits_children (shape.ArrowFunctionExpression ds) fs p q f i = all_fit place.CommaList (Expr argument_seat) (Stat None) tt refl i
-fits_children (shape.Class d) fs p q f i = three_fit Elsewhere (Expr (seat_of_level 16)) Elsewhere (Binds true) tt (refl, refl) tt i
+fits_children (shape.Class d) fs p q f i = class_fits i
 fits_children (shape.MethodDefinition k c b) fs p q f i = all_fit (key_position c) place.Method (Stat None) (fits_key c) tt i
 fits_children (shape.PropertyDefinition c b) fs p q f i = all_fit (key_position c) (Expr argument_seat) (Stat None) (fits_key c) refl i
 fits_children shape.ImportDeclaration fs p q f i = all_fit place.CommaList Elsewhere (Stat None) tt tt i
