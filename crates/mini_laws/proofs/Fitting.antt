@@ -2,6 +2,7 @@
 use Rattle.std.proofs.Common.{◌≡◌, ℕ, zero, suc, Bool, true, false, List, length, Option, Some, None, refl, sym, ap, subst, ◌∙◌, inl, inr, true≢false, ⊎_elim, arith}
 use Rattle.std.proofs.lemmas.Bool.{eqb-true, eq-eqb}
 use Rattle.std.specs.Prelude.{◌⊎◌, ◌||◌, ◌&&◌, nat_eq, if◌then◌else◌}
+use Rattle.mini_model.specs.declared.kind.VariableDeclarationKind.{VariableDeclarationKind}
 use Rattle.mini_model.specs.declared.operator.BinaryOperator.{BinaryOperator}
 use Rattle.mini_model.specs.declared.operator.LogicalOperator.{LogicalOperator}
 use Rattle.mini_model.specs.declared.operator.LogicalOperator.TheVariants.{Or, And, Coalesce}
@@ -15,9 +16,9 @@ use Rattle.mini_model.specs.declared.place.Position.{Position}
 use Rattle.mini_model.specs.declared.place.Position.TheVariants.{Expr, Stmt, StatementList, ArgumentList, SequenceList, TemplateList, Elsewhere}
 use Rattle.mini_model.specs.declared.place.Position.TheVariants as place
 use Rattle.mini_model.specs.Position.{seat_of_level, argument_seat, branch_seat, passed_part_seat, new_callee_seat, object_seat, callee_seat, chained_seat, yield_argument_seat, if_test_seat, not_operand_seat, conditional_test_seat, is_and_or, operand_seat, unary_operand_seat, binary_operand_seat, part_seat, conditional_position, class_position, if_position, for_position, call_position, item_position, key_position, written_key_position, value_position, is_accessor, first_rest, first_second_rest, seat_at, child_position}
-use Rattle.mini_meaning.specs.Demand.{Want, Val, Test, Unused, Tail, Demand, As, Callee, Target, Items, Parts, Texts, Stat, Binds, Cases}
+use Rattle.mini_meaning.specs.Demand.{Want, Val, Test, Unused, Tail, Demand, As, Callee, Target, Items, Parts, Texts, Stat, Binds, Cases, Deleted}
 use Rattle.mini_meaning.specs.Naming.{Declared, Variables, AClass, Facts, first_facts}
-use Rattle.mini_meaning.specs.Asking.{pass, and_or_demand, logical_demand, operand_demand, chained, first_demand, last_tail, tail_demand, tail_of, parts_demand, sequence_demand, list_demand, for_demand, each_demand, do_demand, exported_demand, demand}
+use Rattle.mini_meaning.specs.Asking.{pass, and_or_demand, logical_demand, operand_demand, chained, first_demand, last_tail, tail_demand, tail_of, parts_demand, sequence_demand, list_demand, for_demand, each_demand, do_demand, try_demand, declaration_demand, exported_demand, demand}
 use Rattle.mini_meaning.specs.Fits.{Fits}
 
 or_true : (a b : Bool) → a || b ≡ true → (a ≡ true) ⊎ (b ≡ true)
@@ -101,19 +102,32 @@ fits_parts s w f zero i = go (nat_eq (suc i) 0) refl
     go false e = (unmarked Unused false refl, (λ h. inl refl))
 fits_parts s w f (suc n) i = fits_part s w f n i
 
+-- where no reference is asked
+parts_elsewhere : (n : ℕ) (w : Want) (i : ℕ) → Fits Elsewhere (parts_demand n w i)
+parts_elsewhere zero w zero = tt
+parts_elsewhere zero w (suc i) = tt
+parts_elsewhere (suc n) w zero = tt
+parts_elsewhere (suc n) w (suc i) = parts_elsewhere n w i
+
+items_elsewhere : (n : ℕ) (q : Demand) (i : ℕ) → Fits Elsewhere (list_demand n q i)
+items_elsewhere n (Stat t) i = tail_fits Elsewhere (λ u. tt) n t i
+items_elsewhere zero (Parts w) i = tt
+items_elsewhere (suc n) (Parts w) i = parts_elsewhere n w i
+items_elsewhere n q i = tt
+
 fits_items : (n : ℕ) (p : Position) (q : Demand) → Fits p q → (i : ℕ) → Fits (item_position p n i) (list_demand n q i)
 fits_items n StatementList (Stat t) f i = tail_fits (Stmt stmt_seat.List) (λ u. tt) n t i
 fits_items n ArgumentList Items f i = (refl, refl)
 fits_items n ArgumentList (Stat t) f i = tail_fits (Expr argument_seat) (λ u. refl) n t i
 fits_items n (SequenceList s) (Parts w) f i = fits_parts s w f n i
 fits_items n TemplateList Texts f i = unmarked_fits 0 Val
-fits_items n (Expr s) q f i = tt
-fits_items n (Stmt k) q f i = tt
-fits_items n place.Target q f i = tt
-fits_items n place.Method q f i = tt
-fits_items n place.Unwritten q f i = tt
-fits_items n place.CommaList q f i = tt
-fits_items n Elsewhere q f i = tt
+fits_items n (Expr s) q f i = items_elsewhere n q i
+fits_items n (Stmt k) q f i = items_elsewhere n q i
+fits_items n place.Target q f i = items_elsewhere n q i
+fits_items n place.Method q f i = items_elsewhere n q i
+fits_items n place.Unwritten q f i = items_elsewhere n q i
+fits_items n place.CommaList q f i = items_elsewhere n q i
+fits_items n Elsewhere q f i = items_elsewhere n q i
 fits_items n p q f i = absurd f
 
 tail_of_fits : (p : Position) → ((t : Option Tail) → Fits p (Stat t)) → (q : Demand) → Fits p (tail_of q)
@@ -145,13 +159,13 @@ fits_conditional s w f zero = tested conditional_test_seat
 fits_conditional s w f (suc i) = (f.0, not_unused w)
 
 fits_call : (i : ℕ) → Fits (call_position i) (first_demand Callee Items i)
-fits_call zero = (refl, refl)
+fits_call zero = (refl, refl, refl)
 fits_call (suc i) = tt
 
 fits_unary : (o : UnaryOperator) → Fits (Expr (unary_operand_seat o)) (operand_demand o)
 fits_unary unary.LogicalNot = tested not_operand_seat
-fits_unary unary.Typeof = (refl, refl)
-fits_unary unary.Delete = (refl, refl)
+fits_unary unary.Typeof = (refl, refl, refl)
+fits_unary unary.Delete = (refl, refl, refl)
 fits_unary unary.UnaryPlus = no_marks Val (unary_operand_seat unary.UnaryPlus) refl refl
 fits_unary unary.UnaryNegation = no_marks Val (unary_operand_seat unary.UnaryNegation) refl refl
 fits_unary unary.BitwiseNot = no_marks Val (unary_operand_seat unary.BitwiseNot) refl refl
@@ -161,11 +175,13 @@ fits_binary : (o : BinaryOperator) (i : ℕ) → Fits (Expr (binary_operand_seat
 fits_binary o zero = no_marks Val (binary_operand_seat o 0) refl refl
 fits_binary o (suc i) = no_marks Val (binary_operand_seat o 1) refl refl
 
-fits_chained : (s : Seat) → s.boolean ≡ false → s.unused ≡ false → (q : Demand) → Fits (Expr s) (chained q)
-fits_chained s b u (As w) = no_marks w s b u
-fits_chained s b u Callee = (b, u)
-fits_chained s b u Target = (b, u)
-fits_chained s b u q = no_marks Val s b u
+fits_chained : (p : Position) (q : Demand) → Fits p q → Fits (Expr (chained_seat (seat_at p))) (chained q)
+fits_chained p (As w) f = no_marks w (chained_seat (seat_at p)) refl refl
+fits_chained (Expr s) Callee f = (refl, refl, f.2)
+fits_chained (Expr s) Deleted f = (refl, refl, f.2)
+fits_chained p Callee f = absurd f
+fits_chained p Deleted f = absurd f
+fits_chained p q f = no_marks Val (chained_seat (seat_at p)) refl refl
 
 -- a key, which no parent but an object's property asks
 fits_key : (b : Bool) → Fits (key_position b) (Stat None)
@@ -211,7 +227,9 @@ class_fits (suc (suc zero)) = tt
 class_fits (suc (suc (suc i))) = tt
 
 each_fits : (p : Position) → Fits p (As Val) → (d : Option Declared) (i : ℕ) → Fits (first_second_rest place.Target p (Stmt stmt_seat.Body) i) (each_demand d i)
-each_fits p f d zero = tt
+each_fits p f (Some (Variables k)) zero = tt
+each_fits p f (Some AClass) zero = tt
+each_fits p f None zero = tt
 each_fits p f d (suc zero) = f
 each_fits p f d (suc (suc i)) = tt
 
@@ -219,9 +237,22 @@ do_fits : (i : ℕ) → Fits (first_rest (Stmt stmt_seat.Body) (Expr if_test_sea
 do_fits zero = tt
 do_fits (suc i) = tested if_test_seat
 
-inner_fits : (p : Position) (q : Demand) → Fits p q → (i : ℕ) → Fits (first_rest p Elsewhere i) q
+inner_fits : (p : Position) (q : Demand) → Fits p q → (i : ℕ) → Fits (first_rest p Elsewhere i) (first_demand q (Stat None) i)
 inner_fits p q f zero = f
 inner_fits p q f (suc i) = tt
+
+try_fits : (i : ℕ) → Fits Elsewhere (try_demand i)
+try_fits zero = tt
+try_fits (suc zero) = tt
+try_fits (suc (suc i)) = tt
+
+catch_fits : (i : ℕ) → Fits Elsewhere (first_demand (Binds true) (Stat None) i)
+catch_fits zero = tt
+catch_fits (suc i) = tt
+
+declaration_fits : (k : VariableDeclarationKind) (q : Demand) → Fits place.CommaList (declaration_demand k q)
+declaration_fits k (Binds lexical) = tt
+declaration_fits k q = tt
 
 -- a demand that fits the node's place gives each child one that fits its place
 pub fits_children : (h : Shape) (fs : List Facts) (p : Position) (q : Demand) → Fits p q → (i : ℕ) → Fits (child_position h p (length fs) i) (demand h fs q i)
@@ -240,6 +271,9 @@ fits_children shape.DoWhileStatement fs p q f i = do_fits i
 fits_children shape.ForStatement fs p q f i = fits_for (first_facts fs).declared i
 fits_children shape.ForInStatement fs p q f i = each_fits (Expr (seat_of_level 0)) (unmarked_fits 0 Val) (first_facts fs).declared i
 fits_children shape.ForOfStatement fs p q f i = each_fits (Expr argument_seat) (unmarked_fits 1 Val) (first_facts fs).declared i
+fits_children shape.TryStatement fs p q f i = try_fits i
+fits_children shape.CatchClause fs p q f i = catch_fits i
+fits_children (shape.VariableDeclaration k) fs p q f i = declaration_fits k q
 fits_children shape.VariableDeclarator fs p q f i = first_fits Elsewhere (Expr argument_seat) _ (As Val) tt (unmarked_fits 1 Val) i
 fits_children (shape.Function d g ds) fs p q f i = three_fit Elsewhere place.CommaList Elsewhere (Stat None) tt tt tt i
 fits_children (shape.ArrowFunctionExpression ds) fs p q f i = all_fit place.CommaList (Expr argument_seat) (Stat None) tt refl i
@@ -266,7 +300,7 @@ fits_children (shape.StaticMemberExpression b) fs p q f i = all_fit (Expr object
 fits_children (shape.ComputedMemberExpression b) fs p q f i = all_fit (Expr object_seat) (Expr (seat_of_level 0)) (As Val) (no_marks Val object_seat refl refl) (unmarked_fits 0 Val) i
 fits_children (shape.PrivateFieldExpression b) fs p q f i = all_fit (Expr object_seat) Elsewhere (Stat None) refl tt i
 fits_children shape.SuperComputedMemberExpression fs p q f i = all_fit Elsewhere (Expr (seat_of_level 0)) (Stat None) tt refl i
-fits_children shape.ChainExpression fs p q f i = fits_chained (chained_seat (seat_at p)) refl refl q
+fits_children shape.ChainExpression fs p q f i = fits_chained p q f
 fits_children (shape.YieldExpression b) fs p q f i = no_marks Val yield_argument_seat refl refl
 fits_children shape.TemplateLiteral fs p q f i = all_fit Elsewhere TemplateList Texts tt tt i
 fits_children shape.TaggedTemplateExpression fs p q f i = all_fit (Expr callee_seat) Elsewhere (Stat None) refl tt i

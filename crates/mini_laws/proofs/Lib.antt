@@ -27,3 +27,4 @@ pub mod Putting
 pub mod Finding
 pub mod Replacing
 pub mod Preorder
+pub mod Missing

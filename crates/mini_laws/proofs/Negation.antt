@@ -13,7 +13,7 @@ use Rattle.mini_model.specs.Position.{operand_seat}
 use Rattle.mini_model.specs.Terms.{is_boolean, unwrapped, neg, neg_each}
 use Rattle.mini_meaning.specs.Value.{Value, Boolean, variables}
 use Rattle.mini_meaning.specs.State.{Item, State, Completion, ok, stop, out, either, Environment}
-use Rattle.mini_meaning.specs.Demand.{Want, Val, Test, Unused, Tail, Demand, As, Callee, OfType, Target, AnEntry, Stat, AValue, Prepare, Fetch, Put, Request, Reply, Says, says, plain_call}
+use Rattle.mini_meaning.specs.Demand.{Want, Val, Test, Unused, Tail, Demand, As, Callee, OfType, AnEntry, Stat, AValue, Request, Reply, Says, says, plain_call, Deleted}
 use Rattle.mini_meaning.specs.Command.{Naming, Command, bind, Kids, run}
 use Rattle.mini_meaning.specs.Naming.{summaries, naming}
 use Rattle.mini_meaning.specs.Asking.{and_or_demand, logical_demand, first_demand}
@@ -42,7 +42,7 @@ flipped w x = either x (λ b s. ok (says w (Boolean (not b))) s) (λ e s. stop e
 unfoldable given : (q : Demand) (r : Request q) → Completion Value → Completion (Reply q r)
 given Callee r x = either x (λ v s. ok (plain_call v) s) (λ e s. stop e s)
 given OfType r x = either x (λ v s. ok v s) (λ e s. stop e s)
-given Target Prepare x = either x (λ v s. ok (AValue v) s) (λ e s. stop e s)
+given Deleted r x = either x (λ v s. ok (AValue v) s) (λ e s. stop e s)
 given AnEntry r x = either x (λ v s. ok (Item v) s) (λ e s. stop e s)
 given q r x = out
 
@@ -63,11 +63,9 @@ module _ (e : Environment) where
   unfolding means meaning step flipped given
   not_given Callee o r n s = simp runs
   not_given OfType o r n s = simp runs
-  not_given Target o Prepare n s = simp runs
+  not_given Deleted o r n s = simp runs
   not_given AnEntry o r n s = simp runs
   not_given (As w) o r n s = absurd o
-  not_given Target o (Fetch x) n s = refl
-  not_given Target o (Put x v) n s = refl
   not_given q o r n s = refl
 
   -- what is asked of a part that gives the value
@@ -80,9 +78,9 @@ module _ (e : Environment) where
     unfolding given
     passes_type = run_bind e names c (passed OfType tt) K s ∙ sym (ap (given OfType tt) (run_bind e names c (passed (As Val) tt) K s ∙ either_eta (run e names K c s)))
 
-    passes_target : run e names K (bind c (passed Target Prepare)) s ≡ given Target Prepare (run e names K (bind c (passed (As Val) tt)) s)
+    passes_deleted : run e names K (bind c (passed Deleted tt)) s ≡ given Deleted tt (run e names K (bind c (passed (As Val) tt)) s)
     unfolding given
-    passes_target = run_bind e names c (passed Target Prepare) K s ∙ sym (ap (given Target Prepare) (run_bind e names c (passed (As Val) tt) K s ∙ either_eta (run e names K c s)))
+    passes_deleted = run_bind e names c (passed Deleted tt) K s ∙ sym (ap (given Deleted tt) (run_bind e names c (passed (As Val) tt) K s ∙ either_eta (run e names K c s)))
 
     passes_entry : run e names K (bind c (passed AnEntry tt)) s ≡ given AnEntry tt (run e names K (bind c (passed (As Val) tt)) s)
     unfolding given
@@ -92,22 +90,18 @@ module _ (e : Environment) where
   unfolding means step given
   logical_given Callee other r o xs n us s = passes_callee (naming (shape.LogicalExpression o) (As Val) (variables xs) n (summaries us)) (logical_demand o Val) (logical_step o Val) (λ i r z. meaning e us i (logical_demand o Val i) r z) s
   logical_given OfType other r o xs n us s = passes_type (naming (shape.LogicalExpression o) (As Val) (variables xs) n (summaries us)) (logical_demand o Val) (logical_step o Val) (λ i r z. meaning e us i (logical_demand o Val i) r z) s
-  logical_given Target other Prepare o xs n us s = passes_target (naming (shape.LogicalExpression o) (As Val) (variables xs) n (summaries us)) (logical_demand o Val) (logical_step o Val) (λ i r z. meaning e us i (logical_demand o Val i) r z) s
+  logical_given Deleted other r o xs n us s = passes_deleted (naming (shape.LogicalExpression o) (As Val) (variables xs) n (summaries us)) (logical_demand o Val) (logical_step o Val) (λ i r z. meaning e us i (logical_demand o Val i) r z) s
   logical_given AnEntry other r o xs n us s = passes_entry (naming (shape.LogicalExpression o) (As Val) (variables xs) n (summaries us)) (logical_demand o Val) (logical_step o Val) (λ i r z. meaning e us i (logical_demand o Val i) r z) s
   logical_given (As w) other r o xs n us s = absurd other
-  logical_given Target other (Fetch x) o xs n us s = refl
-  logical_given Target other (Put x v) o xs n us s = refl
   logical_given q other r o xs n us s = refl
 
   conditional_given : (q : Demand) → NotAs q → (r : Request q) (xs : List Name) (n : ℕ) (us : Trees) (s : State) → means e (node shape.ConditionalExpression xs n us) q r s ≡ given q r (means e (node shape.ConditionalExpression xs n us) (As Val) tt s)
   unfolding means step given
   conditional_given Callee other r xs n us s = passes_callee (naming shape.ConditionalExpression (As Val) (variables xs) n (summaries us)) (first_demand (As Test) (As Val)) (conditional_step Val) (λ i r z. meaning e us i (first_demand (As Test) (As Val) i) r z) s
   conditional_given OfType other r xs n us s = passes_type (naming shape.ConditionalExpression (As Val) (variables xs) n (summaries us)) (first_demand (As Test) (As Val)) (conditional_step Val) (λ i r z. meaning e us i (first_demand (As Test) (As Val) i) r z) s
-  conditional_given Target other Prepare xs n us s = passes_target (naming shape.ConditionalExpression (As Val) (variables xs) n (summaries us)) (first_demand (As Test) (As Val)) (conditional_step Val) (λ i r z. meaning e us i (first_demand (As Test) (As Val) i) r z) s
+  conditional_given Deleted other r xs n us s = passes_deleted (naming shape.ConditionalExpression (As Val) (variables xs) n (summaries us)) (first_demand (As Test) (As Val)) (conditional_step Val) (λ i r z. meaning e us i (first_demand (As Test) (As Val) i) r z) s
   conditional_given AnEntry other r xs n us s = passes_entry (naming shape.ConditionalExpression (As Val) (variables xs) n (summaries us)) (first_demand (As Test) (As Val)) (conditional_step Val) (λ i r z. meaning e us i (first_demand (As Test) (As Val) i) r z) s
   conditional_given (As w) other r xs n us s = absurd other
-  conditional_given Target other (Fetch x) xs n us s = refl
-  conditional_given Target other (Put x v) xs n us s = refl
   conditional_given q other r xs n us s = refl
 
   -- a node each of whose values is a boolean
@@ -140,11 +134,9 @@ module _ (e : Environment) where
   unfolding means step given
   not_node_given Callee o r xs n ts s = simp runs
   not_node_given OfType o r xs n ts s = simp runs
-  not_node_given Target o Prepare xs n ts s = simp runs
+  not_node_given Deleted o r xs n ts s = simp runs
   not_node_given AnEntry o r xs n ts s = simp runs
   not_node_given (As w) o r xs n ts s = absurd o
-  not_node_given Target o (Fetch x) xs n ts s = refl
-  not_node_given Target o (Put x v) xs n ts s = refl
   not_node_given q o r xs n ts s = refl
 
   given_of : (a : Tree) → is_boolean a ≡ true → (q : Demand) → NotAs q → (r : Request q) (s : State) → means e a q r s ≡ given q r (means e a (As Val) tt s)

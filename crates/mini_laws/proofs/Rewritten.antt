@@ -133,6 +133,7 @@ body_fits BodyKind.Program = tt
 body_fits BodyKind.FunctionStatements = tt
 body_fits BodyKind.ArrowExpression = tt
 body_fits BodyKind.InnerValue = tt
+body_fits BodyKind.InnerTarget = tt
 
 pub program_same : law.ProgramSame
 program_same n w r e k X = any_body_same Contracts rows_mean_same Elsewhere n w r e k (body_fits k) X

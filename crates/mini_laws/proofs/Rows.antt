@@ -13,7 +13,7 @@ use Rattle.mini_model.specs.Terms.{neg, not_of}
 use Rattle.mini_model.specs.Redex.{Row23, Row40, Row82Else, Row82And, Row82Or, Row}
 use Rattle.mini_meaning.specs.Value.{VariableSet}
 use Rattle.mini_meaning.specs.State.{State, Completion, ok, stop, halt, out, Environment}
-use Rattle.mini_meaning.specs.Demand.{Test, Tail, Demand, As, Callee, OfType, Target, AnEntry, Stat, Prepare, Fetch, Put, LabelSet, Request}
+use Rattle.mini_meaning.specs.Demand.{Test, Tail, Demand, As, Callee, OfType, AnEntry, Stat, LabelSet, Request, Deleted}
 use Rattle.mini_meaning.specs.Step.{step, means, meaning}
 use Rattle.mini_meaning.specs.Fits.{Fits}
 use Rattle.mini_meaning.specs.Same.{Goes, Agree, Same}
@@ -59,10 +59,8 @@ row_40 s a b c = record { by = λ e q f. go e q f }
     go e (As w) f r z = simp runs (either_cong _ _ _ _ _ (each_bool _ (λ y. simp runs) (λ y. simp runs)) (λ x y. refl))
     go e Callee f r z = simp runs (either_cong _ _ _ _ _ (each_bool _ (λ y. refl) (λ y. refl)) (λ x y. refl))
     go e OfType f r z = simp runs (either_cong _ _ _ _ _ (each_bool _ (λ y. refl) (λ y. refl)) (λ x y. refl))
-    go e Target f Prepare z = simp runs (either_cong _ _ _ _ _ (each_bool _ (λ y. refl) (λ y. refl)) (λ x y. refl))
+    go e Deleted f r z = simp runs (either_cong _ _ _ _ _ (each_bool _ (λ y. refl) (λ y. refl)) (λ x y. refl))
     go e AnEntry f r z = simp runs (either_cong _ _ _ _ _ (each_bool _ (λ y. refl) (λ y. refl)) (λ x y. refl))
-    go e Target f (Fetch x) z = refl
-    go e Target f (Put x v) z = refl
     go e q f r z = refl
 
 module _ (e : Environment) (t : Option Tail) where

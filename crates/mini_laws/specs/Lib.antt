@@ -18,3 +18,4 @@ pub mod Finding
 pub mod Replacing
 pub mod Preorder
 pub mod PathExamples
+pub mod NearMisses

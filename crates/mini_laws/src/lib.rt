@@ -11,6 +11,7 @@ ghost use Rattle.mini_laws.specs.Congruence.{Insensitive, Congruence, CongruentS
 ghost use Rattle.mini_laws.specs.Renaming.{RenamedSame};
 ghost use Rattle.mini_laws.specs.Sameness.{Reflexive, Transitive, Weaker, BodyReflexive, BodyTransitive, BodySame};
 ghost use Rattle.mini_laws.specs.Differences.{UnswappedDiffers, ValueDiffers, OneSideDiffers, OrDiffers, TestDroppedDiffers};
+ghost use Rattle.mini_laws.specs.NearMisses.{ConversionMoves, OperandsSwap, ReadMoves, EqualitySharpens, ThisAppears, DeletedName, MissingName, ChainEnds, KeyConvertsTwice, TargetReadLate, ConstantWritten, PrivateTargetMoves, WriteMoves, FinalizerLost, FinalizerReplaces, CaseSkipped, DefaultMoves, ContinueDropped, BreakDropped, FreshLost, CopyLost, CloseLost, FunctionLate, LexicalLost};
 ghost use Rattle.mini_laws.specs.Fewer.{Fewer, FewerSame, FewerBody};
 ghost use Rattle.mini_laws.specs.Returns.{ReturnsSame};
 ghost use Rattle.mini_laws.specs.Rewritten.{StepKeeps, StepReads, AnyStepSame, AnyReachesSame, AnyBodySame, AnyFrameKept, StepSame, ReachesSame, ProgramSame, FrameKept};
@@ -171,4 +172,32 @@ pub fn differences()
     ensures one_side { OneSideDiffers }
     ensures or { OrDiffers }
     ensures test_dropped { TestDroppedDiffers }
+{}
+
+/// Programs that nearly do the same are told apart by a run.
+pub fn near_misses()
+    ensures conversion_moves { ConversionMoves }
+    ensures operands_swap { OperandsSwap }
+    ensures read_moves { ReadMoves }
+    ensures equality_sharpens { EqualitySharpens }
+    ensures this_appears { ThisAppears }
+    ensures deleted_name { DeletedName }
+    ensures missing_name { MissingName }
+    ensures chain_ends { ChainEnds }
+    ensures key_converts_twice { KeyConvertsTwice }
+    ensures target_read_late { TargetReadLate }
+    ensures constant_written { ConstantWritten }
+    ensures private_target_moves { PrivateTargetMoves }
+    ensures write_moves { WriteMoves }
+    ensures finalizer_lost { FinalizerLost }
+    ensures finalizer_replaces { FinalizerReplaces }
+    ensures case_skipped { CaseSkipped }
+    ensures default_moves { DefaultMoves }
+    ensures continue_dropped { ContinueDropped }
+    ensures break_dropped { BreakDropped }
+    ensures fresh_lost { FreshLost }
+    ensures copy_lost { CopyLost }
+    ensures close_lost { CloseLost }
+    ensures function_late { FunctionLate }
+    ensures lexical_lost { LexicalLost }
 {}
