@@ -1,5 +1,7 @@
+//! What the minifier may do, and how far it goes.
+
 ghost use Rattle.std.specs.Prelude.{◌≡◌};
-ghost use Rattle.mini_options.specs.Options.{default_options};
+ghost use Rattle.mini_tree.specs.Options.{default_options};
 
 /// Whose names stay although nothing refers to them.
 #[derive(Clone, Copy, Debug, PartialEq, Eq)]

@@ -1,0 +1,101 @@
+//! What the weight of a node reads of its children.
+
+ghost use Rattle.std.specs.Prelude.{◌≡◌, length};
+ghost use Rattle.mini_model.specs.Tree.{count};
+ghost use Rattle.mini_model.specs.Weight.{outline, outlines, nth_is_absent, nth_items, first_is_zero, first_chooses, one_chooses};
+
+use mini_model::Shape;
+use mini_node::{Node, Nodes};
+
+fn is_absent(node: &Node) -> bool
+    ensures { result ≡ (outline node.now).absent }
+{
+    matches!(node.shape(), Shape::Absent)
+}
+
+/// Whether the child at a place is absent.
+#[tactic(auto, using(crate::proofs::Outlines::nth_absent))]
+pub fn is_absent_at(children: &Nodes, at: usize) -> bool
+    ensures { result ≡ nth_is_absent (outlines children.now) at }
+{
+    match children.get(at) {
+        None => true,
+        Some(child) => is_absent(child),
+    }
+}
+
+// How many items a list has; 0 of another node.
+#[tactic(auto, using(crate::proofs::Outlines::length_outlines))]
+fn items(node: &Node) -> usize
+    ensures { result ≡ (outline node.now).items }
+{
+    match node.shape() {
+        Shape::Listed => node.children().len(),
+        _ => 0,
+    }
+}
+
+/// How many items the list at a place has.
+#[tactic(auto, using(crate::proofs::Outlines::nth_count))]
+pub fn items_at(children: &Nodes, at: usize) -> usize
+    ensures { result ≡ nth_items (outlines children.now) at }
+{
+    match children.get(at) {
+        None => 0,
+        Some(child) => items(child),
+    }
+}
+
+fn is_zero(node: &Node) -> bool
+    ensures { result ≡ (outline node.now).is_zero }
+{
+    match node.shape() {
+        Shape::NumericLiteral(value) => *value == 0,
+        _ => false,
+    }
+}
+
+/// Whether the first child is the literal 0.
+#[tactic(auto, using(crate::proofs::Outlines::first_zero))]
+pub fn is_first_zero(children: &Nodes) -> bool
+    ensures { result ≡ first_is_zero (outlines children.now) }
+{
+    match children.get(0) {
+        None => false,
+        Some(child) => is_zero(child),
+    }
+}
+
+// Whether it is an `if` with `else`, or a list of one such alone.
+#[cycle(choosing)]
+fn chooses(node: &Node) -> bool
+    ensures { result ≡ (outline node.now).chooses }
+{
+    match node.shape() {
+        Shape::Listed => one_choice(node.children()),
+        Shape::IfStatement => !is_absent_at(node.children(), 2),
+        _ => false,
+    }
+}
+
+#[cycle(choosing)]
+#[tactic(auto, using(crate::proofs::Outlines::one_chooses_of_many))]
+fn one_choice(children: &Nodes) -> bool
+    ensures { result ≡ one_chooses (outlines children.now) }
+{
+    match children.as_slice() {
+        [only] => chooses(only),
+        _ => false,
+    }
+}
+
+/// Whether the first child is such a one.
+#[tactic(auto, using(crate::proofs::Outlines::first_choice))]
+pub fn first_choice(children: &Nodes) -> bool
+    ensures { result ≡ first_chooses (outlines children.now) }
+{
+    match children.get(0) {
+        None => false,
+        Some(child) => chooses(child),
+    }
+}
