@@ -3,8 +3,6 @@
 
 mod laws;
 mod number;
-#[cfg(test)]
-mod tests;
 
 pub use laws::{numbers_come_back, safe_number_is_exact, texts_tell_numbers_apart};
 pub use number::{decimal, equivalent_number};

@@ -6,8 +6,6 @@ mod cooking;
 mod escape;
 mod joining;
 mod laws;
-#[cfg(test)]
-mod tests;
 mod units;
 
 pub use cooking::cook;
