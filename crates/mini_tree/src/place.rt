@@ -1,7 +1,7 @@
 //! Where the children of a node stand, by its shape.
 
 ghost use Rattle.std.specs.Prelude.{◌≡◌, ◌<◌};
-ghost use Rattle.mini_model.specs.Position.{argument_seat, whole_seat, seat_at, key_position, written_key_position, value_position, item_position, part_seat, is_accessor as is_accessor_kind, binary_operand_seat, operand_seat, first_rest, first_second_rest, conditional_position, if_position, for_position, call_position, child_position};
+ghost use Rattle.mini_model.specs.Position.{argument_seat, whole_seat, seat_at, key_position, written_key_position, value_position, item_position, part_seat, is_accessor as is_accessor_kind, binary_operand_seat, operand_seat, first_rest, first_second_rest, conditional_position, if_position, for_position, call_position, class_position, child_position};
 
 use crate::seats;
 use mini_model::{BinaryOperator, LogicalOperator, Position, PropertyKind, Seat, Shape, StmtSeat};
@@ -107,6 +107,17 @@ fn for_place(at: usize) -> Position
     }
 }
 
+// The name of a class declaration is written once, and held twice.
+fn class_place(at: usize) -> Position
+    ensures { result ≡ class_position at }
+{
+    match at {
+        1 => Position::Expr(seats::super_class()),
+        0 | 2 => Position::Elsewhere,
+        _ => Position::Unwritten,
+    }
+}
+
 fn call_place(at: usize) -> Position
     ensures { result ≡ call_position at }
 {
@@ -201,12 +212,7 @@ pub fn child_place(shape: &Shape, place: Position, count: usize, at: usize) -> P
             Position::Elsewhere,
         ),
         Shape::ArrowFunctionExpression(_) => first_or(at, Position::CommaList, argument()),
-        Shape::Class(_) => first_second_or(
-            at,
-            Position::Elsewhere,
-            Position::Expr(seats::super_class()),
-            Position::Elsewhere,
-        ),
+        Shape::Class(_) => class_place(at),
         Shape::MethodDefinition(_, computed, _) => first_or(at, key(*computed), Position::Method),
         Shape::PropertyDefinition(computed, _) => first_or(at, key(*computed), argument()),
         Shape::ImportDeclaration => first_or(at, Position::CommaList, Position::Elsewhere),
