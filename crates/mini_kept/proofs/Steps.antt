@@ -1,0 +1,116 @@
+-- A step leaves a tree where it may stand.
+use Rattle.std.proofs.Common.{◌≡◌, ℕ, Bool, true, false, List, [], ◌∷◌, refl, sym, ap, ◌∙◌, subst, arith}
+use Rattle.std.specs.Prelude.{◌&&◌, ◌||◌, ◌==◌, not}
+use Rattle.std.proofs.lemmas.Bool.{and_parts}
+use Rattle.mini_model.specs.declared.name.Name.{Name}
+use Rattle.mini_model.specs.declared.place.Position.{Position}
+use Rattle.mini_model.specs.declared.shape.Shape.{Shape}
+use Rattle.mini_model.specs.declared.shape.Shape.TheVariants as shape
+use Rattle.mini_model.specs.Tree.{Tree, Trees, node, none, ◌▸◌, count}
+use Rattle.mini_model.specs.Position.{child_position}
+use Rattle.mini_model.specs.Redex.{Contracts}
+use Rattle.mini_model.specs.Rewriting.{Step, here, inside, StepIn, first, later}
+use Rattle.mini_structure.specs.WellShaped.{Tagging, untagged, tagged, Class, Slot, Filling, refused, these, each, each_or_last, pieces, filling, class_of, is_whole, is_numbered, has_names, has_plain_fields, has_its_parts, is_strict_in, is_quasi_by, is_quasi, are_quasis, is_last, fits, fill}
+use Rattle.mini_kept.specs.Nodes.{each_node, each_nodes, is_declaring, declares_not}
+use Rattle.mini_kept.proofs.Bools.{left, right, both}
+use Rattle.mini_kept.proofs.Rows.{row_fits}
+use Rattle.mini_kept.proofs.Moved.{stepped, some_children, row_root, is_rewritten_shape}
+use Rattle.mini_kept.proofs.Parts.{any_parts_kept}
+
+-- no step is made in the text of a template
+
+no_text : (g : Tagging) (last : Bool) (h : Shape) → is_rewritten_shape h ≡ true → is_quasi_by g last h ≡ false
+no_text untagged last (shape.TemplateElement t r c) e = absurd (cc e)
+no_text tagged last (shape.TemplateElement t r c) e = absurd (cc e)
+no_text untagged last h e = refl
+no_text tagged last h e = refl
+
+text_by : (g : Tagging) (last : Bool) (h : Shape) (xs : List Name) (n : ℕ) (ts : Trees) → is_quasi g last (node h xs n ts) ≡ true → (is_quasi_by g last h ≡ true) × (ts ≡ none)
+text_by g last h [] n none e = (left (is_quasi_by g last h) ((n == 0) && has_plain_fields h) e, refl)
+text_by g last h [] n (t ▸ ts) e = absurd (cc e)
+text_by g last h (x ∷ xs) n ts e = absurd (cc e)
+
+no_text_step : {p : Position} {t u : Tree} (g : Tagging) (last : Bool) → Step Contracts p t u → is_quasi g last t ≡ true → ⊥
+no_text_step g last (here p (node h xs n ts) u c) e =
+    let text = text_by g last h xs n ts e in
+    cc (sym text.0 ∙ no_text g last h (row_root p (node h xs n ts) u c.row))
+no_text_step g last (inside p h xs n ts us s) e =
+    let text = text_by g last h xs n ts e in
+    let some = some_children s in
+    let none_there = ap count text.1 in
+    absurd (omega (arith, some, none_there))
+
+no_texts_step : {π : ℕ → Position} {ts us : Trees} (g : Tagging) → StepIn Contracts π ts us → are_quasis g ts ≡ true → ⊥
+no_texts_step g (first π t u none s) e = no_text_step g true s e
+no_texts_step g (first π t u (v ▸ ts) s) e = no_text_step g false s (left (is_quasi g false t) (are_quasis g (v ▸ ts)) e)
+no_texts_step g (later π t none us s) e = let some = some_children s in absurd (omega (arith, some))
+no_texts_step g (later π t (v ▸ ts) us s) e = no_texts_step g s (right (is_quasi g false t) (are_quasis g (v ▸ ts)) e)
+
+-- ---- the node
+
+not_so : (b : Bool) → not b ≡ true → b ≡ false
+not_so true e = absurd (cc e)
+not_so false e = refl
+
+whole_kept : (c : Class) (p : Position) (h : Shape) (xs : List Name) (n : ℕ) (ts us : Trees) → is_declaring h ≡ false → StepIn Contracts (child_position h p (count ts)) ts us → is_whole c h xs n ts ≡ true → is_whole c h xs n us ≡ true
+whole_kept c p h xs n ts us d s e =
+    let (names, others) = and_parts (has_names h xs) ((is_numbered c h || n == 0) && (has_plain_fields h && has_its_parts c h ts)) e in
+    let (number, fields) = and_parts (is_numbered c h || n == 0) (has_plain_fields h && has_its_parts c h ts) others in
+    let (plain, parts) = and_parts (has_plain_fields h) (has_its_parts c h ts) fields in
+    both (has_names h xs) ((is_numbered c h || n == 0) && (has_plain_fields h && has_its_parts c h us)) names
+    (both (is_numbered c h || n == 0) (has_plain_fields h && has_its_parts c h us) number
+    (both (has_plain_fields h) (has_its_parts c h us) plain (any_parts_kept p ts us c h d (stepped s) parts)))
+
+-- ---- its children
+
+last_kept : {π : ℕ → Position} {ts us : Trees} → StepIn Contracts π ts us → is_last ts ≡ is_last us
+last_kept (first π t u ts s) = refl
+last_kept (later π t ts us s) = refl
+
+or_last : (a b l c d : Bool) → (a ≡ true → c ≡ true) → (b ≡ true → d ≡ true) → (a || (l && b)) ≡ true → (c || (l && d)) ≡ true
+or_last true b l true d f g e = refl
+or_last true b l false d f g e = absurd (cc (f refl))
+or_last false b l true d f g e = refl
+or_last false true true false d f g e = g refl
+or_last false false true false d f g e = absurd (cc e)
+or_last false b false false d f g e = e
+
+mutual
+  pub step_fits : {p : Position} {t u : Tree} → Step Contracts p t u → each_node declares_not t ≡ true → (strict : Bool) (s : Slot) → fits strict s t ≡ true → fits strict s u ≡ true
+  step_fits (here p t u c) d strict s e = row_fits strict s p t u c.row e
+  step_fits (inside p h xs n ts us st) d strict s e =
+      let (whole, filled) = and_parts (is_whole (class_of s) h xs n ts) (fill (is_strict_in strict h) (filling strict s h) ts) e in
+      let (own, below) = and_parts (not (is_declaring h)) (each_nodes declares_not ts) d in
+      both (is_whole (class_of s) h xs n us) (fill (is_strict_in strict h) (filling strict s h) us)
+      (whole_kept (class_of s) p h xs n ts us (not_so (is_declaring h) own) st whole)
+      (step_fills st below (is_strict_in strict h) (filling strict s h) filled)
+
+  step_fills : {π : ℕ → Position} {ts us : Trees} → StepIn Contracts π ts us → each_nodes declares_not ts ≡ true → (strict : Bool) (g : Filling) → fill strict g ts ≡ true → fill strict g us ≡ true
+  step_fills (first π t u ts st) d strict refused e = e
+  step_fills (first π t u ts st) d strict (these []) e = e
+  step_fills (first π t u ts st) d strict (these (s ∷ ss)) e =
+      let (one_fits, rest) = and_parts (fits strict s t) (fill strict (these ss) ts) e in
+      both (fits strict s u) (fill strict (these ss) ts) (step_fits st (left (each_node declares_not t) (each_nodes declares_not ts) d) strict s one_fits) rest
+  step_fills (first π t u ts st) d strict (each s) e =
+      let (one_fits, rest) = and_parts (fits strict s t) (fill strict (each s) ts) e in
+      both (fits strict s u) (fill strict (each s) ts) (step_fits st (left (each_node declares_not t) (each_nodes declares_not ts) d) strict s one_fits) rest
+  step_fills (first π t u ts st) d strict (each_or_last s l) e =
+      let (one_fits, rest) = and_parts (fits strict s t || (is_last ts && fits strict l t)) (fill strict (each_or_last s l) ts) e in
+      let own = left (each_node declares_not t) (each_nodes declares_not ts) d in
+      both (fits strict s u || (is_last ts && fits strict l u)) (fill strict (each_or_last s l) ts)
+      (or_last (fits strict s t) (fits strict l t) (is_last ts) (fits strict s u) (fits strict l u) (step_fits st own strict s) (step_fits st own strict l) one_fits) rest
+  step_fills (first π t u ts st) d strict (pieces g) e = absurd (no_texts_step g (first π t u ts st) e)
+  step_fills (later π t ts us st) d strict refused e = e
+  step_fills (later π t ts us st) d strict (these []) e = e
+  step_fills (later π t ts us st) d strict (these (s ∷ ss)) e =
+      let (one_fits, rest) = and_parts (fits strict s t) (fill strict (these ss) ts) e in
+      both (fits strict s t) (fill strict (these ss) us) one_fits (step_fills st (right (each_node declares_not t) (each_nodes declares_not ts) d) strict (these ss) rest)
+  step_fills (later π t ts us st) d strict (each s) e =
+      let (one_fits, rest) = and_parts (fits strict s t) (fill strict (each s) ts) e in
+      both (fits strict s t) (fill strict (each s) us) one_fits (step_fills st (right (each_node declares_not t) (each_nodes declares_not ts) d) strict (each s) rest)
+  step_fills (later π t ts us st) d strict (each_or_last s l) e =
+      let (one_fits, rest) = and_parts (fits strict s t || (is_last ts && fits strict l t)) (fill strict (each_or_last s l) ts) e in
+      both (fits strict s t || (is_last us && fits strict l t)) (fill strict (each_or_last s l) us)
+      (subst (λ b. (fits strict s t || (b && fits strict l t)) ≡ true) (last_kept st) one_fits)
+      (step_fills st (right (each_node declares_not t) (each_nodes declares_not ts) d) strict (each_or_last s l) rest)
+  step_fills (later π t ts us st) d strict (pieces g) e = absurd (no_texts_step g (later π t ts us st) e)

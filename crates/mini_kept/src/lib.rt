@@ -1,0 +1,17 @@
+//! What rewriting keeps of a program's form: it stays well shaped, and what holds of each of its nodes still does. Each
+//! function's contract is a law, and its body is empty.
+#![tactic(auto)]
+
+ghost use Rattle.mini_kept.specs.Kept.{EachKept, ReachesWellShaped, StepFits};
+
+/// A rewrite at any place, and any number of them, leave a tree where it may stand, if it declares no variable by `let`,
+/// `const` or `var` and exports nothing by name; so a program stays one.
+pub fn rewriting_keeps_programs()
+    ensures step { StepFits }
+    ensures program { ReachesWellShaped }
+{}
+
+/// What holds of each node of a tree holds of each after any number of rewrites, if it holds of what the rows write.
+pub fn rewriting_keeps_nodes()
+    ensures { EachKept }
+{}
