@@ -1,5 +1,5 @@
 -- A test of each node holds after a rewrite, where it holds of the nodes that rows write.
-use Rattle.std.proofs.Common.{◌≡◌, ℕ, zero, suc, Bool, true, false, [], refl, sym, ◌∙◌, subst, inl, inr}
+use Rattle.std.proofs.Common.{ap, ◌≡◌, ℕ, zero, suc, Bool, true, false, [], refl, sym, ◌∙◌, subst, inl, inr}
 use Rattle.std.specs.Prelude.{◌&&◌, ◌||◌, nat_lt, if◌then◌else◌}
 use Rattle.std.proofs.lemmas.Bool.{and_parts}
 use Rattle.mini_model.specs.declared.operator.LogicalOperator.TheVariants.{Or, And}
@@ -9,14 +9,14 @@ use Rattle.mini_model.specs.declared.place.Position.TheVariants.{Expr, Stmt}
 use Rattle.mini_model.specs.declared.seat.Seat.{Seat}
 use Rattle.mini_model.specs.declared.shape.Shape.{Shape}
 use Rattle.mini_model.specs.declared.shape.Shape.TheVariants as shape
-use Rattle.mini_model.specs.Tree.{Tree, Trees, node, none, ◌▸◌, negation, conditional, logical, expression_statement, absent}
+use Rattle.mini_model.specs.Tree.{Tree, Trees, node, none, ◌▸◌, negation, conditional, logical, expression_statement, absent, children}
 use Rattle.mini_model.specs.Position.{statement_expression_seat, left_operand_seat}
 use Rattle.mini_model.specs.Weight.{weight}
 use Rattle.mini_model.specs.Terms.{is_boolean, turned_seat, unwrapped, neg, neg_each, not_of}
 use Rattle.mini_model.specs.Redex.{Row, Contracts}
 use Rattle.mini_model.specs.Rewriting.{Step, here, inside, StepIn, first, later, Reaches, done, more}
 use Rattle.mini_kept.specs.Nodes.{Test, each_node, each_nodes}
-use Rattle.mini_kept.specs.Kept.{AdmitsWritten}
+use Rattle.mini_kept.specs.Kept.{AdmitsWritten, over}
 use Rattle.mini_kept.proofs.Bools.{left, right, both}
 
 module _ (f : Test) (new : AdmitsWritten f) where
@@ -123,3 +123,22 @@ module _ (f : Test) (new : AdmitsWritten f) where
 
   pub each_step : {p : Position} {t u : Tree} → Step Contracts p t u → Each t → Each u
   each_step s e = step_each s e
+
+  -- below a root where no row writes
+
+  same_over : (t : Tree) → t ≡ over t (children t)
+  same_over (node h xs n ts) = refl
+
+  over_over : (t w u : Tree) → w ≡ over t (children w) → u ≡ over w (children u) → u ≡ over t (children u)
+  over_over (node h xs n ts) w u a b = b ∙ ap (λ v. over v (children u)) a
+
+  below_step : {p : Position} {t u : Tree} → ((v w : Tree) → Row p v w → ⊥) → Step Contracts p t u → each_nodes f (children t) ≡ true → (each_nodes f (children u) ≡ true) × (u ≡ over t (children u))
+  below_step never (here p t u c) e = absurd (never t u c.row)
+  below_step never (inside p h xs n ts us s) e = (step_each_in s e, refl)
+
+  pub reaches_below : {p : Position} {t u : Tree} → ((v w : Tree) → Row p v w → ⊥) → Reaches Contracts p t u → each_nodes f (children t) ≡ true → (each_nodes f (children u) ≡ true) × (u ≡ over t (children u))
+  reaches_below never (done p t) e = (e, same_over t)
+  reaches_below never (more p t w u s r) e =
+      let (below, one) = below_step never s e in
+      let (rest, others) = reaches_below never r below in
+      (rest, over_over t w u one others)

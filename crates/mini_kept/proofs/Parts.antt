@@ -183,6 +183,11 @@ repeats_kept ts us a m e =
     let value = value_kept (spelling (child_or_absent ts 0)) m e in
     sym (ap (λ k. is_same_spelling k (spelling (without_default (child_or_absent us 1)))) key) ∙ sym (ap (is_same_spelling (spelling (child_or_absent ts 0))) value) ∙ e
 
+-- the two names of a class
+named : (a b c d : Tree) (declaration : Bool) → is_absent a ≡ is_absent b → spelling a ≡ spelling b → is_absent c ≡ is_absent d → spelling c ≡ spelling d
+    → (if declaration && not (is_absent a) then is_same_spelling (spelling a) (spelling c) else is_absent c) ≡ (if declaration && not (is_absent b) then is_same_spelling (spelling b) (spelling d) else is_absent d)
+named a b c d declaration x y z w = cc
+
 -- ---- the parts of each shape
 
 module _ (p : Position) (ts us : Trees) where
@@ -207,6 +212,10 @@ module _ (p : Position) (ts us : Trees) where
       let finalizer = absent_alike (still (λ v w r. r) (m 2)) in
       sym (ap (λ b. not (b && is_absent (child_or_absent us 2))) handler) ∙ sym (ap (λ b. not (is_absent (child_or_absent ts 1) && b)) finalizer) ∙ e
   parts_kept (shape.ArrowFunctionExpression ds) d m e = second (nat_eq (length ds) 0) _ _ (body_kept (m 1)) e
+  parts_kept (shape.Class declaration) d m e =
+      let first = still (λ v w r. r) (m 0) in
+      let second = still (λ v w r. r) (m 3) in
+      sym (named (child_or_absent ts 0) (child_or_absent us 0) (child_or_absent ts 3) (child_or_absent us 3) declaration (absent_alike first) (spelling_alike first) (absent_alike second) (spelling_alike second)) ∙ e
   parts_kept (shape.MethodDefinition method.Constructor true is_static) d m e = e
   parts_kept (shape.MethodDefinition method.Method true is_static) d m e = e
   parts_kept (shape.MethodDefinition method.Constructor false is_static) d m e = sym (ap (λ b. not is_static && b) (constructor_alike (still (λ v w r. r) (m 0)))) ∙ e

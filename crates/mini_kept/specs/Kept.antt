@@ -6,11 +6,11 @@ use Rattle.mini_model.specs.declared.operator.UnaryOperator.TheVariants.{Logical
 use Rattle.mini_model.specs.declared.place.Position.{Position}
 use Rattle.mini_model.specs.declared.place.Position.TheVariants.{Elsewhere}
 use Rattle.mini_model.specs.declared.shape.Shape.TheVariants as shape
-use Rattle.mini_model.specs.Tree.{Tree}
+use Rattle.mini_model.specs.Tree.{Tree, Trees, node, children}
 use Rattle.mini_model.specs.Redex.{Contracts}
 use Rattle.mini_model.specs.Rewriting.{Step, Reaches}
 use Rattle.mini_structure.specs.WellShaped.{Slot, fits, IsWellShaped}
-use Rattle.mini_kept.specs.Nodes.{Test, each_node, declares_not}
+use Rattle.mini_kept.specs.Nodes.{Test, each_node, each_nodes, declares_not}
 
 -- one rewrite, at any place of the tree
 abbrev pub StepFits : Type 0
@@ -34,3 +34,11 @@ pub record AdmitsWritten (f : Test) : Type 0 where
 -- so it holds of each node after any number of rewrites, where it did before
 abbrev pub EachKept : Type 0
 EachKept = (f : Test) → AdmitsWritten f → (p : Position) (t u : Tree) → Reaches Contracts p t u → each_node f t ≡ true → each_node f u ≡ true
+
+abbrev pub over : Tree → Trees → Tree
+over (node h xs n ts) us = node h xs n us
+
+-- and of a program, whose root stays: of each node below it
+abbrev pub EachBelowKept : Type 0
+EachBelowKept =
+    (f : Test) → AdmitsWritten f → (t u : Tree) → Reaches Contracts Elsewhere t u → each_nodes f (children t) ≡ true → (each_nodes f (children u) ≡ true) × (u ≡ over t (children u))

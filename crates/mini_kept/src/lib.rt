@@ -2,7 +2,7 @@
 //! function's contract is a law, and its body is empty.
 #![tactic(auto)]
 
-ghost use Rattle.mini_kept.specs.Kept.{EachKept, ReachesWellShaped, StepFits};
+ghost use Rattle.mini_kept.specs.Kept.{EachBelowKept, EachKept, ReachesWellShaped, StepFits};
 
 /// A rewrite at any place, and any number of them, leave a tree where it may stand, if it declares no variable by `let`,
 /// `const` or `var` and exports nothing by name; so a program stays one.
@@ -11,7 +11,9 @@ pub fn rewriting_keeps_programs()
     ensures program { ReachesWellShaped }
 {}
 
-/// What holds of each node of a tree holds of each after any number of rewrites, if it holds of what the rows write.
+/// What holds of each node of a tree holds of each after any number of rewrites, if it holds of what the rows write; the
+/// root of a program stays, and what holds of each node below it still does.
 pub fn rewriting_keeps_nodes()
-    ensures { EachKept }
+    ensures anywhere { EachKept }
+    ensures program { EachBelowKept }
 {}
