@@ -70,6 +70,7 @@ child_of d (below.Optional key c) = optional key.now (class_of c) d
 child_of d (below.OptionalInner key c) = optional_inner key.now (class_of c) d
 child_of d (below.Many key form) = list (item_of form) key.now (items_at key.now d)
 child_of d (below.Body depth) = body (depth_of depth) (items_at (codes "body") d)
+child_of d below.Absent = one hole
 
 abbrev pub shape_of_head : Head → declared.Shape
 shape_of_head (head.Plain h) = h

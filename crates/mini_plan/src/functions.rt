@@ -81,10 +81,19 @@ pub fn arrow(value: &Value) -> Option<Plan<'_>>
 
 // ---- classes
 
-const CLASS: [Below; 3] = [
+// The last child is the name that a declaration holds once more.
+const CLASS_DECLARATION: [Below; 4] = [
     Below::Optional("id", Class::Binding),
     Below::OptionalInner("superClass", Class::Expression),
     Below::Node("body", Class::ClassBody),
+    Below::Optional("id", Class::Binding),
+];
+
+const CLASS_EXPRESSION: [Below; 4] = [
+    Below::Optional("id", Class::Binding),
+    Below::OptionalInner("superClass", Class::Expression),
+    Below::Node("body", Class::ClassBody),
+    Below::Absent,
 ];
 
 /// `ClassDeclaration` or `ClassExpression`
@@ -94,7 +103,11 @@ pub fn class(declaration: bool, place: Place, value: &Value) -> Option<Plan<'_>>
     if !is_named(declaration, place, value) {
         return None;
     }
-    Plan::of(Shape::Class(declaration), &CLASS)
+    if declaration {
+        Plan::of(Shape::Class(true), &CLASS_DECLARATION)
+    } else {
+        Plan::of(Shape::Class(false), &CLASS_EXPRESSION)
+    }
 }
 
 // Whether the text is `constructor`, unit by unit.

@@ -77,6 +77,8 @@ pub enum Below {
     Many(&'static str, Items),
     /// The statements of the list `body`, behind the directives.
     Body(Depth),
+    /// No node, in no field.
+    Absent,
 }
 
 /// What a node is beside its children: its shape and its names, whose texts are still those of the value.
