@@ -5,8 +5,10 @@
 //! examples of each type of node are computed (`specs/Nodes.antt`).
 #![tactic(auto)]
 
+mod kind;
 mod laws;
 
+pub use kind::Kind;
 pub use laws::{
     accepted_is_well_shaped, accepts_one_tree, deeper, faults_are_there, names_have_no_symbol,
     numbers_in_preorder, refused_deeper, texts_are_read,

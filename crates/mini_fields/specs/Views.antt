@@ -1,14 +1,10 @@
 -- What the program's types are as the definitions have them.
-use Rattle.std.specs.Prelude.{ℕ, List, take, drop, Option, false, codes}
+use Rattle.std.specs.Prelude.{ℕ, List, false, codes}
 use Rattle.mini_structure.specs.WellShaped as shaped
 use Rattle.mini_accept.specs.Faults as faults
-use Rattle.mini_accept.specs.Fields.{word_in}
-use Rattle.mini_accept.specs.Kind as table
 use Rattle.mini_accept.specs.Places as places
 use Rattle.mini_fields.specs.declared.defect.Defect.{Defect}
 use Rattle.mini_fields.specs.declared.defect.Defect.TheVariants as defect
-use Rattle.mini_fields.specs.declared.kind.Kind.{Kind}
-use Rattle.mini_fields.specs.declared.kind.Kind.TheVariants as kind
 use Rattle.mini_fields.specs.declared.place.Class.{Class}
 use Rattle.mini_fields.specs.declared.place.Class.TheVariants as class
 use Rattle.mini_fields.specs.declared.place.Depth.{Depth}
@@ -97,80 +93,3 @@ place_of place.DirectiveText = places.a_directive_text
 place_of (place.Quasi g last) = places.a_quasi (tagging_of g) last
 place_of (place.Exported own) = places.an_exported own
 place_of place.LocalName = places.a_local_name
-
--- ---- types of nodes
-
--- looks the name up among n types after the first m
-unfoldable pub part : ℕ → ℕ → List ℕ → Option table.Kind
-part n m s = word_in (take n (drop m table.types)) s
-
-abbrev pub kind_of_node : Kind → table.Kind
-kind_of_node kind.Program = table.Program
-kind_of_node kind.ExpressionStatement = table.ExpressionStatement
-kind_of_node kind.EmptyStatement = table.EmptyStatement
-kind_of_node kind.DebuggerStatement = table.DebuggerStatement
-kind_of_node kind.BlockStatement = table.BlockStatement
-kind_of_node kind.LabeledStatement = table.LabeledStatement
-kind_of_node kind.BreakStatement = table.BreakStatement
-kind_of_node kind.ContinueStatement = table.ContinueStatement
-kind_of_node kind.ReturnStatement = table.ReturnStatement
-kind_of_node kind.ThrowStatement = table.ThrowStatement
-kind_of_node kind.IfStatement = table.IfStatement
-kind_of_node kind.SwitchStatement = table.SwitchStatement
-kind_of_node kind.SwitchCase = table.SwitchCase
-kind_of_node kind.TryStatement = table.TryStatement
-kind_of_node kind.CatchClause = table.CatchClause
-kind_of_node kind.WhileStatement = table.WhileStatement
-kind_of_node kind.DoWhileStatement = table.DoWhileStatement
-kind_of_node kind.ForStatement = table.ForStatement
-kind_of_node kind.ForInStatement = table.ForInStatement
-kind_of_node kind.ForOfStatement = table.ForOfStatement
-kind_of_node kind.VariableDeclaration = table.VariableDeclaration
-kind_of_node kind.VariableDeclarator = table.VariableDeclarator
-kind_of_node kind.FunctionDeclaration = table.FunctionDeclaration
-kind_of_node kind.FunctionExpression = table.FunctionExpression
-kind_of_node kind.ArrowFunctionExpression = table.ArrowFunctionExpression
-kind_of_node kind.ClassDeclaration = table.ClassDeclaration
-kind_of_node kind.ClassExpression = table.ClassExpression
-kind_of_node kind.ClassBody = table.ClassBody
-kind_of_node kind.MethodDefinition = table.MethodDefinition
-kind_of_node kind.PropertyDefinition = table.PropertyDefinition
-kind_of_node kind.StaticBlock = table.StaticBlock
-kind_of_node kind.ImportDeclaration = table.ImportDeclaration
-kind_of_node kind.ImportSpecifier = table.ImportSpecifier
-kind_of_node kind.ImportDefaultSpecifier = table.ImportDefaultSpecifier
-kind_of_node kind.ImportNamespaceSpecifier = table.ImportNamespaceSpecifier
-kind_of_node kind.ExportNamedDeclaration = table.ExportNamedDeclaration
-kind_of_node kind.ExportSpecifier = table.ExportSpecifier
-kind_of_node kind.ExportDefaultDeclaration = table.ExportDefaultDeclaration
-kind_of_node kind.ExportAllDeclaration = table.ExportAllDeclaration
-kind_of_node kind.Identifier = table.Identifier
-kind_of_node kind.PrivateIdentifier = table.PrivateIdentifier
-kind_of_node kind.Literal = table.Literal
-kind_of_node kind.ThisExpression = table.ThisExpression
-kind_of_node kind.Super = table.Super
-kind_of_node kind.ArrayExpression = table.ArrayExpression
-kind_of_node kind.ObjectExpression = table.ObjectExpression
-kind_of_node kind.Property = table.Property
-kind_of_node kind.SpreadElement = table.SpreadElement
-kind_of_node kind.UnaryExpression = table.UnaryExpression
-kind_of_node kind.UpdateExpression = table.UpdateExpression
-kind_of_node kind.BinaryExpression = table.BinaryExpression
-kind_of_node kind.LogicalExpression = table.LogicalExpression
-kind_of_node kind.AssignmentExpression = table.AssignmentExpression
-kind_of_node kind.ConditionalExpression = table.ConditionalExpression
-kind_of_node kind.SequenceExpression = table.SequenceExpression
-kind_of_node kind.CallExpression = table.CallExpression
-kind_of_node kind.NewExpression = table.NewExpression
-kind_of_node kind.MemberExpression = table.MemberExpression
-kind_of_node kind.ChainExpression = table.ChainExpression
-kind_of_node kind.YieldExpression = table.YieldExpression
-kind_of_node kind.TemplateLiteral = table.TemplateLiteral
-kind_of_node kind.TemplateElement = table.TemplateElement
-kind_of_node kind.TaggedTemplateExpression = table.TaggedTemplateExpression
-kind_of_node kind.MetaProperty = table.MetaProperty
-kind_of_node kind.ImportExpression = table.ImportExpression
-kind_of_node kind.ObjectPattern = table.ObjectPattern
-kind_of_node kind.ArrayPattern = table.ArrayPattern
-kind_of_node kind.RestElement = table.RestElement
-kind_of_node kind.AssignmentPattern = table.AssignmentPattern

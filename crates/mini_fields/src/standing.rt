@@ -1,19 +1,18 @@
 // Which nodes may stand in a place, and which forms aren't read.
 
-ghost use Rattle.std.specs.Prelude.{◌≡◌, ◌∷◌, [], List, ℕ, Bool, None, Some, map, codes};
-ghost use Rattle.serde_json.specs.Data.{Data};
+ghost use Rattle.std.specs.Prelude.{◌≡◌, Bool, None, Some, map};
 ghost use Rattle.serde_json.specs.View.{view, items_view};
-ghost use Rattle.mini_accept.specs.Kind.{types};
-ghost use Rattle.mini_accept.specs.Fields.{is_one_of, has_one_of, has_type, kind_of, word_in};
-ghost use Rattle.mini_accept.specs.Standing.{is_expression, is_identifier, is_block, is_variable, is_pattern, is_default, has_true, is_member_target, is_method, is_head_by, is_head, is_piece, is_statement_in, stands_as, may_stand, begins_with, has_unread_type, has_unread_field, is_unread_form, is_nested, is_key, is_unread_there, is_unread, is_misplaced};
+ghost use Rattle.mini_accept.specs.Fields.{is_one_of, has_one_of, kind_of};
+ghost use Rattle.mini_accept.specs.Standing.{is_expression, is_identifier, is_block, is_variable, is_pattern, is_default, has_true, is_member_target, is_method, is_head_by, is_head, is_piece, is_statement_in, stands_as, may_stand, begins_with, has_unread_type, is_nested, is_key, is_unread, is_misplaced};
 ghost use Rattle.mini_fields.specs.declared.place.Class.TheVariants as class;
-ghost use Rattle.mini_fields.specs.Unread.{is_foreign, is_for_text, is_unread_itself};
-ghost use Rattle.mini_fields.specs.Views.{depth_of, class_of, place_of, letters_of, kind_of_node};
+ghost use Rattle.mini_fields.specs.Unread.{is_foreign, is_for_text, is_literal, is_function_declaration, has_unread_field_of, is_unread_itself, is_unread_at, is_unread_of};
+ghost use Rattle.mini_fields.specs.Views.{depth_of, class_of, place_of, letters_of};
 
-use crate::kind::{Kind, kind_of};
+use crate::kind::kind_of;
 use crate::literals::{is_big_int_literal, is_key_literal, is_string_literal, is_unread_literal};
 use crate::look::{flag_at, has_text, has_type, is_bare, is_given, list_at, text_at};
 use crate::place::{Class, Depth, MetaWord, Place};
+use mini_accept::Kind;
 use serde_json::Value;
 
 // ---- types that stand in like places
@@ -405,57 +404,53 @@ pub fn is_unread_unknown(place: Place, value: &Value) -> bool
     has_unread_type(value) || (!is_for_text(place) && !is_bare("decorators", value))
 }
 
-// Whether nodes of the type have the type that is wanted.
-fn is(kind: Kind, wanted: Kind) -> bool
-    ensures { (d : Data) (w : List ℕ) → kind_of d ≡ Some (kind_of_node kind) → word_in types w ≡ Some (kind_of_node wanted) → result ≡ has_type w d }
-{
-    kind == wanted
-}
-
-// Whether nodes of the type are functions, which may be asynchronous.
-#[tactic(auto, using(crate::proofs::Typed::one_of_three))]
-fn is_function(kind: Kind) -> bool
-    ensures { (d : Data) → kind_of d ≡ Some (kind_of_node kind) → result ≡ has_one_of (codes "FunctionDeclaration" ∷ codes "FunctionExpression" ∷ codes "ArrowFunctionExpression" ∷ []) d }
-{
-    is(kind, Kind::FunctionDeclaration)
-        || (is(kind, Kind::FunctionExpression) || is(kind, Kind::ArrowFunctionExpression))
-}
-
-// Whether nodes of the type name a module, and may have attributes of its import.
-#[tactic(auto, using(crate::proofs::Typed::one_of_three))]
-fn names_module(kind: Kind) -> bool
-    ensures { (d : Data) → kind_of d ≡ Some (kind_of_node kind) → result ≡ has_one_of (codes "ImportDeclaration" ∷ codes "ExportNamedDeclaration" ∷ codes "ExportAllDeclaration" ∷ []) d }
-{
-    is(kind, Kind::ImportDeclaration)
-        || (is(kind, Kind::ExportNamedDeclaration) || is(kind, Kind::ExportAllDeclaration))
-}
-
 // Whether it is an asynchronous function or loop, a declaration of `using`, or has import attributes or the options of
 // an import.
 fn has_unread_field(kind: Kind, value: &Value) -> bool
-    ensures { kind_of (view value.now) ≡ Some (kind_of_node kind) → result ≡ has_unread_field (view value.now) }
+    ensures { result ≡ has_unread_field_of kind (view value.now) }
 {
-    (is_function(kind) && has_true("async", value))
-        || (is(kind, Kind::ForOfStatement) && has_true("await", value))
-        || (is(kind, Kind::VariableDeclaration)
-            && (has_text("kind", "using", value) || has_text("kind", "await using", value)))
-        || (names_module(kind) && !is_bare("attributes", value))
-        || (is(kind, Kind::ImportExpression) && is_given("options", value))
+    match kind {
+        Kind::FunctionDeclaration | Kind::FunctionExpression | Kind::ArrowFunctionExpression => {
+            has_true("async", value)
+        }
+        Kind::ForOfStatement => has_true("await", value),
+        Kind::VariableDeclaration => {
+            has_text("kind", "using", value) || has_text("kind", "await using", value)
+        }
+        Kind::ImportDeclaration | Kind::ExportNamedDeclaration | Kind::ExportAllDeclaration => {
+            !is_bare("attributes", value)
+        }
+        Kind::ImportExpression => is_given("options", value),
+        _ => false,
+    }
+}
+
+// Whether nodes of the type are literals.
+fn is_literal(kind: Kind) -> bool
+    ensures { result ≡ is_literal kind }
+{
+    match kind {
+        Kind::Literal => true,
+        _ => false,
+    }
+}
+
+// Whether nodes of the type are declarations of functions.
+fn is_function_declaration(kind: Kind) -> bool
+    ensures { result ≡ is_function_declaration kind }
+{
+    match kind {
+        Kind::FunctionDeclaration => true,
+        _ => false,
+    }
 }
 
 // Whether a field says that the form isn't read, or it is a literal that isn't.
 fn is_unread_itself(kind: Kind, value: &Value) -> bool
-    ensures { kind_of (view value.now) ≡ Some (kind_of_node kind) → result ≡ is_unread_itself (view value.now) }
+    ensures { result ≡ is_unread_itself kind (view value.now) }
 {
     has_unread_field(kind, value)
-        || (!is_bare("decorators", value) || (is(kind, Kind::Literal) && is_unread_literal(value)))
-}
-
-// Whether the form isn't read wherever it stands.
-fn is_unread_form(place: Place, kind: Kind, value: &Value) -> bool
-    ensures { kind_of (view value.now) ≡ Some (kind_of_node kind) → result ≡ is_unread_form (place_of place) (view value.now) }
-{
-    !is_for_text(place) && is_unread_itself(kind, value)
+        || (!is_bare("decorators", value) || (is_literal(kind) && is_unread_literal(value)))
 }
 
 // Whether a statement there is in another one.
@@ -480,23 +475,32 @@ fn is_key(class: Class) -> bool
 
 // Whether the form isn't read where it stands: a BigInt as a key without brackets, and a function of sloppy code that
 // isn't directly in a body.
-fn is_unread_there(strict: bool, place: Place, kind: Kind, value: &Value) -> bool
-    ensures { kind_of (view value.now) ≡ Some (kind_of_node kind) → result ≡ is_unread_there strict (place_of place) (view value.now) }
+fn is_unread_at(strict: bool, place: Place, kind: Kind, value: &Value) -> bool
+    ensures { result ≡ is_unread_at strict (place_of place) kind (view value.now) }
 {
     match place {
         Place::At(class) => {
             (is_key(class) && is_big_int_literal(value))
-                || (!strict && is_nested(class) && is(kind, Kind::FunctionDeclaration))
+                || (!strict && is_nested(class) && is_function_declaration(kind))
         }
         _ => false,
     }
 }
 
-/// Whether a node of the type is a form that isn't read, in strict or sloppy code.
-pub fn is_unread(strict: bool, place: Place, kind: Kind, value: &Value) -> bool
-    ensures { kind_of (view value.now) ≡ Some (kind_of_node kind) → result ≡ is_unread strict (place_of place) (view value.now) }
+// The same of the type that the node has.
+fn is_unread_of(strict: bool, place: Place, kind: Kind, value: &Value) -> bool
+    ensures { result ≡ is_unread_of strict (place_of place) kind (view value.now) }
 {
-    is_unread_form(place, kind, value) || is_unread_there(strict, place, kind, value)
+    (!is_for_text(place) && is_unread_itself(kind, value))
+        || is_unread_at(strict, place, kind, value)
+}
+
+/// Whether a node of the type is a form that isn't read, in strict or sloppy code.
+#[tactic(auto, using(crate::proofs::Typed::unread_by))]
+pub fn is_unread(strict: bool, place: Place, kind: Kind, value: &Value) -> bool
+    ensures { kind_of (view value.now) ≡ Some kind → result ≡ is_unread strict (place_of place) (view value.now) }
+{
+    is_unread_of(strict, place, kind, value)
 }
 
 /// Whether the value is a defect of the node above: it is no object, or has another type than the place asks for.

@@ -11,8 +11,9 @@ use Rattle.mini_model.specs.Weight.{weight}
 use Rattle.mini_structure.specs.WellShaped as shaped
 use Rattle.mini_structure.specs.WellShaped.{a_program, is_strict_in, is_text}
 use Rattle.mini_accept.specs.Faults.{Defect, Fault}
-use Rattle.mini_accept.specs.Kind as kind
-use Rattle.mini_accept.specs.Kind.{Kind, types}
+use Rattle.mini_accept.specs.declared.kind.Kind.TheVariants as kind
+use Rattle.mini_accept.specs.declared.kind.Kind.{Kind}
+use Rattle.mini_accept.specs.Kind.{types}
 use Rattle.mini_accept.specs.Places.{Place, at}
 use Rattle.mini_accept.specs.Fields.{kind_of, has_type}
 use Rattle.mini_accept.specs.Standing.{may_stand, is_unread}

@@ -3,7 +3,7 @@
 ghost use Rattle.std.specs.Prelude.{◌≡◌, option_map};
 ghost use Rattle.serde_json.specs.View.{view};
 ghost use Rattle.mini_accept.specs.Entries.{entry};
-ghost use Rattle.mini_fields.specs.Views.{kind_of_node, place_of};
+ghost use Rattle.mini_fields.specs.Views.{place_of};
 ghost use Rattle.mini_plan.specs.Views.{plan_of};
 
 use crate::plan::{Below, Items, Plan};
@@ -123,7 +123,7 @@ const IMPORT_EXPRESSION: [Below; 1] = [Below::Inner("source", EXPRESSION)];
 
 /// How a node of this type is read; None where it isn't as ESTree has it.
 pub fn entry(kind: Kind, place: Place, value: &Value) -> Option<Plan<'_>>
-    ensures { option_map (plan_of (view value.now)) result ≡ entry (kind_of_node kind) (place_of place) (view value.now) }
+    ensures { option_map (plan_of (view value.now)) result ≡ entry kind (place_of place) (view value.now) }
 {
     match kind {
         // statements

@@ -9,8 +9,9 @@ use Rattle.mini_model.specs.declared.shape.Shape.TheVariants as shape
 use Rattle.mini_model.specs.Tree.{Tree, node, Trees, none, ◌▸◌, node_count, node_counts}
 use Rattle.mini_structure.specs.WellShaped as shaped
 use Rattle.mini_structure.specs.WellShaped.{Class, Depth, in_module, in_body, a_statement, these, each, is_paired, are_paired, fits, fill}
-use Rattle.mini_accept.specs.Kind as kind
-use Rattle.mini_accept.specs.Kind.{Kind, types}
+use Rattle.mini_accept.specs.declared.kind.Kind.TheVariants as kind
+use Rattle.mini_accept.specs.declared.kind.Kind.{Kind}
+use Rattle.mini_accept.specs.Kind.{types}
 use Rattle.mini_accept.specs.Places.{field, place, down, Place, at, a_directive, a_directive_text}
 use Rattle.mini_accept.specs.Fields.{is_given, is_there, has_type, text_at, units_at, paired_units, require, is_text_by, word_in}
 use Rattle.mini_accept.specs.Plans.{one, tree_at}

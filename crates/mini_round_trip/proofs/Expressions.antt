@@ -17,8 +17,9 @@ use Rattle.mini_model.specs.declared.shape.Shape.TheVariants as shape
 use Rattle.mini_model.specs.Tree.{Tree, node, Trees, none, ◌▸◌, count, children, shape_of}
 use Rattle.mini_structure.specs.WellShaped as shaped
 use Rattle.mini_structure.specs.WellShaped.{Class, Slot, Tagging, these, is_strict_in, is_not_positive_number}
-use Rattle.mini_accept.specs.Kind as kind
-use Rattle.mini_accept.specs.Kind.{Kind, types}
+use Rattle.mini_accept.specs.declared.kind.Kind.TheVariants as kind
+use Rattle.mini_accept.specs.declared.kind.Kind.{Kind}
+use Rattle.mini_accept.specs.Kind.{types}
 use Rattle.mini_accept.specs.Places.{at}
 use Rattle.mini_accept.specs.Fields.{kind_of, is_there, has_type, word_in, text_at, has_text, is_text_by, item_count}
 use Rattle.mini_accept.specs.Literals.{literal, negative_of, with_minus}

@@ -7,7 +7,7 @@ use Rattle.mini_model.specs.declared.shape.Shape.TheVariants as shape
 use Rattle.mini_model.specs.Tree.{Tree, node, Trees, none, ◌▸◌, is_absent, child_or_absent}
 use Rattle.mini_structure.specs.WellShaped as shaped
 use Rattle.mini_structure.specs.WellShaped.{Class, Slot, in_body, a_statement, these, each, are_paired, has_use_strict, is_same_flag, is_function_body}
-use Rattle.mini_accept.specs.Kind as kind
+use Rattle.mini_accept.specs.declared.kind.Kind.TheVariants as kind
 use Rattle.mini_accept.specs.Places.{field, at}
 use Rattle.mini_accept.specs.Fields.{is_object, is_there, has_type, list_at}
 use Rattle.mini_accept.specs.Standing.{stands_as, is_key, is_nested}

@@ -11,7 +11,7 @@ use Rattle.mini_model.specs.declared.shape.Shape.TheVariants as shape
 use Rattle.mini_model.specs.Tree.{node, none}
 use Rattle.mini_structure.specs.WellShaped as shaped
 use Rattle.mini_structure.specs.WellShaped.{Class, is_paired, is_safe, max_big_int, is_strict_in, is_name}
-use Rattle.mini_accept.specs.Kind as kind
+use Rattle.mini_accept.specs.declared.kind.Kind.TheVariants as kind
 use Rattle.mini_accept.specs.Places.{field, at, a_local_name}
 use Rattle.mini_accept.specs.Fields.{kind_of}
 use Rattle.mini_accept.specs.Literals.{literal, is_big_int_shape, is_string_shape, is_string_literal, is_big_int_literal, is_unread_literal}

@@ -7,7 +7,7 @@ use Rattle.mini_model.specs.declared.shape.Shape.TheVariants as shape
 use Rattle.mini_model.specs.Tree.{Tree, node, Trees, none, ◌▸◌, count, children, child_or_absent, is_absent, node_count, node_counts}
 use Rattle.mini_structure.specs.WellShaped as shaped
 use Rattle.mini_structure.specs.WellShaped.{Class, in_module, in_body, a_statement, these, each, fits, fill, is_same_flag, is_reference, are_locals, are_paired, has_use_strict}
-use Rattle.mini_accept.specs.Kind as kind
+use Rattle.mini_accept.specs.declared.kind.Kind.TheVariants as kind
 use Rattle.mini_accept.specs.Places.{field, at, an_exported}
 use Rattle.mini_accept.specs.Fields.{is_there, no_item}
 use Rattle.mini_accept.specs.Plans as plans

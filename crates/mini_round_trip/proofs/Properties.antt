@@ -12,7 +12,7 @@ use Rattle.mini_model.specs.declared.shape.Shape.TheVariants as shape
 use Rattle.mini_model.specs.Tree.{Tree, node, Trees, none, ◌▸◌}
 use Rattle.mini_structure.specs.WellShaped as shaped
 use Rattle.mini_structure.specs.WellShaped.{Class, Slot, these, in_body, a_statement, fits, is_init, is_same_spelling, spelling, without_default, value_class, names_constructor, slots_of}
-use Rattle.mini_accept.specs.Kind as kind
+use Rattle.mini_accept.specs.declared.kind.Kind.TheVariants as kind
 use Rattle.mini_accept.specs.Places.{at, field}
 use Rattle.mini_accept.specs.Standing.{stands_as}
 use Rattle.mini_accept.specs.Plans as plans

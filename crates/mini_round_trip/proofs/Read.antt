@@ -10,7 +10,7 @@ use Rattle.mini_model.specs.Paths.{append}
 use Rattle.mini_model.specs.Tree.{Tree, node, Trees, none, ◌▸◌, absent, listed, shape_of}
 use Rattle.mini_structure.specs.WellShaped.{Class, a_program, is_strict_in}
 use Rattle.mini_accept.specs.Faults.{Defect, Fault, ◌>>=◌}
-use Rattle.mini_accept.specs.Kind.{Kind}
+use Rattle.mini_accept.specs.declared.kind.Kind.{Kind}
 use Rattle.mini_accept.specs.Places.{Step, step_text, down, Place, at}
 use Rattle.mini_accept.specs.Fields.{is_object, kind_of, has_type, is_one_of}
 use Rattle.mini_accept.specs.Literals.{is_big_int_literal}

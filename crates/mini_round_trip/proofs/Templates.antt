@@ -10,7 +10,7 @@ use Rattle.mini_model.specs.declared.shape.Shape.TheVariants as shape
 use Rattle.mini_model.specs.Tree.{Tree, node, Trees, none, ◌▸◌, count, children, child_or_absent}
 use Rattle.mini_structure.specs.WellShaped as shaped
 use Rattle.mini_structure.specs.WellShaped.{Class, Tagging, tagged, untagged, these, is_quasi, are_quasis, is_quasi_by, is_same_flag, is_paired, is_paired_cooked, is_text_of_cooked}
-use Rattle.mini_accept.specs.Kind as kind
+use Rattle.mini_accept.specs.declared.kind.Kind.TheVariants as kind
 use Rattle.mini_accept.specs.Places.{Step, down, at, a_quasi}
 use Rattle.mini_accept.specs.Fields.{item_count}
 use Rattle.mini_accept.specs.Standing.{stands_as}
