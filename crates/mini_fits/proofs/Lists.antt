@@ -6,7 +6,8 @@ use Rattle.serde_json.specs.Find.{get, get_item}
 use Rattle.mini_model.specs.declared.shape.Shape.TheVariants as shape
 use Rattle.mini_model.specs.Paths.{append}
 use Rattle.mini_model.specs.Tree.{Tree, node, Trees, none, ◌▸◌, absent, listed, count}
-use Rattle.mini_model.specs.Position.{Position, child_position}
+use Rattle.mini_model.specs.declared.place.Position.{Position}
+use Rattle.mini_model.specs.Position.{child_position}
 use Rattle.mini_model.specs.Weight.{outlines, weight, weights, directives_weight}
 use Rattle.mini_structure.specs.WellShaped as shaped
 use Rattle.mini_structure.specs.WellShaped.{Class}

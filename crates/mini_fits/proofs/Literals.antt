@@ -10,7 +10,7 @@ use Rattle.mini_text.specs.Texts.{units_of}
 use Rattle.mini_numerals.specs.Numerals.{max_safe_integer}
 use Rattle.mini_model.specs.declared.shape.Shape.{Shape}
 use Rattle.mini_model.specs.declared.shape.Shape.TheVariants as shape
-use Rattle.mini_model.specs.Position.{Position}
+use Rattle.mini_model.specs.declared.place.Position.{Position}
 use Rattle.mini_model.specs.Weight.{Outline, text_weight}
 use Rattle.mini_structure.specs.WellShaped as shaped
 use Rattle.mini_structure.specs.WellShaped.{is_paired, is_safe, max_big_int}

@@ -6,7 +6,7 @@ use Rattle.serde_json.specs.Find.{as_null}
 use Rattle.mini_model.specs.declared.name.Name.{Name}
 use Rattle.mini_model.specs.declared.shape.Shape.{Shape}
 use Rattle.mini_model.specs.Tree.{Trees}
-use Rattle.mini_model.specs.Position.{Position}
+use Rattle.mini_model.specs.declared.place.Position.{Position}
 use Rattle.mini_model.specs.Weight.{Outline, outlines, weights, own_weight, text_weight, names_weight}
 use Rattle.mini_structure.specs.WellShaped as shaped
 use Rattle.mini_structure.specs.WellShaped.{Class}

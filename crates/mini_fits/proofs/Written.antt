@@ -19,7 +19,9 @@ use Rattle.mini_model.specs.declared.seat.StmtSeat.{StmtSeat}
 use Rattle.mini_model.specs.declared.seat.StmtSeat.TheVariants as stmt_seat
 use Rattle.mini_model.specs.declared.shape.Shape.{Shape}
 use Rattle.mini_model.specs.declared.shape.Shape.TheVariants as shape
-use Rattle.mini_model.specs.Position.{Position, Expr, Stmt, Target, Method, Unwritten, ArgumentList, SequenceList, CommaList, is_accessor}
+use Rattle.mini_model.specs.declared.place.Position.{Position}
+use Rattle.mini_model.specs.declared.place.Position.TheVariants.{Expr, Stmt, Target, Method, Unwritten, ArgumentList, SequenceList, CommaList}
+use Rattle.mini_model.specs.Position.{is_accessor}
 use Rattle.mini_model.specs.Weight.{Outline, nth_is_absent, nth_items, first_chooses, own_weight, text_weight, names_weight, directives_weight, where_present, flagged, spelled_weight, same_text, is_parenthesized, parentheses, is_awkward, awkward_weight, bare_weight, braces_weight, block_weight, place_weight, commas_weight, list_weight, unary_operator_weight, binary_operator_weight, assignment_operator_weight, declaring_weight, declaration_end, function_weight, method_kind_weight, property_weight}
 
 chosen : (b : Bool) (x y n : ℕ) → x ≤ n → y ≤ n → cond b x y ≤ n

@@ -3,7 +3,7 @@ ghost use Rattle.std.specs.Prelude.{◌≡◌, ◌≤◌, ◌<◌, ◌^◌, ℕ,
 ghost use Rattle.serde_json.specs.Data.{Data};
 ghost use Rattle.serde_json.specs.Read.{read};
 ghost use Rattle.mini_model.specs.Tree.{Tree};
-ghost use Rattle.mini_model.specs.Position.{Elsewhere};
+ghost use Rattle.mini_model.specs.declared.place.Position.TheVariants.{Elsewhere};
 ghost use Rattle.mini_model.specs.Weight.{weight, program_weight};
 ghost use Rattle.mini_accept.specs.Accept.{program_at, Accepts};
 ghost use Rattle.mini_fits.specs.Fits.{Fits};
