@@ -1,0 +1,47 @@
+-- The weight of operands that are negated, from one on.
+use Rattle.std.proofs.Common.{◌≡◌, refl, ap, sym, ◌∙◌, ℕ, zero, suc, ◌+◌, ◌<◌, ◌≤◌, Bool, true, false, List, [], ◌∷◌, length, arith}
+use Rattle.std.specs.Prelude.{slice_index_or, ◌&&◌, ◌||◌, if◌then◌else◌}
+use Rattle.mini_model.specs.declared.operator.LogicalOperator.{LogicalOperator}
+use Rattle.mini_model.specs.declared.place.Position.TheVariants.{Expr}
+use Rattle.mini_model.specs.declared.seat.Seat.{Seat}
+use Rattle.mini_model.specs.declared.shape.Shape.TheVariants as shape
+use Rattle.mini_model.specs.Tree.{Tree, Trees, none, ◌▸◌, children, node_count, node_counts}
+use Rattle.mini_model.specs.Position.{operand_seat}
+use Rattle.mini_model.specs.Weight.{weight, weights, parentheses}
+use Rattle.mini_model.specs.Terms.{neg, neg_each}
+use Rattle.mini_node.specs.Children.{trees_of}
+use Rattle.mini_logic.specs.Negating.{turned_over}
+
+abbrev pub negations_from : (ℕ → Seat) → ℕ → Trees → ℕ
+negations_from σ at none = 0
+negations_from σ at (t ▸ ts) = weight (Expr (σ at)) (neg (σ at) t) + negations_from σ (at + 1) ts
+
+shifted : (σ ρ : ℕ → Seat) (at : ℕ) → ((i : ℕ) → ρ i ≡ σ (i + at)) → (ts : Trees) → negations_from σ at ts ≡ weights (λ i. Expr (ρ i)) (neg_each ρ ts)
+shifted σ ρ at h none = refl
+shifted σ ρ at h (t ▸ ts) =
+    let first : σ at ≡ ρ zero = ap σ (omega arith) ∙ sym (h zero) in
+    let next : (i : ℕ) → ρ (suc i) ≡ σ (i + (at + 1)) = λ i. h (suc i) ∙ ap σ (omega arith) in
+    omega (arith, ap (λ s. weight (Expr s) (neg s t)) first, shifted σ (λ i. ρ (suc i)) (at + 1) next ts)
+
+pub from_start : (σ : ℕ → Seat) (ts : Trees) → negations_from σ 0 ts ≡ weights (λ i. Expr (σ i)) (neg_each σ ts)
+from_start σ ts = shifted σ σ 0 (λ i. ap σ (omega arith)) ts
+
+no_mark : (e t f : Bool) → (if (e && false) || ((t && false) || (f && false)) then 1 else 0) ≤ 0
+no_mark true true true = omega arith
+no_mark true true false = omega arith
+no_mark true false true = omega arith
+no_mark true false false = omega arith
+no_mark false true true = omega arith
+no_mark false true false = omega arith
+no_mark false false true = omega arith
+no_mark false false false = omega arith
+
+-- a logical expression is its operator, perhaps its parentheses, and its operands
+pub weight_turned : (o : LogicalOperator) (s : Seat) (t : Tree) → weight (Expr s) (turned_over o s t) ≡ 4 + parentheses (shape.LogicalExpression o) s + negations_from (operand_seat o s) 0 (children t)
+weight_turned o s t = omega (arith, no_mark s.eq_left s.cond_test s.lifted, from_start (operand_seat o s) (children t))
+
+-- an item of a list is a smaller tree
+pub item_within : (ts : List Tree) (i : ℕ) (d : Tree) → i < length ts → node_count (slice_index_or ts i d) ≤ node_counts (trees_of ts)
+item_within [] i d h = absurd (omega arith)
+item_within (t ∷ ts) zero d h = omega arith
+item_within (t ∷ ts) (suc i) d h = omega (arith, item_within ts i d (omega arith))

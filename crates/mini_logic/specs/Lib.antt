@@ -1,0 +1,6 @@
+pub mod Negating
+pub mod MinimizeUnaryExpression
+pub mod MinimizeConditionalExpression
+pub mod MinimizeIfStatement
+pub mod Joined
+pub mod Lighter

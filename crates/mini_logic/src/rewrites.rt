@@ -1,0 +1,3 @@
+pub mod minimize_conditional_expression;
+pub mod minimize_if_statement;
+pub mod minimize_unary_expression;
