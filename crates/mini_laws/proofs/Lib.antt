@@ -28,3 +28,4 @@ pub mod Finding
 pub mod Replacing
 pub mod Preorder
 pub mod Missing
+pub mod Apart

@@ -19,3 +19,4 @@ pub mod Replacing
 pub mod Preorder
 pub mod PathExamples
 pub mod NearMisses
+pub mod Apart

@@ -7,6 +7,7 @@ mod paths;
 ghost use Rattle.std.specs.Prelude.{◌≡◌};
 ghost use Rattle.mini_model.specs.declared.place.Position.{Position};
 ghost use Rattle.mini_model.specs.Tree.{Tree};
+ghost use Rattle.mini_laws.specs.Apart.{CutMeans, CutReads, NestedApart};
 ghost use Rattle.mini_laws.specs.Congruence.{Insensitive, Congruence, CongruentSame, CongruentBody};
 ghost use Rattle.mini_laws.specs.Renaming.{RenamedSame};
 ghost use Rattle.mini_laws.specs.Sameness.{Reflexive, Transitive, Weaker, BodyReflexive, BodyTransitive, BodySame};
@@ -109,6 +110,13 @@ pub fn congruence()
     ensures trees { Congruence }
     ensures same { CongruentSame }
     ensures body { CongruentBody }
+{}
+
+/// A body doesn't depend on the bodies that are nested in it, but by their numbers.
+pub fn nested_bodies_are_apart()
+    ensures means { CutMeans }
+    ensures reads { CutReads }
+    ensures same { NestedApart }
 {}
 
 /// Same is reflexive and transitive, of trees and of bodies; more dead and more initialised variables make it weaker.
