@@ -11,6 +11,8 @@ use Rattle.mini_model.specs.declared.name.Name.{Name}
 use Rattle.mini_model.specs.declared.shape.Shape.{Shape}
 use Rattle.mini_model.specs.Tree.{Tree, Trees, node, none, ◌▸◌, count, child_or_absent, children, node_count, node_counts}
 use Rattle.mini_node.specs.Children.{trees_of, with_child, with_inserted, without, first_children, rest_children, has_count, is_bare, is_nameless}
+use Rattle.std.specs.Prelude.{false}
+use Rattle.mini_node.specs.Kinds.{is_named_leaf}
 use Rattle.mini_model.specs.Paths.{append, child_at}
 use Rattle.mini_node.specs.Children.{with_swapped}
 use Rattle.std.specs.Option.{option_copied, option_copied_mut}
@@ -124,3 +126,13 @@ lent_at (x ∷ xs) (suc i) None h = grind (arith, lent_at xs i None)
 lent_at [] i (Some r) h = grind arith
 lent_at (x ∷ xs) zero (Some r) h = grind arith
 lent_at (x ∷ xs) (suc i) (Some r) h = grind (arith, lent_at xs i (Some r))
+
+-- a leaf with a name
+
+pub named_by : (h : Shape) (x : Name) (n : ℕ) (ts : Trees) → is_named_leaf (node h (x ∷ []) n ts) ≡ (nat_eq n 0 && nat_eq (count ts) 0)
+named_by h x zero none = refl
+named_by h x zero (t ▸ ts) = sym (eqb-suc-zero (count ts))
+named_by h x (suc n) ts = ap (λ b. b && nat_eq (count ts) 0) (sym (eqb-suc-zero n))
+
+pub named_number : (h : Shape) (n : ℕ) (ts : Trees) → is_named_leaf (node h [] n ts) ≡ false
+named_number h n ts = refl

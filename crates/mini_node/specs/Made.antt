@@ -1,12 +1,17 @@
 -- A node of a kind is made of its parts.
-use Rattle.std.specs.Prelude.{zero, Bool, true, false, [], ◌&&◌, ◌≡◌, refl}
+use Rattle.std.specs.Prelude.{◌∷◌, ℕ, ℤ, List, Some, None, zero, Bool, true, false, [], ◌&&◌, ◌≡◌, refl}
 use Rattle.std.proofs.Common.{ap, ◌∙◌}
 use Rattle.mini_model.specs.declared.operator.LogicalOperator.TheVariants.{Or, And, Coalesce}
+use Rattle.mini_model.specs.declared.name.Name.{Name}
+use Rattle.mini_model.specs.declared.operator.AssignmentOperator.{AssignmentOperator}
+use Rattle.mini_model.specs.declared.operator.BinaryOperator.{BinaryOperator}
+use Rattle.mini_model.specs.declared.operator.LogicalOperator.{LogicalOperator}
+use Rattle.mini_model.specs.declared.operator.UnaryOperator.{UnaryOperator}
 use Rattle.mini_model.specs.declared.operator.UnaryOperator.TheVariants.{LogicalNot}
 use Rattle.mini_model.specs.declared.shape.Shape.TheVariants as shape
-use Rattle.mini_model.specs.Tree.{Tree, node, none, ◌▸◌, children, absent, listed, negation, logical, conditional, expression_statement, empty_statement, if_else, if_alone}
+use Rattle.mini_model.specs.Tree.{unary, call, identifier, null_literal, Tree, node, none, ◌▸◌, children, absent, listed, negation, logical, conditional, expression_statement, empty_statement, if_else, if_alone}
 use Rattle.mini_node.specs.Children.{part}
-use Rattle.mini_node.specs.Kinds.{sequence, block, return_statement, throw_statement, is_absent_part, is_listed, is_negation, is_logical, is_conditional, is_sequence, is_expression_statement, is_empty_statement, is_block, is_if_statement, is_if_alone, is_return_statement, is_throw_statement}
+use Rattle.mini_node.specs.Kinds.{binary, assignment, static_member, computed_member, numeric_literal, boolean_literal, string_literal, unary_operator, binary_operator, logical_operator, assignment_operator, number, boolean, string, is_null, is_identifier, is_call_expression, is_static_member, is_computed_member, sequence, block, return_statement, throw_statement, is_absent_part, is_listed, is_negation, is_logical, is_conditional, is_sequence, is_expression_statement, is_empty_statement, is_block, is_if_statement, is_if_alone, is_return_statement, is_throw_statement}
 
 pub absent_is : (t : Tree) → is_absent_part t ≡ true → t ≡ absent
 absent_is (node shape.Absent [] zero none) e = refl
@@ -75,3 +80,57 @@ return_statement_is t e = absurd (cc e)
 pub throw_statement_is : (t : Tree) → is_throw_statement t ≡ true → t ≡ throw_statement (part t 0)
 throw_statement_is (node shape.ThrowStatement [] zero (a ▸ none)) e = refl
 throw_statement_is t e = absurd (cc e)
+
+-- ---- of what it carries
+
+same : {A : Type 0} (x y : A) → Some x ≡ Some y → x ≡ y
+same {A = A} x y e = ap (λ o. elim o as (λ w. A) [ None ↦ x | Some z ↦ z ]) e
+
+pub unary_is : (t : Tree) (o : UnaryOperator) → unary_operator t ≡ Some o → t ≡ unary o (part t 0)
+unary_is (node (shape.UnaryExpression p) [] zero (a ▸ none)) o e = ap (λ q. unary q a) (same p o e)
+unary_is t o e = absurd (cc e)
+
+pub binary_is : (t : Tree) (o : BinaryOperator) → binary_operator t ≡ Some o → t ≡ binary o (part t 0) (part t 1)
+binary_is (node (shape.BinaryExpression p) [] zero (a ▸ b ▸ none)) o e = ap (λ q. binary q a b) (same p o e)
+binary_is t o e = absurd (cc e)
+
+pub logical_is : (t : Tree) (o : LogicalOperator) → logical_operator t ≡ Some o → t ≡ logical o (part t 0) (part t 1)
+logical_is (node (shape.LogicalExpression p) [] zero (a ▸ b ▸ none)) o e = ap (λ q. logical q a b) (same p o e)
+logical_is t o e = absurd (cc e)
+
+pub assignment_is : (t : Tree) (o : AssignmentOperator) → assignment_operator t ≡ Some o → t ≡ assignment o (part t 0) (part t 1)
+assignment_is (node (shape.AssignmentExpression p) [] zero (a ▸ b ▸ none)) o e = ap (λ q. assignment q a b) (same p o e)
+assignment_is t o e = absurd (cc e)
+
+pub number_is : (t : Tree) (n : ℤ) → number t ≡ Some n → t ≡ numeric_literal n
+number_is (node (shape.NumericLiteral m) [] zero none) n e = ap numeric_literal (same m n e)
+number_is t n e = absurd (cc e)
+
+pub boolean_is : (t : Tree) (b : Bool) → boolean t ≡ Some b → t ≡ boolean_literal b
+boolean_is (node (shape.BooleanLiteral a) [] zero none) b e = ap boolean_literal (same a b e)
+boolean_is t b e = absurd (cc e)
+
+pub string_is : (t : Tree) (s : List ℕ) → string t ≡ Some s → t ≡ string_literal s
+string_is (node (shape.StringLiteral r) [] zero none) s e = ap string_literal (same r s e)
+string_is t s e = absurd (cc e)
+
+pub null_is : (t : Tree) → is_null t ≡ true → t ≡ null_literal
+null_is (node shape.NullLiteral [] zero none) e = refl
+null_is t e = absurd (cc e)
+
+pub identifier_is : (t : Tree) → is_identifier t ≡ true → (x : Name) × (t ≡ identifier x)
+identifier_is (node shape.Identifier (x ∷ []) zero none) e = (x, refl)
+identifier_is t e = absurd (cc e)
+
+pub call_expression_is : (t : Tree) → is_call_expression t ≡ true → t ≡ call false (part t 0) (children (part t 1))
+call_expression_is (node (shape.CallExpression false) [] zero (f ▸ node shape.Listed [] zero us ▸ none)) e = refl
+call_expression_is (node (shape.CallExpression false) [] zero (f ▸ u ▸ none)) e = absurd (cc e)
+call_expression_is t e = absurd (cc e)
+
+pub static_member_is : (t : Tree) → is_static_member t ≡ true → t ≡ static_member (part t 0) (part t 1)
+static_member_is (node (shape.StaticMemberExpression false) [] zero (a ▸ b ▸ none)) e = refl
+static_member_is t e = absurd (cc e)
+
+pub computed_member_is : (t : Tree) → is_computed_member t ≡ true → t ≡ computed_member (part t 0) (part t 1)
+computed_member_is (node (shape.ComputedMemberExpression false) [] zero (a ▸ b ▸ none)) e = refl
+computed_member_is t e = absurd (cc e)

@@ -1,12 +1,16 @@
 //! What kind of node it is. Where the answer is yes a caller knows how many children there are.
 
-ghost use Rattle.std.specs.Prelude.{◌≡◌, true};
+ghost use Rattle.std.specs.Prelude.{◌≡◌, true, IfSome};
+ghost use Rattle.std.specs.Option.{option_copied};
 ghost use Rattle.mini_model.specs.Tree.{children, count};
-ghost use Rattle.mini_node.specs.Children.{part};
+ghost use Rattle.mini_node.specs.Children.{names};
 ghost use Rattle.mini_node.specs.Kinds as kind;
 
 use crate::node::Node;
-use mini_model::{LogicalOperator, Shape, UnaryOperator};
+use mini_model::{
+    AssignmentOperator, BinaryOperator, LogicalOperator, Name, Shape, SymbolId, UnaryOperator,
+};
+use mini_text::Text;
 
 /// Whether the part is absent.
 pub fn is_absent_part(node: &Node) -> bool
@@ -131,4 +135,140 @@ pub fn is_throw_statement(node: &Node) -> bool
     ensures parts { result ≡ true → count (children node.now) ≡ 1 }
 {
     matches!(node.shape(), Shape::ThrowStatement) && node.is_bare(1)
+}
+
+/// The operator of a unary expression; None of any other node.
+pub fn unary_operator(node: &Node) -> Option<UnaryOperator>
+    ensures kind { result ≡ kind.unary_operator node.now }
+    ensures parts { IfSome result (λ _. count (children node.now) ≡ 1) }
+{
+    match node.shape() {
+        Shape::UnaryExpression(operator) if node.is_bare(1) => Some(*operator),
+        _ => None,
+    }
+}
+
+/// The operator of a binary expression; None of any other node.
+pub fn binary_operator(node: &Node) -> Option<BinaryOperator>
+    ensures kind { result ≡ kind.binary_operator node.now }
+    ensures parts { IfSome result (λ _. count (children node.now) ≡ 2) }
+{
+    match node.shape() {
+        Shape::BinaryExpression(operator) if node.is_bare(2) => Some(*operator),
+        _ => None,
+    }
+}
+
+/// The operator of a logical expression; None of any other node.
+pub fn logical_operator(node: &Node) -> Option<LogicalOperator>
+    ensures kind { result ≡ kind.logical_operator node.now }
+    ensures parts { IfSome result (λ _. count (children node.now) ≡ 2) }
+{
+    match node.shape() {
+        Shape::LogicalExpression(operator) if node.is_bare(2) => Some(*operator),
+        _ => None,
+    }
+}
+
+/// The operator of an assignment; None of any other node.
+pub fn assignment_operator(node: &Node) -> Option<AssignmentOperator>
+    ensures kind { result ≡ kind.assignment_operator node.now }
+    ensures parts { IfSome result (λ _. count (children node.now) ≡ 2) }
+{
+    match node.shape() {
+        Shape::AssignmentExpression(operator) if node.is_bare(2) => Some(*operator),
+        _ => None,
+    }
+}
+
+/// The value of a numeric literal; None of any other node.
+pub fn number(node: &Node) -> Option<i64>
+    ensures { result ≡ kind.number node.now }
+{
+    match node.shape() {
+        Shape::NumericLiteral(value) if node.is_bare(0) => Some(*value),
+        _ => None,
+    }
+}
+
+/// The value of a boolean literal; None of any other node.
+pub fn boolean(node: &Node) -> Option<bool>
+    ensures { result ≡ kind.boolean node.now }
+{
+    match node.shape() {
+        Shape::BooleanLiteral(value) if node.is_bare(0) => Some(*value),
+        _ => None,
+    }
+}
+
+/// The value of a string literal; None of any other node.
+pub fn string(node: &Node) -> Option<&Text>
+    ensures { option_copied result ≡ kind.string node.now }
+{
+    match node.shape() {
+        Shape::StringLiteral(text) if node.is_bare(0) => Some(text),
+        _ => None,
+    }
+}
+
+/// Whether the node is `null`.
+pub fn is_null(node: &Node) -> bool
+    ensures { result ≡ kind.is_null node.now }
+{
+    matches!(node.shape(), Shape::NullLiteral) && node.is_bare(0)
+}
+
+/// Whether the node is a name that is read or written, which `Node::name` then gives.
+pub fn is_identifier(node: &Node) -> bool
+    ensures { result ≡ kind.is_identifier node.now }
+{
+    matches!(node.shape(), Shape::Identifier) && node.is_named_leaf()
+}
+
+/// Whether the node is `f(a, b)`, and no link of a chain that may end there. Its second child is the list of the
+/// arguments.
+pub fn is_call_expression(node: &Node) -> bool
+    ensures kind { result ≡ kind.is_call_expression node.now }
+    ensures parts { result ≡ true → count (children node.now) ≡ 2 }
+{
+    match node.shape() {
+        Shape::CallExpression(false) => node.is_bare(2) && is_listed(node.child(1)),
+        _ => false,
+    }
+}
+
+/// Whether the node is `a.x`, and no link of a chain that may end there.
+pub fn is_static_member(node: &Node) -> bool
+    ensures kind { result ≡ kind.is_static_member node.now }
+    ensures parts { result ≡ true → count (children node.now) ≡ 2 }
+{
+    matches!(node.shape(), Shape::StaticMemberExpression(false)) && node.is_bare(2)
+}
+
+/// Whether the node is `a[x]`, and no link of a chain that may end there.
+pub fn is_computed_member(node: &Node) -> bool
+    ensures kind { result ≡ kind.is_computed_member node.now }
+    ensures parts { result ≡ true → count (children node.now) ≡ 2 }
+{
+    matches!(node.shape(), Shape::ComputedMemberExpression(false)) && node.is_bare(2)
+}
+
+// Whether there are two symbols, and they are one.
+fn is_symbol(first: Option<SymbolId>, second: Option<SymbolId>) -> bool
+    ensures { result ≡ kind.same_symbol first second }
+{
+    match (first, second) {
+        (Some(one), Some(other)) => one.0 == other.0,
+        _ => false,
+    }
+}
+
+/// Whether both are names with a symbol, and it is one.
+pub fn is_same_symbol(first: &Option<Name>, second: &Option<Name>) -> bool
+    ensures { result ≡ kind.same_names (names first.now) (names second.now) }
+{
+    match (first, second) {
+        (Some(one), Some(other)) => is_symbol(one.symbol, other.symbol),
+        _ => false,
+    }
 }

@@ -4,6 +4,7 @@ ghost use Rattle.std.specs.Prelude.{◌≡◌, ◌<◌, [], true};
 ghost use Rattle.std.specs.Borrow.{sem};
 ghost use Rattle.mini_model.specs.Tree.{node, none, count, leaf, shape_of, children, node_count, node_counts};
 ghost use Rattle.mini_node.specs.Children.{part, is_bare as is_it_bare, is_nameless as is_it_nameless, like, names, names_of, number_of, trees_of, with_names, with_number};
+ghost use Rattle.mini_node.specs.Kinds.{is_named_leaf as is_it_named_leaf};
 ghost use Rattle.mini_node.specs.Lends.{LendsChildren, LendsName, lent_name};
 
 use crate::list::Nodes;
@@ -211,6 +212,16 @@ impl Node {
         ensures parts { result ≡ true → count (children self.now) ≡ arity }
     {
         self.is_nameless() && self.children.len() == arity
+    }
+}
+
+impl Node {
+    /// Whether it has a name, no number and no child.
+    #[tactic(auto, using(crate::proofs::Lists::named_by, crate::proofs::Lists::named_number))]
+    pub fn is_named_leaf(&self) -> bool
+        ensures { result ≡ is_it_named_leaf self.now }
+    {
+        self.name.is_some() && self.number == 0 && self.children.len() == 0
     }
 }
 

@@ -1,6 +1,6 @@
 //! Taking a node apart, and putting one together.
 
-ghost use Rattle.std.specs.Prelude.{◌≡◌, ◌+◌, ◌<◌, ◌≤◌, IfOk};
+ghost use Rattle.std.specs.Prelude.{false, ◌≡◌, ◌+◌, ◌<◌, ◌≤◌, IfOk};
 ghost use Rattle.mini_model.specs.Tree as tree;
 ghost use Rattle.mini_model.specs.Tree.{none, ◌▸◌, count, children, absent, first_or_absent, node_count, node_counts};
 ghost use Rattle.mini_node.specs.Children.{part, without};
@@ -8,8 +8,8 @@ ghost use Rattle.mini_node.specs.Kinds as kind;
 
 use crate::list::Nodes;
 use crate::node::Node;
-use mini_model::{LogicalOperator, Shape, UnaryOperator};
-use mini_text::OutOfMemory;
+use mini_model::{AssignmentOperator, BinaryOperator, LogicalOperator, Name, Shape, UnaryOperator};
+use mini_text::{OutOfMemory, Text};
 use std::alloc::Global;
 use std::mem;
 
@@ -210,4 +210,97 @@ pub fn throw_statement(alloc: Global, argument: Node) -> Result<Node, OutOfMemor
 {
     let children = of_one(alloc, argument)?;
     Ok(Node::new(Shape::ThrowStatement, children))
+}
+
+/// `-a`, and the like.
+pub fn unary(alloc: Global, operator: UnaryOperator, argument: Node) -> Result<Node, OutOfMemory>
+    ensures { IfOk result (λ made. made ≡ tree.unary operator argument) }
+{
+    let children = of_one(alloc, argument)?;
+    Ok(Node::new(Shape::UnaryExpression(operator), children))
+}
+
+/// `a + b`, and the like.
+pub fn binary(
+    alloc: Global,
+    operator: BinaryOperator,
+    left: Node,
+    right: Node,
+) -> Result<Node, OutOfMemory>
+    ensures { IfOk result (λ made. made ≡ kind.binary operator left right) }
+{
+    let children = of_two(alloc, left, right)?;
+    Ok(Node::new(Shape::BinaryExpression(operator), children))
+}
+
+/// `a = b`, `a += b`, and the like.
+pub fn assignment(
+    alloc: Global,
+    operator: AssignmentOperator,
+    target: Node,
+    value: Node,
+) -> Result<Node, OutOfMemory>
+    ensures { IfOk result (λ made. made ≡ kind.assignment operator target value) }
+{
+    let children = of_two(alloc, target, value)?;
+    Ok(Node::new(Shape::AssignmentExpression(operator), children))
+}
+
+/// `f(a, b)`
+pub fn call_expression(alloc: Global, callee: Node, arguments: Nodes) -> Result<Node, OutOfMemory>
+    ensures { IfOk result (λ made. made ≡ tree.call false callee arguments) }
+{
+    let children = of_two(alloc, callee, listed(arguments))?;
+    Ok(Node::new(Shape::CallExpression(false), children))
+}
+
+/// `a.x`, of the node of its name.
+pub fn static_member(alloc: Global, object: Node, property: Node) -> Result<Node, OutOfMemory>
+    ensures { IfOk result (λ made. made ≡ kind.static_member object property) }
+{
+    let children = of_two(alloc, object, property)?;
+    Ok(Node::new(Shape::StaticMemberExpression(false), children))
+}
+
+/// `a[x]`
+pub fn computed_member(alloc: Global, object: Node, property: Node) -> Result<Node, OutOfMemory>
+    ensures { IfOk result (λ made. made ≡ kind.computed_member object property) }
+{
+    let children = of_two(alloc, object, property)?;
+    Ok(Node::new(Shape::ComputedMemberExpression(false), children))
+}
+
+/// A name that is read or written.
+pub fn identifier(alloc: Global, name: Name) -> Node
+    ensures { result ≡ tree.identifier name }
+{
+    Node::with(Shape::Identifier, Some(name), 0, Nodes::new(alloc))
+}
+
+/// A number.
+pub fn numeric_literal(alloc: Global, value: i64) -> Node
+    ensures { result ≡ kind.numeric_literal value }
+{
+    Node::leaf(alloc, Shape::NumericLiteral(value))
+}
+
+/// `true` or `false`
+pub fn boolean_literal(alloc: Global, value: bool) -> Node
+    ensures { result ≡ kind.boolean_literal value }
+{
+    Node::leaf(alloc, Shape::BooleanLiteral(value))
+}
+
+/// A text in quotes.
+pub fn string_literal(alloc: Global, value: Text) -> Node
+    ensures { result ≡ kind.string_literal value }
+{
+    Node::leaf(alloc, Shape::StringLiteral(value))
+}
+
+/// `null`
+pub fn null_literal(alloc: Global) -> Node
+    ensures { result ≡ tree.null_literal }
+{
+    Node::leaf(alloc, Shape::NullLiteral)
 }
