@@ -1,17 +1,18 @@
 -- A tree that is read weighs little against the value that it was read from.
 use Rattle.std.proofs.Common.{◌≡◌, ℕ, zero, suc, ◌+◌, ◌<◌, ◌≤◌, ◌^◌, ◌⊎◌, inl, inr, List, [], refl, ap, sym, ◌∙◌, subst, codes, Bool, true, false, arith}
 use Rattle.std.specs.Prelude.{Option, Some, None, Result, Ok, Err}
+use Rattle.std.proofs.lemmas.Bool.{and_parts, false≢true}
 use Rattle.serde_json.specs.Data.{Data}
 use Rattle.mini_model.specs.declared.name.Name.{Name}
 use Rattle.mini_model.specs.declared.shape.Shape.{Shape}
 use Rattle.mini_model.specs.declared.shape.Shape.TheVariants as shape
-use Rattle.mini_model.specs.Tree.{Tree, node, Trees, count}
+use Rattle.mini_model.specs.Tree.{Tree, node, Trees, none, ◌▸◌, count}
 use Rattle.mini_model.specs.declared.place.Position.{Position}
 use Rattle.mini_model.specs.declared.place.Position.TheVariants.{Elsewhere}
 use Rattle.mini_model.specs.Position.{child_position}
 use Rattle.mini_model.specs.Weight.{weight}
 use Rattle.mini_structure.specs.WellShaped as shaped
-use Rattle.mini_structure.specs.WellShaped.{a_program, is_strict_in, is_text}
+use Rattle.mini_structure.specs.WellShaped.{a_program, fits, is_strict_in, is_text}
 use Rattle.mini_accept.specs.Faults.{Defect, Fault}
 use Rattle.mini_accept.specs.declared.kind.Kind.TheVariants as kind
 use Rattle.mini_accept.specs.declared.kind.Kind.{Kind}
@@ -27,8 +28,10 @@ use Rattle.mini_accept.specs.Entries.{entry}
 use Rattle.mini_accept.specs.Accept.{are_placed, plan_if, placed_plan, plan_by, plan_unless, plan, Read, Reader, takes_number, read_children, numbered, read_plan, reads, program_at, Accepts}
 use Rattle.mini_accept.proofs.Results.{ok_same, bind_ok}
 use Rattle.mini_accept.proofs.Types.{type_name, kind_typed, typed_has}
+use Rattle.mini_accept.proofs.Shaped.{reads_known}
 use Rattle.mini_fits.specs.Fits.{Fits}
 use Rattle.mini_fits.proofs.Amounts.{amount}
+use Rattle.mini_fits.proofs.Written.{own_light}
 use Rattle.mini_fits.proofs.Lists.{extra, IsLight}
 use Rattle.mini_fits.proofs.Plans.{Holds, LightIf, plain}
 use Rattle.mini_fits.proofs.Bodies as bodies
@@ -184,14 +187,23 @@ planned_light r light strict p n d (Ok o) x is e =
     let (m, l, y, below, same) = numbered_read (takes_number p o.shape) n o.shape o.names (λ j. read_children r (is_strict_in strict o.shape) d j o.children) x e in
     (read, λ π. subst (λ (t : Tree). weight π t + extra p d + 13 ≤ amount d) same (holds r light (is_strict_in strict o.shape) l y below π (child_position o.shape π (count y.0))))
 
+-- what fits where a name is declared is a name
+bound_light : (strict : Bool) (t : Tree) → fits strict (shaped.one shaped.a_binding) t ≡ true → (π : Position) → weight π t ≤ 7
+bound_light strict (node shape.BindingIdentifier xs n none) e π = omega (arith, own_light 2 π shape.BindingIdentifier xs [] (omega arith))
+bound_light strict (node shape.BindingIdentifier xs n (t ▸ ts)) e π = absurd (false≢true (and_parts _ false e).1)
+bound_light strict (node h xs n ts) e π = absurd (false≢true (and_parts _ false e).1)
+
+reads_binding : (k : ℕ) (strict : Bool) (n : ℕ) (d : Data) (x : Tree × ℕ) → reads k strict (at shaped.a_binding) n d ≡ Ok x → (π : Position) → weight π x.0 ≤ 7
+reads_binding k strict n d x e = bound_light strict x.0 (reads_known k strict (at shaped.a_binding) n d x e).0
+
 reads_light : (k : ℕ) → IsLight (reads k)
-reads_light zero strict p n d x e = absurd (cc e)
-reads_light (suc k) strict p n d x e = planned_light (reads k) (reads_light k) strict p n d (plan strict p d) x refl e
+reads_light zero = record { whole = λ strict p n d x e. absurd (cc e); binding = λ strict n d x e. absurd (cc e) }
+reads_light (suc k) = record { whole = λ strict p n d x e. planned_light (reads k) (reads_light k) strict p n d (plan strict p d) x refl e; binding = reads_binding (suc k) }
 
 -- 128 for each value and 2 for each unit
 pub accepted_weight : (d : Data) (t : Tree) → Accepts d t → (π : Position) → weight π t ≤ amount d
 unfolding program_at
-accepted_weight d t (k, n, e) π = omega (arith, (reads_light k false (at a_program) 0 d (t, n) e).1 π)
+accepted_weight d t (k, n, e) π = omega (arith, ((reads_light k).whole false (at a_program) 0 d (t, n) e).1 π)
 
 pub accepted_light : (d : Data) (t : Tree) → Accepts d t → Fits d → weight Elsewhere t < 2 ^ 32
 accepted_light d t accepted small = let v = small.values in let u = small.units in omega (arith, accepted_weight d t accepted Elsewhere)

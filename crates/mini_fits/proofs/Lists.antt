@@ -30,9 +30,11 @@ extra (at shaped.a_function_body) d = directives_weight (directives_in d)
 extra (at shaped.an_arrow_body) d = directives_weight (directives_in d)
 extra p d = 0
 
--- what it reads isn't a form that is not read, and weighs little wherever it stands
-abbrev pub IsLight : Reader → Type 0
-IsLight r = (strict : Bool) (p : Place) (n : ℕ) (d : Data) (x : Tree × ℕ) → r strict p n d ≡ Ok x → (is_unread strict p d ≡ false) × ((π : Position) → weight π x.0 + extra p d + 13 ≤ amount d)
+pub record IsLight (r : Reader) : Type 0 where
+  -- what it reads isn't a form that is not read, and weighs little wherever it stands
+  pub whole : (strict : Bool) (p : Place) (n : ℕ) (d : Data) (x : Tree × ℕ) → r strict p n d ≡ Ok x → (is_unread strict p d ≡ false) × ((π : Position) → weight π x.0 + extra p d + 13 ≤ amount d)
+  -- a name that is declared weighs no more than a name and what a place adds
+  pub binding : (strict : Bool) (n : ℕ) (d : Data) (x : Tree × ℕ) → r strict (at shaped.a_binding) n d ≡ Ok x → (π : Position) → weight π x.0 ≤ 7
 
 abbrev pub extra_at : Place → Option Data → ℕ
 extra_at p None = 0
@@ -132,16 +134,24 @@ abbrev pub ChildAt : Data → List ℕ → Child → Type 0
 ChildAt d key (one x) = PartOf (field key) x
 ChildAt d key (many xs) = (ds : Items) × (list_at key d ≡ Some ds) × PartsAt key 0 xs ds
 
+-- a name that is read once more, or nothing
+abbrev pub IsHeld : Child → Type 0
+IsHeld (one hole) = ⊤
+IsHeld (one (tree_at s (at shaped.a_binding))) = ⊤
+IsHeld c = ⊥
+
+-- the children stand at keys of their own, but for one that may be held besides
 abbrev pub ChildrenAt : Data → List (List ℕ) → List Child → Type 0
 ChildrenAt d [] [] = ⊤
-ChildrenAt d [] (c ∷ cs) = ⊥
+ChildrenAt d [] (c ∷ []) = IsHeld c
+ChildrenAt d [] (c ∷ b ∷ cs) = ⊥
 ChildrenAt d (k ∷ ks) [] = ⊥
 ChildrenAt d (k ∷ ks) (c ∷ cs) = ChildAt d k c × ChildrenAt d ks cs
 
 module _ (r : Reader) (light : IsLight r) where
   below_light : (strict : Bool) (p : Place) (n : ℕ) (s : Step) (o : Option Data) (x : Tree × ℕ) → below_by r strict p n s o ≡ Ok x → (π : Position) → weight π x.0 + extra_at p o + 13 ≤ found o
   below_light strict p n s None x e = absurd (cc e)
-  below_light strict p n s (Some d) x e = (light strict p n d x (under_ok (step_text s) (r strict p n d) x e)).1
+  below_light strict p n s (Some d) x e = (light.whole strict p n d x (under_ok (step_text s) (r strict p n d) x e)).1
 
   below_some : (strict : Bool) (p : Place) (n : ℕ) (s : Step) (o : Option Data) (x : Tree × ℕ) → below_by r strict p n s o ≡ Ok x → found o - 28 + 8 ≤ found o
   below_some strict p n s None x e = absurd (cc e)
@@ -223,15 +233,31 @@ module _ (r : Reader) (light : IsLight r) where
       let (us, same, small) = list_read strict d key n xs y there e in
       rw same (listed_light us ω (spares d xs) (5 + found (get key d)) (λ π. omega (arith, small π)))
 
+  -- ---- a name that is held
+
+  binding_light : (strict : Bool) (n : ℕ) (s : Step) (o : Option Data) (x : Tree × ℕ) → below_by r strict (at shaped.a_binding) n s o ≡ Ok x → (π : Position) → weight π x.0 + extra_at (at shaped.a_binding) o ≤ 7
+  binding_light strict n s None x e π = absurd (cc e)
+  binding_light strict n s (Some d) x e π = omega (arith, light.binding strict n d x (under_ok (step_text s) (r strict (at shaped.a_binding) n d) x e) π)
+
+  held_light : (strict : Bool) (d : Data) (n : ℕ) (c : Child) (y : Trees × ℕ) → IsHeld c → read_child r strict d n c ≡ Ok y → (ω : ℕ → Position) → weights ω y.0 + child_spare d c ≤ 7
+  held_light strict d n (one hole) y held e ω = rw (trees_same (absent ▸ none, n) y e) (omega (arith, absent_light (ω zero)))
+  held_light strict d n (one (tree_at s (at shaped.a_binding))) y held e ω =
+      let (x, read, same) = bind_ok (read_below r strict n d s (at shaped.a_binding)) _ y e in
+      rw (trees_same (x.0 ▸ none, x.1) y same) (omega (arith, binding_light strict n s (down s d) x read (ω zero)))
+  held_light strict d n c y held e ω = absurd held
+
   pub children_light : (strict : Bool) (d : Data) (keys : List (List ℕ)) (n : ℕ) (cs : List Child) (y : Trees × ℕ) → ChildrenAt d keys cs → read_children r strict d n cs ≡ Ok y
-      → (ω : ℕ → Position) → weights ω y.0 + children_spare d cs ≤ 5 * length keys + found_at keys d
+      → (ω : ℕ → Position) → weights ω y.0 + children_spare d cs ≤ 7 + 5 * length keys + found_at keys d
   children_light strict d [] n [] y there e ω = rw (trees_same (none, n) y e) (omega arith)
-  children_light strict d [] n (c ∷ cs) y there e ω = absurd there
+  children_light strict d [] n (c ∷ []) y held e ω =
+      let (z, first, after) = bind_ok (read_child r strict d n c) _ y e in
+      rw (trees_same (append z.0 none, z.1) y after) (omega (arith, held_light strict d n c z held first ω, append_light z.0 none 0 (λ υ. omega arith) ω))
+  children_light strict d [] n (c ∷ b ∷ cs) y there e ω = absurd there
   children_light strict d (k ∷ ks) n [] y there e ω = absurd there
   children_light strict d (k ∷ ks) n (c ∷ cs) y there e ω =
       let (z, first, after) = bind_ok (read_child r strict d n c) _ y e in
       let (v, rest, same) = bind_ok (read_children r strict d z.1 cs) _ y after in
       let one = child_light strict d k n c z there.0 first in
       let others = children_light strict d ks z.1 cs v there.1 rest in
-      let left : (υ : ℕ → Position) → weights υ v.0 ≤ 5 * length ks + found_at ks d - children_spare d cs = (λ υ. omega (arith, others υ)) in
-      rw (trees_same (append z.0 v.0, v.1) y same) (omega (arith, one ω, others ω, append_light z.0 v.0 (5 * length ks + found_at ks d - children_spare d cs) left ω))
+      let left : (υ : ℕ → Position) → weights υ v.0 ≤ 7 + 5 * length ks + found_at ks d - children_spare d cs = (λ υ. omega (arith, others υ)) in
+      rw (trees_same (append z.0 v.0, v.1) y same) (omega (arith, one ω, others ω, append_light z.0 v.0 (7 + 5 * length ks + found_at ks d - children_spare d cs) left ω))

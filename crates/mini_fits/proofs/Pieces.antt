@@ -41,7 +41,7 @@ minus_is o d z e = absurd (cc e)
 -- what was read is there, and is no form that isn't read
 below_read : (r : Reader) → IsLight r → (strict : Bool) (p : Place) (n : ℕ) (s : Step) (o : Option Data) (x : Tree × ℕ) → below_by r strict p n s o ≡ Ok x → (d : Data) × (o ≡ Some d) × (is_unread strict p d ≡ false)
 below_read r light strict p n s None x e = absurd (cc e)
-below_read r light strict p n s (Some d) x e = (d, refl, (light strict p n d x (under_ok (step_text s) (r strict p n d) x e)).0)
+below_read r light strict p n s (Some d) x e = (d, refl, (light.whole strict p n d x (under_ok (step_text s) (r strict p n d) x e)).0)
 
 abbrev minus_child : Child
 minus_child = one (checked (field (codes "argument")) (at shaped.an_expression))

@@ -1,15 +1,15 @@
 -- The plans of statements, functions, classes, imports and exports weigh little.
 use Rattle.std.proofs.Common.{◌≡◌, ℕ, List, [], ◌∷◌, refl, codes, Bool, true, false, arith}
-use Rattle.std.specs.Prelude.{not}
+use Rattle.std.specs.Prelude.{not, if◌then◌else◌}
 use Rattle.serde_json.specs.Data.{Data}
 use Rattle.mini_model.specs.declared.shape.Shape.{Shape}
 use Rattle.mini_model.specs.declared.shape.Shape.TheVariants as shape
 use Rattle.mini_structure.specs.WellShaped as shaped
 use Rattle.mini_structure.specs.WellShaped.{Class, nested, in_body}
-use Rattle.mini_accept.specs.Places.{Place, a_directive}
+use Rattle.mini_accept.specs.Places.{field, Place, at, a_directive}
 use Rattle.mini_accept.specs.Fields.{require, is_given, flag_at, list_at}
 use Rattle.mini_accept.specs.Words.{word_at, variable_kinds, method_kinds}
-use Rattle.mini_accept.specs.Plans.{Child, node_of, child, optional, optional_inner, each}
+use Rattle.mini_accept.specs.Plans.{hole, tree_at, Child, one, node_of, child, optional, optional_inner, each}
 use Rattle.mini_accept.specs.Statements as statement
 use Rattle.mini_accept.specs.Functions as functions
 use Rattle.mini_accept.specs.Modules as imports
@@ -17,7 +17,7 @@ use Rattle.mini_model.specs.Weight.{Outline}
 use Rattle.mini_accept.specs.Functions.{directives_below}
 use Rattle.mini_fits.proofs.Amounts.{are_few}
 use Rattle.mini_fits.proofs.Written.{wordy}
-use Rattle.mini_fits.proofs.Lists.{ChildAt, ChildrenAt}
+use Rattle.mini_fits.proofs.Lists.{IsHeld, ChildAt, ChildrenAt}
 use Rattle.mini_fits.proofs.Plans.{LightIf, node_light, plain, bind_light, require_light, optional_at, optional_inner_at, inner_key_at, each_item, rest_item, IsItemPart, list_is_at, list_light}
 use Rattle.mini_fits.proofs.Bodies.{below_function, below_arrow}
 
@@ -116,9 +116,17 @@ module _ (d : Data) where
 
   -- ---- classes
 
+  held : (b : Bool) → IsHeld (one (if b then tree_at (field (codes "id")) (at shaped.a_binding) else hole))
+  held true = tt
+  held false = tt
+
+  name_held : (declaration : Bool) → IsHeld (functions.name_held declaration d)
+  name_held true = held (is_given (codes "id") d)
+  name_held false = tt
+
   pub class : (declaration : Bool) (p : Place) → LightIf d 0 (functions.class declaration p d)
   class declaration p = require_light d 0 _ _ (of (codes "id" ∷ codes "superClass" ∷ codes "body" ∷ []) (shape.Class declaration) _
-      (given (codes "id") shaped.a_binding, (given_inner (codes "superClass") shaped.an_expression, (refl, tt))) refl (λ os. refl))
+      (given (codes "id") shaped.a_binding, (given_inner (codes "superClass") shaped.an_expression, (refl, name_held declaration))) refl (λ os. refl))
 
   pub class_body : LightIf d 0 (functions.class_body d)
   class_body = list_light d 0 (each shaped.a_class_member) (codes "body") _ (each_item shaped.a_class_member) (λ c at. of (codes "body" ∷ []) shape.ClassBody (c ∷ []) (at, tt) refl (λ os. refl))
