@@ -29,3 +29,4 @@ pub mod Replacing
 pub mod Preorder
 pub mod Missing
 pub mod Apart
+pub mod Anywhere

@@ -17,10 +17,10 @@ ghost use Rattle.mini_laws.specs.Fewer.{Fewer, FewerSame, FewerBody};
 ghost use Rattle.mini_laws.specs.Returns.{ReturnsSame};
 ghost use Rattle.mini_laws.specs.Rewritten.{StepKeeps, StepReads, AnyStepSame, AnyReachesSame, AnyBodySame, AnyFrameKept, StepSame, ReachesSame, ProgramSame, FrameKept};
 ghost use Rattle.mini_laws.specs.Rows.{NegationSame, LighterNegationSame, Row23Same, Row40Same, Row82ElseSame, Row82AndSame, Row82OrSame, RowSame};
-ghost use Rattle.mini_laws.specs.Stretches.{StretchSame};
+ghost use Rattle.mini_laws.specs.Stretches.{StretchSame, StretchAnywhere};
 ghost use Rattle.mini_laws.specs.Steady.{Steady};
 ghost use Rattle.mini_laws.specs.Substitution.{NumberSame};
-ghost use Rattle.mini_laws.specs.Tails.{TailSame, LastJumpSame};
+ghost use Rattle.mini_laws.specs.Tails.{TailSame, InEachTail, LastJumpSame};
 ghost use Rattle.mini_laws.specs.Truth.{Coherent};
 ghost use Rattle.mini_laws.specs.Weights.{Replacement, OwnWeightKept, ReplacementFalls, FallsOtherwise, WholeFalls, AnyStepLighter, AnyReachesLighter, StepLighter, ReachesLighter};
 
@@ -133,10 +133,11 @@ pub fn body_same()
     ensures { BodySame }
 {}
 
-/// In a tail a statement does what it does elsewhere, but for the jump that ends the turn or the function: so the last
-/// such jump may go.
+/// In a tail a statement does what it does elsewhere, but for the jump that ends the turn or the function: so what means
+/// the same in no tail does so in each, and the last such jump may go.
 pub fn tails()
     ensures tail { TailSame }
+    ensures each { InEachTail }
     ensures jump { LastJumpSame }
 {}
 
@@ -147,7 +148,8 @@ pub fn returns_join()
 
 /// Some statements of a list replaced by others that mean the same, however many they are, leave the list the same.
 pub fn stretches()
-    ensures { StretchSame }
+    ensures in_a_tail { StretchSame }
+    ensures anywhere { StretchAnywhere }
 {}
 
 /// A variable that no node of a tree writes, and that no answer may change, keeps its value.
