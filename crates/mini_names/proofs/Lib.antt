@@ -1,10 +1,10 @@
-mod Lookups
-mod Drops
-mod Back
-mod Bare
-mod BodyNames
-mod Changes
-mod Kept
-mod Numbers
-mod Places
-mod Whole
+pub mod Lookups
+pub mod Drops
+pub mod Back
+pub mod Bare
+pub mod BodyNames
+pub mod Changes
+pub mod Kept
+pub mod Numbers
+pub mod Places
+pub mod Whole
