@@ -30,7 +30,7 @@ as_it_is t = record { names = λ d. refl; body = refl; inner = refl; symbols = �
 
 -- ---- what stands around
 
-all_names_kept : (d : Declared) (ts ts' : Trees) → AllKept ts ts' → all_names d ts' ≡ all_names d ts
+pub all_names_kept : (d : Declared) (ts ts' : Trees) → AllKept ts ts' → all_names d ts' ≡ all_names d ts
 unfolding names_of
 all_names_kept d none none k = refl
 all_names_kept d none (t' ▸ ts') k = absurd k
@@ -96,7 +96,7 @@ own_scope p p' t t' k m =
     ∙ ap (λ b. body_scope (if b then [] else names_of declared.Bound p') (body_names t)) k.inner
     ∙ ap (λ r. body_scope (if has_inner p then [] else r) (body_names t)) (k.names declared.Bound)
 
-abbrev Same : List (List Binding) → List (List Binding) → Type 0
+abbrev pub Same : List (List Binding) → List (List Binding) → Type 0
 Same [] [] = Unit {0}
 Same [] (r ∷ rs) = ⊥
 Same (s ∷ ss) [] = ⊥
@@ -106,7 +106,7 @@ same_self : (ss : List (List Binding)) → Same ss ss
 same_self [] = tt
 same_self (s ∷ ss) = (refl, same_self ss)
 
-scopes_kept : (o : Opening) (ts ts' : Trees) → AllKept ts ts' → Same (scopes_by o ts) (scopes_by o ts')
+pub scopes_kept : (o : Opening) (ts ts' : Trees) → AllKept ts ts' → Same (scopes_by o ts) (scopes_by o ts')
 unfolding scopes_by
 scopes_kept o none none k = same_self (scopes_by o none)
 scopes_kept o none (t' ▸ ts') k = absurd k
@@ -135,7 +135,7 @@ scopes_kept (opening.Function own) (a ▸ (p ▸ none)) (a' ▸ (p' ▸ (t' ▸ 
 scopes_kept (opening.Function own) (a ▸ (p ▸ (t ▸ ts))) (a' ▸ (p' ▸ none)) k = absurd k.1.1
 scopes_kept (opening.Function own) (a ▸ (p ▸ (t ▸ ts))) (a' ▸ (p' ▸ (t' ▸ ts'))) k = (name_scope own a a' k.0, (params_scope p p' k.1.0, (own_scope p p' t t' k.1.0 k.1.1.0, tt)))
 
-at_same : (ss rs : List (List Binding)) (i : ℕ) → Same ss rs → at_or_empty rs i ≡ at_or_empty ss i
+pub at_same : (ss rs : List (List Binding)) (i : ℕ) → Same ss rs → at_or_empty rs i ≡ at_or_empty ss i
 at_same [] [] i e = refl
 at_same [] (r ∷ rs) i e = absurd e
 at_same (s ∷ ss) [] i e = absurd e

@@ -6,7 +6,7 @@ use Rattle.mini_names.specs.declared.Use.TheVariants.{Read}
 use Rattle.mini_names.specs.Scoped.{Scoped}
 use Rattle.mini_names.specs.Symbols.{bare, declared_symbols, Distinct}
 use Rattle.mini_accept.specs.Numbered.{next_after}
-use Rattle.mini_carried.specs.Carried.{renumbered, numbers, number_at, number_of, NumberedAlike, carried}
+use Rattle.mini_kept_names.specs.Carried.{renumbered, numbers, number_at, number_of, NumberedAlike, carried}
 
 -- resolution doesn't look at numbers
 abbrev pub ResolvedRenumbered : Type 0

@@ -1,3 +1,5 @@
 pub mod Renumbered
 pub mod Carrying
 pub mod Programs
+pub mod Using
+pub mod Below

@@ -9,9 +9,9 @@ use Rattle.mini_names.specs.Scoped.{Scoped}
 use Rattle.mini_names.specs.Symbols.{mapped, all_mapped, with_new, bare, renamed, new_symbol, declared_symbols, Distinct}
 use Rattle.mini_names.proofs.Places.{renamed_again}
 use Rattle.mini_accept.specs.Numbered.{next_after}
-use Rattle.mini_carried.specs.Carried.{renumbered, all_renumbered, numbers, all_numbers, with_number, number_of, number_at, NumberedAlike, carried}
-use Rattle.mini_carried.proofs.Renumbered.{program_renumbered}
-use Rattle.mini_carried.proofs.Carrying.{numbers_carried}
+use Rattle.mini_kept_names.specs.Carried.{renumbered, all_renumbered, numbers, all_numbers, with_number, number_of, number_at, NumberedAlike, carried}
+use Rattle.mini_kept_names.proofs.Renumbered.{program_renumbered}
+use Rattle.mini_kept_names.proofs.Carrying.{numbers_carried}
 
 mutual
   unfolding renumbered mapped

@@ -14,7 +14,7 @@ use Rattle.mini_names.specs.declared.Opening.TheVariants as opening
 use Rattle.mini_names.specs.DeclaredNames.{place_of, names_by, names_of, first_names, all_names, is_statement_list, body_names, all_body_names, is_inner, has_inner, any_inner}
 use Rattle.mini_names.specs.Scopes.{use_of, opening_of, scopes_by, at_or_empty, opened, name_if, lexical_scope, body_scope, merged}
 use Rattle.mini_names.specs.Resolved.{Environment, with_symbol, numbered, symbols, symbols_from, resolved, resolved_from, resolved_program}
-use Rattle.mini_carried.specs.Carried.{renumbered, all_renumbered}
+use Rattle.mini_kept_names.specs.Carried.{renumbered, all_renumbered}
 
 mutual
   unfolding names_of renumbered

@@ -7,7 +7,7 @@ use Rattle.mini_model.specs.declared.name.Name.{Name}
 use Rattle.mini_model.specs.declared.shape.Shape.{Shape}
 use Rattle.mini_model.specs.Tree.{Tree, Trees, node, none, ◌▸◌}
 use Rattle.mini_accept.specs.Numbered.{number_after, next_after, next_among}
-use Rattle.mini_carried.specs.Carried.{renumbered, all_renumbered, with_number, numbers, all_numbers, number_of, number_at, BothNumbered, NumberedAlike, AllNumberedAlike}
+use Rattle.mini_kept_names.specs.Carried.{renumbered, all_renumbered, with_number, numbers, all_numbers, number_of, number_at, BothNumbered, NumberedAlike, AllNumberedAlike}
 
 -- the list goes on with these from a place on
 abbrev GoesOn : List ℕ → ℕ → List ℕ → Type 0

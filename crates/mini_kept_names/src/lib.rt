@@ -1,10 +1,9 @@
 //! Programs that are written, read again and resolved, against the program that was written.
 #![tactic(auto)]
 
-ghost use Rattle.mini_carried.specs.Laws.{ResolvedRenumbered, NumbersCarried, ProgramCarried};
+ghost use Rattle.mini_kept_names.specs.Laws.{ResolvedRenumbered, NumbersCarried, ProgramCarried};
 
 /// Resolution doesn't look at numbers.
-#[tactic(auto, using(crate::proofs::Renumbered::program_renumbered))]
 pub fn resolved_renumbered()
     ensures { ResolvedRenumbered }
 {}
