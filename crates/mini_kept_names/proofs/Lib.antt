@@ -3,3 +3,4 @@ pub mod Carrying
 pub mod Programs
 pub mod Using
 pub mod Below
+pub mod Stepping

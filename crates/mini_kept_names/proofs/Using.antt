@@ -34,7 +34,7 @@ item_used TemplateList v n i e = e
 item_used p v n i e = refl
 
 -- the shapes of which a part may be an inner expression that is not used as an expression is
-abbrev is_patterned : Shape → Bool
+abbrev pub is_patterned : Shape → Bool
 is_patterned (shape.BindingProperty shorthand computed) = true
 is_patterned shape.AssignmentPattern = true
 is_patterned (shape.AssignmentTargetPropertyProperty computed) = true

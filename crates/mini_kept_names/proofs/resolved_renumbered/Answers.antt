@@ -1,5 +1,5 @@
 use Rattle.mini_kept_names.proofs.Renumbered.{program_renumbered}
-use Rattle.mini_kept_names.proofs.Below.{keeps_below}
+use Rattle.mini_kept_names.proofs.Stepping.{step_keeps}
 use Rattle.mini_kept_names.proofs.resolved_renumbered.Goals as goal
 
 pub returns : goal.returns
