@@ -183,9 +183,6 @@ unfolding declared_in
 shifted i j none = refl
 shifted i j (t ▸ ts) = ap (λ r. declared_in Read t ++ r) (shifted (suc i) (suc j) ts)
 
-swap_names : (a b c : List Name) → b ≡ [] → c ≡ [] → a ++ (c ++ (b ++ [])) ≡ (a ++ []) ++ (b ++ (c ++ []))
-swap_names a b c e f = ap (λ r. a ++ (r ++ (b ++ []))) f ∙ ap (λ r. a ++ (r ++ [])) e ∙ sym (append-nil (a ++ [])) ∙ ap (λ r. (a ++ []) ++ r) (sym e ∙ sym (append-nil b)) ∙ ap (λ r. (a ++ []) ++ (b ++ r)) (sym f ∙ sym (append-nil c))
-
 swap_inner : (a b c : Bool) → (a || (c || (b || false))) ≡ ((a || false) || (b || (c || false)))
 swap_inner true b c = refl
 swap_inner false true true = refl
@@ -193,15 +190,15 @@ swap_inner false true false = refl
 swap_inner false false true = refl
 swap_inner false false false = refl
 
-swapped_names : (a b c : Tree) → names_of declared.Hoisted b ≡ [] → names_of declared.Hoisted c ≡ [] → (d : Declared) → names_of d (conditional a c b) ≡ names_of d (conditional (negation a) b c)
+swapped_names : (a b c : Tree) → (d : Declared) → names_of d (conditional a c b) ≡ names_of d (conditional (negation a) b c)
 unfolding names_of
-swapped_names a b c e f declared.Bound = refl
-swapped_names a b c e f declared.Lexical = refl
-swapped_names a b c e f declared.Hoisted = swap_names (names_of declared.Hoisted a) (names_of declared.Hoisted b) (names_of declared.Hoisted c) e f
+swapped_names a b c declared.Bound = refl
+swapped_names a b c declared.Lexical = refl
+swapped_names a b c declared.Hoisted = refl
 
-swapped_body : (a b c : Tree) → names_of declared.Hoisted b ≡ [] → names_of declared.Hoisted c ≡ [] → body_names (conditional a c b) ≡ body_names (conditional (negation a) b c)
+swapped_body : (a b c : Tree) → body_names (conditional a c b) ≡ body_names (conditional (negation a) b c)
 unfolding body_names names_of
-swapped_body a b c e f = swapped_names a b c e f declared.Hoisted
+swapped_body a b c = refl
 
 swapped_inner : (a b c : Tree) → has_inner (conditional a c b) ≡ has_inner (conditional (negation a) b c)
 unfolding has_inner
@@ -217,8 +214,8 @@ swapped_symbols a b c u x =
     let two = times_three x (da ++ []) db (dc ++ []) in
     omega (arith, one, two, times_both x da [], times_both x db [], times_both x dc [])
 
-pub by_swap : (a b c : Tree) → names_of declared.Hoisted b ≡ [] → names_of declared.Hoisted c ≡ [] → Kept (conditional (negation a) b c) (conditional a c b)
-by_swap a b c e f = record { names = swapped_names a b c e f; body = swapped_body a b c e f; inner = swapped_inner a b c; symbols = swapped_symbols a b c }
+pub by_swap : (a b c : Tree) → Kept (conditional (negation a) b c) (conditional a c b)
+by_swap a b c = record { names = swapped_names a b c; body = swapped_body a b c; inner = swapped_inner a b c; symbols = swapped_symbols a b c }
 
 dropped_names : (x : Name) (rest : Trees) (d : Declared) → names_of d (block rest) ≡ names_of d (block (let_alone x ▸ rest))
 unfolding names_of

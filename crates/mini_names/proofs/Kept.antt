@@ -169,14 +169,22 @@ mutual
 
   pub hoisted_kept : (u : Use) (env : Environment) (s : ℕ) (t : Tree) → names_of declared.Hoisted (resolved u env s t) ≡ map (with_symbol Hoisted env) (names_of declared.Hoisted t)
   hoisted_kept u env s (node (shape.VariableDeclaration Var) xs n ts) = var_kept u env s ts
-  hoisted_kept u env s (node (shape.VariableDeclaration Let) xs n ts) = all_hoisted_kept (opened u (shape.VariableDeclaration Let) ts) (λ k. Read) 0 env s ts (λ k. lexical_opening (opening_of u (shape.VariableDeclaration Let)) ts k (alone_lexical (is_alone u)))
-  hoisted_kept u env s (node (shape.VariableDeclaration Const) xs n ts) = all_hoisted_kept (opened u (shape.VariableDeclaration Const) ts) (λ k. Read) 0 env s ts (λ k. lexical_opening (opening_of u (shape.VariableDeclaration Const)) ts k (alone_lexical (is_alone u)))
-  hoisted_kept u env s (node (shape.Function d g ds) xs n ts) = refl
-  hoisted_kept u env s (node (shape.ArrowFunctionExpression ds) xs n ts) = refl
-  hoisted_kept u env s (node (shape.Class d) xs n ts) = refl
-  hoisted_kept u env s (node shape.StaticBlock xs n ts) = refl
-  hoisted_kept u env s (node (shape.Program is_module ds) xs n ts) = refl
-  hoisted_kept u env s (node h xs n ts) = all_hoisted_kept (opened u h ts) (use_of h u) 0 env s ts (λ k. lexical_opening (opening_of u h) ts k refl)
+  hoisted_kept u env s (node shape.Listed xs n ts) = all_hoisted_kept (opened u shape.Listed ts) (use_of shape.Listed u) 0 env s ts (λ k. lexical_opening (opening_of u shape.Listed) ts k refl)
+  hoisted_kept u env s (node shape.BlockStatement xs n ts) = all_hoisted_kept (opened u shape.BlockStatement ts) (use_of shape.BlockStatement u) 0 env s ts (λ k. lexical_opening (opening_of u shape.BlockStatement) ts k refl)
+  hoisted_kept u env s (node shape.IfStatement xs n ts) = all_hoisted_kept (opened u shape.IfStatement ts) (use_of shape.IfStatement u) 0 env s ts (λ k. lexical_opening (opening_of u shape.IfStatement) ts k refl)
+  hoisted_kept u env s (node shape.WhileStatement xs n ts) = all_hoisted_kept (opened u shape.WhileStatement ts) (use_of shape.WhileStatement u) 0 env s ts (λ k. lexical_opening (opening_of u shape.WhileStatement) ts k refl)
+  hoisted_kept u env s (node shape.DoWhileStatement xs n ts) = all_hoisted_kept (opened u shape.DoWhileStatement ts) (use_of shape.DoWhileStatement u) 0 env s ts (λ k. lexical_opening (opening_of u shape.DoWhileStatement) ts k refl)
+  hoisted_kept u env s (node shape.ForStatement xs n ts) = all_hoisted_kept (opened u shape.ForStatement ts) (use_of shape.ForStatement u) 0 env s ts (λ k. lexical_opening (opening_of u shape.ForStatement) ts k refl)
+  hoisted_kept u env s (node shape.ForInStatement xs n ts) = all_hoisted_kept (opened u shape.ForInStatement ts) (use_of shape.ForInStatement u) 0 env s ts (λ k. lexical_opening (opening_of u shape.ForInStatement) ts k refl)
+  hoisted_kept u env s (node shape.ForOfStatement xs n ts) = all_hoisted_kept (opened u shape.ForOfStatement ts) (use_of shape.ForOfStatement u) 0 env s ts (λ k. lexical_opening (opening_of u shape.ForOfStatement) ts k refl)
+  hoisted_kept u env s (node shape.LabeledStatement xs n ts) = all_hoisted_kept (opened u shape.LabeledStatement ts) (use_of shape.LabeledStatement u) 0 env s ts (λ k. lexical_opening (opening_of u shape.LabeledStatement) ts k refl)
+  hoisted_kept u env s (node shape.SwitchStatement xs n ts) = all_hoisted_kept (opened u shape.SwitchStatement ts) (use_of shape.SwitchStatement u) 0 env s ts (λ k. lexical_opening (opening_of u shape.SwitchStatement) ts k refl)
+  hoisted_kept u env s (node shape.SwitchCase xs n ts) = all_hoisted_kept (opened u shape.SwitchCase ts) (use_of shape.SwitchCase u) 0 env s ts (λ k. lexical_opening (opening_of u shape.SwitchCase) ts k refl)
+  hoisted_kept u env s (node shape.TryStatement xs n ts) = all_hoisted_kept (opened u shape.TryStatement ts) (use_of shape.TryStatement u) 0 env s ts (λ k. lexical_opening (opening_of u shape.TryStatement) ts k refl)
+  hoisted_kept u env s (node shape.CatchClause xs n ts) = all_hoisted_kept (opened u shape.CatchClause ts) (use_of shape.CatchClause u) 0 env s ts (λ k. lexical_opening (opening_of u shape.CatchClause) ts k refl)
+  hoisted_kept u env s (node shape.FunctionBody xs n ts) = all_hoisted_kept (opened u shape.FunctionBody ts) (use_of shape.FunctionBody u) 0 env s ts (λ k. lexical_opening (opening_of u shape.FunctionBody) ts k refl)
+  hoisted_kept u env s (node shape.ExportNamedDeclaration xs n ts) = all_hoisted_kept (opened u shape.ExportNamedDeclaration ts) (use_of shape.ExportNamedDeclaration u) 0 env s ts (λ k. lexical_opening (opening_of u shape.ExportNamedDeclaration) ts k refl)
+  hoisted_kept u env s (node h xs n ts) = refl
 
   pub all_hoisted_kept : (sc : ℕ → List Binding) (us : ℕ → Use) (i : ℕ) (env : Environment) (s : ℕ) (ts : Trees) → ((k : ℕ) → NoHoists (sc k)) → all_names declared.Hoisted (resolved_from sc us i env s ts) ≡ map (with_symbol Hoisted env) (all_names declared.Hoisted ts)
   all_hoisted_kept sc us i env s none h = refl

@@ -38,14 +38,25 @@ lexical_place shape.SwitchCase = place.Below
 lexical_place shape.Listed = place.Below
 lexical_place _ = place.Nowhere
 
+-- `var`s stand in statements, and so in what is made of them (ECMA-262, "Static Semantics: VarDeclaredNames")
 abbrev pub hoisted_place : Shape → Place
 hoisted_place (shape.VariableDeclaration Var) = place.Bound
-hoisted_place (shape.Function d g ds) = place.Nowhere
-hoisted_place (shape.ArrowFunctionExpression ds) = place.Nowhere
-hoisted_place (shape.Class d) = place.Nowhere
-hoisted_place shape.StaticBlock = place.Nowhere
-hoisted_place (shape.Program is_module ds) = place.Nowhere
-hoisted_place _ = place.Below
+hoisted_place shape.Listed = place.Below
+hoisted_place shape.BlockStatement = place.Below
+hoisted_place shape.IfStatement = place.Below
+hoisted_place shape.WhileStatement = place.Below
+hoisted_place shape.DoWhileStatement = place.Below
+hoisted_place shape.ForStatement = place.Below
+hoisted_place shape.ForInStatement = place.Below
+hoisted_place shape.ForOfStatement = place.Below
+hoisted_place shape.LabeledStatement = place.Below
+hoisted_place shape.SwitchStatement = place.Below
+hoisted_place shape.SwitchCase = place.Below
+hoisted_place shape.TryStatement = place.Below
+hoisted_place shape.CatchClause = place.Below
+hoisted_place shape.FunctionBody = place.Below
+hoisted_place shape.ExportNamedDeclaration = place.Below
+hoisted_place _ = place.Nowhere
 
 abbrev pub place_of : Declared → Shape → Place
 place_of declared.Bound h = bound_place h

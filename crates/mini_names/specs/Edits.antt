@@ -37,9 +37,9 @@ KeptAsItIs = (t : Tree) → Kept t t
 abbrev pub KeptBelow : Type 0
 KeptBelow = (h : Shape) (xs : List Name) (n : ℕ) (ts ts' : Trees) → AllKept ts ts' → Kept (node h xs n ts) (node h xs n ts')
 
--- `!a ? b : c` becomes `a ? c : b`: no `var` stands in an expression
+-- `!a ? b : c` becomes `a ? c : b`
 abbrev pub KeptBySwap : Type 0
-KeptBySwap = (a b c : Tree) → names_of declared.Hoisted b ≡ [] → names_of declared.Hoisted c ≡ [] → Kept (conditional (negation a) b c) (conditional a c b)
+KeptBySwap = (a b c : Tree) → Kept (conditional (negation a) b c) (conditional a c b)
 
 -- a block loses its first statement `let x;`, x being declared there alone
 abbrev pub KeptByDrop : Type 0
