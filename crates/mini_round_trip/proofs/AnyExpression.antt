@@ -47,7 +47,7 @@ module _ (k : ℕ) (back : Back k) (bodies : BodiesBack k) (strict : Bool) (c : 
   expression_comes shape.ObjectExpression ts names fields units parts allowed w = expression.object_expression k back strict c linked x ts w
   expression_comes (shape.Function false g ss) ts names fields units parts allowed w = function.function_expression k back bodies strict c g ss fields units (λ a. true) (λ a e params b. x.stands _ refl) ts w refl
   expression_comes (shape.ArrowFunctionExpression ss) ts names fields units parts allowed w = function.arrow k back bodies strict c linked x ss fields units ts w (ruled (shape.ArrowFunctionExpression ss) ts (parts_by_shape c (shape.ArrowFunctionExpression ss) ts refl) parts)
-  expression_comes (shape.Class false) ts names fields units parts allowed w = function.class_expression k back strict c (λ a b d. x.stands _ refl) ts w
+  expression_comes (shape.Class false) ts names fields units parts allowed w = function.class_expression k back strict c (λ a b d. x.stands _ refl) ts w (ruled (shape.Class false) ts (parts_by_shape c (shape.Class false) ts refl) parts)
   expression_comes (shape.UnaryExpression unary.UnaryNegation) ts names fields units parts allowed w = expression.unary_expression k back strict c linked x unary.UnaryNegation ts w (λ is. ruled (shape.UnaryExpression unary.UnaryNegation) ts (parts_by_shape c (shape.UnaryExpression unary.UnaryNegation) ts refl) parts)
   expression_comes (shape.UnaryExpression o) ts names fields units parts allowed w = expression.unary_expression k back strict c linked x o ts w (λ is. absurd (cc is))
   expression_comes (shape.UpdateExpression o prefix) ts names fields units parts allowed w = expression.update_expression k back strict c linked x o prefix ts w

@@ -86,12 +86,12 @@ module _ (k : ℕ) (back : Back k) (bodies : BodiesBack k) (strict : Bool) where
   pub exported_declaration_comes : (h : Shape) (ts : Trees) → NodeFits k strict shaped.an_exported_declaration h [] ts → Comes k strict shaped.an_exported_declaration h ts
   exported_declaration_comes (shape.VariableDeclaration v) ts w = statement.variables k back strict shaped.an_exported_declaration v (λ d. refl) ts w.parts w.filled
   exported_declaration_comes (shape.Function true g ss) ts w = function.function_declaration k back bodies strict shaped.an_exported_declaration g ss w.fields w.field_units true refl (right_none (not strict)) (λ a params b. refl) ts w.filled
-  exported_declaration_comes (shape.Class true) ts w = function.class_declaration k back strict shaped.an_exported_declaration true refl (λ a b d. refl) ts w.filled
+  exported_declaration_comes (shape.Class true) ts w = function.class_declaration k back strict shaped.an_exported_declaration true refl (λ a b d. refl) ts w.filled w.parts
   exported_declaration_comes h ts w = absurd (false≢true w.filled.fills)
 
   pub default_export_comes : (h : Shape) (ts : Trees) → NodeFits k strict shaped.a_default_export h [] ts → Comes k strict shaped.a_default_export h ts
   default_export_comes (shape.Function true g ss) ts w = function.function_declaration k back bodies strict shaped.a_default_export g ss w.fields w.field_units false refl (right_none (not strict)) (λ a params b. refl) ts w.filled
-  default_export_comes (shape.Class true) ts w = function.class_declaration k back strict shaped.a_default_export false refl (λ a b d. refl) ts w.filled
+  default_export_comes (shape.Class true) ts w = function.class_declaration k back strict shaped.a_default_export false refl (λ a b d. refl) ts w.filled w.parts
   default_export_comes h ts w = unchained_comes k back bodies strict shaped.a_default_export as_default_export h ts w.names w.fields w.field_units w.parts (record { fills = w.filled.fills; units = w.filled.units; small = w.filled.small })
 
   pub import_comes : (h : Shape) (ts : Trees) → NodeFits k strict shaped.an_import h [] ts → Comes k strict shaped.an_import h ts

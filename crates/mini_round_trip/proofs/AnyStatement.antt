@@ -61,7 +61,7 @@ module _ (k : ℕ) (back : Back k) (bodies : BodiesBack k) (strict : Bool) (dept
   statement_comes (shape.Function true g ss) ts w =
       let (refused, filled) = unless_filled k _ (is_sloppy_function strict depth (shape.Function true g ss)) _ ts w.filled in
       function.function_declaration k back bodies strict (a_statement depth) g ss w.fields w.field_units true refl (not_sloppy strict depth g ss refused) (λ a params b. stands_in k back strict depth _ refl) ts filled
-  statement_comes (shape.Class true) ts w = function.class_declaration k back strict (a_statement depth) true refl (λ a b d. stands_in k back strict depth _ refl) ts (unless (is_sloppy_function strict depth (shape.Class true)) (Some (shaped.one shaped.a_binding ∷ shaped.one_or_absent (shaped.an_inner shaped.an_expression) ∷ shaped.one shaped.a_class_body ∷ [])) true ts w.filled)
+  statement_comes (shape.Class true) ts w = function.class_declaration k back strict (a_statement depth) true refl (λ a b d. stands_in k back strict depth _ refl) ts (unless (is_sloppy_function strict depth (shape.Class true)) (Some (shaped.one shaped.a_binding ∷ shaped.one_or_absent (shaped.an_inner shaped.an_expression) ∷ shaped.one shaped.a_class_body ∷ shaped.one_or_absent shaped.a_binding ∷ [])) true ts w.filled) w.parts
   statement_comes shape.ImportDeclaration ts w = with_module k strict _ ts (λ q. Comes k strict (a_statement q) shape.ImportDeclaration ts) (imports.import k back strict ts) depth (unless _ _ strict ts w.filled)
   statement_comes shape.ExportNamedDeclaration ts w = with_module k strict _ ts (λ q. Comes k strict (a_statement q) shape.ExportNamedDeclaration ts) (λ f. imports.export_named k back strict ts f w.parts) depth (unless _ _ strict ts w.filled)
   statement_comes shape.ExportDefaultDeclaration ts w = with_module k strict _ ts (λ q. Comes k strict (a_statement q) shape.ExportDefaultDeclaration ts) (imports.export_default k back strict ts) depth (unless _ _ strict ts w.filled)

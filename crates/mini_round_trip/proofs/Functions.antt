@@ -3,10 +3,11 @@ use Rattle.std.proofs.Common.{◌≡◌, ℕ, suc, arith, List, [], ◌∷◌, r
 use Rattle.std.specs.Prelude.{Some, option_map, unwrap_or, length, nat_eq, not, codes, if◌then◌else◌}
 use Rattle.std.proofs.lemmas.Bool.{or_right, eqb-true, false≢true, true≢false}
 use Rattle.serde_json.specs.Data.{Data, null, boolean, number, string, array, object}
+use Rattle.serde_json.specs.Find.{get}
 use Rattle.mini_model.specs.declared.shape.Shape.TheVariants as shape
-use Rattle.mini_model.specs.Tree.{Tree, node, Trees, none, ◌▸◌, is_absent, child_or_absent}
+use Rattle.mini_model.specs.Tree.{Tree, node, Trees, none, ◌▸◌, absent, is_absent, child_or_absent}
 use Rattle.mini_structure.specs.WellShaped as shaped
-use Rattle.mini_structure.specs.WellShaped.{Class, Slot, in_body, a_statement, these, each, are_paired, has_use_strict, is_same_flag, is_function_body}
+use Rattle.mini_structure.specs.WellShaped.{Class, Slot, in_body, a_statement, these, each, are_paired, has_use_strict, is_same_flag, is_same_spelling, spelling, is_function_body}
 use Rattle.mini_accept.specs.declared.kind.Kind.TheVariants as kind
 use Rattle.mini_accept.specs.Places.{field, at}
 use Rattle.mini_accept.specs.Fields.{is_object, is_there, has_type, list_at}
@@ -16,13 +17,14 @@ use Rattle.mini_accept.specs.Plans.{Child, node_of, tree_at, one}
 use Rattle.mini_accept.specs.Statements.{directives_of}
 use Rattle.mini_accept.specs.Functions as function
 use Rattle.mini_accept.specs.Functions.{directives_in, is_named}
-use Rattle.mini_accept.proofs.Wholes.{absent_or}
+use Rattle.mini_accept.proofs.Wholes.{absent_or, not_absent}
 use Rattle.mini_written.specs.Objects as objects
 use Rattle.mini_written.specs.Written as written
 use Rattle.mini_written.specs.Written.{tree_data, trees_data, node_data, body}
 use Rattle.mini_round_trip.proofs.Units.{all_are_units}
-use Rattle.mini_round_trip.proofs.Read.{node_back, plain_back, one_child, no_children, ◌&◌, tree_back}
-use Rattle.mini_round_trip.proofs.Fits.{Fit, Filled, node_fits, fit_more, and_false, with_one, with_two, with_three, with_list}
+use Rattle.mini_round_trip.proofs.Read.{ChildBack, node_back, plain_back, one_child, no_children, ◌&◌, tree_back}
+use Rattle.mini_round_trip.proofs.Fits.{Fit, Filled, node_fits, fit_more, and_false, with_one, with_two, with_three, with_four, with_list, with_optional}
+use Rattle.mini_round_trip.proofs.Keys.{is_named as is_named_tree, fit_named, same_written}
 use Rattle.mini_round_trip.proofs.Slots.{Back, Rested, child_back, optional_back, rest_back, fit_object, fit_apart, fit_stands, there_given}
 use Rattle.mini_round_trip.proofs.Entry.{require_is}
 use Rattle.mini_round_trip.proofs.Statements.{Comes}
@@ -172,16 +174,34 @@ module _ (k : ℕ) (back : Back k) (bodies : BodiesBack k) (strict : Bool) (c : 
 
 -- ---- classes, whose code is strict
 
+-- the name that a declaration holds once more is written as its name is
+name_again : (t u : Tree) (b : Bool) → is_named_tree t ≡ true → is_named_tree u ≡ true → is_absent t ≡ b → (if not b then is_same_spelling (spelling t) (spelling u) else is_absent u) ≡ true → tree_data t ≡ tree_data u
+name_again t u true k v is e = absent_data t is ∙ sym (absent_data u e)
+name_again t u false k v is e = same_written t u k v e
+
 module _ (k : ℕ) (back : Back k) (strict : Bool) (c : Class) where
+  name_held : (d : Data) (needed : Bool) (t u : Tree) → Fit k true (name_slot needed) t → Fit k true (shaped.one_or_absent shaped.a_binding) u → (if not (is_absent t) then is_same_spelling (spelling t) (spelling u) else is_absent u) ≡ true
+      → get (codes "id") d ≡ Some (tree_data t) → ChildBack (suc (suc k)) true d (function.name_held true d) (u ▸ none)
+  name_held d needed t u f g e there = optional_back k back true d shaped.a_binding u refl g (codes "id") (there ∙ ap Some (name_again t u (is_absent t) (fit_named k true (name_slot needed) t f) (fit_named k true (shaped.one_or_absent shaped.a_binding) u g) refl e))
+
+  no_name_held : (d : Data) (u : Tree) → Fit k true (shaped.one_or_absent shaped.a_binding) u → is_absent u ≡ true → ChildBack (suc (suc k)) true d (function.name_held false d) (u ▸ none)
+  no_name_held d = with_optional k true shaped.a_binding (λ u. is_absent u ≡ true → ChildBack (suc (suc k)) true d (function.name_held false d) (u ▸ none))
+      (λ n e. record { back = λ m. record { trees = absent ▸ none; next = m; read = refl; same = refl } })
+      (λ u g e. absurd (true≢false (sym e ∙ not_absent true shaped.a_binding u g.fits)))
+
   pub class_declaration : (needed : Bool) → (needed || function.is_default_export (at c)) ≡ true → ((id base b : Data) → stands_as c (objects.class true id base b) ≡ true)
-      → (ts : Trees) → Filled k true (these (name_slot needed ∷ shaped.one_or_absent (shaped.an_inner shaped.an_expression) ∷ shaped.one shaped.a_class_body ∷ [])) ts → Comes k strict c (shape.Class true) ts
-  class_declaration needed free stands = with_three k true (name_slot needed) (shaped.one_or_absent (shaped.an_inner shaped.an_expression)) (shaped.one shaped.a_class_body) (Comes k strict c (shape.Class true))
-      (λ a b t fa fb ft m n. plain_back (suc (suc k)) strict c _ kind.ClassDeclaration (shape.Class true) _ m _ refl (stands (tree_data a) (tree_data b) (tree_data t)) refl
+      → (ts : Trees) → Filled k true (these (name_slot needed ∷ shaped.one_or_absent (shaped.an_inner shaped.an_expression) ∷ shaped.one shaped.a_class_body ∷ shaped.one_or_absent shaped.a_binding ∷ [])) ts → shaped.holds_its_name true ts ≡ true → Comes k strict c (shape.Class true) ts
+  class_declaration needed free stands = with_four k true (name_slot needed) (shaped.one_or_absent (shaped.an_inner shaped.an_expression)) (shaped.one shaped.a_class_body) (shaped.one_or_absent shaped.a_binding)
+      (λ ts. shaped.holds_its_name true ts ≡ true → Comes k strict c (shape.Class true) ts)
+      (λ a b t u fa fb ft fu e m n. plain_back (suc (suc k)) strict c _ kind.ClassDeclaration (shape.Class true) _ m _ refl (stands (tree_data a) (tree_data b) (tree_data t)) refl
       (require_is (function.is_default_export (at c) || is_there (Some (tree_data a))) _ _ (name_given k back true needed (function.is_default_export (at c)) a free fa) refl)
-      (optional_back k back true _ shaped.a_binding a refl (name_fits k true needed a fa) (codes "id") refl & optional_back k back true _ (shaped.an_inner shaped.an_expression) b refl fb (codes "superClass") refl & child_back k back true _ shaped.a_class_body t refl ft (codes "body") refl & no_children) n)
+      (optional_back k back true _ shaped.a_binding a refl (name_fits k true needed a fa) (codes "id") refl & optional_back k back true _ (shaped.an_inner shaped.an_expression) b refl fb (codes "superClass") refl & child_back k back true _ shaped.a_class_body t refl ft (codes "body") refl
+      & name_held _ needed a u fa fu e refl & no_children) n)
 
   pub class_expression : ((id base b : Data) → stands_as c (objects.class false id base b) ≡ true)
-      → (ts : Trees) → Filled k true (these (shaped.one_or_absent shaped.a_binding ∷ shaped.one_or_absent (shaped.an_inner shaped.an_expression) ∷ shaped.one shaped.a_class_body ∷ [])) ts → Comes k strict c (shape.Class false) ts
-  class_expression stands = with_three k true (shaped.one_or_absent shaped.a_binding) (shaped.one_or_absent (shaped.an_inner shaped.an_expression)) (shaped.one shaped.a_class_body) (Comes k strict c (shape.Class false))
-      (λ a b t fa fb ft m n. plain_back (suc (suc k)) strict c _ kind.ClassExpression (shape.Class false) _ m _ refl (stands (tree_data a) (tree_data b) (tree_data t)) refl refl
-      (optional_back k back true _ shaped.a_binding a refl fa (codes "id") refl & optional_back k back true _ (shaped.an_inner shaped.an_expression) b refl fb (codes "superClass") refl & child_back k back true _ shaped.a_class_body t refl ft (codes "body") refl & no_children) n)
+      → (ts : Trees) → Filled k true (these (shaped.one_or_absent shaped.a_binding ∷ shaped.one_or_absent (shaped.an_inner shaped.an_expression) ∷ shaped.one shaped.a_class_body ∷ shaped.one_or_absent shaped.a_binding ∷ [])) ts → shaped.holds_its_name false ts ≡ true → Comes k strict c (shape.Class false) ts
+  class_expression stands = with_four k true (shaped.one_or_absent shaped.a_binding) (shaped.one_or_absent (shaped.an_inner shaped.an_expression)) (shaped.one shaped.a_class_body) (shaped.one_or_absent shaped.a_binding)
+      (λ ts. shaped.holds_its_name false ts ≡ true → Comes k strict c (shape.Class false) ts)
+      (λ a b t u fa fb ft fu e m n. plain_back (suc (suc k)) strict c _ kind.ClassExpression (shape.Class false) _ m _ refl (stands (tree_data a) (tree_data b) (tree_data t)) refl refl
+      (optional_back k back true _ shaped.a_binding a refl fa (codes "id") refl & optional_back k back true _ (shaped.an_inner shaped.an_expression) b refl fb (codes "superClass") refl & child_back k back true _ shaped.a_class_body t refl ft (codes "body") refl
+      & no_name_held _ u fu e & no_children) n)

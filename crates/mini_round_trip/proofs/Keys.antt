@@ -53,6 +53,12 @@ both_spelled None (Some r) e = absurd (false≢true e)
 both_spelled (Some s) None e = absurd (false≢true e)
 both_spelled (Some s) (Some r) e = (s, r, refl, refl, e)
 
+-- what is spelled alike is written alike
+pub same_written : (t u : Tree) → is_named t ≡ true → is_named u ≡ true → is_same_spelling (spelling t) (spelling u) ≡ true → tree_data t ≡ tree_data u
+same_written t u k v e =
+    let (s, r, said, is, same) = both_spelled (spelling t) (spelling u) e in
+    spelled_data t s k said ∙ (ap name (text_same s r same) ∙ sym (spelled_data u r v is))
+
 -- the value of a shorthand property repeats its key
 pub repeats_plain : (key value : Tree) → is_named key ≡ true → is_named value ≡ true → is_same_spelling (spelling key) (spelling value) ≡ true → is_name_with_default (identifier_text (tree_data key)) (tree_data value) ≡ true
 repeats_plain key value k v e =

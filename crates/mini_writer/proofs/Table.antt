@@ -9,7 +9,7 @@ use Rattle.mini_model.specs.declared.operator.BinaryOperator.TheVariants as Bina
 use Rattle.mini_model.specs.declared.kind.PropertyKind.TheVariants as PropertyKind
 use Rattle.mini_written.specs.declared.members.Key.TheVariants as key
 use Rattle.mini_written.specs.Objects as objects
-use Rattle.mini_written.specs.Words.{unary_word, update_word, binary_word, logical_word, assignment_word, variable_word, property_word, method_word, class_type}
+use Rattle.mini_written.specs.Words.{unary_word, update_word, binary_word, logical_word, assignment_word, variable_word, property_word, method_word}
 use Rattle.mini_written.specs.Written.{of_one, of_two, of_three, of_four, node_data}
 use Rattle.mini_writer.specs.Rows.{Row, row_data, row}
 use Rattle.mini_writer.specs.Special.{special_data}
@@ -65,7 +65,6 @@ row_or_not shape.ForInStatement xs ds = three_row (record { kind = codes "ForInS
 row_or_not shape.ForOfStatement xs ds = three_row (record { kind = codes "ForOfStatement"; plain = (key.Await, boolean false) ∷ []; keys = key.Left ∷ key.Right ∷ key.Body ∷ [] }) objects.for_of_statement ds refl (λ a. refl) (λ a b. refl) (λ a b c. refl) (λ a b c z zs. refl)
 row_or_not (shape.VariableDeclaration kind) xs ds = one_row (record { kind = codes "VariableDeclaration"; plain = (key.Kind, string (variable_word kind)) ∷ []; keys = key.Declarations ∷ [] }) (objects.variable_declaration kind) ds refl (λ a. refl) (λ a z zs. refl)
 row_or_not shape.VariableDeclarator xs ds = two_row (record { kind = codes "VariableDeclarator"; plain = []; keys = key.Id ∷ key.Init ∷ [] }) objects.variable_declarator ds refl (λ a. refl) (λ a b. refl) (λ a b z zs. refl)
-row_or_not (shape.Class declaration) xs ds = three_row (record { kind = class_type declaration; plain = []; keys = key.Id ∷ key.SuperClass ∷ key.Body ∷ [] }) (objects.class declaration) ds refl (λ a. refl) (λ a b. refl) (λ a b c. refl) (λ a b c z zs. refl)
 row_or_not shape.ClassBody xs ds = one_row (record { kind = codes "ClassBody"; plain = []; keys = key.Body ∷ [] }) objects.class_body ds refl (λ a. refl) (λ a z zs. refl)
 row_or_not (shape.MethodDefinition kind computed is_static) xs ds = two_row (record { kind = codes "MethodDefinition"; plain = (key.Computed, boolean computed) ∷ (key.Kind, string (method_word kind)) ∷ (key.Static, boolean is_static) ∷ []; keys = key.Key ∷ key.Value ∷ [] }) (objects.method_definition kind computed is_static) ds refl (λ a. refl) (λ a b. refl) (λ a b z zs. refl)
 row_or_not (shape.PropertyDefinition computed is_static) xs ds = two_row (record { kind = codes "PropertyDefinition"; plain = (key.Computed, boolean computed) ∷ (key.Static, boolean is_static) ∷ []; keys = key.Key ∷ key.Value ∷ [] }) (objects.property_definition computed is_static) ds refl (λ a. refl) (λ a b. refl) (λ a b z zs. refl)
@@ -145,4 +144,5 @@ special_written (shape.TemplateElement tail raw c) xs ds e = refl
 special_written (shape.Program is_module directives) xs ds e = refl
 special_written (shape.Function declaration generator directives) xs ds e = refl
 special_written (shape.ArrowFunctionExpression directives) xs ds e = refl
+special_written (shape.Class declaration) xs ds e = refl
 special_written h xs ds e = absurd (cc e)

@@ -1,9 +1,10 @@
 -- The values of children, by how many there are.
-use Rattle.std.proofs.Common.{◌≡◌, List, [], ◌∷◌, ◌++◌, refl}
+use Rattle.std.proofs.Common.{◌≡◌, Bool, List, [], ◌∷◌, ◌++◌, refl}
 use Rattle.serde_json.specs.Data.{Data, null}
 use Rattle.serde_json.specs.View.{view, items_view}
 use Rattle.serde_json.specs.declared.value.Value.{Value}
-use Rattle.mini_written.specs.Written.{of_one, of_two, of_three}
+use Rattle.mini_written.specs.Objects as objects
+use Rattle.mini_written.specs.Written.{of_one, of_two, of_three, of_four, class}
 
 pub only_one : (f : Data → Data) (vs rest : List Value) (v : Value) → vs ≡ rest ++ v ∷ [] → rest ≡ [] → of_one f (items_view vs) ≡ f (view v)
 only_one f vs rest v is none = rw (is, none) refl
@@ -62,3 +63,19 @@ more_three f (x ∷ y ∷ z ∷ a ∷ bs) v w u h = refl
 
 pub more_than_three : (f : Data → Data → Data → Data) (vs ws us rest : List Value) (v w u : Value) → vs ≡ ws ++ v ∷ [] → ws ≡ us ++ w ∷ [] → us ≡ rest ++ u ∷ [] → (rest ≡ [] → ⊥) → of_three f (items_view vs) ≡ null
 more_than_three f vs ws us rest v w u is so too some = rw (is, so, too) (more_three f rest v w u some)
+
+-- ---- the four of a class, of which the last isn't written
+
+pub none_of_class : (declaration : Bool) (vs : List Value) → vs ≡ [] → of_four (class declaration) (items_view vs) ≡ null
+none_of_class declaration vs is = rw is refl
+
+left_of_class : (declaration : Bool) (rest : List Value) (v : Value) → of_four (class declaration) (items_view (rest ++ v ∷ [])) ≡ of_three (objects.class declaration) (items_view rest)
+left_of_class declaration [] v = refl
+left_of_class declaration (x ∷ []) v = refl
+left_of_class declaration (x ∷ y ∷ []) v = refl
+left_of_class declaration (x ∷ y ∷ z ∷ []) v = refl
+left_of_class declaration (x ∷ y ∷ z ∷ a ∷ []) v = refl
+left_of_class declaration (x ∷ y ∷ z ∷ a ∷ b ∷ bs) v = refl
+
+pub three_of_class : (declaration : Bool) (vs rest : List Value) (v : Value) → vs ≡ rest ++ v ∷ [] → of_four (class declaration) (items_view vs) ≡ of_three (objects.class declaration) (items_view rest)
+three_of_class declaration vs rest v is = rw is (left_of_class declaration rest v)

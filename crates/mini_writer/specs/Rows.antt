@@ -7,7 +7,7 @@ use Rattle.mini_model.specs.declared.shape.Shape.TheVariants as shape
 use Rattle.mini_written.specs.declared.members.Key as key_type
 use Rattle.mini_written.specs.declared.members.Key.TheVariants as key
 use Rattle.mini_written.specs.Keys.{key_text}
-use Rattle.mini_written.specs.Words.{unary_word, update_word, binary_word, logical_word, assignment_word, variable_word, property_word, method_word, class_type}
+use Rattle.mini_written.specs.Words.{unary_word, update_word, binary_word, logical_word, assignment_word, variable_word, property_word, method_word}
 
 abbrev pub Field : Type 0
 Field = key_type.Key × Data
@@ -85,9 +85,8 @@ expression_row (shape.MetaProperty kind) = of_kind (codes "MetaProperty") [] (ke
 expression_row shape.ImportExpression = of_kind (codes "ImportExpression") [] (key.Source ∷ [])
 expression_row h = None
 
--- functions, classes and modules
+-- parts of classes, and modules
 abbrev pub function_row : Shape → Option Row
-function_row (shape.Class declaration) = of_kind (class_type declaration) [] (key.Id ∷ key.SuperClass ∷ key.Body ∷ [])
 function_row shape.ClassBody = of_kind (codes "ClassBody") [] (key.Body ∷ [])
 function_row (shape.MethodDefinition kind computed is_static) = of_kind (codes "MethodDefinition") ((key.Computed, boolean computed) ∷ (key.Kind, string (method_word kind)) ∷ (key.Static, boolean is_static) ∷ []) (key.Key ∷ key.Value ∷ [])
 function_row (shape.PropertyDefinition computed is_static) = of_kind (codes "PropertyDefinition") ((key.Computed, boolean computed) ∷ (key.Static, boolean is_static) ∷ []) (key.Key ∷ key.Value ∷ [])

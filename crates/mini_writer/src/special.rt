@@ -10,7 +10,7 @@ ghost use Rattle.mini_written.specs.Written as written;
 ghost use Rattle.mini_writer.specs.Special.{special_data};
 ghost use Rattle.mini_written.specs.Written.{of_one};
 
-use crate::bodies::{arrow, function, program};
+use crate::bodies::{arrow, class, function, program};
 use itoa::Buffer;
 use mini_model::{Name, Shape, UnaryOperator};
 use mini_text::{BoxedText, Text};
@@ -208,6 +208,7 @@ pub fn special_value(
             function(alloc, *declaration, *generator, texts, below)
         }
         Shape::ArrowFunctionExpression(texts) => arrow(alloc, texts, below),
+        Shape::Class(declaration) => class(alloc, *declaration, below),
         _ => Ok(Value::Null),
     }
 }

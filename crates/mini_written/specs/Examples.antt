@@ -15,6 +15,9 @@ IsWritten t s = compact_text (tree_data t) ≡ s
 abbrev a : Tree
 a = identifier (unresolved (codes "a"))
 
+abbrev bound : List ℕ → Tree
+bound s = node shape.BindingIdentifier (unresolved s ∷ []) 0 none
+
 empty_script : IsWritten (program false [] none) (codes "{\"body\":[],\"sourceType\":\"script\",\"type\":\"Program\"}")
 unfolding escape_byte utf16_chars encode_utf8
 empty_script = refl
@@ -70,9 +73,14 @@ unfolding escape_byte utf16_chars encode_utf8
 strict_generator = refl
 
 -- class { #a; }
-private_field : IsWritten (node (shape.Class false) [] 0 (absent ▸ absent ▸ node shape.ClassBody [] 0 (listed (node (shape.PropertyDefinition false false) [] 0 (leaf (shape.PrivateIdentifier (codes "a")) ▸ absent ▸ none) ▸ none) ▸ none) ▸ none)) (codes "{\"body\":{\"body\":[{\"computed\":false,\"key\":{\"name\":\"a\",\"type\":\"PrivateIdentifier\"},\"static\":false,\"type\":\"PropertyDefinition\",\"value\":null}],\"type\":\"ClassBody\"},\"id\":null,\"superClass\":null,\"type\":\"ClassExpression\"}")
+private_field : IsWritten (node (shape.Class false) [] 0 (absent ▸ absent ▸ node shape.ClassBody [] 0 (listed (node (shape.PropertyDefinition false false) [] 0 (leaf (shape.PrivateIdentifier (codes "a")) ▸ absent ▸ none) ▸ none) ▸ none) ▸ absent ▸ none)) (codes "{\"body\":{\"body\":[{\"computed\":false,\"key\":{\"name\":\"a\",\"type\":\"PrivateIdentifier\"},\"static\":false,\"type\":\"PropertyDefinition\",\"value\":null}],\"type\":\"ClassBody\"},\"id\":null,\"superClass\":null,\"type\":\"ClassExpression\"}")
 unfolding escape_byte utf16_chars encode_utf8
 private_field = refl
+
+-- class a {}, which holds its name once more
+class_declaration : IsWritten (node (shape.Class true) [] 0 (bound (codes "a") ▸ absent ▸ node shape.ClassBody [] 0 (listed none ▸ none) ▸ bound (codes "a") ▸ none)) (codes "{\"body\":{\"body\":[],\"type\":\"ClassBody\"},\"id\":{\"name\":\"a\",\"type\":\"Identifier\"},\"superClass\":null,\"type\":\"ClassDeclaration\"}")
+unfolding escape_byte utf16_chars encode_utf8
+class_declaration = refl
 
 -- { a = b }, as a pattern
 shorthand_with_default : IsWritten (node shape.ObjectPattern [] 0 (listed (node (shape.BindingProperty true false) [] 0 (leaf (shape.IdentifierName (codes "a")) ▸ node shape.AssignmentPattern [] 0 (a ▸ identifier (unresolved (codes "b")) ▸ none) ▸ none) ▸ none) ▸ none)) (codes "{\"properties\":[{\"computed\":false,\"key\":{\"name\":\"a\",\"type\":\"Identifier\"},\"kind\":\"init\",\"method\":false,\"shorthand\":true,\"type\":\"Property\",\"value\":{\"left\":{\"name\":\"a\",\"type\":\"Identifier\"},\"right\":{\"name\":\"b\",\"type\":\"Identifier\"},\"type\":\"AssignmentPattern\"}}],\"type\":\"ObjectPattern\"}")

@@ -75,6 +75,10 @@ function declaration generator directives id params d = objects.function declara
 abbrev pub arrow : List (List ℕ) → Data → Data → Data
 arrow directives params d = objects.arrow_function_expression params (body directives d) (is_expression d)
 
+-- the name that a class holds once more isn't written again
+abbrev pub class : Bool → Data → Data → Data → Data → Data
+class declaration id super_class d again = objects.class declaration id super_class d
+
 -- ---- a node, of what its children are written as
 
 abbrev pub node_data : Shape → List Name → Items → Data
@@ -108,7 +112,7 @@ node_data shape.VariableDeclarator xs ds = of_two objects.variable_declarator ds
 node_data (shape.Function declaration generator directives) xs ds = of_three (function declaration generator directives) ds
 node_data (shape.ArrowFunctionExpression directives) xs ds = of_two (arrow directives) ds
 node_data shape.FunctionBody xs ds = of_one (λ d. d) ds
-node_data (shape.Class declaration) xs ds = of_three (objects.class declaration) ds
+node_data (shape.Class declaration) xs ds = of_four (class declaration) ds
 node_data shape.ClassBody xs ds = of_one objects.class_body ds
 node_data (shape.MethodDefinition kind computed is_static) xs ds = of_two (objects.method_definition kind computed is_static) ds
 node_data (shape.PropertyDefinition computed is_static) xs ds = of_two (objects.property_definition computed is_static) ds
