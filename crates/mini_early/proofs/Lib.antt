@@ -1,0 +1,4 @@
+mod Places
+mod Earlier
+mod Walk
+mod Folds
