@@ -1,0 +1,4 @@
+mod Once
+mod Opened
+mod Walk
+mod Counting

@@ -1,0 +1,23 @@
+use Rattle.std.proofs.Common.{◌≡◌, ◌∙◌, ap, arith, ◌++◌, length, drop}
+use Rattle.std.proofs.lemmas.List.{drop-map}
+use Rattle.std.proofs.lemmas.Grind.{common_steps}
+use Rattle.mini_names.specs.DeclaredNames.{with_names}
+use Rattle.mini_scope.specs.ScopeAt.{bound}
+use Rattle.mini_scope.proofs.Once.{no_names, longer, bound_length}
+use Rattle.mini_scope.proofs.distinct.scope_of.Goals as goal
+
+pub returns-then-is_empty : goal.returns-then-is_empty
+returns-then-is_empty c = c.new.ensures.items ∙ no_names c.args.hoists c.args.given.items c.args.names.items (let nothing : length c.args.names.items ≡ 0 = grind (arith, common_steps) in nothing)
+
+pub split_off-requires : goal.split_off-requires
+split_off-requires c =
+    let seen = c.args.given.items in
+    let whole = c.into_bindings-bindings.ensures ∙ c.in_ok-add_distinct.ensures seen (c.in_ok-add_all.ensures ∙ ap (λ r. r ++ bound c.args.hoists seen) c.in_ok-scope.ensures) in
+    omega (arith, ap length whole, bound_length c.args.hoists (with_names seen c.args.names.items), longer seen c.args.names.items)
+
+pub returns-in-Ok : goal.returns-in-Ok
+returns-in-Ok c =
+    let seen = c.args.given.items in
+    let whole = c.into_bindings-bindings.ensures ∙ c.in_ok-add_distinct.ensures seen (c.in_ok-add_all.ensures ∙ ap (λ r. r ++ bound c.args.hoists seen) c.in_ok-scope.ensures) in
+    let count : c.len-count.result ≡ length seen = omega arith in
+    c.in-Ok.ensures.tail ∙ ap (λ k. drop k c.into_bindings-bindings.result.items) count ∙ ap (drop (length seen)) whole ∙ drop-map _ (length seen) (with_names seen c.args.names.items)

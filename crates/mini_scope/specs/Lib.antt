@@ -1,0 +1,2 @@
+pub mod ScopeAt
+pub mod Own

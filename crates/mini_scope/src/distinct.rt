@@ -1,0 +1,57 @@
+//! The names of a scope, each once.
+
+ghost use Rattle.std.specs.Prelude.{◌≡◌, List, ◌++◌, [], drop, length, IfOk, OnOk};
+ghost use Rattle.mini_model.specs.declared.name.Name.{Name as NameOf};
+ghost use Rattle.mini_names.specs.DeclaredNames.{with_names};
+ghost use Rattle.mini_scope.specs.ScopeAt.{bound};
+
+use mini_early::Environment;
+use mini_model::Name;
+use mini_names::{Binding, Use};
+use mini_text::OutOfMemory;
+use std::alloc::Global;
+
+/// Adds these names.
+fn add_all(scope: &mut Environment, names: Vec<Name>, hoists: bool) -> Result<(), OutOfMemory>
+    ensures { OnOk result (scope.new ≡ scope.old ++ bound hoists names.items) }
+{
+    for name in names {
+        scope.push(Binding { name, hoists })?;
+    }
+    Ok(())
+}
+
+/// Adds each of the names where none has its spelling yet.
+fn add_distinct(scope: &mut Environment, names: Vec<Name>, hoists: bool) -> Result<(), OutOfMemory>
+    ensures { (seen : List NameOf) → scope.old ≡ bound hoists seen → OnOk result (scope.new ≡ bound hoists (with_names seen names.items)) }
+{
+    for name in names {
+        if !scope.has(Use::Read, &name.spelling) {
+            scope.push(Binding { name, hoists })?;
+        }
+    }
+    Ok(())
+}
+
+/// The scope of these names without those given first.
+pub fn scope_of(
+    alloc: Global,
+    given: Vec<Name>,
+    names: Vec<Name>,
+    hoists: bool,
+) -> Result<Vec<Binding>, OutOfMemory>
+    ensures { IfOk result (λ scope. scope.items ≡ bound hoists (drop (length given.items) (with_names given.items names.items))) }
+{
+    if names.is_empty() {
+        return Ok(Vec::new(alloc));
+    }
+    let count = given.len();
+    let mut scope = Environment::new(alloc, names.len() / 2 + 1)?;
+    add_all(&mut scope, given, hoists)?;
+    add_distinct(&mut scope, names, hoists)?;
+    let mut bindings = scope.into_bindings();
+    match bindings.split_off(count) {
+        Ok(own) => Ok(own),
+        Err(_) => Err(OutOfMemory),
+    }
+}

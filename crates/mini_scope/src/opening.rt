@@ -1,0 +1,186 @@
+//! The scopes that a node opens.
+
+ghost use Rattle.std.specs.Prelude.{◌≡◌, ℕ, ◌<◌, [], ◌∷◌, map, drop, length, IfOk};
+ghost use Rattle.mini_model.specs.Tree.{children, shape_of};
+ghost use Rattle.mini_node.specs.Children.{trees_of};
+ghost use Rattle.mini_names.specs.declared.Declared.TheVariants as declared;
+ghost use Rattle.mini_names.specs.DeclaredNames.{names_of, body_names};
+ghost use Rattle.mini_names.specs.Scopes.{opened, at_or_empty, scopes_by, name_if, lexical_scope as scope_of_names, body_scope as scope_of_body, merged};
+
+use crate::distinct::scope_of;
+use mini_early::{has_inner, opening_of, push_body_names, push_names};
+use mini_model::Name;
+use mini_names::{Binding, Declared, Opening, Use};
+use mini_node::Node;
+use mini_text::OutOfMemory;
+use std::alloc::Global;
+use std::mem;
+
+/// The names that a node declares before its first child, before the second, and before the third.
+#[derive(Drop)]
+pub struct OpenScopes {
+    pub first: Vec<Binding>,
+    pub second: Vec<Binding>,
+    pub third: Vec<Binding>,
+}
+
+/// The scope of the names that a node declares in a block.
+fn lexical_scope(
+    alloc: Global,
+    declared: Declared,
+    node: &Node,
+) -> Result<Vec<Binding>, OutOfMemory>
+    ensures { IfOk result (λ scope. scope.items ≡ scope_of_names (names_of declared node.now)) }
+{
+    let mut names = Vec::new(alloc);
+    push_names(alloc, declared, node, &mut names)?;
+    scope_of(alloc, Vec::new(alloc), names, false)
+}
+
+/// The scope of a function's parameters.
+fn parameter_scope(alloc: Global, params: &Node) -> Result<Vec<Binding>, OutOfMemory>
+    ensures { IfOk result (λ scope. scope.items ≡ scope_of_body [] (names_of declared.Bound params.now)) }
+{
+    let mut names = Vec::new(alloc);
+    push_names(alloc, Declared::Bound, params, &mut names)?;
+    scope_of(alloc, Vec::new(alloc), names, true)
+}
+
+/// The scope of a body's names, but those that are among the names given.
+fn body_scope(alloc: Global, params: Vec<Name>, body: &Node) -> Result<Vec<Binding>, OutOfMemory>
+    ensures { IfOk result (λ scope. scope.items ≡ scope_of_body params.items (body_names body.now)) }
+{
+    let mut names = Vec::new(alloc);
+    push_body_names(alloc, body, &mut names)?;
+    scope_of(alloc, params, names, true)
+}
+
+/// The names of parameters that are those of the body too.
+fn merged_names(alloc: Global, params: &Node) -> Result<Vec<Name>, OutOfMemory>
+    ensures { IfOk result (λ names. names.items ≡ merged params.now) }
+{
+    let mut names = Vec::new(alloc);
+    if !has_inner(params) {
+        push_names(alloc, Declared::Bound, params, &mut names)?;
+    }
+    Ok(names)
+}
+
+/// The scope of a function's or class's own name, where it has one.
+fn name_scope(alloc: Global, holds: bool, id: &Node) -> Result<Vec<Binding>, OutOfMemory>
+    ensures { IfOk result (λ scope. scope.items ≡ scope_of_names (name_if holds id.now)) }
+{
+    if holds {
+        lexical_scope(alloc, Declared::Bound, id)
+    } else {
+        Ok(Vec::new(alloc))
+    }
+}
+
+impl OpenScopes {
+    ghost use Rattle.mini_scope.specs.ScopeAt.{scope_at};
+
+    /// No scope.
+    fn none(alloc: Global) -> OpenScopes
+        ensures first { result.first.items ≡ [] }
+        ensures second { result.second.items ≡ [] }
+        ensures third { result.third.items ≡ [] }
+    {
+        OpenScopes {
+            first: Vec::new(alloc),
+            second: Vec::new(alloc),
+            third: Vec::new(alloc),
+        }
+    }
+
+    /// One scope, for all children.
+    fn one(alloc: Global, first: Vec<Binding>) -> OpenScopes
+        ensures first { result.first.items ≡ first.items }
+        ensures second { result.second.items ≡ [] }
+        ensures third { result.third.items ≡ [] }
+    {
+        OpenScopes {
+            first,
+            second: Vec::new(alloc),
+            third: Vec::new(alloc),
+        }
+    }
+
+    /// Takes out those before the child at an index.
+    pub fn take(&mut self, alloc: Global, at: usize) -> Vec<Binding>
+        ensures value { result.items ≡ scope_at self.old at }
+        ensures rest { (k : ℕ) → at < k → scope_at self.new k ≡ scope_at self.old k }
+    {
+        match at {
+            0 => mem::replace(&mut self.first, Vec::new(alloc)),
+            1 => mem::replace(&mut self.second, Vec::new(alloc)),
+            2 => mem::replace(&mut self.third, Vec::new(alloc)),
+            _ => Vec::new(alloc),
+        }
+    }
+
+    /// The scopes that a node opens.
+    pub fn of(alloc: Global, usage: Use, node: &Node) -> Result<OpenScopes, OutOfMemory>
+        ensures { IfOk result (λ scopes. scope_at scopes ≡ opened usage (shape_of node.now) (children node.now)) }
+    {
+        OpenScopes::by(alloc, opening_of(usage, node.shape()), node.parts())
+    }
+
+    fn by(alloc: Global, opening: Opening, nodes: &[Node]) -> Result<OpenScopes, OutOfMemory>
+        ensures { IfOk result (λ scopes. scope_at scopes ≡ at_or_empty (scopes_by opening (trees_of nodes.now))) }
+    {
+        match opening {
+            Opening::Nothing => Ok(OpenScopes::none(alloc)),
+            Opening::Body => match nodes {
+                [body, ..] => Ok(OpenScopes::one(alloc, body_scope(alloc, Vec::new(alloc), body)?)),
+                [] => Ok(OpenScopes::none(alloc)),
+            },
+            Opening::Function(own) => match nodes {
+                [id, params, body, ..] => Ok(OpenScopes {
+                    first: name_scope(alloc, own, id)?,
+                    second: parameter_scope(alloc, params)?,
+                    third: body_scope(alloc, merged_names(alloc, params)?, body)?,
+                }),
+                _ => Ok(OpenScopes::none(alloc)),
+            },
+            Opening::Arrow => match nodes {
+                [params, body, ..] => Ok(OpenScopes {
+                    first: parameter_scope(alloc, params)?,
+                    second: body_scope(alloc, merged_names(alloc, params)?, body)?,
+                    third: Vec::new(alloc),
+                }),
+                _ => Ok(OpenScopes::none(alloc)),
+            },
+            Opening::Class(own, inside) => match nodes {
+                [id, again, ..] => Ok(OpenScopes {
+                    first: name_scope(alloc, own, id)?,
+                    second: name_scope(alloc, inside, again)?,
+                    third: Vec::new(alloc),
+                }),
+                _ => Ok(OpenScopes::none(alloc)),
+            },
+            Opening::First => match nodes {
+                [first, ..] => Ok(OpenScopes::one(
+                    alloc,
+                    lexical_scope(alloc, Declared::Lexical, first)?,
+                )),
+                [] => Ok(OpenScopes::none(alloc)),
+            },
+            Opening::Second => match nodes {
+                [_first, second, ..] => Ok(OpenScopes {
+                    first: Vec::new(alloc),
+                    second: lexical_scope(alloc, Declared::Lexical, second)?,
+                    third: Vec::new(alloc),
+                }),
+                _ => Ok(OpenScopes::none(alloc)),
+            },
+            Opening::Bound => match nodes {
+                [first, ..] => Ok(OpenScopes::one(
+                    alloc,
+                    lexical_scope(alloc, Declared::Bound, first)?,
+                )),
+                [] => Ok(OpenScopes::none(alloc)),
+            },
+        }
+    }
+}

@@ -1,0 +1,106 @@
+//! Resolution: the symbol of each name.
+
+ghost use Rattle.std.specs.Prelude.{◌≡◌, ◌+◌, ◌^◌, ◌<◌, length, take, map, IfOk};
+ghost use Rattle.mini_node.specs.Children.{like, names_of, with_names};
+ghost use Rattle.mini_names.specs.Scopes.{use_of as use_at};
+ghost use Rattle.mini_names.specs.Resolved.{with_symbol, symbols, symbols_from, resolved, resolved_from, resolved_program};
+ghost use Rattle.mini_names.specs.declared.Use.TheVariants as variant;
+ghost use Rattle.mini_scope.specs.ScopeAt.{scope_at};
+
+use crate::opening::OpenScopes;
+use mini_early::{Environment, use_of};
+use mini_model::Shape;
+use mini_names::Use;
+use mini_node::{Node, Nodes};
+use mini_text::OutOfMemory;
+use std::alloc::Global;
+
+fn give_symbol(environment: &Environment, usage: Use, node: &mut Node)
+    ensures { node.new ≡ with_names node.old (map (with_symbol usage environment.now) (names_of node.old)) }
+{
+    if let Some(name) = node.name_mut() {
+        name.symbol = environment.symbol_of(usage, &name.spelling);
+    }
+}
+
+fn put_children(node: &mut Node, children: Nodes)
+    ensures { node.new ≡ like node.old children }
+{
+    *node.children_mut() = children;
+}
+
+/// Gives the names of a node and of all below it their symbols. The number after the new ones.
+#[cycle(resolve)]
+pub fn resolve_node(
+    alloc: Global,
+    environment: &mut Environment,
+    next: u32,
+    usage: Use,
+    node: &mut Node,
+) -> Result<u32, OutOfMemory>
+    requires { next + symbols usage node.old < 2 ^ 32 }
+    ensures after { IfOk result (λ after. after ≡ next + symbols usage node.old) }
+    ensures resolved { IfOk result (λ after. node.new ≡ resolved usage environment.old next node.old) }
+    ensures left { IfOk result (λ after. environment.new ≡ environment.old) }
+{
+    let scopes = OpenScopes::of(alloc, usage, node)?;
+    give_symbol(environment, usage, node);
+    let around = environment.len();
+    let mut children = node.take_children();
+    let after = resolve_nodes(
+        alloc,
+        environment,
+        next,
+        usage,
+        node.shape(),
+        scopes,
+        &mut children,
+    )?;
+    put_children(node, children);
+    environment.leave(around);
+    Ok(after)
+}
+
+/// The same for the children of a node of this shape, which opens these scopes.
+#[cycle(resolve)]
+fn resolve_nodes(
+    alloc: Global,
+    environment: &mut Environment,
+    next: u32,
+    usage: Use,
+    shape: &Shape,
+    scopes: OpenScopes,
+    nodes: &mut Nodes,
+) -> Result<u32, OutOfMemory>
+    requires { next + symbols_from (scope_at scopes) (use_at shape.now usage) 0 nodes.old < 2 ^ 32 }
+    ensures after { IfOk result (λ after. after ≡ next + symbols_from (scope_at scopes) (use_at shape.now usage) 0 nodes.old) }
+    ensures resolved { IfOk result (λ after. nodes.new ≡ resolved_from (scope_at scopes) (use_at shape.now usage) 0 environment.old next nodes.old) }
+    ensures within { IfOk result (λ after. take (length environment.old) environment.new ≡ environment.old) }
+{
+    let mut scopes = scopes;
+    let mut next = next;
+    for at in 0..nodes.len() {
+        next = environment.enter(next, scopes.take(alloc, at))?;
+        next = resolve_node(
+            alloc,
+            environment,
+            next,
+            use_of(shape, usage, at),
+            nodes.child_mut(at),
+        )?;
+    }
+    Ok(next)
+}
+
+/// The number of buckets for the names in scope.
+const BUCKETS: usize = 65536;
+
+/// Gives the names of a program their symbols, and says how many there are.
+pub fn resolve_program(alloc: Global, program: &mut Node) -> Result<u32, OutOfMemory>
+    requires { symbols variant.Read program.old < 2 ^ 32 }
+    ensures count { IfOk result (λ count. count ≡ symbols variant.Read program.old) }
+    ensures resolved { IfOk result (λ count. program.new ≡ resolved_program program.old) }
+{
+    let mut environment = Environment::new(alloc, BUCKETS)?;
+    resolve_node(alloc, &mut environment, 0, Use::Read, program)
+}
