@@ -1,6 +1,5 @@
 -- The types of nodes (ESTree, ES5 to ES2022).
 use Rattle.std.specs.Prelude.{ℕ, List, [], ◌∷◌, codes}
-
 pub use Rattle.mini_accept.specs.declared.kind.Kind.{Kind}
 pub use Rattle.mini_accept.specs.declared.kind.Kind.TheVariants.{Program, ExpressionStatement, EmptyStatement, DebuggerStatement, BlockStatement, LabeledStatement, BreakStatement, ContinueStatement, ReturnStatement, ThrowStatement, IfStatement, SwitchStatement, SwitchCase, TryStatement, CatchClause, WhileStatement, DoWhileStatement, ForStatement, ForInStatement, ForOfStatement, VariableDeclaration, VariableDeclarator, FunctionDeclaration, FunctionExpression, ArrowFunctionExpression, ClassDeclaration, ClassExpression, ClassBody, MethodDefinition, PropertyDefinition, StaticBlock, ImportDeclaration, ImportSpecifier, ImportDefaultSpecifier, ImportNamespaceSpecifier, ExportNamedDeclaration, ExportSpecifier, ExportDefaultDeclaration, ExportAllDeclaration, Identifier, PrivateIdentifier, Literal, ThisExpression, Super, ArrayExpression, ObjectExpression, Property, SpreadElement, UnaryExpression, UpdateExpression, BinaryExpression, LogicalExpression, AssignmentExpression, ConditionalExpression, SequenceExpression, CallExpression, NewExpression, MemberExpression, ChainExpression, YieldExpression, TemplateLiteral, TemplateElement, TaggedTemplateExpression, MetaProperty, ImportExpression, ObjectPattern, ArrayPattern, RestElement, AssignmentPattern}
 
