@@ -30,3 +30,4 @@ pub mod Preorder
 pub mod Missing
 pub mod Apart
 pub mod Anywhere
+pub mod Breaking

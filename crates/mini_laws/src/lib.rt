@@ -20,7 +20,7 @@ ghost use Rattle.mini_laws.specs.Rows.{NegationSame, LighterNegationSame, Row23S
 ghost use Rattle.mini_laws.specs.Stretches.{StretchSame, StretchAnywhere};
 ghost use Rattle.mini_laws.specs.Steady.{Steady};
 ghost use Rattle.mini_laws.specs.Substitution.{NumberSame};
-ghost use Rattle.mini_laws.specs.Tails.{TailSame, InEachTail, LastJumpSame};
+ghost use Rattle.mini_laws.specs.Tails.{TailSame, InEachTail, LastJumpSame, BlockBreaks, LastBreakSame};
 ghost use Rattle.mini_laws.specs.Truth.{Coherent};
 ghost use Rattle.mini_laws.specs.Weights.{Replacement, OwnWeightKept, ReplacementFalls, FallsOtherwise, WholeFalls, AnyStepLighter, AnyReachesLighter, StepLighter, ReachesLighter};
 
@@ -139,6 +139,13 @@ pub fn tails()
     ensures tail { TailSame }
     ensures each { InEachTail }
     ensures jump { LastJumpSame }
+{}
+
+/// A block that ends with `break` does what the block without it does, and then breaks: so that may go from the body of a
+/// `do` whose test is false.
+pub fn last_breaks()
+    ensures block { BlockBreaks }
+    ensures loop_body { LastBreakSame }
 {}
 
 /// `if (a) return b; return c;` means what `return a ? b : c;` does, in any tail.
