@@ -3,17 +3,17 @@ use Rattle.std.proofs.Common.{◌≡◌, refl, ap, ℕ, zero, suc, ◌*◌, ◌-
 use Rattle.std.specs.Prelude.{Option, Some, None}
 use Rattle.mini_model.specs.Tree.{Tree, Trees, none, ◌▸◌, count}
 use Rattle.mini_model.specs.Paths.{child_at}
-use Rattle.mini_model.specs.Weight.{outline, outlines, nth_is_absent, nth_items, first_is_zero, first_chooses, one_chooses, commas_weight}
+use Rattle.mini_model.specs.Weight.{Outline, outline, outlines, nth_is_absent, nth_items, first_is_zero, first_chooses, one_chooses, commas_weight}
 use Rattle.mini_node.specs.Children.{trees_of}
 
 pub length_outlines : (ts : Trees) → length (outlines ts) ≡ count ts
 length_outlines none = refl
 length_outlines (t ▸ ts) = ap suc (length_outlines ts)
 
-pub commas_weight_outlines : (ts : Trees) → commas_weight (outlines ts) ≡ 2 * (count ts - 1)
-commas_weight_outlines none = refl
-commas_weight_outlines (t ▸ none) = refl
-commas_weight_outlines (t ▸ u ▸ ts) = omega (arith, commas_weight_outlines (u ▸ ts))
+pub commas_between : (os : List Outline) → commas_weight os ≡ 2 * (length os - 1)
+commas_between [] = refl
+commas_between (o ∷ []) = refl
+commas_between (o ∷ q ∷ os) = omega (arith, commas_between (q ∷ os))
 
 pub one_chooses_of_many : (xs : List Tree) → 2 ≤ length xs → one_chooses (outlines (trees_of xs)) ≡ false
 one_chooses_of_many [] h = absurd (omega arith)

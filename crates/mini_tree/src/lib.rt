@@ -123,6 +123,7 @@ pub use mini_text::TextList;
 pub use mini_text::is_identifier_name;
 pub use options::CompressOptions;
 pub use options::KeepNames;
+pub use outline::Outlined;
 pub use place::child_place;
 pub use place::seat_at_place;
 pub use weigh::expr_weight;

@@ -1,12 +1,11 @@
 //! What its place adds to a node.
 
 ghost use Rattle.std.specs.Prelude.{◌≡◌, ◌≤◌};
-ghost use Rattle.mini_model.specs.Weight.{outlines, level_of, mixes as mixes_shape, is_chain as is_chain_shape, is_call as is_call_shape, is_plain as is_plain_shape, is_unequal as is_unequal_shape, is_sequence as is_sequence_shape, parentheses as parentheses_of, awkward_weight, bare_weight, place_weight as weight_of_place};
+ghost use Rattle.mini_model.specs.Weight.{level_of, mixes as mixes_shape, is_chain as is_chain_shape, is_call as is_call_shape, is_plain as is_plain_shape, is_unequal as is_unequal_shape, is_sequence as is_sequence_shape, parentheses as parentheses_of, awkward_weight, bare_weight, place_weight as weight_of_place};
 
-use crate::outline::{is_absent_at, is_first_zero, items_at};
+use crate::outline::Outlined;
 use crate::seats;
 use mini_model::{BinaryOperator, Mix, Position, Seat, Shape, StmtSeat, UnaryOperator};
-use mini_node::Nodes;
 
 fn level(shape: &Shape) -> u8
     ensures { result ≡ level_of shape.now }
@@ -70,8 +69,8 @@ pub fn parentheses(shape: &Shape, seat: Seat) -> u64
 }
 
 // A literal, or what stands for one.
-fn is_plain(shape: &Shape, children: &Nodes) -> bool
-    ensures { result ≡ is_plain_shape shape.now (outlines children.now) }
+fn is_plain<C: Outlined>(shape: &Shape, children: &C) -> bool
+    ensures { result ≡ is_plain_shape shape.now (C.below children.now) }
 {
     match shape {
         Shape::NumericLiteral(_)
@@ -79,8 +78,8 @@ fn is_plain(shape: &Shape, children: &Nodes) -> bool
         | Shape::BooleanLiteral(_)
         | Shape::NullLiteral
         | Shape::BigIntLiteral(_) => true,
-        Shape::TemplateLiteral => items_at(children, 1) == 0,
-        Shape::UnaryExpression(UnaryOperator::Void) => is_first_zero(children),
+        Shape::TemplateLiteral => children.items(1) == 0,
+        Shape::UnaryExpression(UnaryOperator::Void) => children.is_zero_first(),
         _ => false,
     }
 }
@@ -103,9 +102,9 @@ fn is_sequence(shape: &Shape) -> bool
 }
 
 // The forms that a lighter one is wanted for.
-fn awkward(shape: &Shape, children: &Nodes, seat: Seat) -> u64
+fn awkward<C: Outlined>(shape: &Shape, children: &C, seat: Seat) -> u64
     ensures within { result ≤ 1 }
-    ensures weight { result ≡ awkward_weight seat shape.now (outlines children.now) }
+    ensures weight { result ≡ awkward_weight seat shape.now (C.below children.now) }
 {
     if seat.eq_left && is_plain(shape, children)
         || seat.cond_test && is_unequal(shape)
@@ -127,8 +126,8 @@ fn bare(seat: StmtSeat) -> u64
 }
 
 /// What its place adds to a node.
-pub fn place_weight(shape: &Shape, children: &Nodes, place: Position) -> u64
-    ensures { result ≡ weight_of_place place shape.now (outlines children.now) }
+pub fn place_weight<C: Outlined>(shape: &Shape, children: &C, place: Position) -> u64
+    ensures { result ≡ weight_of_place place shape.now (C.below children.now) }
 {
     match place {
         Position::Expr(seat) => parentheses(shape, seat) + awkward(shape, children, seat),
@@ -137,11 +136,11 @@ pub fn place_weight(shape: &Shape, children: &Nodes, place: Position) -> u64
     }
 }
 
-fn statement_marks(shape: &Shape, children: &Nodes, seat: StmtSeat) -> u64
-    ensures { result ≡ weight_of_place (Position.Stmt seat) shape.now (outlines children.now) }
+fn statement_marks<C: Outlined>(shape: &Shape, children: &C, seat: StmtSeat) -> u64
+    ensures { result ≡ weight_of_place (Position.Stmt seat) shape.now (C.below children.now) }
 {
     match shape {
-        Shape::IfStatement if !is_absent_at(children, 2) => bare(seat),
+        Shape::IfStatement if !children.is_absent(2) => bare(seat),
         _ => 0,
     }
 }

@@ -7,26 +7,79 @@ ghost use Rattle.mini_model.specs.Weight.{outline, outlines, nth_is_absent, nth_
 use mini_model::Shape;
 use mini_node::{Node, Nodes};
 
-fn is_absent(node: &Node) -> bool
+/// Children as the weight of the node above them reads them, be they there or not made yet.
+pub trait Outlined {
+    ghost use Rattle.std.specs.Prelude.{List};
+    ghost use Rattle.mini_model.specs.Weight.{Outline};
+
+    ghost below: { Self → List Outline };
+
+    /// How many there are.
+    fn how_many(&self) -> usize
+        ensures { result ≡ length (below self.now) };
+
+    /// Whether the child at a place is absent.
+    fn is_absent(&self, at: usize) -> bool
+        ensures { result ≡ nth_is_absent (below self.now) at };
+
+    /// How many items the list at a place has; 0 of another child.
+    fn items(&self, at: usize) -> usize
+        ensures { result ≡ nth_items (below self.now) at };
+
+    /// Whether the first child is the literal 0.
+    fn is_zero_first(&self) -> bool
+        ensures { result ≡ first_is_zero (below self.now) };
+
+    /// Whether the first child is an `if` with `else`, or a list of one such alone.
+    fn chooses_first(&self) -> bool
+        ensures { result ≡ first_chooses (below self.now) };
+}
+
+impl Outlined for Nodes {
+    ghost below = { outlines };
+
+    #[tactic(auto, using(crate::proofs::Outlines::length_outlines))]
+    fn how_many(&self) -> usize {
+        self.len()
+    }
+
+    fn is_absent(&self, at: usize) -> bool {
+        is_absent_at(self, at)
+    }
+
+    fn items(&self, at: usize) -> usize {
+        items_at(self, at)
+    }
+
+    fn is_zero_first(&self) -> bool {
+        is_first_zero(self)
+    }
+
+    fn chooses_first(&self) -> bool {
+        first_choice(self)
+    }
+}
+
+fn is_hole(node: &Node) -> bool
     ensures { result ≡ (outline node.now).absent }
 {
     matches!(node.shape(), Shape::Absent)
 }
 
-/// Whether the child at a place is absent.
+// Whether the child at a place is absent.
 #[tactic(auto, using(crate::proofs::Outlines::nth_absent))]
-pub fn is_absent_at(children: &Nodes, at: usize) -> bool
+fn is_absent_at(children: &Nodes, at: usize) -> bool
     ensures { result ≡ nth_is_absent (outlines children.now) at }
 {
     match children.get(at) {
         None => true,
-        Some(child) => is_absent(child),
+        Some(child) => is_hole(child),
     }
 }
 
 // How many items a list has; 0 of another node.
 #[tactic(auto, using(crate::proofs::Outlines::length_outlines))]
-fn items(node: &Node) -> usize
+fn listed_items(node: &Node) -> usize
     ensures { result ≡ (outline node.now).items }
 {
     match node.shape() {
@@ -35,14 +88,14 @@ fn items(node: &Node) -> usize
     }
 }
 
-/// How many items the list at a place has.
+// How many items the list at a place has.
 #[tactic(auto, using(crate::proofs::Outlines::nth_count))]
-pub fn items_at(children: &Nodes, at: usize) -> usize
+fn items_at(children: &Nodes, at: usize) -> usize
     ensures { result ≡ nth_items (outlines children.now) at }
 {
     match children.get(at) {
         None => 0,
-        Some(child) => items(child),
+        Some(child) => listed_items(child),
     }
 }
 
@@ -55,9 +108,9 @@ fn is_zero(node: &Node) -> bool
     }
 }
 
-/// Whether the first child is the literal 0.
+// Whether the first child is the literal 0.
 #[tactic(auto, using(crate::proofs::Outlines::first_zero))]
-pub fn is_first_zero(children: &Nodes) -> bool
+fn is_first_zero(children: &Nodes) -> bool
     ensures { result ≡ first_is_zero (outlines children.now) }
 {
     match children.get(0) {
@@ -89,9 +142,9 @@ fn one_choice(children: &Nodes) -> bool
     }
 }
 
-/// Whether the first child is such a one.
+// Whether the first child is such a one.
 #[tactic(auto, using(crate::proofs::Outlines::first_choice))]
-pub fn first_choice(children: &Nodes) -> bool
+fn first_choice(children: &Nodes) -> bool
     ensures { result ≡ first_chooses (outlines children.now) }
 {
     match children.get(0) {

@@ -2,17 +2,16 @@
 
 ghost use Rattle.std.specs.Prelude.{◌≡◌, [], false};
 ghost use Rattle.mini_model.specs.declared.shape.Shape.TheVariants as shape;
-ghost use Rattle.mini_model.specs.Weight.{capped, outlines, names_weight as weight_of_names, list_weight as weight_of_list, where_present as present_weight, block_weight as weight_of_block, declaration_end as end_of_declaration, function_weight, text_weight as weight_of_text};
+ghost use Rattle.mini_model.specs.Weight.{capped, names_weight as weight_of_names, list_weight as weight_of_list, where_present as present_weight, block_weight as weight_of_block, declaration_end as end_of_declaration, function_weight, text_weight as weight_of_text};
 ghost use Rattle.mini_node.specs.Children.{names};
 
-use crate::outline::{first_choice, is_absent_at, items_at};
+use crate::outline::Outlined;
 use crate::own::{
     assignment_operator_weight, big_int_weight, binary_operator_weight, commas, declaring_weight,
     directives_weight, flagged, method_kind_weight, name_weight, number_weight, property_weight,
     quoted_weight, template_weight, twice_length, unary_operator_weight,
 };
 use mini_model::{Name, Position, Shape, StmtSeat};
-use mini_node::Nodes;
 use mini_text::{BoxedText, TextList};
 
 fn optional_name_weight(name: &Option<Name>) -> u64
@@ -25,13 +24,13 @@ fn optional_name_weight(name: &Option<Name>) -> u64
 }
 
 // The commas of a list.
-#[tactic(auto, using(crate::proofs::Outlines::commas_weight_outlines))]
-fn list_weight(items: &Nodes, place: Position) -> u64
-    ensures { result ≡ capped (weight_of_list place (outlines items.now)) }
+#[tactic(auto, using(crate::proofs::Outlines::commas_between))]
+fn list_weight<C: Outlined>(items: &C, place: Position) -> u64
+    ensures { result ≡ capped (weight_of_list place (C.below items.now)) }
 {
     match place {
         Position::ArgumentList | Position::SequenceList(_) | Position::CommaList => commas(
-            items.len(),
+            items.how_many(),
         ),
         Position::Expr(_)
         | Position::Stmt(_)
@@ -45,24 +44,20 @@ fn list_weight(items: &Nodes, place: Position) -> u64
 }
 
 // The braces of a block.
-fn block_weight(body: &Nodes, place: Position) -> u64
-    ensures { result ≡ weight_of_block place (outlines body.now) }
+fn block_weight<C: Outlined>(body: &C, place: Position) -> u64
+    ensures { result ≡ weight_of_block place (C.below body.now) }
 {
     match place {
-        Position::Stmt(StmtSeat::Consequent) if first_choice(body) => 0,
+        Position::Stmt(StmtSeat::Consequent) if body.chooses_first() => 0,
         _ => 4,
     }
 }
 
 // What is there where a part is.
-fn where_present(children: &Nodes, at: usize, weight: u64) -> u64
-    ensures { result ≡ present_weight (outlines children.now) at weight }
+fn where_present<C: Outlined>(children: &C, at: usize, weight: u64) -> u64
+    ensures { result ≡ present_weight (C.below children.now) at weight }
 {
-    if is_absent_at(children, at) {
-        0
-    } else {
-        weight
-    }
+    if children.is_absent(at) { 0 } else { weight }
 }
 
 // The end of a declaration: in the head of a loop it has none.
@@ -100,8 +95,13 @@ fn function_text(generator: bool, directives: &TextList, place: Position) -> u64
 }
 
 /// What a node writes besides its children and its parentheses.
-pub fn text_weight(shape: &Shape, name: &Option<Name>, children: &Nodes, place: Position) -> u64
-    ensures { result ≡ capped (weight_of_text shape.now (names name.now) place (outlines children.now)) }
+pub fn text_weight<C: Outlined>(
+    shape: &Shape,
+    name: &Option<Name>,
+    children: &C,
+    place: Position,
+) -> u64
+    ensures { result ≡ capped (weight_of_text shape.now (names name.now) place (C.below children.now)) }
 {
     match shape {
         Shape::Listed => list_weight(children, place),
@@ -117,7 +117,7 @@ pub fn text_weight(shape: &Shape, name: &Option<Name>, children: &Nodes, place: 
         | Shape::ThrowStatement => 16,
         Shape::IfStatement => 14 + where_present(children, 2, 10),
         Shape::SwitchStatement => 20,
-        Shape::SwitchCase => 12 + flagged(is_absent_at(children, 0), 4),
+        Shape::SwitchCase => 12 + flagged(children.is_absent(0), 4),
         Shape::TryStatement => 12 + where_present(children, 2, 16),
         Shape::CatchClause => 12 + where_present(children, 0, 4),
         Shape::WhileStatement | Shape::ForStatement => 14,
@@ -178,7 +178,7 @@ pub fn text_weight(shape: &Shape, name: &Option<Name>, children: &Nodes, place: 
         Shape::SuperStaticMemberExpression => 2,
         Shape::SuperComputedMemberExpression => 4,
         Shape::YieldExpression(delegate) => 10 + flagged(*delegate, 2),
-        Shape::TemplateLiteral => template_weight(items_at(children, 1)),
+        Shape::TemplateLiteral => template_weight(children.items(1)),
         Shape::TemplateElement(_, raw, _) => twice_length(raw.text()),
         Shape::MetaProperty(_) | Shape::ImportExpression => 16,
         Shape::ObjectPattern

@@ -1,19 +1,25 @@
 //! The weight of a node at a place.
 
 ghost use Rattle.std.specs.Prelude.{◌≡◌};
-ghost use Rattle.mini_model.specs.Weight.{capped, outlines, own_weight as weight_of_own, weight as weight_at};
+ghost use Rattle.mini_model.specs.Weight.{capped, own_weight as weight_of_own, weight as weight_at};
 ghost use Rattle.mini_node.specs.Children.{names};
 
 use crate::marks::place_weight;
+use crate::outline::Outlined;
 use crate::place::child_place;
 use crate::text::text_weight;
 use mini_model::{Name, Position, Seat, Shape, StmtSeat};
-use mini_node::{Node, Nodes};
+use mini_node::Node;
 
 /// What a node of this shape and name writes besides its children, and what its place adds; it stays at the greatest
 /// u64.
-pub fn own_weight(shape: &Shape, name: &Option<Name>, children: &Nodes, place: Position) -> u64
-    ensures { result ≡ capped (weight_of_own place shape.now (names name.now) (outlines children.now)) }
+pub fn own_weight<C: Outlined>(
+    shape: &Shape,
+    name: &Option<Name>,
+    children: &C,
+    place: Position,
+) -> u64
+    ensures { result ≡ capped (weight_of_own place shape.now (names name.now) (C.below children.now)) }
 {
     match place {
         Position::Unwritten => 0,
