@@ -13,4 +13,6 @@ pub use mini_accept::{
     numbers_in_preorder, refused_deeper,
 };
 pub use mini_errors::{MinifyError, Pointer};
+pub use mini_fits::{accepted_weighs_little, fits, fitting_is_read, read_bytes_fit};
+pub use mini_writer::write_program;
 pub use program::{Numbered, read_program};
