@@ -31,3 +31,4 @@ pub mod Missing
 pub mod Apart
 pub mod Anywhere
 pub mod Breaking
+pub mod Moving

@@ -20,3 +20,4 @@ pub mod Preorder
 pub mod PathExamples
 pub mod NearMisses
 pub mod Apart
+pub mod Moves

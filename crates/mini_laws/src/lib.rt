@@ -17,6 +17,7 @@ ghost use Rattle.mini_laws.specs.Fewer.{Fewer, FewerSame, FewerBody};
 ghost use Rattle.mini_laws.specs.Returns.{ReturnsSame};
 ghost use Rattle.mini_laws.specs.Rewritten.{StepKeeps, StepReads, AnyStepSame, AnyReachesSame, AnyBodySame, AnyFrameKept, StepSame, ReachesSame, ProgramSame, FrameKept};
 ghost use Rattle.mini_laws.specs.Rows.{NegationSame, LighterNegationSame, Row23Same, Row40Same, Row82ElseSame, Row82AndSame, Row82OrSame, RowSame};
+ghost use Rattle.mini_laws.specs.Moves.{Commutes, NumberPasses, SteadyPasses};
 ghost use Rattle.mini_laws.specs.Stretches.{StretchSame, StretchAnywhere};
 ghost use Rattle.mini_laws.specs.Steady.{Steady};
 ghost use Rattle.mini_laws.specs.Substitution.{NumberSame};
@@ -162,6 +163,14 @@ pub fn stretches()
 /// A variable that no node of a tree writes, and that no answer may change, keeps its value.
 pub fn spared_is_steady()
     ensures { Steady }
+{}
+
+/// An expression that has the same value before another is evaluated and after, and no effect, may be evaluated before it
+/// or after. A number is such a one, and so is an initialised name that nothing writes.
+pub fn passed_expressions_commute()
+    ensures commutes { Commutes }
+    ensures number { NumberPasses }
+    ensures steady { SteadyPasses }
 {}
 
 /// A tree whose symbols and numbers are renamed does the same of the renamed variables.
