@@ -161,11 +161,11 @@ block_below h xs n π ts us w b q = (child_at π ts us w 0).declared_as_body b (
 
 -- ---- names that are declared twice
 
-empty_both : {A : Type 0} (xs ys : List A) → xs ++ ys ≡ [] → (xs ≡ []) × (ys ≡ [])
+pub empty_both : {A : Type 0} (xs ys : List A) → xs ++ ys ≡ [] → (xs ≡ []) × (ys ≡ [])
 empty_both [] ys e = (refl, e)
 empty_both (x ∷ xs) ys e = absurd (cc e)
 
-both_empty : {A : Type 0} (xs ys : List A) → xs ≡ [] → ys ≡ [] → xs ++ ys ≡ []
+pub both_empty : {A : Type 0} (xs ys : List A) → xs ≡ [] → ys ≡ [] → xs ++ ys ≡ []
 both_empty xs ys e f = ap (λ r. r ++ ys) e ∙ f
 
 catch_places : (h : Shape) (p : Position) (n : ℕ) (i : ℕ) → clash_of h ≡ clash.Catch → is_rewritten_place (child_position h p n i) ≡ false

@@ -4,3 +4,4 @@ pub mod Programs
 pub mod Using
 pub mod Below
 pub mod Stepping
+pub mod Anywhere
