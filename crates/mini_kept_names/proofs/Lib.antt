@@ -5,3 +5,4 @@ pub mod Using
 pub mod Below
 pub mod Stepping
 pub mod Anywhere
+pub mod Negating
