@@ -6,3 +6,4 @@ pub mod Below
 pub mod Stepping
 pub mod Anywhere
 pub mod Negating
+pub mod Quiet
