@@ -14,17 +14,17 @@ use Rattle.mini_structure.specs.WellShaped.{nested, Class, a_statement, a_key, a
 use Rattle.mini_kept.proofs.Bools.{left, both}
 use Rattle.mini_kept.proofs.Expressions.{expression, refused_here, expression_taken, of_negation, of_conditional, neg_fits, not_of_fits, three_fit, two_fit}
 
-abbrev statement : Slot
+abbrev pub statement : Slot
 statement = one (a_statement nested)
 
-abbrev last_statement : Slot
+abbrev pub last_statement : Slot
 last_statement = one_or_absent (a_statement nested)
 
-abbrev TakesStatementIn : Class → Type 0
+abbrev pub TakesStatementIn : Class → Type 0
 TakesStatementIn (a_statement d) = Unit {0}
 TakesStatementIn _ = ⊥
 
-abbrev TakesStatement : Slot → Type 0
+abbrev pub TakesStatement : Slot → Type 0
 TakesStatement (one c) = TakesStatementIn c
 TakesStatement (one_or_absent c) = TakesStatementIn c
 TakesStatement _ = ⊥
@@ -38,7 +38,7 @@ statement_written strict (one c) a k e = written_in strict c a k e
 statement_written strict (one_or_absent c) a k e = written_in strict c a k e
 statement_written strict s a k e = absurd k
 
-abbrev IfFits : Bool → Tree → Tree → Tree → Type 0
+abbrev pub IfFits : Bool → Tree → Tree → Tree → Type 0
 IfFits strict a b c = (fits strict expression a ≡ true) × (fits strict statement b ≡ true) × (fits strict last_statement c ≡ true)
 
 if_parts : (strict : Bool) (a b c : Tree) → (fits strict expression a && (fits strict statement b && (fits strict last_statement c && true))) ≡ true → IfFits strict a b c
@@ -54,15 +54,15 @@ if_in strict (a_private_or_key true) a b c e = absurd (refused_here strict (one 
 if_in strict (an_inner_key true) a b c e = absurd (refused_here strict (one (an_inner_key true)) shape.IfStatement [] 0 (a ▸ b ▸ c ▸ none) refl e)
 if_in strict k a b c e = absurd (refused_here strict (one k) shape.IfStatement [] 0 (a ▸ b ▸ c ▸ none) refl e)
 
-of_if : (strict : Bool) (s : Slot) (a b c : Tree) → fits strict s (if_else a b c) ≡ true → TakesStatement s × IfFits strict a b c
+pub of_if : (strict : Bool) (s : Slot) (a b c : Tree) → fits strict s (if_else a b c) ≡ true → TakesStatement s × IfFits strict a b c
 of_if strict (one k) a b c e = if_in strict k a b c e
 of_if strict (one_or_absent k) a b c e = if_in strict k a b c e
 of_if strict s a b c e = absurd (refused_here strict s shape.IfStatement [] 0 (a ▸ b ▸ c ▸ none) refl e)
 
-of_statement : (strict : Bool) (a : Tree) → fits strict statement (expression_statement a) ≡ true → fits strict expression a ≡ true
+pub of_statement : (strict : Bool) (a : Tree) → fits strict statement (expression_statement a) ≡ true → fits strict expression a ≡ true
 of_statement strict a e = left (fits strict expression a) true e
 
-of_last_statement : (strict : Bool) (a : Tree) → fits strict last_statement (expression_statement a) ≡ true → fits strict expression a ≡ true
+pub of_last_statement : (strict : Bool) (a : Tree) → fits strict last_statement (expression_statement a) ≡ true → fits strict expression a ≡ true
 of_last_statement strict a e = left (fits strict expression a) true e
 
 module _ (strict : Bool) (s : Slot) where

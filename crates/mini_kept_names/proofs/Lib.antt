@@ -7,3 +7,4 @@ pub mod Stepping
 pub mod Anywhere
 pub mod Negating
 pub mod Quiet
+pub mod Instances
