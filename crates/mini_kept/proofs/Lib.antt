@@ -3,6 +3,7 @@ pub mod Expressions
 pub mod Rows
 pub mod Moved
 pub mod Parts
+pub mod Exports
 pub mod Steps
 pub mod Each
 pub mod Programs
