@@ -8,3 +8,4 @@ pub mod Anywhere
 pub mod Negating
 pub mod Quiet
 pub mod Instances
+pub mod Whole
