@@ -57,12 +57,22 @@ fn hoisted_place(shape: &Shape) -> Place
 {
     match shape {
         Shape::VariableDeclaration(VariableDeclarationKind::Var) => Place::Bound,
-        Shape::Function(..)
-        | Shape::ArrowFunctionExpression(_)
-        | Shape::Class(_)
-        | Shape::StaticBlock
-        | Shape::Program(..) => Place::Nowhere,
-        _ => Place::Below,
+        Shape::Listed
+        | Shape::BlockStatement
+        | Shape::IfStatement
+        | Shape::WhileStatement
+        | Shape::DoWhileStatement
+        | Shape::ForStatement
+        | Shape::ForInStatement
+        | Shape::ForOfStatement
+        | Shape::LabeledStatement
+        | Shape::SwitchStatement
+        | Shape::SwitchCase
+        | Shape::TryStatement
+        | Shape::CatchClause
+        | Shape::FunctionBody
+        | Shape::ExportNamedDeclaration => Place::Below,
+        _ => Place::Nowhere,
     }
 }
 

@@ -1,7 +1,7 @@
 // Why a value is refused, and where.
 
 ghost use Rattle.std.specs.Prelude.{◌≡◌, ◌↔◌, [], ◌∷◌, ◌++◌, None, Some, IsTrue, IfSome, IfOk, string_bytes};
-ghost use Rattle.mini_errors.specs.Faults.{pointer_text, fault_of, name_of_defect, IsUnder, item_step, bad_shape as wrong_shape, unsupported as unsupported_form, too_deep as deeper_than_allowed};
+ghost use Rattle.mini_errors.specs.Faults.{pointer_text, fault_of, name_of_defect, IsUnder, item_step, bad_shape as wrong_shape, unsupported as unsupported_form, too_deep as deeper_than_allowed, early_name as name_is_early, early_jump as jump_is_early};
 ghost use Rattle.mini_errors.specs.declared.error.MinifyError.TheVariants.{OutOfMemory};
 
 use mini_text::OutOfMemory as NoMemory;
@@ -205,6 +205,24 @@ pub fn too_deep(alloc: Global) -> MinifyError
     ensures { fault_of result ≡ Some (record { defect = deeper_than_allowed; at = [] }) }
 {
     MinifyError::TooDeep {
+        at: Pointer::root(alloc),
+    }
+}
+
+/// A name that its scope can't have twice, at the root.
+pub fn early_name(alloc: Global) -> MinifyError
+    ensures { fault_of result ≡ Some (record { defect = name_is_early; at = [] }) }
+{
+    MinifyError::EarlyName {
+        at: Pointer::root(alloc),
+    }
+}
+
+/// A jump without a target, at the root.
+pub fn early_jump(alloc: Global) -> MinifyError
+    ensures { fault_of result ≡ Some (record { defect = jump_is_early; at = [] }) }
+{
+    MinifyError::EarlyJump {
         at: Pointer::root(alloc),
     }
 }

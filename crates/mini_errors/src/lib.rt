@@ -3,4 +3,4 @@
 
 mod error;
 
-pub use error::{MinifyError, Pointer, bad_shape, too_deep, unsupported};
+pub use error::{MinifyError, Pointer, bad_shape, early_jump, early_name, too_deep, unsupported};

@@ -1,7 +1,6 @@
 -- Edits that declare no symbol more often.
 use Rattle.std.specs.Prelude.{ℕ, zero, suc, ◌+◌, ◌≡◌, refl, Bool, true, false, ◌||◌, List, [], ◌∷◌, ◌++◌, map, Option, if◌then◌else◌}
-use Rattle.std.proofs.Common.{ap, ◌∙◌, sym, arith}
-use Rattle.std.proofs.lemmas.List.{append-nil}
+use Rattle.std.proofs.Common.{ap, ◌∙◌, arith}
 use Rattle.mini_model.specs.declared.name.Name.{Name}
 use Rattle.mini_model.specs.declared.name.SymbolId.{SymbolId}
 use Rattle.mini_model.specs.declared.shape.Shape.{Shape}
@@ -121,8 +120,14 @@ scopes_kept opening.Second (a ▸ (t ▸ ts)) (a' ▸ none) k = absurd k.1
 scopes_kept opening.Second (a ▸ (t ▸ ts)) (a' ▸ (t' ▸ ts')) k = (refl, (scope_by t t' declared.Lexical k.1.0, tt))
 scopes_kept (opening.Class own inside) (a ▸ none) (a' ▸ none) k = tt
 scopes_kept (opening.Class own inside) (a ▸ none) (a' ▸ (t' ▸ ts')) k = absurd k.1
-scopes_kept (opening.Class own inside) (a ▸ (t ▸ ts)) (a' ▸ none) k = absurd k.1
-scopes_kept (opening.Class own inside) (a ▸ (t ▸ ts)) (a' ▸ (t' ▸ ts')) k = (name_scope own a a' k.0, (name_scope inside t t' k.1.0, tt))
+scopes_kept (opening.Class own inside) (a ▸ (h ▸ ts)) (a' ▸ none) k = absurd k.1
+scopes_kept (opening.Class own inside) (a ▸ (h ▸ none)) (a' ▸ (h' ▸ none)) k = tt
+scopes_kept (opening.Class own inside) (a ▸ (h ▸ none)) (a' ▸ (h' ▸ (b' ▸ ts'))) k = absurd k.1.1
+scopes_kept (opening.Class own inside) (a ▸ (h ▸ (b ▸ ts))) (a' ▸ (h' ▸ none)) k = absurd k.1.1
+scopes_kept (opening.Class own inside) (a ▸ (h ▸ (b ▸ none))) (a' ▸ (h' ▸ (b' ▸ none))) k = tt
+scopes_kept (opening.Class own inside) (a ▸ (h ▸ (b ▸ none))) (a' ▸ (h' ▸ (b' ▸ (t' ▸ ts')))) k = absurd k.1.1.1
+scopes_kept (opening.Class own inside) (a ▸ (h ▸ (b ▸ (t ▸ ts)))) (a' ▸ (h' ▸ (b' ▸ none))) k = absurd k.1.1.1
+scopes_kept (opening.Class own inside) (a ▸ (h ▸ (b ▸ (t ▸ ts)))) (a' ▸ (h' ▸ (b' ▸ (t' ▸ ts')))) k = (name_scope own a a' k.0, (name_scope inside t t' k.1.1.1.0, tt))
 scopes_kept opening.Arrow (a ▸ none) (a' ▸ none) k = tt
 scopes_kept opening.Arrow (a ▸ none) (a' ▸ (t' ▸ ts')) k = absurd k.1
 scopes_kept opening.Arrow (a ▸ (t ▸ ts)) (a' ▸ none) k = absurd k.1

@@ -64,7 +64,9 @@ class_outside : (b c : Bool) (t : Tree) (ts : Trees) → b ≡ false → at_or_e
 unfolding scopes_by with_names
 class_outside true c t ts e = cc
 class_outside false c t none e = refl
-class_outside false c t (a ▸ ts) e = refl
+class_outside false c t (a ▸ none) e = refl
+class_outside false c t (a ▸ (b ▸ none)) e = refl
+class_outside false c t (a ▸ (b ▸ (d ▸ ts))) e = refl
 
 -- a first child that is read with no scope before it
 read_first : (sc : ℕ → List Binding) (us : ℕ → Use) (env : Environment) (s : ℕ) (t : Tree) (ts : Trees) → sc 0 ≡ [] → us 0 ≡ Read → first_names (resolved_from sc us 0 env s (t ▸ ts)) ≡ map (with_symbol Read env) (first_names (t ▸ ts))
@@ -147,9 +149,11 @@ lexical_opening opening.Bound (t ▸ ts) zero e = lexical_no_hoists _
 lexical_opening opening.Bound (t ▸ ts) (suc k) e = tt
 lexical_opening (opening.Class own inside) none k e = tt
 lexical_opening (opening.Class own inside) (t ▸ none) k e = tt
-lexical_opening (opening.Class own inside) (t ▸ (a ▸ ts)) zero e = lexical_no_hoists _
-lexical_opening (opening.Class own inside) (t ▸ (a ▸ ts)) (suc zero) e = lexical_no_hoists _
-lexical_opening (opening.Class own inside) (t ▸ (a ▸ ts)) (suc (suc k)) e = tt
+lexical_opening (opening.Class own inside) (t ▸ (a ▸ none)) k e = tt
+lexical_opening (opening.Class own inside) (t ▸ (a ▸ (b ▸ none))) k e = tt
+lexical_opening (opening.Class own inside) (t ▸ (a ▸ (b ▸ (d ▸ ts)))) zero e = lexical_no_hoists _
+lexical_opening (opening.Class own inside) (t ▸ (a ▸ (b ▸ (d ▸ ts)))) (suc zero) e = lexical_no_hoists _
+lexical_opening (opening.Class own inside) (t ▸ (a ▸ (b ▸ (d ▸ ts)))) (suc (suc k)) e = tt
 lexical_opening opening.Second none k e = tt
 lexical_opening opening.Second (a ▸ none) k e = tt
 lexical_opening opening.Second (a ▸ (b ▸ ts)) zero e = tt

@@ -1,6 +1,7 @@
 -- A resolved tree is scoped.
 use Rattle.std.specs.Prelude.{ℕ, zero, suc, ◌+◌, ◌≡◌, ◌≤◌, refl, Bool, true, false, List, [], ◌∷◌, ◌++◌, length, map, if◌then◌else◌}
 use Rattle.std.proofs.Common.{ap, ◌∙◌, sym, subst, arith}
+use Rattle.std.proofs.lemmas.List.{append-nil}
 use Rattle.mini_model.specs.declared.kind.VariableDeclarationKind.TheVariants.{Var, Let, Const}
 use Rattle.mini_model.specs.declared.name.Name.{Name}
 use Rattle.mini_model.specs.declared.shape.Shape.{Shape}
@@ -50,7 +51,7 @@ Side opening.Nothing us = Unit {0}
 Side opening.Body us = us 0 ≡ Read
 Side (opening.Function own) us = (us 0 ≡ Read) × (us 1 ≡ Read) × (us 2 ≡ Read)
 Side opening.Arrow us = (us 0 ≡ Read) × (us 1 ≡ Read)
-Side (opening.Class own inside) us = (us 0 ≡ Read) × (us 1 ≡ Read)
+Side (opening.Class own inside) us = (us 0 ≡ Read) × (us 3 ≡ Read)
 Side opening.First us = is_alone (us 0) ≡ false
 Side opening.Second us = is_alone (us 1) ≡ false
 Side opening.Bound us = us 0 ≡ Read
@@ -136,15 +137,20 @@ matches_by opening.Second us env s (a ▸ (t ▸ ts)) d =
     )
 matches_by (opening.Class own inside) us env s none d = tt
 matches_by (opening.Class own inside) us env s (id ▸ none) d = (refl, tt)
-matches_by (opening.Class own inside) us env s (id ▸ (again ▸ ts)) d =
+matches_by (opening.Class own inside) us env s (id ▸ (super_class ▸ none)) d = (refl, (refl, tt))
+matches_by (opening.Class own inside) us env s (id ▸ (super_class ▸ (body ▸ none))) d = (refl, (refl, (refl, tt)))
+matches_by (opening.Class own inside) us env s (id ▸ (super_class ▸ (body ▸ (again ▸ ts)))) d =
     let L = lexical_scope (name_if own id) in
     let inner = env ++ numbered s L in
     let r = s + length L + symbols (us 0) id in
-    let M = lexical_scope (name_if inside again) in (
+    let M = lexical_scope (name_if inside again) in
+    let innermost = inner ++ numbered r M in
+    let q = r + length M + symbols (us 1) super_class + 0 + symbols (us 2) body + 0 in
+    let same : (innermost ++ []) ++ [] ≡ innermost = append-nil (innermost ++ []) ∙ append-nil innermost in (
       lexical_scope_kept env s (name_if own id) _ (name_kept own (us 0) inner (s + length L) id d.0),
       (
-        lexical_scope_kept inner r (name_if inside again) _ (name_kept inside (us 1) (inner ++ numbered r M) (r + length M) again d.1),
-        quiet 2 _ _ us (past_two _ _) (past_two _ _) 2 _ ts (omega arith),
+        lexical_scope_kept inner r (name_if inside again) _ (name_kept inside (us 3) ((innermost ++ []) ++ []) q again d.1 ∙ ap (λ v. map (with_symbol Read v) (name_if inside again)) same),
+        quiet 2 _ _ us (past_two _ _) (past_two _ _) 2 _ (body ▸ (again ▸ ts)) (omega arith),
       ),
     )
 matches_by opening.Arrow us env s none d = tt

@@ -25,11 +25,9 @@ pub record Frame : Type 0 where
 abbrev pub no_frame : Frame
 no_frame = record { extends = false; constructs = false; binds_this = false; has_arguments = false }
 
--- the superclass of a class is its last child but one
 abbrev pub has_superclass : Trees → Bool
-has_superclass none = false
-has_superclass (super_class ▸ body ▸ none) = not (is_absent super_class)
-has_superclass (t ▸ ts) = has_superclass ts
+has_superclass (id ▸ super_class ▸ ts) = not (is_absent super_class)
+has_superclass ts = false
 
 -- what holds in the body of a node, given what holds around the node
 abbrev pub frame_of_body : Shape → Frame → Frame
@@ -81,8 +79,8 @@ abbrev pub own_fixed : Shape → Trees → List Name
 own_fixed (shape.VariableDeclaration Const) ts = all_names declared.Bound ts
 own_fixed shape.ImportDeclaration ts = all_names declared.Bound ts
 own_fixed (shape.Function false g ds) ts = first_names ts
-own_fixed (shape.Class false) (id ▸ again ▸ ts) = bound_names id ++ bound_names again
-own_fixed (shape.Class true) (id ▸ again ▸ ts) = bound_names again
+own_fixed (shape.Class false) ts = first_names ts
+own_fixed (shape.Class true) (id ▸ super_class ▸ body ▸ again ▸ ts) = bound_names again
 own_fixed h ts = []
 
 unfoldable mutual

@@ -283,7 +283,7 @@ unfolding resolved scopes_by body_names names_of with_names has_inner symbols ha
 a_class_inside = refl
 
 -- (class a { })
-a_class_expression : is_writable (resolved_program (script (said (class_with false 1 (binding a) (binding a) absent none) ▸ none))) (known 0 a) ≡ false
+a_class_expression : is_writable (resolved_program (script (said (class_with false 1 (binding a) absent absent none) ▸ none))) (known 0 a) ≡ false
 unfolding resolved scopes_by body_names names_of with_names has_inner symbols has_eval scope_list mentions module_names names_arguments reached_by_arguments caught var_writes catch_params imported_names pattern_names lexical_variables switched moments has_number params_around bodies fixed_names
 a_class_expression = refl
 

@@ -111,7 +111,7 @@ unfolding declarations body_declarations scope_declarations early_names targets_
 a_head_and_a_let = refl
 
 -- class a { static { let b; var b; } }
-a_static_block : early_names [] (script (class_with true 1 (binding a) (binding a) absent (static_block 2 (let_of b ▸ var_of b ▸ none) ▸ none) ▸ none)) ≡ (0 ∷ 0 ∷ 3 ∷ 0 ∷ 0 ∷ 0 ∷ 1 ∷ 0 ∷ 0 ∷ 0 ∷ []) ∷ []
+a_static_block : early_names [] (script (class_with true 1 (binding a) (binding a) absent (static_block 2 (let_of b ▸ var_of b ▸ none) ▸ none) ▸ none)) ≡ (0 ∷ 0 ∷ 2 ∷ 0 ∷ 0 ∷ 0 ∷ 1 ∷ 0 ∷ 0 ∷ 0 ∷ []) ∷ []
 unfolding declarations body_declarations scope_declarations early_names targets_of is_loop early_jumps
 a_static_block = refl
 
@@ -166,7 +166,7 @@ unfolding declarations body_declarations scope_declarations early_names targets_
 in_a_function = refl
 
 -- class a { static { return; } }
-in_a_static_block : early_jumps no_targets [] (script (class_with true 1 (binding a) (binding a) absent (static_block 2 (leaves shape.ReturnStatement absent ▸ none) ▸ none) ▸ none)) ≡ (0 ∷ 0 ∷ 3 ∷ 0 ∷ 0 ∷ 0 ∷ 0 ∷ []) ∷ []
+in_a_static_block : early_jumps no_targets [] (script (class_with true 1 (binding a) (binding a) absent (static_block 2 (leaves shape.ReturnStatement absent ▸ none) ▸ none) ▸ none)) ≡ (0 ∷ 0 ∷ 2 ∷ 0 ∷ 0 ∷ 0 ∷ 0 ∷ []) ∷ []
 unfolding declarations body_declarations scope_declarations early_names targets_of is_loop early_jumps
 in_a_static_block = refl
 
@@ -181,6 +181,6 @@ unfolding declarations body_declarations scope_declarations early_names targets_
 a_yield_in_a_function = refl
 
 -- function* f() { (class { m = yield }) }: the value of a field is no generator's
-a_yield_in_a_field : early_jumps no_targets [] (script (generator 1 (binding f) none (said (class_with false 2 absent absent absent (field_of (inner 3 (leaves (shape.YieldExpression false) absent)) ▸ none)) ▸ none) ▸ none)) ≡ (0 ∷ 0 ∷ 2 ∷ 0 ∷ 0 ∷ 0 ∷ 3 ∷ 0 ∷ 0 ∷ 1 ∷ 0 ∷ []) ∷ []
+a_yield_in_a_field : early_jumps no_targets [] (script (generator 1 (binding f) none (said (class_with false 2 absent absent absent (field_of (inner 3 (leaves (shape.YieldExpression false) absent)) ▸ none)) ▸ none) ▸ none)) ≡ (0 ∷ 0 ∷ 2 ∷ 0 ∷ 0 ∷ 0 ∷ 2 ∷ 0 ∷ 0 ∷ 1 ∷ 0 ∷ []) ∷ []
 unfolding declarations body_declarations scope_declarations early_names targets_of is_loop early_jumps
 a_yield_in_a_field = refl

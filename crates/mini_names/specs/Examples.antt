@@ -106,12 +106,12 @@ unfolding given resolved scopes_by body_names names_of with_names has_inner symb
 a_class = refl
 
 -- (class a { m() { a } }); a: an expression has its name once
-a_class_expression : given (resolved_program (script (said (class_with false 1 (binding a) (binding a) absent (method_of (function_expression 2 absent none (said (reference a) ▸ none)) ▸ none)) ▸ said (reference a) ▸ none))) ≡ is 0 ∷ is 0 ∷ is 0 ∷ free ∷ []
+a_class_expression : given (resolved_program (script (said (class_with false 1 (binding a) absent absent (method_of (function_expression 2 absent none (said (reference a) ▸ none)) ▸ none)) ▸ said (reference a) ▸ none))) ≡ is 0 ∷ is 0 ∷ free ∷ []
 unfolding given resolved scopes_by body_names names_of with_names has_inner symbols references counted
 a_class_expression = refl
 
 -- class a { static { var b; b } } b: a static block is a function
-a_static_block : given (resolved_program (script (class_with true 1 (binding a) (binding a) absent (static_block 2 (var_of b ▸ said (reference b) ▸ none) ▸ none) ▸ said (reference b) ▸ none))) ≡ is 0 ∷ is 1 ∷ is 2 ∷ is 2 ∷ free ∷ []
+a_static_block : given (resolved_program (script (class_with true 1 (binding a) (binding a) absent (static_block 2 (var_of b ▸ said (reference b) ▸ none) ▸ none) ▸ said (reference b) ▸ none))) ≡ is 0 ∷ is 2 ∷ is 2 ∷ is 1 ∷ free ∷ []
 unfolding given resolved scopes_by body_names names_of with_names has_inner symbols references counted
 a_static_block = refl
 

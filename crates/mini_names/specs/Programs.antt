@@ -88,7 +88,7 @@ with_default n m x e = node shape.AssignmentPattern [] n (x ▸ inner m e ▸ no
 
 -- classes: the name, the name again, the superclass, the members
 abbrev pub class_with : Bool → ℕ → Tree → Tree → Tree → Trees → Tree
-class_with declaration n x again super_class members = node (shape.Class declaration) [] n (x ▸ again ▸ super_class ▸ plain shape.ClassBody (listed members ▸ none) ▸ none)
+class_with declaration n x again super_class members = node (shape.Class declaration) [] n (x ▸ super_class ▸ plain shape.ClassBody (listed members ▸ none) ▸ again ▸ none)
 
 abbrev pub method_of : Tree → Tree
 method_of f = plain (shape.MethodDefinition method.Method false false) (word (codes "m") ▸ f ▸ none)

@@ -93,7 +93,7 @@ unfoldable pub scopes_by : Opening → Trees → List (List Binding)
 scopes_by opening.Body (body ▸ ts) = body_scope [] (body_names body) ∷ []
 scopes_by (opening.Function own) (id ▸ params ▸ body ▸ ts) = lexical_scope (name_if own id) ∷ body_scope [] (bound_names params) ∷ body_scope (merged params) (body_names body) ∷ []
 scopes_by opening.Arrow (params ▸ body ▸ ts) = body_scope [] (bound_names params) ∷ body_scope (merged params) (body_names body) ∷ []
-scopes_by (opening.Class own inner) (id ▸ again ▸ ts) = lexical_scope (name_if own id) ∷ lexical_scope (name_if inner again) ∷ []
+scopes_by (opening.Class own inner) (id ▸ super_class ▸ body ▸ again ▸ ts) = lexical_scope (name_if own id) ∷ lexical_scope (name_if inner again) ∷ []
 scopes_by opening.First (t ▸ ts) = lexical_scope (lexical_names t) ∷ []
 scopes_by opening.Second (a ▸ b ▸ ts) = [] ∷ lexical_scope (lexical_names b) ∷ []
 scopes_by opening.Bound (t ▸ ts) = lexical_scope (bound_names t) ∷ []

@@ -77,7 +77,7 @@ pub enum Opening {
     /// Those of an arrow: its parameters; its body.
     Arrow,
     /// Those of a class: its own name, where it is in scope in it alone; and the name that a declaration holds again, its
-    /// second child. The fields: whether it opens the one, and the other.
+    /// last child. The fields: whether it opens the one, and the other.
     Class(bool, bool),
     /// One of the lexical names of its first child.
     First,

@@ -2,3 +2,5 @@ mod Once
 mod Opened
 mod Walk
 mod Counting
+mod Refused
+mod Kept

@@ -32,6 +32,10 @@ pub three_up : (xs : List Tree) (x y z : Tree) → 3 ≤ length xs → x ≡ sli
 three_up [] x y z h e f g = absurd (omega arith)
 three_up (a ∷ xs) x y z h e f g = ap (λ w. w ▸ trees_of xs) (sym e) ∙ ap (λ r. x ▸ r) (two_up xs y z (omega arith) f g)
 
+pub four_up : (xs : List Tree) (x y z w : Tree) → 4 ≤ length xs → x ≡ slice_index_or xs 0 x → y ≡ slice_index_or xs 1 y → z ≡ slice_index_or xs 2 z → w ≡ slice_index_or xs 3 w → trees_of xs ≡ x ▸ (y ▸ (z ▸ (w ▸ trees_of (drop 4 xs))))
+four_up [] x y z w h e f g k = absurd (omega arith)
+four_up (a ∷ xs) x y z w h e f g k = ap (λ v. v ▸ trees_of xs) (sym e) ∙ ap (λ r. x ▸ r) (three_up xs y z w (omega arith) f g k)
+
 -- too few nodes open no scope
 pub few_for_one : (xs : List Tree) → length xs < 1 → trees_of xs ≡ none
 few_for_one [] h = refl
@@ -43,11 +47,13 @@ few_for_arrow [] h = refl
 few_for_arrow (x ∷ []) h = refl
 few_for_arrow (x ∷ (y ∷ xs)) h = absurd (omega arith)
 
-pub few_for_class : (own inside : Bool) (xs : List Tree) → length xs < 2 → scopes_by (opening.Class own inside) (trees_of xs) ≡ []
+pub few_for_class : (own inside : Bool) (xs : List Tree) → length xs < 4 → scopes_by (opening.Class own inside) (trees_of xs) ≡ []
 unfolding scopes_by
 few_for_class own inside [] h = refl
 few_for_class own inside (x ∷ []) h = refl
-few_for_class own inside (x ∷ (y ∷ xs)) h = absurd (omega arith)
+few_for_class own inside (x ∷ (y ∷ [])) h = refl
+few_for_class own inside (x ∷ (y ∷ (z ∷ []))) h = refl
+few_for_class own inside (x ∷ (y ∷ (z ∷ (w ∷ xs)))) h = absurd (omega arith)
 
 pub few_for_second : (xs : List Tree) → length xs < 2 → scopes_by opening.Second (trees_of xs) ≡ []
 unfolding scopes_by

@@ -1,2 +1,4 @@
 pub mod ScopeAt
 pub mod Own
+pub mod Pointers
+pub mod Facts

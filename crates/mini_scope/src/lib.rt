@@ -4,8 +4,14 @@
 mod count;
 mod distinct;
 mod opening;
-mod resolve;
+mod pointer;
+mod program;
+mod numbering;
+mod scopes;
 
 pub use count::{Counts, count_node, fresh_counts};
 pub use opening::OpenScopes;
-pub use resolve::{resolve_node, resolve_program};
+pub use pointer::under_path;
+pub use program::resolve;
+pub use numbering::{resolve_node, resolve_program};
+pub use scopes::Scopes;

@@ -152,7 +152,7 @@ impl OpenScopes {
                 _ => Ok(OpenScopes::none(alloc)),
             },
             Opening::Class(own, inside) => match nodes {
-                [id, again, ..] => Ok(OpenScopes {
+                [id, _super_class, _body, again, ..] => Ok(OpenScopes {
                     first: name_scope(alloc, own, id)?,
                     second: name_scope(alloc, inside, again)?,
                     third: Vec::new(alloc),

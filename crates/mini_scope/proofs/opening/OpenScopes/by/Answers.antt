@@ -3,7 +3,7 @@ use Rattle.mini_node.specs.Children.{trees_of}
 use Rattle.mini_names.specs.declared.Opening.TheVariants as opening
 use Rattle.mini_names.specs.DeclaredNames.{body_names}
 use Rattle.mini_names.specs.Scopes.{scopes_by, body_scope}
-use Rattle.mini_scope.proofs.Opened.{has_scopes, one_scope, no_scope, one_up, two_up, three_up, few_for_one, few_for_arrow, few_for_class, few_for_second, few_for_function}
+use Rattle.mini_scope.proofs.Opened.{has_scopes, one_scope, no_scope, one_up, two_up, three_up, four_up, few_for_one, few_for_arrow, few_for_class, few_for_second, few_for_function}
 use Rattle.mini_scope.proofs.opening.OpenScopes.by.Goals as goal
 
 pub returns-in-Nothing : goal.returns-in-Nothing
@@ -56,13 +56,13 @@ pub returns-in_default-nodes-2 : goal.returns-in_default-nodes-2
 unfolding scopes_by
 returns-in_default-nodes-2 c = let xs = c.args.nodes.now in no_scope c.none-in_default-nodes-2.result c.args.opening (trees_of xs) (ap (λ p. scopes_by p (trees_of xs)) c.in-Class.is ∙ few_for_class c.in-Class.own c.in-Class.inside xs c.in_default-nodes-2.len_below) c.none-in_default-nodes-2.ensures.first c.none-in_default-nodes-2.ensures.second c.none-in_default-nodes-2.ensures.third
 
-pub returns-in_ok-name_scope-in-len2-up-nodes-2 : goal.returns-in_ok-name_scope-in-len2-up-nodes-2
+pub returns-in_ok-name_scope-in-len4-up-2 : goal.returns-in_ok-name_scope-in-len4-up-2
 unfolding scopes_by
-returns-in_ok-name_scope-in-len2-up-nodes-2 c =
+returns-in_ok-name_scope-in-len4-up-2 c =
     let xs = c.args.nodes.now in
-    has_scopes (record { first = c.in_ok-name_scope-in-len2-up-nodes.field-0; second = c.in_ok-name_scope-in-len2-up-nodes-2.field-0; third = c.new-in-len2-up-nodes.result }) c.args.opening (trees_of xs) _
-    (ap (λ p. scopes_by p (trees_of xs)) c.in-Class.is ∙ ap (scopes_by (opening.Class c.in-Class.own c.in-Class.inside)) (two_up xs c.id-item-in-Class.result c.again-item.result c.in-len2-up-nodes.len_at_least c.id-item-in-Class.is c.again-item.is))
-    c.in_ok-name_scope-in-len2-up-nodes.ensures c.in_ok-name_scope-in-len2-up-nodes-2.ensures c.new-in-len2-up-nodes.ensures.items
+    has_scopes (record { first = c.in_ok-name_scope-in-len4-up.field-0; second = c.in_ok-name_scope-in-len4-up-2.field-0; third = c.new-in-len4-up.result }) c.args.opening (trees_of xs) _
+    (ap (λ p. scopes_by p (trees_of xs)) c.in-Class.is ∙ ap (scopes_by (opening.Class c.in-Class.own c.in-Class.inside)) (four_up xs c.id-item-in-Class.result c._super_class-item.result c._body-item.result c.again-item.result c.in-len4-up.len_at_least c.id-item-in-Class.is c._super_class-item.is c._body-item.is c.again-item.is))
+    c.in_ok-name_scope-in-len4-up.ensures c.in_ok-name_scope-in-len4-up-2.ensures c.new-in-len4-up.ensures.items
     (λ k. refl)
 
 pub returns-in-empty-nodes : goal.returns-in-empty-nodes
@@ -82,13 +82,13 @@ pub returns-in_default-nodes-3 : goal.returns-in_default-nodes-3
 unfolding scopes_by
 returns-in_default-nodes-3 c = let xs = c.args.nodes.now in no_scope c.none-in_default-nodes-3.result c.args.opening (trees_of xs) (ap (λ p. scopes_by p (trees_of xs)) c.in-Second.is ∙ few_for_second xs c.in_default-nodes-3.len_below) c.none-in_default-nodes-3.ensures.first c.none-in_default-nodes-3.ensures.second c.none-in_default-nodes-3.ensures.third
 
-pub returns-in_ok-lexical_scope-in-len2-up-nodes-2 : goal.returns-in_ok-lexical_scope-in-len2-up-nodes-2
+pub returns-in_ok-lexical_scope-in-len2-up-nodes : goal.returns-in_ok-lexical_scope-in-len2-up-nodes
 unfolding scopes_by
-returns-in_ok-lexical_scope-in-len2-up-nodes-2 c =
+returns-in_ok-lexical_scope-in-len2-up-nodes c =
     let xs = c.args.nodes.now in
-    has_scopes (record { first = c.new-in-len2-up-nodes-2.result; second = c.in_ok-lexical_scope-in-len2-up-nodes-2.field-0; third = c.new-in-len2-up-nodes-2-2.result }) c.args.opening (trees_of xs) _
-    (ap (λ p. scopes_by p (trees_of xs)) c.in-Second.is ∙ ap (scopes_by opening.Second) (two_up xs c._first-item.result c.second-item.result c.in-len2-up-nodes-2.len_at_least c._first-item.is c.second-item.is))
-    c.new-in-len2-up-nodes-2.ensures.items c.in_ok-lexical_scope-in-len2-up-nodes-2.ensures c.new-in-len2-up-nodes-2-2.ensures.items
+    has_scopes (record { first = c.new-in-len2-up-nodes.result; second = c.in_ok-lexical_scope-in-len2-up-nodes.field-0; third = c.new-in-len2-up-nodes-2.result }) c.args.opening (trees_of xs) _
+    (ap (λ p. scopes_by p (trees_of xs)) c.in-Second.is ∙ ap (scopes_by opening.Second) (two_up xs c._first-item.result c.second-item.result c.in-len2-up-nodes.len_at_least c._first-item.is c.second-item.is))
+    c.new-in-len2-up-nodes.ensures.items c.in_ok-lexical_scope-in-len2-up-nodes.ensures c.new-in-len2-up-nodes-2.ensures.items
     (λ k. refl)
 
 pub returns-in-empty-nodes-2 : goal.returns-in-empty-nodes-2

@@ -3,7 +3,7 @@ use Rattle.mini_model.specs.Tree.{node_count, node_counts}
 use Rattle.mini_names.specs.Scopes.{use_of}
 use Rattle.mini_scope.specs.ScopeAt.{scope_at}
 use Rattle.mini_scope.proofs.Walk.{Walked}
-use Rattle.mini_scope.proofs.resolve.+resolve.Given as goal
+use Rattle.mini_scope.proofs.numbering.+resolve.Given as goal
 
 abbrev pub decreases-resolve_node : goal.decreases-resolve_node
 decreases-resolve_node l = 2 * node_count l.node.now

@@ -10,7 +10,7 @@ use Rattle.mini_names.specs.declared.Binding.{Binding}
 use Rattle.mini_names.specs.Resolved.{Environment, with_symbol, symbols, symbols_from, resolved, resolved_from}
 use Rattle.mini_scope.specs.ScopeAt.{scope_at}
 use Rattle.mini_scope.proofs.Walk.{begins, turn, child_smaller, same_child, symbols_split, no_rest, all_first, append_none}
-use Rattle.mini_scope.proofs.resolve.+resolve.Goals as goal
+use Rattle.mini_scope.proofs.numbering.+resolve.Goals as goal
 
 symbols_opened : (u : Use) (n : Tree) (sc : ℕ → List Binding) → sc ≡ opened u (shape_of n) (children n) → symbols u n ≡ symbols_from sc (use_of (shape_of n) u) 0 (children n)
 unfolding symbols
