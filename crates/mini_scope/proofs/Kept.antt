@@ -22,6 +22,7 @@ own_kept v h f xs = refl
 
 mutual
   unfolding references resolved
+
   pub references_kept : (v u : Use) (env : Environment) (s : ℕ) (t : Tree) → length (references v (resolved u env s t)) ≡ length (references v t)
   references_kept v u env s (node h xs n ts) =
       let sc = opened u h ts in

@@ -3,15 +3,15 @@
 
 mod count;
 mod distinct;
+mod numbering;
 mod opening;
 mod pointer;
 mod program;
-mod numbering;
 mod scopes;
 
 pub use count::{Counts, count_node, fresh_counts};
+pub use numbering::{resolve_node, resolve_program};
 pub use opening::OpenScopes;
 pub use pointer::under_path;
 pub use program::resolve;
-pub use numbering::{resolve_node, resolve_program};
 pub use scopes::Scopes;

@@ -32,12 +32,28 @@ fn key_of(shape: &Shape, at: usize) -> &'static str
     ensures { result.now ≡ key_in shape.now at }
 {
     match shape {
-        Shape::Program(..) | Shape::BlockStatement | Shape::FunctionBody | Shape::ClassBody | Shape::StaticBlock => pick(at, "body", "", "", ""),
+        Shape::Program(..)
+        | Shape::BlockStatement
+        | Shape::FunctionBody
+        | Shape::ClassBody
+        | Shape::StaticBlock => pick(at, "body", "", "", ""),
         Shape::ExpressionStatement | Shape::ChainExpression => pick(at, "expression", "", "", ""),
         Shape::LabeledStatement => pick(at, "label", "body", "", ""),
         Shape::BreakStatement | Shape::ContinueStatement => pick(at, "label", "", "", ""),
-        Shape::ReturnStatement | Shape::ThrowStatement | Shape::SpreadElement | Shape::UnaryExpression(_) | Shape::UpdateExpression(..) | Shape::YieldExpression(_) | Shape::RestElement => pick(at, "argument", "", "", ""),
-        Shape::IfStatement | Shape::ConditionalExpression => pick(at, "test", "consequent", "alternate", ""),
+        Shape::ReturnStatement
+        | Shape::ThrowStatement
+        | Shape::SpreadElement
+        | Shape::UnaryExpression(_)
+        | Shape::UpdateExpression(..)
+        | Shape::YieldExpression(_)
+        | Shape::RestElement => pick(at, "argument", "", "", ""),
+        Shape::IfStatement | Shape::ConditionalExpression => pick(
+            at,
+            "test",
+            "consequent",
+            "alternate",
+            "",
+        ),
         Shape::SwitchStatement => pick(at, "discriminant", "cases", "", ""),
         Shape::SwitchCase => pick(at, "test", "consequent", "", ""),
         Shape::TryStatement => pick(at, "block", "handler", "finalizer", ""),
@@ -51,20 +67,49 @@ fn key_of(shape: &Shape, at: usize) -> &'static str
         Shape::Function(..) => pick(at, "id", "params", "body", ""),
         Shape::Class(_) => pick(at, "id", "superClass", "body", ""),
         Shape::ArrowFunctionExpression(_) => pick(at, "params", "body", "", ""),
-        Shape::MethodDefinition(..) | Shape::PropertyDefinition(..) | Shape::ObjectProperty(..) | Shape::BindingProperty(..) | Shape::AssignmentTargetPropertyIdentifier | Shape::AssignmentTargetPropertyProperty(_) => pick(at, "key", "value", "", ""),
+        Shape::MethodDefinition(..)
+        | Shape::PropertyDefinition(..)
+        | Shape::ObjectProperty(..)
+        | Shape::BindingProperty(..)
+        | Shape::AssignmentTargetPropertyIdentifier
+        | Shape::AssignmentTargetPropertyProperty(_) => pick(at, "key", "value", "", ""),
         Shape::ImportDeclaration => pick(at, "specifiers", "source", "", ""),
         Shape::ImportSpecifier => pick(at, "imported", "local", "", ""),
-        Shape::ImportDefaultSpecifier | Shape::ImportNamespaceSpecifier => pick(at, "local", "", "", ""),
+        Shape::ImportDefaultSpecifier | Shape::ImportNamespaceSpecifier => pick(
+            at, "local", "", "", "",
+        ),
         Shape::ExportNamedDeclaration => pick(at, "declaration", "specifiers", "source", ""),
         Shape::ExportSpecifier => pick(at, "exported", "local", "", ""),
         Shape::ExportDefaultDeclaration => pick(at, "declaration", "", "", ""),
         Shape::ExportAllDeclaration => pick(at, "exported", "source", "", ""),
-        Shape::ArrayExpression | Shape::ArrayPattern | Shape::ArrayAssignmentTarget => pick(at, "elements", "", "", ""),
-        Shape::ObjectExpression | Shape::ObjectPattern | Shape::ObjectAssignmentTarget => pick(at, "properties", "", "", ""),
-        Shape::BinaryExpression(_) | Shape::PrivateInExpression | Shape::LogicalExpression(_) | Shape::AssignmentExpression(_) | Shape::AssignmentPattern => pick(at, "left", "right", "", ""),
+        Shape::ArrayExpression | Shape::ArrayPattern | Shape::ArrayAssignmentTarget => pick(
+            at, "elements", "", "", "",
+        ),
+        Shape::ObjectExpression | Shape::ObjectPattern | Shape::ObjectAssignmentTarget => pick(
+            at,
+            "properties",
+            "",
+            "",
+            "",
+        ),
+        Shape::BinaryExpression(_)
+        | Shape::PrivateInExpression
+        | Shape::LogicalExpression(_)
+        | Shape::AssignmentExpression(_)
+        | Shape::AssignmentPattern => pick(at, "left", "right", "", ""),
         Shape::SequenceExpression => pick(at, "expressions", "", "", ""),
-        Shape::CallExpression(_) | Shape::SuperCallExpression | Shape::NewExpression => pick(at, "callee", "arguments", "", ""),
-        Shape::StaticMemberExpression(_) | Shape::ComputedMemberExpression(_) | Shape::PrivateFieldExpression(_) | Shape::SuperStaticMemberExpression | Shape::SuperComputedMemberExpression => pick(at, "object", "property", "", ""),
+        Shape::CallExpression(_) | Shape::SuperCallExpression | Shape::NewExpression => pick(
+            at,
+            "callee",
+            "arguments",
+            "",
+            "",
+        ),
+        Shape::StaticMemberExpression(_)
+        | Shape::ComputedMemberExpression(_)
+        | Shape::PrivateFieldExpression(_)
+        | Shape::SuperStaticMemberExpression
+        | Shape::SuperComputedMemberExpression => pick(at, "object", "property", "", ""),
         Shape::TemplateLiteral => pick(at, "quasis", "expressions", "", ""),
         Shape::TaggedTemplateExpression => pick(at, "tag", "quasi", "", ""),
         Shape::MetaProperty(_) => pick(at, "meta", "property", "", ""),

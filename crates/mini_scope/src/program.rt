@@ -10,8 +10,8 @@ ghost use Rattle.mini_scope.specs.Facts.{facts_of};
 ghost use Rattle.mini_scope.specs.Pointers.{early_fault};
 
 use crate::count::fresh_counts;
-use crate::pointer::under_path;
 use crate::numbering::resolve_program;
+use crate::pointer::under_path;
 use crate::scopes::Scopes;
 use mini_early::{EarlyError, check_early};
 use mini_errors::{MinifyError, early_jump, early_name};
