@@ -1,6 +1,6 @@
 -- Reading from node to node.
 use Rattle.std.proofs.Common.{◌≡◌, ℕ, zero, suc, ◌<◌, ◌≤◌, ◌-◌, ◌+◌, length, get_or, List, [], ◌∷◌, Bool, true, false, map, drop, refl, sym, ap, ◌∙◌, Option, Some, None, arith, add-one, drop-cons}
-use Rattle.std.specs.Prelude.{◌==◌, option_map, IfSome, Result, Ok, Err}
+use Rattle.std.specs.Prelude.{◌==◌, option_map, IfSome, Ok, Err}
 use Rattle.std.proofs.lemmas.List.{drop_all}
 use Rattle.std.specs.Result.{result_err}
 use Rattle.serde_json.specs.Data.{Data}
@@ -11,6 +11,7 @@ use Rattle.mini_model.specs.declared.shape.Shape.{Shape}
 use Rattle.mini_model.specs.declared.shape.Shape.TheVariants as shape
 use Rattle.mini_model.specs.Tree.{Tree, node, Trees, none, ◌▸◌, listed}
 use Rattle.mini_model.specs.Paths.{append}
+use Rattle.mini_node.specs.Children.{like}
 use Rattle.mini_structure.specs.WellShaped.{is_strict_in}
 use Rattle.mini_accept.specs.Faults as accept
 use Rattle.mini_accept.specs.Faults.{Defect, Fault, fault_under, under, ◌>>=◌}
@@ -118,6 +119,9 @@ deep e k s p n d is h = rw is (blames_fault e (record { defect = accept.too_deep
 pub unplanned : (e : MinifyError) (k : ℕ) (s : Bool) (p : Place) (n : ℕ) (d : Data) (x : Defect) → 0 < k → plan s p d ≡ Err x → fault_of e ≡ Some (fault_told (record { defect = x; at = [] })) → Blames e (result_err (reads k s p n d))
 unplanned e zero s p n d x h is told = absurd (omega arith)
 unplanned e (suc k) s p n d x h is told = rw is (blames_fault e (record { defect = x; at = [] }) told)
+
+pub over_leaf : (h : Shape) (xs : List Name) (n : ℕ) (ts : Trees) (r t : Tree) → r ≡ node h xs n none → t ≡ like r ts → t ≡ node h xs n ts
+over_leaf h xs n ts r t is made = made ∙ ap (λ u. like u ts) is
 
 less : (k : ℕ) → suc k - 1 ≡ k
 less k = omega arith

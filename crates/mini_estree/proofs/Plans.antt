@@ -1,9 +1,9 @@
 -- The plan of a node, as the tests tell it.
-use Rattle.std.proofs.Common.{◌≡◌, Bool, true, false, refl, Option, Some, None}
-use Rattle.std.specs.Prelude.{Result, Ok, Err}
+use Rattle.std.proofs.Common.{◌≡◌, Bool, true, false, refl, Some, None}
+use Rattle.std.specs.Prelude.{Ok, Err}
 use Rattle.serde_json.specs.Data.{Data}
 use Rattle.mini_structure.specs.WellShaped.{is_strict_in}
-use Rattle.mini_accept.specs.Faults.{Defect, bad_shape, unsupported}
+use Rattle.mini_accept.specs.Faults.{bad_shape, unsupported}
 use Rattle.mini_accept.specs.declared.kind.Kind.{Kind}
 use Rattle.mini_accept.specs.Places.{Place}
 use Rattle.mini_accept.specs.Fields.{kind_of}

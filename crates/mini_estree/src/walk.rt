@@ -8,7 +8,7 @@ ghost use Rattle.mini_accept.specs.Places.{step_text};
 ghost use Rattle.mini_accept.specs.Plans.{parts_from};
 ghost use Rattle.mini_errors.specs.Faults.{fault_of, IsUnder};
 ghost use Rattle.mini_fields.specs.Views.{place_of, defect_of};
-ghost use Rattle.mini_model.specs.Tree.{node as tree_node};
+ghost use Rattle.mini_model.specs.Tree.{node as tree_node, none};
 ghost use Rattle.mini_plan.specs.Views.{step_of, part_of, item_of, child_of, shape_of_head, names_of_head};
 ghost use Rattle.mini_estree.specs.Reads.{Blames, Gives, fault_told, onto};
 
@@ -59,18 +59,18 @@ fn next_number(n: u32) -> Result<u32, MinifyError>
 
 // ---- nodes
 
-// The node of a head over children.
-fn made(alloc: Global, head: Head<'_>, number: u32, children: Nodes) -> Result<Node, OutOfMemory>
-    ensures { IfOk result (λ x. x ≡ tree_node (shape_of_head head.entry) (names_of_head head.entry) number children) }
+// The node of a head and a number, without children yet.
+fn leaf(alloc: Global, head: Head<'_>, number: u32) -> Result<Node, OutOfMemory>
+    ensures { IfOk result (λ x. x ≡ tree_node (shape_of_head head.entry) (names_of_head head.entry) number none) }
 {
     let name = name(alloc, &head)?;
     let shape = shape(alloc, head)?;
-    Ok(Node::with(shape, name, number, children))
+    Ok(Node::with(shape, name, number, Nodes::new(alloc)))
 }
 
 /// The tree of a node in a place, which nests at most so deep, in strict or sloppy code, and the next number.
 #[cycle(walk)]
-#[tactic(auto, using(crate::proofs::Nodes::deep, crate::proofs::Nodes::unplanned, crate::proofs::Nodes::numbered_read, crate::proofs::Nodes::numbered_stop, crate::proofs::Nodes::plain_read, crate::proofs::Nodes::plain_stop, crate::proofs::Nodes::blames_memory))]
+#[tactic(auto, using(crate::proofs::Nodes::deep, crate::proofs::Nodes::unplanned, crate::proofs::Nodes::blames_memory))]
 pub fn node(
     alloc: Global,
     strict: bool,
@@ -94,16 +94,14 @@ pub fn node(
     } = planned;
     let inside = is_strict_in(strict, &head);
     if takes_number(place, &head) {
+        let root = leaf(alloc, head, n)?;
         let first = next_number(n)?;
-        match children(alloc, inside, below, value, depth - 1, first) {
-            Ok((children, next)) => Ok((made(alloc, head, n, children)?, next)),
-            Err(error) => Err(error),
-        }
+        let (children, next) = children(alloc, inside, below, value, depth - 1, first)?;
+        Ok((root.over(children), next))
     } else {
-        match children(alloc, inside, below, value, depth - 1, n) {
-            Ok((children, next)) => Ok((made(alloc, head, 0, children)?, next)),
-            Err(error) => Err(error),
-        }
+        let root = leaf(alloc, head, 0)?;
+        let (children, next) = children(alloc, inside, below, value, depth - 1, n)?;
+        Ok((root.over(children), next))
     }
 }
 
