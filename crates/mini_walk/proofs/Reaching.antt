@@ -27,7 +27,7 @@ module _ (R : Position → Tree → Tree → Type 0) where
   pub moves_once : (p : Position) (t u : Tree) → R p t u → Moves R p t u
   moves_once p t u r = record { next = u; step = here p t u r; others = done p u }
 
-  reaches_lighter : {p : Position} {t u : Tree} → IsLighter R → Reaches R p t u → weight p u ≤ weight p t
+  pub reaches_lighter : {p : Position} {t u : Tree} → IsLighter R → Reaches R p t u → weight p u ≤ weight p t
   reaches_lighter l (done p t) = omega arith
   reaches_lighter l (more p t w u s r) = let less = l p t w s in let rest = reaches_lighter l r in omega (arith, less, rest)
 
@@ -53,6 +53,9 @@ module _ (R : Position → Tree → Tree → Type 0) where
       (step_at p h xs n ts at v w k (subst (λ o. Step R o v w) e s)) (steps_at p h xs n ts at e k r)
 
   -- in the child at an index
+  pub reaches_at : (p : Position) (t : Tree) (at : ℕ) (u : Tree) → at < count (children t) → Reaches R (child_position (shape_of t) p (count (children t)) at) (part t at) u → Reaches R p t (with_part t at u)
+  reaches_at p (node h xs n ts) at u k r = subst (λ vs. Reaches R p (node h xs n vs) (node h xs n (with_child ts at u))) (with_same ts at) (steps_at p h xs n ts at refl k r)
+
   pub moves_at : (p : Position) (t : Tree) (at : ℕ) (u : Tree) → at < count (children t) → Moves R (child_position (shape_of t) p (count (children t)) at) (part t at) u → Moves R p t (with_part t at u)
   moves_at p (node h xs n ts) at u k m =
       let v = child_or_absent ts at in record {

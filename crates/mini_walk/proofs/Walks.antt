@@ -6,13 +6,14 @@ use Rattle.mini_model.specs.declared.shape.Shape.{Shape}
 use Rattle.mini_model.specs.Tree.{Tree, Trees, node, none, ◌▸◌, count, children, shape_of, child_or_absent, node_count}
 use Rattle.mini_model.specs.declared.place.Position.{Position}
 use Rattle.mini_model.specs.Position.{child_position}
-use Rattle.mini_model.specs.Rewriting.{Everywhere, EverywhereIn}
+use Rattle.mini_model.specs.Weight.{weight}
+use Rattle.mini_model.specs.Rewriting.{Reaches, done, Everywhere, EverywhereIn}
 use Rattle.mini_node.specs.Children.{with_child, with_part, part}
 use Rattle.mini_node.specs.Lends.{with_children}
-use Rattle.mini_walk.specs.Rule.{Applied}
+use Rattle.mini_walk.specs.Rule.{Applied, IsLighter}
 use Rattle.mini_walk.specs.Walk.{Moves, Walked, WalkedBelow, WalkedHere}
 use Rattle.mini_walk.proofs.Edits.{count_with, others_with, with_same, part_within}
-use Rattle.mini_walk.proofs.Reaching.{moves_trans, moves_once, moves_at}
+use Rattle.mini_walk.proofs.Reaching.{reaches_trans, reaches_lighter, reaches_at, moves_reach, moves_trans, moves_lighter, moves_once, moves_at}
 
 -- where the child at an index stands
 abbrev pub place_in : Position → Tree → ℕ → Position
@@ -115,3 +116,46 @@ module _ (R : Position → Tree → Tree → Type 0) (D : Position → Tree → 
   here_ended p t u v a true x y e = absurd (cc e)
   here_ended p t u v true false x y e = subst (Moves R p t) (sym y.0) x
   here_ended p t u v false false x y e = (y.0 ∙ x, subst (D p) x y.1)
+
+  moves_on : {p : Position} {t u v : Tree} → Moves R p t u → Reaches R p u v → Moves R p t v
+  moves_on m r = record { next = m.next; step = m.step; others = reaches_trans R m.others r }
+
+  pub here_more : (p : Position) (t u v w : Tree) (a b : Bool) → HereTo p t u a → WalkedHere R D p u v b → b ≡ true → Reaches R p v w → HereTo p t w true
+  here_more p t u v w true true x y e r = moves_on (moves_trans R x y) r
+  here_more p t u v w false true x y e r = subst (λ z. Moves R p z w) x (moves_on y r)
+  here_more p t u v w a false x y e r = absurd (cc e)
+
+  pub here_fallen : (p : Position) (u v w : Tree) (b : Bool) → IsLighter R → WalkedHere R D p u v b → b ≡ true → Reaches R p v w → weight p w < weight p u
+  here_fallen p u v w true l y e r = let less = moves_lighter R l y in let rest = reaches_lighter R l r in omega (arith, less, rest)
+  here_fallen p u v w false l y e r = absurd (cc e)
+
+  pub here_settled : (p : Position) (t u v : Tree) (a b : Bool) → HereTo p t u a → WalkedHere R D p u v b → b ≡ false → WalkedHere R D p t v a
+  here_settled p t u v a true x y e = absurd (cc e)
+  here_settled p t u v true false x y e = subst (Moves R p t) (sym y.0) x
+  here_settled p t u v false false x y e = (y.0 ∙ x, subst (D p) x y.1)
+
+  -- the children of a node that the rule made, one after another
+  pub record TriedTo (p : Position) (t u : Tree) : Type 0 where
+    pub reached : Reaches R p t u
+    pub shape : shape_of u ≡ shape_of t
+    pub counted : count (children u) ≡ count (children t)
+
+  pub tried_none : (p : Position) (t : Tree) → TriedTo p t t
+  tried_none p t = record { reached = done p t; shape = refl; counted = refl }
+
+  here_reached : (p : Position) (t u : Tree) (b : Bool) → WalkedHere R D p t u b → Reaches R p t u
+  here_reached p t u true x = moves_reach R x
+  here_reached p t u false x = subst (Reaches R p t) (sym x.0) (done p t)
+
+  pub tried_child : (p q : Position) (h : Shape) (k at : ℕ) (t u x v : Tree) (ts : Trees) (b : Bool) → (q ≡ child_position h p k at) × (h ≡ shape_of u) × (k ≡ count (children t)) × (ts ≡ children u) × (x ≡ child_or_absent ts at) → at < k → TriedTo p t u → WalkedHere R D q x v b → TriedTo p t (with_children u (with_child ts at v))
+  tried_child p q h k at t u x v ts b (placed, shaped, counted, these, child) below w m =
+      let stands : q ≡ place_in p u at = placed ∙ ap (λ g. child_position g p k at) shaped ∙ ap (λ c. child_position (shape_of u) p c at) (counted ∙ sym w.counted) in
+      let stood = subst (λ o. Reaches R o x v) stands (here_reached q x v b m) in
+      let there = subst (λ o. Reaches R (place_in p u at) o v) (child ∙ ap (λ us. child_or_absent us at) these) stood in
+      let kept = like_with u at v in
+      let made : TriedTo p t (with_part u at v) = record {
+        reached = reaches_trans R w.reached (reaches_at R p u at v (omega (arith, below, counted, w.counted)) there);
+        shape = kept.0 ∙ w.shape;
+        counted = kept.1 ∙ w.counted;
+      } in
+      subst (TriedTo p t) (sym (edited u ts at v these)) made

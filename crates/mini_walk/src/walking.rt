@@ -1,6 +1,7 @@
 //! One walk over a tree, children first.
 
 ghost use Rattle.std.specs.Prelude.{IfOk};
+ghost use Rattle.mini_model.specs.Rewriting.{Reaches};
 ghost use Rattle.mini_walk.specs.Walk.{Walked, WalkedBelow, WalkedHere};
 
 use crate::rule::Rule;
@@ -54,8 +55,27 @@ fn walk_children<R: Rule>(
     Ok(changed)
 }
 
-// The node itself, until the rule answers false.
+// The node itself, until the rule answers false. What the rule has made is looked at one level down as well, so that a
+// statement that becomes an expression is done in one walk.
 fn settle<R: Rule>(
+    rule: &R,
+    alloc: Global,
+    node: &mut Node,
+    place: Position,
+    context: &mut R::Context,
+) -> Result<bool, OutOfMemory>
+    ensures { IfOk result (λ changed. WalkedHere R.gives R.rests place node.old node.new changed) }
+{
+    let mut changed = false;
+    'again: while repeat(rule, alloc, node, place, context)? {
+        changed = true;
+        repeat_below(rule, alloc, node, place, context)?;
+    }
+    Ok(changed)
+}
+
+// The rule at the node alone, until it answers false.
+fn repeat<R: Rule>(
     rule: &R,
     alloc: Global,
     node: &mut Node,
@@ -69,4 +89,23 @@ fn settle<R: Rule>(
         changed = true;
     }
     Ok(changed)
+}
+
+// The rule at each child of the node, until it answers false there.
+fn repeat_below<R: Rule>(
+    rule: &R,
+    alloc: Global,
+    node: &mut Node,
+    place: Position,
+    context: &mut R::Context,
+) -> Result<(), OutOfMemory>
+    ensures { IfOk result (λ done. Reaches R.gives place node.old node.new) }
+{
+    let count = node.children().len();
+    for at in 0..count {
+        let stands = child_place(node.shape(), place, count, at);
+        let child = node.children_mut().child_mut(at);
+        let _changed = repeat(rule, alloc, child, stands, context)?;
+    }
+    Ok(())
 }
