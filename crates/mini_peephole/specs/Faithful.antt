@@ -1,41 +1,40 @@
--- When an answer is faithful to the program that it was made from. Stated for any number of numbered nodes, bodies and
--- symbols; of the shapes that are read so far the program alone has a number and a body, and none declares a symbol. None
--- of them has an early error.
-use Rattle.std.specs.Prelude.{◌≡◌, ℕ, ◌+◌, ◌<◌, ◌≤◌, max, Bool, true, false, List, [], ◌∷◌, ◌++◌, Contains, Option, Some, None}
+-- When an answer is faithful to the program that it was made from. Stated for any number of numbered nodes and symbols.
+--
+-- Not told yet: of the bodies, the program's alone is compared. The programs that can be answered for have no other, and
+-- declare no name. Early errors are not looked for, as a `break` outside loops: what is told of a program that has one is
+-- what it would do without it.
+use Rattle.std.specs.Prelude.{◌≡◌, ℕ, zero, suc, ◌+◌, ◌<◌, ◌≤◌, max, true, false, List, [], ◌∷◌, ◌++◌, Contains, Option, Some, None}
 use Rattle.serde_json.specs.Data.{Data}
 use Rattle.serde_json.specs.View.{view}
 use Rattle.mini_model.specs.declared.name.Name.{Name}
+use Rattle.mini_model.specs.declared.place.Position.TheVariants.{Elsewhere}
 use Rattle.mini_model.specs.declared.shape.Shape.{Shape}
 use Rattle.mini_model.specs.declared.shape.Shape.TheVariants as shape
 use Rattle.mini_model.specs.Tree.{Tree, Trees, node, none, ◌▸◌, shape_of}
-use Rattle.mini_model.specs.Position.{Elsewhere}
 use Rattle.mini_model.specs.Weight.{program_weight}
 use Rattle.mini_model.specs.Redex.{HasNoRedex}
-use Rattle.mini_meaning.specs.Value.{nth, nothing}
+use Rattle.mini_meaning.specs.Value.{nothing}
 use Rattle.mini_meaning.specs.State.{Environment}
 use Rattle.mini_meaning.specs.Body.{BodyKind, Program, SameBody, environment_of, frame_of}
-use Rattle.mini_options.specs.declared.options.CompressOptions.{CompressOptions}
-use Rattle.mini_estree.specs.Accept.{Accepts}
+use Rattle.mini_tree.specs.declared.options.CompressOptions.{CompressOptions}
+use Rattle.mini_accept.specs.Accept.{Accepts}
 use Rattle.mini_peephole.specs.declared.minify.Minified.{Minified}
 
--- the nodes that have a number, in preorder: of those that are read, the program
-abbrev pub is_numbered : Shape → Bool
-is_numbered (shape.Program m ds) = true
-is_numbered _ = false
-
-abbrev pub with_root : Bool → Tree → List Tree → List Tree
-with_root true t ts = t ∷ ts
-with_root false t ts = ts
-
+-- the nodes that have a number, in preorder, so that each stands at its number: the program, whose number is 0, and those
+-- below it that have another
 abbrev mutual
-  pub numbered : Tree → List Tree
-  numbered (node h xs n ts) = with_root (is_numbered h) (node h xs n ts) (numbered_all ts)
+  pub numbered_below : Tree → List Tree
+  numbered_below (node h xs zero ts) = numbered_all ts
+  numbered_below (node h xs (suc n) ts) = node h xs (suc n) ts ∷ numbered_all ts
 
   pub numbered_all : Trees → List Tree
   numbered_all none = []
-  numbered_all (t ▸ ts) = numbered t ++ numbered_all ts
+  numbered_all (t ▸ ts) = numbered_below t ++ numbered_all ts
 
--- which kind of body a numbered node has, if any
+abbrev pub numbered : Tree → List Tree
+numbered (node h xs n ts) = node h xs n ts ∷ numbered_all ts
+
+-- which kind of body a numbered node has, if any: a program's is compared
 abbrev pub body_of_shape : Shape → Option BodyKind
 body_of_shape (shape.Program m ds) = Some Program
 body_of_shape _ = None
@@ -43,9 +42,10 @@ body_of_shape _ = None
 abbrev pub body_of : Tree → Option BodyKind
 body_of t = body_of_shape (shape_of t)
 
--- the names that a tree declares, in the order of their symbols: no shape declares one yet
+-- the names that a tree declares, in the order of their symbols
 abbrev pub declared_by : Shape → List Name → List Name
-declared_by h xs = []
+declared_by shape.BindingIdentifier xs = xs
+declared_by _ xs = []
 
 abbrev mutual
   pub declared : Tree → List Name
@@ -58,6 +58,11 @@ abbrev mutual
 abbrev pub HasNoRepeat : List ℕ → Type 0
 HasNoRepeat [] = Unit {0}
 HasNoRepeat (k ∷ ks) = (Contains ks k → ⊥) × HasNoRepeat ks
+
+abbrev pub nth : {A : Type 0} → List A → ℕ → Option A
+nth [] k = None
+nth (x ∷ xs) zero = Some x
+nth (x ∷ xs) (suc k) = nth xs k
 
 -- a numbered node and what became of it: the frame is the same, and so is its body, in whatever the later program shares
 -- with the outside

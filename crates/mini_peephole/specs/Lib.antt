@@ -1,7 +1,3 @@
-pub mod Choice
-pub mod MinimizeUnary
-pub mod MinimizeConditionalExpression
-pub mod MinimizeIf
-pub mod Pass
+pub mod Supported
 pub mod Minified
 pub mod Faithful

@@ -1,13 +1,10 @@
-//! The passes over a program, and the library's top call.
+//! The library's top call: an ESTree value in, a lighter one out.
 #![tactic(auto)]
 
 mod minify;
-mod minimize_conditional_expression;
-mod minimize_if_statement;
-mod minimize_not_expression;
-mod passes;
-mod walk;
+mod supported;
 
 pub use mini_estree::{MinifyError, Pointer};
-pub use mini_first::{CompressOptions, KeepNames, Numbers, OutOfMemory};
+pub use mini_tree::{CompressOptions, KeepNames, Numbers, OutOfMemory};
 pub use minify::{Minified, minify_estree};
+pub use supported::is_supported;

@@ -1,20 +1,19 @@
 //! The library's top call: an ESTree value in, a lighter one out.
 
-ghost use Rattle.std.specs.Prelude.{◌≡◌, [], ◌∷◌, Ok, IfOk, IfErr, IfSome, IsErr, false};
+ghost use Rattle.std.specs.Prelude.{◌≡◌, [], ◌∷◌, Ok, IfOk, IfErr, false};
 ghost use Rattle.serde_json.specs.View.{view};
 ghost use Rattle.serde_json.specs.Written.{has_float};
-ghost use Rattle.mini_first.specs.Plain.{program_tree};
-ghost use Rattle.mini_errors.specs.Faults.{fault_of};
-ghost use Rattle.mini_estree.specs.Accept.{program_at};
 ghost use Rattle.mini_fits.specs.Fits.{Fits};
 ghost use Rattle.mini_peephole.specs.Faithful.{Faithful, PassesBounded};
-ghost use Rattle.mini_peephole.specs.Minified.{IsMinified, IsRewriting, IsRefusal, outside};
+ghost use Rattle.mini_peephole.specs.Minified.{IsMinified, IsRewriting, IsRefusal};
 
-use crate::passes::{Passes, run_passes};
+use crate::supported::is_supported;
 use mini_errors::unsupported;
-use mini_estree::{MinifyError, read_program, write_program};
-use mini_first::{CompressOptions, Numbers, OutOfMemory, Program, drop_program};
-use mini_refusals::check_program;
+use mini_estree::{MinifyError, Numbered, read_program};
+use mini_logic::{MinimizeConditional, MinimizeIf, MinimizeUnary};
+use mini_tree::{CompressOptions, Numbers, OutOfMemory, Program, discard};
+use mini_walk::{Passes, Then, run_passes};
+use mini_writer::write_program;
 use serde_json::Value;
 use std::alloc::Global;
 
@@ -50,26 +49,23 @@ fn answer(alloc: Global, program: Value, made: Passes) -> Result<Minified, OutOf
     })
 }
 
+// The rules, in the order in which a node is tried with them.
+const RULES: Then<MinimizeUnary, Then<MinimizeConditional, MinimizeIf>> = Then {
+    first: MinimizeUnary,
+    second: Then {
+        first: MinimizeConditional,
+        second: MinimizeIf,
+    },
+};
+
 // The answer for a tree, which is rewritten in place.
 fn rewritten(alloc: Global, tree: &mut Program, max_passes: u32) -> Result<Minified, OutOfMemory>
-    ensures ok { IfOk result (λ m. IsRewriting (program_tree tree.old) max_passes m) }
+    ensures ok { IfOk result (λ m. IsRewriting tree.old max_passes m) }
     ensures plain { IfOk result (λ m. has_float (view m.program) ≡ false) }
 {
-    let made = run_passes(alloc, tree, max_passes)?;
+    let made = run_passes(&RULES, alloc, tree, max_passes, &mut ())?;
     let program = write_program(alloc, tree)?;
     answer(alloc, program, made)
-}
-
-// The tree of a program, which is refused at the root where it isn't of the first path.
-fn first_path(alloc: Global, program: &Value, max_depth: u32) -> Result<Program, MinifyError>
-    ensures tree { IfOk result (λ t. program_at max_depth (view program.now) ≡ Ok (program_tree t)) }
-    ensures refused { IfErr result (λ e. IfSome (fault_of e) (λ f. (f ≡ outside) × IsErr (program_at max_depth (view program.now)))) }
-{
-    match read_program(alloc, program, max_depth) {
-        Ok(tree) => Ok(tree),
-        Err(e) if e.is_memory() => Err(e),
-        Err(_) => Err(unsupported(alloc)),
-    }
 }
 
 /// Reads a program from its ESTree value, rewrites it until nothing is left to rewrite or the passes of the options
@@ -77,8 +73,8 @@ fn first_path(alloc: Global, program: &Value, max_depth: u32) -> Result<Program,
 ///
 /// A value is refused exactly where it is no program that is read to the depth of the options, with the first defect and
 /// its pointer: `mini_accept::faults_are_there` says that the node at the pointer has the defect. A program that is read,
-/// and has nodes that aren't rewritten yet, is refused as `Unsupported` at the root. `OutOfMemory` may come in place of
-/// any answer.
+/// and that can't be answered for yet (`is_supported`), is refused as `Unsupported` at the root. `OutOfMemory` may come in
+/// place of any answer.
 ///
 /// The value has to fit: `mini_fits::fits` tells, and what 16,777,216 bytes of JSON say does.
 #[tactic(auto, using(crate::proofs::Refused::refused_by_table, crate::proofs::Refused::refused_outside))]
@@ -94,9 +90,12 @@ pub fn minify_estree(
     ensures plain { IfOk result (λ m. has_float (view m.program) ≡ false) }
     ensures refused { IfErr result (λ e. IsRefusal (view program.now) options.now e) }
 {
-    check_program(alloc, program, options.max_depth)?;
-    let mut tree = first_path(alloc, program, options.max_depth)?;
-    let answer = rewritten(alloc, &mut tree, options.passes);
-    drop_program(tree);
+    let Numbered { mut root, .. } = read_program(alloc, program, options.max_depth)?;
+    if !is_supported(&root) {
+        discard(root);
+        return Err(unsupported(alloc));
+    }
+    let answer = rewritten(alloc, &mut root, options.passes);
+    discard(root);
     Ok(answer?)
 }
