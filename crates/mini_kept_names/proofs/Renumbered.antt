@@ -82,7 +82,9 @@ same_scopes f opening.Second (a ▸ none) = refl
 same_scopes f opening.Second (a ▸ (t ▸ ts)) = ap (λ b. [] ∷ lexical_scope b ∷ []) (same_names f declared.Lexical t)
 same_scopes f (opening.Class own inside) none = refl
 same_scopes f (opening.Class own inside) (id ▸ none) = refl
-same_scopes f (opening.Class own inside) (id ▸ (t ▸ ts)) =
+same_scopes f (opening.Class own inside) (id ▸ (h ▸ none)) = refl
+same_scopes f (opening.Class own inside) (id ▸ (h ▸ (b ▸ none))) = refl
+same_scopes f (opening.Class own inside) (id ▸ (h ▸ (b ▸ (t ▸ ts)))) =
     ap (λ a. lexical_scope a ∷ lexical_scope (name_if inside (renumbered f t)) ∷ []) (same_name_if f own id) ∙ ap (λ a. lexical_scope (name_if own id) ∷ lexical_scope a ∷ []) (same_name_if f inside t)
 same_scopes f opening.Arrow none = refl
 same_scopes f opening.Arrow (p ▸ none) = refl
