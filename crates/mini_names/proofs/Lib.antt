@@ -8,3 +8,5 @@ pub mod Kept
 pub mod Numbers
 pub mod Places
 pub mod Whole
+mod Apart
+mod Parts

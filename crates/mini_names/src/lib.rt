@@ -14,7 +14,9 @@ pub use laws::{
 };
 use mini_model::Name;
 use mini_text::{OwnedList, Text};
-pub use moves::{drop_let, drop_name, swap_branches};
+pub use moves::{
+    drop_let, drop_name, join, move_in, move_out, of_parts, split, swap_branches, to_parts,
+};
 
 /// How the names of a place are used.
 #[derive(Clone, Copy)]
