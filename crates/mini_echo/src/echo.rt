@@ -3,11 +3,8 @@
 ghost use Rattle.std.specs.Prelude.{IfOk, string_bytes};
 ghost use Rattle.mini_echo.specs.Echo.{IsEcho, IsSameJson};
 
-use mini_drop::drop_program;
-use mini_errors::MinifyError;
-use mini_read::read_program;
+use mini_estree::{MinifyError, read_program, write_program};
 use mini_text::OutOfMemory;
-use mini_write::write_program;
 use serde_json::Value;
 use std::alloc::{AllocError, Global};
 use std::io;
@@ -67,8 +64,8 @@ pub fn echoed(alloc: Global, text: &str) -> Result<String, EchoError>
     let value = Value::from_str(alloc, text)?;
     let program = read_program(alloc, &value, MAX_DEPTH)?;
     drop(value);
-    let back = write_program(alloc, &program);
-    drop_program(program);
+    let back = write_program(alloc, &program.root);
+    drop(program);
     Ok(back?.to_string(alloc)?)
 }
 

@@ -4,8 +4,6 @@
 #![tactic(auto)]
 
 mod echo;
-#[cfg(test)]
-mod tests;
 
 use echo::{EchoError, echoed, same_json};
 use std::io::Write;
