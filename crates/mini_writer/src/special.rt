@@ -1,7 +1,8 @@
 // The nodes that no row has: what stands for others, leaves, texts, and what has directives.
 
 ghost use Rattle.std.specs.Prelude.{◌≡◌, codes, decimal, IfOk, MatchOption};
-ghost use Rattle.serde_json.specs.Data.{Data, null, string, object, member, no_members};
+ghost use Rattle.serde_json.specs.Data.{Data, null, string, object, member, no_members, put};
+ghost use Rattle.mini_written.specs.Keys.{key_text};
 ghost use Rattle.serde_json.specs.View.{view, items_view};
 ghost use Rattle.mini_text.specs.Texts.{bytes_of};
 ghost use Rattle.mini_node.specs.Children.{names};
@@ -14,8 +15,8 @@ use crate::bodies::{arrow, class, function, program};
 use itoa::Buffer;
 use mini_model::{Name, Shape, UnaryOperator};
 use mini_text::{BoxedText, Text};
-use mini_written::{Key, Member, node, plain_object, text_value, unary_word};
-use serde_json::Value;
+use mini_written::{Key, Member, key_text, node, plain_object, text_value, unary_word};
+use serde_json::{Map, Value, put};
 use std::alloc::{AllocError, Global};
 
 // ---- texts
@@ -25,9 +26,20 @@ pub fn text(alloc: Global, units: &Text) -> Result<Value, AllocError>
     ensures { IfOk result (λ v. view v ≡ string (bytes_of units.now)) }
 {
     match units.to_utf8(alloc) {
-        Ok(text) => text_value(alloc, text.as_str()),
+        Ok(text) => Ok(Value::String(text)),
         Err(_) => Err(AllocError),
     }
+}
+
+// The node of a type with one field.
+fn with_field(alloc: Global, kind: &str, key: Key, value: Value) -> Result<Value, AllocError>
+    ensures { IfOk result (λ v. view v ≡ object (put (key_text key) (view value) (member (codes "type") (string kind.now) no_members))) }
+{
+    let mut object = Map::new(alloc);
+    let kind = text_value(alloc, kind)?;
+    put(&mut object, alloc, "type", kind)?;
+    put(&mut object, alloc, key_text(key), value)?;
+    Ok(Value::Object(object))
 }
 
 fn bare(alloc: Global, kind: &str) -> Result<Value, AllocError>
@@ -41,11 +53,7 @@ fn identifier(alloc: Global, spelling: &Text) -> Result<Value, AllocError>
     ensures { IfOk result (λ v. view v ≡ objects.identifier (bytes_of spelling.now)) }
 {
     let name = text(alloc, spelling)?;
-    node(
-        alloc,
-        "Identifier",
-        Vec::from_array(alloc, [Member(Key::Name, name)])?,
-    )
+    with_field(alloc, "Identifier", Key::Name, name)
 }
 
 // `Identifier` of a node's name.
@@ -63,8 +71,7 @@ fn private_identifier(alloc: Global, spelling: &Text) -> Result<Value, AllocErro
     ensures { IfOk result (λ v. view v ≡ objects.private_identifier (bytes_of spelling.now)) }
 {
     let name = text(alloc, spelling)?;
-    let members = Vec::from_array(alloc, [Member(Key::Name, name)])?;
-    node(alloc, "PrivateIdentifier", members)
+    with_field(alloc, "PrivateIdentifier", Key::Name, name)
 }
 
 // ---- literals
@@ -73,11 +80,7 @@ fn private_identifier(alloc: Global, spelling: &Text) -> Result<Value, AllocErro
 fn literal(alloc: Global, value: Value) -> Result<Value, AllocError>
     ensures { IfOk result (λ v. view v ≡ object (member (codes "type") (string (codes "Literal")) (member (codes "value") (view value) no_members))) }
 {
-    node(
-        alloc,
-        "Literal",
-        Vec::from_array(alloc, [Member(Key::Value, value)])?,
-    )
+    with_field(alloc, "Literal", Key::Value, value)
 }
 
 // `Literal` of a number, below 0 with a minus before it.

@@ -40,8 +40,9 @@ fn node_value(
 pub fn value(alloc: Global, node: &Node) -> Result<Value, AllocError>
     ensures { IfOk result (λ v. view v ≡ tree_data node.now) }
 {
-    let mut below = Vec::new(alloc);
-    for part in node.parts() {
+    let parts = node.parts();
+    let mut below = Vec::with_capacity(alloc, parts.len())?;
+    for part in parts {
         let found = value(alloc, part)?;
         below.push(found)?;
     }

@@ -6,7 +6,7 @@ use Rattle.mini_writer.proofs.Lists.{with_values}
 use Rattle.mini_writer.proofs.walk.+value.Given as goal
 
 abbrev pub invariant-loop-part : goal.invariant-loop-part
-invariant-loop-part l = with_values l.below.items (trees_data (trees_of (drop l.part-index l.part-items))) ≡ trees_data (children l.node)
+invariant-loop-part l = with_values l.below.items (trees_data (trees_of (drop l.part-index l.parts))) ≡ trees_data (children l.node)
 
 abbrev pub decreases-value : goal.decreases-value
 decreases-value a = node_count a.node.now
