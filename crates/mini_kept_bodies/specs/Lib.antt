@@ -1,0 +1,4 @@
+pub mod Alike
+pub mod Standing
+pub mod Keeps
+pub mod Laws
