@@ -1,21 +1,18 @@
 -- What is read and written in a list of nodes, in the list of their trees.
-use Rattle.std.specs.Prelude.{ℕ, zero, suc, ◌≡◌, ◌≤◌, ◌<◌, refl, List, [], ◌∷◌, ◌++◌, length, take, drop, insert, remove, slice_set, slice_index_or, swap, Option, Some, None}
+use Rattle.std.specs.Prelude.{ℕ, zero, suc, ◌+◌, ◌≡◌, ◌<◌, ◌≤◌, ◌&&◌, refl, true, false, nat_eq, List, [], ◌∷◌, ◌++◌, length, take, drop, insert, remove, slice_set, slice_index_or, swap, Option, Some, None}
 use Rattle.std.proofs.Common.{ap, sym, ◌∙◌, arith}
-use Rattle.std.specs.Borrow.{MutBor, Bor}
-use Rattle.std.specs.List.{IsItemAtMut}
-use Rattle.std.specs.Slice.{IsItemAt}
-use Rattle.std.specs.Prelude.{◌+◌, true, nat_eq, ◌&&◌}
 use Rattle.std.proofs.lemmas.Bool.{eqb-true}
 use Rattle.std.proofs.Math.Dec.{eqb-zero-suc, eqb-suc-zero, eqb-suc-suc}
+use Rattle.std.specs.Borrow.{MutBor, Bor}
+use Rattle.std.specs.List.{IsItemAtMut}
+use Rattle.std.specs.Option.{option_copied, option_copied_mut}
+use Rattle.std.specs.Slice.{IsItemAt}
 use Rattle.mini_model.specs.declared.name.Name.{Name}
 use Rattle.mini_model.specs.declared.shape.Shape.{Shape}
 use Rattle.mini_model.specs.Tree.{Tree, Trees, node, none, ◌▸◌, count, child_or_absent, children, node_count, node_counts}
-use Rattle.mini_node.specs.Children.{trees_of, with_child, with_inserted, without, first_children, rest_children, has_count, is_bare, is_nameless}
-use Rattle.std.specs.Prelude.{false}
-use Rattle.mini_node.specs.Kinds.{is_named_leaf}
 use Rattle.mini_model.specs.Paths.{append, child_at}
-use Rattle.mini_node.specs.Children.{with_swapped}
-use Rattle.std.specs.Option.{option_copied, option_copied_mut}
+use Rattle.mini_node.specs.Children.{trees_of, with_child, with_inserted, without, first_children, rest_children, with_swapped, has_count, is_bare, is_nameless}
+use Rattle.mini_node.specs.Kinds.{is_named_leaf}
 
 pub counted : (xs : List Tree) → length xs ≡ count (trees_of xs)
 counted [] = refl

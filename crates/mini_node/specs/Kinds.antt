@@ -10,7 +10,7 @@ use Rattle.mini_model.specs.declared.operator.UnaryOperator.{UnaryOperator}
 use Rattle.mini_model.specs.declared.operator.UnaryOperator.TheVariants.{LogicalNot}
 use Rattle.mini_model.specs.declared.shape.Shape.{Shape}
 use Rattle.mini_model.specs.declared.shape.Shape.TheVariants as shape
-use Rattle.mini_model.specs.Tree.{Tree, Trees, node, none, ◌▸◌, shape_of, leaf, listed}
+use Rattle.mini_model.specs.Tree.{Tree, Trees, node, none, ◌▸◌, shape_of, is_absent_shape, leaf, listed}
 use Rattle.mini_node.specs.Children.{is_bare, is_nameless, part}
 
 -- Reading definitions, beside those of the plain form
@@ -51,10 +51,6 @@ abbrev pub string_literal : List ℕ → Tree
 string_literal s = leaf (shape.StringLiteral s)
 
 -- Shapes
-
-abbrev pub is_absent_shape : Shape → Bool
-is_absent_shape shape.Absent = true
-is_absent_shape _ = false
 
 abbrev pub is_listed_shape : Shape → Bool
 is_listed_shape shape.Listed = true

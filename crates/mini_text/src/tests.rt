@@ -32,6 +32,11 @@ fn texts_and_names(rt: HostRuntime) -> Result<(), Fail> {
     assert_eq!(rt; back.as_str(), "a\u{FFFD}");
     assert!(rt; !is_identifier_name(&text));
 
+    let boxed = BoxedText::new(rt.alloc(), text)?;
+    assert_eq!(rt; boxed.text().as_slice(), [0x61, 0xD835].as_slice());
+    let text = boxed.into_text();
+    assert_eq!(rt; text.as_slice(), [0x61, 0xD835].as_slice());
+
     let dollar = Text::from_str(rt.alloc(), "$")?;
     if let Some(name) = Name::new(dollar) {
         assert_eq!(rt; name.text().as_slice(), [0x24].as_slice());
