@@ -18,9 +18,15 @@ use Rattle.mini_model.specs.Terms.{is_boolean, unwrapped, neg}
 use Rattle.mini_model.specs.Redex.{Row, Contracts}
 use Rattle.mini_model.specs.Rewriting.{Step, here, inside, StepIn, first, later}
 use Rattle.mini_structure.specs.WellShaped.{Class, a_loop_left, a_method, an_expression, is_function_body, is_function_body_shape, first_item, spelling, spelling_by, is_same_spelling, without_default, repeats_key, names_constructor, is_init, has_optional, has_optional_by, is_not_positive_number, is_whole_property, has_its_parts}
-use Rattle.mini_kept.specs.Nodes.{is_declaring}
 use Rattle.mini_kept.proofs.Bools.{both}
 use Rattle.mini_kept.proofs.Moved.{names_of, part, Moved, Alike, cases, is_rewritten_shape, row_root, quiet, unlike}
+
+-- a declaration by `let`, `const` or `var`, and an export by name: what of their parts is absent, or a name, matters to
+-- the whole
+abbrev pub is_declaring : Shape → Bool
+is_declaring (shape.VariableDeclaration k) = true
+is_declaring shape.ExportNamedDeclaration = true
+is_declaring _ = false
 
 -- ---- where no row writes
 

@@ -12,7 +12,6 @@ use Rattle.mini_model.specs.Position.{child_position}
 use Rattle.mini_model.specs.Redex.{Contracts}
 use Rattle.mini_model.specs.Rewriting.{Step, here, inside, StepIn, first, later}
 use Rattle.mini_structure.specs.WellShaped.{Tagging, untagged, tagged, Class, a_loop_left, a_method, Slot, one, one_or_absent, is_whole_export, Filling, refused, these, each, each_or_last, pieces, filling, class_of, is_whole, is_numbered, has_names, has_plain_fields, has_its_parts, is_strict_in, is_quasi_by, is_quasi, are_quasis, is_last, fits, fill}
-use Rattle.mini_kept.specs.Nodes.{each_node, declares_not}
 use Rattle.mini_kept.proofs.Bools.{left, right, both}
 use Rattle.mini_kept.proofs.Rows.{row_fits}
 use Rattle.mini_kept.proofs.Expressions.{refused_here}
@@ -105,9 +104,9 @@ or_last false false true false d f g e = absurd (cc e)
 or_last false b false false d f g e = e
 
 mutual
-  pub any_step_fits : {p : Position} {t u : Tree} → Step Contracts p t u → (strict : Bool) (s : Slot) → fits strict s t ≡ true → fits strict s u ≡ true
-  any_step_fits (here p t u c) strict s e = row_fits strict s p t u c.row e
-  any_step_fits (inside p h xs n ts us st) strict s e =
+  pub step_fits : {p : Position} {t u : Tree} → Step Contracts p t u → (strict : Bool) (s : Slot) → fits strict s t ≡ true → fits strict s u ≡ true
+  step_fits (here p t u c) strict s e = row_fits strict s p t u c.row e
+  step_fits (inside p h xs n ts us st) strict s e =
       both (is_whole (class_of s) h xs n us) (fill (is_strict_in strict h) (filling strict s h) us)
       (whole_kept s p strict h xs n ts us e st)
       (step_fills st (is_strict_in strict h) (filling strict s h) (right (is_whole (class_of s) h xs n ts) (fill (is_strict_in strict h) (filling strict s h) ts) e))
@@ -117,14 +116,14 @@ mutual
   step_fills (first π t u ts st) strict (these []) e = e
   step_fills (first π t u ts st) strict (these (s ∷ ss)) e =
       let (one_fits, rest) = and_parts (fits strict s t) (fill strict (these ss) ts) e in
-      both (fits strict s u) (fill strict (these ss) ts) (any_step_fits st strict s one_fits) rest
+      both (fits strict s u) (fill strict (these ss) ts) (step_fits st strict s one_fits) rest
   step_fills (first π t u ts st) strict (each s) e =
       let (one_fits, rest) = and_parts (fits strict s t) (fill strict (each s) ts) e in
-      both (fits strict s u) (fill strict (each s) ts) (any_step_fits st strict s one_fits) rest
+      both (fits strict s u) (fill strict (each s) ts) (step_fits st strict s one_fits) rest
   step_fills (first π t u ts st) strict (each_or_last s l) e =
       let (one_fits, rest) = and_parts (fits strict s t || (is_last ts && fits strict l t)) (fill strict (each_or_last s l) ts) e in
       both (fits strict s u || (is_last ts && fits strict l u)) (fill strict (each_or_last s l) ts)
-      (or_last (fits strict s t) (fits strict l t) (is_last ts) (fits strict s u) (fits strict l u) (any_step_fits st strict s) (any_step_fits st strict l) one_fits) rest
+      (or_last (fits strict s t) (fits strict l t) (is_last ts) (fits strict s u) (fits strict l u) (step_fits st strict s) (step_fits st strict l) one_fits) rest
   step_fills (first π t u ts st) strict (pieces g) e = absurd (no_texts_step g (first π t u ts st) e)
   step_fills (later π t ts us st) strict refused e = e
   step_fills (later π t ts us st) strict (these []) e = e
@@ -140,6 +139,3 @@ mutual
       (subst (λ b. (fits strict s t || (b && fits strict l t)) ≡ true) (last_kept st) one_fits)
       (step_fills st strict (each_or_last s l) rest)
   step_fills (later π t ts us st) strict (pieces g) e = absurd (no_texts_step g (later π t ts us st) e)
-
-pub step_fits : {p : Position} {t u : Tree} → Step Contracts p t u → each_node declares_not t ≡ true → (strict : Bool) (s : Slot) → fits strict s t ≡ true → fits strict s u ≡ true
-step_fits st d strict s e = any_step_fits st strict s e

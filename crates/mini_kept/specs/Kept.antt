@@ -10,16 +10,16 @@ use Rattle.mini_model.specs.Tree.{Tree, Trees, node, children}
 use Rattle.mini_model.specs.Redex.{Contracts}
 use Rattle.mini_model.specs.Rewriting.{Step, Reaches}
 use Rattle.mini_structure.specs.WellShaped.{Slot, fits, IsWellShaped}
-use Rattle.mini_kept.specs.Nodes.{Test, each_node, each_nodes, declares_not}
+use Rattle.mini_kept.specs.Nodes.{Test, each_node, each_nodes}
 
 -- one rewrite, at any place of the tree
 abbrev pub StepFits : Type 0
 StepFits =
-    (p : Position) (t u : Tree) → Step Contracts p t u → each_node declares_not t ≡ true → (strict : Bool) (s : Slot) → fits strict s t ≡ true → fits strict s u ≡ true
+    (p : Position) (t u : Tree) → Step Contracts p t u → (strict : Bool) (s : Slot) → fits strict s t ≡ true → fits strict s u ≡ true
 
 -- any number of them
 abbrev pub ReachesWellShaped : Type 0
-ReachesWellShaped = (t u : Tree) → Reaches Contracts Elsewhere t u → each_node declares_not t ≡ true → IsWellShaped t → IsWellShaped u
+ReachesWellShaped = (t u : Tree) → Reaches Contracts Elsewhere t u → IsWellShaped t → IsWellShaped u
 
 -- the test holds of each node that a row writes: of `!`, `? :`, `||` and `&&`, of which one may become the other, and of
 -- an expression statement

@@ -1,8 +1,7 @@
 -- A test of every node of a tree.
-use Rattle.std.specs.Prelude.{ℕ, Bool, true, false, not, ◌&&◌, List}
+use Rattle.std.specs.Prelude.{ℕ, Bool, true, ◌&&◌, List}
 use Rattle.mini_model.specs.declared.name.Name.{Name}
 use Rattle.mini_model.specs.declared.shape.Shape.{Shape}
-use Rattle.mini_model.specs.declared.shape.Shape.TheVariants as shape
 use Rattle.mini_model.specs.Tree.{Tree, Trees, node, none, ◌▸◌}
 
 -- a test of a node, by its shape, its names and its number
@@ -16,13 +15,3 @@ abbrev mutual
   pub each_nodes : Test → Trees → Bool
   each_nodes f none = true
   each_nodes f (t ▸ ts) = each_node f t && each_nodes f ts
-
--- a declaration by `let`, `const` or `var`, and an export by name: what of their parts is absent, or a name, matters to
--- the whole
-abbrev pub is_declaring : Shape → Bool
-is_declaring (shape.VariableDeclaration k) = true
-is_declaring shape.ExportNamedDeclaration = true
-is_declaring _ = false
-
-abbrev pub declares_not : Test
-declares_not h xs n = not (is_declaring h)

@@ -4,8 +4,7 @@
 
 ghost use Rattle.mini_kept.specs.Kept.{EachBelowKept, EachKept, ReachesWellShaped, StepFits};
 
-/// A rewrite at any place, and any number of them, leave a tree where it may stand, if it declares no variable by `let`,
-/// `const` or `var` and exports nothing by name; so a program stays one.
+/// A rewrite at any place leaves a tree where it may stand; so a program stays one after any number of them.
 pub fn rewriting_keeps_programs()
     ensures step { StepFits }
     ensures program { ReachesWellShaped }

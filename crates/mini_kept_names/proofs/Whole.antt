@@ -12,7 +12,7 @@ use Rattle.mini_names.specs.DeclaredNames.{is_inner}
 use Rattle.mini_names.specs.Symbols.{declared_symbols}
 use Rattle.mini_names.specs.Early.{no_targets}
 use Rattle.mini_names.proofs.Changes.{distinct}
-use Rattle.mini_kept.proofs.Steps.{any_step_fits}
+use Rattle.mini_kept.proofs.Steps.{step_fits}
 use Rattle.mini_kept_names.specs.Keeps.{Keeps, Stands}
 use Rattle.mini_kept_names.specs.Lifted.{ProgramKeeps}
 use Rattle.mini_kept_names.proofs.Using.{also}
@@ -23,7 +23,7 @@ program_stands : (t : Tree) → Stands Elsewhere Read t
 program_stands t = also (is_inner (shape_of t)) true refl
 
 program_step : (t u : Tree) → Step Contracts Elsewhere t u → IsWellShaped t → IsWellShaped u
-program_step t u s e = any_step_fits s false (one a_program) e
+program_step t u s e = step_fits s false (one a_program) e
 
 program_keeps : (t u : Tree) → Step Contracts Elsewhere t u → IsWellShaped t → Keeps Elsewhere t u
 program_keeps t u s e = step_keeps Contracts contracts_keep s false (one a_program) e

@@ -1,6 +1,6 @@
 -- Passes of rewrites give a faithful answer.
 use Rattle.std.proofs.Common.{◌≡◌, ℕ, zero, suc, ◌+◌, ◌<◌, ◌≤◌, ◌^◌, Bool, true, false, List, [], ◌∷◌, ◌++◌, refl, sym, ap, ◌∙◌, subst, arith}
-use Rattle.std.specs.Prelude.{◌==◌, not, Contains, Some, Ok}
+use Rattle.std.specs.Prelude.{◌==◌, Contains, Some, Ok}
 use Rattle.std.proofs.lemmas.Bool.{and_parts, eqb-true}
 use Rattle.serde_json.specs.Data.{Data}
 use Rattle.serde_json.specs.View.{view}
@@ -21,9 +21,9 @@ use Rattle.mini_tree.specs.declared.options.CompressOptions.{CompressOptions}
 use Rattle.mini_structure.specs.WellShaped.{a_program, one, IsWellShaped}
 use Rattle.mini_accept.specs.Accept.{program_at, Accepts}
 use Rattle.mini_accept.proofs.Depths.{one_tree}
-use Rattle.mini_kept.specs.Nodes.{each_node, each_nodes, is_declaring, declares_not}
+use Rattle.mini_kept.specs.Nodes.{each_node, each_nodes}
 use Rattle.mini_kept.specs.Kept.{AdmitsWritten, over}
-use Rattle.mini_kept.proofs.Bools.{left, right, both}
+use Rattle.mini_kept.proofs.Bools.{left, right}
 use Rattle.mini_kept.proofs.Each.{reaches_each, reaches_below}
 use Rattle.mini_kept.proofs.Expressions.{refused_here}
 use Rattle.mini_kept.proofs.Programs.{reaches_well_shaped}
@@ -90,27 +90,6 @@ nameless_admits = record { negation = refl; conditional = refl; or = refl; and =
 supported_admits : AdmitsWritten supported
 supported_admits = record { negation = refl; conditional = refl; or = refl; and = refl; statement = refl; turned = λ xs n. refl }
 
-not_declaring : (h : Shape) → is_supported_shape h ≡ true → not (is_declaring h) ≡ true
-not_declaring (shape.VariableDeclaration k) e = absurd (cc e)
-not_declaring shape.ExportNamedDeclaration e = absurd (cc e)
-not_declaring h e = refl
-
-mutual
-  declaring_none : (t : Tree) → each_node supported t ≡ true → each_node declares_not t ≡ true
-  declaring_none (node h xs n ts) e =
-      let (own, below) = and_parts (is_supported_shape h) (each_nodes supported ts) e in
-      both (not (is_declaring h)) (each_nodes declares_not ts) (not_declaring h own) (none_declaring ts below)
-
-  none_declaring : (ts : Trees) → each_nodes supported ts ≡ true → each_nodes declares_not ts ≡ true
-  none_declaring none e = refl
-  none_declaring (t ▸ ts) e =
-      let (own, rest) = and_parts (each_node supported t) (each_nodes supported ts) e in
-      both (each_node declares_not t) (each_nodes declares_not ts) (declaring_none t own) (none_declaring ts rest)
-
-program_declares_not : (t : Tree) → Plain t → each_node declares_not t ≡ true
-program_declares_not (node (shape.Program m ds) xs n ts) p = none_declaring ts p.supported
-program_declares_not (node h xs n ts) p = absurd (refused_here false (one a_program) h xs n ts refl p.shaped)
-
 number_over : (t : Tree) (us : Trees) → number_of (over t us) ≡ number_of t
 number_over (node h xs n ts) us = refl
 
@@ -118,7 +97,7 @@ reached_plain : (t u : Tree) → Reaches Contracts Elsewhere t u → Plain t →
 reached_plain t u r p =
     let (below, root) = reaches_below supported supported_admits (λ v w x. x) r p.supported in
     record {
-      shaped = reaches_well_shaped r (program_declares_not t p) p.shaped;
+      shaped = reaches_well_shaped r p.shaped;
       supported = below;
       names = reaches_each nameless nameless_admits r p.names;
       number = ap number_of root ∙ number_over t (children u) ∙ p.number;
