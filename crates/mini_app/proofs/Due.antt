@@ -1,10 +1,13 @@
 -- What was delivered of a whole input is what is due of a run that read it; and a valid input is answered.
 use Rattle.std.proofs.Common.{◌≡◌, ℕ, ◌≤◌, ◌++◌, List, [], length, sym, ap, ◌∙◌, inl, inr, arith}
-use Rattle.std.specs.Prelude.{◌⊎◌, Option, Some, None, is_ok, is_err}
+use Rattle.std.specs.Prelude.{◌⊎◌, Option, Some, None}
 use Rattle.std.specs.Io.KnownBytes.{Consumes, IsAtEnd}
 use Rattle.std.proofs.lemmas.List.{length-append, append-nil}
-use Rattle.mini_options.specs.declared.options.CompressOptions.{CompressOptions}
+use Rattle.mini_tree.specs.declared.options.CompressOptions.{CompressOptions}
+use Rattle.mini_accept.specs.Faults as estree
+use Rattle.mini_accept.proofs.Results.{ok_same}
 use Rattle.mini_errors.specs.Faults.{Fault}
+use Rattle.mini_peephole.specs.Supported.{is_supported}
 use Rattle.mini_peephole.specs.Minified.{HasDefect}
 use Rattle.mini_app.specs.Answer.{Change, Gave, HasFault, IsNotJson, IsDelivered, IsDue, IsValidInput, IsAnswered}
 use Rattle.mini_app.specs.Words.{NameOptions}
@@ -50,8 +53,10 @@ no_defect words o source input valid name gave f has =
     let value : valid.value ≡ has.value = cc (sym valid.reads ∙ rw same at has.reads) in
     let defect : HasDefect valid.value valid.options f = rw (value, names_one words valid.options o valid.name name) has.defect in
     elim defect [
-      | inl bad ↦ cc (sym valid.estree ∙ ap is_ok bad.1)
-      | inr outside ↦ cc (sym outside.1 ∙ ap is_err valid.accepted)
+      | inl unread ↦ cc (sym valid.accepted ∙ unread.read)
+      | inr beyond ↦
+          let same : valid.program ≡ beyond.program = ap (λ x. x.0) (ok_same {E = estree.Fault} _ _ (sym valid.accepted ∙ beyond.read)) in
+          cc (sym valid.supported ∙ ap is_supported same ∙ beyond.beyond)
     ]
 
 pub answered_of : (s : Status) (words : List (List ℕ)) (source sink notes : Change) → IsDue s words source sink notes → IsValidInput words source.before → IsAnswered s source.faults_before source.faults_after sink.faults_before sink.faults_after

@@ -1,7 +1,7 @@
 -- Words name one choice of options, in any order of theirs.
 use Rattle.std.proofs.Common.{◌≡◌, ℕ, List, [], ◌∷◌, map, get_or, drop, refl, sym, ap, ap₂, ◌∙◌}
 use Rattle.std.specs.List.{AllByRecursion}
-use Rattle.mini_options.specs.declared.options.CompressOptions.{CompressOptions}
+use Rattle.mini_tree.specs.declared.options.CompressOptions.{CompressOptions}
 use Rattle.mini_app.specs.declared.choice.Choice.{Choice}
 use Rattle.mini_app.specs.Words.{spelling, chosen, IsAllowed, NameOptions, GoodWords}
 use Rattle.mini_app.proofs.Spelled.{spelling_tells}

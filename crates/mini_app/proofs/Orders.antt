@@ -5,7 +5,7 @@ use Rattle.std.specs.List.{AllByRecursion}
 use Rattle.std.proofs.lemmas.Bool.{eqb-false, ne_eqb}
 use Rattle.std.proofs.lemmas.Bool.Decides.{eqb_tells}
 use Rattle.std.proofs.lemmas.List.{map-append}
-use Rattle.mini_options.specs.declared.options.CompressOptions.{CompressOptions}
+use Rattle.mini_tree.specs.declared.options.CompressOptions.{CompressOptions}
 use Rattle.mini_app.specs.declared.choice.Choice.{Choice}
 use Rattle.mini_app.specs.Words.{spelling, option_of, number_of, named, chosen, IsAllowed, IsOnce, Spell, NameOptions, GoodWords}
 use Rattle.mini_app.proofs.Spelled.{spelling_tells}

@@ -2,7 +2,7 @@
 use Rattle.std.proofs.Common.{◌≡◌, refl}
 use Rattle.std.specs.Prelude.{Option, Some, None, IfSome}
 use Rattle.serde_json.specs.Data.{Data}
-use Rattle.mini_options.specs.declared.options.CompressOptions.{CompressOptions}
+use Rattle.mini_tree.specs.declared.options.CompressOptions.{CompressOptions}
 use Rattle.mini_errors.specs.Faults.{Fault, fault_of}
 use Rattle.mini_errors.specs.declared.error.MinifyError.{MinifyError}
 use Rattle.mini_peephole.specs.Minified.{HasDefect, IsRefusal}

@@ -6,7 +6,7 @@ ghost use Rattle.mini_app.specs.Words.{spelling, option_of, number_of, named, ch
 ghost use Rattle.mini_app.specs.declared.choice.Choice.{Choice};
 
 use crate::words::Words;
-use mini_first::{CompressOptions, KeepNames};
+use mini_tree::{CompressOptions, KeepNames};
 
 /// What one word chooses.
 #[derive(Clone, Copy, PartialEq, Eq, Debug)]

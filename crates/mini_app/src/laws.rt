@@ -1,6 +1,6 @@
 //! Laws of the words, each as the contract of a function that does nothing.
 ghost use Rattle.std.specs.Prelude.{◌≡◌, ◌∷◌, ◌++◌, ℕ, List};
-ghost use Rattle.mini_options.specs.declared.options.CompressOptions.{CompressOptions};
+ghost use Rattle.mini_tree.specs.declared.options.CompressOptions.{CompressOptions};
 ghost use Rattle.mini_app.specs.declared.choice.Choice.{Choice};
 ghost use Rattle.mini_app.specs.Words.{spelling, option_of, IsAllowed, NameOptions, GoodWords};
 

@@ -8,8 +8,8 @@ use crate::outside::{Failed, LIMIT, Source};
 use crate::plain::{PlainSink, PlainSource};
 use crate::run::{Status, run};
 use crate::words::Words;
-use mini_first::{CompressOptions, KeepNames};
 use mini_text::OutOfMemory;
+use mini_tree::{CompressOptions, KeepNames};
 use std::alloc::{AllocError, Global};
 use std::process::Abort;
 use std::test::Fail;
@@ -20,6 +20,13 @@ const ANSWER: &str =
     "{\"kept\":[0],\"passes\":1,\"program\":{\"body\":[],\"sourceType\":\"script\",\"type\":\"Program\"},\"settled\":true,\"symbols\":[]}\n";
 
 const MODULE: &str = "{\"type\":\"Program\",\"sourceType\":\"module\",\"body\":[]}";
+
+const MODULE_ANSWER: &str =
+    "{\"kept\":[0],\"passes\":1,\"program\":{\"body\":[],\"sourceType\":\"module\",\"type\":\"Program\"},\"settled\":true,\"symbols\":[]}\n";
+
+// `var a;`, which declares a name
+const DECLARATION: &str =
+    "{\"type\":\"Program\",\"sourceType\":\"script\",\"body\":[{\"type\":\"VariableDeclaration\",\"kind\":\"var\",\"declarations\":[{\"type\":\"VariableDeclarator\",\"id\":{\"type\":\"Identifier\",\"name\":\"a\"},\"init\":null}]}]}";
 
 const NOTE: &str = "refused: Unsupported at \n";
 
@@ -145,11 +152,11 @@ fn check_not_json(rt: &impl Abort, alloc: Global, input: &[u8]) -> Result<(), Fa
     check_each(rt, alloc, case)
 }
 
-fn check_done(rt: &impl Abort, alloc: Global, input: &str) -> Result<(), Fail> {
+fn check_done(rt: &impl Abort, alloc: Global, input: &str, written: &str) -> Result<(), Fail> {
     let case = Case {
         input: input.as_bytes(),
         status: Status::Done,
-        written: ANSWER,
+        written,
         told: "",
     };
     check_each(rt, alloc, case)
@@ -166,11 +173,11 @@ fn check_refused(rt: &impl Abort, alloc: Global, input: &str, told: &str) -> Res
 }
 
 #[test]
-fn an_empty_script_has_its_answer(rt: HostRuntime) -> Result<(), Fail> {
+fn an_empty_program_has_its_answer(rt: HostRuntime) -> Result<(), Fail> {
     for input in [SCRIPT, TWICE] {
-        check_done(&rt, rt.alloc(), input)?;
+        check_done(&rt, rt.alloc(), input, ANSWER)?;
     }
-    Ok(())
+    check_done(&rt, rt.alloc(), MODULE, MODULE_ANSWER)
 }
 
 #[test]
@@ -187,7 +194,7 @@ fn other_bytes_are_no_json(rt: HostRuntime) -> Result<(), Fail> {
 
 #[test]
 fn other_json_is_refused(rt: HostRuntime) -> Result<(), Fail> {
-    check_refused(&rt, rt.alloc(), MODULE, NOTE)?;
+    check_refused(&rt, rt.alloc(), DECLARATION, NOTE)?;
     for input in ["-1", "1.0", "9007199254740991", "9007199254740992"] {
         check_refused(&rt, rt.alloc(), input, SHAPELESS)?;
     }
@@ -274,9 +281,9 @@ fn run_statements(alloc: Global, call: u32) -> Result<Ended, Fail> {
     run_input(alloc, STATEMENTS.as_bytes(), faults)
 }
 
-// A run of the module, at whose notes the call of this number fails.
-fn run_module(alloc: Global, call: u32) -> Result<Ended, Fail> {
-    let input = source(alloc, MODULE.as_bytes(), 10, &[])?;
+// A run of the declaration, at whose notes the call of this number fails.
+fn run_declaration(alloc: Global, call: u32) -> Result<Ended, Fail> {
+    let input = source(alloc, DECLARATION.as_bytes(), 10, &[])?;
     let output = sink(alloc, ROOM, 10, &[])?;
     let notes = sink(alloc, ROOM, 10, &[call])?;
     Ok(run_over(alloc, &Words::new(alloc), input, output, notes))
@@ -285,7 +292,7 @@ fn run_module(alloc: Global, call: u32) -> Result<Ended, Fail> {
 #[test]
 fn notes_may_fail(rt: HostRuntime) -> Result<(), Fail> {
     for before in 0..3 {
-        let ended = run_module(rt.alloc(), before + 1)?;
+        let ended = run_declaration(rt.alloc(), before + 1)?;
         assert_eq!(rt; ended.status, Status::Refused);
         assert!(rt; ended.output.written().is_empty());
         let part = NOTE.as_bytes().get(..10 * before as usize);
