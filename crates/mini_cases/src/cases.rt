@@ -1,0 +1,97 @@
+// Cases and their answers.
+
+use crate::error::CaseError;
+use crate::weights::{expression_weight, statement_weights};
+use mini_estree::{Numbered, fits, read_program, write_program};
+use mini_peephole::minify_estree;
+use mini_tree::CompressOptions;
+use serde_json::Value;
+use std::alloc::Global;
+
+// How deep the nodes of a value may nest where a case says nothing of it.
+const MAX_DEPTH: u32 = 30;
+
+/// The answer to a line.
+pub fn answer(alloc: Global, line: &str) -> Result<String, CaseError> {
+    let (word, rest) = line.split_once(' ').ok_or(CaseError::NoCase)?;
+    match word {
+        "#" => Ok(String::from_str(alloc, line)?),
+        "tell" => told(alloc, rest),
+        "numbers" => numbers(alloc, rest),
+        "again" => again(alloc, rest),
+        "expression" => expression_weight(alloc, rest),
+        "statement" => statement_weights(alloc, rest),
+        "minify" => minified(alloc, rest),
+        _ => Err(CaseError::NoCase),
+    }
+}
+
+// A number, and what stands behind it.
+fn numbered(text: &str) -> Result<(u32, &str), CaseError> {
+    let (number, rest) = text.split_once(' ').ok_or(CaseError::NoCase)?;
+    match number.parse::<u32>() {
+        Ok(number) => Ok((number, rest)),
+        Err(_) => Err(CaseError::NoCase),
+    }
+}
+
+// Whether a value is read within a depth: `Ok`, or the error and the pointer of the node that has the defect.
+fn told(alloc: Global, text: &str) -> Result<String, CaseError> {
+    let (max_depth, text) = numbered(text)?;
+    let value = Value::from_str(alloc, text)?;
+    match read_program(alloc, &value, max_depth) {
+        Ok(_) => Ok(String::from_str(alloc, "Ok")?),
+        Err(error) => Ok(format!(in alloc; "{} {}", error.variant(), error.place())?),
+    }
+}
+
+/// The program that a text says.
+pub fn program(alloc: Global, text: &str) -> Result<Numbered, CaseError> {
+    let value = Value::from_str(alloc, text)?;
+    Ok(read_program(alloc, &value, MAX_DEPTH)?)
+}
+
+// How many nodes of a program have a number.
+fn numbers(alloc: Global, text: &str) -> Result<String, CaseError> {
+    let found = program(alloc, text)?.numbers;
+    Ok(format!(in alloc; "{found}")?)
+}
+
+// What is written of the program that a text says.
+fn written(alloc: Global, text: &str) -> Result<String, CaseError> {
+    let found = program(alloc, text)?;
+    Ok(write_program(alloc, &found.root)?.to_string(alloc)?)
+}
+
+// Whether what is written of a program reads as that program again.
+fn again(alloc: Global, text: &str) -> Result<String, CaseError> {
+    let first = written(alloc, text)?;
+    let second = written(alloc, first.as_str())?;
+    let word = if first.as_str() == second.as_str() {
+        "the same"
+    } else {
+        "another"
+    };
+    Ok(String::from_str(alloc, word)?)
+}
+
+// What the minifier answers within so many passes: how many were made, whether nothing is left to do, and the program; or
+// the error and its pointer.
+fn minified(alloc: Global, text: &str) -> Result<String, CaseError> {
+    let (passes, text) = numbered(text)?;
+    let value = Value::from_str(alloc, text)?;
+    if !fits(&value) {
+        return Err(CaseError::NoCase);
+    }
+    let options = CompressOptions {
+        passes,
+        ..CompressOptions::new()
+    };
+    match minify_estree(alloc, &value, &options) {
+        Ok(found) => {
+            let back = found.program.to_string(alloc)?;
+            Ok(format!(in alloc; "{} {} {back}", found.passes, found.settled)?)
+        }
+        Err(error) => Ok(format!(in alloc; "{} {}", error.variant(), error.place())?),
+    }
+}
