@@ -1,8 +1,9 @@
-//! Tests that cross crates: which programs are read and which are refused, what is written of one, what trees weigh and
-//! what scripts become; and of the texts below all that, numerals and templates.
+//! Tests that cross crates, of what no program is asked: lists of nodes and nodes changed in place, numerals and
+//! templates. What programs are read, refused, written, weighed and minified as is asked by the stored run of
+//! `mini_cases`.
 //!
 //! They stand in a crate of their own since a crate with tests is proved a second time with them. It gives nothing to
-//! others. What is wanted comes from outside: it was worked out by hand, or is what acorn gives for some code.
+//! others. What is wanted was worked out by hand.
 #![tactic(auto)]
 
 #[cfg(test)]
