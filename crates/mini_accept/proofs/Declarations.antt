@@ -11,7 +11,7 @@ use Rattle.mini_model.specs.declared.shape.Shape.TheVariants as shape
 use Rattle.mini_text.specs.Texts.{units_of}
 use Rattle.mini_model.specs.Tree.{Tree, node, children, child_or_absent, is_absent}
 use Rattle.mini_structure.specs.WellShaped as shaped
-use Rattle.mini_structure.specs.WellShaped.{Class, Depth, in_module, in_body, nested, Slot, slots_of, is_sloppy_function, is_strict_in, is_same_flag, is_same_spelling, is_numbered, has_names, has_plain_fields, has_its_parts, none_if, fits}
+use Rattle.mini_structure.specs.WellShaped.{Class, Depth, in_module, in_body, nested, Slot, slots_of, is_sloppy_function, is_strict_in, is_same_flag, is_same_spelling, has_its_number, has_names, has_plain_fields, has_its_parts, none_if, fits}
 use Rattle.mini_accept.specs.Places.{down, field, place, Place, at, an_exported, a_local_name}
 use Rattle.mini_accept.specs.Fields.{is_given, is_there_with, flag_at, list_at, no_item, has_type}
 use Rattle.mini_accept.specs.Standing.{is_unread, is_unread_form, is_method}
@@ -20,10 +20,9 @@ use Rattle.mini_accept.specs.Words.{word_at, method_kinds}
 use Rattle.mini_accept.specs.Functions as function
 use Rattle.mini_accept.specs.Functions.{directives_below, parameter}
 use Rattle.mini_accept.specs.Modules as module'
-use Rattle.mini_accept.specs.Accept.{takes_number}
 use Rattle.mini_accept.proofs.Fitting.{KnownBelow, known_fits, OfParts, trees_of_parts, OfChildren, trees_of_children, PartFits, AllFit, ChildrenFit}
-use Rattle.mini_accept.proofs.Gathered.{WholeIf}
-use Rattle.mini_accept.proofs.Wholes.{bind_whole, require_whole, list_whole, inner_one, if_fits, optional_fits, optional_inner_fits, absent_fits, absent_or, not_absent, all_fit, none_if_false, whole_by, whole_at}
+use Rattle.mini_accept.proofs.Gathered.{Numbered, WholeIf}
+use Rattle.mini_accept.proofs.Wholes.{bind_whole, require_whole, list_whole, inner_one, inner_fits, if_fits, optional_fits, optional_inner_fits, absent_fits, absent_or, not_absent, all_fit, none_if_false, whole_by, whole_at}
 use Rattle.mini_accept.proofs.Types.{some_same, text_is}
 use Rattle.mini_accept.proofs.Plains.{below_paired, parameters_fit}
 use Rattle.mini_accept.proofs.Statements.{is_function, not_sloppy}
@@ -38,7 +37,7 @@ perhaps_named : (d : Data) → PartFits (shaped.one_or_absent shaped.a_binding) 
 perhaps_named d = optional_fits shaped.a_binding (is_given (codes "id") d) (field (codes "id")) (at shaped.a_binding) (λ s t h. h)
 
 extends_fits : (d : Data) → PartFits (shaped.one_or_absent (shaped.an_inner shaped.an_expression)) (if is_given (codes "superClass") d then inner_at (field (codes "superClass")) (at shaped.an_expression) else hole)
-extends_fits d = optional_inner_fits (shaped.an_inner shaped.an_expression) (is_given (codes "superClass") d) (field (codes "superClass")) (at shaped.an_expression) (λ s n t h. inner_one _ h)
+extends_fits d = optional_inner_fits (shaped.an_inner shaped.an_expression) (is_given (codes "superClass") d) (field (codes "superClass")) (at shaped.an_expression) (λ s n t h. inner_fits n _ h)
 
 -- a function of sloppy code that isn't directly in a body isn't read
 not_loose : (strict : Bool) (depth : Depth) (d : Data) (g : Bool) (ds : List (List ℕ)) → has_type (codes "FunctionDeclaration") d ≡ true → is_unread strict (at (shaped.a_statement depth)) d ≡ false → is_sloppy_function strict depth (shape.Function true g ds) ≡ false
@@ -54,22 +53,22 @@ module _ (strict : Bool) (d : Data) where
       require_whole strict p d (is_some (flag_at (codes "async") d) && function.is_named declaration p d) _ (λ e. f g ds (and_parts (is_some (flag_at (codes "async") d)) (function.is_named declaration p d) e).1)))
 
   pub function_statement : (depth : Depth) → has_type (codes "FunctionDeclaration") d ≡ true → is_unread strict (at (shaped.a_statement depth)) d ≡ false → WholeIf strict (at (shaped.a_statement depth)) d (function.function true (at (shaped.a_statement depth)) d)
-  function_statement depth typed read = function_by true (at (shaped.a_statement depth)) (λ g ds is. whole_by strict (at (shaped.a_statement depth)) (shaped.a_statement depth) d (shape.Function true g (directives_below d)) [] _ _ (λ t e. e) (λ e. e)
+  function_statement depth typed read = function_by true (at (shaped.a_statement depth)) (λ g ds is. whole_by strict (at (shaped.a_statement depth)) (shaped.a_statement depth) d (shape.Function true g (directives_below d)) [] _ _ (λ t e. e) (λ n e. e)
       (none_if_false (is_sloppy_function strict depth (shape.Function true g (directives_below d))) _ (not_loose strict depth d g (directives_below d) typed read)) refl (below_paired d) (λ w. refl)
       (named d is, (parameters_fit (codes "params") ds, (λ s t h. h, tt))) (λ w n. tt))
 
   pub exported_function : WholeIf strict (at shaped.an_exported_declaration) d (function.function true (at shaped.an_exported_declaration) d)
-  exported_function = function_by true (at shaped.an_exported_declaration) (λ g ds is. whole_at strict (at shaped.an_exported_declaration) shaped.an_exported_declaration d (shape.Function true g (directives_below d)) [] _ (λ t e. e) (λ e. e) refl (below_paired d) (λ w. refl)
+  exported_function = function_by true (at shaped.an_exported_declaration) (λ g ds is. whole_at strict (at shaped.an_exported_declaration) shaped.an_exported_declaration d (shape.Function true g (directives_below d)) [] _ (λ t e. e) (λ n e. e) refl (below_paired d) (λ w. refl)
       (named d is, (parameters_fit (codes "params") ds, (λ s t h. h, tt))) (λ w n. tt))
 
   pub default_function : WholeIf strict (at shaped.a_default_export) d (function.function true (at shaped.a_default_export) d)
-  default_function = function_by true (at shaped.a_default_export) (λ g ds is. whole_at strict (at shaped.a_default_export) shaped.a_default_export d (shape.Function true g (directives_below d)) [] _ (λ t e. e) (λ e. e) refl (below_paired d) (λ w. refl)
+  default_function = function_by true (at shaped.a_default_export) (λ g ds is. whole_at strict (at shaped.a_default_export) shaped.a_default_export d (shape.Function true g (directives_below d)) [] _ (λ t e. e) (λ n e. e) refl (below_paired d) (λ w. refl)
       (perhaps_named d, (parameters_fit (codes "params") ds, (λ s t h. h, tt))) (λ w n. tt))
 
   method_by : (g : Bool) (ds : Items) (given : Bool) → given ≡ false
       → WholeIf strict (at shaped.a_method) d (node_of (shape.Function false g (directives_below d)) (one (if given then tree_at (field (codes "id")) (at shaped.a_binding) else hole) ∷ list parameter (codes "params") ds ∷ child (codes "body") shaped.a_function_body ∷ []))
   method_by g ds true bare = absurd (true≢false bare)
-  method_by g ds false bare = whole_at strict (at shaped.a_method) shaped.a_method d (shape.Function false g (directives_below d)) [] _ (λ t e. e) (λ e. e) refl (below_paired d) (λ w. refl)
+  method_by g ds false bare = whole_at strict (at shaped.a_method) shaped.a_method d (shape.Function false g (directives_below d)) [] _ (λ t e. e) (λ n e. e) refl (below_paired d) (λ w. refl)
       (λ s. absent_fits s shaped.a_binding, (parameters_fit (codes "params") ds, (λ s t h. h, tt))) (λ w n. tt)
 
   -- a method's value has no name
@@ -102,17 +101,17 @@ module _ (strict : Bool) (d : Data) where
   class_by p f = require_whole strict p d (function.is_named true p d) _ f
 
   pub class_statement : (depth : Depth) → WholeIf strict (at (shaped.a_statement depth)) d (function.class true (at (shaped.a_statement depth)) d)
-  class_statement depth = class_by (at (shaped.a_statement depth)) (λ is. whole_by strict (at (shaped.a_statement depth)) (shaped.a_statement depth) d (shape.Class true) [] _ _ (λ t e. e) (λ e. e)
+  class_statement depth = class_by (at (shaped.a_statement depth)) (λ is. whole_by strict (at (shaped.a_statement depth)) (shaped.a_statement depth) d (shape.Class true) [] _ _ (λ t e. e) (λ n e. e)
       (none_if_false (is_sloppy_function strict depth (shape.Class true)) _ (not_sloppy strict depth (shape.Class true) refl)) refl refl (name_held (is_given (codes "id") d) (is_given (codes "superClass") d)) (named d is, (extends_fits d, (λ s t h. h, (perhaps_named d, tt)))) (λ w n. tt))
 
   pub exported_class : WholeIf strict (at shaped.an_exported_declaration) d (function.class true (at shaped.an_exported_declaration) d)
-  exported_class = class_by (at shaped.an_exported_declaration) (λ is. whole_at strict (at shaped.an_exported_declaration) shaped.an_exported_declaration d (shape.Class true) [] _ (λ t e. e) (λ e. e) refl refl (name_held (is_given (codes "id") d) (is_given (codes "superClass") d)) (named d is, (extends_fits d, (λ s t h. h, (perhaps_named d, tt)))) (λ w n. tt))
+  exported_class = class_by (at shaped.an_exported_declaration) (λ is. whole_at strict (at shaped.an_exported_declaration) shaped.an_exported_declaration d (shape.Class true) [] _ (λ t e. e) (λ n e. e) refl refl (name_held (is_given (codes "id") d) (is_given (codes "superClass") d)) (named d is, (extends_fits d, (λ s t h. h, (perhaps_named d, tt)))) (λ w n. tt))
 
   pub default_class : WholeIf strict (at shaped.a_default_export) d (function.class true (at shaped.a_default_export) d)
-  default_class = whole_at strict (at shaped.a_default_export) shaped.a_default_export d (shape.Class true) [] (optional (codes "id") shaped.a_binding d ∷ optional_inner (codes "superClass") shaped.an_expression d ∷ child (codes "body") shaped.a_class_body ∷ function.name_held true d ∷ []) (λ t e. e) (λ e. e) refl refl (name_held (is_given (codes "id") d) (is_given (codes "superClass") d)) (perhaps_named d, (extends_fits d, (λ s t h. h, (perhaps_named d, tt)))) (λ w n. tt)
+  default_class = whole_at strict (at shaped.a_default_export) shaped.a_default_export d (shape.Class true) [] (optional (codes "id") shaped.a_binding d ∷ optional_inner (codes "superClass") shaped.an_expression d ∷ child (codes "body") shaped.a_class_body ∷ function.name_held true d ∷ []) (λ t e. e) (λ n e. e) refl refl (name_held (is_given (codes "id") d) (is_given (codes "superClass") d)) (perhaps_named d, (extends_fits d, (λ s t h. h, (perhaps_named d, tt)))) (λ w n. tt)
 
   pub class_body : WholeIf strict (at shaped.a_class_body) d (function.class_body d)
-  class_body = list_whole strict (at shaped.a_class_body) d (each shaped.a_class_member) (codes "body") _ (λ ds. whole_at strict (at shaped.a_class_body) shaped.a_class_body d shape.ClassBody [] _ (λ t e. e) (λ e. e) refl refl (λ w. refl)
+  class_body = list_whole strict (at shaped.a_class_body) d (each shaped.a_class_member) (codes "body") _ (λ ds. whole_at strict (at shaped.a_class_body) shaped.a_class_body d shape.ClassBody [] _ (λ t e. e) (λ n e. e) refl refl (λ w. refl)
       (all_fit (shaped.one shaped.a_class_member) (each shaped.a_class_member) (codes "body") 0 ds (λ last e q s t h. h), tt) (λ w n. tt))
 
   -- a method is the constructor by the tree as it is by the value
@@ -128,9 +127,9 @@ module _ (strict : Bool) (d : Data) where
 
   member_by : (k : MethodDefinitionKind) (computed is_static : Bool) → function.has_its_kind k (function.is_constructor computed is_static d) ≡ true
       → WholeIf strict (at shaped.a_class_member) d (node_of (shape.MethodDefinition k computed is_static) (inner_key computed (shaped.a_private_or_key false) ∷ child (codes "value") shaped.a_method ∷ []))
-  member_by k true is_static e = whole_at strict (at shaped.a_class_member) shaped.a_class_member d (shape.MethodDefinition k true is_static) [] _ (λ t e. e) (λ e. e) refl refl
-      (λ w. kind_same k true is_static _ ∙ e) (λ s n t h. inner_one _ h, (λ s t h. h, tt)) (λ w n. tt)
-  member_by k false is_static e = whole_at strict (at shaped.a_class_member) shaped.a_class_member d (shape.MethodDefinition k false is_static) [] _ (λ t e. e) (λ e. e) refl refl
+  member_by k true is_static e = whole_at strict (at shaped.a_class_member) shaped.a_class_member d (shape.MethodDefinition k true is_static) [] _ (λ t e. e) (λ n e. e) refl refl
+      (λ w. kind_same k true is_static _ ∙ e) (λ s n t h. inner_fits n _ h, (λ s t h. h, tt)) (λ w n. tt)
+  member_by k false is_static e = whole_at strict (at shaped.a_class_member) shaped.a_class_member d (shape.MethodDefinition k false is_static) [] _ (λ t e. e) (λ n e. e) refl refl
       (λ w. kind_same k false is_static w.0.0 ∙ (ap (λ b. function.has_its_kind k (not is_static && b)) (key_seen (get (codes "key") d) w.0.0 w.0.1) ∙ e)) (λ s t h. h, (λ s t h. h, tt)) (λ w n. tt)
 
   pub method_definition : WholeIf strict (at shaped.a_class_member) d (function.method_definition d)
@@ -138,17 +137,17 @@ module _ (strict : Bool) (d : Data) where
       require_whole strict (at shaped.a_class_member) d _ _ (λ e. member_by k computed is_static e))))
 
   value_fits : PartFits (shaped.one_or_absent (shaped.an_inner shaped.an_expression)) (if is_given (codes "value") d then inner_at (field (codes "value")) (at shaped.an_expression) else hole)
-  value_fits = optional_inner_fits (shaped.an_inner shaped.an_expression) (is_given (codes "value") d) (field (codes "value")) (at shaped.an_expression) (λ s n t h. inner_one _ h)
+  value_fits = optional_inner_fits (shaped.an_inner shaped.an_expression) (is_given (codes "value") d) (field (codes "value")) (at shaped.an_expression) (λ s n t h. inner_fits n _ h)
 
   property_by : (computed is_static : Bool) → WholeIf strict (at shaped.a_class_member) d (node_of (shape.PropertyDefinition computed is_static) (inner_key computed (shaped.a_private_or_key false) ∷ optional_inner (codes "value") shaped.an_expression d ∷ []))
-  property_by true is_static = whole_at strict (at shaped.a_class_member) shaped.a_class_member d (shape.PropertyDefinition true is_static) [] (inner_key true (shaped.a_private_or_key false) ∷ optional_inner (codes "value") shaped.an_expression d ∷ []) (λ t e. e) (λ e. e) refl refl (λ w. refl) (λ s n t h. inner_one _ h, (value_fits, tt)) (λ w n. tt)
-  property_by false is_static = whole_at strict (at shaped.a_class_member) shaped.a_class_member d (shape.PropertyDefinition false is_static) [] (inner_key false (shaped.a_private_or_key false) ∷ optional_inner (codes "value") shaped.an_expression d ∷ []) (λ t e. e) (λ e. e) refl refl (λ w. refl) (λ s t h. h, (value_fits, tt)) (λ w n. tt)
+  property_by true is_static = whole_at strict (at shaped.a_class_member) shaped.a_class_member d (shape.PropertyDefinition true is_static) [] (inner_key true (shaped.a_private_or_key false) ∷ optional_inner (codes "value") shaped.an_expression d ∷ []) (λ t e. e) (λ n e. e) refl refl (λ w. refl) (λ s n t h. inner_fits n _ h, (value_fits, tt)) (λ w n. tt)
+  property_by false is_static = whole_at strict (at shaped.a_class_member) shaped.a_class_member d (shape.PropertyDefinition false is_static) [] (inner_key false (shaped.a_private_or_key false) ∷ optional_inner (codes "value") shaped.an_expression d ∷ []) (λ t e. e) (λ n e. e) refl refl (λ w. refl) (λ s t h. h, (value_fits, tt)) (λ w n. tt)
 
   pub property_definition : WholeIf strict (at shaped.a_class_member) d (function.property_definition d)
   property_definition = bind_whole strict (at shaped.a_class_member) d (flag_at (codes "computed") d) _ (λ computed c. bind_whole strict (at shaped.a_class_member) d (flag_at (codes "static") d) _ (λ is_static s. property_by computed is_static))
 
   pub static_block : WholeIf strict (at shaped.a_class_member) d (function.static_block d)
-  static_block = list_whole strict (at shaped.a_class_member) d (each (shaped.a_statement in_body)) (codes "body") _ (λ ds. whole_at strict (at shaped.a_class_member) shaped.a_class_member d shape.StaticBlock [] _ (λ t e. e) (λ e. e) refl refl (λ w. refl)
+  static_block = list_whole strict (at shaped.a_class_member) d (each (shaped.a_statement in_body)) (codes "body") _ (λ ds. whole_at strict (at shaped.a_class_member) shaped.a_class_member d shape.StaticBlock [] _ (λ t e. e) (λ n e. e) refl refl (λ w. refl)
       (all_fit (shaped.one (shaped.a_statement in_body)) (each (shaped.a_statement in_body)) (codes "body") 0 ds (λ last e q s t h. h), tt) (λ w n. tt))
 
 -- ---- imports and exports
@@ -182,35 +181,35 @@ local_seen strict (Some e) t k = k.1
 module _ (strict : Bool) (d : Data) where
   -- a node of modules
   modular : (h : Shape) (cs : List Child) (slots : List Slot) → slots_of strict (shaped.a_statement in_module) h ≡ none_if (is_sloppy_function strict in_module h) (Some slots) → is_function h ≡ false → (has_names h [] && has_plain_fields h) ≡ true
-      → (is_numbered (shaped.a_statement in_module) h ≡ false → takes_number (at (shaped.a_statement in_module)) h ≡ false)
+      → ((n : ℕ) → Numbered (at (shaped.a_statement in_module)) h n → has_its_number (shaped.a_statement in_module) h n ≡ true)
       → ((w : OfChildren (is_strict_in strict h) d cs) → has_its_parts (shaped.a_statement in_module) h (trees_of_children (is_strict_in strict h) d cs w) ≡ true) → ChildrenFit slots cs → WholeIf strict (at (shaped.a_statement in_module)) d (node_of h cs)
-  modular h cs slots stands bare is unnumbered parts fit =
+  modular h cs slots stands bare is counted parts fit =
       let (names, fields) = and_parts (has_names h []) (has_plain_fields h) is in
-      whole_by strict (at (shaped.a_statement in_module)) (shaped.a_statement in_module) d h [] cs slots (λ t e. e) unnumbered (stands ∙ none_if_false (is_sloppy_function strict in_module h) (Some slots) (not_sloppy strict in_module h bare)) names fields parts fit (λ w n. tt)
+      whole_by strict (at (shaped.a_statement in_module)) (shaped.a_statement in_module) d h [] cs slots (λ t e. e) counted (stands ∙ none_if_false (is_sloppy_function strict in_module h) (Some slots) (not_sloppy strict in_module h bare)) names fields parts fit (λ w n. tt)
 
   pub import : WholeIf strict (at (shaped.a_statement in_module)) d (module'.import d)
-  import = list_whole strict (at (shaped.a_statement in_module)) d (each shaped.an_import) (codes "specifiers") _ (λ ds. require_whole strict (at (shaped.a_statement in_module)) d _ _ (λ e. modular shape.ImportDeclaration _ _ refl refl refl (λ e. e) (λ w. refl)
+  import = list_whole strict (at (shaped.a_statement in_module)) d (each shaped.an_import) (codes "specifiers") _ (λ ds. require_whole strict (at (shaped.a_statement in_module)) d _ _ (λ e. modular shape.ImportDeclaration _ _ refl refl refl (λ n e. e) (λ w. refl)
       (all_fit (shaped.one shaped.an_import) (each shaped.an_import) (codes "specifiers") 0 ds (λ last e q s t h. h), (λ s t h. h, tt))))
 
   pub import_specifier : WholeIf strict (at shaped.an_import) d (module'.import_specifier d)
-  import_specifier = whole_at strict (at shaped.an_import) shaped.an_import d shape.ImportSpecifier [] _ (λ t e. e) (λ e. e) refl refl (λ w. refl) (λ s t h. h, (λ s t h. h, tt)) (λ w n. tt)
+  import_specifier = whole_at strict (at shaped.an_import) shaped.an_import d shape.ImportSpecifier [] _ (λ t e. e) (λ n e. e) refl refl (λ w. refl) (λ s t h. h, (λ s t h. h, tt)) (λ w n. tt)
 
   pub import_default : WholeIf strict (at shaped.an_import) d (module'.import_default d)
-  import_default = whole_at strict (at shaped.an_import) shaped.an_import d shape.ImportDefaultSpecifier [] _ (λ t e. e) (λ e. e) refl refl (λ w. refl) (λ s t h. h, tt) (λ w n. tt)
+  import_default = whole_at strict (at shaped.an_import) shaped.an_import d shape.ImportDefaultSpecifier [] _ (λ t e. e) (λ n e. e) refl refl (λ w. refl) (λ s t h. h, tt) (λ w n. tt)
 
   pub import_namespace : WholeIf strict (at shaped.an_import) d (module'.import_namespace d)
-  import_namespace = whole_at strict (at shaped.an_import) shaped.an_import d shape.ImportNamespaceSpecifier [] _ (λ t e. e) (λ e. e) refl refl (λ w. refl) (λ s t h. h, tt) (λ w n. tt)
+  import_namespace = whole_at strict (at shaped.an_import) shaped.an_import d shape.ImportNamespaceSpecifier [] _ (λ t e. e) (λ n e. e) refl refl (λ w. refl) (λ s t h. h, tt) (λ w n. tt)
 
   pub export_default : WholeIf strict (at (shaped.a_statement in_module)) d (module'.export_default d)
-  export_default = modular shape.ExportDefaultDeclaration _ _ refl refl refl (λ e. e) (λ w. refl) (λ s t h. h, tt)
+  export_default = modular shape.ExportDefaultDeclaration _ _ refl refl refl (λ n e. e) (λ w. refl) (λ s t h. h, tt)
 
   pub export_all : WholeIf strict (at (shaped.a_statement in_module)) d (module'.export_all d)
-  export_all = require_whole strict (at (shaped.a_statement in_module)) d _ _ (λ e. modular shape.ExportAllDeclaration (optional (codes "exported") shaped.a_module_name d ∷ child (codes "source") shaped.a_string ∷ []) _ refl refl refl (λ e. e) (λ w. refl)
+  export_all = require_whole strict (at (shaped.a_statement in_module)) d _ _ (λ e. modular shape.ExportAllDeclaration (optional (codes "exported") shaped.a_module_name d ∷ child (codes "source") shaped.a_string ∷ []) _ refl refl refl (λ n e. e) (λ w. refl)
       (optional_fits shaped.a_module_name (is_given (codes "exported") d) (field (codes "exported")) (at shaped.a_module_name) (λ s t h. h), (λ s t h. h, tt)))
 
   pub export_specifier : (own : Bool) → WholeIf strict (an_exported own) d (module'.export_specifier (an_exported own) d)
-  export_specifier true = whole_at strict (an_exported true) shaped.an_export d shape.ExportSpecifier [] _ (λ t e. e) (λ e. e) refl refl (λ w. refl) (λ s t h. h, (λ s t h. h, tt)) (λ w n. local_seen strict (get (codes "local") d) w.1.0.0 w.1.0.1)
-  export_specifier false = whole_at strict (an_exported false) shaped.an_export d shape.ExportSpecifier [] _ (λ t e. e) (λ e. e) refl refl (λ w. refl) (λ s t h. h, (λ s t h. name_exported s t h, tt))
+  export_specifier true = whole_at strict (an_exported true) shaped.an_export d shape.ExportSpecifier [] _ (λ t e. e) (λ n e. e) refl refl (λ w. refl) (λ s t h. h, (λ s t h. h, tt)) (λ w n. local_seen strict (get (codes "local") d) w.1.0.0 w.1.0.1)
+  export_specifier false = whole_at strict (an_exported false) shaped.an_export d shape.ExportSpecifier [] _ (λ t e. e) (λ n e. e) refl refl (λ w. refl) (λ s t h. h, (λ s t h. name_exported s t h, tt))
       (λ w n. no_reference strict w.1.0.0 (known_fits strict (at shaped.a_module_name) (get (codes "local") d) w.1.0.0 w.1.0.1))
 
   specifiers_fit : (own : Bool) (ds : Items) → AllFit (shaped.one shaped.an_export) (parts_from (module'.export_part own) (codes "specifiers") 0 ds)
@@ -220,12 +219,12 @@ module _ (strict : Bool) (d : Data) where
       → WholeIf strict (at (shaped.a_statement in_module)) d (node_of shape.ExportNamedDeclaration (one (if declared then tree_at (field (codes "declaration")) (at shaped.an_exported_declaration) else hole) ∷ list (module'.export_part (not sourced)) (codes "specifiers") ds ∷ one (if sourced then tree_at (field (codes "source")) (at shaped.a_string) else hole) ∷ []))
   export_by true true ds e = absurd (false≢true (and_parts (no_item ds) false e).1)
   export_by true false (item f ds) e = absurd (false≢true e)
-  export_by true false no_items e = modular shape.ExportNamedDeclaration _ _ refl refl refl (λ e. e) (λ w. inner_one _ (or_right _ _ refl))
+  export_by true false no_items e = modular shape.ExportNamedDeclaration _ _ refl refl refl (λ n e. e) (λ w. inner_one _ (or_right _ _ refl))
       (λ s t h. absent_or s shaped.an_exported_declaration t h, (tt, (λ s. absent_fits s shaped.a_string, tt)))
-  export_by false true ds e = modular shape.ExportNamedDeclaration _ _ refl refl refl (λ e. e)
+  export_by false true ds e = modular shape.ExportNamedDeclaration _ _ refl refl refl (λ n e. e)
       (λ w. ap (λ b. shaped.are_locals b (trees_of_parts strict d (parts_from (module'.export_part false) (codes "specifiers") 0 ds) w.1.0)) (not_absent strict shaped.a_string w.1.1.0.0 (known_fits strict (at shaped.a_string) (get (codes "source") d) w.1.1.0.0 w.1.1.0.1)) ∙ locals strict false d 0 ds w.1.0)
       (λ s. absent_fits s shaped.an_exported_declaration, (specifiers_fit false ds, (λ s t h. absent_or s shaped.a_string t h, tt)))
-  export_by false false ds e = modular shape.ExportNamedDeclaration _ _ refl refl refl (λ e. e) (λ w. locals strict true d 0 ds w.1.0)
+  export_by false false ds e = modular shape.ExportNamedDeclaration _ _ refl refl refl (λ n e. e) (λ w. locals strict true d 0 ds w.1.0)
       (λ s. absent_fits s shaped.an_exported_declaration, (specifiers_fit true ds, (λ s. absent_fits s shaped.a_string, tt)))
 
   pub export_named : WholeIf strict (at (shaped.a_statement in_module)) d (module'.export_named d)

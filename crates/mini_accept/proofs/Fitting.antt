@@ -1,6 +1,6 @@
 -- When the parts of a plan fill the slots of a shape, and that the trees which are read of them fill these.
-use Rattle.std.proofs.Common.{◌≡◌, ℕ, List, [], ◌∷◌, refl, inl, inr, Bool, true, false}
-use Rattle.std.specs.Prelude.{◌⊎◌, ⊤, Option, Some, None, ℤ, codes}
+use Rattle.std.proofs.Common.{◌≡◌, ℕ, suc, List, [], ◌∷◌, refl, inl, inr, Bool, true, false}
+use Rattle.std.specs.Prelude.{◌⊎◌, ⊤, ◌==◌, Option, Some, None, ℤ, codes}
 use Rattle.std.proofs.lemmas.Bool.{and_from, or_left, or_right, true≢false}
 use Rattle.serde_json.specs.Data.{Data}
 use Rattle.mini_text.specs.Texts.{units_of}
@@ -28,6 +28,9 @@ class_at (an_exported own) = shaped.an_export
 class_at a_local_name = shaped.an_exported_name
 class_at p = shaped.an_expression
 
+abbrev pub has_no_number : Tree → Bool
+has_no_number (node h xs n ts) = n == 0
+
 -- it may stand there
 abbrev pub Fits : Bool → Place → Tree → Type 0
 Fits strict (a_quasi g last) t = is_quasi g last t ≡ true
@@ -35,6 +38,8 @@ Fits strict a_directive t = ⊤
 Fits strict a_directive_text t = ⊤
 -- a chain has a mark: `super.a` alone is none
 Fits strict (at shaped.a_chain) t = shaped.has_optional t ≡ true → fits strict (shaped.one shaped.a_chain) t ≡ true
+-- a program has no number
+Fits strict (at shaped.a_program) t = has_no_number t ≡ true → fits strict (shaped.one shaped.a_program) t ≡ true
 -- a word is one of the first 128 characters
 Fits strict (at (shaped.a_word w)) t = units_of w ≡ w → fits strict (shaped.one (shaped.a_word w)) t ≡ true
 Fits strict p t = fits strict (shaped.one (class_at p)) t ≡ true
@@ -96,13 +101,14 @@ known_fits strict p (Some d) t k = k.0
 abbrev pub Of : Bool → Data → Part → Type 0
 Of strict d hole = ⊤
 Of strict d (tree_at s p) = (t : Tree) × KnownBelow strict p (down s d) t
+-- an inner expression has a number other than 0
 Of strict d (inner_at s p) = (n : ℕ) × (t : Tree) × KnownBelow strict p (down s d) t
 Of strict d (checked s p) = (t : Tree) × KnownBelow strict p (down s d) t
 
 abbrev pub trees_of : (strict : Bool) (d : Data) (x : Part) → Of strict d x → Trees
 trees_of strict d hole w = absent ▸ none
 trees_of strict d (tree_at s p) w = w.0 ▸ none
-trees_of strict d (inner_at s p) w = node shape.InnerExpression [] w.0 (w.1 ▸ none) ▸ none
+trees_of strict d (inner_at s p) w = node shape.InnerExpression [] (suc w.0) (w.1 ▸ none) ▸ none
 trees_of strict d (checked s p) w = none
 
 abbrev pub OfParts : Bool → Data → List Part → Type 0
@@ -134,7 +140,7 @@ trees_of_children strict d (c ∷ cs) w = append (trees_of_child strict d c w.0)
 abbrev pub PartFits : Slot → Part → Type 0
 PartFits s hole = (strict : Bool) → fits strict s absent ≡ true
 PartFits s (tree_at q p) = (strict : Bool) (t : Tree) → Fits strict p t → fits strict s t ≡ true
-PartFits s (inner_at q p) = (strict : Bool) (n : ℕ) (t : Tree) → Fits strict p t → fits strict s (node shape.InnerExpression [] n (t ▸ none)) ≡ true
+PartFits s (inner_at q p) = (strict : Bool) (n : ℕ) (t : Tree) → Fits strict p t → fits strict s (node shape.InnerExpression [] (suc n) (t ▸ none)) ≡ true
 PartFits s (checked q p) = ⊥
 
 -- in a list a part that is no tree fills nothing

@@ -176,30 +176,30 @@ key_shape d h is small e = elim (or_cases (is_string_literal d) (is_literal_with
 ]
 
 plain_key : (strict : Bool) (d : Data) (h : Shape) → is_key_shape h ≡ true → is_sound h ≡ true → ((n : ℕ) → Seen (at (shaped.a_key false)) d (node h [] n none)) → WholeIf strict (at (shaped.a_key false)) d (node_of h [])
-plain_key strict d (shape.NumericLiteral (pos m)) e sound s = whole_at strict (at (shaped.a_key false)) (shaped.a_key false) d (shape.NumericLiteral (pos m)) [] [] (λ t h. h) (λ h. h) refl sound (λ w. refl) tt (λ w n. s n)
-plain_key strict d (shape.StringLiteral u) e sound s = whole_at strict (at (shaped.a_key false)) (shaped.a_key false) d (shape.StringLiteral u) [] [] (λ t h. h) (λ h. h) refl sound (λ w. refl) tt (λ w n. s n)
+plain_key strict d (shape.NumericLiteral (pos m)) e sound s = whole_at strict (at (shaped.a_key false)) (shaped.a_key false) d (shape.NumericLiteral (pos m)) [] [] (λ t h. h) (λ n h. h) refl sound (λ w. refl) tt (λ w n. s n)
+plain_key strict d (shape.StringLiteral u) e sound s = whole_at strict (at (shaped.a_key false)) (shaped.a_key false) d (shape.StringLiteral u) [] [] (λ t h. h) (λ n h. h) refl sound (λ w. refl) tt (λ w n. s n)
 plain_key strict d (shape.NumericLiteral (negsuc m)) e sound s = absurd (false≢true sound)
 plain_key strict d h e sound s = absurd (false≢true e)
 
 member_key : (strict : Bool) (computed : Bool) (d : Data) (h : Shape) → is_key_shape h ≡ true → is_sound h ≡ true → ((n : ℕ) → Seen (at (shaped.a_private_or_key computed)) d (node h [] n none)) → WholeIf strict (at (shaped.a_private_or_key computed)) d (node_of h [])
-member_key strict computed d (shape.NumericLiteral (pos m)) e sound s = whole_at strict (at (shaped.a_private_or_key computed)) (shaped.a_private_or_key false) d (shape.NumericLiteral (pos m)) [] [] (λ t h. h) (λ h. h) refl sound (λ w. refl) tt (λ w n. s n)
-member_key strict computed d (shape.StringLiteral u) e sound s = whole_at strict (at (shaped.a_private_or_key computed)) (shaped.a_private_or_key false) d (shape.StringLiteral u) [] [] (λ t h. h) (λ h. h) refl sound (λ w. refl) tt (λ w n. s n)
+member_key strict computed d (shape.NumericLiteral (pos m)) e sound s = whole_at strict (at (shaped.a_private_or_key computed)) (shaped.a_private_or_key false) d (shape.NumericLiteral (pos m)) [] [] (λ t h. h) (λ n h. h) refl sound (λ w. refl) tt (λ w n. s n)
+member_key strict computed d (shape.StringLiteral u) e sound s = whole_at strict (at (shaped.a_private_or_key computed)) (shaped.a_private_or_key false) d (shape.StringLiteral u) [] [] (λ t h. h) (λ n h. h) refl sound (λ w. refl) tt (λ w n. s n)
 member_key strict computed d (shape.NumericLiteral (negsuc m)) e sound s = absurd (false≢true sound)
 member_key strict computed d h e sound s = absurd (false≢true e)
 
 inner_key : (strict : Bool) (computed : Bool) (d : Data) (h : Shape) → is_key_shape h ≡ true → is_sound h ≡ true → ((n : ℕ) → Seen (at (shaped.an_inner_key computed)) d (node h [] n none)) → WholeIf strict (at (shaped.an_inner_key computed)) d (node_of h [])
-inner_key strict computed d (shape.NumericLiteral (pos m)) e sound s = whole_at strict (at (shaped.an_inner_key computed)) (shaped.an_inner_key false) d (shape.NumericLiteral (pos m)) [] [] (λ t h. h) (λ h. h) refl sound (λ w. refl) tt (λ w n. s n)
-inner_key strict computed d (shape.StringLiteral u) e sound s = whole_at strict (at (shaped.an_inner_key computed)) (shaped.an_inner_key false) d (shape.StringLiteral u) [] [] (λ t h. h) (λ h. h) refl sound (λ w. refl) tt (λ w n. s n)
+inner_key strict computed d (shape.NumericLiteral (pos m)) e sound s = whole_at strict (at (shaped.an_inner_key computed)) (shaped.an_inner_key false) d (shape.NumericLiteral (pos m)) [] [] (λ t h. h) (λ n h. h) refl sound (λ w. refl) tt (λ w n. s n)
+inner_key strict computed d (shape.StringLiteral u) e sound s = whole_at strict (at (shaped.an_inner_key computed)) (shaped.an_inner_key false) d (shape.StringLiteral u) [] [] (λ t h. h) (λ n h. h) refl sound (λ w. refl) tt (λ w n. s n)
 inner_key strict computed d (shape.NumericLiteral (negsuc m)) e sound s = absurd (false≢true sound)
 inner_key strict computed d h e sound s = absurd (false≢true e)
 
 -- a text, as the name of an import or export
 text_whole : (strict : Bool) (d : Data) (h : Shape) → is_string_shape (Some h) ≡ true → is_sound h ≡ true → WholeIf strict (at shaped.a_string) d (node_of h [])
-text_whole strict d (shape.StringLiteral u) e sound = whole_at strict (at shaped.a_string) shaped.a_string d (shape.StringLiteral u) [] [] (λ t h. h) (λ h. h) refl sound (λ w. refl) tt (λ w n. tt)
+text_whole strict d (shape.StringLiteral u) e sound = whole_at strict (at shaped.a_string) shaped.a_string d (shape.StringLiteral u) [] [] (λ t h. h) (λ n h. h) refl sound (λ w. refl) tt (λ w n. tt)
 text_whole strict d h e sound = absurd (false≢true e)
 
 name_whole : (strict : Bool) (d : Data) (h : Shape) → is_string_shape (Some h) ≡ true → is_sound h ≡ true → WholeIf strict (at shaped.a_module_name) d (node_of h [])
-name_whole strict d (shape.StringLiteral u) e sound = whole_at strict (at shaped.a_module_name) shaped.a_module_name d (shape.StringLiteral u) [] [] (λ t h. h) (λ h. h) refl sound (λ w. refl) tt (λ w n. tt)
+name_whole strict d (shape.StringLiteral u) e sound = whole_at strict (at shaped.a_module_name) shaped.a_module_name d (shape.StringLiteral u) [] [] (λ t h. h) (λ n h. h) refl sound (λ w. refl) tt (λ w n. tt)
 name_whole strict d h e sound = absurd (false≢true e)
 
 -- a literal names the constructor by its text

@@ -21,7 +21,7 @@ use Rattle.mini_accept.specs.Expressions.{is_link, link_class, link_key, is_chai
 use Rattle.mini_accept.proofs.Fitting.{KnownBelow, Marked, Expressed, Seen, OfChildren, trees_of_children, ChildrenFit, children_filled, is_ruled_by_class, parts_by_shape}
 use Rattle.mini_accept.proofs.Gathered.{WholeIf}
 use Rattle.mini_accept.proofs.Types.{some_same, text_same, Typed, typed_has, types_at, is_expression_place}
-use Rattle.mini_accept.proofs.Wholes.{bind_whole, require_whole, either_whole, list_whole, inner_one, if_fits, all_fit, none_if_false, unmarked, Expression, expression_fits, unlinked, whole_by}
+use Rattle.mini_accept.proofs.Wholes.{bind_whole, require_whole, either_whole, list_whole, inner_fits, if_fits, all_fit, none_if_false, unmarked, Expression, is_program_shape, own_number, no_program, expression_fits, unlinked, whole_by}
 use Rattle.mini_accept.proofs.Plains.{arguments_fit}
 use Rattle.mini_accept.proofs.Identifiers.{text_symmetric}
 
@@ -117,10 +117,10 @@ module _ (strict : Bool) (d : Data) (a : Linked d) where
       → (not (is_optional h) || is_link p) ≡ true → WholeIf strict p d (node_of h (cs (link_class p)))
   link_at (at shaped.a_link) e h cs slots loose chained ruled is parts linked free marked may =
       let (names, fields) = and_parts (has_names h []) (has_plain_fields h) is in
-      whole_by strict (at shaped.a_link) shaped.a_link d h [] (cs shaped.a_link) (slots shaped.a_link) (λ t f. f) (λ f. f) (loose shaped.a_link) names fields (λ w. parts_by_shape shaped.a_link h _ ruled ∙ parts _) linked marked
+      whole_by strict (at shaped.a_link) shaped.a_link d h [] (cs shaped.a_link) (slots shaped.a_link) (λ t f. f) (λ n. own_number shaped.a_link h n (no_program shaped.a_link h (slots shaped.a_link) (loose shaped.a_link))) (loose shaped.a_link) names fields (λ w. parts_by_shape shaped.a_link h _ ruled ∙ parts _) linked marked
   link_at (at shaped.a_chain) e h cs slots loose chained ruled is parts linked free marked may =
       let (names, fields) = and_parts (has_names h []) (has_plain_fields h) is in
-      whole_by strict (at shaped.a_chain) shaped.a_chain d h [] (cs shaped.a_link) (slots shaped.a_link) (λ t f m. f) (λ f. f) (none_if_false (not (shaped.is_chained h)) (expression_slots shaped.a_link h) (ap not chained) ∙ loose shaped.a_link) names fields (λ w. parts_by_shape shaped.a_chain h _ ruled ∙ parts _) linked marked
+      whole_by strict (at shaped.a_chain) shaped.a_chain d h [] (cs shaped.a_link) (slots shaped.a_link) (λ t f m. f) (λ n. own_number shaped.a_chain h n (no_program shaped.a_link h (slots shaped.a_link) (loose shaped.a_link))) (none_if_false (not (shaped.is_chained h)) (expression_slots shaped.a_link h) (ap not chained) ∙ loose shaped.a_link) names fields (λ w. parts_by_shape shaped.a_chain h _ ruled ∙ parts _) linked marked
   link_at p e h cs slots loose chained ruled is parts linked free marked may =
       let (names, fields) = and_parts (has_names h []) (has_plain_fields h) is in
       let x : Expression strict d h (cs shaped.an_expression) = record { slots = slots shaped.an_expression; loose = loose shaped.an_expression; bare = unoptional (is_optional h) may; names = names; plain = λ w. fields; parts = λ w. parts _; filled = λ w. children_filled (is_strict_in strict h) d (slots shaped.an_expression) (cs shaped.an_expression) w free } in
@@ -178,7 +178,7 @@ module _ (strict : Bool) (d : Data) (typed : Typed d (codes "CallExpression")) w
         plain = λ w. refl;
         parts = λ w. refl;
         filled = λ w. children_filled strict d (shaped.one shaped.a_super ∷ shaped.many shaped.an_inner_argument ∷ []) (child (codes "callee") shaped.a_super ∷ list expression.inner_argument (codes "arguments") ds ∷ []) w
-            (λ s t h. h, (all_fit (shaped.one shaped.an_inner_argument) expression.inner_argument (codes "arguments") 0 ds (λ last x q. if_fits (shaped.one shaped.an_inner_argument) (has_type (codes "SpreadElement") x) (tree_at q (at shaped.an_inner_argument)) (inner_at q (at shaped.an_expression)) (λ y s t h. h) (λ n s m t h. inner_one _ h)), tt));
+            (λ s t h. h, (all_fit (shaped.one shaped.an_inner_argument) expression.inner_argument (codes "arguments") 0 ds (λ last x q. if_fits (shaped.one shaped.an_inner_argument) (has_type (codes "SpreadElement") x) (tree_at q (at shaped.an_inner_argument)) (inner_at q (at shaped.an_expression)) (λ y s t h. h) (λ n s m t h. inner_fits m _ h)), tt));
       })
       refl (λ n ts. refl) (λ n ts. refl) (super_bare d (codes "callee") call_key (flag ∙ ap Some (not-true optional bare)) is_super)))
 
@@ -210,6 +210,10 @@ simple_same : (strict : Bool) (h : Shape) (slots : List Slot) → member_slots h
 simple_same strict shape.Identifier slots e = absurd (cc e)
 simple_same strict h slots e = e
 
+no_program_target : (h : Shape) (slots : List Slot) → member_slots h ≡ Some slots → is_program_shape h ≡ false
+no_program_target (shape.Program m ds) slots e = absurd (cc e)
+no_program_target h slots e = refl
+
 -- a member is no declaration and no pattern
 target_same : (h : Shape) (slots : List Slot) → member_slots h ≡ Some slots → shaped.or_else (pattern_target_slots h) (member_slots h) ≡ Some slots
 target_same shape.Identifier slots e = absurd (cc e)
@@ -226,16 +230,16 @@ module _ (strict : Bool) (d : Data) where
       → ChildrenFit slots cs → WholeIf strict p d (node_of h cs)
   target_at (at (shaped.a_loop_left enumerates)) e h cs slots is ruled fields parts fit =
       let (names, plain) = and_parts (has_names h []) (has_plain_fields h) fields in
-      whole_by strict (at (shaped.a_loop_left enumerates)) (shaped.a_loop_left enumerates) d h [] cs slots (λ t f. f) (λ f. f) (loop_same h slots is) names plain (λ w. parts_by_shape (shaped.a_loop_left enumerates) h _ ruled ∙ parts _) fit (λ w n. tt)
+      whole_by strict (at (shaped.a_loop_left enumerates)) (shaped.a_loop_left enumerates) d h [] cs slots (λ t f. f) (λ n. own_number (shaped.a_loop_left enumerates) h n (no_program_target h slots is)) (loop_same h slots is) names plain (λ w. parts_by_shape (shaped.a_loop_left enumerates) h _ ruled ∙ parts _) fit (λ w n. tt)
   target_at (at shaped.a_target) e h cs slots is ruled fields parts fit =
       let (names, plain) = and_parts (has_names h []) (has_plain_fields h) fields in
-      whole_by strict (at shaped.a_target) shaped.a_target d h [] cs slots (λ t f. f) (λ f. f) (target_same h slots is) names plain (λ w. parts_by_shape shaped.a_target h _ ruled ∙ parts _) fit (λ w n. tt)
+      whole_by strict (at shaped.a_target) shaped.a_target d h [] cs slots (λ t f. f) (λ n. own_number shaped.a_target h n (no_program_target h slots is)) (target_same h slots is) names plain (λ w. parts_by_shape shaped.a_target h _ ruled ∙ parts _) fit (λ w n. tt)
   target_at (at shaped.a_simple_target) e h cs slots is ruled fields parts fit =
       let (names, plain) = and_parts (has_names h []) (has_plain_fields h) fields in
-      whole_by strict (at shaped.a_simple_target) shaped.a_simple_target d h [] cs slots (λ t f. f) (λ f. f) (simple_same strict h slots is) names plain (λ w. parts_by_shape shaped.a_simple_target h _ ruled ∙ parts _) fit (λ w n. tt)
+      whole_by strict (at shaped.a_simple_target) shaped.a_simple_target d h [] cs slots (λ t f. f) (λ n. own_number shaped.a_simple_target h n (no_program_target h slots is)) (simple_same strict h slots is) names plain (λ w. parts_by_shape shaped.a_simple_target h _ ruled ∙ parts _) fit (λ w n. tt)
   target_at (at shaped.a_member_target) e h cs slots is ruled fields parts fit =
       let (names, plain) = and_parts (has_names h []) (has_plain_fields h) fields in
-      whole_by strict (at shaped.a_member_target) shaped.a_member_target d h [] cs slots (λ t f. f) (λ f. f) is names plain (λ w. parts_by_shape shaped.a_member_target h _ ruled ∙ parts _) fit (λ w n. tt)
+      whole_by strict (at shaped.a_member_target) shaped.a_member_target d h [] cs slots (λ t f. f) (λ n. own_number shaped.a_member_target h n (no_program_target h slots is)) is names plain (λ w. parts_by_shape shaped.a_member_target h _ ruled ∙ parts _) fit (λ w n. tt)
   target_at p e h cs slots is ruled fields parts fit = absurd (false≢true e)
 
   target_form : (p : Place) → is_member_place p ≡ true → (optional computed : Bool) → optional ≡ false → WholeIf strict p d (if computed then expression.computed_member optional shaped.an_expression else expression.named_member optional shaped.an_expression d)
@@ -243,7 +247,7 @@ module _ (strict : Bool) (d : Data) where
   target_form p e false computed bare = either_whole strict p d computed _ _
       (λ yes. target_at p e (shape.ComputedMemberExpression false) _ _ refl refl refl (λ ts. refl) (λ s t h. h, (λ s t h. h, tt)))
       (λ no. either_whole strict p d (child_has_type (codes "property") (codes "PrivateIdentifier") d) _ _
-      (λ private. target_at p e (shape.PrivateFieldExpression false) _ _ refl refl refl (λ ts. refl) (λ s n t h. inner_one _ h, (λ s t h. h, tt)))
+      (λ private. target_at p e (shape.PrivateFieldExpression false) _ _ refl refl refl (λ ts. refl) (λ s n t h. inner_fits n _ h, (λ s t h. h, tt)))
       (λ named. target_at p e (shape.StaticMemberExpression false) _ _ refl refl refl (λ ts. refl) (λ s t h. h, (λ s t h. h, tt))))
 
   target_plain : (p : Place) → is_member_place p ≡ true → (optional computed : Bool) → WholeIf strict p d (require (not optional || false) (if computed then expression.computed_member optional shaped.an_expression else expression.named_member optional shaped.an_expression d))
@@ -258,7 +262,7 @@ module _ (strict : Bool) (d : Data) where
 
   super_target : (p : Place) → is_member_place p ≡ true → (computed : Bool) → WholeIf strict p d (expression.super_member computed)
   super_target p e computed = either_whole strict p d computed _ _
-      (λ yes. target_at p e shape.SuperComputedMemberExpression _ _ refl refl refl (λ ts. refl) (λ s t h. h, (λ s n t h. inner_one _ h, tt)))
+      (λ yes. target_at p e shape.SuperComputedMemberExpression _ _ refl refl refl (λ ts. refl) (λ s t h. h, (λ s n t h. inner_fits n _ h, tt)))
       (λ no. target_at p e shape.SuperStaticMemberExpression _ _ refl refl refl (λ ts. refl) (λ s t h. h, (λ s t h. h, tt)))
 
 module _ (strict : Bool) (d : Data) (typed : Typed d (codes "MemberExpression")) where
@@ -279,7 +283,7 @@ module _ (strict : Bool) (d : Data) (typed : Typed d (codes "MemberExpression"))
         names = refl;
         plain = λ w. refl;
         parts = λ w. refl;
-        filled = λ w. children_filled strict d (shaped.one shaped.a_super ∷ shaped.one (shaped.an_inner shaped.an_expression) ∷ []) (child (codes "object") shaped.a_super ∷ inner (codes "property") shaped.an_expression ∷ []) w (λ s t h. h, (λ s n t h. inner_one _ h, tt));
+        filled = λ w. children_filled strict d (shaped.one shaped.a_super ∷ shaped.one (shaped.an_inner shaped.an_expression) ∷ []) (child (codes "object") shaped.a_super ∷ inner (codes "property") shaped.an_expression ∷ []) w (λ s t h. h, (λ s n t h. inner_fits n _ h, tt));
       })
       refl (λ n ts. refl) (λ n ts. refl) bare)
       (λ no. super_at strict d member_linked p e shape.SuperStaticMemberExpression _ (record {
@@ -300,7 +304,7 @@ module _ (strict : Bool) (d : Data) (typed : Typed d (codes "MemberExpression"))
       (λ s t h. h, (λ s t h. h, tt)) (λ s t h. h, (λ s t h. h, tt)) (λ w n m. next_marked strict optional (get (codes "object") d) w.0.0 w.0.1 (marked_by d (codes "object") optional member_key flag m)) may)
       (λ no. either_whole strict p d (child_has_type (codes "property") (codes "PrivateIdentifier") d) _ _
       (λ private. link_at strict d member_linked p e (shape.PrivateFieldExpression optional) (λ k. inner (codes "object") k ∷ child (codes "property") shaped.a_private_name ∷ []) (λ k. shaped.one (shaped.an_inner k) ∷ shaped.one shaped.a_private_name ∷ []) (λ k. refl) refl refl refl (λ ts. refl)
-      (λ s n t h. inner_one _ h, (λ s t h. h, tt)) (λ s n t h. inner_one _ h, (λ s t h. h, tt)) (λ w n m. next_marked strict optional (get (codes "object") d) w.0.1 w.0.2 (marked_by d (codes "object") optional member_key flag m)) may)
+      (λ s n t h. inner_fits n _ h, (λ s t h. h, tt)) (λ s n t h. inner_fits n _ h, (λ s t h. h, tt)) (λ w n m. next_marked strict optional (get (codes "object") d) w.0.1 w.0.2 (marked_by d (codes "object") optional member_key flag m)) may)
       (λ named. link_at strict d member_linked p e (shape.StaticMemberExpression optional) (λ k. child (codes "object") k ∷ child (codes "property") shaped.a_label ∷ []) (λ k. shaped.one k ∷ shaped.one shaped.a_label ∷ []) (λ k. refl) refl refl refl (λ ts. refl)
       (λ s t h. h, (λ s t h. h, tt)) (λ s t h. h, (λ s t h. h, tt)) (λ w n m. next_marked strict optional (get (codes "object") d) w.0.0 w.0.1 (marked_by d (codes "object") optional member_key flag m)) may))
 

@@ -18,13 +18,13 @@ use Rattle.mini_accept.specs.Numbered.{number_after, next_after, next_among}
 use Rattle.mini_accept.proofs.Results.{ok_same, bind_ok, under_ok}
 
 -- what was read has the numbers from n on, up to the next one
-abbrev Counts : ℕ → Trees × ℕ → Type 0
+abbrev pub Counts : ℕ → Trees × ℕ → Type 0
 Counts n y = (next_among y.0 n ≡ Some y.1) × (n ≤ y.1)
 
-abbrev CountsOne : ℕ → Tree × ℕ → Type 0
+abbrev pub CountsOne : ℕ → Tree × ℕ → Type 0
 CountsOne n x = (next_after x.0 n ≡ Some x.1) × (n ≤ x.1)
 
-abbrev Counting : Reader → Type 0
+abbrev pub Counting : Reader → Type 0
 Counting r = (strict : Bool) (p : Place) (n : ℕ) (d : Data) (x : Tree × ℕ) → 1 ≤ n → r strict p n d ≡ Ok x → CountsOne n x
 
 same_number : (n : ℕ) → nat_eq n n ≡ true
@@ -65,7 +65,7 @@ inside n x (a, b) = (rw (numbered_after n, a) refl, omega (arith, b))
 whole : (n : ℕ) (y z : Trees × ℕ) → Counts n y → ◌≡◌ {A = Result (Trees × ℕ) Fault} (Ok y) (Ok z) → Counts n z
 whole n y z c e = subst (Counts n) (ok_same {E = Fault} y z e) c
 
-part_counts : (r : Reader) → Counting r → (strict : Bool) (d : Data) (n : ℕ) (c : Part) (y : Trees × ℕ) → 1 ≤ n → read_part r strict d n c ≡ Ok y → Counts n y
+pub part_counts : (r : Reader) → Counting r → (strict : Bool) (d : Data) (n : ℕ) (c : Part) (y : Trees × ℕ) → 1 ≤ n → read_part r strict d n c ≡ Ok y → Counts n y
 part_counts r counting strict d n hole y h e = whole n (absent ▸ none, n) y (rw (unnumbered_after n h) refl, omega arith) e
 part_counts r counting strict d n (tree_at s p) y h e =
     let (x, read, same) = bind_ok (read_below r strict n d s p) _ y e in
@@ -92,7 +92,7 @@ parts_counts r counting strict d n (c ∷ cs) y h e =
 in_list : (n : ℕ) (x : Trees × ℕ) → 1 ≤ n → Counts n x → Counts n (listed x.0 ▸ none, x.1)
 in_list n x h (a, b) = (rw (unnumbered_after n h, a) refl, b)
 
-child_counts : (r : Reader) → Counting r → (strict : Bool) (d : Data) (n : ℕ) (c : Child) (y : Trees × ℕ) → 1 ≤ n → read_child r strict d n c ≡ Ok y → Counts n y
+pub child_counts : (r : Reader) → Counting r → (strict : Bool) (d : Data) (n : ℕ) (c : Child) (y : Trees × ℕ) → 1 ≤ n → read_child r strict d n c ≡ Ok y → Counts n y
 child_counts r counting strict d n (one c) y h e = part_counts r counting strict d n c y h e
 child_counts r counting strict d n (many cs) y h e =
     let (x, read, same) = bind_ok (read_parts r strict d n cs) _ y e in
@@ -133,7 +133,7 @@ plan_counts r counting strict p n d (Err b) x h e = absurd (cc e)
 plan_counts r counting strict p n d (Ok o) x h e =
     node_counts (takes_number p o.shape) n h o.shape o.names (λ m. read_children r (is_strict_in strict o.shape) d m o.children) x (λ m y positive read. children_counts r counting (is_strict_in strict o.shape) d m o.children y positive read) e
 
-reads_count : (k : ℕ) → Counting (reads k)
+pub reads_count : (k : ℕ) → Counting (reads k)
 reads_count zero strict p n d x h e = absurd (cc e)
 reads_count (suc k) strict p n d x h e = plan_counts (reads k) (reads_count k) strict p n d (plan strict p d) x h e
 

@@ -18,7 +18,7 @@ use Rattle.mini_accept.specs.Patterns as pattern
 use Rattle.mini_accept.proofs.Fitting.{KnownBelow, Spelled, Named, NamedBefore, PartFits, AllFitOrLast, ChildFits}
 use Rattle.mini_accept.proofs.Gathered.{WholeIf}
 use Rattle.mini_accept.proofs.Types.{Typed, typed_has, types_at}
-use Rattle.mini_accept.proofs.Wholes.{bind_whole, require_whole, list_whole, inner_one, if_fits, absent_or, rest_fit, holes_fit, whole_at}
+use Rattle.mini_accept.proofs.Wholes.{bind_whole, require_whole, list_whole, inner_fits, if_fits, absent_or, rest_fit, holes_fit, whole_at}
 use Rattle.mini_accept.proofs.Pieces.{repeated, object_property}
 
 -- ---- parts
@@ -52,19 +52,19 @@ bound_elements ds = holes_fit shaped.a_pattern_element (shaped.one shaped.a_patt
 -- a member that is assigned to is an inner expression
 assigned_element : (last : Bool) (d : Data) (q : Step) → PartFits (shaped.one_or_absent shaped.a_target_element) (target_part shaped.a_target_element last d q)
 assigned_element last d q = if_fits (shaped.one_or_absent shaped.a_target_element) (has_type (codes "MemberExpression") d) (inner_at q (at shaped.a_member_target)) (tree_at q (at shaped.a_target_element))
-    (λ y s n t h. inner_one _ h) (λ n s t h. absent_or s shaped.a_target_element t h)
+    (λ y s n t h. inner_fits n _ h) (λ n s t h. absent_or s shaped.a_target_element t h)
 
 assigned_elements : (ds : Items) → AllFitOrLast (shaped.one_or_absent shaped.a_target_element) (shaped.one shaped.a_target_rest) (parts_from assigned_item (codes "elements") 0 ds)
 assigned_elements ds = holes_fit shaped.a_target_element (shaped.one shaped.a_target_rest) (target_part shaped.a_target_element) shaped.a_target_rest (codes "elements") 0 ds assigned_element (λ q s t h. h)
 
 target_fits : (key : List ℕ) (d : Data) → ChildFits (shaped.one shaped.an_element_target) (target key shaped.an_element_target d)
-target_fits key d = child_fits (shaped.one shaped.an_element_target) (child_has_type key (codes "MemberExpression") d) (inner key shaped.a_member_target) (child key shaped.an_element_target) (λ s n t h. inner_one _ h) (λ s t h. h)
+target_fits key d = child_fits (shaped.one shaped.an_element_target) (child_has_type key (codes "MemberExpression") d) (inner key shaped.a_member_target) (child key shaped.an_element_target) (λ s n t h. inner_fits n _ h) (λ s t h. h)
 
 element_fits : (key : List ℕ) (d : Data) → ChildFits (shaped.one shaped.a_target_element) (target key shaped.a_target_element d)
-element_fits key d = child_fits (shaped.one shaped.a_target_element) (child_has_type key (codes "MemberExpression") d) (inner key shaped.a_member_target) (child key shaped.a_target_element) (λ s n t h. inner_one _ h) (λ s t h. h)
+element_fits key d = child_fits (shaped.one shaped.a_target_element) (child_has_type key (codes "MemberExpression") d) (inner key shaped.a_member_target) (child key shaped.a_target_element) (λ s n t h. inner_fits n _ h) (λ s t h. h)
 
 key_fits : (computed : Bool) → ChildFits (shaped.one (shaped.an_inner_key computed)) (inner_key computed (shaped.an_inner_key false))
-key_fits true = λ s n t h. inner_one _ h
+key_fits true = λ s n t h. inner_fits n _ h
 key_fits false = λ s t h. h
 
 -- ---- objects and arrays
@@ -91,25 +91,25 @@ module _ (strict : Bool) (d : Data) where
   assigned_array p f = list_whole strict p d assigned_item (codes "elements") (λ x. node_of shape.ArrayAssignmentTarget (x ∷ [])) f
 
   pub object_pattern : (p : Place) → Typed d (codes "ObjectPattern") → is_one_of (types_at p) (codes "ObjectPattern") ≡ true → WholeIf strict p d (pattern.object_pattern p d)
-  object_pattern (at shaped.a_pattern) typed e = bound_object (at shaped.a_pattern) (λ ds. whole_at strict (at shaped.a_pattern) shaped.a_pattern d shape.ObjectPattern [] (list bound_part (codes "properties") ds ∷ []) (λ t h. h) (λ h. h) refl refl (λ w. refl) (bound_properties ds, tt) (λ w n s f. absurd (unnamed d (typed_has d (codes "ObjectPattern") (codes "Identifier") typed) s f)))
-  object_pattern (at shaped.a_pattern_element) typed e = bound_object (at shaped.a_pattern_element) (λ ds. whole_at strict (at shaped.a_pattern_element) shaped.a_pattern_element d shape.ObjectPattern [] (list bound_part (codes "properties") ds ∷ []) (λ t h. h) (λ h. h) refl refl (λ w. refl) (bound_properties ds, tt) (λ w n s f. absurd (unnamed_before d (typed_has d (codes "ObjectPattern") (codes "Identifier") typed) (typed_has d (codes "ObjectPattern") (codes "AssignmentPattern") typed) s f)))
-  object_pattern (at shaped.a_parameter) typed e = bound_object (at shaped.a_parameter) (λ ds. whole_at strict (at shaped.a_parameter) shaped.a_parameter d shape.ObjectPattern [] (list bound_part (codes "properties") ds ∷ []) (λ t h. h) (λ h. h) refl refl (λ w. refl) (bound_properties ds, tt) (λ w n. tt))
-  object_pattern (at (shaped.a_loop_left enumerates)) typed e = assigned_object (at (shaped.a_loop_left enumerates)) (λ ds. whole_at strict (at (shaped.a_loop_left enumerates)) (shaped.a_loop_left enumerates) d shape.ObjectAssignmentTarget [] (list assigned_part (codes "properties") ds ∷ []) (λ t h. h) (λ h. h) refl refl (λ w. refl) (assigned_properties ds, tt) (λ w n. tt))
-  object_pattern (at shaped.a_target) typed e = assigned_object (at shaped.a_target) (λ ds. whole_at strict (at shaped.a_target) shaped.a_target d shape.ObjectAssignmentTarget [] (list assigned_part (codes "properties") ds ∷ []) (λ t h. h) (λ h. h) refl refl (λ w. refl) (assigned_properties ds, tt) (λ w n. tt))
-  object_pattern (at shaped.an_element_target) typed e = assigned_object (at shaped.an_element_target) (λ ds. whole_at strict (at shaped.an_element_target) shaped.an_element_target d shape.ObjectAssignmentTarget [] (list assigned_part (codes "properties") ds ∷ []) (λ t h. h) (λ h. h) refl refl (λ w. refl) (assigned_properties ds, tt) (λ w n. tt))
-  object_pattern (at shaped.a_target_element) typed e = assigned_object (at shaped.a_target_element) (λ ds. whole_at strict (at shaped.a_target_element) shaped.a_target_element d shape.ObjectAssignmentTarget [] (list assigned_part (codes "properties") ds ∷ []) (λ t h. h) (λ h. h) refl refl (λ w. refl) (assigned_properties ds, tt) (λ w n. tt))
+  object_pattern (at shaped.a_pattern) typed e = bound_object (at shaped.a_pattern) (λ ds. whole_at strict (at shaped.a_pattern) shaped.a_pattern d shape.ObjectPattern [] (list bound_part (codes "properties") ds ∷ []) (λ t h. h) (λ n h. h) refl refl (λ w. refl) (bound_properties ds, tt) (λ w n s f. absurd (unnamed d (typed_has d (codes "ObjectPattern") (codes "Identifier") typed) s f)))
+  object_pattern (at shaped.a_pattern_element) typed e = bound_object (at shaped.a_pattern_element) (λ ds. whole_at strict (at shaped.a_pattern_element) shaped.a_pattern_element d shape.ObjectPattern [] (list bound_part (codes "properties") ds ∷ []) (λ t h. h) (λ n h. h) refl refl (λ w. refl) (bound_properties ds, tt) (λ w n s f. absurd (unnamed_before d (typed_has d (codes "ObjectPattern") (codes "Identifier") typed) (typed_has d (codes "ObjectPattern") (codes "AssignmentPattern") typed) s f)))
+  object_pattern (at shaped.a_parameter) typed e = bound_object (at shaped.a_parameter) (λ ds. whole_at strict (at shaped.a_parameter) shaped.a_parameter d shape.ObjectPattern [] (list bound_part (codes "properties") ds ∷ []) (λ t h. h) (λ n h. h) refl refl (λ w. refl) (bound_properties ds, tt) (λ w n. tt))
+  object_pattern (at (shaped.a_loop_left enumerates)) typed e = assigned_object (at (shaped.a_loop_left enumerates)) (λ ds. whole_at strict (at (shaped.a_loop_left enumerates)) (shaped.a_loop_left enumerates) d shape.ObjectAssignmentTarget [] (list assigned_part (codes "properties") ds ∷ []) (λ t h. h) (λ n h. h) refl refl (λ w. refl) (assigned_properties ds, tt) (λ w n. tt))
+  object_pattern (at shaped.a_target) typed e = assigned_object (at shaped.a_target) (λ ds. whole_at strict (at shaped.a_target) shaped.a_target d shape.ObjectAssignmentTarget [] (list assigned_part (codes "properties") ds ∷ []) (λ t h. h) (λ n h. h) refl refl (λ w. refl) (assigned_properties ds, tt) (λ w n. tt))
+  object_pattern (at shaped.an_element_target) typed e = assigned_object (at shaped.an_element_target) (λ ds. whole_at strict (at shaped.an_element_target) shaped.an_element_target d shape.ObjectAssignmentTarget [] (list assigned_part (codes "properties") ds ∷ []) (λ t h. h) (λ n h. h) refl refl (λ w. refl) (assigned_properties ds, tt) (λ w n. tt))
+  object_pattern (at shaped.a_target_element) typed e = assigned_object (at shaped.a_target_element) (λ ds. whole_at strict (at shaped.a_target_element) shaped.a_target_element d shape.ObjectAssignmentTarget [] (list assigned_part (codes "properties") ds ∷ []) (λ t h. h) (λ n h. h) refl refl (λ w. refl) (assigned_properties ds, tt) (λ w n. tt))
   object_pattern (at (shaped.a_statement in_module)) typed e = absurd (false≢true e)
   object_pattern (at (shaped.a_key true)) typed e = absurd (false≢true e)
   object_pattern p typed e = absurd (false≢true e)
 
   pub array_pattern : (p : Place) → Typed d (codes "ArrayPattern") → is_one_of (types_at p) (codes "ArrayPattern") ≡ true → WholeIf strict p d (pattern.array_pattern p d)
-  array_pattern (at shaped.a_pattern) typed e = bound_array (at shaped.a_pattern) (λ ds. whole_at strict (at shaped.a_pattern) shaped.a_pattern d shape.ArrayPattern [] (list bound_item (codes "elements") ds ∷ []) (λ t h. h) (λ h. h) refl refl (λ w. refl) (bound_elements ds, tt) (λ w n s f. absurd (unnamed d (typed_has d (codes "ArrayPattern") (codes "Identifier") typed) s f)))
-  array_pattern (at shaped.a_pattern_element) typed e = bound_array (at shaped.a_pattern_element) (λ ds. whole_at strict (at shaped.a_pattern_element) shaped.a_pattern_element d shape.ArrayPattern [] (list bound_item (codes "elements") ds ∷ []) (λ t h. h) (λ h. h) refl refl (λ w. refl) (bound_elements ds, tt) (λ w n s f. absurd (unnamed_before d (typed_has d (codes "ArrayPattern") (codes "Identifier") typed) (typed_has d (codes "ArrayPattern") (codes "AssignmentPattern") typed) s f)))
-  array_pattern (at shaped.a_parameter) typed e = bound_array (at shaped.a_parameter) (λ ds. whole_at strict (at shaped.a_parameter) shaped.a_parameter d shape.ArrayPattern [] (list bound_item (codes "elements") ds ∷ []) (λ t h. h) (λ h. h) refl refl (λ w. refl) (bound_elements ds, tt) (λ w n. tt))
-  array_pattern (at (shaped.a_loop_left enumerates)) typed e = assigned_array (at (shaped.a_loop_left enumerates)) (λ ds. whole_at strict (at (shaped.a_loop_left enumerates)) (shaped.a_loop_left enumerates) d shape.ArrayAssignmentTarget [] (list assigned_item (codes "elements") ds ∷ []) (λ t h. h) (λ h. h) refl refl (λ w. refl) (assigned_elements ds, tt) (λ w n. tt))
-  array_pattern (at shaped.a_target) typed e = assigned_array (at shaped.a_target) (λ ds. whole_at strict (at shaped.a_target) shaped.a_target d shape.ArrayAssignmentTarget [] (list assigned_item (codes "elements") ds ∷ []) (λ t h. h) (λ h. h) refl refl (λ w. refl) (assigned_elements ds, tt) (λ w n. tt))
-  array_pattern (at shaped.an_element_target) typed e = assigned_array (at shaped.an_element_target) (λ ds. whole_at strict (at shaped.an_element_target) shaped.an_element_target d shape.ArrayAssignmentTarget [] (list assigned_item (codes "elements") ds ∷ []) (λ t h. h) (λ h. h) refl refl (λ w. refl) (assigned_elements ds, tt) (λ w n. tt))
-  array_pattern (at shaped.a_target_element) typed e = assigned_array (at shaped.a_target_element) (λ ds. whole_at strict (at shaped.a_target_element) shaped.a_target_element d shape.ArrayAssignmentTarget [] (list assigned_item (codes "elements") ds ∷ []) (λ t h. h) (λ h. h) refl refl (λ w. refl) (assigned_elements ds, tt) (λ w n. tt))
+  array_pattern (at shaped.a_pattern) typed e = bound_array (at shaped.a_pattern) (λ ds. whole_at strict (at shaped.a_pattern) shaped.a_pattern d shape.ArrayPattern [] (list bound_item (codes "elements") ds ∷ []) (λ t h. h) (λ n h. h) refl refl (λ w. refl) (bound_elements ds, tt) (λ w n s f. absurd (unnamed d (typed_has d (codes "ArrayPattern") (codes "Identifier") typed) s f)))
+  array_pattern (at shaped.a_pattern_element) typed e = bound_array (at shaped.a_pattern_element) (λ ds. whole_at strict (at shaped.a_pattern_element) shaped.a_pattern_element d shape.ArrayPattern [] (list bound_item (codes "elements") ds ∷ []) (λ t h. h) (λ n h. h) refl refl (λ w. refl) (bound_elements ds, tt) (λ w n s f. absurd (unnamed_before d (typed_has d (codes "ArrayPattern") (codes "Identifier") typed) (typed_has d (codes "ArrayPattern") (codes "AssignmentPattern") typed) s f)))
+  array_pattern (at shaped.a_parameter) typed e = bound_array (at shaped.a_parameter) (λ ds. whole_at strict (at shaped.a_parameter) shaped.a_parameter d shape.ArrayPattern [] (list bound_item (codes "elements") ds ∷ []) (λ t h. h) (λ n h. h) refl refl (λ w. refl) (bound_elements ds, tt) (λ w n. tt))
+  array_pattern (at (shaped.a_loop_left enumerates)) typed e = assigned_array (at (shaped.a_loop_left enumerates)) (λ ds. whole_at strict (at (shaped.a_loop_left enumerates)) (shaped.a_loop_left enumerates) d shape.ArrayAssignmentTarget [] (list assigned_item (codes "elements") ds ∷ []) (λ t h. h) (λ n h. h) refl refl (λ w. refl) (assigned_elements ds, tt) (λ w n. tt))
+  array_pattern (at shaped.a_target) typed e = assigned_array (at shaped.a_target) (λ ds. whole_at strict (at shaped.a_target) shaped.a_target d shape.ArrayAssignmentTarget [] (list assigned_item (codes "elements") ds ∷ []) (λ t h. h) (λ n h. h) refl refl (λ w. refl) (assigned_elements ds, tt) (λ w n. tt))
+  array_pattern (at shaped.an_element_target) typed e = assigned_array (at shaped.an_element_target) (λ ds. whole_at strict (at shaped.an_element_target) shaped.an_element_target d shape.ArrayAssignmentTarget [] (list assigned_item (codes "elements") ds ∷ []) (λ t h. h) (λ n h. h) refl refl (λ w. refl) (assigned_elements ds, tt) (λ w n. tt))
+  array_pattern (at shaped.a_target_element) typed e = assigned_array (at shaped.a_target_element) (λ ds. whole_at strict (at shaped.a_target_element) shaped.a_target_element d shape.ArrayAssignmentTarget [] (list assigned_item (codes "elements") ds ∷ []) (λ t h. h) (λ n h. h) refl refl (λ w. refl) (assigned_elements ds, tt) (λ w n. tt))
   array_pattern (at (shaped.a_statement in_module)) typed e = absurd (false≢true e)
   array_pattern (at (shaped.a_key true)) typed e = absurd (false≢true e)
   array_pattern p typed e = absurd (false≢true e)
@@ -134,20 +134,20 @@ assigned_name strict o t k d e = (subst (λ v. KnownBelow strict (at shaped.a_ta
 
 module _ (strict : Bool) (d : Data) where
   pub default : (p : Place) → Typed d (codes "AssignmentPattern") → is_one_of (types_at p) (codes "AssignmentPattern") ≡ true → WholeIf strict p d (pattern.default p d)
-  default (at shaped.a_pattern_element) typed e = whole_at strict (at shaped.a_pattern_element) shaped.a_pattern_element d shape.AssignmentPattern [] _ (λ t h. h) (λ h. h) refl refl (λ w. refl) (λ s t h. h, (λ s n t h. inner_one _ h, tt))
+  default (at shaped.a_pattern_element) typed e = whole_at strict (at shaped.a_pattern_element) shaped.a_pattern_element d shape.AssignmentPattern [] _ (λ t h. h) (λ n h. h) refl refl (λ w. refl) (λ s t h. h, (λ s n t h. inner_fits n _ h, tt))
       (λ w n. before_default strict d (get (codes "left") d) w.0.0 (typed_has d (codes "AssignmentPattern") (codes "AssignmentPattern") typed) refl (bound_name strict (get (codes "left") d) w.0.0 w.0.1))
-  default (at shaped.a_parameter) typed e = whole_at strict (at shaped.a_parameter) shaped.a_parameter d shape.AssignmentPattern [] _ (λ t h. h) (λ h. h) refl refl (λ w. refl) (λ s t h. h, (λ s n t h. inner_one _ h, tt)) (λ w n. tt)
-  default (at shaped.a_target_element) typed e = whole_at strict (at shaped.a_target_element) shaped.a_target_element d shape.AssignmentPattern [] (target (codes "left") shaped.an_element_target d ∷ inner (codes "right") shaped.an_expression ∷ []) (λ t h. h) (λ h. h) refl refl (λ w. refl)
-      (target_fits (codes "left") d, (λ s n t h. inner_one _ h, tt)) (λ w n. tt)
-  default (at shaped.a_named_target) typed e = whole_at strict (at shaped.a_named_target) shaped.a_named_target d shape.AssignmentPattern [] _ (λ t h. h) (λ h. h) refl refl (λ w. refl) (λ s t h. h, (λ s n t h. inner_one _ h, tt))
+  default (at shaped.a_parameter) typed e = whole_at strict (at shaped.a_parameter) shaped.a_parameter d shape.AssignmentPattern [] _ (λ t h. h) (λ n h. h) refl refl (λ w. refl) (λ s t h. h, (λ s n t h. inner_fits n _ h, tt)) (λ w n. tt)
+  default (at shaped.a_target_element) typed e = whole_at strict (at shaped.a_target_element) shaped.a_target_element d shape.AssignmentPattern [] (target (codes "left") shaped.an_element_target d ∷ inner (codes "right") shaped.an_expression ∷ []) (λ t h. h) (λ n h. h) refl refl (λ w. refl)
+      (target_fits (codes "left") d, (λ s n t h. inner_fits n _ h, tt)) (λ w n. tt)
+  default (at shaped.a_named_target) typed e = whole_at strict (at shaped.a_named_target) shaped.a_named_target d shape.AssignmentPattern [] _ (λ t h. h) (λ n h. h) refl refl (λ w. refl) (λ s t h. h, (λ s n t h. inner_fits n _ h, tt))
       (λ w n. before_default strict d (get (codes "left") d) w.0.0 (typed_has d (codes "AssignmentPattern") (codes "AssignmentPattern") typed) refl (assigned_name strict (get (codes "left") d) w.0.0 w.0.1))
   default (at (shaped.a_statement in_module)) typed e = absurd (false≢true e)
   default (at (shaped.a_key true)) typed e = absurd (false≢true e)
   default p typed e = absurd (false≢true e)
 
   pub rest : (p : Place) → is_one_of (types_at p) (codes "RestElement") ≡ true → WholeIf strict p d (pattern.rest p d)
-  rest (at shaped.a_pattern_rest) e = whole_at strict (at shaped.a_pattern_rest) shaped.a_pattern_rest d shape.RestElement [] _ (λ t h. h) (λ h. h) refl refl (λ w. refl) (λ s t h. h, tt) (λ w n. tt)
-  rest (at shaped.a_target_rest) e = whole_at strict (at shaped.a_target_rest) shaped.a_target_rest d shape.RestElement [] (target (codes "argument") shaped.an_element_target d ∷ []) (λ t h. h) (λ h. h) refl refl (λ w. refl) (target_fits (codes "argument") d, tt) (λ w n. tt)
+  rest (at shaped.a_pattern_rest) e = whole_at strict (at shaped.a_pattern_rest) shaped.a_pattern_rest d shape.RestElement [] _ (λ t h. h) (λ n h. h) refl refl (λ w. refl) (λ s t h. h, tt) (λ w n. tt)
+  rest (at shaped.a_target_rest) e = whole_at strict (at shaped.a_target_rest) shaped.a_target_rest d shape.RestElement [] (target (codes "argument") shaped.an_element_target d ∷ []) (λ t h. h) (λ n h. h) refl refl (λ w. refl) (target_fits (codes "argument") d, tt) (λ w n. tt)
   rest (at (shaped.a_statement in_module)) e = absurd (false≢true e)
   rest (at (shaped.a_key true)) e = absurd (false≢true e)
   rest p e = absurd (false≢true e)
@@ -169,17 +169,17 @@ target_named strict o t k d e = (subst (λ v. KnownBelow strict (at shaped.a_nam
 module _ (strict : Bool) (d : Data) where
   -- a shorthand property repeats its key, and has no brackets
   bound_property : (shorthand computed : Bool) → (not shorthand || (not computed && repeats_key d)) ≡ true → WholeIf strict (at shaped.a_pattern_property) d (pattern.binding_property shorthand computed)
-  bound_property false computed e = whole_at strict (at shaped.a_pattern_property) shaped.a_pattern_property d (shape.BindingProperty false computed) [] (inner_key computed (shaped.an_inner_key false) ∷ child (codes "value") shaped.a_pattern_element ∷ []) (λ t h. h) (λ h. h) refl refl (λ w. refl)
+  bound_property false computed e = whole_at strict (at shaped.a_pattern_property) shaped.a_pattern_property d (shape.BindingProperty false computed) [] (inner_key computed (shaped.an_inner_key false) ∷ child (codes "value") shaped.a_pattern_element ∷ []) (λ t h. h) (λ n h. h) refl refl (λ w. refl)
       (key_fits computed, (λ s t h. h, tt)) (λ w n. tt)
   bound_property true true e = absurd (false≢true e)
-  bound_property true false e = whole_at strict (at shaped.a_pattern_property) shaped.a_pattern_property d (shape.BindingProperty true false) [] _ (λ t h. h) (λ h. h) refl refl
+  bound_property true false e = whole_at strict (at shaped.a_pattern_property) shaped.a_pattern_property d (shape.BindingProperty true false) [] _ (λ t h. h) (λ n h. h) refl refl
       (λ w. repeated (get (codes "key") d) (get (codes "value") d) w.0.0 w.1.0.0 (inner_spelled strict (get (codes "key") d) w.0.0 w.0.1) (element_named strict (get (codes "value") d) w.1.0.0 w.1.0.1) e) (λ s t h. h, (λ s t h. h, tt)) (λ w n. tt)
 
   assigned_property : (shorthand computed : Bool) → (not shorthand || (not computed && repeats_key d)) ≡ true → WholeIf strict (at shaped.a_target_property) d (pattern.target_property shorthand computed d)
-  assigned_property false computed e = whole_at strict (at shaped.a_target_property) shaped.a_target_property d (shape.AssignmentTargetPropertyProperty computed) [] (inner_key computed (shaped.an_inner_key false) ∷ target (codes "value") shaped.a_target_element d ∷ []) (λ t h. h) (λ h. h) refl refl (λ w. refl)
+  assigned_property false computed e = whole_at strict (at shaped.a_target_property) shaped.a_target_property d (shape.AssignmentTargetPropertyProperty computed) [] (inner_key computed (shaped.an_inner_key false) ∷ target (codes "value") shaped.a_target_element d ∷ []) (λ t h. h) (λ n h. h) refl refl (λ w. refl)
       (key_fits computed, (element_fits (codes "value") d, tt)) (λ w n. tt)
   assigned_property true true e = absurd (false≢true e)
-  assigned_property true false e = whole_at strict (at shaped.a_target_property) shaped.a_target_property d shape.AssignmentTargetPropertyIdentifier [] _ (λ t h. h) (λ h. h) refl refl
+  assigned_property true false e = whole_at strict (at shaped.a_target_property) shaped.a_target_property d shape.AssignmentTargetPropertyIdentifier [] _ (λ t h. h) (λ n h. h) refl refl
       (λ w. repeated (get (codes "key") d) (get (codes "value") d) w.0.0 w.1.0.0 (label_spelled strict (get (codes "key") d) w.0.0 w.0.1) (target_named strict (get (codes "value") d) w.1.0.0 w.1.0.1) e) (λ s t h. h, (λ s t h. h, tt)) (λ w n. tt)
 
   property_by : (p : Place) (binds : Bool) → ((shorthand computed : Bool) → (not shorthand || (not computed && repeats_key d)) ≡ true → WholeIf strict p d (if binds then pattern.binding_property shorthand computed else pattern.target_property shorthand computed d)) → WholeIf strict p d (pattern.pattern_property binds d)

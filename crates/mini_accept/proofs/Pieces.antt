@@ -22,7 +22,7 @@ use Rattle.mini_accept.specs.Expressions.{tagging_of, quasi_part, piece_part, id
 use Rattle.mini_accept.proofs.Fitting.{KnownBelow, known_fits, Spelled, NamedBefore, OfParts, trees_of_parts, OfChildren, PartFits, AllFit, ArePieces}
 use Rattle.mini_accept.proofs.Gathered.{WholeIf}
 use Rattle.mini_accept.proofs.Types.{some_same, text_is, Typed, types_at, is_expression_place}
-use Rattle.mini_accept.proofs.Wholes.{bind_whole, require_whole, inner_one, all_fit, items_counted, Aside, aside, plain_whole, whole_at}
+use Rattle.mini_accept.proofs.Wholes.{bind_whole, require_whole, inner_fits, all_fit, items_counted, Aside, aside, plain_whole, whole_at}
 use Rattle.mini_accept.proofs.Plains.{text_paired, units_paired}
 
 -- ---- templates
@@ -41,7 +41,7 @@ plain_pieces : (key : List ℕ) (ds : Items) → AllFit (shaped.one shaped.an_ex
 plain_pieces key ds = all_fit (shaped.one shaped.an_expression) (piece_part untagged) key 0 ds (λ last e q s t h. h)
 
 inner_pieces : (key : List ℕ) (ds : Items) → AllFit (shaped.one (shaped.an_inner shaped.an_expression)) (parts_from (piece_part tagged) key 0 ds)
-inner_pieces key ds = all_fit (shaped.one (shaped.an_inner shaped.an_expression)) (piece_part tagged) key 0 ds (λ last e q s n t h. inner_one _ h)
+inner_pieces key ds = all_fit (shaped.one (shaped.an_inner shaped.an_expression)) (piece_part tagged) key 0 ds (λ last e q s n t h. inner_fits n _ h)
 
 abbrev template_children : Tagging → Items → Items → List Child
 template_children g qs es = list (quasi_part g) (codes "quasis") qs ∷ list (piece_part g) (codes "expressions") es ∷ []
@@ -70,7 +70,7 @@ module _ (strict : Bool) (d : Data) where
   })
 
   tagged_one : WholeIf strict (at shaped.a_tagged_template) d (expression.template tagged d)
-  tagged_one = template_by (at shaped.a_tagged_template) tagged (λ qs es e. whole_at strict (at shaped.a_tagged_template) shaped.a_tagged_template d shape.TemplateLiteral [] (template_children tagged qs es) (λ t h. h) (λ h. h) refl refl
+  tagged_one = template_by (at shaped.a_tagged_template) tagged (λ qs es e. whole_at strict (at shaped.a_tagged_template) shaped.a_tagged_template d shape.TemplateLiteral [] (template_children tagged qs es) (λ t h. h) (λ n h. h) refl refl
       (λ w. one_more strict tagged d qs es w e) (pieces_fit tagged (codes "quasis") (item_count es) qs e, (inner_pieces (codes "expressions") es, tt)) (λ w n. tt))
 
   pub template : (p : Place) → Typed d (codes "TemplateLiteral") → is_one_of (types_at p) (codes "TemplateLiteral") ≡ true → WholeIf strict p d (expression.template (tagging_of p) d)
@@ -115,20 +115,20 @@ module _ (strict : Bool) (g : Tagging) (last : Bool) (d : Data) (stands : may_st
   quasi = bind_whole strict (a_quasi g last) d (flag_at (codes "tail") d) _ (λ tail is. bind_whole strict (a_quasi g last) d (get (codes "value") d) _ (λ value there. bind_whole strict (a_quasi g last) d (units_at (codes "raw") value) _ (λ raw text.
       bind_whole strict (a_quasi g last) d (option_and_then expression.cooked_by (get (codes "cooked") value)) _ (λ c by. require_whole strict (a_quasi g last) d (expression.may_be_cooked g c && is_text_of_cooked c (cooked raw)) _ (λ e.
       let (may, same) = and_parts (expression.may_be_cooked g c) (is_text_of_cooked c (cooked raw)) e in
-      record { known = λ w n numbered. (and_from _ _ (piece_by g last tail raw c (tail_same tail is) may) (and_from (n == 0) _ (eq-eqb n 0 (numbered refl)) (and_from _ _ (units_paired (codes "raw") value raw text) (and_from _ _ same (paired_if_cooked (get (codes "cooked") value) c by)))), tt) })))))
+      record { known = λ w n numbered. (and_from _ _ (piece_by g last tail raw c (tail_same tail is) may) (and_from (n == 0) _ numbered (and_from _ _ (units_paired (codes "raw") value raw text) (and_from _ _ same (paired_if_cooked (get (codes "cooked") value) c by)))), tt) })))))
 
 -- ---- spread elements and `super`
 
 pub spread : (strict : Bool) (p : Place) (d : Data) → is_one_of (types_at p) (codes "SpreadElement") ≡ true → WholeIf strict p d (expression.spread p d)
-spread strict (at shaped.an_argument) d e = whole_at strict (at shaped.an_argument) shaped.an_argument d shape.SpreadElement [] _ (λ t h. h) (λ h. h) refl refl (λ w. refl) (λ s t h. h, tt) (λ w n. tt)
-spread strict (at shaped.an_object_property) d e = whole_at strict (at shaped.an_object_property) shaped.an_object_property d shape.SpreadElement [] _ (λ t h. h) (λ h. h) refl refl (λ w. refl) (λ s t h. h, tt) (λ w n. tt)
-spread strict (at shaped.an_inner_argument) d e = whole_at strict (at shaped.an_inner_argument) shaped.an_inner_argument d shape.SpreadElement [] _ (λ t h. h) (λ h. h) refl refl (λ w. refl) (λ s n t h. inner_one _ h, tt) (λ w n. tt)
+spread strict (at shaped.an_argument) d e = whole_at strict (at shaped.an_argument) shaped.an_argument d shape.SpreadElement [] _ (λ t h. h) (λ n h. h) refl refl (λ w. refl) (λ s t h. h, tt) (λ w n. tt)
+spread strict (at shaped.an_object_property) d e = whole_at strict (at shaped.an_object_property) shaped.an_object_property d shape.SpreadElement [] _ (λ t h. h) (λ n h. h) refl refl (λ w. refl) (λ s t h. h, tt) (λ w n. tt)
+spread strict (at shaped.an_inner_argument) d e = whole_at strict (at shaped.an_inner_argument) shaped.an_inner_argument d shape.SpreadElement [] _ (λ t h. h) (λ n h. h) refl refl (λ w. refl) (λ s n t h. inner_fits n _ h, tt) (λ w n. tt)
 spread strict (at (shaped.a_statement in_module)) d e = absurd (false≢true e)
 spread strict (at (shaped.a_key true)) d e = absurd (false≢true e)
 spread strict p d e = absurd (false≢true e)
 
 pub super : (strict : Bool) (p : Place) (d : Data) → is_one_of (types_at p) (codes "Super") ≡ true → WholeIf strict p d (node_of shape.Super [])
-super strict (at shaped.a_super) d e = whole_at strict (at shaped.a_super) shaped.a_super d shape.Super [] [] (λ t h. h) (λ h. h) refl refl (λ w. refl) tt (λ w n. tt)
+super strict (at shaped.a_super) d e = whole_at strict (at shaped.a_super) shaped.a_super d shape.Super [] [] (λ t h. h) (λ n h. h) refl refl (λ w. refl) tt (λ w n. tt)
 super strict (at (shaped.a_statement in_module)) d e = absurd (false≢true e)
 super strict (at (shaped.a_key true)) d e = absurd (false≢true e)
 super strict p d e = absurd (false≢true e)
@@ -182,5 +182,5 @@ module _ (strict : Bool) (d : Data) where
   object_property = bind_whole strict (at shaped.an_object_property) d (word_at property_kinds (codes "kind") d) _ (λ k is. bind_whole strict (at shaped.an_object_property) d (flag_at (codes "method") d) _ (λ is_method m.
       bind_whole strict (at shaped.an_object_property) d (flag_at (codes "shorthand") d) _ (λ shorthand s. bind_whole strict (at shaped.an_object_property) d (flag_at (codes "computed") d) _ (λ computed c.
       require_whole strict (at shaped.an_object_property) d (expression.is_whole_property k is_method shorthand computed d) _ (λ e. whole_at strict (at shaped.an_object_property) shaped.an_object_property d (shape.ObjectProperty k is_method shorthand computed) []
-      (child (codes "key") (shaped.a_key computed) ∷ child (codes "value") (value_class k is_method) ∷ []) (λ t h. h) (λ h. h) refl refl
+      (child (codes "key") (shaped.a_key computed) ∷ child (codes "value") (value_class k is_method) ∷ []) (λ t h. h) (λ n h. h) refl refl
       (λ w. whole_property k is_method shorthand computed w.0.0 w.1.0.0 e w.0.1 w.1.0.1) (λ s t h. h, (value_fits (is_method || not (shaped.is_init k)), tt)) (λ w n. tt))))))

@@ -28,7 +28,7 @@ use Rattle.mini_accept.specs.Expressions as expression
 use Rattle.mini_accept.proofs.Fitting.{KnownBelow, known_fits, OfChildren, trees_of_children, AllFit, AllFitOrLast, ChildrenFit}
 use Rattle.mini_accept.proofs.Gathered.{WholeIf}
 use Rattle.mini_accept.proofs.Types.{some_same, is_expression_place}
-use Rattle.mini_accept.proofs.Wholes.{bind_whole, require_whole, either_whole, list_whole, inner_one, if_fits, optional_fits, optional_inner_fits, absent_fits, absent_or, all_fit, rest_fit, items_counted, Aside, taken, is_plain, filled_whole, plain_whole}
+use Rattle.mini_accept.proofs.Wholes.{bind_whole, require_whole, either_whole, list_whole, inner_one, inner_fits, if_fits, optional_fits, optional_inner_fits, absent_fits, absent_or, all_fit, rest_fit, items_counted, Aside, taken, is_plain, filled_whole, plain_whole}
 
 -- texts of directives have their surrogates in pairs
 require_paired : (b : Bool) (u v : List ℕ) → require b (Some u) ≡ Some v → shaped.is_paired u ≡ b → shaped.is_paired v ≡ true
@@ -186,7 +186,7 @@ module _ (strict : Bool) (p : Place) (d : Data) (there : is_expression_place p �
 
   pub class_expression : WholeIf strict p d (function.class false p d)
   class_expression = plain (shape.Class false) (optional (codes "id") shaped.a_binding d ∷ optional_inner (codes "superClass") shaped.an_expression d ∷ child (codes "body") shaped.a_class_body ∷ function.name_held false d ∷ []) refl refl (no_name_held (is_given (codes "id") d) (is_given (codes "superClass") d))
-      (optional_fits shaped.a_binding (is_given (codes "id") d) (field (codes "id")) (at shaped.a_binding) (λ s t h. h), (optional_inner_fits (shaped.an_inner shaped.an_expression) (is_given (codes "superClass") d) (field (codes "superClass")) (at shaped.an_expression) (λ s n t h. inner_one _ h), (λ s t h. h, (λ s. absent_fits s shaped.a_binding, tt))))
+      (optional_fits shaped.a_binding (is_given (codes "id") d) (field (codes "id")) (at shaped.a_binding) (λ s t h. h), (optional_inner_fits (shaped.an_inner shaped.an_expression) (is_given (codes "superClass") d) (field (codes "superClass")) (at shaped.an_expression) (λ s n t h. inner_fits n _ h), (λ s t h. h, (λ s. absent_fits s shaped.a_binding, tt))))
 
   unary_by : (o : UnaryOperator) (m : Option ℤ) → expression.minus_below o d ≡ m → WholeIf strict p d (expression.unary_plan o m)
   unary_by o None is = plain (shape.UnaryExpression o) _ refl refl (λ w. minus_left strict o d w.0.0 is w.0.1) (λ s t h. h, tt)
@@ -201,7 +201,7 @@ module _ (strict : Bool) (p : Place) (d : Data) (there : is_expression_place p �
 
   pub binary : WholeIf strict p d (expression.binary d)
   binary = bind_whole strict p d (word_at binary_operators (codes "operator") d) _ (λ o is. either_whole strict p d _ _ _
-      (λ yes. plain shape.PrivateInExpression _ refl refl (λ w. refl) (λ s t h. h, (λ s n t h. inner_one _ h, tt)))
+      (λ yes. plain shape.PrivateInExpression _ refl refl (λ w. refl) (λ s t h. h, (λ s n t h. inner_fits n _ h, tt)))
       (λ no. plain (shape.BinaryExpression o) _ refl refl (λ w. refl) (λ s t h. h, (λ s t h. h, tt))))
 
   pub logical : WholeIf strict p d (expression.logical d)
@@ -241,7 +241,7 @@ module _ (strict : Bool) (p : Place) (d : Data) (there : is_expression_place p �
   yield = bind_whole strict p d (flag_at (codes "delegate") d) _ (λ delegate is. require_whole strict p d _ _ (λ e. yield_by delegate (is_given (codes "argument") d) refl e))
 
   pub tagged_template : WholeIf strict p d (expression.tagged_template d)
-  tagged_template = plain shape.TaggedTemplateExpression _ refl refl (λ w. refl) (λ s n t h. inner_one _ h, (λ s t h. h, tt))
+  tagged_template = plain shape.TaggedTemplateExpression _ refl refl (λ w. refl) (λ s n t h. inner_fits n _ h, (λ s t h. h, tt))
 
   new_target : WholeIf strict p d (expression.meta_plan NewTarget (codes "new") (codes "target"))
   new_target = plain (shape.MetaProperty NewTarget) (child (codes "meta") (shaped.a_word (codes "new")) ∷ child (codes "property") (shaped.a_word (codes "target")) ∷ []) refl refl (λ w. refl) (λ s t h. h new_word, (λ s t h. h target_word, tt))
@@ -254,4 +254,4 @@ module _ (strict : Bool) (p : Place) (d : Data) (there : is_expression_place p �
       (λ no. either_whole strict p d (expression.has_meta (codes "import") d) (expression.meta_plan ImportMeta (codes "import") (codes "meta")) None (λ yes. import_meta) (λ no. record { known = tt }))
 
   pub import_expression : WholeIf strict p d (expression.import_expression d)
-  import_expression = plain shape.ImportExpression _ refl refl (λ w. refl) (λ s n t h. inner_one _ h, tt)
+  import_expression = plain shape.ImportExpression _ refl refl (λ w. refl) (λ s n t h. inner_fits n _ h, tt)

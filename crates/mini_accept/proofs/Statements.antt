@@ -10,19 +10,18 @@ use Rattle.mini_model.specs.declared.shape.Shape.{Shape}
 use Rattle.mini_model.specs.declared.shape.Shape.TheVariants as shape
 use Rattle.mini_model.specs.Tree.{Tree, is_absent, count}
 use Rattle.mini_structure.specs.WellShaped as shaped
-use Rattle.mini_structure.specs.WellShaped.{Class, Depth, in_module, in_body, nested, Slot, slots_of, is_sloppy_function, is_strict_in, is_numbered, has_names, has_plain_fields, has_its_parts, none_if, is_text}
+use Rattle.mini_structure.specs.WellShaped.{Class, Depth, in_module, in_body, nested, Slot, slots_of, is_sloppy_function, is_strict_in, has_its_number, has_names, has_plain_fields, has_its_parts, none_if, is_text}
 use Rattle.mini_accept.specs.Places.{down, field, place, Place, at, a_directive}
 use Rattle.mini_accept.specs.Fields.{is_given, item_count, list_at, no_item, text_at, has_text, is_text_by, word_in, is_one_of}
 use Rattle.mini_accept.specs.Standing.{is_head, is_head_by, expression_types}
 use Rattle.mini_accept.specs.Plans.{hole, tree_at, Child, one, child, optional, node_of, parts_from, list, each}
 use Rattle.mini_accept.specs.Words.{word_at, source_types, variable_kinds}
-use Rattle.mini_accept.specs.Accept.{takes_number}
 use Rattle.mini_accept.specs.Statements as statement
 use Rattle.mini_accept.specs.Statements.{directive_text, directives_of, body_part, body_parts}
 use Rattle.mini_accept.proofs.Fitting.{Fits, KnownBelow, known_fits, OfParts, trees_of_parts, OfChildren, trees_of_children, PartFits, ItemFits, AllFit, ChildrenFit}
-use Rattle.mini_accept.proofs.Gathered.{WholeIf}
+use Rattle.mini_accept.proofs.Gathered.{Numbered, WholeIf}
 use Rattle.mini_accept.proofs.Types.{some_same, text_same, apart, types_at}
-use Rattle.mini_accept.proofs.Wholes.{bind_whole, require_whole, list_whole, optional_fits, absent_fits, absent_or, not_absent, all_fit, items_counted, none_if_false, whole_by, whole_at}
+use Rattle.mini_accept.proofs.Wholes.{bind_whole, require_whole, list_whole, optional_fits, absent_fits, absent_or, not_absent, all_fit, items_counted, none_if_false, fits_at, taken, whole_by, whole_at}
 use Rattle.mini_accept.proofs.Plains.{directives_paired}
 
 -- the types of statements that stand nowhere else
@@ -53,45 +52,45 @@ body_fit depth leading i (item d ds) = (one_fits (leading && is_some (directive_
 
 module _ (strict : Bool) (depth : Depth) (d : Data) where
   plain : (h : Shape) (cs : List Child) (slots : List Slot) → slots_of strict (shaped.a_statement depth) h ≡ Some slots → (has_names h [] && has_plain_fields h) ≡ true
-      → (is_numbered (shaped.a_statement depth) h ≡ false → takes_number (at (shaped.a_statement depth)) h ≡ false)
+      → ((n : ℕ) → Numbered (at (shaped.a_statement depth)) h n → has_its_number (shaped.a_statement depth) h n ≡ true)
       → ((w : OfChildren (is_strict_in strict h) d cs) → has_its_parts (shaped.a_statement depth) h (trees_of_children (is_strict_in strict h) d cs w) ≡ true) → ChildrenFit slots cs → WholeIf strict (at (shaped.a_statement depth)) d (node_of h cs)
-  plain h cs slots stands is unnumbered parts fit =
+  plain h cs slots stands is counted parts fit =
       let (names, fields) = and_parts (has_names h []) (has_plain_fields h) is in
-      whole_by strict (at (shaped.a_statement depth)) (shaped.a_statement depth) d h [] cs slots (λ t e. e) unnumbered stands names fields parts fit (λ w n. tt)
+      whole_by strict (at (shaped.a_statement depth)) (shaped.a_statement depth) d h [] cs slots (λ t e. e) counted stands names fields parts fit (λ w n. tt)
 
   pub empty : WholeIf strict (at (shaped.a_statement depth)) d (node_of shape.EmptyStatement [])
-  empty = plain shape.EmptyStatement [] [] refl refl (λ e. e) (λ w. refl) tt
+  empty = plain shape.EmptyStatement [] [] refl refl (λ n e. e) (λ w. refl) tt
 
   pub debugger : WholeIf strict (at (shaped.a_statement depth)) d (node_of shape.DebuggerStatement [])
-  debugger = plain shape.DebuggerStatement [] [] refl refl (λ e. e) (λ w. refl) tt
+  debugger = plain shape.DebuggerStatement [] [] refl refl (λ n e. e) (λ w. refl) tt
 
   pub labeled : WholeIf strict (at (shaped.a_statement depth)) d (statement.labeled d)
-  labeled = plain shape.LabeledStatement _ _ refl refl (λ e. e) (λ w. refl) (λ s t h. h, (λ s t h. h, tt))
+  labeled = plain shape.LabeledStatement _ _ refl refl (λ n e. e) (λ w. refl) (λ s t h. h, (λ s t h. h, tt))
 
   label_fits : PartFits (shaped.one_or_absent shaped.a_label) (if is_given (codes "label") d then tree_at (field (codes "label")) (at shaped.a_label) else hole)
   label_fits = optional_fits shaped.a_label (is_given (codes "label") d) (field (codes "label")) (at shaped.a_label) (λ s t h. h)
 
   pub break : WholeIf strict (at (shaped.a_statement depth)) d (statement.break d)
-  break = plain shape.BreakStatement (optional (codes "label") shaped.a_label d ∷ []) _ refl refl (λ e. e) (λ w. refl) (label_fits, tt)
+  break = plain shape.BreakStatement (optional (codes "label") shaped.a_label d ∷ []) _ refl refl (λ n e. e) (λ w. refl) (label_fits, tt)
 
   pub continue : WholeIf strict (at (shaped.a_statement depth)) d (statement.continue d)
-  continue = plain shape.ContinueStatement (optional (codes "label") shaped.a_label d ∷ []) _ refl refl (λ e. e) (λ w. refl) (label_fits, tt)
+  continue = plain shape.ContinueStatement (optional (codes "label") shaped.a_label d ∷ []) _ refl refl (λ n e. e) (λ w. refl) (label_fits, tt)
 
   expression_fits : (key : List ℕ) → PartFits (shaped.one_or_absent shaped.an_expression) (if is_given key d then tree_at (field key) (at shaped.an_expression) else hole)
   expression_fits key = optional_fits shaped.an_expression (is_given key d) (field key) (at shaped.an_expression) (λ s t h. h)
 
   pub return : WholeIf strict (at (shaped.a_statement depth)) d (statement.return d)
-  return = plain shape.ReturnStatement (optional (codes "argument") shaped.an_expression d ∷ []) _ refl refl (λ e. e) (λ w. refl) (expression_fits (codes "argument"), tt)
+  return = plain shape.ReturnStatement (optional (codes "argument") shaped.an_expression d ∷ []) _ refl refl (λ n e. e) (λ w. refl) (expression_fits (codes "argument"), tt)
 
   pub throw : WholeIf strict (at (shaped.a_statement depth)) d (statement.throw d)
-  throw = plain shape.ThrowStatement _ _ refl refl (λ e. e) (λ w. refl) (λ s t h. h, tt)
+  throw = plain shape.ThrowStatement _ _ refl refl (λ n e. e) (λ w. refl) (λ s t h. h, tt)
 
   pub if_statement : WholeIf strict (at (shaped.a_statement depth)) d (statement.if_statement d)
-  if_statement = plain shape.IfStatement (child (codes "test") shaped.an_expression ∷ child (codes "consequent") (shaped.a_statement nested) ∷ optional (codes "alternate") (shaped.a_statement nested) d ∷ []) _ refl refl (λ e. e) (λ w. refl)
+  if_statement = plain shape.IfStatement (child (codes "test") shaped.an_expression ∷ child (codes "consequent") (shaped.a_statement nested) ∷ optional (codes "alternate") (shaped.a_statement nested) d ∷ []) _ refl refl (λ n e. e) (λ w. refl)
       (λ s t h. h, (λ s t h. h, (optional_fits (shaped.a_statement nested) (is_given (codes "alternate") d) (field (codes "alternate")) (at (shaped.a_statement nested)) (λ s t h. h), tt)))
 
   pub switch : WholeIf strict (at (shaped.a_statement depth)) d (statement.switch d)
-  switch = list_whole strict (at (shaped.a_statement depth)) d (each shaped.a_case) (codes "cases") _ (λ ds. plain shape.SwitchStatement _ _ refl refl (λ e. e) (λ w. refl)
+  switch = list_whole strict (at (shaped.a_statement depth)) d (each shaped.a_case) (codes "cases") _ (λ ds. plain shape.SwitchStatement _ _ refl refl (λ n e. e) (λ w. refl)
       (λ s t h. h, (all_fit (shaped.one shaped.a_case) (each shaped.a_case) (codes "cases") 0 ds (λ last e q s t h. h), tt)))
 
   try_children : Bool → Bool → List Child
@@ -102,11 +101,11 @@ module _ (strict : Bool) (depth : Depth) (d : Data) where
 
   try_by : (handler finalizer : Bool) → (handler || finalizer) ≡ true → WholeIf strict (at (shaped.a_statement depth)) d (node_of shape.TryStatement (try_children handler finalizer))
   unfolding try_children
-  try_by true true e = plain shape.TryStatement _ _ refl refl (λ e. e) (λ w. ap (λ b. not (b && is_absent w.1.1.0.0)) (not_absent strict shaped.a_catch w.1.0.0 (present strict (get (codes "handler") d) shaped.a_catch w.1.0.0 w.1.0.1)))
+  try_by true true e = plain shape.TryStatement _ _ refl refl (λ n e. e) (λ w. ap (λ b. not (b && is_absent w.1.1.0.0)) (not_absent strict shaped.a_catch w.1.0.0 (present strict (get (codes "handler") d) shaped.a_catch w.1.0.0 w.1.0.1)))
       (λ s t h. h, (λ s t h. absent_or s shaped.a_catch t h, (λ s t h. absent_or s shaped.a_block t h, tt)))
-  try_by true false e = plain shape.TryStatement _ _ refl refl (λ e. e) (λ w. ap (λ b. not (b && true)) (not_absent strict shaped.a_catch w.1.0.0 (present strict (get (codes "handler") d) shaped.a_catch w.1.0.0 w.1.0.1)))
+  try_by true false e = plain shape.TryStatement _ _ refl refl (λ n e. e) (λ w. ap (λ b. not (b && true)) (not_absent strict shaped.a_catch w.1.0.0 (present strict (get (codes "handler") d) shaped.a_catch w.1.0.0 w.1.0.1)))
       (λ s t h. h, (λ s t h. absent_or s shaped.a_catch t h, (λ s. absent_fits s shaped.a_block, tt)))
-  try_by false true e = plain shape.TryStatement _ _ refl refl (λ e. e) (λ w. ap not (not_absent strict shaped.a_block w.1.1.0.0 (present strict (get (codes "finalizer") d) shaped.a_block w.1.1.0.0 w.1.1.0.1)))
+  try_by false true e = plain shape.TryStatement _ _ refl refl (λ n e. e) (λ w. ap not (not_absent strict shaped.a_block w.1.1.0.0 (present strict (get (codes "finalizer") d) shaped.a_block w.1.1.0.0 w.1.1.0.1)))
       (λ s t h. h, (λ s. absent_fits s shaped.a_catch, (λ s t h. absent_or s shaped.a_block t h, tt)))
   try_by false false e = absurd (false≢true e)
 
@@ -115,26 +114,26 @@ module _ (strict : Bool) (depth : Depth) (d : Data) where
   try = require_whole strict (at (shaped.a_statement depth)) d (is_given (codes "handler") d || is_given (codes "finalizer") d) (node_of shape.TryStatement (try_children (is_given (codes "handler") d) (is_given (codes "finalizer") d))) (λ e. try_by (is_given (codes "handler") d) (is_given (codes "finalizer") d) e)
 
   pub while : WholeIf strict (at (shaped.a_statement depth)) d (statement.while d)
-  while = plain shape.WhileStatement _ _ refl refl (λ e. e) (λ w. refl) (λ s t h. h, (λ s t h. h, tt))
+  while = plain shape.WhileStatement _ _ refl refl (λ n e. e) (λ w. refl) (λ s t h. h, (λ s t h. h, tt))
 
   pub do_while : WholeIf strict (at (shaped.a_statement depth)) d (statement.do_while d)
-  do_while = plain shape.DoWhileStatement _ _ refl refl (λ e. e) (λ w. refl) (λ s t h. h, (λ s t h. h, tt))
+  do_while = plain shape.DoWhileStatement _ _ refl refl (λ n e. e) (λ w. refl) (λ s t h. h, (λ s t h. h, tt))
 
   pub for : WholeIf strict (at (shaped.a_statement depth)) d (statement.for d)
-  for = plain shape.ForStatement (optional (codes "init") shaped.an_init d ∷ optional (codes "test") shaped.an_expression d ∷ optional (codes "update") shaped.an_expression d ∷ child (codes "body") (shaped.a_statement nested) ∷ []) _ refl refl (λ e. e) (λ w. refl)
+  for = plain shape.ForStatement (optional (codes "init") shaped.an_init d ∷ optional (codes "test") shaped.an_expression d ∷ optional (codes "update") shaped.an_expression d ∷ child (codes "body") (shaped.a_statement nested) ∷ []) _ refl refl (λ n e. e) (λ w. refl)
       (optional_fits shaped.an_init (is_given (codes "init") d) (field (codes "init")) (at shaped.an_init) (λ s t h. h), (expression_fits (codes "test"), (expression_fits (codes "update"), (λ s t h. h, tt))))
 
   pub for_in : WholeIf strict (at (shaped.a_statement depth)) d (statement.for_in d)
-  for_in = plain shape.ForInStatement _ _ refl refl (λ e. e) (λ w. refl) (λ s t h. h, (λ s t h. h, (λ s t h. h, tt)))
+  for_in = plain shape.ForInStatement _ _ refl refl (λ n e. e) (λ w. refl) (λ s t h. h, (λ s t h. h, (λ s t h. h, tt)))
 
   pub for_of : WholeIf strict (at (shaped.a_statement depth)) d (statement.for_of d)
-  for_of = require_whole strict (at (shaped.a_statement depth)) d _ _ (λ e. plain shape.ForOfStatement _ _ refl refl (λ e. e) (λ w. refl) (λ s t h. h, (λ s t h. h, (λ s t h. h, tt))))
+  for_of = require_whole strict (at (shaped.a_statement depth)) d _ _ (λ e. plain shape.ForOfStatement _ _ refl refl (λ n e. e) (λ w. refl) (λ s t h. h, (λ s t h. h, (λ s t h. h, tt))))
 
   pub expression_statement : WholeIf strict (at (shaped.a_statement depth)) d (statement.expression_statement (at (shaped.a_statement depth)) d)
-  expression_statement = require_whole strict (at (shaped.a_statement depth)) d _ _ (λ e. plain shape.ExpressionStatement _ _ refl refl (λ e. e) (λ w. refl) (λ s t h. h, tt))
+  expression_statement = require_whole strict (at (shaped.a_statement depth)) d _ _ (λ e. plain shape.ExpressionStatement _ _ refl refl (λ n e. e) (λ w. refl) (λ s t h. h, tt))
 
   pub block : WholeIf strict (at (shaped.a_statement depth)) d (statement.block d)
-  block = list_whole strict (at (shaped.a_statement depth)) d (each (shaped.a_statement nested)) (codes "body") _ (λ ds. plain shape.BlockStatement _ _ refl refl (λ e. e) (λ w. refl)
+  block = list_whole strict (at (shaped.a_statement depth)) d (each (shaped.a_statement nested)) (codes "body") _ (λ ds. plain shape.BlockStatement _ _ refl refl (λ n e. e) (λ w. refl)
       (all_fit (shaped.one (shaped.a_statement nested)) (each (shaped.a_statement nested)) (codes "body") 0 ds (λ last e q s t h. h), tt))
 
 -- a directive is none of the tree
@@ -144,34 +143,36 @@ directive strict d = record { known = λ w n numbered. (tt, tt) }
 -- ---- what statements hold
 
 module _ (strict : Bool) (d : Data) where
+  program_by : (m : Bool) (ds : Items) → WholeIf strict (at shaped.a_program) d (node_of (shape.Program m (directives_of ds)) (statement.body (if m then in_module else in_body) ds ∷ []))
+  program_by m ds = record { known = λ w n numbered. (λ zero. fits_at strict shaped.a_program (shape.Program m (directives_of ds)) [] n d (statement.body (if m then in_module else in_body) ds ∷ []) (taken (slots_of strict shaped.a_program (shape.Program m (directives_of ds)))) w refl zero refl (directives_paired ds) refl
+      (body_fit (if m then in_module else in_body) true 0 ds, tt), tt) }
+
   pub program : WholeIf strict (at shaped.a_program) d (statement.program d)
-  program = bind_whole strict (at shaped.a_program) d (word_at source_types (codes "sourceType") d) _ (λ m is. bind_whole strict (at shaped.a_program) d (list_at (codes "body") d) _ (λ ds are.
-      whole_at strict (at shaped.a_program) shaped.a_program d (shape.Program m (directives_of ds)) [] _ (λ t e. e) (λ e. e) refl (directives_paired ds) (λ w. refl)
-      (body_fit (if m then in_module else in_body) true 0 ds, tt) (λ w n. tt)))
+  program = bind_whole strict (at shaped.a_program) d (word_at source_types (codes "sourceType") d) _ (λ m is. bind_whole strict (at shaped.a_program) d (list_at (codes "body") d) _ (λ ds are. program_by m ds))
 
   pub bare_block : WholeIf strict (at shaped.a_block) d (statement.block d)
-  bare_block = list_whole strict (at shaped.a_block) d (each (shaped.a_statement nested)) (codes "body") _ (λ ds. whole_at strict (at shaped.a_block) shaped.a_block d shape.BlockStatement [] _ (λ t e. e) (λ e. e) refl refl (λ w. refl)
+  bare_block = list_whole strict (at shaped.a_block) d (each (shaped.a_statement nested)) (codes "body") _ (λ ds. whole_at strict (at shaped.a_block) shaped.a_block d shape.BlockStatement [] _ (λ t e. e) (λ n e. e) refl refl (λ w. refl)
       (all_fit (shaped.one (shaped.a_statement nested)) (each (shaped.a_statement nested)) (codes "body") 0 ds (λ last e q s t h. h), tt) (λ w n. tt))
 
   pub function_body : WholeIf strict (at shaped.a_function_body) d (statement.function_body d)
-  function_body = bind_whole strict (at shaped.a_function_body) d (list_at (codes "body") d) _ (λ ds are. whole_at strict (at shaped.a_function_body) shaped.a_function_body d shape.FunctionBody [] _ (λ t e. e) (λ e. e) refl refl (λ w. refl)
+  function_body = bind_whole strict (at shaped.a_function_body) d (list_at (codes "body") d) _ (λ ds are. whole_at strict (at shaped.a_function_body) shaped.a_function_body d shape.FunctionBody [] _ (λ t e. e) (λ n e. e) refl refl (λ w. refl)
       (body_fit in_body true 0 ds, tt) (λ w n. tt))
 
   pub arrow_body : WholeIf strict (at shaped.an_arrow_body) d (statement.function_body d)
-  arrow_body = bind_whole strict (at shaped.an_arrow_body) d (list_at (codes "body") d) _ (λ ds are. whole_at strict (at shaped.an_arrow_body) shaped.an_arrow_body d shape.FunctionBody [] _ (λ t e. e) (λ e. e) refl refl (λ w. refl)
+  arrow_body = bind_whole strict (at shaped.an_arrow_body) d (list_at (codes "body") d) _ (λ ds are. whole_at strict (at shaped.an_arrow_body) shaped.an_arrow_body d shape.FunctionBody [] _ (λ t e. e) (λ n e. e) refl refl (λ w. refl)
       (body_fit in_body true 0 ds, tt) (λ w n e. refl))
 
   pub switch_case : WholeIf strict (at shaped.a_case) d (statement.switch_case d)
-  switch_case = list_whole strict (at shaped.a_case) d (each (shaped.a_statement nested)) (codes "consequent") _ (λ ds. whole_at strict (at shaped.a_case) shaped.a_case d shape.SwitchCase [] (optional (codes "test") shaped.an_expression d ∷ list (each (shaped.a_statement nested)) (codes "consequent") ds ∷ []) (λ t e. e) (λ e. e) refl refl (λ w. refl)
+  switch_case = list_whole strict (at shaped.a_case) d (each (shaped.a_statement nested)) (codes "consequent") _ (λ ds. whole_at strict (at shaped.a_case) shaped.a_case d shape.SwitchCase [] (optional (codes "test") shaped.an_expression d ∷ list (each (shaped.a_statement nested)) (codes "consequent") ds ∷ []) (λ t e. e) (λ n e. e) refl refl (λ w. refl)
       (optional_fits shaped.an_expression (is_given (codes "test") d) (field (codes "test")) (at shaped.an_expression) (λ s t h. h), (all_fit (shaped.one (shaped.a_statement nested)) (each (shaped.a_statement nested)) (codes "consequent") 0 ds (λ last e q s t h. h), tt)) (λ w n. tt))
 
   pub catch : WholeIf strict (at shaped.a_catch) d (statement.catch d)
-  catch = whole_at strict (at shaped.a_catch) shaped.a_catch d shape.CatchClause [] (optional (codes "param") shaped.a_pattern d ∷ child (codes "body") shaped.a_block ∷ []) (λ t e. e) (λ e. e) refl refl (λ w. refl)
+  catch = whole_at strict (at shaped.a_catch) shaped.a_catch d shape.CatchClause [] (optional (codes "param") shaped.a_pattern d ∷ child (codes "body") shaped.a_block ∷ []) (λ t e. e) (λ n e. e) refl refl (λ w. refl)
       (optional_fits shaped.a_pattern (is_given (codes "param") d) (field (codes "param")) (at shaped.a_pattern) (λ s t h. h), (λ s t h. h, tt)) (λ w n. tt)
 
   declarator_by : (b : Bool) → is_given (codes "init") d ≡ b → WholeIf strict (at shaped.a_declarator) d (node_of shape.VariableDeclarator (child (codes "id") shaped.a_pattern ∷ one (if b then tree_at (field (codes "init")) (at shaped.an_expression) else hole) ∷ []))
-  declarator_by true is = whole_at strict (at shaped.a_declarator) shaped.a_declarator d shape.VariableDeclarator [] _ (λ t e. e) (λ e. e) refl refl (λ w. refl) (λ s t h. h, (λ s t h. absent_or s shaped.an_expression t h, tt)) (λ w n no. absurd (true≢false (sym is ∙ no)))
-  declarator_by false is = whole_at strict (at shaped.a_declarator) shaped.a_declarator d shape.VariableDeclarator [] _ (λ t e. e) (λ e. e) refl refl (λ w. refl) (λ s t h. h, (λ s. absent_fits s shaped.an_expression, tt)) (λ w n no. refl)
+  declarator_by true is = whole_at strict (at shaped.a_declarator) shaped.a_declarator d shape.VariableDeclarator [] _ (λ t e. e) (λ n e. e) refl refl (λ w. refl) (λ s t h. h, (λ s t h. absent_or s shaped.an_expression t h, tt)) (λ w n no. absurd (true≢false (sym is ∙ no)))
+  declarator_by false is = whole_at strict (at shaped.a_declarator) shaped.a_declarator d shape.VariableDeclarator [] _ (λ t e. e) (λ n e. e) refl refl (λ w. refl) (λ s t h. h, (λ s. absent_fits s shaped.an_expression, tt)) (λ w n no. refl)
 
   pub declarator : WholeIf strict (at shaped.a_declarator) d (statement.declarator d)
   declarator = declarator_by (is_given (codes "init") d) refl
@@ -206,14 +207,14 @@ module _ (strict : Bool) (d : Data) where
   counted ds some w = ap (nat_le 1) (items_counted strict d (each shaped.a_declarator) (codes "declarations") 0 ds w (λ last e q. tt)) ∙ some_there ds some
 
   pub variable_statement : (depth : Depth) → WholeIf strict (at (shaped.a_statement depth)) d (statement.variable d)
-  variable_statement depth = variable_by (at (shaped.a_statement depth)) (λ k ds are is some. whole_by strict (at (shaped.a_statement depth)) (shaped.a_statement depth) d (shape.VariableDeclaration k) [] _ (shaped.many shaped.a_declarator ∷ []) (λ t e. e) (λ e. e)
+  variable_statement depth = variable_by (at (shaped.a_statement depth)) (λ k ds are is some. whole_by strict (at (shaped.a_statement depth)) (shaped.a_statement depth) d (shape.VariableDeclaration k) [] _ (shaped.many shaped.a_declarator ∷ []) (λ t e. e) (λ n e. e)
       (none_if_false (is_sloppy_function strict depth (shape.VariableDeclaration k)) _ (not_sloppy strict depth (shape.VariableDeclaration k) refl)) refl refl (λ w. counted ds some w.0) (declarators_fit ds, tt) (λ w n. tt))
 
   pub variable_init : WholeIf strict (at shaped.an_init) d (statement.variable d)
-  variable_init = variable_by (at shaped.an_init) (λ k ds are is some. whole_at strict (at shaped.an_init) shaped.an_init d (shape.VariableDeclaration k) [] _ (λ t e. e) (λ e. e) refl refl (λ w. counted ds some w.0) (declarators_fit ds, tt) (λ w n. tt))
+  variable_init = variable_by (at shaped.an_init) (λ k ds are is some. whole_at strict (at shaped.an_init) shaped.an_init d (shape.VariableDeclaration k) [] _ (λ t e. e) (λ n e. e) refl refl (λ w. counted ds some w.0) (declarators_fit ds, tt) (λ w n. tt))
 
   pub exported_variable : WholeIf strict (at shaped.an_exported_declaration) d (statement.variable d)
-  exported_variable = variable_by (at shaped.an_exported_declaration) (λ k ds are is some. whole_at strict (at shaped.an_exported_declaration) shaped.an_exported_declaration d (shape.VariableDeclaration k) [] _ (λ t e. e) (λ e. e) refl refl (λ w. counted ds some w.0) (declarators_fit ds, tt) (λ w n. tt))
+  exported_variable = variable_by (at shaped.an_exported_declaration) (λ k ds are is some. whole_at strict (at shaped.an_exported_declaration) shaped.an_exported_declaration d (shape.VariableDeclaration k) [] _ (λ t e. e) (λ n e. e) refl refl (λ w. counted ds some w.0) (declarators_fit ds, tt) (λ w n. tt))
 
   -- the head of a `for..in` or `for..of`
   is_var_by : (o : Option (List ℕ)) (k : VariableDeclarationKind) → option_and_then (word_in variable_kinds) o ≡ Some k → is_text_by (codes "var") o ≡ true → shaped.is_var k ≡ true
@@ -238,5 +239,5 @@ module _ (strict : Bool) (d : Data) where
   heads enumerates k (item e (item f ds)) are is head w = absurd (false≢true head)
 
   pub loop_variable : (enumerates : Bool) → is_head enumerates d ≡ true → WholeIf strict (at (shaped.a_loop_left enumerates)) d (statement.variable d)
-  loop_variable enumerates head = variable_by (at (shaped.a_loop_left enumerates)) (λ k ds are is some. whole_at strict (at (shaped.a_loop_left enumerates)) (shaped.a_loop_left enumerates) d (shape.VariableDeclaration k) [] _ (λ t e. e) (λ e. e) refl refl
+  loop_variable enumerates head = variable_by (at (shaped.a_loop_left enumerates)) (λ k ds are is some. whole_at strict (at (shaped.a_loop_left enumerates)) (shaped.a_loop_left enumerates) d (shape.VariableDeclaration k) [] _ (λ t e. e) (λ n e. e) refl refl
       (λ w. heads enumerates k ds are is (sym (ap (λ o. unwrap_or (option_map (is_head_by (enumerates && has_text (codes "kind") (codes "var") d)) o) false) are) ∙ head) w.0) (declarators_fit ds, tt) (λ w n. tt))

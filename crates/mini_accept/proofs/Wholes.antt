@@ -1,7 +1,8 @@
 -- How a plan is shown to give a tree that is known.
 use Rattle.std.proofs.Common.{◌≡◌, ℕ, suc, List, [], refl, ap, sym, ◌∙◌, subst, inl, inr, Bool, true, false, ◌&&◌, ◌||◌}
 use Rattle.std.specs.Prelude.{◌⊎◌, ⊤, Option, Some, None, option_map, ◌==◌, not, is_some, if◌then◌else◌, codes}
-use Rattle.std.proofs.lemmas.Bool.{and_from, and_parts, eq-eqb, not-true, false≢true, true≢false}
+use Rattle.std.proofs.Math.Dec.{eqb-suc-zero}
+use Rattle.std.proofs.lemmas.Bool.{and_from, and_parts, not-true, false≢true, true≢false}
 use Rattle.serde_json.specs.Data.{Data, null, boolean, number, string, array, object, Items, no_items, item}
 use Rattle.serde_json.specs.Find.{as_null}
 use Rattle.mini_model.specs.declared.name.Name.{Name}
@@ -10,15 +11,14 @@ use Rattle.mini_model.specs.declared.shape.Shape.TheVariants as shape
 use Rattle.mini_model.specs.Paths.{append}
 use Rattle.mini_model.specs.Tree.{Tree, node, Trees, none, ◌▸◌, absent, is_absent, count}
 use Rattle.mini_structure.specs.WellShaped as shaped
-use Rattle.mini_structure.specs.WellShaped.{Class, Depth, Slot, fits, fill, these, slots_of, expression_slots, is_strict_in, is_numbered, has_names, has_plain_fields, has_its_parts, is_optional, none_if, unchained_slots, is_text}
+use Rattle.mini_structure.specs.WellShaped.{Class, Depth, Slot, fits, fill, these, slots_of, expression_slots, is_strict_in, is_numbered, has_its_number, has_names, has_plain_fields, has_its_parts, is_optional, none_if, unchained_slots, is_text}
 use Rattle.mini_accept.specs.Places.{Step, place, Place, at}
 use Rattle.mini_accept.specs.Fields.{◌>>=◌, require, list_at, item_count, has_type, no_item}
 use Rattle.mini_accept.specs.Standing.{has_true}
 use Rattle.mini_accept.specs.Plans.{Part, hole, tree_at, inner_at, checked, Child, Plan, ItemPart, parts_from, list, list_child, or_rest, or_hole}
 use Rattle.mini_accept.specs.Expressions.{is_link, link_key, has_mark, has_mark_at}
-use Rattle.mini_accept.specs.Accept.{takes_number}
 use Rattle.mini_accept.proofs.Fitting.{Fits, Seen, Expressed, Of, trees_of, OfParts, trees_of_parts, OfChildren, trees_of_children, PartFits, item_fits, AllFit, IsEnd, AllFitOrLast, ChildrenFit, children_filled, parts_by_shape}
-use Rattle.mini_accept.proofs.Gathered.{Whole, WholeIf}
+use Rattle.mini_accept.proofs.Gathered.{has_number, Numbered, Whole, WholeIf}
 use Rattle.mini_accept.proofs.Types.{Typed, typed_has, is_expression_place}
 
 -- ---- what an entry does before it plans
@@ -44,22 +44,18 @@ list_whole strict p d part key f h = map_whole strict p d part key (list_at key 
 
 -- ---- nodes
 
-number_fits : (b : Bool) (n : ℕ) → (b ≡ false → n ≡ 0) → (b || (n == 0)) ≡ true
-number_fits true n h = refl
-number_fits false n h = eq-eqb n 0 (h refl)
-
 filled_by : (strict : Bool) (o : Option (List Slot)) (slots : List Slot) (ts : Trees) → o ≡ Some slots → fill strict (these slots) ts ≡ true → fill strict (shaped.filling_by o) ts ≡ true
 filled_by strict o slots ts e f = subst (λ v. fill strict (shaped.filling_by v) ts ≡ true) (sym e) f
 
 -- a node whose children fill its slots
-pub fits_filled : (strict : Bool) (c : Class) (h : Shape) (xs : List Name) (n : ℕ) (ts : Trees) (slots : List Slot) → slots_of strict c h ≡ Some slots → (is_numbered c h ≡ false → n ≡ 0) → has_names h xs ≡ true → has_plain_fields h ≡ true
+pub fits_filled : (strict : Bool) (c : Class) (h : Shape) (xs : List Name) (n : ℕ) (ts : Trees) (slots : List Slot) → slots_of strict c h ≡ Some slots → has_its_number c h n ≡ true → has_names h xs ≡ true → has_plain_fields h ≡ true
     → has_its_parts c h ts ≡ true → fill (is_strict_in strict h) (these slots) ts ≡ true → fits strict (shaped.one c) (node h xs n ts) ≡ true
 fits_filled strict c h xs n ts slots stands numbered names plain parts filled =
-    and_from _ _ (and_from (has_names h xs) _ names (and_from _ _ (number_fits (is_numbered c h) n numbered) (and_from (has_plain_fields h) _ plain parts)))
+    and_from _ _ (and_from (has_names h xs) _ names (and_from (has_its_number c h n) _ numbered (and_from (has_plain_fields h) _ plain parts)))
     (filled_by (is_strict_in strict h) (slots_of strict c h) slots ts stands filled)
 
 pub fits_at : (strict : Bool) (c : Class) (h : Shape) (xs : List Name) (n : ℕ) (d : Data) (cs : List Child) (slots : List Slot) (w : OfChildren (is_strict_in strict h) d cs)
-    → slots_of strict c h ≡ Some slots → (is_numbered c h ≡ false → n ≡ 0) → has_names h xs ≡ true → has_plain_fields h ≡ true
+    → slots_of strict c h ≡ Some slots → has_its_number c h n ≡ true → has_names h xs ≡ true → has_plain_fields h ≡ true
     → has_its_parts c h (trees_of_children (is_strict_in strict h) d cs w) ≡ true → ChildrenFit slots cs → fits strict (shaped.one c) (node h xs n (trees_of_children (is_strict_in strict h) d cs w)) ≡ true
 fits_at strict c h xs n d cs slots w stands numbered names plain parts fit =
     fits_filled strict c h xs n (trees_of_children (is_strict_in strict h) d cs w) slots stands numbered names plain parts (children_filled (is_strict_in strict h) d slots cs w fit)
@@ -95,6 +91,10 @@ if_fits s false x y f g = g refl
 pub inner_one : (b : Bool) → b ≡ true → (b && true) ≡ true
 inner_one b e = and_from b true e refl
 
+-- an inner expression, which has a number
+pub inner_fits : (n : ℕ) (b : Bool) → b ≡ true → ((not (suc n == 0) && true) && (b && true)) ≡ true
+inner_fits n b e = rw (eqb-suc-zero n, e) refl
+
 pub absent_fits : (strict : Bool) (c : Class) → fits strict (shaped.one_or_absent c) absent ≡ true
 absent_fits strict c = inner_one _ (parts_by_shape c shape.Absent none refl)
 
@@ -104,7 +104,7 @@ optional_fits c true q p f = λ strict t h. absent_or strict c t (f strict t h)
 optional_fits c false q p f = λ strict. absent_fits strict c
 
 pub optional_inner_fits : (c : Class) (b : Bool) (q : Step) (p : Place) → PartFits (shaped.one c) (inner_at q p) → PartFits (shaped.one_or_absent c) (if b then inner_at q p else hole)
-optional_inner_fits c true q p f = λ strict n t h. absent_or strict c (node shape.InnerExpression [] n (t ▸ none)) (f strict n t h)
+optional_inner_fits c true q p f = λ strict n t h. absent_or strict c (node shape.InnerExpression [] (suc n) (t ▸ none)) (f strict n t h)
 optional_inner_fits c false q p f = λ strict. absent_fits strict c
 
 -- ---- items
@@ -254,15 +254,27 @@ link_slots strict (shape.ComputedMemberExpression o) slots c e = absurd (true≢
 link_slots strict (shape.PrivateFieldExpression o) slots c e = absurd (true≢false c)
 link_slots strict h slots c e = e
 
+abbrev pub is_program_shape : Shape → Bool
+is_program_shape (shape.Program m ds) = true
+is_program_shape h = false
+
+pub own_number : (c : Class) (h : Shape) (n : ℕ) → is_program_shape h ≡ false → has_number (is_numbered c h) n ≡ true → has_its_number c h n ≡ true
+own_number c (shape.Program m ds) n e numbered = absurd (true≢false e)
+own_number c h n e numbered = numbered
+
+pub no_program : (c : Class) (h : Shape) (slots : List Slot) → expression_slots c h ≡ Some slots → is_program_shape h ≡ false
+no_program c (shape.Program m ds) slots e = absurd (cc e)
+no_program c h slots e = refl
+
 pub expression_fits : (strict : Bool) (p : Place) (d : Data) (h : Shape) (cs : List Child) (x : Expression strict d h cs) → is_expression_place p ≡ true → (is_link p && shaped.is_chained h) ≡ false
-    → (w : OfChildren (is_strict_in strict h) d cs) (n : ℕ) → (takes_number p h ≡ false → n ≡ 0) → Fits strict p (node h [] n (trees_of_children (is_strict_in strict h) d cs w))
-expression_fits strict (at shaped.an_init) d h cs x e c w n numbered = fits_filled strict shaped.an_init h [] n (trees_of_children (is_strict_in strict h) d cs w) x.slots (init_slots strict h x.slots x.loose x.bare) numbered x.names (x.plain w) (x.parts w) (x.filled w)
-expression_fits strict (at shaped.an_arrow_body) d h cs x e c w n numbered = fits_filled strict shaped.an_arrow_body h [] n (trees_of_children (is_strict_in strict h) d cs w) x.slots (body_slots strict h x.slots x.loose x.bare) numbered x.names (x.plain w) (x.parts w) (x.filled w)
-expression_fits strict (at shaped.an_expression) d h cs x e c w n numbered = fits_filled strict shaped.an_expression h [] n (trees_of_children (is_strict_in strict h) d cs w) x.slots (unchained h x.slots x.loose x.bare) numbered x.names (x.plain w) (x.parts w) (x.filled w)
-expression_fits strict (at shaped.a_link) d h cs x e c w n numbered = fits_filled strict shaped.a_link h [] n (trees_of_children (is_strict_in strict h) d cs w) x.slots (link_slots strict h x.slots c x.loose) numbered x.names (x.plain w) (x.parts w) (x.filled w)
-expression_fits strict (at shaped.an_argument) d h cs x e c w n numbered = fits_filled strict shaped.an_argument h [] n (trees_of_children (is_strict_in strict h) d cs w) x.slots (argument_slots strict h x.slots x.loose x.bare) numbered x.names (x.plain w) (x.parts w) (x.filled w)
-expression_fits strict (at (shaped.a_key true)) d h cs x e c w n numbered = fits_filled strict (shaped.a_key true) h [] n (trees_of_children (is_strict_in strict h) d cs w) x.slots (unchained h x.slots x.loose x.bare) numbered x.names (x.plain w) (x.parts w) (x.filled w)
-expression_fits strict (at shaped.a_default_export) d h cs x e c w n numbered = fits_filled strict shaped.a_default_export h [] n (trees_of_children (is_strict_in strict h) d cs w) x.slots (export_slots strict h x.slots x.loose x.bare) numbered x.names (x.plain w) (x.parts w) (x.filled w)
+    → (w : OfChildren (is_strict_in strict h) d cs) (n : ℕ) → Numbered p h n → Fits strict p (node h [] n (trees_of_children (is_strict_in strict h) d cs w))
+expression_fits strict (at shaped.an_init) d h cs x e c w n numbered = fits_filled strict shaped.an_init h [] n (trees_of_children (is_strict_in strict h) d cs w) x.slots (init_slots strict h x.slots x.loose x.bare) (own_number shaped.an_init h n (no_program shaped.an_expression h x.slots x.loose) numbered) x.names (x.plain w) (x.parts w) (x.filled w)
+expression_fits strict (at shaped.an_arrow_body) d h cs x e c w n numbered = fits_filled strict shaped.an_arrow_body h [] n (trees_of_children (is_strict_in strict h) d cs w) x.slots (body_slots strict h x.slots x.loose x.bare) (own_number shaped.an_arrow_body h n (no_program shaped.an_expression h x.slots x.loose) numbered) x.names (x.plain w) (x.parts w) (x.filled w)
+expression_fits strict (at shaped.an_expression) d h cs x e c w n numbered = fits_filled strict shaped.an_expression h [] n (trees_of_children (is_strict_in strict h) d cs w) x.slots (unchained h x.slots x.loose x.bare) (own_number shaped.an_expression h n (no_program shaped.an_expression h x.slots x.loose) numbered) x.names (x.plain w) (x.parts w) (x.filled w)
+expression_fits strict (at shaped.a_link) d h cs x e c w n numbered = fits_filled strict shaped.a_link h [] n (trees_of_children (is_strict_in strict h) d cs w) x.slots (link_slots strict h x.slots c x.loose) (own_number shaped.a_link h n (no_program shaped.an_expression h x.slots x.loose) numbered) x.names (x.plain w) (x.parts w) (x.filled w)
+expression_fits strict (at shaped.an_argument) d h cs x e c w n numbered = fits_filled strict shaped.an_argument h [] n (trees_of_children (is_strict_in strict h) d cs w) x.slots (argument_slots strict h x.slots x.loose x.bare) (own_number shaped.an_argument h n (no_program shaped.an_expression h x.slots x.loose) numbered) x.names (x.plain w) (x.parts w) (x.filled w)
+expression_fits strict (at (shaped.a_key true)) d h cs x e c w n numbered = fits_filled strict (shaped.a_key true) h [] n (trees_of_children (is_strict_in strict h) d cs w) x.slots (unchained h x.slots x.loose x.bare) (own_number (shaped.a_key true) h n (no_program shaped.an_expression h x.slots x.loose) numbered) x.names (x.plain w) (x.parts w) (x.filled w)
+expression_fits strict (at shaped.a_default_export) d h cs x e c w n numbered = fits_filled strict shaped.a_default_export h [] n (trees_of_children (is_strict_in strict h) d cs w) x.slots (export_slots strict h x.slots x.loose x.bare) (own_number shaped.a_default_export h n (no_program shaped.an_expression h x.slots x.loose) numbered) x.names (x.plain w) (x.parts w) (x.filled w)
 expression_fits strict p d h cs x e c w n numbered = absurd (false≢true e)
 
 abbrev pub taken : Option (List Slot) → List Slot
@@ -313,24 +325,24 @@ plain_whole strict p d e a h cs is plain parts fit = filled_whole strict p d e a
 
 -- the plan of a node in a place of a class
 pub whole_by : (strict : Bool) (p : Place) (c : Class) (d : Data) (h : Shape) (xs : List Name) (cs : List Child) (slots : List Slot) → ((t : Tree) → fits strict (shaped.one c) t ≡ true → Fits strict p t)
-    → (is_numbered c h ≡ false → takes_number p h ≡ false) → slots_of strict c h ≡ Some slots → has_names h xs ≡ true → has_plain_fields h ≡ true
+    → ((n : ℕ) → Numbered p h n → has_its_number c h n ≡ true) → slots_of strict c h ≡ Some slots → has_names h xs ≡ true → has_plain_fields h ≡ true
     → ((w : OfChildren (is_strict_in strict h) d cs) → has_its_parts c h (trees_of_children (is_strict_in strict h) d cs w) ≡ true) → ChildrenFit slots cs
     → ((w : OfChildren (is_strict_in strict h) d cs) (n : ℕ) → Seen p d (node h xs n (trees_of_children (is_strict_in strict h) d cs w)))
     → WholeIf strict p d (Some (record { shape = h; names = xs; children = cs }))
-whole_by strict p c d h xs cs slots there unnumbered stands names plain parts fit seen = record {
+whole_by strict p c d h xs cs slots there counted stands names plain parts fit seen = record {
   known = λ w n numbered.
-      (there (node h xs n (trees_of_children (is_strict_in strict h) d cs w)) (fits_at strict c h xs n d cs slots w stands (λ e. numbered (unnumbered e)) names plain (parts w) fit), seen w n);
+      (there (node h xs n (trees_of_children (is_strict_in strict h) d cs w)) (fits_at strict c h xs n d cs slots w stands (counted n numbered) names plain (parts w) fit), seen w n);
 }
 
 -- the same where the slots compute
 pub whole_at : (strict : Bool) (p : Place) (c : Class) (d : Data) (h : Shape) (xs : List Name) (cs : List Child) → ((t : Tree) → fits strict (shaped.one c) t ≡ true → Fits strict p t)
-    → (is_numbered c h ≡ false → takes_number p h ≡ false) → (is_some (slots_of strict c h) && has_names h xs) ≡ true → has_plain_fields h ≡ true
+    → ((n : ℕ) → Numbered p h n → has_its_number c h n ≡ true) → (is_some (slots_of strict c h) && has_names h xs) ≡ true → has_plain_fields h ≡ true
     → ((w : OfChildren (is_strict_in strict h) d cs) → has_its_parts c h (trees_of_children (is_strict_in strict h) d cs w) ≡ true) → ChildrenFit (taken (slots_of strict c h)) cs
     → ((w : OfChildren (is_strict_in strict h) d cs) (n : ℕ) → Seen p d (node h xs n (trees_of_children (is_strict_in strict h) d cs w)))
     → WholeIf strict p d (Some (record { shape = h; names = xs; children = cs }))
-whole_at strict p c d h xs cs there unnumbered is plain parts fit seen =
+whole_at strict p c d h xs cs there counted is plain parts fit seen =
     let (some, names) = and_parts (is_some (slots_of strict c h)) (has_names h xs) is in
-    whole_by strict p c d h xs cs (taken (slots_of strict c h)) there unnumbered (taken_some (slots_of strict c h) some) names plain parts fit seen
+    whole_by strict p c d h xs cs (taken (slots_of strict c h)) there counted (taken_some (slots_of strict c h) some) names plain parts fit seen
 
 -- a place by its equation
 pub whole_there : (strict : Bool) (p q : Place) (d : Data) (o : Option Plan) → p ≡ q → WholeIf strict q d o → WholeIf strict p d o

@@ -1,7 +1,7 @@
 -- A tree that is read weighs little against the value that it was read from.
-use Rattle.std.proofs.Common.{◌≡◌, ℕ, zero, suc, ◌+◌, ◌<◌, ◌≤◌, ◌^◌, ◌⊎◌, inl, inr, List, [], refl, ap, sym, ◌∙◌, subst, codes, Bool, true, false, arith}
-use Rattle.std.specs.Prelude.{Option, Some, None, Result, Ok, Err}
-use Rattle.std.proofs.lemmas.Bool.{and_parts, false≢true}
+use Rattle.std.proofs.Common.{◌≡◌, ℕ, zero, suc, ◌+◌, ◌<◌, ◌≤◌, ◌^◌, ◌⊎◌, inl, inr, List, [], ◌∷◌, refl, ap, sym, ◌∙◌, subst, codes, Bool, true, false, arith}
+use Rattle.std.specs.Prelude.{⊤, option_map, Option, Some, None, Result, Ok, Err}
+use Rattle.std.proofs.lemmas.Bool.{false≢true}
 use Rattle.serde_json.specs.Data.{Data}
 use Rattle.mini_model.specs.declared.name.Name.{Name}
 use Rattle.mini_model.specs.declared.shape.Shape.{Shape}
@@ -12,23 +12,22 @@ use Rattle.mini_model.specs.declared.place.Position.TheVariants.{Elsewhere}
 use Rattle.mini_model.specs.Position.{child_position}
 use Rattle.mini_model.specs.Weight.{weight}
 use Rattle.mini_structure.specs.WellShaped as shaped
-use Rattle.mini_structure.specs.WellShaped.{a_program, fits, is_strict_in, is_text}
+use Rattle.mini_structure.specs.WellShaped.{a_program, is_strict_in, is_text}
 use Rattle.mini_accept.specs.Faults.{Defect, Fault}
 use Rattle.mini_accept.specs.declared.kind.Kind.TheVariants as kind
 use Rattle.mini_accept.specs.declared.kind.Kind.{Kind}
 use Rattle.mini_accept.specs.Kind.{types}
 use Rattle.mini_accept.specs.Places.{Place, at}
-use Rattle.mini_accept.specs.Fields.{kind_of, has_type}
+use Rattle.mini_accept.specs.Fields.{kind_of, has_type, is_one_of, name_at}
 use Rattle.mini_accept.specs.Standing.{may_stand, is_unread}
-use Rattle.mini_accept.specs.Plans.{Plan}
+use Rattle.mini_accept.specs.Plans.{Child, Plan}
 use Rattle.mini_accept.specs.Statements as statement
 use Rattle.mini_accept.specs.Expressions as expression
 use Rattle.mini_accept.specs.Patterns as pattern
 use Rattle.mini_accept.specs.Entries.{entry}
 use Rattle.mini_accept.specs.Accept.{are_placed, plan_if, placed_plan, plan_by, plan_unless, plan, Read, Reader, takes_number, read_children, numbered, read_plan, reads, program_at, Accepts}
 use Rattle.mini_accept.proofs.Results.{ok_same, bind_ok}
-use Rattle.mini_accept.proofs.Types.{type_name, kind_typed, typed_has}
-use Rattle.mini_accept.proofs.Shaped.{reads_known}
+use Rattle.mini_accept.proofs.Types.{type_name, kind_typed, typed_has, types_at, typed_there}
 use Rattle.mini_fits.specs.Fits.{Fits}
 use Rattle.mini_fits.proofs.Amounts.{amount}
 use Rattle.mini_fits.proofs.Written.{own_light}
@@ -187,18 +186,58 @@ planned_light r light strict p n d (Ok o) x is e =
     let (m, l, y, below, same) = numbered_read (takes_number p o.shape) n o.shape o.names (λ j. read_children r (is_strict_in strict o.shape) d j o.children) x e in
     (read, λ π. subst (λ (t : Tree). weight π t + extra p d + 13 ≤ amount d) same (holds r light (is_strict_in strict o.shape) l y below π (child_position o.shape π (count y.0))))
 
--- what fits where a name is declared is a name
-bound_light : (strict : Bool) (t : Tree) → fits strict (shaped.one shaped.a_binding) t ≡ true → (π : Position) → weight π t ≤ 7
-bound_light strict (node shape.BindingIdentifier xs n none) e π = omega (arith, own_light 2 π shape.BindingIdentifier xs [] (omega arith))
-bound_light strict (node shape.BindingIdentifier xs n (t ▸ ts)) e π = absurd (false≢true (and_parts _ false e).1)
-bound_light strict (node h xs n ts) e π = absurd (false≢true (and_parts _ false e).1)
+-- what is planned where a name is declared is a name, which has no parts
+abbrev IsNamed : Plan → Type 0
+IsNamed x = (x.shape ≡ shape.BindingIdentifier) × (x.children ≡ [])
 
-reads_binding : (k : ℕ) (strict : Bool) (n : ℕ) (d : Data) (x : Tree × ℕ) → reads k strict (at shaped.a_binding) n d ≡ Ok x → (π : Position) → weight π x.0 ≤ 7
-reads_binding k strict n d x e = bound_light strict x.0 (reads_known k strict (at shaped.a_binding) n d x e).0
+abbrev IsNamedIf : Option Plan → Type 0
+IsNamedIf None = ⊤
+IsNamedIf (Some x) = IsNamed x
+
+record NamedIf (o : Option Plan) : Type 0 where
+  named : IsNamedIf o
+
+identifier_named : (o : Option (List ℕ)) → NamedIf (option_map (expression.identifier_in (at shaped.a_binding)) o)
+identifier_named None = record { named = tt }
+identifier_named (Some s) = record { named = (refl, refl) }
+
+entry_named : (d : Data) (k : Kind) → is_one_of (types_at (at shaped.a_binding)) (type_name k) ≡ true → NamedIf (entry k (at shaped.a_binding) d)
+entry_named d kind.Identifier e = identifier_named (name_at d)
+entry_named d k e = absurd (false≢true e)
+
+placed_named : (strict : Bool) (d : Data) (o : Option Plan) (x : Plan) → NamedIf o → placed_plan strict d o ≡ Ok x → IsNamed x
+placed_named strict d None x l h = absurd (cc h)
+placed_named strict d (Some y) x l h = subst IsNamed (if_planned (are_placed (is_strict_in strict y.shape) d y.children) y x h) l.named
+
+kind_named : (strict : Bool) (d : Data) (o : Option Kind) (x : Plan) → kind_of d ≡ o → may_stand (at shaped.a_binding) d ≡ true → plan_by strict (at shaped.a_binding) d o ≡ Ok x → IsNamed x
+kind_named strict d None x is stands h = absurd (cc h)
+kind_named strict d (Some k) x is stands h = placed_named strict d (entry k (at shaped.a_binding) d) x (entry_named d k (typed_there (at shaped.a_binding) d (type_name k) (kind_typed d k is) stands)) h
+
+unless_named : (a b : Bool) (o : Result Plan Defect) (x : Plan) → (b ≡ true → o ≡ Ok x → IsNamed x) → plan_unless a b o ≡ Ok x → IsNamed x
+unless_named true b o x f e = absurd (cc e)
+unless_named false true o x f e = f refl e
+unless_named false false o x f e = absurd (cc e)
+
+plan_named : (strict : Bool) (d : Data) (x : Plan) → plan strict (at shaped.a_binding) d ≡ Ok x → IsNamed x
+plan_named strict d x e = unless_named (is_unread strict (at shaped.a_binding) d) (may_stand (at shaped.a_binding) d) (plan_by strict (at shaped.a_binding) d (kind_of d)) x (kind_named strict d (kind_of d) x refl) e
+
+name_weight : (h : Shape) (xs : List Name) (m : ℕ) (ts : Trees) → h ≡ shape.BindingIdentifier → ts ≡ none → (π : Position) → weight π (node h xs m ts) ≤ 7
+name_weight h xs m ts is bare π = rw (is, bare) (omega (arith, own_light 2 π shape.BindingIdentifier xs [] (omega arith)))
+
+no_children : (r : Reader) (strict : Bool) (d : Data) (n : ℕ) (cs : List Child) (y : Trees × ℕ) → cs ≡ [] → read_children r strict d n cs ≡ Ok y → y.0 ≡ none
+no_children r strict d n [] y is e = ap (λ v. v.0) (sym (ok_same {E = Fault} (none, n) y e))
+no_children r strict d n (c ∷ cs) y is e = absurd (cc is)
+
+named_light : (r : Reader) (strict : Bool) (n : ℕ) (d : Data) (o : Result Plan Defect) (x : Tree × ℕ) → plan strict (at shaped.a_binding) d ≡ o → read_plan r strict (at shaped.a_binding) n d o ≡ Ok x → (π : Position) → weight π x.0 ≤ 7
+named_light r strict n d (Err b) x is e π = absurd (cc e)
+named_light r strict n d (Ok o) x is e π =
+    let (m, l, y, below, same) = numbered_read (takes_number (at shaped.a_binding) o.shape) n o.shape o.names (λ j. read_children r (is_strict_in strict o.shape) d j o.children) x e in
+    let (name, bare) = plan_named strict d o is in
+    subst (λ (t : Tree). weight π t ≤ 7) same (name_weight o.shape o.names m y.0 name (no_children r (is_strict_in strict o.shape) d l o.children y bare below) π)
 
 reads_light : (k : ℕ) → IsLight (reads k)
 reads_light zero = record { whole = λ strict p n d x e. absurd (cc e); binding = λ strict n d x e. absurd (cc e) }
-reads_light (suc k) = record { whole = λ strict p n d x e. planned_light (reads k) (reads_light k) strict p n d (plan strict p d) x refl e; binding = reads_binding (suc k) }
+reads_light (suc k) = record { whole = λ strict p n d x e. planned_light (reads k) (reads_light k) strict p n d (plan strict p d) x refl e; binding = λ strict n d x e. named_light (reads k) strict n d (plan strict (at shaped.a_binding) d) x refl e }
 
 -- 128 for each value and 2 for each unit
 pub accepted_weight : (d : Data) (t : Tree) → Accepts d t → (π : Position) → weight π t ≤ amount d

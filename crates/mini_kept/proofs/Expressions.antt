@@ -158,9 +158,9 @@ of_conditional strict s a b c e = absurd (refused_here strict s shape.Conditiona
 
 -- the negation of an expression is one
 
-turned_names : (o q : LogicalOperator) (xs : List Name) (n : ℕ) (b c : Bool) → (has_names (shape.LogicalExpression o) xs && ((b || n == 0) && c)) ≡ true → (has_names (shape.LogicalExpression q) xs && ((b || n == 0) && c)) ≡ true
-turned_names o q [] n b c e = e
-turned_names o q (x ∷ xs) n b c e = e
+turned_names : (o q : LogicalOperator) (xs : List Name) (n : ℕ) (c : Bool) → (has_names (shape.LogicalExpression o) xs && (n == 0 && c)) ≡ true → (has_names (shape.LogicalExpression q) xs && (n == 0 && c)) ≡ true
+turned_names o q [] n c e = e
+turned_names o q (x ∷ xs) n c e = e
 
 abbrev AreExpressions : List Slot → Type 0
 AreExpressions [] = Unit {0}
@@ -179,11 +179,11 @@ mutual
   neg_fits strict (node (shape.LogicalExpression And) xs n ts) s e =
       let σ = turned_seat (shape.LogicalExpression And) s in
       let (whole, parts) = and_parts (is_whole an_expression (shape.LogicalExpression And) xs n ts) (fill strict (these two) ts) e in
-      both (is_whole an_expression (shape.LogicalExpression Or) xs n (neg_each σ ts)) (fill strict (these two) (neg_each σ ts)) (turned_names And Or xs n false true whole) (neg_each_fit strict ts σ two tt parts)
+      both (is_whole an_expression (shape.LogicalExpression Or) xs n (neg_each σ ts)) (fill strict (these two) (neg_each σ ts)) (turned_names And Or xs n true whole) (neg_each_fit strict ts σ two tt parts)
   neg_fits strict (node (shape.LogicalExpression Or) xs n ts) s e =
       let σ = turned_seat (shape.LogicalExpression Or) s in
       let (whole, parts) = and_parts (is_whole an_expression (shape.LogicalExpression Or) xs n ts) (fill strict (these two) ts) e in
-      both (is_whole an_expression (shape.LogicalExpression And) xs n (neg_each σ ts)) (fill strict (these two) (neg_each σ ts)) (turned_names Or And xs n false true whole) (neg_each_fit strict ts σ two tt parts)
+      both (is_whole an_expression (shape.LogicalExpression And) xs n (neg_each σ ts)) (fill strict (these two) (neg_each σ ts)) (turned_names Or And xs n true whole) (neg_each_fit strict ts σ two tt parts)
   neg_fits strict (node (shape.UnaryExpression LogicalNot) xs n (a ▸ none)) s e =
       let (whole, parts) = and_parts (is_whole an_expression (shape.UnaryExpression LogicalNot) xs n (a ▸ none)) (fits strict expression a && true) e in
       unwrapped_fits strict (s.boolean || is_boolean a) a (node (shape.UnaryExpression LogicalNot) xs n (a ▸ none)) (left (fits strict expression a) true parts) e

@@ -11,7 +11,7 @@ use Rattle.mini_model.specs.Tree.{Tree, Trees, node, none, ◌▸◌, count, chi
 use Rattle.mini_model.specs.Position.{child_position}
 use Rattle.mini_model.specs.Redex.{Contracts}
 use Rattle.mini_model.specs.Rewriting.{Step, here, inside, StepIn, first, later}
-use Rattle.mini_structure.specs.WellShaped.{Tagging, untagged, tagged, Class, a_loop_left, a_method, Slot, one, one_or_absent, is_whole_export, Filling, refused, these, each, each_or_last, pieces, filling, class_of, is_whole, is_numbered, has_names, has_plain_fields, has_its_parts, is_strict_in, is_quasi_by, is_quasi, are_quasis, is_last, fits, fill}
+use Rattle.mini_structure.specs.WellShaped.{Tagging, untagged, tagged, Class, a_loop_left, a_method, Slot, one, one_or_absent, is_whole_export, Filling, refused, these, each, each_or_last, pieces, filling, class_of, is_whole, has_its_number, has_names, has_plain_fields, has_its_parts, is_strict_in, is_quasi_by, is_quasi, are_quasis, is_last, fits, fill}
 use Rattle.mini_kept.proofs.Bools.{left, right, both}
 use Rattle.mini_kept.proofs.Rows.{row_fits}
 use Rattle.mini_kept.proofs.Expressions.{refused_here}
@@ -82,11 +82,11 @@ whole_kept : (s : Slot) (p : Position) (strict : Bool) (h : Shape) (xs : List Na
 whole_kept s p strict h xs n ts us f st =
     let c = class_of s in
     let e = left (is_whole c h xs n ts) (fill (is_strict_in strict h) (filling strict s h) ts) f in
-    let (names, others) = and_parts (has_names h xs) ((is_numbered c h || n == 0) && (has_plain_fields h && has_its_parts c h ts)) e in
-    let (number, fields) = and_parts (is_numbered c h || n == 0) (has_plain_fields h && has_its_parts c h ts) others in
+    let (names, others) = and_parts (has_names h xs) (has_its_number c h n && (has_plain_fields h && has_its_parts c h ts)) e in
+    let (number, fields) = and_parts (has_its_number c h n) (has_plain_fields h && has_its_parts c h ts) others in
     let (plain, parts) = and_parts (has_plain_fields h) (has_its_parts c h ts) fields in
-    both (has_names h xs) ((is_numbered c h || n == 0) && (has_plain_fields h && has_its_parts c h us)) names
-    (both (is_numbered c h || n == 0) (has_plain_fields h && has_its_parts c h us) number
+    both (has_names h xs) (has_its_number c h n && (has_plain_fields h && has_its_parts c h us)) names
+    (both (has_its_number c h n) (has_plain_fields h && has_its_parts c h us) number
     (both (has_plain_fields h) (has_its_parts c h us) plain (parts_kept p ts us strict xs n s h f (stepped st) parts)))
 
 -- ---- its children

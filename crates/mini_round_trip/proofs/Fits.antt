@@ -135,7 +135,7 @@ with_optional k strict c P f g (node h xs n ts) w = g (node h xs n ts) (record {
 pub with_inner : (k : ℕ) (strict : Bool) (c : Class) (P : Tree → Type 0) → ((n : ℕ) (t : Tree) → Fit k strict (shaped.one c) t → P (node shape.InnerExpression [] n (t ▸ none))) → (t : Tree) → Fit k strict (shaped.one (shaped.an_inner c)) t → P t
 with_inner k strict c P f (node shape.InnerExpression [] n ts) w =
     let small : 1 + node_counts ts ≤ k = w.small in
-    let filled : Filled k strict (these (shaped.one c ∷ [])) ts = record { fills = w.fits; units = w.units; small = omega arith } in
+    let filled : Filled k strict (these (shaped.one c ∷ [])) ts = record { fills = (and_parts _ (fill strict (these (shaped.one c ∷ [])) ts) w.fits).1; units = w.units; small = omega arith } in
     with_one k strict (shaped.one c) (λ us. P (node shape.InnerExpression [] n us)) (λ t x. f n t x) ts filled
 with_inner k strict c P f (node shape.InnerExpression (x ∷ xs) n ts) w = absurd (false≢true w.fits)
 with_inner k strict c P f (node h xs n ts) w = absurd (and_false _ w.fits)

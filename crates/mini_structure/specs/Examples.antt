@@ -174,9 +174,26 @@ method = refl
 method_without_a_function : script (says (object (property true false a))) ≡ false
 method_without_a_function = refl
 
--- a function with no number of its own has 0, and a node that is none has no other
+-- a function has another number than 0; without one it is refused
+numbered_function : script (says (lambda 1)) ≡ true
+numbered_function = refl
+
+unnumbered_function : script (says (lambda 0)) ≡ false
+unnumbered_function = refl
+
+-- an expression that has no number has 0; with another it is refused
+unnumbered_array : script (says (node shape.ArrayExpression [] 0 (listed none ▸ none))) ≡ true
+unnumbered_array = refl
+
 numbered_array : script (says (node shape.ArrayExpression [] 1 (listed none ▸ none))) ≡ false
 numbered_array = refl
+
+-- the program has 0
+unnumbered_program : fits false (one a_program) (node (shape.Program false []) [] 0 (listed none ▸ none)) ≡ true
+unnumbered_program = refl
+
+numbered_program : fits false (one a_program) (node (shape.Program false []) [] 1 (listed none ▸ none)) ≡ false
+numbered_program = refl
 
 -- `for (var f of this) ;`, and with an initializer
 head_of_for_of : (f : List ℕ) → is_name f ≡ true → script (node shape.ForOfStatement [] 0 (declaration f absent ▸ a ▸ leaf shape.EmptyStatement ▸ none) ▸ none) ≡ true

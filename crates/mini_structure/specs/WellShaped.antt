@@ -533,6 +533,11 @@ is_numbered c shape.ArrayAssignmentTarget = true
 is_numbered a_parameter shape.AssignmentPattern = true
 is_numbered c _ = false
 
+-- the number of a node: a program's is 0, that of another node which is numbered isn't, and that of any other node is
+abbrev pub has_its_number : Class → Shape → ℕ → Bool
+has_its_number c (shape.Program is_module ds) n = n == 0
+has_its_number c h n = if is_numbered c h then not (n == 0) else n == 0
+
 abbrev pub has_names : Shape → List Name → Bool
 has_names shape.Identifier (x ∷ []) = is_name x.spelling
 has_names shape.Identifier xs = false
@@ -588,7 +593,7 @@ has_its_parts c shape.ExportNamedDeclaration ts = is_whole_export ts
 has_its_parts c h ts = true
 
 abbrev pub is_whole : Class → Shape → List Name → ℕ → Trees → Bool
-is_whole c h xs n ts = has_names h xs && ((is_numbered c h || n == 0) && (has_plain_fields h && has_its_parts c h ts))
+is_whole c h xs n ts = has_names h xs && (has_its_number c h n && (has_plain_fields h && has_its_parts c h ts))
 
 -- ---- the whole
 
