@@ -144,8 +144,13 @@ directive strict d = record { known = λ w n numbered. (tt, tt) }
 
 module _ (strict : Bool) (d : Data) where
   program_by : (m : Bool) (ds : Items) → WholeIf strict (at shaped.a_program) d (node_of (shape.Program m (directives_of ds)) (statement.body (if m then in_module else in_body) ds ∷ []))
-  program_by m ds = record { known = λ w n numbered. (λ zero. fits_at strict shaped.a_program (shape.Program m (directives_of ds)) [] n d (statement.body (if m then in_module else in_body) ds ∷ []) (taken (slots_of strict shaped.a_program (shape.Program m (directives_of ds)))) w refl zero refl (directives_paired ds) refl
-      (body_fit (if m then in_module else in_body) true 0 ds, tt), tt) }
+  program_by m ds = record {
+    known = λ w n numbered. (
+      λ zero. fits_at strict shaped.a_program (shape.Program m (directives_of ds)) [] n d (statement.body (if m then in_module else in_body) ds ∷ []) (taken (slots_of strict shaped.a_program (shape.Program m (directives_of ds)))) w refl zero refl (directives_paired ds) refl
+          (body_fit (if m then in_module else in_body) true 0 ds, tt),
+      tt,
+    );
+  }
 
   pub program : WholeIf strict (at shaped.a_program) d (statement.program d)
   program = bind_whole strict (at shaped.a_program) d (word_at source_types (codes "sourceType") d) _ (λ m is. bind_whole strict (at shaped.a_program) d (list_at (codes "body") d) _ (λ ds are. program_by m ds))

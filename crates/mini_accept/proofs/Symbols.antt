@@ -1,5 +1,5 @@
 -- No name of a tree that is read has a symbol.
-use Rattle.std.proofs.Common.{◌≡◌, ℕ, zero, suc, List, [], ◌∷◌, refl, ap, sym, subst, Bool, true, false}
+use Rattle.std.proofs.Common.{◌≡◌, ℕ, zero, suc, List, [], ◌∷◌, refl, subst, Bool, true, false}
 use Rattle.std.specs.Prelude.{◌&&◌, Option, Some, None, option_and_then, option_map, Result, Ok, Err, codes, if◌then◌else◌, ℤ}
 use Rattle.std.proofs.lemmas.Bool.{and_parts}
 use Rattle.serde_json.specs.Data.{Data}
@@ -15,13 +15,12 @@ use Rattle.mini_structure.specs.WellShaped.{Class, in_body, nested, a_program, i
 use Rattle.mini_accept.specs.Faults.{Defect, Fault}
 use Rattle.mini_accept.specs.Kind as kind
 use Rattle.mini_accept.specs.Kind.{Kind}
-use Rattle.mini_accept.specs.Places.{Step, step_text, down, Place, at, a_directive, a_directive_text, a_quasi, an_exported, a_local_name}
+use Rattle.mini_accept.specs.Places.{Step, step_text, down, Place, at, a_directive, a_directive_text}
 use Rattle.mini_accept.specs.Fields.{◌>>=◌, require, kind_of, flag_at, list_at, child_has_type, name_at, units_at}
 use Rattle.mini_accept.specs.Words.{word_at, source_types, variable_kinds, method_kinds, property_kinds, unary_operators, update_operators, binary_operators, logical_operators, assignment_operators}
 use Rattle.mini_accept.specs.Plans.{Part, hole, tree_at, inner_at, checked, Child, one, many, Plan, each, or_hole, or_rest, target_part, list_child}
 use Rattle.mini_accept.specs.Statements as statement
 use Rattle.mini_accept.specs.Functions as function
-use Rattle.mini_accept.specs.Modules as imports
 use Rattle.mini_accept.specs.Expressions as expression
 use Rattle.mini_accept.specs.Patterns as pattern
 use Rattle.mini_accept.specs.Entries.{entry}

@@ -6,7 +6,7 @@ use Rattle.serde_json.specs.Data.{Data}
 use Rattle.mini_model.specs.declared.name.Name.{Name}
 use Rattle.mini_model.specs.declared.shape.Shape.{Shape}
 use Rattle.mini_model.specs.declared.shape.Shape.TheVariants as shape
-use Rattle.mini_model.specs.Tree.{Tree, node, Trees, none, ◌▸◌, count}
+use Rattle.mini_model.specs.Tree.{Tree, node, Trees, none, count}
 use Rattle.mini_model.specs.declared.place.Position.{Position}
 use Rattle.mini_model.specs.declared.place.Position.TheVariants.{Elsewhere}
 use Rattle.mini_model.specs.Position.{child_position}
@@ -16,7 +16,6 @@ use Rattle.mini_structure.specs.WellShaped.{a_program, is_strict_in, is_text}
 use Rattle.mini_accept.specs.Faults.{Defect, Fault}
 use Rattle.mini_accept.specs.declared.kind.Kind.TheVariants as kind
 use Rattle.mini_accept.specs.declared.kind.Kind.{Kind}
-use Rattle.mini_accept.specs.Kind.{types}
 use Rattle.mini_accept.specs.Places.{Place, at}
 use Rattle.mini_accept.specs.Fields.{kind_of, has_type, is_one_of, name_at}
 use Rattle.mini_accept.specs.Standing.{may_stand, is_unread}

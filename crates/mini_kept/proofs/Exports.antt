@@ -1,7 +1,6 @@
 -- Declarations and exports stay whole after a step in one of their parts.
-use Rattle.std.proofs.Common.{◌≡◌, ℕ, zero, suc, Bool, true, false, List, [], ◌∷◌, refl, sym, ap, ◌∙◌, subst, arith, inl, inr}
-use Rattle.std.specs.Prelude.{◌⊎◌, ◌&&◌, ◌||◌, not, nat_eq, nat_le, Option, Some, None}
-use Rattle.std.proofs.lemmas.Bool.{and_parts}
+use Rattle.std.proofs.Common.{◌≡◌, ℕ, suc, Bool, true, false, List, [], ◌∷◌, refl, sym, ap, ◌∙◌, subst, arith, inl, inr}
+use Rattle.std.specs.Prelude.{◌⊎◌, ◌&&◌, ◌||◌, not, nat_eq, nat_le}
 use Rattle.mini_model.specs.declared.kind.VariableDeclarationKind.{VariableDeclarationKind}
 use Rattle.mini_model.specs.declared.name.Name.{Name}
 use Rattle.mini_model.specs.declared.place.Position.{Position}
@@ -11,8 +10,8 @@ use Rattle.mini_model.specs.declared.shape.Shape.TheVariants as shape
 use Rattle.mini_model.specs.Tree.{Tree, Trees, node, none, ◌▸◌, count, children, shape_of, child_or_absent, is_absent, is_absent_shape}
 use Rattle.mini_model.specs.Position.{child_position}
 use Rattle.mini_model.specs.Redex.{Row}
-use Rattle.mini_structure.specs.WellShaped.{Depth, in_module, in_body, nested, Class, a_statement, a_key, a_private_or_key, an_inner_key, an_export, an_exported_declaration, a_loop_left, a_declarator, a_string, Slot, one, one_or_absent, many, refused, these, each, filling, class_of, is_whole, is_same_flag, is_reference, is_reference_shape, first_item, is_initialized, is_var, is_head_by, are_locals, is_whole_export, fits, fill}
-use Rattle.mini_kept.proofs.Bools.{left, right, both, and_false}
+use Rattle.mini_structure.specs.WellShaped.{in_module, in_body, nested, Class, a_statement, a_key, a_private_or_key, an_inner_key, an_export, an_exported_declaration, a_loop_left, a_declarator, a_string, Slot, one, one_or_absent, many, these, each, is_whole, is_same_flag, is_reference, is_reference_shape, first_item, is_var, is_head_by, are_locals, is_whole_export, fits, fill}
+use Rattle.mini_kept.proofs.Bools.{left, right, and_false}
 use Rattle.mini_kept.proofs.Expressions.{refused_here}
 use Rattle.mini_kept.proofs.Moved.{Moved, Alike, cases, is_rewritten_shape, row_root, quiet}
 
