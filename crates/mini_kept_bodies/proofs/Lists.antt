@@ -62,9 +62,6 @@ pub kept_on : (xs bs cs : List Body) → BodiesKept xs bs → BodiesKept bs cs �
 kept_on xs bs [] k l = tt
 kept_on xs bs (c ∷ cs) k l = (one_on xs bs c k l.0, kept_on xs bs cs k l.1)
 
-pub kept_same : (xs bs : List Body) → xs ≡ bs → BodiesKept xs bs
-kept_same xs bs e = subst (BodiesKept xs) e (kept_itself xs)
-
 -- ---- one of a list, by its index
 
 one_at : (bs : List Body) (c : Body) → IsOneOf bs c → (b : Body) × Contains bs b × AlikeBody b c

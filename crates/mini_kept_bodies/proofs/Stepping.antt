@@ -54,14 +54,6 @@ target_fits (SequenceList s) e = absurd (cc e)
 target_fits TemplateList e = absurd (cc e)
 target_fits p e = tt
 
-abbrev inner_kind : Bool → BodyKind
-inner_kind true = InnerTarget
-inner_kind false = InnerValue
-
-inner_fits : (b : Bool) (p : Position) → is_asked_whole p ≡ true → Fits p (body_demand (inner_kind b))
-inner_fits true p e = target_fits p e
-inner_fits false p e = value_fits p e
-
 -- ---- the text of a template
 
 no_piece : (g : Tagging) (last : Bool) (h : Shape) → is_piece h ≡ false → is_quasi_by g last h ≡ false

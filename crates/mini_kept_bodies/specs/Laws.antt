@@ -28,3 +28,7 @@ BodiesStand = (t u : Tree) → BodiesKept (bodies_in t) (bodies_in u) → (c : B
 -- the rows are such a relation
 abbrev pub RowsKeepBodies : Type 0
 RowsKeepBodies = KeepsBodies Contracts
+
+-- so any number of rewrites keep those of a program
+abbrev pub ProgramKeepsBodies : Type 0
+ProgramKeepsBodies = (t u : Tree) → Reaches Contracts Elsewhere t u → IsWellShaped t → BodiesKept (bodies_in t) (bodies_in u)

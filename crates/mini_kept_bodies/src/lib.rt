@@ -2,7 +2,7 @@
 //! is a law, and its body is empty.
 #![tactic(auto)]
 
-ghost use Rattle.mini_kept_bodies.specs.Laws.{StepKeepsBodies, ReachesKeepsBodies, BodiesStand, RowsKeepBodies};
+ghost use Rattle.mini_kept_bodies.specs.Laws.{StepKeepsBodies, ReachesKeepsBodies, BodiesStand, RowsKeepBodies, ProgramKeepsBodies};
 
 use mini_laws::Rewrites;
 
@@ -18,7 +18,8 @@ pub fn bodies_stand()
     ensures { BodiesStand }
 {}
 
-/// What each row writes has the bodies of what it reads.
+/// What each row writes has the bodies of what it reads, and so any number of rewrites keep those of a program.
 pub fn rows_keep_bodies()
-    ensures { RowsKeepBodies }
+    ensures rows { RowsKeepBodies }
+    ensures program { ProgramKeepsBodies }
 {}
