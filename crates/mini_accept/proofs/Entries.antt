@@ -3,8 +3,8 @@ use Rattle.std.proofs.Common.{◌≡◌, ℕ, List, refl, ap, sym, ◌∙◌, Bo
 use Rattle.std.specs.Prelude.{Option, codes, if◌then◌else◌}
 use Rattle.std.proofs.lemmas.Bool.{and_parts, false≢true}
 use Rattle.serde_json.specs.Data.{Data}
-use Rattle.mini_structure.specs.WellShaped as shaped
-use Rattle.mini_structure.specs.WellShaped.{Depth, in_module}
+use Rattle.mini_accept.specs.WellShaped as shaped
+use Rattle.mini_accept.specs.WellShaped.{Depth, in_module}
 use Rattle.mini_accept.specs.Kind as kind
 use Rattle.mini_accept.specs.Kind.{Kind}
 use Rattle.mini_accept.specs.Places.{Place, at, a_directive, a_quasi, an_exported}

@@ -20,3 +20,4 @@ pub mod Patterns
 pub mod Entries
 pub mod Shaped
 pub mod Texts
+pub mod Root

@@ -10,8 +10,8 @@ use Rattle.serde_json.specs.Find.{get, get_member, as_bool}
 use Rattle.mini_model.specs.declared.shape.Shape.{Shape}
 use Rattle.mini_model.specs.declared.shape.Shape.TheVariants as shape
 use Rattle.mini_model.specs.Tree.{Tree, node, Trees}
-use Rattle.mini_structure.specs.WellShaped as shaped
-use Rattle.mini_structure.specs.WellShaped.{Class, in_module, Slot, slots_of, expression_slots, member_slots, variable_slots, pattern_target_slots, is_strict_in, has_names, has_plain_fields, has_its_parts, is_optional, is_text}
+use Rattle.mini_accept.specs.WellShaped as shaped
+use Rattle.mini_accept.specs.WellShaped.{Class, in_module, Slot, slots_of, expression_slots, member_slots, variable_slots, pattern_target_slots, is_strict_in, has_names, has_plain_fields, has_its_parts, is_optional, is_text}
 use Rattle.mini_accept.specs.Places.{Place, at}
 use Rattle.mini_accept.specs.Fields.{require, is_there_with, text_at, flag_by, flag_at, is_text_by, has_type, child_has_type, is_one_of}
 use Rattle.mini_accept.specs.Standing.{has_true, is_true}

@@ -14,8 +14,8 @@ use Rattle.mini_model.specs.declared.operator.UnaryOperator.TheVariants.{UnaryNe
 use Rattle.mini_model.specs.declared.shape.Shape.{Shape}
 use Rattle.mini_model.specs.declared.shape.Shape.TheVariants as shape
 use Rattle.mini_model.specs.Tree.{Tree, none, ◌▸◌}
-use Rattle.mini_structure.specs.WellShaped as shaped
-use Rattle.mini_structure.specs.WellShaped.{expression_slots, is_strict_in, has_plain_fields, has_its_parts}
+use Rattle.mini_accept.specs.WellShaped as shaped
+use Rattle.mini_accept.specs.WellShaped.{expression_slots, is_strict_in, has_plain_fields, has_its_parts}
 use Rattle.mini_accept.specs.Places.{field, Place, at}
 use Rattle.mini_accept.specs.Fields.{require, is_given, is_there_with, flag_at, list_at, text_at, units_at, paired_units, has_type}
 use Rattle.mini_accept.specs.Literals.{literal, negative_of, with_minus}

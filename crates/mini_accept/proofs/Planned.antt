@@ -2,7 +2,7 @@
 use Rattle.std.proofs.Common.{◌≡◌, refl, subst, ◌∙◌, Bool, true, false}
 use Rattle.std.specs.Prelude.{Option, Some, None, Result, Ok, Err}
 use Rattle.serde_json.specs.Data.{Data}
-use Rattle.mini_structure.specs.WellShaped.{is_strict_in}
+use Rattle.mini_accept.specs.WellShaped.{is_strict_in}
 use Rattle.mini_accept.specs.Faults.{Defect, bad_shape, unsupported, too_deep}
 use Rattle.mini_accept.specs.Kind.{Kind}
 use Rattle.mini_accept.specs.Places.{Place}

@@ -5,7 +5,7 @@ use Rattle.serde_json.specs.Data.{Data}
 use Rattle.mini_model.specs.declared.name.Name.{Name}
 use Rattle.mini_model.specs.declared.shape.Shape.{Shape}
 use Rattle.mini_model.specs.Tree.{Tree, Trees}
-use Rattle.mini_structure.specs.WellShaped.{a_program, is_strict_in}
+use Rattle.mini_accept.specs.WellShaped.{a_program, is_strict_in}
 use Rattle.mini_accept.specs.Faults.{Defect, too_deep, Fault}
 use Rattle.mini_accept.specs.Places.{Step, step_text, down, Place, at}
 use Rattle.mini_accept.specs.Plans.{Part, hole, tree_at, inner_at, checked, Child, one, many, Plan}

@@ -3,7 +3,7 @@ use Rattle.std.proofs.Common.{◌≡◌, ℕ, zero, suc, ◌≤◌, refl, subst,
 use Rattle.std.specs.Prelude.{Option, Some, None, Result, Ok, Err}
 use Rattle.serde_json.specs.Data.{Data}
 use Rattle.mini_model.specs.Tree.{Tree}
-use Rattle.mini_structure.specs.WellShaped.{a_program, is_strict_in, IsWellShaped}
+use Rattle.mini_accept.specs.WellShaped.{a_program, is_strict_in, IsWellShaped}
 use Rattle.mini_accept.specs.Faults.{Defect}
 use Rattle.mini_accept.specs.Kind.{Kind}
 use Rattle.mini_accept.specs.Places.{Place, at}

@@ -10,8 +10,8 @@ use Rattle.mini_model.specs.declared.shape.Shape.{Shape}
 use Rattle.mini_model.specs.declared.shape.Shape.TheVariants as shape
 use Rattle.mini_model.specs.Paths.{append}
 use Rattle.mini_model.specs.Tree.{Tree, node, Trees, none, ◌▸◌, absent, listed}
-use Rattle.mini_structure.specs.WellShaped as shaped
-use Rattle.mini_structure.specs.WellShaped.{Class, in_body, nested, a_program, is_strict_in}
+use Rattle.mini_accept.specs.WellShaped as shaped
+use Rattle.mini_accept.specs.WellShaped.{Class, in_body, nested, a_program, is_strict_in}
 use Rattle.mini_accept.specs.Faults.{Defect, Fault}
 use Rattle.mini_accept.specs.Kind as kind
 use Rattle.mini_accept.specs.Kind.{Kind}

@@ -11,7 +11,7 @@ use Rattle.mini_model.specs.declared.operator.UnaryOperator.TheVariants.{UnaryNe
 use Rattle.mini_model.specs.declared.operator.UpdateOperator.TheVariants.{Increment}
 use Rattle.mini_model.specs.declared.shape.Shape.TheVariants as shape
 use Rattle.mini_model.specs.Tree.{Tree, node, none, ◌▸◌, leaf, listed, absent, unresolved, program}
-use Rattle.mini_structure.specs.WellShaped.{is_name}
+use Rattle.mini_accept.specs.WellShaped.{is_name}
 use Rattle.mini_accept.specs.Faults.{bad_shape, unsupported, too_deep}
 use Rattle.mini_accept.specs.Accept.{program_at}
 use Rattle.mini_accept.specs.Samples.{members, list, typed, text, script, says, this, literal, name, unary, member_of, chain, sequence, block, directive, this_tree, said, zero, IsTree, IsRefused}

@@ -3,7 +3,7 @@ use Rattle.std.specs.Prelude.{ℕ, suc, nat_eq, nat_le, List, [], ◌∷◌, Boo
 use Rattle.serde_json.specs.Data.{Data, null, boolean, number, string, array, object, Members, no_members, member}
 use Rattle.serde_json.specs.Find.{get, as_bool, as_null, as_str}
 use Rattle.mini_text.specs.Texts.{units_of}
-use Rattle.mini_templates.specs.Templates.{cooked}
+use Rattle.mini_literals.specs.Templates.{cooked}
 use Rattle.mini_model.specs.declared.kind.MetaPropertyKind.{MetaPropertyKind}
 use Rattle.mini_model.specs.declared.kind.MetaPropertyKind.TheVariants.{NewTarget, ImportMeta}
 use Rattle.mini_model.specs.declared.kind.PropertyKind.{PropertyKind}
@@ -16,8 +16,8 @@ use Rattle.mini_model.specs.declared.operator.UnaryOperator.TheVariants.{UnaryNe
 use Rattle.mini_model.specs.declared.shape.Shape.{Shape}
 use Rattle.mini_model.specs.declared.shape.Shape.TheVariants as shape
 use Rattle.mini_model.specs.Tree.{unresolved}
-use Rattle.mini_structure.specs.WellShaped as shaped
-use Rattle.mini_structure.specs.WellShaped.{Class, Tagging, tagged, untagged, is_text, is_init, is_text_of_cooked, value_class}
+use Rattle.mini_accept.specs.WellShaped as shaped
+use Rattle.mini_accept.specs.WellShaped.{Class, Tagging, tagged, untagged, is_text, is_init, is_text_of_cooked, value_class}
 use Rattle.mini_accept.specs.Places.{field, Place, at, a_directive_text, a_quasi}
 use Rattle.mini_accept.specs.Fields.{◌>>=◌, require, is_given, is_there_with, text_at, paired_units, units_at, has_text, flag_at, list_at, item_count, name_at, has_type, child_has_type}
 use Rattle.mini_accept.specs.Literals.{literal, with_minus}

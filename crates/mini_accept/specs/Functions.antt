@@ -5,8 +5,8 @@ use Rattle.serde_json.specs.Find.{get}
 use Rattle.mini_model.specs.declared.kind.MethodDefinitionKind.{MethodDefinitionKind}
 use Rattle.mini_model.specs.declared.kind.MethodDefinitionKind.TheVariants as method
 use Rattle.mini_model.specs.declared.shape.Shape.TheVariants as shape
-use Rattle.mini_structure.specs.WellShaped as shaped
-use Rattle.mini_structure.specs.WellShaped.{in_body, is_same_flag}
+use Rattle.mini_accept.specs.WellShaped as shaped
+use Rattle.mini_accept.specs.WellShaped.{in_body, is_same_flag}
 use Rattle.mini_accept.specs.Places.{Place, at}
 use Rattle.mini_accept.specs.Fields.{◌>>=◌, require, is_given, has_units, flag_at, list_at, is_there_with, child_has_type, has_type}
 use Rattle.mini_accept.specs.Literals.{is_string_literal}

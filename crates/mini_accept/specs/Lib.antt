@@ -19,3 +19,6 @@ pub mod Symbols
 pub mod Samples
 pub mod Examples
 pub mod Nodes
+pub mod WellShaped
+pub mod ShapedExamples
+pub mod Programs

@@ -1,7 +1,7 @@
 -- The node at a pointer, and its defect.
 use Rattle.std.specs.Prelude.{◌≡◌, ◌⊎◌, ℕ, zero, suc, ◌+◌, Bool, List, [], ◌∷◌, length, Some, Ok, Err}
 use Rattle.serde_json.specs.Data.{Data}
-use Rattle.mini_structure.specs.WellShaped.{is_strict_in}
+use Rattle.mini_accept.specs.WellShaped.{is_strict_in}
 use Rattle.mini_accept.specs.Faults.{Defect, too_deep, Fault}
 use Rattle.mini_accept.specs.Places.{Step, down, pointer_of, Place}
 use Rattle.mini_accept.specs.Plans.{Part, hole, tree_at, inner_at, checked, Child, one, many, Plan}

@@ -2,7 +2,7 @@
 use Rattle.std.specs.Prelude.{[], ◌∷◌, Bool, true, ◌&&◌, ◌||◌, not, Option, is_some, codes}
 use Rattle.serde_json.specs.Data.{Data, Items}
 use Rattle.mini_model.specs.declared.shape.Shape.TheVariants as shape
-use Rattle.mini_structure.specs.WellShaped as shaped
+use Rattle.mini_accept.specs.WellShaped as shaped
 use Rattle.mini_accept.specs.Places.{field, Place, at, an_exported, a_local_name}
 use Rattle.mini_accept.specs.Fields.{◌>>=◌, require, is_given, list_at, no_item}
 use Rattle.mini_accept.specs.Plans.{tree_at, one, Plan, node_of, child, optional, ItemPart, each, list, list_child}

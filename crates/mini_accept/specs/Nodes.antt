@@ -17,7 +17,7 @@ use Rattle.mini_model.specs.declared.operator.UpdateOperator.TheVariants.{Increm
 use Rattle.mini_model.specs.declared.shape.Shape.{Shape}
 use Rattle.mini_model.specs.declared.shape.Shape.TheVariants as shape
 use Rattle.mini_model.specs.Tree.{Tree, Trees, node, none, ◌▸◌, leaf, listed, absent, unresolved, expression_statement, program}
-use Rattle.mini_structure.specs.WellShaped.{IsWellShaped, is_name}
+use Rattle.mini_accept.specs.WellShaped.{IsWellShaped, is_name}
 use Rattle.mini_accept.specs.Accept.{program_at}
 use Rattle.mini_accept.specs.Samples.{members, list, typed, text, script, says, this, literal, name, member_of, block, this_tree, said, zero, unary, chain, sequence}
 

@@ -3,8 +3,8 @@
 use Rattle.std.specs.Prelude.{[], ◌∷◌, Bool, true, false, ◌&&◌, ◌||◌, not, Option, if◌then◌else◌, codes}
 use Rattle.serde_json.specs.Data.{Data}
 use Rattle.mini_model.specs.declared.shape.Shape.TheVariants as shape
-use Rattle.mini_structure.specs.WellShaped as shaped
-use Rattle.mini_structure.specs.WellShaped.{is_init}
+use Rattle.mini_accept.specs.WellShaped as shaped
+use Rattle.mini_accept.specs.WellShaped.{is_init}
 use Rattle.mini_accept.specs.Places.{Place, at}
 use Rattle.mini_accept.specs.Fields.{◌>>=◌, require, flag_at}
 use Rattle.mini_accept.specs.Words.{word_at, property_kinds}

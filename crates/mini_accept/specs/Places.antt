@@ -2,7 +2,7 @@
 use Rattle.std.specs.Prelude.{ℕ, List, [], ◌∷◌, ◌++◌, decimal, Bool, Option, option_and_then}
 use Rattle.serde_json.specs.Data.{Data}
 use Rattle.serde_json.specs.Find.{get, get_item, as_array}
-use Rattle.mini_structure.specs.WellShaped.{Class, Tagging}
+use Rattle.mini_accept.specs.WellShaped.{Class, Tagging}
 
 -- ---- steps
 

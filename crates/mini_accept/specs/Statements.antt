@@ -2,8 +2,8 @@
 use Rattle.std.specs.Prelude.{ℕ, suc, List, [], ◌∷◌, Bool, true, false, ◌&&◌, ◌||◌, not, Option, Some, None, is_some, if◌then◌else◌, codes}
 use Rattle.serde_json.specs.Data.{Data, Items, no_items, item}
 use Rattle.mini_model.specs.declared.shape.Shape.TheVariants as shape
-use Rattle.mini_structure.specs.WellShaped as shaped
-use Rattle.mini_structure.specs.WellShaped.{Depth, in_module, in_body, nested}
+use Rattle.mini_accept.specs.WellShaped as shaped
+use Rattle.mini_accept.specs.WellShaped.{Depth, in_module, in_body, nested}
 use Rattle.mini_accept.specs.Places.{field, place, Place, at, a_directive, a_directive_text}
 use Rattle.mini_accept.specs.Fields.{◌>>=◌, require, is_given, units_at, flag_at, list_at, no_item, has_type}
 use Rattle.mini_accept.specs.Words.{word_at, variable_kinds, source_types}

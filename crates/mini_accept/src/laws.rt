@@ -3,7 +3,7 @@ ghost use Rattle.std.specs.Prelude.{◌≡◌, ◌≤◌, ℕ, List, true, false
 ghost use Rattle.serde_json.specs.Data.{Data};
 ghost use Rattle.mini_model.specs.Tree.{Tree};
 ghost use Rattle.mini_text.specs.Texts.{units_of};
-ghost use Rattle.mini_structure.specs.WellShaped.{a_program, is_text, IsWellShaped};
+ghost use Rattle.mini_accept.specs.WellShaped.{a_program, is_text, IsWellShaped};
 ghost use Rattle.mini_accept.specs.Faults.{Fault, too_deep};
 ghost use Rattle.mini_accept.specs.Places.{at};
 ghost use Rattle.mini_accept.specs.Fields.{paired_units};

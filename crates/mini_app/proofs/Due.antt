@@ -6,7 +6,7 @@ use Rattle.std.proofs.lemmas.List.{length-append, append-nil}
 use Rattle.mini_tree.specs.declared.options.CompressOptions.{CompressOptions}
 use Rattle.mini_accept.specs.Faults as estree
 use Rattle.mini_accept.proofs.Results.{ok_same}
-use Rattle.mini_errors.specs.Faults.{Fault}
+use Rattle.mini_text.specs.Faults.{Fault}
 use Rattle.mini_peephole.specs.Supported.{is_supported}
 use Rattle.mini_peephole.specs.Minified.{HasDefect}
 use Rattle.mini_app.specs.Answer.{Change, Gave, HasFault, IsNotJson, IsDelivered, IsDue, IsValidInput, IsAnswered}

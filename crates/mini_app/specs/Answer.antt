@@ -8,7 +8,7 @@ use Rattle.serde_json.specs.Read.{read}
 use Rattle.mini_model.specs.Tree.{Tree}
 use Rattle.mini_tree.specs.declared.options.CompressOptions.{CompressOptions}
 use Rattle.mini_accept.specs.Accept.{program_at}
-use Rattle.mini_errors.specs.Faults.{Fault, fault_of, name_of_defect}
+use Rattle.mini_text.specs.Faults.{Fault, fault_of, name_of_defect}
 use Rattle.mini_peephole.specs.Faithful.{Faithful, PassesBounded}
 use Rattle.mini_peephole.specs.Minified.{IsMinified, HasDefect}
 use Rattle.mini_peephole.specs.Supported.{is_supported}

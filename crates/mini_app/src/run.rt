@@ -5,7 +5,7 @@ ghost use Rattle.mini_app.specs.Answer.{code_of, line_of, numbers_data, answer_t
 ghost use Rattle.mini_app.specs.Causes.{Rose};
 ghost use Rattle.serde_json.specs.View.{view};
 ghost use Rattle.serde_json.specs.Written.{has_float};
-ghost use Rattle.mini_errors.specs.Faults.{fault_of};
+ghost use Rattle.mini_text.specs.Faults.{fault_of};
 
 use crate::choice::read_options;
 use crate::outside::{Sink, Source, Stopped, read_all, write_all};

@@ -5,7 +5,7 @@ use Rattle.serde_json.specs.Read.{read}
 use Rattle.serde_json.specs.Written.{IsInOrder}
 use Rattle.mini_model.specs.Tree.{Tree}
 use Rattle.mini_accept.specs.Accept.{program_at}
-use Rattle.mini_written.specs.Written.{program_data}
+use Rattle.mini_writer.specs.Written.{program_data}
 
 -- the text is JSON, and the other one has its items and members, each once and in order
 pub record IsSameJson (input output : List ℕ) : Type 0 where

@@ -12,15 +12,15 @@ use Rattle.mini_model.specs.declared.shape.Shape.TheVariants as shape
 use Rattle.mini_model.specs.Tree.{Tree, node, Trees, none, ◌▸◌, listed}
 use Rattle.mini_model.specs.Paths.{append}
 use Rattle.mini_node.specs.Children.{like}
-use Rattle.mini_structure.specs.WellShaped.{is_strict_in}
+use Rattle.mini_accept.specs.WellShaped.{is_strict_in}
 use Rattle.mini_accept.specs.Faults as accept
 use Rattle.mini_accept.specs.Faults.{Defect, Fault, fault_under, under, ◌>>=◌}
 use Rattle.mini_accept.specs.Places.{Step, step_text, down, place, Place}
 use Rattle.mini_accept.specs.Plans.{Part, tree_at, inner_at, checked, Child, one, many, Plan, ItemPart, parts_from}
 use Rattle.mini_accept.specs.Accept.{Read, Reader, reads, plan, takes_number, with_children, read_below, read_part, read_parts, read_child, read_children}
-use Rattle.mini_errors.specs.Faults as errors
-use Rattle.mini_errors.specs.Faults.{fault_of, IsUnder}
-use Rattle.mini_errors.specs.declared.error.MinifyError.{MinifyError}
+use Rattle.mini_text.specs.Faults as errors
+use Rattle.mini_text.specs.Faults.{fault_of, IsUnder}
+use Rattle.mini_text.specs.declared.error.MinifyError.{MinifyError}
 use Rattle.mini_plan.specs.declared.plan.Below.{Below}
 use Rattle.mini_estree.specs.Reads.{fault_told, Blames, onto}
 use Rattle.mini_estree.proofs.Lists.{parts_front}

@@ -2,7 +2,7 @@
 use Rattle.std.proofs.Common.{◌≡◌, Bool, true, false, refl, Some, None}
 use Rattle.std.specs.Prelude.{Ok, Err}
 use Rattle.serde_json.specs.Data.{Data}
-use Rattle.mini_structure.specs.WellShaped.{is_strict_in}
+use Rattle.mini_accept.specs.WellShaped.{is_strict_in}
 use Rattle.mini_accept.specs.Faults.{bad_shape, unsupported}
 use Rattle.mini_accept.specs.declared.kind.Kind.{Kind}
 use Rattle.mini_accept.specs.Places.{Place}

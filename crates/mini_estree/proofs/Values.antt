@@ -1,7 +1,7 @@
 -- The numbers of literals.
 use Rattle.std.proofs.Common.{◌≡◌, ℕ, Bool, true, false, sym, Option, Some, None}
 use Rattle.std.specs.Prelude.{nat_le, option_map, unwrap_or, if◌then◌else◌}
-use Rattle.mini_structure.specs.WellShaped.{max_big_int}
+use Rattle.mini_accept.specs.WellShaped.{max_big_int}
 use Rattle.mini_fields.specs.Literals.{capped}
 
 capped_told : (n m : ℕ) → capped n ≡ Some m → n ≡ m

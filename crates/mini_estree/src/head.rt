@@ -2,7 +2,7 @@
 
 ghost use Rattle.std.specs.Prelude.{◌≡◌, IfOk, IfSome, option_map};
 ghost use Rattle.serde_json.specs.View.{view, items_view};
-ghost use Rattle.mini_structure.specs.WellShaped.{has_use_strict, is_numbered, is_strict_in};
+ghost use Rattle.mini_accept.specs.WellShaped.{has_use_strict, is_numbered, is_strict_in};
 ghost use Rattle.mini_accept.specs.Accept.{takes_number};
 ghost use Rattle.mini_accept.specs.Functions.{directives_below};
 ghost use Rattle.mini_accept.specs.Statements.{directives_of};

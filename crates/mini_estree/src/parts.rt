@@ -2,7 +2,7 @@
 
 ghost use Rattle.std.specs.Prelude.{◌≡◌, option_map, if◌then◌else◌, codes};
 ghost use Rattle.serde_json.specs.View.{view, items_view};
-ghost use Rattle.mini_structure.specs.WellShaped.{a_statement, a_target_element, a_target_rest};
+ghost use Rattle.mini_accept.specs.WellShaped.{a_statement, a_target_element, a_target_rest};
 ghost use Rattle.mini_accept.specs.Places.{at, a_directive, down};
 ghost use Rattle.mini_accept.specs.Plans.{tree_at, checked, each, or_rest, target_part};
 ghost use Rattle.mini_accept.specs.Statements.{body};

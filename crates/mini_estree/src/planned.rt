@@ -2,7 +2,7 @@
 
 ghost use Rattle.std.specs.Prelude.{◌≡◌, Bool, None, Ok, Err, IfOk, IfErr, map};
 ghost use Rattle.serde_json.specs.View.{view, items_view};
-ghost use Rattle.mini_structure.specs.WellShaped.{is_strict_in};
+ghost use Rattle.mini_accept.specs.WellShaped.{is_strict_in};
 ghost use Rattle.mini_accept.specs.Accept.{is_part_placed, are_parts_placed, is_child_placed, are_placed, plan};
 ghost use Rattle.mini_accept.specs.Fields.{kind_of};
 ghost use Rattle.mini_accept.specs.Plans.{parts_from};

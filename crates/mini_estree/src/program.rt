@@ -8,7 +8,7 @@ ghost use Rattle.mini_accept.specs.Symbols.{has_no_symbol};
 ghost use Rattle.mini_estree.specs.Reads.{Blames};
 
 use crate::walk::node;
-use mini_errors::MinifyError;
+use mini_text::MinifyError;
 use mini_fields::{Class, Place};
 use mini_node::Node;
 use serde_json::Value;

@@ -2,7 +2,7 @@
 use Rattle.std.proofs.Common.{◌≡◌, ℕ, List, [], ◌∷◌, Bool, true, false, refl, sym, ap, ap₂, ◌∙◌, Option, Some, None}
 use Rattle.std.specs.Prelude.{◌&&◌, ◌||◌, not, is_some, codes, option_and_then, option_map, unwrap_or, if◌then◌else◌}
 use Rattle.serde_json.specs.Data.{Data, string, object, member, no_members}
-use Rattle.mini_structure.specs.WellShaped.{is_text}
+use Rattle.mini_accept.specs.WellShaped.{is_text}
 use Rattle.mini_accept.specs.declared.kind.Kind.TheVariants as kind
 use Rattle.mini_accept.specs.declared.kind.Kind.{Kind}
 use Rattle.mini_accept.specs.Kind.{types}

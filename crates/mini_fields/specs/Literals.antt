@@ -4,7 +4,7 @@ use Rattle.serde_json.specs.Data.{Data}
 use Rattle.mini_text.specs.Texts.{units_of}
 use Rattle.mini_model.specs.declared.shape.Shape.{Shape}
 use Rattle.mini_model.specs.declared.shape.Shape.TheVariants as shape
-use Rattle.mini_structure.specs.WellShaped.{max_big_int}
+use Rattle.mini_accept.specs.WellShaped.{max_big_int}
 use Rattle.mini_accept.specs.Literals.{digits_value, big_int}
 use Rattle.mini_fields.specs.declared.literals.LiteralValue.{LiteralValue}
 use Rattle.mini_fields.specs.declared.literals.LiteralValue.TheVariants as literal

@@ -1,6 +1,6 @@
 -- What the program's types are as the definitions have them.
 use Rattle.std.specs.Prelude.{ℕ, List, false, codes}
-use Rattle.mini_structure.specs.WellShaped as shaped
+use Rattle.mini_accept.specs.WellShaped as shaped
 use Rattle.mini_accept.specs.Faults as faults
 use Rattle.mini_accept.specs.Places as places
 use Rattle.mini_fields.specs.declared.defect.Defect.{Defect}

@@ -3,7 +3,7 @@
 ghost use Rattle.std.specs.Prelude.{◌≡◌, ◌<◌, ◌+◌, ◌*◌, ℕ, Some, option_map, unwrap_or, not, nat_le, false, codes};
 ghost use Rattle.serde_json.specs.View.{view, number_view};
 ghost use Rattle.serde_json.specs.Find.{get};
-ghost use Rattle.mini_structure.specs.WellShaped.{max_big_int};
+ghost use Rattle.mini_accept.specs.WellShaped.{max_big_int};
 ghost use Rattle.mini_accept.specs.Literals.{reg_exp, digits_value, big_int, literal, value_shape, is_unread_number, is_unread_raw, is_unread_value, is_unread_literal, is_string_literal, is_big_int_literal, is_key_literal, with_minus};
 ghost use Rattle.mini_fields.specs.Literals.{capped, shape_of, big_int_shape, negative_literal};
 

@@ -6,8 +6,8 @@ use Rattle.serde_json.specs.Find.{get}
 use Rattle.mini_text.specs.Texts.{units_of}
 use Rattle.mini_model.specs.declared.shape.Shape.TheVariants as shape
 use Rattle.mini_model.specs.Weight.{directives_weight}
-use Rattle.mini_structure.specs.WellShaped as shaped
-use Rattle.mini_structure.specs.WellShaped.{Depth, in_module, in_body, is_paired}
+use Rattle.mini_accept.specs.WellShaped as shaped
+use Rattle.mini_accept.specs.WellShaped.{Depth, in_module, in_body, is_paired}
 use Rattle.mini_accept.specs.Places.{place, down, at}
 use Rattle.mini_accept.specs.Fields.{require, text_at, paired_units, units_at, list_at, has_type}
 use Rattle.mini_accept.specs.Words.{word_at, source_types}

@@ -7,13 +7,13 @@ use Rattle.std.proofs.lemmas.Bool.{or_parts, not-false, leb-true}
 use Rattle.serde_json.specs.Data.{Data, unsigned, negative, float, null, boolean, number, string, array, object}
 use Rattle.serde_json.specs.Find.{get}
 use Rattle.mini_text.specs.Texts.{units_of}
-use Rattle.mini_numerals.specs.Numerals.{max_safe_integer}
+use Rattle.mini_literals.specs.Numerals.{max_safe_integer}
 use Rattle.mini_model.specs.declared.shape.Shape.{Shape}
 use Rattle.mini_model.specs.declared.shape.Shape.TheVariants as shape
 use Rattle.mini_model.specs.declared.place.Position.{Position}
 use Rattle.mini_model.specs.Weight.{Outline, text_weight}
-use Rattle.mini_structure.specs.WellShaped as shaped
-use Rattle.mini_structure.specs.WellShaped.{is_paired, is_safe, max_big_int}
+use Rattle.mini_accept.specs.WellShaped as shaped
+use Rattle.mini_accept.specs.WellShaped.{is_paired, is_safe, max_big_int}
 use Rattle.mini_accept.specs.Places.{Place, at, a_directive, a_directive_text, a_quasi, an_exported, a_local_name}
 use Rattle.mini_accept.specs.Fields.{◌>>=◌, require, is_given, text_at, units_at, is_bare, has_type}
 use Rattle.mini_accept.specs.Literals.{reg_exp, big_int, value_shape, literal, is_unread_value, is_unread_literal, negative_of, with_minus}

@@ -8,8 +8,8 @@ use Rattle.mini_model.specs.declared.shape.Shape.{Shape}
 use Rattle.mini_model.specs.Tree.{Trees}
 use Rattle.mini_model.specs.declared.place.Position.{Position}
 use Rattle.mini_model.specs.Weight.{Outline, outlines, weights, own_weight, text_weight, names_weight}
-use Rattle.mini_structure.specs.WellShaped as shaped
-use Rattle.mini_structure.specs.WellShaped.{Class}
+use Rattle.mini_accept.specs.WellShaped as shaped
+use Rattle.mini_accept.specs.WellShaped.{Class}
 use Rattle.mini_accept.specs.Places.{Step, field, place, at}
 use Rattle.mini_accept.specs.Fields.{◌>>=◌, require, list_at, no_item, has_type, child_has_type}
 use Rattle.mini_accept.specs.Plans.{Part, hole, tree_at, inner_at, Child, Plan, node_of, child, inner, ItemPart, parts_from, list, list_child, each, or_hole, or_rest, inner_key, target_part, target}

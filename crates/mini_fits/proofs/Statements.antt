@@ -4,8 +4,8 @@ use Rattle.std.specs.Prelude.{not, if◌then◌else◌}
 use Rattle.serde_json.specs.Data.{Data}
 use Rattle.mini_model.specs.declared.shape.Shape.{Shape}
 use Rattle.mini_model.specs.declared.shape.Shape.TheVariants as shape
-use Rattle.mini_structure.specs.WellShaped as shaped
-use Rattle.mini_structure.specs.WellShaped.{Class, nested, in_body}
+use Rattle.mini_accept.specs.WellShaped as shaped
+use Rattle.mini_accept.specs.WellShaped.{Class, nested, in_body}
 use Rattle.mini_accept.specs.Places.{field, Place, at, a_directive}
 use Rattle.mini_accept.specs.Fields.{require, is_given, flag_at, list_at}
 use Rattle.mini_accept.specs.Words.{word_at, variable_kinds, method_kinds}

@@ -10,7 +10,7 @@ use Rattle.mini_model.specs.declared.shape.Shape.TheVariants as shape
 use Rattle.mini_model.specs.Tree.{Tree, Trees, node, none, ◌▸◌, count, children, shape_of, child_or_absent, is_absent, is_absent_shape}
 use Rattle.mini_model.specs.Position.{child_position}
 use Rattle.mini_model.specs.Redex.{Row}
-use Rattle.mini_structure.specs.WellShaped.{in_module, in_body, nested, Class, a_statement, a_key, a_private_or_key, an_inner_key, an_export, an_exported_declaration, a_loop_left, a_declarator, a_string, Slot, one, one_or_absent, many, these, each, is_whole, is_same_flag, is_reference, is_reference_shape, first_item, is_var, is_head_by, are_locals, is_whole_export, fits, fill}
+use Rattle.mini_accept.specs.WellShaped.{in_module, in_body, nested, Class, a_statement, a_key, a_private_or_key, an_inner_key, an_export, an_exported_declaration, a_loop_left, a_declarator, a_string, Slot, one, one_or_absent, many, these, each, is_whole, is_same_flag, is_reference, is_reference_shape, first_item, is_var, is_head_by, are_locals, is_whole_export, fits, fill}
 use Rattle.mini_kept.proofs.Bools.{left, right, and_false}
 use Rattle.mini_kept.proofs.Expressions.{refused_here}
 use Rattle.mini_kept.proofs.Moved.{Moved, Alike, cases, is_rewritten_shape, row_root, quiet}

@@ -13,7 +13,7 @@ use Rattle.mini_model.specs.declared.shape.Shape.TheVariants as shape
 use Rattle.mini_model.specs.Tree.{Tree, Trees, node, none, ◌▸◌, negation, conditional}
 use Rattle.mini_model.specs.Weight.{weight}
 use Rattle.mini_model.specs.Terms.{is_boolean, turned_seat, unwrapped, neg, neg_each, not_of}
-use Rattle.mini_structure.specs.WellShaped.{Depth, in_module, in_body, nested, Class, a_statement, an_init, a_default_export, an_arrow_body, an_expression, a_link, an_argument, an_inner, a_key, a_private_or_key, an_inner_key, Slot, one, one_or_absent, many, refused, these, class_of, a_label, a_private_name, fits, fill, filling, filling_by, statement_slots, is_whole, is_strict_in, has_names}
+use Rattle.mini_accept.specs.WellShaped.{Depth, in_module, in_body, nested, Class, a_statement, an_init, a_default_export, an_arrow_body, an_expression, a_link, an_argument, an_inner, a_key, a_private_or_key, an_inner_key, Slot, one, one_or_absent, many, refused, these, class_of, a_label, a_private_name, fits, fill, filling, filling_by, statement_slots, is_whole, is_strict_in, has_names}
 use Rattle.mini_kept.proofs.Bools.{left, both, and_false}
 
 abbrev pub expression : Slot

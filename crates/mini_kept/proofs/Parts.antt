@@ -17,7 +17,7 @@ use Rattle.mini_model.specs.Position.{child_position, unary_operand_seat}
 use Rattle.mini_model.specs.Terms.{is_boolean, unwrapped, neg}
 use Rattle.mini_model.specs.Redex.{Row, Contracts}
 use Rattle.mini_model.specs.Rewriting.{Step, here, inside, StepIn, first, later}
-use Rattle.mini_structure.specs.WellShaped.{Class, a_loop_left, a_method, an_expression, is_function_body, is_function_body_shape, first_item, spelling, spelling_by, is_same_spelling, without_default, repeats_key, names_constructor, is_init, has_optional, has_optional_by, is_not_positive_number, is_whole_property, has_its_parts}
+use Rattle.mini_accept.specs.WellShaped.{Class, a_loop_left, a_method, an_expression, is_function_body, is_function_body_shape, first_item, spelling, spelling_by, is_same_spelling, without_default, repeats_key, names_constructor, is_init, has_optional, has_optional_by, is_not_positive_number, is_whole_property, has_its_parts}
 use Rattle.mini_kept.proofs.Bools.{both}
 use Rattle.mini_kept.proofs.Moved.{names_of, part, Moved, Alike, cases, is_rewritten_shape, row_root, quiet, unlike}
 

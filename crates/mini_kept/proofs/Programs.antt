@@ -4,7 +4,7 @@ use Rattle.mini_model.specs.declared.place.Position.{Position}
 use Rattle.mini_model.specs.Tree.{Tree}
 use Rattle.mini_model.specs.Redex.{Contracts}
 use Rattle.mini_model.specs.Rewriting.{Reaches, done, more}
-use Rattle.mini_structure.specs.WellShaped.{a_program, one, IsWellShaped}
+use Rattle.mini_accept.specs.WellShaped.{a_program, one, IsWellShaped}
 use Rattle.mini_kept.proofs.Steps.{step_fits}
 
 pub reaches_well_shaped : {p : Position} {t u : Tree} → Reaches Contracts p t u → IsWellShaped t → IsWellShaped u

@@ -10,7 +10,7 @@ use Rattle.mini_model.specs.Tree.{Tree, none, ◌▸◌, negation, conditional, 
 use Rattle.mini_model.specs.Position.{statement_expression_seat, left_operand_seat}
 use Rattle.mini_model.specs.Terms.{neg, not_of}
 use Rattle.mini_model.specs.Redex.{Row}
-use Rattle.mini_structure.specs.WellShaped.{nested, Class, a_statement, a_key, a_private_or_key, an_inner_key, Slot, one, one_or_absent, fits}
+use Rattle.mini_accept.specs.WellShaped.{nested, Class, a_statement, a_key, a_private_or_key, an_inner_key, Slot, one, one_or_absent, fits}
 use Rattle.mini_kept.proofs.Bools.{left, both}
 use Rattle.mini_kept.proofs.Expressions.{expression, refused_here, expression_taken, of_negation, of_conditional, neg_fits, not_of_fits, three_fit, two_fit}
 

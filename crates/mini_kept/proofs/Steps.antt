@@ -11,7 +11,7 @@ use Rattle.mini_model.specs.Tree.{Tree, Trees, node, none, ◌▸◌, count, chi
 use Rattle.mini_model.specs.Position.{child_position}
 use Rattle.mini_model.specs.Redex.{Contracts}
 use Rattle.mini_model.specs.Rewriting.{Step, here, inside, StepIn, first, later}
-use Rattle.mini_structure.specs.WellShaped.{Tagging, untagged, tagged, Class, a_loop_left, a_method, Slot, one, one_or_absent, is_whole_export, Filling, refused, these, each, each_or_last, pieces, filling, class_of, is_whole, has_its_number, has_names, has_plain_fields, has_its_parts, is_strict_in, is_quasi_by, is_quasi, are_quasis, is_last, fits, fill}
+use Rattle.mini_accept.specs.WellShaped.{Tagging, untagged, tagged, Class, a_loop_left, a_method, Slot, one, one_or_absent, is_whole_export, Filling, refused, these, each, each_or_last, pieces, filling, class_of, is_whole, has_its_number, has_names, has_plain_fields, has_its_parts, is_strict_in, is_quasi_by, is_quasi, are_quasis, is_last, fits, fill}
 use Rattle.mini_kept.proofs.Bools.{left, right, both}
 use Rattle.mini_kept.proofs.Rows.{row_fits}
 use Rattle.mini_kept.proofs.Expressions.{refused_here}

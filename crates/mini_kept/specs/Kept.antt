@@ -9,7 +9,7 @@ use Rattle.mini_model.specs.declared.shape.Shape.TheVariants as shape
 use Rattle.mini_model.specs.Tree.{Tree, Trees, node, children}
 use Rattle.mini_model.specs.Redex.{Contracts}
 use Rattle.mini_model.specs.Rewriting.{Step, Reaches}
-use Rattle.mini_structure.specs.WellShaped.{Slot, fits, IsWellShaped}
+use Rattle.mini_accept.specs.WellShaped.{Slot, fits, IsWellShaped}
 use Rattle.mini_kept.specs.Nodes.{Test, each_node, each_nodes}
 
 -- one rewrite, at any place of the tree

@@ -1,2 +1,10 @@
 pub mod Nodes
 pub mod Kept
+pub mod Carried
+pub mod NameLaws
+pub mod KeepsNames
+pub mod Lifted
+pub mod AlikeBodies
+pub mod Standing
+pub mod KeepsBodies
+pub mod BodyLaws

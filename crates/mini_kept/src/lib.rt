@@ -1,8 +1,14 @@
-//! What rewriting keeps of a program's form: it stays well shaped, and what holds of each of its nodes still does. Each
-//! function's contract is a law, and its body is empty.
+//! What rewriting keeps of a program: it stays well shaped, and so do its names, numbers and bodies; and what a program that is
+//! written, read again and resolved has to do with the one that was written. Each function's contract is a law, and its body is
+//! empty.
 #![tactic(auto)]
 
 ghost use Rattle.mini_kept.specs.Kept.{EachBelowKept, EachKept, ReachesWellShaped, StepFits};
+ghost use Rattle.mini_kept.specs.Lifted.{RowsKeepNames, ReachesKeepsNames};
+ghost use Rattle.mini_kept.specs.NameLaws.{ResolvedRenumbered, NumbersCarried, ProgramCarried};
+ghost use Rattle.mini_kept.specs.BodyLaws.{StepKeepsBodies, ReachesKeepsBodies, BodiesStand, RowsKeepBodies, ProgramKeepsBodies};
+
+use mini_laws::Rewrites;
 
 /// A rewrite at any place leaves a tree where it may stand; so a program stays one after any number of them.
 pub fn rewriting_keeps_programs()
@@ -15,4 +21,49 @@ pub fn rewriting_keeps_programs()
 pub fn rewriting_keeps_nodes()
     ensures anywhere { EachKept }
     ensures program { EachBelowKept }
+{}
+
+/// What each row writes keeps the names, the symbols and the numbers of what it reads, and has no early error if that has
+/// none.
+pub fn rows_keep_names()
+    ensures { RowsKeepNames }
+{}
+
+/// So do any number of rewrites at any places of a program.
+pub fn rewriting_keeps_names()
+    ensures { ReachesKeepsNames }
+{}
+
+/// Resolution doesn't look at numbers.
+pub fn resolved_renumbered()
+    ensures { ResolvedRenumbered }
+{}
+
+/// Numbers in preorder stand for the places of the numbers that a program had.
+pub fn numbers_carried()
+    ensures { NumbersCarried }
+{}
+
+/// A program that is written, read again and resolved is the one that was written, with the numbers and the symbols that
+/// its own stand for.
+pub fn program_carried()
+    ensures { ProgramCarried }
+{}
+
+/// A step at any place, and any number of them, keep the bodies of a program that is well shaped, where what is put there
+/// keeps those of what stood there.
+pub fn bodies_kept<R: Rewrites>()
+    ensures step { StepKeepsBodies R.gives }
+    ensures reaches { ReachesKeepsBodies R.gives }
+{}
+
+/// Each body of a program whose bodies are kept stands for an earlier one.
+pub fn bodies_stand()
+    ensures { BodiesStand }
+{}
+
+/// What each row writes has the bodies of what it reads, and so any number of rewrites keep those of a program.
+pub fn rows_keep_bodies()
+    ensures rows { RowsKeepBodies }
+    ensures program { ProgramKeepsBodies }
 {}

@@ -7,7 +7,7 @@ use Rattle.mini_model.specs.declared.name.Name.{Name}
 use Rattle.mini_model.specs.declared.shape.Shape.{Shape}
 use Rattle.mini_model.specs.declared.shape.Shape.TheVariants as shape
 use Rattle.mini_model.specs.Tree.{Tree, Trees, node, none, ◌▸◌, children}
-use Rattle.mini_structure.specs.WellShaped.{Tagging, Class, a_program, Slot, one, Filling, refused, these, each, each_or_last, pieces, filling, class_of, is_whole, is_numbered, has_names, has_plain_fields, has_its_parts, is_strict_in, is_quasi_by, is_quasi, are_quasis, is_last, fits, fill, IsWellShaped}
+use Rattle.mini_accept.specs.WellShaped.{Tagging, Class, a_program, Slot, one, Filling, refused, these, each, each_or_last, pieces, filling, class_of, is_whole, is_numbered, has_names, has_plain_fields, has_its_parts, is_strict_in, is_quasi_by, is_quasi, are_quasis, is_last, fits, fill, IsWellShaped}
 use Rattle.mini_accept.specs.Numbered.{next_after, next_among, number_after}
 use Rattle.mini_accept.specs.Symbols.{are_unresolved, has_no_symbol, have_no_symbol}
 use Rattle.mini_round_trip.specs.Bare.{bare_name, bare, bares}

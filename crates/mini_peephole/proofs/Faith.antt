@@ -18,7 +18,7 @@ use Rattle.mini_meaning.specs.State.{Environment}
 use Rattle.mini_meaning.specs.Body.{Program, environment_of}
 use Rattle.mini_laws.proofs.Rewritten.{program_same, frame_kept}
 use Rattle.mini_tree.specs.declared.options.CompressOptions.{CompressOptions}
-use Rattle.mini_structure.specs.WellShaped.{a_program, one, IsWellShaped}
+use Rattle.mini_accept.specs.WellShaped.{a_program, one, IsWellShaped}
 use Rattle.mini_accept.specs.Accept.{program_at, Accepts}
 use Rattle.mini_accept.proofs.Depths.{one_tree}
 use Rattle.mini_kept.specs.Nodes.{each_node, each_nodes}

@@ -10,8 +10,8 @@ use Rattle.mini_model.specs.declared.operator.BinaryOperator.TheVariants.{In}
 use Rattle.mini_model.specs.declared.shape.Shape.{Shape}
 use Rattle.mini_model.specs.declared.shape.Shape.TheVariants as shape
 use Rattle.mini_model.specs.Tree.{Tree, node, Trees, none, ◌▸◌}
-use Rattle.mini_written.specs.Objects as objects
-use Rattle.mini_written.specs.Written.{of_one, of_two, of_three, of_four, name_of, number_literal, with_directives, body, program_body, function, arrow, class, node_data, tree_data, trees_data, program_data}
+use Rattle.mini_writer.specs.Objects as objects
+use Rattle.mini_writer.specs.Written.{of_one, of_two, of_three, of_four, name_of, number_literal, with_directives, body, program_body, function, arrow, class, node_data, tree_data, trees_data, program_data}
 
 -- over the children of a node
 

@@ -2,12 +2,12 @@
 use Rattle.std.proofs.Common.{◌≡◌, ℕ, true, sym, ap, ◌∙◌, subst}
 use Rattle.std.specs.Prelude.{Ok}
 use Rattle.mini_model.specs.Tree.{Tree, children}
-use Rattle.mini_structure.specs.WellShaped.{IsWellShaped}
+use Rattle.mini_accept.specs.WellShaped.{IsWellShaped}
 use Rattle.mini_accept.specs.Accept.{program_at, Accepts}
 use Rattle.mini_accept.proofs.Numbers.{program_numbered}
 use Rattle.mini_accept.proofs.Shaped.{program_shaped}
 use Rattle.mini_accept.proofs.Symbols.{program_unresolved}
-use Rattle.mini_written.specs.Written.{program_data}
+use Rattle.mini_writer.specs.Written.{program_data}
 use Rattle.mini_round_trip.specs.Bare.{bare}
 use Rattle.mini_round_trip.proofs.Programs.{units_accepted}
 use Rattle.mini_round_trip.proofs.Units.{shaped_units}

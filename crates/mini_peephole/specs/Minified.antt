@@ -6,9 +6,9 @@ use Rattle.mini_model.specs.Tree.{Tree}
 use Rattle.mini_tree.specs.declared.options.CompressOptions.{CompressOptions}
 use Rattle.mini_accept.specs.Faults as estree
 use Rattle.mini_accept.specs.Accept.{program_at, Accepts}
-use Rattle.mini_written.specs.Written.{program_data}
-use Rattle.mini_errors.specs.Faults.{unsupported, Fault, fault_of}
-use Rattle.mini_errors.specs.declared.error.MinifyError.{MinifyError}
+use Rattle.mini_writer.specs.Written.{program_data}
+use Rattle.mini_text.specs.Faults.{unsupported, Fault, fault_of}
+use Rattle.mini_text.specs.declared.error.MinifyError.{MinifyError}
 use Rattle.mini_estree.specs.Reads.{fault_told}
 use Rattle.mini_walk.specs.Passes.{MakesPasses}
 use Rattle.mini_logic.specs.Joined.{Gives, Rests}

@@ -4,9 +4,9 @@ use Rattle.std.specs.Prelude.{codes, is_some, not}
 use Rattle.serde_json.specs.Data.{Data, null}
 use Rattle.serde_json.specs.Find.{get}
 use Rattle.mini_text.specs.Texts.{units_of}
-use Rattle.mini_templates.specs.Templates.{cooked}
+use Rattle.mini_literals.specs.Templates.{cooked}
 use Rattle.mini_model.specs.declared.shape.Shape.TheVariants as shape
-use Rattle.mini_structure.specs.WellShaped.{is_text_of_cooked, tagged}
+use Rattle.mini_accept.specs.WellShaped.{is_text_of_cooked, tagged}
 use Rattle.mini_accept.specs.Fields.{require, text_at}
 use Rattle.mini_accept.specs.Plans.{Plan, node_of}
 use Rattle.mini_fields.proofs.Texts.{units_there}

@@ -7,7 +7,7 @@ use Rattle.mini_model.specs.declared.name.Name.{Name}
 use Rattle.mini_model.specs.declared.shape.Shape as declared
 use Rattle.mini_model.specs.declared.shape.Shape.TheVariants as shape
 use Rattle.mini_model.specs.Tree.{unresolved}
-use Rattle.mini_structure.specs.WellShaped as shaped
+use Rattle.mini_accept.specs.WellShaped as shaped
 use Rattle.mini_accept.specs.Places as places
 use Rattle.mini_accept.specs.Places.{field, place, at}
 use Rattle.mini_accept.specs.Plans as plans

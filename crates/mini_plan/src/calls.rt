@@ -3,7 +3,7 @@
 ghost use Rattle.std.specs.Prelude.{◌≡◌, false, if◌then◌else◌, option_map};
 ghost use Rattle.serde_json.specs.Data.{Data};
 ghost use Rattle.serde_json.specs.View.{view};
-ghost use Rattle.mini_structure.specs.WellShaped.{a_link, an_expression};
+ghost use Rattle.mini_accept.specs.WellShaped.{a_link, an_expression};
 ghost use Rattle.mini_accept.specs.Expressions as expression;
 ghost use Rattle.mini_accept.specs.Expressions.{is_link, computed_member, named_member, link_key, is_chain_link, has_mark};
 ghost use Rattle.mini_fields.specs.Views.{place_of};

@@ -6,7 +6,7 @@ ghost use Rattle.serde_json.specs.View.{view};
 ghost use Rattle.mini_accept.specs.Patterns as pattern;
 ghost use Rattle.mini_accept.specs.Patterns.{is_binding, default_left};
 ghost use Rattle.mini_accept.specs.Plans.{inner};
-ghost use Rattle.mini_structure.specs.WellShaped.{an_expression};
+ghost use Rattle.mini_accept.specs.WellShaped.{an_expression};
 ghost use Rattle.mini_fields.specs.Views.{place_of};
 ghost use Rattle.mini_plan.specs.Views.{child_of, plan_of};
 

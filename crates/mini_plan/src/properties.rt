@@ -4,7 +4,7 @@ ghost use Rattle.std.specs.Prelude.{◌≡◌, [], ◌∷◌, map, option_map, o
 ghost use Rattle.serde_json.specs.Data.{Data};
 ghost use Rattle.serde_json.specs.View.{view};
 ghost use Rattle.serde_json.specs.Find.{get};
-ghost use Rattle.mini_structure.specs.WellShaped.{is_init, a_key, value_class};
+ghost use Rattle.mini_accept.specs.WellShaped.{is_init, a_key, value_class};
 ghost use Rattle.mini_accept.specs.Expressions as expression;
 ghost use Rattle.mini_accept.specs.Expressions.{is_same_name, is_name_with_default, identifier_text, repeats_key, is_whole_property};
 ghost use Rattle.mini_accept.specs.Plans.{child};

@@ -9,8 +9,8 @@ use Rattle.mini_model.specs.declared.operator.UnaryOperator.TheVariants as unary
 use Rattle.mini_model.specs.declared.shape.Shape.{Shape}
 use Rattle.mini_model.specs.declared.shape.Shape.TheVariants as shape
 use Rattle.mini_model.specs.Tree.{Trees}
-use Rattle.mini_structure.specs.WellShaped as shaped
-use Rattle.mini_structure.specs.WellShaped.{Class, filling_by, expression_slots, is_optional, has_names, has_plain_fields, has_its_parts, is_strict_in, is_paired}
+use Rattle.mini_accept.specs.WellShaped as shaped
+use Rattle.mini_accept.specs.WellShaped.{Class, filling_by, expression_slots, is_optional, has_names, has_plain_fields, has_its_parts, is_strict_in, is_paired}
 use Rattle.mini_accept.proofs.Fitting.{parts_by_shape}
 use Rattle.mini_round_trip.proofs.Units.{fields_are_units}
 use Rattle.mini_round_trip.proofs.Fits.{Filled, with_none, unless_filled}

@@ -7,17 +7,17 @@ use Rattle.mini_text.specs.Texts.{bytes_of, are_units}
 use Rattle.mini_model.specs.declared.shape.Shape.{Shape}
 use Rattle.mini_model.specs.declared.shape.Shape.TheVariants as shape
 use Rattle.mini_model.specs.Tree.{Tree, Trees, is_absent}
-use Rattle.mini_structure.specs.WellShaped as shaped
-use Rattle.mini_structure.specs.WellShaped.{Class, Slot, these, each, filling_by, is_text, is_paired, is_name}
+use Rattle.mini_accept.specs.WellShaped as shaped
+use Rattle.mini_accept.specs.WellShaped.{Class, Slot, these, each, filling_by, is_text, is_paired, is_name}
 use Rattle.mini_accept.specs.declared.kind.Kind.TheVariants as kind
 use Rattle.mini_accept.specs.Fields.{is_there, has_type}
 use Rattle.mini_accept.specs.Literals.{is_string_literal}
-use Rattle.mini_numerals.specs.Numerals.{max_safe_integer}
+use Rattle.mini_literals.specs.Numerals.{max_safe_integer}
 use Rattle.mini_accept.specs.Standing.{stands_as}
 use Rattle.mini_accept.specs.Expressions.{identifier_as, word_plan}
 use Rattle.mini_accept.proofs.Types.{text_same, text_is}
-use Rattle.mini_written.specs.Objects as objects
-use Rattle.mini_written.specs.Written.{tree_data, name}
+use Rattle.mini_writer.specs.Objects as objects
+use Rattle.mini_writer.specs.Written.{tree_data, name}
 use Rattle.mini_round_trip.proofs.Read.{plain_back, no_children}
 use Rattle.mini_round_trip.proofs.Texts.{ascii_bytes}
 use Rattle.mini_round_trip.proofs.Fits.{Filled, NodeFits, with_none, unless_filled}

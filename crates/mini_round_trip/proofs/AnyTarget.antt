@@ -9,14 +9,14 @@ use Rattle.mini_model.specs.declared.kind.VariableDeclarationKind.TheVariants as
 use Rattle.mini_model.specs.declared.shape.Shape.{Shape}
 use Rattle.mini_model.specs.declared.shape.Shape.TheVariants as shape
 use Rattle.mini_model.specs.Tree.{Tree, node, Trees, none, ◌▸◌, is_absent, children, node_count}
-use Rattle.mini_structure.specs.WellShaped as shaped
-use Rattle.mini_structure.specs.WellShaped.{Class, Slot, these, each, filling_by, is_text, is_paired}
+use Rattle.mini_accept.specs.WellShaped as shaped
+use Rattle.mini_accept.specs.WellShaped.{Class, Slot, these, each, filling_by, is_text, is_paired}
 use Rattle.mini_accept.specs.Places.{at}
 use Rattle.mini_accept.specs.Fields.{is_there, is_given}
 use Rattle.mini_accept.specs.Standing.{stands_as}
 use Rattle.mini_accept.specs.Expressions.{is_link}
-use Rattle.mini_written.specs.Objects as objects
-use Rattle.mini_written.specs.Written.{tree_data, trees_data, node_data}
+use Rattle.mini_writer.specs.Objects as objects
+use Rattle.mini_writer.specs.Written.{tree_data, trees_data, node_data}
 use Rattle.mini_round_trip.proofs.Units.{has_units}
 use Rattle.mini_round_trip.proofs.Fits.{Fit, Filled, NodeFits, node_fits, fit_more, with_one, with_two, with_list, and_false}
 use Rattle.mini_round_trip.proofs.Slots.{Back}

@@ -7,8 +7,8 @@ use Rattle.serde_json.specs.Find.{get, get_item, as_array, as_str}
 use Rattle.mini_text.specs.Texts.{units_of, bytes_of, are_units}
 use Rattle.mini_model.specs.declared.shape.Shape.TheVariants as shape
 use Rattle.mini_model.specs.Tree.{Tree, node, Trees, none, ◌▸◌, node_count, node_counts}
-use Rattle.mini_structure.specs.WellShaped as shaped
-use Rattle.mini_structure.specs.WellShaped.{Class, Depth, in_module, in_body, a_statement, these, each, is_paired, are_paired, fits, fill}
+use Rattle.mini_accept.specs.WellShaped as shaped
+use Rattle.mini_accept.specs.WellShaped.{Class, Depth, in_module, in_body, a_statement, these, each, is_paired, are_paired, fits, fill}
 use Rattle.mini_accept.specs.declared.kind.Kind.TheVariants as kind
 use Rattle.mini_accept.specs.declared.kind.Kind.{Kind}
 use Rattle.mini_accept.specs.Kind.{types}
@@ -20,8 +20,8 @@ use Rattle.mini_accept.specs.Standing.{stands_as}
 use Rattle.mini_accept.specs.Statements as statement
 use Rattle.mini_accept.specs.Statements.{directive_text, directives_of, directives_before, body_part, body_parts}
 use Rattle.mini_accept.proofs.Types.{text_same, some_same, kind_typed, type_name}
-use Rattle.mini_written.specs.Objects as objects
-use Rattle.mini_written.specs.Written.{tree_data, trees_data, with_directives, body}
+use Rattle.mini_writer.specs.Objects as objects
+use Rattle.mini_writer.specs.Written.{tree_data, trees_data, with_directives, body}
 use Rattle.mini_round_trip.proofs.Units.{all_are_units, has_units, have_units}
 use Rattle.mini_round_trip.proofs.Read.{ReadsBack, PartsBack, Stands, node_back, plain_back, no_children, no_parts, more_parts, one_child, list_child, ◌&◌, tree_back, checked_back}
 use Rattle.mini_round_trip.proofs.Fits.{Fit, Filled, with_one, with_list}

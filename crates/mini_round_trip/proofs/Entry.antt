@@ -18,7 +18,7 @@ use Rattle.mini_model.specs.declared.operator.UpdateOperator.{UpdateOperator}
 use Rattle.mini_model.specs.declared.operator.UpdateOperator.TheVariants as update
 use Rattle.mini_accept.specs.Fields.{◌>>=◌, require, word_in}
 use Rattle.mini_accept.specs.Words.{assignment_operators, binary_operators, logical_operators, unary_operators, update_operators, property_kinds, method_kinds}
-use Rattle.mini_written.specs.Words.{unary_word, update_word, binary_word, logical_word, assignment_word, property_word, method_word}
+use Rattle.mini_writer.specs.Words.{unary_word, update_word, binary_word, logical_word, assignment_word, property_word, method_word}
 
 pub bind_is : {A B : Type 0} (o : Option A) (x : A) (f : A → Option B) (y : Option B) → o ≡ Some x → f x ≡ y → (o >>= f) ≡ y
 bind_is o x f y e g = ap (λ v. v >>= f) e ∙ g

@@ -15,8 +15,8 @@ use Rattle.mini_model.specs.declared.operator.UpdateOperator.{UpdateOperator}
 use Rattle.mini_model.specs.declared.shape.Shape.{Shape}
 use Rattle.mini_model.specs.declared.shape.Shape.TheVariants as shape
 use Rattle.mini_model.specs.Tree.{Tree, node, Trees, none, ◌▸◌, count, children, shape_of}
-use Rattle.mini_structure.specs.WellShaped as shaped
-use Rattle.mini_structure.specs.WellShaped.{Class, Slot, Tagging, these, is_strict_in, is_not_positive_number}
+use Rattle.mini_accept.specs.WellShaped as shaped
+use Rattle.mini_accept.specs.WellShaped.{Class, Slot, Tagging, these, is_strict_in, is_not_positive_number}
 use Rattle.mini_accept.specs.declared.kind.Kind.TheVariants as kind
 use Rattle.mini_accept.specs.declared.kind.Kind.{Kind}
 use Rattle.mini_accept.specs.Kind.{types}
@@ -31,8 +31,8 @@ use Rattle.mini_accept.specs.Expressions as table
 use Rattle.mini_accept.specs.Expressions.{identifier_by, identifier_as, is_link, minus_below, tagging_of, target_class}
 use Rattle.mini_accept.proofs.Types.{text_same, some_same, kind_typed, type_name}
 use Rattle.mini_accept.proofs.Wholes.{absent_or}
-use Rattle.mini_written.specs.Objects as objects
-use Rattle.mini_written.specs.Written.{tree_data, trees_data}
+use Rattle.mini_writer.specs.Objects as objects
+use Rattle.mini_writer.specs.Written.{tree_data, trees_data}
 use Rattle.mini_round_trip.proofs.Read.{ReadsBack, ChildrenBack, no_children, ◌&◌, plain_back, is_quiet}
 use Rattle.mini_round_trip.proofs.Fits.{Fit, Filled, with_none, with_one, with_two, with_three, with_list}
 use Rattle.mini_round_trip.proofs.Slots.{Back, is_apart, Planned, child_back, optional_back, each_back, holes_back, fit_object, fit_apart, fit_stands, fit_planned, there_given}

@@ -6,8 +6,8 @@ use Rattle.serde_json.specs.Data.{Data, null, boolean, number, string, array, ob
 use Rattle.serde_json.specs.Find.{get}
 use Rattle.mini_model.specs.declared.shape.Shape.TheVariants as shape
 use Rattle.mini_model.specs.Tree.{Tree, node, Trees, none, ◌▸◌, absent, is_absent, child_or_absent}
-use Rattle.mini_structure.specs.WellShaped as shaped
-use Rattle.mini_structure.specs.WellShaped.{Class, Slot, in_body, a_statement, these, each, are_paired, has_use_strict, is_same_flag, is_same_spelling, spelling, is_function_body}
+use Rattle.mini_accept.specs.WellShaped as shaped
+use Rattle.mini_accept.specs.WellShaped.{Class, Slot, in_body, a_statement, these, each, are_paired, has_use_strict, is_same_flag, is_same_spelling, spelling, is_function_body}
 use Rattle.mini_accept.specs.declared.kind.Kind.TheVariants as kind
 use Rattle.mini_accept.specs.Places.{field, at}
 use Rattle.mini_accept.specs.Fields.{is_object, is_there, has_type, list_at}
@@ -18,9 +18,9 @@ use Rattle.mini_accept.specs.Statements.{directives_of}
 use Rattle.mini_accept.specs.Functions as function
 use Rattle.mini_accept.specs.Functions.{directives_in, is_named}
 use Rattle.mini_accept.proofs.Wholes.{absent_or, not_absent}
-use Rattle.mini_written.specs.Objects as objects
-use Rattle.mini_written.specs.Written as written
-use Rattle.mini_written.specs.Written.{tree_data, trees_data, node_data, body}
+use Rattle.mini_writer.specs.Objects as objects
+use Rattle.mini_writer.specs.Written as written
+use Rattle.mini_writer.specs.Written.{tree_data, trees_data, node_data, body}
 use Rattle.mini_round_trip.proofs.Units.{all_are_units}
 use Rattle.mini_round_trip.proofs.Read.{ChildBack, node_back, plain_back, one_child, no_children, ◌&◌, tree_back}
 use Rattle.mini_round_trip.proofs.Fits.{Fit, Filled, node_fits, fit_more, and_false, with_one, with_two, with_three, with_four, with_list, with_optional}

@@ -7,14 +7,14 @@ use Rattle.mini_model.specs.declared.name.Name.{Name}
 use Rattle.mini_model.specs.declared.shape.Shape.{Shape}
 use Rattle.mini_model.specs.declared.shape.Shape.TheVariants as shape
 use Rattle.mini_model.specs.Tree.{Tree, node, Trees}
-use Rattle.mini_structure.specs.WellShaped.{Slot, is_text, is_paired, spelling, spelling_by, is_same_spelling, has_names, has_plain_fields, names_constructor, is_name}
+use Rattle.mini_accept.specs.WellShaped.{Slot, is_text, is_paired, spelling, spelling_by, is_same_spelling, has_names, has_plain_fields, names_constructor, is_name}
 use Rattle.mini_accept.specs.Fields.{has_units}
 use Rattle.mini_accept.specs.Expressions.{identifier_text, is_same_name, is_name_with_default}
 use Rattle.mini_accept.specs.Functions as function
 use Rattle.mini_accept.proofs.Types.{text_same, text_is, some_same}
 use Rattle.mini_accept.proofs.Identifiers.{text_symmetric}
-use Rattle.mini_written.specs.Objects as objects
-use Rattle.mini_written.specs.Written.{tree_data, trees_data, node_data, name}
+use Rattle.mini_writer.specs.Objects as objects
+use Rattle.mini_writer.specs.Written.{tree_data, trees_data, node_data, name}
 use Rattle.mini_round_trip.proofs.Units.{fields_are_units}
 use Rattle.mini_round_trip.proofs.Fits.{Fit}
 use Rattle.mini_round_trip.proofs.Texts.{text_back, name_back}

@@ -3,14 +3,14 @@ use Rattle.std.proofs.Common.{◌≡◌, ℕ, suc, List, [], ◌∷◌, refl, ap
 use Rattle.std.specs.Prelude.{Some, option_map, unwrap_or, codes, nat_le, not, decimal, ℤ, pos, negsuc}
 use Rattle.std.proofs.lemmas.Bool.{true≢false}
 use Rattle.serde_json.specs.Data.{Data}
-use Rattle.mini_numerals.specs.Numerals.{max_safe_integer}
+use Rattle.mini_literals.specs.Numerals.{max_safe_integer}
 use Rattle.mini_text.specs.Texts.{bytes_of, are_units}
 use Rattle.mini_model.specs.declared.name.Name.{Name}
 use Rattle.mini_model.specs.declared.shape.Shape.{Shape}
 use Rattle.mini_model.specs.declared.shape.Shape.TheVariants as shape
 use Rattle.mini_model.specs.Tree.{node, none}
-use Rattle.mini_structure.specs.WellShaped as shaped
-use Rattle.mini_structure.specs.WellShaped.{Class, is_paired, is_safe, max_big_int, is_strict_in, is_name}
+use Rattle.mini_accept.specs.WellShaped as shaped
+use Rattle.mini_accept.specs.WellShaped.{Class, is_paired, is_safe, max_big_int, is_strict_in, is_name}
 use Rattle.mini_accept.specs.declared.kind.Kind.TheVariants as kind
 use Rattle.mini_accept.specs.Places.{field, at, a_local_name}
 use Rattle.mini_accept.specs.Fields.{kind_of}
@@ -18,8 +18,8 @@ use Rattle.mini_accept.specs.Literals.{literal, is_big_int_shape, is_string_shap
 use Rattle.mini_accept.specs.Standing.{stands_as, is_unread, is_key, is_nested, is_expression}
 use Rattle.mini_accept.specs.Plans.{node_of}
 use Rattle.mini_accept.specs.Expressions.{identifier_by, identifier_as, identifier_in, word_plan}
-use Rattle.mini_written.specs.Objects as objects
-use Rattle.mini_written.specs.Written.{name, number_literal}
+use Rattle.mini_writer.specs.Objects as objects
+use Rattle.mini_writer.specs.Written.{name, number_literal}
 use Rattle.mini_round_trip.proofs.Read.{ReadsBack, node_back, plain_back, quiet_read, is_quiet, no_children, one_child, ◌&◌, checked_back}
 use Rattle.mini_round_trip.proofs.Texts.{text_read, name_read}
 use Rattle.mini_round_trip.proofs.Digits.{big_int_back}

@@ -6,11 +6,11 @@ use Rattle.mini_model.specs.declared.name.Name.{Name}
 use Rattle.mini_model.specs.declared.shape.Shape.{Shape}
 use Rattle.mini_model.specs.declared.shape.Shape.TheVariants as shape
 use Rattle.mini_model.specs.Tree.{Tree, node, Trees, node_counts}
-use Rattle.mini_structure.specs.WellShaped as shaped
-use Rattle.mini_structure.specs.WellShaped.{Class, these, filling_by, expression_slots, is_strict_in, has_optional, has_optional_by, none_if, is_chained}
+use Rattle.mini_accept.specs.WellShaped as shaped
+use Rattle.mini_accept.specs.WellShaped.{Class, these, filling_by, expression_slots, is_strict_in, has_optional, has_optional_by, none_if, is_chained}
 use Rattle.mini_accept.specs.declared.kind.Kind.TheVariants as kind
 use Rattle.mini_accept.specs.Expressions.{has_mark}
-use Rattle.mini_written.specs.Written.{tree_data, trees_data, node_data}
+use Rattle.mini_writer.specs.Written.{tree_data, trees_data, node_data}
 use Rattle.mini_round_trip.proofs.Read.{no_children, ◌&◌, plain_back}
 use Rattle.mini_round_trip.proofs.Fits.{Fit, Filled, node_fits, with_one, with_two, with_inner, unless_filled}
 use Rattle.mini_round_trip.proofs.Slots.{Back, child_back}

@@ -6,8 +6,8 @@ use Rattle.serde_json.specs.Data.{Data, array}
 use Rattle.serde_json.specs.Find.{get}
 use Rattle.mini_model.specs.declared.shape.Shape.TheVariants as shape
 use Rattle.mini_model.specs.Tree.{Tree, Trees, none, ◌▸◌}
-use Rattle.mini_structure.specs.WellShaped as shaped
-use Rattle.mini_structure.specs.WellShaped.{Class, these}
+use Rattle.mini_accept.specs.WellShaped as shaped
+use Rattle.mini_accept.specs.WellShaped.{Class, these}
 use Rattle.mini_accept.specs.declared.kind.Kind.TheVariants as kind
 use Rattle.mini_accept.specs.Places.{at, field}
 use Rattle.mini_accept.specs.Fields.{has_type}
@@ -16,8 +16,8 @@ use Rattle.mini_accept.specs.Plans as plans
 use Rattle.mini_accept.specs.Plans.{Part, tree_at, inner_at, one}
 use Rattle.mini_accept.specs.Expressions as table
 use Rattle.mini_accept.specs.Expressions.{is_link, link_class}
-use Rattle.mini_written.specs.Objects as objects
-use Rattle.mini_written.specs.Written.{tree_data, trees_data}
+use Rattle.mini_writer.specs.Objects as objects
+use Rattle.mini_writer.specs.Written.{tree_data, trees_data}
 use Rattle.mini_round_trip.proofs.Read.{ChildBack, no_children, ◌&◌, plain_back}
 use Rattle.mini_round_trip.proofs.Fits.{Fit, Filled, with_two, with_list}
 use Rattle.mini_round_trip.proofs.Slots.{Back, child_back, each_back, fit_apart, fit_stands}

@@ -5,8 +5,8 @@ use Rattle.std.proofs.lemmas.Bool.{and_parts, eqb-true, false_from_ne_true, fals
 use Rattle.serde_json.specs.Data.{Data, array}
 use Rattle.mini_model.specs.declared.shape.Shape.TheVariants as shape
 use Rattle.mini_model.specs.Tree.{Tree, node, Trees, none, ◌▸◌, count, children, child_or_absent, is_absent, node_count, node_counts}
-use Rattle.mini_structure.specs.WellShaped as shaped
-use Rattle.mini_structure.specs.WellShaped.{Class, in_module, in_body, a_statement, these, each, fits, fill, is_same_flag, is_reference, are_locals, are_paired, has_use_strict}
+use Rattle.mini_accept.specs.WellShaped as shaped
+use Rattle.mini_accept.specs.WellShaped.{Class, in_module, in_body, a_statement, these, each, fits, fill, is_same_flag, is_reference, are_locals, are_paired, has_use_strict}
 use Rattle.mini_accept.specs.declared.kind.Kind.TheVariants as kind
 use Rattle.mini_accept.specs.Places.{field, at, an_exported}
 use Rattle.mini_accept.specs.Fields.{is_there, no_item}
@@ -15,8 +15,8 @@ use Rattle.mini_accept.specs.Plans.{Plan, node_of, one, tree_at}
 use Rattle.mini_accept.specs.Statements as statement
 use Rattle.mini_accept.specs.Modules.{export_part, local_place}
 use Rattle.mini_accept.proofs.Wholes.{not_absent}
-use Rattle.mini_written.specs.Objects as objects
-use Rattle.mini_written.specs.Written.{tree_data, trees_data, node_data, with_directives}
+use Rattle.mini_writer.specs.Objects as objects
+use Rattle.mini_writer.specs.Written.{tree_data, trees_data, node_data, with_directives}
 use Rattle.mini_round_trip.proofs.Units.{all_are_units, has_units, have_units}
 use Rattle.mini_round_trip.proofs.Read.{ReadsBack, node_back, plain_back, one_child, list_child, no_children, ◌&◌, tree_back}
 use Rattle.mini_round_trip.proofs.Fits.{Fit, Filled, node_fits, fit_more, and_false, with_one, with_two, with_three, with_list, with_optional}

@@ -5,12 +5,12 @@ use Rattle.mini_model.specs.declared.name.Name.{Name}
 use Rattle.mini_model.specs.declared.shape.Shape.{Shape}
 use Rattle.mini_model.specs.declared.shape.Shape.TheVariants as shape
 use Rattle.mini_model.specs.Tree.{node, Trees}
-use Rattle.mini_structure.specs.WellShaped as shaped
-use Rattle.mini_structure.specs.WellShaped.{Class, these, a_statement}
+use Rattle.mini_accept.specs.WellShaped as shaped
+use Rattle.mini_accept.specs.WellShaped.{Class, these, a_statement}
 use Rattle.mini_accept.specs.Places.{at}
 use Rattle.mini_accept.specs.Standing.{stands_as}
 use Rattle.mini_accept.specs.Expressions.{identifier_by, identifier_as}
-use Rattle.mini_written.specs.Written.{name}
+use Rattle.mini_writer.specs.Written.{name}
 use Rattle.mini_round_trip.proofs.Read.{ReadsBack}
 use Rattle.mini_round_trip.proofs.Fits.{Filled, NodeFits, with_none}
 use Rattle.mini_round_trip.proofs.Slots.{is_apart}

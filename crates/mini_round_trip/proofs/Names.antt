@@ -3,10 +3,10 @@ use Rattle.std.proofs.Common.{◌≡◌, ℕ, suc, [], ◌∷◌, refl, arith, B
 use Rattle.std.proofs.lemmas.Bool.{and_parts, false≢true, true≢false}
 use Rattle.mini_model.specs.declared.shape.Shape.TheVariants as shape
 use Rattle.mini_model.specs.Tree.{Tree, node, none, ◌▸◌}
-use Rattle.mini_structure.specs.WellShaped as shaped
-use Rattle.mini_structure.specs.WellShaped.{Class, is_reference}
+use Rattle.mini_accept.specs.WellShaped as shaped
+use Rattle.mini_accept.specs.WellShaped.{Class, is_reference}
 use Rattle.mini_accept.specs.Places.{at, a_local_name}
-use Rattle.mini_written.specs.Written.{tree_data}
+use Rattle.mini_writer.specs.Written.{tree_data}
 use Rattle.mini_round_trip.proofs.Read.{ReadsBack}
 use Rattle.mini_round_trip.proofs.Fits.{Fit, node_fits, fit_more, and_false}
 use Rattle.mini_round_trip.proofs.Leaves.{local_back, word_back, string_back}

@@ -5,8 +5,8 @@ use Rattle.serde_json.specs.Data.{Data, array}
 use Rattle.mini_model.specs.declared.kind.PropertyKind.TheVariants.{Init}
 use Rattle.mini_model.specs.declared.shape.Shape.TheVariants as shape
 use Rattle.mini_model.specs.Tree.{Tree, Trees, none, ◌▸◌}
-use Rattle.mini_structure.specs.WellShaped as shaped
-use Rattle.mini_structure.specs.WellShaped.{Class, these, repeats_key}
+use Rattle.mini_accept.specs.WellShaped as shaped
+use Rattle.mini_accept.specs.WellShaped.{Class, these, repeats_key}
 use Rattle.mini_accept.specs.declared.kind.Kind.TheVariants as kind
 use Rattle.mini_accept.specs.Places.{at, field}
 use Rattle.mini_accept.specs.Fields.{has_type}
@@ -15,8 +15,8 @@ use Rattle.mini_accept.specs.Plans as plans
 use Rattle.mini_accept.specs.Plans.{Child, Part, one, tree_at, inner_at}
 use Rattle.mini_accept.specs.Expressions as table
 use Rattle.mini_accept.specs.Patterns.{is_binding}
-use Rattle.mini_written.specs.Objects as objects
-use Rattle.mini_written.specs.Written.{tree_data, trees_data}
+use Rattle.mini_writer.specs.Objects as objects
+use Rattle.mini_writer.specs.Written.{tree_data, trees_data}
 use Rattle.mini_round_trip.proofs.Read.{ChildBack, no_children, ◌&◌, plain_back}
 use Rattle.mini_round_trip.proofs.Fits.{Filled, with_one, with_two, with_list}
 use Rattle.mini_round_trip.proofs.Slots.{Back, Rested, child_back, rest_back, holes_rest_back, fit_stands}

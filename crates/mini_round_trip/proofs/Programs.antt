@@ -3,11 +3,11 @@ use Rattle.std.proofs.Common.{◌≡◌, ℕ, suc, List, [], ◌∷◌, arith, B
 use Rattle.std.proofs.lemmas.Bool.{false≢true}
 use Rattle.mini_model.specs.declared.shape.Shape.TheVariants as shape
 use Rattle.mini_model.specs.Tree.{Tree, node, Trees, node_counts}
-use Rattle.mini_structure.specs.WellShaped as shaped
-use Rattle.mini_structure.specs.WellShaped.{a_program, IsWellShaped}
+use Rattle.mini_accept.specs.WellShaped as shaped
+use Rattle.mini_accept.specs.WellShaped.{a_program, IsWellShaped}
 use Rattle.mini_accept.specs.Places.{at}
 use Rattle.mini_accept.specs.Accept.{program_at, Accepts}
-use Rattle.mini_written.specs.Written.{tree_data, program_data}
+use Rattle.mini_writer.specs.Written.{tree_data, program_data}
 use Rattle.mini_round_trip.specs.Bare.{bare}
 use Rattle.mini_round_trip.proofs.Units.{has_units}
 use Rattle.mini_round_trip.proofs.Read.{ReadsBack}

@@ -10,8 +10,8 @@ use Rattle.mini_model.specs.declared.kind.PropertyKind.{PropertyKind}
 use Rattle.mini_model.specs.declared.shape.Shape.{Shape}
 use Rattle.mini_model.specs.declared.shape.Shape.TheVariants as shape
 use Rattle.mini_model.specs.Tree.{Tree, node, Trees, none, ◌▸◌}
-use Rattle.mini_structure.specs.WellShaped as shaped
-use Rattle.mini_structure.specs.WellShaped.{Class, Slot, these, in_body, a_statement, fits, is_init, is_same_spelling, spelling, without_default, value_class, names_constructor, slots_of}
+use Rattle.mini_accept.specs.WellShaped as shaped
+use Rattle.mini_accept.specs.WellShaped.{Class, Slot, these, in_body, a_statement, fits, is_init, is_same_spelling, spelling, without_default, value_class, names_constructor, slots_of}
 use Rattle.mini_accept.specs.declared.kind.Kind.TheVariants as kind
 use Rattle.mini_accept.specs.Places.{at, field}
 use Rattle.mini_accept.specs.Standing.{stands_as}
@@ -20,8 +20,8 @@ use Rattle.mini_accept.specs.Plans.{Child, tree_at, inner_at, one}
 use Rattle.mini_accept.specs.Expressions as table
 use Rattle.mini_accept.specs.Expressions.{identifier_text, is_name_with_default}
 use Rattle.mini_accept.specs.Functions as function
-use Rattle.mini_written.specs.Objects as objects
-use Rattle.mini_written.specs.Written.{tree_data, trees_data, node_data}
+use Rattle.mini_writer.specs.Objects as objects
+use Rattle.mini_writer.specs.Written.{tree_data, trees_data, node_data}
 use Rattle.mini_round_trip.proofs.Read.{ChildBack, no_children, ◌&◌, plain_back}
 use Rattle.mini_round_trip.proofs.Fits.{Fit, Filled, node_fits, fit_more, and_false, with_one, with_two, with_list}
 use Rattle.mini_round_trip.proofs.Slots.{Back, child_back, optional_back, each_back}

@@ -8,7 +8,7 @@ use Rattle.mini_model.specs.declared.shape.Shape.{Shape}
 use Rattle.mini_model.specs.declared.shape.Shape.TheVariants as shape
 use Rattle.mini_model.specs.Paths.{append}
 use Rattle.mini_model.specs.Tree.{Tree, node, Trees, none, ◌▸◌, absent, listed, shape_of}
-use Rattle.mini_structure.specs.WellShaped.{Class, a_program, is_strict_in}
+use Rattle.mini_accept.specs.WellShaped.{Class, a_program, is_strict_in}
 use Rattle.mini_accept.specs.Faults.{Defect, Fault, ◌>>=◌}
 use Rattle.mini_accept.specs.declared.kind.Kind.{Kind}
 use Rattle.mini_accept.specs.Places.{Step, step_text, down, Place, at}

@@ -7,8 +7,8 @@ use Rattle.serde_json.specs.Find.{get, get_item, as_array, as_null}
 use Rattle.mini_model.specs.declared.shape.Shape.{Shape}
 use Rattle.mini_model.specs.declared.shape.Shape.TheVariants as shape
 use Rattle.mini_model.specs.Tree.{Tree, node, Trees, none, ◌▸◌, absent, node_count, node_counts, shape_of}
-use Rattle.mini_structure.specs.WellShaped as shaped
-use Rattle.mini_structure.specs.WellShaped.{Class, fits, fill, is_last}
+use Rattle.mini_accept.specs.WellShaped as shaped
+use Rattle.mini_accept.specs.WellShaped.{Class, fits, fill, is_last}
 use Rattle.mini_accept.specs.Faults.{Fault}
 use Rattle.mini_accept.specs.Places.{Step, step_text, field, place, down, Place, at}
 use Rattle.mini_accept.specs.Fields.{is_object, is_there, is_given, has_type, is_one_of, no_item}
@@ -16,7 +16,7 @@ use Rattle.mini_accept.specs.Plans.{Part, hole, tree_at, inner_at, one, ItemPart
 use Rattle.mini_accept.specs.Accept.{Read, read_below, below_by, reads}
 use Rattle.mini_accept.proofs.Results.{ok_same, bind_ok, under_ok}
 use Rattle.mini_accept.proofs.Types.{types_at}
-use Rattle.mini_written.specs.Written.{tree_data, trees_data}
+use Rattle.mini_writer.specs.Written.{tree_data, trees_data}
 use Rattle.mini_round_trip.specs.Bare.{bare, bares}
 use Rattle.mini_round_trip.proofs.Units.{has_units, have_units}
 use Rattle.mini_round_trip.proofs.Read.{PartBack, PartsBack, ChildBack, no_parts, more_parts, one_child, list_child, Stands, read_planned, read_stands, stands_object, stands_apart}

@@ -8,8 +8,8 @@ use Rattle.mini_model.specs.declared.kind.VariableDeclarationKind.TheVariants as
 use Rattle.mini_model.specs.declared.shape.Shape.{Shape}
 use Rattle.mini_model.specs.declared.shape.Shape.TheVariants as shape
 use Rattle.mini_model.specs.Tree.{Tree, node, Trees, none, ◌▸◌, count, is_absent, child_or_absent, children}
-use Rattle.mini_structure.specs.WellShaped as shaped
-use Rattle.mini_structure.specs.WellShaped.{Class, Slot, Depth, in_module, in_body, nested, a_statement, these, each, is_strict_in}
+use Rattle.mini_accept.specs.WellShaped as shaped
+use Rattle.mini_accept.specs.WellShaped.{Class, Slot, Depth, in_module, in_body, nested, a_statement, these, each, is_strict_in}
 use Rattle.mini_accept.specs.declared.kind.Kind.TheVariants as kind
 use Rattle.mini_accept.specs.declared.kind.Kind.{Kind}
 use Rattle.mini_accept.specs.Places.{at}
@@ -18,8 +18,8 @@ use Rattle.mini_accept.specs.Standing.{stands_as, is_statement_in, statement_typ
 use Rattle.mini_accept.specs.Plans as plans
 use Rattle.mini_accept.specs.Plans.{Child, Plan}
 use Rattle.mini_accept.specs.Entries.{entry}
-use Rattle.mini_written.specs.Objects as objects
-use Rattle.mini_written.specs.Written.{tree_data, trees_data, node_data}
+use Rattle.mini_writer.specs.Objects as objects
+use Rattle.mini_writer.specs.Written.{tree_data, trees_data, node_data}
 use Rattle.mini_round_trip.proofs.Read.{ReadsBack, ChildrenBack, no_children, ◌&◌, plain_back, is_quiet}
 use Rattle.mini_round_trip.proofs.Fits.{Fit, Filled, with_none, with_one, with_two, with_three, with_four, with_list, with_optional}
 use Rattle.mini_round_trip.proofs.Slots.{Back, is_apart, child_back, optional_back, each_back, fit_object, there_given}

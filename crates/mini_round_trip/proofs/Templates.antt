@@ -4,20 +4,20 @@ use Rattle.std.specs.Prelude.{Option, Some, None, option_map, is_some, nat_eq, �
 use Rattle.std.proofs.lemmas.Bool.{and_parts, and_from, false≢true}
 use Rattle.serde_json.specs.Data.{Data, array}
 use Rattle.mini_text.specs.Texts.{bytes_of, are_units}
-use Rattle.mini_templates.specs.Templates.{cooked}
+use Rattle.mini_literals.specs.Templates.{cooked}
 use Rattle.mini_model.specs.declared.shape.Shape.{Shape}
 use Rattle.mini_model.specs.declared.shape.Shape.TheVariants as shape
 use Rattle.mini_model.specs.Tree.{Tree, node, Trees, none, ◌▸◌, count, children, child_or_absent}
-use Rattle.mini_structure.specs.WellShaped as shaped
-use Rattle.mini_structure.specs.WellShaped.{Class, Tagging, tagged, untagged, these, is_quasi, are_quasis, is_quasi_by, is_same_flag, is_paired, is_paired_cooked, is_text_of_cooked}
+use Rattle.mini_accept.specs.WellShaped as shaped
+use Rattle.mini_accept.specs.WellShaped.{Class, Tagging, tagged, untagged, these, is_quasi, are_quasis, is_quasi_by, is_same_flag, is_paired, is_paired_cooked, is_text_of_cooked}
 use Rattle.mini_accept.specs.declared.kind.Kind.TheVariants as kind
 use Rattle.mini_accept.specs.Places.{Step, down, at, a_quasi}
 use Rattle.mini_accept.specs.Fields.{item_count}
 use Rattle.mini_accept.specs.Standing.{stands_as}
 use Rattle.mini_accept.specs.Expressions as table
 use Rattle.mini_accept.specs.Expressions.{cooked_by, quasi_part, piece_part, tagging_of, may_be_cooked}
-use Rattle.mini_written.specs.Objects as objects
-use Rattle.mini_written.specs.Written.{tree_data, trees_data, cooked_text}
+use Rattle.mini_writer.specs.Objects as objects
+use Rattle.mini_writer.specs.Written.{tree_data, trees_data, cooked_text}
 use Rattle.mini_round_trip.proofs.Units.{are_units_if_some, has_units, have_units}
 use Rattle.mini_round_trip.proofs.Read.{ReadsBack, PartBack, node_back, no_children, ◌&◌, plain_back, tree_back}
 use Rattle.mini_round_trip.proofs.Fits.{Filled, with_two, with_list}

@@ -7,11 +7,11 @@ use Rattle.mini_model.specs.declared.name.Name.{Name}
 use Rattle.mini_model.specs.declared.shape.Shape.{Shape}
 use Rattle.mini_model.specs.declared.shape.Shape.TheVariants as shape
 use Rattle.mini_model.specs.Tree.{Tree, node, Trees, none, ◌▸◌, node_counts, shape_of}
-use Rattle.mini_structure.specs.WellShaped as shaped
-use Rattle.mini_structure.specs.WellShaped.{Class, Slot, these, filling_by, inner_slots, has_names, a_statement, are_paired}
+use Rattle.mini_accept.specs.WellShaped as shaped
+use Rattle.mini_accept.specs.WellShaped.{Class, Slot, these, filling_by, inner_slots, has_names, a_statement, are_paired}
 use Rattle.mini_accept.specs.Places.{Step, down, at}
 use Rattle.mini_accept.specs.Plans.{tree_at, inner_at}
-use Rattle.mini_written.specs.Written.{tree_data, body}
+use Rattle.mini_writer.specs.Written.{tree_data, body}
 use Rattle.mini_round_trip.proofs.Units.{all_are_units}
 use Rattle.mini_round_trip.proofs.Read.{ReadsBack, PartBack, Stands, read_stands, stands_object, stands_apart, tree_back, inner_back}
 use Rattle.mini_round_trip.proofs.Fits.{Fit, Filled, NodeFits, node_fits, and_false, with_inner}

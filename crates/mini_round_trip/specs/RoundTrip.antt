@@ -2,9 +2,9 @@
 use Rattle.std.specs.Prelude.{◌≡◌}
 use Rattle.serde_json.specs.Data.{Data}
 use Rattle.mini_model.specs.Tree.{Tree}
-use Rattle.mini_structure.specs.WellShaped.{IsWellShaped}
+use Rattle.mini_accept.specs.WellShaped.{IsWellShaped}
 use Rattle.mini_accept.specs.Accept.{Accepts}
-use Rattle.mini_written.specs.Written.{program_data}
+use Rattle.mini_writer.specs.Written.{program_data}
 use Rattle.mini_round_trip.specs.Bare.{bare}
 
 -- what is written for a well-shaped tree is accepted as this tree, but for its numbers and symbols

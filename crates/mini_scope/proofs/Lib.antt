@@ -4,3 +4,7 @@ mod Walk
 mod Counting
 mod Refused
 mod Kept
+mod Places
+mod Earlier
+mod EarlyWalk
+mod Folds

@@ -7,7 +7,7 @@ ghost use Rattle.mini_names.specs.Scopes.{use_of as use_at};
 ghost use Rattle.mini_names.specs.References.{references, references_from, reads as is_read, writes as is_write, one_more, counted, counts_of};
 ghost use Rattle.mini_scope.specs.Own.{is_reference_shape, symbol_by};
 
-use mini_early::use_of;
+use crate::use_of;
 use mini_model::{Name, Shape, SymbolId};
 use mini_names::Use;
 use mini_node::{Node, Nodes};

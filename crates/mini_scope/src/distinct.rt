@@ -5,7 +5,7 @@ ghost use Rattle.mini_model.specs.declared.name.Name.{Name as NameOf};
 ghost use Rattle.mini_names.specs.DeclaredNames.{with_names};
 ghost use Rattle.mini_scope.specs.ScopeAt.{bound};
 
-use mini_early::Environment;
+use crate::Environment;
 use mini_model::Name;
 use mini_names::{Binding, Use};
 use mini_text::OutOfMemory;

@@ -8,7 +8,7 @@ ghost use Rattle.mini_names.specs.declared.Use.TheVariants as variant;
 ghost use Rattle.mini_scope.specs.ScopeAt.{scope_at};
 
 use crate::opening::OpenScopes;
-use mini_early::{Environment, use_of};
+use crate::{Environment, use_of};
 use mini_model::Shape;
 use mini_names::Use;
 use mini_node::{Node, Nodes};

@@ -8,7 +8,7 @@ ghost use Rattle.mini_names.specs.DeclaredNames.{names_of, body_names};
 ghost use Rattle.mini_names.specs.Scopes.{opened, at_or_empty, scopes_by, name_if, lexical_scope as scope_of_names, body_scope as scope_of_body, merged};
 
 use crate::distinct::scope_of;
-use mini_early::{has_inner, opening_of, push_body_names, push_names};
+use crate::{has_inner, opening_of, push_body_names, push_names};
 use mini_model::Name;
 use mini_names::{Binding, Declared, Opening, Use};
 use mini_node::Node;

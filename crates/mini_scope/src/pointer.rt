@@ -2,10 +2,10 @@
 
 ghost use Rattle.std.specs.Prelude.{◌≡◌, ◌+◌, ◌∷◌, decimal};
 ghost use Rattle.mini_model.specs.Tree.{children, shape_of};
-ghost use Rattle.mini_errors.specs.Faults.{fault_of};
+ghost use Rattle.mini_text.specs.Faults.{fault_of};
 ghost use Rattle.mini_scope.specs.Pointers.{picked, key_of as key_in, step_text, shift_below as shift_in, pointer_in, IsBelow};
 
-use mini_errors::MinifyError;
+use mini_text::MinifyError;
 use mini_model::Shape;
 use mini_node::Node;
 use std::alloc::Global;

@@ -1,8 +1,8 @@
 //! The resolution of a program that has no early error.
 
 ghost use Rattle.std.specs.Prelude.{◌≡◌, ◌+◌, ◌<◌, ◌^◌, None, Some, length, IfErr, IfOk, IfSome, OnOk};
-ghost use Rattle.mini_early.specs.Errors.{Stands};
-ghost use Rattle.mini_errors.specs.Faults.{fault_of};
+ghost use Rattle.mini_scope.specs.Errors.{Stands};
+ghost use Rattle.mini_text.specs.Faults.{fault_of};
 ghost use Rattle.mini_names.specs.declared.Use.TheVariants as variant;
 ghost use Rattle.mini_names.specs.References.{references};
 ghost use Rattle.mini_names.specs.Resolved.{resolved_program, symbols};
@@ -13,8 +13,8 @@ use crate::count::fresh_counts;
 use crate::numbering::resolve_program;
 use crate::pointer::under_path;
 use crate::scopes::Scopes;
-use mini_early::{EarlyError, check_early};
-use mini_errors::{MinifyError, early_jump, early_name};
+use crate::{EarlyError, check_early};
+use mini_text::{MinifyError, early_jump, early_name};
 use mini_node::Node;
 use std::alloc::Global;
 

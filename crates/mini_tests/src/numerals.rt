@@ -1,4 +1,4 @@
-use mini_numerals::{decimal, equivalent_number};
+use mini_literals::{decimal, equivalent_number};
 use mini_text::Text;
 use std::test::Fail;
 

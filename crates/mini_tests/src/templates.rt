@@ -1,4 +1,4 @@
-use mini_templates::{concat_template_literal_raw, cook, escape_string_for_template_literal};
+use mini_literals::{concat_template_literal_raw, cook, escape_string_for_template_literal};
 use mini_text::{OutOfMemory, Text, TextList};
 use std::alloc::Global;
 use std::test::Fail;

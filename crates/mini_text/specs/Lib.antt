@@ -1,3 +1,4 @@
 pub mod Lends
 pub mod Texts
 pub mod formers
+pub mod Faults

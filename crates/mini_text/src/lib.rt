@@ -1,16 +1,18 @@
-//! Lists that own their items, texts in UTF-16 units, and names.
+//! Lists that own their items, texts in UTF-16 units, names, and why a program is refused, and where.
 #![tactic(auto)]
 
 mod boxed;
+mod error;
 mod laws;
 mod list;
 mod memory;
 mod name;
+mod text;
 #[cfg(test)]
 mod tests;
-mod text;
 
 pub use boxed::BoxedText;
+pub use error::{MinifyError, Pointer, bad_shape, early_jump, early_name, too_deep, unsupported};
 pub use laws::{bytes_of_units, names_are_paired, units_of_bytes};
 pub use list::OwnedList;
 pub use memory::OutOfMemory;

@@ -7,8 +7,8 @@ use Rattle.serde_json.specs.declared.value.Value.{Value}
 use Rattle.mini_text.specs.Texts.{bytes_of}
 use Rattle.mini_model.specs.Tree.{Tree, node_count, node_counts}
 use Rattle.mini_node.specs.Children.{trees_of}
-use Rattle.mini_written.specs.Objects.{directive}
-use Rattle.mini_written.specs.Written.{tree_data, trees_data, with_directives}
+use Rattle.mini_writer.specs.Objects.{directive}
+use Rattle.mini_writer.specs.Written.{tree_data, trees_data, with_directives}
 
 -- what was written of the items before
 pub with_values : List Value → Items → Items

@@ -7,10 +7,10 @@ use Rattle.mini_model.specs.declared.shape.Shape.{Shape}
 use Rattle.mini_model.specs.declared.shape.Shape.TheVariants as shape
 use Rattle.mini_model.specs.declared.operator.BinaryOperator.TheVariants as BinaryOperator
 use Rattle.mini_model.specs.declared.kind.PropertyKind.TheVariants as PropertyKind
-use Rattle.mini_written.specs.declared.members.Key.TheVariants as key
-use Rattle.mini_written.specs.Objects as objects
-use Rattle.mini_written.specs.Words.{unary_word, update_word, binary_word, logical_word, assignment_word, variable_word, property_word, method_word}
-use Rattle.mini_written.specs.Written.{of_one, of_two, of_three, of_four, node_data}
+use Rattle.mini_writer.specs.declared.members.Key.TheVariants as key
+use Rattle.mini_writer.specs.Objects as objects
+use Rattle.mini_writer.specs.Words.{unary_word, update_word, binary_word, logical_word, assignment_word, variable_word, property_word, method_word}
+use Rattle.mini_writer.specs.Written.{of_one, of_two, of_three, of_four, node_data}
 use Rattle.mini_writer.specs.Rows.{Row, row_data, row}
 use Rattle.mini_writer.specs.Special.{special_data}
 

@@ -3,8 +3,8 @@ use Rattle.std.proofs.Common.{◌≡◌, Bool, List, [], ◌∷◌, ◌++◌, re
 use Rattle.serde_json.specs.Data.{Data, null}
 use Rattle.serde_json.specs.View.{view, items_view}
 use Rattle.serde_json.specs.declared.value.Value.{Value}
-use Rattle.mini_written.specs.Objects as objects
-use Rattle.mini_written.specs.Written.{of_one, of_two, of_three, of_four, class}
+use Rattle.mini_writer.specs.Objects as objects
+use Rattle.mini_writer.specs.Written.{of_one, of_two, of_three, of_four, class}
 
 pub only_one : (f : Data → Data) (vs rest : List Value) (v : Value) → vs ≡ rest ++ v ∷ [] → rest ≡ [] → of_one f (items_view vs) ≡ f (view v)
 only_one f vs rest v is none = rw (is, none) refl

@@ -4,10 +4,10 @@ use Rattle.std.specs.Prelude.{ℕ, List, [], ◌∷◌, codes, true, false, Opti
 use Rattle.serde_json.specs.Data.{Data, null, boolean, string, array, object, Items, no_items, item, Members, no_members, member, put}
 use Rattle.mini_model.specs.declared.shape.Shape.{Shape}
 use Rattle.mini_model.specs.declared.shape.Shape.TheVariants as shape
-use Rattle.mini_written.specs.declared.members.Key as key_type
-use Rattle.mini_written.specs.declared.members.Key.TheVariants as key
-use Rattle.mini_written.specs.Keys.{key_text}
-use Rattle.mini_written.specs.Words.{unary_word, update_word, binary_word, logical_word, assignment_word, variable_word, property_word, method_word}
+use Rattle.mini_writer.specs.declared.members.Key as key_type
+use Rattle.mini_writer.specs.declared.members.Key.TheVariants as key
+use Rattle.mini_writer.specs.Keys.{key_text}
+use Rattle.mini_writer.specs.Words.{unary_word, update_word, binary_word, logical_word, assignment_word, variable_word, property_word, method_word}
 
 abbrev pub Field : Type 0
 Field = key_type.Key × Data

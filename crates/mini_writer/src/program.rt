@@ -2,7 +2,7 @@
 
 ghost use Rattle.std.specs.Prelude.{◌≡◌, IfOk};
 ghost use Rattle.serde_json.specs.View.{view};
-ghost use Rattle.mini_written.specs.Written.{program_data};
+ghost use Rattle.mini_writer.specs.Written.{program_data};
 
 use crate::walk::value;
 use mini_node::Node;
@@ -14,7 +14,7 @@ use std::alloc::Global;
 /// ES2022), its directives as the first statements of its body. Numbers and symbols aren't written.
 ///
 /// The only error is that memory runs out.
-#[tactic(auto, unfolding(mini_written::specs::Written::program_data))]
+#[tactic(auto, unfolding(crate::specs::Written::program_data))]
 pub fn write_program(alloc: Global, program: &Node) -> Result<Value, OutOfMemory>
     ensures { IfOk result (λ v. view v ≡ program_data program.now) }
 {

@@ -3,7 +3,7 @@
 ghost use Rattle.std.specs.Prelude.{◌≡◌, IfOk};
 ghost use Rattle.serde_json.specs.View.{view, items_view};
 ghost use Rattle.mini_node.specs.Children.{names};
-ghost use Rattle.mini_written.specs.Written.{tree_data, node_data};
+ghost use Rattle.mini_writer.specs.Written.{tree_data, node_data};
 
 use crate::objects::row_value;
 use crate::rows::row_for;

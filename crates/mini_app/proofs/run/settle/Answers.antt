@@ -2,7 +2,7 @@ use Rattle.std.proofs.Common.{◌≡◌, arith}
 use Rattle.std.specs.Prelude.{None}
 use Rattle.std.proofs.lemmas.Grind.{common_steps}
 use Rattle.serde_json.specs.View.{view}
-use Rattle.mini_errors.specs.Faults.{fault_of}
+use Rattle.mini_text.specs.Faults.{fault_of}
 use Rattle.mini_fits.proofs.Counted.{bytes_fit}
 use Rattle.mini_app.proofs.Told.{defect_of}
 use Rattle.mini_app.proofs.run.settle.Goals as goal

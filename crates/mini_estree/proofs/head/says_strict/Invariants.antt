@@ -1,5 +1,5 @@
 use Rattle.std.proofs.Common.{◌≡◌, drop}
-use Rattle.mini_structure.specs.WellShaped.{has_use_strict}
+use Rattle.mini_accept.specs.WellShaped.{has_use_strict}
 use Rattle.mini_estree.proofs.head.says_strict.Given as goal
 
 abbrev pub invariant-loop-text : goal.invariant-loop-text

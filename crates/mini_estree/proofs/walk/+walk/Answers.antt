@@ -2,7 +2,7 @@ use Rattle.std.proofs.Common.{◌≡◌, ◌<◌, ◌-◌, ◌∙◌, sym, arith
 use Rattle.std.specs.Prelude.{Ok}
 use Rattle.std.specs.Result.{result_err}
 use Rattle.serde_json.specs.View.{view}
-use Rattle.mini_structure.specs.WellShaped.{is_strict_in}
+use Rattle.mini_accept.specs.WellShaped.{is_strict_in}
 use Rattle.mini_accept.specs.Accept.{reads, read_children}
 use Rattle.mini_fields.specs.Views.{place_of}
 use Rattle.mini_plan.specs.Views.{child_of, plan_of}

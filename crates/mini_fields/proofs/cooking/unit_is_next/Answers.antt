@@ -1,5 +1,5 @@
 use Rattle.std.proofs.Common.{ap, ◌∷◌, []}
-use Rattle.mini_structure.specs.WellShaped.{is_text}
+use Rattle.mini_accept.specs.WellShaped.{is_text}
 use Rattle.mini_fields.specs.Cooking.{units_left}
 use Rattle.mini_fields.proofs.Cooked.{next_unit, next_utf8, no_unit, begins_nowhere}
 use Rattle.mini_fields.proofs.cooking.unit_is_next.Goals as goal

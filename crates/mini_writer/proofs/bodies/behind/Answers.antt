@@ -1,6 +1,6 @@
 use Rattle.std.proofs.Common.{◌≡◌, ◌<◌, ◌≤◌, length, get_or}
 use Rattle.serde_json.specs.View.{items_view}
-use Rattle.mini_written.specs.Written.{with_directives}
+use Rattle.mini_writer.specs.Written.{with_directives}
 use Rattle.mini_writer.proofs.Lists.{directive_step, behind_end}
 use Rattle.mini_writer.proofs.bodies.behind.Goals as goal
 

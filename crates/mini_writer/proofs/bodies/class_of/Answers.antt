@@ -1,7 +1,7 @@
 use Rattle.std.proofs.Common.{◌≡◌, IfOk, sym, subst}
 use Rattle.serde_json.specs.Data.{Data}
 use Rattle.serde_json.specs.View.{view}
-use Rattle.mini_written.specs.Objects as objects
+use Rattle.mini_writer.specs.Objects as objects
 use Rattle.mini_writer.proofs.bodies.class_of.Goals as goal
 
 pub returns-in-Some : goal.returns-in-Some

@@ -1,7 +1,7 @@
 use Rattle.std.proofs.Common.{◌≡◌, drop}
 use Rattle.mini_model.specs.Tree.{children, node_count}
 use Rattle.mini_node.specs.Children.{trees_of}
-use Rattle.mini_written.specs.Written.{trees_data}
+use Rattle.mini_writer.specs.Written.{trees_data}
 use Rattle.mini_writer.proofs.Lists.{with_values}
 use Rattle.mini_writer.proofs.walk.+value.Given as goal
 

@@ -1,4 +1,0 @@
-mod Places
-mod Earlier
-mod Walk
-mod Folds

@@ -1,7 +1,0 @@
-use Rattle.std.proofs.Common.{◌≡◌, take, length}
-use Rattle.mini_early.specs.Buckets.{bucket_of, places}
-use Rattle.mini_early.proofs.Places.{through}
-use Rattle.mini_early.proofs.environment.Environment.symbol_of.Given as goal
-
-abbrev pub invariant-loop-place : goal.invariant-loop-place
-invariant-loop-place l = (l.found ≡ through l.usage l.spelling l.self-inside.bindings.items (take l.place-index l.place-items)) × (l.place-items ≡ places (length l.self-inside.buckets.items) (bucket_of (length l.self-inside.buckets.items) l.spelling) 0 l.self-inside.bindings.items)

@@ -1,5 +1,0 @@
-use Rattle.std.proofs.Common.{length}
-use Rattle.mini_early.proofs.targets.+has_label.Given as goal
-
-abbrev pub decreases-has_label : goal.decreases-has_label
-decreases-has_label l = length l.labels.now

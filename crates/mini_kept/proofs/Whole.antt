@@ -1,0 +1,61 @@
+-- Any number of rewrites of a program.
+use Rattle.std.specs.Prelude.{ℕ, ◌≡◌, ◌≤◌, ◌||◌, refl, Bool, true, false, List, []}
+use Rattle.std.proofs.Common.{arith, subst}
+use Rattle.mini_model.specs.declared.place.Position.{Position}
+use Rattle.mini_model.specs.declared.place.Position.TheVariants.{Elsewhere}
+use Rattle.mini_model.specs.Tree.{Tree, shape_of}
+use Rattle.mini_model.specs.Redex.{Contracts}
+use Rattle.mini_model.specs.Rewriting.{Step, Reaches, done, more}
+use Rattle.mini_accept.specs.WellShaped.{a_program, one, IsWellShaped}
+use Rattle.mini_names.specs.declared.Use.TheVariants.{Read}
+use Rattle.mini_names.specs.DeclaredNames.{is_inner}
+use Rattle.mini_names.specs.Symbols.{declared_symbols}
+use Rattle.mini_names.specs.Early.{no_targets}
+use Rattle.mini_names.proofs.Changes.{distinct}
+use Rattle.mini_kept.proofs.Steps.{step_fits}
+use Rattle.mini_kept.specs.KeepsNames.{Keeps, Stands}
+use Rattle.mini_kept.specs.Lifted.{ProgramKeeps}
+use Rattle.mini_kept.proofs.Using.{also}
+use Rattle.mini_kept.proofs.Stepping.{step_keeps}
+use Rattle.mini_kept.proofs.Instances.{contracts_keep}
+
+program_stands : (t : Tree) → Stands Elsewhere Read t
+program_stands t = also (is_inner (shape_of t)) true refl
+
+program_step : (t u : Tree) → Step Contracts Elsewhere t u → IsWellShaped t → IsWellShaped u
+program_step t u s e = step_fits s false (one a_program) e
+
+program_keeps : (t u : Tree) → Step Contracts Elsewhere t u → IsWellShaped t → Keeps Elsewhere t u
+program_keeps t u s e = step_keeps Contracts contracts_keep s false (one a_program) e
+
+one_step : (t u : Tree) → Step Contracts Elsewhere t u → ProgramKeeps t u
+one_step t u s = record {
+  shaped = program_step t u s;
+  scoped = λ e. (program_keeps t u s e).scoped Read [] (program_stands t);
+  distinct = λ e. distinct Read t u (program_keeps t u s e).kept;
+  symbols = λ e. (program_keeps t u s e).kept.symbols Read;
+  numbers = λ e. (program_keeps t u s e).numbers;
+  once = λ e. (program_keeps t u s e).once [];
+  targets = λ e. (program_keeps t u s e).targets no_targets [];
+}
+
+no_step : (t : Tree) → ProgramKeeps t t
+no_step t = record { shaped = λ e. e; scoped = λ e r. r; distinct = λ e d. d; symbols = λ e x. omega arith; numbers = λ e k. omega arith; once = λ e o. o; targets = λ e o. o }
+
+both_steps : (t u v : Tree) → ProgramKeeps t u → ProgramKeeps u v → ProgramKeeps t v
+both_steps t u v a b = record {
+  shaped = λ e. b.shaped (a.shaped e);
+  scoped = λ e r. b.scoped (a.shaped e) (a.scoped e r);
+  distinct = λ e d. b.distinct (a.shaped e) (a.distinct e d);
+  symbols = λ e x. omega (arith, a.symbols e x, b.symbols (a.shaped e) x);
+  numbers = λ e k. omega (arith, a.numbers e k, b.numbers (a.shaped e) k);
+  once = λ e o. b.once (a.shaped e) (a.once e o);
+  targets = λ e o. b.targets (a.shaped e) (a.targets e o);
+}
+
+reached : (p : Position) (t u : Tree) → Reaches Contracts p t u → p ≡ Elsewhere → ProgramKeeps t u
+reached _ _ _ (done p t) e = no_step t
+reached _ _ _ (more p t u v s r) e = both_steps t u v (one_step t u (subst (λ q. Step Contracts q t u) e s)) (reached p u v r e)
+
+pub reaches_keep : (t u : Tree) → Reaches Contracts Elsewhere t u → ProgramKeeps t u
+reaches_keep t u r = reached Elsewhere t u r refl

@@ -1,0 +1,49 @@
+-- What a relation of rewriting has to keep of the nodes that it replaces, for a program to keep it.
+use Rattle.std.specs.Prelude.{ℕ, ◌≡◌, ◌≤◌, Bool, true, false, []}
+use Rattle.mini_model.specs.declared.place.Position.{Position}
+use Rattle.mini_model.specs.declared.place.Position.TheVariants.{Elsewhere}
+use Rattle.mini_model.specs.declared.shape.Shape.{Shape}
+use Rattle.mini_model.specs.declared.shape.Shape.TheVariants as shape
+use Rattle.mini_model.specs.Tree.{Tree, shape_of}
+use Rattle.mini_model.specs.Redex.{Contracts}
+use Rattle.mini_model.specs.Rewriting.{Step, Reaches}
+use Rattle.mini_accept.specs.WellShaped.{Slot, fits, IsWellShaped}
+use Rattle.mini_names.specs.declared.Use.TheVariants.{Read}
+use Rattle.mini_names.specs.Scoped.{Scoped}
+use Rattle.mini_names.specs.Symbols.{declared_symbols, Distinct, Within}
+use Rattle.mini_names.specs.Early.{no_targets}
+use Rattle.mini_kept.specs.Carried.{numbers as numbers_of}
+use Rattle.mini_kept.specs.KeepsNames.{is_rewritten_place, Keeps, NamesOnce, HasTargets, count_of}
+
+-- a piece of a template's text
+abbrev pub is_piece : Shape → Bool
+is_piece (shape.TemplateElement tail raw c) = true
+is_piece h = false
+
+-- it replaces expressions and statements alone, and what it writes keeps what the node, where it may stand, has
+pub record KeepsNames (R : Position → Tree → Tree → Type 0) : Type 0 where
+  pub places : (p : Position) (n w : Tree) → R p n w → is_rewritten_place p ≡ true
+  pub pieces : (p : Position) (n w : Tree) → R p n w → is_piece (shape_of n) ≡ false
+  pub keeps : (p : Position) (n w : Tree) → R p n w → (strict : Bool) (s : Slot) → fits strict s n ≡ true → Keeps p n w
+
+-- so does a step at any place of a tree that may stand where it does
+abbrev pub StepKeepsNames : (Position → Tree → Tree → Type 0) → Type 0
+StepKeepsNames R = KeepsNames R → (p : Position) (t u : Tree) → Step R p t u → (strict : Bool) (s : Slot) → fits strict s t ≡ true → Keeps p t u
+
+-- What any number of rewrites keep of a program: it stays one, each name in it has the symbol that the scopes around it give,
+-- no symbol is declared twice, no number stands in it more often, and it has no early error
+pub record ProgramKeeps (t u : Tree) : Type 0 where
+  pub shaped : IsWellShaped t → IsWellShaped u
+  pub scoped : IsWellShaped t → Scoped Read [] t → Scoped Read [] u
+  pub distinct : IsWellShaped t → Distinct (declared_symbols t) → Distinct (declared_symbols u)
+  pub symbols : IsWellShaped t → Within (declared_symbols u) (declared_symbols t)
+  pub numbers : IsWellShaped t → (k : ℕ) → count_of k (numbers_of u) ≤ count_of k (numbers_of t)
+  pub once : IsWellShaped t → NamesOnce [] t → NamesOnce [] u
+  pub targets : IsWellShaped t → HasTargets no_targets [] t → HasTargets no_targets [] u
+
+abbrev pub ReachesKeepsNames : Type 0
+ReachesKeepsNames = (t u : Tree) → Reaches Contracts Elsewhere t u → ProgramKeeps t u
+
+-- each row's instances keep what they must
+abbrev pub RowsKeepNames : Type 0
+RowsKeepNames = KeepsNames Contracts

@@ -1,6 +1,0 @@
-use Rattle.mini_meaning.specs.Bodies.{bodies_in}
-use Rattle.mini_kept_bodies.proofs.Lists.{kept_stands}
-use Rattle.mini_kept_bodies.proofs.bodies_stand.Goals as goal
-
-pub returns : goal.returns
-returns c t u k b = kept_stands (bodies_in t) (bodies_in u) k b

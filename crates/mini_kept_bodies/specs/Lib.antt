@@ -1,4 +1,0 @@
-pub mod Alike
-pub mod Standing
-pub mod Keeps
-pub mod Laws

@@ -1,5 +1,0 @@
-use Rattle.mini_kept_names.proofs.Carrying.{numbers_carried}
-use Rattle.mini_kept_names.proofs.numbers_carried.Goals as goal
-
-pub returns : goal.returns
-returns c = numbers_carried

@@ -1,5 +1,0 @@
-use Rattle.mini_kept_names.proofs.Whole.{reaches_keep}
-use Rattle.mini_kept_names.proofs.rewriting_keeps_names.Goals as goal
-
-pub returns : goal.returns
-returns c = reaches_keep

@@ -1,5 +1,0 @@
-use Rattle.mini_kept_names.proofs.Instances.{contracts_keep}
-use Rattle.mini_kept_names.proofs.rows_keep_names.Goals as goal
-
-pub returns : goal.returns
-returns c = contracts_keep

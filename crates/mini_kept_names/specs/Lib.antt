@@ -1,4 +1,0 @@
-pub mod Carried
-pub mod Laws
-pub mod Keeps
-pub mod Lifted

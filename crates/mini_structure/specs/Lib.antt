@@ -1,3 +1,0 @@
-pub mod WellShaped
-pub mod Examples
-pub mod Programs

@@ -1,5 +1,0 @@
-pub mod Keys
-pub mod Objects
-pub mod Words
-pub mod Written
-pub mod Examples
