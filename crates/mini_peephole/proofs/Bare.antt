@@ -7,7 +7,7 @@ use Rattle.mini_model.specs.declared.name.Name.{Name}
 use Rattle.mini_model.specs.declared.shape.Shape.{Shape}
 use Rattle.mini_model.specs.declared.shape.Shape.TheVariants as shape
 use Rattle.mini_model.specs.Tree.{Tree, Trees, node, none, ◌▸◌, children}
-use Rattle.mini_accept.specs.WellShaped.{Tagging, Class, a_program, Slot, one, Filling, refused, these, each, each_or_last, pieces, filling, class_of, is_whole, is_numbered, has_names, has_plain_fields, has_its_parts, is_strict_in, is_quasi_by, is_quasi, are_quasis, is_last, fits, fill, IsWellShaped}
+use Rattle.mini_accept.specs.WellShaped.{Tagging, Class, a_program, Slot, one, Filling, refused, these, each, each_or_last, pieces, filling, class_of, is_whole, has_its_number, has_names, has_plain_fields, has_its_parts, is_strict_in, is_quasi_by, is_quasi, are_quasis, is_last, fits, fill, IsWellShaped}
 use Rattle.mini_accept.specs.Numbered.{next_after, next_among, number_after}
 use Rattle.mini_accept.specs.Symbols.{are_unresolved, has_no_symbol, have_no_symbol}
 use Rattle.mini_round_trip.specs.Bare.{bare_name, bare, bares}
@@ -37,37 +37,32 @@ mutual
 
 -- ---- no shape that is supported has a number
 
-not_numbered : (c : Class) (h : Shape) → is_supported_shape h ≡ true → is_numbered c h ≡ false
-not_numbered c (shape.Program m ds) e = absurd (cc e)
-not_numbered c (shape.Function d g ds) e = absurd (cc e)
-not_numbered c (shape.ArrowFunctionExpression ds) e = absurd (cc e)
-not_numbered c (shape.Class d) e = absurd (cc e)
-not_numbered c shape.StaticBlock e = absurd (cc e)
-not_numbered c shape.InnerExpression e = absurd (cc e)
-not_numbered c (shape.RegExpLiteral pattern flags) e = absurd (cc e)
-not_numbered c shape.PrivateInExpression e = absurd (cc e)
-not_numbered c shape.SuperCallExpression e = absurd (cc e)
-not_numbered c shape.SuperStaticMemberExpression e = absurd (cc e)
-not_numbered c shape.SuperComputedMemberExpression e = absurd (cc e)
-not_numbered c (shape.PrivateFieldExpression optional) e = absurd (cc e)
-not_numbered c shape.TaggedTemplateExpression e = absurd (cc e)
-not_numbered c (shape.MetaProperty k) e = absurd (cc e)
-not_numbered c shape.ImportExpression e = absurd (cc e)
-not_numbered c shape.ObjectPattern e = absurd (cc e)
-not_numbered c shape.ArrayPattern e = absurd (cc e)
-not_numbered c shape.ObjectAssignmentTarget e = absurd (cc e)
-not_numbered c shape.ArrayAssignmentTarget e = absurd (cc e)
-not_numbered c shape.AssignmentPattern e = absurd (cc e)
-not_numbered c h e = refl
-
-zero_by : (a b : Bool) → a ≡ false → (a || b) ≡ true → b ≡ true
-zero_by true b e f = absurd (cc e)
-zero_by false b e f = f
+not_numbered : (c : Class) (h : Shape) (n : ℕ) → is_supported_shape h ≡ true → has_its_number c h n ≡ true → (n == 0) ≡ true
+not_numbered c (shape.Program m ds) n e f = absurd (cc e)
+not_numbered c (shape.Function d g ds) n e f = absurd (cc e)
+not_numbered c (shape.ArrowFunctionExpression ds) n e f = absurd (cc e)
+not_numbered c (shape.Class d) n e f = absurd (cc e)
+not_numbered c shape.StaticBlock n e f = absurd (cc e)
+not_numbered c shape.InnerExpression n e f = absurd (cc e)
+not_numbered c (shape.RegExpLiteral pattern flags) n e f = absurd (cc e)
+not_numbered c shape.PrivateInExpression n e f = absurd (cc e)
+not_numbered c shape.SuperCallExpression n e f = absurd (cc e)
+not_numbered c shape.SuperStaticMemberExpression n e f = absurd (cc e)
+not_numbered c shape.SuperComputedMemberExpression n e f = absurd (cc e)
+not_numbered c (shape.PrivateFieldExpression optional) n e f = absurd (cc e)
+not_numbered c shape.TaggedTemplateExpression n e f = absurd (cc e)
+not_numbered c (shape.MetaProperty k) n e f = absurd (cc e)
+not_numbered c shape.ImportExpression n e f = absurd (cc e)
+not_numbered c shape.ObjectPattern n e f = absurd (cc e)
+not_numbered c shape.ArrayPattern n e f = absurd (cc e)
+not_numbered c shape.ObjectAssignmentTarget n e f = absurd (cc e)
+not_numbered c shape.ArrayAssignmentTarget n e f = absurd (cc e)
+not_numbered c shape.AssignmentPattern n e f = absurd (cc e)
+not_numbered c h n e f = f
 
 no_number : (c : Class) (h : Shape) (xs : List Name) (n : ℕ) (ts : Trees) → is_supported_shape h ≡ true → is_whole c h xs n ts ≡ true → (n == 0) ≡ true
 no_number c h xs n ts s e =
-    let others = right (has_names h xs) ((is_numbered c h || n == 0) && (has_plain_fields h && has_its_parts c h ts)) e in
-    zero_by (is_numbered c h) (n == 0) (not_numbered c h s) (left (is_numbered c h || n == 0) (has_plain_fields h && has_its_parts c h ts) others)
+    not_numbered c h n s (left (has_its_number c h n) (has_plain_fields h && has_its_parts c h ts) (right (has_names h xs) (has_its_number c h n && (has_plain_fields h && has_its_parts c h ts)) e))
 
 quasi_unnumbered : (g : Tagging) (last : Bool) (t : Tree) → is_quasi g last t ≡ true → each_node unnumbered t ≡ true
 quasi_unnumbered g last (node h [] n none) e = both (n == 0) true (left (n == 0) (has_plain_fields h) (right (is_quasi_by g last h) ((n == 0) && has_plain_fields h) e)) refl

@@ -13,7 +13,7 @@ use Rattle.mini_model.specs.declared.shape.Shape.TheVariants as shape
 use Rattle.mini_model.specs.Tree.{Tree, Trees, node, none, ◌▸◌, shape_of}
 use Rattle.mini_model.specs.Weight.{program_weight}
 use Rattle.mini_model.specs.Redex.{HasNoRedex}
-use Rattle.mini_meaning.specs.Value.{nothing}
+use Rattle.mini_meaning.specs.Value.{nth, nothing}
 use Rattle.mini_meaning.specs.State.{Environment}
 use Rattle.mini_meaning.specs.Body.{BodyKind, Program, SameBody, environment_of, frame_of}
 use Rattle.mini_tree.specs.declared.options.CompressOptions.{CompressOptions}
@@ -58,11 +58,6 @@ abbrev mutual
 abbrev pub HasNoRepeat : List ℕ → Type 0
 HasNoRepeat [] = Unit {0}
 HasNoRepeat (k ∷ ks) = (Contains ks k → ⊥) × HasNoRepeat ks
-
-abbrev pub nth : {A : Type 0} → List A → ℕ → Option A
-nth [] k = None
-nth (x ∷ xs) zero = Some x
-nth (x ∷ xs) (suc k) = nth xs k
 
 -- a numbered node and what became of it: the frame is the same, and so is its body, in whatever the later program shares
 -- with the outside

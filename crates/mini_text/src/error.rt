@@ -4,7 +4,7 @@ ghost use Rattle.std.specs.Prelude.{◌≡◌, ◌↔◌, [], ◌∷◌, ◌++�
 ghost use Rattle.mini_text.specs.Faults.{pointer_text, fault_of, name_of_defect, IsUnder, item_step, bad_shape as wrong_shape, unsupported as unsupported_form, too_deep as deeper_than_allowed, early_name as name_is_early, early_jump as jump_is_early};
 ghost use Rattle.mini_text.specs.declared.error.MinifyError.TheVariants.{OutOfMemory};
 
-use mini_text::OutOfMemory as NoMemory;
+use crate::OutOfMemory as NoMemory;
 use std::alloc::{AllocError, AllocFailed, Global};
 use thiserror::Error;
 
