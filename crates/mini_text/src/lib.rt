@@ -7,9 +7,9 @@ mod laws;
 mod list;
 mod memory;
 mod name;
-mod text;
 #[cfg(test)]
 mod tests;
+mod text;
 
 pub use boxed::BoxedText;
 pub use error::{MinifyError, Pointer, bad_shape, early_jump, early_name, too_deep, unsupported};
