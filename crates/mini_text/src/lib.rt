@@ -7,8 +7,6 @@ mod laws;
 mod list;
 mod memory;
 mod name;
-#[cfg(test)]
-mod tests;
 mod text;
 
 pub use boxed::BoxedText;

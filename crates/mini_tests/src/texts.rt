@@ -1,4 +1,6 @@
-use super::*;
+// Texts, names and lists.
+
+use mini_text::{BoxedText, Name, Numbers, Text, is_identifier_name};
 use std::test::Fail;
 
 #[test]
