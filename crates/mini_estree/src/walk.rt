@@ -15,12 +15,11 @@ ghost use Rattle.mini_estree.specs.Reads.{Blames, Gives, fault_told, onto};
 use crate::head::{is_strict_in, name, shape, takes_number};
 use crate::parts::{Form, down, form_of, item_part};
 use crate::planned::plan;
-use mini_text::{MinifyError, bad_shape, too_deep, unsupported};
 use mini_fields::{Defect, Place};
 use mini_model::Shape;
 use mini_node::{Node, Nodes};
 use mini_plan::{Below, Head, Items, Part, Plan, Step};
-use mini_text::OutOfMemory;
+use mini_text::{MinifyError, OutOfMemory, bad_shape, too_deep, unsupported};
 use serde_json::Value;
 use std::alloc::Global;
 

@@ -8,9 +8,9 @@ ghost use Rattle.mini_peephole.specs.Faithful.{Faithful, PassesBounded};
 ghost use Rattle.mini_peephole.specs.Minified.{IsMinified, IsRewriting, IsRefusal};
 
 use crate::supported::is_supported;
-use mini_text::unsupported;
 use mini_estree::{MinifyError, Numbered, read_program};
 use mini_logic::{MinimizeConditional, MinimizeIf, MinimizeUnary};
+use mini_text::unsupported;
 use mini_tree::{CompressOptions, Numbers, OutOfMemory, Program, discard};
 use mini_walk::{Passes, Then, run_passes};
 use mini_writer::write_program;

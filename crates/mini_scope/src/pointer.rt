@@ -5,9 +5,9 @@ ghost use Rattle.mini_model.specs.Tree.{children, shape_of};
 ghost use Rattle.mini_text.specs.Faults.{fault_of};
 ghost use Rattle.mini_scope.specs.Pointers.{picked, key_of as key_in, step_text, shift_below as shift_in, pointer_in, IsBelow};
 
-use mini_text::MinifyError;
 use mini_model::Shape;
 use mini_node::Node;
+use mini_text::MinifyError;
 use std::alloc::Global;
 
 fn pick(

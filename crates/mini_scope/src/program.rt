@@ -14,8 +14,8 @@ use crate::numbering::resolve_program;
 use crate::pointer::under_path;
 use crate::scopes::Scopes;
 use crate::{EarlyError, check_early};
-use mini_text::{MinifyError, early_jump, early_name};
 use mini_node::Node;
+use mini_text::{MinifyError, early_jump, early_name};
 use std::alloc::Global;
 
 /// The refusal of a program that has this early error.

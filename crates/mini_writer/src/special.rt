@@ -12,10 +12,10 @@ ghost use Rattle.mini_writer.specs.Special.{special_data};
 ghost use Rattle.mini_writer.specs.Written.{of_one};
 
 use crate::bodies::{arrow, class, function, program};
+use crate::{Key, Member, key_text, node, plain_object, text_value, unary_word};
 use itoa::Buffer;
 use mini_model::{Name, Shape, UnaryOperator};
 use mini_text::{BoxedText, Text};
-use crate::{Key, Member, key_text, node, plain_object, text_value, unary_word};
 use serde_json::{Map, Value, put};
 use std::alloc::{AllocError, Global};
 
