@@ -57,11 +57,13 @@ impl From<io::Error> for EchoError {
 
 /// The text of the program that a text says, as compact JSON.
 ///
-/// The text must be JSON (`NotJson`) of a program that is read and whose nodes nest at most 1000 deep (`Refused`).
-pub fn echoed(alloc: Global, text: &str) -> Result<String, EchoError>
-    ensures { IfOk result (λ s. IsEcho text.now (string_bytes s)) }
+/// The text must be JSON (`NotJson`) of a program that is read and whose nodes nest at most 1000 deep (`Refused`). It is let go
+/// as soon as its value is there.
+pub fn echoed(alloc: Global, text: String) -> Result<String, EchoError>
+    ensures { IfOk result (λ s. IsEcho (string_bytes text) (string_bytes s)) }
 {
-    let value = Value::from_str(alloc, text)?;
+    let value = Value::from_str(alloc, text.as_str())?;
+    drop(text);
     let program = read_program(alloc, &value, MAX_DEPTH)?;
     drop(value);
     let back = write_program(alloc, &program.root);
@@ -69,10 +71,11 @@ pub fn echoed(alloc: Global, text: &str) -> Result<String, EchoError>
     Ok(back?.to_string(alloc)?)
 }
 
-/// The text of the value that a text says, as compact JSON.
-pub fn same_json(alloc: Global, text: &str) -> Result<String, EchoError>
-    ensures { IfOk result (λ s. IsSameJson text.now (string_bytes s)) }
+/// The text of the value that a text says, as compact JSON. The text is let go as soon as its value is there.
+pub fn same_json(alloc: Global, text: String) -> Result<String, EchoError>
+    ensures { IfOk result (λ s. IsSameJson (string_bytes text) (string_bytes s)) }
 {
-    let value = Value::from_str(alloc, text)?;
+    let value = Value::from_str(alloc, text.as_str())?;
+    drop(text);
     Ok(value.to_string(alloc)?)
 }

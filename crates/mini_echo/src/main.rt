@@ -25,9 +25,9 @@ fn start(rt: &HostRuntime) -> Result<(), EchoError> {
     }
     let text = io::read_to_string(alloc, rt.stdin())?;
     let back = if plain {
-        same_json(alloc, text.as_str())?
+        same_json(alloc, text)?
     } else {
-        echoed(alloc, text.as_str())?
+        echoed(alloc, text)?
     };
     rt.stdout().write_all(back.as_bytes())?;
     Ok(())
