@@ -7,7 +7,7 @@ use Rattle.mini_tree.specs.declared.options.CompressOptions.{CompressOptions}
 use Rattle.mini_accept.specs.Faults as estree
 use Rattle.mini_accept.proofs.Results.{ok_same}
 use Rattle.mini_text.specs.Faults.{Fault}
-use Rattle.mini_peephole.specs.Supported.{is_supported}
+use Rattle.mini_scope.specs.Pointers.{early_fault}
 use Rattle.mini_peephole.specs.Minified.{HasDefect}
 use Rattle.mini_app.specs.Answer.{Change, Gave, HasFault, IsNotJson, IsDelivered, IsDue, IsValidInput, IsAnswered}
 use Rattle.mini_app.specs.Words.{NameOptions}
@@ -54,9 +54,9 @@ no_defect words o source input valid name gave f has =
     let defect : HasDefect valid.value valid.options f = rw (value, names_one words valid.options o valid.name name) has.defect in
     elim defect [
       | inl unread ↦ cc (sym valid.accepted ∙ unread.read)
-      | inr beyond ↦
-          let same : valid.program ≡ beyond.program = ap (λ x. x.0) (ok_same {E = estree.Fault} _ _ (sym valid.accepted ∙ beyond.read)) in
-          cc (sym valid.supported ∙ ap is_supported same ∙ beyond.beyond)
+      | inr early ↦
+          let same : valid.program ≡ early.program = ap (λ x. x.0) (ok_same {E = estree.Fault} _ _ (sym valid.accepted ∙ early.read)) in
+          cc (sym valid.free ∙ ap early_fault same ∙ early.early)
     ]
 
 pub answered_of : (s : Status) (words : List (List ℕ)) (source sink notes : Change) → IsDue s words source sink notes → IsValidInput words source.before → IsAnswered s source.faults_before source.faults_after sink.faults_before sink.faults_after

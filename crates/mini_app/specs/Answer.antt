@@ -8,10 +8,10 @@ use Rattle.serde_json.specs.Read.{read}
 use Rattle.mini_model.specs.Tree.{Tree}
 use Rattle.mini_tree.specs.declared.options.CompressOptions.{CompressOptions}
 use Rattle.mini_accept.specs.Accept.{program_at}
+use Rattle.mini_scope.specs.Pointers.{early_fault}
 use Rattle.mini_text.specs.Faults.{Fault, fault_of, name_of_defect}
 use Rattle.mini_peephole.specs.Faithful.{Faithful, PassesBounded}
 use Rattle.mini_peephole.specs.Minified.{IsMinified, HasDefect}
-use Rattle.mini_peephole.specs.Supported.{is_supported}
 use Rattle.mini_peephole.specs.declared.minify.Minified.{Minified}
 use Rattle.mini_app.specs.Causes.{Rose, GrewWithin}
 use Rattle.mini_app.specs.Words.{NameOptions, GoodWords}
@@ -128,7 +128,7 @@ IsDue NotJson words source sink notes = IsDueOfAll NotJson words source sink not
 IsDue Refused words source sink notes = IsDueOfAll Refused words source sink notes
 
 -- The words are good; the source tells its bytes, which aren't too many; and they are JSON of a program that is read
--- under the options that the words name, and has no shape that can't be answered for.
+-- under the options that the words name, and has no early error.
 pub record IsValidInput (words : List (List ℕ)) (before : Option (List ℕ)) : Type 0 where
   pub options : CompressOptions
   pub name : NameOptions words options
@@ -141,7 +141,7 @@ pub record IsValidInput (words : List (List ℕ)) (before : Option (List ℕ)) :
   pub program : Tree
   pub numbers : ℕ
   pub accepted : program_at options.max_depth value ≡ Ok (program, numbers)
-  pub supported : is_supported program ≡ true
+  pub free : early_fault program ≡ None
 
 -- the answer was written, unless memory ran out, or the source or the sink failed, as their counts of faults show
 abbrev pub IsAnswered : Status → ℕ → ℕ → ℕ → ℕ → Type 0

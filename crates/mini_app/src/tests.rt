@@ -24,11 +24,11 @@ const MODULE: &str = "{\"type\":\"Program\",\"sourceType\":\"module\",\"body\":[
 const MODULE_ANSWER: &str =
     "{\"kept\":[0],\"passes\":1,\"program\":{\"body\":[],\"sourceType\":\"module\",\"type\":\"Program\"},\"settled\":true,\"symbols\":[]}\n";
 
-// `var a;`, which declares a name
-const DECLARATION: &str =
-    "{\"type\":\"Program\",\"sourceType\":\"script\",\"body\":[{\"type\":\"VariableDeclaration\",\"kind\":\"var\",\"declarations\":[{\"type\":\"VariableDeclarator\",\"id\":{\"type\":\"Identifier\",\"name\":\"a\"},\"init\":null}]}]}";
+// `break;`, which has no loop around it
+const JUMP: &str =
+    "{\"type\":\"Program\",\"sourceType\":\"script\",\"body\":[{\"type\":\"BreakStatement\",\"label\":null}]}";
 
-const NOTE: &str = "refused: Unsupported at \n";
+const NOTE: &str = "refused: EarlyJump at /body/0\n";
 
 // `a;`, whose identifier is at depth 3
 const NAME: &str =
@@ -194,7 +194,7 @@ fn other_bytes_are_no_json(rt: HostRuntime) -> Result<(), Fail> {
 
 #[test]
 fn other_json_is_refused(rt: HostRuntime) -> Result<(), Fail> {
-    check_refused(&rt, rt.alloc(), DECLARATION, NOTE)?;
+    check_refused(&rt, rt.alloc(), JUMP, NOTE)?;
     for input in ["-1", "1.0", "9007199254740991", "9007199254740992"] {
         check_refused(&rt, rt.alloc(), input, SHAPELESS)?;
     }
@@ -283,7 +283,7 @@ fn run_statements(alloc: Global, call: u32) -> Result<Ended, Fail> {
 
 // A run of the declaration, at whose notes the call of this number fails.
 fn run_declaration(alloc: Global, call: u32) -> Result<Ended, Fail> {
-    let input = source(alloc, DECLARATION.as_bytes(), 10, &[])?;
+    let input = source(alloc, JUMP.as_bytes(), 10, &[])?;
     let output = sink(alloc, ROOM, 10, &[])?;
     let notes = sink(alloc, ROOM, 10, &[call])?;
     Ok(run_over(alloc, &Words::new(alloc), input, output, notes))

@@ -1,6 +1,6 @@
 -- A program with the numbers and symbols of another: a number stands for a place in a list of numbers, a symbol for a place
 -- in a list of symbols.
-use Rattle.std.specs.Prelude.{ℕ, zero, suc, ◌≡◌, List, [], ◌∷◌, ◌++◌, Option}
+use Rattle.std.specs.Prelude.{ℕ, zero, suc, ◌≡◌, List, [], ◌∷◌, ◌++◌, Option, Some, None}
 use Rattle.mini_model.specs.declared.name.Name.{Name}
 use Rattle.mini_model.specs.declared.name.SymbolId.{SymbolId}
 use Rattle.mini_model.specs.declared.shape.Shape.{Shape}
@@ -37,6 +37,12 @@ abbrev pub number_at : List ℕ → ℕ → ℕ
 number_at [] n = 0
 number_at (k ∷ ks) zero = k
 number_at (k ∷ ks) (suc n) = number_at ks n
+
+-- the numbers of symbols
+abbrev pub symbol_numbers : List (Option SymbolId) → List ℕ
+symbol_numbers [] = []
+symbol_numbers (None ∷ ss) = symbol_numbers ss
+symbol_numbers (Some s ∷ ss) = s.0 ∷ symbol_numbers ss
 
 -- the tree with the numbers and symbols that stand at those places
 abbrev pub carried : List ℕ → List (Option SymbolId) → Tree → Tree

@@ -1,48 +1,55 @@
--- When an answer is faithful to the program that it was made from. Stated for any number of numbered nodes and symbols.
+-- When an answer is faithful to the program that it was made from.
 --
--- Not told yet: of the bodies, the program's alone is compared. The programs that can be answered for have no other, and
--- declare no name. Early errors are not looked for, as a `break` outside loops: what is told of a program that has one is
--- what it would do without it.
-use Rattle.std.specs.Prelude.{◌≡◌, ℕ, zero, suc, ◌+◌, ◌<◌, ◌≤◌, max, true, false, List, [], ◌∷◌, ◌++◌, Contains, Option, Some, None}
+-- Both are compared in the numbers and symbols of the earlier one: the later program is resolved, and each number and symbol
+-- in it is replaced by the one that it stands for.
+use Rattle.std.specs.Prelude.{◌≡◌, ℕ, suc, ◌+◌, ◌<◌, ◌≤◌, max, true, false, List, [], ◌∷◌, ◌++◌, map, length, ◌⊎◌, Contains, Option, Some, None}
 use Rattle.serde_json.specs.Data.{Data}
 use Rattle.serde_json.specs.View.{view}
 use Rattle.mini_model.specs.declared.name.Name.{Name}
+use Rattle.mini_model.specs.declared.name.SymbolId.{SymbolId}
 use Rattle.mini_model.specs.declared.place.Position.TheVariants.{Elsewhere}
 use Rattle.mini_model.specs.declared.shape.Shape.{Shape}
 use Rattle.mini_model.specs.declared.shape.Shape.TheVariants as shape
-use Rattle.mini_model.specs.Tree.{Tree, Trees, node, none, ◌▸◌, shape_of}
+use Rattle.mini_model.specs.Tree.{Tree, Trees, node, none, ◌▸◌}
 use Rattle.mini_model.specs.Weight.{program_weight}
 use Rattle.mini_model.specs.Redex.{HasNoRedex}
-use Rattle.mini_meaning.specs.Value.{nth, nothing}
-use Rattle.mini_meaning.specs.State.{Environment}
-use Rattle.mini_meaning.specs.Body.{BodyKind, Program, SameBody, environment_of, frame_of}
+use Rattle.mini_names.specs.Resolved.{resolved_program}
+use Rattle.mini_names.specs.Symbols.{declared_symbols}
+use Rattle.mini_names.specs.Early.{early_names, early_jumps, no_targets}
+use Rattle.mini_meaning.specs.Value.{Value, Variable, VariableSet, Slot}
+use Rattle.mini_meaning.specs.State.{Answer, Environment}
+use Rattle.mini_meaning.specs.Same.{Initialised}
+use Rattle.mini_meaning.specs.Body.{BodyKind, Run, start_of, frame_of}
+use Rattle.mini_meaning.specs.Bodies.{Body, bodies_in}
 use Rattle.mini_tree.specs.declared.options.CompressOptions.{CompressOptions}
 use Rattle.mini_accept.specs.Accept.{Accepts}
+use Rattle.mini_kept.specs.Carried.{numbers, carried}
+use Rattle.mini_peephole.specs.Environments.{shared_by, foreign_to, initialised_for, environment_with}
 use Rattle.mini_peephole.specs.declared.minify.Minified.{Minified}
 
--- the nodes that have a number, in preorder, so that each stands at its number: the program, whose number is 0, and those
--- below it that have another
-abbrev mutual
-  pub numbered_below : Tree → List Tree
-  numbered_below (node h xs zero ts) = numbered_all ts
-  numbered_below (node h xs (suc n) ts) = node h xs (suc n) ts ∷ numbered_all ts
+-- the earlier program: each name has its symbol
+abbrev pub earlier : Tree → Tree
+earlier t = resolved_program t
 
-  pub numbered_all : Trees → List Tree
-  numbered_all none = []
-  numbered_all (t ▸ ts) = numbered_below t ++ numbered_all ts
+-- the later one, in the earlier one's numbers and symbols
+abbrev pub symbols_of : List ℕ → List (Option SymbolId)
+symbols_of ns = map (λ n. Some (record { 0 = n })) ns
 
-abbrev pub numbered : Tree → List Tree
-numbered (node h xs n ts) = node h xs n ts ∷ numbered_all ts
+abbrev pub later : Minified → Tree → Tree
+later m u = carried m.kept (symbols_of m.symbols) (resolved_program u)
 
--- which kind of body a numbered node has, if any: a program's is compared
-abbrev pub body_of_shape : Shape → Option BodyKind
-body_of_shape (shape.Program m ds) = Some Program
-body_of_shape _ = None
+-- ---- numbers and symbols
 
-abbrev pub body_of : Tree → Option BodyKind
-body_of t = body_of_shape (shape_of t)
+abbrev pub HasNoRepeat : List ℕ → Type 0
+HasNoRepeat [] = Unit {0}
+HasNoRepeat (k ∷ ks) = (Contains ks k → ⊥) × HasNoRepeat ks
 
--- the names that a tree declares, in the order of their symbols
+-- the program itself comes first
+abbrev pub BeginsWithProgram : List ℕ → Type 0
+BeginsWithProgram [] = ⊥
+BeginsWithProgram (k ∷ ks) = k ≡ 0
+
+-- the names that a tree declares
 abbrev pub declared_by : Shape → List Name → List Name
 declared_by shape.BindingIdentifier xs = xs
 declared_by _ xs = []
@@ -55,33 +62,34 @@ abbrev mutual
   declared_all none = []
   declared_all (t ▸ ts) = declared t ++ declared_all ts
 
-abbrev pub HasNoRepeat : List ℕ → Type 0
-HasNoRepeat [] = Unit {0}
-HasNoRepeat (k ∷ ks) = (Contains ks k → ⊥) × HasNoRepeat ks
+-- `kept` has a number of the earlier tree for each numbered node of the later, the program's first, and none twice; `symbols`
+-- has one for each symbol that its scopes declare, and none twice
+pub record AreNamed (kept symbols : List ℕ) (t u : Tree) : Type 0 where
+  pub begins : BeginsWithProgram kept
+  pub each_node : length kept ≡ suc (length (numbers u))
+  pub kept_there : (k : ℕ) → Contains kept k → Contains (0 ∷ numbers t) k
+  pub kept_once : HasNoRepeat kept
+  pub each_symbol : length symbols ≡ length (declared_symbols (resolved_program u))
+  pub symbols_once : HasNoRepeat symbols
 
--- a numbered node and what became of it: the frame is the same, and so is its body, in whatever the later program shares
--- with the outside
-pub record IsKept (e : Environment) (t u : Tree) : Type 0 where
-  pub frame : frame_of t ≡ frame_of u
-  pub kind : body_of t ≡ body_of u
-  pub body : (k : BodyKind) → body_of u ≡ Some k → SameBody e k nothing t u
+-- ---- bodies
 
--- each later node is what became of the earlier one whose number is named
-abbrev pub AreKept : Environment → List Tree → List ℕ → List Tree → Type 0
-AreKept e ts [] [] = Unit {0}
-AreKept e ts (k ∷ ks) (u ∷ us) = ((t : Tree) × (nth ts k ≡ Some t) × IsKept e t u) × AreKept e ts ks us
-AreKept e ts _ _ = ⊥
+-- from each start that initialises X, with every `this`, every list of answers and every number of turns, the earlier body's
+-- run is outside the model, or the later one's is the same; each runs in its own program
+pub record RunsAlike (e f : Environment) (k : BodyKind) (X : VariableSet) (n w : Tree) : Type 0 where
+  pub by : (vars : Variable → Slot) (this : Value) (answers : List Answer) (turns : ℕ) → Initialised X (start_of vars this answers turns) → (Run e k n vars this answers turns ≡ None) ⊎ (Run e k n vars this answers turns ≡ Run f k w vars this answers turns)
 
--- each later symbol is spelled as the earlier one whose number is named
-abbrev pub AreSpelled : List Name → List ℕ → List Name → Type 0
-AreSpelled xs [] [] = Unit {0}
-AreSpelled xs (k ∷ ks) (y ∷ ys) = ((x : Name) × (nth xs k ≡ Some x) × (x.spelling ≡ y.spelling)) × AreSpelled xs ks ys
-AreSpelled xs _ _ = ⊥
+-- a body of a later program and the one of an earlier that it stands for; what is shared and foreign is the later one's
+pub record IsSameBody (t u : Tree) (b c : Body) : Type 0 where
+  pub number : b.number ≡ c.number
+  pub kind : b.kind ≡ c.kind
+  pub same : RunsAlike (environment_with t (shared_by u c) (foreign_to u c) b) (environment_with u (shared_by u c) (foreign_to u c) c) c.kind (initialised_for u c) b.root c.root
 
--- the program itself comes first
-abbrev pub BeginsWithProgram : List ℕ → Type 0
-BeginsWithProgram [] = ⊥
-BeginsWithProgram (k ∷ ks) = k ≡ 0
+-- each body of the later program stands for one of the earlier
+abbrev pub BodiesAreSame : Tree → Tree → Type 0
+BodiesAreSame t u = (c : Body) → Contains (bodies_in u) c → (b : Body) × Contains (bodies_in t) b × IsSameBody t u b c
+
+-- ---- the whole
 
 -- how often a pass may be made; 0 is read as 1
 abbrev pub pass_bound : CompressOptions → ℕ
@@ -89,18 +97,23 @@ pass_bound o = max o.passes 1
 
 -- what is said of the two trees
 pub record IsFaithful (o : CompressOptions) (m : Minified) (t u : Tree) : Type 0 where
-  -- what became of each numbered node, and of each symbol
-  pub begins : BeginsWithProgram m.kept
-  pub kept_once : HasNoRepeat m.kept
-  pub kept : AreKept (environment_of u) (numbered t) m.kept (numbered u)
-  pub symbols_once : HasNoRepeat m.symbols
-  pub symbols : AreSpelled (declared t) m.symbols (declared u)
+  -- the answer has no early error
+  pub names : early_names [] u ≡ []
+  pub jumps : early_jumps no_targets [] u ≡ []
+  -- which node and which symbol of the input each of its own was
+  pub named : AreNamed m.kept m.symbols t u
+  -- each name that it declares is one that the input declares, and spelled as there
+  pub spelled : (x : Name) → Contains (declared (later m u)) x → Contains (declared (earlier t)) x
+  -- the program's frame: whether it is a module, and its directives
+  pub frame : frame_of t ≡ frame_of u
+  -- each body does what the one does that it was
+  pub bodies : BodiesAreSame (earlier t) (later m u)
   -- it is no heavier
   pub weight : program_weight u ≤ program_weight t
   -- passes
   pub some_pass : 1 ≤ m.passes
   pub within : m.passes ≤ pass_bound o
-  pub settled : m.settled ≡ true → HasNoRedex Elsewhere u
+  pub settled : m.settled ≡ true → HasNoRedex Elsewhere (later m u)
   pub unsettled : m.settled ≡ false → program_weight u + pass_bound o ≤ program_weight t
 
 -- the value is a program, the answer's value is one, and the later one is faithful to the earlier
@@ -119,4 +132,4 @@ pub record PassesBounded (d : Data) (o : CompressOptions) (m : Minified) : Type 
   -- a bound above the program's weight always settles
   pub enough : (t : Tree) → Accepts d t → program_weight t < pass_bound o → m.settled ≡ true
   -- a program without a redex stays as it is, after one pass
-  pub fixed : (t : Tree) → Accepts d t → HasNoRedex Elsewhere t → Accepts (view m.program) t × (m.passes ≡ 1) × (m.settled ≡ true)
+  pub fixed : (t : Tree) → Accepts d t → HasNoRedex Elsewhere (resolved_program t) → Accepts (view m.program) t × (m.passes ≡ 1) × (m.settled ≡ true)

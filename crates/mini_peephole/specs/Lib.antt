@@ -1,3 +1,3 @@
-pub mod Supported
+pub mod Environments
 pub mod Minified
 pub mod Faithful

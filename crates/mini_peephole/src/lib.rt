@@ -2,9 +2,9 @@
 #![tactic(auto)]
 
 mod minify;
-mod supported;
+mod named;
 
 pub use mini_estree::{MinifyError, Pointer};
 pub use mini_tree::{CompressOptions, KeepNames, Numbers, OutOfMemory};
 pub use minify::{Minified, minify_estree};
-pub use supported::is_supported;
+pub use named::{numbers_of, symbols_of};

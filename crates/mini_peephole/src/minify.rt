@@ -1,16 +1,23 @@
 //! The library's top call: an ESTree value in, a lighter one out.
 
-ghost use Rattle.std.specs.Prelude.{◌≡◌, [], ◌∷◌, Ok, IfOk, IfErr, false};
+ghost use Rattle.std.specs.Prelude.{◌≡◌, ◌+◌, ◌<◌, ◌^◌, [], ◌∷◌, None, Some, length, IfOk, IfErr, IfSome, OnOk, false};
 ghost use Rattle.serde_json.specs.View.{view};
 ghost use Rattle.serde_json.specs.Written.{has_float};
 ghost use Rattle.mini_fits.specs.Fits.{Fits};
+ghost use Rattle.mini_names.specs.References.{references};
+ghost use Rattle.mini_names.specs.Resolved.{resolved_program, symbols};
+ghost use Rattle.mini_names.specs.Symbols.{declared_symbols};
+ghost use Rattle.mini_names.specs.declared.Use.TheVariants as variant;
+ghost use Rattle.mini_kept.specs.Carried.{numbers, symbol_numbers};
+ghost use Rattle.mini_scope.specs.Pointers.{early_fault};
+ghost use Rattle.mini_text.specs.Faults.{fault_of};
 ghost use Rattle.mini_peephole.specs.Faithful.{Faithful, PassesBounded};
 ghost use Rattle.mini_peephole.specs.Minified.{IsMinified, IsRewriting, IsRefusal};
 
-use crate::supported::is_supported;
+use crate::named::{numbers_of, symbols_of};
 use mini_estree::{MinifyError, Numbered, read_program};
 use mini_logic::{MinimizeConditional, MinimizeIf, MinimizeUnary};
-use mini_text::unsupported;
+use mini_scope::resolve;
 use mini_tree::{CompressOptions, Numbers, OutOfMemory, Program, discard};
 use mini_walk::{Passes, Then, run_passes};
 use mini_writer::write_program;
@@ -32,23 +39,6 @@ pub struct Minified {
     pub settled: bool,
 }
 
-// The answer for a program that is written.
-fn answer(alloc: Global, program: Value, made: Passes) -> Result<Minified, OutOfMemory>
-    ensures { IfOk result (λ m. m ≡ record { program = program; kept = 0 ∷ []; symbols = []; passes = made.passes; settled = made.settled }) }
-{
-    let mut kept = Numbers::new(alloc);
-    kept.push(0)?;
-    let symbols = Numbers::new(alloc);
-    let Passes { passes, settled } = made;
-    Ok(Minified {
-        program,
-        kept,
-        symbols,
-        passes,
-        settled,
-    })
-}
-
 // The rules, in the order in which a node is tried with them.
 const RULES: Then<MinimizeUnary, Then<MinimizeConditional, MinimizeIf>> = Then {
     first: MinimizeUnary,
@@ -58,26 +48,45 @@ const RULES: Then<MinimizeUnary, Then<MinimizeConditional, MinimizeIf>> = Then {
     },
 };
 
-// The answer for a tree, which is rewritten in place.
+// The answer for a resolved tree, which is rewritten in place.
 fn rewritten(alloc: Global, tree: &mut Program, max_passes: u32) -> Result<Minified, OutOfMemory>
     ensures ok { IfOk result (λ m. IsRewriting tree.old max_passes m) }
     ensures plain { IfOk result (λ m. has_float (view m.program) ≡ false) }
 {
-    let made = run_passes(&RULES, alloc, tree, max_passes, &mut ())?;
+    let Passes { passes, settled } = run_passes(&RULES, alloc, tree, max_passes, &mut ())?;
     let program = write_program(alloc, tree)?;
-    answer(alloc, program, made)
+    let kept = numbers_of(alloc, tree)?;
+    let symbols = symbols_of(alloc, tree)?;
+    Ok(Minified {
+        program,
+        kept,
+        symbols,
+        passes,
+        settled,
+    })
 }
 
-/// Reads a program from its ESTree value, rewrites it until nothing is left to rewrite or the passes of the options
-/// are made, and writes it.
+// The answer for a tree as it was read, which is resolved and rewritten in place.
+fn minified(alloc: Global, tree: &mut Program, max_passes: u32) -> Result<Minified, MinifyError>
+    requires symbols { symbols variant.Read tree.old < 2 ^ 32 }
+    requires references { length (references variant.Read tree.old) + 1 < 2 ^ 32 }
+    ensures free { OnOk result (early_fault tree.old ≡ None) }
+    ensures ok { IfOk result (λ m. IsRewriting (resolved_program tree.old) max_passes m) }
+    ensures plain { IfOk result (λ m. has_float (view m.program) ≡ false) }
+    ensures refused { IfErr result (λ e. IfSome (fault_of e) (λ f. early_fault tree.old ≡ Some f)) }
+{
+    let _scopes = resolve(alloc, tree)?;
+    Ok(rewritten(alloc, tree, max_passes)?)
+}
+
+/// Reads a program from its ESTree value, gives each name in it its symbol, rewrites it until nothing is left to rewrite or
+/// the passes of the options are made, and writes it.
 ///
 /// A value is refused exactly where it is no program that is read to the depth of the options, with the first defect and
-/// its pointer: `mini_accept::faults_are_there` says that the node at the pointer has the defect. A program that is read,
-/// and that can't be answered for yet (`is_supported`), is refused as `Unsupported` at the root. `OutOfMemory` may come in
-/// place of any answer.
+/// its pointer (`mini_accept::faults_are_there` says that the node at the pointer has the defect), or where its program has
+/// an early error, `EarlyName` or `EarlyJump`, with the first and its pointer. `OutOfMemory` may come in place of any answer.
 ///
 /// The value has to fit: `mini_fits::fits` tells, and what 16,777,216 bytes of JSON say does.
-#[tactic(auto, using(crate::proofs::Refused::refused_by_table, crate::proofs::Refused::refused_outside))]
 pub fn minify_estree(
     alloc: Global,
     program: &Value,
@@ -91,11 +100,7 @@ pub fn minify_estree(
     ensures refused { IfErr result (λ e. IsRefusal (view program.now) options.now e) }
 {
     let Numbered { mut root, .. } = read_program(alloc, program, options.max_depth)?;
-    if !is_supported(&root) {
-        discard(root);
-        return Err(unsupported(alloc));
-    }
-    let answer = rewritten(alloc, &mut root, options.passes);
+    let answer = minified(alloc, &mut root, options.passes);
     discard(root);
-    Ok(answer?)
+    answer
 }
