@@ -1,3 +1,5 @@
+pub mod Loads
+pub mod Declares
 pub mod Keys
 pub mod Lexed
 pub mod Counted
@@ -12,3 +14,4 @@ pub mod Literals
 pub mod Expressions
 pub mod Pieces
 pub mod Light
+pub mod Few

@@ -1,5 +1,5 @@
--- A tree that is read weighs little against the value that it was read from.
-use Rattle.std.proofs.Common.{◌≡◌, ℕ, zero, suc, ◌+◌, ◌<◌, ◌≤◌, ◌^◌, ◌⊎◌, inl, inr, List, [], ◌∷◌, refl, ap, sym, ◌∙◌, subst, codes, Bool, true, false, arith}
+-- A tree that is read is a small load against the value that it was read from.
+use Rattle.std.proofs.Common.{◌≡◌, ℕ, zero, suc, ◌+◌, ◌<◌, ◌≤◌, ◌^◌, ◌⊎◌, inl, inr, List, [], ◌∷◌, length, refl, ap, sym, ◌∙◌, subst, codes, Bool, true, false, arith}
 use Rattle.std.specs.Prelude.{⊤, option_map, Option, Some, None, Result, Ok, Err}
 use Rattle.std.proofs.lemmas.Bool.{false≢true}
 use Rattle.serde_json.specs.Data.{Data}
@@ -29,6 +29,7 @@ use Rattle.mini_accept.proofs.Results.{ok_same, bind_ok}
 use Rattle.mini_accept.proofs.Types.{type_name, kind_typed, typed_has, types_at, typed_there}
 use Rattle.mini_fits.specs.Fits.{Fits}
 use Rattle.mini_fits.proofs.Amounts.{amount}
+use Rattle.mini_fits.proofs.Loads.{load}
 use Rattle.mini_fits.proofs.Written.{own_light}
 use Rattle.mini_fits.proofs.Lists.{extra, IsLight}
 use Rattle.mini_fits.proofs.Plans.{Holds, LightIf, plain}
@@ -178,16 +179,16 @@ numbered_read false n h xs f x e =
     (0, n, y, read, tree_same (node h xs 0 y.0, y.1) x same)
 
 planned_light : (r : Reader) → IsLight r → (strict : Bool) (p : Place) (n : ℕ) (d : Data) (o : Result Plan Defect) (x : Tree × ℕ) → plan strict p d ≡ o → read_plan r strict p n d o ≡ Ok x
-    → (is_unread strict p d ≡ false) × ((π : Position) → weight π x.0 + extra p d + 13 ≤ amount d)
+    → (is_unread strict p d ≡ false) × ((π : Position) → load π x.0 + extra p d + 14 ≤ amount d)
 planned_light r light strict p n d (Err b) x is e = absurd (cc e)
 planned_light r light strict p n d (Ok o) x is e =
     let (read, holds) = plan_holds strict p d o is in
     let (m, l, y, below, same) = numbered_read (takes_number p o.shape) n o.shape o.names (λ j. read_children r (is_strict_in strict o.shape) d j o.children) x e in
-    (read, λ π. subst (λ (t : Tree). weight π t + extra p d + 13 ≤ amount d) same (holds r light (is_strict_in strict o.shape) l y below π (child_position o.shape π (count y.0))))
+    (read, λ π. subst (λ (t : Tree). load π t + extra p d + 14 ≤ amount d) same (omega (arith, holds r light (is_strict_in strict o.shape) l y below π (child_position o.shape π (count y.0)))))
 
--- what is planned where a name is declared is a name, which has no parts
+-- what is planned where a name is declared is one name, which has no parts
 abbrev IsNamed : Plan → Type 0
-IsNamed x = (x.shape ≡ shape.BindingIdentifier) × (x.children ≡ [])
+IsNamed x = (x.shape ≡ shape.BindingIdentifier) × (x.children ≡ []) × (length x.names ≤ 1)
 
 abbrev IsNamedIf : Option Plan → Type 0
 IsNamedIf None = ⊤
@@ -198,7 +199,7 @@ record NamedIf (o : Option Plan) : Type 0 where
 
 identifier_named : (o : Option (List ℕ)) → NamedIf (option_map (expression.identifier_in (at shaped.a_binding)) o)
 identifier_named None = record { named = tt }
-identifier_named (Some s) = record { named = (refl, refl) }
+identifier_named (Some s) = record { named = (refl, refl, omega arith) }
 
 entry_named : (d : Data) (k : Kind) → is_one_of (types_at (at shaped.a_binding)) (type_name k) ≡ true → NamedIf (entry k (at shaped.a_binding) d)
 entry_named d kind.Identifier e = identifier_named (name_at d)
@@ -220,28 +221,32 @@ unless_named false false o x f e = absurd (cc e)
 plan_named : (strict : Bool) (d : Data) (x : Plan) → plan strict (at shaped.a_binding) d ≡ Ok x → IsNamed x
 plan_named strict d x e = unless_named (is_unread strict (at shaped.a_binding) d) (may_stand (at shaped.a_binding) d) (plan_by strict (at shaped.a_binding) d (kind_of d)) x (kind_named strict d (kind_of d) x refl) e
 
-name_weight : (h : Shape) (xs : List Name) (m : ℕ) (ts : Trees) → h ≡ shape.BindingIdentifier → ts ≡ none → (π : Position) → weight π (node h xs m ts) ≤ 7
-name_weight h xs m ts is bare π = rw (is, bare) (omega (arith, own_light 2 π shape.BindingIdentifier xs [] (omega arith)))
+name_load : (h : Shape) (xs : List Name) (m : ℕ) (ts : Trees) → h ≡ shape.BindingIdentifier → length xs ≤ 1 → ts ≡ none → (π : Position) → load π (node h xs m ts) ≤ 11
+name_load h xs m ts is one bare π = rw (is, bare) (omega (arith, own_light 2 π shape.BindingIdentifier xs [] (omega arith)))
 
 no_children : (r : Reader) (strict : Bool) (d : Data) (n : ℕ) (cs : List Child) (y : Trees × ℕ) → cs ≡ [] → read_children r strict d n cs ≡ Ok y → y.0 ≡ none
 no_children r strict d n [] y is e = ap (λ v. v.0) (sym (ok_same {E = Fault} (none, n) y e))
 no_children r strict d n (c ∷ cs) y is e = absurd (cc is)
 
-named_light : (r : Reader) (strict : Bool) (n : ℕ) (d : Data) (o : Result Plan Defect) (x : Tree × ℕ) → plan strict (at shaped.a_binding) d ≡ o → read_plan r strict (at shaped.a_binding) n d o ≡ Ok x → (π : Position) → weight π x.0 ≤ 7
+named_light : (r : Reader) (strict : Bool) (n : ℕ) (d : Data) (o : Result Plan Defect) (x : Tree × ℕ) → plan strict (at shaped.a_binding) d ≡ o → read_plan r strict (at shaped.a_binding) n d o ≡ Ok x → (π : Position) → load π x.0 ≤ 11
 named_light r strict n d (Err b) x is e π = absurd (cc e)
 named_light r strict n d (Ok o) x is e π =
     let (m, l, y, below, same) = numbered_read (takes_number (at shaped.a_binding) o.shape) n o.shape o.names (λ j. read_children r (is_strict_in strict o.shape) d j o.children) x e in
-    let (name, bare) = plan_named strict d o is in
-    subst (λ (t : Tree). weight π t ≤ 7) same (name_weight o.shape o.names m y.0 name (no_children r (is_strict_in strict o.shape) d l o.children y bare below) π)
+    let (name, bare, one) = plan_named strict d o is in
+    subst (λ (t : Tree). load π t ≤ 11) same (name_load o.shape o.names m y.0 name one (no_children r (is_strict_in strict o.shape) d l o.children y bare below) π)
 
 reads_light : (k : ℕ) → IsLight (reads k)
 reads_light zero = record { whole = λ strict p n d x e. absurd (cc e); binding = λ strict n d x e. absurd (cc e) }
 reads_light (suc k) = record { whole = λ strict p n d x e. planned_light (reads k) (reads_light k) strict p n d (plan strict p d) x refl e; binding = λ strict n d x e. named_light (reads k) strict n d (plan strict (at shaped.a_binding) d) x refl e }
 
 -- 128 for each value and 2 for each unit
-pub accepted_weight : (d : Data) (t : Tree) → Accepts d t → (π : Position) → weight π t ≤ amount d
+pub accepted_load : (d : Data) (t : Tree) → Accepts d t → (π : Position) → load π t ≤ amount d
 unfolding program_at
-accepted_weight d t (k, n, e) π = omega (arith, ((reads_light k).whole false (at a_program) 0 d (t, n) e).1 π)
+accepted_load d t (k, n, e) π = omega (arith, ((reads_light k).whole false (at a_program) 0 d (t, n) e).1 π)
+
+-- that of what fits: 128 for each of 2^24 values and 2 for each of 2^24 units
+pub fitting_load : (d : Data) (t : Tree) → Accepts d t → Fits d → load Elsewhere t < 2 ^ 32
+fitting_load d t accepted small = let v = small.values in let u = small.units in omega (arith, accepted_load d t accepted Elsewhere)
 
 pub accepted_light : (d : Data) (t : Tree) → Accepts d t → Fits d → weight Elsewhere t < 2 ^ 32
-accepted_light d t accepted small = let v = small.values in let u = small.units in omega (arith, accepted_weight d t accepted Elsewhere)
+accepted_light d t accepted small = omega (arith, fitting_load d t accepted small)

@@ -1,4 +1,4 @@
--- What is read of the parts of a plan weighs little against the values that they are read of.
+-- What is read of the parts of a plan is a small load against the values that they are read of.
 use Rattle.std.proofs.Common.{◌≡◌, ℕ, zero, suc, ◌+◌, ◌-◌, ◌*◌, ◌≤◌, List, [], ◌∷◌, length, refl, ap, sym, subst, Bool, false, arith}
 use Rattle.std.specs.Prelude.{⊤, Option, Some, None, Result, Ok}
 use Rattle.serde_json.specs.Data.{Data, Items, no_items, item}
@@ -8,7 +8,7 @@ use Rattle.mini_model.specs.Paths.{append}
 use Rattle.mini_model.specs.Tree.{Tree, node, Trees, none, ◌▸◌, absent, listed, count}
 use Rattle.mini_model.specs.declared.place.Position.{Position}
 use Rattle.mini_model.specs.Position.{child_position}
-use Rattle.mini_model.specs.Weight.{outlines, weight, weights, directives_weight}
+use Rattle.mini_model.specs.Weight.{outlines, directives_weight}
 use Rattle.mini_accept.specs.WellShaped as shaped
 use Rattle.mini_accept.specs.WellShaped.{Class}
 use Rattle.mini_accept.specs.Faults.{Fault}
@@ -20,6 +20,7 @@ use Rattle.mini_accept.specs.Functions.{directives_in}
 use Rattle.mini_accept.specs.Accept.{Reader, below_by, read_below, read_part, read_parts, read_child, read_children}
 use Rattle.mini_accept.proofs.Results.{ok_same, bind_ok, under_ok}
 use Rattle.mini_fits.proofs.Amounts.{amount, items_amount, found, found_items, found_at, some_amount, items_within}
+use Rattle.mini_fits.proofs.Loads.{load, loads}
 use Rattle.mini_fits.proofs.Written.{own_light, list_light}
 
 -- ---- readers
@@ -31,10 +32,10 @@ extra (at shaped.an_arrow_body) d = directives_weight (directives_in d)
 extra p d = 0
 
 pub record IsLight (r : Reader) : Type 0 where
-  -- what it reads isn't a form that is not read, and weighs little wherever it stands
-  pub whole : (strict : Bool) (p : Place) (n : ℕ) (d : Data) (x : Tree × ℕ) → r strict p n d ≡ Ok x → (is_unread strict p d ≡ false) × ((π : Position) → weight π x.0 + extra p d + 13 ≤ amount d)
-  -- a name that is declared weighs no more than a name and what a place adds
-  pub binding : (strict : Bool) (n : ℕ) (d : Data) (x : Tree × ℕ) → r strict (at shaped.a_binding) n d ≡ Ok x → (π : Position) → weight π x.0 ≤ 7
+  -- what it reads isn't a form that is not read, and is a small load wherever it stands
+  pub whole : (strict : Bool) (p : Place) (n : ℕ) (d : Data) (x : Tree × ℕ) → r strict p n d ≡ Ok x → (is_unread strict p d ≡ false) × ((π : Position) → load π x.0 + extra p d + 14 ≤ amount d)
+  -- a name that is declared is no more than a name and what a place adds
+  pub binding : (strict : Bool) (n : ℕ) (d : Data) (x : Tree × ℕ) → r strict (at shaped.a_binding) n d ≡ Ok x → (π : Position) → load π x.0 ≤ 11
 
 abbrev pub extra_at : Place → Option Data → ℕ
 extra_at p None = 0
@@ -61,11 +62,8 @@ children_spare d (c ∷ cs) = child_spare d c + children_spare d cs
 
 -- ---- trees
 
-pub absent_light : (π : Position) → weight π absent ≤ 5
+pub absent_light : (π : Position) → load π absent ≤ 6
 absent_light π = omega (arith, own_light 0 π shape.Absent [] [] (omega arith))
-
-inner_light : (π : Position) (n : ℕ) (t : Tree) (m : ℕ) → ((ω : Position) → weight ω t ≤ m) → weight π (node shape.InnerExpression [] n (t ▸ none)) ≤ m + 5
-inner_light π n t m small = omega (arith, own_light 0 π shape.InnerExpression [] (outlines (t ▸ none)) (omega arith), small (child_position shape.InnerExpression π 1 0))
 
 pub outline_count : (ts : Trees) → length (outlines ts) ≡ count ts
 outline_count none = refl
@@ -75,7 +73,7 @@ append_count : (a b : Trees) → count (append a b) ≡ count a + count b
 append_count none b = omega arith
 append_count (t ▸ a) b = omega (arith, append_count a b)
 
-append_light : (a b : Trees) (m : ℕ) → ((ω : ℕ → Position) → weights ω b ≤ m) → (ω : ℕ → Position) → weights ω (append a b) ≤ weights ω a + m
+append_light : (a b : Trees) (m : ℕ) → ((ω : ℕ → Position) → loads ω b ≤ m) → (ω : ℕ → Position) → loads ω (append a b) ≤ loads ω a + m
 append_light none b m small ω = omega (arith, small ω)
 append_light (t ▸ a) b m small ω = omega (arith, append_light a b m small (λ i. ω (suc i)))
 
@@ -100,13 +98,13 @@ PartsAt key i (x ∷ xs) (item d ds) = PartOf (place key i) x × PartsAt key (su
 
 -- what a part costs, with 8 for its tree
 abbrev cost : Data → Part → ℕ
-cost d hole = 13
+cost d hole = 14
 cost d (tree_at s p) = found (down s d)
 cost d (inner_at s p) = found (down s d)
 cost d (checked s p) = found (down s d)
 
 abbrev LightTrees : Trees → ℕ → ℕ → Type 0
-LightTrees ts more n = (ω : ℕ → Position) → weights ω ts + 8 * count ts + more ≤ n
+LightTrees ts more n = (ω : ℕ → Position) → loads ω ts + 8 * count ts + more ≤ n
 
 lighter : (ts us : Trees) (more n : ℕ) → ts ≡ us → LightTrees us more n → LightTrees ts more n
 lighter ts us more n e small = subst (λ (vs : Trees). LightTrees vs more n) (sym e) small
@@ -149,7 +147,7 @@ ChildrenAt d (k ∷ ks) [] = ⊥
 ChildrenAt d (k ∷ ks) (c ∷ cs) = ChildAt d k c × ChildrenAt d ks cs
 
 module _ (r : Reader) (light : IsLight r) where
-  below_light : (strict : Bool) (p : Place) (n : ℕ) (s : Step) (o : Option Data) (x : Tree × ℕ) → below_by r strict p n s o ≡ Ok x → (π : Position) → weight π x.0 + extra_at p o + 13 ≤ found o
+  below_light : (strict : Bool) (p : Place) (n : ℕ) (s : Step) (o : Option Data) (x : Tree × ℕ) → below_by r strict p n s o ≡ Ok x → (π : Position) → load π x.0 + extra_at p o + 14 ≤ found o
   below_light strict p n s None x e = absurd (cc e)
   below_light strict p n s (Some d) x e = (light.whole strict p n d x (under_ok (step_text s) (r strict p n d) x e)).1
 
@@ -158,7 +156,7 @@ module _ (r : Reader) (light : IsLight r) where
   below_some strict p n s (Some d) x e = omega (arith, some_amount d)
 
   part_light : (strict : Bool) (d : Data) (n : ℕ) (x : Part) (y : Trees × ℕ) → read_part r strict d n x ≡ Ok y → LightTrees y.0 (spare d x) (cost d x)
-  part_light strict d n hole y e = lighter y.0 (absent ▸ none) 0 13 (trees_same (absent ▸ none, n) y e) (λ ω. omega (arith, absent_light (ω zero)))
+  part_light strict d n hole y e = lighter y.0 (absent ▸ none) 0 14 (trees_same (absent ▸ none, n) y e) (λ ω. omega (arith, absent_light (ω zero)))
   part_light strict d n (tree_at s p) y e =
       let (x, read, same) = bind_ok (read_below r strict n d s p) _ y e in
       let small = below_light strict p n s (down s d) x read in
@@ -182,7 +180,7 @@ module _ (r : Reader) (light : IsLight r) where
   item_cost d key i e (checked s p) is of = rw (of, is) (omega arith)
 
   both_light : (a b : Trees) (m n k l : ℕ) → LightTrees a m k → LightTrees b n l → LightTrees (append a b) (m + n) (k + l)
-  both_light a b m n k l small others ω = let rest : ((υ : ℕ → Position) → weights υ b ≤ l - n - 8 * count b) = (λ υ. omega (arith, others υ)) in omega (arith, small ω, others ω, append_count a b, append_light a b (l - n - 8 * count b) rest ω)
+  both_light a b m n k l small others ω = let rest : ((υ : ℕ → Position) → loads υ b ≤ l - n - 8 * count b) = (λ υ. omega (arith, others υ)) in omega (arith, small ω, others ω, append_count a b, append_light a b (l - n - 8 * count b) rest ω)
 
   parts_light : (strict : Bool) (d : Data) (key : List ℕ) (i : ℕ) (xs : List Part) (ds : Items) (n : ℕ) (y : Trees × ℕ) → PartsAt key i xs ds → From d key i ds → read_parts r strict d n xs ≡ Ok y → LightTrees y.0 (spares d xs) (items_amount ds)
   parts_light strict d key i [] no_items n y of from e = lighter y.0 none 0 0 (trees_same (none, n) y e) (λ ω. omega arith)
@@ -199,7 +197,7 @@ module _ (r : Reader) (light : IsLight r) where
 
   -- a list, with 6 for each of its trees
   pub list_read : (strict : Bool) (d : Data) (key : List ℕ) (n : ℕ) (xs : List Part) (y : Trees × ℕ) → ChildAt d key (many xs) → read_child r strict d n (many xs) ≡ Ok y
-      → (us : Trees) × (y.0 ≡ listed us ▸ none) × ((π : Position) → weight π (listed us) + 6 * count us + spares d xs ≤ 5 + found (get key d))
+      → (us : Trees) × (y.0 ≡ listed us ▸ none) × ((π : Position) → load π (listed us) + 6 * count us + spares d xs ≤ 6 + found (get key d))
   list_read strict d key n xs y (ds, there, parts) e =
       let (x, read, same) = bind_ok (read_parts r strict d n xs) _ y e in
       let us = x.0 in
@@ -215,7 +213,7 @@ module _ (r : Reader) (light : IsLight r) where
         ),
       )
 
-  one_light : (strict : Bool) (d : Data) (key : List ℕ) (n : ℕ) (x : Part) (y : Trees × ℕ) → PartOf (field key) x → read_part r strict d n x ≡ Ok y → (ω : ℕ → Position) → weights ω y.0 + spare d x ≤ 5 + found (get key d)
+  one_light : (strict : Bool) (d : Data) (key : List ℕ) (n : ℕ) (x : Part) (y : Trees × ℕ) → PartOf (field key) x → read_part r strict d n x ≡ Ok y → (ω : ℕ → Position) → loads ω y.0 + spare d x ≤ 6 + found (get key d)
   one_light strict d key n hole y of e ω = let h = part_light strict d n hole y e in omega (arith, h ω, hole_count y (trees_same (absent ▸ none, n) y e))
     where
       hole_count : (z : Trees × ℕ) → z.0 ≡ absent ▸ none → count z.0 ≡ 1
@@ -224,22 +222,22 @@ module _ (r : Reader) (light : IsLight r) where
   one_light strict d key n (inner_at s p) y of e ω = let h = part_light strict d n (inner_at s p) y e in let same : found (down s d) ≡ found (get key d) = rw of refl in omega (arith, h ω, same)
   one_light strict d key n (checked s p) y of e ω = let h = part_light strict d n (checked s p) y e in let same : found (down s d) ≡ found (get key d) = rw of refl in omega (arith, h ω, same)
 
-  listed_light : (us : Trees) (ω : ℕ → Position) (m n : ℕ) → ((π : Position) → weight π (listed us) + m ≤ n) → weights ω (listed us ▸ none) + m ≤ n
+  listed_light : (us : Trees) (ω : ℕ → Position) (m n : ℕ) → ((π : Position) → load π (listed us) + m ≤ n) → loads ω (listed us ▸ none) + m ≤ n
   listed_light us ω m n small = omega (arith, small (ω zero))
 
-  child_light : (strict : Bool) (d : Data) (key : List ℕ) (n : ℕ) (c : Child) (y : Trees × ℕ) → ChildAt d key c → read_child r strict d n c ≡ Ok y → (ω : ℕ → Position) → weights ω y.0 + child_spare d c ≤ 5 + found (get key d)
+  child_light : (strict : Bool) (d : Data) (key : List ℕ) (n : ℕ) (c : Child) (y : Trees × ℕ) → ChildAt d key c → read_child r strict d n c ≡ Ok y → (ω : ℕ → Position) → loads ω y.0 + child_spare d c ≤ 6 + found (get key d)
   child_light strict d key n (one x) y there e ω = one_light strict d key n x y there e ω
   child_light strict d key n (many xs) y there e ω =
       let (us, same, small) = list_read strict d key n xs y there e in
-      rw same (listed_light us ω (spares d xs) (5 + found (get key d)) (λ π. omega (arith, small π)))
+      rw same (listed_light us ω (spares d xs) (6 + found (get key d)) (λ π. omega (arith, small π)))
 
   -- ---- a name that is held
 
-  binding_light : (strict : Bool) (n : ℕ) (s : Step) (o : Option Data) (x : Tree × ℕ) → below_by r strict (at shaped.a_binding) n s o ≡ Ok x → (π : Position) → weight π x.0 + extra_at (at shaped.a_binding) o ≤ 7
+  binding_light : (strict : Bool) (n : ℕ) (s : Step) (o : Option Data) (x : Tree × ℕ) → below_by r strict (at shaped.a_binding) n s o ≡ Ok x → (π : Position) → load π x.0 + extra_at (at shaped.a_binding) o ≤ 11
   binding_light strict n s None x e π = absurd (cc e)
   binding_light strict n s (Some d) x e π = omega (arith, light.binding strict n d x (under_ok (step_text s) (r strict (at shaped.a_binding) n d) x e) π)
 
-  held_light : (strict : Bool) (d : Data) (n : ℕ) (c : Child) (y : Trees × ℕ) → IsHeld c → read_child r strict d n c ≡ Ok y → (ω : ℕ → Position) → weights ω y.0 + child_spare d c ≤ 7
+  held_light : (strict : Bool) (d : Data) (n : ℕ) (c : Child) (y : Trees × ℕ) → IsHeld c → read_child r strict d n c ≡ Ok y → (ω : ℕ → Position) → loads ω y.0 + child_spare d c ≤ 11
   held_light strict d n (one hole) y held e ω = rw (trees_same (absent ▸ none, n) y e) (omega (arith, absent_light (ω zero)))
   held_light strict d n (one (tree_at s (at shaped.a_binding))) y held e ω =
       let (x, read, same) = bind_ok (read_below r strict n d s (at shaped.a_binding)) _ y e in
@@ -247,7 +245,7 @@ module _ (r : Reader) (light : IsLight r) where
   held_light strict d n c y held e ω = absurd held
 
   pub children_light : (strict : Bool) (d : Data) (keys : List (List ℕ)) (n : ℕ) (cs : List Child) (y : Trees × ℕ) → ChildrenAt d keys cs → read_children r strict d n cs ≡ Ok y
-      → (ω : ℕ → Position) → weights ω y.0 + children_spare d cs ≤ 7 + 5 * length keys + found_at keys d
+      → (ω : ℕ → Position) → loads ω y.0 + children_spare d cs ≤ 11 + 6 * length keys + found_at keys d
   children_light strict d [] n [] y there e ω = rw (trees_same (none, n) y e) (omega arith)
   children_light strict d [] n (c ∷ []) y held e ω =
       let (z, first, after) = bind_ok (read_child r strict d n c) _ y e in
@@ -259,5 +257,5 @@ module _ (r : Reader) (light : IsLight r) where
       let (v, rest, same) = bind_ok (read_children r strict d z.1 cs) _ y after in
       let one = child_light strict d k n c z there.0 first in
       let others = children_light strict d ks z.1 cs v there.1 rest in
-      let left : (υ : ℕ → Position) → weights υ v.0 ≤ 7 + 5 * length ks + found_at ks d - children_spare d cs = (λ υ. omega (arith, others υ)) in
-      rw (trees_same (append z.0 v.0, v.1) y same) (omega (arith, one ω, others ω, append_light z.0 v.0 (7 + 5 * length ks + found_at ks d - children_spare d cs) left ω))
+      let left : (υ : ℕ → Position) → loads υ v.0 ≤ 11 + 6 * length ks + found_at ks d - children_spare d cs = (λ υ. omega (arith, others υ)) in
+      rw (trees_same (append z.0 v.0, v.1) y same) (omega (arith, one ω, others ω, append_light z.0 v.0 (11 + 6 * length ks + found_at ks d - children_spare d cs) left ω))

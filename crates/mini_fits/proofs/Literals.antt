@@ -39,7 +39,7 @@ safe_light (negsuc n) small = let h : suc n ≤ max_safe_integer = leb-true (suc
 
 -- the text of a node of this shape
 abbrev Writes : Shape → ℕ → Type 0
-Writes h n = (π : Position) (os : List Outline) → text_weight h [] π os ≤ 100 + n
+Writes h n = (π : Position) (os : List Outline) → text_weight h [] π os ≤ 90 + n
 
 written : (h k : Shape) (n : ℕ) → Some h ≡ Some k → Writes h n → Writes k n
 written h k n e small = subst (λ (x : Shape). Writes x n) (some_same h k e) small

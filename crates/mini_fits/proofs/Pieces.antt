@@ -11,7 +11,7 @@ use Rattle.mini_model.specs.declared.shape.Shape.TheVariants as shape
 use Rattle.mini_model.specs.Paths.{append}
 use Rattle.mini_model.specs.Tree.{Tree, Trees, none, ◌▸◌, listed, count}
 use Rattle.mini_model.specs.declared.place.Position.{Position}
-use Rattle.mini_model.specs.Weight.{Outline, outlines, weight, weights, own_weight}
+use Rattle.mini_model.specs.Weight.{Outline, outlines, own_weight}
 use Rattle.mini_accept.specs.WellShaped as shaped
 use Rattle.mini_accept.specs.WellShaped.{Class, Tagging, tagged, untagged}
 use Rattle.mini_accept.specs.Places.{Step, field, step_text, Place, at}
@@ -26,6 +26,7 @@ use Rattle.mini_accept.specs.Patterns as pattern
 use Rattle.mini_accept.specs.Accept.{Reader, below_by, read_below, read_child, read_children}
 use Rattle.mini_accept.proofs.Results.{bind_ok, under_ok}
 use Rattle.mini_fits.proofs.Amounts.{amount, found, some_amount, amount_at, amounts_below}
+use Rattle.mini_fits.proofs.Loads.{load, loads}
 use Rattle.mini_fits.proofs.Written.{own_light, wordy, text_light}
 use Rattle.mini_fits.proofs.Lists.{IsLight, spares, ChildAt, trees_same, outline_count, list_read}
 use Rattle.mini_fits.proofs.Plans.{Holds, LightIf, node_bound, plain, leaf_light, bind_light, require_light, either_light, either_at, inner_key_at, target_at, each_item, hole_item, rest_item, target_item, IsItemPart, list_is_at, list_light}
@@ -68,9 +69,9 @@ unary d = bind_light d 0 (word_at unary_operators (codes "operator") d) _ (λ o 
 
 -- ---- templates
 
-two_lists : (d : Data) (ts us vs : Trees) (m n : ℕ) → ts ≡ listed us ▸ listed vs ▸ none → ((π : Position) → weight π (listed us) + 6 * count us + m ≤ 5 + found (get (codes "quasis") d))
-    → ((π : Position) → weight π (listed vs) + 6 * count vs + n ≤ 5 + found (get (codes "expressions") d))
-    → (π : Position) (ω : ℕ → Position) → own_weight π shape.TemplateLiteral [] (outlines ts) + weights ω ts + 0 + 13 ≤ amount d
+two_lists : (d : Data) (ts us vs : Trees) (m n : ℕ) → ts ≡ listed us ▸ listed vs ▸ none → ((π : Position) → load π (listed us) + 6 * count us + m ≤ 6 + found (get (codes "quasis") d))
+    → ((π : Position) → load π (listed vs) + 6 * count vs + n ≤ 6 + found (get (codes "expressions") d))
+    → (π : Position) (ω : ℕ → Position) → own_weight π shape.TemplateLiteral [] (outlines ts) + loads ω ts + 3 * 0 + 0 + 15 ≤ amount d
 two_lists d ts us vs m n e small others π ω =
     let os = outlines (listed us ▸ listed vs ▸ none) in
     rw e (omega (

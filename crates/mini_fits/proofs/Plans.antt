@@ -1,5 +1,5 @@
--- How a plan is shown to weigh little.
-use Rattle.std.proofs.Common.{◌≡◌, ℕ, suc, ◌+◌, ◌≤◌, List, [], refl, codes, Bool, true, false, arith}
+-- How a plan is shown to be a small load.
+use Rattle.std.proofs.Common.{◌≡◌, ℕ, suc, ◌+◌, ◌*◌, ◌≤◌, List, [], length, refl, codes, Bool, true, false, arith}
 use Rattle.std.specs.Prelude.{⊤, Option, Some, None, option_map, Ok, is_some, if◌then◌else◌, ◌&&◌}
 use Rattle.serde_json.specs.Data.{Data, Items, no_items, item}
 use Rattle.serde_json.specs.Find.{as_null}
@@ -7,7 +7,7 @@ use Rattle.mini_model.specs.declared.name.Name.{Name}
 use Rattle.mini_model.specs.declared.shape.Shape.{Shape}
 use Rattle.mini_model.specs.Tree.{Trees}
 use Rattle.mini_model.specs.declared.place.Position.{Position}
-use Rattle.mini_model.specs.Weight.{Outline, outlines, weights, own_weight, text_weight, names_weight}
+use Rattle.mini_model.specs.Weight.{Outline, outlines, own_weight, text_weight, names_weight}
 use Rattle.mini_accept.specs.WellShaped as shaped
 use Rattle.mini_accept.specs.WellShaped.{Class}
 use Rattle.mini_accept.specs.Places.{Step, field, place, at}
@@ -15,13 +15,14 @@ use Rattle.mini_accept.specs.Fields.{◌>>=◌, require, list_at, no_item, has_t
 use Rattle.mini_accept.specs.Plans.{Part, hole, tree_at, inner_at, Child, Plan, node_of, child, inner, ItemPart, parts_from, list, list_child, each, or_hole, or_rest, inner_key, target_part, target}
 use Rattle.mini_accept.specs.Accept.{Reader, read_children}
 use Rattle.mini_fits.proofs.Amounts.{amount, found_at, amounts_below, are_few, few_different, few_count}
+use Rattle.mini_fits.proofs.Loads.{loads}
 use Rattle.mini_fits.proofs.Written.{own_light, wordy, text_light}
 use Rattle.mini_fits.proofs.Lists.{IsLight, children_spare, PartOf, PartsAt, ChildAt, ChildrenAt, children_light}
 
--- whatever is read of its parts, the node weighs 13 less than the value is worth, and e less
+-- whatever is read of its parts, the node is a load 14 less than the value is worth, and e less
 abbrev pub Holds : Data → ℕ → Plan → Type 0
 Holds d e x = (r : Reader) → IsLight r → (strict : Bool) (n : ℕ) (y : Trees × ℕ) → read_children r strict d n x.children ≡ Ok y
-    → (π : Position) (ω : ℕ → Position) → own_weight π x.shape x.names (outlines y.0) + weights ω y.0 + e + 13 ≤ amount d
+    → (π : Position) (ω : ℕ → Position) → own_weight π x.shape x.names (outlines y.0) + loads ω y.0 + 3 * length x.names + e + 15 ≤ amount d
 
 abbrev HoldsIf : Data → ℕ → Option Plan → Type 0
 HoldsIf d e None = ⊤
@@ -33,8 +34,8 @@ pub record LightIf (d : Data) (e : ℕ) (o : Option Plan) : Type 0 where
 -- ---- nodes
 
 pub node_bound : (d : Data) (keys : List (List ℕ)) (e : ℕ) (x : Plan) → ChildrenAt d keys x.children → are_few keys ≡ true → (r : Reader) → IsLight r → (strict : Bool) (n : ℕ) (y : Trees × ℕ)
-    → read_children r strict d n x.children ≡ Ok y → names_weight x.names + wordy x.shape (outlines y.0) + e ≤ 18 + children_spare d x.children
-    → (π : Position) (ω : ℕ → Position) → own_weight π x.shape x.names (outlines y.0) + weights ω y.0 + e + 13 ≤ amount d
+    → read_children r strict d n x.children ≡ Ok y → names_weight x.names + 3 * length x.names + wordy x.shape (outlines y.0) + e ≤ 18 + children_spare d x.children
+    → (π : Position) (ω : ℕ → Position) → own_weight π x.shape x.names (outlines y.0) + loads ω y.0 + 3 * length x.names + e + 15 ≤ amount d
 node_bound d keys e x there few r light strict n y read small π ω =
     let os = outlines y.0 in
     omega (
@@ -48,7 +49,7 @@ node_bound d keys e x there few r light strict n y read small π ω =
 
 -- a node whose texts are made up for by what its parts leave over
 pub node_light : (d : Data) (keys : List (List ℕ)) (e : ℕ) (x : Plan) → ChildrenAt d keys x.children → are_few keys ≡ true
-    → ((os : List Outline) → names_weight x.names + wordy x.shape os + e ≤ 18 + children_spare d x.children) → LightIf d e (Some x)
+    → ((os : List Outline) → names_weight x.names + 3 * length x.names + wordy x.shape os + e ≤ 18 + children_spare d x.children) → LightIf d e (Some x)
 node_light d keys e x there few small = record { holds = λ r light strict n y read. node_bound d keys e x there few r light strict n y read (small (outlines y.0)) }
 
 -- a node without texts
@@ -56,12 +57,13 @@ pub plain : (d : Data) (keys : List (List ℕ)) (h : Shape) (cs : List Child) �
 plain d keys h cs there few bare = node_light d keys 0 (record { shape = h; names = []; children = cs }) there few (λ os. omega (arith, bare os))
 
 -- a node without children, whose texts stand at the keys
-pub leaf_light : (d : Data) (keys : List (List ℕ)) (h : Shape) (xs : List Name) → are_few keys ≡ true → ((π : Position) (os : List Outline) → text_weight h xs π os ≤ 100 + found_at keys d)
+pub leaf_light : (d : Data) (keys : List (List ℕ)) (h : Shape) (xs : List Name) → are_few keys ≡ true → ((π : Position) (os : List Outline) → text_weight h xs π os + 3 * length xs ≤ 90 + found_at keys d)
     → LightIf d 0 (Some (record { shape = h; names = xs; children = [] }))
 leaf_light d keys h xs few small = record {
   holds = λ r light strict n y read π ω. omega (
     arith,
-    own_light (100 + found_at keys d) π h xs (outlines y.0) (small π (outlines y.0)),
+    own_light (text_weight h xs π (outlines y.0)) π h xs (outlines y.0) (omega arith),
+    small π (outlines y.0),
     children_light r light strict d [] n [] y tt read ω,
     amounts_below keys d (few_different keys few),
   );

@@ -7,11 +7,17 @@ ghost use Rattle.mini_model.specs.declared.place.Position.TheVariants.{Elsewhere
 ghost use Rattle.mini_model.specs.Weight.{weight, program_weight};
 ghost use Rattle.mini_accept.specs.Accept.{program_at, Accepts};
 ghost use Rattle.mini_fits.specs.Fits.{Fits};
+ghost use Rattle.mini_fits.specs.Countable.{AcceptedIsCountable};
 
 /// The tree of a small enough value weighs less than 2^32.
 pub fn accepted_weighs_little()
     ensures tree { (d : Data) (t : Tree) → Accepts d t → Fits d → weight Elsewhere t < 2 ^ 32 }
     ensures program { (d : Data) (t : Tree) → Accepts d t → Fits d → program_weight t < 2 ^ 32 }
+{}
+
+/// What is counted of the program of a small enough value fits in 32 bits: its symbols, its references and its numbers.
+pub fn accepted_is_countable()
+    ensures { AcceptedIsCountable }
 {}
 
 /// A small enough value nests no deeper than a u32 can say.

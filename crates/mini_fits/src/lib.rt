@@ -6,5 +6,5 @@ mod size;
 #[cfg(test)]
 mod size_tests;
 
-pub use laws::{accepted_weighs_little, fitting_is_read, read_bytes_fit};
+pub use laws::{accepted_is_countable, accepted_weighs_little, fitting_is_read, read_bytes_fit};
 pub use size::fits;
