@@ -80,10 +80,17 @@ pub fn program(value: &Value) -> Option<Plan<'_>>
 {
     let is_module = source_type_at("sourceType", value)?;
     let statements = list_at("body", value)?;
-    Some(Plan {
-        head: Head::Program(is_module, statements),
-        children: if is_module { &MODULE } else { &SCRIPT },
-    })
+    if is_module {
+        Some(Plan {
+            head: Head::Program(true, statements),
+            children: &MODULE,
+        })
+    } else {
+        Some(Plan {
+            head: Head::Program(false, statements),
+            children: &SCRIPT,
+        })
+    }
 }
 
 // ---- statements
