@@ -22,3 +22,4 @@ pub mod BodyLists
 pub mod BodyPlaces
 pub mod BodySteps
 pub mod BodyRows
+pub mod Fixed

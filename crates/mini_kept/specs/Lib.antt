@@ -8,3 +8,4 @@ pub mod AlikeBodies
 pub mod Standing
 pub mod KeepsBodies
 pub mod BodyLaws
+pub mod Fixities

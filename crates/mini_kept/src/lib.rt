@@ -6,6 +6,7 @@
 ghost use Rattle.mini_kept.specs.Kept.{EachBelowKept, EachKept, ReachesWellShaped, StepFits};
 ghost use Rattle.mini_kept.specs.Lifted.{RowsKeepNames, ReachesKeepsNames};
 ghost use Rattle.mini_kept.specs.NameLaws.{ResolvedRenumbered, NumbersCarried, ProgramCarried};
+ghost use Rattle.mini_kept.specs.Fixities.{ReachesKeepsFixities, RowsKeepFixities, ProgramKeepsFixities};
 ghost use Rattle.mini_kept.specs.BodyLaws.{StepKeepsBodies, ReachesKeepsBodies, BodiesStand, RowsKeepBodies, ProgramKeepsBodies};
 
 use mini_laws::Rewrites;
@@ -66,4 +67,16 @@ pub fn bodies_stand()
 pub fn rows_keep_bodies()
     ensures rows { RowsKeepBodies }
     ensures program { ProgramKeepsBodies }
+{}
+
+/// Any number of steps keep which variables can be written and which raise, where each step keeps that of what stood there.
+pub fn fixities_kept<R: Rewrites>()
+    ensures { ReachesKeepsFixities R.gives }
+{}
+
+/// What each row writes declares each name as what it reads does, and so any number of rewrites keep what a write of each
+/// variable of a program does.
+pub fn rows_keep_fixities()
+    ensures rows { RowsKeepFixities }
+    ensures program { ProgramKeepsFixities }
 {}
