@@ -30,14 +30,14 @@ goes_on_all : (ks : List ℕ) → GoesOn ks 0 ks
 goes_on_all [] = tt
 goes_on_all (k ∷ ks) = (refl, goes_on_behind k ks 0 ks (goes_on_all ks))
 
-both_lengths : (xs ys : List ℕ) → length (xs ++ ys) ≡ length xs + length ys
+pub both_lengths : (xs ys : List ℕ) → length (xs ++ ys) ≡ length xs + length ys
 both_lengths [] ys = omega arith
 both_lengths (x ∷ xs) ys = omega (arith, both_lengths xs ys)
 
-some_same : (n m : ℕ) → Some n ≡ Some m → n ≡ m
+pub some_same : (n m : ℕ) → Some n ≡ Some m → n ≡ m
 some_same n m e = ap (λ o. unwrap_or o 0) e
 
-then_some : (f : ℕ → Option ℕ) (o : Option ℕ) (m : ℕ) → option_and_then f o ≡ Some m → (k : ℕ) × (o ≡ Some k) × (f k ≡ Some m)
+pub then_some : (f : ℕ → Option ℕ) (o : Option ℕ) (m : ℕ) → option_and_then f o ≡ Some m → (k : ℕ) × (o ≡ Some k) × (f k ≡ Some m)
 then_some f None m e = absurd (cc e)
 then_some f (Some k) m e = (k, refl, e)
 
@@ -46,10 +46,10 @@ numbered_by : (b : Bool) (m n l : ℕ) → nat_eq (suc m) n ≡ b → (if b then
 numbered_by true m n l e f = (eqb-true (suc m) n e, sym (some_same (suc n) l f))
 numbered_by false m n l e f = absurd (cc (sym (ap (λ b. if b then Some n else None) (eqb-suc-zero m)) ∙ f))
 
-numbered_next : (m n l : ℕ) → number_after (suc m) n ≡ Some l → (suc m ≡ n) × (l ≡ suc n)
+pub numbered_next : (m n l : ℕ) → number_after (suc m) n ≡ Some l → (suc m ≡ n) × (l ≡ suc n)
 numbered_next m n l e = numbered_by (nat_eq (suc m) n) m n l refl e
 
-unnumbered_next : (n l : ℕ) → 1 ≤ n → number_after 0 n ≡ Some l → l ≡ n
+pub unnumbered_next : (n l : ℕ) → 1 ≤ n → number_after 0 n ≡ Some l → l ≡ n
 unnumbered_next zero l h e = absurd (omega arith)
 unnumbered_next (suc n) l h e = sym (some_same (suc n) l (sym (ap (λ b. if b then Some (suc (suc n)) else (if nat_eq 0 0 then Some (suc n) else None)) (eqb-zero-suc n)) ∙ e))
 
@@ -90,7 +90,7 @@ mutual
       (ap (λ x. x ▸ all_renumbered (number_at ks) ts) r ∙ ap (λ x. u ▸ x) q, omega (arith, o, s, both_lengths (numbers u) (all_numbers us)))
 
 -- the program itself has the number 0
-root_next : (l : ℕ) → number_after 0 0 ≡ Some l → l ≡ 1
+pub root_next : (l : ℕ) → number_after 0 0 ≡ Some l → l ≡ 1
 root_next l e = sym (some_same 1 l (sym (ap (λ b. if b then Some 1 else (if nat_eq 0 0 then Some 0 else None)) (eq-eqb 0 0 refl)) ∙ e))
 
 pub numbers_carried : (t u : Tree) (n : ℕ) → next_after t 0 ≡ Some n → number_of u ≡ 0 → NumberedAlike t u → (renumbered (number_at (0 ∷ numbers u)) t ≡ u) × (n ≡ suc (length (numbers u)))

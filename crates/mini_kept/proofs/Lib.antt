@@ -23,3 +23,8 @@ pub mod BodyPlaces
 pub mod BodySteps
 pub mod BodyRows
 pub mod Fixed
+pub mod Texts
+pub mod SameNumbers
+pub mod InPreorder
+pub mod SameEarly
+pub mod SymbolsOnce

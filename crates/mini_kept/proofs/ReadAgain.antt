@@ -26,7 +26,7 @@ mutual
 mutual
   unfolding numbers mapped
 
-  numbers_mapped : (g : Option SymbolId → Option SymbolId) (t : Tree) → numbers (mapped g t) ≡ numbers t
+  pub numbers_mapped : (g : Option SymbolId → Option SymbolId) (t : Tree) → numbers (mapped g t) ≡ numbers t
   numbers_mapped g (node h xs n ts) = ap (with_number n) (all_numbers_mapped g ts)
 
   all_numbers_mapped : (g : Option SymbolId → Option SymbolId) (ts : Trees) → all_numbers (all_mapped g ts) ≡ all_numbers ts

@@ -1,0 +1,83 @@
+-- A tree as it is written, without its numbers and symbols. Resolution gives symbols alone.
+use Rattle.std.specs.Prelude.{ℕ, suc, ◌+◌, ◌≡◌, refl, true, not, List, [], ◌∷◌, ◌++◌, length, map, is_some, Option, Some, None}
+use Rattle.std.proofs.Common.{ap, ◌∙◌, sym}
+use Rattle.std.proofs.lemmas.Bool.{and_parts}
+use Rattle.mini_model.specs.declared.name.Name.{Name}
+use Rattle.mini_model.specs.declared.name.SymbolId.{SymbolId}
+use Rattle.mini_model.specs.Tree.{Tree, Trees, node, none, ◌▸◌}
+use Rattle.mini_names.specs.declared.Use.{Use}
+use Rattle.mini_names.specs.declared.Use.TheVariants.{Read}
+use Rattle.mini_names.specs.declared.Binding.{Binding}
+use Rattle.mini_names.specs.Scopes.{use_of, opened}
+use Rattle.mini_names.specs.Resolved.{Environment, with_symbol, numbered, symbols, resolved, resolved_from, resolved_program}
+use Rattle.mini_names.specs.Symbols.{with_new, mapped, all_mapped, bare}
+use Rattle.mini_accept.specs.Symbols.{are_unresolved, has_no_symbol, have_no_symbol}
+use Rattle.mini_kept.specs.Carried.{renumbered, all_renumbered}
+
+abbrev pub no_symbol : Option SymbolId → Option SymbolId
+no_symbol s = None
+
+abbrev pub text : Tree → Tree
+text t = renumbered (λ n. 0) (bare t)
+
+abbrev pub texts : Trees → Trees
+texts ts = all_renumbered (λ n. 0) (all_mapped no_symbol ts)
+
+-- ---- the symbols of resolution are no part of it
+
+bare_names : (u : Use) (env : Environment) (xs : List Name) → map (with_new no_symbol) (map (with_symbol u env) xs) ≡ map (with_new no_symbol) xs
+bare_names u env [] = refl
+bare_names u env (x ∷ xs) = λ k. with_new no_symbol x ∷ bare_names u env xs k
+
+mutual
+  unfolding resolved mapped
+
+  bare_tree : (u : Use) (env : Environment) (s : ℕ) (t : Tree) → bare (resolved u env s t) ≡ bare t
+  bare_tree u env s (node h xs n ts) = λ k. node h (bare_names u env xs k) n (bare_trees (opened u h ts) (use_of h u) 0 env s ts k)
+
+  bare_trees : (sc : ℕ → List Binding) (us : ℕ → Use) (i : ℕ) (env : Environment) (s : ℕ) (ts : Trees) → all_mapped no_symbol (resolved_from sc us i env s ts) ≡ all_mapped no_symbol ts
+  bare_trees sc us i env s none = refl
+  bare_trees sc us i env s (t ▸ ts) =
+      let inner = env ++ numbered s (sc i) in
+      let r = s + length (sc i) in
+      λ k. bare_tree (us i) inner r t k ▸ bare_trees sc us (suc i) inner (r + symbols (us i) t) ts k
+
+pub bare_resolved : (t : Tree) → bare (resolved_program t) ≡ bare t
+bare_resolved t = bare_tree Read [] 0 t
+
+-- so what doesn't look at symbols doesn't look at resolution
+pub read_resolved : {A : Type 0} (f : Tree → A) → ((t : Tree) → f (bare t) ≡ f t) → (t : Tree) → f (resolved_program t) ≡ f t
+read_resolved f blind t = sym (blind (resolved_program t)) ∙ ap f (bare_resolved t) ∙ blind t
+
+pub text_resolved : (t : Tree) → text (resolved_program t) ≡ text t
+text_resolved t = ap (renumbered (λ n. 0)) (bare_resolved t)
+
+-- and what looks at neither reads two trees alike that are written alike
+pub read_alike : {A : Type 0} (f : Tree → A) → ((t : Tree) → f (text t) ≡ f t) → (t u : Tree) → text t ≡ text u → f t ≡ f u
+read_alike f blind t u e = sym (blind t) ∙ ap f e ∙ blind u
+
+-- ---- a tree without symbols
+
+none_so : {A : Type 0} (o : Option A) → not (is_some o) ≡ true → None ≡ o
+none_so None e = refl
+none_so (Some x) e = absurd (cc e)
+
+names_same : (xs : List Name) → are_unresolved xs ≡ true → map (with_new no_symbol) xs ≡ xs
+names_same [] e = refl
+names_same (x ∷ xs) e =
+    let (own, rest) = and_parts (not (is_some x.symbol)) (are_unresolved xs) e in
+    λ k. record { spelling = x.spelling; symbol = none_so x.symbol own k } ∷ names_same xs rest k
+
+mutual
+  unfolding mapped
+
+  pub bare_same : (t : Tree) → has_no_symbol t ≡ true → bare t ≡ t
+  bare_same (node h xs n ts) e =
+      let (own, below) = and_parts (are_unresolved xs) (have_no_symbol ts) e in
+      λ k. node h (names_same xs own k) n (bares_same ts below k)
+
+  bares_same : (ts : Trees) → have_no_symbol ts ≡ true → all_mapped no_symbol ts ≡ ts
+  bares_same none e = refl
+  bares_same (t ▸ ts) e =
+      let (own, rest) = and_parts (has_no_symbol t) (have_no_symbol ts) e in
+      λ k. bare_same t own k ▸ bares_same ts rest k
