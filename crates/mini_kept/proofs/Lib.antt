@@ -26,5 +26,6 @@ pub mod Fixed
 pub mod Texts
 pub mod SameNumbers
 pub mod InPreorder
+pub mod SameShape
 pub mod SameEarly
 pub mod SymbolsOnce
