@@ -1,25 +1,32 @@
 //! The numbers of the nodes of a program, and those of the symbols that its scopes declare.
 
-ghost use Rattle.std.specs.Prelude.{◌≡◌, ◌++◌, ◌∷◌, IfOk, OnOk};
+ghost use Rattle.std.specs.Prelude.{◌≡◌, ◌++◌, ◌∷◌, [], IfOk, OnOk};
 ghost use Rattle.mini_names.specs.Scopes.{use_of as use_at};
 ghost use Rattle.mini_names.specs.Symbols.{declared, declared_from, declared_symbols, symbols_in};
-ghost use Rattle.mini_kept.specs.Carried.{all_numbers, numbers, symbol_numbers};
+ghost use Rattle.mini_kept.specs.Carried.{all_numbers, numbers, symbol_numbers, with_number};
 ghost use Rattle.mini_scope.specs.ScopeAt.{scope_at};
 
 use mini_names::{Binding, Use};
 use mini_scope::{OpenScopes, use_of};
-use mini_tree::{Node, Nodes, Numbers, OutOfMemory, Program, Shape};
+use mini_tree::{Node, Nodes, Numbers, OutOfMemory, Program, Shape, SymbolId};
 use std::alloc::Global;
+
+// Adds a number where it is above 0.
+fn push_number(number: u32, found: &mut Numbers) -> Result<(), OutOfMemory>
+    ensures { OnOk result (found.new ≡ found.old ++ with_number number []) }
+{
+    if number == 0 {
+        return Ok(());
+    }
+    found.push(number)
+}
 
 // Adds the numbers above 0 of a node and of all below it, in preorder.
 #[cycle(numbers)]
 fn push_numbers(node: &Node, found: &mut Numbers) -> Result<(), OutOfMemory>
     ensures { OnOk result (found.new ≡ found.old ++ numbers node.now) }
 {
-    let number = node.number();
-    if number > 0 {
-        found.push(number)?;
-    }
+    push_number(node.number(), found)?;
     push_all_numbers(node.children(), found)
 }
 
@@ -43,14 +50,22 @@ pub fn numbers_of(alloc: Global, program: &Program) -> Result<Numbers, OutOfMemo
     Ok(found)
 }
 
+// Adds the number of a symbol where there is one.
+fn push_symbol(symbol: Option<SymbolId>, found: &mut Numbers) -> Result<(), OutOfMemory>
+    ensures { OnOk result (found.new ≡ found.old ++ symbol_numbers (symbol ∷ [])) }
+{
+    match symbol {
+        Some(symbol) => found.push(symbol.0),
+        None => Ok(()),
+    }
+}
+
 // Adds the symbols that a scope's names carry.
 fn push_scope(scope: &[Binding], found: &mut Numbers) -> Result<(), OutOfMemory>
     ensures { OnOk result (found.new ≡ found.old ++ symbol_numbers (symbols_in scope.now)) }
 {
     for binding in scope {
-        if let Some(symbol) = binding.name.symbol {
-            found.push(symbol.0)?;
-        }
+        push_symbol(binding.name.symbol, found)?;
     }
     Ok(())
 }
