@@ -18,7 +18,7 @@ use Rattle.mini_meaning.specs.Body.{ArrowExpression}
 use Rattle.mini_meaning.specs.Bodies.{Around, Body, arrow_kind, bodies, bodies_from}
 use Rattle.mini_laws.proofs.Rewritten.{rows_mean_same}
 use Rattle.mini_kept.proofs.Bools.{left, right}
-use Rattle.mini_kept.proofs.Expressions.{expression, TakesExpression, refused_here, of_negation, neg_fits}
+use Rattle.mini_kept.proofs.Expressions.{expression, AreExpressions, two, TakesExpression, refused_here, of_negation, neg_fits}
 use Rattle.mini_kept.specs.AlikeBodies.{BodiesKept}
 use Rattle.mini_kept.specs.Standing.{is_method_slot, Stands}
 use Rattle.mini_kept.specs.Lifted.{is_piece}
@@ -49,14 +49,6 @@ of_one bs cs k = both_of bs cs [] k tt
 unwrapped_bodies : (strict : Bool) (a : Around) (b : Bool) (x n : Tree) (bs : List Body) → a.constructs ≡ false → fits strict expression x ≡ true → BodiesKept bs (bodies (quiet a) x) → BodiesKept bs (bodies (quiet a) n) → BodiesKept bs (bodies a (unwrapped b x n))
 unwrapped_bodies strict a true x n bs k e f g = subst (BodiesKept bs) (sym (rested strict a x k e)) f
 unwrapped_bodies strict a false x n bs k e f g = of_one bs (bodies (quiet a) n) g
-
-abbrev two : List Slot
-two = expression ∷ (expression ∷ [])
-
-abbrev AreExpressions : List Slot → Type 0
-AreExpressions [] = Unit {0}
-AreExpressions (one an_expression ∷ ss) = AreExpressions ss
-AreExpressions (s ∷ ss) = ⊥
 
 mutual
   negated_bodies : (strict : Bool) (a : Around) (t : Tree) (s : Seat) → a.constructs ≡ false → fits strict expression t ≡ true → BodiesKept (bodies (quiet a) t) (bodies a (neg s t))

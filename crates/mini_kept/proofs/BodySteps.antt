@@ -74,7 +74,7 @@ some_child R (later π t ts us s) e = cc e
 
 -- ---- the slot of a list's item
 
-one_of : (strict : Bool) (s r : Slot) (b : Bool) (t : Tree) → (fits strict s t || (b && fits strict r t)) ≡ true → (fits strict s t ≡ true) ⊎ (fits strict r t ≡ true)
+pub one_of : (strict : Bool) (s r : Slot) (b : Bool) (t : Tree) → (fits strict s t || (b && fits strict r t)) ≡ true → (fits strict s t ≡ true) ⊎ (fits strict r t ≡ true)
 one_of strict s r b t e = by (fits strict s t) refl
   where
     by : (c : Bool) → fits strict s t ≡ c → (fits strict s t ≡ true) ⊎ (fits strict r t ≡ true)

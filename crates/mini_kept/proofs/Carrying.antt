@@ -1,5 +1,5 @@
 -- Numbers in preorder stand for the places of the numbers that a tree had.
-use Rattle.std.specs.Prelude.{ℕ, zero, suc, ◌+◌, ◌≤◌, ◌≡◌, refl, nat_eq, Bool, true, false, List, [], ◌∷◌, ◌++◌, length, map, Option, Some, None, option_and_then, unwrap_or, if◌then◌else◌}
+use Rattle.std.specs.Prelude.{ℕ, zero, suc, ◌+◌, ◌≤◌, ◌≡◌, refl, nat_eq, Bool, true, false, List, [], ◌∷◌, ◌++◌, length, Option, Some, None, option_and_then, unwrap_or, if◌then◌else◌}
 use Rattle.std.proofs.Common.{ap, ◌∙◌, sym, subst, arith}
 use Rattle.std.proofs.lemmas.Bool.{eqb-true, eq-eqb}
 use Rattle.std.proofs.Math.Dec.{eqb-zero-suc, eqb-suc-zero}
@@ -7,7 +7,7 @@ use Rattle.mini_model.specs.declared.name.Name.{Name}
 use Rattle.mini_model.specs.declared.shape.Shape.{Shape}
 use Rattle.mini_model.specs.Tree.{Tree, Trees, node, none, ◌▸◌}
 use Rattle.mini_accept.specs.Numbered.{number_after, next_after, next_among}
-use Rattle.mini_kept.specs.Carried.{renumbered, all_renumbered, with_number, numbers, all_numbers, number_of, number_at, BothNumbered, NumberedAlike, AllNumberedAlike}
+use Rattle.mini_kept.specs.Carried.{renumbered, all_renumbered, numbers, all_numbers, number_of, number_at, NumberedAlike, AllNumberedAlike}
 
 -- the list goes on with these from a place on
 abbrev GoesOn : List ℕ → ℕ → List ℕ → Type 0

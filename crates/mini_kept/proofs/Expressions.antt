@@ -162,12 +162,12 @@ turned_names : (o q : LogicalOperator) (xs : List Name) (n : ℕ) (c : Bool) →
 turned_names o q [] n c e = e
 turned_names o q (x ∷ xs) n c e = e
 
-abbrev AreExpressions : List Slot → Type 0
+abbrev pub AreExpressions : List Slot → Type 0
 AreExpressions [] = Unit {0}
 AreExpressions (one an_expression ∷ ss) = AreExpressions ss
 AreExpressions (s ∷ ss) = ⊥
 
-abbrev two : List Slot
+abbrev pub two : List Slot
 two = expression ∷ expression ∷ []
 
 unwrapped_fits : (strict b : Bool) (a n : Tree) → fits strict expression a ≡ true → fits strict expression n ≡ true → fits strict expression (unwrapped b a n) ≡ true

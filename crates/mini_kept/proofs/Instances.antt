@@ -1,39 +1,38 @@
 -- What each row writes keeps what the node that it reads has.
-use Rattle.std.specs.Prelude.{ℕ, zero, suc, ◌+◌, ◌≤◌, ◌≡◌, refl, ◌||◌, ◌&&◌, Bool, true, false, List, [], ◌∷◌, ◌++◌, Option}
+use Rattle.std.specs.Prelude.{ℕ, ◌≤◌, ◌≡◌, refl, ◌||◌, Bool, true, false, List, [], ◌∷◌, ◌++◌, Option}
 use Rattle.std.proofs.Common.{ap, ◌∙◌, sym, subst, arith, inl, inr, ◌⊎◌}
 use Rattle.std.proofs.lemmas.List.{append-nil}
 use Rattle.mini_model.specs.declared.name.SymbolId.{SymbolId}
 use Rattle.mini_model.specs.declared.operator.LogicalOperator.{LogicalOperator}
 use Rattle.mini_model.specs.declared.operator.LogicalOperator.TheVariants.{Or, And}
-use Rattle.mini_model.specs.declared.operator.UnaryOperator.TheVariants.{LogicalNot}
 use Rattle.mini_model.specs.declared.place.Position.{Position}
 use Rattle.mini_model.specs.declared.place.Position.TheVariants.{Expr, Stmt}
 use Rattle.mini_model.specs.declared.seat.Seat.{Seat}
 use Rattle.mini_model.specs.declared.seat.StmtSeat.{StmtSeat}
 use Rattle.mini_model.specs.declared.shape.Shape.TheVariants as shape
-use Rattle.mini_model.specs.Tree.{Tree, Trees, node, none, ◌▸◌, shape_of, absent, negation, logical, conditional, expression_statement, if_else, if_alone}
+use Rattle.mini_model.specs.Tree.{Tree, node, shape_of, absent, negation, logical, conditional, expression_statement, if_else, if_alone}
 use Rattle.mini_model.specs.Position.{statement_expression_seat, left_operand_seat}
 use Rattle.mini_model.specs.Terms.{neg, not_of}
-use Rattle.mini_model.specs.Redex.{Row23, Row40, Row82Else, Row82And, Row82Or, Row, Contracts}
+use Rattle.mini_model.specs.Redex.{Row, Contracts}
 use Rattle.mini_accept.specs.WellShaped.{Slot, fits}
 use Rattle.mini_names.specs.declared.Use.{Use}
 use Rattle.mini_names.specs.declared.Use.TheVariants.{Read}
 use Rattle.mini_names.specs.declared.Declared.{Declared}
 use Rattle.mini_names.specs.declared.Declared.TheVariants as declared
 use Rattle.mini_names.specs.declared.Targets.{Targets}
-use Rattle.mini_names.specs.DeclaredNames.{names_of, all_names, body_names, has_inner, any_inner}
+use Rattle.mini_names.specs.DeclaredNames.{names_of, body_names, has_inner}
 use Rattle.mini_names.specs.Scopes.{scopes_by}
 use Rattle.mini_names.specs.Resolved.{Environment}
 use Rattle.mini_names.specs.Scoped.{Scoped}
-use Rattle.mini_names.specs.Symbols.{declared as declared_in, times, Within}
+use Rattle.mini_names.specs.Symbols.{declared as declared_in, times}
 use Rattle.mini_names.specs.Edits.{Kept}
 use Rattle.mini_names.specs.Early.{Path, declarations, body_declarations, scope_declarations, early_names, targets_of, early_jumps, is_loop}
 use Rattle.mini_names.proofs.Changes.{times_both, by_swap}
 use Rattle.mini_names.proofs.Drops.{moved}
-use Rattle.mini_kept.proofs.Expressions.{expression, of_negation, of_conditional, neg_fits, not_of_fits}
-use Rattle.mini_kept.proofs.Rows.{of_if, of_statement, of_last_statement}
-use Rattle.mini_kept.specs.Carried.{numbers, all_numbers}
-use Rattle.mini_kept.specs.KeepsNames.{Keeps, Stands, is_rewritten_place, is_read, NamesOnce, HasTargets, count_of}
+use Rattle.mini_kept.proofs.Expressions.{expression, of_negation, neg_fits}
+use Rattle.mini_kept.proofs.Rows.{of_if}
+use Rattle.mini_kept.specs.Carried.{numbers}
+use Rattle.mini_kept.specs.KeepsNames.{Keeps, Stands, is_rewritten_place, is_read, count_of}
 use Rattle.mini_kept.specs.Lifted.{is_piece, KeepsNames}
 use Rattle.mini_kept.proofs.Below.{both_counts, empty_both, both_empty}
 use Rattle.mini_kept.proofs.Anywhere.{once_anywhere, targets_anywhere}

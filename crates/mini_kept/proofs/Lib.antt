@@ -29,3 +29,7 @@ pub mod InPreorder
 pub mod SameShape
 pub mod SameEarly
 pub mod SymbolsOnce
+pub mod FrameLists
+pub mod FramePlaces
+pub mod FrameSteps
+pub mod FrameRows

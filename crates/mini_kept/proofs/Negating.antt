@@ -1,6 +1,6 @@
 -- What the negation of an expression keeps.
-use Rattle.std.specs.Prelude.{ℕ, zero, suc, ◌+◌, ◌≤◌, ◌≡◌, refl, ◌||◌, ◌&&◌, nat_lt, Bool, true, false, List, [], ◌∷◌, ◌++◌, if◌then◌else◌}
-use Rattle.std.proofs.Common.{ap, ◌∙◌, sym, subst, arith}
+use Rattle.std.specs.Prelude.{ℕ, zero, suc, ◌≤◌, ◌≡◌, refl, ◌||◌, nat_lt, Bool, true, false, List, [], ◌∷◌, ◌++◌, if◌then◌else◌}
+use Rattle.std.proofs.Common.{ap, ◌∙◌, sym, arith}
 use Rattle.std.proofs.lemmas.List.{append-nil}
 use Rattle.mini_model.specs.declared.name.Name.{Name}
 use Rattle.mini_model.specs.declared.name.SymbolId.{SymbolId}
@@ -12,15 +12,14 @@ use Rattle.mini_model.specs.declared.shape.Shape.{Shape}
 use Rattle.mini_model.specs.declared.shape.Shape.TheVariants as shape
 use Rattle.mini_model.specs.Tree.{Tree, Trees, node, none, ◌▸◌, negation}
 use Rattle.mini_model.specs.Weight.{weight}
-use Rattle.mini_model.specs.Terms.{is_boolean, turned_seat, unwrapped, negated_by, neg, neg_each, not_of}
+use Rattle.mini_model.specs.Terms.{is_boolean, turned_seat, unwrapped, neg, neg_each, not_of}
 use Rattle.std.specs.Prelude.{Option}
-use Rattle.mini_names.specs.declared.Use.{Use}
 use Rattle.mini_names.specs.declared.Use.TheVariants.{Read}
 use Rattle.mini_names.specs.declared.Targets.{Targets}
 use Rattle.mini_names.specs.DeclaredNames.{has_inner, any_inner}
 use Rattle.mini_names.specs.Scopes.{scopes_by}
 use Rattle.mini_names.specs.Resolved.{Environment}
-use Rattle.mini_names.specs.Scoped.{NamesScoped, Scoped, AllScoped}
+use Rattle.mini_names.specs.Scoped.{Scoped, AllScoped}
 use Rattle.mini_names.specs.Symbols.{declared as declared_in, declared_from, times}
 use Rattle.mini_names.specs.Early.{Path, scope_declarations, early_names, all_early_names, targets_of, early_jumps, all_early_jumps}
 use Rattle.mini_names.proofs.Changes.{times_both}

@@ -1,5 +1,5 @@
 -- Any number of rewrites leave a program one.
-use Rattle.std.proofs.Common.{◌≡◌, true, false}
+use Rattle.std.proofs.Common.{false}
 use Rattle.mini_model.specs.declared.place.Position.{Position}
 use Rattle.mini_model.specs.Tree.{Tree}
 use Rattle.mini_model.specs.Redex.{Contracts}

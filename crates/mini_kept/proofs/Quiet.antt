@@ -1,8 +1,6 @@
 -- An expression declares nothing for what stands around it, by its root's shape alone.
-use Rattle.std.specs.Prelude.{ℕ, zero, suc, ◌≡◌, refl, ◌||◌, ◌&&◌, not, Bool, true, false, List, [], ◌∷◌, ◌++◌, if◌then◌else◌}
-use Rattle.std.proofs.Common.{ap, ◌∙◌, sym, subst}
-use Rattle.mini_model.specs.declared.kind.VariableDeclarationKind.TheVariants.{Var, Let, Const}
-use Rattle.mini_model.specs.declared.name.Name.{Name}
+use Rattle.std.specs.Prelude.{ℕ, zero, suc, ◌≡◌, refl, ◌&&◌, not, Bool, true, false, List, [], ◌++◌, if◌then◌else◌}
+use Rattle.std.proofs.Common.{ap, ◌∙◌}
 use Rattle.mini_model.specs.declared.name.SymbolId.{SymbolId}
 use Rattle.mini_model.specs.declared.operator.AssignmentOperator.{AssignmentOperator}
 use Rattle.mini_model.specs.declared.operator.AssignmentOperator.TheVariants.{Assign}
@@ -16,7 +14,6 @@ use Rattle.mini_names.specs.declared.Use.TheVariants.{Read}
 use Rattle.mini_names.specs.declared.Binding.{Binding}
 use Rattle.mini_names.specs.declared.Declared.{Declared}
 use Rattle.mini_names.specs.declared.Declared.TheVariants as declared
-use Rattle.mini_names.specs.declared.Place.{Place}
 use Rattle.mini_names.specs.declared.Place.TheVariants as place
 use Rattle.mini_names.specs.DeclaredNames.{place_of, names_by, names_of, first_names, all_names, is_statement_list, body_names, all_body_names}
 use Rattle.mini_names.specs.Scopes.{use_of, opening_of, opened, scopes_by, at_or_empty}

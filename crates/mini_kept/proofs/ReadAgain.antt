@@ -1,5 +1,5 @@
 -- A program that is written, read again and resolved.
-use Rattle.std.specs.Prelude.{ℕ, ◌≡◌, refl, List, [], ◌∷◌, ◌++◌, map, Option, Some}
+use Rattle.std.specs.Prelude.{ℕ, ◌≡◌, refl, [], ◌∷◌, ◌++◌, map, Option, Some}
 use Rattle.std.proofs.Common.{ap, ◌∙◌, sym, subst}
 use Rattle.mini_model.specs.declared.name.SymbolId.{SymbolId}
 use Rattle.mini_model.specs.Tree.{Tree, Trees, node, none, ◌▸◌}

@@ -1,7 +1,6 @@
 -- A step at any place of a tree keeps what the node that is replaced does.
-use Rattle.std.specs.Prelude.{ℕ, zero, suc, ◌≡◌, refl, ◌||◌, ◌&&◌, ◌==◌, Bool, true, false, List, [], ◌∷◌, Option, Some, None}
+use Rattle.std.specs.Prelude.{ℕ, suc, ◌≡◌, refl, ◌||◌, ◌&&◌, ◌==◌, Bool, true, false, List, [], ◌∷◌}
 use Rattle.std.proofs.Common.{ap, ◌∙◌, sym, subst}
-use Rattle.std.proofs.lemmas.Bool.{and_parts}
 use Rattle.mini_model.specs.declared.name.Name.{Name}
 use Rattle.mini_model.specs.declared.place.Position.{Position}
 use Rattle.mini_model.specs.declared.shape.Shape.{Shape}
@@ -9,7 +8,7 @@ use Rattle.mini_model.specs.declared.shape.Shape.TheVariants as shape
 use Rattle.mini_model.specs.Tree.{Tree, Trees, node, none, ◌▸◌, count, shape_of}
 use Rattle.mini_model.specs.Position.{child_position}
 use Rattle.mini_model.specs.Rewriting.{Step, here, inside, StepIn, first, later}
-use Rattle.mini_accept.specs.WellShaped.{Tagging, untagged, tagged, Depth, in_module, in_body, nested, Class, a_statement, a_parameter, a_pattern_element, a_target_element, a_named_target, a_pattern_property, a_target_property, an_inner, a_key, a_private_or_key, an_inner_key, an_expression, Slot, one, one_or_absent, many, many_or_holes, many_and_rest, many_or_holes_and_rest, quasis, Filling, refused, these, each, each_or_last, pieces, filling, filling_by, slots_of, class_of, is_whole, is_strict_in, is_quasi_by, is_quasi, are_quasis, has_plain_fields, is_last, fits, fill}
+use Rattle.mini_accept.specs.WellShaped.{Tagging, untagged, tagged, Depth, in_module, in_body, nested, Class, a_statement, a_parameter, a_pattern_element, a_target_element, a_named_target, a_pattern_property, a_target_property, an_inner, a_key, a_private_or_key, an_inner_key, an_expression, Slot, one, one_or_absent, Filling, refused, these, each, each_or_last, pieces, filling, class_of, is_whole, is_strict_in, is_quasi_by, is_quasi, are_quasis, has_plain_fields, is_last, fits, fill}
 use Rattle.mini_names.specs.declared.Use.{Use}
 use Rattle.mini_names.specs.DeclaredNames.{is_inner}
 use Rattle.mini_names.specs.Scopes.{use_of}
@@ -198,7 +197,7 @@ module _ (R : Position → Tree → Tree → Type 0) (l : KeepsNames R) where
   no_step g last (here p (node h xs n ts) u r) e = cc (sym (piece_by g last h xs n ts e).0 ∙ no_piece g last h (l.pieces p (node h xs n ts) u r))
   no_step g last (inside p h xs n ts us s) e = some_child R s (piece_by g last h xs n ts e).1
 
-  no_steps : {π : ℕ → Position} {ts us : Trees} (g : Tagging) → StepIn R π ts us → are_quasis g ts ≡ true → ⊥
+  pub no_steps : {π : ℕ → Position} {ts us : Trees} (g : Tagging) → StepIn R π ts us → are_quasis g ts ≡ true → ⊥
   no_steps g (first π t u none s) e = no_step g true s e
   no_steps g (first π t u (v ▸ ts) s) e = no_step g false s (left (is_quasi g false t) (are_quasis g (v ▸ ts)) e)
   no_steps g (later π t none us s) e = some_child R s refl

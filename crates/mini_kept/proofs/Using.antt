@@ -1,18 +1,14 @@
 -- How the names of a child are used goes with its place.
-use Rattle.std.specs.Prelude.{ℕ, zero, suc, ◌≡◌, refl, ◌||◌, ◌&&◌, ◌==◌, Bool, true, false, List, [], ◌∷◌}
-use Rattle.std.proofs.Common.{ap, ◌∙◌, sym, subst}
-use Rattle.std.proofs.lemmas.Bool.{and_parts}
+use Rattle.std.specs.Prelude.{ℕ, zero, suc, ◌≡◌, refl, ◌||◌, Bool, true, false}
 use Rattle.mini_model.specs.declared.kind.VariableDeclarationKind.TheVariants.{Var, Let, Const}
-use Rattle.mini_model.specs.declared.name.Name.{Name}
 use Rattle.mini_model.specs.declared.operator.AssignmentOperator.{AssignmentOperator}
 use Rattle.mini_model.specs.declared.operator.AssignmentOperator.TheVariants.{Assign}
 use Rattle.mini_model.specs.declared.place.Position.{Position}
-use Rattle.mini_model.specs.declared.place.Position.TheVariants.{Expr, Stmt, Target, Method, Unwritten, StatementList, ArgumentList, SequenceList, TemplateList, CommaList, Elsewhere}
+use Rattle.mini_model.specs.declared.place.Position.TheVariants.{Expr, ArgumentList, SequenceList, TemplateList}
 use Rattle.mini_model.specs.declared.shape.Shape.{Shape}
 use Rattle.mini_model.specs.declared.shape.Shape.TheVariants as shape
-use Rattle.mini_model.specs.Tree.{Tree, Trees, node, none, ◌▸◌, count, shape_of, child_or_absent}
+use Rattle.mini_model.specs.Tree.{Tree, shape_of}
 use Rattle.mini_model.specs.Position.{child_position, item_position}
-use Rattle.mini_accept.specs.WellShaped.{Slot, fits}
 use Rattle.mini_names.specs.declared.Use.{Use}
 use Rattle.mini_names.specs.declared.Use.TheVariants.{Read}
 use Rattle.mini_names.specs.DeclaredNames.{is_inner}

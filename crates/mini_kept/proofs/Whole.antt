@@ -1,5 +1,5 @@
 -- Any number of rewrites of a program.
-use Rattle.std.specs.Prelude.{ℕ, ◌≡◌, ◌≤◌, ◌||◌, refl, Bool, true, false, List, []}
+use Rattle.std.specs.Prelude.{◌≡◌, refl, true, false, []}
 use Rattle.std.proofs.Common.{arith, subst}
 use Rattle.mini_model.specs.declared.place.Position.{Position}
 use Rattle.mini_model.specs.declared.place.Position.TheVariants.{Elsewhere}
@@ -9,7 +9,6 @@ use Rattle.mini_model.specs.Rewriting.{Step, Reaches, done, more}
 use Rattle.mini_accept.specs.WellShaped.{a_program, one, IsWellShaped}
 use Rattle.mini_names.specs.declared.Use.TheVariants.{Read}
 use Rattle.mini_names.specs.DeclaredNames.{is_inner}
-use Rattle.mini_names.specs.Symbols.{declared_symbols}
 use Rattle.mini_names.specs.Early.{no_targets}
 use Rattle.mini_names.proofs.Changes.{distinct}
 use Rattle.mini_kept.proofs.Steps.{step_fits}

@@ -9,3 +9,7 @@ pub mod Standing
 pub mod KeepsBodies
 pub mod BodyLaws
 pub mod Fixities
+pub mod Frames
+pub mod FrameExamples
+pub mod KeepsFrames
+pub mod FrameLaws

@@ -1,5 +1,5 @@
 -- What a program that is written and read again has to do with the one that was written.
-use Rattle.std.specs.Prelude.{ℕ, zero, suc, ◌≡◌, List, [], ◌∷◌, length, Some}
+use Rattle.std.specs.Prelude.{ℕ, suc, ◌≡◌, [], ◌∷◌, length, Some}
 use Rattle.mini_model.specs.Tree.{Tree}
 use Rattle.mini_names.specs.Resolved.{resolved_program}
 use Rattle.mini_names.specs.declared.Use.TheVariants.{Read}

@@ -1,6 +1,6 @@
-//! What rewriting keeps of a program: it stays well shaped, and so do its names, numbers and bodies; and what a program that is
-//! written, read again and resolved has to do with the one that was written. Each function's contract is a law, and its body is
-//! empty.
+//! What rewriting keeps of a program: it stays well shaped, and so do its names, numbers, bodies and frames; and what a program
+//! that is written, read again and resolved has to do with the one that was written. Each function's contract is a law, and its
+//! body is empty.
 #![tactic(auto)]
 
 ghost use Rattle.mini_kept.specs.Kept.{EachBelowKept, EachKept, ReachesWellShaped, StepFits};
@@ -8,6 +8,7 @@ ghost use Rattle.mini_kept.specs.Lifted.{RowsKeepNames, ReachesKeepsNames};
 ghost use Rattle.mini_kept.specs.NameLaws.{ResolvedRenumbered, NumbersCarried, ProgramCarried};
 ghost use Rattle.mini_kept.specs.Fixities.{ReachesKeepsFixities, RowsKeepFixities, ProgramKeepsFixities};
 ghost use Rattle.mini_kept.specs.BodyLaws.{StepKeepsBodies, ReachesKeepsBodies, BodiesStand, RowsKeepBodies, ProgramKeepsBodies};
+ghost use Rattle.mini_kept.specs.FrameLaws.{StepKeepsFrames, ReachesKeepsFrames, RowsKeepFrames, ProgramKeepsFrames};
 
 use mini_laws::Rewrites;
 
@@ -79,4 +80,17 @@ pub fn fixities_kept<R: Rewrites>()
 pub fn rows_keep_fixities()
     ensures rows { RowsKeepFixities }
     ensures program { ProgramKeepsFixities }
+{}
+
+/// A step at any place, and any number of them, keep the frames of a program that is well shaped, where what is put there
+/// keeps those of what stood there and is no part of one.
+pub fn frames_kept<R: Rewrites>()
+    ensures step { StepKeepsFrames R.gives }
+    ensures reaches { ReachesKeepsFrames R.gives }
+{}
+
+/// What each row writes has the frames of what it reads, and so any number of rewrites keep those of a program.
+pub fn rows_keep_frames()
+    ensures rows { RowsKeepFrames }
+    ensures program { ProgramKeepsFrames }
 {}

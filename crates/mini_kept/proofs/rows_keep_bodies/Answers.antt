@@ -1,5 +1,4 @@
 use Rattle.std.specs.Prelude.{false}
-use Rattle.mini_model.specs.declared.place.Position.TheVariants.{Elsewhere}
 use Rattle.mini_model.specs.Redex.{Contracts}
 use Rattle.mini_accept.specs.WellShaped.{one, a_program, fits}
 use Rattle.mini_kept.proofs.Steps.{step_fits}

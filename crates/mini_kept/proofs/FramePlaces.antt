@@ -1,0 +1,359 @@
+-- What stands in a frame holds no statement and no expression of a body: the slots of its parts are those of names, keys,
+-- patterns, members and inner expressions alone.
+use Rattle.std.specs.Prelude.{ℕ, zero, suc, ◌≡◌, refl, ◌⊎◌, ◌||◌, ◌&&◌, not, Bool, true, false, List, [], ◌∷◌, Option, Some, None, pos, negsuc, if◌then◌else◌}
+use Rattle.std.proofs.Common.{◌∙◌, sym, subst, inl, inr}
+use Rattle.std.proofs.Math.Dec.{eqb-suc-zero}
+use Rattle.mini_model.specs.declared.kind.MetaPropertyKind.TheVariants.{NewTarget, ImportMeta}
+use Rattle.mini_model.specs.declared.kind.PropertyKind.{PropertyKind}
+use Rattle.mini_model.specs.declared.kind.PropertyKind.TheVariants as property
+use Rattle.mini_model.specs.declared.shape.Shape.{Shape}
+use Rattle.mini_model.specs.declared.shape.Shape.TheVariants as shape
+use Rattle.mini_accept.specs.WellShaped.{in_module, in_body, nested, Class, a_program, a_statement, a_class_body, a_class_member, a_method, an_object_property, a_binding, a_label, a_private_name, an_inner, an_inner_argument, a_super, a_key, a_private_or_key, an_inner_key, a_tagged_template, a_word, a_pattern, a_pattern_element, a_pattern_property, a_pattern_rest, a_parameter, an_element_target, a_named_target, a_target_name, a_target_element, a_target_property, a_target_rest, an_import, a_module_name, a_string, an_export, an_exported_name, an_exported_declaration, a_default_export, Slot, one, one_or_absent, many, many_or_holes, many_and_rest, many_or_holes_and_rest, quasis, Filling, refused, these, each, each_or_last, pieces, is_text, none_if, value_class, class_of, filling, filling_by, slots_of, has_its_number}
+use Rattle.mini_kept.proofs.Bools.{left, right}
+use Rattle.mini_kept.specs.Standing.{is_method_slot}
+use Rattle.mini_kept.specs.Frames.{Showing, Whole, Named, Hidden, showing, is_port, property_below}
+use Rattle.mini_kept.specs.KeepsFrames.{is_in_body, is_body_slot}
+
+-- ---- what is said of each slot of a filling, from an index on
+
+abbrev SlotsAre : (ℕ → Slot → Type 0) → ℕ → List Slot → Type 0
+SlotsAre Q i [] = Unit {0}
+SlotsAre Q i (s ∷ ss) = Q i s × SlotsAre Q (suc i) ss
+
+abbrev pub Are : (ℕ → Slot → Type 0) → ℕ → Filling → Type 0
+Are Q i refused = Unit {0}
+Are Q i (these ss) = SlotsAre Q i ss
+Are Q i (each s) = (j : ℕ) → Q j s
+Are Q i (each_or_last s r) = (j : ℕ) → Q j s × Q j r
+Are Q i (pieces g) = Unit {0}
+
+slots_all : (Q : ℕ → Slot → Type 0) → ((i : ℕ) (s : Slot) → Q i s) → (i : ℕ) (ss : List Slot) → SlotsAre Q i ss
+slots_all Q f i [] = tt
+slots_all Q f i (s ∷ ss) = (f i s, slots_all Q f (suc i) ss)
+
+are_all : (Q : ℕ → Slot → Type 0) → ((i : ℕ) (s : Slot) → Q i s) → (i : ℕ) (g : Filling) → Are Q i g
+are_all Q f i refused = tt
+are_all Q f i (these ss) = slots_all Q f i ss
+are_all Q f i (each s) = λ j. f j s
+are_all Q f i (each_or_last s r) = λ j. (f j s, f j r)
+are_all Q f i (pieces g) = tt
+
+-- ---- parts
+
+abbrev is_part : Class → Bool
+is_part a_class_body = true
+is_part a_class_member = true
+is_part a_method = true
+is_part a_binding = true
+is_part a_label = true
+is_part a_private_name = true
+is_part (an_inner c) = true
+is_part an_inner_argument = true
+is_part a_super = true
+is_part (a_private_or_key computed) = true
+is_part (an_inner_key computed) = true
+is_part a_tagged_template = true
+is_part (a_word w) = true
+is_part a_pattern = true
+is_part a_pattern_element = true
+is_part a_pattern_property = true
+is_part a_pattern_rest = true
+is_part a_parameter = true
+is_part an_element_target = true
+is_part a_named_target = true
+is_part a_target_name = true
+is_part a_target_element = true
+is_part a_target_property = true
+is_part a_target_rest = true
+is_part an_import = true
+is_part a_module_name = true
+is_part a_string = true
+is_part an_export = true
+is_part an_exported_name = true
+is_part c = false
+
+abbrev pub is_part_slot : Slot → Bool
+is_part_slot (one c) = is_part c
+is_part_slot (one_or_absent c) = is_part c
+is_part_slot (many c) = is_part c
+is_part_slot (many_or_holes c) = is_part c
+is_part_slot (many_and_rest c rest) = is_part c && is_part rest
+is_part_slot (many_or_holes_and_rest c rest) = is_part c && is_part rest
+is_part_slot (quasis g) = true
+
+-- of a declaration that is exported
+abbrev pub is_declared_slot : Slot → Bool
+is_declared_slot (one_or_absent an_exported_declaration) = true
+is_declared_slot (one a_default_export) = true
+is_declared_slot s = false
+
+abbrev pub shows_right : Showing → Slot → Bool
+shows_right Whole s = is_part_slot s
+shows_right Named s = is_declared_slot s
+shows_right Hidden s = true
+
+abbrev show_right : (ℕ → Showing) → ℕ → List Slot → Bool
+show_right σ i [] = true
+show_right σ i (s ∷ ss) = shows_right (σ i) s && show_right σ (suc i) ss
+
+abbrev right_by : (ℕ → Showing) → Option (List Slot) → Bool
+right_by σ None = true
+right_by σ (Some ss) = show_right σ 0 ss
+
+abbrev whole : ℕ → Showing
+whole i = Whole
+
+-- the children of a part are parts, unless it has a number
+
+part_checked : (strict : Bool) (c : Class) (h : Shape) → (not (is_part c) || (not (has_its_number c h 0) || right_by whole (slots_of strict c h))) ≡ true
+part_checked strict a_method shape.Absent = refl
+part_checked strict (a_private_or_key true) shape.Absent = refl
+part_checked strict (a_private_or_key false) shape.Absent = refl
+part_checked strict (an_inner_key true) shape.Absent = refl
+part_checked strict (an_inner_key false) shape.Absent = refl
+part_checked strict (a_word w) (shape.IdentifierName s) = by (is_text s w)
+  where
+    by : (b : Bool) → right_by whole (none_if (not b) (Some [])) ≡ true
+    by true = refl
+    by false = refl
+part_checked strict c (shape.NumericLiteral (pos n)) = refl
+part_checked strict c (shape.NumericLiteral (negsuc n)) = refl
+part_checked strict c h = refl
+
+-- so are those of a node with an outline, where they stand whole
+
+abbrev pub has_outline : Shape → Bool
+has_outline (shape.Function d g ds) = true
+has_outline (shape.ArrowFunctionExpression ds) = true
+has_outline (shape.Class d) = true
+has_outline shape.StaticBlock = true
+has_outline shape.InnerExpression = true
+has_outline (shape.RegExpLiteral pattern flags) = true
+has_outline shape.PrivateInExpression = true
+has_outline shape.SuperCallExpression = true
+has_outline shape.SuperStaticMemberExpression = true
+has_outline shape.SuperComputedMemberExpression = true
+has_outline (shape.PrivateFieldExpression optional) = true
+has_outline shape.TaggedTemplateExpression = true
+has_outline (shape.MetaProperty k) = true
+has_outline shape.ImportExpression = true
+has_outline shape.ObjectPattern = true
+has_outline shape.ArrayPattern = true
+has_outline shape.ObjectAssignmentTarget = true
+has_outline shape.ArrayAssignmentTarget = true
+has_outline shape.AssignmentPattern = true
+has_outline shape.ImportDeclaration = true
+has_outline shape.ExportNamedDeclaration = true
+has_outline shape.ExportDefaultDeclaration = true
+has_outline shape.ExportAllDeclaration = true
+has_outline h = false
+
+own_checked : (strict : Bool) (c : Class) (h : Shape) → (not (has_outline h) || right_by (showing h) (slots_of strict c h)) ≡ true
+own_checked strict a_method shape.Absent = refl
+own_checked true (a_statement in_module) shape.Absent = refl
+own_checked true (a_statement in_body) shape.Absent = refl
+own_checked true (a_statement nested) shape.Absent = refl
+own_checked false (a_statement in_module) shape.Absent = refl
+own_checked false (a_statement in_body) shape.Absent = refl
+own_checked false (a_statement nested) shape.Absent = refl
+own_checked strict (a_key true) shape.Absent = refl
+own_checked strict (a_key false) shape.Absent = refl
+own_checked strict (a_private_or_key true) shape.Absent = refl
+own_checked strict (a_private_or_key false) shape.Absent = refl
+own_checked strict (an_inner_key true) shape.Absent = refl
+own_checked strict (an_inner_key false) shape.Absent = refl
+own_checked strict c (shape.Function true g ds) = refl
+own_checked strict c (shape.Function false g ds) = refl
+own_checked strict c (shape.Class true) = refl
+own_checked strict c (shape.Class false) = refl
+own_checked strict c (shape.PrivateFieldExpression true) = refl
+own_checked strict c (shape.PrivateFieldExpression false) = refl
+own_checked strict c (shape.MetaProperty NewTarget) = refl
+own_checked strict c (shape.MetaProperty ImportMeta) = refl
+own_checked strict c h = refl
+
+-- ---- what the children of a node fill
+
+implied : (a b : Bool) → (not a || b) ≡ true → a ≡ true → b ≡ true
+implied true b e f = e
+implied false b e f = absurd (cc f)
+
+slots_right : (σ : ℕ → Showing) (i : ℕ) (ss : List Slot) → show_right σ i ss ≡ true → SlotsAre (λ j s. shows_right (σ j) s ≡ true) i ss
+slots_right σ i [] e = tt
+slots_right σ i (s ∷ ss) e = (left (shows_right (σ i) s) (show_right σ (suc i) ss) e, slots_right σ (suc i) ss (right (shows_right (σ i) s) (show_right σ (suc i) ss) e))
+
+filled_right : (σ : ℕ → Showing) (o : Option (List Slot)) → right_by σ o ≡ true → Are (λ j s. shows_right (σ j) s ≡ true) 0 (filling_by o)
+filled_right σ None e = tt
+filled_right σ (Some ss) e = slots_right σ 0 ss e
+
+-- of a node with an outline
+own_of : (strict : Bool) (c : Class) (h : Shape) → has_outline h ≡ true → Are (λ j s. shows_right (showing h j) s ≡ true) 0 (filling_by (slots_of strict c h))
+own_of strict c h o = filled_right (showing h) (slots_of strict c h) (implied (has_outline h) (right_by (showing h) (slots_of strict c h)) (own_checked strict c h) o)
+
+pub own_right : (strict : Bool) (s : Slot) (h : Shape) → has_outline h ≡ true → Are (λ j r. shows_right (showing h j) r ≡ true) 0 (filling strict s h)
+own_right strict (one c) h o = own_of strict c h o
+own_right strict (one_or_absent c) shape.Absent o = absurd (cc o)
+own_right strict (one_or_absent c) h o = own_of strict c h o
+own_right strict s shape.Listed o = absurd (cc o)
+own_right strict s h o = tt
+
+-- of a part that has no number
+part_of : (strict : Bool) (c : Class) (h : Shape) → is_part c ≡ true → has_its_number c h 0 ≡ true → Are (λ j s. is_part_slot s ≡ true) 0 (filling_by (slots_of strict c h))
+part_of strict c h q z = filled_right whole (slots_of strict c h) (implied (has_its_number c h 0) (right_by whole (slots_of strict c h)) (implied (is_part c) (not (has_its_number c h 0) || right_by whole (slots_of strict c h)) (part_checked strict c h) q) z)
+
+pub part_right : (strict : Bool) (s : Slot) (h : Shape) → is_part_slot s ≡ true → has_its_number (class_of s) h 0 ≡ true → Are (λ j r. is_part_slot r ≡ true) 0 (filling strict s h)
+part_right strict (one c) h q z = part_of strict c h q z
+part_right strict (one_or_absent c) shape.Absent q z = tt
+part_right strict (one_or_absent c) h q z = part_of strict c h q z
+part_right strict (many c) shape.Listed q z = λ j. q
+part_right strict (many_or_holes c) shape.Listed q z = λ j. q
+part_right strict (many_and_rest c rest) shape.Listed q z = λ j. (left (is_part c) (is_part rest) q, right (is_part c) (is_part rest) q)
+part_right strict (many_or_holes_and_rest c rest) shape.Listed q z = λ j. (left (is_part c) (is_part rest) q, right (is_part c) (is_part rest) q)
+part_right strict (quasis g) shape.Listed q z = tt
+part_right strict s h q z = tt
+
+-- a part is no statement and no expression of a body
+
+part_apart : (c : Class) → (not (is_part c) || not (is_in_body c)) ≡ true
+part_apart (a_key true) = refl
+part_apart (a_key false) = refl
+part_apart c = refl
+
+denied : (b : Bool) → not b ≡ true → b ≡ true → ⊥
+denied true e f = cc e
+denied false e f = cc f
+
+class_apart : (c : Class) → is_part c ≡ true → is_in_body c ≡ true → ⊥
+class_apart c e f = denied (is_in_body c) (implied (is_part c) (not (is_in_body c)) (part_apart c) e) f
+
+pub slot_apart : (s : Slot) → is_part_slot s ≡ true → is_body_slot s ≡ true → ⊥
+slot_apart (one c) e f = class_apart c e f
+slot_apart (one_or_absent c) e f = class_apart c e f
+slot_apart s e f = cc f
+
+-- nor is the value of a method one
+pub no_method : (s : Slot) → is_body_slot s ≡ true → is_method_slot s ≡ false
+no_method (one a_method) e = absurd (cc e)
+no_method (one c) e = refl
+no_method s e = refl
+
+-- ---- a program
+
+abbrev pub AProgram : Bool → Slot → Bool → List (List ℕ) → Type 0
+AProgram strict s m ds = (filling strict s (shape.Program m ds) ≡ refused) ⊎ (filling strict s (shape.Program m ds) ≡ these (many (a_statement (if m then in_module else in_body)) ∷ []))
+
+program_in : (strict : Bool) (c : Class) (m : Bool) (ds : List (List ℕ)) → AProgram strict (one c) m ds
+program_in strict a_program m ds = inr refl
+program_in true (a_statement in_module) m ds = inl refl
+program_in true (a_statement in_body) m ds = inl refl
+program_in true (a_statement nested) m ds = inl refl
+program_in false (a_statement in_module) m ds = inl refl
+program_in false (a_statement in_body) m ds = inl refl
+program_in false (a_statement nested) m ds = inl refl
+program_in strict (a_key true) m ds = inl refl
+program_in strict (a_key false) m ds = inl refl
+program_in strict (a_private_or_key true) m ds = inl refl
+program_in strict (a_private_or_key false) m ds = inl refl
+program_in strict (an_inner_key true) m ds = inl refl
+program_in strict (an_inner_key false) m ds = inl refl
+program_in strict c m ds = inl refl
+
+pub program_filling : (strict : Bool) (s : Slot) (m : Bool) (ds : List (List ℕ)) → AProgram strict s m ds
+program_filling strict (one c) m ds = program_in strict c m ds
+program_filling strict (one_or_absent c) m ds = program_in strict c m ds
+program_filling strict s m ds = inl refl
+
+-- ---- functions of an object literal
+
+abbrev is_property : Shape → Bool
+is_property (shape.ObjectProperty k m s c) = true
+is_property h = false
+
+no_property : (h : Shape) (i : ℕ) → is_property h ≡ false → property_below h i ≡ None
+no_property (shape.ObjectProperty k m s c) i e = absurd (cc e)
+no_property h zero e = refl
+no_property h (suc i) e = refl
+
+abbrev AProperty : Bool → Slot → PropertyKind → Bool → Bool → Bool → Type 0
+AProperty strict s k m sh computed = (filling strict s (shape.ObjectProperty k m sh computed) ≡ refused) ⊎ (filling strict s (shape.ObjectProperty k m sh computed) ≡ these (one (a_key computed) ∷ (one (value_class k m) ∷ [])))
+
+property_in : (strict : Bool) (c : Class) (k : PropertyKind) (m sh computed : Bool) → AProperty strict (one c) k m sh computed
+property_in strict an_object_property k m sh computed = inr refl
+property_in true (a_statement in_module) k m sh computed = inl refl
+property_in true (a_statement in_body) k m sh computed = inl refl
+property_in true (a_statement nested) k m sh computed = inl refl
+property_in false (a_statement in_module) k m sh computed = inl refl
+property_in false (a_statement in_body) k m sh computed = inl refl
+property_in false (a_statement nested) k m sh computed = inl refl
+property_in strict (a_key true) k m sh computed = inl refl
+property_in strict (a_key false) k m sh computed = inl refl
+property_in strict (a_private_or_key true) k m sh computed = inl refl
+property_in strict (a_private_or_key false) k m sh computed = inl refl
+property_in strict (an_inner_key true) k m sh computed = inl refl
+property_in strict (an_inner_key false) k m sh computed = inl refl
+property_in strict c k m sh computed = inl refl
+
+property_filling : (strict : Bool) (s : Slot) (k : PropertyKind) (m sh computed : Bool) → AProperty strict s k m sh computed
+property_filling strict (one c) k m sh computed = property_in strict c k m sh computed
+property_filling strict (one_or_absent c) k m sh computed = property_in strict c k m sh computed
+property_filling strict s k m sh computed = inl refl
+
+-- a function there has no kind of property, unless its slot is that of a method
+abbrev pub Plain : (ℕ → Option PropertyKind) → ℕ → Slot → Type 0
+Plain kind i s = is_method_slot s ≡ false → kind i ≡ None
+
+key_plain : (k : PropertyKind) (m sh computed : Bool) → property_below (shape.ObjectProperty k m sh computed) 0 ≡ None
+key_plain property.Init false sh computed = refl
+key_plain k m sh computed = refl
+
+value_plain : (k : PropertyKind) (m sh computed : Bool) → Plain (property_below (shape.ObjectProperty k m sh computed)) 1 (one (value_class k m))
+value_plain property.Init false sh computed = λ e. refl
+value_plain property.Init true sh computed = λ e. absurd (cc e)
+value_plain property.Get true sh computed = λ e. absurd (cc e)
+value_plain property.Get false sh computed = λ e. absurd (cc e)
+value_plain property.Set true sh computed = λ e. absurd (cc e)
+value_plain property.Set false sh computed = λ e. absurd (cc e)
+
+property_plain : (strict : Bool) (s : Slot) (k : PropertyKind) (m sh computed : Bool) → AProperty strict s k m sh computed → Are (Plain (property_below (shape.ObjectProperty k m sh computed))) 0 (filling strict s (shape.ObjectProperty k m sh computed))
+property_plain strict s k m sh computed (inl f) = subst (Are (Plain (property_below (shape.ObjectProperty k m sh computed))) 0) (sym f) tt
+property_plain strict s k m sh computed (inr f) = subst (Are (Plain (property_below (shape.ObjectProperty k m sh computed))) 0) (sym f) ((λ e. key_plain k m sh computed), (value_plain k m sh computed, tt))
+
+pub plain_right : (strict : Bool) (s : Slot) (h : Shape) → Are (Plain (property_below h)) 0 (filling strict s h)
+plain_right strict s (shape.ObjectProperty k m sh computed) = property_plain strict s k m sh computed (property_filling strict s k m sh computed)
+plain_right strict s h = are_all (Plain (property_below h)) (λ i r e. no_property h i refl) 0 (filling strict s h)
+
+-- ---- numbers and outlines
+
+pub numbered_outline : (c : Class) (h : Shape) (n : ℕ) → has_its_number c h (suc n) ≡ true → has_outline h ≡ true
+numbered_outline c (shape.Function d g ds) n e = refl
+numbered_outline c (shape.ArrowFunctionExpression ds) n e = refl
+numbered_outline c (shape.Class d) n e = refl
+numbered_outline c shape.StaticBlock n e = refl
+numbered_outline c shape.InnerExpression n e = refl
+numbered_outline c (shape.RegExpLiteral pattern flags) n e = refl
+numbered_outline c shape.PrivateInExpression n e = refl
+numbered_outline c shape.SuperCallExpression n e = refl
+numbered_outline c shape.SuperStaticMemberExpression n e = refl
+numbered_outline c shape.SuperComputedMemberExpression n e = refl
+numbered_outline c (shape.PrivateFieldExpression optional) n e = refl
+numbered_outline c shape.TaggedTemplateExpression n e = refl
+numbered_outline c (shape.MetaProperty k) n e = refl
+numbered_outline c shape.ImportExpression n e = refl
+numbered_outline c shape.ObjectPattern n e = refl
+numbered_outline c shape.ArrayPattern n e = refl
+numbered_outline c shape.ObjectAssignmentTarget n e = refl
+numbered_outline c shape.ArrayAssignmentTarget n e = refl
+numbered_outline c shape.AssignmentPattern n e = refl
+numbered_outline c shape.ImportDeclaration n e = refl
+numbered_outline c shape.ExportNamedDeclaration n e = refl
+numbered_outline c shape.ExportDefaultDeclaration n e = refl
+numbered_outline c shape.ExportAllDeclaration n e = refl
+numbered_outline c h n e = absurd (cc (sym (eqb-suc-zero n) ∙ e))
+
+pub port_outline : (m : Bool) (h : Shape) → is_port m h ≡ true → has_outline h ≡ true
+port_outline m shape.ImportDeclaration e = refl
+port_outline m shape.ExportNamedDeclaration e = refl
+port_outline m shape.ExportDefaultDeclaration e = refl
+port_outline m shape.ExportAllDeclaration e = refl
+port_outline m (shape.Function d g ds) e = refl
+port_outline m h e = absurd (cc e)
