@@ -18,7 +18,7 @@ use Rattle.mini_model.specs.Rewriting.{Step, here, inside, StepIn, first, later,
 use Rattle.mini_meaning.specs.Value.{Variable, variables, choose, is_in}
 use Rattle.mini_meaning.specs.State.{Fixed, Writable, Constant, KeepsOld}
 use Rattle.mini_meaning.specs.Naming.{summary, summary_of, summaries}
-use Rattle.mini_meaning.specs.Fixity.{fixity_by, declared_by, stricter, fixed_by, fixed_by_any, written_in, fixed_in}
+use Rattle.mini_meaning.specs.Fixity.{fixity_by, declared_by, stricter, fixed_by, fixed_by_any, written_in}
 use Rattle.mini_laws.proofs.Rewritten.{rows_mean_same}
 use Rattle.mini_kept.specs.Fixities.{KeepsFixities, ReachesKeepsFixities, RowsKeepFixities, ProgramKeepsFixities}
 
