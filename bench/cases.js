@@ -1,0 +1,377 @@
+// Whole runs of the minifier, with what they answer. Each answer is worked out by hand from ECMA-262 and docs/REWRITES.md;
+// here it is only turned into JSON.
+//
+//     node --expose-internals bench/cases.js
+//
+// writes the lines under the title below into crates/mini_cases/stdin and crates/mini_cases/stdout. A case is JavaScript
+// before and after, which acorn parses with early errors left aside, and what the answer says besides.
+"use strict";
+const fs = require("fs");
+const path = require("path");
+const { parseLeniently, written } = require("./estree.js");
+
+const TITLE = "# Whole runs: which numbers and symbols stay, how many passes it takes, and the program";
+const UNBOUNDED = 4294967295;
+const cases = [];
+
+const upTo = (count) => Array.from({ length: count }, (_, at) => at);
+const numbers = (said) => (Array.isArray(said) ? said : upTo(said));
+
+// A module is told by what only a module has.
+const typeOf = (source) => (/^(import|export)\b|\bimport\.meta/m.test(source) ? "module" : "script");
+const estree = (source) => parseLeniently(source, typeOf(source));
+const plain = (key, value) => (typeof value === "bigint" ? null : value);
+const oneLine = (source) => source.trim().replace(/\n\s*/g, " ");
+
+function add(title, passes, source, answer) {
+  cases.push({ titles: [title, oneLine(source)], line: `answer ${passes} ${JSON.stringify(estree(source), plain)}`, answer });
+}
+
+// The run answers this program: the numbers of its nodes and its symbols in the input, in order, or how many there are
+// where each stays at its place; how many passes were made.
+function becomes(title, source, after, { kept = 1, symbols = 0, passes = 2, settled = true, bound = UNBOUNDED } = {}) {
+  const program = JSON.stringify(written(estree(after)), plain);
+  const lists = [numbers(kept), numbers(symbols)].map((list) => `[${list.join(",")}]`);
+  add(title, bound, source, `${lists.join(" ")} ${passes} ${settled} ${program}`);
+}
+
+// The run answers the program itself.
+function stays(title, source, said = {}) {
+  becomes(title, source, source, { passes: 1, ...said });
+}
+
+// The run is refused, with this error at the node that this pointer leads to.
+function refused(title, source, error, pointer) {
+  add(title, UNBOUNDED, source, `${error} ${pointer}`);
+}
+
+const name = (title, source, pointer) => refused(title, source, "EarlyName", pointer);
+const jump = (title, source, pointer) => refused(title, source, "EarlyJump", pointer);
+
+// ---- names that are declared twice (ECMA-262, "Static Semantics: Early Errors")
+
+name("a let and a var", "let a; var a;", "/body/1/declarations/0/id");
+name("a var and a let", "var a; let a;", "/body/1/declarations/0/id");
+name("two of a block", "{ let a; let a; }", "/body/0/body/1/declarations/0/id");
+name("two of a declaration", "let a, b, a;", "/body/0/declarations/2/id");
+name("two of a pattern", "let [a, { b: a }] = c;", "/body/0/declarations/0/id/elements/1/properties/0/value");
+name("two behind a directive, which has an index too", '"use strict"; let a; let a;', "/body/2/declarations/0/id");
+name("a var that is hoisted through a let", "let a; { var a; }", "/body/1/body/0/declarations/0/id");
+name("the same from a loop and an `if`", "let a; for (;;) { if (b) { var a; } }", "/body/1/body/body/0/consequent/body/0/declarations/0/id");
+name("a parameter and a let of the body", "function f(a) { let a; }", "/body/0/body/body/0/declarations/0/id");
+name("a parameter in a pattern and a const of an arrow's body", "x = ({ a }) => { const a = 1; };", "/body/0/expression/right/body/body/0/declarations/0/id");
+name("a parameter of a method and a let of its body", "x = { m(a) { let a; } };", "/body/0/expression/right/properties/0/value/body/body/0/declarations/0/id");
+name("a var that is hoisted through a let of an arrow's body", "() => { let a; { var a; } };", "/body/0/expression/body/body/1/body/0/declarations/0/id");
+stays("a function in a function's body is like a var", "function f(a) { function a() { } var a; }", { kept: 3, symbols: 2 });
+stays("so is one at the top of a script", "function f() { } var f; function f() { }", { kept: 3, symbols: 1 });
+name("but not in a module", 'import "a"; function f() { } var f;', "/body/2/declarations/0/id");
+name("nor in a block", '"use strict"; { function f() { } function f() { } }', "/body/1/body/1/id");
+name("a let and a function", "let f; function f() { }", "/body/1/id");
+name("two classes", "class A { } class A { }", "/body/1/id");
+name("a class and a var", "class A { } var A;", "/body/1/declarations/0/id");
+name("an import and a let", 'import a from "b"; let a;', "/body/1/declarations/0/id");
+name("two imports of a declaration", 'import { a, b as a } from "c";', "/body/0/specifiers/1/local");
+name("an import of all and a function that is exported", 'import * as a from "b"; export function a() { }', "/body/1/declaration/id");
+name("two declarations that are exported", "export let a; export class a { }", "/body/1/declaration/id");
+name("a name of catch and a let of its block", "try { } catch (e) { let e; }", "/body/0/handler/body/body/0/declarations/0/id");
+stays("a name of catch and a var: the var is the script's", "try { } catch (e) { var e; }", { symbols: 2 });
+name("a name of catch in a pattern and a var", "try { } catch ({ e }) { var e; }", "/body/0/handler/body/body/0/declarations/0/id");
+name("two names of catch", "try { } catch ([a, a]) { }", "/body/0/handler/param/elements/1");
+name("two cases of a switch have one scope", "switch (a) { case 1: let b; break; default: let b; }", "/body/0/cases/1/consequent/0/declarations/0/id");
+name("a var in a case before a let", "switch (a) { case 1: var b; default: let b; }", "/body/0/cases/1/consequent/0/declarations/0/id");
+name("a head of a loop and a var of its body", "for (let a; ; ) { var a; }", "/body/0/body/body/0/declarations/0/id");
+stays("a head of a loop and a let of its body", "for (let a of b) { let a; }", { symbols: 2 });
+name("two names of a head", "for (const [a, a] of b) ;", "/body/0/left/declarations/0/id/elements/1");
+name("two of a static block", "class A { static { let a; var a; } }", "/body/0/body/body/0/body/1/declarations/0/id");
+
+// ---- jumps without a target
+
+jump("continue in a block", "{ continue; }", "/body/0/body/0");
+jump("continue behind a loop", "do { } while (a); continue;", "/body/1");
+jump("break", "break;", "/body/0");
+jump("return at the top", "return;", "/body/0");
+jump("return as a consequent", "if (a) return;", "/body/0/consequent");
+jump("a label in itself", "q: q: ;", "/body/0/body");
+jump("a label in itself, further down", "a: { b: { a: ; } }", "/body/0/body/body/0/body/body/0");
+stays("a label twice, one behind the other", "a: ; a: ;");
+stays("two labels of one loop", "a: b: for (;;) { continue a; break b; }");
+jump("continue to a label of no loop", "a: { while (b) continue a; }", "/body/0/body/body/0/body");
+jump("break to no label", "while (a) break b;", "/body/0/body");
+jump("break out of a function", "a: while (b) { c = function () { break a; }; }", "/body/0/body/body/body/0/expression/right/body/body/0");
+jump("continue in a switch", "switch (a) { case b: continue; }", "/body/0/cases/0/consequent/0");
+jump("break out of a static block", "while (a) { class B { static { break; } } }", "/body/0/body/body/0/body/body/0/body/0");
+jump("return out of a static block", "class A { static { return; } }", "/body/0/body/body/0/body/0");
+jump("yield at the top", "yield a;", "/body/0/expression");
+jump("yield in a function", "function f() { yield a; }", "/body/0/body/body/0/expression");
+jump("yield in an arrow of a generator", "function* f() { () => yield; }", "/body/0/body/body/0/expression/body");
+jump("yield in a field of a class of a generator", "function* f() { class A { a = yield; } }", "/body/0/body/body/0/body/body/0/value");
+jump("yield in a method beside a generator", "x = { *m() { yield a; }, n() { yield b; } };", "/body/0/expression/right/properties/1/value/body/body/0/expression");
+name("a name goes before a jump", "break; let a; let a;", "/body/2/declarations/0/id");
+
+// ---- functions
+
+becomes("an `if` in a function", "function f(a) { if (!a) g(); }", "function f(a) { a || g(); }", { kept: 2, symbols: 2 });
+becomes("a function with a name of its own", "x = function f(a, b) { return !a ? f : b; };", "x = function f(a, b) { return a ? b : f; };", { kept: 2, symbols: 3 });
+becomes("arrows with both bodies", "x = a => !a ? 1 : 2; y = (b, ...c) => { if (b) c(); };", "x = a => a ? 2 : 1; y = (b, ...c) => { b && c(); };", { kept: 3, symbols: 3 });
+becomes("functions that change places", "x = !a ? function (b) { return b; } : c => c;", "x = a ? c => c : function (b) { return b; };", { kept: [0, 2, 1], symbols: [1, 0] });
+becomes("three that do", "x = !a ? !b ? (c => c) : (d => d) : (e => e);", "x = a ? e => e : b ? d => d : c => c;", { kept: [0, 3, 2, 1], symbols: [2, 1, 0] });
+becomes(
+  "with the scopes in them",
+  "x = !a ? function () { let b; { let c; } } : function () { var d; };",
+  "x = a ? function () { var d; } : function () { let b; { let c; } };",
+  { kept: [0, 2, 1], symbols: [2, 0, 1] },
+);
+becomes(
+  "functions in functions",
+  "function f(a) { return function (b) { return c => { if (!a) b(c); }; }; }",
+  "function f(a) { return function (b) { return c => { a || b(c); }; }; }",
+  { kept: 4, symbols: 4 },
+);
+becomes("a generator", "function* f(a) { if (!(yield a)) g(yield); yield* b; }", "function* f(a) { (yield a) || g(yield); yield* b; }", { kept: 2, symbols: 2 });
+becomes("yields that change places", "function* f() { return !(yield) ? yield 1 : yield* g; }", "function* f() { return (yield) ? yield* g : yield 1; }", { kept: 2, symbols: 1 });
+becomes(
+  "parameters of all kinds",
+  "function f(a = !b ? 1 : 2, { c, d = 3 }, [e], ...g) { if (a) return c; if (e) d(); }",
+  "function f(a = b ? 2 : 1, { c, d = 3 }, [e], ...g) { if (a) return c; e && d(); }",
+  { kept: 7, symbols: 6 },
+);
+becomes("a parameter that is a function of the body too", "function f(a) { var a; function a() { if (b) c(); } }", "function f(a) { var a; function a() { b && c(); } }", { kept: 3, symbols: 2 });
+becomes("a default makes the var another name", "function f(a, b = a) { var a; if (a) b(); }", "function f(a, b = a) { var a; a && b(); }", { kept: 4, symbols: 4 });
+becomes("two parameters of one name", "function f(a, a) { if (a) b(); }", "function f(a, a) { a && b(); }", { kept: 2, symbols: 2 });
+becomes("directives", '"use strict"; function f() { "use strict"; if (!this) g(); }', '"use strict"; function f() { "use strict"; this || g(); }', { kept: 2, symbols: 1 });
+becomes("a function in a block of strict code", '"use strict"; { function f() { if (a) b(); } f(); }', '"use strict"; { function f() { a && b(); } f(); }', { kept: 2, symbols: 1 });
+becomes("new.target", "function F() { if (!new.target) return new F; this.a = !new.target ? 1 : 2; }", "function F() { if (!new.target) return new F; this.a = new.target ? 2 : 1; }", { kept: 4, symbols: 1 });
+
+// ---- classes
+
+becomes("classes that change places", "x = !a ? class A { m() { } } : class B { };", "x = a ? class B { } : class A { m() { } };", { kept: [0, 3, 1, 2], symbols: [1, 0] });
+becomes(
+  "a class with members of all kinds",
+  `class A extends B {
+    constructor(a) { super(a); if (!a) this.b = 1; }
+    m() { if (a) super.m(); }
+    get g() { return !this.c ? 1 : 2; }
+    set g(v) { if (v) this.#p = v; }
+    static s(a) { return !a ? A : B; }
+    static #q() { }
+    #p = !d ? e : f;
+    static h;
+    [!k ? l : n]() { }
+    "t"() { }
+    1() { }
+    *i() { if (j) yield j; }
+    static { if (!o) A.r(); }
+  }`,
+  `class A extends B {
+    constructor(a) { super(a); a || (this.b = 1); }
+    m() { a && super.m(); }
+    get g() { return this.c ? 2 : 1; }
+    set g(v) { v && (this.#p = v); }
+    static s(a) { return a ? B : A; }
+    static #q() { }
+    #p = d ? f : e;
+    static h;
+    [k ? n : l]() { }
+    "t"() { }
+    1() { }
+    *i() { j && (yield j); }
+    static { o || A.r(); }
+  }`,
+  { kept: 21, symbols: 5 },
+);
+becomes(
+  "fields of a class with a name",
+  "x = class A { static a = () => A; static [!b ? c : d] = function () { if (A) e(); }; };",
+  "x = class A { static a = () => A; static [b ? d : c] = function () { A && e(); }; };",
+  { kept: 7, symbols: 1 },
+);
+becomes("names of a static block", "class A { static { var a = !b ? 1 : 2; let c; if (c) a(); } }", "class A { static { var a = b ? 2 : 1; let c; c && a(); } }", { kept: 3, symbols: 4 });
+becomes(
+  "private names and what a class extends",
+  "x = class extends (!a ? B : C) { #b; d() { if (!this.#b) this.#b = 1; return !(#b in this) ? 1 : this?.#b; } };",
+  "x = class extends (a ? C : B) { #b; d() { this.#b || (this.#b = 1); return #b in this ? this?.#b : 1; } };",
+  { kept: 12 },
+);
+becomes(
+  "super in an object",
+  "x = { m() { if (!super.a) super.b(); return super[!c ? d : e]; } };",
+  "x = { m() { super.a || super.b(); return super[c ? e : d]; } };",
+  { kept: 6 },
+);
+
+// ---- patterns
+
+becomes(
+  "patterns that declare",
+  "var { a, b: [c, , d = !e ? 1 : 2, ...f], [!g ? h : i]: j = 3, ...k } = l;",
+  "var { a, b: [c, , d = e ? 2 : 1, ...f], [g ? i : h]: j = 3, ...k } = l;",
+  { kept: 6, symbols: 6 },
+);
+becomes("a pattern with a default of its own", 'let { "a": b, 1: c, d: { e = !f ? 1 : 2 } = {} } = g;', 'let { "a": b, 1: c, d: { e = f ? 2 : 1 } = {} } = g;', { kept: 5, symbols: 3 });
+becomes(
+  "patterns that are assigned to",
+  "({ a, b: c.d, e = !f ? 1 : 2, [!g ? h : i]: j[!k ? 1 : 2], ...l } = m); [n, , o.p, q = r, ...s] = t;",
+  "({ a, b: c.d, e = f ? 2 : 1, [g ? i : h]: j[k ? 2 : 1], ...l } = m); [n, , o.p, q = r, ...s] = t;",
+  { kept: 9 },
+);
+becomes(
+  "a pattern of catch",
+  "try { if (a) b(); } catch ({ c, d = !e ? 1 : 2 }) { if (!c) d(); } finally { if (f) g(); else h(); } try { } catch { if (!i) throw j; }",
+  "try { a && b(); } catch ({ c, d = e ? 2 : 1 }) { c || d(); } finally { f ? g() : h(); } try { } catch { if (!i) throw j; }",
+  { kept: 3, symbols: 2 },
+);
+becomes("a name of catch that a var has too", "try { } catch (e) { var e = 1; if (!e) f(e); }", "try { } catch (e) { var e = 1; e || f(e); }", { symbols: 2 });
+
+// ---- statements
+
+becomes(
+  "loops with labels",
+  "a: for (let b of c) { d: while (!!e) { if (!f) continue a; if (g) break d; else h(); } }",
+  "a: for (let b of c) { d: while (e) { if (!f) continue a; if (g) break d; else h(); } }",
+  { symbols: 1 },
+);
+becomes(
+  "loops of all kinds",
+  `for (var a = !b ? 1 : 2; !(!c && !d); !e ? f() : g()) if (h) i();
+  for (let j = 0, k; !!j; j++) l(() => j, () => k);
+  for (m in n) if (!o) p();
+  for (const [q] of r) { if (q) s(); }
+  do { if (t) u(); } while (!!v);`,
+  `for (var a = b ? 2 : 1; c || d; e ? g() : f()) h && i();
+  for (let j = 0, k; j; j++) l(() => j, () => k);
+  for (m in n) o || p();
+  for (const [q] of r) { q && s(); }
+  do { t && u(); } while (v);`,
+  { kept: 4, symbols: 4 },
+);
+becomes(
+  "a switch",
+  "switch (!a ? b : c) { case !d ? 1 : 2: if (e) f(); break; case g: { let h; if (!h) i(h); } default: let j; if (j) k(); else l(); }",
+  "switch (a ? c : b) { case d ? 2 : 1: e && f(); break; case g: { let h; h || i(h); } default: let j; j ? k() : l(); }",
+  { symbols: 2 },
+);
+becomes(
+  "closures and a name that is hidden",
+  "let a = 1; const b = () => { a = !a ? b : 2; }; { let a; if (a) b(a); }",
+  "let a = 1; const b = () => { a = a ? 2 : b; }; { let a; a && b(a); }",
+  { kept: 2, symbols: 3 },
+);
+becomes("what is left of other statements", "{ ; debugger; if (!a) ; else b(); } if (c) { } throw !d ? e : f;", "{ ; debugger; if (!a) ; else b(); } if (c) { } throw d ? f : e;");
+becomes("`if` behind `else`", "if (a) b(); else if (!c) d(); else e();", "a ? b() : c ? e() : d();");
+becomes("one pass", "if (a) { if (!b) c(); }", "if (a) { b || c(); }", { passes: 1, settled: false, bound: 1 });
+becomes("none stands for one", "if (a) { if (!b) c(); }", "if (a) { b || c(); }", { passes: 1, settled: false, bound: 0 });
+becomes("as many as it takes", "if (a) { if (!b) c(); }", "if (a) { b || c(); }");
+stays("nothing to do takes one pass", "function f(x) { return x !== 0; }", { kept: 2, symbols: 2 });
+stays("and is settled where one is allowed", "function f(a) { return a != null ? a.b : undefined; }", { kept: 2, symbols: 2, bound: 1 });
+
+// ---- expressions
+
+becomes(
+  "an object with members of all kinds",
+  'x = { a, b: !c ? 1 : 2, [!d ? e : f]: 3, get g() { if (h) i(); return 1; }, set g(v) { if (!v) i(); }, m() { return !j ? 1 : 2; }, *n() { yield; }, "o": 4, 5: 6, ...p };',
+  'x = { a, b: c ? 2 : 1, [d ? f : e]: 3, get g() { h && i(); return 1; }, set g(v) { v || i(); }, m() { return j ? 2 : 1; }, *n() { yield; }, "o": 4, 5: 6, ...p };',
+  { kept: 5, symbols: 1 },
+);
+becomes("a template", "x = `a${!b ? 1 : 2}c${function () { if (d) e(); }}`;", "x = `a${b ? 2 : 1}c${function () { d && e(); }}`;", { kept: 2 });
+becomes("a template with a tag, and malformed text", "(!a ? b : c)`d${!e ? 1 : 2}\\u`;", "(a ? c : b)`d${e ? 2 : 1}\\u`;", { kept: 4 });
+becomes("regular expressions", "if (!/a+/g.test(b)) c(/d/);", "/a+/g.test(b) || c(/d/);", { kept: 3 });
+becomes("import() and import.meta change places", 'if (import.meta.a) import("b"); x = !y ? import(z) : import.meta;', 'import.meta.a && import("b"); x = y ? import.meta : import(z);', { kept: [0, 1, 2, 3, 6, 4, 5] });
+becomes("chains", "if (a?.b) c?.(); if (!d?.[e].f) g?.h(i?.j); x = (!k?.l)?.m;", "a?.b && c?.(); d?.[e].f || g?.h(i?.j); x = (!k?.l)?.m;");
+becomes(
+  "new, spreads and sequences",
+  "new (!a ? B : C)(...!d ? e : f); g(!h ? 1 : 2, ...i), !!(j, k) || l(); !!(m, n) && o();",
+  "new (a ? C : B)(...d ? f : e); g(h ? 2 : 1, ...i), !!(j, k) || l(); (m, n) && o();",
+);
+becomes("arrows that give objects", "x = () => ({ a: !b ? 1 : 2 }); y = (z, !w ? c : d);", "x = () => ({ a: b ? 2 : 1 }); y = (z, w ? d : c);", { kept: 2 });
+becomes(
+  "operators",
+  `x = +a - -b * c ** d % !e / ~f, typeof g, void 0, delete h.i, j++, --k;
+  y = (l | m ^ n & o) << p >> q >>> r;
+  z = s == t != u === v !== w; a < b <= c > d >= e; f in g instanceof h;
+  if (!i) j ||= k &&= l ??= m;
+  n += o -= p *= q /= r %= s **= t <<= u >>= v >>>= w &= x ^= y |= z;`,
+  `x = +a - -b * c ** d % !e / ~f, typeof g, void 0, delete h.i, j++, --k;
+  y = (l | m ^ n & o) << p >> q >>> r;
+  z = s == t != u === v !== w; a < b <= c > d >= e; f in g instanceof h;
+  i || (j ||= k &&= l ??= m);
+  n += o -= p *= q /= r %= s **= t <<= u >>= v >>>= w &= x ^= y |= z;`,
+);
+becomes('literals', 'x = [null, true, false, 0, 12, -5, 9007199254740991, "s", 7n, this, , ]; if (!0) f();', 'x = [null, true, false, 0, 12, -5, 9007199254740991, "s", 7n, this, , ]; 0 || f();');
+becomes("names of the global object", "if (!undefined) x = NaN + Infinity;", "undefined || (x = NaN + Infinity);");
+becomes("`??` as a test", "if (!(a ?? b)) c(); x = !(a ?? b) ? 1 : 2;", "(a ?? b) || c(); x = a ?? b ? 2 : 1;");
+becomes(
+  "negations",
+  "while (!(a && b)) c(); for (; !(a || b); ) ; x = !(a && b); f(!(a && b) && c); do ; while (!(a || b) || c); y = !(!a && !b);",
+  "while (!a || !b) c(); for (; !a && !b; ) ; x = !a || !b; f(!(a && b) && c); do ; while (!a && !b || c); y = !!a || !!b;",
+);
+
+// ---- modules
+
+becomes(
+  "imports of all kinds",
+  'import a, { b as c, "d" as e } from "f"; import * as g from "h"; import "i"; if (!a) c(e, g);',
+  'import a, { b as c, "d" as e } from "f"; import * as g from "h"; import "i"; a || c(e, g);',
+  { symbols: 4 },
+);
+becomes(
+  "exports of all kinds",
+  `export let a = !b ? 1 : 2;
+  export function f() { if (!a) g(); }
+  export class C { m() { return !a ? 1 : 2; } }
+  export { a as d, f as "e" };
+  export * from "h";
+  export * as i from "j";
+  export { k as default } from "l";`,
+  `export let a = b ? 2 : 1;
+  export function f() { a || g(); }
+  export class C { m() { return a ? 2 : 1; } }
+  export { a as d, f as "e" };
+  export * from "h";
+  export * as i from "j";
+  export { k as default } from "l";`,
+  { kept: 4, symbols: 4 },
+);
+becomes("a function that is exported by default", "export default function (a) { if (a) b(); }", "export default function (a) { a && b(); }", { kept: 2, symbols: 1 });
+becomes(
+  "a class that is",
+  "export default class A extends (!a ? B : C) { #b = !c ? 1 : 2; d() { return !(#b in this) ? 1 : 2; } }",
+  "export default class A extends (a ? C : B) { #b = c ? 2 : 1; d() { return #b in this ? 2 : 1; } }",
+  { kept: 7, symbols: 2 },
+);
+becomes("an expression that is", "export default !a ? b : c;", "export default a ? c : b;");
+becomes(
+  "a module as it may be",
+  `import { readFile } from "fs";
+  export function load(path, done = () => { if (path) readFile(path); }) { if (!path) done(); return !done ? path : done; }
+  class Store { [!load ? "a" : "b"]() { if (this.c) load(); else this.d(); } }
+  const make = key => { if (!key) load(key); return () => { if (key) new Store; }; };
+  if (!make) load();`,
+  `import { readFile } from "fs";
+  export function load(path, done = () => { path && readFile(path); }) { path || done(); return done ? done : path; }
+  class Store { [load ? "b" : "a"]() { this.c ? load() : this.d(); } }
+  const make = key => { key || load(key); return () => { key && new Store; }; };
+  make || load();`,
+  { kept: 10, symbols: 8 },
+);
+
+// ---- what isn't read goes before early errors
+
+refused("an asynchronous function behind two names", "let a; let a; async function f() { }", "Unsupported", "/body/2");
+refused("a fractional number in a function", "break; function f() { return 1.5; }", "Unsupported", "/body/1/body/body/0/argument");
+
+// ---- the files
+
+const before = (text) => {
+  const at = text.indexOf(`${TITLE}\n`);
+  return at < 0 ? text : text.slice(0, at);
+};
+
+function extend(file, lines) {
+  const crate = path.join(__dirname, "..", "crates", "mini_cases", file);
+  fs.writeFileSync(crate, `${before(fs.readFileSync(crate, "utf8"))}${TITLE}\n${lines.join("\n")}\n`);
+}
+
+const titles = (item) => item.titles.map((text) => `# ${text}`);
+extend("stdin", cases.flatMap((item) => [...titles(item), item.line]));
+extend("stdout", cases.flatMap((item) => [...titles(item), item.answer]));
+console.log(`${cases.length} runs`);

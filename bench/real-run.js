@@ -1,0 +1,217 @@
+// Runs the built program on real JavaScript: what Debian packages and node itself have installed here. Builds nothing, and
+// copies nothing into the repository.
+//
+//     node --expose-internals bench/real-run.js [PROGRAM [COUNT [SEED]]]
+//
+// PROGRAM is crates/mini_app/out/mini_app of this repository unless it is given: `rt run` in crates/mini_app makes it. COUNT
+// pieces (2,000), chosen by SEED (1), are statements from the top of files and functions from anywhere in them. Each is a
+// program of its own. Where nothing in it is outside the table, the program must end with status 0, and its answer is held
+// against what the scripts here count: that each numbered node and each symbol is there once, the program first; that the
+// program written has each field of its types and no other, and is lighter by as much as it must; and that it comes back as it
+// is, in one pass, when it is given again. Else it must be refused. A line tells of each package, the last of all: how many
+// pieces were answered, refused, or were no JSON that is read; how many changed; the most passes; and the bytes of ESTree and
+// the weight before and after.
+"use strict";
+const { spawnSync } = require("child_process");
+const fs = require("fs");
+const path = require("path");
+const { FUNCTIONS, parse, written, each, children, isOf, countNumbers, countSymbols, isOutside } = require("./estree.js");
+const { weigh } = require("./weigh.js");
+
+const FOLDERS = ["/usr/share/javascript", "/usr/share/nodejs", "/usr/share/doc/nodejs", "/usr/share/gitweb", "/usr/lib/node_modules"];
+const PIECE = { least: 40, most: 60_000 };
+const [, , program = path.join(__dirname, "..", "crates", "mini_app", "out", "mini_app"), count = "2000", seed = "1"] = process.argv;
+
+// ---- where the code comes from
+
+function* filesBelow(folder) {
+  if (!fs.existsSync(folder)) return;
+  for (const entry of fs.readdirSync(folder, { withFileTypes: true })) {
+    const name = path.join(folder, entry.name);
+    if (entry.isDirectory()) yield* filesBelow(name);
+    else if (entry.isFile() && /\.[cm]?js$/.test(name)) yield name;
+  }
+}
+
+// What a file belongs to: the folder that its package has.
+function packageOf(file) {
+  const parts = file.split("/node_modules/");
+  return parts.length > 1 ? parts.at(-1).split("/")[0] : file.split("/")[3] + "/" + file.split("/")[4];
+}
+
+function* sources() {
+  for (const folder of FOLDERS) for (const file of filesBelow(folder)) yield [packageOf(file), fs.readFileSync(file, "utf8")];
+  for (const [name, text] of Object.entries(process.binding("natives"))) if (!name.startsWith("internal/deps")) yield ["node", text];
+}
+
+function parsed(text) {
+  for (const type of ["script", "module"]) {
+    try {
+      return parse(text, type);
+    } catch {
+      // the other type, or no code at all
+    }
+  }
+  return null;
+}
+
+const isDirective = (statement) => typeof statement.directive === "string";
+
+// A program of one statement, with the directives of the file that it is cut from.
+function piece(file, statement) {
+  return { type: "Program", sourceType: file.sourceType, body: [...file.body.filter(isDirective), statement] };
+}
+
+const asStatement = (node) => (node.type === "FunctionDeclaration" ? node : { type: "ExpressionStatement", expression: node });
+
+function* piecesOf(file) {
+  const fits = (node) => node.end - node.start >= PIECE.least && node.end - node.start <= PIECE.most;
+  for (const statement of file.body) if (!isDirective(statement) && fits(statement)) yield piece(file, statement);
+  const functions = [];
+  each(file, (node) => isOf(FUNCTIONS, node) && node.id !== null && fits(node) && functions.push(node));
+  for (const node of functions) if (!file.body.includes(node)) yield piece(file, asStatement(node));
+}
+
+function allPieces() {
+  const seen = new Set();
+  const found = [];
+  for (const [from, text] of sources()) {
+    const file = seen.has(text) ? null : parsed(text);
+    seen.add(text);
+    if (file) for (const input of piecesOf(file)) found.push([from, input]);
+  }
+  return found;
+}
+
+// A number at a time from a seed (xorshift).
+function chances(seed) {
+  let state = seed >>> 0 || 1;
+  return (below) => {
+    state ^= state << 13;
+    state ^= state >>> 17;
+    state ^= state << 5;
+    return (state >>> 0) % below;
+  };
+}
+
+function chosen(pieces) {
+  const chance = chances(Number(seed));
+  for (let at = pieces.length - 1; at > 0; at--) {
+    const other = chance(at + 1);
+    [pieces[at], pieces[other]] = [pieces[other], pieces[at]];
+  }
+  return pieces.slice(0, Number(count));
+}
+
+// ---- one run
+
+const plain = (key, value) => (typeof value === "bigint" ? null : value);
+const text = (value) => JSON.stringify(value, plain);
+
+// How deep JSON nests.
+function nesting(value) {
+  return value !== null && typeof value === "object" ? 1 + Math.max(0, ...Object.values(value).map(nesting)) : 0;
+}
+
+// JSON that isn't read: a half of a surrogate pair stands in it, or it nests too deep; and nodes past the depth that is read.
+const isUnread = (input) => depth(input) > 118 || nesting(input) > 126 || /\\ud[89a-f]/.test(text(input));
+
+const depth = (node) => 1 + Math.max(0, ...children(node).map(depth));
+
+function run(input) {
+  const ended = spawnSync(program, [], { input, maxBuffer: 1 << 28 });
+  return { status: ended.status, output: ended.stdout.toString(), notes: ended.stderr.toString() };
+}
+
+// Each of the first numbers once.
+const isEach = (list, count) => list.length === count && new Set(list).size === count && list.every((n) => n >= 0 && n < count);
+const isInOrder = (list) => list.every((n, at) => n === at);
+
+// What is wrong with an answer, given the program that was read.
+function* faultsOf(input, answer) {
+  const after = answer.program;
+  if (answer.kept[0] !== 0) yield "kept doesn't begin with the program";
+  if (!isEach(answer.kept, countNumbers(input)) || answer.kept.length !== countNumbers(after)) yield "kept";
+  if (!isEach(answer.symbols, countSymbols(input)) || answer.symbols.length !== countSymbols(after)) yield "symbols";
+  if (text(written(after)) !== text(after)) yield "another field, or one too few";
+  if (!answer.settled) yield "not settled";
+  if (weigh(after) + answer.passes - 1 > weigh(input)) yield `weighs ${weigh(after)}, and ${weigh(input)} before`;
+  if (answer.passes === 1 && text(after) !== text(written(input))) yield "one pass, and a change";
+}
+
+function* faultsOfAgain(answer) {
+  const { status, output } = run(text(answer.program));
+  if (status !== 0) return yield `given again: status ${status}`;
+  const again = JSON.parse(output);
+  if (text(again.program) !== text(answer.program)) yield "given again: another program";
+  if (again.passes !== 1 || !again.settled) yield `given again: passes ${again.passes}`;
+  if (!isInOrder(again.kept) || !isInOrder(again.symbols)) yield "given again: other numbers";
+}
+
+// What is wrong with the run on a program that must be answered, and its answer.
+function answered(input) {
+  const { status, output, notes } = run(text(input));
+  if (status !== 0) return { faults: [`status ${status} ${notes.trim()}`] };
+  const answer = JSON.parse(output);
+  const again = nesting(answer.program) < 120 ? faultsOfAgain(answer) : [];
+  return { answer, faults: [...faultsOf(input, answer), ...again] };
+}
+
+// The same of a program that must be refused.
+function refused(input) {
+  const { status, notes } = run(text(input));
+  return { faults: status === 3 && /^refused: Unsupported at /.test(notes) ? [] : [`status ${status} ${notes.trim()}, and Unsupported is due`] };
+}
+
+// ---- the table
+
+const total = () => ({ pieces: 0, answered: 0, refused: 0, unread: 0, changed: 0, passes: 0, bytes: 0, "bytes now": 0, weight: 0, "weight now": 0, wrong: 0 });
+
+function addRun(row, input) {
+  row.pieces += 1;
+  if (isUnread(input)) {
+    row.unread += 1;
+    return [];
+  }
+  const outside = isOutside(input);
+  const { answer, faults } = outside ? refused(input) : answered(input);
+  row[outside ? "refused" : "answered"] += 1;
+  if (answer) {
+    row.changed += answer.passes > 1 ? 1 : 0;
+    row.passes = Math.max(row.passes, answer.passes);
+    row.bytes += text(written(input)).length;
+    row["bytes now"] += text(answer.program).length;
+    row.weight += weigh(input);
+    row["weight now"] += weigh(answer.program);
+  }
+  row.wrong += faults.length > 0 ? 1 : 0;
+  return faults;
+}
+
+const columns = Object.keys(total());
+
+function print(name, row) {
+  console.log([name.padEnd(28), ...columns.map((key) => String(row[key]).padStart(10))].join(" "));
+}
+
+function addUp(rows) {
+  const sum = total();
+  for (const row of rows) for (const key of columns) sum[key] = key === "passes" ? Math.max(sum[key], row[key]) : sum[key] + row[key];
+  return sum;
+}
+
+function main() {
+  if (!fs.existsSync(program)) throw new Error(`${program} is not there: run \`rt run\` in crates/mini_app first`);
+  const rows = new Map();
+  for (const [from, input] of chosen(allPieces())) {
+    if (!rows.has(from)) rows.set(from, total());
+    for (const fault of addRun(rows.get(from), input)) console.log(`WRONG in ${from}: ${fault}: ${text(input).slice(0, 2000)}`);
+  }
+  print("", Object.fromEntries(columns.map((key) => [key, key])));
+  for (const [name, row] of [...rows].sort(([a], [b]) => (a < b ? -1 : 1))) print(name, row);
+  const sum = addUp(rows.values());
+  print("all", sum);
+  process.exitCode = sum.wrong > 0 ? 1 : 0;
+}
+
+main();
