@@ -5,7 +5,7 @@ use Rattle.std.proofs.lemmas.Bool.{eqb-true, eqb-false}
 use Rattle.mini_model.specs.declared.name.SymbolId.{SymbolId}
 use Rattle.mini_model.specs.Tree.{Tree, Trees, node, none, ◌▸◌}
 use Rattle.mini_names.specs.Resolved.{resolved_program}
-use Rattle.mini_names.specs.Symbols.{mapped, all_mapped}
+use Rattle.mini_names.specs.Symbols.{mapped, all_mapped, bare}
 use Rattle.mini_accept.specs.Symbols.{has_no_symbol}
 use Rattle.mini_accept.specs.Numbered.{number_after, next_after, next_among}
 use Rattle.mini_accept.specs.WellShaped.{IsWellShaped}
@@ -91,6 +91,31 @@ within_from m (suc k) j h = elim (tally m j) [
       (omega (arith, rest.0), omega (arith, rest.1))
 ]
 
+-- ---- resolution doesn't change them
+
+mutual
+  unfolding mapped
+
+  next_mapped : (f : Option SymbolId → Option SymbolId) (t : Tree) (m : ℕ) → next_after (mapped f t) m ≡ next_after t m
+  next_mapped f (node h xs n ts) m = λ k. option_and_then (λ j. all_next_mapped f ts j k) (number_after n m)
+
+  all_next_mapped : (f : Option SymbolId → Option SymbolId) (ts : Trees) (m : ℕ) → next_among (all_mapped f ts) m ≡ next_among ts m
+  all_next_mapped f none m = refl
+  all_next_mapped f (t ▸ ts) m = λ k. option_and_then (λ j. all_next_mapped f ts j k) (next_mapped f t m k)
+
+number_mapped : (f : Option SymbolId → Option SymbolId) (t : Tree) → number_of (mapped f t) ≡ number_of t
+unfolding mapped
+number_mapped f (node h xs n ts) = refl
+
+pub next_resolved : (t : Tree) (m : ℕ) → next_after (resolved_program t) m ≡ next_after t m
+next_resolved t m = read_resolved (λ v. next_after v m) (λ v. next_mapped no_symbol v m) t
+
+pub numbers_resolved : (t : Tree) → numbers (resolved_program t) ≡ numbers t
+numbers_resolved t = read_resolved numbers (numbers_mapped no_symbol) t
+
+pub number_resolved : (t : Tree) → number_of (resolved_program t) ≡ number_of t
+number_resolved t = read_resolved number_of (number_mapped no_symbol) t
+
 -- ---- the whole
 
 -- what is known of a tree that is numbered in preorder, n being the next number
@@ -145,27 +170,12 @@ preorder_same t u n m e f s r p q w =
     let size : length (numbers t) ≡ length (numbers u) = omega (arith, one.1, other.1) in
     sym other.0 ∙ ap (λ ns. renumbered (number_at (0 ∷ ns)) t) (a.listed ∙ ap (from 1) size ∙ sym b.listed) ∙ one.0
 
--- ---- resolution doesn't change them
-
-mutual
-  unfolding mapped
-
-  next_mapped : (f : Option SymbolId → Option SymbolId) (t : Tree) (m : ℕ) → next_after (mapped f t) m ≡ next_after t m
-  next_mapped f (node h xs n ts) m = λ k. option_and_then (λ j. all_next_mapped f ts j k) (number_after n m)
-
-  all_next_mapped : (f : Option SymbolId → Option SymbolId) (ts : Trees) (m : ℕ) → next_among (all_mapped f ts) m ≡ next_among ts m
-  all_next_mapped f none m = refl
-  all_next_mapped f (t ▸ ts) m = λ k. option_and_then (λ j. all_next_mapped f ts j k) (next_mapped f t m k)
-
-number_mapped : (f : Option SymbolId → Option SymbolId) (t : Tree) → number_of (mapped f t) ≡ number_of t
-unfolding mapped
-number_mapped f (node h xs n ts) = refl
-
-pub next_resolved : (t : Tree) (m : ℕ) → next_after (resolved_program t) m ≡ next_after t m
-next_resolved t m = read_resolved (λ v. next_after v m) (λ v. next_mapped no_symbol v m) t
-
-pub numbers_resolved : (t : Tree) → numbers (resolved_program t) ≡ numbers t
-numbers_resolved t = read_resolved numbers (numbers_mapped no_symbol) t
-
-pub number_resolved : (t : Tree) → number_of (resolved_program t) ≡ number_of t
-number_resolved t = read_resolved number_of (number_mapped no_symbol) t
+-- a tree that is numbered in preorder, without symbols, has as many numbers as one that is written alike
+pub preorder_length : (t u : Tree) (n : ℕ) → next_after t 0 ≡ Some n → number_of u ≡ 0 → has_no_symbol t ≡ true → IsWellShaped t → IsWellShaped u → text t ≡ text u → length (numbers t) ≡ length (numbers u)
+preorder_length t u n e z s p q w =
+    let a = in_preorder t n e in
+    let one = numbers_carried t (bare u) n e (number_mapped no_symbol u ∙ z) (numbered_alike t u s p q w) in
+    let next = a.next in
+    let size : n ≡ suc (length (numbers (bare u))) = one.1 in
+    let same : length (numbers (bare u)) ≡ length (numbers u) = ap length (numbers_mapped no_symbol u) in
+    omega (arith, next, size, same)

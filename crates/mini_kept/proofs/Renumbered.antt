@@ -105,7 +105,7 @@ same_opened f u h ts i = ap (λ ss. at_or_empty ss i) (same_scopes f (opening_of
 mutual
   unfolding symbols renumbered
 
-  same_symbols : (f : ℕ → ℕ) (u : Use) (t : Tree) → symbols u (renumbered f t) ≡ symbols u t
+  pub same_symbols : (f : ℕ → ℕ) (u : Use) (t : Tree) → symbols u (renumbered f t) ≡ symbols u t
   same_symbols f u (node h xs n ts) = same_all_symbols f (opened u h ts) (opened u h (all_renumbered f ts)) (same_opened f u h ts) (use_of h u) 0 ts
 
   same_all_symbols : (f : ℕ → ℕ) (sc sc' : ℕ → List Binding) → ((i : ℕ) → sc' i ≡ sc i) → (us : ℕ → Use) (i : ℕ) (ts : Trees) → symbols_from sc' us i (all_renumbered f ts) ≡ symbols_from sc us i ts

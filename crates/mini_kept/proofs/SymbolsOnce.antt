@@ -1,5 +1,5 @@
 -- The numbers of distinct symbols.
-use Rattle.std.specs.Prelude.{ℕ, ◌+◌, ◌≤◌, ◌≡◌, refl, nat_eq, List, [], ◌∷◌, map, Option, Some, None, if◌then◌else◌}
+use Rattle.std.specs.Prelude.{ℕ, suc, ◌+◌, ◌≤◌, ◌≡◌, refl, nat_eq, List, [], ◌∷◌, length, map, Option, Some, None, if◌then◌else◌}
 use Rattle.std.proofs.Common.{ap, ◌∙◌, sym, inl, inr, arith}
 use Rattle.mini_model.specs.declared.name.SymbolId.{SymbolId}
 use Rattle.mini_names.specs.Symbols.{times, Distinct}
@@ -38,3 +38,10 @@ all_numbered (Some s ∷ ss) h = ap (λ r. Some s ∷ r) (all_numbered ss (omega
 
 pub distinct_numbered : (ss : List (Option SymbolId)) → Distinct ss → map symbol (symbol_numbers ss) ≡ ss
 distinct_numbered ss d = all_numbered ss (d None)
+
+pub distinct_length : (ss : List (Option SymbolId)) → Distinct ss → length (symbol_numbers ss) ≡ length ss
+distinct_length ss d = sym (mapped_length (symbol_numbers ss)) ∙ ap length (distinct_numbered ss d)
+  where
+    mapped_length : (ns : List ℕ) → length (map symbol ns) ≡ length ns
+    mapped_length [] = refl
+    mapped_length (n ∷ ns) = ap suc (mapped_length ns)
