@@ -1,9 +1,7 @@
 mod Once
 mod Opened
 mod Walk
-mod Counting
 mod Refused
-mod Kept
 mod Places
 mod Earlier
 mod EarlyWalk

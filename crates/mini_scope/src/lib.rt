@@ -1,9 +1,8 @@
-//! Names: early errors, the symbols of names, that is which scope declares them, and how often they are read and written.
+//! Names: early errors, and the symbols of names, that is which scope declares them.
 #![tactic(auto)]
 
 mod check;
 mod clashes;
-mod count;
 mod declarations;
 mod declared;
 mod distinct;
@@ -15,18 +14,15 @@ mod kinds;
 mod numbering;
 mod opening;
 mod pointer;
-mod program;
-mod scopes;
+mod refusing;
 mod tables;
 mod targets;
 
 pub use check::{EarlyError, check_early};
-pub use count::{Counts, count_node, fresh_counts};
 pub use declared::{copy_text, has_inner, push_body_names, push_names};
 pub use environment::Environment;
 pub use numbering::{resolve_node, resolve_program};
 pub use opening::OpenScopes;
 pub use pointer::under_path;
-pub use program::resolve;
-pub use scopes::Scopes;
+pub use refusing::refuse_early;
 pub use tables::{opening_of, place_of, use_of};

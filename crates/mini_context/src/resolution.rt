@@ -1,37 +1,39 @@
 //! The resolution of a program that has no early error.
 
 ghost use Rattle.std.specs.Prelude.{◌≡◌, ◌+◌, ◌<◌, ◌^◌, None, Some, length, IfErr, IfOk, IfSome, OnOk};
-ghost use Rattle.mini_scope.specs.Errors.{Stands};
 ghost use Rattle.mini_text.specs.Faults.{fault_of};
 ghost use Rattle.mini_names.specs.declared.Use.TheVariants as variant;
-ghost use Rattle.mini_names.specs.References.{references};
+ghost use Rattle.mini_names.specs.References.{references, reads as is_read, writes as is_write, counts_of};
 ghost use Rattle.mini_names.specs.Resolved.{resolved_program, symbols};
-ghost use Rattle.mini_scope.specs.Facts.{facts_of};
 ghost use Rattle.mini_scope.specs.Pointers.{early_fault};
+ghost use Rattle.mini_context.specs.Facts.{facts_of};
 
-use crate::count::fresh_counts;
-use crate::numbering::resolve_program;
-use crate::pointer::under_path;
+use crate::count::{Counts, fresh_counts};
 use crate::scopes::Scopes;
-use crate::{EarlyError, check_early};
+use crate::steps::Steps;
 use mini_node::Node;
-use mini_text::{MinifyError, early_jump, early_name};
+use mini_scope::{refuse_early, resolve_program};
+use mini_text::{MinifyError, OutOfMemory};
 use std::alloc::Global;
+use std::marker::Brand;
+use std::sync::ledger::{Blank, Ledger};
 
-/// The refusal of a program that has this early error.
-fn refusal(alloc: Global, program: &Node, error: EarlyError) -> MinifyError
-    requires { Stands program.now error }
-    ensures { IfSome (fault_of result) (λ f. early_fault program.now ≡ Some f) }
+// The counts of a program, with a count of steps of its own.
+fn own_counts<L: Ledger>(
+    alloc: Global,
+    program: &Node,
+    symbols: u32,
+    blank: Blank,
+) -> Result<Counts, OutOfMemory>
+    requires name { blank.name ≡ L.name }
+    requires parts { blank.parts ≡ L.parts }
+    requires some { 0 < blank.parts }
+    requires references { length (references variant.Read program.now) + 1 < 2 ^ 32 }
+    ensures reads { IfOk result (λ counts. counts.reads.items ≡ counts_of is_read symbols program.now) }
+    ensures writes { IfOk result (λ counts. counts.writes.items ≡ counts_of is_write symbols program.now) }
 {
-    match error {
-        EarlyError::OutOfMemory => MinifyError::OutOfMemory,
-        EarlyError::Name(path) => {
-            under_path(alloc, 0, program, path.as_slice(), early_name(alloc))
-        }
-        EarlyError::Jump(path) => {
-            under_path(alloc, 0, program, path.as_slice(), early_jump(alloc))
-        }
-    }
+    let mut steps = Steps::<L>::new(blank);
+    fresh_counts(alloc, program, symbols, &mut steps)
 }
 
 /// Gives each name of a program its symbol, and says what is known of the names.
@@ -47,11 +49,8 @@ pub fn resolve(alloc: Global, program: &mut Node) -> Result<Scopes, MinifyError>
     ensures scopes { IfOk result (λ scopes. scopes ≡ facts_of (symbols variant.Read program.old) program.new) }
     ensures refused { IfErr result (λ e. IfSome (fault_of e) (λ f. early_fault program.old ≡ Some f)) }
 {
-    match check_early(alloc, program) {
-        Ok(()) => {}
-        Err(error) => return Err(refusal(alloc, program, error)),
-    }
+    refuse_early(alloc, program)?;
     let count = resolve_program(alloc, program)?;
-    let counts = fresh_counts(alloc, program, count)?;
+    let counts = own_counts::<Brand>(alloc, program, count, Blank::new(1))?;
     Ok(Scopes::new(counts))
 }

@@ -1,13 +1,16 @@
 //! What is known of the names of a program.
 
-ghost use Rattle.std.specs.Prelude.{◌≡◌, slice_index};
-ghost use Rattle.mini_names.specs.References.{reads as is_read, writes as is_write, counts_of};
+ghost use Rattle.std.specs.Prelude.{◌≡◌, ◌+◌, length, slice_index};
 ghost use Rattle.mini_names.specs.declared.Use.TheVariants as variant;
-ghost use Rattle.mini_scope.specs.Facts.{facts_of};
+ghost use Rattle.mini_names.specs.References.{references, reads as is_read, writes as is_write};
+ghost use Rattle.mini_context.specs.Tallies.{Contained, FellBy};
 
-use crate::count::Counts;
+use crate::count::{Counts, count_out};
+use crate::steps::Steps;
 use mini_model::SymbolId;
+use mini_node::Node;
 use std::marker::Model;
+use std::sync::ledger::Ledger;
 
 /// The numbers of the names of a program. A contract sees them as lists, by symbol.
 #[derive(Drop)]
@@ -16,7 +19,7 @@ pub struct Scopes {
 }
 
 impl Model for Scopes {
-    ghost use Rattle.mini_scope.specs.Facts.{Facts};
+    ghost use Rattle.mini_context.specs.Facts.{Facts};
 
     ghost Value = { Facts };
 
@@ -54,5 +57,16 @@ impl Scopes {
         ensures { result ≡ slice_index self.now.writes symbol.0 }
     {
         count_at(self.counts.writes.as_slice(), symbol)
+    }
+
+    /// Counts the references of a part out, that is to be dropped. A step is one reference.
+    pub fn count_out<L: Ledger>(&mut self, part: &Node, steps: &mut Steps<L>)
+        requires reads { Contained is_read (references variant.Read part.now) self.old.reads }
+        requires writes { Contained is_write (references variant.Read part.now) self.old.writes }
+        ensures reads { FellBy is_read (references variant.Read part.now) self.old.reads self.new.reads }
+        ensures writes { FellBy is_write (references variant.Read part.now) self.old.writes self.new.writes }
+        ensures steps { steps.new ≡ steps.old + length (references variant.Read part.now) }
+    {
+        count_out(&mut self.counts, part, steps);
     }
 }

@@ -3,7 +3,7 @@ use Rattle.mini_scope.specs.Errors.{Stands}
 use Rattle.mini_text.specs.Faults.{fault_of, early_name, early_jump}
 use Rattle.mini_scope.specs.Pointers.{pointer_in, IsBelow}
 use Rattle.mini_scope.proofs.Refused.{name_fault, jump_fault, told}
-use Rattle.mini_scope.proofs.program.refusal.Goals as goal
+use Rattle.mini_scope.proofs.refusing.refusal.Goals as goal
 
 pub returns-in-Name : goal.returns-in-Name
 returns-in-Name c =

@@ -1,5 +1,5 @@
 -- Resolution keeps the references of a tree, but for their symbols.
-use Rattle.std.specs.Prelude.{ℕ, zero, suc, ◌+◌, ◌≡◌, refl, List, [], ◌∷◌, ◌++◌, length, map}
+use Rattle.std.specs.Prelude.{ℕ, suc, ◌+◌, ◌≡◌, refl, List, [], ◌∷◌, ◌++◌, length, map}
 use Rattle.std.proofs.Common.{ap, ◌∙◌, sym, arith}
 use Rattle.std.proofs.lemmas.List.{length-append}
 use Rattle.mini_model.specs.declared.name.Name.{Name}
@@ -10,7 +10,7 @@ use Rattle.mini_names.specs.declared.Use.{Use}
 use Rattle.mini_names.specs.declared.Binding.{Binding}
 use Rattle.mini_names.specs.Scopes.{use_of, opened}
 use Rattle.mini_names.specs.Resolved.{Environment, with_symbol, numbered, symbols, resolved, resolved_from}
-use Rattle.mini_names.specs.References.{Reference, own_references, references, references_from}
+use Rattle.mini_names.specs.References.{own_references, references, references_from}
 
 mapped_count : {A B : Type 0} (g : B → A) (xs : List B) → length (map g xs) ≡ length xs
 mapped_count g [] = refl

@@ -1,0 +1,4 @@
+mod Equal
+mod Counting
+mod Numbers
+mod Kept

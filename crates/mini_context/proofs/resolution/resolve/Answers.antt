@@ -1,0 +1,8 @@
+use Rattle.std.proofs.Common.{ap, arith, [], length}
+use Rattle.mini_names.specs.declared.Use.TheVariants.{Read}
+use Rattle.mini_names.specs.References.{references}
+use Rattle.mini_context.proofs.Kept.{references_kept}
+use Rattle.mini_context.proofs.resolution.resolve.Goals as goal
+
+pub own_counts-requires-clause-references : goal.own_counts-requires-clause-references
+own_counts-requires-clause-references c = omega (arith, c.requires.references, ap (λ t. length (references Read t)) c.in_ok-count.ensures.resolved, references_kept Read Read [] 0 c.args.program.now)

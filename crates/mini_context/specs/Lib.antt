@@ -1,0 +1,4 @@
+pub mod Own
+pub mod Tallies
+pub mod Facts
+pub mod Laws
