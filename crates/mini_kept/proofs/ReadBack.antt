@@ -1,6 +1,7 @@
 -- A program that is read, resolved, rewritten, written and read again.
-use Rattle.std.specs.Prelude.{ℕ, zero, suc, ◌+◌, ◌≤◌, ◌<◌, ◌≡◌, refl, true, [], ◌∷◌, length, map, Some, Contains}
-use Rattle.std.proofs.Common.{◌∙◌, sym, subst, arith}
+use Rattle.std.specs.Prelude.{ℕ, zero, suc, ◌+◌, ◌≤◌, ◌<◌, ◌≡◌, refl, true, [], ◌∷◌, length, map, Some, Ok, Contains}
+use Rattle.std.proofs.Common.{ap, ◌∙◌, sym, subst, arith}
+use Rattle.serde_json.specs.Data.{Data}
 use Rattle.mini_model.specs.declared.place.Position.{Position}
 use Rattle.mini_model.specs.declared.place.Position.TheVariants.{Elsewhere}
 use Rattle.mini_model.specs.Tree.{Tree}
@@ -13,19 +14,25 @@ use Rattle.mini_names.specs.Resolved.{resolved_program}
 use Rattle.mini_names.specs.Symbols.{declared_symbols, Distinct}
 use Rattle.mini_names.proofs.Places.{resolved_distinct}
 use Rattle.mini_names.proofs.Whole.{scoped}
+use Rattle.mini_accept.specs.Accept.{program_at, Accepts}
 use Rattle.mini_accept.specs.Numbered.{next_after}
 use Rattle.mini_accept.specs.Symbols.{has_no_symbol}
 use Rattle.mini_accept.specs.WellShaped.{IsWellShaped}
+use Rattle.mini_accept.proofs.Numbers.{program_numbered}
+use Rattle.mini_accept.proofs.Shaped.{program_shaped}
+use Rattle.mini_accept.proofs.Symbols.{program_unresolved}
+use Rattle.mini_meaning.specs.Body.{frame_of_shape, frame_of}
+use Rattle.mini_laws.proofs.Rewritten.{frame_kept}
 use Rattle.mini_kept.specs.Carried.{numbers, number_of, symbol_numbers, carried}
 use Rattle.mini_kept.specs.KeepsNames.{count_of}
 use Rattle.mini_kept.specs.Lifted.{ProgramKeeps}
 use Rattle.mini_kept.proofs.Whole.{reaches_keep}
 use Rattle.mini_kept.proofs.ReadAgain.{program_carried}
-use Rattle.mini_kept.proofs.Texts.{text}
+use Rattle.mini_kept.proofs.Texts.{text, text_resolved, read_alike}
 use Rattle.mini_kept.proofs.SameNumbers.{numbered_alike}
-use Rattle.mini_kept.proofs.InPreorder.{InPreorder, in_preorder, preorder_length, number_resolved, numbers_resolved}
+use Rattle.mini_kept.proofs.InPreorder.{InPreorder, in_preorder, preorder_length, preorder_same, number_resolved, numbers_resolved}
 use Rattle.mini_kept.proofs.SameShape.{shaped_resolved}
-use Rattle.mini_kept.proofs.SameEarly.{names_alike, jumps_alike, names_resolved, jumps_resolved}
+use Rattle.mini_kept.proofs.SameEarly.{shape_text, names_alike, jumps_alike, names_resolved, jumps_resolved}
 use Rattle.mini_kept.proofs.SameSymbols.{symbols_alike}
 use Rattle.mini_kept.proofs.SymbolsOnce.{symbol, distinct_once, distinct_numbered, distinct_length}
 use Rattle.mini_kept.proofs.SameWeight.{weights_again}
@@ -37,7 +44,21 @@ pub record IsRead (t : Tree) (n : ℕ) : Type 0 where
   pub preorder : next_after t 0 ≡ Some n
   pub unresolved : has_no_symbol t ≡ true
 
+-- as what is accepted is
+pub accepted_read : (k : ℕ) (d : Data) (t : Tree) (n : ℕ) → program_at k d ≡ Ok (t, n) → IsRead t n
+accepted_read k d t n e = record { shaped = program_shaped k d t n e; preorder = program_numbered k d t n e; unresolved = program_unresolved k d t n e }
+
+-- what is read and written alike is one tree
+pub read_same : (t u : Tree) (n m : ℕ) → IsRead t n → IsRead u m → text t ≡ text u → t ≡ u
+read_same t u n m a b e = preorder_same t u n m a.preorder b.preorder a.unresolved b.unresolved a.shaped b.shaped e
+
+pub accepted_same : (d f : Data) (t u : Tree) → Accepts d t → Accepts f u → text t ≡ text u → t ≡ u
+accepted_same d f t u (k, n, a) (j, m, b) e = read_same t u n m (accepted_read k d t n a) (accepted_read j f u m b) e
+
 -- ---- the root
+
+frame_alike : (t u : Tree) → text t ≡ text u → frame_of t ≡ frame_of u
+frame_alike t u e = read_alike frame_of (λ v. ap frame_of_shape (shape_text v)) t u e
 
 step_root : {p : Position} {t u : Tree} → ((v w : Tree) → Row p v w → ⊥) → Step Contracts p t u → number_of u ≡ number_of t
 step_root never (here p t u c) = absurd (never t u c.row)
@@ -62,6 +83,8 @@ pub record IsReadBack (t v u : Tree) : Type 0 where
   -- u has no early error where t has none
   pub names : early_names [] t ≡ [] → early_names [] u ≡ []
   pub jumps : early_jumps no_targets [] t ≡ [] → early_jumps no_targets [] u ≡ []
+  -- its frame is that of t
+  pub frame : frame_of t ≡ frame_of u
   -- what rewriting took from the one, it took from the other
   pub weights : program_weight u + program_weight (resolved_program t) ≡ program_weight t + program_weight v
 
@@ -77,6 +100,7 @@ read_back t v u n m a b r e =
       symbols_once = distinct_once (declared_symbols v) distinct;
       names = λ o. names_alike [] u v e ∙ keeps.once before (names_resolved [] t ∙ o);
       jumps = λ o. jumps_alike no_targets [] u v e ∙ keeps.targets before (jumps_resolved no_targets [] t ∙ o);
+      frame = frame_alike t (resolved_program t) (sym (text_resolved t)) ∙ frame_kept (resolved_program t) v r ∙ frame_alike v u (sym e);
       weights = weights_again t v u a.unresolved b.unresolved r e;
     }
   where

@@ -25,7 +25,7 @@ children_text : (t : Tree) → children_of_node (text t) ≡ texts (children_of_
 unfolding renumbered mapped
 children_text (node h xs n ts) = refl
 
-shape_text : (t : Tree) → shape_of (text t) ≡ shape_of t
+pub shape_text : (t : Tree) → shape_of (text t) ≡ shape_of t
 unfolding renumbered mapped
 shape_text (node h xs n ts) = refl
 

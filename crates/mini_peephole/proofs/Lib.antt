@@ -5,3 +5,5 @@ pub mod Written
 pub mod Faith
 pub mod Floats
 pub mod Looked
+pub mod Alike
+pub mod Spelled
