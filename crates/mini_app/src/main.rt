@@ -1,24 +1,10 @@
 //! The minifier's program: ESTree JSON from standard input to standard output.
 #![tactic(auto)]
 
-pub mod adapters;
-pub mod choice;
-pub mod laws;
-pub mod memory;
-pub mod outside;
-pub mod plain;
-pub mod run;
-pub mod steps;
-#[cfg(test)]
-mod tests;
-pub mod words;
-
-use adapters::{StdSink, StdSource};
-use run::{Status, run};
+use mini_run::{Status, StdSink, StdSource, Words, run};
 use std::env;
 use std::io::ErrorKind;
 use std::process::ExitCode;
-use words::Words;
 
 fn main(rt: HostRuntime) -> ExitCode {
     ExitCode::from(start(&rt).code())

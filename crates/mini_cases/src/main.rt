@@ -3,10 +3,15 @@
 //!
 //! A line that begins with `#` is a title, and its own answer. Each other one is a word and a value of ESTree as JSON:
 //! `tell` and a depth, `numbers`, `again`, `expression`, `statement`, or `minify` and a number of passes.
+//!
+//! Beside them stand the tests of what no line can ask. They give nothing to others, as this program doesn't: a crate with
+//! tests is proved a second time with them.
 #![tactic(auto)]
 
 mod cases;
 mod error;
+#[cfg(test)]
+mod tests;
 mod weights;
 
 use cases::answer;

@@ -1,4 +1,0 @@
-use Rattle.mini_app.proofs.run.run.Given as goal
-
-abbrev pub ghosts-read_input : goal.ghosts-read_input
-ghosts-read_input g a = record { name = a.blank.name; parts = a.blank.parts }

@@ -1,0 +1,8 @@
+// Tests that cross crates, of what no line of a case asks: texts and lists, lists of nodes and nodes changed in place,
+// numerals and templates, and whole runs over memory. What is wanted was worked out by hand.
+
+mod lists;
+mod numerals;
+mod runs;
+mod templates;
+mod texts;

@@ -1,0 +1,26 @@
+use Rattle.std.proofs.Common.{◌≡◌, arith}
+use Rattle.std.specs.Prelude.{None}
+use Rattle.std.proofs.lemmas.Grind.{common_steps}
+use Rattle.serde_json.specs.View.{view}
+use Rattle.mini_text.specs.Faults.{fault_of}
+use Rattle.mini_fits.proofs.Counted.{bytes_fit}
+use Rattle.mini_run.proofs.Told.{defect_of}
+use Rattle.mini_run.proofs.running.settle.Goals as goal
+
+pub returns-else-is_memory-2 : goal.returns-else-is_memory-2
+returns-else-is_memory-2 c =
+    let error = c.in-Err-minified.error in
+    let tells : fault_of error ≡ None → ⊥ = (let h = c.if-is_memory-2.ensures in let k = c.if-is_memory-2.false in grind (arith, common_steps)) in
+    let (f, told, has) = defect_of (view c.in-Ok.value) c.args.options.now error c.in-Err-minified.ensures.refused tells in
+    (f, record { value = view c.in-Ok.value; reads = c.in-Ok.ensures.ok.1; defect = has }, told)
+
+pub returns-in-Ok-answer : goal.returns-in-Ok-answer
+returns-in-Ok-answer c = (
+  c.in-Ok-minified.minified,
+  record { value = view c.in-Ok.value; reads = c.in-Ok.ensures.ok.1; faithful = c.in-Ok-minified.ensures.faithful; passes = c.in-Ok-minified.ensures.passes; minified = c.in-Ok-minified.ensures.rewritten },
+  c.in-Ok-answer.ensures,
+)
+
+-- what the bytes say is small
+pub minify_estree-minified-requires : goal.minify_estree-minified-requires
+minify_estree-minified-requires c = bytes_fit c.args.input.now _ c.requires c.in-Ok.ensures.ok.1

@@ -1,0 +1,152 @@
+-- What a run answers, and when.
+use Rattle.std.specs.Prelude.{◌≡◌, ℕ, ◌<◌, ◌≤◌, ◌⊎◌, true, List, [], ◌∷◌, ◌++◌, length, codes, map, Option, Some, None, Ok, string_bytes, IsUtf8}
+use Rattle.std.specs.Io.KnownBytes.{Appends, Consumes, IsAtEnd}
+use Rattle.serde_json.specs.Data.{Data, unsigned, number, boolean, array, object, no_members, member}
+use Rattle.serde_json.specs.View.{view, items_of}
+use Rattle.serde_json.specs.Written.{compact_text}
+use Rattle.serde_json.specs.Read.{read}
+use Rattle.mini_model.specs.Tree.{Tree}
+use Rattle.mini_tree.specs.declared.options.CompressOptions.{CompressOptions}
+use Rattle.mini_accept.specs.Accept.{program_at}
+use Rattle.mini_scope.specs.Pointers.{early_fault}
+use Rattle.mini_text.specs.Faults.{Fault, fault_of, name_of_defect}
+use Rattle.mini_peephole.specs.Faithful.{Faithful, PassesBounded}
+use Rattle.mini_peephole.specs.Minified.{IsMinified, HasDefect}
+use Rattle.mini_peephole.specs.declared.minify.Minified.{Minified}
+use Rattle.mini_run.specs.Causes.{Rose, GrewWithin}
+use Rattle.mini_run.specs.Words.{NameOptions, GoodWords}
+use Rattle.mini_run.specs.declared.running.Outcome.{Outcome}
+use Rattle.mini_run.specs.declared.running.Outcome.TheVariants.{Answer, Unread, Faulty, NoRoom}
+use Rattle.mini_run.specs.declared.running.Status.{Status}
+use Rattle.mini_run.specs.declared.running.Status.TheVariants.{Done, BadWords, NotJson, Refused, ReadFault, WriteFault, TooLong, OutOfMemory}
+
+-- the number that the process ends with
+abbrev pub code_of : Status → ℕ
+code_of Done = 0
+code_of BadWords = 1
+code_of NotJson = 2
+code_of Refused = 3
+code_of ReadFault = 4
+code_of WriteFault = 5
+code_of TooLong = 6
+code_of OutOfMemory = 7
+
+-- compact JSON, and a newline
+unfoldable pub line_of : Data → List ℕ
+line_of d = compact_text d ++ 10 ∷ []
+
+abbrev pub numbers_data : List ℕ → Data
+numbers_data ns = array (items_of (map (λ n. number (unsigned n)) ns))
+
+abbrev pub answer_data : Minified → Data
+answer_data m = object (member (codes "kept") (numbers_data m.kept) (member (codes "passes") (number (unsigned m.passes)) (member (codes "program") (view m.program) (member (codes "settled") (boolean m.settled) (member (codes "symbols") (numbers_data m.symbols) no_members)))))
+
+-- what is written for an answer
+abbrev pub answer_text : Minified → List ℕ
+answer_text m = line_of (answer_data m)
+
+-- what is told of a fault
+unfoldable pub note_text : Fault → List ℕ
+note_text f = codes "refused: " ++ (name_of_defect f.defect ++ (codes " at " ++ (f.at ++ 10 ∷ [])))
+
+abbrev pub IsNotJson : List ℕ → Type 0
+IsNotJson input = IsUtf8 input → read input ≡ None
+
+-- the bytes are JSON, of a program to which this answer is faithful, and from which it was made by rewrites
+pub record HasAnswer (o : CompressOptions) (input : List ℕ) (m : Minified) : Type 0 where
+  pub value : Data
+  pub reads : read input ≡ Some value
+  pub faithful : Faithful value o m
+  pub passes : PassesBounded value o m
+  pub minified : IsMinified value o m
+
+-- the bytes are JSON, of a value that has this defect
+pub record HasFault (o : CompressOptions) (input : List ℕ) (f : Fault) : Type 0 where
+  pub value : Data
+  pub reads : read input ≡ Some value
+  pub defect : HasDefect value o f
+
+-- what a whole input comes to
+abbrev pub IsOutcome : CompressOptions → List ℕ → Outcome → Type 0
+IsOutcome o input NoRoom = Unit {0}
+IsOutcome o input Unread = IsNotJson input
+IsOutcome o input (Faulty e) = (f : Fault) × HasFault o input f × (fault_of e ≡ Some f)
+IsOutcome o input (Answer s) = (m : Minified) × HasAnswer o input m × (string_bytes s ≡ answer_text m)
+
+-- what a source or a sink told, and how often it had failed, before a call and after it
+pub record Change : Type 0 where
+  pub before : Option (List ℕ)
+  pub after : Option (List ℕ)
+  pub faults_before : ℕ
+  pub faults_after : ℕ
+
+-- no call was made
+pub record IsUntouched (c : Change) : Type 0 where
+  pub bytes : c.after ≡ c.before
+  pub faults : c.faults_after ≡ c.faults_before
+
+-- all of the line was written, unless the sink failed: then a beginning
+pub record IsTold (c : Change) (line : List ℕ) : Type 0 where
+  pub part : GrewWithin c.before c.after line
+  pub all : Rose c.faults_before c.faults_after ⊎ Appends c.before c.after line
+
+-- the source gave just these bytes, and its end
+pub record Gave (source : Change) (input : List ℕ) : Type 0 where
+  pub bytes : Consumes source.before source.after input
+  pub end : IsAtEnd source.after
+  pub short : length input ≤ 16777216
+
+-- the source gave these bytes, more than are read
+pub record GaveMore (source : Change) (input : List ℕ) : Type 0 where
+  pub bytes : Consumes source.before source.after input
+  pub long : 16777216 < length input
+
+-- what a status says of a whole input, read under these options, and of what was written
+abbrev pub IsDelivered : Status → CompressOptions → List ℕ → Change → Change → Type 0
+IsDelivered Done o input sink notes = (m : Minified) × HasAnswer o input m × Appends sink.before sink.after (answer_text m) × IsUntouched notes
+IsDelivered WriteFault o input sink notes = (m : Minified) × HasAnswer o input m × GrewWithin sink.before sink.after (answer_text m) × Rose sink.faults_before sink.faults_after × IsUntouched notes
+IsDelivered NotJson o input sink notes = IsNotJson input × IsUntouched sink × IsUntouched notes
+IsDelivered Refused o input sink notes = (f : Fault) × HasFault o input f × IsTold notes (note_text f) × IsUntouched sink
+IsDelivered OutOfMemory o input sink notes = IsUntouched sink × IsUntouched notes
+IsDelivered BadWords o input sink notes = ⊥
+IsDelivered ReadFault o input sink notes = ⊥
+IsDelivered TooLong o input sink notes = ⊥
+
+-- all was read, under the options that the words name, and the status tells what came of it
+abbrev pub IsDueOfAll : Status → List (List ℕ) → Change → Change → Change → Type 0
+IsDueOfAll s words source sink notes = (o : CompressOptions) × NameOptions words o × (input : List ℕ) × Gave source input × IsDelivered s o input sink notes
+
+-- what a status says of a run
+abbrev pub IsDue : Status → List (List ℕ) → Change → Change → Change → Type 0
+IsDue BadWords words source sink notes = (GoodWords words → ⊥) × IsUntouched source × IsUntouched sink × IsUntouched notes
+IsDue ReadFault words source sink notes = GoodWords words × Rose source.faults_before source.faults_after × IsUntouched sink × IsUntouched notes
+IsDue TooLong words source sink notes = GoodWords words × ((input : List ℕ) × GaveMore source input) × IsUntouched sink × IsUntouched notes
+IsDue OutOfMemory words source sink notes = GoodWords words × IsUntouched sink × IsUntouched notes
+IsDue Done words source sink notes = IsDueOfAll Done words source sink notes
+IsDue WriteFault words source sink notes = IsDueOfAll WriteFault words source sink notes
+IsDue NotJson words source sink notes = IsDueOfAll NotJson words source sink notes
+IsDue Refused words source sink notes = IsDueOfAll Refused words source sink notes
+
+-- The words are good; the source tells its bytes, which aren't too many; and they are JSON of a program that is read
+-- under the options that the words name, and has no early error.
+pub record IsValidInput (words : List (List ℕ)) (before : Option (List ℕ)) : Type 0 where
+  pub options : CompressOptions
+  pub name : NameOptions words options
+  pub input : List ℕ
+  pub there : before ≡ Some input
+  pub short : length input ≤ 16777216
+  pub utf8 : IsUtf8 input
+  pub value : Data
+  pub reads : read input ≡ Some value
+  pub program : Tree
+  pub numbers : ℕ
+  pub accepted : program_at options.max_depth value ≡ Ok (program, numbers)
+  pub free : early_fault program ≡ None
+
+-- the answer was written, unless memory ran out, or the source or the sink failed, as their counts of faults show
+abbrev pub IsAnswered : Status → ℕ → ℕ → ℕ → ℕ → Type 0
+IsAnswered Done source_before source_after sink_before sink_after = Unit {0}
+IsAnswered OutOfMemory source_before source_after sink_before sink_after = Unit {0}
+IsAnswered ReadFault source_before source_after sink_before sink_after = Rose source_before source_after
+IsAnswered WriteFault source_before source_after sink_before sink_after = Rose sink_before sink_after
+IsAnswered _ source_before source_after sink_before sink_after = ⊥

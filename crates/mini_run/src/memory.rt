@@ -1,0 +1,231 @@
+// A source and a sink in memory, for tests.
+
+ghost use Rattle.std.specs.Prelude.{◌≡◌, ◌↔◌, ◌⊎◌, ◌+◌, ◌-◌, ◌<◌, ◌≤◌, ◌++◌, [], ℕ, List, Some, Ok, IsTrue, IfOk, OnErr, IsErr, length, take, drop};
+ghost use Rattle.std.specs.Io.{ReadsAtMost, WritesAtMost};
+ghost use Rattle.std.specs.Io.KnownBytes.{ReadConsumes, WriteAppends};
+ghost use Rattle.mini_run.specs.Causes.{Rose, HasCause};
+ghost use Rattle.mini_run.specs.Memory.{IsListed, one_more, after_call, moved, after_read, after_failed_read, after_failed_write};
+
+use crate::outside::{Failed, Sink, Source};
+use mini_text::OutOfMemory;
+use std::alloc::Global;
+use std::marker::Model;
+
+/// Which calls fail, and the most bytes that another moves.
+#[derive(Drop)]
+struct Plan {
+    limit: usize,
+    fails: Vec<u32>,
+    calls: u64,
+    faults: u64,
+}
+
+impl Model for Plan {
+    ghost use Rattle.mini_run.specs.Memory.{Schedule};
+
+    ghost Value = { Schedule };
+
+    ghost view = { λ plan. record { limit = plan.limit; fails = plan.fails.items; calls = plan.calls; faults = plan.faults } };
+}
+
+impl Plan {
+    fn new(limit: usize, fails: Vec<u32>) -> Plan
+        ensures { result ≡ record { limit = limit; fails = fails.items; calls = 0; faults = 0 } }
+    {
+        Plan {
+            limit,
+            fails,
+            calls: 0,
+            faults: 0,
+        }
+    }
+
+    // Whether the next call fails.
+    fn is_listed(&self) -> bool
+        ensures { IsTrue result ↔ IsListed self.now }
+    {
+        match u32::try_from(self.calls) {
+            Ok(calls) => match calls.checked_add(1) {
+                Some(number) => self.fails.contains(&number),
+                None => false,
+            },
+            Err(_) => false,
+        }
+    }
+
+    fn count_call(&mut self)
+        ensures { self.new ≡ after_call self.old }
+    {
+        self.calls = self.calls.saturating_add(1);
+    }
+
+    fn count_fault(&mut self)
+        ensures value { self.new ≡ record self.old { faults = one_more self.old.faults } }
+        ensures later { self.old.faults ≤ self.new.faults }
+    {
+        self.faults = self.faults.saturating_add(1);
+    }
+
+    // How many bytes a call moves.
+    fn moved(&self, piece: usize, there: usize) -> usize
+        ensures { result ≡ moved self.now piece there }
+    {
+        let most = if self.limit == 0 { 1 } else { self.limit };
+        most.min(piece.min(there))
+    }
+}
+
+/// Gives the bytes that it was made with. Calls are counted from 1 up to the greatest u32; those past it have no
+/// number. A call fails exactly where its number is one of `fails`, and any other moves at most `limit` bytes, or 1.
+#[derive(Drop)]
+pub struct MemSource {
+    bytes: Vec<u8>,
+    at: usize,
+    plan: Plan,
+}
+
+impl Model for MemSource {
+    ghost use Rattle.std.specs.Prelude.{◌≤◌, length, drop};
+    ghost use Rattle.mini_run.specs.Memory.{Supply};
+
+    ghost Value = { Supply };
+
+    ghost view = { λ source. record { left = drop source.at source.bytes.items; schedule = source.plan } };
+
+    ghost invariant = { λ source. source.at ≤ length source.bytes.items };
+}
+
+impl MemSource {
+    /// All the bytes are still to come, at most `limit` a call; `fails` has the numbers of the calls that fail.
+    pub fn new(bytes: Vec<u8>, limit: usize, fails: Vec<u32>) -> MemSource
+        ensures { result ≡ record { left = bytes.items; schedule = record { limit = limit; fails = fails.items; calls = 0; faults = 0 } } }
+    {
+        MemSource {
+            bytes,
+            at: 0,
+            plan: Plan::new(limit, fails),
+        }
+    }
+
+    /// The bytes still to come.
+    pub fn left(&self) -> &[u8]
+        ensures { result.now ≡ self.now.left }
+    {
+        &self.bytes[self.at..]
+    }
+}
+
+/// Copies the front of the bytes.
+pub(crate) fn copy_front(piece: &mut [u8], bytes: &[u8], count: usize)
+    requires room { count ≤ length piece.old }
+    requires there { count ≤ length bytes.now }
+    ensures { take count piece.new ≡ take count bytes.now }
+{
+    piece[..count].copy_from_slice(&bytes[..count]);
+}
+
+impl Source for MemSource {
+    ghost left = { λ source. Some source.left };
+
+    ghost faults = { λ source. source.schedule.faults };
+
+    fn read(&mut self, piece: &mut [u8]) -> Result<usize, Failed>
+        ensures bound { ReadsAtMost result piece.new }
+        ensures bytes { ReadConsumes (Some self.old.left) (Some self.new.left) result piece.new }
+        ensures cause { HasCause self.old.schedule.faults self.new.schedule.faults result }
+
+        ensures fails { IsErr result ↔ IsListed self.old.schedule }
+        ensures count { IfOk result (λ n. n ≡ moved self.old.schedule (length piece.new) (length self.old.left)) }
+        ensures ok { IfOk result (λ n. self.new ≡ after_read self.old n) }
+        ensures err { OnErr result (self.new ≡ after_failed_read self.old) }
+    {
+        let fails = self.plan.is_listed();
+        self.plan.count_call();
+        if fails {
+            self.plan.count_fault();
+            return Err(Failed);
+        }
+        let count = self.plan.moved(piece.len(), self.bytes.len() - self.at);
+        copy_front(piece, &self.bytes[self.at..], count);
+        self.at += count;
+        Ok(count)
+    }
+}
+
+/// Takes bytes up to the room that it was made with. Calls are counted from 1 up to the greatest u32; those past it
+/// have no number. A call fails exactly where its number is one of `fails`, or where a piece that isn't empty finds no
+/// room; any other moves at most `limit` bytes, or 1.
+#[derive(Drop)]
+pub struct MemSink {
+    bytes: Vec<u8>,
+    room: usize,
+    plan: Plan,
+}
+
+impl Model for MemSink {
+    ghost use Rattle.std.specs.Prelude.{◌+◌, ◌≤◌, vec_len, vec_capacity};
+    ghost use Rattle.mini_run.specs.Memory.{Store};
+
+    ghost Value = { Store };
+
+    ghost view = { λ sink. record { written = sink.bytes.items; room = sink.room; schedule = sink.plan } };
+
+    ghost invariant = { λ sink. vec_len sink.bytes + sink.room ≤ vec_capacity sink.bytes };
+}
+
+impl MemSink {
+    /// Takes the memory for all the room. No later call takes memory.
+    pub fn new(
+        alloc: Global,
+        room: usize,
+        limit: usize,
+        fails: Vec<u32>,
+    ) -> Result<MemSink, OutOfMemory>
+        ensures { IfOk result (λ sink. sink ≡ record { written = []; room = room; schedule = record { limit = limit; fails = fails.items; calls = 0; faults = 0 } }) }
+    {
+        match Vec::with_capacity(alloc, room) {
+            Ok(bytes) => Ok(MemSink {
+                bytes,
+                room,
+                plan: Plan::new(limit, fails),
+            }),
+            Err(_) => Err(OutOfMemory),
+        }
+    }
+
+    /// The bytes that it took.
+    pub fn written(&self) -> &[u8]
+        ensures { result.now ≡ self.now.written }
+    {
+        self.bytes.as_slice()
+    }
+}
+
+impl Sink for MemSink {
+    ghost written = { λ sink. Some sink.written };
+
+    ghost faults = { λ sink. sink.schedule.faults };
+
+    fn write(&mut self, piece: &[u8]) -> Result<usize, Failed>
+        ensures bound { WritesAtMost result piece.now }
+        ensures bytes { WriteAppends (Some self.old.written) (Some self.new.written) result piece.now }
+        ensures cause { HasCause self.old.schedule.faults self.new.schedule.faults result }
+        ensures none { result ≡ Ok 0 → 0 < length piece.now → Rose self.old.schedule.faults self.new.schedule.faults }
+
+        ensures fails { IsErr result ↔ (IsListed self.old.schedule ⊎ ((self.old.room ≡ 0) × (0 < length piece.now))) }
+        ensures count { IfOk result (λ n. n ≡ moved self.old.schedule (length piece.now) self.old.room) }
+        ensures ok { IfOk result (λ n. self.new ≡ record { written = self.old.written ++ take n piece.now; room = self.old.room - n; schedule = after_call self.old.schedule }) }
+        ensures err { OnErr result (self.new ≡ after_failed_write self.old) }
+    {
+        let listed = self.plan.is_listed();
+        self.plan.count_call();
+        if listed || (self.room == 0 && !piece.is_empty()) {
+            self.plan.count_fault();
+            return Err(Failed);
+        }
+        let count = self.plan.moved(piece.len(), self.room);
+        self.bytes.extend_from_slice(&piece[..count]).unwrap();
+        self.room -= count;
+        Ok(count)
+    }
+}

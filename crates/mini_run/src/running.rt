@@ -1,0 +1,244 @@
+// From the bytes in to the bytes out.
+
+ghost use Rattle.std.specs.Prelude.{◌≡◌, ◌<◌, ◌≤◌, ℕ, List, length, IfSome, IfOk, IsErrOf, string_bytes, false};
+ghost use Rattle.mini_run.specs.Answer.{code_of, line_of, numbers_data, answer_text, answer_data, note_text, IsOutcome, IsDelivered, IsDue, IsTold, Gave, GaveMore, IsValidInput, IsAnswered};
+ghost use Rattle.mini_run.specs.Causes.{Rose};
+ghost use Rattle.serde_json.specs.View.{view};
+ghost use Rattle.serde_json.specs.Written.{has_float};
+ghost use Rattle.mini_text.specs.Faults.{fault_of};
+
+use crate::choice::read_options;
+use crate::outside::{Sink, Source, Stopped, read_all, write_all};
+use crate::steps::Steps;
+use crate::words::Words;
+use mini_peephole::{Minified, MinifyError, minify_estree};
+use mini_tree::{CompressOptions, Numbers};
+use serde_json::{Value, json};
+use std::alloc::{AllocError, Global};
+use std::marker::Brand;
+use std::sync::ledger::{Blank, Ledger};
+
+/// How a run ended.
+#[derive(Clone, Copy, PartialEq, Eq, Debug)]
+pub enum Status {
+    /// The whole answer was written.
+    Done,
+    /// The words are none that a run takes.
+    BadWords,
+    /// The bytes are no JSON.
+    NotJson,
+    /// The program has a defect, or a form that isn't read.
+    Refused,
+    /// The source failed.
+    ReadFault,
+    /// The sink failed.
+    WriteFault,
+    /// The source gave too many bytes.
+    TooLong,
+    /// No memory was left.
+    OutOfMemory,
+}
+
+impl Status {
+    /// The number that the process ends with.
+    pub fn code(&self) -> u8
+        ensures { result ≡ code_of self.now }
+    {
+        match self {
+            Status::Done => 0,
+            Status::BadWords => 1,
+            Status::NotJson => 2,
+            Status::Refused => 3,
+            Status::ReadFault => 4,
+            Status::WriteFault => 5,
+            Status::TooLong => 6,
+            Status::OutOfMemory => 7,
+        }
+    }
+}
+
+/// What a whole input comes to.
+#[derive(Drop)]
+pub enum Outcome {
+    /// The answer's text.
+    Answer(String),
+    /// The input is no JSON.
+    Unread,
+    /// The program is refused.
+    Faulty(MinifyError),
+    /// No memory was left.
+    NoRoom,
+}
+
+#[tactic(auto, unfolding(crate::specs::Answer::line_of))]
+fn line(alloc: Global, value: &Value) -> Result<String, AllocError>
+    requires { has_float (view value.now) ≡ false }
+    ensures { IfOk result (λ text. string_bytes text ≡ line_of (view value.now)) }
+{
+    let mut text = value.to_string(alloc)?;
+    text.push('\n')?;
+    Ok(text)
+}
+
+fn numbers_value(alloc: Global, numbers: &Numbers) -> Result<Value, AllocError>
+    ensures { IfOk result (λ value. view value ≡ numbers_data numbers.now) }
+{
+    let mut values: Vec<Value> = Vec::new(alloc);
+    'numbers: for number in numbers.as_slice() {
+        values.push(Value::from(*number))?;
+    }
+    Ok(Value::from(values))
+}
+
+fn answer_value(alloc: Global, minified: Minified) -> Result<Value, AllocError>
+    ensures { IfOk result (λ value. view value ≡ answer_data minified) }
+{
+    let kept = numbers_value(alloc, &minified.kept)?;
+    let symbols = numbers_value(alloc, &minified.symbols)?;
+    json!(in alloc; {
+        "kept": kept,
+        "passes": minified.passes,
+        "program": minified.program,
+        "settled": minified.settled,
+        "symbols": symbols
+    })
+}
+
+fn answer(alloc: Global, minified: Minified) -> Result<String, AllocError>
+    requires { has_float (view minified.program) ≡ false }
+    ensures { IfOk result (λ text. string_bytes text ≡ answer_text minified) }
+{
+    let value = answer_value(alloc, minified)?;
+    line(alloc, &value)
+}
+
+fn settle(alloc: Global, input: &[u8], options: &CompressOptions) -> Outcome
+    requires { length input.now ≤ 16777216 }
+    ensures { IsOutcome options.now input.now result }
+{
+    let value = match Value::from_slice(alloc, input) {
+        Ok(value) => value,
+        Err(error) => {
+            if error.is_memory() {
+                return Outcome::NoRoom;
+            }
+            return Outcome::Unread;
+        }
+    };
+    let minified = minify_estree(alloc, &value, options);
+    drop(value);
+    match minified {
+        Ok(minified) => match answer(alloc, minified) {
+            Ok(text) => Outcome::Answer(text),
+            Err(_) => Outcome::NoRoom,
+        },
+        Err(error) => {
+            if error.is_memory() {
+                return Outcome::NoRoom;
+            }
+            Outcome::Faulty(error)
+        }
+    }
+}
+
+#[tactic(auto, unfolding(crate::specs::Answer::note_text))]
+fn note(alloc: Global, error: &MinifyError) -> Result<String, AllocError>
+    ensures { IfOk result (λ text. IfSome (fault_of error.now) (λ f. string_bytes text ≡ note_text f)) }
+{
+    let mut told = String::new(alloc);
+    told.push_str("refused: ")?;
+    told.push_str(error.variant())?;
+    told.push_str(" at ")?;
+    told.push_str(error.place())?;
+    told.push('\n')?;
+    Ok(told)
+}
+
+// A fault of the notes changes no status.
+fn tell<E: Sink>(notes: &mut E, line: &[u8])
+    ensures { IsTold
+        (record { before = E.written notes.old; after = E.written notes.new; faults_before = E.faults notes.old; faults_after = E.faults notes.new })
+        line.now }
+{
+    match write_all(notes, line) {
+        Ok(()) => (),
+        Err(_) => (),
+    }
+}
+
+fn deliver<K: Sink, E: Sink>(
+    alloc: Global,
+    input: &[u8],
+    options: &CompressOptions,
+    sink: &mut K,
+    notes: &mut E,
+) -> Status
+    requires { length input.now ≤ 16777216 }
+    ensures { IsDelivered result options.now input.now
+        (record { before = K.written sink.old; after = K.written sink.new; faults_before = K.faults sink.old; faults_after = K.faults sink.new })
+        (record { before = E.written notes.old; after = E.written notes.new; faults_before = E.faults notes.old; faults_after = E.faults notes.new }) }
+{
+    match settle(alloc, input, options) {
+        Outcome::NoRoom => Status::OutOfMemory,
+        Outcome::Unread => Status::NotJson,
+        Outcome::Faulty(error) => match note(alloc, &error) {
+            Ok(text) => {
+                tell(notes, text.as_bytes());
+                Status::Refused
+            }
+            Err(_) => Status::OutOfMemory,
+        },
+        Outcome::Answer(text) => match write_all(sink, text.as_bytes()) {
+            Ok(()) => Status::Done,
+            Err(_) => Status::WriteFault,
+        },
+    }
+}
+
+// Reads all, with a count of steps of its own.
+fn read_input<S: Source, L: Ledger>(
+    alloc: Global,
+    source: &mut S,
+    blank: Blank,
+) -> Result<Vec<u8>, Stopped>
+    requires name { blank.name ≡ L.name }
+    requires parts { blank.parts ≡ L.parts }
+    requires some { 0 < blank.parts }
+    ensures all { IfOk result (λ input. Gave
+        (record { before = S.left source.old; after = S.left source.new; faults_before = S.faults source.old; faults_after = S.faults source.new })
+        input.items) }
+    ensures fault { IsErrOf result Stopped.Fault → Rose (S.faults source.old) (S.faults source.new) }
+    ensures long { IsErrOf result Stopped.TooLong → (input : List ℕ) × GaveMore
+        (record { before = S.left source.old; after = S.left source.new; faults_before = S.faults source.old; faults_after = S.faults source.new })
+        input }
+{
+    let mut steps = Steps::<L>::new(blank);
+    read_all(alloc, source, &mut steps)
+}
+
+/// Reads the words and all that the source gives, minifies it, and writes the answer, or tells why there is none.
+pub fn run<S: Source, K: Sink, E: Sink>(
+    alloc: Global,
+    words: &Words,
+    source: &mut S,
+    sink: &mut K,
+    notes: &mut E,
+) -> Status
+    ensures due { IsDue result words.now
+        (record { before = S.left source.old; after = S.left source.new; faults_before = S.faults source.old; faults_after = S.faults source.new })
+        (record { before = K.written sink.old; after = K.written sink.new; faults_before = K.faults sink.old; faults_after = K.faults sink.new })
+        (record { before = E.written notes.old; after = E.written notes.new; faults_before = E.faults notes.old; faults_after = E.faults notes.new }) }
+    ensures answered { IsValidInput words.now (S.left source.old)
+        → IsAnswered result (S.faults source.old) (S.faults source.new) (K.faults sink.old) (K.faults sink.new) }
+{
+    let options = match read_options(words) {
+        Some(options) => options,
+        None => return Status::BadWords,
+    };
+    match read_input::<S, Brand>(alloc, source, Blank::new(1)) {
+        Ok(input) => deliver(alloc, &input, &options, sink, notes),
+        Err(Stopped::Memory) => Status::OutOfMemory,
+        Err(Stopped::Fault) => Status::ReadFault,
+        Err(Stopped::TooLong) => Status::TooLong,
+    }
+}
