@@ -3,8 +3,6 @@
 
 mod laws;
 mod size;
-#[cfg(test)]
-mod size_tests;
 
 pub use laws::{accepted_is_countable, accepted_weighs_little, fitting_is_read, read_bytes_fit};
-pub use size::fits;
+pub use size::{count_units, count_values, fits};

@@ -24,7 +24,7 @@ pub fn fits(value: &Value) -> bool
 
 /// How many JSON values the value is made of.
 #[cycle(values)]
-pub(crate) fn count_values(value: &Value) -> u64
+pub fn count_values(value: &Value) -> u64
     ensures { result ≡ capped (values_in (view value.now)) }
 {
     match value {
@@ -71,7 +71,7 @@ fn count_text_units(text: &str) -> u64
 
 /// How many UTF-16 units its texts have, those of keys counted.
 #[cycle(units)]
-pub(crate) fn count_units(value: &Value) -> u64
+pub fn count_units(value: &Value) -> u64
     ensures { result ≡ capped (units_in (view value.now)) }
 {
     match value {

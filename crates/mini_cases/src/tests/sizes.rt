@@ -1,6 +1,6 @@
 // How large some values are.
 
-use crate::size::{count_units, count_values, fits};
+use mini_fits::{count_units, count_values, fits};
 use serde_json::Value;
 use std::test::Fail;
 
