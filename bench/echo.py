@@ -3,9 +3,9 @@
 
     python3 bench/echo.py INPUT..
 
-Each INPUT is a file of ESTree JSON, as `node bench/real.js` writes one. The program is crates/mini_echo/out/mini_echo of
-this repository: `rt run` in crates/mini_echo makes it. Each input is run three times as a program and three times as plain
-JSON (`--json`), in turn. A line has the least seconds of processor of each, their ratio, and the greatest peak memory.
+Each INPUT is a file of ESTree JSON, as `node bench/real.js` writes one. The program is crates/mini_cases/out/mini_cases of
+this repository: `rt run` in crates/mini_cases makes it. Each input is run three times as a program (`--echo`) and three times
+as plain JSON (`--json`), in turn. A line has the least seconds of processor of each, their ratio, and the greatest peak memory.
 """
 
 import os
@@ -31,13 +31,13 @@ def run(program, words, path):
 
 def main():
     here = os.path.dirname(os.path.dirname(os.path.abspath(__file__)))
-    program = os.path.join(here, "crates", "mini_echo", "out", "mini_echo")
+    program = os.path.join(here, "crates", "mini_cases", "out", "mini_cases")
     if not os.access(program, os.X_OK):
-        sys.exit(f"{program} is not there: run `rt run` in crates/mini_echo first")
+        sys.exit(f"{program} is not there: run `rt run` in crates/mini_cases first")
     for path in sys.argv[1:]:
         whole, plain = [], []
         for _ in range(3):
-            whole.append(run(program, [], path))
+            whole.append(run(program, ["--echo"], path))
             plain.append(run(program, ["--json"], path))
         assert all(r[2] == 0 for r in whole + plain), (path, whole, plain)
         seconds, json_seconds = min(r[0] for r in whole), min(r[0] for r in plain)

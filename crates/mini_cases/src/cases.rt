@@ -4,6 +4,7 @@ use crate::error::CaseError;
 use crate::weights::{expression_weight, statement_weights};
 use mini_estree::{Numbered, fits, read_program, write_program};
 use mini_peephole::minify_estree;
+use mini_run::echoed;
 use mini_tree::CompressOptions;
 use serde_json::Value;
 use std::alloc::Global;
@@ -19,6 +20,7 @@ pub fn answer(alloc: Global, line: &str) -> Result<String, CaseError> {
         "tell" => told(alloc, rest),
         "numbers" => numbers(alloc, rest),
         "again" => again(alloc, rest),
+        "echo" => Ok(echoed(alloc, String::from_str(alloc, rest)?)?),
         "expression" => expression_weight(alloc, rest),
         "statement" => statement_weights(alloc, rest),
         "minify" => minified(alloc, rest),

@@ -1,6 +1,7 @@
 // Why there is no answer.
 
 use mini_estree::MinifyError;
+use mini_run::EchoError;
 use mini_text::OutOfMemory;
 use std::alloc::AllocError;
 use std::io;
@@ -29,6 +30,16 @@ impl From<serde_json::Error> for CaseError {
 impl From<MinifyError> for CaseError {
     fn from(error: MinifyError) -> CaseError {
         CaseError::Refused(error)
+    }
+}
+
+impl From<EchoError> for CaseError {
+    fn from(error: EchoError) -> CaseError {
+        match error {
+            EchoError::NotJson => CaseError::NotJson,
+            EchoError::Refused(error) => CaseError::Refused(error),
+            EchoError::OutOfMemory => CaseError::OutOfMemory,
+        }
     }
 }
 

@@ -2,9 +2,13 @@
 //! compared with what was worked out by hand, or is what acorn gives for some code (`stdin` and `stdout`).
 //!
 //! A line that begins with `#` is a title, and its own answer. Each other one is a word and a value of ESTree as JSON:
-//! `tell` and a depth, `numbers`, `again`, `expression`, `statement`, or `minify` and a number of passes.
+//! `tell` and a depth, `numbers`, `again`, `echo`, `expression`, `statement`, or `minify` and a number of passes.
 //!
-//! Beside them stand the tests of what no line can ask. They give nothing to others, as this program doesn't: a crate with
+//! With the word `--echo` all of standard input is one program, which is written as the minifier would: every field of each
+//! type of node, and no other. With `--json` it is read and written as plain JSON, so that the time of that can be told from
+//! the time of all.
+//!
+//! Beside this stand the tests of what no line can ask. They give nothing to others, as this program doesn't: a crate with
 //! tests is proved a second time with them.
 #![tactic(auto)]
 
@@ -16,8 +20,21 @@ mod weights;
 
 use cases::answer;
 use error::CaseError;
-use std::io;
+use mini_run::{echoed, same_json};
+use std::io::Write;
 use std::process::ExitCode;
+use std::{env, io};
+
+/// What is done with standard input.
+#[derive(Clone, Copy)]
+enum Task {
+    /// Its lines are answered.
+    Cases,
+    /// It is a program, which is written.
+    Echo,
+    /// It is JSON, which is written.
+    Json,
+}
 
 fn main(rt: HostRuntime) -> ExitCode {
     match start(&rt) {
@@ -26,9 +43,34 @@ fn main(rt: HostRuntime) -> ExitCode {
     }
 }
 
+// What the words ask for, where the last one counts.
+fn asked(rt: &HostRuntime) -> Result<Task, CaseError> {
+    let mut task = Task::Cases;
+    for word in env::args(rt)?.skip(1) {
+        task = match word.as_str() {
+            "--echo" => Task::Echo,
+            "--json" => Task::Json,
+            _ => return Err(CaseError::NoCase),
+        };
+    }
+    Ok(task)
+}
+
 fn start(rt: &HostRuntime) -> Result<(), CaseError> {
-    let text = io::read_to_string(rt.alloc(), rt.stdin())?;
-    for line in text.as_str().lines() {
+    let alloc = rt.alloc();
+    let task = asked(rt)?;
+    let text = io::read_to_string(alloc, rt.stdin())?;
+    let back = match task {
+        Task::Cases => return answer_lines(rt, text.as_str()),
+        Task::Echo => echoed(alloc, text)?,
+        Task::Json => same_json(alloc, text)?,
+    };
+    rt.stdout().write_all(back.as_bytes())?;
+    Ok(())
+}
+
+fn answer_lines(rt: &HostRuntime, text: &str) -> Result<(), CaseError> {
+    for line in text.lines() {
         let found = answer(rt.alloc(), line)?;
         println!(rt; "{found}")?;
     }

@@ -1,13 +1,12 @@
-// Programs and values, read and written.
+// Programs and values, read and written, with no run of the minifier between.
 
 ghost use Rattle.std.specs.Prelude.{IfOk, string_bytes};
-ghost use Rattle.mini_echo.specs.Echo.{IsEcho, IsSameJson};
+ghost use Rattle.mini_run.specs.Echo.{IsEcho, IsSameJson};
 
 use mini_estree::{MinifyError, read_program, write_program};
 use mini_text::OutOfMemory;
 use serde_json::Value;
 use std::alloc::{AllocError, Global};
-use std::io;
 
 /// How deep the nodes of a program may nest.
 const MAX_DEPTH: u32 = 1000;
@@ -19,8 +18,6 @@ pub enum EchoError {
     NotJson,
     /// The value is no program that is read.
     Refused(MinifyError),
-    /// Reading or writing failed.
-    Outside,
     /// No memory was left.
     OutOfMemory,
 }
@@ -46,12 +43,6 @@ impl From<OutOfMemory> for EchoError {
 impl From<AllocError> for EchoError {
     fn from(_gone: AllocError) -> EchoError {
         EchoError::OutOfMemory
-    }
-}
-
-impl From<io::Error> for EchoError {
-    fn from(_error: io::Error) -> EchoError {
-        EchoError::Outside
     }
 }
 
