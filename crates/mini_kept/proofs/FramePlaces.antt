@@ -3,6 +3,7 @@
 use Rattle.std.specs.Prelude.{ℕ, zero, suc, ◌≡◌, refl, ◌⊎◌, ◌||◌, ◌&&◌, not, Bool, true, false, List, [], ◌∷◌, Option, Some, None, pos, negsuc, if◌then◌else◌}
 use Rattle.std.proofs.Common.{◌∙◌, sym, subst, inl, inr}
 use Rattle.std.proofs.Math.Dec.{eqb-suc-zero}
+use Rattle.mini_model.specs.declared.kind.MetaPropertyKind.{MetaPropertyKind}
 use Rattle.mini_model.specs.declared.kind.MetaPropertyKind.TheVariants.{NewTarget, ImportMeta}
 use Rattle.mini_model.specs.declared.kind.PropertyKind.{PropertyKind}
 use Rattle.mini_model.specs.declared.kind.PropertyKind.TheVariants as property
@@ -122,55 +123,54 @@ part_checked strict c h = refl
 
 -- so are those of a node with an outline, where they stand whole
 
-abbrev pub has_outline : Shape → Bool
-has_outline (shape.Function d g ds) = true
-has_outline (shape.ArrowFunctionExpression ds) = true
-has_outline (shape.Class d) = true
-has_outline shape.StaticBlock = true
-has_outline shape.InnerExpression = true
-has_outline (shape.RegExpLiteral pattern flags) = true
-has_outline shape.PrivateInExpression = true
-has_outline shape.SuperCallExpression = true
-has_outline shape.SuperStaticMemberExpression = true
-has_outline shape.SuperComputedMemberExpression = true
-has_outline (shape.PrivateFieldExpression optional) = true
-has_outline shape.TaggedTemplateExpression = true
-has_outline (shape.MetaProperty k) = true
-has_outline shape.ImportExpression = true
-has_outline shape.ObjectPattern = true
-has_outline shape.ArrayPattern = true
-has_outline shape.ObjectAssignmentTarget = true
-has_outline shape.ArrayAssignmentTarget = true
-has_outline shape.AssignmentPattern = true
-has_outline shape.ImportDeclaration = true
-has_outline shape.ExportNamedDeclaration = true
-has_outline shape.ExportDefaultDeclaration = true
-has_outline shape.ExportAllDeclaration = true
-has_outline h = false
+pub data Outlined : Shape → Type 0 where
+  of_function : (d g : Bool) (ds : List (List ℕ)) → Outlined (shape.Function d g ds)
+  of_arrow : (ds : List (List ℕ)) → Outlined (shape.ArrowFunctionExpression ds)
+  of_class : (d : Bool) → Outlined (shape.Class d)
+  of_static_block : Outlined shape.StaticBlock
+  of_inner : Outlined shape.InnerExpression
+  of_reg_exp : (pattern flags : List ℕ) → Outlined (shape.RegExpLiteral pattern flags)
+  of_private_in : Outlined shape.PrivateInExpression
+  of_super_call : Outlined shape.SuperCallExpression
+  of_super_static : Outlined shape.SuperStaticMemberExpression
+  of_super_computed : Outlined shape.SuperComputedMemberExpression
+  of_private_field : (optional : Bool) → Outlined (shape.PrivateFieldExpression optional)
+  of_tagged : Outlined shape.TaggedTemplateExpression
+  of_meta : (k : MetaPropertyKind) → Outlined (shape.MetaProperty k)
+  of_import_call : Outlined shape.ImportExpression
+  of_object_pattern : Outlined shape.ObjectPattern
+  of_array_pattern : Outlined shape.ArrayPattern
+  of_object_target : Outlined shape.ObjectAssignmentTarget
+  of_array_target : Outlined shape.ArrayAssignmentTarget
+  of_assignment : Outlined shape.AssignmentPattern
+  of_import : Outlined shape.ImportDeclaration
+  of_export : Outlined shape.ExportNamedDeclaration
+  of_default : Outlined shape.ExportDefaultDeclaration
+  of_all : Outlined shape.ExportAllDeclaration
 
-own_checked : (strict : Bool) (c : Class) (h : Shape) → (not (has_outline h) || right_by (showing h) (slots_of strict c h)) ≡ true
-own_checked strict a_method shape.Absent = refl
-own_checked true (a_statement in_module) shape.Absent = refl
-own_checked true (a_statement in_body) shape.Absent = refl
-own_checked true (a_statement nested) shape.Absent = refl
-own_checked false (a_statement in_module) shape.Absent = refl
-own_checked false (a_statement in_body) shape.Absent = refl
-own_checked false (a_statement nested) shape.Absent = refl
-own_checked strict (a_key true) shape.Absent = refl
-own_checked strict (a_key false) shape.Absent = refl
-own_checked strict (a_private_or_key true) shape.Absent = refl
-own_checked strict (a_private_or_key false) shape.Absent = refl
-own_checked strict (an_inner_key true) shape.Absent = refl
-own_checked strict (an_inner_key false) shape.Absent = refl
-own_checked strict c (shape.Function true g ds) = refl
-own_checked strict c (shape.Function false g ds) = refl
-own_checked strict c (shape.Class true) = refl
-own_checked strict c (shape.Class false) = refl
-own_checked strict c (shape.PrivateFieldExpression true) = refl
-own_checked strict c (shape.PrivateFieldExpression false) = refl
-own_checked strict c (shape.MetaProperty NewTarget) = refl
-own_checked strict c (shape.MetaProperty ImportMeta) = refl
-own_checked strict c h = refl
+own_checked : (strict : Bool) (c : Class) (h : Shape) → Outlined h → right_by (showing h) (slots_of strict c h) ≡ true
+own_checked strict a_method _ (of_function true g ds) = refl
+own_checked true (a_statement in_module) _ (of_function true g ds) = refl
+own_checked true (a_statement in_body) _ (of_function true g ds) = refl
+own_checked true (a_statement nested) _ (of_function true g ds) = refl
+own_checked false (a_statement in_module) _ (of_function true g ds) = refl
+own_checked false (a_statement in_body) _ (of_function true g ds) = refl
+own_checked false (a_statement nested) _ (of_function true g ds) = refl
+own_checked strict (a_key true) _ (of_function true g ds) = refl
+own_checked strict (a_key false) _ (of_function true g ds) = refl
+own_checked strict (a_private_or_key true) _ (of_function true g ds) = refl
+own_checked strict (a_private_or_key false) _ (of_function true g ds) = refl
+own_checked strict (an_inner_key true) _ (of_function true g ds) = refl
+own_checked strict (an_inner_key false) _ (of_function true g ds) = refl
+own_checked strict c _ (of_function true g ds) = refl
+own_checked strict c _ (of_function false g ds) = refl
+own_checked strict c _ (of_class true) = refl
+own_checked strict c _ (of_class false) = refl
+own_checked strict c _ (of_private_field true) = refl
+own_checked strict c _ (of_private_field false) = refl
+own_checked strict c _ (of_meta NewTarget) = refl
+own_checked strict c _ (of_meta ImportMeta) = refl
+own_checked strict c h o = refl
 
 -- ---- what the children of a node fill
 
@@ -187,14 +187,14 @@ filled_right σ None e = tt
 filled_right σ (Some ss) e = slots_right σ 0 ss e
 
 -- of a node with an outline
-own_of : (strict : Bool) (c : Class) (h : Shape) → has_outline h ≡ true → Are (λ j s. shows_right (showing h j) s ≡ true) 0 (filling_by (slots_of strict c h))
-own_of strict c h o = filled_right (showing h) (slots_of strict c h) (implied (has_outline h) (right_by (showing h) (slots_of strict c h)) (own_checked strict c h) o)
+own_of : (strict : Bool) (c : Class) (h : Shape) → Outlined h → Are (λ j s. shows_right (showing h j) s ≡ true) 0 (filling_by (slots_of strict c h))
+own_of strict c h o = filled_right (showing h) (slots_of strict c h) (own_checked strict c h o)
 
-pub own_right : (strict : Bool) (s : Slot) (h : Shape) → has_outline h ≡ true → Are (λ j r. shows_right (showing h j) r ≡ true) 0 (filling strict s h)
+pub own_right : (strict : Bool) (s : Slot) (h : Shape) → Outlined h → Are (λ j r. shows_right (showing h j) r ≡ true) 0 (filling strict s h)
 own_right strict (one c) h o = own_of strict c h o
-own_right strict (one_or_absent c) shape.Absent o = absurd (cc o)
+own_right strict (one_or_absent c) _ of_static_block = own_of strict c shape.StaticBlock of_static_block
 own_right strict (one_or_absent c) h o = own_of strict c h o
-own_right strict s shape.Listed o = absurd (cc o)
+own_right strict s _ of_static_block = tt
 own_right strict s h o = tt
 
 -- of a part that has no number
@@ -324,36 +324,32 @@ plain_right strict s h = are_all (Plain (property_below h)) (λ i r e. no_proper
 
 -- ---- numbers and outlines
 
-pub numbered_outline : (c : Class) (h : Shape) (n : ℕ) → has_its_number c h (suc n) ≡ true → has_outline h ≡ true
-numbered_outline c (shape.Function d g ds) n e = refl
-numbered_outline c (shape.ArrowFunctionExpression ds) n e = refl
-numbered_outline c (shape.Class d) n e = refl
-numbered_outline c shape.StaticBlock n e = refl
-numbered_outline c shape.InnerExpression n e = refl
-numbered_outline c (shape.RegExpLiteral pattern flags) n e = refl
-numbered_outline c shape.PrivateInExpression n e = refl
-numbered_outline c shape.SuperCallExpression n e = refl
-numbered_outline c shape.SuperStaticMemberExpression n e = refl
-numbered_outline c shape.SuperComputedMemberExpression n e = refl
-numbered_outline c (shape.PrivateFieldExpression optional) n e = refl
-numbered_outline c shape.TaggedTemplateExpression n e = refl
-numbered_outline c (shape.MetaProperty k) n e = refl
-numbered_outline c shape.ImportExpression n e = refl
-numbered_outline c shape.ObjectPattern n e = refl
-numbered_outline c shape.ArrayPattern n e = refl
-numbered_outline c shape.ObjectAssignmentTarget n e = refl
-numbered_outline c shape.ArrayAssignmentTarget n e = refl
-numbered_outline c shape.AssignmentPattern n e = refl
-numbered_outline c shape.ImportDeclaration n e = refl
-numbered_outline c shape.ExportNamedDeclaration n e = refl
-numbered_outline c shape.ExportDefaultDeclaration n e = refl
-numbered_outline c shape.ExportAllDeclaration n e = refl
+pub numbered_outline : (c : Class) (h : Shape) (n : ℕ) → has_its_number c h (suc n) ≡ true → Outlined h
+numbered_outline c (shape.Function d g ds) n e = of_function d g ds
+numbered_outline c (shape.ArrowFunctionExpression ds) n e = of_arrow ds
+numbered_outline c (shape.Class d) n e = of_class d
+numbered_outline c shape.StaticBlock n e = of_static_block
+numbered_outline c shape.InnerExpression n e = of_inner
+numbered_outline c (shape.RegExpLiteral pattern flags) n e = of_reg_exp pattern flags
+numbered_outline c shape.PrivateInExpression n e = of_private_in
+numbered_outline c shape.SuperCallExpression n e = of_super_call
+numbered_outline c shape.SuperStaticMemberExpression n e = of_super_static
+numbered_outline c shape.SuperComputedMemberExpression n e = of_super_computed
+numbered_outline c (shape.PrivateFieldExpression optional) n e = of_private_field optional
+numbered_outline c shape.TaggedTemplateExpression n e = of_tagged
+numbered_outline c (shape.MetaProperty k) n e = of_meta k
+numbered_outline c shape.ImportExpression n e = of_import_call
+numbered_outline c shape.ObjectPattern n e = of_object_pattern
+numbered_outline c shape.ArrayPattern n e = of_array_pattern
+numbered_outline c shape.ObjectAssignmentTarget n e = of_object_target
+numbered_outline c shape.ArrayAssignmentTarget n e = of_array_target
+numbered_outline c shape.AssignmentPattern n e = of_assignment
 numbered_outline c h n e = absurd (cc (sym (eqb-suc-zero n) ∙ e))
 
-pub port_outline : (m : Bool) (h : Shape) → is_port m h ≡ true → has_outline h ≡ true
-port_outline m shape.ImportDeclaration e = refl
-port_outline m shape.ExportNamedDeclaration e = refl
-port_outline m shape.ExportDefaultDeclaration e = refl
-port_outline m shape.ExportAllDeclaration e = refl
-port_outline m (shape.Function d g ds) e = refl
+pub port_outline : (m : Bool) (h : Shape) → is_port m h ≡ true → Outlined h
+port_outline m shape.ImportDeclaration e = of_import
+port_outline m shape.ExportNamedDeclaration e = of_export
+port_outline m shape.ExportDefaultDeclaration e = of_default
+port_outline m shape.ExportAllDeclaration e = of_all
+port_outline m (shape.Function d g ds) e = of_function d g ds
 port_outline m h e = absurd (cc e)

@@ -22,7 +22,7 @@ use Rattle.mini_kept.proofs.Expressions.{refused_here}
 use Rattle.mini_kept.proofs.Stepping.{no_steps, step_keeps}
 use Rattle.mini_kept.proofs.BodySteps.{one_of}
 use Rattle.mini_kept.proofs.FrameLists.{same_frames, each_of}
-use Rattle.mini_kept.proofs.FramePlaces.{Are, is_part_slot, is_declared_slot, shows_right, Plain, has_outline, own_right, part_right, plain_right, numbered_outline, port_outline, slot_apart, no_method, AProgram, program_filling}
+use Rattle.mini_kept.proofs.FramePlaces.{Are, is_part_slot, is_declared_slot, shows_right, Plain, Outlined, own_right, part_right, plain_right, numbered_outline, port_outline, slot_apart, no_method, AProgram, program_filling}
 
 -- ---- the first of some children, and the others
 
@@ -182,7 +182,7 @@ module _ (R : Position → Tree → Tree → Type 0) (l : KeepsFrames R) where
     part_inside zero strict s e q = ap (node h xs 0) (all.of_parts (is_strict_in strict h) (filling strict s h) (children_fill strict s h xs 0 ts e) 0 (part_right strict s h q (number_fits strict s h xs 0 ts e)))
     part_inside (suc n) strict s e q = refl
 
-    own_inside : (n : ℕ) (strict : Bool) (s : Slot) → fits strict s (node h xs n ts) ≡ true → has_outline h ≡ true → shown_from (showing h) 0 ts ≡ shown_from (showing h) 0 us
+    own_inside : (n : ℕ) (strict : Bool) (s : Slot) → fits strict s (node h xs n ts) ≡ true → Outlined h → shown_from (showing h) 0 ts ≡ shown_from (showing h) 0 us
     own_inside n strict s e o = all.of_own (is_strict_in strict h) (filling strict s h) (children_fill strict s h xs n ts e) (showing h) 0 (own_right strict s h o)
 
     port_inside : (n : ℕ) (strict : Bool) (d : Depth) → fits strict (one (a_statement d)) (node h xs n ts) ≡ true → (m : Bool) (vs : Trees) → ports m (node h xs n ts ▸ vs) ≡ ports m (node h xs n us ▸ vs)
