@@ -148,23 +148,35 @@ module _ (f : Option SymbolId → Option SymbolId) where
   kind_mapped method.Method computed is_static t = ap (λ b. not (not is_static && (not computed && b))) (constructor_mapped t)
   kind_mapped k computed is_static t = refl
 
+  -- of a node that is no method and no head of a loop, at whichever place
+  plain_parts : (h : Shape) (ts : Trees) → has_its_parts a_program h (all_mapped f ts) ≡ has_its_parts a_program h ts
+  plain_parts (shape.VariableDeclaration k) ts = ap (nat_le 1) (count_child ts 0)
+  plain_parts shape.TryStatement ts = λ k. not (absent_child ts 1 k && absent_child ts 2 k)
+  plain_parts (shape.ArrowFunctionExpression ds) ts = ap (λ b. nat_eq (length ds) 0 || b) (at_child is_function_body body_mapped ts 1)
+  plain_parts (shape.Class declaration) ts = holds_mapped declaration ts
+  plain_parts (shape.MethodDefinition k computed is_static) ts = at_child (has_its_kind k computed is_static) (kind_mapped k computed is_static) ts 0
+  plain_parts (shape.ObjectProperty k is_method shorthand computed) ts = property_mapped k is_method shorthand computed ts
+  plain_parts (shape.BindingProperty shorthand computed) ts = ap (λ b. not shorthand || (not computed && b)) (repeats_mapped ts)
+  plain_parts shape.AssignmentTargetPropertyIdentifier ts = repeats_mapped ts
+  plain_parts shape.SequenceExpression ts = ap (nat_le 2) (count_child ts 0)
+  plain_parts (shape.UnaryExpression UnaryNegation) ts = at_child is_not_positive_number positive_mapped ts 0
+  plain_parts shape.ChainExpression ts = at_child has_optional optional_mapped ts 0
+  plain_parts shape.TemplateLiteral ts = λ k. nat_eq (count_child ts 0 k) (suc (count_child ts 1 k))
+  plain_parts shape.ExportNamedDeclaration ts = export_mapped ts
+  plain_parts h ts = refl
+
+  loop_parts : (enumerates : Bool) (h : Shape) (ts : Trees) → has_its_parts (a_loop_left enumerates) h (all_mapped f ts) ≡ has_its_parts (a_loop_left enumerates) h ts
+  loop_parts enumerates (shape.VariableDeclaration k) ts = ap (is_head_by enumerates k) (below_child ts 0) ∙ head_mapped enumerates k (children (first_item ts))
+  loop_parts enumerates h ts = plain_parts h ts
+
+  method_parts : (h : Shape) (ts : Trees) → has_its_parts a_method h (all_mapped f ts) ≡ has_its_parts a_method h ts
+  method_parts (shape.Function d g ds) ts = absent_child ts 0
+  method_parts h ts = plain_parts h ts
+
   parts_mapped : (c : Class) (h : Shape) (ts : Trees) → has_its_parts c h (all_mapped f ts) ≡ has_its_parts c h ts
-  parts_mapped (a_loop_left enumerates) (shape.VariableDeclaration k) ts = ap (is_head_by enumerates k) (below_child ts 0) ∙ head_mapped enumerates k (children (first_item ts))
-  parts_mapped c (shape.VariableDeclaration k) ts = ap (nat_le 1) (count_child ts 0)
-  parts_mapped c shape.TryStatement ts = λ k. not (absent_child ts 1 k && absent_child ts 2 k)
-  parts_mapped a_method (shape.Function d g ds) ts = absent_child ts 0
-  parts_mapped c (shape.ArrowFunctionExpression ds) ts = ap (λ b. nat_eq (length ds) 0 || b) (at_child is_function_body body_mapped ts 1)
-  parts_mapped c (shape.Class declaration) ts = holds_mapped declaration ts
-  parts_mapped c (shape.MethodDefinition k computed is_static) ts = at_child (has_its_kind k computed is_static) (kind_mapped k computed is_static) ts 0
-  parts_mapped c (shape.ObjectProperty k is_method shorthand computed) ts = property_mapped k is_method shorthand computed ts
-  parts_mapped c (shape.BindingProperty shorthand computed) ts = ap (λ b. not shorthand || (not computed && b)) (repeats_mapped ts)
-  parts_mapped c shape.AssignmentTargetPropertyIdentifier ts = repeats_mapped ts
-  parts_mapped c shape.SequenceExpression ts = ap (nat_le 2) (count_child ts 0)
-  parts_mapped c (shape.UnaryExpression UnaryNegation) ts = at_child is_not_positive_number positive_mapped ts 0
-  parts_mapped c shape.ChainExpression ts = at_child has_optional optional_mapped ts 0
-  parts_mapped c shape.TemplateLiteral ts = λ k. nat_eq (count_child ts 0 k) (suc (count_child ts 1 k))
-  parts_mapped c shape.ExportNamedDeclaration ts = export_mapped ts
-  parts_mapped c h ts = refl
+  parts_mapped (a_loop_left enumerates) h ts = loop_parts enumerates h ts
+  parts_mapped a_method h ts = method_parts h ts
+  parts_mapped c h ts = plain_parts h ts
 
   names_mapped : (h : Shape) (xs : List Name) → has_names h (map (with_new f) xs) ≡ has_names h xs
   names_mapped shape.Identifier [] = refl
