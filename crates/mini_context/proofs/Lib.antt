@@ -2,3 +2,9 @@ mod Equal
 mod Counting
 mod Numbers
 mod Kept
+mod Gathering
+mod Marking
+mod Surveys
+mod Listings
+mod Evals
+mod Told

@@ -1,14 +1,17 @@
 -- Laws of counts.
-use Rattle.std.specs.Prelude.{ℕ, ◌≡◌, ◌<◌, Bool, List, ◌++◌, slice_index}
+use Rattle.std.specs.Prelude.{ℕ, ◌≡◌, ◌<◌, Bool, List, ◌++◌, slice_index, Some}
 use Rattle.mini_model.specs.Tree.{Tree}
 use Rattle.mini_names.specs.declared.Use.{Use}
-use Rattle.mini_names.specs.References.{Reference, read_count, write_count}
-use Rattle.mini_context.specs.Facts.{facts_of}
+use Rattle.mini_names.specs.References.{Reference, reads, writes, read_count, write_count, counts_of}
+use Rattle.mini_names.specs.Mentions.{is_among}
+use Rattle.mini_context.specs.Tables.{named}
+use Rattle.mini_model.specs.declared.name.Name.{Name}
+use Rattle.mini_model.specs.declared.name.SymbolId.{SymbolId}
 use Rattle.mini_context.specs.Tallies.{times_of, FellBy}
 
 -- the counts by symbol of a tree are how often each symbol is read, and written
 abbrev pub CountsTell : Type 0
-CountsTell = (n : ℕ) (t : Tree) (s : ℕ) → s < n → (slice_index (facts_of n t).reads s ≡ read_count s t) × (slice_index (facts_of n t).writes s ≡ write_count s t)
+CountsTell = (n : ℕ) (t : Tree) (s : ℕ) → s < n → (slice_index (counts_of reads n t) s ≡ read_count s t) × (slice_index (counts_of writes n t) s ≡ write_count s t)
 
 -- where the counts are those of references of which some are a part's, and they fall by those of the part, they are those
 -- of the references that are left
@@ -17,3 +20,7 @@ AreTimes p rs n counts = (s : ℕ) → s < n → slice_index counts s ≡ times_
 
 abbrev pub DropsTell : Type 0
 DropsTell = (p : Use → Bool) (before part after : List Reference) (n : ℕ) (old new : List ℕ) → AreTimes p (before ++ part ++ after) n old → FellBy p part old new → AreTimes p (before ++ after) n new
+
+-- whether a name that has a symbol is among others is a matter of the symbol alone
+abbrev pub NamesTell : Type 0
+NamesTell = (x : Name) (s : SymbolId) (xs : List Name) → x.symbol ≡ Some s → is_among x xs ≡ is_among (named s.0) xs

@@ -44,6 +44,7 @@ fn count_out<L: Ledger>(scopes: &mut Scopes, part: &Node, blank: Blank)
     requires writes { Contained is_write (references variant.Read part.now) scopes.old.writes }
     ensures reads { FellBy is_read (references variant.Read part.now) scopes.old.reads scopes.new.reads }
     ensures writes { FellBy is_write (references variant.Read part.now) scopes.old.writes scopes.new.writes }
+    ensures rest { scopes.new ≡ record scopes.old { reads = scopes.new.reads; writes = scopes.new.writes } }
 {
     let mut steps = Steps::<L>::new(blank);
     scopes.count_out(part, &mut steps);
@@ -91,6 +92,7 @@ impl TraverseCtx {
         requires writes { Contained is_write (references variant.Read expression.now) self.old.scopes.writes }
         ensures reads { FellBy is_read (references variant.Read expression.now) self.old.scopes.reads self.new.scopes.reads }
         ensures writes { FellBy is_write (references variant.Read expression.now) self.old.scopes.writes self.new.scopes.writes }
+        ensures rest { self.new.scopes ≡ record self.old.scopes { reads = self.new.scopes.reads; writes = self.new.scopes.writes } }
         ensures steps { steps.new ≤ steps.old + length (references variant.Read expression.now) }
         ensures changes { self.new.changes ≡ self.old.changes }
         ensures options { self.new.options ≡ self.old.options }
@@ -105,6 +107,7 @@ impl TraverseCtx {
         requires writes { Contained is_write (references variant.Read statement.now) self.old.scopes.writes }
         ensures reads { FellBy is_read (references variant.Read statement.now) self.old.scopes.reads self.new.scopes.reads }
         ensures writes { FellBy is_write (references variant.Read statement.now) self.old.scopes.writes self.new.scopes.writes }
+        ensures rest { self.new.scopes ≡ record self.old.scopes { reads = self.new.scopes.reads; writes = self.new.scopes.writes } }
         ensures steps { steps.new ≤ steps.old + length (references variant.Read statement.now) }
         ensures changes { self.new.changes ≡ self.old.changes }
         ensures options { self.new.options ≡ self.old.options }
@@ -119,6 +122,7 @@ impl TraverseCtx {
         requires writes { Contained is_write (references variant.Read declarator.now) self.old.scopes.writes }
         ensures reads { FellBy is_read (references variant.Read declarator.now) self.old.scopes.reads self.new.scopes.reads }
         ensures writes { FellBy is_write (references variant.Read declarator.now) self.old.scopes.writes self.new.scopes.writes }
+        ensures rest { self.new.scopes ≡ record self.old.scopes { reads = self.new.scopes.reads; writes = self.new.scopes.writes } }
         ensures steps { steps.new ≤ steps.old + length (references variant.Read declarator.now) }
         ensures changes { self.new.changes ≡ self.old.changes }
         ensures options { self.new.options ≡ self.old.options }
@@ -135,6 +139,7 @@ impl TraverseCtx {
         ensures value { slot.new ≡ new }
         ensures reads { FellBy is_read (references variant.Read slot.old) self.old.scopes.reads self.new.scopes.reads }
         ensures writes { FellBy is_write (references variant.Read slot.old) self.old.scopes.writes self.new.scopes.writes }
+        ensures rest { self.new.scopes ≡ record self.old.scopes { reads = self.new.scopes.reads; writes = self.new.scopes.writes } }
         ensures changes { self.new.changes ≡ min (self.old.changes + 1) (2 ^ 64 - 1) }
         ensures options { self.new.options ≡ self.old.options }
         ensures parent { self.new.parent ≡ self.old.parent }

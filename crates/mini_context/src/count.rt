@@ -15,7 +15,7 @@ use mini_node::{Node, Nodes};
 use mini_scope::use_of;
 use mini_text::OutOfMemory;
 use std::alloc::Global;
-use std::sync::ledger::Ledger;
+use std::sync::ledger::{Blank, Ledger};
 
 /// Which way references are counted.
 #[derive(Clone, Copy)]
@@ -180,4 +180,22 @@ fn zeros(alloc: Global, length: u32) -> Result<Vec<u32>, OutOfMemory>
         }
     }
     Ok(zeros)
+}
+
+/// The counts of a program with so many symbols, with a count of steps of its own.
+pub fn own_counts<L: Ledger>(
+    alloc: Global,
+    program: &Node,
+    symbols: u32,
+    blank: Blank,
+) -> Result<Counts, OutOfMemory>
+    requires name { blank.name ≡ L.name }
+    requires parts { blank.parts ≡ L.parts }
+    requires some { 0 < blank.parts }
+    requires references { length (references variant.Read program.now) + 1 < 2 ^ 32 }
+    ensures reads { IfOk result (λ counts. counts.reads.items ≡ counts_of is_read symbols program.now) }
+    ensures writes { IfOk result (λ counts. counts.writes.items ≡ counts_of is_write symbols program.now) }
+{
+    let mut steps = Steps::<L>::new(blank);
+    fresh_counts(alloc, program, symbols, &mut steps)
 }

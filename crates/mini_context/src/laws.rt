@@ -1,6 +1,6 @@
 //! Laws of counts. Each is the contract of a function that does nothing.
 
-ghost use Rattle.mini_context.specs.Laws.{CountsTell, DropsTell};
+ghost use Rattle.mini_context.specs.Laws.{CountsTell, DropsTell, NamesTell};
 
 /// The counts by symbol of a tree are how often each symbol is read, and how often it is written.
 pub fn counts_tell()
@@ -10,4 +10,9 @@ pub fn counts_tell()
 /// Counts that fell by the references of a part are those of the references that are left.
 pub fn drops_tell()
     ensures { DropsTell }
+{}
+
+/// Whether a name that has a symbol is among others is a matter of the symbol alone.
+pub fn names_tell()
+    ensures { NamesTell }
 {}

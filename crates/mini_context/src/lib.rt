@@ -1,17 +1,26 @@
-//! What rewrites ask of the names of a program: how often each symbol is read and written; and the context in which they
-//! do so, whose counts follow what they drop.
+//! What rewrites ask of the names of a program: how often each symbol is read and written, whether it can be written, which
+//! scope declares it and what is known of that; and what `this` and `arguments` are in a body. And the context in which
+//! rewrites ask it, whose counts follow what they drop.
 #![tactic(auto)]
 
 mod context;
 mod count;
 mod laws;
+mod listing;
+mod marks;
+mod parts;
+mod refreshing;
 mod resolution;
 mod scopes;
+mod standing;
 mod steps;
+mod strictness;
+mod survey;
 
 pub use context::{Parent, TraverseCtx};
 pub use count::{Counts, Tally, fresh_counts, tally_node};
-pub use laws::{counts_tell, drops_tell};
+pub use laws::{counts_tell, drops_tell, names_tell};
+pub use refreshing::refresh;
 pub use resolution::resolve;
-pub use scopes::Scopes;
+pub use scopes::{ScopeId, Scopes};
 pub use steps::Steps;

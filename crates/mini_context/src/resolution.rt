@@ -3,38 +3,16 @@
 ghost use Rattle.std.specs.Prelude.{◌≡◌, ◌+◌, ◌<◌, ◌^◌, None, Some, length, IfErr, IfOk, IfSome, OnOk};
 ghost use Rattle.mini_text.specs.Faults.{fault_of};
 ghost use Rattle.mini_names.specs.declared.Use.TheVariants as variant;
-ghost use Rattle.mini_names.specs.References.{references, reads as is_read, writes as is_write, counts_of};
+ghost use Rattle.mini_names.specs.References.{references};
 ghost use Rattle.mini_names.specs.Resolved.{resolved_program, symbols};
 ghost use Rattle.mini_scope.specs.Pointers.{early_fault};
-ghost use Rattle.mini_context.specs.Facts.{facts_of};
+ghost use Rattle.mini_context.specs.Facts.{Tells};
 
-use crate::count::{Counts, fresh_counts};
 use crate::scopes::Scopes;
-use crate::steps::Steps;
 use mini_node::Node;
 use mini_scope::{refuse_early, resolve_program};
-use mini_text::{MinifyError, OutOfMemory};
+use mini_text::MinifyError;
 use std::alloc::Global;
-use std::marker::Brand;
-use std::sync::ledger::{Blank, Ledger};
-
-// The counts of a program, with a count of steps of its own.
-fn own_counts<L: Ledger>(
-    alloc: Global,
-    program: &Node,
-    symbols: u32,
-    blank: Blank,
-) -> Result<Counts, OutOfMemory>
-    requires name { blank.name ≡ L.name }
-    requires parts { blank.parts ≡ L.parts }
-    requires some { 0 < blank.parts }
-    requires references { length (references variant.Read program.now) + 1 < 2 ^ 32 }
-    ensures reads { IfOk result (λ counts. counts.reads.items ≡ counts_of is_read symbols program.now) }
-    ensures writes { IfOk result (λ counts. counts.writes.items ≡ counts_of is_write symbols program.now) }
-{
-    let mut steps = Steps::<L>::new(blank);
-    fresh_counts(alloc, program, symbols, &mut steps)
-}
 
 /// Gives each name of a program its symbol, and says what is known of the names.
 ///
@@ -46,11 +24,11 @@ pub fn resolve(alloc: Global, program: &mut Node) -> Result<Scopes, MinifyError>
     requires references { length (references variant.Read program.old) + 1 < 2 ^ 32 }
     ensures free { OnOk result (early_fault program.old ≡ None) }
     ensures resolved { OnOk result (program.new ≡ resolved_program program.old) }
-    ensures scopes { IfOk result (λ scopes. scopes ≡ facts_of (symbols variant.Read program.old) program.new) }
+    ensures scopes { IfOk result (λ scopes. Tells scopes (symbols variant.Read program.old) program.new) }
     ensures refused { IfErr result (λ e. IfSome (fault_of e) (λ f. early_fault program.old ≡ Some f)) }
 {
     refuse_early(alloc, program)?;
     let count = resolve_program(alloc, program)?;
-    let counts = own_counts::<Brand>(alloc, program, count, Blank::new(1))?;
-    Ok(Scopes::new(counts))
+    let scopes = Scopes::of(alloc, program, count)?;
+    Ok(scopes)
 }

@@ -4,5 +4,5 @@ use Rattle.mini_names.specs.References.{references}
 use Rattle.mini_context.proofs.Kept.{references_kept}
 use Rattle.mini_context.proofs.resolution.resolve.Goals as goal
 
-pub own_counts-requires-clause-references : goal.own_counts-requires-clause-references
-own_counts-requires-clause-references c = omega (arith, c.requires.references, ap (λ t. length (references Read t)) c.in_ok-count.ensures.resolved, references_kept Read Read [] 0 c.args.program.now)
+pub of-requires : goal.of-requires
+of-requires c = omega (arith, c.requires.references, ap (λ t. length (references Read t)) c.in_ok-count.ensures.resolved, references_kept Read Read [] 0 c.args.program.now)

@@ -1,0 +1,72 @@
+-- What the tables of a program say.
+use Rattle.std.specs.Prelude.{ℕ, zero, suc, ◌≡◌, ◌<◌, refl, nat_eq, ◌&&◌, ◌||◌, Bool, true, false, List, [], ◌++◌, length, map, replicate, slice_index}
+use Rattle.std.specs.List.{list_any}
+use Rattle.std.proofs.Common.{ap, ◌∙◌, arith, sym, subst}
+use Rattle.mini_model.specs.declared.name.Name.{Name}
+use Rattle.mini_model.specs.declared.shape.Shape.{Shape}
+use Rattle.mini_model.specs.declared.shape.Shape.TheVariants as shape
+use Rattle.mini_model.specs.Tree.{Tree, node, shape_of, children}
+use Rattle.mini_names.specs.declared.Use.TheVariants.{Read}
+use Rattle.mini_names.specs.Scopes.{opened}
+use Rattle.mini_names.specs.Mentions.{is_among}
+use Rattle.mini_names.specs.Bodies.{Frame, Body, no_frame, bodies, fixed_names}
+use Rattle.mini_names.specs.Shared.{script_tops}
+use Rattle.mini_names.specs.ScopeList.{Scope, names_in, scope_from}
+use Rattle.mini_scope.specs.ScopeAt.{scope_at}
+use Rattle.mini_scope.specs.declared.opening.OpenScopes.{OpenScopes}
+use Rattle.mini_context.specs.declared.standing.Standing.{Standing}
+use Rattle.mini_context.specs.Own.{is_script_shape}
+use Rattle.mini_context.specs.Tables.{mark_at, named, Marked, Noted, owners_from}
+use Rattle.mini_context.specs.Visits.{visits, given, fixed_at, bodies_at, frame_in, top}
+use Rattle.mini_context.proofs.Surveys.{fixed_told, bodies_told}
+use Rattle.mini_context.proofs.Listings.{owner_told}
+use Rattle.mini_context.proofs.Marking.{marks_add}
+
+blank : (n s : ℕ) → mark_at (replicate n false) s ≡ false
+blank zero s = refl
+blank (suc n) zero = refl
+blank (suc n) (suc s) = blank n s
+
+blank_length : (n : ℕ) → length {A = Bool} (replicate n false) ≡ n
+blank_length zero = refl
+blank_length (suc n) = ap suc (blank_length n)
+
+-- in a table that was without a mark
+pub from_blank : (n : ℕ) (xs : List Name) (old new : List Bool) → old ≡ replicate n false → Marked xs old new → (s : ℕ) → s < n → mark_at new s ≡ is_among (named s) xs
+from_blank n xs old new e m s h =
+    m.each s (omega (arith, h, ap length e, blank_length n)) ∙ ap (λ b. b || is_among (named s) xs) (ap (λ o. mark_at o s) e ∙ blank n s)
+
+pub fixed_by : (n : ℕ) (a : Standing) (t : Tree) (old new : List Bool) → old ≡ replicate n false → Marked (given fixed_at (visits a t)) old new → (s : ℕ) → s < n → mark_at new s ≡ is_among (named s) (fixed_names t)
+fixed_by n a t old new e m s h = from_blank n (given fixed_at (visits a t)) old new e m s h ∙ ap (is_among (named s)) (fixed_told a t)
+
+pub body_by : (p : Frame → Bool) (a : Standing) (t : Tree) (old new : List Bool) → a ≡ top → old ≡ [] → Noted p (given bodies_at (visits a t)) old new → (b : ℕ) → mark_at new b ≡ list_any (λ r. nat_eq r.number b && p r.frame) (bodies no_frame t)
+body_by p a t old new e f m b =
+    let q : Body → Bool = λ r. nat_eq r.number b && p r.frame in
+    m b ∙ ap (λ o. mark_at o b || list_any q (given bodies_at (visits a t))) f ∙ ap (list_any q) (bodies_told no_frame a (sym (ap (λ s. frame_in s.frame) e)) t)
+
+pub owner_by : (ss : List Scope) (a b : List ℕ) (c : List Bool) → a ≡ [] → c ≡ [] → b ≡ a ++ owners_from (length c) ss → (s : ℕ) → slice_index b s ≡ scope_from 0 ss s
+owner_by ss a b c e f g s =
+    ap (λ o. slice_index o s) (g ∙ ap (λ r. r ++ owners_from (length c) ss) e ∙ ap (λ r. owners_from (length r) ss) f) ∙ owner_told 0 ss s
+
+pub flags_by : (f : Scope → Bool) (ss : List Scope) (a b : List Bool) → a ≡ [] → b ≡ a ++ map f ss → b ≡ map f ss
+flags_by f ss a b e g = g ∙ ap (λ r. r ++ map f ss) e
+
+-- ---- a script's top names
+
+other_tops : (t : Tree) → is_script_shape (shape_of t) ≡ false → script_tops t ≡ []
+other_tops (node (shape.Program false ds) xs n ts) e = absurd (cc e)
+other_tops (node h xs n ts) e = refl
+
+script_is : (t : Tree) → is_script_shape (shape_of t) ≡ true → script_tops t ≡ names_in (opened Read (shape_of t) (children t) 0)
+script_is (node (shape.Program false ds) xs n ts) e = refl
+script_is (node h xs n ts) e = absurd (cc e)
+
+pub no_tops : (n : ℕ) (t : Tree) (h : Shape) (v : Bool) (marks : List Bool) → h ≡ shape_of t → v ≡ is_script_shape h → v ≡ false → marks ≡ replicate n false → Marked (script_tops t) (replicate n false) marks
+no_tops n t h v marks e f g m =
+    subst (λ xs. Marked xs (replicate n false) marks) (sym (other_tops t (ap is_script_shape (sym e) ∙ sym f ∙ g)))
+    (subst (λ o. Marked [] o marks) m (marks_add.nothing marks))
+
+pub some_tops : (n : ℕ) (t : Tree) (h : Shape) (v : Bool) (o : OpenScopes) (old new : List Bool) → h ≡ shape_of t → v ≡ is_script_shape h → v ≡ true → scope_at o ≡ opened Read (shape_of t) (children t) → old ≡ replicate n false → Marked (names_in o.first.items) old new → Marked (script_tops t) (replicate n false) new
+some_tops n t h v o old new e f g j m k =
+    subst (λ xs. Marked xs (replicate n false) new) (ap (λ s. names_in (s 0)) j ∙ sym (script_is t (ap is_script_shape (sym e) ∙ sym f ∙ g)))
+    (subst (λ p. Marked (names_in o.first.items) p new) m k)

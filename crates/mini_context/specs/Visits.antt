@@ -1,0 +1,64 @@
+-- A walk over a tree, as the list of its nodes, each before what is below it.
+use Rattle.std.specs.Prelude.{ℕ, suc, false, List, [], ◌∷◌, ◌++◌}
+use Rattle.mini_model.specs.declared.name.Name.{Name}
+use Rattle.mini_model.specs.Tree.{Tree, Trees, node, none, ◌▸◌, shape_of, children}
+use Rattle.mini_node.specs.Children.{number_of}
+use Rattle.mini_names.specs.Bodies.{Frame, Body, no_frame, frame_at, frame_of_body, own_body, own_fixed}
+use Rattle.mini_names.specs.declared.Use.TheVariants.{Read}
+use Rattle.mini_names.specs.Mentions.{around_child, numbering_of, outermost}
+use Rattle.mini_names.specs.Scopes.{use_of}
+use Rattle.mini_names.specs.Strict.{is_strict_in}
+use Rattle.mini_context.specs.declared.standing.Frame.{Frame as FrameHeld}
+use Rattle.mini_context.specs.declared.standing.Standing.{Standing}
+use Rattle.mini_context.specs.declared.survey.Tables.{Tables}
+use Rattle.mini_context.specs.Tables.{Marked, Noted}
+
+-- what `this` and `arguments` are, as the code holds it
+abbrev pub frame_in : FrameHeld → Frame
+frame_in f = record { extends = f.extends; constructs = f.constructs; binds_this = f.binds_this; has_arguments = f.has_arguments }
+
+abbrev pub frame_by : Frame → FrameHeld
+frame_by f = record { extends = f.extends; constructs = f.constructs; binds_this = f.binds_this; has_arguments = f.has_arguments }
+
+-- where a program stands
+abbrev pub top : Standing
+top = record { usage = Read; around = outermost; strict = false; frame = frame_by no_frame }
+
+-- what holds around a node's child at an index
+abbrev pub below : Standing → Tree → ℕ → Standing
+below a t i = record {
+  usage = use_of (shape_of t) a.usage i;
+  around = around_child (shape_of t) a.around (number_of t) i;
+  strict = is_strict_in a.strict (shape_of t);
+  frame = frame_by (frame_at (shape_of t) (frame_in a.frame) (children t) i);
+}
+
+-- a node that is come to
+pub record Visit : Type 0 where
+  pub standing : Standing
+  pub tree : Tree
+
+unfoldable mutual
+  pub visits : Standing → Tree → List Visit
+  visits a (node h xs n ts) = record { standing = a; tree = node h xs n ts } ∷ visits_from (below a (node h xs n ts)) 0 ts
+
+  pub visits_from : (ℕ → Standing) → ℕ → Trees → List Visit
+  visits_from at i none = []
+  visits_from at i (t ▸ ts) = visits (at i) t ++ visits_from at (suc i) ts
+
+-- what the nodes give, in order
+abbrev pub given : {A : Type 0} → (Visit → List A) → List Visit → List A
+given f [] = []
+given f (v ∷ vs) = f v ++ given f vs
+
+abbrev pub fixed_at : Visit → List Name
+fixed_at v = own_fixed (shape_of v.tree) (children v.tree)
+
+abbrev pub bodies_at : Visit → List Body
+bodies_at v = own_body (numbering_of (shape_of v.tree) (number_of v.tree)) (number_of v.tree) (frame_of_body (shape_of v.tree) (frame_in v.standing.frame))
+
+-- what a walk past these nodes puts into the tables
+pub record Surveyed (vs : List Visit) (old new : Tables) : Type 0 where
+  pub fixed : Marked (given fixed_at vs) old.fixed.items new.fixed.items
+  pub this_events : Noted (λ f. f.binds_this) (given bodies_at vs) old.this_events.items new.this_events.items
+  pub arguments : Noted (λ f. f.has_arguments) (given bodies_at vs) old.arguments.items new.arguments.items

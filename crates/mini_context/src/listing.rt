@@ -1,0 +1,220 @@
+//! The scopes of a program, in the order in which they are entered.
+
+ghost use Rattle.std.specs.Prelude.{◌≡◌, ◌∷◌, [], ◌++◌, replicate, false, IfOk, OnOk};
+ghost use Rattle.mini_node.specs.Children.{trees_of, names, rest_children};
+ghost use Rattle.mini_names.specs.Scopes.{use_of as use_at};
+ghost use Rattle.mini_names.specs.ScopeList.{any_has_eval as any_has_eval_in, calls_eval as calls_eval_in, entered, has_eval as has_eval_in, is_eval, is_eval_call as is_eval_call_in, is_eval_callee as is_eval_callee_in, least_scopes as least_in, names_in, scope_list, scope_list_from};
+ghost use Rattle.mini_scope.specs.ScopeAt.{scope_at};
+ghost use Rattle.mini_context.specs.Tables.{Listed};
+
+use crate::marks::{mark_bindings, no_marks};
+use crate::strictness::is_strict_in;
+use mini_model::{Name, Shape};
+use mini_names::{Binding, Use};
+use mini_node::{Node, Nodes};
+use mini_scope::{OpenScopes, use_of};
+use mini_text::OutOfMemory;
+use std::alloc::Global;
+
+/// The scopes so far.
+#[derive(Drop)]
+pub struct ScopeTables {
+    /// Whether the code of a scope is strict.
+    pub strict: Vec<bool>,
+    /// Whether a direct eval stands in a scope.
+    pub evals: Vec<bool>,
+    /// The scope of each symbol.
+    pub owners: Vec<u32>,
+    /// The symbols that a direct eval can see.
+    pub seen: Vec<bool>,
+}
+
+/// No scope, before so many symbols are declared.
+pub fn no_scopes(alloc: Global, symbols: u32) -> Result<ScopeTables, OutOfMemory>
+    ensures strict { IfOk result (λ tables. tables.strict.items ≡ []) }
+    ensures evals { IfOk result (λ tables. tables.evals.items ≡ []) }
+    ensures owners { IfOk result (λ tables. tables.owners.items ≡ []) }
+    ensures seen { IfOk result (λ tables. tables.seen.items ≡ replicate symbols false) }
+{
+    Ok(ScopeTables {
+        strict: Vec::new(alloc),
+        evals: Vec::new(alloc),
+        owners: Vec::new(alloc),
+        seen: no_marks(alloc, symbols)?,
+    })
+}
+
+/// The units of `eval`.
+const EVAL: [u16; 4] = [101, 118, 97, 108];
+
+fn is_eval_name(name: &Option<Name>) -> bool
+    ensures { result ≡ is_eval (names name.now) }
+{
+    match name {
+        Some(name) => name.spelling.as_slice() == EVAL.as_slice(),
+        None => false,
+    }
+}
+
+fn is_eval_callee(node: &Node) -> bool
+    ensures { result ≡ is_eval_callee_in node.now }
+{
+    matches!(node.shape(), Shape::Identifier) && is_eval_name(node.name())
+}
+
+fn calls_eval(nodes: &[Node]) -> bool
+    ensures { result ≡ calls_eval_in (trees_of nodes.now) }
+{
+    match nodes {
+        [callee, ..] => is_eval_callee(callee),
+        [] => false,
+    }
+}
+
+fn is_eval_call(shape: &Shape, nodes: &[Node]) -> bool
+    ensures { result ≡ is_eval_call_in shape.now (trees_of nodes.now) }
+{
+    match shape {
+        Shape::CallExpression(false) => calls_eval(nodes),
+        _ => false,
+    }
+}
+
+/// Whether a direct eval stands in a tree.
+#[cycle(evals)]
+fn has_eval(node: &Node) -> bool
+    ensures { result ≡ has_eval_in node.now }
+{
+    is_eval_call(node.shape(), node.parts()) || any_has_eval(node.children(), 0)
+}
+
+/// Whether one stands in one of these nodes, from an index on.
+#[cycle(evals)]
+fn any_has_eval(nodes: &Nodes, from: usize) -> bool
+    ensures { result ≡ any_has_eval_in (rest_children from nodes.now) }
+{
+    for at in from..nodes.len() {
+        if has_eval(nodes.child(at)) {
+            return true;
+        }
+    }
+    false
+}
+
+/// How many scopes a node of this shape opens at least before its child at an index.
+fn least_scopes(shape: &Shape, at: usize) -> usize
+    ensures { result ≡ least_in shape.now at }
+{
+    match shape {
+        Shape::Program(..) if at == 0 => 1,
+        Shape::StaticBlock if at == 0 => 2,
+        Shape::Function(..) if at == 1 || at == 2 => 1,
+        Shape::ArrowFunctionExpression(_) if at == 0 || at == 1 => 1,
+        _ => 0,
+    }
+}
+
+/// Lists a scope of these names. More than 2^32 scopes are taken for want of memory.
+fn push_scope(
+    tables: &mut ScopeTables,
+    scope: &[Binding],
+    strict: bool,
+    evals: bool,
+) -> Result<(), OutOfMemory>
+    ensures { OnOk result (Listed (record { names = names_in scope.now; strict = strict; evals = evals } ∷ []) tables.old tables.new) }
+{
+    let number = match u32::try_from(tables.strict.len()) {
+        Ok(number) => number,
+        Err(_) => return Err(OutOfMemory),
+    };
+    push_owner(&mut tables.owners, number, scope.len())?;
+    push_flag(&mut tables.strict, strict)?;
+    push_flag(&mut tables.evals, evals)?;
+    if evals {
+        mark_bindings(&mut tables.seen, scope);
+    }
+    Ok(())
+}
+
+fn push_flag(flags: &mut Vec<bool>, flag: bool) -> Result<(), OutOfMemory>
+    ensures { OnOk result (flags.new.items ≡ flags.old.items ++ flag ∷ []) }
+{
+    match flags.push(flag) {
+        Ok(()) => Ok(()),
+        Err(_) => Err(OutOfMemory),
+    }
+}
+
+fn push_owner(owners: &mut Vec<u32>, scope: u32, count: usize) -> Result<(), OutOfMemory>
+    ensures { OnOk result (owners.new.items ≡ owners.old.items ++ replicate count scope) }
+{
+    for done in 0..count {
+        match owners.push(scope) {
+            Ok(()) => {}
+            Err(_) => return Err(OutOfMemory),
+        }
+    }
+    Ok(())
+}
+
+/// Lists the scopes that are entered before the child at an index: at least so many, of which the last declares these
+/// names.
+fn push_entered(
+    tables: &mut ScopeTables,
+    least: usize,
+    scope: &[Binding],
+    strict: bool,
+    nodes: &Nodes,
+    at: usize,
+) -> Result<(), OutOfMemory>
+    ensures { OnOk result (Listed (entered least (record { names = names_in scope.now; strict = strict; evals = any_has_eval_in (rest_children at nodes.now) })) tables.old tables.new) }
+{
+    if least == 0 && scope.is_empty() {
+        return Ok(());
+    }
+    let evals = any_has_eval(nodes, at);
+    if least > 1 {
+        push_scope(tables, &scope[..0], strict, evals)?;
+    }
+    push_scope(tables, scope, strict, evals)
+}
+
+/// Lists the scopes that are entered in a tree.
+#[cycle(listing)]
+pub fn list_scopes(
+    alloc: Global,
+    tables: &mut ScopeTables,
+    usage: Use,
+    strict: bool,
+    node: &Node,
+) -> Result<(), OutOfMemory>
+    ensures { OnOk result (Listed (scope_list usage strict node.now) tables.old tables.new) }
+{
+    let shape = node.shape();
+    let scopes = OpenScopes::of(alloc, usage, node)?;
+    let inside = is_strict_in(strict, shape);
+    list_below(alloc, tables, usage, inside, shape, scopes, node.children())
+}
+
+#[cycle(listing)]
+fn list_below(
+    alloc: Global,
+    tables: &mut ScopeTables,
+    usage: Use,
+    strict: bool,
+    shape: &Shape,
+    scopes: OpenScopes,
+    nodes: &Nodes,
+) -> Result<(), OutOfMemory>
+    ensures { OnOk result (Listed (scope_list_from (scope_at scopes) (use_at shape.now usage) (least_in shape.now) strict 0 nodes.now) tables.old tables.new) }
+{
+    let mut scopes = scopes;
+    for at in 0..nodes.len() {
+        let scope = scopes.take(alloc, at);
+        let least = least_scopes(shape, at);
+        push_entered(tables, least, scope.as_slice(), strict, nodes, at)?;
+        let child = nodes.child(at);
+        list_scopes(alloc, tables, use_of(shape, usage, at), strict, child)?;
+    }
+    Ok(())
+}

@@ -1,0 +1,184 @@
+//! What holds around a node.
+
+ghost use Rattle.std.specs.Prelude.{◌≡◌, ◌<◌};
+ghost use Rattle.mini_model.specs.Tree.{is_absent as is_absent_tree, children, shape_of};
+ghost use Rattle.mini_names.specs.Bodies.{frame_at, frame_of_body, has_superclass as has_superclass_in, no_frame};
+ghost use Rattle.mini_names.specs.Mentions.{around_by as around_by_numbering, around_child, numbering_of as numbering_in, outermost};
+ghost use Rattle.mini_node.specs.Children.{number_of};
+ghost use Rattle.mini_context.specs.Visits.{below, frame_by, frame_in, top};
+
+use crate::strictness::is_strict_in;
+use mini_model::{MethodDefinitionKind, Shape};
+use mini_names::{Around, Numbering, Use};
+use mini_node::{Node, Nodes};
+use mini_scope::use_of;
+
+/// Whether the class right around a place has a superclass; whether the place is a constructor of such a class; whether
+/// `this` is bound by `super()` there; and whether the body around it has an `arguments`. (ECMA-262, "BindThisValue",
+/// "FunctionDeclarationInstantiation".)
+#[derive(Clone, Copy)]
+pub struct Frame {
+    pub extends: bool,
+    pub constructs: bool,
+    pub binds_this: bool,
+    pub has_arguments: bool,
+}
+
+/// What holds around a node.
+#[derive(Clone, Copy)]
+pub struct Standing {
+    /// How its names are used.
+    pub usage: Use,
+    /// The innermost node with a number around it.
+    pub around: Around,
+    /// Whether its code is strict.
+    pub strict: bool,
+    /// What `this` and `arguments` are there.
+    pub frame: Frame,
+}
+
+fn no_frame() -> Frame
+    ensures { result ≡ frame_by no_frame }
+{
+    Frame {
+        extends: false,
+        constructs: false,
+        binds_this: false,
+        has_arguments: false,
+    }
+}
+
+/// Where a program stands.
+pub fn at_top() -> Standing
+    ensures { result ≡ top }
+{
+    Standing {
+        usage: Use::Read,
+        around: Around {
+            number: 0,
+            carried: false,
+        },
+        strict: false,
+        frame: no_frame(),
+    }
+}
+
+/// How a node of this shape and this number stands.
+pub fn numbering_of(shape: &Shape, number: u32) -> Numbering
+    ensures { result ≡ numbering_in shape.now number }
+{
+    match shape {
+        Shape::Program(..)
+        | Shape::Function(..)
+        | Shape::ArrowFunctionExpression(_)
+        | Shape::StaticBlock
+        | Shape::InnerExpression => Numbering::Body,
+        _ if number == 0 => Numbering::Unnumbered,
+        _ => Numbering::Carried,
+    }
+}
+
+fn around_by(numbering: Numbering, around: Around, number: u32) -> Around
+    ensures { result ≡ around_by_numbering numbering around number }
+{
+    match numbering {
+        Numbering::Body => Around {
+            number,
+            carried: false,
+        },
+        Numbering::Carried => Around {
+            number,
+            carried: true,
+        },
+        Numbering::Unnumbered => around,
+    }
+}
+
+/// The innermost node with a number around the child at an index of a node of this shape and this number.
+fn around_below(shape: &Shape, around: Around, number: u32, at: usize) -> Around
+    ensures { result ≡ around_child shape.now around number at }
+{
+    match shape {
+        Shape::Function(true, ..) | Shape::Class(true) if at == 0 => around,
+        _ => around_by(numbering_of(shape, number), around, number),
+    }
+}
+
+/// What holds in the body of a node of this shape.
+pub fn frame_in_body(shape: &Shape, frame: Frame) -> Frame
+    ensures { result ≡ frame_by (frame_of_body shape.now (frame_in frame)) }
+{
+    match shape {
+        Shape::Program(..) | Shape::StaticBlock => no_frame(),
+        Shape::Function(..) => Frame {
+            extends: false,
+            constructs: false,
+            binds_this: frame.constructs,
+            has_arguments: true,
+        },
+        Shape::ArrowFunctionExpression(_) => Frame {
+            extends: false,
+            constructs: false,
+            binds_this: frame.binds_this,
+            has_arguments: frame.has_arguments,
+        },
+        Shape::InnerExpression => Frame {
+            extends: false,
+            constructs: false,
+            binds_this: frame.binds_this,
+            has_arguments: false,
+        },
+        _ => frame,
+    }
+}
+
+fn is_absent(node: &Node) -> bool
+    ensures { result ≡ is_absent_tree node.now }
+{
+    matches!(node.shape(), Shape::Absent)
+}
+
+/// Whether a class with these children has a superclass.
+fn has_superclass(nodes: &Nodes) -> bool
+    ensures { result ≡ has_superclass_in nodes.now }
+{
+    match nodes.get(1) {
+        Some(super_class) => !is_absent(super_class),
+        None => false,
+    }
+}
+
+/// What `this` and `arguments` are for the child at an index of a node of this shape.
+fn frame_below(shape: &Shape, frame: Frame, nodes: &Nodes, at: usize) -> Frame
+    ensures { result ≡ frame_by (frame_at shape.now (frame_in frame) nodes.now at) }
+{
+    match shape {
+        Shape::Class(_) => Frame {
+            extends: has_superclass(nodes),
+            constructs: frame.constructs,
+            binds_this: frame.binds_this,
+            has_arguments: frame.has_arguments,
+        },
+        Shape::MethodDefinition(MethodDefinitionKind::Constructor, ..) if at > 0 => Frame {
+            extends: frame.extends,
+            constructs: frame.extends,
+            binds_this: frame.binds_this,
+            has_arguments: frame.has_arguments,
+        },
+        Shape::PropertyDefinition(..) if at > 0 => no_frame(),
+        _ => frame_in_body(shape, frame),
+    }
+}
+
+/// What holds around the child at an index of a node.
+pub fn standing_below(standing: Standing, node: &Node, at: usize) -> Standing
+    ensures { result ≡ below standing node.now at }
+{
+    let shape = node.shape();
+    Standing {
+        usage: use_of(shape, standing.usage, at),
+        around: around_below(shape, standing.around, node.number(), at),
+        strict: is_strict_in(standing.strict, shape),
+        frame: frame_below(shape, standing.frame, node.children(), at),
+    }
+}
