@@ -4,6 +4,7 @@ pub mod Rows
 pub mod Moved
 pub mod Parts
 pub mod Exports
+pub mod ShapeRows
 pub mod Steps
 pub mod Each
 pub mod Programs
@@ -37,3 +38,5 @@ pub mod SameWeight
 pub mod Counts
 pub mod SameSymbols
 pub mod ReadBack
+pub mod Declared
+pub mod Lawful

@@ -1,4 +1,4 @@
--- Any number of rewrites of a program.
+-- Any number of steps in a program.
 use Rattle.std.specs.Prelude.{◌≡◌, refl, true, false, []}
 use Rattle.std.proofs.Common.{arith, subst}
 use Rattle.mini_model.specs.declared.place.Position.{Position}
@@ -11,32 +11,17 @@ use Rattle.mini_names.specs.declared.Use.TheVariants.{Read}
 use Rattle.mini_names.specs.DeclaredNames.{is_inner}
 use Rattle.mini_names.specs.Early.{no_targets}
 use Rattle.mini_names.proofs.Changes.{distinct}
-use Rattle.mini_kept.proofs.Steps.{step_fits}
+use Rattle.mini_kept.proofs.ShapeRows.{rows_keep_shapes}
+use Rattle.mini_kept.proofs.Steps.{any_step_fits}
 use Rattle.mini_kept.specs.KeepsNames.{Keeps, Stands}
-use Rattle.mini_kept.specs.Lifted.{ProgramKeeps}
+use Rattle.mini_kept.specs.Lifted.{KeepsNames, ProgramKeeps}
+use Rattle.mini_kept.specs.KeepsShapes.{KeepsShapes}
 use Rattle.mini_kept.proofs.Using.{also}
 use Rattle.mini_kept.proofs.Stepping.{step_keeps}
 use Rattle.mini_kept.proofs.Instances.{contracts_keep}
 
 program_stands : (t : Tree) → Stands Elsewhere Read t
 program_stands t = also (is_inner (shape_of t)) true refl
-
-program_step : (t u : Tree) → Step Contracts Elsewhere t u → IsWellShaped t → IsWellShaped u
-program_step t u s e = step_fits s false (one a_program) e
-
-program_keeps : (t u : Tree) → Step Contracts Elsewhere t u → IsWellShaped t → Keeps Elsewhere t u
-program_keeps t u s e = step_keeps Contracts contracts_keep s false (one a_program) e
-
-one_step : (t u : Tree) → Step Contracts Elsewhere t u → ProgramKeeps t u
-one_step t u s = record {
-  shaped = program_step t u s;
-  scoped = λ e. (program_keeps t u s e).scoped Read [] (program_stands t);
-  distinct = λ e. distinct Read t u (program_keeps t u s e).kept;
-  symbols = λ e. (program_keeps t u s e).kept.symbols Read;
-  numbers = λ e. (program_keeps t u s e).numbers;
-  once = λ e. (program_keeps t u s e).once [];
-  targets = λ e. (program_keeps t u s e).targets no_targets [];
-}
 
 no_step : (t : Tree) → ProgramKeeps t t
 no_step t = record { shaped = λ e. e; scoped = λ e r. r; distinct = λ e d. d; symbols = λ e x. omega arith; numbers = λ e k. omega arith; once = λ e o. o; targets = λ e o. o }
@@ -52,9 +37,30 @@ both_steps t u v a b = record {
   targets = λ e o. b.targets (a.shaped e) (a.targets e o);
 }
 
-reached : (p : Position) (t u : Tree) → Reaches Contracts p t u → p ≡ Elsewhere → ProgramKeeps t u
-reached _ _ _ (done p t) e = no_step t
-reached _ _ _ (more p t u v s r) e = both_steps t u v (one_step t u (subst (λ q. Step Contracts q t u) e s)) (reached p u v r e)
+module _ (R : Position → Tree → Tree → Type 0) (l : KeepsNames R) (shapes : KeepsShapes R) where
+  program_step : (t u : Tree) → Step R Elsewhere t u → IsWellShaped t → IsWellShaped u
+  program_step t u s e = any_step_fits R l shapes s false (one a_program) e
+
+  program_keeps : (t u : Tree) → Step R Elsewhere t u → IsWellShaped t → Keeps Elsewhere t u
+  program_keeps t u s e = step_keeps R l s false (one a_program) e
+
+  one_step : (t u : Tree) → Step R Elsewhere t u → ProgramKeeps t u
+  one_step t u s = record {
+    shaped = program_step t u s;
+    scoped = λ e. (program_keeps t u s e).scoped Read [] (program_stands t);
+    distinct = λ e. distinct Read t u (program_keeps t u s e).kept;
+    symbols = λ e. (program_keeps t u s e).kept.symbols Read;
+    numbers = λ e. (program_keeps t u s e).numbers;
+    once = λ e. (program_keeps t u s e).once [];
+    targets = λ e. (program_keeps t u s e).targets no_targets [];
+  }
+
+  reached : (p : Position) (t u : Tree) → Reaches R p t u → p ≡ Elsewhere → ProgramKeeps t u
+  reached _ _ _ (done p t) e = no_step t
+  reached _ _ _ (more p t u v s r) e = both_steps t u v (one_step t u (subst (λ q. Step R q t u) e s)) (reached p u v r e)
+
+  pub any_reaches_keep : (t u : Tree) → Reaches R Elsewhere t u → ProgramKeeps t u
+  any_reaches_keep t u r = reached Elsewhere t u r refl
 
 pub reaches_keep : (t u : Tree) → Reaches Contracts Elsewhere t u → ProgramKeeps t u
-reaches_keep t u r = reached Elsewhere t u r refl
+reaches_keep t u r = any_reaches_keep Contracts contracts_keep rows_keep_shapes t u r

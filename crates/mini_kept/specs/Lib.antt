@@ -13,3 +13,6 @@ pub mod Frames
 pub mod FrameExamples
 pub mod KeepsFrames
 pub mod FrameLaws
+pub mod Declaring
+pub mod KeepsShapes
+pub mod Lawful

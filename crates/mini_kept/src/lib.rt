@@ -4,6 +4,8 @@
 #![tactic(auto)]
 
 ghost use Rattle.mini_kept.specs.Kept.{EachBelowKept, EachKept, ReachesWellShaped, StepFits};
+ghost use Rattle.mini_kept.specs.KeepsShapes.{AnyStepFits, AnyReachesWellShaped};
+ghost use Rattle.mini_kept.specs.Lawful.{LawfulKeeps, LawfulJoin, RowsAreLawful};
 ghost use Rattle.mini_kept.specs.Lifted.{RowsKeepNames, ReachesKeepsNames};
 ghost use Rattle.mini_kept.specs.NameLaws.{ResolvedRenumbered, NumbersCarried, ProgramCarried};
 ghost use Rattle.mini_kept.specs.Fixities.{ReachesKeepsFixities, RowsKeepFixities, ProgramKeepsFixities};
@@ -16,6 +18,13 @@ use mini_laws::Rewrites;
 pub fn rewriting_keeps_programs()
     ensures step { StepFits }
     ensures program { ReachesWellShaped }
+{}
+
+/// A step at any place leaves a tree where it may stand, and any number of them leave a program one, where what is put there
+/// may stand wherever what stood there might, and a parent may ask the same of both.
+pub fn shapes_kept<R: Rewrites>()
+    ensures step { AnyStepFits R.gives }
+    ensures program { AnyReachesWellShaped R.gives }
 {}
 
 /// What holds of each node of a tree holds of each after any number of rewrites, if it holds of what the rows write; the
@@ -93,4 +102,20 @@ pub fn frames_kept<R: Rewrites>()
 pub fn rows_keep_frames()
     ensures rows { RowsKeepFrames }
     ensures program { ProgramKeepsFrames }
+{}
+
+/// Any number of steps of a lawful relation keep all of a program that is well shaped: that it is one, its names, symbols
+/// and numbers, its bodies and frames, what a write of each variable does, which names it declares, and its root.
+pub fn lawful_rewriting_keeps<R: Rewrites>()
+    ensures { LawfulKeeps R.gives }
+{}
+
+/// What one lawful relation makes, or another, is lawful.
+pub fn lawful_rules_join<R: Rewrites, S: Rewrites>()
+    ensures { LawfulJoin R.gives S.gives }
+{}
+
+/// What the rows make is lawful.
+pub fn rows_are_lawful()
+    ensures { RowsAreLawful }
 {}

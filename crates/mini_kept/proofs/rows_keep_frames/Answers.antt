@@ -1,13 +1,10 @@
-use Rattle.std.specs.Prelude.{false}
 use Rattle.mini_model.specs.Redex.{Contracts}
-use Rattle.mini_accept.specs.WellShaped.{one, a_program, fits}
-use Rattle.mini_kept.proofs.Steps.{step_fits}
-use Rattle.mini_kept.proofs.FrameSteps.{reaches_keeps_frames}
 use Rattle.mini_kept.proofs.FrameRows as lemma
+use Rattle.mini_kept.proofs.Lawful.{lawful_keeps, rows_are_lawful}
 use Rattle.mini_kept.proofs.rows_keep_frames.Goals as goal
 
 pub returns-clause-rows : goal.returns-clause-rows
 returns-clause-rows c = lemma.rows_keep_frames
 
 pub returns-clause-program : goal.returns-clause-program
-returns-clause-program c t u r e = reaches_keeps_frames Contracts lemma.rows_keep_frames (fits false (one a_program)) (λ t e. e) (λ t u s e. step_fits s false (one a_program) e) t u r e
+returns-clause-program c t u r e = (lawful_keeps Contracts rows_are_lawful t u r e).frames

@@ -1,0 +1,90 @@
+-- What any number of steps of a lawful relation keep, and lawful relations.
+use Rattle.std.specs.Prelude.{◌≡◌, ◌⊎◌, refl, false}
+use Rattle.std.proofs.Common.{ap, ◌∙◌, sym, inl, inr}
+use Rattle.mini_model.specs.declared.place.Position.{Position}
+use Rattle.mini_model.specs.declared.place.Position.TheVariants.{Elsewhere}
+use Rattle.mini_model.specs.Tree.{Tree, node, children}
+use Rattle.mini_model.specs.Redex.{Contracts}
+use Rattle.mini_model.specs.Rewriting.{Step, here, inside, Reaches, done, more}
+use Rattle.mini_accept.specs.WellShaped.{one, a_program, fits, IsWellShaped}
+use Rattle.mini_kept.specs.KeepsNames.{is_rewritten_place}
+use Rattle.mini_kept.specs.Kept.{over}
+use Rattle.mini_kept.specs.Lawful.{Lawful, ProgramIsKept, LawfulJoin}
+use Rattle.mini_kept.specs.Lifted.{KeepsNames}
+use Rattle.mini_kept.proofs.BodyRows.{rows_keep_bodies}
+use Rattle.mini_kept.proofs.BodySteps.{reaches_keeps_bodies}
+use Rattle.mini_kept.proofs.Declared.{rows_declare, reaches_declared}
+use Rattle.mini_kept.proofs.Fixed.{fixities_kept, rows_keep_fixities}
+use Rattle.mini_kept.proofs.FrameRows.{rows_keep_frames}
+use Rattle.mini_kept.proofs.FrameSteps.{reaches_keeps_frames}
+use Rattle.mini_kept.proofs.ShapeRows.{rows_keep_shapes}
+use Rattle.mini_kept.proofs.Steps.{any_step_fits}
+use Rattle.mini_kept.proofs.Whole.{any_reaches_keep}
+
+-- ---- the root of a program stays
+
+same_over : (t : Tree) → t ≡ over t (children t)
+same_over (node h xs n ts) = refl
+
+over_over : (t u v : Tree) → u ≡ over t (children u) → v ≡ over u (children v) → v ≡ over t (children v)
+over_over (node h xs n ts) u v a b = b ∙ ap (λ w. over w (children v)) a
+
+module _ (R : Position → Tree → Tree → Type 0) (l : KeepsNames R) where
+  step_root : {p : Position} {t u : Tree} → is_rewritten_place p ≡ false → Step R p t u → u ≡ over t (children u)
+  step_root e (here p t u r) = absurd (cc (sym e ∙ l.places p t u r))
+  step_root e (inside p h xs n ts us s) = refl
+
+  reaches_root : {p : Position} {t u : Tree} → is_rewritten_place p ≡ false → Reaches R p t u → u ≡ over t (children u)
+  reaches_root e (done p t) = same_over t
+  reaches_root e (more p t u v s r) = over_over t u v (step_root e s) (reaches_root e r)
+
+-- ---- any number of steps
+
+module _ (R : Position → Tree → Tree → Type 0) (l : Lawful R) where
+  names : KeepsNames R
+  names = l.frames.names
+
+  program_fits : (t u : Tree) → Step R Elsewhere t u → IsWellShaped t → IsWellShaped u
+  program_fits t u s e = any_step_fits R names l.shapes s false (one a_program) e
+
+  pub lawful_keeps : (t u : Tree) → Reaches R Elsewhere t u → IsWellShaped t → ProgramIsKept t u
+  lawful_keeps t u r e = record {
+    names = any_reaches_keep R names l.shapes t u r;
+    bodies = reaches_keeps_bodies R l.bodies (fits false (one a_program)) (λ v f. f) program_fits t u r e;
+    frames = reaches_keeps_frames R l.frames (fits false (one a_program)) (λ v f. f) program_fits t u r e;
+    fixities = fixities_kept R (record { reads = l.bodies.means.reads; fixed = l.fixed }) Elsewhere t u r;
+    declared = reaches_declared R l.declared r;
+    root = reaches_root R names refl r;
+  }
+
+-- ---- two relations as one
+
+module _ (R S : Position → Tree → Tree → Type 0) where
+  one_or_other : {X : Position → Tree → Tree → Type 0} → ((p : Position) (n w : Tree) → R p n w → X p n w) → ((p : Position) (n w : Tree) → S p n w → X p n w) → (p : Position) (n w : Tree) → R p n w ⊎ S p n w → X p n w
+  one_or_other f g p n w (inl r) = f p n w r
+  one_or_other f g p n w (inr s) = g p n w s
+
+  pub lawful_join : LawfulJoin R S
+  lawful_join l m = record {
+    shapes = record { fitting = one_or_other l.shapes.fitting m.shapes.fitting; asked = one_or_other l.shapes.asked m.shapes.asked };
+    bodies = record {
+      means = record { same = one_or_other l.bodies.means.same m.bodies.means.same; reads = one_or_other l.bodies.means.reads m.bodies.means.reads };
+      pieces = one_or_other l.bodies.pieces m.bodies.pieces;
+      kind = one_or_other l.bodies.kind m.bodies.kind;
+      bodies = one_or_other l.bodies.bodies m.bodies.bodies;
+    };
+    frames = record {
+      names = record { places = one_or_other l.frames.names.places m.frames.names.places; pieces = one_or_other l.frames.names.pieces m.frames.names.pieces; keeps = one_or_other l.frames.names.keeps m.frames.names.keeps };
+      slots = one_or_other l.frames.slots m.frames.slots;
+      ports = one_or_other l.frames.ports m.frames.ports;
+      exported = one_or_other l.frames.exported m.frames.exported;
+      frames = one_or_other l.frames.frames m.frames.frames;
+    };
+    fixed = one_or_other l.fixed m.fixed;
+    declared = one_or_other l.declared m.declared;
+  }
+
+-- ---- the rows
+
+pub rows_are_lawful : Lawful Contracts
+rows_are_lawful = record { shapes = rows_keep_shapes; bodies = rows_keep_bodies; frames = rows_keep_frames; fixed = rows_keep_fixities.fixed; declared = rows_declare }
