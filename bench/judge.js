@@ -1,0 +1,253 @@
+// Node as a judge: runs scripts before and after the built program has rewritten them, against an outside that records what is
+// asked of it, and compares. Builds nothing.
+//
+//     node --expose-internals bench/judge.js [PROGRAM [COUNT [SEED]]]
+//
+// PROGRAM is crates/mini_app/out/mini_app of this repository unless it is given: `rt run` in crates/mini_app makes it. COUNT
+// scripts (200) are generated (generate.js), and as many pieces of installed code are taken that something is rewritten in
+// (pieces.js). Each is run three times, with an outside that answers otherwise each time.
+//
+// Every name that a script doesn't declare is the outside's: reading and writing one, calling, and what is done to the objects
+// that it hands out, is an event with its operands. It calls the functions that it is handed, and those that a script
+// declares. A run ends by itself, by a throw, or after EVENTS events. The events must be the same in order, and how it ends.
+// The outside answers by what was asked before, so that two runs part no sooner than their events do. The text of a function is
+// the same for all, since it is of the source alone.
+"use strict";
+const { spawnSync } = require("child_process");
+const fs = require("fs");
+const path = require("path");
+const vm = require("vm");
+const { parse, isOutside } = require("./estree.js");
+const { chosenPieces } = require("./pieces.js");
+const { script } = require("./generate.js");
+const { print } = require("./print.js");
+
+const [, , program = path.join(__dirname, "..", "crates", "mini_app", "out", "mini_app"), count = "200", seed = "1"] = process.argv;
+const EVENTS = 400;
+const SECONDS = 2;
+const OWN = ["undefined", "NaN", "Infinity", "arguments", "eval"];
+
+// ---- the outside
+
+class CutOff extends Error {}
+
+class Outside {
+  constructor(seed) {
+    this.events = [];
+    this.state = seed;
+    this.labels = new WeakMap();
+    this.depth = 0;
+  }
+
+  // A number below the bound, by what happened so far.
+  chance(below) {
+    this.state = (Math.imul(this.state ^ (this.state >>> 15), 0x2c1b3c6d) + 0x9e3779b9) >>> 0;
+    return (this.state >>> 8) % below;
+  }
+
+  record(...event) {
+    const text = event.map((part) => this.told(part)).join(" ");
+    for (const unit of text) this.state = (Math.imul(this.state, 31) + unit.codePointAt(0)) >>> 0;
+    this.events.push(text);
+    if (this.events.length >= EVENTS) throw new CutOff();
+  }
+
+  // A value as an event tells it: an object of the script by what it is alone.
+  told(value) {
+    if (this.labels.has(Object(value))) return this.labels.get(Object(value));
+    if (Array.isArray(value)) return `[${value.map((part) => this.told(part)).join(" ")}]`;
+    if (typeof value === "object" && value !== null) return value instanceof Error ? value.name : "object";
+    if (typeof value === "function") return "function";
+    return typeof value === "string" ? JSON.stringify(value) : String(value);
+  }
+
+  answer(label) {
+    const made = [
+      () => undefined,
+      () => null,
+      () => true,
+      () => false,
+      () => this.chance(3),
+      () => ["", "s", "p"][this.chance(3)],
+      () => this.object(label),
+      () => this.object(label),
+      () => this.object(label),
+    ];
+    return made[this.chance(made.length)]();
+  }
+
+  // An object of the outside, which may be called and iterated.
+  object(label) {
+    const outside = this;
+    const name = `<${label.length > 40 ? "far" : label}>`;
+    const proxy = new Proxy(function () {}, {
+      get: (_, key) => outside.property(name, key),
+      set: (_, key, value) => (outside.record("set", name, key, value), true),
+      has: (_, key) => (outside.record("has", name, key), outside.chance(2) === 0),
+      deleteProperty: (_, key) => (outside.record("delete", name, key), true),
+      apply: (_, self, values) => outside.called("call", name, self, values),
+      construct: (_, values) => outside.constructed(name, values),
+      getPrototypeOf: () => null,
+      ownKeys: () => ["prototype"],
+    });
+    this.labels.set(proxy, name);
+    return proxy;
+  }
+
+  property(name, key) {
+    if (key === Symbol.iterator) return () => [this.answer(`${name}0`), this.answer(`${name}1`)][Symbol.iterator]();
+    if (key === Symbol.toPrimitive) return (hint) => (this.record("primitive", name, hint), this.chance(2) === 0 ? this.chance(3) : "s");
+    this.record("get", name, key);
+    return typeof key === "symbol" ? undefined : this.answer(`${name}.${key}`);
+  }
+
+  called(what, name, self, values) {
+    this.record(what, name, self, ...values);
+    for (const value of values) if (typeof value === "function" && !this.labels.has(value)) this.enter(value);
+    if (this.chance(12) === 0) throw this.object(`thrown by ${name}`);
+    return this.answer(`${name}()`);
+  }
+
+  constructed(name, values) {
+    this.called("new", name, undefined, values);
+    return this.object(`new ${name}`);
+  }
+
+  // Calls a function of the script; what it throws is an event.
+  enter(value) {
+    if (this.depth > 3) return;
+    this.depth += 1;
+    try {
+      const given = value.call(this.object("this"), this.answer("x"), this.object("y"));
+      this.record("returned", given);
+      if (given && typeof given === "object" && typeof given.next === "function" && !this.labels.has(given)) this.advance(given);
+    } catch (error) {
+      this.caught(error);
+    } finally {
+      this.depth -= 1;
+    }
+  }
+
+  // Goes on in a generator of the script.
+  advance(generator) {
+    for (let turn = 0; turn < 4; turn++) {
+      const { value, done } = generator.next(this.answer("sent"));
+      this.record("yielded", value, done);
+      if (done) return;
+    }
+  }
+
+  caught(error) {
+    if (error instanceof CutOff || /timed out/.test(String(error && error.message))) throw error;
+    this.record("threw", error);
+  }
+
+  // The names of the outside, as the object of a `with`.
+  names() {
+    const values = new Map();
+    return new Proxy(Object.create(null), {
+      has: (_, key) => typeof key === "string" && !OWN.includes(key) && key !== "judge",
+      get: (_, key) => {
+        if (key === Symbol.unscopables) return undefined;
+        this.record("read", key);
+        if (!values.has(key)) values.set(key, this.object(key));
+        return values.get(key);
+      },
+      set: (_, key, value) => (this.record("write", key, value), true),
+      deleteProperty: () => true,
+    });
+  }
+}
+
+// ---- one run
+
+// The names of the functions that a script declares at its top, which are called behind it.
+const declaredFunctions = (tree) => tree.body.filter((part) => part.type === "FunctionDeclaration").map((part) => part.id.name);
+
+// A function expression that stands alone is handed out.
+function handedOut(tree) {
+  const body = tree.body.map((part) => {
+    const isFunction = part.type === "ExpressionStatement" && /Function/.test(part.expression.type);
+    const callee = { type: "Identifier", name: "judge" };
+    return isFunction ? { ...part, expression: { type: "CallExpression", callee, arguments: [part.expression] } } : part;
+  });
+  return { ...tree, body };
+}
+
+const directives = (tree) => print({ body: tree.body.filter((part) => typeof part.directive === "string") });
+
+function textOf(tree) {
+  const calls = declaredFunctions(tree).map((name) => `judge(${name});`);
+  return `with (names) (function () { ${directives(tree)} ${print(handedOut(tree))}\n ${calls.join(" ")} }).call(self);`;
+}
+
+// The events of a run, and how it ended.
+function eventsOf(tree, seed) {
+  const outside = new Outside(seed);
+  const context = vm.createContext({ names: outside.names(), self: outside.object("this"), judge: (value) => outside.enter(value) });
+  vm.runInContext('Function.prototype.toString = () => "function";', context);
+  try {
+    vm.runInContext(textOf(tree), context, { timeout: SECONDS * 1000, displayErrors: false });
+    outside.events.push("ended");
+  } catch (error) {
+    if (error && /timed out/.test(String(error.message))) return null;
+    if (!(error instanceof CutOff)) outside.events.push(`threw ${error && error.name ? error.name : outside.told(error)}`);
+  }
+  return outside.events;
+}
+
+function minified(tree) {
+  const text = JSON.stringify(tree, (key, value) => (typeof value === "bigint" ? null : value));
+  const ended = spawnSync(program, [], { input: text, maxBuffer: 1 << 28 });
+  return ended.status === 0 ? JSON.parse(ended.stdout) : null;
+}
+
+// ---- all of them
+
+const total = { scripts: 0, changed: 0, runs: 0, events: 0, "too long": 0, wrong: 0 };
+
+function compare(before, after) {
+  for (const salt of [1, 2, 3]) {
+    const [first, second] = [before, after].map((tree) => eventsOf(tree, Number(seed) * 1000 + salt));
+    total.runs += 1;
+    if (first === null || second === null) {
+      total["too long"] += 1;
+      continue;
+    }
+    total.events += first.length;
+    if (first.join("\n") === second.join("\n")) continue;
+    total.wrong += 1;
+    const at = first.findIndex((event, index) => event !== second[index]);
+    console.log(`WRONG at event ${at}: ${first[at]} | ${second[at]}\n  ${textOf(before)}\n  ${textOf(after)}`);
+  }
+}
+
+function judge(tree, onlyChanged) {
+  const answer = minified(tree);
+  if (answer === null) throw new Error(`no answer for ${print(tree)}`);
+  if (onlyChanged && answer.passes === 1) return false;
+  total.scripts += 1;
+  total.changed += answer.passes > 1 ? 1 : 0;
+  compare(tree, answer.program);
+  return true;
+}
+
+// Whether a piece is a script by itself: not, where it has a private name, `super` or a `return` of what it was cut from.
+function isScript(tree) {
+  try {
+    return tree.sourceType === "script" && !isOutside(tree) && parse(print(tree)) !== null;
+  } catch {
+    return false;
+  }
+}
+
+function main() {
+  if (!fs.existsSync(program)) throw new Error(`${program} is not there: run \`rt run\` in crates/mini_app first`);
+  for (let at = 1; at <= Number(count); at++) judge(parse(script(Number(seed) * 100_003 + at * 7919)), false);
+  let left = Number(count);
+  for (const [, tree] of chosenPieces(Number(count) * 40, Number(seed))) if (left > 0 && isScript(tree) && judge(tree, true)) left -= 1;
+  console.log(Object.entries(total).map(([key, value]) => `${key} ${value}`).join(", "));
+  process.exitCode = total.wrong > 0 ? 1 : 0;
+}
+
+main();
