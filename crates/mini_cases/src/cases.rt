@@ -1,11 +1,10 @@
 // Cases and their answers.
 
+use crate::answers::{answered, minified};
 use crate::error::CaseError;
 use crate::weights::{expression_weight, statement_weights};
-use mini_estree::{Numbered, fits, read_program, write_program};
-use mini_peephole::minify_estree;
+use mini_estree::{Numbered, read_program, write_program};
 use mini_run::echoed;
-use mini_tree::CompressOptions;
 use serde_json::Value;
 use std::alloc::Global;
 
@@ -24,12 +23,13 @@ pub fn answer(alloc: Global, line: &str) -> Result<String, CaseError> {
         "expression" => expression_weight(alloc, rest),
         "statement" => statement_weights(alloc, rest),
         "minify" => minified(alloc, rest),
+        "answer" => answered(alloc, rest),
         _ => Err(CaseError::NoCase),
     }
 }
 
-// A number, and what stands behind it.
-fn numbered(text: &str) -> Result<(u32, &str), CaseError> {
+/// A number, and what stands behind it.
+pub fn numbered(text: &str) -> Result<(u32, &str), CaseError> {
     let (number, rest) = text.split_once(' ').ok_or(CaseError::NoCase)?;
     match number.parse::<u32>() {
         Ok(number) => Ok((number, rest)),
@@ -75,25 +75,4 @@ fn again(alloc: Global, text: &str) -> Result<String, CaseError> {
         "another"
     };
     Ok(String::from_str(alloc, word)?)
-}
-
-// What the minifier answers within so many passes: how many were made, whether nothing is left to do, and the program; or
-// the error and its pointer.
-fn minified(alloc: Global, text: &str) -> Result<String, CaseError> {
-    let (passes, text) = numbered(text)?;
-    let value = Value::from_str(alloc, text)?;
-    if !fits(&value) {
-        return Err(CaseError::NoCase);
-    }
-    let options = CompressOptions {
-        passes,
-        ..CompressOptions::new()
-    };
-    match minify_estree(alloc, &value, &options) {
-        Ok(found) => {
-            let back = found.program.to_string(alloc)?;
-            Ok(format!(in alloc; "{} {} {back}", found.passes, found.settled)?)
-        }
-        Err(error) => Ok(format!(in alloc; "{} {}", error.variant(), error.place())?),
-    }
 }

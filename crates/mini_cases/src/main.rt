@@ -2,7 +2,8 @@
 //! compared with what was worked out by hand, or is what acorn gives for some code (`stdin` and `stdout`).
 //!
 //! A line that begins with `#` is a title, and its own answer. Each other one is a word and a value of ESTree as JSON:
-//! `tell` and a depth, `numbers`, `again`, `echo`, `expression`, `statement`, or `minify` and a number of passes.
+//! `tell` and a depth, `numbers`, `again`, `echo`, `expression`, `statement`, or `minify` or `answer` and a number of passes.
+//! The lines of `answer` are those that `bench/cases.js` writes.
 //!
 //! With the word `--echo` all of standard input is one program, which is written as the minifier would: every field of each
 //! type of node, and no other. With `--json` it is read and written as plain JSON, so that the time of that can be told from
@@ -12,6 +13,7 @@
 //! tests is proved a second time with them.
 #![tactic(auto)]
 
+mod answers;
 mod cases;
 mod error;
 #[cfg(test)]
