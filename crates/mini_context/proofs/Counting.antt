@@ -52,15 +52,6 @@ own_named d p u h o x b c c' e f g q =
     q ∙ ap (λ v. if v then tallied_symbol d c x.symbol else c) g
     ∙ ap (λ rs. tallied d p rs c) (sym (ap (λ q. own_references u h (names q)) f ∙ own_one u h x e))
 
-pub steps_none : (u : Use) (h : Shape) (o : Option Name) → is_reference_shape h ≡ false → length (own_references u h (names o)) ≡ 0
-steps_none u h o e = ap length (no_own u h (names o) e)
-
-pub steps_nameless : (u : Use) (h : Shape) (o : Option Name) → o ≡ None → length (own_references u h (names o)) ≡ 0
-steps_nameless u h o e = ap length (ap (λ q. own_references u h (names q)) e ∙ no_name u h)
-
-pub steps_named : (u : Use) (h : Shape) (o : Option Name) (x : Name) → is_reference_shape h ≡ true → o ≡ Some x → length (own_references u h (names o)) ≡ 1
-steps_named u h o x e f = ap length (ap (λ q. own_references u h (names q)) f ∙ own_one u h x e)
-
 -- ---- a node: its own, and those below it
 
 opened : (u : Use) (n : Tree) → references u n ≡ own_references u (shape_of n) (names_of n) ++ references_from (use_of (shape_of n) u) 0 (children n)

@@ -4,6 +4,7 @@ mod Numbers
 mod Kept
 mod Gathering
 mod Marking
+mod Joining
 mod Surveys
 mod Listings
 mod Evals

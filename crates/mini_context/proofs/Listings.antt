@@ -69,19 +69,6 @@ lists_add = record {
   };
 }
 
-seen_one : (b : Bool) (xs : List Name) → (if b then xs else []) ≡ (if b then xs ++ [] else [])
-seen_one true xs = sym (append-nil xs)
-seen_one false xs = refl
-
--- one scope
-pub one_listed : (s : Scope) (a b : ScopeTables) → b.strict.items ≡ a.strict.items ++ s.strict ∷ [] → b.evals.items ≡ a.evals.items ++ s.evals ∷ [] → b.owners.items ≡ a.owners.items ++ replicate (length s.names) (length a.strict.items) → Marked (if s.evals then s.names else []) a.seen.items b.seen.items → Listed (s ∷ []) a b
-one_listed s a b f g h m = record {
-  stricts = f;
-  evals = g;
-  owners = h ∙ ap (λ r. a.owners.items ++ r) (sym (append-nil (replicate (length s.names) (length a.strict.items))));
-  seen = subst (λ ns. Marked ns a.seen.items b.seen.items) (seen_one s.evals s.names) m;
-}
-
 -- ---- what is given of a child: the scopes entered before it, and those in it
 abbrev pub child_scopes : (ℕ → List Binding) → (ℕ → Use) → (ℕ → ℕ) → Bool → ℕ → Trees → List Scope
 child_scopes scope uses least strict i us = entered (least i) (record { names = names_in (scope i); strict = strict; evals = any_has_eval us }) ++ scope_list (uses i) strict (first_or_absent us)

@@ -1,7 +1,7 @@
 -- Tables of marks.
-use Rattle.std.specs.Prelude.{ℕ, zero, suc, ◌+◌, ◌≡◌, ◌≤◌, ◌<◌, refl, nat_eq, ◌&&◌, ◌||◌, Bool, true, false, List, [], ◌∷◌, ◌++◌, length, take, slice_set, slice_index_or, Option, Some, None}
+use Rattle.std.specs.Prelude.{ℕ, zero, suc, ◌≡◌, ◌≤◌, ◌<◌, refl, nat_eq, ◌&&◌, ◌||◌, Bool, true, false, List, [], ◌∷◌, length, Option, Some, None}
 use Rattle.std.specs.List.{list_any}
-use Rattle.std.proofs.Common.{ap, ◌∙◌, arith, sym, subst, add-one}
+use Rattle.std.proofs.Common.{ap, ◌∙◌, arith, sym, subst}
 use Rattle.std.proofs.lemmas.List.Folds.{list_any-append}
 use Rattle.mini_model.specs.declared.name.Name.{Name}
 use Rattle.mini_model.specs.declared.name.SymbolId.{SymbolId}
@@ -17,18 +17,15 @@ use Rattle.mini_names.specs.declared.Declared.TheVariants as declared
 use Rattle.mini_context.specs.declared.parts.Part.{Part}
 use Rattle.mini_context.specs.Parts.{bound_at, names_at, fixed_part}
 use Rattle.mini_names.specs.Mentions.{same_variable, same_variable_by, is_among}
-use Rattle.mini_names.specs.declared.Binding.{Binding}
-use Rattle.mini_names.specs.ScopeList.{names_in}
 use Rattle.mini_names.specs.Bodies.{Frame, Body, own_fixed}
 use Rattle.mini_context.specs.Tables.{mark_at, named, Marked, Noted}
-use Rattle.mini_context.proofs.Equal.{apart, zero_suc, suc_zero, suc_suc, eq_sym}
 use Rattle.mini_context.proofs.Gathering.{Adds, Gathers}
 
-or_false : (b : Bool) → (b || false) ≡ b
+pub or_false : (b : Bool) → (b || false) ≡ b
 or_false true = refl
 or_false false = refl
 
-or_assoc : (a b c : Bool) → ((a || b) || c) ≡ (a || (b || c))
+pub or_assoc : (a b c : Bool) → ((a || b) || c) ≡ (a || (b || c))
 or_assoc true b c = refl
 or_assoc false b c = refl
 
@@ -50,40 +47,6 @@ pub names_gather : (d : Declared) → Gathers (λ i us. names_of d (first_or_abs
 unfolding names_of
 names_gather d = record { at_none = λ i. refl; at_more = λ i t ts. refl }
 
-set_length : (xs : List Bool) (i : ℕ) (b : Bool) → length (slice_set xs i b) ≡ length xs
-set_length [] i b = refl
-set_length (x ∷ xs) zero b = refl
-set_length (x ∷ xs) (suc i) b = ap suc (set_length xs i b)
-
-set_at : (xs : List Bool) (i k : ℕ) → i < length xs → mark_at (slice_set xs i true) k ≡ (mark_at xs k || nat_eq i k)
-set_at [] i k h = absurd (omega arith)
-set_at (true ∷ xs) zero zero h = refl
-set_at (false ∷ xs) zero zero h = refl
-set_at (x ∷ xs) zero (suc k) h = sym (or_false (mark_at xs k)) ∙ ap (λ b. mark_at xs k || b) (sym (zero_suc k))
-set_at (x ∷ xs) (suc i) zero h = sym (or_false x) ∙ ap (λ b. x || b) (sym (suc_zero i))
-set_at (x ∷ xs) (suc i) (suc k) h = set_at xs i k (omega arith) ∙ ap (λ b. mark_at xs k || b) (sym (suc_suc i k))
-
--- the symbol at an index is marked
-pub set_marks : (xs ys : List Bool) (i k : ℕ) → i < length xs → ys ≡ slice_set xs i true → mark_at ys k ≡ (mark_at xs k || nat_eq i k)
-set_marks xs ys i k h e = ap (λ m. mark_at m k) e ∙ set_at xs i k h
-
-pub set_keeps : (xs ys : List Bool) (i : ℕ) → ys ≡ slice_set xs i true → length ys ≡ length xs
-set_keeps xs ys i e = ap length e ∙ set_length xs i true
-
--- a symbol that is beyond the table marks nothing
-pub no_marks : (xs : List Bool) (i k : ℕ) → length xs ≤ i → k < length xs → mark_at xs k ≡ (mark_at xs k || nat_eq i k)
-no_marks xs i k h g = sym (or_false (mark_at xs k)) ∙ ap (λ b. mark_at xs k || b) (sym (apart i k (λ e. omega (arith, e))))
-
-among_one : (k : ℕ) (x : Name) (s : SymbolId) → x.symbol ≡ Some s → nat_eq s.0 k ≡ is_among (named k) (x ∷ [])
-among_one k x s e = eq_sym s.0 k ∙ sym (or_false (nat_eq k s.0)) ∙ ap (λ o. same_variable_by (Some (record { 0 = k })) o [] x.spelling || false) (sym e)
-
--- a name marks its symbol
-pub name_marks : (x : Name) (s : SymbolId) (old new : List Bool) → x.symbol ≡ Some s → length new ≡ length old → ((k : ℕ) → k < length old → mark_at new k ≡ (mark_at old k || nat_eq s.0 k)) → Marked (x ∷ []) old new
-name_marks x s old new e l m = record { symbols = l; each = λ k h. m k h ∙ ap (λ b. mark_at old k || b) (among_one k x s e) }
-
-pub nameless_marks : (x : Name) (old : List Bool) → x.symbol ≡ None → Marked (x ∷ []) old old
-nameless_marks x old e = record { symbols = refl; each = λ k h. sym (or_false (mark_at old k)) ∙ ap (λ o. mark_at old k || (same_variable_by (Some (record { 0 = k })) o [] x.spelling || false)) (sym e) }
-
 -- ---- by body
 
 pub notes_add : (p : Frame → Bool) → Adds (Noted p)
@@ -93,12 +56,6 @@ notes_add p = record {
       let q : Body → Bool = λ r. nat_eq r.number k && p r.frame in
       g k ∙ ap (λ m. m || list_any q ys) (f k) ∙ or_assoc (mark_at a k) (list_any q xs) (list_any q ys) ∙ ap (λ m. mark_at a k || m) (sym (list_any-append q xs ys));
 }
-
-pub pushed : (xs : List Bool) (k : ℕ) → mark_at (xs ++ false ∷ []) k ≡ mark_at xs k
-pushed [] zero = refl
-pushed [] (suc k) = refl
-pushed (x ∷ xs) zero = refl
-pushed (x ∷ xs) (suc k) = pushed xs k
 
 -- ---- a name by its symbol
 
@@ -112,16 +69,6 @@ same_by_symbol x s y e = ap (λ o. same_variable_by o y.symbol x.spelling y.spel
 pub among_by_symbol : (x : Name) (s : SymbolId) (xs : List Name) → x.symbol ≡ Some s → is_among x xs ≡ is_among (named s.0) xs
 among_by_symbol x s [] e = refl
 among_by_symbol x s (y ∷ ys) e = ap (λ b. b || is_among x ys) (same_by_symbol x s y e) ∙ ap (λ b. same_variable (named s.0) y || b) (among_by_symbol x s ys e)
-
--- ---- the names of a scope
-
-more_by : (bs : List Binding) (i : ℕ) (d : Binding) → i < length bs → names_in (take (suc i) bs) ≡ names_in (take i bs) ++ (slice_index_or bs i d).name ∷ []
-more_by [] i d h = absurd (omega arith)
-more_by (b ∷ bs) zero d h = refl
-more_by (b ∷ bs) (suc i) d h = ap (λ r. b.name ∷ r) (more_by bs i d (omega arith))
-
-pub more_bindings : (bs : List Binding) (i : ℕ) (d : Binding) → i < length bs → names_in (take (i + 1) bs) ≡ names_in (take i bs) ++ (slice_index_or bs i d).name ∷ []
-more_bindings bs i d h = ap (λ k. names_in (take k bs)) (add-one i) ∙ more_by bs i d h
 
 -- ---- the names that a node declares
 

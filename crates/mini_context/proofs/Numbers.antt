@@ -65,9 +65,6 @@ zeros_length : (n : ℕ) → length {A = ℕ} (replicate n 0) ≡ n
 zeros_length zero = refl
 zeros_length (suc n) = ap suc (zeros_length n)
 
-times_none : (p : Use → Bool) (s : ℕ) → times_of p s [] ≡ 0
-times_none p s = refl
-
 times_more : (p : Use → Bool) (s : ℕ) (r : Reference) (rs : List Reference) → times_of p s (r ∷ rs) ≡ one_if (p r.used && has_symbol s r.name.symbol) + times_of p s rs
 unfolding one_if
 times_more p s r rs =

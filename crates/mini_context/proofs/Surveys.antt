@@ -3,11 +3,16 @@ use Rattle.std.specs.Prelude.{ℕ, zero, suc, ◌≤◌, ◌<◌, ◌≡◌, ref
 use Rattle.std.proofs.Common.{ap, ◌∙◌, sym, subst, arith, append_assoc}
 use Rattle.mini_model.specs.Tree.{Tree, Trees, node, none, ◌▸◌, children, count, child_or_absent, first_or_absent, node_count, node_counts}
 use Rattle.mini_names.specs.Bodies.{Frame, frame_at, frame_of_body, own_body, own_fixed, bodies, bodies_from, fixed_names, all_fixed_names}
-use Rattle.mini_names.specs.Mentions.{numbering_of}
+use Rattle.mini_names.specs.declared.Use.{Use}
+use Rattle.mini_names.specs.declared.Around.{Around}
+use Rattle.mini_names.specs.Scopes.{use_of}
+use Rattle.mini_names.specs.Mentions.{own_mentions, mentions, mentions_from, around_child, numbering_of}
+use Rattle.mini_context.specs.Mentioned.{Joined}
+use Rattle.mini_context.proofs.Joining.{joins_add}
 use Rattle.mini_context.specs.declared.standing.Standing.{Standing}
 use Rattle.mini_context.specs.declared.survey.Tables.{Tables}
 use Rattle.mini_context.specs.Tables.{Marked, Noted}
-use Rattle.mini_context.specs.Visits.{Visit, visits, visits_from, given, below, frame_in, fixed_at, bodies_at, Surveyed}
+use Rattle.mini_context.specs.Visits.{Visit, visits, visits_from, given, below, frame_in, fixed_at, bodies_at, mentions_at, Surveyed}
 use Rattle.mini_context.proofs.Gathering.{Adds, Gathers}
 use Rattle.mini_context.proofs.Marking.{marks_add, notes_add}
 
@@ -25,11 +30,13 @@ surveys_add = record {
     fixed = marks_add.nothing s.fixed.items;
     this_events = (notes_add (λ f. f.binds_this)).nothing s.this_events.items;
     arguments = (notes_add (λ f. f.has_arguments)).nothing s.arguments.items;
+    mentions = joins_add.nothing s.mentioned.items;
   };
   both = λ xs ys a b c f g. record {
     fixed = of_both (λ ns. Marked ns a.fixed.items c.fixed.items) fixed_at xs ys (marks_add.both (given fixed_at xs) (given fixed_at ys) a.fixed.items b.fixed.items c.fixed.items f.fixed g.fixed);
     this_events = of_both (λ bs. Noted (λ f. f.binds_this) bs a.this_events.items c.this_events.items) bodies_at xs ys ((notes_add (λ f. f.binds_this)).both (given bodies_at xs) (given bodies_at ys) a.this_events.items b.this_events.items c.this_events.items f.this_events g.this_events);
     arguments = of_both (λ bs. Noted (λ f. f.has_arguments) bs a.arguments.items c.arguments.items) bodies_at xs ys ((notes_add (λ f. f.has_arguments)).both (given bodies_at xs) (given bodies_at ys) a.arguments.items b.arguments.items c.arguments.items f.arguments g.arguments);
+    mentions = of_both (λ ms. Joined ms a.mentioned.items c.mentioned.items) mentions_at xs ys (joins_add.both (given mentions_at xs) (given mentions_at ys) a.mentioned.items b.mentioned.items c.mentioned.items f.mentions g.mentions);
   };
 }
 
@@ -83,3 +90,16 @@ within (t ▸ ts) (suc i) h = omega (arith, within ts i (omega arith))
 -- a child is smaller than the node
 pub child_falls : (t : Tree) (ts : Trees) (i : ℕ) (u : Tree) → ts ≡ children t → i < count ts → u ≡ child_or_absent ts i → node_count u < node_count t
 child_falls (node h xs n us) ts i u e l f = omega (arith, ap node_count f, within ts i l, ap node_counts e)
+
+mutual
+  unfolding visits mentions
+
+  pub mentions_told : (a : Standing) (t : Tree) → given mentions_at (visits a t) ≡ mentions a.usage a.around t
+  mentions_told a (node h xs n ts) = ap (λ r. own_mentions a.usage a.around h xs ++ r) (all_mentions_told (use_of h a.usage) (around_child h a.around n) (below a (node h xs n ts)) (λ k. refl) (λ k. refl) 0 ts)
+
+  all_mentions_told : (us : ℕ → Use) (rs : ℕ → Around) (at : ℕ → Standing) → ((k : ℕ) → (at k).usage ≡ us k) → ((k : ℕ) → (at k).around ≡ rs k) → (i : ℕ) (ts : Trees) → given mentions_at (visits_from at i ts) ≡ mentions_from us rs i ts
+  all_mentions_told us rs at e f i none = refl
+  all_mentions_told us rs at e f i (t ▸ ts) =
+      given_both mentions_at (visits (at i) t) (visits_from at (suc i) ts)
+      ∙ ap (λ r. r ++ given mentions_at (visits_from at (suc i) ts)) (mentions_told (at i) t ∙ ap (λ u. mentions u (at i).around t) (e i) ∙ ap (λ r. mentions (us i) r t) (f i))
+      ∙ ap (λ r. mentions (us i) (rs i) t ++ r) (all_mentions_told us rs at e f (suc i) ts)

@@ -8,7 +8,11 @@ use Rattle.mini_model.specs.declared.shape.Shape.TheVariants as shape
 use Rattle.mini_model.specs.Tree.{Tree, node, shape_of, children}
 use Rattle.mini_names.specs.declared.Use.TheVariants.{Read}
 use Rattle.mini_names.specs.Scopes.{opened}
-use Rattle.mini_names.specs.Mentions.{is_among}
+use Rattle.mini_names.specs.Mentions.{Mention, mentions, same_variable, is_elsewhere, is_among}
+use Rattle.mini_context.specs.declared.mentions.Mentioned.{Mentioned}
+use Rattle.mini_context.specs.declared.mentions.Mentioned.TheVariants as mentioned
+use Rattle.mini_context.specs.Mentioned.{is_outside, mentioned_at, Joined}
+use Rattle.mini_context.specs.Facts.{is_mentioned_outside}
 use Rattle.mini_names.specs.Bodies.{Frame, Body, no_frame, bodies, fixed_names}
 use Rattle.mini_names.specs.Shared.{script_tops}
 use Rattle.mini_names.specs.ScopeList.{Scope, names_in, scope_from}
@@ -17,8 +21,8 @@ use Rattle.mini_scope.specs.declared.opening.OpenScopes.{OpenScopes}
 use Rattle.mini_context.specs.declared.standing.Standing.{Standing}
 use Rattle.mini_context.specs.Own.{is_script_shape}
 use Rattle.mini_context.specs.Tables.{mark_at, named, Marked, Noted, owners_from}
-use Rattle.mini_context.specs.Visits.{visits, given, fixed_at, bodies_at, frame_in, top}
-use Rattle.mini_context.proofs.Surveys.{fixed_told, bodies_told}
+use Rattle.mini_context.specs.Visits.{visits, given, fixed_at, bodies_at, mentions_at, frame_in, top}
+use Rattle.mini_context.proofs.Surveys.{fixed_told, bodies_told, mentions_told}
 use Rattle.mini_context.proofs.Listings.{owner_told}
 use Rattle.mini_context.proofs.Marking.{marks_add}
 
@@ -70,3 +74,21 @@ pub some_tops : (n : ℕ) (t : Tree) (h : Shape) (v : Bool) (o : OpenScopes) (ol
 some_tops n t h v o old new e f g j m k =
     subst (λ xs. Marked xs (replicate n false) new) (ap (λ s. names_in (s 0)) j ∙ sym (script_is t (ap is_script_shape (sym e) ∙ sym f ∙ g)))
     (subst (λ p. Marked (names_in o.first.items) p new) m k)
+
+-- ---- mentions
+
+nowhere : (n s b : ℕ) → is_outside (mentioned_at (replicate n mentioned.Nowhere) s) b ≡ false
+nowhere zero s b = refl
+nowhere (suc n) zero b = refl
+nowhere (suc n) (suc s) b = nowhere n s b
+
+nowhere_length : (n : ℕ) → length (replicate n mentioned.Nowhere) ≡ n
+nowhere_length zero = refl
+nowhere_length (suc n) = ap suc (nowhere_length n)
+
+pub mentions_by : (n : ℕ) (a : Standing) (t : Tree) (old new : List Mentioned) → a ≡ top → old ≡ replicate n mentioned.Nowhere → Joined (given mentions_at (visits a t)) old new → (s : ℕ) → s < n → (b : ℕ) → is_outside (mentioned_at new s) b ≡ is_mentioned_outside t b (named s)
+mentions_by n a t old new e f j s h b =
+    let p : Mention → Bool = λ m. same_variable (named s) m.name && is_elsewhere b m.around in
+    j.each s (omega (arith, h, ap length f, nowhere_length n)) b
+    ∙ ap (λ v. v || list_any p (given mentions_at (visits a t))) (ap (λ o. is_outside (mentioned_at o s) b) f ∙ nowhere n s b)
+    ∙ ap (list_any p) (mentions_told a t ∙ ap (λ r. mentions r.usage r.around t) e)

@@ -1,15 +1,19 @@
 -- What is known of the names of a program.
-use Rattle.std.specs.Prelude.{ℕ, ◌≡◌, ◌<◌, Bool, List, length, map, slice_index}
+use Rattle.std.specs.Prelude.{ℕ, ◌≡◌, ◌<◌, Bool, List, length, map, slice_index, ◌&&◌}
 use Rattle.mini_model.specs.Tree.{Tree}
 use Rattle.mini_names.specs.References.{reads as is_read, writes as is_write, counts_of}
-use Rattle.mini_names.specs.Mentions.{is_among}
+use Rattle.std.specs.List.{list_any}
+use Rattle.mini_model.specs.declared.name.Name.{Name}
+use Rattle.mini_names.specs.Mentions.{program_mentions, same_variable, is_among, is_elsewhere}
+use Rattle.mini_context.specs.declared.mentions.Mentioned.{Mentioned}
+use Rattle.mini_context.specs.Mentioned.{is_outside, mentioned_at}
 use Rattle.mini_names.specs.Bodies.{fixed_names, this_has_event, has_arguments}
 use Rattle.mini_names.specs.ScopeList.{scopes_of, scope_of_symbol, seen_by_eval}
 use Rattle.mini_names.specs.Shared.{script_tops}
 use Rattle.mini_context.specs.Tables.{mark_at, named}
 
 -- by symbol: how often it is read, and written; whether it can't be written; whether it is one of a script's top names;
--- its scope; whether a direct eval can see it. By scope: whether its code is strict; whether a direct eval stands in it.
+-- its scope; whether a direct eval can see it; where it is mentioned. By scope: whether its code is strict; whether a direct eval stands in it.
 -- By body: whether `this` is an event in it; whether it has an `arguments`
 pub record Facts : Type 0 where
   pub reads : List ℕ
@@ -18,10 +22,15 @@ pub record Facts : Type 0 where
   pub tops : List Bool
   pub owners : List ℕ
   pub seen : List Bool
+  pub mentioned : List Mentioned
   pub strict : List Bool
   pub evals : List Bool
   pub this_events : List Bool
   pub arguments : List Bool
+
+-- whether another body than this, or a carried node, mentions a variable
+abbrev pub is_mentioned_outside : Tree → ℕ → Name → Bool
+is_mentioned_outside t b x = list_any (λ m. same_variable x m.name && is_elsewhere b m.around) (program_mentions t)
 
 -- they are those of a tree with so many symbols
 pub record Tells (f : Facts) (n : ℕ) (t : Tree) : Type 0 where
@@ -33,6 +42,7 @@ pub record Tells (f : Facts) (n : ℕ) (t : Tree) : Type 0 where
   pub seen_told : (s : ℕ) → s < n → mark_at f.seen s ≡ is_among (named s) (seen_by_eval t)
   pub strict_told : f.strict ≡ map (λ r. r.strict) (scopes_of t)
   pub evals_told : f.evals ≡ map (λ r. r.evals) (scopes_of t)
+  pub mentioned_told : (s : ℕ) → s < n → (b : ℕ) → is_outside (mentioned_at f.mentioned s) b ≡ is_mentioned_outside t b (named s)
   pub this_told : (b : ℕ) → mark_at f.this_events b ≡ this_has_event t b
   pub arguments_told : (b : ℕ) → mark_at f.arguments b ≡ has_arguments t b
 

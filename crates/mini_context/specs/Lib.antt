@@ -1,6 +1,7 @@
 pub mod Own
 pub mod Tallies
 pub mod Tables
+pub mod Mentioned
 pub mod Parts
 pub mod Visits
 pub mod Facts

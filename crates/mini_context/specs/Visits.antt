@@ -2,15 +2,16 @@
 use Rattle.std.specs.Prelude.{ℕ, suc, false, List, [], ◌∷◌, ◌++◌}
 use Rattle.mini_model.specs.declared.name.Name.{Name}
 use Rattle.mini_model.specs.Tree.{Tree, Trees, node, none, ◌▸◌, shape_of, children}
-use Rattle.mini_node.specs.Children.{number_of}
+use Rattle.mini_node.specs.Children.{names_of, number_of}
 use Rattle.mini_names.specs.Bodies.{Frame, Body, no_frame, frame_at, frame_of_body, own_body, own_fixed}
 use Rattle.mini_names.specs.declared.Use.TheVariants.{Read}
-use Rattle.mini_names.specs.Mentions.{around_child, numbering_of, outermost}
+use Rattle.mini_names.specs.Mentions.{Mention, own_mentions, around_child, numbering_of, outermost}
 use Rattle.mini_names.specs.Scopes.{use_of}
 use Rattle.mini_names.specs.Strict.{is_strict_in}
 use Rattle.mini_context.specs.declared.standing.Frame.{Frame as FrameHeld}
 use Rattle.mini_context.specs.declared.standing.Standing.{Standing}
 use Rattle.mini_context.specs.declared.survey.Tables.{Tables}
+use Rattle.mini_context.specs.Mentioned.{Joined}
 use Rattle.mini_context.specs.Tables.{Marked, Noted}
 
 -- what `this` and `arguments` are, as the code holds it
@@ -57,8 +58,12 @@ fixed_at v = own_fixed (shape_of v.tree) (children v.tree)
 abbrev pub bodies_at : Visit → List Body
 bodies_at v = own_body (numbering_of (shape_of v.tree) (number_of v.tree)) (number_of v.tree) (frame_of_body (shape_of v.tree) (frame_in v.standing.frame))
 
+abbrev pub mentions_at : Visit → List Mention
+mentions_at v = own_mentions v.standing.usage v.standing.around (shape_of v.tree) (names_of v.tree)
+
 -- what a walk past these nodes puts into the tables
 pub record Surveyed (vs : List Visit) (old new : Tables) : Type 0 where
   pub fixed : Marked (given fixed_at vs) old.fixed.items new.fixed.items
   pub this_events : Noted (λ f. f.binds_this) (given bodies_at vs) old.this_events.items new.this_events.items
   pub arguments : Noted (λ f. f.has_arguments) (given bodies_at vs) old.arguments.items new.arguments.items
+  pub mentions : Joined (given mentions_at vs) old.mentioned.items new.mentioned.items

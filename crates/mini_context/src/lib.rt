@@ -8,6 +8,7 @@ mod count;
 mod laws;
 mod listing;
 mod marks;
+mod mentions;
 mod parts;
 mod refreshing;
 mod resolution;

@@ -5,6 +5,7 @@ ghost use Rattle.mini_names.specs.declared.Use.TheVariants as variant;
 ghost use Rattle.mini_names.specs.References.{references, reads as is_read, writes as is_write};
 ghost use Rattle.mini_names.specs.ScopeList.{seen_by_eval as seen_names};
 ghost use Rattle.mini_names.specs.Shared.{script_tops as script_tops_of};
+ghost use Rattle.mini_context.specs.Mentioned.{is_outside as is_outside_of, mentioned_at as entry_at};
 ghost use Rattle.mini_context.specs.Own.{is_script_shape};
 ghost use Rattle.mini_context.specs.Facts.{Refreshed, Tells};
 ghost use Rattle.mini_context.specs.Tables.{mark_at, Marked};
@@ -13,6 +14,7 @@ ghost use Rattle.mini_context.specs.Tallies.{Contained, FellBy};
 use crate::count::{Counts, count_out, own_counts};
 use crate::listing::{ScopeTables, list_scopes, no_scopes};
 use crate::marks::{is_marked, mark_bindings, no_marks};
+use crate::mentions::{is_outside, mentioned_at};
 use crate::standing::at_top;
 use crate::steps::Steps;
 use crate::survey::{Tables, no_tables, survey_node};
@@ -39,12 +41,13 @@ pub struct Scopes {
 }
 
 impl Model for Scopes {
+    ghost use Rattle.mini_context.specs.Mentioned.{is_outside as is_outside_of, mentioned_at as entry_at};
     ghost use Rattle.mini_context.specs.Own.{is_script_shape};
     ghost use Rattle.mini_context.specs.Facts.{Facts};
 
     ghost Value = { Facts };
 
-    ghost view = { λ b. record { reads = b.counts.reads.items; writes = b.counts.writes.items; fixed = b.tables.fixed.items; tops = b.tops.items; owners = b.scopes.owners.items; seen = b.scopes.seen.items; strict = b.scopes.strict.items; evals = b.scopes.evals.items; this_events = b.tables.this_events.items; arguments = b.tables.arguments.items } };
+    ghost view = { λ b. record { reads = b.counts.reads.items; writes = b.counts.writes.items; fixed = b.tables.fixed.items; tops = b.tops.items; owners = b.scopes.owners.items; seen = b.scopes.seen.items; mentioned = b.tables.mentioned.items; strict = b.scopes.strict.items; evals = b.scopes.evals.items; this_events = b.tables.this_events.items; arguments = b.tables.arguments.items } };
 }
 
 fn count_at(counts: &[u32], at: u32) -> u32
@@ -167,6 +170,16 @@ impl Scopes {
         ensures { result ≡ mark_at self.now.seen symbol.0 }
     {
         is_marked(self.scopes.seen.as_slice(), symbol.0)
+    }
+
+    /// Whether another body than the one with this number, or a carried node, declares, binds, reads or writes the symbol.
+    pub fn is_mentioned_outside(&self, symbol: SymbolId, body: u32) -> bool
+        ensures { result ≡ is_outside_of (entry_at self.now.mentioned symbol.0) body }
+    {
+        is_outside(
+            mentioned_at(self.tables.mentioned.as_slice(), symbol.0),
+            body,
+        )
     }
 
     /// Whether the scope's code is strict. (ECMA-262, "Strict Mode Code".)

@@ -4,9 +4,11 @@ ghost use Rattle.std.specs.Prelude.{◌≡◌, ℕ, ◌||◌, ◌&&◌, [], ◌�
 ghost use Rattle.mini_model.specs.Tree.{children, shape_of};
 ghost use Rattle.mini_names.specs.Bodies.{own_fixed};
 ghost use Rattle.mini_context.specs.Tables.{mark_at, Marked, Noted};
+ghost use Rattle.mini_context.specs.declared.mentions.Mentioned.TheVariants as mentioned;
 ghost use Rattle.mini_context.specs.Visits.{below, bodies_at, visits, visits_from, Surveyed};
 
 use crate::marks::no_marks;
+use crate::mentions::{Mentioned, join_own, no_mentions};
 use crate::parts::{fixed_part, mark_part};
 use crate::standing::{Standing, frame_in_body, numbering_of, standing_below};
 use mini_names::Numbering;
@@ -19,6 +21,8 @@ use std::alloc::Global;
 pub struct Tables {
     /// The names that can't be written.
     pub fixed: Vec<bool>,
+    /// Where each symbol is mentioned.
+    pub mentioned: Vec<Mentioned>,
     /// The bodies in which `this` is an event.
     pub this_events: Vec<bool>,
     /// The bodies that have an `arguments`.
@@ -28,11 +32,13 @@ pub struct Tables {
 /// Tables for so many symbols, without a mark.
 pub fn no_tables(alloc: Global, symbols: u32) -> Result<Tables, OutOfMemory>
     ensures fixed { IfOk result (λ tables. tables.fixed.items ≡ replicate symbols false) }
+    ensures mentioned { IfOk result (λ tables. tables.mentioned.items ≡ replicate symbols mentioned.Nowhere) }
     ensures this_events { IfOk result (λ tables. tables.this_events.items ≡ []) }
     ensures arguments { IfOk result (λ tables. tables.arguments.items ≡ []) }
 {
     Ok(Tables {
         fixed: no_marks(alloc, symbols)?,
+        mentioned: no_mentions(alloc, symbols)?,
         this_events: Vec::new(alloc),
         arguments: Vec::new(alloc),
     })
@@ -66,6 +72,7 @@ fn mark_number(marks: &mut Vec<bool>, number: u32, holds: bool) -> Result<(), Ou
 
 fn mark_body(tables: &mut Tables, standing: Standing, node: &Node) -> Result<(), OutOfMemory>
     ensures fixed { OnOk result (tables.new.fixed ≡ tables.old.fixed) }
+    ensures mentioned { OnOk result (tables.new.mentioned ≡ tables.old.mentioned) }
     ensures this_events { OnOk result (Noted (λ f. f.binds_this) (bodies_at (record { standing = standing; tree = node.now })) tables.old.this_events.items tables.new.this_events.items) }
     ensures arguments { OnOk result (Noted (λ f. f.has_arguments) (bodies_at (record { standing = standing; tree = node.now })) tables.old.arguments.items tables.new.arguments.items) }
 {
@@ -87,6 +94,7 @@ fn visit(tables: &mut Tables, standing: Standing, node: &Node) -> Result<(), Out
     ensures { OnOk result (Surveyed (record { standing = standing; tree = node.now } ∷ []) tables.old tables.new) }
 {
     mark_fixed(&mut tables.fixed, node);
+    join_own(&mut tables.mentioned, standing, node);
     mark_body(tables, standing, node)
 }
 
