@@ -34,7 +34,6 @@ pub mod FrameLists
 pub mod FramePlaces
 pub mod FrameSteps
 pub mod FrameRows
-pub mod SameWeight
 pub mod Counts
 pub mod SameSymbols
 pub mod ReadBack

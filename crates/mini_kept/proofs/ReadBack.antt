@@ -5,7 +5,6 @@ use Rattle.serde_json.specs.Data.{Data}
 use Rattle.mini_model.specs.declared.place.Position.{Position}
 use Rattle.mini_model.specs.declared.place.Position.TheVariants.{Elsewhere}
 use Rattle.mini_model.specs.Tree.{Tree}
-use Rattle.mini_model.specs.Weight.{program_weight}
 use Rattle.mini_model.specs.Redex.{Row, Contracts}
 use Rattle.mini_model.specs.Rewriting.{Step, here, inside, Reaches, done, more}
 use Rattle.mini_names.specs.declared.Use.TheVariants.{Read}
@@ -21,8 +20,6 @@ use Rattle.mini_accept.specs.WellShaped.{IsWellShaped}
 use Rattle.mini_accept.proofs.Numbers.{program_numbered}
 use Rattle.mini_accept.proofs.Shaped.{program_shaped}
 use Rattle.mini_accept.proofs.Symbols.{program_unresolved}
-use Rattle.mini_meaning.specs.Body.{frame_of_shape, frame_of}
-use Rattle.mini_laws.proofs.Rewritten.{frame_kept}
 use Rattle.mini_kept.specs.Carried.{numbers, number_of, symbol_numbers, carried}
 use Rattle.mini_kept.specs.KeepsNames.{count_of}
 use Rattle.mini_kept.specs.Lifted.{ProgramKeeps}
@@ -35,7 +32,6 @@ use Rattle.mini_kept.proofs.SameShape.{shaped_resolved}
 use Rattle.mini_kept.proofs.SameEarly.{shape_text, names_alike, jumps_alike, names_resolved, jumps_resolved}
 use Rattle.mini_kept.proofs.SameSymbols.{symbols_alike}
 use Rattle.mini_kept.proofs.SymbolsOnce.{symbol, distinct_once, distinct_numbered, distinct_length}
-use Rattle.mini_kept.proofs.SameWeight.{weights_again}
 use Rattle.mini_kept.proofs.Counts.{still_there, once_behind}
 
 -- a tree as it is read
@@ -56,9 +52,6 @@ pub accepted_same : (d f : Data) (t u : Tree) → Accepts d t → Accepts f u �
 accepted_same d f t u (k, n, a) (j, m, b) e = read_same t u n m (accepted_read k d t n a) (accepted_read j f u m b) e
 
 -- ---- the root
-
-frame_alike : (t u : Tree) → text t ≡ text u → frame_of t ≡ frame_of u
-frame_alike t u e = read_alike frame_of (λ v. ap frame_of_shape (shape_text v)) t u e
 
 step_root : {p : Position} {t u : Tree} → ((v w : Tree) → Row p v w → ⊥) → Step Contracts p t u → number_of u ≡ number_of t
 step_root never (here p t u c) = absurd (never t u c.row)
@@ -83,10 +76,6 @@ pub record IsReadBack (t v u : Tree) : Type 0 where
   -- u has no early error where t has none
   pub names : early_names [] t ≡ [] → early_names [] u ≡ []
   pub jumps : early_jumps no_targets [] t ≡ [] → early_jumps no_targets [] u ≡ []
-  -- its frame is that of t
-  pub frame : frame_of t ≡ frame_of u
-  -- what rewriting took from the one, it took from the other
-  pub weights : program_weight u + program_weight (resolved_program t) ≡ program_weight t + program_weight v
 
 pub read_back : (t v u : Tree) (n m : ℕ) → IsRead t n → IsRead u m → Reaches Contracts Elsewhere (resolved_program t) v → text u ≡ text v → IsReadBack t v u
 read_back t v u n m a b r e =
@@ -100,8 +89,6 @@ read_back t v u n m a b r e =
       symbols_once = distinct_once (declared_symbols v) distinct;
       names = λ o. names_alike [] u v e ∙ keeps.once before (names_resolved [] t ∙ o);
       jumps = λ o. jumps_alike no_targets [] u v e ∙ keeps.targets before (jumps_resolved no_targets [] t ∙ o);
-      frame = frame_alike t (resolved_program t) (sym (text_resolved t)) ∙ frame_kept (resolved_program t) v r ∙ frame_alike v u (sym e);
-      weights = weights_again t v u a.unresolved b.unresolved r e;
     }
   where
     keeps : ProgramKeeps (resolved_program t) v

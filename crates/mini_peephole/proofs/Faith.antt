@@ -1,107 +1,52 @@
 -- Passes of rewrites give a faithful answer.
-use Rattle.std.proofs.Common.{◌≡◌, ℕ, zero, suc, ◌+◌, ◌<◌, ◌≤◌, ◌^◌, Bool, true, false, List, [], ◌∷◌, ◌++◌, refl, sym, ap, ◌∙◌, subst, arith}
-use Rattle.std.specs.Prelude.{◌==◌, Contains, Some, Ok}
-use Rattle.std.proofs.lemmas.Bool.{and_parts, eqb-true}
+use Rattle.std.proofs.Common.{◌≡◌, ℕ, suc, ◌+◌, ◌<◌, ◌≤◌, ◌^◌, max, Bool, true, false, ◌∷◌, refl, sym, ap, ◌∙◌, subst, arith}
+use Rattle.std.specs.Prelude.{Contains, None, Ok, length}
 use Rattle.serde_json.specs.Data.{Data}
 use Rattle.serde_json.specs.View.{view}
-use Rattle.mini_model.specs.declared.name.Name.{Name}
 use Rattle.mini_model.specs.declared.place.Position.{Position}
 use Rattle.mini_model.specs.declared.place.Position.TheVariants.{Elsewhere}
-use Rattle.mini_model.specs.declared.shape.Shape.{Shape}
-use Rattle.mini_model.specs.declared.shape.Shape.TheVariants as shape
-use Rattle.mini_model.specs.Tree.{Tree, Trees, node, none, ◌▸◌, children}
+use Rattle.mini_model.specs.Tree.{Tree, Trees, node}
 use Rattle.mini_model.specs.Weight.{weight, program_weight}
 use Rattle.mini_model.specs.Redex.{Contracts, HasNoRedex, HaveNoRedex}
 use Rattle.mini_model.specs.Rewriting.{Step, StepIn, here, inside, first, later, Reaches, done, more}
-use Rattle.mini_meaning.specs.Value.{nothing}
-use Rattle.mini_meaning.specs.State.{Environment}
-use Rattle.mini_meaning.specs.Body.{Program, environment_of}
-use Rattle.mini_laws.proofs.Rewritten.{program_same, frame_kept}
+use Rattle.mini_names.specs.Resolved.{resolved_program}
+use Rattle.mini_names.specs.Symbols.{declared_symbols}
+use Rattle.mini_scope.specs.Pointers.{early_fault}
+use Rattle.mini_meaning.specs.Value.{VariableSet}
+use Rattle.mini_meaning.specs.Body.{environment_in}
+use Rattle.mini_meaning.specs.Bodies.{Body, bodies_in}
 use Rattle.mini_tree.specs.declared.options.CompressOptions.{CompressOptions}
-use Rattle.mini_accept.specs.WellShaped.{a_program, one, IsWellShaped}
+use Rattle.mini_accept.specs.WellShaped.{one, a_program, fits, IsWellShaped}
 use Rattle.mini_accept.specs.Accept.{program_at, Accepts}
 use Rattle.mini_accept.proofs.Depths.{one_tree}
-use Rattle.mini_kept.specs.Nodes.{each_node, each_nodes}
-use Rattle.mini_kept.specs.Kept.{AdmitsWritten, over}
-use Rattle.mini_kept.proofs.Bools.{left, right}
-use Rattle.mini_kept.proofs.Each.{reaches_each, reaches_below}
-use Rattle.mini_kept.proofs.Expressions.{refused_here}
+use Rattle.mini_kept.specs.AlikeBodies.{AlikeBody}
+use Rattle.mini_kept.specs.Carried.{numbers, symbol_numbers, carried}
+use Rattle.mini_kept.specs.Frames.{FramesKept, frames_in}
+use Rattle.mini_kept.proofs.BodyLists.{kept_stands}
+use Rattle.mini_kept.proofs.BodyRows.{rows_keep_bodies}
+use Rattle.mini_kept.proofs.BodySteps.{reaches_keeps_bodies}
+use Rattle.mini_kept.proofs.FrameRows.{rows_keep_frames}
+use Rattle.mini_kept.proofs.FrameSteps.{reaches_keeps_frames}
 use Rattle.mini_kept.proofs.Programs.{reaches_well_shaped}
+use Rattle.mini_kept.proofs.Fixed.{program_keeps_fixities}
+use Rattle.mini_kept.proofs.InPreorder.{preorder_same}
+use Rattle.mini_kept.proofs.ReadBack.{IsRead, IsReadBack, read_back}
+use Rattle.mini_kept.proofs.SameShape.{shaped_resolved}
+use Rattle.mini_kept.proofs.Steps.{step_fits}
+use Rattle.mini_kept.proofs.Texts.{text, text_resolved}
+use Rattle.mini_writer.specs.Written.{program_data}
 use Rattle.mini_walk.specs.Passes.{MakesPasses}
 use Rattle.mini_logic.specs.Joined.{Gives, Rests}
 use Rattle.mini_logic.proofs.Joined.{reaches_contract, rests_everywhere}
-use Rattle.mini_peephole.specs.Supported.{is_supported_shape, supported, is_supported}
+use Rattle.mini_peephole.specs.Environments.{shared_by, foreign_to, initialised_for, environment_with}
 use Rattle.mini_peephole.specs.Minified.{IsRewriting}
-use Rattle.mini_peephole.specs.Faithful.{numbered_below, numbered_all, numbered, body_of, declared_by, declared, declared_all, IsKept, AreKept, AreSpelled, BeginsWithProgram, HasNoRepeat, IsFaithful, Faithful, PassesBounded}
+use Rattle.mini_peephole.specs.Faithful as faith
+use Rattle.mini_peephole.specs.Faithful.{earlier, symbols_of, declared, HasNoRepeat, BeginsWithProgram, AreNamed, RunsAlike, IsSameBody, BodiesAreSame, IsFaithful, Faithful, PassesBounded}
 use Rattle.mini_peephole.specs.declared.minify.Minified.{Minified}
-use Rattle.mini_peephole.proofs.Bare.{nameless, unnumbered, program_unnumbered, number_of}
-use Rattle.mini_peephole.proofs.Written.{Plain, accepted_plain, written_back}
-
--- ---- the one numbered node
-
-mutual
-  none_below : (t : Tree) → each_node unnumbered t ≡ true → numbered_below t ≡ []
-  none_below (node h xs zero ts) e = none_numbered ts (right (zero == 0) (each_nodes unnumbered ts) e)
-  none_below (node h xs (suc n) ts) e = absurd (cc (eqb-true (suc n) 0 (left (suc n == 0) (each_nodes unnumbered ts) e)))
-
-  none_numbered : (ts : Trees) → each_nodes unnumbered ts ≡ true → numbered_all ts ≡ []
-  none_numbered none e = refl
-  none_numbered (t ▸ ts) e =
-      let (own, rest) = and_parts (each_node unnumbered t) (each_nodes unnumbered ts) e in
-      λ k. none_below t own k ++ none_numbered ts rest k
-
-root_alone : (t : Tree) → each_nodes unnumbered (children t) ≡ true → numbered t ≡ t ∷ []
-root_alone (node h xs n ts) e = ap (λ us. node h xs n ts ∷ us) (none_numbered ts e)
-
-numbered_program : (t : Tree) → Plain t → numbered t ≡ t ∷ []
-numbered_program t p = root_alone t (program_unnumbered t p.shaped p.supported)
-
-body_is : (t : Tree) → IsWellShaped t → body_of t ≡ Some Program
-body_is (node (shape.Program m ds) xs n ts) e = refl
-body_is (node h xs n ts) e = absurd (refused_here false (one a_program) h xs n ts refl e)
-
--- ---- no name is declared
-
-undeclared_by : (h : Shape) (xs : List Name) → is_supported_shape h ≡ true → declared_by h xs ≡ []
-undeclared_by shape.BindingIdentifier xs e = absurd (cc e)
-undeclared_by h xs e = refl
-
-mutual
-  undeclared : (t : Tree) → each_node supported t ≡ true → declared t ≡ []
-  undeclared (node h xs n ts) e =
-      let (own, below) = and_parts (is_supported_shape h) (each_nodes supported ts) e in
-      λ k. undeclared_by h xs own k ++ all_undeclared ts below k
-
-  all_undeclared : (ts : Trees) → each_nodes supported ts ≡ true → declared_all ts ≡ []
-  all_undeclared none e = refl
-  all_undeclared (t ▸ ts) e =
-      let (own, rest) = and_parts (each_node supported t) (each_nodes supported ts) e in
-      λ k. undeclared t own k ++ all_undeclared ts rest k
-
-program_undeclared : (t : Tree) → Plain t → declared t ≡ []
-program_undeclared (node (shape.Program m ds) xs n ts) p = all_undeclared ts p.supported
-program_undeclared (node h xs n ts) p = absurd (refused_here false (one a_program) h xs n ts refl p.shaped)
-
--- ---- what rewriting keeps
-
-nameless_admits : AdmitsWritten nameless
-nameless_admits = record { negation = refl; conditional = refl; or = refl; and = refl; statement = refl; turned = λ xs n. refl }
-
-supported_admits : AdmitsWritten supported
-supported_admits = record { negation = refl; conditional = refl; or = refl; and = refl; statement = refl; turned = λ xs n. refl }
-
-number_over : (t : Tree) (us : Trees) → number_of (over t us) ≡ number_of t
-number_over (node h xs n ts) us = refl
-
-reached_plain : (t u : Tree) → Reaches Contracts Elsewhere t u → Plain t → Plain u
-reached_plain t u r p =
-    let (below, root) = reaches_below supported supported_admits (λ v w x. x) r p.supported in
-    record {
-      shaped = reaches_well_shaped r p.shaped;
-      supported = below;
-      names = reaches_each nameless nameless_admits r p.names;
-      number = ap number_of root ∙ number_over t (children u) ∙ p.number;
-    }
+use Rattle.mini_peephole.proofs.Heaviest.{resolved_lighter}
+use Rattle.mini_peephole.proofs.Repeats.{no_repeat}
+use Rattle.mini_peephole.proofs.Spelled.{still_declared}
+use Rattle.mini_peephole.proofs.Written.{is_read, free_of, read_again}
 
 -- ---- a program without a redex has no rewrite
 
@@ -118,85 +63,137 @@ stays : {p : Position} {t u : Tree} → Reaches Contracts p t u → HasNoRedex p
 stays (done p t) f = refl
 stays (more p t w u st r) f = absurd (no_step st f)
 
--- ---- one program kept as one
+-- ---- bodies
 
-kept_program : (t u : Tree) → Reaches Contracts Elsewhere t u → body_of t ≡ Some Program → body_of u ≡ Some Program → IsKept (environment_of u) t u
-kept_program t u r bt bu = record {
-  frame = frame_kept t u r;
-  kind = bt ∙ sym bu;
-  body = λ k e. program_same t u r (environment_of u) k nothing;
-}
+environments : (t u : Tree) → Reaches Contracts Elsewhere t u → (shared foreign : VariableSet) (b c : Body) → b.strict ≡ c.strict → b.asks_this ≡ c.asks_this → environment_with t shared foreign b ≡ environment_with u shared foreign c
+environments t u r shared foreign b c s a =
+    (λ k. environment_in t shared foreign (s k) (a k))
+    ∙ (λ k. record { shared = shared; foreign = foreign; fixed = λ x. program_keeps_fixities t u r c.strict x k; asks_this = c.asks_this })
 
-is_kept : (e : Environment) (t u : Tree) (ts us : List Tree) (ks : List ℕ) → ts ≡ t ∷ [] → us ≡ u ∷ [] → ks ≡ 0 ∷ [] → IsKept e t u → AreKept e ts ks us
-is_kept e t u ts us ks a b c k = subst (λ x. AreKept e x ks us) (sym a) (subst (λ x. AreKept e (t ∷ []) ks x) (sym b) (subst (λ x. AreKept e (t ∷ []) x (u ∷ [])) (sym c) ((t, refl, k), tt)))
-
-no_symbols : (t u : Tree) (ks : List ℕ) → ks ≡ [] → declared u ≡ [] → AreSpelled (declared t) ks (declared u)
-no_symbols t u ks c d = subst (λ x. AreSpelled (declared t) x (declared u)) (sym c) (subst (AreSpelled (declared t) []) (sym d) tt)
-
-faithful_trees : (o : CompressOptions) (m : Minified) (t u : Tree) → Plain t → Plain u → weight Elsewhere t < 2 ^ 32 → MakesPasses Gives Rests t u o.passes m.passes m.settled → m.kept ≡ 0 ∷ [] → m.symbols ≡ [] → IsFaithful o m t u
-faithful_trees o m t u pt pu light made kept symbols =
-    let reached = reaches_contract Elsewhere t u made.reached in
-    let some = made.some_pass in
-    let l = made.lighter in
+same_body : (t u : Tree) → Reaches Contracts Elsewhere t u → (b c : Body) → AlikeBody b c → IsSameBody t u b c
+same_body t u r b c a =
+    let e = environment_with u (shared_by u c) (foreign_to u c) c in
+    let X = initialised_for u c in
     record {
-      begins = subst BeginsWithProgram (sym kept) refl;
-      kept_once = subst HasNoRepeat (sym kept) ((λ c. none_there c), tt);
-      kept = is_kept (environment_of u) t u (numbered t) (numbered u) m.kept (numbered_program t pt) (numbered_program u pu) kept (kept_program t u reached (body_is t pt.shaped) (body_is u pu.shaped));
-      symbols_once = subst HasNoRepeat (sym symbols) tt;
-      symbols = no_symbols t u m.symbols symbols (program_undeclared u pu);
-      weight = omega (arith, some, l);
-      some_pass = made.some_pass;
-      within = made.within;
-      settled = λ e. rests_everywhere Elsewhere u (omega (arith, some, l, light)) (made.ended e);
-      unsettled = λ e. let s = made.stopped e in let same = s.0 in let less = s.1 in omega (arith, same, less);
-    }
-  where
-    none_there : Contains {X = ℕ} [] 0 → ⊥
-    none_there c = let below : c.0 < 0 = c.1 in omega (arith, below)
-
-pub faithful : (d : Data) (o : CompressOptions) (m : Minified) (t : Tree) (k n : ℕ) → program_at k d ≡ Ok (t, n) → is_supported t ≡ true → weight Elsewhere t < 2 ^ 32 → IsRewriting t o.passes m → Faithful d o m
-faithful d o m t k n a s light r =
-    let pt = accepted_plain k n t d a s in
-    let pu = reached_plain t r.output (reaches_contract Elsewhere t r.output r.passes.reached) pt in
-    record {
-      input = t;
-      output = r.output;
-      accepted = (k, n, a);
-      answered = subst (λ v. Accepts v r.output) (sym r.written) (written_back r.output pu);
-      faithful = faithful_trees o m t r.output pt pu light r.passes r.kept r.symbols;
+      number = a.number;
+      kind = a.kind;
+      same = subst (λ d. RunsAlike d e c.kind X b.root c.root) (sym (environments t u r (shared_by u c) (foreign_to u c) b c a.strict a.asks_this)) (subst (λ k. RunsAlike e e k X b.root c.root) a.kind (record { by = (a.same e X).by }));
     }
 
-settles : (b : Bool) → (b ≡ false → ⊥) → b ≡ true
-settles true f = refl
-settles false f = absurd (f refl)
+bodies_same : (t u : Tree) → Reaches Contracts Elsewhere t u → IsWellShaped t → BodiesAreSame t u
+bodies_same t u r e c there =
+    let kept = reaches_keeps_bodies Contracts rows_keep_bodies (fits false (one a_program)) (λ v w. w) (λ v w s x. step_fits s false (one a_program) x) t u r e in
+    let (b, stands, alike) = kept_stands (bodies_in t) (bodies_in u) kept c there in
+    (b, stands, same_body t u r b c alike)
 
-pub passes_bounded : (d : Data) (o : CompressOptions) (m : Minified) (t : Tree) (k n : ℕ) → program_at k d ≡ Ok (t, n) → is_supported t ≡ true → IsRewriting t o.passes m → PassesBounded d o m
-passes_bounded d o m t k n a s r = record {
-  settled = λ v w b c e. bounded v w b c;
-  unsettled = λ e. (r.passes.stopped e).0;
-  enough = λ v b e. settles m.settled (λ f. let s = r.passes.stopped f in let same = s.0 in let less = s.1 in let k = ap (weight Elsewhere) (one_tree d v t b read) in omega (arith, same, less, k, e));
-  fixed = λ v b f. fixed v b f;
+frames_same : (t u : Tree) → Reaches Contracts Elsewhere t u → IsWellShaped t → FramesKept (frames_in t) (frames_in u)
+frames_same t u r e = reaches_keeps_frames Contracts rows_keep_frames (fits false (one a_program)) (λ v w. w) (λ v w s x. step_fits s false (one a_program) x) t u r e
+
+-- ---- the whole
+
+-- t is read, its resolved form becomes v, and u is v read again
+pub record Made (o : CompressOptions) (m : Minified) (t v u : Tree) : Type 0 where
+  pub passes : MakesPasses Gives Rests (resolved_program t) v o.passes m.passes m.settled
+  pub kept : m.kept ≡ 0 ∷ numbers v
+  pub symbols : m.symbols ≡ symbol_numbers (declared_symbols v)
+  pub back : IsReadBack t v u
+
+named : (m : Minified) (t v u : Tree) → IsReadBack t v u → m.kept ≡ 0 ∷ numbers v → m.symbols ≡ symbol_numbers (declared_symbols v) → AreNamed m.kept m.symbols t u
+named m t v u r kept symbols = record {
+  begins = subst BeginsWithProgram (sym kept) refl;
+  each_node = ap length kept ∙ ap suc (sym r.each_number);
+  kept_there = λ k c. r.numbers_there k (subst (λ ks. Contains ks k) kept c);
+  kept_once = subst HasNoRepeat (sym kept) (no_repeat (0 ∷ numbers v) r.numbers_once);
+  each_symbol = ap length symbols ∙ r.each_symbol;
+  symbols_once = subst HasNoRepeat (sym symbols) (no_repeat (symbol_numbers (declared_symbols v)) r.symbols_once);
 }
-  where
-    read : Accepts d t
-    read = (k, n, a)
 
-    reached : Reaches Contracts Elsewhere t r.output
-    reached = reaches_contract Elsewhere t r.output r.passes.reached
+-- the later program, in the earlier one's numbers and symbols, is what rewriting gave
+later_is : (o : CompressOptions) (m : Minified) (t v u : Tree) → Made o m t v u → faith.later m u ≡ v
+later_is o m t v u made = (λ k. carried (made.kept k) (symbols_of (made.symbols k)) (resolved_program u)) ∙ made.back.later
 
-    written : Accepts (view m.program) r.output
-    written = subst (λ v. Accepts v r.output) (sym r.written) (written_back r.output (reached_plain t r.output reached (accepted_plain k n t d a s)))
+faithful_trees : (o : CompressOptions) (m : Minified) (t v u : Tree) → IsWellShaped (resolved_program t) → early_fault t ≡ None → weight Elsewhere (resolved_program t) < 2 ^ 32 → Made o m t v u → IsFaithful o m t u
+faithful_trees o m t v u shaped free light made =
+    let reached = reaches_contract Elsewhere (resolved_program t) v made.passes.reached in
+    let whole = later_is o m t v u made in
+    let some = made.passes.some_pass in
+    let less = made.passes.lighter in
+    record {
+      names = made.back.names (free_of t free).0;
+      jumps = made.back.jumps (free_of t free).1;
+      named = named m t v u made.back made.kept made.symbols;
+      spelled = λ x c. still_declared (resolved_program t) v reached x (subst (λ w. Contains (declared w) x) whole c);
+      frames = subst (λ w. FramesKept (frames_in (resolved_program t)) (frames_in w)) (sym whole) (frames_same (resolved_program t) v reached shaped);
+      bodies = subst (BodiesAreSame (resolved_program t)) (sym whole) (bodies_same (resolved_program t) v reached shaped);
+      weight = subst (λ w. program_weight w ≤ program_weight (resolved_program t)) (sym whole) (omega (arith, some, less));
+      some_pass = some;
+      within = made.passes.within;
+      settled = λ e. subst (HasNoRedex Elsewhere) (sym whole) (rests_everywhere Elsewhere v (omega (arith, some, less, light)) (made.passes.ended e));
+      unsettled = λ e. let (same, fell) = made.passes.stopped e in subst (λ w. program_weight w + max o.passes 1 ≤ program_weight (resolved_program t)) (sym whole) (omega (arith, same, fell));
+    }
 
-    bounded : (v w : Tree) → Accepts d v → Accepts (view m.program) w → program_weight w + m.passes ≤ program_weight v + 1
-    bounded v w b c = let k = ap (weight Elsewhere) (one_tree d v t b read) in let l = ap (weight Elsewhere) (one_tree (view m.program) w r.output c written) in let h = r.passes.lighter in omega (arith, k, l, h)
+module _ (d : Data) (o : CompressOptions) (m : Minified) (t : Tree) (k n : ℕ) (read : program_at k d ≡ Ok (t, n)) (free : early_fault t ≡ None) (r : IsRewriting (resolved_program t) o.passes m) where
+  start : IsRead t n
+  start = is_read d k n t read
 
-    fixed : (v : Tree) → Accepts d v → HasNoRedex Elsewhere v → Accepts (view m.program) v × (m.passes ≡ 1) × (m.settled ≡ true)
-    fixed v b f =
-        let same : r.output ≡ t = stays reached (subst (HasNoRedex Elsewhere) (one_tree d v t b read) f) in
-        let w = ap (weight Elsewhere) same in
-        let some = r.passes.some_pass in
-        let h = r.passes.lighter in (
-          subst (Accepts (view m.program)) (same ∙ one_tree d t v read b) written,
-          omega (arith, w, some, h),
-          settles m.settled (λ g. let s = r.passes.stopped g in let less = s.1 in omega (arith, w, some, less)),
-        )
+  reached : Reaches Contracts Elsewhere (resolved_program t) r.output
+  reached = reaches_contract Elsewhere (resolved_program t) r.output r.passes.reached
+
+  again : (u : Tree) × Accepts (program_data r.output) u × (text u ≡ text r.output)
+  again = read_again r.output (reaches_well_shaped reached (shaped_resolved t start.shaped))
+
+  accepted : Accepts (program_data r.output) again.0
+  accepted = again.1
+
+  answer_read : IsRead again.0 accepted.1
+  answer_read = is_read (program_data r.output) accepted.0 accepted.1 again.0 accepted.2
+
+  written : Accepts (view m.program) again.0
+  written = subst (λ w. Accepts w again.0) (sym r.written) accepted
+
+  made : Made o m t r.output again.0
+  made = record { passes = r.passes; kept = r.kept; symbols = r.symbols; back = read_back t r.output again.0 n accepted.1 start answer_read reached again.2 }
+
+  pub faithful : weight Elsewhere t < 2 ^ 32 → Faithful d o m
+  faithful light = record {
+    input = t;
+    output = again.0;
+    accepted = (k, n, read);
+    answered = written;
+    faithful = faithful_trees o m t r.output again.0 (shaped_resolved t start.shaped) free (let a = resolved_lighter t start.unresolved in omega (arith, a, light)) made;
+  }
+
+  settles : (b : Bool) → (b ≡ false → ⊥) → b ≡ true
+  settles true f = refl
+  settles false f = absurd (f refl)
+
+  -- the trees of both values are these
+  input_weight : (v : Tree) → Accepts d v → program_weight (earlier v) ≡ program_weight (resolved_program t)
+  input_weight v a = ap (λ w. weight Elsewhere (resolved_program w)) (one_tree d v t a (k, n, read))
+
+  bounded : (v w : Tree) → Accepts d v → Accepts (view m.program) w → program_weight (faith.later m w) + m.passes ≤ program_weight (earlier v) + 1
+  bounded v w a b =
+      let x = input_weight v a in
+      let y = ap (weight Elsewhere) (ap (faith.later m) (one_tree (view m.program) w again.0 b written) ∙ later_is o m t r.output again.0 made) in
+      let h = r.passes.lighter in
+      omega (arith, x, y, h)
+
+  enough : (v : Tree) → Accepts d v → program_weight (earlier v) < max o.passes 1 → m.settled ≡ true
+  enough v a h = settles m.settled (λ s. let (same, fell) = r.passes.stopped s in let x = input_weight v a in omega (arith, same, fell, x, h))
+
+  fixed : (v : Tree) → Accepts d v → HasNoRedex Elsewhere (earlier v) → Accepts (view m.program) v × (m.passes ≡ 1) × (m.settled ≡ true)
+  fixed v a f =
+      let one = one_tree d v t a (k, n, read) in
+      let same : r.output ≡ resolved_program t = stays reached (subst (λ w. HasNoRedex Elsewhere (resolved_program w)) one f) in
+      let w = ap (weight Elsewhere) same in
+      let some = r.passes.some_pass in
+      let h = r.passes.lighter in
+      let q = answer_read in
+      let unchanged : again.0 ≡ t = preorder_same again.0 t accepted.1 n q.preorder start.preorder q.unresolved start.unresolved q.shaped start.shaped (again.2 ∙ ap text same ∙ text_resolved t) in (
+        subst (Accepts (view m.program)) (unchanged ∙ sym one) written,
+        omega (arith, w, some, h),
+        settles m.settled (λ s. let (all, fell) = r.passes.stopped s in omega (arith, w, some, fell)),
+      )
+
+  pub passes_bounded : PassesBounded d o m
+  passes_bounded = record { settled = λ v w a b s. bounded v w a b; unsettled = λ s. (r.passes.stopped s).0; enough = enough; fixed = fixed }

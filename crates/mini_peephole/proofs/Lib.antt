@@ -1,9 +1,8 @@
 pub mod Gathered
 pub mod Refused
-pub mod Bare
+pub mod Repeats
 pub mod Written
+pub mod Heaviest
+pub mod Spelled
 pub mod Faith
 pub mod Floats
-pub mod Looked
-pub mod Alike
-pub mod Spelled

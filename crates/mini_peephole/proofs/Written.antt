@@ -1,41 +1,55 @@
--- What is written for the tree that passes made is accepted as that tree.
-use Rattle.std.proofs.Common.{◌≡◌, ℕ, true, sym, ap, ◌∙◌, subst}
-use Rattle.std.specs.Prelude.{Ok}
-use Rattle.mini_model.specs.Tree.{Tree, children}
+-- A program as it is read, and what is written for a resolved one, read again.
+use Rattle.std.proofs.Common.{◌≡◌, ℕ, List, [], ◌∷◌, refl, sym, ◌∙◌}
+use Rattle.std.specs.Prelude.{map, None, Ok}
+use Rattle.serde_json.specs.Data.{Data}
+use Rattle.mini_model.specs.declared.name.Name.{Name}
+use Rattle.mini_model.specs.Tree.{Tree, Trees, node, none, ◌▸◌}
 use Rattle.mini_accept.specs.WellShaped.{IsWellShaped}
 use Rattle.mini_accept.specs.Accept.{program_at, Accepts}
 use Rattle.mini_accept.proofs.Numbers.{program_numbered}
 use Rattle.mini_accept.proofs.Shaped.{program_shaped}
 use Rattle.mini_accept.proofs.Symbols.{program_unresolved}
+use Rattle.mini_names.specs.Early.{Path, early_names, early_jumps, no_targets}
+use Rattle.mini_names.specs.Symbols.{mapped, with_new}
+use Rattle.mini_scope.specs.Errors.{IsFree}
+use Rattle.mini_scope.specs.Pointers.{early_fault, fault_by}
 use Rattle.mini_writer.specs.Written.{program_data}
-use Rattle.mini_round_trip.specs.Bare.{bare}
+use Rattle.mini_round_trip.specs.Bare.{bare_name, bare, bares}
 use Rattle.mini_round_trip.proofs.Programs.{units_accepted}
 use Rattle.mini_round_trip.proofs.Units.{shaped_units}
-use Rattle.mini_kept.specs.Nodes.{each_node, each_nodes}
-use Rattle.mini_peephole.specs.Supported.{is_supported, supported}
-use Rattle.mini_peephole.proofs.Bare.{nameless, no_symbols, program_unnumbered, number_of, root_number, program_bare, program_shapes}
+use Rattle.mini_kept.specs.Carried.{renumbered}
+use Rattle.mini_kept.proofs.ReadBack.{IsRead}
+use Rattle.mini_kept.proofs.Texts.{no_symbol, text, texts}
 
--- a program that can be answered for, as it is read
-pub record Plain (t : Tree) : Type 0 where
-  pub shaped : IsWellShaped t
-  pub supported : is_supported t ≡ true
-  pub names : each_node nameless t ≡ true
-  pub number : number_of t ≡ 0
+pub is_read : (d : Data) (k n : ℕ) (t : Tree) → program_at k d ≡ Ok (t, n) → IsRead t n
+is_read d k n t e = record { shaped = program_shaped k d t n e; preorder = program_numbered k d t n e; unresolved = program_unresolved k d t n e }
 
-pub plain_bare : (t : Tree) → Plain t → bare t ≡ t
-plain_bare t p = program_bare t p.names p.number (program_unnumbered t p.shaped p.supported)
+-- no early error is told where there is none
+free_by : (ps qs : List Path) (t : Tree) → fault_by ps qs t ≡ None → (ps ≡ []) × (qs ≡ [])
+free_by [] [] t e = (refl, refl)
+free_by [] (q ∷ qs) t e = absurd (cc e)
+free_by (p ∷ ps) qs t e = absurd (cc e)
 
-pub accepted_plain : (k : ℕ) (n : ℕ) (t : Tree) → (d : _) → program_at k d ≡ Ok (t, n) → is_supported t ≡ true → Plain t
-accepted_plain k n t d e s = record {
-  shaped = program_shaped k d t n e;
-  supported = s;
-  names = no_symbols t (program_unresolved k d t n e);
-  number = root_number t n (program_numbered k d t n e);
-}
+pub free_of : (t : Tree) → early_fault t ≡ None → IsFree t
+unfolding early_fault
+free_of t e = free_by (early_names [] t) (early_jumps no_targets [] t) t e
 
-pub written_back : (t : Tree) → Plain t → Accepts (program_data t) t
-written_back t p =
-    let (u, (k, n, read), same) = units_accepted t p.shaped (shaped_units t p.shaped) in
-    let s : is_supported u ≡ true = sym (program_shapes u) ∙ ap (λ v. each_nodes supported (children v)) same ∙ program_shapes t ∙ p.supported in
-    let q = accepted_plain k n u (program_data t) read s in
-    subst (Accepts (program_data t)) (sym (plain_bare u q) ∙ same ∙ plain_bare t p) (k, n, read)
+-- without numbers and symbols: the definitions of writing and of names say the same
+same_names : (xs : List Name) → map bare_name xs ≡ map (with_new no_symbol) xs
+same_names [] = refl
+same_names (x ∷ xs) = λ k. with_new no_symbol x ∷ same_names xs k
+
+mutual
+  unfolding renumbered mapped
+
+  same_text : (t : Tree) → bare t ≡ text t
+  same_text (node h xs n ts) = λ k. node h (same_names xs k) 0 (same_texts ts k)
+
+  same_texts : (ts : Trees) → bares ts ≡ texts ts
+  same_texts none = refl
+  same_texts (t ▸ ts) = λ k. same_text t k ▸ same_texts ts k
+
+pub read_again : (v : Tree) → IsWellShaped v → (u : Tree) × Accepts (program_data v) u × (text u ≡ text v)
+read_again v e =
+    let (u, accepted, same) = units_accepted v e (shaped_units v e) in
+    (u, accepted, sym (same_text u) ∙ same ∙ same_text v)

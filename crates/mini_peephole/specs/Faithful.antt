@@ -19,11 +19,12 @@ use Rattle.mini_names.specs.Early.{early_names, early_jumps, no_targets}
 use Rattle.mini_meaning.specs.Value.{Value, Variable, VariableSet, Slot}
 use Rattle.mini_meaning.specs.State.{Answer, Environment}
 use Rattle.mini_meaning.specs.Same.{Initialised}
-use Rattle.mini_meaning.specs.Body.{BodyKind, Run, start_of, frame_of}
+use Rattle.mini_meaning.specs.Body.{BodyKind, Run, start_of}
 use Rattle.mini_meaning.specs.Bodies.{Body, bodies_in}
 use Rattle.mini_tree.specs.declared.options.CompressOptions.{CompressOptions}
 use Rattle.mini_accept.specs.Accept.{Accepts}
 use Rattle.mini_kept.specs.Carried.{numbers, carried}
+use Rattle.mini_kept.specs.Frames.{FramesKept, frames_in}
 use Rattle.mini_peephole.specs.Environments.{shared_by, foreign_to, initialised_for, environment_with}
 use Rattle.mini_peephole.specs.declared.minify.Minified.{Minified}
 
@@ -104,17 +105,17 @@ pub record IsFaithful (o : CompressOptions) (m : Minified) (t u : Tree) : Type 0
   pub named : AreNamed m.kept m.symbols t u
   -- each name that it declares is one that the input declares, and spelled as there
   pub spelled : (x : Name) → Contains (declared (later m u)) x → Contains (declared (earlier t)) x
-  -- the program's frame: whether it is a module, and its directives
-  pub frame : frame_of t ≡ frame_of u
+  -- what stands outside bodies is kept: each of its nodes with a number has the frame that the one had which it was
+  pub frames : FramesKept (frames_in (earlier t)) (frames_in (later m u))
   -- each body does what the one does that it was
   pub bodies : BodiesAreSame (earlier t) (later m u)
   -- it is no heavier
-  pub weight : program_weight u ≤ program_weight t
+  pub weight : program_weight (later m u) ≤ program_weight (earlier t)
   -- passes
   pub some_pass : 1 ≤ m.passes
   pub within : m.passes ≤ pass_bound o
   pub settled : m.settled ≡ true → HasNoRedex Elsewhere (later m u)
-  pub unsettled : m.settled ≡ false → program_weight u + pass_bound o ≤ program_weight t
+  pub unsettled : m.settled ≡ false → program_weight (later m u) + pass_bound o ≤ program_weight (earlier t)
 
 -- the value is a program, the answer's value is one, and the later one is faithful to the earlier
 pub record Faithful (d : Data) (o : CompressOptions) (m : Minified) : Type 0 where
@@ -127,9 +128,9 @@ pub record Faithful (d : Data) (o : CompressOptions) (m : Minified) : Type 0 whe
 -- bounds on the passes, which tell more than Faithful does
 pub record PassesBounded (d : Data) (o : CompressOptions) (m : Minified) : Type 0 where
   -- each pass but a last one that finds nothing makes the program lighter
-  pub settled : (t u : Tree) → Accepts d t → Accepts (view m.program) u → m.settled ≡ true → program_weight u + m.passes ≤ program_weight t + 1
+  pub settled : (t u : Tree) → Accepts d t → Accepts (view m.program) u → m.settled ≡ true → program_weight (later m u) + m.passes ≤ program_weight (earlier t) + 1
   pub unsettled : m.settled ≡ false → m.passes ≡ pass_bound o
   -- a bound above the program's weight always settles
-  pub enough : (t : Tree) → Accepts d t → program_weight t < pass_bound o → m.settled ≡ true
+  pub enough : (t : Tree) → Accepts d t → program_weight (earlier t) < pass_bound o → m.settled ≡ true
   -- a program without a redex stays as it is, after one pass
-  pub fixed : (t : Tree) → Accepts d t → HasNoRedex Elsewhere (resolved_program t) → Accepts (view m.program) t × (m.passes ≡ 1) × (m.settled ≡ true)
+  pub fixed : (t : Tree) → Accepts d t → HasNoRedex Elsewhere (earlier t) → Accepts (view m.program) t × (m.passes ≡ 1) × (m.settled ≡ true)

@@ -27,12 +27,16 @@ pub record IsRewriting (input : Tree) (bound : ℕ) (m : Minified) : Type 0 wher
   pub kept : m.kept ≡ 0 ∷ numbers output
   pub symbols : m.symbols ≡ symbol_numbers (declared_symbols output)
 
--- the value is accepted with a tree that has no early error, which is resolved and rewritten
+-- the tree has no early error, and is resolved and rewritten
+pub record IsAnswer (input : Tree) (bound : ℕ) (m : Minified) : Type 0 where
+  pub free : early_fault input ≡ None
+  pub rewriting : IsRewriting (resolved_program input) bound m
+
+-- the value is accepted with a tree for which this is the answer
 pub record IsMinified (d : Data) (o : CompressOptions) (m : Minified) : Type 0 where
   pub input : Tree
   pub accepted : Accepts d input
-  pub free : early_fault input ≡ None
-  pub rewriting : IsRewriting (resolved_program input) o.passes m
+  pub answer : IsAnswer input o.passes m
 
 -- reading the value to the depth of the options ends with this fault
 pub record IsUnread (d : Data) (o : CompressOptions) (f : Fault) : Type 0 where

@@ -1,23 +1,21 @@
 //! The library's top call: an ESTree value in, a lighter one out.
 
-ghost use Rattle.std.specs.Prelude.{◌≡◌, ◌+◌, ◌<◌, ◌^◌, [], ◌∷◌, None, Some, length, IfOk, IfErr, IfSome, OnOk, false};
+ghost use Rattle.std.specs.Prelude.{◌≡◌, ◌+◌, ◌<◌, ◌^◌, Some, length, IfOk, IfErr, IfSome, false};
 ghost use Rattle.serde_json.specs.View.{view};
 ghost use Rattle.serde_json.specs.Written.{has_float};
 ghost use Rattle.mini_fits.specs.Fits.{Fits};
 ghost use Rattle.mini_names.specs.References.{references};
-ghost use Rattle.mini_names.specs.Resolved.{resolved_program, symbols};
-ghost use Rattle.mini_names.specs.Symbols.{declared_symbols};
+ghost use Rattle.mini_names.specs.Resolved.{symbols};
 ghost use Rattle.mini_names.specs.declared.Use.TheVariants as variant;
-ghost use Rattle.mini_kept.specs.Carried.{numbers, symbol_numbers};
 ghost use Rattle.mini_scope.specs.Pointers.{early_fault};
 ghost use Rattle.mini_text.specs.Faults.{fault_of};
 ghost use Rattle.mini_peephole.specs.Faithful.{Faithful, PassesBounded};
-ghost use Rattle.mini_peephole.specs.Minified.{IsMinified, IsRewriting, IsRefusal};
+ghost use Rattle.mini_peephole.specs.Minified.{IsAnswer, IsMinified, IsRewriting, IsRefusal};
 
 use crate::named::{numbers_of, symbols_of};
+use mini_context::resolve;
 use mini_estree::{MinifyError, Numbered, read_program};
 use mini_logic::{MinimizeConditional, MinimizeIf, MinimizeUnary};
-use mini_scope::resolve;
 use mini_tree::{CompressOptions, Numbers, OutOfMemory, Program, discard};
 use mini_walk::{Passes, Then, run_passes};
 use mini_writer::write_program;
@@ -67,11 +65,10 @@ fn rewritten(alloc: Global, tree: &mut Program, max_passes: u32) -> Result<Minif
 }
 
 // The answer for a tree as it was read, which is resolved and rewritten in place.
-fn minified(alloc: Global, tree: &mut Program, max_passes: u32) -> Result<Minified, MinifyError>
+fn answer(alloc: Global, tree: &mut Program, max_passes: u32) -> Result<Minified, MinifyError>
     requires symbols { symbols variant.Read tree.old < 2 ^ 32 }
     requires references { length (references variant.Read tree.old) + 1 < 2 ^ 32 }
-    ensures free { OnOk result (early_fault tree.old ≡ None) }
-    ensures ok { IfOk result (λ m. IsRewriting (resolved_program tree.old) max_passes m) }
+    ensures ok { IfOk result (λ m. IsAnswer tree.old max_passes m) }
     ensures plain { IfOk result (λ m. has_float (view m.program) ≡ false) }
     ensures refused { IfErr result (λ e. IfSome (fault_of e) (λ f. early_fault tree.old ≡ Some f)) }
 {
@@ -87,6 +84,7 @@ fn minified(alloc: Global, tree: &mut Program, max_passes: u32) -> Result<Minifi
 /// an early error, `EarlyName` or `EarlyJump`, with the first and its pointer. `OutOfMemory` may come in place of any answer.
 ///
 /// The value has to fit: `mini_fits::fits` tells, and what 16,777,216 bytes of JSON say does.
+#[tactic(auto, using(crate::proofs::Refused::refused_by_table))]
 pub fn minify_estree(
     alloc: Global,
     program: &Value,
@@ -100,7 +98,7 @@ pub fn minify_estree(
     ensures refused { IfErr result (λ e. IsRefusal (view program.now) options.now e) }
 {
     let Numbered { mut root, .. } = read_program(alloc, program, options.max_depth)?;
-    let answer = minified(alloc, &mut root, options.passes);
+    let made = answer(alloc, &mut root, options.passes);
     discard(root);
-    answer
+    made
 }
