@@ -21,18 +21,14 @@ use Rattle.mini_accept.specs.Accept.{program_at, Accepts}
 use Rattle.mini_accept.proofs.Depths.{one_tree}
 use Rattle.mini_kept.specs.AlikeBodies.{AlikeBody}
 use Rattle.mini_kept.specs.Carried.{numbers, symbol_numbers, carried}
+use Rattle.mini_kept.specs.Declaring.{declared}
 use Rattle.mini_kept.specs.Frames.{FramesKept, frames_in}
+use Rattle.mini_kept.specs.Lawful.{ProgramIsKept}
 use Rattle.mini_kept.proofs.BodyLists.{kept_stands}
-use Rattle.mini_kept.proofs.BodyRows.{rows_keep_bodies}
-use Rattle.mini_kept.proofs.BodySteps.{reaches_keeps_bodies}
-use Rattle.mini_kept.proofs.FrameRows.{rows_keep_frames}
-use Rattle.mini_kept.proofs.FrameSteps.{reaches_keeps_frames}
-use Rattle.mini_kept.proofs.Programs.{reaches_well_shaped}
-use Rattle.mini_kept.proofs.Fixed.{program_keeps_fixities}
 use Rattle.mini_kept.proofs.InPreorder.{preorder_same}
+use Rattle.mini_kept.proofs.Lawful.{lawful_keeps, rows_are_lawful}
 use Rattle.mini_kept.proofs.ReadBack.{IsRead, IsReadBack, read_back}
 use Rattle.mini_kept.proofs.SameShape.{shaped_resolved}
-use Rattle.mini_kept.proofs.Steps.{step_fits}
 use Rattle.mini_kept.proofs.Texts.{text, text_resolved}
 use Rattle.mini_writer.specs.Written.{program_data}
 use Rattle.mini_walk.specs.Passes.{MakesPasses}
@@ -41,11 +37,10 @@ use Rattle.mini_logic.proofs.Joined.{reaches_contract, rests_everywhere}
 use Rattle.mini_peephole.specs.Environments.{shared_by, foreign_to, initialised_for, environment_with}
 use Rattle.mini_peephole.specs.Minified.{IsRewriting}
 use Rattle.mini_peephole.specs.Faithful as faith
-use Rattle.mini_peephole.specs.Faithful.{earlier, symbols_of, declared, HasNoRepeat, BeginsWithProgram, AreNamed, RunsAlike, IsSameBody, BodiesAreSame, IsFaithful, Faithful, PassesBounded}
+use Rattle.mini_peephole.specs.Faithful.{earlier, symbols_of, HasNoRepeat, BeginsWithProgram, AreNamed, RunsAlike, IsSameBody, BodiesAreSame, IsFaithful, Faithful, PassesBounded}
 use Rattle.mini_peephole.specs.declared.minify.Minified.{Minified}
 use Rattle.mini_peephole.proofs.Heaviest.{resolved_lighter}
 use Rattle.mini_peephole.proofs.Repeats.{no_repeat}
-use Rattle.mini_peephole.proofs.Spelled.{still_declared}
 use Rattle.mini_peephole.proofs.Written.{is_read, free_of, read_again}
 
 -- ---- a program without a redex has no rewrite
@@ -65,29 +60,25 @@ stays (more p t w u st r) f = absurd (no_step st f)
 
 -- ---- bodies
 
-environments : (t u : Tree) → Reaches Contracts Elsewhere t u → (shared foreign : VariableSet) (b c : Body) → b.strict ≡ c.strict → b.asks_this ≡ c.asks_this → environment_with t shared foreign b ≡ environment_with u shared foreign c
-environments t u r shared foreign b c s a =
+environments : (t u : Tree) → ProgramIsKept t u → (shared foreign : VariableSet) (b c : Body) → b.strict ≡ c.strict → b.asks_this ≡ c.asks_this → environment_with t shared foreign b ≡ environment_with u shared foreign c
+environments t u kept shared foreign b c s a =
     (λ k. environment_in t shared foreign (s k) (a k))
-    ∙ (λ k. record { shared = shared; foreign = foreign; fixed = λ x. program_keeps_fixities t u r c.strict x k; asks_this = c.asks_this })
+    ∙ (λ k. record { shared = shared; foreign = foreign; fixed = λ x. kept.fixities c.strict x k; asks_this = c.asks_this })
 
-same_body : (t u : Tree) → Reaches Contracts Elsewhere t u → (b c : Body) → AlikeBody b c → IsSameBody t u b c
-same_body t u r b c a =
+same_body : (t u : Tree) → ProgramIsKept t u → (b c : Body) → AlikeBody b c → IsSameBody t u b c
+same_body t u kept b c a =
     let e = environment_with u (shared_by u c) (foreign_to u c) c in
     let X = initialised_for u c in
     record {
       number = a.number;
       kind = a.kind;
-      same = subst (λ d. RunsAlike d e c.kind X b.root c.root) (sym (environments t u r (shared_by u c) (foreign_to u c) b c a.strict a.asks_this)) (subst (λ k. RunsAlike e e k X b.root c.root) a.kind (record { by = (a.same e X).by }));
+      same = subst (λ d. RunsAlike d e c.kind X b.root c.root) (sym (environments t u kept (shared_by u c) (foreign_to u c) b c a.strict a.asks_this)) (subst (λ k. RunsAlike e e k X b.root c.root) a.kind (record { by = (a.same e X).by }));
     }
 
-bodies_same : (t u : Tree) → Reaches Contracts Elsewhere t u → IsWellShaped t → BodiesAreSame t u
-bodies_same t u r e c there =
-    let kept = reaches_keeps_bodies Contracts rows_keep_bodies (fits false (one a_program)) (λ v w. w) (λ v w s x. step_fits s false (one a_program) x) t u r e in
-    let (b, stands, alike) = kept_stands (bodies_in t) (bodies_in u) kept c there in
-    (b, stands, same_body t u r b c alike)
-
-frames_same : (t u : Tree) → Reaches Contracts Elsewhere t u → IsWellShaped t → FramesKept (frames_in t) (frames_in u)
-frames_same t u r e = reaches_keeps_frames Contracts rows_keep_frames (fits false (one a_program)) (λ v w. w) (λ v w s x. step_fits s false (one a_program) x) t u r e
+bodies_same : (t u : Tree) → ProgramIsKept t u → BodiesAreSame t u
+bodies_same t u kept c there =
+    let (b, stands, alike) = kept_stands (bodies_in t) (bodies_in u) kept.bodies c there in
+    (b, stands, same_body t u kept b c alike)
 
 -- ---- the whole
 
@@ -97,6 +88,7 @@ pub record Made (o : CompressOptions) (m : Minified) (t v u : Tree) : Type 0 whe
   pub kept : m.kept ≡ 0 ∷ numbers v
   pub symbols : m.symbols ≡ symbol_numbers (declared_symbols v)
   pub back : IsReadBack t v u
+  pub rewritten : ProgramIsKept (resolved_program t) v
 
 named : (m : Minified) (t v u : Tree) → IsReadBack t v u → m.kept ≡ 0 ∷ numbers v → m.symbols ≡ symbol_numbers (declared_symbols v) → AreNamed m.kept m.symbols t u
 named m t v u r kept symbols = record {
@@ -112,9 +104,9 @@ named m t v u r kept symbols = record {
 later_is : (o : CompressOptions) (m : Minified) (t v u : Tree) → Made o m t v u → faith.later m u ≡ v
 later_is o m t v u made = (λ k. carried (made.kept k) (symbols_of (made.symbols k)) (resolved_program u)) ∙ made.back.later
 
-faithful_trees : (o : CompressOptions) (m : Minified) (t v u : Tree) → IsWellShaped (resolved_program t) → early_fault t ≡ None → weight Elsewhere (resolved_program t) < 2 ^ 32 → Made o m t v u → IsFaithful o m t u
-faithful_trees o m t v u shaped free light made =
-    let reached = reaches_contract Elsewhere (resolved_program t) v made.passes.reached in
+faithful_trees : (o : CompressOptions) (m : Minified) (t v u : Tree) → early_fault t ≡ None → weight Elsewhere (resolved_program t) < 2 ^ 32 → Made o m t v u → IsFaithful o m t u
+faithful_trees o m t v u free light made =
+    let kept = made.rewritten in
     let whole = later_is o m t v u made in
     let some = made.passes.some_pass in
     let less = made.passes.lighter in
@@ -122,9 +114,9 @@ faithful_trees o m t v u shaped free light made =
       names = made.back.names (free_of t free).0;
       jumps = made.back.jumps (free_of t free).1;
       named = named m t v u made.back made.kept made.symbols;
-      spelled = λ x c. still_declared (resolved_program t) v reached x (subst (λ w. Contains (declared w) x) whole c);
-      frames = subst (λ w. FramesKept (frames_in (resolved_program t)) (frames_in w)) (sym whole) (frames_same (resolved_program t) v reached shaped);
-      bodies = subst (BodiesAreSame (resolved_program t)) (sym whole) (bodies_same (resolved_program t) v reached shaped);
+      spelled = λ x c. kept.declared x (subst (λ w. Contains (declared w) x) whole c);
+      frames = subst (λ w. FramesKept (frames_in (resolved_program t)) (frames_in w)) (sym whole) kept.frames;
+      bodies = subst (BodiesAreSame (resolved_program t)) (sym whole) (bodies_same (resolved_program t) v kept);
       weight = subst (λ w. program_weight w ≤ program_weight (resolved_program t)) (sym whole) (omega (arith, some, less));
       some_pass = some;
       within = made.passes.within;
@@ -139,8 +131,11 @@ module _ (d : Data) (o : CompressOptions) (m : Minified) (t : Tree) (k n : ℕ) 
   reached : Reaches Contracts Elsewhere (resolved_program t) r.output
   reached = reaches_contract Elsewhere (resolved_program t) r.output r.passes.reached
 
+  kept : ProgramIsKept (resolved_program t) r.output
+  kept = lawful_keeps Contracts rows_are_lawful (resolved_program t) r.output reached (shaped_resolved t start.shaped)
+
   again : (u : Tree) × Accepts (program_data r.output) u × (text u ≡ text r.output)
-  again = read_again r.output (reaches_well_shaped reached (shaped_resolved t start.shaped))
+  again = read_again r.output (kept.names.shaped (shaped_resolved t start.shaped))
 
   accepted : Accepts (program_data r.output) again.0
   accepted = again.1
@@ -152,7 +147,7 @@ module _ (d : Data) (o : CompressOptions) (m : Minified) (t : Tree) (k n : ℕ) 
   written = subst (λ w. Accepts w again.0) (sym r.written) accepted
 
   made : Made o m t r.output again.0
-  made = record { passes = r.passes; kept = r.kept; symbols = r.symbols; back = read_back t r.output again.0 n accepted.1 start answer_read reached again.2 }
+  made = record { passes = r.passes; kept = r.kept; symbols = r.symbols; back = read_back t r.output again.0 n accepted.1 start answer_read reached again.2; rewritten = kept }
 
   pub faithful : weight Elsewhere t < 2 ^ 32 → Faithful d o m
   faithful light = record {
@@ -160,7 +155,7 @@ module _ (d : Data) (o : CompressOptions) (m : Minified) (t : Tree) (k n : ℕ) 
     output = again.0;
     accepted = (k, n, read);
     answered = written;
-    faithful = faithful_trees o m t r.output again.0 (shaped_resolved t start.shaped) free (let a = resolved_lighter t start.unresolved in omega (arith, a, light)) made;
+    faithful = faithful_trees o m t r.output again.0 free (let a = resolved_lighter t start.unresolved in omega (arith, a, light)) made;
   }
 
   settles : (b : Bool) → (b ≡ false → ⊥) → b ≡ true

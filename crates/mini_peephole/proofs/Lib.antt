@@ -3,6 +3,5 @@ pub mod Refused
 pub mod Repeats
 pub mod Written
 pub mod Heaviest
-pub mod Spelled
 pub mod Faith
 pub mod Floats

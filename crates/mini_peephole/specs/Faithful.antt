@@ -24,6 +24,7 @@ use Rattle.mini_meaning.specs.Bodies.{Body, bodies_in}
 use Rattle.mini_tree.specs.declared.options.CompressOptions.{CompressOptions}
 use Rattle.mini_accept.specs.Accept.{Accepts}
 use Rattle.mini_kept.specs.Carried.{numbers, carried}
+use Rattle.mini_kept.specs.Declaring.{declared}
 use Rattle.mini_kept.specs.Frames.{FramesKept, frames_in}
 use Rattle.mini_peephole.specs.Environments.{shared_by, foreign_to, initialised_for, environment_with}
 use Rattle.mini_peephole.specs.declared.minify.Minified.{Minified}
@@ -49,19 +50,6 @@ HasNoRepeat (k ∷ ks) = (Contains ks k → ⊥) × HasNoRepeat ks
 abbrev pub BeginsWithProgram : List ℕ → Type 0
 BeginsWithProgram [] = ⊥
 BeginsWithProgram (k ∷ ks) = k ≡ 0
-
--- the names that a tree declares
-abbrev pub declared_by : Shape → List Name → List Name
-declared_by shape.BindingIdentifier xs = xs
-declared_by _ xs = []
-
-abbrev mutual
-  pub declared : Tree → List Name
-  declared (node h xs n ts) = declared_by h xs ++ declared_all ts
-
-  pub declared_all : Trees → List Name
-  declared_all none = []
-  declared_all (t ▸ ts) = declared t ++ declared_all ts
 
 -- `kept` has a number of the earlier tree for each numbered node of the later, the program's first, and none twice; `symbols`
 -- has one for each symbol that its scopes declare, and none twice
