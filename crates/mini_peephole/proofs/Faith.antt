@@ -16,7 +16,6 @@ use Rattle.mini_meaning.specs.Value.{VariableSet}
 use Rattle.mini_meaning.specs.Body.{environment_in}
 use Rattle.mini_meaning.specs.Bodies.{Body, bodies_in}
 use Rattle.mini_tree.specs.declared.options.CompressOptions.{CompressOptions}
-use Rattle.mini_accept.specs.WellShaped.{one, a_program, fits, IsWellShaped}
 use Rattle.mini_accept.specs.Accept.{program_at, Accepts}
 use Rattle.mini_accept.proofs.Depths.{one_tree}
 use Rattle.mini_kept.specs.AlikeBodies.{AlikeBody}
