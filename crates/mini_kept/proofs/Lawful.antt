@@ -9,7 +9,7 @@ use Rattle.mini_model.specs.Rewriting.{Step, here, inside, Reaches, done, more}
 use Rattle.mini_accept.specs.WellShaped.{one, a_program, fits, IsWellShaped}
 use Rattle.mini_kept.specs.KeepsNames.{is_rewritten_place}
 use Rattle.mini_kept.specs.Kept.{over}
-use Rattle.mini_kept.specs.Lawful.{Lawful, ProgramIsKept, LawfulJoin}
+use Rattle.mini_kept.specs.Lawful.{Lawful, ProgramIsKept, LawfulJoin, LawfulNarrowed}
 use Rattle.mini_kept.specs.Lifted.{KeepsNames}
 use Rattle.mini_kept.proofs.BodyRows.{rows_keep_bodies}
 use Rattle.mini_kept.proofs.BodySteps.{reaches_keeps_bodies}
@@ -82,6 +82,30 @@ module _ (R S : Position → Tree → Tree → Type 0) where
     };
     fixed = one_or_other l.fixed m.fixed;
     declared = one_or_other l.declared m.declared;
+  }
+
+  -- one that makes no more than the other
+  narrowed : {X : Position → Tree → Tree → Type 0} → ((p : Position) (n w : Tree) → R p n w → S p n w) → ((p : Position) (n w : Tree) → S p n w → X p n w) → (p : Position) (n w : Tree) → R p n w → X p n w
+  narrowed f g p n w r = g p n w (f p n w r)
+
+  pub lawful_narrowed : LawfulNarrowed R S
+  lawful_narrowed f l = record {
+    shapes = record { fitting = narrowed f l.shapes.fitting; asked = narrowed f l.shapes.asked };
+    bodies = record {
+      means = record { same = narrowed f l.bodies.means.same; reads = narrowed f l.bodies.means.reads };
+      pieces = narrowed f l.bodies.pieces;
+      kind = narrowed f l.bodies.kind;
+      bodies = narrowed f l.bodies.bodies;
+    };
+    frames = record {
+      names = record { places = narrowed f l.frames.names.places; pieces = narrowed f l.frames.names.pieces; keeps = narrowed f l.frames.names.keeps };
+      slots = narrowed f l.frames.slots;
+      ports = narrowed f l.frames.ports;
+      exported = narrowed f l.frames.exported;
+      frames = narrowed f l.frames.frames;
+    };
+    fixed = narrowed f l.fixed;
+    declared = narrowed f l.declared;
   }
 
 -- ---- the rows

@@ -1,12 +1,8 @@
 -- A program that is read, resolved, rewritten, written and read again.
-use Rattle.std.specs.Prelude.{ℕ, zero, suc, ◌+◌, ◌≤◌, ◌<◌, ◌≡◌, refl, true, [], ◌∷◌, length, map, Some, Ok, Contains}
+use Rattle.std.specs.Prelude.{ℕ, zero, suc, ◌≤◌, ◌<◌, ◌≡◌, refl, true, [], ◌∷◌, length, map, Some, Ok, Contains}
 use Rattle.std.proofs.Common.{ap, ◌∙◌, sym, subst, arith}
 use Rattle.serde_json.specs.Data.{Data}
-use Rattle.mini_model.specs.declared.place.Position.{Position}
-use Rattle.mini_model.specs.declared.place.Position.TheVariants.{Elsewhere}
-use Rattle.mini_model.specs.Tree.{Tree}
-use Rattle.mini_model.specs.Redex.{Row, Contracts}
-use Rattle.mini_model.specs.Rewriting.{Step, here, inside, Reaches, done, more}
+use Rattle.mini_model.specs.Tree.{Tree, Trees, node, children}
 use Rattle.mini_names.specs.declared.Use.TheVariants.{Read}
 use Rattle.mini_names.specs.Early.{early_names, early_jumps, no_targets}
 use Rattle.mini_names.specs.Resolved.{resolved_program}
@@ -22,14 +18,15 @@ use Rattle.mini_accept.proofs.Shaped.{program_shaped}
 use Rattle.mini_accept.proofs.Symbols.{program_unresolved}
 use Rattle.mini_kept.specs.Carried.{numbers, number_of, symbol_numbers, carried}
 use Rattle.mini_kept.specs.KeepsNames.{count_of}
+use Rattle.mini_kept.specs.Kept.{over}
+use Rattle.mini_kept.specs.Lawful.{ProgramIsKept}
 use Rattle.mini_kept.specs.Lifted.{ProgramKeeps}
-use Rattle.mini_kept.proofs.Whole.{reaches_keep}
 use Rattle.mini_kept.proofs.ReadAgain.{program_carried}
-use Rattle.mini_kept.proofs.Texts.{text, text_resolved, read_alike}
+use Rattle.mini_kept.proofs.Texts.{text}
 use Rattle.mini_kept.proofs.SameNumbers.{numbered_alike}
 use Rattle.mini_kept.proofs.InPreorder.{InPreorder, in_preorder, preorder_length, preorder_same, number_resolved, numbers_resolved}
 use Rattle.mini_kept.proofs.SameShape.{shaped_resolved}
-use Rattle.mini_kept.proofs.SameEarly.{shape_text, names_alike, jumps_alike, names_resolved, jumps_resolved}
+use Rattle.mini_kept.proofs.SameEarly.{names_alike, jumps_alike, names_resolved, jumps_resolved}
 use Rattle.mini_kept.proofs.SameSymbols.{symbols_alike}
 use Rattle.mini_kept.proofs.SymbolsOnce.{symbol, distinct_once, distinct_numbered, distinct_length}
 use Rattle.mini_kept.proofs.Counts.{still_there, once_behind}
@@ -53,13 +50,8 @@ accepted_same d f t u (k, n, a) (j, m, b) e = read_same t u n m (accepted_read k
 
 -- ---- the root
 
-step_root : {p : Position} {t u : Tree} → ((v w : Tree) → Row p v w → ⊥) → Step Contracts p t u → number_of u ≡ number_of t
-step_root never (here p t u c) = absurd (never t u c.row)
-step_root never (inside p h xs n ts us s) = refl
-
-reached_root : {p : Position} {t u : Tree} → ((v w : Tree) → Row p v w → ⊥) → Reaches Contracts p t u → number_of u ≡ number_of t
-reached_root never (done p t) = refl
-reached_root never (more p t u v s r) = reached_root never r ∙ step_root never s
+number_over : (t : Tree) (us : Trees) → number_of (over t us) ≡ number_of t
+number_over (node h xs n ts) us = refl
 
 -- ---- the whole: t is read, its resolved form becomes v, and u is v read again
 
@@ -77,8 +69,8 @@ pub record IsReadBack (t v u : Tree) : Type 0 where
   pub names : early_names [] t ≡ [] → early_names [] u ≡ []
   pub jumps : early_jumps no_targets [] t ≡ [] → early_jumps no_targets [] u ≡ []
 
-pub read_back : (t v u : Tree) (n m : ℕ) → IsRead t n → IsRead u m → Reaches Contracts Elsewhere (resolved_program t) v → text u ≡ text v → IsReadBack t v u
-read_back t v u n m a b r e =
+pub read_back : (t v u : Tree) (n m : ℕ) → IsRead t n → IsRead u m → ProgramIsKept (resolved_program t) v → text u ≡ text v → IsReadBack t v u
+read_back t v u n m a b kept e =
     record {
       shaped = shaped;
       later = subst (λ ss. carried (0 ∷ numbers v) ss (resolved_program u) ≡ v) (sym (distinct_numbered (declared_symbols v) distinct)) (program_carried u v m b.preorder root (numbered_alike u v b.unresolved b.shaped shaped e) (keeps.scoped before (scoped Read [] 0 t)) distinct);
@@ -92,7 +84,7 @@ read_back t v u n m a b r e =
     }
   where
     keeps : ProgramKeeps (resolved_program t) v
-    keeps = reaches_keep (resolved_program t) v r
+    keeps = kept.names
 
     before : IsWellShaped (resolved_program t)
     before = shaped_resolved t a.shaped
@@ -107,7 +99,7 @@ read_back t v u n m a b r e =
     order = in_preorder t n a.preorder
 
     root : number_of v ≡ 0
-    root = reached_root (λ w x y. y) r ∙ number_resolved t ∙ order.root
+    root = ap number_of kept.root ∙ number_over (resolved_program t) (children v) ∙ number_resolved t ∙ order.root
 
     counts : (k : ℕ) → count_of k (numbers v) ≤ count_of k (numbers t)
     counts k = subst (λ ns. count_of k (numbers v) ≤ count_of k ns) (numbers_resolved t) (keeps.numbers before k)

@@ -45,6 +45,10 @@ LawfulKeeps R = Lawful R → (t u : Tree) → Reaches R Elsewhere t u → IsWell
 abbrev pub LawfulJoin : (Position → Tree → Tree → Type 0) → (Position → Tree → Tree → Type 0) → Type 0
 LawfulJoin R S = Lawful R → Lawful S → Lawful (λ p t u. R p t u ⊎ S p t u)
 
+-- and so is what makes no more than a lawful one
+abbrev pub LawfulNarrowed : (Position → Tree → Tree → Type 0) → (Position → Tree → Tree → Type 0) → Type 0
+LawfulNarrowed R S = ((p : Position) (t u : Tree) → R p t u → S p t u) → Lawful S → Lawful R
+
 -- the rows are lawful
 abbrev pub RowsAreLawful : Type 0
 RowsAreLawful = Lawful Contracts

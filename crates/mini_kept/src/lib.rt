@@ -5,7 +5,7 @@
 
 ghost use Rattle.mini_kept.specs.Kept.{EachBelowKept, EachKept, ReachesWellShaped, StepFits};
 ghost use Rattle.mini_kept.specs.KeepsShapes.{AnyStepFits, AnyReachesWellShaped};
-ghost use Rattle.mini_kept.specs.Lawful.{LawfulKeeps, LawfulJoin, RowsAreLawful};
+ghost use Rattle.mini_kept.specs.Lawful.{LawfulKeeps, LawfulJoin, LawfulNarrowed, RowsAreLawful};
 ghost use Rattle.mini_kept.specs.Lifted.{RowsKeepNames, ReachesKeepsNames};
 ghost use Rattle.mini_kept.specs.NameLaws.{ResolvedRenumbered, NumbersCarried, ProgramCarried};
 ghost use Rattle.mini_kept.specs.Fixities.{ReachesKeepsFixities, RowsKeepFixities, ProgramKeepsFixities};
@@ -113,6 +113,11 @@ pub fn lawful_rewriting_keeps<R: Rewrites>()
 /// What one lawful relation makes, or another, is lawful.
 pub fn lawful_rules_join<R: Rewrites, S: Rewrites>()
     ensures { LawfulJoin R.gives S.gives }
+{}
+
+/// What makes no more than a lawful relation is lawful.
+pub fn lawful_rules_narrowed<R: Rewrites, S: Rewrites>()
+    ensures { LawfulNarrowed R.gives S.gives }
 {}
 
 /// What the rows make is lawful.

@@ -3,5 +3,6 @@ pub mod Refused
 pub mod Repeats
 pub mod Written
 pub mod Heaviest
+pub mod AnyPasses
 pub mod Faith
 pub mod Floats

@@ -82,8 +82,8 @@ BodiesAreSame t u = (c : Body) → Contains (bodies_in u) c → (b : Body) × Co
 abbrev pub pass_bound : CompressOptions → ℕ
 pass_bound o = max o.passes 1
 
--- what is said of the two trees
-pub record IsFaithful (o : CompressOptions) (m : Minified) (t u : Tree) : Type 0 where
+-- what is said of the two trees, where Rests says of the later one that nothing is left to do
+pub record IsFaithfulWith (Rests : Tree → Type 0) (o : CompressOptions) (m : Minified) (t u : Tree) : Type 0 where
   -- the answer has no early error
   pub names : early_names [] u ≡ []
   pub jumps : early_jumps no_targets [] u ≡ []
@@ -100,16 +100,23 @@ pub record IsFaithful (o : CompressOptions) (m : Minified) (t u : Tree) : Type 0
   -- passes
   pub some_pass : 1 ≤ m.passes
   pub within : m.passes ≤ pass_bound o
-  pub settled : m.settled ≡ true → HasNoRedex Elsewhere (later m u)
+  pub settled : m.settled ≡ true → Rests (later m u)
   pub unsettled : m.settled ≡ false → program_weight (later m u) + pass_bound o ≤ program_weight (earlier t)
 
 -- the value is a program, the answer's value is one, and the later one is faithful to the earlier
-pub record Faithful (d : Data) (o : CompressOptions) (m : Minified) : Type 0 where
+pub record FaithfulWith (Rests : Tree → Type 0) (d : Data) (o : CompressOptions) (m : Minified) : Type 0 where
   pub input : Tree
   pub output : Tree
   pub accepted : Accepts d input
   pub answered : Accepts (view m.program) output
-  pub faithful : IsFaithful o m input output
+  pub faithful : IsFaithfulWith Rests o m input output
+
+-- of rewrites: nothing is left to rewrite
+abbrev pub IsFaithful : CompressOptions → Minified → Tree → Tree → Type 0
+IsFaithful = IsFaithfulWith (HasNoRedex Elsewhere)
+
+abbrev pub Faithful : Data → CompressOptions → Minified → Type 0
+Faithful = FaithfulWith (HasNoRedex Elsewhere)
 
 -- bounds on the passes, which tell more than Faithful does
 pub record PassesBounded (d : Data) (o : CompressOptions) (m : Minified) : Type 0 where

@@ -1,3 +1,4 @@
 pub mod Environments
 pub mod Minified
 pub mod Faithful
+pub mod AnyPasses

@@ -2,6 +2,7 @@
 use Rattle.std.specs.Prelude.{◌≡◌, ◌⊎◌, ℕ, ◌∷◌, Some, None, Ok, Err, IfSome}
 use Rattle.serde_json.specs.Data.{Data}
 use Rattle.serde_json.specs.View.{view}
+use Rattle.mini_model.specs.declared.place.Position.{Position}
 use Rattle.mini_model.specs.Tree.{Tree}
 use Rattle.mini_tree.specs.declared.options.CompressOptions.{CompressOptions}
 use Rattle.mini_accept.specs.Faults as estree
@@ -18,14 +19,18 @@ use Rattle.mini_logic.specs.Joined.{Gives, Rests}
 use Rattle.mini_kept.specs.Carried.{numbers, symbol_numbers}
 use Rattle.mini_peephole.specs.declared.minify.Minified.{Minified}
 
--- passes of rewrites lead from the tree to the one that was written; the answer has the numbers of its nodes, the program's
--- first, and those of the symbols that its scopes declare
-pub record IsRewriting (input : Tree) (bound : ℕ) (m : Minified) : Type 0 where
+-- passes of a rule, which may make R of a tree and has nothing to do where D is, lead from the tree to the one that was
+-- written; the answer has the numbers of its nodes, the program's first, and those of the symbols that its scopes declare
+pub record IsWritten (R : Position → Tree → Tree → Type 0) (D : Position → Tree → Type 0) (input : Tree) (bound : ℕ) (m : Minified) : Type 0 where
   pub output : Tree
-  pub passes : MakesPasses Gives Rests input output bound m.passes m.settled
+  pub passes : MakesPasses R D input output bound m.passes m.settled
   pub written : view m.program ≡ program_data output
   pub kept : m.kept ≡ 0 ∷ numbers output
   pub symbols : m.symbols ≡ symbol_numbers (declared_symbols output)
+
+-- of the rules
+abbrev pub IsRewriting : Tree → ℕ → Minified → Type 0
+IsRewriting = IsWritten Gives Rests
 
 -- the tree has no early error, and is resolved and rewritten
 pub record IsAnswer (input : Tree) (bound : ℕ) (m : Minified) : Type 0 where

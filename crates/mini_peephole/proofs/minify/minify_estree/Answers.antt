@@ -19,7 +19,7 @@ returns-clause-faithful c =
     let n = c.in_ok-root.field-0.numbers in
     let read = c.in_ok-root.ensures.tree in
     let light = accepted_light _ t (k, n, read) c.requires in
-    IfOk-weaker {X = Minified} {Y = MinifyError} c.answer-made.result _ _ (λ m r. faithful _ c.args.options.now m t k n read r.free r.rewriting light) c.answer-made.ensures.ok
+    IfOk-weaker {X = Minified} {Y = MinifyError} c.answer-made.result _ _ (λ m r. faithful _ c.args.options.now m t (k, n, read) r.rewriting r.free light) c.answer-made.ensures.ok
 
 pub returns-clause-passes : goal.returns-clause-passes
 returns-clause-passes c =
@@ -27,4 +27,4 @@ returns-clause-passes c =
     let k = c.args.options.now.max_depth in
     let n = c.in_ok-root.field-0.numbers in
     let read = c.in_ok-root.ensures.tree in
-    IfOk-weaker {X = Minified} {Y = MinifyError} c.answer-made.result _ _ (λ m r. passes_bounded _ c.args.options.now m t k n read r.free r.rewriting) c.answer-made.ensures.ok
+    IfOk-weaker {X = Minified} {Y = MinifyError} c.answer-made.result _ _ (λ m r. passes_bounded _ c.args.options.now m t (k, n, read) r.rewriting) c.answer-made.ensures.ok

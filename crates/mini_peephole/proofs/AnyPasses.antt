@@ -1,0 +1,126 @@
+-- Passes of a lawful relation give a faithful answer.
+use Rattle.std.proofs.Common.{◌≡◌, suc, ◌+◌, ◌≤◌, max, ◌∷◌, refl, sym, ap, ◌∙◌, subst, arith}
+use Rattle.std.specs.Prelude.{Contains, None, length}
+use Rattle.serde_json.specs.Data.{Data}
+use Rattle.serde_json.specs.View.{view}
+use Rattle.mini_model.specs.declared.place.Position.{Position}
+use Rattle.mini_model.specs.declared.place.Position.TheVariants.{Elsewhere}
+use Rattle.mini_model.specs.Tree.{Tree}
+use Rattle.mini_model.specs.Weight.{program_weight}
+use Rattle.mini_model.specs.Rewriting.{Everywhere}
+use Rattle.mini_names.specs.Resolved.{resolved_program}
+use Rattle.mini_names.specs.Symbols.{declared_symbols}
+use Rattle.mini_scope.specs.Pointers.{early_fault}
+use Rattle.mini_meaning.specs.Value.{VariableSet}
+use Rattle.mini_meaning.specs.Body.{environment_in}
+use Rattle.mini_meaning.specs.Bodies.{Body, bodies_in}
+use Rattle.mini_tree.specs.declared.options.CompressOptions.{CompressOptions}
+use Rattle.mini_accept.specs.Accept.{Accepts}
+use Rattle.mini_kept.specs.AlikeBodies.{AlikeBody}
+use Rattle.mini_kept.specs.Carried.{numbers, symbol_numbers, carried}
+use Rattle.mini_kept.specs.Declaring.{declared}
+use Rattle.mini_kept.specs.Frames.{FramesKept, frames_in}
+use Rattle.mini_kept.specs.Lawful.{Lawful, ProgramIsKept}
+use Rattle.mini_kept.proofs.BodyLists.{kept_stands}
+use Rattle.mini_kept.proofs.Lawful.{lawful_keeps}
+use Rattle.mini_kept.proofs.ReadBack.{IsRead, IsReadBack, read_back}
+use Rattle.mini_kept.proofs.SameShape.{shaped_resolved}
+use Rattle.mini_kept.proofs.Texts.{text}
+use Rattle.mini_writer.specs.Written.{program_data}
+use Rattle.mini_walk.specs.Passes.{MakesPasses}
+use Rattle.mini_peephole.specs.Environments.{shared_by, foreign_to, initialised_for, environment_with}
+use Rattle.mini_peephole.specs.Minified.{IsWritten}
+use Rattle.mini_peephole.specs.Faithful as faith
+use Rattle.mini_peephole.specs.Faithful.{earlier, symbols_of, HasNoRepeat, BeginsWithProgram, AreNamed, RunsAlike, IsSameBody, BodiesAreSame, IsFaithfulWith, FaithfulWith}
+use Rattle.mini_peephole.specs.declared.minify.Minified.{Minified}
+use Rattle.mini_peephole.proofs.Repeats.{no_repeat}
+use Rattle.mini_peephole.proofs.Written.{is_read, free_of, read_again}
+
+-- ---- bodies
+
+environments : (t u : Tree) → ProgramIsKept t u → (shared foreign : VariableSet) (b c : Body) → b.strict ≡ c.strict → b.asks_this ≡ c.asks_this → environment_with t shared foreign b ≡ environment_with u shared foreign c
+environments t u kept shared foreign b c s a =
+    (λ k. environment_in t shared foreign (s k) (a k))
+    ∙ (λ k. record { shared = shared; foreign = foreign; fixed = λ x. kept.fixities c.strict x k; asks_this = c.asks_this })
+
+same_body : (t u : Tree) → ProgramIsKept t u → (b c : Body) → AlikeBody b c → IsSameBody t u b c
+same_body t u kept b c a =
+    let e = environment_with u (shared_by u c) (foreign_to u c) c in
+    let X = initialised_for u c in
+    record {
+      number = a.number;
+      kind = a.kind;
+      same = subst (λ d. RunsAlike d e c.kind X b.root c.root) (sym (environments t u kept (shared_by u c) (foreign_to u c) b c a.strict a.asks_this)) (subst (λ k. RunsAlike e e k X b.root c.root) a.kind (record { by = (a.same e X).by }));
+    }
+
+bodies_same : (t u : Tree) → ProgramIsKept t u → BodiesAreSame t u
+bodies_same t u kept c there =
+    let (b, stands, alike) = kept_stands (bodies_in t) (bodies_in u) kept.bodies c there in
+    (b, stands, same_body t u kept b c alike)
+
+-- ---- the whole
+
+-- t is read, its resolved form becomes v, and u is v read again
+pub record Made (R : Position → Tree → Tree → Type 0) (D : Position → Tree → Type 0) (o : CompressOptions) (m : Minified) (t v u : Tree) : Type 0 where
+  pub passes : MakesPasses R D (resolved_program t) v o.passes m.passes m.settled
+  pub kept : m.kept ≡ 0 ∷ numbers v
+  pub symbols : m.symbols ≡ symbol_numbers (declared_symbols v)
+  pub back : IsReadBack t v u
+  pub rewritten : ProgramIsKept (resolved_program t) v
+
+named : (m : Minified) (t v u : Tree) → IsReadBack t v u → m.kept ≡ 0 ∷ numbers v → m.symbols ≡ symbol_numbers (declared_symbols v) → AreNamed m.kept m.symbols t u
+named m t v u r kept symbols = record {
+  begins = subst BeginsWithProgram (sym kept) refl;
+  each_node = ap length kept ∙ ap suc (sym r.each_number);
+  kept_there = λ k c. r.numbers_there k (subst (λ ks. Contains ks k) kept c);
+  kept_once = subst HasNoRepeat (sym kept) (no_repeat (0 ∷ numbers v) r.numbers_once);
+  each_symbol = ap length symbols ∙ r.each_symbol;
+  symbols_once = subst HasNoRepeat (sym symbols) (no_repeat (symbol_numbers (declared_symbols v)) r.symbols_once);
+}
+
+module _ (R : Position → Tree → Tree → Type 0) (D : Position → Tree → Type 0) where
+  -- the later program, in the earlier one's numbers and symbols, is what rewriting gave
+  pub later_is : (o : CompressOptions) (m : Minified) (t v u : Tree) → Made R D o m t v u → faith.later m u ≡ v
+  later_is o m t v u made = (λ k. carried (made.kept k) (symbols_of (made.symbols k)) (resolved_program u)) ∙ made.back.later
+
+  pub faithful_trees : (o : CompressOptions) (m : Minified) (t v u : Tree) → early_fault t ≡ None → Made R D o m t v u → IsFaithfulWith (Everywhere D Elsewhere) o m t u
+  faithful_trees o m t v u free made =
+      let kept = made.rewritten in
+      let whole = later_is o m t v u made in
+      let some = made.passes.some_pass in
+      let less = made.passes.lighter in
+      record {
+        names = made.back.names (free_of t free).0;
+        jumps = made.back.jumps (free_of t free).1;
+        named = named m t v u made.back made.kept made.symbols;
+        spelled = λ x c. kept.declared x (subst (λ w. Contains (declared w) x) whole c);
+        frames = subst (λ w. FramesKept (frames_in (resolved_program t)) (frames_in w)) (sym whole) kept.frames;
+        bodies = subst (BodiesAreSame (resolved_program t)) (sym whole) (bodies_same (resolved_program t) v kept);
+        weight = subst (λ w. program_weight w ≤ program_weight (resolved_program t)) (sym whole) (omega (arith, some, less));
+        some_pass = some;
+        within = made.passes.within;
+        settled = λ e. subst (Everywhere D Elsewhere) (sym whole) (made.passes.ended e);
+        unsettled = λ e. let (same, fell) = made.passes.stopped e in subst (λ w. program_weight w + max o.passes 1 ≤ program_weight (resolved_program t)) (sym whole) (omega (arith, same, fell));
+      }
+
+  module _ (l : Lawful R) (d : Data) (o : CompressOptions) (m : Minified) (t : Tree) (read : Accepts d t) (r : IsWritten R D (resolved_program t) o.passes m) where
+    pub start : IsRead t read.1
+    start = is_read d read.0 read.1 t read.2
+
+    kept : ProgramIsKept (resolved_program t) r.output
+    kept = lawful_keeps R l (resolved_program t) r.output r.passes.reached (shaped_resolved t start.shaped)
+
+    pub again : (u : Tree) × Accepts (program_data r.output) u × (text u ≡ text r.output)
+    again = read_again r.output (kept.names.shaped (shaped_resolved t start.shaped))
+
+    pub answer_read : IsRead again.0 again.1.1
+    answer_read = is_read (program_data r.output) again.1.0 again.1.1 again.0 again.1.2
+
+    pub written : Accepts (view m.program) again.0
+    written = subst (λ w. Accepts w again.0) (sym r.written) again.1
+
+    pub made : Made R D o m t r.output again.0
+    made = record { passes = r.passes; kept = r.kept; symbols = r.symbols; back = read_back t r.output again.0 read.1 again.1.1 start answer_read kept again.2; rewritten = kept }
+
+    pub passes_faithful : early_fault t ≡ None → FaithfulWith (Everywhere D Elsewhere) d o m
+    passes_faithful free = record { input = t; output = again.0; accepted = read; answered = written; faithful = faithful_trees o m t r.output again.0 free made }
