@@ -84,17 +84,27 @@ const LOOPS = ["ForStatement", "ForInStatement", "ForOfStatement"];
 const isNode = (value) => value !== null && typeof value === "object" && typeof value.type === "string";
 const isOf = (types, node) => node !== null && types.includes(node.type);
 
-// A parser that lets early errors through, and takes `yield` for an expression everywhere.
+const EARLY_NAME = /has already been declared$/;
+const EARLY_JUMP = /^(Unsyntactic|Label |'return' outside)/;
+
+// A parser that lets early errors through, and takes `yield` for an expression everywhere. It notes where names are declared
+// twice and where jumps have no target.
 class LenientParser extends acorn.Parser {
+  names = [];
+  jumps = [];
+
   get inGenerator() {
     return true;
   }
 
   raise(at, message) {
-    if (!/^(Unsyntactic|Label |'return' outside)/.test(message)) super.raise(at, message);
+    if (!EARLY_JUMP.test(message)) super.raise(at, message);
+    this.jumps.push(at);
   }
 
-  raiseRecoverable() {}
+  raiseRecoverable(at, message) {
+    if (EARLY_NAME.test(message)) this.names.push(at);
+  }
 }
 
 const options = (sourceType) => ({ ecmaVersion: 2022, sourceType });
@@ -107,6 +117,12 @@ function parse(source, sourceType = "script") {
 // The same, early errors left aside.
 function parseLeniently(source, sourceType = "script") {
   return LenientParser.parse(source, options(sourceType));
+}
+
+// The same, and where acorn finds early errors: the offsets of names that are declared twice, and of jumps without a target.
+function parseWithErrors(source, sourceType) {
+  const parser = new LenientParser(options(sourceType), source);
+  return { tree: parser.parse(), names: parser.names, jumps: parser.jumps };
 }
 
 // ---- what is written
@@ -336,4 +352,4 @@ function isOutside(program) {
   return found;
 }
 
-module.exports = { acorn, FIELDS, FUNCTIONS, CLASSES, PATTERNS, isNode, isOf, parse, parseLeniently, written, children, each, countNumbers, countSymbols, scopes, isOutside };
+module.exports = { acorn, FIELDS, FUNCTIONS, CLASSES, PATTERNS, isNode, isOf, parse, parseLeniently, parseWithErrors, written, children, each, countNumbers, countSymbols, scopes, isOutside };
