@@ -9,3 +9,4 @@ mod Surveys
 mod Listings
 mod Evals
 mod Told
+mod Reached

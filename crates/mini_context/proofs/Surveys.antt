@@ -1,8 +1,18 @@
 -- The walk that fills the tables, and what each table says then.
-use Rattle.std.specs.Prelude.{ℕ, zero, suc, ◌≤◌, ◌<◌, ◌≡◌, refl, List, [], ◌∷◌, ◌++◌}
+use Rattle.std.specs.Prelude.{ℕ, zero, suc, ◌≤◌, ◌<◌, ◌≡◌, refl, List, [], ◌∷◌, ◌++◌, Bool, true, false, ◌&&◌}
 use Rattle.std.proofs.Common.{ap, ◌∙◌, sym, subst, arith, append_assoc}
 use Rattle.mini_model.specs.Tree.{Tree, Trees, node, none, ◌▸◌, children, count, child_or_absent, first_or_absent, node_count, node_counts}
 use Rattle.mini_names.specs.Bodies.{Frame, frame_at, frame_of_body, own_body, own_fixed, bodies, bodies_from, fixed_names, all_fixed_names}
+use Rattle.std.proofs.lemmas.List.{append-nil}
+use Rattle.mini_model.specs.declared.name.Name.{Name}
+use Rattle.mini_model.specs.declared.shape.Shape.{Shape}
+use Rattle.mini_model.specs.declared.shape.Shape.TheVariants as shape
+use Rattle.mini_names.specs.declared.Declared.TheVariants as declared
+use Rattle.mini_names.specs.DeclaredNames.{names_of}
+use Rattle.mini_names.specs.Strict.{is_strict_in}
+use Rattle.mini_names.specs.Shared.{reached_params, reached_by_arguments, all_reached_by_arguments, module_names, module_names_by, all_module_names}
+use Rattle.mini_context.specs.declared.exchanges.Exchange.{Exchange}
+use Rattle.mini_context.specs.declared.exchanges.Exchange.TheVariants as exchange
 use Rattle.mini_names.specs.declared.Use.{Use}
 use Rattle.mini_names.specs.declared.Around.{Around}
 use Rattle.mini_names.specs.Scopes.{use_of}
@@ -12,7 +22,7 @@ use Rattle.mini_context.proofs.Joining.{joins_add}
 use Rattle.mini_context.specs.declared.standing.Standing.{Standing}
 use Rattle.mini_context.specs.declared.survey.Tables.{Tables}
 use Rattle.mini_context.specs.Tables.{Marked, Noted}
-use Rattle.mini_context.specs.Visits.{Visit, visits, visits_from, given, below, frame_in, fixed_at, bodies_at, mentions_at, Surveyed}
+use Rattle.mini_context.specs.Visits.{Visit, visits, visits_from, given, below, frame_in, fixed_at, bodies_at, mentions_at, exchanged_at, exchanged_by, exchange_of, is_exchange_shape, reached_at, Surveyed}
 use Rattle.mini_context.proofs.Gathering.{Adds, Gathers}
 use Rattle.mini_context.proofs.Marking.{marks_add, notes_add}
 
@@ -31,12 +41,16 @@ surveys_add = record {
     this_events = (notes_add (λ f. f.binds_this)).nothing s.this_events.items;
     arguments = (notes_add (λ f. f.has_arguments)).nothing s.arguments.items;
     mentions = joins_add.nothing s.mentioned.items;
+    exchanged = marks_add.nothing s.exchanged.items;
+    reached = marks_add.nothing s.reached.items;
   };
   both = λ xs ys a b c f g. record {
     fixed = of_both (λ ns. Marked ns a.fixed.items c.fixed.items) fixed_at xs ys (marks_add.both (given fixed_at xs) (given fixed_at ys) a.fixed.items b.fixed.items c.fixed.items f.fixed g.fixed);
     this_events = of_both (λ bs. Noted (λ f. f.binds_this) bs a.this_events.items c.this_events.items) bodies_at xs ys ((notes_add (λ f. f.binds_this)).both (given bodies_at xs) (given bodies_at ys) a.this_events.items b.this_events.items c.this_events.items f.this_events g.this_events);
     arguments = of_both (λ bs. Noted (λ f. f.has_arguments) bs a.arguments.items c.arguments.items) bodies_at xs ys ((notes_add (λ f. f.has_arguments)).both (given bodies_at xs) (given bodies_at ys) a.arguments.items b.arguments.items c.arguments.items f.arguments g.arguments);
     mentions = of_both (λ ms. Joined ms a.mentioned.items c.mentioned.items) mentions_at xs ys (joins_add.both (given mentions_at xs) (given mentions_at ys) a.mentioned.items b.mentioned.items c.mentioned.items f.mentions g.mentions);
+    exchanged = of_both (λ ns. Marked ns a.exchanged.items c.exchanged.items) exchanged_at xs ys (marks_add.both (given exchanged_at xs) (given exchanged_at ys) a.exchanged.items b.exchanged.items c.exchanged.items f.exchanged g.exchanged);
+    reached = of_both (λ ns. Marked ns a.reached.items c.reached.items) reached_at xs ys (marks_add.both (given reached_at xs) (given reached_at ys) a.reached.items b.reached.items c.reached.items f.reached g.reached);
   };
 }
 
@@ -103,3 +117,81 @@ mutual
       given_both mentions_at (visits (at i) t) (visits_from at (suc i) ts)
       ∙ ap (λ r. r ++ given mentions_at (visits_from at (suc i) ts)) (mentions_told (at i) t ∙ ap (λ u. mentions u (at i).around t) (e i) ∙ ap (λ r. mentions (us i) r t) (f i))
       ∙ ap (λ r. mentions (us i) (rs i) t ++ r) (all_mentions_told us rs at e f (suc i) ts)
+
+mutual
+  unfolding visits reached_by_arguments
+
+  pub reached_told : (a : Standing) (t : Tree) → given reached_at (visits a t) ≡ reached_by_arguments a.strict t
+  reached_told a (node h xs n ts) = ap (λ r. reached_params (is_strict_in a.strict h) h ts ++ r) (all_reached_told (is_strict_in a.strict h) (below a (node h xs n ts)) (λ k. refl) 0 ts)
+
+  all_reached_told : (b : Bool) (at : ℕ → Standing) → ((k : ℕ) → (at k).strict ≡ b) → (i : ℕ) (ts : Trees) → given reached_at (visits_from at i ts) ≡ all_reached_by_arguments b ts
+  all_reached_told b at e i none = refl
+  all_reached_told b at e i (t ▸ ts) =
+      given_both reached_at (visits (at i) t) (visits_from at (suc i) ts)
+      ∙ ap (λ r. r ++ given reached_at (visits_from at (suc i) ts)) (reached_told (at i) t ∙ ap (λ v. reached_by_arguments v t) (e i))
+      ∙ ap (λ r. reached_by_arguments b t ++ r) (all_reached_told b at e (suc i) ts)
+
+-- where nothing is exchanged no name is
+nothing_by : (b : Bool) (e : Exchange) (own lexical hoisted : List Name) → b ≡ false → exchanged_by b e own lexical hoisted ≡ []
+nothing_by true e own lexical hoisted q = absurd (cc q)
+nothing_by false exchange.Lexical own lexical hoisted q = refl
+nothing_by false exchange.Declared own lexical hoisted q = refl
+nothing_by false exchange.Own own lexical hoisted q = refl
+nothing_by false exchange.Nothing own lexical hoisted q = refl
+
+and_false : (b c : Bool) → b ≡ false → (b && c) ≡ false
+and_false true c e = absurd (cc e)
+and_false false c e = refl
+
+mutual
+  unfolding visits
+
+  unexchanged : (a : Standing) (t : Tree) → a.exchanges ≡ false → given exchanged_at (visits a t) ≡ []
+  unexchanged a (node h xs n ts) e =
+      ap (λ r. r ++ given exchanged_at (visits_from (below a (node h xs n ts)) 0 ts)) (nothing_by a.exchanges (exchange_of h) xs (names_of declared.Lexical (node h xs n ts)) (names_of declared.Hoisted (node h xs n ts)) e)
+      ∙ all_unexchanged (below a (node h xs n ts)) (λ k. and_false a.exchanges (is_exchange_shape h) e) 0 ts
+
+  all_unexchanged : (at : ℕ → Standing) → ((k : ℕ) → (at k).exchanges ≡ false) → (i : ℕ) (ts : Trees) → given exchanged_at (visits_from at i ts) ≡ []
+  all_unexchanged at e i none = refl
+  all_unexchanged at e i (t ▸ ts) =
+      given_both exchanged_at (visits (at i) t) (visits_from at (suc i) ts)
+      ∙ ap (λ r. r ++ given exchanged_at (visits_from at (suc i) ts)) (unexchanged (at i) t (e i))
+      ∙ all_unexchanged at e (suc i) ts
+
+-- of a node that may exchange names: its own, and those below it where its shape has them
+exchanged_whole : (h : Shape) (xs lexical hoisted all rest : List Name) → (is_exchange_shape h ≡ true → rest ≡ all) → (is_exchange_shape h ≡ false → rest ≡ []) → exchanged_by true (exchange_of h) xs lexical hoisted ++ rest ≡ module_names_by h xs lexical hoisted all
+exchanged_whole shape.Listed xs lexical hoisted all rest f g = f refl
+exchanged_whole (shape.Program is_module ds) xs lexical hoisted all rest f g = f refl
+exchanged_whole shape.ImportDeclaration xs lexical hoisted all rest f g = ap (λ r. lexical ++ r) (g refl) ∙ append-nil lexical
+exchanged_whole shape.ExportNamedDeclaration xs lexical hoisted all rest f g = ap (λ r. (lexical ++ hoisted) ++ r) (f refl)
+exchanged_whole shape.ExportDefaultDeclaration xs lexical hoisted all rest f g = ap (λ r. lexical ++ r) (g refl) ∙ append-nil lexical
+exchanged_whole shape.ExportSpecifier xs lexical hoisted all rest f g = f refl
+exchanged_whole shape.Identifier xs lexical hoisted all rest f g = ap (λ r. xs ++ r) (g refl) ∙ append-nil xs
+exchanged_whole h xs lexical hoisted all rest f g = g refl
+
+both_true : (b c : Bool) → b ≡ true → c ≡ true → (b && c) ≡ true
+both_true b c e f = ap (λ v. v && c) e ∙ f
+
+right_false : (b c : Bool) → c ≡ false → (b && c) ≡ false
+right_false true c e = e
+right_false false c e = refl
+
+mutual
+  unfolding visits module_names
+
+  pub modules_told : (a : Standing) (t : Tree) → a.exchanges ≡ true → given exchanged_at (visits a t) ≡ module_names t
+  modules_told a (node h xs n ts) e =
+      let lexical = names_of declared.Lexical (node h xs n ts) in
+      let hoisted = names_of declared.Hoisted (node h xs n ts) in
+      let rest = given exchanged_at (visits_from (below a (node h xs n ts)) 0 ts) in
+      ap (λ b. exchanged_by b (exchange_of h) xs lexical hoisted ++ rest) e
+      ∙ exchanged_whole h xs lexical hoisted (all_module_names ts) rest
+      (λ f. all_modules_told (below a (node h xs n ts)) (λ k. both_true a.exchanges (is_exchange_shape h) e f) 0 ts)
+      (λ f. all_unexchanged (below a (node h xs n ts)) (λ k. right_false a.exchanges (is_exchange_shape h) f) 0 ts)
+
+  all_modules_told : (at : ℕ → Standing) → ((k : ℕ) → (at k).exchanges ≡ true) → (i : ℕ) (ts : Trees) → given exchanged_at (visits_from at i ts) ≡ all_module_names ts
+  all_modules_told at e i none = refl
+  all_modules_told at e i (t ▸ ts) =
+      given_both exchanged_at (visits (at i) t) (visits_from at (suc i) ts)
+      ∙ ap (λ r. r ++ given exchanged_at (visits_from at (suc i) ts)) (modules_told (at i) t (e i))
+      ∙ ap (λ r. module_names t ++ r) (all_modules_told at e (suc i) ts)

@@ -1,5 +1,5 @@
 -- What is known of the names of a program.
-use Rattle.std.specs.Prelude.{ℕ, ◌≡◌, ◌<◌, Bool, List, length, map, slice_index, ◌&&◌}
+use Rattle.std.specs.Prelude.{ℕ, ◌≡◌, ◌<◌, Bool, List, length, map, slice_index, ◌&&◌, false}
 use Rattle.mini_model.specs.Tree.{Tree}
 use Rattle.mini_names.specs.References.{reads as is_read, writes as is_write, counts_of}
 use Rattle.std.specs.List.{list_any}
@@ -9,11 +9,12 @@ use Rattle.mini_context.specs.declared.mentions.Mentioned.{Mentioned}
 use Rattle.mini_context.specs.Mentioned.{is_outside, mentioned_at}
 use Rattle.mini_names.specs.Bodies.{fixed_names, this_has_event, has_arguments}
 use Rattle.mini_names.specs.ScopeList.{scopes_of, scope_of_symbol, seen_by_eval}
-use Rattle.mini_names.specs.Shared.{script_tops}
+use Rattle.mini_names.specs.Shared.{script_tops, module_names, reached_by_arguments}
 use Rattle.mini_context.specs.Tables.{mark_at, named}
 
 -- by symbol: how often it is read, and written; whether it can't be written; whether it is one of a script's top names;
--- its scope; whether a direct eval can see it; where it is mentioned. By scope: whether its code is strict; whether a direct eval stands in it.
+-- its scope; whether a direct eval can see it; whether a module imports or exports it; whether
+-- it is a parameter that an `arguments` reaches; where it is mentioned. By scope: whether its code is strict; whether a direct eval stands in it.
 -- By body: whether `this` is an event in it; whether it has an `arguments`
 pub record Facts : Type 0 where
   pub reads : List ℕ
@@ -22,6 +23,8 @@ pub record Facts : Type 0 where
   pub tops : List Bool
   pub owners : List ℕ
   pub seen : List Bool
+  pub exchanged : List Bool
+  pub reached : List Bool
   pub mentioned : List Mentioned
   pub strict : List Bool
   pub evals : List Bool
@@ -42,6 +45,8 @@ pub record Tells (f : Facts) (n : ℕ) (t : Tree) : Type 0 where
   pub seen_told : (s : ℕ) → s < n → mark_at f.seen s ≡ is_among (named s) (seen_by_eval t)
   pub strict_told : f.strict ≡ map (λ r. r.strict) (scopes_of t)
   pub evals_told : f.evals ≡ map (λ r. r.evals) (scopes_of t)
+  pub exchanged_told : (s : ℕ) → s < n → mark_at f.exchanged s ≡ is_among (named s) (module_names t)
+  pub reached_told : (s : ℕ) → s < n → mark_at f.reached s ≡ is_among (named s) (reached_by_arguments false t)
   pub mentioned_told : (s : ℕ) → s < n → (b : ℕ) → is_outside (mentioned_at f.mentioned s) b ≡ is_mentioned_outside t b (named s)
   pub this_told : (b : ℕ) → mark_at f.this_events b ≡ this_has_event t b
   pub arguments_told : (b : ℕ) → mark_at f.arguments b ≡ has_arguments t b

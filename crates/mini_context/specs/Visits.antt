@@ -1,5 +1,5 @@
 -- A walk over a tree, as the list of its nodes, each before what is below it.
-use Rattle.std.specs.Prelude.{ℕ, suc, false, List, [], ◌∷◌, ◌++◌}
+use Rattle.std.specs.Prelude.{ℕ, suc, false, List, [], ◌∷◌, ◌++◌, Bool, true, ◌&&◌}
 use Rattle.mini_model.specs.declared.name.Name.{Name}
 use Rattle.mini_model.specs.Tree.{Tree, Trees, node, none, ◌▸◌, shape_of, children}
 use Rattle.mini_node.specs.Children.{names_of, number_of}
@@ -7,6 +7,14 @@ use Rattle.mini_names.specs.Bodies.{Frame, Body, no_frame, frame_at, frame_of_bo
 use Rattle.mini_names.specs.declared.Use.TheVariants.{Read}
 use Rattle.mini_names.specs.Mentions.{Mention, own_mentions, around_child, numbering_of, outermost}
 use Rattle.mini_names.specs.Scopes.{use_of}
+use Rattle.mini_model.specs.declared.shape.Shape.{Shape}
+use Rattle.mini_model.specs.declared.shape.Shape.TheVariants as shape
+use Rattle.mini_names.specs.declared.Declared.TheVariants as declared
+use Rattle.mini_names.specs.DeclaredNames.{own_names}
+use Rattle.mini_names.specs.DeclaredNames.{names_of as names_declared}
+use Rattle.mini_names.specs.Shared.{reached_params}
+use Rattle.mini_context.specs.declared.exchanges.Exchange.{Exchange}
+use Rattle.mini_context.specs.declared.exchanges.Exchange.TheVariants as exchange
 use Rattle.mini_names.specs.Strict.{is_strict_in}
 use Rattle.mini_context.specs.declared.standing.Frame.{Frame as FrameHeld}
 use Rattle.mini_context.specs.declared.standing.Standing.{Standing}
@@ -21,9 +29,17 @@ frame_in f = record { extends = f.extends; constructs = f.constructs; binds_this
 abbrev pub frame_by : Frame → FrameHeld
 frame_by f = record { extends = f.extends; constructs = f.constructs; binds_this = f.binds_this; has_arguments = f.has_arguments }
 
+-- in which children what a module imports and exports may be named (ECMA-262, "ImportEntries", "ExportEntries")
+abbrev pub is_exchange_shape : Shape → Bool
+is_exchange_shape (shape.Program is_module ds) = true
+is_exchange_shape shape.Listed = true
+is_exchange_shape shape.ExportNamedDeclaration = true
+is_exchange_shape shape.ExportSpecifier = true
+is_exchange_shape h = false
+
 -- where a program stands
 abbrev pub top : Standing
-top = record { usage = Read; around = outermost; strict = false; frame = frame_by no_frame }
+top = record { usage = Read; around = outermost; strict = false; exchanges = true; frame = frame_by no_frame }
 
 -- what holds around a node's child at an index
 abbrev pub below : Standing → Tree → ℕ → Standing
@@ -31,6 +47,7 @@ below a t i = record {
   usage = use_of (shape_of t) a.usage i;
   around = around_child (shape_of t) a.around (number_of t) i;
   strict = is_strict_in a.strict (shape_of t);
+  exchanges = a.exchanges && is_exchange_shape (shape_of t);
   frame = frame_by (frame_at (shape_of t) (frame_in a.frame) (children t) i);
 }
 
@@ -61,9 +78,31 @@ bodies_at v = own_body (numbering_of (shape_of v.tree) (number_of v.tree)) (numb
 abbrev pub mentions_at : Visit → List Mention
 mentions_at v = own_mentions v.standing.usage v.standing.around (shape_of v.tree) (names_of v.tree)
 
+-- of an `import` or `export` what it declares, and the names of specifiers
+abbrev pub exchanged_by : Bool → Exchange → List Name → List Name → List Name → List Name
+exchanged_by true exchange.Lexical own lexical hoisted = lexical
+exchanged_by true exchange.Declared own lexical hoisted = lexical ++ hoisted
+exchanged_by true exchange.Own own lexical hoisted = own
+exchanged_by b e own lexical hoisted = []
+
+abbrev pub exchange_of : Shape → Exchange
+exchange_of shape.ImportDeclaration = exchange.Lexical
+exchange_of shape.ExportDefaultDeclaration = exchange.Lexical
+exchange_of shape.ExportNamedDeclaration = exchange.Declared
+exchange_of shape.Identifier = exchange.Own
+exchange_of h = exchange.Nothing
+
+abbrev pub exchanged_at : Visit → List Name
+exchanged_at v = exchanged_by v.standing.exchanges (exchange_of (shape_of v.tree)) (own_names v.tree) (names_declared declared.Lexical v.tree) (names_declared declared.Hoisted v.tree)
+
+abbrev pub reached_at : Visit → List Name
+reached_at v = reached_params (is_strict_in v.standing.strict (shape_of v.tree)) (shape_of v.tree) (children v.tree)
+
 -- what a walk past these nodes puts into the tables
 pub record Surveyed (vs : List Visit) (old new : Tables) : Type 0 where
   pub fixed : Marked (given fixed_at vs) old.fixed.items new.fixed.items
   pub this_events : Noted (λ f. f.binds_this) (given bodies_at vs) old.this_events.items new.this_events.items
   pub arguments : Noted (λ f. f.has_arguments) (given bodies_at vs) old.arguments.items new.arguments.items
   pub mentions : Joined (given mentions_at vs) old.mentioned.items new.mentioned.items
+  pub exchanged : Marked (given exchanged_at vs) old.exchanged.items new.exchanged.items
+  pub reached : Marked (given reached_at vs) old.reached.items new.reached.items

@@ -5,11 +5,13 @@
 
 mod context;
 mod count;
+mod exchanges;
 mod laws;
 mod listing;
 mod marks;
 mod mentions;
 mod parts;
+mod reach;
 mod refreshing;
 mod resolution;
 mod scopes;

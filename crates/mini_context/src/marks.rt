@@ -64,7 +64,8 @@ pub fn mark_bindings(marks: &mut Vec<bool>, scope: &[Binding])
     }
 }
 
-fn mark_own_name(marks: &mut Vec<bool>, node: &Node)
+/// Marks the name of a node, where it has one.
+pub fn mark_own_name(marks: &mut Vec<bool>, node: &Node)
     ensures { Marked (own_names node.now) marks.old.items marks.new.items }
 {
     if let Some(name) = node.name() {

@@ -97,7 +97,8 @@ fn join_symbol(table: &mut Vec<Mentioned>, symbol: SymbolId, around: Around)
     }
 }
 
-fn is_name_of_variable(shape: &Shape) -> bool
+/// Whether a node of this shape is the name of a variable.
+pub fn is_name_of_variable(shape: &Shape) -> bool
     ensures { result ≡ is_name_shape shape.now }
 {
     matches!(shape, Shape::Identifier | Shape::BindingIdentifier)

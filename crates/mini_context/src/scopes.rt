@@ -47,7 +47,7 @@ impl Model for Scopes {
 
     ghost Value = { Facts };
 
-    ghost view = { λ b. record { reads = b.counts.reads.items; writes = b.counts.writes.items; fixed = b.tables.fixed.items; tops = b.tops.items; owners = b.scopes.owners.items; seen = b.scopes.seen.items; mentioned = b.tables.mentioned.items; strict = b.scopes.strict.items; evals = b.scopes.evals.items; this_events = b.tables.this_events.items; arguments = b.tables.arguments.items } };
+    ghost view = { λ b. record { reads = b.counts.reads.items; writes = b.counts.writes.items; fixed = b.tables.fixed.items; tops = b.tops.items; owners = b.scopes.owners.items; seen = b.scopes.seen.items; exchanged = b.tables.exchanged.items; reached = b.tables.reached.items; mentioned = b.tables.mentioned.items; strict = b.scopes.strict.items; evals = b.scopes.evals.items; this_events = b.tables.this_events.items; arguments = b.tables.arguments.items } };
 }
 
 fn count_at(counts: &[u32], at: u32) -> u32
@@ -170,6 +170,21 @@ impl Scopes {
         ensures { result ≡ mark_at self.now.seen symbol.0 }
     {
         is_marked(self.scopes.seen.as_slice(), symbol.0)
+    }
+
+    /// Whether a module imports or exports the symbol. (ECMA-262, "ImportEntries", "ExportEntries".)
+    pub fn is_exchanged(&self, symbol: SymbolId) -> bool
+        ensures { result ≡ mark_at self.now.exchanged symbol.0 }
+    {
+        is_marked(self.tables.exchanged.as_slice(), symbol.0)
+    }
+
+    /// Whether the symbol is a parameter of a sloppy function that names its `arguments`. (ECMA-262,
+    /// "CreateMappedArgumentsObject".)
+    pub fn is_reached_by_arguments(&self, symbol: SymbolId) -> bool
+        ensures { result ≡ mark_at self.now.reached symbol.0 }
+    {
+        is_marked(self.tables.reached.as_slice(), symbol.0)
     }
 
     /// Whether another body than the one with this number, or a carried node, declares, binds, reads or writes the symbol.

@@ -5,7 +5,7 @@ ghost use Rattle.mini_model.specs.Tree.{is_absent as is_absent_tree, children, s
 ghost use Rattle.mini_names.specs.Bodies.{frame_at, frame_of_body, has_superclass as has_superclass_in, no_frame};
 ghost use Rattle.mini_names.specs.Mentions.{around_by as around_by_numbering, around_child, numbering_of as numbering_in, outermost};
 ghost use Rattle.mini_node.specs.Children.{number_of};
-ghost use Rattle.mini_context.specs.Visits.{below, frame_by, frame_in, top};
+ghost use Rattle.mini_context.specs.Visits.{below, frame_by, frame_in, is_exchange_shape, top};
 
 use crate::strictness::is_strict_in;
 use mini_model::{MethodDefinitionKind, Shape};
@@ -33,6 +33,8 @@ pub struct Standing {
     pub around: Around,
     /// Whether its code is strict.
     pub strict: bool,
+    /// Whether what a module imports and exports may be named there.
+    pub exchanges: bool,
     /// What `this` and `arguments` are there.
     pub frame: Frame,
 }
@@ -59,6 +61,7 @@ pub fn at_top() -> Standing
             carried: false,
         },
         strict: false,
+        exchanges: true,
         frame: no_frame(),
     }
 }
@@ -170,6 +173,16 @@ fn frame_below(shape: &Shape, frame: Frame, nodes: &Nodes, at: usize) -> Frame
     }
 }
 
+/// Whether what a module imports and exports may be named in the children of a node of this shape.
+fn is_exchange(shape: &Shape) -> bool
+    ensures { result ≡ is_exchange_shape shape.now }
+{
+    matches!(
+        shape,
+        Shape::Program(..) | Shape::Listed | Shape::ExportNamedDeclaration | Shape::ExportSpecifier
+    )
+}
+
 /// What holds around the child at an index of a node.
 pub fn standing_below(standing: Standing, node: &Node, at: usize) -> Standing
     ensures { result ≡ below standing node.now at }
@@ -179,6 +192,7 @@ pub fn standing_below(standing: Standing, node: &Node, at: usize) -> Standing
         usage: use_of(shape, standing.usage, at),
         around: around_below(shape, standing.around, node.number(), at),
         strict: is_strict_in(standing.strict, shape),
+        exchanges: standing.exchanges && is_exchange(shape),
         frame: frame_below(shape, standing.frame, node.children(), at),
     }
 }

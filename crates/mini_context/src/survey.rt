@@ -7,9 +7,11 @@ ghost use Rattle.mini_context.specs.Tables.{mark_at, Marked, Noted};
 ghost use Rattle.mini_context.specs.declared.mentions.Mentioned.TheVariants as mentioned;
 ghost use Rattle.mini_context.specs.Visits.{below, bodies_at, visits, visits_from, Surveyed};
 
+use crate::exchanges::mark_exchanged;
 use crate::marks::no_marks;
 use crate::mentions::{Mentioned, join_own, no_mentions};
 use crate::parts::{fixed_part, mark_part};
+use crate::reach::mark_reached;
 use crate::standing::{Standing, frame_in_body, numbering_of, standing_below};
 use mini_names::Numbering;
 use mini_node::Node;
@@ -21,6 +23,10 @@ use std::alloc::Global;
 pub struct Tables {
     /// The names that can't be written.
     pub fixed: Vec<bool>,
+    /// The names that a module imports and exports.
+    pub exchanged: Vec<bool>,
+    /// The parameters that an `arguments` reaches.
+    pub reached: Vec<bool>,
     /// Where each symbol is mentioned.
     pub mentioned: Vec<Mentioned>,
     /// The bodies in which `this` is an event.
@@ -32,12 +38,16 @@ pub struct Tables {
 /// Tables for so many symbols, without a mark.
 pub fn no_tables(alloc: Global, symbols: u32) -> Result<Tables, OutOfMemory>
     ensures fixed { IfOk result (λ tables. tables.fixed.items ≡ replicate symbols false) }
+    ensures exchanged { IfOk result (λ tables. tables.exchanged.items ≡ replicate symbols false) }
+    ensures reached { IfOk result (λ tables. tables.reached.items ≡ replicate symbols false) }
     ensures mentioned { IfOk result (λ tables. tables.mentioned.items ≡ replicate symbols mentioned.Nowhere) }
     ensures this_events { IfOk result (λ tables. tables.this_events.items ≡ []) }
     ensures arguments { IfOk result (λ tables. tables.arguments.items ≡ []) }
 {
     Ok(Tables {
         fixed: no_marks(alloc, symbols)?,
+        exchanged: no_marks(alloc, symbols)?,
+        reached: no_marks(alloc, symbols)?,
         mentioned: no_mentions(alloc, symbols)?,
         this_events: Vec::new(alloc),
         arguments: Vec::new(alloc),
@@ -73,6 +83,8 @@ fn mark_number(marks: &mut Vec<bool>, number: u32, holds: bool) -> Result<(), Ou
 fn mark_body(tables: &mut Tables, standing: Standing, node: &Node) -> Result<(), OutOfMemory>
     ensures fixed { OnOk result (tables.new.fixed ≡ tables.old.fixed) }
     ensures mentioned { OnOk result (tables.new.mentioned ≡ tables.old.mentioned) }
+    ensures exchanged { OnOk result (tables.new.exchanged ≡ tables.old.exchanged) }
+    ensures reached { OnOk result (tables.new.reached ≡ tables.old.reached) }
     ensures this_events { OnOk result (Noted (λ f. f.binds_this) (bodies_at (record { standing = standing; tree = node.now })) tables.old.this_events.items tables.new.this_events.items) }
     ensures arguments { OnOk result (Noted (λ f. f.has_arguments) (bodies_at (record { standing = standing; tree = node.now })) tables.old.arguments.items tables.new.arguments.items) }
 {
@@ -94,6 +106,8 @@ fn visit(tables: &mut Tables, standing: Standing, node: &Node) -> Result<(), Out
     ensures { OnOk result (Surveyed (record { standing = standing; tree = node.now } ∷ []) tables.old tables.new) }
 {
     mark_fixed(&mut tables.fixed, node);
+    mark_exchanged(&mut tables.exchanged, standing.exchanges, node);
+    mark_reached(&mut tables.reached, standing.strict, node);
     join_own(&mut tables.mentioned, standing, node);
     mark_body(tables, standing, node)
 }

@@ -1,0 +1,45 @@
+-- Where an `arguments` is named.
+use Rattle.std.specs.Prelude.{ℕ, suc, ◌+◌, ◌≡◌, ◌≤◌, ◌<◌, refl, Bool, false, ◌&&◌, ◌||◌, List, [], ◌∷◌, length}
+use Rattle.std.proofs.Common.{ap, ◌∙◌, arith, sym, add-one, subst}
+use Rattle.mini_model.specs.declared.shape.Shape.{Shape}
+use Rattle.mini_model.specs.declared.shape.Shape.TheVariants as shape
+use Rattle.mini_model.specs.Tree.{Tree, Trees, node, ◌▸◌, count, child_or_absent, shape_of, children}
+use Rattle.mini_node.specs.Children.{rest_children, names_of, trees_of}
+use Rattle.mini_node.specs.Walks.{next_child, no_rest, from_first}
+use Rattle.mini_names.specs.Shared.{names_arguments, any_names_arguments, is_arguments, is_name_of_variable, is_of_function, reached_params}
+use Rattle.mini_context.specs.Tables.{Marked}
+use Rattle.mini_context.proofs.Marking.{marks_add}
+
+any_more : (f : ℕ → Bool) (i : ℕ) (t : Tree) (ts : Trees) → any_names_arguments f i (t ▸ ts) ≡ ((f i && names_arguments t) || any_names_arguments f (suc i) ts)
+unfolding names_arguments
+any_more f i t ts = refl
+
+pub begins : (f : ℕ → Bool) (ts : Trees) → any_names_arguments f 0 ts ≡ any_names_arguments f 0 (rest_children 0 ts)
+begins f ts = ap (any_names_arguments f 0) (sym (from_first ts))
+
+pub step : (f : ℕ → Bool) (ts : Trees) (i : ℕ) (t : Tree) → i < count ts → t ≡ child_or_absent ts i → any_names_arguments f i (rest_children i ts) ≡ ((f i && names_arguments t) || any_names_arguments f (i + 1) (rest_children (i + 1) ts))
+step f ts i t h e =
+    ap (any_names_arguments f i) (next_child ts i h) ∙ any_more f i (child_or_absent ts i) (rest_children (suc i) ts)
+    ∙ ap (λ u. (f i && names_arguments u) || any_names_arguments f (suc i) (rest_children (suc i) ts)) (sym e)
+    ∙ ap (λ k. (f i && names_arguments t) || any_names_arguments f k (rest_children k ts)) (sym (add-one i))
+
+pub ends : (f : ℕ → Bool) (ts : Trees) (i : ℕ) → count ts ≤ i → any_names_arguments f i (rest_children i ts) ≡ false
+unfolding names_arguments
+ends f ts i h = ap (any_names_arguments f i) (no_rest ts i h)
+
+opened : (n : Tree) → names_arguments n ≡ ((is_name_of_variable (shape_of n) && is_arguments (names_of n)) || any_names_arguments (is_of_function (shape_of n)) 0 (children n))
+unfolding names_arguments
+opened (node h xs m ts) = refl
+
+pub own_first : (n : Tree) (v b : Bool) → v ≡ (is_name_of_variable (shape_of n) && is_arguments (names_of n)) → v ≡ b → names_arguments n ≡ (b || any_names_arguments (is_of_function (shape_of n)) 0 (children n))
+own_first n v b e f = opened n ∙ ap (λ w. w || any_names_arguments (is_of_function (shape_of n)) 0 (children n)) (sym e ∙ f)
+
+few : (b : Bool) (h : Shape) (xs : List Tree) → length xs < 3 → reached_params b h (trees_of xs) ≡ []
+few b (shape.Function d g ds) [] e = refl
+few b (shape.Function d g ds) (x ∷ []) e = refl
+few b (shape.Function d g ds) (x ∷ (y ∷ [])) e = refl
+few b (shape.Function d g ds) (x ∷ (y ∷ (z ∷ xs))) e = absurd (omega arith)
+few b h xs e = refl
+
+pub few_reached : (b : Bool) (n : Tree) (xs : List Tree) (marks : List Bool) → trees_of xs ≡ children n → length xs < 3 → Marked (reached_params b (shape_of n) (children n)) marks marks
+few_reached b n xs marks e h = subst (λ ns. Marked ns marks marks) (sym (ap (reached_params b (shape_of n)) (sym e) ∙ few b (shape_of n) xs h)) (marks_add.nothing marks)
