@@ -10,3 +10,4 @@ mod Listings
 mod Evals
 mod Told
 mod Reached
+mod Shares

@@ -1,5 +1,5 @@
 -- Tables of marks.
-use Rattle.std.specs.Prelude.{ℕ, zero, suc, ◌≡◌, ◌≤◌, ◌<◌, refl, nat_eq, ◌&&◌, ◌||◌, Bool, true, false, List, [], ◌∷◌, length, Option, Some, None}
+use Rattle.std.specs.Prelude.{ℕ, zero, suc, ◌≡◌, ◌≤◌, ◌<◌, refl, nat_eq, ◌&&◌, ◌||◌, Bool, true, false, List, [], ◌∷◌, length, Option, Some, None, ◌++◌}
 use Rattle.std.specs.List.{list_any}
 use Rattle.std.proofs.Common.{ap, ◌∙◌, arith, sym, subst}
 use Rattle.std.proofs.lemmas.List.Folds.{list_any-append}
@@ -15,6 +15,8 @@ use Rattle.mini_names.specs.DeclaredNames.{place_of, names_by, own_names, names_
 use Rattle.mini_names.specs.declared.Place.{Place}
 use Rattle.mini_names.specs.declared.Declared.TheVariants as declared
 use Rattle.mini_context.specs.declared.parts.Part.{Part}
+use Rattle.mini_context.specs.Own.{is_catch_shape}
+use Rattle.mini_context.specs.Catches.{own_catch_names}
 use Rattle.mini_context.specs.Parts.{bound_at, names_at, fixed_part}
 use Rattle.mini_names.specs.Mentions.{same_variable, same_variable_by, is_among}
 use Rattle.mini_names.specs.Bodies.{Frame, Body, own_fixed}
@@ -110,3 +112,13 @@ fixed_is h ts = refl
 pub fixed_marks : (n : Tree) (h : Shape) (p : Part) (ts : Trees) (old new : List Bool) → h ≡ shape_of n → p ≡ fixed_part h → ts ≡ children n → Marked (names_at p ts) old new → Marked (own_fixed (shape_of n) (children n)) old new
 fixed_marks n h p ts old new e f g m =
     subst (λ ns. Marked ns old new) (ap (λ q. names_at q ts) f ∙ sym (fixed_is h ts) ∙ ap (λ k. own_fixed k ts) e ∙ ap (own_fixed (shape_of n)) g) m
+
+catch_is : (h : Shape) (ts : Trees) → is_catch_shape h ≡ true → own_catch_names h ts ≡ bound_at (child_at ts 0) ++ all_names declared.Hoisted ts
+catch_is shape.CatchClause ts e = ap (λ r. r ++ all_names declared.Hoisted ts) (first_bound ts)
+catch_is h ts e = absurd (cc e)
+
+pub catch_marks : (n : Tree) (h : Shape) (ts us : Trees) (old mid new : List Bool) → h ≡ shape_of n → is_catch_shape h ≡ true → ts ≡ children n → us ≡ children n → Marked (bound_at (child_at ts 0)) old mid → Marked (all_names declared.Hoisted us) mid new → Marked (own_catch_names (shape_of n) (children n)) old new
+catch_marks n h ts us old mid new e c f g a b =
+    subst (λ ns. Marked ns old new)
+    (ap (λ k. bound_at (child_at k 0) ++ all_names declared.Hoisted us) f ∙ ap (λ k. bound_at (child_at (children n) 0) ++ all_names declared.Hoisted k) g ∙ sym (catch_is h (children n) c) ∙ ap (λ k. own_catch_names k (children n)) e)
+    (marks_add.both (bound_at (child_at ts 0)) (all_names declared.Hoisted us) old mid new a b)

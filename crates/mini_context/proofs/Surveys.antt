@@ -21,8 +21,9 @@ use Rattle.mini_context.specs.Mentioned.{Joined}
 use Rattle.mini_context.proofs.Joining.{joins_add}
 use Rattle.mini_context.specs.declared.standing.Standing.{Standing}
 use Rattle.mini_context.specs.declared.survey.Tables.{Tables}
+use Rattle.mini_context.specs.Catches.{catch_names, all_catch_names, own_catch_names}
 use Rattle.mini_context.specs.Tables.{Marked, Noted}
-use Rattle.mini_context.specs.Visits.{Visit, visits, visits_from, given, below, frame_in, fixed_at, bodies_at, mentions_at, exchanged_at, exchanged_by, exchange_of, is_exchange_shape, reached_at, Surveyed}
+use Rattle.mini_context.specs.Visits.{Visit, visits, visits_from, given, below, frame_in, fixed_at, bodies_at, mentions_at, catches_at, exchanged_at, exchanged_by, exchange_of, is_exchange_shape, reached_at, Surveyed}
 use Rattle.mini_context.proofs.Gathering.{Adds, Gathers}
 use Rattle.mini_context.proofs.Marking.{marks_add, notes_add}
 
@@ -43,6 +44,7 @@ surveys_add = record {
     mentions = joins_add.nothing s.mentioned.items;
     exchanged = marks_add.nothing s.exchanged.items;
     reached = marks_add.nothing s.reached.items;
+    catches = marks_add.nothing s.catches.items;
   };
   both = λ xs ys a b c f g. record {
     fixed = of_both (λ ns. Marked ns a.fixed.items c.fixed.items) fixed_at xs ys (marks_add.both (given fixed_at xs) (given fixed_at ys) a.fixed.items b.fixed.items c.fixed.items f.fixed g.fixed);
@@ -51,6 +53,7 @@ surveys_add = record {
     mentions = of_both (λ ms. Joined ms a.mentioned.items c.mentioned.items) mentions_at xs ys (joins_add.both (given mentions_at xs) (given mentions_at ys) a.mentioned.items b.mentioned.items c.mentioned.items f.mentions g.mentions);
     exchanged = of_both (λ ns. Marked ns a.exchanged.items c.exchanged.items) exchanged_at xs ys (marks_add.both (given exchanged_at xs) (given exchanged_at ys) a.exchanged.items b.exchanged.items c.exchanged.items f.exchanged g.exchanged);
     reached = of_both (λ ns. Marked ns a.reached.items c.reached.items) reached_at xs ys (marks_add.both (given reached_at xs) (given reached_at ys) a.reached.items b.reached.items c.reached.items f.reached g.reached);
+    catches = of_both (λ ns. Marked ns a.catches.items c.catches.items) catches_at xs ys (marks_add.both (given catches_at xs) (given catches_at ys) a.catches.items b.catches.items c.catches.items f.catches g.catches);
   };
 }
 
@@ -195,3 +198,16 @@ mutual
       given_both exchanged_at (visits (at i) t) (visits_from at (suc i) ts)
       ∙ ap (λ r. r ++ given exchanged_at (visits_from at (suc i) ts)) (modules_told (at i) t (e i))
       ∙ ap (λ r. module_names t ++ r) (all_modules_told at e (suc i) ts)
+
+mutual
+  unfolding visits catch_names
+
+  pub catches_told : (a : Standing) (t : Tree) → given catches_at (visits a t) ≡ catch_names t
+  catches_told a (node h xs n ts) = ap (λ r. own_catch_names h ts ++ r) (all_catches_told (below a (node h xs n ts)) 0 ts)
+
+  all_catches_told : (at : ℕ → Standing) (i : ℕ) (ts : Trees) → given catches_at (visits_from at i ts) ≡ all_catch_names ts
+  all_catches_told at i none = refl
+  all_catches_told at i (t ▸ ts) =
+      given_both catches_at (visits (at i) t) (visits_from at (suc i) ts)
+      ∙ ap (λ r. r ++ given catches_at (visits_from at (suc i) ts)) (catches_told (at i) t)
+      ∙ ap (λ r. catch_names t ++ r) (all_catches_told at (suc i) ts)

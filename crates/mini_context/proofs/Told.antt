@@ -12,7 +12,8 @@ use Rattle.mini_names.specs.Mentions.{Mention, mentions, same_variable, is_elsew
 use Rattle.mini_context.specs.declared.mentions.Mentioned.{Mentioned}
 use Rattle.mini_context.specs.declared.mentions.Mentioned.TheVariants as mentioned
 use Rattle.mini_context.specs.Mentioned.{is_outside, mentioned_at, Joined}
-use Rattle.mini_context.specs.Facts.{is_mentioned_outside}
+use Rattle.mini_context.specs.Outside.{is_mentioned_outside}
+use Rattle.mini_context.specs.Catches.{catch_names}
 use Rattle.mini_names.specs.Bodies.{Frame, Body, no_frame, bodies, fixed_names}
 use Rattle.mini_names.specs.Shared.{script_tops, module_names, reached_by_arguments}
 use Rattle.mini_names.specs.ScopeList.{Scope, names_in, scope_from}
@@ -21,8 +22,8 @@ use Rattle.mini_scope.specs.declared.opening.OpenScopes.{OpenScopes}
 use Rattle.mini_context.specs.declared.standing.Standing.{Standing}
 use Rattle.mini_context.specs.Own.{is_script_shape}
 use Rattle.mini_context.specs.Tables.{mark_at, named, Marked, Noted, owners_from}
-use Rattle.mini_context.specs.Visits.{visits, given, fixed_at, bodies_at, mentions_at, exchanged_at, reached_at, frame_in, top}
-use Rattle.mini_context.proofs.Surveys.{fixed_told, bodies_told, mentions_told, modules_told, reached_told}
+use Rattle.mini_context.specs.Visits.{visits, given, fixed_at, bodies_at, mentions_at, catches_at, exchanged_at, reached_at, frame_in, top}
+use Rattle.mini_context.proofs.Surveys.{fixed_told, bodies_told, mentions_told, modules_told, reached_told, catches_told}
 use Rattle.mini_context.proofs.Listings.{owner_told}
 use Rattle.mini_context.proofs.Marking.{marks_add}
 
@@ -100,3 +101,6 @@ exchanged_by_walk n a t old new e f m s h = from_blank n (given exchanged_at (vi
 
 pub reached_by_walk : (n : ℕ) (a : Standing) (t : Tree) (old new : List Bool) → a ≡ top → old ≡ replicate n false → Marked (given reached_at (visits a t)) old new → (s : ℕ) → s < n → mark_at new s ≡ is_among (named s) (reached_by_arguments false t)
 reached_by_walk n a t old new e f m s h = from_blank n (given reached_at (visits a t)) old new f m s h ∙ ap (is_among (named s)) (reached_told a t ∙ ap (λ r. reached_by_arguments r.strict t) e)
+
+pub catches_by : (n : ℕ) (a : Standing) (t : Tree) (old new : List Bool) → old ≡ replicate n false → Marked (given catches_at (visits a t)) old new → (s : ℕ) → s < n → mark_at new s ≡ is_among (named s) (catch_names t)
+catches_by n a t old new f m s h = from_blank n (given catches_at (visits a t)) old new f m s h ∙ ap (is_among (named s)) (catches_told a t)

@@ -4,5 +4,7 @@ pub mod Tables
 pub mod Mentioned
 pub mod Parts
 pub mod Visits
+pub mod Outside
+pub mod Catches
 pub mod Facts
 pub mod Laws

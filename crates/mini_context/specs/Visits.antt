@@ -19,6 +19,7 @@ use Rattle.mini_names.specs.Strict.{is_strict_in}
 use Rattle.mini_context.specs.declared.standing.Frame.{Frame as FrameHeld}
 use Rattle.mini_context.specs.declared.standing.Standing.{Standing}
 use Rattle.mini_context.specs.declared.survey.Tables.{Tables}
+use Rattle.mini_context.specs.Catches.{own_catch_names}
 use Rattle.mini_context.specs.Mentioned.{Joined}
 use Rattle.mini_context.specs.Tables.{Marked, Noted}
 
@@ -95,6 +96,9 @@ exchange_of h = exchange.Nothing
 abbrev pub exchanged_at : Visit → List Name
 exchanged_at v = exchanged_by v.standing.exchanges (exchange_of (shape_of v.tree)) (own_names v.tree) (names_declared declared.Lexical v.tree) (names_declared declared.Hoisted v.tree)
 
+abbrev pub catches_at : Visit → List Name
+catches_at v = own_catch_names (shape_of v.tree) (children v.tree)
+
 abbrev pub reached_at : Visit → List Name
 reached_at v = reached_params (is_strict_in v.standing.strict (shape_of v.tree)) (shape_of v.tree) (children v.tree)
 
@@ -106,3 +110,4 @@ pub record Surveyed (vs : List Visit) (old new : Tables) : Type 0 where
   pub mentions : Joined (given mentions_at vs) old.mentioned.items new.mentioned.items
   pub exchanged : Marked (given exchanged_at vs) old.exchanged.items new.exchanged.items
   pub reached : Marked (given reached_at vs) old.reached.items new.reached.items
+  pub catches : Marked (given catches_at vs) old.catches.items new.catches.items

@@ -1,6 +1,6 @@
 //! Laws of counts. Each is the contract of a function that does nothing.
 
-ghost use Rattle.mini_context.specs.Laws.{CountsTell, DropsTell, NamesTell};
+ghost use Rattle.mini_context.specs.Laws.{CountsTell, DropsTell, NamesTell, SharesTell, TablesTell};
 
 /// The counts by symbol of a tree are how often each symbol is read, and how often it is written.
 pub fn counts_tell()
@@ -15,4 +15,14 @@ pub fn drops_tell()
 /// Whether a name that has a symbol is among others is a matter of the symbol alone.
 pub fn names_tell()
     ensures { NamesTell }
+{}
+
+/// What a body shares it may share; and what is no name of a `catch` clause it shares where it may.
+pub fn shares_tell()
+    ensures { SharesTell }
+{}
+
+/// The tables of a program tell what a body may share.
+pub fn tables_tell()
+    ensures { TablesTell }
 {}

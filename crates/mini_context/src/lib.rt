@@ -22,7 +22,7 @@ mod survey;
 
 pub use context::{Parent, TraverseCtx};
 pub use count::{Counts, Tally, fresh_counts, tally_node};
-pub use laws::{counts_tell, drops_tell, names_tell};
+pub use laws::{counts_tell, drops_tell, names_tell, shares_tell, tables_tell};
 pub use refreshing::refresh;
 pub use resolution::resolve;
 pub use scopes::{ScopeId, Scopes};

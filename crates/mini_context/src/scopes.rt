@@ -7,7 +7,7 @@ ghost use Rattle.mini_names.specs.ScopeList.{seen_by_eval as seen_names};
 ghost use Rattle.mini_names.specs.Shared.{script_tops as script_tops_of};
 ghost use Rattle.mini_context.specs.Mentioned.{is_outside as is_outside_of, mentioned_at as entry_at};
 ghost use Rattle.mini_context.specs.Own.{is_script_shape};
-ghost use Rattle.mini_context.specs.Facts.{Refreshed, Tells};
+ghost use Rattle.mini_context.specs.Facts.{Refreshed, Tells, may_share};
 ghost use Rattle.mini_context.specs.Tables.{mark_at, Marked};
 ghost use Rattle.mini_context.specs.Tallies.{Contained, FellBy};
 
@@ -47,7 +47,7 @@ impl Model for Scopes {
 
     ghost Value = { Facts };
 
-    ghost view = { λ b. record { reads = b.counts.reads.items; writes = b.counts.writes.items; fixed = b.tables.fixed.items; tops = b.tops.items; owners = b.scopes.owners.items; seen = b.scopes.seen.items; exchanged = b.tables.exchanged.items; reached = b.tables.reached.items; mentioned = b.tables.mentioned.items; strict = b.scopes.strict.items; evals = b.scopes.evals.items; this_events = b.tables.this_events.items; arguments = b.tables.arguments.items } };
+    ghost view = { λ b. record { reads = b.counts.reads.items; writes = b.counts.writes.items; fixed = b.tables.fixed.items; tops = b.tops.items; owners = b.scopes.owners.items; seen = b.scopes.seen.items; exchanged = b.tables.exchanged.items; reached = b.tables.reached.items; catches = b.tables.catches.items; mentioned = b.tables.mentioned.items; strict = b.scopes.strict.items; evals = b.scopes.evals.items; this_events = b.tables.this_events.items; arguments = b.tables.arguments.items } };
 }
 
 fn count_at(counts: &[u32], at: u32) -> u32
@@ -195,6 +195,19 @@ impl Scopes {
             mentioned_at(self.tables.mentioned.as_slice(), symbol.0),
             body,
         )
+    }
+
+    /// Whether the body with this number may share the symbol with what is outside it. Where it does share it the answer is
+    /// true; a true answer may be too much only for the names of `catch` clauses, whose environments it doesn't follow.
+    pub fn is_shared(&self, symbol: SymbolId, body: u32) -> bool
+        ensures { result ≡ may_share self.now symbol.0 body }
+    {
+        is_marked(self.tops.as_slice(), symbol.0)
+            || is_marked(self.tables.exchanged.as_slice(), symbol.0)
+            || is_marked(self.scopes.seen.as_slice(), symbol.0)
+            || is_marked(self.tables.reached.as_slice(), symbol.0)
+            || is_marked(self.tables.catches.as_slice(), symbol.0)
+            || self.is_mentioned_outside(symbol, body)
     }
 
     /// Whether the scope's code is strict. (ECMA-262, "Strict Mode Code".)

@@ -5,15 +5,18 @@ ghost use Rattle.mini_model.specs.Tree.{children, shape_of};
 ghost use Rattle.mini_names.specs.Bodies.{own_fixed};
 ghost use Rattle.mini_context.specs.Tables.{mark_at, Marked, Noted};
 ghost use Rattle.mini_context.specs.declared.mentions.Mentioned.TheVariants as mentioned;
+ghost use Rattle.mini_context.specs.Catches.{own_catch_names};
+ghost use Rattle.mini_context.specs.Own.{is_catch_shape};
 ghost use Rattle.mini_context.specs.Visits.{below, bodies_at, visits, visits_from, Surveyed};
 
 use crate::exchanges::mark_exchanged;
 use crate::marks::no_marks;
 use crate::mentions::{Mentioned, join_own, no_mentions};
-use crate::parts::{fixed_part, mark_part};
+use crate::parts::{Part, fixed_part, mark_part};
 use crate::reach::mark_reached;
 use crate::standing::{Standing, frame_in_body, numbering_of, standing_below};
-use mini_names::Numbering;
+use mini_model::Shape;
+use mini_names::{Declared, Numbering};
 use mini_node::Node;
 use mini_text::OutOfMemory;
 use std::alloc::Global;
@@ -27,6 +30,8 @@ pub struct Tables {
     pub exchanged: Vec<bool>,
     /// The parameters that an `arguments` reaches.
     pub reached: Vec<bool>,
+    /// The names of `catch` clauses.
+    pub catches: Vec<bool>,
     /// Where each symbol is mentioned.
     pub mentioned: Vec<Mentioned>,
     /// The bodies in which `this` is an event.
@@ -40,6 +45,7 @@ pub fn no_tables(alloc: Global, symbols: u32) -> Result<Tables, OutOfMemory>
     ensures fixed { IfOk result (λ tables. tables.fixed.items ≡ replicate symbols false) }
     ensures exchanged { IfOk result (λ tables. tables.exchanged.items ≡ replicate symbols false) }
     ensures reached { IfOk result (λ tables. tables.reached.items ≡ replicate symbols false) }
+    ensures catches { IfOk result (λ tables. tables.catches.items ≡ replicate symbols false) }
     ensures mentioned { IfOk result (λ tables. tables.mentioned.items ≡ replicate symbols mentioned.Nowhere) }
     ensures this_events { IfOk result (λ tables. tables.this_events.items ≡ []) }
     ensures arguments { IfOk result (λ tables. tables.arguments.items ≡ []) }
@@ -48,6 +54,7 @@ pub fn no_tables(alloc: Global, symbols: u32) -> Result<Tables, OutOfMemory>
         fixed: no_marks(alloc, symbols)?,
         exchanged: no_marks(alloc, symbols)?,
         reached: no_marks(alloc, symbols)?,
+        catches: no_marks(alloc, symbols)?,
         mentioned: no_mentions(alloc, symbols)?,
         this_events: Vec::new(alloc),
         arguments: Vec::new(alloc),
@@ -85,6 +92,7 @@ fn mark_body(tables: &mut Tables, standing: Standing, node: &Node) -> Result<(),
     ensures mentioned { OnOk result (tables.new.mentioned ≡ tables.old.mentioned) }
     ensures exchanged { OnOk result (tables.new.exchanged ≡ tables.old.exchanged) }
     ensures reached { OnOk result (tables.new.reached ≡ tables.old.reached) }
+    ensures catches { OnOk result (tables.new.catches ≡ tables.old.catches) }
     ensures this_events { OnOk result (Noted (λ f. f.binds_this) (bodies_at (record { standing = standing; tree = node.now })) tables.old.this_events.items tables.new.this_events.items) }
     ensures arguments { OnOk result (Noted (λ f. f.has_arguments) (bodies_at (record { standing = standing; tree = node.now })) tables.old.arguments.items tables.new.arguments.items) }
 {
@@ -102,11 +110,28 @@ fn mark_fixed(marks: &mut Vec<bool>, node: &Node)
     mark_part(marks, fixed_part(node.shape()), node.children());
 }
 
+fn is_catch(shape: &Shape) -> bool
+    ensures { result ≡ is_catch_shape shape.now }
+{
+    matches!(shape, Shape::CatchClause)
+}
+
+fn mark_catches(marks: &mut Vec<bool>, node: &Node)
+    ensures { Marked (own_catch_names (shape_of node.now) (children node.now)) marks.old.items marks.new.items }
+{
+    if !is_catch(node.shape()) {
+        return;
+    }
+    mark_part(marks, Part::At(0), node.children());
+    mark_part(marks, Part::Every(Declared::Hoisted), node.children());
+}
+
 fn visit(tables: &mut Tables, standing: Standing, node: &Node) -> Result<(), OutOfMemory>
     ensures { OnOk result (Surveyed (record { standing = standing; tree = node.now } ∷ []) tables.old tables.new) }
 {
     mark_fixed(&mut tables.fixed, node);
     mark_exchanged(&mut tables.exchanged, standing.exchanges, node);
+    mark_catches(&mut tables.catches, node);
     mark_reached(&mut tables.reached, standing.strict, node);
     join_own(&mut tables.mentioned, standing, node);
     mark_body(tables, standing, node)

@@ -1,6 +1,6 @@
 use Rattle.std.proofs.Common.{refl}
 use Rattle.mini_names.specs.ScopeList.{scopes_of, seen_in}
-use Rattle.mini_context.proofs.Told.{from_blank, exchanged_by_walk, reached_by_walk, mentions_by, fixed_by, body_by, owner_by, flags_by}
+use Rattle.mini_context.proofs.Told.{from_blank, catches_by, exchanged_by_walk, reached_by_walk, mentions_by, fixed_by, body_by, owner_by, flags_by}
 use Rattle.mini_context.proofs.scopes.Scopes.of.Goals as goal
 
 pub returns : goal.returns
@@ -21,6 +21,7 @@ returns c =
       evals_told = flags_by (λ r. r.evals) ss c.in_ok-scopes.scopes.evals.items c.list_scopes.new.tables.evals.items c.in_ok-scopes.ensures.evals listed.evals;
       exchanged_told = exchanged_by_walk n c.at_top.result t c.in_ok-tables.tables.exchanged.items c.survey_node.new.tables.exchanged.items c.at_top.ensures c.in_ok-tables.ensures.exchanged found.exchanged;
       reached_told = reached_by_walk n c.at_top.result t c.in_ok-tables.tables.reached.items c.survey_node.new.tables.reached.items c.at_top.ensures c.in_ok-tables.ensures.reached found.reached;
+      catches_told = catches_by n c.at_top.result t c.in_ok-tables.tables.catches.items c.survey_node.new.tables.catches.items c.in_ok-tables.ensures.catches found.catches;
       mentioned_told = mentions_by n c.at_top.result t c.in_ok-tables.tables.mentioned.items c.survey_node.new.tables.mentioned.items c.at_top.ensures c.in_ok-tables.ensures.mentioned found.mentions;
       this_told = body_by (λ f. f.binds_this) c.at_top.result t c.in_ok-tables.tables.this_events.items c.survey_node.new.tables.this_events.items c.at_top.ensures c.in_ok-tables.ensures.this_events found.this_events;
       arguments_told = body_by (λ f. f.has_arguments) c.at_top.result t c.in_ok-tables.tables.arguments.items c.survey_node.new.tables.arguments.items c.at_top.ensures c.in_ok-tables.ensures.arguments found.arguments;
