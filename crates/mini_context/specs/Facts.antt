@@ -50,12 +50,16 @@ pub record Tells (f : Facts) (n : ℕ) (t : Tree) : Type 0 where
   pub this_told : (b : ℕ) → mark_at f.this_events b ≡ this_has_event t b
   pub arguments_told : (b : ℕ) → mark_at f.arguments b ≡ has_arguments t b
 
--- the counts and what a direct eval can see are those of a tree, and all else is as it was
+-- the counts, what a direct eval can see and what is mentioned where are those of a tree, and all else is as it was
 pub record Refreshed (old new : Facts) (t : Tree) : Type 0 where
   pub reads_told : new.reads ≡ counts_of is_read (length old.reads) t
   pub writes_told : new.writes ≡ counts_of is_write (length old.reads) t
   pub seen_told : (s : ℕ) → s < length old.reads → mark_at new.seen s ≡ is_among (named s) (seen_by_eval t)
-  pub rest : new ≡ record old { reads = new.reads; writes = new.writes; seen = new.seen }
+  pub exchanged_told : (s : ℕ) → s < length old.reads → mark_at new.exchanged s ≡ is_among (named s) (module_names t)
+  pub reached_told : (s : ℕ) → s < length old.reads → mark_at new.reached s ≡ is_among (named s) (reached_by_arguments false t)
+  pub catches_told : (s : ℕ) → s < length old.reads → mark_at new.catches s ≡ is_among (named s) (catch_names t)
+  pub mentioned_told : (s : ℕ) → s < length old.reads → (b : ℕ) → is_outside (mentioned_at new.mentioned s) b ≡ is_mentioned_outside t b (named s)
+  pub rest : new ≡ record old { reads = new.reads; writes = new.writes; seen = new.seen; exchanged = new.exchanged; reached = new.reached; catches = new.catches; mentioned = new.mentioned }
 
 -- whether a body may share the symbol with a number, as the tables tell it
 abbrev pub may_share : Facts → ℕ → ℕ → Bool

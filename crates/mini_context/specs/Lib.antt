@@ -6,5 +6,6 @@ pub mod Parts
 pub mod Visits
 pub mod Outside
 pub mod Catches
+pub mod Found
 pub mod Facts
 pub mod Laws

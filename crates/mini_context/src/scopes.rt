@@ -8,6 +8,7 @@ ghost use Rattle.mini_names.specs.Shared.{script_tops as script_tops_of};
 ghost use Rattle.mini_context.specs.Mentioned.{is_outside as is_outside_of, mentioned_at as entry_at};
 ghost use Rattle.mini_context.specs.Own.{is_script_shape};
 ghost use Rattle.mini_context.specs.Facts.{Refreshed, Tells, may_share};
+ghost use Rattle.mini_context.specs.Found.{Found};
 ghost use Rattle.mini_context.specs.Tables.{mark_at, Marked};
 ghost use Rattle.mini_context.specs.Tallies.{Contained, FellBy};
 
@@ -78,6 +79,15 @@ fn script_tops(alloc: Global, symbols: u32, program: &Node) -> Result<Vec<bool>,
     Ok(tops)
 }
 
+// What a walk over a program with so many symbols finds.
+fn surveyed(alloc: Global, program: &Node, symbols: u32) -> Result<Tables, OutOfMemory>
+    ensures { IfOk result (λ tables. Found tables symbols program.now) }
+{
+    let mut tables = no_tables(alloc, symbols)?;
+    survey_node(&mut tables, at_top(), program)?;
+    Ok(tables)
+}
+
 // The symbols that a direct eval can see, among so many.
 fn seen_by_eval(alloc: Global, program: &Node, symbols: u32) -> Result<Vec<bool>, OutOfMemory>
     ensures { IfOk result (λ seen. Marked (seen_names program.now) (replicate symbols false) seen.items) }
@@ -100,8 +110,7 @@ impl Scopes {
         ensures { IfOk result (λ scopes. Tells scopes symbols program.now) }
     {
         let counts = own_counts::<Brand>(alloc, program, symbols, Blank::new(1))?;
-        let mut tables = no_tables(alloc, symbols)?;
-        survey_node(&mut tables, at_top(), program)?;
+        let tables = surveyed(alloc, program, symbols)?;
         let mut scopes = no_scopes(alloc, symbols)?;
         list_scopes(alloc, &mut scopes, Use::Read, false, program)?;
         let tops = script_tops(alloc, symbols, program)?;
@@ -113,7 +122,7 @@ impl Scopes {
         })
     }
 
-    /// Sets the counts and what a direct eval can see to those of a program. After `OutOfMemory` they are fit only to be
+    /// Sets the counts, what a direct eval can see and what is shared to those of a program. After `OutOfMemory` they are fit only to be
     /// dropped.
     pub fn refresh(&mut self, alloc: Global, program: &Node) -> Result<(), OutOfMemory>
         requires { length (references variant.Read program.now) + 1 < 2 ^ 32 }
@@ -125,6 +134,19 @@ impl Scopes {
         };
         self.counts = own_counts::<Brand>(alloc, program, symbols, Blank::new(1))?;
         self.scopes.seen = seen_by_eval(alloc, program, symbols)?;
+        let Tables {
+            fixed: _,
+            exchanged,
+            reached,
+            catches,
+            mentioned,
+            this_events: _,
+            arguments: _,
+        } = surveyed(alloc, program, symbols)?;
+        self.tables.exchanged = exchanged;
+        self.tables.reached = reached;
+        self.tables.catches = catches;
+        self.tables.mentioned = mentioned;
         Ok(())
     }
 
