@@ -8,7 +8,7 @@
 "use strict";
 const fs = require("fs");
 const path = require("path");
-const { parseLeniently, written } = require("./estree.js");
+const { parseLeniently, text, written } = require("./estree.js");
 
 const TITLE = "# Whole runs: which numbers and symbols stay, how many passes it takes, and the program";
 const UNBOUNDED = 4294967295;
@@ -20,17 +20,16 @@ const numbers = (said) => (Array.isArray(said) ? said : upTo(said));
 // A module is told by what only a module has.
 const typeOf = (source) => (/^(import|export)\b|\bimport\.meta/m.test(source) ? "module" : "script");
 const estree = (source) => parseLeniently(source, typeOf(source));
-const plain = (key, value) => (typeof value === "bigint" ? null : value);
 const oneLine = (source) => source.trim().replace(/\n\s*/g, " ");
 
 function add(title, passes, source, answer) {
-  cases.push({ titles: [title, oneLine(source)], line: `answer ${passes} ${JSON.stringify(estree(source), plain)}`, answer });
+  cases.push({ titles: [title, oneLine(source)], line: `answer ${passes} ${text(estree(source))}`, answer });
 }
 
 // The run answers this program: the numbers of its nodes and its symbols in the input, in order, or how many there are
 // where each stays at its place; how many passes were made.
 function becomes(title, source, after, { kept = 1, symbols = 0, passes = 2, settled = true, bound = UNBOUNDED } = {}) {
-  const program = JSON.stringify(written(estree(after)), plain);
+  const program = text(written(estree(after)));
   const lists = [numbers(kept), numbers(symbols)].map((list) => `[${list.join(",")}]`);
   add(title, bound, source, `${lists.join(" ")} ${passes} ${settled} ${program}`);
 }
@@ -296,7 +295,7 @@ becomes(
   i || (j ||= k &&= l ??= m);
   n += o -= p *= q /= r %= s **= t <<= u >>= v >>>= w &= x ^= y |= z;`,
 );
-becomes('literals', 'x = [null, true, false, 0, 12, -5, 9007199254740991, "s", 7n, this, , ]; if (!0) f();', 'x = [null, true, false, 0, 12, -5, 9007199254740991, "s", 7n, this, , ]; 0 || f();');
+becomes("literals", 'x = [null, true, false, 0, 12, -5, 9007199254740991, "s", 7n, this, , ]; if (!0) f();', 'x = [null, true, false, 0, 12, -5, 9007199254740991, "s", 7n, this, , ]; 0 || f();');
 becomes("names of the global object", "if (!undefined) x = NaN + Infinity;", "undefined || (x = NaN + Infinity);");
 becomes("`??` as a test", "if (!(a ?? b)) c(); x = !(a ?? b) ? 1 : 2;", "(a ?? b) || c(); x = a ?? b ? 2 : 1;");
 becomes(
@@ -361,9 +360,9 @@ refused("a fractional number in a function", "break; function f() { return 1.5; 
 
 // ---- the files
 
-const before = (text) => {
-  const at = text.indexOf(`${TITLE}\n`);
-  return at < 0 ? text : text.slice(0, at);
+const before = (lines) => {
+  const at = lines.indexOf(`${TITLE}\n`);
+  return at < 0 ? lines : lines.slice(0, at);
 };
 
 function extend(file, lines) {
@@ -371,7 +370,7 @@ function extend(file, lines) {
   fs.writeFileSync(crate, `${before(fs.readFileSync(crate, "utf8"))}${TITLE}\n${lines.join("\n")}\n`);
 }
 
-const titles = (item) => item.titles.map((text) => `# ${text}`);
+const titles = (item) => item.titles.map((title) => `# ${title}`);
 extend("stdin", cases.flatMap((item) => [...titles(item), item.line]));
 extend("stdout", cases.flatMap((item) => [...titles(item), item.answer]));
 console.log(`${cases.length} runs`);

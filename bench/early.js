@@ -7,13 +7,11 @@
 // 2,000 and SEED is 1. Where acorn finds a name that is declared twice, the program must refuse with EarlyName at one of those;
 // else, where it finds a jump without a target, with EarlyJump at one of those; else it must answer.
 "use strict";
-const { spawnSync } = require("child_process");
-const fs = require("fs");
-const path = require("path");
-const { chances } = require("./pieces.js");
+const { words, run } = require("./built.js");
 const { isOutside, parseWithErrors } = require("./estree.js");
+const { chances } = require("./pieces.js");
 
-const [, , program = path.join(__dirname, "..", "crates", "mini_app", "out", "mini_app"), count = "2000", seed = "1"] = process.argv;
+const { program, count, seed } = words(2000);
 const NAMES = ["a", "b", "c", "d", "e", "f", "g", "h", "i", "j", "k", "l", "m", "n", "o", "p", "q", "r", "s", "t"];
 
 class Generator {
@@ -133,9 +131,9 @@ function due({ names, jumps }) {
   return jumps.length > 0 ? { error: "EarlyJump", places: jumps, kind: "a jump without a target" } : { kind: "neither" };
 }
 
-function isDue(tree, { error, places }, { status, stderr }) {
+function isDue(tree, { error, places }, { status, notes }) {
   if (!error) return status === 0;
-  const [, told, pointer] = /^refused: (\w+) at (.*)\n$/.exec(stderr.toString()) || [];
+  const [, told, pointer] = /^refused: (\w+) at (.*)\n$/.exec(notes) || [];
   const node = told === error && nodeAt(tree, pointer);
   return status === 3 && Boolean(node) && places.includes(node.start);
 }
@@ -144,17 +142,16 @@ function look({ source, sourceType }) {
   const found = parseWithErrors(source, sourceType);
   if (isOutside(found.tree)) return;
   const wanted = due(found);
-  const ended = spawnSync(program, [], { input: JSON.stringify(found.tree) });
+  const ended = run(program, found.tree);
   total.programs += 1;
   total[wanted.kind] += 1;
   if (isDue(found.tree, wanted, ended)) return;
   total.wrong += 1;
-  console.log(`WRONG: status ${ended.status} ${ended.stderr.toString().trim()}, where ${wanted.kind} is at ${wanted.places}: ${source}`);
+  console.log(`WRONG: status ${ended.status} ${ended.notes.trim()}, where ${wanted.kind} is at ${wanted.places}: ${source}`);
 }
 
 function main() {
-  if (!fs.existsSync(program)) throw new Error(`${program} is not there: run \`rt run\` in crates/mini_app first`);
-  for (let at = 1; at <= Number(count); at++) look(generated(Number(seed) * 100_003 + at * 7919));
+  for (let at = 1; at <= count; at++) look(generated(seed * 100_003 + at * 7919));
   console.log(Object.entries(total).map(([key, value]) => `${key} ${value}`).join(", "));
   process.exitCode = total.wrong > 0 ? 1 : 0;
 }

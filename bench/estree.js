@@ -78,7 +78,6 @@ const FIELDS = {
 
 const FUNCTIONS = ["FunctionDeclaration", "FunctionExpression", "ArrowFunctionExpression"];
 const CLASSES = ["ClassDeclaration", "ClassExpression"];
-const PATTERNS = ["ObjectPattern", "ArrayPattern"];
 const LOOPS = ["ForStatement", "ForInStatement", "ForOfStatement"];
 
 const isNode = (value) => value !== null && typeof value === "object" && typeof value.type === "string";
@@ -126,6 +125,9 @@ function parseWithErrors(source, sourceType) {
 }
 
 // ---- what is written
+
+// The JSON of a value of ESTree, which can't have the value of a BigInt.
+const text = (value) => JSON.stringify(value, (key, part) => (typeof part === "bigint" ? null : part));
 
 function literal(node) {
   if (node.regex) return { regex: { flags: node.regex.flags, pattern: node.regex.pattern }, type: "Literal", value: null };
@@ -352,4 +354,4 @@ function isOutside(program) {
   return found;
 }
 
-module.exports = { acorn, FIELDS, FUNCTIONS, CLASSES, PATTERNS, isNode, isOf, parse, parseLeniently, parseWithErrors, written, children, each, countNumbers, countSymbols, scopes, isOutside };
+module.exports = { FIELDS, FUNCTIONS, children, countNumbers, countSymbols, each, isOf, isOutside, parse, parseLeniently, parseWithErrors, scopes, text, written };

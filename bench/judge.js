@@ -13,16 +13,14 @@
 // The outside answers by what was asked before, so that two runs part no sooner than their events do. The text of a function is
 // the same for all, since it is of the source alone.
 "use strict";
-const { spawnSync } = require("child_process");
-const fs = require("fs");
-const path = require("path");
 const vm = require("vm");
+const { words, run } = require("./built.js");
 const { parse, isOutside } = require("./estree.js");
 const { chosenPieces } = require("./pieces.js");
 const { script } = require("./generate.js");
 const { print } = require("./print.js");
 
-const [, , program = path.join(__dirname, "..", "crates", "mini_app", "out", "mini_app"), count = "200", seed = "1"] = process.argv;
+const { program, count, seed } = words(200);
 const EVENTS = 400;
 const SECONDS = 2;
 const OWN = ["undefined", "NaN", "Infinity", "arguments", "eval"];
@@ -197,9 +195,9 @@ function eventsOf(tree, seed) {
 }
 
 function minified(tree) {
-  const text = JSON.stringify(tree, (key, value) => (typeof value === "bigint" ? null : value));
-  const ended = spawnSync(program, [], { input: text, maxBuffer: 1 << 28 });
-  return ended.status === 0 ? JSON.parse(ended.stdout) : null;
+  const { status, output, notes } = run(program, tree);
+  if (status !== 0) throw new Error(`status ${status} ${notes}for ${print(tree)}`);
+  return JSON.parse(output);
 }
 
 // ---- all of them
@@ -208,7 +206,7 @@ const total = { scripts: 0, changed: 0, runs: 0, events: 0, "too long": 0, wrong
 
 function compare(before, after) {
   for (const salt of [1, 2, 3]) {
-    const [first, second] = [before, after].map((tree) => eventsOf(tree, Number(seed) * 1000 + salt));
+    const [first, second] = [before, after].map((tree) => eventsOf(tree, seed * 1000 + salt));
     total.runs += 1;
     if (first === null || second === null) {
       total["too long"] += 1;
@@ -224,7 +222,6 @@ function compare(before, after) {
 
 function judge(tree, onlyChanged) {
   const answer = minified(tree);
-  if (answer === null) throw new Error(`no answer for ${print(tree)}`);
   if (onlyChanged && answer.passes === 1) return false;
   total.scripts += 1;
   total.changed += answer.passes > 1 ? 1 : 0;
@@ -242,10 +239,9 @@ function isScript(tree) {
 }
 
 function main() {
-  if (!fs.existsSync(program)) throw new Error(`${program} is not there: run \`rt run\` in crates/mini_app first`);
-  for (let at = 1; at <= Number(count); at++) judge(parse(script(Number(seed) * 100_003 + at * 7919)), false);
-  let left = Number(count);
-  for (const [, tree] of chosenPieces(Number(count) * 40, Number(seed))) if (left > 0 && isScript(tree) && judge(tree, true)) left -= 1;
+  for (let at = 1; at <= count; at++) judge(parse(script(seed * 100_003 + at * 7919)), false);
+  let left = count;
+  for (const [, tree] of chosenPieces(count * 40, seed)) if (left > 0 && isScript(tree) && judge(tree, true)) left -= 1;
   console.log(Object.entries(total).map(([key, value]) => `${key} ${value}`).join(", "));
   process.exitCode = total.wrong > 0 ? 1 : 0;
 }

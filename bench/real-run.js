@@ -12,19 +12,14 @@
 // pieces were answered, refused, or were no JSON that is read; how many changed; the most passes; and the bytes of ESTree and
 // the weight before and after.
 "use strict";
-const { spawnSync } = require("child_process");
-const fs = require("fs");
-const path = require("path");
-const { written, children, countNumbers, countSymbols, isOutside } = require("./estree.js");
+const { words, run } = require("./built.js");
+const { children, countNumbers, countSymbols, isOutside, text, written } = require("./estree.js");
 const { chosenPieces } = require("./pieces.js");
 const { weigh } = require("./weigh.js");
 
-const [, , program = path.join(__dirname, "..", "crates", "mini_app", "out", "mini_app"), count = "2000", seed = "1"] = process.argv;
+const { program, count, seed } = words(2000);
 
 // ---- one run
-
-const plain = (key, value) => (typeof value === "bigint" ? null : value);
-const text = (value) => JSON.stringify(value, plain);
 
 // How deep JSON nests.
 function nesting(value) {
@@ -35,11 +30,6 @@ function nesting(value) {
 const isUnread = (input) => depth(input) > 118 || nesting(input) > 126 || /\\ud[89a-f]/.test(text(input));
 
 const depth = (node) => 1 + Math.max(0, ...children(node).map(depth));
-
-function run(input) {
-  const ended = spawnSync(program, [], { input, maxBuffer: 1 << 28 });
-  return { status: ended.status, output: ended.stdout.toString(), notes: ended.stderr.toString() };
-}
 
 // Each of the first numbers once.
 const isEach = (list, count) => list.length === count && new Set(list).size === count && list.every((n) => n >= 0 && n < count);
@@ -58,7 +48,7 @@ function* faultsOf(input, answer) {
 }
 
 function* faultsOfAgain(answer) {
-  const { status, output } = run(text(answer.program));
+  const { status, output } = run(program, answer.program);
   if (status !== 0) return yield `given again: status ${status}`;
   const again = JSON.parse(output);
   if (text(again.program) !== text(answer.program)) yield "given again: another program";
@@ -68,7 +58,7 @@ function* faultsOfAgain(answer) {
 
 // What is wrong with the run on a program that must be answered, and its answer.
 function answered(input) {
-  const { status, output, notes } = run(text(input));
+  const { status, output, notes } = run(program, input);
   if (status !== 0) return { faults: [`status ${status} ${notes.trim()}`] };
   const answer = JSON.parse(output);
   const again = nesting(answer.program) < 120 ? faultsOfAgain(answer) : [];
@@ -77,7 +67,7 @@ function answered(input) {
 
 // The same of a program that must be refused.
 function refused(input) {
-  const { status, notes } = run(text(input));
+  const { status, notes } = run(program, input);
   return { faults: status === 3 && /^refused: Unsupported at /.test(notes) ? [] : [`status ${status} ${notes.trim()}, and Unsupported is due`] };
 }
 
@@ -119,9 +109,8 @@ function addUp(rows) {
 }
 
 function main() {
-  if (!fs.existsSync(program)) throw new Error(`${program} is not there: run \`rt run\` in crates/mini_app first`);
   const rows = new Map();
-  for (const [from, input] of chosenPieces(Number(count), Number(seed))) {
+  for (const [from, input] of chosenPieces(count, seed)) {
     if (!rows.has(from)) rows.set(from, total());
     for (const fault of addRun(rows.get(from), input)) console.log(`WRONG in ${from}: ${fault}: ${text(input).slice(0, 2000)}`);
   }

@@ -3,7 +3,7 @@
 //
 //     node --expose-internals bench/real.js [SIZE] > real.json
 "use strict";
-const { parse } = require("./estree.js");
+const { parse, text } = require("./estree.js");
 
 const [, , size = "16777216"] = process.argv;
 
@@ -14,8 +14,7 @@ class A${n} extends B { #p = 1; constructor(x) { super(x); this.y = x ? "one" : 
 var { q, r: [s, t = 3] } = g(), re = /a+b/gi, n = 12n; l: while (true) { do { if (q in r) break l; continue l; } while (x instanceof Y); }
 `;
 
-const plain = (key, value) => (typeof value === "bigint" ? null : value);
-const part = (n) => parse(code(n)).body.map((node) => JSON.stringify(node, plain)).join(",");
+const part = (n) => parse(code(n)).body.map(text).join(",");
 
 function parts(room) {
   const found = [];

@@ -7,9 +7,9 @@ PROGRAM is crates/mini_app/out/mini_app of this repository unless it is given. `
 Each input is run three times. A line has the least wall time, the least processor time, and the greatest peak memory.
 Lines `flat` have short statements, lines `deep` have statements that nest to the limit of the JSON reader. Lines `real` have
 all of ESTree, as acorn gives it for real code, with positions (`bench/real.js`, which wants node); between its runs the same
-bytes are read and printed as plain JSON by `serde_json` (crates/mini_cases/out/mini_cases with `--json`, which `rt run` there makes), and the
-line has how many times as long the program takes, of which at most 2.5 is wanted. The lines `depth` try one deep program
-each, and say how it ended.
+bytes are read and printed as plain JSON by `serde_json` (crates/mini_cases/out/mini_cases with `--json`: `rt run` in
+crates/mini_cases makes it), and the line has how many times as long the program takes, of which at most 2.5 is wanted. The
+lines `depth` try one deep program each, and say how it ended.
 """
 
 import json
