@@ -83,6 +83,8 @@ const LOOPS = ["ForStatement", "ForInStatement", "ForOfStatement"];
 const isNode = (value) => value !== null && typeof value === "object" && typeof value.type === "string";
 const isOf = (types, node) => node !== null && types.includes(node.type);
 
+const BIND_VAR = 1;
+const SCOPE_CLASS_STATIC_BLOCK = 256;
 const EARLY_NAME = /has already been declared$/;
 const EARLY_JUMP = /^(Unsyntactic|Label |'return' outside)/;
 
@@ -94,6 +96,21 @@ class LenientParser extends acorn.Parser {
 
   get inGenerator() {
     return true;
+  }
+
+  // Functions are like `var` directly in a static block too (ECMA-262, ClassStaticBlockStatementList, "Static Semantics:
+  // LexicallyDeclaredNames").
+  treatFunctionsAsVarInScope(scope) {
+    return super.treatFunctionsAsVarInScope(scope) || (scope.flags & SCOPE_CLASS_STATIC_BLOCK) !== 0;
+  }
+
+  // A `var` that clashes in an inner scope is one of those around it as well.
+  declareName(name, binding, at) {
+    super.declareName(name, binding, at);
+    if (binding !== BIND_VAR) return;
+    for (const scope of this.scopeStack.slice(this.scopeStack.indexOf(this.currentVarScope()))) {
+      if (!scope.var.includes(name)) scope.var.push(name);
+    }
   }
 
   raise(at, message) {
@@ -319,6 +336,18 @@ function countSymbols(program) {
   return count;
 }
 
+// ---- what is no JSON that is read
+
+// How deep JSON nests.
+function nesting(value) {
+  return value !== null && typeof value === "object" ? 1 + Math.max(0, ...Object.values(value).map(nesting)) : 0;
+}
+
+const depth = (node) => 1 + Math.max(0, ...children(node).map(depth));
+
+// Whether a half of a surrogate pair stands in it, or it nests too deep, or its nodes do.
+const isUnread = (program) => depth(program) > 118 || nesting(program) > 126 || /\\ud[89a-f]/.test(text(program));
+
 // ---- what is outside the table
 
 const TYPES = ["AwaitExpression", "WithStatement"];
@@ -354,4 +383,4 @@ function isOutside(program) {
   return found;
 }
 
-module.exports = { FIELDS, FUNCTIONS, children, countNumbers, countSymbols, each, isOf, isOutside, parse, parseLeniently, parseWithErrors, scopes, text, written };
+module.exports = { FIELDS, FUNCTIONS, children, countNumbers, countSymbols, each, isOf, isOutside, isUnread, nesting, parse, parseLeniently, parseWithErrors, scopes, text, written };

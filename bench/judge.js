@@ -15,7 +15,7 @@
 "use strict";
 const vm = require("vm");
 const { words, run } = require("./built.js");
-const { parse, isOutside } = require("./estree.js");
+const { isOutside, isUnread, parse } = require("./estree.js");
 const { chosenPieces } = require("./pieces.js");
 const { script } = require("./generate.js");
 const { print } = require("./print.js");
@@ -232,7 +232,7 @@ function judge(tree, onlyChanged) {
 // Whether a piece is a script by itself: not, where it has a private name, `super` or a `return` of what it was cut from.
 function isScript(tree) {
   try {
-    return tree.sourceType === "script" && !isOutside(tree) && parse(print(tree)) !== null;
+    return tree.sourceType === "script" && !isOutside(tree) && !isUnread(tree) && parse(print(tree)) !== null;
   } catch {
     return false;
   }

@@ -13,23 +13,13 @@
 // the weight before and after.
 "use strict";
 const { words, run } = require("./built.js");
-const { children, countNumbers, countSymbols, isOutside, text, written } = require("./estree.js");
+const { countNumbers, countSymbols, isOutside, isUnread, nesting, text, written } = require("./estree.js");
 const { chosenPieces } = require("./pieces.js");
 const { weigh } = require("./weigh.js");
 
 const { program, count, seed } = words(2000);
 
 // ---- one run
-
-// How deep JSON nests.
-function nesting(value) {
-  return value !== null && typeof value === "object" ? 1 + Math.max(0, ...Object.values(value).map(nesting)) : 0;
-}
-
-// JSON that isn't read: a half of a surrogate pair stands in it, or it nests too deep; and nodes past the depth that is read.
-const isUnread = (input) => depth(input) > 118 || nesting(input) > 126 || /\\ud[89a-f]/.test(text(input));
-
-const depth = (node) => 1 + Math.max(0, ...children(node).map(depth));
 
 // Each of the first numbers once.
 const isEach = (list, count) => list.length === count && new Set(list).size === count && list.every((n) => n >= 0 && n < count);
