@@ -49,7 +49,9 @@ void *realloc(void *old, size_t size) {
 }
 """
 
-DEBUGGER = b'{"type":"Program","sourceType":"script","body":[{"type":"DebuggerStatement"}]}'
+# let a; let a;
+DECLARATION = '{"type":"VariableDeclaration","kind":"let","declarations":[{"type":"VariableDeclarator","id":{"type":"Identifier","name":"a"}}]}'
+TWICE = f'{{"type":"Program","sourceType":"script","body":[{DECLARATION},{DECLARATION}]}}'.encode()
 
 
 def run(program, data, settings):
@@ -91,7 +93,7 @@ def main():
     if not os.access(program, os.X_OK):
         sys.exit(f"{program} is not there: run `rt run` in crates/mini_app first")
     with open(os.path.join(crate, "stdin"), "rb") as stored, open(os.path.join(crate, "stdout"), "rb") as answer:
-        inputs = [("stored run", stored.read()), ("refusal", DEBUGGER), ("no JSON", b"[1,")]
+        inputs = [("stored run", stored.read()), ("refusal", TWICE), ("no JSON", b"[1,")]
         if run(program, inputs[0][1], {}) != (0, answer.read(), b""):
             sys.exit("the stored run doesn't give its stored answer: build the program first")
     runs = wrong = 0
