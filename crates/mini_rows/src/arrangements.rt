@@ -1,0 +1,1 @@
+//! What is built anew of the same parts.

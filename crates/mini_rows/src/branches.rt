@@ -1,0 +1,1 @@
+//! The rows of `if` and of blocks as branches.

@@ -1,0 +1,2 @@
+//! Rewrites of spellings: each with its rule for the walk.
+#![tactic(auto)]
