@@ -1,0 +1,4 @@
+pub mod SpellAlike
+pub mod SpellSymmetry
+pub mod SpellMeaning
+pub mod SpellWeights

@@ -1,1 +1,2 @@
 pub mod Switches
+pub mod Spellings

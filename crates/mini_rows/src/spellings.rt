@@ -1,1 +1,16 @@
 //! The rows of spellings.
+
+ghost use Rattle.mini_laws.specs.Rewritten.{MeansSame};
+ghost use Rattle.mini_laws.specs.Weights.{Lightens};
+ghost use Rattle.mini_rows.specs.Spellings.{SpellingContracts, SpellingsLighter};
+
+/// What a row on a spelling writes means the same wherever the expression stands, and a parent reads it alike.
+pub fn spellings_mean_the_same()
+    ensures { MeansSame SpellingContracts }
+{}
+
+/// What a row on a spelling writes is lighter in every seat, and so a step by such a row makes the whole lighter.
+pub fn spellings_are_lighter()
+    ensures row { SpellingsLighter }
+    ensures step { Lightens SpellingContracts }
+{}
