@@ -250,5 +250,5 @@ lightens = record {
   absent = λ p n w c a. outline_by_row (λ o. o.absent) p n w c.row;
   items = λ p n w c a. no_items p n w c.row a;
   is_zero = λ p n w c a. inl (outline_by_row (λ o. o.is_zero) p n w c.row);
-  chooses = λ p n w c a. inl (outline_by_row (λ o. o.chooses) p n w c.row);
+  chooses = λ p n w c a. inl (λ h. sym (outline_by_row (λ o. o.chooses) p n w c.row) ∙ h);
 }
