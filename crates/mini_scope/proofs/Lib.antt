@@ -6,3 +6,4 @@ mod Places
 mod Earlier
 mod EarlyWalk
 mod Folds
+mod Keys

@@ -3,118 +3,160 @@
 ghost use Rattle.std.specs.Prelude.{◌≡◌, ◌+◌, ◌∷◌, decimal};
 ghost use Rattle.mini_model.specs.Tree.{children, shape_of};
 ghost use Rattle.mini_text.specs.Faults.{fault_of};
-ghost use Rattle.mini_scope.specs.Pointers.{picked, key_of as key_in, step_text, shift_below as shift_in, pointer_in, IsBelow};
+ghost use Rattle.mini_scope.specs.Pointers.{key_of as key_in, step_text, shift_below as shift_in, pointer_in, IsBelow};
 
 use mini_model::Shape;
 use mini_node::Node;
 use mini_text::MinifyError;
 use std::alloc::Global;
 
-fn pick(
-    at: usize,
-    first: &'static str,
-    second: &'static str,
-    third: &'static str,
-    fourth: &'static str,
-) -> &'static str
-    ensures { result.now ≡ picked at first.now second.now third.now fourth.now }
-{
-    match at {
-        0 => first,
-        1 => second,
-        2 => third,
-        _ => fourth,
-    }
-}
-
-/// The field that holds the child at an index of a node of this shape.
-fn key_of(shape: &Shape, at: usize) -> &'static str
-    ensures { result.now ≡ key_in shape.now at }
+// The field of the first child of a node of this shape.
+fn first_key(shape: &Shape) -> &'static str
+    ensures { result.now ≡ key_in shape.now 0 }
 {
     match shape {
         Shape::Program(..)
         | Shape::BlockStatement
         | Shape::FunctionBody
         | Shape::ClassBody
-        | Shape::StaticBlock => pick(at, "body", "", "", ""),
-        Shape::ExpressionStatement | Shape::ChainExpression => pick(at, "expression", "", "", ""),
-        Shape::LabeledStatement => pick(at, "label", "body", "", ""),
-        Shape::BreakStatement | Shape::ContinueStatement => pick(at, "label", "", "", ""),
+        | Shape::StaticBlock
+        | Shape::DoWhileStatement => "body",
+        Shape::ExpressionStatement | Shape::ChainExpression => "expression",
+        Shape::LabeledStatement | Shape::BreakStatement | Shape::ContinueStatement => "label",
         Shape::ReturnStatement
         | Shape::ThrowStatement
         | Shape::SpreadElement
         | Shape::UnaryExpression(_)
         | Shape::UpdateExpression(..)
         | Shape::YieldExpression(_)
-        | Shape::RestElement => pick(at, "argument", "", "", ""),
-        Shape::IfStatement | Shape::ConditionalExpression => pick(
-            at,
-            "test",
-            "consequent",
-            "alternate",
-            "",
-        ),
-        Shape::SwitchStatement => pick(at, "discriminant", "cases", "", ""),
-        Shape::SwitchCase => pick(at, "test", "consequent", "", ""),
-        Shape::TryStatement => pick(at, "block", "handler", "finalizer", ""),
-        Shape::CatchClause => pick(at, "param", "body", "", ""),
-        Shape::WhileStatement => pick(at, "test", "body", "", ""),
-        Shape::DoWhileStatement => pick(at, "body", "test", "", ""),
-        Shape::ForStatement => pick(at, "init", "test", "update", "body"),
-        Shape::ForInStatement | Shape::ForOfStatement => pick(at, "left", "right", "body", ""),
-        Shape::VariableDeclaration(_) => pick(at, "declarations", "", "", ""),
-        Shape::VariableDeclarator => pick(at, "id", "init", "", ""),
-        Shape::Function(..) => pick(at, "id", "params", "body", ""),
-        Shape::Class(_) => pick(at, "id", "superClass", "body", ""),
-        Shape::ArrowFunctionExpression(_) => pick(at, "params", "body", "", ""),
+        | Shape::RestElement => "argument",
+        Shape::IfStatement
+        | Shape::ConditionalExpression
+        | Shape::SwitchCase
+        | Shape::WhileStatement => "test",
+        Shape::SwitchStatement => "discriminant",
+        Shape::TryStatement => "block",
+        Shape::CatchClause => "param",
+        Shape::ForStatement => "init",
+        Shape::ForInStatement
+        | Shape::ForOfStatement
+        | Shape::BinaryExpression(_)
+        | Shape::PrivateInExpression
+        | Shape::LogicalExpression(_)
+        | Shape::AssignmentExpression(_)
+        | Shape::AssignmentPattern => "left",
+        Shape::VariableDeclaration(_) => "declarations",
+        Shape::VariableDeclarator | Shape::Function(..) | Shape::Class(_) => "id",
+        Shape::ArrowFunctionExpression(_) => "params",
         Shape::MethodDefinition(..)
         | Shape::PropertyDefinition(..)
         | Shape::ObjectProperty(..)
         | Shape::BindingProperty(..)
         | Shape::AssignmentTargetPropertyIdentifier
-        | Shape::AssignmentTargetPropertyProperty(_) => pick(at, "key", "value", "", ""),
-        Shape::ImportDeclaration => pick(at, "specifiers", "source", "", ""),
-        Shape::ImportSpecifier => pick(at, "imported", "local", "", ""),
-        Shape::ImportDefaultSpecifier | Shape::ImportNamespaceSpecifier => pick(
-            at, "local", "", "", "",
-        ),
-        Shape::ExportNamedDeclaration => pick(at, "declaration", "specifiers", "source", ""),
-        Shape::ExportSpecifier => pick(at, "exported", "local", "", ""),
-        Shape::ExportDefaultDeclaration => pick(at, "declaration", "", "", ""),
-        Shape::ExportAllDeclaration => pick(at, "exported", "source", "", ""),
-        Shape::ArrayExpression | Shape::ArrayPattern | Shape::ArrayAssignmentTarget => pick(
-            at, "elements", "", "", "",
-        ),
-        Shape::ObjectExpression | Shape::ObjectPattern | Shape::ObjectAssignmentTarget => pick(
-            at,
+        | Shape::AssignmentTargetPropertyProperty(_) => "key",
+        Shape::ImportDeclaration => "specifiers",
+        Shape::ImportSpecifier => "imported",
+        Shape::ImportDefaultSpecifier | Shape::ImportNamespaceSpecifier => "local",
+        Shape::ExportNamedDeclaration | Shape::ExportDefaultDeclaration => "declaration",
+        Shape::ExportSpecifier | Shape::ExportAllDeclaration => "exported",
+        Shape::ArrayExpression | Shape::ArrayPattern | Shape::ArrayAssignmentTarget => "elements",
+        Shape::ObjectExpression | Shape::ObjectPattern | Shape::ObjectAssignmentTarget =>
             "properties",
-            "",
-            "",
-            "",
-        ),
-        Shape::BinaryExpression(_)
-        | Shape::PrivateInExpression
-        | Shape::LogicalExpression(_)
-        | Shape::AssignmentExpression(_)
-        | Shape::AssignmentPattern => pick(at, "left", "right", "", ""),
-        Shape::SequenceExpression => pick(at, "expressions", "", "", ""),
-        Shape::CallExpression(_) | Shape::SuperCallExpression | Shape::NewExpression => pick(
-            at,
-            "callee",
-            "arguments",
-            "",
-            "",
-        ),
+        Shape::SequenceExpression => "expressions",
+        Shape::CallExpression(_) | Shape::SuperCallExpression | Shape::NewExpression => "callee",
         Shape::StaticMemberExpression(_)
         | Shape::ComputedMemberExpression(_)
         | Shape::PrivateFieldExpression(_)
         | Shape::SuperStaticMemberExpression
-        | Shape::SuperComputedMemberExpression => pick(at, "object", "property", "", ""),
-        Shape::TemplateLiteral => pick(at, "quasis", "expressions", "", ""),
-        Shape::TaggedTemplateExpression => pick(at, "tag", "quasi", "", ""),
-        Shape::MetaProperty(_) => pick(at, "meta", "property", "", ""),
-        Shape::ImportExpression => pick(at, "source", "", "", ""),
+        | Shape::SuperComputedMemberExpression => "object",
+        Shape::TemplateLiteral => "quasis",
+        Shape::TaggedTemplateExpression => "tag",
+        Shape::MetaProperty(_) => "meta",
+        Shape::ImportExpression => "source",
         _ => "",
+    }
+}
+
+// The field of the second child of a node of this shape.
+fn second_key(shape: &Shape) -> &'static str
+    ensures { result.now ≡ key_in shape.now 1 }
+{
+    match shape {
+        Shape::LabeledStatement
+        | Shape::CatchClause
+        | Shape::WhileStatement
+        | Shape::ArrowFunctionExpression(_) => "body",
+        Shape::IfStatement | Shape::ConditionalExpression | Shape::SwitchCase => "consequent",
+        Shape::SwitchStatement => "cases",
+        Shape::TryStatement => "handler",
+        Shape::DoWhileStatement | Shape::ForStatement => "test",
+        Shape::ForInStatement
+        | Shape::ForOfStatement
+        | Shape::BinaryExpression(_)
+        | Shape::PrivateInExpression
+        | Shape::LogicalExpression(_)
+        | Shape::AssignmentExpression(_)
+        | Shape::AssignmentPattern => "right",
+        Shape::VariableDeclarator => "init",
+        Shape::Function(..) => "params",
+        Shape::Class(_) => "superClass",
+        Shape::MethodDefinition(..)
+        | Shape::PropertyDefinition(..)
+        | Shape::ObjectProperty(..)
+        | Shape::BindingProperty(..)
+        | Shape::AssignmentTargetPropertyIdentifier
+        | Shape::AssignmentTargetPropertyProperty(_) => "value",
+        Shape::ImportDeclaration | Shape::ExportAllDeclaration => "source",
+        Shape::ImportSpecifier | Shape::ExportSpecifier => "local",
+        Shape::ExportNamedDeclaration => "specifiers",
+        Shape::CallExpression(_) | Shape::SuperCallExpression | Shape::NewExpression => "arguments",
+        Shape::StaticMemberExpression(_)
+        | Shape::ComputedMemberExpression(_)
+        | Shape::PrivateFieldExpression(_)
+        | Shape::SuperStaticMemberExpression
+        | Shape::SuperComputedMemberExpression
+        | Shape::MetaProperty(_) => "property",
+        Shape::TemplateLiteral => "expressions",
+        Shape::TaggedTemplateExpression => "quasi",
+        _ => "",
+    }
+}
+
+// The field of the third child of a node of this shape.
+fn third_key(shape: &Shape) -> &'static str
+    ensures { result.now ≡ key_in shape.now 2 }
+{
+    match shape {
+        Shape::IfStatement | Shape::ConditionalExpression => "alternate",
+        Shape::TryStatement => "finalizer",
+        Shape::ForStatement => "update",
+        Shape::ForInStatement | Shape::ForOfStatement | Shape::Function(..) | Shape::Class(_) =>
+            "body",
+        Shape::ExportNamedDeclaration => "source",
+        _ => "",
+    }
+}
+
+// The field of the fourth child of a node of this shape.
+fn fourth_key(shape: &Shape) -> &'static str
+    ensures { result.now ≡ key_in shape.now 3 }
+{
+    match shape {
+        Shape::ForStatement => "body",
+        _ => "",
+    }
+}
+
+/// The field that holds the child at an index of a node of this shape.
+#[tactic(auto, using(crate::proofs::Keys::last_key))]
+fn key_of(shape: &Shape, at: usize) -> &'static str
+    ensures { result.now ≡ key_in shape.now at }
+{
+    match at {
+        0 => first_key(shape),
+        1 => second_key(shape),
+        2 => third_key(shape),
+        _ => fourth_key(shape),
     }
 }
 
