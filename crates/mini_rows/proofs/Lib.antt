@@ -2,3 +2,8 @@ pub mod SpellAlike
 pub mod SpellSymmetry
 pub mod SpellMeaning
 pub mod SpellWeights
+pub mod ListStretches
+pub mod ListParts
+pub mod ListStatements
+pub mod ListMeanings
+pub mod ListWeights

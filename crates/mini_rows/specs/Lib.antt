@@ -1,2 +1,4 @@
 pub mod Switches
 pub mod Spellings
+pub mod Lists
+pub mod ListLaws

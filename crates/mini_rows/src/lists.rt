@@ -1,1 +1,15 @@
 //! The rows of lists of statements.
+
+ghost use Rattle.mini_rows.specs.Lists.{ListsLighter};
+ghost use Rattle.mini_rows.specs.ListLaws.{ListsMeanSame, ListsLighten};
+
+/// What a row of lists writes is lighter in every list, so that no weight is asked before it is applied.
+pub fn lists_are_lighter()
+    ensures { ListsLighter }
+{}
+
+/// What a row of lists writes means the same, and at any place in a tree makes the whole lighter.
+pub fn lists_are_same()
+    ensures means { ListsMeanSame }
+    ensures lightens { ListsLighten }
+{}

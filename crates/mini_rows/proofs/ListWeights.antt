@@ -1,0 +1,221 @@
+-- What the rows of lists write is lighter.
+use Rattle.std.proofs.Common.{◌≡◌, ℕ, suc, ◌+◌, ◌*◌, ◌<◌, ◌≤◌, Bool, true, false, List, refl, sym, ap, ◌∙◌, subst, inl, inr, true≢false, arith}
+use Rattle.std.specs.Prelude.{◌⊎◌, nat_eq, pos, negsuc, if◌then◌else◌}
+use Rattle.mini_model.specs.declared.operator.BinaryOperator.TheVariants as binary
+use Rattle.mini_model.specs.declared.operator.LogicalOperator.TheVariants.{Or, And, Coalesce}
+use Rattle.mini_model.specs.declared.place.Position.{Position}
+use Rattle.mini_model.specs.declared.place.Position.TheVariants.{Expr, Stmt, StatementList}
+use Rattle.mini_model.specs.declared.seat.Seat.{Seat}
+use Rattle.mini_model.specs.declared.seat.StmtSeat.TheVariants as stmt_seat
+use Rattle.mini_model.specs.declared.shape.Shape.{Shape}
+use Rattle.mini_model.specs.declared.shape.Shape.TheVariants as shape
+use Rattle.mini_model.specs.Tree.{Tree, Trees, node, none, ◌▸◌, count, shape_of, listed}
+use Rattle.mini_model.specs.Paths.{append}
+use Rattle.mini_model.specs.Position.{seat_of_level, branch_seat, passed_part_seat, part_seat, item_position}
+use Rattle.mini_model.specs.Weight.{Outline, outline, outlines, one_chooses, commas_weight, place_weight, weight, weights}
+use Rattle.mini_laws.specs.Weights.{counts_items}
+use Rattle.mini_laws.proofs.Seats.{is_inner, placed, placed_node}
+use Rattle.mini_rows.specs.Switches.{Switches}
+use Rattle.mini_rows.specs.Lists.{of_parts, is_one_part, are_parts, sequence, Row66Empty, Row66Joined, Row79, StretchRow, InList, ListRow, ListsLighter}
+use Rattle.mini_rows.specs.ListLaws.{ListsLighten}
+
+-- the statements of a list, wherever in it they stand
+abbrev total : Trees → ℕ
+total none = 0
+total (t ▸ ts) = weight (Stmt stmt_seat.List) t + total ts
+
+total_is : (n : ℕ) (ts : Trees) → weights (item_position StatementList n) ts ≡ total ts
+total_is n none = refl
+total_is n (t ▸ ts) = let rest = total_is n ts in omega (arith, rest)
+
+list_is : (ts : Trees) → weight StatementList (listed ts) ≡ total ts
+list_is ts = let items = total_is (count ts) ts in omega (arith, items)
+
+total_append : (a b : Trees) → total (append a b) ≡ total a + total b
+total_append none b = omega arith
+total_append (t ▸ a) b = let rest = total_append a b in omega (arith, rest)
+
+-- ---- what a sequence weighs as the expression of a statement, by its parts
+
+-- the seats of the expressions of statements, but for marks that no weight reads
+abbrev flat : Bool → Bool → Seat
+flat b u = record (seat_of_level 0) { boolean = b; unused = u }
+
+abbrev parts_total : Trees → ℕ
+parts_total none = 0
+parts_total (t ▸ ts) = weight (Expr passed_part_seat) t + parts_total ts
+
+abbrev parts_weight : Tree → Trees → ℕ
+parts_weight p ps = weight (Expr passed_part_seat) p + parts_total ps + 2 * count ps
+
+part_falls : (s : Seat) (t : Tree) → weight (Expr passed_part_seat) t ≤ weight (Expr (branch_seat s)) t
+part_falls s t = let falls = placed 0 passed_part_seat (branch_seat s) refl (λ h os. omega arith) t in omega (arith, falls)
+
+part_rises : (s : Seat) (t : Tree) → weight (Expr (branch_seat s)) t ≤ weight (Expr passed_part_seat) t
+part_rises s t = let falls = placed 0 (branch_seat s) passed_part_seat refl (λ h os. omega arith) t in omega (arith, falls)
+
+part_same : (s : Seat) (b : Bool) (t : Tree) → weight (Expr (if b then branch_seat s else passed_part_seat)) t ≡ weight (Expr passed_part_seat) t
+part_same s true t = let falls = part_falls s t in let rises = part_rises s t in omega (arith, falls, rises)
+part_same s false t = refl
+
+parts_by : (σ : ℕ → Seat) → ((i : ℕ) (t : Tree) → weight (Expr (σ i)) t ≡ weight (Expr passed_part_seat) t) → (ts : Trees) → weights (λ i. Expr (σ i)) ts ≡ parts_total ts
+parts_by σ e none = refl
+parts_by σ e (t ▸ ts) =
+    let one = e 0 t in
+    let rest = parts_by (λ i. σ (suc i)) (λ i. e (suc i)) ts in
+    omega (arith, one, rest)
+
+commas_by : (p : Tree) (ps : Trees) → commas_weight (outlines (p ▸ ps)) ≡ 2 * count ps
+commas_by p none = refl
+commas_by p (q ▸ qs) = let rest = commas_by q qs in omega (arith, rest)
+
+sequence_is : (b u : Bool) (p : Tree) (ps : Trees) → weight (Expr (flat b u)) (sequence (p ▸ ps)) ≡ parts_weight p ps
+sequence_is b u p ps =
+    let items = parts_by (part_seat (flat b u) (count (p ▸ ps))) (λ i t. part_same (flat b u) (nat_eq (suc i) (count (p ▸ ps))) t) (p ▸ ps) in
+    let commas = commas_by p ps in
+    omega (arith, items, commas)
+
+one_marks : (b u : Bool) (h : Shape) (os : List Outline) → is_one_part h ≡ true → place_weight (Expr passed_part_seat) h os ≤ place_weight (Expr (flat b u)) h os + 0
+one_marks b u shape.SequenceExpression os e = absurd (true≢false (sym e))
+one_marks b u (shape.LogicalExpression Or) os e = omega arith
+one_marks b u (shape.LogicalExpression And) os e = omega arith
+one_marks b u (shape.LogicalExpression Coalesce) os e = omega arith
+one_marks b u (shape.BinaryExpression binary.BitwiseOr) os e = omega arith
+one_marks b u (shape.BinaryExpression o) os e = omega arith
+one_marks b u (shape.NumericLiteral (pos n)) os e = omega arith
+one_marks b u (shape.NumericLiteral (negsuc n)) os e = omega arith
+one_marks b u h os e = omega arith
+
+not_inner : (h : Shape) → is_one_part h ≡ true → is_inner h ≡ false
+not_inner shape.InnerExpression e = absurd (true≢false (sym e))
+not_inner h e = refl
+
+one_falls : (b u : Bool) (t : Tree) → is_one_part (shape_of t) ≡ true → weight (Expr passed_part_seat) t ≤ weight (Expr (flat b u)) t
+one_falls b u (node h xs n ts) e = let falls = placed_node 0 passed_part_seat (flat b u) h (not_inner h e) xs n ts (one_marks b u h (outlines ts) e) in omega (arith, falls)
+
+parts_fall : (b u : Bool) (p : Tree) (ps : Trees) → are_parts p ps ≡ true → parts_weight p ps ≤ weight (Expr (flat b u)) (of_parts p ps)
+parts_fall b u p none e = let falls = one_falls b u p e in omega (arith, falls)
+parts_fall b u p (q ▸ qs) e = let same = sequence_is b u p (q ▸ qs) in omega (arith, same)
+
+parts_append : (ps : Trees) (q : Tree) (qs : Trees) → parts_total (append ps (q ▸ qs)) + 2 * count (append ps (q ▸ qs)) ≡ parts_total ps + 2 * count ps + parts_weight q qs + 2
+parts_append none q qs = omega arith
+parts_append (p ▸ ps) q qs = let rest = parts_append ps q qs in omega (arith, rest)
+
+of_more : (b u : Bool) (p : Tree) (ps : Trees) (q : Tree) (qs : Trees) → weight (Expr (flat b u)) (of_parts p (append ps (q ▸ qs))) ≡ parts_weight p (append ps (q ▸ qs))
+of_more b u p none q qs = sequence_is b u p (q ▸ qs)
+of_more b u p (c ▸ ps) q qs = sequence_is b u p (c ▸ append ps (q ▸ qs))
+
+-- an expression goes before another one for a comma
+pub joined_falls : (b u c v : Bool) (p : Tree) (ps : Trees) (q : Tree) (qs : Trees) → are_parts p ps ≡ true → are_parts q qs ≡ true → weight (Expr (flat b u)) (of_parts p (append ps (q ▸ qs))) ≤ weight (Expr (flat c v)) (of_parts p ps) + weight (Expr (flat b u)) (of_parts q qs) + 2
+joined_falls b u c v p ps q qs e f =
+    let whole = of_more b u p ps q qs in
+    let sum = parts_append ps q qs in
+    let left = parts_fall c v p ps e in
+    let right = parts_fall b u q qs f in
+    omega (arith, whole, sum, left, right)
+
+-- ---- rows
+
+-- what the stretch falls by, and that no `if` with `else` stands alone in it, or it falls by more
+abbrev chooses : Trees → Bool
+chooses ts = one_chooses (outlines ts)
+
+pub record Falls (a b : Trees) : Type 0 where
+  pub lighter : total b < total a
+  pub chosen : (chooses a ≡ false) ⊎ (total b + 5 ≤ total a)
+  pub some : count a ≡ 0 → ⊥
+
+replaced : (a a' b b' : Trees) → a ≡ a' → b ≡ b' → Falls a' b' → Falls a b
+replaced a a' b b' u v h = subst (λ x. Falls x b) (sym u) (subst (λ y. Falls a' y) (sym v) h)
+
+row_66_empty : (a b : Trees) → Row66Empty a b → Falls a b
+row_66_empty a b r = replaced a _ b _ r.shape r.written (record { lighter = omega arith; chosen = inl refl; some = λ e. omega (arith, e) })
+
+row_66_joined : (a b : Trees) → Row66Joined a b → Falls a b
+row_66_joined a b r =
+    let falls = joined_falls false true false true r.p r.ps r.q r.qs r.first r.second in
+    replaced a _ b _ r.shape r.written (record { lighter = omega (arith, falls); chosen = inl refl; some = λ e. omega (arith, e) })
+
+row_79 : (a b : Trees) → Row79 a b → Falls a b
+row_79 a b r =
+    let items = list_is r.statements in
+    replaced a _ b _ r.shape r.written (record { lighter = omega (arith, items); chosen = inl refl; some = λ e. omega (arith, e) })
+
+stretch_falls : (o : Switches) (a b : Trees) → StretchRow o a b → Falls a b
+stretch_falls o a b (inl r) = row_66_empty a b r
+stretch_falls o a b (inr (inl r)) = row_79 a b r
+stretch_falls o a b (inr (inr r)) = row_66_joined a b r.1
+
+-- in a list
+
+in_list : (pre a b post : Trees) (k : ℕ) → total b + k ≤ total a → weight StatementList (listed (append pre (append b post))) + k ≤ weight StatementList (listed (append pre (append a post)))
+in_list pre a b post k e =
+    let new = list_is (append pre (append b post)) in
+    let old = list_is (append pre (append a post)) in
+    let new_outer = total_append pre (append b post) in
+    let new_inner = total_append b post in
+    let old_outer = total_append pre (append a post) in
+    let old_inner = total_append a post in
+    omega (arith, e, new, old, new_outer, new_inner, old_outer, old_inner)
+
+pub lists_lighter : ListsLighter
+lists_lighter o StatementList n w r =
+    let falls = stretch_falls o r.read r.put r.row in
+    let whole = in_list r.before r.read r.put r.after 1 (omega (arith, falls.lighter)) in
+    omega (arith, whole, ap (weight StatementList) r.shape, ap (weight StatementList) r.written)
+lists_lighter o p n w r = absurd r
+
+-- a list in which an `if` with `else` stands alone is the stretch
+alone_after : (a post : Trees) → (count a ≡ 0 → ⊥) → chooses (append a post) ≡ true → chooses a ≡ true
+alone_after none post s e = absurd (s refl)
+alone_after (c ▸ none) none s e = e
+alone_after (c ▸ none) (d ▸ post) s e = absurd (true≢false (sym e))
+alone_after (c ▸ (d ▸ a)) post s e = absurd (true≢false (sym e))
+
+some_after : (a post : Trees) → (count a ≡ 0 → ⊥) → count (append a post) ≡ 0 → ⊥
+some_after none post s e = absurd (s refl)
+some_after (c ▸ a) post s e = omega (arith, e)
+
+alone : (pre a : Trees) → (count a ≡ 0 → ⊥) → chooses (append pre a) ≡ true → chooses a ≡ true
+alone none a s e = e
+alone (c ▸ none) none s e = absurd (s refl)
+alone (c ▸ none) (d ▸ a) s e = absurd (true≢false (sym e))
+alone (c ▸ (d ▸ pre)) a s e = absurd (true≢false (sym e))
+
+list_chosen : (o : Switches) (n w : Tree) (r : InList (StretchRow o) n w) → ((outline n).chooses ≡ true → (outline w).chooses ≡ true) ⊎ (weight StatementList w + 5 ≤ weight StatementList n)
+list_chosen o n w r = go falls.chosen
+  where
+    falls : Falls r.read r.put
+    falls = stretch_falls o r.read r.put r.row
+
+    go : (chooses r.read ≡ false) ⊎ (total r.put + 5 ≤ total r.read) → ((outline n).chooses ≡ true → (outline w).chooses ≡ true) ⊎ (weight StatementList w + 5 ≤ weight StatementList n)
+    go (inl e) = inl (λ h. absurd (true≢false (sym (alone_after r.read r.after falls.some (alone r.before (append r.read r.after) (some_after r.read r.after falls.some) (sym (ap (λ t. (outline t).chooses) r.shape) ∙ h))) ∙ e)))
+    go (inr e) = let whole = in_list r.before r.read r.put r.after 5 e in inr (omega (arith, whole, ap (weight StatementList) r.shape, ap (weight StatementList) r.written))
+
+same_outline : {A : Type 0} (f : Outline → A) (o : Switches) (n w : Tree) (r : InList (StretchRow o) n w) → f (outline (listed (append r.before (append r.read r.after)))) ≡ f (outline (listed (append r.before (append r.put r.after)))) → f (outline n) ≡ f (outline w)
+same_outline f o n w r e = ap (λ t. f (outline t)) r.shape ∙ e ∙ sym (ap (λ t. f (outline t)) r.written)
+
+list_absent : (o : Switches) (p : Position) (n w : Tree) → ListRow o p n w → (outline n).absent ≡ (outline w).absent
+list_absent o StatementList n w r = same_outline (λ l. l.absent) o n w r refl
+list_absent o p n w r = absurd r
+
+list_zero : (o : Switches) (p : Position) (n w : Tree) → ListRow o p n w → (outline n).is_zero ≡ (outline w).is_zero
+list_zero o StatementList n w r = same_outline (λ l. l.is_zero) o n w r refl
+list_zero o p n w r = absurd r
+
+list_items : (o : Switches) (p : Position) (n w : Tree) → ListRow o p n w → counts_items p ≡ true → (outline n).items ≡ (outline w).items
+list_items o StatementList n w r e = absurd (true≢false (sym e))
+list_items o p n w r e = absurd r
+
+list_chooses : (o : Switches) (p : Position) (n w : Tree) → ListRow o p n w → ((outline n).chooses ≡ true → (outline w).chooses ≡ true) ⊎ (weight p w + 5 ≤ weight p n)
+list_chooses o StatementList n w r = list_chosen o n w r
+list_chooses o p n w r = absurd r
+
+pub lists_lighten : ListsLighten
+lists_lighten o = record {
+  lighter = λ p n w c. c.lighter;
+  absent = λ p n w c e. list_absent o p n w c.row;
+  items = λ p n w c e. list_items o p n w c.row e;
+  is_zero = λ p n w c e. inl (list_zero o p n w c.row);
+  chooses = λ p n w c e. list_chooses o p n w c.row;
+}

@@ -1,0 +1,182 @@
+-- Rows of lists of statements: each reads some neighbours in a list and writes others in their place.
+use Rattle.std.specs.Prelude.{◌≡◌, ◌⊎◌, ◌<◌, Bool, true, false, ◌&&◌, ◌||◌, pos, List, [], ◌∷◌, if◌then◌else◌}
+use Rattle.mini_model.specs.declared.kind.VariableDeclarationKind.{VariableDeclarationKind}
+use Rattle.mini_model.specs.declared.kind.VariableDeclarationKind.TheVariants.{Var}
+use Rattle.mini_model.specs.declared.operator.UnaryOperator.TheVariants.{Void}
+use Rattle.mini_model.specs.declared.shape.Shape.{Shape}
+use Rattle.mini_model.specs.declared.shape.Shape.TheVariants as shape
+use Rattle.mini_model.specs.declared.place.Position.{Position}
+use Rattle.mini_model.specs.declared.place.Position.TheVariants.{StatementList}
+use Rattle.mini_model.specs.Tree.{Tree, Trees, node, none, ◌▸◌, leaf, listed, unary, is_absent, shape_of, empty_statement, expression_statement}
+use Rattle.mini_model.specs.Paths.{append}
+use Rattle.mini_model.specs.Weight.{weight}
+use Rattle.mini_rows.specs.Switches.{Switches}
+
+-- Nodes, one function a node
+
+abbrev pub block : Trees → Tree
+block ts = node shape.BlockStatement [] 0 (listed ts ▸ none)
+
+abbrev pub sequence : Trees → Tree
+sequence ts = node shape.SequenceExpression [] 0 (listed ts ▸ none)
+
+-- a jump with an argument, or without
+abbrev pub return_statement : Tree → Tree
+return_statement a = node shape.ReturnStatement [] 0 (a ▸ none)
+
+abbrev pub throw_statement : Tree → Tree
+throw_statement a = node shape.ThrowStatement [] 0 (a ▸ none)
+
+abbrev pub switch : Tree → Tree → Tree
+switch d cases = node shape.SwitchStatement [] 0 (d ▸ (cases ▸ none))
+
+abbrev pub for_loop : Tree → Tree → Tree → Tree → Tree
+for_loop init test update body = node shape.ForStatement [] 0 (init ▸ (test ▸ (update ▸ (body ▸ none))))
+
+abbrev pub declaration : VariableDeclarationKind → Trees → Tree
+declaration k ds = node (shape.VariableDeclaration k) [] 0 (listed ds ▸ none)
+
+-- `void 0`
+abbrev pub void_zero : Tree
+void_zero = unary Void (leaf (shape.NumericLiteral (pos 0)))
+
+-- an argument that may be absent, as a value
+abbrev pub or_void : Tree → Tree
+or_void a = if is_absent a then void_zero else a
+
+-- Expressions as parts in a row
+
+-- an expression of these parts, of which there is at least one
+abbrev pub of_parts : Tree → Trees → Tree
+of_parts p none = p
+of_parts p (q ▸ qs) = sequence (p ▸ (q ▸ qs))
+
+-- no absent part, no declaration in the head of a `for`, no place of a class that holds an expression, and no sequence, which
+-- is read by its parts
+abbrev pub is_one_part : Shape → Bool
+is_one_part shape.Absent = false
+is_one_part shape.InnerExpression = false
+is_one_part shape.SequenceExpression = false
+is_one_part (shape.VariableDeclaration k) = false
+is_one_part _ = true
+
+-- where there is no other part, it is one by itself
+abbrev pub are_parts : Tree → Trees → Bool
+are_parts p none = is_one_part (shape_of p)
+are_parts p (q ▸ qs) = true
+
+-- What is declared
+
+-- a statement that declares nothing in the list round it but `var` names, which are hoisted through it (ECMA-262,
+-- "LexicallyScopedDeclarations")
+abbrev pub is_unscoped_shape : Shape → Bool
+is_unscoped_shape shape.ExpressionStatement = true
+is_unscoped_shape shape.EmptyStatement = true
+is_unscoped_shape shape.DebuggerStatement = true
+is_unscoped_shape shape.BlockStatement = true
+is_unscoped_shape shape.LabeledStatement = true
+is_unscoped_shape shape.BreakStatement = true
+is_unscoped_shape shape.ContinueStatement = true
+is_unscoped_shape shape.ReturnStatement = true
+is_unscoped_shape shape.ThrowStatement = true
+is_unscoped_shape shape.IfStatement = true
+is_unscoped_shape shape.SwitchStatement = true
+is_unscoped_shape shape.TryStatement = true
+is_unscoped_shape shape.WhileStatement = true
+is_unscoped_shape shape.DoWhileStatement = true
+is_unscoped_shape shape.ForStatement = true
+is_unscoped_shape shape.ForInStatement = true
+is_unscoped_shape shape.ForOfStatement = true
+is_unscoped_shape (shape.VariableDeclaration Var) = true
+is_unscoped_shape _ = false
+
+abbrev pub is_unscoped : Tree → Bool
+is_unscoped t = is_unscoped_shape (shape_of t)
+
+abbrev pub are_unscoped : Trees → Bool
+are_unscoped none = true
+are_unscoped (t ▸ ts) = is_unscoped t && are_unscoped ts
+
+-- Ends
+
+abbrev pub any : List Bool → Bool
+any [] = false
+any (b ∷ bs) = b || any bs
+
+-- which of the children never end normally decides whether the node does
+abbrev pub terminated_by : Shape → List Bool → Bool
+terminated_by shape.ReturnStatement bs = true
+terminated_by shape.ThrowStatement bs = true
+terminated_by shape.BreakStatement bs = true
+terminated_by shape.ContinueStatement bs = true
+terminated_by shape.Listed bs = any bs
+terminated_by shape.BlockStatement (a ∷ []) = a
+terminated_by shape.IfStatement (a ∷ b ∷ c ∷ []) = b && c
+terminated_by _ bs = false
+
+-- a jump, a list or a block with a terminated statement, and an `if` of two: nothing runs after it (ECMA-262, "Completion
+-- Record Specification Type")
+abbrev mutual
+  pub is_terminated : Tree → Bool
+  is_terminated (node h xs n ts) = terminated_by h (are_terminated ts)
+
+  pub are_terminated : Trees → List Bool
+  are_terminated none = []
+  are_terminated (t ▸ ts) = is_terminated t ∷ are_terminated ts
+
+-- Rows: a stretch of statements, and what is written in its place
+
+-- 66: an empty statement goes
+pub record Row66Empty (a b : Trees) : Type 0 where
+  pub shape : a ≡ empty_statement ▸ none
+  pub written : b ≡ none
+
+-- 66: `a; b;` becomes `a, b;`, and what were sequences is one
+pub record Row66Joined (a b : Trees) : Type 0 where
+  pub p : Tree
+  pub ps : Trees
+  pub q : Tree
+  pub qs : Trees
+  pub first : are_parts p ps ≡ true
+  pub second : are_parts q qs ≡ true
+  pub shape : a ≡ expression_statement (of_parts p ps) ▸ (expression_statement (of_parts q qs) ▸ none)
+  pub written : b ≡ expression_statement (of_parts p (append ps (q ▸ qs))) ▸ none
+
+-- 79: `{ a; b; }` becomes `a; b;`
+pub record Row79 (a b : Trees) : Type 0 where
+  pub statements : Trees
+  pub unscoped : are_unscoped statements ≡ true
+  pub shape : a ≡ block statements ▸ none
+  pub written : b ≡ statements
+
+-- Rows in a list
+
+-- the rows on these neighbours that the options let happen
+abbrev pub StretchRow : Switches → Trees → Trees → Type 0
+StretchRow o a b = Row66Empty a b ⊎ (Row79 a b ⊎ ((o.sequences ≡ true) × Row66Joined a b))
+
+-- some neighbours in a list, and others in their place
+pub record InList (R : Trees → Trees → Type 0) (n w : Tree) : Type 0 where
+  pub before : Trees
+  pub read : Trees
+  pub put : Trees
+  pub after : Trees
+  pub row : R read put
+  pub shape : n ≡ listed (append before (append read after))
+  pub written : w ≡ listed (append before (append put after))
+
+-- a row reads the list n at this place as w
+abbrev pub ListRow : Switches → Position → Tree → Tree → Type 0
+ListRow o StatementList n w = InList (StretchRow o) n w
+ListRow o _ n w = ⊥
+
+-- what a row writes, where it weighs less
+pub record ListContracts (o : Switches) (p : Position) (n w : Tree) : Type 0 where
+  pub row : ListRow o p n w
+  pub lighter : weight p w < weight p n
+
+-- Laws
+
+-- what a row writes is lighter in every list
+abbrev pub ListsLighter : Type 0
+ListsLighter = (o : Switches) (p : Position) (n w : Tree) → ListRow o p n w → weight p w < weight p n
