@@ -7,3 +7,6 @@ pub mod ListParts
 pub mod ListStatements
 pub mod ListMeanings
 pub mod ListWeights
+pub mod BranchMeaning
+pub mod BranchLoops
+pub mod BranchSame

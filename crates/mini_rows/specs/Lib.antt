@@ -2,3 +2,4 @@ pub mod Switches
 pub mod Spellings
 pub mod Lists
 pub mod ListLaws
+pub mod Branches

@@ -1,1 +1,17 @@
-//! The rows of `if` and of blocks as branches.
+//! The rows of `if`, of blocks as branches and as bodies of loops, and of `return` without a value.
+
+ghost use Rattle.mini_laws.specs.Rewritten.{MeansSame};
+ghost use Rattle.mini_laws.specs.Weights.{Lightens};
+ghost use Rattle.mini_rows.specs.Branches.{BranchContracts, BranchLighter};
+
+/// What each row writes means the same in every demand that fits its place, and is read alike.
+pub fn branches_same()
+    ensures { MeansSame BranchContracts }
+{}
+
+/// What each row writes is lighter wherever the node stands, so no weight is asked before it is applied, and it makes the
+/// whole lighter.
+pub fn branches_lighten()
+    ensures lighter { BranchLighter }
+    ensures anywhere { Lightens BranchContracts }
+{}

@@ -6,3 +6,5 @@ mod arrangements;
 mod branches;
 mod lists;
 mod spellings;
+
+pub use branches::{branches_lighten, branches_same};

@@ -1,0 +1,223 @@
+-- Rows of `if`, of blocks as branches and as bodies of loops, and of `return` without a value: each is a shape and what is
+-- written in its place, with the JavaScript before and after.
+use Rattle.std.specs.Prelude.{◌≡◌, ◌⊎◌, ◌<◌, Bool, true, false, not, [], codes, pos, if◌then◌else◌}
+use Rattle.mini_model.specs.declared.kind.VariableDeclarationKind.TheVariants.{Var}
+use Rattle.mini_model.specs.declared.operator.LogicalOperator.TheVariants.{Or, And}
+use Rattle.mini_model.specs.declared.operator.UnaryOperator.TheVariants.{Void}
+use Rattle.mini_model.specs.declared.place.Position.{Position}
+use Rattle.mini_model.specs.declared.place.Position.TheVariants.{Stmt}
+use Rattle.mini_model.specs.declared.seat.Seat.{Seat}
+use Rattle.mini_model.specs.declared.shape.Shape.{Shape}
+use Rattle.mini_model.specs.declared.shape.Shape.TheVariants as shape
+use Rattle.mini_model.specs.Tree.{Tree, Trees, node, none, ◌▸◌, shape_of, leaf, is_absent, absent, listed, unresolved, identifier, unary, empty_statement, expression_statement, if_else, if_alone, logical}
+use Rattle.mini_model.specs.Position.{if_test_seat, left_operand_seat, statement_expression_seat}
+use Rattle.mini_model.specs.Weight.{weight}
+use Rattle.mini_model.specs.Terms.{not_of, has_negated_result}
+
+-- ---- nodes
+
+abbrev pub block : Trees → Tree
+block ts = node shape.BlockStatement [] 0 (listed ts ▸ none)
+
+abbrev pub return_statement : Tree → Tree
+return_statement a = node shape.ReturnStatement [] 0 (a ▸ none)
+
+-- `void 0`
+abbrev pub void_zero : Tree
+void_zero = unary Void (leaf (shape.NumericLiteral (pos 0)))
+
+-- `undefined` where no scope declares it, and `void 0`
+abbrev pub IsUndefined : Tree → Type 0
+IsUndefined v = (v ≡ identifier (unresolved (codes "undefined"))) ⊎ (v ≡ void_zero)
+
+-- `;` and `{}`
+abbrev pub IsEmpty : Tree → Type 0
+IsEmpty t = (t ≡ empty_statement) ⊎ (t ≡ block none)
+
+-- ---- terms
+
+-- statements that may declare a lexical name in the scope around them, as `let`, `const`, classes and functions do, and
+-- what is no statement of a list (ECMA-262, "LexicallyDeclaredNames")
+abbrev pub is_scoped_shape : Shape → Bool
+is_scoped_shape shape.ExpressionStatement = false
+is_scoped_shape shape.EmptyStatement = false
+is_scoped_shape shape.DebuggerStatement = false
+is_scoped_shape shape.BlockStatement = false
+is_scoped_shape shape.LabeledStatement = false
+is_scoped_shape shape.BreakStatement = false
+is_scoped_shape shape.ContinueStatement = false
+is_scoped_shape shape.ReturnStatement = false
+is_scoped_shape shape.ThrowStatement = false
+is_scoped_shape shape.IfStatement = false
+is_scoped_shape shape.SwitchStatement = false
+is_scoped_shape shape.TryStatement = false
+is_scoped_shape shape.WhileStatement = false
+is_scoped_shape shape.DoWhileStatement = false
+is_scoped_shape shape.ForStatement = false
+is_scoped_shape shape.ForInStatement = false
+is_scoped_shape shape.ForOfStatement = false
+is_scoped_shape (shape.VariableDeclaration Var) = false
+is_scoped_shape _ = true
+
+-- a labelled statement is one where the statement after its label is
+abbrev pub is_scoped : Tree → Bool
+is_scoped (node shape.LabeledStatement xs n (l ▸ (t ▸ none))) = is_scoped t
+is_scoped (node h xs n ts) = is_scoped_shape h
+
+-- an `if` with `else`
+abbrev pub has_else : Tree → Bool
+has_else (node shape.IfStatement xs n (a ▸ (b ▸ (c ▸ ts)))) = not (is_absent c)
+has_else _ = false
+
+abbrev pub is_expression_shape : Shape → Bool
+is_expression_shape shape.ExpressionStatement = true
+is_expression_shape shape.Absent = true
+is_expression_shape _ = false
+
+-- a branch that is there, and is no expression statement
+abbrev pub is_other_branch : Tree → Bool
+is_other_branch t = not (is_expression_shape (shape_of t))
+
+-- a statement as a consequent: an `if` with `else` has a block around it there
+abbrev pub as_consequent : Tree → Tree
+as_consequent t = if has_else t then block (t ▸ none) else t
+
+-- ---- 60
+
+-- `return undefined;` and `return void 0;` become `return;`
+pub record Row60 (n w : Tree) : Type 0 where
+  pub argument : Tree
+  pub undefined : IsUndefined argument
+  pub shape : n ≡ return_statement argument
+  pub written : w ≡ return_statement absent
+
+-- ---- 79
+
+-- a branch of an `if`, or the body of a loop, with what else the statement has
+pub data Surrounding : Type 0 where
+  -- `if (a) □ else u`, and the same without `else`
+  Consequent : Tree → Tree → Surrounding
+  -- `if (a) s else □`
+  Alternate : Tree → Tree → Surrounding
+  -- `while (a) □`
+  WhileBody : Tree → Surrounding
+  -- `do □ while (a);`
+  DoBody : Tree → Surrounding
+  -- `for (init; test; update) □`
+  ForBody : Tree → Tree → Tree → Surrounding
+  -- `for (left in right) □`
+  InBody : Tree → Tree → Surrounding
+  -- `for (left of right) □`
+  OfBody : Tree → Tree → Surrounding
+
+abbrev pub around : Surrounding → Tree → Tree
+around (Consequent a u) c = if_else a c u
+around (Alternate a s) c = if_else a s c
+around (WhileBody a) c = node shape.WhileStatement [] 0 (a ▸ (c ▸ none))
+around (DoBody a) c = node shape.DoWhileStatement [] 0 (c ▸ (a ▸ none))
+around (ForBody init test update) c = node shape.ForStatement [] 0 (init ▸ (test ▸ (update ▸ (c ▸ none))))
+around (InBody left right) c = node shape.ForInStatement [] 0 (left ▸ (right ▸ (c ▸ none)))
+around (OfBody left right) c = node shape.ForOfStatement [] 0 (left ▸ (right ▸ (c ▸ none)))
+
+-- an `if` with `else` keeps its block as a consequent
+abbrev pub keeps_block : Surrounding → Tree → Bool
+keeps_block (Consequent a u) c = has_else c
+keeps_block k c = false
+
+-- `if (a) { b(); } else { c(); }` becomes `if (a) b(); else c();`, a branch at a time, and `while (a) { b(); }` becomes
+-- `while (a) b();`: a block of one statement that isn't scoped becomes that statement
+pub record Row79 (n w : Tree) : Type 0 where
+  pub place : Surrounding
+  pub statement : Tree
+  pub unscoped : is_scoped statement ≡ false
+  pub bare : keeps_block place statement ≡ false
+  pub shape : n ≡ around place (block (statement ▸ none))
+  pub written : w ≡ around place statement
+
+-- ---- 82, with an empty consequent
+
+-- `if (a); else b;` becomes `a || b;`
+pub record Row82EmptyOr (n w : Tree) : Type 0 where
+  pub a : Tree
+  pub empty : Tree
+  pub b : Tree
+  pub is_empty : IsEmpty empty
+  pub plain : has_negated_result a ≡ false
+  pub shape : n ≡ if_else a empty (expression_statement b)
+  pub written : w ≡ expression_statement (logical Or a b)
+
+-- the seat of the a in `a && b;`
+abbrev pub conjunct_seat : Seat
+conjunct_seat = left_operand_seat And statement_expression_seat
+
+-- `if (!a); else b;` becomes `a && b;`
+pub record Row82EmptyAnd (n w : Tree) : Type 0 where
+  pub a : Tree
+  pub empty : Tree
+  pub b : Tree
+  pub is_empty : IsEmpty empty
+  pub negated : has_negated_result a ≡ true
+  pub shape : n ≡ if_else a empty (expression_statement b)
+  pub written : w ≡ expression_statement (logical And (not_of conjunct_seat a) b)
+
+-- ---- 83
+
+-- `if (a);` becomes `a;`
+pub record Row83Alone (n w : Tree) : Type 0 where
+  pub a : Tree
+  pub empty : Tree
+  pub is_empty : IsEmpty empty
+  pub shape : n ≡ if_alone a empty
+  pub written : w ≡ expression_statement a
+
+-- `if (a); else return b;` becomes `if (!a) return b;`, and what comes to be an `if` with `else` as a consequent has a block
+pub record Row83Else (n w : Tree) : Type 0 where
+  pub a : Tree
+  pub empty : Tree
+  pub u : Tree
+  pub is_empty : IsEmpty empty
+  pub other : is_other_branch u ≡ true
+  pub shape : n ≡ if_else a empty u
+  pub written : w ≡ if_alone (not_of if_test_seat a) (as_consequent u)
+
+-- `if (a) if (b) c;` becomes `if (a && b) c;`
+pub record Row83Nested (n w : Tree) : Type 0 where
+  pub a : Tree
+  pub b : Tree
+  pub s : Tree
+  pub shape : n ≡ if_alone a (if_alone b s)
+  pub written : w ≡ if_alone (logical And a b) s
+
+-- `if (a) if (b) c; else d;`, where the `else` is that of the second `if`, becomes `if (a) { if (b) c; else d; }`
+pub record Row83Block (n w : Tree) : Type 0 where
+  pub a : Tree
+  pub c : Tree
+  pub u : Tree
+  pub chooses : has_else c ≡ true
+  pub shape : n ≡ if_else a c u
+  pub written : w ≡ if_else a (block (c ▸ none)) u
+
+-- ---- all
+
+abbrev pub Row82Empty : Tree → Tree → Type 0
+Row82Empty n w = Row82EmptyOr n w ⊎ Row82EmptyAnd n w
+
+abbrev pub Row83 : Tree → Tree → Type 0
+Row83 n w = Row83Alone n w ⊎ (Row83Else n w ⊎ (Row83Nested n w ⊎ Row83Block n w))
+
+abbrev pub IfRow : Tree → Tree → Type 0
+IfRow n w = Row82Empty n w ⊎ Row83 n w
+
+-- a row reads n as w at this place
+abbrev pub BranchRow : Position → Tree → Tree → Type 0
+BranchRow (Stmt q) n w = Row60 n w ⊎ (Row79 n w ⊎ IfRow n w)
+BranchRow _ n w = ⊥
+
+-- what a row writes, where it weighs less
+pub record BranchContracts (p : Position) (n w : Tree) : Type 0 where
+  pub row : BranchRow p n w
+  pub lighter : weight p w < weight p n
+
+-- what each row writes is lighter wherever the node stands
+abbrev pub BranchLighter : Type 0
+BranchLighter = (p : Position) (n w : Tree) → BranchRow p n w → weight p w < weight p n
