@@ -10,3 +10,4 @@ pub mod ListWeights
 pub mod BranchMeaning
 pub mod BranchLoops
 pub mod BranchSame
+pub mod BranchWeights

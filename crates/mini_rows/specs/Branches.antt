@@ -71,6 +71,7 @@ has_else _ = false
 
 abbrev pub is_expression_shape : Shape → Bool
 is_expression_shape shape.ExpressionStatement = true
+is_expression_shape shape.InnerExpression = true
 is_expression_shape shape.Absent = true
 is_expression_shape _ = false
 
