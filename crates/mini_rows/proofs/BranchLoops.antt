@@ -16,14 +16,15 @@ use Rattle.mini_laws.proofs.Runs.{either_cong, run_bind}
 use Rattle.mini_laws.proofs.Stretching.{run_attempt}
 use Rattle.mini_laws.proofs.Tailing.{finished, finish_none, tail_same}
 use Rattle.mini_laws.specs.Tails.{ends_in}
-use Rattle.mini_rows.specs.Branches.{block, Surrounding, Consequent, Alternate, WhileBody, DoBody, ForBody, InBody, OfBody, around}
-use Rattle.mini_rows.proofs.BranchMeaning.{SameStatement, equal_statement, Unscoped, one_unwrapped, row_79_consequent, row_79_alternate}
+use Rattle.mini_rows.specs.Lists.{block, is_unscoped}
+use Rattle.mini_rows.specs.Branches.{Surrounding, Consequent, Alternate, WhileBody, DoBody, ForBody, InBody, OfBody, around}
+use Rattle.mini_rows.proofs.BranchMeaning.{SameStatement, equal_statement, one_unwrapped, row_79_consequent, row_79_alternate}
 
 -- statements that do the same where no label stands before them
 pub record SameBare (c d : Tree) : Type 0 where
   pub by : (e : Environment) (t : Option Tail) (s : State) → means e c (Stat t) [] s ≡ means e d (Stat t) [] s
 
-pub bare_unwrapped : (c : Tree) → Unscoped (c ▸ none) → SameBare (block (c ▸ none)) c
+pub bare_unwrapped : (c : Tree) → is_unscoped c ≡ true → SameBare (block (c ▸ none)) c
 bare_unwrapped c u = record { by = λ e t s. tail_same e (block (c ▸ none)) t [] s ∙ ap (λ x. either x (λ u z. ok tt z) (ends_in t)) (one_unwrapped e c u s) ∙ sym (tail_same e c t [] s) }
 
 -- ---- commands that do the same over two families of children
@@ -243,7 +244,7 @@ module _ (c d : Tree) (same : SameBare c d) (e : Environment) (r : LabelSet) (s 
 
 -- ---- 79, of branches and of bodies
 
-pub row_79 : (k : Surrounding) (c : Tree) → Unscoped (c ▸ none) → SameStatement (around k (block (c ▸ none))) (around k c)
+pub row_79 : (k : Surrounding) (c : Tree) → is_unscoped c ≡ true → SameStatement (around k (block (c ▸ none))) (around k c)
 row_79 (Consequent a u) c f = row_79_consequent a c u f
 row_79 (Alternate a u) c f = row_79_alternate a c u f
 row_79 (WhileBody a) c f = equal_statement _ _ (λ e r s. while_does (block (c ▸ none)) c (bare_unwrapped c f) e r s a) refl

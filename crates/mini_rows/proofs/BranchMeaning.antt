@@ -1,22 +1,18 @@
 -- What statements do where no tail is, and rows of `if`.
-use Rattle.std.proofs.Common.{◌≡◌, ℕ, Bool, true, false, [], ◌++◌, Option, None, refl, sym, ap, ◌∙◌, subst, inl, inr}
+use Rattle.std.proofs.Common.{◌≡◌, Bool, true, false, [], Option, None, refl, sym, ap, ◌∙◌, subst, inl, inr}
 use Rattle.std.specs.Prelude.{not, codes}
 use Rattle.mini_model.specs.declared.operator.LogicalOperator.TheVariants.{Or, And}
 use Rattle.mini_model.specs.declared.place.Position.TheVariants.{Stmt}
 use Rattle.mini_model.specs.declared.seat.Seat.{Seat}
 use Rattle.mini_model.specs.declared.seat.StmtSeat.{StmtSeat}
 use Rattle.mini_model.specs.declared.shape.Shape.TheVariants as shape
-use Rattle.mini_model.specs.declared.kind.VariableDeclarationKind.TheVariants.{Var}
-use Rattle.mini_model.specs.Tree.{Tree, Trees, node, none, ◌▸◌, absent, listed, unresolved, identifier, empty_statement, expression_statement, if_else, if_alone, negation, logical}
+use Rattle.mini_model.specs.Tree.{Tree, node, none, ◌▸◌, absent, listed, unresolved, identifier, expression_statement, if_else, if_alone, negation, logical}
 use Rattle.mini_model.specs.Terms.{not_of}
 use Rattle.mini_meaning.specs.Value.{Undefined, choose, truth}
-use Rattle.mini_meaning.specs.State.{State, Returned, Completion, ok, stop, either, Environment, with_vars}
+use Rattle.mini_meaning.specs.State.{State, Returned, Completion, ok, stop, either, Environment}
 use Rattle.mini_meaning.specs.Demand.{Val, Test, Unused, Demand, Tail, As, Stat, LabelSet, Request}
-use Rattle.mini_meaning.specs.Command.{Naming, hide, hide_all, Command, op, kid, then, ret, bind, Kids, act, run}
-use Rattle.mini_meaning.specs.Naming.{function_facts, function_names, functions_all, lets_all, summary, summaries, facts, naming}
-use Rattle.mini_meaning.specs.Asking.{first_demand}
-use Rattle.mini_meaning.specs.Replies.{as_ended}
-use Rattle.mini_meaning.specs.Statements.{scoped, create_functions, block_step, if_step, return_step}
+use Rattle.mini_meaning.specs.Naming.{summary, summaries, naming}
+use Rattle.mini_meaning.specs.Statements.{return_step}
 use Rattle.mini_meaning.specs.Step.{step, means, meaning}
 use Rattle.mini_meaning.specs.Fits.{Fits}
 use Rattle.mini_laws.specs.Rows.{SameAt}
@@ -25,9 +21,11 @@ use Rattle.mini_laws.specs.Truth.{told}
 use Rattle.mini_laws.proofs.Runs.{either_cong, either_assoc, either_eta, either_ok, either_stop, each_bool}
 use Rattle.mini_laws.proofs.Truth.{coherent}
 use Rattle.mini_laws.proofs.Rows.{equal_same, not_equal}
-use Rattle.mini_laws.proofs.Stretching.{listed_one, run_attempt}
+use Rattle.mini_laws.proofs.Stretching.{listed_one}
 use Rattle.mini_laws.proofs.Tailing.{finished, finish_none, tail_same}
-use Rattle.mini_rows.specs.Branches.{block, return_statement, void_zero, IsUndefined, IsEmpty, is_scoped, has_else, as_consequent}
+use Rattle.mini_rows.specs.Lists.{block, return_statement, void_zero, is_unscoped}
+use Rattle.mini_rows.proofs.ListStatements.{expression_is, if_is, absent_is, empty_is, one_unscoped, read_nothing, block_is}
+use Rattle.mini_rows.specs.Branches.{IsUndefined, IsEmpty, has_else, as_consequent}
 
 -- statements that do the same in any environment and any tail, with any labels, and are read alike
 pub record SameStatement (n w : Tree) : Type 0 where
@@ -50,102 +48,12 @@ replaced n n' w w' u v h = subst (λ x. SameStatement x w) (sym u) (subst (λ y.
 
 -- ---- what some statements do where no tail is
 
-pub expression_is : (e : Environment) (a : Tree) (r : LabelSet) (s : State) → means e (expression_statement a) (Stat None) r s ≡ means e a (As Unused) tt s
-unfolding means meaning step
-expression_is e a r s = finished e (naming shape.ExpressionStatement (Stat None) [] 0 (summaries (a ▸ none))) (λ i. As Unused) (λ i r z. meaning e (a ▸ none) i (As Unused) r z) None (kid 0 tt (then ret)) s ∙ finish_none _ ∙ either_eta (means e a (As Unused) tt s)
-
 pub return_is : (e : Environment) (a : Tree) (r : LabelSet) (s : State) → means e (return_statement a) (Stat None) r s ≡ either (means e a (As Val) tt s) (λ v z. stop (Returned v) z) (λ x z. stop x z)
 unfolding means meaning step
 return_is e a r s = finished e (naming shape.ReturnStatement (Stat None) [] 0 (summaries (a ▸ none))) (λ i. As Val) (λ i r z. meaning e (a ▸ none) i (As Val) r z) None return_step s ∙ finish_none _
 
-pub if_is : (e : Environment) (a b c : Tree) (r : LabelSet) (s : State) → means e (if_else a b c) (Stat None) r s ≡ either (means e a (As Test) tt s) (λ t z. choose t (means e b (Stat None) [] z) (means e c (Stat None) [] z)) (λ x z. stop x z)
-unfolding means meaning step
-if_is e a b c r s =
-    finished e (naming shape.IfStatement (Stat None) [] 0 (summaries (a ▸ (b ▸ (c ▸ none))))) (first_demand (As Test) (Stat None)) (λ i r z. meaning e (a ▸ (b ▸ (c ▸ none))) i (first_demand (As Test) (Stat None) i) r z) None (if_step None) s
-    ∙ finish_none _
-    ∙ either_cong (means e a (As Test) tt s) _ _ _ _ (each_bool _ (λ z. either_eta (means e b (Stat None) [] z)) (λ z. either_eta (means e c (Stat None) [] z))) (λ x z. refl)
-
-pub absent_is : (e : Environment) (r : LabelSet) (s : State) → means e absent (Stat None) r s ≡ ok tt s
-unfolding means step
-absent_is e r s = refl
-
-pub empty_is : (e : Environment) (r : LabelSet) (s : State) → means e empty_statement (Stat None) r s ≡ ok tt s
-unfolding means step
-empty_is e r s = refl
-
--- ---- a block in which nothing is scoped
-
--- what its list has for it
-pub record Unscoped (ts : Trees) : Type 0 where
-  pub lets : lets_all (summaries ts) ≡ []
-  pub functions : functions_all (summaries ts) ≡ []
-  pub facts : function_facts (facts ts) ≡ []
-
-abbrev leave : Naming → State → State
-leave names s = with_vars s (hide_all names.scope s.vars)
-
-abbrev leaving : {A : Type 0} → Naming → Completion A → Completion A
-leaving names x = either x (λ a z. ok a (leave names z)) (λ y z. stop y (leave names z))
-
-scoped_is : {A : Type 0} (e : Environment) (names : Naming) {q : ℕ → Demand} (c : Command q A) (K : Kids q) (s : State) → run e names K (scoped c) s ≡ leaving names (run e names K c (leave names s))
-unfolding act either
-scoped_is e names c K s = run_attempt e names c (λ x. op hide (then (λ u. as_ended x))) K (leave names s)
-
-leave_nothing : (names : Naming) → names.scope ≡ [] → (s : State) → leave names s ≡ s
-leave_nothing names h s = ap (λ l. with_vars s (hide_all l s.vars)) h
-
-leaving_nothing : {A : Type 0} (names : Naming) → names.scope ≡ [] → (x : Completion A) → leaving names x ≡ x
-leaving_nothing names h x = either_cong x _ _ _ _ (λ a z. ap (λ y. ok a y) (leave_nothing names h z)) (λ y z. ap (λ w. stop y w) (leave_nothing names h z)) ∙ either_eta x
-
-abbrev names_of : Trees → Naming
-names_of ts = naming shape.BlockStatement (Stat None) [] 0 (summaries (listed ts ▸ none))
-
-block_scope : (ts : Trees) → Unscoped ts → (names_of ts).scope ≡ []
-block_scope ts u = ap (λ l. (l ++ []) ++ function_names (functions_all (summaries ts) ++ [])) u.lets ∙ ap (λ l. function_names (l ++ [])) u.functions
-
-abbrev kids_of : Environment → Trees → Kids (λ i. Stat None)
-kids_of e ts i r z = meaning e (listed ts ▸ none) i (Stat None) r z
-
-block_runs : (e : Environment) (ts : Trees) → Unscoped ts → (s : State) → run e (names_of ts) (kids_of e ts) (block_step None (facts (listed ts ▸ none))) s ≡ means e (listed ts) (Stat None) [] s
-unfolding meaning
-block_runs e ts u s =
-    ap (λ l. run {q = λ i. Stat None} e (names_of ts) (kids_of e ts) (scoped {σ = λ i. Stat None} (bind (create_functions true l 0) (λ u. kid 0 [] (then ret)))) s) (ap (λ l. l ++ []) u.facts)
-    ∙ scoped_is e (names_of ts) {q = λ i. Stat None} (kid 0 [] (then ret)) (kids_of e ts) s
-    ∙ leaving_nothing (names_of ts) (block_scope ts u) _
-    ∙ either_eta (means e (listed ts) (Stat None) [] (leave (names_of ts) s))
-    ∙ ap (λ z. means e (listed ts) (Stat None) [] z) (leave_nothing (names_of ts) (block_scope ts u) s)
-
-pub block_means : (e : Environment) (ts : Trees) → Unscoped ts → (r : LabelSet) (s : State) → means e (block ts) (Stat None) r s ≡ means e (listed ts) (Stat None) [] s
-unfolding means step
-block_means e ts u r s = finished e (names_of ts) (λ i. Stat None) (kids_of e ts) None (block_step None (facts (listed ts ▸ none))) s ∙ finish_none _ ∙ block_runs e ts u s
-
-pub unscoped_none : Unscoped none
-unscoped_none = record { lets = refl; functions = refl; facts = refl }
-
--- a statement that is not scoped has nothing for the block around it
-pub is_unscoped : (c : Tree) → is_scoped c ≡ false → Unscoped (c ▸ none)
-is_unscoped (node shape.ExpressionStatement xs n ts) h = record { lets = refl; functions = refl; facts = refl }
-is_unscoped (node shape.EmptyStatement xs n ts) h = record { lets = refl; functions = refl; facts = refl }
-is_unscoped (node shape.DebuggerStatement xs n ts) h = record { lets = refl; functions = refl; facts = refl }
-is_unscoped (node shape.BlockStatement xs n ts) h = record { lets = refl; functions = refl; facts = refl }
-is_unscoped (node shape.LabeledStatement xs n ts) h = record { lets = refl; functions = refl; facts = refl }
-is_unscoped (node shape.BreakStatement xs n ts) h = record { lets = refl; functions = refl; facts = refl }
-is_unscoped (node shape.ContinueStatement xs n ts) h = record { lets = refl; functions = refl; facts = refl }
-is_unscoped (node shape.ReturnStatement xs n ts) h = record { lets = refl; functions = refl; facts = refl }
-is_unscoped (node shape.ThrowStatement xs n ts) h = record { lets = refl; functions = refl; facts = refl }
-is_unscoped (node shape.IfStatement xs n ts) h = record { lets = refl; functions = refl; facts = refl }
-is_unscoped (node shape.SwitchStatement xs n ts) h = record { lets = refl; functions = refl; facts = refl }
-is_unscoped (node shape.TryStatement xs n ts) h = record { lets = refl; functions = refl; facts = refl }
-is_unscoped (node shape.WhileStatement xs n ts) h = record { lets = refl; functions = refl; facts = refl }
-is_unscoped (node shape.DoWhileStatement xs n ts) h = record { lets = refl; functions = refl; facts = refl }
-is_unscoped (node shape.ForStatement xs n ts) h = record { lets = refl; functions = refl; facts = refl }
-is_unscoped (node shape.ForInStatement xs n ts) h = record { lets = refl; functions = refl; facts = refl }
-is_unscoped (node shape.ForOfStatement xs n ts) h = record { lets = refl; functions = refl; facts = refl }
-is_unscoped (node (shape.VariableDeclaration Var) xs n ts) h = record { lets = refl; functions = refl; facts = refl }
-is_unscoped c h = absurd (cc h)
-
-pub one_unwrapped : (e : Environment) (c : Tree) → Unscoped (c ▸ none) → (s : State) → means e (block (c ▸ none)) (Stat None) [] s ≡ means e c (Stat None) [] s
-one_unwrapped e c u s = block_means e (c ▸ none) u [] s ∙ listed_one e c s
+pub one_unwrapped : (e : Environment) (c : Tree) → is_unscoped c ≡ true → (s : State) → means e (block (c ▸ none)) (Stat None) [] s ≡ means e c (Stat None) [] s
+one_unwrapped e c u s = block_is e (c ▸ none) (one_unscoped c u) [] s ∙ listed_one e c s
 
 empty_none : (e : Environment) (r : LabelSet) (s : State) → means e (listed none) (Stat None) r s ≡ ok tt s
 unfolding means step
@@ -153,12 +61,11 @@ empty_none e r s = refl
 
 pub empty_does : (e : Environment) (c : Tree) → IsEmpty c → (r : LabelSet) (s : State) → means e c (Stat None) r s ≡ ok tt s
 empty_does e c (inl h) r s = ap (λ x. means e x (Stat None) r s) h ∙ empty_is e r s
-empty_does e c (inr h) r s = ap (λ x. means e x (Stat None) r s) h ∙ block_means e none unscoped_none r s ∙ empty_none e [] s
+empty_does e c (inr h) r s = ap (λ x. means e x (Stat None) r s) h ∙ block_is e none (read_nothing none refl) r s ∙ empty_none e [] s
 
--- an `if` is never scoped
-has_else_unscoped : (c : Tree) → has_else c ≡ true → Unscoped (c ▸ none)
-has_else_unscoped (node shape.IfStatement xs n ts) h = record { lets = refl; functions = refl; facts = refl }
-has_else_unscoped c h = absurd (cc h)
+else_unscoped : (c : Tree) → has_else c ≡ true → is_unscoped c ≡ true
+else_unscoped (node shape.IfStatement xs n ts) h = refl
+else_unscoped c h = absurd (cc h)
 
 -- ---- tests
 
@@ -218,13 +125,13 @@ row_60 v u = equal_statement _ _ (λ e r s. return_is e v r s ∙ ap (λ x. eith
 
 -- ---- 79, of branches, and 83's block
 
-pub row_79_consequent : (a c u : Tree) → Unscoped (c ▸ none) → SameStatement (if_else a (block (c ▸ none)) u) (if_else a c u)
+pub row_79_consequent : (a c u : Tree) → is_unscoped c ≡ true → SameStatement (if_else a (block (c ▸ none)) u) (if_else a c u)
 row_79_consequent a c u f = equal_statement _ _ (λ e ls s.
     if_is e a (block (c ▸ none)) u ls s
     ∙ either_cong (means e a (As Test) tt s) _ _ _ _ (each_bool _ (λ z. one_unwrapped e c f z) (λ z. refl)) (λ x z. refl)
     ∙ sym (if_is e a c u ls s)) refl
 
-pub row_79_alternate : (a c u : Tree) → Unscoped (c ▸ none) → SameStatement (if_else a u (block (c ▸ none))) (if_else a u c)
+pub row_79_alternate : (a c u : Tree) → is_unscoped c ≡ true → SameStatement (if_else a u (block (c ▸ none))) (if_else a u c)
 row_79_alternate a c u f = equal_statement _ _ (λ e ls s.
     if_is e a u (block (c ▸ none)) ls s
     ∙ either_cong (means e a (As Test) tt s) _ _ _ _ (each_bool _ (λ z. refl) (λ z. one_unwrapped e c f z)) (λ x z. refl)
@@ -234,7 +141,7 @@ pub same_back : (n w : Tree) → SameStatement n w → SameStatement w n
 same_back n w same = record { by = λ e t r s. sym (same.by e t r s); read = sym same.read }
 
 pub row_83_block : (a c u : Tree) → has_else c ≡ true → SameStatement (if_else a c u) (if_else a (block (c ▸ none)) u)
-row_83_block a c u h = same_back _ _ (row_79_consequent a c u (has_else_unscoped c h))
+row_83_block a c u h = same_back _ _ (row_79_consequent a c u (else_unscoped c h))
 
 -- ---- 82
 

@@ -8,7 +8,7 @@ use Rattle.mini_meaning.specs.Naming.{summary}
 use Rattle.mini_laws.specs.Rows.{SameAt}
 use Rattle.mini_laws.specs.Rewritten.{MeansSame}
 use Rattle.mini_rows.specs.Branches.{conjunct_seat, Row82Empty, Row83, IfRow, BranchRow, BranchContracts}
-use Rattle.mini_rows.proofs.BranchMeaning.{SameStatement, statement_same, replaced, is_unscoped, row_60, row_82_empty_or, row_82_empty_and, row_83_alone, row_83_else, row_83_nested, row_83_block}
+use Rattle.mini_rows.proofs.BranchMeaning.{SameStatement, statement_same, replaced, row_60, row_82_empty_or, row_82_empty_and, row_83_alone, row_83_else, row_83_nested, row_83_block}
 use Rattle.mini_rows.proofs.BranchLoops.{row_79}
 
 empty_same : (n w : Tree) → Row82Empty n w → SameStatement n w
@@ -27,13 +27,13 @@ if_same n w (inr r) = row_83 n w r
 
 row_same : (p : Position) (n w : Tree) → BranchRow p n w → SameAt p n w
 row_same (Stmt q) n w (inl r) = statement_same n w (replaced n _ w _ r.shape r.written (row_60 r.argument r.undefined)) q
-row_same (Stmt q) n w (inr (inl r)) = statement_same n w (replaced n _ w _ r.shape r.written (row_79 r.place r.statement (is_unscoped r.statement r.unscoped))) q
+row_same (Stmt q) n w (inr (inl r)) = statement_same n w (replaced n _ w _ r.shape r.written (row_79 r.place r.statement r.unscoped)) q
 row_same (Stmt q) n w (inr (inr r)) = statement_same n w (if_same n w r) q
 row_same p n w r = absurd r
 
 row_reads : (p : Position) (n w : Tree) → BranchRow p n w → summary n ≡ summary w
 row_reads (Stmt q) n w (inl r) = (replaced n _ w _ r.shape r.written (row_60 r.argument r.undefined)).read
-row_reads (Stmt q) n w (inr (inl r)) = (replaced n _ w _ r.shape r.written (row_79 r.place r.statement (is_unscoped r.statement r.unscoped))).read
+row_reads (Stmt q) n w (inr (inl r)) = (replaced n _ w _ r.shape r.written (row_79 r.place r.statement r.unscoped)).read
 row_reads (Stmt q) n w (inr (inr r)) = (if_same n w r).read
 row_reads p n w r = absurd r
 

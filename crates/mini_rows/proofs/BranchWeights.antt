@@ -15,7 +15,8 @@ use Rattle.mini_model.specs.Weight.{outline, outlines, nth_is_absent, first_choo
 use Rattle.mini_model.specs.Terms.{neg, not_of}
 use Rattle.mini_laws.specs.Weights.{Lightens}
 use Rattle.mini_laws.proofs.Seats.{placed, moved}
-use Rattle.mini_rows.specs.Branches.{block, return_statement, IsUndefined, IsEmpty, is_scoped, has_else, is_other_branch, as_consequent, Surrounding, Consequent, Alternate, WhileBody, DoBody, ForBody, InBody, OfBody, around, keeps_block, conjunct_seat, Row82Empty, Row83, BranchRow, BranchContracts, BranchLighter}
+use Rattle.mini_rows.specs.Lists.{block, return_statement, is_unscoped}
+use Rattle.mini_rows.specs.Branches.{IsUndefined, IsEmpty, has_else, is_other_branch, as_consequent, Surrounding, Consequent, Alternate, WhileBody, DoBody, ForBody, InBody, OfBody, around, keeps_block, conjunct_seat, Row82Empty, Row83, BranchRow, BranchContracts, BranchLighter}
 
 -- this much, where it is not so
 abbrev unless : Bool → ℕ → ℕ
@@ -30,8 +31,8 @@ absent_is (node shape.IfStatement xs n ts) = refl
 absent_is (node (shape.NumericLiteral k) xs n ts) = refl
 absent_is (node h xs n ts) = refl
 
-chooses_is : (c : Tree) → is_scoped c ≡ false → (outline c).chooses ≡ has_else c
-chooses_is (node shape.Listed xs n ts) h = absurd (true≢false h)
+chooses_is : (c : Tree) → is_unscoped c ≡ true → (outline c).chooses ≡ has_else c
+chooses_is (node shape.Listed xs n ts) h = absurd (cc h)
 chooses_is (node shape.IfStatement xs n none) h = refl
 chooses_is (node shape.IfStatement xs n (a ▸ none)) h = refl
 chooses_is (node shape.IfStatement xs n (a ▸ (b ▸ none))) h = refl
@@ -40,8 +41,8 @@ chooses_is (node shape.Absent xs n ts) h = refl
 chooses_is (node (shape.NumericLiteral k) xs n ts) h = refl
 chooses_is (node g xs n ts) h = refl
 
-scoped_present : (c : Tree) → is_scoped c ≡ false → is_absent c ≡ false
-scoped_present (node shape.Absent xs n ts) h = absurd (true≢false h)
+scoped_present : (c : Tree) → is_unscoped c ≡ true → is_absent c ≡ false
+scoped_present (node shape.Absent xs n ts) h = absurd (cc h)
 scoped_present (node g xs n ts) h = refl
 
 other_present : (u : Tree) → is_other_branch u ≡ true → is_absent u ≡ false
@@ -64,20 +65,20 @@ never_heavier : (b : Bool) → (if b then 0 else 4) ≤ 4
 never_heavier true = omega arith
 never_heavier false = omega arith
 
-body_is_list : (c : Tree) → is_scoped c ≡ false → weight (Stmt stmt_seat.Body) c ≡ weight (Stmt stmt_seat.List) c
-body_is_list (node shape.InnerExpression xs n ts) h = absurd (true≢false h)
+body_is_list : (c : Tree) → is_unscoped c ≡ true → weight (Stmt stmt_seat.Body) c ≡ weight (Stmt stmt_seat.List) c
+body_is_list (node shape.InnerExpression xs n ts) h = absurd (cc h)
 body_is_list (node g xs n ts) h = refl
 
 -- an `if` with `else` aside, a consequent weighs at most what a statement of a list does
-consequent_falls : (c : Tree) → is_scoped c ≡ false → has_else c ≡ false → weight (Stmt stmt_seat.Consequent) c ≤ weight (Stmt stmt_seat.List) c
-consequent_falls (node shape.InnerExpression xs n ts) h e = absurd (true≢false h)
+consequent_falls : (c : Tree) → is_unscoped c ≡ true → has_else c ≡ false → weight (Stmt stmt_seat.Consequent) c ≤ weight (Stmt stmt_seat.List) c
+consequent_falls (node shape.InnerExpression xs n ts) h e = absurd (cc h)
 consequent_falls (node shape.BlockStatement xs n ts) h e = let least = never_heavier (first_chooses (outlines ts)) in omega (arith, least)
 consequent_falls (node shape.IfStatement xs n ts) h e = let alone = ap (λ b. unless b 1) (has_else_alternates ts e) in omega (arith, alone)
 consequent_falls (node g xs n ts) h e = omega arith
 
 -- the block that an `if` with `else` has round it as a consequent weighs nothing
 
-else_unscoped : (c : Tree) → has_else c ≡ true → is_scoped c ≡ false
+else_unscoped : (c : Tree) → has_else c ≡ true → is_unscoped c ≡ true
 else_unscoped (node shape.IfStatement xs n ts) h = refl
 else_unscoped c h = absurd (cc h)
 
@@ -99,7 +100,7 @@ bare_heavier (node shape.IfStatement xs n (a ▸ (b ▸ (c ▸ ts)))) h =
 bare_heavier c h = absurd (cc h)
 
 -- and round any other it weighs 4
-kept_braces : (c : Tree) → is_scoped c ≡ false → has_else c ≡ false → weight (Stmt stmt_seat.Consequent) (block (c ▸ none)) ≡ weight (Stmt stmt_seat.List) c + 4
+kept_braces : (c : Tree) → is_unscoped c ≡ true → has_else c ≡ false → weight (Stmt stmt_seat.Consequent) (block (c ▸ none)) ≡ weight (Stmt stmt_seat.List) c + 4
 kept_braces c h e = let four = ap (λ b. unless b 4) (chooses_is c h ∙ e) in omega (arith, four)
 
 -- an `else` branch as a consequent
@@ -152,7 +153,7 @@ row_60 q v u = let heavy = undefined_heavy v u in omega (arith, heavy)
 
 -- ---- 79
 
-row_79 : (q : StmtSeat) (k : Surrounding) (c : Tree) → is_scoped c ≡ false → keeps_block k c ≡ false → weight (Stmt q) (around k c) < weight (Stmt q) (around k (block (c ▸ none)))
+row_79 : (q : StmtSeat) (k : Surrounding) (c : Tree) → is_unscoped c ≡ true → keeps_block k c ≡ false → weight (Stmt q) (around k c) < weight (Stmt q) (around k (block (c ▸ none)))
 row_79 q (Consequent a u) c h e = let before = kept_braces c h e in let after = consequent_falls c h e in omega (arith, before, after)
 row_79 q (Alternate a s) c h e =
     let after = body_is_list c h in
@@ -238,7 +239,7 @@ record Outlined (p : Position) (n w : Tree) : Type 0 where
 outlined : (p : Position) (n n' w w' : Tree) → n ≡ n' → w ≡ w' → Outlined p n' w' → Outlined p n w
 outlined p n n' w w' e f o = subst (λ x. Outlined p x w) (sym e) (subst (λ y. Outlined p n' y) (sym f) o)
 
-row_79_outlined : (q : StmtSeat) (k : Surrounding) (c : Tree) → is_scoped c ≡ false → Outlined (Stmt q) (around k (block (c ▸ none))) (around k c)
+row_79_outlined : (q : StmtSeat) (k : Surrounding) (c : Tree) → is_unscoped c ≡ true → Outlined (Stmt q) (around k (block (c ▸ none))) (around k c)
 row_79_outlined q (Consequent a u) c h = record { absent = refl; items = refl; is_zero = refl; chooses = inl (λ e. e) }
 row_79_outlined q (Alternate a s) c h = record { absent = refl; items = refl; is_zero = refl; chooses = inl (λ e. ap not (absent_is c ∙ scoped_present c h)) }
 row_79_outlined q (WhileBody a) c h = record { absent = refl; items = refl; is_zero = refl; chooses = inl (λ e. e) }

@@ -1,30 +1,19 @@
 -- Rows of `if`, of blocks as branches and as bodies of loops, and of `return` without a value: each is a shape and what is
 -- written in its place, with the JavaScript before and after.
-use Rattle.std.specs.Prelude.{◌≡◌, ◌⊎◌, ◌<◌, Bool, true, false, not, [], codes, pos, if◌then◌else◌}
-use Rattle.mini_model.specs.declared.kind.VariableDeclarationKind.TheVariants.{Var}
+use Rattle.std.specs.Prelude.{◌≡◌, ◌⊎◌, ◌<◌, Bool, true, false, not, [], codes, if◌then◌else◌}
 use Rattle.mini_model.specs.declared.operator.LogicalOperator.TheVariants.{Or, And}
-use Rattle.mini_model.specs.declared.operator.UnaryOperator.TheVariants.{Void}
 use Rattle.mini_model.specs.declared.place.Position.{Position}
 use Rattle.mini_model.specs.declared.place.Position.TheVariants.{Stmt}
 use Rattle.mini_model.specs.declared.seat.Seat.{Seat}
 use Rattle.mini_model.specs.declared.shape.Shape.{Shape}
 use Rattle.mini_model.specs.declared.shape.Shape.TheVariants as shape
-use Rattle.mini_model.specs.Tree.{Tree, Trees, node, none, ◌▸◌, shape_of, leaf, is_absent, absent, listed, unresolved, identifier, unary, empty_statement, expression_statement, if_else, if_alone, logical}
+use Rattle.mini_model.specs.Tree.{Tree, node, none, ◌▸◌, shape_of, is_absent, absent, unresolved, identifier, empty_statement, expression_statement, if_else, if_alone, logical}
 use Rattle.mini_model.specs.Position.{if_test_seat, left_operand_seat, statement_expression_seat}
 use Rattle.mini_model.specs.Weight.{weight}
 use Rattle.mini_model.specs.Terms.{not_of, has_negated_result}
+use Rattle.mini_rows.specs.Lists.{block, return_statement, void_zero, is_unscoped}
 
--- ---- nodes
-
-abbrev pub block : Trees → Tree
-block ts = node shape.BlockStatement [] 0 (listed ts ▸ none)
-
-abbrev pub return_statement : Tree → Tree
-return_statement a = node shape.ReturnStatement [] 0 (a ▸ none)
-
--- `void 0`
-abbrev pub void_zero : Tree
-void_zero = unary Void (leaf (shape.NumericLiteral (pos 0)))
+-- ---- terms
 
 -- `undefined` where no scope declares it, and `void 0`
 abbrev pub IsUndefined : Tree → Type 0
@@ -33,36 +22,6 @@ IsUndefined v = (v ≡ identifier (unresolved (codes "undefined"))) ⊎ (v ≡ v
 -- `;` and `{}`
 abbrev pub IsEmpty : Tree → Type 0
 IsEmpty t = (t ≡ empty_statement) ⊎ (t ≡ block none)
-
--- ---- terms
-
--- statements that may declare a lexical name in the scope around them, as `let`, `const`, classes and functions do, and
--- what is no statement of a list (ECMA-262, "LexicallyDeclaredNames")
-abbrev pub is_scoped_shape : Shape → Bool
-is_scoped_shape shape.ExpressionStatement = false
-is_scoped_shape shape.EmptyStatement = false
-is_scoped_shape shape.DebuggerStatement = false
-is_scoped_shape shape.BlockStatement = false
-is_scoped_shape shape.LabeledStatement = false
-is_scoped_shape shape.BreakStatement = false
-is_scoped_shape shape.ContinueStatement = false
-is_scoped_shape shape.ReturnStatement = false
-is_scoped_shape shape.ThrowStatement = false
-is_scoped_shape shape.IfStatement = false
-is_scoped_shape shape.SwitchStatement = false
-is_scoped_shape shape.TryStatement = false
-is_scoped_shape shape.WhileStatement = false
-is_scoped_shape shape.DoWhileStatement = false
-is_scoped_shape shape.ForStatement = false
-is_scoped_shape shape.ForInStatement = false
-is_scoped_shape shape.ForOfStatement = false
-is_scoped_shape (shape.VariableDeclaration Var) = false
-is_scoped_shape _ = true
-
--- a labelled statement is one where the statement after its label is
-abbrev pub is_scoped : Tree → Bool
-is_scoped (node shape.LabeledStatement xs n (l ▸ (t ▸ none))) = is_scoped t
-is_scoped (node h xs n ts) = is_scoped_shape h
 
 -- an `if` with `else`
 abbrev pub has_else : Tree → Bool
@@ -130,7 +89,7 @@ keeps_block k c = false
 pub record Row79 (n w : Tree) : Type 0 where
   pub place : Surrounding
   pub statement : Tree
-  pub unscoped : is_scoped statement ≡ false
+  pub unscoped : is_unscoped statement ≡ true
   pub bare : keeps_block place statement ≡ false
   pub shape : n ≡ around place (block (statement ▸ none))
   pub written : w ≡ around place statement
