@@ -1,17 +1,15 @@
 -- A node keeps what its children keep.
-use Rattle.std.specs.Prelude.{ℕ, zero, suc, ◌+◌, ◌≤◌, ◌≡◌, refl, ◌&&◌, not, Bool, true, false, List, [], ◌∷◌, ◌++◌, Option, unwrap_or, if◌then◌else◌}
+use Rattle.std.specs.Prelude.{ℕ, zero, suc, ◌+◌, ◌≤◌, ◌≡◌, refl, ◌&&◌, not, Bool, false, List, [], ◌∷◌, ◌++◌, Option, unwrap_or, if◌then◌else◌}
 use Rattle.std.proofs.Common.{ap, ◌∙◌, sym, subst, arith, inl, inr, ◌⊎◌}
 use Rattle.mini_model.specs.declared.name.Name.{Name}
 use Rattle.mini_model.specs.declared.place.Position.{Position}
 use Rattle.mini_model.specs.declared.shape.Shape.{Shape}
 use Rattle.mini_model.specs.declared.shape.Shape.TheVariants as shape
-use Rattle.mini_model.specs.Tree.{Tree, Trees, node, none, ◌▸◌, count, shape_of, child_or_absent}
+use Rattle.mini_model.specs.Tree.{Tree, Trees, node, none, ◌▸◌, count, child_or_absent}
 use Rattle.mini_model.specs.Position.{child_position}
 use Rattle.mini_names.specs.declared.Use.{Use}
 use Rattle.mini_names.specs.declared.Binding.{Binding}
-use Rattle.mini_names.specs.declared.Declared.{Declared}
 use Rattle.mini_names.specs.declared.Declared.TheVariants as declared
-use Rattle.mini_names.specs.declared.Declaration.{Declaration}
 use Rattle.mini_names.specs.declared.Clash.{Clash}
 use Rattle.mini_names.specs.declared.Clash.TheVariants as clash
 use Rattle.mini_names.specs.declared.Jump.{Jump}
@@ -19,15 +17,15 @@ use Rattle.mini_names.specs.declared.Jump.TheVariants as jump
 use Rattle.mini_names.specs.declared.Turn.{Turn}
 use Rattle.mini_names.specs.declared.Turn.TheVariants as turn
 use Rattle.mini_names.specs.declared.Targets.{Targets}
-use Rattle.mini_names.specs.DeclaredNames.{place_of}
 use Rattle.mini_names.specs.Scopes.{use_of, opening_of, scopes_by, opened}
 use Rattle.mini_names.specs.Resolved.{Environment}
 use Rattle.mini_names.specs.Scoped.{Scoped, AllScoped}
 use Rattle.mini_names.specs.Edits.{AllKept}
-use Rattle.mini_names.specs.Early.{Path, choose_by, own_declarations, declarations, first_declarations, all_declarations, is_function_shape, holds_statements, body_declarations, all_body_declarations, is_pattern_shape, clash_of, at_child, in_body, children_of_node, in_param, in_block, declarations_by, scope_declarations, clashing, early_names, all_early_names, label_by, label_in, is_loop_shape, is_labeled, is_loop, last_is_loop, last_by, turn_of, label_for, turned, targets_of, jump_of, is_bad, is_bad_jump, early_jumps, all_early_jumps}
+use Rattle.mini_names.specs.Early.{Path, own_declarations, is_function_shape, holds_statements, body_declarations, is_pattern_shape, clash_of, in_body, children_of_node, declarations_by, scope_declarations, clashing, early_names, all_early_names, label_by, label_in, is_loop_shape, is_labeled, is_loop, last_is_loop, last_by, turn_of, label_for, turned, targets_of, jump_of, is_bad, is_bad_jump, early_jumps, all_early_jumps}
 use Rattle.mini_names.proofs.Changes.{below, as_it_is, scopes_kept, at_same}
 use Rattle.mini_kept.specs.Carried.{numbers, all_numbers, with_number}
-use Rattle.mini_kept.specs.KeepsNames.{Keeps, Stands, is_rewritten_place, NamesOnce, HasTargets, count_of}
+use Rattle.mini_kept.specs.KeepsNames.{Keeps, Stands, is_rewritten_place, unplaced, NamesOnce, HasTargets, count_of}
+use Rattle.mini_kept.proofs.Unplaced.{as_body, all_as_body, body_is, body_same, ScopesAlike, scope_same, free_same}
 
 -- the children, from an index on, keep what they are asked to
 abbrev pub AllKeep : (ℕ → Position) → ℕ → Trees → Trees → Type 0
@@ -90,42 +88,22 @@ numbers_below h xs n π ts us w k = with_same n k (all_numbers ts) (all_numbers 
 
 -- ---- declarations
 
-all_declared : (π : ℕ → Position) (j : ℕ) (ts us : Trees) → AllKeep π j ts us → (d : Declared) (l : Bool) (q : Path) (i : ℕ) → all_declarations d l q i us ≡ all_declarations d l q i ts
-unfolding declarations
-all_declared π j none none w d l q i = refl
-all_declared π j none (u ▸ us) w d l q i = absurd w
-all_declared π j (t ▸ ts) none w d l q i = absurd w
-all_declared π j (t ▸ ts) (u ▸ us) w d l q i = ap (λ r. r ++ all_declarations d l q (suc i) us) (w.0.declared d l (q ++ i ∷ [])) ∙ ap (λ r. declarations d l (q ++ i ∷ []) t ++ r) (all_declared π (suc j) ts us w.1 d l q (suc i))
+-- a tree keeps them without their paths
+as_body_kept : (t u : Tree) → ((b : Bool) (q : Path) → unplaced (body_declarations b q u) ≡ unplaced (body_declarations b q t)) → (b : Bool) → as_body b u ≡ as_body b t
+as_body_kept t u e b = sym (body_is b [] u) ∙ e b [] ∙ body_is b [] t
 
-first_declared : (π : ℕ → Position) (ts us : Trees) → AllKeep π 0 ts us → (l : Bool) (q : Path) → first_declarations l q us ≡ first_declarations l q ts
-unfolding declarations
-first_declared π none none w l q = refl
-first_declared π none (u ▸ us) w l q = absurd w
-first_declared π (t ▸ ts) none w l q = absurd w
-first_declared π (t ▸ ts) (u ▸ us) w l q = w.0.declared declared.Bound l (q ++ 0 ∷ [])
+all_as_body_kept : (π : ℕ → Position) (j : ℕ) (ts us : Trees) → AllKeep π j ts us → (b : Bool) → all_as_body b us ≡ all_as_body b ts
+all_as_body_kept π j none none w b = refl
+all_as_body_kept π j none (u ▸ us) w b = absurd w
+all_as_body_kept π j (t ▸ ts) none w b = absurd w
+all_as_body_kept π j (t ▸ ts) (u ▸ us) w b = λ k. as_body_kept t u w.0.declared_as_body b k ++ all_as_body_kept π (suc j) ts us w.1 b k
 
-declared_below : (h : Shape) (xs : List Name) (n : ℕ) (π : ℕ → Position) (ts us : Trees) → AllKeep π 0 ts us → (d : Declared) (l : Bool) (q : Path) → declarations d l q (node h xs n us) ≡ declarations d l q (node h xs n ts)
-unfolding declarations
-declared_below h xs n π ts us w d l q =
-    ap (λ a. choose_by (place_of d h) (own_declarations l q xs) a (all_declarations declared.Bound l q 0 us) (all_declarations d l q 0 us)) (first_declared π ts us w l q)
-    ∙ ap (λ a. choose_by (place_of d h) (own_declarations l q xs) (first_declarations l q ts) a (all_declarations d l q 0 us)) (all_declared π 0 ts us w declared.Bound l q 0)
-    ∙ ap (choose_by (place_of d h) (own_declarations l q xs) (first_declarations l q ts) (all_declarations declared.Bound l q 0 ts)) (all_declared π 0 ts us w d l q 0)
-
-all_as_body : (π : ℕ → Position) (j : ℕ) (ts us : Trees) → AllKeep π j ts us → (b : Bool) (q : Path) (i : ℕ) → all_body_declarations b q i us ≡ all_body_declarations b q i ts
-unfolding body_declarations
-all_as_body π j none none w b q i = refl
-all_as_body π j none (u ▸ us) w b q i = absurd w
-all_as_body π j (t ▸ ts) none w b q i = absurd w
-all_as_body π j (t ▸ ts) (u ▸ us) w b q i = ap (λ r. r ++ all_body_declarations b q (suc i) us) (w.0.declared_as_body b (q ++ i ∷ [])) ∙ ap (λ r. body_declarations b (q ++ i ∷ []) t ++ r) (all_as_body π (suc j) ts us w.1 b q (suc i))
-
-as_body_below : (h : Shape) (xs : List Name) (n : ℕ) (π : ℕ → Position) (ts us : Trees) → AllKeep π 0 ts us → (b : Bool) (q : Path) → body_declarations b q (node h xs n us) ≡ body_declarations b q (node h xs n ts)
-unfolding body_declarations
+as_body_below : (h : Shape) (xs : List Name) (n : ℕ) (π : ℕ → Position) (ts us : Trees) → AllKeep π 0 ts us → (b : Bool) (q : Path) → unplaced (body_declarations b q (node h xs n us)) ≡ unplaced (body_declarations b q (node h xs n ts))
 as_body_below h xs n π ts us w b q =
-    let by = λ (x y z : List Declaration). (if holds_statements h then x else y ++ z) in
+    let kept = below h xs n ts us (all_kept π 0 ts us w) in
     let l = not (b && is_function_shape h) in
-    ap (λ x. by x (declarations declared.Lexical l q (node h xs n us)) (declarations declared.Hoisted false q (node h xs n us))) (all_as_body π 0 ts us w b q 0)
-    ∙ ap (λ y. by (all_body_declarations b q 0 ts) y (declarations declared.Hoisted false q (node h xs n us))) (declared_below h xs n π ts us w declared.Lexical l q)
-    ∙ ap (λ z. by (all_body_declarations b q 0 ts) (declarations declared.Lexical l q (node h xs n ts)) z) (declared_below h xs n π ts us w declared.Hoisted false q)
+    body_same b q q (node h xs n ts) (node h xs n us)
+    (λ k. if holds_statements h then all_as_body_kept π 0 ts us w b k else own_declarations l [] (kept.names declared.Lexical k) ++ own_declarations false [] (kept.names declared.Hoisted k))
 
 -- ---- a child at an index
 
@@ -134,7 +112,6 @@ keeps_absent p t = record {
   kept = as_it_is t;
   scoped = λ v env s a. a;
   numbers = λ k. omega arith;
-  declared = λ d l q. refl;
   declared_as_body = λ b q. refl;
   once = λ q o. o;
   targets = λ a q o. o;
@@ -156,7 +133,7 @@ child_keeps π j (t ▸ ts) (u ▸ us) w (suc i) = subst (λ m. Keeps (π m) (ch
 child_at : (π : ℕ → Position) (ts us : Trees) → AllKeep π 0 ts us → (i : ℕ) → Keeps (π i) (child_or_absent ts i) (child_or_absent us i)
 child_at π ts us w i = subst (λ m. Keeps (π m) (child_or_absent ts i) (child_or_absent us i)) (omega arith) (child_keeps π 0 ts us w i)
 
-block_below : (h : Shape) (xs : List Name) (n : ℕ) (π : ℕ → Position) (ts us : Trees) → AllKeep π 0 ts us → (b : Bool) (q : Path) → in_body b q (children_of_node (node h xs n us)) 0 ≡ in_body b q (children_of_node (node h xs n ts)) 0
+block_below : (h : Shape) (xs : List Name) (n : ℕ) (π : ℕ → Position) (ts us : Trees) → AllKeep π 0 ts us → (b : Bool) (q : Path) → unplaced (in_body b q (children_of_node (node h xs n us)) 0) ≡ unplaced (in_body b q (children_of_node (node h xs n ts)) 0)
 block_below h xs n π ts us w b q = (child_at π ts us w 0).declared_as_body b (q ++ 0 ∷ [])
 
 -- ---- names that are declared twice
@@ -172,20 +149,19 @@ catch_places : (h : Shape) (p : Position) (n : ℕ) (i : ℕ) → clash_of h ≡
 catch_places shape.CatchClause p n i e = refl
 catch_places h p n i e = absurd (cc e)
 
-clash_same : (c : Clash) (π : ℕ → Position) → (c ≡ clash.Catch → (i : ℕ) → is_rewritten_place (π i) ≡ false) → (ts us : Trees) → AllKeep π 0 ts us → (q : Path) → declarations_by c q us ≡ declarations_by c q ts
-clash_same clash.Nothing π still ts us w q = refl
-clash_same (clash.Body b) π still ts us w q = (child_at π ts us w 0).declared_as_body b (q ++ 0 ∷ [])
-clash_same (clash.Function i j) π still ts us w q =
-    ap (λ r. r ++ in_body true q us j) ((child_at π ts us w i).declared declared.Bound false (q ++ i ∷ [])) ∙ ap (λ r. at_child declared.Bound false q ts i ++ r) ((child_at π ts us w j).declared_as_body true (q ++ j ∷ []))
-clash_same clash.Switch π still ts us w q = (child_at π ts us w 1).declared_as_body false (q ++ 1 ∷ [])
-clash_same clash.Catch π still ts us w q =
-    let param = child_at π ts us w 0 in
-    let body = child_at π ts us w 1 in
-    let l = is_pattern_shape (shape_of (child_or_absent ts 0)) in
-    ap (λ r. r ++ in_block q us) (ap (λ h. at_child declared.Bound (is_pattern_shape h) q us 0) (param.root (still refl 0)) ∙ param.declared declared.Bound l (q ++ 0 ∷ []))
-    ∙ ap (λ r. in_param q ts ++ r) (body.block (still refl 1) false (q ++ 1 ∷ []))
-clash_same (clash.Loop i) π still ts us w q =
-    ap (λ r. r ++ at_child declared.Hoisted false q us i) ((child_at π ts us w 0).declared declared.Lexical true (q ++ 0 ∷ [])) ∙ ap (λ r. at_child declared.Lexical true q ts 0 ++ r) ((child_at π ts us w i).declared declared.Hoisted false (q ++ i ∷ []))
+child_as_body : (π : ℕ → Position) (ts us : Trees) → AllKeep π 0 ts us → (i : ℕ) (b : Bool) → as_body b (child_or_absent us i) ≡ as_body b (child_or_absent ts i)
+child_as_body π ts us w i b = as_body_kept (child_or_absent ts i) (child_or_absent us i) (child_at π ts us w i).declared_as_body b
+
+scopes_alike : (c : Clash) (π : ℕ → Position) → (c ≡ clash.Catch → (i : ℕ) → is_rewritten_place (π i) ≡ false) → (ts us : Trees) → AllKeep π 0 ts us → ScopesAlike c ts us
+scopes_alike c π still ts us w = record {
+  bound = λ i d. (child_at π ts us w i).kept.names d;
+  body = child_as_body π ts us w;
+  pattern = λ e. ap is_pattern_shape ((child_at π ts us w 0).root (still e 0));
+  block = λ e.
+      let t = child_or_absent (children_of_node (child_or_absent ts 1)) 0 in
+      let u = child_or_absent (children_of_node (child_or_absent us 1)) 0 in
+      sym (body_is false ([] ++ 0 ∷ []) u) ∙ (child_at π ts us w 1).block (still e 1) false [] ∙ body_is false ([] ++ 0 ∷ []) t;
+}
 
 all_once : (π : ℕ → Position) (j : ℕ) (ts us : Trees) → AllKeep π j ts us → (q : Path) (i : ℕ) → all_early_names q i ts ≡ [] → all_early_names q i us ≡ []
 unfolding early_names
@@ -201,7 +177,7 @@ unfolding early_names scope_declarations
 once_below p h xs n ts us w q e =
     let (own, rest) = empty_both (clashing [] (declarations_by (clash_of h) q ts)) (all_early_names q 0 ts) e in
     both_empty (clashing [] (declarations_by (clash_of h) q us)) (all_early_names q 0 us)
-    (ap (clashing []) (clash_same (clash_of h) (child_position h p (count ts)) (λ c i. catch_places h p (count ts) i c) ts us w q) ∙ own)
+    (free_same (declarations_by (clash_of h) q ts) (declarations_by (clash_of h) q us) (scope_same (clash_of h) q q ts us (scopes_alike (clash_of h) (child_position h p (count ts)) (λ c i. catch_places h p (count ts) i c) ts us w)) own)
     (all_once (child_position h p (count ts)) 0 ts us w q 0 rest)
 
 -- ---- jumps
@@ -319,7 +295,6 @@ keeps_below p h xs n ts us w stand = record {
   kept = below h xs n ts us (all_kept (child_position h p (count ts)) 0 ts us w);
   scoped = λ v env s a. scoped_below p h xs n ts us v env w (stand v s) a;
   numbers = numbers_below h xs n (child_position h p (count ts)) ts us w;
-  declared = declared_below h xs n (child_position h p (count ts)) ts us w;
   declared_as_body = as_body_below h xs n (child_position h p (count ts)) ts us w;
   once = once_below p h xs n ts us w;
   targets = targets_below p h xs n ts us w;

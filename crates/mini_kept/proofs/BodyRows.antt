@@ -185,5 +185,5 @@ rows_keep_bodies = record {
   means = rows_mean_same;
   pieces = λ p n w c. no_piece p n w c.row;
   kind = λ p n w c strict s e. row_kind strict s p n w c.row e;
-  bodies = λ p n w c strict s e a z. row_bodies strict s p n w c.row e a z;
+  bodies = λ p n w c strict s k e a z. row_bodies strict s p n w c.row e a z;
 }

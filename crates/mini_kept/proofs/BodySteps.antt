@@ -23,11 +23,13 @@ use Rattle.mini_laws.proofs.Rewritten.{any_body_same}
 use Rattle.mini_laws.proofs.Congruent.{body_reflexive}
 use Rattle.mini_kept.proofs.Bools.{left, right}
 use Rattle.mini_kept.specs.AlikeBodies.{BodiesKept}
+use Rattle.mini_kept.specs.Placed.{fits_place}
 use Rattle.mini_kept.specs.Standing.{is_asked_whole, Stands}
 use Rattle.mini_kept.specs.Lifted.{is_piece}
 use Rattle.mini_kept.specs.KeepsBodies.{KeepsBodies}
 use Rattle.mini_kept.specs.BodyLaws.{StepKeepsBodies, ReachesKeepsBodies}
 use Rattle.mini_kept.proofs.BodyLists.{each_of, kept_itself, kept_on}
+use Rattle.mini_kept.proofs.Placed.{Placed, placed_below}
 use Rattle.mini_kept.proofs.BodyPlaces.{ChildrenStand, children_stand, inner_stands}
 
 -- ---- what is asked of an inner expression
@@ -89,10 +91,10 @@ some_slot strict s r t (inr e) = (strict, r, e)
 
 -- the bodies in a tree that fills a slot are those in another, and so are those of some children
 record Keeps (p : Position) (t u : Tree) : Type 0 where
-  kept : (strict : Bool) (s : Slot) → fits strict s t ≡ true → (a : Around) → Stands s p a → BodiesKept (bodies a t) (bodies a u)
+  kept : (strict : Bool) (s : Slot) → fits_place p s ≡ true → fits strict s t ≡ true → (a : Around) → Stands s p a → BodiesKept (bodies a t) (bodies a u)
 
 record AllKeep (π : ℕ → Position) (ts us : Trees) : Type 0 where
-  kept : (strict : Bool) (g : Filling) → fill strict g ts ≡ true → (α : ℕ → Around) (i : ℕ) → ChildrenStand π α i g → BodiesKept (bodies_from α i ts) (bodies_from α i us)
+  kept : (strict : Bool) (g : Filling) → Placed π g → fill strict g ts ≡ true → (α : ℕ → Around) (i : ℕ) → ChildrenStand π α i g → BodiesKept (bodies_from α i ts) (bodies_from α i us)
 
 first_kept : (α : ℕ → Around) (i : ℕ) (t u : Tree) (ts : Trees) → BodiesKept (bodies (α i) t) (bodies (α i) u) → BodiesKept (bodies_from α i (t ▸ ts)) (bodies_from α i (u ▸ ts))
 first_kept α i t u ts k = each_of (bodies (α i) t) (bodies_from α (suc i) ts) (bodies (α i) u) (bodies_from α (suc i) ts) k (kept_itself (bodies_from α (suc i) ts))
@@ -204,43 +206,43 @@ module _ (R : Position → Tree → Tree → Type 0) (l : KeepsBodies R) where
   -- of the same node over other children
   inside_kept : (p : Position) (h : Shape) (xs : List Name) (n : ℕ) (ts us : Trees) → StepIn R (child_position h p (count ts)) ts us → AllKeep (child_position h p (count ts)) ts us → Keeps p (node h xs n ts) (node h xs n us)
   inside_kept p h xs n ts us st k = record {
-    kept = λ strict s e a z.
+    kept = λ strict s q e a z.
         each_of (body_of a h n (node h xs n ts) ts) (bodies_from (below a h ts) 0 ts) (body_of a h n (node h xs n us) us) (bodies_from (below a h us) 0 us)
         (own_kept a p h xs n ts us st (moved (is_strict_in strict h) (filling strict s h) st (parts_fill strict s h xs n ts e)) (λ q. inner_stands strict s h xs n ts q e p z.whole))
-        (same_around a h ts us st (k.kept (is_strict_in strict h) (filling strict s h) (parts_fill strict s h xs n ts e) (below a h ts) 0 (children_stand strict s h p (count ts) a ts z)));
+        (same_around a h ts us st (k.kept (is_strict_in strict h) (filling strict s h) (placed_below strict s h p (count ts)) (parts_fill strict s h xs n ts e) (below a h ts) 0 (children_stand strict s h p (count ts) a ts z)));
   }
 
-  item_kept : (p : Position) (t u : Tree) → Keeps p t u → (strict : Bool) (s r : Slot) (a : Around) → Stands s p a → Stands r p a → (fits strict s t ≡ true) ⊎ (fits strict r t ≡ true) → BodiesKept (bodies a t) (bodies a u)
-  item_kept p t u k strict s r a x y (inl e) = k.kept strict s e a x
-  item_kept p t u k strict s r a x y (inr e) = k.kept strict r e a y
+  item_kept : (p : Position) (t u : Tree) → Keeps p t u → (strict : Bool) (s r : Slot) → fits_place p s ≡ true → fits_place p r ≡ true → (a : Around) → Stands s p a → Stands r p a → (fits strict s t ≡ true) ⊎ (fits strict r t ≡ true) → BodiesKept (bodies a t) (bodies a u)
+  item_kept p t u k strict s r v w a x y (inl e) = k.kept strict s v e a x
+  item_kept p t u k strict s r v w a x y (inr e) = k.kept strict r w e a y
 
-  first_child : (π : ℕ → Position) (t u : Tree) (ts : Trees) → StepIn R π (t ▸ ts) (u ▸ ts) → Keeps (π 0) t u → (strict : Bool) (g : Filling) → fill strict g (t ▸ ts) ≡ true → (α : ℕ → Around) (i : ℕ) → ChildrenStand π α i g → BodiesKept (bodies (α i) t) (bodies (α i) u)
-  first_child π t u ts st k strict refused e α i c = absurd (cc e)
-  first_child π t u ts st k strict (these []) e α i c = absurd (cc e)
-  first_child π t u ts st k strict (these (s ∷ ss)) e α i c = k.kept strict s (left (fits strict s t) (fill strict (these ss) ts) e) (α i) c.0
-  first_child π t u ts st k strict (each s) e α i c = k.kept strict s (left (fits strict s t) (fill strict (each s) ts) e) (α i) (c 0 i)
-  first_child π t u ts st k strict (each_or_last s r) e α i c =
+  first_child : (π : ℕ → Position) (t u : Tree) (ts : Trees) → StepIn R π (t ▸ ts) (u ▸ ts) → Keeps (π 0) t u → (strict : Bool) (g : Filling) → Placed π g → fill strict g (t ▸ ts) ≡ true → (α : ℕ → Around) (i : ℕ) → ChildrenStand π α i g → BodiesKept (bodies (α i) t) (bodies (α i) u)
+  first_child π t u ts st k strict refused v e α i c = absurd (cc e)
+  first_child π t u ts st k strict (these []) v e α i c = absurd (cc e)
+  first_child π t u ts st k strict (these (s ∷ ss)) v e α i c = k.kept strict s v.0 (left (fits strict s t) (fill strict (these ss) ts) e) (α i) c.0
+  first_child π t u ts st k strict (each s) v e α i c = k.kept strict s (v 0) (left (fits strict s t) (fill strict (each s) ts) e) (α i) (c 0 i)
+  first_child π t u ts st k strict (each_or_last s r) v e α i c =
       let parts = left (fits strict s t || (is_last ts && fits strict r t)) (fill strict (each_or_last s r) ts) e in
-      item_kept (π 0) t u k strict s r (α i) (c 0 i).0 (c 0 i).1 (one_of strict s r (is_last ts) t parts)
-  first_child π t u ts st k strict (pieces g) e α i c = absurd (no_steps g st e)
+      item_kept (π 0) t u k strict s r (v 0).0 (v 0).1 (α i) (c 0 i).0 (c 0 i).1 (one_of strict s r (is_last ts) t parts)
+  first_child π t u ts st k strict (pieces g) v e α i c = absurd (no_steps g st e)
 
-  other_children : (π : ℕ → Position) (t : Tree) (ts us : Trees) → StepIn R π (t ▸ ts) (t ▸ us) → AllKeep (λ j. π (suc j)) ts us → (strict : Bool) (g : Filling) → fill strict g (t ▸ ts) ≡ true → (α : ℕ → Around) (i : ℕ) → ChildrenStand π α i g → BodiesKept (bodies_from α (suc i) ts) (bodies_from α (suc i) us)
-  other_children π t ts us st k strict refused e α i c = absurd (cc e)
-  other_children π t ts us st k strict (these []) e α i c = absurd (cc e)
-  other_children π t ts us st k strict (these (s ∷ ss)) e α i c = k.kept strict (these ss) (right (fits strict s t) (fill strict (these ss) ts) e) α (suc i) c.1
-  other_children π t ts us st k strict (each s) e α i c = k.kept strict (each s) (right (fits strict s t) (fill strict (each s) ts) e) α (suc i) (λ j m. c (suc j) m)
-  other_children π t ts us st k strict (each_or_last s r) e α i c =
-      k.kept strict (each_or_last s r) (right (fits strict s t || (is_last ts && fits strict r t)) (fill strict (each_or_last s r) ts) e) α (suc i) (λ j m. c (suc j) m)
-  other_children π t ts us st k strict (pieces g) e α i c = absurd (no_steps g st e)
+  other_children : (π : ℕ → Position) (t : Tree) (ts us : Trees) → StepIn R π (t ▸ ts) (t ▸ us) → AllKeep (λ j. π (suc j)) ts us → (strict : Bool) (g : Filling) → Placed π g → fill strict g (t ▸ ts) ≡ true → (α : ℕ → Around) (i : ℕ) → ChildrenStand π α i g → BodiesKept (bodies_from α (suc i) ts) (bodies_from α (suc i) us)
+  other_children π t ts us st k strict refused v e α i c = absurd (cc e)
+  other_children π t ts us st k strict (these []) v e α i c = absurd (cc e)
+  other_children π t ts us st k strict (these (s ∷ ss)) v e α i c = k.kept strict (these ss) v.1 (right (fits strict s t) (fill strict (these ss) ts) e) α (suc i) c.1
+  other_children π t ts us st k strict (each s) v e α i c = k.kept strict (each s) (λ j. v (suc j)) (right (fits strict s t) (fill strict (each s) ts) e) α (suc i) (λ j m. c (suc j) m)
+  other_children π t ts us st k strict (each_or_last s r) v e α i c =
+      k.kept strict (each_or_last s r) (λ j. v (suc j)) (right (fits strict s t || (is_last ts && fits strict r t)) (fill strict (each_or_last s r) ts) e) α (suc i) (λ j m. c (suc j) m)
+  other_children π t ts us st k strict (pieces g) v e α i c = absurd (no_steps g st e)
 
   mutual
     step_kept : {p : Position} {t u : Tree} → Step R p t u → Keeps p t u
-    step_kept (here p t u r) = record { kept = λ strict s e a z. l.bodies p t u r strict s e a z }
+    step_kept (here p t u r) = record { kept = λ strict s q e a z. l.bodies p t u r strict s q e a z }
     step_kept (inside p h xs n ts us st) = inside_kept p h xs n ts us st (steps_kept st)
 
     steps_kept : {π : ℕ → Position} {ts us : Trees} → StepIn R π ts us → AllKeep π ts us
-    steps_kept (first π t u ts st) = record { kept = λ strict g e α i c. first_kept α i t u ts (first_child π t u ts (first π t u ts st) (step_kept st) strict g e α i c) }
-    steps_kept (later π t ts us st) = record { kept = λ strict g e α i c. others_kept α i t ts us (other_children π t ts us (later π t ts us st) (steps_kept st) strict g e α i c) }
+    steps_kept (first π t u ts st) = record { kept = λ strict g v e α i c. first_kept α i t u ts (first_child π t u ts (first π t u ts st) (step_kept st) strict g v e α i c) }
+    steps_kept (later π t ts us st) = record { kept = λ strict g v e α i c. others_kept α i t ts us (other_children π t ts us (later π t ts us st) (steps_kept st) strict g v e α i c) }
 
   -- any number of steps
 
@@ -251,10 +253,10 @@ module _ (R : Position → Tree → Tree → Type 0) (l : KeepsBodies R) where
   reaches_bodies holds shaped stays _ _ _ (done p t) q e = kept_itself (bodies_in t)
   reaches_bodies holds shaped stays _ _ _ (more p t u v s r) q e =
       let st : Step R Elsewhere t u = subst (λ x. Step R x t u) q s in
-      kept_on (bodies_in t) (bodies_in u) (bodies_in v) ((step_kept st).kept false (one a_program) (shaped t e) outermost whole_stands) (reaches_bodies holds shaped stays p u v r q (stays t u st e))
+      kept_on (bodies_in t) (bodies_in u) (bodies_in v) ((step_kept st).kept false (one a_program) refl (shaped t e) outermost whole_stands) (reaches_bodies holds shaped stays p u v r q (stays t u st e))
 
 pub step_keeps_bodies : (R : Position → Tree → Tree → Type 0) → StepKeepsBodies R
-step_keeps_bodies R l p t u st strict s e a z = (step_kept R l st).kept strict s e a z
+step_keeps_bodies R l p t u st strict s k e a z = (step_kept R l st).kept strict s k e a z
 
 pub reaches_keeps_bodies : (R : Position → Tree → Tree → Type 0) → ReachesKeepsBodies R
 reaches_keeps_bodies R l holds shaped stays t u r e = reaches_bodies R l holds shaped stays Elsewhere t u r refl e

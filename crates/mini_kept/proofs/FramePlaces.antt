@@ -7,6 +7,8 @@ use Rattle.mini_model.specs.declared.kind.MetaPropertyKind.{MetaPropertyKind}
 use Rattle.mini_model.specs.declared.kind.MetaPropertyKind.TheVariants.{NewTarget, ImportMeta}
 use Rattle.mini_model.specs.declared.kind.PropertyKind.{PropertyKind}
 use Rattle.mini_model.specs.declared.kind.PropertyKind.TheVariants as property
+use Rattle.mini_model.specs.declared.place.Position.{Position}
+use Rattle.mini_model.specs.declared.place.Position.TheVariants.{StatementList}
 use Rattle.mini_model.specs.declared.shape.Shape.{Shape}
 use Rattle.mini_model.specs.declared.shape.Shape.TheVariants as shape
 use Rattle.mini_accept.specs.WellShaped.{in_module, in_body, nested, Class, a_program, a_statement, a_class_body, a_class_member, a_method, an_object_property, a_binding, a_label, a_private_name, an_inner, an_inner_argument, a_super, a_key, a_private_or_key, an_inner_key, a_tagged_template, a_word, a_pattern, a_pattern_element, a_pattern_property, a_pattern_rest, a_parameter, an_element_target, a_named_target, a_target_name, a_target_element, a_target_property, a_target_rest, an_import, a_module_name, a_string, an_export, an_exported_name, an_exported_declaration, a_default_export, Slot, one, one_or_absent, many, many_or_holes, many_and_rest, many_or_holes_and_rest, quasis, Filling, refused, these, each, each_or_last, pieces, is_text, none_if, value_class, class_of, filling, filling_by, slots_of, has_its_number}
@@ -226,16 +228,17 @@ denied false e f = cc f
 class_apart : (c : Class) → is_part c ≡ true → is_in_body c ≡ true → ⊥
 class_apart c e f = denied (is_in_body c) (implied (is_part c) (not (is_in_body c)) (part_apart c) e) f
 
-pub slot_apart : (s : Slot) → is_part_slot s ≡ true → is_body_slot s ≡ true → ⊥
-slot_apart (one c) e f = class_apart c e f
-slot_apart (one_or_absent c) e f = class_apart c e f
-slot_apart s e f = cc f
+pub slot_apart : (p : Position) (s : Slot) → is_part_slot s ≡ true → is_body_slot p s ≡ true → ⊥
+slot_apart p (one c) e f = class_apart c e f
+slot_apart p (one_or_absent c) e f = class_apart c e f
+slot_apart StatementList (many (a_statement d)) e f = cc e
+slot_apart p s e f = cc f
 
 -- nor is the value of a method one
-pub no_method : (s : Slot) → is_body_slot s ≡ true → is_method_slot s ≡ false
-no_method (one a_method) e = absurd (cc e)
-no_method (one c) e = refl
-no_method s e = refl
+pub no_method : (p : Position) (s : Slot) → is_body_slot p s ≡ true → is_method_slot s ≡ false
+no_method p (one a_method) e = absurd (cc e)
+no_method p (one c) e = refl
+no_method p s e = refl
 
 -- ---- a program
 

@@ -19,7 +19,7 @@ use Rattle.mini_model.specs.Terms.{is_boolean, turned_seat, unwrapped, neg, neg_
 use Rattle.mini_model.specs.Redex.{Row, Contracts}
 use Rattle.mini_accept.specs.WellShaped.{Depth, Class, a_statement, an_expression, an_init, a_link, an_argument, an_arrow_body, a_key, a_default_export, Slot, one, one_or_absent, these, is_whole, fits, fill}
 use Rattle.mini_kept.specs.Frames.{Frame, is_declaration, is_port, frames, frames_from, FramesKept}
-use Rattle.mini_kept.specs.KeepsFrames.{is_body_slot, KeepsFrames}
+use Rattle.mini_kept.specs.KeepsFrames.{is_in_body, is_body_slot, KeepsFrames}
 use Rattle.mini_kept.proofs.Bools.{right}
 use Rattle.mini_kept.proofs.Expressions.{expression, AreExpressions, two, TakesExpressionIn, TakesExpression, refused_here, of_negation, of_conditional, neg_fits}
 use Rattle.mini_kept.proofs.Rows.{TakesStatementIn, TakesStatement, of_if}
@@ -101,7 +101,7 @@ row_frames strict s p t u r e = absurd r
 
 -- ---- the slots of rows
 
-expression_class : (c : Class) → TakesExpressionIn c → is_body_slot (one c) ≡ true
+expression_class : (c : Class) → TakesExpressionIn c → is_in_body c ≡ true
 expression_class an_expression k = refl
 expression_class a_link k = refl
 expression_class an_argument k = refl
@@ -111,26 +111,26 @@ expression_class an_arrow_body k = refl
 expression_class a_default_export k = refl
 expression_class c k = absurd k
 
-expression_slot : (s : Slot) → TakesExpression s → is_body_slot s ≡ true
-expression_slot (one c) k = expression_class c k
-expression_slot (one_or_absent c) k = expression_class c k
-expression_slot s k = absurd k
+expression_slot : (p : Position) (s : Slot) → TakesExpression s → is_body_slot p s ≡ true
+expression_slot p (one c) k = expression_class c k
+expression_slot p (one_or_absent c) k = expression_class c k
+expression_slot p s k = absurd k
 
-statement_class : (c : Class) → TakesStatementIn c → is_body_slot (one c) ≡ true
+statement_class : (c : Class) → TakesStatementIn c → is_in_body c ≡ true
 statement_class (a_statement d) k = refl
 statement_class c k = absurd k
 
-statement_slot : (s : Slot) → TakesStatement s → is_body_slot s ≡ true
-statement_slot (one c) k = statement_class c k
-statement_slot (one_or_absent c) k = statement_class c k
-statement_slot s k = absurd k
+statement_slot : (p : Position) (s : Slot) → TakesStatement s → is_body_slot p s ≡ true
+statement_slot p (one c) k = statement_class c k
+statement_slot p (one_or_absent c) k = statement_class c k
+statement_slot p s k = absurd k
 
-row_slot : (strict : Bool) (s : Slot) (p : Position) (t u : Tree) → Row p t u → fits strict s t ≡ true → is_body_slot s ≡ true
-row_slot strict s (Expr seat) t u (inl r) e = expression_slot s (of_negation strict s r.e (subst (λ x. fits strict s x ≡ true) r.shape e)).0
-row_slot strict s (Expr seat) t u (inr r) e = expression_slot s (of_conditional strict s (negation r.a) r.b r.c (subst (λ x. fits strict s x ≡ true) r.shape e)).0
-row_slot strict s (Stmt q) t u (inl r) e = statement_slot s (of_if strict s r.a (expression_statement r.b) (expression_statement r.c) (subst (λ x. fits strict s x ≡ true) r.shape e)).0
-row_slot strict s (Stmt q) t u (inr (inl r)) e = statement_slot s (of_if strict s r.a (expression_statement r.b) absent (subst (λ x. fits strict s x ≡ true) r.shape e)).0
-row_slot strict s (Stmt q) t u (inr (inr r)) e = statement_slot s (of_if strict s r.a (expression_statement r.b) absent (subst (λ x. fits strict s x ≡ true) r.shape e)).0
+row_slot : (strict : Bool) (s : Slot) (p : Position) (t u : Tree) → Row p t u → fits strict s t ≡ true → is_body_slot p s ≡ true
+row_slot strict s (Expr seat) t u (inl r) e = expression_slot (Expr seat) s (of_negation strict s r.e (subst (λ x. fits strict s x ≡ true) r.shape e)).0
+row_slot strict s (Expr seat) t u (inr r) e = expression_slot (Expr seat) s (of_conditional strict s (negation r.a) r.b r.c (subst (λ x. fits strict s x ≡ true) r.shape e)).0
+row_slot strict s (Stmt q) t u (inl r) e = statement_slot (Stmt q) s (of_if strict s r.a (expression_statement r.b) (expression_statement r.c) (subst (λ x. fits strict s x ≡ true) r.shape e)).0
+row_slot strict s (Stmt q) t u (inr (inl r)) e = statement_slot (Stmt q) s (of_if strict s r.a (expression_statement r.b) absent (subst (λ x. fits strict s x ≡ true) r.shape e)).0
+row_slot strict s (Stmt q) t u (inr (inr r)) e = statement_slot (Stmt q) s (of_if strict s r.a (expression_statement r.b) absent (subst (λ x. fits strict s x ≡ true) r.shape e)).0
 row_slot strict s p t u r e = absurd r
 
 -- ---- imports, exports and declarations
@@ -165,8 +165,9 @@ row_exported strict p t u r e = absurd r
 pub rows_keep_frames : KeepsFrames Contracts
 rows_keep_frames = record {
   names = contracts_keep;
-  slots = λ p t u c strict s e. row_slot strict s p t u c.row e;
+  slots = λ p t u c strict s v e. row_slot strict s p t u c.row e;
   ports = λ p t u c strict d e m. row_ports strict d p t u c.row e m;
+  listed = λ t u c. absurd c.row;
   exported = λ p t u c strict e. row_exported strict p t u c.row e;
-  frames = λ p t u c strict s e. row_frames strict s p t u c.row e;
+  frames = λ p t u c strict s v e. row_frames strict s p t u c.row e;
 }

@@ -21,6 +21,8 @@ use Rattle.mini_kept.proofs.Bools.{left, right}
 use Rattle.mini_kept.proofs.Expressions.{refused_here}
 use Rattle.mini_kept.proofs.Stepping.{no_steps, step_keeps}
 use Rattle.mini_kept.proofs.BodySteps.{one_of}
+use Rattle.mini_kept.specs.Placed.{fits_place}
+use Rattle.mini_kept.proofs.Placed.{Placed, placed_below, statements_place}
 use Rattle.mini_kept.proofs.FrameLists.{same_frames, each_of}
 use Rattle.mini_kept.proofs.FramePlaces.{Are, is_part_slot, is_declared_slot, shows_right, Plain, Outlined, own_right, part_right, plain_right, numbered_outline, port_outline, slot_apart, no_method, AProgram, program_filling}
 
@@ -56,6 +58,23 @@ rest_are Q i (each s) a = a
 rest_are Q i (each_or_last s l) a = a
 rest_are Q i (pieces g) a = tt
 
+first_placed : (π : ℕ → Position) (g : Filling) (s : Slot) → Placed π g → First g s → fits_place (π 0) s ≡ true
+first_placed π refused s v f = absurd f
+first_placed π (these []) s v f = absurd f
+first_placed π (these (r ∷ ss)) s v f = subst (λ q. fits_place (π 0) q ≡ true) f v.0
+first_placed π (each r) s v f = subst (λ q. fits_place (π 0) q ≡ true) f (v 0)
+first_placed π (each_or_last r l) s v (inl f) = subst (λ q. fits_place (π 0) q ≡ true) f (v 0).0
+first_placed π (each_or_last r l) s v (inr f) = subst (λ q. fits_place (π 0) q ≡ true) f (v 0).1
+first_placed π (pieces g) s v f = absurd f
+
+rest_placed : (π : ℕ → Position) (g : Filling) → Placed π g → Placed (λ j. π (suc j)) (Rest g)
+rest_placed π refused v = tt
+rest_placed π (these []) v = tt
+rest_placed π (these (s ∷ ss)) v = v.1
+rest_placed π (each s) v = λ j. v (suc j)
+rest_placed π (each_or_last s l) v = λ j. v (suc j)
+rest_placed π (pieces g) v = tt
+
 abbrev Filled : Bool → Filling → Tree → Type 0
 Filled strict g t = (s : Slot) × First g s × (fits strict s t ≡ true)
 
@@ -69,21 +88,21 @@ its_number c h xs n ts b e =
 -- ---- a step in one of some children
 
 -- what a step in a tree keeps, where the tree fills a slot, and one in some trees, where these fill those of a node
-record Keeps (t u : Tree) : Type 0 where
-  of_part : (strict : Bool) (s : Slot) → fits strict s t ≡ true → is_part_slot s ≡ true → part t ≡ part u
-  of_declared : (strict : Bool) (s : Slot) → fits strict s t ≡ true → is_declared_slot s ≡ true → declaration t ≡ declaration u
+record Keeps (p : Position) (t u : Tree) : Type 0 where
+  of_part : (strict : Bool) (s : Slot) → fits_place p s ≡ true → fits strict s t ≡ true → is_part_slot s ≡ true → part t ≡ part u
+  of_declared : (strict : Bool) (s : Slot) → fits_place p s ≡ true → fits strict s t ≡ true → is_declared_slot s ≡ true → declaration t ≡ declaration u
   of_port : (strict : Bool) (d : Depth) → fits strict (one (a_statement d)) t ≡ true → (m : Bool) (ts : Trees) → ports m (t ▸ ts) ≡ ports m (u ▸ ts)
-  of_statements : (strict : Bool) (d : Depth) → fits strict (many (a_statement d)) t ≡ true → (m : Bool) → ports m (children t) ≡ ports m (children u)
-  of_hoisted : (strict : Bool) (s : Slot) → fits strict s t ≡ true → names_of declared.Hoisted t ≡ names_of declared.Hoisted u
-  of_frames : (strict : Bool) (s : Slot) → fits strict s t ≡ true → (k : Option PropertyKind) → (is_method_slot s ≡ false → k ≡ None) → FramesKept (frames k t) (frames k u)
+  of_statements : (strict : Bool) (d : Depth) → fits_place p (many (a_statement d)) ≡ true → fits strict (many (a_statement d)) t ≡ true → (m : Bool) → ports m (children t) ≡ ports m (children u)
+  of_hoisted : (strict : Bool) (s : Slot) → fits_place p s ≡ true → fits strict s t ≡ true → names_of declared.Hoisted t ≡ names_of declared.Hoisted u
+  of_frames : (strict : Bool) (s : Slot) → fits_place p s ≡ true → fits strict s t ≡ true → (k : Option PropertyKind) → (is_method_slot s ≡ false → k ≡ None) → FramesKept (frames k t) (frames k u)
 
-record AllKeep (ts us : Trees) : Type 0 where
-  of_parts : (strict : Bool) (g : Filling) → fill strict g ts ≡ true → (i : ℕ) → Are (λ j s. is_part_slot s ≡ true) i g → parts ts ≡ parts us
-  of_own : (strict : Bool) (g : Filling) → fill strict g ts ≡ true → (σ : ℕ → Showing) (i : ℕ) → Are (λ j s. shows_right (σ j) s ≡ true) i g → shown_from σ i ts ≡ shown_from σ i us
+record AllKeep (π : ℕ → Position) (ts us : Trees) : Type 0 where
+  of_parts : (strict : Bool) (g : Filling) → Placed π g → fill strict g ts ≡ true → (i : ℕ) → Are (λ j s. is_part_slot s ≡ true) i g → parts ts ≡ parts us
+  of_own : (strict : Bool) (g : Filling) → Placed π g → fill strict g ts ≡ true → (σ : ℕ → Showing) (i : ℕ) → Are (λ j s. shows_right (σ j) s ≡ true) i g → shown_from σ i ts ≡ shown_from σ i us
   of_ports : (strict : Bool) (d : Depth) → fill strict (each (one (a_statement d))) ts ≡ true → (m : Bool) → ports m ts ≡ ports m us
-  of_program : (strict : Bool) (d : Depth) → fill strict (these (many (a_statement d) ∷ [])) ts ≡ true → (m : Bool) → ports m (children (child_or_absent ts 0)) ≡ ports m (children (child_or_absent us 0))
-  of_hoisted : (strict : Bool) (g : Filling) → fill strict g ts ≡ true → all_names declared.Hoisted ts ≡ all_names declared.Hoisted us
-  of_frames : (strict : Bool) (g : Filling) → fill strict g ts ≡ true → (kind : ℕ → Option PropertyKind) (i : ℕ) → Are (Plain kind) i g → FramesKept (frames_from kind i ts) (frames_from kind i us)
+  of_program : (strict : Bool) (d : Depth) → Placed π (these (many (a_statement d) ∷ [])) → fill strict (these (many (a_statement d) ∷ [])) ts ≡ true → (m : Bool) → ports m (children (child_or_absent ts 0)) ≡ ports m (children (child_or_absent us 0))
+  of_hoisted : (strict : Bool) (g : Filling) → Placed π g → fill strict g ts ≡ true → all_names declared.Hoisted ts ≡ all_names declared.Hoisted us
+  of_frames : (strict : Bool) (g : Filling) → Placed π g → fill strict g ts ≡ true → (kind : ℕ → Option PropertyKind) (i : ℕ) → Are (Plain kind) i g → FramesKept (frames_from kind i ts) (frames_from kind i us)
 
 undeclared : (t : Tree) → is_declaration (shape_of t) ≡ false → declaration t ≡ absent
 undeclared (node h xs n ts) e = ap (λ b. if b then node h (body_names (node h xs n ts)) n none else absent) e
@@ -91,32 +110,35 @@ undeclared (node h xs n ts) e = ap (λ b. if b then node h (body_names (node h x
 no_port : (m : Bool) (t : Tree) (ts : Trees) → is_port m (shape_of t) ≡ false → ports m (t ▸ ts) ≡ ports m ts
 no_port m t ts e = ap (λ b. if b then own t ▸ ports m ts else ports m ts) e
 
-child_kept : (t u : Tree) → Keeps t u → (strict : Bool) (s : Slot) → fits strict s t ≡ true → (σ : Showing) → shows_right σ s ≡ true → shown σ t ≡ shown σ u
-child_kept t u k strict s e Whole q = k.of_part strict s e q
-child_kept t u k strict s e Named q = k.of_declared strict s e q
-child_kept t u k strict s e Hidden q = refl
+child_kept : (p : Position) (t u : Tree) → Keeps p t u → (strict : Bool) (s : Slot) → fits_place p s ≡ true → fits strict s t ≡ true → (σ : Showing) → shows_right σ s ≡ true → shown σ t ≡ shown σ u
+child_kept p t u k strict s v e Whole q = k.of_part strict s v e q
+child_kept p t u k strict s v e Named q = k.of_declared strict s v e q
+child_kept p t u k strict s v e Hidden q = refl
 
 module _ (R : Position → Tree → Tree → Type 0) (l : KeepsFrames R) where
   -- ---- the node that is replaced
 
-  no_part : (p : Position) (t u : Tree) → R p t u → (strict : Bool) (s : Slot) → fits strict s t ≡ true → is_part_slot s ≡ true → ⊥
-  no_part p t u r strict s e q = slot_apart s q (l.slots p t u r strict s e)
+  no_part : (p : Position) (t u : Tree) → R p t u → (strict : Bool) (s : Slot) → fits_place p s ≡ true → fits strict s t ≡ true → is_part_slot s ≡ true → ⊥
+  no_part p t u r strict s v e q = slot_apart p s q (l.slots p t u r strict s v e)
 
-  declared_here : (p : Position) (t u : Tree) → R p t u → (strict : Bool) (s : Slot) → fits strict s t ≡ true → is_declared_slot s ≡ true → declaration t ≡ declaration u
-  declared_here p t u r strict (one a_default_export) e q =
+  declared_here : (p : Position) (t u : Tree) → R p t u → (strict : Bool) (s : Slot) → fits_place p s ≡ true → fits strict s t ≡ true → is_declared_slot s ≡ true → declaration t ≡ declaration u
+  declared_here p t u r strict (one a_default_export) v e q =
       let (x, y) = l.exported p t u r strict e in
       undeclared t x ∙ sym (undeclared u y)
-  declared_here p t u r strict (one_or_absent an_exported_declaration) e q = absurd (cc (l.slots p t u r strict (one_or_absent an_exported_declaration) e))
-  declared_here p t u r strict s e q = absurd (cc q)
+  declared_here p t u r strict (one_or_absent an_exported_declaration) v e q = absurd (cc (l.slots p t u r strict (one_or_absent an_exported_declaration) v e))
+  declared_here p t u r strict s v e q = absurd (cc q)
 
-  here_kept : (p : Position) (t u : Tree) → R p t u → Keeps t u
+  statements_here : (p : Position) (t u : Tree) → R p t u → (strict : Bool) (d : Depth) → fits_place p (many (a_statement d)) ≡ true → fits strict (many (a_statement d)) t ≡ true → (m : Bool) → ports m (children t) ≡ ports m (children u)
+  statements_here p t u r strict d v e m = l.listed t u (subst (λ q. R q t u) (statements_place p d (l.slots p t u r strict (many (a_statement d)) v e)) r) strict d e m
+
+  here_kept : (p : Position) (t u : Tree) → R p t u → Keeps p t u
   here_kept p t u r = record {
-    of_part = λ strict s e q. absurd (no_part p t u r strict s e q);
+    of_part = λ strict s v e q. absurd (no_part p t u r strict s v e q);
     of_declared = declared_here p t u r;
     of_port = λ strict d e m ts. let (x, y) = l.ports p t u r strict d e m in no_port m t ts x ∙ sym (no_port m u ts y);
-    of_statements = λ strict d e m. absurd (cc (l.slots p t u r strict (many (a_statement d)) e));
-    of_hoisted = λ strict s e. sym ((l.names.keeps p t u r strict s e).kept.names declared.Hoisted);
-    of_frames = λ strict s e k z. subst (λ k. FramesKept (frames k t) (frames k u)) (sym (z (no_method s (l.slots p t u r strict s e)))) (l.frames p t u r strict s e);
+    of_statements = statements_here p t u r;
+    of_hoisted = λ strict s v e. sym ((l.names.keeps p t u r strict s v e).kept.names declared.Hoisted);
+    of_frames = λ strict s v e k z. subst (λ k. FramesKept (frames k t) (frames k u)) (sym (z (no_method p s (l.slots p t u r strict s v e)))) (l.frames p t u r strict s v e);
   }
 
   -- ---- a step in one of some children
@@ -149,24 +171,24 @@ module _ (R : Position → Tree → Tree → Type 0) (l : KeepsFrames R) where
   unfolding names_of
   other_names t ts us e = ap (λ x. names_of declared.Hoisted t ++ x) e
 
-  first_kept : (π : ℕ → Position) (t u : Tree) (ts : Trees) → StepIn R π (t ▸ ts) (u ▸ ts) → Keeps t u → AllKeep (t ▸ ts) (u ▸ ts)
+  first_kept : (π : ℕ → Position) (t u : Tree) (ts : Trees) → StepIn R π (t ▸ ts) (u ▸ ts) → Keeps (π 0) t u → AllKeep π (t ▸ ts) (u ▸ ts)
   first_kept π t u ts st k = record {
-    of_parts = λ strict g e i a. let (s, f, z) = filled π t u ts ts st strict g e in ap (λ x. x ▸ parts ts) (k.of_part strict s z (first_is (λ j r. is_part_slot r ≡ true) i g s a f));
-    of_own = λ strict g e σ i a. let (s, f, z) = filled π t u ts ts st strict g e in ap (λ x. x ▸ shown_from σ (suc i) ts) (child_kept t u k strict s z (σ i) (first_is (λ j r. shows_right (σ j) r ≡ true) i g s a f));
+    of_parts = λ strict g v e i a. let (s, f, z) = filled π t u ts ts st strict g e in ap (λ x. x ▸ parts ts) (k.of_part strict s (first_placed π g s v f) z (first_is (λ j r. is_part_slot r ≡ true) i g s a f));
+    of_own = λ strict g v e σ i a. let (s, f, z) = filled π t u ts ts st strict g e in ap (λ x. x ▸ shown_from σ (suc i) ts) (child_kept (π 0) t u k strict s (first_placed π g s v f) z (σ i) (first_is (λ j r. shows_right (σ j) r ≡ true) i g s a f));
     of_ports = λ strict d e m. k.of_port strict d (left (fits strict (one (a_statement d)) t) (fill strict (each (one (a_statement d))) ts) e) m ts;
-    of_program = λ strict d e m. k.of_statements strict d (left (fits strict (many (a_statement d)) t) (fill strict (these []) ts) e) m;
-    of_hoisted = λ strict g e. let (s, f, z) = filled π t u ts ts st strict g e in first_names t u ts (k.of_hoisted strict s z);
-    of_frames = λ strict g e kind i a. let (s, f, z) = filled π t u ts ts st strict g e in each_of (frames (kind i) t) (frames_from kind (suc i) ts) (frames (kind i) u) (frames_from kind (suc i) ts) (k.of_frames strict s z (kind i) (first_is (Plain kind) i g s a f)) (λ f x. x);
+    of_program = λ strict d v e m. k.of_statements strict d v.0 (left (fits strict (many (a_statement d)) t) (fill strict (these []) ts) e) m;
+    of_hoisted = λ strict g v e. let (s, f, z) = filled π t u ts ts st strict g e in first_names t u ts (k.of_hoisted strict s (first_placed π g s v f) z);
+    of_frames = λ strict g v e kind i a. let (s, f, z) = filled π t u ts ts st strict g e in each_of (frames (kind i) t) (frames_from kind (suc i) ts) (frames (kind i) u) (frames_from kind (suc i) ts) (k.of_frames strict s (first_placed π g s v f) z (kind i) (first_is (Plain kind) i g s a f)) (λ f x. x);
   }
 
-  later_kept : (π : ℕ → Position) (t : Tree) (ts us : Trees) → StepIn R π (t ▸ ts) (t ▸ us) → AllKeep ts us → AllKeep (t ▸ ts) (t ▸ us)
+  later_kept : (π : ℕ → Position) (t : Tree) (ts us : Trees) → StepIn R π (t ▸ ts) (t ▸ us) → AllKeep (λ j. π (suc j)) ts us → AllKeep π (t ▸ ts) (t ▸ us)
   later_kept π t ts us st k = record {
-    of_parts = λ strict g e i a. ap (λ x. part t ▸ x) (k.of_parts strict (Rest g) (others π t t ts us st strict g e) (suc i) (rest_are (λ j r. is_part_slot r ≡ true) i g a));
-    of_own = λ strict g e σ i a. ap (λ x. shown (σ i) t ▸ x) (k.of_own strict (Rest g) (others π t t ts us st strict g e) σ (suc i) (rest_are (λ j r. shows_right (σ j) r ≡ true) i g a));
+    of_parts = λ strict g v e i a. ap (λ x. part t ▸ x) (k.of_parts strict (Rest g) (rest_placed π g v) (others π t t ts us st strict g e) (suc i) (rest_are (λ j r. is_part_slot r ≡ true) i g a));
+    of_own = λ strict g v e σ i a. ap (λ x. shown (σ i) t ▸ x) (k.of_own strict (Rest g) (rest_placed π g v) (others π t t ts us st strict g e) σ (suc i) (rest_are (λ j r. shows_right (σ j) r ≡ true) i g a));
     of_ports = λ strict d e m. ap (λ x. if is_port m (shape_of t) then own t ▸ x else x) (k.of_ports strict d (right (fits strict (one (a_statement d)) t) (fill strict (each (one (a_statement d))) ts) e) m);
-    of_program = λ strict d e m. refl;
-    of_hoisted = λ strict g e. other_names t ts us (k.of_hoisted strict (Rest g) (others π t t ts us st strict g e));
-    of_frames = λ strict g e kind i a. each_of (frames (kind i) t) (frames_from kind (suc i) ts) (frames (kind i) t) (frames_from kind (suc i) us) (λ f x. x) (k.of_frames strict (Rest g) (others π t t ts us st strict g e) kind (suc i) (rest_are (Plain kind) i g a));
+    of_program = λ strict d v e m. refl;
+    of_hoisted = λ strict g v e. other_names t ts us (k.of_hoisted strict (Rest g) (rest_placed π g v) (others π t t ts us st strict g e));
+    of_frames = λ strict g v e kind i a. each_of (frames (kind i) t) (frames_from kind (suc i) ts) (frames (kind i) t) (frames_from kind (suc i) us) (λ f x. x) (k.of_frames strict (Rest g) (rest_placed π g v) (others π t t ts us st strict g e) kind (suc i) (rest_are (Plain kind) i g a));
   }
 
   -- ---- the same node over other children
@@ -177,13 +199,13 @@ module _ (R : Position → Tree → Tree → Type 0) (l : KeepsFrames R) where
   number_fits : (strict : Bool) (s : Slot) (h : Shape) (xs : List Name) (n : ℕ) (ts : Trees) → fits strict s (node h xs n ts) ≡ true → has_its_number (class_of s) h n ≡ true
   number_fits strict s h xs n ts e = its_number (class_of s) h xs n ts (fill (is_strict_in strict h) (filling strict s h) ts) e
 
-  module _ (h : Shape) (xs : List Name) (ts us : Trees) (all : AllKeep ts us) where
+  module _ (p : Position) (h : Shape) (xs : List Name) (ts us : Trees) (all : AllKeep (child_position h p (count ts)) ts us) where
     part_inside : (n : ℕ) (strict : Bool) (s : Slot) → fits strict s (node h xs n ts) ≡ true → is_part_slot s ≡ true → part (node h xs n ts) ≡ part (node h xs n us)
-    part_inside zero strict s e q = ap (node h xs 0) (all.of_parts (is_strict_in strict h) (filling strict s h) (children_fill strict s h xs 0 ts e) 0 (part_right strict s h q (number_fits strict s h xs 0 ts e)))
+    part_inside zero strict s e q = ap (node h xs 0) (all.of_parts (is_strict_in strict h) (filling strict s h) (placed_below strict s h p (count ts)) (children_fill strict s h xs 0 ts e) 0 (part_right strict s h q (number_fits strict s h xs 0 ts e)))
     part_inside (suc n) strict s e q = refl
 
     own_inside : (n : ℕ) (strict : Bool) (s : Slot) → fits strict s (node h xs n ts) ≡ true → Outlined h → shown_from (showing h) 0 ts ≡ shown_from (showing h) 0 us
-    own_inside n strict s e o = all.of_own (is_strict_in strict h) (filling strict s h) (children_fill strict s h xs n ts e) (showing h) 0 (own_right strict s h o)
+    own_inside n strict s e o = all.of_own (is_strict_in strict h) (filling strict s h) (placed_below strict s h p (count ts)) (children_fill strict s h xs n ts e) (showing h) 0 (own_right strict s h o)
 
     port_inside : (n : ℕ) (strict : Bool) (d : Depth) → fits strict (one (a_statement d)) (node h xs n ts) ≡ true → (m : Bool) (vs : Trees) → ports m (node h xs n ts ▸ vs) ≡ ports m (node h xs n us ▸ vs)
     port_inside n strict d e m vs = by (is_port m h) refl
@@ -192,48 +214,48 @@ module _ (R : Position → Tree → Tree → Type 0) (l : KeepsFrames R) where
         by true q = ap (λ c. if is_port m h then node h xs n c ▸ ports m vs else ports m vs) (own_inside n strict (one (a_statement d)) e (port_outline m h q))
         by false q = no_port m (node h xs n ts) vs q ∙ sym (no_port m (node h xs n us) vs q)
 
-  statements_inside : (h : Shape) (xs : List Name) (n : ℕ) (ts us : Trees) → AllKeep ts us → (strict : Bool) (d : Depth) → fits strict (many (a_statement d)) (node h xs n ts) ≡ true → (m : Bool) → ports m ts ≡ ports m us
-  statements_inside shape.Listed xs n ts us all strict d e m = all.of_ports strict d (children_fill strict (many (a_statement d)) shape.Listed xs n ts e) m
-  statements_inside h xs n ts us all strict d e m = absurd (refused_here strict (many (a_statement d)) h xs n ts refl e)
+  statements_inside : (p : Position) (h : Shape) (xs : List Name) (n : ℕ) (ts us : Trees) → AllKeep (child_position h p (count ts)) ts us → (strict : Bool) (d : Depth) → fits strict (many (a_statement d)) (node h xs n ts) ≡ true → (m : Bool) → ports m ts ≡ ports m us
+  statements_inside p shape.Listed xs n ts us all strict d e m = all.of_ports strict d (children_fill strict (many (a_statement d)) shape.Listed xs n ts e) m
+  statements_inside p h xs n ts us all strict d e m = absurd (refused_here strict (many (a_statement d)) h xs n ts refl e)
 
   -- a program's outline
-  module _ (m : Bool) (ds : List (List ℕ)) (xs : List Name) (n : ℕ) (ts us : Trees) (all : AllKeep ts us) where
+  module _ (p : Position) (m : Bool) (ds : List (List ℕ)) (xs : List Name) (n : ℕ) (ts us : Trees) (all : AllKeep (child_position (shape.Program m ds) p (count ts)) ts us) where
     program_ports : (strict : Bool) (s : Slot) → fits strict s (node (shape.Program m ds) xs n ts) ≡ true → ports m (children (child_or_absent ts 0)) ≡ ports m (children (child_or_absent us 0))
     program_ports strict s e = by (program_filling strict s m ds)
       where
         by : AProgram strict s m ds → ports m (children (child_or_absent ts 0)) ≡ ports m (children (child_or_absent us 0))
         by (inl f) = absurd (refused_here strict s (shape.Program m ds) xs n ts f e)
-        by (inr f) = all.of_program (is_strict_in strict (shape.Program m ds)) (if m then in_module else in_body) (subst (λ g. fill (is_strict_in strict (shape.Program m ds)) g ts ≡ true) f (children_fill strict s (shape.Program m ds) xs n ts e)) m
+        by (inr f) = all.of_program (is_strict_in strict (shape.Program m ds)) (if m then in_module else in_body) (refl, tt) (subst (λ g. fill (is_strict_in strict (shape.Program m ds)) g ts ≡ true) f (children_fill strict s (shape.Program m ds) xs n ts e)) m
 
     program_outline : (strict : Bool) (s : Slot) → fits strict s (node (shape.Program m ds) xs n ts) ≡ true → outline (shape.Program m ds) xs n ts ≡ outline (shape.Program m ds) xs n us
     program_outline strict s e =
-        ap (λ ns. node (shape.Program m ds) (if m then [] else ns) n (ports m (children (child_or_absent ts 0)))) (all.of_hoisted (is_strict_in strict (shape.Program m ds)) (filling strict s (shape.Program m ds)) (children_fill strict s (shape.Program m ds) xs n ts e))
+        ap (λ ns. node (shape.Program m ds) (if m then [] else ns) n (ports m (children (child_or_absent ts 0)))) (all.of_hoisted (is_strict_in strict (shape.Program m ds)) (filling strict s (shape.Program m ds)) (placed_below strict s (shape.Program m ds) p (count ts)) (children_fill strict s (shape.Program m ds) xs n ts e))
         ∙ ap (λ ps. node (shape.Program m ds) (if m then [] else all_names declared.Hoisted us) n ps) (program_ports strict s e)
 
-  frame_inside : (k : Option PropertyKind) (h : Shape) (xs : List Name) (n : ℕ) (ts us : Trees) → AllKeep ts us → (strict : Bool) (s : Slot) → fits strict s (node h xs n ts) ≡ true → frame_of k h n (outline h xs n ts) ≡ frame_of k h n (outline h xs n us)
-  frame_inside k (shape.Program m ds) xs n ts us all strict s e = ap (frame_of k (shape.Program m ds) n) (program_outline m ds xs n ts us all strict s e)
-  frame_inside k h xs zero ts us all strict s e = refl
-  frame_inside k h xs (suc n) ts us all strict s e = ap (λ c. frame_of k h (suc n) (node h xs (suc n) c)) (own_inside h xs ts us all (suc n) strict s e (numbered_outline (class_of s) h n (number_fits strict s h xs (suc n) ts e)))
+  frame_inside : (p : Position) (k : Option PropertyKind) (h : Shape) (xs : List Name) (n : ℕ) (ts us : Trees) → AllKeep (child_position h p (count ts)) ts us → (strict : Bool) (s : Slot) → fits strict s (node h xs n ts) ≡ true → frame_of k h n (outline h xs n ts) ≡ frame_of k h n (outline h xs n us)
+  frame_inside p k (shape.Program m ds) xs n ts us all strict s e = ap (frame_of k (shape.Program m ds) n) (program_outline p m ds xs n ts us all strict s e)
+  frame_inside p k h xs zero ts us all strict s e = refl
+  frame_inside p k h xs (suc n) ts us all strict s e = ap (λ c. frame_of k h (suc n) (node h xs (suc n) c)) (own_inside p h xs ts us all (suc n) strict s e (numbered_outline (class_of s) h n (number_fits strict s h xs (suc n) ts e)))
 
-  inside_kept : (p : Position) (h : Shape) (xs : List Name) (n : ℕ) (ts us : Trees) → StepIn R (child_position h p (count ts)) ts us → AllKeep ts us → Keeps (node h xs n ts) (node h xs n us)
+  inside_kept : (p : Position) (h : Shape) (xs : List Name) (n : ℕ) (ts us : Trees) → StepIn R (child_position h p (count ts)) ts us → AllKeep (child_position h p (count ts)) ts us → Keeps p (node h xs n ts) (node h xs n us)
   inside_kept p h xs n ts us st all = record {
-    of_part = part_inside h xs ts us all n;
-    of_declared = λ strict s e q. ap (λ ns. if is_declaration h then node h ns n none else absent) (sym (step_keeps R l.names (inside p h xs n ts us st) strict s e).kept.body);
-    of_port = port_inside h xs ts us all n;
-    of_statements = statements_inside h xs n ts us all;
-    of_hoisted = λ strict s e. sym ((step_keeps R l.names (inside p h xs n ts us st) strict s e).kept.names declared.Hoisted);
-    of_frames = λ strict s e k z.
+    of_part = λ strict s v e q. part_inside p h xs ts us all n strict s e q;
+    of_declared = λ strict s v e q. ap (λ ns. if is_declaration h then node h ns n none else absent) (sym (step_keeps R l.names (inside p h xs n ts us st) strict s v e).kept.body);
+    of_port = port_inside p h xs ts us all n;
+    of_statements = λ strict d v e m. statements_inside p h xs n ts us all strict d e m;
+    of_hoisted = λ strict s v e. sym ((step_keeps R l.names (inside p h xs n ts us st) strict s v e).kept.names declared.Hoisted);
+    of_frames = λ strict s v e k z.
         each_of (frame_of k h n (outline h xs n ts)) (frames_from (property_below h) 0 ts) (frame_of k h n (outline h xs n us)) (frames_from (property_below h) 0 us)
-        (same_frames (frame_of k h n (outline h xs n ts)) (frame_of k h n (outline h xs n us)) (frame_inside k h xs n ts us all strict s e))
-        (all.of_frames (is_strict_in strict h) (filling strict s h) (children_fill strict s h xs n ts e) (property_below h) 0 (plain_right strict s h));
+        (same_frames (frame_of k h n (outline h xs n ts)) (frame_of k h n (outline h xs n us)) (frame_inside p k h xs n ts us all strict s e))
+        (all.of_frames (is_strict_in strict h) (filling strict s h) (placed_below strict s h p (count ts)) (children_fill strict s h xs n ts e) (property_below h) 0 (plain_right strict s h));
   }
 
   mutual
-    step_kept : {p : Position} {t u : Tree} → Step R p t u → Keeps t u
+    step_kept : {p : Position} {t u : Tree} → Step R p t u → Keeps p t u
     step_kept (here p t u r) = here_kept p t u r
     step_kept (inside p h xs n ts us st) = inside_kept p h xs n ts us st (steps_kept st)
 
-    steps_kept : {π : ℕ → Position} {ts us : Trees} → StepIn R π ts us → AllKeep ts us
+    steps_kept : {π : ℕ → Position} {ts us : Trees} → StepIn R π ts us → AllKeep π ts us
     steps_kept (first π t u ts st) = first_kept π t u ts (first π t u ts st) (step_kept st)
     steps_kept (later π t ts us st) = later_kept π t ts us (later π t ts us st) (steps_kept st)
 
@@ -243,10 +265,10 @@ module _ (R : Position → Tree → Tree → Type 0) (l : KeepsFrames R) where
   reaches_frames holds shaped stays _ _ _ (done p t) q e = λ f x. x
   reaches_frames holds shaped stays _ _ _ (more p t u v s r) q e =
       let st : Step R Elsewhere t u = subst (λ x. Step R x t u) q s in
-      λ f x. (step_kept st).of_frames false (one a_program) (shaped t e) None (λ z. refl) f (reaches_frames holds shaped stays p u v r q (stays t u st e) f x)
+      λ f x. (step_kept st).of_frames false (one a_program) refl (shaped t e) None (λ z. refl) f (reaches_frames holds shaped stays p u v r q (stays t u st e) f x)
 
 pub step_keeps_frames : (R : Position → Tree → Tree → Type 0) → StepKeepsFrames R
-step_keeps_frames R l p t u st strict s e k z = (step_kept R l st).of_frames strict s e k z
+step_keeps_frames R l p t u st strict s v e k z = (step_kept R l st).of_frames strict s v e k z
 
 pub reaches_keeps_frames : (R : Position → Tree → Tree → Type 0) → ReachesKeepsFrames R
 reaches_keeps_frames R l holds shaped stays t u r e = reaches_frames R l holds shaped stays Elsewhere t u r refl e

@@ -32,8 +32,9 @@ use Rattle.mini_names.proofs.Drops.{moved}
 use Rattle.mini_kept.proofs.Expressions.{expression, of_negation, neg_fits}
 use Rattle.mini_kept.proofs.Rows.{of_if}
 use Rattle.mini_kept.specs.Carried.{numbers}
-use Rattle.mini_kept.specs.KeepsNames.{Keeps, Stands, is_rewritten_place, is_read, count_of}
+use Rattle.mini_kept.specs.KeepsNames.{Keeps, Stands, is_rewritten_place, unplaced, is_read, count_of}
 use Rattle.mini_kept.specs.Lifted.{is_piece, KeepsNames}
+use Rattle.mini_kept.proofs.Placed.{is_statement_list_place}
 use Rattle.mini_kept.proofs.Below.{both_counts, empty_both, both_empty}
 use Rattle.mini_kept.proofs.Anywhere.{once_anywhere, targets_anywhere}
 use Rattle.mini_kept.proofs.Negating.{inner_negated, symbols_negated, scoped_negated, numbers_negated, once_negated, targets_negated, inner_not, symbols_not, scoped_not, numbers_not, once_not, targets_not}
@@ -60,9 +61,6 @@ quiet_kept n w q r i s = record {
   inner = i;
   symbols = λ u x. omega (arith, s x, ap (times x) (same_symbols u w r), ap (times x) (same_symbols u n q));
 }
-
-both_declared : (d : Declared) (l : Bool) (q : Path) (n w : Tree) → IsQuiet n → IsQuiet w → declarations d l q w ≡ declarations d l q n
-both_declared d l q n w a b = no_declarations d l q w b ∙ sym (no_declarations d l q n a)
 
 both_as_body : (b : Bool) (q : Path) (n w : Tree) → IsQuiet n → IsQuiet w → body_declarations b q w ≡ body_declarations b q n
 both_as_body b q n w x y = no_body_declarations b q w y ∙ sym (no_body_declarations b q n x)
@@ -104,8 +102,7 @@ unary_keeps s e strict f =
       kept = quiet_kept (negation e) (neg s e) refl w (negation_inner s e) (λ x. negation_symbols x s e);
       scoped = λ v env st r. subst (λ u. Scoped u env (neg s e)) (sym (expression_read s v e st)) (scoped_negated env s e (operand_scoped env e (subst (λ u. Scoped u env (negation e)) (expression_read s v e st) r)));
       numbers = λ k. negation_numbers k s e;
-      declared = λ d l q. both_declared d l q (negation e) (neg s e) refl w;
-      declared_as_body = λ b q. both_as_body b q (negation e) (neg s e) refl w;
+      declared_as_body = λ b q. ap unplaced (both_as_body b q (negation e) (neg s e) refl w);
       once = λ q r. once_negated q s e (operand_once q e r);
       targets = λ a q r. targets_negated a q s e (operand_targets a q e r);
       loop = no_loop (neg s e) w ∙ sym (no_loop (negation e) refl);
@@ -160,8 +157,7 @@ swapped_keeps s a b c = record {
   kept = by_swap a b c;
   scoped = λ v env st r. subst (λ u. Scoped u env (conditional a c b)) (sym (choice_read s v (negation a) b c st)) (swapped_scoped env a b c (subst (λ u. Scoped u env (conditional (negation a) b c)) (choice_read s v (negation a) b c st) r));
   numbers = λ k. swapped_numbers k a b c;
-  declared = λ d l q. both_declared d l q (conditional (negation a) b c) (conditional a c b) refl refl;
-  declared_as_body = λ b' q. both_as_body b' q (conditional (negation a) b c) (conditional a c b) refl refl;
+  declared_as_body = λ b' q. ap unplaced (both_as_body b' q (conditional (negation a) b c) (conditional a c b) refl refl);
   once = λ q. swapped_once q a b c;
   targets = λ g q. swapped_targets g q a b c;
   loop = no_loop (conditional a c b) refl ∙ sym (no_loop (conditional (negation a) b c) refl);
@@ -235,24 +231,6 @@ guard_body_names a b q = ap (λ r. r ++ []) (no_names declared.Hoisted a q)
 statement_body_names : (a : Tree) → body_names (expression_statement a) ≡ []
 unfolding body_names names_of
 statement_body_names a = refl
-
-if_declared : (d : Declared) (l : Bool) (q : Path) (a b c : Tree) → IsQuiet a → declarations d l q (if_else a (expression_statement b) (expression_statement c)) ≡ []
-unfolding declarations
-if_declared declared.Bound l q a b c e = refl
-if_declared declared.Lexical l q a b c e = refl
-if_declared declared.Hoisted l q a b c e = ap (λ r. r ++ []) (no_declarations declared.Hoisted l (q ++ 0 ∷ []) a e)
-
-guard_declared : (d : Declared) (l : Bool) (q : Path) (a b : Tree) → IsQuiet a → declarations d l q (if_alone a (expression_statement b)) ≡ []
-unfolding declarations
-guard_declared declared.Bound l q a b e = refl
-guard_declared declared.Lexical l q a b e = refl
-guard_declared declared.Hoisted l q a b e = ap (λ r. r ++ []) (no_declarations declared.Hoisted l (q ++ 0 ∷ []) a e)
-
-statement_declared : (d : Declared) (l : Bool) (q : Path) (a : Tree) → declarations d l q (expression_statement a) ≡ []
-unfolding declarations
-statement_declared declared.Bound l q a = refl
-statement_declared declared.Lexical l q a = refl
-statement_declared declared.Hoisted l q a = refl
 
 if_as_body : (b' : Bool) (q : Path) (a b c : Tree) → IsQuiet a → body_declarations b' q (if_else a (expression_statement b) (expression_statement c)) ≡ []
 unfolding body_declarations declarations
@@ -418,8 +396,7 @@ else_keeps q a b c e =
       kept = record { names = λ d. statement_names d (conditional a b c) ∙ sym (if_names d a b c e); body = statement_body_names (conditional a b c) ∙ sym (if_body_names a b c e); inner = choice_inner a b c; symbols = λ u x. choice_symbols x u a b c };
       scoped = λ v env st r. choice_scoped v env a b c (if_scoped v env a b c r);
       numbers = λ k. choice_numbers k a b c;
-      declared = λ d l p. statement_declared d l p (conditional a b c) ∙ sym (if_declared d l p a b c e);
-      declared_as_body = λ b' p. statement_as_body b' p (conditional a b c) ∙ sym (if_as_body b' p a b c e);
+      declared_as_body = λ b' p. ap unplaced (statement_as_body b' p (conditional a b c) ∙ sym (if_as_body b' p a b c e));
       once = λ p r. (let (x, y, z) = if_once p a b c r in choice_once p a b c x y z);
       targets = λ g p r. (let (x, y, z) = if_targets g p a b c r in choice_targets g p a b c x y z);
       loop = no_loops w (inl refl) ∙ sym (no_loops n (inr refl));
@@ -435,8 +412,7 @@ guard_keeps q o a a' b e i s r k m t =
       kept = record { names = λ d. statement_names d (logical o a' b) ∙ sym (guard_names d a b e); body = statement_body_names (logical o a' b) ∙ sym (guard_body_names a b e); inner = logical_inner o a a' b i; symbols = λ u x. logical_symbols x o u a a' b (s x) };
       scoped = λ v env st h. (let (x, y) = guard_scoped v env a b h in logical_scoped o v env a' b (r env x) y);
       numbers = λ j. logical_numbers j o a a' b (k j);
-      declared = λ d l p. statement_declared d l p (logical o a' b) ∙ sym (guard_declared d l p a b e);
-      declared_as_body = λ b' p. statement_as_body b' p (logical o a' b) ∙ sym (guard_as_body b' p a b e);
+      declared_as_body = λ b' p. ap unplaced (statement_as_body b' p (logical o a' b) ∙ sym (guard_as_body b' p a b e));
       once = λ p h. (let (x, y) = guard_once p a b h in logical_once o p a' b (m p x) y);
       targets = λ g p h. (let (x, y) = guard_targets g p a b h in logical_targets o g p a' b (t g p x) y);
       loop = no_loops w (inl refl) ∙ sym (no_loops n (inr refl));
@@ -473,6 +449,12 @@ row_place (Expr s) n w r = refl
 row_place (Stmt q) n w r = refl
 row_place p n w r = absurd r
 
+-- it is no list of statements
+pub row_elsewhere : (p : Position) (n w : Tree) → Row p n w → is_statement_list_place p ≡ false
+row_elsewhere (Expr s) n w r = refl
+row_elsewhere (Stmt q) n w r = refl
+row_elsewhere p n w r = absurd r
+
 row_piece : (p : Position) (n w : Tree) → Row p n w → is_piece (shape_of n) ≡ false
 row_piece (Expr s) n w (inl r) = ap (λ t. is_piece (shape_of t)) r.shape
 row_piece (Expr s) n w (inr r) = ap (λ t. is_piece (shape_of t)) r.shape
@@ -483,4 +465,4 @@ row_piece p n w r = absurd r
 
 -- what the rows contract keeps the names
 pub contracts_keep : KeepsNames Contracts
-contracts_keep = record { places = λ p n w c. row_place p n w c.row; pieces = λ p n w c. row_piece p n w c.row; keeps = λ p n w c. row_keeps p n w c.row }
+contracts_keep = record { places = λ p n w c. row_place p n w c.row; pieces = λ p n w c. row_piece p n w c.row; keeps = λ p n w c strict s k e. row_keeps p n w c.row strict s e }

@@ -2,7 +2,7 @@
 use Rattle.std.specs.Prelude.{◌≡◌, ◌⊎◌, refl, false}
 use Rattle.std.proofs.Common.{ap, ◌∙◌, sym, inl, inr}
 use Rattle.mini_model.specs.declared.place.Position.{Position}
-use Rattle.mini_model.specs.declared.place.Position.TheVariants.{Elsewhere}
+use Rattle.mini_model.specs.declared.place.Position.TheVariants.{Elsewhere, StatementList}
 use Rattle.mini_model.specs.Tree.{Tree, node, children}
 use Rattle.mini_model.specs.Redex.{Contracts}
 use Rattle.mini_model.specs.Rewriting.{Step, here, inside, Reaches, done, more}
@@ -45,7 +45,7 @@ module _ (R : Position → Tree → Tree → Type 0) (l : Lawful R) where
   names = l.frames.names
 
   program_fits : (t u : Tree) → Step R Elsewhere t u → IsWellShaped t → IsWellShaped u
-  program_fits t u s e = any_step_fits R names l.shapes s false (one a_program) e
+  program_fits t u s e = any_step_fits R names l.shapes s false (one a_program) refl e
 
   pub lawful_keeps : (t u : Tree) → Reaches R Elsewhere t u → IsWellShaped t → ProgramIsKept t u
   lawful_keeps t u r e = record {
@@ -64,6 +64,10 @@ module _ (R S : Position → Tree → Tree → Type 0) where
   one_or_other f g p n w (inl r) = f p n w r
   one_or_other f g p n w (inr s) = g p n w s
 
+  one_list : (n w : Tree) {X : Type 0} → (R StatementList n w → X) → (S StatementList n w → X) → R StatementList n w ⊎ S StatementList n w → X
+  one_list n w f g (inl r) = f r
+  one_list n w f g (inr s) = g s
+
   pub lawful_join : LawfulJoin R S
   lawful_join l m = record {
     shapes = record { fitting = one_or_other l.shapes.fitting m.shapes.fitting; asked = one_or_other l.shapes.asked m.shapes.asked };
@@ -77,6 +81,7 @@ module _ (R S : Position → Tree → Tree → Type 0) where
       names = record { places = one_or_other l.frames.names.places m.frames.names.places; pieces = one_or_other l.frames.names.pieces m.frames.names.pieces; keeps = one_or_other l.frames.names.keeps m.frames.names.keeps };
       slots = one_or_other l.frames.slots m.frames.slots;
       ports = one_or_other l.frames.ports m.frames.ports;
+      listed = λ n w. one_list n w (l.frames.listed n w) (m.frames.listed n w);
       exported = one_or_other l.frames.exported m.frames.exported;
       frames = one_or_other l.frames.frames m.frames.frames;
     };
@@ -101,6 +106,7 @@ module _ (R S : Position → Tree → Tree → Type 0) where
       names = record { places = narrowed f l.frames.names.places; pieces = narrowed f l.frames.names.pieces; keeps = narrowed f l.frames.names.keeps };
       slots = narrowed f l.frames.slots;
       ports = narrowed f l.frames.ports;
+      listed = λ n w r. l.frames.listed n w (f StatementList n w r);
       exported = narrowed f l.frames.exported;
       frames = narrowed f l.frames.frames;
     };

@@ -6,6 +6,8 @@ pub mod Parts
 pub mod Exports
 pub mod ShapeRows
 pub mod Steps
+pub mod Placed
+pub mod Unplaced
 pub mod Each
 pub mod Programs
 pub mod Renumbered

@@ -1,5 +1,5 @@
 -- Any number of steps leave a program one.
-use Rattle.std.proofs.Common.{false}
+use Rattle.std.proofs.Common.{false, refl}
 use Rattle.mini_model.specs.declared.place.Position.{Position}
 use Rattle.mini_model.specs.Tree.{Tree}
 use Rattle.mini_model.specs.Redex.{Contracts}
@@ -14,7 +14,7 @@ use Rattle.mini_kept.proofs.Steps.{any_step_fits}
 module _ (R : Position → Tree → Tree → Type 0) (l : KeepsNames R) (shapes : KeepsShapes R) where
   pub any_reaches_well_shaped : {p : Position} {t u : Tree} → Reaches R p t u → IsWellShaped t → IsWellShaped u
   any_reaches_well_shaped (done p t) e = e
-  any_reaches_well_shaped (more p t w u s r) e = any_reaches_well_shaped r (any_step_fits R l shapes s false (one a_program) e)
+  any_reaches_well_shaped (more p t w u s r) e = any_reaches_well_shaped r (any_step_fits R l shapes s false (one a_program) refl e)
 
 pub reaches_well_shaped : {p : Position} {t u : Tree} → Reaches Contracts p t u → IsWellShaped t → IsWellShaped u
 reaches_well_shaped r e = any_reaches_well_shaped Contracts contracts_keep rows_keep_shapes r e

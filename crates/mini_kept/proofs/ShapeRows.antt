@@ -101,4 +101,4 @@ row_asked p n w r =
     }
 
 pub rows_keep_shapes : KeepsShapes Contracts
-rows_keep_shapes = record { fitting = λ p n w c strict s e. row_fits strict s p n w c.row e; asked = λ p n w c. row_asked p n w c.row }
+rows_keep_shapes = record { fitting = λ p n w c strict s k e. row_fits strict s p n w c.row e; asked = λ p n w c. row_asked p n w c.row }

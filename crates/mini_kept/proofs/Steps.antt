@@ -1,5 +1,5 @@
 -- A step leaves a tree where it may stand.
-use Rattle.std.proofs.Common.{◌≡◌, ℕ, Bool, true, false, List, [], ◌∷◌, refl, sym, ◌∙◌, subst}
+use Rattle.std.proofs.Common.{◌≡◌, ℕ, suc, Bool, true, false, List, [], ◌∷◌, refl, sym, ◌∙◌, subst}
 use Rattle.std.specs.Prelude.{◌&&◌, ◌||◌}
 use Rattle.std.proofs.lemmas.Bool.{and_parts}
 use Rattle.mini_model.specs.declared.name.Name.{Name}
@@ -20,7 +20,9 @@ use Rattle.mini_kept.specs.Lifted.{KeepsNames}
 use Rattle.mini_kept.proofs.Moved.{Moved, stepped}
 use Rattle.mini_kept.proofs.Parts.{any_parts_kept}
 use Rattle.mini_kept.proofs.Stepping.{no_steps}
-use Rattle.mini_kept.proofs.Instances.{contracts_keep}
+use Rattle.mini_kept.proofs.Instances.{contracts_keep, row_elsewhere}
+use Rattle.mini_kept.proofs.Placed.{Placed, placed_below, fits_elsewhere}
+use Rattle.mini_kept.specs.Placed.{fits_place}
 use Rattle.mini_kept.proofs.ShapeRows.{rows_keep_shapes}
 
 -- ---- the node
@@ -74,44 +76,51 @@ module _ (R : Position → Tree → Tree → Type 0) (l : KeepsNames R) (shapes 
   last_kept (first π t u ts s) = refl
   last_kept (later π t ts us s) = refl
 
-  mutual
-    pub any_step_fits : {p : Position} {t u : Tree} → Step R p t u → (strict : Bool) (s : Slot) → fits strict s t ≡ true → fits strict s u ≡ true
-    any_step_fits (here p t u r) strict s e = shapes.fitting p t u r strict s e
-    any_step_fits (inside p h xs n ts us st) strict s e =
-        both (is_whole (class_of s) h xs n us) (fill (is_strict_in strict h) (filling strict s h) us)
-        (whole_kept s p strict h xs n ts us e st)
-        (step_fills st (is_strict_in strict h) (filling strict s h) (right (is_whole (class_of s) h xs n ts) (fill (is_strict_in strict h) (filling strict s h) ts) e))
+  -- the same node over children that fill its slots
+  over_fits : (p : Position) (h : Shape) (xs : List Name) (n : ℕ) (ts us : Trees) → StepIn R (child_position h p (count ts)) ts us → (strict : Bool) (s : Slot) → fits strict s (node h xs n ts) ≡ true
+      → ((strict : Bool) (g : Filling) → Placed (child_position h p (count ts)) g → fill strict g ts ≡ true → fill strict g us ≡ true) → fits strict s (node h xs n us) ≡ true
+  over_fits p h xs n ts us st strict s e fills =
+      both (is_whole (class_of s) h xs n us) (fill (is_strict_in strict h) (filling strict s h) us)
+      (whole_kept s p strict h xs n ts us e st)
+      (fills (is_strict_in strict h) (filling strict s h) (placed_below strict s h p (count ts)) (right (is_whole (class_of s) h xs n ts) (fill (is_strict_in strict h) (filling strict s h) ts) e))
 
-    step_fills : {π : ℕ → Position} {ts us : Trees} → StepIn R π ts us → (strict : Bool) (g : Filling) → fill strict g ts ≡ true → fill strict g us ≡ true
-    step_fills (first π t u ts st) strict refused e = e
-    step_fills (first π t u ts st) strict (these []) e = e
-    step_fills (first π t u ts st) strict (these (s ∷ ss)) e =
+  mutual
+    pub any_step_fits : {p : Position} {t u : Tree} → Step R p t u → (strict : Bool) (s : Slot) → fits_place p s ≡ true → fits strict s t ≡ true → fits strict s u ≡ true
+    any_step_fits (here p t u r) strict s k e = shapes.fitting p t u r strict s k e
+    any_step_fits (inside p h xs n ts us st) strict s k e = over_fits p h xs n ts us st strict s e (step_fills st)
+
+    step_fills : {π : ℕ → Position} {ts us : Trees} → StepIn R π ts us → (strict : Bool) (g : Filling) → Placed π g → fill strict g ts ≡ true → fill strict g us ≡ true
+    step_fills (first π t u ts st) strict refused k e = e
+    step_fills (first π t u ts st) strict (these []) k e = e
+    step_fills (first π t u ts st) strict (these (s ∷ ss)) k e =
         let (one_fits, rest) = and_parts (fits strict s t) (fill strict (these ss) ts) e in
-        both (fits strict s u) (fill strict (these ss) ts) (any_step_fits st strict s one_fits) rest
-    step_fills (first π t u ts st) strict (each s) e =
+        both (fits strict s u) (fill strict (these ss) ts) (any_step_fits st strict s k.0 one_fits) rest
+    step_fills (first π t u ts st) strict (each s) k e =
         let (one_fits, rest) = and_parts (fits strict s t) (fill strict (each s) ts) e in
-        both (fits strict s u) (fill strict (each s) ts) (any_step_fits st strict s one_fits) rest
-    step_fills (first π t u ts st) strict (each_or_last s l) e =
+        both (fits strict s u) (fill strict (each s) ts) (any_step_fits st strict s (k 0) one_fits) rest
+    step_fills (first π t u ts st) strict (each_or_last s l) k e =
         let (one_fits, rest) = and_parts (fits strict s t || (is_last ts && fits strict l t)) (fill strict (each_or_last s l) ts) e in
         both (fits strict s u || (is_last ts && fits strict l u)) (fill strict (each_or_last s l) ts)
-        (or_last (fits strict s t) (fits strict l t) (is_last ts) (fits strict s u) (fits strict l u) (any_step_fits st strict s) (any_step_fits st strict l) one_fits) rest
-    step_fills (first π t u ts st) strict (pieces g) e = absurd (no_steps R l g (first π t u ts st) e)
-    step_fills (later π t ts us st) strict refused e = e
-    step_fills (later π t ts us st) strict (these []) e = e
-    step_fills (later π t ts us st) strict (these (s ∷ ss)) e =
+        (or_last (fits strict s t) (fits strict l t) (is_last ts) (fits strict s u) (fits strict l u) (any_step_fits st strict s (k 0).0) (any_step_fits st strict l (k 0).1) one_fits) rest
+    step_fills (first π t u ts st) strict (pieces g) k e = absurd (no_steps R l g (first π t u ts st) e)
+    step_fills (later π t ts us st) strict refused k e = e
+    step_fills (later π t ts us st) strict (these []) k e = e
+    step_fills (later π t ts us st) strict (these (s ∷ ss)) k e =
         let (one_fits, rest) = and_parts (fits strict s t) (fill strict (these ss) ts) e in
-        both (fits strict s t) (fill strict (these ss) us) one_fits (step_fills st strict (these ss) rest)
-    step_fills (later π t ts us st) strict (each s) e =
+        both (fits strict s t) (fill strict (these ss) us) one_fits (step_fills st strict (these ss) k.1 rest)
+    step_fills (later π t ts us st) strict (each s) k e =
         let (one_fits, rest) = and_parts (fits strict s t) (fill strict (each s) ts) e in
-        both (fits strict s t) (fill strict (each s) us) one_fits (step_fills st strict (each s) rest)
-    step_fills (later π t ts us st) strict (each_or_last s l) e =
+        both (fits strict s t) (fill strict (each s) us) one_fits (step_fills st strict (each s) (λ j. k (suc j)) rest)
+    step_fills (later π t ts us st) strict (each_or_last s l) k e =
         let (one_fits, rest) = and_parts (fits strict s t || (is_last ts && fits strict l t)) (fill strict (each_or_last s l) ts) e in
         both (fits strict s t || (is_last us && fits strict l t)) (fill strict (each_or_last s l) us)
         (subst (λ b. (fits strict s t || (b && fits strict l t)) ≡ true) (last_kept st) one_fits)
-        (step_fills st strict (each_or_last s l) rest)
-    step_fills (later π t ts us st) strict (pieces g) e = absurd (no_steps R l g (later π t ts us st) e)
+        (step_fills st strict (each_or_last s l) (λ j. k (suc j)) rest)
+    step_fills (later π t ts us st) strict (pieces g) k e = absurd (no_steps R l g (later π t ts us st) e)
 
 -- ---- rewrites
 
+-- whatever its slot: no row writes a list
 pub step_fits : {p : Position} {t u : Tree} → Step Contracts p t u → (strict : Bool) (s : Slot) → fits strict s t ≡ true → fits strict s u ≡ true
-step_fits s = any_step_fits Contracts contracts_keep rows_keep_shapes s
+step_fits (here p t u c) strict s e = rows_keep_shapes.fitting p t u c strict s (fits_elsewhere p s (row_elsewhere p t u c.row)) e
+step_fits (inside p h xs n ts us st) strict s e = over_fits Contracts contracts_keep rows_keep_shapes p h xs n ts us st strict s e (step_fills Contracts contracts_keep rows_keep_shapes st)

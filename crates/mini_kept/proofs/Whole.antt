@@ -39,10 +39,10 @@ both_steps t u v a b = record {
 
 module _ (R : Position → Tree → Tree → Type 0) (l : KeepsNames R) (shapes : KeepsShapes R) where
   program_step : (t u : Tree) → Step R Elsewhere t u → IsWellShaped t → IsWellShaped u
-  program_step t u s e = any_step_fits R l shapes s false (one a_program) e
+  program_step t u s e = any_step_fits R l shapes s false (one a_program) refl e
 
   program_keeps : (t u : Tree) → Step R Elsewhere t u → IsWellShaped t → Keeps Elsewhere t u
-  program_keeps t u s e = step_keeps R l s false (one a_program) e
+  program_keeps t u s e = step_keeps R l s false (one a_program) refl e
 
   one_step : (t u : Tree) → Step R Elsewhere t u → ProgramKeeps t u
   one_step t u s = record {

@@ -8,13 +8,14 @@ use Rattle.mini_model.specs.Rewriting.{Step, Reaches}
 use Rattle.mini_accept.specs.WellShaped.{Slot, fits, IsWellShaped}
 use Rattle.mini_meaning.specs.Bodies.{Around, Body, bodies, bodies_in}
 use Rattle.mini_kept.specs.AlikeBodies.{AlikeBody, BodiesKept}
+use Rattle.mini_kept.specs.Placed.{fits_place}
 use Rattle.mini_kept.specs.Standing.{Stands}
 use Rattle.mini_kept.specs.KeepsBodies.{KeepsBodies}
 
 -- one step, at any place of a tree that fills a slot
 abbrev pub StepKeepsBodies : (Position → Tree → Tree → Type 0) → Type 0
 StepKeepsBodies R =
-    KeepsBodies R → (p : Position) (t u : Tree) → Step R p t u → (strict : Bool) (s : Slot) → fits strict s t ≡ true → (a : Around) → Stands s p a → BodiesKept (bodies a t) (bodies a u)
+    KeepsBodies R → (p : Position) (t u : Tree) → Step R p t u → (strict : Bool) (s : Slot) → fits_place p s ≡ true → fits strict s t ≡ true → (a : Around) → Stands s p a → BodiesKept (bodies a t) (bodies a u)
 
 -- any number of them, where some condition holds of each tree on the way, under which it is well shaped
 abbrev pub ReachesKeepsBodies : (Position → Tree → Tree → Type 0) → Type 0

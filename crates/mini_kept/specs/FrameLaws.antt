@@ -7,6 +7,7 @@ use Rattle.mini_model.specs.Tree.{Tree}
 use Rattle.mini_model.specs.Redex.{Contracts}
 use Rattle.mini_model.specs.Rewriting.{Step, Reaches}
 use Rattle.mini_accept.specs.WellShaped.{Slot, fits, IsWellShaped}
+use Rattle.mini_kept.specs.Placed.{fits_place}
 use Rattle.mini_kept.specs.Standing.{is_method_slot}
 use Rattle.mini_kept.specs.Frames.{frames, frames_in, FramesKept}
 use Rattle.mini_kept.specs.KeepsFrames.{KeepsFrames}
@@ -14,7 +15,7 @@ use Rattle.mini_kept.specs.KeepsFrames.{KeepsFrames}
 -- one step, at any place of a tree that fills a slot; that of a method or an accessor alone has a function of one
 abbrev pub StepKeepsFrames : (Position → Tree → Tree → Type 0) → Type 0
 StepKeepsFrames R =
-    KeepsFrames R → (p : Position) (t u : Tree) → Step R p t u → (strict : Bool) (s : Slot) → fits strict s t ≡ true → (k : Option PropertyKind) → (is_method_slot s ≡ false → k ≡ None) → FramesKept (frames k t) (frames k u)
+    KeepsFrames R → (p : Position) (t u : Tree) → Step R p t u → (strict : Bool) (s : Slot) → fits_place p s ≡ true → fits strict s t ≡ true → (k : Option PropertyKind) → (is_method_slot s ≡ false → k ≡ None) → FramesKept (frames k t) (frames k u)
 
 -- any number of them, where some condition holds of each tree on the way, under which it is well shaped
 abbrev pub ReachesKeepsFrames : (Position → Tree → Tree → Type 0) → Type 0

@@ -5,6 +5,7 @@ use Rattle.mini_model.specs.Tree.{Tree, shape_of}
 use Rattle.mini_accept.specs.WellShaped.{Slot, fits}
 use Rattle.mini_meaning.specs.Bodies.{Around, bodies, arrow_kind}
 use Rattle.mini_laws.specs.Rewritten.{MeansSame}
+use Rattle.mini_kept.specs.Placed.{fits_place}
 use Rattle.mini_kept.specs.Lifted.{is_piece}
 use Rattle.mini_kept.specs.AlikeBodies.{BodiesKept}
 use Rattle.mini_kept.specs.Standing.{Stands}
@@ -15,4 +16,4 @@ pub record KeepsBodies (R : Position → Tree → Tree → Type 0) : Type 0 wher
   pub means : MeansSame R
   pub pieces : (p : Position) (n w : Tree) → R p n w → is_piece (shape_of n) ≡ false
   pub kind : (p : Position) (n w : Tree) → R p n w → (strict : Bool) (s : Slot) → fits strict s n ≡ true → arrow_kind (shape_of n) ≡ arrow_kind (shape_of w)
-  pub bodies : (p : Position) (n w : Tree) → R p n w → (strict : Bool) (s : Slot) → fits strict s n ≡ true → (a : Around) → Stands s p a → BodiesKept (bodies a n) (bodies a w)
+  pub bodies : (p : Position) (n w : Tree) → R p n w → (strict : Bool) (s : Slot) → fits_place p s ≡ true → fits strict s n ≡ true → (a : Around) → Stands s p a → BodiesKept (bodies a n) (bodies a w)

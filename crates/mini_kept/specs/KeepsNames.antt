@@ -2,17 +2,17 @@
 -- nodes, and that it has no early error.
 use Rattle.std.specs.Prelude.{ℕ, ◌≡◌, ◌+◌, ◌≤◌, ◌||◌, nat_eq, Bool, true, false, List, [], ◌∷◌, if◌then◌else◌}
 use Rattle.mini_model.specs.declared.place.Position.{Position}
-use Rattle.mini_model.specs.declared.place.Position.TheVariants.{Expr, Stmt, ArgumentList, SequenceList, TemplateList}
+use Rattle.mini_model.specs.declared.place.Position.TheVariants.{Expr, Stmt, StatementList, ArgumentList, SequenceList, TemplateList}
 use Rattle.mini_model.specs.Tree.{Tree, shape_of}
 use Rattle.mini_names.specs.declared.Use.{Use}
 use Rattle.mini_names.specs.declared.Use.TheVariants.{Read}
-use Rattle.mini_names.specs.declared.Declared.{Declared}
+use Rattle.mini_names.specs.declared.Declaration.{Declaration}
 use Rattle.mini_names.specs.declared.Targets.{Targets}
 use Rattle.mini_names.specs.DeclaredNames.{is_inner}
 use Rattle.mini_names.specs.Resolved.{Environment}
 use Rattle.mini_names.specs.Scoped.{Scoped}
 use Rattle.mini_names.specs.Edits.{Kept}
-use Rattle.mini_names.specs.Early.{Path, declarations, body_declarations, in_body, children_of_node, early_names, early_jumps, is_loop}
+use Rattle.mini_names.specs.Early.{Path, body_declarations, in_body, children_of_node, early_names, early_jumps, is_loop}
 use Rattle.mini_kept.specs.Carried.{numbers}
 
 -- the names of an expression are read; what else stands at a place may be used in any way
@@ -31,11 +31,17 @@ is_used p u = true
 abbrev pub Stands : Position → Use → Tree → Type 0
 Stands p u t = (is_inner (shape_of t) || is_used p u) ≡ true
 
--- where rewrites are made: what else stands at a place keeps its root
+-- where rewrites are made, of expressions, of statements and of lists of statements: what else stands at a place keeps its root
 abbrev pub is_rewritten_place : Position → Bool
 is_rewritten_place (Expr s) = true
 is_rewritten_place (Stmt q) = true
+is_rewritten_place StatementList = true
 is_rewritten_place p = false
+
+-- declarations, wherever they stand: whether two clash doesn't depend on it
+abbrev pub unplaced : List Declaration → List Declaration
+unplaced [] = []
+unplaced (d ∷ ds) = record d { at = [] } ∷ unplaced ds
 
 -- no name in it is declared twice, and no jump in it lacks its target; the tree stands at a path
 abbrev pub NamesOnce : Path → Tree → Type 0
@@ -56,13 +62,12 @@ pub record Keeps (p : Position) (t u : Tree) : Type 0 where
   pub scoped : (v : Use) (env : Environment) → Stands p v t → Scoped v env t → Scoped v env u
   -- no number stands in it more often
   pub numbers : (k : ℕ) → count_of k (numbers u) ≤ count_of k (numbers t)
-  -- what it declares to the scopes around it as early errors see it, each at its place
-  pub declared : (d : Declared) (l : Bool) (q : Path) → declarations d l q u ≡ declarations d l q t
-  pub declared_as_body : (b : Bool) (q : Path) → body_declarations b q u ≡ body_declarations b q t
+  -- what it declares as a body, or as a statement in one, as early errors see it
+  pub declared_as_body : (b : Bool) (q : Path) → unplaced (body_declarations b q u) ≡ unplaced (body_declarations b q t)
   -- no early errors
   pub once : (q : Path) → NamesOnce q t → NamesOnce q u
   pub targets : (a : Targets) (q : Path) → HasTargets a q t → HasTargets a q u
   pub loop : is_loop u ≡ is_loop t
   -- its root, but where rewrites are made
   pub root : is_rewritten_place p ≡ false → shape_of u ≡ shape_of t
-  pub block : is_rewritten_place p ≡ false → (b : Bool) (q : Path) → in_body b q (children_of_node u) 0 ≡ in_body b q (children_of_node t) 0
+  pub block : is_rewritten_place p ≡ false → (b : Bool) (q : Path) → unplaced (in_body b q (children_of_node u) 0) ≡ unplaced (in_body b q (children_of_node t) 0)

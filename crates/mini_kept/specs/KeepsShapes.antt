@@ -7,6 +7,7 @@ use Rattle.mini_model.specs.declared.shape.Shape.TheVariants as shape
 use Rattle.mini_model.specs.Tree.{Tree, shape_of, is_absent}
 use Rattle.mini_model.specs.Rewriting.{Step, Reaches}
 use Rattle.mini_accept.specs.WellShaped.{Slot, fits, IsWellShaped, is_function_body, spelling, has_optional, is_not_positive_number}
+use Rattle.mini_kept.specs.Placed.{fits_place}
 use Rattle.mini_kept.specs.Lifted.{KeepsNames}
 
 -- of a value only its truth is asked there
@@ -33,12 +34,12 @@ pub record AskedAlike (p : Position) (n w : Tree) : Type 0 where
 
 -- what it writes may stand wherever what stood there might, and a parent may ask the same of both
 pub record KeepsShapes (R : Position → Tree → Tree → Type 0) : Type 0 where
-  pub fitting : (p : Position) (n w : Tree) → R p n w → (strict : Bool) (s : Slot) → fits strict s n ≡ true → fits strict s w ≡ true
+  pub fitting : (p : Position) (n w : Tree) → R p n w → (strict : Bool) (s : Slot) → fits_place p s ≡ true → fits strict s n ≡ true → fits strict s w ≡ true
   pub asked : (p : Position) (n w : Tree) → R p n w → AskedAlike p n w
 
 -- so does one step at any place
 abbrev pub AnyStepFits : (Position → Tree → Tree → Type 0) → Type 0
-AnyStepFits R = KeepsNames R → KeepsShapes R → (p : Position) (t u : Tree) → Step R p t u → (strict : Bool) (s : Slot) → fits strict s t ≡ true → fits strict s u ≡ true
+AnyStepFits R = KeepsNames R → KeepsShapes R → (p : Position) (t u : Tree) → Step R p t u → (strict : Bool) (s : Slot) → fits_place p s ≡ true → fits strict s t ≡ true → fits strict s u ≡ true
 
 -- and any number of them leave a program one
 abbrev pub AnyReachesWellShaped : (Position → Tree → Tree → Type 0) → Type 0

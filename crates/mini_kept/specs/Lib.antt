@@ -2,6 +2,7 @@ pub mod Nodes
 pub mod Kept
 pub mod Carried
 pub mod NameLaws
+pub mod Placed
 pub mod KeepsNames
 pub mod Lifted
 pub mod AlikeBodies

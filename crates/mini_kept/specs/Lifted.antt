@@ -13,6 +13,7 @@ use Rattle.mini_names.specs.Scoped.{Scoped}
 use Rattle.mini_names.specs.Symbols.{declared_symbols, Distinct, Within}
 use Rattle.mini_names.specs.Early.{no_targets}
 use Rattle.mini_kept.specs.Carried.{numbers as numbers_of}
+use Rattle.mini_kept.specs.Placed.{fits_place}
 use Rattle.mini_kept.specs.KeepsNames.{is_rewritten_place, Keeps, NamesOnce, HasTargets, count_of}
 
 -- a piece of a template's text
@@ -20,15 +21,15 @@ abbrev pub is_piece : Shape → Bool
 is_piece (shape.TemplateElement tail raw c) = true
 is_piece h = false
 
--- it replaces expressions and statements alone, and what it writes keeps what the node, where it may stand, has
+-- it replaces expressions, statements and lists of statements alone, and what it writes keeps what the node, where it may stand, has
 pub record KeepsNames (R : Position → Tree → Tree → Type 0) : Type 0 where
   pub places : (p : Position) (n w : Tree) → R p n w → is_rewritten_place p ≡ true
   pub pieces : (p : Position) (n w : Tree) → R p n w → is_piece (shape_of n) ≡ false
-  pub keeps : (p : Position) (n w : Tree) → R p n w → (strict : Bool) (s : Slot) → fits strict s n ≡ true → Keeps p n w
+  pub keeps : (p : Position) (n w : Tree) → R p n w → (strict : Bool) (s : Slot) → fits_place p s ≡ true → fits strict s n ≡ true → Keeps p n w
 
 -- so does a step at any place of a tree that may stand where it does
 abbrev pub StepKeepsNames : (Position → Tree → Tree → Type 0) → Type 0
-StepKeepsNames R = KeepsNames R → (p : Position) (t u : Tree) → Step R p t u → (strict : Bool) (s : Slot) → fits strict s t ≡ true → Keeps p t u
+StepKeepsNames R = KeepsNames R → (p : Position) (t u : Tree) → Step R p t u → (strict : Bool) (s : Slot) → fits_place p s ≡ true → fits strict s t ≡ true → Keeps p t u
 
 -- What any number of rewrites keep of a program: it stays one, each name in it has the symbol that the scopes around it give,
 -- no symbol is declared twice, no number stands in it more often, and it has no early error

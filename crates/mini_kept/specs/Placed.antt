@@ -1,0 +1,13 @@
+-- Where a list stands, its place tells what its slot is: where statements stand (ECMA-262, "StatementList") it is one of
+-- statements.
+use Rattle.std.specs.Prelude.{Bool, true, false}
+use Rattle.mini_model.specs.declared.place.Position.{Position}
+use Rattle.mini_model.specs.declared.place.Position.TheVariants.{StatementList}
+use Rattle.mini_accept.specs.WellShaped.{a_statement, Slot, one, one_or_absent, many}
+
+abbrev pub fits_place : Position → Slot → Bool
+fits_place p (one c) = true
+fits_place p (one_or_absent c) = true
+fits_place StatementList (many (a_statement d)) = true
+fits_place StatementList s = false
+fits_place p s = true
