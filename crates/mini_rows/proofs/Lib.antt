@@ -11,3 +11,9 @@ pub mod BranchMeaning
 pub mod BranchLoops
 pub mod BranchSame
 pub mod BranchWeights
+pub mod Arranging
+pub mod ArrangedNames
+pub mod ArrangedBodies
+pub mod ArrangedValues
+pub mod ArrangedExpressions
+pub mod ArrangedRows

@@ -3,3 +3,5 @@ pub mod Spellings
 pub mod Lists
 pub mod ListLaws
 pub mod Branches
+pub mod Sketches
+pub mod Arranged

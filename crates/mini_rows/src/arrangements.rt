@@ -1,1 +1,10 @@
 //! What is built anew of the same parts.
+
+ghost use Rattle.mini_rows.specs.Arranged.{ExpressionsArranged, Row40Kept};
+
+/// An expression that is built anew of the parts of another keeps all that a program has to keep, but for its meaning and its
+/// shape.
+pub fn expressions_arranged()
+    ensures any { ExpressionsArranged }
+    ensures row_40 { Row40Kept }
+{}

@@ -1,0 +1,297 @@
+-- Which parts of a tree are expressions: those that stand where plain heads take one.
+use Rattle.std.specs.Prelude.{ℕ, suc, ◌≡◌, refl, ◌&&◌, ◌||◌, not, pos, negsuc, Bool, true, false, List, [], ◌∷◌, Option, Some, None}
+use Rattle.std.proofs.Common.{ap, ◌∙◌, sym, inl, inr, ◌⊎◌}
+use Rattle.std.proofs.lemmas.Bool.{and_parts}
+use Rattle.mini_model.specs.declared.shape.Shape.{Shape}
+use Rattle.mini_model.specs.declared.shape.Shape.TheVariants as shape
+use Rattle.mini_model.specs.Tree.{Tree, Trees, node, none, ◌▸◌, shape_of, child_or_absent}
+use Rattle.mini_accept.specs.WellShaped.{Depth, in_module, in_body, nested, Class, a_statement, a_word, a_key, a_private_or_key, an_inner_key, an_expression, a_link, an_argument, Slot, one, one_or_absent, many, many_or_holes, many_and_rest, many_or_holes_and_rest, quasis, is_text, none_if, statement_slots, word_slots, slots_of, Filling, refused, these, each, each_or_last, pieces, filling_by, filling, class_of, is_whole, is_strict_in, is_last, fits, fill}
+use Rattle.mini_kept.proofs.Bools.{right}
+use Rattle.mini_kept.proofs.Expressions.{refused_here}
+use Rattle.mini_kept.proofs.Quiet.{is_quiet}
+use Rattle.mini_rows.specs.Sketches.{Head, AbsentPart, AList, Number, PropertyName, Call, StaticMember, ComputedMember, shape_by, Sketch, part, under, list, Sketches, end, ◌▹◌, Items, no_items, item, items, Parts, list_at, before, filled, all_filled, items_filled, Asked, AsWhole, AsWholeItem, AsValue, AsValues, AsWord, AsBranch, asked_below, item_asked, parts_of, parts_from, parts_in, is_expression_head}
+use Rattle.mini_rows.proofs.Arranging.{All, Each, both_each}
+
+abbrev pub is_no_inner : Shape → Bool
+is_no_inner shape.InnerExpression = false
+is_no_inner h = true
+
+-- the shapes of expressions, and some others
+abbrev pub is_value : Shape → Bool
+is_value h = is_quiet h && is_no_inner h
+
+-- ---- the slots of expressions
+
+abbrev suits : Asked → Slot → Bool
+suits c (quasis g) = false
+suits AsValue (one an_expression) = true
+suits AsValue (one a_link) = true
+suits AsValue (one an_argument) = true
+suits AsValue (one_or_absent an_argument) = true
+suits AsValue s = false
+suits AsValues (many an_expression) = true
+suits AsValues (many an_argument) = true
+suits AsValues (many_or_holes an_argument) = true
+suits AsValues s = false
+suits c s = true
+
+abbrev is_refused : Filling → Bool
+is_refused refused = true
+is_refused g = false
+
+refused_is : (g : Filling) → is_refused g ≡ true → g ≡ refused
+refused_is refused e = refl
+refused_is g e = absurd (cc e)
+
+expression_or_refused : (strict : Bool) (h : Shape) → (is_value h || is_refused (filling strict (one an_expression) h)) ≡ true
+expression_or_refused strict (shape.Function true g ds) = refl
+expression_or_refused strict (shape.Function false g ds) = refl
+expression_or_refused strict (shape.Class true) = refl
+expression_or_refused strict (shape.Class false) = refl
+expression_or_refused strict h = refl
+
+link_or_refused : (strict : Bool) (h : Shape) → (is_value h || is_refused (filling strict (one a_link) h)) ≡ true
+link_or_refused strict (shape.Function true g ds) = refl
+link_or_refused strict (shape.Function false g ds) = refl
+link_or_refused strict (shape.Class true) = refl
+link_or_refused strict (shape.Class false) = refl
+link_or_refused strict h = refl
+
+argument_or_refused : (strict : Bool) (h : Shape) → (is_value h || is_refused (filling strict (one an_argument) h)) ≡ true
+argument_or_refused strict (shape.Function true g ds) = refl
+argument_or_refused strict (shape.Function false g ds) = refl
+argument_or_refused strict (shape.Class true) = refl
+argument_or_refused strict (shape.Class false) = refl
+argument_or_refused strict h = refl
+
+element_or_refused : (strict : Bool) (h : Shape) → (is_value h || is_refused (filling strict (one_or_absent an_argument) h)) ≡ true
+element_or_refused strict (shape.Function true g ds) = refl
+element_or_refused strict (shape.Function false g ds) = refl
+element_or_refused strict (shape.Class true) = refl
+element_or_refused strict (shape.Class false) = refl
+element_or_refused strict h = refl
+
+value_or : (strict : Bool) (s : Slot) (t : Tree) → (is_value (shape_of t) || is_refused (filling strict s (shape_of t))) ≡ true → fits strict s t ≡ true → is_value (shape_of t) ≡ true
+value_or strict s (node h xs n ts) e f = by (is_value h) e
+  where
+    by : (b : Bool) → (b || is_refused (filling strict s h)) ≡ true → b ≡ true
+    by true e = refl
+    by false e = absurd (refused_here strict s h xs n ts (refused_is (filling strict s h) e) f)
+
+value_fits : (strict : Bool) (s : Slot) (t : Tree) → suits AsValue s ≡ true → fits strict s t ≡ true → is_value (shape_of t) ≡ true
+value_fits strict (one an_expression) t e f = value_or strict (one an_expression) t (expression_or_refused strict (shape_of t)) f
+value_fits strict (one a_link) t e f = value_or strict (one a_link) t (link_or_refused strict (shape_of t)) f
+value_fits strict (one an_argument) t e f = value_or strict (one an_argument) t (argument_or_refused strict (shape_of t)) f
+value_fits strict (one_or_absent an_argument) t e f = value_or strict (one_or_absent an_argument) t (element_or_refused strict (shape_of t)) f
+value_fits strict s t e f = absurd (cc e)
+
+-- ---- the slots below plain heads
+
+abbrev slots_suit : (ℕ → Asked) → ℕ → List Slot → Bool
+slots_suit cs i [] = true
+slots_suit cs i (s ∷ ss) = suits (cs i) s && slots_suit cs (suc i) ss
+
+abbrev option_suits : (ℕ → Asked) → Option (List Slot) → Bool
+option_suits cs None = true
+option_suits cs (Some ss) = slots_suit cs 0 ss
+
+statement_suits : (strict : Bool) (d : Depth) (h : Head) (c : Asked) → option_suits (asked_below h c) (statement_slots strict d (shape_by h)) ≡ true
+statement_suits true in_module AList c = refl
+statement_suits true in_module h c = refl
+statement_suits true in_body AList c = refl
+statement_suits true in_body h c = refl
+statement_suits true nested AList c = refl
+statement_suits true nested h c = refl
+statement_suits false in_module AList c = refl
+statement_suits false in_module h c = refl
+statement_suits false in_body AList c = refl
+statement_suits false in_body h c = refl
+statement_suits false nested AList c = refl
+statement_suits false nested h c = refl
+
+no_slots : (b : Bool) (cs : ℕ → Asked) → option_suits cs (none_if b (Some [])) ≡ true
+no_slots true cs = refl
+no_slots false cs = refl
+
+word_suits : (w : List ℕ) (h : Head) (c : Asked) → option_suits (asked_below h c) (word_slots w (shape_by h)) ≡ true
+word_suits w (PropertyName s) c = no_slots (not (is_text s w)) (asked_below (PropertyName s) c)
+word_suits w h c = refl
+
+pub class_suits : (strict : Bool) (k : Class) (h : Head) (c : Asked) → option_suits (asked_below h c) (slots_of strict k (shape_by h)) ≡ true
+class_suits strict (a_statement d) h c = statement_suits strict d h c
+class_suits strict (a_word w) h c = word_suits w h c
+class_suits strict (a_key true) AList c = refl
+class_suits strict (a_private_or_key true) AList c = refl
+class_suits strict (an_inner_key true) AList c = refl
+class_suits strict k (Number (pos n)) c = refl
+class_suits strict k (Number (negsuc n)) c = refl
+class_suits strict k (Call true) c = refl
+class_suits strict k (Call false) c = refl
+class_suits strict k (StaticMember true) c = refl
+class_suits strict k (StaticMember false) c = refl
+class_suits strict k (ComputedMember true) c = refl
+class_suits strict k (ComputedMember false) c = refl
+class_suits strict k h c = refl
+
+abbrev Suits : (ℕ → Asked) → ℕ → Filling → Type 0
+Suits cs i refused = Unit {0}
+Suits cs i (these ss) = slots_suit cs i ss ≡ true
+Suits cs i (each s) = (j : ℕ) → suits (cs j) s ≡ true
+Suits cs i (each_or_last s l) = (j : ℕ) → (suits (cs j) s ≡ true) × (suits (cs j) l ≡ true)
+Suits cs i (pieces g) = ⊥
+
+of_option : (cs : ℕ → Asked) (o : Option (List Slot)) → option_suits cs o ≡ true → Suits cs 0 (filling_by o)
+of_option cs None e = tt
+of_option cs (Some ss) e = e
+
+filling_suits : (strict : Bool) (s : Slot) (h : Head) (c : Asked) → (is_expression_head h || suits c s) ≡ true → Suits (asked_below h c) 0 (filling strict s (shape_by h))
+filling_suits strict (one k) h c e = of_option (asked_below h c) (slots_of strict k (shape_by h)) (class_suits strict k h c)
+filling_suits strict (one_or_absent k) AbsentPart c e = refl
+filling_suits strict (one_or_absent k) h c e = of_option (asked_below h c) (slots_of strict k (shape_by h)) (class_suits strict k h c)
+filling_suits strict (many k) AList AsWhole e = λ j. refl
+filling_suits strict (many k) AList AsWholeItem e = λ j. refl
+filling_suits strict (many k) AList AsWord e = λ j. refl
+filling_suits strict (many k) AList AsBranch e = λ j. refl
+filling_suits strict (many k) AList AsValue e = absurd (cc e)
+filling_suits strict (many an_expression) AList AsValues e = λ j. refl
+filling_suits strict (many an_argument) AList AsValues e = λ j. refl
+filling_suits strict (many k) AList AsValues e = absurd (cc e)
+filling_suits strict (many k) h c e = tt
+filling_suits strict (many_or_holes k) AList AsWhole e = λ j. refl
+filling_suits strict (many_or_holes k) AList AsWholeItem e = λ j. refl
+filling_suits strict (many_or_holes k) AList AsWord e = λ j. refl
+filling_suits strict (many_or_holes k) AList AsBranch e = λ j. refl
+filling_suits strict (many_or_holes k) AList AsValue e = absurd (cc e)
+filling_suits strict (many_or_holes an_argument) AList AsValues e = λ j. refl
+filling_suits strict (many_or_holes k) AList AsValues e = absurd (cc e)
+filling_suits strict (many_or_holes k) h c e = tt
+filling_suits strict (many_and_rest k r) AList AsValue e = absurd (cc e)
+filling_suits strict (many_and_rest k r) AList AsValues e = absurd (cc e)
+filling_suits strict (many_and_rest k r) AList c e = λ j. (refl, refl)
+filling_suits strict (many_and_rest k r) h c e = tt
+filling_suits strict (many_or_holes_and_rest k r) AList AsValue e = absurd (cc e)
+filling_suits strict (many_or_holes_and_rest k r) AList AsValues e = absurd (cc e)
+filling_suits strict (many_or_holes_and_rest k r) AList c e = λ j. (refl, refl)
+filling_suits strict (many_or_holes_and_rest k r) h c e = tt
+filling_suits strict (quasis g) AList c e = absurd (cc e)
+filling_suits strict (quasis g) h c e = tt
+
+-- a list holds any number of items
+is_list_filling : Filling → Bool
+is_list_filling (these ss) = false
+is_list_filling g = true
+
+no_list_statement : (strict : Bool) (d : Depth) → statement_slots strict d shape.Listed ≡ None
+no_list_statement true in_module = refl
+no_list_statement true in_body = refl
+no_list_statement true nested = refl
+no_list_statement false in_module = refl
+no_list_statement false in_body = refl
+no_list_statement false nested = refl
+
+no_list : (strict : Bool) (k : Class) → slots_of strict k shape.Listed ≡ None
+no_list strict (a_statement d) = no_list_statement strict d
+no_list strict (a_key true) = refl
+no_list strict (a_key false) = refl
+no_list strict (a_private_or_key true) = refl
+no_list strict (a_private_or_key false) = refl
+no_list strict (an_inner_key true) = refl
+no_list strict (an_inner_key false) = refl
+no_list strict k = refl
+
+list_filling : (strict : Bool) (s : Slot) → is_list_filling (filling strict s shape.Listed) ≡ true
+unfolding is_list_filling
+list_filling strict (one k) = ap (λ o. is_list_filling (filling_by o)) (no_list strict k)
+list_filling strict (one_or_absent k) = ap (λ o. is_list_filling (filling_by o)) (no_list strict k)
+list_filling strict s = refl
+
+listed_not : (strict : Bool) (s : Slot) (ss : List Slot) → filling strict s shape.Listed ≡ these ss → ⊥
+unfolding is_list_filling
+listed_not strict s ss e = cc (sym (list_filling strict s) ∙ ap is_list_filling e)
+
+-- ---- parts
+
+abbrev pub Valued : Asked → Tree → Type 0
+Valued AsValue t = is_value (shape_of t) ≡ true
+Valued c t = Unit {0}
+
+valued : (strict : Bool) (c : Asked) (s : Slot) (t : Tree) → suits c s ≡ true → fits strict s t ≡ true → Valued c t
+valued strict AsValue s t e f = value_fits strict s t e f
+valued strict c s t e f = tt
+
+or_true : (b : Bool) → (b || true) ≡ true
+or_true true = refl
+or_true false = refl
+
+either_fits : (a l b : Bool) → (a || (l && b)) ≡ true → (a ≡ true) ⊎ (b ≡ true)
+either_fits true l b e = inl refl
+either_fits false true b e = inr e
+either_fits false false b e = absurd (cc e)
+
+module _ (ps : Parts) where
+  stretch_valued : (strict : Bool) (c : Asked) (g : Filling) → Suits (λ j. c) 0 g → ((ss : List Slot) → g ≡ these ss → ⊥) → (ts us : Trees) → fill strict g (before ts us) ≡ true → All Valued c ts × (fill strict g us ≡ true)
+  stretch_valued strict c refused k n none us f = (tt, f)
+  stretch_valued strict c refused k n (t ▸ ts) us f = absurd (cc f)
+  stretch_valued strict c (these ss) k n ts us f = absurd (n ss refl)
+  stretch_valued strict c (each s) k n none us f = (tt, f)
+  stretch_valued strict c (each s) k n (t ▸ ts) us f =
+      let (x, y) = and_parts (fits strict s t) (fill strict (each s) (before ts us)) f in
+      let (a, b) = stretch_valued strict c (each s) k n ts us y in
+      ((valued strict c s t (k 0) x, a), b)
+  stretch_valued strict c (each_or_last s l) k n none us f = (tt, f)
+  stretch_valued strict c (each_or_last s l) k n (t ▸ ts) us f =
+      let (x, y) = and_parts (fits strict s t || (is_last (before ts us) && fits strict l t)) (fill strict (each_or_last s l) (before ts us)) f in
+      let (a, b) = stretch_valued strict c (each_or_last s l) k n ts us y in
+      ((elim (either_fits (fits strict s t) (is_last (before ts us)) (fits strict l t) x) [ inl w ↦ valued strict c s t (k 0).0 w | inr w ↦ valued strict c l t (k 0).1 w ], a), b)
+  stretch_valued strict c (pieces g) k n ts us f = absurd k
+
+  mutual
+    pub sketch_valued : (strict : Bool) (c : Asked) (s : Slot) (r : Sketch) → suits c s ≡ true → fits strict s (filled ps r) ≡ true → Each Valued ps (parts_of c r)
+    sketch_valued strict c s (part i) e f = (valued strict c s (child_or_absent ps.trees i) e f, tt)
+    sketch_valued strict c s (under h ss) e f =
+        sketches_valued (is_strict_in strict (shape_by h)) (asked_below h c) 0 (filling strict s (shape_by h)) (filling_suits strict s h c (ap (λ b. is_expression_head h || b) e ∙ or_true (is_expression_head h))) ss
+        (right (is_whole (class_of s) (shape_by h) [] 0 (all_filled ps ss)) (fill (is_strict_in strict (shape_by h)) (filling strict s (shape_by h)) (all_filled ps ss)) f)
+    sketch_valued strict c s (list is) e f =
+        items_valued strict (item_asked c) (filling strict s shape.Listed) (filling_suits strict s AList c e) (listed_not strict s) is
+        (right (is_whole (class_of s) shape.Listed [] 0 (items_filled ps is)) (fill strict (filling strict s shape.Listed) (items_filled ps is)) f)
+
+    sketches_valued : (strict : Bool) (cs : ℕ → Asked) (i : ℕ) (g : Filling) → Suits cs i g → (ss : Sketches) → fill strict g (all_filled ps ss) ≡ true → Each Valued ps (parts_from cs i ss)
+    sketches_valued strict cs i g k end f = tt
+    sketches_valued strict cs i refused k (s ▹ ss) f = absurd (cc f)
+    sketches_valued strict cs i (these []) k (s ▹ ss) f = absurd (cc f)
+    sketches_valued strict cs i (these (x ∷ xs)) k (s ▹ ss) f =
+        let (a, b) = and_parts (fits strict x (filled ps s)) (fill strict (these xs) (all_filled ps ss)) f in
+        let (v, w) = and_parts (suits (cs i) x) (slots_suit cs (suc i) xs) k in
+        both_each Valued ps (parts_of (cs i) s) (parts_from cs (suc i) ss) (sketch_valued strict (cs i) x s v a) (sketches_valued strict cs (suc i) (these xs) w ss b)
+    sketches_valued strict cs i (each x) k (s ▹ ss) f =
+        let (a, b) = and_parts (fits strict x (filled ps s)) (fill strict (each x) (all_filled ps ss)) f in
+        both_each Valued ps (parts_of (cs i) s) (parts_from cs (suc i) ss) (sketch_valued strict (cs i) x s (k i) a) (sketches_valued strict cs (suc i) (each x) k ss b)
+    sketches_valued strict cs i (each_or_last x l) k (s ▹ ss) f =
+        let (a, b) = and_parts (fits strict x (filled ps s) || (is_last (all_filled ps ss) && fits strict l (filled ps s))) (fill strict (each_or_last x l) (all_filled ps ss)) f in
+        both_each Valued ps (parts_of (cs i) s) (parts_from cs (suc i) ss)
+        (elim (either_fits (fits strict x (filled ps s)) (is_last (all_filled ps ss)) (fits strict l (filled ps s)) a) [ inl w ↦ sketch_valued strict (cs i) x s (k i).0 w | inr w ↦ sketch_valued strict (cs i) l s (k i).1 w ])
+        (sketches_valued strict cs (suc i) (each_or_last x l) k ss b)
+    sketches_valued strict cs i (pieces g) k (s ▹ ss) f = absurd k
+
+    items_valued : (strict : Bool) (c : Asked) (g : Filling) → Suits (λ j. c) 0 g → ((xs : List Slot) → g ≡ these xs → ⊥) → (is : Items) → fill strict g (items_filled ps is) ≡ true → Each Valued ps (parts_in c is)
+    items_valued strict c g k n no_items f = tt
+    items_valued strict c g k n (items i is) f =
+        let (a, b) = stretch_valued strict c g k n (list_at ps.lists i) (items_filled ps is) f in
+        (a, items_valued strict c g k n is b)
+    items_valued strict c refused k n (item s is) f = absurd (cc f)
+    items_valued strict c (these xs) k n (item s is) f = absurd (n xs refl)
+    items_valued strict c (each x) k n (item s is) f =
+        let (a, b) = and_parts (fits strict x (filled ps s)) (fill strict (each x) (items_filled ps is)) f in
+        both_each Valued ps (parts_of c s) (parts_in c is) (sketch_valued strict c x s (k 0) a) (items_valued strict c (each x) k n is b)
+    items_valued strict c (each_or_last x l) k n (item s is) f =
+        let (a, b) = and_parts (fits strict x (filled ps s) || (is_last (items_filled ps is) && fits strict l (filled ps s))) (fill strict (each_or_last x l) (items_filled ps is)) f in
+        both_each Valued ps (parts_of c s) (parts_in c is)
+        (elim (either_fits (fits strict x (filled ps s)) (is_last (items_filled ps is)) (fits strict l (filled ps s)) a) [ inl w ↦ sketch_valued strict c x s (k 0).0 w | inr w ↦ sketch_valued strict c l s (k 0).1 w ])
+        (items_valued strict c (each_or_last x l) k n is b)
+    items_valued strict c (pieces g) k n (item s is) f = absurd k
+
+  -- below the head of an expression, in any slot
+  pub head_valued : (strict : Bool) (c : Asked) (s : Slot) (h : Head) (ss : Sketches) → is_expression_head h ≡ true → fits strict s (filled ps (under h ss)) ≡ true → Each Valued ps (parts_of c (under h ss))
+  head_valued strict c s h ss e f =
+      sketches_valued (is_strict_in strict (shape_by h)) (asked_below h c) 0 (filling strict s (shape_by h)) (filling_suits strict s h c (ap (λ b. b || suits c s) e)) ss
+      (right (is_whole (class_of s) (shape_by h) [] 0 (all_filled ps ss)) (fill (is_strict_in strict (shape_by h)) (filling strict s (shape_by h)) (all_filled ps ss)) f)

@@ -1,0 +1,40 @@
+-- What is built anew of the same parts keeps all that a program has to keep, but for its meaning and its shape.
+use Rattle.std.specs.Prelude.{◌≡◌, Bool, true, false, Contains, None}
+use Rattle.mini_model.specs.declared.name.Name.{Name}
+use Rattle.mini_model.specs.declared.place.Position.{Position}
+use Rattle.mini_model.specs.declared.place.Position.TheVariants.{Expr}
+use Rattle.mini_model.specs.declared.seat.Seat.{Seat}
+use Rattle.mini_model.specs.Tree.{Tree, shape_of}
+use Rattle.mini_model.specs.Redex.{Row40}
+use Rattle.mini_accept.specs.WellShaped.{Depth, a_statement, a_default_export, Slot, one, fits}
+use Rattle.mini_meaning.specs.Value.{Variable}
+use Rattle.mini_meaning.specs.Fixity.{fixed_by}
+use Rattle.mini_meaning.specs.Bodies.{Around, bodies, arrow_kind}
+use Rattle.mini_kept.specs.AlikeBodies.{BodiesKept}
+use Rattle.mini_kept.specs.Declaring.{declared}
+use Rattle.mini_kept.specs.Frames.{is_declaration, is_port, frames, FramesKept}
+use Rattle.mini_kept.specs.KeepsNames.{Keeps}
+use Rattle.mini_kept.specs.Lifted.{is_piece}
+use Rattle.mini_kept.specs.Standing.{Stands}
+use Rattle.mini_rows.specs.Sketches.{Sketch, Parts, filled, rearranges_expression}
+
+-- of one node and what is written for it: what a lawful relation keeps of it
+pub record KeptAt (p : Position) (n w : Tree) : Type 0 where
+  pub keeps : (strict : Bool) (s : Slot) → fits strict s n ≡ true → Keeps p n w
+  pub piece : is_piece (shape_of n) ≡ false
+  pub kind : (strict : Bool) (s : Slot) → fits strict s n ≡ true → arrow_kind (shape_of n) ≡ arrow_kind (shape_of w)
+  pub bodies : (strict : Bool) (s : Slot) → fits strict s n ≡ true → (a : Around) → Stands s p a → BodiesKept (bodies a n) (bodies a w)
+  pub ports : (strict : Bool) (d : Depth) → fits strict (one (a_statement d)) n ≡ true → (is_module : Bool) → (is_port is_module (shape_of n) ≡ false) × (is_port is_module (shape_of w) ≡ false)
+  pub exported : (strict : Bool) → fits strict (one a_default_export) n ≡ true → (is_declaration (shape_of n) ≡ false) × (is_declaration (shape_of w) ≡ false)
+  pub frames : (strict : Bool) (s : Slot) → fits strict s n ≡ true → FramesKept (frames None n) (frames None w)
+  pub fixed : (x : Variable) → fixed_by n x ≡ fixed_by w x
+  pub declared : (x : Name) → Contains (declared w) x → Contains (declared n) x
+
+-- an expression that is built anew of the parts of another is kept
+abbrev pub ExpressionsArranged : Type 0
+ExpressionsArranged =
+    (ps : Parts) (s r : Sketch) → rearranges_expression s r ≡ true → (q : Seat) (n w : Tree) → n ≡ filled ps s → w ≡ filled ps r → KeptAt (Expr q) n w
+
+-- So is what the row 40 writes, `a ? c : b` for `!a ? b : c`
+abbrev pub Row40Kept : Type 0
+Row40Kept = (q : Seat) (n w : Tree) → Row40 n w → KeptAt (Expr q) n w
