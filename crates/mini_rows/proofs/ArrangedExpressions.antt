@@ -21,14 +21,14 @@ use Rattle.mini_meaning.specs.Bodies.{Around, bodies, arrow_kind}
 use Rattle.mini_kept.specs.AlikeBodies.{BodiesKept}
 use Rattle.mini_kept.specs.Declaring.{declared}
 use Rattle.mini_kept.specs.Frames.{is_declaration, frames}
-use Rattle.mini_kept.specs.KeepsNames.{Keeps, Stands as StandsFor, is_read}
+use Rattle.mini_kept.specs.KeepsNames.{Keeps, Stands as StandsFor, is_read, unplaced}
 use Rattle.mini_kept.specs.Lifted.{is_piece}
 use Rattle.mini_kept.specs.Standing.{is_method_slot}
 use Rattle.mini_kept.proofs.Anywhere.{once_anywhere, targets_anywhere}
 use Rattle.mini_kept.proofs.Bools.{left, right}
 use Rattle.mini_kept.proofs.BodyLists.{kept_itself}
 use Rattle.mini_kept.proofs.Expressions.{refused_here}
-use Rattle.mini_kept.proofs.Quiet.{is_quiet, IsQuiet, no_names, no_declarations, no_body_names, no_body_declarations, no_loop, same_symbols}
+use Rattle.mini_kept.proofs.Quiet.{is_quiet, IsQuiet, no_names, no_body_names, no_body_declarations, no_loop, same_symbols}
 use Rattle.mini_rows.specs.Sketches.{Head, AList, Empty, OfExpression, Throw, If, shape_by, Sketch, part, under, list, Sketches, Parts, filled, all_filled, Asked, AsValue, parts_of, has_as_often, has_each, is_rearranged, is_expression_head, is_expression}
 use Rattle.mini_rows.specs.Arranged.{KeptAt, ExpressionsArranged}
 use Rattle.mini_rows.proofs.Arranging.{Each, Local, rearranged, sum_rearranged, some_each, often_each}
@@ -185,8 +185,7 @@ module _ (ps : Parts) (h : Head) (ss : Sketches) (r : Sketch) (e : is_expression
     kept = same_kept a b;
     scoped = λ v env k y. subst (λ u. Scoped u env w) (sym (read_here q v k)) (forth (ScopedAs Read env) (scoped_local Read env) (subst (λ u. Scoped u env n) (read_here q v k) y));
     numbers = λ k. sum_rearranged (number_times k) (numbers_summed k) ps AsValue (under h ss) r often;
-    declared = λ d l p. no_declarations d l p w b ∙ sym (no_declarations d l p n a);
-    declared_as_body = λ l p. no_body_declarations l p w b ∙ sym (no_body_declarations l p n a);
+    declared_as_body = λ l p. ap unplaced (no_body_declarations l p w b ∙ sym (no_body_declarations l p n a));
     once = λ p k. once_anywhere [] p w (forth Once once_local (once_anywhere p [] n k));
     targets = λ g p k. targets_anywhere g [] p w (forth (Aimed g) (aimed_local g) (targets_anywhere g p [] n k));
     loop = no_loop w b ∙ sym (no_loop n a);
@@ -212,13 +211,13 @@ module _ (ps : Parts) (h : Head) (ss : Sketches) (r : Sketch) (e : is_expression
 
   pub expression_kept : (q : Seat) → KeptAt (Expr q) n w
   expression_kept q = record {
-    keeps = λ strict s f. names_kept q (quiet_of n n_value) (quiet_of w (w_value strict s f));
+    keeps = λ strict s o f. names_kept q (quiet_of n n_value) (quiet_of w (w_value strict s f));
     piece = no_piece h;
     kind = λ strict s f. kind_of_value (shape_of n) n_value ∙ sym (kind_of_value (shape_of w) (w_value strict s f));
-    bodies = λ strict s f a k. bodies_kept a (k.function (method_slot strict s f)) (w_value strict s f);
+    bodies = λ strict s o f a k. bodies_kept a (k.function (method_slot strict s f)) (w_value strict s f);
     ports = λ strict d f. absurd (no_port strict d f);
     exported = λ strict f. (undeclared (shape_of n) n_value, undeclared (shape_of w) (w_value strict (one a_default_export) f));
-    frames = λ strict s f. forth (HasFrames (frames None n)) (frames_local (frames None n)) (λ y k. k);
+    frames = λ strict s o f. forth (HasFrames (frames None n)) (frames_local (frames None n)) (λ y k. k);
     fixed = same_fixed;
     declared = forth (Declares (declared n)) (declares_local (declared n)) (λ y k. k);
   }

@@ -15,18 +15,19 @@ use Rattle.mini_kept.specs.Declaring.{declared}
 use Rattle.mini_kept.specs.Frames.{is_declaration, is_port, frames, FramesKept}
 use Rattle.mini_kept.specs.KeepsNames.{Keeps}
 use Rattle.mini_kept.specs.Lifted.{is_piece}
+use Rattle.mini_kept.specs.Placed.{fits_place}
 use Rattle.mini_kept.specs.Standing.{Stands}
 use Rattle.mini_rows.specs.Sketches.{Sketch, Parts, filled, rearranges_expression}
 
 -- of one node and what is written for it: what a lawful relation keeps of it
 pub record KeptAt (p : Position) (n w : Tree) : Type 0 where
-  pub keeps : (strict : Bool) (s : Slot) → fits strict s n ≡ true → Keeps p n w
+  pub keeps : (strict : Bool) (s : Slot) → fits_place p s ≡ true → fits strict s n ≡ true → Keeps p n w
   pub piece : is_piece (shape_of n) ≡ false
   pub kind : (strict : Bool) (s : Slot) → fits strict s n ≡ true → arrow_kind (shape_of n) ≡ arrow_kind (shape_of w)
-  pub bodies : (strict : Bool) (s : Slot) → fits strict s n ≡ true → (a : Around) → Stands s p a → BodiesKept (bodies a n) (bodies a w)
+  pub bodies : (strict : Bool) (s : Slot) → fits_place p s ≡ true → fits strict s n ≡ true → (a : Around) → Stands s p a → BodiesKept (bodies a n) (bodies a w)
   pub ports : (strict : Bool) (d : Depth) → fits strict (one (a_statement d)) n ≡ true → (is_module : Bool) → (is_port is_module (shape_of n) ≡ false) × (is_port is_module (shape_of w) ≡ false)
   pub exported : (strict : Bool) → fits strict (one a_default_export) n ≡ true → (is_declaration (shape_of n) ≡ false) × (is_declaration (shape_of w) ≡ false)
-  pub frames : (strict : Bool) (s : Slot) → fits strict s n ≡ true → FramesKept (frames None n) (frames None w)
+  pub frames : (strict : Bool) (s : Slot) → fits_place p s ≡ true → fits strict s n ≡ true → FramesKept (frames None n) (frames None w)
   pub fixed : (x : Variable) → fixed_by n x ≡ fixed_by w x
   pub declared : (x : Name) → Contains (declared w) x → Contains (declared n) x
 
