@@ -1,0 +1,6 @@
+pub mod Forms
+pub mod SubstituteBoolean
+pub mod ConvertToDottedProperties
+pub mod SubstituteLooseEqualsUndefined
+pub mod SubstituteSwapBinaryExpressions
+pub mod SubstituteYieldExpression

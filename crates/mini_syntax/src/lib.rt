@@ -1,2 +1,11 @@
 //! Rewrites of spellings: each with its rule for the walk.
 #![tactic(auto)]
+
+mod forms;
+mod rewrites;
+
+pub use rewrites::convert_to_dotted_properties::convert_to_dotted_properties;
+pub use rewrites::substitute_boolean::substitute_boolean;
+pub use rewrites::substitute_loose_equals_undefined::substitute_loose_equals_undefined;
+pub use rewrites::substitute_swap_binary_expressions::substitute_swap_binary_expressions;
+pub use rewrites::substitute_yield_expression::substitute_yield_expression;
