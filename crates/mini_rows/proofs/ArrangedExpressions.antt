@@ -216,6 +216,7 @@ module _ (ps : Parts) (h : Head) (ss : Sketches) (r : Sketch) (e : is_expression
     kind = λ strict s f. kind_of_value (shape_of n) n_value ∙ sym (kind_of_value (shape_of w) (w_value strict s f));
     bodies = λ strict s o f a k. bodies_kept a (k.function (method_slot strict s f)) (w_value strict s f);
     ports = λ strict d f. absurd (no_port strict d f);
+    listed = λ l. absurd (cc l);
     exported = λ strict f. (undeclared (shape_of n) n_value, undeclared (shape_of w) (w_value strict (one a_default_export) f));
     frames = λ strict s o f. forth (HasFrames (frames None n)) (frames_local (frames None n)) (λ y k. k);
     fixed = same_fixed;

@@ -17,3 +17,4 @@ pub mod ArrangedBodies
 pub mod ArrangedValues
 pub mod ArrangedExpressions
 pub mod ArrangedRows
+pub mod ArrangedLawful

@@ -2,18 +2,22 @@
 use Rattle.std.specs.Prelude.{◌≡◌, Bool, true, false, Contains, None}
 use Rattle.mini_model.specs.declared.name.Name.{Name}
 use Rattle.mini_model.specs.declared.place.Position.{Position}
-use Rattle.mini_model.specs.declared.place.Position.TheVariants.{Expr}
+use Rattle.mini_model.specs.declared.place.Position.TheVariants.{Expr, StatementList}
 use Rattle.mini_model.specs.declared.seat.Seat.{Seat}
-use Rattle.mini_model.specs.Tree.{Tree, shape_of}
+use Rattle.mini_model.specs.Tree.{Tree, shape_of, children}
 use Rattle.mini_model.specs.Redex.{Row40}
-use Rattle.mini_accept.specs.WellShaped.{Depth, a_statement, a_default_export, Slot, one, fits}
+use Rattle.mini_accept.specs.WellShaped.{Depth, a_statement, a_default_export, Slot, one, many, fits}
 use Rattle.mini_meaning.specs.Value.{Variable}
 use Rattle.mini_meaning.specs.Fixity.{fixed_by}
 use Rattle.mini_meaning.specs.Bodies.{Around, bodies, arrow_kind}
+use Rattle.mini_laws.specs.Rewritten.{MeansSame}
 use Rattle.mini_kept.specs.AlikeBodies.{BodiesKept}
 use Rattle.mini_kept.specs.Declaring.{declared}
-use Rattle.mini_kept.specs.Frames.{is_declaration, is_port, frames, FramesKept}
-use Rattle.mini_kept.specs.KeepsNames.{Keeps}
+use Rattle.mini_kept.specs.Frames.{is_declaration, is_port, ports as ports_of, frames, FramesKept}
+use Rattle.mini_kept.specs.KeepsNames.{is_rewritten_place, Keeps}
+use Rattle.mini_kept.specs.KeepsFrames.{is_body_slot}
+use Rattle.mini_kept.specs.KeepsShapes.{KeepsShapes}
+use Rattle.mini_kept.specs.Lawful.{Lawful}
 use Rattle.mini_kept.specs.Lifted.{is_piece}
 use Rattle.mini_kept.specs.Placed.{fits_place}
 use Rattle.mini_kept.specs.Standing.{Stands}
@@ -26,6 +30,7 @@ pub record KeptAt (p : Position) (n w : Tree) : Type 0 where
   pub kind : (strict : Bool) (s : Slot) → fits strict s n ≡ true → arrow_kind (shape_of n) ≡ arrow_kind (shape_of w)
   pub bodies : (strict : Bool) (s : Slot) → fits_place p s ≡ true → fits strict s n ≡ true → (a : Around) → Stands s p a → BodiesKept (bodies a n) (bodies a w)
   pub ports : (strict : Bool) (d : Depth) → fits strict (one (a_statement d)) n ≡ true → (is_module : Bool) → (is_port is_module (shape_of n) ≡ false) × (is_port is_module (shape_of w) ≡ false)
+  pub listed : p ≡ StatementList → (strict : Bool) (d : Depth) → fits strict (many (a_statement d)) n ≡ true → (is_module : Bool) → ports_of is_module (children n) ≡ ports_of is_module (children w)
   pub exported : (strict : Bool) → fits strict (one a_default_export) n ≡ true → (is_declaration (shape_of n) ≡ false) × (is_declaration (shape_of w) ≡ false)
   pub frames : (strict : Bool) (s : Slot) → fits_place p s ≡ true → fits strict s n ≡ true → FramesKept (frames None n) (frames None w)
   pub fixed : (x : Variable) → fixed_by n x ≡ fixed_by w x
@@ -36,6 +41,15 @@ abbrev pub ExpressionsArranged : Type 0
 ExpressionsArranged =
     (ps : Parts) (s r : Sketch) → rearranges_expression s r ≡ true → (q : Seat) (n w : Tree) → n ≡ filled ps s → w ≡ filled ps r → KeptAt (Expr q) n w
 
--- So is what the row 40 writes, `a ? c : b` for `!a ? b : c`
+-- so is what the row 40 writes, `a ? c : b` for `!a ? b : c`
 abbrev pub Row40Kept : Type 0
 Row40Kept = (q : Seat) (n w : Tree) → Row40 n w → KeptAt (Expr q) n w
+
+-- a relation is lawful if each of its instances is kept, means the same and keeps its shape, where it is made at expressions,
+-- statements and lists of statements, in the slots where a body has them
+abbrev pub KeptIsLawful : (Position → Tree → Tree → Type 0) → Type 0
+KeptIsLawful R =
+    MeansSame R → KeepsShapes R → ((p : Position) (n w : Tree) → R p n w → is_rewritten_place p ≡ true)
+    → ((p : Position) (n w : Tree) → R p n w → (strict : Bool) (s : Slot) → fits_place p s ≡ true → fits strict s n ≡ true → is_body_slot p s ≡ true)
+    → ((p : Position) (n w : Tree) → R p n w → KeptAt p n w)
+    → Lawful R
