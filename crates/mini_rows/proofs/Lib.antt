@@ -5,6 +5,8 @@ pub mod SpellWeights
 pub mod ListStretches
 pub mod ListParts
 pub mod ListStatements
+pub mod ListHeads
+pub mod ListEnds
 pub mod ListMeanings
 pub mod ListWeights
 pub mod BranchMeaning

@@ -1,22 +1,27 @@
 -- What the rows of lists write means the same.
-use Rattle.std.proofs.Common.{◌≡◌, [], None, refl, sym, ap, ◌∙◌, inl, inr}
+use Rattle.std.proofs.Common.{◌≡◌, true, [], None, refl, sym, ap, ◌∙◌, inl, inr}
 use Rattle.mini_model.specs.declared.place.Position.{Position}
 use Rattle.mini_model.specs.declared.place.Position.TheVariants.{StatementList}
-use Rattle.mini_model.specs.Tree.{Tree, Trees, ◌▸◌, empty_statement, expression_statement}
+use Rattle.mini_model.specs.Tree.{Tree, Trees, none, ◌▸◌, absent, empty_statement, expression_statement, if_else, if_alone, conditional}
 use Rattle.mini_model.specs.Paths.{append}
-use Rattle.mini_meaning.specs.State.{State, stop, either, Environment}
-use Rattle.mini_meaning.specs.Demand.{Unused, Demand, As, Stat, Request}
+use Rattle.mini_meaning.specs.Value.{Value, truth, choose}
+use Rattle.mini_meaning.specs.State.{State, Stop, Thrown, Returned, Completion, ok, stop, either, Environment}
+use Rattle.mini_meaning.specs.Demand.{Want, Val, Test, Unused, Says, Demand, As, Stat, Request}
 use Rattle.mini_meaning.specs.Naming.{summary}
 use Rattle.mini_meaning.specs.Fits.{Fits}
 use Rattle.mini_meaning.specs.Step.{means}
-use Rattle.mini_laws.proofs.Runs.{either_cong}
+use Rattle.mini_laws.specs.Truth.{told}
+use Rattle.mini_laws.proofs.Runs.{either_cong, either_assoc, either_ok, either_stop, each_bool}
+use Rattle.mini_laws.proofs.Truth.{coherent}
 use Rattle.mini_laws.proofs.Rows.{Equal, equal_same}
 use Rattle.mini_rows.specs.Switches.{Switches}
-use Rattle.mini_rows.specs.Lists.{of_parts, block, Row66Empty, Row66Joined, Row79, StretchRow, InList, ListRow}
+use Rattle.mini_rows.specs.Lists.{of_parts, block, return_statement, throw_statement, switch, for_loop, declaration, or_void, Head, Return, Throw, If, Switch, For, with_head, may_enter, Row66Empty, Row66Joined, Row67, Row67Absent, Row68, Row73, Row73Bare, Row76, Row79, SequencesRow, StretchRow, InList, ListRow}
 use Rattle.mini_rows.specs.ListLaws.{ListsMeanSame}
-use Rattle.mini_rows.proofs.ListStretches.{SameStretch, exec_one, exec_two, listed_is, in_list, list_does, list_reads, replaced}
+use Rattle.mini_rows.proofs.ListStretches.{ReadSame, SameStretch, exec_one, exec_two, listed_is, in_list, list_does, list_reads, replaced}
 use Rattle.mini_rows.proofs.ListParts.{joined_is}
-use Rattle.mini_rows.proofs.ListStatements.{expression_is, empty_is, read_nothing, block_is}
+use Rattle.mini_rows.proofs.ListStatements.{expression_is, if_is, absent_is, empty_is, return_is, throw_is, conditional_is, or_void_is, declarations_join, declarations_read, one_unscoped, read_nothing, block_is}
+use Rattle.mini_rows.proofs.ListHeads.{Nothing, nothing_by, switch_rest, switch_plain, for_rest, for_is, for_absent_is}
+use Rattle.mini_rows.proofs.ListEnds.{never_goes, ended_tree}
 
 -- `;`
 row_66_empty : (a b : Trees) → Row66Empty a b → SameStretch a b
@@ -39,10 +44,152 @@ row_79 a b r =
     let reads = read_nothing r.statements r.unscoped in
     replaced a _ b _ r.shape r.written (record { by = λ e s. exec_one e (block r.statements) s ∙ block_is e r.statements reads [] s ∙ listed_is e r.statements [] s; read = record { lets = sym reads.lets; functions = sym reads.functions; facts = sym reads.facts; texts = sym reads.texts } })
 
+-- `if (a) return b; return c;`
+
+module _ (f : Value → Stop) (jump : Tree → Tree) (jumps : (e : Environment) (a : Tree) (s : State) → means e (jump a) (Stat None) [] s ≡ either (means e a (As Val) tt s) (λ v z. stop (f v) z) (λ x z. stop x z)) where
+  gives : Environment → Tree → State → Completion (Unit {0})
+  gives e a z = either (means e a (As Val) tt z) (λ v z. stop (f v) z) (λ x z. stop x z)
+
+  taken : (e : Environment) (left right : Tree) (z : State) → either (means e (jump left) (Stat None) [] z) (λ u z. means e (jump right) (Stat None) [] z) (λ x z. stop x z) ≡ gives e (or_void left) z
+  unfolding gives
+  taken e left right z =
+      ap (λ x. either x (λ u z. means e (jump right) (Stat None) [] z) (λ x z. stop x z)) (jumps e left z ∙ ap (λ x. either x (λ v z. stop (f v) z) (λ x z. stop x z)) (sym (or_void_is e left z)))
+      ∙ either_assoc (means e (or_void left) (As Val) tt z) _ _ _ _
+      ∙ either_cong (means e (or_void left) (As Val) tt z) _ _ _ _ (λ v z. either_stop (f v) z _ _) (λ x z. either_stop x z _ _)
+
+  passed : (e : Environment) (right : Tree) (z : State) → either (means e absent (Stat None) [] z) (λ u z. means e (jump right) (Stat None) [] z) (λ x z. stop x z) ≡ gives e right z
+  unfolding gives
+  passed e right z = ap (λ x. either x (λ u z. means e (jump right) (Stat None) [] z) (λ x z. stop x z)) (absent_is e [] z) ∙ either_ok tt z _ _ ∙ jumps e right z
+
+  jumps_join : ((test left right : Tree) → ReadSame (if_alone test (jump left) ▸ (jump right ▸ none)) (jump (conditional test (or_void left) right) ▸ none)) → (a b : Trees) → Row73 jump a b → SameStretch a b
+  unfolding gives
+  jumps_join read a b r = replaced a _ b _ r.shape r.written (record {
+    by = λ e s.
+        exec_two e (if_alone r.test (jump r.left)) (jump r.right) s
+        ∙ ap (λ x. either x (λ u z. means e (jump r.right) (Stat None) [] z) (λ x z. stop x z)) (if_is e r.test (jump r.left) absent [] s)
+        ∙ either_assoc (means e r.test (As Test) tt s) _ _ _ _
+        ∙ either_cong (means e r.test (As Test) tt s) _ (λ t z. choose t (gives e (or_void r.left) z) (gives e r.right z)) _ (λ x z. stop x z) (each_bool _ (λ z. taken e r.left r.right z) (λ z. passed e r.right z)) (λ x z. either_stop x z _ _)
+        ∙ sym (exec_one e (jump (conditional r.test (or_void r.left) r.right)) s ∙ jumps e _ s ∙ ap (λ x. either x (λ v z. stop (f v) z) (λ x z. stop x z)) (conditional_is e r.test (or_void r.left) r.right s)
+        ∙ either_assoc (means e r.test (As Test) tt s) _ _ _ _
+        ∙ either_cong (means e r.test (As Test) tt s) _ (λ t z. choose t (gives e (or_void r.left) z) (gives e r.right z)) _ (λ x z. stop x z) (each_bool _ (λ z. refl) (λ z. refl)) (λ x z. either_stop x z _ _));
+    read = read r.test r.left r.right;
+  })
+
+row_73_return : (a b : Trees) → Row73 return_statement a b → SameStretch a b
+row_73_return = jumps_join Returned return_statement (λ e a s. return_is e a [] s) (λ t l r. record { lets = refl; functions = refl; facts = refl; texts = refl })
+
+row_73_throw : (a b : Trees) → Row73 throw_statement a b → SameStretch a b
+row_73_throw = jumps_join Thrown throw_statement (λ e a s. throw_is e a [] s) (λ t l r. record { lets = refl; functions = refl; facts = refl; texts = refl })
+
+-- a test whose truth nobody uses
+test_unused : (e : Environment) (a : Tree) (s : State) → either (means e a (As Test) tt s) (λ t z. ok tt z) (λ x z. stop x z) ≡ means e a (As Unused) tt s
+unfolding told
+test_unused e a s =
+    ap (λ x. either x (λ t z. ok tt z) (λ x z. stop x z)) (coherent a Test e s)
+    ∙ either_assoc (means e a (As Val) tt s) _ _ _ _
+    ∙ either_cong (means e a (As Val) tt s) _ _ _ _ (λ v z. either_ok (truth v) z _ _) (λ x z. either_stop x z _ _)
+    ∙ sym (coherent a Unused e s)
+
+-- `if (a) return; return;`
+row_73_bare : (a b : Trees) → Row73Bare a b → SameStretch a b
+row_73_bare a b r = replaced a _ b _ r.shape r.written (record {
+  by = λ e s.
+      exec_two e (if_alone r.test (return_statement absent)) (return_statement absent) s
+      ∙ ap (λ x. either x (λ u z. means e (return_statement absent) (Stat None) [] z) (λ x z. stop x z)) (if_is e r.test (return_statement absent) absent [] s)
+      ∙ either_assoc (means e r.test (As Test) tt s) _ _ _ _
+      ∙ either_cong (means e r.test (As Test) tt s) _ (λ t z. means e (return_statement absent) (Stat None) [] z) _ (λ x z. stop x z) (each_bool _ (λ z. bare e z) (λ z. ap (λ x. either x (λ u z. means e (return_statement absent) (Stat None) [] z) (λ x z. stop x z)) (absent_is e [] z) ∙ either_ok tt z _ _)) (λ x z. either_stop x z _ _)
+      ∙ sym (exec_two e (expression_statement r.test) (return_statement absent) s
+      ∙ ap (λ x. either x (λ u z. means e (return_statement absent) (Stat None) [] z) (λ x z. stop x z)) (expression_is e r.test [] s ∙ sym (test_unused e r.test s))
+      ∙ either_assoc (means e r.test (As Test) tt s) _ _ _ _
+      ∙ either_cong (means e r.test (As Test) tt s) _ (λ t z. means e (return_statement absent) (Stat None) [] z) _ (λ x z. stop x z) (λ t z. either_ok tt z _ _) (λ x z. either_stop x z _ _));
+  read = record { lets = refl; functions = refl; facts = refl; texts = refl };
+})
+  where
+    bare : (e : Environment) (z : State) → either (means e (return_statement absent) (Stat None) [] z) (λ u z. means e (return_statement absent) (Stat None) [] z) (λ x z. stop x z) ≡ means e (return_statement absent) (Stat None) [] z
+    bare e z = never_goes (means e (return_statement absent) (Stat None) [] z) (ended_tree e (return_statement absent) refl [] z) _
+
+-- `a; return b;`
+
+-- a head that asks its expression first, and then does what that makes of the reply
+record Heads (w : Want) (head : Tree → Tree) (x y : Tree) : Type 0 where
+  rest : Environment → Says w → State → Completion (Unit {0})
+  before : (e : Environment) (s : State) → means e (head x) (Stat None) [] s ≡ either (means e x (As w) tt s) (λ v z. rest e v z) (λ x z. stop x z)
+  after : (e : Environment) (s : State) → means e (head y) (Stat None) [] s ≡ either (means e y (As w) tt s) (λ v z. rest e v z) (λ x z. stop x z)
+
+into_head : (p : Tree) (ps : Trees) (q : Tree) (qs : Trees) (w : Want) (head : Tree → Tree) → Heads w head (of_parts q qs) (of_parts p (append ps (q ▸ qs))) → ReadSame (expression_statement (of_parts p ps) ▸ (head (of_parts q qs) ▸ none)) (head (of_parts p (append ps (q ▸ qs))) ▸ none) → SameStretch (expression_statement (of_parts p ps) ▸ (head (of_parts q qs) ▸ none)) (head (of_parts p (append ps (q ▸ qs))) ▸ none)
+into_head p ps q qs w head h read = record {
+  by = λ e s.
+      exec_two e (expression_statement (of_parts p ps)) (head (of_parts q qs)) s
+      ∙ ap (λ x. either x (λ u z. means e (head (of_parts q qs)) (Stat None) [] z) (λ x z. stop x z)) (expression_is e (of_parts p ps) [] s)
+      ∙ either_cong (means e (of_parts p ps) (As Unused) tt s) _ _ _ _ (λ u z. h.before e z) (λ x z. sym (either_stop x z _ _))
+      ∙ sym (either_assoc (means e (of_parts p ps) (As Unused) tt s) _ _ _ _)
+      ∙ sym (exec_one e (head (of_parts p (append ps (q ▸ qs)))) s ∙ h.after e s ∙ ap (λ x. either x (λ v z. h.rest e v z) (λ x z. stop x z)) (joined_is e p ps q qs w s));
+  read = read;
+}
+
+joined_nothing : (p : Tree) (ps : Trees) (q : Tree) (qs : Trees) → Nothing (of_parts p (append ps (q ▸ qs)))
+joined_nothing p none q qs = record { lets = refl; functions = refl; facts = refl; declared = refl }
+joined_nothing p (c ▸ ps) q qs = record { lets = refl; functions = refl; facts = refl; declared = refl }
+
+enters : (p : Tree) (ps : Trees) (q : Tree) (qs : Trees) (head : Head) → may_enter head (of_parts q qs) ≡ true → SameStretch (expression_statement (of_parts p ps) ▸ (with_head head (of_parts q qs) ▸ none)) (with_head head (of_parts p (append ps (q ▸ qs))) ▸ none)
+enters p ps q qs Return h = into_head p ps q qs Val return_statement (record { rest = λ e v z. stop (Returned v) z; before = λ e s. return_is e _ [] s; after = λ e s. return_is e _ [] s }) (record { lets = refl; functions = refl; facts = refl; texts = refl })
+enters p ps q qs Throw h = into_head p ps q qs Val throw_statement (record { rest = λ e v z. stop (Thrown v) z; before = λ e s. throw_is e _ [] s; after = λ e s. throw_is e _ [] s }) (record { lets = refl; functions = refl; facts = refl; texts = refl })
+enters p ps q qs (If u v) h = into_head p ps q qs Test (λ t. if_else t u v) (record { rest = λ e t z. choose t (means e u (Stat None) [] z) (means e v (Stat None) [] z); before = λ e s. if_is e _ u v [] s; after = λ e s. if_is e _ u v [] s }) (record { lets = refl; functions = refl; facts = refl; texts = refl })
+enters p ps q qs (Switch cases) h = into_head p ps q qs Val (λ d. switch d cases) (record { rest = λ e v z. switch_rest e [] [] [] cases v z; before = λ e s. switch_plain e (of_parts q qs) cases (nothing_by (of_parts q qs) h) s; after = λ e s. switch_plain e (of_parts p (append ps (q ▸ qs))) cases (joined_nothing p ps q qs) s }) (record { lets = refl; functions = refl; facts = refl; texts = refl })
+enters p ps q qs (For t u b) h = into_head p ps q qs Unused (λ i. for_loop i t u b) (record { rest = λ e v z. for_rest e t u b [] z; before = λ e s. for_is e t u b (of_parts q qs) (nothing_by (of_parts q qs) h) [] s; after = λ e s. for_is e t u b (of_parts p (append ps (q ▸ qs))) (joined_nothing p ps q qs) [] s }) (record { lets = refl; functions = refl; facts = refl; texts = refl })
+
+row_67 : (a b : Trees) → Row67 a b → SameStretch a b
+row_67 a b r = replaced a _ b _ r.shape r.written (enters r.p r.ps r.q r.qs r.head r.enters)
+
+-- `a; for (; b; c) d`
+row_67_absent : (a b : Trees) → Row67Absent a b → SameStretch a b
+row_67_absent a b r = replaced a _ b _ r.shape r.written (record {
+  by = λ e s.
+      exec_two e (expression_statement r.e) (for_loop absent r.test r.update r.body) s
+      ∙ ap (λ x. either x (λ u z. means e (for_loop absent r.test r.update r.body) (Stat None) [] z) (λ x z. stop x z)) (expression_is e r.e [] s)
+      ∙ either_cong (means e r.e (As Unused) tt s) _ _ _ _ (λ u z. for_absent_is e r.test r.update r.body [] z) (λ x z. refl)
+      ∙ sym (exec_one e (for_loop r.e r.test r.update r.body) s ∙ for_is e r.test r.update r.body r.e (nothing_by r.e r.expression) [] s);
+  read = record { lets = refl; functions = refl; facts = refl; texts = refl };
+})
+
+-- `var a; var b;`
+row_68 : (a b : Trees) → Row68 a b → SameStretch a b
+row_68 a b r = replaced a _ b _ r.shape r.written (record {
+  by = λ e s.
+      exec_two e (declaration r.kind r.ds) (declaration r.kind r.es) s
+      ∙ sym (exec_one e (declaration r.kind (append r.ds r.es)) s ∙ declarations_join e r.kind r.ds r.es s);
+  read = declarations_read r.kind r.ds r.es;
+})
+
+-- `if (a) s; else u`
+row_76 : (a b : Trees) → Row76 a b → SameStretch a b
+row_76 a b r =
+    let reads = one_unscoped r.u r.unscoped in
+    replaced a _ b _ r.shape r.written (record {
+      by = λ e s.
+          exec_one e (if_else r.test r.s r.u) s
+          ∙ if_is e r.test r.s r.u [] s
+          ∙ sym (exec_two e (if_alone r.test r.s) r.u s
+          ∙ ap (λ x. either x (λ u z. means e r.u (Stat None) [] z) (λ x z. stop x z)) (if_is e r.test r.s absent [] s)
+          ∙ either_assoc (means e r.test (As Test) tt s) _ _ _ _
+          ∙ either_cong (means e r.test (As Test) tt s) _ (λ t z. choose t (means e r.s (Stat None) [] z) (means e r.u (Stat None) [] z)) _ (λ x z. stop x z) (each_bool _ (λ z. never_goes (means e r.s (Stat None) [] z) (ended_tree e r.s r.terminated [] z) _) (λ z. ap (λ x. either x (λ u z. means e r.u (Stat None) [] z) (λ x z. stop x z)) (absent_is e [] z) ∙ either_ok tt z _ _)) (λ x z. either_stop x z _ _));
+      read = record { lets = sym reads.lets; functions = sym reads.functions; facts = sym reads.facts; texts = sym reads.texts };
+    })
+
+sequences_same : (a b : Trees) → SequencesRow a b → SameStretch a b
+sequences_same a b (inl r) = row_66_joined a b r
+sequences_same a b (inr (inl r)) = row_73_return a b r
+sequences_same a b (inr (inr (inl r))) = row_73_throw a b r
+sequences_same a b (inr (inr (inr (inl r)))) = row_73_bare a b r
+sequences_same a b (inr (inr (inr (inr (inl r))))) = row_67 a b r
+sequences_same a b (inr (inr (inr (inr (inr (inl r)))))) = row_67_absent a b r
+sequences_same a b (inr (inr (inr (inr (inr (inr r)))))) = row_76 a b r
+
 stretch_same : (o : Switches) (a b : Trees) → StretchRow o a b → SameStretch a b
 stretch_same o a b (inl r) = row_66_empty a b r
 stretch_same o a b (inr (inl r)) = row_79 a b r
-stretch_same o a b (inr (inr r)) = row_66_joined a b r.1
+stretch_same o a b (inr (inr (inl r))) = row_68 a b r.1
+stretch_same o a b (inr (inr (inr r))) = sequences_same a b r.1
 
 -- in a list
 list_same : (o : Switches) (n w : Tree) (r : InList (StretchRow o) n w) → SameStretch (append r.before (append r.read r.after)) (append r.before (append r.put r.after))

@@ -1,20 +1,23 @@
 -- What each statement does where no tail is.
-use Rattle.std.proofs.Common.{◌≡◌, true, [], ◌++◌, None, refl, sym, ap, ◌∙◌, true≢false}
+use Rattle.std.proofs.Common.{◌≡◌, Bool, true, List, [], ◌∷◌, ◌++◌, length, None, refl, sym, ap, ◌∙◌, true≢false}
 use Rattle.std.proofs.lemmas.Bool.{and_parts}
+use Rattle.mini_model.specs.declared.kind.VariableDeclarationKind.{VariableDeclarationKind}
 use Rattle.mini_model.specs.declared.kind.VariableDeclarationKind.TheVariants.{Var}
 use Rattle.mini_model.specs.declared.shape.Shape.TheVariants as shape
-use Rattle.mini_model.specs.Tree.{Tree, Trees, node, none, ◌▸◌, absent, listed, empty_statement, expression_statement, if_else}
+use Rattle.mini_model.specs.Tree.{Tree, Trees, node, none, ◌▸◌, absent, listed, empty_statement, expression_statement, if_else, conditional}
+use Rattle.mini_model.specs.Paths.{append}
 use Rattle.mini_meaning.specs.Value.{choose}
-use Rattle.mini_meaning.specs.State.{State, Completion, ok, stop, either, Environment, with_vars}
-use Rattle.mini_meaning.specs.Demand.{Test, Unused, As, Stat, LabelSet}
+use Rattle.mini_meaning.specs.State.{State, Thrown, Returned, Completion, ok, stop, either, Environment, with_vars}
+use Rattle.mini_meaning.specs.Demand.{Val, Test, Unused, As, Stat, Declares, LabelSet}
 use Rattle.mini_meaning.specs.Command.{Naming, ret, kid, then, run, hide_all}
-use Rattle.mini_meaning.specs.Naming.{summaries, facts, lets_all, functions_all, function_facts, function_names, texts_all, naming, facts_all}
+use Rattle.mini_meaning.specs.Naming.{summaries, facts, lets_all, functions_all, function_facts, function_names, texts_all, naming, is_lexical, facts_all}
 use Rattle.mini_meaning.specs.Asking.{first_demand}
-use Rattle.mini_meaning.specs.Statements.{create_functions, block_step, if_step}
+use Rattle.mini_meaning.specs.Lists.{declarators}
+use Rattle.mini_meaning.specs.Statements.{create_functions, block_step, if_step, return_step, throw_step}
 use Rattle.mini_meaning.specs.Step.{step, means, meaning}
-use Rattle.mini_laws.proofs.Runs.{either_cong, either_eta, either_ok, each_bool}
+use Rattle.mini_laws.proofs.Runs.{either_cong, either_assoc, either_eta, either_ok, either_stop, each_bool, runs, run_shift}
 use Rattle.mini_laws.proofs.Tailing.{finished, finish_none, hidden, closed, block_runs}
-use Rattle.mini_rows.specs.Lists.{block, is_unscoped, are_unscoped}
+use Rattle.mini_rows.specs.Lists.{block, return_statement, throw_statement, declaration, or_void, is_unscoped, are_unscoped}
 use Rattle.mini_rows.proofs.ListStretches.{ReadSame, lets_append, functions_append, facts_append, texts_append}
 
 pub expression_is : (e : Environment) (a : Tree) (r : LabelSet) (s : State) → means e (expression_statement a) (Stat None) r s ≡ means e a (As Unused) tt s
@@ -34,6 +37,67 @@ absent_is e r s = refl
 pub empty_is : (e : Environment) (r : LabelSet) (s : State) → means e empty_statement (Stat None) r s ≡ ok tt s
 unfolding means step
 empty_is e r s = refl
+
+pub return_is : (e : Environment) (a : Tree) (r : LabelSet) (s : State) → means e (return_statement a) (Stat None) r s ≡ either (means e a (As Val) tt s) (λ v z. stop (Returned v) z) (λ x z. stop x z)
+unfolding means meaning step
+return_is e a r s = finished e (naming shape.ReturnStatement (Stat None) [] 0 (summaries (a ▸ none))) (λ i. As Val) (λ i r z. meaning e (a ▸ none) i (As Val) r z) None return_step s ∙ finish_none _
+
+pub throw_is : (e : Environment) (a : Tree) (r : LabelSet) (s : State) → means e (throw_statement a) (Stat None) r s ≡ either (means e a (As Val) tt s) (λ v z. stop (Thrown v) z) (λ x z. stop x z)
+unfolding means meaning step
+throw_is e a r s = finished e (naming shape.ThrowStatement (Stat None) [] 0 (summaries (a ▸ none))) (λ i. As Val) (λ i r z. meaning e (a ▸ none) i (As Val) r z) None throw_step s ∙ finish_none _
+
+pub conditional_is : (e : Environment) (a b c : Tree) (s : State) → means e (conditional a b c) (As Val) tt s ≡ either (means e a (As Test) tt s) (λ t z. choose t (means e b (As Val) tt z) (means e c (As Val) tt z)) (λ x z. stop x z)
+unfolding means meaning step
+conditional_is e a b c s = either_cong (means e a (As Test) tt s) _ _ _ _ (each_bool _ (λ z. either_eta (means e b (As Val) tt z)) (λ z. either_eta (means e c (As Val) tt z))) (λ x z. refl)
+
+-- an absent argument is undefined
+pub or_void_is : (e : Environment) (a : Tree) (s : State) → means e (or_void a) (As Val) tt s ≡ means e a (As Val) tt s
+unfolding means meaning step
+or_void_is e (node shape.Absent xs n ts) s = simp runs
+or_void_is e (node h xs n ts) s = refl
+
+-- ---- declarations
+
+-- the declarators, in order
+declare : Environment → Trees → Bool → State → Completion (Unit {0})
+declare e none l s = ok tt s
+declare e (d ▸ ds) l s = either (means e d (Declares l) tt s) (λ u z. declare e ds l z) (λ x z. stop x z)
+
+declarators_run : (e : Environment) (names : Naming) (ds : Trees) (l : Bool) (s : State) → run {q = λ i. Declares l} e names (λ i r z. meaning e ds i (Declares l) r z) (declarators (length (facts ds)) l) s ≡ declare e ds l s
+unfolding meaning declare
+declarators_run e names none l s = refl
+declarators_run e names (d ▸ ds) l s = either_cong (means e d (Declares l) tt s) _ _ _ _ (λ u z. run_shift e names (λ i. Declares l) (declarators (length (facts ds)) l) (λ i r z. meaning e (d ▸ ds) i (Declares l) r z) z ∙ declarators_run e names ds l z) (λ x z. refl)
+
+declares_is : (e : Environment) (ds : Trees) (l : Bool) (s : State) → means e (listed ds) (Declares l) tt s ≡ declare e ds l s
+unfolding means step
+declares_is e ds l s = declarators_run e (naming shape.Listed (Declares l) [] 0 (summaries ds)) ds l s
+
+declaration_is : (e : Environment) (k : VariableDeclarationKind) (ds : Trees) (r : LabelSet) (s : State) → means e (declaration k ds) (Stat None) r s ≡ declare e ds (is_lexical k) s
+unfolding means meaning step
+declaration_is e k ds r s = finished e (naming (shape.VariableDeclaration k) (Stat None) [] 0 (summaries (listed ds ▸ none))) (λ i. Declares (is_lexical k)) (λ i r z. meaning e (listed ds ▸ none) i (Declares (is_lexical k)) r z) None (kid 0 tt (then ret)) s ∙ finish_none _ ∙ either_eta (means e (listed ds) (Declares (is_lexical k)) tt s) ∙ declares_is e ds (is_lexical k) s
+
+declare_append : (e : Environment) (a b : Trees) (l : Bool) (s : State) → declare e (append a b) l s ≡ either (declare e a l s) (λ u z. declare e b l z) (λ x z. stop x z)
+unfolding declare
+declare_append e none b l s = sym (either_ok tt s _ _)
+declare_append e (d ▸ a) b l s = either_cong (means e d (Declares l) tt s) _ _ _ _ (λ u z. declare_append e a b l z) (λ x z. sym (either_stop x z _ _)) ∙ sym (either_assoc (means e d (Declares l) tt s) _ _ _ _)
+
+-- one declaration of the declarators of two does what they do
+pub declarations_join : (e : Environment) (k : VariableDeclarationKind) (ds es : Trees) (s : State) → means e (declaration k (append ds es)) (Stat None) [] s ≡ either (means e (declaration k ds) (Stat None) [] s) (λ u z. means e (declaration k es) (Stat None) [] z) (λ x z. stop x z)
+declarations_join e k ds es s =
+    declaration_is e k (append ds es) [] s ∙ declare_append e ds es (is_lexical k) s
+    ∙ sym (ap (λ x. either x (λ u z. means e (declaration k es) (Stat None) [] z) (λ x z. stop x z)) (declaration_is e k ds [] s)
+    ∙ either_cong (declare e ds (is_lexical k) s) _ _ _ _ (λ u z. declaration_is e k es [] z) (λ x z. refl))
+
+plus_none : {A : Type 0} (a : List A) → a ++ [] ≡ a
+plus_none [] = refl
+plus_none (x ∷ a) = ap (λ l. x ∷ l) (plus_none a)
+
+declared_lets : (k : VariableDeclarationKind) (ds es : Trees) → lets_all (summaries (declaration k ds ▸ (declaration k es ▸ none))) ≡ lets_all (summaries (declaration k (append ds es) ▸ none))
+declared_lets Var ds es = refl
+declared_lets k ds es = ap (λ l. lets_all (summaries ds) ++ l) (plus_none (lets_all (summaries es))) ∙ sym (plus_none _ ∙ lets_append ds es)
+
+pub declarations_read : (k : VariableDeclarationKind) (ds es : Trees) → ReadSame (declaration k ds ▸ (declaration k es ▸ none)) (declaration k (append ds es) ▸ none)
+declarations_read k ds es = record { lets = declared_lets k ds es; functions = refl; facts = refl; texts = refl }
 
 -- ---- blocks without scoped statements
 

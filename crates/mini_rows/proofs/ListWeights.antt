@@ -1,22 +1,26 @@
 -- What the rows of lists write is lighter.
-use Rattle.std.proofs.Common.{◌≡◌, ℕ, suc, ◌+◌, ◌*◌, ◌<◌, ◌≤◌, Bool, true, false, List, refl, sym, ap, ◌∙◌, subst, inl, inr, true≢false, arith}
+use Rattle.std.proofs.Common.{◌≡◌, ℕ, suc, ◌+◌, ◌*◌, ◌<◌, ◌≤◌, Bool, true, false, List, refl, sym, ap, ◌∙◌, subst, inl, inr, true≢false, length, arith}
 use Rattle.std.specs.Prelude.{◌⊎◌, nat_eq, pos, negsuc, if◌then◌else◌}
+use Rattle.std.specs.Fmt.{signed_decimal}
+use Rattle.std.proofs.lemmas.Fmt.{decimal_digit}
+use Rattle.mini_model.specs.declared.kind.VariableDeclarationKind.{VariableDeclarationKind}
+use Rattle.mini_model.specs.declared.kind.VariableDeclarationKind.TheVariants.{Var, Let, Const}
 use Rattle.mini_model.specs.declared.operator.BinaryOperator.TheVariants as binary
 use Rattle.mini_model.specs.declared.operator.LogicalOperator.TheVariants.{Or, And, Coalesce}
 use Rattle.mini_model.specs.declared.place.Position.{Position}
-use Rattle.mini_model.specs.declared.place.Position.TheVariants.{Expr, Stmt, StatementList}
+use Rattle.mini_model.specs.declared.place.Position.TheVariants.{Expr, Stmt, StatementList, CommaList, Elsewhere}
 use Rattle.mini_model.specs.declared.seat.Seat.{Seat}
 use Rattle.mini_model.specs.declared.seat.StmtSeat.TheVariants as stmt_seat
 use Rattle.mini_model.specs.declared.shape.Shape.{Shape}
 use Rattle.mini_model.specs.declared.shape.Shape.TheVariants as shape
-use Rattle.mini_model.specs.Tree.{Tree, Trees, node, none, ◌▸◌, count, shape_of, listed}
+use Rattle.mini_model.specs.Tree.{Tree, Trees, node, none, ◌▸◌, count, shape_of, listed, expression_statement, if_else, if_alone}
 use Rattle.mini_model.specs.Paths.{append}
-use Rattle.mini_model.specs.Position.{seat_of_level, branch_seat, passed_part_seat, part_seat, item_position}
-use Rattle.mini_model.specs.Weight.{Outline, outline, outlines, one_chooses, commas_weight, place_weight, weight, weights}
+use Rattle.mini_model.specs.Position.{seat_of_level, statement_expression_seat, if_test_seat, conditional_test_seat, whole_seat, branch_seat, passed_part_seat, part_seat, item_position}
+use Rattle.mini_model.specs.Weight.{Outline, outline, outlines, one_chooses, commas_weight, declaring_weight, place_weight, weight, weights}
 use Rattle.mini_laws.specs.Weights.{counts_items}
-use Rattle.mini_laws.proofs.Seats.{is_inner, placed, placed_node}
+use Rattle.mini_laws.proofs.Seats.{is_inner, placed, placed_node, moved}
 use Rattle.mini_rows.specs.Switches.{Switches}
-use Rattle.mini_rows.specs.Lists.{of_parts, is_one_part, are_parts, sequence, Row66Empty, Row66Joined, Row79, StretchRow, InList, ListRow, ListsLighter}
+use Rattle.mini_rows.specs.Lists.{of_parts, is_one_part, are_parts, sequence, or_void, return_statement, throw_statement, is_unscoped, Head, Return, Throw, If, Switch, For, with_head, Row66Empty, Row66Joined, Row67, Row67Absent, Row68, Row73, Row73Bare, Row76, Row79, SequencesRow, StretchRow, InList, ListRow, ListsLighter}
 use Rattle.mini_rows.specs.ListLaws.{ListsLighten}
 
 -- the statements of a list, wherever in it they stand
@@ -141,10 +145,121 @@ row_79 a b r =
     let items = list_is r.statements in
     replaced a _ b _ r.shape r.written (record { lighter = omega (arith, items); chosen = inl refl; some = λ e. omega (arith, e) })
 
+-- `if (a) return b; return c;`
+
+void_falls : (t : Tree) → weight (Expr (branch_seat whole_seat)) (or_void t) ≤ weight (Expr whole_seat) t + 12
+void_falls (node shape.Absent xs n ts) = let digit : length (signed_decimal (pos 0)) ≡ 1 = ap length (decimal_digit 0 (omega arith)) in omega (arith, digit)
+void_falls (node h xs n ts) = let falls = moved (branch_seat whole_seat) whole_seat refl (node h xs n ts) in omega (arith, falls)
+
+row_73_return : (a b : Trees) → Row73 return_statement a b → Falls a b
+row_73_return a b r =
+    let test = moved conditional_test_seat if_test_seat refl r.test in
+    let left = void_falls r.left in
+    let right = moved (branch_seat whole_seat) whole_seat refl r.right in
+    replaced a _ b _ r.shape r.written (record { lighter = omega (arith, test, left, right); chosen = inl refl; some = λ e. omega (arith, e) })
+
+row_73_throw : (a b : Trees) → Row73 throw_statement a b → Falls a b
+row_73_throw a b r =
+    let test = moved conditional_test_seat if_test_seat refl r.test in
+    let left = void_falls r.left in
+    let right = moved (branch_seat whole_seat) whole_seat refl r.right in
+    replaced a _ b _ r.shape r.written (record { lighter = omega (arith, test, left, right); chosen = inl refl; some = λ e. omega (arith, e) })
+
+row_73_bare : (a b : Trees) → Row73Bare a b → Falls a b
+row_73_bare a b r =
+    let test = moved statement_expression_seat if_test_seat refl r.test in
+    replaced a _ b _ r.shape r.written (record { lighter = omega (arith, test); chosen = inl refl; some = λ e. omega (arith, e) })
+
+-- `a; return b;`
+
+enters : (p : Tree) (ps : Trees) (q : Tree) (qs : Trees) → are_parts p ps ≡ true → are_parts q qs ≡ true → (head : Head) → total (with_head head (of_parts p (append ps (q ▸ qs))) ▸ none) < total (expression_statement (of_parts p ps) ▸ (with_head head (of_parts q qs) ▸ none))
+enters p ps q qs e f Return = let falls = joined_falls false false false true p ps q qs e f in omega (arith, falls)
+enters p ps q qs e f Throw = let falls = joined_falls false false false true p ps q qs e f in omega (arith, falls)
+enters p ps q qs e f (If u v) = let falls = joined_falls true false false true p ps q qs e f in omega (arith, falls)
+enters p ps q qs e f (Switch cases) = let falls = joined_falls false false false true p ps q qs e f in omega (arith, falls)
+enters p ps q qs e f (For u v w) = let falls = joined_falls false true false true p ps q qs e f in omega (arith, falls)
+
+row_67 : (a b : Trees) → Row67 a b → Falls a b
+row_67 a b r = replaced a _ b _ r.shape r.written (record { lighter = enters r.p r.ps r.q r.qs r.first r.second r.head; chosen = inl refl; some = λ e. omega (arith, e) })
+
+row_67_absent : (a b : Trees) → Row67Absent a b → Falls a b
+row_67_absent a b r = replaced a _ b _ r.shape r.written (record { lighter = omega arith; chosen = inl refl; some = λ e. omega (arith, e) })
+
+-- `var a; var b;`
+
+abbrev declarators : Trees → ℕ
+declarators none = 0
+declarators (t ▸ ts) = weight Elsewhere t + declarators ts
+
+declarators_are : (n : ℕ) (ts : Trees) → weights (item_position CommaList n) ts ≡ declarators ts
+declarators_are n none = refl
+declarators_are n (t ▸ ts) = let rest = declarators_are n ts in omega (arith, rest)
+
+comma_list : (ts : Trees) → weight CommaList (listed ts) ≡ commas_weight (outlines ts) + declarators ts
+comma_list ts = let items = declarators_are (count ts) ts in omega (arith, items)
+
+declarators_append : (a b : Trees) → declarators (append a b) ≡ declarators a + declarators b
+declarators_append none b = omega arith
+declarators_append (t ▸ a) b = let rest = declarators_append a b in omega (arith, rest)
+
+commas_append : (a b : Trees) → commas_weight (outlines (append a b)) ≤ commas_weight (outlines a) + commas_weight (outlines b) + 2
+commas_append none b = omega arith
+commas_append (t ▸ none) none = omega arith
+commas_append (t ▸ none) (u ▸ b) = omega arith
+commas_append (t ▸ (c ▸ a)) b = let rest = commas_append (c ▸ a) b in omega (arith, rest)
+
+word_counts : (k : VariableDeclarationKind) → 8 ≤ declaring_weight k
+word_counts Var = omega arith
+word_counts Let = omega arith
+word_counts Const = omega arith
+
+row_68 : (a b : Trees) → Row68 a b → Falls a b
+row_68 a b r =
+    let word = word_counts r.kind in
+    let commas = commas_append r.ds r.es in
+    let sum = declarators_append r.ds r.es in
+    let first = comma_list r.ds in
+    let second = comma_list r.es in
+    let whole = comma_list (append r.ds r.es) in
+    replaced a _ b _ r.shape r.written (record { lighter = omega (arith, word, commas, sum, first, second, whole); chosen = inl refl; some = λ e. omega (arith, e) })
+
+-- `if (a) s; else u`
+
+-- a statement weighs in a list what it does as a branch
+unscoped_seat : (t : Tree) → is_unscoped t ≡ true → weight (Stmt stmt_seat.List) t ≡ weight (Stmt stmt_seat.Body) t
+unscoped_seat (node shape.Listed xs n ts) e = absurd (true≢false (sym e))
+unscoped_seat (node shape.InnerExpression xs n ts) e = absurd (true≢false (sym e))
+unscoped_seat (node h xs n ts) e = refl
+
+unscoped_present : (t : Tree) → is_unscoped t ≡ true → (outline t).absent ≡ false
+unscoped_present (node shape.Absent xs n ts) e = absurd (true≢false (sym e))
+unscoped_present (node h xs n ts) e = refl
+
+row_76_falls : (test s u : Tree) → is_unscoped u ≡ true → total (if_alone test s ▸ (u ▸ none)) + 10 ≤ total (if_else test s u ▸ none)
+row_76_falls test s u e =
+    let seat = unscoped_seat u e in
+    let word = ap {B = ℕ} (λ b. if b then 0 else 10) (unscoped_present u e) in
+    omega (arith, seat, word)
+
+row_76 : (a b : Trees) → Row76 a b → Falls a b
+row_76 a b r =
+    let falls = row_76_falls r.test r.s r.u r.unscoped in
+    replaced a _ b _ r.shape r.written (record { lighter = omega (arith, falls); chosen = inr (omega (arith, falls)); some = λ e. omega (arith, e) })
+
+sequences_fall : (a b : Trees) → SequencesRow a b → Falls a b
+sequences_fall a b (inl r) = row_66_joined a b r
+sequences_fall a b (inr (inl r)) = row_73_return a b r
+sequences_fall a b (inr (inr (inl r))) = row_73_throw a b r
+sequences_fall a b (inr (inr (inr (inl r)))) = row_73_bare a b r
+sequences_fall a b (inr (inr (inr (inr (inl r))))) = row_67 a b r
+sequences_fall a b (inr (inr (inr (inr (inr (inl r)))))) = row_67_absent a b r
+sequences_fall a b (inr (inr (inr (inr (inr (inr r)))))) = row_76 a b r
+
 stretch_falls : (o : Switches) (a b : Trees) → StretchRow o a b → Falls a b
 stretch_falls o a b (inl r) = row_66_empty a b r
 stretch_falls o a b (inr (inl r)) = row_79 a b r
-stretch_falls o a b (inr (inr r)) = row_66_joined a b r.1
+stretch_falls o a b (inr (inr (inl r))) = row_68 a b r.1
+stretch_falls o a b (inr (inr (inr r))) = sequences_fall a b r.1
 
 -- in a list
 

@@ -1,13 +1,13 @@
 -- Rows of lists of statements: each reads some neighbours in a list and writes others in their place.
-use Rattle.std.specs.Prelude.{◌≡◌, ◌⊎◌, ◌<◌, Bool, true, false, ◌&&◌, ◌||◌, pos, List, [], ◌∷◌, if◌then◌else◌}
+use Rattle.std.specs.Prelude.{◌≡◌, ◌⊎◌, ◌<◌, ℕ, zero, suc, Bool, true, false, not, ◌&&◌, ◌||◌, pos, List, [], ◌∷◌, if◌then◌else◌}
 use Rattle.mini_model.specs.declared.kind.VariableDeclarationKind.{VariableDeclarationKind}
 use Rattle.mini_model.specs.declared.kind.VariableDeclarationKind.TheVariants.{Var}
-use Rattle.mini_model.specs.declared.operator.UnaryOperator.TheVariants.{Void}
+use Rattle.mini_model.specs.declared.operator.UnaryOperator.TheVariants.{Void, LogicalNot}
 use Rattle.mini_model.specs.declared.shape.Shape.{Shape}
 use Rattle.mini_model.specs.declared.shape.Shape.TheVariants as shape
 use Rattle.mini_model.specs.declared.place.Position.{Position}
 use Rattle.mini_model.specs.declared.place.Position.TheVariants.{StatementList}
-use Rattle.mini_model.specs.Tree.{Tree, Trees, node, none, ◌▸◌, leaf, listed, unary, is_absent, shape_of, empty_statement, expression_statement}
+use Rattle.mini_model.specs.Tree.{Tree, Trees, node, none, ◌▸◌, leaf, absent, listed, unary, is_absent, shape_of, children, child_or_absent, empty_statement, expression_statement, if_else, if_alone, conditional}
 use Rattle.mini_model.specs.Paths.{append}
 use Rattle.mini_model.specs.Weight.{weight}
 use Rattle.mini_rows.specs.Switches.{Switches}
@@ -44,6 +44,10 @@ void_zero = unary Void (leaf (shape.NumericLiteral (pos 0)))
 abbrev pub or_void : Tree → Tree
 or_void a = if is_absent a then void_zero else a
 
+abbrev pub is_conditional_shape : Shape → Bool
+is_conditional_shape shape.ConditionalExpression = true
+is_conditional_shape _ = false
+
 -- Expressions as parts in a row
 
 -- an expression of these parts, of which there is at least one
@@ -60,10 +64,15 @@ is_one_part shape.SequenceExpression = false
 is_one_part (shape.VariableDeclaration k) = false
 is_one_part _ = true
 
--- where there is no other part, it is one by itself
+-- where there is no other part, that is one by itself
 abbrev pub are_parts : Tree → Trees → Bool
 are_parts p none = is_one_part (shape_of p)
 are_parts p (q ▸ qs) = true
+
+-- the chain of alternates begins with so many conditionals, as `a ? b : c ? d : e` with two
+abbrev pub has_alternates : ℕ → Tree → Bool
+has_alternates zero t = true
+has_alternates (suc n) t = is_conditional_shape (shape_of t) && has_alternates n (child_or_absent (children t) 2)
 
 -- What is declared
 
@@ -96,6 +105,55 @@ is_unscoped t = is_unscoped_shape (shape_of t)
 abbrev pub are_unscoped : Trees → Bool
 are_unscoped none = true
 are_unscoped (t ▸ ts) = is_unscoped t && are_unscoped ts
+
+-- nothing is declared there, as by an expression. Of a `!` it is asked of its operand
+abbrev pub declares_nothing_by : Shape → Bool → Bool
+declares_nothing_by shape.Absent b = false
+declares_nothing_by shape.Listed b = false
+declares_nothing_by (shape.UnaryExpression LogicalNot) b = b
+declares_nothing_by shape.BindingIdentifier b = false
+declares_nothing_by shape.ObjectPattern b = false
+declares_nothing_by shape.ArrayPattern b = false
+declares_nothing_by (shape.BindingProperty is_shorthand is_computed) b = false
+declares_nothing_by shape.RestElement b = false
+declares_nothing_by shape.AssignmentPattern b = false
+declares_nothing_by shape.VariableDeclarator b = false
+declares_nothing_by (shape.VariableDeclaration k) b = false
+declares_nothing_by (shape.Function is_declaration is_generator directives) b = not is_declaration
+declares_nothing_by (shape.Class is_declaration) b = not is_declaration
+declares_nothing_by shape.SwitchCase b = false
+declares_nothing_by shape.ExportNamedDeclaration b = false
+declares_nothing_by shape.ExportDefaultDeclaration b = false
+declares_nothing_by _ b = true
+
+abbrev mutual
+  pub declares_nothing : Tree → Bool
+  declares_nothing (node h xs n ts) = declares_nothing_by h (first_declares_nothing ts)
+
+  pub first_declares_nothing : Trees → Bool
+  first_declares_nothing none = false
+  first_declares_nothing (t ▸ ts) = declares_nothing t
+
+-- Heads of statements: `return e`, `throw e`, `if (e) u else v`, `switch (e) { cases }` and `for (e; u; v) w`
+pub data Head : Type 0 where
+  Return : Head
+  Throw : Head
+  If : Tree → Tree → Head
+  Switch : Tree → Head
+  For : Tree → Tree → Tree → Head
+
+abbrev pub with_head : Head → Tree → Tree
+with_head Return e = return_statement e
+with_head Throw e = throw_statement e
+with_head (If u v) e = if_else e u v
+with_head (Switch cases) e = switch e cases
+with_head (For u v w) e = for_loop e u v w
+
+-- the last two open a scope, in which what the expression declares would be
+abbrev pub may_enter : Head → Tree → Bool
+may_enter (Switch cases) e = declares_nothing e
+may_enter (For u v w) e = declares_nothing e
+may_enter _ e = true
 
 -- Ends
 
@@ -149,11 +207,73 @@ pub record Row79 (a b : Trees) : Type 0 where
   pub shape : a ≡ block statements ▸ none
   pub written : b ≡ statements
 
+-- 73, of the jumps `return` and `throw`: `if (a) return b; return c;` becomes `return a ? b : c;`, where an absent b is
+-- `void 0`, and c is no long chain of conditionals
+pub record Row73 (jump : Tree → Tree) (a b : Trees) : Type 0 where
+  pub test : Tree
+  pub left : Tree
+  pub right : Tree
+  pub present : is_absent right ≡ false
+  pub short : has_alternates 500 right ≡ false
+  pub shape : a ≡ if_alone test (jump left) ▸ (jump right ▸ none)
+  pub written : b ≡ jump (conditional test (or_void left) right) ▸ none
+
+-- 73: `if (a) return; return;` becomes `a; return;`
+pub record Row73Bare (a b : Trees) : Type 0 where
+  pub test : Tree
+  pub shape : a ≡ if_alone test (return_statement absent) ▸ (return_statement absent ▸ none)
+  pub written : b ≡ expression_statement test ▸ (return_statement absent ▸ none)
+
+-- 67: `a; return b;` becomes `return a, b;`, and so with the other heads
+pub record Row67 (a b : Trees) : Type 0 where
+  pub head : Head
+  pub p : Tree
+  pub ps : Trees
+  pub q : Tree
+  pub qs : Trees
+  pub first : are_parts p ps ≡ true
+  pub second : are_parts q qs ≡ true
+  pub enters : may_enter head (of_parts q qs) ≡ true
+  pub shape : a ≡ expression_statement (of_parts p ps) ▸ (with_head head (of_parts q qs) ▸ none)
+  pub written : b ≡ with_head head (of_parts p (append ps (q ▸ qs))) ▸ none
+
+-- 67: `a; for (; b; c) d` becomes `for (a; b; c) d`
+pub record Row67Absent (a b : Trees) : Type 0 where
+  pub e : Tree
+  pub test : Tree
+  pub update : Tree
+  pub body : Tree
+  pub expression : declares_nothing e ≡ true
+  pub shape : a ≡ expression_statement e ▸ (for_loop absent test update body ▸ none)
+  pub written : b ≡ for_loop e test update body ▸ none
+
+-- 68: `var a; var b;` becomes `var a, b;`, and so with `let` and `const`
+pub record Row68 (a b : Trees) : Type 0 where
+  pub kind : VariableDeclarationKind
+  pub ds : Trees
+  pub es : Trees
+  pub shape : a ≡ declaration kind ds ▸ (declaration kind es ▸ none)
+  pub written : b ≡ declaration kind (append ds es) ▸ none
+
+-- 76: `if (a) s; else u` becomes `if (a) s; u`, where s ends in a jump
+pub record Row76 (a b : Trees) : Type 0 where
+  pub test : Tree
+  pub s : Tree
+  pub u : Tree
+  pub terminated : is_terminated s ≡ true
+  pub unscoped : is_unscoped u ≡ true
+  pub shape : a ≡ if_else test s u ▸ none
+  pub written : b ≡ if_alone test s ▸ (u ▸ none)
+
 -- Rows in a list
+
+-- the rows that make sequences of expressions, or statements that others can make them of
+abbrev pub SequencesRow : Trees → Trees → Type 0
+SequencesRow a b = Row66Joined a b ⊎ (Row73 return_statement a b ⊎ (Row73 throw_statement a b ⊎ (Row73Bare a b ⊎ (Row67 a b ⊎ (Row67Absent a b ⊎ Row76 a b)))))
 
 -- the rows on these neighbours that the options let happen
 abbrev pub StretchRow : Switches → Trees → Trees → Type 0
-StretchRow o a b = Row66Empty a b ⊎ (Row79 a b ⊎ ((o.sequences ≡ true) × Row66Joined a b))
+StretchRow o a b = Row66Empty a b ⊎ (Row79 a b ⊎ (((o.join_vars ≡ true) × Row68 a b) ⊎ ((o.sequences ≡ true) × SequencesRow a b)))
 
 -- some neighbours in a list, and others in their place
 pub record InList (R : Trees → Trees → Type 0) (n w : Tree) : Type 0 where

@@ -1,0 +1,108 @@
+-- Statements that never end normally.
+use Rattle.std.proofs.Common.{◌≡◌, ℕ, Bool, true, false, List, [], None, refl, sym, ◌∙◌, subst, inl, inr, true≢false}
+use Rattle.std.specs.Prelude.{◌⊎◌, ◌||◌}
+use Rattle.std.proofs.lemmas.Bool.{and_parts}
+use Rattle.mini_model.specs.declared.name.Name.{Name}
+use Rattle.mini_model.specs.declared.shape.Shape.{Shape}
+use Rattle.mini_model.specs.declared.shape.Shape.TheVariants as shape
+use Rattle.mini_model.specs.Tree.{Tree, Trees, node, none, ◌▸◌}
+use Rattle.mini_meaning.specs.Value.{variables}
+use Rattle.mini_meaning.specs.State.{State, Completion, ok, stop, halt, out, either, Environment}
+use Rattle.mini_meaning.specs.Demand.{Val, Test, As, Stat, LabelSet}
+use Rattle.mini_meaning.specs.Command.{Naming, run}
+use Rattle.mini_meaning.specs.Naming.{summaries, facts, naming, function_facts}
+use Rattle.mini_meaning.specs.Asking.{first_demand}
+use Rattle.mini_meaning.specs.Statements.{block_step, if_step, break_step, continue_step, return_step, throw_step, create_functions}
+use Rattle.mini_meaning.specs.Step.{step, means, meaning}
+use Rattle.mini_laws.proofs.Runs.{either_eta, each_bool, tail_stop}
+use Rattle.mini_laws.proofs.Stretching.{exec, listed_by}
+use Rattle.mini_laws.proofs.Tailing.{finished, finish_none, hidden, closed, block_runs}
+use Rattle.mini_rows.specs.Lists.{any, is_terminated, are_terminated}
+use Rattle.mini_rows.proofs.ListStretches.{exec_more}
+
+abbrev pub Never : Completion (Unit {0}) → Type 0
+Never (ok u s) = ⊥
+Never (stop x s) = Unit {0}
+Never (halt h s) = Unit {0}
+Never out = Unit {0}
+
+never_then : {B : Type 0} (x : Completion B) (f : B → State → Completion (Unit {0})) → ((b : B) (z : State) → Never (f b z)) → Never (either x f (λ y z. stop y z))
+unfolding either
+never_then (ok b z) f h = h b z
+never_then (stop y z) f h = tt
+never_then (halt y z) f h = tt
+never_then out f h = tt
+
+never_first : (x : Completion (Unit {0})) (f : Unit {0} → State → Completion (Unit {0})) → Never x → Never (either x f (λ y z. stop y z))
+unfolding either
+never_first (ok b z) f h = absurd h
+never_first (stop y z) f h = tt
+never_first (halt y z) f h = tt
+never_first out f h = tt
+
+never_closed : (e : Environment) (names : Naming) (x : Completion (Unit {0})) → Never x → Never (closed e names x)
+unfolding either closed
+never_closed e names (ok b z) h = absurd h
+never_closed e names (stop y z) h = tt
+never_closed e names (halt y z) h = tt
+never_closed e names out h = tt
+
+-- what comes after it is never reached
+pub never_goes : (x : Completion (Unit {0})) → Never x → (f : Unit {0} → State → Completion (Unit {0})) → either x f (λ y z. stop y z) ≡ x
+unfolding either
+never_goes (ok u s) h f = absurd h
+never_goes (stop y s) h f = refl
+never_goes (halt y s) h f = refl
+never_goes out h f = refl
+
+list_finish : (x : Completion (Unit {0})) → either x (λ u z. ok tt z) (λ y z. tail_stop None y z) ≡ x
+unfolding tail_stop
+list_finish x = either_eta x
+
+or_split : (a b : Bool) → a || b ≡ true → (a ≡ true) ⊎ (b ≡ true)
+or_split true b h = inl refl
+or_split false b h = inr h
+
+module _ (e : Environment) where
+  abbrev Ends : Tree → Type 0
+  Ends t = is_terminated t ≡ true → (r : LabelSet) (s : State) → Never (means e t (Stat None) r s)
+
+  abbrev AllEnd : Trees → Type 0
+  AllEnd none = Unit {0}
+  AllEnd (t ▸ ts) = Ends t × AllEnd ts
+
+  list_ends : (ts : Trees) → AllEnd ts → any (are_terminated ts) ≡ true → (s : State) → Never (exec e ts None s)
+  list_ends none a h s = absurd (true≢false (sym h))
+  list_ends (t ▸ ts) a h s = subst Never (sym (exec_more e t ts s)) (pick (or_split (is_terminated t) (any (are_terminated ts)) h) (λ k z. list_ends ts a.1 k z))
+    where
+      pick : (is_terminated t ≡ true) ⊎ (any (are_terminated ts) ≡ true) → (any (are_terminated ts) ≡ true → (z : State) → Never (exec e ts None z)) → Never (either (means e t (Stat None) [] s) (λ u z. exec e ts None z) (λ x z. stop x z))
+      pick (inl k) l = never_first (means e t (Stat None) [] s) (λ u z. exec e ts None z) (a.0 k [] s)
+      pick (inr k) l = never_then (means e t (Stat None) [] s) (λ u z. exec e ts None z) (λ u z. l k z)
+
+  block_part : (t : Tree) → AllEnd (t ▸ none) → is_terminated t ≡ true → (z : State) → Never (meaning e (t ▸ none) 0 (Stat None) [] z)
+  unfolding meaning
+  block_part t a h z = a.0 h [] z
+
+  abbrev named : Shape → List Name → ℕ → Trees → Naming
+  named h xs n ts = naming h (Stat None) (variables xs) n (summaries ts)
+
+  node_ends : (h : Shape) (xs : List Name) (n : ℕ) (ts : Trees) → AllEnd ts → Ends (node h xs n ts)
+  unfolding means step
+  node_ends shape.ReturnStatement xs n ts a h r s = subst Never (sym (finished e (named shape.ReturnStatement xs n ts) (λ i. As Val) (λ i r z. meaning e ts i (As Val) r z) None return_step s ∙ finish_none _)) (never_then (meaning e ts 0 (As Val) tt s) _ (λ v z. tt))
+  node_ends shape.ThrowStatement xs n ts a h r s = subst Never (sym (finished e (named shape.ThrowStatement xs n ts) (λ i. As Val) (λ i r z. meaning e ts i (As Val) r z) None throw_step s ∙ finish_none _)) (never_then (meaning e ts 0 (As Val) tt s) _ (λ v z. tt))
+  node_ends shape.BreakStatement xs n ts a h r s = subst Never (sym (finished e (named shape.BreakStatement xs n ts) (λ i. As Val) (λ i r z. meaning e ts i (As Val) r z) None break_step s ∙ finish_none _)) (never_then (meaning e ts 0 (As Val) tt s) _ (λ v z. tt))
+  node_ends shape.ContinueStatement xs n ts a h r s = subst Never (sym (finished e (named shape.ContinueStatement xs n ts) (λ i. As Val) (λ i r z. meaning e ts i (As Val) r z) None continue_step s ∙ finish_none _)) (never_then (meaning e ts 0 (As Val) tt s) _ (λ v z. tt))
+  node_ends shape.Listed xs n ts a h r s = subst Never (sym (listed_by e xs n ts None r s ∙ list_finish _)) (list_ends ts a h s)
+  node_ends shape.BlockStatement xs n (t ▸ none) a h r s = subst Never (sym (finished e (named shape.BlockStatement xs n (t ▸ none)) (λ i. Stat None) (λ i r z. meaning e (t ▸ none) i (Stat None) r z) None (block_step None (facts (t ▸ none))) s ∙ finish_none _ ∙ block_runs e (named shape.BlockStatement xs n (t ▸ none)) (meaning e (t ▸ none)) None (facts (t ▸ none)) s)) (never_closed e (named shape.BlockStatement xs n (t ▸ none)) _ (never_then (run {q = λ i. Stat None} e (named shape.BlockStatement xs n (t ▸ none)) (λ i. meaning e (t ▸ none) i (Stat None)) (create_functions true (function_facts (facts (t ▸ none))) 0) (hidden e (named shape.BlockStatement xs n (t ▸ none)) s)) _ (λ u z. block_part t a h z)))
+  node_ends shape.IfStatement xs n (c ▸ (x ▸ (y ▸ none))) a h r s =
+      let (first, second) = and_parts (is_terminated x) (is_terminated y) h in
+      subst Never (sym (finished e (named shape.IfStatement xs n (c ▸ (x ▸ (y ▸ none)))) (first_demand (As Test) (Stat None)) (λ i r z. meaning e (c ▸ (x ▸ (y ▸ none))) i (first_demand (As Test) (Stat None) i) r z) None (if_step None) s ∙ finish_none _)) (never_then (means e c (As Test) tt s) _ (each_bool _ (λ z. subst Never (sym (either_eta (means e x (Stat None) [] z))) (a.1.0 first [] z)) (λ z. subst Never (sym (either_eta (means e y (Stat None) [] z))) (a.1.1.0 second [] z))))
+  node_ends k xs n ts a h r s = absurd (true≢false (sym h))
+
+  mutual
+    pub ended_tree : (t : Tree) → Ends t
+    ended_tree (node h xs n ts) = node_ends h xs n ts (ended_trees ts)
+
+    ended_trees : (ts : Trees) → AllEnd ts
+    ended_trees none = tt
+    ended_trees (t ▸ ts) = (ended_tree t, ended_trees ts)
