@@ -2,7 +2,8 @@
 use Rattle.std.proofs.Common.{◌≡◌, true, [], None, refl, sym, ap, ◌∙◌, inl, inr}
 use Rattle.mini_model.specs.declared.place.Position.{Position}
 use Rattle.mini_model.specs.declared.place.Position.TheVariants.{StatementList}
-use Rattle.mini_model.specs.Tree.{Tree, Trees, none, ◌▸◌, absent, empty_statement, expression_statement, if_else, if_alone, conditional}
+use Rattle.std.proofs.lemmas.Bool.{and_parts}
+use Rattle.mini_model.specs.Tree.{shape_of, Tree, Trees, none, ◌▸◌, absent, empty_statement, expression_statement, if_else, if_alone, conditional}
 use Rattle.mini_model.specs.Paths.{append}
 use Rattle.mini_meaning.specs.Value.{Value, truth, choose}
 use Rattle.mini_meaning.specs.State.{State, Stop, Thrown, Returned, Completion, ok, stop, either, Environment}
@@ -15,7 +16,7 @@ use Rattle.mini_laws.proofs.Runs.{either_cong, either_assoc, either_ok, either_s
 use Rattle.mini_laws.proofs.Truth.{coherent}
 use Rattle.mini_laws.proofs.Rows.{Equal, equal_same}
 use Rattle.mini_rows.specs.Switches.{Switches}
-use Rattle.mini_rows.specs.Lists.{of_parts, block, return_statement, throw_statement, switch, for_loop, declaration, or_void, Head, Return, Throw, If, Switch, For, with_head, may_enter, Row66Empty, Row66Joined, Row67, Row67Absent, Row68, Row73, Row73Bare, Row76, Row79, SequencesRow, StretchRow, InList, ListRow}
+use Rattle.mini_rows.specs.Lists.{declares_nothing, is_one_part_shape, are_parts, of_parts, block, return_statement, throw_statement, switch, for_loop, declaration, or_void, Head, Return, Throw, If, Switch, For, with_head, Row66Empty, Row66Joined, Row67, Row67Absent, Row68, Row73, Row73Bare, Row76, Row79, SequencesRow, StretchRow, InList, ListRow}
 use Rattle.mini_rows.specs.ListLaws.{ListsMeanSame}
 use Rattle.mini_rows.proofs.ListStretches.{ReadSame, SameStretch, exec_one, exec_two, listed_is, in_list, list_does, list_reads, replaced}
 use Rattle.mini_rows.proofs.ListParts.{joined_is}
@@ -131,26 +132,32 @@ joined_nothing : (p : Tree) (ps : Trees) (q : Tree) (qs : Trees) → Nothing (of
 joined_nothing p none q qs = record { lets = refl; functions = refl; facts = refl; declared = refl }
 joined_nothing p (c ▸ ps) q qs = record { lets = refl; functions = refl; facts = refl; declared = refl }
 
-enters : (p : Tree) (ps : Trees) (q : Tree) (qs : Trees) (head : Head) → may_enter head (of_parts q qs) ≡ true → SameStretch (expression_statement (of_parts p ps) ▸ (with_head head (of_parts q qs) ▸ none)) (with_head head (of_parts p (append ps (q ▸ qs))) ▸ none)
+parts_nothing : (p : Tree) (ps : Trees) → are_parts p ps ≡ true → Nothing (of_parts p ps)
+parts_nothing p none h = let (shape, declares) = and_parts (is_one_part_shape (shape_of p)) (declares_nothing p) h in nothing_by p declares
+parts_nothing p (q ▸ qs) h = record { lets = refl; functions = refl; facts = refl; declared = refl }
+
+enters : (p : Tree) (ps : Trees) (q : Tree) (qs : Trees) (head : Head) → are_parts q qs ≡ true → SameStretch (expression_statement (of_parts p ps) ▸ (with_head head (of_parts q qs) ▸ none)) (with_head head (of_parts p (append ps (q ▸ qs))) ▸ none)
 enters p ps q qs Return h = into_head p ps q qs Val return_statement (record { rest = λ e v z. stop (Returned v) z; before = λ e s. return_is e _ [] s; after = λ e s. return_is e _ [] s }) (record { lets = refl; functions = refl; facts = refl; texts = refl })
 enters p ps q qs Throw h = into_head p ps q qs Val throw_statement (record { rest = λ e v z. stop (Thrown v) z; before = λ e s. throw_is e _ [] s; after = λ e s. throw_is e _ [] s }) (record { lets = refl; functions = refl; facts = refl; texts = refl })
 enters p ps q qs (If u v) h = into_head p ps q qs Test (λ t. if_else t u v) (record { rest = λ e t z. choose t (means e u (Stat None) [] z) (means e v (Stat None) [] z); before = λ e s. if_is e _ u v [] s; after = λ e s. if_is e _ u v [] s }) (record { lets = refl; functions = refl; facts = refl; texts = refl })
-enters p ps q qs (Switch cases) h = into_head p ps q qs Val (λ d. switch d cases) (record { rest = λ e v z. switch_rest e [] [] [] cases v z; before = λ e s. switch_plain e (of_parts q qs) cases (nothing_by (of_parts q qs) h) s; after = λ e s. switch_plain e (of_parts p (append ps (q ▸ qs))) cases (joined_nothing p ps q qs) s }) (record { lets = refl; functions = refl; facts = refl; texts = refl })
-enters p ps q qs (For t u b) h = into_head p ps q qs Unused (λ i. for_loop i t u b) (record { rest = λ e v z. for_rest e t u b [] z; before = λ e s. for_is e t u b (of_parts q qs) (nothing_by (of_parts q qs) h) [] s; after = λ e s. for_is e t u b (of_parts p (append ps (q ▸ qs))) (joined_nothing p ps q qs) [] s }) (record { lets = refl; functions = refl; facts = refl; texts = refl })
+enters p ps q qs (Switch cases) h = into_head p ps q qs Val (λ d. switch d cases) (record { rest = λ e v z. switch_rest e [] [] [] cases v z; before = λ e s. switch_plain e (of_parts q qs) cases (parts_nothing q qs h) s; after = λ e s. switch_plain e (of_parts p (append ps (q ▸ qs))) cases (joined_nothing p ps q qs) s }) (record { lets = refl; functions = refl; facts = refl; texts = refl })
+enters p ps q qs (For t u b) h = into_head p ps q qs Unused (λ i. for_loop i t u b) (record { rest = λ e v z. for_rest e t u b [] z; before = λ e s. for_is e t u b (of_parts q qs) (parts_nothing q qs h) [] s; after = λ e s. for_is e t u b (of_parts p (append ps (q ▸ qs))) (joined_nothing p ps q qs) [] s }) (record { lets = refl; functions = refl; facts = refl; texts = refl })
 
 row_67 : (a b : Trees) → Row67 a b → SameStretch a b
-row_67 a b r = replaced a _ b _ r.shape r.written (enters r.p r.ps r.q r.qs r.head r.enters)
+row_67 a b r = replaced a _ b _ r.shape r.written (enters r.p r.ps r.q r.qs r.head r.second)
 
 -- `a; for (; b; c) d`
 row_67_absent : (a b : Trees) → Row67Absent a b → SameStretch a b
-row_67_absent a b r = replaced a _ b _ r.shape r.written (record {
-  by = λ e s.
-      exec_two e (expression_statement r.e) (for_loop absent r.test r.update r.body) s
-      ∙ ap (λ x. either x (λ u z. means e (for_loop absent r.test r.update r.body) (Stat None) [] z) (λ x z. stop x z)) (expression_is e r.e [] s)
-      ∙ either_cong (means e r.e (As Unused) tt s) _ _ _ _ (λ u z. for_absent_is e r.test r.update r.body [] z) (λ x z. refl)
-      ∙ sym (exec_one e (for_loop r.e r.test r.update r.body) s ∙ for_is e r.test r.update r.body r.e (nothing_by r.e r.expression) [] s);
-  read = record { lets = refl; functions = refl; facts = refl; texts = refl };
-})
+row_67_absent a b r =
+    let e : Tree = of_parts r.p r.ps in
+    replaced a _ b _ r.shape r.written (record {
+      by = λ v s.
+          exec_two v (expression_statement e) (for_loop absent r.test r.update r.body) s
+          ∙ ap (λ x. either x (λ u z. means v (for_loop absent r.test r.update r.body) (Stat None) [] z) (λ x z. stop x z)) (expression_is v e [] s)
+          ∙ either_cong (means v e (As Unused) tt s) _ _ _ _ (λ u z. for_absent_is v r.test r.update r.body [] z) (λ x z. refl)
+          ∙ sym (exec_one v (for_loop e r.test r.update r.body) s ∙ for_is v r.test r.update r.body e (parts_nothing r.p r.ps r.first) [] s);
+      read = record { lets = refl; functions = refl; facts = refl; texts = refl };
+    })
 
 -- `var a; var b;`
 row_68 : (a b : Trees) → Row68 a b → SameStretch a b

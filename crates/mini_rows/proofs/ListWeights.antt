@@ -1,6 +1,7 @@
 -- What the rows of lists write is lighter.
 use Rattle.std.proofs.Common.{◌≡◌, ℕ, suc, ◌+◌, ◌*◌, ◌<◌, ◌≤◌, Bool, true, false, List, refl, sym, ap, ◌∙◌, subst, inl, inr, true≢false, length, arith}
 use Rattle.std.specs.Prelude.{◌⊎◌, nat_eq, pos, negsuc, if◌then◌else◌}
+use Rattle.std.proofs.lemmas.Bool.{and_parts}
 use Rattle.std.specs.Fmt.{signed_decimal}
 use Rattle.std.proofs.lemmas.Fmt.{decimal_digit}
 use Rattle.mini_model.specs.declared.kind.VariableDeclarationKind.{VariableDeclarationKind}
@@ -20,7 +21,7 @@ use Rattle.mini_model.specs.Weight.{Outline, outline, outlines, one_chooses, com
 use Rattle.mini_laws.specs.Weights.{counts_items}
 use Rattle.mini_laws.proofs.Seats.{is_inner, placed, placed_node, moved}
 use Rattle.mini_rows.specs.Switches.{Switches}
-use Rattle.mini_rows.specs.Lists.{of_parts, is_one_part, are_parts, sequence, or_void, return_statement, throw_statement, is_unscoped, Head, Return, Throw, If, Switch, For, with_head, Row66Empty, Row66Joined, Row67, Row67Absent, Row68, Row73, Row73Bare, Row76, Row79, SequencesRow, StretchRow, InList, ListRow, ListsLighter}
+use Rattle.mini_rows.specs.Lists.{of_parts, is_one_part_shape, declares_nothing, are_parts, sequence, or_void, return_statement, throw_statement, is_unscoped, Head, Return, Throw, If, Switch, For, with_head, Row66Empty, Row66Joined, Row67, Row67Absent, Row68, Row73, Row73Bare, Row76, Row79, SequencesRow, StretchRow, InList, ListRow, ListsLighter}
 use Rattle.mini_rows.specs.ListLaws.{ListsLighten}
 
 -- the statements of a list, wherever in it they stand
@@ -79,7 +80,7 @@ sequence_is b u p ps =
     let commas = commas_by p ps in
     omega (arith, items, commas)
 
-one_marks : (b u : Bool) (h : Shape) (os : List Outline) → is_one_part h ≡ true → place_weight (Expr passed_part_seat) h os ≤ place_weight (Expr (flat b u)) h os + 0
+one_marks : (b u : Bool) (h : Shape) (os : List Outline) → is_one_part_shape h ≡ true → place_weight (Expr passed_part_seat) h os ≤ place_weight (Expr (flat b u)) h os + 0
 one_marks b u shape.SequenceExpression os e = absurd (true≢false (sym e))
 one_marks b u (shape.LogicalExpression Or) os e = omega arith
 one_marks b u (shape.LogicalExpression And) os e = omega arith
@@ -90,15 +91,15 @@ one_marks b u (shape.NumericLiteral (pos n)) os e = omega arith
 one_marks b u (shape.NumericLiteral (negsuc n)) os e = omega arith
 one_marks b u h os e = omega arith
 
-not_inner : (h : Shape) → is_one_part h ≡ true → is_inner h ≡ false
+not_inner : (h : Shape) → is_one_part_shape h ≡ true → is_inner h ≡ false
 not_inner shape.InnerExpression e = absurd (true≢false (sym e))
 not_inner h e = refl
 
-one_falls : (b u : Bool) (t : Tree) → is_one_part (shape_of t) ≡ true → weight (Expr passed_part_seat) t ≤ weight (Expr (flat b u)) t
+one_falls : (b u : Bool) (t : Tree) → is_one_part_shape (shape_of t) ≡ true → weight (Expr passed_part_seat) t ≤ weight (Expr (flat b u)) t
 one_falls b u (node h xs n ts) e = let falls = placed_node 0 passed_part_seat (flat b u) h (not_inner h e) xs n ts (one_marks b u h (outlines ts) e) in omega (arith, falls)
 
 parts_fall : (b u : Bool) (p : Tree) (ps : Trees) → are_parts p ps ≡ true → parts_weight p ps ≤ weight (Expr (flat b u)) (of_parts p ps)
-parts_fall b u p none e = let falls = one_falls b u p e in omega (arith, falls)
+parts_fall b u p none e = let (part, declares) = and_parts (is_one_part_shape (shape_of p)) (declares_nothing p) e in let falls = one_falls b u p part in omega (arith, falls)
 parts_fall b u p (q ▸ qs) e = let same = sequence_is b u p (q ▸ qs) in omega (arith, same)
 
 parts_append : (ps : Trees) (q : Tree) (qs : Trees) → parts_total (append ps (q ▸ qs)) + 2 * count (append ps (q ▸ qs)) ≡ parts_total ps + 2 * count ps + parts_weight q qs + 2

@@ -48,27 +48,6 @@ abbrev pub is_conditional_shape : Shape → Bool
 is_conditional_shape shape.ConditionalExpression = true
 is_conditional_shape _ = false
 
--- Expressions as parts in a row
-
--- an expression of these parts, of which there is at least one
-abbrev pub of_parts : Tree → Trees → Tree
-of_parts p none = p
-of_parts p (q ▸ qs) = sequence (p ▸ (q ▸ qs))
-
--- no absent part, no declaration in the head of a `for`, no place of a class that holds an expression, and no sequence, which
--- is read by its parts
-abbrev pub is_one_part : Shape → Bool
-is_one_part shape.Absent = false
-is_one_part shape.InnerExpression = false
-is_one_part shape.SequenceExpression = false
-is_one_part (shape.VariableDeclaration k) = false
-is_one_part _ = true
-
--- where there is no other part, that is one by itself
-abbrev pub are_parts : Tree → Trees → Bool
-are_parts p none = is_one_part (shape_of p)
-are_parts p (q ▸ qs) = true
-
 -- the chain of alternates begins with so many conditionals, as `a ? b : c ? d : e` with two
 abbrev pub has_alternates : ℕ → Tree → Bool
 has_alternates zero t = true
@@ -134,6 +113,28 @@ abbrev mutual
   first_declares_nothing none = false
   first_declares_nothing (t ▸ ts) = declares_nothing t
 
+-- Expressions as parts in a row
+
+-- an expression of these parts, of which there is at least one
+abbrev pub of_parts : Tree → Trees → Tree
+of_parts p none = p
+of_parts p (q ▸ qs) = sequence (p ▸ (q ▸ qs))
+
+-- no sequence, which is read by its parts, and no place in a class that holds an expression
+abbrev pub is_one_part_shape : Shape → Bool
+is_one_part_shape shape.SequenceExpression = false
+is_one_part_shape shape.InnerExpression = false
+is_one_part_shape _ = true
+
+-- an expression that is one part
+abbrev pub is_one_part : Tree → Bool
+is_one_part t = is_one_part_shape (shape_of t) && declares_nothing t
+
+-- where there is no other part, that is one by itself
+abbrev pub are_parts : Tree → Trees → Bool
+are_parts p none = is_one_part p
+are_parts p (q ▸ qs) = true
+
 -- Heads of statements: `return e`, `throw e`, `if (e) u else v`, `switch (e) { cases }` and `for (e; u; v) w`
 pub data Head : Type 0 where
   Return : Head
@@ -148,12 +149,6 @@ with_head Throw e = throw_statement e
 with_head (If u v) e = if_else e u v
 with_head (Switch cases) e = switch e cases
 with_head (For u v w) e = for_loop e u v w
-
--- the last two open a scope, in which what the expression declares would be
-abbrev pub may_enter : Head → Tree → Bool
-may_enter (Switch cases) e = declares_nothing e
-may_enter (For u v w) e = declares_nothing e
-may_enter _ e = true
 
 -- Ends
 
@@ -233,19 +228,19 @@ pub record Row67 (a b : Trees) : Type 0 where
   pub qs : Trees
   pub first : are_parts p ps ≡ true
   pub second : are_parts q qs ≡ true
-  pub enters : may_enter head (of_parts q qs) ≡ true
   pub shape : a ≡ expression_statement (of_parts p ps) ▸ (with_head head (of_parts q qs) ▸ none)
   pub written : b ≡ with_head head (of_parts p (append ps (q ▸ qs))) ▸ none
 
 -- 67: `a; for (; b; c) d` becomes `for (a; b; c) d`
 pub record Row67Absent (a b : Trees) : Type 0 where
-  pub e : Tree
+  pub p : Tree
+  pub ps : Trees
   pub test : Tree
   pub update : Tree
   pub body : Tree
-  pub expression : declares_nothing e ≡ true
-  pub shape : a ≡ expression_statement e ▸ (for_loop absent test update body ▸ none)
-  pub written : b ≡ for_loop e test update body ▸ none
+  pub first : are_parts p ps ≡ true
+  pub shape : a ≡ expression_statement (of_parts p ps) ▸ (for_loop absent test update body ▸ none)
+  pub written : b ≡ for_loop (of_parts p ps) test update body ▸ none
 
 -- 68: `var a; var b;` becomes `var a, b;`, and so with `let` and `const`
 pub record Row68 (a b : Trees) : Type 0 where
