@@ -4,3 +4,4 @@ pub mod ConvertToDottedProperties
 pub mod SubstituteLooseEqualsUndefined
 pub mod SubstituteSwapBinaryExpressions
 pub mod SubstituteYieldExpression
+pub mod Spelled

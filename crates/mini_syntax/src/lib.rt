@@ -2,8 +2,10 @@
 #![tactic(auto)]
 
 mod forms;
+mod laws;
 mod rewrites;
 
+pub use laws::spellings_are_rows;
 pub use rewrites::convert_to_dotted_properties::convert_to_dotted_properties;
 pub use rewrites::substitute_boolean::substitute_boolean;
 pub use rewrites::substitute_loose_equals_undefined::substitute_loose_equals_undefined;

@@ -1,0 +1,286 @@
+-- What the rewrites of spellings write is what a row says, and where they write nothing no row reads the expression.
+use Rattle.std.proofs.Common.{◌≡◌, ℕ, zero, suc, Bool, true, false, List, [], ◌∷◌, Option, Some, None, refl, sym, ap, subst, ◌∙◌, inl, inr}
+use Rattle.std.specs.Prelude.{◌⊎◌, ◌&&◌, ◌||◌, ℤ, if◌then◌else◌}
+use Rattle.std.specs.Fmt.{signed_decimal}
+use Rattle.std.proofs.lemmas.Bool.{and_parts}
+use Rattle.mini_text.specs.Texts.{is_identifier_name}
+use Rattle.mini_literals.specs.Numerals.{IsSafe, safe_number}
+use Rattle.mini_literals.proofs.Safe.{text_of_number, number_of_text}
+use Rattle.mini_model.specs.declared.operator.AssignmentOperator.{AssignmentOperator}
+use Rattle.mini_model.specs.declared.operator.BinaryOperator.{BinaryOperator}
+use Rattle.mini_model.specs.declared.operator.BinaryOperator.TheVariants.{Equality, Inequality}
+use Rattle.mini_model.specs.declared.operator.UpdateOperator.{UpdateOperator}
+use Rattle.mini_model.specs.declared.place.Position.{Position}
+use Rattle.mini_model.specs.declared.place.Position.TheVariants.{Expr}
+use Rattle.mini_model.specs.declared.seat.Seat.{Seat}
+use Rattle.mini_model.specs.declared.shape.Shape.{Shape}
+use Rattle.mini_model.specs.declared.shape.Shape.TheVariants as shape
+use Rattle.mini_model.specs.Tree.{Tree, Trees, node, none, ◌▸◌, absent, shape_of, null_literal}
+use Rattle.mini_model.specs.Position.{is_equality}
+use Rattle.mini_node.specs.Children.{part}
+use Rattle.mini_node.specs.Kinds.{boolean as boolean_of, string, binary_operator, assignment_operator}
+use Rattle.mini_node.specs.Made.{boolean_is, string_is, binary_is, assignment_is}
+use Rattle.mini_rows.specs.Spellings.{numeral, text, key, boolean, binary, assignment, update, computed_member, static_member, yields, void_zero, negated_digit, IsLoose, PlainForm, plain, Row65, Row33Name, Row33Number, Row33, Row33Assigned, Row33Updated, Row58Left, Row58Right, Row54, Row60Yield, SpellingRow, SpellingContracts}
+use Rattle.mini_syntax.specs.Forms.{first_of, is_undefined, is_plain, is_void_zero}
+use Rattle.mini_syntax.specs.SubstituteBoolean as substituted
+use Rattle.mini_syntax.specs.ConvertToDottedProperties as dotted
+use Rattle.mini_syntax.specs.ConvertToDottedProperties.{turned, is_name_text, named_member, numbered_member, as_name, update_operator}
+use Rattle.mini_syntax.specs.SubstituteLooseEqualsUndefined as loose
+use Rattle.mini_syntax.specs.SubstituteSwapBinaryExpressions as swap
+use Rattle.mini_syntax.specs.SubstituteYieldExpression as yielding
+use Rattle.mini_syntax.specs.Spelled as law
+use Rattle.mini_syntax.specs.Spelled.{written}
+use Rattle.mini_syntax.proofs.FormsAre.{void_zero_is, undefined_is, undefined_passes, plain_is, plain_passes, ready_is, ready_passes}
+
+some_is : {A : Type 0} (x y : A) → Some x ≡ Some y → x ≡ y
+some_is x y e = cc e
+
+-- 65
+
+boolean_follows : (t w : Tree) → substituted.written t ≡ Some w → Row65 t w
+boolean_follows t w e = go (boolean_of t) refl e
+  where
+    go : (o : Option Bool) → boolean_of t ≡ o → substituted.digit_of o ≡ Some w → Row65 t w
+    go (Some b) h e = record { value = b; shape = boolean_is t b h; written = sym (some_is (negated_digit b) w e) }
+    go None h e = absurd (cc e)
+
+-- 33
+
+named_follows : (t : Tree) (b : Bool) → named_member t ≡ Some b → Row33 t (dotted.dotted b t)
+named_follows (node (shape.ComputedMemberExpression c) [] zero (o ▸ k ▸ none)) b e = go (string k) refl e
+  where
+    named : (s : List ℕ) → string k ≡ Some s → (y : Bool) → is_identifier_name s ≡ y → (if y then Some c else None) ≡ Some b → Row33 (computed_member c o k) (static_member b o (as_name k))
+    named s h true y e = inl (record {
+      is_optional = c;
+      object = o;
+      name = s;
+      is_name = y;
+      shape = ap (computed_member c o) (string_is k s h);
+      written = ap (λ x. static_member x o (as_name k)) (sym (some_is c b e)) ∙ ap (λ x. static_member c o (as_name x)) (string_is k s h);
+    })
+    named s h false y e = absurd (cc e)
+
+    go : (x : Option (List ℕ)) → string k ≡ x → (if is_name_text x then Some c else None) ≡ Some b → Row33 (computed_member c o k) (static_member b o (as_name k))
+    go (Some s) h e = named s h (is_identifier_name s) refl e
+    go None h e = absurd (cc e)
+named_follows t b e = absurd (cc e)
+
+numbered_follows : (t : Tree) (n : ℤ) → numbered_member t ≡ Some n → Row33 t (dotted.numbered n t)
+numbered_follows (node (shape.ComputedMemberExpression false) [] zero (o ▸ k ▸ none)) n e = go (string k) refl e
+  where
+    go : (x : Option (List ℕ)) → string k ≡ x → dotted.number_of_text x ≡ Some n → Row33 (computed_member false o k) (computed_member false o (numeral n))
+    go (Some s) h e =
+        let (safe, spelled) = text_of_number s n e in
+        inr (record { object = o; number = n; is_safe = safe; shape = ap (computed_member false o) (string_is k s h ∙ ap text spelled); written = refl })
+    go None h e = absurd (cc e)
+numbered_follows t n e = absurd (cc e)
+
+turned_follows : (t w : Tree) → turned t ≡ Some w → Row33 t w
+turned_follows t w e = go (named_member t) (numbered_member t) refl refl e
+  where
+    go : (b : Option Bool) (n : Option ℤ) → named_member t ≡ b → numbered_member t ≡ n → dotted.turned_by b n t ≡ Some w → Row33 t w
+    go (Some b) n h k e = subst (Row33 t) (some_is (dotted.dotted b t) w e) (named_follows t b h)
+    go None (Some n) h k e = subst (Row33 t) (some_is (dotted.numbered n t) w e) (numbered_follows t n k)
+    go None None h k e = absurd (cc e)
+
+abbrev by_text : Tree → List ℕ → Tree
+by_text o s = computed_member false o (text s)
+
+number_misses : (o : Tree) (n : ℤ) → IsSafe n → turned (by_text o (signed_decimal n)) ≡ None → ⊥
+number_misses o n safe e = go (is_identifier_name (signed_decimal n)) refl
+  where
+    step : (c : Bool) → is_identifier_name (signed_decimal n) ≡ c → turned (by_text o (signed_decimal n)) ≡ dotted.turned_by (if c then Some false else None) (Some n) (by_text o (signed_decimal n))
+    step c h = ap (λ b. dotted.turned_by (if b then Some false else None) (safe_number (signed_decimal n)) (by_text o (signed_decimal n))) h ∙ ap (λ x. dotted.turned_by (if c then Some false else None) x (by_text o (signed_decimal n))) (number_of_text (signed_decimal n) n (safe, refl))
+
+    go : (c : Bool) → is_identifier_name (signed_decimal n) ≡ c → ⊥
+    go true h = absurd (cc (sym (step true h) ∙ e))
+    go false h = absurd (cc (sym (step false h) ∙ e))
+
+turned_misses : (t w : Tree) → Row33 t w → turned t ≡ None → ⊥
+turned_misses t w (inl r) e =
+    let named : turned (computed_member r.is_optional r.object (text r.name)) ≡ Some (static_member r.is_optional r.object (key r.name)) = ap (λ c. dotted.turned_by (if c then Some r.is_optional else None) (numbered_member (computed_member r.is_optional r.object (text r.name))) (computed_member r.is_optional r.object (text r.name))) r.is_name in
+    absurd (cc (sym named ∙ sym (ap turned r.shape) ∙ e))
+turned_misses t w (inr r) e = number_misses r.object r.number r.is_safe (sym (ap turned r.shape) ∙ e)
+
+module _ (t : Tree) where
+  assigned_follows : (w : Tree) → dotted.assigned t ≡ Some w → Row33Assigned t w
+  assigned_follows w e = go (assignment_operator t) (turned (part t 0)) refl refl e
+    where
+      go : (o : Option AssignmentOperator) (m : Option Tree) → assignment_operator t ≡ o → turned (part t 0) ≡ m → dotted.assigned_by o m t ≡ Some w → Row33Assigned t w
+      go (Some o) (Some m) h k e = record { operator = o; target = part t 0; turned = m; value = part t 1; member = turned_follows (part t 0) m k; shape = assignment_is t o h; written = sym (some_is (assignment o m (part t 1)) w e) }
+      go (Some o) None h k e = absurd (cc e)
+      go None m h k e = absurd (cc e)
+
+update_is : (t : Tree) (o : UpdateOperator) (l : Bool) → update_operator t ≡ Some (o, l) → t ≡ update o l (part t 0)
+update_is (node (shape.UpdateExpression p m) [] zero (a ▸ none)) o l e = ap (λ x. update x.0 x.1 a) (some_is (p, m) (o, l) e)
+update_is t o l e = absurd (cc e)
+
+updated_follows : (t w : Tree) → dotted.updated t ≡ Some w → Row33Updated t w
+updated_follows t w e = go (update_operator t) (turned (part t 0)) refl refl e
+  where
+    go : (o : Option (UpdateOperator × Bool)) (m : Option Tree) → update_operator t ≡ o → turned (part t 0) ≡ m → dotted.updated_by o m ≡ Some w → Row33Updated t w
+    go (Some (o, l)) (Some m) h k e = record { operator = o; is_prefix = l; target = part t 0; turned = m; member = turned_follows (part t 0) m k; shape = update_is t o l h; written = sym (some_is (update o l m) w e) }
+    go (Some o) None h k e = absurd (cc e)
+    go None m h k e = absurd (cc e)
+
+-- 58
+
+loose_follows : (o : BinaryOperator) → loose.is_loose o ≡ true → IsLoose o
+loose_follows Equality e = inl refl
+loose_follows Inequality e = inr refl
+loose_follows o e = absurd (cc e)
+
+loose_passes : (o : BinaryOperator) → IsLoose o → loose.is_loose o ≡ true
+loose_passes o (inl h) = ap loose.is_loose h
+loose_passes o (inr h) = ap loose.is_loose h
+
+loose_is : (t : Tree) (o : BinaryOperator) → loose.loose_operator t ≡ Some o → (t ≡ binary o (part t 0) (part t 1)) × IsLoose o
+loose_is t o e = go (binary_operator t) refl e
+  where
+    by : (p : BinaryOperator) → binary_operator t ≡ Some p → (c : Bool) → loose.is_loose p ≡ c → (if c then Some p else None) ≡ Some o → (t ≡ binary o (part t 0) (part t 1)) × IsLoose o
+    by p h true l e = let same = some_is p o e in (binary_is t p h ∙ ap (λ q. binary q (part t 0) (part t 1)) same, subst IsLoose same (loose_follows p l))
+    by p h false l e = absurd (cc e)
+
+    go : (x : Option BinaryOperator) → binary_operator t ≡ x → loose.loose_in x ≡ Some o → (t ≡ binary o (part t 0) (part t 1)) × IsLoose o
+    go (Some p) h e = by p h (loose.is_loose p) refl e
+    go None h e = absurd (cc e)
+
+loose_row : (t w : Tree) → loose.written t ≡ Some w → Row58Left t w ⊎ Row58Right t w
+loose_row t w e = go (loose.loose_operator t) refl e
+  where
+    by : (o : BinaryOperator) → loose.loose_operator t ≡ Some o → (a b : Bool) → is_undefined (part t 0) ≡ a → is_undefined (part t 1) ≡ b → (if a then Some (binary o null_literal (part t 1)) else (if b then Some (binary o (part t 0) null_literal) else None)) ≡ Some w → Row58Left t w ⊎ Row58Right t w
+    by o h true b f g e = inl (record { operator = o; left = part t 0; right = part t 1; loose = (loose_is t o h).1; undefined = undefined_is (part t 0) f; shape = (loose_is t o h).0; written = sym (some_is (binary o null_literal (part t 1)) w e) })
+    by o h false true f g e = inr (record { operator = o; left = part t 0; right = part t 1; loose = (loose_is t o h).1; undefined = undefined_is (part t 1) g; shape = (loose_is t o h).0; written = sym (some_is (binary o (part t 0) null_literal) w e) })
+    by o h false false f g e = absurd (cc e)
+
+    go : (x : Option BinaryOperator) → loose.loose_operator t ≡ x → loose.written_by x (part t 0) (part t 1) ≡ Some w → Row58Left t w ⊎ Row58Right t w
+    go (Some o) h e = by o h (is_undefined (part t 0)) (is_undefined (part t 1)) refl refl e
+    go None h e = absurd (cc e)
+
+-- where nothing is written, neither side is undefined
+unwritten_sides : (o : BinaryOperator) (a b : Tree) → IsLoose o → loose.written (binary o a b) ≡ None → (is_undefined a ≡ false) × (is_undefined b ≡ false)
+unwritten_sides o a b l e = go (is_undefined a) (is_undefined b) refl refl
+  where
+    step : loose.written (binary o a b) ≡ loose.written_by (Some o) a b
+    step = ap (λ c. loose.written_by (if c then Some o else None) a b) (loose_passes o l)
+
+    go : (x y : Bool) → is_undefined a ≡ x → is_undefined b ≡ y → (is_undefined a ≡ false) × (is_undefined b ≡ false)
+    go true y f g = absurd (cc (sym (ap (λ c. if c then Some (binary o null_literal b) else (if is_undefined b then Some (binary o a null_literal) else None)) f) ∙ sym step ∙ e))
+    go false true f g = absurd (cc (sym (ap (λ c. if c then Some (binary o null_literal b) else (if is_undefined b then Some (binary o a null_literal) else None)) f ∙ ap (λ c. if c then Some (binary o a null_literal) else None) g) ∙ sym step ∙ e))
+    go false false f g = (f, g)
+
+-- 54
+
+swap_row : (t w : Tree) → swap.written t ≡ Some w → Row54 t w
+swap_row t w e = go (binary_operator t) refl e
+  where
+    by : (o : BinaryOperator) → binary_operator t ≡ Some o → (c : Bool) → (is_equality o && (is_plain (part t 0) && swap.is_ready (part t 1))) ≡ c → swap.written_by (if c then Some o else None) (part t 0) (part t 1) ≡ Some w → Row54 t w
+    by o h true f e =
+        let (equality, sides) = and_parts (is_equality o) (is_plain (part t 0) && swap.is_ready (part t 1)) f in
+        let (left, right) = and_parts (is_plain (part t 0)) (swap.is_ready (part t 1)) sides in
+        let form = plain_is (part t 0) left in
+        record {
+          operator = o;
+          left = form.0;
+          right = part t 1;
+          equality = equality;
+          ready = (ready_is (part t 1) right).0;
+          outer = (ready_is (part t 1) right).1;
+          shape = binary_is t o h ∙ ap (λ a. binary o a (part t 1)) form.1;
+          written = sym (some_is (binary o (part t 1) (part t 0)) w e) ∙ ap (binary o (part t 1)) form.1;
+        }
+    by o h false f e = absurd (cc e)
+
+    go : (x : Option BinaryOperator) → binary_operator t ≡ x → swap.written_by (swap.swapped_in x (part t 0) (part t 1)) (part t 0) (part t 1) ≡ Some w → Row54 t w
+    go (Some o) h e = by o h (is_equality o && (is_plain (part t 0) && swap.is_ready (part t 1))) refl e
+    go None h e = absurd (cc e)
+
+swap_misses : (t w : Tree) → Row54 t w → swap.written t ≡ None → ⊥
+swap_misses t w r e =
+    let swaps : (is_equality r.operator && (is_plain (plain r.left) && swap.is_ready r.right)) ≡ true = ap (λ c. c && (is_plain (plain r.left) && swap.is_ready r.right)) r.equality ∙ ap (λ c. c && swap.is_ready r.right) (plain_passes r.left) ∙ ready_passes r.right r.ready r.outer in
+    let step : swap.written (binary r.operator (plain r.left) r.right) ≡ Some (binary r.operator r.right (plain r.left)) = ap (λ c. swap.written_by (if c then Some r.operator else None) (plain r.left) r.right) swaps in
+    absurd (cc (sym step ∙ sym (ap swap.written r.shape) ∙ e))
+
+-- 60
+
+yield_is : (t : Tree) → yielding.yields_void_zero t ≡ true → t ≡ yields void_zero
+yield_is (node (shape.YieldExpression false) [] zero (a ▸ none)) e = ap yields (void_zero_is a e)
+yield_is t e = absurd (cc e)
+
+yield_row : (t w : Tree) → yielding.written t ≡ Some w → Row60Yield t w
+yield_row t w e = go (yielding.yields_void_zero t) refl e
+  where
+    go : (c : Bool) → yielding.yields_void_zero t ≡ c → (if c then Some (yields absent) else None) ≡ Some w → Row60Yield t w
+    go true h e = record { shape = yield_is t h; written = sym (some_is (yields absent) w e) }
+    go false h e = absurd (cc e)
+
+-- all
+
+first_is : {A : Type 0} (a b : Option A) (x : A) → first_of a b ≡ Some x → (a ≡ Some x) ⊎ (b ≡ Some x)
+first_is (Some y) b x e = inl e
+first_is None b x e = inr e
+
+none_first : {A : Type 0} (a b : Option A) → first_of a b ≡ None → (a ≡ None) × (b ≡ None)
+none_first None b e = (refl, e)
+none_first (Some y) b e = absurd (cc e)
+
+of_loose : (s : Seat) (n w : Tree) → Row58Left n w ⊎ Row58Right n w → SpellingRow (Expr s) n w
+of_loose s n w (inl r) = inr (inr (inr (inr (inl r))))
+of_loose s n w (inr r) = inr (inr (inr (inr (inr (inl r)))))
+
+of_equality : (s : Seat) (n w : Tree) → (loose.written n ≡ Some w) ⊎ (swap.written n ≡ Some w) → SpellingRow (Expr s) n w
+of_equality s n w (inl e) = of_loose s n w (loose_row n w e)
+of_equality s n w (inr e) = inr (inr (inr (inr (inr (inr (inl (swap_row n w e)))))))
+
+pub written_is_row : law.WrittenIsRow
+written_is_row s (node (shape.BooleanLiteral b) xs n ts) w e = inl (boolean_follows (node (shape.BooleanLiteral b) xs n ts) w e)
+written_is_row s (node (shape.ComputedMemberExpression o) xs n ts) w e = inr (inl (turned_follows (node (shape.ComputedMemberExpression o) xs n ts) w e))
+written_is_row s (node (shape.AssignmentExpression o) xs n ts) w e = inr (inr (inl (assigned_follows (node (shape.AssignmentExpression o) xs n ts) w e)))
+written_is_row s (node (shape.UpdateExpression o l) xs n ts) w e = inr (inr (inr (inl (updated_follows (node (shape.UpdateExpression o l) xs n ts) w e))))
+written_is_row s (node (shape.BinaryExpression o) xs n ts) w e = of_equality s (node (shape.BinaryExpression o) xs n ts) w (first_is (loose.written (node (shape.BinaryExpression o) xs n ts)) (swap.written (node (shape.BinaryExpression o) xs n ts)) w e)
+written_is_row s (node (shape.YieldExpression d) xs n ts) w e = inr (inr (inr (inr (inr (inr (inr (yield_row (node (shape.YieldExpression d) xs n ts) w e)))))))
+written_is_row s (node h xs n ts) w e = absurd (cc e)
+
+-- what is written for a node whose form is told
+unwritten : (n m : Tree) → n ≡ m → written n ≡ None → written m ≡ None
+unwritten n m e h = sym (ap written e) ∙ h
+
+assigned_misses : (n w : Tree) → Row33Assigned n w → written n ≡ None → ⊥
+assigned_misses n w r e = go (turned r.target) refl (unwritten n (assignment r.operator r.target r.value) r.shape e)
+  where
+    go : (m : Option Tree) → turned r.target ≡ m → dotted.assigned_by (Some r.operator) (turned r.target) (assignment r.operator r.target r.value) ≡ None → ⊥
+    go None h e = turned_misses r.target r.turned r.member h
+    go (Some m) h e = absurd (cc (sym (ap (λ x. dotted.assigned_by (Some r.operator) x (assignment r.operator r.target r.value)) h) ∙ e))
+
+updated_misses : (n w : Tree) → Row33Updated n w → written n ≡ None → ⊥
+updated_misses n w r e = go (turned r.target) refl (unwritten n (update r.operator r.is_prefix r.target) r.shape e)
+  where
+    go : (m : Option Tree) → turned r.target ≡ m → dotted.updated_by (Some (r.operator, r.is_prefix)) (turned r.target) ≡ None → ⊥
+    go None h e = turned_misses r.target r.turned r.member h
+    go (Some m) h e = absurd (cc (sym (ap (dotted.updated_by (Some (r.operator, r.is_prefix))) h) ∙ e))
+
+sides_of : (o : BinaryOperator) (a b : Tree) → written (binary o a b) ≡ None → (loose.written (binary o a b) ≡ None) × (swap.written (binary o a b) ≡ None)
+sides_of o a b e = none_first (loose.written (binary o a b)) (swap.written (binary o a b)) e
+
+member_misses : (n w : Tree) → Row33 n w → written n ≡ None → ⊥
+member_misses n w (inl r) e = turned_misses (computed_member r.is_optional r.object (text r.name)) w (subst (λ x. Row33 x w) r.shape (inl r)) (unwritten n (computed_member r.is_optional r.object (text r.name)) r.shape e)
+member_misses n w (inr r) e = turned_misses (computed_member false r.object (text (signed_decimal r.number))) w (subst (λ x. Row33 x w) r.shape (inr r)) (unwritten n (computed_member false r.object (text (signed_decimal r.number))) r.shape e)
+
+pub unwritten_rests : law.UnwrittenRests
+unwritten_rests s n e w (inl r) = absurd (cc (unwritten n (boolean r.value) r.shape e))
+unwritten_rests s n e w (inr (inl r)) = member_misses n w r e
+unwritten_rests s n e w (inr (inr (inl r))) = assigned_misses n w r e
+unwritten_rests s n e w (inr (inr (inr (inl r)))) = updated_misses n w r e
+unwritten_rests s n e w (inr (inr (inr (inr (inl r))))) =
+    let sides = sides_of r.operator r.left r.right (unwritten n (binary r.operator r.left r.right) r.shape e) in
+    absurd (cc (sym (undefined_passes r.left r.undefined) ∙ (unwritten_sides r.operator r.left r.right r.loose sides.0).0))
+unwritten_rests s n e w (inr (inr (inr (inr (inr (inl r)))))) =
+    let sides = sides_of r.operator r.left r.right (unwritten n (binary r.operator r.left r.right) r.shape e) in
+    absurd (cc (sym (undefined_passes r.right r.undefined) ∙ (unwritten_sides r.operator r.left r.right r.loose sides.0).1))
+unwritten_rests s n e w (inr (inr (inr (inr (inr (inr (inl r))))))) =
+    let sides = sides_of r.operator (plain r.left) r.right (unwritten n (binary r.operator (plain r.left) r.right) r.shape e) in
+    swap_misses (binary r.operator (plain r.left) r.right) w (subst (λ x. Row54 x w) r.shape r) sides.1
+unwritten_rests s n e w (inr (inr (inr (inr (inr (inr (inr r))))))) = absurd (cc (unwritten n (yields void_zero) r.shape e))
+
+pub rests_settle : law.RestsSettle
+rests_settle p n w r c = r w c.row
