@@ -3,12 +3,12 @@ use Rattle.std.specs.Prelude.{◌≡◌, Bool, true, false, None}
 use Rattle.mini_model.specs.declared.place.Position.{Position}
 use Rattle.mini_model.specs.declared.place.Position.TheVariants.{StatementList}
 use Rattle.mini_model.specs.Tree.{Tree, shape_of, children}
-use Rattle.mini_accept.specs.WellShaped.{Depth, Class, a_statement, an_init, an_arrow_body, an_expression, a_link, a_chain, an_argument, a_key, a_default_export, Slot, one, one_or_absent, many, fits}
+use Rattle.mini_accept.specs.WellShaped.{Depth, Class, a_statement, an_init, an_arrow_body, an_expression, a_link, a_chain, an_argument, a_key, a_default_export, a_loop_left, a_target, a_simple_target, a_member_target, Slot, one, one_or_absent, many, fits}
 use Rattle.mini_kept.specs.Placed.{fits_place}
 use Rattle.mini_kept.specs.Lifted.{KeepsNames}
 use Rattle.mini_kept.specs.Frames.{is_declaration, is_port, ports as ports_of, frames, FramesKept}
 
--- where a statement or an expression of a body may stand
+-- where a statement or an expression of a body may stand, and what is assigned to in one
 abbrev pub is_in_body : Class → Bool
 is_in_body (a_statement d) = true
 is_in_body an_init = true
@@ -19,6 +19,10 @@ is_in_body a_chain = true
 is_in_body an_argument = true
 is_in_body (a_key is_computed) = is_computed
 is_in_body a_default_export = true
+is_in_body (a_loop_left enumerates) = true
+is_in_body a_target = true
+is_in_body a_simple_target = true
+is_in_body a_member_target = true
 is_in_body c = false
 
 -- and where a list of statements may
