@@ -11,3 +11,4 @@ mod Evals
 mod Told
 mod Reached
 mod Shares
+pub mod Known

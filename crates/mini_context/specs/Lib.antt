@@ -9,3 +9,4 @@ pub mod Catches
 pub mod Found
 pub mod Facts
 pub mod Laws
+pub mod Known

@@ -6,6 +6,7 @@
 mod context;
 mod count;
 mod exchanges;
+mod knowing;
 mod laws;
 mod listing;
 mod marks;

@@ -8,7 +8,8 @@ use Rattle.mini_model.specs.Weight.{weight, weights}
 use Rattle.mini_model.specs.Redex.{Row, Contracts, HaveNoRedex}
 use Rattle.mini_model.specs.Rewriting.{EverywhereIn}
 use Rattle.mini_logic.specs.Joined as law
-use Rattle.mini_logic.specs.Lighter.{unary_contracts, conditional_contracts, if_contracts, reaches_of}
+use Rattle.mini_logic.specs.Lighter.{unary_contracts, conditional_contracts, if_contracts}
+use Rattle.mini_walk.specs.Wider.{reaches_of}
 
 pub gives_contract : law.GivesContract
 gives_contract p t u (inl r) = unary_contracts p t u r

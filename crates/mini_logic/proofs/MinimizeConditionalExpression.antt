@@ -11,6 +11,7 @@ use Rattle.mini_node.specs.Children.{part}
 use Rattle.mini_node.specs.Kinds.{is_conditional, is_negation}
 use Rattle.mini_node.specs.Made.{conditional_is, negation_is}
 use Rattle.mini_walk.specs.Rule.{Applied}
+use Rattle.mini_walk.proofs.Reaching.{moves_once}
 use Rattle.mini_logic.specs.MinimizeConditionalExpression.{has_negated_test, swapped, minimized_conditional, Gives, Rests}
 use Rattle.mini_logic.proofs.Seats.{test_falls}
 
@@ -32,5 +33,5 @@ pub applied : (s : Seat) (t u : Tree) (b : Bool) → u ≡ minimized_conditional
 applied s t u b e f = subst (λ v. Applied Gives Rests (Expr s) t v b) (sym e) (subst (Applied Gives Rests (Expr s) t (minimized_conditional t)) (sym f) (go (has_negated_test t) refl))
   where
     go : (c : Bool) → has_negated_test t ≡ c → Applied Gives Rests (Expr s) t (if c then swapped t else t) c
-    go true h = let less = row_lighter s t (swapped t) (follows t h) in ((follows t h, less), less)
+    go true h = moves_once Gives (Expr s) t (swapped t) (follows t h, row_lighter s t (swapped t) (follows t h))
     go false h = (refl, λ w r. misses t w h r)

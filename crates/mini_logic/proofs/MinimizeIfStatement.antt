@@ -18,6 +18,7 @@ use Rattle.mini_node.specs.Kinds.{is_if_statement, is_if_alone, is_expression_st
 use Rattle.mini_node.specs.Made.{if_statement_is, if_alone_is, expression_statement_is}
 use Rattle.mini_laws.proofs.Seats.{else_falls, moved}
 use Rattle.mini_walk.specs.Rule.{Applied}
+use Rattle.mini_walk.proofs.Reaching.{moves_once}
 use Rattle.mini_logic.specs.MinimizeIfStatement.{chooses, guards, choice, conjunction, disjunction, disjunct_seat, guard, written, IsRow, Gives, Rests}
 use Rattle.mini_logic.proofs.Seats.{left_falls, right_and_falls, right_or_falls}
 
@@ -109,4 +110,4 @@ applied q t u b e f = subst (λ v. Applied Gives Rests (Stmt q) t v b) (sym e) (
   where
     go : (o : Option Tree) → written t ≡ o → Applied Gives Rests (Stmt q) t (unwrap_or o t) (is_some o)
     go None h = (refl, λ w r. misses t w h r)
-    go (Some w) h = let is = follows t w h in let less = row_lighter q t w is in ((is, less), less)
+    go (Some w) h = let is = follows t w h in moves_once Gives (Stmt q) t w (is, row_lighter q t w is)

@@ -13,6 +13,7 @@ use Rattle.mini_node.specs.Children.{part}
 use Rattle.mini_node.specs.Kinds.{is_negation}
 use Rattle.mini_node.specs.Made.{negation_is}
 use Rattle.mini_walk.specs.Rule.{Applied}
+use Rattle.mini_walk.proofs.Reaching.{moves_once}
 use Rattle.mini_logic.specs.Negating.{turned_by, is_unwrapped, has_own_negation}
 use Rattle.mini_logic.specs.MinimizeUnaryExpression.{has_lighter_negation, minimizes_unary, minimized_unary, Gives, Rests}
 use Rattle.mini_logic.proofs.Negations.{neg_other}
@@ -53,5 +54,5 @@ pub applied : (s : Seat) (t u : Tree) (b : Bool) → u ≡ minimized_unary s t �
 applied s t u b e f = subst (λ v. Applied Gives Rests (Expr s) t v b) (sym e) (subst (Applied Gives Rests (Expr s) t (minimized_unary s t)) (sym f) (go (minimizes_unary s t) refl))
   where
     go : (c : Bool) → minimizes_unary s t ≡ c → Applied Gives Rests (Expr s) t (if c then neg s (part t 0) else t) c
-    go true h = (follows s t h, (follows s t h).1)
+    go true h = moves_once Gives (Expr s) t (neg s (part t 0)) (follows s t h)
     go false h = (refl, λ small w r. misses s t w h small r)

@@ -4,10 +4,8 @@ use Rattle.std.specs.Prelude.{Contains, None, length}
 use Rattle.serde_json.specs.Data.{Data}
 use Rattle.serde_json.specs.View.{view}
 use Rattle.mini_model.specs.declared.place.Position.{Position}
-use Rattle.mini_model.specs.declared.place.Position.TheVariants.{Elsewhere}
 use Rattle.mini_model.specs.Tree.{Tree}
 use Rattle.mini_model.specs.Weight.{program_weight}
-use Rattle.mini_model.specs.Rewriting.{Everywhere}
 use Rattle.mini_names.specs.Resolved.{resolved_program}
 use Rattle.mini_names.specs.Symbols.{declared_symbols}
 use Rattle.mini_scope.specs.Pointers.{early_fault}
@@ -29,10 +27,12 @@ use Rattle.mini_kept.proofs.Texts.{text}
 use Rattle.mini_writer.specs.Written.{program_data}
 use Rattle.mini_walk.specs.Passes.{MakesPasses}
 use Rattle.mini_peephole.specs.Environments.{shared_by, foreign_to, initialised_for, environment_with}
+use Rattle.mini_peephole.specs.AnyPasses.{NothingLeft}
 use Rattle.mini_peephole.specs.Minified.{IsWritten}
 use Rattle.mini_peephole.specs.Faithful as faith
 use Rattle.mini_peephole.specs.Faithful.{earlier, symbols_of, HasNoRepeat, BeginsWithProgram, AreNamed, RunsAlike, IsSameBody, BodiesAreSame, IsFaithfulWith, FaithfulWith}
 use Rattle.mini_peephole.specs.declared.minify.Minified.{Minified}
+use Rattle.mini_peephole.proofs.Chains.{Any, any_lawful, any_reach}
 use Rattle.mini_peephole.proofs.Repeats.{no_repeat}
 use Rattle.mini_peephole.proofs.Written.{is_read, free_of, read_again}
 
@@ -61,8 +61,8 @@ bodies_same t u kept c there =
 -- ---- the whole
 
 -- t is read, its resolved form becomes v, and u is v read again
-pub record Made (R : Position → Tree → Tree → Type 0) (D : Position → Tree → Type 0) (o : CompressOptions) (m : Minified) (t v u : Tree) : Type 0 where
-  pub passes : MakesPasses R D (resolved_program t) v o.passes m.passes m.settled
+pub record Made (G : Tree → Position → Tree → Tree → Type 0) (D : Tree → Position → Tree → Type 0) (o : CompressOptions) (m : Minified) (t v u : Tree) : Type 0 where
+  pub passes : MakesPasses G D (resolved_program t) v o.passes m.passes m.settled
   pub kept : m.kept ≡ 0 ∷ numbers v
   pub symbols : m.symbols ≡ symbol_numbers (declared_symbols v)
   pub back : IsReadBack t v u
@@ -78,12 +78,12 @@ named m t v u r kept symbols = record {
   symbols_once = subst HasNoRepeat (sym symbols) (no_repeat (symbol_numbers (declared_symbols v)) r.symbols_once);
 }
 
-module _ (R : Position → Tree → Tree → Type 0) (D : Position → Tree → Type 0) where
+module _ (G : Tree → Position → Tree → Tree → Type 0) (D : Tree → Position → Tree → Type 0) where
   -- the later program, in the earlier one's numbers and symbols, is what rewriting gave
-  pub later_is : (o : CompressOptions) (m : Minified) (t v u : Tree) → Made R D o m t v u → faith.later m u ≡ v
+  pub later_is : (o : CompressOptions) (m : Minified) (t v u : Tree) → Made G D o m t v u → faith.later m u ≡ v
   later_is o m t v u made = (λ k. carried (made.kept k) (symbols_of (made.symbols k)) (resolved_program u)) ∙ made.back.later
 
-  pub faithful_trees : (o : CompressOptions) (m : Minified) (t v u : Tree) → early_fault t ≡ None → Made R D o m t v u → IsFaithfulWith (Everywhere D Elsewhere) o m t u
+  pub faithful_trees : (o : CompressOptions) (m : Minified) (t v u : Tree) → early_fault t ≡ None → Made G D o m t v u → IsFaithfulWith (NothingLeft D) o m t u
   faithful_trees o m t v u free made =
       let kept = made.rewritten in
       let whole = later_is o m t v u made in
@@ -99,16 +99,16 @@ module _ (R : Position → Tree → Tree → Type 0) (D : Position → Tree → 
         weight = subst (λ w. program_weight w ≤ program_weight (resolved_program t)) (sym whole) (omega (arith, some, less));
         some_pass = some;
         within = made.passes.within;
-        settled = λ e. subst (Everywhere D Elsewhere) (sym whole) (made.passes.ended e);
+        settled = λ e. subst (NothingLeft D) (sym whole) (made.passes.ended e);
         unsettled = λ e. let (same, fell) = made.passes.stopped e in subst (λ w. program_weight w + max o.passes 1 ≤ program_weight (resolved_program t)) (sym whole) (omega (arith, same, fell));
       }
 
-  module _ (l : Lawful R) (d : Data) (o : CompressOptions) (m : Minified) (t : Tree) (read : Accepts d t) (r : IsWritten R D (resolved_program t) o.passes m) where
+  module _ (l : (q : Tree) → Lawful (G q)) (d : Data) (o : CompressOptions) (m : Minified) (t : Tree) (read : Accepts d t) (r : IsWritten G D (resolved_program t) o.passes m) where
     pub start : IsRead t read.1
     start = is_read d read.0 read.1 t read.2
 
     kept : ProgramIsKept (resolved_program t) r.output
-    kept = lawful_keeps R l (resolved_program t) r.output r.passes.reached (shaped_resolved t start.shaped)
+    kept = lawful_keeps (Any G) (any_lawful G l) (resolved_program t) r.output (any_reach G r.passes.reached) (shaped_resolved t start.shaped)
 
     pub again : (u : Tree) × Accepts (program_data r.output) u × (text u ≡ text r.output)
     again = read_again r.output (kept.names.shaped (shaped_resolved t start.shaped))
@@ -119,8 +119,8 @@ module _ (R : Position → Tree → Tree → Type 0) (D : Position → Tree → 
     pub written : Accepts (view m.program) again.0
     written = subst (λ w. Accepts w again.0) (sym r.written) again.1
 
-    pub made : Made R D o m t r.output again.0
+    pub made : Made G D o m t r.output again.0
     made = record { passes = r.passes; kept = r.kept; symbols = r.symbols; back = read_back t r.output again.0 read.1 again.1.1 start answer_read kept again.2; rewritten = kept }
 
-    pub passes_faithful : early_fault t ≡ None → FaithfulWith (Everywhere D Elsewhere) d o m
+    pub passes_faithful : early_fault t ≡ None → FaithfulWith (NothingLeft D) d o m
     passes_faithful free = record { input = t; output = again.0; accepted = read; answered = written; faithful = faithful_trees o m t r.output again.0 free made }

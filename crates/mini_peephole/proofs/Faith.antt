@@ -21,12 +21,13 @@ use Rattle.mini_kept.proofs.ReadBack.{IsRead}
 use Rattle.mini_kept.proofs.Texts.{text, text_resolved}
 use Rattle.mini_writer.specs.Written.{program_data}
 use Rattle.mini_logic.specs.Joined.{Gives, Rests}
-use Rattle.mini_logic.proofs.Joined.{gives_contract, reaches_contract, rests_everywhere}
+use Rattle.mini_logic.proofs.Joined.{gives_contract, rests_everywhere}
 use Rattle.mini_peephole.specs.Minified.{IsRewriting}
 use Rattle.mini_peephole.specs.Faithful as faith
 use Rattle.mini_peephole.specs.Faithful.{earlier, IsFaithfulWith, IsFaithful, Faithful, PassesBounded}
 use Rattle.mini_peephole.specs.declared.minify.Minified.{Minified}
 use Rattle.mini_peephole.proofs.AnyPasses as any
+use Rattle.mini_peephole.proofs.Chains.{within_reach}
 use Rattle.mini_peephole.proofs.Heaviest.{resolved_lighter}
 
 -- ---- a program without a redex has no rewrite
@@ -67,23 +68,23 @@ no_redex o m t u light f = record {
 
 module _ (d : Data) (o : CompressOptions) (m : Minified) (t : Tree) (read : Accepts d t) (r : IsRewriting (resolved_program t) o.passes m) where
   abbrev again : (u : Tree) × Accepts (program_data r.output) u × (text u ≡ text r.output)
-  again = any.again Gives Rests gives_lawful d o m t read r
+  again = any.again (λ q. Gives) (λ q. Rests) (λ q. gives_lawful) d o m t read r
 
   start : IsRead t read.1
-  start = any.start Gives Rests gives_lawful d o m t read r
+  start = any.start (λ q. Gives) (λ q. Rests) (λ q. gives_lawful) d o m t read r
 
   answer_read : IsRead again.0 again.1.1
-  answer_read = any.answer_read Gives Rests gives_lawful d o m t read r
+  answer_read = any.answer_read (λ q. Gives) (λ q. Rests) (λ q. gives_lawful) d o m t read r
 
   written : Accepts (view m.program) again.0
-  written = any.written Gives Rests gives_lawful d o m t read r
+  written = any.written (λ q. Gives) (λ q. Rests) (λ q. gives_lawful) d o m t read r
 
-  made : any.Made Gives Rests o m t r.output again.0
-  made = any.made Gives Rests gives_lawful d o m t read r
+  made : any.Made (λ q. Gives) (λ q. Rests) o m t r.output again.0
+  made = any.made (λ q. Gives) (λ q. Rests) (λ q. gives_lawful) d o m t read r
 
   pub faithful : early_fault t ≡ None → weight Elsewhere t < 2 ^ 32 → Faithful d o m
   faithful free light =
-      record { input = t; output = again.0; accepted = read; answered = written; faithful = no_redex o m t again.0 (let a = resolved_lighter t start.unresolved in omega (arith, a, light)) (any.faithful_trees Gives Rests o m t r.output again.0 free made) }
+      record { input = t; output = again.0; accepted = read; answered = written; faithful = no_redex o m t again.0 (let a = resolved_lighter t start.unresolved in omega (arith, a, light)) (any.faithful_trees (λ q. Gives) (λ q. Rests) o m t r.output again.0 free made) }
 
   settles : (b : Bool) → (b ≡ false → ⊥) → b ≡ true
   settles true f = refl
@@ -96,7 +97,7 @@ module _ (d : Data) (o : CompressOptions) (m : Minified) (t : Tree) (read : Acce
   bounded : (v w : Tree) → Accepts d v → Accepts (view m.program) w → program_weight (faith.later m w) + m.passes ≤ program_weight (earlier v) + 1
   bounded v w a b =
       let x = input_weight v a in
-      let y = ap (weight Elsewhere) (ap (faith.later m) (one_tree (view m.program) w again.0 b written) ∙ any.later_is Gives Rests o m t r.output again.0 made) in
+      let y = ap (weight Elsewhere) (ap (faith.later m) (one_tree (view m.program) w again.0 b written) ∙ any.later_is (λ q. Gives) (λ q. Rests) o m t r.output again.0 made) in
       let h = r.passes.lighter in
       omega (arith, x, y, h)
 
@@ -106,7 +107,7 @@ module _ (d : Data) (o : CompressOptions) (m : Minified) (t : Tree) (read : Acce
   fixed : (v : Tree) → Accepts d v → HasNoRedex Elsewhere (earlier v) → Accepts (view m.program) v × (m.passes ≡ 1) × (m.settled ≡ true)
   fixed v a f =
       let one = one_tree d v t a read in
-      let same : r.output ≡ resolved_program t = stays (reaches_contract Elsewhere (resolved_program t) r.output r.passes.reached) (subst (λ w. HasNoRedex Elsewhere (resolved_program w)) one f) in
+      let same : r.output ≡ resolved_program t = stays (within_reach (λ q. Gives) Contracts (λ q. gives_contract) r.passes.reached) (subst (λ w. HasNoRedex Elsewhere (resolved_program w)) one f) in
       let w = ap (weight Elsewhere) same in
       let some = r.passes.some_pass in
       let h = r.passes.lighter in

@@ -6,3 +6,4 @@ pub mod Heaviest
 pub mod AnyPasses
 pub mod Faith
 pub mod Floats
+mod Chains

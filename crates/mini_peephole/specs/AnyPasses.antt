@@ -14,7 +14,19 @@ use Rattle.mini_peephole.specs.Faithful.{FaithfulWith}
 use Rattle.mini_peephole.specs.Minified.{IsWritten}
 use Rattle.mini_peephole.specs.declared.minify.Minified.{Minified}
 
+-- What a rule makes is lawful, under any options and over any program at which its context has looked.
+--
+-- `Lawful` asks this wherever a node may stand, in any tree. What rests on numbers of names, as on there being one read of a
+-- variable in the program, is lawful only in what steps make of that program: for such a rule the law has to be weakened to the
+-- nodes of a tree that steps of the same pass reach from it, the program being well shaped and its names scoped.
+abbrev pub LawfulFor : (CompressOptions → Tree → Position → Tree → Tree → Type 0) → Type 0
+LawfulFor G = (o : CompressOptions) (q : Tree) → Lawful (G o q)
+
+-- where the passes settled the rule has nothing left to do in the last program, by what is known of that program itself
+abbrev pub NothingLeft : (Tree → Position → Tree → Type 0) → Tree → Type 0
+NothingLeft D u = Everywhere (D u) Elsewhere u
+
 -- over a program that is accepted and has no early error, resolved
-abbrev pub LawfulPassesFaithful : (Position → Tree → Tree → Type 0) → (Position → Tree → Type 0) → Type 0
-LawfulPassesFaithful R D =
-    Lawful R → (d : Data) (o : CompressOptions) (m : Minified) (t : Tree) → Accepts d t → early_fault t ≡ None → IsWritten R D (resolved_program t) o.passes m → FaithfulWith (Everywhere D Elsewhere) d o m
+abbrev pub LawfulPassesFaithful : (CompressOptions → Tree → Position → Tree → Tree → Type 0) → (CompressOptions → Tree → Position → Tree → Type 0) → Type 0
+LawfulPassesFaithful G D =
+    LawfulFor G → (d : Data) (o : CompressOptions) (m : Minified) (t : Tree) → Accepts d t → early_fault t ≡ None → IsWritten (G o) (D o) (resolved_program t) o.passes m → FaithfulWith (NothingLeft (D o)) d o m

@@ -19,18 +19,19 @@ use Rattle.mini_logic.specs.Joined.{Gives, Rests}
 use Rattle.mini_kept.specs.Carried.{numbers, symbol_numbers}
 use Rattle.mini_peephole.specs.declared.minify.Minified.{Minified}
 
--- passes of a rule, which may make R of a tree and has nothing to do where D is, lead from the tree to the one that was
--- written; the answer has the numbers of its nodes, the program's first, and those of the symbols that its scopes declare
-pub record IsWritten (R : Position → Tree → Tree → Type 0) (D : Position → Tree → Type 0) (input : Tree) (bound : ℕ) (m : Minified) : Type 0 where
+-- passes of a rule, which over a program may make G of a tree and has nothing to do where D is, lead from the tree to the one
+-- that was written; the answer has the numbers of its nodes, the program's first, and those of the symbols that its scopes
+-- declare
+pub record IsWritten (G : Tree → Position → Tree → Tree → Type 0) (D : Tree → Position → Tree → Type 0) (input : Tree) (bound : ℕ) (m : Minified) : Type 0 where
   pub output : Tree
-  pub passes : MakesPasses R D input output bound m.passes m.settled
+  pub passes : MakesPasses G D input output bound m.passes m.settled
   pub written : view m.program ≡ program_data output
   pub kept : m.kept ≡ 0 ∷ numbers output
   pub symbols : m.symbols ≡ symbol_numbers (declared_symbols output)
 
--- of the rules
+-- of the rules, which are the same over every program
 abbrev pub IsRewriting : Tree → ℕ → Minified → Type 0
-IsRewriting = IsWritten Gives Rests
+IsRewriting = IsWritten (λ q. Gives) (λ q. Rests)
 
 -- the tree has no early error, and is resolved and rewritten
 pub record IsAnswer (input : Tree) (bound : ℕ) (m : Minified) : Type 0 where

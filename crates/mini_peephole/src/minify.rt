@@ -3,17 +3,19 @@
 ghost use Rattle.std.specs.Prelude.{◌≡◌, ◌+◌, ◌<◌, ◌^◌, Some, length, IfOk, IfErr, IfSome, false};
 ghost use Rattle.serde_json.specs.View.{view};
 ghost use Rattle.serde_json.specs.Written.{has_float};
+ghost use Rattle.mini_context.specs.Known.{Knows};
 ghost use Rattle.mini_fits.specs.Fits.{Fits};
 ghost use Rattle.mini_names.specs.References.{references};
 ghost use Rattle.mini_names.specs.Resolved.{symbols};
 ghost use Rattle.mini_names.specs.declared.Use.TheVariants as variant;
 ghost use Rattle.mini_scope.specs.Pointers.{early_fault};
 ghost use Rattle.mini_text.specs.Faults.{fault_of};
+ghost use Rattle.mini_tree.specs.declared.options.CompressOptions.{CompressOptions};
 ghost use Rattle.mini_peephole.specs.Faithful.{Faithful, PassesBounded};
 ghost use Rattle.mini_peephole.specs.Minified.{IsAnswer, IsMinified, IsRewriting, IsRefusal};
 
 use crate::named::{numbers_of, symbols_of};
-use mini_context::resolve;
+use mini_context::{TraverseCtx, resolve};
 use mini_estree::{MinifyError, Numbered, read_program};
 use mini_logic::{MinimizeConditional, MinimizeIf, MinimizeUnary};
 use mini_tree::{CompressOptions, Numbers, OutOfMemory, Program, discard};
@@ -47,11 +49,17 @@ const RULES: Then<MinimizeUnary, Then<MinimizeConditional, MinimizeIf>> = Then {
 };
 
 // The answer for a resolved tree, which is rewritten in place.
-fn rewritten(alloc: Global, tree: &mut Program, max_passes: u32) -> Result<Minified, OutOfMemory>
+fn rewritten(
+    alloc: Global,
+    tree: &mut Program,
+    max_passes: u32,
+    context: &mut TraverseCtx,
+) -> Result<Minified, OutOfMemory>
+    requires { ((o : CompressOptions) × Knows context.old o tree.old) }
     ensures ok { IfOk result (λ m. IsRewriting tree.old max_passes m) }
     ensures plain { IfOk result (λ m. has_float (view m.program) ≡ false) }
 {
-    let Passes { passes, settled } = run_passes(&RULES, alloc, tree, max_passes, &mut ())?;
+    let Passes { passes, settled } = run_passes(&RULES, alloc, tree, max_passes, context)?;
     let program = write_program(alloc, tree)?;
     let kept = numbers_of(alloc, tree)?;
     let symbols = symbols_of(alloc, tree)?;
@@ -65,15 +73,20 @@ fn rewritten(alloc: Global, tree: &mut Program, max_passes: u32) -> Result<Minif
 }
 
 // The answer for a tree as it was read, which is resolved and rewritten in place.
-fn answer(alloc: Global, tree: &mut Program, max_passes: u32) -> Result<Minified, MinifyError>
+fn answer(
+    alloc: Global,
+    tree: &mut Program,
+    options: &CompressOptions,
+) -> Result<Minified, MinifyError>
     requires symbols { symbols variant.Read tree.old < 2 ^ 32 }
     requires references { length (references variant.Read tree.old) + 1 < 2 ^ 32 }
-    ensures ok { IfOk result (λ m. IsAnswer tree.old max_passes m) }
+    ensures ok { IfOk result (λ m. IsAnswer tree.old options.now.passes m) }
     ensures plain { IfOk result (λ m. has_float (view m.program) ≡ false) }
     ensures refused { IfErr result (λ e. IfSome (fault_of e) (λ f. early_fault tree.old ≡ Some f)) }
 {
-    let _scopes = resolve(alloc, tree)?;
-    Ok(rewritten(alloc, tree, max_passes)?)
+    let scopes = resolve(alloc, tree)?;
+    let mut context = TraverseCtx::new(scopes, *options);
+    Ok(rewritten(alloc, tree, options.passes, &mut context)?)
 }
 
 /// Reads a program from its ESTree value, gives each name in it its symbol, rewrites it until nothing is left to rewrite or
@@ -98,7 +111,7 @@ pub fn minify_estree(
     ensures refused { IfErr result (λ e. IsRefusal (view program.now) options.now e) }
 {
     let Numbered { mut root, .. } = read_program(alloc, program, options.max_depth)?;
-    let made = answer(alloc, &mut root, options.passes);
+    let made = answer(alloc, &mut root, options);
     discard(root);
     made
 }

@@ -1,4 +1,5 @@
 pub mod Edits
 pub mod Reaching
+pub mod Joining
 pub mod Walks
 pub mod Passing

@@ -8,8 +8,7 @@ use Rattle.mini_model.specs.Position.{child_position}
 use Rattle.mini_model.specs.Weight.{weight}
 use Rattle.mini_model.specs.Rewriting.{Step, here, inside, StepIn, first, later, Reaches, done, more}
 use Rattle.mini_node.specs.Children.{with_child, with_part, part}
-use Rattle.mini_walk.specs.Rule.{IsLighter}
-use Rattle.mini_walk.specs.Walk.{Moves}
+use Rattle.mini_walk.specs.Rule.{Moves, IsLighter}
 use Rattle.mini_walk.proofs.Edits.{count_with, with_same}
 
 module _ (R : Position → Tree → Tree → Type 0) where

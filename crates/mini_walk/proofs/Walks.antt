@@ -10,10 +10,10 @@ use Rattle.mini_model.specs.Weight.{weight}
 use Rattle.mini_model.specs.Rewriting.{Reaches, done, Everywhere, EverywhereIn}
 use Rattle.mini_node.specs.Children.{with_child, with_part, part}
 use Rattle.mini_node.specs.Lends.{with_children}
-use Rattle.mini_walk.specs.Rule.{Applied, IsLighter}
-use Rattle.mini_walk.specs.Walk.{Moves, Walked, WalkedBelow, WalkedHere}
+use Rattle.mini_walk.specs.Rule.{Moves, Applied, IsLighter}
+use Rattle.mini_walk.specs.Walk.{Walked, WalkedBelow}
 use Rattle.mini_walk.proofs.Edits.{count_with, others_with, with_same, part_within}
-use Rattle.mini_walk.proofs.Reaching.{reaches_trans, reaches_lighter, reaches_at, moves_reach, moves_trans, moves_lighter, moves_once, moves_at}
+use Rattle.mini_walk.proofs.Reaching.{reaches_trans, reaches_lighter, reaches_at, moves_reach, moves_trans, moves_lighter, moves_at}
 
 -- where the child at an index stands
 abbrev pub place_in : Position → Tree → ℕ → Position
@@ -96,7 +96,7 @@ module _ (R : Position → Tree → Tree → Type 0) (D : Position → Tree → 
   everywhere p (node h xs n ts) d ds = (d, ds)
 
   -- the node, after its children
-  pub walked_both : (p : Position) (t u v : Tree) (a b : Bool) → WalkedBelow R D p t u a → WalkedHere R D p u v b → Walked R D p t v (a || b)
+  pub walked_both : (p : Position) (t u v : Tree) (a b : Bool) → WalkedBelow R D p t u a → Applied R D p u v b → Walked R D p t v (a || b)
   walked_both p t u v true true x y = moves_trans R x y
   walked_both p t u v true false x y = subst (Moves R p t) (sym y.0) x
   walked_both p t u v false true x y = subst (λ w. Moves R p w v) x.0 y
@@ -108,31 +108,30 @@ module _ (R : Position → Tree → Tree → Type 0) (D : Position → Tree → 
   HereTo p t u false = u ≡ t
 
   pub here_next : (p : Position) (t u v : Tree) (a b : Bool) → HereTo p t u a → Applied R D p u v b → b ≡ true → HereTo p t v true
-  here_next p t u v true true x y e = moves_trans R x (moves_once R p u v y.0)
-  here_next p t u v false true x y e = subst (λ w. Moves R p w v) x (moves_once R p u v y.0)
+  here_next p t u v true true x y e = moves_trans R x y
+  here_next p t u v false true x y e = subst (λ w. Moves R p w v) x y
   here_next p t u v a false x y e = absurd (cc e)
 
-  pub here_ended : (p : Position) (t u v : Tree) (a b : Bool) → HereTo p t u a → Applied R D p u v b → b ≡ false → WalkedHere R D p t v a
+  pub here_ended : (p : Position) (t u v : Tree) (a b : Bool) → HereTo p t u a → Applied R D p u v b → b ≡ false → Applied R D p t v a
   here_ended p t u v a true x y e = absurd (cc e)
   here_ended p t u v true false x y e = subst (Moves R p t) (sym y.0) x
   here_ended p t u v false false x y e = (y.0 ∙ x, subst (D p) x y.1)
 
+  pub applied_lighter : (p : Position) (u v : Tree) (b : Bool) → IsLighter R → Applied R D p u v b → b ≡ true → weight p v < weight p u
+  applied_lighter p u v true l y e = moves_lighter R l y
+  applied_lighter p u v false l y e = absurd (cc e)
+
   moves_on : {p : Position} {t u v : Tree} → Moves R p t u → Reaches R p u v → Moves R p t v
   moves_on m r = record { next = m.next; step = m.step; others = reaches_trans R m.others r }
 
-  pub here_more : (p : Position) (t u v w : Tree) (a b : Bool) → HereTo p t u a → WalkedHere R D p u v b → b ≡ true → Reaches R p v w → HereTo p t w true
+  pub here_more : (p : Position) (t u v w : Tree) (a b : Bool) → HereTo p t u a → Applied R D p u v b → b ≡ true → Reaches R p v w → HereTo p t w true
   here_more p t u v w true true x y e r = moves_on (moves_trans R x y) r
   here_more p t u v w false true x y e r = subst (λ z. Moves R p z w) x (moves_on y r)
   here_more p t u v w a false x y e r = absurd (cc e)
 
-  pub here_fallen : (p : Position) (u v w : Tree) (b : Bool) → IsLighter R → WalkedHere R D p u v b → b ≡ true → Reaches R p v w → weight p w < weight p u
+  pub here_fallen : (p : Position) (u v w : Tree) (b : Bool) → IsLighter R → Applied R D p u v b → b ≡ true → Reaches R p v w → weight p w < weight p u
   here_fallen p u v w true l y e r = let less = moves_lighter R l y in let rest = reaches_lighter R l r in omega (arith, less, rest)
   here_fallen p u v w false l y e r = absurd (cc e)
-
-  pub here_settled : (p : Position) (t u v : Tree) (a b : Bool) → HereTo p t u a → WalkedHere R D p u v b → b ≡ false → WalkedHere R D p t v a
-  here_settled p t u v a true x y e = absurd (cc e)
-  here_settled p t u v true false x y e = subst (Moves R p t) (sym y.0) x
-  here_settled p t u v false false x y e = (y.0 ∙ x, subst (D p) x y.1)
 
   -- the children of a node that the rule made, one after another
   pub record TriedTo (p : Position) (t u : Tree) : Type 0 where
@@ -143,11 +142,11 @@ module _ (R : Position → Tree → Tree → Type 0) (D : Position → Tree → 
   pub tried_none : (p : Position) (t : Tree) → TriedTo p t t
   tried_none p t = record { reached = done p t; shape = refl; counted = refl }
 
-  here_reached : (p : Position) (t u : Tree) (b : Bool) → WalkedHere R D p t u b → Reaches R p t u
+  here_reached : (p : Position) (t u : Tree) (b : Bool) → Applied R D p t u b → Reaches R p t u
   here_reached p t u true x = moves_reach R x
   here_reached p t u false x = subst (Reaches R p t) (sym x.0) (done p t)
 
-  pub tried_child : (p q : Position) (h : Shape) (k at : ℕ) (t u x v : Tree) (ts : Trees) (b : Bool) → (q ≡ child_position h p k at) × (h ≡ shape_of u) × (k ≡ count (children t)) × (ts ≡ children u) × (x ≡ child_or_absent ts at) → at < k → TriedTo p t u → WalkedHere R D q x v b → TriedTo p t (with_children u (with_child ts at v))
+  pub tried_child : (p q : Position) (h : Shape) (k at : ℕ) (t u x v : Tree) (ts : Trees) (b : Bool) → (q ≡ child_position h p k at) × (h ≡ shape_of u) × (k ≡ count (children t)) × (ts ≡ children u) × (x ≡ child_or_absent ts at) → at < k → TriedTo p t u → Applied R D q x v b → TriedTo p t (with_children u (with_child ts at v))
   tried_child p q h k at t u x v ts b (placed, shaped, counted, these, child) below w m =
       let stands : q ≡ place_in p u at = placed ∙ ap (λ g. child_position g p k at) shaped ∙ ap (λ c. child_position (shape_of u) p c at) (counted ∙ sym w.counted) in
       let stood = subst (λ o. Reaches R o x v) stands (here_reached q x v b m) in

@@ -6,5 +6,5 @@ mod rule;
 mod walking;
 
 pub use passes::{Passes, run_passes};
-pub use rule::{Rule, Then};
+pub use rule::{Context, Rule, Then};
 pub use walking::walk;

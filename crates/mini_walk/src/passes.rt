@@ -1,9 +1,11 @@
 //! Passes over a program.
 
 ghost use Rattle.std.specs.Prelude.{IfOk};
+ghost use Rattle.mini_model.specs.Tree.{Tree};
+ghost use Rattle.mini_tree.specs.declared.options.CompressOptions.{CompressOptions};
 ghost use Rattle.mini_walk.specs.Passes.{MakesPasses};
 
-use crate::rule::Rule;
+use crate::rule::{Context, Rule};
 use crate::walking::walk;
 use mini_model::Position;
 use mini_node::Node;
@@ -19,8 +21,9 @@ pub struct Passes {
     pub settled: bool,
 }
 
-/// Makes passes over a program until one finds nothing to do, or as many as the bound says (0 is read as 1). The only
-/// error is that memory runs out, and then the program is fit only to be dropped.
+/// Makes passes over a program until one finds nothing to do, or as many as the bound says (0 is read as 1). The context knows
+/// the program as the first begins, and looks at it anew before each other. The only error is that memory runs out, and then
+/// the program and the context are fit only to be dropped.
 pub fn run_passes<R: Rule>(
     rule: &R,
     alloc: Global,
@@ -28,17 +31,19 @@ pub fn run_passes<R: Rule>(
     max_passes: u32,
     context: &mut R::Context,
 ) -> Result<Passes, OutOfMemory>
-    ensures { IfOk result (λ made. MakesPasses R.gives R.rests program.old program.new max_passes made.passes made.settled) }
+    requires { ((o : CompressOptions) × R.Context.knows context.old o program.old) }
+    ensures { IfOk result (λ made. (o : CompressOptions) → R.Context.knows context.old o program.old → MakesPasses (R.gives o) (R.rests o) program.old program.new max_passes made.passes made.settled) }
 {
     let bound = max_passes.max(1);
-    let mut passes = 0;
-    'passes: while passes < bound {
-        passes += 1;
-        if !walk(rule, alloc, program, Position::Elsewhere, context)? {
-            let settled = true;
+    let mut passes = 1;
+    'passes: while walk(rule, alloc, program, Position::Elsewhere, context)? {
+        if passes >= bound {
+            let settled = false;
             return Ok(Passes { passes, settled });
         }
+        context.refresh(alloc, program)?;
+        passes += 1;
     }
-    let settled = false;
+    let settled = true;
     Ok(Passes { passes, settled })
 }

@@ -1,28 +1,43 @@
-//! What a rule is, and two of them as one.
+//! What rules share, what a rule is, and two of them as one.
 
-ghost use Rattle.std.specs.Prelude.{IfOk};
+ghost use Rattle.std.specs.Prelude.{IfOk, OnOk};
 ghost use Rattle.mini_model.specs.Tree.{Tree};
 ghost use Rattle.mini_model.specs.declared.place.Position.{Position};
-ghost use Rattle.mini_walk.specs.Rule.{Applied, IsLighter, Either, Both};
+ghost use Rattle.mini_tree.specs.declared.options.CompressOptions.{CompressOptions};
+ghost use Rattle.mini_walk.specs.Context.{KnowsSome, KnowsAsBefore, KnowsAnew, ByKnown};
+ghost use Rattle.mini_walk.specs.Rule.{Applied, AreLighter, Either, Both};
 
 use mini_model::Position;
 use mini_node::Node;
 use mini_text::OutOfMemory;
 use std::alloc::Global;
 
-/// What is done at a node in its place. A rule says what it may make of a tree there, and when it has nothing to do.
+/// What the calls of every rule share. It knows the options, and what it has seen of a program when it last looked.
+pub trait Context {
+    /// That these are its options, and that this is the program at which it looked last.
+    ghost knows: { Self → CompressOptions → Tree → Type 0 };
+
+    /// Looks at a program: it then knows this one. The only error is that memory runs out, and then it is fit only to be
+    /// dropped.
+    fn refresh(&mut self, alloc: Global, program: &Node) -> Result<(), OutOfMemory>
+        ensures { OnOk result (KnowsAnew knows self.old self.new program.now) };
+}
+
+/// What is done at a node in its place. A rule says what it may make of a tree there, and when it has nothing to do: both
+/// under the options, and over the program at which its context looked last.
 pub trait Rule {
     /// What the calls of every rule share.
-    type Context;
+    type Context: Context;
 
     /// What the rule may make of a tree at a place.
-    ghost gives: { Position → Tree → Tree → Type 0 };
+    ghost gives: { CompressOptions → Tree → Position → Tree → Tree → Type 0 };
 
     /// That it has nothing to do there.
-    ghost rests: { Position → Tree → Type 0 };
+    ghost rests: { CompressOptions → Tree → Position → Tree → Type 0 };
 
-    /// Makes the node lighter and answers true, or leaves it and answers false. The only error is that memory runs out,
-    /// and then the node is fit only to be dropped.
+    /// Makes something of the node, or of a part of it, in one step or several, and answers true; or leaves it, having
+    /// nothing to do, and answers false. The context knows afterwards what it knew. The only error is that memory runs
+    /// out, and then the node and the context are fit only to be dropped.
     fn apply(
         &self,
         alloc: Global,
@@ -30,10 +45,12 @@ pub trait Rule {
         place: Position,
         context: &mut Self::Context,
     ) -> Result<bool, OutOfMemory>
-        ensures { IfOk result (λ changed. Applied gives rests place node.old node.new changed) };
+        requires { KnowsSome Self.Context.knows context.old }
+        ensures applied { IfOk result (λ changed. ByKnown Self.Context.knows context.old (λ o q. Applied (gives o q) (rests o q) place node.old node.new changed)) }
+        ensures known { OnOk result (KnowsAsBefore Self.Context.knows context.old context.new) };
 
     /// Wherever in a tree it makes something of a node, the whole gets lighter.
-    ghost lighter: { IsLighter gives };
+    ghost lighter: { AreLighter gives };
 }
 
 /// Two rules, the second where the first has nothing to do.
@@ -49,11 +66,11 @@ impl<A: Rule, B: Rule<Context = A::Context>> Rule for Then<A, B> {
 
     type Context = A::Context;
 
-    ghost gives = { Either A.gives B.gives };
+    ghost gives = { λ o q. Either (A.gives o q) (B.gives o q) };
 
-    ghost rests = { Both A.rests B.rests };
+    ghost rests = { λ o q. Both (A.rests o q) (B.rests o q) };
 
-    ghost lighter = { either_lighter A.gives B.gives A.lighter B.lighter };
+    ghost lighter = { λ o q. either_lighter (A.gives o q) (B.gives o q) (A.lighter o q) (B.lighter o q) };
 
     fn apply(
         &self,
@@ -65,6 +82,7 @@ impl<A: Rule, B: Rule<Context = A::Context>> Rule for Then<A, B> {
         if self.first.apply(alloc, node, place, context)? {
             return Ok(true);
         }
-        self.second.apply(alloc, node, place, context)
+        let second = self.second.apply(alloc, node, place, context)?;
+        Ok(second)
     }
 }

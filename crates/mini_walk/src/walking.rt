@@ -1,8 +1,10 @@
 //! One walk over a tree, children first.
 
-ghost use Rattle.std.specs.Prelude.{IfOk};
+ghost use Rattle.std.specs.Prelude.{IfOk, OnOk};
 ghost use Rattle.mini_model.specs.Rewriting.{Reaches};
-ghost use Rattle.mini_walk.specs.Walk.{Walked, WalkedBelow, WalkedHere};
+ghost use Rattle.mini_walk.specs.Context.{KnowsSome, KnowsAsBefore, ByKnown};
+ghost use Rattle.mini_walk.specs.Rule.{Applied};
+ghost use Rattle.mini_walk.specs.Walk.{Walked, WalkedBelow};
 
 use crate::rule::Rule;
 use mini_model::Position;
@@ -21,7 +23,9 @@ pub fn walk<R: Rule>(
     place: Position,
     context: &mut R::Context,
 ) -> Result<bool, OutOfMemory>
-    ensures { IfOk result (λ changed. Walked R.gives R.rests place node.old node.new changed) }
+    requires { KnowsSome R.Context.knows context.old }
+    ensures walked { IfOk result (λ changed. ByKnown R.Context.knows context.old (λ o q. Walked (R.gives o q) (R.rests o q) place node.old node.new changed)) }
+    ensures known { OnOk result (KnowsAsBefore R.Context.knows context.old context.new) }
 {
     let below = walk_children(rule, alloc, node, place, context)?;
     let here = settle(rule, alloc, node, place, context)?;
@@ -37,7 +41,9 @@ fn walk_children<R: Rule>(
     place: Position,
     context: &mut R::Context,
 ) -> Result<bool, OutOfMemory>
-    ensures { IfOk result (λ changed. WalkedBelow R.gives R.rests place node.old node.new changed) }
+    requires { KnowsSome R.Context.knows context.old }
+    ensures walked { IfOk result (λ changed. ByKnown R.Context.knows context.old (λ o q. WalkedBelow (R.gives o q) (R.rests o q) place node.old node.new changed)) }
+    ensures known { OnOk result (KnowsAsBefore R.Context.knows context.old context.new) }
 {
     let count = node.children().len();
     let mut changed = false;
@@ -64,7 +70,9 @@ fn settle<R: Rule>(
     place: Position,
     context: &mut R::Context,
 ) -> Result<bool, OutOfMemory>
-    ensures { IfOk result (λ changed. WalkedHere R.gives R.rests place node.old node.new changed) }
+    requires { KnowsSome R.Context.knows context.old }
+    ensures walked { IfOk result (λ changed. ByKnown R.Context.knows context.old (λ o q. Applied (R.gives o q) (R.rests o q) place node.old node.new changed)) }
+    ensures known { OnOk result (KnowsAsBefore R.Context.knows context.old context.new) }
 {
     let mut changed = false;
     'again: while repeat(rule, alloc, node, place, context)? {
@@ -82,7 +90,9 @@ fn repeat<R: Rule>(
     place: Position,
     context: &mut R::Context,
 ) -> Result<bool, OutOfMemory>
-    ensures { IfOk result (λ changed. WalkedHere R.gives R.rests place node.old node.new changed) }
+    requires { KnowsSome R.Context.knows context.old }
+    ensures walked { IfOk result (λ changed. ByKnown R.Context.knows context.old (λ o q. Applied (R.gives o q) (R.rests o q) place node.old node.new changed)) }
+    ensures known { OnOk result (KnowsAsBefore R.Context.knows context.old context.new) }
 {
     let mut changed = false;
     'again: while rule.apply(alloc, node, place, context)? {
@@ -99,7 +109,9 @@ fn repeat_below<R: Rule>(
     place: Position,
     context: &mut R::Context,
 ) -> Result<(), OutOfMemory>
-    ensures { IfOk result (λ done. Reaches R.gives place node.old node.new) }
+    requires { KnowsSome R.Context.knows context.old }
+    ensures reached { OnOk result (ByKnown R.Context.knows context.old (λ o q. Reaches (R.gives o q) place node.old node.new)) }
+    ensures known { OnOk result (KnowsAsBefore R.Context.knows context.old context.new) }
 {
     let count = node.children().len();
     for at in 0..count {

@@ -5,6 +5,7 @@ ghost use Rattle.mini_walk.specs.Rule.{Applied};
 ghost use Rattle.mini_logic.specs.Lighter.{conditional_lighter};
 ghost use Rattle.mini_logic.specs.MinimizeConditionalExpression.{has_negated_test as has_a_negated_test, swapped as with_swapped_branches, minimized_conditional, Gives, Rests};
 
+use mini_context::TraverseCtx;
 use mini_model::Position;
 use mini_node::{Node, conditional, is_conditional, is_negation, one, taken, three};
 use mini_text::OutOfMemory;
@@ -43,13 +44,13 @@ pub fn minimize_conditional_expression(alloc: Global, node: &mut Node) -> Result
 pub struct MinimizeConditional;
 
 impl Rule for MinimizeConditional {
-    type Context = ();
+    type Context = TraverseCtx;
 
-    ghost gives = { Gives };
+    ghost gives = { λ o q. Gives };
 
-    ghost rests = { Rests };
+    ghost rests = { λ o q. Rests };
 
-    ghost lighter = { conditional_lighter };
+    ghost lighter = { λ o q. conditional_lighter };
 
     #[tactic(auto, using(crate::proofs::MinimizeConditionalExpression::applied))]
     fn apply(
@@ -57,7 +58,7 @@ impl Rule for MinimizeConditional {
         alloc: Global,
         node: &mut Node,
         place: Position,
-        context: &mut (),
+        context: &mut TraverseCtx,
     ) -> Result<bool, OutOfMemory> {
         match place {
             Position::Expr(_) => Ok(minimize_conditional_expression(alloc, node)?),

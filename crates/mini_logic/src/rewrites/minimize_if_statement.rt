@@ -8,6 +8,7 @@ ghost use Rattle.mini_logic.specs.Lighter.{if_lighter};
 ghost use Rattle.mini_logic.specs.MinimizeIfStatement.{chooses as it_chooses, guards as it_guards, choice as choice_of, conjunction as conjunction_of, disjunction as disjunction_of, guard as guard_of, written, Gives, Rests};
 
 use crate::terms::{has_negated_result, negated};
+use mini_context::TraverseCtx;
 use mini_model::{LogicalOperator, Position};
 use mini_node::{
     Node, conditional, discard, expression_statement, is_expression_statement, is_if_alone,
@@ -96,13 +97,13 @@ pub fn try_minimize_if(alloc: Global, node: &mut Node) -> Result<bool, OutOfMemo
 pub struct MinimizeIf;
 
 impl Rule for MinimizeIf {
-    type Context = ();
+    type Context = TraverseCtx;
 
-    ghost gives = { Gives };
+    ghost gives = { λ o q. Gives };
 
-    ghost rests = { Rests };
+    ghost rests = { λ o q. Rests };
 
-    ghost lighter = { if_lighter };
+    ghost lighter = { λ o q. if_lighter };
 
     #[tactic(auto, using(crate::proofs::MinimizeIfStatement::applied))]
     fn apply(
@@ -110,7 +111,7 @@ impl Rule for MinimizeIf {
         alloc: Global,
         node: &mut Node,
         place: Position,
-        context: &mut (),
+        context: &mut TraverseCtx,
     ) -> Result<bool, OutOfMemory> {
         match place {
             Position::Stmt(_) => Ok(try_minimize_if(alloc, node)?),

@@ -6,6 +6,7 @@ ghost use Rattle.mini_logic.specs.Lighter.{unary_lighter};
 ghost use Rattle.mini_logic.specs.MinimizeUnaryExpression.{has_lighter_negation as has_a_lighter_negation, minimizes_unary, minimized_unary, Gives, Rests};
 
 use crate::terms::{has_own_negation, neg_weight, negated};
+use mini_context::TraverseCtx;
 use mini_model::{Position, Seat};
 use mini_node::{Node, is_negation, one, taken};
 use mini_text::OutOfMemory;
@@ -45,13 +46,13 @@ pub fn minimize_unary(alloc: Global, node: &mut Node, seat: Seat) -> Result<bool
 pub struct MinimizeUnary;
 
 impl Rule for MinimizeUnary {
-    type Context = ();
+    type Context = TraverseCtx;
 
-    ghost gives = { Gives };
+    ghost gives = { λ o q. Gives };
 
-    ghost rests = { Rests };
+    ghost rests = { λ o q. Rests };
 
-    ghost lighter = { unary_lighter };
+    ghost lighter = { λ o q. unary_lighter };
 
     #[tactic(auto, using(crate::proofs::MinimizeUnaryExpression::applied))]
     fn apply(
@@ -59,7 +60,7 @@ impl Rule for MinimizeUnary {
         alloc: Global,
         node: &mut Node,
         place: Position,
-        context: &mut (),
+        context: &mut TraverseCtx,
     ) -> Result<bool, OutOfMemory> {
         match place {
             Position::Expr(seat) => Ok(minimize_unary(alloc, node, seat)?),

@@ -1,5 +1,6 @@
 use Rattle.std.proofs.Common.{◌+◌, ◌*◌}
 use Rattle.mini_model.specs.Tree.{node_count}
+use Rattle.mini_walk.specs.Context.{KnowsAsBefore, ByKnown}
 use Rattle.mini_walk.proofs.Walks.{WalkedTo}
 use Rattle.mini_walk.proofs.walking.+nodes.Given as goal
 
@@ -10,4 +11,7 @@ abbrev pub decreases-walk_children : goal.decreases-walk_children
 decreases-walk_children g l = 2 * node_count l.node.now
 
 abbrev pub invariant-walk_children-loop-at : goal.invariant-walk_children-loop-at
-invariant-walk_children-loop-at g l = WalkedTo g.R.Rule.gives g.R.Rule.rests l.place l.at l.fn.node l.node l.changed
+invariant-walk_children-loop-at g l = record {
+  known : KnowsAsBefore g.R.Context.Context.knows l.fn.context l.context;
+  walked : ByKnown g.R.Context.Context.knows l.fn.context (λ o q. WalkedTo (g.R.Rule.gives o q) (g.R.Rule.rests o q) l.place l.at l.fn.node l.node l.changed);
+}

@@ -1,9 +1,13 @@
 use Rattle.mini_model.specs.Weight.{weight}
+use Rattle.mini_walk.specs.Context.{KnowsAsBefore, ByKnown}
 use Rattle.mini_walk.proofs.Walks.{HereTo}
 use Rattle.mini_walk.proofs.walking.settle.Given as goal
 
 abbrev pub invariant-again : goal.invariant-again
-invariant-again g l = HereTo g.R.Rule.gives g.R.Rule.rests l.place l.fn.node l.node l.changed
+invariant-again g l = record {
+  known : KnowsAsBefore g.R.Context.Context.knows l.fn.context l.context;
+  here : ByKnown g.R.Context.Context.knows l.fn.context (λ o q. HereTo (g.R.Rule.gives o q) (g.R.Rule.rests o q) l.place l.fn.node l.node l.changed);
+}
 
 abbrev pub decreases-again : goal.decreases-again
 decreases-again g l = weight l.place l.node
