@@ -26,8 +26,8 @@ fn refusal(alloc: Global, error: &MinifyError) -> Result<String, CaseError> {
     Ok(format!(in alloc; "{} {}", error.variant(), error.place())?)
 }
 
-// Numbers in brackets, with commas between them.
-fn listed(alloc: Global, numbers: &Numbers) -> Result<String, CaseError> {
+/// Numbers in brackets, with commas between them.
+pub fn listed(alloc: Global, numbers: &Numbers) -> Result<String, CaseError> {
     let mut text = String::from_str(alloc, "[")?;
     let mut comma = "";
     for number in numbers.as_slice() {

@@ -1,7 +1,12 @@
 // Cases and their answers.
 
 use crate::answers::{answered, minified};
+use crate::depth::{read_deep, write_deep};
 use crate::error::CaseError;
+use crate::lists::{expressions_by_steps, numbers_by_steps, statements_by_steps};
+use crate::literals::{cooked, escaped, joined, named, numeral, safe_number, shortened};
+use crate::memory::{code, options, run_in_memory, run_on_spaces, run_plain};
+use crate::sizes::sizes;
 use crate::weights::{expression_weight, statement_weights};
 use mini_estree::{Numbered, read_program, write_program};
 use mini_run::echoed;
@@ -24,6 +29,42 @@ pub fn answer(alloc: Global, line: &str) -> Result<String, CaseError> {
         "statement" => statement_weights(alloc, rest),
         "minify" => minified(alloc, rest),
         "answer" => answered(alloc, rest),
+        _ => match part_answer(alloc, word, rest)? {
+            Some(answer) => Ok(answer),
+            None => run_answer(alloc, word, rest),
+        },
+    }
+}
+
+// The answer to a line that asks for a part of a library.
+fn part_answer(alloc: Global, word: &str, rest: &str) -> Result<Option<String>, CaseError> {
+    let answer = match word {
+        "text" => named(alloc, rest)?,
+        "shortened" => shortened(alloc, rest)?,
+        "numeral" => numeral(alloc, rest)?,
+        "safe" => safe_number(alloc, rest)?,
+        "escaped" => escaped(alloc, rest)?,
+        "cooked" => cooked(alloc, rest)?,
+        "joined" => joined(alloc, rest)?,
+        "sizes" => sizes(alloc, rest)?,
+        "list" => numbers_by_steps(alloc, rest)?,
+        "statements" => statements_by_steps(alloc, rest)?,
+        "expressions" => expressions_by_steps(alloc, rest)?,
+        "read" => read_deep(alloc, rest)?,
+        "write" => write_deep(alloc, rest)?,
+        _ => return Ok(None),
+    };
+    Ok(Some(answer))
+}
+
+// The answer to a line that asks for a whole run.
+fn run_answer(alloc: Global, word: &str, rest: &str) -> Result<String, CaseError> {
+    match word {
+        "run" => run_in_memory(alloc, rest),
+        "plain" => run_plain(alloc, rest),
+        "spaces" => run_on_spaces(alloc, rest),
+        "options" => options(alloc, rest),
+        "code" => code(alloc, rest),
         _ => Err(CaseError::NoCase),
     }
 }

@@ -3,21 +3,24 @@
 //!
 //! A line that begins with `#` is a title, and its own answer. Each other one is a word and a value of ESTree as JSON:
 //! `tell` and a depth, `numbers`, `again`, `echo`, `expression`, `statement`, or `minify` or `answer` and a number of passes.
-//! The lines of `answer` are those that `bench/cases.js` writes.
+//! The lines of `answer` are those that `bench/cases.js` writes. Or it asks for a whole run over memory (`run` and its like, in
+//! `memory.rt`) or for a part of a library: `text`, `numeral`, `cooked`, `list`, `statements`, `sizes`, `read` and more (`cases.rt`).
 //!
 //! With the word `--echo` all of standard input is one program, which is written as the minifier would: every field of each
 //! type of node, and no other. With `--json` it is read and written as plain JSON, so that the time of that can be told from
 //! the time of all.
 //!
-//! Beside this stand the tests of what no line can ask. They give nothing to others, as this program doesn't: a crate with
-//! tests is proved a second time with them.
+//! The repository has no test besides these lines, since a crate with tests is proved a second time with them.
 #![tactic(auto)]
 
 mod answers;
 mod cases;
+mod depth;
 mod error;
-#[cfg(test)]
-mod tests;
+mod lists;
+mod literals;
+mod memory;
+mod sizes;
 mod weights;
 
 use cases::answer;
