@@ -1,68 +1,129 @@
 -- A node keeps what its children keep.
-use Rattle.std.specs.Prelude.{ℕ, zero, suc, ◌+◌, ◌≤◌, ◌≡◌, refl, ◌&&◌, not, Bool, false, List, [], ◌∷◌, ◌++◌, Option, unwrap_or, if◌then◌else◌}
+use Rattle.std.specs.Prelude.{ℕ, zero, suc, ◌+◌, ◌≤◌, ◌≡◌, refl, ◌||◌, Bool, true, false, List, [], ◌∷◌, ◌++◌, Option, unwrap_or, if◌then◌else◌}
 use Rattle.std.proofs.Common.{ap, ◌∙◌, sym, subst, arith, inl, inr, ◌⊎◌}
 use Rattle.mini_model.specs.declared.name.Name.{Name}
 use Rattle.mini_model.specs.declared.place.Position.{Position}
 use Rattle.mini_model.specs.declared.shape.Shape.{Shape}
 use Rattle.mini_model.specs.declared.shape.Shape.TheVariants as shape
-use Rattle.mini_model.specs.Tree.{Tree, Trees, node, none, ◌▸◌, count, child_or_absent}
+use Rattle.mini_model.specs.Tree.{Tree, Trees, node, none, ◌▸◌, count, shape_of, child_or_absent}
 use Rattle.mini_model.specs.Position.{child_position}
 use Rattle.mini_names.specs.declared.Use.{Use}
 use Rattle.mini_names.specs.declared.Binding.{Binding}
+use Rattle.mini_names.specs.declared.Declared.{Declared}
 use Rattle.mini_names.specs.declared.Declared.TheVariants as declared
+use Rattle.mini_names.specs.declared.Declaration.{Declaration}
 use Rattle.mini_names.specs.declared.Clash.{Clash}
 use Rattle.mini_names.specs.declared.Clash.TheVariants as clash
 use Rattle.mini_names.specs.declared.Jump.{Jump}
 use Rattle.mini_names.specs.declared.Jump.TheVariants as jump
+use Rattle.mini_names.specs.declared.Place.{Place}
+use Rattle.mini_names.specs.declared.Place.TheVariants as place
 use Rattle.mini_names.specs.declared.Turn.{Turn}
 use Rattle.mini_names.specs.declared.Turn.TheVariants as turn
 use Rattle.mini_names.specs.declared.Targets.{Targets}
-use Rattle.mini_names.specs.Scopes.{use_of, opening_of, scopes_by, opened}
+use Rattle.mini_names.specs.DeclaredNames.{place_of, names_by, names_of, first_names, all_names, is_statement_list, body_names, all_body_names, is_inner, has_inner, any_inner}
+use Rattle.mini_names.specs.Scopes.{use_of, opening_of, opened}
 use Rattle.mini_names.specs.Resolved.{Environment}
 use Rattle.mini_names.specs.Scoped.{Scoped, AllScoped}
-use Rattle.mini_names.specs.Edits.{AllKept}
-use Rattle.mini_names.specs.Early.{Path, own_declarations, is_function_shape, holds_statements, body_declarations, is_pattern_shape, clash_of, in_body, children_of_node, declarations_by, scope_declarations, clashing, early_names, all_early_names, label_by, label_in, is_loop_shape, is_labeled, is_loop, last_is_loop, last_by, turn_of, label_for, turned, targets_of, jump_of, is_bad, is_bad_jump, early_jumps, all_early_jumps}
-use Rattle.mini_names.proofs.Changes.{below, as_it_is, scopes_kept, at_same}
+use Rattle.mini_names.specs.Symbols.{declared as declared_in, Within}
+use Rattle.mini_names.specs.Early.{Path, declarations, holds_statements, statement_declarations, body_declarations, all_body_declarations, is_pattern_shape, clash_of, at_child, in_body, children_of_node, in_param, in_block, declarations_by, scope_declarations, clashing, early_names, all_early_names, label_by, label_in, is_loop_shape, is_labeled, is_loop, last_is_loop, last_by, turn_of, label_for, turned, targets_of, jump_of, is_bad, is_bad_jump, early_jumps, all_early_jumps}
 use Rattle.mini_kept.specs.Carried.{numbers, all_numbers, with_number}
-use Rattle.mini_kept.specs.KeepsNames.{Keeps, Stands, is_rewritten_place, unplaced, NamesOnce, HasTargets, count_of}
-use Rattle.mini_kept.proofs.Unplaced.{as_body, all_as_body, body_is, body_same, ScopesAlike, scope_same, free_same}
+use Rattle.mini_kept.specs.KeepsNames.{Stands, is_rewritten_place, NamesOnce, HasTargets, count_of}
+use Rattle.mini_kept.specs.KeepsLoosely.{KeepsLoosely}
+use Rattle.mini_kept.specs.SameNames.{is_among, SameNames, SameScope, NoMoreClash}
+use Rattle.mini_kept.proofs.Unplaced.{declared_same}
+use Rattle.mini_kept.proofs.Clashes.{no_more_same, no_more_both, still_free}
+use Rattle.mini_kept.proofs.SameScopes.{scope_both}
+use Rattle.mini_kept.proofs.Statements.{same_both, statement_scope, no_more_hoisted, no_more_statement}
+use Rattle.mini_kept.proofs.LooseScopes.{AllKeep, AllStand, children_scoped, children_within}
 
--- the children, from an index on, keep what they are asked to
-abbrev pub AllKeep : (ℕ → Position) → ℕ → Trees → Trees → Type 0
-AllKeep π i none none = Unit {0}
-AllKeep π i none (u ▸ us) = ⊥
-AllKeep π i (t ▸ ts) none = ⊥
-AllKeep π i (t ▸ ts) (u ▸ us) = Keeps (π i) t u × AllKeep π (suc i) ts us
+-- ---- names
 
--- and their names are used as their places say
-abbrev pub AllStand : (ℕ → Position) → (ℕ → Use) → ℕ → Trees → Type 0
-AllStand π v i none = Unit {0}
-AllStand π v i (t ▸ ts) = Stands (π i) (v i) t × AllStand π v (suc i) ts
+all_names_kept : (d : Declared) (π : ℕ → Position) (i : ℕ) (ts us : Trees) → ((p : Position) (t u : Tree) → KeepsLoosely p t u → names_of d u ≡ names_of d t) → AllKeep π i ts us → all_names d us ≡ all_names d ts
+unfolding names_of
+all_names_kept d π i none none f k = refl
+all_names_kept d π i none (u ▸ us) f k = absurd k
+all_names_kept d π i (t ▸ ts) none f k = absurd k
+all_names_kept d π i (t ▸ ts) (u ▸ us) f k = λ j. f (π i) t u k.0 j ++ all_names_kept d π (suc i) ts us f k.1 j
 
--- ---- names and symbols
+pub all_bound : (π : ℕ → Position) (ts us : Trees) → AllKeep π 0 ts us → all_names declared.Bound us ≡ all_names declared.Bound ts
+all_bound π ts us k = all_names_kept declared.Bound π 0 ts us (λ p t u w. w.bound) k
 
-all_kept : (π : ℕ → Position) (i : ℕ) (ts us : Trees) → AllKeep π i ts us → AllKept ts us
-all_kept π i none none k = tt
-all_kept π i none (u ▸ us) k = absurd k
-all_kept π i (t ▸ ts) none k = absurd k
-all_kept π i (t ▸ ts) (u ▸ us) k = (k.0.kept, all_kept π (suc i) ts us k.1)
+pub first_bound : (π : ℕ → Position) (ts us : Trees) → AllKeep π 0 ts us → first_names us ≡ first_names ts
+unfolding names_of
+first_bound π none none k = refl
+first_bound π none (u ▸ us) k = absurd k
+first_bound π (t ▸ ts) none k = absurd k
+first_bound π (t ▸ ts) (u ▸ us) k = k.0.bound
 
-all_scoped : (π : ℕ → Position) (sc sc' : ℕ → List Binding) → ((j : ℕ) → sc' j ≡ sc j) → (vs : ℕ → Use) (i : ℕ) (env : Environment) (ts us : Trees) → AllKeep π i ts us → AllStand π vs i ts → AllScoped sc vs i env ts → AllScoped sc' vs i env us
-unfolding Scoped
-all_scoped π sc sc' e vs i env none none k s a = tt
-all_scoped π sc sc' e vs i env none (u ▸ us) k s a = absurd k
-all_scoped π sc sc' e vs i env (t ▸ ts) none k s a = absurd k
-all_scoped π sc sc' e vs i env (t ▸ ts) (u ▸ us) k s a =
-    subst (λ bs. Scoped (vs i) (env ++ bs) u × AllScoped sc' vs (suc i) (env ++ bs) us) (sym (e i))
-    (k.0.scoped (vs i) (env ++ sc i) s.0 a.0, all_scoped π sc sc' e vs (suc i) (env ++ sc i) ts us k.1 s.1 a.1)
+bound_below : (h : Shape) (xs : List Name) (n : ℕ) (π : ℕ → Position) (ts us : Trees) → AllKeep π 0 ts us → names_of declared.Bound (node h xs n us) ≡ names_of declared.Bound (node h xs n ts)
+unfolding names_of
+bound_below h xs n π ts us k = λ j. names_by (place_of declared.Bound h) xs (first_bound π ts us k j) (all_bound π ts us k j) (all_bound π ts us k j)
 
-opened_same : (v : Use) (h : Shape) (ts us : Trees) → AllKept ts us → (i : ℕ) → opened v h us i ≡ opened v h ts i
-opened_same v h ts us k i = at_same (scopes_by (opening_of v h) ts) (scopes_by (opening_of v h) us) i (scopes_kept (opening_of v h) ts us k)
+lexical_below : (h : Shape) (xs : List Name) (n : ℕ) (π : ℕ → Position) (ts us : Trees) → AllKeep π 0 ts us → names_of declared.Lexical (node h xs n us) ≡ names_of declared.Lexical (node h xs n ts)
+unfolding names_of
+lexical_below h xs n π ts us k = λ j. names_by (place_of declared.Lexical h) xs (first_bound π ts us k j) (all_bound π ts us k j) (all_names_kept declared.Lexical π 0 ts us (λ p t u w. w.lexical) k j)
+
+all_hoisted : (π : ℕ → Position) (i : ℕ) (ts us : Trees) → AllKeep π i ts us → SameNames (all_names declared.Hoisted us) (all_names declared.Hoisted ts)
+unfolding names_of
+all_hoisted π i none none k x = refl
+all_hoisted π i none (u ▸ us) k x = absurd k
+all_hoisted π i (t ▸ ts) none k x = absurd k
+all_hoisted π i (t ▸ ts) (u ▸ us) k x = same_both (names_of declared.Hoisted u) (all_names declared.Hoisted us) (names_of declared.Hoisted t) (all_names declared.Hoisted ts) k.0.hoisted (all_hoisted π (suc i) ts us k.1) x
+
+hoisted_by : (k : Place) (xs a a' b b' c c' : List Name) → a' ≡ a → b' ≡ b → SameNames c' c → SameNames (names_by k xs a' b' c') (names_by k xs a b c)
+hoisted_by place.Here xs a a' b b' c c' e f g x = refl
+hoisted_by place.FirstBound xs a a' b b' c c' e f g x = ap (λ ys. is_among ys x) e
+hoisted_by place.Bound xs a a' b b' c c' e f g x = ap (λ ys. is_among ys x) f
+hoisted_by place.Below xs a a' b b' c c' e f g x = g x
+hoisted_by place.Nowhere xs a a' b b' c c' e f g x = refl
+
+hoisted_below : (h : Shape) (xs : List Name) (n : ℕ) (π : ℕ → Position) (ts us : Trees) → AllKeep π 0 ts us → SameNames (names_of declared.Hoisted (node h xs n us)) (names_of declared.Hoisted (node h xs n ts))
+unfolding names_of
+hoisted_below h xs n π ts us k =
+    hoisted_by (place_of declared.Hoisted h) xs (first_names ts) (first_names us) (all_names declared.Bound ts) (all_names declared.Bound us) (all_names declared.Hoisted ts) (all_names declared.Hoisted us) (first_bound π ts us k) (all_bound π ts us k) (all_hoisted π 0 ts us k)
+
+any_inner_kept : (π : ℕ → Position) (i : ℕ) (ts us : Trees) → AllKeep π i ts us → any_inner us ≡ any_inner ts
+unfolding has_inner
+any_inner_kept π i none none k = refl
+any_inner_kept π i none (u ▸ us) k = absurd k
+any_inner_kept π i (t ▸ ts) none k = absurd k
+any_inner_kept π i (t ▸ ts) (u ▸ us) k = λ j. k.0.inner j || any_inner_kept π (suc i) ts us k.1 j
+
+inner_below : (h : Shape) (xs : List Name) (n : ℕ) (π : ℕ → Position) (ts us : Trees) → AllKeep π 0 ts us → has_inner (node h xs n us) ≡ has_inner (node h xs n ts)
+unfolding has_inner
+inner_below h xs n π ts us k = ap (λ b. is_inner h || b) (any_inner_kept π 0 ts us k)
+
+-- ---- the names of a body, and symbols
+
+all_body_names_kept : (π : ℕ → Position) (sc : ℕ → List Binding) (vs : ℕ → Use) (i : ℕ) (env : Environment) (ts us : Trees) → AllKeep π i ts us → AllStand π vs i ts → AllScoped sc vs i env ts → SameScope (all_body_names us) (all_body_names ts)
+unfolding body_names Scoped
+all_body_names_kept π sc vs i env none none k s a r = refl
+all_body_names_kept π sc vs i env none (u ▸ us) k s a r = absurd k
+all_body_names_kept π sc vs i env (t ▸ ts) none k s a r = absurd k
+all_body_names_kept π sc vs i env (t ▸ ts) (u ▸ us) k s a r =
+    scope_both (body_names u) (all_body_names us) (body_names t) (all_body_names ts) (k.0.body (vs i) (env ++ sc i) s.0 a.0) (all_body_names_kept π sc vs (suc i) (env ++ sc i) ts us k.1 s.1 a.1) r
+
+chosen_scope : (b : Bool) (xs ys xs' ys' : List Name) → SameScope xs xs' → SameScope ys ys' → SameScope (if b then xs else ys) (if b then xs' else ys')
+chosen_scope true xs ys xs' ys' e f = e
+chosen_scope false xs ys xs' ys' e f = f
+
+body_names_below : (p : Position) (h : Shape) (xs : List Name) (n : ℕ) (ts us : Trees) (v : Use) (env : Environment) → AllKeep (child_position h p (count ts)) 0 ts us → AllStand (child_position h p (count ts)) (use_of h v) 0 ts → Scoped v env (node h xs n ts) → SameScope (body_names (node h xs n us)) (body_names (node h xs n ts))
+unfolding body_names Scoped
+body_names_below p h xs n ts us v env k s a =
+    let π = child_position h p (count ts) in
+    let t = node h xs n ts in
+    let u = node h xs n us in
+    chosen_scope (is_statement_list h) (all_body_names us) (names_of declared.Lexical u ++ names_of declared.Hoisted u) (all_body_names ts) (names_of declared.Lexical t ++ names_of declared.Hoisted t) (all_body_names_kept π (opened v h ts) (use_of h v) 0 env ts us k s a.1)
+    (statement_scope v env t u a (lexical_below h xs n π ts us k) (hoisted_below h xs n π ts us k))
 
 scoped_below : (p : Position) (h : Shape) (xs : List Name) (n : ℕ) (ts us : Trees) (v : Use) (env : Environment) → AllKeep (child_position h p (count ts)) 0 ts us → AllStand (child_position h p (count ts)) (use_of h v) 0 ts → Scoped v env (node h xs n ts) → Scoped v env (node h xs n us)
 unfolding Scoped
-scoped_below p h xs n ts us v env k s a =
-    (a.0, all_scoped (child_position h p (count ts)) (opened v h ts) (opened v h us) (opened_same v h ts us (all_kept (child_position h p (count ts)) 0 ts us k)) (use_of h v) 0 env ts us k s a.1)
+scoped_below p h xs n ts us v env k s a = (a.0, children_scoped (opening_of v h) (child_position h p (count ts)) (use_of h v) env ts us k s a.1)
+
+symbols_below : (p : Position) (h : Shape) (xs : List Name) (n : ℕ) (ts us : Trees) (v : Use) (env : Environment) → AllKeep (child_position h p (count ts)) 0 ts us → AllStand (child_position h p (count ts)) (use_of h v) 0 ts → Scoped v env (node h xs n ts) → Within (declared_in v (node h xs n us)) (declared_in v (node h xs n ts))
+unfolding Scoped declared_in
+symbols_below p h xs n ts us v env k s a x = children_within x (opening_of v h) (child_position h p (count ts)) (use_of h v) env ts us k s a.1
 
 -- ---- numbers
 
@@ -88,52 +149,55 @@ numbers_below h xs n π ts us w k = with_same n k (all_numbers ts) (all_numbers 
 
 -- ---- declarations
 
--- a tree keeps them without their paths
-as_body_kept : (t u : Tree) → ((b : Bool) (q : Path) → unplaced (body_declarations b q u) ≡ unplaced (body_declarations b q t)) → (b : Bool) → as_body b u ≡ as_body b t
-as_body_kept t u e b = sym (body_is b [] u) ∙ e b [] ∙ body_is b [] t
+all_declared_as_body : (π : ℕ → Position) (j : ℕ) (ts us : Trees) → AllKeep π j ts us → (b : Bool) (q : Path) (i : ℕ) → NoMoreClash (all_body_declarations b q i us) (all_body_declarations b q i ts)
+unfolding body_declarations
+all_declared_as_body π j none none w b q i = no_more_same [] [] refl
+all_declared_as_body π j none (u ▸ us) w b q i = absurd w
+all_declared_as_body π j (t ▸ ts) none w b q i = absurd w
+all_declared_as_body π j (t ▸ ts) (u ▸ us) w b q i =
+    no_more_both (body_declarations b (q ++ i ∷ []) t) (body_declarations b (q ++ i ∷ []) u) (all_body_declarations b q (suc i) ts) (all_body_declarations b q (suc i) us) (w.0.declared_as_body b (q ++ i ∷ [])) (all_declared_as_body π (suc j) ts us w.1 b q (suc i))
 
-all_as_body_kept : (π : ℕ → Position) (j : ℕ) (ts us : Trees) → AllKeep π j ts us → (b : Bool) → all_as_body b us ≡ all_as_body b ts
-all_as_body_kept π j none none w b = refl
-all_as_body_kept π j none (u ▸ us) w b = absurd w
-all_as_body_kept π j (t ▸ ts) none w b = absurd w
-all_as_body_kept π j (t ▸ ts) (u ▸ us) w b = λ k. as_body_kept t u w.0.declared_as_body b k ++ all_as_body_kept π (suc j) ts us w.1 b k
+chosen_declared : (b : Bool) (ds es ds' es' : List Declaration) → NoMoreClash es ds → NoMoreClash es' ds' → NoMoreClash (if b then es else es') (if b then ds else ds')
+chosen_declared true ds es ds' es' e f = e
+chosen_declared false ds es ds' es' e f = f
 
-as_body_below : (h : Shape) (xs : List Name) (n : ℕ) (π : ℕ → Position) (ts us : Trees) → AllKeep π 0 ts us → (b : Bool) (q : Path) → unplaced (body_declarations b q (node h xs n us)) ≡ unplaced (body_declarations b q (node h xs n ts))
+as_body_below : (h : Shape) (xs : List Name) (n : ℕ) (π : ℕ → Position) (ts us : Trees) → AllKeep π 0 ts us → (b : Bool) (q : Path) → NoMoreClash (body_declarations b q (node h xs n us)) (body_declarations b q (node h xs n ts))
+unfolding body_declarations
 as_body_below h xs n π ts us w b q =
-    let kept = below h xs n ts us (all_kept π 0 ts us w) in
-    let l = not (b && is_function_shape h) in
-    body_same b q q (node h xs n ts) (node h xs n us)
-    (λ k. if holds_statements h then all_as_body_kept π 0 ts us w b k else own_declarations l [] (kept.names declared.Lexical k) ++ own_declarations false [] (kept.names declared.Hoisted k))
+    chosen_declared (holds_statements h) (all_body_declarations b q 0 ts) (all_body_declarations b q 0 us) (statement_declarations b q (node h xs n ts)) (statement_declarations b q (node h xs n us)) (all_declared_as_body π 0 ts us w b q 0)
+    (no_more_statement b q q (node h xs n ts) (node h xs n us) refl (lexical_below h xs n π ts us w) (hoisted_below h xs n π ts us w))
 
 -- ---- a child at an index
 
-keeps_absent : (p : Position) (t : Tree) → Keeps p t t
-keeps_absent p t = record {
-  kept = as_it_is t;
+pub keeps_itself : (p : Position) (t : Tree) → KeepsLoosely p t t
+keeps_itself p t = record {
+  bound = refl;
+  lexical = refl;
+  hoisted = λ x. refl;
+  body = λ v env s a r. refl;
+  inner = refl;
   scoped = λ v env s a. a;
+  symbols = λ v env s a x. omega arith;
   numbers = λ k. omega arith;
-  declared_as_body = λ b q. refl;
+  declared_as_body = λ b q. no_more_same (body_declarations b q t) (body_declarations b q t) refl;
   once = λ q o. o;
   targets = λ a q o. o;
   loop = refl;
   root = λ e. refl;
-  block = λ e b q. refl;
+  block = λ e b q. no_more_same (in_body b q (children_of_node t) 0) (in_body b q (children_of_node t) 0) refl;
 }
 
-pub keeps_itself : (p : Position) (t : Tree) → Keeps p t t
-keeps_itself p t = keeps_absent p t
-
-child_keeps : (π : ℕ → Position) (j : ℕ) (ts us : Trees) → AllKeep π j ts us → (i : ℕ) → Keeps (π (j + i)) (child_or_absent ts i) (child_or_absent us i)
+child_keeps : (π : ℕ → Position) (j : ℕ) (ts us : Trees) → AllKeep π j ts us → (i : ℕ) → KeepsLoosely (π (j + i)) (child_or_absent ts i) (child_or_absent us i)
 child_keeps π j none none w i = keeps_itself (π (j + i)) (child_or_absent none i)
 child_keeps π j none (u ▸ us) w i = absurd w
 child_keeps π j (t ▸ ts) none w i = absurd w
-child_keeps π j (t ▸ ts) (u ▸ us) w zero = subst (λ m. Keeps (π m) t u) (omega arith) w.0
-child_keeps π j (t ▸ ts) (u ▸ us) w (suc i) = subst (λ m. Keeps (π m) (child_or_absent ts i) (child_or_absent us i)) (omega arith) (child_keeps π (suc j) ts us w.1 i)
+child_keeps π j (t ▸ ts) (u ▸ us) w zero = subst (λ m. KeepsLoosely (π m) t u) (omega arith) w.0
+child_keeps π j (t ▸ ts) (u ▸ us) w (suc i) = subst (λ m. KeepsLoosely (π m) (child_or_absent ts i) (child_or_absent us i)) (omega arith) (child_keeps π (suc j) ts us w.1 i)
 
-child_at : (π : ℕ → Position) (ts us : Trees) → AllKeep π 0 ts us → (i : ℕ) → Keeps (π i) (child_or_absent ts i) (child_or_absent us i)
-child_at π ts us w i = subst (λ m. Keeps (π m) (child_or_absent ts i) (child_or_absent us i)) (omega arith) (child_keeps π 0 ts us w i)
+child_at : (π : ℕ → Position) (ts us : Trees) → AllKeep π 0 ts us → (i : ℕ) → KeepsLoosely (π i) (child_or_absent ts i) (child_or_absent us i)
+child_at π ts us w i = subst (λ m. KeepsLoosely (π m) (child_or_absent ts i) (child_or_absent us i)) (omega arith) (child_keeps π 0 ts us w i)
 
-block_below : (h : Shape) (xs : List Name) (n : ℕ) (π : ℕ → Position) (ts us : Trees) → AllKeep π 0 ts us → (b : Bool) (q : Path) → unplaced (in_body b q (children_of_node (node h xs n us)) 0) ≡ unplaced (in_body b q (children_of_node (node h xs n ts)) 0)
+block_below : (h : Shape) (xs : List Name) (n : ℕ) (π : ℕ → Position) (ts us : Trees) → AllKeep π 0 ts us → (b : Bool) (q : Path) → NoMoreClash (in_body b q (children_of_node (node h xs n us)) 0) (in_body b q (children_of_node (node h xs n ts)) 0)
 block_below h xs n π ts us w b q = (child_at π ts us w 0).declared_as_body b (q ++ 0 ∷ [])
 
 -- ---- names that are declared twice
@@ -149,19 +213,26 @@ catch_places : (h : Shape) (p : Position) (n : ℕ) (i : ℕ) → clash_of h ≡
 catch_places shape.CatchClause p n i e = refl
 catch_places h p n i e = absurd (cc e)
 
-child_as_body : (π : ℕ → Position) (ts us : Trees) → AllKeep π 0 ts us → (i : ℕ) (b : Bool) → as_body b (child_or_absent us i) ≡ as_body b (child_or_absent ts i)
-child_as_body π ts us w i b = as_body_kept (child_or_absent ts i) (child_or_absent us i) (child_at π ts us w i).declared_as_body b
+same_bound : (d : Declared) (l : Bool) (q : Path) (p : Position) (t u : Tree) → names_of d u ≡ names_of d t → NoMoreClash (declarations d l q u) (declarations d l q t)
+same_bound d l q p t u e = no_more_same (declarations d l q t) (declarations d l q u) (declared_same d l q q t u e)
 
-scopes_alike : (c : Clash) (π : ℕ → Position) → (c ≡ clash.Catch → (i : ℕ) → is_rewritten_place (π i) ≡ false) → (ts us : Trees) → AllKeep π 0 ts us → ScopesAlike c ts us
-scopes_alike c π still ts us w = record {
-  bound = λ i d. (child_at π ts us w i).kept.names d;
-  body = child_as_body π ts us w;
-  pattern = λ e. ap is_pattern_shape ((child_at π ts us w 0).root (still e 0));
-  block = λ e.
-      let t = child_or_absent (children_of_node (child_or_absent ts 1)) 0 in
-      let u = child_or_absent (children_of_node (child_or_absent us 1)) 0 in
-      sym (body_is false ([] ++ 0 ∷ []) u) ∙ (child_at π ts us w 1).block (still e 1) false [] ∙ body_is false ([] ++ 0 ∷ []) t;
-}
+scope_below : (c : Clash) (π : ℕ → Position) → (c ≡ clash.Catch → (i : ℕ) → is_rewritten_place (π i) ≡ false) → (ts us : Trees) → AllKeep π 0 ts us → (q : Path) → NoMoreClash (declarations_by c q us) (declarations_by c q ts)
+scope_below clash.Nothing π still ts us w q = no_more_same [] [] refl
+scope_below (clash.Body b) π still ts us w q = (child_at π ts us w 0).declared_as_body b (q ++ 0 ∷ [])
+scope_below (clash.Function i j) π still ts us w q =
+    no_more_both (at_child declared.Bound false q ts i) (at_child declared.Bound false q us i) (in_body true q ts j) (in_body true q us j)
+    (same_bound declared.Bound false (q ++ i ∷ []) (π i) (child_or_absent ts i) (child_or_absent us i) (child_at π ts us w i).bound) ((child_at π ts us w j).declared_as_body true (q ++ j ∷ []))
+scope_below clash.Switch π still ts us w q = (child_at π ts us w 1).declared_as_body false (q ++ 1 ∷ [])
+scope_below clash.Catch π still ts us w q =
+    let param = child_at π ts us w 0 in
+    let l = is_pattern_shape (shape_of (child_or_absent ts 0)) in
+    no_more_both (in_param q ts) (in_param q us) (in_block q ts) (in_block q us)
+    (subst (λ h. NoMoreClash (at_child declared.Bound (is_pattern_shape h) q us 0) (in_param q ts)) (sym (param.root (still refl 0))) (same_bound declared.Bound l (q ++ 0 ∷ []) (π 0) (child_or_absent ts 0) (child_or_absent us 0) param.bound))
+    ((child_at π ts us w 1).block (still refl 1) false (q ++ 1 ∷ []))
+scope_below (clash.Loop i) π still ts us w q =
+    no_more_both (at_child declared.Lexical true q ts 0) (at_child declared.Lexical true q us 0) (at_child declared.Hoisted false q ts i) (at_child declared.Hoisted false q us i)
+    (same_bound declared.Lexical true (q ++ 0 ∷ []) (π 0) (child_or_absent ts 0) (child_or_absent us 0) (child_at π ts us w 0).lexical)
+    (no_more_hoisted (q ++ i ∷ []) (q ++ i ∷ []) (child_or_absent ts i) (child_or_absent us i) (child_at π ts us w i).hoisted)
 
 all_once : (π : ℕ → Position) (j : ℕ) (ts us : Trees) → AllKeep π j ts us → (q : Path) (i : ℕ) → all_early_names q i ts ≡ [] → all_early_names q i us ≡ []
 unfolding early_names
@@ -177,7 +248,7 @@ unfolding early_names scope_declarations
 once_below p h xs n ts us w q e =
     let (own, rest) = empty_both (clashing [] (declarations_by (clash_of h) q ts)) (all_early_names q 0 ts) e in
     both_empty (clashing [] (declarations_by (clash_of h) q us)) (all_early_names q 0 us)
-    (free_same (declarations_by (clash_of h) q ts) (declarations_by (clash_of h) q us) (scope_same (clash_of h) q q ts us (scopes_alike (clash_of h) (child_position h p (count ts)) (λ c i. catch_places h p (count ts) i c) ts us w)) own)
+    (still_free (declarations_by (clash_of h) q ts) (declarations_by (clash_of h) q us) (scope_below (clash_of h) (child_position h p (count ts)) (λ c i. catch_places h p (count ts) i c) ts us w q) own)
     (all_once (child_position h p (count ts)) 0 ts us w q 0 rest)
 
 -- ---- jumps
@@ -290,15 +361,22 @@ targets_below p h xs n ts us w a q e =
 
 -- ---- all of it
 
-pub keeps_below : (p : Position) (h : Shape) (xs : List Name) (n : ℕ) (ts us : Trees) → AllKeep (child_position h p (count ts)) 0 ts us → ((v : Use) → Stands p v (node h xs n ts) → AllStand (child_position h p (count ts)) (use_of h v) 0 ts) → Keeps p (node h xs n ts) (node h xs n us)
-keeps_below p h xs n ts us w stand = record {
-  kept = below h xs n ts us (all_kept (child_position h p (count ts)) 0 ts us w);
-  scoped = λ v env s a. scoped_below p h xs n ts us v env w (stand v s) a;
-  numbers = numbers_below h xs n (child_position h p (count ts)) ts us w;
-  declared_as_body = as_body_below h xs n (child_position h p (count ts)) ts us w;
-  once = once_below p h xs n ts us w;
-  targets = targets_below p h xs n ts us w;
-  loop = loop_below h xs n (child_position h p (count ts)) ts us w;
-  root = λ e. refl;
-  block = λ e b q. block_below h xs n (child_position h p (count ts)) ts us w b q;
-}
+pub keeps_below : (p : Position) (h : Shape) (xs : List Name) (n : ℕ) (ts us : Trees) → AllKeep (child_position h p (count ts)) 0 ts us → ((v : Use) → Stands p v (node h xs n ts) → AllStand (child_position h p (count ts)) (use_of h v) 0 ts) → KeepsLoosely p (node h xs n ts) (node h xs n us)
+keeps_below p h xs n ts us w stand =
+    let π = child_position h p (count ts) in
+    record {
+      bound = bound_below h xs n π ts us w;
+      lexical = lexical_below h xs n π ts us w;
+      hoisted = hoisted_below h xs n π ts us w;
+      body = λ v env s a. body_names_below p h xs n ts us v env w (stand v s) a;
+      inner = inner_below h xs n π ts us w;
+      scoped = λ v env s a. scoped_below p h xs n ts us v env w (stand v s) a;
+      symbols = λ v env s a. symbols_below p h xs n ts us v env w (stand v s) a;
+      numbers = numbers_below h xs n π ts us w;
+      declared_as_body = as_body_below h xs n π ts us w;
+      once = once_below p h xs n ts us w;
+      targets = targets_below p h xs n ts us w;
+      loop = loop_below h xs n π ts us w;
+      root = λ e. refl;
+      block = λ e b q. block_below h xs n π ts us w b q;
+    }

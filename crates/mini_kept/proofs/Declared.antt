@@ -1,16 +1,15 @@
 -- Each name that a rewritten tree declares is one that it declared before.
-use Rattle.std.specs.Prelude.{ℕ, ◌≡◌, ◌⊎◌, ◌<◌, refl, Bool, true, false, ◌&&◌, ◌||◌, List, [], ◌∷◌, ◌++◌, Contains, Option, Some, None, nat_eq}
+use Rattle.std.specs.Prelude.{ℕ, ◌≡◌, ◌⊎◌, ◌<◌, refl, Bool, true, false, ◌&&◌, ◌||◌, List, [], ◌∷◌, ◌++◌, Contains}
 use Rattle.std.proofs.Common.{ap, ◌∙◌, sym, subst, inl, inr, arith}
-use Rattle.std.proofs.lemmas.Bool.{and_parts, eqb-true, eq-eqb}
+use Rattle.std.proofs.lemmas.Bool.{and_parts}
 use Rattle.std.proofs.lemmas.List.Elements.{Contains-append_left, Contains-append_right, Contains-append_cases}
 use Rattle.mini_model.specs.declared.name.Name.{Name}
-use Rattle.mini_model.specs.declared.name.SymbolId.{SymbolId}
 use Rattle.mini_model.specs.declared.place.Position.{Position}
 use Rattle.mini_model.specs.Tree.{Tree, Trees, node, none, ◌▸◌}
-use Rattle.mini_model.specs.Weight.{same_text}
 use Rattle.mini_model.specs.Redex.{Contracts}
 use Rattle.mini_model.specs.Rewriting.{Step, StepIn, here, inside, first, later, Reaches, done, more}
-use Rattle.mini_names.specs.Symbols.{is_same}
+use Rattle.mini_kept.specs.SameNames.{is_name, is_among}
+use Rattle.mini_kept.proofs.SameScopes.{same_name, name_itself}
 use Rattle.mini_kept.specs.Declaring.{declared_by, declared, declared_all}
 use Rattle.mini_kept.specs.Nodes.{Test, each_node, each_nodes}
 use Rattle.mini_kept.specs.Kept.{AdmitsWritten}
@@ -20,43 +19,9 @@ use Rattle.mini_kept.proofs.Each.{reaches_each}
 
 -- ---- names among others
 
-abbrev is_name : Name → Name → Bool
-is_name x y = same_text x.spelling y.spelling && is_same x.symbol y.symbol
-
-abbrev is_among : List Name → Name → Bool
-is_among [] y = false
-is_among (x ∷ xs) y = is_name x y || is_among xs y
-
 abbrev are_among : List Name → List Name → Bool
 are_among xs [] = true
 are_among xs (y ∷ ys) = is_among xs y && are_among xs ys
-
-same_texts : (s r : List ℕ) → same_text s r ≡ true → s ≡ r
-same_texts [] [] e = refl
-same_texts [] (y ∷ r) e = absurd (cc e)
-same_texts (x ∷ s) [] e = absurd (cc e)
-same_texts (x ∷ s) (y ∷ r) e =
-    let (own, rest) = and_parts (nat_eq x y) (same_text s r) e in
-    λ k. eqb-true x y own k ∷ same_texts s r rest k
-
-same_symbol : (o q : Option SymbolId) → is_same o q ≡ true → o ≡ q
-same_symbol None None e = refl
-same_symbol None (Some y) e = absurd (cc e)
-same_symbol (Some x) None e = absurd (cc e)
-same_symbol (Some x) (Some y) e = λ k. Some (record { 0 = eqb-true x.0 y.0 e k })
-
-same_name : (x y : Name) → is_name x y ≡ true → x ≡ y
-same_name x y e =
-    let (texts, symbols) = and_parts (same_text x.spelling y.spelling) (is_same x.symbol y.symbol) e in
-    λ k. record { spelling = same_texts x.spelling y.spelling texts k; symbol = same_symbol x.symbol y.symbol symbols k }
-
-text_itself : (s : List ℕ) → same_text s s ≡ true
-text_itself [] = refl
-text_itself (x ∷ s) = both (nat_eq x x) (same_text s s) (eq-eqb x x refl) (text_itself s)
-
-symbol_itself : (o : Option SymbolId) → is_same o o ≡ true
-symbol_itself None = refl
-symbol_itself (Some x) = eq-eqb x.0 x.0 refl
 
 either : (a b : Bool) → (a || b) ≡ true → (a ≡ true) ⊎ (b ≡ true)
 either true b e = inl refl
@@ -77,7 +42,7 @@ there (x ∷ xs) y e = elim (either (is_name x y) (is_among xs y) e) [ inl a ↦
 among : (xs : List Name) (y : Name) → Contains xs y → is_among xs y ≡ true
 among [] y c = let none : c.0 < 0 = c.1 in absurd (omega (arith, none))
 among (x ∷ xs) y c = elim (first_or_other y x xs c) [
-  | inl e ↦ or_left (is_name x y) (is_among xs y) (subst (λ z. is_name x z ≡ true) e (both (same_text x.spelling x.spelling) (is_same x.symbol x.symbol) (text_itself x.spelling) (symbol_itself x.symbol)))
+  | inl e ↦ or_left (is_name x y) (is_among xs y) (subst (λ z. is_name x z ≡ true) e (name_itself x))
   | inr d ↦ or_right (is_name x y) (is_among xs y) (among xs y d)
 ]
 

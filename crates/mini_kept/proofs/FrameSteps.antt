@@ -12,14 +12,18 @@ use Rattle.mini_model.specs.Position.{child_position}
 use Rattle.mini_model.specs.Rewriting.{Step, here, inside, StepIn, first, later, Reaches, done, more}
 use Rattle.mini_accept.specs.WellShaped.{Depth, in_module, in_body, Class, a_program, a_statement, an_exported_declaration, a_default_export, Slot, one, one_or_absent, many, Filling, refused, these, each, each_or_last, pieces, filling, class_of, is_whole, has_its_number, has_names, has_plain_fields, has_its_parts, is_strict_in, is_last, fits, fill, IsWellShaped}
 use Rattle.mini_names.specs.declared.Declared.TheVariants as declared
-use Rattle.mini_names.specs.DeclaredNames.{names_of, all_names, body_names}
+use Rattle.mini_model.specs.declared.kind.VariableDeclarationKind.TheVariants.{Var, Let, Const}
+use Rattle.mini_names.specs.DeclaredNames.{names_of, all_names, first_names, body_names}
+use Rattle.mini_kept.specs.SameNames.{is_among, SameNames}
+use Rattle.mini_kept.proofs.Statements.{same_both}
+use Rattle.mini_kept.proofs.Below.{all_bound, first_bound}
 use Rattle.mini_kept.specs.Standing.{is_method_slot}
-use Rattle.mini_kept.specs.Frames.{Showing, Whole, Named, Hidden, showing, part, parts, is_declaration, declaration, shown, shown_from, own, is_port, ports, outline, property_below, frame_of, frames, frames_from, frames_in, FramesKept}
+use Rattle.mini_kept.specs.Frames.{Showing, Whole, Named, Hidden, showing, part, parts, is_declaration, declaration, shown, shown_from, own, is_port, ports, outline, globals, property_below, frame_of, frames, frames_from, frames_in, FramesKept}
 use Rattle.mini_kept.specs.KeepsFrames.{KeepsFrames}
 use Rattle.mini_kept.specs.FrameLaws.{StepKeepsFrames, ReachesKeepsFrames}
 use Rattle.mini_kept.proofs.Bools.{left, right}
 use Rattle.mini_kept.proofs.Expressions.{refused_here}
-use Rattle.mini_kept.proofs.Stepping.{no_steps, step_keeps}
+use Rattle.mini_kept.proofs.Stepping.{no_steps, step_keeps, steps_keep}
 use Rattle.mini_kept.proofs.BodySteps.{one_of}
 use Rattle.mini_kept.specs.Placed.{fits_place}
 use Rattle.mini_kept.proofs.Placed.{Placed, placed_below, statements_place}
@@ -93,7 +97,7 @@ record Keeps (p : Position) (t u : Tree) : Type 0 where
   of_declared : (strict : Bool) (s : Slot) → fits_place p s ≡ true → fits strict s t ≡ true → is_declared_slot s ≡ true → declaration t ≡ declaration u
   of_port : (strict : Bool) (d : Depth) → fits strict (one (a_statement d)) t ≡ true → (m : Bool) (ts : Trees) → ports m (t ▸ ts) ≡ ports m (u ▸ ts)
   of_statements : (strict : Bool) (d : Depth) → fits_place p (many (a_statement d)) ≡ true → fits strict (many (a_statement d)) t ≡ true → (m : Bool) → ports m (children t) ≡ ports m (children u)
-  of_hoisted : (strict : Bool) (s : Slot) → fits_place p s ≡ true → fits strict s t ≡ true → names_of declared.Hoisted t ≡ names_of declared.Hoisted u
+  of_hoisted : (strict : Bool) (s : Slot) → fits_place p s ≡ true → fits strict s t ≡ true → SameNames (names_of declared.Hoisted u) (names_of declared.Hoisted t)
   of_frames : (strict : Bool) (s : Slot) → fits_place p s ≡ true → fits strict s t ≡ true → (k : Option PropertyKind) → (is_method_slot s ≡ false → k ≡ None) → FramesKept (frames k t) (frames k u)
 
 record AllKeep (π : ℕ → Position) (ts us : Trees) : Type 0 where
@@ -101,8 +105,22 @@ record AllKeep (π : ℕ → Position) (ts us : Trees) : Type 0 where
   of_own : (strict : Bool) (g : Filling) → Placed π g → fill strict g ts ≡ true → (σ : ℕ → Showing) (i : ℕ) → Are (λ j s. shows_right (σ j) s ≡ true) i g → shown_from σ i ts ≡ shown_from σ i us
   of_ports : (strict : Bool) (d : Depth) → fill strict (each (one (a_statement d))) ts ≡ true → (m : Bool) → ports m ts ≡ ports m us
   of_program : (strict : Bool) (d : Depth) → Placed π (these (many (a_statement d) ∷ [])) → fill strict (these (many (a_statement d) ∷ [])) ts ≡ true → (m : Bool) → ports m (children (child_or_absent ts 0)) ≡ ports m (children (child_or_absent us 0))
-  of_hoisted : (strict : Bool) (g : Filling) → Placed π g → fill strict g ts ≡ true → all_names declared.Hoisted ts ≡ all_names declared.Hoisted us
+  of_hoisted : (strict : Bool) (g : Filling) → Placed π g → fill strict g ts ≡ true → SameNames (all_names declared.Hoisted us) (all_names declared.Hoisted ts)
   of_frames : (strict : Bool) (g : Filling) → Placed π g → fill strict g ts ≡ true → (kind : ℕ → Option PropertyKind) (i : ℕ) → Are (Plain kind) i g → FramesKept (frames_from kind i ts) (frames_from kind i us)
+
+-- of a script alone
+of_script : (m : Bool) (ys xs : List Name) → SameNames ys xs → (x : Name) → is_among (if m then [] else xs) x ≡ is_among (if m then [] else ys) x
+of_script true ys xs e x = refl
+of_script false ys xs e x = sym (e x)
+
+declaration_names : (h : Shape) (xs : List Name) (n : ℕ) (ts us : Trees) → is_declaration h ≡ true → all_names declared.Bound ts ≡ all_names declared.Bound us → first_names ts ≡ first_names us → body_names (node h xs n ts) ≡ body_names (node h xs n us)
+unfolding body_names names_of
+declaration_names (shape.VariableDeclaration Var) xs n ts us q e f = e
+declaration_names (shape.VariableDeclaration Let) xs n ts us q e f = ap (λ r. r ++ []) e
+declaration_names (shape.VariableDeclaration Const) xs n ts us q e f = ap (λ r. r ++ []) e
+declaration_names (shape.Function true g ds) xs n ts us q e f = ap (λ r. r ++ []) f
+declaration_names (shape.Class true) xs n ts us q e f = ap (λ r. r ++ []) f
+declaration_names h xs n ts us q e f = absurd (cc q)
 
 undeclared : (t : Tree) → is_declaration (shape_of t) ≡ false → declaration t ≡ absent
 undeclared (node h xs n ts) e = ap (λ b. if b then node h (body_names (node h xs n ts)) n none else absent) e
@@ -137,7 +155,7 @@ module _ (R : Position → Tree → Tree → Type 0) (l : KeepsFrames R) where
     of_declared = declared_here p t u r;
     of_port = λ strict d e m ts. let (x, y) = l.ports p t u r strict d e m in no_port m t ts x ∙ sym (no_port m u ts y);
     of_statements = statements_here p t u r;
-    of_hoisted = λ strict s v e. sym ((l.names.keeps p t u r strict s v e).kept.names declared.Hoisted);
+    of_hoisted = λ strict s v e. (l.names.keeps p t u r strict s v e).hoisted;
     of_frames = λ strict s v e k z. subst (λ k. FramesKept (frames k t) (frames k u)) (sym (z (no_method p s (l.slots p t u r strict s v e)))) (l.frames p t u r strict s v e);
   }
 
@@ -163,13 +181,13 @@ module _ (R : Position → Tree → Tree → Type 0) (l : KeepsFrames R) where
   others π t u ts us st strict (each_or_last s r) e = right (fits strict s t || (is_last ts && fits strict r t)) (fill strict (each_or_last s r) ts) e
   others π t u ts us st strict (pieces g) e = absurd (no_steps R l.names g st e)
 
-  first_names : (t u : Tree) (ts : Trees) → names_of declared.Hoisted t ≡ names_of declared.Hoisted u → all_names declared.Hoisted (t ▸ ts) ≡ all_names declared.Hoisted (u ▸ ts)
+  first_hoisted : (t u : Tree) (ts : Trees) → SameNames (names_of declared.Hoisted u) (names_of declared.Hoisted t) → SameNames (all_names declared.Hoisted (u ▸ ts)) (all_names declared.Hoisted (t ▸ ts))
   unfolding names_of
-  first_names t u ts e = ap (λ x. x ++ all_names declared.Hoisted ts) e
+  first_hoisted t u ts e x = same_both (names_of declared.Hoisted u) (all_names declared.Hoisted ts) (names_of declared.Hoisted t) (all_names declared.Hoisted ts) e (λ y. refl) x
 
-  other_names : (t : Tree) (ts us : Trees) → all_names declared.Hoisted ts ≡ all_names declared.Hoisted us → all_names declared.Hoisted (t ▸ ts) ≡ all_names declared.Hoisted (t ▸ us)
+  others_hoisted : (t : Tree) (ts us : Trees) → SameNames (all_names declared.Hoisted us) (all_names declared.Hoisted ts) → SameNames (all_names declared.Hoisted (t ▸ us)) (all_names declared.Hoisted (t ▸ ts))
   unfolding names_of
-  other_names t ts us e = ap (λ x. names_of declared.Hoisted t ++ x) e
+  others_hoisted t ts us e x = same_both (names_of declared.Hoisted t) (all_names declared.Hoisted us) (names_of declared.Hoisted t) (all_names declared.Hoisted ts) (λ y. refl) e x
 
   first_kept : (π : ℕ → Position) (t u : Tree) (ts : Trees) → StepIn R π (t ▸ ts) (u ▸ ts) → Keeps (π 0) t u → AllKeep π (t ▸ ts) (u ▸ ts)
   first_kept π t u ts st k = record {
@@ -177,7 +195,7 @@ module _ (R : Position → Tree → Tree → Type 0) (l : KeepsFrames R) where
     of_own = λ strict g v e σ i a. let (s, f, z) = filled π t u ts ts st strict g e in ap (λ x. x ▸ shown_from σ (suc i) ts) (child_kept (π 0) t u k strict s (first_placed π g s v f) z (σ i) (first_is (λ j r. shows_right (σ j) r ≡ true) i g s a f));
     of_ports = λ strict d e m. k.of_port strict d (left (fits strict (one (a_statement d)) t) (fill strict (each (one (a_statement d))) ts) e) m ts;
     of_program = λ strict d v e m. k.of_statements strict d v.0 (left (fits strict (many (a_statement d)) t) (fill strict (these []) ts) e) m;
-    of_hoisted = λ strict g v e. let (s, f, z) = filled π t u ts ts st strict g e in first_names t u ts (k.of_hoisted strict s (first_placed π g s v f) z);
+    of_hoisted = λ strict g v e. let (s, f, z) = filled π t u ts ts st strict g e in first_hoisted t u ts (k.of_hoisted strict s (first_placed π g s v f) z);
     of_frames = λ strict g v e kind i a. let (s, f, z) = filled π t u ts ts st strict g e in each_of (frames (kind i) t) (frames_from kind (suc i) ts) (frames (kind i) u) (frames_from kind (suc i) ts) (k.of_frames strict s (first_placed π g s v f) z (kind i) (first_is (Plain kind) i g s a f)) (λ f x. x);
   }
 
@@ -187,7 +205,7 @@ module _ (R : Position → Tree → Tree → Type 0) (l : KeepsFrames R) where
     of_own = λ strict g v e σ i a. ap (λ x. shown (σ i) t ▸ x) (k.of_own strict (Rest g) (rest_placed π g v) (others π t t ts us st strict g e) σ (suc i) (rest_are (λ j r. shows_right (σ j) r ≡ true) i g a));
     of_ports = λ strict d e m. ap (λ x. if is_port m (shape_of t) then own t ▸ x else x) (k.of_ports strict d (right (fits strict (one (a_statement d)) t) (fill strict (each (one (a_statement d))) ts) e) m);
     of_program = λ strict d v e m. refl;
-    of_hoisted = λ strict g v e. other_names t ts us (k.of_hoisted strict (Rest g) (rest_placed π g v) (others π t t ts us st strict g e));
+    of_hoisted = λ strict g v e. others_hoisted t ts us (k.of_hoisted strict (Rest g) (rest_placed π g v) (others π t t ts us st strict g e));
     of_frames = λ strict g v e kind i a. each_of (frames (kind i) t) (frames_from kind (suc i) ts) (frames (kind i) t) (frames_from kind (suc i) us) (λ f x. x) (k.of_frames strict (Rest g) (rest_placed π g v) (others π t t ts us st strict g e) kind (suc i) (rest_are (Plain kind) i g a));
   }
 
@@ -227,26 +245,37 @@ module _ (R : Position → Tree → Tree → Type 0) (l : KeepsFrames R) where
         by (inl f) = absurd (refused_here strict s (shape.Program m ds) xs n ts f e)
         by (inr f) = all.of_program (is_strict_in strict (shape.Program m ds)) (if m then in_module else in_body) (refl, tt) (subst (λ g. fill (is_strict_in strict (shape.Program m ds)) g ts ≡ true) f (children_fill strict s (shape.Program m ds) xs n ts e)) m
 
-    program_outline : (strict : Bool) (s : Slot) → fits strict s (node (shape.Program m ds) xs n ts) ≡ true → outline (shape.Program m ds) xs n ts ≡ outline (shape.Program m ds) xs n us
-    program_outline strict s e =
-        ap (λ ns. node (shape.Program m ds) (if m then [] else ns) n (ports m (children (child_or_absent ts 0)))) (all.of_hoisted (is_strict_in strict (shape.Program m ds)) (filling strict s (shape.Program m ds)) (placed_below strict s (shape.Program m ds) p (count ts)) (children_fill strict s (shape.Program m ds) xs n ts e))
-        ∙ ap (λ ps. node (shape.Program m ds) (if m then [] else all_names declared.Hoisted us) n ps) (program_ports strict s e)
+    program_frame : (k : Option PropertyKind) (strict : Bool) (s : Slot) → fits strict s (node (shape.Program m ds) xs n ts) ≡ true → frame_of k (shape.Program m ds) n (outline (shape.Program m ds) xs n ts) (globals (shape.Program m ds) ts) ≡ frame_of k (shape.Program m ds) n (outline (shape.Program m ds) xs n us) (globals (shape.Program m ds) us)
+    program_frame k strict s e =
+        let hoisted = all.of_hoisted (is_strict_in strict (shape.Program m ds)) (filling strict s (shape.Program m ds)) (placed_below strict s (shape.Program m ds) p (count ts)) (children_fill strict s (shape.Program m ds) xs n ts e) in
+        λ i. record { number = n; property = k; outline = node (shape.Program m ds) [] n (program_ports strict s e i); globals = λ x. of_script m (all_names declared.Hoisted us) (all_names declared.Hoisted ts) hoisted x i } ∷ []
 
-  frame_inside : (p : Position) (k : Option PropertyKind) (h : Shape) (xs : List Name) (n : ℕ) (ts us : Trees) → AllKeep (child_position h p (count ts)) ts us → (strict : Bool) (s : Slot) → fits strict s (node h xs n ts) ≡ true → frame_of k h n (outline h xs n ts) ≡ frame_of k h n (outline h xs n us)
-  frame_inside p k (shape.Program m ds) xs n ts us all strict s e = ap (frame_of k (shape.Program m ds) n) (program_outline p m ds xs n ts us all strict s e)
+  frame_inside : (p : Position) (k : Option PropertyKind) (h : Shape) (xs : List Name) (n : ℕ) (ts us : Trees) → AllKeep (child_position h p (count ts)) ts us → (strict : Bool) (s : Slot) → fits strict s (node h xs n ts) ≡ true → frame_of k h n (outline h xs n ts) (globals h ts) ≡ frame_of k h n (outline h xs n us) (globals h us)
+  frame_inside p k (shape.Program m ds) xs n ts us all strict s e = program_frame p m ds xs n ts us all k strict s e
   frame_inside p k h xs zero ts us all strict s e = refl
-  frame_inside p k h xs (suc n) ts us all strict s e = ap (λ c. frame_of k h (suc n) (node h xs (suc n) c)) (own_inside p h xs ts us all (suc n) strict s e (numbered_outline (class_of s) h n (number_fits strict s h xs (suc n) ts e)))
+  frame_inside p k h xs (suc n) ts us all strict s e = ap (λ c. frame_of k h (suc n) (node h xs (suc n) c) []) (own_inside p h xs ts us all (suc n) strict s e (numbered_outline (class_of s) h n (number_fits strict s h xs (suc n) ts e)))
+
+  -- what a declaration declares
+  declared_inside : (p : Position) (h : Shape) (xs : List Name) (n : ℕ) (ts us : Trees) → StepIn R (child_position h p (count ts)) ts us → (strict : Bool) (s : Slot) → fits strict s (node h xs n ts) ≡ true → declaration (node h xs n ts) ≡ declaration (node h xs n us)
+  declared_inside p h xs n ts us st strict s e = by (is_declaration h) refl
+    where
+      by : (b : Bool) → is_declaration h ≡ b → declaration (node h xs n ts) ≡ declaration (node h xs n us)
+      by false q = undeclared (node h xs n ts) q ∙ sym (undeclared (node h xs n us) q)
+      by true q =
+          let π = child_position h p (count ts) in
+          let kept = steps_keep R l.names st (is_strict_in strict h) (filling strict s h) (placed_below strict s h p (count ts)) (children_fill strict s h xs n ts e) in
+          ap (λ ns. if is_declaration h then node h ns n none else absent) (declaration_names h xs n ts us q (sym (all_bound π ts us kept)) (sym (first_bound π ts us kept)))
 
   inside_kept : (p : Position) (h : Shape) (xs : List Name) (n : ℕ) (ts us : Trees) → StepIn R (child_position h p (count ts)) ts us → AllKeep (child_position h p (count ts)) ts us → Keeps p (node h xs n ts) (node h xs n us)
   inside_kept p h xs n ts us st all = record {
     of_part = λ strict s v e q. part_inside p h xs ts us all n strict s e q;
-    of_declared = λ strict s v e q. ap (λ ns. if is_declaration h then node h ns n none else absent) (sym (step_keeps R l.names (inside p h xs n ts us st) strict s v e).kept.body);
+    of_declared = λ strict s v e q. declared_inside p h xs n ts us st strict s e;
     of_port = port_inside p h xs ts us all n;
     of_statements = λ strict d v e m. statements_inside p h xs n ts us all strict d e m;
-    of_hoisted = λ strict s v e. sym ((step_keeps R l.names (inside p h xs n ts us st) strict s v e).kept.names declared.Hoisted);
+    of_hoisted = λ strict s v e. (step_keeps R l.names (inside p h xs n ts us st) strict s v e).hoisted;
     of_frames = λ strict s v e k z.
-        each_of (frame_of k h n (outline h xs n ts)) (frames_from (property_below h) 0 ts) (frame_of k h n (outline h xs n us)) (frames_from (property_below h) 0 us)
-        (same_frames (frame_of k h n (outline h xs n ts)) (frame_of k h n (outline h xs n us)) (frame_inside p k h xs n ts us all strict s e))
+        each_of (frame_of k h n (outline h xs n ts) (globals h ts)) (frames_from (property_below h) 0 ts) (frame_of k h n (outline h xs n us) (globals h us)) (frames_from (property_below h) 0 us)
+        (same_frames (frame_of k h n (outline h xs n ts) (globals h ts)) (frame_of k h n (outline h xs n us) (globals h us)) (frame_inside p k h xs n ts us all strict s e))
         (all.of_frames (is_strict_in strict h) (filling strict s h) (placed_below strict s h p (count ts)) (children_fill strict s h xs n ts e) (property_below h) 0 (plain_right strict s h));
   }
 

@@ -35,6 +35,7 @@ use Rattle.mini_kept.specs.Carried.{numbers}
 use Rattle.mini_kept.specs.KeepsNames.{Keeps, Stands, is_rewritten_place, unplaced, is_read, count_of}
 use Rattle.mini_kept.specs.Lifted.{is_piece, KeepsNames}
 use Rattle.mini_kept.proofs.Placed.{is_statement_list_place}
+use Rattle.mini_kept.proofs.InOrder.{in_order}
 use Rattle.mini_kept.proofs.Below.{both_counts, empty_both, both_empty}
 use Rattle.mini_kept.proofs.Anywhere.{once_anywhere, targets_anywhere}
 use Rattle.mini_kept.proofs.Negating.{inner_negated, symbols_negated, scoped_negated, numbers_negated, once_negated, targets_negated, inner_not, symbols_not, scoped_not, numbers_not, once_not, targets_not}
@@ -465,4 +466,4 @@ row_piece p n w r = absurd r
 
 -- what the rows contract keeps the names
 pub contracts_keep : KeepsNames Contracts
-contracts_keep = record { places = λ p n w c. row_place p n w c.row; pieces = λ p n w c. row_piece p n w c.row; keeps = λ p n w c strict s k e. row_keeps p n w c.row strict s e }
+contracts_keep = record { places = λ p n w c. row_place p n w c.row; pieces = λ p n w c. row_piece p n w c.row; keeps = λ p n w c strict s k e. in_order p n w (row_keeps p n w c.row strict s e) }

@@ -8,6 +8,12 @@ pub mod ShapeRows
 pub mod Steps
 pub mod Placed
 pub mod Unplaced
+pub mod SameScopes
+pub mod Hoisting
+pub mod Clashes
+pub mod Statements
+pub mod LooseScopes
+pub mod InOrder
 pub mod Each
 pub mod Programs
 pub mod Renumbered

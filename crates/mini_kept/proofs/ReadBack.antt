@@ -93,7 +93,7 @@ read_back t v u n m a b kept e =
     shaped = keeps.shaped before
 
     distinct : Distinct (declared_symbols v)
-    distinct = keeps.distinct before (resolved_distinct t)
+    distinct = keeps.distinct before (scoped Read [] 0 t) (resolved_distinct t)
 
     order : InPreorder t n
     order = in_preorder t n a.preorder

@@ -14,12 +14,14 @@ use Rattle.mini_names.specs.DeclaredNames.{is_inner}
 use Rattle.mini_names.specs.Scopes.{use_of}
 use Rattle.mini_kept.proofs.Bools.{left, right, and_false}
 use Rattle.mini_kept.proofs.Expressions.{refused_here}
-use Rattle.mini_kept.specs.KeepsNames.{Keeps, Stands, is_used}
+use Rattle.mini_kept.specs.KeepsNames.{Stands, is_used}
+use Rattle.mini_kept.specs.KeepsLoosely.{KeepsLoosely}
 use Rattle.mini_kept.specs.Lifted.{is_piece, KeepsNames}
 use Rattle.mini_kept.specs.Placed.{fits_place}
 use Rattle.mini_kept.proofs.Placed.{Placed, placed_below}
 use Rattle.mini_kept.proofs.Using.{is_patterned, stands_plainly, also}
-use Rattle.mini_kept.proofs.Below.{AllKeep, AllStand, keeps_itself, keeps_below}
+use Rattle.mini_kept.proofs.LooseScopes.{AllKeep, AllStand}
+use Rattle.mini_kept.proofs.Below.{keeps_itself, keeps_below}
 
 -- ---- inner expressions in patterns
 
@@ -213,12 +215,12 @@ module _ (R : Position → Tree → Tree → Type 0) (l : KeepsNames R) where
       by false f = (r, y, right b (fits strict r t) (sym (ap (λ c. c || (b && fits strict r t)) f) ∙ e))
 
   mutual
-    pub step_keeps : {p : Position} {t u : Tree} → Step R p t u → (strict : Bool) (s : Slot) → fits_place p s ≡ true → fits strict s t ≡ true → Keeps p t u
+    pub step_keeps : {p : Position} {t u : Tree} → Step R p t u → (strict : Bool) (s : Slot) → fits_place p s ≡ true → fits strict s t ≡ true → KeepsLoosely p t u
     step_keeps (here p t u r) strict s k e = l.keeps p t u r strict s k e
     step_keeps (inside p h xs n ts us st) strict s k e =
         keeps_below p h xs n ts us (steps_keep st (is_strict_in strict h) (filling strict s h) (placed_below strict s h p (count ts)) (right (is_whole (class_of s) h xs n ts) (fill (is_strict_in strict h) (filling strict s h) ts) e)) (all_stand strict s h xs n ts e p (count ts))
 
-    steps_keep : {π : ℕ → Position} {ts us : Trees} → StepIn R π ts us → (strict : Bool) (g : Filling) → Placed π g → fill strict g ts ≡ true → AllKeep π 0 ts us
+    pub steps_keep : {π : ℕ → Position} {ts us : Trees} → StepIn R π ts us → (strict : Bool) (g : Filling) → Placed π g → fill strict g ts ≡ true → AllKeep π 0 ts us
     steps_keep (first π t u ts st) strict refused k e = absurd (cc e)
     steps_keep (first π t u ts st) strict (these []) k e = absurd (cc e)
     steps_keep (first π t u ts st) strict (these (s ∷ ss)) k e = (step_keeps st strict s k.0 (left (fits strict s t) (fill strict (these ss) ts) e), all_itself π 1 ts)

@@ -10,10 +10,10 @@ use Rattle.mini_accept.specs.WellShaped.{a_program, one, IsWellShaped}
 use Rattle.mini_names.specs.declared.Use.TheVariants.{Read}
 use Rattle.mini_names.specs.DeclaredNames.{is_inner}
 use Rattle.mini_names.specs.Early.{no_targets}
-use Rattle.mini_names.proofs.Changes.{distinct}
 use Rattle.mini_kept.proofs.ShapeRows.{rows_keep_shapes}
 use Rattle.mini_kept.proofs.Steps.{any_step_fits}
-use Rattle.mini_kept.specs.KeepsNames.{Keeps, Stands}
+use Rattle.mini_kept.specs.KeepsNames.{Stands}
+use Rattle.mini_kept.specs.KeepsLoosely.{KeepsLoosely}
 use Rattle.mini_kept.specs.Lifted.{KeepsNames, ProgramKeeps}
 use Rattle.mini_kept.specs.KeepsShapes.{KeepsShapes}
 use Rattle.mini_kept.proofs.Using.{also}
@@ -24,14 +24,14 @@ program_stands : (t : Tree) → Stands Elsewhere Read t
 program_stands t = also (is_inner (shape_of t)) true refl
 
 no_step : (t : Tree) → ProgramKeeps t t
-no_step t = record { shaped = λ e. e; scoped = λ e r. r; distinct = λ e d. d; symbols = λ e x. omega arith; numbers = λ e k. omega arith; once = λ e o. o; targets = λ e o. o }
+no_step t = record { shaped = λ e. e; scoped = λ e r. r; distinct = λ e r d. d; symbols = λ e r x. omega arith; numbers = λ e k. omega arith; once = λ e o. o; targets = λ e o. o }
 
 both_steps : (t u v : Tree) → ProgramKeeps t u → ProgramKeeps u v → ProgramKeeps t v
 both_steps t u v a b = record {
   shaped = λ e. b.shaped (a.shaped e);
   scoped = λ e r. b.scoped (a.shaped e) (a.scoped e r);
-  distinct = λ e d. b.distinct (a.shaped e) (a.distinct e d);
-  symbols = λ e x. omega (arith, a.symbols e x, b.symbols (a.shaped e) x);
+  distinct = λ e r d. b.distinct (a.shaped e) (a.scoped e r) (a.distinct e r d);
+  symbols = λ e r x. omega (arith, a.symbols e r x, b.symbols (a.shaped e) (a.scoped e r) x);
   numbers = λ e k. omega (arith, a.numbers e k, b.numbers (a.shaped e) k);
   once = λ e o. b.once (a.shaped e) (a.once e o);
   targets = λ e o. b.targets (a.shaped e) (a.targets e o);
@@ -41,15 +41,15 @@ module _ (R : Position → Tree → Tree → Type 0) (l : KeepsNames R) (shapes 
   program_step : (t u : Tree) → Step R Elsewhere t u → IsWellShaped t → IsWellShaped u
   program_step t u s e = any_step_fits R l shapes s false (one a_program) refl e
 
-  program_keeps : (t u : Tree) → Step R Elsewhere t u → IsWellShaped t → Keeps Elsewhere t u
+  program_keeps : (t u : Tree) → Step R Elsewhere t u → IsWellShaped t → KeepsLoosely Elsewhere t u
   program_keeps t u s e = step_keeps R l s false (one a_program) refl e
 
   one_step : (t u : Tree) → Step R Elsewhere t u → ProgramKeeps t u
   one_step t u s = record {
     shaped = program_step t u s;
     scoped = λ e. (program_keeps t u s e).scoped Read [] (program_stands t);
-    distinct = λ e. distinct Read t u (program_keeps t u s e).kept;
-    symbols = λ e. (program_keeps t u s e).kept.symbols Read;
+    distinct = λ e r d x. omega (arith, (program_keeps t u s e).symbols Read [] (program_stands t) r x, d x);
+    symbols = λ e r. (program_keeps t u s e).symbols Read [] (program_stands t) r;
     numbers = λ e. (program_keeps t u s e).numbers;
     once = λ e. (program_keeps t u s e).once [];
     targets = λ e. (program_keeps t u s e).targets no_targets [];

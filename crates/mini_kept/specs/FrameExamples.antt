@@ -11,16 +11,17 @@ use Rattle.mini_model.specs.Tree.{Tree, node, none, ◌▸◌, leaf, absent, lis
 use Rattle.mini_names.specs.DeclaredNames.{names_of, body_names}
 use Rattle.mini_meaning.specs.Samples.{one, two, three, numbered, global, local, bound, label, number, text, called, member, function, block, script, function_body, does, declaration}
 use Rattle.mini_kept.specs.Frames.{Frame, frames, frames_in}
+use Rattle.mini_kept.specs.SameNames.{is_among}
 
 -- the name that `bound` declares
 abbrev name : ℕ → Name
 name n = record { spelling = codes "x"; symbol = Some (record { 0 = n }) }
 
 abbrev framed : ℕ → Tree → Frame
-framed n o = record { number = n; property = None; outline = o }
+framed n o = record { number = n; property = None; outline = o; globals = is_among [] }
 
 abbrev property_framed : PropertyKind → ℕ → Tree → Frame
-property_framed k n o = record { number = n; property = Some k; outline = o }
+property_framed k n o = record { number = n; property = Some k; outline = o; globals = is_among [] }
 
 -- an inner expression with this number, and what is left of it in another's frame
 abbrev inner : ℕ → Tree → Tree
@@ -114,7 +115,7 @@ nested = refl
 -- functions, stand in its frame
 script_names : frames_in (script (declaration Var (bound 0) absent ▸ block (declaration Var (bound 1) absent ▸ declaration Let (bound 2) absent ▸ none) ▸ does (called (global (codes "f")))
     ▸ three shape.ForOfStatement (declaration Var (bound 3) absent) (global (codes "o")) empty_statement ▸ function true 1 (bound 4) ▸ none)) ≡
-    framed 0 (node (shape.Program false []) (name 0 ∷ name 1 ∷ name 3 ∷ []) 0 (numbered 1 (shape.Function true false []) (bound 4 ▸ listed none ▸ absent ▸ none) ▸ none))
+    record (framed 0 (node (shape.Program false []) [] 0 (numbered 1 (shape.Function true false []) (bound 4 ▸ listed none ▸ absent ▸ none) ▸ none))) { globals = is_among (name 0 ∷ name 1 ∷ name 3 ∷ []) }
     ∷ framed 1 (numbered 1 (shape.Function true false []) (bound 4 ▸ listed none ▸ absent ▸ none)) ∷ []
 unfolding names_of
 script_names = refl

@@ -10,6 +10,7 @@ use Rattle.mini_model.specs.declared.shape.Shape.{Shape}
 use Rattle.mini_model.specs.declared.shape.Shape.TheVariants as shape
 use Rattle.mini_model.specs.Tree.{Tree, Trees, node, none, ◌▸◌, absent, shape_of, children, child_or_absent}
 use Rattle.mini_names.specs.declared.Declared.TheVariants as declared
+use Rattle.mini_kept.specs.SameNames.{is_among}
 use Rattle.mini_names.specs.DeclaredNames.{all_names, body_names}
 
 -- what a node's frame shows of a child: all in it, the names that it declares, or nothing, since it is a body
@@ -75,16 +76,23 @@ abbrev pub ports : Bool → Trees → Trees
 ports is_module none = none
 ports is_module (t ▸ ts) = if is_port is_module (shape_of t) then own t ▸ ports is_module ts else ports is_module ts
 
--- what a frame holds of its node: of a program these, and of a script the names that `var` declares in it
+-- what a frame holds of its node: of a program these
 abbrev pub outline : Shape → List Name → ℕ → Trees → Tree
-outline (shape.Program is_module directives) xs n ts = node (shape.Program is_module directives) (if is_module then [] else all_names declared.Hoisted ts) n (ports is_module (children (child_or_absent ts 0)))
+outline (shape.Program is_module directives) xs n ts = node (shape.Program is_module directives) [] n (ports is_module (children (child_or_absent ts 0)))
 outline h xs n ts = own (node h xs n ts)
+
+-- and of a script the names that `var` declares in it
+abbrev pub globals : Shape → Trees → List Name
+globals (shape.Program is_module directives) ts = if is_module then [] else all_names declared.Hoisted ts
+globals h ts = []
 
 pub record Frame : Type 0 where
   pub number : ℕ
   -- of the function of a method (Init), a getter or a setter in an object literal: which
   pub property : Option PropertyKind
   pub outline : Tree
+  -- the names that it gives the global object, in any order
+  pub globals : Name → Bool
 
 -- ECMA-262, "MethodDefinition": an object literal has no number, so the frame of the function tells it
 abbrev pub property_below : Shape → ℕ → Option PropertyKind
@@ -93,15 +101,15 @@ property_below (shape.ObjectProperty k is_method is_shorthand is_computed) (suc 
 property_below h i = None
 
 -- the frame of a node that has a number; a program's is 0
-abbrev pub frame_of : Option PropertyKind → Shape → ℕ → Tree → List Frame
-frame_of k (shape.Program is_module directives) n o = record { number = n; property = k; outline = o } ∷ []
-frame_of k h zero o = []
-frame_of k h (suc n) o = record { number = suc n; property = k; outline = o } ∷ []
+abbrev pub frame_of : Option PropertyKind → Shape → ℕ → Tree → List Name → List Frame
+frame_of k (shape.Program is_module directives) n o xs = record { number = n; property = k; outline = o; globals = is_among xs } ∷ []
+frame_of k h zero o xs = []
+frame_of k h (suc n) o xs = record { number = suc n; property = k; outline = o; globals = is_among xs } ∷ []
 
 -- all frames in a tree, in preorder
 abbrev mutual
   pub frames : Option PropertyKind → Tree → List Frame
-  frames k (node h xs n ts) = frame_of k h n (outline h xs n ts) ++ frames_from (property_below h) 0 ts
+  frames k (node h xs n ts) = frame_of k h n (outline h xs n ts) (globals h ts) ++ frames_from (property_below h) 0 ts
 
   pub frames_from : (ℕ → Option PropertyKind) → ℕ → Trees → List Frame
   frames_from kind i none = []

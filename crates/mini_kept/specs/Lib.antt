@@ -4,6 +4,8 @@ pub mod Carried
 pub mod NameLaws
 pub mod Placed
 pub mod KeepsNames
+pub mod SameNames
+pub mod KeepsLoosely
 pub mod Lifted
 pub mod AlikeBodies
 pub mod Standing

@@ -14,7 +14,8 @@ use Rattle.mini_names.specs.Symbols.{declared_symbols, Distinct, Within}
 use Rattle.mini_names.specs.Early.{no_targets}
 use Rattle.mini_kept.specs.Carried.{numbers as numbers_of}
 use Rattle.mini_kept.specs.Placed.{fits_place}
-use Rattle.mini_kept.specs.KeepsNames.{is_rewritten_place, Keeps, NamesOnce, HasTargets, count_of}
+use Rattle.mini_kept.specs.KeepsNames.{is_rewritten_place, NamesOnce, HasTargets, count_of}
+use Rattle.mini_kept.specs.KeepsLoosely.{KeepsLoosely}
 
 -- a piece of a template's text
 abbrev pub is_piece : Shape → Bool
@@ -25,19 +26,19 @@ is_piece h = false
 pub record KeepsNames (R : Position → Tree → Tree → Type 0) : Type 0 where
   pub places : (p : Position) (n w : Tree) → R p n w → is_rewritten_place p ≡ true
   pub pieces : (p : Position) (n w : Tree) → R p n w → is_piece (shape_of n) ≡ false
-  pub keeps : (p : Position) (n w : Tree) → R p n w → (strict : Bool) (s : Slot) → fits_place p s ≡ true → fits strict s n ≡ true → Keeps p n w
+  pub keeps : (p : Position) (n w : Tree) → R p n w → (strict : Bool) (s : Slot) → fits_place p s ≡ true → fits strict s n ≡ true → KeepsLoosely p n w
 
 -- so does a step at any place of a tree that may stand where it does
 abbrev pub StepKeepsNames : (Position → Tree → Tree → Type 0) → Type 0
-StepKeepsNames R = KeepsNames R → (p : Position) (t u : Tree) → Step R p t u → (strict : Bool) (s : Slot) → fits_place p s ≡ true → fits strict s t ≡ true → Keeps p t u
+StepKeepsNames R = KeepsNames R → (p : Position) (t u : Tree) → Step R p t u → (strict : Bool) (s : Slot) → fits_place p s ≡ true → fits strict s t ≡ true → KeepsLoosely p t u
 
 -- What any number of rewrites keep of a program: it stays one, each name in it has the symbol that the scopes around it give,
 -- no symbol is declared twice, no number stands in it more often, and it has no early error
 pub record ProgramKeeps (t u : Tree) : Type 0 where
   pub shaped : IsWellShaped t → IsWellShaped u
   pub scoped : IsWellShaped t → Scoped Read [] t → Scoped Read [] u
-  pub distinct : IsWellShaped t → Distinct (declared_symbols t) → Distinct (declared_symbols u)
-  pub symbols : IsWellShaped t → Within (declared_symbols u) (declared_symbols t)
+  pub distinct : IsWellShaped t → Scoped Read [] t → Distinct (declared_symbols t) → Distinct (declared_symbols u)
+  pub symbols : IsWellShaped t → Scoped Read [] t → Within (declared_symbols u) (declared_symbols t)
   pub numbers : IsWellShaped t → (k : ℕ) → count_of k (numbers_of u) ≤ count_of k (numbers_of t)
   pub once : IsWellShaped t → NamesOnce [] t → NamesOnce [] u
   pub targets : IsWellShaped t → HasTargets no_targets [] t → HasTargets no_targets [] u
