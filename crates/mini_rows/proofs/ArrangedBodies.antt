@@ -12,7 +12,7 @@ use Rattle.mini_meaning.specs.Fixity.{fixity_by, declared_by as declares_by, str
 use Rattle.mini_meaning.specs.Bodies.{Around, Body, below, body_of, bodies, bodies_from}
 use Rattle.mini_kept.specs.AlikeBodies.{BodiesKept}
 use Rattle.mini_kept.specs.Declaring.{declared_by, declared, declared_all}
-use Rattle.mini_kept.specs.Frames.{Frame, frame_of, outline, property_below, frames, frames_from, FramesKept}
+use Rattle.mini_kept.specs.Frames.{Frame, frame_of, outline, globals, property_below, frames, frames_from, FramesKept}
 use Rattle.mini_kept.proofs.BodyLists.{both_of as both_bodies}
 use Rattle.mini_kept.proofs.FrameLists.{both_of as both_frames}
 use Rattle.mini_rows.specs.Sketches.{Head, AList, shape_by, Asked, asked_below}
@@ -63,9 +63,9 @@ module _ (all : List Body) (a : Around) where
 
 -- ---- frames
 
-no_frame : (h : Head) (o : Tree) → frame_of None (shape_by h) 0 o ≡ []
-no_frame AList o = refl
-no_frame h o = refl
+no_frame : (h : Head) (o : Tree) (xs : List Name) → frame_of None (shape_by h) 0 o xs ≡ []
+no_frame AList o xs = refl
+no_frame h o xs = refl
 
 no_property : (h : Head) (i : ℕ) → property_below (shape_by h) i ≡ None
 no_property AList i = refl
@@ -91,8 +91,8 @@ module _ (all : List Frame) where
 
   pub frames_local : Local HasFrames
   frames_local = record {
-    down = λ h c ts k. frames_below (asked_below h c) (property_below (shape_by h)) (no_property h) 0 ts (split_frames all (frame_of None (shape_by h) 0 (outline (shape_by h) [] 0 ts)) (frames_from (property_below (shape_by h)) 0 ts) k).1;
-    up = λ h c ts k. subst (λ fs. FramesKept all (fs ++ frames_from (property_below (shape_by h)) 0 ts)) (sym (no_frame h (outline (shape_by h) [] 0 ts))) (below_frames (asked_below h c) (property_below (shape_by h)) (no_property h) 0 ts k);
+    down = λ h c ts k. frames_below (asked_below h c) (property_below (shape_by h)) (no_property h) 0 ts (split_frames all (frame_of None (shape_by h) 0 (outline (shape_by h) [] 0 ts) (globals (shape_by h) ts)) (frames_from (property_below (shape_by h)) 0 ts) k).1;
+    up = λ h c ts k. subst (λ fs. FramesKept all (fs ++ frames_from (property_below (shape_by h)) 0 ts)) (sym (no_frame h (outline (shape_by h) [] 0 ts) (globals (shape_by h) ts))) (below_frames (asked_below h c) (property_below (shape_by h)) (no_property h) 0 ts k);
   }
 
 -- ---- declared names
