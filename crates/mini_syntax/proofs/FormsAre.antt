@@ -1,21 +1,19 @@
 -- What a form is made of, where a test says that it is there, and that each form passes its test.
-use Rattle.std.proofs.Common.{◌≡◌, ℕ, zero, suc, Bool, true, false, List, [], ◌∷◌, Option, Some, None, refl, sym, ap, subst, ◌∙◌, inl, inr, true≢false, length}
-use Rattle.std.specs.Prelude.{◌⊎◌, ◌&&◌, ◌||◌, not, nat_eq, codes, ℤ, pos, negsuc, is_none, if◌then◌else◌}
-use Rattle.std.specs.Cmp.Lexicographic.{pointwise}
+use Rattle.std.proofs.Common.{◌≡◌, ℕ, zero, suc, Bool, true, false, List, [], ◌∷◌, Option, Some, None, refl, sym, ap, ◌∙◌, inl, inr, length}
+use Rattle.std.specs.Prelude.{◌⊎◌, ◌&&◌, ◌||◌, not, nat_eq, codes, ℤ, pos, is_none}
 use Rattle.std.proofs.lemmas.Bool.{and_parts, eqb-true}
 use Rattle.mini_model.specs.declared.name.Name.{Name}
 use Rattle.mini_model.specs.declared.name.SymbolId.{SymbolId}
 use Rattle.mini_model.specs.declared.operator.UnaryOperator.{UnaryOperator}
 use Rattle.mini_model.specs.declared.operator.UnaryOperator.TheVariants.{Void}
-use Rattle.mini_model.specs.declared.shape.Shape.{Shape}
 use Rattle.mini_model.specs.declared.shape.Shape.TheVariants as shape
-use Rattle.mini_model.specs.Tree.{Tree, Trees, node, none, ◌▸◌, leaf, count, shape_of, children, absent, child_or_absent, unary, identifier, unresolved, null_literal, listed}
-use Rattle.mini_model.specs.Weight.{outline, outlines, outline_by, nth_items, first_is_zero, is_zero_number, same_text}
-use Rattle.mini_node.specs.Children.{part, names_of}
-use Rattle.mini_node.specs.Kinds.{number, unary_operator, is_identifier}
-use Rattle.mini_node.specs.Made.{number_is, unary_is, identifier_is}
-use Rattle.mini_rows.specs.Spellings.{numeral, text, boolean, big_int, template, void_zero, IsUndefined, PlainForm, a_number, a_text, a_boolean, a_null, a_big_int, a_template, a_void, plain, is_awkward_left, is_inner}
-use Rattle.mini_syntax.specs.Forms.{is_zero_value, is_zero, is_void, is_void_zero, is_undefined_name, is_global_undefined, is_undefined, is_literal_shape, is_literal, is_cooked, is_list_of, is_text_template, is_plain}
+use Rattle.mini_model.specs.Tree.{Tree, Trees, node, none, ◌▸◌, leaf, count, shape_of, child_or_absent, unary, identifier, unresolved, listed}
+use Rattle.mini_model.specs.Weight.{outline, outlines, nth_items, first_is_zero, is_zero_number, same_text}
+use Rattle.mini_node.specs.Children.{part}
+use Rattle.mini_node.specs.Kinds.{number, unary_operator}
+use Rattle.mini_node.specs.Made.{number_is, unary_is}
+use Rattle.mini_rows.specs.Spellings.{numeral, void_zero, IsUndefined, PlainForm, a_number, a_text, a_boolean, a_null, a_big_int, a_template, a_void, plain, is_awkward_left, is_inner}
+use Rattle.mini_syntax.specs.Forms.{is_zero_value, is_zero, is_void, is_void_zero, is_undefined_name, is_global_undefined, is_undefined, is_literal, is_cooked, is_list_of, is_text_template, is_plain}
 use Rattle.mini_syntax.specs.SubstituteSwapBinaryExpressions.{items, is_zero_shape, is_awkward_by, is_ready}
 
 -- either holds

@@ -1,6 +1,6 @@
 -- What the rewrites of spellings write is what a row says, and where they write nothing no row reads the expression.
-use Rattle.std.proofs.Common.{◌≡◌, ℕ, zero, suc, Bool, true, false, List, [], ◌∷◌, Option, Some, None, refl, sym, ap, subst, ◌∙◌, inl, inr}
-use Rattle.std.specs.Prelude.{◌⊎◌, ◌&&◌, ◌||◌, ℤ, if◌then◌else◌}
+use Rattle.std.proofs.Common.{◌≡◌, ℕ, zero, Bool, true, false, List, [], Option, Some, None, refl, sym, ap, subst, ◌∙◌, inl, inr}
+use Rattle.std.specs.Prelude.{◌⊎◌, ◌&&◌, ℤ, if◌then◌else◌}
 use Rattle.std.specs.Fmt.{signed_decimal}
 use Rattle.std.proofs.lemmas.Bool.{and_parts}
 use Rattle.mini_text.specs.Texts.{is_identifier_name}
@@ -10,18 +10,16 @@ use Rattle.mini_model.specs.declared.operator.AssignmentOperator.{AssignmentOper
 use Rattle.mini_model.specs.declared.operator.BinaryOperator.{BinaryOperator}
 use Rattle.mini_model.specs.declared.operator.BinaryOperator.TheVariants.{Equality, Inequality}
 use Rattle.mini_model.specs.declared.operator.UpdateOperator.{UpdateOperator}
-use Rattle.mini_model.specs.declared.place.Position.{Position}
 use Rattle.mini_model.specs.declared.place.Position.TheVariants.{Expr}
 use Rattle.mini_model.specs.declared.seat.Seat.{Seat}
-use Rattle.mini_model.specs.declared.shape.Shape.{Shape}
 use Rattle.mini_model.specs.declared.shape.Shape.TheVariants as shape
-use Rattle.mini_model.specs.Tree.{Tree, Trees, node, none, ◌▸◌, absent, shape_of, null_literal}
+use Rattle.mini_model.specs.Tree.{Tree, node, none, ◌▸◌, absent, null_literal}
 use Rattle.mini_model.specs.Position.{is_equality}
 use Rattle.mini_node.specs.Children.{part}
 use Rattle.mini_node.specs.Kinds.{boolean as boolean_of, string, binary_operator, assignment_operator}
 use Rattle.mini_node.specs.Made.{boolean_is, string_is, binary_is, assignment_is}
-use Rattle.mini_rows.specs.Spellings.{numeral, text, key, boolean, binary, assignment, update, computed_member, static_member, yields, void_zero, negated_digit, IsLoose, PlainForm, plain, Row65, Row33Name, Row33Number, Row33, Row33Assigned, Row33Updated, Row58Left, Row58Right, Row54, Row60Yield, SpellingRow, SpellingContracts}
-use Rattle.mini_syntax.specs.Forms.{first_of, is_undefined, is_plain, is_void_zero}
+use Rattle.mini_rows.specs.Spellings.{numeral, text, key, boolean, binary, assignment, update, computed_member, static_member, yields, void_zero, negated_digit, IsLoose, plain, Row65, Row33, Row33Assigned, Row33Updated, Row58Left, Row58Right, Row54, Row60Yield, SpellingRow}
+use Rattle.mini_syntax.specs.Forms.{first_of, is_undefined, is_plain}
 use Rattle.mini_syntax.specs.SubstituteBoolean as substituted
 use Rattle.mini_syntax.specs.ConvertToDottedProperties as dotted
 use Rattle.mini_syntax.specs.ConvertToDottedProperties.{turned, is_name_text, named_member, numbered_member, as_name, update_operator}

@@ -5,3 +5,4 @@ pub mod SubstituteLooseEqualsUndefined
 pub mod SubstituteSwapBinaryExpressions
 pub mod SubstituteYieldExpression
 pub mod Spelled
+pub mod Lighter

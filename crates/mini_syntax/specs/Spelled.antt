@@ -14,12 +14,16 @@ use Rattle.mini_syntax.specs.SubstituteLooseEqualsUndefined as loose
 use Rattle.mini_syntax.specs.SubstituteSwapBinaryExpressions as swap
 use Rattle.mini_syntax.specs.SubstituteYieldExpression as yielding
 
+-- of an equality, and of other binary expressions
+abbrev pub equality_written : Tree → Option Tree
+equality_written t = first_of (loose.written t) (swap.written t)
+
 abbrev pub written_by : Shape → Tree → Option Tree
 written_by (shape.BooleanLiteral b) t = boolean.written t
 written_by (shape.ComputedMemberExpression is_optional) t = dotted.written t
 written_by (shape.AssignmentExpression o) t = dotted.written t
 written_by (shape.UpdateExpression o is_prefix) t = dotted.written t
-written_by (shape.BinaryExpression o) t = first_of (loose.written t) (swap.written t)
+written_by (shape.BinaryExpression o) t = equality_written t
 written_by (shape.YieldExpression is_delegate) t = yielding.written t
 written_by _ t = None
 

@@ -9,5 +9,6 @@ pub use laws::spellings_are_rows;
 pub use rewrites::convert_to_dotted_properties::convert_to_dotted_properties;
 pub use rewrites::substitute_boolean::substitute_boolean;
 pub use rewrites::substitute_loose_equals_undefined::substitute_loose_equals_undefined;
+pub use rewrites::substitute_spellings::SubstituteSpellings;
 pub use rewrites::substitute_swap_binary_expressions::substitute_swap_binary_expressions;
 pub use rewrites::substitute_yield_expression::substitute_yield_expression;

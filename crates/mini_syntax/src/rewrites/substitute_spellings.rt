@@ -1,0 +1,71 @@
+//! The rewrites of spellings as one rule.
+
+ghost use Rattle.std.specs.Prelude.{◌≡◌, is_some, unwrap_or, OnOk, IfOk};
+ghost use Rattle.mini_walk.specs.Rule.{Applied};
+ghost use Rattle.mini_syntax.specs.Lighter.{spellings_lighter};
+ghost use Rattle.mini_syntax.specs.Spelled.{equality_written, written, Gives, Rests};
+
+use crate::rewrites::convert_to_dotted_properties::convert_to_dotted_properties;
+use crate::rewrites::substitute_boolean::substitute_boolean;
+use crate::rewrites::substitute_loose_equals_undefined::substitute_loose_equals_undefined;
+use crate::rewrites::substitute_swap_binary_expressions::substitute_swap_binary_expressions;
+use crate::rewrites::substitute_yield_expression::substitute_yield_expression;
+use mini_context::TraverseCtx;
+use mini_model::{Position, Shape};
+use mini_node::Node;
+use mini_text::OutOfMemory;
+use mini_walk::Rule;
+use std::alloc::Global;
+
+fn substitute_equality(alloc: Global, node: &mut Node) -> Result<bool, OutOfMemory>
+    ensures tree { OnOk result (node.new ≡ unwrap_or (equality_written node.old) node.old) }
+    ensures said { IfOk result (λ changed. changed ≡ is_some (equality_written node.old)) }
+{
+    if substitute_loose_equals_undefined(alloc, node)? {
+        return Ok(true);
+    }
+    substitute_swap_binary_expressions(alloc, node)
+}
+
+// What a row says of the expression, if one reads it.
+fn substitute_spelling(alloc: Global, node: &mut Node) -> Result<bool, OutOfMemory>
+    ensures tree { OnOk result (node.new ≡ unwrap_or (written node.old) node.old) }
+    ensures said { IfOk result (λ changed. changed ≡ is_some (written node.old)) }
+{
+    match node.shape() {
+        Shape::BooleanLiteral(_) => substitute_boolean(alloc, node),
+        Shape::ComputedMemberExpression(_)
+        | Shape::AssignmentExpression(_)
+        | Shape::UpdateExpression(_, _) => convert_to_dotted_properties(alloc, node),
+        Shape::BinaryExpression(_) => substitute_equality(alloc, node),
+        Shape::YieldExpression(_) => substitute_yield_expression(alloc, node),
+        _ => Ok(false),
+    }
+}
+
+/// The rows of spellings as a rule: of each expression.
+pub struct SubstituteSpellings;
+
+impl Rule for SubstituteSpellings {
+    type Context = TraverseCtx;
+
+    ghost gives = { λ o q. Gives };
+
+    ghost rests = { λ o q. Rests };
+
+    ghost lighter = { λ o q. spellings_lighter };
+
+    #[tactic(auto, using(crate::proofs::Applying::applied))]
+    fn apply(
+        &self,
+        alloc: Global,
+        node: &mut Node,
+        place: Position,
+        context: &mut TraverseCtx,
+    ) -> Result<bool, OutOfMemory> {
+        match place {
+            Position::Expr(_) => Ok(substitute_spelling(alloc, node)?),
+            _ => Ok(false),
+        }
+    }
+}
