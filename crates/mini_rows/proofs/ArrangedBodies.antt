@@ -15,8 +15,9 @@ use Rattle.mini_kept.specs.Declaring.{declared_by, declared, declared_all}
 use Rattle.mini_kept.specs.Frames.{Frame, frame_of, outline, globals, property_below, frames, frames_from, FramesKept}
 use Rattle.mini_kept.proofs.BodyLists.{both_of as both_bodies}
 use Rattle.mini_kept.proofs.FrameLists.{both_of as both_frames}
-use Rattle.mini_rows.specs.Sketches.{Head, AList, shape_by, Asked, asked_below}
-use Rattle.mini_rows.proofs.Arranging.{Below, Local}
+use Rattle.mini_rows.specs.Sketches.{Head, AList, shape_by, Asked, asked_below, leaps}
+use Rattle.mini_rows.proofs.Arranging.{Below, Any, Local}
+use Rattle.mini_rows.proofs.ArrangedNames.{nothing_asked}
 
 none_in : {A : Type 0} {x : A} → Contains [] x → ⊥
 none_in c = let none : c.0 < 0 = c.1 in omega (arith, none)
@@ -55,10 +56,10 @@ module _ (all : List Body) (a : Around) where
   below_bodies cs around z i (t ▸ ts) k =
       both_bodies all (bodies (around i) t) (bodies_from around (suc i) ts) (subst (λ r. BodiesKept all (bodies r t)) (sym (z i)) k.0) (below_bodies cs around z (suc i) ts k.1)
 
-  pub bodies_local : Local HasBodies
+  pub bodies_local : Local Any HasBodies
   bodies_local = record {
-    down = λ h c ts k. bodies_below (asked_below h c) (below (quiet a) (shape_by h) ts) (still_quiet a h ts) 0 ts (subst (λ bs. BodiesKept all (bs ++ bodies_from (below (quiet a) (shape_by h) ts) 0 ts)) (no_body (quiet a) h 0 (node (shape_by h) [] 0 ts) ts) k);
-    up = λ h c ts k. subst (λ bs. BodiesKept all (bs ++ bodies_from (below (quiet a) (shape_by h) ts) 0 ts)) (sym (no_body (quiet a) h 0 (node (shape_by h) [] 0 ts) ts)) (below_bodies (asked_below h c) (below (quiet a) (shape_by h) ts) (still_quiet a h ts) 0 ts k);
+    down = λ h c ts p k. (nothing_asked (leaps h), bodies_below (asked_below h c) (below (quiet a) (shape_by h) ts) (still_quiet a h ts) 0 ts (subst (λ bs. BodiesKept all (bs ++ bodies_from (below (quiet a) (shape_by h) ts) 0 ts)) (no_body (quiet a) h 0 (node (shape_by h) [] 0 ts) ts) k));
+    up = λ h c ts p l k. subst (λ bs. BodiesKept all (bs ++ bodies_from (below (quiet a) (shape_by h) ts) 0 ts)) (sym (no_body (quiet a) h 0 (node (shape_by h) [] 0 ts) ts)) (below_bodies (asked_below h c) (below (quiet a) (shape_by h) ts) (still_quiet a h ts) 0 ts k);
   }
 
 -- ---- frames
@@ -89,10 +90,10 @@ module _ (all : List Frame) where
   below_frames cs kind z i (t ▸ ts) k =
       both_frames all (frames (kind i) t) (frames_from kind (suc i) ts) (subst (λ r. FramesKept all (frames r t)) (sym (z i)) k.0) (below_frames cs kind z (suc i) ts k.1)
 
-  pub frames_local : Local HasFrames
+  pub frames_local : Local Any HasFrames
   frames_local = record {
-    down = λ h c ts k. frames_below (asked_below h c) (property_below (shape_by h)) (no_property h) 0 ts (split_frames all (frame_of None (shape_by h) 0 (outline (shape_by h) [] 0 ts) (globals (shape_by h) ts)) (frames_from (property_below (shape_by h)) 0 ts) k).1;
-    up = λ h c ts k. subst (λ fs. FramesKept all (fs ++ frames_from (property_below (shape_by h)) 0 ts)) (sym (no_frame h (outline (shape_by h) [] 0 ts) (globals (shape_by h) ts))) (below_frames (asked_below h c) (property_below (shape_by h)) (no_property h) 0 ts k);
+    down = λ h c ts p k. (nothing_asked (leaps h), frames_below (asked_below h c) (property_below (shape_by h)) (no_property h) 0 ts (split_frames all (frame_of None (shape_by h) 0 (outline (shape_by h) [] 0 ts) (globals (shape_by h) ts)) (frames_from (property_below (shape_by h)) 0 ts) k).1);
+    up = λ h c ts p l k. subst (λ fs. FramesKept all (fs ++ frames_from (property_below (shape_by h)) 0 ts)) (sym (no_frame h (outline (shape_by h) [] 0 ts) (globals (shape_by h) ts))) (below_frames (asked_below h c) (property_below (shape_by h)) (no_property h) 0 ts k);
   }
 
 -- ---- declared names
@@ -128,10 +129,10 @@ module _ (all : List Name) where
   below_declares cs i none k = λ x c. absurd (none_in c)
   below_declares cs i (t ▸ ts) k = both_names (declared t) (declared_all ts) k.0 (below_declares cs (suc i) ts k.1)
 
-  pub declares_local : Local Declares
+  pub declares_local : Local Any Declares
   declares_local = record {
-    down = λ h c ts k. declares_below (asked_below h c) 0 ts (split_names (declared_by (shape_by h) []) (declared_all ts) k).1;
-    up = λ h c ts k. subst (λ xs. Among (xs ++ declared_all ts)) (sym (none_declared h)) (below_declares (asked_below h c) 0 ts k);
+    down = λ h c ts p k. (nothing_asked (leaps h), declares_below (asked_below h c) 0 ts (split_names (declared_by (shape_by h) []) (declared_all ts) k).1);
+    up = λ h c ts p l k. subst (λ xs. Among (xs ++ declared_all ts)) (sym (none_declared h)) (below_declares (asked_below h c) 0 ts k);
   }
 
 -- ---- what a write does
@@ -197,8 +198,8 @@ module _ (x : Variable) (k : ℕ) where
       let b = is_in x (declares_by (shape_by h) (summaries ts)) in
       ap (λ f. stricter (choose b f Writable) (fixed_by_any ts x)) (all_writable h) ∙ ap (λ f. stricter f (fixed_by_any ts x)) (both_writable b)
 
-  pub fixed_local : Local FixedBy
+  pub fixed_local : Local Any FixedBy
   fixed_local = record {
-    down = λ h c ts e. fixed_below (asked_below h c) 0 ts (subst (λ f. rank f ≤ k) (of_children h ts) e);
-    up = λ h c ts a. subst (λ f. rank f ≤ k) (sym (of_children h ts)) (below_fixed (asked_below h c) 0 ts a);
+    down = λ h c ts p e. (nothing_asked (leaps h), fixed_below (asked_below h c) 0 ts (subst (λ f. rank f ≤ k) (of_children h ts) e));
+    up = λ h c ts p l a. subst (λ f. rank f ≤ k) (sym (of_children h ts)) (below_fixed (asked_below h c) 0 ts a);
   }

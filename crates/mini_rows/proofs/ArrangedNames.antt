@@ -1,14 +1,16 @@
 -- Names, symbols, numbers and early errors of a tree are those of its parts, where plain heads are above them.
-use Rattle.std.specs.Prelude.{ℕ, zero, suc, ◌≡◌, refl, ◌||◌, Bool, true, false, List, [], ◌∷◌, ◌++◌, Option, if◌then◌else◌}
+use Rattle.std.specs.Prelude.{ℕ, zero, suc, ◌≡◌, refl, ◌||◌, not, Bool, true, false, List, [], ◌∷◌, ◌++◌, Option, if◌then◌else◌}
 use Rattle.std.proofs.Common.{ap, ◌∙◌, sym, subst, arith}
 use Rattle.std.proofs.lemmas.List.{append-nil}
+use Rattle.mini_model.specs.declared.name.Name.{Name}
 use Rattle.mini_model.specs.declared.name.SymbolId.{SymbolId}
 use Rattle.mini_model.specs.Tree.{Tree, Trees, none, ◌▸◌}
+use Rattle.mini_model.specs.declared.operator.AssignmentOperator.TheVariants.{Assign}
 use Rattle.mini_names.specs.declared.Use.{Use}
 use Rattle.mini_names.specs.declared.Binding.{Binding}
 use Rattle.mini_names.specs.declared.Targets.{Targets}
-use Rattle.mini_names.specs.DeclaredNames.{is_inner, has_inner, any_inner}
-use Rattle.mini_names.specs.Scopes.{use_of, opened, scopes_by}
+use Rattle.mini_names.specs.DeclaredNames.{lexical_names, with_names, is_inner, has_inner, any_inner}
+use Rattle.mini_names.specs.Scopes.{use_of, opened, scopes_by, at_or_empty, lexical_scope}
 use Rattle.mini_names.specs.Resolved.{Environment}
 use Rattle.mini_names.specs.Scoped.{Scoped, AllScoped}
 use Rattle.mini_names.specs.Symbols.{symbols_in, declared as declared_in, declared_from, times}
@@ -18,15 +20,22 @@ use Rattle.mini_kept.specs.Carried.{numbers, all_numbers}
 use Rattle.mini_kept.specs.KeepsNames.{count_of}
 use Rattle.mini_kept.proofs.Below.{both_counts, empty_both, both_empty}
 use Rattle.mini_kept.proofs.Anywhere.{once_anywhere, targets_anywhere}
-use Rattle.mini_rows.specs.Sketches.{Head, AList, Call, New, StaticMember, If, shape_by, Asked, AsWhole, asked_below, use_by}
-use Rattle.mini_rows.proofs.Arranging.{Below, Local, sum_below, Summed}
+use Rattle.mini_rows.specs.Sketches.{Head, AList, Call, New, StaticMember, Yield, Assignment, Return, If, Block, shape_by, Asked, AsWhole, asked_below, use_by, Leap, Returning, Yielding, leaps}
+use Rattle.mini_rows.proofs.Arranging.{Plain, Below, Leaping, Any, Local, sum_below, Summed}
 
 -- ---- scopes
 
-nothing_opened : (v : Use) (h : Head) (ts : Trees) (j : ℕ) → opened v (shape_by h) ts j ≡ []
+opened_by : (xs : List Name) (j : ℕ) → xs ≡ [] → at_or_empty (lexical_scope xs ∷ []) j ≡ []
+unfolding with_names
+opened_by [] zero e = refl
+opened_by [] (suc j) e = refl
+opened_by (x ∷ xs) j e = absurd (cc e)
+
+nothing_opened : (v : Use) (h : Head) (ts : Trees) → Plain h ts → (j : ℕ) → opened v (shape_by h) ts j ≡ []
 unfolding scopes_by
-nothing_opened v AList ts j = refl
-nothing_opened v h ts j = refl
+nothing_opened v Block none p j = refl
+nothing_opened v Block (t ▸ ts) p j = opened_by (lexical_names t) j p.0
+nothing_opened v h ts p j = refl
 
 used_below : (v : Use) (h : Head) (c : Asked) (j : ℕ) → use_of (shape_by h) (use_by v c) j ≡ use_by v (asked_below h c j)
 used_below v AList AsWhole j = refl
@@ -37,9 +46,17 @@ used_below v New c zero = refl
 used_below v New c (suc j) = refl
 used_below v (StaticMember b) c zero = refl
 used_below v (StaticMember b) c (suc j) = refl
+used_below v (Assignment Assign) c zero = refl
+used_below v (Assignment o) c zero = refl
+used_below v (Assignment o) c (suc j) = refl
 used_below v If c zero = refl
 used_below v If c (suc j) = refl
 used_below v h c j = refl
+
+-- a jump that needs nothing
+pub nothing_asked : (ls : List Leap) → Leaping Any ls
+nothing_asked [] = tt
+nothing_asked (l ∷ ls) = (tt, nothing_asked ls)
 
 module _ (v : Use) (env : Environment) where
   abbrev pub ScopedAs : Asked → Tree → Type 0
@@ -59,11 +76,11 @@ module _ (v : Use) (env : Environment) where
       let same : e ++ scope i ≡ env = ap (λ r. e ++ r) (z i) ∙ append-nil e ∙ q in
       (subst (λ r. Scoped (uses i) r t) (sym same) (subst (λ u. Scoped u env t) (sym (w i)) a.0), below_scoped cs scope z uses w (suc i) (e ++ scope i) same ts a.1)
 
-  pub scoped_local : Local ScopedAs
+  pub scoped_local : Local Any ScopedAs
   unfolding Scoped
   scoped_local = record {
-    down = λ h c ts a. scoped_below (asked_below h c) (opened (use_by v c) (shape_by h) ts) (nothing_opened (use_by v c) h ts) (use_of (shape_by h) (use_by v c)) (used_below v h c) 0 env refl ts a.1;
-    up = λ h c ts a. (tt, below_scoped (asked_below h c) (opened (use_by v c) (shape_by h) ts) (nothing_opened (use_by v c) h ts) (use_of (shape_by h) (use_by v c)) (used_below v h c) 0 env refl ts a);
+    down = λ h c ts p a. (nothing_asked (leaps h), scoped_below (asked_below h c) (opened (use_by v c) (shape_by h) ts) (nothing_opened (use_by v c) h ts p) (use_of (shape_by h) (use_by v c)) (used_below v h c) 0 env refl ts a.1);
+    up = λ h c ts p l a. (tt, below_scoped (asked_below h c) (opened (use_by v c) (shape_by h) ts) (nothing_opened (use_by v c) h ts p) (use_of (shape_by h) (use_by v c)) (used_below v h c) 0 env refl ts a);
   }
 
 -- ---- symbols and numbers
@@ -80,7 +97,7 @@ module _ (v : Use) (x : Option SymbolId) where
 
   pub symbols_summed : Summed symbol_times
   unfolding declared_in
-  symbols_summed h c ts = symbols_below (asked_below h c) (opened (use_by v c) (shape_by h) ts) (nothing_opened (use_by v c) h ts) (use_of (shape_by h) (use_by v c)) (used_below v h c) 0 ts
+  symbols_summed h c ts p = symbols_below (asked_below h c) (opened (use_by v c) (shape_by h) ts) (nothing_opened (use_by v c) h ts p) (use_of (shape_by h) (use_by v c)) (used_below v h c) 0 ts
 
 module _ (k : ℕ) where
   abbrev pub number_times : Asked → Tree → ℕ
@@ -93,7 +110,7 @@ module _ (k : ℕ) where
 
   pub numbers_summed : Summed number_times
   unfolding numbers
-  numbers_summed h c ts = numbers_below (asked_below h c) 0 ts
+  numbers_summed h c ts p = numbers_below (asked_below h c) 0 ts
 
 -- ---- whether an inner expression stands in it
 
@@ -129,19 +146,19 @@ module _ (b : Bool) where
   below_inner cs i none a = refl
   below_inner cs i (t ▸ ts) a = both_or (has_inner t) (any_inner ts) a.0 (below_inner cs (suc i) ts a.1)
 
-  pub inner_local : Local InnerIf
+  pub inner_local : Local Any InnerIf
   unfolding has_inner
   inner_local = record {
-    down = λ h c ts e. inner_below (asked_below h c) 0 ts (sym (ap (λ a. (a || any_inner ts) || b) (no_inner h)) ∙ e);
-    up = λ h c ts a. ap (λ a. (a || any_inner ts) || b) (no_inner h) ∙ below_inner (asked_below h c) 0 ts a;
+    down = λ h c ts p e. (nothing_asked (leaps h), inner_below (asked_below h c) 0 ts (sym (ap (λ a. (a || any_inner ts) || b) (no_inner h)) ∙ e));
+    up = λ h c ts p l a. ap (λ a. (a || any_inner ts) || b) (no_inner h) ∙ below_inner (asked_below h c) 0 ts a;
   }
 
 -- ---- early errors
 
-no_scope : (h : Head) (p : Path) (ts : Trees) → scope_declarations (shape_by h) p ts ≡ []
+no_clash : (h : Head) (ts : Trees) → Plain h ts → clashing [] (scope_declarations (shape_by h) [] ts) ≡ []
 unfolding scope_declarations
-no_scope AList p ts = refl
-no_scope h p ts = refl
+no_clash Block ts p = p.1
+no_clash h ts p = refl
 
 abbrev pub Once : Asked → Tree → Type 0
 Once c t = early_names [] t ≡ []
@@ -158,21 +175,39 @@ unfolding early_names
 below_once cs p i none a = refl
 below_once cs p i (t ▸ ts) a = both_empty (early_names (p ++ i ∷ []) t) (all_early_names p (suc i) ts) (once_anywhere [] (p ++ i ∷ []) t a.0) (below_once cs p (suc i) ts a.1)
 
-pub once_local : Local Once
+pub once_local : Local Any Once
 unfolding early_names
 once_local = record {
-  down = λ h c ts e. once_below (asked_below h c) [] 0 ts (empty_both (clashing [] (scope_declarations (shape_by h) [] ts)) (all_early_names [] 0 ts) e).1;
-  up = λ h c ts a. both_empty (clashing [] (scope_declarations (shape_by h) [] ts)) (all_early_names [] 0 ts) (ap (clashing []) (no_scope h [] ts)) (below_once (asked_below h c) [] 0 ts a);
+  down = λ h c ts p e. (nothing_asked (leaps h), once_below (asked_below h c) [] 0 ts (empty_both (clashing [] (scope_declarations (shape_by h) [] ts)) (all_early_names [] 0 ts) e).1);
+  up = λ h c ts p l a. both_empty (clashing [] (scope_declarations (shape_by h) [] ts)) (all_early_names [] 0 ts) (no_clash h ts p) (below_once (asked_below h c) [] 0 ts a);
 }
-
-no_jump : (h : Head) (ts : Trees) (g : Targets) → is_bad_jump (shape_by h) ts g ≡ false
-no_jump AList ts g = refl
-no_jump h ts g = refl
 
 same_targets : (h : Head) (ts : Trees) (g : Targets) (i : ℕ) → targets_of (shape_by h) ts g i ≡ g
 unfolding targets_of
 same_targets AList ts g i = refl
 same_targets h ts g i = refl
+
+-- what a jump out of the body needs
+abbrev pub HasTarget : Targets → Leap → Type 0
+HasTarget g Returning = g.returns ≡ true
+HasTarget g Yielding = g.yields ≡ true
+
+abbrev nowhere : List Path
+nowhere = [] ∷ []
+
+named_target : (b : Bool) → (if not b then nowhere else []) ≡ [] → b ≡ true
+named_target true e = refl
+named_target false e = absurd (cc e)
+
+aimed_at : (h : Head) (ts : Trees) (g : Targets) → (if is_bad_jump (shape_by h) ts g then nowhere else []) ≡ [] → Leaping (HasTarget g) (leaps h)
+aimed_at Return ts g e = (named_target g.returns e, tt)
+aimed_at (Yield b) ts g e = (named_target g.yields e, tt)
+aimed_at h ts g e = tt
+
+no_bad : (h : Head) (ts : Trees) (g : Targets) → Leaping (HasTarget g) (leaps h) → is_bad_jump (shape_by h) ts g ≡ false
+no_bad Return ts g l = ap not l.0
+no_bad (Yield b) ts g l = ap not l.0
+no_bad h ts g l = refl
 
 module _ (g : Targets) where
   abbrev pub Aimed : Asked → Tree → Type 0
@@ -191,9 +226,12 @@ module _ (g : Targets) where
   below_aimed cs targets z p i (t ▸ ts) a =
       both_empty (early_jumps (targets i) (p ++ i ∷ []) t) (all_early_jumps targets p (suc i) ts) (subst (λ r. early_jumps r (p ++ i ∷ []) t ≡ []) (sym (z i)) (targets_anywhere g [] (p ++ i ∷ []) t a.0)) (below_aimed cs targets z p (suc i) ts a.1)
 
-  pub aimed_local : Local Aimed
+  pub aimed_local : Local (HasTarget g) Aimed
   unfolding early_jumps
   aimed_local = record {
-    down = λ h c ts e. aimed_below (asked_below h c) (targets_of (shape_by h) ts g) (same_targets h ts g) [] 0 ts (empty_both (if is_bad_jump (shape_by h) ts g then [] ∷ [] else []) (all_early_jumps (targets_of (shape_by h) ts g) [] 0 ts) e).1;
-    up = λ h c ts a. both_empty (if is_bad_jump (shape_by h) ts g then [] ∷ [] else []) (all_early_jumps (targets_of (shape_by h) ts g) [] 0 ts) (ap (λ b. if b then [] ∷ [] else []) (no_jump h ts g)) (below_aimed (asked_below h c) (targets_of (shape_by h) ts g) (same_targets h ts g) [] 0 ts a);
+    down = λ h c ts p e. (
+        let (x, y) = empty_both (if is_bad_jump (shape_by h) ts g then nowhere else []) (all_early_jumps (targets_of (shape_by h) ts g) [] 0 ts) e in
+        (aimed_at h ts g x, aimed_below (asked_below h c) (targets_of (shape_by h) ts g) (same_targets h ts g) [] 0 ts y)
+        );
+    up = λ h c ts p l a. both_empty (if is_bad_jump (shape_by h) ts g then nowhere else []) (all_early_jumps (targets_of (shape_by h) ts g) [] 0 ts) (ap (λ b. if b then nowhere else []) (no_bad h ts g l)) (below_aimed (asked_below h c) (targets_of (shape_by h) ts g) (same_targets h ts g) [] 0 ts a);
   }

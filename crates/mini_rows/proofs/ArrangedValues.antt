@@ -1,16 +1,20 @@
 -- Which parts of a tree are expressions: those that stand where plain heads take one.
-use Rattle.std.specs.Prelude.{ℕ, suc, ◌≡◌, refl, ◌&&◌, ◌||◌, not, pos, negsuc, Bool, true, false, List, [], ◌∷◌, Option, Some, None}
+use Rattle.std.specs.Prelude.{ℕ, suc, ◌≡◌, refl, ◌&&◌, ◌||◌, not, pos, negsuc, Bool, true, false, List, [], ◌∷◌, ◌++◌, Option, Some, None}
 use Rattle.std.proofs.Common.{ap, ◌∙◌, sym, inl, inr, ◌⊎◌}
 use Rattle.std.proofs.lemmas.Bool.{and_parts}
+use Rattle.mini_model.specs.declared.name.Name.{Name}
+use Rattle.mini_model.specs.declared.operator.AssignmentOperator.TheVariants.{Assign}
 use Rattle.mini_model.specs.declared.shape.Shape.{Shape}
 use Rattle.mini_model.specs.declared.shape.Shape.TheVariants as shape
 use Rattle.mini_model.specs.Tree.{Tree, Trees, node, none, ◌▸◌, shape_of, child_or_absent}
-use Rattle.mini_accept.specs.WellShaped.{Depth, in_module, in_body, nested, Class, a_statement, a_word, a_key, a_private_or_key, an_inner_key, an_expression, a_link, an_argument, Slot, one, one_or_absent, many, many_or_holes, many_and_rest, many_or_holes_and_rest, quasis, is_text, none_if, statement_slots, word_slots, slots_of, Filling, refused, these, each, each_or_last, pieces, filling_by, filling, class_of, is_whole, is_strict_in, is_last, fits, fill}
-use Rattle.mini_kept.proofs.Bools.{right}
+use Rattle.mini_accept.specs.WellShaped.{Depth, in_module, in_body, nested, Class, a_statement, a_word, a_key, a_private_or_key, an_inner_key, an_expression, a_link, an_argument, Slot, one, one_or_absent, many, many_or_holes, many_and_rest, many_or_holes_and_rest, quasis, is_text, none_if, statement_slots, word_slots, slots_of, Filling, refused, these, each, each_or_last, pieces, filling_by, filling, class_of, has_names, has_its_number, has_plain_fields, has_its_parts, is_whole, is_strict_in, is_last, fits, fill}
+use Rattle.mini_model.specs.Paths.{append}
+use Rattle.mini_names.specs.DeclaredNames.{own_names}
+use Rattle.mini_kept.proofs.Bools.{left, right}
 use Rattle.mini_kept.proofs.Expressions.{refused_here}
 use Rattle.mini_kept.proofs.Quiet.{is_quiet}
-use Rattle.mini_rows.specs.Sketches.{Head, AbsentPart, AList, Number, PropertyName, Call, StaticMember, ComputedMember, shape_by, Sketch, part, under, list, Sketches, end, ◌▹◌, Items, no_items, item, items, Parts, list_at, before, filled, all_filled, items_filled, Asked, AsWhole, AsWholeItem, AsValue, AsValues, AsWord, AsBranch, asked_below, item_asked, parts_of, parts_from, parts_in, is_expression_head}
-use Rattle.mini_rows.proofs.Arranging.{All, Each, both_each}
+use Rattle.mini_rows.specs.Sketches.{Head, AbsentPart, AList, Number, PropertyName, Call, StaticMember, ComputedMember, Yield, Assignment, shape_by, Sketch, part, under, list, Sketches, end, ◌▹◌, Items, no_items, item, items, Parts, list_at, filled, all_filled, items_filled, Asked, AsWhole, AsWholeList, AsWholeItem, AsValue, AsValues, AsWord, AsTarget, AsUpdated, AsBranch, AsItems, AsItem, asked_below, item_asked, is_statement_asked, Leap, leaps, Hole, leap_holes, parts_of, parts_from, parts_in}
+use Rattle.mini_rows.proofs.Arranging.{All, Any, Each, both_each}
 
 abbrev pub is_no_inner : Shape → Bool
 is_no_inner shape.InnerExpression = false
@@ -22,18 +26,36 @@ is_value h = is_quiet h && is_no_inner h
 
 -- ---- the slots of expressions
 
-abbrev suits : Asked → Slot → Bool
+abbrev is_statement_slot : Slot → Bool
+is_statement_slot (one (a_statement d)) = true
+is_statement_slot (one_or_absent (a_statement d)) = true
+is_statement_slot s = false
+
+abbrev are_statement_slots : Slot → Bool
+are_statement_slots (many (a_statement d)) = true
+are_statement_slots s = false
+
+abbrev pub suits : Asked → Slot → Bool
 suits c (quasis g) = false
 suits AsValue (one an_expression) = true
 suits AsValue (one a_link) = true
 suits AsValue (one an_argument) = true
 suits AsValue (one_or_absent an_argument) = true
+suits AsValue (one_or_absent an_expression) = true
 suits AsValue s = false
 suits AsValues (many an_expression) = true
 suits AsValues (many an_argument) = true
 suits AsValues (many_or_holes an_argument) = true
 suits AsValues s = false
-suits c s = true
+suits AsWord s = true
+suits AsTarget s = true
+suits AsUpdated s = true
+suits AsBranch s = is_statement_slot s
+suits AsWholeItem s = is_statement_slot s
+suits AsItem s = is_statement_slot s
+suits AsWholeList s = are_statement_slots s
+suits AsItems s = are_statement_slots s
+suits AsWhole s = false
 
 abbrev is_refused : Filling → Bool
 is_refused refused = true
@@ -71,6 +93,13 @@ element_or_refused strict (shape.Class true) = refl
 element_or_refused strict (shape.Class false) = refl
 element_or_refused strict h = refl
 
+maybe_or_refused : (strict : Bool) (h : Shape) → (is_value h || is_refused (filling strict (one_or_absent an_expression) h)) ≡ true
+maybe_or_refused strict (shape.Function true g ds) = refl
+maybe_or_refused strict (shape.Function false g ds) = refl
+maybe_or_refused strict (shape.Class true) = refl
+maybe_or_refused strict (shape.Class false) = refl
+maybe_or_refused strict h = refl
+
 value_or : (strict : Bool) (s : Slot) (t : Tree) → (is_value (shape_of t) || is_refused (filling strict s (shape_of t))) ≡ true → fits strict s t ≡ true → is_value (shape_of t) ≡ true
 value_or strict s (node h xs n ts) e f = by (is_value h) e
   where
@@ -83,7 +112,59 @@ value_fits strict (one an_expression) t e f = value_or strict (one an_expression
 value_fits strict (one a_link) t e f = value_or strict (one a_link) t (link_or_refused strict (shape_of t)) f
 value_fits strict (one an_argument) t e f = value_or strict (one an_argument) t (argument_or_refused strict (shape_of t)) f
 value_fits strict (one_or_absent an_argument) t e f = value_or strict (one_or_absent an_argument) t (element_or_refused strict (shape_of t)) f
+value_fits strict (one_or_absent an_expression) t e f = value_or strict (one_or_absent an_expression) t (maybe_or_refused strict (shape_of t)) f
 value_fits strict s t e f = absurd (cc e)
+
+-- ---- statements
+
+-- the shapes that hand nothing of what is around on, and have no names
+abbrev pub is_calm : Shape → Bool
+is_calm shape.Listed = false
+is_calm shape.InnerExpression = false
+is_calm shape.RestElement = false
+is_calm shape.AssignmentPattern = false
+is_calm shape.Identifier = false
+is_calm shape.BindingIdentifier = false
+is_calm h = true
+
+calm_or_refused : (strict : Bool) (d : Depth) (h : Shape) → (is_calm h || is_refused (filling strict (one (a_statement d)) h)) ≡ true
+calm_or_refused true in_module shape.Listed = refl
+calm_or_refused true in_module h = refl
+calm_or_refused true in_body shape.Listed = refl
+calm_or_refused true in_body h = refl
+calm_or_refused true nested shape.Listed = refl
+calm_or_refused true nested h = refl
+calm_or_refused false in_module shape.Listed = refl
+calm_or_refused false in_module h = refl
+calm_or_refused false in_body shape.Listed = refl
+calm_or_refused false in_body h = refl
+calm_or_refused false nested shape.Listed = refl
+calm_or_refused false nested h = refl
+
+or_maybe : (strict : Bool) (d : Depth) (h : Shape) → (is_calm h || is_refused (filling strict (one (a_statement d)) h)) ≡ true → (is_calm h || is_refused (filling strict (one_or_absent (a_statement d)) h)) ≡ true
+or_maybe strict d shape.Absent e = refl
+or_maybe strict d h e = e
+
+calm_or : (strict : Bool) (s : Slot) (t : Tree) → (is_calm (shape_of t) || is_refused (filling strict s (shape_of t))) ≡ true → fits strict s t ≡ true → is_calm (shape_of t) ≡ true
+calm_or strict s (node h xs n ts) e f = by (is_calm h) e
+  where
+    by : (b : Bool) → (b || is_refused (filling strict s h)) ≡ true → b ≡ true
+    by true e = refl
+    by false e = absurd (refused_here strict s h xs n ts (refused_is (filling strict s h) e) f)
+
+calm_fits : (strict : Bool) (s : Slot) (t : Tree) → is_statement_slot s ≡ true → fits strict s t ≡ true → is_calm (shape_of t) ≡ true
+calm_fits strict (one (a_statement d)) t e f = calm_or strict (one (a_statement d)) t (calm_or_refused strict d (shape_of t)) f
+calm_fits strict (one_or_absent (a_statement d)) t e f = calm_or strict (one_or_absent (a_statement d)) t (or_maybe strict d (shape_of t) (calm_or_refused strict d (shape_of t))) f
+calm_fits strict s t e f = absurd (cc e)
+
+no_names_of : (h : Shape) (xs : List Name) → is_calm h ≡ true → has_names h xs ≡ true → xs ≡ []
+no_names_of h [] e f = refl
+no_names_of shape.Identifier (x ∷ xs) e f = absurd (cc e)
+no_names_of shape.BindingIdentifier (x ∷ xs) e f = absurd (cc e)
+no_names_of h (x ∷ xs) e f = absurd (cc f)
+
+unnamed : (strict : Bool) (s : Slot) (t : Tree) → is_calm (shape_of t) ≡ true → fits strict s t ≡ true → own_names t ≡ []
+unnamed strict s (node h xs n ts) e f = no_names_of h xs e (left (has_names h xs) (has_its_number (class_of s) h n && (has_plain_fields h && has_its_parts (class_of s) h ts)) (left (is_whole (class_of s) h xs n ts) (fill (is_strict_in strict h) (filling strict s h) ts) f))
 
 -- ---- the slots below plain heads
 
@@ -123,6 +204,9 @@ class_suits strict (a_word w) h c = word_suits w h c
 class_suits strict (a_key true) AList c = refl
 class_suits strict (a_private_or_key true) AList c = refl
 class_suits strict (an_inner_key true) AList c = refl
+class_suits strict k (Assignment Assign) c = refl
+class_suits strict k (Yield true) c = refl
+class_suits strict k (Yield false) c = refl
 class_suits strict k (Number (pos n)) c = refl
 class_suits strict k (Number (negsuc n)) c = refl
 class_suits strict k (Call true) c = refl
@@ -144,34 +228,54 @@ of_option : (cs : ℕ → Asked) (o : Option (List Slot)) → option_suits cs o 
 of_option cs None e = tt
 of_option cs (Some ss) e = e
 
-filling_suits : (strict : Bool) (s : Slot) (h : Head) (c : Asked) → (is_expression_head h || suits c s) ≡ true → Suits (asked_below h c) 0 (filling strict s (shape_by h))
+abbrev pub is_no_list : Head → Bool
+is_no_list AList = false
+is_no_list h = true
+
+item_suits : (k : Class) (c : Asked) → suits c (many k) ≡ true → suits (item_asked c) (one k) ≡ true
+item_suits an_expression AsValues e = refl
+item_suits an_argument AsValues e = refl
+item_suits k AsValues e = absurd (cc e)
+item_suits (a_statement d) AsWholeList e = refl
+item_suits k AsWholeList e = absurd (cc e)
+item_suits (a_statement d) AsItems e = refl
+item_suits k AsItems e = absurd (cc e)
+item_suits k AsWord e = refl
+item_suits k AsTarget e = refl
+item_suits k AsUpdated e = refl
+item_suits k c e = absurd (cc e)
+
+hole_suits : (k : Class) (c : Asked) → suits c (many_or_holes k) ≡ true → suits (item_asked c) (one_or_absent k) ≡ true
+hole_suits an_argument AsValues e = refl
+hole_suits k AsValues e = absurd (cc e)
+hole_suits k AsWord e = refl
+hole_suits k AsTarget e = refl
+hole_suits k AsUpdated e = refl
+hole_suits k c e = absurd (cc e)
+
+rest_suits : (k r : Class) (c : Asked) → suits c (many_and_rest k r) ≡ true → (suits (item_asked c) (one k) ≡ true) × (suits (item_asked c) (one r) ≡ true)
+rest_suits k r AsWord e = (refl, refl)
+rest_suits k r AsTarget e = (refl, refl)
+rest_suits k r AsUpdated e = (refl, refl)
+rest_suits k r c e = absurd (cc e)
+
+holes_suit : (k r : Class) (c : Asked) → suits c (many_or_holes_and_rest k r) ≡ true → (suits (item_asked c) (one_or_absent k) ≡ true) × (suits (item_asked c) (one r) ≡ true)
+holes_suit k r AsWord e = (refl, refl)
+holes_suit k r AsTarget e = (refl, refl)
+holes_suit k r AsUpdated e = (refl, refl)
+holes_suit k r c e = absurd (cc e)
+
+filling_suits : (strict : Bool) (s : Slot) (h : Head) (c : Asked) → (is_no_list h || suits c s) ≡ true → Suits (asked_below h c) 0 (filling strict s (shape_by h))
 filling_suits strict (one k) h c e = of_option (asked_below h c) (slots_of strict k (shape_by h)) (class_suits strict k h c)
 filling_suits strict (one_or_absent k) AbsentPart c e = refl
 filling_suits strict (one_or_absent k) h c e = of_option (asked_below h c) (slots_of strict k (shape_by h)) (class_suits strict k h c)
-filling_suits strict (many k) AList AsWhole e = λ j. refl
-filling_suits strict (many k) AList AsWholeItem e = λ j. refl
-filling_suits strict (many k) AList AsWord e = λ j. refl
-filling_suits strict (many k) AList AsBranch e = λ j. refl
-filling_suits strict (many k) AList AsValue e = absurd (cc e)
-filling_suits strict (many an_expression) AList AsValues e = λ j. refl
-filling_suits strict (many an_argument) AList AsValues e = λ j. refl
-filling_suits strict (many k) AList AsValues e = absurd (cc e)
+filling_suits strict (many k) AList c e = λ j. item_suits k c e
 filling_suits strict (many k) h c e = tt
-filling_suits strict (many_or_holes k) AList AsWhole e = λ j. refl
-filling_suits strict (many_or_holes k) AList AsWholeItem e = λ j. refl
-filling_suits strict (many_or_holes k) AList AsWord e = λ j. refl
-filling_suits strict (many_or_holes k) AList AsBranch e = λ j. refl
-filling_suits strict (many_or_holes k) AList AsValue e = absurd (cc e)
-filling_suits strict (many_or_holes an_argument) AList AsValues e = λ j. refl
-filling_suits strict (many_or_holes k) AList AsValues e = absurd (cc e)
+filling_suits strict (many_or_holes k) AList c e = λ j. hole_suits k c e
 filling_suits strict (many_or_holes k) h c e = tt
-filling_suits strict (many_and_rest k r) AList AsValue e = absurd (cc e)
-filling_suits strict (many_and_rest k r) AList AsValues e = absurd (cc e)
-filling_suits strict (many_and_rest k r) AList c e = λ j. (refl, refl)
+filling_suits strict (many_and_rest k r) AList c e = λ j. rest_suits k r c e
 filling_suits strict (many_and_rest k r) h c e = tt
-filling_suits strict (many_or_holes_and_rest k r) AList AsValue e = absurd (cc e)
-filling_suits strict (many_or_holes_and_rest k r) AList AsValues e = absurd (cc e)
-filling_suits strict (many_or_holes_and_rest k r) AList c e = λ j. (refl, refl)
+filling_suits strict (many_or_holes_and_rest k r) AList c e = λ j. holes_suit k r c e
 filling_suits strict (many_or_holes_and_rest k r) h c e = tt
 filling_suits strict (quasis g) AList c e = absurd (cc e)
 filling_suits strict (quasis g) h c e = tt
@@ -211,12 +315,36 @@ listed_not strict s ss e = cc (sym (list_filling strict s) ∙ ap is_list_fillin
 
 -- ---- parts
 
+-- an expression is one by its root; a statement has no names of its own and hands nothing of what is around on
+abbrev pub Calm : Tree → Type 0
+Calm t = (own_names t ≡ []) × (is_calm (shape_of t) ≡ true)
+
+statement_suits_slot : (c : Asked) (s : Slot) → is_statement_asked c ≡ true → suits c s ≡ true → is_statement_slot s ≡ true
+statement_suits_slot AsBranch (quasis g) k e = absurd (cc e)
+statement_suits_slot AsBranch s k e = e
+statement_suits_slot AsWholeItem (quasis g) k e = absurd (cc e)
+statement_suits_slot AsWholeItem s k e = e
+statement_suits_slot AsItem (quasis g) k e = absurd (cc e)
+statement_suits_slot AsItem s k e = e
+statement_suits_slot c s k e = absurd (cc k)
+
 abbrev pub Valued : Asked → Tree → Type 0
 Valued AsValue t = is_value (shape_of t) ≡ true
+Valued AsBranch t = Calm t
+Valued AsWholeItem t = Calm t
+Valued AsItem t = Calm t
 Valued c t = Unit {0}
+
+calmly : (strict : Bool) (s : Slot) (t : Tree) → is_statement_slot s ≡ true → fits strict s t ≡ true → Calm t
+calmly strict s t e f =
+    let c = calm_fits strict s t e f in
+    (unnamed strict s t c f, c)
 
 valued : (strict : Bool) (c : Asked) (s : Slot) (t : Tree) → suits c s ≡ true → fits strict s t ≡ true → Valued c t
 valued strict AsValue s t e f = value_fits strict s t e f
+valued strict AsBranch s t e f = calmly strict s t (statement_suits_slot AsBranch s refl e) f
+valued strict AsWholeItem s t e f = calmly strict s t (statement_suits_slot AsWholeItem s refl e) f
+valued strict AsItem s t e f = calmly strict s t (statement_suits_slot AsItem s refl e) f
 valued strict c s t e f = tt
 
 or_true : (b : Bool) → (b || true) ≡ true
@@ -229,51 +357,55 @@ either_fits false true b e = inr e
 either_fits false false b e = absurd (cc e)
 
 module _ (ps : Parts) where
-  stretch_valued : (strict : Bool) (c : Asked) (g : Filling) → Suits (λ j. c) 0 g → ((ss : List Slot) → g ≡ these ss → ⊥) → (ts us : Trees) → fill strict g (before ts us) ≡ true → All Valued c ts × (fill strict g us ≡ true)
+  with_leaps : (ls : List Leap) (hs : List Hole) → Each Any Valued ps hs → Each Any Valued ps (leap_holes ls ++ hs)
+  with_leaps [] hs a = a
+  with_leaps (l ∷ ls) hs a = (tt, with_leaps ls hs a)
+
+  stretch_valued : (strict : Bool) (c : Asked) (g : Filling) → Suits (λ j. c) 0 g → ((ss : List Slot) → g ≡ these ss → ⊥) → (ts us : Trees) → fill strict g (append ts us) ≡ true → All Valued c ts × (fill strict g us ≡ true)
   stretch_valued strict c refused k n none us f = (tt, f)
   stretch_valued strict c refused k n (t ▸ ts) us f = absurd (cc f)
   stretch_valued strict c (these ss) k n ts us f = absurd (n ss refl)
   stretch_valued strict c (each s) k n none us f = (tt, f)
   stretch_valued strict c (each s) k n (t ▸ ts) us f =
-      let (x, y) = and_parts (fits strict s t) (fill strict (each s) (before ts us)) f in
+      let (x, y) = and_parts (fits strict s t) (fill strict (each s) (append ts us)) f in
       let (a, b) = stretch_valued strict c (each s) k n ts us y in
       ((valued strict c s t (k 0) x, a), b)
   stretch_valued strict c (each_or_last s l) k n none us f = (tt, f)
   stretch_valued strict c (each_or_last s l) k n (t ▸ ts) us f =
-      let (x, y) = and_parts (fits strict s t || (is_last (before ts us) && fits strict l t)) (fill strict (each_or_last s l) (before ts us)) f in
+      let (x, y) = and_parts (fits strict s t || (is_last (append ts us) && fits strict l t)) (fill strict (each_or_last s l) (append ts us)) f in
       let (a, b) = stretch_valued strict c (each_or_last s l) k n ts us y in
-      ((elim (either_fits (fits strict s t) (is_last (before ts us)) (fits strict l t) x) [ inl w ↦ valued strict c s t (k 0).0 w | inr w ↦ valued strict c l t (k 0).1 w ], a), b)
+      ((elim (either_fits (fits strict s t) (is_last (append ts us)) (fits strict l t) x) [ inl w ↦ valued strict c s t (k 0).0 w | inr w ↦ valued strict c l t (k 0).1 w ], a), b)
   stretch_valued strict c (pieces g) k n ts us f = absurd k
 
   mutual
-    pub sketch_valued : (strict : Bool) (c : Asked) (s : Slot) (r : Sketch) → suits c s ≡ true → fits strict s (filled ps r) ≡ true → Each Valued ps (parts_of c r)
+    pub sketch_valued : (strict : Bool) (c : Asked) (s : Slot) (r : Sketch) → suits c s ≡ true → fits strict s (filled ps r) ≡ true → Each Any Valued ps (parts_of c r)
     sketch_valued strict c s (part i) e f = (valued strict c s (child_or_absent ps.trees i) e f, tt)
     sketch_valued strict c s (under h ss) e f =
-        sketches_valued (is_strict_in strict (shape_by h)) (asked_below h c) 0 (filling strict s (shape_by h)) (filling_suits strict s h c (ap (λ b. is_expression_head h || b) e ∙ or_true (is_expression_head h))) ss
-        (right (is_whole (class_of s) (shape_by h) [] 0 (all_filled ps ss)) (fill (is_strict_in strict (shape_by h)) (filling strict s (shape_by h)) (all_filled ps ss)) f)
+        with_leaps (leaps h) (parts_from (asked_below h c) 0 ss) (sketches_valued (is_strict_in strict (shape_by h)) (asked_below h c) 0 (filling strict s (shape_by h)) (filling_suits strict s h c (ap (λ b. is_no_list h || b) e ∙ or_true (is_no_list h))) ss
+        (right (is_whole (class_of s) (shape_by h) [] 0 (all_filled ps ss)) (fill (is_strict_in strict (shape_by h)) (filling strict s (shape_by h)) (all_filled ps ss)) f))
     sketch_valued strict c s (list is) e f =
         items_valued strict (item_asked c) (filling strict s shape.Listed) (filling_suits strict s AList c e) (listed_not strict s) is
         (right (is_whole (class_of s) shape.Listed [] 0 (items_filled ps is)) (fill strict (filling strict s shape.Listed) (items_filled ps is)) f)
 
-    sketches_valued : (strict : Bool) (cs : ℕ → Asked) (i : ℕ) (g : Filling) → Suits cs i g → (ss : Sketches) → fill strict g (all_filled ps ss) ≡ true → Each Valued ps (parts_from cs i ss)
+    sketches_valued : (strict : Bool) (cs : ℕ → Asked) (i : ℕ) (g : Filling) → Suits cs i g → (ss : Sketches) → fill strict g (all_filled ps ss) ≡ true → Each Any Valued ps (parts_from cs i ss)
     sketches_valued strict cs i g k end f = tt
     sketches_valued strict cs i refused k (s ▹ ss) f = absurd (cc f)
     sketches_valued strict cs i (these []) k (s ▹ ss) f = absurd (cc f)
     sketches_valued strict cs i (these (x ∷ xs)) k (s ▹ ss) f =
         let (a, b) = and_parts (fits strict x (filled ps s)) (fill strict (these xs) (all_filled ps ss)) f in
         let (v, w) = and_parts (suits (cs i) x) (slots_suit cs (suc i) xs) k in
-        both_each Valued ps (parts_of (cs i) s) (parts_from cs (suc i) ss) (sketch_valued strict (cs i) x s v a) (sketches_valued strict cs (suc i) (these xs) w ss b)
+        both_each Any Valued ps (parts_of (cs i) s) (parts_from cs (suc i) ss) (sketch_valued strict (cs i) x s v a) (sketches_valued strict cs (suc i) (these xs) w ss b)
     sketches_valued strict cs i (each x) k (s ▹ ss) f =
         let (a, b) = and_parts (fits strict x (filled ps s)) (fill strict (each x) (all_filled ps ss)) f in
-        both_each Valued ps (parts_of (cs i) s) (parts_from cs (suc i) ss) (sketch_valued strict (cs i) x s (k i) a) (sketches_valued strict cs (suc i) (each x) k ss b)
+        both_each Any Valued ps (parts_of (cs i) s) (parts_from cs (suc i) ss) (sketch_valued strict (cs i) x s (k i) a) (sketches_valued strict cs (suc i) (each x) k ss b)
     sketches_valued strict cs i (each_or_last x l) k (s ▹ ss) f =
         let (a, b) = and_parts (fits strict x (filled ps s) || (is_last (all_filled ps ss) && fits strict l (filled ps s))) (fill strict (each_or_last x l) (all_filled ps ss)) f in
-        both_each Valued ps (parts_of (cs i) s) (parts_from cs (suc i) ss)
+        both_each Any Valued ps (parts_of (cs i) s) (parts_from cs (suc i) ss)
         (elim (either_fits (fits strict x (filled ps s)) (is_last (all_filled ps ss)) (fits strict l (filled ps s)) a) [ inl w ↦ sketch_valued strict (cs i) x s (k i).0 w | inr w ↦ sketch_valued strict (cs i) l s (k i).1 w ])
         (sketches_valued strict cs (suc i) (each_or_last x l) k ss b)
     sketches_valued strict cs i (pieces g) k (s ▹ ss) f = absurd k
 
-    items_valued : (strict : Bool) (c : Asked) (g : Filling) → Suits (λ j. c) 0 g → ((xs : List Slot) → g ≡ these xs → ⊥) → (is : Items) → fill strict g (items_filled ps is) ≡ true → Each Valued ps (parts_in c is)
+    items_valued : (strict : Bool) (c : Asked) (g : Filling) → Suits (λ j. c) 0 g → ((xs : List Slot) → g ≡ these xs → ⊥) → (is : Items) → fill strict g (items_filled ps is) ≡ true → Each Any Valued ps (parts_in c is)
     items_valued strict c g k n no_items f = tt
     items_valued strict c g k n (items i is) f =
         let (a, b) = stretch_valued strict c g k n (list_at ps.lists i) (items_filled ps is) f in
@@ -282,16 +414,17 @@ module _ (ps : Parts) where
     items_valued strict c (these xs) k n (item s is) f = absurd (n xs refl)
     items_valued strict c (each x) k n (item s is) f =
         let (a, b) = and_parts (fits strict x (filled ps s)) (fill strict (each x) (items_filled ps is)) f in
-        both_each Valued ps (parts_of c s) (parts_in c is) (sketch_valued strict c x s (k 0) a) (items_valued strict c (each x) k n is b)
+        both_each Any Valued ps (parts_of c s) (parts_in c is) (sketch_valued strict c x s (k 0) a) (items_valued strict c (each x) k n is b)
     items_valued strict c (each_or_last x l) k n (item s is) f =
         let (a, b) = and_parts (fits strict x (filled ps s) || (is_last (items_filled ps is) && fits strict l (filled ps s))) (fill strict (each_or_last x l) (items_filled ps is)) f in
-        both_each Valued ps (parts_of c s) (parts_in c is)
+        both_each Any Valued ps (parts_of c s) (parts_in c is)
         (elim (either_fits (fits strict x (filled ps s)) (is_last (items_filled ps is)) (fits strict l (filled ps s)) a) [ inl w ↦ sketch_valued strict c x s (k 0).0 w | inr w ↦ sketch_valued strict c l s (k 0).1 w ])
         (items_valued strict c (each_or_last x l) k n is b)
     items_valued strict c (pieces g) k n (item s is) f = absurd k
 
-  -- below the head of an expression, in any slot
-  pub head_valued : (strict : Bool) (c : Asked) (s : Slot) (h : Head) (ss : Sketches) → is_expression_head h ≡ true → fits strict s (filled ps (under h ss)) ≡ true → Each Valued ps (parts_of c (under h ss))
+  -- below a head, in any slot
+  pub head_valued : (strict : Bool) (c : Asked) (s : Slot) (h : Head) (ss : Sketches) → is_no_list h ≡ true → fits strict s (filled ps (under h ss)) ≡ true → Each Any Valued ps (parts_of c (under h ss))
   head_valued strict c s h ss e f =
-      sketches_valued (is_strict_in strict (shape_by h)) (asked_below h c) 0 (filling strict s (shape_by h)) (filling_suits strict s h c (ap (λ b. b || suits c s) e)) ss
-      (right (is_whole (class_of s) (shape_by h) [] 0 (all_filled ps ss)) (fill (is_strict_in strict (shape_by h)) (filling strict s (shape_by h)) (all_filled ps ss)) f)
+      with_leaps (leaps h) (parts_from (asked_below h c) 0 ss)
+      (sketches_valued (is_strict_in strict (shape_by h)) (asked_below h c) 0 (filling strict s (shape_by h)) (filling_suits strict s h c (ap (λ b. b || suits c s) e)) ss
+      (right (is_whole (class_of s) (shape_by h) [] 0 (all_filled ps ss)) (fill (is_strict_in strict (shape_by h)) (filling strict s (shape_by h)) (all_filled ps ss)) f))

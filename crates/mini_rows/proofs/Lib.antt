@@ -17,6 +17,10 @@ pub mod Arranging
 pub mod ArrangedNames
 pub mod ArrangedBodies
 pub mod ArrangedValues
+pub mod ArrangedMoves
+pub mod ArrangedPlain
+pub mod ArrangedUses
+pub mod ArrangedTrees
 pub mod ArrangedExpressions
 pub mod ArrangedRows
 pub mod ArrangedLawful

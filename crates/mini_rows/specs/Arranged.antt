@@ -1,13 +1,15 @@
 -- What is built anew of the same parts keeps all that a program has to keep, but for its meaning and its shape.
-use Rattle.std.specs.Prelude.{◌≡◌, Bool, true, false, Contains, None}
+use Rattle.std.specs.Prelude.{ℕ, ◌≡◌, List, [], ◌∷◌, Bool, true, false, Contains, None}
 use Rattle.mini_model.specs.declared.name.Name.{Name}
 use Rattle.mini_model.specs.declared.place.Position.{Position}
 use Rattle.mini_model.specs.declared.place.Position.TheVariants.{Expr, StatementList}
 use Rattle.mini_model.specs.declared.seat.Seat.{Seat}
-use Rattle.mini_model.specs.Tree.{Tree, shape_of, children}
+use Rattle.mini_model.specs.Tree.{Tree, Trees, shape_of, children, child_or_absent}
 use Rattle.mini_model.specs.Redex.{Row40}
 use Rattle.mini_accept.specs.WellShaped.{Depth, a_statement, a_default_export, Slot, one, many, fits}
+use Rattle.mini_names.specs.DeclaredNames.{has_inner}
 use Rattle.mini_meaning.specs.Value.{Variable}
+use Rattle.mini_meaning.specs.State.{Writable}
 use Rattle.mini_meaning.specs.Fixity.{fixed_by}
 use Rattle.mini_meaning.specs.Bodies.{Around, bodies, arrow_kind}
 use Rattle.mini_laws.specs.Rewritten.{MeansSame}
@@ -21,7 +23,8 @@ use Rattle.mini_kept.specs.Lawful.{Lawful}
 use Rattle.mini_kept.specs.Lifted.{is_piece}
 use Rattle.mini_kept.specs.Placed.{fits_place}
 use Rattle.mini_kept.specs.Standing.{Stands}
-use Rattle.mini_rows.specs.Sketches.{Sketch, Parts, filled, rearranges_expression}
+use Rattle.mini_rows.specs.Lists.{is_unscoped, are_unscoped}
+use Rattle.mini_rows.specs.Sketches.{Sketch, Parts, list_at, filled, Free, rearranges_expression}
 
 -- of one node and what is written for it: what a lawful relation keeps of it
 pub record KeptAt (p : Position) (n w : Tree) : Type 0 where
@@ -36,10 +39,34 @@ pub record KeptAt (p : Position) (n w : Tree) : Type 0 where
   pub fixed : (x : Variable) → fixed_by n x ≡ fixed_by w x
   pub declared : (x : Name) → Contains (declared w) x → Contains (declared n) x
 
+-- ---- what is asked of parts that are moved or dropped
+
+-- it has no inner expression, and declares nothing that can't be written
+pub record Vanishes (t : Tree) : Type 0 where
+  pub inner : has_inner t ≡ false
+  pub fixed : (x : Variable) → fixed_by t x ≡ Writable
+
+abbrev pub AllUnscoped : Trees → List ℕ → Type 0
+AllUnscoped ts [] = Unit {0}
+AllUnscoped ts (i ∷ is) = (is_unscoped (child_or_absent ts i) ≡ true) × AllUnscoped ts is
+
+abbrev pub ListsUnscoped : List Trees → List ℕ → Type 0
+ListsUnscoped tss [] = Unit {0}
+ListsUnscoped tss (i ∷ is) = (are_unscoped (list_at tss i) ≡ true) × ListsUnscoped tss is
+
+abbrev pub AllVanish : Trees → List ℕ → Type 0
+AllVanish ts [] = Unit {0}
+AllVanish ts (i ∷ is) = Vanishes (child_or_absent ts i) × AllVanish ts is
+
+abbrev pub AreFree : Parts → Free → Type 0
+AreFree ps f = AllUnscoped ps.trees f.moved × ListsUnscoped ps.lists f.lists_moved × AllVanish ps.trees f.dropped
+
+-- ---- the laws
+
 -- an expression that is built anew of the parts of another is kept
 abbrev pub ExpressionsArranged : Type 0
 ExpressionsArranged =
-    (ps : Parts) (s r : Sketch) → rearranges_expression s r ≡ true → (q : Seat) (n w : Tree) → n ≡ filled ps s → w ≡ filled ps r → KeptAt (Expr q) n w
+    (f : Free) (ps : Parts) → AreFree ps f → (s r : Sketch) → rearranges_expression f s r ≡ true → (q : Seat) (n w : Tree) → n ≡ filled ps s → w ≡ filled ps r → KeptAt (Expr q) n w
 
 -- so is what the row 40 writes, `a ? c : b` for `!a ? b : c`
 abbrev pub Row40Kept : Type 0

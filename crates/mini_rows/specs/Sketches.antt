@@ -1,14 +1,18 @@
 -- Trees that are built of parts under plain heads. A plain head has no names and no number of its own, opens no scope, holds
--- no jump, body or frame of its own, and gives each child the targets and surroundings that it has.
-use Rattle.std.specs.Prelude.{ℕ, zero, suc, ℤ, Bool, true, false, ◌&&◌, ◌||◌, nat_eq, List, [], ◌∷◌, ◌++◌, if◌then◌else◌}
+-- no body or frame of its own, and gives each child the targets and surroundings that it has.
+use Rattle.std.specs.Prelude.{ℕ, zero, suc, ℤ, Bool, true, false, ◌&&◌, ◌||◌, not, nat_eq, List, [], ◌∷◌, ◌++◌, if◌then◌else◌}
+use Rattle.mini_model.specs.declared.operator.AssignmentOperator.{AssignmentOperator}
+use Rattle.mini_model.specs.declared.operator.AssignmentOperator.TheVariants.{Assign}
 use Rattle.mini_model.specs.declared.operator.BinaryOperator.{BinaryOperator}
 use Rattle.mini_model.specs.declared.operator.LogicalOperator.{LogicalOperator}
 use Rattle.mini_model.specs.declared.operator.UnaryOperator.{UnaryOperator}
+use Rattle.mini_model.specs.declared.operator.UpdateOperator.{UpdateOperator}
 use Rattle.mini_model.specs.declared.shape.Shape.{Shape}
 use Rattle.mini_model.specs.declared.shape.Shape.TheVariants as shape
 use Rattle.mini_model.specs.Tree.{Tree, Trees, node, none, ◌▸◌, listed, child_or_absent}
+use Rattle.mini_model.specs.Paths.{append}
 use Rattle.mini_names.specs.declared.Use.{Use}
-use Rattle.mini_names.specs.declared.Use.TheVariants.{Read, Alone}
+use Rattle.mini_names.specs.declared.Use.TheVariants.{Read, Write, ReadWrite, Alone}
 
 pub data Head : Type 0 where
   AbsentPart : Head
@@ -30,10 +34,15 @@ pub data Head : Type 0 where
   StaticMember : Bool → Head
   ComputedMember : Bool → Head
   Array : Head
+  Yield : Bool → Head
+  Assignment : AssignmentOperator → Head
+  Update : UpdateOperator → Bool → Head
   Empty : Head
   OfExpression : Head
   Throw : Head
+  Return : Head
   If : Head
+  Block : Head
 
 abbrev pub shape_by : Head → Shape
 shape_by AbsentPart = shape.Absent
@@ -55,10 +64,15 @@ shape_by New = shape.NewExpression
 shape_by (StaticMember is_optional) = shape.StaticMemberExpression is_optional
 shape_by (ComputedMember is_optional) = shape.ComputedMemberExpression is_optional
 shape_by Array = shape.ArrayExpression
+shape_by (Yield is_delegate) = shape.YieldExpression is_delegate
+shape_by (Assignment o) = shape.AssignmentExpression o
+shape_by (Update o is_prefix) = shape.UpdateExpression o is_prefix
 shape_by Empty = shape.EmptyStatement
 shape_by OfExpression = shape.ExpressionStatement
 shape_by Throw = shape.ThrowStatement
+shape_by Return = shape.ReturnStatement
 shape_by If = shape.IfStatement
+shape_by Block = shape.BlockStatement
 
 -- a tree with its parts left open, each by its index; some neighbours in a list may be one part, however many they are
 infixr 60 ◌▹◌
@@ -87,10 +101,6 @@ list_at [] i = none
 list_at (ts ∷ tss) zero = ts
 list_at (ts ∷ tss) (suc i) = list_at tss i
 
-abbrev pub before : Trees → Trees → Trees
-before none us = us
-before (t ▸ ts) us = t ▸ before ts us
-
 -- the tree with these parts
 abbrev mutual
   pub filled : Parts → Sketch → Tree
@@ -105,23 +115,33 @@ abbrev mutual
   pub items_filled : Parts → Items → Trees
   items_filled ps no_items = none
   items_filled ps (item s is) = filled ps s ▸ items_filled ps is
-  items_filled ps (items i is) = before (list_at ps.lists i) (items_filled ps is)
+  items_filled ps (items i is) = append (list_at ps.lists i) (items_filled ps is)
 
--- ---- how a part stands: as the whole does, as an expression or a list of them, as a property's name, as a branch, or as a
--- statement of the list that is the whole
+-- ---- how a part stands: as the whole statement or list, or as a statement of that list; as an expression or a list of them;
+-- as a property's name; as what is assigned to, or updated; as a branch; as a statement of a block, or their list
 
 pub data Asked : Type 0 where
   AsWhole : Asked
+  AsWholeList : Asked
   AsWholeItem : Asked
   AsValue : Asked
   AsValues : Asked
   AsWord : Asked
+  AsTarget : Asked
+  AsUpdated : Asked
   AsBranch : Asked
+  AsItems : Asked
+  AsItem : Asked
 
 abbrev pub item_asked : Asked → Asked
-item_asked AsWhole = AsWholeItem
+item_asked AsWholeList = AsWholeItem
 item_asked AsValues = AsValue
+item_asked AsItems = AsItem
 item_asked c = c
+
+abbrev pub target_asked : AssignmentOperator → Asked
+target_asked Assign = AsTarget
+target_asked o = AsUpdated
 
 abbrev pub asked_below : Head → Asked → ℕ → Asked
 asked_below AList c i = item_asked c
@@ -130,26 +150,47 @@ asked_below Array c i = AsValues
 asked_below (Call is_optional) c (suc i) = AsValues
 asked_below New c (suc i) = AsValues
 asked_below (StaticMember is_optional) c (suc i) = AsWord
+asked_below (Assignment o) c zero = target_asked o
+asked_below (Update o is_prefix) c i = AsUpdated
 asked_below If c (suc i) = AsBranch
+asked_below Block c i = AsItems
 asked_below h c i = AsValue
 
 -- how its names are used, where those of the whole are used so
 abbrev pub use_by : Use → Asked → Use
 use_by v AsWhole = v
+use_by v AsWholeList = v
 use_by v AsWholeItem = v
+use_by v AsTarget = Write
+use_by v AsUpdated = ReadWrite
 use_by v AsBranch = Alone
 use_by v c = Read
 
--- ---- the parts of a tree, in order, each as it stands
+-- a jump out of the body around
+pub data Leap : Type 0 where
+  Returning : Leap
+  Yielding : Leap
+
+abbrev pub leaps : Head → List Leap
+leaps Return = Returning ∷ []
+leaps (Yield is_delegate) = Yielding ∷ []
+leaps h = []
+
+-- ---- the parts of a tree, in order, each as it stands, and the jumps among them
 
 pub data Hole : Type 0 where
   Part : ℕ → Asked → Hole
   Stretch : ℕ → Asked → Hole
+  Leaps : Leap → Hole
+
+abbrev pub leap_holes : List Leap → List Hole
+leap_holes [] = []
+leap_holes (l ∷ ls) = Leaps l ∷ leap_holes ls
 
 abbrev mutual
   pub parts_of : Asked → Sketch → List Hole
   parts_of c (part i) = Part i c ∷ []
-  parts_of c (under h ss) = parts_from (asked_below h c) 0 ss
+  parts_of c (under h ss) = leap_holes (leaps h) ++ parts_from (asked_below h c) 0 ss
   parts_of c (list is) = parts_in (item_asked c) is
 
   pub parts_from : (ℕ → Asked) → ℕ → Sketches → List Hole
@@ -163,17 +204,27 @@ abbrev mutual
 
 abbrev pub asked_number : Asked → ℕ
 asked_number AsWhole = 0
-asked_number AsWholeItem = 1
-asked_number AsValue = 2
-asked_number AsValues = 3
-asked_number AsWord = 4
-asked_number AsBranch = 5
+asked_number AsWholeList = 1
+asked_number AsWholeItem = 2
+asked_number AsValue = 3
+asked_number AsValues = 4
+asked_number AsWord = 5
+asked_number AsBranch = 6
+asked_number AsItems = 7
+asked_number AsItem = 8
+asked_number AsTarget = 9
+asked_number AsUpdated = 10
+
+abbrev pub is_same_leap : Leap → Leap → Bool
+is_same_leap Returning Returning = true
+is_same_leap Yielding Yielding = true
+is_same_leap l k = false
 
 abbrev pub is_same_hole : Hole → Hole → Bool
 is_same_hole (Part i c) (Part j d) = nat_eq i j && nat_eq (asked_number c) (asked_number d)
 is_same_hole (Stretch i c) (Stretch j d) = nat_eq i j && nat_eq (asked_number c) (asked_number d)
-is_same_hole (Part i c) (Stretch j d) = false
-is_same_hole (Stretch i c) (Part j d) = false
+is_same_hole (Leaps l) (Leaps k) = is_same_leap l k
+is_same_hole g h = false
 
 abbrev pub stands_in : List Hole → Hole → Bool
 stands_in [] h = false
@@ -193,11 +244,58 @@ abbrev pub has_each : List Hole → List Hole → Bool
 has_each gs [] = true
 has_each gs (h ∷ hs) = stands_in gs h && has_each gs hs
 
--- the parts are the same, and each stands in the second at most as often as in the first
-abbrev pub is_rearranged : Asked → Sketch → Sketch → Bool
-is_rearranged c s r = has_as_often (parts_of c s) (parts_of c r) && has_each (parts_of c r) (parts_of c s)
+-- ---- what may become of parts: one whose place doesn't matter stands in another; one that leaves nothing behind is dropped
 
--- the heads of expressions
+pub record Free : Type 0 where
+  -- statements, and lists of them, that aren't scoped
+  pub moved : List ℕ
+  pub lists_moved : List ℕ
+  -- parts that hold nothing
+  pub dropped : List ℕ
+
+-- nothing is moved or dropped
+abbrev pub still : Free
+still = record { moved = []; lists_moved = []; dropped = [] }
+
+abbrev pub is_among : List ℕ → ℕ → Bool
+is_among [] i = false
+is_among (j ∷ js) i = nat_eq j i || is_among js i
+
+abbrev pub is_statement_asked : Asked → Bool
+is_statement_asked AsWholeItem = true
+is_statement_asked AsBranch = true
+is_statement_asked AsItem = true
+is_statement_asked c = false
+
+abbrev pub settled_as : Bool → Asked → Asked
+settled_as b c = if b && is_statement_asked c then AsItem else c
+
+-- wherever a part that may be moved stands, it stands as a statement
+abbrev pub settled : Free → Hole → Hole
+settled f (Part i c) = Part i (settled_as (is_among f.moved i) c)
+settled f (Stretch i c) = Stretch i (settled_as (is_among f.lists_moved i) c)
+settled f (Leaps l) = Leaps l
+
+abbrev pub all_settled : Free → List Hole → List Hole
+all_settled f [] = []
+all_settled f (h ∷ hs) = settled f h ∷ all_settled f hs
+
+-- those that must stay, jumps aside
+abbrev pub stays : Free → Hole → Bool
+stays f (Part i c) = not (is_among f.dropped i)
+stays f (Stretch i c) = true
+stays f (Leaps l) = false
+
+abbrev pub staying : Free → List Hole → List Hole
+staying f [] = []
+staying f (h ∷ hs) = if stays f h then h ∷ staying f hs else staying f hs
+
+-- the parts are the same but for those that are dropped, and each stands in the second at most as often as in the first
+abbrev pub is_rearranged : Free → List Hole → List Hole → Bool
+is_rearranged f hs gs = has_as_often (all_settled f hs) (all_settled f gs) && has_each (all_settled f gs) (staying f (all_settled f hs))
+
+-- ---- where heads stand
+
 abbrev pub is_expression_head : Head → Bool
 is_expression_head AbsentPart = false
 is_expression_head AList = false
@@ -205,15 +303,112 @@ is_expression_head (PropertyName s) = false
 is_expression_head Empty = false
 is_expression_head OfExpression = false
 is_expression_head Throw = false
+is_expression_head Return = false
 is_expression_head If = false
+is_expression_head Block = false
 is_expression_head h = true
 
--- an expression is written for an expression: neither is a list, and what is read is no mere part
+abbrev pub is_statement_head : Head → Bool
+is_statement_head Empty = true
+is_statement_head OfExpression = true
+is_statement_head Throw = true
+is_statement_head Return = true
+is_statement_head If = true
+is_statement_head Block = true
+is_statement_head h = false
+
+abbrev pub is_absent_head : Head → Bool
+is_absent_head AbsentPart = true
+is_absent_head h = false
+
+abbrev pub is_word_head : Head → Bool
+is_word_head (PropertyName s) = true
+is_word_head h = false
+
+abbrev pub is_member_head : Head → Bool
+is_member_head (StaticMember is_optional) = true
+is_member_head (ComputedMember is_optional) = true
+is_member_head h = false
+
+abbrev pub stands_as : Asked → Head → Bool
+stands_as AsValue h = is_expression_head h || is_absent_head h
+stands_as AsWord h = is_word_head h
+stands_as AsTarget h = is_member_head h
+stands_as AsUpdated h = is_member_head h
+stands_as AsWhole h = is_statement_head h
+stands_as AsWholeItem h = is_statement_head h
+stands_as AsBranch h = is_statement_head h || is_absent_head h
+stands_as AsItem h = is_statement_head h
+stands_as c h = false
+
+abbrev pub is_list_asked : Asked → Bool
+is_list_asked AsWholeList = true
+is_list_asked AsValues = true
+is_list_asked AsItems = true
+is_list_asked c = false
+
+-- in a block are no scoped statements
+abbrev pub is_loose : Free → Asked → ℕ → Bool
+is_loose f AsItem i = is_among f.moved i
+is_loose f AsItems i = false
+is_loose f c i = true
+
+abbrev pub are_loose : Free → Asked → ℕ → Bool
+are_loose f AsItem i = is_among f.lists_moved i
+are_loose f c i = true
+
+-- each head stands where it may
+abbrev mutual
+  pub stands_well : Free → Asked → Sketch → Bool
+  stands_well f c (part i) = is_loose f c i
+  stands_well f c (under h ss) = stands_as c h && all_stand_well f (asked_below h c) 0 ss
+  stands_well f c (list is) = is_list_asked c && items_stand_well f (item_asked c) is
+
+  pub all_stand_well : Free → (ℕ → Asked) → ℕ → Sketches → Bool
+  all_stand_well f cs i end = true
+  all_stand_well f cs i (s ▹ ss) = stands_well f (cs i) s && all_stand_well f cs (suc i) ss
+
+  pub items_stand_well : Free → Asked → Items → Bool
+  items_stand_well f c no_items = true
+  items_stand_well f c (item s is) = stands_well f c s && items_stand_well f c is
+  items_stand_well f c (items i is) = are_loose f c i && items_stand_well f c is
+
+-- ---- the statements among the parts, in order
+
+abbrev pub is_statement_hole : Hole → Bool
+is_statement_hole (Part i c) = is_statement_asked c
+is_statement_hole (Stretch i c) = is_statement_asked c
+is_statement_hole (Leaps l) = false
+
+abbrev pub statements : List Hole → List Hole
+statements [] = []
+statements (h ∷ hs) = if is_statement_hole h then h ∷ statements hs else statements hs
+
+abbrev pub are_same_holes : List Hole → List Hole → Bool
+are_same_holes [] [] = true
+are_same_holes (g ∷ gs) (h ∷ hs) = is_same_hole g h && are_same_holes gs hs
+are_same_holes gs hs = false
+
+-- ---- what is built anew
+
+-- an expression is written for an expression, and what is read is no mere part
 abbrev pub is_expression : Sketch → Bool
 is_expression (part i) = true
 is_expression (under h ss) = is_expression_head h
 is_expression (list is) = false
 
-abbrev pub rearranges_expression : Sketch → Sketch → Bool
-rearranges_expression (under h ss) r = is_expression_head h && (is_expression r && is_rearranged AsValue (under h ss) r)
-rearranges_expression s r = false
+abbrev pub rearranges_expression : Free → Sketch → Sketch → Bool
+rearranges_expression f (under h ss) r = is_expression_head h && (is_expression r && (stands_well f AsValue (under h ss) && (stands_well f AsValue r && is_rearranged f (parts_of AsValue (under h ss)) (parts_of AsValue r))))
+rearranges_expression f s r = false
+
+abbrev pub keeps_statements : Free → List Hole → List Hole → Bool
+keeps_statements f hs gs = is_rearranged f hs gs && are_same_holes (statements (all_settled f gs)) (statements (all_settled f hs))
+
+-- a statement for a statement, neither a mere part
+abbrev pub rearranges_statement : Free → Sketch → Sketch → Bool
+rearranges_statement f (under h ss) (under g rs) = stands_well f AsWhole (under h ss) && (stands_well f AsWhole (under g rs) && keeps_statements f (parts_of AsWhole (under h ss)) (parts_of AsWhole (under g rs)))
+rearranges_statement f s r = false
+
+-- a list of statements for another
+abbrev pub rearranges_list : Free → Items → Items → Bool
+rearranges_list f is js = items_stand_well f AsWholeItem is && (items_stand_well f AsWholeItem js && keeps_statements f (parts_in AsWholeItem is) (parts_in AsWholeItem js))
