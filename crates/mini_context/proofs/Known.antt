@@ -13,7 +13,7 @@ use Rattle.mini_names.specs.Scopes.{use_of}
 use Rattle.mini_node.specs.Children.{trees_of, names_of}
 use Rattle.mini_tree.specs.declared.options.CompressOptions.{CompressOptions}
 use Rattle.mini_context.specs.declared.context.TraverseCtx.{TraverseCtx}
-use Rattle.mini_context.specs.Facts.{Facts, Tells, Refreshed}
+use Rattle.mini_context.specs.Facts.{Facts, Looked, Tells, Refreshed}
 use Rattle.mini_context.specs.Known.{Knows, own_reference_count, reference_count, reference_counts}
 use Rattle.mini_context.proofs.Numbers.{set_length}
 
@@ -73,16 +73,17 @@ counts_length p n t = counted_length p (references Read t) (replicate n 0) ∙ r
 
 told_at_first : (f : Facts) (n m : ℕ) (t : Tree) → m ≡ n → m ≡ length f.reads → Tells f n t → Refreshed f f t
 told_at_first f n m t e d k =
-    let same : n ≡ length f.reads = sym e ∙ d in
-    let below : (s : ℕ) → s < length f.reads → s < n = λ s h. subst (λ l. s < l) (sym same) h in record {
+    let same : n ≡ length f.reads = sym e ∙ d in record {
       reads_told = k.reads_told ∙ ap (λ l. counts_of is_read l t) same;
       writes_told = k.writes_told ∙ ap (λ l. counts_of is_write l t) same;
-      seen_told = λ s h. k.seen_told s (below s h);
-      exchanged_told = λ s h. k.exchanged_told s (below s h);
-      reached_told = λ s h. k.reached_told s (below s h);
-      catches_told = λ s h. k.catches_told s (below s h);
-      mentioned_told = λ s h. k.mentioned_told s (below s h);
-      rest = refl;
+      looked = subst (λ l. Looked f l t) same k.looked;
+      fixed_kept = refl;
+      tops_kept = refl;
+      owners_kept = refl;
+      strict_kept = refl;
+      evals_kept = refl;
+      this_kept = refl;
+      arguments_kept = refl;
     }
 
 pub known_at_first : (c : TraverseCtx) (o : CompressOptions) (n : ℕ) (t : Tree) → c.options ≡ o → Tells c.scopes n t → Knows c o t
@@ -97,16 +98,17 @@ known_at_first c o n t e k = record {
 
 told_again : (f g h : Facts) (t u : Tree) → Refreshed f g t → Refreshed g h u → Refreshed f h u
 told_again f g h t u k l =
-    let same : length g.reads ≡ length f.reads = ap length k.reads_told ∙ counts_length is_read (length f.reads) t in
-    let below : (s : ℕ) → s < length f.reads → s < length g.reads = λ s b. subst (λ n. s < n) (sym same) b in record {
+    let same : length g.reads ≡ length f.reads = ap length k.reads_told ∙ counts_length is_read (length f.reads) t in record {
       reads_told = l.reads_told ∙ ap (λ n. counts_of is_read n u) same;
       writes_told = l.writes_told ∙ ap (λ n. counts_of is_write n u) same;
-      seen_told = λ s b. l.seen_told s (below s b);
-      exchanged_told = λ s b. l.exchanged_told s (below s b);
-      reached_told = λ s b. l.reached_told s (below s b);
-      catches_told = λ s b. l.catches_told s (below s b);
-      mentioned_told = λ s b. l.mentioned_told s (below s b);
-      rest = l.rest ∙ ap {A = Facts} {B = Facts} (λ x. record x { reads = h.reads; writes = h.writes; seen = h.seen; exchanged = h.exchanged; reached = h.reached; catches = h.catches; mentioned = h.mentioned }) k.rest;
+      looked = subst (λ n. Looked h n u) same l.looked;
+      fixed_kept = l.fixed_kept ∙ k.fixed_kept;
+      tops_kept = l.tops_kept ∙ k.tops_kept;
+      owners_kept = l.owners_kept ∙ k.owners_kept;
+      strict_kept = l.strict_kept ∙ k.strict_kept;
+      evals_kept = l.evals_kept ∙ k.evals_kept;
+      this_kept = l.this_kept ∙ k.this_kept;
+      arguments_kept = l.arguments_kept ∙ k.arguments_kept;
     }
 
 pub known_anew : (c d : TraverseCtx) (o : CompressOptions) (t u : Tree) → d.options ≡ c.options → Refreshed c.scopes d.scopes u → Knows c o t → Knows d o u

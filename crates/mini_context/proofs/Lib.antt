@@ -5,6 +5,8 @@ mod Kept
 mod Gathering
 mod Marking
 mod Joining
+mod Housing
+mod Spellings
 mod Surveys
 mod Listings
 mod Evals
@@ -12,3 +14,4 @@ mod Told
 mod Reached
 mod Shares
 pub mod Known
+mod Values

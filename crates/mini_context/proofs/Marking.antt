@@ -1,5 +1,5 @@
 -- Tables of marks.
-use Rattle.std.specs.Prelude.{ℕ, zero, suc, ◌≡◌, ◌≤◌, ◌<◌, refl, nat_eq, ◌&&◌, ◌||◌, Bool, true, false, List, [], ◌∷◌, length, Option, Some, None, ◌++◌}
+use Rattle.std.specs.Prelude.{ℕ, zero, suc, ◌≡◌, ◌≤◌, ◌<◌, refl, nat_eq, ◌&&◌, ◌||◌, Bool, true, false, List, [], ◌∷◌, length, Option, Some, None}
 use Rattle.std.specs.List.{list_any}
 use Rattle.std.proofs.Common.{ap, ◌∙◌, arith, sym, subst}
 use Rattle.std.proofs.lemmas.List.Folds.{list_any-append}
@@ -9,15 +9,17 @@ use Rattle.mini_model.specs.Tree.{Tree, Trees, node, none, ◌▸◌, children, 
 use Rattle.mini_model.specs.Paths.{child_at}
 use Rattle.mini_model.specs.declared.shape.Shape.{Shape}
 use Rattle.mini_model.specs.declared.shape.Shape.TheVariants as shape
-use Rattle.mini_model.specs.declared.kind.VariableDeclarationKind.TheVariants.{Const}
+use Rattle.mini_model.specs.declared.kind.VariableDeclarationKind.TheVariants.{Const, Var}
 use Rattle.mini_names.specs.declared.Declared.{Declared}
 use Rattle.mini_names.specs.DeclaredNames.{place_of, names_by, own_names, names_of, first_names, all_names}
 use Rattle.mini_names.specs.declared.Place.{Place}
 use Rattle.mini_names.specs.declared.Declared.TheVariants as declared
 use Rattle.mini_context.specs.declared.parts.Part.{Part}
-use Rattle.mini_context.specs.Own.{is_catch_shape}
-use Rattle.mini_context.specs.Catches.{own_catch_names}
-use Rattle.mini_context.specs.Parts.{bound_at, names_at, fixed_part}
+use Rattle.mini_context.specs.Own.{is_class_shape}
+use Rattle.mini_names.specs.Foreign.{own_lexical, own_pattern_names, own_switched}
+use Rattle.mini_names.specs.Shared.{own_catch_params}
+use Rattle.mini_node.specs.Children.{number_of, trees_of}
+use Rattle.mini_context.specs.Parts.{bound_at, names_at, fixed_part, caught_part, lexical_part, pattern_part, switched_part}
 use Rattle.mini_names.specs.Mentions.{same_variable, same_variable_by, is_among}
 use Rattle.mini_names.specs.Bodies.{Frame, Body, own_fixed}
 use Rattle.mini_context.specs.Tables.{mark_at, named, Marked, Noted}
@@ -65,7 +67,7 @@ spelled_apart : (s : SymbolId) (o : Option SymbolId) (x y z : List ℕ) → same
 spelled_apart s None x y z = refl
 spelled_apart s (Some n) x y z = refl
 
-same_by_symbol : (x : Name) (s : SymbolId) (y : Name) → x.symbol ≡ Some s → same_variable x y ≡ same_variable (named s.0) y
+pub same_by_symbol : (x : Name) (s : SymbolId) (y : Name) → x.symbol ≡ Some s → same_variable x y ≡ same_variable (named s.0) y
 same_by_symbol x s y e = ap (λ o. same_variable_by o y.symbol x.spelling y.spelling) e ∙ spelled_apart s y.symbol x.spelling [] y.spelling
 
 pub among_by_symbol : (x : Name) (s : SymbolId) (xs : List Name) → x.symbol ≡ Some s → is_among x xs ≡ is_among (named s.0) xs
@@ -113,12 +115,69 @@ pub fixed_marks : (n : Tree) (h : Shape) (p : Part) (ts : Trees) (old new : List
 fixed_marks n h p ts old new e f g m =
     subst (λ ns. Marked ns old new) (ap (λ q. names_at q ts) f ∙ sym (fixed_is h ts) ∙ ap (λ k. own_fixed k ts) e ∙ ap (own_fixed (shape_of n)) g) m
 
-catch_is : (h : Shape) (ts : Trees) → is_catch_shape h ≡ true → own_catch_names h ts ≡ bound_at (child_at ts 0) ++ all_names declared.Hoisted ts
-catch_is shape.CatchClause ts e = ap (λ r. r ++ all_names declared.Hoisted ts) (first_bound ts)
-catch_is h ts e = absurd (cc e)
+-- the same of any part that a shape gives
+pub part_marks : (n : Tree) (own : Trees → List Name) (p q : Part) (ts : Trees) (old new : List Bool) → ((us : Trees) → own us ≡ names_at q us) → p ≡ q → ts ≡ children n → Marked (names_at p ts) old new → Marked (own (children n)) old new
+part_marks n own p q ts old new o f g m =
+    subst (λ ns. Marked ns old new) (ap (λ k. names_at k ts) f ∙ ap (names_at q) g ∙ sym (o (children n))) m
 
-pub catch_marks : (n : Tree) (h : Shape) (ts us : Trees) (old mid new : List Bool) → h ≡ shape_of n → is_catch_shape h ≡ true → ts ≡ children n → us ≡ children n → Marked (bound_at (child_at ts 0)) old mid → Marked (all_names declared.Hoisted us) mid new → Marked (own_catch_names (shape_of n) (children n)) old new
-catch_marks n h ts us old mid new e c f g a b =
-    subst (λ ns. Marked ns old new)
-    (ap (λ k. bound_at (child_at k 0) ++ all_names declared.Hoisted us) f ∙ ap (λ k. bound_at (child_at (children n) 0) ++ all_names declared.Hoisted k) g ∙ sym (catch_is h (children n) c) ∙ ap (λ k. own_catch_names k (children n)) e)
-    (marks_add.both (bound_at (child_at ts 0)) (all_names declared.Hoisted us) old mid new a b)
+patterns_are : (h : Shape) (n : ℕ) (ts : Trees) → own_pattern_names h n ts ≡ names_at (pattern_part h n) ts
+patterns_are shape.ObjectPattern n ts = refl
+patterns_are shape.ArrayPattern n ts = refl
+patterns_are shape.AssignmentPattern zero ts = refl
+patterns_are shape.AssignmentPattern (suc n) ts = refl
+patterns_are h n ts = refl
+
+switched_are : (h : Shape) (ts : Trees) → own_switched h ts ≡ names_at (switched_part h) ts
+switched_are shape.SwitchStatement ts = refl
+switched_are h ts = refl
+
+params_are : (h : Shape) (ts : Trees) → own_catch_params h ts ≡ names_at (caught_part h) ts
+params_are shape.CatchClause none = refl
+params_are shape.CatchClause (t ▸ ts) = refl
+params_are h ts = refl
+
+lexical_are : (b : Bool) (h : Shape) (ts : Trees) → is_class_shape h ≡ false → own_lexical b h ts ≡ names_at (lexical_part b h) ts
+lexical_are b (shape.VariableDeclaration Var) ts e = refl
+lexical_are b (shape.VariableDeclaration k) ts e = refl
+lexical_are true (shape.Function true g ds) ts e = refl
+lexical_are b (shape.Function d g ds) ts e = first_bound ts
+lexical_are b (shape.Class d) ts e = absurd (cc e)
+lexical_are b shape.CatchClause ts e = first_bound ts
+lexical_are b shape.ImportDeclaration ts e = refl
+lexical_are b h ts e = refl
+
+pub pattern_marks : (n : Tree) (h : Shape) (k : ℕ) (p : Part) (ts : Trees) (old new : List Bool) → h ≡ shape_of n → k ≡ number_of n → p ≡ pattern_part h k → ts ≡ children n → Marked (names_at p ts) old new → Marked (own_pattern_names (shape_of n) (number_of n) (children n)) old new
+pattern_marks n h k p ts old new e f g i m = part_marks n (own_pattern_names (shape_of n) (number_of n)) p (pattern_part (shape_of n) (number_of n)) ts old new (patterns_are (shape_of n) (number_of n)) (g ∙ ap (λ r. pattern_part r k) e ∙ ap (pattern_part (shape_of n)) f) i m
+
+pub switched_marks : (n : Tree) (h : Shape) (p : Part) (ts : Trees) (old new : List Bool) → h ≡ shape_of n → p ≡ switched_part h → ts ≡ children n → Marked (names_at p ts) old new → Marked (own_switched (shape_of n) (children n)) old new
+switched_marks n h p ts old new e g i m = part_marks n (own_switched (shape_of n)) p (switched_part (shape_of n)) ts old new (switched_are (shape_of n)) (g ∙ ap switched_part e) i m
+
+pub param_marks : (n : Tree) (h : Shape) (p : Part) (ts : Trees) (old new : List Bool) → h ≡ shape_of n → p ≡ caught_part h → ts ≡ children n → Marked (names_at p ts) old new → Marked (own_catch_params (shape_of n) (children n)) old new
+param_marks n h p ts old new e g i m = part_marks n (own_catch_params (shape_of n)) p (caught_part (shape_of n)) ts old new (params_are (shape_of n)) (g ∙ ap caught_part e) i m
+
+pub lexical_marks : (b : Bool) (n : Tree) (h : Shape) (p : Part) (ts : Trees) (old new : List Bool) → h ≡ shape_of n → is_class_shape h ≡ false → p ≡ lexical_part b h → ts ≡ children n → Marked (names_at p ts) old new → Marked (own_lexical b (shape_of n) (children n)) old new
+lexical_marks b n h p ts old new e c g i m = part_marks n (own_lexical b (shape_of n)) p (lexical_part b (shape_of n)) ts old new (λ us. lexical_are b (shape_of n) us (ap is_class_shape (sym e) ∙ c)) (g ∙ ap (lexical_part b) e) i m
+
+class_same : (b : Bool) (h : Shape) (ts : Trees) → is_class_shape h ≡ true → own_lexical false h ts ≡ own_lexical b h ts
+class_same b (shape.Class d) none e = refl
+class_same b (shape.Class d) (t ▸ none) e = refl
+class_same b (shape.Class d) (t ▸ (u ▸ none)) e = refl
+class_same b (shape.Class d) (t ▸ (u ▸ (v ▸ none))) e = refl
+class_same b (shape.Class d) (t ▸ (u ▸ (v ▸ (w ▸ ts)))) e = refl
+class_same b h ts e = absurd (cc e)
+
+pub class_marks : (b : Bool) (n : Tree) (h : Shape) (v : Bool) (old new : List Bool) → h ≡ shape_of n → v ≡ is_class_shape h → v ≡ true → (is_class_shape (shape_of n) ≡ true → Marked (own_lexical false (shape_of n) (children n)) old new) → Marked (own_lexical b (shape_of n) (children n)) old new
+class_marks b n h v old new e f g m =
+    let is_class : is_class_shape (shape_of n) ≡ true = ap is_class_shape (sym e) ∙ sym f ∙ g in
+    subst (λ ns. Marked ns old new) (class_same b (shape_of n) (children n) is_class) (m is_class)
+
+few : (h : Shape) (xs : List Tree) → is_class_shape h ≡ true → length xs < 4 → own_lexical false h (trees_of xs) ≡ []
+few (shape.Class d) [] e l = refl
+few (shape.Class d) (x ∷ []) e l = refl
+few (shape.Class d) (x ∷ (y ∷ [])) e l = refl
+few (shape.Class d) (x ∷ (y ∷ (z ∷ []))) e l = refl
+few (shape.Class d) (x ∷ (y ∷ (z ∷ (w ∷ xs)))) e l = absurd (omega arith)
+few h xs e l = absurd (cc e)
+
+pub few_names : (n : Tree) (xs : List Tree) (marks : List Bool) → trees_of xs ≡ children n → length xs < 4 → is_class_shape (shape_of n) ≡ true → Marked (own_lexical false (shape_of n) (children n)) marks marks
+few_names n xs marks e l c = subst (λ ns. Marked ns marks marks) (sym (ap (own_lexical false (shape_of n)) (sym e) ∙ few (shape_of n) xs c l)) (marks_add.nothing marks)

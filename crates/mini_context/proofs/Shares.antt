@@ -1,23 +1,71 @@
--- What a body may share, and what it does.
-use Rattle.std.specs.Prelude.{ℕ, ◌≡◌, ◌<◌, refl, ◌&&◌, ◌||◌, not, is_none, Bool, true, false, List, [], ◌∷◌, ◌++◌, Some, if◌then◌else◌}
-use Rattle.std.proofs.Common.{ap, ◌∙◌, sym}
-use Rattle.std.proofs.lemmas.List.Folds.{list_any-append}
+-- What a body shares.
+use Rattle.std.specs.Prelude.{ℕ, suc, ◌≡◌, ◌<◌, refl, nat_eq, ◌&&◌, ◌||◌, not, is_none, Bool, true, false, List, [], ◌∷◌, Some}
+use Rattle.std.specs.List.{list_any}
+use Rattle.std.proofs.Common.{ap, ◌∙◌, sym, arith}
 use Rattle.mini_model.specs.declared.name.Name.{Name}
 use Rattle.mini_model.specs.declared.name.SymbolId.{SymbolId}
-use Rattle.mini_model.specs.declared.shape.Shape.{Shape}
-use Rattle.mini_model.specs.declared.shape.Shape.TheVariants as shape
-use Rattle.mini_model.specs.Tree.{Tree, Trees, node, none, ◌▸◌}
-use Rattle.mini_names.specs.declared.Declared.TheVariants as declared
-use Rattle.mini_names.specs.DeclaredNames.{names_of, all_names, bound_names, is_spelled}
-use Rattle.mini_names.specs.Mentions.{same_variable, is_among, is_value_spelling}
+use Rattle.mini_model.specs.Tree.{Tree}
+use Rattle.mini_names.specs.Mentions.{Mention, same_variable, is_among, is_elsewhere, is_value_spelling, program_mentions}
 use Rattle.mini_names.specs.ScopeList.{seen_by_eval}
-use Rattle.mini_names.specs.Shared.{module_names, reached_by_arguments, script_tops, caught, all_caught, own_caught, spelled_among, catch_params, all_catch_params, own_catch_params, is_written_in_catch, is_shared}
+use Rattle.mini_names.specs.Shared.{caught, catch_params, module_names, program_var_writes, reached_by_arguments, script_tops, is_written_in_catch, is_shared}
+use Rattle.mini_context.specs.declared.mentions.Mentioned.{Mentioned}
+use Rattle.mini_context.specs.declared.mentions.Mentioned.TheVariants as mentioned
 use Rattle.mini_context.specs.Outside.{is_mentioned_outside}
-use Rattle.mini_context.specs.Catches.{own_catch_names, catch_names, all_catch_names, may_be_shared}
 use Rattle.mini_context.specs.Tables.{mark_at, named}
-use Rattle.mini_context.specs.Mentioned.{is_outside, mentioned_at}
-use Rattle.mini_context.specs.Facts.{Facts, Tells, may_share}
-use Rattle.mini_context.proofs.Marking.{or_false}
+use Rattle.mini_context.specs.Mentioned.{is_outside, is_somewhere, mentioned_at}
+use Rattle.mini_context.specs.Facts.{Facts, Looked, shares, written_in_catch}
+use Rattle.mini_context.proofs.Equal.{apart}
+use Rattle.mini_context.proofs.Marking.{among_by_symbol, same_by_symbol}
+
+-- ---- a name by its symbol
+
+any_by_symbol : (x : Name) (s : SymbolId) (q : Mention → Bool) (ms : List Mention) → x.symbol ≡ Some s → list_any (λ m. same_variable x m.name && q m) ms ≡ list_any (λ m. same_variable (named s.0) m.name && q m) ms
+any_by_symbol x s q [] e = refl
+any_by_symbol x s q (m ∷ ms) e =
+    ap (λ b. (b && q m) || list_any (λ r. same_variable x r.name && q r) ms) (same_by_symbol x s m.name e)
+    ∙ ap (λ b. (same_variable (named s.0) m.name && q m) || b) (any_by_symbol x s q ms e)
+
+same_any : (x : Name) (s : SymbolId) (ms : List Mention) → x.symbol ≡ Some s → list_any (λ m. same_variable x m.name) ms ≡ list_any (λ m. same_variable (named s.0) m.name) ms
+same_any x s [] e = refl
+same_any x s (m ∷ ms) e =
+    ap (λ b. b || list_any (λ r. same_variable x r.name) ms) (same_by_symbol x s m.name e)
+    ∙ ap (λ b. same_variable (named s.0) m.name || b) (same_any x s ms e)
+
+caught_by_symbol : (t : Tree) (x : Name) (s : SymbolId) → x.symbol ≡ Some s → is_written_in_catch t x ≡ is_written_in_catch t (named s.0)
+caught_by_symbol t x s e =
+    ap (λ b. b && list_any (λ m. same_variable x m.name) (program_var_writes t)) (among_by_symbol x s (catch_params t) e)
+    ∙ ap (λ b. is_among (named s.0) (catch_params t) && b) (same_any x s (program_var_writes t) e)
+
+-- what it is to be shared, of a name that has a symbol
+abbrev pub shared_by : Tree → ℕ → Name → Bool
+shared_by t b x =
+    (is_among x (script_tops t) || is_among x (module_names t) || is_among x (seen_by_eval t) || is_among x (reached_by_arguments false t) || is_among x (caught t) || is_written_in_catch t x)
+    || is_mentioned_outside t b x
+
+resolved_shared : (t : Tree) (b : ℕ) (x : Name) (s : SymbolId) → x.symbol ≡ Some s → is_shared t b x ≡ shared_by t b x
+resolved_shared t b x s e =
+    ap (λ o. not (is_none o && is_value_spelling x.spelling) && ((is_none o || is_among x (script_tops t) || is_among x (module_names t) || is_among x (seen_by_eval t) || is_among x (reached_by_arguments false t) || is_among x (caught t) || is_written_in_catch t x) || is_mentioned_outside t b x)) e
+
+pub shared_by_symbol : (t : Tree) (b : ℕ) (x : Name) (s : SymbolId) → x.symbol ≡ Some s → is_shared t b x ≡ is_shared t b (named s.0)
+shared_by_symbol t b x s e =
+    resolved_shared t b x s e
+    ∙ ap (λ v. (v || is_among x (module_names t) || is_among x (seen_by_eval t) || is_among x (reached_by_arguments false t) || is_among x (caught t) || is_written_in_catch t x) || is_mentioned_outside t b x) (among_by_symbol x s (script_tops t) e)
+    ∙ ap (λ v. (is_among (named s.0) (script_tops t) || v || is_among x (seen_by_eval t) || is_among x (reached_by_arguments false t) || is_among x (caught t) || is_written_in_catch t x) || is_mentioned_outside t b x) (among_by_symbol x s (module_names t) e)
+    ∙ ap (λ v. (is_among (named s.0) (script_tops t) || is_among (named s.0) (module_names t) || v || is_among x (reached_by_arguments false t) || is_among x (caught t) || is_written_in_catch t x) || is_mentioned_outside t b x) (among_by_symbol x s (seen_by_eval t) e)
+    ∙ ap (λ v. (is_among (named s.0) (script_tops t) || is_among (named s.0) (module_names t) || is_among (named s.0) (seen_by_eval t) || v || is_among x (caught t) || is_written_in_catch t x) || is_mentioned_outside t b x) (among_by_symbol x s (reached_by_arguments false t) e)
+    ∙ ap (λ v. (is_among (named s.0) (script_tops t) || is_among (named s.0) (module_names t) || is_among (named s.0) (seen_by_eval t) || is_among (named s.0) (reached_by_arguments false t) || v || is_written_in_catch t x) || is_mentioned_outside t b x) (among_by_symbol x s (caught t) e)
+    ∙ ap (λ v. (is_among (named s.0) (script_tops t) || is_among (named s.0) (module_names t) || is_among (named s.0) (seen_by_eval t) || is_among (named s.0) (reached_by_arguments false t) || is_among (named s.0) (caught t) || v) || is_mentioned_outside t b x) (caught_by_symbol t x s e)
+    ∙ ap (λ v. (is_among (named s.0) (script_tops t) || is_among (named s.0) (module_names t) || is_among (named s.0) (seen_by_eval t) || is_among (named s.0) (reached_by_arguments false t) || is_among (named s.0) (caught t) || is_written_in_catch t (named s.0)) || v) (any_by_symbol x s (λ m. is_elsewhere b m.around) (program_mentions t) e)
+    ∙ sym (resolved_shared t b (named s.0) s refl)
+
+-- ---- mentions of which it is known in which bodies they are not
+
+abbrev pub outside_all : (p : Mention → Bool) → ℕ → List Mention → Bool
+outside_all p b ms = list_any (λ m. p m && is_elsewhere b m.around) ms
+
+and_false : (a : Bool) → (a && false) ≡ false
+and_false true = refl
+and_false false = refl
 
 or_left : (a b : Bool) → (a || b) ≡ false → a ≡ false
 or_left true b e = absurd (cc e)
@@ -27,95 +75,50 @@ or_right : (a b : Bool) → (a || b) ≡ false → b ≡ false
 or_right true b e = absurd (cc e)
 or_right false b e = e
 
-or_both : (a b : Bool) → a ≡ false → b ≡ false → (a || b) ≡ false
-or_both a b e f = ap (λ v. v || b) e ∙ f
-
 or_true : (b : Bool) → (b || true) ≡ true
 or_true true = refl
 or_true false = refl
 
-among_left : (x : Name) (ys zs : List Name) → is_among x (ys ++ zs) ≡ false → is_among x ys ≡ false
-among_left x ys zs e = or_left (is_among x ys) (is_among x zs) (sym (list_any-append (same_variable x) ys zs) ∙ e)
+-- in the body with the next number a mention is elsewhere
+next_by : (a : Bool) (p : Bool) (v : Bool) → v ≡ false → (p && (a || not v)) ≡ p
+next_by a true v e = ap (λ w. a || not w) e ∙ or_true a
+next_by a false v e = refl
 
-among_right : (x : Name) (ys zs : List Name) → is_among x (ys ++ zs) ≡ false → is_among x zs ≡ false
-among_right x ys zs e = or_right (is_among x ys) (is_among x zs) (sym (list_any-append (same_variable x) ys zs) ∙ e)
+next_body : (n : ℕ) → nat_eq n (suc n) ≡ false
+next_body n = apart n (suc n) (λ e. omega (arith, e))
 
-among_both : (x : Name) (ys zs : List Name) → is_among x ys ≡ false → is_among x zs ≡ false → is_among x (ys ++ zs) ≡ false
-among_both x ys zs e f = list_any-append (same_variable x) ys zs ∙ or_both (is_among x ys) (is_among x zs) e f
+nowhere_at_all : (p : Mention → Bool) (ms : List Mention) → ((b : ℕ) → outside_all p b ms ≡ false) → list_any p ms ≡ false
+nowhere_at_all p [] f = refl
+nowhere_at_all p (m ∷ ms) f =
+    let here : p m ≡ false = sym (next_by m.around.carried (p m) (nat_eq m.around.number (suc m.around.number)) (next_body m.around.number)) ∙ or_left (p m && is_elsewhere (suc m.around.number) m.around) (outside_all p (suc m.around.number) ms) (f (suc m.around.number)) in
+    ap (λ v. v || list_any p ms) here ∙ nowhere_at_all p ms (λ b. or_right (p m && is_elsewhere b m.around) (outside_all p b ms) (f b))
 
-spelled_by : (b : Bool) (x y : Name) (zs : List Name) → same_variable x y ≡ false → is_among x zs ≡ false → is_among x (if b then y ∷ zs else zs) ≡ false
-spelled_by true x y zs e f = or_both (same_variable x y) (is_among x zs) e f
-spelled_by false x y zs e f = f
+some_by : (p q r w : Bool) → (w ≡ true → r ≡ true) → ((p && q) || w) ≡ true → (p || r) ≡ true
+some_by true q r w f e = refl
+some_by false q r w f e = f e
 
-spelled : (x : Name) (xs ys : List Name) → is_among x ys ≡ false → is_among x (spelled_among xs ys) ≡ false
-spelled x xs [] e = refl
-spelled x xs (y ∷ ys) e = spelled_by (is_spelled y.spelling xs) x y (spelled_among xs ys) (or_left (same_variable x y) (is_among x ys) e) (spelled x xs ys (or_right (same_variable x y) (is_among x ys) e))
+somewhere : (p : Mention → Bool) (b : ℕ) (ms : List Mention) → outside_all p b ms ≡ true → list_any p ms ≡ true
+somewhere p b [] e = absurd (cc e)
+somewhere p b (m ∷ ms) e = some_by (p m) (is_elsewhere b m.around) (list_any p ms) (outside_all p b ms) (somewhere p b ms) e
 
-own_apart : (x : Name) (h : Shape) (ts : Trees) → is_among x (own_catch_names h ts) ≡ false → is_among x (own_caught h ts) ≡ false
-unfolding names_of
-own_apart x shape.CatchClause none e = refl
-own_apart x shape.CatchClause (t ▸ ts) e = spelled x (bound_names t) (all_names declared.Hoisted ts) (among_right x (names_of declared.Hoisted t) (all_names declared.Hoisted ts) (among_right x (bound_names t) (all_names declared.Hoisted (t ▸ ts)) e))
-own_apart x h ts e = refl
+pub somewhere_told : (p : Mention → Bool) (e : Mentioned) (ms : List Mention) → ((b : ℕ) → is_outside e b ≡ outside_all p b ms) → is_somewhere e ≡ list_any p ms
+somewhere_told p mentioned.Nowhere ms f = sym (nowhere_at_all p ms (λ b. sym (f b)))
+somewhere_told p (mentioned.In n) ms f = sym (somewhere p (suc n) ms (sym (f (suc n)) ∙ ap not (next_body n)))
+somewhere_told p mentioned.Widely ms f = sym (somewhere p 0 ms (sym (f 0)))
 
-own_params_apart : (x : Name) (h : Shape) (ts : Trees) → is_among x (own_catch_names h ts) ≡ false → is_among x (own_catch_params h ts) ≡ false
-unfolding names_of
-own_params_apart x shape.CatchClause none e = refl
-own_params_apart x shape.CatchClause (t ▸ ts) e = among_left x (bound_names t) (all_names declared.Hoisted (t ▸ ts)) e
-own_params_apart x h ts e = refl
+-- ---- what the tables tell
 
-mutual
-  unfolding caught catch_names
+pub catch_told : (f : Facts) (n : ℕ) (t : Tree) → Looked f n t → (s : ℕ) → s < n → written_in_catch f s ≡ is_written_in_catch t (named s)
+catch_told f n t w s h =
+    ap (λ v. v && is_somewhere (mentioned_at f.given s)) (w.params_told s h)
+    ∙ ap (λ v. is_among (named s) (catch_params t) && v) (somewhere_told (λ m. same_variable (named s) m.name) (mentioned_at f.given s) (program_var_writes t) (λ b. w.given_told s h b))
 
-  caught_apart : (x : Name) (t : Tree) → is_among x (catch_names t) ≡ false → is_among x (caught t) ≡ false
-  caught_apart x (node h xs n ts) e = among_both x (own_caught h ts) (all_caught ts) (own_apart x h ts (among_left x (own_catch_names h ts) (all_catch_names ts) e)) (all_caught_apart x ts (among_right x (own_catch_names h ts) (all_catch_names ts) e))
-
-  all_caught_apart : (x : Name) (ts : Trees) → is_among x (all_catch_names ts) ≡ false → is_among x (all_caught ts) ≡ false
-  all_caught_apart x none e = refl
-  all_caught_apart x (t ▸ ts) e = among_both x (caught t) (all_caught ts) (caught_apart x t (among_left x (catch_names t) (all_catch_names ts) e)) (all_caught_apart x ts (among_right x (catch_names t) (all_catch_names ts) e))
-
-mutual
-  unfolding catch_params catch_names
-
-  params_apart : (x : Name) (t : Tree) → is_among x (catch_names t) ≡ false → is_among x (catch_params t) ≡ false
-  params_apart x (node h xs n ts) e = among_both x (own_catch_params h ts) (all_catch_params ts) (own_params_apart x h ts (among_left x (own_catch_names h ts) (all_catch_names ts) e)) (all_params_apart x ts (among_right x (own_catch_names h ts) (all_catch_names ts) e))
-
-  all_params_apart : (x : Name) (ts : Trees) → is_among x (all_catch_names ts) ≡ false → is_among x (all_catch_params ts) ≡ false
-  all_params_apart x none e = refl
-  all_params_apart x (t ▸ ts) e = among_both x (catch_params t) (all_catch_params ts) (params_apart x t (among_left x (catch_names t) (all_catch_names ts) e)) (all_params_apart x ts (among_right x (catch_names t) (all_catch_names ts) e))
-
-and_first : (a b : Bool) → a ≡ false → (a && b) ≡ false
-and_first a b e = ap (λ v. v && b) e
-
--- the disjuncts, with those of `catch` clauses false
-same_or : (a c d e o : Bool) → c ≡ false → d ≡ false → e ≡ false → (((a || c) || d) || o) ≡ ((a || e) || o)
-same_or a c d e o f g h =
-    ap (λ v. ((a || v) || d) || o) f ∙ ap (λ v. ((a || false) || v) || o) g
-    ∙ ap (λ v. v || o) (or_false (a || false)) ∙ ap (λ v. (a || v) || o) (sym h)
-
-resolved_shared : (t : Tree) (b : ℕ) (x : Name) (s : SymbolId) → x.symbol ≡ Some s → is_shared t b x ≡ (is_among x (script_tops t) || is_among x (module_names t) || is_among x (seen_by_eval t) || is_among x (reached_by_arguments false t) || is_among x (caught t) || is_written_in_catch t x || is_mentioned_outside t b x)
-resolved_shared t b x s e =
-    ap (λ o. not (is_none o && is_value_spelling x.spelling) && ((is_none o || is_among x (script_tops t) || is_among x (module_names t) || is_among x (seen_by_eval t) || is_among x (reached_by_arguments false t) || is_among x (caught t) || is_written_in_catch t x) || is_mentioned_outside t b x)) e
-
-pub apart_shared : (t : Tree) (b : ℕ) (x : Name) (s : SymbolId) → x.symbol ≡ Some s → is_among x (catch_names t) ≡ false → is_shared t b x ≡ may_be_shared t b x
-apart_shared t b x s e f =
-    resolved_shared t b x s e
-    ∙ same_or (is_among x (script_tops t) || is_among x (module_names t) || is_among x (seen_by_eval t) || is_among x (reached_by_arguments false t)) (is_among x (caught t)) (is_written_in_catch t x) (is_among x (catch_names t)) (is_mentioned_outside t b x)
-    (caught_apart x t f) (and_first (is_among x (catch_params t)) _ (params_apart x t f)) f
-
-shared_by : (v : Bool) (t : Tree) (b : ℕ) (x : Name) (s : SymbolId) → x.symbol ≡ Some s → is_among x (catch_names t) ≡ v → is_shared t b x ≡ true → may_be_shared t b x ≡ true
-shared_by true t b x s e f h =
-    let a = is_among x (script_tops t) || is_among x (module_names t) || is_among x (seen_by_eval t) || is_among x (reached_by_arguments false t) in
-    ap (λ v. (a || v) || is_mentioned_outside t b x) f ∙ ap (λ v. v || is_mentioned_outside t b x) (or_true a)
-shared_by false t b x s e f h = sym (apart_shared t b x s e f) ∙ h
-
-pub shared_may : (t : Tree) (b : ℕ) (x : Name) (s : SymbolId) → x.symbol ≡ Some s → is_shared t b x ≡ true → may_be_shared t b x ≡ true
-shared_may t b x s e h = shared_by (is_among x (catch_names t)) t b x s e refl h
-
-pub tables_share : (f : Facts) (n : ℕ) (t : Tree) → Tells f n t → (s b : ℕ) → s < n → may_share f s b ≡ may_be_shared t b (named s)
+pub tables_share : (f : Facts) (n : ℕ) (t : Tree) → Looked f n t → (s b : ℕ) → s < n → shares f s b ≡ is_shared t b (named s)
 tables_share f n t w s b h =
-    ap (λ v. v || mark_at f.exchanged s || mark_at f.seen s || mark_at f.reached s || mark_at f.catches s || is_outside (mentioned_at f.mentioned s) b) (w.tops_told s h)
-    ∙ ap (λ v. is_among (named s) (script_tops t) || v || mark_at f.seen s || mark_at f.reached s || mark_at f.catches s || is_outside (mentioned_at f.mentioned s) b) (w.exchanged_told s h)
-    ∙ ap (λ v. is_among (named s) (script_tops t) || is_among (named s) (module_names t) || v || mark_at f.reached s || mark_at f.catches s || is_outside (mentioned_at f.mentioned s) b) (w.seen_told s h)
-    ∙ ap (λ v. is_among (named s) (script_tops t) || is_among (named s) (module_names t) || is_among (named s) (seen_by_eval t) || v || mark_at f.catches s || is_outside (mentioned_at f.mentioned s) b) (w.reached_told s h)
-    ∙ ap (λ v. is_among (named s) (script_tops t) || is_among (named s) (module_names t) || is_among (named s) (seen_by_eval t) || is_among (named s) (reached_by_arguments false t) || v || is_outside (mentioned_at f.mentioned s) b) (w.catches_told s h)
-    ∙ ap (λ v. is_among (named s) (script_tops t) || is_among (named s) (module_names t) || is_among (named s) (seen_by_eval t) || is_among (named s) (reached_by_arguments false t) || is_among (named s) (catch_names t) || v) (w.mentioned_told s h b)
+    ap (λ v. (v || mark_at f.exchanged s || mark_at f.seen s || mark_at f.reached s || mark_at f.caught s || written_in_catch f s) || is_outside (mentioned_at f.mentioned s) b) (w.tops_told s h)
+    ∙ ap (λ v. (is_among (named s) (script_tops t) || v || mark_at f.seen s || mark_at f.reached s || mark_at f.caught s || written_in_catch f s) || is_outside (mentioned_at f.mentioned s) b) (w.exchanged_told s h)
+    ∙ ap (λ v. (is_among (named s) (script_tops t) || is_among (named s) (module_names t) || v || mark_at f.reached s || mark_at f.caught s || written_in_catch f s) || is_outside (mentioned_at f.mentioned s) b) (w.seen_told s h)
+    ∙ ap (λ v. (is_among (named s) (script_tops t) || is_among (named s) (module_names t) || is_among (named s) (seen_by_eval t) || v || mark_at f.caught s || written_in_catch f s) || is_outside (mentioned_at f.mentioned s) b) (w.reached_told s h)
+    ∙ ap (λ v. (is_among (named s) (script_tops t) || is_among (named s) (module_names t) || is_among (named s) (seen_by_eval t) || is_among (named s) (reached_by_arguments false t) || v || written_in_catch f s) || is_outside (mentioned_at f.mentioned s) b) (w.caught_told s h)
+    ∙ ap (λ v. (is_among (named s) (script_tops t) || is_among (named s) (module_names t) || is_among (named s) (seen_by_eval t) || is_among (named s) (reached_by_arguments false t) || is_among (named s) (caught t) || v) || is_outside (mentioned_at f.mentioned s) b) (catch_told f n t w s h)
+    ∙ ap (λ v. (is_among (named s) (script_tops t) || is_among (named s) (module_names t) || is_among (named s) (seen_by_eval t) || is_among (named s) (reached_by_arguments false t) || is_among (named s) (caught t) || is_written_in_catch t (named s)) || v) (w.mentioned_told s h b)

@@ -1,5 +1,5 @@
 -- The walk that fills the tables, and what each table says then.
-use Rattle.std.specs.Prelude.{ℕ, zero, suc, ◌≤◌, ◌<◌, ◌≡◌, refl, List, [], ◌∷◌, ◌++◌, Bool, true, false, ◌&&◌}
+use Rattle.std.specs.Prelude.{ℕ, zero, suc, ◌≤◌, ◌<◌, ◌≡◌, refl, List, [], ◌∷◌, ◌++◌, Bool, true, false, ◌&&◌, cond}
 use Rattle.std.proofs.Common.{ap, ◌∙◌, sym, subst, arith, append_assoc}
 use Rattle.mini_model.specs.Tree.{Tree, Trees, node, none, ◌▸◌, children, count, child_or_absent, first_or_absent, node_count, node_counts}
 use Rattle.mini_names.specs.Bodies.{Frame, frame_at, frame_of_body, own_body, own_fixed, bodies, bodies_from, fixed_names, all_fixed_names}
@@ -10,20 +10,24 @@ use Rattle.mini_model.specs.declared.shape.Shape.TheVariants as shape
 use Rattle.mini_names.specs.declared.Declared.TheVariants as declared
 use Rattle.mini_names.specs.DeclaredNames.{names_of}
 use Rattle.mini_names.specs.Strict.{is_strict_in}
-use Rattle.mini_names.specs.Shared.{reached_params, reached_by_arguments, all_reached_by_arguments, module_names, module_names_by, all_module_names}
+use Rattle.mini_names.specs.Shared.{reached_params, reached_by_arguments, all_reached_by_arguments, own_catch_params, catch_params, all_catch_params, own_caught, caught, all_caught, module_names, module_names_by, all_module_names}
 use Rattle.mini_context.specs.declared.exchanges.Exchange.{Exchange}
 use Rattle.mini_context.specs.declared.exchanges.Exchange.TheVariants as exchange
 use Rattle.mini_names.specs.declared.Use.{Use}
 use Rattle.mini_names.specs.declared.Around.{Around}
 use Rattle.mini_names.specs.Scopes.{use_of}
 use Rattle.mini_names.specs.Mentions.{own_mentions, mentions, mentions_from, around_child, numbering_of}
+use Rattle.mini_names.specs.Foreign.{imported_by, imported_names, all_imported_names, own_pattern_names, pattern_names, all_pattern_names, is_body_by, own_lexical, lexical_variables, all_lexical_variables, own_switched, switched as switched_names, all_switched}
+use Rattle.std.specs.List.{filter}
+use Rattle.mini_names.specs.Mentions.{Mention}
+use Rattle.mini_context.specs.Lists.{Housed}
+use Rattle.mini_context.proofs.Housing.{houses_add}
 use Rattle.mini_context.specs.Mentioned.{Joined}
 use Rattle.mini_context.proofs.Joining.{joins_add}
 use Rattle.mini_context.specs.declared.standing.Standing.{Standing}
 use Rattle.mini_context.specs.declared.survey.Tables.{Tables}
-use Rattle.mini_context.specs.Catches.{catch_names, all_catch_names, own_catch_names}
 use Rattle.mini_context.specs.Tables.{Marked, Noted}
-use Rattle.mini_context.specs.Visits.{Visit, visits, visits_from, given, below, frame_in, fixed_at, bodies_at, mentions_at, catches_at, exchanged_at, exchanged_by, exchange_of, is_exchange_shape, reached_at, Surveyed}
+use Rattle.mini_context.specs.Visits.{Visit, visits, visits_from, given, below, frame_in, fixed_at, bodies_at, mentions_at, exchanged_at, exchanged_by, exchange_of, is_exchange_shape, imported_here, imported_at, is_import_shape, patterns_at, lexical_at, switched_at, params_at, caught_at, writes_at, binds_at, reached_at, Surveyed}
 use Rattle.mini_context.proofs.Gathering.{Adds, Gathers}
 use Rattle.mini_context.proofs.Marking.{marks_add, notes_add}
 
@@ -39,21 +43,35 @@ pub surveys_add : Adds Surveyed
 surveys_add = record {
   nothing = λ s. record {
     fixed = marks_add.nothing s.fixed.items;
+    exchanged = marks_add.nothing s.exchanged.items;
+    reached = marks_add.nothing s.reached.items;
+    imported = marks_add.nothing s.imported.items;
+    patterns = marks_add.nothing s.patterns.items;
+    lexical = marks_add.nothing s.lexical.items;
+    switched = marks_add.nothing s.switched.items;
+    params = marks_add.nothing s.params.items;
+    caught = marks_add.nothing s.caught.items;
     this_events = (notes_add (λ f. f.binds_this)).nothing s.this_events.items;
     arguments = (notes_add (λ f. f.has_arguments)).nothing s.arguments.items;
     mentions = joins_add.nothing s.mentioned.items;
-    exchanged = marks_add.nothing s.exchanged.items;
-    reached = marks_add.nothing s.reached.items;
-    catches = marks_add.nothing s.catches.items;
+    written = joins_add.nothing s.written.items;
+    homes = houses_add.nothing s.homes.items;
   };
   both = λ xs ys a b c f g. record {
     fixed = of_both (λ ns. Marked ns a.fixed.items c.fixed.items) fixed_at xs ys (marks_add.both (given fixed_at xs) (given fixed_at ys) a.fixed.items b.fixed.items c.fixed.items f.fixed g.fixed);
+    exchanged = of_both (λ ns. Marked ns a.exchanged.items c.exchanged.items) exchanged_at xs ys (marks_add.both (given exchanged_at xs) (given exchanged_at ys) a.exchanged.items b.exchanged.items c.exchanged.items f.exchanged g.exchanged);
+    reached = of_both (λ ns. Marked ns a.reached.items c.reached.items) reached_at xs ys (marks_add.both (given reached_at xs) (given reached_at ys) a.reached.items b.reached.items c.reached.items f.reached g.reached);
+    imported = of_both (λ ns. Marked ns a.imported.items c.imported.items) imported_at xs ys (marks_add.both (given imported_at xs) (given imported_at ys) a.imported.items b.imported.items c.imported.items f.imported g.imported);
+    patterns = of_both (λ ns. Marked ns a.patterns.items c.patterns.items) patterns_at xs ys (marks_add.both (given patterns_at xs) (given patterns_at ys) a.patterns.items b.patterns.items c.patterns.items f.patterns g.patterns);
+    lexical = of_both (λ ns. Marked ns a.lexical.items c.lexical.items) lexical_at xs ys (marks_add.both (given lexical_at xs) (given lexical_at ys) a.lexical.items b.lexical.items c.lexical.items f.lexical g.lexical);
+    switched = of_both (λ ns. Marked ns a.switched.items c.switched.items) switched_at xs ys (marks_add.both (given switched_at xs) (given switched_at ys) a.switched.items b.switched.items c.switched.items f.switched g.switched);
+    params = of_both (λ ns. Marked ns a.params.items c.params.items) params_at xs ys (marks_add.both (given params_at xs) (given params_at ys) a.params.items b.params.items c.params.items f.params g.params);
+    caught = of_both (λ ns. Marked ns a.caught.items c.caught.items) caught_at xs ys (marks_add.both (given caught_at xs) (given caught_at ys) a.caught.items b.caught.items c.caught.items f.caught g.caught);
     this_events = of_both (λ bs. Noted (λ f. f.binds_this) bs a.this_events.items c.this_events.items) bodies_at xs ys ((notes_add (λ f. f.binds_this)).both (given bodies_at xs) (given bodies_at ys) a.this_events.items b.this_events.items c.this_events.items f.this_events g.this_events);
     arguments = of_both (λ bs. Noted (λ f. f.has_arguments) bs a.arguments.items c.arguments.items) bodies_at xs ys ((notes_add (λ f. f.has_arguments)).both (given bodies_at xs) (given bodies_at ys) a.arguments.items b.arguments.items c.arguments.items f.arguments g.arguments);
     mentions = of_both (λ ms. Joined ms a.mentioned.items c.mentioned.items) mentions_at xs ys (joins_add.both (given mentions_at xs) (given mentions_at ys) a.mentioned.items b.mentioned.items c.mentioned.items f.mentions g.mentions);
-    exchanged = of_both (λ ns. Marked ns a.exchanged.items c.exchanged.items) exchanged_at xs ys (marks_add.both (given exchanged_at xs) (given exchanged_at ys) a.exchanged.items b.exchanged.items c.exchanged.items f.exchanged g.exchanged);
-    reached = of_both (λ ns. Marked ns a.reached.items c.reached.items) reached_at xs ys (marks_add.both (given reached_at xs) (given reached_at ys) a.reached.items b.reached.items c.reached.items f.reached g.reached);
-    catches = of_both (λ ns. Marked ns a.catches.items c.catches.items) catches_at xs ys (marks_add.both (given catches_at xs) (given catches_at ys) a.catches.items b.catches.items c.catches.items f.catches g.catches);
+    written = of_both (λ ms. Joined ms a.written.items c.written.items) writes_at xs ys (joins_add.both (given writes_at xs) (given writes_at ys) a.written.items b.written.items c.written.items f.written g.written);
+    homes = of_both (λ ms. Housed ms a.homes.items c.homes.items) binds_at xs ys (houses_add.both (given binds_at xs) (given binds_at ys) a.homes.items b.homes.items c.homes.items f.homes g.homes);
   };
 }
 
@@ -200,14 +218,126 @@ mutual
       ∙ ap (λ r. module_names t ++ r) (all_modules_told at e (suc i) ts)
 
 mutual
-  unfolding visits catch_names
+  unfolding visits pattern_names
 
-  pub catches_told : (a : Standing) (t : Tree) → given catches_at (visits a t) ≡ catch_names t
-  catches_told a (node h xs n ts) = ap (λ r. own_catch_names h ts ++ r) (all_catches_told (below a (node h xs n ts)) 0 ts)
+  pub patterns_told : (a : Standing) (t : Tree) → given patterns_at (visits a t) ≡ pattern_names t
+  patterns_told a (node h xs n ts) = ap (λ r. own_pattern_names h n ts ++ r) (all_patterns_told (below a (node h xs n ts)) 0 ts)
 
-  all_catches_told : (at : ℕ → Standing) (i : ℕ) (ts : Trees) → given catches_at (visits_from at i ts) ≡ all_catch_names ts
-  all_catches_told at i none = refl
-  all_catches_told at i (t ▸ ts) =
-      given_both catches_at (visits (at i) t) (visits_from at (suc i) ts)
-      ∙ ap (λ r. r ++ given catches_at (visits_from at (suc i) ts)) (catches_told (at i) t)
-      ∙ ap (λ r. catch_names t ++ r) (all_catches_told at (suc i) ts)
+  all_patterns_told : (at : ℕ → Standing) (i : ℕ) (ts : Trees) → given patterns_at (visits_from at i ts) ≡ all_pattern_names ts
+  all_patterns_told at i none = refl
+  all_patterns_told at i (t ▸ ts) =
+      given_both patterns_at (visits (at i) t) (visits_from at (suc i) ts)
+      ∙ ap (λ r. r ++ given patterns_at (visits_from at (suc i) ts)) (patterns_told (at i) t)
+      ∙ ap (λ r. pattern_names t ++ r) (all_patterns_told at (suc i) ts)
+
+mutual
+  unfolding visits switched_names
+
+  pub switched_told : (a : Standing) (t : Tree) → given switched_at (visits a t) ≡ switched_names t
+  switched_told a (node h xs n ts) = ap (λ r. own_switched h ts ++ r) (all_switched_told (below a (node h xs n ts)) 0 ts)
+
+  all_switched_told : (at : ℕ → Standing) (i : ℕ) (ts : Trees) → given switched_at (visits_from at i ts) ≡ all_switched ts
+  all_switched_told at i none = refl
+  all_switched_told at i (t ▸ ts) =
+      given_both switched_at (visits (at i) t) (visits_from at (suc i) ts)
+      ∙ ap (λ r. r ++ given switched_at (visits_from at (suc i) ts)) (switched_told (at i) t)
+      ∙ ap (λ r. switched_names t ++ r) (all_switched_told at (suc i) ts)
+
+mutual
+  unfolding visits catch_params
+
+  pub params_told : (a : Standing) (t : Tree) → given params_at (visits a t) ≡ catch_params t
+  params_told a (node h xs n ts) = ap (λ r. own_catch_params h ts ++ r) (all_params_told (below a (node h xs n ts)) 0 ts)
+
+  all_params_told : (at : ℕ → Standing) (i : ℕ) (ts : Trees) → given params_at (visits_from at i ts) ≡ all_catch_params ts
+  all_params_told at i none = refl
+  all_params_told at i (t ▸ ts) =
+      given_both params_at (visits (at i) t) (visits_from at (suc i) ts)
+      ∙ ap (λ r. r ++ given params_at (visits_from at (suc i) ts)) (params_told (at i) t)
+      ∙ ap (λ r. catch_params t ++ r) (all_params_told at (suc i) ts)
+
+mutual
+  unfolding visits caught
+
+  pub caught_told : (a : Standing) (t : Tree) → given caught_at (visits a t) ≡ caught t
+  caught_told a (node h xs n ts) = ap (λ r. own_caught h ts ++ r) (all_caught_told (below a (node h xs n ts)) 0 ts)
+
+  all_caught_told : (at : ℕ → Standing) (i : ℕ) (ts : Trees) → given caught_at (visits_from at i ts) ≡ all_caught ts
+  all_caught_told at i none = refl
+  all_caught_told at i (t ▸ ts) =
+      given_both caught_at (visits (at i) t) (visits_from at (suc i) ts)
+      ∙ ap (λ r. r ++ given caught_at (visits_from at (suc i) ts)) (caught_told (at i) t)
+      ∙ ap (λ r. caught t ++ r) (all_caught_told at (suc i) ts)
+
+mutual
+  unfolding visits lexical_variables
+
+  pub lexical_told : (a : Standing) (t : Tree) → given lexical_at (visits a t) ≡ lexical_variables a.in_body t
+  lexical_told a (node h xs n ts) = ap (λ r. own_lexical a.in_body h ts ++ r) (all_lexical_told (is_body_by h a.in_body) (below a (node h xs n ts)) (λ k. refl) 0 ts)
+
+  all_lexical_told : (b : Bool) (at : ℕ → Standing) → ((k : ℕ) → (at k).in_body ≡ b) → (i : ℕ) (ts : Trees) → given lexical_at (visits_from at i ts) ≡ all_lexical_variables b ts
+  all_lexical_told b at e i none = refl
+  all_lexical_told b at e i (t ▸ ts) =
+      given_both lexical_at (visits (at i) t) (visits_from at (suc i) ts)
+      ∙ ap (λ r. r ++ given lexical_at (visits_from at (suc i) ts)) (lexical_told (at i) t ∙ ap (λ v. lexical_variables v t) (e i))
+      ∙ ap (λ r. lexical_variables b t ++ r) (all_lexical_told b at e (suc i) ts)
+
+-- ---- imports
+
+no_import : (b : Bool) (h : Shape) (lexical : List Name) → b ≡ false → imported_here b h lexical ≡ []
+no_import true h lexical q = absurd (cc q)
+no_import false h lexical q = refl
+
+mutual
+  unfolding visits
+
+  unimported : (a : Standing) (t : Tree) → a.imports ≡ false → given imported_at (visits a t) ≡ []
+  unimported a (node h xs n ts) e =
+      ap (λ r. r ++ given imported_at (visits_from (below a (node h xs n ts)) 0 ts)) (no_import a.imports h (names_of declared.Lexical (node h xs n ts)) e)
+      ∙ all_unimported (below a (node h xs n ts)) (λ k. and_false a.imports (is_import_shape h) e) 0 ts
+
+  all_unimported : (at : ℕ → Standing) → ((k : ℕ) → (at k).imports ≡ false) → (i : ℕ) (ts : Trees) → given imported_at (visits_from at i ts) ≡ []
+  all_unimported at e i none = refl
+  all_unimported at e i (t ▸ ts) =
+      given_both imported_at (visits (at i) t) (visits_from at (suc i) ts)
+      ∙ ap (λ r. r ++ given imported_at (visits_from at (suc i) ts)) (unimported (at i) t (e i))
+      ∙ all_unimported at e (suc i) ts
+
+imported_whole : (h : Shape) (lexical all rest : List Name) → (is_import_shape h ≡ true → rest ≡ all) → (is_import_shape h ≡ false → rest ≡ []) → imported_here true h lexical ++ rest ≡ imported_by h lexical all
+imported_whole shape.Listed lexical all rest f g = f refl
+imported_whole (shape.Program is_module ds) lexical all rest f g = f refl
+imported_whole shape.ImportDeclaration lexical all rest f g = ap (λ r. lexical ++ r) (g refl) ∙ append-nil lexical
+imported_whole h lexical all rest f g = g refl
+
+mutual
+  unfolding visits imported_names
+
+  pub imported_told : (a : Standing) (t : Tree) → a.imports ≡ true → given imported_at (visits a t) ≡ imported_names t
+  imported_told a (node h xs n ts) e =
+      let lexical = names_of declared.Lexical (node h xs n ts) in
+      let rest = given imported_at (visits_from (below a (node h xs n ts)) 0 ts) in
+      ap (λ b. imported_here b h lexical ++ rest) e
+      ∙ imported_whole h lexical (all_imported_names ts) rest
+      (λ f. all_imported_told (below a (node h xs n ts)) (λ k. both_true a.imports (is_import_shape h) e f) 0 ts)
+      (λ f. all_unimported (below a (node h xs n ts)) (λ k. right_false a.imports (is_import_shape h) f) 0 ts)
+
+  all_imported_told : (at : ℕ → Standing) → ((k : ℕ) → (at k).imports ≡ true) → (i : ℕ) (ts : Trees) → given imported_at (visits_from at i ts) ≡ all_imported_names ts
+  all_imported_told at e i none = refl
+  all_imported_told at e i (t ▸ ts) =
+      given_both imported_at (visits (at i) t) (visits_from at (suc i) ts)
+      ∙ ap (λ r. r ++ given imported_at (visits_from at (suc i) ts)) (imported_told (at i) t (e i))
+      ∙ ap (λ r. imported_names t ++ r) (all_imported_told at e (suc i) ts)
+
+-- ---- some of the mentions
+
+kept_by : {A : Type 0} (b : Bool) (x : A) (all xs ys : List A) → all ≡ xs ++ ys → cond b (x ∷ all) all ≡ cond b (x ∷ xs) xs ++ ys
+kept_by true x all xs ys e = ap (λ r. x ∷ r) e
+kept_by false x all xs ys e = e
+
+filter_both : {A : Type 0} (p : A → Bool) (xs ys : List A) → filter p (xs ++ ys) ≡ filter p xs ++ filter p ys
+filter_both p [] ys = refl
+filter_both p (x ∷ xs) ys = kept_by (p x) x (filter p (xs ++ ys)) (filter p xs) (filter p ys) (filter_both p xs ys)
+
+pub filtered : (p : Mention → Bool) (vs : List Visit) → given (λ v. filter p (mentions_at v)) vs ≡ filter p (given mentions_at vs)
+filtered p [] = refl
+filtered p (v ∷ vs) = ap (λ r. filter p (mentions_at v) ++ r) (filtered p vs) ∙ sym (filter_both p (mentions_at v) (given mentions_at vs))

@@ -1,6 +1,6 @@
 -- What the tables of a program say.
-use Rattle.std.specs.Prelude.{ℕ, zero, suc, ◌≡◌, ◌<◌, refl, nat_eq, ◌&&◌, ◌||◌, Bool, true, false, List, [], ◌++◌, length, map, replicate, slice_index}
-use Rattle.std.specs.List.{list_any}
+use Rattle.std.specs.Prelude.{ℕ, zero, suc, ◌≡◌, ◌<◌, refl, nat_eq, ◌&&◌, ◌||◌, Bool, true, false, cond, not, List, [], ◌∷◌, ◌++◌, length, map, replicate, slice_index}
+use Rattle.std.specs.List.{filter, list_any}
 use Rattle.std.proofs.Common.{ap, ◌∙◌, arith, sym, subst}
 use Rattle.mini_model.specs.declared.name.Name.{Name}
 use Rattle.mini_model.specs.declared.shape.Shape.{Shape}
@@ -8,22 +8,24 @@ use Rattle.mini_model.specs.declared.shape.Shape.TheVariants as shape
 use Rattle.mini_model.specs.Tree.{Tree, node, shape_of, children}
 use Rattle.mini_names.specs.declared.Use.TheVariants.{Read}
 use Rattle.mini_names.specs.Scopes.{opened}
-use Rattle.mini_names.specs.Mentions.{Mention, mentions, same_variable, is_elsewhere, is_among}
+use Rattle.mini_names.specs.Mentions.{Mention, mentions, outermost, program_mentions, same_variable, is_elsewhere, is_among}
 use Rattle.mini_context.specs.declared.mentions.Mentioned.{Mentioned}
 use Rattle.mini_context.specs.declared.mentions.Mentioned.TheVariants as mentioned
 use Rattle.mini_context.specs.Mentioned.{is_outside, mentioned_at, Joined}
 use Rattle.mini_context.specs.Outside.{is_mentioned_outside}
-use Rattle.mini_context.specs.Catches.{catch_names}
 use Rattle.mini_names.specs.Bodies.{Frame, Body, no_frame, bodies, fixed_names}
-use Rattle.mini_names.specs.Shared.{script_tops, module_names, reached_by_arguments}
+use Rattle.mini_names.specs.Resolved.{Environment}
+use Rattle.mini_names.specs.Shared.{caught, catch_params, program_var_writes, script_tops, var_writes, module_names, reached_by_arguments}
+use Rattle.mini_names.specs.Foreign.{imported_names, is_declared_in, lexical_variables, pattern_names, switched as switched_names}
+use Rattle.mini_context.specs.Lists.{holds, Housed}
 use Rattle.mini_names.specs.ScopeList.{Scope, names_in, scope_from}
 use Rattle.mini_scope.specs.ScopeAt.{scope_at}
 use Rattle.mini_scope.specs.declared.opening.OpenScopes.{OpenScopes}
 use Rattle.mini_context.specs.declared.standing.Standing.{Standing}
 use Rattle.mini_context.specs.Own.{is_script_shape}
 use Rattle.mini_context.specs.Tables.{mark_at, named, Marked, Noted, owners_from}
-use Rattle.mini_context.specs.Visits.{visits, given, fixed_at, bodies_at, mentions_at, catches_at, exchanged_at, reached_at, frame_in, top}
-use Rattle.mini_context.proofs.Surveys.{fixed_told, bodies_told, mentions_told, modules_told, reached_told, catches_told}
+use Rattle.mini_context.specs.Visits.{visits, given, fixed_at, bodies_at, mentions_at, exchanged_at, reached_at, imported_at, patterns_at, lexical_at, switched_at, params_at, caught_at, writes_at, binds_at, is_writing, is_binding, frame_in, top}
+use Rattle.mini_context.proofs.Surveys.{fixed_told, bodies_told, mentions_told, modules_told, reached_told, imported_told, patterns_told, lexical_told, switched_told, params_told, caught_told, filtered}
 use Rattle.mini_context.proofs.Listings.{owner_told}
 use Rattle.mini_context.proofs.Marking.{marks_add}
 
@@ -102,5 +104,78 @@ exchanged_by_walk n a t old new e f m s h = from_blank n (given exchanged_at (vi
 pub reached_by_walk : (n : ℕ) (a : Standing) (t : Tree) (old new : List Bool) → a ≡ top → old ≡ replicate n false → Marked (given reached_at (visits a t)) old new → (s : ℕ) → s < n → mark_at new s ≡ is_among (named s) (reached_by_arguments false t)
 reached_by_walk n a t old new e f m s h = from_blank n (given reached_at (visits a t)) old new f m s h ∙ ap (is_among (named s)) (reached_told a t ∙ ap (λ r. reached_by_arguments r.strict t) e)
 
-pub catches_by : (n : ℕ) (a : Standing) (t : Tree) (old new : List Bool) → old ≡ replicate n false → Marked (given catches_at (visits a t)) old new → (s : ℕ) → s < n → mark_at new s ≡ is_among (named s) (catch_names t)
-catches_by n a t old new f m s h = from_blank n (given catches_at (visits a t)) old new f m s h ∙ ap (is_among (named s)) (catches_told a t)
+pub patterns_by : (n : ℕ) (a : Standing) (t : Tree) (old new : List Bool) → old ≡ replicate n false → Marked (given patterns_at (visits a t)) old new → (s : ℕ) → s < n → mark_at new s ≡ is_among (named s) (pattern_names t)
+patterns_by n a t old new f m s h = from_blank n (given patterns_at (visits a t)) old new f m s h ∙ ap (is_among (named s)) (patterns_told a t)
+
+pub switched_by : (n : ℕ) (a : Standing) (t : Tree) (old new : List Bool) → old ≡ replicate n false → Marked (given switched_at (visits a t)) old new → (s : ℕ) → s < n → mark_at new s ≡ is_among (named s) (switched_names t)
+switched_by n a t old new f m s h = from_blank n (given switched_at (visits a t)) old new f m s h ∙ ap (is_among (named s)) (switched_told a t)
+
+pub params_by : (n : ℕ) (a : Standing) (t : Tree) (old new : List Bool) → old ≡ replicate n false → Marked (given params_at (visits a t)) old new → (s : ℕ) → s < n → mark_at new s ≡ is_among (named s) (catch_params t)
+params_by n a t old new f m s h = from_blank n (given params_at (visits a t)) old new f m s h ∙ ap (is_among (named s)) (params_told a t)
+
+pub caught_by : (n : ℕ) (a : Standing) (t : Tree) (old new : List Bool) → old ≡ replicate n false → Marked (given caught_at (visits a t)) old new → (s : ℕ) → s < n → mark_at new s ≡ is_among (named s) (caught t)
+caught_by n a t old new f m s h = from_blank n (given caught_at (visits a t)) old new f m s h ∙ ap (is_among (named s)) (caught_told a t)
+
+pub lexical_by : (n : ℕ) (a : Standing) (t : Tree) (old new : List Bool) → a ≡ top → old ≡ replicate n false → Marked (given lexical_at (visits a t)) old new → (s : ℕ) → s < n → mark_at new s ≡ is_among (named s) (lexical_variables false t)
+lexical_by n a t old new e f m s h = from_blank n (given lexical_at (visits a t)) old new f m s h ∙ ap (is_among (named s)) (lexical_told a t ∙ ap (λ r. lexical_variables r.in_body t) e)
+
+pub imported_by_walk : (n : ℕ) (a : Standing) (t : Tree) (old new : List Bool) → a ≡ top → old ≡ replicate n false → Marked (given imported_at (visits a t)) old new → (s : ℕ) → s < n → mark_at new s ≡ is_among (named s) (imported_names t)
+imported_by_walk n a t old new e f m s h = from_blank n (given imported_at (visits a t)) old new f m s h ∙ ap (is_among (named s)) (imported_told a t (ap (λ r. r.imports) e))
+
+-- ---- where symbols are written, and bound
+
+pub joined_blank : (n : ℕ) (ms : List Mention) (old new : List Mentioned) → old ≡ replicate n mentioned.Nowhere → Joined ms old new → (s : ℕ) → s < n → (b : ℕ) → is_outside (mentioned_at new s) b ≡ list_any (λ m. same_variable (named s) m.name && is_elsewhere b m.around) ms
+joined_blank n ms old new f j s h b =
+    let p : Mention → Bool = λ m. same_variable (named s) m.name && is_elsewhere b m.around in
+    j.each s (omega (arith, h, ap length f, nowhere_length n)) b
+    ∙ ap (λ v. v || list_any p ms) (ap (λ o. is_outside (mentioned_at o s) b) f ∙ nowhere n s b)
+
+some_mentions : (p : Mention → Bool) (a : Standing) (t : Tree) → a ≡ top → given (λ v. filter p (mentions_at v)) (visits a t) ≡ filter p (program_mentions t)
+some_mentions p a t e = filtered p (visits a t) ∙ ap (filter p) (mentions_told a t ∙ ap (λ r. mentions r.usage r.around t) e)
+
+pub written_by : (n : ℕ) (a : Standing) (t : Tree) (old new : List Mentioned) → a ≡ top → old ≡ replicate n mentioned.Nowhere → Joined (given writes_at (visits a t)) old new → (s : ℕ) → s < n → (b : ℕ) → is_outside (mentioned_at new s) b ≡ list_any (λ m. same_variable (named s) m.name && is_elsewhere b m.around) (filter is_writing (program_mentions t))
+written_by n a t old new e f j s h b =
+    joined_blank n (given writes_at (visits a t)) old new f j s h b ∙ ap (list_any (λ m. same_variable (named s) m.name && is_elsewhere b m.around)) (some_mentions is_writing a t e)
+
+unlisted : (n s b : ℕ) → holds (replicate n []) s b ≡ false
+unlisted zero s b = refl
+unlisted (suc n) zero b = refl
+unlisted (suc n) (suc s) b = unlisted n s b
+
+unlisted_length : (n : ℕ) → length {A = List ℕ} (replicate n []) ≡ n
+unlisted_length zero = refl
+unlisted_length (suc n) = ap suc (unlisted_length n)
+
+and_right : (a c : Bool) → ((a && true) && c) ≡ (a && c)
+and_right true c = refl
+and_right false c = refl
+
+and_none : (a c : Bool) → ((a && false) && c) ≡ false
+and_none true c = refl
+and_none false c = refl
+
+taken : (v : Bool) (p : Mention → Bool) (m : Mention) (ms : List Mention) → list_any p (cond v (m ∷ ms) ms) ≡ (cond v (p m) false || list_any p ms)
+taken true p m ms = refl
+taken false p m ms = refl
+
+bound_here : (s b : ℕ) (m : Mention) (v : Bool) → m.binds ≡ v → (same_variable (named s) m.name && m.binds && not (is_elsewhere b m.around)) ≡ cond v (same_variable (named s) m.name && not (is_elsewhere b m.around)) false
+bound_here s b m true e = ap (λ w. same_variable (named s) m.name && w && not (is_elsewhere b m.around)) e ∙ and_right (same_variable (named s) m.name) (not (is_elsewhere b m.around))
+bound_here s b m false e = ap (λ w. same_variable (named s) m.name && w && not (is_elsewhere b m.around)) e ∙ and_none (same_variable (named s) m.name) (not (is_elsewhere b m.around))
+
+bound_by : (s b : ℕ) (ms : List Mention) → list_any (λ m. same_variable (named s) m.name && not (is_elsewhere b m.around)) (filter is_binding ms) ≡ list_any (λ m. same_variable (named s) m.name && m.binds && not (is_elsewhere b m.around)) ms
+bound_by s b [] = refl
+bound_by s b (m ∷ ms) =
+    taken m.binds (λ r. same_variable (named s) r.name && not (is_elsewhere b r.around)) m (filter is_binding ms)
+    ∙ ap (λ v. cond m.binds (same_variable (named s) m.name && not (is_elsewhere b m.around)) false || v) (bound_by s b ms)
+    ∙ ap (λ v. v || list_any (λ r. same_variable (named s) r.name && r.binds && not (is_elsewhere b r.around)) ms) (sym (bound_here s b m m.binds refl))
+
+pub homes_by : (n : ℕ) (a : Standing) (t : Tree) (old new : List (List ℕ)) → a ≡ top → old ≡ replicate n [] → Housed (given binds_at (visits a t)) old new → (s : ℕ) → s < n → (b : ℕ) → holds new s b ≡ is_declared_in t b (named s)
+homes_by n a t old new e f j s h b =
+    let p : Mention → Bool = λ m. same_variable (named s) m.name && not (is_elsewhere b m.around) in
+    j.each s (omega (arith, h, ap length f, unlisted_length n)) b
+    ∙ ap (λ v. v || list_any p (given binds_at (visits a t))) (ap (λ o. holds o s b) f ∙ unlisted n s b)
+    ∙ ap (list_any p) (some_mentions is_binding a t e)
+    ∙ bound_by s b (program_mentions t)
+
+pub values_by : (a : Standing) (env : Environment) (t : Tree) (old new : List Mentioned) → a ≡ top → env ≡ [] → Joined (var_writes a.usage env a.around t) old new → Joined (program_var_writes t) old new
+values_by a env t old new e f j = subst (λ r. Joined (var_writes Read r outermost t) old new) f (subst (λ r. Joined (var_writes r.usage env r.around t) old new) e j)

@@ -1,12 +1,11 @@
 -- Laws of counts.
-use Rattle.std.specs.Prelude.{ℕ, ◌≡◌, ◌<◌, Bool, List, ◌++◌, slice_index, Some, true, false}
+use Rattle.std.specs.Prelude.{ℕ, ◌≡◌, ◌<◌, Bool, List, ◌++◌, slice_index, Some}
 use Rattle.mini_model.specs.Tree.{Tree}
 use Rattle.mini_names.specs.declared.Use.{Use}
 use Rattle.mini_names.specs.References.{Reference, reads, writes, read_count, write_count, counts_of}
 use Rattle.mini_names.specs.Mentions.{is_among}
 use Rattle.mini_names.specs.Shared.{is_shared}
-use Rattle.mini_context.specs.Catches.{catch_names, may_be_shared}
-use Rattle.mini_context.specs.Facts.{Facts, Tells, may_share}
+use Rattle.mini_context.specs.Facts.{Facts, Looked, shares}
 use Rattle.mini_context.specs.Tables.{named}
 use Rattle.mini_model.specs.declared.name.Name.{Name}
 use Rattle.mini_model.specs.declared.name.SymbolId.{SymbolId}
@@ -28,10 +27,10 @@ DropsTell = (p : Use → Bool) (before part after : List Reference) (n : ℕ) (o
 abbrev pub NamesTell : Type 0
 NamesTell = (x : Name) (s : SymbolId) (xs : List Name) → x.symbol ≡ Some s → is_among x xs ≡ is_among (named s.0) xs
 
--- of a name that has a symbol: a body that shares it may share it; and where it is none of a `catch` clause the two are one
+-- of a name that has a symbol, whether a body shares it is a matter of the symbol alone
 abbrev pub SharesTell : Type 0
-SharesTell = (t : Tree) (b : ℕ) (x : Name) (s : SymbolId) → x.symbol ≡ Some s → (is_shared t b x ≡ true → may_be_shared t b x ≡ true) × (is_among x (catch_names t) ≡ false → is_shared t b x ≡ may_be_shared t b x)
+SharesTell = (t : Tree) (b : ℕ) (x : Name) (s : SymbolId) → x.symbol ≡ Some s → is_shared t b x ≡ is_shared t b (named s.0)
 
--- the tables of a program tell what may be shared
+-- the tables of a program tell what is shared
 abbrev pub TablesTell : Type 0
-TablesTell = (f : Facts) (n : ℕ) (t : Tree) → Tells f n t → (s b : ℕ) → s < n → may_share f s b ≡ may_be_shared t b (named s)
+TablesTell = (f : Facts) (n : ℕ) (t : Tree) → Looked f n t → (s b : ℕ) → s < n → shares f s b ≡ is_shared t b (named s)

@@ -5,8 +5,8 @@ pub mod Mentioned
 pub mod Parts
 pub mod Visits
 pub mod Outside
-pub mod Catches
 pub mod Found
 pub mod Facts
 pub mod Laws
 pub mod Known
+pub mod Lists

@@ -12,6 +12,11 @@ is_outside mentioned.Nowhere b = false
 is_outside (mentioned.In n) b = not (nat_eq n b)
 is_outside mentioned.Widely b = true
 
+-- anywhere
+abbrev pub is_somewhere : Mentioned → Bool
+is_somewhere mentioned.Nowhere = false
+is_somewhere m = true
+
 abbrev pub mentioned_at : List Mentioned → ℕ → Mentioned
 mentioned_at ms s = slice_index_or ms s mentioned.Nowhere
 

@@ -1,6 +1,6 @@
 -- Which of the names that a node's children bind or declare a definition speaks of.
-use Rattle.std.specs.Prelude.{true, false, List, [], Option, Some, None}
-use Rattle.mini_model.specs.declared.kind.VariableDeclarationKind.TheVariants.{Const}
+use Rattle.std.specs.Prelude.{ℕ, suc, Bool, true, false, List, [], Option, Some, None}
+use Rattle.mini_model.specs.declared.kind.VariableDeclarationKind.TheVariants.{Const, Var}
 use Rattle.mini_model.specs.declared.name.Name.{Name}
 use Rattle.mini_model.specs.declared.shape.Shape.{Shape}
 use Rattle.mini_model.specs.declared.shape.Shape.TheVariants as shape
@@ -28,3 +28,30 @@ fixed_part (shape.Function false g ds) = part.At 0
 fixed_part (shape.Class false) = part.At 0
 fixed_part (shape.Class true) = part.At 3
 fixed_part h = part.Nothing
+
+-- where a node of a shape and a number binds names as a pattern does
+abbrev pub pattern_part : Shape → ℕ → Part
+pattern_part shape.ObjectPattern n = part.Every declared.Bound
+pattern_part shape.ArrayPattern n = part.Every declared.Bound
+pattern_part shape.AssignmentPattern (suc n) = part.Every declared.Bound
+pattern_part h n = part.Nothing
+
+-- the lexical names directly in a `switch`, and the parameter of a `catch`
+abbrev pub switched_part : Shape → Part
+switched_part shape.SwitchStatement = part.Every declared.Lexical
+switched_part h = part.Nothing
+
+abbrev pub caught_part : Shape → Part
+caught_part shape.CatchClause = part.At 0
+caught_part h = part.Nothing
+
+-- where a node has lexical names, directly in the body of a script or a function (true), or elsewhere: classes aside, which
+-- hold their name twice
+abbrev pub lexical_part : Bool → Shape → Part
+lexical_part b (shape.VariableDeclaration Var) = part.Nothing
+lexical_part b (shape.VariableDeclaration k) = part.Every declared.Bound
+lexical_part true (shape.Function true g ds) = part.Nothing
+lexical_part b (shape.Function d g ds) = part.At 0
+lexical_part b shape.CatchClause = part.At 0
+lexical_part b shape.ImportDeclaration = part.Every declared.Bound
+lexical_part b h = part.Nothing

@@ -1,5 +1,6 @@
 -- A walk over a tree, as the list of its nodes, each before what is below it.
-use Rattle.std.specs.Prelude.{ℕ, suc, false, List, [], ◌∷◌, ◌++◌, Bool, true, ◌&&◌}
+use Rattle.std.specs.Prelude.{ℕ, suc, false, List, [], ◌∷◌, ◌++◌, Bool, true, ◌&&◌, not}
+use Rattle.std.specs.List.{filter}
 use Rattle.mini_model.specs.declared.name.Name.{Name}
 use Rattle.mini_model.specs.Tree.{Tree, Trees, node, none, ◌▸◌, shape_of, children}
 use Rattle.mini_node.specs.Children.{names_of, number_of}
@@ -12,14 +13,16 @@ use Rattle.mini_model.specs.declared.shape.Shape.TheVariants as shape
 use Rattle.mini_names.specs.declared.Declared.TheVariants as declared
 use Rattle.mini_names.specs.DeclaredNames.{own_names}
 use Rattle.mini_names.specs.DeclaredNames.{names_of as names_declared}
-use Rattle.mini_names.specs.Shared.{reached_params}
+use Rattle.mini_names.specs.References.{writes}
+use Rattle.mini_names.specs.Shared.{own_catch_params, own_caught, reached_params}
+use Rattle.mini_names.specs.Foreign.{is_body_by, own_lexical, own_pattern_names, own_switched}
 use Rattle.mini_context.specs.declared.exchanges.Exchange.{Exchange}
 use Rattle.mini_context.specs.declared.exchanges.Exchange.TheVariants as exchange
 use Rattle.mini_names.specs.Strict.{is_strict_in}
 use Rattle.mini_context.specs.declared.standing.Frame.{Frame as FrameHeld}
 use Rattle.mini_context.specs.declared.standing.Standing.{Standing}
 use Rattle.mini_context.specs.declared.survey.Tables.{Tables}
-use Rattle.mini_context.specs.Catches.{own_catch_names}
+use Rattle.mini_context.specs.Lists.{Housed}
 use Rattle.mini_context.specs.Mentioned.{Joined}
 use Rattle.mini_context.specs.Tables.{Marked, Noted}
 
@@ -38,9 +41,15 @@ is_exchange_shape shape.ExportNamedDeclaration = true
 is_exchange_shape shape.ExportSpecifier = true
 is_exchange_shape h = false
 
+-- in which children an import may stand
+abbrev pub is_import_shape : Shape → Bool
+is_import_shape (shape.Program is_module ds) = true
+is_import_shape shape.Listed = true
+is_import_shape h = false
+
 -- where a program stands
 abbrev pub top : Standing
-top = record { usage = Read; around = outermost; strict = false; exchanges = true; frame = frame_by no_frame }
+top = record { usage = Read; around = outermost; strict = false; exchanges = true; imports = true; in_body = false; frame = frame_by no_frame }
 
 -- what holds around a node's child at an index
 abbrev pub below : Standing → Tree → ℕ → Standing
@@ -49,6 +58,8 @@ below a t i = record {
   around = around_child (shape_of t) a.around (number_of t) i;
   strict = is_strict_in a.strict (shape_of t);
   exchanges = a.exchanges && is_exchange_shape (shape_of t);
+  imports = a.imports && is_import_shape (shape_of t);
+  in_body = is_body_by (shape_of t) a.in_body;
   frame = frame_by (frame_at (shape_of t) (frame_in a.frame) (children t) i);
 }
 
@@ -96,8 +107,41 @@ exchange_of h = exchange.Nothing
 abbrev pub exchanged_at : Visit → List Name
 exchanged_at v = exchanged_by v.standing.exchanges (exchange_of (shape_of v.tree)) (own_names v.tree) (names_declared declared.Lexical v.tree) (names_declared declared.Hoisted v.tree)
 
-abbrev pub catches_at : Visit → List Name
-catches_at v = own_catch_names (shape_of v.tree) (children v.tree)
+-- imports
+abbrev pub imported_here : Bool → Shape → List Name → List Name
+imported_here true shape.ImportDeclaration lexical = lexical
+imported_here b h lexical = []
+
+abbrev pub imported_at : Visit → List Name
+imported_at v = imported_here v.standing.imports (shape_of v.tree) (names_declared declared.Lexical v.tree)
+
+abbrev pub patterns_at : Visit → List Name
+patterns_at v = own_pattern_names (shape_of v.tree) (number_of v.tree) (children v.tree)
+
+abbrev pub lexical_at : Visit → List Name
+lexical_at v = own_lexical v.standing.in_body (shape_of v.tree) (children v.tree)
+
+abbrev pub switched_at : Visit → List Name
+switched_at v = own_switched (shape_of v.tree) (children v.tree)
+
+abbrev pub params_at : Visit → List Name
+params_at v = own_catch_params (shape_of v.tree) (children v.tree)
+
+abbrev pub caught_at : Visit → List Name
+caught_at v = own_caught (shape_of v.tree) (children v.tree)
+
+-- mentions that write, and those that bind
+abbrev pub is_writing : Mention → Bool
+is_writing m = not m.binds && writes m.used
+
+abbrev pub is_binding : Mention → Bool
+is_binding m = m.binds
+
+abbrev pub writes_at : Visit → List Mention
+writes_at v = filter is_writing (mentions_at v)
+
+abbrev pub binds_at : Visit → List Mention
+binds_at v = filter is_binding (mentions_at v)
 
 abbrev pub reached_at : Visit → List Name
 reached_at v = reached_params (is_strict_in v.standing.strict (shape_of v.tree)) (shape_of v.tree) (children v.tree)
@@ -110,4 +154,11 @@ pub record Surveyed (vs : List Visit) (old new : Tables) : Type 0 where
   pub mentions : Joined (given mentions_at vs) old.mentioned.items new.mentioned.items
   pub exchanged : Marked (given exchanged_at vs) old.exchanged.items new.exchanged.items
   pub reached : Marked (given reached_at vs) old.reached.items new.reached.items
-  pub catches : Marked (given catches_at vs) old.catches.items new.catches.items
+  pub imported : Marked (given imported_at vs) old.imported.items new.imported.items
+  pub patterns : Marked (given patterns_at vs) old.patterns.items new.patterns.items
+  pub lexical : Marked (given lexical_at vs) old.lexical.items new.lexical.items
+  pub switched : Marked (given switched_at vs) old.switched.items new.switched.items
+  pub params : Marked (given params_at vs) old.params.items new.params.items
+  pub caught : Marked (given caught_at vs) old.caught.items new.caught.items
+  pub written : Joined (given writes_at vs) old.written.items new.written.items
+  pub homes : Housed (given binds_at vs) old.homes.items new.homes.items

@@ -33,13 +33,15 @@ pub struct Counts {
     pub writes: Vec<u32>,
 }
 
-fn is_read(usage: Use) -> bool
+/// Whether a name that is used like this is read.
+pub fn is_read(usage: Use) -> bool
     ensures { result ≡ is_read usage }
 {
     !matches!(usage, Use::Write)
 }
 
-fn is_write(usage: Use) -> bool
+/// Whether a name that is used like this is written.
+pub fn is_write(usage: Use) -> bool
     ensures { result ≡ is_write usage }
 {
     matches!(usage, Use::Write | Use::ReadWrite)
@@ -73,7 +75,8 @@ fn tally_use(tally: Tally, counts: &mut Vec<u32>, is_counted: bool, symbol: Opti
     }
 }
 
-fn is_reference(shape: &Shape) -> bool
+/// Whether a node of this shape is a reference.
+pub fn is_reference(shape: &Shape) -> bool
     ensures { result ≡ is_reference_shape shape.now }
 {
     matches!(shape, Shape::Identifier)

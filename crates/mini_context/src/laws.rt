@@ -17,12 +17,12 @@ pub fn names_tell()
     ensures { NamesTell }
 {}
 
-/// What a body shares it may share; and what is no name of a `catch` clause it shares where it may.
+/// Whether a body shares a name that has a symbol is a matter of the symbol alone.
 pub fn shares_tell()
     ensures { SharesTell }
 {}
 
-/// The tables of a program tell what a body may share.
+/// The tables of a program tell what a body shares.
 pub fn tables_tell()
     ensures { TablesTell }
 {}

@@ -3,12 +3,15 @@
 //! rewrites ask it, whose counts follow what they drop.
 #![tactic(auto)]
 
+mod catching;
 mod context;
 mod count;
 mod exchanges;
+mod giving;
 mod knowing;
 mod laws;
 mod listing;
+mod lists;
 mod marks;
 mod mentions;
 mod parts;

@@ -1,18 +1,26 @@
 //! The scopes of a program, in the order in which they are entered.
 
-ghost use Rattle.std.specs.Prelude.{◌≡◌, ◌∷◌, [], ◌++◌, replicate, false, IfOk, OnOk};
-ghost use Rattle.mini_node.specs.Children.{trees_of, names, rest_children};
+ghost use Rattle.std.specs.Prelude.{◌≡◌, ◌∷◌, [], ◌++◌, take, length, replicate, false, IfOk, OnOk};
+ghost use Rattle.mini_model.specs.Tree.{children, shape_of};
+ghost use Rattle.mini_node.specs.Children.{trees_of, names, number_of, rest_children};
+ghost use Rattle.mini_names.specs.Mentions.{around_child};
+ghost use Rattle.mini_names.specs.Shared.{var_writes, var_writes_from};
+ghost use Rattle.mini_names.specs.Strict.{is_strict_in as is_strict_at};
+ghost use Rattle.mini_context.specs.Mentioned.{Joined};
 ghost use Rattle.mini_names.specs.Scopes.{use_of as use_at};
 ghost use Rattle.mini_names.specs.ScopeList.{any_has_eval as any_has_eval_in, calls_eval as calls_eval_in, entered, has_eval as has_eval_in, is_eval, is_eval_call as is_eval_call_in, is_eval_callee as is_eval_callee_in, least_scopes as least_in, names_in, scope_list, scope_list_from};
 ghost use Rattle.mini_scope.specs.ScopeAt.{scope_at};
 ghost use Rattle.mini_context.specs.Tables.{Listed};
 
+use crate::giving::{enter_scope, join_values};
 use crate::marks::{mark_bindings, no_marks};
+use crate::mentions::Mentioned;
+use crate::standing::{Standing, standing_below};
 use crate::strictness::is_strict_in;
 use mini_model::{Name, Shape};
-use mini_names::{Binding, Use};
+use mini_names::Binding;
 use mini_node::{Node, Nodes};
-use mini_scope::{OpenScopes, use_of};
+use mini_scope::{Environment, OpenScopes};
 use mini_text::OutOfMemory;
 use std::alloc::Global;
 
@@ -179,42 +187,53 @@ fn push_entered(
     push_scope(tables, scope, strict, evals)
 }
 
-/// Lists the scopes that are entered in a tree.
+/// Lists the scopes that are entered in a tree that stands so, and adds what its `var`s write. The environment is what is
+/// declared around the tree.
 #[cycle(listing)]
 pub fn list_scopes(
     alloc: Global,
     tables: &mut ScopeTables,
-    usage: Use,
-    strict: bool,
+    given: &mut Vec<Mentioned>,
+    environment: &mut Environment,
+    standing: Standing,
     node: &Node,
 ) -> Result<(), OutOfMemory>
-    ensures { OnOk result (Listed (scope_list usage strict node.now) tables.old tables.new) }
+    ensures listed { OnOk result (Listed (scope_list standing.usage standing.strict node.now) tables.old tables.new) }
+    ensures given { OnOk result (Joined (var_writes standing.usage environment.old standing.around node.now) given.old.items given.new.items) }
+    ensures left { OnOk result (environment.new ≡ environment.old) }
 {
-    let shape = node.shape();
-    let scopes = OpenScopes::of(alloc, usage, node)?;
-    let inside = is_strict_in(strict, shape);
-    list_below(alloc, tables, usage, inside, shape, scopes, node.children())
+    join_values(alloc, given, environment, standing, node)?;
+    let scopes = OpenScopes::of(alloc, standing.usage, node)?;
+    let around = environment.len();
+    list_below(alloc, tables, given, environment, standing, node, scopes)?;
+    environment.leave(around);
+    Ok(())
 }
 
 #[cycle(listing)]
 fn list_below(
     alloc: Global,
     tables: &mut ScopeTables,
-    usage: Use,
-    strict: bool,
-    shape: &Shape,
+    given: &mut Vec<Mentioned>,
+    environment: &mut Environment,
+    standing: Standing,
+    node: &Node,
     scopes: OpenScopes,
-    nodes: &Nodes,
 ) -> Result<(), OutOfMemory>
-    ensures { OnOk result (Listed (scope_list_from (scope_at scopes) (use_at shape.now usage) (least_in shape.now) strict 0 nodes.now) tables.old tables.new) }
+    ensures listed { OnOk result (Listed (scope_list_from (scope_at scopes) (use_at (shape_of node.now) standing.usage) (least_in (shape_of node.now)) (is_strict_at standing.strict (shape_of node.now)) 0 (children node.now)) tables.old tables.new) }
+    ensures given { OnOk result (Joined (var_writes_from (scope_at scopes) (use_at (shape_of node.now) standing.usage) (around_child (shape_of node.now) standing.around (number_of node.now)) 0 environment.old (children node.now)) given.old.items given.new.items) }
+    ensures around { OnOk result (take (length environment.old) environment.new ≡ environment.old) }
 {
     let mut scopes = scopes;
+    let nodes = node.children();
+    let strict = is_strict_in(standing.strict, node.shape());
     for at in 0..nodes.len() {
         let scope = scopes.take(alloc, at);
-        let least = least_scopes(shape, at);
+        let least = least_scopes(node.shape(), at);
         push_entered(tables, least, scope.as_slice(), strict, nodes, at)?;
-        let child = nodes.child(at);
-        list_scopes(alloc, tables, use_of(shape, usage, at), strict, child)?;
+        enter_scope(environment, scope)?;
+        let stands = standing_below(standing, node, at);
+        list_scopes(alloc, tables, given, environment, stands, nodes.child(at))?;
     }
     Ok(())
 }

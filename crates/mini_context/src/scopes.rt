@@ -1,13 +1,14 @@
 //! What is known of the names of a program.
 
-ghost use Rattle.std.specs.Prelude.{◌≡◌, ◌+◌, ◌^◌, ◌<◌, not, length, replicate, false, slice_index, IfOk, OnOk};
+ghost use Rattle.std.specs.Prelude.{◌≡◌, ◌+◌, ◌^◌, ◌<◌, ℕ, ◌||◌, not, length, map, replicate, false, slice_index, IfOk, OnOk};
 ghost use Rattle.mini_names.specs.declared.Use.TheVariants as variant;
 ghost use Rattle.mini_names.specs.References.{references, reads as is_read, writes as is_write};
-ghost use Rattle.mini_names.specs.ScopeList.{seen_by_eval as seen_names};
-ghost use Rattle.mini_names.specs.Shared.{script_tops as script_tops_of};
-ghost use Rattle.mini_context.specs.Mentioned.{is_outside as is_outside_of, mentioned_at as entry_at};
+ghost use Rattle.mini_names.specs.ScopeList.{scope_of_symbol, scopes_of, seen_by_eval as seen_names};
+ghost use Rattle.mini_names.specs.Shared.{program_var_writes, script_tops as script_tops_of};
+ghost use Rattle.mini_context.specs.declared.mentions.Mentioned.TheVariants as mentioned;
+ghost use Rattle.mini_context.specs.Mentioned.{is_outside as is_outside_of, mentioned_at as entry_at, Joined};
 ghost use Rattle.mini_context.specs.Own.{is_script_shape};
-ghost use Rattle.mini_context.specs.Facts.{Refreshed, Tells, may_share};
+ghost use Rattle.mini_context.specs.Facts.{Refreshed, Tells, shares, written_in_catch};
 ghost use Rattle.mini_context.specs.Found.{Found};
 ghost use Rattle.mini_context.specs.Tables.{mark_at, Marked};
 ghost use Rattle.mini_context.specs.Tallies.{Contained, FellBy};
@@ -15,18 +16,22 @@ ghost use Rattle.mini_context.specs.Tallies.{Contained, FellBy};
 use crate::count::{Counts, count_out, own_counts};
 use crate::listing::{ScopeTables, list_scopes, no_scopes};
 use crate::marks::{is_marked, mark_bindings, no_marks};
-use crate::mentions::{is_outside, mentioned_at};
+use crate::mentions::{Mentioned, is_outside, is_somewhere, mentioned_at, no_mentions};
 use crate::standing::at_top;
 use crate::steps::Steps;
 use crate::survey::{Tables, no_tables, survey_node};
 use mini_model::{Shape, SymbolId};
 use mini_names::Use;
 use mini_node::Node;
-use mini_scope::OpenScopes;
+use mini_scope::{Environment, OpenScopes};
 use mini_text::OutOfMemory;
 use std::alloc::Global;
 use std::marker::{Brand, Model};
+use std::mem;
 use std::sync::ledger::{Blank, Ledger};
+
+/// The number of buckets for the names in scope.
+const BUCKETS: usize = 65536;
 
 /// The number of a scope: the scopes of a program are numbered in the order in which they are entered.
 #[derive(Clone, Copy, Debug, PartialEq, Eq)]
@@ -38,7 +43,9 @@ pub struct Scopes {
     counts: Counts,
     tables: Tables,
     scopes: ScopeTables,
+    given: Vec<Mentioned>,
     tops: Vec<bool>,
+    now_top: Vec<bool>,
 }
 
 impl Model for Scopes {
@@ -48,7 +55,7 @@ impl Model for Scopes {
 
     ghost Value = { Facts };
 
-    ghost view = { λ b. record { reads = b.counts.reads.items; writes = b.counts.writes.items; fixed = b.tables.fixed.items; tops = b.tops.items; owners = b.scopes.owners.items; seen = b.scopes.seen.items; exchanged = b.tables.exchanged.items; reached = b.tables.reached.items; catches = b.tables.catches.items; mentioned = b.tables.mentioned.items; strict = b.scopes.strict.items; evals = b.scopes.evals.items; this_events = b.tables.this_events.items; arguments = b.tables.arguments.items } };
+    ghost view = { λ b. record { reads = b.counts.reads.items; writes = b.counts.writes.items; fixed = b.tables.fixed.items; tops = b.tops.items; owners = b.scopes.owners.items; now_top = b.now_top.items; seen = b.scopes.seen.items; exchanged = b.tables.exchanged.items; imported = b.tables.imported.items; reached = b.tables.reached.items; patterns = b.tables.patterns.items; lexical = b.tables.lexical.items; switched = b.tables.switched.items; params = b.tables.params.items; caught = b.tables.caught.items; mentioned = b.tables.mentioned.items; written = b.tables.written.items; given = b.given.items; homes = b.tables.homes.items; strict = b.scopes.strict.items; evals = b.scopes.evals.items; this_events = b.tables.this_events.items; arguments = b.tables.arguments.items } };
 }
 
 fn count_at(counts: &[u32], at: u32) -> u32
@@ -84,23 +91,34 @@ fn surveyed(alloc: Global, program: &Node, symbols: u32) -> Result<Tables, OutOf
     ensures { IfOk result (λ tables. Found tables symbols program.now) }
 {
     let mut tables = no_tables(alloc, symbols)?;
-    survey_node(&mut tables, at_top(), program)?;
+    survey_node(alloc, &mut tables, at_top(), program)?;
     Ok(tables)
 }
 
-// The symbols that a direct eval can see, among so many.
-fn seen_by_eval(alloc: Global, program: &Node, symbols: u32) -> Result<Vec<bool>, OutOfMemory>
-    ensures { IfOk result (λ seen. Marked (seen_names program.now) (replicate symbols false) seen.items) }
+// The scopes of a program with so many symbols, and what its `var`s write.
+fn listed(
+    alloc: Global,
+    program: &Node,
+    symbols: u32,
+) -> Result<(ScopeTables, Vec<Mentioned>), OutOfMemory>
+    ensures owners { IfOk result (λ r. (s : ℕ) → slice_index r.0.owners.items s ≡ scope_of_symbol program.now s) }
+    ensures strict { IfOk result (λ r. r.0.strict.items ≡ map (λ k. k.strict) (scopes_of program.now)) }
+    ensures evals { IfOk result (λ r. r.0.evals.items ≡ map (λ k. k.evals) (scopes_of program.now)) }
+    ensures seen { IfOk result (λ r. Marked (seen_names program.now) (replicate symbols false) r.0.seen.items) }
+    ensures given { IfOk result (λ r. Joined (program_var_writes program.now) (replicate symbols mentioned.Nowhere) r.1.items) }
 {
     let mut scopes = no_scopes(alloc, symbols)?;
-    list_scopes(alloc, &mut scopes, Use::Read, false, program)?;
-    let ScopeTables {
-        strict: _,
-        evals: _,
-        owners: _,
-        seen,
-    } = scopes;
-    Ok(seen)
+    let mut given = no_mentions(alloc, symbols)?;
+    let mut environment = Environment::new(alloc, BUCKETS)?;
+    list_scopes(
+        alloc,
+        &mut scopes,
+        &mut given,
+        &mut environment,
+        at_top(),
+        program,
+    )?;
+    Ok((scopes, given))
 }
 
 impl Scopes {
@@ -111,18 +129,20 @@ impl Scopes {
     {
         let counts = own_counts::<Brand>(alloc, program, symbols, Blank::new(1))?;
         let tables = surveyed(alloc, program, symbols)?;
-        let mut scopes = no_scopes(alloc, symbols)?;
-        list_scopes(alloc, &mut scopes, Use::Read, false, program)?;
+        let (scopes, given) = listed(alloc, program, symbols)?;
         let tops = script_tops(alloc, symbols, program)?;
+        let now_top = script_tops(alloc, symbols, program)?;
         Ok(Scopes {
             counts,
             tables,
             scopes,
+            given,
             tops,
+            now_top,
         })
     }
 
-    /// Sets the counts, what a direct eval can see and what is shared to those of a program. After `OutOfMemory` they are fit only to be
+    /// Sets the counts, and what is shared and foreign, to those of a program. After `OutOfMemory` they are fit only to be
     /// dropped.
     pub fn refresh(&mut self, alloc: Global, program: &Node) -> Result<(), OutOfMemory>
         requires { length (references variant.Read program.now) + 1 < 2 ^ 32 }
@@ -132,21 +152,22 @@ impl Scopes {
             Ok(symbols) => symbols,
             Err(_) => return Err(OutOfMemory),
         };
-        self.counts = own_counts::<Brand>(alloc, program, symbols, Blank::new(1))?;
-        self.scopes.seen = seen_by_eval(alloc, program, symbols)?;
-        let Tables {
-            fixed: _,
-            exchanged,
-            reached,
-            catches,
-            mentioned,
-            this_events: _,
-            arguments: _,
-        } = surveyed(alloc, program, symbols)?;
-        self.tables.exchanged = exchanged;
-        self.tables.reached = reached;
-        self.tables.catches = catches;
-        self.tables.mentioned = mentioned;
+        let Scopes {
+            counts,
+            mut tables,
+            scopes,
+            given,
+            tops: _,
+            now_top,
+        } = Scopes::of(alloc, program, symbols)?;
+        mem::swap(&mut self.tables.fixed, &mut tables.fixed);
+        mem::swap(&mut self.tables.this_events, &mut tables.this_events);
+        mem::swap(&mut self.tables.arguments, &mut tables.arguments);
+        self.counts = counts;
+        self.tables = tables;
+        self.scopes.seen = scopes.seen;
+        self.given = given;
+        self.now_top = now_top;
         Ok(())
     }
 
@@ -219,17 +240,30 @@ impl Scopes {
         )
     }
 
-    /// Whether the body with this number may share the symbol with what is outside it. Where it does share it the answer is
-    /// true; a true answer may be too much only for the names of `catch` clauses, whose environments it doesn't follow.
+    /// Whether the body with this number shares the symbol with what is outside it: others may read it while the body runs.
     pub fn is_shared(&self, symbol: SymbolId, body: u32) -> bool
-        ensures { result ≡ may_share self.now symbol.0 body }
+        ensures { result ≡ shares self.now symbol.0 body }
     {
-        is_marked(self.tops.as_slice(), symbol.0)
-            || is_marked(self.tables.exchanged.as_slice(), symbol.0)
-            || is_marked(self.scopes.seen.as_slice(), symbol.0)
-            || is_marked(self.tables.reached.as_slice(), symbol.0)
-            || is_marked(self.tables.catches.as_slice(), symbol.0)
-            || self.is_mentioned_outside(symbol, body)
+        self.is_shared_always(symbol.0) || self.is_mentioned_outside(symbol, body)
+    }
+
+    fn is_shared_always(&self, symbol: u32) -> bool
+        ensures { result ≡ (mark_at self.now.now_top symbol || mark_at self.now.exchanged symbol || mark_at self.now.seen symbol || mark_at self.now.reached symbol || mark_at self.now.caught symbol || written_in_catch self.now symbol) }
+    {
+        is_marked(self.now_top.as_slice(), symbol)
+            || is_marked(self.tables.exchanged.as_slice(), symbol)
+            || is_marked(self.scopes.seen.as_slice(), symbol)
+            || is_marked(self.tables.reached.as_slice(), symbol)
+            || is_marked(self.tables.caught.as_slice(), symbol)
+            || self.is_written_in_catch(symbol)
+    }
+
+    // Whether a `var` writes the symbol, which is a parameter of `catch`.
+    fn is_written_in_catch(&self, symbol: u32) -> bool
+        ensures { result ≡ written_in_catch self.now symbol }
+    {
+        is_marked(self.tables.params.as_slice(), symbol)
+            && is_somewhere(mentioned_at(self.given.as_slice(), symbol))
     }
 
     /// Whether the scope's code is strict. (ECMA-262, "Strict Mode Code".)

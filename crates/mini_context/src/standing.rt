@@ -5,7 +5,8 @@ ghost use Rattle.mini_model.specs.Tree.{is_absent as is_absent_tree, children, s
 ghost use Rattle.mini_names.specs.Bodies.{frame_at, frame_of_body, has_superclass as has_superclass_in, no_frame};
 ghost use Rattle.mini_names.specs.Mentions.{around_by as around_by_numbering, around_child, numbering_of as numbering_in, outermost};
 ghost use Rattle.mini_node.specs.Children.{number_of};
-ghost use Rattle.mini_context.specs.Visits.{below, frame_by, frame_in, is_exchange_shape, top};
+ghost use Rattle.mini_names.specs.Foreign.{is_body_by};
+ghost use Rattle.mini_context.specs.Visits.{below, frame_by, frame_in, is_exchange_shape, is_import_shape, top};
 
 use crate::strictness::is_strict_in;
 use mini_model::{MethodDefinitionKind, Shape};
@@ -35,6 +36,10 @@ pub struct Standing {
     pub strict: bool,
     /// Whether what a module imports and exports may be named there.
     pub exchanges: bool,
+    /// Whether it may be an import.
+    pub imports: bool,
+    /// Whether it stands directly in the body of a script or a function, in which functions are no lexical names.
+    pub in_body: bool,
     /// What `this` and `arguments` are there.
     pub frame: Frame,
 }
@@ -62,6 +67,8 @@ pub fn at_top() -> Standing
         },
         strict: false,
         exchanges: true,
+        imports: true,
+        in_body: false,
         frame: no_frame(),
     }
 }
@@ -135,7 +142,8 @@ pub fn frame_in_body(shape: &Shape, frame: Frame) -> Frame
     }
 }
 
-fn is_absent(node: &Node) -> bool
+/// Whether a part is not there.
+pub fn is_absent(node: &Node) -> bool
     ensures { result ≡ is_absent_tree node.now }
 {
     matches!(node.shape(), Shape::Absent)
@@ -183,6 +191,25 @@ fn is_exchange(shape: &Shape) -> bool
     )
 }
 
+/// Whether the children of a node of this shape may be imports.
+fn is_importing(shape: &Shape) -> bool
+    ensures { result ≡ is_import_shape shape.now }
+{
+    matches!(shape, Shape::Program(..) | Shape::Listed)
+}
+
+/// Whether the children of a node of this shape stand directly in the body of a script or a function.
+fn is_body(shape: &Shape, in_body: bool) -> bool
+    ensures { result ≡ is_body_by shape.now in_body }
+{
+    match shape {
+        Shape::Program(is_module, _) => !*is_module,
+        Shape::FunctionBody | Shape::StaticBlock => true,
+        Shape::Listed | Shape::ExportNamedDeclaration | Shape::ExportDefaultDeclaration => in_body,
+        _ => false,
+    }
+}
+
 /// What holds around the child at an index of a node.
 pub fn standing_below(standing: Standing, node: &Node, at: usize) -> Standing
     ensures { result ≡ below standing node.now at }
@@ -193,6 +220,8 @@ pub fn standing_below(standing: Standing, node: &Node, at: usize) -> Standing
         around: around_below(shape, standing.around, node.number(), at),
         strict: is_strict_in(standing.strict, shape),
         exchanges: standing.exchanges && is_exchange(shape),
+        imports: standing.imports && is_importing(shape),
+        in_body: is_body(shape, standing.in_body),
         frame: frame_below(shape, standing.frame, node.children(), at),
     }
 }

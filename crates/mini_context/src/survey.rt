@@ -1,24 +1,30 @@
 //! One walk over a tree, which fills the tables of symbols and of bodies.
 
-ghost use Rattle.std.specs.Prelude.{◌≡◌, ℕ, ◌||◌, ◌&&◌, [], ◌∷◌, nat_eq, ◌<◌, false, length, replicate, IfOk, OnOk};
+ghost use Rattle.std.specs.Prelude.{◌≡◌, ℕ, ◌||◌, ◌&&◌, [], ◌∷◌, nat_eq, ◌<◌, true, false, length, replicate, IfOk, OnOk};
 ghost use Rattle.mini_model.specs.Tree.{children, shape_of};
 ghost use Rattle.mini_names.specs.Bodies.{own_fixed};
+ghost use Rattle.mini_names.specs.Foreign.{own_lexical, own_pattern_names, own_switched};
+ghost use Rattle.mini_names.specs.Shared.{own_catch_params};
+ghost use Rattle.mini_names.specs.DeclaredNames.{names_of};
+ghost use Rattle.mini_names.specs.declared.Declared.TheVariants as declared;
+ghost use Rattle.mini_node.specs.Children.{number_of};
 ghost use Rattle.mini_context.specs.Tables.{mark_at, Marked, Noted};
 ghost use Rattle.mini_context.specs.declared.mentions.Mentioned.TheVariants as mentioned;
-ghost use Rattle.mini_context.specs.Catches.{own_catch_names};
-ghost use Rattle.mini_context.specs.Own.{is_catch_shape};
-ghost use Rattle.mini_context.specs.Visits.{below, bodies_at, visits, visits_from, Surveyed};
+ghost use Rattle.mini_context.specs.Own.{is_class_shape, is_import_declaration};
+ghost use Rattle.mini_context.specs.Visits.{below, bodies_at, imported_here, visits, visits_from, Surveyed};
 
+use crate::catching::mark_caught;
 use crate::exchanges::mark_exchanged;
-use crate::marks::no_marks;
-use crate::mentions::{Mentioned, join_own, no_mentions};
-use crate::parts::{Part, fixed_part, mark_part};
+use crate::lists::no_lists;
+use crate::marks::{mark_names, no_marks};
+use crate::mentions::{Mentioned, join_own, join_write, no_mentions, put_home};
+use crate::parts::{caught_part, fixed_part, lexical_part, mark_part, pattern_part, switched_part};
 use crate::reach::mark_reached;
 use crate::standing::{Standing, frame_in_body, numbering_of, standing_below};
 use mini_model::Shape;
 use mini_names::{Declared, Numbering};
 use mini_node::Node;
-use mini_text::OutOfMemory;
+use mini_text::{OutOfMemory, OwnedList};
 use std::alloc::Global;
 
 /// What a walk over a program finds, by symbol and by the number of a body.
@@ -30,10 +36,24 @@ pub struct Tables {
     pub exchanged: Vec<bool>,
     /// The parameters that an `arguments` reaches.
     pub reached: Vec<bool>,
-    /// The names of `catch` clauses.
-    pub catches: Vec<bool>,
+    /// The names that a module imports.
+    pub imported: Vec<bool>,
+    /// The names that patterns bind.
+    pub patterns: Vec<bool>,
+    /// The lexical names.
+    pub lexical: Vec<bool>,
+    /// Those directly in a `switch`.
+    pub switched: Vec<bool>,
+    /// The parameters of `catch`.
+    pub params: Vec<bool>,
+    /// The `var`s under a parameter of `catch` of their name.
+    pub caught: Vec<bool>,
     /// Where each symbol is mentioned.
     pub mentioned: Vec<Mentioned>,
+    /// Where each symbol is written.
+    pub written: Vec<Mentioned>,
+    /// The bodies in which each symbol is bound.
+    pub homes: Vec<OwnedList<u32>>,
     /// The bodies in which `this` is an event.
     pub this_events: Vec<bool>,
     /// The bodies that have an `arguments`.
@@ -45,8 +65,15 @@ pub fn no_tables(alloc: Global, symbols: u32) -> Result<Tables, OutOfMemory>
     ensures fixed { IfOk result (λ tables. tables.fixed.items ≡ replicate symbols false) }
     ensures exchanged { IfOk result (λ tables. tables.exchanged.items ≡ replicate symbols false) }
     ensures reached { IfOk result (λ tables. tables.reached.items ≡ replicate symbols false) }
-    ensures catches { IfOk result (λ tables. tables.catches.items ≡ replicate symbols false) }
+    ensures imported { IfOk result (λ tables. tables.imported.items ≡ replicate symbols false) }
+    ensures patterns { IfOk result (λ tables. tables.patterns.items ≡ replicate symbols false) }
+    ensures lexical { IfOk result (λ tables. tables.lexical.items ≡ replicate symbols false) }
+    ensures switched { IfOk result (λ tables. tables.switched.items ≡ replicate symbols false) }
+    ensures params { IfOk result (λ tables. tables.params.items ≡ replicate symbols false) }
+    ensures caught { IfOk result (λ tables. tables.caught.items ≡ replicate symbols false) }
     ensures mentioned { IfOk result (λ tables. tables.mentioned.items ≡ replicate symbols mentioned.Nowhere) }
+    ensures written { IfOk result (λ tables. tables.written.items ≡ replicate symbols mentioned.Nowhere) }
+    ensures homes { IfOk result (λ tables. tables.homes.items ≡ replicate symbols []) }
     ensures this_events { IfOk result (λ tables. tables.this_events.items ≡ []) }
     ensures arguments { IfOk result (λ tables. tables.arguments.items ≡ []) }
 {
@@ -54,8 +81,15 @@ pub fn no_tables(alloc: Global, symbols: u32) -> Result<Tables, OutOfMemory>
         fixed: no_marks(alloc, symbols)?,
         exchanged: no_marks(alloc, symbols)?,
         reached: no_marks(alloc, symbols)?,
-        catches: no_marks(alloc, symbols)?,
+        imported: no_marks(alloc, symbols)?,
+        patterns: no_marks(alloc, symbols)?,
+        lexical: no_marks(alloc, symbols)?,
+        switched: no_marks(alloc, symbols)?,
+        params: no_marks(alloc, symbols)?,
+        caught: no_marks(alloc, symbols)?,
         mentioned: no_mentions(alloc, symbols)?,
+        written: no_mentions(alloc, symbols)?,
+        homes: no_lists(alloc, symbols)?,
         this_events: Vec::new(alloc),
         arguments: Vec::new(alloc),
     })
@@ -87,19 +121,19 @@ fn mark_number(marks: &mut Vec<bool>, number: u32, holds: bool) -> Result<(), Ou
     Ok(())
 }
 
-fn mark_body(tables: &mut Tables, standing: Standing, node: &Node) -> Result<(), OutOfMemory>
-    ensures fixed { OnOk result (tables.new.fixed ≡ tables.old.fixed) }
-    ensures mentioned { OnOk result (tables.new.mentioned ≡ tables.old.mentioned) }
-    ensures exchanged { OnOk result (tables.new.exchanged ≡ tables.old.exchanged) }
-    ensures reached { OnOk result (tables.new.reached ≡ tables.old.reached) }
-    ensures catches { OnOk result (tables.new.catches ≡ tables.old.catches) }
-    ensures this_events { OnOk result (Noted (λ f. f.binds_this) (bodies_at (record { standing = standing; tree = node.now })) tables.old.this_events.items tables.new.this_events.items) }
-    ensures arguments { OnOk result (Noted (λ f. f.has_arguments) (bodies_at (record { standing = standing; tree = node.now })) tables.old.arguments.items tables.new.arguments.items) }
+fn mark_body(
+    this_events: &mut Vec<bool>,
+    arguments: &mut Vec<bool>,
+    standing: Standing,
+    node: &Node,
+) -> Result<(), OutOfMemory>
+    ensures this_events { OnOk result (Noted (λ f. f.binds_this) (bodies_at (record { standing = standing; tree = node.now })) this_events.old.items this_events.new.items) }
+    ensures arguments { OnOk result (Noted (λ f. f.has_arguments) (bodies_at (record { standing = standing; tree = node.now })) arguments.old.items arguments.new.items) }
 {
     if let Numbering::Body = numbering_of(node.shape(), node.number()) {
         let inside = frame_in_body(node.shape(), standing.frame);
-        mark_number(&mut tables.this_events, node.number(), inside.binds_this)?;
-        mark_number(&mut tables.arguments, node.number(), inside.has_arguments)?;
+        mark_number(this_events, node.number(), inside.binds_this)?;
+        mark_number(arguments, node.number(), inside.has_arguments)?;
     }
     Ok(())
 }
@@ -110,49 +144,125 @@ fn mark_fixed(marks: &mut Vec<bool>, node: &Node)
     mark_part(marks, fixed_part(node.shape()), node.children());
 }
 
-fn is_catch(shape: &Shape) -> bool
-    ensures { result ≡ is_catch_shape shape.now }
+fn mark_patterns(marks: &mut Vec<bool>, node: &Node)
+    ensures { Marked (own_pattern_names (shape_of node.now) (number_of node.now) (children node.now)) marks.old.items marks.new.items }
 {
-    matches!(shape, Shape::CatchClause)
+    let part = pattern_part(node.shape(), node.number());
+    mark_part(marks, part, node.children());
 }
 
-fn mark_catches(marks: &mut Vec<bool>, node: &Node)
-    ensures { Marked (own_catch_names (shape_of node.now) (children node.now)) marks.old.items marks.new.items }
+fn mark_switched(marks: &mut Vec<bool>, node: &Node)
+    ensures { Marked (own_switched (shape_of node.now) (children node.now)) marks.old.items marks.new.items }
 {
-    if !is_catch(node.shape()) {
-        return;
+    mark_part(marks, switched_part(node.shape()), node.children());
+}
+
+fn mark_params(marks: &mut Vec<bool>, node: &Node)
+    ensures { Marked (own_catch_params (shape_of node.now) (children node.now)) marks.old.items marks.new.items }
+{
+    mark_part(marks, caught_part(node.shape()), node.children());
+}
+
+fn is_import(shape: &Shape) -> bool
+    ensures { result ≡ is_import_declaration shape.now }
+{
+    matches!(shape, Shape::ImportDeclaration)
+}
+
+fn mark_imported(marks: &mut Vec<bool>, imports: bool, node: &Node)
+    ensures { Marked (imported_here imports (shape_of node.now) (names_of declared.Lexical node.now)) marks.old.items marks.new.items }
+{
+    if imports && is_import(node.shape()) {
+        mark_names(marks, Declared::Lexical, node);
     }
-    mark_part(marks, Part::At(0), node.children());
-    mark_part(marks, Part::Every(Declared::Hoisted), node.children());
 }
 
-fn visit(tables: &mut Tables, standing: Standing, node: &Node) -> Result<(), OutOfMemory>
+fn is_class(shape: &Shape) -> bool
+    ensures { result ≡ is_class_shape shape.now }
+{
+    matches!(shape, Shape::Class(_))
+}
+
+// The name of a class, and the name that it holds again.
+fn mark_class(marks: &mut Vec<bool>, node: &Node)
+    ensures { is_class_shape (shape_of node.now) ≡ true → Marked (own_lexical false (shape_of node.now) (children node.now)) marks.old.items marks.new.items }
+{
+    if let [id, _super_class, _body, again, ..] = node.parts() {
+        mark_names(marks, Declared::Bound, id);
+        mark_names(marks, Declared::Bound, again);
+    }
+}
+
+fn mark_lexical(marks: &mut Vec<bool>, in_body: bool, node: &Node)
+    ensures { Marked (own_lexical in_body (shape_of node.now) (children node.now)) marks.old.items marks.new.items }
+{
+    let shape = node.shape();
+    if is_class(shape) {
+        mark_class(marks, node);
+    } else {
+        mark_part(marks, lexical_part(in_body, shape), node.children());
+    }
+}
+
+fn visit(
+    alloc: Global,
+    tables: &mut Tables,
+    standing: Standing,
+    node: &Node,
+) -> Result<(), OutOfMemory>
     ensures { OnOk result (Surveyed (record { standing = standing; tree = node.now } ∷ []) tables.old tables.new) }
 {
     mark_fixed(&mut tables.fixed, node);
     mark_exchanged(&mut tables.exchanged, standing.exchanges, node);
-    mark_catches(&mut tables.catches, node);
     mark_reached(&mut tables.reached, standing.strict, node);
+    mark_imported(&mut tables.imported, standing.imports, node);
+    mark_patterns(&mut tables.patterns, node);
+    mark_lexical(&mut tables.lexical, standing.in_body, node);
+    mark_switched(&mut tables.switched, node);
+    mark_params(&mut tables.params, node);
+    mark_caught(alloc, &mut tables.caught, node)?;
     join_own(&mut tables.mentioned, standing, node);
-    mark_body(tables, standing, node)
+    join_write(&mut tables.written, standing, node);
+    put_home(&mut tables.homes, standing, node)?;
+    mark_body(
+        &mut tables.this_events,
+        &mut tables.arguments,
+        standing,
+        node,
+    )
 }
 
 /// Walks over a tree that stands so.
 #[cycle(survey)]
-pub fn survey_node(tables: &mut Tables, standing: Standing, node: &Node) -> Result<(), OutOfMemory>
+pub fn survey_node(
+    alloc: Global,
+    tables: &mut Tables,
+    standing: Standing,
+    node: &Node,
+) -> Result<(), OutOfMemory>
     ensures { OnOk result (Surveyed (visits standing node.now) tables.old tables.new) }
 {
-    visit(tables, standing, node)?;
-    survey_children(tables, standing, node)
+    visit(alloc, tables, standing, node)?;
+    survey_children(alloc, tables, standing, node)
 }
 
 #[cycle(survey)]
-fn survey_children(tables: &mut Tables, standing: Standing, node: &Node) -> Result<(), OutOfMemory>
+fn survey_children(
+    alloc: Global,
+    tables: &mut Tables,
+    standing: Standing,
+    node: &Node,
+) -> Result<(), OutOfMemory>
     ensures { OnOk result (Surveyed (visits_from (below standing node.now) 0 (children node.now)) tables.old tables.new) }
 {
     let nodes = node.children();
     for at in 0..nodes.len() {
-        survey_node(tables, standing_below(standing, node, at), nodes.child(at))?;
+        survey_node(
+            alloc,
+            tables,
+            standing_below(standing, node, at),
+            nodes.child(at),
+        )?;
     }
     Ok(())
 }

@@ -1,29 +1,39 @@
 use Rattle.std.proofs.Common.{refl}
-use Rattle.mini_names.specs.ScopeList.{scopes_of, seen_in}
-use Rattle.mini_context.proofs.Told.{from_blank, owner_by, flags_by}
+use Rattle.mini_names.specs.ScopeList.{seen_by_eval}
+use Rattle.mini_names.specs.Shared.{program_var_writes}
+use Rattle.mini_context.proofs.Told.{from_blank, joined_blank}
 use Rattle.mini_context.proofs.scopes.Scopes.of.Goals as goal
 
 pub returns : goal.returns
 returns c =
     let n = c.args.symbols in
+    let t = c.args.program.now in
     let found = c.in_ok-tables.ensures in
-    let listed = c.in_ok-list_scopes.ensures in
-    let ss = scopes_of c.args.program.now in
-    let old = c.in_ok-scopes.scopes in
-    let new = c.list_scopes.new.tables in
+    let listed = c.in_ok-scopes.ensures in
     record {
       reads_told = c.in_ok-counts.ensures.reads;
       writes_told = c.in_ok-counts.ensures.writes;
       fixed_told = found.fixed_told;
       tops_told = from_blank n _ _ c.in_ok-tops.tops.items refl c.in_ok-tops.ensures;
-      owners_told = owner_by ss old.owners.items new.owners.items old.strict.items c.in_ok-scopes.ensures.owners c.in_ok-scopes.ensures.strict listed.owners;
-      seen_told = from_blank n (seen_in ss) old.seen.items new.seen.items c.in_ok-scopes.ensures.seen listed.seen;
-      strict_told = flags_by (λ r. r.strict) ss old.strict.items new.strict.items c.in_ok-scopes.ensures.strict listed.stricts;
-      evals_told = flags_by (λ r. r.evals) ss old.evals.items new.evals.items c.in_ok-scopes.ensures.evals listed.evals;
-      exchanged_told = found.exchanged_told;
-      reached_told = found.reached_told;
-      catches_told = found.catches_told;
-      mentioned_told = found.mentioned_told;
+      owners_told = listed.owners;
+      strict_told = listed.strict;
+      evals_told = listed.evals;
       this_told = found.this_told;
       arguments_told = found.arguments_told;
+      looked = record {
+        tops_told = from_blank n _ _ c.in_ok-now_top.now_top.items refl c.in_ok-now_top.ensures;
+        seen_told = from_blank n (seen_by_eval t) _ c.in_ok-scopes.scopes.seen.items refl listed.seen;
+        given_told = joined_blank n (program_var_writes t) _ c.in_ok-scopes.given.items refl listed.given;
+        exchanged_told = found.exchanged_told;
+        imported_told = found.imported_told;
+        reached_told = found.reached_told;
+        patterns_told = found.patterns_told;
+        lexical_told = found.lexical_told;
+        switched_told = found.switched_told;
+        params_told = found.params_told;
+        caught_told = found.caught_told;
+        mentioned_told = found.mentioned_told;
+        written_told = found.written_told;
+        homes_told = found.homes_told;
+      };
     }
