@@ -2,6 +2,8 @@ pub mod SpellAlike
 pub mod SpellSymmetry
 pub mod SpellMeaning
 pub mod SpellWeights
+pub mod SpellShapes
+pub mod SpellLawful
 pub mod ListStretches
 pub mod ListParts
 pub mod ListStatements

@@ -1,5 +1,6 @@
 //! The rows of spellings.
 
+ghost use Rattle.mini_kept.specs.Lawful.{Lawful};
 ghost use Rattle.mini_laws.specs.Rewritten.{MeansSame};
 ghost use Rattle.mini_laws.specs.Weights.{Lightens};
 ghost use Rattle.mini_rows.specs.Spellings.{SpellingContracts, SpellingsLighter};
@@ -13,4 +14,9 @@ pub fn spellings_mean_the_same()
 pub fn spellings_are_lighter()
     ensures row { SpellingsLighter }
     ensures step { Lightens SpellingContracts }
+{}
+
+/// What a row on a spelling writes keeps all that a program has to keep.
+pub fn spellings_are_lawful()
+    ensures { Lawful SpellingContracts }
 {}
