@@ -47,7 +47,7 @@ read_is : (u : Use) → is_read u ≡ true → u ≡ Read
 read_is Read e = refl
 read_is u e = absurd (cc e)
 
-expression_read : (s : Seat) (u : Use) (a : Tree) → Stands (Expr s) u (negation a) → u ≡ Read
+pub expression_read : (s : Seat) (u : Use) (a : Tree) → Stands (Expr s) u (negation a) → u ≡ Read
 expression_read s u a e = read_is u e
 
 choice_read : (s : Seat) (u : Use) (a b c : Tree) → Stands (Expr s) u (conditional a b c) → u ≡ Read
@@ -55,7 +55,7 @@ choice_read s u a b c e = read_is u e
 
 -- ---- two nodes that declare nothing around them
 
-quiet_kept : (n w : Tree) → IsQuiet n → IsQuiet w → has_inner w ≡ has_inner n → ((x : Option SymbolId) → times x (declared_in Read w) ≤ times x (declared_in Read n)) → Kept n w
+pub quiet_kept : (n w : Tree) → IsQuiet n → IsQuiet w → has_inner w ≡ has_inner n → ((x : Option SymbolId) → times x (declared_in Read w) ≤ times x (declared_in Read n)) → Kept n w
 quiet_kept n w q r i s = record {
   names = λ d. no_names d w r ∙ sym (no_names d n q);
   body = no_body_names w r ∙ sym (no_body_names n q);
@@ -63,7 +63,7 @@ quiet_kept n w q r i s = record {
   symbols = λ u x. omega (arith, s x, ap (times x) (same_symbols u w r), ap (times x) (same_symbols u n q));
 }
 
-both_as_body : (b : Bool) (q : Path) (n w : Tree) → IsQuiet n → IsQuiet w → body_declarations b q w ≡ body_declarations b q n
+pub both_as_body : (b : Bool) (q : Path) (n w : Tree) → IsQuiet n → IsQuiet w → body_declarations b q w ≡ body_declarations b q n
 both_as_body b q n w x y = no_body_declarations b q w y ∙ sym (no_body_declarations b q n x)
 
 -- ---- 23
@@ -80,7 +80,7 @@ negation_inner : (s : Seat) (e : Tree) → has_inner (neg s e) ≡ has_inner (ne
 unfolding has_inner
 negation_inner s e = inner_negated s e ∙ sym (or_none (has_inner e))
 
-operand_scoped : (env : Environment) (e : Tree) → Scoped Read env (negation e) → Scoped Read env e
+pub operand_scoped : (env : Environment) (e : Tree) → Scoped Read env (negation e) → Scoped Read env e
 unfolding Scoped scopes_by
 operand_scoped env e r = moved Read (env ++ []) env e (append-nil env) r.1.0
 
@@ -88,11 +88,11 @@ negation_numbers : (k : ℕ) (s : Seat) (e : Tree) → count_of k (numbers (neg 
 unfolding numbers
 negation_numbers k s e = omega (arith, numbers_negated k s e, both_counts k (numbers e) [])
 
-operand_once : (q : Path) (e : Tree) → early_names q (negation e) ≡ [] → early_names q e ≡ []
+pub operand_once : (q : Path) (e : Tree) → early_names q (negation e) ≡ [] → early_names q e ≡ []
 unfolding early_names scope_declarations
 operand_once q e r = once_anywhere (q ++ 0 ∷ []) q e (empty_both (early_names (q ++ 0 ∷ []) e) [] r).0
 
-operand_targets : (g : Targets) (q : Path) (e : Tree) → early_jumps g q (negation e) ≡ [] → early_jumps g q e ≡ []
+pub operand_targets : (g : Targets) (q : Path) (e : Tree) → early_jumps g q (negation e) ≡ [] → early_jumps g q e ≡ []
 unfolding early_jumps targets_of
 operand_targets g q e r = targets_anywhere g (q ++ 0 ∷ []) q e (empty_both (early_jumps g (q ++ 0 ∷ []) e) [] r).0
 
@@ -132,13 +132,13 @@ swapped_numbers k a b c =
       both_counts k (numbers c) [],
     )
 
-three_empty : {A : Type 0} (xs ys zs : List A) → xs ++ (ys ++ (zs ++ [])) ≡ [] → (xs ≡ []) × (ys ≡ []) × (zs ≡ [])
+pub three_empty : {A : Type 0} (xs ys zs : List A) → xs ++ (ys ++ (zs ++ [])) ≡ [] → (xs ≡ []) × (ys ≡ []) × (zs ≡ [])
 three_empty xs ys zs e =
     let (x, r) = empty_both xs (ys ++ (zs ++ [])) e in
     let (y, t) = empty_both ys (zs ++ []) r in
     (x, y, (empty_both zs [] t).0)
 
-empty_three : {A : Type 0} (xs ys zs : List A) → xs ≡ [] → ys ≡ [] → zs ≡ [] → xs ++ (ys ++ (zs ++ [])) ≡ []
+pub empty_three : {A : Type 0} (xs ys zs : List A) → xs ≡ [] → ys ≡ [] → zs ≡ [] → xs ++ (ys ++ (zs ++ [])) ≡ []
 empty_three xs ys zs x y z = both_empty xs (ys ++ (zs ++ [])) x (both_empty ys (zs ++ []) y (both_empty zs [] z refl))
 
 swapped_once : (q : Path) (a b c : Tree) → early_names q (conditional (negation a) b c) ≡ [] → early_names q (conditional a c b) ≡ []

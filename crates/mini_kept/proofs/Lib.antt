@@ -26,6 +26,7 @@ pub mod Anywhere
 pub mod Negating
 pub mod Quiet
 pub mod Instances
+pub mod Swapping
 pub mod Whole
 pub mod BodyLists
 pub mod BodyPlaces

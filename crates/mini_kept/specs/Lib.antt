@@ -19,3 +19,4 @@ pub mod FrameLaws
 pub mod Declaring
 pub mod KeepsShapes
 pub mod Lawful
+pub mod Swaps

@@ -6,6 +6,7 @@
 ghost use Rattle.mini_kept.specs.Kept.{EachBelowKept, EachKept, ReachesWellShaped, StepFits};
 ghost use Rattle.mini_kept.specs.KeepsShapes.{AnyStepFits, AnyReachesWellShaped};
 ghost use Rattle.mini_kept.specs.Lawful.{LawfulKeeps, LawfulJoin, LawfulNarrowed, RowsAreLawful};
+ghost use Rattle.mini_kept.specs.Swaps.{BranchesSwapped, NegationLeft};
 ghost use Rattle.mini_kept.specs.Lifted.{RowsKeepNames, ReachesKeepsNames};
 ghost use Rattle.mini_kept.specs.NameLaws.{ResolvedRenumbered, NumbersCarried, ProgramCarried};
 ghost use Rattle.mini_kept.specs.Fixities.{ReachesKeepsFixities, RowsKeepFixities, ProgramKeepsFixities};
@@ -123,4 +124,11 @@ pub fn lawful_rules_narrowed<R: Rewrites, S: Rewrites>()
 /// What the rows make is lawful.
 pub fn rows_are_lawful()
     ensures { RowsAreLawful }
+{}
+
+/// `if (!a) s; else u;` may become `if (a) u; else s;`: each name keeps its symbol, though what `var` hoists in the two is
+/// declared in another order.
+pub fn branches_swapped()
+    ensures swapped { BranchesSwapped }
+    ensures test { NegationLeft }
 {}
