@@ -54,7 +54,7 @@ undeclared (shape.Class true) e = absurd (cc e)
 undeclared (shape.Class false) e = refl
 undeclared h e = refl
 
-no_piece : (h : Head) → is_piece (shape_by h) ≡ false
+pub no_piece : (h : Head) → is_piece (shape_by h) ≡ false
 no_piece AList = refl
 no_piece h = refl
 
@@ -107,7 +107,7 @@ not_list : (h : Head) → is_expression_head h ≡ true → is_no_list h ≡ tru
 not_list AList e = absurd (cc e)
 not_list h e = refl
 
-no_method : (strict : Bool) (h : Head) → slots_of strict a_method (shape_by h) ≡ None
+pub no_method : (strict : Bool) (h : Head) → slots_of strict a_method (shape_by h) ≡ None
 no_method strict AList = refl
 no_method strict h = refl
 

@@ -29,7 +29,7 @@ of_variables : (k : VariableDeclarationKind) → is_unscoped_shape (shape.Variab
 of_variables Var e = refl
 of_variables k e = absurd (cc e)
 
-unscoped_nowhere : (h : Shape) → is_unscoped_shape h ≡ true → place_of declared.Lexical h ≡ place.Nowhere
+pub unscoped_nowhere : (h : Shape) → is_unscoped_shape h ≡ true → place_of declared.Lexical h ≡ place.Nowhere
 unscoped_nowhere shape.Listed e = absurd (cc e)
 unscoped_nowhere shape.SwitchCase e = absurd (cc e)
 unscoped_nowhere shape.ImportDeclaration e = absurd (cc e)

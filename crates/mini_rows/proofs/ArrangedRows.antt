@@ -1,18 +1,41 @@
 -- Rows that build anew.
 use Rattle.std.specs.Prelude.{refl, []}
+use Rattle.mini_model.specs.declared.operator.LogicalOperator.TheVariants.{And}
 use Rattle.mini_model.specs.declared.operator.UnaryOperator.TheVariants.{LogicalNot}
 use Rattle.mini_model.specs.Tree.{none, ◌▸◌}
-use Rattle.mini_rows.specs.Sketches.{Unary, Conditional, Sketch, part, under, end, ◌▹◌}
-use Rattle.mini_rows.specs.Arranged.{Row40Kept}
+use Rattle.mini_rows.specs.Sketches.{AbsentPart, Unary, Logical, Conditional, OfExpression, If, Sketch, part, under, end, ◌▹◌, still}
+use Rattle.mini_rows.specs.Arranged.{Row40Kept, Row82ElseKept, Row82AndKept}
 use Rattle.mini_rows.proofs.ArrangedExpressions.{expressions_arranged}
+use Rattle.mini_rows.proofs.ArrangedStatements.{statements_arranged}
+
+abbrev does : Sketch → Sketch
+does s = under OfExpression (s ▹ end)
 
 -- 40
-negated_test : Sketch
+abbrev negated_test : Sketch
 negated_test = under Conditional (under (Unary LogicalNot) (part 0 ▹ end) ▹ part 1 ▹ part 2 ▹ end)
 
-turned : Sketch
+abbrev turned : Sketch
 turned = under Conditional (part 0 ▹ part 2 ▹ part 1 ▹ end)
 
 pub row_40_kept : Row40Kept
-unfolding negated_test turned
 row_40_kept q n w r = expressions_arranged (record { trees = r.a ▸ r.b ▸ r.c ▸ none; lists = [] }) negated_test turned refl q n w r.shape r.written
+
+-- 82
+abbrev chosen : Sketch
+chosen = under If (part 0 ▹ does (part 1) ▹ does (part 2) ▹ end)
+
+abbrev choice : Sketch
+choice = does (under Conditional (part 0 ▹ part 1 ▹ part 2 ▹ end))
+
+pub row_82_else_kept : Row82ElseKept
+row_82_else_kept q n w r = statements_arranged still (record { trees = r.a ▸ r.b ▸ r.c ▸ none; lists = [] }) (tt, tt, tt) chosen choice refl q n w r.shape r.written
+
+abbrev guarded : Sketch
+guarded = under If (part 0 ▹ does (part 1) ▹ under AbsentPart end ▹ end)
+
+abbrev joined : Sketch
+joined = does (under (Logical And) (part 0 ▹ part 1 ▹ end))
+
+pub row_82_and_kept : Row82AndKept
+row_82_and_kept q n w r = statements_arranged still (record { trees = r.a ▸ r.b ▸ none; lists = [] }) (tt, tt, tt) guarded joined refl q n w r.shape r.written

@@ -24,5 +24,8 @@ pub mod ArrangedPlain
 pub mod ArrangedUses
 pub mod ArrangedTrees
 pub mod ArrangedExpressions
-pub mod ArrangedRows
 pub mod ArrangedLawful
+pub mod ArrangedGather
+pub mod ArrangedFolds
+pub mod ArrangedStatements
+pub mod ArrangedRows

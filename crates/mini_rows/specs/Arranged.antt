@@ -2,10 +2,11 @@
 use Rattle.std.specs.Prelude.{ℕ, ◌≡◌, List, [], ◌∷◌, Bool, true, false, Contains, None}
 use Rattle.mini_model.specs.declared.name.Name.{Name}
 use Rattle.mini_model.specs.declared.place.Position.{Position}
-use Rattle.mini_model.specs.declared.place.Position.TheVariants.{Expr, StatementList}
+use Rattle.mini_model.specs.declared.place.Position.TheVariants.{Expr, Stmt, StatementList}
 use Rattle.mini_model.specs.declared.seat.Seat.{Seat}
-use Rattle.mini_model.specs.Tree.{Tree, Trees, shape_of, children, child_or_absent}
-use Rattle.mini_model.specs.Redex.{Row40}
+use Rattle.mini_model.specs.declared.seat.StmtSeat.{StmtSeat}
+use Rattle.mini_model.specs.Tree.{Tree, Trees, listed, shape_of, children, child_or_absent}
+use Rattle.mini_model.specs.Redex.{Row40, Row82Else, Row82And}
 use Rattle.mini_accept.specs.WellShaped.{Depth, a_statement, a_default_export, Slot, one, many, fits}
 use Rattle.mini_names.specs.DeclaredNames.{has_inner}
 use Rattle.mini_meaning.specs.Value.{Variable}
@@ -24,7 +25,7 @@ use Rattle.mini_kept.specs.Lifted.{is_piece}
 use Rattle.mini_kept.specs.Placed.{fits_place}
 use Rattle.mini_kept.specs.Standing.{Stands}
 use Rattle.mini_rows.specs.Lists.{is_unscoped, are_unscoped}
-use Rattle.mini_rows.specs.Sketches.{Sketch, Parts, list_at, filled, Free, rearranges_expression}
+use Rattle.mini_rows.specs.Sketches.{Sketch, Items, Parts, list_at, filled, items_filled, Free, rearranges_expression, rearranges_statement, rearranges_list}
 
 -- of one node and what is written for it: what a lawful relation keeps of it
 pub record KeptAt (p : Position) (n w : Tree) : Type 0 where
@@ -68,9 +69,26 @@ abbrev pub ExpressionsArranged : Type 0
 ExpressionsArranged =
     (f : Free) (ps : Parts) → AreFree ps f → (s r : Sketch) → rearranges_expression f s r ≡ true → (q : Seat) (n w : Tree) → n ≡ filled ps s → w ≡ filled ps r → KeptAt (Expr q) n w
 
+-- a statement that is built anew of the parts of another, which keep their order where they declare names
+abbrev pub StatementsArranged : Type 0
+StatementsArranged =
+    (f : Free) (ps : Parts) → AreFree ps f → (s r : Sketch) → rearranges_statement f s r ≡ true → (q : StmtSeat) (n w : Tree) → n ≡ filled ps s → w ≡ filled ps r → KeptAt (Stmt q) n w
+
+-- and a list of statements
+abbrev pub ListsArranged : Type 0
+ListsArranged =
+    (f : Free) (ps : Parts) → AreFree ps f → (is js : Items) → rearranges_list f is js ≡ true → (n w : Tree) → n ≡ listed (items_filled ps is) → w ≡ listed (items_filled ps js) → KeptAt StatementList n w
+
 -- so is what the row 40 writes, `a ? c : b` for `!a ? b : c`
 abbrev pub Row40Kept : Type 0
 Row40Kept = (q : Seat) (n w : Tree) → Row40 n w → KeptAt (Expr q) n w
+
+-- and what the row 82 writes: `a ? b : c;` for `if (a) b; else c;`, and `a && b;` for `if (a) b;`
+abbrev pub Row82ElseKept : Type 0
+Row82ElseKept = (q : StmtSeat) (n w : Tree) → Row82Else n w → KeptAt (Stmt q) n w
+
+abbrev pub Row82AndKept : Type 0
+Row82AndKept = (q : StmtSeat) (n w : Tree) → Row82And n w → KeptAt (Stmt q) n w
 
 -- a relation is lawful if each of its instances is kept, means the same and keeps its shape, where it is made at expressions,
 -- statements and lists of statements, in the slots where a body has them

@@ -373,16 +373,25 @@ abbrev mutual
   items_stand_well f c (item s is) = stands_well f c s && items_stand_well f c is
   items_stand_well f c (items i is) = are_loose f c i && items_stand_well f c is
 
--- ---- the statements among the parts, in order
+-- ---- the parts that may declare names around, in order
 
-abbrev pub is_statement_hole : Hole → Bool
-is_statement_hole (Part i c) = is_statement_asked c
-is_statement_hole (Stretch i c) = is_statement_asked c
-is_statement_hole (Leaps l) = false
+abbrev pub is_declaring : Asked → Bool
+is_declaring AsWhole = true
+is_declaring AsWholeList = true
+is_declaring AsWholeItem = true
+is_declaring AsBranch = true
+is_declaring AsItems = true
+is_declaring AsItem = true
+is_declaring c = false
+
+abbrev pub is_declaring_hole : Hole → Bool
+is_declaring_hole (Part i c) = is_declaring c
+is_declaring_hole (Stretch i c) = is_declaring c
+is_declaring_hole (Leaps l) = false
 
 abbrev pub statements : List Hole → List Hole
 statements [] = []
-statements (h ∷ hs) = if is_statement_hole h then h ∷ statements hs else statements hs
+statements (h ∷ hs) = if is_declaring_hole h then h ∷ statements hs else statements hs
 
 abbrev pub are_same_holes : List Hole → List Hole → Bool
 are_same_holes [] [] = true

@@ -1,6 +1,6 @@
 //! What is built anew of the same parts.
 
-ghost use Rattle.mini_rows.specs.Arranged.{ExpressionsArranged, Row40Kept, KeptIsLawful};
+ghost use Rattle.mini_rows.specs.Arranged.{ExpressionsArranged, StatementsArranged, ListsArranged, Row40Kept, Row82ElseKept, Row82AndKept, KeptIsLawful};
 
 use mini_laws::Rewrites;
 
@@ -9,6 +9,14 @@ use mini_laws::Rewrites;
 pub fn expressions_arranged()
     ensures any { ExpressionsArranged }
     ensures row_40 { Row40Kept }
+{}
+
+/// So does a statement, and a list of statements, whose parts that declare names keep their order.
+pub fn statements_arranged()
+    ensures any { StatementsArranged }
+    ensures lists { ListsArranged }
+    ensures row_82_else { Row82ElseKept }
+    ensures row_82_and { Row82AndKept }
 {}
 
 /// A relation is lawful if each of its instances is kept, means the same and keeps its shape.
