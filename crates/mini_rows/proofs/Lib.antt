@@ -4,6 +4,8 @@ pub mod SpellMeaning
 pub mod SpellWeights
 pub mod SpellShapes
 pub mod SpellLawful
+pub mod SpellKeyMeaning
+pub mod SpellKeyWeights
 pub mod ListStretches
 pub mod ListParts
 pub mod ListStatements

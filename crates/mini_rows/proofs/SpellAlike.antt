@@ -59,7 +59,7 @@ run_kids e names (kid i r k) K L h s =
 by_summaries : (e : Environment) (h : Shape) (xs : List Name) (n : ℕ) (K : (i : ℕ) (q : Demand) (r : Request q) → State → Completion (Reply q r)) (q : Demand) (r : Request q) (s : State) → List Summary → Completion (Reply q r)
 by_summaries e h xs n K q r s is = run e (naming h q (variables xs) n is) (λ i r' z. K i (demand h (facts_all is) q i) r' z) (step h (kinds xs) (facts_all is) q r) s
 
-kids_same : (h : Shape) (xs : List Name) (n : ℕ) (ts us : Trees) → summaries ts ≡ summaries us → ((e : Environment) (i : ℕ) (q : Demand) (r : Request q) (s : State) → meaning e ts i q r s ≡ meaning e us i q r s) → SameTree (node h xs n ts) (node h xs n us)
+pub kids_same : (h : Shape) (xs : List Name) (n : ℕ) (ts us : Trees) → summaries ts ≡ summaries us → ((e : Environment) (i : ℕ) (q : Demand) (r : Request q) (s : State) → meaning e ts i q r s ≡ meaning e us i q r s) → SameTree (node h xs n ts) (node h xs n us)
 unfolding means by_summaries
 kids_same h xs n ts us u k = record {
   by = λ e q r s. ap (by_summaries e h xs n (meaning e ts) q r s) u ∙ run_kids e (naming h q (variables xs) n (summaries us)) (step h (kinds xs) (facts_all (summaries us)) q r) _ _ (λ i r' z. k e i (demand h (facts_all (summaries us)) q i) r' z) s;

@@ -30,7 +30,7 @@ use Rattle.mini_rows.specs.Spellings.{numeral, text, key, boolean, big_int, temp
 use Rattle.mini_rows.proofs.SpellAlike.{SameTree, Alike, bind_alike, choose_alike, valued_alike, run_kids, first_same}
 use Rattle.mini_rows.proofs.SpellSymmetry.{strictly_sym, loosely_sym}
 
-tree_same : (s : Seat) (n w : Tree) → SameTree n w → SameAt (Expr s) n w
+pub tree_same : (s : Seat) (n w : Tree) → SameTree n w → SameAt (Expr s) n w
 tree_same s n w h = equal_same (Expr s) n w (record { by = λ e q f r z. h.by e q r z })
 
 -- 65
@@ -125,7 +125,7 @@ module _ (o : Tree) (n : ℤ) where
   number_same : SameTree (computed_member false o (text (signed_decimal n))) (computed_member false o (numeral n))
   number_same = record { by = number_does; read = refl }
 
-same_by : (n w a b : Tree) → n ≡ a → w ≡ b → SameTree a b → SameTree n w
+pub same_by : (n w a b : Tree) → n ≡ a → w ≡ b → SameTree a b → SameTree n w
 same_by n w a b e f h = subst (λ x. SameTree x w) (sym e) (subst (λ x. SameTree a x) (sym f) h)
 
 member_same : (n w : Tree) → Row33 n w → SameTree n w

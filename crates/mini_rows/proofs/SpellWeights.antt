@@ -69,7 +69,7 @@ number_falls s o n = let same = computed_marks s false o (numeral n) (text (sign
 number_falls_as_target : (o : Tree) (n : ℤ) → weight Target (computed_member false o (numeral n)) < weight Target (computed_member false o (text (signed_decimal n)))
 number_falls_as_target o n = omega (arith, numeral_weighs n)
 
-falls_by : (p : Position) (n w a b : Tree) → n ≡ a → w ≡ b → weight p b < weight p a → weight p w < weight p n
+pub falls_by : (p : Position) (n w a b : Tree) → n ≡ a → w ≡ b → weight p b < weight p a → weight p w < weight p n
 falls_by p n w a b e f l = subst (λ x. weight p w < weight p x) (sym e) (subst (λ x. weight p x < weight p a) (sym f) l)
 
 member_falls : (s : Seat) (n w : Tree) → Row33 n w → weight (Expr s) w < weight (Expr s) n

@@ -1,5 +1,6 @@
 pub mod Switches
 pub mod Spellings
+pub mod SpellKeys
 pub mod Lists
 pub mod ListLaws
 pub mod Branches
