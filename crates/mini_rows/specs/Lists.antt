@@ -208,6 +208,7 @@ pub record Row73 (jump : Tree → Tree) (a b : Trees) : Type 0 where
   pub test : Tree
   pub left : Tree
   pub right : Tree
+  pub whole : (left ≡ absent) ⊎ (is_absent left ≡ false)
   pub present : is_absent right ≡ false
   pub short : has_alternates 500 right ≡ false
   pub shape : a ≡ if_alone test (jump left) ▸ (jump right ▸ none)
