@@ -76,7 +76,7 @@ chosen : (P : Tree → Type 0) (b : Bool) (t u : Tree) → P t → P u → P (if
 chosen P true t u x y = x
 chosen P false t u x y = y
 
-not_of_bodies : (strict : Bool) (a : Around) (s : Seat) (t : Tree) → a.constructs ≡ false → fits strict expression t ≡ true → BodiesKept (bodies (quiet a) t) (bodies a (not_of s t))
+pub not_of_bodies : (strict : Bool) (a : Around) (s : Seat) (t : Tree) → a.constructs ≡ false → fits strict expression t ≡ true → BodiesKept (bodies (quiet a) t) (bodies a (not_of s t))
 not_of_bodies strict a s t k e =
     chosen (λ u. BodiesKept (bodies (quiet a) t) (bodies a u)) (nat_lt (weight (Expr s) (negation t)) (weight (Expr s) (neg s t))) (negation t) (neg s t)
     (of_one (bodies (quiet a) t) (bodies (quiet a) t) (kept_itself (bodies (quiet a) t))) (negated_bodies strict a t s k e)

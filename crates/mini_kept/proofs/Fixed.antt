@@ -56,7 +56,7 @@ both_writable : (b : Bool) → choose b Writable Writable ≡ Writable
 both_writable true = refl
 both_writable false = refl
 
-of_children : (h : Shape) (xs : List Name) (n : ℕ) (ts : Trees) (x : Variable) → fixity_by h ≡ Writable → fixed_by (node h xs n ts) x ≡ fixed_by_any ts x
+pub of_children : (h : Shape) (xs : List Name) (n : ℕ) (ts : Trees) (x : Variable) → fixity_by h ≡ Writable → fixed_by (node h xs n ts) x ≡ fixed_by_any ts x
 of_children h xs n ts x e =
     let b = is_in x (declared_by h (summaries ts)) in
     ap (λ f. stricter (choose b f Writable) (fixed_by_any ts x)) e ∙ ap (λ f. stricter f (fixed_by_any ts x)) (both_writable b)
@@ -103,7 +103,7 @@ mutual
   of_neg_each σ none x = refl
   of_neg_each σ (t ▸ ts) x = λ i. stricter (of_neg (σ zero) t x i) (of_neg_each (λ j. σ (suc j)) ts x i)
 
-of_not : (s : Seat) (a : Tree) (x : Variable) → fixed_by (not_of s a) x ≡ fixed_by a x
+pub of_not : (s : Seat) (a : Tree) (x : Variable) → fixed_by (not_of s a) x ≡ fixed_by a x
 of_not s a x = go (nat_lt (weight (Expr s) (negation a)) (weight (Expr s) (neg s a)))
   where
     go : (b : Bool) → fixed_by (if b then negation a else neg s a) x ≡ fixed_by a x
@@ -112,16 +112,16 @@ of_not s a x = go (nat_lt (weight (Expr s) (negation a)) (weight (Expr s) (neg s
 
 -- ---- rows
 
-of_statement : (a : Tree) (x : Variable) → fixed_by (expression_statement a) x ≡ fixed_by a x
+pub of_statement : (a : Tree) (x : Variable) → fixed_by (expression_statement a) x ≡ fixed_by a x
 of_statement a x = of_one shape.ExpressionStatement [] 0 a x refl
 
 of_conditional : (a b c : Tree) (x : Variable) → fixed_by (conditional a b c) x ≡ stricter (fixed_by a x) (stricter (fixed_by b x) (stricter (fixed_by c x) Writable))
 of_conditional a b c x = of_children shape.ConditionalExpression [] 0 (a ▸ (b ▸ (c ▸ none))) x refl
 
-of_if : (a b c : Tree) (x : Variable) → fixed_by (if_else a b c) x ≡ stricter (fixed_by a x) (stricter (fixed_by b x) (stricter (fixed_by c x) Writable))
+pub of_if : (a b c : Tree) (x : Variable) → fixed_by (if_else a b c) x ≡ stricter (fixed_by a x) (stricter (fixed_by b x) (stricter (fixed_by c x) Writable))
 of_if a b c x = of_children shape.IfStatement [] 0 (a ▸ (b ▸ (c ▸ none))) x refl
 
-of_absent : (x : Variable) → fixed_by absent x ≡ Writable
+pub of_absent : (x : Variable) → fixed_by absent x ≡ Writable
 of_absent x = of_children shape.Absent [] 0 none x refl
 
 turned : (a b c : Tree) (x : Variable) → fixed_by (conditional (negation a) b c) x ≡ fixed_by (conditional a c b) x

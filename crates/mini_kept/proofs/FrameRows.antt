@@ -66,7 +66,7 @@ chosen : (P : Tree → Type 0) (b : Bool) (t u : Tree) → P t → P u → P (if
 chosen P true t u x y = x
 chosen P false t u x y = y
 
-not_of_frames : (strict : Bool) (s : Seat) (t : Tree) → fits strict expression t ≡ true → In (not_of s t) ≡ In t
+pub not_of_frames : (strict : Bool) (s : Seat) (t : Tree) → fits strict expression t ≡ true → In (not_of s t) ≡ In t
 not_of_frames strict s t e = chosen (λ u. In u ≡ In t) (nat_lt (weight (Expr s) (negation t)) (weight (Expr s) (neg s t))) (negation t) (neg s t) (append-nil (In t)) (negated_frames strict t s e)
 
 -- ---- rows

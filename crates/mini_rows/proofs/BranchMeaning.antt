@@ -23,9 +23,10 @@ use Rattle.mini_laws.proofs.Truth.{coherent}
 use Rattle.mini_laws.proofs.Rows.{equal_same, not_equal}
 use Rattle.mini_laws.proofs.Stretching.{listed_one}
 use Rattle.mini_laws.proofs.Tailing.{finished, finish_none, tail_same}
-use Rattle.mini_rows.specs.Lists.{block, return_statement, void_zero, is_unscoped}
+use Rattle.mini_rows.specs.Lists.{block, return_statement, is_unscoped}
+use Rattle.mini_rows.specs.Spellings.{void_zero, IsUndefined}
 use Rattle.mini_rows.proofs.ListStatements.{expression_is, if_is, absent_is, empty_is, one_unscoped, read_nothing, block_is}
-use Rattle.mini_rows.specs.Branches.{IsUndefined, IsEmpty, has_else, as_consequent}
+use Rattle.mini_rows.specs.Branches.{IsEmpty, has_else, as_consequent}
 
 -- statements that do the same in any environment and any tail, with any labels, and are read alike
 pub record SameStatement (n w : Tree) : Type 0 where

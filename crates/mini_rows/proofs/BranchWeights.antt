@@ -16,7 +16,8 @@ use Rattle.mini_model.specs.Terms.{neg, not_of}
 use Rattle.mini_laws.specs.Weights.{Lightens}
 use Rattle.mini_laws.proofs.Seats.{placed, moved}
 use Rattle.mini_rows.specs.Lists.{block, return_statement, is_unscoped}
-use Rattle.mini_rows.specs.Branches.{IsUndefined, IsEmpty, has_else, is_other_branch, as_consequent, Surrounding, Consequent, Alternate, WhileBody, DoBody, ForBody, InBody, OfBody, around, keeps_block, conjunct_seat, Row82Empty, Row83, BranchRow, BranchContracts, BranchLighter}
+use Rattle.mini_rows.specs.Spellings.{IsUndefined}
+use Rattle.mini_rows.specs.Branches.{IsEmpty, has_else, is_other_branch, as_consequent, Surrounding, Consequent, Alternate, WhileBody, DoBody, ForBody, InBody, OfBody, around, keeps_block, conjunct_seat, Row82Empty, Row83, BranchRow, BranchContracts, BranchLighter}
 
 -- this much, where it is not so
 abbrev unless : Bool → ℕ → ℕ

@@ -31,3 +31,7 @@ pub mod ArrangedGather
 pub mod ArrangedFolds
 pub mod ArrangedStatements
 pub mod ArrangedRows
+pub mod BranchInside
+pub mod BranchAround
+pub mod BranchParts
+pub mod BranchLawful

@@ -1,23 +1,20 @@
 -- Rows of `if`, of blocks as branches and as bodies of loops, and of `return` without a value: each is a shape and what is
 -- written in its place, with the JavaScript before and after.
-use Rattle.std.specs.Prelude.{◌≡◌, ◌⊎◌, ◌<◌, Bool, true, false, not, [], codes, if◌then◌else◌}
+use Rattle.std.specs.Prelude.{◌≡◌, ◌⊎◌, ◌<◌, Bool, true, false, not, [], if◌then◌else◌}
 use Rattle.mini_model.specs.declared.operator.LogicalOperator.TheVariants.{Or, And}
 use Rattle.mini_model.specs.declared.place.Position.{Position}
 use Rattle.mini_model.specs.declared.place.Position.TheVariants.{Stmt}
 use Rattle.mini_model.specs.declared.seat.Seat.{Seat}
 use Rattle.mini_model.specs.declared.shape.Shape.{Shape}
 use Rattle.mini_model.specs.declared.shape.Shape.TheVariants as shape
-use Rattle.mini_model.specs.Tree.{Tree, node, none, ◌▸◌, shape_of, is_absent, absent, unresolved, identifier, empty_statement, expression_statement, if_else, if_alone, logical}
+use Rattle.mini_model.specs.Tree.{Tree, node, none, ◌▸◌, shape_of, is_absent, absent, empty_statement, expression_statement, if_else, if_alone, logical}
 use Rattle.mini_model.specs.Position.{if_test_seat, left_operand_seat, statement_expression_seat}
 use Rattle.mini_model.specs.Weight.{weight}
 use Rattle.mini_model.specs.Terms.{not_of, has_negated_result}
-use Rattle.mini_rows.specs.Lists.{block, return_statement, void_zero, is_unscoped}
+use Rattle.mini_rows.specs.Lists.{block, return_statement, is_unscoped}
+use Rattle.mini_rows.specs.Spellings.{IsUndefined}
 
 -- ---- terms
-
--- `undefined` where no scope declares it, and `void 0`
-abbrev pub IsUndefined : Tree → Type 0
-IsUndefined v = (v ≡ identifier (unresolved (codes "undefined"))) ⊎ (v ≡ void_zero)
 
 -- `;` and `{}`
 abbrev pub IsEmpty : Tree → Type 0

@@ -2,6 +2,7 @@
 
 ghost use Rattle.mini_laws.specs.Rewritten.{MeansSame};
 ghost use Rattle.mini_laws.specs.Weights.{Lightens};
+ghost use Rattle.mini_kept.specs.Lawful.{Lawful};
 ghost use Rattle.mini_rows.specs.Branches.{BranchContracts, BranchLighter};
 
 /// What each row writes means the same in every demand that fits its place, and is read alike.
@@ -14,4 +15,9 @@ pub fn branches_same()
 pub fn branches_lighten()
     ensures lighter { BranchLighter }
     ensures anywhere { Lightens BranchContracts }
+{}
+
+/// What each row writes keeps all that a program has to keep.
+pub fn branches_are_lawful()
+    ensures { Lawful BranchContracts }
 {}

@@ -7,4 +7,4 @@ mod branches;
 mod lists;
 mod spellings;
 
-pub use branches::{branches_lighten, branches_same};
+pub use branches::{branches_are_lawful, branches_lighten, branches_same};

@@ -1,0 +1,455 @@
+-- What the rows write is lawful.
+use Rattle.std.specs.Prelude.{ℕ, ◌≡◌, refl, ◌&&◌, Bool, true, false, List, None, if◌then◌else◌}
+use Rattle.std.proofs.Common.{◌∙◌, sym, subst, inl, inr}
+use Rattle.std.proofs.lemmas.Bool.{and_parts}
+use Rattle.mini_model.specs.declared.name.Name.{Name}
+use Rattle.mini_model.specs.declared.operator.LogicalOperator.{LogicalOperator}
+use Rattle.mini_model.specs.declared.operator.LogicalOperator.TheVariants.{Or, And}
+use Rattle.mini_model.specs.declared.place.Position.{Position}
+use Rattle.mini_model.specs.declared.place.Position.TheVariants.{Stmt}
+use Rattle.mini_model.specs.declared.seat.StmtSeat.{StmtSeat}
+use Rattle.mini_model.specs.declared.shape.Shape.{Shape}
+use Rattle.mini_model.specs.declared.shape.Shape.TheVariants as shape
+use Rattle.mini_model.specs.Tree.{Tree, Trees, node, none, ◌▸◌, shape_of, is_absent, absent, expression_statement, if_else, if_alone, logical}
+use Rattle.mini_model.specs.Position.{if_test_seat}
+use Rattle.mini_model.specs.Terms.{not_of}
+use Rattle.mini_accept.specs.WellShaped.{Class, a_statement, a_key, a_private_or_key, an_inner_key, a_loop_left, an_expression, an_init, Slot, one, one_or_absent, many, many_or_holes, many_and_rest, many_or_holes_and_rest, quasis, refused, filling, fits, is_function_body, spelling, spelling_by, has_optional, has_optional_by, is_not_positive_number}
+use Rattle.mini_kept.specs.KeepsFrames.{is_in_body, is_body_slot}
+use Rattle.mini_kept.specs.KeepsNames.{is_rewritten_place}
+use Rattle.mini_kept.specs.KeepsShapes.{is_default, AskedAlike}
+use Rattle.mini_kept.specs.Lawful.{Lawful}
+use Rattle.mini_kept.proofs.Bools.{left, both}
+use Rattle.mini_kept.proofs.Expressions.{expression, refused_here, not_of_fits, two_fit}
+use Rattle.mini_kept.proofs.Quiet.{expression_is_quiet}
+use Rattle.mini_kept.proofs.Rows.{statement, last_statement, TakesStatementIn, TakesStatement, IfFits, of_if, of_last_statement}
+use Rattle.mini_rows.specs.Arranged.{KeptAt}
+use Rattle.mini_rows.specs.Lists.{block, return_statement, is_unscoped}
+use Rattle.mini_rows.specs.Spellings.{IsUndefined}
+use Rattle.mini_rows.specs.Branches.{IsEmpty, has_else, is_other_branch, as_consequent, Surrounding, Consequent, Alternate, WhileBody, DoBody, ForBody, InBody, OfBody, around, conjunct_seat, Row82Empty, Row83, BranchRow, BranchContracts}
+use Rattle.mini_rows.proofs.ArrangedLawful.{kept_is_lawful}
+use Rattle.mini_rows.proofs.BranchInside.{Inside, unwrapped_inside, wrapped_inside}
+use Rattle.mini_rows.proofs.BranchAround.{is_plain, Core, Said, core_kept, around_core, around_said, around_plain}
+use Rattle.mini_rows.proofs.BranchParts.{Value, core_then, said_then, value_itself, said_itself, value_not, said_not, empty_is_idle, turned_core, turned_said, chosen_core, chosen_said, tested_core, tested_said, nested_core, nested_said, returned_core, returned_said}
+use Rattle.mini_rows.proofs.BranchSame.{branches_same}
+
+else_unscoped : (c : Tree) → has_else c ≡ true → is_unscoped c ≡ true
+else_unscoped (node shape.IfStatement xs n ts) h = refl
+else_unscoped c h = absurd (cc h)
+
+-- ---- where these statements stand
+
+in_return : (strict : Bool) (k : Class) (xs : List Name) (n : ℕ) (ts : Trees) → fits strict (one k) (node shape.ReturnStatement xs n ts) ≡ true → TakesStatementIn k
+in_return strict (a_statement d) xs n ts e = tt
+in_return strict (a_key true) xs n ts e = absurd (refused_here strict (one (a_key true)) shape.ReturnStatement xs n ts refl e)
+in_return strict (a_private_or_key true) xs n ts e = absurd (refused_here strict (one (a_private_or_key true)) shape.ReturnStatement xs n ts refl e)
+in_return strict (an_inner_key true) xs n ts e = absurd (refused_here strict (one (an_inner_key true)) shape.ReturnStatement xs n ts refl e)
+in_return strict k xs n ts e = absurd (refused_here strict (one k) shape.ReturnStatement xs n ts refl e)
+
+in_if : (strict : Bool) (k : Class) (xs : List Name) (n : ℕ) (ts : Trees) → fits strict (one k) (node shape.IfStatement xs n ts) ≡ true → TakesStatementIn k
+in_if strict (a_statement d) xs n ts e = tt
+in_if strict (a_key true) xs n ts e = absurd (refused_here strict (one (a_key true)) shape.IfStatement xs n ts refl e)
+in_if strict (a_private_or_key true) xs n ts e = absurd (refused_here strict (one (a_private_or_key true)) shape.IfStatement xs n ts refl e)
+in_if strict (an_inner_key true) xs n ts e = absurd (refused_here strict (one (an_inner_key true)) shape.IfStatement xs n ts refl e)
+in_if strict k xs n ts e = absurd (refused_here strict (one k) shape.IfStatement xs n ts refl e)
+
+in_while : (strict : Bool) (k : Class) (xs : List Name) (n : ℕ) (ts : Trees) → fits strict (one k) (node shape.WhileStatement xs n ts) ≡ true → TakesStatementIn k
+in_while strict (a_statement d) xs n ts e = tt
+in_while strict (a_key true) xs n ts e = absurd (refused_here strict (one (a_key true)) shape.WhileStatement xs n ts refl e)
+in_while strict (a_private_or_key true) xs n ts e = absurd (refused_here strict (one (a_private_or_key true)) shape.WhileStatement xs n ts refl e)
+in_while strict (an_inner_key true) xs n ts e = absurd (refused_here strict (one (an_inner_key true)) shape.WhileStatement xs n ts refl e)
+in_while strict k xs n ts e = absurd (refused_here strict (one k) shape.WhileStatement xs n ts refl e)
+
+in_dowhile : (strict : Bool) (k : Class) (xs : List Name) (n : ℕ) (ts : Trees) → fits strict (one k) (node shape.DoWhileStatement xs n ts) ≡ true → TakesStatementIn k
+in_dowhile strict (a_statement d) xs n ts e = tt
+in_dowhile strict (a_key true) xs n ts e = absurd (refused_here strict (one (a_key true)) shape.DoWhileStatement xs n ts refl e)
+in_dowhile strict (a_private_or_key true) xs n ts e = absurd (refused_here strict (one (a_private_or_key true)) shape.DoWhileStatement xs n ts refl e)
+in_dowhile strict (an_inner_key true) xs n ts e = absurd (refused_here strict (one (an_inner_key true)) shape.DoWhileStatement xs n ts refl e)
+in_dowhile strict k xs n ts e = absurd (refused_here strict (one k) shape.DoWhileStatement xs n ts refl e)
+
+in_for : (strict : Bool) (k : Class) (xs : List Name) (n : ℕ) (ts : Trees) → fits strict (one k) (node shape.ForStatement xs n ts) ≡ true → TakesStatementIn k
+in_for strict (a_statement d) xs n ts e = tt
+in_for strict (a_key true) xs n ts e = absurd (refused_here strict (one (a_key true)) shape.ForStatement xs n ts refl e)
+in_for strict (a_private_or_key true) xs n ts e = absurd (refused_here strict (one (a_private_or_key true)) shape.ForStatement xs n ts refl e)
+in_for strict (an_inner_key true) xs n ts e = absurd (refused_here strict (one (an_inner_key true)) shape.ForStatement xs n ts refl e)
+in_for strict k xs n ts e = absurd (refused_here strict (one k) shape.ForStatement xs n ts refl e)
+
+in_forin : (strict : Bool) (k : Class) (xs : List Name) (n : ℕ) (ts : Trees) → fits strict (one k) (node shape.ForInStatement xs n ts) ≡ true → TakesStatementIn k
+in_forin strict (a_statement d) xs n ts e = tt
+in_forin strict (a_key true) xs n ts e = absurd (refused_here strict (one (a_key true)) shape.ForInStatement xs n ts refl e)
+in_forin strict (a_private_or_key true) xs n ts e = absurd (refused_here strict (one (a_private_or_key true)) shape.ForInStatement xs n ts refl e)
+in_forin strict (an_inner_key true) xs n ts e = absurd (refused_here strict (one (an_inner_key true)) shape.ForInStatement xs n ts refl e)
+in_forin strict k xs n ts e = absurd (refused_here strict (one k) shape.ForInStatement xs n ts refl e)
+
+in_forof : (strict : Bool) (k : Class) (xs : List Name) (n : ℕ) (ts : Trees) → fits strict (one k) (node shape.ForOfStatement xs n ts) ≡ true → TakesStatementIn k
+in_forof strict (a_statement d) xs n ts e = tt
+in_forof strict (a_key true) xs n ts e = absurd (refused_here strict (one (a_key true)) shape.ForOfStatement xs n ts refl e)
+in_forof strict (a_private_or_key true) xs n ts e = absurd (refused_here strict (one (a_private_or_key true)) shape.ForOfStatement xs n ts refl e)
+in_forof strict (an_inner_key true) xs n ts e = absurd (refused_here strict (one (an_inner_key true)) shape.ForOfStatement xs n ts refl e)
+in_forof strict k xs n ts e = absurd (refused_here strict (one k) shape.ForOfStatement xs n ts refl e)
+
+-- a statement that a row reads
+abbrev is_read : Shape → Bool
+is_read shape.ReturnStatement = true
+is_read shape.IfStatement = true
+is_read shape.WhileStatement = true
+is_read shape.DoWhileStatement = true
+is_read shape.ForStatement = true
+is_read shape.ForInStatement = true
+is_read shape.ForOfStatement = true
+is_read _ = false
+
+taken_in : (strict : Bool) (k : Class) (t : Tree) → is_read (shape_of t) ≡ true → fits strict (one k) t ≡ true → TakesStatementIn k
+taken_in strict k (node shape.ReturnStatement xs n ts) r e = in_return strict k xs n ts e
+taken_in strict k (node shape.IfStatement xs n ts) r e = in_if strict k xs n ts e
+taken_in strict k (node shape.WhileStatement xs n ts) r e = in_while strict k xs n ts e
+taken_in strict k (node shape.DoWhileStatement xs n ts) r e = in_dowhile strict k xs n ts e
+taken_in strict k (node shape.ForStatement xs n ts) r e = in_for strict k xs n ts e
+taken_in strict k (node shape.ForInStatement xs n ts) r e = in_forin strict k xs n ts e
+taken_in strict k (node shape.ForOfStatement xs n ts) r e = in_forof strict k xs n ts e
+taken_in strict k t r e = absurd (cc r)
+
+-- it fills the slot of one that may be absent as it fills that of one
+one_of : (strict : Bool) (k : Class) (t : Tree) → is_read (shape_of t) ≡ true → fits strict (one_or_absent k) t ≡ true → fits strict (one k) t ≡ true
+one_of strict k (node shape.ReturnStatement xs n ts) r e = e
+one_of strict k (node shape.IfStatement xs n ts) r e = e
+one_of strict k (node shape.WhileStatement xs n ts) r e = e
+one_of strict k (node shape.DoWhileStatement xs n ts) r e = e
+one_of strict k (node shape.ForStatement xs n ts) r e = e
+one_of strict k (node shape.ForInStatement xs n ts) r e = e
+one_of strict k (node shape.ForOfStatement xs n ts) r e = e
+one_of strict k t r e = absurd (cc r)
+
+-- and no other
+other_slot : (strict : Bool) (s : Slot) (t : Tree) → is_read (shape_of t) ≡ true → filling strict s (shape_of t) ≡ refused → fits strict s t ≡ true → ⊥
+other_slot strict s (node h xs n ts) r f e = refused_here strict s h xs n ts f e
+
+taken : (strict : Bool) (s : Slot) (t : Tree) → is_read (shape_of t) ≡ true → fits strict s t ≡ true → TakesStatement s
+taken strict (one k) t r e = taken_in strict k t r e
+taken strict (one_or_absent k) t r e = taken_in strict k t r (one_of strict k t r e)
+taken strict (many c) t r e = absurd (other_slot strict (many c) t r (unlisted (shape_of t) r) e)
+  where
+    unlisted : (h : Shape) → is_read h ≡ true → filling strict (many c) h ≡ refused
+    unlisted shape.Listed r = absurd (cc r)
+    unlisted h r = refl
+taken strict (many_or_holes c) t r e = absurd (other_slot strict (many_or_holes c) t r (unlisted (shape_of t) r) e)
+  where
+    unlisted : (h : Shape) → is_read h ≡ true → filling strict (many_or_holes c) h ≡ refused
+    unlisted shape.Listed r = absurd (cc r)
+    unlisted h r = refl
+taken strict (many_and_rest c d) t r e = absurd (other_slot strict (many_and_rest c d) t r (unlisted (shape_of t) r) e)
+  where
+    unlisted : (h : Shape) → is_read h ≡ true → filling strict (many_and_rest c d) h ≡ refused
+    unlisted shape.Listed r = absurd (cc r)
+    unlisted h r = refl
+taken strict (many_or_holes_and_rest c d) t r e = absurd (other_slot strict (many_or_holes_and_rest c d) t r (unlisted (shape_of t) r) e)
+  where
+    unlisted : (h : Shape) → is_read h ≡ true → filling strict (many_or_holes_and_rest c d) h ≡ refused
+    unlisted shape.Listed r = absurd (cc r)
+    unlisted h r = refl
+taken strict (quasis g) t r e = absurd (other_slot strict (quasis g) t r (unlisted (shape_of t) r) e)
+  where
+    unlisted : (h : Shape) → is_read h ≡ true → filling strict (quasis g) h ≡ refused
+    unlisted shape.Listed r = absurd (cc r)
+    unlisted h r = refl
+
+-- wherever a statement may stand, one of these fits alike
+alike_in : (strict : Bool) (k : Class) (t : Tree) → is_plain (shape_of t) ≡ true → TakesStatementIn k → fits strict (one k) t ≡ fits strict statement t
+alike_in strict (a_statement d) (node shape.ExpressionStatement xs n ts) r k = refl
+alike_in strict (a_statement d) (node shape.ReturnStatement xs n ts) r k = refl
+alike_in strict (a_statement d) (node shape.IfStatement xs n ts) r k = refl
+alike_in strict (a_statement d) (node shape.WhileStatement xs n ts) r k = refl
+alike_in strict (a_statement d) (node shape.DoWhileStatement xs n ts) r k = refl
+alike_in strict (a_statement d) (node shape.ForStatement xs n ts) r k = refl
+alike_in strict (a_statement d) (node shape.ForInStatement xs n ts) r k = refl
+alike_in strict (a_statement d) (node shape.ForOfStatement xs n ts) r k = refl
+alike_in strict (a_statement d) t r k = absurd (cc r)
+alike_in strict c t r k = absurd k
+
+one_alike : (strict : Bool) (k : Class) (t : Tree) → is_plain (shape_of t) ≡ true → fits strict (one_or_absent k) t ≡ fits strict (one k) t
+one_alike strict k (node shape.ExpressionStatement xs n ts) r = refl
+one_alike strict k (node shape.ReturnStatement xs n ts) r = refl
+one_alike strict k (node shape.IfStatement xs n ts) r = refl
+one_alike strict k (node shape.WhileStatement xs n ts) r = refl
+one_alike strict k (node shape.DoWhileStatement xs n ts) r = refl
+one_alike strict k (node shape.ForStatement xs n ts) r = refl
+one_alike strict k (node shape.ForInStatement xs n ts) r = refl
+one_alike strict k (node shape.ForOfStatement xs n ts) r = refl
+one_alike strict k t r = absurd (cc r)
+
+alike : (strict : Bool) (s : Slot) (t : Tree) → is_plain (shape_of t) ≡ true → TakesStatement s → fits strict s t ≡ fits strict statement t
+alike strict (one k) t r i = alike_in strict k t r i
+alike strict (one_or_absent k) t r i = one_alike strict k t r ∙ alike_in strict k t r i
+alike strict s t r i = absurd i
+
+-- so it is enough that what is written fits as a statement
+fits_there : (strict : Bool) (s : Slot) (n w : Tree) → is_read (shape_of n) ≡ true → is_plain (shape_of n) ≡ true → is_plain (shape_of w) ≡ true → (fits strict statement n ≡ true → fits strict statement w ≡ true) → fits strict s n ≡ true → fits strict s w ≡ true
+fits_there strict s n w r p q f e =
+    let takes = taken strict s n r e in
+    alike strict s w q takes ∙ f (sym (alike strict s n p takes) ∙ e)
+
+body_in : (k : Class) → TakesStatementIn k → is_in_body k ≡ true
+body_in (a_statement d) i = refl
+body_in k i = absurd i
+
+body_slot : (p : Position) (s : Slot) → TakesStatement s → is_body_slot p s ≡ true
+body_slot p (one k) i = body_in k i
+body_slot p (one_or_absent k) i = body_in k i
+body_slot p s i = absurd i
+
+-- ---- what a parent asks of it
+
+there : (t : Tree) → is_plain (shape_of t) ≡ true → is_absent t ≡ false
+there (node shape.Absent xs n ts) e = absurd (cc e)
+there (node h xs n ts) e = refl
+
+no_body : (t : Tree) → is_plain (shape_of t) ≡ true → is_function_body t ≡ false
+no_body (node shape.FunctionBody xs n ts) e = absurd (cc e)
+no_body (node h xs n ts) e = refl
+
+no_chain : (h : Shape) (ts : Trees) → is_plain h ≡ true → has_optional_by h ts ≡ false
+no_chain (shape.CallExpression b) ts e = absurd (cc e)
+no_chain (shape.StaticMemberExpression b) ts e = absurd (cc e)
+no_chain (shape.ComputedMemberExpression b) ts e = absurd (cc e)
+no_chain (shape.PrivateFieldExpression b) ts e = absurd (cc e)
+no_chain shape.InnerExpression ts e = absurd (cc e)
+no_chain h ts e = refl
+
+no_optional : (t : Tree) → is_plain (shape_of t) ≡ true → has_optional t ≡ false
+no_optional (node h xs n ts) e = no_chain h ts e
+
+unspelled_by : (h : Shape) (xs : List Name) → is_plain h ≡ true → spelling_by h xs ≡ None
+unspelled_by shape.Identifier xs e = absurd (cc e)
+unspelled_by shape.BindingIdentifier xs e = absurd (cc e)
+unspelled_by (shape.IdentifierName s) xs e = absurd (cc e)
+unspelled_by h xs e = refl
+
+unspelled : (t : Tree) → is_plain (shape_of t) ≡ true → spelling t ≡ None
+unspelled (node h xs n ts) e = unspelled_by h xs e
+
+no_default : (h : Shape) → is_plain h ≡ true → is_default h ≡ false
+no_default shape.AssignmentPattern e = absurd (cc e)
+no_default h e = refl
+
+no_number : (t : Tree) → is_plain (shape_of t) ≡ true → is_not_positive_number t ≡ true
+no_number (node (shape.NumericLiteral k) xs n ts) e = absurd (cc e)
+no_number (node h xs n ts) e = refl
+
+plain_asked : (p : Position) (n w : Tree) → is_plain (shape_of n) ≡ true → is_plain (shape_of w) ≡ true → AskedAlike p n w
+plain_asked p n w e f = record {
+  absent = λ g. absurd (cc (sym g ∙ there n e));
+  body = λ g. absurd (cc (sym g ∙ no_body n e));
+  optional = λ g. absurd (cc (sym g ∙ no_optional n e));
+  number = λ g k. no_number w f;
+  spelled = λ s g. absurd (cc (sym g ∙ unspelled n e));
+  plain = no_default (shape_of n) e;
+}
+
+-- ---- a statement of a block
+
+block_fit : (strict : Bool) (c : Tree) → fits strict statement (block (c ▸ none)) ≡ true → fits strict statement c ≡ true
+block_fit strict c e = left (fits strict statement c) true (left (fits strict statement c && true) true e)
+
+in_block_fit : (strict : Bool) (c : Tree) → fits strict statement c ≡ true → fits strict statement (block (c ▸ none)) ≡ true
+in_block_fit strict c e = both (fits strict statement c && true) true (both (fits strict statement c) true e refl) refl
+
+last_fit : (strict : Bool) (c : Tree) → is_absent c ≡ false → fits strict statement c ≡ true → fits strict last_statement c ≡ true
+last_fit strict (node shape.Absent xs n ts) h e = absurd (cc h)
+last_fit strict (node h xs n ts) k e = e
+
+one_fit : (strict : Bool) (c : Tree) → is_absent c ≡ false → fits strict last_statement c ≡ true → fits strict statement c ≡ true
+one_fit strict (node shape.Absent xs n ts) h e = absurd (cc h)
+one_fit strict (node h xs n ts) k e = e
+
+unscoped_there : (c : Tree) → is_unscoped c ≡ true → is_absent c ≡ false
+unscoped_there (node shape.Absent xs n ts) h = absurd (cc h)
+unscoped_there (node g xs n ts) h = refl
+
+other_there : (u : Tree) → is_other_branch u ≡ true → is_absent u ≡ false
+other_there (node shape.Absent xs n ts) h = absurd (cc h)
+other_there (node g xs n ts) h = refl
+
+first_and : (a b c : Bool) → (a ≡ true → b ≡ true) → (a && c) ≡ true → (b && c) ≡ true
+first_and a b c f e = let (x, y) = and_parts a c e in both b c (f x) y
+
+later_and : (a b c : Bool) → (b ≡ true → c ≡ true) → (a && b) ≡ true → (a && c) ≡ true
+later_and a b c f e = let (x, y) = and_parts a b e in both a c x (f y)
+
+module _ (strict : Bool) (x y : Tree) (f : fits strict statement x ≡ true → fits strict statement y ≡ true) (g : fits strict last_statement x ≡ true → fits strict last_statement y ≡ true) where
+  around_fits : (k : Surrounding) → fits strict statement (around k x) ≡ true → fits strict statement (around k y) ≡ true
+  around_fits (Consequent a u) e = later_and (fits strict expression a) _ _ (first_and (fits strict statement x) (fits strict statement y) (fits strict last_statement u && true) f) e
+  around_fits (Alternate a s) e = later_and (fits strict expression a) _ _ (later_and (fits strict statement s) _ _ (first_and (fits strict last_statement x) (fits strict last_statement y) true g)) e
+  around_fits (WhileBody a) e = later_and (fits strict expression a) _ _ (first_and (fits strict statement x) (fits strict statement y) true f) e
+  around_fits (DoBody a) e = first_and (fits strict statement x) (fits strict statement y) (fits strict expression a && true) f e
+  around_fits (ForBody a b c) e =
+      later_and (fits strict (one_or_absent an_init) a) _ _ (later_and (fits strict (one_or_absent an_expression) b) _ _ (later_and (fits strict (one_or_absent an_expression) c) _ _ (first_and (fits strict statement x) (fits strict statement y) true f))) e
+  around_fits (InBody a b) e = later_and (fits strict (one (a_loop_left true)) a) _ _ (later_and (fits strict expression b) _ _ (first_and (fits strict statement x) (fits strict statement y) true f)) e
+  around_fits (OfBody a b) e = later_and (fits strict (one (a_loop_left false)) a) _ _ (later_and (fits strict expression b) _ _ (first_and (fits strict statement x) (fits strict statement y) true f)) e
+
+around_read : (k : Surrounding) (x : Tree) → is_read (shape_of (around k x)) ≡ true
+around_read (Consequent a u) x = refl
+around_read (Alternate a s) x = refl
+around_read (WhileBody a) x = refl
+around_read (DoBody a) x = refl
+around_read (ForBody a b c) x = refl
+around_read (InBody a b) x = refl
+around_read (OfBody a b) x = refl
+
+-- ---- each row: what it writes fits as a statement, and what is kept
+
+pub record Kind (n w : Tree) : Type 0 where
+  pub read : is_read (shape_of n) ≡ true
+  pub before : is_plain (shape_of n) ≡ true
+  pub after : is_plain (shape_of w) ≡ true
+  pub fitting : (strict : Bool) → fits strict statement n ≡ true → fits strict statement w ≡ true
+  pub core : (strict : Bool) → fits strict statement n ≡ true → Core n w
+  pub said : Said n w
+
+kind_along : (n n' w w' : Tree) → n ≡ n' → w ≡ w' → Kind n' w' → Kind n w
+kind_along n n' w w' e f k = subst (λ x. Kind x w) (sym e) (subst (λ y. Kind n' y) (sym f) k)
+
+around_kind : (k : Surrounding) (x y : Tree) → Inside x y → ((strict : Bool) → fits strict statement x ≡ true → fits strict statement y ≡ true) → ((strict : Bool) → fits strict last_statement x ≡ true → fits strict last_statement y ≡ true) → Kind (around k x) (around k y)
+around_kind k x y i f g = record { read = around_read k x; before = around_plain k x; after = around_plain k y; fitting = λ strict. around_fits strict x y (f strict) (g strict) k; core = λ strict e. around_core x y i k; said = around_said x y i k }
+
+row_60 : (v : Tree) → IsUndefined v → Kind (return_statement v) (return_statement absent)
+row_60 v u = record { read = refl; before = refl; after = refl; fitting = λ strict e. refl; core = λ strict e. returned_core v u; said = returned_said v u }
+
+row_79 : (k : Surrounding) (c : Tree) → is_unscoped c ≡ true → Kind (around k (block (c ▸ none))) (around k c)
+row_79 k c h = around_kind k (block (c ▸ none)) c (unwrapped_inside c h) (λ strict. block_fit strict c) (λ strict e. last_fit strict c (unscoped_there c h) (block_fit strict c e))
+
+row_83_block : (a c u : Tree) → has_else c ≡ true → Kind (if_else a c u) (if_else a (block (c ▸ none)) u)
+row_83_block a c u h = record {
+  read = refl;
+  before = refl;
+  after = refl;
+  fitting = λ strict e. first_of_if strict a c (block (c ▸ none)) u (in_block_fit strict c) e;
+  core = λ strict e. around_core c (block (c ▸ none)) (wrapped_inside c (else_unscoped c h)) (Consequent a u);
+  said = around_said c (block (c ▸ none)) (wrapped_inside c (else_unscoped c h)) (Consequent a u);
+}
+  where
+    first_of_if : (strict : Bool) (a x y u : Tree) → (fits strict statement x ≡ true → fits strict statement y ≡ true) → fits strict statement (if_else a x u) ≡ true → fits strict statement (if_else a y u) ≡ true
+    first_of_if strict a x y u f e = later_and (fits strict expression a) _ _ (first_and (fits strict statement x) (fits strict statement y) (fits strict last_statement u && true) f) e
+
+parts : (strict : Bool) (a b c : Tree) → fits strict statement (if_else a b c) ≡ true → IfFits strict a b c
+parts strict a b c e = (of_if strict statement a b c e).1
+
+module _ (o : LogicalOperator) (a b : Tree) (value : (strict : Bool) → fits strict expression a ≡ true → Value a b) (fit : (strict : Bool) → fits strict expression a ≡ true → fits strict expression b ≡ true) (said : Said a b) (t : Tree) (i : IsEmpty t) where
+  logical_kind : (c : Tree) → Kind (if_else a t (expression_statement c)) (expression_statement (logical o b c))
+  logical_kind c = record {
+    read = refl;
+    before = refl;
+    after = refl;
+    fitting = λ strict e.
+        let (test, empty, alternate) = parts strict a t (expression_statement c) e in
+        both (fits strict expression (logical o b c)) true (two_fit strict b c (fit strict test) (of_last_statement strict c alternate)) refl;
+    core = λ strict e.
+        let v = value strict (parts strict a t (expression_statement c) e).0 in
+        core_then (if_else a t (expression_statement c)) (if_else b (expression_statement c) absent) (expression_statement (logical o b c)) (turned_core a b t (expression_statement c) v (empty_is_idle t i)) (chosen_core o b c v.after);
+    said = said_then (if_else a t (expression_statement c)) (if_else b (expression_statement c) absent) (expression_statement (logical o b c)) (turned_said a b t (expression_statement c) said (empty_is_idle t i)) (chosen_said o b c);
+  }
+
+row_82_or : (a t c : Tree) → IsEmpty t → Kind (if_else a t (expression_statement c)) (expression_statement (logical Or a c))
+row_82_or a t c i = logical_kind Or a a (λ strict e. value_itself a (expression_is_quiet strict a e)) (λ strict e. e) (said_itself a) t i c
+
+row_82_and : (a t c : Tree) → IsEmpty t → Kind (if_else a t (expression_statement c)) (expression_statement (logical And (not_of conjunct_seat a) c))
+row_82_and a t c i = logical_kind And a (not_of conjunct_seat a) (λ strict e. value_not strict conjunct_seat a e) (λ strict e. not_of_fits strict conjunct_seat a e) (said_not conjunct_seat a) t i c
+
+row_83_alone : (a t : Tree) → IsEmpty t → Kind (if_alone a t) (expression_statement a)
+row_83_alone a t i = record {
+  read = refl;
+  before = refl;
+  after = refl;
+  fitting = λ strict e. both (fits strict expression a) true (parts strict a t absent e).0 refl;
+  core = λ strict e.
+      let q = expression_is_quiet strict a (parts strict a t absent e).0 in
+      core_then (if_alone a t) (if_else a absent absent) (expression_statement a) (turned_core a a t absent (value_itself a q) (empty_is_idle t i)) (tested_core a q);
+  said = said_then (if_alone a t) (if_else a absent absent) (expression_statement a) (turned_said a a t absent (said_itself a) (empty_is_idle t i)) (tested_said a);
+}
+
+row_83_else : (a t u : Tree) → IsEmpty t → is_other_branch u ≡ true → Kind (if_else a t u) (if_alone (not_of if_test_seat a) (as_consequent u))
+row_83_else a t u i o = go (has_else u) refl
+  where
+    b : Tree
+    b = not_of if_test_seat a
+
+    bare : Kind (if_else a t u) (if_alone b u)
+    bare = record {
+      read = refl;
+      before = refl;
+      after = refl;
+      fitting = λ strict e.
+          let (test, empty, alternate) = parts strict a t u e in
+          both (fits strict expression b) (fits strict statement u && true) (not_of_fits strict if_test_seat a test) (both (fits strict statement u) true (one_fit strict u (other_there u o) alternate) refl);
+      core = λ strict e. turned_core a b t u (value_not strict if_test_seat a (parts strict a t u e).0) (empty_is_idle t i);
+      said = turned_said a b t u (said_not if_test_seat a) (empty_is_idle t i);
+    }
+
+    go : (c : Bool) → has_else u ≡ c → Kind (if_else a t u) (if_alone b (if c then block (u ▸ none) else u))
+    go false e = bare
+    go true e =
+        let more = row_83_block b u absent e in
+        record {
+          read = refl;
+          before = refl;
+          after = refl;
+          fitting = λ strict f. more.fitting strict (bare.fitting strict f);
+          core = λ strict f. core_then (if_else a t u) (if_alone b u) (if_alone b (block (u ▸ none))) (bare.core strict f) (more.core strict (bare.fitting strict f));
+          said = said_then (if_else a t u) (if_alone b u) (if_alone b (block (u ▸ none))) bare.said more.said;
+        }
+
+row_83_nested : (a b s : Tree) → Kind (if_alone a (if_alone b s)) (if_alone (logical And a b) s)
+row_83_nested a b s = record {
+  read = refl;
+  before = refl;
+  after = refl;
+  fitting = λ strict e.
+      let (test, inner, last) = parts strict a (if_alone b s) absent e in
+      let (second, branch, end) = parts strict b s absent inner in
+      both (fits strict expression (logical And a b)) (fits strict statement s && true) (two_fit strict a b test second) (both (fits strict statement s) true branch refl);
+  core = λ strict e.
+      let (test, inner, last) = parts strict a (if_alone b s) absent e in
+      nested_core a b s (expression_is_quiet strict a test) (expression_is_quiet strict b (parts strict b s absent inner).0);
+  said = nested_said a b s;
+}
+
+row_83 : (n w : Tree) → Row83 n w → Kind n w
+row_83 n w (inl r) = kind_along n _ w _ r.shape r.written (row_83_alone r.a r.empty r.is_empty)
+row_83 n w (inr (inl r)) = kind_along n _ w _ r.shape r.written (row_83_else r.a r.empty r.u r.is_empty r.other)
+row_83 n w (inr (inr (inl r))) = kind_along n _ w _ r.shape r.written (row_83_nested r.a r.b r.s)
+row_83 n w (inr (inr (inr r))) = kind_along n _ w _ r.shape r.written (row_83_block r.a r.c r.u r.chooses)
+
+row_82 : (n w : Tree) → Row82Empty n w → Kind n w
+row_82 n w (inl r) = kind_along n _ w _ r.shape r.written (row_82_or r.a r.empty r.b r.is_empty)
+row_82 n w (inr r) = kind_along n _ w _ r.shape r.written (row_82_and r.a r.empty r.b r.is_empty)
+
+row_kind : (q : StmtSeat) (n w : Tree) → BranchRow (Stmt q) n w → Kind n w
+row_kind q n w (inl r) = kind_along n _ w _ r.shape r.written (row_60 r.argument r.undefined)
+row_kind q n w (inr (inl r)) = kind_along n _ w _ r.shape r.written (row_79 r.place r.statement r.unscoped)
+row_kind q n w (inr (inr (inl r))) = row_82 n w r
+row_kind q n w (inr (inr (inr r))) = row_83 n w r
+
+-- ---- all
+
+statement_row : (p : Position) (n w : Tree) → BranchRow p n w → Kind n w
+statement_row (Stmt q) n w r = row_kind q n w r
+statement_row p n w r = absurd r
+
+row_place : (p : Position) (n w : Tree) → BranchRow p n w → is_rewritten_place p ≡ true
+row_place (Stmt q) n w r = refl
+row_place p n w r = absurd r
+
+row_kept : (p : Position) (n w : Tree) → BranchRow p n w → KeptAt p n w
+row_kept (Stmt q) n w r =
+    let k = row_kind q n w r in
+    core_kept q n w k.before k.after (λ strict s e. k.core strict (sym (alike strict s n k.before (taken strict s n k.read e)) ∙ e)) k.said
+row_kept p n w r = absurd r
+
+pub branches_lawful : Lawful BranchContracts
+branches_lawful =
+    kept_is_lawful BranchContracts branches_same
+    (record {
+      fitting = λ p n w c strict s f e. let k = statement_row p n w c.row in fits_there strict s n w k.read k.before k.after (k.fitting strict) e;
+      asked = λ p n w c. let k = statement_row p n w c.row in plain_asked p n w k.before k.after;
+    })
+    (λ p n w c. row_place p n w c.row)
+    (λ p n w c strict s f e. body_slot p s (taken strict s n (statement_row p n w c.row).read e))
+    (λ p n w c. row_kept p n w c.row)
