@@ -1,7 +1,7 @@
 // How large values are.
 
 use crate::error::CaseError;
-use mini_fits::{count_units, count_values, fits};
+use mini_round_trip::{count_units, count_values, fits};
 use serde_json::Value;
 use std::alloc::Global;
 

@@ -4,7 +4,7 @@ ghost use Rattle.std.specs.Prelude.{◌≡◌, ◌+◌, ◌<◌, ◌^◌, Some, 
 ghost use Rattle.serde_json.specs.View.{view};
 ghost use Rattle.serde_json.specs.Written.{has_float};
 ghost use Rattle.mini_context.specs.Known.{Knows};
-ghost use Rattle.mini_fits.specs.Fits.{Fits};
+ghost use Rattle.mini_round_trip.specs.Fits.{Fits};
 ghost use Rattle.mini_names.specs.References.{references};
 ghost use Rattle.mini_names.specs.Resolved.{symbols};
 ghost use Rattle.mini_names.specs.declared.Use.TheVariants as variant;
@@ -96,7 +96,7 @@ fn answer(
 /// its pointer (`mini_accept::faults_are_there` says that the node at the pointer has the defect), or where its program has
 /// an early error, `EarlyName` or `EarlyJump`, with the first and its pointer. `OutOfMemory` may come in place of any answer.
 ///
-/// The value has to fit: `mini_fits::fits` tells, and what 16,777,216 bytes of JSON say does.
+/// The value has to fit: `mini_round_trip::fits` tells, and what 16,777,216 bytes of JSON say does.
 #[tactic(auto, using(crate::proofs::Refused::refused_by_table))]
 pub fn minify_estree(
     alloc: Global,

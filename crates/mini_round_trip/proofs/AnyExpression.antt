@@ -13,7 +13,7 @@ use Rattle.mini_accept.specs.WellShaped as shaped
 use Rattle.mini_accept.specs.WellShaped.{Class, filling_by, expression_slots, is_optional, has_names, has_plain_fields, has_its_parts, is_strict_in, is_paired}
 use Rattle.mini_accept.proofs.Fitting.{parts_by_shape}
 use Rattle.mini_round_trip.proofs.Units.{fields_are_units}
-use Rattle.mini_round_trip.proofs.Fits.{Filled, with_none, unless_filled}
+use Rattle.mini_round_trip.proofs.Fitting.{Filled, with_none, unless_filled}
 use Rattle.mini_round_trip.proofs.Slots.{Back}
 use Rattle.mini_round_trip.proofs.Bodies.{BodiesBack}
 use Rattle.mini_round_trip.proofs.Statements.{Comes}

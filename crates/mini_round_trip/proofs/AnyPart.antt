@@ -20,7 +20,7 @@ use Rattle.mini_writer.specs.Objects as objects
 use Rattle.mini_writer.specs.Written.{tree_data, name}
 use Rattle.mini_round_trip.proofs.Read.{plain_back, no_children}
 use Rattle.mini_round_trip.proofs.Texts.{ascii_bytes}
-use Rattle.mini_round_trip.proofs.Fits.{Filled, NodeFits, with_none, unless_filled}
+use Rattle.mini_round_trip.proofs.Fitting.{Filled, NodeFits, with_none, unless_filled}
 use Rattle.mini_round_trip.proofs.Slots.{Back, are_ascii}
 use Rattle.mini_round_trip.proofs.Bodies.{BodiesBack}
 use Rattle.mini_round_trip.proofs.Statements as statement

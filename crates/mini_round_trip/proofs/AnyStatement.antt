@@ -8,7 +8,7 @@ use Rattle.mini_model.specs.Tree.{Trees}
 use Rattle.mini_accept.specs.WellShaped as shaped
 use Rattle.mini_accept.specs.WellShaped.{Class, Slot, Depth, in_module, in_body, nested, a_statement, these, filling_by, in_depth, is_sloppy_function, none_if}
 use Rattle.mini_accept.specs.Standing.{is_nested}
-use Rattle.mini_round_trip.proofs.Fits.{Filled, NodeFits, unless_filled}
+use Rattle.mini_round_trip.proofs.Fitting.{Filled, NodeFits, unless_filled}
 use Rattle.mini_round_trip.proofs.Slots.{Back}
 use Rattle.mini_round_trip.proofs.Bodies.{BodiesBack}
 use Rattle.mini_round_trip.proofs.Statements as statement

@@ -18,7 +18,7 @@ use Rattle.mini_accept.specs.Expressions.{is_link}
 use Rattle.mini_writer.specs.Objects as objects
 use Rattle.mini_writer.specs.Written.{tree_data, trees_data, node_data}
 use Rattle.mini_round_trip.proofs.Units.{has_units}
-use Rattle.mini_round_trip.proofs.Fits.{Fit, Filled, NodeFits, node_fits, fit_more, with_one, with_two, with_list, and_false}
+use Rattle.mini_round_trip.proofs.Fitting.{Fit, Filled, NodeFits, node_fits, fit_more, with_one, with_two, with_list, and_false}
 use Rattle.mini_round_trip.proofs.Slots.{Back}
 use Rattle.mini_round_trip.proofs.Statements as statement
 use Rattle.mini_round_trip.proofs.Statements.{Comes}

@@ -24,7 +24,7 @@ use Rattle.mini_writer.specs.Objects as objects
 use Rattle.mini_writer.specs.Written.{tree_data, trees_data, with_directives, body}
 use Rattle.mini_round_trip.proofs.Units.{all_are_units, has_units, have_units}
 use Rattle.mini_round_trip.proofs.Read.{ReadsBack, PartsBack, Stands, node_back, plain_back, no_children, no_parts, more_parts, one_child, list_child, ◌&◌, tree_back, checked_back}
-use Rattle.mini_round_trip.proofs.Fits.{Fit, Filled, with_one, with_list}
+use Rattle.mini_round_trip.proofs.Fitting.{Fit, Filled, with_one, with_list}
 use Rattle.mini_round_trip.proofs.Slots.{Back, Planned, fit_planned}
 use Rattle.mini_round_trip.proofs.Texts.{text_read}
 

@@ -34,7 +34,7 @@ use Rattle.mini_accept.proofs.Wholes.{absent_or}
 use Rattle.mini_writer.specs.Objects as objects
 use Rattle.mini_writer.specs.Written.{tree_data, trees_data}
 use Rattle.mini_round_trip.proofs.Read.{ReadsBack, ChildrenBack, no_children, ◌&◌, plain_back, is_quiet}
-use Rattle.mini_round_trip.proofs.Fits.{Fit, Filled, with_none, with_one, with_two, with_three, with_list}
+use Rattle.mini_round_trip.proofs.Fitting.{Fit, Filled, with_none, with_one, with_two, with_three, with_list}
 use Rattle.mini_round_trip.proofs.Slots.{Back, is_apart, Planned, child_back, optional_back, each_back, holes_back, fit_object, fit_apart, fit_stands, fit_planned, there_given}
 use Rattle.mini_round_trip.proofs.Entry.{bind_is, require_is, then_is, else_is, unary_back, update_back, binary_back, logical_back, assignment_back}
 use Rattle.mini_round_trip.proofs.Statements.{Comes}

@@ -23,7 +23,7 @@ use Rattle.mini_writer.specs.Written as written
 use Rattle.mini_writer.specs.Written.{tree_data, trees_data, node_data, body}
 use Rattle.mini_round_trip.proofs.Units.{all_are_units}
 use Rattle.mini_round_trip.proofs.Read.{ChildBack, node_back, plain_back, one_child, no_children, ◌&◌, tree_back}
-use Rattle.mini_round_trip.proofs.Fits.{Fit, Filled, node_fits, fit_more, and_false, with_one, with_two, with_three, with_four, with_list, with_optional}
+use Rattle.mini_round_trip.proofs.Fitting.{Fit, Filled, node_fits, fit_more, and_false, with_one, with_two, with_three, with_four, with_list, with_optional}
 use Rattle.mini_round_trip.proofs.Keys.{is_named as is_named_tree, fit_named, same_written}
 use Rattle.mini_round_trip.proofs.Slots.{Back, Rested, child_back, optional_back, rest_back, fit_object, fit_apart, fit_stands, there_given}
 use Rattle.mini_round_trip.proofs.Entry.{require_is}

@@ -16,7 +16,7 @@ use Rattle.mini_accept.proofs.Identifiers.{text_symmetric}
 use Rattle.mini_writer.specs.Objects as objects
 use Rattle.mini_writer.specs.Written.{tree_data, trees_data, node_data, name}
 use Rattle.mini_round_trip.proofs.Units.{fields_are_units}
-use Rattle.mini_round_trip.proofs.Fits.{Fit}
+use Rattle.mini_round_trip.proofs.Fitting.{Fit}
 use Rattle.mini_round_trip.proofs.Texts.{text_back, name_back}
 use Rattle.mini_round_trip.proofs.Leaves.{is_text_literal}
 

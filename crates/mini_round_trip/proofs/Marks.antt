@@ -12,7 +12,7 @@ use Rattle.mini_accept.specs.declared.kind.Kind.TheVariants as kind
 use Rattle.mini_accept.specs.Expressions.{has_mark}
 use Rattle.mini_writer.specs.Written.{tree_data, trees_data, node_data}
 use Rattle.mini_round_trip.proofs.Read.{no_children, ◌&◌, plain_back}
-use Rattle.mini_round_trip.proofs.Fits.{Fit, Filled, node_fits, with_one, with_two, with_inner, unless_filled}
+use Rattle.mini_round_trip.proofs.Fitting.{Fit, Filled, node_fits, with_one, with_two, with_inner, unless_filled}
 use Rattle.mini_round_trip.proofs.Slots.{Back, child_back}
 use Rattle.mini_round_trip.proofs.Entry.{require_is}
 use Rattle.mini_round_trip.proofs.Statements.{Comes}

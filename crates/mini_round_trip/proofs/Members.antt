@@ -19,7 +19,7 @@ use Rattle.mini_accept.specs.Expressions.{is_link, link_class}
 use Rattle.mini_writer.specs.Objects as objects
 use Rattle.mini_writer.specs.Written.{tree_data, trees_data}
 use Rattle.mini_round_trip.proofs.Read.{ChildBack, no_children, ◌&◌, plain_back}
-use Rattle.mini_round_trip.proofs.Fits.{Fit, Filled, with_two, with_list}
+use Rattle.mini_round_trip.proofs.Fitting.{Fit, Filled, with_two, with_list}
 use Rattle.mini_round_trip.proofs.Slots.{Back, child_back, each_back, fit_apart, fit_stands}
 use Rattle.mini_round_trip.proofs.Entry.{require_is, then_is, else_is}
 use Rattle.mini_round_trip.proofs.Statements.{Comes}

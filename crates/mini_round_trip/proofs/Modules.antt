@@ -19,7 +19,7 @@ use Rattle.mini_writer.specs.Objects as objects
 use Rattle.mini_writer.specs.Written.{tree_data, trees_data, node_data, with_directives}
 use Rattle.mini_round_trip.proofs.Units.{all_are_units, has_units, have_units}
 use Rattle.mini_round_trip.proofs.Read.{ReadsBack, node_back, plain_back, one_child, list_child, no_children, ◌&◌, tree_back}
-use Rattle.mini_round_trip.proofs.Fits.{Fit, Filled, node_fits, fit_more, and_false, with_one, with_two, with_three, with_list, with_optional}
+use Rattle.mini_round_trip.proofs.Fitting.{Fit, Filled, node_fits, fit_more, and_false, with_one, with_two, with_three, with_list, with_optional}
 use Rattle.mini_round_trip.proofs.Slots.{Back, AllBack, is_apart, child_back, optional_back, each_back, items_back, fit_object, there_given}
 use Rattle.mini_round_trip.proofs.Entry.{require_is}
 use Rattle.mini_round_trip.proofs.Statements.{Comes}

@@ -12,7 +12,7 @@ use Rattle.mini_accept.specs.Standing.{stands_as}
 use Rattle.mini_accept.specs.Expressions.{identifier_by, identifier_as}
 use Rattle.mini_writer.specs.Written.{name}
 use Rattle.mini_round_trip.proofs.Read.{ReadsBack}
-use Rattle.mini_round_trip.proofs.Fits.{Filled, NodeFits, with_none}
+use Rattle.mini_round_trip.proofs.Fitting.{Filled, NodeFits, with_none}
 use Rattle.mini_round_trip.proofs.Slots.{is_apart}
 use Rattle.mini_round_trip.proofs.Leaves.{identifier_back}
 use Rattle.mini_round_trip.proofs.Names.{units_of_one}

@@ -8,7 +8,7 @@ use Rattle.mini_accept.specs.WellShaped.{Class, is_reference}
 use Rattle.mini_accept.specs.Places.{at, a_local_name}
 use Rattle.mini_writer.specs.Written.{tree_data}
 use Rattle.mini_round_trip.proofs.Read.{ReadsBack}
-use Rattle.mini_round_trip.proofs.Fits.{Fit, node_fits, fit_more, and_false}
+use Rattle.mini_round_trip.proofs.Fitting.{Fit, node_fits, fit_more, and_false}
 use Rattle.mini_round_trip.proofs.Leaves.{local_back, word_back, string_back}
 
 pub units_of_one : (a : Bool) → (a && true) ≡ true → a ≡ true

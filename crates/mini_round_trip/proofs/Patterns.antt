@@ -18,7 +18,7 @@ use Rattle.mini_accept.specs.Patterns.{is_binding}
 use Rattle.mini_writer.specs.Objects as objects
 use Rattle.mini_writer.specs.Written.{tree_data, trees_data}
 use Rattle.mini_round_trip.proofs.Read.{ChildBack, no_children, ◌&◌, plain_back}
-use Rattle.mini_round_trip.proofs.Fits.{Filled, with_one, with_two, with_list}
+use Rattle.mini_round_trip.proofs.Fitting.{Filled, with_one, with_two, with_list}
 use Rattle.mini_round_trip.proofs.Slots.{Back, Rested, child_back, rest_back, holes_rest_back, fit_stands}
 use Rattle.mini_round_trip.proofs.Entry.{require_is, then_is, else_is}
 use Rattle.mini_round_trip.proofs.Statements.{Comes}

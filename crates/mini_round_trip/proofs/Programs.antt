@@ -11,7 +11,7 @@ use Rattle.mini_writer.specs.Written.{tree_data, program_data}
 use Rattle.mini_round_trip.specs.Bare.{bare}
 use Rattle.mini_round_trip.proofs.Units.{has_units}
 use Rattle.mini_round_trip.proofs.Read.{ReadsBack}
-use Rattle.mini_round_trip.proofs.Fits.{Fit, node_fits, and_false}
+use Rattle.mini_round_trip.proofs.Fitting.{Fit, node_fits, and_false}
 use Rattle.mini_round_trip.proofs.Modules.{module_back, script_back}
 use Rattle.mini_round_trip.proofs.Whole.{all_back}
 

@@ -23,7 +23,7 @@ use Rattle.mini_accept.specs.Functions as function
 use Rattle.mini_writer.specs.Objects as objects
 use Rattle.mini_writer.specs.Written.{tree_data, trees_data, node_data}
 use Rattle.mini_round_trip.proofs.Read.{ChildBack, no_children, ◌&◌, plain_back}
-use Rattle.mini_round_trip.proofs.Fits.{Fit, Filled, node_fits, fit_more, and_false, with_one, with_two, with_list}
+use Rattle.mini_round_trip.proofs.Fitting.{Fit, Filled, node_fits, fit_more, and_false, with_one, with_two, with_list}
 use Rattle.mini_round_trip.proofs.Slots.{Back, child_back, optional_back, each_back}
 use Rattle.mini_round_trip.proofs.Entry.{bind_is, require_is, property_back, method_back}
 use Rattle.mini_round_trip.proofs.Statements.{Comes}

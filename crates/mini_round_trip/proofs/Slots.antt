@@ -20,7 +20,7 @@ use Rattle.mini_writer.specs.Written.{tree_data, trees_data}
 use Rattle.mini_round_trip.specs.Bare.{bare, bares}
 use Rattle.mini_round_trip.proofs.Units.{has_units, have_units}
 use Rattle.mini_round_trip.proofs.Read.{PartBack, PartsBack, ChildBack, no_parts, more_parts, one_child, list_child, Stands, read_planned, read_stands, stands_object, stands_apart}
-use Rattle.mini_round_trip.proofs.Fits.{Fit, Filled, with_optional}
+use Rattle.mini_round_trip.proofs.Fitting.{Fit, Filled, with_optional}
 
 -- ---- the part of a node below that stands in a slot for one
 

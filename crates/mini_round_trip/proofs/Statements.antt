@@ -21,7 +21,7 @@ use Rattle.mini_accept.specs.Entries.{entry}
 use Rattle.mini_writer.specs.Objects as objects
 use Rattle.mini_writer.specs.Written.{tree_data, trees_data, node_data}
 use Rattle.mini_round_trip.proofs.Read.{ReadsBack, ChildrenBack, no_children, ◌&◌, plain_back, is_quiet}
-use Rattle.mini_round_trip.proofs.Fits.{Fit, Filled, with_none, with_one, with_two, with_three, with_four, with_list, with_optional}
+use Rattle.mini_round_trip.proofs.Fitting.{Fit, Filled, with_none, with_one, with_two, with_three, with_four, with_list, with_optional}
 use Rattle.mini_round_trip.proofs.Slots.{Back, is_apart, child_back, optional_back, each_back, fit_object, there_given}
 use Rattle.mini_round_trip.proofs.Entry.{require_is}
 

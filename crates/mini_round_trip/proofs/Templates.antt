@@ -20,7 +20,7 @@ use Rattle.mini_writer.specs.Objects as objects
 use Rattle.mini_writer.specs.Written.{tree_data, trees_data, cooked_text}
 use Rattle.mini_round_trip.proofs.Units.{are_units_if_some, has_units, have_units}
 use Rattle.mini_round_trip.proofs.Read.{ReadsBack, PartBack, node_back, no_children, ◌&◌, plain_back, tree_back}
-use Rattle.mini_round_trip.proofs.Fits.{Filled, with_two, with_list}
+use Rattle.mini_round_trip.proofs.Fitting.{Filled, with_two, with_list}
 use Rattle.mini_round_trip.proofs.Slots.{Back, AllBack, items_back, each_back, is_apart, Reads}
 use Rattle.mini_round_trip.proofs.Texts.{text_read}
 use Rattle.mini_round_trip.proofs.Entry.{bind_is, require_is}

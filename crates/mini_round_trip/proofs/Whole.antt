@@ -14,7 +14,7 @@ use Rattle.mini_accept.specs.Plans.{tree_at, inner_at}
 use Rattle.mini_writer.specs.Written.{tree_data, body}
 use Rattle.mini_round_trip.proofs.Units.{all_are_units}
 use Rattle.mini_round_trip.proofs.Read.{ReadsBack, PartBack, Stands, read_stands, stands_object, stands_apart, tree_back, inner_back}
-use Rattle.mini_round_trip.proofs.Fits.{Fit, Filled, NodeFits, node_fits, and_false, with_inner}
+use Rattle.mini_round_trip.proofs.Fitting.{Fit, Filled, NodeFits, node_fits, and_false, with_inner}
 use Rattle.mini_round_trip.proofs.Slots.{Back, is_apart, are_ascii, is_inner_in, inner_class, part_of}
 use Rattle.mini_round_trip.proofs.Bodies.{BodiesBack, is_body, function_body_back}
 use Rattle.mini_round_trip.proofs.Statements.{Comes}

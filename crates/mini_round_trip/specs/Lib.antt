@@ -1,2 +1,4 @@
 pub mod Bare
 pub mod RoundTrip
+pub mod Fits
+pub mod Countable

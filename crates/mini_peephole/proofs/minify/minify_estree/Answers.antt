@@ -1,7 +1,7 @@
 use Rattle.std.proofs.lemmas.Result.{IfOk-weaker}
 use Rattle.mini_text.specs.declared.error.MinifyError.{MinifyError}
-use Rattle.mini_fits.proofs.Few.{fitting_is_countable}
-use Rattle.mini_fits.proofs.Light.{accepted_light}
+use Rattle.mini_round_trip.proofs.Few.{fitting_is_countable}
+use Rattle.mini_round_trip.proofs.Light.{accepted_light}
 use Rattle.mini_peephole.specs.declared.minify.Minified.{Minified}
 use Rattle.mini_peephole.proofs.Faith.{faithful, passes_bounded}
 use Rattle.mini_peephole.proofs.minify.minify_estree.Goals as goal

@@ -3,7 +3,7 @@ use Rattle.std.specs.Prelude.{None}
 use Rattle.std.proofs.lemmas.Grind.{common_steps}
 use Rattle.serde_json.specs.View.{view}
 use Rattle.mini_text.specs.Faults.{fault_of}
-use Rattle.mini_fits.proofs.Counted.{bytes_fit}
+use Rattle.mini_round_trip.proofs.Counted.{bytes_fit}
 use Rattle.mini_run.proofs.Told.{defect_of}
 use Rattle.mini_run.proofs.running.settle.Goals as goal
 
