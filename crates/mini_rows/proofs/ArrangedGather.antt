@@ -104,12 +104,12 @@ module _ (A : Type 0) (L B H : Tree → List A) (k : Fold A L B H) where
   gives_below cs i none = []
   gives_below cs i (t ▸ ts) = Gives (cs i) t ++ gives_below cs (suc i) ts
 
-  abbrev gives_hole : Parts → Hole → List A
+  abbrev pub gives_hole : Parts → Hole → List A
   gives_hole ps (Part i c) = Gives c (child_or_absent ps.trees i)
   gives_hole ps (Stretch i c) = concat (Gives c) (list_at ps.lists i)
   gives_hole ps (Leaps l) = []
 
-  abbrev gives_each : Parts → List Hole → List A
+  abbrev pub gives_each : Parts → List Hole → List A
   gives_each ps [] = []
   gives_each ps (h ∷ hs) = gives_hole ps h ++ gives_each ps hs
 
@@ -218,7 +218,7 @@ module _ (A : Type 0) (L B H : Tree → List A) (k : Fold A L B H) where
 
   module _ (f : Free) (ps : Parts) (u : AreFree ps f) where
     mutual
-      gives_of : (c : Asked) (s : Sketch) → stands_well f c s ≡ true → Each Any Valued ps (parts_of c s) → Gives c (filled ps s) ≡ gives_each ps (parts_of c s)
+      pub gives_of : (c : Asked) (s : Sketch) → stands_well f c s ≡ true → Each Any Valued ps (parts_of c s) → Gives c (filled ps s) ≡ gives_each ps (parts_of c s)
       gives_of c (part i) e v = sym (append-nil (Gives c (child_or_absent ps.trees i)))
       gives_of c (under h ss) e v =
           let (x, y) = and_parts (stands_as c h) (all_stand_well f (asked_below h c) 0 ss) e in

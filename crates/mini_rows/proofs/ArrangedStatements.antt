@@ -56,7 +56,7 @@ rewritten AsWhole (Stmt q) e = refl
 rewritten AsWholeList StatementList e = refl
 rewritten c p e = absurd (cc e)
 
-whole_gives : (A : Type 0) (B H : Tree → List A) (k : Fold A B B H) (c : Asked) (p : Position) → is_statement_place c p ≡ true → (t : Tree) → B t ≡ Gives A B B H k c t
+pub whole_gives : (A : Type 0) (B H : Tree → List A) (k : Fold A B B H) (c : Asked) (p : Position) → is_statement_place c p ≡ true → (t : Tree) → B t ≡ Gives A B B H k c t
 whole_gives A B H k AsWhole p e t = refl
 whole_gives A B H k AsWholeList p e t = refl
 whole_gives A B H k c p e t = absurd (cc e)
@@ -68,7 +68,7 @@ module _ (f : Free) (ps : Parts) (u : AreFree ps f) (c : Asked) (p : Position) (
   abbrev w : Tree
   w = filled ps r
 
-  parts_kept : is_rearranged f (parts_of c s) (parts_of c r) ≡ true
+  pub parts_kept : is_rearranged f (parts_of c s) (parts_of c r) ≡ true
   parts_kept = left (is_rearranged f (parts_of c s) (parts_of c r)) (are_same_holes (statements (all_settled f (parts_of c r))) (statements (all_settled f (parts_of c s)))) z
 
   in_order : are_same_holes (statements (all_settled f (parts_of c r))) (statements (all_settled f (parts_of c s))) ≡ true
@@ -110,31 +110,31 @@ same_quiet : (a : Around) (h : Head) (ts : Trees) → is_statement_head h ≡ tr
 same_quiet a AList ts e = absurd (cc e)
 same_quiet a h ts e = refl
 
-around_quiet : (a : Around) (h : Head) (ts : Trees) → a.constructs ≡ false → is_statement_head h ≡ true → bodies a (node (shape_by h) [] 0 ts) ≡ bodies (quiet a) (node (shape_by h) [] 0 ts)
+pub around_quiet : (a : Around) (h : Head) (ts : Trees) → a.constructs ≡ false → is_statement_head h ≡ true → bodies a (node (shape_by h) [] 0 ts) ≡ bodies (quiet a) (node (shape_by h) [] 0 ts)
 around_quiet a h ts k e = ap (λ c. bodies (record a { constructs = c }) (node (shape_by h) [] 0 ts)) k ∙ same_quiet a h ts e
 
-no_loop : (h : Head) (ts : Trees) → is_statement_head h ≡ true → is_loop (node (shape_by h) [] 0 ts) ≡ false
+pub no_loop : (h : Head) (ts : Trees) → is_statement_head h ≡ true → is_loop (node (shape_by h) [] 0 ts) ≡ false
 unfolding is_loop
 no_loop AList ts e = refl
 no_loop h ts e = refl
 
-not_list : (h : Head) → is_statement_head h ≡ true → is_no_list h ≡ true
+pub not_list : (h : Head) → is_statement_head h ≡ true → is_no_list h ≡ true
 not_list AList e = absurd (cc e)
 not_list h e = refl
 
-kind_of_head : (h : Head) → arrow_kind (shape_by h) ≡ ArrowExpression
+pub kind_of_head : (h : Head) → arrow_kind (shape_by h) ≡ ArrowExpression
 kind_of_head AList = refl
 kind_of_head h = refl
 
-no_port : (m : Bool) (h : Head) → is_port m (shape_by h) ≡ false
+pub no_port : (m : Bool) (h : Head) → is_port m (shape_by h) ≡ false
 no_port m AList = refl
 no_port m h = refl
 
-undeclared : (h : Head) → is_declaration (shape_by h) ≡ false
+pub undeclared : (h : Head) → is_declaration (shape_by h) ≡ false
 undeclared AList = refl
 undeclared h = refl
 
-method_slot : (ps : Parts) (h : Head) (ss : Sketches) (strict : Bool) (s : Slot) → fits strict s (filled ps (under h ss)) ≡ true → is_method_slot s ≡ false
+pub method_slot : (ps : Parts) (h : Head) (ss : Sketches) (strict : Bool) (s : Slot) → fits strict s (filled ps (under h ss)) ≡ true → is_method_slot s ≡ false
 method_slot ps h ss strict (one a_method) k = absurd (refused_here strict (one a_method) (shape_by h) [] 0 (all_filled ps ss) (ap filling_by (no_method strict h)) k)
 method_slot ps h ss strict (one c) k = refl
 method_slot ps h ss strict s k = refl

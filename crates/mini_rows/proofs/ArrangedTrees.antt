@@ -31,13 +31,13 @@ use Rattle.mini_rows.proofs.ArrangedMoves.{forth, sum_forth, valued_there, anyho
 use Rattle.mini_rows.proofs.ArrangedPlain.{is_plain}
 use Rattle.mini_rows.proofs.ArrangedUses.{scoped_moves, symbols_moves}
 
-both_same : (x y : Bool) → (y || x) ≡ x → (x || y) ≡ y → y ≡ x
+pub both_same : (x y : Bool) → (y || x) ≡ x → (x || y) ≡ y → y ≡ x
 both_same true true e f = refl
 both_same true false e f = absurd (cc f)
 both_same false true e f = absurd (cc e)
 both_same false false e f = refl
 
-itself : (b : Bool) → (b || b) ≡ b
+pub itself : (b : Bool) → (b || b) ≡ b
 itself true = refl
 itself false = refl
 

@@ -107,7 +107,7 @@ value_or strict s (node h xs n ts) e f = by (is_value h) e
     by true e = refl
     by false e = absurd (refused_here strict s h xs n ts (refused_is (filling strict s h) e) f)
 
-value_fits : (strict : Bool) (s : Slot) (t : Tree) → suits AsValue s ≡ true → fits strict s t ≡ true → is_value (shape_of t) ≡ true
+pub value_fits : (strict : Bool) (s : Slot) (t : Tree) → suits AsValue s ≡ true → fits strict s t ≡ true → is_value (shape_of t) ≡ true
 value_fits strict (one an_expression) t e f = value_or strict (one an_expression) t (expression_or_refused strict (shape_of t)) f
 value_fits strict (one a_link) t e f = value_or strict (one a_link) t (link_or_refused strict (shape_of t)) f
 value_fits strict (one an_argument) t e f = value_or strict (one an_argument) t (argument_or_refused strict (shape_of t)) f

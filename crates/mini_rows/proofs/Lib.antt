@@ -30,6 +30,8 @@ pub mod ArrangedLawful
 pub mod ArrangedGather
 pub mod ArrangedFolds
 pub mod ArrangedStatements
+pub mod ArrangedRewritten
+pub mod ArrangedNegations
 pub mod ArrangedRows
 pub mod BranchInside
 pub mod BranchAround

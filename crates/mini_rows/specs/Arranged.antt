@@ -1,14 +1,19 @@
 -- What is built anew of the same parts keeps all that a program has to keep, but for its meaning and its shape.
-use Rattle.std.specs.Prelude.{ℕ, ◌≡◌, List, [], ◌∷◌, Bool, true, false, Contains, None}
+use Rattle.std.specs.Prelude.{ℕ, ◌≤◌, ◌≡◌, List, [], ◌∷◌, Bool, true, false, Contains, None}
 use Rattle.mini_model.specs.declared.name.Name.{Name}
 use Rattle.mini_model.specs.declared.place.Position.{Position}
 use Rattle.mini_model.specs.declared.place.Position.TheVariants.{Expr, Stmt, StatementList}
 use Rattle.mini_model.specs.declared.seat.Seat.{Seat}
 use Rattle.mini_model.specs.declared.seat.StmtSeat.{StmtSeat}
 use Rattle.mini_model.specs.Tree.{Tree, Trees, listed, shape_of, children, child_or_absent}
-use Rattle.mini_model.specs.Redex.{Row40, Row82Else, Row82And}
-use Rattle.mini_accept.specs.WellShaped.{Depth, a_statement, a_default_export, Slot, one, many, fits}
+use Rattle.mini_model.specs.Redex.{Row40, Row82Else, Row82And, Row82Or}
+use Rattle.mini_accept.specs.WellShaped.{Depth, an_expression, a_statement, a_default_export, Slot, one, many, fits}
+use Rattle.mini_names.specs.declared.Targets.{Targets}
+use Rattle.mini_names.specs.declared.Use.TheVariants.{Read}
 use Rattle.mini_names.specs.DeclaredNames.{has_inner}
+use Rattle.mini_names.specs.Resolved.{Environment}
+use Rattle.mini_names.specs.Scoped.{Scoped}
+use Rattle.mini_names.specs.Symbols.{declared as declared_in, Within}
 use Rattle.mini_meaning.specs.Value.{Variable}
 use Rattle.mini_meaning.specs.State.{Writable}
 use Rattle.mini_meaning.specs.Fixity.{fixed_by}
@@ -17,7 +22,8 @@ use Rattle.mini_laws.specs.Rewritten.{MeansSame}
 use Rattle.mini_kept.specs.AlikeBodies.{BodiesKept}
 use Rattle.mini_kept.specs.Declaring.{declared}
 use Rattle.mini_kept.specs.Frames.{is_declaration, is_port, ports as ports_of, frames, FramesKept}
-use Rattle.mini_kept.specs.KeepsNames.{is_rewritten_place, Keeps}
+use Rattle.mini_kept.specs.KeepsNames.{is_rewritten_place, Keeps, NamesOnce, HasTargets, count_of}
+use Rattle.mini_kept.specs.Carried.{numbers}
 use Rattle.mini_kept.specs.KeepsFrames.{is_body_slot}
 use Rattle.mini_kept.specs.KeepsShapes.{KeepsShapes}
 use Rattle.mini_kept.specs.Lawful.{Lawful}
@@ -25,7 +31,7 @@ use Rattle.mini_kept.specs.Lifted.{is_piece}
 use Rattle.mini_kept.specs.Placed.{fits_place}
 use Rattle.mini_kept.specs.Standing.{Stands}
 use Rattle.mini_rows.specs.Lists.{is_unscoped, are_unscoped}
-use Rattle.mini_rows.specs.Sketches.{Sketch, Items, Parts, list_at, filled, items_filled, Free, rearranges_expression, rearranges_statement, rearranges_list}
+use Rattle.mini_rows.specs.Sketches.{Sketch, Items, Parts, Hole, Part, Stretch, Leaps, AsWhole, AsValue, parts_of, list_at, filled, items_filled, Free, rearranges_expression, rearranges_statement, rearranges_list}
 
 -- of one node and what is written for it: what a lawful relation keeps of it
 pub record KeptAt (p : Position) (n w : Tree) : Type 0 where
@@ -79,6 +85,43 @@ abbrev pub ListsArranged : Type 0
 ListsArranged =
     (f : Free) (ps : Parts) → AreFree ps f → (is js : Items) → rearranges_list f is js ≡ true → (n w : Tree) → n ≡ listed (items_filled ps is) → w ≡ listed (items_filled ps js) → KeptAt StatementList n w
 
+-- ---- a part for which another expression is written
+
+-- it keeps what the part has
+pub record WrittenFor (t u : Tree) : Type 0 where
+  pub fitting : (strict : Bool) → fits strict (one an_expression) t ≡ true → fits strict (one an_expression) u ≡ true
+  pub inner : has_inner u ≡ has_inner t
+  pub scoped : (env : Environment) → Scoped Read env t → Scoped Read env u
+  pub symbols : Within (declared_in Read u) (declared_in Read t)
+  pub numbers : (k : ℕ) → count_of k (numbers u) ≤ count_of k (numbers t)
+  pub once : NamesOnce [] t → NamesOnce [] u
+  pub targets : (g : Targets) → HasTargets g [] t → HasTargets g [] u
+  pub bodies : (strict : Bool) → fits strict (one an_expression) t ≡ true → (a : Around) → a.constructs ≡ false → a.is_assigned ≡ false → BodiesKept (bodies a t) (bodies a u)
+  pub frames : (strict : Bool) → fits strict (one an_expression) t ≡ true → FramesKept (frames None t) (frames None u)
+  pub fixed : (x : Variable) → fixed_by u x ≡ fixed_by t x
+  pub declared : (x : Name) → Contains (declared u) x → Contains (declared t) x
+
+-- for the parts that are expressions others are written, and the other parts are the same
+abbrev pub Rewritten : Parts → Parts → List Hole → Type 0
+Rewritten ps qs [] = Unit {0}
+Rewritten ps qs (Part i AsValue ∷ hs) = WrittenFor (child_or_absent ps.trees i) (child_or_absent qs.trees i) × Rewritten ps qs hs
+Rewritten ps qs (Part i c ∷ hs) = (child_or_absent ps.trees i ≡ child_or_absent qs.trees i) × Rewritten ps qs hs
+Rewritten ps qs (Stretch i c ∷ hs) = (list_at ps.lists i ≡ list_at qs.lists i) × Rewritten ps qs hs
+Rewritten ps qs (Leaps l ∷ hs) = Rewritten ps qs hs
+
+-- those parts are expressions
+abbrev pub AreExpressions : Bool → Parts → List Hole → Type 0
+AreExpressions strict ps [] = Unit {0}
+AreExpressions strict ps (Part i AsValue ∷ hs) = (fits strict (one an_expression) (child_or_absent ps.trees i) ≡ true) × AreExpressions strict ps hs
+AreExpressions strict ps (h ∷ hs) = AreExpressions strict ps hs
+
+-- so a statement that is built anew of these parts, with others written for some, is kept
+abbrev pub StatementsRewritten : Type 0
+StatementsRewritten =
+    (f : Free) (ps qs : Parts) → AreFree ps f → AreFree qs f → (s r : Sketch) → rearranges_statement f s r ≡ true → Rewritten ps qs (parts_of AsWhole r) → (q : StmtSeat) (n w : Tree) → n ≡ filled ps s → w ≡ filled qs r
+    → ((strict : Bool) (x : Slot) → fits strict x n ≡ true → AreExpressions strict ps (parts_of AsWhole r))
+    → KeptAt (Stmt q) n w
+
 -- so is what the row 40 writes, `a ? c : b` for `!a ? b : c`
 abbrev pub Row40Kept : Type 0
 Row40Kept = (q : Seat) (n w : Tree) → Row40 n w → KeptAt (Expr q) n w
@@ -89,6 +132,10 @@ Row82ElseKept = (q : StmtSeat) (n w : Tree) → Row82Else n w → KeptAt (Stmt q
 
 abbrev pub Row82AndKept : Type 0
 Row82AndKept = (q : StmtSeat) (n w : Tree) → Row82And n w → KeptAt (Stmt q) n w
+
+-- and `a || b;` for `if (!a) b;`
+abbrev pub Row82OrKept : Type 0
+Row82OrKept = (q : StmtSeat) (n w : Tree) → Row82Or n w → KeptAt (Stmt q) n w
 
 -- a relation is lawful if each of its instances is kept, means the same and keeps its shape, where it is made at expressions,
 -- statements and lists of statements, in the slots where a body has them

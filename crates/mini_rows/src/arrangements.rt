@@ -1,6 +1,6 @@
 //! What is built anew of the same parts.
 
-ghost use Rattle.mini_rows.specs.Arranged.{ExpressionsArranged, StatementsArranged, ListsArranged, Row40Kept, Row82ElseKept, Row82AndKept, KeptIsLawful};
+ghost use Rattle.mini_rows.specs.Arranged.{ExpressionsArranged, StatementsArranged, ListsArranged, StatementsRewritten, Row40Kept, Row82ElseKept, Row82AndKept, Row82OrKept, KeptIsLawful};
 
 use mini_laws::Rewrites;
 
@@ -17,6 +17,12 @@ pub fn statements_arranged()
     ensures lists { ListsArranged }
     ensures row_82_else { Row82ElseKept }
     ensures row_82_and { Row82AndKept }
+{}
+
+/// And a statement for some of whose parts other expressions are written, as the negation of a test.
+pub fn statements_rewritten()
+    ensures any { StatementsRewritten }
+    ensures row_82_or { Row82OrKept }
 {}
 
 /// A relation is lawful if each of its instances is kept, means the same and keeps its shape.
