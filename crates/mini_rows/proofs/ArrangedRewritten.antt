@@ -1,12 +1,12 @@
 -- A statement that is built anew, with other expressions written for some of its parts, is kept.
-use Rattle.std.specs.Prelude.{ℕ, suc, ◌+◌, ◌≤◌, ◌≡◌, refl, ◌&&◌, ◌||◌, Bool, true, false, List, [], ◌∷◌, ◌++◌, Contains, Option, None}
+use Rattle.std.specs.Prelude.{ℕ, ◌≤◌, ◌≡◌, refl, ◌&&◌, ◌||◌, Bool, true, false, List, [], ◌∷◌, ◌++◌, Contains, Option, None}
 use Rattle.std.proofs.Common.{ap, ◌∙◌, sym, subst, arith}
 use Rattle.std.proofs.lemmas.Bool.{and_parts}
 use Rattle.mini_model.specs.declared.name.Name.{Name}
 use Rattle.mini_model.specs.declared.name.SymbolId.{SymbolId}
 use Rattle.mini_model.specs.declared.place.Position.TheVariants.{Stmt}
 use Rattle.mini_model.specs.declared.seat.StmtSeat.{StmtSeat}
-use Rattle.mini_model.specs.Tree.{Tree, Trees, node, none, ◌▸◌, shape_of, child_or_absent}
+use Rattle.mini_model.specs.Tree.{Tree, child_or_absent}
 use Rattle.mini_accept.specs.WellShaped.{an_expression, Slot, one, fits}
 use Rattle.mini_names.specs.declared.Targets.{Targets}
 use Rattle.mini_names.specs.declared.Use.{Use}
@@ -20,27 +20,27 @@ use Rattle.mini_names.specs.Symbols.{declared as declared_in, times}
 use Rattle.mini_names.specs.Early.{early_names, early_jumps, is_loop}
 use Rattle.mini_meaning.specs.Value.{Variable}
 use Rattle.mini_meaning.specs.Fixity.{fixed_by}
-use Rattle.mini_meaning.specs.Bodies.{Around, Body, bodies}
+use Rattle.mini_meaning.specs.Bodies.{Around, bodies}
 use Rattle.mini_kept.specs.AlikeBodies.{BodiesKept}
 use Rattle.mini_kept.specs.Carried.{numbers}
 use Rattle.mini_kept.specs.Declaring.{declared as declared_names}
-use Rattle.mini_kept.specs.Frames.{Frame, frames, FramesKept}
+use Rattle.mini_kept.specs.Frames.{frames, FramesKept}
 use Rattle.mini_kept.specs.KeepsNames.{Keeps, count_of}
 use Rattle.mini_kept.proofs.Anywhere.{once_anywhere, targets_anywhere}
 use Rattle.mini_kept.proofs.Bools.{left}
 use Rattle.mini_kept.proofs.BodyLists.{kept_itself, kept_on}
 use Rattle.mini_kept.proofs.Unplaced.{as_body, body_same}
-use Rattle.mini_rows.specs.Sketches.{Head, shape_by, Sketch, part, under, list, Sketches, Parts, list_at, filled, all_filled, Asked, AsWhole, AsWholeList, AsWholeItem, AsValue, AsValues, AsWord, AsTarget, AsUpdated, AsBranch, AsItems, AsItem, use_by, Leap, Hole, Part, Stretch, Leaps, parts_of, Free, is_statement_head, asked_below, stands_well, all_stand_well, keeps_statements, rearranges_statement}
+use Rattle.mini_rows.specs.Sketches.{Head, Sketch, part, under, list, Sketches, Parts, filled, all_filled, Asked, AsWhole, AsValue, Leap, Hole, Part, Stretch, Leaps, parts_of, Free, is_statement_head, asked_below, stands_well, all_stand_well, keeps_statements}
 use Rattle.mini_rows.specs.Arranged.{KeptAt, AreFree, WrittenFor, Rewritten, AreExpressions, StatementsRewritten}
-use Rattle.mini_rows.proofs.Arranging.{All, Any, Each, Holds, Local, to_parts, of_parts, sum_all, sum_hole, sum_each, sum_of}
+use Rattle.mini_rows.proofs.Arranging.{All, Any, Each, Local, to_parts, of_parts, sum_all, sum_each, sum_of}
 use Rattle.mini_rows.proofs.ArrangedNames.{ScopedAs, scoped_local, symbol_times, symbols_summed, number_times, numbers_summed, inner_local, once_local, HasTarget, aimed_local}
 use Rattle.mini_rows.proofs.ArrangedBodies.{quiet, bodies_local, frames_local, declares_local, rank, by_rank, fixed_local}
 use Rattle.mini_rows.proofs.ArrangedValues.{Valued, value_fits, head_valued}
 use Rattle.mini_rows.proofs.ArrangedPlain.{is_plain}
 use Rattle.mini_rows.proofs.ArrangedTrees.{both_same, itself, parts_valued}
-use Rattle.mini_rows.proofs.ArrangedGather.{concat, Fold, Gives, gives_hole, gives_each, gives_of}
+use Rattle.mini_rows.proofs.ArrangedGather.{concat, Fold, Gives, gives_each, gives_of}
 use Rattle.mini_rows.proofs.ArrangedFolds.{bound_fold, lexical_fold, hoisted_fold, body_fold, hoists, declared_fold}
-use Rattle.mini_rows.proofs.ArrangedStatements.{whole_gives, not_list, no_loop, around_quiet, kind_of_head, no_port, undeclared, method_slot, parts_kept, statement_kept}
+use Rattle.mini_rows.proofs.ArrangedStatements.{not_list, no_loop, around_quiet, kind_of_head, no_port, undeclared, method_slot, parts_kept, statement_kept}
 
 -- ---- parts
 
