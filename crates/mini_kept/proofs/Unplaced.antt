@@ -1,6 +1,6 @@
 -- Declarations without their paths: a tree has them by its names, and whether two clash depends on nothing else.
-use Rattle.std.specs.Prelude.{ℕ, suc, ◌≡◌, refl, ◌||◌, ◌&&◌, not, Bool, true, false, List, [], ◌∷◌, ◌++◌, if◌then◌else◌}
-use Rattle.std.proofs.Common.{ap, ◌∙◌, sym, subst}
+use Rattle.std.specs.Prelude.{ℕ, suc, ◌≡◌, refl, ◌&&◌, not, Bool, true, false, List, [], ◌∷◌, ◌++◌, if◌then◌else◌}
+use Rattle.std.proofs.Common.{ap, ◌∙◌, sym}
 use Rattle.mini_model.specs.declared.name.Name.{Name}
 use Rattle.mini_model.specs.Tree.{Tree, Trees, node, none, ◌▸◌, shape_of, child_or_absent}
 use Rattle.mini_names.specs.declared.Clash.{Clash}
@@ -11,8 +11,9 @@ use Rattle.mini_names.specs.declared.Declared.TheVariants as declared
 use Rattle.mini_names.specs.declared.Place.{Place}
 use Rattle.mini_names.specs.declared.Place.TheVariants as place
 use Rattle.mini_names.specs.DeclaredNames.{place_of, names_by, names_of, first_names, all_names}
-use Rattle.mini_names.specs.Early.{Path, choose_by, own_declarations, declarations, first_declarations, all_declarations, is_function_shape, holds_statements, body_declarations, all_body_declarations, is_pattern_shape, at_child, in_body, children_of_node, in_param, in_block, declarations_by, clashes, clashes_any, clashing}
+use Rattle.mini_names.specs.Early.{Path, choose_by, own_declarations, declarations, first_declarations, all_declarations, is_function_shape, holds_statements, body_declarations, all_body_declarations, is_pattern_shape, at_child, in_body, children_of_node, in_param, in_block, declarations_by, clashing}
 use Rattle.mini_kept.specs.KeepsNames.{unplaced}
+use Rattle.mini_kept.proofs.Clashes.{no_more_same, still_free}
 
 pub unplaced_both : (ds es : List Declaration) → unplaced (ds ++ es) ≡ unplaced ds ++ unplaced es
 unplaced_both [] es = refl
@@ -129,27 +130,5 @@ scope_itself c ts = record { bound = λ i d. refl; body = λ i b. refl; pattern 
 
 -- ---- clashes
 
-any_same : (d : Declaration) (es : List Declaration) → clashes_any (record d { at = [] }) (unplaced es) ≡ clashes_any d es
-any_same d [] = refl
-any_same d (e ∷ es) = ap (λ b. clashes d e || b) (any_same d es)
-
-none_clashing : (b c : Bool) (p q : Path) (ps qs : List Path) → c ≡ b → (ps ≡ [] → qs ≡ []) → (if b then p ∷ ps else ps) ≡ [] → (if c then q ∷ qs else qs) ≡ []
-none_clashing true true p q ps qs f g e = absurd (cc e)
-none_clashing true false p q ps qs f g e = absurd (cc e)
-none_clashing false true p q ps qs f g e = absurd (cc f)
-none_clashing false false p q ps qs f g e = g e
-
-free_to : (bs ds : List Declaration) → clashing bs ds ≡ [] → clashing (unplaced bs) (unplaced ds) ≡ []
-free_to bs [] e = refl
-free_to bs (d ∷ ds) e =
-    none_clashing (clashes_any d bs) (clashes_any (record d { at = [] }) (unplaced bs)) d.at [] (clashing (bs ++ d ∷ []) ds) (clashing (unplaced bs ++ record d { at = [] } ∷ []) (unplaced ds)) (any_same d bs)
-    (λ f. subst (λ cs. clashing cs (unplaced ds) ≡ []) (unplaced_both bs (d ∷ [])) (free_to (bs ++ d ∷ []) ds f)) e
-
-free_from : (bs ds : List Declaration) → clashing (unplaced bs) (unplaced ds) ≡ [] → clashing bs ds ≡ []
-free_from bs [] e = refl
-free_from bs (d ∷ ds) e =
-    none_clashing (clashes_any (record d { at = [] }) (unplaced bs)) (clashes_any d bs) [] d.at (clashing (unplaced bs ++ record d { at = [] } ∷ []) (unplaced ds)) (clashing (bs ++ d ∷ []) ds) (sym (any_same d bs))
-    (λ f. free_from (bs ++ d ∷ []) ds (subst (λ cs. clashing cs (unplaced ds) ≡ []) (sym (unplaced_both bs (d ∷ []))) f)) e
-
 pub free_same : (ds es : List Declaration) → unplaced es ≡ unplaced ds → clashing [] ds ≡ [] → clashing [] es ≡ []
-free_same ds es a e = free_from [] es (subst (λ cs. clashing [] cs ≡ []) (sym a) (free_to [] ds e))
+free_same ds es a e = still_free ds es (no_more_same ds es a) e
