@@ -6,6 +6,8 @@ pub mod SpellShapes
 pub mod SpellLawful
 pub mod SpellKeyMeaning
 pub mod SpellKeyWeights
+pub mod SpellKeyShapes
+pub mod SpellKeyLawful
 pub mod ListStretches
 pub mod ListParts
 pub mod ListStatements

@@ -33,6 +33,7 @@ pub data Form : Type 0 where
   an_assignment : AssignmentOperator → Form
   an_update : UpdateOperator → Bool → Form
   a_yield : Form
+  an_object : Form
 
 abbrev pub shaped : Form → Shape
 shaped (a_boolean b) = shape.BooleanLiteral b
@@ -43,6 +44,7 @@ shaped (a_static b) = shape.StaticMemberExpression b
 shaped (an_assignment o) = shape.AssignmentExpression o
 shaped (an_update o b) = shape.UpdateExpression o b
 shaped a_yield = shape.YieldExpression false
+shaped an_object = shape.ObjectExpression
 
 -- ---- where they stand: as an expression, as a link or the end of a chain, as what is assigned to, or nowhere
 
@@ -112,6 +114,7 @@ whole_is (a_static b) an_expression ts = refl
 whole_is (an_assignment o) an_expression ts = refl
 whole_is (an_update o b) an_expression ts = refl
 whole_is a_yield an_expression ts = refl
+whole_is an_object an_expression ts = refl
 whole_is f c ts = refl
 
 strict_is : (strict : Bool) (f : Form) → is_strict_in strict (shaped f) ≡ strict
@@ -133,7 +136,7 @@ fits_is strict s f ts =
 abbrev pub Stands : Bool → Form → Trees → Form → Trees → Type 0
 Stands strict f ts g us = (k : Kind) → filled strict k f ts ≡ true → filled strict k g us ≡ true
 
-stands : (strict : Bool) (f g : Form) (ts us : Trees) → Stands strict f ts g us → (s : Slot) → fits strict s (node (shaped f) [] 0 ts) ≡ true → fits strict s (node (shaped g) [] 0 us) ≡ true
+pub stands : (strict : Bool) (f g : Form) (ts us : Trees) → Stands strict f ts g us → (s : Slot) → fits strict s (node (shaped f) [] 0 ts) ≡ true → fits strict s (node (shaped g) [] 0 us) ≡ true
 stands strict f g ts us h s e = fits_is strict s g us ∙ h (kind_in s) (sym (fits_is strict s f ts) ∙ e)
 
 abbrev expression : Slot
@@ -205,7 +208,7 @@ name_stands strict b o s n k e = by b k e
     by true Assigned e = absurd (cc e)
     by b Nowhere e = absurd (cc e)
 
-safe_is : (n : ℤ) → IsSafe n → is_safe n ≡ true
+pub safe_is : (n : ℤ) → IsSafe n → is_safe n ≡ true
 safe_is (pos n) h = le-leb n max_safe_integer h
 safe_is (negsuc n) h = le-leb (suc n) max_safe_integer h
 
@@ -225,10 +228,10 @@ number_stands strict o t n h k e = by k e
     by Assigned e = by' an_expression e
     by Nowhere e = absurd (cc e)
 
-abbrev FitsToo : Tree → Tree → Type 0
+abbrev pub FitsToo : Tree → Tree → Type 0
 FitsToo n w = (strict : Bool) (s : Slot) → fits strict s n ≡ true → fits strict s w ≡ true
 
-by_shape : (n w a b : Tree) → n ≡ a → w ≡ b → FitsToo a b → FitsToo n w
+pub by_shape : (n w a b : Tree) → n ≡ a → w ≡ b → FitsToo a b → FitsToo n w
 by_shape n w a b e f h strict s g = subst (λ x. fits strict s x ≡ true) (sym f) (h strict s (subst (λ x. fits strict s x ≡ true) e g))
 
 member_fits : (n w : Tree) → Row33 n w → FitsToo n w
@@ -289,14 +292,14 @@ expression_fits q n w (inr (inr (inr (inr (inr (inr (inr r))))))) = by_shape n w
 -- ---- what a parent asks
 
 -- the node that a row reads, and the one that it writes
-record Formed (n w : Tree) : Type 0 where
-  first : Form
-  second : Form
-  parts : Trees
-  others : Trees
-  read : n ≡ node (shaped first) [] 0 parts
-  made : w ≡ node (shaped second) [] 0 others
-  optional : has_optional (node (shaped first) [] 0 parts) ≡ true → has_optional (node (shaped second) [] 0 others) ≡ true
+pub record Formed (n w : Tree) : Type 0 where
+  pub first : Form
+  pub second : Form
+  pub parts : Trees
+  pub others : Trees
+  pub read : n ≡ node (shaped first) [] 0 parts
+  pub made : w ≡ node (shaped second) [] 0 others
+  pub optional : has_optional (node (shaped first) [] 0 parts) ≡ true → has_optional (node (shaped second) [] 0 others) ≡ true
 
 there : (f : Form) (ts : Trees) → is_absent (node (shaped f) [] 0 ts) ≡ false
 there (a_boolean b) ts = refl
@@ -318,7 +321,7 @@ no_default : (f : Form) → is_default (shaped f) ≡ false
 no_default (a_boolean b) = refl
 no_default f = refl
 
-formed_asked : (p : Position) (n w : Tree) → Formed n w → AskedAlike p n w
+pub formed_asked : (p : Position) (n w : Tree) → Formed n w → AskedAlike p n w
 formed_asked p n w r = record {
   absent = λ e. absurd (cc (sym e ∙ ap is_absent r.read ∙ there r.first r.parts));
   body = λ e. absurd (cc (sym e ∙ ap is_function_body r.read ∙ no_body r.first r.parts));
@@ -377,7 +380,7 @@ somewhere : (strict : Bool) (k : Kind) (f : Form) (ts : Trees) → filled strict
 somewhere strict Nowhere f ts e = absurd (cc e)
 somewhere strict k f ts e = refl
 
-formed_slot : (p : Position) (n w : Tree) → Formed n w → (strict : Bool) (s : Slot) → fits strict s n ≡ true → is_body_slot p s ≡ true
+pub formed_slot : (p : Position) (n w : Tree) → Formed n w → (strict : Bool) (s : Slot) → fits strict s n ≡ true → is_body_slot p s ≡ true
 formed_slot p n w r strict s e = body_slot p s (somewhere strict (kind_in s) r.first r.parts (sym (fits_is strict s r.first r.parts) ∙ sym (ap (fits strict s) r.read) ∙ e))
 
 -- ---- wherever rows are made

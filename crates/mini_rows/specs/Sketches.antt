@@ -3,6 +3,7 @@
 use Rattle.std.specs.Prelude.{ℕ, zero, suc, ℤ, Bool, true, false, ◌&&◌, ◌||◌, not, nat_eq, List, [], ◌∷◌, ◌++◌, if◌then◌else◌}
 use Rattle.mini_model.specs.declared.operator.AssignmentOperator.{AssignmentOperator}
 use Rattle.mini_model.specs.declared.operator.AssignmentOperator.TheVariants.{Assign}
+use Rattle.mini_model.specs.declared.kind.PropertyKind.TheVariants.{Init}
 use Rattle.mini_model.specs.declared.operator.BinaryOperator.{BinaryOperator}
 use Rattle.mini_model.specs.declared.operator.LogicalOperator.{LogicalOperator}
 use Rattle.mini_model.specs.declared.operator.UnaryOperator.{UnaryOperator}
@@ -34,6 +35,9 @@ pub data Head : Type 0 where
   StaticMember : Bool → Head
   ComputedMember : Bool → Head
   Array : Head
+  Object : Head
+  -- a property that is no method and no accessor: whether it is shorthand, and whether its key stands in brackets
+  Property : Bool → Bool → Head
   Yield : Bool → Head
   Assignment : AssignmentOperator → Head
   Update : UpdateOperator → Bool → Head
@@ -64,6 +68,8 @@ shape_by New = shape.NewExpression
 shape_by (StaticMember is_optional) = shape.StaticMemberExpression is_optional
 shape_by (ComputedMember is_optional) = shape.ComputedMemberExpression is_optional
 shape_by Array = shape.ArrayExpression
+shape_by Object = shape.ObjectExpression
+shape_by (Property is_shorthand is_computed) = shape.ObjectProperty Init false is_shorthand is_computed
 shape_by (Yield is_delegate) = shape.YieldExpression is_delegate
 shape_by (Assignment o) = shape.AssignmentExpression o
 shape_by (Update o is_prefix) = shape.UpdateExpression o is_prefix
@@ -147,6 +153,8 @@ abbrev pub asked_below : Head → Asked → ℕ → Asked
 asked_below AList c i = item_asked c
 asked_below Sequence c i = AsValues
 asked_below Array c i = AsValues
+asked_below Object c i = AsValues
+asked_below (Property is_shorthand is_computed) c zero = AsWord
 asked_below (Call is_optional) c (suc i) = AsValues
 asked_below New c (suc i) = AsValues
 asked_below (StaticMember is_optional) c (suc i) = AsWord
@@ -323,6 +331,8 @@ is_absent_head h = false
 
 abbrev pub is_word_head : Head → Bool
 is_word_head (PropertyName s) = true
+is_word_head (String s) = true
+is_word_head (Number n) = true
 is_word_head h = false
 
 abbrev pub is_member_head : Head → Bool

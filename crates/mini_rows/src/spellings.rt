@@ -32,3 +32,9 @@ pub fn keys_are_lighter()
     ensures row { KeysLighter }
     ensures step { Lightens KeyContracts }
 {}
+
+/// What a row on a key writes keeps all that a program has to keep.
+
+pub fn keys_are_lawful()
+    ensures { Lawful KeyContracts }
+{}
