@@ -48,10 +48,14 @@ abbrev pub is_conditional_shape : Shape → Bool
 is_conditional_shape shape.ConditionalExpression = true
 is_conditional_shape _ = false
 
+abbrev pub has_third : Trees → Bool
+has_third (a ▸ (b ▸ (c ▸ ts))) = true
+has_third _ = false
+
 -- the chain of alternates begins with so many conditionals, as `a ? b : c ? d : e` with two
-abbrev pub has_alternates : ℕ → Tree → Bool
+unfoldable pub has_alternates : ℕ → Tree → Bool
 has_alternates zero t = true
-has_alternates (suc n) t = is_conditional_shape (shape_of t) && has_alternates n (child_or_absent (children t) 2)
+has_alternates (suc n) t = is_conditional_shape (shape_of t) && (has_third (children t) && has_alternates n (child_or_absent (children t) 2))
 
 -- What is declared
 

@@ -1,0 +1,4 @@
+pub mod Parts
+pub mod Follows
+pub mod Quiet
+pub mod Stepping

@@ -1,2 +1,10 @@
-//! Rewrites of lists of statements: each with its rule for the walk.
+//! Rewrites of lists of statements: each with its test and what it writes, and the list as a whole.
 #![tactic(auto)]
+
+mod lead;
+mod rewrites;
+mod statements;
+mod terms;
+
+pub use lead::{Lead, lead_of};
+pub use statements::{minimize_statements, no_row_reads_a_quiet_list};

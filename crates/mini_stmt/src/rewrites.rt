@@ -1,0 +1,6 @@
+pub mod join_expressions;
+pub mod join_heads;
+pub mod join_jumps;
+pub mod join_vars;
+pub mod split_if;
+pub mod spread_block;
