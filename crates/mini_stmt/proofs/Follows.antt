@@ -19,7 +19,7 @@ use Rattle.mini_stmt.specs.Terms.{has_two, is_joinable, parts_of, joined, is_joi
 use Rattle.mini_stmt.specs.JoinExpressions.{joined_expressions}
 use Rattle.mini_stmt.specs.JoinHeads.{is_switch, is_for, has_head, has_joinable_head, has_free_init, with_joined_head, with_init}
 use Rattle.mini_stmt.specs.JoinVars.{same_kind, declared_kind, is_kind, declares, joined_declarations}
-use Rattle.mini_stmt.specs.JoinJumps.{guards_return, guards_throw, is_answer, returns_answer, throws_answer, returns_nothing, joined_returns, joined_throws, test_alone}
+use Rattle.mini_stmt.specs.JoinJumps.{is_whole, guards_return, guards_throw, is_answer, returns_answer, throws_answer, returns_nothing, joined_returns, joined_throws, test_alone}
 use Rattle.mini_stmt.specs.SplitIf.{splits, without_alternate}
 use Rattle.mini_stmt.specs.SpreadBlock.{spreads, body_of}
 use Rattle.mini_stmt.specs.MinimizeStatements.{is_read, declaring, lead_of, takes_expression, joins, with_expression, joined_to, jumps_anyway}
@@ -226,26 +226,31 @@ declarations_join o k t u s e f = record {
   rests = λ r. and_none o.sequences;
 }
 
+whole_argument : (b : Tree) → is_whole b ≡ true → (b ≡ absent) ⊎ (is_absent b ≡ false)
+whole_argument b h = ⊎_elim (λ e. inl (absent_is b e)) (λ e. inr (not_true (is_absent b) e)) (or_split (is_absent_part b) (not (is_absent b)) h)
+
 answer_parts : (c : Tree) → is_answer c ≡ true → (is_absent c ≡ false) × (has_alternates 500 c ≡ false)
 answer_parts c h = let (there, short) = and_parts (not (is_absent c)) (not (has_alternates 500 c)) h in (not_true _ there, not_true _ short)
 
 returns_join : (o : Switches) (t u : Tree) → o.sequences ≡ true → guards_return t ≡ true → returns_answer u ≡ true → Joins o t u (joined_returns t u)
 returns_join o t u s e f =
-    let (alone, jump) = and_parts (is_if_alone t) (is_return_statement (part t 1)) e in
+    let (alone, guarded) = and_parts (is_if_alone t) (is_return_statement (part t 1) && is_whole (part (part t 1) 0)) e in
+    let (jump, whole) = and_parts (is_return_statement (part t 1)) (is_whole (part (part t 1) 0)) guarded in
     let (is, answer) = and_parts (is_return_statement u) (is_answer (part u 0)) f in
     let (there, short) = answer_parts (part u 0) answer in
     record {
-      row = inr (inr (inr (s, inr (inl (record { test = part t 0; left = part (part t 1) 0; right = part u 0; present = there; short = short; shape = two _ _ _ _ (if_alone_is t alone ∙ ap (if_alone (part t 0)) (return_statement_is (part t 1) jump)) (return_statement_is u is); written = refl })))));
+      row = inr (inr (inr (s, inr (inl (record { test = part t 0; left = part (part t 1) 0; right = part u 0; whole = whole_argument (part (part t 1) 0) whole; present = there; short = short; shape = two _ _ _ _ (if_alone_is t alone ∙ ap (if_alone (part t 0)) (return_statement_is (part t 1) jump)) (return_statement_is u is); written = refl })))));
       rests = λ r. and_none o.sequences;
     }
 
 throws_join : (o : Switches) (t u : Tree) → o.sequences ≡ true → guards_throw t ≡ true → throws_answer u ≡ true → Joins o t u (joined_throws t u)
 throws_join o t u s e f =
-    let (alone, jump) = and_parts (is_if_alone t) (is_throw_statement (part t 1)) e in
+    let (alone, guarded) = and_parts (is_if_alone t) (is_throw_statement (part t 1) && is_whole (part (part t 1) 0)) e in
+    let (jump, whole) = and_parts (is_throw_statement (part t 1)) (is_whole (part (part t 1) 0)) guarded in
     let (is, answer) = and_parts (is_throw_statement u) (is_answer (part u 0)) f in
     let (there, short) = answer_parts (part u 0) answer in
     record {
-      row = inr (inr (inr (s, inr (inr (inl (record { test = part t 0; left = part (part t 1) 0; right = part u 0; present = there; short = short; shape = two _ _ _ _ (if_alone_is t alone ∙ ap (if_alone (part t 0)) (throw_statement_is (part t 1) jump)) (throw_statement_is u is); written = refl }))))));
+      row = inr (inr (inr (s, inr (inr (inl (record { test = part t 0; left = part (part t 1) 0; right = part u 0; whole = whole_argument (part (part t 1) 0) whole; present = there; short = short; shape = two _ _ _ _ (if_alone_is t alone ∙ ap (if_alone (part t 0)) (throw_statement_is (part t 1) jump)) (throw_statement_is u is); written = refl }))))));
       rests = λ r. and_none o.sequences;
     }
 
@@ -271,7 +276,8 @@ jumps_are o t u h = go (lead_of t) (lead_is t) h
     go : (l : Lead) → LeadIs l t → jumps_anyway o l u ≡ true → Tested o t u
     go (Return true) is h =
         let (guards, bare) = is.returns true refl in
-        let (alone, jump) = and_parts (is_if_alone t) (is_return_statement (part t 1)) guards in
+        let (alone, guarded) = and_parts (is_if_alone t) (is_return_statement (part t 1) && is_whole (part (part t 1) 0)) guards in
+        let (jump, whole) = and_parts (is_return_statement (part t 1)) (is_whole (part (part t 1) 0)) guarded in
         let (s, nothing) = and_parts o.sequences (returns_nothing u) h in
         let (returns, missing) = and_parts (is_return_statement u) (is_absent_part (part u 0)) nothing in
         let first = if_alone_is t alone ∙ ap (if_alone (part t 0)) (return_statement_is (part t 1) jump ∙ ap return_statement (absent_is (part (part t 1) 0) bare)) in

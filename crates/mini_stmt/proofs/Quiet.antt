@@ -18,7 +18,7 @@ use Rattle.mini_stmt.specs.declared.lead.Lead.{Lead}
 use Rattle.mini_stmt.specs.declared.lead.Lead.TheVariants.{Expression, Declaration, Return, Throw, Nothing}
 use Rattle.mini_stmt.specs.Terms.{has_two, is_joinable}
 use Rattle.mini_stmt.specs.JoinVars.{same_kind}
-use Rattle.mini_stmt.specs.JoinJumps.{test_alone}
+use Rattle.mini_stmt.specs.JoinJumps.{is_whole, test_alone}
 use Rattle.mini_stmt.specs.MinimizeStatements.{is_read, lead_of, joins, jumps_anyway, is_quiet_after, is_quiet, last_lead_after, last_lead, reversed, QuietRests}
 use Rattle.mini_stmt.proofs.Follows.{jumps_are}
 
@@ -225,11 +225,28 @@ takes_head o (If a b) e s j = ap (λ b. b && (is_joinable e || false)) s ∙ or_
 takes_head o (Switch a) e s j = ap (λ b. b && (is_joinable e || false)) s ∙ or_none _ ∙ j
 takes_head o (For a b c) e s j = ap (λ b. b && (is_joinable e || is_absent_part e)) s ∙ ap (λ b. b || is_absent_part e) j
 
+whole_is : (b : Tree) → (b ≡ absent) ⊎ (is_absent b ≡ false) → is_whole b ≡ true
+whole_is b (inl e) = ap is_whole e
+whole_is b (inr e) = ap (λ c. is_absent_part b || not c) e ∙ always (is_absent_part b)
+  where
+    always : (c : Bool) → c || true ≡ true
+    always true = refl
+    always false = refl
+
+return_lead : (a b : Tree) → is_whole b ≡ true → lead_of (if_alone a (return_statement b)) ≡ Return (is_absent_part b)
+return_lead a b h = ap (λ c. if c then Return (is_absent_part b) else Nothing) h
+
+throw_lead : (a b : Tree) → is_whole b ≡ true → lead_of (if_alone a (throw_statement b)) ≡ Throw
+throw_lead a b h = ap (λ c. if c then Throw else Nothing) h
+
+answered : (o : Switches) (c : Tree) → o.sequences ≡ true → is_absent c ≡ false → has_alternates 500 c ≡ false → o.sequences && (not (is_absent c) && not (has_alternates 500 c)) ≡ true
+answered o c s e f = ap (λ b. b && (not (is_absent c) && not (has_alternates 500 c))) s ∙ ap (λ b. not b && not (has_alternates 500 c)) e ∙ ap not f
+
 sequences_told : (o : Switches) (l : Lead) (a b : Trees) → o.sequences ≡ true → SequencesRow a b → Told o l a
 sequences_told o l a b s (inl r) =
     subst (Told o l) (sym r.shape) (inr (inl (ap (λ m. joins o m (expression_statement (of_parts r.q r.qs))) (expression_lead (of_parts r.p r.ps) (joinable_parts r.p r.ps r.first)) ∙ ap (λ b. b && (is_joinable (of_parts r.q r.qs) || false)) s ∙ or_none _ ∙ joinable_parts r.q r.qs r.second)))
-sequences_told o l a b s (inr (inl r)) = subst (Told o l) (sym r.shape) (inr (inl (ap (λ b. b && (not (is_absent r.right) && not (has_alternates 500 r.right))) s ∙ ap (λ b. not b && not (has_alternates 500 r.right)) r.present ∙ ap not r.short)))
-sequences_told o l a b s (inr (inr (inl r))) = subst (Told o l) (sym r.shape) (inr (inl (ap (λ b. b && (not (is_absent r.right) && not (has_alternates 500 r.right))) s ∙ ap (λ b. not b && not (has_alternates 500 r.right)) r.present ∙ ap not r.short)))
+sequences_told o l a b s (inr (inl r)) = subst (Told o l) (sym r.shape) (inr (inl (ap (λ m. joins o m (return_statement r.right)) (return_lead r.test r.left (whole_is r.left r.whole)) ∙ answered o r.right s r.present r.short)))
+sequences_told o l a b s (inr (inr (inl r))) = subst (Told o l) (sym r.shape) (inr (inl (ap (λ m. joins o m (throw_statement r.right)) (throw_lead r.test r.left (whole_is r.left r.whole)) ∙ answered o r.right s r.present r.short)))
 sequences_told o l a b s (inr (inr (inr (inl r)))) = subst (Told o l) (sym r.shape) (inr (inr (ap (λ b. b && true) s)))
 sequences_told o l a b s (inr (inr (inr (inr (inl r))))) = subst (Told o l) (sym r.shape) (inr (inl (ap (λ m. joins o m (with_head r.head (of_parts r.q r.qs))) (expression_lead (of_parts r.p r.ps) (joinable_parts r.p r.ps r.first)) ∙ takes_head o r.head (of_parts r.q r.qs) s (joinable_parts r.q r.qs r.second))))
 sequences_told o l a b s (inr (inr (inr (inr (inr (inl r)))))) = subst (Told o l) (sym r.shape) (inr (inl (ap (λ m. joins o m (for_loop absent r.test r.update r.body)) (expression_lead (of_parts r.p r.ps) (joinable_parts r.p r.ps r.first)) ∙ ap (λ b. b && true) s)))

@@ -1,18 +1,22 @@
 -- 73: `if (a) return b; return c;` becomes `return a ? b : c;`, and `throw` likewise; `if (a) return; return;` becomes
 -- `a; return;`.
-use Rattle.std.specs.Prelude.{Bool, not, ◌&&◌}
+use Rattle.std.specs.Prelude.{Bool, not, ◌&&◌, ◌||◌}
 use Rattle.mini_model.specs.Tree.{Tree, is_absent, conditional, expression_statement}
 use Rattle.mini_node.specs.Children.{part}
 use Rattle.mini_node.specs.Kinds.{is_absent_part, is_if_alone, is_return_statement, is_throw_statement, return_statement, throw_statement}
 use Rattle.mini_rows.specs.Lists.{has_alternates, or_void}
 
+-- an argument; or none, and nothing in its place
+abbrev pub is_whole : Tree → Bool
+is_whole b = is_absent_part b || not (is_absent b)
+
 -- `if (a) return b;` or `if (a) return;`
 abbrev pub guards_return : Tree → Bool
-guards_return t = is_if_alone t && is_return_statement (part t 1)
+guards_return t = is_if_alone t && (is_return_statement (part t 1) && is_whole (part (part t 1) 0))
 
 -- `if (a) throw b;`
 abbrev pub guards_throw : Tree → Bool
-guards_throw t = is_if_alone t && is_throw_statement (part t 1)
+guards_throw t = is_if_alone t && (is_throw_statement (part t 1) && is_whole (part (part t 1) 0))
 
 -- an argument that the other one may be joined to
 abbrev pub is_answer : Tree → Bool

@@ -17,27 +17,38 @@ use mini_node::{
 use mini_text::OutOfMemory;
 use std::alloc::Global;
 
+// Whether there is no node.
+fn is_missing(node: &Node) -> bool
+    ensures { result ≡ is_absent node.now }
+{
+    matches!(node.shape(), Shape::Absent)
+}
+
+// Whether it is an argument; or none, and nothing in its place.
+fn is_whole(node: &Node) -> bool
+    ensures { result ≡ row.is_whole node.now }
+{
+    is_absent_part(node) || !is_missing(node)
+}
+
 /// `if (a) return b;` or `if (a) return;`
 pub fn guards_return(node: &Node) -> bool
     ensures kind { result ≡ row.guards_return node.now }
     ensures parts { result ≡ true → count (children node.now) ≡ 3 }
     ensures inner { result ≡ true → count (children (part node.now 1)) ≡ 1 }
 {
-    is_if_alone(node) && is_return_statement(node.child(1))
+    is_if_alone(node)
+        && is_return_statement(node.child(1))
+        && is_whole(node.child(1).child(0))
 }
 
 /// `if (a) throw b;`
 pub fn guards_throw(node: &Node) -> bool
     ensures { result ≡ row.guards_throw node.now }
 {
-    is_if_alone(node) && is_throw_statement(node.child(1))
-}
-
-// Whether there is no node.
-fn is_missing(node: &Node) -> bool
-    ensures { result ≡ is_absent node.now }
-{
-    matches!(node.shape(), Shape::Absent)
+    is_if_alone(node)
+        && is_throw_statement(node.child(1))
+        && is_whole(node.child(1).child(0))
 }
 
 // Whether the other argument may be joined to it.
