@@ -39,3 +39,4 @@ pub mod BranchInside
 pub mod BranchAround
 pub mod BranchParts
 pub mod BranchLawful
+pub mod ArrangedBetween

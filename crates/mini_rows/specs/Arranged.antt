@@ -1,5 +1,5 @@
 -- What is built anew of the same parts keeps all that a program has to keep, but for its meaning and its shape.
-use Rattle.std.specs.Prelude.{ℕ, ◌≤◌, ◌≡◌, List, [], ◌∷◌, Bool, true, false, Contains, None}
+use Rattle.std.specs.Prelude.{ℕ, ◌≤◌, ◌≡◌, ◌⊎◌, List, [], ◌∷◌, Bool, true, false, Contains, None}
 use Rattle.mini_model.specs.declared.name.Name.{Name}
 use Rattle.mini_model.specs.declared.place.Position.{Position}
 use Rattle.mini_model.specs.declared.place.Position.TheVariants.{Expr, Stmt, StatementList}
@@ -30,7 +30,7 @@ use Rattle.mini_kept.specs.Lawful.{Lawful}
 use Rattle.mini_kept.specs.Lifted.{is_piece}
 use Rattle.mini_kept.specs.Placed.{fits_place}
 use Rattle.mini_kept.specs.Standing.{Stands}
-use Rattle.mini_rows.specs.Lists.{is_unscoped, are_unscoped}
+use Rattle.mini_rows.specs.Lists.{is_unscoped, are_unscoped, return_statement, throw_statement, Row66Empty, Row66Joined, Row79, Row73, Row73Bare, Row76, InList}
 use Rattle.mini_rows.specs.Sketches.{Sketch, Items, Parts, Hole, Part, Stretch, Leaps, AsWhole, AsValue, parts_of, list_at, filled, items_filled, Free, rearranges_expression, rearranges_statement, rearranges_list}
 
 -- of one node and what is written for it: what a lawful relation keeps of it
@@ -136,6 +136,13 @@ Row82AndKept = (q : StmtSeat) (n w : Tree) → Row82And n w → KeptAt (Stmt q) 
 -- and `a || b;` for `if (!a) b;`
 abbrev pub Row82OrKept : Type 0
 Row82OrKept = (q : StmtSeat) (n w : Tree) → Row82Or n w → KeptAt (Stmt q) n w
+
+-- and so are rows of neighbours in a list of statements, whatever stands before and after them
+abbrev pub NeighboursRow : Trees → Trees → Type 0
+NeighboursRow a b = Row66Empty a b ⊎ (Row66Joined a b ⊎ (Row79 a b ⊎ (Row73 return_statement a b ⊎ (Row73 throw_statement a b ⊎ (Row73Bare a b ⊎ Row76 a b)))))
+
+abbrev pub NeighboursKept : Type 0
+NeighboursKept = (n w : Tree) → InList NeighboursRow n w → KeptAt StatementList n w
 
 -- a relation is lawful if each of its instances is kept, means the same and keeps its shape, where it is made at expressions,
 -- statements and lists of statements, in the slots where a body has them
