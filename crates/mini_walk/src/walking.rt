@@ -113,9 +113,9 @@ fn repeat_below<R: Rule>(
     ensures reached { OnOk result (ByKnown R.Context.knows context.old (λ o q. Reaches (R.gives o q) place node.old node.new)) }
     ensures known { OnOk result (KnowsAsBefore R.Context.knows context.old context.new) }
 {
-    let count = node.children().len();
-    for at in 0..count {
-        let stands = child_place(node.shape(), place, count, at);
+    let parts = node.children().len();
+    for at in 0..parts {
+        let stands = child_place(node.shape(), place, parts, at);
         let child = node.children_mut().child_mut(at);
         let _changed = repeat(rule, alloc, child, stands, context)?;
     }
