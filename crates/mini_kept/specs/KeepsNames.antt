@@ -15,7 +15,7 @@ use Rattle.mini_names.specs.Edits.{Kept}
 use Rattle.mini_names.specs.Early.{Path, body_declarations, in_body, children_of_node, early_names, early_jumps, is_loop}
 use Rattle.mini_kept.specs.Carried.{numbers}
 
--- the names of an expression are read; what else stands at a place may be used in any way
+-- the names of an expression are read, and those of a list of statements; what else stands at a place may be used in any way
 abbrev pub is_read : Use → Bool
 is_read Read = true
 is_read _ = false
@@ -25,6 +25,7 @@ is_used (Expr s) u = is_read u
 is_used ArgumentList u = is_read u
 is_used (SequenceList s) u = is_read u
 is_used TemplateList u = is_read u
+is_used StatementList u = is_read u
 is_used p u = true
 
 -- an inner expression stands for itself
