@@ -40,3 +40,4 @@ pub mod BranchAround
 pub mod BranchParts
 pub mod BranchLawful
 pub mod ArrangedBetween
+pub mod ListKept

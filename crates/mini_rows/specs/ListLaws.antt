@@ -1,8 +1,12 @@
 -- What the rows of lists of statements keep.
+use Rattle.std.specs.Prelude.{◌≡◌, ◌⊎◌, Bool, true, false}
+use Rattle.mini_model.specs.declared.place.Position.TheVariants.{StatementList}
+use Rattle.mini_model.specs.Tree.{Tree, Trees}
 use Rattle.mini_laws.specs.Rewritten.{MeansSame}
 use Rattle.mini_laws.specs.Weights.{Lightens}
 use Rattle.mini_rows.specs.Switches.{Switches}
-use Rattle.mini_rows.specs.Lists.{ListContracts}
+use Rattle.mini_rows.specs.Arranged.{KeptAt}
+use Rattle.mini_rows.specs.Lists.{return_statement, throw_statement, Head, Switch, For, Row66Empty, Row66Joined, Row67, Row73, Row73Bare, Row76, Row79, InList, ListContracts}
 
 -- the meaning
 abbrev pub ListsMeanSame : Type 0
@@ -11,3 +15,22 @@ ListsMeanSame = (o : Switches) → MeansSame (ListContracts o)
 -- and they make the whole lighter, wherever in it they are used
 abbrev pub ListsLighten : Type 0
 ListsLighten = (o : Switches) → Lightens (ListContracts o)
+
+-- A statement whose head an expression is joined to opens a scope, in which what the head declares is seen
+abbrev pub opens_scope : Head → Bool
+opens_scope (Switch cases) = true
+opens_scope (For test update body) = true
+opens_scope h = false
+
+-- an expression goes into another one
+pub record PlainHead (a b : Trees) : Type 0 where
+  pub row : Row67 a b
+  pub plain : opens_scope row.head ≡ false
+
+-- the rows of lists but those of such statements and of declarations
+abbrev pub PlainRow : Trees → Trees → Type 0
+PlainRow a b = Row66Empty a b ⊎ (Row79 a b ⊎ (Row66Joined a b ⊎ (Row73 return_statement a b ⊎ (Row73 throw_statement a b ⊎ (Row73Bare a b ⊎ (PlainHead a b ⊎ Row76 a b))))))
+
+-- and what these write keeps all that a program has to keep, but for its shape
+abbrev pub PlainListsKept : Type 0
+PlainListsKept = (n w : Tree) → InList PlainRow n w → KeptAt StatementList n w

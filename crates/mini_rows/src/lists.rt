@@ -1,7 +1,7 @@
 //! The rows of lists of statements.
 
 ghost use Rattle.mini_rows.specs.Lists.{ListsLighter};
-ghost use Rattle.mini_rows.specs.ListLaws.{ListsMeanSame, ListsLighten};
+ghost use Rattle.mini_rows.specs.ListLaws.{ListsMeanSame, ListsLighten, PlainListsKept};
 
 /// What a row of lists writes is lighter in every list, so that no weight is asked before it is applied.
 pub fn lists_are_lighter()
@@ -12,4 +12,10 @@ pub fn lists_are_lighter()
 pub fn lists_are_same()
     ensures means { ListsMeanSame }
     ensures lightens { ListsLighten }
+{}
+
+/// What a row of lists writes keeps all that a program has to keep, but for its shape: of the rows but those of declarations and
+/// of heads that open a scope.
+pub fn plain_lists_are_kept()
+    ensures { PlainListsKept }
 {}

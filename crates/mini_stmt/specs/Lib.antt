@@ -6,3 +6,4 @@ pub mod JoinJumps
 pub mod SplitIf
 pub mod SpreadBlock
 pub mod MinimizeStatements
+pub mod Lighter

@@ -9,6 +9,7 @@ use Rattle.mini_model.specs.Rewriting.{Step, Reaches}
 use Rattle.mini_node.specs.Children.{part}
 use Rattle.mini_node.specs.Kinds.{is_absent_part, is_empty_statement}
 use Rattle.mini_tree.specs.declared.options.CompressOptions.{CompressOptions}
+use Rattle.mini_walk.specs.Rule as rule
 use Rattle.mini_rows.specs.Switches.{Switches}
 use Rattle.mini_rows.specs.Lists.{ListRow, ListContracts}
 use Rattle.mini_stmt.specs.declared.lead.Lead.{Lead}
@@ -88,10 +89,8 @@ reversed none = none
 reversed (t ▸ ts) = append (reversed ts) (t ▸ none)
 
 -- steps of the rows, and at least one
-pub record Moves (o : Switches) (t u : Tree) : Type 0 where
-  pub next : Tree
-  pub step : Step (ListContracts o) StatementList t next
-  pub others : Reaches (ListContracts o) StatementList next u
+abbrev pub Moves : Switches → Tree → Tree → Type 0
+Moves o t u = rule.Moves (ListContracts o) StatementList t u
 
 -- whether the list changed: by steps of the rows, or not at all
 abbrev pub Changes : Switches → Trees → Trees → Bool → Type 0
@@ -118,5 +117,11 @@ pub record Placed (o : Switches) (before : Trees) (t : Tree) (after : Trees) (ch
 
 -- the node of a list: it changes by steps of the rows, or it is the same and no row reads it
 abbrev pub MinimizesList : Switches → Tree → Tree → Bool → Type 0
-MinimizesList o t u true = Moves o t u
-MinimizesList o t u false = (u ≡ t) × Rests o StatementList t
+MinimizesList o t u changed = rule.Applied (ListContracts o) (Rests o) StatementList t u changed
+
+-- as a rule: under some options, whatever the program is
+abbrev pub Gives : CompressOptions → Tree → Position → Tree → Tree → Type 0
+Gives o q = ListContracts (switches_of o)
+
+abbrev pub RestsUnder : CompressOptions → Tree → Position → Tree → Type 0
+RestsUnder o q = Rests (switches_of o)

@@ -7,4 +7,4 @@ mod statements;
 mod terms;
 
 pub use lead::{Lead, lead_of};
-pub use statements::{minimize_statements, no_row_reads_a_quiet_list};
+pub use statements::{MinimizeStatements, minimize_statements, no_row_reads_a_quiet_list};

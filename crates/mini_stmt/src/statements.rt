@@ -4,7 +4,9 @@ ghost use Rattle.std.specs.Prelude.{◌≡◌, ◌<◌, ◌+◌, IfOk, OnOk, tru
 ghost use Rattle.mini_model.specs.Paths.{append};
 ghost use Rattle.mini_model.specs.Tree.{none, ◌▸◌, children, count, node_count, node_counts};
 ghost use Rattle.mini_stmt.specs.MinimizeStatements as row;
-ghost use Rattle.mini_stmt.specs.MinimizeStatements.{QuietRests, Changes, Minimized, MinimizesList, Placed, switches_of};
+ghost use Rattle.mini_stmt.specs.MinimizeStatements.{QuietRests, Changes, Minimized, MinimizesList, Placed, Gives, RestsUnder, switches_of};
+ghost use Rattle.mini_stmt.specs.Lighter.{lists_lighter};
+ghost use Rattle.mini_walk.specs.Rule.{Applied};
 
 use crate::lead::{Lead, lead_of};
 use crate::rewrites::join_expressions::joined_expressions;
@@ -16,10 +18,12 @@ use crate::rewrites::join_vars::{declares, joined_declarations};
 use crate::rewrites::split_if::{split, splits};
 use crate::rewrites::spread_block::{body_of, spreads};
 use crate::terms::is_joinable_statement;
-use mini_model::Shape;
+use mini_context::TraverseCtx;
+use mini_model::{Position, Shape};
 use mini_node::{Node, Nodes, discard, is_empty_statement, is_listed};
 use mini_text::OutOfMemory;
 use mini_tree::CompressOptions;
+use mini_walk::Rule;
 use std::alloc::Global;
 use std::mem;
 
@@ -261,4 +265,30 @@ pub fn minimize_statements(
         return Ok(false);
     }
     minimize_all(alloc, options, node.children_mut())
+}
+
+/// The rows of lists as a rule: of each list of statements.
+pub struct MinimizeStatements;
+
+impl Rule for MinimizeStatements {
+    type Context = TraverseCtx;
+
+    ghost gives = { Gives };
+
+    ghost rests = { RestsUnder };
+
+    ghost lighter = { lists_lighter };
+
+    fn apply(
+        &self,
+        alloc: Global,
+        node: &mut Node,
+        place: Position,
+        context: &mut TraverseCtx,
+    ) -> Result<bool, OutOfMemory> {
+        match place {
+            Position::StatementList => Ok(minimize_statements(alloc, context.options, node)?),
+            _ => Ok(false),
+        }
+    }
 }

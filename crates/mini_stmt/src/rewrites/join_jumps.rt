@@ -37,18 +37,14 @@ pub fn guards_return(node: &Node) -> bool
     ensures parts { result ≡ true → count (children node.now) ≡ 3 }
     ensures inner { result ≡ true → count (children (part node.now 1)) ≡ 1 }
 {
-    is_if_alone(node)
-        && is_return_statement(node.child(1))
-        && is_whole(node.child(1).child(0))
+    is_if_alone(node) && is_return_statement(node.child(1)) && is_whole(node.child(1).child(0))
 }
 
 /// `if (a) throw b;`
 pub fn guards_throw(node: &Node) -> bool
     ensures { result ≡ row.guards_throw node.now }
 {
-    is_if_alone(node)
-        && is_throw_statement(node.child(1))
-        && is_whole(node.child(1).child(0))
+    is_if_alone(node) && is_throw_statement(node.child(1)) && is_whole(node.child(1).child(0))
 }
 
 // Whether the other argument may be joined to it.

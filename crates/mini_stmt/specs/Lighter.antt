@@ -1,0 +1,9 @@
+-- A step of the rule of lists makes the whole lighter.
+use Rattle.mini_laws.proofs.Lighter.{any_step_lighter}
+use Rattle.mini_rows.specs.Lists.{ListContracts}
+use Rattle.mini_rows.proofs.ListWeights.{lists_lighten}
+use Rattle.mini_walk.specs.Rule.{AreLighter}
+use Rattle.mini_stmt.specs.MinimizeStatements.{switches_of, Gives}
+
+pub lists_lighter : AreLighter Gives
+lists_lighter o q = any_step_lighter (ListContracts (switches_of o)) (lists_lighten (switches_of o))
