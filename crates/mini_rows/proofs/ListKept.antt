@@ -1,16 +1,16 @@
 -- What the rows of lists write keeps what a program has to keep.
-use Rattle.std.proofs.Common.{◌≡◌, ℕ, Bool, true, false, List, [], ◌∷◌, refl, sym, ap, ◌∙◌, subst, inl, inr, true≢false}
-use Rattle.std.specs.Prelude.{◌⊎◌, pos, if◌then◌else◌}
-use Rattle.mini_model.specs.declared.operator.UnaryOperator.TheVariants.{Void}
+use Rattle.std.proofs.Common.{◌≡◌, ℕ, true, false, [], ◌∷◌, refl, sym, ap, ◌∙◌, inl, inr, true≢false}
+use Rattle.std.specs.Prelude.{◌⊎◌}
 use Rattle.mini_model.specs.declared.place.Position.TheVariants.{StatementList}
-use Rattle.mini_model.specs.Tree.{Tree, Trees, none, ◌▸◌, listed, absent, is_absent, expression_statement, if_else, if_alone, conditional}
+use Rattle.mini_model.specs.Tree.{Tree, Trees, none, ◌▸◌, listed, absent, expression_statement, if_else}
 use Rattle.mini_model.specs.Paths.{append}
-use Rattle.mini_rows.specs.Arranged.{KeptAt}
-use Rattle.mini_rows.specs.Lists.{of_parts, sequence, block, return_statement, throw_statement, or_void, void_zero, with_head, Row66Empty, Row66Joined, Row67, Row73, Row73Bare, Row76, Row79}
+use Rattle.mini_rows.specs.Arranged.{KeptAt, NeighboursRow}
+use Rattle.mini_rows.specs.Lists.{of_parts, sequence, return_statement, throw_statement, with_head, InList}
 use Rattle.mini_rows.specs.Lists as row
-use Rattle.mini_rows.specs.Sketches.{Sketch, Sketches, Items, Parts, Free, AbsentPart, Number, Unary, Conditional, Sequence, Empty, OfExpression, Throw, Return, If, Block, part, under, list, end, ◌▹◌, no_items, item, items, filled, still, rearranges_list}
-use Rattle.mini_rows.specs.ListLaws.{opens_scope, PlainRow, PlainListsKept}
+use Rattle.mini_rows.specs.Sketches.{Sketch, Items, Parts, Sequence, OfExpression, Throw, Return, If, part, under, list, end, ◌▹◌, no_items, item, items, filled, still, rearranges_list}
+use Rattle.mini_rows.specs.ListLaws.{PlainHead, opens_scope, PlainRow, PlainListsKept}
 use Rattle.mini_rows.proofs.ArrangedStatements.{lists_arranged}
+use Rattle.mini_rows.proofs.ArrangedBetween.{in_list_kept}
 
 append_none : (ts : Trees) → append ts none ≡ ts
 append_none none = refl
@@ -23,55 +23,6 @@ module _ (before after a b : Trees) (n w : Tree) (s : n ≡ listed (append befor
 
   put_as : (f : Trees) → b ≡ f → w ≡ listed (append before (append f (append after none)))
   put_as f e = v ∙ ap (λ x. listed (append before (append x after))) e ∙ ap (λ x. listed (append before (append f x))) (sym (append_none after))
-
-  pub row_66_empty : Row66Empty a b → KeptAt StatementList n w
-  row_66_empty r = lists_arranged still (record { trees = none; lists = before ∷ after ∷ [] }) (tt, tt, tt) (items 0 (item (under Empty end) (items 1 no_items))) (items 0 (items 1 no_items)) refl n w (read_as _ r.shape) (put_as _ r.written)
-
-  pub row_79 : Row79 a b → KeptAt StatementList n w
-  row_79 r = lists_arranged (record { moved = []; lists_moved = 2 ∷ []; dropped = [] }) (record { trees = none; lists = before ∷ after ∷ r.statements ∷ [] }) (tt, (r.unscoped, tt), tt) (items 0 (item (under Block (list (items 2 no_items) ▹ end)) (items 1 no_items))) (items 0 (items 2 (items 1 no_items))) refl n w (read_as _ (r.shape ∙ ap (λ x. block x ▸ none) (sym (append_none r.statements)))) (put_as _ r.written)
-
-  pub row_76 : Row76 a b → KeptAt StatementList n w
-  row_76 r = lists_arranged (record { moved = 2 ∷ []; lists_moved = []; dropped = [] }) (record { trees = r.test ▸ (r.s ▸ (r.u ▸ none)); lists = before ∷ after ∷ [] }) ((r.unscoped, tt), tt, tt)
-      (items 0 (item (under If (part 0 ▹ part 1 ▹ part 2 ▹ end)) (items 1 no_items)))
-      (items 0 (item (under If (part 0 ▹ part 1 ▹ under AbsentPart end ▹ end)) (item (part 2) (items 1 no_items)))) refl n w (read_as _ r.shape) (put_as _ r.written)
-
-  pub row_73_bare : Row73Bare a b → KeptAt StatementList n w
-  row_73_bare r = lists_arranged still (record { trees = r.test ▸ none; lists = before ∷ after ∷ [] }) (tt, tt, tt)
-      (items 0 (item (under If (part 0 ▹ under Return (under AbsentPart end ▹ end) ▹ under AbsentPart end ▹ end)) (item (under Return (under AbsentPart end ▹ end)) (items 1 no_items))))
-      (items 0 (item (under OfExpression (part 0 ▹ end)) (item (under Return (under AbsentPart end ▹ end)) (items 1 no_items)))) refl n w (read_as _ r.shape) (put_as _ r.written)
-
-  value_itself : (t : Tree) → is_absent t ≡ false → or_void t ≡ t
-  value_itself t e = ap (λ c. if c then void_zero else t) e
-
-  pub row_73_return : Row73 return_statement a b → KeptAt StatementList n w
-  row_73_return r = go r.whole
-    where
-      go : (r.left ≡ absent) ⊎ (is_absent r.left ≡ false) → KeptAt StatementList n w
-      go (inl e) = lists_arranged still (record { trees = r.test ▸ (r.right ▸ none); lists = before ∷ after ∷ [] }) (tt, tt, tt)
-          (items 0 (item (under If (part 0 ▹ under Return (under AbsentPart end ▹ end) ▹ under AbsentPart end ▹ end)) (item (under Return (part 1 ▹ end)) (items 1 no_items))))
-          (items 0 (item (under Return (under Conditional (part 0 ▹ under (Unary Void) (under (Number (pos 0)) end ▹ end) ▹ part 1 ▹ end) ▹ end)) (items 1 no_items))) refl n w
-          (read_as _ (r.shape ∙ ap (λ x. if_alone r.test (return_statement x) ▸ (return_statement r.right ▸ none)) e))
-          (put_as _ (r.written ∙ ap (λ x. return_statement (conditional r.test (or_void x) r.right) ▸ none) e))
-      go (inr e) = lists_arranged still (record { trees = r.test ▸ (r.right ▸ (r.left ▸ none)); lists = before ∷ after ∷ [] }) (tt, tt, tt)
-          (items 0 (item (under If (part 0 ▹ under Return (part 2 ▹ end) ▹ under AbsentPart end ▹ end)) (item (under Return (part 1 ▹ end)) (items 1 no_items))))
-          (items 0 (item (under Return (under Conditional (part 0 ▹ part 2 ▹ part 1 ▹ end) ▹ end)) (items 1 no_items))) refl n w
-          (read_as _ r.shape)
-          (put_as _ (r.written ∙ ap (λ x. return_statement (conditional r.test x r.right) ▸ none) (value_itself r.left e)))
-
-  pub row_73_throw : Row73 throw_statement a b → KeptAt StatementList n w
-  row_73_throw r = go r.whole
-    where
-      go : (r.left ≡ absent) ⊎ (is_absent r.left ≡ false) → KeptAt StatementList n w
-      go (inl e) = lists_arranged still (record { trees = r.test ▸ (r.right ▸ none); lists = before ∷ after ∷ [] }) (tt, tt, tt)
-          (items 0 (item (under If (part 0 ▹ under Throw (under AbsentPart end ▹ end) ▹ under AbsentPart end ▹ end)) (item (under Throw (part 1 ▹ end)) (items 1 no_items))))
-          (items 0 (item (under Throw (under Conditional (part 0 ▹ under (Unary Void) (under (Number (pos 0)) end ▹ end) ▹ part 1 ▹ end) ▹ end)) (items 1 no_items))) refl n w
-          (read_as _ (r.shape ∙ ap (λ x. if_alone r.test (throw_statement x) ▸ (throw_statement r.right ▸ none)) e))
-          (put_as _ (r.written ∙ ap (λ x. throw_statement (conditional r.test (or_void x) r.right) ▸ none) e))
-      go (inr e) = lists_arranged still (record { trees = r.test ▸ (r.right ▸ (r.left ▸ none)); lists = before ∷ after ∷ [] }) (tt, tt, tt)
-          (items 0 (item (under If (part 0 ▹ under Throw (part 2 ▹ end) ▹ under AbsentPart end ▹ end)) (item (under Throw (part 1 ▹ end)) (items 1 no_items))))
-          (items 0 (item (under Throw (under Conditional (part 0 ▹ part 2 ▹ part 1 ▹ end) ▹ end)) (items 1 no_items))) refl n w
-          (read_as _ r.shape)
-          (put_as _ (r.written ∙ ap (λ x. throw_statement (conditional r.test x r.right) ▸ none) (value_itself r.left e)))
 
 -- ---- expressions that are joined
 
@@ -165,15 +116,9 @@ heads_kept before after a b n w s t row.Throw p ps q qs g e f = joined_kept befo
 heads_kept before after a b n w s t (row.If u v) p ps q qs g e f = joined_kept before after a b n w s t AsIf p ps q qs u v e f
 heads_kept before after a b n w s t h p ps q qs g e f = absurd (true≢false g)
 
-plain_kept : (before after a b : Trees) (n w : Tree) → n ≡ listed (append before (append a after)) → w ≡ listed (append before (append b after)) → PlainRow a b → KeptAt StatementList n w
-plain_kept before after a b n w s t (inl r) = row_66_empty before after a b n w s t r
-plain_kept before after a b n w s t (inr (inl r)) = row_79 before after a b n w s t r
-plain_kept before after a b n w s t (inr (inr (inl r))) = joined_kept before after a b n w s t AsStatement r.p r.ps r.q r.qs absent absent r.shape r.written
-plain_kept before after a b n w s t (inr (inr (inr (inl r)))) = row_73_return before after a b n w s t r
-plain_kept before after a b n w s t (inr (inr (inr (inr (inl r))))) = row_73_throw before after a b n w s t r
-plain_kept before after a b n w s t (inr (inr (inr (inr (inr (inl r)))))) = row_73_bare before after a b n w s t r
-plain_kept before after a b n w s t (inr (inr (inr (inr (inr (inr (inl r))))))) = heads_kept before after a b n w s t r.row.head r.row.p r.row.ps r.row.q r.row.qs r.plain r.row.shape r.row.written
-plain_kept before after a b n w s t (inr (inr (inr (inr (inr (inr (inr r))))))) = row_76 before after a b n w s t r
+row_kept : (n w : Tree) (r : InList PlainRow n w) → NeighboursRow r.read r.put ⊎ PlainHead r.read r.put → KeptAt StatementList n w
+row_kept n w r (inl x) = in_list_kept n w (record { before = r.before; read = r.read; put = r.put; after = r.after; row = x; shape = r.shape; written = r.written })
+row_kept n w r (inr x) = heads_kept r.before r.after r.read r.put n w r.shape r.written x.row.head x.row.p x.row.ps x.row.q x.row.qs x.plain x.row.shape x.row.written
 
 pub plain_lists_kept : PlainListsKept
-plain_lists_kept n w r = plain_kept r.before r.after r.read r.put n w r.shape r.written r.row
+plain_lists_kept n w r = row_kept n w r r.row

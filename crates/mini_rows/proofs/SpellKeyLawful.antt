@@ -1,6 +1,6 @@
 -- What a row on a key writes keeps all that a program has to keep: it is built anew of the same parts.
-use Rattle.std.proofs.Common.{◌≡◌, ℕ, Bool, true, false, List, [], ◌∷◌, refl, sym, ap, ◌∙◌, inl, inr}
-use Rattle.std.specs.Prelude.{◌⊎◌, pos}
+use Rattle.std.proofs.Common.{◌≡◌, Bool, true, false, [], ◌∷◌, refl, sym, ap, ◌∙◌, inl, inr}
+use Rattle.std.specs.Prelude.{pos}
 use Rattle.std.specs.Fmt.{signed_decimal}
 use Rattle.mini_model.specs.declared.place.Position.{Position}
 use Rattle.mini_model.specs.declared.place.Position.TheVariants.{Expr}
@@ -10,7 +10,7 @@ use Rattle.mini_model.specs.Tree.{Tree, Trees, none, ◌▸◌, identifier}
 use Rattle.mini_kept.specs.KeepsNames.{is_rewritten_place}
 use Rattle.mini_kept.specs.Lawful.{Lawful}
 use Rattle.mini_rows.specs.Arranged.{KeptAt}
-use Rattle.mini_rows.specs.Sketches.{Object, Property, Number, String, PropertyName, Sketch, Items, part, under, list, end, ◌▹◌, no_items, item, items, Parts, filled, still, rearranges_expression}
+use Rattle.mini_rows.specs.Sketches.{Object, Property, Number, String, PropertyName, Sketch, part, under, list, end, ◌▹◌, no_items, item, items, Parts, filled, still, rearranges_expression}
 use Rattle.mini_rows.specs.SpellKeys.{object_literal, PropertyRow, RowInObject, KeyRow, KeyContracts}
 use Rattle.mini_rows.proofs.ArrangedExpressions.{expressions_arranged}
 use Rattle.mini_rows.proofs.ArrangedLawful.{kept_is_lawful}

@@ -1,6 +1,6 @@
 -- What each row on a key writes means the same.
 use Rattle.std.proofs.Common.{◌≡◌, ℕ, zero, suc, ◌<◌, Bool, true, false, List, [], ◌∷◌, refl, sym, ap, subst, ◌∙◌, inl, inr, arith}
-use Rattle.std.specs.Prelude.{◌⊎◌, ◌&&◌, not, nat_eq, codes, pos}
+use Rattle.std.specs.Prelude.{◌&&◌, nat_eq, codes, pos}
 use Rattle.std.specs.Fmt.{signed_decimal}
 use Rattle.std.specs.Char.{digit_value}
 use Rattle.std.specs.Str.Parse.{AllDigits}
@@ -12,10 +12,10 @@ use Rattle.mini_model.specs.declared.place.Position.{Position}
 use Rattle.mini_model.specs.declared.place.Position.TheVariants.{Expr}
 use Rattle.mini_model.specs.declared.shape.Shape.TheVariants as shape
 use Rattle.mini_model.specs.Paths.{append}
-use Rattle.mini_model.specs.Tree.{Tree, Trees, node, none, ◌▸◌, listed, identifier}
+use Rattle.mini_model.specs.Tree.{Tree, Trees, none, ◌▸◌, listed, identifier}
 use Rattle.mini_model.specs.Weight.{same_text}
 use Rattle.mini_meaning.specs.Value.{Value, Number, String, choose}
-use Rattle.mini_meaning.specs.State.{State, ok, stop, either, Environment, Prototype, Field}
+use Rattle.mini_meaning.specs.State.{State, ok, either, Environment, Prototype, Field}
 use Rattle.mini_meaning.specs.Demand.{Val, Demand, As, AnEntry, Request}
 use Rattle.mini_meaning.specs.Naming.{summary, summaries}
 use Rattle.mini_meaning.specs.Step.{step, means, meaning}
@@ -23,7 +23,7 @@ use Rattle.mini_laws.specs.Rows.{SameAt}
 use Rattle.mini_laws.specs.Rewritten.{MeansSame}
 use Rattle.mini_laws.proofs.Runs.{either_cong, either_ok}
 use Rattle.mini_rows.specs.Spellings.{numeral, text, key}
-use Rattle.mini_rows.specs.SpellKeys.{object_literal, property, is_proto, Row51, PropertyRow, RowInObject, KeyRow, KeyContracts}
+use Rattle.mini_rows.specs.SpellKeys.{object_literal, property, is_proto, PropertyRow, RowInObject, KeyRow, KeyContracts}
 use Rattle.mini_rows.proofs.SpellAlike.{SameTree, kids_same, first_same}
 use Rattle.mini_rows.proofs.SpellMeaning.{tree_same, same_by}
 

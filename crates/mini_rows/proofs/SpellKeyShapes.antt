@@ -1,6 +1,6 @@
 -- What a row on a key writes may stand wherever what it reads may, and a parent may ask the same of both.
-use Rattle.std.proofs.Common.{◌≡◌, ℕ, zero, suc, Bool, true, false, List, [], ◌∷◌, Some, None, refl, sym, ap, subst, ◌∙◌, inl, inr, true≢false}
-use Rattle.std.specs.Prelude.{◌⊎◌, ◌&&◌, ◌||◌, not, pos}
+use Rattle.std.proofs.Common.{◌≡◌, ℕ, Bool, true, false, List, [], ◌∷◌, refl, sym, ap, subst, ◌∙◌, inl, inr}
+use Rattle.std.specs.Prelude.{◌&&◌, not, pos}
 use Rattle.std.specs.Fmt.{signed_decimal}
 use Rattle.std.proofs.lemmas.Bool.{eq-eqb}
 use Rattle.std.specs.Char.Utf16.{has_unpaired_surrogate}
@@ -8,10 +8,9 @@ use Rattle.mini_model.specs.declared.name.Name.{Name}
 use Rattle.mini_text.specs.Texts.{are_units, is_identifier_name}
 use Rattle.mini_model.specs.declared.place.Position.{Position}
 use Rattle.mini_model.specs.declared.place.Position.TheVariants.{Expr}
-use Rattle.mini_model.specs.declared.shape.Shape.TheVariants as shape
 use Rattle.mini_model.specs.Paths.{append}
-use Rattle.mini_model.specs.Tree.{Tree, Trees, node, none, ◌▸◌, listed, identifier}
-use Rattle.mini_accept.specs.WellShaped.{Class, a_key, an_expression, an_object_property, Slot, one, many, each, is_safe, is_text, fits, fill}
+use Rattle.mini_model.specs.Tree.{Tree, Trees, none, ◌▸◌, listed, identifier}
+use Rattle.mini_accept.specs.WellShaped.{a_key, an_expression, an_object_property, Slot, one, each, is_safe, is_text, fits, fill}
 use Rattle.mini_kept.specs.KeepsFrames.{is_body_slot}
 use Rattle.mini_kept.specs.KeepsShapes.{AskedAlike}
 use Rattle.mini_kept.proofs.Bools.{left, right, both}

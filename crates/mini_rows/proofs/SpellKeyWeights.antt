@@ -1,9 +1,9 @@
 -- What each row on a key writes weighs less wherever the literal stands.
-use Rattle.std.proofs.Common.{◌≡◌, ℕ, zero, suc, ◌+◌, ◌<◌, ◌≤◌, Bool, true, false, List, [], ◌∷◌, length, refl, sym, ap, subst, ◌∙◌, inl, inr, true≢false, arith}
-use Rattle.std.specs.Prelude.{◌⊎◌, ◌*◌, pos}
+use Rattle.std.proofs.Common.{◌≡◌, ℕ, ◌+◌, ◌<◌, true, false, List, [], ◌∷◌, refl, sym, ap, ◌∙◌, inl, inr, true≢false, arith}
+use Rattle.std.specs.Prelude.{pos}
 use Rattle.std.specs.Fmt.{signed_decimal}
 use Rattle.mini_model.specs.declared.place.Position.{Position}
-use Rattle.mini_model.specs.declared.place.Position.TheVariants.{Expr, CommaList, Elsewhere}
+use Rattle.mini_model.specs.declared.place.Position.TheVariants.{Expr, Elsewhere}
 use Rattle.mini_model.specs.declared.seat.Seat.{Seat}
 use Rattle.mini_model.specs.declared.shape.Shape.TheVariants as shape
 use Rattle.mini_model.specs.Paths.{append}
@@ -11,7 +11,7 @@ use Rattle.mini_model.specs.Tree.{Tree, Trees, none, ◌▸◌, listed, identifi
 use Rattle.mini_model.specs.Weight.{Outline, outline, outlines, commas_weight, place_weight, weight, weights}
 use Rattle.mini_laws.specs.Weights.{Lightens, counts_items}
 use Rattle.mini_rows.specs.Spellings.{numeral, text, key}
-use Rattle.mini_rows.specs.SpellKeys.{object_literal, property, PropertyRow, RowInObject, KeyRow, KeyContracts, KeysLighter}
+use Rattle.mini_rows.specs.SpellKeys.{object_literal, property, PropertyRow, KeyRow, KeyContracts, KeysLighter}
 use Rattle.mini_rows.proofs.SpellWeights.{falls_by}
 
 shorthand_falls : (s : List ℕ) (v : Tree) → weight Elsewhere (property true false (key s) v) < weight Elsewhere (property false false (key s) v)

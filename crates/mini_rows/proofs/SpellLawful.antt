@@ -1,22 +1,20 @@
 -- What a row on a spelling writes keeps all that a program has to keep: it is built anew of the same parts.
 use Rattle.std.proofs.Common.{◌≡◌, ℕ, Bool, true, false, List, [], ◌∷◌, refl, sym, ap, subst, ◌∙◌, inl, inr}
-use Rattle.std.specs.Prelude.{◌⊎◌, pos, ℤ, codes}
+use Rattle.std.specs.Prelude.{pos, ℤ}
 use Rattle.std.specs.Fmt.{signed_decimal}
 use Rattle.mini_model.specs.declared.operator.AssignmentOperator.{AssignmentOperator}
 use Rattle.mini_model.specs.declared.operator.AssignmentOperator.TheVariants.{Assign}
-use Rattle.mini_model.specs.declared.operator.BinaryOperator.{BinaryOperator}
 use Rattle.mini_model.specs.declared.operator.UnaryOperator.TheVariants as unary_operator
 use Rattle.mini_model.specs.declared.place.Position.{Position}
 use Rattle.mini_model.specs.declared.place.Position.TheVariants.{Expr}
 use Rattle.mini_model.specs.declared.seat.Seat.{Seat}
-use Rattle.mini_model.specs.Tree.{Tree, none, ◌▸◌, identifier, unresolved, null_literal}
+use Rattle.mini_model.specs.Tree.{Tree, none, ◌▸◌}
 use Rattle.mini_kept.specs.KeepsNames.{is_rewritten_place}
-use Rattle.mini_kept.specs.KeepsShapes.{KeepsShapes}
 use Rattle.mini_kept.specs.Lawful.{Lawful}
 use Rattle.mini_names.specs.DeclaredNames.{has_inner}
 use Rattle.mini_rows.specs.Arranged.{KeptAt, Vanishes}
-use Rattle.mini_rows.specs.Sketches.{AbsentPart, Null, BooleanValue, Number, String, PropertyName, Unary, Binary, StaticMember, ComputedMember, Yield, Assignment, Update, Sketch, Sketches, part, under, end, ◌▹◌, Free, Parts, still, rearranges_expression}
-use Rattle.mini_rows.specs.Spellings.{boolean, binary, assignment, update, plain, negated_digit, IsUndefined, void_zero, Row33, Row33Name, Row33Number, Row33Assigned, Row33Updated, Row58Left, Row58Right, Row54, Row60Yield, SpellingRow, SpellingContracts}
+use Rattle.mini_rows.specs.Sketches.{AbsentPart, Null, BooleanValue, Number, String, PropertyName, Unary, Binary, StaticMember, ComputedMember, Yield, Assignment, Update, Sketch, part, under, end, ◌▹◌, Free, still, rearranges_expression}
+use Rattle.mini_rows.specs.Spellings.{boolean, assignment, update, plain, negated_digit, IsUndefined, Row33, Row33Name, Row33Number, Row33Assigned, Row33Updated, Row58Left, Row58Right, Row54, Row60Yield, SpellingRow, SpellingContracts}
 use Rattle.mini_rows.proofs.ArrangedExpressions.{expressions_arranged, expressions_arranged_freely}
 use Rattle.mini_rows.proofs.ArrangedLawful.{kept_is_lawful}
 use Rattle.mini_rows.proofs.SpellMeaning.{spellings_same}

@@ -1,8 +1,8 @@
 -- What a row on a spelling writes may stand wherever what it reads may, and a parent may ask the same of both.
-use Rattle.std.proofs.Common.{◌≡◌, ℕ, zero, suc, ◌≤◌, Bool, true, false, List, [], ◌∷◌, Option, Some, None, refl, sym, ap, subst, ◌∙◌, inl, inr, true≢false, arith}
-use Rattle.std.specs.Prelude.{◌⊎◌, ◌&&◌, ◌||◌, not, nat_le, ℤ, pos, negsuc}
+use Rattle.std.proofs.Common.{◌≡◌, ℕ, suc, Bool, true, false, List, [], Option, None, refl, sym, ap, subst, ◌∙◌, inl, inr}
+use Rattle.std.specs.Prelude.{◌&&◌, not, ℤ, pos, negsuc}
 use Rattle.std.specs.Fmt.{signed_decimal}
-use Rattle.std.proofs.lemmas.Bool.{and_parts, le-leb}
+use Rattle.std.proofs.lemmas.Bool.{le-leb}
 use Rattle.std.specs.Char.Utf16.{has_unpaired_surrogate}
 use Rattle.mini_text.specs.Texts.{are_units, is_identifier_name}
 use Rattle.mini_literals.specs.Numerals.{IsSafe, max_safe_integer}
@@ -20,7 +20,7 @@ use Rattle.mini_model.specs.Tree.{Tree, Trees, node, none, ◌▸◌, absent, nu
 use Rattle.mini_accept.specs.WellShaped.{Depth, in_module, in_body, nested, Class, a_statement, an_init, a_loop_left, an_arrow_body, an_expression, a_link, a_chain, an_argument, a_key, a_private_or_key, an_inner_key, a_target, a_simple_target, a_member_target, a_default_export, a_label, Slot, one, one_or_absent, is_safe, is_function_body, spelling, has_optional, is_not_positive_number, expression_slots, unchained_slots, member_slots, none_if, in_depth, is_chained, is_sloppy_function, slots_of, is_whole, is_strict_in, filling, filling_by, class_of, fits, fill}
 use Rattle.mini_kept.specs.KeepsFrames.{is_in_body, is_body_slot}
 use Rattle.mini_kept.specs.KeepsShapes.{is_default, AskedAlike}
-use Rattle.mini_rows.specs.Spellings.{numeral, text, key, boolean, binary, assignment, update, computed_member, static_member, yields, void_zero, negated_digit, plain, Row33, SpellingRow, SpellingContracts}
+use Rattle.mini_rows.specs.Spellings.{numeral, text, key, boolean, binary, assignment, update, computed_member, static_member, yields, void_zero, negated_digit, plain, Row33, SpellingRow}
 
 -- ---- the nodes that rows on spellings read and write
 

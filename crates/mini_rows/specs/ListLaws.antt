@@ -5,8 +5,8 @@ use Rattle.mini_model.specs.Tree.{Tree, Trees}
 use Rattle.mini_laws.specs.Rewritten.{MeansSame}
 use Rattle.mini_laws.specs.Weights.{Lightens}
 use Rattle.mini_rows.specs.Switches.{Switches}
-use Rattle.mini_rows.specs.Arranged.{KeptAt}
-use Rattle.mini_rows.specs.Lists.{return_statement, throw_statement, Head, Switch, For, Row66Empty, Row66Joined, Row67, Row73, Row73Bare, Row76, Row79, InList, ListContracts}
+use Rattle.mini_rows.specs.Arranged.{KeptAt, NeighboursRow}
+use Rattle.mini_rows.specs.Lists.{Head, Switch, For, Row67, InList, ListContracts}
 
 -- the meaning
 abbrev pub ListsMeanSame : Type 0
@@ -29,7 +29,7 @@ pub record PlainHead (a b : Trees) : Type 0 where
 
 -- the rows of lists but those of such statements and of declarations
 abbrev pub PlainRow : Trees → Trees → Type 0
-PlainRow a b = Row66Empty a b ⊎ (Row79 a b ⊎ (Row66Joined a b ⊎ (Row73 return_statement a b ⊎ (Row73 throw_statement a b ⊎ (Row73Bare a b ⊎ (PlainHead a b ⊎ Row76 a b))))))
+PlainRow a b = NeighboursRow a b ⊎ PlainHead a b
 
 -- and what these write keeps all that a program has to keep, but for its shape
 abbrev pub PlainListsKept : Type 0
