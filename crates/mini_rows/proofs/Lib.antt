@@ -41,3 +41,5 @@ pub mod BranchParts
 pub mod BranchLawful
 pub mod ArrangedBetween
 pub mod ListKept
+pub mod ListShapes
+pub mod ListLawful

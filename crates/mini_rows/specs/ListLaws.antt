@@ -1,9 +1,11 @@
 -- What the rows of lists of statements keep.
 use Rattle.std.specs.Prelude.{◌≡◌, ◌⊎◌, Bool, true, false}
+use Rattle.mini_model.specs.declared.place.Position.{Position}
 use Rattle.mini_model.specs.declared.place.Position.TheVariants.{StatementList}
 use Rattle.mini_model.specs.Tree.{Tree, Trees}
 use Rattle.mini_laws.specs.Rewritten.{MeansSame}
 use Rattle.mini_laws.specs.Weights.{Lightens}
+use Rattle.mini_kept.specs.Lawful.{Lawful}
 use Rattle.mini_rows.specs.Switches.{Switches}
 use Rattle.mini_rows.specs.Arranged.{KeptAt, NeighboursRow}
 use Rattle.mini_rows.specs.Lists.{Head, Switch, For, Row67, InList, ListContracts}
@@ -34,3 +36,12 @@ PlainRow a b = NeighboursRow a b ⊎ PlainHead a b
 -- and what these write keeps all that a program has to keep, but for its shape
 abbrev pub PlainListsKept : Type 0
 PlainListsKept = (n w : Tree) → InList PlainRow n w → KeptAt StatementList n w
+
+-- these rows, at lists of statements
+abbrev pub PlainLists : Position → Tree → Tree → Type 0
+PlainLists StatementList n w = InList PlainRow n w
+PlainLists _ n w = ⊥
+
+-- are lawful
+abbrev pub PlainListsLawful : Type 0
+PlainListsLawful = Lawful PlainLists

@@ -1,7 +1,7 @@
 //! The rows of lists of statements.
 
 ghost use Rattle.mini_rows.specs.Lists.{ListsLighter};
-ghost use Rattle.mini_rows.specs.ListLaws.{ListsMeanSame, ListsLighten, PlainListsKept};
+ghost use Rattle.mini_rows.specs.ListLaws.{ListsMeanSame, ListsLighten, PlainListsKept, PlainListsLawful};
 
 /// What a row of lists writes is lighter in every list, so that no weight is asked before it is applied.
 pub fn lists_are_lighter()
@@ -14,8 +14,9 @@ pub fn lists_are_same()
     ensures lightens { ListsLighten }
 {}
 
-/// What a row of lists writes keeps all that a program has to keep, but for its shape: of the rows but those of declarations and
-/// of heads that open a scope.
-pub fn plain_lists_are_kept()
-    ensures { PlainListsKept }
+/// What a row of lists writes keeps all that a program has to keep, of the rows but those of declarations and of heads that
+/// open a scope.
+pub fn plain_lists_are_lawful()
+    ensures kept { PlainListsKept }
+    ensures lawful { PlainListsLawful }
 {}
