@@ -22,7 +22,7 @@ Until {S = S} R F ts i start now = (end : S) → R (F i (rest_children i ts)) no
 pub begins : {A S : Type 0} (R : List A → S → S → Type 0) (F : ℕ → Trees → List A) (ts : Trees) (s : S) → Until R F ts 0 s s
 begins R F ts s = λ end r. subst (λ us. R (F 0 us) s end) (from_first ts) r
 
-split : {A : Type 0} (f F : ℕ → Trees → List A) → Gathers f F → (ts : Trees) (i : ℕ) (t : Tree) → i < count ts → t ≡ child_or_absent ts i → f i (t ▸ rest_children (suc i) ts) ++ F (i + 1) (rest_children (i + 1) ts) ≡ F i (rest_children i ts)
+pub split : {A : Type 0} (f F : ℕ → Trees → List A) → Gathers f F → (ts : Trees) (i : ℕ) (t : Tree) → i < count ts → t ≡ child_or_absent ts i → f i (t ▸ rest_children (suc i) ts) ++ F (i + 1) (rest_children (i + 1) ts) ≡ F i (rest_children i ts)
 split f F g ts i t h e =
     ap (λ k. f i (t ▸ rest_children (suc i) ts) ++ F k (rest_children k ts)) (add-one i)
     ∙ sym (g.at_more i t (rest_children (suc i) ts))

@@ -7,6 +7,8 @@ mod Marking
 mod Joining
 mod Housing
 mod Spellings
+mod Enclosing
+mod Passing
 mod Surveys
 mod Listings
 mod Evals
@@ -15,3 +17,4 @@ mod Reached
 mod Shares
 pub mod Known
 mod Values
+mod Foreigns

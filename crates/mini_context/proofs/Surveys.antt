@@ -1,5 +1,5 @@
 -- The walk that fills the tables, and what each table says then.
-use Rattle.std.specs.Prelude.{ℕ, zero, suc, ◌≤◌, ◌<◌, ◌≡◌, refl, List, [], ◌∷◌, ◌++◌, Bool, true, false, ◌&&◌, cond}
+use Rattle.std.specs.Prelude.{ℕ, zero, suc, ◌≤◌, ◌<◌, ◌≡◌, refl, List, [], ◌∷◌, ◌++◌, Bool, true, false, ◌&&◌, ◌||◌, cond}
 use Rattle.std.proofs.Common.{ap, ◌∙◌, sym, subst, arith, append_assoc}
 use Rattle.mini_model.specs.Tree.{Tree, Trees, node, none, ◌▸◌, children, count, child_or_absent, first_or_absent, node_count, node_counts}
 use Rattle.mini_names.specs.Bodies.{Frame, frame_at, frame_of_body, own_body, own_fixed, bodies, bodies_from, fixed_names, all_fixed_names}
@@ -20,6 +20,14 @@ use Rattle.mini_names.specs.Mentions.{own_mentions, mentions, mentions_from, aro
 use Rattle.mini_names.specs.Foreign.{imported_by, imported_names, all_imported_names, own_pattern_names, pattern_names, all_pattern_names, is_body_by, own_lexical, lexical_variables, all_lexical_variables, own_switched, switched as switched_names, all_switched}
 use Rattle.std.specs.List.{filter}
 use Rattle.mini_names.specs.Mentions.{Mention}
+use Rattle.std.specs.List.{list_any}
+use Rattle.std.proofs.lemmas.List.Folds.{list_any-append}
+use Rattle.mini_names.specs.DeclaredNames.{bound_names}
+use Rattle.mini_names.specs.Foreign.{has_number, own_params_around, params_around, all_params_around}
+use Rattle.mini_names.specs.Mentions.{is_among, same_variable}
+use Rattle.mini_context.specs.Enclosing.{own_params, Enclosed}
+use Rattle.mini_context.specs.Tables.{named}
+use Rattle.mini_context.proofs.Enclosing.{enclosed_add, own_told}
 use Rattle.mini_context.specs.Lists.{Housed}
 use Rattle.mini_context.proofs.Housing.{houses_add}
 use Rattle.mini_context.specs.Mentioned.{Joined}
@@ -27,7 +35,7 @@ use Rattle.mini_context.proofs.Joining.{joins_add}
 use Rattle.mini_context.specs.declared.standing.Standing.{Standing}
 use Rattle.mini_context.specs.declared.survey.Tables.{Tables}
 use Rattle.mini_context.specs.Tables.{Marked, Noted}
-use Rattle.mini_context.specs.Visits.{Visit, visits, visits_from, given, below, frame_in, fixed_at, bodies_at, mentions_at, exchanged_at, exchanged_by, exchange_of, is_exchange_shape, imported_here, imported_at, is_import_shape, patterns_at, lexical_at, switched_at, params_at, caught_at, writes_at, binds_at, reached_at, Surveyed}
+use Rattle.mini_context.specs.Visits.{Visit, visits, visits_from, given, below, frame_in, fixed_at, bodies_at, mentions_at, exchanged_at, exchanged_by, exchange_of, is_exchange_shape, imported_here, imported_at, is_import_shape, patterns_at, lexical_at, switched_at, params_at, caught_at, writes_at, binds_at, enclosing_at, reached_at, Surveyed}
 use Rattle.mini_context.proofs.Gathering.{Adds, Gathers}
 use Rattle.mini_context.proofs.Marking.{marks_add, notes_add}
 
@@ -56,6 +64,7 @@ surveys_add = record {
     mentions = joins_add.nothing s.mentioned.items;
     written = joins_add.nothing s.written.items;
     homes = houses_add.nothing s.homes.items;
+    enclosing = enclosed_add.nothing s.enclosing;
   };
   both = λ xs ys a b c f g. record {
     fixed = of_both (λ ns. Marked ns a.fixed.items c.fixed.items) fixed_at xs ys (marks_add.both (given fixed_at xs) (given fixed_at ys) a.fixed.items b.fixed.items c.fixed.items f.fixed g.fixed);
@@ -71,6 +80,7 @@ surveys_add = record {
     arguments = of_both (λ bs. Noted (λ f. f.has_arguments) bs a.arguments.items c.arguments.items) bodies_at xs ys ((notes_add (λ f. f.has_arguments)).both (given bodies_at xs) (given bodies_at ys) a.arguments.items b.arguments.items c.arguments.items f.arguments g.arguments);
     mentions = of_both (λ ms. Joined ms a.mentioned.items c.mentioned.items) mentions_at xs ys (joins_add.both (given mentions_at xs) (given mentions_at ys) a.mentioned.items b.mentioned.items c.mentioned.items f.mentions g.mentions);
     written = of_both (λ ms. Joined ms a.written.items c.written.items) writes_at xs ys (joins_add.both (given writes_at xs) (given writes_at ys) a.written.items b.written.items c.written.items f.written g.written);
+    enclosing = of_both (λ ps. Enclosed ps a.enclosing c.enclosing) enclosing_at xs ys (enclosed_add.both (given enclosing_at xs) (given enclosing_at ys) a.enclosing b.enclosing c.enclosing f.enclosing g.enclosing);
     homes = of_both (λ ms. Housed ms a.homes.items c.homes.items) binds_at xs ys (houses_add.both (given binds_at xs) (given binds_at ys) a.homes.items b.homes.items c.homes.items f.homes g.homes);
   };
 }
@@ -327,6 +337,30 @@ mutual
       given_both imported_at (visits (at i) t) (visits_from at (suc i) ts)
       ∙ ap (λ r. r ++ given imported_at (visits_from at (suc i) ts)) (imported_told (at i) t (e i))
       ∙ ap (λ r. imported_names t ++ r) (all_imported_told at e (suc i) ts)
+
+-- ---- parameters
+
+abbrev encloses : ℕ → ℕ → Tree → Bool
+encloses s b t = is_among (named s) (bound_names t) && has_number b t
+
+mutual
+  unfolding visits params_around
+
+  pub enclosed_told : (s b : ℕ) (a : Standing) (t : Tree) → list_any (encloses s b) (given enclosing_at (visits a t)) ≡ is_among (named s) (params_around b t)
+  enclosed_told s b a (node h xs n ts) =
+      list_any-append (encloses s b) (own_params h ts) (given enclosing_at (visits_from (below a (node h xs n ts)) 0 ts))
+      ∙ ap (λ v. v || list_any (encloses s b) (given enclosing_at (visits_from (below a (node h xs n ts)) 0 ts))) (own_told s b h ts)
+      ∙ ap (λ v. is_among (named s) (own_params_around b h ts) || v) (all_enclosed_told s b (below a (node h xs n ts)) 0 ts)
+      ∙ sym (list_any-append (same_variable (named s)) (own_params_around b h ts) (all_params_around b ts))
+
+  all_enclosed_told : (s b : ℕ) (at : ℕ → Standing) (i : ℕ) (ts : Trees) → list_any (encloses s b) (given enclosing_at (visits_from at i ts)) ≡ is_among (named s) (all_params_around b ts)
+  all_enclosed_told s b at i none = refl
+  all_enclosed_told s b at i (t ▸ ts) =
+      ap (list_any (encloses s b)) (given_both enclosing_at (visits (at i) t) (visits_from at (suc i) ts))
+      ∙ list_any-append (encloses s b) (given enclosing_at (visits (at i) t)) (given enclosing_at (visits_from at (suc i) ts))
+      ∙ ap (λ v. v || list_any (encloses s b) (given enclosing_at (visits_from at (suc i) ts))) (enclosed_told s b (at i) t)
+      ∙ ap (λ v. is_among (named s) (params_around b t) || v) (all_enclosed_told s b at (suc i) ts)
+      ∙ sym (list_any-append (same_variable (named s)) (params_around b t) (all_params_around b ts))
 
 -- ---- some of the mentions
 

@@ -17,6 +17,12 @@ use Rattle.mini_names.specs.Bodies.{Frame, Body, no_frame, bodies, fixed_names}
 use Rattle.mini_names.specs.Resolved.{Environment}
 use Rattle.mini_names.specs.Shared.{caught, catch_params, program_var_writes, script_tops, var_writes, module_names, reached_by_arguments}
 use Rattle.mini_names.specs.Foreign.{imported_names, is_declared_in, lexical_variables, pattern_names, switched as switched_names}
+use Rattle.mini_context.specs.declared.early.Moments.{Moments}
+use Rattle.mini_context.specs.declared.params.Params.{Params}
+use Rattle.mini_context.specs.Early.{Passed}
+use Rattle.mini_context.specs.Enclosing.{is_around, Bounded, Enclosed}
+use Rattle.mini_names.specs.DeclaredNames.{bound_names}
+use Rattle.mini_names.specs.Foreign.{has_number, is_read_early, moments, params_around}
 use Rattle.mini_context.specs.Lists.{holds, Housed}
 use Rattle.mini_names.specs.ScopeList.{Scope, names_in, scope_from}
 use Rattle.mini_scope.specs.ScopeAt.{scope_at}
@@ -24,8 +30,8 @@ use Rattle.mini_scope.specs.declared.opening.OpenScopes.{OpenScopes}
 use Rattle.mini_context.specs.declared.standing.Standing.{Standing}
 use Rattle.mini_context.specs.Own.{is_script_shape}
 use Rattle.mini_context.specs.Tables.{mark_at, named, Marked, Noted, owners_from}
-use Rattle.mini_context.specs.Visits.{visits, given, fixed_at, bodies_at, mentions_at, exchanged_at, reached_at, imported_at, patterns_at, lexical_at, switched_at, params_at, caught_at, writes_at, binds_at, is_writing, is_binding, frame_in, top}
-use Rattle.mini_context.proofs.Surveys.{fixed_told, bodies_told, mentions_told, modules_told, reached_told, imported_told, patterns_told, lexical_told, switched_told, params_told, caught_told, filtered}
+use Rattle.mini_context.specs.Visits.{visits, given, fixed_at, bodies_at, mentions_at, exchanged_at, reached_at, imported_at, patterns_at, lexical_at, switched_at, params_at, caught_at, writes_at, binds_at, enclosing_at, is_writing, is_binding, frame_in, top}
+use Rattle.mini_context.proofs.Surveys.{fixed_told, bodies_told, mentions_told, modules_told, reached_told, imported_told, patterns_told, lexical_told, switched_told, params_told, caught_told, enclosed_told, filtered}
 use Rattle.mini_context.proofs.Listings.{owner_told}
 use Rattle.mini_context.proofs.Marking.{marks_add}
 
@@ -179,3 +185,39 @@ homes_by n a t old new e f j s h b =
 
 pub values_by : (a : Standing) (env : Environment) (t : Tree) (old new : List Mentioned) → a ≡ top → env ≡ [] → Joined (var_writes a.usage env a.around t) old new → Joined (program_var_writes t) old new
 values_by a env t old new e f j = subst (λ r. Joined (var_writes Read r outermost t) old new) f (subst (λ r. Joined (var_writes r.usage env r.around t) old new) e j)
+
+not_true : (b : Bool) → b ≡ true → b ≡ false → ⊥
+not_true true e f = absurd (cc f)
+not_true false e f = absurd (cc e)
+
+-- ---- in the parameters of which functions bodies stand
+
+nothing_around : (n s b : ℕ) → is_around (replicate n []) [] s b ≡ false
+nothing_around zero s b = refl
+nothing_around (suc n) zero b = refl
+nothing_around (suc n) (suc s) b = nothing_around n s b
+
+never_held : {C : Type 0} (ls : List (List ℕ)) (n : ℕ) → ls ≡ replicate n [] → (s j : ℕ) → holds ls s j ≡ true → C
+never_held ls n e s j f = absurd (not_true (holds ls s j) f (ap (λ r. holds r s j) e ∙ unlisted n s j))
+
+blank_bounded : (p : Params) (n : ℕ) → p.by_symbol.items ≡ replicate n [] → p.by_number.items ≡ [] → Bounded p
+blank_bounded p n e f = record {
+  symbols = λ s j g. never_held p.by_symbol.items n e s j g;
+  numbers = λ s j g. never_held p.by_number.items 0 f s j g;
+}
+
+pub enclosed_by : (n : ℕ) (a : Standing) (t : Tree) (old new : Params) → old.by_symbol.items ≡ replicate n [] → old.by_number.items ≡ [] → Enclosed (given enclosing_at (visits a t)) old new → (s : ℕ) → s < n → (b : ℕ) → is_around new.by_symbol.items new.by_number.items s b ≡ is_among (named s) (params_around b t)
+enclosed_by n a t old new e f g s h b =
+    let p : Tree → Bool = λ u. is_among (named s) (bound_names u) && has_number b u in
+    g.each (blank_bounded old n e f) s (omega (arith, h, ap length e, unlisted_length n)) b
+    ∙ ap (λ v. v || list_any p (given enclosing_at (visits a t))) (ap (λ r. is_around r old.by_number.items s b) e ∙ ap (λ r. is_around (replicate n []) r s b) f ∙ nothing_around n s b)
+    ∙ enclosed_told s b a t
+
+-- ---- in the order of evaluation
+
+pub early_by : (n : ℕ) (a : Standing) (t : Tree) (old new : Moments) → a ≡ top → old.ended.items ≡ replicate n false → old.early.items ≡ replicate n [] → Passed (moments a.usage a.around t) old new → (s : ℕ) → s < n → (b : ℕ) → holds new.early.items s b ≡ is_read_early b (named s) (moments Read outermost t)
+early_by n a t old new e f g p s h b =
+    p.reads s (omega (arith, h, ap length f, blank_length n)) (omega (arith, h, ap length g, unlisted_length n)) b
+    ∙ ap (λ v. v || (not (mark_at old.ended.items s) && is_read_early b (named s) (moments a.usage a.around t))) (ap (λ r. holds r s b) g ∙ unlisted n s b)
+    ∙ ap (λ v. not v && is_read_early b (named s) (moments a.usage a.around t)) (ap (λ r. mark_at r s) f ∙ blank n s)
+    ∙ ap (λ r. is_read_early b (named s) (moments r.usage r.around t)) e

@@ -1,16 +1,18 @@
 -- What is known of the names of a program.
-use Rattle.std.specs.Prelude.{ℕ, ◌≡◌, ◌<◌, Bool, false, List, length, map, slice_index, ◌&&◌, ◌||◌}
+use Rattle.std.specs.Prelude.{ℕ, ◌≡◌, ◌<◌, Bool, false, List, length, map, slice_index, ◌&&◌, ◌||◌, not}
 use Rattle.std.specs.List.{filter, list_any}
 use Rattle.mini_model.specs.Tree.{Tree}
 use Rattle.mini_names.specs.References.{reads as is_read, writes as is_write, counts_of}
-use Rattle.mini_names.specs.Mentions.{is_among, is_elsewhere, program_mentions, same_variable}
+use Rattle.mini_names.specs.Mentions.{is_among, is_elsewhere, outermost, program_mentions, same_variable}
 use Rattle.mini_context.specs.declared.mentions.Mentioned.{Mentioned}
+use Rattle.mini_names.specs.declared.Use.TheVariants.{Read}
+use Rattle.mini_context.specs.Enclosing.{is_around}
 use Rattle.mini_context.specs.Lists.{holds}
 use Rattle.mini_context.specs.Mentioned.{is_outside, is_somewhere, mentioned_at}
 use Rattle.mini_names.specs.Bodies.{fixed_names, this_has_event, has_arguments}
 use Rattle.mini_names.specs.ScopeList.{scopes_of, scope_of_symbol, seen_by_eval}
 use Rattle.mini_names.specs.Shared.{caught, catch_params, program_var_writes, script_tops, module_names, reached_by_arguments}
-use Rattle.mini_names.specs.Foreign.{imported_names, is_declared_in, lexical_variables, pattern_names, switched as switched_names}
+use Rattle.mini_names.specs.Foreign.{imported_names, is_declared_in, is_read_early, lexical_variables, moments, params_around, pattern_names, switched as switched_names}
 use Rattle.mini_context.specs.Outside.{is_mentioned_outside}
 use Rattle.mini_context.specs.Tables.{mark_at, named}
 use Rattle.mini_context.specs.Visits.{is_writing}
@@ -19,8 +21,9 @@ use Rattle.mini_context.specs.Visits.{is_writing}
 -- program was resolved; its scope; whether it is a top name; whether a direct eval can see it; whether a module imports or exports
 -- it, or imports it; whether it is a parameter that an `arguments` reaches; whether a pattern binds it; whether it is lexical, and
 -- directly in a `switch`; whether it is a parameter of `catch`, and whether it is a `var` under one of its name; where it is
--- mentioned, where a reference writes it, and where a `var` does; in which bodies it is bound. By scope: whether its code
--- is strict; whether a direct eval stands in it. By body: whether `this` is an event in it; whether it has an `arguments`
+-- mentioned, where a reference writes it, and where a `var` does; in which bodies it is bound, and which
+-- read it before its declaration has ended; the functions whose parameters bind it. By scope: whether its code
+-- is strict; whether a direct eval stands in it. By body: whether `this` is an event in it; whether it has an `arguments`; the functions in whose parameters it stands
 pub record Facts : Type 0 where
   pub reads : List ℕ
   pub writes : List ℕ
@@ -41,10 +44,13 @@ pub record Facts : Type 0 where
   pub written : List Mentioned
   pub given : List Mentioned
   pub homes : List (List ℕ)
+  pub early : List (List ℕ)
+  pub functions : List (List ℕ)
   pub strict : List Bool
   pub evals : List Bool
   pub this_events : List Bool
   pub arguments : List Bool
+  pub enclosed : List (List ℕ)
 
 -- of so many symbols they say what is shared, and what is foreign, in a tree
 pub record Looked (f : Facts) (n : ℕ) (t : Tree) : Type 0 where
@@ -62,6 +68,8 @@ pub record Looked (f : Facts) (n : ℕ) (t : Tree) : Type 0 where
   pub written_told : (s : ℕ) → s < n → (b : ℕ) → is_outside (mentioned_at f.written s) b ≡ list_any (λ m. same_variable (named s) m.name && is_elsewhere b m.around) (filter is_writing (program_mentions t))
   pub given_told : (s : ℕ) → s < n → (b : ℕ) → is_outside (mentioned_at f.given s) b ≡ list_any (λ m. same_variable (named s) m.name && is_elsewhere b m.around) (program_var_writes t)
   pub homes_told : (s : ℕ) → s < n → (b : ℕ) → holds f.homes s b ≡ is_declared_in t b (named s)
+  pub early_told : (s : ℕ) → s < n → (b : ℕ) → holds f.early s b ≡ is_read_early b (named s) (moments Read outermost t)
+  pub enclosed_told : (s : ℕ) → s < n → (b : ℕ) → is_around f.functions f.enclosed s b ≡ is_among (named s) (params_around b t)
 
 -- they are those of a tree with so many symbols
 pub record Tells (f : Facts) (n : ℕ) (t : Tree) : Type 0 where
@@ -98,3 +106,22 @@ abbrev pub shares : Facts → ℕ → ℕ → Bool
 shares f s b =
     (mark_at f.now_top s || mark_at f.exchanged s || mark_at f.seen s || mark_at f.reached s || mark_at f.caught s || written_in_catch f s)
     || is_outside (mentioned_at f.mentioned s) b
+
+-- whether something writes the symbol, and whether another body than this or a carried node does
+abbrev pub is_changed : Facts → ℕ → Bool
+is_changed f s = is_somewhere (mentioned_at f.given s) || is_somewhere (mentioned_at f.written s)
+
+abbrev pub is_changed_outside : Facts → ℕ → ℕ → Bool
+is_changed_outside f s b = is_outside (mentioned_at f.given s) b || is_outside (mentioned_at f.written s) b
+
+-- whether the symbol may be uninitialised where a body reads it
+abbrev pub may_be_unset : Facts → ℕ → ℕ → Bool
+may_be_unset f s b = (mark_at f.lexical s && (not (holds f.homes s b) || mark_at f.switched s || holds f.early s b)) || is_around f.functions f.enclosed s b
+
+-- whether the symbol is foreign to every body
+abbrev pub foreign_always : Facts → ℕ → Bool
+foreign_always f s = mark_at f.imported s || mark_at f.now_top s || mark_at f.seen s || mark_at f.reached s || mark_at f.patterns s || written_in_catch f s
+
+-- whether it is foreign to a body, as the tables tell it
+abbrev pub foreign : Facts → ℕ → ℕ → Bool
+foreign f s b = foreign_always f s || (shares f s b && is_changed_outside f s b) || (not (holds f.homes s b) && is_changed f s) || may_be_unset f s b

@@ -1,11 +1,12 @@
 -- Laws of counts.
-use Rattle.std.specs.Prelude.{ℕ, ◌≡◌, ◌<◌, Bool, List, ◌++◌, slice_index, Some}
+use Rattle.std.specs.Prelude.{ℕ, ◌≡◌, ◌<◌, Bool, List, ◌++◌, slice_index, Some, length}
 use Rattle.mini_model.specs.Tree.{Tree}
 use Rattle.mini_names.specs.declared.Use.{Use}
 use Rattle.mini_names.specs.References.{Reference, reads, writes, read_count, write_count, counts_of}
 use Rattle.mini_names.specs.Mentions.{is_among}
+use Rattle.mini_names.specs.Foreign.{is_foreign}
 use Rattle.mini_names.specs.Shared.{is_shared}
-use Rattle.mini_context.specs.Facts.{Facts, Looked, shares}
+use Rattle.mini_context.specs.Facts.{Facts, Looked, Refreshed, foreign, shares}
 use Rattle.mini_context.specs.Tables.{named}
 use Rattle.mini_model.specs.declared.name.Name.{Name}
 use Rattle.mini_model.specs.declared.name.SymbolId.{SymbolId}
@@ -34,3 +35,11 @@ SharesTell = (t : Tree) (b : ℕ) (x : Name) (s : SymbolId) → x.symbol ≡ Som
 -- the tables of a program tell what is shared
 abbrev pub TablesTell : Type 0
 TablesTell = (f : Facts) (n : ℕ) (t : Tree) → Looked f n t → (s b : ℕ) → s < n → shares f s b ≡ is_shared t b (named s)
+
+-- .. and what is foreign
+abbrev pub ForeignTells : Type 0
+ForeignTells = (f : Facts) (n : ℕ) (t : Tree) → Looked f n t → (s b : ℕ) → s < n → foreign f s b ≡ is_foreign t b (named s)
+
+-- what a refresh sets is told of the new program
+abbrev pub RefreshTells : Type 0
+RefreshTells = (old new : Facts) (t : Tree) → Refreshed old new t → (s b : ℕ) → s < length old.reads → (shares new s b ≡ is_shared t b (named s)) × (foreign new s b ≡ is_foreign t b (named s))

@@ -10,3 +10,5 @@ pub mod Facts
 pub mod Laws
 pub mod Known
 pub mod Lists
+pub mod Early
+pub mod Enclosing

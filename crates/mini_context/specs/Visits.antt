@@ -22,6 +22,7 @@ use Rattle.mini_names.specs.Strict.{is_strict_in}
 use Rattle.mini_context.specs.declared.standing.Frame.{Frame as FrameHeld}
 use Rattle.mini_context.specs.declared.standing.Standing.{Standing}
 use Rattle.mini_context.specs.declared.survey.Tables.{Tables}
+use Rattle.mini_context.specs.Enclosing.{own_params, Enclosed}
 use Rattle.mini_context.specs.Lists.{Housed}
 use Rattle.mini_context.specs.Mentioned.{Joined}
 use Rattle.mini_context.specs.Tables.{Marked, Noted}
@@ -130,6 +131,9 @@ params_at v = own_catch_params (shape_of v.tree) (children v.tree)
 abbrev pub caught_at : Visit → List Name
 caught_at v = own_caught (shape_of v.tree) (children v.tree)
 
+abbrev pub enclosing_at : Visit → List Tree
+enclosing_at v = own_params (shape_of v.tree) (children v.tree)
+
 -- mentions that write, and those that bind
 abbrev pub is_writing : Mention → Bool
 is_writing m = not m.binds && writes m.used
@@ -162,3 +166,4 @@ pub record Surveyed (vs : List Visit) (old new : Tables) : Type 0 where
   pub caught : Marked (given caught_at vs) old.caught.items new.caught.items
   pub written : Joined (given writes_at vs) old.written.items new.written.items
   pub homes : Housed (given binds_at vs) old.homes.items new.homes.items
+  pub enclosing : Enclosed (given enclosing_at vs) old.enclosing new.enclosing

@@ -1,6 +1,6 @@
 //! Laws of counts. Each is the contract of a function that does nothing.
 
-ghost use Rattle.mini_context.specs.Laws.{CountsTell, DropsTell, NamesTell, SharesTell, TablesTell};
+ghost use Rattle.mini_context.specs.Laws.{CountsTell, DropsTell, ForeignTells, NamesTell, RefreshTells, SharesTell, TablesTell};
 
 /// The counts by symbol of a tree are how often each symbol is read, and how often it is written.
 pub fn counts_tell()
@@ -25,4 +25,14 @@ pub fn shares_tell()
 /// The tables of a program tell what a body shares.
 pub fn tables_tell()
     ensures { TablesTell }
+{}
+
+/// They tell what is foreign to a body.
+pub fn foreign_tells()
+    ensures { ForeignTells }
+{}
+
+/// After a refresh the tables tell both of the program that was looked at.
+pub fn refresh_tells()
+    ensures { RefreshTells }
 {}

@@ -6,6 +6,7 @@
 mod catching;
 mod context;
 mod count;
+mod early;
 mod exchanges;
 mod giving;
 mod knowing;
@@ -14,6 +15,7 @@ mod listing;
 mod lists;
 mod marks;
 mod mentions;
+mod params;
 mod parts;
 mod reach;
 mod refreshing;
@@ -26,7 +28,9 @@ mod survey;
 
 pub use context::{Parent, TraverseCtx};
 pub use count::{Counts, Tally, fresh_counts, tally_node};
-pub use laws::{counts_tell, drops_tell, names_tell, shares_tell, tables_tell};
+pub use laws::{
+    counts_tell, drops_tell, foreign_tells, names_tell, refresh_tells, shares_tell, tables_tell,
+};
 pub use refreshing::refresh;
 pub use resolution::resolve;
 pub use scopes::{ScopeId, Scopes};

@@ -8,15 +8,21 @@ ghost use Rattle.mini_names.specs.Shared.{program_var_writes, script_tops as scr
 ghost use Rattle.mini_context.specs.declared.mentions.Mentioned.TheVariants as mentioned;
 ghost use Rattle.mini_context.specs.Mentioned.{is_outside as is_outside_of, mentioned_at as entry_at, Joined};
 ghost use Rattle.mini_context.specs.Own.{is_script_shape};
-ghost use Rattle.mini_context.specs.Facts.{Refreshed, Tells, shares, written_in_catch};
+ghost use Rattle.mini_context.specs.Facts.{Refreshed, Tells, foreign, foreign_always, is_changed, is_changed_outside, may_be_unset, shares, written_in_catch};
 ghost use Rattle.mini_context.specs.Found.{Found};
-ghost use Rattle.mini_context.specs.Tables.{mark_at, Marked};
+ghost use Rattle.mini_names.specs.Foreign.{is_read_early, moments};
+ghost use Rattle.mini_names.specs.Mentions.{outermost};
+ghost use Rattle.mini_context.specs.Lists.{holds};
+ghost use Rattle.mini_context.specs.Tables.{mark_at, named, Marked};
 ghost use Rattle.mini_context.specs.Tallies.{Contained, FellBy};
 
 use crate::count::{Counts, count_out, own_counts};
+use crate::early::{Moments, no_moments, pass_node};
 use crate::listing::{ScopeTables, list_scopes, no_scopes};
+use crate::lists::holds_number;
 use crate::marks::{is_marked, mark_bindings, no_marks};
 use crate::mentions::{Mentioned, is_outside, is_somewhere, mentioned_at, no_mentions};
+use crate::params::is_around;
 use crate::standing::at_top;
 use crate::steps::Steps;
 use crate::survey::{Tables, no_tables, survey_node};
@@ -44,6 +50,7 @@ pub struct Scopes {
     tables: Tables,
     scopes: ScopeTables,
     given: Vec<Mentioned>,
+    moments: Moments,
     tops: Vec<bool>,
     now_top: Vec<bool>,
 }
@@ -55,7 +62,7 @@ impl Model for Scopes {
 
     ghost Value = { Facts };
 
-    ghost view = { λ b. record { reads = b.counts.reads.items; writes = b.counts.writes.items; fixed = b.tables.fixed.items; tops = b.tops.items; owners = b.scopes.owners.items; now_top = b.now_top.items; seen = b.scopes.seen.items; exchanged = b.tables.exchanged.items; imported = b.tables.imported.items; reached = b.tables.reached.items; patterns = b.tables.patterns.items; lexical = b.tables.lexical.items; switched = b.tables.switched.items; params = b.tables.params.items; caught = b.tables.caught.items; mentioned = b.tables.mentioned.items; written = b.tables.written.items; given = b.given.items; homes = b.tables.homes.items; strict = b.scopes.strict.items; evals = b.scopes.evals.items; this_events = b.tables.this_events.items; arguments = b.tables.arguments.items } };
+    ghost view = { λ b. record { reads = b.counts.reads.items; writes = b.counts.writes.items; fixed = b.tables.fixed.items; tops = b.tops.items; owners = b.scopes.owners.items; now_top = b.now_top.items; seen = b.scopes.seen.items; exchanged = b.tables.exchanged.items; imported = b.tables.imported.items; reached = b.tables.reached.items; patterns = b.tables.patterns.items; lexical = b.tables.lexical.items; switched = b.tables.switched.items; params = b.tables.params.items; caught = b.tables.caught.items; mentioned = b.tables.mentioned.items; written = b.tables.written.items; given = b.given.items; homes = b.tables.homes.items; early = b.moments.early.items; functions = b.tables.enclosing.by_symbol.items; strict = b.scopes.strict.items; evals = b.scopes.evals.items; this_events = b.tables.this_events.items; arguments = b.tables.arguments.items; enclosed = b.tables.enclosing.by_number.items } };
 }
 
 fn count_at(counts: &[u32], at: u32) -> u32
@@ -121,6 +128,15 @@ fn listed(
     Ok((scopes, given))
 }
 
+// Which bodies read each of so many symbols before its declaration has ended.
+fn passed(alloc: Global, program: &Node, symbols: u32) -> Result<Moments, OutOfMemory>
+    ensures { IfOk result (λ m. (s : ℕ) → s < symbols → (b : ℕ) → holds m.early.items s b ≡ is_read_early b (named s) (moments variant.Read outermost program.now)) }
+{
+    let mut moments = no_moments(alloc, symbols)?;
+    pass_node(&mut moments, at_top(), program)?;
+    Ok(moments)
+}
+
 impl Scopes {
     /// What is known of the names of a program with so many symbols.
     pub fn of(alloc: Global, program: &Node, symbols: u32) -> Result<Scopes, OutOfMemory>
@@ -130,6 +146,7 @@ impl Scopes {
         let counts = own_counts::<Brand>(alloc, program, symbols, Blank::new(1))?;
         let tables = surveyed(alloc, program, symbols)?;
         let (scopes, given) = listed(alloc, program, symbols)?;
+        let moments = passed(alloc, program, symbols)?;
         let tops = script_tops(alloc, symbols, program)?;
         let now_top = script_tops(alloc, symbols, program)?;
         Ok(Scopes {
@@ -137,6 +154,7 @@ impl Scopes {
             tables,
             scopes,
             given,
+            moments,
             tops,
             now_top,
         })
@@ -157,6 +175,7 @@ impl Scopes {
             mut tables,
             scopes,
             given,
+            moments,
             tops: _,
             now_top,
         } = Scopes::of(alloc, program, symbols)?;
@@ -167,6 +186,7 @@ impl Scopes {
         self.tables = tables;
         self.scopes.seen = scopes.seen;
         self.given = given;
+        self.moments = moments;
         self.now_top = now_top;
         Ok(())
     }
@@ -256,6 +276,62 @@ impl Scopes {
             || is_marked(self.tables.reached.as_slice(), symbol)
             || is_marked(self.tables.caught.as_slice(), symbol)
             || self.is_written_in_catch(symbol)
+    }
+
+    /// Whether the symbol is foreign to the body with this number: others may change it while the body runs, or it may be
+    /// uninitialised where the body reads it.
+    pub fn is_foreign(&self, symbol: SymbolId, body: u32) -> bool
+        ensures { result ≡ foreign self.now symbol.0 body }
+    {
+        self.is_foreign_always(symbol.0)
+            || (self.is_shared(symbol, body) && self.is_changed_outside(symbol.0, body))
+            || (!self.is_home(symbol.0, body) && self.is_changed(symbol.0))
+            || self.may_be_unset(symbol.0, body)
+    }
+
+    fn is_foreign_always(&self, symbol: u32) -> bool
+        ensures { result ≡ foreign_always self.now symbol }
+    {
+        is_marked(self.tables.imported.as_slice(), symbol)
+            || is_marked(self.now_top.as_slice(), symbol)
+            || is_marked(self.scopes.seen.as_slice(), symbol)
+            || is_marked(self.tables.reached.as_slice(), symbol)
+            || is_marked(self.tables.patterns.as_slice(), symbol)
+            || self.is_written_in_catch(symbol)
+    }
+
+    // Whether something writes the symbol.
+    fn is_changed(&self, symbol: u32) -> bool
+        ensures { result ≡ is_changed self.now symbol }
+    {
+        is_somewhere(mentioned_at(self.given.as_slice(), symbol))
+            || is_somewhere(mentioned_at(self.tables.written.as_slice(), symbol))
+    }
+
+    // Whether another body than this or a carried node does.
+    fn is_changed_outside(&self, symbol: u32, body: u32) -> bool
+        ensures { result ≡ is_changed_outside self.now symbol body }
+    {
+        is_outside(mentioned_at(self.given.as_slice(), symbol), body)
+            || is_outside(mentioned_at(self.tables.written.as_slice(), symbol), body)
+    }
+
+    // Whether a body declares the symbol.
+    fn is_home(&self, symbol: u32, body: u32) -> bool
+        ensures { result ≡ holds self.now.homes symbol body }
+    {
+        holds_number(self.tables.homes.as_slice(), symbol, body)
+    }
+
+    // Whether the symbol may be uninitialised where a body reads it.
+    fn may_be_unset(&self, symbol: u32, body: u32) -> bool
+        ensures { result ≡ may_be_unset self.now symbol body }
+    {
+        (is_marked(self.tables.lexical.as_slice(), symbol)
+            && (!self.is_home(symbol, body)
+                || is_marked(self.tables.switched.as_slice(), symbol)
+                || holds_number(self.moments.early.as_slice(), symbol, body)))
+            || is_around(&self.tables.enclosing, symbol, body)
     }
 
     // Whether a `var` writes the symbol, which is a parameter of `catch`.

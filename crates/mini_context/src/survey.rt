@@ -18,6 +18,7 @@ use crate::exchanges::mark_exchanged;
 use crate::lists::no_lists;
 use crate::marks::{mark_names, no_marks};
 use crate::mentions::{Mentioned, join_own, join_write, no_mentions, put_home};
+use crate::params::{Params, enclose, no_params};
 use crate::parts::{caught_part, fixed_part, lexical_part, mark_part, pattern_part, switched_part};
 use crate::reach::mark_reached;
 use crate::standing::{Standing, frame_in_body, numbering_of, standing_below};
@@ -54,6 +55,8 @@ pub struct Tables {
     pub written: Vec<Mentioned>,
     /// The bodies in which each symbol is bound.
     pub homes: Vec<OwnedList<u32>>,
+    /// In whose parameters bodies stand, and symbols are bound.
+    pub enclosing: Params,
     /// The bodies in which `this` is an event.
     pub this_events: Vec<bool>,
     /// The bodies that have an `arguments`.
@@ -74,6 +77,8 @@ pub fn no_tables(alloc: Global, symbols: u32) -> Result<Tables, OutOfMemory>
     ensures mentioned { IfOk result (λ tables. tables.mentioned.items ≡ replicate symbols mentioned.Nowhere) }
     ensures written { IfOk result (λ tables. tables.written.items ≡ replicate symbols mentioned.Nowhere) }
     ensures homes { IfOk result (λ tables. tables.homes.items ≡ replicate symbols []) }
+    ensures functions { IfOk result (λ tables. tables.enclosing.by_symbol.items ≡ replicate symbols []) }
+    ensures numbers { IfOk result (λ tables. tables.enclosing.by_number.items ≡ []) }
     ensures this_events { IfOk result (λ tables. tables.this_events.items ≡ []) }
     ensures arguments { IfOk result (λ tables. tables.arguments.items ≡ []) }
 {
@@ -90,6 +95,7 @@ pub fn no_tables(alloc: Global, symbols: u32) -> Result<Tables, OutOfMemory>
         mentioned: no_mentions(alloc, symbols)?,
         written: no_mentions(alloc, symbols)?,
         homes: no_lists(alloc, symbols)?,
+        enclosing: no_params(alloc, symbols)?,
         this_events: Vec::new(alloc),
         arguments: Vec::new(alloc),
     })
@@ -224,12 +230,14 @@ fn visit(
     join_own(&mut tables.mentioned, standing, node);
     join_write(&mut tables.written, standing, node);
     put_home(&mut tables.homes, standing, node)?;
+    enclose(alloc, &mut tables.enclosing, node)?;
     mark_body(
         &mut tables.this_events,
         &mut tables.arguments,
         standing,
         node,
-    )
+    )?;
+    Ok(())
 }
 
 /// Walks over a tree that stands so.

@@ -1,4 +1,4 @@
-use Rattle.mini_context.proofs.Told.{body_by, caught_by, exchanged_by_walk, fixed_by, homes_by, imported_by_walk, lexical_by, mentions_by, params_by, patterns_by, reached_by_walk, switched_by, written_by}
+use Rattle.mini_context.proofs.Told.{body_by, caught_by, enclosed_by, exchanged_by_walk, fixed_by, homes_by, imported_by_walk, lexical_by, mentions_by, params_by, patterns_by, reached_by_walk, switched_by, written_by}
 use Rattle.mini_context.proofs.scopes.surveyed.Goals as goal
 
 pub returns : goal.returns
@@ -24,6 +24,7 @@ returns c =
       mentioned_told = mentions_by n top t old.mentioned.items new.mentioned.items stands blank.mentioned found.mentions;
       written_told = written_by n top t old.written.items new.written.items stands blank.written found.written;
       homes_told = homes_by n top t old.homes.items new.homes.items stands blank.homes found.homes;
+      enclosed_told = enclosed_by n top t old.enclosing new.enclosing blank.functions blank.numbers found.enclosing;
       this_told = body_by (λ f. f.binds_this) top t old.this_events.items new.this_events.items stands blank.this_events found.this_events;
       arguments_told = body_by (λ f. f.has_arguments) top t old.arguments.items new.arguments.items stands blank.arguments found.arguments;
     }

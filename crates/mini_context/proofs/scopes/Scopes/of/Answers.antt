@@ -35,5 +35,7 @@ returns c =
         mentioned_told = found.mentioned_told;
         written_told = found.written_told;
         homes_told = found.homes_told;
+        early_told = c.in_ok-moments.ensures;
+        enclosed_told = found.enclosed_told;
       };
     }

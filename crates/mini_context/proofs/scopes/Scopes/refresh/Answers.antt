@@ -25,6 +25,8 @@ returns c =
         written_told = told.looked.written_told;
         given_told = told.looked.given_told;
         homes_told = told.looked.homes_told;
+        early_told = told.looked.early_told;
+        enclosed_told = told.looked.enclosed_told;
       };
       fixed_kept = ap (λ v. v.items) c.swap.ensures.y_after ∙ ap (λ f. f.fixed) c.self.view_is;
       tops_kept = ap (λ f. f.tops) c.self.view_is;

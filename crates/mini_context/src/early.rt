@@ -1,0 +1,181 @@
+//! Reads of variables before their declarations have ended, in the order of evaluation.
+
+ghost use Rattle.std.specs.Prelude.{◌≡◌, ℕ, ◌<◌, ◌&&◌, ◌||◌, not, nat_eq, [], ◌∷◌, false, length, replicate, IfOk, OnOk};
+ghost use Rattle.mini_model.specs.Tree.{children, child_or_absent, count, shape_of};
+ghost use Rattle.mini_node.specs.Children.{names_of, number_of, rest_children};
+ghost use Rattle.mini_names.specs.Mentions.{around_child, is_elsewhere, own_mentions};
+ghost use Rattle.mini_names.specs.Scopes.{use_of as use_at};
+ghost use Rattle.mini_names.specs.Foreign.{ended_by, ends_at, in_order, joined as joined_in, moments as moments_of, moments_from, reads_at};
+ghost use Rattle.mini_context.specs.Early.{ended_part as ended_part_of, order_of as order_in, Passed};
+ghost use Rattle.mini_context.specs.Lists.{holds};
+ghost use Rattle.mini_context.specs.Tables.{mark_at, Marked};
+
+use crate::count::{is_read, is_reference};
+use crate::lists::{no_lists, put_number};
+use crate::marks::{is_marked, no_marks};
+use crate::parts::{Part, mark_part};
+use crate::standing::{Standing, standing_below};
+use mini_model::{Name, Shape, SymbolId};
+use mini_names::Around;
+use mini_node::Node;
+use mini_text::{OutOfMemory, OwnedList};
+use std::alloc::Global;
+
+/// In which order a node evaluates its children.
+#[derive(Clone, Copy)]
+pub enum Order {
+    /// As they stand.
+    InOrder,
+    /// The second before the first.
+    RightFirst,
+    /// As they stand, the declaration of the first ending before the others.
+    ParamFirst,
+}
+
+/// What is known at a moment.
+#[derive(Drop)]
+pub struct Moments {
+    /// The symbols whose declarations have ended.
+    pub ended: Vec<bool>,
+    /// The bodies that have read each symbol before that.
+    pub early: Vec<OwnedList<u32>>,
+}
+
+/// The first moment of a program with so many symbols.
+pub fn no_moments(alloc: Global, symbols: u32) -> Result<Moments, OutOfMemory>
+    ensures ended { IfOk result (λ m. m.ended.items ≡ replicate symbols false) }
+    ensures early { IfOk result (λ m. m.early.items ≡ replicate symbols []) }
+{
+    Ok(Moments {
+        ended: no_marks(alloc, symbols)?,
+        early: no_lists(alloc, symbols)?,
+    })
+}
+
+fn order_of(shape: &Shape, count: usize) -> Order
+    ensures { result ≡ order_in shape.now count }
+{
+    match shape {
+        Shape::ForInStatement | Shape::ForOfStatement if count > 1 => Order::RightFirst,
+        Shape::CatchClause if count > 0 => Order::ParamFirst,
+        _ => Order::InOrder,
+    }
+}
+
+fn ended_part(shape: &Shape) -> Part
+    ensures { result ≡ ended_part_of shape.now }
+{
+    match shape {
+        Shape::VariableDeclarator
+        | Shape::Function(true, ..)
+        | Shape::Class(true)
+        | Shape::CatchClause => Part::At(0),
+        _ => Part::Nothing,
+    }
+}
+
+fn mark_ended(marks: &mut Vec<bool>, node: &Node)
+    ensures { Marked (ended_by (shape_of node.now) (children node.now)) marks.old.items marks.new.items }
+{
+    mark_part(marks, ended_part(node.shape()), node.children());
+}
+
+fn pass_ends(moments: &mut Moments, standing: Standing, node: &Node)
+    ensures { Passed (ends_at standing.around (ended_by (shape_of node.now) (children node.now))) moments.old moments.new }
+{
+    mark_ended(&mut moments.ended, node);
+}
+
+fn note_read(moments: &mut Moments, symbol: SymbolId, around: Around) -> Result<(), OutOfMemory>
+    ensures ended { OnOk result (moments.new.ended ≡ moments.old.ended) }
+    ensures lists { OnOk result (length moments.new.early.items ≡ length moments.old.early.items) }
+    ensures reads { OnOk result ((s : ℕ) → s < length moments.old.early.items → (b : ℕ) → holds moments.new.early.items s b ≡ (holds moments.old.early.items s b || (not (mark_at moments.old.ended.items s) && (nat_eq symbol.0 s && not (is_elsewhere b around))))) }
+{
+    if around.carried || is_marked(moments.ended.as_slice(), symbol.0) {
+        return Ok(());
+    }
+    put_number(&mut moments.early, symbol.0, around.number)
+}
+
+fn pass_name(moments: &mut Moments, around: Around, name: &Name) -> Result<(), OutOfMemory>
+    ensures { OnOk result (Passed (record { name = name.now; ends = false; around = around } ∷ []) moments.old moments.new) }
+{
+    if let Some(symbol) = name.symbol {
+        note_read(moments, symbol, around)?;
+    }
+    Ok(())
+}
+
+fn pass_own(moments: &mut Moments, standing: Standing, node: &Node) -> Result<(), OutOfMemory>
+    ensures { OnOk result (Passed (reads_at (own_mentions standing.usage standing.around (shape_of node.now) (names_of node.now))) moments.old moments.new) }
+{
+    if !is_reference(node.shape()) || !is_read(standing.usage) {
+        return Ok(());
+    }
+    if let Some(name) = node.name() {
+        pass_name(moments, standing.around, name)?;
+    }
+    Ok(())
+}
+
+/// The moments of a tree that stands so pass.
+#[cycle(moments)]
+pub fn pass_node(moments: &mut Moments, standing: Standing, node: &Node) -> Result<(), OutOfMemory>
+    ensures { OnOk result (Passed (moments_of standing.usage standing.around node.now) moments.old moments.new) }
+{
+    pass_own(moments, standing, node)?;
+    pass_below(moments, standing, node)
+}
+
+#[cycle(moments)]
+fn pass_below(moments: &mut Moments, standing: Standing, node: &Node) -> Result<(), OutOfMemory>
+    ensures { OnOk result (Passed (in_order (shape_of node.now) (moments_from (use_at (shape_of node.now) standing.usage) (around_child (shape_of node.now) standing.around (number_of node.now)) 0 (children node.now)) (ends_at standing.around (ended_by (shape_of node.now) (children node.now)))) moments.old moments.new) }
+{
+    match order_of(node.shape(), node.children().len()) {
+        Order::InOrder => {
+            pass_rest(moments, standing, node, 0)?;
+            pass_ends(moments, standing, node);
+        }
+        Order::RightFirst => {
+            pass_child(moments, standing, node, 1)?;
+            pass_child(moments, standing, node, 0)?;
+            pass_rest(moments, standing, node, 2)?;
+            pass_ends(moments, standing, node);
+        }
+        Order::ParamFirst => {
+            pass_child(moments, standing, node, 0)?;
+            pass_ends(moments, standing, node);
+            pass_rest(moments, standing, node, 1)?;
+        }
+    }
+    Ok(())
+}
+
+#[cycle(moments)]
+fn pass_child(
+    moments: &mut Moments,
+    standing: Standing,
+    node: &Node,
+    at: usize,
+) -> Result<(), OutOfMemory>
+    requires { at < count (children node.now) }
+    ensures { OnOk result (Passed (moments_of (use_at (shape_of node.now) standing.usage at) (around_child (shape_of node.now) standing.around (number_of node.now) at) (child_or_absent (children node.now) at)) moments.old moments.new) }
+{
+    let stands = standing_below(standing, node, at);
+    pass_node(moments, stands, node.children().child(at))
+}
+
+#[cycle(moments)]
+fn pass_rest(
+    moments: &mut Moments,
+    standing: Standing,
+    node: &Node,
+    from: usize,
+) -> Result<(), OutOfMemory>
+    ensures { OnOk result (Passed (joined_in (moments_from (use_at (shape_of node.now) standing.usage) (around_child (shape_of node.now) standing.around (number_of node.now)) from (rest_children from (children node.now)))) moments.old moments.new) }
+{
+    for at in from..node.children().len() {
+        pass_child(moments, standing, node, at)?;
+    }
+    Ok(())
+}
