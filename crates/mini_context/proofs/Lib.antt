@@ -18,3 +18,4 @@ mod Shares
 pub mod Known
 mod Values
 mod Foreigns
+mod Uses

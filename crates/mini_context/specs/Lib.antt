@@ -12,3 +12,4 @@ pub mod Known
 pub mod Lists
 pub mod Early
 pub mod Enclosing
+pub mod Examples

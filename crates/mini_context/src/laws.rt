@@ -1,6 +1,6 @@
 //! Laws of counts. Each is the contract of a function that does nothing.
 
-ghost use Rattle.mini_context.specs.Laws.{CountsTell, DropsTell, ForeignTells, NamesTell, RefreshTells, SharesTell, TablesTell};
+ghost use Rattle.mini_context.specs.Laws.{CountsTell, DeclaratorsTell, DropsTell, ForeignTells, NamesTell, RefreshTells, SharesTell, TablesTell, UsesTell};
 
 /// The counts by symbol of a tree are how often each symbol is read, and how often it is written.
 pub fn counts_tell()
@@ -35,4 +35,14 @@ pub fn foreign_tells()
 /// After a refresh the tables tell both of the program that was looked at.
 pub fn refresh_tells()
     ensures { RefreshTells }
+{}
+
+/// What is used in two ways that are counted alike is counted alike.
+pub fn uses_tell()
+    ensures { UsesTell }
+{}
+
+/// A declarator of `var` that is dropped is counted out as one that is read.
+pub fn declarators_tell()
+    ensures { DeclaratorsTell }
 {}

@@ -1,0 +1,8 @@
+use Rattle.std.specs.Prelude.{refl}
+use Rattle.mini_names.specs.declared.Use.TheVariants.{Hoisted, Read}
+use Rattle.mini_names.specs.References.{reads, writes}
+use Rattle.mini_context.proofs.Uses.{alike}
+use Rattle.mini_context.proofs.laws.declarators_tell.Goals as goal
+
+pub returns : goal.returns
+returns c t s = (alike reads Hoisted Read refl t s, alike writes Hoisted Read refl t s)
