@@ -1,22 +1,36 @@
 -- The rules together, and the rows.
 use Rattle.std.proofs.Common.{ℕ, zero, suc, ◌<◌, ◌^◌, inl, inr, arith}
+use Rattle.std.specs.Prelude.{◌⊎◌}
 use Rattle.mini_model.specs.declared.place.Position.{Position}
 use Rattle.mini_model.specs.declared.place.Position.TheVariants.{Expr, Stmt}
 use Rattle.mini_model.specs.Tree.{Tree, Trees, node, none, ◌▸◌, count}
 use Rattle.mini_model.specs.Position.{child_position}
 use Rattle.mini_model.specs.Weight.{weight, weights}
-use Rattle.mini_model.specs.Redex.{Row, Contracts, HaveNoRedex}
+use Rattle.mini_model.specs.Redex.{Contracts}
 use Rattle.mini_model.specs.Rewriting.{EverywhereIn}
+use Rattle.mini_kept.specs.Lawful.{Lawful}
+use Rattle.mini_kept.proofs.Lawful.{lawful_join, lawful_narrowed, rows_are_lawful}
+use Rattle.mini_rows.specs.Branches.{BranchContracts}
+use Rattle.mini_rows.proofs.BranchLawful.{branches_lawful}
 use Rattle.mini_logic.specs.Joined as law
-use Rattle.mini_logic.specs.Lighter.{unary_contracts, conditional_contracts, if_contracts}
+use Rattle.mini_logic.specs.Joined.{LogicRow, LogicContracts, HaveNoRedex}
 use Rattle.mini_walk.specs.Wider.{reaches_of}
 
-pub gives_contract : law.GivesContract
-gives_contract p t u (inl r) = unary_contracts p t u r
-gives_contract p t u (inr (inl r)) = conditional_contracts p t u r
-gives_contract p t u (inr (inr r)) = if_contracts p t u r
+gives_row : (p : Position) (t u : Tree) → law.Gives p t u → LogicContracts p t u
+gives_row (Expr s) t u (inl r) = record { row = inl r.0; lighter = r.1 }
+gives_row (Expr s) t u (inr (inl r)) = record { row = inr r.0; lighter = r.1 }
+gives_row (Expr s) t u (inr (inr r)) = absurd r
+gives_row (Stmt q) t u (inl r) = absurd r
+gives_row (Stmt q) t u (inr (inl r)) = absurd r
+gives_row (Stmt q) t u (inr (inr r)) = record { row = r.0; lighter = r.1 }
+gives_row p t u (inl r) = absurd r
+gives_row p t u (inr (inl r)) = absurd r
+gives_row p t u (inr (inr r)) = absurd r
 
-given : (p : Position) (t u : Tree) → Row p t u → weight p u < weight p t → law.Gives p t u
+pub gives_contract : law.GivesContract
+gives_contract = gives_row
+
+given : (p : Position) (t u : Tree) → LogicRow p t u → weight p u < weight p t → law.Gives p t u
 given (Expr s) t u (inl r) l = inl (r, l)
 given (Expr s) t u (inr r) l = inr (inl (r, l))
 given (Stmt q) t u r l = inr (inr (r, l))
@@ -26,7 +40,7 @@ pub contracts_are_given : law.ContractsAreGiven
 contracts_are_given p t u c = given p t u c.row c.lighter
 
 pub reaches_contract : law.ReachesContract
-reaches_contract p t u r = reaches_of law.Gives Contracts gives_contract p t u r
+reaches_contract p t u r = reaches_of law.Gives LogicContracts gives_contract p t u r
 
 settled : (p : Position) (t u : Tree) → weight p t < 2 ^ 64 → law.Rests p t → law.Gives p t u → ⊥
 settled (Expr s) t u h r (inl g) = r.0 h u g
@@ -34,13 +48,13 @@ settled (Expr s) t u h r (inr (inl g)) = r.1.0 u g.0
 settled (Expr s) t u h r (inr (inr g)) = absurd g
 settled (Stmt q) t u h r (inl g) = absurd g
 settled (Stmt q) t u h r (inr (inl g)) = absurd g
-settled (Stmt q) t u h r (inr (inr g)) = r.1.1 u g.0
+settled (Stmt q) t u h r (inr (inr g)) = r.1.1 h u g.0
 settled p t u h r (inl g) = absurd g
 settled p t u h r (inr (inl g)) = absurd g
 settled p t u h r (inr (inr g)) = absurd g
 
 pub rests_settle : law.RestsSettle
-rests_settle p t h r x = settled p t x.to h r (contracts_are_given p t x.to x.contracts)
+rests_settle p t h r w c = settled p t w h r (contracts_are_given p t w c)
 
 mutual
   pub rests_everywhere : law.RestsEverywhere
@@ -49,3 +63,17 @@ mutual
   rest_in : (π : ℕ → Position) (ts : Trees) → weights π ts < 2 ^ 64 → EverywhereIn law.Rests π ts → HaveNoRedex π ts
   rest_in π none small r = tt
   rest_in π (t ▸ ts) small r = (rests_everywhere (π zero) t (omega (arith, small)) r.0, rest_in (λ i. π (suc i)) ts (omega (arith, small)) r.1)
+
+-- ---- lawful
+
+either_row : (p : Position) (t u : Tree) → LogicContracts p t u → Contracts p t u ⊎ BranchContracts p t u
+either_row (Stmt q) t u c = go c.row
+  where
+    go : LogicRow (Stmt q) t u → Contracts (Stmt q) t u ⊎ BranchContracts (Stmt q) t u
+    go (inl r) = inl (record { row = r; lighter = c.lighter })
+    go (inr r) = inr (record { row = inr (inr r); lighter = c.lighter })
+either_row (Expr s) t u c = inl (record { row = c.row; lighter = c.lighter })
+either_row p t u c = absurd c.row
+
+pub logic_lawful : Lawful LogicContracts
+logic_lawful = lawful_narrowed LogicContracts (λ p t u. Contracts p t u ⊎ BranchContracts p t u) either_row (lawful_join Contracts BranchContracts rows_are_lawful branches_lawful)

@@ -2,7 +2,9 @@ pub mod Booleans
 pub mod Negations
 pub mod Weights
 pub mod Seats
+pub mod Alternates
 pub mod MinimizeUnaryExpression
 pub mod MinimizeConditionalExpression
 pub mod MinimizeIfStatement
+pub mod UnwrapBlock
 pub mod Joined

@@ -28,22 +28,37 @@ test_marks h os = omega arith
 pub test_falls : (a : Tree) → weight (Expr conditional_test_seat) a ≤ weight (Expr not_operand_seat) a
 test_falls a = let falls = placed 0 conditional_test_seat not_operand_seat refl test_marks a in omega (arith, falls)
 
--- nor as the left side of an `||` that is a statement
+-- nor as the left side of an `||` or an `&&` that is a statement
 
-left_marks : (h : Shape) (os : List Outline) → place_weight (Expr (left_operand_seat Or statement_expression_seat)) h os ≤ place_weight (Expr not_operand_seat) h os + 0
-left_marks (shape.LogicalExpression Or) os = omega arith
-left_marks (shape.LogicalExpression And) os = omega arith
-left_marks (shape.LogicalExpression Coalesce) os = omega arith
-left_marks (shape.BinaryExpression binary.BitwiseOr) os = omega arith
-left_marks (shape.BinaryExpression binary.BitwiseXor) os = omega arith
-left_marks (shape.BinaryExpression binary.BitwiseAnd) os = omega arith
-left_marks (shape.BinaryExpression o) os = omega arith
-left_marks (shape.NumericLiteral (pos n)) os = omega arith
-left_marks (shape.NumericLiteral (negsuc n)) os = omega arith
-left_marks h os = omega arith
+left_or_marks : (h : Shape) (os : List Outline) → place_weight (Expr (left_operand_seat Or statement_expression_seat)) h os ≤ place_weight (Expr not_operand_seat) h os + 0
+left_or_marks (shape.LogicalExpression Or) os = omega arith
+left_or_marks (shape.LogicalExpression And) os = omega arith
+left_or_marks (shape.LogicalExpression Coalesce) os = omega arith
+left_or_marks (shape.BinaryExpression binary.BitwiseOr) os = omega arith
+left_or_marks (shape.BinaryExpression binary.BitwiseXor) os = omega arith
+left_or_marks (shape.BinaryExpression binary.BitwiseAnd) os = omega arith
+left_or_marks (shape.BinaryExpression o) os = omega arith
+left_or_marks (shape.NumericLiteral (pos n)) os = omega arith
+left_or_marks (shape.NumericLiteral (negsuc n)) os = omega arith
+left_or_marks h os = omega arith
 
-pub left_falls : (a : Tree) → weight (Expr (left_operand_seat Or statement_expression_seat)) a ≤ weight (Expr not_operand_seat) a
-left_falls a = let falls = placed 0 (left_operand_seat Or statement_expression_seat) not_operand_seat refl left_marks a in omega (arith, falls)
+pub left_or_falls : (a : Tree) → weight (Expr (left_operand_seat Or statement_expression_seat)) a ≤ weight (Expr not_operand_seat) a
+left_or_falls a = let falls = placed 0 (left_operand_seat Or statement_expression_seat) not_operand_seat refl left_or_marks a in omega (arith, falls)
+
+left_and_marks : (h : Shape) (os : List Outline) → place_weight (Expr (left_operand_seat And statement_expression_seat)) h os ≤ place_weight (Expr not_operand_seat) h os + 0
+left_and_marks (shape.LogicalExpression Or) os = omega arith
+left_and_marks (shape.LogicalExpression And) os = omega arith
+left_and_marks (shape.LogicalExpression Coalesce) os = omega arith
+left_and_marks (shape.BinaryExpression binary.BitwiseOr) os = omega arith
+left_and_marks (shape.BinaryExpression binary.BitwiseXor) os = omega arith
+left_and_marks (shape.BinaryExpression binary.BitwiseAnd) os = omega arith
+left_and_marks (shape.BinaryExpression o) os = omega arith
+left_and_marks (shape.NumericLiteral (pos n)) os = omega arith
+left_and_marks (shape.NumericLiteral (negsuc n)) os = omega arith
+left_and_marks h os = omega arith
+
+pub left_and_falls : (a : Tree) → weight (Expr (left_operand_seat And statement_expression_seat)) a ≤ weight (Expr not_operand_seat) a
+left_and_falls a = let falls = placed 0 (left_operand_seat And statement_expression_seat) not_operand_seat refl left_and_marks a in omega (arith, falls)
 
 -- what a statement's expression gets as the right side of a logical expression is a pair of parentheses at most
 

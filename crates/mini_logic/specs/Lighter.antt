@@ -1,15 +1,20 @@
 -- A step of each rule is a rewrite, so it makes the whole lighter.
-use Rattle.std.proofs.Common.{inl, inr}
+use Rattle.std.specs.Prelude.{◌⊎◌}
+use Rattle.std.proofs.Common.{inl, inr, ⊎_elim}
 use Rattle.mini_model.specs.declared.place.Position.{Position}
 use Rattle.mini_model.specs.declared.place.Position.TheVariants.{Expr, Stmt}
 use Rattle.mini_model.specs.Tree.{Tree}
 use Rattle.mini_model.specs.Redex.{Contracts}
-use Rattle.mini_laws.proofs.Lighter.{step_lighter}
+use Rattle.mini_laws.specs.Weights.{Lightens}
+use Rattle.mini_laws.proofs.Lighter.{step_lighter, any_step_lighter, rows_lighten}
+use Rattle.mini_rows.specs.Branches.{BranchContracts}
+use Rattle.mini_rows.proofs.BranchWeights.{branches_lighten}
 use Rattle.mini_walk.specs.Rule.{IsLighter}
 use Rattle.mini_walk.specs.Wider.{step_of}
 use Rattle.mini_logic.specs.MinimizeUnaryExpression as unary
 use Rattle.mini_logic.specs.MinimizeConditionalExpression as conditional
 use Rattle.mini_logic.specs.MinimizeIfStatement as «if»
+use Rattle.mini_logic.specs.UnwrapBlock as unwrap
 
 pub unary_contracts : (p : Position) (t u : Tree) → unary.Gives p t u → Contracts p t u
 unary_contracts (Expr s) t u r = record { row = inl r.0; lighter = r.1 }
@@ -19,9 +24,14 @@ pub conditional_contracts : (p : Position) (t u : Tree) → conditional.Gives p 
 conditional_contracts (Expr s) t u r = record { row = inr r.0; lighter = r.1 }
 conditional_contracts p t u r = absurd r
 
-pub if_contracts : (p : Position) (t u : Tree) → «if».Gives p t u → Contracts p t u
-if_contracts (Stmt q) t u r = record { row = r.0; lighter = r.1 }
+pub if_contracts : (p : Position) (t u : Tree) → «if».Gives p t u → Contracts p t u ⊎ BranchContracts p t u
+if_contracts (Stmt q) t u (inl r, l) = inl (record { row = r; lighter = l })
+if_contracts (Stmt q) t u (inr r, l) = inr (record { row = inr (inr r); lighter = l })
 if_contracts p t u r = absurd r
+
+pub unwrap_contracts : (p : Position) (t u : Tree) → unwrap.Gives p t u → Contracts p t u ⊎ BranchContracts p t u
+unwrap_contracts (Stmt q) t u r = inr (record { row = inr (inl r.0); lighter = r.1 })
+unwrap_contracts p t u r = absurd r
 
 pub unary_lighter : IsLighter unary.Gives
 unary_lighter p t u s = step_lighter p t u (step_of unary.Gives Contracts unary_contracts p t u s)
@@ -29,5 +39,22 @@ unary_lighter p t u s = step_lighter p t u (step_of unary.Gives Contracts unary_
 pub conditional_lighter : IsLighter conditional.Gives
 conditional_lighter p t u s = step_lighter p t u (step_of conditional.Gives Contracts conditional_contracts p t u s)
 
+-- two relations that make a whole lighter are one
+both_lighten : (R S : Position → Tree → Tree → Type 0) → Lightens R → Lightens S → Lightens (λ p t u. R p t u ⊎ S p t u)
+both_lighten R S l m = record {
+  lighter = λ p t u r. ⊎_elim (l.lighter p t u) (m.lighter p t u) r;
+  absent = λ p t u r e. ⊎_elim (λ x. l.absent p t u x e) (λ x. m.absent p t u x e) r;
+  items = λ p t u r e. ⊎_elim (λ x. l.items p t u x e) (λ x. m.items p t u x e) r;
+  is_zero = λ p t u r e. ⊎_elim (λ x. l.is_zero p t u x e) (λ x. m.is_zero p t u x e) r;
+  chooses = λ p t u r e. ⊎_elim (λ x. l.chooses p t u x e) (λ x. m.chooses p t u x e) r;
+}
+
+rows_lighter : (R : Position → Tree → Tree → Type 0) → ((p : Position) (t u : Tree) → R p t u → Contracts p t u ⊎ BranchContracts p t u) → IsLighter R
+rows_lighter R f p t u s =
+    any_step_lighter (λ p t u. Contracts p t u ⊎ BranchContracts p t u) (both_lighten Contracts BranchContracts rows_lighten branches_lighten) p t u (step_of R (λ p t u. Contracts p t u ⊎ BranchContracts p t u) f p t u s)
+
 pub if_lighter : IsLighter «if».Gives
-if_lighter p t u s = step_lighter p t u (step_of «if».Gives Contracts if_contracts p t u s)
+if_lighter = rows_lighter «if».Gives if_contracts
+
+pub unwrap_lighter : IsLighter unwrap.Gives
+unwrap_lighter = rows_lighter unwrap.Gives unwrap_contracts

@@ -1,18 +1,21 @@
--- 82, `try_minimize_if`: `if (a) b; else c;` becomes `a ? b : c;`, `if (a) b;` becomes `a && b;`, and `if (!a) b;` becomes
--- `a || b;`.
-use Rattle.std.specs.Prelude.{◌⊎◌, ◌<◌, Bool, ◌&&◌, Option, Some, None, if◌then◌else◌}
+-- 82 and 83, `try_minimize_if`: `if (a) b; else c;` becomes `a ? b : c;`, `if (a) b;` becomes `a && b;`, and `if (!a) b;`
+-- becomes `a || b;`; an empty consequent goes, `if (a) if (b) c;` becomes `if (a && b) c;`, and an `if` with `else` as a
+-- consequent gets a block.
+use Rattle.std.specs.Prelude.{◌⊎◌, ◌<◌, ◌^◌, ◌==◌, Bool, ◌&&◌, ◌||◌, nat_lt, Option, Some, None, if◌then◌else◌}
 use Rattle.mini_model.specs.declared.operator.LogicalOperator.TheVariants.{Or, And}
 use Rattle.mini_model.specs.declared.place.Position.{Position}
-use Rattle.mini_model.specs.declared.place.Position.TheVariants.{Stmt}
+use Rattle.mini_model.specs.declared.place.Position.TheVariants.{Expr, Stmt}
 use Rattle.mini_model.specs.declared.seat.Seat.{Seat}
 use Rattle.mini_model.specs.declared.seat.StmtSeat.{StmtSeat}
-use Rattle.mini_model.specs.Tree.{Tree, conditional, logical, expression_statement}
-use Rattle.mini_model.specs.Position.{statement_expression_seat, left_operand_seat}
-use Rattle.mini_model.specs.Weight.{weight}
+use Rattle.mini_model.specs.Tree.{Tree, none, ◌▸◌, count, children, negation, conditional, logical, expression_statement, if_else, if_alone}
+use Rattle.mini_model.specs.Position.{statement_expression_seat, if_test_seat, left_operand_seat}
+use Rattle.mini_model.specs.Weight.{weight, capped}
 use Rattle.mini_model.specs.Terms.{neg, has_negated_result}
 use Rattle.mini_model.specs.Redex.{Row82Else, Row82And, Row82Or}
 use Rattle.mini_node.specs.Children.{part}
-use Rattle.mini_node.specs.Kinds.{is_if_statement, is_if_alone, is_expression_statement}
+use Rattle.mini_node.specs.Kinds.{is_absent_part, is_empty_statement, is_block, is_if_statement, is_if_alone, is_expression_statement}
+use Rattle.mini_rows.specs.Lists.{block}
+use Rattle.mini_rows.specs.Branches.{has_else, is_other_branch, as_consequent, conjunct_seat, IfRow}
 
 -- `if (a) b; else c;`
 abbrev pub chooses : Tree → Bool
@@ -22,42 +25,94 @@ chooses t = is_if_statement t && (is_expression_statement (part t 1) && is_expre
 abbrev pub guards : Tree → Bool
 guards t = is_if_alone t && is_expression_statement (part t 1)
 
+-- `;` or `{}`
+abbrev pub is_empty : Tree → Bool
+is_empty t = is_empty_statement t || (is_block t && (count (children (part t 0)) == 0))
+
+-- `if (a);`, with `else` or without
+abbrev pub has_empty_consequent : Tree → Bool
+has_empty_consequent t = is_if_statement t && is_empty (part t 1)
+
+-- `if (a); else b;`
+abbrev pub skips : Tree → Bool
+skips t = has_empty_consequent t && is_expression_statement (part t 2)
+
+-- `if (a);`
+abbrev pub only_tests : Tree → Bool
+only_tests t = has_empty_consequent t && is_absent_part (part t 2)
+
+-- the weight of `!a` as a test fits 64 bits
+abbrev pub is_weighed : Tree → Bool
+is_weighed a = nat_lt (capped (weight (Expr if_test_seat) (negation a))) 18446744073709551615
+
+-- `if (a); else return b;`
+abbrev pub turns : Tree → Bool
+turns t = has_empty_consequent t && (is_other_branch (part t 2) && is_weighed (part t 0))
+
+-- `if (a) if (b) c;`
+abbrev pub nests : Tree → Bool
+nests t = is_if_alone t && is_if_alone (part t 1)
+
+-- `if (a) if (b) c; else d;`, where the `else` is that of the second `if`
+abbrev pub is_bare : Tree → Bool
+is_bare t = is_if_statement t && has_else (part t 1)
+
 -- `a ? b : c;`
 abbrev pub choice : Tree → Tree
 choice t = expression_statement (conditional (part t 0) (part (part t 1) 0) (part (part t 2) 0))
 
--- `a && b;`, of the test and the consequent
+-- `a && b;`, of the test and a branch
 abbrev pub conjunction : Tree → Tree → Tree
 conjunction a b = expression_statement (logical And a (part b 0))
+
+-- `a || b;`, of the test and a branch
+abbrev pub disjunction : Tree → Tree → Tree
+disjunction a b = expression_statement (logical Or a (part b 0))
 
 -- the seat of the a in `a || b;`
 abbrev pub disjunct_seat : Seat
 disjunct_seat = left_operand_seat Or statement_expression_seat
 
--- `a || b;`, of a test `!a`
-abbrev pub disjunction : Tree → Tree → Tree
-disjunction a b = expression_statement (logical Or (neg disjunct_seat a) (part b 0))
-
 abbrev pub guard : Tree → Tree
-guard t = if has_negated_result (part t 0) then disjunction (part t 0) (part t 1) else conjunction (part t 0) (part t 1)
+guard t = if has_negated_result (part t 0) then disjunction (neg disjunct_seat (part t 0)) (part t 1) else conjunction (part t 0) (part t 1)
+
+-- `a || b;`, or `a && b;` of a test `!a`
+abbrev pub skipped : Tree → Tree
+skipped t = if has_negated_result (part t 0) then conjunction (neg conjunct_seat (part t 0)) (part t 2) else disjunction (part t 0) (part t 2)
+
+-- the lighter negation, as far as 64 bits go
+abbrev pub lighter_negation : Seat → Tree → Tree
+lighter_negation s a = if nat_lt (capped (weight (Expr s) (negation a))) (capped (weight (Expr s) (neg s a))) then negation a else neg s a
+
+-- `if (!a) return b;`
+abbrev pub turned : Tree → Tree
+turned t = if_alone (lighter_negation if_test_seat (part t 0)) (as_consequent (part t 2))
+
+-- `if (a && b) c;`
+abbrev pub nested : Tree → Tree
+nested t = if_alone (logical And (part t 0) (part (part t 1) 0)) (part (part t 1) 1)
+
+-- `if (a) { if (b) c; else d; }`
+abbrev pub in_block : Tree → Tree
+in_block t = if_else (part t 0) (block (part t 1 ▸ none)) (part t 2)
 
 abbrev pub written : Tree → Option Tree
-written t = if chooses t then Some (choice t) else (if guards t then Some (guard t) else None)
+written t = if chooses t then Some (choice t) else (if guards t then Some (guard t) else (if skips t then Some (skipped t) else (if only_tests t then Some (expression_statement (part t 0)) else (if turns t then Some (turned t) else (if nests t then Some (nested t) else (if is_bare t then Some (in_block t) else None))))))
 
--- one of the three forms
+-- one of the forms
 abbrev pub IsRow : Tree → Tree → Type 0
-IsRow n w = Row82Else n w ⊎ (Row82And n w ⊎ Row82Or n w)
+IsRow n w = (Row82Else n w ⊎ (Row82And n w ⊎ Row82Or n w)) ⊎ IfRow n w
 
 -- what the rule makes
 abbrev pub Gives : Position → Tree → Tree → Type 0
 Gives (Stmt q) n w = IsRow n w × (weight (Stmt q) w < weight (Stmt q) n)
 Gives _ n w = ⊥
 
--- no form reads it as anything
+-- no form reads it as anything, if the weight fits 64 bits
 abbrev pub Rests : Position → Tree → Type 0
-Rests (Stmt q) n = (w : Tree) → IsRow n w → ⊥
+Rests (Stmt q) n = weight (Stmt q) n < 2 ^ 64 → (w : Tree) → IsRow n w → ⊥
 Rests _ n = Unit {0}
 
--- what the row writes is lighter in every place
+-- what the rows write is lighter in every place
 abbrev pub RowLighter : Type 0
 RowLighter = (q : StmtSeat) (n w : Tree) → IsRow n w → weight (Stmt q) w < weight (Stmt q) n

@@ -43,9 +43,9 @@ pub fn is_boolean(node: &Node) -> bool
     }
 }
 
-// Whether there is one child.
+/// Whether there is one child.
 #[tactic(auto, using(crate::proofs::Negations::one_by_count))]
-fn has_one(children: &Nodes) -> bool
+pub fn has_one(children: &Nodes) -> bool
     ensures { result ≡ has_one_tree children.now }
 {
     children.len() == 1

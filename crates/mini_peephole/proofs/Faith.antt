@@ -7,7 +7,6 @@ use Rattle.mini_model.specs.declared.place.Position.{Position}
 use Rattle.mini_model.specs.declared.place.Position.TheVariants.{Elsewhere}
 use Rattle.mini_model.specs.Tree.{Tree, Trees, node}
 use Rattle.mini_model.specs.Weight.{weight, program_weight}
-use Rattle.mini_model.specs.Redex.{Contracts, HasNoRedex, HaveNoRedex}
 use Rattle.mini_model.specs.Rewriting.{Everywhere, Step, StepIn, here, inside, first, later, Reaches, done, more}
 use Rattle.mini_names.specs.Resolved.{resolved_program}
 use Rattle.mini_scope.specs.Pointers.{early_fault}
@@ -16,12 +15,12 @@ use Rattle.mini_accept.specs.Accept.{Accepts}
 use Rattle.mini_accept.proofs.Depths.{one_tree}
 use Rattle.mini_kept.specs.Lawful.{Lawful}
 use Rattle.mini_kept.proofs.InPreorder.{preorder_same}
-use Rattle.mini_kept.proofs.Lawful.{lawful_narrowed, rows_are_lawful}
+use Rattle.mini_kept.proofs.Lawful.{lawful_narrowed}
 use Rattle.mini_kept.proofs.ReadBack.{IsRead}
 use Rattle.mini_kept.proofs.Texts.{text, text_resolved}
 use Rattle.mini_writer.specs.Written.{program_data}
-use Rattle.mini_logic.specs.Joined.{Gives, Rests}
-use Rattle.mini_logic.proofs.Joined.{gives_contract, rests_everywhere}
+use Rattle.mini_logic.specs.Joined.{Gives, Rests, LogicContracts, HasNoRedex, HaveNoRedex}
+use Rattle.mini_logic.proofs.Joined.{gives_contract, rests_everywhere, logic_lawful}
 use Rattle.mini_peephole.specs.Minified.{IsRewriting}
 use Rattle.mini_peephole.specs.Faithful as faith
 use Rattle.mini_peephole.specs.Faithful.{earlier, IsFaithfulWith, IsFaithful, Faithful, PassesBounded}
@@ -33,22 +32,22 @@ use Rattle.mini_peephole.proofs.Heaviest.{resolved_lighter}
 -- ---- a program without a redex has no rewrite
 
 mutual
-  no_step : {p : Position} {t u : Tree} → Step Contracts p t u → HasNoRedex p t → ⊥
-  no_step (here p (node h xs n ts) w c) f = f.0 (record { to = w; contracts = c })
+  no_step : {p : Position} {t u : Tree} → Step LogicContracts p t u → HasNoRedex p t → ⊥
+  no_step (here p (node h xs n ts) w c) f = f.0 w c
   no_step (inside p h xs n ts us st) f = no_step_in st f.1
 
-  no_step_in : {π : ℕ → Position} {ts us : Trees} → StepIn Contracts π ts us → HaveNoRedex π ts → ⊥
+  no_step_in : {π : ℕ → Position} {ts us : Trees} → StepIn LogicContracts π ts us → HaveNoRedex π ts → ⊥
   no_step_in (first π t u ts st) f = no_step st f.0
   no_step_in (later π t ts us st) f = no_step_in st f.1
 
-stays : {p : Position} {t u : Tree} → Reaches Contracts p t u → HasNoRedex p t → u ≡ t
+stays : {p : Position} {t u : Tree} → Reaches LogicContracts p t u → HasNoRedex p t → u ≡ t
 stays (done p t) f = refl
 stays (more p t w u st r) f = absurd (no_step st f)
 
 -- ---- the rules
 
 gives_lawful : Lawful Gives
-gives_lawful = lawful_narrowed Gives Contracts gives_contract rows_are_lawful
+gives_lawful = lawful_narrowed Gives LogicContracts gives_contract logic_lawful
 
 -- where the rules have nothing to do, nothing is left to rewrite
 no_redex : (o : CompressOptions) (m : Minified) (t u : Tree) → weight Elsewhere (resolved_program t) < 2 ^ 32 → IsFaithfulWith (Everywhere Rests Elsewhere) o m t u → IsFaithful o m t u
@@ -107,7 +106,7 @@ module _ (d : Data) (o : CompressOptions) (m : Minified) (t : Tree) (read : Acce
   fixed : (v : Tree) → Accepts d v → HasNoRedex Elsewhere (earlier v) → Accepts (view m.program) v × (m.passes ≡ 1) × (m.settled ≡ true)
   fixed v a f =
       let one = one_tree d v t a read in
-      let same : r.output ≡ resolved_program t = stays (within_reach (λ q. Gives) Contracts (λ q. gives_contract) r.passes.reached) (subst (λ w. HasNoRedex Elsewhere (resolved_program w)) one f) in
+      let same : r.output ≡ resolved_program t = stays (within_reach (λ q. Gives) LogicContracts (λ q. gives_contract) r.passes.reached) (subst (λ w. HasNoRedex Elsewhere (resolved_program w)) one f) in
       let w = ap (weight Elsewhere) same in
       let some = r.passes.some_pass in
       let h = r.passes.lighter in

@@ -10,7 +10,7 @@ use Rattle.mini_model.specs.declared.name.SymbolId.{SymbolId}
 use Rattle.mini_model.specs.declared.place.Position.TheVariants.{Elsewhere}
 use Rattle.mini_model.specs.Tree.{Tree}
 use Rattle.mini_model.specs.Weight.{program_weight}
-use Rattle.mini_model.specs.Redex.{HasNoRedex}
+use Rattle.mini_logic.specs.Joined.{HasNoRedex}
 use Rattle.mini_names.specs.Resolved.{resolved_program}
 use Rattle.mini_names.specs.Symbols.{declared_symbols}
 use Rattle.mini_names.specs.Early.{early_names, early_jumps, no_targets}

@@ -1,21 +1,28 @@
-//! Row 82: `if (a) b; else c;` becomes `a ? b : c;`, `if (a) b;` becomes `a && b;`, and `if (!a) b;` becomes `a || b;`,
-//! each of which is lighter in every place.
+//! Rows 82 and 83: `if (a) b; else c;` becomes `a ? b : c;`, `if (a) b;` becomes `a && b;`, and `if (!a) b;` becomes `a || b;`;
+//! an empty consequent goes, `if (a) if (b) c;` becomes `if (a && b) c;`, and an `if` with `else` as a consequent gets a block.
+//! Each is lighter in every place.
 
-ghost use Rattle.std.specs.Prelude.{◌≡◌, is_some, unwrap_or, OnOk, IfOk};
-ghost use Rattle.mini_model.specs.Position.{statement_expression_seat};
+ghost use Rattle.std.specs.Prelude.{◌≡◌, true, is_some, unwrap_or, OnOk, IfOk};
+ghost use Rattle.mini_model.specs.Position.{statement_expression_seat, left_operand_seat};
+ghost use Rattle.mini_model.specs.Terms.{neg};
+ghost use Rattle.mini_rows.specs.Branches.{as_consequent as as_consequent_of};
 ghost use Rattle.mini_walk.specs.Rule.{Applied};
 ghost use Rattle.mini_logic.specs.Lighter.{if_lighter};
-ghost use Rattle.mini_logic.specs.MinimizeIfStatement.{chooses as it_chooses, guards as it_guards, choice as choice_of, conjunction as conjunction_of, disjunction as disjunction_of, guard as guard_of, written, Gives, Rests};
+ghost use Rattle.mini_logic.specs.MinimizeIfStatement.{chooses as it_chooses, guards as it_guards, is_empty as is_it_empty, has_empty_consequent as has_an_empty_consequent, skips as it_skips, only_tests as it_only_tests, is_weighed as is_it_weighed, turns as it_turns, nests as it_nests, is_bare as is_it_bare, choice as choice_of, conjunction as conjunction_of, disjunction as disjunction_of, guard as guard_of, skipped as skipped_of, lighter_negation as lighter_negation_of, turned as turned_of, nested as nested_of, in_block as in_block_of, written, Gives, Rests};
+ghost use Rattle.mini_model.specs.Tree.{children, count, expression_statement as expression_statement_of};
+ghost use Rattle.mini_node.specs.Children.{part};
 
-use crate::terms::{has_negated_result, negated};
+use crate::statements::{has_else, is_other_branch};
+use crate::terms::{has_negated_result, neg_weight, negated};
 use mini_context::TraverseCtx;
-use mini_model::{LogicalOperator, Position};
+use mini_model::{LogicalOperator, Position, Seat};
 use mini_node::{
-    Node, conditional, discard, expression_statement, is_expression_statement, is_if_alone,
-    is_if_statement, logical, one, taken, three,
+    Node, absent, block, conditional, discard, expression_statement, if_statement, is_absent_part,
+    is_block, is_empty_statement, is_expression_statement, is_if_alone, is_if_statement, logical,
+    negation, of_one, one, taken, three,
 };
 use mini_text::OutOfMemory;
-use mini_tree::seats;
+use mini_tree::{negation_weight, seats};
 use mini_walk::Rule;
 use std::alloc::Global;
 
@@ -35,6 +42,63 @@ fn guards(node: &Node) -> bool
     is_if_alone(node) && is_expression_statement(node.child(1))
 }
 
+// `;` or `{}`
+fn is_empty(node: &Node) -> bool
+    ensures { result ≡ is_it_empty node.now }
+{
+    is_empty_statement(node) || (is_block(node) && node.child(0).children().is_empty())
+}
+
+// `if (a);`, with `else` or without
+fn has_empty_consequent(node: &Node) -> bool
+    ensures kind { result ≡ has_an_empty_consequent node.now }
+    ensures parts { result ≡ true → count (children node.now) ≡ 3 }
+{
+    is_if_statement(node) && is_empty(node.child(1))
+}
+
+// `if (a); else b;`
+fn skips(node: &Node) -> bool
+    ensures { result ≡ it_skips node.now }
+{
+    has_empty_consequent(node) && is_expression_statement(node.child(2))
+}
+
+// `if (a);`
+fn only_tests(node: &Node) -> bool
+    ensures { result ≡ it_only_tests node.now }
+{
+    has_empty_consequent(node) && is_absent_part(node.child(2))
+}
+
+// Whether the weight of `!a` as a test fits 64 bits.
+fn is_weighed(test: &Node) -> bool
+    ensures { result ≡ is_it_weighed test.now }
+{
+    negation_weight(test, seats::if_test()) < u64::MAX
+}
+
+// `if (a); else return b;`
+fn turns(node: &Node) -> bool
+    ensures { result ≡ it_turns node.now }
+{
+    has_empty_consequent(node) && is_other_branch(node.child(2)) && is_weighed(node.child(0))
+}
+
+// `if (a) if (b) c;`
+fn nests(node: &Node) -> bool
+    ensures { result ≡ it_nests node.now }
+{
+    is_if_alone(node) && is_if_alone(node.child(1))
+}
+
+// `if (a) if (b) c; else d;`, where the `else` is that of the second `if`
+fn is_bare(node: &Node) -> bool
+    ensures { result ≡ is_it_bare node.now }
+{
+    is_if_statement(node) && has_else(node.child(1))
+}
+
 // `a ? b : c;`
 fn choice(alloc: Global, node: Node) -> Result<Node, OutOfMemory>
     ensures { IfOk result (λ w. w ≡ choice_of node) }
@@ -45,39 +109,126 @@ fn choice(alloc: Global, node: Node) -> Result<Node, OutOfMemory>
 }
 
 // `a && b;`
-fn conjunction(alloc: Global, test: Node, consequent: Node) -> Result<Node, OutOfMemory>
-    ensures { IfOk result (λ w. w ≡ conjunction_of test consequent) }
+fn conjunction(alloc: Global, test: Node, branch: Node) -> Result<Node, OutOfMemory>
+    ensures { IfOk result (λ w. w ≡ conjunction_of test branch) }
 {
-    let expression = logical(alloc, LogicalOperator::And, test, one(consequent))?;
+    let expression = logical(alloc, LogicalOperator::And, test, one(branch))?;
     expression_statement(alloc, expression)
 }
 
-// `a || b;`, of a test `!a`
-fn disjunction(alloc: Global, test: Node, consequent: Node) -> Result<Node, OutOfMemory>
-    ensures { IfOk result (λ w. w ≡ disjunction_of test consequent) }
+// `a || b;`
+fn disjunction(alloc: Global, test: Node, branch: Node) -> Result<Node, OutOfMemory>
+    ensures { IfOk result (λ w. w ≡ disjunction_of test branch) }
 {
-    let seat = seats::left_operand(LogicalOperator::Or, seats::statement_expression());
-    let left = negated(alloc, test, seat)?;
-    let expression = logical(alloc, LogicalOperator::Or, left, one(consequent))?;
+    let expression = logical(alloc, LogicalOperator::Or, test, one(branch))?;
     expression_statement(alloc, expression)
 }
 
-// `a && b;` or `a || b;`
+// The test `!a` of an expression statement without its `!`.
+fn unnegated(alloc: Global, operator: LogicalOperator, test: Node) -> Result<Node, OutOfMemory>
+    ensures { IfOk result (λ w. w ≡ neg (left_operand_seat operator statement_expression_seat) test) }
+{
+    negated(
+        alloc,
+        test,
+        seats::left_operand(operator, seats::statement_expression()),
+    )
+}
+
+// `a && b;`, or `a || b;` of a test `!a`
 fn guard(alloc: Global, node: Node) -> Result<Node, OutOfMemory>
     ensures { IfOk result (λ w. w ≡ guard_of node) }
 {
     let (test, consequent, alternate) = three(node);
     discard(alternate);
     if has_negated_result(&test) {
-        disjunction(alloc, test, consequent)
+        let left = unnegated(alloc, LogicalOperator::Or, test)?;
+        disjunction(alloc, left, consequent)
     } else {
         conjunction(alloc, test, consequent)
     }
 }
 
+// `a || b;`, or `a && b;` of a test `!a`
+fn skipped(alloc: Global, node: Node) -> Result<Node, OutOfMemory>
+    ensures { IfOk result (λ w. w ≡ skipped_of node) }
+{
+    let (test, consequent, alternate) = three(node);
+    discard(consequent);
+    if has_negated_result(&test) {
+        let left = unnegated(alloc, LogicalOperator::And, test)?;
+        conjunction(alloc, left, alternate)
+    } else {
+        disjunction(alloc, test, alternate)
+    }
+}
+
+// `a;`
+fn tested(alloc: Global, node: Node) -> Result<Node, OutOfMemory>
+    ensures { IfOk result (λ w. w ≡ expression_statement_of (part node 0)) }
+{
+    expression_statement(alloc, one(node))
+}
+
+// The lighter of `!a` and of the negation of a.
+fn lighter_negation(alloc: Global, test: Node, seat: Seat) -> Result<Node, OutOfMemory>
+    ensures { IfOk result (λ w. w ≡ lighter_negation_of seat test) }
+{
+    if negation_weight(&test, seat) < neg_weight(&test, seat) {
+        negation(alloc, test)
+    } else {
+        negated(alloc, test, seat)
+    }
+}
+
+// A statement as a consequent: an `if` with `else` has a block around it there.
+fn as_consequent(alloc: Global, statement: Node) -> Result<Node, OutOfMemory>
+    ensures { IfOk result (λ w. w ≡ as_consequent_of statement) }
+{
+    if !has_else(&statement) {
+        return Ok(statement);
+    }
+    let body = of_one(alloc, statement)?;
+    block(alloc, body)
+}
+
+// `if (!a) return b;`
+fn turned(alloc: Global, node: Node) -> Result<Node, OutOfMemory>
+    ensures { IfOk result (λ w. w ≡ turned_of node) }
+{
+    let (test, consequent, alternate) = three(node);
+    discard(consequent);
+    let other = lighter_negation(alloc, test, seats::if_test())?;
+    let branch = as_consequent(alloc, alternate)?;
+    if_statement(alloc, other, branch, absent(alloc))
+}
+
+// `if (a && b) c;`
+fn nested(alloc: Global, node: Node) -> Result<Node, OutOfMemory>
+    ensures { IfOk result (λ w. w ≡ nested_of node) }
+{
+    let (test, consequent, alternate) = three(node);
+    discard(alternate);
+    let (second, statement, other) = three(consequent);
+    discard(other);
+    let both = logical(alloc, LogicalOperator::And, test, second)?;
+    if_statement(alloc, both, statement, absent(alloc))
+}
+
+// `if (a) { if (b) c; else d; }`
+fn in_block(alloc: Global, node: Node) -> Result<Node, OutOfMemory>
+    ensures { IfOk result (λ w. w ≡ in_block_of node) }
+{
+    let (test, consequent, alternate) = three(node);
+    let body = of_one(alloc, consequent)?;
+    let branch = block(alloc, body)?;
+    if_statement(alloc, test, branch, alternate)
+}
+
 /// `if (a) b; else c;` becomes `a ? b : c;`, `if (a) b;` becomes `a && b;`, and where a ends in a `!`, `!a || b;` with the
-/// `!` taken off. The answer says whether it did; the only error is that memory runs out, and then the statement is fit
-/// only to be dropped.
+/// `!` taken off; an empty consequent goes; `if (a) if (b) c;` becomes `if (a && b) c;`; and an `if` with `else` as a consequent
+/// gets a block. The answer says whether it did; the only error is that memory runs out, and then the statement is fit only to
+/// be dropped.
 pub fn try_minimize_if(alloc: Global, node: &mut Node) -> Result<bool, OutOfMemory>
     ensures tree { OnOk result (node.new ≡ unwrap_or (written node.old) node.old) }
     ensures said { IfOk result (λ changed. changed ≡ is_some (written node.old)) }
@@ -86,6 +237,16 @@ pub fn try_minimize_if(alloc: Global, node: &mut Node) -> Result<bool, OutOfMemo
         choice(alloc, taken(alloc, node))?
     } else if guards(node) {
         guard(alloc, taken(alloc, node))?
+    } else if skips(node) {
+        skipped(alloc, taken(alloc, node))?
+    } else if only_tests(node) {
+        tested(alloc, taken(alloc, node))?
+    } else if turns(node) {
+        turned(alloc, taken(alloc, node))?
+    } else if nests(node) {
+        nested(alloc, taken(alloc, node))?
+    } else if is_bare(node) {
+        in_block(alloc, taken(alloc, node))?
     } else {
         return Ok(false);
     };

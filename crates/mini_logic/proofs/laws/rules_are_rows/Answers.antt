@@ -15,3 +15,6 @@ returns-clause-settled c = lemma.rests_settle
 
 pub returns-clause-everywhere : goal.returns-clause-everywhere
 returns-clause-everywhere c = lemma.rests_everywhere
+
+pub returns-clause-lawful : goal.returns-clause-lawful
+returns-clause-lawful c = lemma.logic_lawful
