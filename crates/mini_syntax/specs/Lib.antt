@@ -4,5 +4,6 @@ pub mod ConvertToDottedProperties
 pub mod SubstituteLooseEqualsUndefined
 pub mod SubstituteSwapBinaryExpressions
 pub mod SubstituteYieldExpression
+pub mod SubstituteReturnStatement
 pub mod Spelled
 pub mod Lighter

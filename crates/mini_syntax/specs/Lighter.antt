@@ -1,8 +1,21 @@
--- A step of the rule of spellings makes the whole lighter.
+-- A step of each rule makes the whole lighter.
+use Rattle.std.proofs.Common.{inl}
+use Rattle.mini_model.specs.declared.place.Position.TheVariants.{Stmt}
 use Rattle.mini_laws.proofs.Lighter.{any_step_lighter}
+use Rattle.mini_rows.specs.Branches.{BranchContracts}
+use Rattle.mini_rows.proofs.BranchWeights.{branches_lighten}
 use Rattle.mini_rows.proofs.SpellWeights.{lightens}
 use Rattle.mini_walk.specs.Rule.{IsLighter}
+use Rattle.mini_walk.specs.Wider.{step_of}
 use Rattle.mini_syntax.specs.Spelled.{Gives}
+use Rattle.mini_syntax.specs.SubstituteReturnStatement as returning
 
 pub spellings_lighter : IsLighter Gives
 spellings_lighter = any_step_lighter Gives lightens
+
+pub return_contracts : returning.GivesContracts
+return_contracts (Stmt q) n w r = record { row = inl r.0; lighter = r.1 }
+return_contracts p n w r = absurd r
+
+pub returns_lighter : IsLighter returning.Gives
+returns_lighter p t u s = any_step_lighter BranchContracts branches_lighten p t u (step_of returning.Gives BranchContracts return_contracts p t u s)

@@ -1,6 +1,7 @@
 //! What the rewrites make, and the rows.
 
 ghost use Rattle.mini_syntax.specs.Spelled.{WrittenIsRow, UnwrittenRests, RestsSettle};
+ghost use Rattle.mini_syntax.specs.SubstituteReturnStatement.{WrittenIsRow as ReturnIsRow, UnwrittenRests as OtherRests, GivesContracts};
 
 /// What the rewrites of spellings write is what a row says; where they write nothing no row reads the expression, and nothing
 /// is to be rewritten.
@@ -8,4 +9,12 @@ pub fn spellings_are_rows()
     ensures written { WrittenIsRow }
     ensures unwritten { UnwrittenRests }
     ensures settled { RestsSettle }
+{}
+
+/// What the rewrite of `return` writes is what its row says; where it writes nothing the row doesn't read the statement; and
+/// what its rule makes is what a row of branches contracts.
+pub fn returns_are_rows()
+    ensures written { ReturnIsRow }
+    ensures unwritten { OtherRests }
+    ensures contracts { GivesContracts }
 {}

@@ -1,0 +1,70 @@
+//! Row 60 of `return`: `return undefined;` and `return void 0;` become `return;`, which is lighter in every place.
+
+ghost use Rattle.std.specs.Prelude.{◌≡◌, is_some, unwrap_or, OnOk, IfOk};
+ghost use Rattle.mini_model.specs.Tree.{absent as no_part};
+ghost use Rattle.mini_node.specs.Kinds.{return_statement as returns};
+ghost use Rattle.mini_walk.specs.Rule.{Applied};
+ghost use Rattle.mini_syntax.specs.Lighter.{returns_lighter};
+ghost use Rattle.mini_syntax.specs.SubstituteReturnStatement.{returns_undefined as returns_it_undefined, written, Gives, Rests};
+
+use crate::forms::is_undefined;
+use mini_context::TraverseCtx;
+use mini_model::Position;
+use mini_node::{Node, absent, is_return_statement, return_statement};
+use mini_text::OutOfMemory;
+use mini_walk::Rule;
+use std::alloc::Global;
+
+// `return undefined;` or `return void 0;`
+fn returns_undefined(node: &Node) -> bool
+    ensures { result ≡ returns_it_undefined node.now }
+{
+    is_return_statement(node) && is_undefined(node.child(0))
+}
+
+// `return;`
+fn returns_nothing(alloc: Global) -> Result<Node, OutOfMemory>
+    ensures { IfOk result (λ w. w ≡ returns no_part) }
+{
+    return_statement(alloc, absent(alloc))
+}
+
+/// `return undefined;` and `return void 0;` become `return;`. The answer says whether it did; the only error is that memory
+/// runs out, and then the statement is as it was.
+pub fn substitute_return_statement(alloc: Global, node: &mut Node) -> Result<bool, OutOfMemory>
+    ensures tree { OnOk result (node.new ≡ unwrap_or (written node.old) node.old) }
+    ensures said { IfOk result (λ changed. changed ≡ is_some (written node.old)) }
+{
+    if !returns_undefined(node) {
+        return Ok(false);
+    }
+    *node = returns_nothing(alloc)?;
+    Ok(true)
+}
+
+/// Row 60 as a rule: of each statement.
+pub struct SubstituteReturns;
+
+impl Rule for SubstituteReturns {
+    type Context = TraverseCtx;
+
+    ghost gives = { λ o q. Gives };
+
+    ghost rests = { λ o q. Rests };
+
+    ghost lighter = { λ o q. returns_lighter };
+
+    #[tactic(auto, using(crate::proofs::Returns::applied))]
+    fn apply(
+        &self,
+        alloc: Global,
+        node: &mut Node,
+        place: Position,
+        context: &mut TraverseCtx,
+    ) -> Result<bool, OutOfMemory> {
+        match place {
+            Position::Stmt(_) => Ok(substitute_return_statement(alloc, node)?),
+            _ => Ok(false),
+        }
+    }
+}
