@@ -43,3 +43,5 @@ pub mod ArrangedBetween
 pub mod ListKept
 pub mod ListShapes
 pub mod ListLawful
+pub mod ListKeptStretch
+pub mod ListKeptDeclarations

@@ -8,7 +8,7 @@ use Rattle.mini_laws.specs.Weights.{Lightens}
 use Rattle.mini_kept.specs.Lawful.{Lawful}
 use Rattle.mini_rows.specs.Switches.{Switches}
 use Rattle.mini_rows.specs.Arranged.{KeptAt, NeighboursRow}
-use Rattle.mini_rows.specs.Lists.{Head, Switch, For, Row67, InList, ListContracts}
+use Rattle.mini_rows.specs.Lists.{Head, Switch, For, Row67, Row68, InList, ListContracts}
 
 -- the meaning
 abbrev pub ListsMeanSame : Type 0
@@ -45,3 +45,7 @@ PlainLists _ n w = ⊥
 -- are lawful
 abbrev pub PlainListsLawful : Type 0
 PlainListsLawful = Lawful PlainLists
+
+-- and of a list in which two declarations of one kind become one
+abbrev pub DeclarationsKept : Type 0
+DeclarationsKept = (n w : Tree) → InList Row68 n w → KeptAt StatementList n w

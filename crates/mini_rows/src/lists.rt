@@ -1,7 +1,7 @@
 //! The rows of lists of statements.
 
 ghost use Rattle.mini_rows.specs.Lists.{ListsLighter};
-ghost use Rattle.mini_rows.specs.ListLaws.{ListsMeanSame, ListsLighten, PlainListsKept, PlainListsLawful};
+ghost use Rattle.mini_rows.specs.ListLaws.{ListsMeanSame, ListsLighten, PlainListsKept, PlainListsLawful, DeclarationsKept};
 
 /// What a row of lists writes is lighter in every list, so that no weight is asked before it is applied.
 pub fn lists_are_lighter()
@@ -19,4 +19,9 @@ pub fn lists_are_same()
 pub fn plain_lists_are_lawful()
     ensures kept { PlainListsKept }
     ensures lawful { PlainListsLawful }
+{}
+
+/// So does a list in which two declarations of one kind become one.
+pub fn declarations_are_kept()
+    ensures { DeclarationsKept }
 {}
