@@ -45,3 +45,4 @@ pub mod ListShapes
 pub mod ListLawful
 pub mod ListKeptStretch
 pub mod ListKeptDeclarations
+pub mod ListKeptHeads

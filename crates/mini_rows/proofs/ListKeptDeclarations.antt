@@ -261,7 +261,7 @@ is_in_both x (y ∷ xs) ys = ap (choose (variable_eq y x) true) (is_in_both x xs
     by false b c = refl
 
 module _ (m : ℕ) where
-  split_rank : (f g : Fixed) → rank (stricter f g) ≤ m → (rank f ≤ m) × (rank g ≤ m)
+  pub split_rank : (f g : Fixed) → rank (stricter f g) ≤ m → (rank f ≤ m) × (rank g ≤ m)
   split_rank Writable g e = (omega arith, e)
   split_rank KeepsOld Writable e = (e, omega arith)
   split_rank KeepsOld KeepsOld e = (e, e)
@@ -270,7 +270,7 @@ module _ (m : ℕ) where
   split_rank Constant KeepsOld e = (e, omega (arith, e))
   split_rank Constant Constant e = (e, e)
 
-  both_rank : (f g : Fixed) → rank f ≤ m → rank g ≤ m → rank (stricter f g) ≤ m
+  pub both_rank : (f g : Fixed) → rank f ≤ m → rank g ≤ m → rank (stricter f g) ≤ m
   both_rank Writable g e d = d
   both_rank KeepsOld Writable e d = e
   both_rank KeepsOld KeepsOld e d = e

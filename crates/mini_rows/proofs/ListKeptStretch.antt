@@ -43,23 +43,23 @@ use Rattle.mini_rows.proofs.ArrangedFolds.{bound_fold, lexical_fold, hoisted_fol
 -- ---- what holds of a list holds of each of its items
 
 module _ (J : Leap → Type 0) (Q : Asked → Tree → Type 0) where
-  first_all : (c : Asked) (ts us : Trees) → All Q c (append ts us) → All Q c ts
+  pub first_all : (c : Asked) (ts us : Trees) → All Q c (append ts us) → All Q c ts
   first_all c none us a = tt
   first_all c (t ▸ ts) us a = (a.0, first_all c ts us a.1)
 
-  second_all : (c : Asked) (ts us : Trees) → All Q c (append ts us) → All Q c us
+  pub second_all : (c : Asked) (ts us : Trees) → All Q c (append ts us) → All Q c us
   second_all c none us a = a
   second_all c (t ▸ ts) us a = second_all c ts us a.1
 
-  both_all : (c : Asked) (ts us : Trees) → All Q c ts → All Q c us → All Q c (append ts us)
+  pub both_all : (c : Asked) (ts us : Trees) → All Q c ts → All Q c us → All Q c (append ts us)
   both_all c none us a b = b
   both_all c (t ▸ ts) us a b = (a.0, both_all c ts us a.1 b)
 
-  all_of : (c : Asked) (i : ℕ) (ts : Trees) → Below Q (λ j. c) i ts → All Q c ts
+  pub all_of : (c : Asked) (i : ℕ) (ts : Trees) → Below Q (λ j. c) i ts → All Q c ts
   all_of c i none a = tt
   all_of c i (t ▸ ts) a = (a.0, all_of c (suc i) ts a.1)
 
-  of_all : (c : Asked) (i : ℕ) (ts : Trees) → All Q c ts → Below Q (λ j. c) i ts
+  pub of_all : (c : Asked) (i : ℕ) (ts : Trees) → All Q c ts → Below Q (λ j. c) i ts
   of_all c i none a = tt
   of_all c i (t ▸ ts) a = (a.0, of_all c (suc i) ts a.1)
 
@@ -84,11 +84,11 @@ module _ (J : Leap → Type 0) (Q : Asked → Tree → Type 0) where
         (both_all AsWholeItem before (append b after) (first_all AsWholeItem before (append a after) all) (both_all AsWholeItem b after (k (first_all AsWholeItem a after later)) (second_all AsWholeItem a after later)))
 
 module _ (m : Asked → Tree → ℕ) (l : Summed m) where
-  sum_append : (c : Asked) (ts us : Trees) → sum_all m c (append ts us) ≡ sum_all m c ts + sum_all m c us
+  pub sum_append : (c : Asked) (ts us : Trees) → sum_all m c (append ts us) ≡ sum_all m c ts + sum_all m c us
   sum_append c none us = omega arith
   sum_append c (t ▸ ts) us = omega (arith, sum_append c ts us)
 
-  sum_items : (c : Asked) (i : ℕ) (ts : Trees) → sum_below m (λ j. c) i ts ≡ sum_all m c ts
+  pub sum_items : (c : Asked) (i : ℕ) (ts : Trees) → sum_below m (λ j. c) i ts ≡ sum_all m c ts
   sum_items c i none = refl
   sum_items c i (t ▸ ts) = ap (λ k. m c t + k) (sum_items c (suc i) ts)
 

@@ -8,7 +8,7 @@ use Rattle.mini_laws.specs.Weights.{Lightens}
 use Rattle.mini_kept.specs.Lawful.{Lawful}
 use Rattle.mini_rows.specs.Switches.{Switches}
 use Rattle.mini_rows.specs.Arranged.{KeptAt, NeighboursRow}
-use Rattle.mini_rows.specs.Lists.{Head, Switch, For, Row67, Row68, InList, ListContracts}
+use Rattle.mini_rows.specs.Lists.{Head, Switch, For, Row67, Row67Absent, Row68, InList, ListContracts}
 
 -- the meaning
 abbrev pub ListsMeanSame : Type 0
@@ -49,3 +49,16 @@ PlainListsLawful = Lawful PlainLists
 -- and of a list in which two declarations of one kind become one
 abbrev pub DeclarationsKept : Type 0
 DeclarationsKept = (n w : Tree) → InList Row68 n w → KeptAt StatementList n w
+
+-- an expression goes into the head of a statement that opens a scope
+pub record OpeningHead (a b : Trees) : Type 0 where
+  pub row : Row67 a b
+  pub opens : opens_scope row.head ≡ true
+
+-- where an expression stands already, or none
+abbrev pub OpeningRow : Trees → Trees → Type 0
+OpeningRow a b = OpeningHead a b ⊎ Row67Absent a b
+
+-- and of such a list
+abbrev pub OpeningListsKept : Type 0
+OpeningListsKept = (n w : Tree) → InList OpeningRow n w → KeptAt StatementList n w

@@ -1,7 +1,7 @@
 //! The rows of lists of statements.
 
 ghost use Rattle.mini_rows.specs.Lists.{ListsLighter};
-ghost use Rattle.mini_rows.specs.ListLaws.{ListsMeanSame, ListsLighten, PlainListsKept, PlainListsLawful, DeclarationsKept};
+ghost use Rattle.mini_rows.specs.ListLaws.{ListsMeanSame, ListsLighten, PlainListsKept, PlainListsLawful, DeclarationsKept, OpeningListsKept};
 
 /// What a row of lists writes is lighter in every list, so that no weight is asked before it is applied.
 pub fn lists_are_lighter()
@@ -24,4 +24,9 @@ pub fn plain_lists_are_lawful()
 /// So does a list in which two declarations of one kind become one.
 pub fn declarations_are_kept()
     ensures { DeclarationsKept }
+{}
+
+/// And a list in which an expression goes into the head of a `for` or a `switch` after it.
+pub fn opening_lists_are_kept()
+    ensures { OpeningListsKept }
 {}
