@@ -46,3 +46,5 @@ pub mod ListLawful
 pub mod ListKeptStretch
 pub mod ListKeptDeclarations
 pub mod ListKeptHeads
+pub mod ListScopedShapes
+pub mod ListsLawful

@@ -62,11 +62,11 @@ part_present : (t : Tree) → is_one_part t ≡ true → is_absent t ≡ false
 part_present (node shape.Absent xs n ts) h = absurd (true≢false (sym h))
 part_present (node h xs n ts) e = refl
 
-parts_present : (p : Tree) (ps : Trees) → are_parts p ps ≡ true → is_absent (of_parts p ps) ≡ false
+pub parts_present : (p : Tree) (ps : Trees) → are_parts p ps ≡ true → is_absent (of_parts p ps) ≡ false
 parts_present p none h = part_present p h
 parts_present p (q ▸ qs) h = refl
 
-joined_present : (p : Tree) (ps : Trees) (q : Tree) (qs : Trees) → is_absent (of_parts p (append ps (q ▸ qs))) ≡ false
+pub joined_present : (p : Tree) (ps : Trees) (q : Tree) (qs : Trees) → is_absent (of_parts p (append ps (q ▸ qs))) ≡ false
 joined_present p none q qs = refl
 joined_present p (c ▸ ps) q qs = refl
 

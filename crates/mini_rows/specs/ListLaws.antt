@@ -62,3 +62,7 @@ OpeningRow a b = OpeningHead a b ⊎ Row67Absent a b
 -- and of such a list
 abbrev pub OpeningListsKept : Type 0
 OpeningListsKept = (n w : Tree) → InList OpeningRow n w → KeptAt StatementList n w
+
+-- so all rows of lists are lawful
+abbrev pub ListsLawful : Type 0
+ListsLawful = (o : Switches) → Lawful (ListContracts o)

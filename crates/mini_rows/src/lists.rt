@@ -1,7 +1,7 @@
 //! The rows of lists of statements.
 
 ghost use Rattle.mini_rows.specs.Lists.{ListsLighter};
-ghost use Rattle.mini_rows.specs.ListLaws.{ListsMeanSame, ListsLighten, PlainListsKept, PlainListsLawful, DeclarationsKept, OpeningListsKept};
+ghost use Rattle.mini_rows.specs.ListLaws.{ListsMeanSame, ListsLighten, PlainListsKept, PlainListsLawful, DeclarationsKept, OpeningListsKept, ListsLawful};
 
 /// What a row of lists writes is lighter in every list, so that no weight is asked before it is applied.
 pub fn lists_are_lighter()
@@ -29,4 +29,9 @@ pub fn declarations_are_kept()
 /// And a list in which an expression goes into the head of a `for` or a `switch` after it.
 pub fn opening_lists_are_kept()
     ensures { OpeningListsKept }
+{}
+
+/// What each row of lists writes keeps all that a program has to keep.
+pub fn lists_are_lawful()
+    ensures { ListsLawful }
 {}
