@@ -42,9 +42,8 @@ pub mod BranchLawful
 pub mod ArrangedBetween
 pub mod ListKept
 pub mod ListShapes
-pub mod ListLawful
 pub mod ListKeptStretch
 pub mod ListKeptDeclarations
 pub mod ListKeptHeads
 pub mod ListScopedShapes
-pub mod ListsLawful
+pub mod ListLawful

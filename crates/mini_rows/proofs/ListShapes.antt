@@ -1,20 +1,17 @@
 -- What the rows of lists write may stand where what they read stood.
-use Rattle.std.proofs.Common.{◌≡◌, ℕ, arith, List, Bool, true, false, [], refl, sym, ap, ◌∙◌, subst, inl, inr, true≢false}
+use Rattle.std.proofs.Common.{◌≡◌, ℕ, arith, List, Bool, true, false, refl, sym, ap, ◌∙◌, subst, inl, inr, true≢false}
 use Rattle.std.specs.Prelude.{◌⊎◌, ◌&&◌, nat_le, if◌then◌else◌}
 use Rattle.std.proofs.lemmas.Bool.{and_parts, le-leb}
 use Rattle.mini_model.specs.declared.name.Name.{Name}
 use Rattle.mini_model.specs.declared.kind.VariableDeclarationKind.TheVariants.{Var}
-use Rattle.mini_model.specs.declared.place.Position.TheVariants.{StatementList}
 use Rattle.mini_model.specs.declared.shape.Shape.TheVariants as shape
-use Rattle.mini_model.specs.Tree.{Tree, Trees, node, none, ◌▸◌, count, is_absent, listed, absent, expression_statement, if_else, if_alone, conditional}
+use Rattle.mini_model.specs.Tree.{Tree, Trees, node, none, ◌▸◌, count, is_absent, absent, expression_statement, if_else, if_alone, conditional}
 use Rattle.mini_model.specs.Paths.{append}
 use Rattle.mini_accept.specs.WellShaped.{Depth, in_module, in_body, nested, Class, a_statement, an_expression, Slot, one, one_or_absent, each, fits, fill}
 use Rattle.mini_kept.proofs.Bools.{left, right, both}
-use Rattle.mini_kept.specs.Placed.{fits_place}
-use Rattle.mini_kept.proofs.Placed.{statements_slot}
 use Rattle.mini_kept.proofs.Expressions.{expression, refused_here, three_fit}
 use Rattle.mini_kept.proofs.Rows.{statement, last_statement, IfFits}
-use Rattle.mini_rows.specs.Lists.{of_parts, is_one_part, are_parts, sequence, block, return_statement, throw_statement, or_void, void_zero, is_unscoped, are_unscoped, Head, Return, Throw, If, with_head, Row66Joined, Row67, Row73, Row73Bare, Row76, Row79, InList}
+use Rattle.mini_rows.specs.Lists.{of_parts, is_one_part, are_parts, sequence, block, return_statement, throw_statement, or_void, void_zero, is_unscoped, are_unscoped, Head, Return, Throw, If, with_head, Row66Joined, Row67, Row73, Row73Bare, Row76, Row79}
 use Rattle.mini_rows.specs.Arranged.{NeighboursRow}
 use Rattle.mini_rows.specs.ListLaws.{opens_scope, PlainHead, PlainRow}
 
@@ -213,16 +210,3 @@ module _ (strict : Bool) (d : Depth) where
   pub stretch_fits : (a b : Trees) → PlainRow a b → AllFit strict (item d) a → AllFit strict (item d) b
   stretch_fits a b (inl r) e = neighbours a b r e
   stretch_fits a b (inr r) e = row_67 a b r e
-
--- ---- the whole list
-
-pub list_fits : (strict : Bool) (s : Slot) (n w : Tree) → InList PlainRow n w → fits_place StatementList s ≡ true → fits strict s n ≡ true → fits strict s w ≡ true
-list_fits strict s n w r k e =
-    let old = append r.before (append r.read r.after) in
-    let new = append r.before (append r.put r.after) in
-    let (d, is, all) = statements_slot strict s [] 0 old k (subst (λ t. fits strict s t ≡ true) r.shape e) in
-    let (first, rest) = and_parts (fill strict (each (item d)) r.before) (fill strict (each (item d)) (append r.read r.after)) (sym (fit_append strict (item d) r.before (append r.read r.after)) ∙ all) in
-    let (middle, last) = and_parts (fill strict (each (item d)) r.read) (fill strict (each (item d)) r.after) (sym (fit_append strict (item d) r.read r.after) ∙ rest) in
-    let put = stretch_fits strict d r.read r.put r.row middle in
-    let filled = fit_append strict (item d) r.before (append r.put r.after) ∙ both (fill strict (each (item d)) r.before) (fill strict (each (item d)) (append r.put r.after)) first (fit_append strict (item d) r.put r.after ∙ both (fill strict (each (item d)) r.put) (fill strict (each (item d)) r.after) put last) in
-    subst (λ t. fits strict s t ≡ true) (sym r.written) (subst (λ x. fits strict x (listed new) ≡ true) (sym is) filled)

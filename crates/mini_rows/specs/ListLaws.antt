@@ -1,6 +1,5 @@
 -- What the rows of lists of statements keep.
 use Rattle.std.specs.Prelude.{◌≡◌, ◌⊎◌, Bool, true, false}
-use Rattle.mini_model.specs.declared.place.Position.{Position}
 use Rattle.mini_model.specs.declared.place.Position.TheVariants.{StatementList}
 use Rattle.mini_model.specs.Tree.{Tree, Trees}
 use Rattle.mini_laws.specs.Rewritten.{MeansSame}
@@ -37,16 +36,7 @@ PlainRow a b = NeighboursRow a b ⊎ PlainHead a b
 abbrev pub PlainListsKept : Type 0
 PlainListsKept = (n w : Tree) → InList PlainRow n w → KeptAt StatementList n w
 
--- these rows, at lists of statements
-abbrev pub PlainLists : Position → Tree → Tree → Type 0
-PlainLists StatementList n w = InList PlainRow n w
-PlainLists _ n w = ⊥
-
--- are lawful
-abbrev pub PlainListsLawful : Type 0
-PlainListsLawful = Lawful PlainLists
-
--- and of a list in which two declarations of one kind become one
+-- so does a list in which two declarations of one kind become one
 abbrev pub DeclarationsKept : Type 0
 DeclarationsKept = (n w : Tree) → InList Row68 n w → KeptAt StatementList n w
 
@@ -59,7 +49,7 @@ pub record OpeningHead (a b : Trees) : Type 0 where
 abbrev pub OpeningRow : Trees → Trees → Type 0
 OpeningRow a b = OpeningHead a b ⊎ Row67Absent a b
 
--- and of such a list
+-- so does such a list
 abbrev pub OpeningListsKept : Type 0
 OpeningListsKept = (n w : Tree) → InList OpeningRow n w → KeptAt StatementList n w
 
