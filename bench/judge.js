@@ -162,7 +162,7 @@ class Outside {
 // The names of the functions that a script declares at its top, which are called behind it.
 const declaredFunctions = (tree) => tree.body.filter((part) => part.type === "FunctionDeclaration").map((part) => part.id.name);
 
-// A function expression that stands alone is handed out.
+// A function expression that stands alone is handed out, also in what is minified: it may be joined to others there.
 function handedOut(tree) {
   const body = tree.body.map((part) => {
     const isFunction = part.type === "ExpressionStatement" && /Function/.test(part.expression.type);
@@ -176,7 +176,7 @@ const directives = (tree) => print({ body: tree.body.filter((part) => typeof par
 
 function textOf(tree) {
   const calls = declaredFunctions(tree).map((name) => `judge(${name});`);
-  return `with (names) (function () { ${directives(tree)} ${print(handedOut(tree))}\n ${calls.join(" ")} }).call(self);`;
+  return `with (names) (function () { ${directives(tree)} ${print(tree)}\n ${calls.join(" ")} }).call(self);`;
 }
 
 // The events of a run, and how it ended.
@@ -220,7 +220,8 @@ function compare(before, after) {
   }
 }
 
-function judge(tree, onlyChanged) {
+function judge(script, onlyChanged) {
+  const tree = handedOut(script);
   const answer = minified(tree);
   if (onlyChanged && answer.passes === 1) return false;
   total.scripts += 1;

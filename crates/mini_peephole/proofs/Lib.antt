@@ -7,3 +7,4 @@ pub mod AnyPasses
 pub mod Faith
 pub mod Floats
 mod Chains
+mod Rules

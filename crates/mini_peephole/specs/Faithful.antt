@@ -10,7 +10,6 @@ use Rattle.mini_model.specs.declared.name.SymbolId.{SymbolId}
 use Rattle.mini_model.specs.declared.place.Position.TheVariants.{Elsewhere}
 use Rattle.mini_model.specs.Tree.{Tree}
 use Rattle.mini_model.specs.Weight.{program_weight}
-use Rattle.mini_logic.specs.Joined.{HasNoRedex}
 use Rattle.mini_names.specs.Resolved.{resolved_program}
 use Rattle.mini_names.specs.Symbols.{declared_symbols}
 use Rattle.mini_names.specs.Early.{early_names, early_jumps, no_targets}
@@ -24,6 +23,8 @@ use Rattle.mini_accept.specs.Accept.{Accepts}
 use Rattle.mini_kept.specs.Carried.{numbers, carried}
 use Rattle.mini_kept.specs.Declaring.{declared}
 use Rattle.mini_kept.specs.Frames.{FramesKept, frames_in}
+use Rattle.mini_rows.specs.Switches.{Switches}
+use Rattle.mini_rows.specs.Redex.{HasNoRedex}
 use Rattle.mini_peephole.specs.Environments.{shared_by, foreign_to, initialised_for, environment_with}
 use Rattle.mini_peephole.specs.declared.minify.Minified.{Minified}
 
@@ -111,12 +112,16 @@ pub record FaithfulWith (Rests : Tree → Type 0) (d : Data) (o : CompressOption
   pub answered : Accepts (view m.program) output
   pub faithful : IsFaithfulWith Rests o m input output
 
+-- which rewrites the options let happen
+abbrev pub switches : CompressOptions → Switches
+switches o = record { sequences = o.sequences; join_vars = o.join_vars }
+
 -- of rewrites: nothing is left to rewrite
 abbrev pub IsFaithful : CompressOptions → Minified → Tree → Tree → Type 0
-IsFaithful = IsFaithfulWith (HasNoRedex Elsewhere)
+IsFaithful o = IsFaithfulWith (HasNoRedex (switches o) Elsewhere) o
 
 abbrev pub Faithful : Data → CompressOptions → Minified → Type 0
-Faithful = FaithfulWith (HasNoRedex Elsewhere)
+Faithful d o = FaithfulWith (HasNoRedex (switches o) Elsewhere) d o
 
 -- bounds on the passes, which tell more than Faithful does
 pub record PassesBounded (d : Data) (o : CompressOptions) (m : Minified) : Type 0 where
@@ -126,4 +131,4 @@ pub record PassesBounded (d : Data) (o : CompressOptions) (m : Minified) : Type 
   -- a bound above the program's weight always settles
   pub enough : (t : Tree) → Accepts d t → program_weight (earlier t) < pass_bound o → m.settled ≡ true
   -- a program without a redex stays as it is, after one pass
-  pub fixed : (t : Tree) → Accepts d t → HasNoRedex Elsewhere (earlier t) → Accepts (view m.program) t × (m.passes ≡ 1) × (m.settled ≡ true)
+  pub fixed : (t : Tree) → Accepts d t → HasNoRedex (switches o) Elsewhere (earlier t) → Accepts (view m.program) t × (m.passes ≡ 1) × (m.settled ≡ true)

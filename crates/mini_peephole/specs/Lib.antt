@@ -1,4 +1,5 @@
 pub mod Environments
+pub mod Rules
 pub mod Minified
 pub mod Faithful
 pub mod AnyPasses

@@ -15,8 +15,8 @@ use Rattle.mini_text.specs.Faults.{Fault, fault_of}
 use Rattle.mini_text.specs.declared.error.MinifyError.{MinifyError}
 use Rattle.mini_estree.specs.Reads.{fault_told}
 use Rattle.mini_walk.specs.Passes.{MakesPasses}
-use Rattle.mini_logic.specs.Joined.{Gives, Rests}
 use Rattle.mini_kept.specs.Carried.{numbers, symbol_numbers}
+use Rattle.mini_peephole.specs.Rules.{Gives, Rests}
 use Rattle.mini_peephole.specs.declared.minify.Minified.{Minified}
 
 -- passes of a rule, which over a program may make G of a tree and has nothing to do where D is, lead from the tree to the one
@@ -29,20 +29,20 @@ pub record IsWritten (G : Tree → Position → Tree → Tree → Type 0) (D : T
   pub kept : m.kept ≡ 0 ∷ numbers output
   pub symbols : m.symbols ≡ symbol_numbers (declared_symbols output)
 
--- of the rules, which are the same over every program
-abbrev pub IsRewriting : Tree → ℕ → Minified → Type 0
-IsRewriting = IsWritten (λ q. Gives) (λ q. Rests)
+-- of the rules, as the options have them
+abbrev pub IsRewriting : Tree → CompressOptions → Minified → Type 0
+IsRewriting input o m = IsWritten (Gives o) (Rests o) input o.passes m
 
 -- the tree has no early error, and is resolved and rewritten
-pub record IsAnswer (input : Tree) (bound : ℕ) (m : Minified) : Type 0 where
+pub record IsAnswer (input : Tree) (o : CompressOptions) (m : Minified) : Type 0 where
   pub free : early_fault input ≡ None
-  pub rewriting : IsRewriting (resolved_program input) bound m
+  pub rewriting : IsRewriting (resolved_program input) o m
 
 -- the value is accepted with a tree for which this is the answer
 pub record IsMinified (d : Data) (o : CompressOptions) (m : Minified) : Type 0 where
   pub input : Tree
   pub accepted : Accepts d input
-  pub answer : IsAnswer input o.passes m
+  pub answer : IsAnswer input o m
 
 -- reading the value to the depth of the options ends with this fault
 pub record IsUnread (d : Data) (o : CompressOptions) (f : Fault) : Type 0 where

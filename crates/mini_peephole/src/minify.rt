@@ -10,14 +10,15 @@ ghost use Rattle.mini_names.specs.Resolved.{symbols};
 ghost use Rattle.mini_names.specs.declared.Use.TheVariants as variant;
 ghost use Rattle.mini_scope.specs.Pointers.{early_fault};
 ghost use Rattle.mini_text.specs.Faults.{fault_of};
-ghost use Rattle.mini_tree.specs.declared.options.CompressOptions.{CompressOptions};
 ghost use Rattle.mini_peephole.specs.Faithful.{Faithful, PassesBounded};
 ghost use Rattle.mini_peephole.specs.Minified.{IsAnswer, IsMinified, IsRewriting, IsRefusal};
 
 use crate::named::{numbers_of, symbols_of};
 use mini_context::{TraverseCtx, resolve};
 use mini_estree::{MinifyError, Numbered, read_program};
-use mini_logic::{MinimizeConditional, MinimizeIf, MinimizeUnary};
+use mini_logic::{MinimizeConditional, MinimizeIf, MinimizeUnary, UnwrapBlocks};
+use mini_stmt::MinimizeStatements;
+use mini_syntax::{SubstituteReturns, SubstituteSpellings};
 use mini_tree::{CompressOptions, Numbers, OutOfMemory, Program, discard};
 use mini_walk::{Passes, Then, run_passes};
 use mini_writer::write_program;
@@ -39,12 +40,29 @@ pub struct Minified {
     pub settled: bool,
 }
 
-// The rules, in the order in which a node is tried with them.
-const RULES: Then<MinimizeUnary, Then<MinimizeConditional, MinimizeIf>> = Then {
-    first: MinimizeUnary,
+// The rules, in the order in which a node is tried with them: of logic, of blocks as branches and bodies, of spellings and of
+// lists.
+type Logic = Then<MinimizeUnary, Then<MinimizeConditional, MinimizeIf>>;
+
+type Spellings = Then<SubstituteReturns, Then<SubstituteSpellings, MinimizeStatements>>;
+
+const RULES: Then<Logic, Then<UnwrapBlocks, Spellings>> = Then {
+    first: Then {
+        first: MinimizeUnary,
+        second: Then {
+            first: MinimizeConditional,
+            second: MinimizeIf,
+        },
+    },
     second: Then {
-        first: MinimizeConditional,
-        second: MinimizeIf,
+        first: UnwrapBlocks,
+        second: Then {
+            first: SubstituteReturns,
+            second: Then {
+                first: SubstituteSpellings,
+                second: MinimizeStatements,
+            },
+        },
     },
 };
 
@@ -52,14 +70,14 @@ const RULES: Then<MinimizeUnary, Then<MinimizeConditional, MinimizeIf>> = Then {
 fn rewritten(
     alloc: Global,
     tree: &mut Program,
-    max_passes: u32,
+    options: &CompressOptions,
     context: &mut TraverseCtx,
 ) -> Result<Minified, OutOfMemory>
-    requires { ((o : CompressOptions) × Knows context.old o tree.old) }
-    ensures ok { IfOk result (λ m. IsRewriting tree.old max_passes m) }
+    requires { Knows context.old options.now tree.old }
+    ensures ok { IfOk result (λ m. IsRewriting tree.old options.now m) }
     ensures plain { IfOk result (λ m. has_float (view m.program) ≡ false) }
 {
-    let Passes { passes, settled } = run_passes(&RULES, alloc, tree, max_passes, context)?;
+    let Passes { passes, settled } = run_passes(&RULES, alloc, tree, options.passes, context)?;
     let program = write_program(alloc, tree)?;
     let kept = numbers_of(alloc, tree)?;
     let symbols = symbols_of(alloc, tree)?;
@@ -80,13 +98,13 @@ fn answer(
 ) -> Result<Minified, MinifyError>
     requires symbols { symbols variant.Read tree.old < 2 ^ 32 }
     requires references { length (references variant.Read tree.old) + 1 < 2 ^ 32 }
-    ensures ok { IfOk result (λ m. IsAnswer tree.old options.now.passes m) }
+    ensures ok { IfOk result (λ m. IsAnswer tree.old options.now m) }
     ensures plain { IfOk result (λ m. has_float (view m.program) ≡ false) }
     ensures refused { IfErr result (λ e. IfSome (fault_of e) (λ f. early_fault tree.old ≡ Some f)) }
 {
     let scopes = resolve(alloc, tree)?;
     let mut context = TraverseCtx::new(scopes, *options);
-    Ok(rewritten(alloc, tree, options.passes, &mut context)?)
+    Ok(rewritten(alloc, tree, options, &mut context)?)
 }
 
 /// Reads a program from its ESTree value, gives each name in it its symbol, rewrites it until nothing is left to rewrite or

@@ -45,5 +45,5 @@ pub mod ListShapes
 pub mod ListKeptStretch
 pub mod ListKeptDeclarations
 pub mod ListKeptHeads
-pub mod ListScopedShapes
+pub mod AllRows
 pub mod ListLawful

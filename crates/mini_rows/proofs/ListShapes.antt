@@ -1,212 +1,315 @@
--- What the rows of lists write may stand where what they read stood.
-use Rattle.std.proofs.Common.{◌≡◌, ℕ, arith, List, Bool, true, false, refl, sym, ap, ◌∙◌, subst, inl, inr, true≢false}
-use Rattle.std.specs.Prelude.{◌⊎◌, ◌&&◌, nat_le, if◌then◌else◌}
+-- What a row of lists writes may stand wherever what it reads may.
+use Rattle.std.proofs.Common.{◌≡◌, ℕ, zero, suc, ◌≤◌, Bool, true, false, List, [], ◌∷◌, refl, sym, ap, subst, ◌∙◌, inl, inr, true≢false, arith}
+use Rattle.std.specs.Prelude.{◌⊎◌, ◌&&◌, ◌||◌, nat_le, if◌then◌else◌}
 use Rattle.std.proofs.lemmas.Bool.{and_parts, le-leb}
-use Rattle.mini_model.specs.declared.name.Name.{Name}
+use Rattle.mini_model.specs.declared.kind.VariableDeclarationKind.{VariableDeclarationKind}
 use Rattle.mini_model.specs.declared.kind.VariableDeclarationKind.TheVariants.{Var}
+use Rattle.mini_model.specs.declared.name.Name.{Name}
+use Rattle.mini_model.specs.declared.shape.Shape.{Shape}
 use Rattle.mini_model.specs.declared.shape.Shape.TheVariants as shape
-use Rattle.mini_model.specs.Tree.{Tree, Trees, node, none, ◌▸◌, count, is_absent, absent, expression_statement, if_else, if_alone, conditional}
+use Rattle.mini_model.specs.Tree.{Tree, Trees, node, none, ◌▸◌, count, absent, listed, is_absent, shape_of, empty_statement, expression_statement, if_else, if_alone, conditional}
 use Rattle.mini_model.specs.Paths.{append}
-use Rattle.mini_accept.specs.WellShaped.{Depth, in_module, in_body, nested, Class, a_statement, an_expression, Slot, one, one_or_absent, each, fits, fill}
+use Rattle.mini_accept.specs.WellShaped.{Depth, in_module, in_body, nested, Class, a_statement, a_case, a_declarator, an_expression, an_init, Slot, one, one_or_absent, many, each, these, fits, fill}
+use Rattle.mini_model.specs.declared.place.Position.TheVariants.{StatementList}
+use Rattle.mini_kept.specs.Placed.{fits_place}
 use Rattle.mini_kept.proofs.Bools.{left, right, both}
-use Rattle.mini_kept.proofs.Expressions.{expression, refused_here, three_fit}
-use Rattle.mini_kept.proofs.Rows.{statement, last_statement, IfFits}
-use Rattle.mini_rows.specs.Lists.{of_parts, is_one_part, are_parts, sequence, block, return_statement, throw_statement, or_void, void_zero, is_unscoped, are_unscoped, Head, Return, Throw, If, with_head, Row66Joined, Row67, Row73, Row73Bare, Row76, Row79}
-use Rattle.mini_rows.specs.Arranged.{NeighboursRow}
-use Rattle.mini_rows.specs.ListLaws.{opens_scope, PlainHead, PlainRow}
+use Rattle.mini_kept.proofs.Expressions.{expression_taken}
+use Rattle.mini_kept.proofs.Placed.{statements_slot}
+use Rattle.mini_rows.specs.Switches.{Switches}
+use Rattle.mini_rows.specs.Lists.{block, sequence, return_statement, throw_statement, for_loop, declaration, or_void, void_zero, of_parts, is_one_part, are_parts, is_unscoped, are_unscoped, Head as ListHead, Return, Throw, If, Switch, For, with_head, SequencesRow, StretchRow, InList}
 
-abbrev item : Depth → Slot
-item d = one (a_statement d)
+abbrev pub expression : Slot
+expression = one an_expression
 
-abbrev AllFit : Bool → Slot → Trees → Type 0
-AllFit strict s ts = fill strict (each s) ts ≡ true
+abbrev pub statement : Depth → Slot
+statement d = one (a_statement d)
 
-pub fit_append : (strict : Bool) (s : Slot) (a b : Trees) → fill strict (each s) (append a b) ≡ fill strict (each s) a && fill strict (each s) b
-fit_append strict s none b = refl
-fit_append strict s (t ▸ a) b = ap (λ x. fits strict s t && x) (fit_append strict s a b) ∙ assoc (fits strict s t) _ _
-  where
-    assoc : (x y z : Bool) → x && (y && z) ≡ (x && y) && z
-    assoc true y z = refl
-    assoc false y z = refl
+-- a `var` may stand at each depth
+var_anywhere : (strict : Bool) (d : Depth) (xs : List Name) (n : ℕ) (ts : Trees) → fits strict (statement nested) (node (shape.VariableDeclaration Var) xs n ts) ≡ true → fits strict (statement d) (node (shape.VariableDeclaration Var) xs n ts) ≡ true
+var_anywhere true in_module xs n ts e = e
+var_anywhere true in_body xs n ts e = e
+var_anywhere false in_module xs n ts e = e
+var_anywhere false in_body xs n ts e = e
+var_anywhere strict nested xs n ts e = e
 
--- ---- expressions by their parts
+-- what isn't scoped is there
+pub there : (t : Tree) → is_unscoped t ≡ true → is_absent t ≡ false
+there (node shape.Absent xs n ts) e = absurd (cc e)
+there (node h xs n ts) e = refl
 
-parts_fit : (strict : Bool) (p : Tree) (ps : Trees) → fits strict expression (of_parts p ps) ≡ true → AllFit strict expression (p ▸ ps)
-parts_fit strict p none e = both (fits strict expression p) true e refl
-parts_fit strict p (q ▸ qs) e = left (fill strict (each expression) (p ▸ (q ▸ qs))) true (right (nat_le 2 (count (p ▸ (q ▸ qs)))) (fill strict (each expression) (p ▸ (q ▸ qs)) && true) e)
+-- a declaration may stand at each depth
+declaration_anywhere : (strict : Bool) (d : Depth) (k : VariableDeclarationKind) (ds : Trees) → fits strict (statement d) (declaration k ds) ≡ (nat_le 1 (count ds) && (fill strict (each (one a_declarator)) ds && true))
+declaration_anywhere true in_module k ds = refl
+declaration_anywhere true in_body k ds = refl
+declaration_anywhere true nested k ds = refl
+declaration_anywhere false in_module k ds = refl
+declaration_anywhere false in_body k ds = refl
+declaration_anywhere false nested k ds = refl
 
-sequence_fits : (strict : Bool) (p q : Tree) (qs : Trees) → AllFit strict expression (p ▸ (q ▸ qs)) → fits strict expression (sequence (p ▸ (q ▸ qs))) ≡ true
-sequence_fits strict p q qs e = both (nat_le 2 (count (p ▸ (q ▸ qs)))) (fill strict (each expression) (p ▸ (q ▸ qs)) && true) (le-leb 2 (count (p ▸ (q ▸ qs))) (omega arith)) (both (fill strict (each expression) (p ▸ (q ▸ qs))) true e refl)
+more_than_none : (ds es : Trees) → nat_le 1 (count es) ≡ true → nat_le 1 (count (append ds es)) ≡ true
+more_than_none none es e = e
+more_than_none (t ▸ ds) es e = le-leb 1 (count (t ▸ append ds es)) (omega arith)
 
-more_fit : (strict : Bool) (p : Tree) (ps : Trees) (q : Tree) (qs : Trees) → AllFit strict expression (append (p ▸ ps) (q ▸ qs)) → fits strict expression (of_parts p (append ps (q ▸ qs))) ≡ true
-more_fit strict p none q qs e = sequence_fits strict p q qs e
-more_fit strict p (c ▸ ps) q qs e = sequence_fits strict p c (append ps (q ▸ qs)) e
+-- an expression of parts is there
+joined_there : (p : Tree) (ps : Trees) (q : Tree) (qs : Trees) → is_absent (of_parts p (append ps (q ▸ qs))) ≡ false
+joined_there p none q qs = refl
+joined_there p (t ▸ ps) q qs = refl
 
-pub joined_fits : (strict : Bool) (p : Tree) (ps : Trees) (q : Tree) (qs : Trees) → fits strict expression (of_parts p ps) ≡ true → fits strict expression (of_parts q qs) ≡ true → fits strict expression (of_parts p (append ps (q ▸ qs))) ≡ true
-joined_fits strict p ps q qs e f = more_fit strict p ps q qs (fit_append strict expression (p ▸ ps) (q ▸ qs) ∙ both (fill strict (each expression) (p ▸ ps)) (fill strict (each expression) (q ▸ qs)) (parts_fit strict p ps e) (parts_fit strict q qs f))
+part_there : (q : Tree) → is_one_part q ≡ true → is_absent q ≡ false
+part_there (node shape.Absent xs n ts) e = absurd (cc e)
+part_there (node h xs n ts) e = refl
 
--- ---- parts that are there
+parts_there : (q : Tree) (qs : Trees) → are_parts q qs ≡ true → is_absent (of_parts q qs) ≡ false
+parts_there q none e = part_there q e
+parts_there q (t ▸ qs) e = refl
 
-pub present_fits : (strict : Bool) (c : Class) (t : Tree) → is_absent t ≡ false → fits strict (one_or_absent c) t ≡ true → fits strict (one c) t ≡ true
-present_fits strict c (node shape.Absent xs n ts) h e = absurd (true≢false h)
-present_fits strict c (node h xs n ts) q e = e
+-- in the head of a `for` it is an expression
+of_init_part : (strict : Bool) (q : Tree) → is_one_part q ≡ true → fits strict (one_or_absent an_init) q ≡ true → fits strict expression q ≡ true
+of_init_part strict (node shape.Absent xs n ts) e f = absurd (cc e)
+of_init_part strict (node (shape.VariableDeclaration k) xs n ts) e f = absurd (cc e)
+of_init_part strict (node h xs n ts) e f = f
 
-pub optional_fits : (strict : Bool) (c : Class) (t : Tree) → is_absent t ≡ false → fits strict (one c) t ≡ true → fits strict (one_or_absent c) t ≡ true
-optional_fits strict c (node shape.Absent xs n ts) h e = absurd (true≢false h)
-optional_fits strict c (node h xs n ts) q e = e
+of_init : (strict : Bool) (q : Tree) (qs : Trees) → are_parts q qs ≡ true → fits strict (one_or_absent an_init) (of_parts q qs) ≡ true → fits strict expression (of_parts q qs) ≡ true
+of_init strict q none e f = of_init_part strict q e f
+of_init strict q (t ▸ qs) e f = f
 
-part_present : (t : Tree) → is_one_part t ≡ true → is_absent t ≡ false
-part_present (node shape.Absent xs n ts) h = absurd (true≢false (sym h))
-part_present (node h xs n ts) e = refl
+module _ (strict : Bool) where
+  abbrev pub Fits : Slot → Tree → Type 0
+  Fits s t = fits strict s t ≡ true
 
-pub parts_present : (p : Tree) (ps : Trees) → are_parts p ps ≡ true → is_absent (of_parts p ps) ≡ false
-parts_present p none h = part_present p h
-parts_present p (q ▸ qs) h = refl
+  abbrev pub AllFit : Slot → Trees → Type 0
+  AllFit s ts = fill strict (each s) ts ≡ true
 
-pub joined_present : (p : Tree) (ps : Trees) (q : Tree) (qs : Trees) → is_absent (of_parts p (append ps (q ▸ qs))) ≡ false
-joined_present p none q qs = refl
-joined_present p (c ▸ ps) q qs = refl
+  -- ---- lists
 
--- ---- statements that aren't scoped stand in any list
+  pub first_fits : (s : Slot) (t : Tree) (ts : Trees) → AllFit s (t ▸ ts) → Fits s t × AllFit s ts
+  first_fits s t ts e = and_parts (fits strict s t) (fill strict (each s) ts) e
 
-var_fits : (strict : Bool) (d : Depth) (xs : List Name) (n : ℕ) (ts : Trees) → fits strict (item nested) (node (shape.VariableDeclaration Var) xs n ts) ≡ true → fits strict (item d) (node (shape.VariableDeclaration Var) xs n ts) ≡ true
-var_fits true in_module xs n ts e = e
-var_fits true in_body xs n ts e = e
-var_fits true nested xs n ts e = e
-var_fits false in_module xs n ts e = e
-var_fits false in_body xs n ts e = e
-var_fits false nested xs n ts e = e
+  pub more_fit : (s : Slot) (t : Tree) (ts : Trees) → Fits s t → AllFit s ts → AllFit s (t ▸ ts)
+  more_fit s t ts e f = both (fits strict s t) (fill strict (each s) ts) e f
 
-pub unscoped_fits : (strict : Bool) (d : Depth) (t : Tree) → is_unscoped t ≡ true → fits strict (item nested) t ≡ true → fits strict (item d) t ≡ true
-unscoped_fits strict d (node shape.ExpressionStatement xs n ts) h e = e
-unscoped_fits strict d (node shape.EmptyStatement xs n ts) h e = e
-unscoped_fits strict d (node shape.DebuggerStatement xs n ts) h e = e
-unscoped_fits strict d (node shape.BlockStatement xs n ts) h e = e
-unscoped_fits strict d (node shape.LabeledStatement xs n ts) h e = e
-unscoped_fits strict d (node shape.BreakStatement xs n ts) h e = e
-unscoped_fits strict d (node shape.ContinueStatement xs n ts) h e = e
-unscoped_fits strict d (node shape.ReturnStatement xs n ts) h e = e
-unscoped_fits strict d (node shape.ThrowStatement xs n ts) h e = e
-unscoped_fits strict d (node shape.IfStatement xs n ts) h e = e
-unscoped_fits strict d (node shape.SwitchStatement xs n ts) h e = e
-unscoped_fits strict d (node shape.TryStatement xs n ts) h e = e
-unscoped_fits strict d (node shape.WhileStatement xs n ts) h e = e
-unscoped_fits strict d (node shape.DoWhileStatement xs n ts) h e = e
-unscoped_fits strict d (node shape.ForStatement xs n ts) h e = e
-unscoped_fits strict d (node shape.ForInStatement xs n ts) h e = e
-unscoped_fits strict d (node shape.ForOfStatement xs n ts) h e = e
-unscoped_fits strict d (node (shape.VariableDeclaration Var) xs n ts) h e = var_fits strict d xs n ts e
-unscoped_fits strict d t h e = absurd (true≢false (sym h))
+  pub append_fits : (s : Slot) (a b : Trees) → AllFit s a → AllFit s b → AllFit s (append a b)
+  append_fits s none b e f = f
+  append_fits s (t ▸ a) b e f = let (x, y) = first_fits s t a e in more_fit s t (append a b) x (append_fits s a b y f)
 
-pub all_unscoped_fit : (strict : Bool) (d : Depth) (ts : Trees) → are_unscoped ts ≡ true → AllFit strict (item nested) ts → AllFit strict (item d) ts
-all_unscoped_fit strict d none h e = refl
-all_unscoped_fit strict d (t ▸ ts) h e =
-    let (first, others) = and_parts (is_unscoped t) (are_unscoped ts) h in
-    let (fit, rest) = and_parts (fits strict (item nested) t) (fill strict (each (item nested)) ts) e in
-    both (fits strict (item d) t) (fill strict (each (item d)) ts) (unscoped_fits strict d t first fit) (all_unscoped_fit strict d ts others rest)
+  pub both_fit : (s : Slot) (a b : Trees) → AllFit s (append a b) → AllFit s a × AllFit s b
+  both_fit s none b e = (refl, e)
+  both_fit s (t ▸ a) b e = let (x, y) = first_fits s t (append a b) e in let (z, w) = both_fit s a b y in (more_fit s t a x z, w)
 
--- ---- statements
+  -- ---- expressions
 
-if_parts : (strict : Bool) (a b c : Tree) → (fits strict expression a && (fits strict statement b && (fits strict last_statement c && true))) ≡ true → IfFits strict a b c
-if_parts strict a b c e =
-    let (first, rest) = and_parts (fits strict expression a) (fits strict statement b && (fits strict last_statement c && true)) e in
-    let (second, last) = and_parts (fits strict statement b) (fits strict last_statement c && true) rest in
-    (first, second, left (fits strict last_statement c) true last)
+  pub present : (c : Class) (t : Tree) → is_absent t ≡ false → Fits (one_or_absent c) t → Fits (one c) t
+  present c (node shape.Absent xs n ts) e f = absurd (cc e)
+  present c (node h xs n ts) e f = f
 
-two : (strict : Bool) (d : Depth) (t u : Tree) → AllFit strict (item d) (t ▸ (u ▸ none)) → (fits strict (item d) t ≡ true) × (fits strict (item d) u ≡ true)
-two strict d t u e =
-    let (first, rest) = and_parts (fits strict (item d) t) (fits strict (item d) u && true) e in
-    (first, left (fits strict (item d) u) true rest)
+  two_items : (ts : Trees) → 2 ≤ count ts → nat_le 2 (count ts) ≡ true
+  two_items ts h = le-leb 2 (count ts) h
 
-one_fits : (strict : Bool) (d : Depth) (t : Tree) → fits strict (item d) t ≡ true → AllFit strict (item d) (t ▸ none)
-one_fits strict d t e = both (fits strict (item d) t) true e refl
+  sequence_fits : (ts : Trees) → 2 ≤ count ts → AllFit expression ts → Fits expression (sequence ts)
+  sequence_fits ts h e = both (nat_le 2 (count ts)) (fill strict (each expression) ts && true) (two_items ts h) (both (fill strict (each expression) ts) true e refl)
 
-two_fit : (strict : Bool) (d : Depth) (t u : Tree) → fits strict (item d) t ≡ true → fits strict (item d) u ≡ true → AllFit strict (item d) (t ▸ (u ▸ none))
-two_fit strict d t u e f = both (fits strict (item d) t) (fits strict (item d) u && true) e (one_fits strict d u f)
+  pub parts_fit : (p : Tree) (ps : Trees) → Fits expression (of_parts p ps) → AllFit expression (p ▸ ps)
+  parts_fit p none e = more_fit expression p none e refl
+  parts_fit p (q ▸ qs) e = left (fill strict (each expression) (p ▸ (q ▸ qs))) true (and_parts (nat_le 2 (count (p ▸ (q ▸ qs)))) (fill strict (each expression) (p ▸ (q ▸ qs)) && true) e).1
 
-of_statement : (strict : Bool) (d : Depth) (a : Tree) → fits strict (item d) (expression_statement a) ≡ true → fits strict expression a ≡ true
-of_statement strict d a e = left (fits strict expression a) true e
+  pub of_parts_fits : (p : Tree) (ps : Trees) → AllFit expression (p ▸ ps) → Fits expression (of_parts p ps)
+  of_parts_fits p none e = (first_fits expression p none e).0
+  of_parts_fits p (q ▸ qs) e = sequence_fits (p ▸ (q ▸ qs)) (omega arith) e
 
-statement_fits : (strict : Bool) (d : Depth) (a : Tree) → fits strict expression a ≡ true → fits strict (item d) (expression_statement a) ≡ true
-statement_fits strict d a e = both (fits strict expression a) true e refl
+  -- two lists of parts as one
+  pub joined_fits : (p : Tree) (ps : Trees) (q : Tree) (qs : Trees) → Fits expression (of_parts p ps) → Fits expression (of_parts q qs) → Fits expression (of_parts p (append ps (q ▸ qs)))
+  joined_fits p ps q qs e f = of_parts_fits p (append ps (q ▸ qs)) (append_fits expression (p ▸ ps) (q ▸ qs) (parts_fit p ps e) (parts_fit q qs f))
 
-module _ (strict : Bool) (d : Depth) where
-  row_66_joined : (a b : Trees) → Row66Joined a b → AllFit strict (item d) a → AllFit strict (item d) b
-  row_66_joined a b r e =
-      let (first, second) = two strict d (expression_statement (of_parts r.p r.ps)) (expression_statement (of_parts r.q r.qs)) (subst (AllFit strict (item d)) r.shape e) in
-      subst (AllFit strict (item d)) (sym r.written) (one_fits strict d (expression_statement (of_parts r.p (append r.ps (r.q ▸ r.qs)))) (statement_fits strict d (of_parts r.p (append r.ps (r.q ▸ r.qs))) (joined_fits strict r.p r.ps r.q r.qs (of_statement strict d (of_parts r.p r.ps) first) (of_statement strict d (of_parts r.q r.qs) second))))
+  void_or : (b : Bool) (a : Tree) → is_absent a ≡ b → (b ≡ false → Fits expression a) → Fits expression (or_void a)
+  void_or true a e f = subst (λ c. Fits expression (if c then void_zero else a)) (sym e) refl
+  void_or false a e f = subst (λ c. Fits expression (if c then void_zero else a)) (sym e) (f refl)
 
-  row_79 : (a b : Trees) → Row79 a b → AllFit strict (item d) a → AllFit strict (item d) b
-  row_79 a b r e =
-      let fit = left (fits strict (item d) (block r.statements)) true (subst (AllFit strict (item d)) r.shape e) in
-      subst (AllFit strict (item d)) (sym r.written) (all_unscoped_fit strict d r.statements r.unscoped (left (fill strict (each (item nested)) r.statements) true fit))
+  pub or_void_fits : (a : Tree) → Fits (one_or_absent an_expression) a → Fits expression (or_void a)
+  or_void_fits a e = void_or (is_absent a) a refl (λ h. present an_expression a h e)
 
-  row_76 : (a b : Trees) → Row76 a b → AllFit strict (item d) a → AllFit strict (item d) b
-  row_76 a b r e =
-      let fit = left (fits strict (item d) (if_else r.test r.s r.u)) true (subst (AllFit strict (item d)) r.shape e) in
-      let parts = if_parts strict r.test r.s r.u fit in
-      let alternate = present_fits strict (a_statement nested) r.u (unscoped_present r.u r.unscoped) parts.2 in
-      subst (AllFit strict (item d)) (sym r.written) (two_fit strict d (if_alone r.test r.s) r.u
-      (both (fits strict expression r.test) (fits strict (item nested) r.s && true) parts.0 (both (fits strict (item nested) r.s) true parts.1 refl))
-      (unscoped_fits strict d r.u r.unscoped alternate))
+  pub or_void_of : (a : Tree) → Fits expression a → Fits expression (or_void a)
+  or_void_of a e = void_or (is_absent a) a refl (λ h. e)
+
+  -- ---- statements
+
+  pub of_expression : (d : Depth) (e : Tree) → Fits (statement d) (expression_statement e) → Fits expression e
+  of_expression d e f = left (fits strict expression e) true f
+
+  pub expression_fits : (d : Depth) (e : Tree) → Fits expression e → Fits (statement d) (expression_statement e)
+  expression_fits d e f = both (fits strict expression e) true f refl
+
+  pub of_return : (d : Depth) (a : Tree) → Fits (statement d) (return_statement a) → Fits (one_or_absent an_expression) a
+  of_return d a f = left (fits strict (one_or_absent an_expression) a) true f
+
+  pub or_absent : (c : Class) (t : Tree) → Fits (one c) t → (is_absent t ≡ false) → Fits (one_or_absent c) t
+  or_absent c (node shape.Absent xs n ts) e f = absurd (cc f)
+  or_absent c (node h xs n ts) e f = e
+
+  pub return_fits : (d : Depth) (a : Tree) → is_absent a ≡ false → Fits expression a → Fits (statement d) (return_statement a)
+  return_fits d a h f = both (fits strict (one_or_absent an_expression) a) true (or_absent an_expression a f h) refl
+
+  pub of_throw : (d : Depth) (a : Tree) → Fits (statement d) (throw_statement a) → Fits expression a
+  of_throw d a f = left (fits strict expression a) true f
+
+  pub throw_fits : (d : Depth) (a : Tree) → Fits expression a → Fits (statement d) (throw_statement a)
+  throw_fits d a f = both (fits strict expression a) true f refl
+
+  abbrev pub IfParts : Tree → Tree → Tree → Type 0
+  IfParts a b c = Fits expression a × Fits (statement nested) b × Fits (one_or_absent (a_statement nested)) c
+
+  pub of_if : (d : Depth) (a b c : Tree) → Fits (statement d) (if_else a b c) → IfParts a b c
+  of_if d a b c e =
+      let (x, r) = and_parts (fits strict expression a) (fits strict (statement nested) b && (fits strict (one_or_absent (a_statement nested)) c && true)) e in
+      let (y, z) = and_parts (fits strict (statement nested) b) (fits strict (one_or_absent (a_statement nested)) c && true) r in
+      (x, y, left (fits strict (one_or_absent (a_statement nested)) c) true z)
+
+  pub if_fits : (d : Depth) (a b c : Tree) → IfParts a b c → Fits (statement d) (if_else a b c)
+  if_fits d a b c (x, y, z) = both (fits strict expression a) (fits strict (statement nested) b && (fits strict (one_or_absent (a_statement nested)) c && true)) x (both (fits strict (statement nested) b) (fits strict (one_or_absent (a_statement nested)) c && true) y (both (fits strict (one_or_absent (a_statement nested)) c) true z refl))
+
+  pub of_block : (d : Depth) (ts : Trees) → Fits (statement d) (block ts) → AllFit (statement nested) ts
+  of_block d ts e = left (fill strict (each (statement nested)) ts) true e
+
+  -- what isn't scoped and stands deeper may stand further up
+  pub shallower : (d : Depth) (t : Tree) → is_unscoped t ≡ true → Fits (statement nested) t → Fits (statement d) t
+  shallower d (node shape.ExpressionStatement xs n ts) u e = e
+  shallower d (node shape.EmptyStatement xs n ts) u e = e
+  shallower d (node shape.DebuggerStatement xs n ts) u e = e
+  shallower d (node shape.BlockStatement xs n ts) u e = e
+  shallower d (node shape.LabeledStatement xs n ts) u e = e
+  shallower d (node shape.BreakStatement xs n ts) u e = e
+  shallower d (node shape.ContinueStatement xs n ts) u e = e
+  shallower d (node shape.ReturnStatement xs n ts) u e = e
+  shallower d (node shape.ThrowStatement xs n ts) u e = e
+  shallower d (node shape.IfStatement xs n ts) u e = e
+  shallower d (node shape.SwitchStatement xs n ts) u e = e
+  shallower d (node shape.TryStatement xs n ts) u e = e
+  shallower d (node shape.WhileStatement xs n ts) u e = e
+  shallower d (node shape.DoWhileStatement xs n ts) u e = e
+  shallower d (node shape.ForStatement xs n ts) u e = e
+  shallower d (node shape.ForInStatement xs n ts) u e = e
+  shallower d (node shape.ForOfStatement xs n ts) u e = e
+  shallower d (node (shape.VariableDeclaration Var) xs n ts) u e = var_anywhere strict d xs n ts e
+  shallower d t u e = absurd (cc u)
+
+  pub all_shallower : (d : Depth) (ts : Trees) → are_unscoped ts ≡ true → AllFit (statement nested) ts → AllFit (statement d) ts
+  all_shallower d none u e = refl
+  all_shallower d (t ▸ ts) u e =
+      let (x, y) = and_parts (is_unscoped t) (are_unscoped ts) u in
+      let (f, g) = first_fits (statement nested) t ts e in
+      more_fit (statement d) t ts (shallower d t x f) (all_shallower d ts y g)
+
+  -- ---- what each row writes
+
+  abbrev pub Fitting : Trees → Trees → Type 0
+  Fitting a b = (d : Depth) → AllFit (statement d) a → AllFit (statement d) b
+
+  like : {a b a' b' : Trees} → a ≡ a' → b ≡ b' → Fitting a' b' → Fitting a b
+  like e f g d x = subst (AllFit (statement d)) (sym f) (g d (subst (AllFit (statement d)) e x))
+
+  abbrev loop_rest : Tree → Tree → Tree → Bool
+  loop_rest u v w = fits strict (one_or_absent an_expression) u && (fits strict (one_or_absent an_expression) v && (fits strict (statement nested) w && true))
+
+  one_of : (d : Depth) (t : Tree) → AllFit (statement d) (t ▸ none) → Fits (statement d) t
+  one_of d t e = (first_fits (statement d) t none e).0
+
+  just : (d : Depth) (t : Tree) → Fits (statement d) t → AllFit (statement d) (t ▸ none)
+  just d t e = more_fit (statement d) t none e refl
+
+  two_of : (d : Depth) (t u : Tree) → AllFit (statement d) (t ▸ (u ▸ none)) → Fits (statement d) t × Fits (statement d) u
+  two_of d t u e = let (x, r) = first_fits (statement d) t (u ▸ none) e in (x, one_of d u r)
+
+  joined_expressions_fit : (p : Tree) (ps : Trees) (q : Tree) (qs : Trees) → Fitting (expression_statement (of_parts p ps) ▸ (expression_statement (of_parts q qs) ▸ none)) (expression_statement (of_parts p (append ps (q ▸ qs))) ▸ none)
+  joined_expressions_fit p ps q qs d e =
+      let (x, y) = two_of d (expression_statement (of_parts p ps)) (expression_statement (of_parts q qs)) e in
+      just d (expression_statement (of_parts p (append ps (q ▸ qs)))) (expression_fits d (of_parts p (append ps (q ▸ qs))) (joined_fits p ps q qs (of_expression d (of_parts p ps) x) (of_expression d (of_parts q qs) y)))
+
+  spread_fit : (ts : Trees) → are_unscoped ts ≡ true → Fitting (block ts ▸ none) ts
+  spread_fit ts u d e = all_shallower d ts u (of_block d ts (one_of d (block ts) e))
+
+  conditional_fits : (a b c : Tree) → Fits expression a → Fits expression b → Fits expression c → Fits expression (conditional a b c)
+  conditional_fits a b c x y z = both (fits strict expression a) (fits strict expression b && (fits strict expression c && true)) x (both (fits strict expression b) (fits strict expression c && true) y (both (fits strict expression c) true z refl))
+
+  joined_returns_fit : (test left right : Tree) → is_absent right ≡ false → Fitting (if_alone test (return_statement left) ▸ (return_statement right ▸ none)) (return_statement (conditional test (or_void left) right) ▸ none)
+  joined_returns_fit test left right h d e =
+      let (x, y) = two_of d (if_alone test (return_statement left)) (return_statement right) e in
+      let (a, b, c) = of_if d test (return_statement left) absent x in
+      let made = conditional test (or_void left) right in
+      just d (return_statement made) (return_fits d made refl (conditional_fits test (or_void left) right a (or_void_fits left (of_return nested left b)) (present an_expression right h (of_return d right y))))
+
+  joined_throws_fit : (test left right : Tree) → Fitting (if_alone test (throw_statement left) ▸ (throw_statement right ▸ none)) (throw_statement (conditional test (or_void left) right) ▸ none)
+  joined_throws_fit test left right d e =
+      let (x, y) = two_of d (if_alone test (throw_statement left)) (throw_statement right) e in
+      let (a, b, c) = of_if d test (throw_statement left) absent x in
+      let made = conditional test (or_void left) right in
+      just d (throw_statement made) (throw_fits d made (conditional_fits test (or_void left) right a (or_void_of left (of_throw nested left b)) (of_throw d right y)))
+
+  bare_returns_fit : (test : Tree) → Fitting (if_alone test (return_statement absent) ▸ (return_statement absent ▸ none)) (expression_statement test ▸ (return_statement absent ▸ none))
+  bare_returns_fit test d e =
+      let (x, y) = two_of d (if_alone test (return_statement absent)) (return_statement absent) e in
+      let (a, b, c) = of_if d test (return_statement absent) absent x in
+      more_fit (statement d) (expression_statement test) (return_statement absent ▸ none) (expression_fits d test a) (just d (return_statement absent) y)
+
+  split_fit : (test s u : Tree) → is_unscoped u ≡ true → Fitting (if_else test s u ▸ none) (if_alone test s ▸ (u ▸ none))
+  split_fit test s u h d e =
+      let (a, b, c) = of_if d test s u (one_of d (if_else test s u) e) in
+      more_fit (statement d) (if_alone test s) (u ▸ none) (if_fits d test s absent (a, b, refl)) (just d u (shallower d u h (present (a_statement nested) u (there u h) c)))
+
+  -- the heads of row 67
+
+  joined_head_fits : (h : ListHead) (p : Tree) (ps : Trees) (q : Tree) (qs : Trees) → are_parts q qs ≡ true → Fitting (expression_statement (of_parts p ps) ▸ (with_head h (of_parts q qs) ▸ none)) (with_head h (of_parts p (append ps (q ▸ qs))) ▸ none)
+  joined_head_fits h p ps q qs k d e =
+      let (x, y) = two_of d (expression_statement (of_parts p ps)) (with_head h (of_parts q qs)) e in
+      just d (with_head h (of_parts p (append ps (q ▸ qs)))) (go h (of_expression d (of_parts p ps) x) y)
     where
-      unscoped_present : (t : Tree) → is_unscoped t ≡ true → is_absent t ≡ false
-      unscoped_present (node shape.Absent xs n ts) h = absurd (true≢false (sym h))
-      unscoped_present (node h xs n ts) e = refl
+      made : Tree
+      made = of_parts p (append ps (q ▸ qs))
 
-  conditional_fits : (a b c : Tree) → fits strict expression a ≡ true → fits strict (one_or_absent an_expression) b ≡ true → (b ≡ absent) ⊎ (is_absent b ≡ false) → fits strict expression c ≡ true → fits strict expression (conditional a (or_void b) c) ≡ true
-  conditional_fits a b c e f (inl g) h = subst (λ x. fits strict expression (conditional a (or_void x) c) ≡ true) (sym g) (three_fit strict a void_zero c e refl h)
-  conditional_fits a b c e f (inr g) h = subst (λ x. fits strict expression (conditional a x c) ≡ true) (sym (ap (λ y. if y then void_zero else b) g)) (three_fit strict a b c e (present_fits strict an_expression b g f) h)
+      go : (h : ListHead) → Fits expression (of_parts p ps) → Fits (statement d) (with_head h (of_parts q qs)) → Fits (statement d) (with_head h made)
+      go Return x y = return_fits d made (joined_there p ps q qs) (joined_fits p ps q qs x (present an_expression (of_parts q qs) (parts_there q qs k) (of_return d (of_parts q qs) y)))
+      go Throw x y = throw_fits d made (joined_fits p ps q qs x (of_throw d (of_parts q qs) y))
+      go (If u v) x y = let (a, b, c) = of_if d (of_parts q qs) u v y in if_fits d made u v (joined_fits p ps q qs x a, b, c)
+      go (Switch cases) x y =
+          let (a, b) = and_parts (fits strict expression (of_parts q qs)) (fits strict (many a_case) cases && true) y in
+          both (fits strict expression made) (fits strict (many a_case) cases && true) (joined_fits p ps q qs x a) b
+      go (For u v w) x y =
+          let (a, b) = and_parts (fits strict (one_or_absent an_init) (of_parts q qs)) (loop_rest u v w) y in
+          both (fits strict (one_or_absent an_init) made) (loop_rest u v w) (expression_taken strict (one_or_absent an_init) made tt (joined_fits p ps q qs x (of_init strict q qs k a))) b
 
-  row_73_return : (a b : Trees) → Row73 return_statement a b → AllFit strict (item d) a → AllFit strict (item d) b
-  row_73_return a b r e =
-      let (first, second) = two strict d (if_alone r.test (return_statement r.left)) (return_statement r.right) (subst (AllFit strict (item d)) r.shape e) in
-      let parts = if_parts strict r.test (return_statement r.left) absent first in
-      let made = conditional_fits r.test r.left r.right parts.0 (left (fits strict (one_or_absent an_expression) r.left) true parts.1) r.whole (present_fits strict an_expression r.right r.present (left (fits strict (one_or_absent an_expression) r.right) true second)) in
-      subst (AllFit strict (item d)) (sym r.written) (one_fits strict d (return_statement (conditional r.test (or_void r.left) r.right)) (both (fits strict expression (conditional r.test (or_void r.left) r.right)) true made refl))
+  absent_init_fits : (p : Tree) (ps : Trees) (u v w : Tree) → Fitting (expression_statement (of_parts p ps) ▸ (for_loop absent u v w ▸ none)) (for_loop (of_parts p ps) u v w ▸ none)
+  absent_init_fits p ps u v w d e =
+      let (x, y) = two_of d (expression_statement (of_parts p ps)) (for_loop absent u v w) e in
+      just d (for_loop (of_parts p ps) u v w) (both (fits strict (one_or_absent an_init) (of_parts p ps)) (loop_rest u v w) (expression_taken strict (one_or_absent an_init) (of_parts p ps) tt (of_expression d (of_parts p ps) x)) (and_parts (fits strict (one_or_absent an_init) absent) (loop_rest u v w) y).1)
 
-  row_73_throw : (a b : Trees) → Row73 throw_statement a b → AllFit strict (item d) a → AllFit strict (item d) b
-  row_73_throw a b r e =
-      let (first, second) = two strict d (if_alone r.test (throw_statement r.left)) (throw_statement r.right) (subst (AllFit strict (item d)) r.shape e) in
-      let parts = if_parts strict r.test (throw_statement r.left) absent first in
-      let made = conditional_fits r.test r.left r.right parts.0 (as_optional r.left (left (fits strict expression r.left) true parts.1)) r.whole (left (fits strict expression r.right) true second) in
-      subst (AllFit strict (item d)) (sym r.written) (one_fits strict d (throw_statement (conditional r.test (or_void r.left) r.right)) (both (fits strict expression (conditional r.test (or_void r.left) r.right)) true made refl))
-    where
-      as_optional : (t : Tree) → fits strict expression t ≡ true → fits strict (one_or_absent an_expression) t ≡ true
-      as_optional (node shape.Absent xs n ts) e = absurd (refused_here strict expression shape.Absent xs n ts refl e)
-      as_optional (node h xs n ts) e = e
+  joined_declarations_fit : (k : VariableDeclarationKind) (ds es : Trees) → Fitting (declaration k ds ▸ (declaration k es ▸ none)) (declaration k (append ds es) ▸ none)
+  joined_declarations_fit k ds es d e =
+      let (x, y) = two_of d (declaration k ds) (declaration k es) e in
+      let (filled, some) = and_parts (nat_le 1 (count ds)) (fill strict (each (one a_declarator)) ds && true) (sym (declaration_anywhere strict d k ds) ∙ x) in
+      let (more, others) = and_parts (nat_le 1 (count es)) (fill strict (each (one a_declarator)) es && true) (sym (declaration_anywhere strict d k es) ∙ y) in
+      let all = append_fits (one a_declarator) ds es (left (fill strict (each (one a_declarator)) ds) true some) (left (fill strict (each (one a_declarator)) es) true others) in
+      just d (declaration k (append ds es)) (declaration_anywhere strict d k (append ds es) ∙ both (nat_le 1 (count (append ds es))) (fill strict (each (one a_declarator)) (append ds es) && true) (more_than_none ds es more) (both (fill strict (each (one a_declarator)) (append ds es)) true all refl))
 
-  row_73_bare : (a b : Trees) → Row73Bare a b → AllFit strict (item d) a → AllFit strict (item d) b
-  row_73_bare a b r e =
-      let (first, second) = two strict d (if_alone r.test (return_statement absent)) (return_statement absent) (subst (AllFit strict (item d)) r.shape e) in
-      let parts = if_parts strict r.test (return_statement absent) absent first in
-      subst (AllFit strict (item d)) (sym r.written) (two_fit strict d (expression_statement r.test) (return_statement absent) (statement_fits strict d r.test parts.0) second)
+  -- whichever row it is
 
-  heads_fit : (h : Head) (x y : Tree) → opens_scope h ≡ false → is_absent x ≡ false → (fits strict expression x ≡ true → fits strict expression y ≡ true) → fits strict (item d) (with_head h x) ≡ true → is_absent y ≡ false → fits strict (item d) (with_head h y) ≡ true
-  heads_fit Return x y g p k e q = both (fits strict (one_or_absent an_expression) y) true (optional_fits strict an_expression y q (k (present_fits strict an_expression x p (left (fits strict (one_or_absent an_expression) x) true e)))) refl
-  heads_fit Throw x y g p k e q = both (fits strict expression y) true (k (left (fits strict expression x) true e)) refl
-  heads_fit (If u v) x y g p k e q =
-      let parts = if_parts strict x u v e in
-      both (fits strict expression y) (fits strict (item nested) u && (fits strict (one_or_absent (a_statement nested)) v && true)) (k parts.0) (both (fits strict (item nested) u) (fits strict (one_or_absent (a_statement nested)) v && true) parts.1 (both (fits strict (one_or_absent (a_statement nested)) v) true parts.2 refl))
-  heads_fit h x y g p k e q = absurd (true≢false g)
+  sequences_fit : (a b : Trees) → SequencesRow a b → Fitting a b
+  sequences_fit a b (inl r) = like r.shape r.written (joined_expressions_fit r.p r.ps r.q r.qs)
+  sequences_fit a b (inr (inl r)) = like r.shape r.written (joined_returns_fit r.test r.left r.right r.present)
+  sequences_fit a b (inr (inr (inl r))) = like r.shape r.written (joined_throws_fit r.test r.left r.right)
+  sequences_fit a b (inr (inr (inr (inl r)))) = like r.shape r.written (bare_returns_fit r.test)
+  sequences_fit a b (inr (inr (inr (inr (inl r))))) = like r.shape r.written (joined_head_fits r.head r.p r.ps r.q r.qs r.second)
+  sequences_fit a b (inr (inr (inr (inr (inr (inl r)))))) = like r.shape r.written (absent_init_fits r.p r.ps r.test r.update r.body)
+  sequences_fit a b (inr (inr (inr (inr (inr (inr r)))))) = like r.shape r.written (split_fit r.test r.s r.u r.unscoped)
 
-  row_67 : (a b : Trees) → PlainHead a b → AllFit strict (item d) a → AllFit strict (item d) b
-  row_67 a b plain e =
-      let r : Row67 a b = plain.row in
-      let (first, second) = two strict d (expression_statement (of_parts r.p r.ps)) (with_head r.head (of_parts r.q r.qs)) (subst (AllFit strict (item d)) r.shape e) in
-      let whole : Tree = of_parts r.p (append r.ps (r.q ▸ r.qs)) in
-      subst (AllFit strict (item d)) (sym r.written) (one_fits strict d (with_head r.head whole)
-      (heads_fit r.head (of_parts r.q r.qs) whole plain.plain (parts_present r.q r.qs r.second) (joined_fits strict r.p r.ps r.q r.qs (of_statement strict d (of_parts r.p r.ps) first)) second (joined_present r.p r.ps r.q r.qs)))
+  pub stretch_fits : (o : Switches) (a b : Trees) → StretchRow o a b → Fitting a b
+  stretch_fits o a b (inl r) = like r.shape r.written (λ d e. refl)
+  stretch_fits o a b (inr (inl r)) = like r.shape r.written (spread_fit r.statements r.unscoped)
+  stretch_fits o a b (inr (inr (inl r))) = like r.1.shape r.1.written (joined_declarations_fit r.1.kind r.1.ds r.1.es)
+  stretch_fits o a b (inr (inr (inr r))) = sequences_fit a b r.1
 
-  neighbours : (a b : Trees) → NeighboursRow a b → AllFit strict (item d) a → AllFit strict (item d) b
-  neighbours a b (inl r) e = subst (AllFit strict (item d)) (sym r.written) refl
-  neighbours a b (inr (inl r)) e = row_66_joined a b r e
-  neighbours a b (inr (inr (inl r))) e = row_79 a b r e
-  neighbours a b (inr (inr (inr (inl r)))) e = row_73_return a b r e
-  neighbours a b (inr (inr (inr (inr (inl r))))) e = row_73_throw a b r e
-  neighbours a b (inr (inr (inr (inr (inr (inl r)))))) e = row_73_bare a b r e
-  neighbours a b (inr (inr (inr (inr (inr (inr r)))))) e = row_76 a b r e
-
-  pub stretch_fits : (a b : Trees) → PlainRow a b → AllFit strict (item d) a → AllFit strict (item d) b
-  stretch_fits a b (inl r) e = neighbours a b r e
-  stretch_fits a b (inr r) e = row_67 a b r e
+-- a list, with the stretch in it
+pub list_fits : (o : Switches) (n w : Tree) → InList (StretchRow o) n w → (strict : Bool) (s : Slot) → fits_place StatementList s ≡ true → fits strict s n ≡ true → fits strict s w ≡ true
+list_fits o n w r strict s k e =
+    let (d, q, f) = statements_slot strict s [] 0 (append r.before (append r.read r.after)) k (subst (λ t. fits strict s t ≡ true) r.shape e) in
+    let (x, g) = both_fit strict (statement d) r.before (append r.read r.after) f in
+    let (y, z) = both_fit strict (statement d) r.read r.after g in
+    let made = append_fits strict (statement d) r.before (append r.put r.after) x (append_fits strict (statement d) r.put r.after (stretch_fits strict o r.read r.put r.row d y) z) in
+    subst (λ t. fits strict s t ≡ true) (sym r.written) (subst (λ c. fits strict c (listed (append r.before (append r.put r.after))) ≡ true) (sym q) (both true (fill strict (each (statement d)) (append r.before (append r.put r.after))) refl made))

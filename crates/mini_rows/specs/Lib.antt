@@ -6,3 +6,4 @@ pub mod ListLaws
 pub mod Branches
 pub mod Sketches
 pub mod Arranged
+pub mod Redex

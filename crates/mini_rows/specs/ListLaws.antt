@@ -1,5 +1,6 @@
 -- What the rows of lists of statements keep.
 use Rattle.std.specs.Prelude.{◌≡◌, ◌⊎◌, Bool, true, false}
+use Rattle.mini_model.specs.declared.place.Position.{Position}
 use Rattle.mini_model.specs.declared.place.Position.TheVariants.{StatementList}
 use Rattle.mini_model.specs.Tree.{Tree, Trees}
 use Rattle.mini_laws.specs.Rewritten.{MeansSame}
@@ -36,7 +37,7 @@ PlainRow a b = NeighboursRow a b ⊎ PlainHead a b
 abbrev pub PlainListsKept : Type 0
 PlainListsKept = (n w : Tree) → InList PlainRow n w → KeptAt StatementList n w
 
--- so does a list in which two declarations of one kind become one
+-- and of a list in which two declarations of one kind become one
 abbrev pub DeclarationsKept : Type 0
 DeclarationsKept = (n w : Tree) → InList Row68 n w → KeptAt StatementList n w
 
@@ -49,10 +50,10 @@ pub record OpeningHead (a b : Trees) : Type 0 where
 abbrev pub OpeningRow : Trees → Trees → Type 0
 OpeningRow a b = OpeningHead a b ⊎ Row67Absent a b
 
--- so does such a list
+-- and of such a list
 abbrev pub OpeningListsKept : Type 0
 OpeningListsKept = (n w : Tree) → InList OpeningRow n w → KeptAt StatementList n w
 
--- so all rows of lists are lawful
+-- the rows of lists are lawful, whatever the options let happen
 abbrev pub ListsLawful : Type 0
 ListsLawful = (o : Switches) → Lawful (ListContracts o)

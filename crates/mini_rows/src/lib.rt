@@ -5,6 +5,8 @@
 mod arrangements;
 mod branches;
 mod lists;
+mod redexes;
 mod spellings;
 
 pub use branches::{branches_are_lawful, branches_lighten, branches_same};
+pub use redexes::rows_are_lawful;

@@ -9,4 +9,4 @@ pub rewritten-requires : goal.rewritten-requires
 rewritten-requires c =
     let many = symbols Read c.args.tree.now in
     let told = subst (λ f. Tells f many c.resolve.new.program) (sym c.new-context.ensures.scopes) c.in_ok-scopes.ensures.scopes in
-    (c.args.options.now, known_at_first c.new-context.result c.args.options.now many c.resolve.new.program c.new-context.ensures.options told)
+    known_at_first c.new-context.result c.args.options.now many c.resolve.new.program c.new-context.ensures.options told

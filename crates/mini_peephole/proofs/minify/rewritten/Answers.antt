@@ -8,5 +8,4 @@ returns-clause-plain c = ap has_float c.in_ok-program.ensures ∙ program_plain 
 
 pub returns-clause-ok : goal.returns-clause-ok
 returns-clause-ok c =
-    let (o, known) = c.requires in
-    record { output = c.run_passes.new.program; passes = c.in_ok-passes.ensures o known; written = c.in_ok-program.ensures; kept = c.in_ok-kept.ensures; symbols = c.in_ok-symbols.ensures }
+    record { output = c.run_passes.new.program; passes = c.in_ok-passes.ensures c.args.options.now c.requires; written = c.in_ok-program.ensures; kept = c.in_ok-kept.ensures; symbols = c.in_ok-symbols.ensures }

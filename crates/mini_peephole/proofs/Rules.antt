@@ -1,0 +1,85 @@
+-- The rules together, and the rows.
+use Rattle.std.proofs.Common.{ℕ, zero, suc, ◌<◌, ◌^◌, inl, inr, arith}
+use Rattle.mini_model.specs.declared.place.Position.{Position}
+use Rattle.mini_model.specs.declared.place.Position.TheVariants.{Stmt}
+use Rattle.mini_model.specs.Tree.{Tree, Trees, node, none, ◌▸◌, count}
+use Rattle.mini_model.specs.Position.{child_position}
+use Rattle.mini_model.specs.Weight.{weight, weights}
+use Rattle.mini_model.specs.Redex as first
+use Rattle.mini_model.specs.Rewriting.{Everywhere, EverywhereIn}
+use Rattle.mini_tree.specs.declared.options.CompressOptions.{CompressOptions}
+use Rattle.mini_kept.specs.Lawful.{Lawful}
+use Rattle.mini_kept.proofs.Lawful.{lawful_narrowed}
+use Rattle.mini_rows.specs.Switches.{Switches}
+use Rattle.mini_rows.specs.Branches.{BranchRow}
+use Rattle.mini_rows.specs.Redex.{Row, Contracts, IsSettled, HasNoRedex}
+use Rattle.mini_rows.proofs.AllRows.{all_lawful}
+use Rattle.mini_logic.specs.Joined as logic_law
+use Rattle.mini_logic.specs.UnwrapBlock as blocks
+use Rattle.mini_logic.proofs.Joined as logic
+use Rattle.mini_syntax.specs.SubstituteReturnStatement as returns
+use Rattle.mini_peephole.specs.Faithful.{switches}
+use Rattle.mini_peephole.specs.Rules.{Gives, Rests}
+
+-- the rows of the rules are among the rows
+
+of_branches : (o : Switches) (p : Position) (n w : Tree) → BranchRow p n w → Row o p n w
+of_branches o p n w r = inr (inr (inl r))
+
+logic_row : (o : Switches) (p : Position) (n w : Tree) → logic_law.LogicRow p n w → Row o p n w
+logic_row o (Stmt q) n w (inl r) = inl r
+logic_row o (Stmt q) n w (inr r) = of_branches o (Stmt q) n w (inr (inr r))
+logic_row o p n w r = inl r
+
+first_row : (p : Position) (n w : Tree) → first.Row p n w → logic_law.LogicRow p n w
+first_row (Stmt q) n w r = inl r
+first_row p n w r = r
+
+module _ (o : CompressOptions) (q : Tree) where
+  -- each rule makes what a row contracts
+
+  blocks_contract : (p : Position) (t u : Tree) → blocks.Gives p t u → Contracts (switches o) p t u
+  blocks_contract (Stmt s) t u r = record { row = of_branches (switches o) (Stmt s) t u (inr (inl r.0)); lighter = r.1 }
+  blocks_contract p t u r = absurd r
+
+  returns_contract : (p : Position) (t u : Tree) → returns.Gives p t u → Contracts (switches o) p t u
+  returns_contract (Stmt s) t u r = record { row = of_branches (switches o) (Stmt s) t u (inl r.0); lighter = r.1 }
+  returns_contract p t u r = absurd r
+
+  pub gives_contract : (p : Position) (t u : Tree) → Gives o q p t u → Contracts (switches o) p t u
+  gives_contract p t u (inl r) = let c = logic.gives_contract p t u r in record { row = logic_row (switches o) p t u c.row; lighter = c.lighter }
+  gives_contract p t u (inr (inl r)) = blocks_contract p t u r
+  gives_contract p t u (inr (inr (inl r))) = returns_contract p t u r
+  gives_contract p t u (inr (inr (inr (inl c)))) = record { row = inr (inl c.row); lighter = c.lighter }
+  gives_contract p t u (inr (inr (inr (inr c)))) = record { row = inr (inr (inr c.row)); lighter = c.lighter }
+
+  pub gives_lawful : Lawful (Gives o q)
+  gives_lawful = lawful_narrowed (Gives o q) (Contracts (switches o)) gives_contract (all_lawful (switches o))
+
+  -- where all have nothing to do, nothing is to be rewritten, as far as the weight fits 64 bits
+
+  logic_settled : (p : Position) (t u : Tree) → weight p t < 2 ^ 64 → logic_law.Rests p t → logic_law.LogicRow p t u → weight p u < weight p t → ⊥
+  logic_settled p t u small r row less = logic.rests_settle p t small r u (record { row = row; lighter = less })
+
+  branch_settled : (p : Position) (t u : Tree) → weight p t < 2 ^ 64 → Rests o q p t → BranchRow p t u → weight p u < weight p t → ⊥
+  branch_settled (Stmt s) t u small r (inl row) less = r.1.1.0 u row
+  branch_settled (Stmt s) t u small r (inr (inl row)) less = r.1.0 u row
+  branch_settled (Stmt s) t u small r (inr (inr row)) less = logic_settled (Stmt s) t u small r.0 (inr row) less
+  branch_settled p t u small r row less = absurd row
+
+  settled : (p : Position) (t u : Tree) → weight p t < 2 ^ 64 → Rests o q p t → Row (switches o) p t u → weight p u < weight p t → ⊥
+  settled p t u small r (inl row) less = logic_settled p t u small r.0 (first_row p t u row) less
+  settled p t u small r (inr (inl row)) less = r.1.1.1.0 u row
+  settled p t u small r (inr (inr (inl row))) less = branch_settled p t u small r row less
+  settled p t u small r (inr (inr (inr row))) less = r.1.1.1.1 u row
+
+  rests_settle : (p : Position) (t : Tree) → weight p t < 2 ^ 64 → Rests o q p t → IsSettled (switches o) p t
+  rests_settle p t small r x = settled p t x.to small r x.contracts.row x.contracts.lighter
+
+  mutual
+    pub rests_everywhere : (p : Position) (t : Tree) → weight p t < 2 ^ 64 → Everywhere (Rests o q) p t → HasNoRedex (switches o) p t
+    rests_everywhere p (node h xs n ts) small r = (rests_settle p (node h xs n ts) small r.0, rest_in (child_position h p (count ts)) ts (omega (arith, small)) r.1)
+
+    rest_in : (π : ℕ → Position) (ts : Trees) → weights π ts < 2 ^ 64 → EverywhereIn (Rests o q) π ts → EverywhereIn (IsSettled (switches o)) π ts
+    rest_in π none small r = tt
+    rest_in π (t ▸ ts) small r = (rests_everywhere (π zero) t (omega (arith, small)) r.0, rest_in (λ i. π (suc i)) ts (omega (arith, small)) r.1)

@@ -1,0 +1,40 @@
+-- What can be rewritten: each row is a shape and what is written in its place. A node is a redex where a row names it, the
+-- options let the row act, and what is written weighs less there. No order of rewriting is meant.
+use Rattle.std.specs.Prelude.{◌<◌, ◌⊎◌}
+use Rattle.mini_model.specs.declared.place.Position.{Position}
+use Rattle.mini_model.specs.Tree.{Tree}
+use Rattle.mini_model.specs.Weight.{weight}
+use Rattle.mini_model.specs.Redex as first
+use Rattle.mini_model.specs.Rewriting.{Everywhere}
+use Rattle.mini_kept.specs.Lawful.{Lawful}
+use Rattle.mini_rows.specs.Switches.{Switches}
+use Rattle.mini_rows.specs.Spellings.{SpellingRow}
+use Rattle.mini_rows.specs.Branches.{BranchRow}
+use Rattle.mini_rows.specs.Lists.{ListRow}
+
+-- a row reads n as w at this place: one of negations and of `if` over expressions, of spellings, of branches and bodies of
+-- loops, or of lists of statements
+abbrev pub Row : Switches → Position → Tree → Tree → Type 0
+Row o p n w = first.Row p n w ⊎ (SpellingRow p n w ⊎ (BranchRow p n w ⊎ ListRow o p n w))
+
+-- what a row writes, where it weighs less
+pub record Contracts (o : Switches) (p : Position) (n w : Tree) : Type 0 where
+  pub row : Row o p n w
+  pub lighter : weight p w < weight p n
+
+-- a redex in its place
+pub record Redex (o : Switches) (p : Position) (n : Tree) : Type 0 where
+  pub to : Tree
+  pub contracts : Contracts o p n to
+
+-- there is nothing to rewrite at the node in its place
+abbrev pub IsSettled : Switches → Position → Tree → Type 0
+IsSettled o p n = Redex o p n → ⊥
+
+-- no node of the tree is a redex in its place
+abbrev pub HasNoRedex : Switches → Position → Tree → Type 0
+HasNoRedex o p n = Everywhere (IsSettled o) p n
+
+-- what the rows make is lawful, whatever the options
+abbrev pub RowsAreLawful : Type 0
+RowsAreLawful = (o : Switches) → Lawful (Contracts o)
