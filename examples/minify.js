@@ -31,16 +31,34 @@ function parsed(text, file) {
 const json = (tree) => JSON.stringify(tree, (key, value) => (typeof value === "bigint" ? null : value));
 
 // What JSON couldn't hold, as a printer wants it.
-function revived(key, value) {
+function revived(value) {
   if (value && value.type === "Literal" && value.bigint) return { ...value, value: BigInt(value.bigint) };
   if (value && value.type === "Literal" && value.regex) return { ...value, value: null };
   return value;
 }
 
+// Whether an `else` behind the statement would be taken for its own.
+function takesElse(node) {
+  if (node.type === "IfStatement") return node.alternate === null || takesElse(node.alternate);
+  return /^(For|ForIn|ForOf|While|Labeled)Statement$/.test(node.type) && takesElse(node.body);
+}
+
+// A text that stands as a statement and is no directive does nothing, and would be one in print.
+const isIdleText = (node) => node.type === "ExpressionStatement" && typeof node.expression.value === "string" && !node.directive;
+
+// The answer is a tree, and says nothing of braces: here each consequent gets them that would take its `if`'s `else`. Printers of what
+// parsers give don't see to that, since no parser gives it.
+function printable(key, value) {
+  if (Array.isArray(value)) return value.filter((node) => !node || !isIdleText(node));
+  if (value && value.type === "IfStatement" && value.alternate && takesElse(value.consequent))
+    return { ...value, consequent: { type: "BlockStatement", body: [value.consequent] } };
+  return revived(value);
+}
+
 function minified(text, file) {
   const ended = spawnSync(PROGRAM, ["--max-depth=1000"], { input: json(parsed(text, file)), maxBuffer: 1 << 30 });
   if (ended.status !== 0) throw new Error(`status ${ended.status} ${ended.stderr.toString().trim()}`);
-  return escodegen.generate(JSON.parse(ended.stdout.toString(), revived).program, COMPACT);
+  return escodegen.generate(JSON.parse(ended.stdout.toString(), printable).program, COMPACT);
 }
 
 function minifiedOrAsItIs(text, file) {
