@@ -5,7 +5,7 @@ use Rattle.std.proofs.lemmas.Bool.{and_from, and_parts, eqb-true, false≢true}
 use Rattle.serde_json.specs.Data.{Data, Items, no_items, item}
 use Rattle.serde_json.specs.Find.{get, as_null, as_str}
 use Rattle.mini_text.specs.Texts.{units_of}
-use Rattle.mini_literals.specs.Templates.{cooked}
+use Rattle.mini_text.specs.Templates.{cooked}
 use Rattle.mini_model.specs.declared.kind.PropertyKind.{PropertyKind}
 use Rattle.mini_model.specs.declared.kind.PropertyKind.TheVariants as property
 use Rattle.mini_model.specs.declared.shape.Shape.TheVariants as shape

@@ -1,11 +1,10 @@
 // Texts, names, numerals and templates. A text stands in a line as JSON, so that any character may be in it.
 
 use crate::error::CaseError;
-use mini_literals::{
-    concat_template_literal_raw, cook, decimal, equivalent_number,
-    escape_string_for_template_literal,
+use mini_text::{
+    BoxedText, Name, Text, TextList, concat_template_literal_raw, cook, decimal, equivalent_number,
+    escape_string_for_template_literal, is_identifier_name,
 };
-use mini_text::{BoxedText, Name, Text, TextList, is_identifier_name};
 use serde_json::Value;
 use std::alloc::Global;
 

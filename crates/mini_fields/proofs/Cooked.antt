@@ -9,7 +9,7 @@ use Rattle.std.proofs.lemmas.Str.{IsUtf8-past_char}
 use Rattle.mini_text.specs.Texts.{units_of}
 use Rattle.mini_text.proofs.Units.{units_of-cons, units_of-nil}
 use Rattle.mini_accept.specs.WellShaped.{is_text, is_text_of_cooked}
-use Rattle.mini_literals.specs.Templates.{Place, Step, Malformed, Gives, step, may_end, before, then_rest, cooked_from}
+use Rattle.mini_text.specs.Templates.{Place, Step, Malformed, Gives, step, may_end, before, then_rest, cooked_from}
 use Rattle.mini_fields.specs.Cooking.{next_place, units_left, Begins, is_rest, Follows}
 
 -- ---- the units of a text

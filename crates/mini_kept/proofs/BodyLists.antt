@@ -1,8 +1,8 @@
 -- Lists of bodies that are kept.
 use Rattle.std.specs.Prelude.{ℕ, zero, suc, ◌≡◌, ◌<◌, refl, List, [], ◌∷◌, ◌++◌, length, slice_index_or, Contains}
 use Rattle.std.proofs.Common.{◌∙◌, sym, subst, arith, inl, inr}
-use Rattle.mini_meaning.specs.Body.{SameBody}
-use Rattle.mini_meaning.specs.Bodies.{Body}
+use Rattle.mini_laws.specs.Body.{SameBody}
+use Rattle.mini_laws.specs.Bodies.{Body}
 use Rattle.mini_laws.proofs.Congruent.{body_reflexive, body_transitive}
 use Rattle.mini_kept.specs.AlikeBodies.{AlikeBody, IsOneOf, BodiesKept}
 

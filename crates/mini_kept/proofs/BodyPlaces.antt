@@ -12,7 +12,7 @@ use Rattle.mini_model.specs.declared.shape.Shape.TheVariants as shape
 use Rattle.mini_model.specs.Tree.{Trees, node}
 use Rattle.mini_model.specs.Position.{child_position, item_position, key_position}
 use Rattle.mini_accept.specs.WellShaped.{in_module, in_body, nested, Class, a_statement, a_class_member, a_method, an_expression, a_member_target, an_inner, an_inner_argument, a_key, a_private_or_key, an_inner_key, an_element_target, a_target_element, Slot, one, one_or_absent, many, many_or_holes, many_and_rest, many_or_holes_and_rest, quasis, Filling, refused, these, each, each_or_last, pieces, filling, filling_by, slots_of, fits}
-use Rattle.mini_meaning.specs.Bodies.{Around, constructs_below, below}
+use Rattle.mini_laws.specs.Bodies.{Around, constructs_below, below}
 use Rattle.mini_kept.proofs.Bools.{left, right}
 use Rattle.mini_kept.proofs.Expressions.{refused_here}
 use Rattle.mini_kept.specs.Standing.{takes_inner, is_asked_whole, are_asked_whole, stands_whole, Stands}

@@ -14,8 +14,8 @@ use Rattle.mini_model.specs.Weight.{weight}
 use Rattle.mini_model.specs.Terms.{is_boolean, turned_seat, unwrapped, neg, neg_each, not_of}
 use Rattle.mini_model.specs.Redex.{Row, Contracts}
 use Rattle.mini_accept.specs.WellShaped.{Class, a_statement, a_key, a_private_or_key, an_inner_key, a_method, an_expression, Slot, one, one_or_absent, these, is_whole, fits, fill}
-use Rattle.mini_meaning.specs.Body.{ArrowExpression}
-use Rattle.mini_meaning.specs.Bodies.{Around, Body, arrow_kind, bodies, bodies_from}
+use Rattle.mini_laws.specs.Body.{ArrowExpression}
+use Rattle.mini_laws.specs.Bodies.{Around, Body, arrow_kind, bodies, bodies_from}
 use Rattle.mini_laws.proofs.Rewritten.{rows_mean_same}
 use Rattle.mini_kept.proofs.Bools.{left, right}
 use Rattle.mini_kept.proofs.Expressions.{expression, AreExpressions, two, TakesExpression, refused_here, of_negation, neg_fits}

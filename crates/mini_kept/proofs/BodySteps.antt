@@ -11,14 +11,14 @@ use Rattle.mini_model.specs.Tree.{Tree, Trees, node, none, ◌▸◌, count, sha
 use Rattle.mini_model.specs.Position.{child_position, argument_seat}
 use Rattle.mini_model.specs.Rewriting.{Step, here, inside, StepIn, first, later, Reaches, done, more}
 use Rattle.mini_accept.specs.WellShaped.{Tagging, untagged, tagged, Slot, one, a_program, Filling, refused, these, each, each_or_last, pieces, filling, class_of, is_whole, is_strict_in, is_quasi_by, is_quasi, are_quasis, has_plain_fields, is_last, fits, fill, IsWellShaped}
-use Rattle.mini_meaning.specs.Value.{VariableSet, variables, choose}
-use Rattle.mini_meaning.specs.State.{Environment}
-use Rattle.mini_meaning.specs.Demand.{Val, As, Target}
-use Rattle.mini_meaning.specs.Naming.{facts, facts_all, nth_absent, summary, summary_of, summaries}
-use Rattle.mini_meaning.specs.Fixity as fixity
-use Rattle.mini_meaning.specs.Fits.{Fits}
-use Rattle.mini_meaning.specs.Body.{BodyKind, Program, FunctionStatements, InnerValue, InnerTarget, body_demand, SameBody}
-use Rattle.mini_meaning.specs.Bodies.{Around, outermost, asks_below, extends_below, constructs_below, is_assigned_below, below, arrow_kind, body_of, bodies, bodies_from, bodies_in}
+use Rattle.mini_laws.specs.Value.{VariableSet, variables, choose}
+use Rattle.mini_laws.specs.State.{Environment}
+use Rattle.mini_laws.specs.Demand.{Val, As, Target}
+use Rattle.mini_laws.specs.Naming.{facts, facts_all, nth_absent, summary, summary_of, summaries}
+use Rattle.mini_laws.specs.Fixity as fixity
+use Rattle.mini_laws.specs.Fits.{Fits}
+use Rattle.mini_laws.specs.Body.{BodyKind, Program, FunctionStatements, InnerValue, InnerTarget, body_demand, SameBody}
+use Rattle.mini_laws.specs.Bodies.{Around, outermost, asks_below, extends_below, constructs_below, is_assigned_below, below, arrow_kind, body_of, bodies, bodies_from, bodies_in}
 use Rattle.mini_laws.proofs.Rewritten.{any_body_same}
 use Rattle.mini_laws.proofs.Congruent.{body_reflexive}
 use Rattle.mini_kept.proofs.Bools.{left, right}

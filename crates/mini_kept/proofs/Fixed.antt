@@ -15,10 +15,10 @@ use Rattle.mini_model.specs.Weight.{weight}
 use Rattle.mini_model.specs.Terms.{is_boolean, turned_seat, unwrapped, neg, neg_each, not_of}
 use Rattle.mini_model.specs.Redex.{Row, Contracts}
 use Rattle.mini_model.specs.Rewriting.{Step, here, inside, StepIn, first, later, Reaches, done, more}
-use Rattle.mini_meaning.specs.Value.{Variable, variables, choose, is_in}
-use Rattle.mini_meaning.specs.State.{Fixed, Writable, Constant, KeepsOld}
-use Rattle.mini_meaning.specs.Naming.{summary, summary_of, summaries}
-use Rattle.mini_meaning.specs.Fixity.{fixity_by, declared_by, stricter, fixed_by, fixed_by_any, written_in}
+use Rattle.mini_laws.specs.Value.{Variable, variables, choose, is_in}
+use Rattle.mini_laws.specs.State.{Fixed, Writable, Constant, KeepsOld}
+use Rattle.mini_laws.specs.Naming.{summary, summary_of, summaries}
+use Rattle.mini_laws.specs.Fixity.{fixity_by, declared_by, stricter, fixed_by, fixed_by_any, written_in}
 use Rattle.mini_laws.proofs.Rewritten.{rows_mean_same}
 use Rattle.mini_kept.specs.Fixities.{KeepsFixities, ReachesKeepsFixities, RowsKeepFixities, ProgramKeepsFixities}
 

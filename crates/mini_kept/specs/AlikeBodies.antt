@@ -1,10 +1,10 @@
 -- When the bodies of a program are those of another: each stands for one that has its number, its kind and its code's mode,
 -- and that runs as it does.
 use Rattle.std.specs.Prelude.{◌≡◌, ◌⊎◌, List, [], ◌∷◌}
-use Rattle.mini_meaning.specs.Value.{VariableSet}
-use Rattle.mini_meaning.specs.State.{Environment}
-use Rattle.mini_meaning.specs.Body.{SameBody}
-use Rattle.mini_meaning.specs.Bodies.{Body}
+use Rattle.mini_laws.specs.Value.{VariableSet}
+use Rattle.mini_laws.specs.State.{Environment}
+use Rattle.mini_laws.specs.Body.{SameBody}
+use Rattle.mini_laws.specs.Bodies.{Body}
 
 -- of an earlier body and a later one
 pub record AlikeBody (b c : Body) : Type 0 where

@@ -6,7 +6,7 @@ use Rattle.mini_model.specs.Tree.{Tree}
 use Rattle.mini_model.specs.Redex.{Contracts}
 use Rattle.mini_model.specs.Rewriting.{Step, Reaches}
 use Rattle.mini_accept.specs.WellShaped.{Slot, fits, IsWellShaped}
-use Rattle.mini_meaning.specs.Bodies.{Around, Body, bodies, bodies_in}
+use Rattle.mini_laws.specs.Bodies.{Around, Body, bodies, bodies_in}
 use Rattle.mini_kept.specs.AlikeBodies.{AlikeBody, BodiesKept}
 use Rattle.mini_kept.specs.Placed.{fits_place}
 use Rattle.mini_kept.specs.Standing.{Stands}

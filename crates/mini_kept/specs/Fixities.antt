@@ -5,9 +5,9 @@ use Rattle.mini_model.specs.declared.place.Position.TheVariants.{Elsewhere}
 use Rattle.mini_model.specs.Tree.{Tree}
 use Rattle.mini_model.specs.Redex.{Contracts}
 use Rattle.mini_model.specs.Rewriting.{Reaches}
-use Rattle.mini_meaning.specs.Value.{Variable}
-use Rattle.mini_meaning.specs.Naming.{summary}
-use Rattle.mini_meaning.specs.Fixity.{fixed_by, fixed_in}
+use Rattle.mini_laws.specs.Value.{Variable}
+use Rattle.mini_laws.specs.Naming.{summary}
+use Rattle.mini_laws.specs.Fixity.{fixed_by, fixed_in}
 
 -- what a relation has to keep of the nodes that it replaces: what their declarations say, and what a parent reads of them
 pub record KeepsFixities (R : Position → Tree → Tree → Type 0) : Type 0 where

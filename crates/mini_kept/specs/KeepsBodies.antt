@@ -3,7 +3,7 @@ use Rattle.std.specs.Prelude.{◌≡◌, Bool, true, false}
 use Rattle.mini_model.specs.declared.place.Position.{Position}
 use Rattle.mini_model.specs.Tree.{Tree, shape_of}
 use Rattle.mini_accept.specs.WellShaped.{Slot, fits}
-use Rattle.mini_meaning.specs.Bodies.{Around, bodies, arrow_kind}
+use Rattle.mini_laws.specs.Bodies.{Around, bodies, arrow_kind}
 use Rattle.mini_laws.specs.Rewritten.{MeansSame}
 use Rattle.mini_kept.specs.Placed.{fits_place}
 use Rattle.mini_kept.specs.Lifted.{is_piece}

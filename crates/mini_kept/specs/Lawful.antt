@@ -7,9 +7,9 @@ use Rattle.mini_model.specs.Tree.{Tree, children}
 use Rattle.mini_model.specs.Redex.{Contracts}
 use Rattle.mini_model.specs.Rewriting.{Reaches}
 use Rattle.mini_accept.specs.WellShaped.{IsWellShaped}
-use Rattle.mini_meaning.specs.Value.{Variable}
-use Rattle.mini_meaning.specs.Fixity.{fixed_by, fixed_in}
-use Rattle.mini_meaning.specs.Bodies.{bodies_in}
+use Rattle.mini_laws.specs.Value.{Variable}
+use Rattle.mini_laws.specs.Fixity.{fixed_by, fixed_in}
+use Rattle.mini_laws.specs.Bodies.{bodies_in}
 use Rattle.mini_kept.specs.AlikeBodies.{BodiesKept}
 use Rattle.mini_kept.specs.Declaring.{declared}
 use Rattle.mini_kept.specs.Frames.{frames_in, FramesKept}

@@ -4,7 +4,7 @@ use Rattle.std.specs.Prelude.{◌≡◌, Bool, true, false, ◌&&◌, ◌||◌, 
 use Rattle.mini_model.specs.declared.place.Position.{Position}
 use Rattle.mini_model.specs.declared.place.Position.TheVariants.{Expr, Stmt, StatementList, ArgumentList, SequenceList, TemplateList}
 use Rattle.mini_accept.specs.WellShaped.{Class, a_method, an_inner, an_inner_argument, a_private_or_key, an_inner_key, an_element_target, a_target_element, Slot, one, one_or_absent, many, many_or_holes, many_and_rest, many_or_holes_and_rest, quasis}
-use Rattle.mini_meaning.specs.Bodies.{Around}
+use Rattle.mini_laws.specs.Bodies.{Around}
 
 -- an inner expression may fill it
 abbrev pub takes_inner : Class → Bool

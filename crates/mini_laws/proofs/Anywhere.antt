@@ -1,11 +1,11 @@
 -- What means the same in no tail means the same in each.
 use Rattle.std.proofs.Common.{◌≡◌, true, Option, Some, None, refl, sym, subst, subst₂, inl}
 use Rattle.mini_model.specs.Tree.{Trees, none, ◌▸◌, listed}
-use Rattle.mini_meaning.specs.Value.{VariableSet, Undefined}
-use Rattle.mini_meaning.specs.State.{State, Stop, Returned, Continued, ok}
-use Rattle.mini_meaning.specs.Demand.{Tail, LoopTail, FunctionTail, Stat}
-use Rattle.mini_meaning.specs.Step.{means}
-use Rattle.mini_meaning.specs.Same.{Goes, Agree, Same}
+use Rattle.mini_laws.specs.Value.{VariableSet, Undefined}
+use Rattle.mini_laws.specs.State.{State, Stop, Returned, Continued, ok}
+use Rattle.mini_laws.specs.Demand.{Tail, LoopTail, FunctionTail, Stat}
+use Rattle.mini_laws.specs.Step.{means}
+use Rattle.mini_laws.specs.Same.{Goes, Agree, Same}
 use Rattle.mini_laws.specs.Stretches.{tail_before, StretchAnywhere}
 use Rattle.mini_laws.specs.Tails.{ends_in, InEachTail}
 use Rattle.mini_laws.proofs.Simulation.{goes_either}

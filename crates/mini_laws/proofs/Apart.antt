@@ -4,18 +4,18 @@ use Rattle.mini_model.specs.declared.name.Name.{Name}
 use Rattle.mini_model.specs.declared.shape.Shape.{Shape}
 use Rattle.mini_model.specs.declared.shape.Shape.TheVariants as shape
 use Rattle.mini_model.specs.Tree.{Tree, Trees, node, none, ◌▸◌}
-use Rattle.mini_meaning.specs.Value.{Value, Undefined, variables}
-use Rattle.mini_meaning.specs.State.{Ends, done, ended, State, Continued, Returned, either, Environment, Carries, Anything, ABoolean, AnObject, NodeOf, PlaceOf, Label, Create}
-use Rattle.mini_meaning.specs.Demand.{Tail, LoopTail, FunctionTail, Demand, As, Callee, OfType, Deleted, Target, AnEntry, Stat, Binds, ClassValue, Prepare, Fetch, Put, Request, Reply}
-use Rattle.mini_meaning.specs.Command.{Naming, Gets, Command, ret, fails, stuck, op, kid, attempt, bind, Kids, act, run, then, emit_mine, self, bind_names}
-use Rattle.mini_meaning.specs.Naming.{kinds, no_facts, first_facts, summary, summary_of, summaries, facts, facts_all, naming}
-use Rattle.mini_meaning.specs.Asking.{demand}
-use Rattle.mini_meaning.specs.Replies.{statement, merged, valued}
-use Rattle.mini_meaning.specs.Targets.{carried, put_carried, called_with, carried_target, private_member, super_member, pattern_target}
-use Rattle.mini_meaning.specs.Declarations.{binding_pattern, pattern_takes, class_step, class_declaration}
-use Rattle.mini_meaning.specs.Step.{step, means, meaning}
-use Rattle.mini_meaning.specs.Body.{body_demand, body_request, start_of, ends_as, outcome_of_reply}
-use Rattle.mini_meaning.specs.Cut.{first_child, with_first, link, bare, bare_all, cut, cut_all}
+use Rattle.mini_laws.specs.Value.{Value, Undefined, variables}
+use Rattle.mini_laws.specs.State.{Ends, done, ended, State, Continued, Returned, either, Environment, Carries, Anything, ABoolean, AnObject, NodeOf, PlaceOf, Label, Create}
+use Rattle.mini_laws.specs.Demand.{Tail, LoopTail, FunctionTail, Demand, As, Callee, OfType, Deleted, Target, AnEntry, Stat, Binds, ClassValue, Prepare, Fetch, Put, Request, Reply}
+use Rattle.mini_laws.specs.Command.{Naming, Gets, Command, ret, fails, stuck, op, kid, attempt, bind, Kids, act, run, then, emit_mine, self, bind_names}
+use Rattle.mini_laws.specs.Naming.{kinds, no_facts, first_facts, summary, summary_of, summaries, facts, facts_all, naming}
+use Rattle.mini_laws.specs.Asking.{demand}
+use Rattle.mini_laws.specs.Replies.{statement, merged, valued}
+use Rattle.mini_laws.specs.Targets.{carried, put_carried, called_with, carried_target, private_member, super_member, pattern_target}
+use Rattle.mini_laws.specs.Declarations.{binding_pattern, pattern_takes, class_step, class_declaration}
+use Rattle.mini_laws.specs.Step.{step, means, meaning}
+use Rattle.mini_laws.specs.Body.{body_demand, body_request, start_of, ends_as, outcome_of_reply}
+use Rattle.mini_laws.specs.Cut.{first_child, with_first, link, bare, bare_all, cut, cut_all}
 use Rattle.mini_laws.specs.Apart as law
 use Rattle.mini_laws.proofs.Runs.{either_cong}
 

@@ -2,16 +2,16 @@
 use Rattle.std.proofs.Common.{◌≡◌, ℕ, zero, suc, Bool, true, false, List, [], ◌∷◌, ◌++◌, Some, None, refl, sym, ap, ◌∙◌, inl}
 use Rattle.mini_model.specs.declared.shape.Shape.TheVariants as shape
 use Rattle.mini_model.specs.Tree.{Tree, Trees, none, ◌▸◌, listed}
-use Rattle.mini_meaning.specs.Value.{choose}
-use Rattle.mini_meaning.specs.State.{State, Stop, Broken, Continued, Completion, ok, stop, Ends, done, ended, either, Environment}
-use Rattle.mini_meaning.specs.Demand.{LoopTail, Demand, Stat, LabelSet}
-use Rattle.mini_meaning.specs.Command.{Naming, turn, fuel, Command, ret, fails, op, kid, then, attempt, bind, repeat, loop, Kids, act, run}
-use Rattle.mini_meaning.specs.Naming.{Summary, summary, summaries, facts, facts_all, function_facts, functions_all, lets_all, texts_all, naming}
-use Rattle.mini_meaning.specs.Asking.{do_demand}
-use Rattle.mini_meaning.specs.Replies.{merged}
-use Rattle.mini_meaning.specs.Statements.{create_functions, block_step}
-use Rattle.mini_meaning.specs.Loops.{has_label, after_body, do_step}
-use Rattle.mini_meaning.specs.Step.{step, means, meaning}
+use Rattle.mini_laws.specs.Value.{choose}
+use Rattle.mini_laws.specs.State.{State, Stop, Broken, Continued, Completion, ok, stop, Ends, done, ended, either, Environment}
+use Rattle.mini_laws.specs.Demand.{LoopTail, Demand, Stat, LabelSet}
+use Rattle.mini_laws.specs.Command.{Naming, turn, fuel, Command, ret, fails, op, kid, then, attempt, bind, repeat, loop, Kids, act, run}
+use Rattle.mini_laws.specs.Naming.{Summary, summary, summaries, facts, facts_all, function_facts, functions_all, lets_all, texts_all, naming}
+use Rattle.mini_laws.specs.Asking.{do_demand}
+use Rattle.mini_laws.specs.Replies.{merged}
+use Rattle.mini_laws.specs.Statements.{create_functions, block_step}
+use Rattle.mini_laws.specs.Loops.{has_label, after_body, do_step}
+use Rattle.mini_laws.specs.Step.{step, means, meaning}
 use Rattle.mini_laws.specs.Stretches.{append}
 use Rattle.mini_laws.specs.Tails as law
 use Rattle.mini_laws.specs.Tails.{ends_in, breaks, block, do_while, GivesFalse}

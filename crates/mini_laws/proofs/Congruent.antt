@@ -2,15 +2,15 @@
 use Rattle.std.proofs.Common.{◌≡◌, ℕ, suc, Bool, true, false, List, [], ◌∷◌, Option, Some, None, refl, sym, ap, ◌∙◌, inl, inr, true≢false}
 use Rattle.std.specs.Prelude.{◌⊎◌, reverse}
 use Rattle.mini_model.specs.Tree.{Tree, Trees, node, none, ◌▸◌, count}
-use Rattle.mini_meaning.specs.Value.{Variable, VariableSet, variables, nothing}
-use Rattle.mini_meaning.specs.State.{State, Completion, ok, stop, halt, out, Environment, seen}
-use Rattle.mini_meaning.specs.Demand.{Demand, Request}
-use Rattle.mini_meaning.specs.Naming.{summary, summaries, facts}
-use Rattle.mini_meaning.specs.Asking.{demand}
-use Rattle.mini_meaning.specs.Step.{means}
-use Rattle.mini_meaning.specs.Body.{Outcome, body_demand, body_request, outcome_of_reply, outcome_of_stop, outcome_of_halt, ran, ends_as, start_of}
-use Rattle.mini_meaning.specs.Same.{Goes, Initialised, Agree, Same}
-use Rattle.mini_meaning.specs.Skeleton.{Within, Off, hidden, hidden_all, needs, Rules, Both, TreesGo}
+use Rattle.mini_laws.specs.Value.{Variable, VariableSet, variables, nothing}
+use Rattle.mini_laws.specs.State.{State, Completion, ok, stop, halt, out, Environment, seen}
+use Rattle.mini_laws.specs.Demand.{Demand, Request}
+use Rattle.mini_laws.specs.Naming.{summary, summaries, facts}
+use Rattle.mini_laws.specs.Asking.{demand}
+use Rattle.mini_laws.specs.Step.{means}
+use Rattle.mini_laws.specs.Body.{Outcome, body_demand, body_request, outcome_of_reply, outcome_of_stop, outcome_of_halt, ran, ends_as, start_of}
+use Rattle.mini_laws.specs.Same.{Goes, Initialised, Agree, Same}
+use Rattle.mini_laws.specs.Skeleton.{Within, Off, hidden, hidden_all, needs, Rules, Both, TreesGo}
 use Rattle.mini_laws.specs.Path.{Path, join, plug}
 use Rattle.mini_laws.specs.Congruence as law
 use Rattle.mini_laws.specs.Congruence.{NoneIn, dead_rules, Avoids, AllAvoid, PathAvoids, demand_at, known_at, ReadAlike, Apart}

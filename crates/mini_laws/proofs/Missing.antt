@@ -3,12 +3,12 @@ use Rattle.std.proofs.Common.{◌≡◌, ℕ, ◌+◌, ◌*◌, true, false, Lis
 use Rattle.std.proofs.lemmas.Bool.{eq-eqb}
 use Rattle.std.specs.Prelude.{◌⊎◌, codes, pos}
 use Rattle.std.specs.Fmt.{digits}
-use Rattle.mini_meaning.specs.Value.{Value, Undefined, Null, Boolean, Number, String, Object, Variable, Declared, Global, Slot, Holds, Missing, Uninitialised, choose, variable_eq}
-use Rattle.mini_meaning.specs.State.{Label, GetOf, SetOf, CallOf, DirectEval, Coerce, Create, FreshOf, IteratorOf, NextOf, CloseOf, PlaceOf, BindOf, RaiseTypeError, Entry, Item, Converted, Event, Normal, Answer, either}
-use Rattle.mini_meaning.specs.Command.{act, at_variable, read_slot, read_any, write_slot, take_turn, answered, answered_binds, heard, this_of}
-use Rattle.mini_meaning.specs.Step.{step, means, meaning}
-use Rattle.mini_meaning.specs.Body.{Outcome, NormalEnd, ReturnOf, ThrowOf, NoTurnsEnd, NoAnswersEnd, Ran}
-use Rattle.mini_meaning.specs.Samples.{gives, throws, start}
+use Rattle.mini_laws.specs.Value.{Value, Undefined, Null, Boolean, Number, String, Object, Variable, Declared, Global, Slot, Holds, Missing, Uninitialised, choose, variable_eq}
+use Rattle.mini_laws.specs.State.{Label, GetOf, SetOf, CallOf, DirectEval, Coerce, Create, FreshOf, IteratorOf, NextOf, CloseOf, PlaceOf, BindOf, RaiseTypeError, Entry, Item, Converted, Event, Normal, Answer, either}
+use Rattle.mini_laws.specs.Command.{act, at_variable, read_slot, read_any, write_slot, take_turn, answered, answered_binds, heard, this_of}
+use Rattle.mini_laws.specs.Step.{step, means, meaning}
+use Rattle.mini_laws.specs.Body.{Outcome, NormalEnd, ReturnOf, ThrowOf, NoTurnsEnd, NoAnswersEnd, Ran}
+use Rattle.mini_laws.specs.Samples.{gives, throws, start}
 use Rattle.mini_laws.specs.NearMisses as law
 use Rattle.mini_laws.proofs.Congruent.{no_init}
 

@@ -4,14 +4,14 @@ use Rattle.std.specs.Prelude.{ℤ, codes, if◌then◌else◌}
 use Rattle.mini_model.specs.declared.shape.Shape.TheVariants as shape
 use Rattle.mini_model.specs.Tree.{Tree}
 use Rattle.mini_model.specs.Weight.{same_text}
-use Rattle.mini_meaning.specs.Value.{Value, Number, Variable, Declared, Slot, Holds}
-use Rattle.mini_meaning.specs.State.{State, Completion, ok, stop, halt, out, either, Environment}
-use Rattle.mini_meaning.specs.Demand.{Val, As, Stat}
-use Rattle.mini_meaning.specs.Command.{act, run, read_slot, at_variable}
-use Rattle.mini_meaning.specs.Naming.{EvalName, PlainName, naming}
-use Rattle.mini_meaning.specs.Replies.{valued}
-use Rattle.mini_meaning.specs.Expressions.{get_identifier}
-use Rattle.mini_meaning.specs.Step.{step, means}
+use Rattle.mini_laws.specs.Value.{Value, Number, Variable, Declared, Slot, Holds}
+use Rattle.mini_laws.specs.State.{State, Completion, ok, stop, halt, out, either, Environment}
+use Rattle.mini_laws.specs.Demand.{Val, As, Stat}
+use Rattle.mini_laws.specs.Command.{act, run, read_slot, at_variable}
+use Rattle.mini_laws.specs.Naming.{EvalName, PlainName, naming}
+use Rattle.mini_laws.specs.Replies.{valued}
+use Rattle.mini_laws.specs.Expressions.{get_identifier}
+use Rattle.mini_laws.specs.Step.{step, means}
 use Rattle.mini_laws.specs.Moves as law
 use Rattle.mini_laws.specs.Moves.{Passes}
 use Rattle.mini_laws.specs.Steady.{KeepsSlot}

@@ -11,16 +11,16 @@ use Rattle.mini_model.specs.Tree.{Tree, Trees, node, none, ◌▸◌, negation}
 use Rattle.mini_model.specs.declared.place.Position.TheVariants.{Expr}
 use Rattle.mini_model.specs.Position.{operand_seat}
 use Rattle.mini_model.specs.Terms.{is_boolean, unwrapped, neg, neg_each}
-use Rattle.mini_meaning.specs.Value.{Value, Boolean, variables}
-use Rattle.mini_meaning.specs.State.{Item, State, Completion, ok, stop, out, either, Environment}
-use Rattle.mini_meaning.specs.Demand.{Want, Val, Test, Unused, Tail, Demand, As, Callee, OfType, AnEntry, Stat, AValue, Request, Reply, Says, says, plain_call, Deleted}
-use Rattle.mini_meaning.specs.Command.{Naming, Command, bind, Kids, run}
-use Rattle.mini_meaning.specs.Naming.{summaries, naming}
-use Rattle.mini_meaning.specs.Asking.{and_or_demand, logical_demand, first_demand}
-use Rattle.mini_meaning.specs.Replies.{passed}
-use Rattle.mini_meaning.specs.Expressions.{and_step, or_step, logical_step, conditional_step}
-use Rattle.mini_meaning.specs.Step.{step, means, meaning}
-use Rattle.mini_meaning.specs.Fits.{Fits}
+use Rattle.mini_laws.specs.Value.{Value, Boolean, variables}
+use Rattle.mini_laws.specs.State.{Item, State, Completion, ok, stop, out, either, Environment}
+use Rattle.mini_laws.specs.Demand.{Want, Val, Test, Unused, Tail, Demand, As, Callee, OfType, AnEntry, Stat, AValue, Request, Reply, Says, says, plain_call, Deleted}
+use Rattle.mini_laws.specs.Command.{Naming, Command, bind, Kids, run}
+use Rattle.mini_laws.specs.Naming.{summaries, naming}
+use Rattle.mini_laws.specs.Asking.{and_or_demand, logical_demand, first_demand}
+use Rattle.mini_laws.specs.Replies.{passed}
+use Rattle.mini_laws.specs.Expressions.{and_step, or_step, logical_step, conditional_step}
+use Rattle.mini_laws.specs.Step.{step, means, meaning}
+use Rattle.mini_laws.specs.Fits.{Fits}
 use Rattle.mini_laws.specs.Truth.{told}
 use Rattle.mini_laws.proofs.Runs.{either_cong, either_eta, either_out, runs, each_bool, run_bind}
 use Rattle.mini_laws.proofs.Truth.{coherent}

@@ -12,14 +12,14 @@ use Rattle.mini_model.specs.Position.{child_position}
 use Rattle.mini_model.specs.Terms.{is_boolean, unwrapped, neg}
 use Rattle.mini_model.specs.Redex.{Row, Contracts}
 use Rattle.mini_model.specs.Rewriting.{Step, StepIn, here, inside, first, later, Reaches, done, more}
-use Rattle.mini_meaning.specs.Value.{VariableSet, variables, nothing}
-use Rattle.mini_meaning.specs.State.{Environment}
-use Rattle.mini_meaning.specs.Demand.{Demand}
-use Rattle.mini_meaning.specs.Naming.{summary, summaries, facts}
-use Rattle.mini_meaning.specs.Asking.{demand}
-use Rattle.mini_meaning.specs.Fits.{Fits}
-use Rattle.mini_meaning.specs.Skeleton.{hidden_all, needs, TreesGo}
-use Rattle.mini_meaning.specs.Body.{BodyKind, body_demand, frame_of}
+use Rattle.mini_laws.specs.Value.{VariableSet, variables, nothing}
+use Rattle.mini_laws.specs.State.{Environment}
+use Rattle.mini_laws.specs.Demand.{Demand}
+use Rattle.mini_laws.specs.Naming.{summary, summaries, facts}
+use Rattle.mini_laws.specs.Asking.{demand}
+use Rattle.mini_laws.specs.Fits.{Fits}
+use Rattle.mini_laws.specs.Skeleton.{hidden_all, needs, TreesGo}
+use Rattle.mini_laws.specs.Body.{BodyKind, body_demand, frame_of}
 use Rattle.mini_laws.specs.Rewritten as law
 use Rattle.mini_laws.specs.Congruence.{Apart, Avoids, AllAvoid, ReadAlike, dead_rules}
 use Rattle.mini_laws.specs.Rewritten.{KeepsMeaning, MeansSame}

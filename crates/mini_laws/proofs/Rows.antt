@@ -11,12 +11,12 @@ use Rattle.mini_model.specs.Position.{left_operand_seat, statement_expression_se
 use Rattle.mini_model.specs.Weight.{weight}
 use Rattle.mini_model.specs.Terms.{neg, not_of}
 use Rattle.mini_model.specs.Redex.{Row23, Row40, Row82Else, Row82And, Row82Or, Row}
-use Rattle.mini_meaning.specs.Value.{VariableSet}
-use Rattle.mini_meaning.specs.State.{State, Completion, ok, stop, halt, out, Environment}
-use Rattle.mini_meaning.specs.Demand.{Test, Tail, Demand, As, Callee, OfType, AnEntry, Stat, LabelSet, Request, Deleted}
-use Rattle.mini_meaning.specs.Step.{step, means, meaning}
-use Rattle.mini_meaning.specs.Fits.{Fits}
-use Rattle.mini_meaning.specs.Same.{Goes, Agree, Same}
+use Rattle.mini_laws.specs.Value.{VariableSet}
+use Rattle.mini_laws.specs.State.{State, Completion, ok, stop, halt, out, Environment}
+use Rattle.mini_laws.specs.Demand.{Test, Tail, Demand, As, Callee, OfType, AnEntry, Stat, LabelSet, Request, Deleted}
+use Rattle.mini_laws.specs.Step.{step, means, meaning}
+use Rattle.mini_laws.specs.Fits.{Fits}
+use Rattle.mini_laws.specs.Same.{Goes, Agree, Same}
 use Rattle.mini_laws.specs.Rows.{SameAt}
 use Rattle.mini_laws.proofs.Runs.{either_cong, runs, tails, each_bool}
 use Rattle.mini_laws.proofs.Negation.{negation_same}

@@ -1,13 +1,13 @@
 -- A body doesn't depend on the bodies that are nested in it, but by their numbers.
 use Rattle.std.specs.Prelude.{◌≡◌}
 use Rattle.mini_model.specs.Tree.{Tree}
-use Rattle.mini_meaning.specs.Value.{VariableSet}
-use Rattle.mini_meaning.specs.State.{State, Environment}
-use Rattle.mini_meaning.specs.Demand.{Demand, Request}
-use Rattle.mini_meaning.specs.Naming.{summary}
-use Rattle.mini_meaning.specs.Step.{means}
-use Rattle.mini_meaning.specs.Body.{BodyKind, SameBody}
-use Rattle.mini_meaning.specs.Cut.{cut}
+use Rattle.mini_laws.specs.Value.{VariableSet}
+use Rattle.mini_laws.specs.State.{State, Environment}
+use Rattle.mini_laws.specs.Demand.{Demand, Request}
+use Rattle.mini_laws.specs.Naming.{summary}
+use Rattle.mini_laws.specs.Step.{means}
+use Rattle.mini_laws.specs.Body.{BodyKind, SameBody}
+use Rattle.mini_laws.specs.Cut.{cut}
 
 -- a tree does what it does without them, and is read by its parent alike
 abbrev pub CutMeans : Type 0

@@ -1,10 +1,10 @@
 -- An expression that moves past another: one that has the same value before that is evaluated and after.
 use Rattle.std.specs.Prelude.{◌≡◌, ℕ, List, ℤ, false}
 use Rattle.mini_model.specs.Tree.{Tree}
-use Rattle.mini_meaning.specs.Value.{Value, Declared, Holds}
-use Rattle.mini_meaning.specs.State.{State, Completion, ok, stop, either, Environment}
-use Rattle.mini_meaning.specs.Demand.{Val, As}
-use Rattle.mini_meaning.specs.Step.{means}
+use Rattle.mini_laws.specs.Value.{Value, Declared, Holds}
+use Rattle.mini_laws.specs.State.{State, Completion, ok, stop, either, Environment}
+use Rattle.mini_laws.specs.Demand.{Val, As}
+use Rattle.mini_laws.specs.Step.{means}
 use Rattle.mini_laws.specs.Steady.{Spares}
 use Rattle.mini_laws.specs.Substitution.{use_of, number}
 

@@ -10,9 +10,9 @@ use Rattle.mini_model.specs.declared.operator.UnaryOperator.TheVariants as unary
 use Rattle.mini_model.specs.declared.operator.UpdateOperator.TheVariants.{Increment}
 use Rattle.mini_model.specs.declared.shape.Shape.TheVariants as shape
 use Rattle.mini_model.specs.Tree.{Tree, Trees, none, ◌▸◌, leaf, absent, listed, logical}
-use Rattle.mini_meaning.specs.Value.{nothing}
-use Rattle.mini_meaning.specs.Body.{BodyKind, Program, FunctionStatements, ArrowExpression, SameBody}
-use Rattle.mini_meaning.specs.Samples.{one, two, three, numbered, global, local, bound, label, number, text, null, binary, assign, update, called, member, sequence, block, script, function_body, function, does, declaration, returns, for_loop, environment}
+use Rattle.mini_laws.specs.Value.{nothing}
+use Rattle.mini_laws.specs.Body.{BodyKind, Program, FunctionStatements, ArrowExpression, SameBody}
+use Rattle.mini_laws.specs.Samples.{one, two, three, numbered, global, local, bound, label, number, text, null, binary, assign, update, called, member, sequence, block, script, function_body, function, does, declaration, returns, for_loop, environment}
 
 abbrev pub Unlike : BodyKind → Tree → Tree → Type 0
 Unlike k n w = SameBody environment k nothing n w → ⊥

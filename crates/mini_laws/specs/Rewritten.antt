@@ -6,13 +6,13 @@ use Rattle.mini_model.specs.declared.place.Position.{Position}
 use Rattle.mini_model.specs.declared.place.Position.TheVariants.{Elsewhere}
 use Rattle.mini_model.specs.Redex.{Contracts}
 use Rattle.mini_model.specs.Rewriting.{Step, Reaches}
-use Rattle.mini_meaning.specs.Value.{VariableSet, nothing}
-use Rattle.mini_meaning.specs.State.{Environment}
-use Rattle.mini_meaning.specs.Demand.{Demand}
-use Rattle.mini_meaning.specs.Naming.{summary}
-use Rattle.mini_meaning.specs.Fits.{Fits}
-use Rattle.mini_meaning.specs.Same.{Same}
-use Rattle.mini_meaning.specs.Body.{BodyKind, body_demand, SameBody, frame_of}
+use Rattle.mini_laws.specs.Value.{VariableSet, nothing}
+use Rattle.mini_laws.specs.State.{Environment}
+use Rattle.mini_laws.specs.Demand.{Demand}
+use Rattle.mini_laws.specs.Naming.{summary}
+use Rattle.mini_laws.specs.Fits.{Fits}
+use Rattle.mini_laws.specs.Same.{Same}
+use Rattle.mini_laws.specs.Body.{BodyKind, body_demand, SameBody, frame_of}
 use Rattle.mini_laws.specs.Congruence.{Apart, Avoids, ReadAlike}
 use Rattle.mini_laws.specs.Rows.{SameAt}
 

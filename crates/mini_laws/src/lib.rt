@@ -1,4 +1,5 @@
-//! Laws of the definitions: of the weight, of what a tree means, and of paths in it. Each function's contract is a law,
+//! What a tree means: a run of it over states, events and answers (`specs/`), and laws of the definitions: of the weight, of what
+//! a tree means, and of paths in it. Each function's contract is a law,
 //! and its body is empty.
 #![tactic(auto)]
 

@@ -9,9 +9,9 @@ use Rattle.mini_model.specs.Weight.{program_weight}
 use Rattle.mini_names.specs.Resolved.{resolved_program}
 use Rattle.mini_names.specs.Symbols.{declared_symbols}
 use Rattle.mini_scope.specs.Pointers.{early_fault}
-use Rattle.mini_meaning.specs.Value.{VariableSet}
-use Rattle.mini_meaning.specs.Body.{environment_in}
-use Rattle.mini_meaning.specs.Bodies.{Body, bodies_in}
+use Rattle.mini_laws.specs.Value.{VariableSet}
+use Rattle.mini_laws.specs.Body.{environment_in}
+use Rattle.mini_laws.specs.Bodies.{Body, bodies_in}
 use Rattle.mini_tree.specs.declared.options.CompressOptions.{CompressOptions}
 use Rattle.mini_accept.specs.Accept.{Accepts}
 use Rattle.mini_kept.specs.AlikeBodies.{AlikeBody}

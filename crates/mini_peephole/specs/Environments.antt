@@ -6,10 +6,10 @@ use Rattle.mini_model.specs.Tree.{Tree, unresolved}
 use Rattle.mini_names.specs.Mentions.{is_among}
 use Rattle.mini_names.specs.Shared.{is_shared}
 use Rattle.mini_names.specs.Foreign.{is_declared_in, is_foreign, lexical_variables}
-use Rattle.mini_meaning.specs.Value.{Variable, Declared, Global, VariableSet}
-use Rattle.mini_meaning.specs.State.{Environment}
-use Rattle.mini_meaning.specs.Body.{environment_in}
-use Rattle.mini_meaning.specs.Bodies.{Body}
+use Rattle.mini_laws.specs.Value.{Variable, Declared, Global, VariableSet}
+use Rattle.mini_laws.specs.State.{Environment}
+use Rattle.mini_laws.specs.Body.{environment_in}
+use Rattle.mini_laws.specs.Bodies.{Body}
 
 -- a name of this variable: a declared one is told by its symbol
 abbrev pub name_of : Variable → Name

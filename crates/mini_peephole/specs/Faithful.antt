@@ -13,11 +13,11 @@ use Rattle.mini_model.specs.Weight.{program_weight}
 use Rattle.mini_names.specs.Resolved.{resolved_program}
 use Rattle.mini_names.specs.Symbols.{declared_symbols}
 use Rattle.mini_names.specs.Early.{early_names, early_jumps, no_targets}
-use Rattle.mini_meaning.specs.Value.{Value, Variable, VariableSet, Slot}
-use Rattle.mini_meaning.specs.State.{Answer, Environment}
-use Rattle.mini_meaning.specs.Same.{Initialised}
-use Rattle.mini_meaning.specs.Body.{BodyKind, Run, start_of}
-use Rattle.mini_meaning.specs.Bodies.{Body, bodies_in}
+use Rattle.mini_laws.specs.Value.{Value, Variable, VariableSet, Slot}
+use Rattle.mini_laws.specs.State.{Answer, Environment}
+use Rattle.mini_laws.specs.Same.{Initialised}
+use Rattle.mini_laws.specs.Body.{BodyKind, Run, start_of}
+use Rattle.mini_laws.specs.Bodies.{Body, bodies_in}
 use Rattle.mini_tree.specs.declared.options.CompressOptions.{CompressOptions}
 use Rattle.mini_accept.specs.Accept.{Accepts}
 use Rattle.mini_kept.specs.Carried.{numbers, carried}

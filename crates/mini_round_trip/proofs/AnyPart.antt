@@ -12,7 +12,7 @@ use Rattle.mini_accept.specs.WellShaped.{Class, Slot, these, each, filling_by, i
 use Rattle.mini_accept.specs.declared.kind.Kind.TheVariants as kind
 use Rattle.mini_accept.specs.Fields.{is_there, has_type}
 use Rattle.mini_accept.specs.Literals.{is_string_literal}
-use Rattle.mini_literals.specs.Numerals.{max_safe_integer}
+use Rattle.mini_text.specs.Numerals.{max_safe_integer}
 use Rattle.mini_accept.specs.Standing.{stands_as}
 use Rattle.mini_accept.specs.Expressions.{identifier_as, word_plan}
 use Rattle.mini_accept.proofs.Types.{text_same, text_is}

@@ -5,11 +5,11 @@ use Rattle.std.proofs.lemmas.List.Elements.{Contains-append_left, Contains-appen
 use Rattle.mini_model.specs.declared.kind.PropertyKind.{PropertyKind}
 use Rattle.mini_model.specs.declared.name.Name.{Name}
 use Rattle.mini_model.specs.Tree.{Tree, Trees, node, none, ◌▸◌}
-use Rattle.mini_meaning.specs.Value.{Variable, choose, is_in}
-use Rattle.mini_meaning.specs.State.{Fixed, Writable, Constant, KeepsOld}
-use Rattle.mini_meaning.specs.Naming.{summaries}
-use Rattle.mini_meaning.specs.Fixity.{fixity_by, declared_by as declares_by, stricter, fixed_by, fixed_by_any}
-use Rattle.mini_meaning.specs.Bodies.{Around, Body, below, body_of, bodies, bodies_from}
+use Rattle.mini_laws.specs.Value.{Variable, choose, is_in}
+use Rattle.mini_laws.specs.State.{Fixed, Writable, Constant, KeepsOld}
+use Rattle.mini_laws.specs.Naming.{summaries}
+use Rattle.mini_laws.specs.Fixity.{fixity_by, declared_by as declares_by, stricter, fixed_by, fixed_by_any}
+use Rattle.mini_laws.specs.Bodies.{Around, Body, below, body_of, bodies, bodies_from}
 use Rattle.mini_kept.specs.AlikeBodies.{BodiesKept}
 use Rattle.mini_kept.specs.Declaring.{declared_by, declared, declared_all}
 use Rattle.mini_kept.specs.Frames.{Frame, frame_of, outline, globals, property_below, frames, frames_from, FramesKept}

@@ -18,9 +18,9 @@ use Rattle.mini_names.specs.DeclaredNames.{has_inner, names_of, body_names}
 use Rattle.mini_names.specs.Scoped.{Scoped}
 use Rattle.mini_names.specs.Symbols.{declared as declared_in, times}
 use Rattle.mini_names.specs.Early.{early_names, early_jumps, is_loop}
-use Rattle.mini_meaning.specs.Value.{Variable}
-use Rattle.mini_meaning.specs.Fixity.{fixed_by}
-use Rattle.mini_meaning.specs.Bodies.{Around, bodies}
+use Rattle.mini_laws.specs.Value.{Variable}
+use Rattle.mini_laws.specs.Fixity.{fixed_by}
+use Rattle.mini_laws.specs.Bodies.{Around, bodies}
 use Rattle.mini_kept.specs.AlikeBodies.{BodiesKept}
 use Rattle.mini_kept.specs.Carried.{numbers}
 use Rattle.mini_kept.specs.Declaring.{declared as declared_names}

@@ -18,8 +18,8 @@ use Rattle.mini_names.specs.DeclaredNames.{names_of, body_names}
 use Rattle.mini_names.specs.Scoped.{Scoped}
 use Rattle.mini_names.specs.Symbols.{declared as declared_in, times}
 use Rattle.mini_names.specs.Early.{is_loop}
-use Rattle.mini_meaning.specs.Body.{ArrowExpression}
-use Rattle.mini_meaning.specs.Bodies.{Around, bodies, bodies_from, arrow_kind}
+use Rattle.mini_laws.specs.Body.{ArrowExpression}
+use Rattle.mini_laws.specs.Bodies.{Around, bodies, bodies_from, arrow_kind}
 use Rattle.mini_kept.specs.AlikeBodies.{BodiesKept}
 use Rattle.mini_kept.specs.Frames.{is_declaration, is_port, ports as ports_of}
 use Rattle.mini_kept.specs.KeepsNames.{is_rewritten_place, Keeps}

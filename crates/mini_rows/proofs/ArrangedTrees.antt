@@ -11,9 +11,9 @@ use Rattle.mini_names.specs.Resolved.{Environment}
 use Rattle.mini_names.specs.Scoped.{Scoped}
 use Rattle.mini_names.specs.Symbols.{declared as declared_in, times}
 use Rattle.mini_names.specs.Early.{Path, early_names, early_jumps}
-use Rattle.mini_meaning.specs.Value.{Variable}
-use Rattle.mini_meaning.specs.Fixity.{fixed_by}
-use Rattle.mini_meaning.specs.Bodies.{Around, bodies}
+use Rattle.mini_laws.specs.Value.{Variable}
+use Rattle.mini_laws.specs.Fixity.{fixed_by}
+use Rattle.mini_laws.specs.Bodies.{Around, bodies}
 use Rattle.mini_kept.specs.AlikeBodies.{BodiesKept}
 use Rattle.mini_kept.specs.Carried.{numbers}
 use Rattle.mini_kept.specs.Declaring.{declared}

@@ -20,12 +20,12 @@ use Rattle.mini_names.specs.Scoped.{Scoped}
 use Rattle.mini_names.specs.Edits.{Kept}
 use Rattle.mini_names.specs.Early.{Path, own_declarations, declarations, is_function_shape, holds_statements, scope_declarations, clashing, early_names, targets_of, early_jumps, is_loop_shape, is_labeled, is_loop, last_is_loop}
 use Rattle.mini_names.proofs.Changes.{as_it_is, below}
-use Rattle.mini_meaning.specs.Body.{ArrowExpression}
-use Rattle.mini_meaning.specs.Value.{Variable, choose, is_in}
-use Rattle.mini_meaning.specs.State.{Writable}
-use Rattle.mini_meaning.specs.Naming.{summary}
-use Rattle.mini_meaning.specs.Fixity.{stricter, fixed_by}
-use Rattle.mini_meaning.specs.Bodies.{Around, bodies, arrow_kind}
+use Rattle.mini_laws.specs.Body.{ArrowExpression}
+use Rattle.mini_laws.specs.Value.{Variable, choose, is_in}
+use Rattle.mini_laws.specs.State.{Writable}
+use Rattle.mini_laws.specs.Naming.{summary}
+use Rattle.mini_laws.specs.Fixity.{stricter, fixed_by}
+use Rattle.mini_laws.specs.Bodies.{Around, bodies, arrow_kind}
 use Rattle.mini_kept.specs.AlikeBodies.{BodiesKept}
 use Rattle.mini_kept.specs.Carried.{numbers}
 use Rattle.mini_kept.specs.Declaring.{declared as declared_names}

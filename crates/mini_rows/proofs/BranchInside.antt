@@ -20,11 +20,11 @@ use Rattle.mini_names.specs.Scoped.{NamesScoped, Scoped, AllScoped}
 use Rattle.mini_names.specs.Symbols.{symbols_in, declared as declared_in, declared_from, times}
 use Rattle.mini_names.specs.Edits.{Kept}
 use Rattle.mini_names.specs.Early.{Path, scope_declarations, clashing, early_names, targets_of, early_jumps, body_declarations, in_body, own_declarations, holds_statements, clashes_any}
-use Rattle.mini_meaning.specs.Value.{Variable, choose, is_in}
-use Rattle.mini_meaning.specs.Naming.{summary}
-use Rattle.mini_meaning.specs.State.{Fixed, Writable, Constant, KeepsOld}
-use Rattle.mini_meaning.specs.Fixity.{stricter, fixed_by}
-use Rattle.mini_meaning.specs.Bodies.{Around, bodies}
+use Rattle.mini_laws.specs.Value.{Variable, choose, is_in}
+use Rattle.mini_laws.specs.Naming.{summary}
+use Rattle.mini_laws.specs.State.{Fixed, Writable, Constant, KeepsOld}
+use Rattle.mini_laws.specs.Fixity.{stricter, fixed_by}
+use Rattle.mini_laws.specs.Bodies.{Around, bodies}
 use Rattle.mini_kept.specs.AlikeBodies.{BodiesKept}
 use Rattle.mini_kept.specs.Carried.{numbers}
 use Rattle.mini_kept.specs.Declaring.{declared as declared_names}

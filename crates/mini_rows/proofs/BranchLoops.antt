@@ -2,16 +2,16 @@
 use Rattle.std.proofs.Common.{◌≡◌, ℕ, zero, suc, Bool, true, false, [], ◌∷◌, Option, Some, None, refl, sym, ap, ◌∙◌}
 use Rattle.mini_model.specs.declared.kind.VariableDeclarationKind.TheVariants.{Var, Let, Const}
 use Rattle.mini_model.specs.Tree.{Tree, none, ◌▸◌}
-use Rattle.mini_meaning.specs.Value.{Value, choose, is_nullish}
-use Rattle.mini_meaning.specs.State.{NextOf, KeysOf, IteratorOf, Item, State, Thrown, Returned, Broken, Continued, Short, ok, stop, Ends, done, ended, either, Environment}
-use Rattle.mini_meaning.specs.Demand.{Val, Test, Unused, LoopTail, Demand, Tail, As, Stat, LabelSet, Request, Reply}
-use Rattle.mini_meaning.specs.Command.{Naming, hide, Command, ret, fails, op, kid, copy, turn, fuel, then, attempt, bind, repeat, loop, emit, Kids, act, run}
-use Rattle.mini_meaning.specs.Naming.{Declared, Variables, AClass, summary}
-use Rattle.mini_meaning.specs.Asking.{first_demand, do_demand, for_demand, each_demand}
-use Rattle.mini_meaning.specs.Statements.{scoped}
-use Rattle.mini_meaning.specs.Replies.{as_ended}
-use Rattle.mini_meaning.specs.Loops.{has_label, after_body, while_step, do_step, copied, for_test, for_turn, for_turns, for_head, for_step, give_left, each_turn, turn_of, next_of, on_next, keys_in, for_in_step, closing, values_of, for_of_step}
-use Rattle.mini_meaning.specs.Step.{step, means, meaning}
+use Rattle.mini_laws.specs.Value.{Value, choose, is_nullish}
+use Rattle.mini_laws.specs.State.{NextOf, KeysOf, IteratorOf, Item, State, Thrown, Returned, Broken, Continued, Short, ok, stop, Ends, done, ended, either, Environment}
+use Rattle.mini_laws.specs.Demand.{Val, Test, Unused, LoopTail, Demand, Tail, As, Stat, LabelSet, Request, Reply}
+use Rattle.mini_laws.specs.Command.{Naming, hide, Command, ret, fails, op, kid, copy, turn, fuel, then, attempt, bind, repeat, loop, emit, Kids, act, run}
+use Rattle.mini_laws.specs.Naming.{Declared, Variables, AClass, summary}
+use Rattle.mini_laws.specs.Asking.{first_demand, do_demand, for_demand, each_demand}
+use Rattle.mini_laws.specs.Statements.{scoped}
+use Rattle.mini_laws.specs.Replies.{as_ended}
+use Rattle.mini_laws.specs.Loops.{has_label, after_body, while_step, do_step, copied, for_test, for_turn, for_turns, for_head, for_step, give_left, each_turn, turn_of, next_of, on_next, keys_in, for_in_step, closing, values_of, for_of_step}
+use Rattle.mini_laws.specs.Step.{step, means, meaning}
 use Rattle.mini_laws.proofs.Runs.{either_cong, run_bind}
 use Rattle.mini_laws.proofs.Stretching.{run_attempt}
 use Rattle.mini_laws.proofs.Tailing.{finished, finish_none, tail_same}

@@ -8,13 +8,13 @@ use Rattle.mini_model.specs.declared.seat.StmtSeat.{StmtSeat}
 use Rattle.mini_model.specs.declared.shape.Shape.TheVariants as shape
 use Rattle.mini_model.specs.Tree.{Tree, node, none, ◌▸◌, absent, listed, unresolved, identifier, expression_statement, if_else, if_alone, negation, logical}
 use Rattle.mini_model.specs.Terms.{not_of}
-use Rattle.mini_meaning.specs.Value.{Undefined, choose, truth}
-use Rattle.mini_meaning.specs.State.{State, Returned, Completion, ok, stop, either, Environment}
-use Rattle.mini_meaning.specs.Demand.{Val, Test, Unused, Demand, Tail, As, Stat, LabelSet, Request}
-use Rattle.mini_meaning.specs.Naming.{summary, summaries, naming}
-use Rattle.mini_meaning.specs.Statements.{return_step}
-use Rattle.mini_meaning.specs.Step.{step, means, meaning}
-use Rattle.mini_meaning.specs.Fits.{Fits}
+use Rattle.mini_laws.specs.Value.{Undefined, choose, truth}
+use Rattle.mini_laws.specs.State.{State, Returned, Completion, ok, stop, either, Environment}
+use Rattle.mini_laws.specs.Demand.{Val, Test, Unused, Demand, Tail, As, Stat, LabelSet, Request}
+use Rattle.mini_laws.specs.Naming.{summary, summaries, naming}
+use Rattle.mini_laws.specs.Statements.{return_step}
+use Rattle.mini_laws.specs.Step.{step, means, meaning}
+use Rattle.mini_laws.specs.Fits.{Fits}
 use Rattle.mini_laws.specs.Rows.{SameAt}
 use Rattle.mini_laws.specs.Tails.{ends_in}
 use Rattle.mini_laws.specs.Truth.{told}

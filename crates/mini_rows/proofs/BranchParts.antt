@@ -26,10 +26,10 @@ use Rattle.mini_names.specs.Symbols.{declared as declared_in, times}
 use Rattle.mini_names.specs.Early.{Path, scope_declarations, early_names, targets_of, early_jumps}
 use Rattle.mini_names.proofs.Changes.{twice, times_both}
 use Rattle.mini_names.proofs.Drops.{moved}
-use Rattle.mini_meaning.specs.Value.{Variable}
-use Rattle.mini_meaning.specs.State.{Fixed, Writable, Constant, KeepsOld}
-use Rattle.mini_meaning.specs.Fixity.{stricter, fixed_by}
-use Rattle.mini_meaning.specs.Bodies.{Around, bodies}
+use Rattle.mini_laws.specs.Value.{Variable}
+use Rattle.mini_laws.specs.State.{Fixed, Writable, Constant, KeepsOld}
+use Rattle.mini_laws.specs.Fixity.{stricter, fixed_by}
+use Rattle.mini_laws.specs.Bodies.{Around, bodies}
 use Rattle.mini_kept.specs.AlikeBodies.{BodiesKept}
 use Rattle.mini_kept.specs.Carried.{numbers}
 use Rattle.mini_kept.specs.Declaring.{declared as declared_names, declared_all}

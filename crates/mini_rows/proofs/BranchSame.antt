@@ -4,7 +4,7 @@ use Rattle.mini_model.specs.declared.place.Position.{Position}
 use Rattle.mini_model.specs.declared.place.Position.TheVariants.{Stmt}
 use Rattle.mini_model.specs.Tree.{Tree}
 use Rattle.mini_model.specs.Position.{if_test_seat}
-use Rattle.mini_meaning.specs.Naming.{summary}
+use Rattle.mini_laws.specs.Naming.{summary}
 use Rattle.mini_laws.specs.Rows.{SameAt}
 use Rattle.mini_laws.specs.Rewritten.{MeansSame}
 use Rattle.mini_rows.specs.Branches.{conjunct_seat, Row82Empty, Row83, IfRow, BranchRow, BranchContracts}

@@ -6,14 +6,14 @@ use Rattle.mini_model.specs.declared.name.Name.{Name}
 use Rattle.mini_model.specs.declared.shape.Shape.{Shape}
 use Rattle.mini_model.specs.declared.shape.Shape.TheVariants as shape
 use Rattle.mini_model.specs.Tree.{Tree, Trees, node, none, ◌▸◌}
-use Rattle.mini_meaning.specs.Value.{variables}
-use Rattle.mini_meaning.specs.State.{State, Completion, ok, stop, halt, out, either, Environment}
-use Rattle.mini_meaning.specs.Demand.{Val, Test, As, Stat, LabelSet}
-use Rattle.mini_meaning.specs.Command.{Naming, run}
-use Rattle.mini_meaning.specs.Naming.{summaries, facts, naming, function_facts}
-use Rattle.mini_meaning.specs.Asking.{first_demand}
-use Rattle.mini_meaning.specs.Statements.{block_step, if_step, break_step, continue_step, return_step, throw_step, create_functions}
-use Rattle.mini_meaning.specs.Step.{step, means, meaning}
+use Rattle.mini_laws.specs.Value.{variables}
+use Rattle.mini_laws.specs.State.{State, Completion, ok, stop, halt, out, either, Environment}
+use Rattle.mini_laws.specs.Demand.{Val, Test, As, Stat, LabelSet}
+use Rattle.mini_laws.specs.Command.{Naming, run}
+use Rattle.mini_laws.specs.Naming.{summaries, facts, naming, function_facts}
+use Rattle.mini_laws.specs.Asking.{first_demand}
+use Rattle.mini_laws.specs.Statements.{block_step, if_step, break_step, continue_step, return_step, throw_step, create_functions}
+use Rattle.mini_laws.specs.Step.{step, means, meaning}
 use Rattle.mini_laws.proofs.Runs.{either_eta, each_bool, tail_stop}
 use Rattle.mini_laws.proofs.Stretching.{exec, listed_by}
 use Rattle.mini_laws.proofs.Tailing.{finished, finish_none, hidden, closed, block_runs}

@@ -3,16 +3,16 @@ use Rattle.std.proofs.Common.{◌≡◌, ℕ, zero, suc, Bool, true, false, List
 use Rattle.mini_model.specs.declared.operator.UnaryOperator.TheVariants.{LogicalNot}
 use Rattle.mini_model.specs.declared.shape.Shape.TheVariants as shape
 use Rattle.mini_model.specs.Tree.{Tree, node, none, ◌▸◌, absent}
-use Rattle.mini_meaning.specs.Value.{Value, Variable, choose}
-use Rattle.mini_meaning.specs.State.{State, Stop, Thrown, Returned, Broken, Continued, Short, Completion, ok, stop, out, Ends, done, ended, either, Environment, with_vars}
-use Rattle.mini_meaning.specs.Demand.{Val, Unused, Demand, As, Stat, Cases, LabelSet}
-use Rattle.mini_meaning.specs.Command.{Hoisted, Naming, Command, ret, fails, op, kid, turn, fuel, hide, hide_all, then, bind, repeat, loop, Kids, act, run}
-use Rattle.mini_meaning.specs.Naming.{Declared, FunctionFact, summary, summaries, facts, lets_all, functions_all, function_facts, function_names, naming}
-use Rattle.mini_meaning.specs.Asking.{first_demand, for_demand}
-use Rattle.mini_meaning.specs.Replies.{as_ended}
-use Rattle.mini_meaning.specs.Statements.{scoped, create_functions, switch_step, unbroken}
-use Rattle.mini_meaning.specs.Loops.{after_body, has_label, for_test, for_turn, for_turns, for_step}
-use Rattle.mini_meaning.specs.Step.{step, means, meaning}
+use Rattle.mini_laws.specs.Value.{Value, Variable, choose}
+use Rattle.mini_laws.specs.State.{State, Stop, Thrown, Returned, Broken, Continued, Short, Completion, ok, stop, out, Ends, done, ended, either, Environment, with_vars}
+use Rattle.mini_laws.specs.Demand.{Val, Unused, Demand, As, Stat, Cases, LabelSet}
+use Rattle.mini_laws.specs.Command.{Hoisted, Naming, Command, ret, fails, op, kid, turn, fuel, hide, hide_all, then, bind, repeat, loop, Kids, act, run}
+use Rattle.mini_laws.specs.Naming.{Declared, FunctionFact, summary, summaries, facts, lets_all, functions_all, function_facts, function_names, naming}
+use Rattle.mini_laws.specs.Asking.{first_demand, for_demand}
+use Rattle.mini_laws.specs.Replies.{as_ended}
+use Rattle.mini_laws.specs.Statements.{scoped, create_functions, switch_step, unbroken}
+use Rattle.mini_laws.specs.Loops.{after_body, has_label, for_test, for_turn, for_turns, for_step}
+use Rattle.mini_laws.specs.Step.{step, means, meaning}
 use Rattle.mini_laws.proofs.Runs.{either_cong, either_eta, either_ok, run_bind}
 use Rattle.mini_laws.proofs.Stretching.{run_attempt}
 use Rattle.mini_laws.proofs.Tailing.{finished, finish_none, creates_alone}

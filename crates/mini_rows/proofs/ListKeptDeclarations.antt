@@ -24,11 +24,11 @@ use Rattle.mini_names.specs.Scoped.{Scoped}
 use Rattle.mini_names.specs.Symbols.{symbols_in, declared as declared_in, times}
 use Rattle.mini_names.specs.Early.{own_declarations, scope_declarations, early_names, targets_of, early_jumps}
 use Rattle.mini_names.proofs.Changes.{times_both}
-use Rattle.mini_meaning.specs.Value.{Variable, choose, variable_eq, is_in}
-use Rattle.mini_meaning.specs.State.{Fixed, Writable, Constant, KeepsOld}
-use Rattle.mini_meaning.specs.Naming.{summary, summaries, lets_all}
-use Rattle.mini_meaning.specs.Fixity.{fixity_by, stricter, fixed_by}
-use Rattle.mini_meaning.specs.Bodies.{Around, bodies}
+use Rattle.mini_laws.specs.Value.{Variable, choose, variable_eq, is_in}
+use Rattle.mini_laws.specs.State.{Fixed, Writable, Constant, KeepsOld}
+use Rattle.mini_laws.specs.Naming.{summary, summaries, lets_all}
+use Rattle.mini_laws.specs.Fixity.{fixity_by, stricter, fixed_by}
+use Rattle.mini_laws.specs.Bodies.{Around, bodies}
 use Rattle.mini_kept.specs.AlikeBodies.{BodiesKept}
 use Rattle.mini_kept.specs.Carried.{numbers}
 use Rattle.mini_kept.specs.Declaring.{declared as names_declared}

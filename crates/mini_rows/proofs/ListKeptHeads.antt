@@ -26,11 +26,11 @@ use Rattle.mini_names.specs.Scoped.{Scoped, AllScoped}
 use Rattle.mini_names.specs.Symbols.{declared as declared_in, declared_from, times}
 use Rattle.mini_names.specs.Early.{Path, own_declarations, declarations, body_declarations, scope_declarations, clashing, early_names, all_early_names, targets_of, early_jumps, all_early_jumps}
 use Rattle.mini_names.proofs.Changes.{times_both}
-use Rattle.mini_meaning.specs.Value.{Variable, choose, is_in}
-use Rattle.mini_meaning.specs.State.{Writable}
-use Rattle.mini_meaning.specs.Naming.{lets_first, summaries}
-use Rattle.mini_meaning.specs.Fixity.{stricter, fixed_by, fixed_by_any}
-use Rattle.mini_meaning.specs.Bodies.{Around, Body, bodies, bodies_from}
+use Rattle.mini_laws.specs.Value.{Variable, choose, is_in}
+use Rattle.mini_laws.specs.State.{Writable}
+use Rattle.mini_laws.specs.Naming.{lets_first, summaries}
+use Rattle.mini_laws.specs.Fixity.{stricter, fixed_by, fixed_by_any}
+use Rattle.mini_laws.specs.Bodies.{Around, Body, bodies, bodies_from}
 use Rattle.mini_kept.specs.AlikeBodies.{BodiesKept}
 use Rattle.mini_kept.specs.Carried.{numbers, all_numbers}
 use Rattle.mini_kept.specs.Declaring.{declared as names_declared, declared_all}

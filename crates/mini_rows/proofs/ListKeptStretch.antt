@@ -19,9 +19,9 @@ use Rattle.mini_names.specs.DeclaredNames.{has_inner, names_of, body_names}
 use Rattle.mini_names.specs.Resolved.{Environment}
 use Rattle.mini_names.specs.Scoped.{Scoped}
 use Rattle.mini_names.specs.Early.{is_loop}
-use Rattle.mini_meaning.specs.Value.{Variable}
-use Rattle.mini_meaning.specs.Fixity.{fixed_by}
-use Rattle.mini_meaning.specs.Bodies.{Around, Body, bodies, bodies_from}
+use Rattle.mini_laws.specs.Value.{Variable}
+use Rattle.mini_laws.specs.Fixity.{fixed_by}
+use Rattle.mini_laws.specs.Bodies.{Around, Body, bodies, bodies_from}
 use Rattle.mini_kept.specs.AlikeBodies.{BodiesKept}
 use Rattle.mini_kept.specs.Declaring.{declared as names_declared}
 use Rattle.mini_kept.specs.Frames.{Frame, frames, ports as ports_of}

@@ -5,12 +5,12 @@ use Rattle.mini_model.specs.declared.place.Position.TheVariants.{StatementList}
 use Rattle.std.proofs.lemmas.Bool.{and_parts}
 use Rattle.mini_model.specs.Tree.{shape_of, Tree, Trees, none, ◌▸◌, absent, empty_statement, expression_statement, if_else, if_alone, conditional}
 use Rattle.mini_model.specs.Paths.{append}
-use Rattle.mini_meaning.specs.Value.{Value, truth, choose}
-use Rattle.mini_meaning.specs.State.{State, Stop, Thrown, Returned, Completion, ok, stop, either, Environment}
-use Rattle.mini_meaning.specs.Demand.{Want, Val, Test, Unused, Says, Demand, As, Stat, Request}
-use Rattle.mini_meaning.specs.Naming.{summary}
-use Rattle.mini_meaning.specs.Fits.{Fits}
-use Rattle.mini_meaning.specs.Step.{means}
+use Rattle.mini_laws.specs.Value.{Value, truth, choose}
+use Rattle.mini_laws.specs.State.{State, Stop, Thrown, Returned, Completion, ok, stop, either, Environment}
+use Rattle.mini_laws.specs.Demand.{Want, Val, Test, Unused, Says, Demand, As, Stat, Request}
+use Rattle.mini_laws.specs.Naming.{summary}
+use Rattle.mini_laws.specs.Fits.{Fits}
+use Rattle.mini_laws.specs.Step.{means}
 use Rattle.mini_laws.specs.Truth.{told}
 use Rattle.mini_laws.proofs.Runs.{either_cong, either_assoc, either_ok, either_stop, each_bool}
 use Rattle.mini_laws.proofs.Truth.{coherent}

@@ -3,13 +3,13 @@ use Rattle.std.proofs.Common.{◌≡◌, suc, [], length, refl, sym, ap, ◌∙�
 use Rattle.mini_model.specs.declared.shape.Shape.TheVariants as shape
 use Rattle.mini_model.specs.Tree.{Tree, Trees, none, ◌▸◌}
 use Rattle.mini_model.specs.Paths.{append}
-use Rattle.mini_meaning.specs.State.{State, Completion, stop, either, Environment}
-use Rattle.mini_meaning.specs.Demand.{Want, Unused, As, Parts, Says}
-use Rattle.mini_meaning.specs.Command.{Naming, run}
-use Rattle.mini_meaning.specs.Naming.{summaries, facts, naming}
-use Rattle.mini_meaning.specs.Asking.{parts_demand}
-use Rattle.mini_meaning.specs.Lists.{parts}
-use Rattle.mini_meaning.specs.Step.{step, means, meaning}
+use Rattle.mini_laws.specs.State.{State, Completion, stop, either, Environment}
+use Rattle.mini_laws.specs.Demand.{Want, Unused, As, Parts, Says}
+use Rattle.mini_laws.specs.Command.{Naming, run}
+use Rattle.mini_laws.specs.Naming.{summaries, facts, naming}
+use Rattle.mini_laws.specs.Asking.{parts_demand}
+use Rattle.mini_laws.specs.Lists.{parts}
+use Rattle.mini_laws.specs.Step.{step, means, meaning}
 use Rattle.mini_laws.proofs.Runs.{either_cong, either_assoc, either_eta, either_stop, runs, run_shift}
 use Rattle.mini_rows.specs.Lists.{of_parts}
 

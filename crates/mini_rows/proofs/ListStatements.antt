@@ -6,15 +6,15 @@ use Rattle.mini_model.specs.declared.kind.VariableDeclarationKind.TheVariants.{V
 use Rattle.mini_model.specs.declared.shape.Shape.TheVariants as shape
 use Rattle.mini_model.specs.Tree.{Tree, Trees, node, none, ◌▸◌, absent, listed, empty_statement, expression_statement, if_else, conditional}
 use Rattle.mini_model.specs.Paths.{append}
-use Rattle.mini_meaning.specs.Value.{choose}
-use Rattle.mini_meaning.specs.State.{State, Thrown, Returned, Completion, ok, stop, either, Environment, with_vars}
-use Rattle.mini_meaning.specs.Demand.{Val, Test, Unused, As, Stat, Declares, LabelSet}
-use Rattle.mini_meaning.specs.Command.{Naming, ret, kid, then, run, hide_all}
-use Rattle.mini_meaning.specs.Naming.{summaries, facts, lets_all, functions_all, function_facts, function_names, texts_all, naming, is_lexical, facts_all}
-use Rattle.mini_meaning.specs.Asking.{first_demand}
-use Rattle.mini_meaning.specs.Lists.{declarators}
-use Rattle.mini_meaning.specs.Statements.{create_functions, block_step, if_step, return_step, throw_step}
-use Rattle.mini_meaning.specs.Step.{step, means, meaning}
+use Rattle.mini_laws.specs.Value.{choose}
+use Rattle.mini_laws.specs.State.{State, Thrown, Returned, Completion, ok, stop, either, Environment, with_vars}
+use Rattle.mini_laws.specs.Demand.{Val, Test, Unused, As, Stat, Declares, LabelSet}
+use Rattle.mini_laws.specs.Command.{Naming, ret, kid, then, run, hide_all}
+use Rattle.mini_laws.specs.Naming.{summaries, facts, lets_all, functions_all, function_facts, function_names, texts_all, naming, is_lexical, facts_all}
+use Rattle.mini_laws.specs.Asking.{first_demand}
+use Rattle.mini_laws.specs.Lists.{declarators}
+use Rattle.mini_laws.specs.Statements.{create_functions, block_step, if_step, return_step, throw_step}
+use Rattle.mini_laws.specs.Step.{step, means, meaning}
 use Rattle.mini_laws.proofs.Runs.{either_cong, either_assoc, either_eta, either_ok, either_stop, each_bool, runs, run_shift}
 use Rattle.mini_laws.proofs.Tailing.{finished, finish_none, hidden, closed, block_runs}
 use Rattle.mini_rows.specs.Lists.{block, return_statement, throw_statement, declaration, or_void, is_unscoped, are_unscoped}

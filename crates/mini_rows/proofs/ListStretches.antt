@@ -2,13 +2,13 @@
 use Rattle.std.proofs.Common.{◌≡◌, ℕ, zero, suc, false, List, [], ◌∷◌, ◌++◌, length, Option, None, refl, sym, ap, ◌∙◌, subst}
 use Rattle.mini_model.specs.Tree.{Tree, Trees, none, ◌▸◌, listed}
 use Rattle.mini_model.specs.Paths.{append}
-use Rattle.mini_meaning.specs.Value.{Variable}
-use Rattle.mini_meaning.specs.State.{State, Completion, ok, stop, either, Environment}
-use Rattle.mini_meaning.specs.Demand.{Tail, Stat, LabelSet}
-use Rattle.mini_meaning.specs.Command.{Hoisted}
-use Rattle.mini_meaning.specs.Naming.{Summary, FunctionFact, summary, summaries, facts, facts_all, lets_all, functions_all, function_facts, texts_all}
-use Rattle.mini_meaning.specs.Asking.{last_tail}
-use Rattle.mini_meaning.specs.Step.{means}
+use Rattle.mini_laws.specs.Value.{Variable}
+use Rattle.mini_laws.specs.State.{State, Completion, ok, stop, either, Environment}
+use Rattle.mini_laws.specs.Demand.{Tail, Stat, LabelSet}
+use Rattle.mini_laws.specs.Command.{Hoisted}
+use Rattle.mini_laws.specs.Naming.{Summary, FunctionFact, summary, summaries, facts, facts_all, lets_all, functions_all, function_facts, texts_all}
+use Rattle.mini_laws.specs.Asking.{last_tail}
+use Rattle.mini_laws.specs.Step.{means}
 use Rattle.mini_laws.specs.Tails.{ends_in}
 use Rattle.mini_laws.proofs.Runs.{either_cong, either_assoc, either_eta, either_ok, either_stop, tail_stop}
 use Rattle.mini_laws.proofs.Stretching.{exec, finish, listed_by, exec_cons}

@@ -4,14 +4,14 @@ use Rattle.std.proofs.Common.{◌≡◌, ℕ, zero, suc, Bool, true, false, List
 use Rattle.mini_model.specs.declared.name.Name.{Name}
 use Rattle.mini_model.specs.declared.shape.Shape.{Shape}
 use Rattle.mini_model.specs.Tree.{Tree, Trees, node, ◌▸◌}
-use Rattle.mini_meaning.specs.Value.{Value, choose, variables}
-use Rattle.mini_meaning.specs.State.{State, Completion, stop, done, ended, either, Environment}
-use Rattle.mini_meaning.specs.Demand.{Demand, As, Callee, OfType, Deleted, AnEntry, Request, Reply}
-use Rattle.mini_meaning.specs.Command.{Naming, Command, ret, fails, stuck, op, kid, bind, Kids, act, run}
-use Rattle.mini_meaning.specs.Naming.{Summary, summary, summaries, summary_of, facts_all, kinds, naming}
-use Rattle.mini_meaning.specs.Replies.{reply, valued}
-use Rattle.mini_meaning.specs.Asking.{demand}
-use Rattle.mini_meaning.specs.Step.{step, means, meaning}
+use Rattle.mini_laws.specs.Value.{Value, choose, variables}
+use Rattle.mini_laws.specs.State.{State, Completion, stop, done, ended, either, Environment}
+use Rattle.mini_laws.specs.Demand.{Demand, As, Callee, OfType, Deleted, AnEntry, Request, Reply}
+use Rattle.mini_laws.specs.Command.{Naming, Command, ret, fails, stuck, op, kid, bind, Kids, act, run}
+use Rattle.mini_laws.specs.Naming.{Summary, summary, summaries, summary_of, facts_all, kinds, naming}
+use Rattle.mini_laws.specs.Replies.{reply, valued}
+use Rattle.mini_laws.specs.Asking.{demand}
+use Rattle.mini_laws.specs.Step.{step, means, meaning}
 use Rattle.mini_laws.proofs.Runs.{either_cong, run_bind}
 
 -- in any environment

@@ -6,7 +6,7 @@ use Rattle.std.specs.Char.{digit_value}
 use Rattle.std.specs.Str.Parse.{AllDigits}
 use Rattle.std.proofs.lemmas.Bool.{eqb-true}
 use Rattle.std.proofs.lemmas.Fmt.{decimal_is_IsNumeral}
-use Rattle.mini_literals.specs.Numerals.{IsSafe}
+use Rattle.mini_text.specs.Numerals.{IsSafe}
 use Rattle.mini_model.specs.declared.kind.PropertyKind.TheVariants.{Init}
 use Rattle.mini_model.specs.declared.place.Position.{Position}
 use Rattle.mini_model.specs.declared.place.Position.TheVariants.{Expr}
@@ -14,11 +14,11 @@ use Rattle.mini_model.specs.declared.shape.Shape.TheVariants as shape
 use Rattle.mini_model.specs.Paths.{append}
 use Rattle.mini_model.specs.Tree.{Tree, Trees, none, ◌▸◌, listed, identifier}
 use Rattle.mini_model.specs.Weight.{same_text}
-use Rattle.mini_meaning.specs.Value.{Value, Number, String, choose}
-use Rattle.mini_meaning.specs.State.{State, ok, either, Environment, Prototype, Field}
-use Rattle.mini_meaning.specs.Demand.{Val, Demand, As, AnEntry, Request}
-use Rattle.mini_meaning.specs.Naming.{summary, summaries}
-use Rattle.mini_meaning.specs.Step.{step, means, meaning}
+use Rattle.mini_laws.specs.Value.{Value, Number, String, choose}
+use Rattle.mini_laws.specs.State.{State, ok, either, Environment, Prototype, Field}
+use Rattle.mini_laws.specs.Demand.{Val, Demand, As, AnEntry, Request}
+use Rattle.mini_laws.specs.Naming.{summary, summaries}
+use Rattle.mini_laws.specs.Step.{step, means, meaning}
 use Rattle.mini_laws.specs.Rows.{SameAt}
 use Rattle.mini_laws.specs.Rewritten.{MeansSame}
 use Rattle.mini_laws.proofs.Runs.{either_cong, either_ok}

@@ -10,18 +10,18 @@ use Rattle.mini_model.specs.Tree.{Tree, none, ◌▸◌, absent, null_literal}
 use Rattle.mini_model.specs.declared.place.Position.{Position}
 use Rattle.mini_model.specs.declared.place.Position.TheVariants.{Expr}
 use Rattle.mini_model.specs.Position.{is_equality}
-use Rattle.mini_meaning.specs.Value.{Value, Undefined, Null, Boolean, Number, String, Object, VariableSet, choose, is_nullish}
-use Rattle.mini_meaning.specs.Conversion.{known_member}
-use Rattle.mini_meaning.specs.Operators.{strictly_equal, loosely_equal}
-use Rattle.mini_meaning.specs.State.{Entry, Item, Converted, GetOf, SetOf, ForDefault, State, Completion, ok, stop, halt, out, either, Environment}
-use Rattle.mini_meaning.specs.Demand.{Val, Demand, As, Callee, OfType, Deleted, Target, AnEntry, Prepare, Fetch, Put, Reference, AMember, AFetched, Request}
-use Rattle.mini_meaning.specs.Command.{is_object, Naming, Command, ret, bind, emit, Kids, run}
-use Rattle.mini_meaning.specs.Naming.{summary, summaries, naming}
-use Rattle.mini_meaning.specs.Replies.{valued, primitive, loosely, of_option, raise, or_event, get_member, put_member}
-use Rattle.mini_meaning.specs.Expressions.{operate_by, binary_step, member_step, got, called_member, yield_step}
-use Rattle.mini_meaning.specs.Targets.{as_member, fetched, stored}
-use Rattle.mini_meaning.specs.Step.{step, means, meaning}
-use Rattle.mini_meaning.specs.Same.{Goes, Agree}
+use Rattle.mini_laws.specs.Value.{Value, Undefined, Null, Boolean, Number, String, Object, VariableSet, choose, is_nullish}
+use Rattle.mini_laws.specs.Conversion.{known_member}
+use Rattle.mini_laws.specs.Operators.{strictly_equal, loosely_equal}
+use Rattle.mini_laws.specs.State.{Entry, Item, Converted, GetOf, SetOf, ForDefault, State, Completion, ok, stop, halt, out, either, Environment}
+use Rattle.mini_laws.specs.Demand.{Val, Demand, As, Callee, OfType, Deleted, Target, AnEntry, Prepare, Fetch, Put, Reference, AMember, AFetched, Request}
+use Rattle.mini_laws.specs.Command.{is_object, Naming, Command, ret, bind, emit, Kids, run}
+use Rattle.mini_laws.specs.Naming.{summary, summaries, naming}
+use Rattle.mini_laws.specs.Replies.{valued, primitive, loosely, of_option, raise, or_event, get_member, put_member}
+use Rattle.mini_laws.specs.Expressions.{operate_by, binary_step, member_step, got, called_member, yield_step}
+use Rattle.mini_laws.specs.Targets.{as_member, fetched, stored}
+use Rattle.mini_laws.specs.Step.{step, means, meaning}
+use Rattle.mini_laws.specs.Same.{Goes, Agree}
 use Rattle.mini_laws.specs.Rows.{SameAt}
 use Rattle.mini_laws.specs.Rewritten.{MeansSame}
 use Rattle.mini_laws.proofs.Rows.{equal_same}

@@ -2,8 +2,8 @@
 use Rattle.std.proofs.Common.{◌≡◌, Bool, true, false, Option, Some, refl, ap}
 use Rattle.std.specs.Prelude.{ℤ, pos, negsuc}
 use Rattle.std.proofs.lemmas.Cmp.{nat_eq_equiv, nat_list_eq_equiv}
-use Rattle.mini_meaning.specs.Value.{Value, Undefined, Null, Boolean, Number, String, Symbol, Object, choose, is_nullish}
-use Rattle.mini_meaning.specs.Operators.{strictly_equal, same_number, same_boolean, equal_counted, counted, loosely_equal}
+use Rattle.mini_laws.specs.Value.{Value, Undefined, Null, Boolean, Number, String, Symbol, Object, choose, is_nullish}
+use Rattle.mini_laws.specs.Operators.{strictly_equal, same_number, same_boolean, equal_counted, counted, loosely_equal}
 
 boolean_sym : (a b : Bool) → same_boolean a b ≡ same_boolean b a
 boolean_sym true true = refl

@@ -14,10 +14,10 @@ use Rattle.mini_names.specs.DeclaredNames.{has_inner}
 use Rattle.mini_names.specs.Resolved.{Environment}
 use Rattle.mini_names.specs.Scoped.{Scoped}
 use Rattle.mini_names.specs.Symbols.{declared as declared_in, Within}
-use Rattle.mini_meaning.specs.Value.{Variable}
-use Rattle.mini_meaning.specs.State.{Writable}
-use Rattle.mini_meaning.specs.Fixity.{fixed_by}
-use Rattle.mini_meaning.specs.Bodies.{Around, bodies, arrow_kind}
+use Rattle.mini_laws.specs.Value.{Variable}
+use Rattle.mini_laws.specs.State.{Writable}
+use Rattle.mini_laws.specs.Fixity.{fixed_by}
+use Rattle.mini_laws.specs.Bodies.{Around, bodies, arrow_kind}
 use Rattle.mini_laws.specs.Rewritten.{MeansSame}
 use Rattle.mini_kept.specs.AlikeBodies.{BodiesKept}
 use Rattle.mini_kept.specs.Declaring.{declared}

@@ -3,7 +3,7 @@
 use Rattle.std.specs.Prelude.{◌≡◌, ◌<◌, ◌⊎◌, ℕ, Bool, true, false, List, [], codes, pos}
 use Rattle.std.specs.Fmt.{signed_decimal}
 use Rattle.mini_text.specs.Texts.{is_identifier_name}
-use Rattle.mini_literals.specs.Numerals.{IsSafe}
+use Rattle.mini_text.specs.Numerals.{IsSafe}
 use Rattle.mini_model.specs.declared.kind.PropertyKind.TheVariants.{Init}
 use Rattle.mini_model.specs.declared.name.Name.{Name}
 use Rattle.mini_model.specs.declared.place.Position.{Position}

@@ -4,8 +4,8 @@ use Rattle.std.specs.Prelude.{◌⊎◌, ◌&&◌, ℤ, if◌then◌else◌}
 use Rattle.std.specs.Fmt.{signed_decimal}
 use Rattle.std.proofs.lemmas.Bool.{and_parts}
 use Rattle.mini_text.specs.Texts.{is_identifier_name}
-use Rattle.mini_literals.specs.Numerals.{IsSafe, safe_number}
-use Rattle.mini_literals.proofs.Safe.{text_of_number, number_of_text}
+use Rattle.mini_text.specs.Numerals.{IsSafe, safe_number}
+use Rattle.mini_text.proofs.Safe.{text_of_number, number_of_text}
 use Rattle.mini_model.specs.declared.operator.AssignmentOperator.{AssignmentOperator}
 use Rattle.mini_model.specs.declared.operator.BinaryOperator.{BinaryOperator}
 use Rattle.mini_model.specs.declared.operator.BinaryOperator.TheVariants.{Equality, Inequality}

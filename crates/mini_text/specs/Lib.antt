@@ -2,3 +2,10 @@ pub mod Lends
 pub mod Texts
 pub mod formers
 pub mod Faults
+pub mod Examples
+pub mod Joined
+pub mod Reader
+pub mod Tails
+pub mod Templates
+pub mod Numerals
+pub mod NumeralExamples

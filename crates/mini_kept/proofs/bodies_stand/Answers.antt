@@ -1,4 +1,4 @@
-use Rattle.mini_meaning.specs.Bodies.{bodies_in}
+use Rattle.mini_laws.specs.Bodies.{bodies_in}
 use Rattle.mini_kept.proofs.BodyLists.{kept_stands}
 use Rattle.mini_kept.proofs.bodies_stand.Goals as goal
 

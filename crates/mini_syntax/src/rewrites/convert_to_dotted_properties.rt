@@ -9,13 +9,12 @@ ghost use Rattle.mini_node.specs.Kinds.{string as text_of};
 ghost use Rattle.mini_rows.specs.Spellings.{assignment as assignment_of, update as update_of};
 ghost use Rattle.mini_syntax.specs.ConvertToDottedProperties.{is_name_text, number_of_text, named_member as its_named_member, numbered_member as its_numbered_member, text_in, as_name as the_name, dotted as dotted_of, numbered as numbered_of, turned, assigned, updated, update_operator as its_update_operator, written};
 
-use mini_literals::equivalent_number;
 use mini_model::{AssignmentOperator, Shape, UpdateOperator};
 use mini_node::{
     Node, assignment, assignment_operator, computed_member, is_computed_member, numeric_literal,
     of_one, of_two, one, string, taken, two,
 };
-use mini_text::{OutOfMemory, Text, is_identifier_name};
+use mini_text::{OutOfMemory, Text, equivalent_number, is_identifier_name};
 use std::alloc::Global;
 use std::mem;
 

@@ -1,6 +1,0 @@
-pub mod Ends
-pub mod Inside
-pub mod Joins
-pub mod Raw
-pub mod Decimals
-pub mod Safe

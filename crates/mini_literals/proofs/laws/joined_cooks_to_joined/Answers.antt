@@ -1,5 +1,0 @@
-use Rattle.mini_literals.proofs.Joins.{joined_cooks}
-use Rattle.mini_literals.proofs.laws.joined_cooks_to_joined.Goals as goal
-
-pub returns : goal.returns
-returns c = joined_cooks
