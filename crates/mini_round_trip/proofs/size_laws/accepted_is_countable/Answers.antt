@@ -1,5 +1,0 @@
-use Rattle.mini_round_trip.proofs.Few.{fitting_is_countable}
-use Rattle.mini_round_trip.proofs.size_laws.accepted_is_countable.Goals as goal
-
-pub returns : goal.returns
-returns c = fitting_is_countable

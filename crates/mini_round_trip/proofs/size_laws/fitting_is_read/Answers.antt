@@ -1,5 +1,0 @@
-use Rattle.mini_round_trip.proofs.Shallow.{fitting_read}
-use Rattle.mini_round_trip.proofs.size_laws.fitting_is_read.Goals as goal
-
-pub returns : goal.returns
-returns c = fitting_read

@@ -1,4 +1,0 @@
-pub mod Bare
-pub mod RoundTrip
-pub mod Fits
-pub mod Countable
