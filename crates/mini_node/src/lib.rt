@@ -2,11 +2,13 @@
 //! form.
 #![tactic(auto)]
 
+mod equal;
 mod kinds;
 mod list;
 mod node;
 mod parts;
 
+pub use equal::{is_same_tree, same_trees_are_equal};
 pub use kinds::{
     assignment_operator, binary_operator, boolean, is_absent_part, is_block, is_call_expression,
     is_computed_member, is_conditional, is_empty_statement, is_expression_statement, is_identifier,

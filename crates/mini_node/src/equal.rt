@@ -1,0 +1,329 @@
+//! Whether two nodes are equal.
+
+ghost use Rattle.std.specs.Prelude.{◌≡◌};
+ghost use Rattle.std.specs.Bool.{Decides};
+ghost use Rattle.mini_node.specs.Children.{names};
+ghost use Rattle.mini_node.specs.Equal as equal;
+ghost use Rattle.mini_node.specs.Equal.{SameIsEqual, EachIsItself};
+
+use crate::list::Nodes;
+use crate::node::Node;
+use mini_model::{Name, Shape};
+use mini_text::{BoxedText, Text};
+
+/// Trees that are the same are equal, and each is the same as itself.
+pub fn same_trees_are_equal()
+    ensures equal { SameIsEqual }
+    ensures itself { EachIsItself }
+{}
+
+#[tactic(auto, using(crate::proofs::Equality::text_decided))]
+fn is_same_text(first: &Text, second: &Text) -> bool
+    ensures { Decides result (first.now ≡ second.now) }
+{
+    first.as_slice() == second.as_slice()
+}
+
+// Of the cooked texts of templates.
+fn is_same_cooked(first: &Option<BoxedText>, second: &Option<BoxedText>) -> bool
+    ensures { Decides result (first.now ≡ second.now) }
+{
+    match (first, second) {
+        (None, None) => true,
+        (Some(one), Some(other)) => is_same_text(one.text(), other.text()),
+        _ => false,
+    }
+}
+
+fn are_same_texts(first: &[Text], second: &[Text]) -> bool
+    ensures { Decides result (first.now ≡ second.now) }
+{
+    if first.len() != second.len() {
+        return false;
+    }
+    for at in 0..first.len() {
+        if !is_same_text(&first[at], &second[at]) {
+            return false;
+        }
+    }
+    true
+}
+
+fn is_equal_shape(first: &Shape, second: &Shape) -> bool
+    ensures { Decides result (first.now ≡ second.now) }
+{
+    match first {
+        Shape::Absent => matches!(second, Shape::Absent),
+        Shape::Listed => matches!(second, Shape::Listed),
+        Shape::InnerExpression => matches!(second, Shape::InnerExpression),
+        Shape::Program(is_module, directives) => match second {
+            Shape::Program(other_is_module, other_directives) => *is_module == *other_is_module
+                && are_same_texts(directives.as_slice(), other_directives.as_slice()),
+            _ => false,
+        },
+        Shape::ExpressionStatement => matches!(second, Shape::ExpressionStatement),
+        Shape::EmptyStatement => matches!(second, Shape::EmptyStatement),
+        Shape::DebuggerStatement => matches!(second, Shape::DebuggerStatement),
+        Shape::BlockStatement => matches!(second, Shape::BlockStatement),
+        Shape::LabeledStatement => matches!(second, Shape::LabeledStatement),
+        Shape::BreakStatement => matches!(second, Shape::BreakStatement),
+        Shape::ContinueStatement => matches!(second, Shape::ContinueStatement),
+        Shape::ReturnStatement => matches!(second, Shape::ReturnStatement),
+        Shape::ThrowStatement => matches!(second, Shape::ThrowStatement),
+        Shape::IfStatement => matches!(second, Shape::IfStatement),
+        Shape::SwitchStatement => matches!(second, Shape::SwitchStatement),
+        Shape::SwitchCase => matches!(second, Shape::SwitchCase),
+        Shape::TryStatement => matches!(second, Shape::TryStatement),
+        Shape::CatchClause => matches!(second, Shape::CatchClause),
+        Shape::WhileStatement => matches!(second, Shape::WhileStatement),
+        Shape::DoWhileStatement => matches!(second, Shape::DoWhileStatement),
+        Shape::ForStatement => matches!(second, Shape::ForStatement),
+        Shape::ForInStatement => matches!(second, Shape::ForInStatement),
+        Shape::ForOfStatement => matches!(second, Shape::ForOfStatement),
+        Shape::VariableDeclaration(kind) => match second {
+            Shape::VariableDeclaration(other_kind) => *kind == *other_kind,
+            _ => false,
+        },
+        Shape::VariableDeclarator => matches!(second, Shape::VariableDeclarator),
+        Shape::Function(is_declaration, is_generator, directives) => match second {
+            Shape::Function(other_is_declaration, other_is_generator, other_directives) =>
+                *is_declaration == *other_is_declaration
+                    && *is_generator == *other_is_generator
+                    && are_same_texts(directives.as_slice(), other_directives.as_slice()),
+            _ => false,
+        },
+        Shape::ArrowFunctionExpression(directives) => match second {
+            Shape::ArrowFunctionExpression(other_directives) => are_same_texts(
+                directives.as_slice(),
+                other_directives.as_slice(),
+            ),
+            _ => false,
+        },
+        Shape::FunctionBody => matches!(second, Shape::FunctionBody),
+        Shape::Class(is_declaration) => match second {
+            Shape::Class(other_is_declaration) => *is_declaration == *other_is_declaration,
+            _ => false,
+        },
+        Shape::ClassBody => matches!(second, Shape::ClassBody),
+        Shape::MethodDefinition(kind, is_computed, is_static) => match second {
+            Shape::MethodDefinition(other_kind, other_is_computed, other_is_static) => *kind
+                == *other_kind
+                && *is_computed == *other_is_computed
+                && *is_static == *other_is_static,
+            _ => false,
+        },
+        Shape::PropertyDefinition(is_computed, is_static) => match second {
+            Shape::PropertyDefinition(other_is_computed, other_is_static) => *is_computed
+                == *other_is_computed
+                && *is_static == *other_is_static,
+            _ => false,
+        },
+        Shape::StaticBlock => matches!(second, Shape::StaticBlock),
+        Shape::ImportDeclaration => matches!(second, Shape::ImportDeclaration),
+        Shape::ImportSpecifier => matches!(second, Shape::ImportSpecifier),
+        Shape::ImportDefaultSpecifier => matches!(second, Shape::ImportDefaultSpecifier),
+        Shape::ImportNamespaceSpecifier => matches!(second, Shape::ImportNamespaceSpecifier),
+        Shape::ExportNamedDeclaration => matches!(second, Shape::ExportNamedDeclaration),
+        Shape::ExportSpecifier => matches!(second, Shape::ExportSpecifier),
+        Shape::ExportDefaultDeclaration => matches!(second, Shape::ExportDefaultDeclaration),
+        Shape::ExportAllDeclaration => matches!(second, Shape::ExportAllDeclaration),
+        Shape::Identifier => matches!(second, Shape::Identifier),
+        Shape::BindingIdentifier => matches!(second, Shape::BindingIdentifier),
+        Shape::IdentifierName(text) => match second {
+            Shape::IdentifierName(other_text) => is_same_text(text, other_text),
+            _ => false,
+        },
+        Shape::PrivateIdentifier(text) => match second {
+            Shape::PrivateIdentifier(other_text) => is_same_text(text, other_text),
+            _ => false,
+        },
+        Shape::NumericLiteral(value) => match second {
+            Shape::NumericLiteral(other_value) => *value == *other_value,
+            _ => false,
+        },
+        Shape::StringLiteral(text) => match second {
+            Shape::StringLiteral(other_text) => is_same_text(text, other_text),
+            _ => false,
+        },
+        Shape::BooleanLiteral(value) => match second {
+            Shape::BooleanLiteral(other_value) => *value == *other_value,
+            _ => false,
+        },
+        Shape::NullLiteral => matches!(second, Shape::NullLiteral),
+        Shape::RegExpLiteral(pattern, flags) => match second {
+            Shape::RegExpLiteral(other_pattern, other_flags) => is_same_text(
+                pattern.text(),
+                other_pattern.text(),
+            ) && is_same_text(flags.text(), other_flags.text()),
+            _ => false,
+        },
+        Shape::BigIntLiteral(value) => match second {
+            Shape::BigIntLiteral(other_value) => *value == *other_value,
+            _ => false,
+        },
+        Shape::ThisExpression => matches!(second, Shape::ThisExpression),
+        Shape::Super => matches!(second, Shape::Super),
+        Shape::ArrayExpression => matches!(second, Shape::ArrayExpression),
+        Shape::ObjectExpression => matches!(second, Shape::ObjectExpression),
+        Shape::ObjectProperty(kind, is_method, is_shorthand, is_computed) => match second {
+            Shape::ObjectProperty(
+                other_kind,
+                other_is_method,
+                other_is_shorthand,
+                other_is_computed,
+            ) => *kind == *other_kind
+                && *is_method == *other_is_method
+                && *is_shorthand == *other_is_shorthand
+                && *is_computed == *other_is_computed,
+            _ => false,
+        },
+        Shape::SpreadElement => matches!(second, Shape::SpreadElement),
+        Shape::UnaryExpression(operator) => match second {
+            Shape::UnaryExpression(other_operator) => *operator == *other_operator,
+            _ => false,
+        },
+        Shape::UpdateExpression(operator, is_prefix) => match second {
+            Shape::UpdateExpression(other_operator, other_is_prefix) => *operator == *other_operator
+                && *is_prefix == *other_is_prefix,
+            _ => false,
+        },
+        Shape::BinaryExpression(operator) => match second {
+            Shape::BinaryExpression(other_operator) => *operator == *other_operator,
+            _ => false,
+        },
+        Shape::PrivateInExpression => matches!(second, Shape::PrivateInExpression),
+        Shape::LogicalExpression(operator) => match second {
+            Shape::LogicalExpression(other_operator) => *operator == *other_operator,
+            _ => false,
+        },
+        Shape::AssignmentExpression(operator) => match second {
+            Shape::AssignmentExpression(other_operator) => *operator == *other_operator,
+            _ => false,
+        },
+        Shape::ConditionalExpression => matches!(second, Shape::ConditionalExpression),
+        Shape::SequenceExpression => matches!(second, Shape::SequenceExpression),
+        Shape::CallExpression(is_optional) => match second {
+            Shape::CallExpression(other_is_optional) => *is_optional == *other_is_optional,
+            _ => false,
+        },
+        Shape::SuperCallExpression => matches!(second, Shape::SuperCallExpression),
+        Shape::NewExpression => matches!(second, Shape::NewExpression),
+        Shape::StaticMemberExpression(is_optional) => match second {
+            Shape::StaticMemberExpression(other_is_optional) => *is_optional == *other_is_optional,
+            _ => false,
+        },
+        Shape::ComputedMemberExpression(is_optional) => match second {
+            Shape::ComputedMemberExpression(other_is_optional) => *is_optional
+                == *other_is_optional,
+            _ => false,
+        },
+        Shape::PrivateFieldExpression(is_optional) => match second {
+            Shape::PrivateFieldExpression(other_is_optional) => *is_optional == *other_is_optional,
+            _ => false,
+        },
+        Shape::SuperStaticMemberExpression => matches!(second, Shape::SuperStaticMemberExpression),
+        Shape::SuperComputedMemberExpression => matches!(
+            second,
+            Shape::SuperComputedMemberExpression
+        ),
+        Shape::ChainExpression => matches!(second, Shape::ChainExpression),
+        Shape::YieldExpression(is_delegate) => match second {
+            Shape::YieldExpression(other_is_delegate) => *is_delegate == *other_is_delegate,
+            _ => false,
+        },
+        Shape::TemplateLiteral => matches!(second, Shape::TemplateLiteral),
+        Shape::TemplateElement(is_tail, raw, cooked) => match second {
+            Shape::TemplateElement(other_is_tail, other_raw, other_cooked) => *is_tail
+                == *other_is_tail
+                && is_same_text(raw.text(), other_raw.text())
+                && is_same_cooked(cooked, other_cooked),
+            _ => false,
+        },
+        Shape::TaggedTemplateExpression => matches!(second, Shape::TaggedTemplateExpression),
+        Shape::MetaProperty(kind) => match second {
+            Shape::MetaProperty(other_kind) => *kind == *other_kind,
+            _ => false,
+        },
+        Shape::ImportExpression => matches!(second, Shape::ImportExpression),
+        Shape::ObjectPattern => matches!(second, Shape::ObjectPattern),
+        Shape::ArrayPattern => matches!(second, Shape::ArrayPattern),
+        Shape::BindingProperty(is_shorthand, is_computed) => match second {
+            Shape::BindingProperty(other_is_shorthand, other_is_computed) => *is_shorthand
+                == *other_is_shorthand
+                && *is_computed == *other_is_computed,
+            _ => false,
+        },
+        Shape::RestElement => matches!(second, Shape::RestElement),
+        Shape::AssignmentPattern => matches!(second, Shape::AssignmentPattern),
+        Shape::ObjectAssignmentTarget => matches!(second, Shape::ObjectAssignmentTarget),
+        Shape::ArrayAssignmentTarget => matches!(second, Shape::ArrayAssignmentTarget),
+        Shape::AssignmentTargetPropertyIdentifier => matches!(
+            second,
+            Shape::AssignmentTargetPropertyIdentifier
+        ),
+        Shape::AssignmentTargetPropertyProperty(is_computed) => match second {
+            Shape::AssignmentTargetPropertyProperty(other_is_computed) => *is_computed
+                == *other_is_computed,
+            _ => false,
+        },
+    }
+}
+
+fn is_same_shape(first: &Shape, second: &Shape) -> bool
+    ensures { result ≡ equal.same_shape first.now second.now }
+{
+    is_equal_shape(first, second)
+}
+
+fn is_equal_name(first: &Option<Name>, second: &Option<Name>) -> bool
+    ensures { Decides result (names first.now ≡ names second.now) }
+{
+    match (first, second) {
+        (None, None) => true,
+        (Some(one), Some(other)) => {
+            one.symbol == other.symbol && is_same_text(&one.spelling, &other.spelling)
+        }
+        _ => false,
+    }
+}
+
+fn is_same_name(first: &Option<Name>, second: &Option<Name>) -> bool
+    ensures { result ≡ equal.same_names (names first.now) (names second.now) }
+{
+    is_equal_name(first, second)
+}
+
+// Whether they are equal, whatever their children are.
+fn is_same_root(first: &Node, second: &Node) -> bool
+    ensures { result ≡ equal.same_root first.now second.now }
+{
+    is_same_shape(first.shape(), second.shape())
+        && first.number() == second.number()
+        && is_same_name(first.name(), second.name())
+}
+
+/// Whether the two are equal: their shapes with all plain fields, their names with spelling and symbol, their numbers, and so
+/// their children. Of two functions or classes of a program none is.
+#[cycle(comparing)]
+#[tactic(auto, using(crate::proofs::Equality::by_root))]
+pub fn is_same_tree(first: &Node, second: &Node) -> bool
+    ensures { result ≡ equal.same_tree first.now second.now }
+{
+    is_same_root(first, second) && are_same_trees(first.children(), second.children())
+}
+
+#[cycle(comparing)]
+fn are_same_trees(first: &Nodes, second: &Nodes) -> bool
+    ensures { result ≡ equal.same_trees first.now second.now }
+{
+    let count = first.len();
+    if second.len() != count {
+        return false;
+    }
+    for at in 0..count {
+        if !is_same_tree(first.child(at), second.child(at)) {
+            return false;
+        }
+    }
+    true
+}
