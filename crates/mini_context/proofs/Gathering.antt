@@ -1,6 +1,7 @@
 -- A walk over the children of a node, which adds to a state what each of them gives.
-use Rattle.std.specs.Prelude.{ℕ, suc, ◌+◌, ◌≡◌, ◌≤◌, ◌<◌, List, [], ◌++◌}
+use Rattle.std.specs.Prelude.{ℕ, suc, ◌+◌, ◌≡◌, ◌≤◌, ◌<◌, List, [], ◌∷◌, ◌++◌, length, map, slice_index_or, take}
 use Rattle.std.proofs.Common.{ap, ◌∙◌, sym, subst, add-one}
+use Rattle.std.proofs.lemmas.List.{map-append, take_all, take_more}
 use Rattle.mini_model.specs.Tree.{Tree, Trees, none, ◌▸◌, count, child_or_absent}
 use Rattle.mini_node.specs.Children.{rest_children}
 use Rattle.mini_node.specs.Walks.{next_child, no_rest, from_first}
@@ -35,3 +36,15 @@ turn R f F a g ts i t start now next h e r u =
 
 pub finished : {A S : Type 0} (R : List A → S → S → Type 0) (f F : ℕ → Trees → List A) → Adds R → Gathers f F → (ts : Trees) (i : ℕ) (start now : S) → count ts ≤ i → Until R F ts i start now → R (F 0 ts) start now
 finished R f F a g ts i start now h u = u now (subst (λ xs. R xs now now) (sym (ap (F i) (no_rest ts i h) ∙ g.at_none i)) (a.nothing now))
+
+-- the same over the items of a slice, of each of which something is added
+pub items_begin : {A B S : Type 0} (R : List B → S → S → Type 0) (f : A → B) → Adds R → (xs : List A) (s : S) → R (map f (take 0 xs)) s s
+items_begin R f a xs s = a.nothing s
+
+pub items_turn : {A B S : Type 0} (R : List B → S → S → Type 0) (f : A → B) → Adds R → (xs : List A) (i : ℕ) (x : A) (start now next : S) → i < length xs → x ≡ slice_index_or xs i x → R (map f (take i xs)) start now → R (f x ∷ []) now next → R (map f (take (i + 1) xs)) start next
+items_turn R f a xs i x start now next h e r q =
+    subst (λ ys. R ys start next) (sym (ap (map f) (take_more xs i x h ∙ ap (λ y. take i xs ++ y ∷ []) (sym e)) ∙ map-append f (take i xs) (x ∷ [])))
+    (a.both (map f (take i xs)) (f x ∷ []) start now next r q)
+
+pub items_end : {A B S : Type 0} (R : List B → S → S → Type 0) (f : A → B) (xs : List A) (i : ℕ) (start now : S) → length xs ≤ i → R (map f (take i xs)) start now → R (map f xs) start now
+items_end R f xs i start now h r = subst (λ ys. R (map f ys) start now) (take_all i xs h) r

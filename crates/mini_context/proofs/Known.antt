@@ -8,12 +8,12 @@ use Rattle.mini_model.specs.declared.shape.Shape.TheVariants as shape
 use Rattle.mini_model.specs.Tree.{Tree, Trees, node, none, ◌▸◌, shape_of, children, node_count, node_counts}
 use Rattle.mini_names.specs.declared.Use.{Use}
 use Rattle.mini_names.specs.declared.Use.TheVariants.{Read}
-use Rattle.mini_names.specs.References.{Reference, references, references_from, own_references, reads as is_read, writes as is_write, one_more, with_reference, counted, counts_of}
+use Rattle.mini_names.specs.References.{Reference, references, references_from, own_references, reads as is_read, one_more, with_reference, counted, counts_of}
 use Rattle.mini_names.specs.Scopes.{use_of}
 use Rattle.mini_node.specs.Children.{trees_of, names_of}
 use Rattle.mini_tree.specs.declared.options.CompressOptions.{CompressOptions}
 use Rattle.mini_context.specs.declared.context.TraverseCtx.{TraverseCtx}
-use Rattle.mini_context.specs.Facts.{Facts, Looked, Tells, Refreshed}
+use Rattle.mini_context.specs.Facts.{Facts, Told, Tells, Refreshed}
 use Rattle.mini_context.specs.Known.{Knows, own_reference_count, reference_count, reference_counts}
 use Rattle.mini_context.proofs.Numbers.{set_length}
 
@@ -71,20 +71,14 @@ counts_length p n t = counted_length p (references Read t) (replicate n 0) ∙ r
 
 -- ---- at first, and anew
 
+pub refreshed_by : (old new : Facts) (n : ℕ) (t : Tree) → n ≡ length old.reads → new.tops ≡ old.tops → Told new n t → Refreshed old new t
+refreshed_by old new n t e f k = record { told = subst (λ l. Told new l t) e k; tops_kept = f }
+
 told_at_first : (f : Facts) (n m : ℕ) (t : Tree) → m ≡ n → m ≡ length f.reads → Tells f n t → Refreshed f f t
-told_at_first f n m t e d k =
-    let same : n ≡ length f.reads = sym e ∙ d in record {
-      reads_told = k.reads_told ∙ ap (λ l. counts_of is_read l t) same;
-      writes_told = k.writes_told ∙ ap (λ l. counts_of is_write l t) same;
-      looked = subst (λ l. Looked f l t) same k.looked;
-      fixed_kept = refl;
-      tops_kept = refl;
-      owners_kept = refl;
-      strict_kept = refl;
-      evals_kept = refl;
-      this_kept = refl;
-      arguments_kept = refl;
-    }
+told_at_first f n m t e d k = record {
+  told = subst (λ l. Told f l t) (sym e ∙ d) k.told;
+  tops_kept = refl;
+}
 
 pub known_at_first : (c : TraverseCtx) (o : CompressOptions) (n : ℕ) (t : Tree) → c.options ≡ o → Tells c.scopes n t → Knows c o t
 known_at_first c o n t e k = record {
@@ -93,23 +87,14 @@ known_at_first c o n t e k = record {
   symbols = n;
   told = c.scopes;
   tells = k;
-  refreshed = told_at_first c.scopes n n t refl (sym (ap length k.reads_told ∙ counts_length is_read n t)) k;
+  refreshed = told_at_first c.scopes n n t refl (sym (ap length k.told.reads_told ∙ counts_length is_read n t)) k;
 }
 
 told_again : (f g h : Facts) (t u : Tree) → Refreshed f g t → Refreshed g h u → Refreshed f h u
-told_again f g h t u k l =
-    let same : length g.reads ≡ length f.reads = ap length k.reads_told ∙ counts_length is_read (length f.reads) t in record {
-      reads_told = l.reads_told ∙ ap (λ n. counts_of is_read n u) same;
-      writes_told = l.writes_told ∙ ap (λ n. counts_of is_write n u) same;
-      looked = subst (λ n. Looked h n u) same l.looked;
-      fixed_kept = l.fixed_kept ∙ k.fixed_kept;
-      tops_kept = l.tops_kept ∙ k.tops_kept;
-      owners_kept = l.owners_kept ∙ k.owners_kept;
-      strict_kept = l.strict_kept ∙ k.strict_kept;
-      evals_kept = l.evals_kept ∙ k.evals_kept;
-      this_kept = l.this_kept ∙ k.this_kept;
-      arguments_kept = l.arguments_kept ∙ k.arguments_kept;
-    }
+told_again f g h t u k l = record {
+  told = subst (λ n. Told h n u) (ap length k.told.reads_told ∙ counts_length is_read (length f.reads) t) l.told;
+  tops_kept = l.tops_kept ∙ k.tops_kept;
+}
 
 pub known_anew : (c d : TraverseCtx) (o : CompressOptions) (t u : Tree) → d.options ≡ c.options → Refreshed c.scopes d.scopes u → Knows c o t → Knows d o u
 known_anew c d o t u e r k = record {

@@ -1,8 +1,8 @@
 -- The walk that lists scopes, and the scope of each symbol.
-use Rattle.std.specs.Prelude.{ℕ, zero, suc, ◌+◌, ◌-◌, ◌≡◌, ◌≤◌, ◌<◌, refl, nat_lt, Bool, true, false, List, [], ◌∷◌, ◌++◌, length, map, replicate, slice_index, if◌then◌else◌}
+use Rattle.std.specs.Prelude.{ℕ, suc, ◌+◌, ◌≡◌, ◌≤◌, ◌<◌, refl, Bool, true, false, ◌||◌, List, [], ◌∷◌, ◌++◌, length, map, slice_index, if◌then◌else◌}
 use Rattle.std.proofs.Common.{ap, ◌∙◌, sym, subst, arith, append_assoc}
 use Rattle.std.proofs.lemmas.List.{append-nil, length-append}
-use Rattle.std.proofs.lemmas.Bool.{ltb-true, ltb-false}
+use Rattle.std.proofs.lemmas.List.Folds.{list_any-append}
 use Rattle.mini_model.specs.declared.name.Name.{Name}
 use Rattle.mini_model.specs.declared.shape.Shape.{Shape}
 use Rattle.mini_model.specs.Tree.{Tree, Trees, node, ◌▸◌, count, shape_of, children, child_or_absent, first_or_absent}
@@ -12,11 +12,13 @@ use Rattle.mini_names.specs.declared.Use.{Use}
 use Rattle.mini_names.specs.declared.Binding.{Binding}
 use Rattle.mini_names.specs.Scopes.{use_of, opened}
 use Rattle.mini_names.specs.Strict.{is_strict_in}
-use Rattle.mini_names.specs.ScopeList.{Scope, seen_in, any_has_eval, entered, least_scopes, names_in, scope_list, scope_list_from, scope_from}
+use Rattle.mini_names.specs.ScopeList.{Scope, by_symbol, seen_in, any_has_eval, entered, has_eval, is_eval_call, least_scopes, names_in, scope_list, scope_list_from, scope_from}
 use Rattle.mini_scope.specs.ScopeAt.{scope_at}
 use Rattle.mini_scope.specs.declared.opening.OpenScopes.{OpenScopes}
 use Rattle.mini_context.specs.declared.listing.ScopeTables.{ScopeTables}
-use Rattle.mini_context.specs.Tables.{Listed, Marked, owners_from}
+use Rattle.mini_context.specs.Tables.{named, Listed, Marked, Owned, OwnedBy}
+use Rattle.mini_names.specs.Mentions.{is_among, same_variable}
+use Rattle.mini_context.proofs.Evals.{evals_step}
 use Rattle.mini_context.proofs.Gathering.{Adds, Gathers, Until, turn}
 use Rattle.mini_context.proofs.Marking.{marks_add}
 
@@ -28,12 +30,19 @@ map_length : {A B : Type 0} (f : A → B) (xs : List A) → length (map f xs) �
 map_length f [] = refl
 map_length f (x ∷ xs) = ap suc (map_length f xs)
 
-owners_both : (k : ℕ) (xs ys : List Scope) → owners_from k (xs ++ ys) ≡ owners_from k xs ++ owners_from (k + length xs) ys
-owners_both k [] ys = ap (λ j. owners_from j ys) (omega arith)
-owners_both k (x ∷ xs) ys =
-    ap (λ r. replicate (length x.names) k ++ r) (owners_both (suc k) xs ys)
-    ∙ sym (append_assoc (replicate (length x.names) k) (owners_from (suc k) xs) (owners_from (suc k + length xs) ys))
-    ∙ ap (λ j. (replicate (length x.names) k ++ owners_from (suc k) xs) ++ owners_from j ys) (omega arith)
+owner_both : (f k : ℕ) (xs ys : List Scope) (s : ℕ) → scope_from f k (xs ++ ys) s ≡ scope_from (scope_from f k xs s) (k + length xs) ys s
+owner_both f k [] ys s = ap (λ j. scope_from f j ys s) (omega arith)
+owner_both f k (x ∷ xs) ys s =
+    let g = if is_among (by_symbol s) x.names then k else f in
+    owner_both g (suc k) xs ys s ∙ ap (λ j. scope_from (scope_from g (suc k) xs s) j ys s) (omega arith)
+
+owned_both : (k m : ℕ) (xs ys : List Scope) (a b c : List ℕ) → m ≡ k + length xs → Owned k xs a b → Owned m ys b c → Owned k (xs ++ ys) a c
+owned_both k m xs ys a b c e f g = record {
+  symbols = g.symbols ∙ f.symbols;
+  each = λ s h.
+      let within : s < length b = omega (arith, h, f.symbols) in
+      g.each s within ∙ ap (λ o. scope_from o m ys s) (f.each s h) ∙ ap (λ j. scope_from (scope_from (slice_index a s) k xs s) j ys s) e ∙ sym (owner_both (slice_index a s) k xs ys s);
+}
 
 two : {A : Type 0} (a b c d e : List A) → b ≡ a ++ d → c ≡ b ++ e → c ≡ a ++ (d ++ e)
 two a b c d e f g = g ∙ ap (λ r. r ++ e) f ∙ append_assoc a d e
@@ -57,14 +66,13 @@ lists_add = record {
   nothing = λ s. record {
     stricts = sym (append-nil s.strict.items);
     evals = sym (append-nil s.evals.items);
-    owners = sym (append-nil s.owners.items);
+    owners = record { symbols = refl; each = λ k h. refl };
     seen = marks_add.nothing s.seen.items;
   };
   both = λ xs ys a b c f g. record {
     stricts = flags_both (λ s. s.strict) xs ys a.strict.items b.strict.items c.strict.items f.stricts g.stricts;
     evals = flags_both (λ s. s.evals) xs ys a.evals.items b.evals.items c.evals.items f.evals g.evals;
-    owners = two a.owners.items b.owners.items c.owners.items (owners_from (length a.strict.items) xs) (owners_from (length a.strict.items + length xs) ys) f.owners (g.owners ∙ ap (λ k. b.owners.items ++ owners_from k ys) (listed_length xs a b f))
-        ∙ ap (λ r. a.owners.items ++ r) (sym (owners_both (length a.strict.items) xs ys));
+    owners = owned_both (length a.strict.items) (length b.strict.items) xs ys a.owners.items b.owners.items c.owners.items (listed_length xs a b f) f.owners g.owners;
     seen = subst (λ ns. Marked ns a.seen.items c.seen.items) (sym (seen_both xs ys)) (marks_add.both (seen_in xs) (seen_in ys) a.seen.items b.seen.items c.seen.items f.seen g.seen);
   };
 }
@@ -111,23 +119,44 @@ child_listed scope uses least strict ts i o o' start now mid next bs l u t w h e
 
 -- ---- the scope of a symbol
 
-in_run : (m k : ℕ) (rest : List ℕ) (s : ℕ) → s < m → slice_index (replicate m k ++ rest) s ≡ k
-in_run zero k rest s h = absurd (omega arith)
-in_run (suc m) k rest zero h = refl
-in_run (suc m) k rest (suc s) h = in_run m k rest s (omega arith)
+-- one scope more, which declares these names
+pub scope_listed : (k : ℕ) (r : Scope) (old new : List ℕ) → OwnedBy k r.names old new → Owned k (r ∷ []) old new
+scope_listed k r old new o = record { symbols = o.symbols; each = o.each }
 
-past_run : (m k : ℕ) (rest : List ℕ) (s : ℕ) → m ≤ s → slice_index (replicate m k ++ rest) s ≡ slice_index rest (s - m)
-past_run zero k rest s h = ap (slice_index rest) (omega arith)
-past_run (suc m) k rest zero h = absurd (omega arith)
-past_run (suc m) k rest (suc s) h = past_run m k rest s (omega arith) ∙ ap (slice_index rest) (omega arith)
+owned_twice : (a b : Bool) (k o : ℕ) → (if b then k else (if a then k else o)) ≡ (if a || b then k else o)
+owned_twice true true k o = refl
+owned_twice true false k o = refl
+owned_twice false b k o = refl
 
-run_by : (b : Bool) (m k : ℕ) (rest : List ℕ) (s : ℕ) → nat_lt s m ≡ b → slice_index (replicate m k ++ rest) s ≡ (if b then k else slice_index rest (s - m))
-run_by true m k rest s e = in_run m k rest s (ltb-true s m e)
-run_by false m k rest s e = past_run m k rest s (ltb-false s m e)
+pub owners_add : (k : ℕ) → Adds (OwnedBy k)
+owners_add k = record {
+  nothing = λ s. record { symbols = refl; each = λ i h. refl };
+  both = λ xs ys a b c f g. record {
+    symbols = g.symbols ∙ f.symbols;
+    each = λ s h.
+        let within : s < length b = omega (arith, h, f.symbols) in
+        g.each s within ∙ ap (λ o. if is_among (named s) ys then k else o) (f.each s h)
+        ∙ owned_twice (is_among (named s) xs) (is_among (named s) ys) k (slice_index a s)
+        ∙ ap (λ v. if v then k else slice_index a s) (sym (list_any-append (same_variable (named s)) xs ys));
+  };
+}
 
-run_index : (m k : ℕ) (rest : List ℕ) (s : ℕ) → slice_index (replicate m k ++ rest) s ≡ (if nat_lt s m then k else slice_index rest (s - m))
-run_index m k rest s = run_by (nat_lt s m) m k rest s refl
+-- ---- direct evals
 
-pub owner_told : (k : ℕ) (ss : List Scope) (s : ℕ) → slice_index (owners_from k ss) s ≡ scope_from k ss s
-owner_told k [] s = refl
-owner_told k (r ∷ rs) s = run_index (length r.names) k (owners_from (suc k) rs) s ∙ ap (λ v. if nat_lt s (length r.names) then k else v) (owner_told (suc k) rs (s - length r.names))
+neither_first : (a b : Bool) → (a || b) ≡ false → a ≡ false
+neither_first true b e = absurd (cc e)
+neither_first false b e = refl
+
+neither_second : (a b : Bool) → (a || b) ≡ false → b ≡ false
+neither_second true b e = absurd (cc e)
+neither_second false b e = e
+
+pub none_in_child : (m : Bool) (ts : Trees) (i : ℕ) (t : Tree) → (m ≡ false → any_has_eval (rest_children i ts) ≡ false) → i < count ts → t ≡ child_or_absent ts i → m ≡ false → has_eval t ≡ false
+none_in_child m ts i t f h e g = neither_first (has_eval t) (any_has_eval (rest_children (i + 1) ts)) (sym (evals_step ts i t h e) ∙ f g)
+
+pub none_in_rest : (m : Bool) (ts : Trees) (i : ℕ) (t : Tree) → (m ≡ false → any_has_eval (rest_children i ts) ≡ false) → i < count ts → t ≡ child_or_absent ts i → m ≡ false → any_has_eval (rest_children (i + 1) ts) ≡ false
+none_in_rest m ts i t f h e g = neither_second (has_eval t) (any_has_eval (rest_children (i + 1) ts)) (sym (evals_step ts i t h e) ∙ f g)
+
+pub none_below : (m : Bool) (n : Tree) → (m ≡ false → has_eval n ≡ false) → m ≡ false → any_has_eval (children n) ≡ false
+unfolding has_eval
+none_below m (node h xs k ts) f g = neither_second (is_eval_call h ts) (any_has_eval ts) (f g)

@@ -11,7 +11,8 @@ use Rattle.mini_names.specs.declared.Use.TheVariants.{Read}
 use Rattle.mini_names.specs.References.{Reference, references, has_symbol, one_more, with_reference, counted, counts_of}
 use Rattle.mini_context.specs.declared.count.Tally.{Tally}
 use Rattle.mini_context.specs.declared.count.Tally.TheVariants.{In, Out}
-use Rattle.mini_context.specs.Tallies.{tallied, tallied_one, tallied_number, tallied_symbol, times_of, Contained, FellBy}
+use Rattle.mini_names.specs.Counts.{times_of, Contained, FellBy}
+use Rattle.mini_context.specs.Tallies.{tallied, tallied_one, tallied_number, tallied_symbol}
 
 -- one where a test holds
 one_if : Bool → ℕ
@@ -162,13 +163,3 @@ rose p (r ∷ rs) c s h = omega (arith, times_more p s r rs, rose p rs (with_ref
 -- the counts of a tree are how often each of its symbols is read, or written
 pub counts_are_times : (p : Use → Bool) (n : ℕ) (t : Tree) (s : ℕ) → s < n → slice_index (counts_of p n t) s ≡ times_of p s (references Read t)
 counts_are_times p n t s h = omega (arith, rose p (references Read t) (replicate n 0) s (omega (arith, h, zeros_length n)), zeros_index n s)
-
--- ---- a part that is dropped
-
-sum_both : (p : Use → Bool) (s : ℕ) (xs ys : List Reference) → times_of p s (xs ++ ys) ≡ times_of p s xs + times_of p s ys
-sum_both p s [] ys = sym (zero-add (times_of p s ys))
-sum_both p s (x ∷ xs) ys = omega (arith, times_more p s x xs, times_more p s x (xs ++ ys), sum_both p s xs ys)
-
-pub left_over : (p : Use → Bool) (before part after : List Reference) (n : ℕ) (old new : List ℕ) → ((s : ℕ) → s < n → slice_index old s ≡ times_of p s (before ++ part ++ after)) → FellBy p part old new → (s : ℕ) → s < n → slice_index new s ≡ times_of p s (before ++ after)
-left_over p before part after n old new are f s h =
-    omega (arith, are s h, f.each s, sum_both p s (before ++ part) after, sum_both p s before part, sum_both p s before after)

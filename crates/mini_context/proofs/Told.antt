@@ -27,12 +27,12 @@ use Rattle.mini_context.specs.Lists.{holds, Housed}
 use Rattle.mini_names.specs.ScopeList.{Scope, names_in, scope_from}
 use Rattle.mini_scope.specs.ScopeAt.{scope_at}
 use Rattle.mini_scope.specs.declared.opening.OpenScopes.{OpenScopes}
+use Rattle.mini_context.specs.declared.standing.Reading.{Reading}
 use Rattle.mini_context.specs.declared.standing.Standing.{Standing}
 use Rattle.mini_context.specs.Own.{is_script_shape}
-use Rattle.mini_context.specs.Tables.{mark_at, named, Marked, Noted, owners_from}
-use Rattle.mini_context.specs.Visits.{visits, given, fixed_at, bodies_at, mentions_at, exchanged_at, reached_at, imported_at, patterns_at, lexical_at, switched_at, params_at, caught_at, writes_at, binds_at, enclosing_at, is_writing, is_binding, frame_in, top}
+use Rattle.mini_context.specs.Tables.{mark_at, named, Marked, Noted, Owned}
+use Rattle.mini_context.specs.Visits.{visits, given, fixed_at, bodies_at, mentions_at, exchanged_at, reached_at, imported_at, patterns_at, lexical_at, switched_at, params_at, caught_at, writes_at, binds_at, enclosing_at, is_writing, is_binding, frame_in, first_reading, top}
 use Rattle.mini_context.proofs.Surveys.{fixed_told, bodies_told, mentions_told, modules_told, reached_told, imported_told, patterns_told, lexical_told, switched_told, params_told, caught_told, enclosed_told, filtered}
-use Rattle.mini_context.proofs.Listings.{owner_told}
 use Rattle.mini_context.proofs.Marking.{marks_add}
 
 blank : (n s : ℕ) → mark_at (replicate n false) s ≡ false
@@ -57,9 +57,19 @@ body_by p a t old new e f m b =
     let q : Body → Bool = λ r. nat_eq r.number b && p r.frame in
     m b ∙ ap (λ o. mark_at o b || list_any q (given bodies_at (visits a t))) f ∙ ap (list_any q) (bodies_told no_frame a (sym (ap (λ s. frame_in s.frame) e)) t)
 
-pub owner_by : (ss : List Scope) (a b : List ℕ) (c : List Bool) → a ≡ [] → c ≡ [] → b ≡ a ++ owners_from (length c) ss → (s : ℕ) → slice_index b s ≡ scope_from 0 ss s
-owner_by ss a b c e f g s =
-    ap (λ o. slice_index o s) (g ∙ ap (λ r. r ++ owners_from (length c) ss) e ∙ ap (λ r. owners_from (length r) ss) f) ∙ owner_told 0 ss s
+no_owner : (n s : ℕ) → slice_index (replicate n 0) s ≡ 0
+no_owner zero s = refl
+no_owner (suc n) zero = refl
+no_owner (suc n) (suc s) = no_owner n s
+
+zeros_length : (n : ℕ) → length {A = ℕ} (replicate n 0) ≡ n
+zeros_length zero = refl
+zeros_length (suc n) = ap suc (zeros_length n)
+
+pub owner_by : (n : ℕ) (ss : List Scope) (a b : List ℕ) (c : List Bool) → a ≡ replicate n 0 → c ≡ [] → Owned (length c) ss a b → (s : ℕ) → s < n → slice_index b s ≡ scope_from 0 0 ss s
+owner_by n ss a b c e f o s h =
+    o.each s (omega (arith, h, ap length e, zeros_length n))
+    ∙ ap (λ r. scope_from (slice_index r s) (length c) ss s) e ∙ ap (λ v. scope_from v (length c) ss s) (no_owner n s) ∙ ap (λ r. scope_from 0 (length r) ss s) f
 
 pub flags_by : (f : Scope → Bool) (ss : List Scope) (a b : List Bool) → a ≡ [] → b ≡ a ++ map f ss → b ≡ map f ss
 flags_by f ss a b e g = g ∙ ap (λ r. r ++ map f ss) e
@@ -183,7 +193,7 @@ homes_by n a t old new e f j s h b =
     ∙ ap (list_any p) (some_mentions is_binding a t e)
     ∙ bound_by s b (program_mentions t)
 
-pub values_by : (a : Standing) (env : Environment) (t : Tree) (old new : List Mentioned) → a ≡ top → env ≡ [] → Joined (var_writes a.usage env a.around t) old new → Joined (program_var_writes t) old new
+pub values_by : (a : Reading) (env : Environment) (t : Tree) (old new : List Mentioned) → a ≡ first_reading → env ≡ [] → Joined (var_writes a.usage env a.around t) old new → Joined (program_var_writes t) old new
 values_by a env t old new e f j = subst (λ r. Joined (var_writes Read r outermost t) old new) f (subst (λ r. Joined (var_writes r.usage env r.around t) old new) e j)
 
 not_true : (b : Bool) → b ≡ true → b ≡ false → ⊥
@@ -215,7 +225,7 @@ enclosed_by n a t old new e f g s h b =
 
 -- ---- in the order of evaluation
 
-pub early_by : (n : ℕ) (a : Standing) (t : Tree) (old new : Moments) → a ≡ top → old.ended.items ≡ replicate n false → old.early.items ≡ replicate n [] → Passed (moments a.usage a.around t) old new → (s : ℕ) → s < n → (b : ℕ) → holds new.early.items s b ≡ is_read_early b (named s) (moments Read outermost t)
+pub early_by : (n : ℕ) (a : Reading) (t : Tree) (old new : Moments) → a ≡ first_reading → old.ended.items ≡ replicate n false → old.early.items ≡ replicate n [] → Passed (moments a.usage a.around t) old new → (s : ℕ) → s < n → (b : ℕ) → holds new.early.items s b ≡ is_read_early b (named s) (moments Read outermost t)
 early_by n a t old new e f g p s h b =
     p.reads s (omega (arith, h, ap length f, blank_length n)) (omega (arith, h, ap length g, unlisted_length n)) b
     ∙ ap (λ v. v || (not (mark_at old.ended.items s) && is_read_early b (named s) (moments a.usage a.around t))) (ap (λ r. holds r s b) g ∙ unlisted n s b)

@@ -11,7 +11,7 @@ use Rattle.mini_model.specs.Tree.{Tree, Trees, node, none, ◌▸◌}
 use Rattle.mini_names.specs.declared.Use.{Use}
 use Rattle.mini_names.specs.Scopes.{use_of}
 use Rattle.mini_names.specs.References.{Reference, own_references, references, references_from, has_symbol}
-use Rattle.mini_context.specs.Tallies.{times_of}
+use Rattle.mini_names.specs.Counts.{times_of}
 
 -- a part is used either as its node is, or in one way
 use_alike : (p : Use → Bool) (h : Shape) (u v : Use) (i : ℕ) → p u ≡ p v → p (use_of h u i) ≡ p (use_of h v i)

@@ -1,10 +1,11 @@
 -- The walk that lists scopes and adds what `var`s write.
-use Rattle.std.specs.Prelude.{ℕ, zero, suc, ◌+◌, ◌≡◌, ◌≤◌, ◌<◌, refl, Bool, List, [], ◌∷◌, ◌++◌, length, map, take}
+use Rattle.std.specs.Prelude.{ℕ, zero, suc, ◌+◌, ◌≡◌, ◌≤◌, ◌<◌, refl, Bool, false, List, [], ◌∷◌, ◌++◌, length, map, take}
 use Rattle.std.proofs.Common.{ap, ◌∙◌, sym, subst, arith, add-one}
 use Rattle.std.proofs.lemmas.List.{length-append, take-append-le, take_all}
 use Rattle.mini_model.specs.declared.shape.Shape.{Shape}
 use Rattle.mini_model.specs.Tree.{Tree, Trees, node, count, shape_of, children, child_or_absent, first_or_absent}
 use Rattle.mini_node.specs.Children.{number_of, rest_children, trees_of}
+use Rattle.mini_node.specs.Walks.{from_first}
 use Rattle.mini_names.specs.declared.Use.{Use}
 use Rattle.mini_names.specs.declared.Use.TheVariants as use_is
 use Rattle.mini_names.specs.declared.Around.{Around}
@@ -19,13 +20,13 @@ use Rattle.mini_scope.specs.ScopeAt.{scope_at}
 use Rattle.mini_scope.specs.declared.opening.OpenScopes.{OpenScopes}
 use Rattle.mini_context.specs.declared.listing.ScopeTables.{ScopeTables}
 use Rattle.mini_context.specs.declared.mentions.Mentioned.{Mentioned}
-use Rattle.mini_context.specs.declared.standing.Standing.{Standing}
+use Rattle.mini_context.specs.declared.standing.Reading.{Reading}
 use Rattle.mini_context.specs.Mentioned.{Joined}
 use Rattle.mini_context.specs.Tables.{Listed}
-use Rattle.mini_context.specs.Visits.{below}
+use Rattle.mini_context.specs.Visits.{reading_below}
 use Rattle.mini_context.proofs.Gathering.{Gathers, Until, begins, turn, finished}
 use Rattle.mini_context.proofs.Joining.{joins_add}
-use Rattle.mini_context.proofs.Listings.{ListedTo, child_listed, child_scopes, lists_add, opens, scopes_gather}
+use Rattle.mini_context.proofs.Listings.{ListedTo, child_listed, child_scopes, lists_add, none_in_rest, opens, scopes_gather}
 
 pub few_values : (u : Use) (xs : List Tree) → length xs < 2 → given_by_declarator u (trees_of xs) ≡ []
 few_values use_is.Hoisted [] h = refl
@@ -57,28 +58,30 @@ unfolding var_writes
 values_gather scope uses arounds env = record { at_none = λ i. refl; at_more = λ i t ts. refl }
 
 -- where the loop over the children of a node stands
-pub record Walked (a : Standing) (n : Tree) (scope : ℕ → List Binding) (ts : Trees) (i : ℕ) (o : OpenScopes) (start now : ScopeTables) (env0 env : Environment) (g0 g : List Mentioned) : Type 0 where
+pub record Walked (a : Reading) (n : Tree) (scope : ℕ → List Binding) (ts : Trees) (i : ℕ) (o : OpenScopes) (start now : ScopeTables) (env0 env : Environment) (g0 g : List Mentioned) (may : Bool) : Type 0 where
   pub listed : ListedTo scope (use_of (shape_of n) a.usage) (least_scopes (shape_of n)) (is_strict_in a.strict (shape_of n)) ts i o start now
   pub declared : env ≡ around_at scope env0 i
   pub values : Until Joined (values_from scope (use_of (shape_of n) a.usage) (around_child (shape_of n) a.around (number_of n)) env0) ts i g0 g
+  pub quiet : may ≡ false → any_has_eval (rest_children i ts) ≡ false
 
-pub walk_begins : (a : Standing) (n : Tree) (o : OpenScopes) (ts : Trees) (start : ScopeTables) (env : Environment) (g : List Mentioned) → Walked a n (scope_at o) ts 0 o start start env env g g
-walk_begins a n o ts start env g = record {
+pub walk_begins : (a : Reading) (n : Tree) (o : OpenScopes) (ts : Trees) (start : ScopeTables) (env : Environment) (g : List Mentioned) (may : Bool) → ts ≡ children n → (may ≡ false → any_has_eval (children n) ≡ false) → Walked a n (scope_at o) ts 0 o start start env env g g may
+walk_begins a n o ts start env g may e q = record {
   listed = record {
     left = λ k h. refl;
     so_far = begins Listed (scope_list_from (scope_at o) (use_of (shape_of n) a.usage) (least_scopes (shape_of n)) (is_strict_in a.strict (shape_of n))) ts start;
   };
   declared = refl;
   values = begins Joined (values_from (scope_at o) (use_of (shape_of n) a.usage) (around_child (shape_of n) a.around (number_of n)) env) ts g;
+  quiet = λ f. ap any_has_eval (from_first ts ∙ e) ∙ q f;
 }
 
-pub walk_turns : (a : Standing) (n : Tree) (scope : ℕ → List Binding) (ts : Trees) (i : ℕ) (o o' : OpenScopes) (start now mid next : ScopeTables) (env0 env env' env'' : Environment) (g0 g g' : List Mentioned) (bs own : List Binding) (l : ℕ) (h k : Shape) (st : Bool) (v : Standing) (t : Tree) →
-    Walked a n scope ts i o start now env0 env g0 g → i < count ts → own ≡ scope_at o i → bs ≡ own → ((j : ℕ) → i < j → scope_at o' j ≡ scope_at o j) →
-    l ≡ least_scopes h i → h ≡ shape_of n → st ≡ is_strict_in a.strict k → k ≡ shape_of n → v ≡ below a n i → t ≡ child_or_absent ts i →
+pub walk_turns : (a : Reading) (n : Tree) (scope : ℕ → List Binding) (ts : Trees) (i : ℕ) (o o' : OpenScopes) (start now mid next : ScopeTables) (env0 env env' env'' : Environment) (g0 g g' : List Mentioned) (bs own : List Binding) (l : ℕ) (h k : Shape) (st : Bool) (v : Reading) (t : Tree) (m m' : Bool) →
+    Walked a n scope ts i o start now env0 env g0 g m → i < count ts → own ≡ scope_at o i → bs ≡ own → ((j : ℕ) → i < j → scope_at o' j ≡ scope_at o j) →
+    l ≡ least_scopes h i → h ≡ shape_of n → st ≡ is_strict_in a.strict k → k ≡ shape_of n → v ≡ reading_below a n i → t ≡ child_or_absent ts i →
     Listed (entered l (record { names = names_in bs; strict = st; evals = any_has_eval (rest_children i ts) })) now mid → env' ≡ env ++ own →
     Listed (scope_list v.usage v.strict t) mid next → Joined (var_writes v.usage env' v.around t) g g' → env'' ≡ env' →
-    Walked a n scope ts (i + 1) o' start next env0 env'' g0 g'
-walk_turns a n scope ts i o o' start now mid next env0 env env' env'' g0 g g' bs own l h k st v t w inside e1 e2 rest e3 e4 e5 e6 e7 e8 entering e9 f j e10 =
+    (m' ≡ false → any_has_eval (rest_children i ts) ≡ false) → Walked a n scope ts (i + 1) o' start next env0 env'' g0 g' m'
+walk_turns a n scope ts i o o' start now mid next env0 env env' env'' g0 g g' bs own l h k st v t m m' w inside e1 e2 rest e3 e4 e5 e6 e7 e8 entering e9 f j e10 q =
     let uses = use_of (shape_of n) a.usage in
     let arounds = around_child (shape_of n) a.around (number_of n) in
     let strict = is_strict_in a.strict (shape_of n) in
@@ -92,19 +95,20 @@ walk_turns a n scope ts i o o' start now mid next env0 env env' env'' g0 g g' bs
       listed = child_listed scope uses (least_scopes (shape_of n)) strict ts i o o' start now mid next bs l (uses i) t w.listed inside (e2 ∙ e1) rest (e3 ∙ ap (λ r. least_scopes r i) e4) refl e8 entering' f';
       declared = e10 ∙ around ∙ ap (around_at scope env0) (sym (add-one i));
       values = turn Joined (child_values scope uses arounds env0) (values_from scope uses arounds env0) joins_add (values_gather scope uses arounds env0) ts i t g0 g g' inside e8 j'' w.values;
+      quiet = none_in_rest m' ts i t q inside e8;
     }
 
-pub walk_lists : (a : Standing) (n : Tree) (scope : ℕ → List Binding) (ts : Trees) (i : ℕ) (o : OpenScopes) (start now : ScopeTables) (env0 env : Environment) (g0 g : List Mentioned) → Walked a n scope ts i o start now env0 env g0 g → ts ≡ children n → count ts ≤ i →
+pub walk_lists : (a : Reading) (n : Tree) (scope : ℕ → List Binding) (ts : Trees) (i : ℕ) (o : OpenScopes) (start now : ScopeTables) (env0 env : Environment) (g0 g : List Mentioned) (m : Bool) → Walked a n scope ts i o start now env0 env g0 g m → ts ≡ children n → count ts ≤ i →
     Listed (scope_list_from scope (use_of (shape_of n) a.usage) (least_scopes (shape_of n)) (is_strict_in a.strict (shape_of n)) 0 (children n)) start now
-walk_lists a n scope ts i o start now env0 env g0 g w e over =
+walk_lists a n scope ts i o start now env0 env g0 g m w e over =
     let uses = use_of (shape_of n) a.usage in
     let least = least_scopes (shape_of n) in
     let strict = is_strict_in a.strict (shape_of n) in
     subst (λ us. Listed (scope_list_from scope uses least strict 0 us) start now) e (finished Listed (child_scopes scope uses least strict) (scope_list_from scope uses least strict) lists_add (scopes_gather scope uses least strict) ts i start now over w.listed.so_far)
 
-pub walk_joins : (a : Standing) (n : Tree) (scope : ℕ → List Binding) (ts : Trees) (i : ℕ) (o : OpenScopes) (start now : ScopeTables) (env0 env : Environment) (g0 g : List Mentioned) → Walked a n scope ts i o start now env0 env g0 g → ts ≡ children n → count ts ≤ i →
+pub walk_joins : (a : Reading) (n : Tree) (scope : ℕ → List Binding) (ts : Trees) (i : ℕ) (o : OpenScopes) (start now : ScopeTables) (env0 env : Environment) (g0 g : List Mentioned) (m : Bool) → Walked a n scope ts i o start now env0 env g0 g m → ts ≡ children n → count ts ≤ i →
     Joined (var_writes_from scope (use_of (shape_of n) a.usage) (around_child (shape_of n) a.around (number_of n)) 0 env0 (children n)) g0 g
-walk_joins a n scope ts i o start now env0 env g0 g w e over =
+walk_joins a n scope ts i o start now env0 env g0 g m w e over =
     let uses = use_of (shape_of n) a.usage in
     let arounds = around_child (shape_of n) a.around (number_of n) in
     subst (λ us. Joined (var_writes_from scope uses arounds 0 env0 us) g0 g) e (finished Joined (child_values scope uses arounds env0) (values_from scope uses arounds env0) joins_add (values_gather scope uses arounds env0) ts i g0 g over w.values)

@@ -5,6 +5,7 @@ use Rattle.mini_model.specs.Tree.{Tree}
 use Rattle.mini_names.specs.References.{reads as is_read, writes as is_write, counts_of}
 use Rattle.mini_names.specs.Mentions.{is_among, is_elsewhere, outermost, program_mentions, same_variable}
 use Rattle.mini_context.specs.declared.mentions.Mentioned.{Mentioned}
+use Rattle.mini_context.specs.declared.scopes.Look.{Look}
 use Rattle.mini_names.specs.declared.Use.TheVariants.{Read}
 use Rattle.mini_context.specs.Enclosing.{is_around}
 use Rattle.mini_context.specs.Lists.{holds}
@@ -52,6 +53,10 @@ pub record Facts : Type 0 where
   pub arguments : List Bool
   pub enclosed : List (List ℕ)
 
+-- what a look at a program found, beside a script's top names when it was resolved
+abbrev pub facts_of : Look → List Bool → Facts
+facts_of b tops = record { reads = b.counts.reads.items; writes = b.counts.writes.items; fixed = b.tables.fixed.items; tops = tops; owners = b.scopes.owners.items; now_top = b.tops.items; seen = b.scopes.seen.items; exchanged = b.tables.exchanged.items; imported = b.tables.imported.items; reached = b.tables.reached.items; patterns = b.tables.patterns.items; lexical = b.tables.lexical.items; switched = b.tables.switched.items; params = b.tables.params.items; caught = b.tables.caught.items; mentioned = b.tables.mentioned.items; written = b.tables.written.items; given = b.given.items; homes = b.tables.homes.items; early = b.moments.early.items; functions = b.tables.enclosing.by_symbol.items; strict = b.scopes.strict.items; evals = b.scopes.evals.items; this_events = b.tables.this_events.items; arguments = b.tables.arguments.items; enclosed = b.tables.enclosing.by_number.items }
+
 -- of so many symbols they say what is shared, and what is foreign, in a tree
 pub record Looked (f : Facts) (n : ℕ) (t : Tree) : Type 0 where
   pub tops_told : (s : ℕ) → s < n → mark_at f.now_top s ≡ is_among (named s) (script_tops t)
@@ -71,31 +76,27 @@ pub record Looked (f : Facts) (n : ℕ) (t : Tree) : Type 0 where
   pub early_told : (s : ℕ) → s < n → (b : ℕ) → holds f.early s b ≡ is_read_early b (named s) (moments Read outermost t)
   pub enclosed_told : (s : ℕ) → s < n → (b : ℕ) → is_around f.functions f.enclosed s b ≡ is_among (named s) (params_around b t)
 
--- they are those of a tree with so many symbols
-pub record Tells (f : Facts) (n : ℕ) (t : Tree) : Type 0 where
+-- of so many symbols they are those of a tree, but for which of them were a script's top names when it was resolved
+pub record Told (f : Facts) (n : ℕ) (t : Tree) : Type 0 where
   pub reads_told : f.reads ≡ counts_of is_read n t
   pub writes_told : f.writes ≡ counts_of is_write n t
   pub fixed_told : (s : ℕ) → s < n → mark_at f.fixed s ≡ is_among (named s) (fixed_names t)
-  pub tops_told : (s : ℕ) → s < n → mark_at f.tops s ≡ is_among (named s) (script_tops t)
-  pub owners_told : (s : ℕ) → slice_index f.owners s ≡ scope_of_symbol t s
+  pub owners_told : (s : ℕ) → s < n → slice_index f.owners s ≡ scope_of_symbol t s
   pub strict_told : f.strict ≡ map (λ r. r.strict) (scopes_of t)
   pub evals_told : f.evals ≡ map (λ r. r.evals) (scopes_of t)
   pub this_told : (b : ℕ) → mark_at f.this_events b ≡ this_has_event t b
   pub arguments_told : (b : ℕ) → mark_at f.arguments b ≡ has_arguments t b
   pub looked : Looked f n t
 
--- the counts, and what is shared and foreign, are those of a tree, and all else is as it was
+-- they are those of a tree that was just resolved
+pub record Tells (f : Facts) (n : ℕ) (t : Tree) : Type 0 where
+  pub told : Told f n t
+  pub tops_told : (s : ℕ) → s < n → mark_at f.tops s ≡ is_among (named s) (script_tops t)
+
+-- they are those of another tree, and a script's top names are those that they were
 pub record Refreshed (old new : Facts) (t : Tree) : Type 0 where
-  pub reads_told : new.reads ≡ counts_of is_read (length old.reads) t
-  pub writes_told : new.writes ≡ counts_of is_write (length old.reads) t
-  pub looked : Looked new (length old.reads) t
-  pub fixed_kept : new.fixed ≡ old.fixed
+  pub told : Told new (length old.reads) t
   pub tops_kept : new.tops ≡ old.tops
-  pub owners_kept : new.owners ≡ old.owners
-  pub strict_kept : new.strict ≡ old.strict
-  pub evals_kept : new.evals ≡ old.evals
-  pub this_kept : new.this_events ≡ old.this_events
-  pub arguments_kept : new.arguments ≡ old.arguments
 
 -- whether a `var` writes a parameter of `catch`
 abbrev pub written_in_catch : Facts → ℕ → Bool

@@ -11,19 +11,11 @@ use Rattle.mini_context.specs.Facts.{Facts, Looked, Refreshed, foreign, shares}
 use Rattle.mini_context.specs.Tables.{named}
 use Rattle.mini_model.specs.declared.name.Name.{Name}
 use Rattle.mini_model.specs.declared.name.SymbolId.{SymbolId}
-use Rattle.mini_context.specs.Tallies.{times_of, FellBy}
+use Rattle.mini_names.specs.Counts.{times_of}
 
 -- the counts by symbol of a tree are how often each symbol is read, and written
 abbrev pub CountsTell : Type 0
 CountsTell = (n : ℕ) (t : Tree) (s : ℕ) → s < n → (slice_index (counts_of reads n t) s ≡ read_count s t) × (slice_index (counts_of writes n t) s ≡ write_count s t)
-
--- where the counts are those of references of which some are a part's, and they fall by those of the part, they are those
--- of the references that are left
-abbrev pub AreTimes : (Use → Bool) → List Reference → ℕ → List ℕ → Type 0
-AreTimes p rs n counts = (s : ℕ) → s < n → slice_index counts s ≡ times_of p s rs
-
-abbrev pub DropsTell : Type 0
-DropsTell = (p : Use → Bool) (before part after : List Reference) (n : ℕ) (old new : List ℕ) → AreTimes p (before ++ part ++ after) n old → FellBy p part old new → AreTimes p (before ++ after) n new
 
 -- whether a name that has a symbol is among others is a matter of the symbol alone
 abbrev pub NamesTell : Type 0

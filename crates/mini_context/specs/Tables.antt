@@ -1,10 +1,10 @@
 -- Tables of marks, by symbol and by body.
-use Rattle.std.specs.Prelude.{ℕ, suc, ◌≡◌, ◌<◌, nat_eq, Bool, false, ◌&&◌, ◌||◌, List, [], ◌∷◌, ◌++◌, length, map, replicate, slice_index_or, Some}
+use Rattle.std.specs.Prelude.{ℕ, ◌≡◌, ◌<◌, nat_eq, Bool, false, ◌&&◌, ◌||◌, List, [], ◌++◌, length, map, slice_index, slice_index_or, Some, if◌then◌else◌}
 use Rattle.std.specs.List.{list_any}
 use Rattle.mini_model.specs.declared.name.Name.{Name}
 use Rattle.mini_names.specs.Mentions.{is_among}
 use Rattle.mini_names.specs.Bodies.{Frame, Body}
-use Rattle.mini_names.specs.ScopeList.{Scope, seen_in}
+use Rattle.mini_names.specs.ScopeList.{Scope, scope_from, seen_in}
 use Rattle.mini_context.specs.declared.listing.ScopeTables.{ScopeTables}
 
 -- an entry: past the end there is no mark
@@ -24,14 +24,19 @@ pub record Marked (xs : List Name) (old new : List Bool) : Type 0 where
 abbrev pub Noted : (Frame → Bool) → List Body → List Bool → List Bool → Type 0
 Noted p bs old new = (b : ℕ) → mark_at new b ≡ (mark_at old b || list_any (λ r. nat_eq r.number b && p r.frame) bs)
 
--- the scope of each symbol, where the first of these scopes has a number
-abbrev pub owners_from : ℕ → List Scope → List ℕ
-owners_from k [] = []
-owners_from k (r ∷ rs) = replicate (length r.names) k ++ owners_from (suc k) rs
+-- a scope with a number is that of these names, and of no other
+pub record OwnedBy (k : ℕ) (xs : List Name) (old new : List ℕ) : Type 0 where
+  pub symbols : length new ≡ length old
+  pub each : (s : ℕ) → s < length old → slice_index new s ≡ (if is_among (named s) xs then k else slice_index old s)
+
+-- the scopes of so many symbols, where the first of these scopes has a number
+pub record Owned (k : ℕ) (ss : List Scope) (old new : List ℕ) : Type 0 where
+  pub symbols : length new ≡ length old
+  pub each : (s : ℕ) → s < length old → slice_index new s ≡ scope_from (slice_index old s) k ss s
 
 -- these scopes were listed after those that are
 pub record Listed (ss : List Scope) (old new : ScopeTables) : Type 0 where
   pub stricts : new.strict.items ≡ old.strict.items ++ map (λ s. s.strict) ss
   pub evals : new.evals.items ≡ old.evals.items ++ map (λ s. s.evals) ss
-  pub owners : new.owners.items ≡ old.owners.items ++ owners_from (length old.strict.items) ss
+  pub owners : Owned (length old.strict.items) ss old.owners.items new.owners.items
   pub seen : Marked (seen_in ss) old.seen.items new.seen.items

@@ -20,6 +20,7 @@ use Rattle.mini_context.specs.declared.exchanges.Exchange.{Exchange}
 use Rattle.mini_context.specs.declared.exchanges.Exchange.TheVariants as exchange
 use Rattle.mini_names.specs.Strict.{is_strict_in}
 use Rattle.mini_context.specs.declared.standing.Frame.{Frame as FrameHeld}
+use Rattle.mini_context.specs.declared.standing.Reading.{Reading}
 use Rattle.mini_context.specs.declared.standing.Standing.{Standing}
 use Rattle.mini_context.specs.declared.survey.Tables.{Tables}
 use Rattle.mini_context.specs.Enclosing.{own_params, Enclosed}
@@ -63,6 +64,13 @@ below a t i = record {
   in_body = is_body_by (shape_of t) a.in_body;
   frame = frame_by (frame_at (shape_of t) (frame_in a.frame) (children t) i);
 }
+
+-- the part of that which most walks ask for
+abbrev pub first_reading : Reading
+first_reading = record { usage = Read; around = outermost; strict = false }
+
+abbrev pub reading_below : Reading → Tree → ℕ → Reading
+reading_below a t i = record { usage = use_of (shape_of t) a.usage i; around = around_child (shape_of t) a.around (number_of t) i; strict = is_strict_in a.strict (shape_of t) }
 
 -- a node that is come to
 pub record Visit : Type 0 where

@@ -3,7 +3,7 @@
 ghost use Rattle.std.specs.Prelude.{◌≡◌, ◌+◌, ◌-◌, ◌^◌, ◌<◌, ◌≤◌, min, length};
 ghost use Rattle.mini_names.specs.declared.Use.TheVariants as variant;
 ghost use Rattle.mini_names.specs.References.{references, reads as is_read, writes as is_write};
-ghost use Rattle.mini_context.specs.Tallies.{Contained, FellBy};
+ghost use Rattle.mini_names.specs.Counts.{Contained, FellBy};
 
 use crate::scopes::Scopes;
 use crate::steps::Steps;

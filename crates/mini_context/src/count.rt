@@ -6,7 +6,8 @@ ghost use Rattle.mini_names.specs.declared.Use.TheVariants as variant;
 ghost use Rattle.mini_names.specs.Scopes.{use_of as use_at};
 ghost use Rattle.mini_names.specs.References.{references, references_from, own_references, reads as is_read, writes as is_write, counts_of};
 ghost use Rattle.mini_context.specs.Own.{is_reference_shape};
-ghost use Rattle.mini_context.specs.Tallies.{tallied, tallied_number, tallied_symbol, Contained, FellBy};
+ghost use Rattle.mini_names.specs.Counts.{Contained, FellBy};
+ghost use Rattle.mini_context.specs.Tallies.{tallied, tallied_number, tallied_symbol};
 
 use crate::steps::Steps;
 use mini_model::{Name, Shape, SymbolId};
@@ -31,6 +32,14 @@ pub enum Tally {
 pub struct Counts {
     pub reads: Vec<u32>,
     pub writes: Vec<u32>,
+}
+
+/// Counts of no symbol.
+pub fn no_counts(alloc: Global) -> Counts {
+    Counts {
+        reads: Vec::new(alloc),
+        writes: Vec::new(alloc),
+    }
 }
 
 /// Whether a name that is used like this is read.
@@ -172,17 +181,14 @@ pub fn fresh_counts<L: Ledger>(
     Ok(counts)
 }
 
-fn zeros(alloc: Global, length: u32) -> Result<Vec<u32>, OutOfMemory>
+/// So many zeros.
+pub fn zeros(alloc: Global, length: u32) -> Result<Vec<u32>, OutOfMemory>
     ensures { IfOk result (λ zeros. zeros.items ≡ replicate length 0) }
 {
-    let mut zeros = Vec::new(alloc);
-    for done in 0..length {
-        match zeros.push(0) {
-            Ok(()) => {}
-            Err(_) => return Err(OutOfMemory),
-        }
+    match Vec::from_elem(alloc, 0, length as usize) {
+        Ok(zeros) => Ok(zeros),
+        Err(_) => Err(OutOfMemory),
     }
-    Ok(zeros)
 }
 
 /// The counts of a program with so many symbols, with a count of steps of its own.

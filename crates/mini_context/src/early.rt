@@ -14,7 +14,7 @@ use crate::count::{is_read, is_reference};
 use crate::lists::{no_lists, put_number};
 use crate::marks::{is_marked, no_marks};
 use crate::parts::{Part, mark_part};
-use crate::standing::{Standing, standing_below};
+use crate::standing::{Reading, reading_below};
 use mini_model::{Name, Shape, SymbolId};
 use mini_names::Around;
 use mini_node::Node;
@@ -39,6 +39,14 @@ pub struct Moments {
     pub ended: Vec<bool>,
     /// The bodies that have read each symbol before that.
     pub early: Vec<OwnedList<u32>>,
+}
+
+/// A moment of no symbol.
+pub fn empty_moments(alloc: Global) -> Moments {
+    Moments {
+        ended: Vec::new(alloc),
+        early: Vec::new(alloc),
+    }
 }
 
 /// The first moment of a program with so many symbols.
@@ -80,8 +88,8 @@ fn mark_ended(marks: &mut Vec<bool>, node: &Node)
     mark_part(marks, ended_part(node.shape()), node.children());
 }
 
-fn pass_ends(moments: &mut Moments, standing: Standing, node: &Node)
-    ensures { Passed (ends_at standing.around (ended_by (shape_of node.now) (children node.now))) moments.old moments.new }
+fn pass_ends(moments: &mut Moments, reading: Reading, node: &Node)
+    ensures { Passed (ends_at reading.around (ended_by (shape_of node.now) (children node.now))) moments.old moments.new }
 {
     mark_ended(&mut moments.ended, node);
 }
@@ -106,46 +114,46 @@ fn pass_name(moments: &mut Moments, around: Around, name: &Name) -> Result<(), O
     Ok(())
 }
 
-fn pass_own(moments: &mut Moments, standing: Standing, node: &Node) -> Result<(), OutOfMemory>
-    ensures { OnOk result (Passed (reads_at (own_mentions standing.usage standing.around (shape_of node.now) (names_of node.now))) moments.old moments.new) }
+fn pass_own(moments: &mut Moments, reading: Reading, node: &Node) -> Result<(), OutOfMemory>
+    ensures { OnOk result (Passed (reads_at (own_mentions reading.usage reading.around (shape_of node.now) (names_of node.now))) moments.old moments.new) }
 {
-    if !is_reference(node.shape()) || !is_read(standing.usage) {
+    if !is_reference(node.shape()) || !is_read(reading.usage) {
         return Ok(());
     }
     if let Some(name) = node.name() {
-        pass_name(moments, standing.around, name)?;
+        pass_name(moments, reading.around, name)?;
     }
     Ok(())
 }
 
 /// The moments of a tree that stands so pass.
 #[cycle(moments)]
-pub fn pass_node(moments: &mut Moments, standing: Standing, node: &Node) -> Result<(), OutOfMemory>
-    ensures { OnOk result (Passed (moments_of standing.usage standing.around node.now) moments.old moments.new) }
+pub fn pass_node(moments: &mut Moments, reading: Reading, node: &Node) -> Result<(), OutOfMemory>
+    ensures { OnOk result (Passed (moments_of reading.usage reading.around node.now) moments.old moments.new) }
 {
-    pass_own(moments, standing, node)?;
-    pass_below(moments, standing, node)
+    pass_own(moments, reading, node)?;
+    pass_below(moments, reading, node)
 }
 
 #[cycle(moments)]
-fn pass_below(moments: &mut Moments, standing: Standing, node: &Node) -> Result<(), OutOfMemory>
-    ensures { OnOk result (Passed (in_order (shape_of node.now) (moments_from (use_at (shape_of node.now) standing.usage) (around_child (shape_of node.now) standing.around (number_of node.now)) 0 (children node.now)) (ends_at standing.around (ended_by (shape_of node.now) (children node.now)))) moments.old moments.new) }
+fn pass_below(moments: &mut Moments, reading: Reading, node: &Node) -> Result<(), OutOfMemory>
+    ensures { OnOk result (Passed (in_order (shape_of node.now) (moments_from (use_at (shape_of node.now) reading.usage) (around_child (shape_of node.now) reading.around (number_of node.now)) 0 (children node.now)) (ends_at reading.around (ended_by (shape_of node.now) (children node.now)))) moments.old moments.new) }
 {
     match order_of(node.shape(), node.children().len()) {
         Order::InOrder => {
-            pass_rest(moments, standing, node, 0)?;
-            pass_ends(moments, standing, node);
+            pass_rest(moments, reading, node, 0)?;
+            pass_ends(moments, reading, node);
         }
         Order::RightFirst => {
-            pass_child(moments, standing, node, 1)?;
-            pass_child(moments, standing, node, 0)?;
-            pass_rest(moments, standing, node, 2)?;
-            pass_ends(moments, standing, node);
+            pass_child(moments, reading, node, 1)?;
+            pass_child(moments, reading, node, 0)?;
+            pass_rest(moments, reading, node, 2)?;
+            pass_ends(moments, reading, node);
         }
         Order::ParamFirst => {
-            pass_child(moments, standing, node, 0)?;
-            pass_ends(moments, standing, node);
-            pass_rest(moments, standing, node, 1)?;
+            pass_child(moments, reading, node, 0)?;
+            pass_ends(moments, reading, node);
+            pass_rest(moments, reading, node, 1)?;
         }
     }
     Ok(())
@@ -154,28 +162,28 @@ fn pass_below(moments: &mut Moments, standing: Standing, node: &Node) -> Result<
 #[cycle(moments)]
 fn pass_child(
     moments: &mut Moments,
-    standing: Standing,
+    reading: Reading,
     node: &Node,
     at: usize,
 ) -> Result<(), OutOfMemory>
     requires { at < count (children node.now) }
-    ensures { OnOk result (Passed (moments_of (use_at (shape_of node.now) standing.usage at) (around_child (shape_of node.now) standing.around (number_of node.now) at) (child_or_absent (children node.now) at)) moments.old moments.new) }
+    ensures { OnOk result (Passed (moments_of (use_at (shape_of node.now) reading.usage at) (around_child (shape_of node.now) reading.around (number_of node.now) at) (child_or_absent (children node.now) at)) moments.old moments.new) }
 {
-    let stands = standing_below(standing, node, at);
+    let stands = reading_below(reading, node, at);
     pass_node(moments, stands, node.children().child(at))
 }
 
 #[cycle(moments)]
 fn pass_rest(
     moments: &mut Moments,
-    standing: Standing,
+    reading: Reading,
     node: &Node,
     from: usize,
 ) -> Result<(), OutOfMemory>
-    ensures { OnOk result (Passed (joined_in (moments_from (use_at (shape_of node.now) standing.usage) (around_child (shape_of node.now) standing.around (number_of node.now)) from (rest_children from (children node.now)))) moments.old moments.new) }
+    ensures { OnOk result (Passed (joined_in (moments_from (use_at (shape_of node.now) reading.usage) (around_child (shape_of node.now) reading.around (number_of node.now)) from (rest_children from (children node.now)))) moments.old moments.new) }
 {
     for at in from..node.children().len() {
-        pass_child(moments, standing, node, at)?;
+        pass_child(moments, reading, node, at)?;
     }
     Ok(())
 }

@@ -9,7 +9,7 @@ ghost use Rattle.mini_context.specs.Mentioned.{Joined};
 
 use crate::catching::names_in;
 use crate::mentions::{Mentioned, join_symbol};
-use crate::standing::{Standing, is_absent};
+use crate::standing::{Reading, is_absent};
 use mini_model::{Name, Shape};
 use mini_names::{Around, Binding, Declared, Use};
 use mini_node::Node;
@@ -93,12 +93,12 @@ pub fn join_values(
     alloc: Global,
     given: &mut Vec<Mentioned>,
     environment: &Environment,
-    standing: Standing,
+    reading: Reading,
     node: &Node,
 ) -> Result<(), OutOfMemory>
-    ensures { OnOk result (Joined (map (write_at environment.now standing.around) (given_values standing.usage (shape_of node.now) (children node.now))) given.old.items given.new.items) }
+    ensures { OnOk result (Joined (map (write_at environment.now reading.around) (given_values reading.usage (shape_of node.now) (children node.now))) given.old.items given.new.items) }
 {
-    let names = given_names(alloc, standing.usage, node)?;
-    join_all(given, environment, standing.around, names.as_slice());
+    let names = given_names(alloc, reading.usage, node)?;
+    join_all(given, environment, reading.around, names.as_slice());
     Ok(())
 }

@@ -1,15 +1,10 @@
 //! Laws of counts. Each is the contract of a function that does nothing.
 
-ghost use Rattle.mini_context.specs.Laws.{CountsTell, DeclaratorsTell, DropsTell, ForeignTells, NamesTell, RefreshTells, SharesTell, TablesTell, UsesTell};
+ghost use Rattle.mini_context.specs.Laws.{CountsTell, DeclaratorsTell, ForeignTells, NamesTell, RefreshTells, SharesTell, TablesTell, UsesTell};
 
 /// The counts by symbol of a tree are how often each symbol is read, and how often it is written.
 pub fn counts_tell()
     ensures { CountsTell }
-{}
-
-/// Counts that fell by the references of a part are those of the references that are left.
-pub fn drops_tell()
-    ensures { DropsTell }
 {}
 
 /// Whether a name that has a symbol is among others is a matter of the symbol alone.

@@ -29,8 +29,8 @@ mod survey;
 pub use context::{Parent, TraverseCtx};
 pub use count::{Counts, Tally, fresh_counts, tally_node};
 pub use laws::{
-    counts_tell, declarators_tell, drops_tell, foreign_tells, names_tell, refresh_tells,
-    shares_tell, tables_tell, uses_tell,
+    counts_tell, declarators_tell, foreign_tells, names_tell, refresh_tells, shares_tell,
+    tables_tell, uses_tell,
 };
 pub use refreshing::refresh;
 pub use resolution::resolve;

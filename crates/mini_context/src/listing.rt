@@ -1,6 +1,6 @@
 //! The scopes of a program, in the order in which they are entered.
 
-ghost use Rattle.std.specs.Prelude.{◌≡◌, ◌∷◌, [], ◌++◌, take, length, replicate, false, IfOk, OnOk};
+ghost use Rattle.std.specs.Prelude.{◌≡◌, ◌<◌, ℕ, nat_eq, ◌∷◌, [], ◌++◌, take, length, replicate, slice_index, false, IfOk, OnOk, if◌then◌else◌};
 ghost use Rattle.mini_model.specs.Tree.{children, shape_of};
 ghost use Rattle.mini_node.specs.Children.{trees_of, names, number_of, rest_children};
 ghost use Rattle.mini_names.specs.Mentions.{around_child};
@@ -10,14 +10,15 @@ ghost use Rattle.mini_context.specs.Mentioned.{Joined};
 ghost use Rattle.mini_names.specs.Scopes.{use_of as use_at};
 ghost use Rattle.mini_names.specs.ScopeList.{any_has_eval as any_has_eval_in, calls_eval as calls_eval_in, entered, has_eval as has_eval_in, is_eval, is_eval_call as is_eval_call_in, is_eval_callee as is_eval_callee_in, least_scopes as least_in, names_in, scope_list, scope_list_from};
 ghost use Rattle.mini_scope.specs.ScopeAt.{scope_at};
-ghost use Rattle.mini_context.specs.Tables.{Listed};
+ghost use Rattle.mini_context.specs.Tables.{Listed, OwnedBy};
 
+use crate::count::zeros;
 use crate::giving::{enter_scope, join_values};
 use crate::marks::{mark_bindings, no_marks};
 use crate::mentions::Mentioned;
-use crate::standing::{Standing, standing_below};
+use crate::standing::{Reading, reading_below};
 use crate::strictness::is_strict_in;
-use mini_model::{Name, Shape};
+use mini_model::{Name, Shape, SymbolId};
 use mini_names::Binding;
 use mini_node::{Node, Nodes};
 use mini_scope::{Environment, OpenScopes};
@@ -37,19 +38,30 @@ pub struct ScopeTables {
     pub seen: Vec<bool>,
 }
 
+/// No scope, and no symbol.
+pub fn empty_scopes(alloc: Global) -> ScopeTables
+    ensures strict { result.strict.items ≡ [] }
+    ensures evals { result.evals.items ≡ [] }
+{
+    ScopeTables {
+        strict: Vec::new(alloc),
+        evals: Vec::new(alloc),
+        owners: Vec::new(alloc),
+        seen: Vec::new(alloc),
+    }
+}
+
 /// No scope, before so many symbols are declared.
 pub fn no_scopes(alloc: Global, symbols: u32) -> Result<ScopeTables, OutOfMemory>
     ensures strict { IfOk result (λ tables. tables.strict.items ≡ []) }
     ensures evals { IfOk result (λ tables. tables.evals.items ≡ []) }
-    ensures owners { IfOk result (λ tables. tables.owners.items ≡ []) }
+    ensures owners { IfOk result (λ tables. tables.owners.items ≡ replicate symbols 0) }
     ensures seen { IfOk result (λ tables. tables.seen.items ≡ replicate symbols false) }
 {
-    Ok(ScopeTables {
-        strict: Vec::new(alloc),
-        evals: Vec::new(alloc),
-        owners: Vec::new(alloc),
-        seen: no_marks(alloc, symbols)?,
-    })
+    let mut tables = empty_scopes(alloc);
+    tables.owners = zeros(alloc, symbols)?;
+    tables.seen = no_marks(alloc, symbols)?;
+    Ok(tables)
 }
 
 /// The units of `eval`.
@@ -90,7 +102,7 @@ fn is_eval_call(shape: &Shape, nodes: &[Node]) -> bool
 
 /// Whether a direct eval stands in a tree.
 #[cycle(evals)]
-fn has_eval(node: &Node) -> bool
+pub fn has_eval(node: &Node) -> bool
     ensures { result ≡ has_eval_in node.now }
 {
     is_eval_call(node.shape(), node.parts()) || any_has_eval(node.children(), 0)
@@ -135,7 +147,7 @@ fn push_scope(
         Ok(number) => number,
         Err(_) => return Err(OutOfMemory),
     };
-    push_owner(&mut tables.owners, number, scope.len())?;
+    own_bindings(&mut tables.owners, number, scope);
     push_flag(&mut tables.strict, strict)?;
     push_flag(&mut tables.evals, evals)?;
     if evals {
@@ -153,59 +165,96 @@ fn push_flag(flags: &mut Vec<bool>, flag: bool) -> Result<(), OutOfMemory>
     }
 }
 
-fn push_owner(owners: &mut Vec<u32>, scope: u32, count: usize) -> Result<(), OutOfMemory>
-    ensures { OnOk result (owners.new.items ≡ owners.old.items ++ replicate count scope) }
+fn own_symbol(owners: &mut Vec<u32>, scope: u32, symbol: SymbolId)
+    ensures symbols { length owners.new.items ≡ length owners.old.items }
+    ensures each { (s : ℕ) → s < length owners.old.items → slice_index owners.new.items s ≡ (if nat_eq symbol.0 s then scope else slice_index owners.old.items s) }
 {
-    for done in 0..count {
-        match owners.push(scope) {
-            Ok(()) => {}
-            Err(_) => return Err(OutOfMemory),
-        }
+    let at = symbol.0 as usize;
+    if at < owners.len() {
+        owners[at] = scope;
     }
-    Ok(())
+}
+
+fn own_name(owners: &mut Vec<u32>, scope: u32, name: &Name)
+    ensures { OwnedBy scope (name.now ∷ []) owners.old.items owners.new.items }
+{
+    if let Some(symbol) = name.symbol {
+        own_symbol(owners, scope, symbol);
+    }
+}
+
+fn own_bindings(owners: &mut Vec<u32>, scope: u32, bindings: &[Binding])
+    ensures { OwnedBy scope (names_in bindings.now) owners.old.items owners.new.items }
+{
+    for binding in bindings {
+        own_name(owners, scope, &binding.name);
+    }
+}
+
+/// Whether a direct eval stands in one of these nodes, from an index on. Where none may there is no look.
+fn evals_from(may_eval: bool, nodes: &Nodes, from: usize) -> bool
+    requires { may_eval ≡ false → any_has_eval_in (rest_children from nodes.now) ≡ false }
+    ensures { result ≡ any_has_eval_in (rest_children from nodes.now) }
+{
+    may_eval && any_has_eval(nodes, from)
 }
 
 /// Lists the scopes that are entered before the child at an index: at least so many, of which the last declares these
-/// names.
+/// names. Whether a direct eval may stand in that child or in one after it.
 fn push_entered(
     tables: &mut ScopeTables,
     least: usize,
     scope: &[Binding],
     strict: bool,
+    may_eval: bool,
     nodes: &Nodes,
     at: usize,
-) -> Result<(), OutOfMemory>
-    ensures { OnOk result (Listed (entered least (record { names = names_in scope.now; strict = strict; evals = any_has_eval_in (rest_children at nodes.now) })) tables.old tables.new) }
+) -> Result<bool, OutOfMemory>
+    requires { may_eval ≡ false → any_has_eval_in (rest_children at nodes.now) ≡ false }
+    ensures listed { OnOk result (Listed (entered least (record { names = names_in scope.now; strict = strict; evals = any_has_eval_in (rest_children at nodes.now) })) tables.old tables.new) }
+    ensures evals { IfOk result (λ may. may ≡ false → any_has_eval_in (rest_children at nodes.now) ≡ false) }
 {
     if least == 0 && scope.is_empty() {
-        return Ok(());
+        return Ok(may_eval);
     }
-    let evals = any_has_eval(nodes, at);
+    let evals = evals_from(may_eval, nodes, at);
     if least > 1 {
         push_scope(tables, &scope[..0], strict, evals)?;
     }
-    push_scope(tables, scope, strict, evals)
+    push_scope(tables, scope, strict, evals)?;
+    Ok(evals)
 }
 
 /// Lists the scopes that are entered in a tree that stands so, and adds what its `var`s write. The environment is what is
-/// declared around the tree.
+/// declared around the tree. Where no direct eval may stand in it none is looked for.
 #[cycle(listing)]
 pub fn list_scopes(
     alloc: Global,
     tables: &mut ScopeTables,
     given: &mut Vec<Mentioned>,
     environment: &mut Environment,
-    standing: Standing,
+    may_eval: bool,
+    reading: Reading,
     node: &Node,
 ) -> Result<(), OutOfMemory>
-    ensures listed { OnOk result (Listed (scope_list standing.usage standing.strict node.now) tables.old tables.new) }
-    ensures given { OnOk result (Joined (var_writes standing.usage environment.old standing.around node.now) given.old.items given.new.items) }
+    requires { may_eval ≡ false → has_eval_in node.now ≡ false }
+    ensures listed { OnOk result (Listed (scope_list reading.usage reading.strict node.now) tables.old tables.new) }
+    ensures given { OnOk result (Joined (var_writes reading.usage environment.old reading.around node.now) given.old.items given.new.items) }
     ensures left { OnOk result (environment.new ≡ environment.old) }
 {
-    join_values(alloc, given, environment, standing, node)?;
-    let scopes = OpenScopes::of(alloc, standing.usage, node)?;
+    join_values(alloc, given, environment, reading, node)?;
+    let scopes = OpenScopes::of(alloc, reading.usage, node)?;
     let around = environment.len();
-    list_below(alloc, tables, given, environment, standing, node, scopes)?;
+    list_below(
+        alloc,
+        tables,
+        given,
+        environment,
+        may_eval,
+        reading,
+        node,
+        scopes,
+    )?;
     environment.leave(around);
     Ok(())
 }
@@ -216,24 +265,28 @@ fn list_below(
     tables: &mut ScopeTables,
     given: &mut Vec<Mentioned>,
     environment: &mut Environment,
-    standing: Standing,
+    may_eval: bool,
+    reading: Reading,
     node: &Node,
     scopes: OpenScopes,
 ) -> Result<(), OutOfMemory>
-    ensures listed { OnOk result (Listed (scope_list_from (scope_at scopes) (use_at (shape_of node.now) standing.usage) (least_in (shape_of node.now)) (is_strict_at standing.strict (shape_of node.now)) 0 (children node.now)) tables.old tables.new) }
-    ensures given { OnOk result (Joined (var_writes_from (scope_at scopes) (use_at (shape_of node.now) standing.usage) (around_child (shape_of node.now) standing.around (number_of node.now)) 0 environment.old (children node.now)) given.old.items given.new.items) }
+    requires { may_eval ≡ false → any_has_eval_in (children node.now) ≡ false }
+    ensures listed { OnOk result (Listed (scope_list_from (scope_at scopes) (use_at (shape_of node.now) reading.usage) (least_in (shape_of node.now)) (is_strict_at reading.strict (shape_of node.now)) 0 (children node.now)) tables.old tables.new) }
+    ensures given { OnOk result (Joined (var_writes_from (scope_at scopes) (use_at (shape_of node.now) reading.usage) (around_child (shape_of node.now) reading.around (number_of node.now)) 0 environment.old (children node.now)) given.old.items given.new.items) }
     ensures around { OnOk result (take (length environment.old) environment.new ≡ environment.old) }
 {
     let mut scopes = scopes;
+    let mut may_eval = may_eval;
     let nodes = node.children();
-    let strict = is_strict_in(standing.strict, node.shape());
+    let strict = is_strict_in(reading.strict, node.shape());
     for at in 0..nodes.len() {
         let scope = scopes.take(alloc, at);
         let least = least_scopes(node.shape(), at);
-        push_entered(tables, least, scope.as_slice(), strict, nodes, at)?;
+        may_eval = push_entered(tables, least, scope.as_slice(), strict, may_eval, nodes, at)?;
         enter_scope(environment, scope)?;
-        let stands = standing_below(standing, node, at);
-        list_scopes(alloc, tables, given, environment, stands, nodes.child(at))?;
+        let stands = reading_below(reading, node, at);
+        let child = nodes.child(at);
+        list_scopes(alloc, tables, given, environment, may_eval, stands, child)?;
     }
     Ok(())
 }

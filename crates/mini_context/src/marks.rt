@@ -16,14 +16,10 @@ use std::alloc::Global;
 pub fn no_marks(alloc: Global, length: u32) -> Result<Vec<bool>, OutOfMemory>
     ensures { IfOk result (λ marks. marks.items ≡ replicate length false) }
 {
-    let mut marks = Vec::new(alloc);
-    for done in 0..length {
-        match marks.push(false) {
-            Ok(()) => {}
-            Err(_) => return Err(OutOfMemory),
-        }
+    match Vec::from_elem(alloc, false, length as usize) {
+        Ok(marks) => Ok(marks),
+        Err(_) => Err(OutOfMemory),
     }
-    Ok(marks)
 }
 
 /// Whether there is a mark; past the end of the table there is none.

@@ -36,14 +36,10 @@ pub enum Mentioned {
 pub fn no_mentions(alloc: Global, length: u32) -> Result<Vec<Mentioned>, OutOfMemory>
     ensures { IfOk result (λ table. table.items ≡ replicate length mentioned.Nowhere) }
 {
-    let mut table = Vec::new(alloc);
-    for done in 0..length {
-        match table.push(Mentioned::Nowhere) {
-            Ok(()) => {}
-            Err(_) => return Err(OutOfMemory),
-        }
+    match Vec::from_elem(alloc, Mentioned::Nowhere, length as usize) {
+        Ok(table) => Ok(table),
+        Err(_) => Err(OutOfMemory),
     }
-    Ok(table)
 }
 
 /// Whether it is mentioned in another body than this, or in a carried node.

@@ -25,6 +25,15 @@ pub struct Params {
     pub by_number: Vec<OwnedList<u32>>,
 }
 
+/// No function, and no symbol.
+pub fn empty_params(alloc: Global) -> Params {
+    Params {
+        next: 0,
+        by_symbol: Vec::new(alloc),
+        by_number: Vec::new(alloc),
+    }
+}
+
 /// No function, and so many symbols.
 pub fn no_params(alloc: Global, symbols: u32) -> Result<Params, OutOfMemory>
     ensures symbols { IfOk result (λ params. params.by_symbol.items ≡ replicate symbols []) }

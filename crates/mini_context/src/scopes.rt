@@ -1,6 +1,6 @@
 //! What is known of the names of a program.
 
-ghost use Rattle.std.specs.Prelude.{◌≡◌, ◌+◌, ◌^◌, ◌<◌, ℕ, ◌||◌, not, length, map, replicate, false, slice_index, IfOk, OnOk};
+ghost use Rattle.std.specs.Prelude.{◌≡◌, ◌+◌, ◌^◌, ◌<◌, ℕ, Bool, List, ◌||◌, not, length, map, replicate, false, slice_index, IfOk, OnOk};
 ghost use Rattle.mini_names.specs.declared.Use.TheVariants as variant;
 ghost use Rattle.mini_names.specs.References.{references, reads as is_read, writes as is_write};
 ghost use Rattle.mini_names.specs.ScopeList.{scope_of_symbol, scopes_of, seen_by_eval as seen_names};
@@ -8,24 +8,24 @@ ghost use Rattle.mini_names.specs.Shared.{program_var_writes, script_tops as scr
 ghost use Rattle.mini_context.specs.declared.mentions.Mentioned.TheVariants as mentioned;
 ghost use Rattle.mini_context.specs.Mentioned.{is_outside as is_outside_of, mentioned_at as entry_at, Joined};
 ghost use Rattle.mini_context.specs.Own.{is_script_shape};
-ghost use Rattle.mini_context.specs.Facts.{Refreshed, Tells, foreign, foreign_always, is_changed, is_changed_outside, may_be_unset, shares, written_in_catch};
+ghost use Rattle.mini_context.specs.Facts.{Refreshed, Tells, Told, facts_of, foreign, foreign_always, is_changed, is_changed_outside, may_be_unset, shares, written_in_catch};
 ghost use Rattle.mini_context.specs.Found.{Found};
 ghost use Rattle.mini_names.specs.Foreign.{is_read_early, moments};
 ghost use Rattle.mini_names.specs.Mentions.{outermost};
 ghost use Rattle.mini_context.specs.Lists.{holds};
 ghost use Rattle.mini_context.specs.Tables.{mark_at, named, Marked};
-ghost use Rattle.mini_context.specs.Tallies.{Contained, FellBy};
+ghost use Rattle.mini_names.specs.Counts.{Contained, FellBy};
 
-use crate::count::{Counts, count_out, own_counts};
-use crate::early::{Moments, no_moments, pass_node};
-use crate::listing::{ScopeTables, list_scopes, no_scopes};
+use crate::count::{Counts, count_out, no_counts, own_counts};
+use crate::early::{Moments, empty_moments, no_moments, pass_node};
+use crate::listing::{ScopeTables, empty_scopes, has_eval, list_scopes, no_scopes};
 use crate::lists::holds_number;
 use crate::marks::{is_marked, mark_bindings, no_marks};
 use crate::mentions::{Mentioned, is_outside, is_somewhere, mentioned_at, no_mentions};
 use crate::params::is_around;
-use crate::standing::at_top;
+use crate::standing::{at_top, first_reading};
 use crate::steps::Steps;
-use crate::survey::{Tables, no_tables, survey_node};
+use crate::survey::{Tables, empty_tables, no_tables, survey_node};
 use mini_model::{Shape, SymbolId};
 use mini_names::Use;
 use mini_node::Node;
@@ -33,36 +33,46 @@ use mini_scope::{Environment, OpenScopes};
 use mini_text::OutOfMemory;
 use std::alloc::Global;
 use std::marker::{Brand, Model};
-use std::mem;
 use std::sync::ledger::{Blank, Ledger};
 
-/// The number of buckets for the names in scope.
-const BUCKETS: usize = 65536;
+/// At most how many buckets there are for the names in scope, but for one.
+const BUCKETS: usize = 65535;
 
 /// The number of a scope: the scopes of a program are numbered in the order in which they are entered.
 #[derive(Clone, Copy, Debug, PartialEq, Eq)]
 pub struct ScopeId(pub u32);
 
-/// What is known of the names of a program. A contract sees it as lists, by symbol, by scope and by body.
+/// What a look at a program finds of its names.
+#[derive(Drop)]
+pub struct Look {
+    /// How often each symbol is read and written.
+    pub counts: Counts,
+    /// What is found of symbols and of bodies.
+    pub tables: Tables,
+    /// The scopes, and the symbols that a direct eval can see.
+    pub scopes: ScopeTables,
+    /// Where `var`s write each symbol.
+    pub given: Vec<Mentioned>,
+    /// Which bodies read each symbol before its declaration has ended.
+    pub moments: Moments,
+    /// A script's top names.
+    pub tops: Vec<bool>,
+}
+
+/// What is known of the names of a program. A contract sees it as lists, by symbol, by scope and by body. Scopes have the
+/// numbers of the program that was looked at last.
 #[derive(Drop)]
 pub struct Scopes {
-    counts: Counts,
-    tables: Tables,
-    scopes: ScopeTables,
-    given: Vec<Mentioned>,
-    moments: Moments,
-    tops: Vec<bool>,
-    now_top: Vec<bool>,
+    look: Look,
+    first_tops: Vec<bool>,
 }
 
 impl Model for Scopes {
-    ghost use Rattle.mini_context.specs.Mentioned.{is_outside as is_outside_of, mentioned_at as entry_at};
-    ghost use Rattle.mini_context.specs.Own.{is_script_shape};
-    ghost use Rattle.mini_context.specs.Facts.{Facts};
+    ghost use Rattle.mini_context.specs.Facts.{Facts, facts_of};
 
     ghost Value = { Facts };
 
-    ghost view = { λ b. record { reads = b.counts.reads.items; writes = b.counts.writes.items; fixed = b.tables.fixed.items; tops = b.tops.items; owners = b.scopes.owners.items; now_top = b.now_top.items; seen = b.scopes.seen.items; exchanged = b.tables.exchanged.items; imported = b.tables.imported.items; reached = b.tables.reached.items; patterns = b.tables.patterns.items; lexical = b.tables.lexical.items; switched = b.tables.switched.items; params = b.tables.params.items; caught = b.tables.caught.items; mentioned = b.tables.mentioned.items; written = b.tables.written.items; given = b.given.items; homes = b.tables.homes.items; early = b.moments.early.items; functions = b.tables.enclosing.by_symbol.items; strict = b.scopes.strict.items; evals = b.scopes.evals.items; this_events = b.tables.this_events.items; arguments = b.tables.arguments.items; enclosed = b.tables.enclosing.by_number.items } };
+    ghost view = { λ b. facts_of b.look b.first_tops.items };
 }
 
 fn count_at(counts: &[u32], at: u32) -> u32
@@ -108,7 +118,7 @@ fn listed(
     program: &Node,
     symbols: u32,
 ) -> Result<(ScopeTables, Vec<Mentioned>), OutOfMemory>
-    ensures owners { IfOk result (λ r. (s : ℕ) → slice_index r.0.owners.items s ≡ scope_of_symbol program.now s) }
+    ensures owners { IfOk result (λ r. (s : ℕ) → s < symbols → slice_index r.0.owners.items s ≡ scope_of_symbol program.now s) }
     ensures strict { IfOk result (λ r. r.0.strict.items ≡ map (λ k. k.strict) (scopes_of program.now)) }
     ensures evals { IfOk result (λ r. r.0.evals.items ≡ map (λ k. k.evals) (scopes_of program.now)) }
     ensures seen { IfOk result (λ r. Marked (seen_names program.now) (replicate symbols false) r.0.seen.items) }
@@ -116,13 +126,14 @@ fn listed(
 {
     let mut scopes = no_scopes(alloc, symbols)?;
     let mut given = no_mentions(alloc, symbols)?;
-    let mut environment = Environment::new(alloc, BUCKETS)?;
+    let mut environment = Environment::new(alloc, (symbols as usize).min(BUCKETS) + 1)?;
     list_scopes(
         alloc,
         &mut scopes,
         &mut given,
         &mut environment,
-        at_top(),
+        has_eval(program),
+        first_reading(),
         program,
     )?;
     Ok((scopes, given))
@@ -133,69 +144,66 @@ fn passed(alloc: Global, program: &Node, symbols: u32) -> Result<Moments, OutOfM
     ensures { IfOk result (λ m. (s : ℕ) → s < symbols → (b : ℕ) → holds m.early.items s b ≡ is_read_early b (named s) (moments variant.Read outermost program.now)) }
 {
     let mut moments = no_moments(alloc, symbols)?;
-    pass_node(&mut moments, at_top(), program)?;
+    pass_node(&mut moments, first_reading(), program)?;
     Ok(moments)
 }
 
+// No look yet.
+fn no_look(alloc: Global) -> Look {
+    Look {
+        counts: no_counts(alloc),
+        tables: empty_tables(alloc),
+        scopes: empty_scopes(alloc),
+        given: Vec::new(alloc),
+        moments: empty_moments(alloc),
+        tops: Vec::new(alloc),
+    }
+}
+
+// Sets what is known of the names of a program with so many symbols.
+fn look_at(look: &mut Look, alloc: Global, program: &Node, symbols: u32) -> Result<(), OutOfMemory>
+    requires { length (references variant.Read program.now) + 1 < 2 ^ 32 }
+    ensures { (tops : List Bool) → OnOk result (Told (facts_of look.new tops) symbols program.now) }
+{
+    look.counts = own_counts::<Brand>(alloc, program, symbols, Blank::new(1))?;
+    look.tables = surveyed(alloc, program, symbols)?;
+    let (scopes, given) = listed(alloc, program, symbols)?;
+    look.scopes = scopes;
+    look.given = given;
+    look.moments = passed(alloc, program, symbols)?;
+    look.tops = script_tops(alloc, symbols, program)?;
+    Ok(())
+}
+
 impl Scopes {
-    /// What is known of the names of a program with so many symbols.
+    /// What is known of the names of a program with so many symbols, that was just resolved.
     pub fn of(alloc: Global, program: &Node, symbols: u32) -> Result<Scopes, OutOfMemory>
         requires { length (references variant.Read program.now) + 1 < 2 ^ 32 }
         ensures { IfOk result (λ scopes. Tells scopes symbols program.now) }
     {
-        let counts = own_counts::<Brand>(alloc, program, symbols, Blank::new(1))?;
-        let tables = surveyed(alloc, program, symbols)?;
-        let (scopes, given) = listed(alloc, program, symbols)?;
-        let moments = passed(alloc, program, symbols)?;
-        let tops = script_tops(alloc, symbols, program)?;
-        let now_top = script_tops(alloc, symbols, program)?;
-        Ok(Scopes {
-            counts,
-            tables,
-            scopes,
-            given,
-            moments,
-            tops,
-            now_top,
-        })
+        let first_tops = script_tops(alloc, symbols, program)?;
+        let mut look = no_look(alloc);
+        look_at(&mut look, alloc, program, symbols)?;
+        Ok(Scopes { look, first_tops })
     }
 
-    /// Sets the counts, and what is shared and foreign, to those of a program. After `OutOfMemory` they are fit only to be
-    /// dropped.
+    /// Sets all but which names were a script's top names at first to what is known of a program. After `OutOfMemory` they are
+    /// fit only to be dropped.
     pub fn refresh(&mut self, alloc: Global, program: &Node) -> Result<(), OutOfMemory>
         requires { length (references variant.Read program.now) + 1 < 2 ^ 32 }
         ensures { OnOk result (Refreshed self.old self.new program.now) }
     {
-        let symbols = match u32::try_from(self.counts.reads.len()) {
-            Ok(symbols) => symbols,
-            Err(_) => return Err(OutOfMemory),
-        };
-        let Scopes {
-            counts,
-            mut tables,
-            scopes,
-            given,
-            moments,
-            tops: _,
-            now_top,
-        } = Scopes::of(alloc, program, symbols)?;
-        mem::swap(&mut self.tables.fixed, &mut tables.fixed);
-        mem::swap(&mut self.tables.this_events, &mut tables.this_events);
-        mem::swap(&mut self.tables.arguments, &mut tables.arguments);
-        self.counts = counts;
-        self.tables = tables;
-        self.scopes.seen = scopes.seen;
-        self.given = given;
-        self.moments = moments;
-        self.now_top = now_top;
-        Ok(())
+        match u32::try_from(self.look.counts.reads.len()) {
+            Ok(symbols) => look_at(&mut self.look, alloc, program, symbols),
+            Err(_) => Err(OutOfMemory),
+        }
     }
 
     /// How often the symbol is read: export specifiers, compound targets and updates are among that.
     pub fn reads(&self, symbol: SymbolId) -> u32
         ensures { result ≡ slice_index self.now.reads symbol.0 }
     {
-        count_at(self.counts.reads.as_slice(), symbol.0)
+        count_at(self.look.counts.reads.as_slice(), symbol.0)
     }
 
     /// How often the symbol is assigned to: targets, updates, and the heads of `for..in` and `for..of` that are no
@@ -203,7 +211,7 @@ impl Scopes {
     pub fn writes(&self, symbol: SymbolId) -> u32
         ensures { result ≡ slice_index self.now.writes symbol.0 }
     {
-        count_at(self.counts.writes.as_slice(), symbol.0)
+        count_at(self.look.counts.writes.as_slice(), symbol.0)
     }
 
     /// Whether the symbol can be written: not those of `const`, imports, the own names of function expressions, and the
@@ -211,35 +219,35 @@ impl Scopes {
     pub fn is_writable(&self, symbol: SymbolId) -> bool
         ensures { result ≡ not (mark_at self.now.fixed symbol.0) }
     {
-        !is_marked(self.tables.fixed.as_slice(), symbol.0)
+        !is_marked(self.look.tables.fixed.as_slice(), symbol.0)
     }
 
-    /// Whether the symbol is one of a script's top names.
+    /// Whether the symbol was one of a script's top names when the program was resolved.
     pub fn is_script_top(&self, symbol: SymbolId) -> bool
         ensures { result ≡ mark_at self.now.tops symbol.0 }
     {
-        is_marked(self.tops.as_slice(), symbol.0)
+        is_marked(self.first_tops.as_slice(), symbol.0)
     }
 
-    /// The scope that declares the symbol.
+    /// The scope that declares the symbol, in the program that was looked at last.
     pub fn scope_of(&self, symbol: SymbolId) -> ScopeId
         ensures { result.0 ≡ slice_index self.now.owners symbol.0 }
     {
-        ScopeId(count_at(self.scopes.owners.as_slice(), symbol.0))
+        ScopeId(count_at(self.look.scopes.owners.as_slice(), symbol.0))
     }
 
     /// Whether a direct eval can see the symbol: one stands in the scope that declares it, nested functions included.
     pub fn is_seen_by_eval(&self, symbol: SymbolId) -> bool
         ensures { result ≡ mark_at self.now.seen symbol.0 }
     {
-        is_marked(self.scopes.seen.as_slice(), symbol.0)
+        is_marked(self.look.scopes.seen.as_slice(), symbol.0)
     }
 
     /// Whether a module imports or exports the symbol. (ECMA-262, "ImportEntries", "ExportEntries".)
     pub fn is_exchanged(&self, symbol: SymbolId) -> bool
         ensures { result ≡ mark_at self.now.exchanged symbol.0 }
     {
-        is_marked(self.tables.exchanged.as_slice(), symbol.0)
+        is_marked(self.look.tables.exchanged.as_slice(), symbol.0)
     }
 
     /// Whether the symbol is a parameter of a sloppy function that names its `arguments`. (ECMA-262,
@@ -247,7 +255,7 @@ impl Scopes {
     pub fn is_reached_by_arguments(&self, symbol: SymbolId) -> bool
         ensures { result ≡ mark_at self.now.reached symbol.0 }
     {
-        is_marked(self.tables.reached.as_slice(), symbol.0)
+        is_marked(self.look.tables.reached.as_slice(), symbol.0)
     }
 
     /// Whether another body than the one with this number, or a carried node, declares, binds, reads or writes the symbol.
@@ -255,7 +263,7 @@ impl Scopes {
         ensures { result ≡ is_outside_of (entry_at self.now.mentioned symbol.0) body }
     {
         is_outside(
-            mentioned_at(self.tables.mentioned.as_slice(), symbol.0),
+            mentioned_at(self.look.tables.mentioned.as_slice(), symbol.0),
             body,
         )
     }
@@ -270,11 +278,11 @@ impl Scopes {
     fn is_shared_always(&self, symbol: u32) -> bool
         ensures { result ≡ (mark_at self.now.now_top symbol || mark_at self.now.exchanged symbol || mark_at self.now.seen symbol || mark_at self.now.reached symbol || mark_at self.now.caught symbol || written_in_catch self.now symbol) }
     {
-        is_marked(self.now_top.as_slice(), symbol)
-            || is_marked(self.tables.exchanged.as_slice(), symbol)
-            || is_marked(self.scopes.seen.as_slice(), symbol)
-            || is_marked(self.tables.reached.as_slice(), symbol)
-            || is_marked(self.tables.caught.as_slice(), symbol)
+        is_marked(self.look.tops.as_slice(), symbol)
+            || is_marked(self.look.tables.exchanged.as_slice(), symbol)
+            || is_marked(self.look.scopes.seen.as_slice(), symbol)
+            || is_marked(self.look.tables.reached.as_slice(), symbol)
+            || is_marked(self.look.tables.caught.as_slice(), symbol)
             || self.is_written_in_catch(symbol)
     }
 
@@ -292,11 +300,11 @@ impl Scopes {
     fn is_foreign_always(&self, symbol: u32) -> bool
         ensures { result ≡ foreign_always self.now symbol }
     {
-        is_marked(self.tables.imported.as_slice(), symbol)
-            || is_marked(self.now_top.as_slice(), symbol)
-            || is_marked(self.scopes.seen.as_slice(), symbol)
-            || is_marked(self.tables.reached.as_slice(), symbol)
-            || is_marked(self.tables.patterns.as_slice(), symbol)
+        is_marked(self.look.tables.imported.as_slice(), symbol)
+            || is_marked(self.look.tops.as_slice(), symbol)
+            || is_marked(self.look.scopes.seen.as_slice(), symbol)
+            || is_marked(self.look.tables.reached.as_slice(), symbol)
+            || is_marked(self.look.tables.patterns.as_slice(), symbol)
             || self.is_written_in_catch(symbol)
     }
 
@@ -304,56 +312,59 @@ impl Scopes {
     fn is_changed(&self, symbol: u32) -> bool
         ensures { result ≡ is_changed self.now symbol }
     {
-        is_somewhere(mentioned_at(self.given.as_slice(), symbol))
-            || is_somewhere(mentioned_at(self.tables.written.as_slice(), symbol))
+        is_somewhere(mentioned_at(self.look.given.as_slice(), symbol))
+            || is_somewhere(mentioned_at(self.look.tables.written.as_slice(), symbol))
     }
 
     // Whether another body than this or a carried node does.
     fn is_changed_outside(&self, symbol: u32, body: u32) -> bool
         ensures { result ≡ is_changed_outside self.now symbol body }
     {
-        is_outside(mentioned_at(self.given.as_slice(), symbol), body)
-            || is_outside(mentioned_at(self.tables.written.as_slice(), symbol), body)
+        is_outside(mentioned_at(self.look.given.as_slice(), symbol), body)
+            || is_outside(
+                mentioned_at(self.look.tables.written.as_slice(), symbol),
+                body,
+            )
     }
 
     // Whether a body declares the symbol.
     fn is_home(&self, symbol: u32, body: u32) -> bool
         ensures { result ≡ holds self.now.homes symbol body }
     {
-        holds_number(self.tables.homes.as_slice(), symbol, body)
+        holds_number(self.look.tables.homes.as_slice(), symbol, body)
     }
 
     // Whether the symbol may be uninitialised where a body reads it.
     fn may_be_unset(&self, symbol: u32, body: u32) -> bool
         ensures { result ≡ may_be_unset self.now symbol body }
     {
-        (is_marked(self.tables.lexical.as_slice(), symbol)
+        (is_marked(self.look.tables.lexical.as_slice(), symbol)
             && (!self.is_home(symbol, body)
-                || is_marked(self.tables.switched.as_slice(), symbol)
-                || holds_number(self.moments.early.as_slice(), symbol, body)))
-            || is_around(&self.tables.enclosing, symbol, body)
+                || is_marked(self.look.tables.switched.as_slice(), symbol)
+                || holds_number(self.look.moments.early.as_slice(), symbol, body)))
+            || is_around(&self.look.tables.enclosing, symbol, body)
     }
 
     // Whether a `var` writes the symbol, which is a parameter of `catch`.
     fn is_written_in_catch(&self, symbol: u32) -> bool
         ensures { result ≡ written_in_catch self.now symbol }
     {
-        is_marked(self.tables.params.as_slice(), symbol)
-            && is_somewhere(mentioned_at(self.given.as_slice(), symbol))
+        is_marked(self.look.tables.params.as_slice(), symbol)
+            && is_somewhere(mentioned_at(self.look.given.as_slice(), symbol))
     }
 
     /// Whether the scope's code is strict. (ECMA-262, "Strict Mode Code".)
     pub fn is_strict(&self, scope: ScopeId) -> bool
         ensures { result ≡ mark_at self.now.strict scope.0 }
     {
-        is_marked(self.scopes.strict.as_slice(), scope.0)
+        is_marked(self.look.scopes.strict.as_slice(), scope.0)
     }
 
     /// Whether a direct eval stands in the scope, nested functions included.
     pub fn has_direct_eval(&self, scope: ScopeId) -> bool
         ensures { result ≡ mark_at self.now.evals scope.0 }
     {
-        is_marked(self.scopes.evals.as_slice(), scope.0)
+        is_marked(self.look.scopes.evals.as_slice(), scope.0)
     }
 
     /// Whether `this` in the body with this number is the event of reading what `super()` binds. (ECMA-262,
@@ -361,7 +372,7 @@ impl Scopes {
     pub fn this_has_event(&self, body: u32) -> bool
         ensures { result ≡ mark_at self.now.this_events body }
     {
-        is_marked(self.tables.this_events.as_slice(), body)
+        is_marked(self.look.tables.this_events.as_slice(), body)
     }
 
     /// Whether the body with this number is that of a function that is neither an arrow nor a static block, or of an arrow
@@ -369,7 +380,7 @@ impl Scopes {
     pub fn has_arguments(&self, body: u32) -> bool
         ensures { result ≡ mark_at self.now.arguments body }
     {
-        is_marked(self.tables.arguments.as_slice(), body)
+        is_marked(self.look.tables.arguments.as_slice(), body)
     }
 
     /// Counts the references of a part out, that is to be dropped. A step is one reference.
@@ -381,6 +392,6 @@ impl Scopes {
         ensures rest { self.new ≡ record self.old { reads = self.new.reads; writes = self.new.writes } }
         ensures steps { steps.new ≡ steps.old + length (references variant.Read part.now) }
     {
-        count_out(&mut self.counts, part, steps);
+        count_out(&mut self.look.counts, part, steps);
     }
 }

@@ -6,7 +6,7 @@ ghost use Rattle.mini_names.specs.Bodies.{frame_at, frame_of_body, has_superclas
 ghost use Rattle.mini_names.specs.Mentions.{around_by as around_by_numbering, around_child, numbering_of as numbering_in, outermost};
 ghost use Rattle.mini_node.specs.Children.{number_of};
 ghost use Rattle.mini_names.specs.Foreign.{is_body_by};
-ghost use Rattle.mini_context.specs.Visits.{below, frame_by, frame_in, is_exchange_shape, is_import_shape, top};
+ghost use Rattle.mini_context.specs.Visits.{below, first_reading, frame_by, frame_in, is_exchange_shape, is_import_shape, reading_below, top};
 
 use crate::strictness::is_strict_in;
 use mini_model::{MethodDefinitionKind, Shape};
@@ -42,6 +42,41 @@ pub struct Standing {
     pub in_body: bool,
     /// What `this` and `arguments` are there.
     pub frame: Frame,
+}
+
+/// How the names of a node are used, what is around it, and whether its code is strict: the part of how it stands that most
+/// walks ask for.
+#[derive(Clone, Copy)]
+pub struct Reading {
+    pub usage: Use,
+    pub around: Around,
+    pub strict: bool,
+}
+
+/// How a program is read.
+pub fn first_reading() -> Reading
+    ensures { result ≡ first_reading }
+{
+    Reading {
+        usage: Use::Read,
+        around: Around {
+            number: 0,
+            carried: false,
+        },
+        strict: false,
+    }
+}
+
+/// How the child at an index of a node is read.
+pub fn reading_below(reading: Reading, node: &Node, at: usize) -> Reading
+    ensures { result ≡ reading_below reading node.now at }
+{
+    let shape = node.shape();
+    Reading {
+        usage: use_of(shape, reading.usage, at),
+        around: around_below(shape, reading.around, node.number(), at),
+        strict: is_strict_in(reading.strict, shape),
+    }
 }
 
 fn no_frame() -> Frame

@@ -18,7 +18,7 @@ use crate::exchanges::mark_exchanged;
 use crate::lists::no_lists;
 use crate::marks::{mark_names, no_marks};
 use crate::mentions::{Mentioned, join_own, join_write, no_mentions, put_home};
-use crate::params::{Params, enclose, no_params};
+use crate::params::{Params, empty_params, enclose, no_params};
 use crate::parts::{caught_part, fixed_part, lexical_part, mark_part, pattern_part, switched_part};
 use crate::reach::mark_reached;
 use crate::standing::{Standing, frame_in_body, numbering_of, standing_below};
@@ -63,6 +63,30 @@ pub struct Tables {
     pub arguments: Vec<bool>,
 }
 
+/// Tables of no symbol.
+pub fn empty_tables(alloc: Global) -> Tables
+    ensures this_events { result.this_events.items ≡ [] }
+    ensures arguments { result.arguments.items ≡ [] }
+{
+    Tables {
+        fixed: Vec::new(alloc),
+        exchanged: Vec::new(alloc),
+        reached: Vec::new(alloc),
+        imported: Vec::new(alloc),
+        patterns: Vec::new(alloc),
+        lexical: Vec::new(alloc),
+        switched: Vec::new(alloc),
+        params: Vec::new(alloc),
+        caught: Vec::new(alloc),
+        mentioned: Vec::new(alloc),
+        written: Vec::new(alloc),
+        homes: Vec::new(alloc),
+        enclosing: empty_params(alloc),
+        this_events: Vec::new(alloc),
+        arguments: Vec::new(alloc),
+    }
+}
+
 /// Tables for so many symbols, without a mark.
 pub fn no_tables(alloc: Global, symbols: u32) -> Result<Tables, OutOfMemory>
     ensures fixed { IfOk result (λ tables. tables.fixed.items ≡ replicate symbols false) }
@@ -82,23 +106,21 @@ pub fn no_tables(alloc: Global, symbols: u32) -> Result<Tables, OutOfMemory>
     ensures this_events { IfOk result (λ tables. tables.this_events.items ≡ []) }
     ensures arguments { IfOk result (λ tables. tables.arguments.items ≡ []) }
 {
-    Ok(Tables {
-        fixed: no_marks(alloc, symbols)?,
-        exchanged: no_marks(alloc, symbols)?,
-        reached: no_marks(alloc, symbols)?,
-        imported: no_marks(alloc, symbols)?,
-        patterns: no_marks(alloc, symbols)?,
-        lexical: no_marks(alloc, symbols)?,
-        switched: no_marks(alloc, symbols)?,
-        params: no_marks(alloc, symbols)?,
-        caught: no_marks(alloc, symbols)?,
-        mentioned: no_mentions(alloc, symbols)?,
-        written: no_mentions(alloc, symbols)?,
-        homes: no_lists(alloc, symbols)?,
-        enclosing: no_params(alloc, symbols)?,
-        this_events: Vec::new(alloc),
-        arguments: Vec::new(alloc),
-    })
+    let mut tables = empty_tables(alloc);
+    tables.fixed = no_marks(alloc, symbols)?;
+    tables.exchanged = no_marks(alloc, symbols)?;
+    tables.reached = no_marks(alloc, symbols)?;
+    tables.imported = no_marks(alloc, symbols)?;
+    tables.patterns = no_marks(alloc, symbols)?;
+    tables.lexical = no_marks(alloc, symbols)?;
+    tables.switched = no_marks(alloc, symbols)?;
+    tables.params = no_marks(alloc, symbols)?;
+    tables.caught = no_marks(alloc, symbols)?;
+    tables.mentioned = no_mentions(alloc, symbols)?;
+    tables.written = no_mentions(alloc, symbols)?;
+    tables.homes = no_lists(alloc, symbols)?;
+    tables.enclosing = no_params(alloc, symbols)?;
+    Ok(tables)
 }
 
 /// Makes a table longer, until there is an entry at an index.

@@ -10,3 +10,4 @@ pub mod Places
 pub mod Whole
 mod Apart
 mod Parts
+mod Dropping

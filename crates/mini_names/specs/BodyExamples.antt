@@ -11,7 +11,7 @@ use Rattle.mini_names.specs.Mentions.{mentions}
 use Rattle.mini_names.specs.Shared.{module_names, names_arguments, reached_by_arguments, caught, var_writes, catch_params, is_shared}
 use Rattle.mini_names.specs.Foreign.{imported_names, pattern_names, lexical_variables, switched, moments, has_number, params_around, is_foreign}
 use Rattle.mini_names.specs.Bodies.{bodies, this_has_event, has_arguments, fixed_names, is_writable}
-use Rattle.mini_names.specs.Programs.{known, script, module_of, reference, binding, plain, inner, said, block, declares, var_of, let_of, function, strict_function, function_expression, arrow, with_default, class_with, method_of, constructor_of, field_of, static_block, assigns, member, calls, zero_literal, catches, case_of, switches, for_of, object_pattern, exports, exports_declaration, imports, a, b, e, f, g, p, x, eval, arguments}
+use Rattle.mini_names.specs.Programs.{known, script, module_of, reference, binding, binding_of, plain, inner, said, block, declares, var_of, let_of, function, strict_function, function_expression, arrow, with_default, class_with, method_of, constructor_of, field_of, static_block, assigns, member, calls, zero_literal, catches, case_of, switches, for_of, object_pattern, exports, exports_declaration, imports, a, b, e, f, g, p, x, eval, arguments}
 
 -- function f(p) { p = p }: a top name of a script is shared
 a_top_name_is_shared : is_shared (resolved_program (script (function 1 (binding f) (binding p ▸ none) (said (assigns (reference p) (reference p)) ▸ none) ▸ none))) 0 (known 0 f) ≡ true
@@ -359,21 +359,30 @@ four_scopes : map (λ s. length s.names) (scopes_of (script (function 1 (binding
 unfolding resolved scopes_by body_names names_of with_names has_inner symbols has_eval scope_list mentions module_names names_arguments reached_by_arguments caught var_writes catch_params imported_names pattern_names lexical_variables switched moments has_number params_around bodies fixed_names
 four_scopes = refl
 
-scope_of_symbol_0 : scope_of_symbol (script (function 1 (binding f) (binding p ▸ none) (let_of a ▸ block (let_of b ▸ none) ▸ block none ▸ none) ▸ none)) 0 ≡ 0
+scope_of_symbol_0 : scope_of_symbol (resolved_program (script (function 1 (binding f) (binding p ▸ none) (let_of a ▸ block (let_of b ▸ none) ▸ block none ▸ none) ▸ none))) 0 ≡ 0
 unfolding resolved scopes_by body_names names_of with_names has_inner symbols has_eval scope_list mentions module_names names_arguments reached_by_arguments caught var_writes catch_params imported_names pattern_names lexical_variables switched moments has_number params_around bodies fixed_names
 scope_of_symbol_0 = refl
 
-scope_of_symbol_1 : scope_of_symbol (script (function 1 (binding f) (binding p ▸ none) (let_of a ▸ block (let_of b ▸ none) ▸ block none ▸ none) ▸ none)) 1 ≡ 1
+scope_of_symbol_1 : scope_of_symbol (resolved_program (script (function 1 (binding f) (binding p ▸ none) (let_of a ▸ block (let_of b ▸ none) ▸ block none ▸ none) ▸ none))) 1 ≡ 1
 unfolding resolved scopes_by body_names names_of with_names has_inner symbols has_eval scope_list mentions module_names names_arguments reached_by_arguments caught var_writes catch_params imported_names pattern_names lexical_variables switched moments has_number params_around bodies fixed_names
 scope_of_symbol_1 = refl
 
-scope_of_symbol_2 : scope_of_symbol (script (function 1 (binding f) (binding p ▸ none) (let_of a ▸ block (let_of b ▸ none) ▸ block none ▸ none) ▸ none)) 2 ≡ 2
+scope_of_symbol_2 : scope_of_symbol (resolved_program (script (function 1 (binding f) (binding p ▸ none) (let_of a ▸ block (let_of b ▸ none) ▸ block none ▸ none) ▸ none))) 2 ≡ 2
 unfolding resolved scopes_by body_names names_of with_names has_inner symbols has_eval scope_list mentions module_names names_arguments reached_by_arguments caught var_writes catch_params imported_names pattern_names lexical_variables switched moments has_number params_around bodies fixed_names
 scope_of_symbol_2 = refl
 
-scope_of_symbol_3 : scope_of_symbol (script (function 1 (binding f) (binding p ▸ none) (let_of a ▸ block (let_of b ▸ none) ▸ block none ▸ none) ▸ none)) 3 ≡ 3
+scope_of_symbol_3 : scope_of_symbol (resolved_program (script (function 1 (binding f) (binding p ▸ none) (let_of a ▸ block (let_of b ▸ none) ▸ block none ▸ none) ▸ none))) 3 ≡ 3
 unfolding resolved scopes_by body_names names_of with_names has_inner symbols has_eval scope_list mentions module_names names_arguments reached_by_arguments caught var_writes catch_params imported_names pattern_names lexical_variables switched moments has_number params_around bodies fixed_names
 scope_of_symbol_3 = refl
+
+-- function f(p) { } where f has the number 5 and p the number 2, as what rewriting leaves may
+scope_of_a_later_symbol : scope_of_symbol (script (function 1 (binding_of 5 f) (binding_of 2 p ▸ none) none ▸ none)) 2 ≡ 1
+unfolding resolved scopes_by body_names names_of with_names has_inner symbols has_eval scope_list mentions module_names names_arguments reached_by_arguments caught var_writes catch_params imported_names pattern_names lexical_variables switched moments has_number params_around bodies fixed_names
+scope_of_a_later_symbol = refl
+
+scope_of_an_earlier_symbol : scope_of_symbol (script (function 1 (binding_of 5 f) (binding_of 2 p ▸ none) none ▸ none)) 5 ≡ 0
+unfolding resolved scopes_by body_names names_of with_names has_inner symbols has_eval scope_list mentions module_names names_arguments reached_by_arguments caught var_writes catch_params imported_names pattern_names lexical_variables switched moments has_number params_around bodies fixed_names
+scope_of_an_earlier_symbol = refl
 
 -- class a { static { } }: the program, the class, and two of the block
 scopes_of_a_static_block : map (λ s. length s.names) (scopes_of (script (class_with true 1 (binding a) (binding a) absent (static_block 2 none ▸ none) ▸ none))) ≡ 1 ∷ 1 ∷ 0 ∷ 0 ∷ []

@@ -2,6 +2,7 @@ pub mod DeclaredNames
 pub mod Scopes
 pub mod Resolved
 pub mod References
+pub mod Counts
 pub mod Strict
 pub mod ScopeList
 pub mod Mentions

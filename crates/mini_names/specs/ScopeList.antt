@@ -1,6 +1,6 @@
 -- The scopes of a program, in the order in which they are entered (ECMA-262, "Environment Records"): what they declare,
 -- whether their code is strict, and whether a direct eval stands in them.
-use Rattle.std.specs.Prelude.{ℕ, zero, suc, nat_lt, ◌-◌, Bool, false, ◌||◌, List, [], ◌∷◌, ◌++◌, map, length, codes, if◌then◌else◌}
+use Rattle.std.specs.Prelude.{ℕ, zero, suc, Bool, false, ◌||◌, List, [], ◌∷◌, ◌++◌, map, codes, Some, if◌then◌else◌}
 use Rattle.mini_model.specs.declared.name.Name.{Name}
 use Rattle.mini_model.specs.declared.shape.Shape.{Shape}
 use Rattle.mini_model.specs.declared.shape.Shape.TheVariants as shape
@@ -10,6 +10,7 @@ use Rattle.mini_names.specs.declared.Use.{Use}
 use Rattle.mini_names.specs.declared.Use.TheVariants.{Read}
 use Rattle.mini_names.specs.declared.Binding.{Binding}
 use Rattle.mini_names.specs.Scopes.{use_of, opened}
+use Rattle.mini_names.specs.Mentions.{is_among}
 use Rattle.mini_names.specs.Strict.{is_strict_in}
 
 -- a scope: its names, whether its code is strict, and whether a direct eval stands in it, nested functions included
@@ -85,13 +86,17 @@ unfoldable mutual
 abbrev pub scopes_of : Tree → List Scope
 scopes_of t = scope_list Read false t
 
--- the scope that declares a symbol: symbols are numbered through the scopes, from the first on
-abbrev pub scope_from : ℕ → List Scope → ℕ → ℕ
-scope_from k [] s = 0
-scope_from k (r ∷ rs) s = if nat_lt s (length r.names) then k else scope_from (suc k) rs (s - length r.names)
+-- the scope that declares a symbol: the last of which it is a name, or the first of all. Symbols are told apart by their numbers
+-- alone, so this is also the scope of a symbol in a program that was rewritten, where symbols keep their numbers
+abbrev pub by_symbol : ℕ → Name
+by_symbol s = record { spelling = []; symbol = Some (record { 0 = s }) }
+
+abbrev pub scope_from : ℕ → ℕ → List Scope → ℕ → ℕ
+scope_from found k [] s = found
+scope_from found k (r ∷ rs) s = scope_from (if is_among (by_symbol s) r.names then k else found) (suc k) rs s
 
 abbrev pub scope_of_symbol : Tree → ℕ → ℕ
-scope_of_symbol t s = scope_from 0 (scopes_of t) s
+scope_of_symbol t s = scope_from 0 0 (scopes_of t) s
 
 -- the names that a direct eval can see: those of each scope in which one stands
 abbrev pub seen_in : List Scope → List Name

@@ -1,3 +1,4 @@
+ghost use Rattle.mini_names.specs.Counts.{DropsTell};
 ghost use Rattle.mini_names.specs.Laws.{ResolvedIsScoped, ResolvedOfBare, ResolvedRenamed, ResolvedSymbols, ResolvedIsDistinct};
 
 /// Each name of a resolved tree has the symbol that the scopes around give it.
@@ -23,4 +24,9 @@ pub fn resolved_symbols()
 /// Each symbol of a resolved program is declared once.
 pub fn resolved_is_distinct()
     ensures { ResolvedIsDistinct }
+{}
+
+/// Counts that fell by the references of a part are those of the references that are left.
+pub fn drops_tell()
+    ensures { DropsTell }
 {}

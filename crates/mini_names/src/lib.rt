@@ -10,7 +10,8 @@ pub use edits::{
     kept_as_it_is, kept_below, kept_by_drop, kept_by_swap, kept_is_distinct, kept_twice,
 };
 pub use laws::{
-    resolved_is_distinct, resolved_is_scoped, resolved_of_bare, resolved_renamed, resolved_symbols,
+    drops_tell, resolved_is_distinct, resolved_is_scoped, resolved_of_bare, resolved_renamed,
+    resolved_symbols,
 };
 use mini_model::Name;
 use mini_text::{OwnedList, Text};

@@ -1,6 +1,6 @@
 -- Declarations that clash with earlier ones.
-use Rattle.std.specs.Prelude.{ℕ, ◌≡◌, refl, Bool, true, false, ◌||◌, ◌&&◌, List, [], ◌∷◌, ◌++◌, map, None, if◌then◌else◌}
-use Rattle.std.proofs.Common.{ap, ◌∙◌, sym, append_assoc}
+use Rattle.std.specs.Prelude.{ℕ, ◌≡◌, ◌<◌, refl, Bool, true, false, ◌||◌, ◌&&◌, List, [], ◌∷◌, ◌++◌, length, map, None, if◌then◌else◌}
+use Rattle.std.proofs.Common.{ap, ◌∙◌, sym, arith, append_assoc}
 use Rattle.std.proofs.lemmas.List.{append-nil, map-append}
 use Rattle.mini_model.specs.Weight.{same_text}
 use Rattle.mini_names.specs.declared.Binding.{Binding}
@@ -34,3 +34,8 @@ bind_last ys d = map-append as_binding ys (d ∷ [])
 
 pub all_found : (ys : List Declaration) (now : List (List ℕ)) → now ≡ now ++ clashing ys []
 all_found ys now = sym (append-nil now)
+
+pub none_clashes : (ds : List Declaration) (found : List (List ℕ)) → length ds < 2 → found ≡ found ++ clashing [] ds
+none_clashes [] found h = sym (append-nil found)
+none_clashes (d ∷ []) found h = sym (append-nil found)
+none_clashes (d ∷ (e ∷ ds)) found h = absurd (omega arith)

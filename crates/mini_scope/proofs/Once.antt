@@ -62,3 +62,10 @@ drop_self (x ∷ xs) = drop_self xs
 pub no_names : (h : Bool) (seen xs : List Name) → length xs ≡ 0 → [] ≡ bound h (drop (length seen) (with_names seen xs))
 no_names h seen [] e = ap (bound h) (sym (ap (drop (length seen)) (none_yet seen) ∙ drop_self seen))
 no_names h seen (x ∷ xs) e = absurd (omega arith)
+
+pub alone : (h : Bool) (given names : List Name) → length given ≡ 0 → length names ≡ 1 → bound h names ≡ bound h (drop (length given) (with_names given names))
+unfolding with_names
+alone h [] [] e f = absurd (omega (arith, f))
+alone h [] (x ∷ []) e f = refl
+alone h [] (x ∷ (y ∷ names)) e f = absurd (omega (arith, f))
+alone h (x ∷ given) names e f = absurd (omega (arith, e))

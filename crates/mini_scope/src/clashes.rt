@@ -38,6 +38,9 @@ pub fn push_clashing(
 ) -> Result<(), OutOfMemory>
     ensures { OnOk result (found.new.items ≡ found.old.items ++ clashing [] declarations.items) }
 {
+    if declarations.len() < 2 {
+        return Ok(());
+    }
     let mut earlier = Environment::new(alloc, declarations.len() / 2 + 1)?;
     for declaration in declarations {
         let Declaration {

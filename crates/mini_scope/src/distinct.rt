@@ -33,6 +33,20 @@ fn add_distinct(scope: &mut Environment, names: Vec<Name>, hoists: bool) -> Resu
     Ok(())
 }
 
+/// These names as the bindings of a scope.
+fn bindings_of(alloc: Global, names: Vec<Name>, hoists: bool) -> Result<Vec<Binding>, OutOfMemory>
+    ensures { IfOk result (λ scope. scope.items ≡ bound hoists names.items) }
+{
+    let mut scope = Vec::new(alloc);
+    for name in names {
+        match scope.push(Binding { name, hoists }) {
+            Ok(()) => {}
+            Err(_) => return Err(OutOfMemory),
+        }
+    }
+    Ok(scope)
+}
+
 /// The scope of these names without those given first.
 pub fn scope_of(
     alloc: Global,
@@ -46,6 +60,9 @@ pub fn scope_of(
         return Ok(Vec::new(alloc));
     }
     let count = given.len();
+    if count == 0 && names.len() == 1 {
+        return bindings_of(alloc, names, hoists);
+    }
     let mut scope = Environment::new(alloc, names.len() / 2 + 1)?;
     add_all(&mut scope, given, hoists)?;
     add_distinct(&mut scope, names, hoists)?;

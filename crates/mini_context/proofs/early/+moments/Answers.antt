@@ -11,13 +11,13 @@ use Rattle.mini_context.proofs.Passing.{opens, passed_add, passes_in_order, rest
 use Rattle.mini_context.proofs.early.+moments.Goals as goal
 
 pub pass_rest-loop-at-init : goal.pass_rest-loop-at-init
-pass_rest-loop-at-init t c = rest_begins (use_of (shape_of c.args.node.now) c.args.standing.usage) (around_child (shape_of c.args.node.now) c.args.standing.around (number_of c.args.node.now)) (children c.args.node.now) c.args.from c.args.moments.now
+pass_rest-loop-at-init t c = rest_begins (use_of (shape_of c.args.node.now) c.args.reading.usage) (around_child (shape_of c.args.node.now) c.args.reading.around (number_of c.args.node.now)) (children c.args.node.now) c.args.from c.args.moments.now
 
 pub pass_rest-loop-at-preserved : goal.pass_rest-loop-at-preserved
 pass_rest-loop-at-preserved t c =
     let n = c.args.node.now in
-    let a = c.args.standing.around in
-    let uses = use_of (shape_of n) c.args.standing.usage in
+    let a = c.args.reading.around in
+    let uses = use_of (shape_of n) c.args.reading.usage in
     let arounds = around_child (shape_of n) a (number_of n) in
     let inside : c.loop-at.at < count (children n) = omega (arith, ap count c.children.ensures) in
     rest_turns uses arounds (children n) c.args.from c.loop-at.at _ _ _ inside c.in_ok-pass_child.ensures c.loop-at.invariant
@@ -25,8 +25,8 @@ pass_rest-loop-at-preserved t c =
 pub pass_rest-returns : goal.pass_rest-returns
 pass_rest-returns t c =
     let n = c.args.node.now in
-    let a = c.args.standing.around in
-    let uses = use_of (shape_of n) c.args.standing.usage in
+    let a = c.args.reading.around in
+    let uses = use_of (shape_of n) c.args.reading.usage in
     let arounds = around_child (shape_of n) a (number_of n) in
     let over : count (children n) ≤ c.loop-at.at = omega (arith, ap count c.children.ensures) in
     rest_ends uses arounds (children n) c.args.from c.loop-at.at _ _ over c.loop-at.invariant
@@ -34,8 +34,8 @@ pass_rest-returns t c =
 pub pass_node-returns : goal.pass_node-returns
 pass_node-returns t c =
     let n = c.args.node.now in
-    let u = c.args.standing.usage in
-    let a = c.args.standing.around in
+    let u = c.args.reading.usage in
+    let a = c.args.reading.around in
     let own = reads_at (own_mentions u a (shape_of n) (names_of n)) in
     let rest = in_order (shape_of n) (moments_from (use_of (shape_of n) u) (around_child (shape_of n) a (number_of n)) 0 (children n)) (ends_at a (ended_by (shape_of n) (children n))) in
     on_ok_weaker _ (λ p. subst (λ ms. Passed ms c.args.moments.now c.pass_below.new.moments) (opens u a n) (passed_add.both own rest _ _ _ c.in_ok-pass_own.ensures p)) c.pass_below.ensures
@@ -43,8 +43,8 @@ pass_node-returns t c =
 pub pass_below-returns-in_ok-pass_rest-in-InOrder : goal.pass_below-returns-in_ok-pass_rest-in-InOrder
 pass_below-returns-in_ok-pass_rest-in-InOrder t c =
     let n = c.args.node.now in
-    let a = c.args.standing.around in
-    let uses = use_of (shape_of n) c.args.standing.usage in
+    let a = c.args.reading.around in
+    let uses = use_of (shape_of n) c.args.reading.usage in
     let arounds = around_child (shape_of n) a (number_of n) in
     let e = ends_at a (ended_by (shape_of n) (children n)) in
     passes_in_order a uses arounds n order.InOrder c.shape.result.now c.len.result c.children.result.now e _ _ c.in-InOrder.ensures c.shape.ensures c.len.ensures c.children.ensures
@@ -53,8 +53,8 @@ pass_below-returns-in_ok-pass_rest-in-InOrder t c =
 pub pass_below-returns-in_ok-pass_rest-in-RightFirst : goal.pass_below-returns-in_ok-pass_rest-in-RightFirst
 pass_below-returns-in_ok-pass_rest-in-RightFirst t c =
     let n = c.args.node.now in
-    let a = c.args.standing.around in
-    let uses = use_of (shape_of n) c.args.standing.usage in
+    let a = c.args.reading.around in
+    let uses = use_of (shape_of n) c.args.reading.usage in
     let arounds = around_child (shape_of n) a (number_of n) in
     let right = moments (uses 1) (arounds 1) (child_or_absent (children n) 1) in
     let left = moments (uses 0) (arounds 0) (child_or_absent (children n) 0) in
@@ -66,8 +66,8 @@ pass_below-returns-in_ok-pass_rest-in-RightFirst t c =
 pub pass_below-returns-in_ok-pass_rest-in-ParamFirst : goal.pass_below-returns-in_ok-pass_rest-in-ParamFirst
 pass_below-returns-in_ok-pass_rest-in-ParamFirst t c =
     let n = c.args.node.now in
-    let a = c.args.standing.around in
-    let uses = use_of (shape_of n) c.args.standing.usage in
+    let a = c.args.reading.around in
+    let uses = use_of (shape_of n) c.args.reading.usage in
     let arounds = around_child (shape_of n) a (number_of n) in
     let param = moments (uses 0) (arounds 0) (child_or_absent (children n) 0) in
     let rest = rest_of uses arounds 1 (rest_children 1 (children n)) in

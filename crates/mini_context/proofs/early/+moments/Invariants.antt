@@ -19,4 +19,4 @@ abbrev pub decreases-pass_rest : goal.decreases-pass_rest
 decreases-pass_rest l = 4 * node_count l.node.now + 1
 
 abbrev pub invariant-pass_rest-loop-at : goal.invariant-pass_rest-loop-at
-invariant-pass_rest-loop-at l = UntilFrom (use_of (shape_of l.node) l.standing.usage) (around_child (shape_of l.node) l.standing.around (number_of l.node)) (children l.node) l.from l.at l.initial.moments l.moments
+invariant-pass_rest-loop-at l = UntilFrom (use_of (shape_of l.node) l.reading.usage) (around_child (shape_of l.node) l.reading.around (number_of l.node)) (children l.node) l.from l.at l.initial.moments l.moments

@@ -5,4 +5,4 @@ use Rattle.mini_context.proofs.Passing.{ends_pass}
 use Rattle.mini_context.proofs.early.pass_ends.Goals as goal
 
 pub returns : goal.returns
-returns c = ends_pass c.args.standing.around (ended_by (shape_of c.args.node.now) (children c.args.node.now)) _ _ c.mark_ended.ensures refl
+returns c = ends_pass c.args.reading.around (ended_by (shape_of c.args.node.now) (children c.args.node.now)) _ _ c.mark_ended.ensures refl

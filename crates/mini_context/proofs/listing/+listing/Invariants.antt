@@ -11,4 +11,4 @@ abbrev pub decreases-list_below : goal.decreases-list_below
 decreases-list_below l = 2 * node_count l.node.now
 
 abbrev pub invariant-list_below-loop-at : goal.invariant-list_below-loop-at
-invariant-list_below-loop-at l = Walked l.standing l.node (scope_at l.initial.scopes) l.nodes l.at l.scopes l.initial.tables l.tables l.initial.environment l.environment l.initial.given.items l.given.items
+invariant-list_below-loop-at l = Walked l.reading l.node (scope_at l.initial.scopes) l.nodes l.at l.scopes l.initial.tables l.tables l.initial.environment l.environment l.initial.given.items l.given.items l.may_eval

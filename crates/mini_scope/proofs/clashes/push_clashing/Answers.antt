@@ -1,10 +1,13 @@
-use Rattle.std.proofs.Common.{◌∙◌, ap, sym, ◌++◌, ◌∷◌, []}
+use Rattle.std.proofs.Common.{◌∙◌, ap, sym, arith, ◌++◌, ◌∷◌, []}
 use Rattle.std.specs.Vec.Iter.{into_iter_items}
 use Rattle.mini_scope.specs.Buckets.{has_name}
 use Rattle.mini_names.specs.Early.{clashing}
 use Rattle.mini_scope.specs.Paths.{use_for}
-use Rattle.mini_scope.proofs.Earlier.{as_binding, clash_turn, bind_last}
+use Rattle.mini_scope.proofs.Earlier.{as_binding, clash_turn, bind_last, none_clashes}
 use Rattle.mini_scope.proofs.clashes.push_clashing.Goals as goal
+
+pub returns-then-len-lt2 : goal.returns-then-len-lt2
+returns-then-len-lt2 c = none_clashes c.args.declarations.items c.args.found.now.items (omega arith)
 
 pub loop-declaration-preserved : goal.loop-declaration-preserved
 loop-declaration-preserved c =

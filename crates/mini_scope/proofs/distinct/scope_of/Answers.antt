@@ -1,13 +1,20 @@
-use Rattle.std.proofs.Common.{◌≡◌, ◌∙◌, ap, arith, ◌++◌, length, drop}
+use Rattle.std.specs.Prelude.{IfOk}
+use Rattle.std.proofs.Common.{◌≡◌, ◌∙◌, ap, arith, subst, ◌++◌, length, drop}
 use Rattle.std.proofs.lemmas.List.{drop-map}
 use Rattle.std.proofs.lemmas.Grind.{common_steps}
 use Rattle.mini_names.specs.DeclaredNames.{with_names}
 use Rattle.mini_scope.specs.ScopeAt.{bound}
-use Rattle.mini_scope.proofs.Once.{no_names, longer, bound_length}
+use Rattle.mini_scope.proofs.Once.{alone, no_names, longer, bound_length}
 use Rattle.mini_scope.proofs.distinct.scope_of.Goals as goal
 
 pub returns-then-is_empty : goal.returns-then-is_empty
 returns-then-is_empty c = c.new.ensures.items ∙ no_names c.args.hoists c.args.given.items c.args.names.items (let nothing : length c.args.names.items ≡ 0 = grind (arith, common_steps) in nothing)
+
+pub returns-then-len-eq1 : goal.returns-then-len-eq1
+returns-then-len-eq1 c =
+    let nothing : length c.args.given.items ≡ 0 = omega arith in
+    let one : length c.args.names.items ≡ 1 = omega arith in
+    subst (λ r. IfOk c.bindings_of.result (λ scope. scope.items ≡ r)) (alone c.args.hoists c.args.given.items c.args.names.items nothing one) c.bindings_of.ensures
 
 pub split_off-requires : goal.split_off-requires
 split_off-requires c =

@@ -1,0 +1,40 @@
+use Rattle.std.proofs.Common.{refl}
+use Rattle.mini_names.specs.ScopeList.{seen_by_eval}
+use Rattle.mini_names.specs.Shared.{program_var_writes}
+use Rattle.mini_context.proofs.Told.{from_blank, joined_blank}
+use Rattle.mini_context.proofs.scopes.look_at.Goals as goal
+
+pub returns : goal.returns
+returns c =
+    let n = c.args.symbols in
+    let t = c.args.program.now in
+    let found = c.in_ok-look-2.ensures in
+    let listed = c.in_ok-scopes.ensures in
+    λ tops. record {
+      reads_told = c.in_ok-look.ensures.reads;
+      writes_told = c.in_ok-look.ensures.writes;
+      fixed_told = found.fixed_told;
+      owners_told = listed.owners;
+      strict_told = listed.strict;
+      evals_told = listed.evals;
+      this_told = found.this_told;
+      arguments_told = found.arguments_told;
+      looked = record {
+        tops_told = from_blank n _ _ _ refl c.in_ok-look-4.ensures;
+        seen_told = from_blank n (seen_by_eval t) _ c.in_ok-scopes.scopes.seen.items refl listed.seen;
+        given_told = joined_blank n (program_var_writes t) _ c.in_ok-scopes.given.items refl listed.given;
+        exchanged_told = found.exchanged_told;
+        imported_told = found.imported_told;
+        reached_told = found.reached_told;
+        patterns_told = found.patterns_told;
+        lexical_told = found.lexical_told;
+        switched_told = found.switched_told;
+        params_told = found.params_told;
+        caught_told = found.caught_told;
+        mentioned_told = found.mentioned_told;
+        written_told = found.written_told;
+        homes_told = found.homes_told;
+        early_told = c.in_ok-look-3.ensures;
+        enclosed_told = found.enclosed_told;
+      };
+    }
