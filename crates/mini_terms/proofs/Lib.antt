@@ -1,0 +1,13 @@
+pub mod Frame
+pub mod Made
+pub mod KindTable
+pub mod Fine
+pub mod EffectsTable
+pub mod ConstTable
+pub mod Truths
+pub mod Children
+pub mod ConstantNames
+pub mod Opened
+pub mod Reading
+pub mod Evidence
+pub mod Dropping

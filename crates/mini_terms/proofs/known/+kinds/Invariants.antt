@@ -1,0 +1,12 @@
+use Rattle.std.proofs.Common.{◌+◌, ◌*◌}
+use Rattle.mini_model.specs.Tree.{node_count}
+use Rattle.mini_terms.proofs.known.+kinds.Given as goal
+
+abbrev pub decreases-kind_of : goal.decreases-kind_of
+decreases-kind_of l = 2 * node_count l.node.now + 1
+
+abbrev pub decreases-child_kind : goal.decreases-child_kind
+decreases-child_kind l = 2 * node_count l.node.now
+
+abbrev pub decreases-last_kind : goal.decreases-last_kind
+decreases-last_kind l = 2 * node_count l.node.now

@@ -1,0 +1,11 @@
+pub mod Kind
+pub mod Effects
+pub mod Const
+pub mod Truth
+pub mod Evident
+pub mod Plain
+pub mod Sound
+pub mod Reading
+pub mod Folds
+pub mod Parts
+pub mod Examples

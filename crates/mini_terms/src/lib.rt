@@ -1,0 +1,23 @@
+//! What can be known of an expression from its text: definitions, laws that they are sound over what a tree means, and the same
+//! in code.
+#![tactic(auto)]
+
+mod effects;
+mod evident;
+mod folds;
+mod kinds;
+mod known;
+mod laws;
+mod names;
+mod parts;
+
+pub use effects::is_effect_free;
+pub use evident::evident_truth;
+pub use folds::{goes_on, has_no_effect, stops};
+pub use kinds::Kind;
+pub use known::{is_nullish, is_primitive, kind_of};
+pub use laws::{
+    const_is_sound, effect_free_is_sound, kind_is_sound, lit_is_sound, truth_is_sound,
+    values_are_read, what_is_known_goes,
+};
+pub use parts::{is_item, is_plain_part, leaves_nothing, stands, suits, weighs};
