@@ -1,21 +1,33 @@
 -- Lists of bodies that are kept.
-use Rattle.std.specs.Prelude.{ℕ, zero, suc, ◌≡◌, ◌<◌, refl, List, [], ◌∷◌, ◌++◌, length, slice_index_or, Contains}
+use Rattle.std.specs.Prelude.{ℕ, zero, suc, ◌≡◌, ◌⊎◌, ◌<◌, refl, None, List, [], ◌∷◌, ◌++◌, length, slice_index_or, Contains}
 use Rattle.std.proofs.Common.{◌∙◌, sym, subst, arith, inl, inr}
-use Rattle.mini_laws.specs.Body.{SameBody}
+use Rattle.mini_laws.specs.Body.{BodyKind, Run}
 use Rattle.mini_laws.specs.Bodies.{Body}
-use Rattle.mini_laws.proofs.Congruent.{body_reflexive, body_transitive}
-use Rattle.mini_kept.specs.AlikeBodies.{AlikeBody, IsOneOf, BodiesKept}
+use Rattle.mini_kept.specs.AlikeBodies.{KindKept, AlikeBody, IsOneOf, BodiesKept}
 
 alike_itself : (b : Body) → AlikeBody b b
-alike_itself b = record { number = refl; kind = refl; strict = refl; asks_this = refl; same = λ e X. body_reflexive e b.kind X b.root }
+alike_itself b = record { number = refl; kind = inl refl; strict = refl; asks_this = refl; same = λ e X. record { by = λ vars this answers turns i. inr refl } }
+
+kind_on : (k l m : BodyKind) → KindKept k l → KindKept l m → KindKept k m
+kind_on k l m (inl e) (inl f) = inl (e ∙ f)
+kind_on k l m (inl e) (inr f) = inr (e ∙ f.0, f.1)
+kind_on k l m (inr e) (inl f) = inr (e.0, sym f ∙ e.1)
+kind_on k l m (inr e) (inr f) = absurd (cc (sym e.1 ∙ f.0))
+
+either_way : {A : Type 0} (x y z o : A) → (x ≡ o) ⊎ (x ≡ y) → (y ≡ o) ⊎ (y ≡ z) → (x ≡ o) ⊎ (x ≡ z)
+either_way x y z o (inl e) k = inl e
+either_way x y z o (inr e) (inl f) = inl (e ∙ f)
+either_way x y z o (inr e) (inr f) = inr (e ∙ f)
 
 alike_on : (b c d : Body) → AlikeBody b c → AlikeBody c d → AlikeBody b d
 alike_on b c d x y = record {
   number = x.number ∙ y.number;
-  kind = x.kind ∙ y.kind;
+  kind = kind_on b.kind c.kind d.kind x.kind y.kind;
   strict = x.strict ∙ y.strict;
   asks_this = x.asks_this ∙ y.asks_this;
-  same = λ e X. body_transitive e b.kind X b.root c.root d.root (x.same e X) (subst (λ k. SameBody e k X c.root d.root) (sym x.kind) (y.same e X));
+  same = λ e X. record {
+    by = λ vars this answers turns i. either_way (Run e b.kind b.root vars this answers turns) (Run e c.kind c.root vars this answers turns) (Run e d.kind d.root vars this answers turns) None ((x.same e X).by vars this answers turns i) ((y.same e X).by vars this answers turns i);
+  };
 }
 
 in_first : (bs ds : List Body) (c : Body) → IsOneOf bs c → IsOneOf (bs ++ ds) c

@@ -1,19 +1,22 @@
 -- What the slot of a node tells of its place, the slot of each of its children tells of the child's.
 use Rattle.std.specs.Prelude.{ℕ, zero, suc, ◌≡◌, refl, ◌⊎◌, ◌||◌, ◌&&◌, not, Bool, true, false, List, [], ◌∷◌, Option, Some, None}
 use Rattle.std.proofs.Common.{ap, ◌∙◌, sym, subst, inl, inr}
+use Rattle.std.proofs.lemmas.Bool.{false≢true}
 use Rattle.mini_model.specs.declared.kind.MethodDefinitionKind.{MethodDefinitionKind}
 use Rattle.mini_model.specs.declared.kind.MethodDefinitionKind.TheVariants as method
 use Rattle.mini_model.specs.declared.kind.PropertyKind.TheVariants as property
 use Rattle.mini_model.specs.declared.name.Name.{Name}
+use Rattle.mini_model.specs.declared.operator.LogicalOperator.{LogicalOperator}
+use Rattle.mini_model.specs.declared.operator.UnaryOperator.{UnaryOperator}
 use Rattle.mini_model.specs.declared.place.Position.{Position}
 use Rattle.mini_model.specs.declared.place.Position.TheVariants.{StatementList, SequenceList}
 use Rattle.mini_model.specs.declared.shape.Shape.{Shape}
 use Rattle.mini_model.specs.declared.shape.Shape.TheVariants as shape
 use Rattle.mini_model.specs.Tree.{Trees, node}
 use Rattle.mini_model.specs.Position.{child_position, item_position, key_position}
-use Rattle.mini_accept.specs.WellShaped.{in_module, in_body, nested, Class, a_statement, a_class_member, a_method, an_expression, a_member_target, an_inner, an_inner_argument, a_key, a_private_or_key, an_inner_key, an_element_target, a_target_element, Slot, one, one_or_absent, many, many_or_holes, many_and_rest, many_or_holes_and_rest, quasis, Filling, refused, these, each, each_or_last, pieces, filling, filling_by, slots_of, fits}
+use Rattle.mini_accept.specs.WellShaped.{Depth, in_module, in_body, nested, Class, a_statement, a_class_member, a_method, an_expression, a_member_target, an_inner, an_inner_argument, a_key, a_private_or_key, an_inner_key, an_element_target, a_target_element, Slot, one, one_or_absent, many, many_or_holes, many_and_rest, many_or_holes_and_rest, quasis, Filling, refused, these, each, each_or_last, pieces, filling, filling_by, statement_slots, slots_of, fits}
 use Rattle.mini_laws.specs.Bodies.{Around, constructs_below, below}
-use Rattle.mini_kept.proofs.Bools.{left, right}
+use Rattle.mini_kept.proofs.Bools.{left, right, or_second}
 use Rattle.mini_kept.proofs.Expressions.{refused_here}
 use Rattle.mini_kept.specs.Standing.{takes_inner, is_asked_whole, are_asked_whole, stands_whole, Stands}
 
@@ -104,8 +107,8 @@ listed_whole h p m (suc (suc zero)) = refl
 listed_whole h p m (suc (suc (suc i))) = refl
 
 items_whole : (p : Position) (m i : ℕ) → are_asked_whole p ≡ true → is_asked_whole (item_position p m i) ≡ true
-items_whole StatementList m i e = absurd (cc e)
-items_whole (SequenceList s) m i e = absurd (cc e)
+items_whole StatementList m i e = absurd (false≢true e)
+items_whole (SequenceList s) m i e = absurd (false≢true e)
 items_whole p m i e = refl
 
 -- ---- which of their children may be inner expressions
@@ -145,42 +148,111 @@ all_right : (o : Option (List Slot)) → right_by true true o ≡ true
 all_right None = refl
 all_right (Some ss) = are_all_right ss
 
+-- the shapes with children that may be inner expressions: but for those there is nothing to look at in a slot
+data Asking : Shape → Type 0 where
+  of_program : (m : Bool) (ds : List (List ℕ)) → Asking (shape.Program m ds)
+  of_listed : Asking shape.Listed
+  of_statement : Asking shape.ExpressionStatement
+  of_block : Asking shape.BlockStatement
+  of_labeled : Asking shape.LabeledStatement
+  of_if : Asking shape.IfStatement
+  of_case : Asking shape.SwitchCase
+  of_while : Asking shape.WhileStatement
+  of_do_while : Asking shape.DoWhileStatement
+  of_for : Asking shape.ForStatement
+  of_for_in : Asking shape.ForInStatement
+  of_for_of : Asking shape.ForOfStatement
+  of_body : Asking shape.FunctionBody
+  of_static_block : Asking shape.StaticBlock
+  of_array : Asking shape.ArrayExpression
+  of_unary : (o : UnaryOperator) → Asking (shape.UnaryExpression o)
+  of_logical : (o : LogicalOperator) → Asking (shape.LogicalExpression o)
+  of_conditional : Asking shape.ConditionalExpression
+  of_sequence : Asking shape.SequenceExpression
+  of_call : (b : Bool) → Asking (shape.CallExpression b)
+  of_super_call : Asking shape.SuperCallExpression
+  of_new : Asking shape.NewExpression
+  of_template : Asking shape.TemplateLiteral
+
+-- an inner expression has a place of its own below
+abbrev is_free : Shape → Bool
+is_free shape.InnerExpression = true
+is_free h = asks_whole h && lists_whole h
+
+asking : (h : Shape) → (is_free h ≡ true) ⊎ Asking h
+asking (shape.Program m ds) = inr (of_program m ds)
+asking shape.Listed = inr of_listed
+asking shape.ExpressionStatement = inr of_statement
+asking shape.BlockStatement = inr of_block
+asking shape.LabeledStatement = inr of_labeled
+asking shape.IfStatement = inr of_if
+asking shape.SwitchCase = inr of_case
+asking shape.WhileStatement = inr of_while
+asking shape.DoWhileStatement = inr of_do_while
+asking shape.ForStatement = inr of_for
+asking shape.ForInStatement = inr of_for_in
+asking shape.ForOfStatement = inr of_for_of
+asking shape.FunctionBody = inr of_body
+asking shape.StaticBlock = inr of_static_block
+asking shape.ArrayExpression = inr of_array
+asking (shape.UnaryExpression o) = inr (of_unary o)
+asking (shape.LogicalExpression o) = inr (of_logical o)
+asking shape.ConditionalExpression = inr of_conditional
+asking shape.SequenceExpression = inr of_sequence
+asking (shape.CallExpression b) = inr (of_call b)
+asking shape.SuperCallExpression = inr of_super_call
+asking shape.NewExpression = inr of_new
+asking shape.TemplateLiteral = inr of_template
+asking h = inl refl
+
+-- as statements
+statement_right : (h : Shape) → Asking h → (strict : Bool) (d : Depth) → right_by (asks_whole h) (lists_whole h) (statement_slots strict d h) ≡ true
+statement_right _ of_listed true in_module = refl
+statement_right h a true in_module = refl
+statement_right _ of_listed true in_body = refl
+statement_right h a true in_body = refl
+statement_right _ of_listed true nested = refl
+statement_right h a true nested = refl
+statement_right _ of_listed false in_module = refl
+statement_right h a false in_module = refl
+statement_right _ of_listed false in_body = refl
+statement_right h a false in_body = refl
+statement_right _ of_listed false nested = refl
+statement_right h a false nested = refl
+
+-- a call is no link outside a chain where it is optional
+call_right : (b strict : Bool) (c : Class) → right_by false true (slots_of strict c (shape.CallExpression b)) ≡ true
+call_right true strict a_method = refl
+call_right b strict (a_statement d) = statement_right (shape.CallExpression b) (of_call b) strict d
+call_right b strict (a_key true) = refl
+call_right b strict (a_key false) = refl
+call_right b strict (a_private_or_key true) = refl
+call_right b strict (a_private_or_key false) = refl
+call_right b strict (an_inner_key true) = refl
+call_right b strict (an_inner_key false) = refl
+call_right b strict c = refl
+
+asked_right : (h : Shape) → Asking h → (strict : Bool) (c : Class) → right_by (asks_whole h) (lists_whole h) (slots_of strict c h) ≡ true
+asked_right _ (of_call b) strict c = call_right b strict c
+asked_right h a strict (a_statement d) = statement_right h a strict d
+asked_right h a strict (a_key true) = refl
+asked_right h a strict (a_key false) = refl
+asked_right h a strict (a_private_or_key true) = refl
+asked_right h a strict (a_private_or_key false) = refl
+asked_right h a strict (an_inner_key true) = refl
+asked_right h a strict (an_inner_key false) = refl
+asked_right h a strict c = refl
+
 -- the slots of any shape, but of an inner expression, are right
 abbrev is_checked : Bool → Class → Shape → Bool
-is_checked strict c shape.InnerExpression = true
-is_checked strict c h = (asks_whole h && lists_whole h) || right_by (asks_whole h) (lists_whole h) (slots_of strict c h)
-
-call_checked : (b strict : Bool) (c : Class) → is_checked strict c (shape.CallExpression b) ≡ true
-call_checked true strict a_method = refl
-call_checked b true (a_statement in_module) = refl
-call_checked b true (a_statement in_body) = refl
-call_checked b true (a_statement nested) = refl
-call_checked b false (a_statement in_module) = refl
-call_checked b false (a_statement in_body) = refl
-call_checked b false (a_statement nested) = refl
-call_checked b strict (a_key true) = refl
-call_checked b strict (a_key false) = refl
-call_checked b strict (a_private_or_key true) = refl
-call_checked b strict (a_private_or_key false) = refl
-call_checked b strict (an_inner_key true) = refl
-call_checked b strict (an_inner_key false) = refl
-call_checked b strict c = refl
+is_checked strict c h = is_free h || right_by (asks_whole h) (lists_whole h) (slots_of strict c h)
 
 checked : (strict : Bool) (c : Class) (h : Shape) → is_checked strict c h ≡ true
-checked strict c shape.Absent = refl
-checked strict c (shape.CallExpression b) = call_checked b strict c
-checked true (a_statement in_module) h = refl
-checked true (a_statement in_body) h = refl
-checked true (a_statement nested) h = refl
-checked false (a_statement in_module) h = refl
-checked false (a_statement in_body) h = refl
-checked false (a_statement nested) h = refl
-checked strict (a_key true) h = refl
-checked strict (a_private_or_key true) h = refl
-checked strict (a_private_or_key false) h = refl
-checked strict (an_inner_key true) h = refl
-checked strict (an_inner_key false) h = refl
-checked strict c h = refl
+checked strict c h = by (asking h)
+  where
+    by : (is_free h ≡ true) ⊎ Asking h → is_checked strict c h ≡ true
+    by (inl e) = ap (λ b. b || right_by (asks_whole h) (lists_whole h) (slots_of strict c h)) e
+    by (inr a) = or_second (is_free h) (right_by (asks_whole h) (lists_whole h) (slots_of strict c h)) (asked_right h a strict c)
 
 right_by_both : (o l : Bool) (slots : Option (List Slot)) → ((o && l) || right_by o l slots) ≡ true → right_by o l slots ≡ true
 right_by_both true true slots e = all_right slots
@@ -202,9 +274,9 @@ ChildrenStand π α i (pieces g) = Unit {0}
 
 turned : (o b c : Bool) → (not o || b) ≡ true → (o || c) ≡ true → (c || b) ≡ true
 turned true true false e f = refl
-turned true false false e f = absurd (cc e)
+turned true false false e f = absurd (false≢true e)
 turned o b true e f = refl
-turned false b false e f = absurd (cc f)
+turned false b false e f = absurd (false≢true f)
 
 slot_whole : (o l : Bool) (s : Slot) (p : Position) → (not o || is_asked_whole p) ≡ true → (not l || are_asked_whole p) ≡ true → is_right o l s ≡ true → stands_whole s p ≡ true
 slot_whole o l (one c) p f g e = turned o (is_asked_whole p) (not (takes_inner c)) f e
@@ -323,11 +395,7 @@ item_stands p c b a m j k ts f z = record { whole = by (takes_inner c) (are_aske
 
 first_takes : (a b : Bool) → a ≡ true → (a || b) ≡ true
 first_takes true b e = refl
-first_takes false b e = absurd (cc e)
-
-second_takes : (a b : Bool) → b ≡ true → (a || b) ≡ true
-second_takes true b e = refl
-second_takes false b e = e
+first_takes false b e = absurd (false≢true e)
 
 hole_stands : (s : Class) (p : Position) (a : Around) → Stands (one s) p a → a.constructs ≡ false → Stands (one_or_absent s) p a
 hole_stands s p a z k = record { whole = z.whole; function = λ q. k }
@@ -343,8 +411,8 @@ children_stand strict (one_or_absent c) h p m a ts z = one_stands a ts strict c 
 children_stand strict (many c) shape.Listed p m a ts z = λ j k. item_stands p c (takes_inner c) a m j k ts (λ e. e) z.whole
 children_stand strict (many_or_holes c) shape.Listed p m a ts z = λ j k. hole_stands c (item_position p m j) (below a shape.Listed ts k) (item_stands p c (takes_inner c) a m j k ts (λ e. e) z.whole) refl
 children_stand strict (many_and_rest c rest) shape.Listed p m a ts z = λ j k.
-    (item_stands p c (takes_inner c || takes_inner rest) a m j k ts (first_takes (takes_inner c) (takes_inner rest)) z.whole, item_stands p rest (takes_inner c || takes_inner rest) a m j k ts (second_takes (takes_inner c) (takes_inner rest)) z.whole)
+    (item_stands p c (takes_inner c || takes_inner rest) a m j k ts (first_takes (takes_inner c) (takes_inner rest)) z.whole, item_stands p rest (takes_inner c || takes_inner rest) a m j k ts (or_second (takes_inner c) (takes_inner rest)) z.whole)
 children_stand strict (many_or_holes_and_rest c rest) shape.Listed p m a ts z = λ j k.
-    (hole_stands c (item_position p m j) (below a shape.Listed ts k) (item_stands p c (takes_inner c || takes_inner rest) a m j k ts (first_takes (takes_inner c) (takes_inner rest)) z.whole) refl, item_stands p rest (takes_inner c || takes_inner rest) a m j k ts (second_takes (takes_inner c) (takes_inner rest)) z.whole)
+    (hole_stands c (item_position p m j) (below a shape.Listed ts k) (item_stands p c (takes_inner c || takes_inner rest) a m j k ts (first_takes (takes_inner c) (takes_inner rest)) z.whole) refl, item_stands p rest (takes_inner c || takes_inner rest) a m j k ts (or_second (takes_inner c) (takes_inner rest)) z.whole)
 children_stand strict (quasis g) shape.Listed p m a ts z = tt
 children_stand strict s h p m a ts z = tt

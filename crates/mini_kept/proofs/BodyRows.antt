@@ -2,6 +2,8 @@
 use Rattle.std.specs.Prelude.{ℕ, zero, suc, ◌≡◌, refl, ◌||◌, ◌&&◌, nat_lt, Bool, true, false, List, [], ◌∷◌, ◌++◌, if◌then◌else◌}
 use Rattle.std.proofs.Common.{ap, ◌∙◌, sym, subst, inl, inr}
 use Rattle.std.proofs.lemmas.Bool.{and_parts}
+use Rattle.mini_model.specs.declared.name.Name.{Name}
+use Rattle.mini_model.specs.declared.operator.BinaryOperator.{BinaryOperator}
 use Rattle.mini_model.specs.declared.operator.LogicalOperator.TheVariants.{Or, And}
 use Rattle.mini_model.specs.declared.operator.UnaryOperator.TheVariants.{LogicalNot}
 use Rattle.mini_model.specs.declared.place.Position.{Position}
@@ -9,9 +11,9 @@ use Rattle.mini_model.specs.declared.place.Position.TheVariants.{Expr, Stmt}
 use Rattle.mini_model.specs.declared.seat.Seat.{Seat}
 use Rattle.mini_model.specs.declared.shape.Shape.TheVariants as shape
 use Rattle.mini_model.specs.Tree.{Tree, Trees, node, none, ◌▸◌, negation, conditional, logical, expression_statement, absent, if_else, shape_of}
-use Rattle.mini_model.specs.Position.{statement_expression_seat, left_operand_seat}
+use Rattle.mini_model.specs.Position.{is_equality, statement_expression_seat, left_operand_seat}
 use Rattle.mini_model.specs.Weight.{weight}
-use Rattle.mini_model.specs.Terms.{is_boolean, turned_seat, unwrapped, neg, neg_each, not_of}
+use Rattle.mini_model.specs.Terms.{is_boolean, turned_seat, unwrapped, turned_equality, neg, neg_each, not_of}
 use Rattle.mini_model.specs.Redex.{Row, Contracts}
 use Rattle.mini_accept.specs.WellShaped.{Class, a_statement, a_key, a_private_or_key, an_inner_key, a_method, an_expression, Slot, one, one_or_absent, these, is_whole, fits, fill}
 use Rattle.mini_laws.specs.Body.{ArrowExpression}
@@ -50,6 +52,10 @@ unwrapped_bodies : (strict : Bool) (a : Around) (b : Bool) (x n : Tree) (bs : Li
 unwrapped_bodies strict a true x n bs k e f g = subst (BodiesKept bs) (sym (rested strict a x k e)) f
 unwrapped_bodies strict a false x n bs k e f g = of_one bs (bodies (quiet a) n) g
 
+equality_bodies : (a : Around) (b : Bool) (o : BinaryOperator) (xs : List Name) (n : ℕ) (ts : Trees) → BodiesKept (bodies (quiet a) (node (shape.BinaryExpression o) xs n ts)) (bodies a (turned_equality b o xs n ts))
+equality_bodies a true o xs n ts = kept_itself (bodies (quiet a) (node (shape.BinaryExpression o) xs n ts))
+equality_bodies a false o xs n ts = of_one (bodies (quiet a) (node (shape.BinaryExpression o) xs n ts)) (bodies (quiet a) (node (shape.BinaryExpression o) xs n ts)) (kept_itself (bodies (quiet a) (node (shape.BinaryExpression o) xs n ts)))
+
 mutual
   negated_bodies : (strict : Bool) (a : Around) (t : Tree) (s : Seat) → a.constructs ≡ false → fits strict expression t ≡ true → BodiesKept (bodies (quiet a) t) (bodies a (neg s t))
   negated_bodies strict a (node (shape.LogicalExpression And) xs n ts) s k e =
@@ -61,6 +67,7 @@ mutual
       let bs : List Body = bodies (quiet a) (node (shape.UnaryExpression LogicalNot) xs n (x ▸ none)) in
       unwrapped_bodies strict a (s.boolean || is_boolean x) x (node (shape.UnaryExpression LogicalNot) xs n (x ▸ none)) bs k (left (fits strict expression x) true parts)
       (first_of (bodies (quiet a) x) [] (bodies (quiet a) x) (kept_itself (bodies (quiet a) x))) (kept_itself bs)
+  negated_bodies strict a (node (shape.BinaryExpression o) xs n ts) s k e = equality_bodies a (is_equality o) o xs n ts
   negated_bodies strict a (node h xs n ts) s k e = of_one (bodies (quiet a) (node h xs n ts)) (bodies (quiet a) (node h xs n ts)) (kept_itself (bodies (quiet a) (node h xs n ts)))
 
   each_bodies : (strict : Bool) (a : Around) (ts : Trees) (σ : ℕ → Seat) (ss : List Slot) (i : ℕ) → AreExpressions ss → fill strict (these ss) ts ≡ true → BodiesKept (bodies_from (λ j. quiet a) i ts) (bodies_from (λ j. quiet a) i (neg_each σ ts))
@@ -121,7 +128,7 @@ module _ (a : Around) where
   abbrev In : Tree → List Body
   In t = bodies (quiet a) t
 
-  turned_bodies : (x y z : Tree) → BodiesKept (bodies a (conditional (negation x) y z)) (bodies a (conditional x z y))
+  pub turned_bodies : (x y z : Tree) → BodiesKept (bodies a (conditional (negation x) y z)) (bodies a (conditional x z y))
   turned_bodies x y z =
       let all : List Body = bodies a (conditional (negation x) y z) in
       three_of (In x) (In z) (In y) all (of_alone all (In x) (first_three (In x ++ []) (In y) (In z))) (third_three (In x ++ []) (In y) (In z)) (second_three (In x ++ []) (In y) (In z))
@@ -166,7 +173,7 @@ no_piece (Stmt q) t u (inr (inl r)) = ap (λ x. is_piece (shape_of x)) r.shape
 no_piece (Stmt q) t u (inr (inr r)) = ap (λ x. is_piece (shape_of x)) r.shape
 no_piece p t u r = absurd r
 
-expression_kind : (strict : Bool) (t : Tree) → fits strict expression t ≡ true → arrow_kind (shape_of t) ≡ ArrowExpression
+pub expression_kind : (strict : Bool) (t : Tree) → fits strict expression t ≡ true → arrow_kind (shape_of t) ≡ ArrowExpression
 expression_kind strict (node shape.FunctionBody xs n ts) e = absurd (refused_here strict expression shape.FunctionBody xs n ts refl e)
 expression_kind strict (node h xs n ts) e = refl
 

@@ -22,7 +22,7 @@ use Rattle.mini_laws.specs.Bodies.{Around, outermost, asks_below, extends_below,
 use Rattle.mini_laws.proofs.Rewritten.{any_body_same}
 use Rattle.mini_laws.proofs.Congruent.{body_reflexive}
 use Rattle.mini_kept.proofs.Bools.{left, right}
-use Rattle.mini_kept.specs.AlikeBodies.{BodiesKept}
+use Rattle.mini_kept.specs.AlikeBodies.{RunsAs, BodiesKept}
 use Rattle.mini_kept.specs.Placed.{fits_place}
 use Rattle.mini_kept.specs.Standing.{is_asked_whole, Stands}
 use Rattle.mini_kept.specs.Lifted.{is_piece}
@@ -176,22 +176,25 @@ module _ (R : Position → Tree → Tree → Type 0) (l : KeepsBodies R) where
   arrow_fits shape.FunctionBody s b u = b
   arrow_fits h s b u = (λ t. absurd (cc (sym b ∙ t)), λ t. absurd (cc (sym u ∙ t)))
 
+  as_runs : (e : Environment) (k : BodyKind) (X : VariableSet) (n w : Tree) → SameBody e k X n w → RunsAs e k k X n w
+  as_runs e k X n w s = record { by = s.by }
+
   -- the body of the node itself
   own_kept : (a : Around) (p : Position) (h : Shape) (xs : List Name) (n : ℕ) (ts us : Trees) → StepIn R (child_position h p (count ts)) ts us → ((i : ℕ) → Moved (child_position h p (count ts) i) (child_or_absent ts i) (child_or_absent us i)) → (h ≡ shape.InnerExpression → is_asked_whole p ≡ true)
       → BodiesKept (body_of a h n (node h xs n ts) ts) (body_of a h n (node h xs n us) us)
   own_kept a p (shape.Program m ds) xs n ts us st mv w =
-      (inl (record { number = refl; kind = refl; strict = refl; asks_this = refl; same = λ e X. same_body Elsewhere _ _ (inside Elsewhere (shape.Program m ds) xs n ts us st) Program tt e X }), tt)
+      (inl (record { number = refl; kind = inl refl; strict = refl; asks_this = refl; same = λ e X. as_runs e Program X _ _ (same_body Elsewhere _ _ (inside Elsewhere (shape.Program m ds) xs n ts us st) Program tt e X) }), tt)
   own_kept a p (shape.Function d g ds) xs n ts us st mv w =
-      (inl (record { number = refl; kind = refl; strict = refl; asks_this = refl; same = λ e X. moved_body Elsewhere _ _ (mv 2) FunctionStatements tt e X }), tt)
+      (inl (record { number = refl; kind = inl refl; strict = refl; asks_this = refl; same = λ e X. as_runs e FunctionStatements X _ _ (moved_body Elsewhere _ _ (mv 2) FunctionStatements tt e X) }), tt)
   own_kept a p (shape.ArrowFunctionExpression ds) xs n ts us st mv w =
-      (inl (record { number = refl; kind = moved_kind (mv 1); strict = refl; asks_this = refl; same = λ e X. moved_body (Expr argument_seat) _ _ (mv 1) (arrow_kind (shape_of (child_or_absent ts 1))) (arrow_fits (shape_of (child_or_absent ts 1)) argument_seat refl refl) e X }), tt)
+      (inl (record { number = refl; kind = inl (moved_kind (mv 1)); strict = refl; asks_this = refl; same = λ e X. subst (λ l. RunsAs e (arrow_kind (shape_of (child_or_absent ts 1))) l X (child_or_absent ts 1) (child_or_absent us 1)) (moved_kind (mv 1)) (as_runs e (arrow_kind (shape_of (child_or_absent ts 1))) X _ _ (moved_body (Expr argument_seat) _ _ (mv 1) (arrow_kind (shape_of (child_or_absent ts 1))) (arrow_fits (shape_of (child_or_absent ts 1)) argument_seat refl refl) e X)) }), tt)
   own_kept a p shape.StaticBlock xs n ts us st mv w =
-      (inl (record { number = refl; kind = refl; strict = refl; asks_this = refl; same = λ e X. same_body Elsewhere _ _ (inside Elsewhere shape.StaticBlock xs n ts us st) FunctionStatements tt e X }), tt)
+      (inl (record { number = refl; kind = inl refl; strict = refl; asks_this = refl; same = λ e X. as_runs e FunctionStatements X _ _ (same_body Elsewhere _ _ (inside Elsewhere shape.StaticBlock xs n ts us st) FunctionStatements tt e X) }), tt)
   own_kept a p shape.InnerExpression xs n ts us st mv w = inner a.is_assigned
     where
       inner : (b : Bool) → BodiesKept (record { number = n; kind = choose b InnerTarget InnerValue; root = node shape.InnerExpression xs n ts; strict = a.strict; asks_this = a.asks_this } ∷ []) (record { number = n; kind = choose b InnerTarget InnerValue; root = node shape.InnerExpression xs n us; strict = a.strict; asks_this = a.asks_this } ∷ [])
-      inner true = (inl (record { number = refl; kind = refl; strict = refl; asks_this = refl; same = λ e X. same_body p _ _ (inside p shape.InnerExpression xs n ts us st) InnerTarget (target_fits p (w refl)) e X }), tt)
-      inner false = (inl (record { number = refl; kind = refl; strict = refl; asks_this = refl; same = λ e X. same_body p _ _ (inside p shape.InnerExpression xs n ts us st) InnerValue (value_fits p (w refl)) e X }), tt)
+      inner true = (inl (record { number = refl; kind = inl refl; strict = refl; asks_this = refl; same = λ e X. as_runs e InnerTarget X _ _ (same_body p _ _ (inside p shape.InnerExpression xs n ts us st) InnerTarget (target_fits p (w refl)) e X) }), tt)
+      inner false = (inl (record { number = refl; kind = inl refl; strict = refl; asks_this = refl; same = λ e X. as_runs e InnerValue X _ _ (same_body p _ _ (inside p shape.InnerExpression xs n ts us st) InnerValue (value_fits p (w refl)) e X) }), tt)
   own_kept a p h xs n ts us st mv w = tt
 
   parts_fill : (strict : Bool) (s : Slot) (h : Shape) (xs : List Name) (n : ℕ) (ts : Trees) → fits strict s (node h xs n ts) ≡ true → fill (is_strict_in strict h) (filling strict s h) ts ≡ true

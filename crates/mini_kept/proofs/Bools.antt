@@ -24,3 +24,7 @@ either true b true f e = refl
 either true b false f e = absurd (cc (f refl))
 either false b true f e = refl
 either false b false f e = e
+
+pub or_second : (a b : Bool) → b ≡ true → (a || b) ≡ true
+or_second true b e = refl
+or_second false b e = e

@@ -62,7 +62,7 @@ abbrev declares : List Name → Test
 declares xs h ys n = are_among xs (declared_by h ys)
 
 admits : (xs : List Name) → AdmitsWritten (declares xs)
-admits xs = record { negation = refl; conditional = refl; or = refl; and = refl; statement = refl; turned = λ ys n. refl }
+admits xs = record { negation = refl; conditional = refl; or = refl; and = refl; statement = refl; turned = λ ys n. refl; equality = λ o ys n. refl }
 
 among_both : (xs ys zs : List Name) → are_among xs (ys ++ zs) ≡ (are_among xs ys && are_among xs zs)
 among_both xs [] zs = refl

@@ -1,7 +1,9 @@
 -- A test of each node holds after a rewrite, where it holds of the nodes that rows write.
-use Rattle.std.proofs.Common.{ap, ◌≡◌, ℕ, zero, suc, Bool, true, false, [], refl, sym, ◌∙◌, subst, inl, inr}
+use Rattle.std.proofs.Common.{ap, ◌≡◌, ℕ, zero, suc, Bool, true, false, List, [], refl, sym, ◌∙◌, subst, inl, inr}
 use Rattle.std.specs.Prelude.{◌&&◌, ◌||◌, nat_lt, if◌then◌else◌}
 use Rattle.std.proofs.lemmas.Bool.{and_parts}
+use Rattle.mini_model.specs.declared.name.Name.{Name}
+use Rattle.mini_model.specs.declared.operator.BinaryOperator.{BinaryOperator}
 use Rattle.mini_model.specs.declared.operator.LogicalOperator.TheVariants.{Or, And}
 use Rattle.mini_model.specs.declared.operator.UnaryOperator.TheVariants.{LogicalNot}
 use Rattle.mini_model.specs.declared.place.Position.{Position}
@@ -10,9 +12,9 @@ use Rattle.mini_model.specs.declared.seat.Seat.{Seat}
 use Rattle.mini_model.specs.declared.shape.Shape.{Shape}
 use Rattle.mini_model.specs.declared.shape.Shape.TheVariants as shape
 use Rattle.mini_model.specs.Tree.{Tree, Trees, node, none, ◌▸◌, negation, conditional, logical, expression_statement, absent, children}
-use Rattle.mini_model.specs.Position.{statement_expression_seat, left_operand_seat}
+use Rattle.mini_model.specs.Position.{is_equality, statement_expression_seat, left_operand_seat}
 use Rattle.mini_model.specs.Weight.{weight}
-use Rattle.mini_model.specs.Terms.{is_boolean, turned_seat, unwrapped, neg, neg_each, not_of}
+use Rattle.mini_model.specs.Terms.{is_boolean, turned_seat, unwrapped, opposite, turned_equality, neg, neg_each, not_of}
 use Rattle.mini_model.specs.Redex.{Row, Contracts}
 use Rattle.mini_model.specs.Rewriting.{Step, here, inside, StepIn, first, later, Reaches, done, more}
 use Rattle.mini_kept.specs.Nodes.{Test, each_node, each_nodes}
@@ -41,6 +43,12 @@ module _ (f : Test) (new : AdmitsWritten f) where
   unwrapped_each true a n x y = x
   unwrapped_each false a n x y = negation_each n y
 
+  equality_each : (b : Bool) (o : BinaryOperator) (xs : List Name) (n : ℕ) (ts : Trees) → each_node f (node (shape.BinaryExpression o) xs n ts) ≡ true → each_node f (turned_equality b o xs n ts) ≡ true
+  equality_each true o xs n ts e =
+      let (own, below) = and_parts (f (shape.BinaryExpression o) xs n) (each_nodes f ts) e in
+      both (f (shape.BinaryExpression (opposite o)) xs n) (each_nodes f ts) (sym (new.equality o xs n) ∙ own) below
+  equality_each false o xs n ts e = negation_each (node (shape.BinaryExpression o) xs n ts) e
+
   mutual
     neg_each_node : (s : Seat) (t : Tree) → each_node f t ≡ true → each_node f (neg s t) ≡ true
     neg_each_node s (node (shape.LogicalExpression And) xs n ts) e =
@@ -54,6 +62,7 @@ module _ (f : Test) (new : AdmitsWritten f) where
     neg_each_node s (node (shape.UnaryExpression LogicalNot) xs n (a ▸ none)) e =
         let (own, below) = and_parts (f (shape.UnaryExpression LogicalNot) xs n) (each_node f a && true) e in
         unwrapped_each (s.boolean || is_boolean a) a (node (shape.UnaryExpression LogicalNot) xs n (a ▸ none)) (left (each_node f a) true below) e
+    neg_each_node s (node (shape.BinaryExpression o) xs n ts) e = equality_each (is_equality o) o xs n ts e
     neg_each_node s (node h xs n ts) e = negation_each (node h xs n ts) e
 
     neg_each_nodes : (σ : ℕ → Seat) (ts : Trees) → each_nodes f ts ≡ true → each_nodes f (neg_each σ ts) ≡ true

@@ -3,6 +3,7 @@ use Rattle.std.proofs.Common.{◌≡◌, ℕ, zero, suc, Bool, true, false, List
 use Rattle.std.specs.Prelude.{◌&&◌, ◌||◌, ◌==◌, nat_lt, None, if◌then◌else◌}
 use Rattle.std.proofs.lemmas.Bool.{and_parts}
 use Rattle.mini_model.specs.declared.name.Name.{Name}
+use Rattle.mini_model.specs.declared.operator.BinaryOperator.{BinaryOperator}
 use Rattle.mini_model.specs.declared.operator.LogicalOperator.{LogicalOperator}
 use Rattle.mini_model.specs.declared.operator.LogicalOperator.TheVariants.{Or, And}
 use Rattle.mini_model.specs.declared.operator.UnaryOperator.TheVariants.{LogicalNot}
@@ -12,7 +13,8 @@ use Rattle.mini_model.specs.declared.shape.Shape.{Shape}
 use Rattle.mini_model.specs.declared.shape.Shape.TheVariants as shape
 use Rattle.mini_model.specs.Tree.{Tree, Trees, node, none, ◌▸◌, negation, conditional}
 use Rattle.mini_model.specs.Weight.{weight}
-use Rattle.mini_model.specs.Terms.{is_boolean, turned_seat, unwrapped, neg, neg_each, not_of}
+use Rattle.mini_model.specs.Position.{is_equality}
+use Rattle.mini_model.specs.Terms.{is_boolean, turned_seat, unwrapped, opposite, turned_equality, neg, neg_each, not_of}
 use Rattle.mini_accept.specs.WellShaped.{Depth, in_module, in_body, nested, Class, a_statement, an_init, a_default_export, an_arrow_body, an_expression, a_link, an_argument, an_inner, a_key, a_private_or_key, an_inner_key, Slot, one, one_or_absent, many, refused, these, class_of, a_label, a_private_name, fits, fill, filling, filling_by, statement_slots, is_whole, is_strict_in, has_names}
 use Rattle.mini_kept.proofs.Bools.{left, both, and_false}
 
@@ -174,6 +176,16 @@ unwrapped_fits : (strict b : Bool) (a n : Tree) → fits strict expression a ≡
 unwrapped_fits strict true a n e f = e
 unwrapped_fits strict false a n e f = both (fits strict expression n) true f refl
 
+equality_names : (o : BinaryOperator) (xs : List Name) (n : ℕ) (c : Bool) → (has_names (shape.BinaryExpression o) xs && (n == 0 && c)) ≡ true → (has_names (shape.BinaryExpression (opposite o)) xs && (n == 0 && c)) ≡ true
+equality_names o [] n c e = e
+equality_names o (x ∷ xs) n c e = e
+
+equality_fits : (strict b : Bool) (o : BinaryOperator) (xs : List Name) (n : ℕ) (ts : Trees) → fits strict expression (node (shape.BinaryExpression o) xs n ts) ≡ true → fits strict expression (turned_equality b o xs n ts) ≡ true
+equality_fits strict true o xs n ts e =
+    let (whole, parts) = and_parts (is_whole an_expression (shape.BinaryExpression o) xs n ts) (fill strict (these two) ts) e in
+    both (is_whole an_expression (shape.BinaryExpression (opposite o)) xs n ts) (fill strict (these two) ts) (equality_names o xs n true whole) parts
+equality_fits strict false o xs n ts e = both (fits strict expression (node (shape.BinaryExpression o) xs n ts)) true e refl
+
 mutual
   pub neg_fits : (strict : Bool) (t : Tree) (s : Seat) → fits strict expression t ≡ true → fits strict expression (neg s t) ≡ true
   neg_fits strict (node (shape.LogicalExpression And) xs n ts) s e =
@@ -187,6 +199,7 @@ mutual
   neg_fits strict (node (shape.UnaryExpression LogicalNot) xs n (a ▸ none)) s e =
       let (whole, parts) = and_parts (is_whole an_expression (shape.UnaryExpression LogicalNot) xs n (a ▸ none)) (fits strict expression a && true) e in
       unwrapped_fits strict (s.boolean || is_boolean a) a (node (shape.UnaryExpression LogicalNot) xs n (a ▸ none)) (left (fits strict expression a) true parts) e
+  neg_fits strict (node (shape.BinaryExpression o) xs n ts) s e = equality_fits strict (is_equality o) o xs n ts e
   neg_fits strict (node h xs n ts) s e = both (fits strict expression (node h xs n ts)) true e refl
 
   neg_each_fit : (strict : Bool) (ts : Trees) (σ : ℕ → Seat) (ss : List Slot) → AreExpressions ss → fill strict (these ss) ts ≡ true → fill strict (these ss) (neg_each σ ts) ≡ true

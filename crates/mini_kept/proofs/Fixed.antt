@@ -2,6 +2,7 @@
 use Rattle.std.specs.Prelude.{ℕ, zero, suc, ◌≡◌, refl, ◌||◌, Bool, true, false, List, [], ◌∷◌, nat_lt, if◌then◌else◌}
 use Rattle.std.proofs.Common.{ap, ◌∙◌, sym, inl, inr}
 use Rattle.mini_model.specs.declared.name.Name.{Name}
+use Rattle.mini_model.specs.declared.operator.BinaryOperator.{BinaryOperator}
 use Rattle.mini_model.specs.declared.operator.LogicalOperator.TheVariants.{Or, And}
 use Rattle.mini_model.specs.declared.operator.UnaryOperator.TheVariants.{LogicalNot}
 use Rattle.mini_model.specs.declared.place.Position.{Position}
@@ -10,9 +11,9 @@ use Rattle.mini_model.specs.declared.seat.Seat.{Seat}
 use Rattle.mini_model.specs.declared.shape.Shape.{Shape}
 use Rattle.mini_model.specs.declared.shape.Shape.TheVariants as shape
 use Rattle.mini_model.specs.Tree.{Tree, Trees, node, none, ◌▸◌, absent, negation, logical, conditional, if_else, if_alone, expression_statement}
-use Rattle.mini_model.specs.Position.{statement_expression_seat, left_operand_seat}
+use Rattle.mini_model.specs.Position.{is_equality, statement_expression_seat, left_operand_seat}
 use Rattle.mini_model.specs.Weight.{weight}
-use Rattle.mini_model.specs.Terms.{is_boolean, turned_seat, unwrapped, neg, neg_each, not_of}
+use Rattle.mini_model.specs.Terms.{is_boolean, turned_seat, unwrapped, opposite, turned_equality, neg, neg_each, not_of}
 use Rattle.mini_model.specs.Redex.{Row, Contracts}
 use Rattle.mini_model.specs.Rewriting.{Step, here, inside, StepIn, first, later, Reaches, done, more}
 use Rattle.mini_laws.specs.Value.{Variable, variables, choose, is_in}
@@ -66,10 +67,10 @@ alone Writable = refl
 alone KeepsOld = refl
 alone Constant = refl
 
-of_one : (h : Shape) (xs : List Name) (n : ℕ) (a : Tree) (x : Variable) → fixity_by h ≡ Writable → fixed_by (node h xs n (a ▸ none)) x ≡ fixed_by a x
+pub of_one : (h : Shape) (xs : List Name) (n : ℕ) (a : Tree) (x : Variable) → fixity_by h ≡ Writable → fixed_by (node h xs n (a ▸ none)) x ≡ fixed_by a x
 of_one h xs n a x e = of_children h xs n (a ▸ none) x e ∙ alone (fixed_by a x)
 
-swapped : (f g : Fixed) → stricter f (stricter g Writable) ≡ stricter g (stricter f Writable)
+pub swapped : (f g : Fixed) → stricter f (stricter g Writable) ≡ stricter g (stricter f Writable)
 swapped Writable Writable = refl
 swapped Writable KeepsOld = refl
 swapped Writable Constant = refl
@@ -82,12 +83,16 @@ swapped Constant Constant = refl
 
 -- ---- negations
 
-of_negation : (a : Tree) (x : Variable) → fixed_by (negation a) x ≡ fixed_by a x
+pub of_negation : (a : Tree) (x : Variable) → fixed_by (negation a) x ≡ fixed_by a x
 of_negation a x = of_one (shape.UnaryExpression LogicalNot) [] 0 a x refl
 
 of_unwrapped : (b : Bool) (a n : Tree) (x : Variable) → fixed_by a x ≡ fixed_by n x → fixed_by (unwrapped b a n) x ≡ fixed_by n x
 of_unwrapped true a n x e = e
 of_unwrapped false a n x e = of_negation n x
+
+of_turned : (b : Bool) (o : BinaryOperator) (xs : List Name) (n : ℕ) (ts : Trees) (x : Variable) → fixed_by (turned_equality b o xs n ts) x ≡ fixed_by (node (shape.BinaryExpression o) xs n ts) x
+of_turned true o xs n ts x = of_children (shape.BinaryExpression (opposite o)) xs n ts x refl ∙ sym (of_children (shape.BinaryExpression o) xs n ts x refl)
+of_turned false o xs n ts x = of_negation (node (shape.BinaryExpression o) xs n ts) x
 
 mutual
   of_neg : (s : Seat) (t : Tree) (x : Variable) → fixed_by (neg s t) x ≡ fixed_by t x
@@ -97,6 +102,7 @@ mutual
       of_children (shape.LogicalExpression And) xs n (neg_each (turned_seat (shape.LogicalExpression Or) s) ts) x refl ∙ of_neg_each (turned_seat (shape.LogicalExpression Or) s) ts x ∙ sym (of_children (shape.LogicalExpression Or) xs n ts x refl)
   of_neg s (node (shape.UnaryExpression LogicalNot) xs n (a ▸ none)) x =
       of_unwrapped (s.boolean || is_boolean a) a (node (shape.UnaryExpression LogicalNot) xs n (a ▸ none)) x (sym (of_one (shape.UnaryExpression LogicalNot) xs n a x refl))
+  of_neg s (node (shape.BinaryExpression o) xs n ts) x = of_turned (is_equality o) o xs n ts x
   of_neg s (node h xs n ts) x = of_negation (node h xs n ts) x
 
   of_neg_each : (σ : ℕ → Seat) (ts : Trees) (x : Variable) → fixed_by_any (neg_each σ ts) x ≡ fixed_by_any ts x

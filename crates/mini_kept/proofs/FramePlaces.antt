@@ -1,7 +1,8 @@
 -- What stands in a frame holds no statement and no expression of a body: the slots of its parts are those of names, keys,
 -- patterns, members and inner expressions alone.
 use Rattle.std.specs.Prelude.{ℕ, zero, suc, ◌≡◌, refl, ◌⊎◌, ◌||◌, ◌&&◌, not, Bool, true, false, List, [], ◌∷◌, Option, Some, None, pos, negsuc, if◌then◌else◌}
-use Rattle.std.proofs.Common.{◌∙◌, sym, subst, inl, inr}
+use Rattle.std.proofs.Common.{ap, ◌∙◌, sym, subst, inl, inr}
+use Rattle.std.proofs.lemmas.Bool.{false≢true}
 use Rattle.std.proofs.Math.Dec.{eqb-suc-zero}
 use Rattle.mini_model.specs.declared.kind.MetaPropertyKind.{MetaPropertyKind}
 use Rattle.mini_model.specs.declared.kind.MetaPropertyKind.TheVariants.{NewTarget, ImportMeta}
@@ -12,7 +13,7 @@ use Rattle.mini_model.specs.declared.place.Position.TheVariants.{StatementList}
 use Rattle.mini_model.specs.declared.shape.Shape.{Shape}
 use Rattle.mini_model.specs.declared.shape.Shape.TheVariants as shape
 use Rattle.mini_accept.specs.WellShaped.{in_module, in_body, nested, Class, a_program, a_statement, a_class_body, a_class_member, a_method, an_object_property, a_binding, a_label, a_private_name, an_inner, an_inner_argument, a_super, a_key, a_private_or_key, an_inner_key, a_tagged_template, a_word, a_pattern, a_pattern_element, a_pattern_property, a_pattern_rest, a_parameter, an_element_target, a_named_target, a_target_name, a_target_element, a_target_property, a_target_rest, an_import, a_module_name, a_string, an_export, an_exported_name, an_exported_declaration, a_default_export, Slot, one, one_or_absent, many, many_or_holes, many_and_rest, many_or_holes_and_rest, quasis, Filling, refused, these, each, each_or_last, pieces, is_text, none_if, value_class, class_of, filling, filling_by, slots_of, has_its_number}
-use Rattle.mini_kept.proofs.Bools.{left, right}
+use Rattle.mini_kept.proofs.Bools.{left, right, or_second}
 use Rattle.mini_kept.specs.Standing.{is_method_slot}
 use Rattle.mini_kept.specs.Frames.{Showing, Whole, Named, Hidden, showing, is_port, property_below}
 use Rattle.mini_kept.specs.KeepsFrames.{is_in_body, is_body_slot}
@@ -106,22 +107,96 @@ right_by σ (Some ss) = show_right σ 0 ss
 abbrev whole : ℕ → Showing
 whole i = Whole
 
+-- the classes of parts
+data Part : Class → Type 0 where
+  the_class_body : Part a_class_body
+  the_class_member : Part a_class_member
+  the_method : Part a_method
+  the_binding : Part a_binding
+  the_label : Part a_label
+  the_private_name : Part a_private_name
+  the_inner : (c : Class) → Part (an_inner c)
+  the_inner_argument : Part an_inner_argument
+  the_super : Part a_super
+  the_private_or_key : (computed : Bool) → Part (a_private_or_key computed)
+  the_inner_key : (computed : Bool) → Part (an_inner_key computed)
+  the_tagged_template : Part a_tagged_template
+  the_word : (w : List ℕ) → Part (a_word w)
+  the_pattern : Part a_pattern
+  the_pattern_element : Part a_pattern_element
+  the_pattern_property : Part a_pattern_property
+  the_pattern_rest : Part a_pattern_rest
+  the_parameter : Part a_parameter
+  the_element_target : Part an_element_target
+  the_named_target : Part a_named_target
+  the_target_name : Part a_target_name
+  the_target_element : Part a_target_element
+  the_target_property : Part a_target_property
+  the_target_rest : Part a_target_rest
+  the_import : Part an_import
+  the_module_name : Part a_module_name
+  the_string : Part a_string
+  the_export : Part an_export
+  the_exported_name : Part an_exported_name
+
+part : (c : Class) → (is_part c ≡ false) ⊎ Part c
+part a_class_body = inr the_class_body
+part a_class_member = inr the_class_member
+part a_method = inr the_method
+part a_binding = inr the_binding
+part a_label = inr the_label
+part a_private_name = inr the_private_name
+part (an_inner c) = inr (the_inner c)
+part an_inner_argument = inr the_inner_argument
+part a_super = inr the_super
+part (a_private_or_key computed) = inr (the_private_or_key computed)
+part (an_inner_key computed) = inr (the_inner_key computed)
+part a_tagged_template = inr the_tagged_template
+part (a_word w) = inr (the_word w)
+part a_pattern = inr the_pattern
+part a_pattern_element = inr the_pattern_element
+part a_pattern_property = inr the_pattern_property
+part a_pattern_rest = inr the_pattern_rest
+part a_parameter = inr the_parameter
+part an_element_target = inr the_element_target
+part a_named_target = inr the_named_target
+part a_target_name = inr the_target_name
+part a_target_element = inr the_target_element
+part a_target_property = inr the_target_property
+part a_target_rest = inr the_target_rest
+part an_import = inr the_import
+part a_module_name = inr the_module_name
+part a_string = inr the_string
+part an_export = inr the_export
+part an_exported_name = inr the_exported_name
+part c = inl refl
+
 -- the children of a part are parts, unless it has a number
 
-part_checked : (strict : Bool) (c : Class) (h : Shape) → (not (is_part c) || (not (has_its_number c h 0) || right_by whole (slots_of strict c h))) ≡ true
-part_checked strict a_method shape.Absent = refl
-part_checked strict (a_private_or_key true) shape.Absent = refl
-part_checked strict (a_private_or_key false) shape.Absent = refl
-part_checked strict (an_inner_key true) shape.Absent = refl
-part_checked strict (an_inner_key false) shape.Absent = refl
-part_checked strict (a_word w) (shape.IdentifierName s) = by (is_text s w)
+abbrev has_parts : Bool → Class → Shape → Bool
+has_parts strict c h = not (has_its_number c h 0) || right_by whole (slots_of strict c h)
+
+part_rows : (c : Class) → Part c → (strict : Bool) (h : Shape) → has_parts strict c h ≡ true
+part_rows _ the_method strict shape.Absent = refl
+part_rows _ (the_private_or_key true) strict shape.Absent = refl
+part_rows _ (the_private_or_key false) strict shape.Absent = refl
+part_rows _ (the_inner_key true) strict shape.Absent = refl
+part_rows _ (the_inner_key false) strict shape.Absent = refl
+part_rows _ (the_word w) strict (shape.IdentifierName s) = by (is_text s w)
   where
     by : (b : Bool) → right_by whole (none_if (not b) (Some [])) ≡ true
     by true = refl
     by false = refl
-part_checked strict c (shape.NumericLiteral (pos n)) = refl
-part_checked strict c (shape.NumericLiteral (negsuc n)) = refl
-part_checked strict c h = refl
+part_rows c a strict (shape.NumericLiteral (pos n)) = refl
+part_rows c a strict (shape.NumericLiteral (negsuc n)) = refl
+part_rows c a strict h = refl
+
+part_checked : (strict : Bool) (c : Class) (h : Shape) → (not (is_part c) || has_parts strict c h) ≡ true
+part_checked strict c h = by (part c)
+  where
+    by : (is_part c ≡ false) ⊎ Part c → (not (is_part c) || has_parts strict c h) ≡ true
+    by (inl e) = ap (λ b. not b || has_parts strict c h) e
+    by (inr a) = or_second (not (is_part c)) (has_parts strict c h) (part_rows c a strict h)
 
 -- so are those of a node with an outline, where they stand whole
 
@@ -347,7 +422,7 @@ numbered_outline c shape.ArrayPattern n e = of_array_pattern
 numbered_outline c shape.ObjectAssignmentTarget n e = of_object_target
 numbered_outline c shape.ArrayAssignmentTarget n e = of_array_target
 numbered_outline c shape.AssignmentPattern n e = of_assignment
-numbered_outline c h n e = absurd (cc (sym (eqb-suc-zero n) ∙ e))
+numbered_outline c h n e = absurd (false≢true (sym (eqb-suc-zero n) ∙ e))
 
 pub port_outline : (m : Bool) (h : Shape) → is_port m h ≡ true → Outlined h
 port_outline m shape.ImportDeclaration e = of_import

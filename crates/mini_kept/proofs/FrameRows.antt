@@ -5,6 +5,7 @@ use Rattle.std.proofs.Math.Dec.{eqb-suc-zero}
 use Rattle.std.proofs.lemmas.Bool.{and_parts}
 use Rattle.std.proofs.lemmas.List.{append-nil}
 use Rattle.mini_model.specs.declared.name.Name.{Name}
+use Rattle.mini_model.specs.declared.operator.BinaryOperator.{BinaryOperator}
 use Rattle.mini_model.specs.declared.operator.LogicalOperator.{LogicalOperator}
 use Rattle.mini_model.specs.declared.operator.LogicalOperator.TheVariants.{Or, And}
 use Rattle.mini_model.specs.declared.operator.UnaryOperator.TheVariants.{LogicalNot}
@@ -13,9 +14,9 @@ use Rattle.mini_model.specs.declared.place.Position.TheVariants.{Expr, Stmt}
 use Rattle.mini_model.specs.declared.seat.Seat.{Seat}
 use Rattle.mini_model.specs.declared.shape.Shape.TheVariants as shape
 use Rattle.mini_model.specs.Tree.{Tree, Trees, node, none, ◌▸◌, negation, conditional, expression_statement, absent, shape_of}
-use Rattle.mini_model.specs.Position.{statement_expression_seat, left_operand_seat}
+use Rattle.mini_model.specs.Position.{is_equality, statement_expression_seat, left_operand_seat}
 use Rattle.mini_model.specs.Weight.{weight}
-use Rattle.mini_model.specs.Terms.{is_boolean, turned_seat, unwrapped, neg, neg_each, not_of}
+use Rattle.mini_model.specs.Terms.{is_boolean, turned_seat, unwrapped, turned_equality, neg, neg_each, not_of}
 use Rattle.mini_model.specs.Redex.{Row, Contracts}
 use Rattle.mini_accept.specs.WellShaped.{Depth, Class, a_statement, an_expression, an_init, a_link, an_argument, an_arrow_body, a_key, a_default_export, Slot, one, one_or_absent, these, is_whole, fits, fill}
 use Rattle.mini_kept.specs.Frames.{Frame, is_declaration, is_port, frames, frames_from, FramesKept}
@@ -39,6 +40,10 @@ unwrapped_frames false x n e = append-nil (In n)
 no_number : (strict : Bool) (o : LogicalOperator) (xs : List Name) (n : ℕ) (ts : Trees) → fits strict expression (node (shape.LogicalExpression o) xs (suc n) ts) ≡ true → ⊥
 no_number strict o xs n ts e = cc (sym (eqb-suc-zero n) ∙ its_number an_expression (shape.LogicalExpression o) xs (suc n) ts (fill strict (these two) ts) e)
 
+equality_frames : (b : Bool) (o : BinaryOperator) (xs : List Name) (ts : Trees) → In (turned_equality b o xs 0 ts) ≡ In (node (shape.BinaryExpression o) xs 0 ts)
+equality_frames true o xs ts = refl
+equality_frames false o xs ts = append-nil (In (node (shape.BinaryExpression o) xs 0 ts))
+
 mutual
   negated_frames : (strict : Bool) (t : Tree) (s : Seat) → fits strict expression t ≡ true → In (neg s t) ≡ In t
   negated_frames strict (node (shape.LogicalExpression And) xs zero ts) s e =
@@ -51,6 +56,8 @@ mutual
       unwrapped_frames (s.boolean || is_boolean x) x (node (shape.UnaryExpression LogicalNot) xs 0 (x ▸ none)) (sym (append-nil (In x)))
   negated_frames strict (node (shape.UnaryExpression LogicalNot) xs (suc n) (x ▸ none)) s e =
       absurd (cc (sym (eqb-suc-zero n) ∙ its_number an_expression (shape.UnaryExpression LogicalNot) xs (suc n) (x ▸ none) (fill strict (these (expression ∷ [])) (x ▸ none)) e))
+  negated_frames strict (node (shape.BinaryExpression o) xs zero ts) s e = equality_frames (is_equality o) o xs ts
+  negated_frames strict (node (shape.BinaryExpression o) xs (suc n) ts) s e = absurd (cc (sym (eqb-suc-zero n) ∙ its_number an_expression (shape.BinaryExpression o) xs (suc n) ts (fill strict (these two) ts) e))
   negated_frames strict (node h xs n ts) s e = append-nil (In (node h xs n ts))
 
   each_frames : (strict : Bool) (ts : Trees) (σ : ℕ → Seat) (ss : List Slot) (i : ℕ) → AreExpressions ss → fill strict (these ss) ts ≡ true → frames_from (λ j. None) i (neg_each σ ts) ≡ frames_from (λ j. None) i ts
@@ -71,7 +78,7 @@ not_of_frames strict s t e = chosen (λ u. In u ≡ In t) (nat_lt (weight (Expr 
 
 -- ---- rows
 
-turned : (x y z : Tree) → FramesKept (In (conditional (negation x) y z)) (In (conditional x z y))
+pub turned : (x y z : Tree) → FramesKept (In (conditional (negation x) y z)) (In (conditional x z y))
 turned x y z =
     let all : List Frame = In (conditional (negation x) y z) in
     let others : List Frame = In y ++ (In z ++ []) in
@@ -111,7 +118,7 @@ expression_class an_arrow_body k = refl
 expression_class a_default_export k = refl
 expression_class c k = absurd k
 
-expression_slot : (p : Position) (s : Slot) → TakesExpression s → is_body_slot p s ≡ true
+pub expression_slot : (p : Position) (s : Slot) → TakesExpression s → is_body_slot p s ≡ true
 expression_slot p (one c) k = expression_class c k
 expression_slot p (one_or_absent c) k = expression_class c k
 expression_slot p s k = absurd k

@@ -43,7 +43,7 @@ use Rattle.mini_kept.proofs.Quiet.{IsQuiet, expression_is_quiet, no_names, no_de
 
 -- ---- the use of an expression
 
-read_is : (u : Use) → is_read u ≡ true → u ≡ Read
+pub read_is : (u : Use) → is_read u ≡ true → u ≡ Read
 read_is Read e = refl
 read_is u e = absurd (cc e)
 

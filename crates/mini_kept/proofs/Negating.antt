@@ -4,6 +4,7 @@ use Rattle.std.proofs.Common.{ap, ◌∙◌, sym, arith}
 use Rattle.std.proofs.lemmas.List.{append-nil}
 use Rattle.mini_model.specs.declared.name.Name.{Name}
 use Rattle.mini_model.specs.declared.name.SymbolId.{SymbolId}
+use Rattle.mini_model.specs.declared.operator.BinaryOperator.{BinaryOperator}
 use Rattle.mini_model.specs.declared.operator.LogicalOperator.TheVariants.{Or, And}
 use Rattle.mini_model.specs.declared.operator.UnaryOperator.TheVariants.{LogicalNot}
 use Rattle.mini_model.specs.declared.place.Position.TheVariants.{Expr}
@@ -12,7 +13,8 @@ use Rattle.mini_model.specs.declared.shape.Shape.{Shape}
 use Rattle.mini_model.specs.declared.shape.Shape.TheVariants as shape
 use Rattle.mini_model.specs.Tree.{Tree, Trees, node, none, ◌▸◌, negation}
 use Rattle.mini_model.specs.Weight.{weight}
-use Rattle.mini_model.specs.Terms.{is_boolean, turned_seat, unwrapped, neg, neg_each, not_of}
+use Rattle.mini_model.specs.Position.{is_equality}
+use Rattle.mini_model.specs.Terms.{is_boolean, turned_seat, unwrapped, turned_equality, neg, neg_each, not_of}
 use Rattle.std.specs.Prelude.{Option}
 use Rattle.mini_names.specs.declared.Use.TheVariants.{Read}
 use Rattle.mini_names.specs.declared.Targets.{Targets}
@@ -48,6 +50,11 @@ unfolding has_inner
 inner_unwrapped true a n e = refl
 inner_unwrapped false a n e = or_none (has_inner n) ∙ e
 
+inner_turned : (b : Bool) (o : BinaryOperator) (xs : List Name) (n : ℕ) (ts : Trees) → has_inner (turned_equality b o xs n ts) ≡ has_inner (node (shape.BinaryExpression o) xs n ts)
+unfolding has_inner
+inner_turned true o xs n ts = refl
+inner_turned false o xs n ts = or_none (has_inner (node (shape.BinaryExpression o) xs n ts))
+
 mutual
   unfolding has_inner
 
@@ -55,6 +62,7 @@ mutual
   inner_negated s (node (shape.LogicalExpression And) xs n ts) = inner_each (turned_seat (shape.LogicalExpression And) s) ts
   inner_negated s (node (shape.LogicalExpression Or) xs n ts) = inner_each (turned_seat (shape.LogicalExpression Or) s) ts
   inner_negated s (node (shape.UnaryExpression LogicalNot) xs n (a ▸ none)) = inner_unwrapped (s.boolean || is_boolean a) a (node (shape.UnaryExpression LogicalNot) xs n (a ▸ none)) (or_none (has_inner a)) ∙ sym (or_none (has_inner a))
+  inner_negated s (node (shape.BinaryExpression o) xs n ts) = inner_turned (is_equality o) o xs n ts
   inner_negated s (node h xs n ts) = or_none (has_inner (node h xs n ts))
 
   inner_each : (σ : ℕ → Seat) (ts : Trees) → any_inner (neg_each σ ts) ≡ any_inner ts
@@ -74,6 +82,11 @@ symbols_unwrapped : (x : Option SymbolId) (b : Bool) (a n : Tree) → times x (d
 symbols_unwrapped x true a n e = refl
 symbols_unwrapped x false a n e = symbols_of_negation x n ∙ e
 
+symbols_turned : (x : Option SymbolId) (b : Bool) (o : BinaryOperator) (xs : List Name) (n : ℕ) (ts : Trees) → times x (declared_in Read (turned_equality b o xs n ts)) ≡ times x (declared_in Read (node (shape.BinaryExpression o) xs n ts))
+unfolding declared_in scopes_by
+symbols_turned x true o xs n ts = refl
+symbols_turned x false o xs n ts = symbols_of_negation x (node (shape.BinaryExpression o) xs n ts)
+
 mutual
   unfolding declared_in scopes_by
 
@@ -83,6 +96,7 @@ mutual
   symbols_negated x s (node (shape.UnaryExpression LogicalNot) xs n (a ▸ none)) =
       let own = ap (times x) (append-nil (declared_in Read a)) in
       symbols_unwrapped x (s.boolean || is_boolean a) a (node (shape.UnaryExpression LogicalNot) xs n (a ▸ none)) own ∙ sym own
+  symbols_negated x s (node (shape.BinaryExpression o) xs n ts) = symbols_turned x (is_equality o) o xs n ts
   symbols_negated x s (node h xs n ts) = symbols_of_negation x (node h xs n ts)
 
   symbols_each : (x : Option SymbolId) (σ : ℕ → Seat) (i : ℕ) (ts : Trees) → times x (quiet i (neg_each σ ts)) ≡ times x (quiet i ts)
@@ -100,6 +114,11 @@ scoped_unwrapped : (env : Environment) (b : Bool) (a n : Tree) → Scoped Read e
 scoped_unwrapped env true a n s r = s
 scoped_unwrapped env false a n s r = scoped_negation env n r
 
+scoped_turned : (env : Environment) (b : Bool) (o : BinaryOperator) (xs : List Name) (n : ℕ) (ts : Trees) → Scoped Read env (node (shape.BinaryExpression o) xs n ts) → Scoped Read env (turned_equality b o xs n ts)
+unfolding Scoped scopes_by
+scoped_turned env true o xs n ts r = r
+scoped_turned env false o xs n ts r = scoped_negation env (node (shape.BinaryExpression o) xs n ts) r
+
 mutual
   unfolding Scoped scopes_by
 
@@ -107,6 +126,7 @@ mutual
   scoped_negated env s (node (shape.LogicalExpression And) xs n ts) r = (r.0, scoped_each env (turned_seat (shape.LogicalExpression And) s) 0 ts r.1)
   scoped_negated env s (node (shape.LogicalExpression Or) xs n ts) r = (r.0, scoped_each env (turned_seat (shape.LogicalExpression Or) s) 0 ts r.1)
   scoped_negated env s (node (shape.UnaryExpression LogicalNot) xs n (a ▸ none)) r = scoped_unwrapped env (s.boolean || is_boolean a) a (node (shape.UnaryExpression LogicalNot) xs n (a ▸ none)) (moved Read (env ++ []) env a (append-nil env) r.1.0) r
+  scoped_negated env s (node (shape.BinaryExpression o) xs n ts) r = scoped_turned env (is_equality o) o xs n ts r
   scoped_negated env s (node h xs n ts) r = scoped_negation env (node h xs n ts) r
 
   scoped_each : (env : Environment) (σ : ℕ → Seat) (i : ℕ) (ts : Trees) → AllScoped (λ k. []) (λ k. Read) i env ts → AllScoped (λ k. []) (λ k. Read) i env (neg_each σ ts)
@@ -135,6 +155,11 @@ operand_numbers : (k : ℕ) (h : Shape) (xs : List Name) (n : ℕ) (a : Tree) �
 unfolding numbers
 operand_numbers k h xs n a = omega (arith, with_more k n (numbers a ++ []), both_counts k (numbers a) [])
 
+numbers_turned : (k : ℕ) (b : Bool) (o : BinaryOperator) (xs : List Name) (n : ℕ) (ts : Trees) → count_of k (numbers (turned_equality b o xs n ts)) ≤ count_of k (numbers (node (shape.BinaryExpression o) xs n ts))
+unfolding numbers
+numbers_turned k true o xs n ts = omega arith
+numbers_turned k false o xs n ts = numbers_of_negation k (node (shape.BinaryExpression o) xs n ts)
+
 mutual
   unfolding numbers
 
@@ -143,6 +168,7 @@ mutual
   numbers_negated k s (node (shape.LogicalExpression Or) xs n ts) = with_fewer k n (all_numbers (neg_each (turned_seat (shape.LogicalExpression Or) s) ts)) (all_numbers ts) (numbers_each k (turned_seat (shape.LogicalExpression Or) s) ts)
   numbers_negated k s (node (shape.UnaryExpression LogicalNot) xs n (a ▸ none)) =
       numbers_unwrapped k (s.boolean || is_boolean a) a (node (shape.UnaryExpression LogicalNot) xs n (a ▸ none)) (operand_numbers k (shape.UnaryExpression LogicalNot) xs n a)
+  numbers_negated k s (node (shape.BinaryExpression o) xs n ts) = numbers_turned k (is_equality o) o xs n ts
   numbers_negated k s (node h xs n ts) = numbers_of_negation k (node h xs n ts)
 
   numbers_each : (k : ℕ) (σ : ℕ → Seat) (ts : Trees) → count_of k (all_numbers (neg_each σ ts)) ≤ count_of k (all_numbers ts)
@@ -160,6 +186,11 @@ once_unwrapped : (q : Path) (b : Bool) (a n : Tree) → early_names q a ≡ [] �
 once_unwrapped q true a n e f = e
 once_unwrapped q false a n e f = once_of_negation q n f
 
+once_turned : (q : Path) (b : Bool) (o : BinaryOperator) (xs : List Name) (n : ℕ) (ts : Trees) → early_names q (node (shape.BinaryExpression o) xs n ts) ≡ [] → early_names q (turned_equality b o xs n ts) ≡ []
+unfolding early_names scope_declarations
+once_turned q true o xs n ts e = e
+once_turned q false o xs n ts e = once_of_negation q (node (shape.BinaryExpression o) xs n ts) e
+
 mutual
   unfolding early_names scope_declarations
 
@@ -168,6 +199,7 @@ mutual
   once_negated q s (node (shape.LogicalExpression Or) xs n ts) e = once_each q (turned_seat (shape.LogicalExpression Or) s) 0 ts e
   once_negated q s (node (shape.UnaryExpression LogicalNot) xs n (a ▸ none)) e =
       once_unwrapped q (s.boolean || is_boolean a) a (node (shape.UnaryExpression LogicalNot) xs n (a ▸ none)) (once_anywhere (q ++ 0 ∷ []) q a (empty_both (early_names (q ++ 0 ∷ []) a) [] e).0) e
+  once_negated q s (node (shape.BinaryExpression o) xs n ts) e = once_turned q (is_equality o) o xs n ts e
   once_negated q s (node h xs n ts) e = once_of_negation q (node h xs n ts) e
 
   once_each : (q : Path) (σ : ℕ → Seat) (i : ℕ) (ts : Trees) → all_early_names q i ts ≡ [] → all_early_names q i (neg_each σ ts) ≡ []
@@ -184,6 +216,11 @@ targets_unwrapped : (g : Targets) (q : Path) (b : Bool) (a n : Tree) → early_j
 targets_unwrapped g q true a n e f = e
 targets_unwrapped g q false a n e f = targets_of_negation g q n f
 
+targets_turned : (g : Targets) (q : Path) (b : Bool) (o : BinaryOperator) (xs : List Name) (n : ℕ) (ts : Trees) → early_jumps g q (node (shape.BinaryExpression o) xs n ts) ≡ [] → early_jumps g q (turned_equality b o xs n ts) ≡ []
+unfolding early_jumps targets_of
+targets_turned g q true o xs n ts e = e
+targets_turned g q false o xs n ts e = targets_of_negation g q (node (shape.BinaryExpression o) xs n ts) e
+
 mutual
   unfolding early_jumps targets_of
 
@@ -192,6 +229,7 @@ mutual
   targets_negated g q s (node (shape.LogicalExpression Or) xs n ts) e = targets_each g q (turned_seat (shape.LogicalExpression Or) s) 0 ts e
   targets_negated g q s (node (shape.UnaryExpression LogicalNot) xs n (a ▸ none)) e =
       targets_unwrapped g q (s.boolean || is_boolean a) a (node (shape.UnaryExpression LogicalNot) xs n (a ▸ none)) (targets_anywhere g (q ++ 0 ∷ []) q a (empty_both (early_jumps g (q ++ 0 ∷ []) a) [] e).0) e
+  targets_negated g q s (node (shape.BinaryExpression o) xs n ts) e = targets_turned g q (is_equality o) o xs n ts e
   targets_negated g q s (node h xs n ts) e = targets_of_negation g q (node h xs n ts) e
 
   targets_each : (g : Targets) (q : Path) (σ : ℕ → Seat) (i : ℕ) (ts : Trees) → all_early_jumps (λ k. g) q i ts ≡ [] → all_early_jumps (λ k. g) q i (neg_each σ ts) ≡ []

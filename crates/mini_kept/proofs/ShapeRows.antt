@@ -1,7 +1,8 @@
 -- A parent may ask the same of what a row writes as of what it reads.
-use Rattle.std.proofs.Common.{◌≡◌, Bool, true, false, List, refl, sym, ap, ◌∙◌, inl, inr}
+use Rattle.std.proofs.Common.{◌≡◌, ℕ, Bool, true, false, List, refl, sym, ap, ◌∙◌, inl, inr}
 use Rattle.std.specs.Prelude.{◌||◌, None}
 use Rattle.mini_model.specs.declared.name.Name.{Name}
+use Rattle.mini_model.specs.declared.operator.BinaryOperator.{BinaryOperator}
 use Rattle.mini_model.specs.declared.operator.LogicalOperator.TheVariants.{Or, And}
 use Rattle.mini_model.specs.declared.operator.UnaryOperator.TheVariants.{LogicalNot}
 use Rattle.mini_model.specs.declared.place.Position.{Position}
@@ -10,7 +11,8 @@ use Rattle.mini_model.specs.declared.seat.Seat.{Seat}
 use Rattle.mini_model.specs.declared.shape.Shape.{Shape}
 use Rattle.mini_model.specs.declared.shape.Shape.TheVariants as shape
 use Rattle.mini_model.specs.Tree.{Tree, Trees, node, none, ◌▸◌, shape_of, is_absent}
-use Rattle.mini_model.specs.Terms.{is_boolean, unwrapped, neg}
+use Rattle.mini_model.specs.Position.{is_equality}
+use Rattle.mini_model.specs.Terms.{is_boolean, unwrapped, turned_equality, neg}
 use Rattle.mini_model.specs.Redex.{Row, Contracts}
 use Rattle.mini_accept.specs.WellShaped.{is_function_body, spelling, spelling_by, has_optional, has_optional_by, is_not_positive_number}
 use Rattle.mini_kept.specs.KeepsShapes.{asks_truth, is_default, AskedAlike, KeepsShapes}
@@ -74,10 +76,15 @@ unwrapped_no_number : (b : Bool) (a n : Tree) → b ≡ is_boolean a → is_not_
 unwrapped_no_number true a n e = boolean_no_number a (sym e)
 unwrapped_no_number false a n e = refl
 
+equality_no_number : (b : Bool) (o : BinaryOperator) (xs : List Name) (n : ℕ) (ts : Trees) → is_not_positive_number (turned_equality b o xs n ts) ≡ true
+equality_no_number true o xs n ts = refl
+equality_no_number false o xs n ts = refl
+
 neg_no_number : (s : Seat) → s.boolean ≡ false → (t : Tree) → is_not_positive_number (neg s t) ≡ true
 neg_no_number s e (node (shape.LogicalExpression And) xs n ts) = refl
 neg_no_number s e (node (shape.LogicalExpression Or) xs n ts) = refl
 neg_no_number s e (node (shape.UnaryExpression LogicalNot) xs n (a ▸ none)) = unwrapped_no_number (s.boolean || is_boolean a) a (node (shape.UnaryExpression LogicalNot) xs n (a ▸ none)) (ap (λ b. b || is_boolean a) e)
+neg_no_number s e (node (shape.BinaryExpression o) xs n ts) = equality_no_number (is_equality o) o xs n ts
 neg_no_number s e (node h xs n ts) = refl
 
 row_no_number : (p : Position) (n w : Tree) → Row p n w → asks_truth p ≡ false → is_not_positive_number w ≡ true

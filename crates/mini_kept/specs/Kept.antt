@@ -1,12 +1,14 @@
 -- What rewriting keeps.
 use Rattle.std.specs.Prelude.{◌≡◌, ℕ, Bool, true, List, []}
 use Rattle.mini_model.specs.declared.name.Name.{Name}
+use Rattle.mini_model.specs.declared.operator.BinaryOperator.{BinaryOperator}
 use Rattle.mini_model.specs.declared.operator.LogicalOperator.TheVariants.{Or, And}
 use Rattle.mini_model.specs.declared.operator.UnaryOperator.TheVariants.{LogicalNot}
 use Rattle.mini_model.specs.declared.place.Position.{Position}
 use Rattle.mini_model.specs.declared.place.Position.TheVariants.{Elsewhere}
 use Rattle.mini_model.specs.declared.shape.Shape.TheVariants as shape
 use Rattle.mini_model.specs.Tree.{Tree, Trees, node, children}
+use Rattle.mini_model.specs.Terms.{opposite}
 use Rattle.mini_model.specs.Redex.{Contracts}
 use Rattle.mini_model.specs.Rewriting.{Step, Reaches}
 use Rattle.mini_accept.specs.WellShaped.{Slot, fits, IsWellShaped}
@@ -21,8 +23,8 @@ StepFits =
 abbrev pub ReachesWellShaped : Type 0
 ReachesWellShaped = (t u : Tree) → Reaches Contracts Elsewhere t u → IsWellShaped t → IsWellShaped u
 
--- the test holds of each node that a row writes: of `!`, `? :`, `||` and `&&`, of which one may become the other, and of
--- an expression statement
+-- the test holds of each node that a row writes: of `!`, `? :`, `||` and `&&`, of which one may become the other, as may `==`
+-- and `!=`, `===` and `!==`, and of an expression statement
 pub record AdmitsWritten (f : Test) : Type 0 where
   pub negation : f (shape.UnaryExpression LogicalNot) [] 0 ≡ true
   pub conditional : f shape.ConditionalExpression [] 0 ≡ true
@@ -30,6 +32,7 @@ pub record AdmitsWritten (f : Test) : Type 0 where
   pub and : f (shape.LogicalExpression And) [] 0 ≡ true
   pub statement : f shape.ExpressionStatement [] 0 ≡ true
   pub turned : (xs : List Name) (n : ℕ) → f (shape.LogicalExpression And) xs n ≡ f (shape.LogicalExpression Or) xs n
+  pub equality : (o : BinaryOperator) (xs : List Name) (n : ℕ) → f (shape.BinaryExpression o) xs n ≡ f (shape.BinaryExpression (opposite o)) xs n
 
 -- so it holds of each node after any number of rewrites, where it did before
 abbrev pub EachKept : Type 0

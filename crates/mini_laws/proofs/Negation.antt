@@ -1,6 +1,8 @@
 -- The negation of an expression means what `!` over it does.
 use Rattle.std.proofs.Common.{◌≡◌, ℕ, zero, suc, Bool, true, false, List, Option, refl, sym, ap, ◌∙◌, inl, inr, true≢false, ⊎_elim}
 use Rattle.std.specs.Prelude.{◌⊎◌, ◌||◌, ◌&&◌, not}
+use Rattle.mini_model.specs.declared.operator.BinaryOperator.{BinaryOperator}
+use Rattle.mini_model.specs.declared.operator.BinaryOperator.TheVariants as binary
 use Rattle.mini_model.specs.declared.operator.LogicalOperator.{LogicalOperator}
 use Rattle.mini_model.specs.declared.operator.LogicalOperator.TheVariants.{Or, And, Coalesce}
 use Rattle.mini_model.specs.declared.operator.UnaryOperator.TheVariants.{LogicalNot}
@@ -9,20 +11,20 @@ use Rattle.mini_model.specs.declared.seat.Seat.{Seat}
 use Rattle.mini_model.specs.declared.shape.Shape.TheVariants as shape
 use Rattle.mini_model.specs.Tree.{Tree, Trees, node, none, ◌▸◌, negation}
 use Rattle.mini_model.specs.declared.place.Position.TheVariants.{Expr}
-use Rattle.mini_model.specs.Position.{operand_seat}
-use Rattle.mini_model.specs.Terms.{is_boolean, unwrapped, neg, neg_each}
-use Rattle.mini_laws.specs.Value.{Value, Boolean, variables}
+use Rattle.mini_model.specs.Position.{is_equality, operand_seat}
+use Rattle.mini_model.specs.Terms.{is_boolean, unwrapped, opposite, turned_equality, neg, neg_each}
+use Rattle.mini_laws.specs.Value.{Value, Boolean, truth, variables}
 use Rattle.mini_laws.specs.State.{Item, State, Completion, ok, stop, out, either, Environment}
 use Rattle.mini_laws.specs.Demand.{Want, Val, Test, Unused, Tail, Demand, As, Callee, OfType, AnEntry, Stat, AValue, Request, Reply, Says, says, plain_call, Deleted}
-use Rattle.mini_laws.specs.Command.{Naming, Command, bind, Kids, run}
+use Rattle.mini_laws.specs.Command.{Naming, Command, ret, bind, Kids, run}
 use Rattle.mini_laws.specs.Naming.{summaries, naming}
 use Rattle.mini_laws.specs.Asking.{and_or_demand, logical_demand, first_demand}
-use Rattle.mini_laws.specs.Replies.{passed}
-use Rattle.mini_laws.specs.Expressions.{and_step, or_step, logical_step, conditional_step}
+use Rattle.mini_laws.specs.Replies.{reply, passed, loosely}
+use Rattle.mini_laws.specs.Expressions.{operate_by, binary_step, and_step, or_step, logical_step, conditional_step}
 use Rattle.mini_laws.specs.Step.{step, means, meaning}
 use Rattle.mini_laws.specs.Fits.{Fits}
 use Rattle.mini_laws.specs.Truth.{told}
-use Rattle.mini_laws.proofs.Runs.{either_cong, either_eta, either_out, runs, each_bool, run_bind}
+use Rattle.mini_laws.proofs.Runs.{either_cong, either_assoc, either_eta, either_ok, either_out, runs, each_bool, run_bind}
 use Rattle.mini_laws.proofs.Truth.{coherent}
 use Rattle.mini_laws.proofs.Fitting.{fits_operand}
 
@@ -235,6 +237,63 @@ module _ (e : Environment) where
         ∙ ap (given q r) (sym (turn xs n ts us Val Val refl (ih 0 Val (operand Val (unmarked_as s f.0 f.1) 0)) (ih 1 Val (operand Val (unmarked_as s f.0 f.1) 1)) z))
         ∙ sym (logical_given q tt r p xs n us z)
 
+  -- an equality under the other operator
+
+  binary_given : (q : Demand) → NotAs q → (r : Request q) (o : BinaryOperator) (xs : List Name) (n : ℕ) (ts : Trees) (s : State) → means e (node (shape.BinaryExpression o) xs n ts) q r s ≡ given q r (means e (node (shape.BinaryExpression o) xs n ts) (As Val) tt s)
+  unfolding means step given
+  binary_given Callee other r o xs n ts s = passes_callee (naming (shape.BinaryExpression o) (As Val) (variables xs) n (summaries ts)) (λ i. As Val) (binary_step o) (λ i r z. meaning e ts i (As Val) r z) s
+  binary_given OfType other r o xs n ts s = passes_type (naming (shape.BinaryExpression o) (As Val) (variables xs) n (summaries ts)) (λ i. As Val) (binary_step o) (λ i r z. meaning e ts i (As Val) r z) s
+  binary_given Deleted other r o xs n ts s = passes_deleted (naming (shape.BinaryExpression o) (As Val) (variables xs) n (summaries ts)) (λ i. As Val) (binary_step o) (λ i r z. meaning e ts i (As Val) r z) s
+  binary_given AnEntry other r o xs n ts s = passes_entry (naming (shape.BinaryExpression o) (As Val) (variables xs) n (summaries ts)) (λ i. As Val) (binary_step o) (λ i r z. meaning e ts i (As Val) r z) s
+  binary_given (As w) other r o xs n ts s = absurd other
+  binary_given q other r o xs n ts s = refl
+
+  -- the other truth
+  unfoldable other_truth : Completion Value → Completion Value
+  other_truth x = either x (λ v z. ok (Boolean (not (truth v))) z) (λ y z. stop y z)
+
+  module _ (names : Naming) (K : Kids (λ i. As Val)) where
+    abbrev Runs : {A : Type 0} → Command (λ i. As Val) A → State → Completion A
+    Runs c z = run {q = λ i. As Val} e names K c z
+
+    loosely_given : (f : Bool → Bool) (a b : Value) (z : State) → Runs (bind (loosely a b) (λ c. ret (Boolean (f c)))) z ≡ either (Runs (loosely a b) z) (λ c y. ok (Boolean (f c)) y) (λ x y. stop x y)
+    loosely_given f a b z = run_bind e names (loosely a b) (λ c. ret (Boolean (f c))) K z
+
+    operate_turns : (o : BinaryOperator) → is_equality o ≡ true → (a b : Value) (z : State) → Runs (operate_by (opposite o) a b) z ≡ other_truth (Runs (operate_by o a b) z)
+    unfolding other_truth
+    operate_turns binary.Equality h a b z =
+        loosely_given not a b z ∙ sym (ap (λ x. either x (λ v y. ok (Boolean (not (truth v))) y) (λ x y. stop x y)) (loosely_given (λ c. c) a b z) ∙ simp runs)
+    operate_turns binary.Inequality h a b z =
+        loosely_given (λ c. c) a b z ∙ sym (ap (λ x. either x (λ v y. ok (Boolean (not (truth v))) y) (λ x y. stop x y)) (loosely_given not a b z) ∙ simp (runs, not_not))
+    operate_turns binary.StrictEquality h a b z = simp runs
+    operate_turns binary.StrictInequality h a b z = simp (runs, not_not)
+    operate_turns o h a b z = absurd (true≢false (sym h))
+
+    step_turns : (o : BinaryOperator) → is_equality o ≡ true → (z : State) → Runs (binary_step (opposite o)) z ≡ other_truth (Runs (binary_step o) z)
+    unfolding other_truth
+    step_turns o h z =
+        either_cong (K 0 tt z) _ _ _ _ (λ a y. either_cong (K 1 tt y) _ _ _ _ (λ b x. operate_turns o h a b x) (λ x w. refl) ∙ sym (either_assoc (K 1 tt y) _ _ _ _ ∙ either_cong (K 1 tt y) _ _ _ _ (λ b x. refl) (λ x w. simp runs))) (λ x w. refl)
+        ∙ sym (either_assoc (K 0 tt z) _ _ _ _ ∙ either_cong (K 0 tt z) _ _ _ _ (λ a y. refl) (λ x w. simp runs))
+
+  other_flips : (w : Want) (x : Completion Value) → either (other_truth x) (λ v z. ok (says w v) z) (λ y z. stop y z) ≡ flipped w (either x (λ v z. ok (truth v) z) (λ y z. stop y z))
+  unfolding other_truth flipped
+  other_flips w x = simp runs
+
+  equality_flips : (o : BinaryOperator) → is_equality o ≡ true → (xs : List Name) (n : ℕ) (ts : Trees) (w : Want) (s : State) → means e (node (shape.BinaryExpression (opposite o)) xs n ts) (As w) tt s ≡ flipped w (means e (node (shape.BinaryExpression o) xs n ts) (As Test) tt s)
+  unfolding means step
+  equality_flips o h xs n ts w s =
+      let names : Naming = naming (shape.BinaryExpression o) (As w) (variables xs) n (summaries ts) in
+      let kids : Kids (λ i. As Val) = λ i r z. meaning e ts i (As Val) r z in
+      run_bind e names (binary_step (opposite o)) (reply (As w) tt) kids s
+      ∙ ap (λ x. either x (λ v z. ok (says w v) z) (λ y z. stop y z)) (step_turns names kids o h s)
+      ∙ other_flips w (run {q = λ i. As Val} e names kids (binary_step o) s)
+      ∙ sym (ap (flipped w) (run_bind e names (binary_step o) (reply (As Test) tt) kids s))
+
+  pub equality_turns : (b : Bool) (o : BinaryOperator) → is_equality o ≡ b → (xs : List Name) (n : ℕ) (ts : Trees) (q : Demand) (r : Request q) (z : State) → means e (negation (node (shape.BinaryExpression o) xs n ts)) q r z ≡ means e (turned_equality b o xs n ts) q r z
+  equality_turns false o h xs n ts q r z = refl
+  equality_turns true o h xs n ts (As w) r z = not_as w _ z ∙ sym (equality_flips o h xs n ts w z)
+  equality_turns true o h xs n ts q r z = not_given q tt r _ z ∙ ap (given q r) (sym (equality_flips o h xs n ts Val z)) ∙ sym (binary_given q tt r (opposite o) xs n ts z)
+
   or_split : (a b : Bool) → a || b ≡ true → (a ≡ true) ⊎ (b ≡ true)
   or_split true b h = inl refl
   or_split false b h = inr h
@@ -246,6 +305,7 @@ module _ (e : Environment) where
     negated (node (shape.LogicalExpression And) xs n ts) s q f r z = turns And Or flips_and xs n ts (neg_each (λ i. operand_seat Or s i) ts) s (λ w. fits_operand Or s w) (λ i w g y. each_negated ts (λ i. operand_seat Or s i) i w g y) q f r z
     negated (node (shape.LogicalExpression Or) xs n ts) s q f r z = turns Or And flips_or xs n ts (neg_each (λ i. operand_seat And s i) ts) s (λ w. fits_operand And s w) (λ i w g y. each_negated ts (λ i. operand_seat And s i) i w g y) q f r z
     negated (node (shape.UnaryExpression LogicalNot) xs n (a ▸ none)) s q f r z = unwraps xs n a s (s.boolean || is_boolean a) (or_split s.boolean (is_boolean a)) q f r z
+    negated (node (shape.BinaryExpression o) xs n ts) s q f r z = equality_turns (is_equality o) o refl xs n ts q r z
     negated (node h xs n ts) s q f r z = refl
 
     each_negated : (ts : Trees) (σ : ℕ → Seat) (i : ℕ) (w : Want) → Fits (Expr (σ i)) (As w) → (z : State) → meaning e (neg_each σ ts) i (As w) tt z ≡ flipped w (meaning e ts i (As Test) tt z)

@@ -1,6 +1,8 @@
 -- Rewriting keeps what a tree means.
-use Rattle.std.proofs.Common.{◌≡◌, ℕ, zero, suc, Bool, true, false, length, refl, sym, ap, ◌∙◌, subst, inl, inr, true≢false}
+use Rattle.std.proofs.Common.{◌≡◌, ℕ, zero, suc, Bool, true, false, List, length, refl, sym, ap, ◌∙◌, subst, inl, inr, true≢false}
 use Rattle.std.specs.Prelude.{◌||◌}
+use Rattle.mini_model.specs.declared.name.Name.{Name}
+use Rattle.mini_model.specs.declared.operator.BinaryOperator.{BinaryOperator}
 use Rattle.mini_model.specs.declared.operator.LogicalOperator.TheVariants.{Or, And}
 use Rattle.mini_model.specs.declared.operator.UnaryOperator.TheVariants.{LogicalNot}
 use Rattle.mini_model.specs.declared.seat.Seat.{Seat}
@@ -8,8 +10,8 @@ use Rattle.mini_model.specs.declared.shape.Shape.TheVariants as shape
 use Rattle.mini_model.specs.Tree.{Tree, Trees, node, none, ◌▸◌, count, negation}
 use Rattle.mini_model.specs.declared.place.Position.{Position}
 use Rattle.mini_model.specs.declared.place.Position.TheVariants.{Expr, Stmt, Elsewhere}
-use Rattle.mini_model.specs.Position.{child_position}
-use Rattle.mini_model.specs.Terms.{is_boolean, unwrapped, neg}
+use Rattle.mini_model.specs.Position.{is_equality, child_position}
+use Rattle.mini_model.specs.Terms.{is_boolean, unwrapped, turned_equality, neg}
 use Rattle.mini_model.specs.Redex.{Row, Contracts}
 use Rattle.mini_model.specs.Rewriting.{Step, StepIn, here, inside, first, later, Reaches, done, more}
 use Rattle.mini_laws.specs.Value.{VariableSet, variables, nothing}
@@ -101,6 +103,10 @@ module _ (R : Position → Tree → Tree → Type 0) where
 
 -- what a parent reads of a node stays
 
+equality_summary : (b : Bool) (o : BinaryOperator) (xs : List Name) (n : ℕ) (ts : Trees) → summary (negation (node (shape.BinaryExpression o) xs n ts)) ≡ summary (turned_equality b o xs n ts)
+equality_summary true o xs n ts = refl
+equality_summary false o xs n ts = refl
+
 neg_summary : (s : Seat) (a : Tree) → summary (negation a) ≡ summary (neg s a)
 neg_summary s (node (shape.LogicalExpression And) xs n ts) = refl
 neg_summary s (node (shape.LogicalExpression Or) xs n ts) = refl
@@ -109,6 +115,7 @@ neg_summary s (node (shape.UnaryExpression LogicalNot) xs n (a ▸ none)) = go (
     go : (b : Bool) → summary a ≡ summary (unwrapped b a (node (shape.UnaryExpression LogicalNot) xs n (a ▸ none)))
     go true = refl
     go false = refl
+neg_summary s (node (shape.BinaryExpression o) xs n ts) = equality_summary (is_equality o) o xs n ts
 neg_summary s (node h xs n ts) = refl
 
 row_summary : (p : Position) (n w : Tree) → Row p n w → summary n ≡ summary w

@@ -51,7 +51,7 @@ not_equal s a = go (nat_lt (weight (Expr s) (negation a)) (weight (Expr s) (neg 
     go true = record { by = λ e q f r z. refl }
     go false = negation_equal s a
 
-row_40 : (s : Seat) (a b c : Tree) → Equal (Expr s) (conditional (negation a) b c) (conditional a c b)
+pub row_40 : (s : Seat) (a b c : Tree) → Equal (Expr s) (conditional (negation a) b c) (conditional a c b)
 unfolding means meaning step
 row_40 s a b c = record { by = λ e q f. go e q f }
   where

@@ -249,6 +249,21 @@ negation_of_and_statement = refl
 negation_of_conditional : neg if_test_seat (conditional a b c) ≡ negation (conditional a b c)
 negation_of_conditional = refl
 
+abbrev says : BinaryOperator → Tree → Tree → Tree
+says o l r = node (shape.BinaryExpression o) [] 0 (l ▸ r ▸ none)
+
+-- `a == b`: `a != b`, whatever is asked of it
+negation_of_equality : neg value_seat (says binary.Equality a b) ≡ says binary.Inequality a b
+negation_of_equality = refl
+
+-- `a !== b && c` in a test: `a === b || !c`
+negation_of_inequality : neg if_test_seat (logical And (says binary.StrictInequality a b) c) ≡ logical Or (says binary.StrictEquality a b) (negation c)
+negation_of_inequality = refl
+
+-- `a < b`: `!(a < b)`, since both `a < b` and `a >= b` are false of NaN
+negation_of_less : neg if_test_seat (says binary.LessThan a b) ≡ negation (says binary.LessThan a b)
+negation_of_less = refl
+
 -- `a && b` in a test: `!a || !b` weighs 12, `!(a && b)` 14
 lighter_turned : not_of if_test_seat (logical And a b) ≡ logical Or (negation a) (negation b)
 lighter_turned = refl
@@ -300,9 +315,6 @@ two_steps : Reaches Contracts item (if_else (negation a) (call_statement b) (cal
 two_steps = more _ _ _ _ (here _ _ _ conditional_written) (more _ _ _ _ (inside _ _ _ _ _ _ (first _ _ _ _ (here _ _ _ swapped_calls))) (done _ _))
 
 -- the other kinds
-
-abbrev says : BinaryOperator → Tree → Tree → Tree
-says o l r = node (shape.BinaryExpression o) [] 0 (l ▸ r ▸ none)
 
 abbrev number : ℤ → Tree
 number n = leaf (shape.NumericLiteral n)

@@ -10,16 +10,46 @@ use Rattle.mini_rows.specs.Switches.{Switches}
 use Rattle.mini_rows.specs.Spellings.{SpellingContracts}
 use Rattle.mini_rows.specs.Branches.{BranchContracts}
 use Rattle.mini_rows.specs.Lists.{ListContracts}
+use Rattle.mini_rows.specs.SpellKeys.{KeyContracts}
+use Rattle.mini_rows.specs.Choices.{ChoiceContracts}
+use Rattle.mini_rows.specs.Declarations.{DeclarationContracts}
+use Rattle.mini_rows.specs.Folding.{FoldingContracts}
+use Rattle.mini_rows.specs.Turns.{TurnContracts}
+use Rattle.mini_rows.specs.Arrows.{ArrowContracts}
 use Rattle.mini_rows.specs.Redex.{Row, Contracts}
+use Rattle.mini_rows.proofs.SpellKeyLawful as keys
+use Rattle.mini_rows.proofs.FoldLawful.{foldings_lawful}
 use Rattle.mini_rows.proofs.SpellLawful as spellings
 use Rattle.mini_rows.proofs.BranchLawful.{branches_lawful}
 use Rattle.mini_rows.proofs.ListLawful.{lists_lawful}
+use Rattle.mini_rows.proofs.ChoiceLawful as choices
+use Rattle.mini_rows.proofs.DeclarationLawful.{declarations_lawful}
+use Rattle.mini_rows.proofs.TurnLawful.{turns_lawful}
+use Rattle.mini_rows.proofs.ArrowLawful.{arrows_lawful}
 
 module _ (o : Switches) where
   -- by family
 
+  abbrev Functions : Position → Tree → Tree → Type 0
+  Functions p n w = TurnContracts p n w ⊎ ArrowContracts p n w
+
+  abbrev End : Position → Tree → Tree → Type 0
+  End p n w = FoldingContracts p n w ⊎ Functions p n w
+
+  abbrev Known : Position → Tree → Tree → Type 0
+  Known p n w = DeclarationContracts p n w ⊎ End p n w
+
+  abbrev Final : Position → Tree → Tree → Type 0
+  Final p n w = ChoiceContracts p n w ⊎ Known p n w
+
+  abbrev Latest : Position → Tree → Tree → Type 0
+  Latest p n w = KeyContracts p n w ⊎ Final p n w
+
+  abbrev Last : Position → Tree → Tree → Type 0
+  Last p n w = ListContracts o p n w ⊎ Latest p n w
+
   abbrev Late : Position → Tree → Tree → Type 0
-  Late p n w = BranchContracts p n w ⊎ ListContracts o p n w
+  Late p n w = BranchContracts p n w ⊎ Last p n w
 
   abbrev Others : Position → Tree → Tree → Type 0
   Others p n w = SpellingContracts p n w ⊎ Late p n w
@@ -28,13 +58,19 @@ module _ (o : Switches) where
   Families p n w = first.Contracts p n w ⊎ Others p n w
 
   families_lawful : Lawful Families
-  families_lawful = lawful_join first.Contracts Others rows_are_lawful (lawful_join SpellingContracts Late spellings.lawful (lawful_join BranchContracts (ListContracts o) branches_lawful (lists_lawful o)))
+  families_lawful = lawful_join first.Contracts Others rows_are_lawful (lawful_join SpellingContracts Late spellings.lawful (lawful_join BranchContracts Last branches_lawful (lawful_join (ListContracts o) Latest (lists_lawful o) (lawful_join KeyContracts Final keys.lawful (lawful_join ChoiceContracts Known choices.lawful (lawful_join DeclarationContracts End declarations_lawful (lawful_join FoldingContracts Functions foldings_lawful (lawful_join TurnContracts ArrowContracts turns_lawful arrows_lawful))))))))
 
   by_row : (p : Position) (n w : Tree) → Row o p n w → weight p w < weight p n → Families p n w
   by_row p n w (inl r) l = inl (record { row = r; lighter = l })
   by_row p n w (inr (inl r)) l = inr (inl (record { row = r; lighter = l }))
   by_row p n w (inr (inr (inl r))) l = inr (inr (inl (record { row = r; lighter = l })))
-  by_row p n w (inr (inr (inr r))) l = inr (inr (inr (record { row = r; lighter = l })))
+  by_row p n w (inr (inr (inr (inl r)))) l = inr (inr (inr (inl (record { row = r; lighter = l }))))
+  by_row p n w (inr (inr (inr (inr (inl r))))) l = inr (inr (inr (inr (inl (record { row = r; lighter = l })))))
+  by_row p n w (inr (inr (inr (inr (inr (inl r)))))) l = inr (inr (inr (inr (inr (inl (record { row = r; lighter = l }))))))
+  by_row p n w (inr (inr (inr (inr (inr (inr (inl r))))))) l = inr (inr (inr (inr (inr (inr (inl (record { row = r; lighter = l })))))))
+  by_row p n w (inr (inr (inr (inr (inr (inr (inr (inl r)))))))) l = inr (inr (inr (inr (inr (inr (inr (inl (record { row = r; lighter = l }))))))))
+  by_row p n w (inr (inr (inr (inr (inr (inr (inr (inr (inl r))))))))) l = inr (inr (inr (inr (inr (inr (inr (inr (inl (record { row = r; lighter = l })))))))))
+  by_row p n w (inr (inr (inr (inr (inr (inr (inr (inr (inr r))))))))) l = inr (inr (inr (inr (inr (inr (inr (inr (inr (record { row = r; lighter = l })))))))))
 
   pub by_family : (p : Position) (n w : Tree) → Contracts o p n w → Families p n w
   by_family p n w c = by_row p n w c.row c.lighter

@@ -22,6 +22,7 @@ use Rattle.mini_kept.specs.Lifted.{is_piece}
 use Rattle.mini_kept.specs.Standing.{is_method_slot}
 use Rattle.mini_kept.proofs.Bools.{left}
 use Rattle.mini_kept.proofs.Expressions.{refused_here}
+use Rattle.mini_kept.proofs.InOrder.{in_order}
 use Rattle.mini_kept.proofs.Quiet.{is_quiet, IsQuiet, no_names, no_body_names, no_body_declarations, no_loop, same_symbols as same_symbols_of}
 use Rattle.mini_rows.specs.Sketches.{still, rearranges_expression, Head, AList, Empty, OfExpression, Throw, Return, If, Block, shape_by, Sketch, part, under, list, Sketches, Parts, filled, all_filled, AsValue, parts_of, Free, is_rearranged, is_expression_head, stands_well, is_expression}
 use Rattle.mini_rows.specs.Arranged.{KeptAt, AreFree, ExpressionsArranged}
@@ -189,7 +190,7 @@ module _ (f : Free) (ps : Parts) (u : AreFree ps f) (h : Head) (ss : Sketches) (
 
   pub expression_kept : (q : Seat) → KeptAt (Expr q) n w
   expression_kept q = record {
-    keeps = λ strict s o k. names_kept q strict s k (quiet_of n n_value) (quiet_of w (w_value strict s k));
+    keeps = λ strict s o k. in_order (Expr q) n w (names_kept q strict s k (quiet_of n n_value) (quiet_of w (w_value strict s k)));
     piece = no_piece h;
     kind = λ strict s k. kind_of_value (shape_of n) n_value ∙ sym (kind_of_value (shape_of w) (w_value strict s k));
     bodies = λ strict s o k a st. bodies_kept a (st.function (method_slot strict s k)) (w_value strict s k);

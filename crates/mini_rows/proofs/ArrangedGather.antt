@@ -1,7 +1,7 @@
 -- What a tree declares around it, in order, by its parts.
-use Rattle.std.specs.Prelude.{ℕ, zero, suc, ◌≡◌, refl, Bool, true, false, ◌||◌, List, [], ◌∷◌, ◌++◌, if◌then◌else◌}
+use Rattle.std.specs.Prelude.{ℕ, zero, suc, ◌≡◌, refl, Bool, true, false, ◌&&◌, ◌||◌, List, [], ◌∷◌, ◌++◌, if◌then◌else◌}
 use Rattle.std.proofs.Common.{ap, ◌∙◌, sym, append_assoc}
-use Rattle.std.proofs.lemmas.Bool.{and_parts}
+use Rattle.std.proofs.lemmas.Bool.{and_parts, false≢true}
 use Rattle.std.proofs.lemmas.List.{append-nil}
 use Rattle.mini_model.specs.declared.operator.AssignmentOperator.{AssignmentOperator}
 use Rattle.mini_model.specs.declared.operator.AssignmentOperator.TheVariants.{Assign}
@@ -9,7 +9,7 @@ use Rattle.mini_model.specs.Tree.{Tree, Trees, node, none, ◌▸◌, listed, sh
 use Rattle.mini_model.specs.Paths.{append}
 use Rattle.mini_kept.proofs.Bools.{left, right}
 use Rattle.mini_rows.specs.Lists.{is_unscoped, are_unscoped}
-use Rattle.mini_rows.specs.Sketches.{Head, AbsentPart, AList, Call, New, StaticMember, Property, Assignment, Empty, OfExpression, Throw, Return, If, Block, shape_by, Sketch, part, under, list, Sketches, end, ◌▹◌, Items, no_items, item, items, Parts, list_at, filled, all_filled, items_filled, Asked, AsWhole, AsWholeList, AsWholeItem, AsValue, AsValues, AsWord, AsTarget, AsUpdated, AsBranch, AsItems, AsItem, item_asked, target_asked, asked_below, Leap, leaps, Hole, Part, Stretch, Leaps, leap_holes, parts_of, parts_from, parts_in, is_same_hole, Free, is_among, settled_as, all_settled, is_expression_head, is_statement_head, is_absent_head, is_member_head, is_word_head, stands_as, is_list_asked, stands_well, all_stand_well, items_stand_well, are_loose, is_declaring, is_declaring_hole, statements, are_same_holes}
+use Rattle.mini_rows.specs.Sketches.{Head, AbsentPart, AList, Call, New, StaticMember, Property, Assignment, Empty, OfExpression, Throw, Return, If, Block, shape_by, Sketch, part, under, list, Sketches, end, ◌▹◌, Items, no_items, item, items, Parts, list_at, filled, all_filled, items_filled, Asked, AsWhole, AsWholeList, AsWholeItem, AsValue, AsValues, AsWord, AsTarget, AsUpdated, AsBranch, AsItems, AsItem, item_asked, target_asked, asked_below, Leap, leaps, Hole, Part, Stretch, Leaps, leap_holes, parts_of, parts_from, parts_in, is_same_hole, Free, is_among, settled_as, all_settled, is_expression_head, is_statement_head, is_absent_head, is_member_head, is_word_head, stands_as, is_list_asked, stands_well, all_stand_well, items_stand_well, are_loose, is_declaring, is_declaring_hole, statements, are_same_holes, is_branch_hole, has_branch_twice}
 use Rattle.mini_rows.specs.Arranged.{AreFree}
 use Rattle.mini_rows.proofs.Arranging.{Any, Below, Each, first_each, second_each, same_hole}
 use Rattle.mini_rows.proofs.ArrangedValues.{is_value, is_calm, Valued}
@@ -89,6 +89,56 @@ pub record Fold (A : Type 0) (L B H : Tree → List A) : Type 0 where
   pub of_return : (ts : Trees) → H (node (shape_by Return) [] 0 ts) ≡ []
   pub of_value : (t : Tree) → is_value (shape_of t) ≡ true → H t ≡ []
   pub of_moved : (t : Tree) → is_unscoped t ≡ true → B t ≡ H t
+
+same_holes : (hs gs : List Hole) → are_same_holes hs gs ≡ true → hs ≡ gs
+same_holes [] [] e = refl
+same_holes [] (g ∷ gs) e = absurd (cc e)
+same_holes (h ∷ hs) [] e = absurd (cc e)
+same_holes (h ∷ hs) (g ∷ gs) e =
+    let (x, y) = and_parts (is_same_hole h g) (are_same_holes hs gs) e in
+    λ i. same_hole h g x i ∷ same_holes hs gs y i
+
+-- a branch that stands twice, between others
+pub record Twice (gs hs : List Hole) : Type 0 where
+  pub before : List Hole
+  pub branch : ℕ
+  pub after : List Hole
+  pub once : gs ≡ before ++ (Part branch AsBranch ∷ after)
+  pub twice : hs ≡ before ++ (Part branch AsBranch ∷ (Part branch AsBranch ∷ after))
+
+twice_here : (g h k : Hole) (gs hs : List Hole) → is_same_hole g h ≡ true → is_branch_hole h ≡ true → is_same_hole h k ≡ true → gs ≡ hs → Twice (g ∷ gs) (h ∷ (k ∷ hs))
+twice_here g (Part i AsBranch) k gs hs e b f s = record {
+  before = [];
+  branch = i;
+  after = hs;
+  once = λ j. same_hole g (Part i AsBranch) e j ∷ s j;
+  twice = λ j. Part i AsBranch ∷ (sym (same_hole (Part i AsBranch) k f) j ∷ hs);
+}
+twice_here g h k gs hs e b f s = absurd (cc b)
+
+twice_later : (g h : Hole) (gs hs : List Hole) → is_same_hole g h ≡ true → Twice gs hs → Twice (g ∷ gs) (h ∷ hs)
+twice_later g h gs hs e t = record {
+  before = h ∷ t.before;
+  branch = t.branch;
+  after = t.after;
+  once = λ j. same_hole g h e j ∷ t.once j;
+  twice = ap (λ r. h ∷ r) t.twice;
+}
+
+pub branch_twice : (gs hs : List Hole) → has_branch_twice gs hs ≡ true → Twice gs hs
+branch_twice [] hs e = absurd (false≢true e)
+branch_twice (g ∷ gs) [] e = absurd (false≢true e)
+branch_twice (g ∷ gs) (h ∷ []) e = absurd (false≢true e)
+branch_twice (g ∷ gs) (h ∷ (k ∷ hs)) e =
+    let (same, rest) = and_parts (is_same_hole g h) ((is_branch_hole h && (is_same_hole h k && are_same_holes gs hs)) || has_branch_twice gs (k ∷ hs)) e in
+    by same (is_branch_hole h && (is_same_hole h k && are_same_holes gs hs)) refl rest (branch_twice gs (k ∷ hs))
+  where
+    by : is_same_hole g h ≡ true → (b : Bool) → (is_branch_hole h && (is_same_hole h k && are_same_holes gs hs)) ≡ b → (b || has_branch_twice gs (k ∷ hs)) ≡ true → (has_branch_twice gs (k ∷ hs) ≡ true → Twice gs (k ∷ hs)) → Twice (g ∷ gs) (h ∷ (k ∷ hs))
+    by same true e r later =
+        let (branch, x) = and_parts (is_branch_hole h) (is_same_hole h k && are_same_holes gs hs) e in
+        let (again, others) = and_parts (is_same_hole h k) (are_same_holes gs hs) x in
+        twice_here g h k gs hs same branch again (same_holes gs hs others)
+    by same false e r later = twice_later g h gs (k ∷ hs) same (later r)
 
 module _ (A : Type 0) (L B H : Tree → List A) (k : Fold A L B H) where
   abbrev pub Gives : Asked → Tree → List A
@@ -295,14 +345,6 @@ module _ (A : Type 0) (L B H : Tree → List A) (k : Fold A L B H) where
         by true e a = ap (λ r. gives_hole ps h ++ r) a
         by false e a = a ∙ sym (ap (λ r. r ++ gives_each ps hs) (no_hole h e))
 
-    same_holes : (hs gs : List Hole) → are_same_holes hs gs ≡ true → hs ≡ gs
-    same_holes [] [] e = refl
-    same_holes [] (g ∷ gs) e = absurd (cc e)
-    same_holes (h ∷ hs) [] e = absurd (cc e)
-    same_holes (h ∷ hs) (g ∷ gs) e =
-        let (x, y) = and_parts (is_same_hole h g) (are_same_holes hs gs) e in
-        λ i. same_hole h g x i ∷ same_holes hs gs y i
-
     by_statements : (hs : List Hole) → gives_each ps hs ≡ gives_each ps (statements (all_settled f hs))
     by_statements hs = sym (each_gives_settled hs) ∙ sym (gives_statements (all_settled f hs))
 
@@ -310,3 +352,10 @@ module _ (A : Type 0) (L B H : Tree → List A) (k : Fold A L B H) where
     pub gives_same : (c : Asked) (s r : Sketch) → stands_well f c s ≡ true → stands_well f c r ≡ true → are_same_holes (statements (all_settled f (parts_of c r))) (statements (all_settled f (parts_of c s))) ≡ true → Each Any Valued ps (parts_of c s) → Each Any Valued ps (parts_of c r) → Gives c (filled ps r) ≡ Gives c (filled ps s)
     gives_same c s r sn sr e v w =
         gives_of c r sr w ∙ by_statements (parts_of c r) ∙ ap (gives_each ps) (same_holes (statements (all_settled f (parts_of c r))) (statements (all_settled f (parts_of c s))) e) ∙ sym (by_statements (parts_of c s)) ∙ sym (gives_of c s sn v)
+
+    -- and those where a branch stands twice in one
+    pub gives_once : (c : Asked) (r : Sketch) (hs : List Hole) (t : Twice (statements (all_settled f (parts_of c r))) hs) → stands_well f c r ≡ true → Each Any Valued ps (parts_of c r) → Gives c (filled ps r) ≡ gives_each ps t.before ++ (H (child_or_absent ps.trees t.branch) ++ gives_each ps t.after)
+    gives_once c r hs t sr w = gives_of c r sr w ∙ by_statements (parts_of c r) ∙ ap (gives_each ps) t.once ∙ gives_both ps t.before (Part t.branch AsBranch ∷ t.after)
+
+    pub gives_twice : (c : Asked) (s : Sketch) (gs : List Hole) (t : Twice gs (statements (all_settled f (parts_of c s)))) → stands_well f c s ≡ true → Each Any Valued ps (parts_of c s) → Gives c (filled ps s) ≡ gives_each ps t.before ++ (H (child_or_absent ps.trees t.branch) ++ (H (child_or_absent ps.trees t.branch) ++ gives_each ps t.after))
+    gives_twice c s gs t sn v = gives_of c s sn v ∙ by_statements (parts_of c s) ∙ ap (gives_each ps) t.twice ∙ gives_both ps t.before (Part t.branch AsBranch ∷ (Part t.branch AsBranch ∷ t.after))

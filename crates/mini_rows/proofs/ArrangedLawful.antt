@@ -3,7 +3,6 @@ use Rattle.std.specs.Prelude.{refl}
 use Rattle.mini_model.specs.declared.place.Position.{Position}
 use Rattle.mini_model.specs.declared.place.Position.TheVariants.{StatementList}
 use Rattle.mini_model.specs.Tree.{Tree}
-use Rattle.mini_kept.proofs.InOrder.{in_order}
 use Rattle.mini_rows.specs.Arranged.{KeptIsLawful}
 
 pub kept_is_lawful : (R : Position → Tree → Tree → Type 0) → KeptIsLawful R
@@ -11,7 +10,7 @@ kept_is_lawful R means shapes places slots kept = record {
   shapes = shapes;
   bodies = record { means = means; pieces = λ p n w r. (kept p n w r).piece; kind = λ p n w r. (kept p n w r).kind; bodies = λ p n w r. (kept p n w r).bodies };
   frames = record {
-    names = record { places = places; pieces = λ p n w r. (kept p n w r).piece; keeps = λ p n w r strict s k e. in_order p n w ((kept p n w r).keeps strict s k e) };
+    names = record { places = places; pieces = λ p n w r. (kept p n w r).piece; keeps = λ p n w r. (kept p n w r).keeps };
     slots = slots;
     ports = λ p n w r. (kept p n w r).ports;
     listed = λ n w r. (kept StatementList n w r).listed refl;

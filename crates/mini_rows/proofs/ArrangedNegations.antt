@@ -1,7 +1,9 @@
 -- The negation of an expression may be written for it.
-use Rattle.std.specs.Prelude.{ℕ, zero, suc, ◌≡◌, refl, ◌||◌, nat_lt, Bool, true, false, [], ◌++◌, Contains, None, if◌then◌else◌}
+use Rattle.std.specs.Prelude.{ℕ, zero, suc, ◌≡◌, refl, ◌||◌, nat_lt, Bool, true, false, List, [], ◌++◌, Contains, None, if◌then◌else◌}
 use Rattle.std.proofs.Common.{sym, subst, arith}
 use Rattle.std.proofs.lemmas.List.{append-nil}
+use Rattle.mini_model.specs.declared.name.Name.{Name}
+use Rattle.mini_model.specs.declared.operator.BinaryOperator.{BinaryOperator}
 use Rattle.mini_model.specs.declared.operator.LogicalOperator.TheVariants.{Or, And}
 use Rattle.mini_model.specs.declared.operator.UnaryOperator.TheVariants.{LogicalNot}
 use Rattle.mini_model.specs.declared.place.Position.TheVariants.{Expr}
@@ -9,7 +11,8 @@ use Rattle.mini_model.specs.declared.seat.Seat.{Seat}
 use Rattle.mini_model.specs.declared.shape.Shape.TheVariants as shape
 use Rattle.mini_model.specs.Tree.{Tree, Trees, node, none, ◌▸◌, negation}
 use Rattle.mini_model.specs.Weight.{weight}
-use Rattle.mini_model.specs.Terms.{is_boolean, turned_seat, unwrapped, neg, neg_each, not_of}
+use Rattle.mini_model.specs.Position.{is_equality}
+use Rattle.mini_model.specs.Terms.{is_boolean, turned_seat, unwrapped, turned_equality, neg, neg_each, not_of}
 use Rattle.mini_laws.specs.Bodies.{Around, bodies}
 use Rattle.mini_kept.specs.AlikeBodies.{BodiesKept}
 use Rattle.mini_kept.specs.Declaring.{declared, declared_all}
@@ -27,12 +30,17 @@ unwrapped_declared : (b : Bool) (a n : Tree) → declared a ≡ declared n → d
 unwrapped_declared true a n e = e
 unwrapped_declared false a n e = append-nil (declared n)
 
+equality_declared : (b : Bool) (o : BinaryOperator) (xs : List Name) (n : ℕ) (ts : Trees) → declared (turned_equality b o xs n ts) ≡ declared (node (shape.BinaryExpression o) xs n ts)
+equality_declared true o xs n ts = refl
+equality_declared false o xs n ts = append-nil (declared (node (shape.BinaryExpression o) xs n ts))
+
 mutual
   negated_declared : (s : Seat) (t : Tree) → declared (neg s t) ≡ declared t
   negated_declared s (node (shape.LogicalExpression And) xs n ts) = each_declared (turned_seat (shape.LogicalExpression And) s) ts
   negated_declared s (node (shape.LogicalExpression Or) xs n ts) = each_declared (turned_seat (shape.LogicalExpression Or) s) ts
   negated_declared s (node (shape.UnaryExpression LogicalNot) xs n (a ▸ none)) =
       unwrapped_declared (s.boolean || is_boolean a) a (node (shape.UnaryExpression LogicalNot) xs n (a ▸ none)) (sym (append-nil (declared a)))
+  negated_declared s (node (shape.BinaryExpression o) xs n ts) = equality_declared (is_equality o) o xs n ts
   negated_declared s (node h xs n ts) = append-nil (declared (node h xs n ts))
 
   each_declared : (σ : ℕ → Seat) (ts : Trees) → declared_all (neg_each σ ts) ≡ declared_all ts

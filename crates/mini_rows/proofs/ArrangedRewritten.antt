@@ -29,6 +29,7 @@ use Rattle.mini_kept.specs.KeepsNames.{Keeps, count_of}
 use Rattle.mini_kept.proofs.Anywhere.{once_anywhere, targets_anywhere}
 use Rattle.mini_kept.proofs.Bools.{left}
 use Rattle.mini_kept.proofs.BodyLists.{kept_itself, kept_on}
+use Rattle.mini_kept.proofs.InOrder.{in_order}
 use Rattle.mini_kept.proofs.Unplaced.{as_body, body_same}
 use Rattle.mini_rows.specs.Sketches.{Head, Sketch, part, under, list, Sketches, Parts, filled, all_filled, Asked, AsWhole, AsValue, Leap, Hole, Part, Stretch, Leaps, parts_of, Free, is_statement_head, asked_below, stands_well, all_stand_well, keeps_statements}
 use Rattle.mini_rows.specs.Arranged.{KeptAt, AreFree, WrittenFor, Rewritten, AreExpressions, StatementsRewritten}
@@ -40,7 +41,7 @@ use Rattle.mini_rows.proofs.ArrangedPlain.{is_plain}
 use Rattle.mini_rows.proofs.ArrangedTrees.{both_same, itself, parts_valued}
 use Rattle.mini_rows.proofs.ArrangedGather.{concat, Fold, Gives, gives_each, gives_of}
 use Rattle.mini_rows.proofs.ArrangedFolds.{bound_fold, lexical_fold, hoisted_fold, body_fold, hoists, declared_fold}
-use Rattle.mini_rows.proofs.ArrangedStatements.{not_list, no_loop, around_quiet, kind_of_head, no_port, undeclared, method_slot, parts_kept, statement_kept}
+use Rattle.mini_rows.proofs.ArrangedStatements.{not_list, no_loop, around_quiet, kind_of_head, no_port, undeclared, method_slot, parts_kept, statement_keeps, statement_kept}
 
 -- ---- parts
 
@@ -191,7 +192,7 @@ module _ (f : Free) (ps qs : Parts) (u : AreFree ps f) (o : AreFree qs f) (h g :
 
   pub rewritten_kept : KeptAt (Stmt q) (filled ps (under h ss)) (filled qs (under g rs))
   rewritten_kept = record {
-    keeps = λ strict s p k. new_keeps f ps qs u o (under g rs) sr z strict (x strict s k) (middle_parts strict s k) q (filled ps (under h ss)) (no_loop g (all_filled qs rs) g_head ∙ sym (no_loop h (all_filled ps ss) h_head)) (base.keeps strict s p k);
+    keeps = λ strict s p k. in_order (Stmt q) (filled ps (under h ss)) (filled qs (under g rs)) (new_keeps f ps qs u o (under g rs) sr z strict (x strict s k) (middle_parts strict s k) q (filled ps (under h ss)) (no_loop g (all_filled qs rs) g_head ∙ sym (no_loop h (all_filled ps ss) h_head)) (statement_keeps f ps u h g ss rs sn sr y q strict s k));
     piece = base.piece;
     kind = λ strict s k. kind_of_head h ∙ sym (kind_of_head g);
     bodies = λ strict s p k a st.

@@ -22,11 +22,13 @@ use Rattle.mini_laws.specs.Body.{ArrowExpression}
 use Rattle.mini_laws.specs.Bodies.{Around, bodies, bodies_from, arrow_kind}
 use Rattle.mini_kept.specs.AlikeBodies.{BodiesKept}
 use Rattle.mini_kept.specs.Frames.{is_declaration, is_port, ports as ports_of}
+use Rattle.mini_kept.specs.KeepsLoosely.{KeepsLoosely}
 use Rattle.mini_kept.specs.KeepsNames.{is_rewritten_place, Keeps}
 use Rattle.mini_kept.specs.Placed.{fits_place}
 use Rattle.mini_kept.specs.Standing.{is_method_slot}
 use Rattle.mini_kept.proofs.Bools.{left, right}
 use Rattle.mini_kept.proofs.Expressions.{refused_here}
+use Rattle.mini_kept.proofs.InOrder.{in_order}
 use Rattle.mini_kept.proofs.Placed.{statements_slot}
 use Rattle.mini_kept.proofs.Unplaced.{as_body, body_same}
 use Rattle.mini_rows.specs.Sketches.{Head, AList, shape_by, Sketch, part, under, list, Sketches, Items, no_items, item, items, Parts, list_at, filled, all_filled, items_filled, Asked, AsWhole, AsWholeList, AsWholeItem, use_by, parts_of, parts_in, Free, is_rearranged, all_settled, is_statement_head, asked_below, stands_well, all_stand_well, items_stand_well, are_loose, statements, are_same_holes, keeps_statements}
@@ -71,15 +73,15 @@ module _ (f : Free) (ps : Parts) (u : AreFree ps f) (c : Asked) (p : Position) (
   pub parts_kept : is_rearranged f (parts_of c s) (parts_of c r) ≡ true
   parts_kept = left (is_rearranged f (parts_of c s) (parts_of c r)) (are_same_holes (statements (all_settled f (parts_of c r))) (statements (all_settled f (parts_of c s)))) z
 
-  in_order : are_same_holes (statements (all_settled f (parts_of c r))) (statements (all_settled f (parts_of c s))) ≡ true
-  in_order = right (is_rearranged f (parts_of c s) (parts_of c r)) (are_same_holes (statements (all_settled f (parts_of c r))) (statements (all_settled f (parts_of c s)))) z
+  same_order : are_same_holes (statements (all_settled f (parts_of c r))) (statements (all_settled f (parts_of c s))) ≡ true
+  same_order = right (is_rearranged f (parts_of c s) (parts_of c r)) (are_same_holes (statements (all_settled f (parts_of c r))) (statements (all_settled f (parts_of c s)))) z
 
   module _ (v : Each Any Valued ps (parts_of c s)) where
     w_parts : Each Any Valued ps (parts_of c r)
     w_parts = parts_valued f ps u c s r sn sr parts_kept v
 
     gathered : (A : Type 0) (B H : Tree → List A) (k : Fold A B B H) → B w ≡ B n
-    gathered A B H k = whole_gives A B H k c p b w ∙ gives_same A B B H k f ps u c s r sn sr in_order v w_parts ∙ sym (whole_gives A B H k c p b n)
+    gathered A B H k = whole_gives A B H k c p b w ∙ gives_same A B B H k f ps u c s r sn sr same_order v w_parts ∙ sym (whole_gives A B H k c p b n)
 
     same_names : (d : Declared) → names_of d w ≡ names_of d n
     same_names declared.Bound = gathered Name (names_of declared.Bound) (λ t. []) bound_fold
@@ -151,11 +153,14 @@ module _ (f : Free) (ps : Parts) (u : AreFree ps f) (h g : Head) (ss rs : Sketch
       subst (BodiesKept (bodies a (filled ps (under h ss)))) (sym (around_quiet a g (all_filled ps rs) k w_head))
       (subst (λ bs. BodiesKept bs (bodies (quiet a) (filled ps (under g rs)))) (sym (around_quiet a h (all_filled ps ss) k n_head)) (same_bodies f ps u AsWhole (under h ss) (under g rs) sn sr (parts_kept f ps u AsWhole (Stmt q) refl (under h ss) (under g rs) sn sr z) a))
 
+  pub statement_keeps : (strict : Bool) (s : Slot) → fits strict s (filled ps (under h ss)) ≡ true → Keeps (Stmt q) (filled ps (under h ss)) (filled ps (under g rs))
+  statement_keeps strict s k = names_kept f ps u AsWhole (Stmt q) refl (under h ss) (under g rs) sn sr z (head_valued ps strict AsWhole s h ss (not_list h n_head) k) (no_loop g (all_filled ps rs) w_head ∙ sym (no_loop h (all_filled ps ss) n_head))
+
   pub statement_kept : KeptAt (Stmt q) (filled ps (under h ss)) (filled ps (under g rs))
   statement_kept =
       let y = parts_kept f ps u AsWhole (Stmt q) refl (under h ss) (under g rs) sn sr z in
       record {
-        keeps = λ strict s o k. names_kept f ps u AsWhole (Stmt q) refl (under h ss) (under g rs) sn sr z (head_valued ps strict AsWhole s h ss (not_list h n_head) k) (no_loop g (all_filled ps rs) w_head ∙ sym (no_loop h (all_filled ps ss) n_head));
+        keeps = λ strict s o k. in_order (Stmt q) (filled ps (under h ss)) (filled ps (under g rs)) (statement_keeps strict s k);
         piece = no_piece h;
         kind = λ strict s k. kind_of_head h ∙ sym (kind_of_head g);
         bodies = λ strict s o k a st. statement_bodies a (st.function (method_slot ps h ss strict s k));
@@ -206,42 +211,54 @@ list_slot strict s ts o k =
     let (d, e, k') = statements_slot strict s [] 0 ts o k in
     (subst (λ x. suits AsWholeList x ≡ true) (sym e) refl, subst (λ x. is_method_slot x ≡ false) (sym e) refl)
 
-module _ (f : Free) (ps : Parts) (u : AreFree ps f) (is js : Items) (sn : items_stand_well f AsWholeItem is ≡ true) (sr : items_stand_well f AsWholeItem js ≡ true) (z : keeps_statements f (parts_in AsWholeItem is) (parts_in AsWholeItem js) ≡ true) where
-  same_loop : (ts us : Trees) → is_loop (listed us) ≡ is_loop (listed ts)
-  unfolding is_loop
-  same_loop ts us = refl
-
-  list_parts : (strict : Bool) (s : Slot) → fits_place StatementList s ≡ true → fits strict s (listed (items_filled ps is)) ≡ true → Each Any Valued ps (parts_in AsWholeItem is)
+-- what else is kept, however the parts are ordered that declare names
+module _ (f : Free) (ps : Parts) (u : AreFree ps f) (is js : Items) (sn : items_stand_well f AsWholeItem is ≡ true) (sr : items_stand_well f AsWholeItem js ≡ true) (y : is_rearranged f (parts_in AsWholeItem is) (parts_in AsWholeItem js) ≡ true) where
+  pub list_parts : (strict : Bool) (s : Slot) → fits_place StatementList s ≡ true → fits strict s (listed (items_filled ps is)) ≡ true → Each Any Valued ps (parts_in AsWholeItem is)
   list_parts strict s o k = sketch_valued ps strict AsWholeList s (list is) (list_slot strict s (items_filled ps is) o k).0 k
+
+  pub list_valued : Each Any Valued ps (parts_in AsWholeItem is) → Each Any Valued ps (parts_in AsWholeItem js)
+  list_valued v = parts_valued f ps u AsWholeList (list is) (list js) sn sr y v
 
   list_quiet : (a : Around) (ks : Items) → items_stand_well f AsWholeItem ks ≡ true → Each Any Valued ps (parts_in AsWholeItem ks) → bodies a (listed (items_filled ps ks)) ≡ bodies (quiet a) (listed (items_filled ps ks))
   list_quiet a ks e v = calm_items a 0 (items_filled ps ks) (items_calm f ps ks e v)
 
-  rearranged : is_rearranged f (parts_in AsWholeItem is) (parts_in AsWholeItem js) ≡ true
-  rearranged = parts_kept f ps u AsWholeList StatementList refl (list is) (list js) sn sr z
-
   list_bodies : (a : Around) → Each Any Valued ps (parts_in AsWholeItem is) → BodiesKept (bodies a (listed (items_filled ps is))) (bodies a (listed (items_filled ps js)))
   list_bodies a v =
-      subst (BodiesKept (bodies a (listed (items_filled ps is)))) (sym (list_quiet a js sr (parts_valued f ps u AsWholeList (list is) (list js) sn sr rearranged v)))
-      (subst (λ bs. BodiesKept bs (bodies (quiet a) (listed (items_filled ps js)))) (sym (list_quiet a is sn v)) (same_bodies f ps u AsWholeList (list is) (list js) sn sr rearranged a))
+      subst (BodiesKept (bodies a (listed (items_filled ps is)))) (sym (list_quiet a js sr (list_valued v)))
+      (subst (λ bs. BodiesKept bs (bodies (quiet a) (listed (items_filled ps js)))) (sym (list_quiet a is sn v)) (same_bodies f ps u AsWholeList (list is) (list js) sn sr y a))
 
-  same_ports : (m : Bool) → Each Any Valued ps (parts_in AsWholeItem is) → ports_of m (items_filled ps is) ≡ ports_of m (items_filled ps js)
-  same_ports m v =
-      sym (same_trees (ports_of m (items_filled ps js)) (ports_of m (items_filled ps is)) (gives_same Tree (ports_in m) (port m) (λ t. []) (ports_fold m) f ps u AsWholeList (list is) (list js) sn sr (in_order f ps u AsWholeList StatementList refl (list is) (list js) sn sr z) v (parts_valued f ps u AsWholeList (list is) (list js) sn sr rearranged v)))
-
-  pub list_kept : KeptAt StatementList (listed (items_filled ps is)) (listed (items_filled ps js))
-  list_kept = record {
-    keeps = λ strict s o k. names_kept f ps u AsWholeList StatementList refl (list is) (list js) sn sr z (list_parts strict s o k) (same_loop (items_filled ps is) (items_filled ps js));
+  pub list_kept_by : (Each Any Valued ps (parts_in AsWholeItem is) → KeepsLoosely StatementList (listed (items_filled ps is)) (listed (items_filled ps js))) → ((m : Bool) → Each Any Valued ps (parts_in AsWholeItem is) → ports_of m (items_filled ps is) ≡ ports_of m (items_filled ps js))
+      → KeptAt StatementList (listed (items_filled ps is)) (listed (items_filled ps js))
+  list_kept_by keeps ports = record {
+    keeps = λ strict s o k. keeps (list_parts strict s o k);
     piece = refl;
     kind = λ strict s k. refl;
     bodies = λ strict s o k a st. list_bodies a (list_parts strict s o k);
     ports = λ strict d k m. (refl, refl);
-    listed = λ l strict d k m. same_ports m (list_parts strict (many (a_statement d)) refl k);
+    listed = λ l strict d k m. ports m (list_parts strict (many (a_statement d)) refl k);
     exported = λ strict k. (refl, refl);
-    frames = λ strict s o k. same_frames f ps u AsWholeList (list is) (list js) sn sr rearranged;
-    fixed = same_fixed f ps u AsWholeList (list is) (list js) sn sr rearranged;
-    declared = same_declared f ps u AsWholeList (list is) (list js) sn sr rearranged;
+    frames = λ strict s o k. same_frames f ps u AsWholeList (list is) (list js) sn sr y;
+    fixed = same_fixed f ps u AsWholeList (list is) (list js) sn sr y;
+    declared = same_declared f ps u AsWholeList (list is) (list js) sn sr y;
   }
+
+pub same_loop : (ts us : Trees) → is_loop (listed us) ≡ is_loop (listed ts)
+unfolding is_loop
+same_loop ts us = refl
+
+module _ (f : Free) (ps : Parts) (u : AreFree ps f) (is js : Items) (sn : items_stand_well f AsWholeItem is ≡ true) (sr : items_stand_well f AsWholeItem js ≡ true) (z : keeps_statements f (parts_in AsWholeItem is) (parts_in AsWholeItem js) ≡ true) where
+  rearranged : is_rearranged f (parts_in AsWholeItem is) (parts_in AsWholeItem js) ≡ true
+  rearranged = parts_kept f ps u AsWholeList StatementList refl (list is) (list js) sn sr z
+
+  same_ports : (m : Bool) → Each Any Valued ps (parts_in AsWholeItem is) → ports_of m (items_filled ps is) ≡ ports_of m (items_filled ps js)
+  same_ports m v =
+      sym (same_trees (ports_of m (items_filled ps js)) (ports_of m (items_filled ps is)) (gives_same Tree (ports_in m) (port m) (λ t. []) (ports_fold m) f ps u AsWholeList (list is) (list js) sn sr (same_order f ps u AsWholeList StatementList refl (list is) (list js) sn sr z) v (list_valued f ps u is js sn sr rearranged v)))
+
+  pub list_kept : KeptAt StatementList (listed (items_filled ps is)) (listed (items_filled ps js))
+  list_kept =
+      list_kept_by f ps u is js sn sr rearranged
+      (λ v. in_order StatementList (listed (items_filled ps is)) (listed (items_filled ps js)) (names_kept f ps u AsWholeList StatementList refl (list is) (list js) sn sr z v (same_loop (items_filled ps is) (items_filled ps js))))
+      same_ports
 
 pub lists_arranged : ListsArranged
 lists_arranged f ps u is js e n w a b =

@@ -35,6 +35,7 @@ use Rattle.mini_kept.specs.Lifted.{is_piece}
 use Rattle.mini_kept.proofs.Below.{both_counts, empty_both, both_empty}
 use Rattle.mini_kept.proofs.BodyLists.{kept_itself, each_of as each_body}
 use Rattle.mini_kept.proofs.FrameLists.{each_of as each_frame}
+use Rattle.mini_kept.proofs.InOrder.{in_order}
 use Rattle.mini_kept.proofs.Unplaced.{unplaced_both, declared_same, as_statement, as_body, all_as_body, body_same, free_same}
 use Rattle.mini_rows.specs.Arranged.{KeptAt}
 use Rattle.mini_rows.specs.Branches.{Surrounding, Consequent, Alternate, WhileBody, DoBody, ForBody, InBody, OfBody, around}
@@ -105,7 +106,7 @@ loop_is (node h xs n ts) e = ap (λ b. if b then last_is_loop ts else is_loop_sh
 
 pub core_kept : (q : StmtSeat) (n w : Tree) → is_plain (shape_of n) ≡ true → is_plain (shape_of w) ≡ true → ((strict : Bool) (s : Slot) → fits strict s n ≡ true → Core n w) → Said n w → KeptAt (Stmt q) n w
 core_kept q n w e f core said = record {
-  keeps = λ strict s p fit. let c = core strict s fit in record {
+  keeps = λ strict s p fit. let c = core strict s fit in in_order (Stmt q) n w (record {
     kept = c.kept;
     scoped = λ v env st r. c.scoped v env r;
     numbers = c.numbers;
@@ -115,7 +116,7 @@ core_kept q n w e f core said = record {
     loop = loop_is w f ∙ c.loop ∙ sym (loop_is n e);
     root = λ p. absurd (cc p);
     block = λ p b q. absurd (cc p);
-  };
+  });
   piece = (plain_shape (shape_of n) e).piece;
   kind = λ strict s fit. (plain_shape (shape_of n) e).kind ∙ sym (plain_shape (shape_of w) f).kind;
   bodies = λ strict s p fit a st. (core strict s fit).bodies a;

@@ -88,7 +88,7 @@ in_forof strict (an_inner_key true) xs n ts e = absurd (refused_here strict (one
 in_forof strict k xs n ts e = absurd (refused_here strict (one k) shape.ForOfStatement xs n ts refl e)
 
 -- a statement that a row reads
-abbrev is_read : Shape → Bool
+abbrev pub is_read : Shape → Bool
 is_read shape.ReturnStatement = true
 is_read shape.IfStatement = true
 is_read shape.WhileStatement = true
@@ -123,7 +123,7 @@ one_of strict k t r e = absurd (cc r)
 other_slot : (strict : Bool) (s : Slot) (t : Tree) → is_read (shape_of t) ≡ true → filling strict s (shape_of t) ≡ refused → fits strict s t ≡ true → ⊥
 other_slot strict s (node h xs n ts) r f e = refused_here strict s h xs n ts f e
 
-taken : (strict : Bool) (s : Slot) (t : Tree) → is_read (shape_of t) ≡ true → fits strict s t ≡ true → TakesStatement s
+pub taken : (strict : Bool) (s : Slot) (t : Tree) → is_read (shape_of t) ≡ true → fits strict s t ≡ true → TakesStatement s
 taken strict (one k) t r e = taken_in strict k t r e
 taken strict (one_or_absent k) t r e = taken_in strict k t r (one_of strict k t r e)
 taken strict (many c) t r e = absurd (other_slot strict (many c) t r (unlisted (shape_of t) r) e)
@@ -182,7 +182,7 @@ alike strict (one_or_absent k) t r i = one_alike strict k t r ∙ alike_in stric
 alike strict s t r i = absurd i
 
 -- so it is enough that what is written fits as a statement
-fits_there : (strict : Bool) (s : Slot) (n w : Tree) → is_read (shape_of n) ≡ true → is_plain (shape_of n) ≡ true → is_plain (shape_of w) ≡ true → (fits strict statement n ≡ true → fits strict statement w ≡ true) → fits strict s n ≡ true → fits strict s w ≡ true
+pub fits_there : (strict : Bool) (s : Slot) (n w : Tree) → is_read (shape_of n) ≡ true → is_plain (shape_of n) ≡ true → is_plain (shape_of w) ≡ true → (fits strict statement n ≡ true → fits strict statement w ≡ true) → fits strict s n ≡ true → fits strict s w ≡ true
 fits_there strict s n w r p q f e =
     let takes = taken strict s n r e in
     alike strict s w q takes ∙ f (sym (alike strict s n p takes) ∙ e)
@@ -191,7 +191,7 @@ body_in : (k : Class) → TakesStatementIn k → is_in_body k ≡ true
 body_in (a_statement d) i = refl
 body_in k i = absurd i
 
-body_slot : (p : Position) (s : Slot) → TakesStatement s → is_body_slot p s ≡ true
+pub body_slot : (p : Position) (s : Slot) → TakesStatement s → is_body_slot p s ≡ true
 body_slot p (one k) i = body_in k i
 body_slot p (one_or_absent k) i = body_in k i
 body_slot p s i = absurd i
@@ -234,7 +234,7 @@ no_number : (t : Tree) → is_plain (shape_of t) ≡ true → is_not_positive_nu
 no_number (node (shape.NumericLiteral k) xs n ts) e = absurd (cc e)
 no_number (node h xs n ts) e = refl
 
-plain_asked : (p : Position) (n w : Tree) → is_plain (shape_of n) ≡ true → is_plain (shape_of w) ≡ true → AskedAlike p n w
+pub plain_asked : (p : Position) (n w : Tree) → is_plain (shape_of n) ≡ true → is_plain (shape_of w) ≡ true → AskedAlike p n w
 plain_asked p n w e f = record {
   absent = λ g. absurd (cc (sym g ∙ there n e));
   body = λ g. absurd (cc (sym g ∙ no_body n e));
@@ -252,11 +252,11 @@ block_fit strict c e = left (fits strict statement c) true (left (fits strict st
 in_block_fit : (strict : Bool) (c : Tree) → fits strict statement c ≡ true → fits strict statement (block (c ▸ none)) ≡ true
 in_block_fit strict c e = both (fits strict statement c && true) true (both (fits strict statement c) true e refl) refl
 
-last_fit : (strict : Bool) (c : Tree) → is_absent c ≡ false → fits strict statement c ≡ true → fits strict last_statement c ≡ true
+pub last_fit : (strict : Bool) (c : Tree) → is_absent c ≡ false → fits strict statement c ≡ true → fits strict last_statement c ≡ true
 last_fit strict (node shape.Absent xs n ts) h e = absurd (cc h)
 last_fit strict (node h xs n ts) k e = e
 
-one_fit : (strict : Bool) (c : Tree) → is_absent c ≡ false → fits strict last_statement c ≡ true → fits strict statement c ≡ true
+pub one_fit : (strict : Bool) (c : Tree) → is_absent c ≡ false → fits strict last_statement c ≡ true → fits strict statement c ≡ true
 one_fit strict (node shape.Absent xs n ts) h e = absurd (cc h)
 one_fit strict (node h xs n ts) k e = e
 
@@ -264,7 +264,7 @@ unscoped_there : (c : Tree) → is_unscoped c ≡ true → is_absent c ≡ false
 unscoped_there (node shape.Absent xs n ts) h = absurd (cc h)
 unscoped_there (node g xs n ts) h = refl
 
-other_there : (u : Tree) → is_other_branch u ≡ true → is_absent u ≡ false
+pub other_there : (u : Tree) → is_other_branch u ≡ true → is_absent u ≡ false
 other_there (node shape.Absent xs n ts) h = absurd (cc h)
 other_there (node g xs n ts) h = refl
 
@@ -329,7 +329,7 @@ row_83_block a c u h = record {
     first_of_if : (strict : Bool) (a x y u : Tree) → (fits strict statement x ≡ true → fits strict statement y ≡ true) → fits strict statement (if_else a x u) ≡ true → fits strict statement (if_else a y u) ≡ true
     first_of_if strict a x y u f e = later_and (fits strict expression a) _ _ (first_and (fits strict statement x) (fits strict statement y) (fits strict last_statement u && true) f) e
 
-parts : (strict : Bool) (a b c : Tree) → fits strict statement (if_else a b c) ≡ true → IfFits strict a b c
+pub parts : (strict : Bool) (a b c : Tree) → fits strict statement (if_else a b c) ≡ true → IfFits strict a b c
 parts strict a b c e = (of_if strict statement a b c e).1
 
 module _ (o : LogicalOperator) (a b : Tree) (value : (strict : Bool) → fits strict expression a ≡ true → Value a b) (fit : (strict : Bool) → fits strict expression a ≡ true → fits strict expression b ≡ true) (said : Said a b) (t : Tree) (i : IsEmpty t) where

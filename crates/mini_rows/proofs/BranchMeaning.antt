@@ -82,7 +82,7 @@ or_unused : (e : Environment) (a b : Tree) (s : State) → means e (logical Or a
 unfolding means meaning step
 or_unused e a b s = either_cong (means e a (As Test) tt s) _ _ _ _ (each_bool _ (λ z. refl) (λ z. either_eta (means e b (As Unused) tt z))) (λ x z. refl)
 
-not_test : (e : Environment) (a : Tree) (s : State) → means e (negation a) (As Test) tt s ≡ either (means e a (As Test) tt s) (λ t z. ok (not t) z) (λ x z. stop x z)
+pub not_test : (e : Environment) (a : Tree) (s : State) → means e (negation a) (As Test) tt s ≡ either (means e a (As Test) tt s) (λ t z. ok (not t) z) (λ x z. stop x z)
 unfolding means meaning step
 not_test e a s = refl
 
@@ -91,7 +91,7 @@ not_of_test : (e : Environment) (p : Seat) (a : Tree) (s : State) → means e (n
 not_of_test e p a s = sym ((not_equal p a).by e (As Test) ((λ h. refl), (λ h. inr refl)) tt s) ∙ not_test e a s
 
 -- a branch taken by what a negated test gives
-by_negated : {A : Type 0} (x : Completion Bool) (f g : State → Completion A) → either (either x (λ t z. ok (not t) z) (λ y z. stop y z)) (λ t z. choose t (f z) (g z)) (λ y z. stop y z) ≡ either x (λ t z. choose t (g z) (f z)) (λ y z. stop y z)
+pub by_negated : {A : Type 0} (x : Completion Bool) (f g : State → Completion A) → either (either x (λ t z. ok (not t) z) (λ y z. stop y z)) (λ t z. choose t (f z) (g z)) (λ y z. stop y z) ≡ either x (λ t z. choose t (g z) (f z)) (λ y z. stop y z)
 by_negated x f g = either_assoc x _ _ _ _ ∙ either_cong x _ _ _ _ (each_bool _ (λ z. either_ok false z _ _) (λ z. either_ok true z _ _)) (λ y z. either_stop y z _ _)
 
 -- a test whose truth nobody uses
@@ -113,7 +113,7 @@ void_is : (e : Environment) (s : State) → means e void_zero (As Val) tt s ≡ 
 unfolding means meaning step either
 void_is e s = refl
 
-undefined_is : (e : Environment) (v : Tree) → IsUndefined v → (s : State) → means e v (As Val) tt s ≡ ok Undefined s
+pub undefined_is : (e : Environment) (v : Tree) → IsUndefined v → (s : State) → means e v (As Val) tt s ≡ ok Undefined s
 undefined_is e v (inl h) s = ap (λ x. means e x (As Val) tt s) h ∙ undefined_name e s
 undefined_is e v (inr h) s = ap (λ x. means e x (As Val) tt s) h ∙ void_is e s
 

@@ -3,6 +3,8 @@ use Rattle.std.specs.Prelude.{ℕ, suc, ◌≤◌, ◌≡◌, refl, ◌||◌, na
 use Rattle.std.proofs.Common.{ap, ◌∙◌, sym, subst, arith, inl, inr, append_assoc}
 use Rattle.std.proofs.lemmas.List.{append-nil}
 use Rattle.mini_model.specs.declared.name.SymbolId.{SymbolId}
+use Rattle.mini_model.specs.declared.name.Name.{Name}
+use Rattle.mini_model.specs.declared.operator.BinaryOperator.{BinaryOperator}
 use Rattle.mini_model.specs.declared.operator.LogicalOperator.{LogicalOperator}
 use Rattle.mini_model.specs.declared.operator.LogicalOperator.TheVariants.{Or, And}
 use Rattle.mini_model.specs.declared.operator.UnaryOperator.TheVariants.{LogicalNot}
@@ -11,7 +13,8 @@ use Rattle.mini_model.specs.declared.seat.Seat.{Seat}
 use Rattle.mini_model.specs.declared.shape.Shape.TheVariants as shape
 use Rattle.mini_model.specs.Tree.{Tree, Trees, node, none, ◌▸◌, absent, expression_statement, if_else, negation, logical, unresolved, identifier}
 use Rattle.mini_model.specs.Weight.{weight}
-use Rattle.mini_model.specs.Terms.{is_boolean, turned_seat, unwrapped, neg, neg_each, not_of}
+use Rattle.mini_model.specs.Position.{is_equality}
+use Rattle.mini_model.specs.Terms.{is_boolean, turned_seat, unwrapped, turned_equality, neg, neg_each, not_of}
 use Rattle.mini_accept.specs.WellShaped.{fits}
 use Rattle.mini_names.specs.declared.Use.{Use}
 use Rattle.mini_names.specs.declared.Use.TheVariants.{Read, Alone}
@@ -90,6 +93,10 @@ pub said_itself : (a : Tree) → Said a a
 said_itself a = record { fixed = λ z. refl; declared = λ z c. c }
 
 -- the names in a negation are those of the expression
+equality_declared : (b : Bool) (o : BinaryOperator) (xs : List Name) (n : ℕ) (ts : Trees) → declared_names (turned_equality b o xs n ts) ≡ declared_names (node (shape.BinaryExpression o) xs n ts)
+equality_declared true o xs n ts = refl
+equality_declared false o xs n ts = append-nil (declared_names (node (shape.BinaryExpression o) xs n ts))
+
 mutual
   neg_declared : (s : Seat) (t : Tree) → declared_names (neg s t) ≡ declared_names t
   neg_declared s (node (shape.LogicalExpression And) xs n ts) = each_declared (turned_seat (shape.LogicalExpression And) s) ts
@@ -99,6 +106,7 @@ mutual
       go : (b : Bool) → declared_names (unwrapped b a (node (shape.UnaryExpression LogicalNot) xs n (a ▸ none))) ≡ declared_names a ++ []
       go true = sym (append-nil (declared_names a))
       go false = append-nil (declared_names a ++ [])
+  neg_declared s (node (shape.BinaryExpression o) xs n ts) = equality_declared (is_equality o) o xs n ts
   neg_declared s (node h xs n ts) = append-nil (declared_names (node h xs n ts))
 
   each_declared : (σ : ℕ → Seat) (ts : Trees) → declared_all (neg_each σ ts) ≡ declared_all ts

@@ -25,14 +25,14 @@ unless b n = if b then 0 else n
 
 -- ---- outlines
 
-absent_is : (c : Tree) → (outline c).absent ≡ is_absent c
+pub absent_is : (c : Tree) → (outline c).absent ≡ is_absent c
 absent_is (node shape.Absent xs n ts) = refl
 absent_is (node shape.Listed xs n ts) = refl
 absent_is (node shape.IfStatement xs n ts) = refl
 absent_is (node (shape.NumericLiteral k) xs n ts) = refl
 absent_is (node h xs n ts) = refl
 
-chooses_is : (c : Tree) → is_unscoped c ≡ true → (outline c).chooses ≡ has_else c
+pub chooses_is : (c : Tree) → is_unscoped c ≡ true → (outline c).chooses ≡ has_else c
 chooses_is (node shape.Listed xs n ts) h = absurd (cc h)
 chooses_is (node shape.IfStatement xs n none) h = refl
 chooses_is (node shape.IfStatement xs n (a ▸ none)) h = refl
@@ -46,7 +46,7 @@ scoped_present : (c : Tree) → is_unscoped c ≡ true → is_absent c ≡ false
 scoped_present (node shape.Absent xs n ts) h = absurd (cc h)
 scoped_present (node g xs n ts) h = refl
 
-other_present : (u : Tree) → is_other_branch u ≡ true → is_absent u ≡ false
+pub other_present : (u : Tree) → is_other_branch u ≡ true → is_absent u ≡ false
 other_present (node shape.Absent xs n ts) h = absurd (true≢false (sym h))
 other_present (node g xs n ts) h = refl
 

@@ -18,6 +18,7 @@ use Rattle.mini_laws.proofs.Runs.{either_eta, each_bool, tail_stop}
 use Rattle.mini_laws.proofs.Stretching.{exec, listed_by}
 use Rattle.mini_laws.proofs.Tailing.{finished, finish_none, hidden, closed, block_runs}
 use Rattle.mini_rows.specs.Lists.{any, is_terminated, are_terminated}
+use Rattle.mini_rows.specs.ListLaws.{TerminatedNeverEnds}
 use Rattle.mini_rows.proofs.ListStretches.{exec_more}
 
 abbrev pub Never : Completion (Unit {0}) → Type 0
@@ -106,3 +107,6 @@ module _ (e : Environment) where
     ended_trees : (ts : Trees) → AllEnd ts
     ended_trees none = tt
     ended_trees (t ▸ ts) = (ended_tree t, ended_trees ts)
+
+pub terminated_never_ends : TerminatedNeverEnds
+terminated_never_ends t h e r s z k = subst Never k (ended_tree e t h r s)

@@ -48,20 +48,20 @@ nothing_by (node h xs n ts) e = record { lets = refl; functions = refl; facts = 
 
 -- ---- a scope round a command
 
-abbrev leave : Naming → State → State
+abbrev pub leave : Naming → State → State
 leave names s = with_vars s (hide_all names.scope s.vars)
 
-abbrev leaving : {A : Type 0} → Naming → Completion A → Completion A
+abbrev pub leaving : {A : Type 0} → Naming → Completion A → Completion A
 leaving names x = either x (λ a z. ok a (leave names z)) (λ y z. stop y (leave names z))
 
-scoped_is : (e : Environment) (names : Naming) {q : ℕ → Demand} {A : Type 0} (c : Command q A) (K : Kids q) (s : State) → run e names K (scoped c) s ≡ leaving names (run e names K c (leave names s))
+pub scoped_is : (e : Environment) (names : Naming) {q : ℕ → Demand} {A : Type 0} (c : Command q A) (K : Kids q) (s : State) → run e names K (scoped c) s ≡ leaving names (run e names K c (leave names s))
 unfolding either act
 scoped_is e names c K s = run_attempt e names c (λ x. op hide (then (λ u. as_ended x))) K (leave names s) ∙ either_cong (run e names K c (leave names s)) _ _ _ _ (λ a z. refl) (λ x z. refl)
 
 leave_nothing : (names : Naming) → names.scope ≡ [] → (s : State) → leave names s ≡ s
 leave_nothing names h s = ap (λ l. with_vars s (hide_all l s.vars)) h
 
-leaving_nothing : {A : Type 0} (names : Naming) → names.scope ≡ [] → (x : Completion A) → leaving names x ≡ x
+pub leaving_nothing : {A : Type 0} (names : Naming) → names.scope ≡ [] → (x : Completion A) → leaving names x ≡ x
 leaving_nothing names h x = either_cong x _ _ _ _ (λ a z. ap (λ y. ok a y) (leave_nothing names h z)) (λ y z. ap (λ w. stop y w) (leave_nothing names h z)) ∙ either_eta x
 
 -- ---- `switch`
@@ -160,14 +160,14 @@ module _ (e : Environment) (names : Naming) (has_no_test : Bool) (labels : Label
       (bind_alike e names (for_demand None) K L (for_test None has_no_test) _ (test_alike h1 has_no_test)
       (λ b. choose_alike e names (for_demand None) K L b _ _ (λ z. ap (λ x. either x (λ a y. run {q = for_demand None} e names K (bind (after_body labels (done a)) again) y) (λ x y. run {q = for_demand None} e names K (bind (after_body labels (ended x)) again) y)) (h3 z) ∙ either_cong (L 3 [] z) _ _ _ _ (λ a y. ended_alike h2 (done a) y) (λ x y. ended_alike h2 (ended x) y)) (λ z. refl)))
 
-abbrev for_names : List Variable → Naming
+abbrev pub for_names : List Variable → Naming
 for_names l = record { own = []; written = []; bound = []; number = 0; scope = l; functions = [] }
 
 module _ (e : Environment) (test update body : Tree) where
-  abbrev for_kids : Tree → (d : Option Declared) → Kids (for_demand d)
+  abbrev pub for_kids : Tree → (d : Option Declared) → Kids (for_demand d)
   for_kids i d j r z = meaning e (i ▸ (test ▸ (update ▸ (body ▸ none)))) j (for_demand d j) r z
 
-  pub for_rest : LabelSet → State → Completion (Unit {0})
+  unfoldable pub for_rest : LabelSet → State → Completion (Unit {0})
   for_rest r z = run {q = for_demand None} e (for_names []) (for_kids absent None) (for_turns None (summary test).facts.absent r) z
 
   pub for_is : (i : Tree) → Nothing i → (r : LabelSet) (s : State) → means e (for_loop i test update body) (Stat None) r s ≡ either (means e i (As Unused) tt s) (λ u z. for_rest r z) (λ x z. stop x z)

@@ -1,15 +1,17 @@
 -- What the rows of lists write keeps what a program has to keep.
 use Rattle.std.proofs.Common.{◌≡◌, ℕ, true, false, [], ◌∷◌, refl, sym, ap, ◌∙◌, inl, inr, true≢false}
 use Rattle.std.specs.Prelude.{◌⊎◌}
+use Rattle.mini_model.specs.declared.operator.LogicalOperator.TheVariants.{Or}
 use Rattle.mini_model.specs.declared.place.Position.TheVariants.{StatementList}
-use Rattle.mini_model.specs.Tree.{Tree, Trees, none, ◌▸◌, listed, absent, expression_statement, if_else}
+use Rattle.mini_model.specs.Tree.{Tree, Trees, none, ◌▸◌, listed, absent, expression_statement, if_else, if_alone, logical}
 use Rattle.mini_model.specs.Paths.{append}
 use Rattle.mini_rows.specs.Arranged.{KeptAt, NeighboursRow}
-use Rattle.mini_rows.specs.Lists.{of_parts, sequence, return_statement, throw_statement, with_head, InList}
+use Rattle.mini_rows.specs.Lists.{of_parts, sequence, return_statement, throw_statement, with_head, Row74, InList}
 use Rattle.mini_rows.specs.Lists as row
-use Rattle.mini_rows.specs.Sketches.{Sketch, Items, Parts, Sequence, OfExpression, Throw, Return, If, part, under, list, end, ◌▹◌, no_items, item, items, filled, still, rearranges_list}
+use Rattle.mini_rows.specs.Sketches.{Sketch, Items, Parts, AbsentPart, Logical, Sequence, OfExpression, Throw, Return, If, part, under, list, end, ◌▹◌, no_items, item, items, filled, still, rearranges_list}
 use Rattle.mini_rows.specs.ListLaws.{PlainHead, opens_scope, PlainRow, PlainListsKept}
 use Rattle.mini_rows.proofs.ArrangedStatements.{lists_arranged}
+use Rattle.mini_rows.proofs.ArrangedTwice.{lists_arranged_once}
 use Rattle.mini_rows.proofs.ArrangedBetween.{in_list_kept}
 
 append_none : (ts : Trees) → append ts none ≡ ts
@@ -122,3 +124,18 @@ row_kept n w r (inr x) = heads_kept r.before r.after r.read r.put n w r.shape r.
 
 pub plain_lists_kept : PlainListsKept
 plain_lists_kept n w r = row_kept n w r r.row
+
+-- ---- an `if` and the next one, that has its branch, which is written once
+
+abbrev guards : Items
+guards = items 0 (item (under If (part 0 ▹ part 1 ▹ under AbsentPart end ▹ end)) (item (under If (part 2 ▹ part 1 ▹ part 3 ▹ end)) (items 1 no_items)))
+
+abbrev guard : Items
+guard = items 0 (item (under If (under (Logical Or) (part 0 ▹ part 2 ▹ end) ▹ part 1 ▹ part 3 ▹ end)) (items 1 no_items))
+
+pub guards_kept : (n w : Tree) → InList Row74 n w → KeptAt StatementList n w
+guards_kept n w r =
+    let m = r.row in
+    lists_arranged_once still (record { trees = m.left ▸ (m.s ▸ (m.right ▸ (m.u ▸ none))); lists = r.before ∷ r.after ∷ [] }) (tt, tt, tt) guards guard refl n w
+    (read_as r.before r.after r.read r.put n w r.shape r.written (if_alone m.left m.s ▸ (if_else m.right m.s m.u ▸ none)) m.shape)
+    (put_as r.before r.after r.read r.put n w r.shape r.written (if_else (logical Or m.left m.right) m.s m.u ▸ none) m.written)

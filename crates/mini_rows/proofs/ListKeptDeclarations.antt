@@ -121,14 +121,14 @@ one_scope x ys zs =
     let more = in_one_scope x most zs (with_names [] ys) [] (λ s e. absurd (cc e), omega arith) in
     omega (arith, more, ap (scope_times x) (with_more [] ys zs))
 
-all_both : (d : Declared) (a b : Trees) → all_names d (append a b) ≡ all_names d a ++ all_names d b
+pub all_both : (d : Declared) (a b : Trees) → all_names d (append a b) ≡ all_names d a ++ all_names d b
 unfolding names_of
 all_both d none b = refl
 all_both d (t ▸ a) b = ap (λ r. names_of d t ++ r) (all_both d a b) ∙ sym (append_assoc (names_of d t) (all_names d a) (all_names d b))
 
 -- ---- one declaration
 
-abbrev over : VariableDeclarationKind → Tree → Tree
+abbrev pub over : VariableDeclarationKind → Tree → Tree
 over k t = node (shape.VariableDeclaration k) [] 0 (t ▸ none)
 
 -- its names are those of its declarators: lexical ones or hoisted ones
@@ -166,7 +166,7 @@ if_both : (c : Bool) (xs ys : List Name) → names_if c (xs ++ ys) ≡ names_if 
 if_both true xs ys = refl
 if_both false xs ys = refl
 
-body_are : (k : VariableDeclarationKind) (ts : Trees) → body_names (over k (listed ts)) ≡ all_names declared.Bound ts
+pub body_are : (k : VariableDeclarationKind) (ts : Trees) → body_names (over k (listed ts)) ≡ all_names declared.Bound ts
 unfolding body_names
 body_are k ts = (λ i. names_are declared.Lexical k ts i ++ names_are declared.Hoisted k ts i) ∙ by k
   where
@@ -188,12 +188,12 @@ declarations_are o k ts =
 
 -- ---- scopes
 
-abbrev scope_if : Bool → Tree → List Binding
+abbrev pub scope_if : Bool → Tree → List Binding
 scope_if true t = lexical_scope (bound_names t)
 scope_if false t = []
 
 -- it opens a scope of its own where it stands alone
-abbrev opens : Use → VariableDeclarationKind → Bool
+abbrev pub opens : Use → VariableDeclarationKind → Bool
 opens u Var = false
 opens u k = is_alone u
 
@@ -216,7 +216,7 @@ read_opens Var = refl
 read_opens Let = refl
 read_opens Const = refl
 
-abbrev used : Use → VariableDeclarationKind → Use
+abbrev pub used : Use → VariableDeclarationKind → Use
 used u k = use_of (shape.VariableDeclaration k) u 0
 
 nothing_opened : (k : VariableDeclarationKind) (t : Tree) (env : Environment) → env ++ opened Read (shape.VariableDeclaration k) (t ▸ none) 0 ≡ env
@@ -230,7 +230,7 @@ scoped_up : (k : VariableDeclarationKind) (env : Environment) (t : Tree) → Sco
 unfolding Scoped
 scoped_up k env t a = (tt, (subst (λ r. Scoped (used Read k) r t) (sym (nothing_opened k t env)) a, tt))
 
-symbols_are : (u : Use) (k : VariableDeclarationKind) (x : Option SymbolId) (t : Tree) → times x (declared_in u (over k t)) ≡ times x (symbols_in (scope_if (opens u k) t)) + times x (declared_in (used u k) t)
+pub symbols_are : (u : Use) (k : VariableDeclarationKind) (x : Option SymbolId) (t : Tree) → times x (declared_in u (over k t)) ≡ times x (symbols_in (scope_if (opens u k) t)) + times x (declared_in (used u k) t)
 unfolding declared_in
 symbols_are u k x t =
     let scope = opened u (shape.VariableDeclaration k) (t ▸ none) 0 in
@@ -336,10 +336,10 @@ module _ (k : VariableDeclarationKind) where
   jumps_are g t = append-nil (early_jumps g (0 ∷ []) t)
 
   module _ (a b : Trees) where
-    abbrev two : Trees
+    abbrev pub two : Trees
     two = over k (listed a) ▸ (over k (listed b) ▸ none)
 
-    abbrev one : Trees
+    abbrev pub one : Trees
     one = over k (listed (append a b)) ▸ none
 
     one_of : (J : Leap → Type 0) (Q P : Asked → Tree → Type 0) → Local J P → ((ts : Trees) → Q AsWholeItem (over k (listed ts)) → P AsWholeList (listed ts)) → ((ts : Trees) → P AsWholeList (listed ts) → Q AsWholeItem (over k (listed ts))) → All Q AsWholeItem two → All Q AsWholeItem one
@@ -377,7 +377,7 @@ module _ (k : VariableDeclarationKind) where
         let is = λ (t : Tree). ap (count_of n) (numbers_are t) in
         omega (arith, is (listed (append a b)), is (listed a), is (listed b), sum_joined (number_times n) (numbers_summed n) a b)
 
-    names_one : NamesStretched two one
+    pub names_one : NamesStretched two one
     names_one = record {
       names = λ d. two_give (names_of d) (names_if (declares_as d k)) k (names_are d k) (if_both (declares_as d k)) a b;
       body = two_give body_names (λ xs. xs) k (body_are k) (λ xs ys. refl) a b;
@@ -388,7 +388,7 @@ module _ (k : VariableDeclarationKind) where
       once = one_of Any Once Once once_local (λ ts e. once_anywhere (0 ∷ []) [] (listed ts) (sym (once_is (listed ts)) ∙ e)) (λ ts e. once_is (listed ts) ∙ once_anywhere [] (0 ∷ []) (listed ts) e);
     }
 
-    stretched_one : Stretched two one
+    pub stretched_one : Stretched two one
     stretched_one = record {
       named = λ strict d e. names_one;
       calm = ((refl, refl), tt);

@@ -73,13 +73,13 @@ module _ (J : Leap → Type 0) (Q : Asked → Tree → Type 0) (l : Local J Q) w
   it_of_parts p none a = a.0
   it_of_parts p (t ▸ ps) a = sequence_of (p ▸ (t ▸ ps)) a
 
-  of_statement : (e : Tree) → Q AsWholeItem (expression_statement e) → Q AsValue e
+  pub of_statement : (e : Tree) → Q AsWholeItem (expression_statement e) → Q AsValue e
   of_statement e q = (l.down OfExpression AsWholeItem (e ▸ none) tt q).1.0
 
-  statement_of : (e : Tree) → Q AsValue e → Q AsWholeItem (expression_statement e)
+  pub statement_of : (e : Tree) → Q AsValue e → Q AsWholeItem (expression_statement e)
   statement_of e q = l.up OfExpression AsWholeItem (e ▸ none) tt tt (q, tt)
 
-  nothing_there : Q AsValue absent
+  pub nothing_there : Q AsValue absent
   nothing_there = l.up AbsentPart AsValue none tt tt tt
 
 module _ (m : Asked → Tree → ℕ) (l : Summed m) where
@@ -89,7 +89,7 @@ module _ (m : Asked → Tree → ℕ) (l : Summed m) where
       let ts : Trees = p ▸ (t ▸ ps) in
       omega (arith, l Sequence AsValue (listed ts ▸ none) tt, l AList AsValues ts tt, sum_items m l AsValue 0 ts)
 
-  sum_statement : (e : Tree) → m AsWholeItem (expression_statement e) ≡ m AsValue e
+  pub sum_statement : (e : Tree) → m AsWholeItem (expression_statement e) ≡ m AsValue e
   sum_statement e = omega (arith, l OfExpression AsWholeItem (e ▸ none) tt)
 
 -- two expressions, and one of the parts of both
@@ -98,7 +98,7 @@ pub record Joins (e d j : Tree) : Type 1 where
   pub back : (Q : Asked → Tree → Type 0) → Local Any Q → Q AsValue j → Q AsValue e × Q AsValue d
   pub sum : (m : Asked → Tree → ℕ) → Summed m → m AsValue j ≤ m AsValue e + m AsValue d
 
-parts_join : (p : Tree) (ps : Trees) (q : Tree) (qs : Trees) → Joins (of_parts p ps) (of_parts q qs) (of_parts p (append ps (q ▸ qs)))
+pub parts_join : (p : Tree) (ps : Trees) (q : Tree) (qs : Trees) → Joins (of_parts p ps) (of_parts q qs) (of_parts p (append ps (q ▸ qs)))
 parts_join p ps q qs = record {
   all = λ J Q l a b. it_of_parts J Q l p (append ps (q ▸ qs)) (both_all J Q AsValue (p ▸ ps) (q ▸ qs) (parts_of_it J Q l p ps a) (parts_of_it J Q l q qs b));
   back = λ Q l a. (
@@ -117,23 +117,23 @@ absent_joins e = record {
 
 -- ---- the statements: what stands there beside the expression
 
-data Seat : Type 0 where
+pub data Seat : Type 0 where
   Loop : Tree → Tree → Tree → Seat
   Choice : Tree → Seat
 
-abbrev seated : Seat → Tree → Tree
+abbrev pub seated : Seat → Tree → Tree
 seated (Loop u v w) e = for_loop e u v w
 seated (Choice cases) e = switch e cases
 
-abbrev rest : Seat → Trees
+abbrev pub rest : Seat → Trees
 rest (Loop u v w) = u ▸ (v ▸ (w ▸ none))
 rest (Choice cases) = cases ▸ none
 
-quiet_value : (t : Tree) → is_value (shape_of t) ≡ true → is_quiet (shape_of t) ≡ true
+pub quiet_value : (t : Tree) → is_value (shape_of t) ≡ true → is_quiet (shape_of t) ≡ true
 quiet_value t e = left (is_quiet (shape_of t)) (is_no_inner (shape_of t)) e
 
 module _ (b : Bool) where
-  or_both : (x y : Bool) → ((x || y) || b) ≡ b → ((x || b) ≡ b) × ((y || b) ≡ b)
+  pub or_both : (x y : Bool) → ((x || y) || b) ≡ b → ((x || b) ≡ b) × ((y || b) ≡ b)
   or_both true y e = (e, by y)
     where
       by : (y : Bool) → (y || b) ≡ b
@@ -141,21 +141,21 @@ module _ (b : Bool) where
       by false = refl
   or_both false y e = (refl, e)
 
-  both_or : (x y : Bool) → (x || b) ≡ b → (y || b) ≡ b → ((x || y) || b) ≡ b
+  pub both_or : (x y : Bool) → (x || b) ≡ b → (y || b) ≡ b → ((x || y) || b) ≡ b
   both_or true y e f = e
   both_or false y e f = f
 
-  inner_down : (s : Seat) (e : Tree) → InnerIf b AsWholeItem (seated s e) → InnerIf b AsValue e × ((any_inner (rest s) || b) ≡ b)
+  pub inner_down : (s : Seat) (e : Tree) → InnerIf b AsWholeItem (seated s e) → InnerIf b AsValue e × ((any_inner (rest s) || b) ≡ b)
   unfolding has_inner
   inner_down (Loop u v w) e q = or_both (has_inner e) (any_inner (u ▸ (v ▸ (w ▸ none)))) q
   inner_down (Choice cases) e q = or_both (has_inner e) (any_inner (cases ▸ none)) q
 
-  inner_up : (s : Seat) (e : Tree) → InnerIf b AsValue e → (any_inner (rest s) || b) ≡ b → InnerIf b AsWholeItem (seated s e)
+  pub inner_up : (s : Seat) (e : Tree) → InnerIf b AsValue e → (any_inner (rest s) || b) ≡ b → InnerIf b AsWholeItem (seated s e)
   unfolding has_inner
   inner_up (Loop u v w) e q r = both_or (has_inner e) (any_inner (u ▸ (v ▸ (w ▸ none)))) q r
   inner_up (Choice cases) e q r = both_or (has_inner e) (any_inner (cases ▸ none)) q r
 
-both_writable : (b : Bool) → choose b Writable Writable ≡ Writable
+pub both_writable : (b : Bool) → choose b Writable Writable ≡ Writable
 both_writable true = refl
 both_writable false = refl
 
@@ -164,10 +164,10 @@ seated_fixed (Loop u v w) e x = ap (λ f. stricter f (stricter (fixed_by e x) (f
 seated_fixed (Choice cases) e x = ap (λ f. stricter f (stricter (fixed_by e x) (fixed_by_any (cases ▸ none) x))) (both_writable (is_in x (lets_first (summaries (e ▸ none)))))
 
 module _ (x : Variable) (k : ℕ) where
-  fixed_down : (s : Seat) (e : Tree) → FixedBy x k AsWholeItem (seated s e) → FixedBy x k AsValue e × (rank (fixed_by_any (rest s) x) ≤ k)
+  pub fixed_down : (s : Seat) (e : Tree) → FixedBy x k AsWholeItem (seated s e) → FixedBy x k AsValue e × (rank (fixed_by_any (rest s) x) ≤ k)
   fixed_down s e q = split_rank k (fixed_by e x) (fixed_by_any (rest s) x) (subst (λ f. rank f ≤ k) (seated_fixed s e x) q)
 
-  fixed_up : (s : Seat) (e : Tree) → FixedBy x k AsValue e → rank (fixed_by_any (rest s) x) ≤ k → FixedBy x k AsWholeItem (seated s e)
+  pub fixed_up : (s : Seat) (e : Tree) → FixedBy x k AsValue e → rank (fixed_by_any (rest s) x) ≤ k → FixedBy x k AsWholeItem (seated s e)
   fixed_up s e q r = subst (λ f. rank f ≤ k) (sym (seated_fixed s e x)) (both_rank k (fixed_by e x) (fixed_by_any (rest s) x) q r)
 
 seated_declared : (s : Seat) (e : Tree) → names_declared (seated s e) ≡ names_declared e ++ declared_all (rest s)
@@ -175,19 +175,19 @@ seated_declared (Loop u v w) e = refl
 seated_declared (Choice cases) e = refl
 
 module _ (all : List Name) where
-  declares_down : (s : Seat) (e : Tree) → Declares all AsWholeItem (seated s e) → Declares all AsValue e × Among all (declared_all (rest s))
+  pub declares_down : (s : Seat) (e : Tree) → Declares all AsWholeItem (seated s e) → Declares all AsValue e × Among all (declared_all (rest s))
   declares_down s e q =
       let k = subst (Among all) (seated_declared s e) q in
       (λ x c. k x (Contains-append_left (names_declared e) (declared_all (rest s)) x c), λ x c. k x (Contains-append_right (names_declared e) (declared_all (rest s)) x c))
 
-  declares_up : (s : Seat) (e : Tree) → Declares all AsValue e → Among all (declared_all (rest s)) → Declares all AsWholeItem (seated s e)
+  pub declares_up : (s : Seat) (e : Tree) → Declares all AsValue e → Among all (declared_all (rest s)) → Declares all AsWholeItem (seated s e)
   declares_up s e q r = subst (Among all) (sym (seated_declared s e)) (λ x c. by x (Contains-append_cases (names_declared e) (declared_all (rest s)) x c))
     where
       by : (x : Name) → Contains (names_declared e) x ⊎ Contains (declared_all (rest s)) x → Contains all x
       by x (inl d) = q x d
       by x (inr d) = r x d
 
-frames_beside : Seat → List Frame
+pub frames_beside : Seat → List Frame
 frames_beside (Loop u v w) = frames_from (property_below shape.ForStatement) 1 (u ▸ (v ▸ (w ▸ none)))
 frames_beside (Choice cases) = frames_from (property_below shape.SwitchStatement) 1 (cases ▸ none)
 
@@ -197,39 +197,39 @@ seated_frames (Loop u v w) e = refl
 seated_frames (Choice cases) e = refl
 
 module _ (all : List Frame) where
-  frames_down : (s : Seat) (e : Tree) → HasFrames all AsWholeItem (seated s e) → HasFrames all AsValue e × FramesKept all (frames_beside s)
+  pub frames_down : (s : Seat) (e : Tree) → HasFrames all AsWholeItem (seated s e) → HasFrames all AsValue e × FramesKept all (frames_beside s)
   frames_down s e q =
       let k = subst (FramesKept all) (seated_frames s e) q in
       (λ f x. k f (Contains-append_left (frames None e) (frames_beside s) f x), λ f x. k f (Contains-append_right (frames None e) (frames_beside s) f x))
 
-  frames_up : (s : Seat) (e : Tree) → HasFrames all AsValue e → FramesKept all (frames_beside s) → HasFrames all AsWholeItem (seated s e)
+  pub frames_up : (s : Seat) (e : Tree) → HasFrames all AsValue e → FramesKept all (frames_beside s) → HasFrames all AsWholeItem (seated s e)
   frames_up s e q r = subst (FramesKept all) (sym (seated_frames s e)) (both_frames all (frames None e) (frames_beside s) q r)
 
 seated_bodies : (r : Around) (s : Seat) (e : Tree) → bodies (quiet r) (seated s e) ≡ bodies (quiet r) e ++ bodies_from (λ j. quiet r) 1 (rest s)
 seated_bodies r (Loop u v w) e = refl
 seated_bodies r (Choice cases) e = refl
 
-split_bodies : (bs cs ds : List Body) → BodiesKept bs (cs ++ ds) → BodiesKept bs cs × BodiesKept bs ds
+pub split_bodies : (bs cs ds : List Body) → BodiesKept bs (cs ++ ds) → BodiesKept bs cs × BodiesKept bs ds
 split_bodies bs [] ds k = (tt, k)
 split_bodies bs (c ∷ cs) ds k =
     let (x, y) = split_bodies bs cs ds k.1 in
     ((k.0, x), y)
 
 module _ (all : List Body) (r : Around) where
-  bodies_down : (s : Seat) (e : Tree) → HasBodies all r AsWholeItem (seated s e) → HasBodies all r AsValue e × BodiesKept all (bodies_from (λ j. quiet r) 1 (rest s))
+  pub bodies_down : (s : Seat) (e : Tree) → HasBodies all r AsWholeItem (seated s e) → HasBodies all r AsValue e × BodiesKept all (bodies_from (λ j. quiet r) 1 (rest s))
   bodies_down s e q = split_bodies all (bodies (quiet r) e) (bodies_from (λ j. quiet r) 1 (rest s)) (subst (BodiesKept all) (seated_bodies r s e) q)
 
-  bodies_up : (s : Seat) (e : Tree) → HasBodies all r AsValue e → BodiesKept all (bodies_from (λ j. quiet r) 1 (rest s)) → HasBodies all r AsWholeItem (seated s e)
+  pub bodies_up : (s : Seat) (e : Tree) → HasBodies all r AsValue e → BodiesKept all (bodies_from (λ j. quiet r) 1 (rest s)) → HasBodies all r AsWholeItem (seated s e)
   bodies_up s e q k = subst (BodiesKept all) (sym (seated_bodies r s e)) (both_bodies all (bodies (quiet r) e) (bodies_from (λ j. quiet r) 1 (rest s)) q k)
 
-numbers_beside : (s : Seat) (e : Tree) → numbers (seated s e) ≡ numbers e ++ all_numbers (rest s)
+pub numbers_beside : (s : Seat) (e : Tree) → numbers (seated s e) ≡ numbers e ++ all_numbers (rest s)
 unfolding numbers
 numbers_beside (Loop u v w) e = refl
 numbers_beside (Choice cases) e = refl
 
 -- ---- jumps
 
-jumps_beside : Targets → Seat → List Path
+pub jumps_beside : Targets → Seat → List Path
 jumps_beside g (Loop u v w) = all_early_jumps (targets_of shape.ForStatement none g) [] 1 (u ▸ (v ▸ (w ▸ none)))
 jumps_beside g (Choice cases) = all_early_jumps (targets_of shape.SwitchStatement none g) [] 1 (cases ▸ none)
 
@@ -239,43 +239,51 @@ seated_jumps g (Loop u v w) e = refl
 seated_jumps g (Choice cases) e = refl
 
 module _ (g : Targets) where
-  aimed_down : (s : Seat) (e : Tree) → Aimed g AsWholeItem (seated s e) → Aimed g AsValue e × (jumps_beside g s ≡ [])
+  pub aimed_down : (s : Seat) (e : Tree) → Aimed g AsWholeItem (seated s e) → Aimed g AsValue e × (jumps_beside g s ≡ [])
   aimed_down s e q =
       let (x, y) = empty_both (early_jumps g (0 ∷ []) e) (jumps_beside g s) (sym (seated_jumps g s e) ∙ q) in
       (targets_anywhere g (0 ∷ []) [] e x, y)
 
-  aimed_up : (s : Seat) (e : Tree) → Aimed g AsValue e → jumps_beside g s ≡ [] → Aimed g AsWholeItem (seated s e)
+  pub aimed_up : (s : Seat) (e : Tree) → Aimed g AsValue e → jumps_beside g s ≡ [] → Aimed g AsWholeItem (seated s e)
   aimed_up s e q r = seated_jumps g s e ∙ both_empty (early_jumps g (0 ∷ []) e) (jumps_beside g s) (targets_anywhere g [] (0 ∷ []) e q) r
 
 -- ---- names that are declared twice: the loop's body may declare none of the names that its head does
 
-declared_beside : Seat → List Declaration
+pub declared_beside : Seat → List Declaration
 declared_beside (Loop u v w) = declarations declared.Hoisted false (3 ∷ []) w
 declared_beside (Choice cases) = body_declarations false (1 ∷ []) cases
 
-names_beside : Seat → List Path
+pub names_beside : Seat → List Path
 names_beside s = all_early_names [] 1 (rest s)
 
-seated_once : (s : Seat) (e : Tree) → is_value (shape_of e) ≡ true → early_names [] (seated s e) ≡ clashing [] (declared_beside s) ++ (early_names (0 ∷ []) e ++ names_beside s)
+-- what declares no lexical name, as an expression
+pub record Unlexical (t : Tree) : Type 0 where
+  pub names : lexical_names t ≡ []
+  pub nowhere : (p : Path) → declarations declared.Lexical true p t ≡ []
+
+pub value_unlexical : (t : Tree) → is_value (shape_of t) ≡ true → Unlexical t
+value_unlexical t k = record { names = no_names declared.Lexical t (quiet_value t k); nowhere = λ p. no_declarations declared.Lexical true p t (quiet_value t k) }
+
+seated_once : (s : Seat) (e : Tree) → Unlexical e → early_names [] (seated s e) ≡ clashing [] (declared_beside s) ++ (early_names (0 ∷ []) e ++ names_beside s)
 unfolding declared_beside names_beside early_names scope_declarations
-seated_once (Loop u v w) e k = ap (λ ds. clashing [] (ds ++ declarations declared.Hoisted false (3 ∷ []) w) ++ (early_names (0 ∷ []) e ++ all_early_names [] 1 (u ▸ (v ▸ (w ▸ none))))) (no_declarations declared.Lexical true (0 ∷ []) e (quiet_value e k))
+seated_once (Loop u v w) e k = ap (λ ds. clashing [] (ds ++ declarations declared.Hoisted false (3 ∷ []) w) ++ (early_names (0 ∷ []) e ++ all_early_names [] 1 (u ▸ (v ▸ (w ▸ none))))) (k.nowhere (0 ∷ []))
 seated_once (Choice cases) e k = refl
 
-once_down : (s : Seat) (e : Tree) → is_value (shape_of e) ≡ true → Once AsWholeItem (seated s e) → Once AsValue e × ((clashing [] (declared_beside s) ≡ []) × (names_beside s ≡ []))
+pub once_down : (s : Seat) (e : Tree) → Unlexical e → Once AsWholeItem (seated s e) → Once AsValue e × ((clashing [] (declared_beside s) ≡ []) × (names_beside s ≡ []))
 once_down s e k q =
     let (x, y) = empty_both (clashing [] (declared_beside s)) (early_names (0 ∷ []) e ++ names_beside s) (sym (seated_once s e k) ∙ q) in
     let (z, w) = empty_both (early_names (0 ∷ []) e) (names_beside s) y in
     (once_anywhere (0 ∷ []) [] e z, (x, w))
 
-once_up : (s : Seat) (e : Tree) → is_value (shape_of e) ≡ true → Once AsValue e → (clashing [] (declared_beside s) ≡ []) × (names_beside s ≡ []) → Once AsWholeItem (seated s e)
+pub once_up : (s : Seat) (e : Tree) → Unlexical e → Once AsValue e → (clashing [] (declared_beside s) ≡ []) × (names_beside s ≡ []) → Once AsWholeItem (seated s e)
 once_up s e k q r =
     seated_once s e k ∙ both_empty (clashing [] (declared_beside s)) (early_names (0 ∷ []) e ++ names_beside s) r.0 (both_empty (early_names (0 ∷ []) e) (names_beside s) (once_anywhere [] (0 ∷ []) e q) r.1)
 
 -- ---- scopes
 
-no_scope : (e : Tree) → is_value (shape_of e) ≡ true → lexical_scope (lexical_names e) ≡ []
+no_scope : (e : Tree) → Unlexical e → lexical_scope (lexical_names e) ≡ []
 unfolding with_names
-no_scope e k = ap lexical_scope (no_names declared.Lexical e (quiet_value e k))
+no_scope e k = ap lexical_scope k.names
 
 abbrev scope_of : Seat → List (List Binding)
 scope_of (Loop u v w) = [] ∷ []
@@ -285,32 +293,32 @@ abbrev shape_at : Seat → Shape
 shape_at (Loop u v w) = shape.ForStatement
 shape_at (Choice cases) = shape.SwitchStatement
 
-ScopedBeside : Seat → Environment → Type 0
+pub ScopedBeside : Seat → Environment → Type 0
 ScopedBeside s env = AllScoped (at_or_empty (scope_of s)) (use_of (shape_at s) Read) 1 (env ++ []) (rest s)
 
-scoped_down : (env : Environment) (s : Seat) (e : Tree) → is_value (shape_of e) ≡ true → Scoped Read env (seated s e) → Scoped Read env e × ScopedBeside s env
+pub scoped_down : (env : Environment) (s : Seat) (e : Tree) → Unlexical e → Scoped Read env (seated s e) → Scoped Read env e × ScopedBeside s env
 unfolding Scoped scopes_by ScopedBeside
 scoped_down env (Loop u v w) e k q =
     let a = subst (λ bs. AllScoped (at_or_empty (bs ∷ [])) (use_of shape.ForStatement Read) 0 env (e ▸ (u ▸ (v ▸ (w ▸ none))))) (no_scope e k) q.1 in
     (subst (λ r. Scoped Read r e) (append-nil env) a.0, a.1)
 scoped_down env (Choice cases) e k q = (subst (λ r. Scoped Read r e) (append-nil env) q.1.0, q.1.1)
 
-scoped_up : (env : Environment) (s : Seat) (e : Tree) → is_value (shape_of e) ≡ true → Scoped Read env e → ScopedBeside s env → Scoped Read env (seated s e)
+pub scoped_up : (env : Environment) (s : Seat) (e : Tree) → Unlexical e → Scoped Read env e → ScopedBeside s env → Scoped Read env (seated s e)
 unfolding Scoped scopes_by ScopedBeside
 scoped_up env (Loop u v w) e k q r = (tt, subst (λ bs. AllScoped (at_or_empty (bs ∷ [])) (use_of shape.ForStatement Read) 0 env (e ▸ (u ▸ (v ▸ (w ▸ none))))) (sym (no_scope e k)) (subst (λ r. Scoped Read r e) (sym (append-nil env)) q, r))
 scoped_up env (Choice cases) e k q r = (tt, (subst (λ r. Scoped Read r e) (sym (append-nil env)) q, r))
 
-symbols_beside : Use → Seat → List (Option SymbolId)
+pub symbols_beside : Use → Seat → List (Option SymbolId)
 symbols_beside u s = declared_from (at_or_empty (scope_of s)) (use_of (shape_at s) u) 1 (rest s)
 
-seated_symbols : (u : Use) (s : Seat) (e : Tree) → is_value (shape_of e) ≡ true → declared_in u (seated s e) ≡ declared_in Read e ++ symbols_beside u s
+pub seated_symbols : (u : Use) (s : Seat) (e : Tree) → Unlexical e → declared_in u (seated s e) ≡ declared_in Read e ++ symbols_beside u s
 unfolding declared_in scopes_by symbols_beside
 seated_symbols x (Loop u v w) e k = ap (λ bs. declared_from (at_or_empty (bs ∷ [])) (use_of shape.ForStatement x) 0 (e ▸ (u ▸ (v ▸ (w ▸ none))))) (no_scope e k)
 seated_symbols x (Choice cases) e k = refl
 
 -- ---- names
 
-hoisted_beside : Seat → List Name
+unfoldable pub hoisted_beside : Seat → List Name
 hoisted_beside s = all_names declared.Hoisted (rest s)
 
 seated_hoists : (s : Seat) (e : Tree) → is_value (shape_of e) ≡ true → names_of declared.Hoisted (seated s e) ≡ hoisted_beside s
@@ -327,37 +335,37 @@ seated_names declared.Lexical (Loop u v w) e j k = refl
 seated_names declared.Lexical (Choice cases) e j k = refl
 seated_names declared.Hoisted s e j k = k
 
-seated_body : (s : Seat) (e : Tree) → body_names (seated s e) ≡ names_of declared.Hoisted (seated s e)
+pub seated_body : (s : Seat) (e : Tree) → body_names (seated s e) ≡ names_of declared.Hoisted (seated s e)
 unfolding body_names names_of
 seated_body (Loop u v w) e = refl
 seated_body (Choice cases) e = refl
 
-seated_as_body : (o : Bool) (s : Seat) (e : Tree) → as_body o (seated s e) ≡ own_declarations false [] (names_of declared.Hoisted (seated s e))
+pub seated_as_body : (o : Bool) (s : Seat) (e : Tree) → as_body o (seated s e) ≡ own_declarations false [] (names_of declared.Hoisted (seated s e))
 unfolding names_of
 seated_as_body o (Loop u v w) e = refl
 seated_as_body o (Choice cases) e = refl
 
-seated_port : (m : Bool) (s : Seat) (e : Tree) → port m (seated s e) ≡ []
+pub seated_port : (m : Bool) (s : Seat) (e : Tree) → port m (seated s e) ≡ []
 seated_port m (Loop u v w) e = refl
 seated_port m (Choice cases) e = refl
 
-seated_calm : (s : Seat) (e : Tree) → Valued AsWholeItem (seated s e)
+pub seated_calm : (s : Seat) (e : Tree) → Valued AsWholeItem (seated s e)
 seated_calm (Loop u v w) e = (refl, refl)
 seated_calm (Choice cases) e = (refl, refl)
 
 -- ---- the expression before, and the statement
 
-statement_names : (d : Declared) (e : Tree) → names_of d (expression_statement e) ≡ []
+pub statement_names : (d : Declared) (e : Tree) → names_of d (expression_statement e) ≡ []
 unfolding names_of
 statement_names declared.Bound e = refl
 statement_names declared.Lexical e = refl
 statement_names declared.Hoisted e = refl
 
-statement_body : (e : Tree) → body_names (expression_statement e) ≡ []
+pub statement_body : (e : Tree) → body_names (expression_statement e) ≡ []
 unfolding body_names names_of
 statement_body e = refl
 
-statement_as_body : (o : Bool) (e : Tree) → as_body o (expression_statement e) ≡ []
+pub statement_as_body : (o : Bool) (e : Tree) → as_body o (expression_statement e) ≡ []
 unfolding names_of
 statement_as_body o e = refl
 
@@ -396,8 +404,8 @@ module _ (s : Seat) (e d j : Tree) (joins : Joins e d j) where
     symbols_one : (u : Use) (x : Option SymbolId) → sum_all (symbol_times u x) AsWholeItem one_there ≤ sum_all (symbol_times u x) AsWholeItem two
     symbols_one u x =
         let beside = symbols_beside u s in
-        let of_joined = ap (times x) (seated_symbols u s j of_j) in
-        let of_first = ap (times x) (seated_symbols u s d of_d) in
+        let of_joined = ap (times x) (seated_symbols u s j (value_unlexical j of_j)) in
+        let of_first = ap (times x) (seated_symbols u s d (value_unlexical d of_d)) in
         omega (
           arith,
           of_joined,
@@ -414,9 +422,9 @@ module _ (s : Seat) (e d j : Tree) (joins : Joins e d j) where
       body = ap (λ r. r ++ []) body_same ∙ sym (ap (λ r. r ++ (body_names (seated s d) ++ [])) (statement_body e));
       as_body = λ o. ap (λ r. r ++ []) (as_body_same o) ∙ sym (ap (λ r. r ++ (as_body o (seated s d) ++ [])) (statement_as_body o e));
       ports = λ m. ap (λ r. r ++ []) (seated_port m s j ∙ sym (seated_port m s d));
-      scoped = λ env. one_of Any (ScopedAs Read env) (scoped_local Read env) (ScopedBeside s env) (scoped_down env s d of_d) (scoped_up env s j of_j);
+      scoped = λ env. one_of Any (ScopedAs Read env) (scoped_local Read env) (ScopedBeside s env) (scoped_down env s d (value_unlexical d of_d)) (scoped_up env s j (value_unlexical j of_j));
       symbols = symbols_one;
-      once = one_of Any Once once_local ((clashing [] (declared_beside s) ≡ []) × (names_beside s ≡ [])) (once_down s d of_d) (once_up s j of_j);
+      once = one_of Any Once once_local ((clashing [] (declared_beside s) ≡ []) × (names_beside s ≡ [])) (once_down s d (value_unlexical d of_d)) (once_up s j (value_unlexical j of_j));
     }
 
   module _ (values : (strict : Bool) (k : Depth) → fill strict (each (one (a_statement k))) two ≡ true → (is_value (shape_of d) ≡ true) × (is_value (shape_of j) ≡ true)) where
@@ -442,7 +450,7 @@ module _ (s : Seat) (e d j : Tree) (joins : Joins e d j) where
 
 -- ---- they are expressions
 
-expression_value : (strict : Bool) (k : Depth) (e : Tree) → fits strict (one (a_statement k)) (expression_statement e) ≡ true → is_value (shape_of e) ≡ true
+pub expression_value : (strict : Bool) (k : Depth) (e : Tree) → fits strict (one (a_statement k)) (expression_statement e) ≡ true → is_value (shape_of e) ≡ true
 expression_value strict k e f = (sketch_valued (record { trees = e ▸ none; lists = [] }) strict AsWholeItem (one (a_statement k)) (under OfExpression (part 0 ▹ end)) refl f).0
 
 is_refused : Filling → Bool
@@ -483,14 +491,14 @@ parts_value : (strict : Bool) (q : Tree) (qs : Trees) → are_parts q qs ≡ tru
 parts_value strict q none k f = init_value strict q (right (is_one_part_shape (shape_of q)) (declares_nothing q) k) f
 parts_value strict q (t ▸ qs) k f = refl
 
-both_value : (p : Tree) (ps : Trees) (q : Tree) (qs : Trees) → is_value (shape_of (of_parts p (append ps (q ▸ qs)))) ≡ true
+pub both_value : (p : Tree) (ps : Trees) (q : Tree) (qs : Trees) → is_value (shape_of (of_parts p (append ps (q ▸ qs)))) ≡ true
 both_value p none q qs = refl
 both_value p (t ▸ ps) q qs = refl
 
-first_of : (strict : Bool) (k : Depth) (t : Tree) (ts : Trees) → fill strict (each (one (a_statement k))) (t ▸ ts) ≡ true → fits strict (one (a_statement k)) t ≡ true
+pub first_of : (strict : Bool) (k : Depth) (t : Tree) (ts : Trees) → fill strict (each (one (a_statement k))) (t ▸ ts) ≡ true → fits strict (one (a_statement k)) t ≡ true
 first_of strict k t ts f = left (fits strict (one (a_statement k)) t) (fill strict (each (one (a_statement k))) ts) f
 
-second_of : (strict : Bool) (k : Depth) (t u : Tree) (ts : Trees) → fill strict (each (one (a_statement k))) (t ▸ (u ▸ ts)) ≡ true → fits strict (one (a_statement k)) u ≡ true
+pub second_of : (strict : Bool) (k : Depth) (t u : Tree) (ts : Trees) → fill strict (each (one (a_statement k))) (t ▸ (u ▸ ts)) ≡ true → fits strict (one (a_statement k)) u ≡ true
 second_of strict k t u ts f = first_of strict k u ts (right (fits strict (one (a_statement k)) t) (fill strict (each (one (a_statement k))) (u ▸ ts)) f)
 
 choice_value : (strict : Bool) (k : Depth) (e cases : Tree) → fits strict (one (a_statement k)) (switch e cases) ≡ true → is_value (shape_of e) ≡ true

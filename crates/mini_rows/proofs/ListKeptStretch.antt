@@ -28,6 +28,7 @@ use Rattle.mini_kept.specs.Frames.{Frame, frames, ports as ports_of}
 use Rattle.mini_kept.specs.KeepsNames.{is_read, Keeps}
 use Rattle.mini_kept.proofs.Anywhere.{once_anywhere, targets_anywhere}
 use Rattle.mini_kept.proofs.BodyLists.{kept_itself}
+use Rattle.mini_kept.proofs.InOrder.{in_order}
 use Rattle.mini_kept.proofs.Placed.{statements_slot}
 use Rattle.mini_kept.proofs.Unplaced.{as_body, body_same}
 use Rattle.mini_rows.specs.Sketches.{AList, part, Asked, AsWholeList, AsWholeItem, Leap}
@@ -244,7 +245,7 @@ module _ (before after a b : Trees) (k : Stretched a b) where
 
   pub stretch_kept : KeptAt StatementList n w
   stretch_kept = record {
-    keeps = λ strict s o f. let (d, e, g) = statements_slot strict s [] 0 (append before (append a after)) o f in whole_keeps (k.named strict d (read_fits strict d g));
+    keeps = λ strict s o f. let (d, e, g) = statements_slot strict s [] 0 (append before (append a after)) o f in in_order StatementList n w (whole_keeps (k.named strict d (read_fits strict d g)));
     piece = refl;
     kind = λ strict s f. refl;
     bodies = λ strict s o f r st. let (d, e, g) = statements_slot strict s [] 0 (append before (append a after)) o f in whole_bodies r strict d g;

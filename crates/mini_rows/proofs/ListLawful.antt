@@ -1,6 +1,5 @@
 -- What the rows of lists write is lawful.
-use Rattle.std.proofs.Common.{◌≡◌, Bool, true, false, List, [], refl, sym, subst, ap, inl, inr}
-use Rattle.std.specs.Prelude.{◌⊎◌}
+use Rattle.std.proofs.Common.{◌≡◌, Bool, true, [], refl, sym, subst, ap, inl, inr}
 use Rattle.mini_model.specs.declared.place.Position.{Position}
 use Rattle.mini_model.specs.declared.place.Position.TheVariants.{StatementList}
 use Rattle.mini_model.specs.Tree.{Tree, Trees, listed}
@@ -14,18 +13,20 @@ use Rattle.mini_kept.specs.Placed.{fits_place}
 use Rattle.mini_kept.proofs.Placed.{listed_body_slot}
 use Rattle.mini_rows.specs.Switches.{Switches}
 use Rattle.mini_rows.specs.Arranged.{KeptAt}
-use Rattle.mini_rows.specs.Lists.{Head, Return, Throw, If, Switch, For, Row67, SequencesRow, StretchRow, InList, ListRow, ListContracts}
+use Rattle.mini_rows.specs.Lists.{Head, Return, Throw, If, Switch, For, Row67, SequencesRow, LoopRow, JoinRow, StretchRow, InList, ListRow, ListContracts, NeighbourRow}
 use Rattle.mini_rows.specs.ListLaws.{opens_scope, PlainRow}
 use Rattle.mini_rows.proofs.ArrangedLawful.{kept_is_lawful}
-use Rattle.mini_rows.proofs.ListKept.{plain_lists_kept}
+use Rattle.mini_rows.proofs.ListKept.{plain_lists_kept, guards_kept}
 use Rattle.mini_rows.proofs.ListKeptDeclarations.{declarations_kept}
 use Rattle.mini_rows.proofs.ListKeptHeads.{absent_for_kept, for_kept, switch_kept}
+use Rattle.mini_rows.proofs.ListKeptVars.{free_kept, init_kept}
+use Rattle.mini_rows.proofs.ListKeptKeys.{keys_kept}
 use Rattle.mini_rows.proofs.ListMeanings.{lists_mean_same}
 use Rattle.mini_rows.proofs.ListShapes.{list_fits}
 
 -- ---- whichever row it is
 
-module _ (o : Switches) (n w : Tree) (r : InList (StretchRow o) n w) where
+module _ (o : Switches) (n w : Tree) (r : InList (NeighbourRow o) n w) where
   plainly : PlainRow r.read r.put → KeptAt StatementList n w
   plainly m = plain_lists_kept n w (record { before = r.before; read = r.read; put = r.put; after = r.after; row = m; shape = r.shape; written = r.written })
 
@@ -45,24 +46,37 @@ module _ (o : Switches) (n w : Tree) (r : InList (StretchRow o) n w) where
   sequences_kept (inr (inr (inr (inr (inr (inl m)))))) = absent_for_kept r.before r.after n w r.read r.put m r.shape r.written
   sequences_kept (inr (inr (inr (inr (inr (inr m)))))) = plainly (inl (inr (inr (inr (inr (inr (inr m)))))))
 
+  loops_kept : LoopRow r.read r.put → KeptAt StatementList n w
+  loops_kept (inl m) = keys_kept r.before r.after n w r.read r.put m r.shape r.written
+  loops_kept (inr (inl m)) = free_kept r.before r.after n w r.read r.put m r.shape r.written
+  loops_kept (inr (inr m)) = init_kept r.before r.after n w r.read r.put m r.shape r.written
+
+  joins_kept : JoinRow o r.read r.put → KeptAt StatementList n w
+  joins_kept (inl m) = declarations_kept r.before r.after n w r.read r.put m.1 r.shape r.written
+  joins_kept (inr m) = loops_kept m.1
+
   row_kept : StretchRow o r.read r.put → KeptAt StatementList n w
   row_kept (inl m) = plainly (inl (inl m))
   row_kept (inr (inl m)) = plainly (inl (inr (inr (inl m))))
-  row_kept (inr (inr (inl m))) = declarations_kept r.before r.after n w r.read r.put m.1 r.shape r.written
+  row_kept (inr (inr (inl m))) = joins_kept m
   row_kept (inr (inr (inr m))) = sequences_kept m.1
 
+  neighbours_kept : NeighbourRow o r.read r.put → KeptAt StatementList n w
+  neighbours_kept (inl m) = row_kept m
+  neighbours_kept (inr m) = guards_kept n w (record { before = r.before; read = r.read; put = r.put; after = r.after; row = m.1; shape = r.shape; written = r.written })
+
   list_kept : KeptAt StatementList n w
-  list_kept = row_kept r.row
+  list_kept = neighbours_kept r.row
 
 -- ---- what a parent asks of a list, and where lists stand
 
-asked_of_lists : (ts us : Trees) → AskedAlike StatementList (listed ts) (listed us)
+pub asked_of_lists : (ts us : Trees) → AskedAlike StatementList (listed ts) (listed us)
 asked_of_lists ts us = record { absent = λ e. absurd (cc e); body = λ e. absurd (cc e); optional = λ e. absurd (cc e); number = λ e k. refl; spelled = λ s e. absurd (cc e); plain = refl }
 
-list_asked : (o : Switches) (n w : Tree) → InList (StretchRow o) n w → AskedAlike StatementList n w
+list_asked : (o : Switches) (n w : Tree) → InList (NeighbourRow o) n w → AskedAlike StatementList n w
 list_asked o n w r = subst (λ t. AskedAlike StatementList t w) (sym r.shape) (subst (AskedAlike StatementList (listed (append r.before (append r.read r.after)))) (sym r.written) (asked_of_lists (append r.before (append r.read r.after)) (append r.before (append r.put r.after))))
 
-list_slot : (o : Switches) (n w : Tree) → InList (StretchRow o) n w → (strict : Bool) (s : Slot) → fits_place StatementList s ≡ true → fits strict s n ≡ true → is_body_slot StatementList s ≡ true
+list_slot : (o : Switches) (n w : Tree) → InList (NeighbourRow o) n w → (strict : Bool) (s : Slot) → fits_place StatementList s ≡ true → fits strict s n ≡ true → is_body_slot StatementList s ≡ true
 list_slot o n w r strict s k e = listed_body_slot strict s [] 0 (append r.before (append r.read r.after)) k (subst (λ t. fits strict s t ≡ true) r.shape e)
 
 module _ (o : Switches) where

@@ -1,27 +1,30 @@
 -- What the rows of lists write means the same.
 use Rattle.std.proofs.Common.{◌≡◌, true, [], None, refl, sym, ap, ◌∙◌, inl, inr}
+use Rattle.mini_model.specs.declared.kind.VariableDeclarationKind.TheVariants.{Var}
+use Rattle.mini_model.specs.declared.operator.LogicalOperator.TheVariants.{Or}
 use Rattle.mini_model.specs.declared.place.Position.{Position}
 use Rattle.mini_model.specs.declared.place.Position.TheVariants.{StatementList}
 use Rattle.std.proofs.lemmas.Bool.{and_parts}
-use Rattle.mini_model.specs.Tree.{shape_of, Tree, Trees, none, ◌▸◌, absent, empty_statement, expression_statement, if_else, if_alone, conditional}
+use Rattle.mini_model.specs.Tree.{shape_of, Tree, Trees, none, ◌▸◌, absent, empty_statement, expression_statement, if_else, if_alone, conditional, logical}
 use Rattle.mini_model.specs.Paths.{append}
 use Rattle.mini_laws.specs.Value.{Value, truth, choose}
 use Rattle.mini_laws.specs.State.{State, Stop, Thrown, Returned, Completion, ok, stop, either, Environment}
 use Rattle.mini_laws.specs.Demand.{Want, Val, Test, Unused, Says, Demand, As, Stat, Request}
 use Rattle.mini_laws.specs.Naming.{summary}
 use Rattle.mini_laws.specs.Fits.{Fits}
-use Rattle.mini_laws.specs.Step.{means}
+use Rattle.mini_laws.specs.Step.{step, means, meaning}
 use Rattle.mini_laws.specs.Truth.{told}
-use Rattle.mini_laws.proofs.Runs.{either_cong, either_assoc, either_ok, either_stop, each_bool}
+use Rattle.mini_laws.proofs.Runs.{either_cong, either_assoc, either_eta, either_ok, either_stop, each_bool}
 use Rattle.mini_laws.proofs.Truth.{coherent}
 use Rattle.mini_laws.proofs.Rows.{Equal, equal_same}
 use Rattle.mini_rows.specs.Switches.{Switches}
-use Rattle.mini_rows.specs.Lists.{declares_nothing, is_one_part_shape, are_parts, of_parts, block, return_statement, throw_statement, switch, for_loop, declaration, or_void, Head, Return, Throw, If, Switch, For, with_head, Row66Empty, Row66Joined, Row67, Row67Absent, Row68, Row73, Row73Bare, Row76, Row79, SequencesRow, StretchRow, InList, ListRow}
+use Rattle.mini_rows.specs.Lists.{declares_nothing, is_one_part_shape, are_parts, of_parts, block, return_statement, throw_statement, switch, for_loop, for_in, declaration, or_void, Head, Return, Throw, If, Switch, For, with_head, Row66Empty, Row66Joined, Row67, Row67Absent, Row67In, Row68, Row68Free, Row68Init, Row73, Row73Bare, Row76, Row79, SequencesRow, LoopRow, JoinRow, StretchRow, InList, ListRow, Row74, NeighbourRow}
 use Rattle.mini_rows.specs.ListLaws.{ListsMeanSame}
 use Rattle.mini_rows.proofs.ListStretches.{ReadSame, SameStretch, exec_one, exec_two, listed_is, in_list, list_does, list_reads, replaced}
 use Rattle.mini_rows.proofs.ListParts.{joined_is}
 use Rattle.mini_rows.proofs.ListStatements.{expression_is, if_is, absent_is, empty_is, return_is, throw_is, conditional_is, or_void_is, declarations_join, declarations_read, one_unscoped, read_nothing, block_is}
 use Rattle.mini_rows.proofs.ListHeads.{Nothing, nothing_by, switch_rest, switch_plain, for_rest, for_is, for_absent_is}
+use Rattle.mini_rows.proofs.ListLoops.{for_var_is, in_rest, in_is, left_lets}
 use Rattle.mini_rows.proofs.ListEnds.{never_goes, ended_tree}
 
 -- `;`
@@ -168,6 +171,35 @@ row_68 a b r = replaced a _ b _ r.shape r.written (record {
   read = declarations_read r.kind r.ds r.es;
 })
 
+-- `a; for (x in b) c`
+row_67_in : (a b : Trees) → Row67In a b → SameStretch a b
+row_67_in a b r =
+    let lets = left_lets r.left r.plain in
+    replaced a _ b _ r.shape r.written (into_head r.p r.ps r.q r.qs Val (λ d. for_in r.left d r.body)
+    (record { rest = λ e v z. in_rest e r.left r.body [] v z; before = λ e s. in_is e r.left r.body [] lets (of_parts r.q r.qs) s; after = λ e s. in_is e r.left r.body [] lets (of_parts r.p (append r.ps (r.q ▸ r.qs))) s })
+    (record { lets = refl; functions = refl; facts = refl; texts = refl }))
+
+-- `var a; for (; b; c) d`
+row_68_free : (a b : Trees) → Row68Free a b → SameStretch a b
+row_68_free a b r = replaced a _ b _ r.shape r.written (record {
+  by = λ e s.
+      exec_two e (declaration Var r.ds) (for_loop absent r.test r.update r.body) s
+      ∙ either_cong (means e (declaration Var r.ds) (Stat None) [] s) _ _ _ _ (λ u z. for_absent_is e r.test r.update r.body [] z) (λ x z. refl)
+      ∙ sym (exec_one e (for_loop (declaration Var r.ds) r.test r.update r.body) s ∙ for_var_is e r.test r.update r.body r.ds [] s);
+  read = record { lets = refl; functions = refl; facts = refl; texts = refl };
+})
+
+-- `var a; for (var b; c; d) e`
+row_68_init : (a b : Trees) → Row68Init a b → SameStretch a b
+row_68_init a b r = replaced a _ b _ r.shape r.written (record {
+  by = λ e s.
+      exec_two e (declaration Var r.ds) (for_loop (declaration Var r.es) r.test r.update r.body) s
+      ∙ either_cong (means e (declaration Var r.ds) (Stat None) [] s) _ _ _ _ (λ u z. for_var_is e r.test r.update r.body r.es [] z) (λ x z. sym (either_stop x z _ _))
+      ∙ sym (either_assoc (means e (declaration Var r.ds) (Stat None) [] s) _ _ _ _)
+      ∙ sym (exec_one e (for_loop (declaration Var (append r.ds r.es)) r.test r.update r.body) s ∙ for_var_is e r.test r.update r.body (append r.ds r.es) [] s ∙ ap (λ x. either x (λ u z. for_rest e r.test r.update r.body [] z) (λ x z. stop x z)) (declarations_join e Var r.ds r.es s));
+  read = record { lets = refl; functions = refl; facts = refl; texts = refl };
+})
+
 -- `if (a) s; else u`
 row_76 : (a b : Trees) → Row76 a b → SameStretch a b
 row_76 a b r =
@@ -192,15 +224,48 @@ sequences_same a b (inr (inr (inr (inr (inl r))))) = row_67 a b r
 sequences_same a b (inr (inr (inr (inr (inr (inl r)))))) = row_67_absent a b r
 sequences_same a b (inr (inr (inr (inr (inr (inr r)))))) = row_76 a b r
 
+loops_same : (a b : Trees) → LoopRow a b → SameStretch a b
+loops_same a b (inl r) = row_67_in a b r
+loops_same a b (inr (inl r)) = row_68_free a b r
+loops_same a b (inr (inr r)) = row_68_init a b r
+
+joins_same : (o : Switches) (a b : Trees) → JoinRow o a b → SameStretch a b
+joins_same o a b (inl r) = row_68 a b r.1
+joins_same o a b (inr r) = loops_same a b r.1
+
 stretch_same : (o : Switches) (a b : Trees) → StretchRow o a b → SameStretch a b
 stretch_same o a b (inl r) = row_66_empty a b r
 stretch_same o a b (inr (inl r)) = row_79 a b r
-stretch_same o a b (inr (inr (inl r))) = row_68 a b r.1
+stretch_same o a b (inr (inr (inl r))) = joins_same o a b r
 stretch_same o a b (inr (inr (inr r))) = sequences_same a b r.1
 
+-- an `if` and the next one, that has its branch
+or_test : (e : Environment) (a b : Tree) (s : State) → means e (logical Or a b) (As Test) tt s ≡ either (means e a (As Test) tt s) (λ t z. choose t (ok true z) (means e b (As Test) tt z)) (λ x z. stop x z)
+unfolding means meaning step
+or_test e a b s = either_cong (means e a (As Test) tt s) _ _ _ _ (each_bool _ (λ z. refl) (λ z. either_eta (means e b (As Test) tt z))) (λ x z. refl)
+
+row_74 : (a b : Trees) → Row74 a b → SameStretch a b
+row_74 a b r = replaced a _ b _ r.shape r.written (record {
+  by = λ e s.
+      exec_two e (if_alone r.left r.s) (if_else r.right r.s r.u) s
+      ∙ ap (λ x. either x (λ u z. means e (if_else r.right r.s r.u) (Stat None) [] z) (λ x z. stop x z)) (if_is e r.left r.s absent [] s)
+      ∙ either_assoc (means e r.left (As Test) tt s) _ _ _ _
+      ∙ either_cong (means e r.left (As Test) tt s) _ (λ t z. choose t (means e r.s (Stat None) [] z) (means e (if_else r.right r.s r.u) (Stat None) [] z)) _ (λ x z. stop x z) (each_bool _ (λ z. never_goes (means e r.s (Stat None) [] z) (ended_tree e r.s r.terminated [] z) _) (λ z. ap (λ x. either x (λ u z. means e (if_else r.right r.s r.u) (Stat None) [] z) (λ x z. stop x z)) (absent_is e [] z) ∙ either_ok tt z _ _)) (λ x z. either_stop x z _ _)
+      ∙ sym (exec_one e (if_else (logical Or r.left r.right) r.s r.u) s
+      ∙ if_is e (logical Or r.left r.right) r.s r.u [] s
+      ∙ ap (λ x. either x (λ t z. choose t (means e r.s (Stat None) [] z) (means e r.u (Stat None) [] z)) (λ x z. stop x z)) (or_test e r.left r.right s)
+      ∙ either_assoc (means e r.left (As Test) tt s) _ _ _ _
+      ∙ either_cong (means e r.left (As Test) tt s) _ (λ t z. choose t (means e r.s (Stat None) [] z) (means e (if_else r.right r.s r.u) (Stat None) [] z)) _ (λ x z. stop x z) (each_bool _ (λ z. either_ok true z _ _) (λ z. sym (if_is e r.right r.s r.u [] z))) (λ x z. either_stop x z _ _));
+  read = record { lets = refl; functions = refl; facts = refl; texts = refl };
+})
+
+neighbours_same : (o : Switches) (a b : Trees) → NeighbourRow o a b → SameStretch a b
+neighbours_same o a b (inl r) = stretch_same o a b r
+neighbours_same o a b (inr r) = row_74 a b r.1
+
 -- in a list
-list_same : (o : Switches) (n w : Tree) (r : InList (StretchRow o) n w) → SameStretch (append r.before (append r.read r.after)) (append r.before (append r.put r.after))
-list_same o n w r = in_list r.before r.read r.put r.after (stretch_same o r.read r.put r.row)
+list_same : (o : Switches) (n w : Tree) (r : InList (NeighbourRow o) n w) → SameStretch (append r.before (append r.read r.after)) (append r.before (append r.put r.after))
+list_same o n w r = in_list r.before r.read r.put r.after (neighbours_same o r.read r.put r.row)
 
 list_equal : (o : Switches) (p : Position) (n w : Tree) → ListRow o p n w → Equal p n w
 list_equal o StatementList n w r = record { by = λ e d f z s. go e d f z s }

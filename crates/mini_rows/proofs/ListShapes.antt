@@ -1,22 +1,22 @@
 -- What a row of lists writes may stand wherever what it reads may.
-use Rattle.std.proofs.Common.{◌≡◌, ℕ, zero, suc, ◌≤◌, Bool, true, false, List, [], ◌∷◌, refl, sym, ap, subst, ◌∙◌, inl, inr, true≢false, arith}
-use Rattle.std.specs.Prelude.{◌⊎◌, ◌&&◌, ◌||◌, nat_le, if◌then◌else◌}
+use Rattle.std.proofs.Common.{◌≡◌, ℕ, ◌≤◌, Bool, true, false, List, [], refl, sym, subst, ◌∙◌, inl, inr, arith}
+use Rattle.std.specs.Prelude.{◌&&◌, nat_le, if◌then◌else◌}
 use Rattle.std.proofs.lemmas.Bool.{and_parts, le-leb}
 use Rattle.mini_model.specs.declared.kind.VariableDeclarationKind.{VariableDeclarationKind}
 use Rattle.mini_model.specs.declared.kind.VariableDeclarationKind.TheVariants.{Var}
 use Rattle.mini_model.specs.declared.name.Name.{Name}
-use Rattle.mini_model.specs.declared.shape.Shape.{Shape}
+use Rattle.mini_model.specs.declared.operator.LogicalOperator.TheVariants.{Or}
 use Rattle.mini_model.specs.declared.shape.Shape.TheVariants as shape
-use Rattle.mini_model.specs.Tree.{Tree, Trees, node, none, ◌▸◌, count, absent, listed, is_absent, shape_of, empty_statement, expression_statement, if_else, if_alone, conditional}
+use Rattle.mini_model.specs.Tree.{Tree, Trees, node, none, ◌▸◌, count, absent, listed, is_absent, expression_statement, if_else, if_alone, conditional, logical}
 use Rattle.mini_model.specs.Paths.{append}
-use Rattle.mini_accept.specs.WellShaped.{Depth, in_module, in_body, nested, Class, a_statement, a_case, a_declarator, an_expression, an_init, Slot, one, one_or_absent, many, each, these, fits, fill}
+use Rattle.mini_accept.specs.WellShaped.{Depth, in_module, in_body, nested, Class, a_statement, a_case, a_loop_left, a_declarator, an_expression, an_init, Slot, one, one_or_absent, many, each, fits, fill}
 use Rattle.mini_model.specs.declared.place.Position.TheVariants.{StatementList}
 use Rattle.mini_kept.specs.Placed.{fits_place}
 use Rattle.mini_kept.proofs.Bools.{left, right, both}
-use Rattle.mini_kept.proofs.Expressions.{expression_taken}
+use Rattle.mini_kept.proofs.Expressions.{expression_taken, two_fit}
 use Rattle.mini_kept.proofs.Placed.{statements_slot}
 use Rattle.mini_rows.specs.Switches.{Switches}
-use Rattle.mini_rows.specs.Lists.{block, sequence, return_statement, throw_statement, for_loop, declaration, or_void, void_zero, of_parts, is_one_part, are_parts, is_unscoped, are_unscoped, Head as ListHead, Return, Throw, If, Switch, For, with_head, SequencesRow, StretchRow, InList}
+use Rattle.mini_rows.specs.Lists.{block, sequence, return_statement, throw_statement, for_loop, declaration, or_void, void_zero, of_parts, is_one_part, are_parts, is_unscoped, are_unscoped, Head as ListHead, Return, Throw, If, Switch, For, with_head, for_in, SequencesRow, LoopRow, JoinRow, StretchRow, InList, NeighbourRow}
 
 abbrev pub expression : Slot
 expression = one an_expression
@@ -38,13 +38,17 @@ there (node shape.Absent xs n ts) e = absurd (cc e)
 there (node h xs n ts) e = refl
 
 -- a declaration may stand at each depth
-declaration_anywhere : (strict : Bool) (d : Depth) (k : VariableDeclarationKind) (ds : Trees) → fits strict (statement d) (declaration k ds) ≡ (nat_le 1 (count ds) && (fill strict (each (one a_declarator)) ds && true))
+pub declaration_anywhere : (strict : Bool) (d : Depth) (k : VariableDeclarationKind) (ds : Trees) → fits strict (statement d) (declaration k ds) ≡ (nat_le 1 (count ds) && (fill strict (each (one a_declarator)) ds && true))
 declaration_anywhere true in_module k ds = refl
 declaration_anywhere true in_body k ds = refl
 declaration_anywhere true nested k ds = refl
 declaration_anywhere false in_module k ds = refl
 declaration_anywhere false in_body k ds = refl
 declaration_anywhere false nested k ds = refl
+
+-- and in the head of a `for`
+pub init_declares : (strict : Bool) (k : VariableDeclarationKind) (ds : Trees) → fits strict (one_or_absent an_init) (declaration k ds) ≡ (nat_le 1 (count ds) && (fill strict (each (one a_declarator)) ds && true))
+init_declares strict k ds = refl
 
 more_than_none : (ds es : Trees) → nat_le 1 (count es) ≡ true → nat_le 1 (count (append ds es)) ≡ true
 more_than_none none es e = e
@@ -254,6 +258,13 @@ module _ (strict : Bool) where
       let (a, b, c) = of_if d test s u (one_of d (if_else test s u) e) in
       more_fit (statement d) (if_alone test s) (u ▸ none) (if_fits d test s absent (a, b, refl)) (just d u (shallower d u h (present (a_statement nested) u (there u h) c)))
 
+  guards_fit : (left right s u : Tree) → Fitting (if_alone left s ▸ (if_else right s u ▸ none)) (if_else (logical Or left right) s u ▸ none)
+  guards_fit left right s u d e =
+      let (x, y) = two_of d (if_alone left s) (if_else right s u) e in
+      let (a, b, c) = of_if d left s absent x in
+      let (a', b', c') = of_if d right s u y in
+      just d (if_else (logical Or left right) s u) (if_fits d (logical Or left right) s u (two_fit strict left right a a', b', c'))
+
   -- the heads of row 67
 
   joined_head_fits : (h : ListHead) (p : Tree) (ps : Trees) (q : Tree) (qs : Trees) → are_parts q qs ≡ true → Fitting (expression_statement (of_parts p ps) ▸ (with_head h (of_parts q qs) ▸ none)) (with_head h (of_parts p (append ps (q ▸ qs))) ▸ none)
@@ -280,13 +291,40 @@ module _ (strict : Bool) where
       let (x, y) = two_of d (expression_statement (of_parts p ps)) (for_loop absent u v w) e in
       just d (for_loop (of_parts p ps) u v w) (both (fits strict (one_or_absent an_init) (of_parts p ps)) (loop_rest u v w) (expression_taken strict (one_or_absent an_init) (of_parts p ps) tt (of_expression d (of_parts p ps) x)) (and_parts (fits strict (one_or_absent an_init) absent) (loop_rest u v w) y).1)
 
+  joined_right_fits : (left body : Tree) (p : Tree) (ps : Trees) (q : Tree) (qs : Trees) → Fitting (expression_statement (of_parts p ps) ▸ (for_in left (of_parts q qs) body ▸ none)) (for_in left (of_parts p (append ps (q ▸ qs))) body ▸ none)
+  joined_right_fits left body p ps q qs d e =
+      let (x, y) = two_of d (expression_statement (of_parts p ps)) (for_in left (of_parts q qs) body) e in
+      let made = of_parts p (append ps (q ▸ qs)) in
+      let (a, b) = and_parts (fits strict (one (a_loop_left true)) left) (fits strict expression (of_parts q qs) && (fits strict (statement nested) body && true)) y in
+      let (c, f) = and_parts (fits strict expression (of_parts q qs)) (fits strict (statement nested) body && true) b in
+      just d (for_in left made body) (both (fits strict (one (a_loop_left true)) left) (fits strict expression made && (fits strict (statement nested) body && true)) a (both (fits strict expression made) (fits strict (statement nested) body && true) (joined_fits p ps q qs (of_expression d (of_parts p ps) x) c) f))
+
+  -- declarators, of which there are some
+  abbrev SomeFit : Trees → Type 0
+  SomeFit ds = (nat_le 1 (count ds) && (fill strict (each (one a_declarator)) ds && true)) ≡ true
+
+  some_fit : (ds es : Trees) → SomeFit ds → SomeFit es → SomeFit (append ds es)
+  some_fit ds es x y =
+      let (filled, some) = and_parts (nat_le 1 (count ds)) (fill strict (each (one a_declarator)) ds && true) x in
+      let (more, others) = and_parts (nat_le 1 (count es)) (fill strict (each (one a_declarator)) es && true) y in
+      let all = append_fits (one a_declarator) ds es (left (fill strict (each (one a_declarator)) ds) true some) (left (fill strict (each (one a_declarator)) es) true others) in
+      both (nat_le 1 (count (append ds es))) (fill strict (each (one a_declarator)) (append ds es) && true) (more_than_none ds es more) (both (fill strict (each (one a_declarator)) (append ds es)) true all refl)
+
+  free_init_fits : (ds : Trees) (u v w : Tree) → Fitting (declaration Var ds ▸ (for_loop absent u v w ▸ none)) (for_loop (declaration Var ds) u v w ▸ none)
+  free_init_fits ds u v w d e =
+      let (x, y) = two_of d (declaration Var ds) (for_loop absent u v w) e in
+      just d (for_loop (declaration Var ds) u v w) (both (fits strict (one_or_absent an_init) (declaration Var ds)) (loop_rest u v w) (init_declares strict Var ds ∙ sym (declaration_anywhere strict d Var ds) ∙ x) (and_parts (fits strict (one_or_absent an_init) absent) (loop_rest u v w) y).1)
+
+  joined_init_fits : (ds es : Trees) (u v w : Tree) → Fitting (declaration Var ds ▸ (for_loop (declaration Var es) u v w ▸ none)) (for_loop (declaration Var (append ds es)) u v w ▸ none)
+  joined_init_fits ds es u v w d e =
+      let (x, y) = two_of d (declaration Var ds) (for_loop (declaration Var es) u v w) e in
+      let (a, b) = and_parts (fits strict (one_or_absent an_init) (declaration Var es)) (loop_rest u v w) y in
+      just d (for_loop (declaration Var (append ds es)) u v w) (both (fits strict (one_or_absent an_init) (declaration Var (append ds es))) (loop_rest u v w) (init_declares strict Var (append ds es) ∙ some_fit ds es (sym (declaration_anywhere strict d Var ds) ∙ x) (sym (init_declares strict Var es) ∙ a)) b)
+
   joined_declarations_fit : (k : VariableDeclarationKind) (ds es : Trees) → Fitting (declaration k ds ▸ (declaration k es ▸ none)) (declaration k (append ds es) ▸ none)
   joined_declarations_fit k ds es d e =
       let (x, y) = two_of d (declaration k ds) (declaration k es) e in
-      let (filled, some) = and_parts (nat_le 1 (count ds)) (fill strict (each (one a_declarator)) ds && true) (sym (declaration_anywhere strict d k ds) ∙ x) in
-      let (more, others) = and_parts (nat_le 1 (count es)) (fill strict (each (one a_declarator)) es && true) (sym (declaration_anywhere strict d k es) ∙ y) in
-      let all = append_fits (one a_declarator) ds es (left (fill strict (each (one a_declarator)) ds) true some) (left (fill strict (each (one a_declarator)) es) true others) in
-      just d (declaration k (append ds es)) (declaration_anywhere strict d k (append ds es) ∙ both (nat_le 1 (count (append ds es))) (fill strict (each (one a_declarator)) (append ds es) && true) (more_than_none ds es more) (both (fill strict (each (one a_declarator)) (append ds es)) true all refl))
+      just d (declaration k (append ds es)) (declaration_anywhere strict d k (append ds es) ∙ some_fit ds es (sym (declaration_anywhere strict d k ds) ∙ x) (sym (declaration_anywhere strict d k es) ∙ y))
 
   -- whichever row it is
 
@@ -299,17 +337,30 @@ module _ (strict : Bool) where
   sequences_fit a b (inr (inr (inr (inr (inr (inl r)))))) = like r.shape r.written (absent_init_fits r.p r.ps r.test r.update r.body)
   sequences_fit a b (inr (inr (inr (inr (inr (inr r)))))) = like r.shape r.written (split_fit r.test r.s r.u r.unscoped)
 
+  loops_fit : (a b : Trees) → LoopRow a b → Fitting a b
+  loops_fit a b (inl r) = like r.shape r.written (joined_right_fits r.left r.body r.p r.ps r.q r.qs)
+  loops_fit a b (inr (inl r)) = like r.shape r.written (free_init_fits r.ds r.test r.update r.body)
+  loops_fit a b (inr (inr r)) = like r.shape r.written (joined_init_fits r.ds r.es r.test r.update r.body)
+
+  joins_fit : (o : Switches) (a b : Trees) → JoinRow o a b → Fitting a b
+  joins_fit o a b (inl r) = like r.1.shape r.1.written (joined_declarations_fit r.1.kind r.1.ds r.1.es)
+  joins_fit o a b (inr r) = loops_fit a b r.1
+
   pub stretch_fits : (o : Switches) (a b : Trees) → StretchRow o a b → Fitting a b
   stretch_fits o a b (inl r) = like r.shape r.written (λ d e. refl)
   stretch_fits o a b (inr (inl r)) = like r.shape r.written (spread_fit r.statements r.unscoped)
-  stretch_fits o a b (inr (inr (inl r))) = like r.1.shape r.1.written (joined_declarations_fit r.1.kind r.1.ds r.1.es)
+  stretch_fits o a b (inr (inr (inl r))) = joins_fit o a b r
   stretch_fits o a b (inr (inr (inr r))) = sequences_fit a b r.1
 
+  pub neighbours_fit : (o : Switches) (a b : Trees) → NeighbourRow o a b → Fitting a b
+  neighbours_fit o a b (inl r) = stretch_fits o a b r
+  neighbours_fit o a b (inr r) = like r.1.shape r.1.written (guards_fit r.1.left r.1.right r.1.s r.1.u)
+
 -- a list, with the stretch in it
-pub list_fits : (o : Switches) (n w : Tree) → InList (StretchRow o) n w → (strict : Bool) (s : Slot) → fits_place StatementList s ≡ true → fits strict s n ≡ true → fits strict s w ≡ true
+pub list_fits : (o : Switches) (n w : Tree) → InList (NeighbourRow o) n w → (strict : Bool) (s : Slot) → fits_place StatementList s ≡ true → fits strict s n ≡ true → fits strict s w ≡ true
 list_fits o n w r strict s k e =
     let (d, q, f) = statements_slot strict s [] 0 (append r.before (append r.read r.after)) k (subst (λ t. fits strict s t ≡ true) r.shape e) in
     let (x, g) = both_fit strict (statement d) r.before (append r.read r.after) f in
     let (y, z) = both_fit strict (statement d) r.read r.after g in
-    let made = append_fits strict (statement d) r.before (append r.put r.after) x (append_fits strict (statement d) r.put r.after (stretch_fits strict o r.read r.put r.row d y) z) in
+    let made = append_fits strict (statement d) r.before (append r.put r.after) x (append_fits strict (statement d) r.put r.after (neighbours_fit strict o r.read r.put r.row d y) z) in
     subst (λ t. fits strict s t ≡ true) (sym r.written) (subst (λ c. fits strict c (listed (append r.before (append r.put r.after))) ≡ true) (sym q) (both true (fill strict (each (statement d)) (append r.before (append r.put r.after))) refl made))

@@ -59,7 +59,7 @@ or_void_is e (node h xs n ts) s = refl
 -- ---- declarations
 
 -- the declarators, in order
-declare : Environment → Trees → Bool → State → Completion (Unit {0})
+pub declare : Environment → Trees → Bool → State → Completion (Unit {0})
 declare e none l s = ok tt s
 declare e (d ▸ ds) l s = either (means e d (Declares l) tt s) (λ u z. declare e ds l z) (λ x z. stop x z)
 
@@ -72,11 +72,15 @@ declares_is : (e : Environment) (ds : Trees) (l : Bool) (s : State) → means e 
 unfolding means step
 declares_is e ds l s = declarators_run e (naming shape.Listed (Declares l) [] 0 (summaries ds)) ds l s
 
-declaration_is : (e : Environment) (k : VariableDeclarationKind) (ds : Trees) (r : LabelSet) (s : State) → means e (declaration k ds) (Stat None) r s ≡ declare e ds (is_lexical k) s
+pub declaration_is : (e : Environment) (k : VariableDeclarationKind) (ds : Trees) (r : LabelSet) (s : State) → means e (declaration k ds) (Stat None) r s ≡ declare e ds (is_lexical k) s
 unfolding means meaning step
 declaration_is e k ds r s = finished e (naming (shape.VariableDeclaration k) (Stat None) [] 0 (summaries (listed ds ▸ none))) (λ i. Declares (is_lexical k)) (λ i r z. meaning e (listed ds ▸ none) i (Declares (is_lexical k)) r z) None (kid 0 tt (then ret)) s ∙ finish_none _ ∙ either_eta (means e (listed ds) (Declares (is_lexical k)) tt s) ∙ declares_is e ds (is_lexical k) s
 
-declare_append : (e : Environment) (a b : Trees) (l : Bool) (s : State) → declare e (append a b) l s ≡ either (declare e a l s) (λ u z. declare e b l z) (λ x z. stop x z)
+pub declare_more : (e : Environment) (d : Tree) (ds : Trees) (l : Bool) (s : State) → declare e (d ▸ ds) l s ≡ either (means e d (Declares l) tt s) (λ u z. declare e ds l z) (λ x z. stop x z)
+unfolding declare
+declare_more e d ds l s = refl
+
+pub declare_append : (e : Environment) (a b : Trees) (l : Bool) (s : State) → declare e (append a b) l s ≡ either (declare e a l s) (λ u z. declare e b l z) (λ x z. stop x z)
 unfolding declare
 declare_append e none b l s = sym (either_ok tt s _ _)
 declare_append e (d ▸ a) b l s = either_cong (means e d (Declares l) tt s) _ _ _ _ (λ u z. declare_append e a b l z) (λ x z. sym (either_stop x z _ _)) ∙ sym (either_assoc (means e d (Declares l) tt s) _ _ _ _)

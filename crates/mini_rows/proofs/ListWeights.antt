@@ -1,6 +1,6 @@
 -- What the rows of lists write is lighter.
 use Rattle.std.proofs.Common.{◌≡◌, ℕ, suc, ◌+◌, ◌*◌, ◌<◌, ◌≤◌, Bool, true, false, List, refl, sym, ap, ◌∙◌, subst, inl, inr, true≢false, length, arith}
-use Rattle.std.specs.Prelude.{◌⊎◌, nat_eq, pos, negsuc, if◌then◌else◌}
+use Rattle.std.specs.Prelude.{◌⊎◌, ◌||◌, nat_eq, pos, negsuc, if◌then◌else◌}
 use Rattle.std.proofs.lemmas.Bool.{and_parts}
 use Rattle.std.specs.Fmt.{signed_decimal}
 use Rattle.std.proofs.lemmas.Fmt.{decimal_digit}
@@ -16,16 +16,16 @@ use Rattle.mini_model.specs.declared.shape.Shape.{Shape}
 use Rattle.mini_model.specs.declared.shape.Shape.TheVariants as shape
 use Rattle.mini_model.specs.Tree.{Tree, Trees, node, none, ◌▸◌, count, shape_of, listed, expression_statement, if_else, if_alone}
 use Rattle.mini_model.specs.Paths.{append}
-use Rattle.mini_model.specs.Position.{seat_of_level, statement_expression_seat, if_test_seat, conditional_test_seat, whole_seat, branch_seat, passed_part_seat, part_seat, item_position}
-use Rattle.mini_model.specs.Weight.{Outline, outline, outlines, one_chooses, commas_weight, declaring_weight, place_weight, weight, weights}
+use Rattle.mini_model.specs.Position.{seat_of_level, statement_expression_seat, if_test_seat, conditional_test_seat, whole_seat, left_operand_seat, right_operand_seat, branch_seat, passed_part_seat, part_seat, item_position}
+use Rattle.mini_model.specs.Weight.{Outline, outline, outlines, one_chooses, is_parenthesized, commas_weight, declaring_weight, place_weight, weight, weights}
 use Rattle.mini_laws.specs.Weights.{counts_items}
 use Rattle.mini_laws.proofs.Seats.{is_inner, placed, placed_node, moved}
 use Rattle.mini_rows.specs.Switches.{Switches}
-use Rattle.mini_rows.specs.Lists.{of_parts, is_one_part_shape, declares_nothing, are_parts, sequence, or_void, return_statement, throw_statement, is_unscoped, Head, Return, Throw, If, Switch, For, with_head, Row66Empty, Row66Joined, Row67, Row67Absent, Row68, Row73, Row73Bare, Row76, Row79, SequencesRow, StretchRow, InList, ListRow, ListsLighter}
+use Rattle.mini_rows.specs.Lists.{of_parts, is_one_part_shape, declares_nothing, are_parts, sequence, or_void, return_statement, throw_statement, is_unscoped, Head, Return, Throw, If, Switch, For, with_head, Row66Empty, Row66Joined, Row67, Row67Absent, Row67In, Row68, Row68Free, Row68Init, Row73, Row73Bare, Row76, Row79, SequencesRow, LoopRow, JoinRow, StretchRow, InList, ListRow, ListsLighter, Row74, NeighbourRow}
 use Rattle.mini_rows.specs.ListLaws.{ListsLighten}
 
 -- the statements of a list, wherever in it they stand
-abbrev total : Trees → ℕ
+abbrev pub total : Trees → ℕ
 total none = 0
 total (t ▸ ts) = weight (Stmt stmt_seat.List) t + total ts
 
@@ -122,7 +122,7 @@ joined_falls b u c v p ps q qs e f =
 -- ---- rows
 
 -- what the stretch falls by, and that no `if` with `else` stands alone in it, or it falls by more
-abbrev chooses : Trees → Bool
+abbrev pub chooses : Trees → Bool
 chooses ts = one_chooses (outlines ts)
 
 pub record Falls (a b : Trees) : Type 0 where
@@ -186,9 +186,16 @@ row_67 a b r = replaced a _ b _ r.shape r.written (record { lighter = enters r.p
 row_67_absent : (a b : Trees) → Row67Absent a b → Falls a b
 row_67_absent a b r = replaced a _ b _ r.shape r.written (record { lighter = omega arith; chosen = inl refl; some = λ e. omega (arith, e) })
 
+-- `a; for (x in b) c`
+
+row_67_in : (a b : Trees) → Row67In a b → Falls a b
+row_67_in a b r =
+    let falls = joined_falls false false false true r.p r.ps r.q r.qs r.first r.second in
+    replaced a _ b _ r.shape r.written (record { lighter = omega (arith, falls); chosen = inl refl; some = λ e. omega (arith, e) })
+
 -- `var a; var b;`
 
-abbrev declarators : Trees → ℕ
+abbrev pub declarators : Trees → ℕ
 declarators none = 0
 declarators (t ▸ ts) = weight Elsewhere t + declarators ts
 
@@ -196,10 +203,10 @@ declarators_are : (n : ℕ) (ts : Trees) → weights (item_position CommaList n)
 declarators_are n none = refl
 declarators_are n (t ▸ ts) = let rest = declarators_are n ts in omega (arith, rest)
 
-comma_list : (ts : Trees) → weight CommaList (listed ts) ≡ commas_weight (outlines ts) + declarators ts
+pub comma_list : (ts : Trees) → weight CommaList (listed ts) ≡ commas_weight (outlines ts) + declarators ts
 comma_list ts = let items = declarators_are (count ts) ts in omega (arith, items)
 
-declarators_append : (a b : Trees) → declarators (append a b) ≡ declarators a + declarators b
+pub declarators_append : (a b : Trees) → declarators (append a b) ≡ declarators a + declarators b
 declarators_append none b = omega arith
 declarators_append (t ▸ a) b = let rest = declarators_append a b in omega (arith, rest)
 
@@ -224,6 +231,20 @@ row_68 a b r =
     let whole = comma_list (append r.ds r.es) in
     replaced a _ b _ r.shape r.written (record { lighter = omega (arith, word, commas, sum, first, second, whole); chosen = inl refl; some = λ e. omega (arith, e) })
 
+-- `var a; for (; b; c) d` and `var a; for (var b; c; d) e`
+
+row_68_free : (a b : Trees) → Row68Free a b → Falls a b
+row_68_free a b r = replaced a _ b _ r.shape r.written (record { lighter = omega arith; chosen = inl refl; some = λ e. omega (arith, e) })
+
+row_68_init : (a b : Trees) → Row68Init a b → Falls a b
+row_68_init a b r =
+    let commas = commas_append r.ds r.es in
+    let sum = declarators_append r.ds r.es in
+    let first = comma_list r.ds in
+    let second = comma_list r.es in
+    let whole = comma_list (append r.ds r.es) in
+    replaced a _ b _ r.shape r.written (record { lighter = omega (arith, commas, sum, first, second, whole); chosen = inl refl; some = λ e. omega (arith, e) })
+
 -- `if (a) s; else u`
 
 -- a statement weighs in a list what it does as a branch
@@ -247,6 +268,21 @@ row_76 a b r =
     let falls = row_76_falls r.test r.s r.u r.unscoped in
     replaced a _ b _ r.shape r.written (record { lighter = omega (arith, falls); chosen = inr (omega (arith, falls)); some = λ e. omega (arith, e) })
 
+-- an `if` and the next one, that has its branch
+
+right_marks : (b : Bool) → (if b then 4 else 0) + (if false || (false || false) then 1 else 0) ≤ 4
+right_marks true = omega arith
+right_marks false = omega arith
+
+right_falls : (b : Tree) → weight (Expr (right_operand_seat Or if_test_seat)) b ≤ weight (Expr if_test_seat) b + 4
+right_falls b = placed 4 (right_operand_seat Or if_test_seat) if_test_seat refl (λ h os. omega (arith, right_marks (is_parenthesized h (right_operand_seat Or if_test_seat)))) b
+
+row_74 : (a b : Trees) → Row74 a b → Falls a b
+row_74 a b r =
+    let left = moved (left_operand_seat Or if_test_seat) if_test_seat refl r.left in
+    let right = right_falls r.right in
+    replaced a _ b _ r.shape r.written (record { lighter = omega (arith, left, right); chosen = inl refl; some = λ e. omega (arith, e) })
+
 sequences_fall : (a b : Trees) → SequencesRow a b → Falls a b
 sequences_fall a b (inl r) = row_66_joined a b r
 sequences_fall a b (inr (inl r)) = row_73_return a b r
@@ -256,15 +292,28 @@ sequences_fall a b (inr (inr (inr (inr (inl r))))) = row_67 a b r
 sequences_fall a b (inr (inr (inr (inr (inr (inl r)))))) = row_67_absent a b r
 sequences_fall a b (inr (inr (inr (inr (inr (inr r)))))) = row_76 a b r
 
+loops_fall : (a b : Trees) → LoopRow a b → Falls a b
+loops_fall a b (inl r) = row_67_in a b r
+loops_fall a b (inr (inl r)) = row_68_free a b r
+loops_fall a b (inr (inr r)) = row_68_init a b r
+
+joins_fall : (o : Switches) (a b : Trees) → JoinRow o a b → Falls a b
+joins_fall o a b (inl r) = row_68 a b r.1
+joins_fall o a b (inr r) = loops_fall a b r.1
+
 stretch_falls : (o : Switches) (a b : Trees) → StretchRow o a b → Falls a b
 stretch_falls o a b (inl r) = row_66_empty a b r
 stretch_falls o a b (inr (inl r)) = row_79 a b r
-stretch_falls o a b (inr (inr (inl r))) = row_68 a b r.1
+stretch_falls o a b (inr (inr (inl r))) = joins_fall o a b r
 stretch_falls o a b (inr (inr (inr r))) = sequences_fall a b r.1
+
+neighbours_fall : (o : Switches) (a b : Trees) → NeighbourRow o a b → Falls a b
+neighbours_fall o a b (inl r) = stretch_falls o a b r
+neighbours_fall o a b (inr r) = row_74 a b r.1
 
 -- in a list
 
-in_list : (pre a b post : Trees) (k : ℕ) → total b + k ≤ total a → weight StatementList (listed (append pre (append b post))) + k ≤ weight StatementList (listed (append pre (append a post)))
+pub in_list : (pre a b post : Trees) (k : ℕ) → total b + k ≤ total a → weight StatementList (listed (append pre (append b post))) + k ≤ weight StatementList (listed (append pre (append a post)))
 in_list pre a b post k e =
     let new = list_is (append pre (append b post)) in
     let old = list_is (append pre (append a post)) in
@@ -276,39 +325,39 @@ in_list pre a b post k e =
 
 pub lists_lighter : ListsLighter
 lists_lighter o StatementList n w r =
-    let falls = stretch_falls o r.read r.put r.row in
+    let falls = neighbours_fall o r.read r.put r.row in
     let whole = in_list r.before r.read r.put r.after 1 (omega (arith, falls.lighter)) in
     omega (arith, whole, ap (weight StatementList) r.shape, ap (weight StatementList) r.written)
 lists_lighter o p n w r = absurd r
 
 -- a list in which an `if` with `else` stands alone is the stretch
-alone_after : (a post : Trees) → (count a ≡ 0 → ⊥) → chooses (append a post) ≡ true → chooses a ≡ true
+pub alone_after : (a post : Trees) → (count a ≡ 0 → ⊥) → chooses (append a post) ≡ true → chooses a ≡ true
 alone_after none post s e = absurd (s refl)
 alone_after (c ▸ none) none s e = e
 alone_after (c ▸ none) (d ▸ post) s e = absurd (true≢false (sym e))
 alone_after (c ▸ (d ▸ a)) post s e = absurd (true≢false (sym e))
 
-some_after : (a post : Trees) → (count a ≡ 0 → ⊥) → count (append a post) ≡ 0 → ⊥
+pub some_after : (a post : Trees) → (count a ≡ 0 → ⊥) → count (append a post) ≡ 0 → ⊥
 some_after none post s e = absurd (s refl)
 some_after (c ▸ a) post s e = omega (arith, e)
 
-alone : (pre a : Trees) → (count a ≡ 0 → ⊥) → chooses (append pre a) ≡ true → chooses a ≡ true
+pub alone : (pre a : Trees) → (count a ≡ 0 → ⊥) → chooses (append pre a) ≡ true → chooses a ≡ true
 alone none a s e = e
 alone (c ▸ none) none s e = absurd (s refl)
 alone (c ▸ none) (d ▸ a) s e = absurd (true≢false (sym e))
 alone (c ▸ (d ▸ pre)) a s e = absurd (true≢false (sym e))
 
-list_chosen : (o : Switches) (n w : Tree) (r : InList (StretchRow o) n w) → ((outline n).chooses ≡ true → (outline w).chooses ≡ true) ⊎ (weight StatementList w + 5 ≤ weight StatementList n)
+list_chosen : (o : Switches) (n w : Tree) (r : InList (NeighbourRow o) n w) → ((outline n).chooses ≡ true → (outline w).chooses ≡ true) ⊎ (weight StatementList w + 5 ≤ weight StatementList n)
 list_chosen o n w r = go falls.chosen
   where
     falls : Falls r.read r.put
-    falls = stretch_falls o r.read r.put r.row
+    falls = neighbours_fall o r.read r.put r.row
 
     go : (chooses r.read ≡ false) ⊎ (total r.put + 5 ≤ total r.read) → ((outline n).chooses ≡ true → (outline w).chooses ≡ true) ⊎ (weight StatementList w + 5 ≤ weight StatementList n)
     go (inl e) = inl (λ h. absurd (true≢false (sym (alone_after r.read r.after falls.some (alone r.before (append r.read r.after) (some_after r.read r.after falls.some) (sym (ap (λ t. (outline t).chooses) r.shape) ∙ h))) ∙ e)))
     go (inr e) = let whole = in_list r.before r.read r.put r.after 5 e in inr (omega (arith, whole, ap (weight StatementList) r.shape, ap (weight StatementList) r.written))
 
-same_outline : {A : Type 0} (f : Outline → A) (o : Switches) (n w : Tree) (r : InList (StretchRow o) n w) → f (outline (listed (append r.before (append r.read r.after)))) ≡ f (outline (listed (append r.before (append r.put r.after)))) → f (outline n) ≡ f (outline w)
+same_outline : {A : Type 0} (f : Outline → A) (o : Switches) (n w : Tree) (r : InList (NeighbourRow o) n w) → f (outline (listed (append r.before (append r.read r.after)))) ≡ f (outline (listed (append r.before (append r.put r.after)))) → f (outline n) ≡ f (outline w)
 same_outline f o n w r e = ap (λ t. f (outline t)) r.shape ∙ e ∙ sym (ap (λ t. f (outline t)) r.written)
 
 list_absent : (o : Switches) (p : Position) (n w : Tree) → ListRow o p n w → (outline n).absent ≡ (outline w).absent

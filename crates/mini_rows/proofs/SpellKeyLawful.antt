@@ -14,6 +14,7 @@ use Rattle.mini_rows.specs.Sketches.{Object, Property, Number, String, PropertyN
 use Rattle.mini_rows.specs.SpellKeys.{object_literal, PropertyRow, RowInObject, KeyRow, KeyContracts}
 use Rattle.mini_rows.proofs.ArrangedExpressions.{expressions_arranged}
 use Rattle.mini_rows.proofs.ArrangedLawful.{kept_is_lawful}
+use Rattle.mini_rows.proofs.SpellFunctionKeys.{function_kept}
 use Rattle.mini_rows.proofs.SpellKeyMeaning.{keys_same}
 use Rattle.mini_rows.proofs.SpellKeyShapes.{key_fits, key_asked, key_slot}
 
@@ -50,7 +51,8 @@ object_kept q n w r = by r.row
     by (inr (inl p)) = of_sketches q n w r p.value (keyed false false (under (String p.name) end)) (keyed false false (under (PropertyName p.name) end)) p.shape p.written refl
     by (inr (inr (inl p))) = of_sketches q n w r p.value (keyed false false (under (String (signed_decimal (pos p.number))) end)) (keyed false false (under (Number (pos p.number)) end)) p.shape p.written refl
     by (inr (inr (inr (inl p)))) = of_sketches q n w r p.value (keyed false true (under (String p.name) end)) (keyed false false (under (String p.name) end)) p.shape p.written refl
-    by (inr (inr (inr (inr p)))) = of_sketches q n w r p.value (keyed false true (under (Number (pos p.number)) end)) (keyed false false (under (Number (pos p.number)) end)) p.shape p.written refl
+    by (inr (inr (inr (inr (inr p))))) = function_kept q n w r p
+    by (inr (inr (inr (inr (inl p))))) = of_sketches q n w r p.value (keyed false true (under (Number (pos p.number)) end)) (keyed false false (under (Number (pos p.number)) end)) p.shape p.written refl
 
 kept : (p : Position) (n w : Tree) → KeyRow p n w → KeptAt p n w
 kept (Expr q) n w r = object_kept q n w r

@@ -1,13 +1,14 @@
 -- What each row on a key writes means the same.
 use Rattle.std.proofs.Common.{◌≡◌, ℕ, zero, suc, ◌<◌, Bool, true, false, List, [], ◌∷◌, refl, sym, ap, subst, ◌∙◌, inl, inr, arith}
-use Rattle.std.specs.Prelude.{◌&&◌, nat_eq, codes, pos}
+use Rattle.std.specs.Prelude.{◌&&◌, ◌||◌, not, nat_eq, codes, pos}
 use Rattle.std.specs.Fmt.{signed_decimal}
 use Rattle.std.specs.Char.{digit_value}
 use Rattle.std.specs.Str.Parse.{AllDigits}
 use Rattle.std.proofs.lemmas.Bool.{eqb-true}
 use Rattle.std.proofs.lemmas.Fmt.{decimal_is_IsNumeral}
 use Rattle.mini_text.specs.Numerals.{IsSafe}
-use Rattle.mini_model.specs.declared.kind.PropertyKind.TheVariants.{Init}
+use Rattle.mini_model.specs.declared.kind.PropertyKind.{PropertyKind}
+use Rattle.mini_model.specs.declared.kind.PropertyKind.TheVariants.{Init, Get, Set}
 use Rattle.mini_model.specs.declared.place.Position.{Position}
 use Rattle.mini_model.specs.declared.place.Position.TheVariants.{Expr}
 use Rattle.mini_model.specs.declared.shape.Shape.TheVariants as shape
@@ -17,13 +18,14 @@ use Rattle.mini_model.specs.Weight.{same_text}
 use Rattle.mini_laws.specs.Value.{Value, Number, String, choose}
 use Rattle.mini_laws.specs.State.{State, ok, either, Environment, Prototype, Field}
 use Rattle.mini_laws.specs.Demand.{Val, Demand, As, AnEntry, Request}
+use Rattle.mini_laws.specs.Expressions.{property_entry}
 use Rattle.mini_laws.specs.Naming.{summary, summaries}
 use Rattle.mini_laws.specs.Step.{step, means, meaning}
 use Rattle.mini_laws.specs.Rows.{SameAt}
 use Rattle.mini_laws.specs.Rewritten.{MeansSame}
 use Rattle.mini_laws.proofs.Runs.{either_cong, either_ok}
 use Rattle.mini_rows.specs.Spellings.{numeral, text, key}
-use Rattle.mini_rows.specs.SpellKeys.{object_literal, property, is_proto, PropertyRow, RowInObject, KeyRow, KeyContracts}
+use Rattle.mini_rows.specs.SpellKeys.{object_literal, property, is_proto, KeyForm, a_name, a_whole, a_text_in_brackets, a_whole_in_brackets, is_bracketed_form, read_key, written_key, function_property, is_function_kind, PropertyRow, RowInObject, KeyRow, KeyContracts}
 use Rattle.mini_rows.proofs.SpellAlike.{SameTree, kids_same, first_same}
 use Rattle.mini_rows.proofs.SpellMeaning.{tree_same, same_by}
 
@@ -86,12 +88,49 @@ module _ (n : ℕ) (safe : IsSafe (pos n)) (v : Tree) where
       ∙ sym (either_ok (Number (pos n)) z _ _)
   number_in_brackets e q r z = refl
 
+-- a method, a getter or a setter: what its key names is never a prototype
+
+function_entry : (k : PropertyKind) (m b : Bool) (key v : Value) → is_function_kind k m ≡ true → property_entry k (not (m || false || b)) key v ≡ property_entry k (not (m || false || false)) key v
+function_entry Init true b key v e = refl
+function_entry Init false b key v e = absurd (cc e)
+function_entry Get m b key v e = refl
+function_entry Set m b key v e = refl
+
+module _ (k : PropertyKind) (m : Bool) (v : Tree) (function : is_function_kind k m ≡ true) where
+  function_text : (s : List ℕ) (e : Environment) (q : Demand) (r : Request q) (z : State) → means e (function_property k m true (text s) v) q r z ≡ means e (function_property k m false (text s) v) q r z
+  unfolding means meaning step
+  function_text s e AnEntry r z =
+      either_ok (String s) z _ _
+      ∙ either_cong (means e v (As Val) tt z) _ _ _ _ (λ a y. ap (λ x. ok x y) (function_entry k m true (String s) a function)) (λ x y. refl)
+      ∙ sym (either_ok (String s) z _ _)
+  function_text s e q r z = refl
+
+  function_numeral : (n : ℕ) (e : Environment) (q : Demand) (r : Request q) (z : State) → means e (function_property k m true (numeral (pos n)) v) q r z ≡ means e (function_property k m false (numeral (pos n)) v) q r z
+  unfolding means meaning step
+  function_numeral n e AnEntry r z =
+      either_ok (Number (pos n)) z _ _
+      ∙ either_cong (means e v (As Val) tt z) _ _ _ _ (λ a y. ap (λ x. ok x y) (function_entry k m true (String (signed_decimal (pos n))) a function)) (λ x y. refl)
+      ∙ sym (either_ok (Number (pos n)) z _ _)
+  function_numeral n e q r z = refl
+
+  function_number : (n : ℕ) (e : Environment) (q : Demand) (r : Request q) (z : State) → means e (function_property k m false (text (signed_decimal (pos n))) v) q r z ≡ means e (function_property k m false (numeral (pos n)) v) q r z
+  unfolding means meaning step either
+  function_number n e AnEntry r z = refl
+  function_number n e q r z = refl
+
+  function_same : (f : KeyForm) → SameTree (function_property k m (is_bracketed_form f) (read_key f) v) (function_property k m false (written_key f) v)
+  function_same (a_name s) = first_same (shape.ObjectProperty k m false false) [] 0 (text s) (key s) (v ▸ none) (text_same s)
+  function_same (a_whole n) = record { by = function_number n; read = refl }
+  function_same (a_text_in_brackets s) = record { by = function_text s; read = refl }
+  function_same (a_whole_in_brackets n) = record { by = function_numeral n; read = refl }
+
 pub property_same : (n w : Tree) → PropertyRow n w → SameTree n w
 property_same n w (inl r) = same_by n w _ _ r.shape r.written (record { by = shorthand_does r.name.spelling (identifier r.name) r.other; read = refl })
 property_same n w (inr (inl r)) = same_by n w _ _ r.shape r.written (first_same (shape.ObjectProperty Init false false false) [] 0 (text r.name) (key r.name) (r.value ▸ none) (text_same r.name))
 property_same n w (inr (inr (inl r))) = same_by n w _ _ r.shape r.written (record { by = number_does r.number r.value; read = refl })
 property_same n w (inr (inr (inr (inl r)))) = same_by n w _ _ r.shape r.written (record { by = text_in_brackets r.name r.value r.other; read = refl })
-property_same n w (inr (inr (inr (inr r)))) = same_by n w _ _ r.shape r.written (record { by = number_in_brackets r.number r.is_safe r.value; read = refl })
+property_same n w (inr (inr (inr (inr (inr r))))) = same_by n w _ _ r.shape r.written (function_same r.kind r.is_method r.value r.is_function r.form)
+property_same n w (inr (inr (inr (inr (inl r))))) = same_by n w _ _ r.shape r.written (record { by = number_in_brackets r.number r.is_safe r.value; read = refl })
 
 -- in an object
 

@@ -4,18 +4,20 @@ use Rattle.std.specs.Prelude.{◌&&◌, not, pos}
 use Rattle.std.specs.Fmt.{signed_decimal}
 use Rattle.std.proofs.lemmas.Bool.{eq-eqb}
 use Rattle.std.specs.Char.Utf16.{has_unpaired_surrogate}
+use Rattle.mini_model.specs.declared.kind.PropertyKind.{PropertyKind}
+use Rattle.mini_model.specs.declared.kind.PropertyKind.TheVariants.{Init, Get, Set}
 use Rattle.mini_model.specs.declared.name.Name.{Name}
 use Rattle.mini_text.specs.Texts.{are_units, is_identifier_name}
 use Rattle.mini_model.specs.declared.place.Position.{Position}
 use Rattle.mini_model.specs.declared.place.Position.TheVariants.{Expr}
 use Rattle.mini_model.specs.Paths.{append}
 use Rattle.mini_model.specs.Tree.{Tree, Trees, none, ◌▸◌, listed, identifier}
-use Rattle.mini_accept.specs.WellShaped.{a_key, an_expression, an_object_property, Slot, one, each, is_safe, is_text, fits, fill}
+use Rattle.mini_accept.specs.WellShaped.{a_key, a_method, an_expression, an_object_property, Slot, one, each, is_safe, is_text, fits, fill}
 use Rattle.mini_kept.specs.KeepsFrames.{is_body_slot}
 use Rattle.mini_kept.specs.KeepsShapes.{AskedAlike}
 use Rattle.mini_kept.proofs.Bools.{left, right, both}
 use Rattle.mini_rows.specs.Spellings.{numeral, text, key}
-use Rattle.mini_rows.specs.SpellKeys.{object_literal, property, PropertyRow, RowInObject, KeyRow}
+use Rattle.mini_rows.specs.SpellKeys.{object_literal, property, KeyForm, a_name, a_whole, a_text_in_brackets, a_whole_in_brackets, IsSpelled, is_bracketed_form, read_key, written_key, function_property, PropertyRow, RowInObject, KeyRow}
 use Rattle.mini_rows.proofs.SpellShapes.{an_object, Kind, Alone, Linked, Ending, Assigned, Nowhere, filled, stands, by_shape, FitsToo, safe_is, Formed, formed_asked, formed_slot}
 
 -- ---- one property
@@ -26,13 +28,13 @@ of_object = one an_object_property
 abbrev KeyFits : Bool → Tree → Tree → Type 0
 KeyFits strict k l = fits strict (one (a_key false)) k ≡ true → fits strict (one (a_key false)) l ≡ true
 
+changed : (a b c : Bool) → (a ≡ true → b ≡ true) → (a && (c && true)) ≡ true → (b && (c && true)) ≡ true
+changed true b c h e = ap (λ x. x && (c && true)) (h refl) ∙ e
+changed false b c h e = absurd (cc e)
+
 -- a plain property's key may be another
 keys_change : (strict : Bool) (k l v : Tree) → KeyFits strict k l → fits strict of_object (property false false k v) ≡ true → fits strict of_object (property false false l v) ≡ true
-keys_change strict k l v h e = by (fits strict (one (a_key false)) k) (fits strict (one (a_key false)) l) (fits strict (one an_expression) v) h e
-  where
-    by : (a b c : Bool) → (a ≡ true → b ≡ true) → (a && (c && true)) ≡ true → (b && (c && true)) ≡ true
-    by true b c h e = ap (λ x. x && (c && true)) (h refl) ∙ e
-    by false b c h e = absurd (cc e)
+keys_change strict k l v h e = changed (fits strict (one (a_key false)) k) (fits strict (one (a_key false)) l) (fits strict (one an_expression) v) h e
 
 text_units : (strict : Bool) (s : List ℕ) → fits strict (one (a_key false)) (text s) ≡ true → are_units s ≡ true
 text_units strict s e = by (are_units s) (not (has_unpaired_surrogate s)) e
@@ -61,13 +63,33 @@ property_by : (n w a b : Tree) → n ≡ a → w ≡ b → PropertyFits a b → 
 unfolding PropertyFits
 property_by n w a b e f h strict g = subst (λ x. fits strict of_object x ≡ true) (sym f) (h strict (subst (λ x. fits strict of_object x ≡ true) e g))
 
+-- a function's key may be another, with brackets or without
+FormFits : PropertyKind → Bool → KeyForm → Tree → Type 0
+FormFits k m f v = PropertyFits (function_property k m (is_bracketed_form f) (read_key f) v) (function_property k m false (written_key f) v)
+
+function_keys : (k : PropertyKind) (m c : Bool) (strict : Bool) (x y v : Tree) → (fits strict (one (a_key c)) x ≡ true → fits strict (one (a_key false)) y ≡ true) → fits strict of_object (function_property k m c x v) ≡ true → fits strict of_object (function_property k m false y v) ≡ true
+function_keys Init true c strict x y v h e = changed (fits strict (one (a_key c)) x) (fits strict (one (a_key false)) y) (fits strict (one a_method) v) h e
+function_keys Init false c strict x y v h e = changed (fits strict (one (a_key c)) x) (fits strict (one (a_key false)) y) (fits strict (one an_expression) v) h e
+function_keys Get false c strict x y v h e = changed (fits strict (one (a_key c)) x) (fits strict (one (a_key false)) y) (fits strict (one a_method) v) h e
+function_keys Get true c strict x y v h e = absurd (cc e)
+function_keys Set false c strict x y v h e = changed (fits strict (one (a_key c)) x) (fits strict (one (a_key false)) y) (fits strict (one a_method) v) h e
+function_keys Set true c strict x y v h e = absurd (cc e)
+
+form_fits : (k : PropertyKind) (m : Bool) (v : Tree) (f : KeyForm) → IsSpelled f → FormFits k m f v
+unfolding PropertyFits FormFits
+form_fits k m v (a_name s) h strict = function_keys k m false strict (text s) (key s) v (name_fits strict s h)
+form_fits k m v (a_whole n) h strict = function_keys k m false strict (text (signed_decimal (pos n))) (numeral (pos n)) v (number_fits strict n (signed_decimal (pos n)) (safe_is (pos n) h))
+form_fits k m v (a_text_in_brackets s) h strict = function_keys k m true strict (text s) (text s) v (λ e. e)
+form_fits k m v (a_whole_in_brackets n) h strict = function_keys k m true strict (numeral (pos n)) (numeral (pos n)) v (λ e. e)
+
 property_fits : (n w : Tree) → PropertyRow n w → PropertyFits n w
-unfolding PropertyFits
+unfolding PropertyFits FormFits
 property_fits n w (inl r) = property_by n w _ _ r.shape r.written (λ strict. shorthand_fits strict r.name)
 property_fits n w (inr (inl r)) = property_by n w _ _ r.shape r.written (λ strict. keys_change strict (text r.name) (key r.name) r.value (name_fits strict r.name r.is_name))
 property_fits n w (inr (inr (inl r))) = property_by n w _ _ r.shape r.written (λ strict. keys_change strict (text (signed_decimal (pos r.number))) (numeral (pos r.number)) r.value (number_fits strict r.number (signed_decimal (pos r.number)) (safe_is (pos r.number) r.is_safe)))
 property_fits n w (inr (inr (inr (inl r)))) = property_by n w _ _ r.shape r.written (λ strict e. e)
-property_fits n w (inr (inr (inr (inr r)))) = property_by n w _ _ r.shape r.written (λ strict e. e)
+property_fits n w (inr (inr (inr (inr (inr r))))) = property_by n w _ _ r.shape r.written (form_fits r.kind r.is_method r.value r.form r.is_spelled)
+property_fits n w (inr (inr (inr (inr (inl r))))) = property_by n w _ _ r.shape r.written (λ strict e. e)
 
 -- ---- the literal
 

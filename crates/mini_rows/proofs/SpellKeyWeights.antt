@@ -1,7 +1,8 @@
 -- What each row on a key writes weighs less wherever the literal stands.
-use Rattle.std.proofs.Common.{◌≡◌, ℕ, ◌+◌, ◌<◌, true, false, List, [], ◌∷◌, refl, sym, ap, ◌∙◌, inl, inr, true≢false, arith}
+use Rattle.std.proofs.Common.{◌≡◌, ℕ, ◌+◌, ◌<◌, Bool, true, false, List, [], ◌∷◌, refl, sym, ap, ◌∙◌, inl, inr, true≢false, arith}
 use Rattle.std.specs.Prelude.{pos}
 use Rattle.std.specs.Fmt.{signed_decimal}
+use Rattle.mini_model.specs.declared.kind.PropertyKind.{PropertyKind}
 use Rattle.mini_model.specs.declared.place.Position.{Position}
 use Rattle.mini_model.specs.declared.place.Position.TheVariants.{Expr, Elsewhere}
 use Rattle.mini_model.specs.declared.seat.Seat.{Seat}
@@ -11,7 +12,7 @@ use Rattle.mini_model.specs.Tree.{Tree, Trees, none, ◌▸◌, listed, identifi
 use Rattle.mini_model.specs.Weight.{Outline, outline, outlines, commas_weight, place_weight, weight, weights}
 use Rattle.mini_laws.specs.Weights.{Lightens, counts_items}
 use Rattle.mini_rows.specs.Spellings.{numeral, text, key}
-use Rattle.mini_rows.specs.SpellKeys.{object_literal, property, PropertyRow, KeyRow, KeyContracts, KeysLighter}
+use Rattle.mini_rows.specs.SpellKeys.{object_literal, property, KeyForm, a_name, a_whole, a_text_in_brackets, a_whole_in_brackets, is_bracketed_form, read_key, written_key, function_property, PropertyRow, KeyRow, KeyContracts, KeysLighter}
 use Rattle.mini_rows.proofs.SpellWeights.{falls_by}
 
 shorthand_falls : (s : List ℕ) (v : Tree) → weight Elsewhere (property true false (key s) v) < weight Elsewhere (property false false (key s) v)
@@ -29,12 +30,19 @@ text_falls s v = omega arith
 numeral_falls : (n : ℕ) (v : Tree) → weight Elsewhere (property false false (numeral (pos n)) v) < weight Elsewhere (property false true (numeral (pos n)) v)
 numeral_falls n v = omega arith
 
+function_falls : (k : PropertyKind) (m : Bool) (v : Tree) (f : KeyForm) → weight Elsewhere (function_property k m false (written_key f) v) < weight Elsewhere (function_property k m (is_bracketed_form f) (read_key f) v)
+function_falls k m v (a_name s) = omega arith
+function_falls k m v (a_whole n) = omega arith
+function_falls k m v (a_text_in_brackets s) = omega arith
+function_falls k m v (a_whole_in_brackets n) = omega arith
+
 property_falls : (n w : Tree) → PropertyRow n w → weight Elsewhere w < weight Elsewhere n
 property_falls n w (inl r) = falls_by Elsewhere n w _ _ r.shape r.written (shorthand_falls r.name.spelling (identifier r.name))
 property_falls n w (inr (inl r)) = falls_by Elsewhere n w _ _ r.shape r.written (name_falls r.name r.value)
 property_falls n w (inr (inr (inl r))) = falls_by Elsewhere n w _ _ r.shape r.written (number_falls r.number r.value)
 property_falls n w (inr (inr (inr (inl r)))) = falls_by Elsewhere n w _ _ r.shape r.written (text_falls r.name r.value)
-property_falls n w (inr (inr (inr (inr r)))) = falls_by Elsewhere n w _ _ r.shape r.written (numeral_falls r.number r.value)
+property_falls n w (inr (inr (inr (inr (inr r))))) = falls_by Elsewhere n w _ _ r.shape r.written (function_falls r.kind r.is_method r.value r.form)
+property_falls n w (inr (inr (inr (inr (inl r))))) = falls_by Elsewhere n w _ _ r.shape r.written (numeral_falls r.number r.value)
 
 -- in a list of properties
 

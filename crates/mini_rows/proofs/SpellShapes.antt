@@ -9,6 +9,7 @@ use Rattle.mini_text.specs.Numerals.{IsSafe, max_safe_integer}
 use Rattle.mini_model.specs.declared.operator.AssignmentOperator.{AssignmentOperator}
 use Rattle.mini_model.specs.declared.operator.AssignmentOperator.TheVariants.{Assign}
 use Rattle.mini_model.specs.declared.operator.BinaryOperator.{BinaryOperator}
+use Rattle.mini_model.specs.declared.operator.LogicalOperator.{LogicalOperator}
 use Rattle.mini_model.specs.declared.operator.UpdateOperator.{UpdateOperator}
 use Rattle.mini_model.specs.declared.operator.UnaryOperator.TheVariants.{LogicalNot}
 use Rattle.mini_model.specs.declared.place.Position.{Position}
@@ -34,6 +35,8 @@ pub data Form : Type 0 where
   an_update : UpdateOperator → Bool → Form
   a_yield : Form
   an_object : Form
+  a_logical : LogicalOperator → Form
+  a_conditional : Form
 
 abbrev pub shaped : Form → Shape
 shaped (a_boolean b) = shape.BooleanLiteral b
@@ -45,6 +48,8 @@ shaped (an_assignment o) = shape.AssignmentExpression o
 shaped (an_update o b) = shape.UpdateExpression o b
 shaped a_yield = shape.YieldExpression false
 shaped an_object = shape.ObjectExpression
+shaped (a_logical o) = shape.LogicalExpression o
+shaped a_conditional = shape.ConditionalExpression
 
 -- ---- where they stand: as an expression, as a link or the end of a chain, as what is assigned to, or nowhere
 
@@ -115,6 +120,8 @@ whole_is (an_assignment o) an_expression ts = refl
 whole_is (an_update o b) an_expression ts = refl
 whole_is a_yield an_expression ts = refl
 whole_is an_object an_expression ts = refl
+whole_is (a_logical o) an_expression ts = refl
+whole_is a_conditional an_expression ts = refl
 whole_is f c ts = refl
 
 strict_is : (strict : Bool) (f : Form) → is_strict_in strict (shaped f) ≡ strict

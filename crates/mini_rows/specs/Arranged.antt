@@ -22,7 +22,8 @@ use Rattle.mini_laws.specs.Rewritten.{MeansSame}
 use Rattle.mini_kept.specs.AlikeBodies.{BodiesKept}
 use Rattle.mini_kept.specs.Declaring.{declared}
 use Rattle.mini_kept.specs.Frames.{is_declaration, is_port, ports as ports_of, frames, FramesKept}
-use Rattle.mini_kept.specs.KeepsNames.{is_rewritten_place, Keeps, NamesOnce, HasTargets, count_of}
+use Rattle.mini_kept.specs.KeepsLoosely.{KeepsLoosely}
+use Rattle.mini_kept.specs.KeepsNames.{is_rewritten_place, NamesOnce, HasTargets, count_of}
 use Rattle.mini_kept.specs.Carried.{numbers}
 use Rattle.mini_kept.specs.KeepsFrames.{is_body_slot}
 use Rattle.mini_kept.specs.KeepsShapes.{KeepsShapes}
@@ -31,11 +32,11 @@ use Rattle.mini_kept.specs.Lifted.{is_piece}
 use Rattle.mini_kept.specs.Placed.{fits_place}
 use Rattle.mini_kept.specs.Standing.{Stands}
 use Rattle.mini_rows.specs.Lists.{is_unscoped, are_unscoped, return_statement, throw_statement, Row66Empty, Row66Joined, Row79, Row73, Row73Bare, Row76, InList}
-use Rattle.mini_rows.specs.Sketches.{Sketch, Items, Parts, Hole, Part, Stretch, Leaps, AsWhole, AsValue, parts_of, list_at, filled, items_filled, Free, rearranges_expression, rearranges_statement, rearranges_list}
+use Rattle.mini_rows.specs.Sketches.{Sketch, Items, Parts, Hole, Part, Stretch, Leaps, AsWhole, AsValue, parts_of, list_at, filled, items_filled, Free, rearranges_expression, rearranges_statement, rearranges_list, rearranges_list_once}
 
 -- of one node and what is written for it: what a lawful relation keeps of it
 pub record KeptAt (p : Position) (n w : Tree) : Type 0 where
-  pub keeps : (strict : Bool) (s : Slot) → fits_place p s ≡ true → fits strict s n ≡ true → Keeps p n w
+  pub keeps : (strict : Bool) (s : Slot) → fits_place p s ≡ true → fits strict s n ≡ true → KeepsLoosely p n w
   pub piece : is_piece (shape_of n) ≡ false
   pub kind : (strict : Bool) (s : Slot) → fits strict s n ≡ true → arrow_kind (shape_of n) ≡ arrow_kind (shape_of w)
   pub bodies : (strict : Bool) (s : Slot) → fits_place p s ≡ true → fits strict s n ≡ true → (a : Around) → Stands s p a → BodiesKept (bodies a n) (bodies a w)
@@ -84,6 +85,11 @@ StatementsArranged =
 abbrev pub ListsArranged : Type 0
 ListsArranged =
     (f : Free) (ps : Parts) → AreFree ps f → (is js : Items) → rearranges_list f is js ≡ true → (n w : Tree) → n ≡ listed (items_filled ps is) → w ≡ listed (items_filled ps js) → KeptAt StatementList n w
+
+-- and so is a list in which a branch stands twice, one right after the other, and is written once
+abbrev pub ListsArrangedOnce : Type 0
+ListsArrangedOnce =
+    (f : Free) (ps : Parts) → AreFree ps f → (is js : Items) → rearranges_list_once f is js ≡ true → (n w : Tree) → n ≡ listed (items_filled ps is) → w ≡ listed (items_filled ps js) → KeptAt StatementList n w
 
 -- ---- a part for which another expression is written
 

@@ -2,8 +2,13 @@ pub mod Switches
 pub mod Spellings
 pub mod SpellKeys
 pub mod Lists
+pub mod Declarations
 pub mod ListLaws
 pub mod Branches
+pub mod Turns
+pub mod Arrows
 pub mod Sketches
 pub mod Arranged
 pub mod Redex
+pub mod Choices
+pub mod Folding

@@ -1,14 +1,16 @@
 -- What the rows of lists of statements keep.
-use Rattle.std.specs.Prelude.{◌≡◌, ◌⊎◌, Bool, true, false}
-use Rattle.mini_model.specs.declared.place.Position.{Position}
+use Rattle.std.specs.Prelude.{◌≡◌, ◌⊎◌, Bool, true, false, None}
 use Rattle.mini_model.specs.declared.place.Position.TheVariants.{StatementList}
 use Rattle.mini_model.specs.Tree.{Tree, Trees}
+use Rattle.mini_laws.specs.State.{State, ok, Environment}
+use Rattle.mini_laws.specs.Demand.{Stat, LabelSet}
+use Rattle.mini_laws.specs.Step.{means}
 use Rattle.mini_laws.specs.Rewritten.{MeansSame}
 use Rattle.mini_laws.specs.Weights.{Lightens}
 use Rattle.mini_kept.specs.Lawful.{Lawful}
 use Rattle.mini_rows.specs.Switches.{Switches}
 use Rattle.mini_rows.specs.Arranged.{KeptAt, NeighboursRow}
-use Rattle.mini_rows.specs.Lists.{Head, Switch, For, Row67, Row67Absent, Row68, InList, ListContracts}
+use Rattle.mini_rows.specs.Lists.{Head, Switch, For, Row67, Row67Absent, Row68, InList, ListContracts, is_terminated}
 
 -- the meaning
 abbrev pub ListsMeanSame : Type 0
@@ -57,3 +59,13 @@ OpeningListsKept = (n w : Tree) → InList OpeningRow n w → KeptAt StatementLi
 -- the rows of lists are lawful, whatever the options let happen
 abbrev pub ListsLawful : Type 0
 ListsLawful = (o : Switches) → Lawful (ListContracts o)
+
+-- ---- ends
+
+-- no run of it ends normally
+abbrev pub NeverEnds : Tree → Type 0
+NeverEnds t = (e : Environment) (r : LabelSet) (s z : State) → means e t (Stat None) r s ≡ ok tt z → ⊥
+
+-- so it is of a statement that is terminated, and of a list of them
+abbrev pub TerminatedNeverEnds : Type 0
+TerminatedNeverEnds = (t : Tree) → is_terminated t ≡ true → NeverEnds t

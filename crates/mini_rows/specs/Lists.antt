@@ -1,13 +1,14 @@
 -- Rows of lists of statements: each reads some neighbours in a list and writes others in their place.
-use Rattle.std.specs.Prelude.{◌≡◌, ◌⊎◌, ◌<◌, ℕ, zero, suc, Bool, true, false, not, ◌&&◌, ◌||◌, pos, List, [], ◌∷◌, if◌then◌else◌}
+use Rattle.std.specs.Prelude.{◌≡◌, ◌⊎◌, ◌<◌, ℕ, zero, suc, Bool, true, false, not, ◌&&◌, ◌||◌, nat_eq, pos, List, [], ◌∷◌, if◌then◌else◌}
 use Rattle.mini_model.specs.declared.kind.VariableDeclarationKind.{VariableDeclarationKind}
 use Rattle.mini_model.specs.declared.kind.VariableDeclarationKind.TheVariants.{Var}
+use Rattle.mini_model.specs.declared.operator.LogicalOperator.TheVariants.{Or}
 use Rattle.mini_model.specs.declared.operator.UnaryOperator.TheVariants.{Void, LogicalNot}
 use Rattle.mini_model.specs.declared.shape.Shape.{Shape}
 use Rattle.mini_model.specs.declared.shape.Shape.TheVariants as shape
 use Rattle.mini_model.specs.declared.place.Position.{Position}
 use Rattle.mini_model.specs.declared.place.Position.TheVariants.{StatementList}
-use Rattle.mini_model.specs.Tree.{Tree, Trees, node, none, ◌▸◌, leaf, absent, listed, unary, is_absent, shape_of, children, child_or_absent, empty_statement, expression_statement, if_else, if_alone, conditional}
+use Rattle.mini_model.specs.Tree.{Tree, Trees, node, none, ◌▸◌, count, leaf, absent, listed, unary, is_absent, shape_of, children, child_or_absent, empty_statement, expression_statement, if_else, if_alone, conditional, logical}
 use Rattle.mini_model.specs.Paths.{append}
 use Rattle.mini_model.specs.Weight.{weight}
 use Rattle.mini_rows.specs.Switches.{Switches}
@@ -154,6 +155,28 @@ with_head (If u v) e = if_else e u v
 with_head (Switch cases) e = switch e cases
 with_head (For u v w) e = for_loop e u v w
 
+-- `for (left in right) body`
+abbrev pub for_in : Tree → Tree → Tree → Tree
+for_in left right body = node shape.ForInStatement [] 0 (left ▸ (right ▸ (body ▸ none)))
+
+abbrev pub is_var_shape : Shape → Bool
+is_var_shape (shape.VariableDeclaration Var) = true
+is_var_shape _ = false
+
+-- `var x`, without an initializer
+abbrev pub lacks_initializer : Tree → Bool
+lacks_initializer d = nat_eq (count (children d)) 2 && is_absent (child_or_absent (children d) 1)
+
+abbrev pub are_bare : Tree → Bool
+are_bare ds = nat_eq (count (children ds)) 1 && lacks_initializer (child_or_absent (children ds) 0)
+
+abbrev pub is_bare_var : Tree → Bool
+is_bare_var t = is_var_shape (shape_of t) && (nat_eq (count (children t)) 1 && are_bare (child_or_absent (children t) 0))
+
+-- the left side of a `for..in` that declares no lexical name and has no initializer
+abbrev pub is_plain_left : Tree → Bool
+is_plain_left t = declares_nothing t || is_bare_var t
+
 -- Ends
 
 abbrev pub any : List Bool → Bool
@@ -247,6 +270,39 @@ pub record Row67Absent (a b : Trees) : Type 0 where
   pub shape : a ≡ expression_statement (of_parts p ps) ▸ (for_loop absent test update body ▸ none)
   pub written : b ≡ for_loop (of_parts p ps) test update body ▸ none
 
+-- 67: `a; for (x in b) c` becomes `for (x in a, b) c`
+pub record Row67In (a b : Trees) : Type 0 where
+  pub left : Tree
+  pub body : Tree
+  pub p : Tree
+  pub ps : Trees
+  pub q : Tree
+  pub qs : Trees
+  pub plain : is_plain_left left ≡ true
+  pub first : are_parts p ps ≡ true
+  pub second : are_parts q qs ≡ true
+  pub shape : a ≡ expression_statement (of_parts p ps) ▸ (for_in left (of_parts q qs) body ▸ none)
+  pub written : b ≡ for_in left (of_parts p (append ps (q ▸ qs))) body ▸ none
+
+-- 68: `var a; for (; b; c) d` becomes `for (var a; b; c) d`
+pub record Row68Free (a b : Trees) : Type 0 where
+  pub ds : Trees
+  pub test : Tree
+  pub update : Tree
+  pub body : Tree
+  pub shape : a ≡ declaration Var ds ▸ (for_loop absent test update body ▸ none)
+  pub written : b ≡ for_loop (declaration Var ds) test update body ▸ none
+
+-- 68: `var a; for (var b; c; d) e` becomes `for (var a, b; c; d) e`
+pub record Row68Init (a b : Trees) : Type 0 where
+  pub ds : Trees
+  pub es : Trees
+  pub test : Tree
+  pub update : Tree
+  pub body : Tree
+  pub shape : a ≡ declaration Var ds ▸ (for_loop (declaration Var es) test update body ▸ none)
+  pub written : b ≡ for_loop (declaration Var (append ds es)) test update body ▸ none
+
 -- 68: `var a; var b;` becomes `var a, b;`, and so with `let` and `const`
 pub record Row68 (a b : Trees) : Type 0 where
   pub kind : VariableDeclarationKind
@@ -265,15 +321,41 @@ pub record Row76 (a b : Trees) : Type 0 where
   pub shape : a ≡ if_else test s u ▸ none
   pub written : b ≡ if_alone test s ▸ (u ▸ none)
 
+-- 74: `if (a) s; if (b) s;` becomes `if (a || b) s`, where s ends in a jump; the second may have an `else`, which stays
+pub record Row74 (a b : Trees) : Type 0 where
+  pub left : Tree
+  pub right : Tree
+  pub s : Tree
+  pub u : Tree
+  pub terminated : is_terminated s ≡ true
+  pub shape : a ≡ if_alone left s ▸ (if_else right s u ▸ none)
+  pub written : b ≡ if_else (logical Or left right) s u ▸ none
+
 -- Rows in a list
 
 -- the rows that make sequences of expressions, or statements that others can make them of
 abbrev pub SequencesRow : Trees → Trees → Type 0
 SequencesRow a b = Row66Joined a b ⊎ (Row73 return_statement a b ⊎ (Row73 throw_statement a b ⊎ (Row73Bare a b ⊎ (Row67 a b ⊎ (Row67Absent a b ⊎ Row76 a b)))))
 
+-- the rows on the head of a loop, beside those of an expression that a `for` begins with
+abbrev pub LoopRow : Trees → Trees → Type 0
+LoopRow a b = Row67In a b ⊎ (Row68Free a b ⊎ Row68Init a b)
+
+-- those that join declarations, and those
+abbrev pub JoinRow : Switches → Trees → Trees → Type 0
+JoinRow o a b = ((o.join_vars ≡ true) × Row68 a b) ⊎ ((o.sequences ≡ true) × LoopRow a b)
+
 -- the rows on these neighbours that the options let happen
 abbrev pub StretchRow : Switches → Trees → Trees → Type 0
-StretchRow o a b = Row66Empty a b ⊎ (Row79 a b ⊎ (((o.join_vars ≡ true) × Row68 a b) ⊎ ((o.sequences ≡ true) × SequencesRow a b)))
+StretchRow o a b = Row66Empty a b ⊎ (Row79 a b ⊎ (JoinRow o a b ⊎ ((o.sequences ≡ true) × SequencesRow a b)))
+
+-- those on an `if` and the next one that has its branch
+abbrev pub GuardsRow : Switches → Trees → Trees → Type 0
+GuardsRow o a b = (o.sequences ≡ true) × Row74 a b
+
+-- all of them
+abbrev pub NeighbourRow : Switches → Trees → Trees → Type 0
+NeighbourRow o a b = StretchRow o a b ⊎ GuardsRow o a b
 
 -- some neighbours in a list, and others in their place
 pub record InList (R : Trees → Trees → Type 0) (n w : Tree) : Type 0 where
@@ -287,7 +369,7 @@ pub record InList (R : Trees → Trees → Type 0) (n w : Tree) : Type 0 where
 
 -- a row reads the list n at this place as w
 abbrev pub ListRow : Switches → Position → Tree → Tree → Type 0
-ListRow o StatementList n w = InList (StretchRow o) n w
+ListRow o StatementList n w = InList (NeighbourRow o) n w
 ListRow o _ n w = ⊥
 
 -- what a row writes, where it weighs less

@@ -431,3 +431,19 @@ rearranges_statement f s r = false
 -- a list of statements for another
 abbrev pub rearranges_list : Free → Items → Items → Bool
 rearranges_list f is js = items_stand_well f AsWholeItem is && (items_stand_well f AsWholeItem js && keeps_statements f (parts_in AsWholeItem is) (parts_in AsWholeItem js))
+
+-- ---- a branch that is written once
+
+abbrev pub is_branch_hole : Hole → Bool
+is_branch_hole (Part i AsBranch) = true
+is_branch_hole h = false
+
+-- the second is the first, but that a branch stands twice in it, one right after the other
+abbrev pub has_branch_twice : List Hole → List Hole → Bool
+has_branch_twice (g ∷ gs) (h ∷ (k ∷ hs)) = is_same_hole g h && ((is_branch_hole h && (is_same_hole h k && are_same_holes gs hs)) || has_branch_twice gs (k ∷ hs))
+has_branch_twice gs hs = false
+
+-- a list of statements for another, in which a branch stands twice
+abbrev pub rearranges_list_once : Free → Items → Items → Bool
+rearranges_list_once f is js =
+    items_stand_well f AsWholeItem is && (items_stand_well f AsWholeItem js && (is_rearranged f (parts_in AsWholeItem is) (parts_in AsWholeItem js) && has_branch_twice (statements (all_settled f (parts_in AsWholeItem js))) (statements (all_settled f (parts_in AsWholeItem is)))))

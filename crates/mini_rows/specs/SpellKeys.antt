@@ -1,9 +1,9 @@
--- Rows on the keys of object literals, as equations. The node is the literal, and one property of it changes: a plain one, that
--- is no method and no accessor.
+-- Rows on the keys of object literals, as equations. The node is the literal, and one property of it changes.
 use Rattle.std.specs.Prelude.{◌≡◌, ◌<◌, ◌⊎◌, ℕ, Bool, true, false, List, [], codes, pos}
 use Rattle.std.specs.Fmt.{signed_decimal}
 use Rattle.mini_text.specs.Texts.{is_identifier_name}
 use Rattle.mini_text.specs.Numerals.{IsSafe}
+use Rattle.mini_model.specs.declared.kind.PropertyKind.{PropertyKind}
 use Rattle.mini_model.specs.declared.kind.PropertyKind.TheVariants.{Init}
 use Rattle.mini_model.specs.declared.name.Name.{Name}
 use Rattle.mini_model.specs.declared.place.Position.{Position}
@@ -67,9 +67,61 @@ pub record Row52Numeral (n w : Tree) : Type 0 where
   pub shape : n ≡ property false true (numeral (pos number)) value
   pub written : w ≡ property false false (numeral (pos number)) value
 
+-- the key of a function: the text of a name or of a number, or a text or a number in brackets. None sets a prototype
+pub data KeyForm : Type 0 where
+  a_name : List ℕ → KeyForm
+  a_whole : ℕ → KeyForm
+  a_text_in_brackets : List ℕ → KeyForm
+  a_whole_in_brackets : ℕ → KeyForm
+
+abbrev pub IsSpelled : KeyForm → Type 0
+IsSpelled (a_name s) = is_identifier_name s ≡ true
+IsSpelled (a_whole n) = IsSafe (pos n)
+IsSpelled (a_text_in_brackets s) = Unit {0}
+IsSpelled (a_whole_in_brackets n) = IsSafe (pos n)
+
+-- whether it stands in brackets; what is read, and what is written
+abbrev pub is_bracketed_form : KeyForm → Bool
+is_bracketed_form (a_name s) = false
+is_bracketed_form (a_whole n) = false
+is_bracketed_form (a_text_in_brackets s) = true
+is_bracketed_form (a_whole_in_brackets n) = true
+
+abbrev pub read_key : KeyForm → Tree
+read_key (a_name s) = text s
+read_key (a_whole n) = text (signed_decimal (pos n))
+read_key (a_text_in_brackets s) = text s
+read_key (a_whole_in_brackets n) = numeral (pos n)
+
+abbrev pub written_key : KeyForm → Tree
+written_key (a_name s) = key s
+written_key (a_whole n) = numeral (pos n)
+written_key (a_text_in_brackets s) = text s
+written_key (a_whole_in_brackets n) = numeral (pos n)
+
+-- `k() {}`, `get k() {}`, `set k(a) {}`
+abbrev pub function_property : PropertyKind → Bool → Bool → Tree → Tree → Tree
+function_property kind is_method is_computed k v = node (shape.ObjectProperty kind is_method false is_computed) [] 0 (k ▸ v ▸ none)
+
+-- a method, a getter or a setter
+abbrev pub is_function_kind : PropertyKind → Bool → Bool
+is_function_kind Init is_method = is_method
+is_function_kind kind is_method = true
+
+-- 52, of a function: `"x"() {}` becomes `x() {}`, `"1"() {}` becomes `1() {}`, `["x"]() {}` becomes `"x"() {}` and `[1]() {}` becomes `1() {}`
+pub record Row52Function (n w : Tree) : Type 0 where
+  pub kind : PropertyKind
+  pub is_method : Bool
+  pub form : KeyForm
+  pub value : Tree
+  pub is_function : is_function_kind kind is_method ≡ true
+  pub is_spelled : IsSpelled form
+  pub shape : n ≡ function_property kind is_method (is_bracketed_form form) (read_key form) value
+  pub written : w ≡ function_property kind is_method false (written_key form) value
+
 -- of one property
 abbrev pub PropertyRow : Tree → Tree → Type 0
-PropertyRow n w = Row51 n w ⊎ (Row52Name n w ⊎ (Row52Number n w ⊎ (Row52Text n w ⊎ Row52Numeral n w)))
+PropertyRow n w = Row51 n w ⊎ (Row52Name n w ⊎ (Row52Number n w ⊎ (Row52Text n w ⊎ (Row52Numeral n w ⊎ Row52Function n w))))
 
 -- of the literal that has it
 pub record RowInObject (n w : Tree) : Type 0 where

@@ -1,6 +1,6 @@
 //! What is built anew of the same parts.
 
-ghost use Rattle.mini_rows.specs.Arranged.{ExpressionsArranged, StatementsArranged, ListsArranged, NeighboursKept, StatementsRewritten, Row40Kept, Row82ElseKept, Row82AndKept, Row82OrKept, KeptIsLawful};
+ghost use Rattle.mini_rows.specs.Arranged.{ExpressionsArranged, StatementsArranged, ListsArranged, ListsArrangedOnce, NeighboursKept, StatementsRewritten, Row40Kept, Row82ElseKept, Row82AndKept, Row82OrKept, KeptIsLawful};
 
 use mini_laws::Rewrites;
 
@@ -15,6 +15,7 @@ pub fn expressions_arranged()
 pub fn statements_arranged()
     ensures any { StatementsArranged }
     ensures lists { ListsArranged }
+    ensures once { ListsArrangedOnce }
     ensures neighbours { NeighboursKept }
     ensures row_82_else { Row82ElseKept }
     ensures row_82_and { Row82AndKept }

@@ -3,10 +3,20 @@
 #![tactic(auto)]
 
 mod arrangements;
+mod arrows;
 mod branches;
+mod choices;
+mod declarations;
+mod foldings;
 mod lists;
 mod redexes;
 mod spellings;
+mod turns;
 
 pub use branches::{branches_are_lawful, branches_lighten, branches_same};
+pub use choices::{
+    branches_are_held, choices_are_lawful, choices_are_lighter, choices_mean_the_same,
+};
+pub use declarations::{declarations_are_lawful, declarations_lighten, declarations_same};
+pub use foldings::{foldings_are_lawful, foldings_are_lighter, foldings_mean_the_same};
 pub use redexes::rows_are_lawful;

@@ -1,7 +1,7 @@
 //! The rows of lists of statements.
 
 ghost use Rattle.mini_rows.specs.Lists.{ListsLighter};
-ghost use Rattle.mini_rows.specs.ListLaws.{ListsMeanSame, ListsLighten, ListsLawful};
+ghost use Rattle.mini_rows.specs.ListLaws.{ListsMeanSame, ListsLighten, ListsLawful, TerminatedNeverEnds};
 
 /// What a row of lists writes is lighter in every list, so that no weight is asked before it is applied.
 pub fn lists_are_lighter()
@@ -17,4 +17,9 @@ pub fn lists_are_same()
 /// What a row of lists writes keeps all that a program has to keep.
 pub fn lists_are_lawful()
     ensures { ListsLawful }
+{}
+
+/// No run of a statement that is terminated ends normally, nor one of a list of them.
+pub fn terminated_never_ends()
+    ensures { TerminatedNeverEnds }
 {}

@@ -1,6 +1,7 @@
 use Rattle.mini_rows.proofs.ArrangedBetween.{in_list_kept}
 use Rattle.mini_rows.proofs.ArrangedRows.{row_82_else_kept, row_82_and_kept}
 use Rattle.mini_rows.proofs.ArrangedStatements as law
+use Rattle.mini_rows.proofs.ArrangedTwice.{lists_arranged_once}
 use Rattle.mini_rows.proofs.arrangements.statements_arranged.Goals as goal
 
 pub returns-clause-any : goal.returns-clause-any
@@ -17,3 +18,6 @@ returns-clause-row_82_else c = row_82_else_kept
 
 pub returns-clause-row_82_and : goal.returns-clause-row_82_and
 returns-clause-row_82_and c = row_82_and_kept
+
+pub returns-clause-once : goal.returns-clause-once
+returns-clause-once c = lists_arranged_once

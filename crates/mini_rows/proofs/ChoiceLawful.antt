@@ -1,0 +1,229 @@
+-- What a row of choices writes keeps all that a program has to keep: it is built anew of the same parts.
+use Rattle.std.proofs.Common.{◌≡◌, ◌≤◌, ℕ, true, List, [], ◌∷◌, refl, sym, ap, subst, ◌∙◌, inl, inr}
+use Rattle.std.specs.Prelude.{◌++◌}
+use Rattle.mini_model.specs.declared.name.Name.{Name}
+use Rattle.mini_model.specs.declared.operator.AssignmentOperator.{AssignmentOperator}
+use Rattle.mini_model.specs.declared.operator.AssignmentOperator.TheVariants.{Assign}
+use Rattle.mini_model.specs.declared.operator.BinaryOperator.{BinaryOperator}
+use Rattle.mini_model.specs.declared.operator.BinaryOperator.TheVariants as binary_operator
+use Rattle.mini_model.specs.declared.operator.LogicalOperator.{LogicalOperator}
+use Rattle.mini_model.specs.declared.operator.LogicalOperator.TheVariants.{Or, And, Coalesce}
+use Rattle.mini_model.specs.declared.place.Position.{Position}
+use Rattle.mini_model.specs.declared.place.Position.TheVariants.{Expr}
+use Rattle.mini_model.specs.declared.seat.Seat.{Seat}
+use Rattle.mini_model.specs.declared.shape.Shape.TheVariants as shape
+use Rattle.mini_model.specs.Tree.{Tree, none, ◌▸◌, identifier}
+use Rattle.mini_names.specs.declared.Use.{Use}
+use Rattle.mini_names.specs.declared.Use.TheVariants.{Write, ReadWrite}
+use Rattle.mini_names.specs.declared.Declared.TheVariants as declared
+use Rattle.mini_names.specs.DeclaredNames.{names_of, body_names, has_inner}
+use Rattle.mini_names.specs.Scopes.{opened}
+use Rattle.mini_names.specs.Resolved.{Environment, symbol_of, or_else, own_symbol}
+use Rattle.mini_names.specs.Scoped.{Scoped}
+use Rattle.mini_names.specs.Symbols.{declared as declared_in, times}
+use Rattle.mini_names.specs.Early.{body_declarations, scope_declarations, early_names, early_jumps, targets_of}
+use Rattle.mini_kept.specs.Carried.{numbers}
+use Rattle.mini_kept.specs.KeepsLoosely.{KeepsLoosely}
+use Rattle.mini_kept.specs.KeepsNames.{is_rewritten_place}
+use Rattle.mini_kept.specs.SameNames.{SameNames, SameScope, NoMoreClash}
+use Rattle.mini_kept.specs.Lawful.{Lawful}
+use Rattle.mini_kept.proofs.Quiet.{no_names, no_body_names, no_body_declarations, no_loop}
+use Rattle.mini_rows.specs.Arranged.{KeptAt, Vanishes}
+use Rattle.mini_rows.specs.Sketches.{Binary, Logical, Conditional, Assignment, Sketch, part, under, end, ◌▹◌, Free, Null, Sequence, list, no_items, item}
+use Rattle.mini_rows.specs.Spellings.{assignment}
+use Rattle.mini_rows.specs.Choices.{assign, deciding, Row39, Row38, Row35, Row45, ChoiceRow, ChoiceContracts, Row46Equal, Row46Unequal, Row41Or, Row41And, Row42And, Row42Or, Row43Or, Row43And, Row43AndThen, Row43OrThen, Row49, LighterRow, OwnRow, HeldRow, HeldRowAt, HeldContracts}
+use Rattle.mini_rows.proofs.ArrangedExpressions.{expressions_arranged, expressions_arranged_freely}
+use Rattle.mini_rows.proofs.ArrangedLawful.{kept_is_lawful}
+use Rattle.mini_rows.proofs.ChoiceMeaning.{choices_same, held_mean_same}
+use Rattle.mini_rows.proofs.ChoiceShapes.{row_fits, row_asked, row_slot, held_row_fits, held_row_asked, held_row_slot}
+
+-- ---- a name that is assigned to may be read besides
+
+symbol_either : (s : List ℕ) (env : Environment) → symbol_of Write s env ≡ symbol_of ReadWrite s env
+symbol_either s [] = refl
+symbol_either s (d ∷ env) = ap (λ y. or_else y (own_symbol Write s d)) (symbol_either s env)
+
+name_scoped : (x : Name) (env : Environment) → Scoped Write env (identifier x) → Scoped ReadWrite env (identifier x)
+unfolding Scoped
+name_scoped x env a = ((a.0.0 ∙ symbol_either x.spelling env, tt), tt)
+
+retarget_scoped : (c : AssignmentOperator) (x : Name) (b : Tree) (v : Use) (env : Environment) → Scoped v env (assign x b) → Scoped v env (assignment c (identifier x) b)
+unfolding Scoped
+retarget_scoped Assign x b v env a = a
+retarget_scoped c x b v env a = (a.0, (name_scoped x (env ++ opened v (shape.AssignmentExpression Assign) (identifier x ▸ b ▸ none) 0) a.1.0, a.1.1))
+
+same_symbols : (c : AssignmentOperator) (x : Name) (b : Tree) (v : Use) → declared_in v (assignment c (identifier x) b) ≡ declared_in v (assign x b)
+unfolding declared_in
+same_symbols Assign x b v = refl
+same_symbols c x b v = refl
+
+retarget_keeps : (c : AssignmentOperator) (x : Name) (b : Tree) (q : Seat) (n : Tree) → KeepsLoosely (Expr q) n (assign x b) → KeepsLoosely (Expr q) n (assignment c (identifier x) b)
+unfolding has_inner numbers early_names scope_declarations early_jumps targets_of
+retarget_keeps c x b q n m =
+    let w = assignment c (identifier x) b in
+    let w' = assign x b in
+    record {
+      bound = no_names declared.Bound w refl ∙ sym (no_names declared.Bound w' refl) ∙ m.bound;
+      lexical = no_names declared.Lexical w refl ∙ sym (no_names declared.Lexical w' refl) ∙ m.lexical;
+      hoisted = subst (λ xs. SameNames xs (names_of declared.Hoisted n)) (no_names declared.Hoisted w' refl ∙ sym (no_names declared.Hoisted w refl)) m.hoisted;
+      body = λ v env k y. subst (λ xs. SameScope xs (body_names n)) (no_body_names w' refl ∙ sym (no_body_names w refl)) (m.body v env k y);
+      inner = m.inner;
+      symbols = λ v env k y z. subst (λ ss. times z ss ≤ times z (declared_in v n)) (sym (same_symbols c x b v)) (m.symbols v env k y z);
+      scoped = λ v env k y. retarget_scoped c x b v env (m.scoped v env k y);
+      numbers = m.numbers;
+      declared_as_body = λ l p. subst (λ ds. NoMoreClash ds (body_declarations l p n)) (no_body_declarations l p w' refl ∙ sym (no_body_declarations l p w refl)) (m.declared_as_body l p);
+      once = m.once;
+      targets = m.targets;
+      loop = no_loop w refl ∙ sym (no_loop w' refl) ∙ m.loop;
+      root = λ k. absurd (cc k);
+      block = λ k l p. absurd (cc k);
+    }
+
+retargeted : (c : AssignmentOperator) (x : Name) (b : Tree) (q : Seat) (n : Tree) → KeptAt (Expr q) n (assign x b) → KeptAt (Expr q) n (assignment c (identifier x) b)
+retargeted c x b q n k = record {
+  keeps = λ strict s o e. retarget_keeps c x b q n (k.keeps strict s o e);
+  piece = k.piece;
+  kind = k.kind;
+  bodies = k.bodies;
+  ports = k.ports;
+  listed = k.listed;
+  exported = k.exported;
+  frames = k.frames;
+  fixed = k.fixed;
+  declared = k.declared;
+}
+
+-- a name that is read leaves nothing behind
+name_vanishes : (x : Name) → Vanishes (identifier x)
+unfolding has_inner
+name_vanishes x = record { inner = refl; fixed = λ y. refl }
+
+abbrev first_dropped : Free
+first_dropped = record { moved = []; lists_moved = []; dropped = 0 ∷ [] }
+
+-- an assignment to the part 0 of this
+abbrev assigns_first : Sketch → Sketch
+assigns_first s = under (Assignment Assign) (part 0 ▹ s ▹ end)
+
+-- ---- rows
+
+rotated_kept : (q : Seat) (n w : Tree) → Row39 n w → KeptAt (Expr q) n w
+rotated_kept q n w r =
+    expressions_arranged (record { trees = r.a ▸ r.b ▸ r.c ▸ none; lists = [] }) (under (Logical r.operator) (part 0 ▹ under (Logical r.operator) (part 1 ▹ part 2 ▹ end) ▹ end)) (under (Logical r.operator) (under (Logical r.operator) (part 0 ▹ part 1 ▹ end) ▹ part 2 ▹ end)) refl q n w r.shape r.written
+
+deciding_kept : (q : Seat) (n w : Tree) → Row38 n w → KeptAt (Expr q) n w
+deciding_kept q n w r =
+    subst (KeptAt (Expr q) n) (sym r.written)
+    (retargeted (deciding r.operator) r.name r.b q n (expressions_arranged_freely first_dropped (record { trees = identifier r.name ▸ r.b ▸ none; lists = [] }) (tt, tt, (name_vanishes r.name, tt)) (under (Logical r.operator) (part 0 ▹ assigns_first (part 1) ▹ end)) (assigns_first (part 1)) refl q n (assign r.name r.b) r.shape refl))
+
+computing_kept : (q : Seat) (n w : Tree) → Row35 n w → KeptAt (Expr q) n w
+computing_kept q n w r =
+    subst (KeptAt (Expr q) n) (sym r.written)
+    (retargeted r.combined r.name r.b q n (expressions_arranged_freely first_dropped (record { trees = identifier r.name ▸ r.b ▸ none; lists = [] }) (tt, tt, (name_vanishes r.name, tt)) (assigns_first (under (Binary r.operator) (part 0 ▹ part 1 ▹ end))) (assigns_first (part 1)) refl q n (assign r.name r.b) r.shape refl))
+
+chosen_kept : (q : Seat) (n w : Tree) → Row45 q n w → KeptAt (Expr q) n w
+chosen_kept q n w r =
+    expressions_arranged (record { trees = identifier r.name ▸ r.a ▸ r.b ▸ r.c ▸ none; lists = [] }) (under Conditional (part 1 ▹ assigns_first (part 2) ▹ assigns_first (part 3) ▹ end)) (assigns_first (under Conditional (part 1 ▹ part 2 ▹ part 3 ▹ end))) refl q n w r.shape r.written
+
+-- sketches of a conditional, of a logical expression, and of two parts in order
+abbrev choice : Sketch → Sketch → Sketch → Sketch
+choice a b c = under Conditional (a ▹ b ▹ c ▹ end)
+
+abbrev operands : LogicalOperator → Sketch → Sketch → Sketch
+operands o a b = under (Logical o) (a ▹ b ▹ end)
+
+abbrev in_order : Sketch → Sketch → Sketch
+in_order a b = under Sequence (list (item a (item b no_items)) ▹ end)
+
+abbrev beside_null : BinaryOperator → Sketch
+beside_null o = under (Binary o) (part 0 ▹ under Null end ▹ end)
+
+equal_kept : (q : Seat) (n w : Tree) → Row46Equal n w → KeptAt (Expr q) n w
+equal_kept q n w r = expressions_arranged (record { trees = identifier r.name ▸ r.b ▸ none; lists = [] }) (choice (beside_null binary_operator.Equality) (part 1) (part 0)) (operands Coalesce (part 0) (part 1)) refl q n w r.shape r.written
+
+unequal_kept : (q : Seat) (n w : Tree) → Row46Unequal n w → KeptAt (Expr q) n w
+unequal_kept q n w r = expressions_arranged (record { trees = identifier r.name ▸ r.b ▸ none; lists = [] }) (choice (beside_null binary_operator.Inequality) (part 0) (part 1)) (operands Coalesce (part 0) (part 1)) refl q n w r.shape r.written
+
+own_or_kept : (q : Seat) (n w : Tree) → Row41Or n w → KeptAt (Expr q) n w
+own_or_kept q n w r = expressions_arranged (record { trees = identifier r.name ▸ r.b ▸ none; lists = [] }) (choice (part 0) (part 0) (part 1)) (operands Or (part 0) (part 1)) refl q n w r.shape r.written
+
+own_and_kept : (q : Seat) (n w : Tree) → Row41And n w → KeptAt (Expr q) n w
+own_and_kept q n w r = expressions_arranged (record { trees = identifier r.name ▸ r.b ▸ none; lists = [] }) (choice (part 0) (part 1) (part 0)) (operands And (part 0) (part 1)) refl q n w r.shape r.written
+
+choice_and_kept : (q : Seat) (n w : Tree) → Row42And n w → KeptAt (Expr q) n w
+choice_and_kept q n w r = expressions_arranged (record { trees = r.a ▸ r.b ▸ r.c ▸ r.d ▸ none; lists = [] }) (choice (part 0) (choice (part 1) (part 2) (part 3)) (part 3)) (choice (operands And (part 0) (part 1)) (part 2) (part 3)) refl q n w r.shape r.written
+
+choice_or_kept : (q : Seat) (n w : Tree) → Row42Or n w → KeptAt (Expr q) n w
+choice_or_kept q n w r = expressions_arranged (record { trees = r.a ▸ r.b ▸ r.c ▸ r.d ▸ none; lists = [] }) (choice (part 0) (part 2) (choice (part 1) (part 2) (part 3))) (choice (operands Or (part 0) (part 1)) (part 2) (part 3)) refl q n w r.shape r.written
+
+or_kept : (q : Seat) (n w : Tree) → Row43Or n w → KeptAt (Expr q) n w
+or_kept q n w r = expressions_arranged (record { trees = r.a ▸ r.b ▸ r.c ▸ none; lists = [] }) (choice (part 0) (operands Or (part 1) (part 2)) (part 2)) (operands Or (operands And (part 0) (part 1)) (part 2)) refl q n w r.shape r.written
+
+and_kept : (q : Seat) (n w : Tree) → Row43And n w → KeptAt (Expr q) n w
+and_kept q n w r = expressions_arranged (record { trees = r.a ▸ r.b ▸ r.c ▸ none; lists = [] }) (choice (part 0) (part 2) (operands And (part 1) (part 2))) (operands And (operands Or (part 0) (part 1)) (part 2)) refl q n w r.shape r.written
+
+and_then_kept : (q : Seat) (n w : Tree) → Row43AndThen n w → KeptAt (Expr q) n w
+and_then_kept q n w r = expressions_arranged (record { trees = r.a ▸ r.b ▸ r.c ▸ none; lists = [] }) (choice (part 0) (in_order (part 1) (part 2)) (part 2)) (in_order (operands And (part 0) (part 1)) (part 2)) refl q n w r.shape r.written
+
+or_then_kept : (q : Seat) (n w : Tree) → Row43OrThen n w → KeptAt (Expr q) n w
+or_then_kept q n w r = expressions_arranged (record { trees = r.a ▸ r.b ▸ r.c ▸ none; lists = [] }) (choice (part 0) (part 2) (in_order (part 1) (part 2))) (in_order (operands Or (part 0) (part 1)) (part 2)) refl q n w r.shape r.written
+
+both_kept : (q : Seat) (n w : Tree) → Row49 n w → KeptAt (Expr q) n w
+both_kept q n w r = expressions_arranged (record { trees = r.a ▸ r.b ▸ none; lists = [] }) (choice (part 0) (part 1) (part 1)) (in_order (part 0) (part 1)) refl q n w r.shape r.written
+
+lighter_kept : (q : Seat) (n w : Tree) → LighterRow q n w → KeptAt (Expr q) n w
+lighter_kept q n w (inl r) = rotated_kept q n w r
+lighter_kept q n w (inr (inl r)) = deciding_kept q n w r
+lighter_kept q n w (inr (inr (inl r))) = computing_kept q n w r
+lighter_kept q n w (inr (inr (inr (inl r)))) = equal_kept q n w r
+lighter_kept q n w (inr (inr (inr (inr (inl r))))) = unequal_kept q n w r
+lighter_kept q n w (inr (inr (inr (inr (inr r))))) = chosen_kept q n w r
+
+own_kept : (q : Seat) (n w : Tree) → OwnRow n w → KeptAt (Expr q) n w
+own_kept q n w (inl r) = own_or_kept q n w r
+own_kept q n w (inr r) = own_and_kept q n w r
+
+held_kept : (q : Seat) (n w : Tree) → HeldRow n w → KeptAt (Expr q) n w
+held_kept q n w (inl r) = choice_and_kept q n w r
+held_kept q n w (inr (inl r)) = choice_or_kept q n w r
+held_kept q n w (inr (inr (inl r))) = or_kept q n w r
+held_kept q n w (inr (inr (inr (inl r)))) = and_kept q n w r
+held_kept q n w (inr (inr (inr (inr (inl r))))) = and_then_kept q n w r
+held_kept q n w (inr (inr (inr (inr (inr (inl r)))))) = or_then_kept q n w r
+held_kept q n w (inr (inr (inr (inr (inr (inr r)))))) = both_kept q n w r
+
+expression_kept : (q : Seat) (n w : Tree) → ChoiceRow (Expr q) n w → KeptAt (Expr q) n w
+expression_kept q n w (inl r) = lighter_kept q n w r
+expression_kept q n w (inr r) = own_kept q n w r
+
+kept : (p : Position) (n w : Tree) → ChoiceRow p n w → KeptAt p n w
+kept (Expr q) n w r = expression_kept q n w r
+kept p n w r = absurd r
+
+places : (p : Position) (n w : Tree) → ChoiceRow p n w → is_rewritten_place p ≡ true
+places (Expr q) n w r = refl
+places p n w r = absurd r
+
+pub lawful : Lawful ChoiceContracts
+lawful =
+    kept_is_lawful ChoiceContracts choices_same
+    (record { fitting = λ p n w c strict s k e. row_fits p n w c.row strict s e; asked = λ p n w c. row_asked p n w c.row })
+    (λ p n w c. places p n w c.row)
+    (λ p n w c strict s k e. row_slot p n w c.row strict s e)
+    (λ p n w c. kept p n w c.row)
+
+held_kept_at : (p : Position) (n w : Tree) → HeldRowAt p n w → KeptAt p n w
+held_kept_at (Expr q) n w r = held_kept q n w r
+held_kept_at p n w r = absurd r
+
+held_places : (p : Position) (n w : Tree) → HeldRowAt p n w → is_rewritten_place p ≡ true
+held_places (Expr q) n w r = refl
+held_places p n w r = absurd r
+
+pub held_lawful : Lawful HeldContracts
+held_lawful =
+    kept_is_lawful HeldContracts held_mean_same
+    (record { fitting = λ p n w c strict s k e. held_row_fits p n w c.row strict s e; asked = λ p n w c. held_row_asked p n w c.row })
+    (λ p n w c. held_places p n w c.row)
+    (λ p n w c strict s k e. held_row_slot p n w c.row strict s e)
+    (λ p n w c. held_kept_at p n w c.row)

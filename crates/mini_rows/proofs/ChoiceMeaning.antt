@@ -1,0 +1,249 @@
+-- What each row of choices writes means the same.
+use Rattle.std.proofs.Common.{◌≡◌, Bool, true, false, refl, sym, ap, ◌∙◌, inl, inr}
+use Rattle.std.specs.Prelude.{not}
+use Rattle.mini_model.specs.declared.name.Name.{Name}
+use Rattle.mini_model.specs.declared.operator.AssignmentOperator.TheVariants.{Assign}
+use Rattle.mini_model.specs.declared.operator.BinaryOperator.TheVariants as binary_operator
+use Rattle.mini_model.specs.declared.operator.LogicalOperator.{LogicalOperator}
+use Rattle.mini_model.specs.declared.operator.LogicalOperator.TheVariants.{Or, And, Coalesce}
+use Rattle.mini_model.specs.declared.seat.Seat.{Seat}
+use Rattle.mini_model.specs.Tree.{Tree, identifier, logical, conditional, null_literal}
+use Rattle.mini_model.specs.declared.place.Position.{Position}
+use Rattle.mini_model.specs.declared.place.Position.TheVariants.{Expr}
+use Rattle.mini_laws.specs.Value.{Value, Boolean, choose, truth, is_nullish}
+use Rattle.mini_laws.specs.State.{State, Completion, ok, stop, either, Environment}
+use Rattle.mini_laws.specs.Naming.{summary}
+use Rattle.mini_laws.specs.Rows.{SameAt}
+use Rattle.mini_laws.specs.Rewritten.{MeansSame}
+use Rattle.mini_laws.specs.Targets.{assigns}
+use Rattle.mini_laws.proofs.Runs.{either_cong, either_assoc, runs}
+use Rattle.mini_rows.specs.Spellings.{binary, assignment}
+use Rattle.mini_rows.specs.Choices.{assign, pair, deciding, Row35, Row46Equal, Row46Unequal, LighterRow, OwnRow, HeldRow, HeldRowAt, HeldContracts, ChoiceRow, ChoiceContracts}
+use Rattle.mini_rows.proofs.SpellAlike.{SameTree}
+use Rattle.mini_rows.proofs.SpellMeaning.{tree_same, same_by}
+use Rattle.mini_rows.proofs.ChoiceRuns.{value, by_value, conditional_tells, logical_tells, assignment_tells, pair_tells, pair_value, by_reading, equal_null, unequal_null, conditional_value, logical_value, puts, assign_value, deciding_value, computing_value}
+
+-- 39
+
+-- where the left side of two operators of one kind decides, the second asks it again
+decided_again : (e : Environment) (o : LogicalOperator) (b c : Tree) (v : Value) (z : State) (g : Bool) → assigns o v ≡ g → choose g (either (value e b z) (λ u y. choose (assigns o u) (value e c y) (ok u y)) (λ x y. stop x y)) (ok v z) ≡ either (choose g (value e b z) (ok v z)) (λ u y. choose (assigns o u) (value e c y) (ok u y)) (λ x y. stop x y)
+unfolding either
+decided_again e o b c v z true h = refl
+decided_again e o b c v z false h = sym (ap (λ g. choose g (value e c z) (ok v z)) h)
+
+rotated_value : (o : LogicalOperator) (a b c : Tree) (e : Environment) (s : State) → value e (logical o a (logical o b c)) s ≡ value e (logical o (logical o a b) c) s
+unfolding either
+rotated_value o a b c e s =
+    logical_value e o a (logical o b c) s
+    ∙ either_cong (value e a s) _ _ _ _ (λ v z. ap (λ x. choose (assigns o v) x (ok v z)) (logical_value e o b c z) ∙ decided_again e o b c v z (assigns o v) refl) (λ x z. refl)
+    ∙ sym (logical_value e o (logical o a b) c s ∙ ap (λ x. either x (λ u y. choose (assigns o u) (value e c y) (ok u y)) (λ x y. stop x y)) (logical_value e o a b s) ∙ either_assoc (value e a s) (λ v z. choose (assigns o v) (value e b z) (ok v z)) (λ x z. stop x z) (λ u y. choose (assigns o u) (value e c y) (ok u y)) (λ x y. stop x y))
+
+rotated_same : (o : LogicalOperator) (a b c : Tree) → SameTree (logical o a (logical o b c)) (logical o (logical o a b) c)
+rotated_same o a b c = by_value _ _ (logical_tells o a (logical o b c)) (logical_tells o (logical o a b) c) refl (rotated_value o a b c)
+
+-- 38
+
+deciding_same : (o : LogicalOperator) (x : Name) (b : Tree) → SameTree (logical o (identifier x) (assign x b)) (assignment (deciding o) (identifier x) b)
+deciding_same o x b =
+    by_value _ _ (logical_tells o (identifier x) (assign x b)) (assignment_tells (deciding o) (identifier x) b) refl
+    (λ e s. logical_value e o (identifier x) (assign x b) s ∙ either_cong (value e (identifier x) s) _ _ _ _ (λ v z. ap (λ y. choose (assigns o v) y (ok v z)) (assign_value e x b z)) (λ x z. refl) ∙ sym (deciding_value e o x b s))
+
+-- 35
+
+computing_same : (n w : Tree) → Row35 n w → SameTree n w
+computing_same n w r =
+    same_by n w _ _ r.shape r.written
+    (by_value _ _ (assignment_tells Assign (identifier r.name) (binary r.operator (identifier r.name) r.b)) (assignment_tells r.combined (identifier r.name) r.b) refl
+    (λ e s. assign_value e r.name (binary r.operator (identifier r.name) r.b) s ∙ computing_value e r.operator r.combined r.computes r.name r.b s))
+
+-- 45
+
+put_either : (e : Environment) (x : Name) (g : Bool) (y z : Completion Value) → choose g (puts e x y) (puts e x z) ≡ puts e x (choose g y z)
+put_either e x true y z = refl
+put_either e x false y z = refl
+
+chosen_value : (a : Tree) (x : Name) (b c : Tree) (e : Environment) (s : State) → value e (conditional a (assign x b) (assign x c)) s ≡ value e (assign x (conditional a b c)) s
+unfolding either
+chosen_value a x b c e s =
+    conditional_value e a (assign x b) (assign x c) s
+    ∙ either_cong (value e a s) _ _ _ _ (λ v z. (λ k. choose (truth v) (assign_value e x b z k) (assign_value e x c z k)) ∙ put_either e x (truth v) (value e b z) (value e c z)) (λ x z. refl)
+    ∙ sym (assign_value e x (conditional a b c) s ∙ ap (puts e x) (conditional_value e a b c s) ∙ simp runs)
+
+chosen_same : (a : Tree) (x : Name) (b c : Tree) → SameTree (conditional a (assign x b) (assign x c)) (assign x (conditional a b c))
+chosen_same a x b c = by_value _ _ (conditional_tells a (assign x b) (assign x c)) (assignment_tells Assign (identifier x) (conditional a b c)) refl (chosen_value a x b c)
+
+-- 46
+
+-- what a conditional does that asks whether a name is null or undefined
+nullish_value : (e : Environment) (x : Name) (b t : Tree) (f : Bool → Bool) (y n : Tree) → ((s : State) → value e t s ≡ either (value e (identifier x) s) (λ v z. ok (Boolean (f (is_nullish v))) z) (λ x z. stop x z)) → ((v : Value) (s : State) → value e (identifier x) s ≡ ok v s → choose (f (is_nullish v)) (value e y s) (value e n s) ≡ choose (is_nullish v) (value e b s) (ok v s)) → (s : State) → value e (conditional t y n) s ≡ value e (logical Coalesce (identifier x) b) s
+nullish_value e x b t f y n told same s =
+    conditional_value e t y n s
+    ∙ ap (λ k. either k (λ v z. choose (truth v) (value e y z) (value e n z)) (λ x z. stop x z)) (told s)
+    ∙ simp runs (by_reading e x s (λ v z. choose (f (is_nullish v)) (value e y z) (value e n z)) (λ v z. choose (is_nullish v) (value e b z) (ok v z)) (λ v k. same v s k))
+    ∙ sym (logical_value e Coalesce (identifier x) b s)
+
+otherwise_read : (e : Environment) (x : Name) (b : Tree) (g : Bool) (v : Value) (s : State) → value e (identifier x) s ≡ ok v s → choose g (value e b s) (value e (identifier x) s) ≡ choose g (value e b s) (ok v s)
+otherwise_read e x b g v s k = ap (λ y. choose g (value e b s) y) k
+
+turned_read : (e : Environment) (x : Name) (b : Tree) (g : Bool) (v : Value) (s : State) → value e (identifier x) s ≡ ok v s → choose (not g) (value e (identifier x) s) (value e b s) ≡ choose g (value e b s) (ok v s)
+turned_read e x b true v s k = refl
+turned_read e x b false v s k = k
+
+equal_same : (n w : Tree) → Row46Equal n w → SameTree n w
+equal_same n w r =
+    let x = r.name in
+    let test = binary binary_operator.Equality (identifier x) null_literal in
+    same_by n w _ _ r.shape r.written
+    (by_value _ _ (conditional_tells test r.b (identifier x)) (logical_tells Coalesce (identifier x) r.b) refl
+    (λ e s. nullish_value e x r.b test (λ b. b) r.b (identifier x) (equal_null e x) (λ v z k. otherwise_read e x r.b (is_nullish v) v z k) s))
+
+unequal_same : (n w : Tree) → Row46Unequal n w → SameTree n w
+unequal_same n w r =
+    let x = r.name in
+    let test = binary binary_operator.Inequality (identifier x) null_literal in
+    same_by n w _ _ r.shape r.written
+    (by_value _ _ (conditional_tells test (identifier x) r.b) (logical_tells Coalesce (identifier x) r.b) refl
+    (λ e s. nullish_value e x r.b test not (identifier x) r.b (unequal_null e x) (λ v z k. turned_read e x r.b (is_nullish v) v z k) s))
+
+-- 41
+
+own_or_value : (x : Name) (b : Tree) (e : Environment) (s : State) → value e (conditional (identifier x) (identifier x) b) s ≡ value e (logical Or (identifier x) b) s
+own_or_value x b e s =
+    conditional_value e (identifier x) (identifier x) b s
+    ∙ by_reading e x s (λ v z. choose (truth v) (value e (identifier x) z) (value e b z)) (λ v z. choose (not (truth v)) (value e b z) (ok v z)) (λ v k. own (truth v) v k)
+    ∙ sym (logical_value e Or (identifier x) b s)
+  where
+    own : (g : Bool) (v : Value) → value e (identifier x) s ≡ ok v s → choose g (value e (identifier x) s) (value e b s) ≡ choose (not g) (value e b s) (ok v s)
+    own true v k = k
+    own false v k = refl
+
+own_and_value : (x : Name) (b : Tree) (e : Environment) (s : State) → value e (conditional (identifier x) b (identifier x)) s ≡ value e (logical And (identifier x) b) s
+own_and_value x b e s =
+    conditional_value e (identifier x) b (identifier x) s
+    ∙ by_reading e x s (λ v z. choose (truth v) (value e b z) (value e (identifier x) z)) (λ v z. choose (truth v) (value e b z) (ok v z)) (λ v k. otherwise_read e x b (truth v) v s k)
+    ∙ sym (logical_value e And (identifier x) b s)
+
+-- where a conditional has a branch in two places
+
+abbrev Follows : Type 0
+Follows = Value → State → Completion Value
+
+-- the operator ends where the test tells the branch
+ends_and : (e : Environment) (b : Tree) (g : Follows) (y : Completion Value) (v : Value) (z : State) (t : Bool) → (t ≡ false → g v z ≡ y) → choose t (either (value e b z) g (λ x k. stop x k)) y ≡ either (choose t (value e b z) (ok v z)) g (λ x k. stop x k)
+unfolding either
+ends_and e b g y v z true h = refl
+ends_and e b g y v z false h = sym (h refl)
+
+ends_or : (e : Environment) (b : Tree) (g : Follows) (y : Completion Value) (v : Value) (z : State) (t : Bool) → (t ≡ true → g v z ≡ y) → choose t y (either (value e b z) g (λ x k. stop x k)) ≡ either (choose (not t) (value e b z) (ok v z)) g (λ x k. stop x k)
+unfolding either
+ends_or e b g y v z true h = sym (h refl)
+ends_or e b g y v z false h = refl
+
+-- a conditional that goes on with b and what follows, or does at once what would follow
+held_and : (e : Environment) (a b y n w : Tree) (g : Follows) → ((s : State) → value e y s ≡ either (value e b s) g (λ x k. stop x k)) → ((v : Value) (s : State) → truth v ≡ false → g v s ≡ value e n s) → ((s : State) → value e w s ≡ either (value e (logical And a b) s) g (λ x k. stop x k)) → (s : State) → value e (conditional a y n) s ≡ value e w s
+unfolding either
+held_and e a b y n w g holds ends whole s =
+    conditional_value e a y n s
+    ∙ either_cong (value e a s) _ _ _ _ (λ v z. ap (λ k. choose (truth v) k (value e n z)) (holds z) ∙ ends_and e b g (value e n z) v z (truth v) (ends v z)) (λ x z. refl)
+    ∙ sym (whole s ∙ ap (λ k. either k g (λ x k. stop x k)) (logical_value e And a b s) ∙ either_assoc (value e a s) (λ v z. choose (truth v) (value e b z) (ok v z)) (λ x z. stop x z) g (λ x k. stop x k))
+
+held_or : (e : Environment) (a b y n w : Tree) (g : Follows) → ((s : State) → value e n s ≡ either (value e b s) g (λ x k. stop x k)) → ((v : Value) (s : State) → truth v ≡ true → g v s ≡ value e y s) → ((s : State) → value e w s ≡ either (value e (logical Or a b) s) g (λ x k. stop x k)) → (s : State) → value e (conditional a y n) s ≡ value e w s
+unfolding either
+held_or e a b y n w g holds ends whole s =
+    conditional_value e a y n s
+    ∙ either_cong (value e a s) _ _ _ _ (λ v z. ap (λ k. choose (truth v) (value e y z) k) (holds z) ∙ ends_or e b g (value e y z) v z (truth v) (ends v z)) (λ x z. refl)
+    ∙ sym (whole s ∙ ap (λ k. either k g (λ x k. stop x k)) (logical_value e Or a b s) ∙ either_assoc (value e a s) (λ v z. choose (not (truth v)) (value e b z) (ok v z)) (λ x z. stop x z) g (λ x k. stop x k))
+
+-- 42
+
+choice_and_same : (a b c d : Tree) → SameTree (conditional a (conditional b c d) d) (conditional (logical And a b) c d)
+choice_and_same a b c d =
+    by_value _ _ (conditional_tells a (conditional b c d) d) (conditional_tells (logical And a b) c d) refl
+    (λ e s. held_and e a b (conditional b c d) d (conditional (logical And a b) c d) (λ v z. choose (truth v) (value e c z) (value e d z)) (λ z. conditional_value e b c d z) (λ v z h. ap (λ t. choose t (value e c z) (value e d z)) h) (λ z. conditional_value e (logical And a b) c d z) s)
+
+choice_or_same : (a b c d : Tree) → SameTree (conditional a c (conditional b c d)) (conditional (logical Or a b) c d)
+choice_or_same a b c d =
+    by_value _ _ (conditional_tells a c (conditional b c d)) (conditional_tells (logical Or a b) c d) refl
+    (λ e s. held_or e a b c (conditional b c d) (conditional (logical Or a b) c d) (λ v z. choose (truth v) (value e c z) (value e d z)) (λ z. conditional_value e b c d z) (λ v z h. ap (λ t. choose t (value e c z) (value e d z)) h) (λ z. conditional_value e (logical Or a b) c d z) s)
+
+-- 43
+
+or_same : (a b c : Tree) → SameTree (conditional a (logical Or b c) c) (logical Or (logical And a b) c)
+or_same a b c =
+    by_value _ _ (conditional_tells a (logical Or b c) c) (logical_tells Or (logical And a b) c) refl
+    (λ e s. held_and e a b (logical Or b c) c (logical Or (logical And a b) c) (λ v z. choose (not (truth v)) (value e c z) (ok v z)) (λ z. logical_value e Or b c z) (λ v z h. ap (λ t. choose (not t) (value e c z) (ok v z)) h) (λ z. logical_value e Or (logical And a b) c z) s)
+
+and_same : (a b c : Tree) → SameTree (conditional a c (logical And b c)) (logical And (logical Or a b) c)
+and_same a b c =
+    by_value _ _ (conditional_tells a c (logical And b c)) (logical_tells And (logical Or a b) c) refl
+    (λ e s. held_or e a b c (logical And b c) (logical And (logical Or a b) c) (λ v z. choose (truth v) (value e c z) (ok v z)) (λ z. logical_value e And b c z) (λ v z h. ap (λ t. choose t (value e c z) (ok v z)) h) (λ z. logical_value e And (logical Or a b) c z) s)
+
+and_then_same : (a b c : Tree) → SameTree (conditional a (pair b c) c) (pair (logical And a b) c)
+and_then_same a b c =
+    by_value _ _ (conditional_tells a (pair b c) c) (pair_tells (logical And a b) c) refl
+    (λ e s. held_and e a b (pair b c) c (pair (logical And a b) c) (λ v z. value e c z) (λ z. pair_value e b c z) (λ v z h. refl) (λ z. pair_value e (logical And a b) c z) s)
+
+or_then_same : (a b c : Tree) → SameTree (conditional a c (pair b c)) (pair (logical Or a b) c)
+or_then_same a b c =
+    by_value _ _ (conditional_tells a c (pair b c)) (pair_tells (logical Or a b) c) refl
+    (λ e s. held_or e a b c (pair b c) (pair (logical Or a b) c) (λ v z. value e c z) (λ z. pair_value e b c z) (λ v z h. refl) (λ z. pair_value e (logical Or a b) c z) s)
+
+-- 49
+
+anyhow : (b : Bool) (y : Completion Value) → choose b y y ≡ y
+anyhow true y = refl
+anyhow false y = refl
+
+both_same : (a b : Tree) → SameTree (conditional a b b) (pair a b)
+both_same a b =
+    by_value _ _ (conditional_tells a b b) (pair_tells a b) refl
+    (λ e s. conditional_value e a b b s ∙ either_cong (value e a s) _ _ _ _ (λ v z. anyhow (truth v) (value e b z)) (λ x z. refl) ∙ sym (pair_value e a b s))
+
+-- all
+
+lighter_same : (s : Seat) (n w : Tree) → LighterRow s n w → SameTree n w
+lighter_same s n w (inl r) = same_by n w _ _ r.shape r.written (rotated_same r.operator r.a r.b r.c)
+lighter_same s n w (inr (inl r)) = same_by n w _ _ r.shape r.written (deciding_same r.operator r.name r.b)
+lighter_same s n w (inr (inr (inl r))) = computing_same n w r
+lighter_same s n w (inr (inr (inr (inl r)))) = equal_same n w r
+lighter_same s n w (inr (inr (inr (inr (inl r))))) = unequal_same n w r
+lighter_same s n w (inr (inr (inr (inr (inr r))))) = same_by n w _ _ r.shape r.written (chosen_same r.a r.name r.b r.c)
+
+own_same : (n w : Tree) → OwnRow n w → SameTree n w
+own_same n w (inl r) = same_by n w _ _ r.shape r.written (by_value _ _ (conditional_tells (identifier r.name) (identifier r.name) r.b) (logical_tells Or (identifier r.name) r.b) refl (own_or_value r.name r.b))
+own_same n w (inr r) = same_by n w _ _ r.shape r.written (by_value _ _ (conditional_tells (identifier r.name) r.b (identifier r.name)) (logical_tells And (identifier r.name) r.b) refl (own_and_value r.name r.b))
+
+held_same : (n w : Tree) → HeldRow n w → SameTree n w
+held_same n w (inl r) = same_by n w _ _ r.shape r.written (choice_and_same r.a r.b r.c r.d)
+held_same n w (inr (inl r)) = same_by n w _ _ r.shape r.written (choice_or_same r.a r.b r.c r.d)
+held_same n w (inr (inr (inl r))) = same_by n w _ _ r.shape r.written (or_same r.a r.b r.c)
+held_same n w (inr (inr (inr (inl r)))) = same_by n w _ _ r.shape r.written (and_same r.a r.b r.c)
+held_same n w (inr (inr (inr (inr (inl r))))) = same_by n w _ _ r.shape r.written (and_then_same r.a r.b r.c)
+held_same n w (inr (inr (inr (inr (inr (inl r)))))) = same_by n w _ _ r.shape r.written (or_then_same r.a r.b r.c)
+held_same n w (inr (inr (inr (inr (inr (inr r)))))) = same_by n w _ _ r.shape r.written (both_same r.a r.b)
+
+expression_same : (s : Seat) (n w : Tree) → ChoiceRow (Expr s) n w → SameTree n w
+expression_same s n w (inl r) = lighter_same s n w r
+expression_same s n w (inr r) = own_same n w r
+
+means_same : (p : Position) (n w : Tree) → ChoiceRow p n w → SameAt p n w
+means_same (Expr s) n w r = tree_same s n w (expression_same s n w r)
+means_same p n w r = absurd r
+
+reads : (p : Position) (n w : Tree) → ChoiceRow p n w → summary n ≡ summary w
+reads (Expr s) n w r = (expression_same s n w r).read
+reads p n w r = absurd r
+
+pub choices_same : MeansSame ChoiceContracts
+choices_same = record { same = λ p n w c. means_same p n w c.row; reads = λ p n w c. reads p n w c.row }
+
+held_at : (p : Position) (n w : Tree) → HeldRowAt p n w → SameAt p n w
+held_at (Expr s) n w r = tree_same s n w (held_same n w r)
+held_at p n w r = absurd r
+
+held_reads : (p : Position) (n w : Tree) → HeldRowAt p n w → summary n ≡ summary w
+held_reads (Expr s) n w r = (held_same n w r).read
+held_reads p n w r = absurd r
+
+pub held_mean_same : MeansSame HeldContracts
+held_mean_same = record { same = λ p n w c. held_at p n w c.row; reads = λ p n w c. held_reads p n w c.row }

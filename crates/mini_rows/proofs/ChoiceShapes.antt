@@ -1,0 +1,236 @@
+-- What a row of choices writes may stand wherever what it reads may, and a parent may ask the same of both.
+use Rattle.std.proofs.Common.{◌≡◌, Bool, true, false, [], refl, sym, ap, subst, ◌∙◌, inl, inr, true≢false}
+use Rattle.std.specs.Prelude.{◌&&◌}
+use Rattle.std.proofs.lemmas.Bool.{and_parts}
+use Rattle.mini_model.specs.declared.name.Name.{Name}
+use Rattle.mini_model.specs.declared.operator.AssignmentOperator.{AssignmentOperator}
+use Rattle.mini_model.specs.declared.operator.AssignmentOperator.TheVariants.{Assign}
+use Rattle.mini_model.specs.declared.operator.BinaryOperator.TheVariants as binary_operator
+use Rattle.mini_model.specs.declared.operator.LogicalOperator.TheVariants.{Or, And, Coalesce}
+use Rattle.mini_model.specs.declared.place.Position.{Position}
+use Rattle.mini_model.specs.declared.place.Position.TheVariants.{Expr}
+use Rattle.mini_model.specs.declared.seat.Seat.{Seat}
+use Rattle.mini_model.specs.Tree.{Tree, Trees, node, none, ◌▸◌, identifier, logical, conditional, null_literal, is_absent, shape_of}
+use Rattle.mini_accept.specs.WellShaped.{Class, an_init, an_arrow_body, an_expression, a_link, an_argument, a_key, a_default_export, a_target, a_simple_target, Slot, one, one_or_absent, fits, is_function_body, has_optional, is_not_positive_number, spelling}
+use Rattle.mini_kept.specs.KeepsShapes.{AskedAlike, is_default}
+use Rattle.mini_kept.specs.KeepsFrames.{is_body_slot}
+use Rattle.mini_kept.proofs.Bools.{left, both}
+use Rattle.mini_kept.proofs.Expressions.{expression, ThreeFit, of_conditional, TakesExpressionIn, TakesExpression, expression_taken, three_fit, two_fit}
+use Rattle.mini_rows.specs.Spellings.{binary, assignment}
+use Rattle.mini_rows.specs.Choices.{assign, deciding, ChoiceRow, pair, LighterRow, OwnRow, HeldRow, HeldRowAt}
+use Rattle.mini_rows.proofs.SpellShapes.{Form, an_assignment, a_logical, a_conditional, shaped, Kind, Alone, Linked, Ending, Assigned, Nowhere, kind_of, kind_in, filled, fits_is, Formed, formed_asked, formed_slot}
+
+-- ---- where they stand an expression does
+
+abbrev is_choice : Form → Bool
+is_choice (a_logical o) = true
+is_choice a_conditional = true
+is_choice (an_assignment o) = true
+is_choice _ = false
+
+abbrev is_alone : Kind → Bool
+is_alone Alone = true
+is_alone Linked = true
+is_alone _ = false
+
+-- they are no members, so they end no chain, and are not assigned to
+stands_alone : (strict : Bool) (k : Kind) (f : Form) (ts : Trees) → is_choice f ≡ true → filled strict k f ts ≡ true → is_alone k ≡ true
+stands_alone strict Alone f ts c e = refl
+stands_alone strict Linked f ts c e = refl
+stands_alone strict Ending (a_logical o) ts c e = absurd (cc e)
+stands_alone strict Ending a_conditional ts c e = absurd (cc e)
+stands_alone strict Ending (an_assignment o) ts c e = absurd (cc e)
+stands_alone strict Ending f ts c e = absurd (true≢false (sym c))
+stands_alone strict Assigned (a_logical o) ts c e = absurd (cc e)
+stands_alone strict Assigned a_conditional ts c e = absurd (cc e)
+stands_alone strict Assigned (an_assignment o) ts c e = absurd (cc e)
+stands_alone strict Assigned f ts c e = absurd (true≢false (sym c))
+stands_alone strict Nowhere f ts c e = absurd (cc e)
+
+as_alone : (strict : Bool) (k : Kind) (f : Form) (ts : Trees) → is_choice f ≡ true → is_alone k ≡ true → filled strict k f ts ≡ true → filled strict Alone f ts ≡ true
+as_alone strict Alone f ts c a e = e
+as_alone strict Linked (a_logical o) ts c a e = e
+as_alone strict Linked a_conditional ts c a e = e
+as_alone strict Linked (an_assignment Assign) ts c a e = e
+as_alone strict Linked (an_assignment o) ts c a e = e
+as_alone strict Linked f ts c a e = absurd (true≢false (sym c))
+as_alone strict k f ts c a e = absurd (true≢false (sym a))
+
+takes_in : (c : Class) → is_alone (kind_of c) ≡ true → TakesExpressionIn c
+takes_in an_expression e = tt
+takes_in an_argument e = tt
+takes_in an_init e = tt
+takes_in an_arrow_body e = tt
+takes_in a_default_export e = tt
+takes_in (a_key true) e = tt
+takes_in (a_key false) e = absurd (true≢false (sym e))
+takes_in a_link e = tt
+takes_in c e = absurd (true≢false (sym e))
+
+takes : (s : Slot) → is_alone (kind_in s) ≡ true → TakesExpression s
+takes (one c) e = takes_in c e
+takes (one_or_absent c) e = takes_in c e
+takes s e = absurd (true≢false (sym e))
+
+pub choice_taken : (strict : Bool) (s : Slot) (f : Form) (ts : Trees) → is_choice f ≡ true → fits strict s (node (shaped f) [] 0 ts) ≡ true → TakesExpression s × (fits strict expression (node (shaped f) [] 0 ts) ≡ true)
+choice_taken strict s f ts c e =
+    let stands = sym (fits_is strict s f ts) ∙ e in
+    let alone = stands_alone strict (kind_in s) f ts c stands in
+    (takes s alone, fits_is strict expression f ts ∙ as_alone strict (kind_in s) f ts c alone stands)
+
+-- ---- parts
+
+module _ (strict : Bool) where
+  abbrev Fits : Tree → Type 0
+  Fits t = fits strict expression t ≡ true
+
+  of_two : (a b : Tree) → (fits strict expression a && (fits strict expression b && true)) ≡ true → Fits a × Fits b
+  of_two a b e = let (x, y) = and_parts (fits strict expression a) (fits strict expression b && true) e in (x, left (fits strict expression b) true y)
+
+  -- a name may stand as a target wherever it may be read
+  assignment_fits : (c : AssignmentOperator) (x : Name) (b : Tree) → Fits (identifier x) → Fits b → Fits (assignment c (identifier x) b)
+  assignment_fits Assign x b e f = both (fits strict (one a_target) (identifier x)) (fits strict expression b && true) e (both (fits strict expression b) true f refl)
+  assignment_fits c x b e f = both (fits strict (one a_simple_target) (identifier x)) (fits strict expression b && true) e (both (fits strict expression b) true f refl)
+
+  of_assignment : (x : Name) (b : Tree) → Fits (assign x b) → Fits (identifier x) × Fits b
+  of_assignment x b e = let (y, z) = and_parts (fits strict (one a_target) (identifier x)) (fits strict expression b && true) e in (y, left (fits strict expression b) true z)
+
+  of_three : (a b c : Tree) → Fits (conditional a b c) → ThreeFit strict a b c
+  of_three a b c e = (of_conditional strict expression a b c e).1
+
+  pair_fits : (a b : Tree) → Fits a → Fits b → Fits (pair a b)
+  pair_fits a b e f = both (fits strict expression a && (fits strict expression b && true)) true (two_fit strict a b e f) refl
+
+  of_pair : (a b : Tree) → Fits (pair a b) → Fits a × Fits b
+  of_pair a b e = of_two a b (left (fits strict expression a && (fits strict expression b && true)) true e)
+
+  -- ---- rows
+
+  module _ (s : Slot) where
+    abbrev Here : Tree → Type 0
+    Here t = fits strict s t ≡ true
+
+    lighter_fits : (q : Seat) (n w : Tree) → LighterRow q n w → Here n → Here w
+    lighter_fits q n w (inl r) e =
+        let (here, fit) = choice_taken strict s (a_logical r.operator) (r.a ▸ logical r.operator r.b r.c ▸ none) refl (subst Here r.shape e) in
+        let (first, rest) = of_two r.a (logical r.operator r.b r.c) fit in
+        let (second, third) = of_two r.b r.c rest in
+        subst Here (sym r.written) (expression_taken strict s (logical r.operator (logical r.operator r.a r.b) r.c) here (two_fit strict (logical r.operator r.a r.b) r.c (two_fit strict r.a r.b first second) third))
+    lighter_fits q n w (inr (inl r)) e =
+        let (here, fit) = choice_taken strict s (a_logical r.operator) (identifier r.name ▸ assign r.name r.b ▸ none) refl (subst Here r.shape e) in
+        let (first, rest) = of_two (identifier r.name) (assign r.name r.b) fit in
+        subst Here (sym r.written) (expression_taken strict s (assignment (deciding r.operator) (identifier r.name) r.b) here (assignment_fits (deciding r.operator) r.name r.b first (of_assignment r.name r.b rest).1))
+    lighter_fits q n w (inr (inr (inl r))) e =
+        let (here, fit) = choice_taken strict s (an_assignment Assign) (identifier r.name ▸ binary r.operator (identifier r.name) r.b ▸ none) refl (subst Here r.shape e) in
+        let (first, rest) = of_assignment r.name (binary r.operator (identifier r.name) r.b) fit in
+        subst Here (sym r.written) (expression_taken strict s (assignment r.combined (identifier r.name) r.b) here (assignment_fits r.combined r.name r.b first (of_two (identifier r.name) r.b rest).1))
+    lighter_fits q n w (inr (inr (inr (inr (inr r))))) e =
+        let (here, fit) = choice_taken strict s a_conditional (r.a ▸ assign r.name r.b ▸ assign r.name r.c ▸ none) refl (subst Here r.shape e) in
+        let (test, rest) = and_parts (fits strict expression r.a) (fits strict expression (assign r.name r.b) && (fits strict expression (assign r.name r.c) && true)) fit in
+        let (first, second) = of_two (assign r.name r.b) (assign r.name r.c) rest in
+        let (name, b) = of_assignment r.name r.b first in
+        subst Here (sym r.written) (expression_taken strict s (assign r.name (conditional r.a r.b r.c)) here (assignment_fits Assign r.name (conditional r.a r.b r.c) name (three_fit strict r.a r.b r.c test b (of_assignment r.name r.c second).1)))
+    lighter_fits q n w (inr (inr (inr (inl r)))) e =
+        let (here, (test, branch, last)) = of_conditional strict s (binary binary_operator.Equality (identifier r.name) null_literal) r.b (identifier r.name) (subst Here r.shape e) in
+        subst Here (sym r.written) (expression_taken strict s (logical Coalesce (identifier r.name) r.b) here (two_fit strict (identifier r.name) r.b last branch))
+    lighter_fits q n w (inr (inr (inr (inr (inl r))))) e =
+        let (here, (test, last, branch)) = of_conditional strict s (binary binary_operator.Inequality (identifier r.name) null_literal) (identifier r.name) r.b (subst Here r.shape e) in
+        subst Here (sym r.written) (expression_taken strict s (logical Coalesce (identifier r.name) r.b) here (two_fit strict (identifier r.name) r.b last branch))
+
+    -- what is written for a conditional fits where its parts do
+    for_choice : (n w a b c : Tree) → n ≡ conditional a b c → (Fits a → Fits b → Fits c → Fits w) → Here n → Here w
+    for_choice n w a b c h f e =
+        let (here, (x, y, z)) = of_conditional strict s a b c (subst Here h e) in
+        expression_taken strict s w here (f x y z)
+
+    own_fits : (n w : Tree) → OwnRow n w → Here n → Here w
+    own_fits n w (inl r) = for_choice n w _ _ _ r.shape (λ x y z. subst Fits (sym r.written) (two_fit strict (identifier r.name) r.b x z))
+    own_fits n w (inr r) = for_choice n w _ _ _ r.shape (λ x y z. subst Fits (sym r.written) (two_fit strict (identifier r.name) r.b x y))
+
+    held_fits : (n w : Tree) → HeldRow n w → Here n → Here w
+    held_fits n w (inl r) =
+        for_choice n w _ _ _ r.shape (λ x y z. let (b, c, d) = of_three r.b r.c r.d y in subst Fits (sym r.written) (three_fit strict (logical And r.a r.b) r.c r.d (two_fit strict r.a r.b x b) c z))
+    held_fits n w (inr (inl r)) =
+        for_choice n w _ _ _ r.shape (λ x y z. let (b, c, d) = of_three r.b r.c r.d z in subst Fits (sym r.written) (three_fit strict (logical Or r.a r.b) r.c r.d (two_fit strict r.a r.b x b) y d))
+    held_fits n w (inr (inr (inl r))) =
+        for_choice n w _ _ _ r.shape (λ x y z. let (b, c) = of_two r.b r.c y in subst Fits (sym r.written) (two_fit strict (logical And r.a r.b) r.c (two_fit strict r.a r.b x b) z))
+    held_fits n w (inr (inr (inr (inl r)))) =
+        for_choice n w _ _ _ r.shape (λ x y z. let (b, c) = of_two r.b r.c z in subst Fits (sym r.written) (two_fit strict (logical Or r.a r.b) r.c (two_fit strict r.a r.b x b) y))
+    held_fits n w (inr (inr (inr (inr (inl r))))) =
+        for_choice n w _ _ _ r.shape (λ x y z. let (b, c) = of_pair r.b r.c y in subst Fits (sym r.written) (pair_fits (logical And r.a r.b) r.c (two_fit strict r.a r.b x b) z))
+    held_fits n w (inr (inr (inr (inr (inr (inl r)))))) =
+        for_choice n w _ _ _ r.shape (λ x y z. let (b, c) = of_pair r.b r.c z in subst Fits (sym r.written) (pair_fits (logical Or r.a r.b) r.c (two_fit strict r.a r.b x b) y))
+    held_fits n w (inr (inr (inr (inr (inr (inr r)))))) = for_choice n w _ _ _ r.shape (λ x y z. subst Fits (sym r.written) (pair_fits r.a r.b x y))
+
+-- ---- what a parent asks
+
+row_formed : (q : Seat) (n w : Tree) → LighterRow q n w → Formed n w
+row_formed q n w (inl r) = record { first = a_logical r.operator; second = a_logical r.operator; parts = r.a ▸ logical r.operator r.b r.c ▸ none; others = logical r.operator r.a r.b ▸ r.c ▸ none; read = r.shape; made = r.written; optional = λ x. absurd (cc x) }
+row_formed q n w (inr (inl r)) = record { first = a_logical r.operator; second = an_assignment (deciding r.operator); parts = identifier r.name ▸ assign r.name r.b ▸ none; others = identifier r.name ▸ r.b ▸ none; read = r.shape; made = r.written; optional = λ x. absurd (cc x) }
+row_formed q n w (inr (inr (inl r))) = record { first = an_assignment Assign; second = an_assignment r.combined; parts = identifier r.name ▸ binary r.operator (identifier r.name) r.b ▸ none; others = identifier r.name ▸ r.b ▸ none; read = r.shape; made = r.written; optional = λ x. absurd (cc x) }
+row_formed q n w (inr (inr (inr (inr (inr r))))) = record { first = a_conditional; second = an_assignment Assign; parts = r.a ▸ assign r.name r.b ▸ assign r.name r.c ▸ none; others = identifier r.name ▸ conditional r.a r.b r.c ▸ none; read = r.shape; made = r.written; optional = λ x. absurd (cc x) }
+row_formed q n w (inr (inr (inr (inl r)))) = record { first = a_conditional; second = a_logical Coalesce; parts = binary binary_operator.Equality (identifier r.name) null_literal ▸ r.b ▸ identifier r.name ▸ none; others = identifier r.name ▸ r.b ▸ none; read = r.shape; made = r.written; optional = λ x. absurd (cc x) }
+row_formed q n w (inr (inr (inr (inr (inl r))))) = record { first = a_conditional; second = a_logical Coalesce; parts = binary binary_operator.Inequality (identifier r.name) null_literal ▸ identifier r.name ▸ r.b ▸ none; others = identifier r.name ▸ r.b ▸ none; read = r.shape; made = r.written; optional = λ x. absurd (cc x) }
+
+-- of a conditional it asks nothing that another expression hasn't
+record Choosing (n w : Tree) : Type 0 where
+  a : Tree
+  b : Tree
+  c : Tree
+  read : n ≡ conditional a b c
+  number : is_not_positive_number w ≡ true
+
+choosing_asked : (p : Position) (n w : Tree) → Choosing n w → AskedAlike p n w
+choosing_asked p n w r = record {
+  absent = λ e. absurd (cc (sym e ∙ ap is_absent r.read));
+  body = λ e. absurd (cc (sym e ∙ ap is_function_body r.read));
+  optional = λ e. absurd (cc (sym e ∙ ap has_optional r.read));
+  number = λ e k. r.number;
+  spelled = λ s e. absurd (cc (sym e ∙ ap spelling r.read));
+  plain = ap (λ t. is_default (shape_of t)) r.read;
+}
+
+chosen_formed : (n w : Tree) → Choosing n w → Formed n n
+chosen_formed n w r = record { first = a_conditional; second = a_conditional; parts = r.a ▸ r.b ▸ r.c ▸ none; others = r.a ▸ r.b ▸ r.c ▸ none; read = r.read; made = r.read; optional = λ e. e }
+
+own_choosing : (n w : Tree) → OwnRow n w → Choosing n w
+own_choosing n w (inl r) = record { a = identifier r.name; b = identifier r.name; c = r.b; read = r.shape; number = ap is_not_positive_number r.written }
+own_choosing n w (inr r) = record { a = identifier r.name; b = r.b; c = identifier r.name; read = r.shape; number = ap is_not_positive_number r.written }
+
+held_choosing : (n w : Tree) → HeldRow n w → Choosing n w
+held_choosing n w (inl r) = record { a = r.a; b = conditional r.b r.c r.d; c = r.d; read = r.shape; number = ap is_not_positive_number r.written }
+held_choosing n w (inr (inl r)) = record { a = r.a; b = r.c; c = conditional r.b r.c r.d; read = r.shape; number = ap is_not_positive_number r.written }
+held_choosing n w (inr (inr (inl r))) = record { a = r.a; b = logical Or r.b r.c; c = r.c; read = r.shape; number = ap is_not_positive_number r.written }
+held_choosing n w (inr (inr (inr (inl r)))) = record { a = r.a; b = r.c; c = logical And r.b r.c; read = r.shape; number = ap is_not_positive_number r.written }
+held_choosing n w (inr (inr (inr (inr (inl r))))) = record { a = r.a; b = pair r.b r.c; c = r.c; read = r.shape; number = ap is_not_positive_number r.written }
+held_choosing n w (inr (inr (inr (inr (inr (inl r)))))) = record { a = r.a; b = r.c; c = pair r.b r.c; read = r.shape; number = ap is_not_positive_number r.written }
+held_choosing n w (inr (inr (inr (inr (inr (inr r)))))) = record { a = r.a; b = r.b; c = r.b; read = r.shape; number = ap is_not_positive_number r.written }
+
+-- ---- wherever rows are made
+
+pub row_fits : (p : Position) (n w : Tree) → ChoiceRow p n w → (strict : Bool) (s : Slot) → fits strict s n ≡ true → fits strict s w ≡ true
+row_fits (Expr q) n w (inl r) strict s e = lighter_fits strict s q n w r e
+row_fits (Expr q) n w (inr r) strict s e = own_fits strict s n w r e
+row_fits p n w r strict s e = absurd r
+
+pub row_asked : (p : Position) (n w : Tree) → ChoiceRow p n w → AskedAlike p n w
+row_asked (Expr q) n w (inl r) = formed_asked (Expr q) n w (row_formed q n w r)
+row_asked (Expr q) n w (inr r) = choosing_asked (Expr q) n w (own_choosing n w r)
+row_asked p n w r = absurd r
+
+pub row_slot : (p : Position) (n w : Tree) → ChoiceRow p n w → (strict : Bool) (s : Slot) → fits strict s n ≡ true → is_body_slot p s ≡ true
+row_slot (Expr q) n w (inl r) = formed_slot (Expr q) n w (row_formed q n w r)
+row_slot (Expr q) n w (inr r) = formed_slot (Expr q) n n (chosen_formed n w (own_choosing n w r))
+row_slot p n w r = absurd r
+
+pub held_row_fits : (p : Position) (n w : Tree) → HeldRowAt p n w → (strict : Bool) (s : Slot) → fits strict s n ≡ true → fits strict s w ≡ true
+held_row_fits (Expr q) n w r strict s e = held_fits strict s n w r e
+held_row_fits p n w r strict s e = absurd r
+
+pub held_row_asked : (p : Position) (n w : Tree) → HeldRowAt p n w → AskedAlike p n w
+held_row_asked (Expr q) n w r = choosing_asked (Expr q) n w (held_choosing n w r)
+held_row_asked p n w r = absurd r
+
+pub held_row_slot : (p : Position) (n w : Tree) → HeldRowAt p n w → (strict : Bool) (s : Slot) → fits strict s n ≡ true → is_body_slot p s ≡ true
+held_row_slot (Expr q) n w r = formed_slot (Expr q) n n (chosen_formed n w (held_choosing n w r))
+held_row_slot p n w r = absurd r

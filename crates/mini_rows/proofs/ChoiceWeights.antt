@@ -1,0 +1,257 @@
+-- What each row of choices writes weighs less wherever the expression stands.
+use Rattle.std.proofs.Common.{◌≡◌, ℕ, ◌+◌, ◌<◌, ◌≤◌, Bool, true, false, List, refl, sym, ap, subst, ◌∙◌, inl, inr, true≢false, arith}
+use Rattle.std.specs.Prelude.{◌&&◌, ◌||◌, nat_eq, nat_lt, if◌then◌else◌, Some, is_none, codes, pos, negsuc}
+use borrow.Author.Tests.{ltb-true, ltb-false}
+use Rattle.mini_model.specs.declared.name.Name.{Name}
+use Rattle.mini_model.specs.declared.operator.AssignmentOperator.{AssignmentOperator}
+use Rattle.mini_model.specs.declared.operator.AssignmentOperator.TheVariants as assigning
+use Rattle.mini_model.specs.declared.operator.BinaryOperator.{BinaryOperator}
+use Rattle.mini_model.specs.declared.operator.BinaryOperator.TheVariants as binary_operator
+use Rattle.mini_model.specs.declared.operator.LogicalOperator.{LogicalOperator}
+use Rattle.mini_model.specs.declared.operator.LogicalOperator.TheVariants.{Or, And, Coalesce}
+use Rattle.mini_model.specs.declared.seat.Seat.{Seat}
+use Rattle.mini_model.specs.declared.shape.Shape.{Shape}
+use Rattle.mini_model.specs.declared.shape.Shape.TheVariants as shape
+use Rattle.mini_model.specs.Tree.{Tree, node, none, ◌▸◌, identifier, logical, conditional, null_literal}
+use Rattle.mini_model.specs.declared.place.Position.{Position}
+use Rattle.mini_model.specs.declared.place.Position.TheVariants.{Expr}
+use Rattle.mini_model.specs.Position.{left_operand_seat, right_operand_seat, argument_seat, branch_seat, binary_operand_seat, conditional_level}
+use Rattle.mini_model.specs.Weight.{Outline, outline, outlines, weight, place_weight, is_parenthesized, name_weight, spelled_weight, same_text}
+use Rattle.mini_laws.specs.Weights.{Lightens}
+use Rattle.mini_laws.proofs.Seats.{placed, placed_node}
+use Rattle.mini_rows.specs.Spellings.{binary, assignment}
+use Rattle.mini_rows.specs.Choices.{assign, is_same_operator, is_grouped, deciding, computing, LighterRow, OwnRow, HeldRow, HeldRowAt, HeldContracts, ChoiceRow, ChoiceContracts, ChoicesLighter}
+use Rattle.mini_rows.proofs.SpellWeights.{falls_by}
+
+-- what a place adds to a node that is neither awkward nor mixed
+
+no_awkward : (e t f : Bool) → ◌≡◌ {A = ℕ} (if (e && false) || ((t && false) || (f && false)) then 1 else 0) 0
+no_awkward true true true = refl
+no_awkward true true false = refl
+no_awkward true false true = refl
+no_awkward true false false = refl
+no_awkward false true true = refl
+no_awkward false true false = refl
+no_awkward false false true = refl
+no_awkward false false false = refl
+
+pair_of : (b : Bool) → (if b then 4 else 0) ≤ 4
+pair_of true = omega arith
+pair_of false = omega arith
+
+assignment_marks : (s : Seat) (c : AssignmentOperator) (os : List Outline) → place_weight (Expr s) (shape.AssignmentExpression c) os ≤ 4
+assignment_marks s c os = let plain = no_awkward s.eq_left s.cond_test s.lifted in omega (arith, plain, pair_of (is_parenthesized (shape.AssignmentExpression c) s))
+
+same_marks : (s : Seat) (c d : AssignmentOperator) (os ps : List Outline) → place_weight (Expr s) (shape.AssignmentExpression c) os ≡ place_weight (Expr s) (shape.AssignmentExpression d) ps
+same_marks s c d os ps = refl
+
+pub name_heavy : (x : Name) → 2 ≤ name_weight x
+name_heavy x = named (is_none x.symbol)
+  where
+    spelled' : (b c d : Bool) → 2 ≤ (if b then 18 else (if c then 16 else (if d then 6 else 2)))
+    spelled' true c d = omega arith
+    spelled' false true d = omega arith
+    spelled' false false true = omega arith
+    spelled' false false false = omega arith
+
+    named : (b : Bool) → 2 ≤ (if b then spelled_weight x.spelling else 2)
+    named true = spelled' (same_text x.spelling (codes "undefined")) (same_text x.spelling (codes "Infinity")) (same_text x.spelling (codes "NaN"))
+    named false = omega arith
+
+-- 39: what is no expression of the operator weighs no more on the right of it than on the left
+
+abbrev is_grouped_by : LogicalOperator → Shape → Bool
+is_grouped_by o (shape.LogicalExpression p) = is_same_operator p o
+is_grouped_by o shape.InnerExpression = true
+is_grouped_by o _ = false
+
+or_marks : (s s' : Seat) (h : Shape) (os : List Outline) → is_grouped_by Or h ≡ false → place_weight (Expr (right_operand_seat Or s')) h os ≤ place_weight (Expr (left_operand_seat Or s)) h os + 0
+or_marks s s' (shape.LogicalExpression Or) os e = absurd (true≢false e)
+or_marks s s' (shape.LogicalExpression And) os e = omega arith
+or_marks s s' (shape.LogicalExpression Coalesce) os e = omega arith
+or_marks s s' (shape.BinaryExpression binary_operator.BitwiseOr) os e = omega arith
+or_marks s s' (shape.BinaryExpression p) os e = omega arith
+or_marks s s' (shape.NumericLiteral (pos n)) os e = omega arith
+or_marks s s' (shape.NumericLiteral (negsuc n)) os e = omega arith
+or_marks s s' h os e = omega arith
+
+and_marks : (s s' : Seat) (h : Shape) (os : List Outline) → is_grouped_by And h ≡ false → place_weight (Expr (right_operand_seat And s')) h os ≤ place_weight (Expr (left_operand_seat And s)) h os + 0
+and_marks s s' (shape.LogicalExpression Or) os e = omega arith
+and_marks s s' (shape.LogicalExpression And) os e = absurd (true≢false e)
+and_marks s s' (shape.LogicalExpression Coalesce) os e = omega arith
+and_marks s s' (shape.BinaryExpression binary_operator.BitwiseOr) os e = omega arith
+and_marks s s' (shape.BinaryExpression p) os e = omega arith
+and_marks s s' (shape.NumericLiteral (pos n)) os e = omega arith
+and_marks s s' (shape.NumericLiteral (negsuc n)) os e = omega arith
+and_marks s s' h os e = omega arith
+
+coalesce_marks : (s s' : Seat) (h : Shape) (os : List Outline) → is_grouped_by Coalesce h ≡ false → place_weight (Expr (right_operand_seat Coalesce s')) h os ≤ place_weight (Expr (left_operand_seat Coalesce s)) h os + 0
+coalesce_marks s s' (shape.LogicalExpression Or) os e = omega arith
+coalesce_marks s s' (shape.LogicalExpression And) os e = omega arith
+coalesce_marks s s' (shape.LogicalExpression Coalesce) os e = absurd (true≢false e)
+coalesce_marks s s' (shape.BinaryExpression binary_operator.BitwiseOr) os e = omega arith
+coalesce_marks s s' (shape.BinaryExpression p) os e = omega arith
+coalesce_marks s s' (shape.NumericLiteral (pos n)) os e = omega arith
+coalesce_marks s s' (shape.NumericLiteral (negsuc n)) os e = omega arith
+coalesce_marks s s' h os e = omega arith
+
+middle_falls : (o : LogicalOperator) (s s' : Seat) (b : Tree) → is_grouped o b ≡ false → weight (Expr (right_operand_seat o s')) b ≤ weight (Expr (left_operand_seat o s)) b + 0
+middle_falls o s s' (node shape.InnerExpression xs n ts) e = absurd (true≢false e)
+middle_falls Or s s' (node h xs n ts) e = placed_node 0 (right_operand_seat Or s') (left_operand_seat Or s) h refl xs n ts (or_marks s s' h (outlines ts) e)
+middle_falls And s s' (node h xs n ts) e = placed_node 0 (right_operand_seat And s') (left_operand_seat And s) h refl xs n ts (and_marks s s' h (outlines ts) e)
+middle_falls Coalesce s s' (node h xs n ts) e = placed_node 0 (right_operand_seat Coalesce s') (left_operand_seat Coalesce s) h refl xs n ts (coalesce_marks s s' h (outlines ts) e)
+
+rotated_falls : (o : LogicalOperator) (s : Seat) (a b c : Tree) → is_grouped o b ≡ false → weight (Expr s) (logical o (logical o a b) c) < weight (Expr s) (logical o a (logical o b c))
+rotated_falls Or s a b c e =
+    let first = placed 0 (left_operand_seat Or (left_operand_seat Or s)) (left_operand_seat Or s) refl (λ h os. omega arith) a in
+    let middle = middle_falls Or (right_operand_seat Or s) (left_operand_seat Or s) b e in
+    let last = placed 0 (right_operand_seat Or s) (right_operand_seat Or (right_operand_seat Or s)) refl (λ h os. omega arith) c in
+    omega (arith, first, middle, last)
+rotated_falls And s a b c e =
+    let first = placed 0 (left_operand_seat And (left_operand_seat And s)) (left_operand_seat And s) refl (λ h os. omega arith) a in
+    let middle = middle_falls And (right_operand_seat And s) (left_operand_seat And s) b e in
+    let last = placed 0 (right_operand_seat And s) (right_operand_seat And (right_operand_seat And s)) refl (λ h os. omega arith) c in
+    omega (arith, first, middle, last)
+rotated_falls Coalesce s a b c e =
+    let first = placed 0 (left_operand_seat Coalesce (left_operand_seat Coalesce s)) (left_operand_seat Coalesce s) refl (λ h os. omega arith) a in
+    let middle = middle_falls Coalesce (right_operand_seat Coalesce s) (left_operand_seat Coalesce s) b e in
+    let last = placed 0 (right_operand_seat Coalesce s) (right_operand_seat Coalesce (right_operand_seat Coalesce s)) refl (λ h os. omega arith) c in
+    omega (arith, first, middle, last)
+
+-- 38: the name, the `=`, and a pair of parentheses go
+
+deciding_falls : (o : LogicalOperator) (s : Seat) (x : Name) (b : Tree) → weight (Expr s) (assignment (deciding o) (identifier x) b) < weight (Expr s) (logical o (identifier x) (assign x b))
+deciding_falls Or s x b = omega (arith, assignment_marks s assigning.LogicalOr (outlines (identifier x ▸ b ▸ none)), name_heavy x)
+deciding_falls And s x b = omega (arith, assignment_marks s assigning.LogicalAnd (outlines (identifier x ▸ b ▸ none)), name_heavy x)
+deciding_falls Coalesce s x b = omega (arith, assignment_marks s assigning.LogicalNullish (outlines (identifier x ▸ b ▸ none)), name_heavy x)
+
+-- 35: the name goes
+
+-- only a sequence has parentheses as an argument, and so it has in every tighter seat
+argument_marks : (r : Seat) → nat_lt 0 r.level ≡ true → (h : Shape) (os : List Outline) → place_weight (Expr argument_seat) h os ≤ place_weight (Expr r) h os + 0
+argument_marks r e shape.SequenceExpression os = let there = ap {B = ℕ} (λ b. if b || (false || ((r.access && false) || (r.new_callee && false))) then 4 else 0) e in omega (arith, there)
+argument_marks r e (shape.LogicalExpression Or) os = omega arith
+argument_marks r e (shape.LogicalExpression o) os = omega arith
+argument_marks r e (shape.BinaryExpression binary_operator.BitwiseOr) os = omega arith
+argument_marks r e (shape.BinaryExpression o) os = omega arith
+argument_marks r e (shape.NumericLiteral (pos n)) os = omega arith
+argument_marks r e (shape.NumericLiteral (negsuc n)) os = omega arith
+argument_marks r e h os = omega arith
+
+abbrev Falls : Seat → BinaryOperator → Name → Tree → AssignmentOperator → Type 0
+Falls s o x b c = weight (Expr s) (assignment c (identifier x) b) < weight (Expr s) (assign x (binary o (identifier x) b))
+
+right_falls : (r : Seat) → nat_lt 0 r.level ≡ true → (b : Tree) → weight (Expr argument_seat) b ≤ weight (Expr r) b + 0
+right_falls r e b = placed 0 argument_seat r refl (argument_marks r e) b
+
+computing_falls : (o : BinaryOperator) (c : AssignmentOperator) → computing o ≡ Some c → (s : Seat) (x : Name) (b : Tree) → Falls s o x b c
+computing_falls binary_operator.Addition c h s x b = subst (Falls s binary_operator.Addition x b) {x = assigning.Addition} {y = c} (cc h) (omega (arith, right_falls (binary_operand_seat binary_operator.Addition 1) refl b, name_heavy x, same_marks s assigning.Addition assigning.Assign (outlines (identifier x ▸ b ▸ none)) (outlines (identifier x ▸ binary binary_operator.Addition (identifier x) b ▸ none))))
+computing_falls binary_operator.Subtraction c h s x b = subst (Falls s binary_operator.Subtraction x b) {x = assigning.Subtraction} {y = c} (cc h) (omega (arith, right_falls (binary_operand_seat binary_operator.Subtraction 1) refl b, name_heavy x, same_marks s assigning.Subtraction assigning.Assign (outlines (identifier x ▸ b ▸ none)) (outlines (identifier x ▸ binary binary_operator.Subtraction (identifier x) b ▸ none))))
+computing_falls binary_operator.Multiplication c h s x b = subst (Falls s binary_operator.Multiplication x b) {x = assigning.Multiplication} {y = c} (cc h) (omega (arith, right_falls (binary_operand_seat binary_operator.Multiplication 1) refl b, name_heavy x, same_marks s assigning.Multiplication assigning.Assign (outlines (identifier x ▸ b ▸ none)) (outlines (identifier x ▸ binary binary_operator.Multiplication (identifier x) b ▸ none))))
+computing_falls binary_operator.Division c h s x b = subst (Falls s binary_operator.Division x b) {x = assigning.Division} {y = c} (cc h) (omega (arith, right_falls (binary_operand_seat binary_operator.Division 1) refl b, name_heavy x, same_marks s assigning.Division assigning.Assign (outlines (identifier x ▸ b ▸ none)) (outlines (identifier x ▸ binary binary_operator.Division (identifier x) b ▸ none))))
+computing_falls binary_operator.Remainder c h s x b = subst (Falls s binary_operator.Remainder x b) {x = assigning.Remainder} {y = c} (cc h) (omega (arith, right_falls (binary_operand_seat binary_operator.Remainder 1) refl b, name_heavy x, same_marks s assigning.Remainder assigning.Assign (outlines (identifier x ▸ b ▸ none)) (outlines (identifier x ▸ binary binary_operator.Remainder (identifier x) b ▸ none))))
+computing_falls binary_operator.Exponential c h s x b = subst (Falls s binary_operator.Exponential x b) {x = assigning.Exponential} {y = c} (cc h) (omega (arith, right_falls (binary_operand_seat binary_operator.Exponential 1) refl b, name_heavy x, same_marks s assigning.Exponential assigning.Assign (outlines (identifier x ▸ b ▸ none)) (outlines (identifier x ▸ binary binary_operator.Exponential (identifier x) b ▸ none))))
+computing_falls binary_operator.ShiftLeft c h s x b = subst (Falls s binary_operator.ShiftLeft x b) {x = assigning.ShiftLeft} {y = c} (cc h) (omega (arith, right_falls (binary_operand_seat binary_operator.ShiftLeft 1) refl b, name_heavy x, same_marks s assigning.ShiftLeft assigning.Assign (outlines (identifier x ▸ b ▸ none)) (outlines (identifier x ▸ binary binary_operator.ShiftLeft (identifier x) b ▸ none))))
+computing_falls binary_operator.ShiftRight c h s x b = subst (Falls s binary_operator.ShiftRight x b) {x = assigning.ShiftRight} {y = c} (cc h) (omega (arith, right_falls (binary_operand_seat binary_operator.ShiftRight 1) refl b, name_heavy x, same_marks s assigning.ShiftRight assigning.Assign (outlines (identifier x ▸ b ▸ none)) (outlines (identifier x ▸ binary binary_operator.ShiftRight (identifier x) b ▸ none))))
+computing_falls binary_operator.ShiftRightZeroFill c h s x b = subst (Falls s binary_operator.ShiftRightZeroFill x b) {x = assigning.ShiftRightZeroFill} {y = c} (cc h) (omega (arith, right_falls (binary_operand_seat binary_operator.ShiftRightZeroFill 1) refl b, name_heavy x, same_marks s assigning.ShiftRightZeroFill assigning.Assign (outlines (identifier x ▸ b ▸ none)) (outlines (identifier x ▸ binary binary_operator.ShiftRightZeroFill (identifier x) b ▸ none))))
+computing_falls binary_operator.BitwiseAnd c h s x b = subst (Falls s binary_operator.BitwiseAnd x b) {x = assigning.BitwiseAnd} {y = c} (cc h) (omega (arith, right_falls (binary_operand_seat binary_operator.BitwiseAnd 1) refl b, name_heavy x, same_marks s assigning.BitwiseAnd assigning.Assign (outlines (identifier x ▸ b ▸ none)) (outlines (identifier x ▸ binary binary_operator.BitwiseAnd (identifier x) b ▸ none))))
+computing_falls binary_operator.BitwiseXor c h s x b = subst (Falls s binary_operator.BitwiseXor x b) {x = assigning.BitwiseXor} {y = c} (cc h) (omega (arith, right_falls (binary_operand_seat binary_operator.BitwiseXor 1) refl b, name_heavy x, same_marks s assigning.BitwiseXor assigning.Assign (outlines (identifier x ▸ b ▸ none)) (outlines (identifier x ▸ binary binary_operator.BitwiseXor (identifier x) b ▸ none))))
+computing_falls binary_operator.BitwiseOr c h s x b = subst (Falls s binary_operator.BitwiseOr x b) {x = assigning.BitwiseOr} {y = c} (cc h) (omega (arith, right_falls (binary_operand_seat binary_operator.BitwiseOr 1) refl b, name_heavy x, same_marks s assigning.BitwiseOr assigning.Assign (outlines (identifier x ▸ b ▸ none)) (outlines (identifier x ▸ binary binary_operator.BitwiseOr (identifier x) b ▸ none))))
+computing_falls o c h s x b = absurd (cc h)
+
+-- 45: a name and its `=` go
+
+loose_marks : (s : Seat) (os ps : List Outline) → nat_eq s.level conditional_level ≡ false → place_weight (Expr s) (shape.AssignmentExpression assigning.Assign) os ≤ place_weight (Expr s) shape.ConditionalExpression ps
+loose_marks s os ps e = let plain = no_awkward s.eq_left s.cond_test s.lifted in let less = parens (nat_lt 1 s.level) (nat_lt 2 s.level) refl refl in omega (arith, plain, less)
+  where
+    parens : (b c : Bool) → nat_lt 1 s.level ≡ b → nat_lt 2 s.level ≡ c → (if b || (false || ((s.access && false) || (s.new_callee && false))) then 4 else 0) ≤ (if c || (false || ((s.access && false) || (s.new_callee && false))) then 4 else 0)
+    parens true true f g = omega arith
+    parens false true f g = pair_of (false || ((s.access && false) || (s.new_callee && false)))
+    parens false false f g = omega arith
+    parens true false f g =
+        let level : s.level ≡ 2 = omega (arith, ltb-true _ _ f, ltb-false _ _ g) in
+        absurd (true≢false (sym (ap (λ l. nat_eq l 2) level) ∙ e))
+
+chosen_falls : (s : Seat) → nat_eq s.level conditional_level ≡ false → (a : Tree) (x : Name) (b c : Tree) → weight (Expr s) (assign x (conditional a b c)) < weight (Expr s) (conditional a (assign x b) (assign x c))
+chosen_falls s e a x b c =
+    let marks = loose_marks s (outlines (identifier x ▸ conditional a b c ▸ none)) (outlines (a ▸ assign x b ▸ assign x c ▸ none)) e in
+    let first = placed 0 (branch_seat argument_seat) argument_seat refl (λ h os. omega arith) b in
+    let second = placed 0 (branch_seat argument_seat) argument_seat refl (λ h os. omega arith) c in
+    omega (arith, marks, first, second, name_heavy x)
+
+-- 46: the comparison and the second name weigh more than a pair of parentheses round each
+
+right_marks : (b : Bool) → (if b then 4 else 0) + (if false || (false || false) then 1 else 0) ≤ 4
+right_marks true = omega arith
+right_marks false = omega arith
+
+coalesced_falls : (s : Seat) (b : Tree) → weight (Expr (right_operand_seat Coalesce s)) b ≤ weight (Expr (branch_seat s)) b + 4
+coalesced_falls s b = placed 4 (right_operand_seat Coalesce s) (branch_seat s) refl (λ h os. omega (arith, right_marks (is_parenthesized h (right_operand_seat Coalesce s)))) b
+
+coalesce_at_most : (s : Seat) (os : List Outline) → place_weight (Expr s) (shape.LogicalExpression Coalesce) os ≤ 4
+coalesce_at_most s os = let plain = no_awkward s.eq_left s.cond_test s.lifted in omega (arith, plain, pair_of (is_parenthesized (shape.LogicalExpression Coalesce) s))
+
+equal_falls : (s : Seat) (x : Name) (b : Tree) → weight (Expr s) (logical Coalesce (identifier x) b) < weight (Expr s) (conditional (binary binary_operator.Equality (identifier x) null_literal) b (identifier x))
+equal_falls s x b = omega (arith, coalesced_falls s b, coalesce_at_most s (outlines (identifier x ▸ b ▸ none)), name_heavy x)
+
+unequal_falls : (s : Seat) (x : Name) (b : Tree) → weight (Expr s) (logical Coalesce (identifier x) b) < weight (Expr s) (conditional (binary binary_operator.Inequality (identifier x) null_literal) (identifier x) b)
+unequal_falls s x b = omega (arith, coalesced_falls s b, coalesce_at_most s (outlines (identifier x ▸ b ▸ none)), name_heavy x)
+
+-- all
+
+pub lighter : ChoicesLighter
+lighter s n w (inl r) = falls_by (Expr s) n w _ _ r.shape r.written (rotated_falls r.operator s r.a r.b r.c r.ungrouped)
+lighter s n w (inr (inl r)) = falls_by (Expr s) n w _ _ r.shape r.written (deciding_falls r.operator s r.name r.b)
+lighter s n w (inr (inr (inl r))) = falls_by (Expr s) n w _ _ r.shape r.written (computing_falls r.operator r.combined r.computes s r.name r.b)
+lighter s n w (inr (inr (inr (inl r)))) = falls_by (Expr s) n w _ _ r.shape r.written (equal_falls s r.name r.b)
+lighter s n w (inr (inr (inr (inr (inl r))))) = falls_by (Expr s) n w _ _ r.shape r.written (unequal_falls s r.name r.b)
+lighter s n w (inr (inr (inr (inr (inr r))))) = falls_by (Expr s) n w _ _ r.shape r.written (chosen_falls s r.seated r.a r.name r.b r.c)
+
+-- of none of these nodes a parent's weight reads more than that it is there
+lighter_outline : (s : Seat) (n w : Tree) → LighterRow s n w → outline n ≡ outline w
+lighter_outline s n w (inl r) = ap outline r.shape ∙ sym (ap outline r.written)
+lighter_outline s n w (inr (inl r)) = ap outline r.shape ∙ sym (ap outline r.written)
+lighter_outline s n w (inr (inr (inl r))) = ap outline r.shape ∙ sym (ap outline r.written)
+lighter_outline s n w (inr (inr (inr (inl r)))) = ap outline r.shape ∙ sym (ap outline r.written)
+lighter_outline s n w (inr (inr (inr (inr (inl r))))) = ap outline r.shape ∙ sym (ap outline r.written)
+lighter_outline s n w (inr (inr (inr (inr (inr r))))) = ap outline r.shape ∙ sym (ap outline r.written)
+
+own_outline : (n w : Tree) → OwnRow n w → outline n ≡ outline w
+own_outline n w (inl r) = ap outline r.shape ∙ sym (ap outline r.written)
+own_outline n w (inr r) = ap outline r.shape ∙ sym (ap outline r.written)
+
+held_outline : (n w : Tree) → HeldRow n w → outline n ≡ outline w
+held_outline n w (inl r) = ap outline r.shape ∙ sym (ap outline r.written)
+held_outline n w (inr (inl r)) = ap outline r.shape ∙ sym (ap outline r.written)
+held_outline n w (inr (inr (inl r))) = ap outline r.shape ∙ sym (ap outline r.written)
+held_outline n w (inr (inr (inr (inl r)))) = ap outline r.shape ∙ sym (ap outline r.written)
+held_outline n w (inr (inr (inr (inr (inl r))))) = ap outline r.shape ∙ sym (ap outline r.written)
+held_outline n w (inr (inr (inr (inr (inr (inl r)))))) = ap outline r.shape ∙ sym (ap outline r.written)
+held_outline n w (inr (inr (inr (inr (inr (inr r)))))) = ap outline r.shape ∙ sym (ap outline r.written)
+
+outline_by_row : (p : Position) (n w : Tree) → ChoiceRow p n w → outline n ≡ outline w
+outline_by_row (Expr s) n w (inl r) = lighter_outline s n w r
+outline_by_row (Expr s) n w (inr r) = own_outline n w r
+outline_by_row p n w r = absurd r
+
+pub lightens : Lightens ChoiceContracts
+lightens = record {
+  lighter = λ p n w c. c.lighter;
+  absent = λ p n w c a. ap (λ o. o.absent) (outline_by_row p n w c.row);
+  items = λ p n w c a. ap (λ o. o.items) (outline_by_row p n w c.row);
+  is_zero = λ p n w c a. inl (ap (λ o. o.is_zero) (outline_by_row p n w c.row));
+  chooses = λ p n w c a. inl (λ h. sym (ap (λ o. o.chooses) (outline_by_row p n w c.row)) ∙ h);
+}
+
+held_outline_at : (p : Position) (n w : Tree) → HeldRowAt p n w → outline n ≡ outline w
+held_outline_at (Expr s) n w r = held_outline n w r
+held_outline_at p n w r = absurd r
+
+pub held_lighten : Lightens HeldContracts
+held_lighten = record {
+  lighter = λ p n w c. c.lighter;
+  absent = λ p n w c a. ap (λ o. o.absent) (held_outline_at p n w c.row);
+  items = λ p n w c a. ap (λ o. o.items) (held_outline_at p n w c.row);
+  is_zero = λ p n w c a. inl (ap (λ o. o.is_zero) (held_outline_at p n w c.row));
+  chooses = λ p n w c a. inl (λ h. sym (ap (λ o. o.chooses) (held_outline_at p n w c.row)) ∙ h);
+}

@@ -1,0 +1,119 @@
+-- What a row on what is known writes means the same.
+use Rattle.std.proofs.Common.{◌≡◌, Bool, true, false, [], None, refl, sym, ap, subst, ◌∙◌, inl, inr, true≢false}
+use Rattle.std.specs.Prelude.{◌&&◌, ◌||◌, not}
+use Rattle.std.proofs.lemmas.Bool.{and_parts}
+use Rattle.mini_model.specs.declared.operator.LogicalOperator.{LogicalOperator}
+use Rattle.mini_model.specs.declared.operator.UnaryOperator.TheVariants.{LogicalNot}
+use Rattle.mini_model.specs.declared.place.Position.{Position}
+use Rattle.mini_model.specs.declared.place.Position.TheVariants.{Expr, Stmt}
+use Rattle.mini_model.specs.declared.seat.Seat.{Seat}
+use Rattle.mini_model.specs.declared.seat.StmtSeat.{StmtSeat}
+use Rattle.mini_model.specs.declared.shape.Shape.TheVariants as shape
+use Rattle.mini_model.specs.Tree.{Tree, node, none, ◌▸◌, logical, expression_statement, empty_statement}
+use Rattle.mini_laws.specs.Value.{VariableSet}
+use Rattle.mini_laws.specs.State.{Environment}
+use Rattle.mini_laws.specs.Demand.{Demand, Stat}
+use Rattle.mini_laws.specs.Naming.{Summary, no_facts, summary}
+use Rattle.mini_laws.specs.Fits.{Fits}
+use Rattle.mini_laws.specs.Same.{Same}
+use Rattle.mini_laws.specs.Rows.{SameAt}
+use Rattle.mini_laws.specs.Rewritten.{MeansSame}
+use Rattle.mini_terms.specs.Reading.{is_plain_part, is_read_by_value}
+use Rattle.mini_terms.specs.Folds.{is_effect_free}
+use Rattle.mini_terms.specs.Parts.{is_number, suits}
+use Rattle.mini_terms.proofs.Reading.{same_in_seat}
+use Rattle.mini_terms.proofs.Dropping.{goes_on_same, stops_same, does_nothing}
+use Rattle.mini_rows.specs.Folding.{Row12, Row13, FoldingRow, FoldingContracts}
+
+-- what a part that stays has
+
+pub plain_of : (s : Seat) (t : Tree) → suits s t ≡ true → is_plain_part t ≡ true
+plain_of s t h = (and_parts (is_plain_part t) (is_read_by_value s t && (s.boolean || not (is_number t))) h).0
+
+pub value_of : (s : Seat) (t : Tree) → suits s t ≡ true → is_read_by_value s t ≡ true
+value_of s t h = (and_parts (is_read_by_value s t) (s.boolean || not (is_number t)) (and_parts (is_plain_part t) (is_read_by_value s t && (s.boolean || not (is_number t))) h).1).0
+
+pub number_of : (s : Seat) (t : Tree) → suits s t ≡ true → s.boolean || not (is_number t) ≡ true
+number_of s t h = (and_parts (is_read_by_value s t) (s.boolean || not (is_number t)) (and_parts (is_plain_part t) (is_read_by_value s t && (s.boolean || not (is_number t))) h).1).1
+
+-- a parent reads nothing of it
+
+abbrev plain_summary : Summary
+plain_summary = record { facts = no_facts; lets = []; name = None; functions = [] }
+
+-- of a link of a chain a parent reads whether one below is optional
+abbrev link_summary : Bool → Summary
+link_summary b = record plain_summary { facts = record no_facts { shortens = b } }
+
+linked : (t : Tree) → summary t ≡ plain_summary → link_summary (summary t).facts.shortens ≡ plain_summary
+linked t e = ap (λ i. link_summary i.facts.shortens) e
+
+plain_read : (t : Tree) → is_plain_part t ≡ true → summary t ≡ plain_summary
+plain_read (node (shape.CallExpression true) xs n ts) e = absurd (true≢false (sym e))
+plain_read (node (shape.CallExpression false) xs n none) e = absurd (true≢false (sym e))
+plain_read (node (shape.CallExpression false) xs n (t ▸ ts)) e = linked t (plain_read t e)
+plain_read (node (shape.StaticMemberExpression true) xs n ts) e = absurd (true≢false (sym e))
+plain_read (node (shape.StaticMemberExpression false) xs n none) e = absurd (true≢false (sym e))
+plain_read (node (shape.StaticMemberExpression false) xs n (t ▸ ts)) e = linked t (plain_read t e)
+plain_read (node (shape.ComputedMemberExpression true) xs n ts) e = absurd (true≢false (sym e))
+plain_read (node (shape.ComputedMemberExpression false) xs n none) e = absurd (true≢false (sym e))
+plain_read (node (shape.ComputedMemberExpression false) xs n (t ▸ ts)) e = linked t (plain_read t e)
+plain_read (node (shape.PrivateFieldExpression b) xs n ts) e = absurd (true≢false (sym e))
+plain_read (node (shape.UnaryExpression LogicalNot) xs n none) e = absurd (true≢false (sym e))
+plain_read (node (shape.UnaryExpression LogicalNot) xs n (t ▸ ts)) e = plain_read t e
+plain_read (node shape.Absent xs n ts) e = absurd (true≢false (sym e))
+plain_read (node shape.InnerExpression xs n ts) e = absurd (true≢false (sym e))
+plain_read (node shape.Listed xs n ts) e = absurd (true≢false (sym e))
+plain_read (node (shape.Function true g ds) xs n ts) e = absurd (true≢false (sym e))
+plain_read (node (shape.Class true) xs n ts) e = absurd (true≢false (sym e))
+plain_read (node (shape.VariableDeclaration k) xs n ts) e = absurd (true≢false (sym e))
+plain_read (node shape.VariableDeclarator xs n ts) e = absurd (true≢false (sym e))
+plain_read (node shape.SwitchCase xs n ts) e = absurd (true≢false (sym e))
+plain_read (node shape.ExportNamedDeclaration xs n ts) e = absurd (true≢false (sym e))
+plain_read (node shape.ExportDefaultDeclaration xs n ts) e = absurd (true≢false (sym e))
+plain_read (node (shape.TemplateElement l raw cooked) xs n ts) e = absurd (true≢false (sym e))
+plain_read (node shape.BindingIdentifier xs n ts) e = absurd (true≢false (sym e))
+plain_read (node shape.ObjectPattern xs n ts) e = absurd (true≢false (sym e))
+plain_read (node shape.ArrayPattern xs n ts) e = absurd (true≢false (sym e))
+plain_read (node (shape.BindingProperty l c) xs n ts) e = absurd (true≢false (sym e))
+plain_read (node shape.RestElement xs n ts) e = absurd (true≢false (sym e))
+plain_read (node shape.AssignmentPattern xs n ts) e = absurd (true≢false (sym e))
+plain_read (node h xs n ts) e = refl
+
+logical_read : (o : LogicalOperator) (a b t : Tree) → is_plain_part t ≡ true → summary (logical o a b) ≡ summary t
+logical_read o a b t e = sym (plain_read t e)
+
+-- the rows
+
+passed_same : (s : Seat) (n w : Tree) → Row13 s n w → SameAt (Expr s) n w
+passed_same s n w r =
+    subst (λ t. SameAt (Expr s) t w) (sym r.shape) (subst (SameAt (Expr s) (logical r.operator r.left r.right)) (sym r.written)
+    (same_in_seat s (logical r.operator r.left r.right) r.right refl (value_of s r.right r.stays) (goes_on_same r.operator r.left r.right r.known r.effect_free)))
+
+stopped_same : (s : Seat) (n w : Tree) → Row12 s n w → SameAt (Expr s) n w
+stopped_same s n w r =
+    subst (λ t. SameAt (Expr s) t w) (sym r.shape) (subst (SameAt (Expr s) (logical r.operator r.left r.right)) (sym r.written)
+    (same_in_seat s (logical r.operator r.left r.right) r.left refl (value_of s r.left r.stays) (stops_same r.operator r.left r.right r.known)))
+
+module _ (q : StmtSeat) (a : Tree) (h : is_effect_free a ≡ true) where
+  nothing_by : (e : Environment) (D X : VariableSet) (d : Demand) → Fits (Stmt q) d → Same e D X d (expression_statement a) empty_statement
+  nothing_by e D X (Stat t) f = does_nothing a h e D X t
+  nothing_by e D X d f = absurd f
+
+  nothing_same : SameAt (Stmt q) (expression_statement a) empty_statement
+  nothing_same = record { by = nothing_by }
+
+row_same : (p : Position) (n w : Tree) → FoldingRow p n w → SameAt p n w
+row_same (Expr s) n w (inl r) = passed_same s n w r
+row_same (Expr s) n w (inr r) = stopped_same s n w r
+row_same (Stmt q) n w r = subst (λ t. SameAt (Stmt q) t w) (sym r.shape) (subst (SameAt (Stmt q) (expression_statement r.expression)) (sym r.written) (nothing_same q r.expression r.effect_free))
+row_same p n w r = absurd r
+
+row_read : (p : Position) (n w : Tree) → FoldingRow p n w → summary n ≡ summary w
+row_read (Expr s) n w (inl r) = ap summary r.shape ∙ logical_read r.operator r.left r.right r.right (plain_of s r.right r.stays) ∙ sym (ap summary r.written)
+row_read (Expr s) n w (inr r) = ap summary r.shape ∙ logical_read r.operator r.left r.right r.left (plain_of s r.left r.stays) ∙ sym (ap summary r.written)
+row_read (Stmt q) n w r = ap summary r.shape ∙ sym (ap summary r.written)
+row_read p n w r = absurd r
+
+pub foldings_same : MeansSame FoldingContracts
+foldings_same = record { same = λ p n w c. row_same p n w c.row; reads = λ p n w c. row_read p n w c.row }

@@ -1,0 +1,168 @@
+-- What a `for..in` does after the expression on its right, and a `for` after a `var` in its head.
+use Rattle.std.proofs.Common.{◌≡◌, ℕ, zero, suc, Bool, true, false, [], ◌∷◌, Option, Some, None, refl, sym, ap, ◌∙◌, inl, inr, ⊎_elim, true≢false}
+use Rattle.std.specs.Prelude.{◌⊎◌, ◌||◌}
+use Rattle.std.proofs.lemmas.Bool.{and_parts}
+use Rattle.mini_model.specs.declared.kind.VariableDeclarationKind.TheVariants.{Var}
+use Rattle.mini_model.specs.declared.shape.Shape.TheVariants as shape
+use Rattle.mini_model.specs.Tree.{Tree, Trees, node, none, ◌▸◌, absent, shape_of}
+use Rattle.mini_laws.specs.Value.{Value, choose, is_nullish}
+use Rattle.mini_laws.specs.State.{NextOf, KeysOf, Item, State, Thrown, Returned, Broken, Continued, Short, Completion, ok, stop, Ends, done, ended, either, Environment}
+use Rattle.mini_laws.specs.Demand.{Val, LoopTail, Demand, As, Stat, LabelSet}
+use Rattle.mini_laws.specs.Command.{hide, turn, fuel, Naming, Command, ret, fails, op, kid, then, attempt, bind, repeat, loop, emit, Kids, act, run}
+use Rattle.mini_laws.specs.Naming.{Declared, Variables, AClass, summary}
+use Rattle.mini_laws.specs.Asking.{for_demand, each_demand}
+use Rattle.mini_laws.specs.Replies.{as_ended}
+use Rattle.mini_laws.specs.Statements.{scoped}
+use Rattle.mini_laws.specs.Loops.{after_body, has_label, for_test, for_turn, for_turns, for_step, give_left, each_turn, turn_of, next_of, on_next, keys_in, for_in_step}
+use Rattle.mini_laws.specs.Step.{step, means, meaning}
+use Rattle.mini_laws.proofs.Runs.{either_cong, run_bind}
+use Rattle.mini_laws.proofs.Stretching.{run_attempt}
+use Rattle.mini_laws.proofs.Tailing.{finished, finish_none}
+use Rattle.mini_rows.specs.Lists.{for_in, for_loop, declaration, declares_nothing, is_var_shape, is_bare_var, is_plain_left}
+use Rattle.mini_rows.proofs.ListHeads.{nothing_by, for_names, for_kids, for_rest, scoped_is, leaving_nothing}
+
+-- ---- commands that do the same over two families of children
+
+module _ (e : Environment) (names : Naming) (q p : ℕ → Demand) (K : Kids q) (L : Kids p) where
+  abbrev Alike : {A : Type 0} → Command q A → Command p A → Type 0
+  Alike c d = (z : State) → run {q = q} e names K c z ≡ run {q = p} e names L d z
+
+  bind_alike : {A B : Type 0} (c : Command q A) (d : Command p A) (f : A → Command q B) (g : A → Command p B) → Alike c d → ((a : A) → Alike (f a) (g a)) → Alike (bind c f) (bind d g)
+  bind_alike c d f g h k z =
+      run_bind e names c f K z
+      ∙ ap (λ x. either x (λ a z. run {q = q} e names K (f a) z) (λ x z. stop x z)) (h z)
+      ∙ either_cong (run {q = p} e names L d z) _ _ _ _ (λ a y. k a y) (λ x y. refl)
+      ∙ sym (run_bind e names d g L z)
+
+  choose_alike : {A : Type 0} (b : Bool) (c c' : Command q A) (d d' : Command p A) → Alike c d → Alike c' d' → Alike (choose b c c') (choose b d d')
+  choose_alike true c c' d d' h k = h
+  choose_alike false c c' d d' h k = k
+
+  after_alike : (labels : LabelSet) (x : Ends (Unit {0})) → Alike (after_body labels x) (after_body labels x)
+  after_alike labels (done u) z = refl
+  after_alike labels (ended (Broken None)) z = refl
+  after_alike labels (ended (Continued None)) z = refl
+  after_alike labels (ended (Continued (Some l))) z = choose_alike (has_label labels l) (ret true) (fails (Continued (Some l))) (ret true) (fails (Continued (Some l))) (λ z. refl) (λ z. refl) z
+  after_alike labels (ended (Broken (Some l))) z = refl
+  after_alike labels (ended (Thrown v)) z = refl
+  after_alike labels (ended (Returned v)) z = refl
+  after_alike labels (ended Short) z = refl
+
+  repeat_alike : (n : ℕ) (c : Command q Bool) (d : Command p Bool) → Alike c d → Alike (repeat n c) (repeat n d)
+  repeat_alike zero c d h z = refl
+  repeat_alike (suc n) c d h z = bind_alike c d (λ b. choose b (repeat n c) (ret tt)) (λ b. choose b (repeat n d) (ret tt)) h (λ b. choose_alike b (repeat n c) (ret tt) (repeat n d) (ret tt) (repeat_alike n c d h) (λ z. refl)) z
+
+  loop_alike : (c : Command q Bool) (d : Command p Bool) → Alike c d → Alike (loop c) (loop d)
+  loop_alike c d h z = either_cong (act e names fuel z) _ _ _ _ (λ n y. repeat_alike (suc n) (op turn (then (λ u. c))) (op turn (then (λ u. d))) (λ x. either_cong (act e names turn x) _ _ _ _ (λ u w. h w) (λ s w. refl)) y) (λ x y. refl)
+
+  attempt_alike : {A B : Type 0} (c : Command q A) (d : Command p A) (f : Ends A → Command q B) (g : Ends A → Command p B) → Alike c d → ((x : Ends A) → Alike (f x) (g x)) → Alike (attempt c f) (attempt d g)
+  attempt_alike c d f g h k z =
+      run_attempt e names c f K z
+      ∙ ap (λ x. either x (λ a y. run {q = q} e names K (f (done a)) y) (λ x y. run {q = q} e names K (f (ended x)) y)) (h z)
+      ∙ either_cong (run {q = p} e names L d z) _ _ _ _ (λ a y. k (done a) y) (λ x y. k (ended x) y)
+      ∙ sym (run_attempt e names d g L z)
+
+  as_ended_alike : {A : Type 0} (x : Ends A) → Alike (as_ended x) (as_ended x)
+  as_ended_alike (done a) z = refl
+  as_ended_alike (ended x) z = refl
+
+  scoped_alike : {A : Type 0} (c : Command q A) (d : Command p A) → Alike c d → Alike (scoped c) (scoped d)
+  scoped_alike c d h z = either_cong (act e names hide z) _ _ _ _ (λ u y. attempt_alike c d (λ x. op hide (then (λ u. as_ended x))) (λ x. op hide (then (λ u. as_ended x))) h (λ x w. either_cong (act e names hide w) _ _ _ _ (λ u v. as_ended_alike x v) (λ x v. refl)) y) (λ x y. refl)
+
+-- ---- `for`
+
+abbrev a_var : Option Declared
+a_var = Some (Variables Var)
+
+module _ (e : Environment) (names : Naming) (has_no_test : Bool) (labels : LabelSet) (K : Kids (for_demand None)) (L : Kids (for_demand a_var)) where
+  abbrev again : Bool → Command (for_demand None) Bool
+  again c = choose c (kid 2 tt (then (λ u. ret true))) (ret false)
+
+  abbrev var_again : Bool → Command (for_demand a_var) Bool
+  var_again c = choose c (kid 2 tt (then (λ u. ret true))) (ret false)
+
+  tests_alike : ((z : State) → K 1 tt z ≡ L 1 tt z) → (b : Bool) → Alike e names (for_demand None) (for_demand a_var) K L (for_test None b) (for_test a_var b)
+  tests_alike h true z = refl
+  tests_alike h false z = ap (λ x. either x (λ a y. ok a y) (λ y w. stop y w)) (h z)
+
+  ends_alike : ((z : State) → K 2 tt z ≡ L 2 tt z) → (x : Ends (Unit {0})) → Alike e names (for_demand None) (for_demand a_var) K L (bind (after_body labels x) again) (bind (after_body labels x) var_again)
+  ends_alike h x = bind_alike e names (for_demand None) (for_demand a_var) K L (after_body labels x) (after_body labels x) again var_again (after_alike e names (for_demand None) (for_demand a_var) K L labels x)
+      (λ c. choose_alike e names (for_demand None) (for_demand a_var) K L c (kid 2 tt (then (λ u. ret true))) (ret false) (kid 2 tt (then (λ u. ret true))) (ret false) (λ z. ap (λ x. either x (λ a y. ok true y) (λ y w. stop y w)) (h z)) (λ z. refl))
+
+  turns_alike : ((z : State) → K 1 tt z ≡ L 1 tt z) → ((z : State) → K 2 tt z ≡ L 2 tt z) → ((z : State) → K 3 [] z ≡ L 3 [] z) → Alike e names (for_demand None) (for_demand a_var) K L (for_turns None has_no_test labels) (for_turns a_var has_no_test labels)
+  turns_alike h1 h2 h3 =
+      loop_alike e names (for_demand None) (for_demand a_var) K L (for_turn None has_no_test labels) (for_turn a_var has_no_test labels)
+      (bind_alike e names (for_demand None) (for_demand a_var) K L (for_test None has_no_test) (for_test a_var has_no_test) _ _ (tests_alike h1 has_no_test)
+      (λ b. choose_alike e names (for_demand None) (for_demand a_var) K L b _ _ _ _ (λ z. ap (λ x. either x (λ a y. run {q = for_demand None} e names K (bind (after_body labels (done a)) again) y) (λ x y. run {q = for_demand None} e names K (bind (after_body labels (ended x)) again) y)) (h3 z) ∙ either_cong (L 3 [] z) _ _ _ _ (λ a y. ends_alike h2 (done a) y) (λ x y. ends_alike h2 (ended x) y)) (λ z. refl)))
+
+-- with a `var` in its head
+module _ (e : Environment) (test update body : Tree) where
+  pub for_var_is : (ds : Trees) (r : LabelSet) (s : State) → means e (for_loop (declaration Var ds) test update body) (Stat None) r s ≡ either (means e (declaration Var ds) (Stat None) [] s) (λ u z. for_rest e test update body r z) (λ x z. stop x z)
+  unfolding means meaning step for_rest
+  for_var_is ds r s =
+      finished e (for_names []) (for_demand a_var) (for_kids e test update body (declaration Var ds) a_var) None (for_step a_var (summary test).facts.absent r) s ∙ finish_none _
+      ∙ scoped_is e (for_names []) {q = for_demand a_var} (kid 0 [] (then (λ u. for_turns a_var (summary test).facts.absent r))) (for_kids e test update body (declaration Var ds) a_var) s
+      ∙ leaving_nothing (for_names []) refl _
+      ∙ either_cong (means e (declaration Var ds) (Stat None) [] s) _ _ _ _ (λ u z. sym (turns_alike e (for_names []) (summary test).facts.absent r (for_kids e test update body absent None) (for_kids e test update body (declaration Var ds) a_var) (λ z. refl) (λ z. refl) (λ z. refl) z)) (λ x z. refl)
+
+-- ---- `for..in`
+
+module _ (e : Environment) (left body : Tree) (labels : LabelSet) (d : Option Declared) where
+  abbrev in_kids : Tree → Kids (each_demand d)
+  in_kids x i r z = meaning e (left ▸ (x ▸ (body ▸ none))) i (each_demand d i) r z
+
+  abbrev Keyed : Tree → Tree → {A : Type 0} → Command (each_demand d) A → Type 0
+  Keyed x y c = Alike e (for_names []) (each_demand d) (each_demand d) (in_kids x) (in_kids y) c c
+
+  body_keyed : (x y : Tree) → Keyed x y (kid 2 [] (after_body labels))
+  unfolding meaning
+  body_keyed x y z = either_cong (means e body (Stat (Some LoopTail)) [] z) _ _ _ _ (λ a w. after_alike e (for_names []) (each_demand d) (each_demand d) (in_kids x) (in_kids y) labels (done a) w) (λ s w. after_alike e (for_names []) (each_demand d) (each_demand d) (in_kids x) (in_kids y) labels (ended s) w)
+
+  module _ (x y : Tree) (give : (v : Value) → Keyed x y (give_left d v)) where
+    turn_keyed : (v : Value) → Keyed x y (turn_of d labels v)
+    turn_keyed v = scoped_alike e (for_names []) (each_demand d) (each_demand d) (in_kids x) (in_kids y) (each_turn d labels v) (each_turn d labels v)
+        (bind_alike e (for_names []) (each_demand d) (each_demand d) (in_kids x) (in_kids y) (give_left d v) (give_left d v) (λ u. kid 2 [] (after_body labels)) (λ u. kid 2 [] (after_body labels)) (give v) (λ u. body_keyed x y))
+
+    next_keyed : (o : Option Value) → Keyed x y (on_next (turn_of d labels) o)
+    next_keyed None z = refl
+    next_keyed (Some v) z = turn_keyed v z
+
+    keys_keyed : (v : Value) → Keyed x y (keys_in d labels v)
+    keys_keyed v =
+        choose_alike e (for_names []) (each_demand d) (each_demand d) (in_kids x) (in_kids y) (is_nullish v) (ret tt) (bind (emit KeysOf (Item v ∷ [])) (λ iterator. loop (next_of iterator (turn_of d labels)))) (ret tt) (bind (emit KeysOf (Item v ∷ [])) (λ iterator. loop (next_of iterator (turn_of d labels)))) (λ z. refl)
+        (bind_alike e (for_names []) (each_demand d) (each_demand d) (in_kids x) (in_kids y) (emit KeysOf (Item v ∷ [])) (emit KeysOf (Item v ∷ [])) (λ iterator. loop (next_of iterator (turn_of d labels))) (λ iterator. loop (next_of iterator (turn_of d labels))) (λ z. refl)
+        (λ iterator. loop_alike e (for_names []) (each_demand d) (each_demand d) (in_kids x) (in_kids y) (next_of iterator (turn_of d labels)) (next_of iterator (turn_of d labels))
+        (bind_alike e (for_names []) (each_demand d) (each_demand d) (in_kids x) (in_kids y) (emit NextOf (Item iterator ∷ [])) (emit NextOf (Item iterator ∷ [])) (on_next (turn_of d labels)) (on_next (turn_of d labels)) (λ z. refl) next_keyed)))
+
+give_keyed : (e : Environment) (left body : Tree) (labels : LabelSet) (d : Option Declared) (x y : Tree) (v : Value) → Keyed e left body labels d x y (give_left d v)
+unfolding meaning
+give_keyed e left body labels (Some (Variables k)) x y v z = refl
+give_keyed e left body labels (Some AClass) x y v z = refl
+give_keyed e left body labels None x y v z = refl
+
+module _ (e : Environment) (left body : Tree) (labels : LabelSet) where
+  pub in_rest : Value → State → Completion (Unit {0})
+  in_rest v z = run {q = each_demand (summary left).facts.declared} e (for_names []) (in_kids e left body labels (summary left).facts.declared absent) (keys_in (summary left).facts.declared labels v) z
+
+  pub in_is : (summary left).lets ≡ [] → (x : Tree) (s : State) → means e (for_in left x body) (Stat None) labels s ≡ either (means e x (As Val) tt s) (λ v z. in_rest v z) (λ x z. stop x z)
+  unfolding means meaning step in_rest
+  in_is u x s =
+      let d = (summary left).facts.declared in
+      finished e (for_names (summary left).lets) (each_demand d) (in_kids e left body labels d x) None (for_in_step d labels) s ∙ finish_none _
+      ∙ ap (λ l. run {q = each_demand d} e (for_names l) (in_kids e left body labels d x) (for_in_step d labels) s) u
+      ∙ scoped_is e (for_names []) {q = each_demand d} (kid 1 tt (then (keys_in d labels))) (in_kids e left body labels d x) s
+      ∙ leaving_nothing (for_names []) refl _
+      ∙ either_cong (means e x (As Val) tt s) _ _ _ _ (λ v z. keys_keyed e left body labels d x absent (give_keyed e left body labels d x absent) v z) (λ y z. refl)
+
+-- what such a left side declares is no lexical name
+
+or_split : (a b : Bool) → a || b ≡ true → (a ≡ true) ⊎ (b ≡ true)
+or_split true b h = inl refl
+or_split false b h = inr h
+
+var_lets : (t : Tree) → is_var_shape (shape_of t) ≡ true → (summary t).lets ≡ []
+var_lets (node (shape.VariableDeclaration Var) xs n ts) h = refl
+var_lets t h = absurd (true≢false (sym h))
+
+pub left_lets : (t : Tree) → is_plain_left t ≡ true → (summary t).lets ≡ []
+left_lets t h = ⊎_elim (λ e. (nothing_by t e).lets) (λ e. var_lets t (and_parts (is_var_shape (shape_of t)) _ e).0) (or_split (declares_nothing t) (is_bare_var t) h)

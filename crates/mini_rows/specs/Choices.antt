@@ -1,0 +1,229 @@
+-- Rows of conditionals, logical expressions and assignments that are written shorter of the same parts, as equations: each is a
+-- shape and what is written in its place. No order of rewriting is meant.
+use Rattle.std.specs.Prelude.{◌≡◌, ◌<◌, ◌⊎◌, Bool, true, false, nat_eq, Option, Some, None, is_none}
+use Rattle.mini_model.specs.declared.name.Name.{Name}
+use Rattle.mini_model.specs.declared.operator.AssignmentOperator.{AssignmentOperator}
+use Rattle.mini_model.specs.declared.operator.AssignmentOperator.TheVariants as assigning
+use Rattle.mini_model.specs.declared.operator.BinaryOperator.{BinaryOperator}
+use Rattle.mini_model.specs.declared.operator.BinaryOperator.TheVariants as binary_operator
+use Rattle.mini_model.specs.declared.operator.LogicalOperator.{LogicalOperator}
+use Rattle.mini_model.specs.declared.operator.LogicalOperator.TheVariants.{Or, And, Coalesce}
+use Rattle.mini_model.specs.declared.seat.Seat.{Seat}
+use Rattle.mini_model.specs.declared.shape.Shape.TheVariants as shape
+use Rattle.mini_model.specs.Tree.{Tree, node, none, ◌▸◌, identifier, logical, conditional, null_literal}
+use Rattle.mini_model.specs.declared.place.Position.{Position}
+use Rattle.mini_model.specs.declared.place.Position.TheVariants.{Expr}
+use Rattle.mini_model.specs.Position.{conditional_level}
+use Rattle.mini_model.specs.Weight.{weight}
+use Rattle.mini_rows.specs.Lists.{sequence}
+use Rattle.mini_rows.specs.Spellings.{binary, assignment}
+
+-- Reading definitions
+
+-- `x = b`
+abbrev pub assign : Name → Tree → Tree
+assign x b = assignment assigning.Assign (identifier x) b
+
+-- `a, b`
+abbrev pub pair : Tree → Tree → Tree
+pair a b = sequence (a ▸ b ▸ none)
+
+abbrev pub is_same_operator : LogicalOperator → LogicalOperator → Bool
+is_same_operator Or Or = true
+is_same_operator And And = true
+is_same_operator Coalesce Coalesce = true
+is_same_operator _ _ = false
+
+-- it is an expression of this operator, which would need parentheses on the right of it; or an inner expression, which stands
+-- in a carried node alone
+abbrev pub is_grouped : LogicalOperator → Tree → Bool
+is_grouped o (node (shape.LogicalExpression p) xs n ts) = is_same_operator p o
+is_grouped o (node shape.InnerExpression xs n ts) = true
+is_grouped o _ = false
+
+-- the assignment that a logical operator decides on: `x ||= b`
+abbrev pub deciding : LogicalOperator → AssignmentOperator
+deciding Or = assigning.LogicalOr
+deciding And = assigning.LogicalAnd
+deciding Coalesce = assigning.LogicalNullish
+
+-- the assignment of what an operator makes of the old value: `x += b`
+abbrev pub computing : BinaryOperator → Option AssignmentOperator
+computing binary_operator.Addition = Some assigning.Addition
+computing binary_operator.Subtraction = Some assigning.Subtraction
+computing binary_operator.Multiplication = Some assigning.Multiplication
+computing binary_operator.Division = Some assigning.Division
+computing binary_operator.Remainder = Some assigning.Remainder
+computing binary_operator.Exponential = Some assigning.Exponential
+computing binary_operator.ShiftLeft = Some assigning.ShiftLeft
+computing binary_operator.ShiftRight = Some assigning.ShiftRight
+computing binary_operator.ShiftRightZeroFill = Some assigning.ShiftRightZeroFill
+computing binary_operator.BitwiseAnd = Some assigning.BitwiseAnd
+computing binary_operator.BitwiseXor = Some assigning.BitwiseXor
+computing binary_operator.BitwiseOr = Some assigning.BitwiseOr
+computing _ = None
+
+-- The rows
+
+-- 39: `a && (b && c)` becomes `a && b && c`, and so of `||` and `??`
+pub record Row39 (n w : Tree) : Type 0 where
+  pub operator : LogicalOperator
+  pub a : Tree
+  pub b : Tree
+  pub c : Tree
+  pub ungrouped : is_grouped operator b ≡ false
+  pub shape : n ≡ logical operator a (logical operator b c)
+  pub written : w ≡ logical operator (logical operator a b) c
+
+-- 38: `x || (x = b)` becomes `x ||= b`, and so of `&&` and `??`
+pub record Row38 (n w : Tree) : Type 0 where
+  pub operator : LogicalOperator
+  pub name : Name
+  pub b : Tree
+  pub shape : n ≡ logical operator (identifier name) (assign name b)
+  pub written : w ≡ assignment (deciding operator) (identifier name) b
+
+-- 35: `x = x + b` becomes `x += b`, and so of the other operators of numbers
+pub record Row35 (n w : Tree) : Type 0 where
+  pub operator : BinaryOperator
+  pub combined : AssignmentOperator
+  pub name : Name
+  pub b : Tree
+  pub computes : computing operator ≡ Some combined
+  pub shape : n ≡ assign name (binary operator (identifier name) b)
+  pub written : w ≡ assignment combined (identifier name) b
+
+-- 45: `a ? x = b : x = c` becomes `x = a ? b : c`, where a scope declares x. In a seat of the level of a conditional an assignment
+-- would stand in parentheses; a program has none
+pub record Row45 (s : Seat) (n w : Tree) : Type 0 where
+  pub a : Tree
+  pub name : Name
+  pub b : Tree
+  pub c : Tree
+  pub declared : is_none name.symbol ≡ false
+  pub seated : nat_eq s.level conditional_level ≡ false
+  pub shape : n ≡ conditional a (assign name b) (assign name c)
+  pub written : w ≡ assign name (conditional a b c)
+
+-- 46: `x == null ? b : x` becomes `x ?? b`, where a scope declares x, and so does `x != null ? x : b`
+pub record Row46Equal (n w : Tree) : Type 0 where
+  pub name : Name
+  pub b : Tree
+  pub declared : is_none name.symbol ≡ false
+  pub shape : n ≡ conditional (binary binary_operator.Equality (identifier name) null_literal) b (identifier name)
+  pub written : w ≡ logical Coalesce (identifier name) b
+
+pub record Row46Unequal (n w : Tree) : Type 0 where
+  pub name : Name
+  pub b : Tree
+  pub declared : is_none name.symbol ≡ false
+  pub shape : n ≡ conditional (binary binary_operator.Inequality (identifier name) null_literal) (identifier name) b
+  pub written : w ≡ logical Coalesce (identifier name) b
+
+-- What a conditional evaluates in two places is written once
+
+-- 41: `x ? x : b` becomes `x || b`
+pub record Row41Or (n w : Tree) : Type 0 where
+  pub name : Name
+  pub b : Tree
+  pub shape : n ≡ conditional (identifier name) (identifier name) b
+  pub written : w ≡ logical Or (identifier name) b
+
+-- 41: `x ? b : x` becomes `x && b`
+pub record Row41And (n w : Tree) : Type 0 where
+  pub name : Name
+  pub b : Tree
+  pub shape : n ≡ conditional (identifier name) b (identifier name)
+  pub written : w ≡ logical And (identifier name) b
+
+-- 42: `a ? b ? c : d : d` becomes `a && b ? c : d`
+pub record Row42And (n w : Tree) : Type 0 where
+  pub a : Tree
+  pub b : Tree
+  pub c : Tree
+  pub d : Tree
+  pub shape : n ≡ conditional a (conditional b c d) d
+  pub written : w ≡ conditional (logical And a b) c d
+
+-- 42: `a ? c : b ? c : d` becomes `a || b ? c : d`
+pub record Row42Or (n w : Tree) : Type 0 where
+  pub a : Tree
+  pub b : Tree
+  pub c : Tree
+  pub d : Tree
+  pub shape : n ≡ conditional a c (conditional b c d)
+  pub written : w ≡ conditional (logical Or a b) c d
+
+-- 43: `a ? b || c : c` becomes `a && b || c`
+pub record Row43Or (n w : Tree) : Type 0 where
+  pub a : Tree
+  pub b : Tree
+  pub c : Tree
+  pub shape : n ≡ conditional a (logical Or b c) c
+  pub written : w ≡ logical Or (logical And a b) c
+
+-- 43: `a ? c : b && c` becomes `(a || b) && c`
+pub record Row43And (n w : Tree) : Type 0 where
+  pub a : Tree
+  pub b : Tree
+  pub c : Tree
+  pub shape : n ≡ conditional a c (logical And b c)
+  pub written : w ≡ logical And (logical Or a b) c
+
+-- 43: `a ? (b, c) : c` becomes `a && b, c`
+pub record Row43AndThen (n w : Tree) : Type 0 where
+  pub a : Tree
+  pub b : Tree
+  pub c : Tree
+  pub shape : n ≡ conditional a (pair b c) c
+  pub written : w ≡ pair (logical And a b) c
+
+-- 43: `a ? c : (b, c)` becomes `a || b, c`
+pub record Row43OrThen (n w : Tree) : Type 0 where
+  pub a : Tree
+  pub b : Tree
+  pub c : Tree
+  pub shape : n ≡ conditional a c (pair b c)
+  pub written : w ≡ pair (logical Or a b) c
+
+-- 49: `a ? b : b` becomes `a, b`
+pub record Row49 (n w : Tree) : Type 0 where
+  pub a : Tree
+  pub b : Tree
+  pub shape : n ≡ conditional a b b
+  pub written : w ≡ pair a b
+
+-- rows of what is lighter in every seat
+abbrev pub LighterRow : Seat → Tree → Tree → Type 0
+LighterRow s n w = Row39 n w ⊎ (Row38 n w ⊎ (Row35 n w ⊎ (Row46Equal n w ⊎ (Row46Unequal n w ⊎ Row45 s n w))))
+
+-- and of what may be heavier for its parentheses
+abbrev pub OwnRow : Tree → Tree → Type 0
+OwnRow n w = Row41Or n w ⊎ Row41And n w
+
+-- rows of a branch that stands in two places
+abbrev pub HeldRow : Tree → Tree → Type 0
+HeldRow n w = Row42And n w ⊎ (Row42Or n w ⊎ (Row43Or n w ⊎ (Row43And n w ⊎ (Row43AndThen n w ⊎ (Row43OrThen n w ⊎ Row49 n w)))))
+
+-- a row of choices reads n as w at this place
+abbrev pub ChoiceRow : Position → Tree → Tree → Type 0
+ChoiceRow (Expr s) n w = LighterRow s n w ⊎ OwnRow n w
+ChoiceRow _ n w = ⊥
+
+-- what it writes, where it weighs less
+pub record ChoiceContracts (p : Position) (n w : Tree) : Type 0 where
+  pub row : ChoiceRow p n w
+  pub lighter : weight p w < weight p n
+
+-- which is everywhere, for some
+abbrev pub ChoicesLighter : Type 0
+ChoicesLighter = (s : Seat) (n w : Tree) → LighterRow s n w → weight (Expr s) w < weight (Expr s) n
+
+-- what a row of a branch in two places writes, where it weighs less
+abbrev pub HeldRowAt : Position → Tree → Tree → Type 0
+HeldRowAt (Expr s) n w = HeldRow n w
+HeldRowAt _ n w = ⊥
+
+pub record HeldContracts (p : Position) (n w : Tree) : Type 0 where
+  pub row : HeldRowAt p n w
+  pub lighter : weight p w < weight p n

@@ -1,0 +1,22 @@
+//! The rows on what is known of an expression from its text.
+
+ghost use Rattle.mini_kept.specs.Lawful.{Lawful};
+ghost use Rattle.mini_laws.specs.Rewritten.{MeansSame};
+ghost use Rattle.mini_laws.specs.Weights.{Lightens};
+ghost use Rattle.mini_rows.specs.Folding.{FoldingContracts, FoldingsLighter};
+
+/// What a row on what is known writes means the same wherever the node stands, and a parent reads it alike.
+pub fn foldings_mean_the_same()
+    ensures { MeansSame FoldingContracts }
+{}
+
+/// What it writes is lighter in every place, and so a step by such a row makes the whole lighter.
+pub fn foldings_are_lighter()
+    ensures row { FoldingsLighter }
+    ensures step { Lightens FoldingContracts }
+{}
+
+/// What it writes keeps all that a program has to keep.
+pub fn foldings_are_lawful()
+    ensures { Lawful FoldingContracts }
+{}
