@@ -11,14 +11,17 @@ use Rattle.mini_model.specs.Rewriting.{EverywhereIn}
 use Rattle.mini_kept.specs.Lawful.{Lawful}
 use Rattle.mini_kept.proofs.Lawful.{lawful_join, lawful_narrowed, rows_are_lawful}
 use Rattle.mini_rows.specs.Branches.{BranchContracts}
+use Rattle.mini_rows.specs.Turns.{TurnContracts}
 use Rattle.mini_rows.proofs.BranchLawful.{branches_lawful}
+use Rattle.mini_rows.proofs.TurnLawful.{turns_lawful}
 use Rattle.mini_logic.specs.Joined as law
 use Rattle.mini_logic.specs.Joined.{LogicRow, LogicContracts, HaveNoRedex}
 use Rattle.mini_walk.specs.Wider.{reaches_of}
 
 gives_row : (p : Position) (t u : Tree) → law.Gives p t u → LogicContracts p t u
-gives_row (Expr s) t u (inl r) = record { row = inl r.0; lighter = r.1 }
-gives_row (Expr s) t u (inr (inl r)) = record { row = inr r.0; lighter = r.1 }
+gives_row (Expr s) t u (inl r) = record { row = inl (inl r.0); lighter = r.1 }
+gives_row (Expr s) t u (inr (inl (inl r, l))) = record { row = inl (inr r); lighter = l }
+gives_row (Expr s) t u (inr (inl (inr r, l))) = record { row = inr r; lighter = l }
 gives_row (Expr s) t u (inr (inr r)) = absurd r
 gives_row (Stmt q) t u (inl r) = absurd r
 gives_row (Stmt q) t u (inr (inl r)) = absurd r
@@ -31,8 +34,9 @@ pub gives_contract : law.GivesContract
 gives_contract = gives_row
 
 given : (p : Position) (t u : Tree) → LogicRow p t u → weight p u < weight p t → law.Gives p t u
-given (Expr s) t u (inl r) l = inl (r, l)
-given (Expr s) t u (inr r) l = inr (inl (r, l))
+given (Expr s) t u (inl (inl r)) l = inl (r, l)
+given (Expr s) t u (inl (inr r)) l = inr (inl (inl r, l))
+given (Expr s) t u (inr r) l = inr (inl (inr r, l))
 given (Stmt q) t u r l = inr (inr (r, l))
 given p t u r l = absurd r
 
@@ -66,14 +70,22 @@ mutual
 
 -- ---- lawful
 
-either_row : (p : Position) (t u : Tree) → LogicContracts p t u → Contracts p t u ⊎ BranchContracts p t u
+abbrev OfOthers : Position → Tree → Tree → Type 0
+OfOthers p t u = BranchContracts p t u ⊎ TurnContracts p t u
+
+either_row : (p : Position) (t u : Tree) → LogicContracts p t u → Contracts p t u ⊎ OfOthers p t u
 either_row (Stmt q) t u c = go c.row
   where
-    go : LogicRow (Stmt q) t u → Contracts (Stmt q) t u ⊎ BranchContracts (Stmt q) t u
+    go : LogicRow (Stmt q) t u → Contracts (Stmt q) t u ⊎ OfOthers (Stmt q) t u
     go (inl r) = inl (record { row = r; lighter = c.lighter })
-    go (inr r) = inr (record { row = inr (inr r); lighter = c.lighter })
-either_row (Expr s) t u c = inl (record { row = c.row; lighter = c.lighter })
+    go (inr (inl r)) = inr (inl (record { row = inr (inr r); lighter = c.lighter }))
+    go (inr (inr r)) = inr (inr (record { row = r; lighter = c.lighter }))
+either_row (Expr s) t u c = go c.row
+  where
+    go : LogicRow (Expr s) t u → Contracts (Expr s) t u ⊎ OfOthers (Expr s) t u
+    go (inl r) = inl (record { row = r; lighter = c.lighter })
+    go (inr r) = inr (inr (record { row = r; lighter = c.lighter }))
 either_row p t u c = absurd c.row
 
 pub logic_lawful : Lawful LogicContracts
-logic_lawful = lawful_narrowed LogicContracts (λ p t u. Contracts p t u ⊎ BranchContracts p t u) either_row (lawful_join Contracts BranchContracts rows_are_lawful branches_lawful)
+logic_lawful = lawful_narrowed LogicContracts (λ p t u. Contracts p t u ⊎ OfOthers p t u) either_row (lawful_join Contracts OfOthers rows_are_lawful (lawful_join BranchContracts TurnContracts branches_lawful turns_lawful))

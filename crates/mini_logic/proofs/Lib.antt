@@ -7,4 +7,6 @@ pub mod MinimizeUnaryExpression
 pub mod MinimizeConditionalExpression
 pub mod MinimizeIfStatement
 pub mod UnwrapBlock
+pub mod KnownSides
 pub mod Joined
+pub mod Choices

@@ -1,7 +1,7 @@
 -- The rewrite is that of rows 82 and 83, and always lighter.
 use Rattle.std.proofs.Common.{◌≡◌, ℕ, zero, ◌<◌, ◌≤◌, ◌^◌, Bool, true, false, refl, sym, ap, subst, ◌∙◌, inl, inr, arith, true≢false}
 use borrow.Author.Tests.{ltb-true, ltb-false}
-use Rattle.std.specs.Prelude.{◌⊎◌, ◌&&◌, ◌||◌, ◌==◌, nat_lt, Option, Some, None, is_some, unwrap_or, if◌then◌else◌}
+use Rattle.std.specs.Prelude.{◌⊎◌, ◌&&◌, ◌||◌, ◌==◌, not, nat_lt, Option, Some, None, is_some, unwrap_or, if◌then◌else◌}
 use Rattle.std.proofs.lemmas.Bool.{and_parts}
 use Rattle.std.proofs.Math.Dec.{eqb-suc-zero}
 use Rattle.mini_model.specs.declared.operator.LogicalOperator.TheVariants.{Or, And}
@@ -10,21 +10,23 @@ use Rattle.mini_model.specs.declared.place.Position.TheVariants.{Expr, Stmt}
 use Rattle.mini_model.specs.declared.seat.Seat.{Seat}
 use Rattle.mini_model.specs.declared.seat.StmtSeat.{StmtSeat}
 use Rattle.mini_model.specs.declared.shape.Shape.TheVariants as shape
-use Rattle.mini_model.specs.Tree.{Tree, Trees, node, none, ◌▸◌, count, children, negation, logical, expression_statement, if_else, if_alone}
+use Rattle.mini_model.specs.Tree.{Tree, Trees, node, none, ◌▸◌, shape_of, count, children, negation, logical, expression_statement, if_else, if_alone}
 use Rattle.mini_model.specs.Position.{statement_expression_seat, left_operand_seat, if_test_seat, not_operand_seat}
 use Rattle.mini_model.specs.Weight.{weight, capped}
 use Rattle.mini_model.specs.Terms.{neg, not_of, has_negated_result}
 use Rattle.mini_model.specs.Redex.{Row82Else, Row82And, Row82Or}
 use Rattle.mini_node.specs.Children.{part}
-use Rattle.mini_node.specs.Kinds.{is_empty_statement, is_block, is_absent_part, is_if_statement, is_if_alone, is_expression_statement}
-use Rattle.mini_node.specs.Made.{absent_is, empty_statement_is, block_is, if_statement_is, if_alone_is, expression_statement_is}
+use Rattle.mini_node.specs.Kinds.{is_empty_statement, is_block, is_absent_part, is_if_statement, is_if_alone, is_expression_statement, is_negation}
+use Rattle.mini_node.specs.Made.{absent_is, empty_statement_is, block_is, if_statement_is, if_alone_is, expression_statement_is, negation_is}
 use Rattle.mini_laws.proofs.Seats.{else_falls, moved}
 use Rattle.mini_rows.specs.Lists.{block}
 use Rattle.mini_rows.specs.Branches.{IsEmpty, is_other_branch, as_consequent, conjunct_seat, Row82Empty, Row83Alone, Row83Else, Row83Nested, Row83Block, IfRow}
+use Rattle.mini_rows.specs.Turns.{is_unchained, is_block_shape, one_chooses, KeepsBraces, Row83Swapped}
 use Rattle.mini_rows.proofs.BranchWeights.{branch_lighter}
+use Rattle.mini_rows.proofs.TurnWeights.{turns_lighter}
 use Rattle.mini_walk.specs.Rule.{Applied}
 use Rattle.mini_walk.proofs.Reaching.{moves_once}
-use Rattle.mini_logic.specs.MinimizeIfStatement.{chooses, guards, is_empty, has_empty_consequent, skips, only_tests, is_weighed, turns, nests, is_bare, choice, conjunction, disjunction, disjunct_seat, guard, skipped, lighter_negation, turned, nested, in_block, written, IsRow, Gives, Rests}
+use Rattle.mini_logic.specs.MinimizeIfStatement.{chooses, guards, is_empty, has_empty_consequent, skips, only_tests, is_weighed, turns, nests, is_bare, holds_choice, keeps_braces, swaps, choice, conjunction, disjunction, disjunct_seat, guard, skipped, lighter_negation, turned, nested, in_block, swapped, written, IsRow, Gives, Rests}
 use Rattle.mini_logic.proofs.Seats.{left_or_falls, left_and_falls, right_and_falls, right_or_falls}
 
 -- ---- the negation of a `!` is never heavier there than another `!` before it, so it is the lighter one of both
@@ -152,6 +154,48 @@ follows_bare t e =
     let (is, has) = and_parts (is_if_statement t) _ e in
     record { a = part t 0; c = part t 1; u = part t 2; chooses = has; shape = if_statement_is t is; written = refl }
 
+-- the braces of what becomes the alternate
+
+not_true : (b : Bool) → not b ≡ true → b ≡ false
+not_true true e = absurd (true≢false (sym e))
+not_true false e = refl
+
+one_is : (ts : Trees) → holds_choice (block ts) ≡ one_chooses ts
+one_is none = refl
+one_is (t ▸ none) = refl
+one_is (t ▸ (u ▸ ts)) = refl
+
+braces_are : (t : Tree) → keeps_braces t ≡ true → KeepsBraces t
+braces_are t e = go (either_one (not (is_block_shape (shape_of t))) (is_block t && not (holds_choice t)) e)
+  where
+    go : (not (is_block_shape (shape_of t)) ≡ true) ⊎ ((is_block t && not (holds_choice t)) ≡ true) → KeepsBraces t
+    go (inl f) = inl (not_true (is_block_shape (shape_of t)) f)
+    go (inr f) =
+        let (block, other) = and_parts (is_block t) (not (holds_choice t)) f in
+        let is = block_is t block in
+        inr (record { statements = children (part t 0); is = is; other = sym (one_is (children (part t 0))) ∙ sym (ap holds_choice is) ∙ not_true (holds_choice t) other })
+
+read_braces : (t : Tree) → KeepsBraces t → keeps_braces t ≡ true
+read_braces t (inl e) = ap (λ b. not b || (is_block t && not (holds_choice t))) e
+read_braces t (inr r) = ap keeps_braces r.is ∙ ap not (one_is r.statements ∙ r.other)
+
+follows_swap : (t : Tree) → swaps t ≡ true → Row83Swapped t (swapped t)
+follows_swap t e =
+    let (is, rest) = and_parts (is_if_statement t) (is_negation (part t 0) && (is_other_branch (part t 1) && (keeps_braces (part t 1) && is_unchained (part t 2)))) e in
+    let (negated, branches) = and_parts (is_negation (part t 0)) (is_other_branch (part t 1) && (keeps_braces (part t 1) && is_unchained (part t 2))) rest in
+    let (other, last) = and_parts (is_other_branch (part t 1)) (keeps_braces (part t 1) && is_unchained (part t 2)) branches in
+    let (braces, unchained) = and_parts (keeps_braces (part t 1)) (is_unchained (part t 2)) last in
+    record {
+      a = part (part t 0) 0;
+      s = part t 1;
+      u = part t 2;
+      other = other;
+      braces = braces_are (part t 1) braces;
+      unchained = unchained;
+      shape = if_statement_is t is ∙ ap (λ a. if_else a (part t 1) (part t 2)) (negation_is (part t 0) negated);
+      written = refl;
+    }
+
 -- ---- one of some choices
 
 taken : (b : Bool) (x w : Tree) (o : Option Tree) → (if b then Some x else o) ≡ Some w → ((b ≡ true) × (x ≡ w)) ⊎ (o ≡ Some w)
@@ -162,8 +206,11 @@ passed : (b : Bool) (x : Tree) (o : Option Tree) → (if b then Some x else o) �
 passed true x o e = absurd (cc e)
 passed false x o e = (refl, e)
 
+abbrev swap_or : Tree → Option Tree
+swap_or t = if swaps t then Some (swapped t) else None
+
 abbrev bare_or : Tree → Option Tree
-bare_or t = if is_bare t then Some (in_block t) else None
+bare_or t = if is_bare t then Some (in_block t) else swap_or t
 
 abbrev nest_or : Tree → Option Tree
 nest_or t = if nests t then Some (nested t) else bare_or t
@@ -184,39 +231,46 @@ module _ (t w : Tree) where
   as_is : (x : Tree) (R : Tree → Tree → Type 0) → R t x → x ≡ w → R t w
   as_is x R r e = subst (R t) e r
 
-  bare_follows : bare_or t ≡ Some w → IsRow t w
-  bare_follows e = go (taken (is_bare t) (in_block t) w None e)
+  swap_follows : swap_or t ≡ Some w → IsRow t w
+  swap_follows e = go (taken (swaps t) (swapped t) w None e)
     where
-      go : ((is_bare t ≡ true) × (in_block t ≡ w)) ⊎ (None ≡ Some w) → IsRow t w
-      go (inl x) = inr (inr (inr (inr (inr (as_is (in_block t) Row83Block (follows_bare t x.0) x.1)))))
+      go : ((swaps t ≡ true) × (swapped t ≡ w)) ⊎ (None ≡ Some w) → IsRow t w
+      go (inl x) = inr (inr (as_is (swapped t) Row83Swapped (follows_swap t x.0) x.1))
       go (inr x) = absurd (cc x)
+
+  bare_follows : bare_or t ≡ Some w → IsRow t w
+  bare_follows e = go (taken (is_bare t) (in_block t) w (swap_or t) e)
+    where
+      go : ((is_bare t ≡ true) × (in_block t ≡ w)) ⊎ (swap_or t ≡ Some w) → IsRow t w
+      go (inl x) = inr (inl (inr (inr (inr (inr (as_is (in_block t) Row83Block (follows_bare t x.0) x.1))))))
+      go (inr x) = swap_follows x
 
   nest_follows : nest_or t ≡ Some w → IsRow t w
   nest_follows e = go (taken (nests t) (nested t) w (bare_or t) e)
     where
       go : ((nests t ≡ true) × (nested t ≡ w)) ⊎ (bare_or t ≡ Some w) → IsRow t w
-      go (inl x) = inr (inr (inr (inr (inl (as_is (nested t) Row83Nested (follows_nest t x.0) x.1)))))
+      go (inl x) = inr (inl (inr (inr (inr (inl (as_is (nested t) Row83Nested (follows_nest t x.0) x.1))))))
       go (inr x) = bare_follows x
 
   turn_follows : turn_or t ≡ Some w → IsRow t w
   turn_follows e = go (taken (turns t) (turned t) w (nest_or t) e)
     where
       go : ((turns t ≡ true) × (turned t ≡ w)) ⊎ (nest_or t ≡ Some w) → IsRow t w
-      go (inl x) = inr (inr (inr (inl (as_is (turned t) Row83Else (follows_turn t x.0) x.1))))
+      go (inl x) = inr (inl (inr (inr (inl (as_is (turned t) Row83Else (follows_turn t x.0) x.1)))))
       go (inr x) = nest_follows x
 
   test_follows : test_or t ≡ Some w → IsRow t w
   test_follows e = go (taken (only_tests t) (expression_statement (part t 0)) w (turn_or t) e)
     where
       go : ((only_tests t ≡ true) × (expression_statement (part t 0) ≡ w)) ⊎ (turn_or t ≡ Some w) → IsRow t w
-      go (inl x) = inr (inr (inl (as_is (expression_statement (part t 0)) Row83Alone (follows_test t x.0) x.1)))
+      go (inl x) = inr (inl (inr (inl (as_is (expression_statement (part t 0)) Row83Alone (follows_test t x.0) x.1))))
       go (inr x) = turn_follows x
 
   skip_follows : skip_or t ≡ Some w → IsRow t w
   skip_follows e = go (taken (skips t) (skipped t) w (test_or t) e)
     where
       go : ((skips t ≡ true) × (skipped t ≡ w)) ⊎ (test_or t ≡ Some w) → IsRow t w
-      go (inl x) = inr (inl (as_is (skipped t) Row82Empty (follows_skip t x.0) x.1))
+      go (inl x) = inr (inl (inl (as_is (skipped t) Row82Empty (follows_skip t x.0) x.1)))
       go (inr x) = test_follows x
 
   guard_follows : guard_or t ≡ Some w → IsRow t w
@@ -244,6 +298,7 @@ record Passed (t : Tree) : Type 0 where
   turns : turns t ≡ false
   nests : nests t ≡ false
   is_bare : is_bare t ≡ false
+  swaps : swaps t ≡ false
 
 all_passed : (t : Tree) → written t ≡ None → Passed t
 all_passed t e =
@@ -253,8 +308,9 @@ all_passed t e =
     let (d, i) = passed (only_tests t) (expression_statement (part t 0)) (turn_or t) h in
     let (k, j) = passed (turns t) (turned t) (nest_or t) i in
     let (l, m) = passed (nests t) (nested t) (bare_or t) j in
-    let (n, o) = passed (is_bare t) (in_block t) None m in
-    record { chooses = a; guards = b; skips = c; only_tests = d; turns = k; nests = l; is_bare = n }
+    let (n, o) = passed (is_bare t) (in_block t) (swap_or t) m in
+    let (r, s) = passed (swaps t) (swapped t) None o in
+    record { chooses = a; guards = b; skips = c; only_tests = d; turns = k; nests = l; is_bare = n; swaps = r }
 
 read_empty : (c : Tree) → IsEmpty c → is_empty c ≡ true
 read_empty c (inl e) = ap is_empty e
@@ -287,11 +343,17 @@ branch_missed q t w e small (inr (inr (inl r))) =
 branch_missed q t w e small (inr (inr (inr (inl r)))) = not_both t nests _ e.nests r.shape refl
 branch_missed q t w e small (inr (inr (inr (inr r)))) = not_both t is_bare _ e.is_bare r.shape r.chooses
 
+swap_missed : (t w : Tree) → Passed t → Row83Swapped t w → ⊥
+swap_missed t w e r =
+    not_both t swaps _ e.swaps r.shape
+    (ap (λ b. b && (keeps_braces r.s && is_unchained r.u)) r.other ∙ ap (λ b. b && is_unchained r.u) (read_braces r.s r.braces) ∙ r.unchained)
+
 misses : (q : StmtSeat) (t w : Tree) → written t ≡ None → weight (Stmt q) t < 2 ^ 64 → IsRow t w → ⊥
 misses q t w e small (inl (inl r)) = not_both t chooses _ (all_passed t e).chooses r.shape refl
 misses q t w e small (inl (inr (inl r))) = not_both t guards _ (all_passed t e).guards r.shape refl
 misses q t w e small (inl (inr (inr r))) = not_both t guards _ (all_passed t e).guards r.shape refl
-misses q t w e small (inr r) = branch_missed q t w (all_passed t e) small r
+misses q t w e small (inr (inl r)) = branch_missed q t w (all_passed t e) small r
+misses q t w e small (inr (inr r)) = swap_missed t w (all_passed t e) r
 
 -- ---- lighter
 
@@ -318,7 +380,8 @@ row_lighter q t w (inl (inr (inl r))) = omega (arith, and_lighter q r.a r.b, ap 
 row_lighter q t w (inl (inr (inr r))) =
     let made = r.written ∙ ap (λ a. expression_statement (logical Or a r.b)) (not_is disjunct_seat r.a (disjunct_falls r.a r.negated)) in
     omega (arith, or_lighter q r.a r.b r.negated, ap (weight (Stmt q)) r.shape, ap (weight (Stmt q)) made)
-row_lighter q t w (inr r) = branch_lighter (Stmt q) t w (inr (inr r))
+row_lighter q t w (inr (inl r)) = branch_lighter (Stmt q) t w (inr (inr r))
+row_lighter q t w (inr (inr r)) = turns_lighter (Stmt q) t w r
 
 pub applied : (q : StmtSeat) (t u : Tree) (b : Bool) → u ≡ unwrap_or (written t) t → b ≡ is_some (written t) → Applied Gives Rests (Stmt q) t u b
 applied q t u b e f = subst (λ v. Applied Gives Rests (Stmt q) t v b) (sym e) (subst (Applied Gives Rests (Stmt q) t (unwrap_or (written t) t)) (sym f) (go (written t) refl))

@@ -3,6 +3,7 @@ use Rattle.std.proofs.Common.{◌≡◌, ◌<◌, ◌^◌, Bool, true, false, re
 use Rattle.std.specs.Prelude.{◌&&◌, ◌||◌, nat_lt, Option, Some, None, is_some, if◌then◌else◌}
 use Rattle.std.proofs.lemmas.Bool.{and_parts}
 use borrow.Author.Tests.{ltb-true, ltb-false}
+use Rattle.mini_model.specs.declared.operator.BinaryOperator.{BinaryOperator}
 use Rattle.mini_model.specs.declared.operator.LogicalOperator.{LogicalOperator}
 use Rattle.mini_model.specs.declared.place.Position.TheVariants.{Expr}
 use Rattle.mini_model.specs.declared.seat.Seat.{Seat}
@@ -14,7 +15,7 @@ use Rattle.mini_node.specs.Kinds.{is_negation}
 use Rattle.mini_node.specs.Made.{negation_is}
 use Rattle.mini_walk.specs.Rule.{Applied}
 use Rattle.mini_walk.proofs.Reaching.{moves_once}
-use Rattle.mini_logic.specs.Negating.{turned_by, is_unwrapped, has_own_negation}
+use Rattle.mini_logic.specs.Negating.{turned_by, opposite_by, is_unwrapped, has_own_negation}
 use Rattle.mini_logic.specs.MinimizeUnaryExpression.{has_lighter_negation, minimizes_unary, minimized_unary, Gives, Rests}
 use Rattle.mini_logic.proofs.Negations.{neg_other}
 
@@ -30,12 +31,13 @@ follows s t e =
 
 -- another negation than a `!` is one that is told
 no_own : (s : Seat) (e : Tree) → has_own_negation s e ≡ false → neg s e ≡ negation e
-no_own s e h = go (turned_by (shape_of e)) (is_unwrapped s e) refl refl h
+no_own s e h = go (turned_by (shape_of e)) (opposite_by (shape_of e)) (is_unwrapped s e) refl refl refl h
   where
-    go : (o : Option LogicalOperator) (b : Bool) → turned_by (shape_of e) ≡ o → is_unwrapped s e ≡ b → is_some o || b ≡ false → neg s e ≡ negation e
-    go (Some o) b f g k = absurd (cc k)
-    go None true f g k = absurd (cc k)
-    go None false f g k = neg_other s e f g
+    go : (o : Option LogicalOperator) (p : Option BinaryOperator) (b : Bool) → turned_by (shape_of e) ≡ o → opposite_by (shape_of e) ≡ p → is_unwrapped s e ≡ b → (is_some o || is_some p) || b ≡ false → neg s e ≡ negation e
+    go (Some o) p b f i g k = absurd (cc k)
+    go None (Some p) b f i g k = absurd (cc k)
+    go None None true f i g k = absurd (cc k)
+    go None None false f i g k = neg_other s e f i g
 
 heavy : (s : Seat) (e : Tree) → has_lighter_negation s e ≡ false → weight (Expr s) (negation e) < 2 ^ 64 → weight (Expr s) (neg s e) < weight (Expr s) (negation e) → ⊥
 heavy s e h small less = go (has_own_negation s e) refl h

@@ -2,6 +2,8 @@
 use Rattle.std.proofs.Common.{◌≡◌, ◌<◌, ◌≤◌, arith, ℕ, zero, suc, true, false, refl, ap, ◌∙◌}
 use Rattle.std.specs.Prelude.{Some, None, nat_eq}
 use Rattle.std.proofs.Math.Dec.{eqb-suc-zero, eqb-suc-suc}
+use Rattle.mini_model.specs.declared.operator.BinaryOperator.{BinaryOperator}
+use Rattle.mini_model.specs.declared.operator.BinaryOperator.TheVariants as binary
 use Rattle.mini_model.specs.declared.operator.LogicalOperator.{LogicalOperator}
 use Rattle.mini_model.specs.declared.operator.LogicalOperator.TheVariants.{Or, And}
 use Rattle.mini_model.specs.declared.operator.UnaryOperator.TheVariants.{LogicalNot}
@@ -10,7 +12,7 @@ use Rattle.mini_model.specs.declared.shape.Shape.TheVariants as shape
 use Rattle.mini_model.specs.Tree.{Tree, Trees, node, none, ◌▸◌, count, shape_of, child_or_absent, node_count, node_counts, negation}
 use Rattle.mini_model.specs.Terms.{unwrapped, neg, neg_each}
 use Rattle.mini_node.specs.Children.{part, with_child}
-use Rattle.mini_logic.specs.Negating.{has_one, turned_by, turned_over, is_unwrapped, first_negated}
+use Rattle.mini_logic.specs.Negating.{has_one, turned_by, turned_over, opposite_by, reshaped, is_unwrapped, first_negated}
 
 pub one_by_count : (ts : Trees) → nat_eq (count ts) 1 ≡ has_one ts
 one_by_count none = refl
@@ -26,11 +28,22 @@ pub neg_unwrapped : (s : Seat) (t : Tree) → is_unwrapped s t ≡ true → neg 
 neg_unwrapped s (node (shape.UnaryExpression LogicalNot) xs n (a ▸ none)) e = ap (λ b. unwrapped b a (node (shape.UnaryExpression LogicalNot) xs n (a ▸ none))) e
 neg_unwrapped s t e = absurd (cc e)
 
-pub neg_other : (s : Seat) (t : Tree) → turned_by (shape_of t) ≡ None → is_unwrapped s t ≡ false → neg s t ≡ negation t
-neg_other s (node (shape.LogicalExpression And) xs n ts) e f = absurd (cc e)
-neg_other s (node (shape.LogicalExpression Or) xs n ts) e f = absurd (cc e)
-neg_other s (node (shape.UnaryExpression LogicalNot) xs n (a ▸ none)) e f = ap (λ b. unwrapped b a (node (shape.UnaryExpression LogicalNot) xs n (a ▸ none))) f
-neg_other s t e f = refl
+pub neg_opposite : (s : Seat) (t : Tree) (o : BinaryOperator) → opposite_by (shape_of t) ≡ Some o → neg s t ≡ reshaped (shape.BinaryExpression o) t
+neg_opposite s (node (shape.BinaryExpression binary.Equality) xs n ts) o e = let same : binary.Inequality ≡ o = cc e in ap (λ q. node (shape.BinaryExpression q) xs n ts) same
+neg_opposite s (node (shape.BinaryExpression binary.Inequality) xs n ts) o e = let same : binary.Equality ≡ o = cc e in ap (λ q. node (shape.BinaryExpression q) xs n ts) same
+neg_opposite s (node (shape.BinaryExpression binary.StrictEquality) xs n ts) o e = let same : binary.StrictInequality ≡ o = cc e in ap (λ q. node (shape.BinaryExpression q) xs n ts) same
+neg_opposite s (node (shape.BinaryExpression binary.StrictInequality) xs n ts) o e = let same : binary.StrictEquality ≡ o = cc e in ap (λ q. node (shape.BinaryExpression q) xs n ts) same
+neg_opposite s t o e = absurd (cc e)
+
+pub neg_other : (s : Seat) (t : Tree) → turned_by (shape_of t) ≡ None → opposite_by (shape_of t) ≡ None → is_unwrapped s t ≡ false → neg s t ≡ negation t
+neg_other s (node (shape.LogicalExpression And) xs n ts) e g f = absurd (cc e)
+neg_other s (node (shape.LogicalExpression Or) xs n ts) e g f = absurd (cc e)
+neg_other s (node (shape.BinaryExpression binary.Equality) xs n ts) e g f = absurd (cc g)
+neg_other s (node (shape.BinaryExpression binary.Inequality) xs n ts) e g f = absurd (cc g)
+neg_other s (node (shape.BinaryExpression binary.StrictEquality) xs n ts) e g f = absurd (cc g)
+neg_other s (node (shape.BinaryExpression binary.StrictInequality) xs n ts) e g f = absurd (cc g)
+neg_other s (node (shape.UnaryExpression LogicalNot) xs n (a ▸ none)) e g f = ap (λ b. unwrapped b a (node (shape.UnaryExpression LogicalNot) xs n (a ▸ none))) f
+neg_other s t e g f = refl
 
 -- operands, one after another
 

@@ -1,16 +1,18 @@
 -- The weight of operands that are negated, from one on.
 use Rattle.std.proofs.Common.{◌≡◌, refl, ap, sym, ◌∙◌, ℕ, zero, suc, ◌+◌, ◌<◌, ◌≤◌, Bool, true, false, List, [], ◌∷◌, length, arith}
-use Rattle.std.specs.Prelude.{slice_index_or, ◌&&◌, ◌||◌, if◌then◌else◌}
+use Rattle.std.specs.Prelude.{slice_index_or, ◌&&◌, ◌||◌, Some, if◌then◌else◌}
+use Rattle.mini_model.specs.declared.operator.BinaryOperator.{BinaryOperator}
+use Rattle.mini_model.specs.declared.operator.BinaryOperator.TheVariants as binary
 use Rattle.mini_model.specs.declared.operator.LogicalOperator.{LogicalOperator}
 use Rattle.mini_model.specs.declared.place.Position.TheVariants.{Expr}
 use Rattle.mini_model.specs.declared.seat.Seat.{Seat}
 use Rattle.mini_model.specs.declared.shape.Shape.TheVariants as shape
-use Rattle.mini_model.specs.Tree.{Tree, Trees, none, ◌▸◌, children, node_count, node_counts}
+use Rattle.mini_model.specs.Tree.{Tree, Trees, node, none, ◌▸◌, shape_of, children, node_count, node_counts}
 use Rattle.mini_model.specs.Position.{operand_seat}
 use Rattle.mini_model.specs.Weight.{weight, weights, parentheses}
 use Rattle.mini_model.specs.Terms.{neg, neg_each}
 use Rattle.mini_node.specs.Children.{trees_of}
-use Rattle.mini_logic.specs.Negating.{turned_over}
+use Rattle.mini_logic.specs.Negating.{turned_over, opposite_by, reshaped, unequal_weight}
 
 abbrev pub negations_from : (ℕ → Seat) → ℕ → Trees → ℕ
 negations_from σ at none = 0
@@ -39,6 +41,32 @@ no_mark false false false = omega arith
 -- a logical expression is its operator, perhaps its parentheses, and its operands
 pub weight_turned : (o : LogicalOperator) (s : Seat) (t : Tree) → weight (Expr s) (turned_over o s t) ≡ 4 + parentheses (shape.LogicalExpression o) s + negations_from (operand_seat o s) 0 (children t)
 weight_turned o s t = omega (arith, no_mark s.eq_left s.cond_test s.lifted, from_start (operand_seat o s) (children t))
+
+-- an equality under another operator of its kind weighs the same, but for what an inequality weighs more as a test
+
+test_mark : (e t u f : Bool) → ◌≡◌ {A = ℕ} (if (e && false) || ((t && u) || (f && false)) then 1 else 0) (if t && u then 1 else 0)
+test_mark true true true true = refl
+test_mark true true true false = refl
+test_mark true true false true = refl
+test_mark true true false false = refl
+test_mark true false u true = refl
+test_mark true false u false = refl
+test_mark false true true true = refl
+test_mark false true true false = refl
+test_mark false true false true = refl
+test_mark false true false false = refl
+test_mark false false u true = refl
+test_mark false false u false = refl
+
+abbrev off_test : Seat → Seat
+off_test s = record s { cond_test = false }
+
+pub opposite_weighs : (s : Seat) (t : Tree) (o : BinaryOperator) → opposite_by (shape_of t) ≡ Some o → weight (Expr s) (reshaped (shape.BinaryExpression o) t) ≡ weight (Expr (record s { cond_test = false })) t + unequal_weight o s
+opposite_weighs s (node (shape.BinaryExpression binary.Equality) xs n ts) binary.Inequality e = omega (arith, test_mark s.eq_left s.cond_test true s.lifted, test_mark s.eq_left false false s.lifted)
+opposite_weighs s (node (shape.BinaryExpression binary.Inequality) xs n ts) binary.Equality e = omega (arith, test_mark s.eq_left s.cond_test false s.lifted, test_mark s.eq_left false true s.lifted)
+opposite_weighs s (node (shape.BinaryExpression binary.StrictEquality) xs n ts) binary.StrictInequality e = omega (arith, test_mark s.eq_left s.cond_test true s.lifted, test_mark s.eq_left false false s.lifted)
+opposite_weighs s (node (shape.BinaryExpression binary.StrictInequality) xs n ts) binary.StrictEquality e = omega (arith, test_mark s.eq_left s.cond_test false s.lifted, test_mark s.eq_left false true s.lifted)
+opposite_weighs s t o e = absurd (cc e)
 
 -- an item of a list is a smaller tree
 pub item_within : (ts : List Tree) (i : ℕ) (d : Tree) → i < length ts → node_count (slice_index_or ts i d) ≤ node_counts (trees_of ts)

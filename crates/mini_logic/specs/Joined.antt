@@ -1,20 +1,22 @@
 -- The rules one after another make what the rows contract, and where all have nothing to do nothing is to be rewritten.
 use Rattle.std.specs.Prelude.{◌⊎◌, ◌<◌, ◌^◌, ℕ}
 use Rattle.mini_model.specs.declared.place.Position.{Position}
-use Rattle.mini_model.specs.declared.place.Position.TheVariants.{Stmt}
+use Rattle.mini_model.specs.declared.place.Position.TheVariants.{Expr, Stmt}
 use Rattle.mini_model.specs.Tree.{Tree, Trees}
 use Rattle.mini_model.specs.Weight.{weight}
 use Rattle.mini_model.specs.Redex.{Row}
 use Rattle.mini_model.specs.Rewriting.{Reaches, Everywhere, EverywhereIn}
 use Rattle.mini_walk.specs.Rule.{Either, Both}
 use Rattle.mini_rows.specs.Branches.{IfRow}
+use Rattle.mini_rows.specs.Turns.{Row40Unequal, Row83Swapped}
 use Rattle.mini_logic.specs.MinimizeUnaryExpression as unary
 use Rattle.mini_logic.specs.MinimizeConditionalExpression as conditional
 use Rattle.mini_logic.specs.MinimizeIfStatement as «if»
 
 -- a row of one of the rules reads n as w at this place
 abbrev pub LogicRow : Position → Tree → Tree → Type 0
-LogicRow (Stmt q) n w = Row (Stmt q) n w ⊎ IfRow n w
+LogicRow (Expr s) n w = Row (Expr s) n w ⊎ Row40Unequal n w
+LogicRow (Stmt q) n w = Row (Stmt q) n w ⊎ (IfRow n w ⊎ Row83Swapped n w)
 LogicRow p n w = Row p n w
 
 -- what a row writes, where it weighs less

@@ -3,5 +3,12 @@ pub mod MinimizeUnaryExpression
 pub mod MinimizeConditionalExpression
 pub mod MinimizeIfStatement
 pub mod UnwrapBlock
+pub mod FoldKnown
 pub mod Joined
 pub mod Lighter
+pub mod Assigning
+pub mod SubstituteRotateLogicalExpression
+pub mod MinimizeLogicalExpression
+pub mod MinimizeNormalAssignmentToCombinedAssignment
+pub mod MinimizeConditionalBranches
+pub mod Choices

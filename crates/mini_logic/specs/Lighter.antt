@@ -8,36 +8,45 @@ use Rattle.mini_model.specs.Redex.{Contracts}
 use Rattle.mini_laws.specs.Weights.{Lightens}
 use Rattle.mini_laws.proofs.Lighter.{step_lighter, any_step_lighter, rows_lighten}
 use Rattle.mini_rows.specs.Branches.{BranchContracts}
+use Rattle.mini_rows.specs.Turns.{TurnContracts}
 use Rattle.mini_rows.proofs.BranchWeights.{branches_lighten}
+use Rattle.mini_rows.proofs.ChoiceWeights as choice_weights
+use Rattle.mini_rows.proofs.FoldWeights.{lightens}
+use Rattle.mini_rows.proofs.TurnWeights.{turns_lighten}
 use Rattle.mini_walk.specs.Rule.{IsLighter}
 use Rattle.mini_walk.specs.Wider.{step_of}
 use Rattle.mini_logic.specs.MinimizeUnaryExpression as unary
 use Rattle.mini_logic.specs.MinimizeConditionalExpression as conditional
 use Rattle.mini_logic.specs.MinimizeIfStatement as «if»
 use Rattle.mini_logic.specs.UnwrapBlock as unwrap
+use Rattle.mini_logic.specs.Choices as choices
+use Rattle.mini_logic.specs.FoldKnown as folding
 
 pub unary_contracts : (p : Position) (t u : Tree) → unary.Gives p t u → Contracts p t u
 unary_contracts (Expr s) t u r = record { row = inl r.0; lighter = r.1 }
 unary_contracts p t u r = absurd r
 
-pub conditional_contracts : (p : Position) (t u : Tree) → conditional.Gives p t u → Contracts p t u
-conditional_contracts (Expr s) t u r = record { row = inr r.0; lighter = r.1 }
+-- one of the rows
+abbrev pub AnyContracts : Position → Tree → Tree → Type 0
+AnyContracts p t u = Contracts p t u ⊎ (BranchContracts p t u ⊎ TurnContracts p t u)
+
+pub conditional_contracts : (p : Position) (t u : Tree) → conditional.Gives p t u → AnyContracts p t u
+conditional_contracts (Expr s) t u (inl r, l) = inl (record { row = inr r; lighter = l })
+conditional_contracts (Expr s) t u (inr r, l) = inr (inr (record { row = r; lighter = l }))
 conditional_contracts p t u r = absurd r
 
-pub if_contracts : (p : Position) (t u : Tree) → «if».Gives p t u → Contracts p t u ⊎ BranchContracts p t u
+pub if_contracts : (p : Position) (t u : Tree) → «if».Gives p t u → AnyContracts p t u
 if_contracts (Stmt q) t u (inl r, l) = inl (record { row = r; lighter = l })
-if_contracts (Stmt q) t u (inr r, l) = inr (record { row = inr (inr r); lighter = l })
+if_contracts (Stmt q) t u (inr (inl r), l) = inr (inl (record { row = inr (inr r); lighter = l }))
+if_contracts (Stmt q) t u (inr (inr r), l) = inr (inr (record { row = r; lighter = l }))
 if_contracts p t u r = absurd r
 
-pub unwrap_contracts : (p : Position) (t u : Tree) → unwrap.Gives p t u → Contracts p t u ⊎ BranchContracts p t u
-unwrap_contracts (Stmt q) t u r = inr (record { row = inr (inl r.0); lighter = r.1 })
+pub unwrap_contracts : (p : Position) (t u : Tree) → unwrap.Gives p t u → AnyContracts p t u
+unwrap_contracts (Stmt q) t u r = inr (inl (record { row = inr (inl r.0); lighter = r.1 }))
 unwrap_contracts p t u r = absurd r
 
 pub unary_lighter : IsLighter unary.Gives
 unary_lighter p t u s = step_lighter p t u (step_of unary.Gives Contracts unary_contracts p t u s)
-
-pub conditional_lighter : IsLighter conditional.Gives
-conditional_lighter p t u s = step_lighter p t u (step_of conditional.Gives Contracts conditional_contracts p t u s)
 
 -- two relations that make a whole lighter are one
 both_lighten : (R S : Position → Tree → Tree → Type 0) → Lightens R → Lightens S → Lightens (λ p t u. R p t u ⊎ S p t u)
@@ -49,12 +58,21 @@ both_lighten R S l m = record {
   chooses = λ p t u r e. ⊎_elim (λ x. l.chooses p t u x e) (λ x. m.chooses p t u x e) r;
 }
 
-rows_lighter : (R : Position → Tree → Tree → Type 0) → ((p : Position) (t u : Tree) → R p t u → Contracts p t u ⊎ BranchContracts p t u) → IsLighter R
+rows_lighter : (R : Position → Tree → Tree → Type 0) → ((p : Position) (t u : Tree) → R p t u → AnyContracts p t u) → IsLighter R
 rows_lighter R f p t u s =
-    any_step_lighter (λ p t u. Contracts p t u ⊎ BranchContracts p t u) (both_lighten Contracts BranchContracts rows_lighten branches_lighten) p t u (step_of R (λ p t u. Contracts p t u ⊎ BranchContracts p t u) f p t u s)
+    any_step_lighter AnyContracts (both_lighten Contracts (λ p t u. BranchContracts p t u ⊎ TurnContracts p t u) rows_lighten (both_lighten BranchContracts TurnContracts branches_lighten turns_lighten)) p t u (step_of R AnyContracts f p t u s)
+
+pub conditional_lighter : IsLighter conditional.Gives
+conditional_lighter = rows_lighter conditional.Gives conditional_contracts
 
 pub if_lighter : IsLighter «if».Gives
 if_lighter = rows_lighter «if».Gives if_contracts
 
 pub unwrap_lighter : IsLighter unwrap.Gives
 unwrap_lighter = rows_lighter unwrap.Gives unwrap_contracts
+
+pub choices_lighter : IsLighter choices.Gives
+choices_lighter = any_step_lighter choices.Gives choice_weights.lightens
+
+pub folds_lighter : IsLighter folding.Gives
+folds_lighter = any_step_lighter folding.Gives lightens

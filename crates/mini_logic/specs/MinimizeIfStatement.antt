@@ -1,21 +1,23 @@
 -- 82 and 83, `try_minimize_if`: `if (a) b; else c;` becomes `a ? b : c;`, `if (a) b;` becomes `a && b;`, and `if (!a) b;`
--- becomes `a || b;`; an empty consequent goes, `if (a) if (b) c;` becomes `if (a && b) c;`, and an `if` with `else` as a
--- consequent gets a block.
-use Rattle.std.specs.Prelude.{◌⊎◌, ◌<◌, ◌^◌, ◌==◌, Bool, ◌&&◌, ◌||◌, nat_lt, Option, Some, None, if◌then◌else◌}
+-- becomes `a || b;`; an empty consequent goes, `if (a) if (b) c;` becomes `if (a && b) c;`, an `if` with `else` as a
+-- consequent gets a block, and `if (!a) return b; else throw c;` becomes `if (a) throw c; else return b;`.
+use Rattle.std.specs.Prelude.{◌⊎◌, ◌<◌, ◌^◌, ◌==◌, Bool, ◌&&◌, ◌||◌, not, nat_lt, Option, Some, None, if◌then◌else◌}
 use Rattle.mini_model.specs.declared.operator.LogicalOperator.TheVariants.{Or, And}
 use Rattle.mini_model.specs.declared.place.Position.{Position}
 use Rattle.mini_model.specs.declared.place.Position.TheVariants.{Expr, Stmt}
 use Rattle.mini_model.specs.declared.seat.Seat.{Seat}
 use Rattle.mini_model.specs.declared.seat.StmtSeat.{StmtSeat}
-use Rattle.mini_model.specs.Tree.{Tree, none, ◌▸◌, count, children, negation, conditional, logical, expression_statement, if_else, if_alone}
+use Rattle.mini_model.specs.Tree.{Tree, none, ◌▸◌, shape_of, count, children, negation, conditional, logical, expression_statement, if_else, if_alone}
 use Rattle.mini_model.specs.Position.{statement_expression_seat, if_test_seat, left_operand_seat}
 use Rattle.mini_model.specs.Weight.{weight, capped}
 use Rattle.mini_model.specs.Terms.{neg, has_negated_result}
 use Rattle.mini_model.specs.Redex.{Row82Else, Row82And, Row82Or}
 use Rattle.mini_node.specs.Children.{part}
-use Rattle.mini_node.specs.Kinds.{is_absent_part, is_empty_statement, is_block, is_if_statement, is_if_alone, is_expression_statement}
+use Rattle.mini_node.specs.Kinds.{is_absent_part, is_empty_statement, is_block, is_if_statement, is_if_alone, is_expression_statement, is_negation}
 use Rattle.mini_rows.specs.Lists.{block}
 use Rattle.mini_rows.specs.Branches.{has_else, is_other_branch, as_consequent, conjunct_seat, IfRow}
+use Rattle.mini_rows.specs.Turns.{is_unchained, is_block_shape, may_choose, Row83Swapped}
+use Rattle.mini_logic.specs.Negating.{has_one}
 
 -- `if (a) b; else c;`
 abbrev pub chooses : Tree → Bool
@@ -57,6 +59,18 @@ nests t = is_if_alone t && is_if_alone (part t 1)
 abbrev pub is_bare : Tree → Bool
 is_bare t = is_if_statement t && has_else (part t 1)
 
+-- `{ if (b) c; else d; }`, of a block
+abbrev pub holds_choice : Tree → Bool
+holds_choice t = has_one (children (part t 0)) && may_choose (part (part t 0) 0)
+
+-- as an alternate its braces, if it has any, weigh what they do as a consequent
+abbrev pub keeps_braces : Tree → Bool
+keeps_braces t = not (is_block_shape (shape_of t)) || (is_block t && not (holds_choice t))
+
+-- `if (!a) return b; else throw c;`
+abbrev pub swaps : Tree → Bool
+swaps t = is_if_statement t && (is_negation (part t 0) && (is_other_branch (part t 1) && (keeps_braces (part t 1) && is_unchained (part t 2))))
+
 -- `a ? b : c;`
 abbrev pub choice : Tree → Tree
 choice t = expression_statement (conditional (part t 0) (part (part t 1) 0) (part (part t 2) 0))
@@ -96,12 +110,16 @@ nested t = if_alone (logical And (part t 0) (part (part t 1) 0)) (part (part t 1
 abbrev pub in_block : Tree → Tree
 in_block t = if_else (part t 0) (block (part t 1 ▸ none)) (part t 2)
 
+-- `if (a) throw c; else return b;`
+abbrev pub swapped : Tree → Tree
+swapped t = if_else (part (part t 0) 0) (part t 2) (part t 1)
+
 abbrev pub written : Tree → Option Tree
-written t = if chooses t then Some (choice t) else (if guards t then Some (guard t) else (if skips t then Some (skipped t) else (if only_tests t then Some (expression_statement (part t 0)) else (if turns t then Some (turned t) else (if nests t then Some (nested t) else (if is_bare t then Some (in_block t) else None))))))
+written t = if chooses t then Some (choice t) else (if guards t then Some (guard t) else (if skips t then Some (skipped t) else (if only_tests t then Some (expression_statement (part t 0)) else (if turns t then Some (turned t) else (if nests t then Some (nested t) else (if is_bare t then Some (in_block t) else (if swaps t then Some (swapped t) else None)))))))
 
 -- one of the forms
 abbrev pub IsRow : Tree → Tree → Type 0
-IsRow n w = (Row82Else n w ⊎ (Row82And n w ⊎ Row82Or n w)) ⊎ IfRow n w
+IsRow n w = (Row82Else n w ⊎ (Row82And n w ⊎ Row82Or n w)) ⊎ (IfRow n w ⊎ Row83Swapped n w)
 
 -- what the rule makes
 abbrev pub Gives : Position → Tree → Tree → Type 0

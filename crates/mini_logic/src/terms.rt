@@ -1,16 +1,15 @@
 //! Terms of the rewrites: the negation of an expression, and its weight.
 
-ghost use Rattle.std.specs.Prelude.{◌≡◌, ◌+◌, ◌≤◌, OnOk, IfOk};
-ghost use Rattle.mini_model.specs.declared.shape.Shape.TheVariants.{LogicalExpression};
+ghost use Rattle.std.specs.Prelude.{◌≡◌, ◌+◌, ◌≤◌, Some, OnOk, IfOk};
+ghost use Rattle.mini_model.specs.declared.shape.Shape.TheVariants.{BinaryExpression, LogicalExpression};
 ghost use Rattle.mini_model.specs.declared.place.Position.TheVariants.{Expr};
 ghost use Rattle.mini_model.specs.Position.{operand_seat};
 ghost use Rattle.mini_model.specs.Weight.{capped, is_parenthesized as in_parentheses, parentheses, weight as weight_at};
 ghost use Rattle.mini_model.specs.Terms.{neg, neg_each, has_negated_result as has_a_negated_result, is_boolean as always_boolean};
-ghost use Rattle.mini_model.specs.Tree.{node, shape_of, children};
-ghost use Rattle.mini_node.specs.Children.{names_of, number_of};
-ghost use Rattle.mini_logic.specs.Negating.{has_one as has_one_tree, turned_by, turned_over, is_unwrapped as is_it_unwrapped, has_own_negation as has_an_own_negation};
+ghost use Rattle.mini_model.specs.Tree.{shape_of};
+ghost use Rattle.mini_logic.specs.Negating.{has_one as has_one_tree, turned_by, turned_over, opposite_by, reshaped as reshaped_tree, unequal_weight as weight_of_unequal, is_unwrapped as is_it_unwrapped, has_own_negation as has_an_own_negation};
 
-use mini_model::{LogicalOperator, Mix, Position, Seat, Shape, UnaryOperator};
+use mini_model::{BinaryOperator, LogicalOperator, Mix, Position, Seat, Shape, UnaryOperator};
 use mini_node::{Node, Nodes, discard, negation, one, taken};
 use mini_text::OutOfMemory;
 use mini_tree::{negation_weight, seats, weight};
@@ -58,6 +57,23 @@ fn turned_operator(node: &Node) -> Option<LogicalOperator>
     match node.shape() {
         Shape::LogicalExpression(LogicalOperator::And) => Some(LogicalOperator::Or),
         Shape::LogicalExpression(LogicalOperator::Or) => Some(LogicalOperator::And),
+        _ => None,
+    }
+}
+
+// The operator that a negation turns an equality's into.
+fn opposite_operator(node: &Node) -> Option<BinaryOperator>
+    ensures { result ≡ opposite_by (shape_of node.now) }
+{
+    match node.shape() {
+        Shape::BinaryExpression(BinaryOperator::Equality) => Some(BinaryOperator::Inequality),
+        Shape::BinaryExpression(BinaryOperator::Inequality) => Some(BinaryOperator::Equality),
+        Shape::BinaryExpression(BinaryOperator::StrictEquality) => {
+            Some(BinaryOperator::StrictInequality)
+        }
+        Shape::BinaryExpression(BinaryOperator::StrictInequality) => {
+            Some(BinaryOperator::StrictEquality)
+        }
         _ => None,
     }
 }
@@ -120,14 +136,41 @@ fn turned_weight(operator: LogicalOperator, expression: &Node, seat: Seat) -> u6
     total
 }
 
+// What an inequality weighs more as the test of a conditional.
+fn unequal_weight(operator: BinaryOperator, seat: Seat) -> u64
+    ensures { result ≡ weight_of_unequal operator seat }
+{
+    let is_unequal = matches!(
+        operator,
+        BinaryOperator::Inequality | BinaryOperator::StrictInequality
+    );
+    if seat.cond_test && is_unequal { 1 } else { 0 }
+}
+
+// The weight of an equality under the operator that a negation turns its own into.
+#[tactic(auto, using(crate::proofs::Weights::opposite_weighs))]
+fn opposite_weight(operator: BinaryOperator, expression: &Node, seat: Seat) -> u64
+    requires { opposite_by (shape_of expression.now) ≡ Some operator }
+    ensures { result ≡ capped (weight_at (Expr seat) (reshaped_tree (BinaryExpression operator) expression.now)) }
+{
+    let untested = Seat {
+        cond_test: false,
+        ..seat
+    };
+    weight(expression, Position::Expr(untested)).saturating_add(unequal_weight(operator, seat))
+}
+
 /// The weight of the negation of an expression, written in its seat, which stays at the greatest u64.
 #[cycle(weighing)]
-#[tactic(auto, using(crate::proofs::Negations::neg_turned, crate::proofs::Negations::neg_unwrapped, crate::proofs::Negations::neg_other))]
+#[tactic(auto, using(crate::proofs::Negations::neg_turned, crate::proofs::Negations::neg_opposite, crate::proofs::Negations::neg_unwrapped, crate::proofs::Negations::neg_other))]
 pub fn neg_weight(expression: &Node, seat: Seat) -> u64
     ensures { result ≡ capped (weight_at (Expr seat) (neg seat expression.now)) }
 {
     if let Some(operator) = turned_operator(expression) {
         return turned_weight(operator, expression, seat);
+    }
+    if let Some(operator) = opposite_operator(expression) {
+        return opposite_weight(operator, expression, seat);
     }
     if is_unwrapped(expression, seat) {
         return weight(expression.child(0), Position::Expr(seat));
@@ -139,12 +182,14 @@ pub fn neg_weight(expression: &Node, seat: Seat) -> u64
 pub fn has_own_negation(expression: &Node, seat: Seat) -> bool
     ensures { result ≡ has_an_own_negation seat expression.now }
 {
-    turned_operator(expression).is_some() || is_unwrapped(expression, seat)
+    turned_operator(expression).is_some()
+        || opposite_operator(expression).is_some()
+        || is_unwrapped(expression, seat)
 }
 
 // The node with another shape.
 fn reshaped(expression: Node, shape: Shape) -> Node
-    ensures { result ≡ node shape (names_of expression) (number_of expression) (children expression) }
+    ensures { result ≡ reshaped_tree shape expression }
 {
     let (_, name, number, children) = expression.into_parts();
     Node::with(shape, name, number, children)
@@ -184,14 +229,18 @@ fn turned(
 }
 
 /// The negation of an expression, written in its seat: `!a` gives a where only its truth is asked or it is a boolean, `&&`
-/// and `||` are turned into each other with their operands negated, and any other e gives `!e`.
+/// and `||` are turned into each other with their operands negated, `==` and `!=`, `===` and `!==` are turned into each other, and
+/// any other e gives `!e`.
 #[cycle(negating)]
-#[tactic(auto, using(crate::proofs::Negations::neg_turned, crate::proofs::Negations::neg_unwrapped, crate::proofs::Negations::neg_other))]
+#[tactic(auto, using(crate::proofs::Negations::neg_turned, crate::proofs::Negations::neg_opposite, crate::proofs::Negations::neg_unwrapped, crate::proofs::Negations::neg_other))]
 pub fn negated(alloc: Global, expression: Node, seat: Seat) -> Result<Node, OutOfMemory>
     ensures { IfOk result (λ w. w ≡ neg seat expression) }
 {
     if let Some(operator) = turned_operator(&expression) {
         return turned(alloc, operator, expression, seat);
+    }
+    if let Some(operator) = opposite_operator(&expression) {
+        return Ok(reshaped(expression, Shape::BinaryExpression(operator)));
     }
     if is_unwrapped(&expression, seat) {
         return Ok(one(expression));

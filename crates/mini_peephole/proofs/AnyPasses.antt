@@ -50,7 +50,7 @@ same_body t u kept b c a =
     record {
       number = a.number;
       kind = a.kind;
-      same = subst (λ d. RunsAlike d e c.kind X b.root c.root) (sym (environments t u kept (shared_by u c) (foreign_to u c) b c a.strict a.asks_this)) (subst (λ k. RunsAlike e e k X b.root c.root) a.kind (record { by = (a.same e X).by }));
+      same = subst (λ d. RunsAlike d e b.kind c.kind X b.root c.root) (sym (environments t u kept (shared_by u c) (foreign_to u c) b c a.strict a.asks_this)) (record { by = (a.same e X).by });
     }
 
 bodies_same : (t u : Tree) → ProgramIsKept t u → BodiesAreSame t u

@@ -8,3 +8,4 @@ pub mod Faith
 pub mod Floats
 mod Chains
 mod Rules
+pub mod Answered

@@ -1,7 +1,7 @@
 -- The rules together, and the rows.
 use Rattle.std.proofs.Common.{ℕ, zero, suc, ◌<◌, ◌^◌, inl, inr, arith}
 use Rattle.mini_model.specs.declared.place.Position.{Position}
-use Rattle.mini_model.specs.declared.place.Position.TheVariants.{Stmt}
+use Rattle.mini_model.specs.declared.place.Position.TheVariants.{Expr, Stmt}
 use Rattle.mini_model.specs.Tree.{Tree, Trees, node, none, ◌▸◌, count}
 use Rattle.mini_model.specs.Position.{child_position}
 use Rattle.mini_model.specs.Weight.{weight, weights}
@@ -12,6 +12,8 @@ use Rattle.mini_kept.specs.Lawful.{Lawful}
 use Rattle.mini_kept.proofs.Lawful.{lawful_narrowed}
 use Rattle.mini_rows.specs.Switches.{Switches}
 use Rattle.mini_rows.specs.Branches.{BranchRow}
+use Rattle.mini_rows.specs.Turns.{TurnRow}
+use Rattle.mini_rows.specs.Arrows.{ArrowRow}
 use Rattle.mini_rows.specs.Redex.{Row, Contracts, IsSettled, HasNoRedex}
 use Rattle.mini_rows.proofs.AllRows.{all_lawful}
 use Rattle.mini_logic.specs.Joined as logic_law
@@ -26,12 +28,19 @@ use Rattle.mini_peephole.specs.Rules.{Gives, Rests}
 of_branches : (o : Switches) (p : Position) (n w : Tree) → BranchRow p n w → Row o p n w
 of_branches o p n w r = inr (inr (inl r))
 
+of_turns : (o : Switches) (p : Position) (n w : Tree) → TurnRow p n w → Row o p n w
+of_turns o p n w r = inr (inr (inr (inr (inr (inr (inr (inr (inl r))))))))
+
 logic_row : (o : Switches) (p : Position) (n w : Tree) → logic_law.LogicRow p n w → Row o p n w
+logic_row o (Expr s) n w (inl r) = inl r
+logic_row o (Expr s) n w (inr r) = of_turns o (Expr s) n w r
 logic_row o (Stmt q) n w (inl r) = inl r
-logic_row o (Stmt q) n w (inr r) = of_branches o (Stmt q) n w (inr (inr r))
+logic_row o (Stmt q) n w (inr (inl r)) = of_branches o (Stmt q) n w (inr (inr r))
+logic_row o (Stmt q) n w (inr (inr r)) = of_turns o (Stmt q) n w r
 logic_row o p n w r = inl r
 
 first_row : (p : Position) (n w : Tree) → first.Row p n w → logic_law.LogicRow p n w
+first_row (Expr s) n w r = inl r
 first_row (Stmt q) n w r = inl r
 first_row p n w r = r
 
@@ -51,7 +60,12 @@ module _ (o : CompressOptions) (q : Tree) where
   gives_contract p t u (inr (inl r)) = blocks_contract p t u r
   gives_contract p t u (inr (inr (inl r))) = returns_contract p t u r
   gives_contract p t u (inr (inr (inr (inl c)))) = record { row = inr (inl c.row); lighter = c.lighter }
-  gives_contract p t u (inr (inr (inr (inr c)))) = record { row = inr (inr (inr c.row)); lighter = c.lighter }
+  gives_contract p t u (inr (inr (inr (inr (inl c))))) = record { row = inr (inr (inr (inl c.row))); lighter = c.lighter }
+  gives_contract p t u (inr (inr (inr (inr (inr (inl c)))))) = record { row = inr (inr (inr (inr (inl c.row)))); lighter = c.lighter }
+  gives_contract p t u (inr (inr (inr (inr (inr (inr (inl c))))))) = record { row = inr (inr (inr (inr (inr (inl c.row))))); lighter = c.lighter }
+  gives_contract p t u (inr (inr (inr (inr (inr (inr (inr (inl c)))))))) = record { row = inr (inr (inr (inr (inr (inr (inl c.row)))))); lighter = c.lighter }
+  gives_contract p t u (inr (inr (inr (inr (inr (inr (inr (inr (inl c))))))))) = record { row = inr (inr (inr (inr (inr (inr (inr (inl c.row))))))); lighter = c.lighter }
+  gives_contract p t u (inr (inr (inr (inr (inr (inr (inr (inr (inr c))))))))) = record { row = inr (inr (inr (inr (inr (inr (inr (inr (inr c.row)))))))); lighter = c.lighter }
 
   pub gives_lawful : Lawful (Gives o q)
   gives_lawful = lawful_narrowed (Gives o q) (Contracts (switches o)) gives_contract (all_lawful (switches o))
@@ -64,14 +78,29 @@ module _ (o : CompressOptions) (q : Tree) where
   branch_settled : (p : Position) (t u : Tree) → weight p t < 2 ^ 64 → Rests o q p t → BranchRow p t u → weight p u < weight p t → ⊥
   branch_settled (Stmt s) t u small r (inl row) less = r.1.1.0 u row
   branch_settled (Stmt s) t u small r (inr (inl row)) less = r.1.0 u row
-  branch_settled (Stmt s) t u small r (inr (inr row)) less = logic_settled (Stmt s) t u small r.0 (inr row) less
+  branch_settled (Stmt s) t u small r (inr (inr row)) less = logic_settled (Stmt s) t u small r.0 (inr (inl row)) less
   branch_settled p t u small r row less = absurd row
+
+  turn_settled : (p : Position) (t u : Tree) → weight p t < 2 ^ 64 → Rests o q p t → TurnRow p t u → weight p u < weight p t → ⊥
+  turn_settled (Expr s) t u small r row less = logic_settled (Expr s) t u small r.0 (inr row) less
+  turn_settled (Stmt s) t u small r row less = logic_settled (Stmt s) t u small r.0 (inr (inr row)) less
+  turn_settled p t u small r row less = absurd row
+
+  arrow_settled : (p : Position) (t u : Tree) → Rests o q p t → ArrowRow p t u → ⊥
+  arrow_settled (Expr s) t u r row = r.1.1.1.1.1.1.1.1.1 u row
+  arrow_settled p t u r row = absurd row
 
   settled : (p : Position) (t u : Tree) → weight p t < 2 ^ 64 → Rests o q p t → Row (switches o) p t u → weight p u < weight p t → ⊥
   settled p t u small r (inl row) less = logic_settled p t u small r.0 (first_row p t u row) less
   settled p t u small r (inr (inl row)) less = r.1.1.1.0 u row
   settled p t u small r (inr (inr (inl row))) less = branch_settled p t u small r row less
-  settled p t u small r (inr (inr (inr row))) less = r.1.1.1.1 u row
+  settled p t u small r (inr (inr (inr (inl row)))) less = r.1.1.1.1.0 u row
+  settled p t u small r (inr (inr (inr (inr (inl row))))) less = r.1.1.1.1.1.0 u row
+  settled p t u small r (inr (inr (inr (inr (inr (inl row)))))) less = r.1.1.1.1.1.1.0 small u (record { row = row; lighter = less })
+  settled p t u small r (inr (inr (inr (inr (inr (inr (inl row))))))) less = r.1.1.1.1.1.1.1.0 u row
+  settled p t u small r (inr (inr (inr (inr (inr (inr (inr (inl row)))))))) less = r.1.1.1.1.1.1.1.1.0 u row
+  settled p t u small r (inr (inr (inr (inr (inr (inr (inr (inr (inl row))))))))) less = turn_settled p t u small r row less
+  settled p t u small r (inr (inr (inr (inr (inr (inr (inr (inr (inr row))))))))) less = arrow_settled p t u r row
 
   rests_settle : (p : Position) (t : Tree) → weight p t < 2 ^ 64 → Rests o q p t → IsSettled (switches o) p t
   rests_settle p t small r x = settled p t x.to small r x.contracts.row x.contracts.lighter

@@ -14,9 +14,9 @@ use Rattle.mini_names.specs.Symbols.{mapped, with_new}
 use Rattle.mini_scope.specs.Errors.{IsFree}
 use Rattle.mini_scope.specs.Pointers.{early_fault, fault_by}
 use Rattle.mini_writer.specs.Written.{program_data}
-use Rattle.mini_round_trip.specs.Bare.{bare_name, bare, bares}
-use Rattle.mini_round_trip.proofs.Programs.{units_accepted}
-use Rattle.mini_round_trip.proofs.Units.{shaped_units}
+use Rattle.mini_writer.specs.Bare.{bare_name, bare, bares}
+use Rattle.mini_writer.proofs.Programs.{units_accepted}
+use Rattle.mini_writer.proofs.Units.{shaped_units}
 use Rattle.mini_kept.specs.Carried.{renumbered}
 use Rattle.mini_kept.proofs.ReadBack.{IsRead}
 use Rattle.mini_kept.proofs.Texts.{no_symbol, text, texts}

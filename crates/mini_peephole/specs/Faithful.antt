@@ -17,6 +17,7 @@ use Rattle.mini_laws.specs.Value.{Value, Variable, VariableSet, Slot}
 use Rattle.mini_laws.specs.State.{Answer, Environment}
 use Rattle.mini_laws.specs.Same.{Initialised}
 use Rattle.mini_laws.specs.Body.{BodyKind, Run, start_of}
+use Rattle.mini_kept.specs.AlikeBodies.{KindKept}
 use Rattle.mini_laws.specs.Bodies.{Body, bodies_in}
 use Rattle.mini_tree.specs.declared.options.CompressOptions.{CompressOptions}
 use Rattle.mini_accept.specs.Accept.{Accepts}
@@ -64,14 +65,15 @@ pub record AreNamed (kept symbols : List ℕ) (t u : Tree) : Type 0 where
 
 -- from each start that initialises X, with every `this`, every list of answers and every number of turns, the earlier body's
 -- run is outside the model, or the later one's is the same; each runs in its own program
-pub record RunsAlike (e f : Environment) (k : BodyKind) (X : VariableSet) (n w : Tree) : Type 0 where
-  pub by : (vars : Variable → Slot) (this : Value) (answers : List Answer) (turns : ℕ) → Initialised X (start_of vars this answers turns) → (Run e k n vars this answers turns ≡ None) ⊎ (Run e k n vars this answers turns ≡ Run f k w vars this answers turns)
+pub record RunsAlike (e f : Environment) (k l : BodyKind) (X : VariableSet) (n w : Tree) : Type 0 where
+  pub by : (vars : Variable → Slot) (this : Value) (answers : List Answer) (turns : ℕ) → Initialised X (start_of vars this answers turns) → (Run e k n vars this answers turns ≡ None) ⊎ (Run e k n vars this answers turns ≡ Run f l w vars this answers turns)
 
--- a body of a later program and the one of an earlier that it stands for; what is shared and foreign is the later one's
+-- a body of a later program and the one of an earlier that it stands for; what is shared and foreign is the later one's. It is of
+-- the same kind, but for an arrow's whose statements became its expression
 pub record IsSameBody (t u : Tree) (b c : Body) : Type 0 where
   pub number : b.number ≡ c.number
-  pub kind : b.kind ≡ c.kind
-  pub same : RunsAlike (environment_with t (shared_by u c) (foreign_to u c) b) (environment_with u (shared_by u c) (foreign_to u c) c) c.kind (initialised_for u c) b.root c.root
+  pub kind : KindKept b.kind c.kind
+  pub same : RunsAlike (environment_with t (shared_by u c) (foreign_to u c) b) (environment_with u (shared_by u c) (foreign_to u c) c) b.kind c.kind (initialised_for u c) b.root c.root
 
 -- each body of the later program stands for one of the earlier
 abbrev pub BodiesAreSame : Tree → Tree → Type 0

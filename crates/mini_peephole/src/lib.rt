@@ -8,5 +8,5 @@ mod named;
 pub use laws::lawful_passes_are_faithful;
 pub use mini_estree::{MinifyError, Pointer};
 pub use mini_tree::{CompressOptions, KeepNames, Numbers, OutOfMemory};
-pub use minify::{Minified, minify_estree};
+pub use minify::{Minified, minify_estree, minify_value};
 pub use named::{numbers_of, symbols_of};

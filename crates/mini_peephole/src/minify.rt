@@ -4,7 +4,7 @@ ghost use Rattle.std.specs.Prelude.{◌≡◌, ◌+◌, ◌<◌, ◌^◌, Some, 
 ghost use Rattle.serde_json.specs.View.{view};
 ghost use Rattle.serde_json.specs.Written.{has_float};
 ghost use Rattle.mini_context.specs.Known.{Knows};
-ghost use Rattle.mini_round_trip.specs.Fits.{Fits};
+ghost use Rattle.mini_writer.specs.Fits.{Fits};
 ghost use Rattle.mini_names.specs.References.{references};
 ghost use Rattle.mini_names.specs.Resolved.{symbols};
 ghost use Rattle.mini_names.specs.declared.Use.TheVariants as variant;
@@ -16,9 +16,14 @@ ghost use Rattle.mini_peephole.specs.Minified.{IsAnswer, IsMinified, IsRewriting
 use crate::named::{numbers_of, symbols_of};
 use mini_context::{TraverseCtx, resolve};
 use mini_estree::{MinifyError, Numbered, read_program};
-use mini_logic::{MinimizeConditional, MinimizeIf, MinimizeUnary, UnwrapBlocks};
+use mini_logic::{
+    FoldKnown, MinimizeChoices, MinimizeConditional, MinimizeIf, MinimizeUnary, UnwrapBlocks,
+};
 use mini_stmt::MinimizeStatements;
-use mini_syntax::{SubstituteReturns, SubstituteSpellings};
+use mini_syntax::{
+    SubstituteArrows, SubstituteDeclarations, SubstituteKeys, SubstituteReturns,
+    SubstituteSpellings,
+};
 use mini_tree::{CompressOptions, Numbers, OutOfMemory, Program, discard};
 use mini_walk::{Passes, Then, run_passes};
 use mini_writer::write_program;
@@ -40,11 +45,26 @@ pub struct Minified {
     pub settled: bool,
 }
 
-// The rules, in the order in which a node is tried with them: of logic, of blocks as branches and bodies, of spellings and of
-// lists.
+// The rules, in the order in which a node is tried with them: of logic, of blocks as branches and bodies, of spellings, of
+// lists, of keys, of choices, of declarations, of what is known and of arrow functions.
 type Logic = Then<MinimizeUnary, Then<MinimizeConditional, MinimizeIf>>;
 
-type Spellings = Then<SubstituteReturns, Then<SubstituteSpellings, MinimizeStatements>>;
+type Spellings = Then<
+    SubstituteReturns,
+    Then<
+        SubstituteSpellings,
+        Then<
+            MinimizeStatements,
+            Then<
+                SubstituteKeys,
+                Then<
+                    MinimizeChoices,
+                    Then<SubstituteDeclarations, Then<FoldKnown, SubstituteArrows>>,
+                >,
+            >,
+        >,
+    >,
+>;
 
 const RULES: Then<Logic, Then<UnwrapBlocks, Spellings>> = Then {
     first: Then {
@@ -60,7 +80,22 @@ const RULES: Then<Logic, Then<UnwrapBlocks, Spellings>> = Then {
             first: SubstituteReturns,
             second: Then {
                 first: SubstituteSpellings,
-                second: MinimizeStatements,
+                second: Then {
+                    first: MinimizeStatements,
+                    second: Then {
+                        first: SubstituteKeys,
+                        second: Then {
+                            first: MinimizeChoices,
+                            second: Then {
+                                first: SubstituteDeclarations,
+                                second: Then {
+                                    first: FoldKnown,
+                                    second: SubstituteArrows,
+                                },
+                            },
+                        },
+                    },
+                },
             },
         },
     },
@@ -107,6 +142,24 @@ fn answer(
     Ok(rewritten(alloc, tree, options, &mut context)?)
 }
 
+// The answer for a program as it was read, which is let go.
+fn minify_read(
+    alloc: Global,
+    read: Numbered,
+    options: &CompressOptions,
+) -> Result<Minified, MinifyError>
+    requires symbols { symbols variant.Read read.root < 2 ^ 32 }
+    requires references { length (references variant.Read read.root) + 1 < 2 ^ 32 }
+    ensures ok { IfOk result (λ m. IsAnswer read.root options.now m) }
+    ensures plain { IfOk result (λ m. has_float (view m.program) ≡ false) }
+    ensures refused { IfErr result (λ e. IfSome (fault_of e) (λ f. early_fault read.root ≡ Some f)) }
+{
+    let Numbered { mut root, .. } = read;
+    let made = answer(alloc, &mut root, options);
+    discard(root);
+    made
+}
+
 /// Reads a program from its ESTree value, gives each name in it its symbol, rewrites it until nothing is left to rewrite or
 /// the passes of the options are made, and writes it.
 ///
@@ -114,7 +167,7 @@ fn answer(
 /// its pointer (`mini_accept::faults_are_there` says that the node at the pointer has the defect), or where its program has
 /// an early error, `EarlyName` or `EarlyJump`, with the first and its pointer. `OutOfMemory` may come in place of any answer.
 ///
-/// The value has to fit: `mini_round_trip::fits` tells, and what 16,777,216 bytes of JSON say does.
+/// The value has to fit: `mini_writer::fits` tells, and what 16,777,216 bytes of JSON say does.
 #[tactic(auto, using(crate::proofs::Refused::refused_by_table))]
 pub fn minify_estree(
     alloc: Global,
@@ -128,8 +181,26 @@ pub fn minify_estree(
     ensures plain { IfOk result (λ m. has_float (view m.program) ≡ false) }
     ensures refused { IfErr result (λ e. IsRefusal (view program.now) options.now e) }
 {
-    let Numbered { mut root, .. } = read_program(alloc, program, options.max_depth)?;
-    let made = answer(alloc, &mut root, options);
-    discard(root);
-    made
+    let read = read_program(alloc, program, options.max_depth)?;
+    minify_read(alloc, read, options)
+}
+
+/// The same of a value that is given away: it is let go as soon as it is read, so that all that comes after has its memory.
+#[tactic(auto, using(crate::proofs::Refused::refused_by_table))]
+pub fn minify_value(
+    alloc: Global,
+    program: Value,
+    options: &CompressOptions,
+) -> Result<Minified, MinifyError>
+    requires { Fits (view program) }
+    ensures faithful { IfOk result (λ m. Faithful (view program) options.now m) }
+    ensures passes { IfOk result (λ m. PassesBounded (view program) options.now m) }
+    ensures rewritten { IfOk result (λ m. IsMinified (view program) options.now m) }
+    ensures plain { IfOk result (λ m. has_float (view m.program) ≡ false) }
+    ensures refused { IfErr result (λ e. IsRefusal (view program) options.now e) }
+{
+    let made = read_program(alloc, &program, options.max_depth);
+    drop(program);
+    let read = made?;
+    minify_read(alloc, read, options)
 }

@@ -1,7 +1,7 @@
 -- What is joined is what the rows say.
-use Rattle.std.proofs.Common.{◌≡◌, zero, ◌<◌, arith, Bool, true, false, [], refl, sym, ap, ◌∙◌, inl, inr, ⊎_elim, true≢false}
+use Rattle.std.proofs.Common.{◌≡◌, zero, ◌<◌, arith, Bool, true, false, [], refl, sym, ap, ◌∙◌, subst, inl, inr, ⊎_elim, true≢false}
 use Rattle.std.specs.Prelude.{◌⊎◌, ◌&&◌, ◌||◌, not, Option, Some, None, if◌then◌else◌}
-use Rattle.std.proofs.lemmas.Bool.{and_parts}
+use Rattle.std.proofs.lemmas.Bool.{and_parts, false≢true}
 use Rattle.mini_model.specs.declared.kind.VariableDeclarationKind.{VariableDeclarationKind}
 use Rattle.mini_model.specs.declared.kind.VariableDeclarationKind.TheVariants.{Var, Let, Const}
 use Rattle.mini_model.specs.declared.shape.Shape.TheVariants as shape
@@ -11,26 +11,27 @@ use Rattle.mini_node.specs.Children.{part, with_part, is_bare}
 use Rattle.mini_node.specs.Kinds.{is_sequence_shape, is_sequence, is_absent_part, is_listed, is_return_statement, is_throw_statement, is_if_statement, is_if_alone, is_expression_statement, is_empty_statement}
 use Rattle.mini_node.specs.Made.{absent_is, sequence_is, expression_statement_is, empty_statement_is, block_is, if_statement_is, if_alone_is, return_statement_is, throw_statement_is}
 use Rattle.mini_rows.specs.Switches.{Switches}
-use Rattle.mini_rows.specs.Lists.{of_parts, is_one_part, are_parts, sequence, block, return_statement, throw_statement, switch, for_loop, declaration, or_void, has_alternates, are_unscoped, is_unscoped, is_terminated, Head, If, Switch, For, with_head, Row66Empty, Row66Joined, Row67, Row67Absent, Row68, Row73, Row73Bare, Row76, Row79, StretchRow}
+use Rattle.mini_rows.specs.Lists.{of_parts, is_one_part, are_parts, sequence, block, return_statement, throw_statement, switch, for_loop, for_in, is_plain_left, declaration, or_void, has_alternates, are_unscoped, is_unscoped, is_terminated, Head, If, Switch, For, with_head, Row66Empty, Row66Joined, Row67, Row67Absent, Row67In, Row68, Row68Free, Row68Init, Row73, Row73Bare, Row76, Row79, StretchRow}
 use Rattle.mini_rows.specs.Lists as list
 use Rattle.mini_stmt.specs.declared.lead.Lead.{Lead}
 use Rattle.mini_stmt.specs.declared.lead.Lead.TheVariants.{Expression, Declaration, Return, Throw, Nothing}
 use Rattle.mini_stmt.specs.Terms.{has_two, is_joinable, parts_of, joined, is_joinable_statement}
 use Rattle.mini_stmt.specs.JoinExpressions.{joined_expressions}
-use Rattle.mini_stmt.specs.JoinHeads.{is_switch, is_for, has_head, has_joinable_head, has_free_init, with_joined_head, with_init}
-use Rattle.mini_stmt.specs.JoinVars.{same_kind, declared_kind, is_kind, declares, joined_declarations}
+use Rattle.mini_stmt.specs.JoinHeads.{is_switch, is_for, is_for_in, has_head, has_joinable_head, has_free_init, has_joinable_right, with_joined_head, with_init, with_joined_right}
+use Rattle.mini_stmt.specs.JoinVars.{same_kind, declared_kind, is_kind, declares, joined_declarations, is_var, has_var_init, takes_var, takes_declaration, with_var, with_declaration}
 use Rattle.mini_stmt.specs.JoinJumps.{is_whole, guards_return, guards_throw, is_answer, returns_answer, throws_answer, returns_nothing, joined_returns, joined_throws, test_alone}
 use Rattle.mini_stmt.specs.SplitIf.{splits, without_alternate}
 use Rattle.mini_stmt.specs.SpreadBlock.{spreads, body_of}
+use Rattle.mini_stmt.proofs.Parts.{not_true}
 use Rattle.mini_stmt.specs.MinimizeStatements.{is_read, declaring, lead_of, takes_expression, joins, with_expression, joined_to, jumps_anyway}
 
 or_split : (a b : Bool) → a || b ≡ true → (a ≡ true) ⊎ (b ≡ true)
 or_split true b h = inl refl
 or_split false b h = inr h
 
-not_true : (b : Bool) → not b ≡ true → b ≡ false
-not_true true e = absurd (true≢false (sym e))
-not_true false e = refl
+or_true : (b : Bool) → b || true ≡ true
+or_true true = refl
+or_true false = refl
 
 -- ---- parts
 
@@ -68,11 +69,15 @@ joined_is a b x y = ap (λ ps. sequence (append ps (parts_of b))) x.parts ∙ ap
 
 switch_is : (t : Tree) → is_switch t ≡ true → t ≡ switch (part t 0) (part t 1)
 switch_is (node shape.SwitchStatement [] zero (a ▸ (b ▸ none))) e = refl
-switch_is t e = absurd (cc e)
+switch_is t e = absurd (false≢true e)
 
 for_is : (t : Tree) → is_for t ≡ true → t ≡ for_loop (part t 0) (part t 1) (part t 2) (part t 3)
 for_is (node shape.ForStatement [] zero (a ▸ (b ▸ (c ▸ (d ▸ none))))) e = refl
-for_is t e = absurd (cc e)
+for_is t e = absurd (false≢true e)
+
+for_in_is : (t : Tree) → is_for_in t ≡ true → t ≡ for_in (part t 0) (part t 1) (part t 2)
+for_in_is (node shape.ForInStatement [] zero (a ▸ (b ▸ (c ▸ none)))) e = refl
+for_in_is t e = absurd (cc e)
 
 -- a statement with a head
 pub record Headed (u : Tree) : Type 0 where
@@ -106,10 +111,13 @@ kind_same Const Let e = absurd (true≢false (sym e))
 some_same : {A : Type 0} (x y : A) → Some x ≡ Some y → x ≡ y
 some_same {A = A} x y e = ap (λ o. elim o as (λ w. A) [ None ↦ x | Some z ↦ z ]) e
 
+none_is : (k : VariableDeclarationKind) → None ≡ Some k → ⊥
+none_is k e = cc e
+
 pub declared_is : (t : Tree) (k : VariableDeclarationKind) → declared_kind t ≡ Some k → t ≡ declaration k (children (part t 0))
 declared_is (node (shape.VariableDeclaration l) [] zero (node shape.Listed [] zero ds ▸ none)) k e = ap (λ m. declaration m ds) (some_same l k e)
-declared_is (node (shape.VariableDeclaration l) [] zero (u ▸ none)) k e = absurd (cc e)
-declared_is t k e = absurd (cc e)
+declared_is (node (shape.VariableDeclaration l) [] zero (u ▸ none)) k e = absurd (none_is k e)
+declared_is t k e = absurd (none_is k e)
 
 pub declares_is : (k : VariableDeclarationKind) (t : Tree) → declares k t ≡ true → t ≡ declaration k (children (part t 0))
 declares_is k t e = go (declared_kind t) refl e
@@ -206,25 +214,105 @@ init_joins o t u s e f =
       rests = λ r. ap (is_read o) made ∙ sym (head_rests o (For (part u 1) (part u 2) (part u 3)) (part u 0) (part t 0)) ∙ sym (ap (is_read o) loop) ∙ r;
     }
 
-pub init_first : (u : Tree) → takes_expression u ≡ true → is_joinable_statement u ≡ false → has_joinable_head u ≡ false → 0 < count (children u)
-init_first u h e f =
-    let free : has_free_init u ≡ true = sym (ap (λ b. b || (has_joinable_head u || has_free_init u)) e ∙ ap (λ b. b || has_free_init u) f) ∙ h in
-    let loop = ap (λ t. count (children t)) (for_is u (and_parts (is_for u) (is_absent_part (part u 0)) free).0) in
+right_joins : (o : Switches) (t u : Tree) → o.sequences ≡ true → is_joinable_statement t ≡ true → has_joinable_right u ≡ true → Joins o t u (with_joined_right t u)
+right_joins o t u s e f =
+    let (first, x) = statement_parts t e in
+    let (is, rest) = and_parts (is_for_in u) (is_plain_left (part u 0) && is_joinable (part u 1)) f in
+    let (plain, good) = and_parts (is_plain_left (part u 0)) (is_joinable (part u 1)) rest in
+    let y = parts_by (part u 1) good in
+    let loop = for_in_is u is in
+    let made : with_joined_right t u ≡ for_in (part u 0) (joined (part t 0) (part u 1)) (part u 2) = ap (λ v. with_part v 1 (joined (part t 0) (part u 1))) loop in
+    record {
+      row = inr (inr (inl (inr (s, inl (record { left = part u 0; body = part u 2; p = x.first; ps = x.others; q = y.first; qs = y.others; plain = plain; first = x.good; second = y.good; shape = two _ _ _ _ (first ∙ ap expression_statement x.is) (loop ∙ ap (λ d. for_in (part u 0) d (part u 2)) y.is); written = one _ _ (made ∙ ap (λ d. for_in (part u 0) d (part u 2)) (joined_is (part t 0) (part u 1) x y)) })))));
+      rests = λ r. ap (is_read o) made ∙ and_none o.sequences;
+    }
+
+-- what is left takes the expression on the right of a `for..in`
+pub right_second : (u : Tree) → takes_expression u ≡ true → is_joinable_statement u ≡ false → has_joinable_head u ≡ false → has_free_init u ≡ false → 1 < count (children u)
+right_second u h e f g =
+    let right : has_joinable_right u ≡ true = sym (ap (λ b. b || (has_joinable_head u || (has_free_init u || has_joinable_right u))) e ∙ ap (λ b. b || (has_free_init u || has_joinable_right u)) f ∙ ap (λ b. b || has_joinable_right u) g) ∙ h in
+    let loop = ap (λ t. count (children t)) (for_in_is u (and_parts (is_for_in u) _ right).0) in
     omega (arith, loop)
 
 expression_joins : (o : Switches) (t u : Tree) → o.sequences ≡ true → is_joinable_statement t ≡ true → takes_expression u ≡ true → Joins o t u (with_expression t u)
-expression_joins o t u s e h = go (is_joinable_statement u) (has_joinable_head u) refl refl h
+expression_joins o t u s e h = go (is_joinable_statement u) (has_joinable_head u) (has_free_init u) refl refl refl h
   where
-    go : (b c : Bool) → is_joinable_statement u ≡ b → has_joinable_head u ≡ c → b || (c || has_free_init u) ≡ true → Joins o t u (if b then joined_expressions t u else (if c then with_joined_head t u else with_init t u))
-    go true c f g h = expressions_join o t u s e f
-    go false true f g h = heads_join o t u s e g
-    go false false f g h = init_joins o t u s e h
+    go : (b c d : Bool) → is_joinable_statement u ≡ b → has_joinable_head u ≡ c → has_free_init u ≡ d → b || (c || (d || has_joinable_right u)) ≡ true → Joins o t u (if b then joined_expressions t u else (if c then with_joined_head t u else (if d then with_init t u else with_joined_right t u)))
+    go true c d f g i h = expressions_join o t u s e f
+    go false true d f g i h = heads_join o t u s e g
+    go false false true f g i h = init_joins o t u s e i
+    go false false false f g i h = right_joins o t u s e h
 
 declarations_join : (o : Switches) (k : VariableDeclarationKind) (t u : Tree) → o.join_vars ≡ true → declared_kind t ≡ Some k → declares k u ≡ true → Joins o t u (joined_declarations k t u)
 declarations_join o k t u s e f = record {
-  row = inr (inr (inl (s, record { kind = k; ds = children (part t 0); es = children (part u 0); shape = two _ _ _ _ (declared_is t k e) (declares_is k u f); written = refl })));
+  row = inr (inr (inl (inl (s, record { kind = k; ds = children (part t 0); es = children (part u 0); shape = two _ _ _ _ (declared_is t k e) (declares_is k u f); written = refl }))));
   rests = λ r. and_none o.sequences;
 }
+
+-- `var a;` and a `for`
+loop_joins : (o : Switches) (t u : Tree) → o.sequences ≡ true → declared_kind t ≡ Some Var → takes_var u ≡ true → Joins o t u (with_var t u)
+loop_joins o t u s e h = go (has_free_init u) refl h
+  where
+    var : t ≡ declaration Var (children (part t 0))
+    var = declared_is t Var e
+
+    loop : is_for u ≡ true → u ≡ for_loop (part u 0) (part u 1) (part u 2) (part u 3)
+    loop is = for_is u is
+
+    made : (is : is_for u ≡ true) (x : Tree) → with_part u 0 x ≡ for_loop x (part u 1) (part u 2) (part u 3)
+    made is x = ap (λ v. with_part v 0 x) (loop is)
+
+    go : (b : Bool) → has_free_init u ≡ b → b || has_var_init u ≡ true → Joins o t u (with_part u 0 (if b then t else joined_declarations Var t (part u 0)))
+    go true f h =
+        let (is, free) = and_parts (is_for u) (is_absent_part (part u 0)) f in
+        record {
+          row = inr (inr (inl (inr (s, inr (inl (record { ds = children (part t 0); test = part u 1; update = part u 2; body = part u 3; shape = two _ _ _ _ var (loop is ∙ ap (λ i. for_loop i (part u 1) (part u 2) (part u 3)) (absent_is (part u 0) free)); written = one _ _ (made is t ∙ ap (λ i. for_loop i (part u 1) (part u 2) (part u 3)) var) }))))));
+          rests = λ r. ap (is_read o) (made is t) ∙ and_none o.sequences;
+        }
+    go false f h =
+        let (is, declares_var) = and_parts (is_for u) (declares Var (part u 0)) h in
+        record {
+          row = inr (inr (inl (inr (s, inr (inr (record { ds = children (part t 0); es = children (part (part u 0) 0); test = part u 1; update = part u 2; body = part u 3; shape = two _ _ _ _ var (loop is ∙ ap (λ i. for_loop i (part u 1) (part u 2) (part u 3)) (declares_is Var (part u 0) declares_var)); written = one _ _ (made is (joined_declarations Var t (part u 0))) }))))));
+          rests = λ r. ap (is_read o) (made is (joined_declarations Var t (part u 0))) ∙ and_none o.sequences;
+        }
+
+var_kind : (k : VariableDeclarationKind) → is_var k ≡ true → k ≡ Var
+var_kind Var e = refl
+var_kind k e = absurd (true≢false (sym e))
+
+-- a declaration is no loop
+loop_declares : (k : VariableDeclarationKind) (u : Tree) → is_for u ≡ true → declares k u ≡ false
+loop_declares k u e = ap (declares k) (for_is u e)
+
+takes_for : (u : Tree) → takes_var u ≡ true → is_for u ≡ true
+takes_for u h = ⊎_elim (λ e. (and_parts (is_for u) _ e).0) (λ e. (and_parts (is_for u) _ e).0) (or_split (has_free_init u) (has_var_init u) h)
+
+-- so it has a first child
+pub loop_first : (k : VariableDeclarationKind) (u : Tree) → declares k u || takes_declaration k u ≡ true → declares k u ≡ false → 0 < count (children u)
+loop_first k u h e =
+    let takes : takes_declaration k u ≡ true = sym (ap (λ b. b || takes_declaration k u) e) ∙ h in
+    let same = ap (λ t. count (children t)) (for_is u (takes_for u (and_parts (is_var k) (takes_var u) takes).1)) in
+    omega (arith, same)
+
+pub declaration_taken : (o : Switches) (k : VariableDeclarationKind) (u : Tree) → joins o (Declaration k) u ≡ true → declares k u || takes_declaration k u ≡ true
+declaration_taken o k u h =
+    ⊎_elim (λ g. ap (λ b. b || takes_declaration k u) (and_parts o.join_vars (declares k u) g).1)
+    (λ g. ap (λ b. declares k u || b) (and_parts o.sequences (takes_declaration k u) g).1 ∙ or_true (declares k u))
+    (or_split (o.join_vars && declares k u) (o.sequences && takes_declaration k u) h)
+
+declaration_joins : (o : Switches) (k : VariableDeclarationKind) (t u : Tree) → declared_kind t ≡ Some k → joins o (Declaration k) u ≡ true → Joins o t u (with_declaration k t u)
+declaration_joins o k t u e h = ⊎_elim same loop (or_split (o.join_vars && declares k u) (o.sequences && takes_declaration k u) h)
+  where
+    same : o.join_vars && declares k u ≡ true → Joins o t u (with_declaration k t u)
+    same g =
+        let (s, declared) = and_parts o.join_vars (declares k u) g in
+        subst (Joins o t u) (sym (ap (λ b. if b then joined_declarations k t u else with_var t u) declared)) (declarations_join o k t u s e declared)
+
+    loop : o.sequences && takes_declaration k u ≡ true → Joins o t u (with_declaration k t u)
+    loop g =
+        let (s, takes) = and_parts o.sequences (takes_declaration k u) g in
+        let (var, takes_one) = and_parts (is_var k) (takes_var u) takes in
+        subst (Joins o t u) (sym (ap (λ b. if b then joined_declarations k t u else with_var t u) (loop_declares k u (takes_for u takes_one)))) (loop_joins o t u s (e ∙ ap Some (var_kind k var)) takes_one)
 
 whole_argument : (b : Tree) → is_whole b ≡ true → (b ≡ absent) ⊎ (is_absent b ≡ false)
 whole_argument b h = ⊎_elim (λ e. inl (absent_is b e)) (λ e. inr (not_true (is_absent b) e)) (or_split (is_absent_part b) (not (is_absent b)) h)
@@ -259,7 +347,7 @@ joins_are o t u h = go (lead_of t) (lead_is t) h
   where
     go : (l : Lead) → LeadIs l t → joins o l u ≡ true → Joins o t u (joined_to l t u)
     go Expression is h = let (s, takes) = and_parts o.sequences (takes_expression u) h in expression_joins o t u s (is.expression refl) takes
-    go (Declaration k) is h = let (s, same) = and_parts o.join_vars (declares k u) h in declarations_join o k t u s (is.declares k refl) same
+    go (Declaration k) is h = declaration_joins o k t u (is.declares k refl) h
     go (Return b) is h = let (s, answers) = and_parts o.sequences (returns_answer u) h in returns_join o t u s (is.returns b refl).0 answers
     go Throw is h = let (s, answers) = and_parts o.sequences (throws_answer u) h in throws_join o t u s (is.throws refl) answers
     go Nothing is h = absurd (true≢false (sym h))

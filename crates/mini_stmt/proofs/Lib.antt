@@ -2,3 +2,4 @@ pub mod Parts
 pub mod Follows
 pub mod Quiet
 pub mod Stepping
+pub mod Guards

@@ -4,6 +4,7 @@ use Rattle.std.specs.Prelude.{◌⊎◌, ◌&&◌, ◌||◌, not, if◌then◌el
 use Rattle.std.proofs.lemmas.Bool.{and_parts}
 use Rattle.mini_model.specs.declared.kind.VariableDeclarationKind.{VariableDeclarationKind}
 use Rattle.mini_model.specs.declared.kind.VariableDeclarationKind.TheVariants.{Var, Let, Const}
+use Rattle.mini_model.specs.declared.place.Position.{Position}
 use Rattle.mini_model.specs.declared.place.Position.TheVariants.{StatementList}
 use Rattle.mini_model.specs.declared.shape.Shape.TheVariants as shape
 use Rattle.mini_model.specs.Tree.{Tree, Trees, node, none, ◌▸◌, shape_of, children, count, child_or_absent, absent, listed, is_absent, expression_statement, if_alone, node_counts}
@@ -12,14 +13,14 @@ use Rattle.mini_node.specs.Children.{part, rest_children}
 use Rattle.mini_node.specs.Kinds.{is_sequence_shape, is_sequence, is_absent_part}
 use Rattle.mini_node.specs.Walks.{from_first, next_child, no_rest}
 use Rattle.mini_rows.specs.Switches.{Switches}
-use Rattle.mini_rows.specs.Lists.{of_parts, is_one_part_shape, is_one_part, are_parts, declares_nothing, block, return_statement, throw_statement, for_loop, declaration, are_unscoped, is_unscoped, is_terminated, has_alternates, Head, If, Switch, For, with_head, Row66Empty, Row66Joined, Row67, Row67Absent, Row68, Row73, Row73Bare, Row76, Row79, SequencesRow, StretchRow, InList, ListRow}
+use Rattle.mini_rows.specs.Lists.{of_parts, is_one_part_shape, is_one_part, are_parts, declares_nothing, block, return_statement, throw_statement, for_loop, for_in, is_plain_left, declaration, are_unscoped, is_unscoped, is_terminated, has_alternates, Head, If, Switch, For, with_head, Row66Empty, Row66Joined, Row67, Row67Absent, Row68, Row73, Row73Bare, Row76, Row79, SequencesRow, LoopRow, JoinRow, StretchRow, InList, ListRow}
 use Rattle.mini_rows.specs.Lists as list
 use Rattle.mini_stmt.specs.declared.lead.Lead.{Lead}
 use Rattle.mini_stmt.specs.declared.lead.Lead.TheVariants.{Expression, Declaration, Return, Throw, Nothing}
 use Rattle.mini_stmt.specs.Terms.{has_two, is_joinable}
-use Rattle.mini_stmt.specs.JoinVars.{same_kind}
+use Rattle.mini_stmt.specs.JoinVars.{same_kind, is_var}
 use Rattle.mini_stmt.specs.JoinJumps.{is_whole, test_alone}
-use Rattle.mini_stmt.specs.MinimizeStatements.{is_read, lead_of, joins, jumps_anyway, is_quiet_after, is_quiet, last_lead_after, last_lead, reversed, QuietRests}
+use Rattle.mini_stmt.specs.MinimizeStatements.{is_read, lead_of, joins, jumps_anyway, is_quiet_after, is_quiet, last_lead_after, last_lead, reversed, StretchRests}
 use Rattle.mini_stmt.proofs.Follows.{jumps_are}
 
 -- ---- as the list goes on
@@ -136,7 +137,7 @@ and_none false = refl
 -- what stands before them is joined to the test as it was to the `if`
 tested_joins : (o : Switches) (l : Lead) (a : Tree) → joins o l (if_alone a (return_statement absent)) ≡ false → joins o l (expression_statement a) ≡ false
 tested_joins o Expression a e = e
-tested_joins o (Declaration k) a e = and_none o.join_vars
+tested_joins o (Declaration k) a e = ap (λ b. b || (o.sequences && (is_var k && false))) (and_none o.join_vars) ∙ ap (λ b. o.sequences && b) (and_none (is_var k)) ∙ and_none o.sequences
 tested_joins o (Return b) a e = and_none o.sequences
 tested_joins o Throw a e = and_none o.sequences
 tested_joins o Nothing a e = refl
@@ -223,7 +224,7 @@ takes_head o list.Return e s j = ap (λ b. b && (is_joinable e || false)) s ∙ 
 takes_head o list.Throw e s j = ap (λ b. b && (is_joinable e || false)) s ∙ or_none _ ∙ j
 takes_head o (If a b) e s j = ap (λ b. b && (is_joinable e || false)) s ∙ or_none _ ∙ j
 takes_head o (Switch a) e s j = ap (λ b. b && (is_joinable e || false)) s ∙ or_none _ ∙ j
-takes_head o (For a b c) e s j = ap (λ b. b && (is_joinable e || is_absent_part e)) s ∙ ap (λ b. b || is_absent_part e) j
+takes_head o (For a b c) e s j = ap (λ b. b && (is_joinable e || (is_absent_part e || false))) s ∙ ap (λ b. b || (is_absent_part e || false)) j
 
 whole_is : (b : Tree) → (b ≡ absent) ⊎ (is_absent b ≡ false) → is_whole b ≡ true
 whole_is b (inl e) = ap is_whole e
@@ -252,10 +253,22 @@ sequences_told o l a b s (inr (inr (inr (inr (inl r))))) = subst (Told o l) (sym
 sequences_told o l a b s (inr (inr (inr (inr (inr (inl r)))))) = subst (Told o l) (sym r.shape) (inr (inl (ap (λ m. joins o m (for_loop absent r.test r.update r.body)) (expression_lead (of_parts r.p r.ps) (joinable_parts r.p r.ps r.first)) ∙ ap (λ b. b && true) s)))
 sequences_told o l a b s (inr (inr (inr (inr (inr (inr r)))))) = subst (Told o l) (sym r.shape) (ap (λ b. b && (is_terminated r.s && is_unscoped r.u)) s ∙ ap (λ b. b && is_unscoped r.u) r.terminated ∙ r.unscoped)
 
+loops_told : (o : Switches) (l : Lead) (a b : Trees) → o.sequences ≡ true → LoopRow a b → Told o l a
+loops_told o l a b s (inl r) =
+    subst (Told o l) (sym r.shape) (inr (inl (ap (λ m. joins o m (for_in r.left (of_parts r.q r.qs) r.body)) (expression_lead (of_parts r.p r.ps) (joinable_parts r.p r.ps r.first)) ∙ ap (λ b. b && (is_plain_left r.left && is_joinable (of_parts r.q r.qs))) s ∙ ap (λ b. b && is_joinable (of_parts r.q r.qs)) r.plain ∙ joinable_parts r.q r.qs r.second)))
+loops_told o l a b s (inr (inl r)) = subst (Told o l) (sym r.shape) (inr (inl (ap (λ b. b || (o.sequences && true)) (and_none o.join_vars) ∙ ap (λ b. b && true) s)))
+loops_told o l a b s (inr (inr r)) = subst (Told o l) (sym r.shape) (inr (inl (ap (λ b. b || (o.sequences && true)) (and_none o.join_vars) ∙ ap (λ b. b && true) s)))
+
+joins_told : (o : Switches) (l : Lead) (a b : Trees) → JoinRow o a b → Told o l a
+joins_told o l a b (inl r) =
+    let row = r.1 in
+    subst (Told o l) (sym row.shape) (inr (inl (ap (λ b. (b && same_kind row.kind row.kind) || (o.sequences && (is_var row.kind && false))) r.0 ∙ ap (λ b. b || (o.sequences && (is_var row.kind && false))) (same_itself row.kind))))
+joins_told o l a b (inr r) = loops_told o l a b r.0 r.1
+
 stretch_told : (o : Switches) (l : Lead) (a b : Trees) → StretchRow o a b → Told o l a
 stretch_told o l a b (inl r) = subst (Told o l) (sym r.shape) refl
 stretch_told o l a b (inr (inl r)) = subst (Told o l) (sym r.shape) (ap (λ b. b || (o.sequences && false)) r.unscoped)
-stretch_told o l a b (inr (inr (inl r))) = let row = r.1 in subst (Told o l) (sym row.shape) (inr (inl (ap (λ b. b && same_kind row.kind row.kind) r.0 ∙ same_itself row.kind)))
+stretch_told o l a b (inr (inr (inl r))) = joins_told o l a b r
 stretch_told o l a b (inr (inr (inr r))) = sequences_told o l a b r.0 r.1
 
 stays_false : (o : Switches) (l : Lead) (t : Tree) (b : Bool) → (is_read o t ≡ true) ⊎ ((joins o l t ≡ true) ⊎ (jumps_anyway o l t ≡ true)) → stays o l t && b ≡ true → ⊥
@@ -271,12 +284,12 @@ quiet_rest : (o : Switches) (l : Lead) (before ts : Trees) → is_quiet_after o 
 quiet_rest o l none ts q = q
 quiet_rest o l (t ▸ before) ts q = quiet_rest o (lead_of t) before ts (and_parts (stays o l t) (is_quiet_after o (lead_of t) (append before ts)) q).1
 
-list_rests : (o : Switches) (t : Trees) → is_quiet o t ≡ true → (w : Tree) → InList (StretchRow o) (listed t) w → ⊥
+pub list_rests : (o : Switches) (t : Trees) → is_quiet o t ≡ true → (w : Tree) → InList (StretchRow o) (listed t) w → ⊥
 list_rests o t q w r =
     let same : t ≡ append r.before (append r.read r.after) = ap children r.shape in
     let rest = quiet_rest o Nothing r.before (append r.read r.after) (sym (ap (is_quiet o) same) ∙ q) in
     told_breaks o (last_lead_after Nothing r.before) r.read r.after (stretch_told o (last_lead_after Nothing r.before) r.read r.put r.row) rest
 
-pub quiet_rests : QuietRests
+pub quiet_rests : (o : Switches) (t : Trees) → is_quiet o t ≡ true → (p : Position) → StretchRests o p (listed t)
 quiet_rests o t q StatementList w r = list_rests o t q w r
 quiet_rests o t q p w r = absurd r

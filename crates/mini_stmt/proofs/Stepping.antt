@@ -1,5 +1,5 @@
 -- Steps of the rows over a list.
-use Rattle.std.proofs.Common.{◌≡◌, ◌<◌, Bool, true, false, refl, sym, ap, ◌∙◌, subst, arith}
+use Rattle.std.proofs.Common.{◌≡◌, ◌<◌, Bool, true, false, refl, sym, ap, ◌∙◌, subst, inl, arith}
 use Rattle.std.specs.Prelude.{◌||◌}
 use Rattle.std.proofs.lemmas.Bool.{and_parts}
 use Rattle.mini_model.specs.declared.place.Position.TheVariants.{StatementList}
@@ -11,24 +11,27 @@ use Rattle.mini_node.specs.Kinds.{is_listed, is_empty_statement, is_if_statement
 use Rattle.mini_node.specs.Made.{listed_is, if_statement_is}
 use Rattle.mini_node.specs.Walks.{append_one}
 use Rattle.mini_rows.specs.Switches.{Switches}
-use Rattle.mini_rows.specs.Lists.{StretchRow, ListRow, ListContracts}
+use Rattle.mini_rows.specs.Lists.{StretchRow, NeighbourRow, ListRow, ListContracts}
 use Rattle.mini_rows.proofs.ListWeights.{lists_lighter}
 use Rattle.mini_stmt.specs.declared.lead.Lead.{Lead}
 use Rattle.mini_stmt.specs.JoinJumps.{test_alone}
 use Rattle.mini_stmt.specs.SplitIf.{splits, without_alternate}
 use Rattle.mini_stmt.specs.SpreadBlock.{spreads, body_of}
-use Rattle.mini_stmt.specs.MinimizeStatements.{Moves, Changes, Minimized, MinimizesList, Placed, is_read, lead_of, joins, joined_to, jumps_anyway, is_quiet, last_lead, Rests}
+use Rattle.mini_stmt.specs.MinimizeStatements.{Moves, Changes, Minimized, JoinsStatements, Placed, is_read, lead_of, joins, joined_to, jumps_anyway, is_quiet, last_lead, StretchRests}
 use Rattle.mini_stmt.proofs.Parts.{below}
 use Rattle.mini_stmt.proofs.Follows.{joins_are, jumps_are, empty_row, spread_row, split_row}
 use Rattle.mini_stmt.proofs.Quiet.{last_of, quiet_push, quiet_pop, quiet_tested, quiet_rests}
 
-in_list : (o : Switches) (before a b after : Trees) → StretchRow o a b → ListRow o StatementList (listed (append before (append a after))) (listed (append before (append b after)))
+in_list : (o : Switches) (before a b after : Trees) → NeighbourRow o a b → ListRow o StatementList (listed (append before (append a after))) (listed (append before (append b after)))
 in_list o before a b after r = record { before = before; read = a; put = b; after = after; row = r; shape = refl; written = refl }
 
-pub step_in : (o : Switches) (before a b after : Trees) → StretchRow o a b → Step (ListContracts o) StatementList (listed (append before (append a after))) (listed (append before (append b after)))
-step_in o before a b after r =
+pub neighbours_in : (o : Switches) (before a b after : Trees) → NeighbourRow o a b → Step (ListContracts o) StatementList (listed (append before (append a after))) (listed (append before (append b after)))
+neighbours_in o before a b after r =
     let row = in_list o before a b after r in
     here StatementList (listed (append before (append a after))) (listed (append before (append b after))) (record { row = row; lighter = lists_lighter o StatementList _ _ row })
+
+pub step_in : (o : Switches) (before a b after : Trees) → StretchRow o a b → Step (ListContracts o) StatementList (listed (append before (append a after))) (listed (append before (append b after)))
+step_in o before a b after r = neighbours_in o before a b after (inl r)
 
 reaches_on : (o : Switches) (t u v : Tree) → Reaches (ListContracts o) StatementList t u → Reaches (ListContracts o) StatementList u v → Reaches (ListContracts o) StatementList t v
 reaches_on o t u v (done p x) r = r
@@ -55,15 +58,15 @@ changes_step o t u v true m s = changes_on o t u v true true m (steps_on o u v s
 changes_step o t u v false e s = changes_on o t u v false true e (steps_on o u v s)
 
 -- the node of the list
-pub node_minimized : (o : Switches) (t u : Tree) (b : Bool) → is_listed t ≡ true → u ≡ listed (children u) → Minimized o (children t) (children u) b → MinimizesList o t u b
+pub node_minimized : (o : Switches) (t u : Tree) (b : Bool) → is_listed t ≡ true → u ≡ listed (children u) → Minimized o (children t) (children u) b → JoinsStatements o t u b
 node_minimized o t u true l e m = subst (λ x. Moves o x u) (sym (listed_is t l)) (subst (Moves o (listed (children t))) (sym e) m.changes)
-node_minimized o t u false l e m = (e ∙ ap listed m.changes ∙ sym (listed_is t l), subst (Rests o StatementList) (sym (listed_is t l)) (quiet_rests o (children t) (sym (ap (is_quiet o) m.changes) ∙ m.quiet) StatementList))
+node_minimized o t u false l e m = (e ∙ ap listed m.changes ∙ sym (listed_is t l), subst (StretchRests o StatementList) (sym (listed_is t l)) (quiet_rests o (children t) (sym (ap (is_quiet o) m.changes) ∙ m.quiet) StatementList))
 
-pub quiet_minimized : (o : Switches) (t : Tree) → is_listed t ≡ true → is_quiet o (children t) ≡ true → MinimizesList o t t false
-quiet_minimized o t l q = (refl, subst (Rests o StatementList) (sym (listed_is t l)) (quiet_rests o (children t) q StatementList))
+pub quiet_minimized : (o : Switches) (t : Tree) → is_listed t ≡ true → is_quiet o (children t) ≡ true → JoinsStatements o t t false
+quiet_minimized o t l q = (refl, subst (StretchRests o StatementList) (sym (listed_is t l)) (quiet_rests o (children t) q StatementList))
 
 -- no row reads what is no list
-pub other_minimized : (o : Switches) (t : Tree) → is_listed t ≡ false → MinimizesList o t t false
+pub other_minimized : (o : Switches) (t : Tree) → is_listed t ≡ false → JoinsStatements o t t false
 other_minimized o t l = (refl, λ w r. absurd (cc (sym (ap is_listed r.shape) ∙ l)))
 
 -- ---- a statement after the others

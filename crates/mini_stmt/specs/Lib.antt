@@ -7,3 +7,5 @@ pub mod SplitIf
 pub mod SpreadBlock
 pub mod MinimizeStatements
 pub mod Lighter
+pub mod JoinGuards
+pub mod Terminated

@@ -4,7 +4,10 @@
 mod lead;
 mod rewrites;
 mod statements;
+mod terminated;
 mod terms;
 
 pub use lead::{Lead, lead_of};
 pub use statements::{MinimizeStatements, minimize_statements, no_row_reads_a_quiet_list};
+pub use terminated::IsTerminated;
+pub use terms::{join_sequence, statement_cares_about_scope};

@@ -1,4 +1,5 @@
 pub mod join_expressions;
+pub mod join_guards;
 pub mod join_heads;
 pub mod join_jumps;
 pub mod join_vars;

@@ -4,17 +4,22 @@ ghost use Rattle.std.specs.Prelude.{◌≡◌, ◌<◌, ◌+◌, IfOk, OnOk, tru
 ghost use Rattle.mini_model.specs.Paths.{append};
 ghost use Rattle.mini_model.specs.Tree.{none, ◌▸◌, children, count, node_count, node_counts};
 ghost use Rattle.mini_stmt.specs.MinimizeStatements as row;
-ghost use Rattle.mini_stmt.specs.MinimizeStatements.{QuietRests, Changes, Minimized, MinimizesList, Placed, Gives, RestsUnder, switches_of};
+ghost use Rattle.mini_stmt.specs.MinimizeStatements.{Changes, Minimized, JoinsStatements, MinimizesList, Placed, Gives, RestsUnder, switches_of};
+ghost use Rattle.mini_stmt.specs.JoinGuards.{QuietRests};
 ghost use Rattle.mini_stmt.specs.Lighter.{lists_lighter};
 ghost use Rattle.mini_walk.specs.Rule.{Applied};
 
 use crate::lead::{Lead, lead_of};
 use crate::rewrites::join_expressions::joined_expressions;
-use crate::rewrites::join_heads::{has_free_init, has_joinable_head, with_init, with_joined_head};
+use crate::rewrites::join_guards::join_guards;
+use crate::rewrites::join_heads::{
+    has_free_init, has_joinable_head, has_joinable_right, with_init, with_joined_head,
+    with_joined_right,
+};
 use crate::rewrites::join_jumps::{
     joined_returns, joined_throws, returns_answer, returns_nothing, test_alone, throws_answer,
 };
-use crate::rewrites::join_vars::{declares, joined_declarations};
+use crate::rewrites::join_vars::{declares, takes_declaration, with_declaration};
 use crate::rewrites::split_if::{split, splits};
 use crate::rewrites::spread_block::{body_of, spreads};
 use crate::terms::is_joinable_statement;
@@ -38,7 +43,10 @@ fn is_read(options: CompressOptions, node: &Node) -> bool
 fn takes_expression(node: &Node) -> bool
     ensures { result ≡ row.takes_expression node.now }
 {
-    is_joinable_statement(node) || has_joinable_head(node) || has_free_init(node)
+    is_joinable_statement(node)
+        || has_joinable_head(node)
+        || has_free_init(node)
+        || has_joinable_right(node)
 }
 
 // Whether what stands before is joined to it, and one statement is left.
@@ -47,7 +55,10 @@ fn joins(options: CompressOptions, lead: Lead, node: &Node) -> bool
 {
     match lead {
         Lead::Expression => options.sequences && takes_expression(node),
-        Lead::Declaration(kind) => options.join_vars && declares(node, kind),
+        Lead::Declaration(kind) => {
+            options.join_vars && declares(node, kind)
+                || options.sequences && takes_declaration(node, kind)
+        }
         Lead::Return(_) => options.sequences && returns_answer(node),
         Lead::Throw => options.sequences && throws_answer(node),
         Lead::Nothing => false,
@@ -63,8 +74,10 @@ fn with_expression(alloc: Global, first: Node, next: Node) -> Result<Node, OutOf
         joined_expressions(alloc, first, next)
     } else if has_joinable_head(&next) {
         with_joined_head(alloc, first, next)
-    } else {
+    } else if has_free_init(&next) {
         Ok(with_init(first, next))
+    } else {
+        with_joined_right(alloc, first, next)
     }
 }
 
@@ -81,7 +94,7 @@ fn joined_to(
 {
     match lead {
         Lead::Expression => with_expression(alloc, first, next),
-        Lead::Declaration(kind) => joined_declarations(alloc, kind, first, next),
+        Lead::Declaration(kind) => with_declaration(alloc, kind, first, next),
         Lead::Return(_) => joined_returns(alloc, first, next),
         Lead::Throw => joined_throws(alloc, first, next),
         Lead::Nothing => Ok(next),
@@ -98,7 +111,7 @@ fn jumps_anyway(options: CompressOptions, lead: Lead, node: &Node) -> bool
     }
 }
 
-/// No row reads a list that is quiet.
+/// No row reads a list that is quiet and has no guards to join.
 pub fn no_row_reads_a_quiet_list()
     ensures { QuietRests }
 {}
@@ -133,9 +146,9 @@ fn last_lead(list: &Nodes) -> Lead
     lead_of(list.child(count - 1))
 }
 
-// Takes the last of the statements out.
+/// Takes the last of the statements out.
 #[tactic(auto, using(crate::proofs::Quiet::count_push))]
-fn take_last(list: &mut Nodes) -> Node
+pub fn take_last(list: &mut Nodes) -> Node
     requires { 0 < count list.old }
     ensures { list.old ≡ append list.new (result ▸ none) }
 {
@@ -191,8 +204,8 @@ fn put_after(
     Ok(changed | apart)
 }
 
-// Puts the statements after the others, the last of them first.
-fn put_reversed(rest: &mut Nodes, nodes: Nodes) -> Result<(), OutOfMemory>
+/// Puts the statements after the others, the last of them first.
+pub fn put_reversed(rest: &mut Nodes, nodes: Nodes) -> Result<(), OutOfMemory>
     ensures list { OnOk result (row.reversed rest.new ≡ append nodes (row.reversed rest.old)) }
     ensures nodes { OnOk result (node_counts rest.new ≡ node_counts rest.old + node_counts nodes) }
 {
@@ -251,9 +264,23 @@ fn minimize_all(
     Ok(changed)
 }
 
+// A list of statements without what these rows read: empty statements go, blocks are spread, neighbours are joined.
+fn join_statements(
+    alloc: Global,
+    options: CompressOptions,
+    node: &mut Node,
+) -> Result<bool, OutOfMemory>
+    ensures { IfOk result (λ changed. JoinsStatements (switches_of options) node.old node.new changed) }
+{
+    if !is_listed(node) || is_quiet(options, node.children()) {
+        return Ok(false);
+    }
+    minimize_all(alloc, options, node.children_mut())
+}
+
 /// A list of statements without what the rows of lists read: empty statements go, blocks are spread, neighbours are
-/// joined. The answer says whether it changed, and then it is minimized in one call; the only error is that memory runs
-/// out, and then the list is fit only to be dropped.
+/// joined. The answer says whether it changed; the only error is that memory runs out, and then the list is fit only to be
+/// dropped.
 pub fn minimize_statements(
     alloc: Global,
     options: CompressOptions,
@@ -261,10 +288,10 @@ pub fn minimize_statements(
 ) -> Result<bool, OutOfMemory>
     ensures { IfOk result (λ changed. MinimizesList (switches_of options) node.old node.new changed) }
 {
-    if !is_listed(node) || is_quiet(options, node.children()) {
-        return Ok(false);
+    if join_statements(alloc, options, node)? {
+        return Ok(true);
     }
-    minimize_all(alloc, options, node.children_mut())
+    join_guards(alloc, options, node)
 }
 
 /// The rows of lists as a rule: of each list of statements.

@@ -1,6 +1,6 @@
 //! Terms of the rewrites of lists.
 
-ghost use Rattle.std.specs.Prelude.{◌≡◌, true, IfOk};
+ghost use Rattle.std.specs.Prelude.{◌≡◌, true, not, IfOk};
 ghost use Rattle.mini_model.specs.Tree.{children, count};
 ghost use Rattle.mini_rows.specs.Lists as list;
 ghost use Rattle.mini_stmt.specs.Terms as term;
@@ -10,11 +10,12 @@ use mini_node::{Node, Nodes, is_expression_statement, is_sequence, of_one, one, 
 use mini_text::OutOfMemory;
 use std::alloc::Global;
 
-/// Whether the statement declares nothing in the list round it but `var` names.
-pub fn is_unscoped(node: &Node) -> bool
-    ensures { result ≡ list.is_unscoped node.now }
+/// Whether the statement declares a name in the list round it that isn't hoisted through it: a `let`, a `const`, a class, a
+/// function, an import or an export.
+pub fn statement_cares_about_scope(node: &Node) -> bool
+    ensures { result ≡ not (list.is_unscoped node.now) }
 {
-    matches!(
+    !matches!(
         node.shape(),
         Shape::ExpressionStatement
             | Shape::EmptyStatement
@@ -37,21 +38,21 @@ pub fn is_unscoped(node: &Node) -> bool
     )
 }
 
-/// Whether all of the statements do.
+/// Whether none of the statements does.
 pub fn are_unscoped(nodes: &Nodes) -> bool
     ensures { result ≡ list.are_unscoped nodes.now }
 {
     for at in 0..nodes.len() {
-        if !is_unscoped(nodes.child(at)) {
+        if statement_cares_about_scope(nodes.child(at)) {
             return false;
         }
     }
     true
 }
 
-// Whether one of the statements is terminated.
+/// Whether one of the statements is terminated.
 #[cycle(ending)]
-fn has_terminated(nodes: &Nodes) -> bool
+pub fn has_terminated(nodes: &Nodes) -> bool
     ensures { result ≡ list.any (list.are_terminated nodes.now) }
 {
     for at in 0..nodes.len() {
@@ -159,8 +160,8 @@ fn parts_of(alloc: Global, expression: Node) -> Result<Nodes, OutOfMemory>
     }
 }
 
-/// `a, b`, of which each may be a sequence.
-pub fn joined(alloc: Global, first: Node, second: Node) -> Result<Node, OutOfMemory>
+/// `a, b`, of which each may be a sequence: the parts of both, in order.
+pub fn join_sequence(alloc: Global, first: Node, second: Node) -> Result<Node, OutOfMemory>
     ensures { IfOk result (λ made. made ≡ term.joined first second) }
 {
     let mut parts = parts_of(alloc, first)?;

@@ -21,7 +21,7 @@ pub either_true : (a b : Bool) → a || b ≡ true → (a ≡ true) ⊎ (b ≡ t
 either_true true b e = inl refl
 either_true false b e = inr e
 
-same_texts : (s r : List ℕ) → same_text s r ≡ true → s ≡ r
+pub same_texts : (s r : List ℕ) → same_text s r ≡ true → s ≡ r
 same_texts [] [] e = refl
 same_texts [] (d ∷ r) e = absurd (cc e)
 same_texts (c ∷ s) [] e = absurd (cc e)

@@ -1,5 +1,5 @@
 -- The rewrite is that of row 60, and always lighter.
-use Rattle.std.proofs.Common.{◌≡◌, Bool, true, false, refl, sym, ap, subst, ◌∙◌, inl, inr}
+use Rattle.std.proofs.Common.{◌≡◌, Bool, true, false, refl, sym, ap, subst, ◌∙◌, inl}
 use Rattle.std.specs.Prelude.{Option, Some, None, is_some, unwrap_or, if◌then◌else◌}
 use Rattle.std.proofs.lemmas.Bool.{and_parts}
 use Rattle.mini_model.specs.declared.place.Position.TheVariants.{Stmt}

@@ -1,9 +1,12 @@
 pub mod Forms
+pub mod SubstituteArrowExpression
 pub mod SubstituteBoolean
 pub mod ConvertToDottedProperties
 pub mod SubstituteLooseEqualsUndefined
 pub mod SubstituteSwapBinaryExpressions
 pub mod SubstituteYieldExpression
 pub mod SubstituteReturnStatement
+pub mod SubstituteObjectProperty
+pub mod SubstituteVariableDeclaration
 pub mod Spelled
 pub mod Lighter

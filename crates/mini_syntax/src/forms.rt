@@ -78,8 +78,8 @@ fn is_cooked(node: &Node) -> bool
     }
 }
 
-// A list of so many items.
-fn is_list_of(size: usize, node: &Node) -> bool
+/// Whether it is a list of so many items.
+pub fn is_list_of(size: usize, node: &Node) -> bool
     ensures kind { result ≡ is_it_list_of size node.now }
     ensures parts { result ≡ true → count (children node.now) ≡ size }
 {

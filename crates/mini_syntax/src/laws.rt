@@ -1,6 +1,7 @@
 //! What the rewrites make, and the rows.
 
 ghost use Rattle.mini_syntax.specs.Spelled.{WrittenIsRow, UnwrittenRests, RestsSettle};
+ghost use Rattle.mini_syntax.specs.SubstituteObjectProperty.{WrittenIsReached, UnwrittenRests as KeysRest};
 ghost use Rattle.mini_syntax.specs.SubstituteReturnStatement.{WrittenIsRow as ReturnIsRow, UnwrittenRests as OtherRests, GivesContracts};
 
 /// What the rewrites of spellings write is what a row says; where they write nothing no row reads the expression, and nothing
@@ -17,4 +18,11 @@ pub fn returns_are_rows()
     ensures written { ReturnIsRow }
     ensures unwritten { OtherRests }
     ensures contracts { GivesContracts }
+{}
+
+/// What the rewrite of keys writes is reached by steps of the rows on keys; where it writes nothing the literal is as it was,
+/// and no row on a key reads it.
+pub fn keys_are_rows()
+    ensures written { WrittenIsReached }
+    ensures unwritten { KeysRest }
 {}

@@ -1,6 +1,6 @@
 //! Rows 82 and 83: `if (a) b; else c;` becomes `a ? b : c;`, `if (a) b;` becomes `a && b;`, and `if (!a) b;` becomes `a || b;`;
-//! an empty consequent goes, `if (a) if (b) c;` becomes `if (a && b) c;`, and an `if` with `else` as a consequent gets a block.
-//! Each is lighter in every place.
+//! an empty consequent goes, `if (a) if (b) c;` becomes `if (a && b) c;`, an `if` with `else` as a consequent gets a block, and
+//! `if (!a) return b; else throw c;` becomes `if (a) throw c; else return b;`. Each is lighter in every place.
 
 ghost use Rattle.std.specs.Prelude.{◌≡◌, true, is_some, unwrap_or, OnOk, IfOk};
 ghost use Rattle.mini_model.specs.Position.{statement_expression_seat, left_operand_seat};
@@ -8,18 +8,18 @@ ghost use Rattle.mini_model.specs.Terms.{neg};
 ghost use Rattle.mini_rows.specs.Branches.{as_consequent as as_consequent_of};
 ghost use Rattle.mini_walk.specs.Rule.{Applied};
 ghost use Rattle.mini_logic.specs.Lighter.{if_lighter};
-ghost use Rattle.mini_logic.specs.MinimizeIfStatement.{chooses as it_chooses, guards as it_guards, is_empty as is_it_empty, has_empty_consequent as has_an_empty_consequent, skips as it_skips, only_tests as it_only_tests, is_weighed as is_it_weighed, turns as it_turns, nests as it_nests, is_bare as is_it_bare, choice as choice_of, conjunction as conjunction_of, disjunction as disjunction_of, guard as guard_of, skipped as skipped_of, lighter_negation as lighter_negation_of, turned as turned_of, nested as nested_of, in_block as in_block_of, written, Gives, Rests};
+ghost use Rattle.mini_logic.specs.MinimizeIfStatement.{chooses as it_chooses, guards as it_guards, is_empty as is_it_empty, has_empty_consequent as has_an_empty_consequent, skips as it_skips, only_tests as it_only_tests, is_weighed as is_it_weighed, turns as it_turns, nests as it_nests, is_bare as is_it_bare, keeps_braces as it_keeps_braces, swaps as it_swaps, choice as choice_of, conjunction as conjunction_of, disjunction as disjunction_of, guard as guard_of, skipped as skipped_of, lighter_negation as lighter_negation_of, turned as turned_of, nested as nested_of, in_block as in_block_of, swapped as swapped_of, written, Gives, Rests};
 ghost use Rattle.mini_model.specs.Tree.{children, count, expression_statement as expression_statement_of};
 ghost use Rattle.mini_node.specs.Children.{part};
 
-use crate::statements::{has_else, is_other_branch};
-use crate::terms::{has_negated_result, neg_weight, negated};
+use crate::statements::{has_else, is_other_branch, is_unchained, may_choose};
+use crate::terms::{has_negated_result, has_one, neg_weight, negated};
 use mini_context::TraverseCtx;
-use mini_model::{LogicalOperator, Position, Seat};
+use mini_model::{LogicalOperator, Position, Seat, Shape};
 use mini_node::{
     Node, absent, block, conditional, discard, expression_statement, if_statement, is_absent_part,
-    is_block, is_empty_statement, is_expression_statement, is_if_alone, is_if_statement, logical,
-    negation, of_one, one, taken, three,
+    is_block, is_empty_statement, is_expression_statement, is_if_alone, is_if_statement,
+    is_negation, logical, negation, of_one, one, taken, three,
 };
 use mini_text::OutOfMemory;
 use mini_tree::{negation_weight, seats};
@@ -97,6 +97,28 @@ fn is_bare(node: &Node) -> bool
     ensures { result ≡ is_it_bare node.now }
 {
     is_if_statement(node) && has_else(node.child(1))
+}
+
+// Whether its braces, if it has any, weigh as an alternate what they do as a consequent.
+#[tactic(auto, using(crate::proofs::Alternates::one_counted))]
+fn keeps_braces(node: &Node) -> bool
+    ensures { result ≡ it_keeps_braces node.now }
+{
+    if !matches!(node.shape(), Shape::BlockStatement) {
+        return true;
+    }
+    is_block(node) && !(has_one(node.child(0).children()) && may_choose(node.child(0).child(0)))
+}
+
+// `if (!a) return b; else throw c;`
+fn swaps(node: &Node) -> bool
+    ensures { result ≡ it_swaps node.now }
+{
+    is_if_statement(node)
+        && is_negation(node.child(0))
+        && is_other_branch(node.child(1))
+        && keeps_braces(node.child(1))
+        && is_unchained(node.child(2))
 }
 
 // `a ? b : c;`
@@ -225,9 +247,17 @@ fn in_block(alloc: Global, node: Node) -> Result<Node, OutOfMemory>
     if_statement(alloc, test, branch, alternate)
 }
 
+// `if (a) throw c; else return b;`
+fn swapped(alloc: Global, node: Node) -> Result<Node, OutOfMemory>
+    ensures { IfOk result (λ w. w ≡ swapped_of node) }
+{
+    let (test, consequent, alternate) = three(node);
+    if_statement(alloc, one(test), alternate, consequent)
+}
+
 /// `if (a) b; else c;` becomes `a ? b : c;`, `if (a) b;` becomes `a && b;`, and where a ends in a `!`, `!a || b;` with the
-/// `!` taken off; an empty consequent goes; `if (a) if (b) c;` becomes `if (a && b) c;`; and an `if` with `else` as a consequent
-/// gets a block. The answer says whether it did; the only error is that memory runs out, and then the statement is fit only to
+/// `!` taken off; an empty consequent goes; `if (a) if (b) c;` becomes `if (a && b) c;`; an `if` with `else` as a consequent
+/// gets a block; and `if (!a) return b; else throw c;` becomes `if (a) throw c; else return b;`. The answer says whether it did; the only error is that memory runs out, and then the statement is fit only to
 /// be dropped.
 pub fn try_minimize_if(alloc: Global, node: &mut Node) -> Result<bool, OutOfMemory>
     ensures tree { OnOk result (node.new ≡ unwrap_or (written node.old) node.old) }
@@ -247,6 +277,8 @@ pub fn try_minimize_if(alloc: Global, node: &mut Node) -> Result<bool, OutOfMemo
         nested(alloc, taken(alloc, node))?
     } else if is_bare(node) {
         in_block(alloc, taken(alloc, node))?
+    } else if swaps(node) {
+        swapped(alloc, taken(alloc, node))?
     } else {
         return Ok(false);
     };

@@ -3,7 +3,7 @@
 ghost use Rattle.std.specs.Prelude.{◌≡◌, IfOk};
 ghost use Rattle.mini_stmt.specs.JoinExpressions as row;
 
-use crate::terms::joined;
+use crate::terms::join_sequence;
 use mini_node::{Node, expression_statement, one};
 use mini_text::OutOfMemory;
 use std::alloc::Global;
@@ -12,6 +12,6 @@ use std::alloc::Global;
 pub fn joined_expressions(alloc: Global, first: Node, next: Node) -> Result<Node, OutOfMemory>
     ensures { IfOk result (λ made. made ≡ row.joined_expressions first next) }
 {
-    let expression = joined(alloc, one(first), one(next))?;
+    let expression = join_sequence(alloc, one(first), one(next))?;
     expression_statement(alloc, expression)
 }

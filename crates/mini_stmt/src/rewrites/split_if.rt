@@ -4,7 +4,7 @@ ghost use Rattle.std.specs.Prelude.{◌≡◌, IfOk};
 ghost use Rattle.mini_node.specs.Children.{part};
 ghost use Rattle.mini_stmt.specs.SplitIf as row;
 
-use crate::terms::{is_terminated, is_unscoped};
+use crate::terms::{is_terminated, statement_cares_about_scope};
 use mini_node::{Node, absent, if_statement, is_if_statement, three};
 use mini_text::OutOfMemory;
 use std::alloc::Global;
@@ -13,7 +13,9 @@ use std::alloc::Global;
 pub fn splits(node: &Node) -> bool
     ensures { result ≡ row.splits node.now }
 {
-    is_if_statement(node) && is_terminated(node.child(1)) && is_unscoped(node.child(2))
+    is_if_statement(node)
+        && is_terminated(node.child(1))
+        && !statement_cares_about_scope(node.child(2))
 }
 
 /// `if (a) s`, and u

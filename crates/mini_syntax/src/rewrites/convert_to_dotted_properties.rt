@@ -28,8 +28,8 @@ fn is_name(node: &Node) -> bool
     }
 }
 
-// The number that a text writes.
-fn number_of(node: &Node) -> Option<i64>
+/// The number that a text writes.
+pub fn number_of(node: &Node) -> Option<i64>
     ensures { result ≡ number_of_text (text_of node.now) }
 {
     match string(node) {
@@ -70,8 +70,8 @@ fn take_text(alloc: Global, mut shape: Shape) -> Text
     }
 }
 
-// The name that a text in quotes is.
-fn as_name(alloc: Global, property: Node) -> Node
+/// The name that a text in quotes is.
+pub fn as_name(alloc: Global, property: Node) -> Node
     ensures { result ≡ the_name property }
 {
     let (shape, _, _, _) = property.into_parts();

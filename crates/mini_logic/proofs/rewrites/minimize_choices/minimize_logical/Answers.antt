@@ -1,0 +1,15 @@
+use Rattle.std.proofs.Common.{◌≡◌, subst, false}
+use Rattle.std.specs.Prelude.{is_some, OnOk, IfOk}
+use Rattle.mini_logic.specs.SubstituteRotateLogicalExpression as rotate
+use Rattle.mini_logic.proofs.Choices.{second_written, second_made}
+use Rattle.mini_logic.proofs.rewrites.minimize_choices.minimize_logical.Goals as goal
+
+pub returns-clause-tree : goal.returns-clause-tree
+returns-clause-tree c =
+    let none : false ≡ is_some (rotate.written c.args.node.now) = cc (c.if-branch.false, c.in_ok-substitute_rotate_logical_expression.ensures.said) in
+    subst (λ x. OnOk c.minimize_logical_expression.result (c.minimize_logical_expression.new.node ≡ x)) (second_made c.args.node.now c.substitute_rotate_logical_expression.new.node c.in_ok-substitute_rotate_logical_expression.ensures.tree none) c.minimize_logical_expression.ensures.tree
+
+pub returns-clause-said : goal.returns-clause-said
+returns-clause-said c =
+    let none : false ≡ is_some (rotate.written c.args.node.now) = cc (c.if-branch.false, c.in_ok-substitute_rotate_logical_expression.ensures.said) in
+    subst (λ x. IfOk c.minimize_logical_expression.result (λ changed. changed ≡ is_some x)) (second_written c.args.node.now c.substitute_rotate_logical_expression.new.node c.in_ok-substitute_rotate_logical_expression.ensures.tree none) c.minimize_logical_expression.ensures.said

@@ -1,0 +1,209 @@
+-- 74: an `if` that ends in a jump, and the next one that has its branch.
+use Rattle.std.proofs.Common.{◌≡◌, ℕ, zero, suc, ◌+◌, ◌<◌, ◌≤◌, Bool, true, false, refl, sym, ap, ◌∙◌, subst, inl, inr, true≢false, arith}
+use Rattle.std.specs.Prelude.{not, ◌&&◌, ◌||◌, Result, Ok, Err, IfOk}
+use Rattle.std.proofs.lemmas.Bool.{and_parts, false≢true}
+use Rattle.mini_model.specs.declared.place.Position.{Position}
+use Rattle.mini_model.specs.declared.place.Position.TheVariants.{StatementList}
+use Rattle.mini_model.specs.Tree.{Tree, Trees, none, ◌▸◌, count, child_or_absent, absent, listed, children, if_else, if_alone}
+use Rattle.mini_model.specs.Paths.{append}
+use Rattle.mini_node.specs.Children.{part, rest_children}
+use Rattle.mini_node.specs.Equal.{same_tree}
+use Rattle.mini_node.specs.Lends.{with_children}
+use Rattle.mini_node.specs.Kinds.{is_listed, is_if_alone, is_if_statement}
+use Rattle.mini_node.specs.Made.{listed_is, if_alone_is, if_statement_is}
+use Rattle.mini_node.specs.Walks.{from_first, next_child, no_rest, append_one}
+use Rattle.mini_node.proofs.Equality.{tree_same, tree_itself}
+use Rattle.mini_text.specs.declared.memory.OutOfMemory.{OutOfMemory}
+use Rattle.mini_rows.specs.Switches.{Switches}
+use Rattle.mini_rows.specs.Lists.{is_terminated, Row74, StretchRow, GuardsRow, NeighbourRow, InList}
+use Rattle.mini_stmt.specs.MinimizeStatements as list
+use Rattle.mini_stmt.specs.MinimizeStatements.{Changes, is_quiet, StretchRests, JoinsStatements, MinimizesList}
+use Rattle.mini_stmt.specs.JoinGuards.{meets, met, meet_first, are_apart, is_apart, last_after, meets_last, PutJoined, Joined, Rests, JoinsGuards, QuietRests}
+use Rattle.mini_stmt.proofs.Parts.{not_true}
+use Rattle.mini_stmt.proofs.Quiet.{quiet_rests}
+use Rattle.mini_stmt.proofs.Stepping.{neighbours_in, steps_on}
+
+-- ---- two statements
+
+pub meets_row : (t u : Tree) → meets t u ≡ true → Row74 (t ▸ (u ▸ none)) (met t u ▸ none)
+meets_row t u e =
+    let (first, x) = and_parts (is_if_alone t) (is_terminated (part t 1) && (is_if_statement u && same_tree (part t 1) (part u 1))) e in
+    let (ends, y) = and_parts (is_terminated (part t 1)) (is_if_statement u && same_tree (part t 1) (part u 1)) x in
+    let (second, same) = and_parts (is_if_statement u) (same_tree (part t 1) (part u 1)) y in
+    let branch = tree_same (part t 1) (part u 1) same in
+    record {
+      left = part t 0;
+      right = part u 0;
+      s = part u 1;
+      u = part u 2;
+      terminated = sym (ap is_terminated branch) ∙ ends;
+      shape = λ i. (if_alone_is t first ∙ ap (if_alone (part t 0)) branch) i ▸ (if_statement_is u second i ▸ none);
+      written = refl;
+    }
+
+row_meets : (left right s u : Tree) → is_terminated s ≡ true → meets (if_alone left s) (if_else right s u) ≡ true
+row_meets left right s u e = ap (λ b. b && same_tree s s) e ∙ tree_itself s
+
+-- ---- a list
+
+meet_before : (t u : Tree) (after : Trees) (ts : Trees) → are_apart (append ts (t ▸ (u ▸ after))) ≡ true → meets t u ≡ false
+meet_before t u after none e = not_true (meets t u) (and_parts (not (meets t u)) (are_apart (u ▸ after)) e).0
+meet_before t u after (c ▸ ts) e = meet_before t u after ts (and_parts (not (meet_first (c ▸ append ts (t ▸ (u ▸ after))))) (are_apart (append ts (t ▸ (u ▸ after)))) e).1
+
+guards_rest : (o : Switches) (ts : Trees) → is_apart o ts ≡ true → (w : Tree) → InList (GuardsRow o) (listed ts) w → ⊥
+guards_rest o ts e w r =
+    let m = r.row.1 in
+    let apart : are_apart ts ≡ true = sym (ap (λ b. not b || are_apart ts) r.row.0) ∙ e in
+    let is : ts ≡ append r.before (if_alone m.left m.s ▸ (if_else m.right m.s m.u ▸ r.after)) = ap children r.shape ∙ ap (λ a. append r.before (append a r.after)) m.shape in
+    true≢false (sym (row_meets m.left m.right m.s m.u m.terminated) ∙ meet_before (if_alone m.left m.s) (if_else m.right m.s m.u) r.after r.before (sym (ap are_apart is) ∙ apart))
+
+pub apart_rests : (o : Switches) (ts : Trees) → is_apart o ts ≡ true → (p : Position) → Rests o p (listed ts)
+apart_rests o ts e StatementList w r = guards_rest o ts e w r
+apart_rests o ts e p w r = absurd r
+
+-- a row is of the one kind or the other
+either_row : (o : Switches) (n w : Tree) (r : InList (NeighbourRow o) n w) → (InList (StretchRow o) n w → ⊥) → (InList (GuardsRow o) n w → ⊥) → NeighbourRow o r.read r.put → ⊥
+either_row o n w r f g (inl m) = f (record { before = r.before; read = r.read; put = r.put; after = r.after; row = m; shape = r.shape; written = r.written })
+either_row o n w r f g (inr m) = g (record { before = r.before; read = r.read; put = r.put; after = r.after; row = m; shape = r.shape; written = r.written })
+
+both_rest : (o : Switches) (p : Position) (n : Tree) → StretchRests o p n → Rests o p n → list.Rests o p n
+both_rest o StatementList n f g w r = either_row o n w r (f w) (g w) r.row
+both_rest o p n f g w r = absurd r
+
+pub no_row : QuietRests
+no_row o t q e p = both_rest o p (listed t) (quiet_rests o t q p) (apart_rests o t e p)
+
+-- ---- as the list goes on
+
+some_meets : (b : Bool) → b ≡ true → not b ≡ false
+some_meets b e = ap not e
+
+pub apart_stops : (ts : Trees) (i : ℕ) → i < count ts → meet_first (rest_children i ts) ≡ true → are_apart (rest_children i ts) ≡ are_apart ts → false ≡ are_apart ts
+apart_stops ts i h e inv =
+    let next = next_child ts i h in
+    let met_here : meet_first (child_or_absent ts i ▸ rest_children (suc i) ts) ≡ true = sym (ap meet_first next) ∙ e in
+    sym (ap (λ b. not b && are_apart (rest_children (suc i) ts)) met_here) ∙ sym (ap are_apart next) ∙ inv
+
+pub apart_goes_on : (ts : Trees) (i : ℕ) → i < count ts → meet_first (rest_children i ts) ≡ false → are_apart (rest_children i ts) ≡ are_apart ts → are_apart (rest_children (i + 1) ts) ≡ are_apart ts
+apart_goes_on ts i h e inv =
+    let next = next_child ts i h in
+    let other : i + 1 ≡ suc i = omega arith in
+    let met_here : meet_first (child_or_absent ts i ▸ rest_children (suc i) ts) ≡ false = sym (ap meet_first next) ∙ e in
+    ap (λ k. are_apart (rest_children k ts)) other ∙ sym (ap (λ b. not b && are_apart (rest_children (suc i) ts)) met_here) ∙ sym (ap are_apart next) ∙ inv
+
+pub apart_ends : (ts : Trees) (i : ℕ) → count ts ≤ i → are_apart (rest_children i ts) ≡ are_apart ts → true ≡ are_apart ts
+apart_ends ts i h inv = sym (ap are_apart (no_rest ts i h)) ∙ inv
+
+pub apart_start : (ts : Trees) → are_apart (rest_children 0 ts) ≡ are_apart ts
+apart_start ts = ap are_apart (from_first ts)
+
+-- one of them and the next one
+pub two_there : (ts : Trees) (i : ℕ) → i + 1 < count ts → meet_first (rest_children i ts) ≡ meets (child_or_absent ts i) (child_or_absent ts (i + 1))
+two_there ts i h =
+    let other : i + 1 ≡ suc i = omega arith in
+    ap meet_first (next_child ts i (omega (arith, h)) ∙ ap (λ r. child_or_absent ts i ▸ r) (next_child ts (suc i) (omega (arith, h)))) ∙ ap (λ k. meets (child_or_absent ts i) (child_or_absent ts k)) (sym other)
+
+pub one_there : (ts : Trees) (i : ℕ) → i < count ts → count ts ≤ i + 1 → meet_first (rest_children i ts) ≡ false
+one_there ts i h k = ap meet_first (next_child ts i h ∙ ap (λ r. child_or_absent ts i ▸ r) (no_rest ts (suc i) (omega (arith, k))))
+
+-- ---- at its end
+
+pub last_is : (l : Tree) (ts : Trees) (i : ℕ) → count ts ≡ i + 1 → last_after l ts ≡ child_or_absent ts i
+last_is l none i e = absurd (omega (arith, e))
+last_is l (t ▸ none) zero e = refl
+last_is l (t ▸ none) (suc i) e = absurd (omega (arith, e))
+last_is l (t ▸ (u ▸ ts)) zero e = absurd (omega (arith, e))
+last_is l (t ▸ (u ▸ ts)) (suc i) e = last_is t (u ▸ ts) i (omega (arith, e))
+
+pub no_last : (ts : Trees) (u : Tree) → count ts ≡ 0 → meets_last ts u ≡ false
+no_last none u e = refl
+no_last (t ▸ ts) u e = absurd (omega (arith, e))
+
+last_pushed : (l : Tree) (ts : Trees) (x : Tree) → last_after l (append ts (x ▸ none)) ≡ x
+last_pushed l none x = refl
+last_pushed l (t ▸ ts) x = last_pushed t ts x
+
+-- what comes first, of a list with one more
+abbrev first_meets : Tree → Trees → Bool
+first_meets t ts = meet_first (t ▸ ts)
+
+push_apart : (t : Tree) (ts : Trees) (x : Tree) → meets (last_after t ts) x ≡ false → are_apart (t ▸ ts) ≡ true → are_apart (t ▸ append ts (x ▸ none)) ≡ true
+push_apart t none x e h = ap (λ b. not b && true) e
+push_apart t (u ▸ ts) x e h =
+    let (here, rest) = and_parts (not (meets t u)) (are_apart (u ▸ ts)) h in
+    ap (λ b. b && are_apart (u ▸ append ts (x ▸ none))) here ∙ push_apart u ts x e rest
+
+apart_push : (ts : Trees) (x : Tree) → meets_last ts x ≡ false → are_apart ts ≡ true → are_apart (append ts (x ▸ none)) ≡ true
+apart_push none x e h = refl
+apart_push (t ▸ ts) x e h = push_apart t ts x e h
+
+pub some_last : (ts : Trees) (u : Tree) → meets_last ts u ≡ true → 0 < count ts
+some_last none u e = absurd (false≢true e)
+some_last (t ▸ ts) u e = omega arith
+
+-- ---- a statement after the others
+
+pub put_apart : (before : Trees) (t : Tree) (after : Trees) → meets_last before t ≡ false → after ≡ append before (t ▸ none) → PutJoined before t after false
+put_apart before t after e f = record {
+  changes = λ rest o s. ap (λ x. append x rest) f ∙ append_one before t rest;
+  apart = λ c h. ap are_apart f ∙ apart_push before t e h;
+}
+
+pub put_met : (before init : Trees) (last t joined : Tree) (after : Trees) → meets_last before t ≡ true → before ≡ append init (last ▸ none) → joined ≡ met last t → after ≡ append init (joined ▸ none) → PutJoined before t after true
+put_met before init last t joined after e f g h =
+    let is = ap (last_after absent) f ∙ last_pushed absent init last in
+    let row = meets_row last t (sym (ap (λ l. meets l t) is) ∙ e) in
+    let made = h ∙ ap (λ x. append init (x ▸ none)) g in
+    record {
+      changes = λ rest o s.
+          subst (λ x. Changes o x (append after rest) true) (sym (ap (λ x. append x (t ▸ rest)) f ∙ append_one init last (t ▸ rest)))
+          (subst (λ x. Changes o (append init (last ▸ (t ▸ rest))) x true) (sym (ap (λ x. append x rest) made ∙ append_one init (met last t) rest))
+          (steps_on o (append init (last ▸ (t ▸ rest))) (append init (met last t ▸ rest)) (neighbours_in o init (last ▸ (t ▸ none)) (met last t ▸ none) rest (inr (s, row)))));
+      apart = λ c. absurd (true≢false c);
+    }
+
+pub both_unchanged : (a b : Bool) → a || b ≡ false → (a ≡ false) × (b ≡ false)
+both_unchanged true b e = absurd (true≢false e)
+both_unchanged false b e = (refl, e)
+
+-- ---- the node
+
+pub apart_by : (o : Switches) (ts : Trees) → are_apart ts ≡ true → is_apart o ts ≡ true
+apart_by o ts e = or_true (not o.sequences)
+  where
+    or_true : (a : Bool) → a || are_apart ts ≡ true
+    or_true true = refl
+    or_true false = e
+
+list_joined : (o : Switches) (ts us : Trees) (b : Bool) → o.sequences ≡ true → Joined ts us b → JoinsGuards o (listed ts) (listed us) b
+list_joined o ts us true s m = m.changes o s
+list_joined o ts us false s m = let same = m.changes o s in (ap listed same, apart_rests o ts (apart_by o ts (sym (ap are_apart same) ∙ m.apart refl)) StatementList)
+
+pub node_joined : (o : Switches) (t : Tree) (us : Trees) (r : Result Bool OutOfMemory) → o.sequences ≡ true → is_listed t ≡ true → IfOk r (λ b. Joined (children t) us b) → IfOk r (λ b. JoinsGuards o t (with_children t us) b)
+node_joined o t us (Err e) s l m = m
+node_joined o t us (Ok b) s l m =
+    let is = listed_is t l in
+    subst (λ x. JoinsGuards o x (with_children t us) b) (sym is) (subst (λ x. JoinsGuards o (listed (children t)) x b) (sym (ap (λ x. with_children x us) is)) (list_joined o (children t) us b s m))
+
+pub not_joined : (o : Switches) (t : Tree) → is_listed t ≡ true → is_apart o (children t) ≡ true → JoinsGuards o t t false
+not_joined o t l e = (refl, subst (Rests o StatementList) (sym (listed_is t l)) (apart_rests o (children t) e StatementList))
+
+pub no_list : (o : Switches) (t : Tree) → is_listed t ≡ false → JoinsGuards o t t false
+no_list o t l = (refl, λ w r. absurd (true≢false (sym (ap is_listed r.shape) ∙ l)))
+
+pub no_sequences : (o : Switches) (t : Tree) → o.sequences ≡ false → JoinsGuards o t t false
+no_sequences o t s = (refl, λ w r. absurd (true≢false (sym r.row.0 ∙ s)))
+
+-- both
+pub joined_first : (o : Switches) (t u : Tree) (b : Bool) → b ≡ true → JoinsStatements o t u b → MinimizesList o t u true
+joined_first o t u b e m = subst (JoinsStatements o t u) e m
+
+joined_then : (o : Switches) (t u v : Tree) (a b : Bool) → a ≡ false → JoinsStatements o t u a → JoinsGuards o u v b → MinimizesList o t v b
+joined_then o t u v a true e m n = let k = subst (JoinsStatements o t u) e m in subst (λ x. list.Moves o x v) k.0 n
+joined_then o t u v a false e m n =
+    let k = subst (JoinsStatements o t u) e m in
+    (n.0 ∙ k.0, both_rest o StatementList t k.1 (subst (Rests o StatementList) k.0 n.1))
+
+pub joined_after : (o : Switches) (t u v : Tree) (a : Bool) (r : Result Bool OutOfMemory) → a ≡ false → JoinsStatements o t u a → IfOk r (λ b. JoinsGuards o u v b) → IfOk r (λ b. MinimizesList o t v b)
+joined_after o t u v a (Err e) f m n = n
+joined_after o t u v a (Ok b) f m n = joined_then o t u v a b f m n

@@ -1,0 +1,74 @@
+-- 74: `if (a) s; if (b) s;` becomes `if (a || b) s`, where s ends in a jump.
+use Rattle.std.specs.Prelude.{◌≡◌, Bool, true, false, not, ◌&&◌, ◌||◌}
+use Rattle.mini_model.specs.declared.operator.LogicalOperator.TheVariants.{Or}
+use Rattle.mini_model.specs.declared.place.Position.{Position}
+use Rattle.mini_model.specs.declared.place.Position.TheVariants.{StatementList}
+use Rattle.mini_model.specs.Tree.{Tree, Trees, none, ◌▸◌, absent, listed, if_else, logical}
+use Rattle.mini_model.specs.Paths.{append}
+use Rattle.mini_node.specs.Children.{part}
+use Rattle.mini_node.specs.Equal.{same_tree}
+use Rattle.mini_node.specs.Kinds.{is_if_alone, is_if_statement}
+use Rattle.mini_walk.specs.Rule as rule
+use Rattle.mini_rows.specs.Switches.{Switches}
+use Rattle.mini_rows.specs.Lists.{is_terminated, GuardsRow, InList, ListContracts}
+use Rattle.mini_stmt.specs.MinimizeStatements.{Changes, is_quiet}
+use Rattle.mini_stmt.specs.MinimizeStatements as list
+
+-- `if (a) s`, and then an `if` with the branch s
+abbrev pub meets : Tree → Tree → Bool
+meets t u = is_if_alone t && (is_terminated (part t 1) && (is_if_statement u && same_tree (part t 1) (part u 1)))
+
+-- `if (a || b) s`, with the `else` of the second
+abbrev pub met : Tree → Tree → Tree
+met t u = if_else (logical Or (part t 0) (part u 0)) (part u 1) (part u 2)
+
+-- the first two of them
+abbrev pub meet_first : Trees → Bool
+meet_first (t ▸ (u ▸ ts)) = meets t u
+meet_first _ = false
+
+-- no two neighbours
+abbrev pub are_apart : Trees → Bool
+are_apart none = true
+are_apart (t ▸ ts) = not (meet_first (t ▸ ts)) && are_apart ts
+
+abbrev pub is_apart : Switches → Trees → Bool
+is_apart o ts = not o.sequences || are_apart ts
+
+-- the last one, or nothing
+abbrev pub last_after : Tree → Trees → Tree
+last_after l none = l
+last_after l (t ▸ ts) = last_after t ts
+
+abbrev pub meets_last : Trees → Tree → Bool
+meets_last ts u = meets (last_after absent ts) u
+
+-- whether the list changed, where the option lets it
+abbrev pub Changed : Trees → Trees → Bool → Type 0
+Changed t u changed = (o : Switches) → o.sequences ≡ true → Changes o t u changed
+
+-- a statement is put after the others, whatever comes after it
+pub record PutJoined (before : Trees) (t : Tree) (after : Trees) (changed : Bool) : Type 0 where
+  pub changes : (rest : Trees) → Changed (append before (t ▸ rest)) (append after rest) changed
+  pub apart : changed ≡ false → are_apart before ≡ true → are_apart after ≡ true
+
+-- a list changes, or no two neighbours in it are so
+pub record Joined (t u : Trees) (changed : Bool) : Type 0 where
+  pub changes : Changed t u changed
+  pub apart : changed ≡ false → are_apart u ≡ true
+
+-- no row of these reads the list
+abbrev pub InGuards : Switches → Position → Tree → Tree → Type 0
+InGuards o StatementList n w = InList (GuardsRow o) n w
+InGuards o _ n w = ⊥
+
+abbrev pub Rests : Switches → Position → Tree → Type 0
+Rests o p t = (w : Tree) → InGuards o p t w → ⊥
+
+-- the node of a list
+abbrev pub JoinsGuards : Switches → Tree → Tree → Bool → Type 0
+JoinsGuards o t u changed = rule.Applied (ListContracts o) (Rests o) StatementList t u changed
+
+-- no row at all reads a list that is quiet and in which no two neighbours are so
+abbrev pub QuietRests : Type 0
+QuietRests = (o : Switches) (t : Trees) → is_quiet o t ≡ true → is_apart o t ≡ true → (p : Position) → list.Rests o p (listed t)

@@ -1,0 +1,118 @@
+//! 74: `if (a) s; if (b) s;` becomes `if (a || b) s`, where s ends in a jump.
+
+ghost use Rattle.std.specs.Prelude.{◌≡◌, ◌<◌, IfOk};
+ghost use Rattle.mini_model.specs.Tree.{count};
+ghost use Rattle.mini_node.specs.Children.{rest_children};
+ghost use Rattle.mini_stmt.specs.JoinGuards as row;
+ghost use Rattle.mini_stmt.specs.JoinGuards.{Joined, JoinsGuards, PutJoined};
+ghost use Rattle.mini_stmt.specs.MinimizeStatements.{switches_of};
+
+use crate::statements::{put_reversed, take_last};
+use crate::terms::is_terminated;
+use mini_model::LogicalOperator;
+use mini_node::{
+    Node, Nodes, if_statement, is_if_alone, is_if_statement, is_listed, is_same_tree, logical, one,
+    three,
+};
+use mini_text::OutOfMemory;
+use mini_tree::CompressOptions;
+use std::alloc::Global;
+use std::mem;
+
+// Whether it is `if (a) s`, and then an `if` with the branch s.
+fn meets(first: &Node, next: &Node) -> bool
+    ensures { result ≡ row.meets first.now next.now }
+{
+    is_if_alone(first)
+        && is_terminated(first.child(1))
+        && is_if_statement(next)
+        && is_same_tree(first.child(1), next.child(1))
+}
+
+// `if (a || b) s`, with the `else` of the second
+fn met(alloc: Global, first: Node, next: Node) -> Result<Node, OutOfMemory>
+    ensures { IfOk result (λ made. made ≡ row.met first next) }
+{
+    let (right, consequent, alternate) = three(next);
+    let test = logical(alloc, LogicalOperator::Or, one(first), right)?;
+    if_statement(alloc, test, consequent, alternate)
+}
+
+// Whether the one at a place and the next one are so.
+fn meet_at(list: &Nodes, at: usize) -> bool
+    requires { at < count list.now }
+    ensures { result ≡ row.meet_first (rest_children at list.now) }
+{
+    let last = list.len() - 1;
+    if at == last {
+        return false;
+    }
+    meets(list.child(at), list.child(at + 1))
+}
+
+// Whether no two neighbours are.
+fn are_apart(list: &Nodes) -> bool
+    ensures { result ≡ row.are_apart list.now }
+{
+    for at in 0..list.len() {
+        if meet_at(list, at) {
+            return false;
+        }
+    }
+    true
+}
+
+// Whether the last of the statements and this one are.
+fn meets_last(before: &Nodes, statement: &Node) -> bool
+    ensures { result ≡ row.meets_last before.now statement.now }
+{
+    let count = before.len();
+    if count == 0 {
+        return false;
+    }
+    meets(before.child(count - 1), statement)
+}
+
+// Puts the statement after the others, or joins it to the last of them. The answer says whether it is joined.
+fn put_joined(alloc: Global, before: &mut Nodes, statement: Node) -> Result<bool, OutOfMemory>
+    ensures { IfOk result (λ changed. PutJoined before.old statement before.new changed) }
+{
+    if !meets_last(before, &statement) {
+        before.push(statement)?;
+        return Ok(false);
+    }
+    let last = take_last(before);
+    let joined = met(alloc, last, statement)?;
+    before.push(joined)?;
+    Ok(true)
+}
+
+// Does all statements, from the first to the last.
+fn join_all(alloc: Global, list: &mut Nodes) -> Result<bool, OutOfMemory>
+    ensures { IfOk result (λ changed. Joined list.old list.new changed) }
+{
+    let whole = mem::replace(list, Nodes::new(alloc));
+    let mut rest = Nodes::new(alloc);
+    put_reversed(&mut rest, whole)?;
+    let mut changed = false;
+    'statements: while let Some(statement) = rest.pop() {
+        let joined = put_joined(alloc, list, statement)?;
+        changed = changed | joined;
+    }
+    Ok(changed)
+}
+
+/// Each `if` that ends in a jump, and the next one with that branch, as one. The answer says whether there were two; the only
+/// error is that memory runs out, and then the list is fit only to be dropped.
+pub fn join_guards(
+    alloc: Global,
+    options: CompressOptions,
+    node: &mut Node,
+) -> Result<bool, OutOfMemory>
+    ensures { IfOk result (λ changed. JoinsGuards (switches_of options) node.old node.new changed) }
+{
+    if !options.sequences || !is_listed(node) || are_apart(node.children()) {
+        return Ok(false);
+    }
+    join_all(alloc, node.children_mut())
+}
