@@ -1,7 +1,7 @@
 -- What a run answers, and when.
 use Rattle.std.specs.Prelude.{◌≡◌, ℕ, ◌<◌, ◌≤◌, ◌⊎◌, true, List, [], ◌∷◌, ◌++◌, length, codes, map, Option, Some, None, Ok, string_bytes, IsUtf8}
 use Rattle.std.specs.Io.KnownBytes.{Appends, Consumes, IsAtEnd}
-use Rattle.serde_json.specs.Data.{Data, unsigned, number, boolean, array, object, no_members, member}
+use Rattle.serde_json.specs.Data.{Data, Members, unsigned, number, boolean, array, object, no_members, member}
 use Rattle.serde_json.specs.View.{view, items_of}
 use Rattle.serde_json.specs.Written.{compact_text}
 use Rattle.serde_json.specs.Read.{read}
@@ -37,6 +37,10 @@ line_of d = compact_text d ++ 10 ∷ []
 
 abbrev pub numbers_data : List ℕ → Data
 numbers_data ns = array (items_of (map (λ n. number (unsigned n)) ns))
+
+-- what is told of an answer besides its program
+abbrev pub told_members : Minified → Members
+told_members m = member (codes "kept") (numbers_data m.kept) (member (codes "passes") (number (unsigned m.passes)) (member (codes "settled") (boolean m.settled) (member (codes "symbols") (numbers_data m.symbols) no_members)))
 
 abbrev pub answer_data : Minified → Data
 answer_data m = object (member (codes "kept") (numbers_data m.kept) (member (codes "passes") (number (unsigned m.passes)) (member (codes "program") (view m.program) (member (codes "settled") (boolean m.settled) (member (codes "symbols") (numbers_data m.symbols) no_members)))))

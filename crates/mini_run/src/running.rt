@@ -1,9 +1,10 @@
 // From the bytes in to the bytes out.
 
-ghost use Rattle.std.specs.Prelude.{◌≡◌, ◌<◌, ◌≤◌, ℕ, List, length, IfSome, IfOk, IsErrOf, string_bytes, false};
-ghost use Rattle.mini_run.specs.Answer.{code_of, line_of, numbers_data, answer_text, answer_data, note_text, IsOutcome, IsDelivered, IsDue, IsTold, Gave, GaveMore, IsValidInput, IsAnswered};
+ghost use Rattle.std.specs.Prelude.{◌≡◌, ◌<◌, ◌≤◌, ℕ, List, length, IfSome, IfOk, OnOk, IsErrOf, string_bytes, false};
+ghost use Rattle.mini_run.specs.Answer.{code_of, line_of, numbers_data, told_members, answer_text, answer_data, note_text, IsOutcome, IsDelivered, IsDue, IsTold, Gave, GaveMore, IsValidInput, IsAnswered};
 ghost use Rattle.mini_run.specs.Causes.{Rose};
-ghost use Rattle.serde_json.specs.View.{view};
+ghost use Rattle.serde_json.specs.Data.{put as with_member};
+ghost use Rattle.serde_json.specs.View.{view, members_view};
 ghost use Rattle.serde_json.specs.Written.{has_float};
 ghost use Rattle.mini_text.specs.Faults.{fault_of};
 
@@ -11,9 +12,9 @@ use crate::choice::read_options;
 use crate::outside::{Sink, Source, Stopped, read_all, write_all};
 use crate::steps::Steps;
 use crate::words::Words;
-use mini_peephole::{Minified, MinifyError, minify_estree};
+use mini_peephole::{Minified, MinifyError, minify_value};
 use mini_tree::{CompressOptions, Numbers};
-use serde_json::{Value, json};
+use serde_json::{Map, Value, put};
 use std::alloc::{AllocError, Global};
 use std::marker::Brand;
 use std::sync::ledger::{Blank, Ledger};
@@ -90,18 +91,41 @@ fn numbers_value(alloc: Global, numbers: &Numbers) -> Result<Value, AllocError>
     Ok(Value::from(values))
 }
 
+fn put_numbers(
+    alloc: Global,
+    members: &mut Map<String, Value>,
+    key: &str,
+    numbers: &Numbers,
+) -> Result<(), AllocError>
+    ensures { OnOk result (members_view members.new.entries ≡ with_member key.now (numbers_data numbers.now) (members_view members.old.entries)) }
+{
+    let value = numbers_value(alloc, numbers)?;
+    put(members, alloc, key, value)
+}
+
+// All that is told of an answer besides its program.
+fn told(alloc: Global, minified: &Minified) -> Result<Map<String, Value>, AllocError>
+    ensures { IfOk result (λ members. members_view members.entries ≡ told_members minified.now) }
+{
+    let mut members = Map::new(alloc);
+    put_numbers(alloc, &mut members, "kept", &minified.kept)?;
+    put(&mut members, alloc, "passes", Value::from(minified.passes))?;
+    put(
+        &mut members,
+        alloc,
+        "settled",
+        Value::Bool(minified.settled),
+    )?;
+    put_numbers(alloc, &mut members, "symbols", &minified.symbols)?;
+    Ok(members)
+}
+
 fn answer_value(alloc: Global, minified: Minified) -> Result<Value, AllocError>
     ensures { IfOk result (λ value. view value ≡ answer_data minified) }
 {
-    let kept = numbers_value(alloc, &minified.kept)?;
-    let symbols = numbers_value(alloc, &minified.symbols)?;
-    json!(in alloc; {
-        "kept": kept,
-        "passes": minified.passes,
-        "program": minified.program,
-        "settled": minified.settled,
-        "symbols": symbols
-    })
+    let mut members = told(alloc, &minified)?;
+    put(&mut members, alloc, "program", minified.program)?;
+    Ok(Value::Object(members))
 }
 
 fn answer(alloc: Global, minified: Minified) -> Result<String, AllocError>
@@ -112,11 +136,14 @@ fn answer(alloc: Global, minified: Minified) -> Result<String, AllocError>
     line(alloc, &value)
 }
 
-fn settle(alloc: Global, input: &[u8], options: &CompressOptions) -> Outcome
-    requires { length input.now ≤ 16777216 }
-    ensures { IsOutcome options.now input.now result }
+// The bytes are let go as soon as their value is there, and the value as soon as it is read.
+fn settle(alloc: Global, input: Vec<u8>, options: &CompressOptions) -> Outcome
+    requires { length input.items ≤ 16777216 }
+    ensures { IsOutcome options.now input.items result }
 {
-    let value = match Value::from_slice(alloc, input) {
+    let read = Value::from_slice(alloc, &input);
+    drop(input);
+    let value = match read {
         Ok(value) => value,
         Err(error) => {
             if error.is_memory() {
@@ -125,9 +152,7 @@ fn settle(alloc: Global, input: &[u8], options: &CompressOptions) -> Outcome
             return Outcome::Unread;
         }
     };
-    let minified = minify_estree(alloc, &value, options);
-    drop(value);
-    match minified {
+    match minify_value(alloc, value, options) {
         Ok(minified) => match answer(alloc, minified) {
             Ok(text) => Outcome::Answer(text),
             Err(_) => Outcome::NoRoom,
@@ -168,13 +193,13 @@ fn tell<E: Sink>(notes: &mut E, line: &[u8])
 
 fn deliver<K: Sink, E: Sink>(
     alloc: Global,
-    input: &[u8],
+    input: Vec<u8>,
     options: &CompressOptions,
     sink: &mut K,
     notes: &mut E,
 ) -> Status
-    requires { length input.now ≤ 16777216 }
-    ensures { IsDelivered result options.now input.now
+    requires { length input.items ≤ 16777216 }
+    ensures { IsDelivered result options.now input.items
         (record { before = K.written sink.old; after = K.written sink.new; faults_before = K.faults sink.old; faults_after = K.faults sink.new })
         (record { before = E.written notes.old; after = E.written notes.new; faults_before = E.faults notes.old; faults_after = E.faults notes.new }) }
 {
@@ -236,7 +261,7 @@ pub fn run<S: Source, K: Sink, E: Sink>(
         None => return Status::BadWords,
     };
     match read_input::<S, Brand>(alloc, source, Blank::new(1)) {
-        Ok(input) => deliver(alloc, &input, &options, sink, notes),
+        Ok(input) => deliver(alloc, input, &options, sink, notes),
         Err(Stopped::Memory) => Status::OutOfMemory,
         Err(Stopped::Fault) => Status::ReadFault,
         Err(Stopped::TooLong) => Status::TooLong,

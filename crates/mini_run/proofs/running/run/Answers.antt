@@ -2,7 +2,7 @@ use Rattle.mini_run.proofs.Due.{due_of, answered_of}
 use Rattle.mini_run.proofs.running.run.Goals as goal
 
 pub returns-in-Ok-clause-due : goal.returns-in-Ok-clause-due
-returns-in-Ok-clause-due g c = due_of _ _ _ _ _ _ _ c.in-Some.ensures c.in-Ok.ensures.all (rw c.deref.ensures.value at c.deliver.ensures)
+returns-in-Ok-clause-due g c = due_of _ _ _ _ _ _ _ c.in-Some.ensures c.in-Ok.ensures.all c.deliver.ensures
 
 pub returns-in-Ok-clause-answered : goal.returns-in-Ok-clause-answered
 returns-in-Ok-clause-answered g c = answered_of _ _ _ _ _ (returns-in-Ok-clause-due g c)
