@@ -7,8 +7,8 @@
 // scripts (200) are generated (generate.js), and as many pieces of installed code are taken that something is rewritten in
 // (pieces.js). Each is run three times, with an outside that answers otherwise each time.
 //
-// Every name that a script doesn't declare is the outside's: reading and writing one, calling, and what is done to the objects
-// that it hands out, is an event with its operands. It calls the functions that it is handed, and those that a script
+// Every name that a script doesn't declare is the outside's: writing one, calling, and what is done to the objects that it hands
+// out, is an event with its operands. It calls the functions that it is handed, and those that a script
 // declares. A run ends by itself, by a throw, or after EVENTS events. The events must be the same in order, and how it ends.
 // The outside answers by what was asked before, so that two runs part no sooner than their events do. The text of a function is
 // the same for all, since it is of the source alone.
@@ -140,16 +140,19 @@ class Outside {
     this.record("threw", error);
   }
 
-  // The names of the outside, as the object of a `with`.
+  // The names of the outside, as the object of a `with`. That one is read is no event, since no accessor stands on the global
+  // object (docs/MODEL.md); what it holds is another object after each event, so that it is seen where a read moves past one.
   names() {
     const values = new Map();
     return new Proxy(Object.create(null), {
       has: (_, key) => typeof key === "string" && !OWN.includes(key) && key !== "judge",
       get: (_, key) => {
         if (key === Symbol.unscopables) return undefined;
-        this.record("read", key);
-        if (!values.has(key)) values.set(key, this.object(key));
-        return values.get(key);
+        const held = values.get(key);
+        if (held && held.since === this.events.length) return held.value;
+        const value = this.object(`${key}${this.events.length}`);
+        values.set(key, { value, since: this.events.length });
+        return value;
       },
       set: (_, key, value) => (this.record("write", key, value), true),
       deleteProperty: () => true,

@@ -27,7 +27,7 @@ function target(node) {
 }
 
 function key(node) {
-  return node.computed ? `[${expression(node.key)}]` : expression(node.key);
+  return node.computed ? `[${whole(node.key)}]` : expression(node.key);
 }
 
 function pair(node, value) {

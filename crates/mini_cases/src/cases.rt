@@ -1,113 +1,109 @@
 // Cases and their answers.
 
-use crate::answers::{answered, minified};
+use crate::answers::{minify, refuse};
 use crate::depth::{read_deep, write_deep};
-use crate::error::CaseError;
-use crate::lists::{expressions_by_steps, numbers_by_steps, statements_by_steps};
-use crate::literals::{cooked, escaped, joined, named, numeral, safe_number, shortened};
-use crate::memory::{code, options, run_in_memory, run_on_spaces, run_plain};
-use crate::sizes::sizes;
-use crate::weights::{expression_weight, statement_weights};
-use mini_estree::{Numbered, read_program, write_program};
+use crate::error::NoAnswer;
+use crate::lists::{change_nodes, change_numbers};
+use crate::literals::{cook_text, escape, join, name, number_text, safe_number, shorten};
+use crate::memory::{choose, code, run_in_memory, run_on_spaces, run_plain};
+use crate::nested::resolve_nested;
+use crate::weights::{weigh_expression, weigh_statement};
+use mini_estree::{Numbered, fits, read_program, write_program};
+use mini_model::{Position, StmtSeat};
 use mini_run::echoed;
+use mini_tree::seats;
+use mini_writer::{count_units, count_values};
 use serde_json::Value;
 use std::alloc::Global;
+use std::fmt::Write;
 
 // How deep the nodes of a value may nest where a case says nothing of it.
 const MAX_DEPTH: u32 = 30;
 
-/// The answer to a line.
-pub fn answer(alloc: Global, line: &str) -> Result<String, CaseError> {
-    let (word, rest) = line.split_once(' ').ok_or(CaseError::NoCase)?;
+/// Adds the answer to a line.
+pub fn answer(alloc: Global, line: &str, out: &mut String) -> Result<(), NoAnswer> {
+    let (word, rest) = line.split_once(' ').ok_or(NoAnswer)?;
     match word {
-        "#" => Ok(String::from_str(alloc, line)?),
-        "tell" => told(alloc, rest),
-        "numbers" => numbers(alloc, rest),
-        "again" => again(alloc, rest),
-        "echo" => Ok(echoed(alloc, String::from_str(alloc, rest)?)?),
-        "expression" => expression_weight(alloc, rest),
-        "statement" => statement_weights(alloc, rest),
-        "minify" => minified(alloc, rest),
-        "answer" => answered(alloc, rest),
-        _ => match part_answer(alloc, word, rest)? {
-            Some(answer) => Ok(answer),
-            None => run_answer(alloc, word, rest),
-        },
+        "#" => Ok(out.push_str(line)?),
+        "tell" => tell(alloc, rest, out),
+        "numbers" => count_numbers(alloc, rest, out),
+        "again" => write_again(alloc, rest, out),
+        "echo" => echo(alloc, rest, out),
+        "expression" => weigh_expression(alloc, rest, out),
+        "statement" => weigh_statement(alloc, rest, out),
+        "minify" => minify(alloc, rest, false, out),
+        "answer" => minify(alloc, rest, true, out),
+        "run" => run_in_memory(alloc, rest, out),
+        "plain" => run_plain(alloc, rest, out),
+        "spaces" => run_on_spaces(alloc, rest, out),
+        "options" => choose(alloc, rest, out),
+        "code" => code(rest, out),
+        _ => answer_part(alloc, word, rest, out),
     }
 }
 
-// The answer to a line that asks for a part of a library.
-fn part_answer(alloc: Global, word: &str, rest: &str) -> Result<Option<String>, CaseError> {
-    let answer = match word {
-        "text" => named(alloc, rest)?,
-        "shortened" => shortened(alloc, rest)?,
-        "numeral" => numeral(alloc, rest)?,
-        "safe" => safe_number(alloc, rest)?,
-        "escaped" => escaped(alloc, rest)?,
-        "cooked" => cooked(alloc, rest)?,
-        "joined" => joined(alloc, rest)?,
-        "sizes" => sizes(alloc, rest)?,
-        "list" => numbers_by_steps(alloc, rest)?,
-        "statements" => statements_by_steps(alloc, rest)?,
-        "expressions" => expressions_by_steps(alloc, rest)?,
-        "read" => read_deep(alloc, rest)?,
-        "write" => write_deep(alloc, rest)?,
-        _ => return Ok(None),
-    };
-    Ok(Some(answer))
+// Adds the answer to a line that asks for a part of a library.
+fn answer_part(alloc: Global, word: &str, rest: &str, out: &mut String) -> Result<(), NoAnswer> {
+    match word {
+        "text" => name(alloc, rest, out),
+        "shortened" => shorten(alloc, rest, out),
+        "numeral" => number_text(alloc, rest, out),
+        "safe" => safe_number(alloc, rest, out),
+        "escaped" => escape(alloc, rest, out),
+        "cooked" => cook_text(alloc, rest, out),
+        "joined" => join(alloc, rest, out),
+        "sizes" => sizes(alloc, rest, out),
+        "list" => change_numbers(alloc, rest, out),
+        "statements" => change_nodes(alloc, rest, Position::Stmt(StmtSeat::List), out),
+        "expressions" => change_nodes(alloc, rest, Position::Expr(seats::if_test()), out),
+        "read" => read_deep(alloc, rest, out),
+        "write" => write_deep(alloc, rest, out),
+        "nested" => resolve_nested(alloc, rest, out),
+        _ => Err(NoAnswer),
+    }
 }
 
-// The answer to a line that asks for a whole run.
-fn run_answer(alloc: Global, word: &str, rest: &str) -> Result<String, CaseError> {
-    match word {
-        "run" => run_in_memory(alloc, rest),
-        "plain" => run_plain(alloc, rest),
-        "spaces" => run_on_spaces(alloc, rest),
-        "options" => options(alloc, rest),
-        "code" => code(alloc, rest),
-        _ => Err(CaseError::NoCase),
-    }
+/// A number.
+pub fn number(text: &str) -> Result<u32, NoAnswer> {
+    text.parse::<u32>().map_err(|_| NoAnswer)
 }
 
 /// A number, and what stands behind it.
-pub fn numbered(text: &str) -> Result<(u32, &str), CaseError> {
-    let (number, rest) = text.split_once(' ').ok_or(CaseError::NoCase)?;
-    match number.parse::<u32>() {
-        Ok(number) => Ok((number, rest)),
-        Err(_) => Err(CaseError::NoCase),
-    }
+pub fn numbered(text: &str) -> Result<(u32, &str), NoAnswer> {
+    let (first, rest) = text.split_once(' ').ok_or(NoAnswer)?;
+    Ok((number(first)?, rest))
 }
 
 // Whether a value is read within a depth: `Ok`, or the error and the pointer of the node that has the defect.
-fn told(alloc: Global, text: &str) -> Result<String, CaseError> {
+fn tell(alloc: Global, text: &str, out: &mut String) -> Result<(), NoAnswer> {
     let (max_depth, text) = numbered(text)?;
     let value = Value::from_str(alloc, text)?;
     match read_program(alloc, &value, max_depth) {
-        Ok(_) => Ok(String::from_str(alloc, "Ok")?),
-        Err(error) => Ok(format!(in alloc; "{} {}", error.variant(), error.place())?),
+        Ok(_) => Ok(out.push_str("Ok")?),
+        Err(error) => refuse(&error, out),
     }
 }
 
 /// The program that a text says.
-pub fn program(alloc: Global, text: &str) -> Result<Numbered, CaseError> {
+pub fn program(alloc: Global, text: &str) -> Result<Numbered, NoAnswer> {
     let value = Value::from_str(alloc, text)?;
     Ok(read_program(alloc, &value, MAX_DEPTH)?)
 }
 
 // How many nodes of a program have a number.
-fn numbers(alloc: Global, text: &str) -> Result<String, CaseError> {
-    let found = program(alloc, text)?.numbers;
-    Ok(format!(in alloc; "{found}")?)
+fn count_numbers(alloc: Global, text: &str, out: &mut String) -> Result<(), NoAnswer> {
+    let found = program(alloc, text)?;
+    Ok(write!(out, "{}", found.numbers)?)
 }
 
 // What is written of the program that a text says.
-fn written(alloc: Global, text: &str) -> Result<String, CaseError> {
+fn written(alloc: Global, text: &str) -> Result<String, NoAnswer> {
     let found = program(alloc, text)?;
     Ok(write_program(alloc, &found.root)?.to_string(alloc)?)
 }
 
 // Whether what is written of a program reads as that program again.
-fn again(alloc: Global, text: &str) -> Result<String, CaseError> {
+fn write_again(alloc: Global, text: &str, out: &mut String) -> Result<(), NoAnswer> {
     let first = written(alloc, text)?;
     let second = written(alloc, first.as_str())?;
     let word = if first.as_str() == second.as_str() {
@@ -115,5 +111,18 @@ fn again(alloc: Global, text: &str) -> Result<String, CaseError> {
     } else {
         "another"
     };
-    Ok(String::from_str(alloc, word)?)
+    Ok(out.push_str(word)?)
+}
+
+// What is written of a program of any depth.
+fn echo(alloc: Global, text: &str, out: &mut String) -> Result<(), NoAnswer> {
+    let back = echoed(alloc, String::from_str(alloc, text)?)?;
+    Ok(out.push_str(back.as_str())?)
+}
+
+// How many values a value is made of, how many UTF-16 units its texts have, and whether it is small enough.
+fn sizes(alloc: Global, text: &str, out: &mut String) -> Result<(), NoAnswer> {
+    let value = Value::from_str(alloc, text)?;
+    let (values, units) = (count_values(&value), count_units(&value));
+    Ok(write!(out, "{values} {units} {}", fits(&value))?)
 }

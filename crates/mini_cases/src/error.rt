@@ -1,4 +1,4 @@
-// Why there is no answer.
+// That there is no answer.
 
 use mini_estree::MinifyError;
 use mini_run::EchoError;
@@ -6,57 +6,43 @@ use mini_text::OutOfMemory;
 use std::alloc::AllocError;
 use std::io;
 
-/// Why there is no answer.
-#[derive(Debug, Drop)]
-pub enum CaseError {
-    /// The line is no case.
-    NoCase,
-    /// The value is no JSON, or there was no memory for it.
-    NotJson,
-    /// The value is no program that is read.
-    Refused(MinifyError),
-    /// Reading or writing failed.
-    Outside,
-    /// No memory was left.
-    OutOfMemory,
-}
+/// There is no answer: the line is no case, or what it asks for failed. The program then ends with a status alone, so that
+/// nothing is kept of why.
+#[derive(Clone, Copy)]
+pub struct NoAnswer;
 
-impl From<serde_json::Error> for CaseError {
-    fn from(_error: serde_json::Error) -> CaseError {
-        CaseError::NotJson
+impl From<serde_json::Error> for NoAnswer {
+    fn from(_error: serde_json::Error) -> NoAnswer {
+        NoAnswer
     }
 }
 
-impl From<MinifyError> for CaseError {
-    fn from(error: MinifyError) -> CaseError {
-        CaseError::Refused(error)
+impl From<MinifyError> for NoAnswer {
+    fn from(_error: MinifyError) -> NoAnswer {
+        NoAnswer
     }
 }
 
-impl From<EchoError> for CaseError {
-    fn from(error: EchoError) -> CaseError {
-        match error {
-            EchoError::NotJson => CaseError::NotJson,
-            EchoError::Refused(error) => CaseError::Refused(error),
-            EchoError::OutOfMemory => CaseError::OutOfMemory,
-        }
+impl From<EchoError> for NoAnswer {
+    fn from(_error: EchoError) -> NoAnswer {
+        NoAnswer
     }
 }
 
-impl From<OutOfMemory> for CaseError {
-    fn from(_gone: OutOfMemory) -> CaseError {
-        CaseError::OutOfMemory
+impl From<OutOfMemory> for NoAnswer {
+    fn from(_gone: OutOfMemory) -> NoAnswer {
+        NoAnswer
     }
 }
 
-impl From<AllocError> for CaseError {
-    fn from(_gone: AllocError) -> CaseError {
-        CaseError::OutOfMemory
+impl From<AllocError> for NoAnswer {
+    fn from(_gone: AllocError) -> NoAnswer {
+        NoAnswer
     }
 }
 
-impl From<io::Error> for CaseError {
-    fn from(_error: io::Error) -> CaseError {
-        CaseError::Outside
+impl From<io::Error> for NoAnswer {
+    fn from(_error: io::Error) -> NoAnswer {
+        NoAnswer
     }
 }

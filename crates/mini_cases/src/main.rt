@@ -20,11 +20,11 @@ mod error;
 mod lists;
 mod literals;
 mod memory;
-mod sizes;
+mod nested;
 mod weights;
 
 use cases::answer;
-use error::CaseError;
+use error::NoAnswer;
 use mini_run::{echoed, same_json};
 use std::io::Write;
 use std::process::ExitCode;
@@ -49,19 +49,19 @@ fn main(rt: HostRuntime) -> ExitCode {
 }
 
 // What the words ask for, where the last one counts.
-fn asked(rt: &HostRuntime) -> Result<Task, CaseError> {
+fn asked(rt: &HostRuntime) -> Result<Task, NoAnswer> {
     let mut task = Task::Cases;
     for word in env::args(rt)?.skip(1) {
         task = match word.as_str() {
             "--echo" => Task::Echo,
             "--json" => Task::Json,
-            _ => return Err(CaseError::NoCase),
+            _ => return Err(NoAnswer),
         };
     }
     Ok(task)
 }
 
-fn start(rt: &HostRuntime) -> Result<(), CaseError> {
+fn start(rt: &HostRuntime) -> Result<(), NoAnswer> {
     let alloc = rt.alloc();
     let task = asked(rt)?;
     let text = io::read_to_string(alloc, rt.stdin())?;
@@ -74,9 +74,10 @@ fn start(rt: &HostRuntime) -> Result<(), CaseError> {
     Ok(())
 }
 
-fn answer_lines(rt: &HostRuntime, text: &str) -> Result<(), CaseError> {
+fn answer_lines(rt: &HostRuntime, text: &str) -> Result<(), NoAnswer> {
     for line in text.lines() {
-        let found = answer(rt.alloc(), line)?;
+        let mut found = String::new(rt.alloc());
+        answer(rt.alloc(), line, &mut found)?;
         println!(rt; "{found}")?;
     }
     Ok(())

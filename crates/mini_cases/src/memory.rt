@@ -1,9 +1,10 @@
 // Whole runs over memory: sources and sinks that fail, that move a few bytes a call, or that have little room.
 
-use crate::error::CaseError;
+use crate::error::NoAnswer;
 use mini_run::{MemSink, MemSource, PlainSink, PlainSource, Status, Words, read_options, run};
 use mini_text::OutOfMemory;
 use std::alloc::{AllocError, Global};
+use std::fmt::Write;
 
 /// What a run is over: how many bytes a call moves, for how many bytes the sink has room, and which calls fail.
 #[derive(Clone, Copy)]
@@ -19,11 +20,8 @@ struct Setting<'a> {
 const ROOM: usize = 1_000;
 
 // The number that a text is.
-fn number(text: &str) -> Result<usize, CaseError> {
-    match text.parse::<usize>() {
-        Ok(number) => Ok(number),
-        Err(_) => Err(CaseError::NoCase),
-    }
+fn size(text: &str) -> Result<usize, NoAnswer> {
+    text.parse::<usize>().map_err(|_| NoAnswer)
 }
 
 // The numbers between commas. What is no number, as a hyphen, stands for none.
@@ -48,9 +46,8 @@ fn bytes_of(alloc: Global, text: &str) -> Result<Vec<u8>, AllocError> {
     Ok(bytes)
 }
 
-// The words before a bar each, and what stands behind the last bar.
-fn words_of<'a>(alloc: Global, text: &'a str) -> Result<(Words, &'a str), CaseError> {
-    let mut words = Words::new(alloc);
+// Puts the words before a bar each behind the others, and gives what stands behind the last bar.
+fn push_words<'a>(words: &mut Words, text: &'a str) -> Result<&'a str, NoAnswer> {
     let mut last = None;
     for part in text.split('|') {
         if let Some(word) = last {
@@ -58,7 +55,7 @@ fn words_of<'a>(alloc: Global, text: &'a str) -> Result<(Words, &'a str), CaseEr
         }
         last = Some(part);
     }
-    Ok((words, last.unwrap_or("")))
+    Ok(last.unwrap_or(""))
 }
 
 // A source that gives the bytes of a text.
@@ -101,85 +98,88 @@ fn run_over(
     }
 }
 
-// The status, and how many bytes are left, written and told.
-fn counts(alloc: Global, ended: &Ended) -> Result<String, AllocError> {
-    let left = ended.source.left().len();
-    let written = ended.sink.written().len();
-    let told = ended.notes.written().len();
-    format!(in alloc; "{} {left} {written} {told}", ended.status.code())
+// The bytes behind a space, if there are any, without spaces and lines at their end.
+fn push_bytes(alloc: Global, bytes: &[u8], out: &mut String) -> Result<(), NoAnswer> {
+    if bytes.is_empty() {
+        return Ok(());
+    }
+    let text = String::from_utf8_lossy(alloc, bytes)?;
+    Ok(write!(out, " {}", text.as_str().trim_end())?)
 }
 
-// The same, and which bytes were written or told.
-fn summary(alloc: Global, ended: &Ended) -> Result<String, AllocError> {
-    let mut answer = counts(alloc, ended)?;
-    answer.push(' ')?;
-    answer.push_str(String::from_utf8_lossy(alloc, ended.sink.written())?.as_str())?;
-    answer.push_str(String::from_utf8_lossy(alloc, ended.notes.written())?.as_str())?;
-    String::from_str(alloc, answer.as_str().trim_end())
+// The status, how many bytes are left, written and told, and which were written or told.
+fn tell(alloc: Global, ended: &Ended, out: &mut String) -> Result<(), NoAnswer> {
+    let (written, told) = (ended.sink.written(), ended.notes.written());
+    write!(
+        out,
+        "{} {} {} {}",
+        ended.status.code(),
+        ended.source.left().len(),
+        written.len(),
+        told.len()
+    )?;
+    push_bytes(alloc, written, out)?;
+    push_bytes(alloc, told, out)
 }
 
-// How a run over memory ended.
-fn answer_of(
+// A run over memory on words and an input.
+fn run_setting(
     alloc: Global,
     setting: Setting,
     words: &Words,
     input: &str,
-) -> Result<String, CaseError> {
+) -> Result<Ended, NoAnswer> {
     let source = source_of(alloc, input, setting)?;
     let sink = sink_of(alloc, setting.room, setting.limit, setting.writes)?;
     let notes = sink_of(alloc, ROOM, setting.limit, setting.notes)?;
-    let ended = run_over(alloc, words, source, sink, notes);
-    Ok(summary(alloc, &ended)?)
+    Ok(run_over(alloc, words, source, sink, notes))
 }
 
 /// A run over a limit of bytes a call, a room, the calls that fail of the source, of the sink and of the notes, and behind
 /// them words, each with a bar behind it, and the input, of which each character is the byte of its number.
-pub fn run_in_memory(alloc: Global, text: &str) -> Result<String, CaseError> {
+pub fn run_in_memory(alloc: Global, text: &str, out: &mut String) -> Result<(), NoAnswer> {
     let mut parts = text.splitn(6, ' ');
     let setting = Setting {
-        limit: number(parts.next().unwrap_or(""))?,
-        room: number(parts.next().unwrap_or(""))?,
+        limit: size(parts.next().unwrap_or(""))?,
+        room: size(parts.next().unwrap_or(""))?,
         reads: parts.next().unwrap_or(""),
         writes: parts.next().unwrap_or(""),
         notes: parts.next().unwrap_or(""),
     };
-    match words_of(alloc, parts.next().unwrap_or("")) {
-        Ok((words, input)) => answer_of(alloc, setting, &words, input),
-        Err(error) => Err(error),
-    }
+    let mut words = Words::new(alloc);
+    let input = push_words(&mut words, parts.next().unwrap_or(""))?;
+    let ended = run_setting(alloc, setting, &words, input)?;
+    tell(alloc, &ended, out)
 }
 
 // The code of the status, and how many bytes were written and told, where nothing fails.
-fn plainly(alloc: Global, input: Vec<u8>) -> Result<String, CaseError> {
+fn run_plainly(alloc: Global, input: Vec<u8>, out: &mut String) -> Result<(), NoAnswer> {
     let mut source = PlainSource::new(input);
     let mut sink = PlainSink::new();
     let mut notes = PlainSink::new();
-    let status = run(
-        alloc,
-        &Words::new(alloc),
-        &mut source,
-        &mut sink,
-        &mut notes,
-    );
-    Ok(format!(in alloc; "{} {} {}", status.code(), sink.taken(), notes.taken())?)
+    let words = Words::new(alloc);
+    let status = run(alloc, &words, &mut source, &mut sink, &mut notes);
+    Ok(write!(out, "{} {} {}", status.code(), sink.taken(), notes.taken())?)
 }
 
 /// A run on an input whose calls move all that they can.
-pub fn run_plain(alloc: Global, input: &str) -> Result<String, CaseError> {
-    plainly(alloc, Vec::from_slice(alloc, input.as_bytes())?)
+pub fn run_plain(alloc: Global, input: &str, out: &mut String) -> Result<(), NoAnswer> {
+    run_plainly(alloc, Vec::from_slice(alloc, input.as_bytes())?, out)
 }
 
 /// The same on so many spaces.
-pub fn run_on_spaces(alloc: Global, count: &str) -> Result<String, CaseError> {
-    let count = number(count)?;
-    plainly(alloc, vec![in alloc; b' '; count]?)
+pub fn run_on_spaces(alloc: Global, count: &str, out: &mut String) -> Result<(), NoAnswer> {
+    let count = size(count)?;
+    run_plainly(alloc, vec![in alloc; b' '; count]?, out)
 }
 
 /// The options that words choose, each with a bar behind it.
-pub fn options(alloc: Global, text: &str) -> Result<String, CaseError> {
-    let (words, _) = words_of(alloc, text)?;
+pub fn choose(alloc: Global, text: &str, out: &mut String) -> Result<(), NoAnswer> {
+    let mut words = Words::new(alloc);
+    let _ = push_words(&mut words, text)?;
     match read_options(&words) {
-        Some(found) => Ok(format!(in alloc;
+        Some(found) => Ok(write!(
+            out,
             "{} {} {} {} {} {} {} {}",
             found.passes,
             found.max_depth,
@@ -190,7 +190,7 @@ pub fn options(alloc: Global, text: &str) -> Result<String, CaseError> {
             found.pure_coercion,
             found.known_calls
         )?),
-        None => Ok(String::from_str(alloc, "None")?),
+        None => Ok(out.push_str("None")?),
     }
 }
 
@@ -206,7 +206,9 @@ const STATUSES: [Status; 8] = [
 ];
 
 /// The code of the status at a place of the table of the README.
-pub fn code(alloc: Global, at: &str) -> Result<String, CaseError> {
-    let status = STATUSES.get(number(at)?).ok_or(CaseError::NoCase)?;
-    Ok(format!(in alloc; "{} {status:?}", status.code())?)
+pub fn code(at: &str, out: &mut String) -> Result<(), NoAnswer> {
+    match STATUSES.get(size(at)?) {
+        Some(status) => Ok(write!(out, "{} {status:?}", status.code())?),
+        None => Err(NoAnswer),
+    }
 }
