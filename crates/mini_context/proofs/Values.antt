@@ -1,9 +1,9 @@
 -- The walk that lists scopes and adds what `var`s write.
 use Rattle.std.specs.Prelude.{ℕ, zero, suc, ◌+◌, ◌≡◌, ◌≤◌, ◌<◌, refl, Bool, false, List, [], ◌∷◌, ◌++◌, length, map, take}
 use Rattle.std.proofs.Common.{ap, ◌∙◌, sym, subst, arith, add-one}
-use Rattle.std.proofs.lemmas.List.{length-append, take-append-le, take_all}
+use Rattle.std.proofs.lemmas.List.{append-nil, length-append, take-append-le, take_all}
 use Rattle.mini_model.specs.declared.shape.Shape.{Shape}
-use Rattle.mini_model.specs.Tree.{Tree, Trees, node, count, shape_of, children, child_or_absent, first_or_absent}
+use Rattle.mini_model.specs.Tree.{Tree, Trees, node, none, ◌▸◌, count, shape_of, children, child_or_absent, first_or_absent}
 use Rattle.mini_node.specs.Children.{number_of, rest_children, trees_of}
 use Rattle.mini_node.specs.Walks.{from_first}
 use Rattle.mini_names.specs.declared.Use.{Use}
@@ -121,6 +121,17 @@ node_lists u strict n o a c e l = opens u strict n o (shape_of n) (is_strict_in 
 values_opened : (u : Use) (env : Environment) (a : Around) (n : Tree) → map (write_at env a) (given_values u (shape_of n) (children n)) ++ var_writes_from (opened u (shape_of n) (children n)) (use_of (shape_of n) u) (around_child (shape_of n) a (number_of n)) 0 env (children n) ≡ var_writes u env a n
 unfolding var_writes
 values_opened u env a (node h xs k ts) = refl
+
+-- a node without children
+pub leaf_lists : (u : Use) (strict : Bool) (n : Tree) (a : ScopeTables) → count (children n) ≡ 0 → Listed (scope_list u strict n) a a
+unfolding scope_list
+leaf_lists u strict (node h xs k none) a e = lists_add.nothing a
+leaf_lists u strict (node h xs k (t ▸ ts)) a e = absurd (omega arith)
+
+pub leaf_joins : (u : Use) (env : Environment) (a : Around) (n : Tree) (g g' : List Mentioned) → count (children n) ≡ 0 → Joined (map (write_at env a) (given_values u (shape_of n) (children n))) g g' → Joined (var_writes u env a n) g g'
+unfolding var_writes
+leaf_joins u env a (node h xs k none) g g' e j = subst (λ r. Joined r g g') (sym (append-nil (map (write_at env a) (given_values u h none)))) j
+leaf_joins u env a (node h xs k (t ▸ ts)) g g' e j = absurd (omega arith)
 
 pub node_joins : (u : Use) (env : Environment) (a : Around) (n : Tree) (o : OpenScopes) (g g' g'' : List Mentioned) → scope_at o ≡ opened u (shape_of n) (children n) → Joined (map (write_at env a) (given_values u (shape_of n) (children n))) g g' → Joined (var_writes_from (scope_at o) (use_of (shape_of n) u) (around_child (shape_of n) a (number_of n)) 0 env (children n)) g' g'' → Joined (var_writes u env a n) g g''
 node_joins u env a n o g g' g'' e j k =

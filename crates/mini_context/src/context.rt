@@ -15,7 +15,7 @@ use std::mem;
 use std::sync::ledger::{Blank, Ledger};
 
 /// Where a node stands: its position, and the number of the body in which it does.
-#[derive(Clone, Copy, Debug, PartialEq, Eq)]
+#[derive(Clone, Copy)]
 pub struct Parent {
     /// The place that the node's parent gives it.
     pub position: Position,

@@ -10,6 +10,7 @@ use crate::refreshing::refresh;
 use mini_model::{Name, Shape};
 use mini_node::Node;
 use mini_text::OutOfMemory;
+use mini_tree::CompressOptions;
 use mini_walk::Context;
 use std::alloc::Global;
 
@@ -41,6 +42,10 @@ impl Context for TraverseCtx {
     ghost use Rattle.mini_context.specs.Known.{Knows};
 
     ghost knows = { Knows };
+
+    fn options(&self) -> CompressOptions {
+        self.options
+    }
 
     // References are counted in 32 bits, so that memory counts as run out where there are more.
     fn refresh(&mut self, alloc: Global, program: &Node) -> Result<(), OutOfMemory> {

@@ -21,7 +21,7 @@ use crate::strictness::is_strict_in;
 use mini_model::{Name, Shape, SymbolId};
 use mini_names::Binding;
 use mini_node::{Node, Nodes};
-use mini_scope::{Environment, OpenScopes};
+use mini_scope::{Environment, OpenScopes, is_leaf};
 use mini_text::OutOfMemory;
 use std::alloc::Global;
 
@@ -243,6 +243,9 @@ pub fn list_scopes(
     ensures left { OnOk result (environment.new ≡ environment.old) }
 {
     join_values(alloc, given, environment, reading, node)?;
+    if is_leaf(node) {
+        return Ok(());
+    }
     let scopes = OpenScopes::of(alloc, reading.usage, node)?;
     let around = environment.len();
     list_below(

@@ -14,7 +14,7 @@ use serde_json::{Number, Value};
 const MAX_SAFE_INTEGER: u64 = 9_007_199_254_740_991;
 
 /// What a literal is.
-#[derive(Clone, Copy, Debug)]
+#[derive(Clone, Copy)]
 pub enum LiteralValue<'v> {
     RegExp { pattern: &'v str, flags: &'v str },
     /// The digits of a BigInt.

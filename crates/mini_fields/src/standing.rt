@@ -3,9 +3,10 @@
 ghost use Rattle.std.specs.Prelude.{◌≡◌, Bool, None, Some, map};
 ghost use Rattle.serde_json.specs.View.{view, items_view};
 ghost use Rattle.mini_accept.specs.Fields.{is_one_of, has_one_of, kind_of};
-ghost use Rattle.mini_accept.specs.Standing.{is_expression, is_identifier, is_block, is_variable, is_pattern, is_default, has_true, is_member_target, is_method, is_head_by, is_head, is_piece, is_statement_in, stands_as, may_stand, begins_with, has_unread_type, is_nested, is_key, is_unread, is_misplaced};
+ghost use Rattle.mini_accept.specs.Standing.{statement_types, is_expression, is_identifier, is_block, is_variable, is_pattern, is_default, has_true, is_member_target, is_method, is_head_by, is_head, is_piece, is_statement_in, stands_as, may_stand, begins_with, has_unread_type, is_nested, is_key, is_unread, is_misplaced};
 ghost use Rattle.mini_fields.specs.declared.place.Class.TheVariants as class;
 ghost use Rattle.mini_fields.specs.Unread.{is_foreign, is_for_text, is_literal, is_function_declaration, has_unread_field_of, is_unread_itself, is_unread_at, is_unread_of};
+ghost use Rattle.mini_fields.specs.Stands.{is_expression_kind, is_statement_kind, is_pattern_kind, is_identifier_kind, is_block_kind};
 ghost use Rattle.mini_fields.specs.Views.{depth_of, class_of, place_of, letters_of};
 
 use crate::kind::kind_of;
@@ -345,6 +346,187 @@ pub fn may_stand(place: Place, value: &Value) -> bool
     }
 }
 
+// Whether nodes of the type are expressions.
+fn is_expression_kind(kind: Kind) -> bool
+    ensures { result ≡ is_expression_kind kind }
+{
+    match kind {
+        Kind::Identifier
+        | Kind::Literal
+        | Kind::ThisExpression
+        | Kind::ArrayExpression
+        | Kind::ObjectExpression
+        | Kind::FunctionExpression
+        | Kind::ArrowFunctionExpression
+        | Kind::ClassExpression
+        | Kind::UnaryExpression
+        | Kind::UpdateExpression
+        | Kind::BinaryExpression
+        | Kind::LogicalExpression
+        | Kind::AssignmentExpression
+        | Kind::ConditionalExpression
+        | Kind::SequenceExpression
+        | Kind::CallExpression
+        | Kind::NewExpression
+        | Kind::MemberExpression
+        | Kind::ChainExpression
+        | Kind::YieldExpression
+        | Kind::TemplateLiteral
+        | Kind::TaggedTemplateExpression
+        | Kind::MetaProperty
+        | Kind::ImportExpression => true,
+        _ => false,
+    }
+}
+
+// Whether nodes of the type are statements.
+fn is_statement_kind(kind: Kind) -> bool
+    ensures { result ≡ is_statement_kind kind }
+{
+    match kind {
+        Kind::ExpressionStatement
+        | Kind::EmptyStatement
+        | Kind::DebuggerStatement
+        | Kind::BlockStatement
+        | Kind::LabeledStatement
+        | Kind::BreakStatement
+        | Kind::ContinueStatement
+        | Kind::ReturnStatement
+        | Kind::ThrowStatement
+        | Kind::IfStatement
+        | Kind::SwitchStatement
+        | Kind::TryStatement
+        | Kind::WhileStatement
+        | Kind::DoWhileStatement
+        | Kind::ForStatement
+        | Kind::ForInStatement
+        | Kind::ForOfStatement
+        | Kind::VariableDeclaration
+        | Kind::FunctionDeclaration
+        | Kind::ClassDeclaration => true,
+        _ => false,
+    }
+}
+
+// Whether nodes of the type are names and patterns without a default.
+fn is_pattern_kind(kind: Kind) -> bool
+    ensures { result ≡ is_pattern_kind kind }
+{
+    match kind {
+        Kind::Identifier | Kind::ObjectPattern | Kind::ArrayPattern => true,
+        _ => false,
+    }
+}
+
+// Whether nodes of the type are identifiers.
+fn is_identifier_kind(kind: Kind) -> bool
+    ensures { result ≡ is_identifier_kind kind }
+{
+    match kind {
+        Kind::Identifier => true,
+        _ => false,
+    }
+}
+
+// Whether nodes of the type are blocks.
+fn is_block_kind(kind: Kind) -> bool
+    ensures { result ≡ is_block_kind kind }
+{
+    match kind {
+        Kind::BlockStatement => true,
+        _ => false,
+    }
+}
+
+// Whether a value of the type is an expression.
+fn is_expression_of(kind: Kind, value: &Value) -> bool
+    requires { kind_of (view value.now) ≡ Some kind }
+    ensures { result ≡ is_expression (view value.now) }
+{
+    is_expression_kind(kind)
+}
+
+// Whether a value of the type is a statement that may stand in any body.
+fn is_statement_of(kind: Kind, value: &Value) -> bool
+    requires { kind_of (view value.now) ≡ Some kind }
+    ensures { result ≡ has_one_of statement_types (view value.now) }
+{
+    is_statement_kind(kind)
+}
+
+// Whether a value of the type is a name or a pattern without a default.
+fn is_pattern_of(kind: Kind, value: &Value) -> bool
+    requires { kind_of (view value.now) ≡ Some kind }
+    ensures { result ≡ is_pattern (view value.now) }
+{
+    is_pattern_kind(kind)
+}
+
+// Whether a value of the type is an identifier.
+fn is_identifier_of(kind: Kind, value: &Value) -> bool
+    requires { kind_of (view value.now) ≡ Some kind }
+    ensures { result ≡ is_identifier (view value.now) }
+{
+    is_identifier_kind(kind)
+}
+
+// Whether a value of the type is a block.
+fn is_block_of(kind: Kind, value: &Value) -> bool
+    requires { kind_of (view value.now) ≡ Some kind }
+    ensures { result ≡ is_block (view value.now) }
+{
+    is_block_kind(kind)
+}
+
+// Whether a value of the type is a statement that may stand in such a body.
+fn is_statement_of_in(depth: Depth, kind: Kind, value: &Value) -> bool
+    requires { kind_of (view value.now) ≡ Some kind }
+    ensures { result ≡ is_statement_in (depth_of depth) (view value.now) }
+{
+    match depth {
+        Depth::InModule => is_statement_of(kind, value) || has_one_of(&MODULE_TYPES, value),
+        Depth::InBody => is_statement_of(kind, value),
+        Depth::Nested => is_statement_of(kind, value),
+    }
+}
+
+// Whether a value of the type may stand where this class is asked for: most classes ask for the type alone.
+fn stands_by(class: Class, kind: Kind, value: &Value) -> bool
+    requires { kind_of (view value.now) ≡ Some kind }
+    ensures { result ≡ stands_as (class_of class) (view value.now) }
+{
+    match class {
+        Class::Expression | Class::Link | Class::Key(true) => is_expression_of(kind, value),
+        Class::Statement(depth) => is_statement_of_in(depth, kind, value),
+        Class::Block | Class::FunctionBody => is_block_of(kind, value),
+        Class::ArrowBody => is_block_of(kind, value) || is_expression_of(kind, value),
+        Class::Init => is_variable(value) || is_expression_of(kind, value),
+        Class::Argument => has_type("SpreadElement", value) || is_expression_of(kind, value),
+        Class::Pattern | Class::ElementTarget => is_pattern_of(kind, value),
+        Class::PatternElement | Class::Parameter | Class::TargetElement => {
+            is_pattern_of(kind, value) || is_default(value)
+        }
+        Class::Binding | Class::Label | Class::TargetName => is_identifier_of(kind, value),
+        Class::Key(false) | Class::InnerKey => {
+            is_identifier_of(kind, value) || is_key_literal(value)
+        }
+        Class::Target => is_pattern_of(kind, value) || is_member_target(value),
+        Class::SimpleTarget => is_identifier_of(kind, value) || is_member_target(value),
+        _ => stands_as(class, value),
+    }
+}
+
+/// Whether a node of this type is one that may stand in the place.
+pub fn may_stand_by(place: Place, kind: Kind, value: &Value) -> bool
+    requires { kind_of (view value.now) ≡ Some kind }
+    ensures { result ≡ may_stand (place_of place) (view value.now) }
+{
+    match place {
+        Place::At(class) => stands_by(class, kind, value),
+        _ => may_stand(place, value),
+    }
+}
+
 // ---- forms that aren't read
 
 // Whether the text begins with the other one.
@@ -504,15 +686,18 @@ pub fn is_unread(strict: bool, place: Place, kind: Kind, value: &Value) -> bool
 }
 
 /// Whether the value is a defect of the node above: it is no object, or has another type than the place asks for.
-#[tactic(auto, using(crate::proofs::Typed::unknown_stands))]
+#[tactic(auto, using(crate::proofs::Typed::unknown_stands, crate::proofs::Stands::stands_placed, crate::proofs::Stands::stands_nowhere))]
 pub fn is_misplaced(strict: bool, place: Place, value: &Value) -> bool
     ensures { result ≡ is_misplaced strict (place_of place) (view value.now) }
 {
     if !value.is_object() {
         return true;
     }
-    match kind_of(value) {
-        None => false,
-        Some(kind) => { !is_unread(strict, place, kind, value) && !may_stand(place, value) }
+    let Some(kind) = kind_of(value) else {
+        return false;
+    };
+    if may_stand_by(place, kind, value) {
+        return false;
     }
+    !is_unread(strict, place, kind, value)
 }

@@ -17,7 +17,7 @@ use Rattle.mini_model.specs.declared.seat.Guard.TheVariants as guard
 use Rattle.mini_model.specs.declared.shape.Shape.{Shape}
 use Rattle.mini_model.specs.declared.shape.Shape.TheVariants as shape
 pub use Rattle.mini_model.specs.declared.place.Position.{Position}
-pub use Rattle.mini_model.specs.declared.place.Position.TheVariants.{Expr, Stmt, Target, Method, Unwritten, StatementList, ArgumentList, SequenceList, TemplateList, CommaList, Elsewhere}
+pub use Rattle.mini_model.specs.declared.place.Position.TheVariants.{Expr, Stmt, Target, Method, Unwritten, StatementList, BodyList, ArgumentList, SequenceList, TemplateList, CommaList, Elsewhere}
 
 -- a seat with no mark
 abbrev pub seat_of_level : ℕ → Seat
@@ -244,6 +244,7 @@ part_seat s n i = if nat_eq (suc i) n then branch_seat s else passed_part_seat
 -- the item at a place of a list of n items
 abbrev pub item_position : Position → ℕ → ℕ → Position
 item_position StatementList n i = Stmt stmt_seat.List
+item_position BodyList n i = Stmt stmt_seat.List
 item_position ArgumentList n i = Expr argument_seat
 item_position (SequenceList s) n i = Expr (part_seat s n i)
 item_position TemplateList n i = Expr whole_seat
@@ -278,7 +279,7 @@ child_position shape.VariableDeclarator p n i = first_rest Elsewhere (Expr argum
 -- functions and classes
 child_position (shape.Function d g ds) p n i = first_second_rest Elsewhere CommaList Elsewhere i
 child_position (shape.ArrowFunctionExpression ds) p n i = first_rest CommaList (Expr argument_seat) i
-child_position shape.FunctionBody p n i = StatementList
+child_position shape.FunctionBody p n i = BodyList
 child_position (shape.Class d) p n i = class_position i
 child_position (shape.MethodDefinition k computed is_static) p n i = first_rest (key_position computed) Method i
 child_position (shape.PropertyDefinition computed is_static) p n i = first_rest (key_position computed) (Expr argument_seat) i

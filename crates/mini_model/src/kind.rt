@@ -1,5 +1,5 @@
 /// How a declaration declares its names (ECMA-262, "Let and Const Declarations" and "Variable Statement").
-#[derive(Clone, Copy, Debug, PartialEq, Eq)]
+#[derive(Clone, Copy, PartialEq, Eq)]
 pub enum VariableDeclarationKind {
     /// `var`
     Var,
@@ -10,7 +10,7 @@ pub enum VariableDeclarationKind {
 }
 
 /// What a property of an object literal is (ECMA-262, "Object Initializer"). A method is an `Init`.
-#[derive(Clone, Copy, Debug, PartialEq, Eq)]
+#[derive(Clone, Copy, PartialEq, Eq)]
 pub enum PropertyKind {
     /// A value, or a method.
     Init,
@@ -21,7 +21,7 @@ pub enum PropertyKind {
 }
 
 /// What a method of a class is (ECMA-262, "Method Definitions").
-#[derive(Clone, Copy, Debug, PartialEq, Eq)]
+#[derive(Clone, Copy, PartialEq, Eq)]
 pub enum MethodDefinitionKind {
     /// The class's constructor.
     Constructor,
@@ -34,7 +34,7 @@ pub enum MethodDefinitionKind {
 }
 
 /// A meta property (ECMA-262, "Meta Properties").
-#[derive(Clone, Copy, Debug, PartialEq, Eq)]
+#[derive(Clone, Copy, PartialEq, Eq)]
 pub enum MetaPropertyKind {
     /// `new.target`
     NewTarget,

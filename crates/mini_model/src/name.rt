@@ -3,7 +3,7 @@ ghost use Rattle.std.specs.Prelude.{◌≡◌};
 use mini_text::Text;
 
 /// The number of a symbol: one declared name of the program, whatever its spelling.
-#[derive(Clone, Copy, Debug, PartialEq, Eq)]
+#[derive(Clone, Copy, PartialEq, Eq)]
 pub struct SymbolId(pub u32);
 
 /// A name where it stands in a node: its spelling, and its symbol where a scope declares it. A name without a symbol

@@ -1,5 +1,5 @@
 /// The operator of a unary expression (ECMA-262, "Unary Operators").
-#[derive(Clone, Copy, Debug, PartialEq, Eq)]
+#[derive(Clone, Copy, PartialEq, Eq)]
 pub enum UnaryOperator {
     /// `+`
     UnaryPlus,
@@ -18,7 +18,7 @@ pub enum UnaryOperator {
 }
 
 /// The operator of an update (ECMA-262, "Update Expressions").
-#[derive(Clone, Copy, Debug, PartialEq, Eq)]
+#[derive(Clone, Copy, PartialEq, Eq)]
 pub enum UpdateOperator {
     /// `++`
     Increment,
@@ -27,7 +27,7 @@ pub enum UpdateOperator {
 }
 
 /// The operator of a binary expression, from "Exponentiation Operator" to "Binary Bitwise Operators" in ECMA-262.
-#[derive(Clone, Copy, Debug, PartialEq, Eq)]
+#[derive(Clone, Copy, PartialEq, Eq)]
 pub enum BinaryOperator {
     /// `==`
     Equality,
@@ -76,7 +76,7 @@ pub enum BinaryOperator {
 }
 
 /// The operator of a logical expression (ECMA-262, "Binary Logical Operators").
-#[derive(Clone, Copy, Debug, PartialEq, Eq)]
+#[derive(Clone, Copy, PartialEq, Eq)]
 pub enum LogicalOperator {
     /// `||`
     Or,
@@ -87,7 +87,7 @@ pub enum LogicalOperator {
 }
 
 /// The operator of an assignment (ECMA-262, "Assignment Operators").
-#[derive(Clone, Copy, Debug, PartialEq, Eq)]
+#[derive(Clone, Copy, PartialEq, Eq)]
 pub enum AssignmentOperator {
     /// `=`
     Assign,

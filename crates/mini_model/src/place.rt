@@ -2,7 +2,7 @@ use crate::seat::{Seat, StmtSeat};
 
 /// Where a node stands, which its parent's shape and place, how many children there are and its index tell
 /// (`specs/Position.antt`).
-#[derive(Clone, Copy, Debug, PartialEq, Eq)]
+#[derive(Clone, Copy)]
 pub enum Position {
     /// An expression in its seat. The head of a `for` may hold a declaration there, and the place of an arrow's body its
     /// statements.
@@ -17,6 +17,8 @@ pub enum Position {
     Unwritten,
     /// A list of statements.
     StatementList,
+    /// The statements of a function's body, after which it returns.
+    BodyList,
     /// A list of expressions with commas between them.
     ArgumentList,
     /// The parts of a sequence in its seat.

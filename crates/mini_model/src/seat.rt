@@ -1,6 +1,6 @@
 /// Which neighbours of a logical expression want parentheses round it (ECMA-262, "Binary Logical Operators":
 /// `??` and `&&` or `||` stand in one another in parentheses alone).
-#[derive(Clone, Copy, Debug, PartialEq, Eq)]
+#[derive(Clone, Copy)]
 pub enum Mix {
     /// None.
     None,
@@ -11,7 +11,7 @@ pub enum Mix {
 }
 
 /// What a seat reads beside the value: the reference of a callee, of `delete` or of `typeof`.
-#[derive(Clone, Copy, Debug, PartialEq, Eq)]
+#[derive(Clone, Copy)]
 pub enum Guard {
     /// The value alone.
     None,
@@ -24,7 +24,7 @@ pub enum Guard {
 }
 
 /// How an expression stands in its parent.
-#[derive(Clone, Copy, Debug, PartialEq, Eq)]
+#[derive(Clone, Copy)]
 pub struct Seat {
     /// The least level that needs no parentheses here, from 0 (a sequence) to 16 (a primary expression).
     pub level: u8,
@@ -51,7 +51,7 @@ pub struct Seat {
 }
 
 /// How a statement stands in its parent.
-#[derive(Clone, Copy, Debug, PartialEq, Eq)]
+#[derive(Clone, Copy)]
 pub enum StmtSeat {
     /// An item of a list of statements.
     List,

@@ -1,5 +1,5 @@
 -- Trees are the same exactly where they are equal.
-use Rattle.std.proofs.Common.{◌≡◌, ℕ, suc, ◌+◌, ◌<◌, ◌≤◌, Bool, true, false, List, refl, sym, ap, ◌∙◌, subst, arith, rules}
+use Rattle.std.proofs.Common.{◌≡◌, ℕ, suc, ◌+◌, ◌<◌, ◌≤◌, Bool, true, false, List, [], ◌∷◌, get_or, refl, sym, ap, ◌∙◌, subst, arith, rules}
 use Rattle.std.specs.Prelude.{◌&&◌, nat_eq}
 use Rattle.std.specs.Bool.{Decides}
 use Rattle.std.specs.Str.{bytes_eq}
@@ -8,11 +8,12 @@ use Rattle.std.proofs.lemmas.Slice.Eq.{bytes_eq-Decides}
 use base.Stored.{Gv, gnil, gnum, gcons}
 use Rattle.mini_model.specs.declared.name.Name.{Name}
 use Rattle.mini_model.specs.declared.shape.Shape.{Shape}
+use Rattle.mini_model.specs.declared.shape.Shape.TheVariants as shape
 use Rattle.mini_model.specs.contracts.shape.Shape as shape'
 use Rattle.mini_model.specs.Tree.{Tree, Trees, node, none, ◌▸◌, count, child_or_absent, children}
 use Rattle.mini_node.specs.Children.{rest_children}
 use Rattle.mini_node.specs.Walks.{from_first, next_child, no_rest}
-use Rattle.mini_node.specs.Equal.{same_code, same_shape, names_code, same_names, same_root, same_tree, same_trees, SameIsEqual, EachIsItself}
+use Rattle.mini_node.specs.Equal.{plain_number, same_code, same_shape, names_code, same_names, same_root, same_tree, same_trees, SameIsEqual, EachIsItself}
 
 both : (a b : Bool) → a ≡ true → b ≡ true → (a && b) ≡ true
 both a b e f = ap (λ c. c && b) e ∙ f
@@ -54,6 +55,82 @@ names_same xs ys e = names_code.inj xs ys (code_same (names_code.code xs) (names
 names_itself : (xs : List Name) → same_names xs xs ≡ true
 unfolding same_names
 names_itself xs = code_itself (names_code.code xs)
+
+-- ---- shapes without fields
+
+plain_shapes : List Shape
+plain_shapes = shape.Absent ∷ shape.Absent ∷ shape.Listed ∷ shape.InnerExpression ∷ shape.ExpressionStatement ∷ shape.EmptyStatement ∷ shape.DebuggerStatement ∷ shape.BlockStatement ∷ shape.LabeledStatement ∷ shape.BreakStatement ∷ shape.ContinueStatement ∷ shape.ReturnStatement ∷ shape.ThrowStatement ∷ shape.IfStatement ∷ shape.SwitchStatement ∷ shape.SwitchCase ∷ shape.TryStatement ∷ shape.CatchClause ∷ shape.WhileStatement ∷ shape.DoWhileStatement ∷ shape.ForStatement ∷ shape.ForInStatement ∷ shape.ForOfStatement ∷ shape.VariableDeclarator ∷ shape.FunctionBody ∷ shape.ClassBody ∷ shape.StaticBlock ∷ shape.ImportDeclaration ∷ shape.ImportSpecifier ∷ shape.ImportDefaultSpecifier ∷ shape.ImportNamespaceSpecifier ∷ shape.ExportNamedDeclaration ∷ shape.ExportSpecifier ∷ shape.ExportDefaultDeclaration ∷ shape.ExportAllDeclaration ∷ shape.Identifier ∷ shape.BindingIdentifier ∷ shape.NullLiteral ∷ shape.ThisExpression ∷ shape.Super ∷ shape.ArrayExpression ∷ shape.ObjectExpression ∷ shape.SpreadElement ∷ shape.PrivateInExpression ∷ shape.ConditionalExpression ∷ shape.SequenceExpression ∷ shape.SuperCallExpression ∷ shape.NewExpression ∷ shape.SuperStaticMemberExpression ∷ shape.SuperComputedMemberExpression ∷ shape.ChainExpression ∷ shape.TemplateLiteral ∷ shape.TaggedTemplateExpression ∷ shape.ImportExpression ∷ shape.ObjectPattern ∷ shape.ArrayPattern ∷ shape.RestElement ∷ shape.AssignmentPattern ∷ shape.ObjectAssignmentTarget ∷ shape.ArrayAssignmentTarget ∷ shape.AssignmentTargetPropertyIdentifier ∷ []
+
+of_number : (h : Shape) → (plain_number h ≡ 0 → ⊥) → get_or plain_shapes (plain_number h) shape.Absent ≡ h
+unfolding plain_shapes
+of_number shape.Absent n = refl
+of_number shape.Listed n = refl
+of_number shape.InnerExpression n = refl
+of_number shape.ExpressionStatement n = refl
+of_number shape.EmptyStatement n = refl
+of_number shape.DebuggerStatement n = refl
+of_number shape.BlockStatement n = refl
+of_number shape.LabeledStatement n = refl
+of_number shape.BreakStatement n = refl
+of_number shape.ContinueStatement n = refl
+of_number shape.ReturnStatement n = refl
+of_number shape.ThrowStatement n = refl
+of_number shape.IfStatement n = refl
+of_number shape.SwitchStatement n = refl
+of_number shape.SwitchCase n = refl
+of_number shape.TryStatement n = refl
+of_number shape.CatchClause n = refl
+of_number shape.WhileStatement n = refl
+of_number shape.DoWhileStatement n = refl
+of_number shape.ForStatement n = refl
+of_number shape.ForInStatement n = refl
+of_number shape.ForOfStatement n = refl
+of_number shape.VariableDeclarator n = refl
+of_number shape.FunctionBody n = refl
+of_number shape.ClassBody n = refl
+of_number shape.StaticBlock n = refl
+of_number shape.ImportDeclaration n = refl
+of_number shape.ImportSpecifier n = refl
+of_number shape.ImportDefaultSpecifier n = refl
+of_number shape.ImportNamespaceSpecifier n = refl
+of_number shape.ExportNamedDeclaration n = refl
+of_number shape.ExportSpecifier n = refl
+of_number shape.ExportDefaultDeclaration n = refl
+of_number shape.ExportAllDeclaration n = refl
+of_number shape.Identifier n = refl
+of_number shape.BindingIdentifier n = refl
+of_number shape.NullLiteral n = refl
+of_number shape.ThisExpression n = refl
+of_number shape.Super n = refl
+of_number shape.ArrayExpression n = refl
+of_number shape.ObjectExpression n = refl
+of_number shape.SpreadElement n = refl
+of_number shape.PrivateInExpression n = refl
+of_number shape.ConditionalExpression n = refl
+of_number shape.SequenceExpression n = refl
+of_number shape.SuperCallExpression n = refl
+of_number shape.NewExpression n = refl
+of_number shape.SuperStaticMemberExpression n = refl
+of_number shape.SuperComputedMemberExpression n = refl
+of_number shape.ChainExpression n = refl
+of_number shape.TemplateLiteral n = refl
+of_number shape.TaggedTemplateExpression n = refl
+of_number shape.ImportExpression n = refl
+of_number shape.ObjectPattern n = refl
+of_number shape.ArrayPattern n = refl
+of_number shape.RestElement n = refl
+of_number shape.AssignmentPattern n = refl
+of_number shape.ObjectAssignmentTarget n = refl
+of_number shape.ArrayAssignmentTarget n = refl
+of_number shape.AssignmentTargetPropertyIdentifier n = refl
+of_number _ n = absurd (n refl)
+
+pub plain_decided : (h g : Shape) → (plain_number h ≡ 0 → ⊥) → Decides (nat_eq (plain_number h) (plain_number g)) (h ≡ g)
+plain_decided h g n = (
+  λ e. let same = eqb-true (plain_number h) (plain_number g) e in
+      sym (of_number h n) ∙ ap (λ k. get_or plain_shapes k shape.Absent) same ∙ of_number g (λ z. n (same ∙ z)),
+  λ e. eq-eqb (plain_number h) (plain_number g) (ap plain_number e),
+)
 
 -- two tests that are met alike
 alike : (r q : Bool) → (r ≡ true → q ≡ true) → (q ≡ true → r ≡ true) → r ≡ q

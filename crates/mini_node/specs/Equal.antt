@@ -1,10 +1,11 @@
 -- Whether two trees are equal.
-use Rattle.std.specs.Prelude.{◌≡◌, nat_eq, Bool, true, false, ◌&&◌, List}
+use Rattle.std.specs.Prelude.{ℕ, ◌≡◌, nat_eq, Bool, true, false, ◌&&◌, List}
 use Rattle.std.specs.Coded.{Coded, coded_list}
 use base.Stored.{Gv, gnil, gnum, gcons}
 use Rattle.mini_model.specs.declared.name.Name.{Name}
 use Rattle.mini_model.specs.contracts.name.Name as name'
 use Rattle.mini_model.specs.declared.shape.Shape.{Shape}
+use Rattle.mini_model.specs.declared.shape.Shape.TheVariants as shape
 use Rattle.mini_model.specs.contracts.shape.Shape as shape'
 use Rattle.mini_model.specs.Tree.{Tree, Trees, node, none, ◌▸◌, shape_of}
 use Rattle.mini_node.specs.Children.{names_of, number_of}
@@ -38,6 +39,70 @@ abbrev mutual
   same_trees none none = true
   same_trees (t ▸ ts) (u ▸ us) = same_tree t u && same_trees ts us
   same_trees _ _ = false
+
+-- shapes without fields are numbered; all others have 0
+abbrev pub plain_number : Shape → ℕ
+plain_number shape.Absent = 1
+plain_number shape.Listed = 2
+plain_number shape.InnerExpression = 3
+plain_number shape.ExpressionStatement = 4
+plain_number shape.EmptyStatement = 5
+plain_number shape.DebuggerStatement = 6
+plain_number shape.BlockStatement = 7
+plain_number shape.LabeledStatement = 8
+plain_number shape.BreakStatement = 9
+plain_number shape.ContinueStatement = 10
+plain_number shape.ReturnStatement = 11
+plain_number shape.ThrowStatement = 12
+plain_number shape.IfStatement = 13
+plain_number shape.SwitchStatement = 14
+plain_number shape.SwitchCase = 15
+plain_number shape.TryStatement = 16
+plain_number shape.CatchClause = 17
+plain_number shape.WhileStatement = 18
+plain_number shape.DoWhileStatement = 19
+plain_number shape.ForStatement = 20
+plain_number shape.ForInStatement = 21
+plain_number shape.ForOfStatement = 22
+plain_number shape.VariableDeclarator = 23
+plain_number shape.FunctionBody = 24
+plain_number shape.ClassBody = 25
+plain_number shape.StaticBlock = 26
+plain_number shape.ImportDeclaration = 27
+plain_number shape.ImportSpecifier = 28
+plain_number shape.ImportDefaultSpecifier = 29
+plain_number shape.ImportNamespaceSpecifier = 30
+plain_number shape.ExportNamedDeclaration = 31
+plain_number shape.ExportSpecifier = 32
+plain_number shape.ExportDefaultDeclaration = 33
+plain_number shape.ExportAllDeclaration = 34
+plain_number shape.Identifier = 35
+plain_number shape.BindingIdentifier = 36
+plain_number shape.NullLiteral = 37
+plain_number shape.ThisExpression = 38
+plain_number shape.Super = 39
+plain_number shape.ArrayExpression = 40
+plain_number shape.ObjectExpression = 41
+plain_number shape.SpreadElement = 42
+plain_number shape.PrivateInExpression = 43
+plain_number shape.ConditionalExpression = 44
+plain_number shape.SequenceExpression = 45
+plain_number shape.SuperCallExpression = 46
+plain_number shape.NewExpression = 47
+plain_number shape.SuperStaticMemberExpression = 48
+plain_number shape.SuperComputedMemberExpression = 49
+plain_number shape.ChainExpression = 50
+plain_number shape.TemplateLiteral = 51
+plain_number shape.TaggedTemplateExpression = 52
+plain_number shape.ImportExpression = 53
+plain_number shape.ObjectPattern = 54
+plain_number shape.ArrayPattern = 55
+plain_number shape.RestElement = 56
+plain_number shape.AssignmentPattern = 57
+plain_number shape.ObjectAssignmentTarget = 58
+plain_number shape.ArrayAssignmentTarget = 59
+plain_number shape.AssignmentTargetPropertyIdentifier = 60
+plain_number _ = 0
 
 -- Laws
 

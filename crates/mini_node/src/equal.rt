@@ -49,42 +49,89 @@ fn are_same_texts(first: &[Text], second: &[Text]) -> bool
     true
 }
 
-fn is_equal_shape(first: &Shape, second: &Shape) -> bool
-    ensures { Decides result (first.now ≡ second.now) }
+// The number of a shape that has no fields; 0 of one that has.
+fn plain_number(shape: &Shape) -> u32
+    ensures { result ≡ equal.plain_number shape.now }
+{
+    match shape {
+        Shape::Absent => 1,
+        Shape::Listed => 2,
+        Shape::InnerExpression => 3,
+        Shape::ExpressionStatement => 4,
+        Shape::EmptyStatement => 5,
+        Shape::DebuggerStatement => 6,
+        Shape::BlockStatement => 7,
+        Shape::LabeledStatement => 8,
+        Shape::BreakStatement => 9,
+        Shape::ContinueStatement => 10,
+        Shape::ReturnStatement => 11,
+        Shape::ThrowStatement => 12,
+        Shape::IfStatement => 13,
+        Shape::SwitchStatement => 14,
+        Shape::SwitchCase => 15,
+        Shape::TryStatement => 16,
+        Shape::CatchClause => 17,
+        Shape::WhileStatement => 18,
+        Shape::DoWhileStatement => 19,
+        Shape::ForStatement => 20,
+        Shape::ForInStatement => 21,
+        Shape::ForOfStatement => 22,
+        Shape::VariableDeclarator => 23,
+        Shape::FunctionBody => 24,
+        Shape::ClassBody => 25,
+        Shape::StaticBlock => 26,
+        Shape::ImportDeclaration => 27,
+        Shape::ImportSpecifier => 28,
+        Shape::ImportDefaultSpecifier => 29,
+        Shape::ImportNamespaceSpecifier => 30,
+        Shape::ExportNamedDeclaration => 31,
+        Shape::ExportSpecifier => 32,
+        Shape::ExportDefaultDeclaration => 33,
+        Shape::ExportAllDeclaration => 34,
+        Shape::Identifier => 35,
+        Shape::BindingIdentifier => 36,
+        Shape::NullLiteral => 37,
+        Shape::ThisExpression => 38,
+        Shape::Super => 39,
+        Shape::ArrayExpression => 40,
+        Shape::ObjectExpression => 41,
+        Shape::SpreadElement => 42,
+        Shape::PrivateInExpression => 43,
+        Shape::ConditionalExpression => 44,
+        Shape::SequenceExpression => 45,
+        Shape::SuperCallExpression => 46,
+        Shape::NewExpression => 47,
+        Shape::SuperStaticMemberExpression => 48,
+        Shape::SuperComputedMemberExpression => 49,
+        Shape::ChainExpression => 50,
+        Shape::TemplateLiteral => 51,
+        Shape::TaggedTemplateExpression => 52,
+        Shape::ImportExpression => 53,
+        Shape::ObjectPattern => 54,
+        Shape::ArrayPattern => 55,
+        Shape::RestElement => 56,
+        Shape::AssignmentPattern => 57,
+        Shape::ObjectAssignmentTarget => 58,
+        Shape::ArrayAssignmentTarget => 59,
+        Shape::AssignmentTargetPropertyIdentifier => 60,
+        _ => 0,
+    }
+}
+
+// Of shapes with fields.
+fn has_equal_fields(first: &Shape, second: &Shape) -> bool
+    ensures { equal.plain_number first.now ≡ 0 → Decides result (first.now ≡ second.now) }
 {
     match first {
-        Shape::Absent => matches!(second, Shape::Absent),
-        Shape::Listed => matches!(second, Shape::Listed),
-        Shape::InnerExpression => matches!(second, Shape::InnerExpression),
         Shape::Program(is_module, directives) => match second {
             Shape::Program(other_is_module, other_directives) => *is_module == *other_is_module
                 && are_same_texts(directives.as_slice(), other_directives.as_slice()),
             _ => false,
         },
-        Shape::ExpressionStatement => matches!(second, Shape::ExpressionStatement),
-        Shape::EmptyStatement => matches!(second, Shape::EmptyStatement),
-        Shape::DebuggerStatement => matches!(second, Shape::DebuggerStatement),
-        Shape::BlockStatement => matches!(second, Shape::BlockStatement),
-        Shape::LabeledStatement => matches!(second, Shape::LabeledStatement),
-        Shape::BreakStatement => matches!(second, Shape::BreakStatement),
-        Shape::ContinueStatement => matches!(second, Shape::ContinueStatement),
-        Shape::ReturnStatement => matches!(second, Shape::ReturnStatement),
-        Shape::ThrowStatement => matches!(second, Shape::ThrowStatement),
-        Shape::IfStatement => matches!(second, Shape::IfStatement),
-        Shape::SwitchStatement => matches!(second, Shape::SwitchStatement),
-        Shape::SwitchCase => matches!(second, Shape::SwitchCase),
-        Shape::TryStatement => matches!(second, Shape::TryStatement),
-        Shape::CatchClause => matches!(second, Shape::CatchClause),
-        Shape::WhileStatement => matches!(second, Shape::WhileStatement),
-        Shape::DoWhileStatement => matches!(second, Shape::DoWhileStatement),
-        Shape::ForStatement => matches!(second, Shape::ForStatement),
-        Shape::ForInStatement => matches!(second, Shape::ForInStatement),
-        Shape::ForOfStatement => matches!(second, Shape::ForOfStatement),
         Shape::VariableDeclaration(kind) => match second {
             Shape::VariableDeclaration(other_kind) => *kind == *other_kind,
             _ => false,
         },
-        Shape::VariableDeclarator => matches!(second, Shape::VariableDeclarator),
         Shape::Function(is_declaration, is_generator, directives) => match second {
             Shape::Function(other_is_declaration, other_is_generator, other_directives) =>
                 *is_declaration == *other_is_declaration
@@ -99,12 +146,10 @@ fn is_equal_shape(first: &Shape, second: &Shape) -> bool
             ),
             _ => false,
         },
-        Shape::FunctionBody => matches!(second, Shape::FunctionBody),
         Shape::Class(is_declaration) => match second {
             Shape::Class(other_is_declaration) => *is_declaration == *other_is_declaration,
             _ => false,
         },
-        Shape::ClassBody => matches!(second, Shape::ClassBody),
         Shape::MethodDefinition(kind, is_computed, is_static) => match second {
             Shape::MethodDefinition(other_kind, other_is_computed, other_is_static) => *kind
                 == *other_kind
@@ -118,17 +163,6 @@ fn is_equal_shape(first: &Shape, second: &Shape) -> bool
                 && *is_static == *other_is_static,
             _ => false,
         },
-        Shape::StaticBlock => matches!(second, Shape::StaticBlock),
-        Shape::ImportDeclaration => matches!(second, Shape::ImportDeclaration),
-        Shape::ImportSpecifier => matches!(second, Shape::ImportSpecifier),
-        Shape::ImportDefaultSpecifier => matches!(second, Shape::ImportDefaultSpecifier),
-        Shape::ImportNamespaceSpecifier => matches!(second, Shape::ImportNamespaceSpecifier),
-        Shape::ExportNamedDeclaration => matches!(second, Shape::ExportNamedDeclaration),
-        Shape::ExportSpecifier => matches!(second, Shape::ExportSpecifier),
-        Shape::ExportDefaultDeclaration => matches!(second, Shape::ExportDefaultDeclaration),
-        Shape::ExportAllDeclaration => matches!(second, Shape::ExportAllDeclaration),
-        Shape::Identifier => matches!(second, Shape::Identifier),
-        Shape::BindingIdentifier => matches!(second, Shape::BindingIdentifier),
         Shape::IdentifierName(text) => match second {
             Shape::IdentifierName(other_text) => is_same_text(text, other_text),
             _ => false,
@@ -149,7 +183,6 @@ fn is_equal_shape(first: &Shape, second: &Shape) -> bool
             Shape::BooleanLiteral(other_value) => *value == *other_value,
             _ => false,
         },
-        Shape::NullLiteral => matches!(second, Shape::NullLiteral),
         Shape::RegExpLiteral(pattern, flags) => match second {
             Shape::RegExpLiteral(other_pattern, other_flags) => is_same_text(
                 pattern.text(),
@@ -161,10 +194,6 @@ fn is_equal_shape(first: &Shape, second: &Shape) -> bool
             Shape::BigIntLiteral(other_value) => *value == *other_value,
             _ => false,
         },
-        Shape::ThisExpression => matches!(second, Shape::ThisExpression),
-        Shape::Super => matches!(second, Shape::Super),
-        Shape::ArrayExpression => matches!(second, Shape::ArrayExpression),
-        Shape::ObjectExpression => matches!(second, Shape::ObjectExpression),
         Shape::ObjectProperty(kind, is_method, is_shorthand, is_computed) => match second {
             Shape::ObjectProperty(
                 other_kind,
@@ -177,7 +206,6 @@ fn is_equal_shape(first: &Shape, second: &Shape) -> bool
                 && *is_computed == *other_is_computed,
             _ => false,
         },
-        Shape::SpreadElement => matches!(second, Shape::SpreadElement),
         Shape::UnaryExpression(operator) => match second {
             Shape::UnaryExpression(other_operator) => *operator == *other_operator,
             _ => false,
@@ -191,7 +219,6 @@ fn is_equal_shape(first: &Shape, second: &Shape) -> bool
             Shape::BinaryExpression(other_operator) => *operator == *other_operator,
             _ => false,
         },
-        Shape::PrivateInExpression => matches!(second, Shape::PrivateInExpression),
         Shape::LogicalExpression(operator) => match second {
             Shape::LogicalExpression(other_operator) => *operator == *other_operator,
             _ => false,
@@ -200,14 +227,10 @@ fn is_equal_shape(first: &Shape, second: &Shape) -> bool
             Shape::AssignmentExpression(other_operator) => *operator == *other_operator,
             _ => false,
         },
-        Shape::ConditionalExpression => matches!(second, Shape::ConditionalExpression),
-        Shape::SequenceExpression => matches!(second, Shape::SequenceExpression),
         Shape::CallExpression(is_optional) => match second {
             Shape::CallExpression(other_is_optional) => *is_optional == *other_is_optional,
             _ => false,
         },
-        Shape::SuperCallExpression => matches!(second, Shape::SuperCallExpression),
-        Shape::NewExpression => matches!(second, Shape::NewExpression),
         Shape::StaticMemberExpression(is_optional) => match second {
             Shape::StaticMemberExpression(other_is_optional) => *is_optional == *other_is_optional,
             _ => false,
@@ -221,17 +244,10 @@ fn is_equal_shape(first: &Shape, second: &Shape) -> bool
             Shape::PrivateFieldExpression(other_is_optional) => *is_optional == *other_is_optional,
             _ => false,
         },
-        Shape::SuperStaticMemberExpression => matches!(second, Shape::SuperStaticMemberExpression),
-        Shape::SuperComputedMemberExpression => matches!(
-            second,
-            Shape::SuperComputedMemberExpression
-        ),
-        Shape::ChainExpression => matches!(second, Shape::ChainExpression),
         Shape::YieldExpression(is_delegate) => match second {
             Shape::YieldExpression(other_is_delegate) => *is_delegate == *other_is_delegate,
             _ => false,
         },
-        Shape::TemplateLiteral => matches!(second, Shape::TemplateLiteral),
         Shape::TemplateElement(is_tail, raw, cooked) => match second {
             Shape::TemplateElement(other_is_tail, other_raw, other_cooked) => *is_tail
                 == *other_is_tail
@@ -239,33 +255,34 @@ fn is_equal_shape(first: &Shape, second: &Shape) -> bool
                 && is_same_cooked(cooked, other_cooked),
             _ => false,
         },
-        Shape::TaggedTemplateExpression => matches!(second, Shape::TaggedTemplateExpression),
         Shape::MetaProperty(kind) => match second {
             Shape::MetaProperty(other_kind) => *kind == *other_kind,
             _ => false,
         },
-        Shape::ImportExpression => matches!(second, Shape::ImportExpression),
-        Shape::ObjectPattern => matches!(second, Shape::ObjectPattern),
-        Shape::ArrayPattern => matches!(second, Shape::ArrayPattern),
         Shape::BindingProperty(is_shorthand, is_computed) => match second {
             Shape::BindingProperty(other_is_shorthand, other_is_computed) => *is_shorthand
                 == *other_is_shorthand
                 && *is_computed == *other_is_computed,
             _ => false,
         },
-        Shape::RestElement => matches!(second, Shape::RestElement),
-        Shape::AssignmentPattern => matches!(second, Shape::AssignmentPattern),
-        Shape::ObjectAssignmentTarget => matches!(second, Shape::ObjectAssignmentTarget),
-        Shape::ArrayAssignmentTarget => matches!(second, Shape::ArrayAssignmentTarget),
-        Shape::AssignmentTargetPropertyIdentifier => matches!(
-            second,
-            Shape::AssignmentTargetPropertyIdentifier
-        ),
         Shape::AssignmentTargetPropertyProperty(is_computed) => match second {
             Shape::AssignmentTargetPropertyProperty(other_is_computed) => *is_computed
                 == *other_is_computed,
             _ => false,
         },
+        _ => false,
+    }
+}
+
+#[tactic(auto, using(crate::proofs::Equality::plain_decided))]
+fn is_equal_shape(first: &Shape, second: &Shape) -> bool
+    ensures { Decides result (first.now ≡ second.now) }
+{
+    let number = plain_number(first);
+    if number == 0 {
+        has_equal_fields(first, second)
+    } else {
+        number == plain_number(second)
     }
 }
 

@@ -10,7 +10,7 @@ use std::alloc::Global;
 use std::sync::ledger::Ledger;
 
 /// A call outside failed.
-#[derive(Clone, Copy, PartialEq, Eq, Debug)]
+#[derive(Clone, Copy)]
 pub struct Failed;
 
 /// What gives bytes.
@@ -45,7 +45,7 @@ pub trait Sink {
 }
 
 /// Why reading stopped before the end.
-#[derive(Clone, Copy, PartialEq, Eq, Debug)]
+#[derive(Clone, Copy)]
 pub enum Stopped {
     /// No memory was left.
     Memory,

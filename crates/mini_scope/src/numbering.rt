@@ -8,7 +8,7 @@ ghost use Rattle.mini_names.specs.declared.Use.TheVariants as variant;
 ghost use Rattle.mini_scope.specs.ScopeAt.{scope_at};
 
 use crate::opening::OpenScopes;
-use crate::{Environment, use_of};
+use crate::{Environment, is_leaf, use_of};
 use mini_model::Shape;
 use mini_names::Use;
 use mini_node::{Node, Nodes};
@@ -21,6 +21,13 @@ fn give_symbol(environment: &Environment, usage: Use, node: &mut Node)
     if let Some(name) = node.name_mut() {
         name.symbol = environment.symbol_of(usage, &name.spelling);
     }
+}
+
+// The same for a node without children, which opens no scope before one.
+fn name_leaf(environment: &Environment, usage: Use, node: &mut Node)
+    ensures { node.new ≡ with_names node.old (map (with_symbol usage environment.now) (names_of node.old)) }
+{
+    give_symbol(environment, usage, node);
 }
 
 fn put_children(node: &mut Node, children: Nodes)
@@ -43,6 +50,10 @@ pub fn resolve_node(
     ensures resolved { IfOk result (λ after. node.new ≡ resolved usage environment.old next node.old) }
     ensures left { IfOk result (λ after. environment.new ≡ environment.old) }
 {
+    if is_leaf(node) {
+        name_leaf(environment, usage, node);
+        return Ok(next);
+    }
     let scopes = OpenScopes::of(alloc, usage, node)?;
     give_symbol(environment, usage, node);
     let around = environment.len();

@@ -1,7 +1,7 @@
 //! The scopes that a node opens.
 
-ghost use Rattle.std.specs.Prelude.{◌≡◌, ℕ, ◌<◌, [], ◌∷◌, map, drop, length, IfOk};
-ghost use Rattle.mini_model.specs.Tree.{children, shape_of};
+ghost use Rattle.std.specs.Prelude.{◌≡◌, ℕ, ◌<◌, true, [], ◌∷◌, map, drop, length, IfOk};
+ghost use Rattle.mini_model.specs.Tree.{children, count, shape_of};
 ghost use Rattle.mini_node.specs.Children.{trees_of};
 ghost use Rattle.mini_names.specs.declared.Declared.TheVariants as declared;
 ghost use Rattle.mini_names.specs.DeclaredNames.{names_of, body_names};
@@ -22,6 +22,13 @@ pub struct OpenScopes {
     pub first: Vec<Binding>,
     pub second: Vec<Binding>,
     pub third: Vec<Binding>,
+}
+
+/// Whether a node has no children, and so opens no scope before one.
+pub fn is_leaf(node: &Node) -> bool
+    ensures { (result ≡ true) → count (children node.now) ≡ 0 }
+{
+    node.children().len() == 0
 }
 
 /// The scope of the names that a node declares in a block.

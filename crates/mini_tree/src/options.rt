@@ -4,7 +4,7 @@ ghost use Rattle.std.specs.Prelude.{◌≡◌};
 ghost use Rattle.mini_tree.specs.Options.{default_options};
 
 /// Whose names stay although nothing refers to them.
-#[derive(Clone, Copy, Debug, PartialEq, Eq)]
+#[derive(Clone, Copy)]
 pub struct KeepNames {
     /// Of function expressions.
     pub function: bool,
@@ -13,7 +13,7 @@ pub struct KeepNames {
 }
 
 /// What the minifier may do, and how far it goes.
-#[derive(Clone, Copy, Debug, PartialEq, Eq)]
+#[derive(Clone, Copy)]
 pub struct CompressOptions {
     /// Statements may be joined by commas.
     pub sequences: bool,

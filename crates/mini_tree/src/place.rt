@@ -169,7 +169,7 @@ fn item_place(place: Position, count: usize, at: usize) -> Position
     ensures { result ≡ item_position place count at }
 {
     match place {
-        Position::StatementList => Position::Stmt(StmtSeat::List),
+        Position::StatementList | Position::BodyList => Position::Stmt(StmtSeat::List),
         Position::ArgumentList => argument(),
         Position::SequenceList(seat) => Position::Expr(part(seat, count, at)),
         Position::TemplateList => whole(),
@@ -185,8 +185,9 @@ pub fn child_place(shape: &Shape, place: Position, count: usize, at: usize) -> P
     match shape {
         Shape::Listed => item_place(place, count, at),
         Shape::InnerExpression => first_or(at, place, Position::Elsewhere),
-        Shape::Program(_, _) | Shape::BlockStatement | Shape::FunctionBody | Shape::StaticBlock =>
+        Shape::Program(_, _) | Shape::BlockStatement | Shape::StaticBlock =>
             Position::StatementList,
+        Shape::FunctionBody => Position::BodyList,
         Shape::ExpressionStatement => Position::Expr(seats::statement_expression()),
         Shape::LabeledStatement => first_or(at, Position::Elsewhere, BODY),
         Shape::ReturnStatement | Shape::ThrowStatement => whole(),

@@ -38,6 +38,7 @@ fn list_weight<C: Outlined>(items: &C, place: Position) -> u64
         | Position::Method
         | Position::Unwritten
         | Position::StatementList
+        | Position::BodyList
         | Position::TemplateList
         | Position::Elsewhere => 0,
     }

@@ -13,7 +13,7 @@ use mini_text::OutOfMemory;
 use std::alloc::Global;
 
 /// What passes over a program came to.
-#[derive(Clone, Copy, Debug, PartialEq, Eq)]
+#[derive(Clone, Copy)]
 pub struct Passes {
     /// How many there were.
     pub passes: u32,
@@ -24,15 +24,15 @@ pub struct Passes {
 /// Makes passes over a program until one finds nothing to do, or as many as the bound says (0 is read as 1). The context knows
 /// the program as the first begins, and looks at it anew before each other. The only error is that memory runs out, and then
 /// the program and the context are fit only to be dropped.
-pub fn run_passes<R: Rule>(
+pub fn run_passes<C: Context, R: Rule<C>>(
     rule: &R,
     alloc: Global,
     program: &mut Node,
     max_passes: u32,
-    context: &mut R::Context,
+    context: &mut C,
 ) -> Result<Passes, OutOfMemory>
-    requires { ((o : CompressOptions) × R.Context.knows context.old o program.old) }
-    ensures { IfOk result (λ made. (o : CompressOptions) → R.Context.knows context.old o program.old → MakesPasses (R.gives o) (R.rests o) program.old program.new max_passes made.passes made.settled) }
+    requires { ((o : CompressOptions) × C.knows context.old o program.old) }
+    ensures { IfOk result (λ made. (o : CompressOptions) → C.knows context.old o program.old → MakesPasses (R.gives o) (R.rests o) program.old program.new max_passes made.passes made.settled) }
 {
     let bound = max_passes.max(1);
     let mut passes = 1;

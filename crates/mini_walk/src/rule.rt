@@ -1,6 +1,6 @@
 //! What rules share, what a rule is, and two of them as one.
 
-ghost use Rattle.std.specs.Prelude.{IfOk, OnOk};
+ghost use Rattle.std.specs.Prelude.{◌≡◌, IfOk, OnOk};
 ghost use Rattle.mini_model.specs.Tree.{Tree};
 ghost use Rattle.mini_model.specs.declared.place.Position.{Position};
 ghost use Rattle.mini_tree.specs.declared.options.CompressOptions.{CompressOptions};
@@ -10,12 +10,17 @@ ghost use Rattle.mini_walk.specs.Rule.{Applied, AreLighter, Either, Both};
 use mini_model::Position;
 use mini_node::Node;
 use mini_text::OutOfMemory;
+use mini_tree::CompressOptions;
 use std::alloc::Global;
 
 /// What the calls of every rule share. It knows the options, and what it has seen of a program when it last looked.
 pub trait Context {
     /// That these are its options, and that this is the program at which it looked last.
     ghost knows: { Self → CompressOptions → Tree → Type 0 };
+
+    /// Its options.
+    fn options(&self) -> CompressOptions
+        ensures { ByKnown knows self.now (λ o q. result ≡ o) };
 
     /// Looks at a program: it then knows this one. The only error is that memory runs out, and then it is fit only to be
     /// dropped.
@@ -25,10 +30,7 @@ pub trait Context {
 
 /// What is done at a node in its place. A rule says what it may make of a tree there, and when it has nothing to do: both
 /// under the options, and over the program at which its context looked last.
-pub trait Rule {
-    /// What the calls of every rule share.
-    type Context: Context;
-
+pub trait Rule<C: Context> {
     /// What the rule may make of a tree at a place.
     ghost gives: { CompressOptions → Tree → Position → Tree → Tree → Type 0 };
 
@@ -43,11 +45,11 @@ pub trait Rule {
         alloc: Global,
         node: &mut Node,
         place: Position,
-        context: &mut Self::Context,
+        context: &mut C,
     ) -> Result<bool, OutOfMemory>
-        requires { KnowsSome Self.Context.knows context.old }
-        ensures applied { IfOk result (λ changed. ByKnown Self.Context.knows context.old (λ o q. Applied (gives o q) (rests o q) place node.old node.new changed)) }
-        ensures known { OnOk result (KnowsAsBefore Self.Context.knows context.old context.new) };
+        requires { KnowsSome C.knows context.old }
+        ensures applied { IfOk result (λ changed. ByKnown C.knows context.old (λ o q. Applied (gives o q) (rests o q) place node.old node.new changed)) }
+        ensures known { OnOk result (KnowsAsBefore C.knows context.old context.new) };
 
     /// Wherever in a tree it makes something of a node, the whole gets lighter.
     ghost lighter: { AreLighter gives };
@@ -61,10 +63,8 @@ pub struct Then<A, B> {
     pub second: B,
 }
 
-impl<A: Rule, B: Rule<Context = A::Context>> Rule for Then<A, B> {
+impl<C: Context, A: Rule<C>, B: Rule<C>> Rule<C> for Then<A, B> {
     ghost use Rattle.mini_walk.specs.Lighter.{either_lighter};
-
-    type Context = A::Context;
 
     ghost gives = { λ o q. Either (A.gives o q) (B.gives o q) };
 
@@ -77,7 +77,7 @@ impl<A: Rule, B: Rule<Context = A::Context>> Rule for Then<A, B> {
         alloc: Global,
         node: &mut Node,
         place: Position,
-        context: &mut A::Context,
+        context: &mut C,
     ) -> Result<bool, OutOfMemory> {
         if self.first.apply(alloc, node, place, context)? {
             return Ok(true);

@@ -6,7 +6,7 @@ ghost use Rattle.mini_walk.specs.Context.{KnowsSome, KnowsAsBefore, ByKnown};
 ghost use Rattle.mini_walk.specs.Rule.{Applied};
 ghost use Rattle.mini_walk.specs.Walk.{Walked, WalkedBelow};
 
-use crate::rule::Rule;
+use crate::rule::{Context, Rule};
 use mini_model::Position;
 use mini_node::Node;
 use mini_text::OutOfMemory;
@@ -16,16 +16,16 @@ use std::alloc::Global;
 /// Walks over a node, its children first, and at each node applies the rule until it answers false. The answer says
 /// whether anything changed; the only error is that memory runs out, and then the node is fit only to be dropped.
 #[cycle(nodes)]
-pub fn walk<R: Rule>(
+pub fn walk<C: Context, R: Rule<C>>(
     rule: &R,
     alloc: Global,
     node: &mut Node,
     place: Position,
-    context: &mut R::Context,
+    context: &mut C,
 ) -> Result<bool, OutOfMemory>
-    requires { KnowsSome R.Context.knows context.old }
-    ensures walked { IfOk result (λ changed. ByKnown R.Context.knows context.old (λ o q. Walked (R.gives o q) (R.rests o q) place node.old node.new changed)) }
-    ensures known { OnOk result (KnowsAsBefore R.Context.knows context.old context.new) }
+    requires { KnowsSome C.knows context.old }
+    ensures walked { IfOk result (λ changed. ByKnown C.knows context.old (λ o q. Walked (R.gives o q) (R.rests o q) place node.old node.new changed)) }
+    ensures known { OnOk result (KnowsAsBefore C.knows context.old context.new) }
 {
     let below = walk_children(rule, alloc, node, place, context)?;
     let here = settle(rule, alloc, node, place, context)?;
@@ -34,16 +34,16 @@ pub fn walk<R: Rule>(
 
 // The children of the node, one after another.
 #[cycle(nodes)]
-fn walk_children<R: Rule>(
+fn walk_children<C: Context, R: Rule<C>>(
     rule: &R,
     alloc: Global,
     node: &mut Node,
     place: Position,
-    context: &mut R::Context,
+    context: &mut C,
 ) -> Result<bool, OutOfMemory>
-    requires { KnowsSome R.Context.knows context.old }
-    ensures walked { IfOk result (λ changed. ByKnown R.Context.knows context.old (λ o q. WalkedBelow (R.gives o q) (R.rests o q) place node.old node.new changed)) }
-    ensures known { OnOk result (KnowsAsBefore R.Context.knows context.old context.new) }
+    requires { KnowsSome C.knows context.old }
+    ensures walked { IfOk result (λ changed. ByKnown C.knows context.old (λ o q. WalkedBelow (R.gives o q) (R.rests o q) place node.old node.new changed)) }
+    ensures known { OnOk result (KnowsAsBefore C.knows context.old context.new) }
 {
     let count = node.children().len();
     let mut changed = false;
@@ -63,16 +63,16 @@ fn walk_children<R: Rule>(
 
 // The node itself, until the rule answers false. What the rule has made is looked at one level down as well, so that a
 // statement that becomes an expression is done in one walk.
-fn settle<R: Rule>(
+fn settle<C: Context, R: Rule<C>>(
     rule: &R,
     alloc: Global,
     node: &mut Node,
     place: Position,
-    context: &mut R::Context,
+    context: &mut C,
 ) -> Result<bool, OutOfMemory>
-    requires { KnowsSome R.Context.knows context.old }
-    ensures walked { IfOk result (λ changed. ByKnown R.Context.knows context.old (λ o q. Applied (R.gives o q) (R.rests o q) place node.old node.new changed)) }
-    ensures known { OnOk result (KnowsAsBefore R.Context.knows context.old context.new) }
+    requires { KnowsSome C.knows context.old }
+    ensures walked { IfOk result (λ changed. ByKnown C.knows context.old (λ o q. Applied (R.gives o q) (R.rests o q) place node.old node.new changed)) }
+    ensures known { OnOk result (KnowsAsBefore C.knows context.old context.new) }
 {
     let mut changed = false;
     'again: while repeat(rule, alloc, node, place, context)? {
@@ -83,16 +83,16 @@ fn settle<R: Rule>(
 }
 
 // The rule at the node alone, until it answers false.
-fn repeat<R: Rule>(
+fn repeat<C: Context, R: Rule<C>>(
     rule: &R,
     alloc: Global,
     node: &mut Node,
     place: Position,
-    context: &mut R::Context,
+    context: &mut C,
 ) -> Result<bool, OutOfMemory>
-    requires { KnowsSome R.Context.knows context.old }
-    ensures walked { IfOk result (λ changed. ByKnown R.Context.knows context.old (λ o q. Applied (R.gives o q) (R.rests o q) place node.old node.new changed)) }
-    ensures known { OnOk result (KnowsAsBefore R.Context.knows context.old context.new) }
+    requires { KnowsSome C.knows context.old }
+    ensures walked { IfOk result (λ changed. ByKnown C.knows context.old (λ o q. Applied (R.gives o q) (R.rests o q) place node.old node.new changed)) }
+    ensures known { OnOk result (KnowsAsBefore C.knows context.old context.new) }
 {
     let mut changed = false;
     'again: while rule.apply(alloc, node, place, context)? {
@@ -102,16 +102,16 @@ fn repeat<R: Rule>(
 }
 
 // The rule at each child of the node, until it answers false there.
-fn repeat_below<R: Rule>(
+fn repeat_below<C: Context, R: Rule<C>>(
     rule: &R,
     alloc: Global,
     node: &mut Node,
     place: Position,
-    context: &mut R::Context,
+    context: &mut C,
 ) -> Result<(), OutOfMemory>
-    requires { KnowsSome R.Context.knows context.old }
-    ensures reached { OnOk result (ByKnown R.Context.knows context.old (λ o q. Reaches (R.gives o q) place node.old node.new)) }
-    ensures known { OnOk result (KnowsAsBefore R.Context.knows context.old context.new) }
+    requires { KnowsSome C.knows context.old }
+    ensures reached { OnOk result (ByKnown C.knows context.old (λ o q. Reaches (R.gives o q) place node.old node.new)) }
+    ensures known { OnOk result (KnowsAsBefore C.knows context.old context.new) }
 {
     let parts = node.children().len();
     for at in 0..parts {

@@ -3,7 +3,7 @@ use Rattle.mini_model.specs.Tree.{count}
 use Rattle.mini_scope.specs.ScopeAt.{scope_at}
 use Rattle.mini_context.proofs.Surveys.{child_falls}
 use Rattle.mini_context.proofs.Listings.{none_below, none_in_child}
-use Rattle.mini_context.proofs.Values.{around_begins, node_joins, node_lists, walk_begins, walk_joins, walk_lists, walk_turns}
+use Rattle.mini_context.proofs.Values.{around_begins, leaf_joins, leaf_lists, node_joins, node_lists, walk_begins, walk_joins, walk_lists, walk_turns}
 use Rattle.mini_context.proofs.listing.+listing.Goals as goal
 
 pub list_below-loop-at-init : goal.list_below-loop-at-init
@@ -43,3 +43,9 @@ list_scopes-returns-clause-given t c = node_joins c.args.reading.usage c.args.en
 
 pub list_scopes-returns-clause-left : goal.list_scopes-returns-clause-left
 list_scopes-returns-clause-left t c = c.leave.ensures ∙ ap (λ n. take n c.list_below.new.environment) c.len-around.ensures ∙ c.in_ok-list_below.ensures.around
+
+pub list_scopes-returns-then-is_leaf-clause-listed : goal.list_scopes-returns-then-is_leaf-clause-listed
+list_scopes-returns-then-is_leaf-clause-listed t c = leaf_lists c.args.reading.usage c.args.reading.strict c.args.node.now c.args.tables.now (c.is_leaf.ensures c.if-is_leaf.true)
+
+pub list_scopes-returns-then-is_leaf-clause-given : goal.list_scopes-returns-then-is_leaf-clause-given
+list_scopes-returns-then-is_leaf-clause-given t c = leaf_joins c.args.reading.usage c.args.environment.now c.args.reading.around c.args.node.now _ _ (c.is_leaf.ensures c.if-is_leaf.true) c.in_ok-join_values.ensures

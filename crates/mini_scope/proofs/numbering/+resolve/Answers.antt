@@ -1,5 +1,5 @@
 use Rattle.std.proofs.Common.{◌≡◌, List, map, ℕ, ◌+◌, ◌<◌, ◌≤◌, length, sym, ap, ◌∙◌, refl, arith}
-use Rattle.mini_model.specs.Tree.{Tree, Trees, node, none, count, node_count, node_counts, child_or_absent, shape_of, children}
+use Rattle.mini_model.specs.Tree.{Tree, Trees, node, none, ◌▸◌, count, node_count, node_counts, child_or_absent, shape_of, children}
 use Rattle.mini_model.specs.Paths.{append}
 use Rattle.mini_node.specs.Children.{first_children}
 use Rattle.mini_model.specs.declared.name.Name.{Name}
@@ -19,6 +19,17 @@ symbols_opened u (node h xs k ts) sc e = ap (λ s. symbols_from s (use_of h u) 0
 resolved_opened : (u : Use) (env : Environment) (s : ℕ) (n : Tree) (sc : ℕ → List Binding) → sc ≡ opened u (shape_of n) (children n) → resolved u env s n ≡ node (shape_of n) (map (with_symbol u env) (names_of n)) (number_of n) (resolved_from sc (use_of (shape_of n) u) 0 env s (children n))
 unfolding resolved
 resolved_opened u env s (node h xs k ts) sc e = ap (λ c. node h (map (with_symbol u env) xs) k (resolved_from c (use_of h u) 0 env s ts)) (sym e)
+
+-- a node without children
+leaf_symbols : (u : Use) (n : Tree) → count (children n) ≡ 0 → symbols u n ≡ 0
+unfolding symbols
+leaf_symbols u (node h xs k none) e = refl
+leaf_symbols u (node h xs k (t ▸ ts)) e = absurd (omega arith)
+
+leaf_resolved : (u : Use) (env : Environment) (s : ℕ) (n : Tree) → count (children n) ≡ 0 → with_names n (map (with_symbol u env) (names_of n)) ≡ resolved u env s n
+unfolding resolved
+leaf_resolved u env s (node h xs k none) e = refl
+leaf_resolved u env s (node h xs k (t ▸ ts)) e = absurd (omega arith)
 
 child_counts : (n : Tree) → node_counts (children n) < node_count n
 child_counts (node h xs k ts) = omega arith
@@ -67,6 +78,12 @@ resolve_node-returns-clause-resolved t c =
     let s = c.args.next in
     let below : c.resolve_nodes.new.nodes ≡ resolved_from sc (use_of (shape_of n) u) 0 env s (children n) = c.in_ok-after.ensures.resolved ∙ ap (resolved_from sc (use_of c.shape.result.now u) 0 env s) kids ∙ ap (λ h. resolved_from sc (use_of h u) 0 env s (children n)) kind in
     c.put_children.ensures ∙ rebuilt n c.take_children-children.new.self ys c.resolve_nodes.new.nodes (c.take_children-children.ensures.rest ∙ ap (λ m. like m none) c.give_symbol.ensures) ∙ ap (node (shape_of n) ys (number_of n)) below ∙ sym (resolved_opened u env s n sc c.in_ok-scopes.ensures)
+
+pub resolve_node-returns-then-is_leaf-clause-after : goal.resolve_node-returns-then-is_leaf-clause-after
+resolve_node-returns-then-is_leaf-clause-after t c = omega (arith, leaf_symbols c.args.usage c.args.node.now (c.is_leaf.ensures c.if-is_leaf.true))
+
+pub resolve_node-returns-then-is_leaf-clause-resolved : goal.resolve_node-returns-then-is_leaf-clause-resolved
+resolve_node-returns-then-is_leaf-clause-resolved t c = c.name_leaf.ensures ∙ leaf_resolved c.args.usage c.args.environment.now c.args.next c.args.node.now (c.is_leaf.ensures c.if-is_leaf.true)
 
 pub resolve_nodes-loop-at-init : goal.resolve_nodes-loop-at-init
 resolve_nodes-loop-at-init t c = (begins _ _ _ _ _, λ k h. refl)

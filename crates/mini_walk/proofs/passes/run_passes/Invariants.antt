@@ -5,8 +5,8 @@ use Rattle.mini_walk.proofs.passes.run_passes.Given as goal
 
 abbrev pub invariant-passes : goal.invariant-passes
 invariant-passes g l = record {
-  known : (o : CompressOptions) → g.R.Context.Context.knows l.fn.context o l.fn.program → g.R.Context.Context.knows l.context o l.program;
-  so_far : (o : CompressOptions) → g.R.Context.Context.knows l.fn.context o l.fn.program → SoFar (g.R.Rule.gives o) (g.R.Rule.rests o) l.fn.program l.program l.passes;
+  known : (o : CompressOptions) → g.C.Context.knows l.fn.context o l.fn.program → g.C.Context.knows l.context o l.program;
+  so_far : (o : CompressOptions) → g.C.Context.knows l.fn.context o l.fn.program → SoFar (g.R.Rule.gives o) (g.R.Rule.rests o) l.fn.program l.program l.passes;
   within : l.passes ≤ l.bound;
 }
 

@@ -12,6 +12,6 @@ decreases-walk_children g l = 2 * node_count l.node.now
 
 abbrev pub invariant-walk_children-loop-at : goal.invariant-walk_children-loop-at
 invariant-walk_children-loop-at g l = record {
-  known : KnowsAsBefore g.R.Context.Context.knows l.fn.context l.context;
-  walked : ByKnown g.R.Context.Context.knows l.fn.context (λ o q. WalkedTo (g.R.Rule.gives o q) (g.R.Rule.rests o q) l.place l.at l.fn.node l.node l.changed);
+  known : KnowsAsBefore g.C.Context.knows l.fn.context l.context;
+  walked : ByKnown g.C.Context.knows l.fn.context (λ o q. WalkedTo (g.R.Rule.gives o q) (g.R.Rule.rests o q) l.place l.at l.fn.node l.node l.changed);
 }

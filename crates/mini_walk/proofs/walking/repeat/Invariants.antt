@@ -5,8 +5,8 @@ use Rattle.mini_walk.proofs.walking.repeat.Given as goal
 
 abbrev pub invariant-again : goal.invariant-again
 invariant-again g l = record {
-  known : KnowsAsBefore g.R.Context.Context.knows l.fn.context l.context;
-  here : ByKnown g.R.Context.Context.knows l.fn.context (λ o q. HereTo (g.R.Rule.gives o q) (g.R.Rule.rests o q) l.place l.fn.node l.node l.changed);
+  known : KnowsAsBefore g.C.Context.knows l.fn.context l.context;
+  here : ByKnown g.C.Context.knows l.fn.context (λ o q. HereTo (g.R.Rule.gives o q) (g.R.Rule.rests o q) l.place l.fn.node l.node l.changed);
 }
 
 abbrev pub decreases-again : goal.decreases-again
