@@ -8,13 +8,13 @@ use Rattle.mini_kept.specs.AlikeBodies.{KindKept, AlikeBody, IsOneOf, BodiesKept
 alike_itself : (b : Body) → AlikeBody b b
 alike_itself b = record { number = refl; kind = inl refl; strict = refl; asks_this = refl; same = λ e X. record { by = λ vars this answers turns i. inr refl } }
 
-kind_on : (k l m : BodyKind) → KindKept k l → KindKept l m → KindKept k m
+pub kind_on : (k l m : BodyKind) → KindKept k l → KindKept l m → KindKept k m
 kind_on k l m (inl e) (inl f) = inl (e ∙ f)
 kind_on k l m (inl e) (inr f) = inr (e ∙ f.0, f.1)
 kind_on k l m (inr e) (inl f) = inr (e.0, sym f ∙ e.1)
 kind_on k l m (inr e) (inr f) = absurd (cc (sym e.1 ∙ f.0))
 
-either_way : {A : Type 0} (x y z o : A) → (x ≡ o) ⊎ (x ≡ y) → (y ≡ o) ⊎ (y ≡ z) → (x ≡ o) ⊎ (x ≡ z)
+pub either_way : {A : Type 0} (x y z o : A) → (x ≡ o) ⊎ (x ≡ y) → (y ≡ o) ⊎ (y ≡ z) → (x ≡ o) ⊎ (x ≡ z)
 either_way x y z o (inl e) k = inl e
 either_way x y z o (inr e) (inl f) = inl (e ∙ f)
 either_way x y z o (inr e) (inr f) = inr (e ∙ f)

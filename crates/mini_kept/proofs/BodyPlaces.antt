@@ -9,7 +9,7 @@ use Rattle.mini_model.specs.declared.name.Name.{Name}
 use Rattle.mini_model.specs.declared.operator.LogicalOperator.{LogicalOperator}
 use Rattle.mini_model.specs.declared.operator.UnaryOperator.{UnaryOperator}
 use Rattle.mini_model.specs.declared.place.Position.{Position}
-use Rattle.mini_model.specs.declared.place.Position.TheVariants.{StatementList, SequenceList}
+use Rattle.mini_model.specs.declared.place.Position.TheVariants.{StatementList, BodyList, SequenceList}
 use Rattle.mini_model.specs.declared.shape.Shape.{Shape}
 use Rattle.mini_model.specs.declared.shape.Shape.TheVariants as shape
 use Rattle.mini_model.specs.Tree.{Trees, node}
@@ -108,6 +108,7 @@ listed_whole h p m (suc (suc (suc i))) = refl
 
 items_whole : (p : Position) (m i : ℕ) → are_asked_whole p ≡ true → is_asked_whole (item_position p m i) ≡ true
 items_whole StatementList m i e = absurd (false≢true e)
+items_whole BodyList m i e = absurd (false≢true e)
 items_whole (SequenceList s) m i e = absurd (false≢true e)
 items_whole p m i e = refl
 

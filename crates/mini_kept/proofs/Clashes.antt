@@ -20,7 +20,7 @@ counted_both : (l : Bool) (s : List ℕ) (ds es : List Declaration) → counted 
 counted_both l s [] es = omega arith
 counted_both l s (d ∷ ds) es = omega (arith, counted_both l s ds es)
 
-counted_unplaced : (l : Bool) (s : List ℕ) (ds : List Declaration) → counted l s (unplaced ds) ≡ counted l s ds
+pub counted_unplaced : (l : Bool) (s : List ℕ) (ds : List Declaration) → counted l s (unplaced ds) ≡ counted l s ds
 counted_unplaced l s [] = refl
 counted_unplaced l s (d ∷ ds) = ap (λ n. once (is_same_flag l d.is_lexical && same_text d.spelling s) + n) (counted_unplaced l s ds)
 

@@ -14,7 +14,7 @@ use Rattle.mini_kept.proofs.Bools.{left, right, and_false}
 use Rattle.mini_kept.proofs.Expressions.{refused_here}
 use Rattle.mini_kept.specs.KeepsShapes.{KeepsShapes}
 use Rattle.mini_kept.specs.Lifted.{KeepsNames}
-use Rattle.mini_kept.proofs.Moved.{Moved, Alike, cases, still, absent_alike}
+use Rattle.mini_kept.proofs.Moved.{Moved, Alike, AlikeBut, cases, still_but, still, still_list, absent_alike}
 
 -- ---- declarations
 
@@ -89,38 +89,38 @@ module _ (R : Position → Tree → Tree → Type 0) (l : KeepsNames R) (shapes 
   absent_stays {p} {t} {u} m e = so (cases R m)
     where
       so : Alike R p t u ⊎ R p t u → is_absent u ≡ true
-      so (inl a) = sym (absent_alike R a) ∙ e
+      so (inl a) = sym (absent_alike R a.root) ∙ e
       so (inr r) = (shapes.asked p t u r).absent e
 
-  head_kept : (b : Bool) (k : VariableDeclarationKind) (ts us : Trees) → count ts ≡ count us → ((i : ℕ) → Alike R Elsewhere (child_or_absent ts i) (child_or_absent us i)) → ((d : Tree) (e : Tree) → Alike R Elsewhere d e → is_absent (child_or_absent (children d) 1) ≡ true → is_absent (child_or_absent (children e) 1) ≡ true) → is_head_by b k ts ≡ true → is_head_by b k us ≡ true
+  head_kept : (b : Bool) (k : VariableDeclarationKind) (ts us : Trees) → count ts ≡ count us → ((i : ℕ) → AlikeBut R Elsewhere (child_or_absent ts i) (child_or_absent us i)) → ((d : Tree) (e : Tree) → AlikeBut R Elsewhere d e → is_absent (child_or_absent (children d) 1) ≡ true → is_absent (child_or_absent (children e) 1) ≡ true) → is_head_by b k ts ≡ true → is_head_by b k us ≡ true
   head_kept b k none us c a f e = absurd (cc e)
   head_kept b k (t ▸ (v ▸ ts)) us c a f e = absurd (cc e)
   head_kept b k (t ▸ none) none c a f e = absurd (omega (arith, c))
   head_kept b k (t ▸ none) (u ▸ none) c a f e = or_kept (is_absent (child_or_absent (children t) 1)) (is_absent (child_or_absent (children u) 1)) (b && is_var k) (f t u (a 0)) e
   head_kept b k (t ▸ none) (u ▸ (v ▸ us)) c a f e = absurd (omega (arith, c))
 
-  initializer_stays : (d e : Tree) → Alike R Elsewhere d e → is_absent (child_or_absent (children d) 1) ≡ true → is_absent (child_or_absent (children e) 1) ≡ true
-  initializer_stays d e a x = absent_stays (a.parts 1) x
+  initializer_stays : (d e : Tree) → AlikeBut R Elsewhere d e → is_absent (child_or_absent (children d) 1) ≡ true → is_absent (child_or_absent (children e) 1) ≡ true
+  initializer_stays d e a x = absent_stays (a.parts 0) x
 
-  items_alike : (t u : Tree) → shape_of t ≡ shape.Listed → Alike R CommaList t u → (i : ℕ) → Alike R Elsewhere (child_or_absent (children t) i) (child_or_absent (children u) i)
-  items_alike t u s a i = still R l refl (subst (λ q. Moved R q (child_or_absent (children t) i) (child_or_absent (children u) i)) (item_elsewhere CommaList (shape_of t) (count (children t)) i s) (a.parts i))
+  items_alike : (t u : Tree) → shape_of t ≡ shape.Listed → Alike R CommaList t u → (i : ℕ) → AlikeBut R Elsewhere (child_or_absent (children t) i) (child_or_absent (children u) i)
+  items_alike t u s a i = still_but R l refl (subst (λ q. Moved R q (child_or_absent (children t) i) (child_or_absent (children u) i)) (item_elsewhere CommaList (shape_of t) (count (children t)) i s) (a.parts i))
 
   -- of the head of a `for..in` or `for..of`, and of any other declaration
   pub head_declaration_kept : (p : Position) (strict b : Bool) (k : VariableDeclarationKind) (xs : List Name) (n : ℕ) (ts us : Trees) → fits strict (one (a_loop_left b)) (node (shape.VariableDeclaration k) xs n ts) ≡ true → Moved R CommaList (child_or_absent ts 0) (child_or_absent us 0) → is_head_by b k (children (first_item ts)) ≡ true → is_head_by b k (children (first_item us)) ≡ true
   head_declaration_kept p strict b k xs n ts us f m e =
       let listed = declarators_listed strict (child_or_absent ts 0) (first_fits strict (many a_declarator) ts (right (is_whole (a_loop_left b) (shape.VariableDeclaration k) xs n ts) (fill strict (these (many a_declarator ∷ [])) ts) f)) in
-      let list = still R l refl m in
-      head_kept b k (children (child_or_absent ts 0)) (children (child_or_absent us 0)) list.counted (items_alike (child_or_absent ts 0) (child_or_absent us 0) listed list) initializer_stays e
+      let list = still_list R l m in
+      head_kept b k (children (child_or_absent ts 0)) (children (child_or_absent us 0)) list.root.counted (items_alike (child_or_absent ts 0) (child_or_absent us 0) listed list) initializer_stays e
 
   pub declaration_kept : (ts us : Trees) → Moved R CommaList (child_or_absent ts 0) (child_or_absent us 0) → nat_le 1 (count (children (first_item ts))) ≡ true → nat_le 1 (count (children (first_item us))) ≡ true
   declaration_kept ts us m e = sym (ap (nat_le 1) (still R l refl m).counted) ∙ e
 
-  local_kept : (t u : Tree) → shape_of t ≡ shape.ExportSpecifier → Alike R Elsewhere t u → is_reference (child_or_absent (children u) 1) ≡ is_reference (child_or_absent (children t) 1)
+  local_kept : (t u : Tree) → shape_of t ≡ shape.ExportSpecifier → AlikeBut R Elsewhere t u → is_reference (child_or_absent (children u) 1) ≡ is_reference (child_or_absent (children t) 1)
   local_kept t u s a =
-      let m = subst (λ h. Moved R (child_position h Elsewhere (count (children t)) 1) (child_or_absent (children t) 1) (child_or_absent (children u) 1)) s (a.parts 1) in
+      let m = subst (λ h. Moved R (child_position h Elsewhere (count (children t)) 1) (child_or_absent (children t) 1) (child_or_absent (children u) 1)) s (a.parts 0) in
       sym (ap is_reference_shape (still R l refl m).shape)
 
-  locals_kept : (own : Bool) (ts us : Trees) → count ts ≡ count us → AreSpecifiers ts → ((i : ℕ) → Alike R Elsewhere (child_or_absent ts i) (child_or_absent us i)) → are_locals own us ≡ are_locals own ts
+  locals_kept : (own : Bool) (ts us : Trees) → count ts ≡ count us → AreSpecifiers ts → ((i : ℕ) → AlikeBut R Elsewhere (child_or_absent ts i) (child_or_absent us i)) → are_locals own us ≡ are_locals own ts
   locals_kept own none none c s a = refl
   locals_kept own none (u ▸ us) c s a = absurd (omega (arith, c))
   locals_kept own (t ▸ ts) none c s a = absurd (omega (arith, c))
@@ -135,11 +135,11 @@ module _ (R : Position → Tree → Tree → Type 0) (l : KeepsNames R) (shapes 
     export_kept strict s xs n f m e =
         let (listed, specifiers) = exports_fit strict s xs n ts f in
         let first = absent_alike R (still R l refl (m 0)) in
-        let list = still R l refl (m 1) in
+        let list = still_list R l (m 1) in
         let source = absent_alike R (still R l refl (m 2)) in
-        let locals = locals_kept (is_absent (child_or_absent us 2)) (children (child_or_absent ts 1)) (children (child_or_absent us 1)) list.counted specifiers (items_alike (child_or_absent ts 1) (child_or_absent us 1) listed list) in
+        let locals = locals_kept (is_absent (child_or_absent us 2)) (children (child_or_absent ts 1)) (children (child_or_absent us 1)) list.root.counted specifiers (items_alike (child_or_absent ts 1) (child_or_absent us 1) listed list) in
         ap (λ b. (b || (nat_eq (count (children (child_or_absent us 1))) 0 && is_absent (child_or_absent us 2))) && are_locals (is_absent (child_or_absent us 2)) (children (child_or_absent us 1))) (sym first)
-        ∙ ap (λ k. (is_absent (first_item ts) || (nat_eq k 0 && is_absent (child_or_absent us 2))) && are_locals (is_absent (child_or_absent us 2)) (children (child_or_absent us 1))) (sym list.counted)
+        ∙ ap (λ k. (is_absent (first_item ts) || (nat_eq k 0 && is_absent (child_or_absent us 2))) && are_locals (is_absent (child_or_absent us 2)) (children (child_or_absent us 1))) (sym list.root.counted)
         ∙ ap (λ b. (is_absent (first_item ts) || (nat_eq (count (children (child_or_absent ts 1))) 0 && is_absent (child_or_absent us 2))) && b) locals
         ∙ ap (λ b. (is_absent (first_item ts) || (nat_eq (count (children (child_or_absent ts 1))) 0 && b)) && are_locals b (children (child_or_absent ts 1))) (sym source)
         ∙ e

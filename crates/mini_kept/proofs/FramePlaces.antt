@@ -9,14 +9,14 @@ use Rattle.mini_model.specs.declared.kind.MetaPropertyKind.TheVariants.{NewTarge
 use Rattle.mini_model.specs.declared.kind.PropertyKind.{PropertyKind}
 use Rattle.mini_model.specs.declared.kind.PropertyKind.TheVariants as property
 use Rattle.mini_model.specs.declared.place.Position.{Position}
-use Rattle.mini_model.specs.declared.place.Position.TheVariants.{StatementList}
+use Rattle.mini_model.specs.declared.place.Position.TheVariants.{StatementList, BodyList}
 use Rattle.mini_model.specs.declared.shape.Shape.{Shape}
 use Rattle.mini_model.specs.declared.shape.Shape.TheVariants as shape
 use Rattle.mini_accept.specs.WellShaped.{in_module, in_body, nested, Class, a_program, a_statement, a_class_body, a_class_member, a_method, an_object_property, a_binding, a_label, a_private_name, an_inner, an_inner_argument, a_super, a_key, a_private_or_key, an_inner_key, a_tagged_template, a_word, a_pattern, a_pattern_element, a_pattern_property, a_pattern_rest, a_parameter, an_element_target, a_named_target, a_target_name, a_target_element, a_target_property, a_target_rest, an_import, a_module_name, a_string, an_export, an_exported_name, an_exported_declaration, a_default_export, Slot, one, one_or_absent, many, many_or_holes, many_and_rest, many_or_holes_and_rest, quasis, Filling, refused, these, each, each_or_last, pieces, is_text, none_if, value_class, class_of, filling, filling_by, slots_of, has_its_number}
 use Rattle.mini_kept.proofs.Bools.{left, right, or_second}
 use Rattle.mini_kept.specs.Standing.{is_method_slot}
 use Rattle.mini_kept.specs.Frames.{Showing, Whole, Named, Hidden, showing, is_port, property_below}
-use Rattle.mini_kept.specs.KeepsFrames.{is_in_body, is_body_slot}
+use Rattle.mini_kept.specs.KeepsFrames.{is_in_body, is_body_slot, is_keyed_slot}
 
 -- ---- what is said of each slot of a filling, from an index on
 
@@ -307,6 +307,7 @@ pub slot_apart : (p : Position) (s : Slot) → is_part_slot s ≡ true → is_bo
 slot_apart p (one c) e f = class_apart c e f
 slot_apart p (one_or_absent c) e f = class_apart c e f
 slot_apart StatementList (many (a_statement d)) e f = cc e
+slot_apart BodyList (many (a_statement d)) e f = cc e
 slot_apart p s e f = cc f
 
 -- nor is the value of a method one
@@ -314,6 +315,11 @@ pub no_method : (p : Position) (s : Slot) → is_body_slot p s ≡ true → is_m
 no_method p (one a_method) e = absurd (cc e)
 no_method p (one c) e = refl
 no_method p s e = refl
+
+pub no_keyed_method : (s : Slot) → is_keyed_slot s ≡ true → is_method_slot s ≡ false
+no_keyed_method (one a_method) e = absurd (cc e)
+no_keyed_method (one c) e = refl
+no_keyed_method s e = refl
 
 -- ---- a program
 

@@ -1,6 +1,6 @@
 -- What a row writes has the frames of what it reads.
 use Rattle.std.specs.Prelude.{ℕ, zero, suc, ◌≡◌, refl, ◌||◌, nat_lt, Bool, true, false, List, [], ◌∷◌, ◌++◌, None, if◌then◌else◌}
-use Rattle.std.proofs.Common.{ap, ◌∙◌, sym, subst, inl, inr}
+use Rattle.std.proofs.Common.{ap, ◌∙◌, sym, subst, inl, inr, true≢false}
 use Rattle.std.proofs.Math.Dec.{eqb-suc-zero}
 use Rattle.std.proofs.lemmas.Bool.{and_parts}
 use Rattle.std.proofs.lemmas.List.{append-nil}
@@ -24,7 +24,7 @@ use Rattle.mini_kept.specs.KeepsFrames.{is_in_body, is_body_slot, KeepsFrames}
 use Rattle.mini_kept.proofs.Bools.{right}
 use Rattle.mini_kept.proofs.Expressions.{expression, AreExpressions, two, TakesExpressionIn, TakesExpression, refused_here, of_negation, of_conditional, neg_fits}
 use Rattle.mini_kept.proofs.Rows.{TakesStatementIn, TakesStatement, of_if}
-use Rattle.mini_kept.proofs.Instances.{contracts_keep}
+use Rattle.mini_kept.proofs.Instances.{row_elsewhere, contracts_keep}
 use Rattle.mini_kept.proofs.FrameLists.{same_frames, first_of, second_of, both_of, alone_of}
 use Rattle.mini_kept.proofs.FrameSteps.{its_number}
 
@@ -172,9 +172,9 @@ row_exported strict p t u r e = absurd r
 pub rows_keep_frames : KeepsFrames Contracts
 rows_keep_frames = record {
   names = contracts_keep;
-  slots = λ p t u c strict s v e. row_slot strict s p t u c.row e;
+  slots = λ p t u c strict s v e. inl (row_slot strict s p t u c.row e);
   ports = λ p t u c strict d e m. row_ports strict d p t u c.row e m;
-  listed = λ t u c. absurd c.row;
+  listed = λ p t u e c. absurd (true≢false (sym e ∙ row_elsewhere p t u c.row));
   exported = λ p t u c strict e. row_exported strict p t u c.row e;
   frames = λ p t u c strict s v e. row_frames strict s p t u c.row e;
 }

@@ -18,8 +18,8 @@ use Rattle.mini_kept.specs.SameNames.{is_among, SameNames}
 use Rattle.mini_kept.proofs.Statements.{same_both}
 use Rattle.mini_kept.proofs.Below.{all_bound, first_bound}
 use Rattle.mini_kept.specs.Standing.{is_method_slot}
-use Rattle.mini_kept.specs.Frames.{Showing, Whole, Named, Hidden, showing, part, parts, is_declaration, declaration, shown, shown_from, own, is_port, ports, outline, globals, property_below, frame_of, frames, frames_from, frames_in, FramesKept}
-use Rattle.mini_kept.specs.KeepsFrames.{KeepsFrames}
+use Rattle.mini_kept.specs.Frames.{Showing, Whole, Named, Hidden, showing, part, parts, keyed, is_declaration, declaration, shown, shown_from, own, is_port, ports, outline, globals, property_below, frame_of, frames, frames_from, frames_in, FramesKept}
+use Rattle.mini_kept.specs.KeepsFrames.{is_body_slot, is_keyed_slot, IsShownAlike, KeepsFrames}
 use Rattle.mini_kept.specs.FrameLaws.{StepKeepsFrames, ReachesKeepsFrames}
 use Rattle.mini_kept.proofs.Bools.{left, right}
 use Rattle.mini_kept.proofs.Expressions.{refused_here}
@@ -28,7 +28,7 @@ use Rattle.mini_kept.proofs.BodySteps.{one_of}
 use Rattle.mini_kept.specs.Placed.{fits_place}
 use Rattle.mini_kept.proofs.Placed.{Placed, placed_below, statements_place}
 use Rattle.mini_kept.proofs.FrameLists.{same_frames, each_of}
-use Rattle.mini_kept.proofs.FramePlaces.{Are, is_part_slot, is_declared_slot, shows_right, Plain, Outlined, own_right, part_right, plain_right, numbered_outline, port_outline, slot_apart, no_method, AProgram, program_filling}
+use Rattle.mini_kept.proofs.FramePlaces.{Are, is_part_slot, is_declared_slot, shows_right, Plain, Outlined, own_right, part_right, plain_right, numbered_outline, port_outline, slot_apart, no_method, no_keyed_method, AProgram, program_filling}
 
 -- ---- the first of some children, and the others
 
@@ -136,27 +136,43 @@ child_kept p t u k strict s v e Hidden q = refl
 module _ (R : Position → Tree → Tree → Type 0) (l : KeepsFrames R) where
   -- ---- the node that is replaced
 
-  no_part : (p : Position) (t u : Tree) → R p t u → (strict : Bool) (s : Slot) → fits_place p s ≡ true → fits strict s t ≡ true → is_part_slot s ≡ true → ⊥
-  no_part p t u r strict s v e q = slot_apart p s q (l.slots p t u r strict s v e)
+  abbrev Standing : Position → Slot → Tree → Tree → Type 0
+  Standing p s t u = (is_body_slot p s ≡ true) ⊎ IsShownAlike s t u
+
+  part_here : (p : Position) (s : Slot) (t u : Tree) → is_part_slot s ≡ true → Standing p s t u → part t ≡ part u
+  part_here p s t u q (inl b) = absurd (slot_apart p s q b)
+  part_here p s t u q (inr k) = k.1
+
+  no_export : (p : Position) (t u : Tree) → Standing p (one_or_absent an_exported_declaration) t u → ⊥
+  no_export p t u (inl b) = cc b
+  no_export p t u (inr k) = cc k.0
+
+  is_body : (p : Position) (d : Depth) (t u : Tree) → Standing p (many (a_statement d)) t u → is_body_slot p (many (a_statement d)) ≡ true
+  is_body p d t u (inl b) = b
+  is_body p d t u (inr k) = absurd (cc k.0)
+
+  no_method_here : (p : Position) (s : Slot) (t u : Tree) → Standing p s t u → is_method_slot s ≡ false
+  no_method_here p s t u (inl b) = no_method p s b
+  no_method_here p s t u (inr k) = no_keyed_method s k.0
 
   declared_here : (p : Position) (t u : Tree) → R p t u → (strict : Bool) (s : Slot) → fits_place p s ≡ true → fits strict s t ≡ true → is_declared_slot s ≡ true → declaration t ≡ declaration u
   declared_here p t u r strict (one a_default_export) v e q =
       let (x, y) = l.exported p t u r strict e in
       undeclared t x ∙ sym (undeclared u y)
-  declared_here p t u r strict (one_or_absent an_exported_declaration) v e q = absurd (cc (l.slots p t u r strict (one_or_absent an_exported_declaration) v e))
+  declared_here p t u r strict (one_or_absent an_exported_declaration) v e q = absurd (no_export p t u (l.slots p t u r strict (one_or_absent an_exported_declaration) v e))
   declared_here p t u r strict s v e q = absurd (cc q)
 
   statements_here : (p : Position) (t u : Tree) → R p t u → (strict : Bool) (d : Depth) → fits_place p (many (a_statement d)) ≡ true → fits strict (many (a_statement d)) t ≡ true → (m : Bool) → ports m (children t) ≡ ports m (children u)
-  statements_here p t u r strict d v e m = l.listed t u (subst (λ q. R q t u) (statements_place p d (l.slots p t u r strict (many (a_statement d)) v e)) r) strict d e m
+  statements_here p t u r strict d v e m = l.listed p t u (statements_place p d (is_body p d t u (l.slots p t u r strict (many (a_statement d)) v e))) r strict d e m
 
   here_kept : (p : Position) (t u : Tree) → R p t u → Keeps p t u
   here_kept p t u r = record {
-    of_part = λ strict s v e q. absurd (no_part p t u r strict s v e q);
+    of_part = λ strict s v e q. part_here p s t u q (l.slots p t u r strict s v e);
     of_declared = declared_here p t u r;
     of_port = λ strict d e m ts. let (x, y) = l.ports p t u r strict d e m in no_port m t ts x ∙ sym (no_port m u ts y);
     of_statements = statements_here p t u r;
     of_hoisted = λ strict s v e. (l.names.keeps p t u r strict s v e).hoisted;
-    of_frames = λ strict s v e k z. subst (λ k. FramesKept (frames k t) (frames k u)) (sym (z (no_method p s (l.slots p t u r strict s v e)))) (l.frames p t u r strict s v e);
+    of_frames = λ strict s v e k z. subst (λ k. FramesKept (frames k t) (frames k u)) (sym (z (no_method_here p s t u (l.slots p t u r strict s v e)))) (l.frames p t u r strict s v e);
   }
 
   -- ---- a step in one of some children
@@ -219,7 +235,7 @@ module _ (R : Position → Tree → Tree → Type 0) (l : KeepsFrames R) where
 
   module _ (p : Position) (h : Shape) (xs : List Name) (ts us : Trees) (all : AllKeep (child_position h p (count ts)) ts us) where
     part_inside : (n : ℕ) (strict : Bool) (s : Slot) → fits strict s (node h xs n ts) ≡ true → is_part_slot s ≡ true → part (node h xs n ts) ≡ part (node h xs n us)
-    part_inside zero strict s e q = ap (node h xs 0) (all.of_parts (is_strict_in strict h) (filling strict s h) (placed_below strict s h p (count ts)) (children_fill strict s h xs 0 ts e) 0 (part_right strict s h q (number_fits strict s h xs 0 ts e)))
+    part_inside zero strict s e q = ap (λ c. node h xs 0 (keyed h c)) (all.of_parts (is_strict_in strict h) (filling strict s h) (placed_below strict s h p (count ts)) (children_fill strict s h xs 0 ts e) 0 (part_right strict s h q (number_fits strict s h xs 0 ts e)))
     part_inside (suc n) strict s e q = refl
 
     own_inside : (n : ℕ) (strict : Bool) (s : Slot) → fits strict s (node h xs n ts) ≡ true → Outlined h → shown_from (showing h) 0 ts ≡ shown_from (showing h) 0 us

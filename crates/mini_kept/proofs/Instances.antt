@@ -34,7 +34,7 @@ use Rattle.mini_kept.proofs.Rows.{of_if}
 use Rattle.mini_kept.specs.Carried.{numbers}
 use Rattle.mini_kept.specs.KeepsNames.{Keeps, Stands, is_rewritten_place, unplaced, is_read, count_of}
 use Rattle.mini_kept.specs.Lifted.{is_piece, KeepsNames}
-use Rattle.mini_kept.proofs.Placed.{is_statement_list_place}
+use Rattle.mini_kept.specs.Placed.{is_statement_list}
 use Rattle.mini_kept.proofs.InOrder.{in_order}
 use Rattle.mini_kept.proofs.Below.{both_counts, empty_both, both_empty}
 use Rattle.mini_kept.proofs.Anywhere.{once_anywhere, targets_anywhere}
@@ -451,7 +451,7 @@ row_place (Stmt q) n w r = refl
 row_place p n w r = absurd r
 
 -- it is no list of statements
-pub row_elsewhere : (p : Position) (n w : Tree) → Row p n w → is_statement_list_place p ≡ false
+pub row_elsewhere : (p : Position) (n w : Tree) → Row p n w → is_statement_list p ≡ false
 row_elsewhere (Expr s) n w r = refl
 row_elsewhere (Stmt q) n w r = refl
 row_elsewhere p n w r = absurd r
@@ -466,4 +466,4 @@ row_piece p n w r = absurd r
 
 -- what the rows contract keeps the names
 pub contracts_keep : KeepsNames Contracts
-contracts_keep = record { places = λ p n w c. row_place p n w c.row; pieces = λ p n w c. row_piece p n w c.row; keeps = λ p n w c strict s k e. in_order p n w (row_keeps p n w c.row strict s e) }
+contracts_keep = record { places = λ p n w c. inl (row_place p n w c.row); pieces = λ p n w c. row_piece p n w c.row; keeps = λ p n w c strict s k e. in_order p n w (row_keeps p n w c.row strict s e) }

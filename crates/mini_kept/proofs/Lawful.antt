@@ -1,8 +1,8 @@
 -- What any number of steps of a lawful relation keep, and lawful relations.
-use Rattle.std.specs.Prelude.{◌≡◌, ◌⊎◌, refl, false}
+use Rattle.std.specs.Prelude.{◌≡◌, ◌⊎◌, refl, true, false}
 use Rattle.std.proofs.Common.{ap, ◌∙◌, sym, inl, inr}
 use Rattle.mini_model.specs.declared.place.Position.{Position}
-use Rattle.mini_model.specs.declared.place.Position.TheVariants.{Elsewhere, StatementList}
+use Rattle.mini_model.specs.declared.place.Position.TheVariants.{Elsewhere}
 use Rattle.mini_model.specs.Tree.{Tree, node, children}
 use Rattle.mini_model.specs.Redex.{Contracts}
 use Rattle.mini_model.specs.Rewriting.{Step, here, inside, Reaches, done, more}
@@ -10,7 +10,7 @@ use Rattle.mini_accept.specs.WellShaped.{one, a_program, fits, IsWellShaped}
 use Rattle.mini_kept.specs.KeepsNames.{is_rewritten_place}
 use Rattle.mini_kept.specs.Kept.{over}
 use Rattle.mini_kept.specs.Lawful.{Lawful, ProgramIsKept, LawfulJoin, LawfulNarrowed}
-use Rattle.mini_kept.specs.Lifted.{KeepsNames}
+use Rattle.mini_kept.specs.Lifted.{KeepsNames, KeepsRoot}
 use Rattle.mini_kept.proofs.BodyRows.{rows_keep_bodies}
 use Rattle.mini_kept.proofs.BodySteps.{reaches_keeps_bodies}
 use Rattle.mini_kept.proofs.Declared.{rows_declare, reaches_declared}
@@ -31,10 +31,14 @@ over_over (node h xs n ts) u v a b = b ∙ ap (λ w. over w (children v)) a
 
 module _ (R : Position → Tree → Tree → Type 0) (l : KeepsNames R) where
   step_root : {p : Position} {t u : Tree} → is_rewritten_place p ≡ false → Step R p t u → u ≡ over t (children u)
-  step_root e (here p t u r) = absurd (cc (sym e ∙ l.places p t u r))
+  step_root e (here p t u r) = by (l.places p t u r)
+    where
+      by : (is_rewritten_place p ≡ true) ⊎ KeepsRoot p t u → u ≡ over t (children u)
+      by (inl q) = absurd (cc (sym e ∙ q))
+      by (inr k) = k.root
   step_root e (inside p h xs n ts us s) = refl
 
-  reaches_root : {p : Position} {t u : Tree} → is_rewritten_place p ≡ false → Reaches R p t u → u ≡ over t (children u)
+  pub reaches_root : {p : Position} {t u : Tree} → is_rewritten_place p ≡ false → Reaches R p t u → u ≡ over t (children u)
   reaches_root e (done p t) = same_over t
   reaches_root e (more p t u v s r) = over_over t u v (step_root e s) (reaches_root e r)
 
@@ -64,9 +68,9 @@ module _ (R S : Position → Tree → Tree → Type 0) where
   one_or_other f g p n w (inl r) = f p n w r
   one_or_other f g p n w (inr s) = g p n w s
 
-  one_list : (n w : Tree) {X : Type 0} → (R StatementList n w → X) → (S StatementList n w → X) → R StatementList n w ⊎ S StatementList n w → X
-  one_list n w f g (inl r) = f r
-  one_list n w f g (inr s) = g s
+  either_row : (p : Position) (n w : Tree) {X : Type 0} → (R p n w → X) → (S p n w → X) → R p n w ⊎ S p n w → X
+  either_row p n w f g (inl r) = f r
+  either_row p n w f g (inr s) = g s
 
   pub lawful_join : LawfulJoin R S
   lawful_join l m = record {
@@ -81,7 +85,7 @@ module _ (R S : Position → Tree → Tree → Type 0) where
       names = record { places = one_or_other l.frames.names.places m.frames.names.places; pieces = one_or_other l.frames.names.pieces m.frames.names.pieces; keeps = one_or_other l.frames.names.keeps m.frames.names.keeps };
       slots = one_or_other l.frames.slots m.frames.slots;
       ports = one_or_other l.frames.ports m.frames.ports;
-      listed = λ n w. one_list n w (l.frames.listed n w) (m.frames.listed n w);
+      listed = λ p n w e. either_row p n w (l.frames.listed p n w e) (m.frames.listed p n w e);
       exported = one_or_other l.frames.exported m.frames.exported;
       frames = one_or_other l.frames.frames m.frames.frames;
     };
@@ -106,7 +110,7 @@ module _ (R S : Position → Tree → Tree → Type 0) where
       names = record { places = narrowed f l.frames.names.places; pieces = narrowed f l.frames.names.pieces; keeps = narrowed f l.frames.names.keeps };
       slots = narrowed f l.frames.slots;
       ports = narrowed f l.frames.ports;
-      listed = λ n w r. l.frames.listed n w (f StatementList n w r);
+      listed = λ p n w e r. l.frames.listed p n w e (f p n w r);
       exported = narrowed f l.frames.exported;
       frames = narrowed f l.frames.frames;
     };

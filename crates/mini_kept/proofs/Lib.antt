@@ -29,6 +29,7 @@ pub mod Instances
 pub mod Swapping
 pub mod Whole
 pub mod BodyLists
+pub mod WithoutLists
 pub mod BodyPlaces
 pub mod BodySteps
 pub mod BodyRows
@@ -48,3 +49,6 @@ pub mod SameSymbols
 pub mod ReadBack
 pub mod Declared
 pub mod Lawful
+pub mod Gone
+pub mod Loosely
+pub mod Undeclared

@@ -17,7 +17,7 @@ use Rattle.mini_accept.specs.WellShaped.{Class, a_loop_left, a_method, an_expres
 use Rattle.mini_kept.proofs.Bools.{both}
 use Rattle.mini_kept.specs.KeepsShapes.{is_default, KeepsShapes}
 use Rattle.mini_kept.specs.Lifted.{KeepsNames}
-use Rattle.mini_kept.proofs.Moved.{names_of, part, Moved, Alike, cases, still, absent_alike}
+use Rattle.mini_kept.proofs.Moved.{names_of, part, Moved, SameRoot, Alike, cases, still, absent_alike}
 
 -- a declaration by `let`, `const` or `var`, and an export by name: what of their parts is absent, or a name, matters to
 -- the whole
@@ -83,17 +83,17 @@ module _ (R : Position → Tree → Tree → Type 0) (l : KeepsNames R) (shapes 
   body_kept {p} {t} {u} m e = so (cases R m)
     where
       so : Alike R p t u ⊎ R p t u → is_function_body u ≡ true
-      so (inl a) = sym (ap is_function_body_shape a.shape) ∙ e
+      so (inl a) = sym (ap is_function_body_shape a.root.shape) ∙ e
       so (inr r) = (shapes.asked p t u r).body e
 
-  constructor_alike : {p : Position} {t u : Tree} → Alike R p t u → names_constructor t ≡ names_constructor u
-  constructor_alike {p} {t} {u} a = constructor_is t ∙ ap constructor_by a.shape ∙ sym (constructor_is u)
+  constructor_alike : {t u : Tree} → SameRoot t u → names_constructor t ≡ names_constructor u
+  constructor_alike {t} {u} a = constructor_is t ∙ ap constructor_by a.shape ∙ sym (constructor_is u)
 
-  number_kept : (s : Seat) → s.boolean ≡ false → (t u : Tree) → Moved R (Expr s) t u → is_not_positive_number t ≡ true → is_not_positive_number u ≡ true
+  number_kept : (s : Seat) → s.boolean || not s.minus ≡ false → (t u : Tree) → Moved R (Expr s) t u → is_not_positive_number t ≡ true → is_not_positive_number u ≡ true
   number_kept s e t u m k = so (cases R m)
     where
       so : Alike R (Expr s) t u ⊎ R (Expr s) t u → is_not_positive_number u ≡ true
-      so (inl a) = positive_is u ∙ ap positive_by (sym a.shape) ∙ sym (positive_is t) ∙ k
+      so (inl a) = positive_is u ∙ ap positive_by (sym a.root.shape) ∙ sym (positive_is t) ∙ k
       so (inr r) = (shapes.asked (Expr s) t u r).number e k
 
   mutual
@@ -118,27 +118,27 @@ module _ (R : Position → Tree → Tree → Type 0) (l : KeepsNames R) (shapes 
   optional_kept (inl q) e = subst (λ x. has_optional x ≡ true) q e
   optional_kept (inr s) e = optional_step s e
 
-  spelling_alike : {p : Position} {t u : Tree} → Alike R p t u → spelling t ≡ spelling u
-  spelling_alike {p} {t} {u} a = spelling_is t ∙ ap (λ h. spelling_by h (names_of t)) a.shape ∙ ap (spelling_by (shape_of u)) a.names ∙ sym (spelling_is u)
+  spelling_alike : {t u : Tree} → SameRoot t u → spelling t ≡ spelling u
+  spelling_alike {t} {u} a = spelling_is t ∙ ap (λ h. spelling_by h (names_of t)) a.shape ∙ ap (spelling_by (shape_of u)) a.names ∙ sym (spelling_is u)
 
   -- a child that is spelled like something stays spelled so
   spelled_kept : {p : Position} {t u : Tree} (o : Option (List ℕ)) → Moved R p t u → is_same_spelling o (spelling t) ≡ true → spelling t ≡ spelling u
   spelled_kept {p} {t} {u} o m e = so (cases R m)
     where
       so : Alike R p t u ⊎ R p t u → spelling t ≡ spelling u
-      so (inl a) = spelling_alike a
+      so (inl a) = spelling_alike a.root
       so (inr r) = let (s, same) = some_spelling o (spelling t) e in same ∙ sym ((shapes.asked p t u r).spelled s same)
 
   value_by : {p : Position} {t u : Tree} (o : Option (List ℕ)) (b : Bool) → is_default (shape_of t) ≡ b → Moved R p t u → is_same_spelling o (spelling (if b then part t 0 else t)) ≡ true → (is_default (shape_of u) ≡ b) × (spelling (if b then part t 0 else t) ≡ spelling (if b then part u 0 else u))
   value_by {p} {t} {u} o true d m e = so (cases R m)
     where
       so : Alike R p t u ⊎ R p t u → (is_default (shape_of u) ≡ true) × (spelling (part t 0) ≡ spelling (part u 0))
-      so (inl a) = (sym (ap is_default a.shape) ∙ d, spelled_kept o (a.parts 0) e)
+      so (inl a) = (sym (ap is_default a.root.shape) ∙ d, spelled_kept o (a.parts 0) e)
       so (inr r) = absurd (cc (sym d ∙ (shapes.asked p t u r).plain))
   value_by {p} {t} {u} o false d m e = so (cases R m)
     where
       so : Alike R p t u ⊎ R p t u → (is_default (shape_of u) ≡ false) × (spelling t ≡ spelling u)
-      so (inl a) = (sym (ap is_default a.shape) ∙ d, spelling_alike a)
+      so (inl a) = (sym (ap is_default a.root.shape) ∙ d, spelling_alike a.root)
       so (inr r) = let (s, same) = some_spelling o (spelling t) e in let new = (shapes.asked p t u r).spelled s same in (spelled_plain u s new, same ∙ sym new)
 
   value_kept : {p : Position} {t u : Tree} (o : Option (List ℕ)) → Moved R p t u → is_same_spelling o (spelling (without_default t)) ≡ true → spelling (without_default t) ≡ spelling (without_default u)
@@ -147,7 +147,7 @@ module _ (R : Position → Tree → Tree → Type 0) (l : KeepsNames R) (shapes 
       let (d, same) = value_by o b refl m (subst (λ x. is_same_spelling o (spelling x) ≡ true) (undefaulted t) e) in
       ap spelling (undefaulted t) ∙ same ∙ ap (λ c. spelling (if c then part u 0 else u)) (sym d) ∙ sym (ap spelling (undefaulted u))
 
-  repeats_kept : {p q : Position} (ts us : Trees) → Alike R p (child_or_absent ts 0) (child_or_absent us 0) → Moved R q (child_or_absent ts 1) (child_or_absent us 1) → repeats_key ts ≡ true → repeats_key us ≡ true
+  repeats_kept : {q : Position} (ts us : Trees) → SameRoot (child_or_absent ts 0) (child_or_absent us 0) → Moved R q (child_or_absent ts 1) (child_or_absent us 1) → repeats_key ts ≡ true → repeats_key us ≡ true
   repeats_kept ts us a m e =
       let key = spelling_alike a in
       let value = value_kept (spelling (child_or_absent ts 0)) m e in

@@ -4,13 +4,13 @@ use Rattle.std.proofs.Common.{sym, subst, inl, inr}
 use Rattle.mini_model.specs.declared.kind.PropertyKind.TheVariants as property
 use Rattle.mini_model.specs.declared.name.Name.{Name}
 use Rattle.mini_model.specs.declared.place.Position.{Position}
-use Rattle.mini_model.specs.declared.place.Position.TheVariants.{StatementList}
+use Rattle.mini_model.specs.declared.place.Position.TheVariants.{StatementList, BodyList}
 use Rattle.mini_model.specs.declared.shape.Shape.{Shape}
 use Rattle.mini_model.specs.declared.shape.Shape.TheVariants as shape
 use Rattle.mini_model.specs.Tree.{Trees, node}
 use Rattle.mini_model.specs.Position.{child_position}
 use Rattle.mini_accept.specs.WellShaped.{Depth, in_module, in_body, nested, Class, a_statement, a_key, a_private_or_key, an_inner_key, Slot, one, one_or_absent, many, many_or_holes, many_and_rest, many_or_holes_and_rest, quasis, none_if, in_depth, is_sloppy_function, slots_of, Filling, refused, these, each, each_or_last, pieces, filling, filling_by, is_whole, fits, fill}
-use Rattle.mini_kept.specs.Placed.{fits_place}
+use Rattle.mini_kept.specs.Placed.{is_statement_list, fits_place}
 use Rattle.mini_kept.specs.KeepsFrames.{is_body_slot}
 use Rattle.mini_kept.proofs.Bools.{left, right}
 use Rattle.mini_kept.proofs.Expressions.{refused_here}
@@ -47,21 +47,18 @@ filled_placed π (Some ss) e = slots_placed π ss e
 
 -- ---- where no list of statements stands
 
-abbrev pub is_statement_list_place : Position → Bool
-is_statement_list_place StatementList = true
-is_statement_list_place p = false
-
-pub fits_elsewhere : (p : Position) (s : Slot) → is_statement_list_place p ≡ false → fits_place p s ≡ true
+pub fits_elsewhere : (p : Position) (s : Slot) → is_statement_list p ≡ false → fits_place p s ≡ true
 fits_elsewhere p (one c) e = refl
 fits_elsewhere p (one_or_absent c) e = refl
 fits_elsewhere StatementList s e = absurd (cc e)
+fits_elsewhere BodyList s e = absurd (cc e)
 fits_elsewhere p s e = refl
 
-slots_elsewhere : (π : ℕ → Position) → ((i : ℕ) → is_statement_list_place (π i) ≡ false) → (ss : List Slot) → SlotsPlaced π ss
+slots_elsewhere : (π : ℕ → Position) → ((i : ℕ) → is_statement_list (π i) ≡ false) → (ss : List Slot) → SlotsPlaced π ss
 slots_elsewhere π f [] = tt
 slots_elsewhere π f (s ∷ ss) = (fits_elsewhere (π 0) s (f 0), slots_elsewhere (λ j. π (suc j)) (λ j. f (suc j)) ss)
 
-filled_elsewhere : (π : ℕ → Position) → ((i : ℕ) → is_statement_list_place (π i) ≡ false) → (o : Option (List Slot)) → Placed π (filling_by o)
+filled_elsewhere : (π : ℕ → Position) → ((i : ℕ) → is_statement_list (π i) ≡ false) → (o : Option (List Slot)) → Placed π (filling_by o)
 filled_elsewhere π f None = tt
 filled_elsewhere π f (Some ss) = slots_elsewhere π f ss
 
@@ -94,7 +91,7 @@ cases shape.StaticBlock = inr (inl of_static_block)
 cases shape.InnerExpression = inr (inl of_inner)
 cases h = inr (inr refl)
 
-none_held : (h : Shape) (p : Position) (m i : ℕ) → holds_none h ≡ true → is_statement_list_place (child_position h p m i) ≡ false
+none_held : (h : Shape) (p : Position) (m i : ℕ) → holds_none h ≡ true → is_statement_list (child_position h p m i) ≡ false
 none_held (shape.Program d ds) p m i e = absurd (cc e)
 none_held shape.Listed p m i e = absurd (cc e)
 none_held shape.BlockStatement p m i e = absurd (cc e)
@@ -197,6 +194,7 @@ pub listed_body_slot : (strict : Bool) (s : Slot) (xs : List Name) (n : ℕ) (ts
 listed_body_slot strict s xs n ts k e = let (d, q, f) = statements_slot strict s xs n ts k e in subst (λ r. is_body_slot StatementList r ≡ true) (sym q) refl
 
 -- where it isn't one, nothing else takes a list's place
-pub statements_place : (p : Position) (d : Depth) → is_body_slot p (many (a_statement d)) ≡ true → p ≡ StatementList
+pub statements_place : (p : Position) (d : Depth) → is_body_slot p (many (a_statement d)) ≡ true → is_statement_list p ≡ true
 statements_place StatementList d e = refl
+statements_place BodyList d e = refl
 statements_place p d e = absurd (cc e)

@@ -1,6 +1,6 @@
 -- A parent may ask the same of what a row writes as of what it reads.
 use Rattle.std.proofs.Common.{◌≡◌, ℕ, Bool, true, false, List, refl, sym, ap, ◌∙◌, inl, inr}
-use Rattle.std.specs.Prelude.{◌||◌, None}
+use Rattle.std.specs.Prelude.{◌||◌, not, None}
 use Rattle.mini_model.specs.declared.name.Name.{Name}
 use Rattle.mini_model.specs.declared.operator.BinaryOperator.{BinaryOperator}
 use Rattle.mini_model.specs.declared.operator.LogicalOperator.TheVariants.{Or, And}
@@ -15,7 +15,7 @@ use Rattle.mini_model.specs.Position.{is_equality}
 use Rattle.mini_model.specs.Terms.{is_boolean, unwrapped, turned_equality, neg}
 use Rattle.mini_model.specs.Redex.{Row, Contracts}
 use Rattle.mini_accept.specs.WellShaped.{is_function_body, spelling, spelling_by, has_optional, has_optional_by, is_not_positive_number}
-use Rattle.mini_kept.specs.KeepsShapes.{asks_truth, is_default, AskedAlike, KeepsShapes}
+use Rattle.mini_kept.specs.KeepsShapes.{takes_numbers, is_default, AskedAlike, KeepsShapes}
 use Rattle.mini_kept.proofs.Rows.{row_fits}
 
 -- ---- what rows read: nothing that is absent, spelled, a body, a chain or a pattern
@@ -87,8 +87,12 @@ neg_no_number s e (node (shape.UnaryExpression LogicalNot) xs n (a ▸ none)) = 
 neg_no_number s e (node (shape.BinaryExpression o) xs n ts) = equality_no_number (is_equality o) o xs n ts
 neg_no_number s e (node h xs n ts) = refl
 
-row_no_number : (p : Position) (n w : Tree) → Row p n w → asks_truth p ≡ false → is_not_positive_number w ≡ true
-row_no_number (Expr s) n w (inl r) e = ap is_not_positive_number r.written ∙ neg_no_number s e r.e
+not_asked : (b c : Bool) → b || c ≡ false → b ≡ false
+not_asked false c e = refl
+not_asked true c e = e
+
+row_no_number : (p : Position) (n w : Tree) → Row p n w → takes_numbers p ≡ false → is_not_positive_number w ≡ true
+row_no_number (Expr s) n w (inl r) e = ap is_not_positive_number r.written ∙ neg_no_number s (not_asked s.boolean (not s.minus) e) r.e
 row_no_number (Expr s) n w (inr r) e = ap is_not_positive_number r.written
 row_no_number (Stmt q) n w (inl r) e = ap is_not_positive_number r.written
 row_no_number (Stmt q) n w (inr (inl r)) e = ap is_not_positive_number r.written

@@ -4,7 +4,7 @@ use Rattle.mini_model.specs.declared.kind.VariableDeclarationKind.TheVariants.{V
 use Rattle.mini_model.specs.declared.operator.AssignmentOperator.{AssignmentOperator}
 use Rattle.mini_model.specs.declared.operator.AssignmentOperator.TheVariants.{Assign}
 use Rattle.mini_model.specs.declared.place.Position.{Position}
-use Rattle.mini_model.specs.declared.place.Position.TheVariants.{Expr, ArgumentList, SequenceList, TemplateList, StatementList}
+use Rattle.mini_model.specs.declared.place.Position.TheVariants.{Expr, ArgumentList, SequenceList, TemplateList, StatementList, BodyList}
 use Rattle.mini_model.specs.declared.shape.Shape.{Shape}
 use Rattle.mini_model.specs.declared.shape.Shape.TheVariants as shape
 use Rattle.mini_model.specs.Tree.{Tree, shape_of}
@@ -21,6 +21,7 @@ read_used ArgumentList = refl
 read_used (SequenceList s) = refl
 read_used TemplateList = refl
 read_used StatementList = refl
+read_used BodyList = refl
 read_used p = refl
 
 item_used : (p : Position) (v : Use) (n i : ℕ) → is_used p v ≡ true → is_used (item_position p n i) v ≡ true
@@ -29,6 +30,7 @@ item_used ArgumentList v n i e = e
 item_used (SequenceList s) v n i e = e
 item_used TemplateList v n i e = e
 item_used StatementList v n i e = refl
+item_used BodyList v n i e = refl
 item_used p v n i e = refl
 
 -- the shapes of which a part may be an inner expression that is not used as an expression is

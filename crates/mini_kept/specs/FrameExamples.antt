@@ -1,5 +1,6 @@
 -- The frames of small programs, worked out by hand.
 use Rattle.std.specs.Prelude.{◌≡◌, refl, ℕ, true, false, [], ◌∷◌, Some, None, codes}
+use Rattle.std.specs.Fmt.{digits}
 use Rattle.mini_model.specs.declared.kind.MetaPropertyKind.TheVariants.{NewTarget}
 use Rattle.mini_model.specs.declared.kind.MethodDefinitionKind.TheVariants.{Method}
 use Rattle.mini_model.specs.declared.kind.PropertyKind.{PropertyKind}
@@ -53,7 +54,7 @@ parameters : frames None with_parameters ≡
     framed 1 (numbered 1 (shape.Function true false []) (bound 0 ▸ listed (numbered 2 shape.AssignmentPattern none ▸ numbered 4 shape.ObjectPattern none ▸ one shape.RestElement (bound 3) ▸ none) ▸ absent ▸ none))
     ∷ framed 2 (numbered 2 shape.AssignmentPattern (bound 1 ▸ inner_left 3 ▸ none))
     ∷ inner_framed 3
-    ∷ framed 4 (numbered 4 shape.ObjectPattern (listed (two (shape.BindingProperty true false) (label (codes "x")) (bound 2) ▸ none) ▸ none))
+    ∷ framed 4 (numbered 4 shape.ObjectPattern (listed (two (shape.BindingProperty true false) (text (codes "x")) (bound 2) ▸ none) ▸ none))
     ∷ []
 parameters = refl
 
@@ -72,13 +73,43 @@ class : frames None (numbered 1 (shape.Class true) (bound 0 ▸ inner 2 (global 
     ▸ numbered 7 shape.StaticBlock (listed (does (called (global (codes "f"))) ▸ none) ▸ none) ▸ none)) ▸ bound 1 ▸ none)) ≡
     framed 1 (numbered 1 (shape.Class true) (bound 0 ▸ inner_left 2 ▸ one shape.ClassBody (listed (
     two (shape.MethodDefinition Method true false) (inner_left 3) (function_left 4)
-    ▸ two (shape.MethodDefinition Method false false) (label (codes "m")) (function_left 5)
-    ▸ two (shape.PropertyDefinition false true) (label (codes "p")) (inner_left 6)
+    ▸ two (shape.MethodDefinition Method false false) (text (codes "m")) (function_left 5)
+    ▸ two (shape.PropertyDefinition false true) (text (codes "p")) (inner_left 6)
     ▸ two (shape.PropertyDefinition false false) (leaf (shape.PrivateIdentifier (codes "q"))) absent
     ▸ numbered 7 shape.StaticBlock none ▸ none)) ▸ bound 1 ▸ none))
     ∷ inner_framed 2 ∷ inner_framed 3 ∷ framed 4 (function_outline 4) ∷ framed 5 (function_outline 5) ∷ inner_framed 6
     ∷ framed 7 (numbered 7 shape.StaticBlock (absent ▸ none)) ∷ []
 class = refl
+
+-- `let { x: a } = ..`, `let { "x": a } = ..`: a name and a text are the same property. `let { 1: a } = ..`, `let { "1": a } = ..`: so
+-- are a number and its text; `let { "01": a } = ..` has another
+abbrev with_property : Tree → Tree
+with_property k = numbered 1 shape.ObjectPattern (listed (two (shape.BindingProperty false false) k (bound 0) ▸ none) ▸ none)
+
+abbrev property_shown : Tree → Frame
+property_shown k = framed 1 (with_property k)
+
+name_key : frames None (with_property (label (codes "x"))) ≡ property_shown (text (codes "x")) ∷ []
+name_key = refl
+
+text_key : frames None (with_property (text (codes "x"))) ≡ property_shown (text (codes "x")) ∷ []
+text_key = refl
+
+number_key : frames None (with_property (number 1)) ≡ property_shown (text (codes "1")) ∷ []
+unfolding digits
+number_key = refl
+
+other_number_key : frames None (with_property (text (codes "01"))) ≡ property_shown (text (codes "01")) ∷ []
+other_number_key = refl
+
+-- `class { #x; "#x"; static 1() {} }`: a private name is no text
+abbrev with_members : Tree → Tree → Tree
+with_members k f = numbered 1 (shape.Class false) (absent ▸ absent ▸ one shape.ClassBody (listed (two (shape.PropertyDefinition false false) (leaf (shape.PrivateIdentifier (codes "x"))) absent
+    ▸ two (shape.PropertyDefinition false false) (text (codes "#x")) absent ▸ two (shape.MethodDefinition Method false true) k f ▸ none)) ▸ absent ▸ none)
+
+members_shown : frames None (with_members (number 1) (expression 2)) ≡ framed 1 (with_members (text (codes "1")) (function_left 2)) ∷ framed 2 (function_outline 2) ∷ []
+unfolding digits
+members_shown = refl
 
 -- `({ m() {}, get k() {}, f: function () {} })`: the frame of a function tells whether it is a method or an accessor
 object : frames None (one shape.ObjectExpression (listed (
@@ -107,7 +138,7 @@ carried = refl
 -- `[{ a: o.k = 1 }] = ..`: the pattern below has a frame of its own
 nested : frames None (numbered 1 shape.ArrayAssignmentTarget (listed (numbered 2 shape.ObjectAssignmentTarget (listed (two (shape.AssignmentTargetPropertyProperty false) (label (codes "a")) (two shape.AssignmentPattern (inner 3 (member (global (codes "o")) (codes "k"))) (inner 4 (number 1))) ▸ none) ▸ none) ▸ none) ▸ none)) ≡
     framed 1 (numbered 1 shape.ArrayAssignmentTarget (listed (numbered 2 shape.ObjectAssignmentTarget none ▸ none) ▸ none))
-    ∷ framed 2 (numbered 2 shape.ObjectAssignmentTarget (listed (two (shape.AssignmentTargetPropertyProperty false) (label (codes "a")) (two shape.AssignmentPattern (inner_left 3) (inner_left 4)) ▸ none) ▸ none))
+    ∷ framed 2 (numbered 2 shape.ObjectAssignmentTarget (listed (two (shape.AssignmentTargetPropertyProperty false) (text (codes "a")) (two shape.AssignmentPattern (inner_left 3) (inner_left 4)) ▸ none) ▸ none))
     ∷ inner_framed 3 ∷ inner_framed 4 ∷ []
 nested = refl
 

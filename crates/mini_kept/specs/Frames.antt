@@ -1,8 +1,9 @@
 -- What of a program stands in no body: the frame of each node that has a number. A function's has its kind, its directives,
--- its name and its parameters, and a carried node's all but the bodies in it. In both a node that has a number stands for
+-- its name and its parameters, and a carried node's all but the bodies in it; of a key it has the property that the key names. In both a node that has a number stands for
 -- all that is in it, since it has a frame of its own. A program's has its imports and exports, and of a script the names
 -- that it gives the global object.
 use Rattle.std.specs.Prelude.{ℕ, zero, suc, Bool, true, false, not, List, [], ◌∷◌, ◌++◌, Contains, Option, Some, None, if◌then◌else◌}
+use Rattle.std.specs.Fmt.{signed_decimal}
 use Rattle.mini_model.specs.declared.kind.PropertyKind.{PropertyKind}
 use Rattle.mini_model.specs.declared.kind.PropertyKind.TheVariants.{Init}
 use Rattle.mini_model.specs.declared.name.Name.{Name}
@@ -28,10 +29,33 @@ showing shape.ExportNamedDeclaration zero = Named
 showing shape.ExportDefaultDeclaration i = Named
 showing h i = Whole
 
+-- a key without brackets as the property that it names, in quotes: a name, a text and a number that give the same property key
+-- are one (ECMA-262, "Runtime Semantics: Evaluation" of LiteralPropertyName). A private name is another
+abbrev pub property_key : Tree → Tree
+property_key (node (shape.IdentifierName s) xs n ts) = node (shape.StringLiteral s) xs n ts
+property_key (node (shape.NumericLiteral k) xs n ts) = node (shape.StringLiteral (signed_decimal k)) xs n ts
+property_key t = t
+
+-- what has a key as its first child: a property of a pattern or of what is assigned to, a method or a field. One in brackets is
+-- an inner expression
+abbrev pub has_key : Shape → Bool
+has_key (shape.BindingProperty is_shorthand is_computed) = true
+has_key (shape.AssignmentTargetPropertyProperty is_computed) = true
+has_key (shape.MethodDefinition k is_computed is_static) = true
+has_key (shape.PropertyDefinition is_computed is_static) = true
+has_key h = false
+
+abbrev pub first_as_key : Trees → Trees
+first_as_key none = none
+first_as_key (t ▸ ts) = property_key t ▸ ts
+
+abbrev pub keyed : Shape → Trees → Trees
+keyed h ts = if has_key h then first_as_key ts else ts
+
 -- a tree down to the nodes that have a number
 abbrev mutual
   pub part : Tree → Tree
-  part (node h xs zero ts) = node h xs 0 (parts ts)
+  part (node h xs zero ts) = node h xs 0 (keyed h (parts ts))
   part (node h xs (suc n) ts) = node h xs (suc n) none
 
   pub parts : Trees → Trees

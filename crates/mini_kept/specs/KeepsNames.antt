@@ -2,7 +2,7 @@
 -- nodes, and that it has no early error.
 use Rattle.std.specs.Prelude.{ℕ, ◌≡◌, ◌+◌, ◌≤◌, ◌||◌, nat_eq, Bool, true, false, List, [], ◌∷◌, if◌then◌else◌}
 use Rattle.mini_model.specs.declared.place.Position.{Position}
-use Rattle.mini_model.specs.declared.place.Position.TheVariants.{Expr, Stmt, StatementList, ArgumentList, SequenceList, TemplateList}
+use Rattle.mini_model.specs.declared.place.Position.TheVariants.{Expr, Stmt, StatementList, BodyList, ArgumentList, SequenceList, TemplateList}
 use Rattle.mini_model.specs.Tree.{Tree, shape_of}
 use Rattle.mini_names.specs.declared.Use.{Use}
 use Rattle.mini_names.specs.declared.Use.TheVariants.{Read}
@@ -26,6 +26,7 @@ is_used ArgumentList u = is_read u
 is_used (SequenceList s) u = is_read u
 is_used TemplateList u = is_read u
 is_used StatementList u = is_read u
+is_used BodyList u = is_read u
 is_used p u = true
 
 -- an inner expression stands for itself
@@ -37,6 +38,7 @@ abbrev pub is_rewritten_place : Position → Bool
 is_rewritten_place (Expr s) = true
 is_rewritten_place (Stmt q) = true
 is_rewritten_place StatementList = true
+is_rewritten_place BodyList = true
 is_rewritten_place p = false
 
 -- declarations, wherever they stand: whether two clash doesn't depend on it

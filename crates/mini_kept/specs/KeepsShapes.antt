@@ -1,5 +1,5 @@
 -- What a relation of rewriting has to keep of the nodes that it replaces, for a program to stay one.
-use Rattle.std.specs.Prelude.{ℕ, ◌≡◌, Bool, true, false, List, Some}
+use Rattle.std.specs.Prelude.{ℕ, ◌≡◌, Bool, true, false, not, ◌||◌, List, Some}
 use Rattle.mini_model.specs.declared.place.Position.{Position}
 use Rattle.mini_model.specs.declared.place.Position.TheVariants.{Elsewhere, Expr}
 use Rattle.mini_model.specs.declared.shape.Shape.{Shape}
@@ -10,10 +10,10 @@ use Rattle.mini_accept.specs.WellShaped.{Slot, fits, IsWellShaped, is_function_b
 use Rattle.mini_kept.specs.Placed.{fits_place}
 use Rattle.mini_kept.specs.Lifted.{KeepsNames}
 
--- of a value only its truth is asked there
-abbrev pub asks_truth : Position → Bool
-asks_truth (Expr s) = s.boolean
-asks_truth p = false
+-- no `-` stands before it there, or only its truth is asked
+abbrev pub takes_numbers : Position → Bool
+takes_numbers (Expr s) = s.boolean || not s.minus
+takes_numbers p = false
 
 -- a pattern with a default
 abbrev pub is_default : Shape → Bool
@@ -28,7 +28,7 @@ pub record AskedAlike (p : Position) (n w : Tree) : Type 0 where
   pub absent : is_absent n ≡ true → is_absent w ≡ true
   pub body : is_function_body n ≡ true → is_function_body w ≡ true
   pub optional : has_optional n ≡ true → has_optional w ≡ true
-  pub number : asks_truth p ≡ false → is_not_positive_number n ≡ true → is_not_positive_number w ≡ true
+  pub number : takes_numbers p ≡ false → is_not_positive_number n ≡ true → is_not_positive_number w ≡ true
   pub spelled : (s : List ℕ) → spelling n ≡ Some s → spelling w ≡ Some s
   pub plain : is_default (shape_of n) ≡ false
 

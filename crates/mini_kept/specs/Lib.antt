@@ -10,6 +10,7 @@ pub mod Lifted
 pub mod AlikeBodies
 pub mod Standing
 pub mod KeepsBodies
+pub mod Without
 pub mod BodyLaws
 pub mod Fixities
 pub mod Frames
@@ -19,4 +20,5 @@ pub mod FrameLaws
 pub mod Declaring
 pub mod KeepsShapes
 pub mod Lawful
+pub mod Loosely
 pub mod Swaps

@@ -1,10 +1,10 @@
 -- What a relation of rewriting has to keep of the nodes that it replaces, for a program to keep it.
-use Rattle.std.specs.Prelude.{ℕ, ◌≡◌, ◌≤◌, Bool, true, false, []}
+use Rattle.std.specs.Prelude.{ℕ, suc, ◌≡◌, ◌⊎◌, ◌≤◌, Bool, true, false, []}
 use Rattle.mini_model.specs.declared.place.Position.{Position}
 use Rattle.mini_model.specs.declared.place.Position.TheVariants.{Elsewhere}
 use Rattle.mini_model.specs.declared.shape.Shape.{Shape}
 use Rattle.mini_model.specs.declared.shape.Shape.TheVariants as shape
-use Rattle.mini_model.specs.Tree.{Tree, shape_of}
+use Rattle.mini_model.specs.Tree.{Tree, count, children, shape_of, child_or_absent}
 use Rattle.mini_model.specs.Redex.{Contracts}
 use Rattle.mini_model.specs.Rewriting.{Step, Reaches}
 use Rattle.mini_accept.specs.WellShaped.{Slot, fits, IsWellShaped}
@@ -13,6 +13,7 @@ use Rattle.mini_names.specs.Scoped.{Scoped}
 use Rattle.mini_names.specs.Symbols.{declared_symbols, Distinct, Within}
 use Rattle.mini_names.specs.Early.{no_targets}
 use Rattle.mini_kept.specs.Carried.{numbers as numbers_of}
+use Rattle.mini_kept.specs.Kept.{over}
 use Rattle.mini_kept.specs.Placed.{fits_place}
 use Rattle.mini_kept.specs.KeepsNames.{is_rewritten_place, NamesOnce, HasTargets, count_of}
 use Rattle.mini_kept.specs.KeepsLoosely.{KeepsLoosely}
@@ -22,9 +23,17 @@ abbrev pub is_piece : Shape → Bool
 is_piece (shape.TemplateElement tail raw c) = true
 is_piece h = false
 
--- it replaces expressions, statements and lists of statements alone, and what it writes keeps what the node, where it may stand, has
+-- elsewhere, as the property of a pattern does: the node over the same children, but for the first, which is its key
+pub record KeepsRoot (p : Position) (n w : Tree) : Type 0 where
+  pub place : p ≡ Elsewhere
+  pub root : w ≡ over n (children w)
+  pub counted : count (children n) ≡ count (children w)
+  pub others : (i : ℕ) → child_or_absent (children n) (suc i) ≡ child_or_absent (children w) (suc i)
+
+-- it replaces expressions, statements and lists of statements, or what keeps its root, and what it writes keeps what the node,
+-- where it may stand, has
 pub record KeepsNames (R : Position → Tree → Tree → Type 0) : Type 0 where
-  pub places : (p : Position) (n w : Tree) → R p n w → is_rewritten_place p ≡ true
+  pub places : (p : Position) (n w : Tree) → R p n w → (is_rewritten_place p ≡ true) ⊎ KeepsRoot p n w
   pub pieces : (p : Position) (n w : Tree) → R p n w → is_piece (shape_of n) ≡ false
   pub keeps : (p : Position) (n w : Tree) → R p n w → (strict : Bool) (s : Slot) → fits_place p s ≡ true → fits strict s n ≡ true → KeepsLoosely p n w
 

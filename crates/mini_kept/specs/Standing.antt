@@ -2,7 +2,7 @@
 -- a function there is no constructor's unless it is a method's value.
 use Rattle.std.specs.Prelude.{◌≡◌, Bool, true, false, ◌&&◌, ◌||◌, not}
 use Rattle.mini_model.specs.declared.place.Position.{Position}
-use Rattle.mini_model.specs.declared.place.Position.TheVariants.{Expr, Stmt, StatementList, ArgumentList, SequenceList, TemplateList}
+use Rattle.mini_model.specs.declared.place.Position.TheVariants.{Expr, Stmt, StatementList, BodyList, ArgumentList, SequenceList, TemplateList}
 use Rattle.mini_accept.specs.WellShaped.{Class, a_method, an_inner, an_inner_argument, a_private_or_key, an_inner_key, an_element_target, a_target_element, Slot, one, one_or_absent, many, many_or_holes, many_and_rest, many_or_holes_and_rest, quasis}
 use Rattle.mini_laws.specs.Bodies.{Around}
 
@@ -21,6 +21,7 @@ abbrev pub is_asked_whole : Position → Bool
 is_asked_whole (Expr s) = not s.boolean && not s.unused
 is_asked_whole (Stmt q) = false
 is_asked_whole StatementList = false
+is_asked_whole BodyList = false
 is_asked_whole ArgumentList = false
 is_asked_whole (SequenceList s) = false
 is_asked_whole TemplateList = false
@@ -29,6 +30,7 @@ is_asked_whole p = true
 -- and so of each item of a list
 abbrev pub are_asked_whole : Position → Bool
 are_asked_whole StatementList = false
+are_asked_whole BodyList = false
 are_asked_whole (SequenceList s) = false
 are_asked_whole p = true
 

@@ -6,6 +6,7 @@
 ghost use Rattle.mini_kept.specs.Kept.{EachBelowKept, EachKept, ReachesWellShaped, StepFits};
 ghost use Rattle.mini_kept.specs.KeepsShapes.{AnyStepFits, AnyReachesWellShaped};
 ghost use Rattle.mini_kept.specs.Lawful.{LawfulKeeps, LawfulJoin, LawfulNarrowed, RowsAreLawful};
+ghost use Rattle.mini_kept.specs.Loosely.{LooselyKeeps, LawfulIsLoose, LooseJoin, LooseNarrowed};
 ghost use Rattle.mini_kept.specs.Swaps.{BranchesSwapped, NegationLeft};
 ghost use Rattle.mini_kept.specs.Lifted.{RowsKeepNames, ReachesKeepsNames};
 ghost use Rattle.mini_kept.specs.NameLaws.{ResolvedRenumbered, NumbersCarried, ProgramCarried};
@@ -119,6 +120,19 @@ pub fn lawful_rules_join<R: Rewrites, S: Rewrites>()
 /// What makes no more than a lawful relation is lawful.
 pub fn lawful_rules_narrowed<R: Rewrites, S: Rewrites>()
     ensures { LawfulNarrowed R.gives S.gives }
+{}
+
+/// Any number of steps of a loosely lawful relation keep all of a program that is well shaped, but names that nothing mentions:
+/// each body of it runs as before where nobody else sees a variable that the later program doesn't declare.
+pub fn loose_rewriting_keeps<R: Rewrites>()
+    ensures keeps { LooselyKeeps R.gives }
+    ensures lawful { LawfulIsLoose R.gives }
+{}
+
+/// What one loosely lawful relation makes, or another, is loosely lawful, and what makes no more than one is.
+pub fn loose_rules_join<R: Rewrites, S: Rewrites>()
+    ensures joined { LooseJoin R.gives S.gives }
+    ensures narrowed { LooseNarrowed R.gives S.gives }
 {}
 
 /// What the rows make is lawful.

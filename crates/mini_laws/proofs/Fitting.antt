@@ -13,10 +13,10 @@ use Rattle.mini_model.specs.declared.seat.StmtSeat.TheVariants as stmt_seat
 use Rattle.mini_model.specs.declared.shape.Shape.{Shape}
 use Rattle.mini_model.specs.declared.shape.Shape.TheVariants as shape
 use Rattle.mini_model.specs.declared.place.Position.{Position}
-use Rattle.mini_model.specs.declared.place.Position.TheVariants.{Expr, Stmt, StatementList, ArgumentList, SequenceList, TemplateList, Elsewhere}
+use Rattle.mini_model.specs.declared.place.Position.TheVariants.{Expr, Stmt, StatementList, BodyList, ArgumentList, SequenceList, TemplateList, Elsewhere}
 use Rattle.mini_model.specs.declared.place.Position.TheVariants as place
 use Rattle.mini_model.specs.Position.{seat_of_level, argument_seat, branch_seat, passed_part_seat, new_callee_seat, object_seat, callee_seat, chained_seat, yield_argument_seat, if_test_seat, not_operand_seat, conditional_test_seat, is_and_or, operand_seat, unary_operand_seat, binary_operand_seat, part_seat, conditional_position, class_position, if_position, for_position, call_position, item_position, key_position, written_key_position, value_position, is_accessor, first_rest, first_second_rest, seat_at, child_position}
-use Rattle.mini_laws.specs.Demand.{Want, Val, Test, Unused, Tail, Demand, As, Callee, Target, Items, Parts, Texts, Stat, Binds, Cases, Deleted}
+use Rattle.mini_laws.specs.Demand.{Want, Val, Test, Unused, Tail, FunctionTail, Demand, As, Callee, Target, Items, Parts, Texts, Stat, Binds, Cases, Deleted}
 use Rattle.mini_laws.specs.Naming.{Declared, Variables, AClass, Facts, first_facts}
 use Rattle.mini_laws.specs.Asking.{pass, and_or_demand, logical_demand, operand_demand, chained, first_demand, last_tail, tail_demand, tail_of, parts_demand, sequence_demand, list_demand, for_demand, each_demand, do_demand, try_demand, declaration_demand, exported_demand, demand}
 use Rattle.mini_laws.specs.Fits.{Fits}
@@ -117,6 +117,7 @@ items_elsewhere n q i = tt
 
 fits_items : (n : ℕ) (p : Position) (q : Demand) → Fits p q → (i : ℕ) → Fits (item_position p n i) (list_demand n q i)
 fits_items n StatementList (Stat t) f i = tail_fits (Stmt stmt_seat.List) (λ u. tt) n t i
+fits_items n BodyList (Stat (Some FunctionTail)) f i = tail_fits (Stmt stmt_seat.List) (λ u. tt) n (Some FunctionTail) i
 fits_items n ArgumentList Items f i = (refl, refl)
 fits_items n ArgumentList (Stat t) f i = tail_fits (Expr argument_seat) (λ u. refl) n t i
 fits_items n (SequenceList s) (Parts w) f i = fits_parts s w f n i

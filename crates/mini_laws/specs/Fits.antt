@@ -1,12 +1,13 @@
 -- Which demand goes with which place: the marks of a seat say what the model asks there.
-use Rattle.std.specs.Prelude.{◌≡◌, ◌⊎◌, true, false}
+use Rattle.std.specs.Prelude.{◌≡◌, ◌⊎◌, true, false, Some}
 use Rattle.mini_model.specs.declared.place.Position.{Position}
-use Rattle.mini_model.specs.declared.place.Position.TheVariants.{Expr, Stmt, StatementList, ArgumentList, SequenceList, TemplateList}
+use Rattle.mini_model.specs.declared.place.Position.TheVariants.{Expr, Stmt, StatementList, BodyList, ArgumentList, SequenceList, TemplateList}
 use Rattle.mini_model.specs.declared.seat.Guard.TheVariants as guard
-use Rattle.mini_laws.specs.Demand.{Test, Unused, Demand, As, Callee, OfType, Deleted, Items, Parts, Texts, Stat}
+use Rattle.mini_laws.specs.Demand.{Test, Unused, FunctionTail, Demand, As, Callee, OfType, Deleted, Items, Parts, Texts, Stat}
 
 -- in a seat with no mark anything may be asked but a reference: a callee, the operand of `typeof` and that of `delete` have a
--- guard. An unused one, in the head of a `for`, may hold a declaration. What no parent asks counts as a statement
+-- guard. An unused one, in the head of a `for`, may hold a declaration. A function's body ends where its statements do. What no
+-- parent asks counts as a statement
 abbrev pub Fits : Position → Demand → Type 0
 Fits (Expr s) (As w) = (s.boolean ≡ true → w ≡ Test) × (s.unused ≡ true → (w ≡ Unused) ⊎ (w ≡ Test))
 Fits (Expr s) (Stat t) = s.boolean ≡ false
@@ -18,6 +19,8 @@ Fits (Stmt k) (Stat t) = Unit {0}
 Fits (Stmt k) q = ⊥
 Fits StatementList (Stat t) = Unit {0}
 Fits StatementList q = ⊥
+Fits BodyList (Stat (Some FunctionTail)) = Unit {0}
+Fits BodyList q = ⊥
 Fits ArgumentList Items = Unit {0}
 Fits ArgumentList (Stat t) = Unit {0}
 Fits ArgumentList q = ⊥

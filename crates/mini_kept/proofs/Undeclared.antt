@@ -1,0 +1,481 @@
+-- A variable that no name of a program stands for is neither shared nor foreign to any body of it.
+use Rattle.std.specs.Prelude.{ℕ, zero, suc, nat_eq, ◌≡◌, refl, Bool, true, false, ◌&&◌, ◌||◌, not, List, [], ◌∷◌, ◌++◌, length, drop, map, Option, Some, None, if◌then◌else◌}
+use Rattle.std.specs.List.{list_any}
+use Rattle.std.proofs.Common.{ap, ◌∙◌, sym, subst}
+use Rattle.mini_model.specs.declared.kind.VariableDeclarationKind.TheVariants.{Var}
+use Rattle.mini_model.specs.declared.name.Name.{Name}
+use Rattle.mini_model.specs.declared.name.SymbolId.{SymbolId}
+use Rattle.mini_model.specs.declared.shape.Shape.{Shape}
+use Rattle.mini_model.specs.declared.shape.Shape.TheVariants as shape
+use Rattle.mini_model.specs.Tree.{Tree, Trees, node, none, ◌▸◌, is_absent}
+use Rattle.mini_names.specs.declared.Use.{Use}
+use Rattle.mini_names.specs.declared.Use.TheVariants.{Read, Hoisted}
+use Rattle.mini_names.specs.declared.Around.{Around}
+use Rattle.mini_names.specs.declared.Binding.{Binding}
+use Rattle.mini_names.specs.declared.Declared.{Declared}
+use Rattle.mini_names.specs.declared.Declared.TheVariants as declared
+use Rattle.mini_names.specs.declared.Opening.{Opening}
+use Rattle.mini_names.specs.declared.Opening.TheVariants as opening
+use Rattle.mini_names.specs.declared.Place.{Place}
+use Rattle.mini_names.specs.declared.Place.TheVariants as place
+use Rattle.mini_names.specs.DeclaredNames.{place_of, names_by, names_of, first_names, all_names, is_statement_list, body_names, all_body_names, bound_names, has_inner, is_spelled, with_name, with_names}
+use Rattle.mini_names.specs.Foreign.{imported_by, imported_names, all_imported_names, own_pattern_names, pattern_names, all_pattern_names, is_body_by, own_lexical, lexical_variables, all_lexical_variables, has_number, own_params_around, params_around, all_params_around, is_write, is_declared_in, may_be_uninitialised, switched, is_read_early, moments, is_foreign}
+use Rattle.mini_names.specs.Mentions.{Mention, own_mentions, around_child, outermost, mentions, mentions_from, program_mentions, is_elsewhere, same_variable, is_among}
+use Rattle.mini_names.specs.References.{writes}
+use Rattle.mini_names.specs.Resolved.{Environment, or_else, is_for, own_symbol, symbol_of}
+use Rattle.mini_names.specs.ScopeList.{Scope, with_names_alone, entered, names_in, least_scopes, scope_list, scope_list_from, any_has_eval, scopes_of, seen_in, seen_by_eval}
+use Rattle.mini_names.specs.Scopes.{use_of, opening_of, scopes_by, at_or_empty, opened, name_if, merged}
+use Rattle.mini_names.specs.Shared.{script_tops, module_names_by, module_names, all_module_names, names_arguments, reached_params, reached_by_arguments, all_reached_by_arguments, spelled_among, own_caught, caught, all_caught, given_by_declarator, given_values, write_at, var_writes, var_writes_from, program_var_writes, own_catch_params, catch_params, all_catch_params, is_shared_always, is_shared}
+use Rattle.mini_names.specs.Strict.{is_strict_in}
+use Rattle.mini_laws.specs.Value.{Declared as Variable, variables, variable_eq, variable_by}
+use Rattle.mini_laws.specs.Congruence.{NoneIn, Avoids, AllAvoid}
+use Rattle.mini_laws.specs.Substitution.{alone}
+use Rattle.mini_kept.specs.Loosely.{symbol}
+
+module _ (k : ℕ) where
+  abbrev x : Name
+  x = record { spelling = []; symbol = symbol k }
+
+  -- ---- names
+
+  abbrev Other : List Name → Type 0
+  Other [] = Unit {0}
+  Other (y ∷ ys) = (same_variable x y ≡ false) × Other ys
+
+  none_among : (ys : List Name) → Other ys → is_among x ys ≡ false
+  none_among [] o = refl
+  none_among (y ∷ ys) o = ap (λ b. b || is_among x ys) o.0 ∙ none_among ys o.1
+
+  both : (ys zs : List Name) → Other ys → Other zs → Other (ys ++ zs)
+  both [] zs o p = p
+  both (y ∷ ys) zs o p = (o.0, both ys zs o.1 p)
+
+  other_name : (s : List ℕ) (y : Option SymbolId) → variable_eq (Variable k) (variable_by s y) ≡ false → same_variable x (record { spelling = s; symbol = y }) ≡ false
+  other_name s None e = refl
+  other_name s (Some y) e = e
+
+  own : (xs : List Name) → NoneIn (alone (Variable k)) (variables xs) → Other xs
+  own [] a = tt
+  own (y ∷ ys) a = (other_name y.spelling y.symbol a.0, own ys a.1)
+
+  pick : (b : Bool) (ys zs : List Name) → Other ys → Other zs → Other (if b then ys else zs)
+  pick true ys zs o p = o
+  pick false ys zs o p = p
+
+  by_place : (p : Place) (xs first bound below : List Name) → Other xs → Other first → Other bound → Other below → Other (names_by p xs first bound below)
+  by_place place.Here xs first bound below a b c d = a
+  by_place place.FirstBound xs first bound below a b c d = b
+  by_place place.Bound xs first bound below a b c d = c
+  by_place place.Below xs first bound below a b c d = d
+  by_place place.Nowhere xs first bound below a b c d = tt
+
+  mutual
+    unfolding names_of
+
+    named : (d : Declared) (t : Tree) → Avoids (alone (Variable k)) t → Other (names_of d t)
+    named d (node h xs n ts) a = by_place (place_of d h) xs (first_names ts) (all_names declared.Bound ts) (all_names d ts) (own xs a.0) (first_named ts a.1) (all_named declared.Bound ts a.1) (all_named d ts a.1)
+
+    first_named : (ts : Trees) → AllAvoid (alone (Variable k)) ts → Other (first_names ts)
+    first_named none a = tt
+    first_named (t ▸ ts) a = named declared.Bound t a.0
+
+    all_named : (d : Declared) (ts : Trees) → AllAvoid (alone (Variable k)) ts → Other (all_names d ts)
+    all_named d none a = tt
+    all_named d (t ▸ ts) a = both (names_of d t) (all_names d ts) (named d t a.0) (all_named d ts a.1)
+
+  mutual
+    unfolding body_names
+
+    body_named : (t : Tree) → Avoids (alone (Variable k)) t → Other (body_names t)
+    body_named (node h xs n ts) a =
+        let lexical = names_of declared.Lexical (node h xs n ts) in
+        let hoisted = names_of declared.Hoisted (node h xs n ts) in
+        pick (is_statement_list h) (all_body_names ts) (lexical ++ hoisted) (all_body_named ts a.1) (both lexical hoisted (named declared.Lexical (node h xs n ts) a) (named declared.Hoisted (node h xs n ts) a))
+
+    all_body_named : (ts : Trees) → AllAvoid (alone (Variable k)) ts → Other (all_body_names ts)
+    all_body_named none a = tt
+    all_body_named (t ▸ ts) a = both (body_names t) (all_body_names ts) (body_named t a.0) (all_body_named ts a.1)
+
+  -- ---- scopes
+
+  with_named : (seen xs : List Name) → Other seen → Other xs → Other (with_names seen xs)
+  unfolding with_names
+  with_named seen [] o p = o
+  with_named seen (y ∷ ys) o p = with_named (with_name seen y) ys (by (is_spelled y.spelling seen)) p.1
+    where
+      by : (b : Bool) → Other (if b then seen else seen ++ y ∷ [])
+      by true = o
+      by false = both seen (y ∷ []) o (p.0, tt)
+
+  dropped : (n : ℕ) (xs : List Name) → Other xs → Other (drop n xs)
+  dropped zero xs o = o
+  dropped (suc n) [] o = o
+  dropped (suc n) (y ∷ ys) o = dropped n ys o.1
+
+  bound_as : (h : Bool) (xs : List Name) → Other xs → Other (names_in (map (λ y. record { name = y; hoists = h }) xs))
+  bound_as h [] o = tt
+  bound_as h (y ∷ ys) o = (o.0, bound_as h ys o.1)
+
+  lexical : (xs : List Name) → Other xs → Other (names_in (map (λ y. record { name = y; hoists = false }) (with_names [] xs)))
+  lexical xs o = bound_as false (with_names [] xs) (with_named [] xs tt o)
+
+  bodily : (params xs : List Name) → Other params → Other xs → Other (names_in (map (λ y. record { name = y; hoists = true }) (drop (length params) (with_names params xs))))
+  bodily params xs o p = bound_as true (drop (length params) (with_names params xs)) (dropped (length params) (with_names params xs) (with_named params xs o p))
+
+  if_named : (b : Bool) (t : Tree) → Avoids (alone (Variable k)) t → Other (name_if b t)
+  if_named true t a = named declared.Bound t a
+  if_named false t a = tt
+
+  merged_named : (t : Tree) → Avoids (alone (Variable k)) t → Other (merged t)
+  merged_named t a = by (has_inner t)
+    where
+      by : (b : Bool) → Other (if b then [] else bound_names t)
+      by true = tt
+      by false = named declared.Bound t a
+
+  scope_named : (o : Opening) (ts : Trees) → AllAvoid (alone (Variable k)) ts → (i : ℕ) → Other (names_in (at_or_empty (scopes_by o ts) i))
+  unfolding scopes_by
+  scope_named opening.Nothing none a i = tt
+  scope_named opening.Nothing (t ▸ ts) a i = tt
+  scope_named opening.Body none a i = tt
+  scope_named opening.Body (t ▸ ts) a zero = bodily [] (body_names t) tt (body_named t a.0)
+  scope_named opening.Body (t ▸ ts) a (suc i) = tt
+  scope_named opening.First none a i = tt
+  scope_named opening.First (t ▸ ts) a zero = lexical (names_of declared.Lexical t) (named declared.Lexical t a.0)
+  scope_named opening.First (t ▸ ts) a (suc i) = tt
+  scope_named opening.Bound none a i = tt
+  scope_named opening.Bound (t ▸ ts) a zero = lexical (bound_names t) (named declared.Bound t a.0)
+  scope_named opening.Bound (t ▸ ts) a (suc i) = tt
+  scope_named opening.Second none a i = tt
+  scope_named opening.Second (t ▸ none) a i = tt
+  scope_named opening.Second (t ▸ (u ▸ ts)) a zero = tt
+  scope_named opening.Second (t ▸ (u ▸ ts)) a (suc zero) = lexical (names_of declared.Lexical u) (named declared.Lexical u a.1.0)
+  scope_named opening.Second (t ▸ (u ▸ ts)) a (suc (suc i)) = tt
+  scope_named opening.Arrow none a i = tt
+  scope_named opening.Arrow (p ▸ none) a i = tt
+  scope_named opening.Arrow (p ▸ (t ▸ ts)) a zero = bodily [] (bound_names p) tt (named declared.Bound p a.0)
+  scope_named opening.Arrow (p ▸ (t ▸ ts)) a (suc zero) = bodily (merged p) (body_names t) (merged_named p a.0) (body_named t a.1.0)
+  scope_named opening.Arrow (p ▸ (t ▸ ts)) a (suc (suc i)) = tt
+  scope_named (opening.Class own inner) none a i = tt
+  scope_named (opening.Class own inner) (t ▸ none) a i = tt
+  scope_named (opening.Class own inner) (t ▸ (b ▸ none)) a i = tt
+  scope_named (opening.Class own inner) (t ▸ (b ▸ (c ▸ none))) a i = tt
+  scope_named (opening.Class own inner) (t ▸ (b ▸ (c ▸ (d ▸ ts)))) a zero = lexical (name_if own t) (if_named own t a.0)
+  scope_named (opening.Class own inner) (t ▸ (b ▸ (c ▸ (d ▸ ts)))) a (suc zero) = lexical (name_if inner d) (if_named inner d a.1.1.1.0)
+  scope_named (opening.Class own inner) (t ▸ (b ▸ (c ▸ (d ▸ ts)))) a (suc (suc i)) = tt
+  scope_named (opening.Function own) none a i = tt
+  scope_named (opening.Function own) (t ▸ none) a i = tt
+  scope_named (opening.Function own) (t ▸ (p ▸ none)) a i = tt
+  scope_named (opening.Function own) (t ▸ (p ▸ (b ▸ ts))) a zero = lexical (name_if own t) (if_named own t a.0)
+  scope_named (opening.Function own) (t ▸ (p ▸ (b ▸ ts))) a (suc zero) = bodily [] (bound_names p) tt (named declared.Bound p a.1.0)
+  scope_named (opening.Function own) (t ▸ (p ▸ (b ▸ ts))) a (suc (suc zero)) = bodily (merged p) (body_names b) (merged_named p a.1.0) (body_named b a.1.1.0)
+  scope_named (opening.Function own) (t ▸ (p ▸ (b ▸ ts))) a (suc (suc (suc i))) = tt
+
+  scope_here : (u : Use) (h : Shape) (ts : Trees) → AllAvoid (alone (Variable k)) ts → (i : ℕ) → Other (names_in (opened u h ts i))
+  scope_here u h ts a i = scope_named (opening_of u h) ts a i
+
+  -- ---- what a direct eval can see
+
+  abbrev AllOther : List Scope → Type 0
+  AllOther [] = Unit {0}
+  AllOther (r ∷ rs) = Other r.names × AllOther rs
+
+  all_both : (rs ss : List Scope) → AllOther rs → AllOther ss → AllOther (rs ++ ss)
+  all_both [] ss o p = p
+  all_both (r ∷ rs) ss o p = (o.0, all_both rs ss o.1 p)
+
+  entered_other : (n : ℕ) (s : Scope) → Other s.names → AllOther (entered n s)
+  entered_other zero s o = by s.names
+    where
+      by : (ys : List Name) → AllOther (with_names_alone ys s)
+      by [] = tt
+      by (y ∷ ys) = (o, tt)
+  entered_other (suc zero) s o = (o, tt)
+  entered_other (suc (suc n)) s o = (tt, (o, tt))
+
+  mutual
+    unfolding scope_list
+
+    listed_other : (u : Use) (strict : Bool) (t : Tree) → Avoids (alone (Variable k)) t → AllOther (scope_list u strict t)
+    listed_other u strict (node h xs n ts) a = all_listed (opened u h ts) (scope_here u h ts a.1) (use_of h u) (least_scopes h) (is_strict_in strict h) 0 ts a.1
+
+    all_listed : (sc : ℕ → List Binding) → ((i : ℕ) → Other (names_in (sc i))) → (us : ℕ → Use) (least : ℕ → ℕ) (strict : Bool) (i : ℕ) (ts : Trees) → AllAvoid (alone (Variable k)) ts → AllOther (scope_list_from sc us least strict i ts)
+    all_listed sc o us least strict i none a = tt
+    all_listed sc o us least strict i (t ▸ ts) a =
+        let here : Scope = record { names = names_in (sc i); strict = strict; evals = any_has_eval (t ▸ ts) } in
+        all_both (entered (least i) here) (scope_list (us i) strict t ++ scope_list_from sc us least strict (suc i) ts) (entered_other (least i) here (o i))
+        (all_both (scope_list (us i) strict t) (scope_list_from sc us least strict (suc i) ts) (listed_other (us i) strict t a.0) (all_listed sc o us least strict (suc i) ts a.1))
+
+  seen_other : (rs : List Scope) → AllOther rs → Other (seen_in rs)
+  seen_other [] o = tt
+  seen_other (r ∷ rs) o = let rest = seen_other rs o.1 in pick r.evals (r.names ++ seen_in rs) (seen_in rs) (both r.names (seen_in rs) o.0 rest) rest
+
+  -- ---- the other lists of names
+
+  tops_other : (t : Tree) → Avoids (alone (Variable k)) t → Other (script_tops t)
+  tops_other (node (shape.Program false ds) xs n ts) a = scope_here Read (shape.Program false ds) ts a.1 0
+  tops_other (node (shape.Program true ds) xs n ts) a = tt
+  tops_other (node h xs n ts) a = tt
+
+  module_by : (h : Shape) (xs lexical hoisted below : List Name) → Other xs → Other lexical → Other hoisted → Other below → Other (module_names_by h xs lexical hoisted below)
+  module_by shape.Listed xs l q r a b c d = d
+  module_by (shape.Program is_module ds) xs l q r a b c d = d
+  module_by shape.ImportDeclaration xs l q r a b c d = b
+  module_by shape.ExportNamedDeclaration xs l q r a b c d = both (l ++ q) r (both l q b c) d
+  module_by shape.ExportDefaultDeclaration xs l q r a b c d = b
+  module_by shape.ExportSpecifier xs l q r a b c d = d
+  module_by shape.Identifier xs l q r a b c d = a
+  module_by h xs l q r a b c d = tt
+
+  imports_by : (h : Shape) (lexical below : List Name) → Other lexical → Other below → Other (imported_by h lexical below)
+  imports_by (shape.Program is_module ds) l r b d = d
+  imports_by shape.Listed l r b d = d
+  imports_by shape.ImportDeclaration l r b d = b
+  imports_by h l r b d = tt
+
+  mutual
+    unfolding module_names imported_names
+
+    module_other : (t : Tree) → Avoids (alone (Variable k)) t → Other (module_names t)
+    module_other (node h xs n ts) a = module_by h xs (names_of declared.Lexical (node h xs n ts)) (names_of declared.Hoisted (node h xs n ts)) (all_module_names ts) (own xs a.0) (named declared.Lexical (node h xs n ts) a) (named declared.Hoisted (node h xs n ts) a) (all_module_other ts a.1)
+
+    all_module_other : (ts : Trees) → AllAvoid (alone (Variable k)) ts → Other (all_module_names ts)
+    all_module_other none a = tt
+    all_module_other (t ▸ ts) a = both (module_names t) (all_module_names ts) (module_other t a.0) (all_module_other ts a.1)
+
+    imported_other : (t : Tree) → Avoids (alone (Variable k)) t → Other (imported_names t)
+    imported_other (node h xs n ts) a = imports_by h (names_of declared.Lexical (node h xs n ts)) (all_imported_names ts) (named declared.Lexical (node h xs n ts) a) (all_imported_other ts a.1)
+
+    all_imported_other : (ts : Trees) → AllAvoid (alone (Variable k)) ts → Other (all_imported_names ts)
+    all_imported_other none a = tt
+    all_imported_other (t ▸ ts) a = both (imported_names t) (all_imported_names ts) (imported_other t a.0) (all_imported_other ts a.1)
+
+  if_other : (b : Bool) (ys : List Name) → Other ys → Other (if b then ys else [])
+  if_other true ys o = o
+  if_other false ys o = tt
+
+  reached_own : (strict : Bool) (h : Shape) (ts : Trees) → AllAvoid (alone (Variable k)) ts → Other (reached_params strict h ts)
+  reached_own strict (shape.Function d g ds) none a = tt
+  reached_own strict (shape.Function d g ds) (t ▸ none) a = tt
+  reached_own strict (shape.Function d g ds) (t ▸ (p ▸ none)) a = tt
+  reached_own strict (shape.Function d g ds) (t ▸ (p ▸ (b ▸ ts))) a = if_other (not strict && (names_arguments p || names_arguments b)) (bound_names p) (named declared.Bound p a.1.0)
+  reached_own strict h ts a = tt
+
+  spelled_other : (xs ys : List Name) → Other ys → Other (spelled_among xs ys)
+  spelled_other xs [] o = tt
+  spelled_other xs (y ∷ ys) o = let rest = spelled_other xs ys o.1 in pick (is_spelled y.spelling xs) (y ∷ spelled_among xs ys) (spelled_among xs ys) (o.0, rest) rest
+
+  caught_own : (h : Shape) (ts : Trees) → AllAvoid (alone (Variable k)) ts → Other (own_caught h ts)
+  caught_own shape.CatchClause none a = tt
+  caught_own shape.CatchClause (p ▸ ts) a = spelled_other (bound_names p) (all_names declared.Hoisted ts) (all_named declared.Hoisted ts a.1)
+  caught_own h ts a = tt
+
+  catch_own : (h : Shape) (ts : Trees) → AllAvoid (alone (Variable k)) ts → Other (own_catch_params h ts)
+  catch_own shape.CatchClause none a = tt
+  catch_own shape.CatchClause (p ▸ ts) a = named declared.Bound p a.0
+  catch_own h ts a = tt
+
+  pattern_own : (h : Shape) (n : ℕ) (ts : Trees) → AllAvoid (alone (Variable k)) ts → Other (own_pattern_names h n ts)
+  pattern_own shape.ObjectPattern n ts a = all_named declared.Bound ts a
+  pattern_own shape.ArrayPattern n ts a = all_named declared.Bound ts a
+  pattern_own shape.AssignmentPattern zero ts a = tt
+  pattern_own shape.AssignmentPattern (suc n) ts a = all_named declared.Bound ts a
+  pattern_own h n ts a = tt
+
+  lexical_own : (b : Bool) (h : Shape) (ts : Trees) → AllAvoid (alone (Variable k)) ts → Other (own_lexical b h ts)
+  lexical_own b (shape.VariableDeclaration Var) ts a = tt
+  lexical_own b (shape.VariableDeclaration q) ts a = all_named declared.Bound ts a
+  lexical_own true (shape.Function true g ds) ts a = tt
+  lexical_own true (shape.Function false g ds) ts a = first_named ts a
+  lexical_own false (shape.Function d g ds) ts a = first_named ts a
+  lexical_own b (shape.Class d) none a = tt
+  lexical_own b (shape.Class d) (t ▸ none) a = tt
+  lexical_own b (shape.Class d) (t ▸ (u ▸ none)) a = tt
+  lexical_own b (shape.Class d) (t ▸ (u ▸ (v ▸ none))) a = tt
+  lexical_own b (shape.Class d) (t ▸ (u ▸ (v ▸ (w ▸ ts)))) a = both (bound_names t) (bound_names w) (named declared.Bound t a.0) (named declared.Bound w a.1.1.1.0)
+  lexical_own b shape.CatchClause ts a = first_named ts a
+  lexical_own b shape.ImportDeclaration ts a = all_named declared.Bound ts a
+  lexical_own b h ts a = tt
+
+  params_own : (b : ℕ) (h : Shape) (ts : Trees) → AllAvoid (alone (Variable k)) ts → Other (own_params_around b h ts)
+  params_own b (shape.Function d g ds) none a = tt
+  params_own b (shape.Function d g ds) (t ▸ none) a = tt
+  params_own b (shape.Function d g ds) (t ▸ (p ▸ ts)) a = if_other (has_number b p) (bound_names p) (named declared.Bound p a.1.0)
+  params_own b (shape.ArrowFunctionExpression ds) none a = tt
+  params_own b (shape.ArrowFunctionExpression ds) (p ▸ ts) a = if_other (has_number b p) (bound_names p) (named declared.Bound p a.0)
+  params_own b h ts a = tt
+
+  mutual
+    unfolding reached_by_arguments caught catch_params pattern_names lexical_variables params_around
+
+    reached_other : (strict : Bool) (t : Tree) → Avoids (alone (Variable k)) t → Other (reached_by_arguments strict t)
+    reached_other strict (node h xs n ts) a = both (reached_params (is_strict_in strict h) h ts) (all_reached_by_arguments (is_strict_in strict h) ts) (reached_own (is_strict_in strict h) h ts a.1) (all_reached_other (is_strict_in strict h) ts a.1)
+
+    all_reached_other : (strict : Bool) (ts : Trees) → AllAvoid (alone (Variable k)) ts → Other (all_reached_by_arguments strict ts)
+    all_reached_other strict none a = tt
+    all_reached_other strict (t ▸ ts) a = both (reached_by_arguments strict t) (all_reached_by_arguments strict ts) (reached_other strict t a.0) (all_reached_other strict ts a.1)
+
+    caught_other : (t : Tree) → Avoids (alone (Variable k)) t → Other (caught t)
+    caught_other (node h xs n ts) a = both (own_caught h ts) (all_caught ts) (caught_own h ts a.1) (all_caught_other ts a.1)
+
+    all_caught_other : (ts : Trees) → AllAvoid (alone (Variable k)) ts → Other (all_caught ts)
+    all_caught_other none a = tt
+    all_caught_other (t ▸ ts) a = both (caught t) (all_caught ts) (caught_other t a.0) (all_caught_other ts a.1)
+
+    catch_other : (t : Tree) → Avoids (alone (Variable k)) t → Other (catch_params t)
+    catch_other (node h xs n ts) a = both (own_catch_params h ts) (all_catch_params ts) (catch_own h ts a.1) (all_catch_other ts a.1)
+
+    all_catch_other : (ts : Trees) → AllAvoid (alone (Variable k)) ts → Other (all_catch_params ts)
+    all_catch_other none a = tt
+    all_catch_other (t ▸ ts) a = both (catch_params t) (all_catch_params ts) (catch_other t a.0) (all_catch_other ts a.1)
+
+    pattern_other : (t : Tree) → Avoids (alone (Variable k)) t → Other (pattern_names t)
+    pattern_other (node h xs n ts) a = both (own_pattern_names h n ts) (all_pattern_names ts) (pattern_own h n ts a.1) (all_pattern_other ts a.1)
+
+    all_pattern_other : (ts : Trees) → AllAvoid (alone (Variable k)) ts → Other (all_pattern_names ts)
+    all_pattern_other none a = tt
+    all_pattern_other (t ▸ ts) a = both (pattern_names t) (all_pattern_names ts) (pattern_other t a.0) (all_pattern_other ts a.1)
+
+    lexical_other : (b : Bool) (t : Tree) → Avoids (alone (Variable k)) t → Other (lexical_variables b t)
+    lexical_other b (node h xs n ts) a = both (own_lexical b h ts) (all_lexical_variables (is_body_by h b) ts) (lexical_own b h ts a.1) (all_lexical_other (is_body_by h b) ts a.1)
+
+    all_lexical_other : (b : Bool) (ts : Trees) → AllAvoid (alone (Variable k)) ts → Other (all_lexical_variables b ts)
+    all_lexical_other b none a = tt
+    all_lexical_other b (t ▸ ts) a = both (lexical_variables b t) (all_lexical_variables b ts) (lexical_other b t a.0) (all_lexical_other b ts a.1)
+
+    params_other : (b : ℕ) (t : Tree) → Avoids (alone (Variable k)) t → Other (params_around b t)
+    params_other b (node h xs n ts) a = both (own_params_around b h ts) (all_params_around b ts) (params_own b h ts a.1) (all_params_other b ts a.1)
+
+    all_params_other : (b : ℕ) (ts : Trees) → AllAvoid (alone (Variable k)) ts → Other (all_params_around b ts)
+    all_params_other b none a = tt
+    all_params_other b (t ▸ ts) a = both (params_around b t) (all_params_around b ts) (params_other b t a.0) (all_params_other b ts a.1)
+
+  -- ---- mentions, and what a `var` writes
+
+  abbrev Unmentioned : List Mention → Type 0
+  Unmentioned [] = Unit {0}
+  Unmentioned (m ∷ ms) = (same_variable x m.name ≡ false) × Unmentioned ms
+
+  mention_both : (ms ns : List Mention) → Unmentioned ms → Unmentioned ns → Unmentioned (ms ++ ns)
+  mention_both [] ns o p = p
+  mention_both (m ∷ ms) ns o p = (o.0, mention_both ms ns o.1 p)
+
+  names_mentioned : (u : Use) (b : Bool) (r : Around) (xs : List Name) → Other xs → Unmentioned (map (λ y. record { name = y; used = u; binds = b; around = r }) xs)
+  names_mentioned u b r [] o = tt
+  names_mentioned u b r (y ∷ ys) o = (o.0, names_mentioned u b r ys o.1)
+
+  own_mentioned : (u : Use) (r : Around) (h : Shape) (xs : List Name) → Other xs → Unmentioned (own_mentions u r h xs)
+  own_mentioned u r shape.Identifier xs o = names_mentioned u false r xs o
+  own_mentioned u r shape.BindingIdentifier xs o = names_mentioned u true r xs o
+  own_mentioned u r h xs o = tt
+
+  mutual
+    unfolding mentions
+
+    mentioned_other : (u : Use) (r : Around) (t : Tree) → Avoids (alone (Variable k)) t → Unmentioned (mentions u r t)
+    mentioned_other u r (node h xs n ts) a = mention_both (own_mentions u r h xs) (mentions_from (use_of h u) (around_child h r n) 0 ts) (own_mentioned u r h xs (own xs a.0)) (all_mentioned_other (use_of h u) (around_child h r n) 0 ts a.1)
+
+    all_mentioned_other : (us : ℕ → Use) (rs : ℕ → Around) (i : ℕ) (ts : Trees) → AllAvoid (alone (Variable k)) ts → Unmentioned (mentions_from us rs i ts)
+    all_mentioned_other us rs i none a = tt
+    all_mentioned_other us rs i (t ▸ ts) a = mention_both (mentions (us i) (rs i) t) (mentions_from us rs (suc i) ts) (mentioned_other (us i) (rs i) t a.0) (all_mentioned_other us rs (suc i) ts a.1)
+
+  -- of a name that is found in an environment
+  abbrev Unfound : Option SymbolId → Type 0
+  Unfound y = same_variable x (record { spelling = []; symbol = y }) ≡ false
+
+  any_spelling : (s : List ℕ) (y : Option SymbolId) → Unfound y → same_variable x (record { spelling = s; symbol = y }) ≡ false
+  any_spelling s None e = refl
+  any_spelling s (Some y) e = e
+
+  no_spelling : (y : Name) → same_variable x y ≡ false → Unfound y.symbol
+  no_spelling y e = by y.spelling y.symbol e
+    where
+      by : (s : List ℕ) (z : Option SymbolId) → same_variable x (record { spelling = s; symbol = z }) ≡ false → Unfound z
+      by s None e = refl
+      by s (Some z) e = e
+
+  either_unfound : (y z : Option SymbolId) → Unfound y → Unfound z → Unfound (or_else y z)
+  either_unfound None z p q = q
+  either_unfound (Some y) z p q = p
+
+  if_unfound : (b : Bool) (y : Option SymbolId) → Unfound y → Unfound (if b then y else None)
+  if_unfound true y p = p
+  if_unfound false y p = refl
+
+  unfound : (u : Use) (s : List ℕ) (env : Environment) → Other (names_in env) → Unfound (symbol_of u s env)
+  unfound u s [] o = refl
+  unfound u s (b ∷ env) o = either_unfound (symbol_of u s env) (own_symbol u s b) (unfound u s env o.1) (if_unfound (is_for u s b) b.name.symbol (no_spelling b.name o.0))
+
+  env_both : (env bs : Environment) → Other (names_in env) → Other (names_in bs) → Other (names_in (env ++ bs))
+  env_both [] bs o p = p
+  env_both (b ∷ env) bs o p = (o.0, env_both env bs o.1 p)
+
+  written_other : (env : Environment) → Other (names_in env) → (r : Around) (ys : List Name) → Unmentioned (map (write_at env r) ys)
+  written_other env o r [] = tt
+  written_other env o r (y ∷ ys) = (any_spelling y.spelling (symbol_of Read y.spelling env) (unfound Read y.spelling env o), written_other env o r ys)
+
+  mutual
+    unfolding var_writes
+
+    writes_other : (u : Use) (env : Environment) → Other (names_in env) → (r : Around) (t : Tree) → Avoids (alone (Variable k)) t → Unmentioned (var_writes u env r t)
+    writes_other u env o r (node h xs n ts) a = mention_both (map (write_at env r) (given_values u h ts)) (var_writes_from (opened u h ts) (use_of h u) (around_child h r n) 0 env ts) (written_other env o r (given_values u h ts)) (all_writes_other (opened u h ts) (scope_here u h ts a.1) (use_of h u) (around_child h r n) 0 env o ts a.1)
+
+    all_writes_other : (sc : ℕ → List Binding) → ((i : ℕ) → Other (names_in (sc i))) → (us : ℕ → Use) (rs : ℕ → Around) (i : ℕ) (env : Environment) → Other (names_in env) → (ts : Trees) → AllAvoid (alone (Variable k)) ts → Unmentioned (var_writes_from sc us rs i env ts)
+    all_writes_other sc p us rs i env o none a = tt
+    all_writes_other sc p us rs i env o (t ▸ ts) a =
+        let inner = env_both env (sc i) o (p i) in
+        mention_both (var_writes (us i) (env ++ sc i) (rs i) t) (var_writes_from sc us rs (suc i) (env ++ sc i) ts) (writes_other (us i) (env ++ sc i) inner (rs i) t a.0) (all_writes_other sc p us rs (suc i) (env ++ sc i) inner ts a.1)
+
+  -- no test that asks for the variable holds of one of them
+  none_passes : (p : Mention → Bool) (ms : List Mention) → Unmentioned ms → list_any (λ m. same_variable x m.name && p m) ms ≡ false
+  none_passes p [] o = refl
+  none_passes p (m ∷ ms) o = ap (λ b. (b && p m) || list_any (λ n. same_variable x n.name && p n) ms) o.0 ∙ none_passes p ms o.1
+
+  none_written : (ms : List Mention) → Unmentioned ms → list_any (is_write x) ms ≡ false
+  none_written [] o = refl
+  none_written (m ∷ ms) o = ap (λ b. (b && not m.binds && writes m.used) || list_any (is_write x) ms) o.0 ∙ none_written ms o.1
+
+  -- ---- the whole
+
+  module _ (t : Tree) (a : Avoids (alone (Variable k)) t) where
+    tops : is_among x (script_tops t) ≡ false
+    tops = none_among (script_tops t) (tops_other t a)
+
+    evals : is_among x (seen_by_eval t) ≡ false
+    evals = none_among (seen_by_eval t) (seen_other (scopes_of t) (listed_other Read false t a))
+
+    arguments : is_among x (reached_by_arguments false t) ≡ false
+    arguments = none_among (reached_by_arguments false t) (reached_other false t a)
+
+    in_catch : is_among x (catch_params t) ≡ false
+    in_catch = none_among (catch_params t) (catch_other t a)
+
+    mentioned : Unmentioned (program_mentions t)
+    mentioned = mentioned_other Read outermost t a
+
+    written : Unmentioned (program_var_writes t ++ program_mentions t)
+    written = mention_both (program_var_writes t) (program_mentions t) (writes_other Read [] tt outermost t a) mentioned
+
+    pub unshared : (b : ℕ) → is_shared t b x ≡ false
+    unshared b =
+        let modules = none_among (module_names t) (module_other t a) in
+        let under = none_among (caught t) (caught_other t a) in
+        let outside = none_passes (λ m. is_elsewhere b m.around) (program_mentions t) mentioned in
+        λ j. (false || tops j || modules j || evals j || arguments j || under j || (in_catch j && list_any (λ m. same_variable x m.name) (program_var_writes t))) || outside j
+
+    pub native : (b : ℕ) → is_foreign t b x ≡ false
+    native b =
+        let imports = none_among (imported_names t) (imported_other t a) in
+        let patterns = none_among (pattern_names t) (pattern_other t a) in
+        let writes_none = none_written (program_var_writes t ++ program_mentions t) written in
+        let lexicals = none_among (lexical_variables false t) (lexical_other false t a) in
+        let around = none_among (params_around b t) (params_other b t a) in
+        (λ j. (false || imports j || tops j || evals j || arguments j || patterns j || (in_catch j && list_any (λ m. same_variable x m.name) (program_var_writes t)))
+        || (unshared b j && list_any (λ m. is_write x m && is_elsewhere b m.around) (program_var_writes t ++ program_mentions t))
+        || (not (is_declared_in t b x) && writes_none j)
+        || ((lexicals j && (not (is_declared_in t b x) || is_among x (switched t) || is_read_early b x (moments Read outermost t))) || around j))
+        ∙ by (is_declared_in t b x)
+      where
+        by : (c : Bool) → ((not c && false) || false) ≡ false
+        by true = refl
+        by false = refl
