@@ -16,6 +16,10 @@ use Rattle.mini_rows.specs.Declarations.{DeclarationContracts}
 use Rattle.mini_rows.specs.Folding.{FoldingContracts}
 use Rattle.mini_rows.specs.Turns.{TurnContracts}
 use Rattle.mini_rows.specs.Arrows.{ArrowContracts}
+use Rattle.mini_rows.specs.DeMorgan.{DeMorganContracts}
+use Rattle.mini_rows.specs.Booleans.{BooleanContracts}
+use Rattle.mini_rows.specs.Constants.{ConstantContracts}
+use Rattle.mini_rows.specs.KeyHolders.{HeldKeyContracts}
 use Rattle.mini_rows.specs.Redex.{Row, Contracts}
 use Rattle.mini_rows.proofs.SpellKeyLawful as keys
 use Rattle.mini_rows.proofs.FoldLawful.{foldings_lawful}
@@ -26,12 +30,28 @@ use Rattle.mini_rows.proofs.ChoiceLawful as choices
 use Rattle.mini_rows.proofs.DeclarationLawful.{declarations_lawful}
 use Rattle.mini_rows.proofs.TurnLawful.{turns_lawful}
 use Rattle.mini_rows.proofs.ArrowLawful.{arrows_lawful}
+use Rattle.mini_rows.proofs.DeMorganLawful.{de_morgan_lawful}
+use Rattle.mini_rows.proofs.BooleanLawful.{booleans_lawful}
+use Rattle.mini_rows.proofs.ConstantLawful.{constants_lawful}
+use Rattle.mini_rows.proofs.HeldKeyLawful.{held_keys_lawful}
 
 module _ (o : Switches) where
   -- by family
 
+  abbrev Voids : Position → Tree → Tree → Type 0
+  Voids p n w = BooleanContracts p n w ⊎ DeMorganContracts p n w
+
+  abbrev Truths : Position → Tree → Tree → Type 0
+  Truths p n w = HeldKeyContracts p n w ⊎ Voids p n w
+
+  abbrev Newest : Position → Tree → Tree → Type 0
+  Newest p n w = ConstantContracts p n w ⊎ Truths p n w
+
+  abbrev Ends : Position → Tree → Tree → Type 0
+  Ends p n w = ArrowContracts p n w ⊎ Newest p n w
+
   abbrev Functions : Position → Tree → Tree → Type 0
-  Functions p n w = TurnContracts p n w ⊎ ArrowContracts p n w
+  Functions p n w = TurnContracts p n w ⊎ Ends p n w
 
   abbrev End : Position → Tree → Tree → Type 0
   End p n w = FoldingContracts p n w ⊎ Functions p n w
@@ -58,7 +78,7 @@ module _ (o : Switches) where
   Families p n w = first.Contracts p n w ⊎ Others p n w
 
   families_lawful : Lawful Families
-  families_lawful = lawful_join first.Contracts Others rows_are_lawful (lawful_join SpellingContracts Late spellings.lawful (lawful_join BranchContracts Last branches_lawful (lawful_join (ListContracts o) Latest (lists_lawful o) (lawful_join KeyContracts Final keys.lawful (lawful_join ChoiceContracts Known choices.lawful (lawful_join DeclarationContracts End declarations_lawful (lawful_join FoldingContracts Functions foldings_lawful (lawful_join TurnContracts ArrowContracts turns_lawful arrows_lawful))))))))
+  families_lawful = lawful_join first.Contracts Others rows_are_lawful (lawful_join SpellingContracts Late spellings.lawful (lawful_join BranchContracts Last branches_lawful (lawful_join (ListContracts o) Latest (lists_lawful o) (lawful_join KeyContracts Final keys.lawful (lawful_join ChoiceContracts Known choices.lawful (lawful_join DeclarationContracts End declarations_lawful (lawful_join FoldingContracts Functions foldings_lawful (lawful_join TurnContracts Ends turns_lawful (lawful_join ArrowContracts Newest arrows_lawful (lawful_join ConstantContracts Truths constants_lawful (lawful_join HeldKeyContracts Voids held_keys_lawful (lawful_join BooleanContracts DeMorganContracts booleans_lawful de_morgan_lawful))))))))))))
 
   by_row : (p : Position) (n w : Tree) → Row o p n w → weight p w < weight p n → Families p n w
   by_row p n w (inl r) l = inl (record { row = r; lighter = l })
@@ -70,7 +90,11 @@ module _ (o : Switches) where
   by_row p n w (inr (inr (inr (inr (inr (inr (inl r))))))) l = inr (inr (inr (inr (inr (inr (inl (record { row = r; lighter = l })))))))
   by_row p n w (inr (inr (inr (inr (inr (inr (inr (inl r)))))))) l = inr (inr (inr (inr (inr (inr (inr (inl (record { row = r; lighter = l }))))))))
   by_row p n w (inr (inr (inr (inr (inr (inr (inr (inr (inl r))))))))) l = inr (inr (inr (inr (inr (inr (inr (inr (inl (record { row = r; lighter = l })))))))))
-  by_row p n w (inr (inr (inr (inr (inr (inr (inr (inr (inr r))))))))) l = inr (inr (inr (inr (inr (inr (inr (inr (inr (record { row = r; lighter = l })))))))))
+  by_row p n w (inr (inr (inr (inr (inr (inr (inr (inr (inr (inl r)))))))))) l = inr (inr (inr (inr (inr (inr (inr (inr (inr (inl (record { row = r; lighter = l }))))))))))
+  by_row p n w (inr (inr (inr (inr (inr (inr (inr (inr (inr (inr (inl r))))))))))) l = inr (inr (inr (inr (inr (inr (inr (inr (inr (inr (inl (record { row = r; lighter = l })))))))))))
+  by_row p n w (inr (inr (inr (inr (inr (inr (inr (inr (inr (inr (inr (inl r)))))))))))) l = inr (inr (inr (inr (inr (inr (inr (inr (inr (inr (inr (inl (record { row = r; lighter = l }))))))))))))
+  by_row p n w (inr (inr (inr (inr (inr (inr (inr (inr (inr (inr (inr (inr (inl r))))))))))))) l = inr (inr (inr (inr (inr (inr (inr (inr (inr (inr (inr (inr (inl (record { row = r; lighter = l })))))))))))))
+  by_row p n w (inr (inr (inr (inr (inr (inr (inr (inr (inr (inr (inr (inr (inr r))))))))))))) l = inr (inr (inr (inr (inr (inr (inr (inr (inr (inr (inr (inr (inr (record { row = r; lighter = l })))))))))))))
 
   pub by_family : (p : Position) (n w : Tree) → Contracts o p n w → Families p n w
   by_family p n w c = by_row p n w c.row c.lighter

@@ -33,7 +33,7 @@ use Rattle.mini_rows.proofs.ArrangedTrees.{same_inner, same_fixed, same_declared
 
 -- ---- tables
 
-expression_is_value : (h : Head) → is_expression_head h ≡ true → is_value (shape_by h) ≡ true
+pub expression_is_value : (h : Head) → is_expression_head h ≡ true → is_value (shape_by h) ≡ true
 expression_is_value AList e = absurd (cc e)
 expression_is_value If e = absurd (cc e)
 expression_is_value Block e = absurd (cc e)
@@ -121,7 +121,7 @@ at_rest a (node shape.RestElement xs n ts) e = absurd (cc e)
 at_rest a (node shape.AssignmentPattern xs n ts) e = absurd (cc e)
 at_rest a (node h xs n ts) e = refl
 
-rested : (a : Around) (t : Tree) → a.constructs ≡ false → is_value (shape_of t) ≡ true → bodies a t ≡ bodies (quiet a) t
+pub rested : (a : Around) (t : Tree) → a.constructs ≡ false → is_value (shape_of t) ≡ true → bodies a t ≡ bodies (quiet a) t
 rested a t k e = ap (λ c. bodies (record a { constructs = c }) t) k ∙ at_rest a t e
 
 -- ---- the law
@@ -154,7 +154,7 @@ module _ (f : Free) (ps : Parts) (u : AreFree ps f) (h : Head) (ss : Sketches) (
   quiet_of : (t : Tree) → is_value (shape_of t) ≡ true → IsQuiet t
   quiet_of t v = left (is_quiet (shape_of t)) (is_no_inner (shape_of t)) v
 
-  read_here : (q : Seat) (v : Use) → StandsFor (Expr q) v n → v ≡ Read
+  pub read_here : (q : Seat) (v : Use) → StandsFor (Expr q) v n → v ≡ Read
   read_here q v k = used v (sym (ap (λ b. b || is_read v) (no_inner (shape_by h) n_value)) ∙ k)
 
   names_kept : (q : Seat) (strict : Bool) (s : Slot) → fits strict s n ≡ true → IsQuiet n → IsQuiet w → Keeps (Expr q) n w
@@ -177,10 +177,13 @@ module _ (f : Free) (ps : Parts) (u : AreFree ps f) (h : Head) (ss : Sketches) (
         block = λ k l p. absurd (cc k);
       }
 
+  pub expression_keeps : (q : Seat) (strict : Bool) (s : Slot) → fits strict s n ≡ true → Keeps (Expr q) n w
+  expression_keeps q strict s k = names_kept q strict s k (quiet_of n n_value) (quiet_of w (w_value strict s k))
+
   bodies_kept : (a : Around) → a.constructs ≡ false → is_value (shape_of w) ≡ true → BodiesKept (bodies a n) (bodies a w)
   bodies_kept a k v = subst (BodiesKept (bodies a n)) (sym (rested a w k v)) (subst (λ bs. BodiesKept bs (bodies (quiet a) w)) (sym (rested a n k n_value)) (same_bodies f ps u AsValue (under h ss) r sn sr z a))
 
-  method_slot : (strict : Bool) (s : Slot) → fits strict s n ≡ true → is_method_slot s ≡ false
+  pub method_slot : (strict : Bool) (s : Slot) → fits strict s n ≡ true → is_method_slot s ≡ false
   method_slot strict (one a_method) k = absurd (refused_here strict (one a_method) (shape_by h) [] 0 (all_filled ps ss) (ap filling_by (no_method strict h)) k)
   method_slot strict (one c) k = refl
   method_slot strict s k = refl
@@ -190,7 +193,7 @@ module _ (f : Free) (ps : Parts) (u : AreFree ps f) (h : Head) (ss : Sketches) (
 
   pub expression_kept : (q : Seat) → KeptAt (Expr q) n w
   expression_kept q = record {
-    keeps = λ strict s o k. in_order (Expr q) n w (names_kept q strict s k (quiet_of n n_value) (quiet_of w (w_value strict s k)));
+    keeps = λ strict s o k. in_order (Expr q) n w (expression_keeps q strict s k);
     piece = no_piece h;
     kind = λ strict s k. kind_of_value (shape_of n) n_value ∙ sym (kind_of_value (shape_of w) (w_value strict s k));
     bodies = λ strict s o k a st. bodies_kept a (st.function (method_slot strict s k)) (w_value strict s k);

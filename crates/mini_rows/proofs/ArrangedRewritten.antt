@@ -31,7 +31,7 @@ use Rattle.mini_kept.proofs.Bools.{left}
 use Rattle.mini_kept.proofs.BodyLists.{kept_itself, kept_on}
 use Rattle.mini_kept.proofs.InOrder.{in_order}
 use Rattle.mini_kept.proofs.Unplaced.{as_body, body_same}
-use Rattle.mini_rows.specs.Sketches.{Head, Sketch, part, under, list, Sketches, Parts, filled, all_filled, Asked, AsWhole, AsValue, Leap, Hole, Part, Stretch, Leaps, parts_of, Free, is_statement_head, asked_below, stands_well, all_stand_well, keeps_statements}
+use Rattle.mini_rows.specs.Sketches.{Head, Sketch, part, under, list, Sketches, Parts, filled, all_filled, Asked, use_by, AsWhole, AsValue, Leap, Hole, Part, Stretch, Leaps, parts_of, Free, is_statement_head, asked_below, stands_well, all_stand_well, keeps_statements}
 use Rattle.mini_rows.specs.Arranged.{KeptAt, AreFree, WrittenFor, Rewritten, AreExpressions, StatementsRewritten}
 use Rattle.mini_rows.proofs.Arranging.{All, Any, Each, Local, to_parts, of_parts, sum_all, sum_each, sum_of}
 use Rattle.mini_rows.proofs.ArrangedNames.{ScopedAs, scoped_local, symbol_times, symbols_summed, number_times, numbers_summed, inner_local, once_local, HasTarget, aimed_local}
@@ -81,9 +81,9 @@ gives_new A L B H k ps qs (Part i c ∷ hs) r = λ x. Gives A L B H k c (sym r.0
 gives_new A L B H k ps qs (Stretch i c ∷ hs) r = λ x. concat (Gives A L B H k c) (sym r.0 x) ++ gives_new A L B H k ps qs hs r.1 x
 gives_new A L B H k ps qs (Leaps l ∷ hs) r = gives_new A L B H k ps qs hs r
 
--- ---- trees
+-- ---- trees, wherever they are asked
 
-module _ (f : Free) (ps qs : Parts) (u : AreFree ps f) (o : AreFree qs f) (r : Sketch) (sr : stands_well f AsWhole r ≡ true) (z : Rewritten ps qs (parts_of AsWhole r)) where
+module _ (f : Free) (ps qs : Parts) (u : AreFree ps f) (o : AreFree qs f) (c : Asked) (r : Sketch) (sr : stands_well f c r ≡ true) (z : Rewritten ps qs (parts_of c r)) where
   abbrev m : Tree
   m = filled ps r
 
@@ -91,84 +91,92 @@ module _ (f : Free) (ps qs : Parts) (u : AreFree ps f) (o : AreFree qs f) (r : S
   w = filled qs r
 
   onto : (J : Leap → Type 0) (P : Tree → Type 0) → Local J (λ d t. P t) → ((t v : Tree) → WrittenFor t v → P t → P v) → P m → P w
-  onto J P l k a = of_parts J (λ d t. P t) l qs AsWhole r (is_plain f qs o AsWhole r sr) (each_new ps qs J (λ d t. P t) (parts_of AsWhole r) z k (to_parts J (λ d t. P t) l ps AsWhole r (is_plain f ps u AsWhole r sr) a))
+  onto J P l k a = of_parts J (λ d t. P t) l qs c r (is_plain f qs o c r sr) (each_new ps qs J (λ d t. P t) (parts_of c r) z k (to_parts J (λ d t. P t) l ps c r (is_plain f ps u c r sr) a))
 
   from : (P : Tree → Type 0) → Local Any (λ d t. P t) → ((t v : Tree) → WrittenFor t v → P v → P t) → P w → P m
-  from P l k a = of_parts Any (λ d t. P t) l ps AsWhole r (is_plain f ps u AsWhole r sr) (each_old ps qs Any (λ d t. P t) (parts_of AsWhole r) z k (to_parts Any (λ d t. P t) l qs AsWhole r (is_plain f qs o AsWhole r sr) a))
+  from P l k a = of_parts Any (λ d t. P t) l ps c r (is_plain f ps u c r sr) (each_old ps qs Any (λ d t. P t) (parts_of c r) z k (to_parts Any (λ d t. P t) l qs c r (is_plain f qs o c r sr) a))
 
-  onto_fitting : (strict : Bool) → AreExpressions strict ps (parts_of AsWhole r) → (P : Tree → Type 0) → Local Any (λ d t. P t) → ((t v : Tree) → WrittenFor t v → fits strict (one an_expression) t ≡ true → P t → P v) → P m → P w
-  onto_fitting strict e P l k a = of_parts Any (λ d t. P t) l qs AsWhole r (is_plain f qs o AsWhole r sr) (each_fitting ps qs Any (λ d t. P t) strict (parts_of AsWhole r) z e k (to_parts Any (λ d t. P t) l ps AsWhole r (is_plain f ps u AsWhole r sr) a))
+  onto_fitting : (strict : Bool) → AreExpressions strict ps (parts_of c r) → (P : Tree → Type 0) → Local Any (λ d t. P t) → ((t v : Tree) → WrittenFor t v → fits strict (one an_expression) t ≡ true → P t → P v) → P m → P w
+  onto_fitting strict e P l k a = of_parts Any (λ d t. P t) l qs c r (is_plain f qs o c r sr) (each_fitting ps qs Any (λ d t. P t) strict (parts_of c r) z e k (to_parts Any (λ d t. P t) l ps c r (is_plain f ps u c r sr) a))
 
-  new_inner : has_inner w ≡ has_inner m
+  pub new_inner : has_inner w ≡ has_inner m
   new_inner =
       both_same (has_inner m) (has_inner w) (onto Any (λ t. (has_inner t || has_inner m) ≡ has_inner m) (inner_local (has_inner m)) (λ t v k a. ap (λ b. b || has_inner m) k.inner ∙ a) (itself (has_inner m)))
       (from (λ t. (has_inner t || has_inner w) ≡ has_inner w) (inner_local (has_inner w)) (λ t v k a. ap (λ b. b || has_inner w) (sym k.inner) ∙ a) (itself (has_inner w)))
 
-  new_fixed : (y : Variable) → fixed_by m y ≡ fixed_by w y
+  pub new_fixed : (y : Variable) → fixed_by m y ≡ fixed_by w y
   new_fixed y =
       by_rank (fixed_by m y) (fixed_by w y) (from (λ t. rank (fixed_by t y) ≤ rank (fixed_by w y)) (fixed_local y (rank (fixed_by w y))) (λ t v k a. subst (λ g. rank g ≤ rank (fixed_by w y)) (k.fixed y) a) (omega arith))
       (onto Any (λ t. rank (fixed_by t y) ≤ rank (fixed_by m y)) (fixed_local y (rank (fixed_by m y))) (λ t v k a. subst (λ g. rank g ≤ rank (fixed_by m y)) (sym (k.fixed y)) a) (omega arith))
 
-  new_declared : (x : Name) → Contains (declared_names w) x → Contains (declared_names m) x
+  pub new_declared : (x : Name) → Contains (declared_names w) x → Contains (declared_names m) x
   new_declared = onto Any (λ t. (x : Name) → Contains (declared_names t) x → Contains (declared_names m) x) (declares_local (declared_names m)) (λ t v k a x c. a x (k.declared x c)) (λ x c. c)
 
-  new_once : early_names [] m ≡ [] → early_names [] w ≡ []
+  pub new_once : early_names [] m ≡ [] → early_names [] w ≡ []
   new_once = onto Any (λ t. early_names [] t ≡ []) once_local (λ t v k a. k.once a)
 
-  new_targets : (g : Targets) → early_jumps g [] m ≡ [] → early_jumps g [] w ≡ []
+  pub new_targets : (g : Targets) → early_jumps g [] m ≡ [] → early_jumps g [] w ≡ []
   new_targets g = onto (HasTarget g) (λ t. early_jumps g [] t ≡ []) (aimed_local g) (λ t v k a. k.targets g a)
 
-  new_scoped : (x : Use) (env : Environment) → Scoped x env m → Scoped x env w
+  pub new_scoped : (x : Use) (env : Environment) → Scoped (use_by x c) env m → Scoped (use_by x c) env w
   new_scoped x env a =
-      of_parts Any (ScopedAs x env) (scoped_local x env) qs AsWhole r (is_plain f qs o AsWhole r sr) (each_new ps qs Any (ScopedAs x env) (parts_of AsWhole r) z (λ t v k b. k.scoped env b) (to_parts Any (ScopedAs x env) (scoped_local x env) ps AsWhole r (is_plain f ps u AsWhole r sr) a))
+      of_parts Any (ScopedAs x env) (scoped_local x env) qs c r (is_plain f qs o c r sr) (each_new ps qs Any (ScopedAs x env) (parts_of c r) z (λ t v k b. k.scoped env b) (to_parts Any (ScopedAs x env) (scoped_local x env) ps c r (is_plain f ps u c r sr) a))
 
-  new_symbols : (x : Use) (y : Option SymbolId) → times y (declared_in x w) ≤ times y (declared_in x m)
+  pub new_symbols : (x : Use) (y : Option SymbolId) → times y (declared_in (use_by x c) w) ≤ times y (declared_in (use_by x c) m)
   new_symbols x y =
       let l = symbol_times x y in
-      omega (arith, sum_of l (symbols_summed x y) ps AsWhole r (is_plain f ps u AsWhole r sr), sum_of l (symbols_summed x y) qs AsWhole r (is_plain f qs o AsWhole r sr), sum_new ps qs l (parts_of AsWhole r) z (λ t v k. k.symbols y))
+      omega (arith, sum_of l (symbols_summed x y) ps c r (is_plain f ps u c r sr), sum_of l (symbols_summed x y) qs c r (is_plain f qs o c r sr), sum_new ps qs l (parts_of c r) z (λ t v k. k.symbols y))
 
-  new_numbers : (k : ℕ) → count_of k (numbers w) ≤ count_of k (numbers m)
+  pub new_numbers : (k : ℕ) → count_of k (numbers w) ≤ count_of k (numbers m)
   new_numbers k =
       let l = number_times k in
-      omega (arith, sum_of l (numbers_summed k) ps AsWhole r (is_plain f ps u AsWhole r sr), sum_of l (numbers_summed k) qs AsWhole r (is_plain f qs o AsWhole r sr), sum_new ps qs l (parts_of AsWhole r) z (λ t v j. j.numbers k))
+      omega (arith, sum_of l (numbers_summed k) ps c r (is_plain f ps u c r sr), sum_of l (numbers_summed k) qs c r (is_plain f qs o c r sr), sum_new ps qs l (parts_of c r) z (λ t v j. j.numbers k))
 
-  module _ (strict : Bool) (e : AreExpressions strict ps (parts_of AsWhole r)) where
-    new_bodies : (a : Around) → BodiesKept (bodies (quiet a) m) (bodies (quiet a) w)
+  module _ (strict : Bool) (e : AreExpressions strict ps (parts_of c r)) where
+    pub new_bodies : (a : Around) → BodiesKept (bodies (quiet a) m) (bodies (quiet a) w)
     new_bodies a = onto_fitting strict e (λ t. BodiesKept (bodies (quiet a) m) (bodies (quiet a) t)) (bodies_local (bodies (quiet a) m) a) (λ t v k x b. kept_on (bodies (quiet a) m) (bodies (quiet a) t) (bodies (quiet a) v) b (k.bodies strict x (quiet a) refl refl)) (kept_itself (bodies (quiet a) m))
 
-    new_frames : FramesKept (frames None m) (frames None w)
+    pub new_frames : FramesKept (frames None m) (frames None w)
     new_frames = onto_fitting strict e (λ t. FramesKept (frames None m) (frames None t)) (frames_local (frames None m)) (λ t v k x b y c. b y (k.frames strict x y c)) (λ y c. c)
 
-    new_valued : Each Any Valued ps (parts_of AsWhole r) → Each Any Valued qs (parts_of AsWhole r)
-    new_valued = each_fitting ps qs Any Valued strict (parts_of AsWhole r) z e (λ t v k x b. value_fits strict (one an_expression) v refl (k.fitting strict x))
+    pub new_valued : Each Any Valued ps (parts_of c r) → Each Any Valued qs (parts_of c r)
+    new_valued = each_fitting ps qs Any Valued strict (parts_of c r) z e (λ t v k x b. value_fits strict (one an_expression) v refl (k.fitting strict x))
 
-    module _ (v : Each Any Valued ps (parts_of AsWhole r)) where
-      new_given : (A : Type 0) (B H : Tree → List A) (k : Fold A B B H) → B w ≡ B m
-      new_given A B H k =
-          gives_of A B B H k f qs o AsWhole r sr (new_valued v) ∙ gives_new A B B H k ps qs (parts_of AsWhole r) z ∙ sym (gives_of A B B H k f ps u AsWhole r sr v)
+-- ---- statements
 
-      new_names : (d : Declared) → names_of d w ≡ names_of d m
-      new_names declared.Bound = new_given Name (names_of declared.Bound) (λ t. []) bound_fold
-      new_names declared.Lexical = new_given Name (names_of declared.Lexical) (λ t. []) lexical_fold
-      new_names declared.Hoisted = new_given Name (names_of declared.Hoisted) (names_of declared.Hoisted) hoisted_fold
+module _ (f : Free) (ps qs : Parts) (u : AreFree ps f) (o : AreFree qs f) (r : Sketch) (sr : stands_well f AsWhole r ≡ true) (z : Rewritten ps qs (parts_of AsWhole r)) (strict : Bool) (e : AreExpressions strict ps (parts_of AsWhole r)) (v : Each Any Valued ps (parts_of AsWhole r)) where
+  abbrev before : Tree
+  before = filled ps r
 
-      new_keeps : (q : StmtSeat) (n : Tree) → is_loop w ≡ is_loop n → Keeps (Stmt q) n m → Keeps (Stmt q) n w
-      new_keeps q n l k = record {
-        kept = record {
-          names = λ d. new_names d ∙ k.kept.names d;
-          body = new_given Name body_names (names_of declared.Hoisted) body_fold ∙ k.kept.body;
-          inner = new_inner ∙ k.kept.inner;
-          symbols = λ x y. omega (arith, new_symbols x y, k.kept.symbols x y);
-        };
-        scoped = λ x env st a. new_scoped x env (k.scoped x env st a);
-        numbers = λ x. omega (arith, new_numbers x, k.numbers x);
-        declared_as_body = λ b x. body_same b x x m w (new_given Declaration (as_body b) hoists (declared_fold b)) ∙ k.declared_as_body b x;
-        once = λ x a. once_anywhere [] x w (new_once (once_anywhere x [] m (k.once x a)));
-        targets = λ g x a. targets_anywhere g [] x w (new_targets g (targets_anywhere g x [] m (k.targets g x a)));
-        loop = l;
-        root = λ x. absurd (cc x);
-        block = λ x b p. absurd (cc x);
-      }
+  abbrev after : Tree
+  after = filled qs r
+
+  new_given : (A : Type 0) (B H : Tree → List A) (k : Fold A B B H) → B after ≡ B before
+  new_given A B H k =
+      gives_of A B B H k f qs o AsWhole r sr (new_valued f ps qs u o AsWhole r sr z strict e v) ∙ gives_new A B B H k ps qs (parts_of AsWhole r) z ∙ sym (gives_of A B B H k f ps u AsWhole r sr v)
+
+  new_names : (d : Declared) → names_of d after ≡ names_of d before
+  new_names declared.Bound = new_given Name (names_of declared.Bound) (λ t. []) bound_fold
+  new_names declared.Lexical = new_given Name (names_of declared.Lexical) (λ t. []) lexical_fold
+  new_names declared.Hoisted = new_given Name (names_of declared.Hoisted) (names_of declared.Hoisted) hoisted_fold
+
+  new_keeps : (q : StmtSeat) (n : Tree) → is_loop after ≡ is_loop n → Keeps (Stmt q) n before → Keeps (Stmt q) n after
+  new_keeps q n l k = record {
+    kept = record {
+      names = λ d. new_names d ∙ k.kept.names d;
+      body = new_given Name body_names (names_of declared.Hoisted) body_fold ∙ k.kept.body;
+      inner = new_inner f ps qs u o AsWhole r sr z ∙ k.kept.inner;
+      symbols = λ x y. omega (arith, new_symbols f ps qs u o AsWhole r sr z x y, k.kept.symbols x y);
+    };
+    scoped = λ x env st a. new_scoped f ps qs u o AsWhole r sr z x env (k.scoped x env st a);
+    numbers = λ x. omega (arith, new_numbers f ps qs u o AsWhole r sr z x, k.numbers x);
+    declared_as_body = λ b x. body_same b x x before after (new_given Declaration (as_body b) hoists (declared_fold b)) ∙ k.declared_as_body b x;
+    once = λ x a. once_anywhere [] x after (new_once f ps qs u o AsWhole r sr z (once_anywhere x [] before (k.once x a)));
+    targets = λ g x a. targets_anywhere g [] x after (new_targets f ps qs u o AsWhole r sr z g (targets_anywhere g x [] before (k.targets g x a)));
+    loop = l;
+    root = λ x. absurd (cc x);
+    block = λ x b p. absurd (cc x);
+  }
 
 -- ---- the law
 
@@ -188,7 +196,7 @@ module _ (f : Free) (ps qs : Parts) (u : AreFree ps f) (o : AreFree qs f) (h g :
   body_step : (strict : Bool) (s : Slot) → fits strict s (filled ps (under h ss)) ≡ true → (a : Around) → a.constructs ≡ false → BodiesKept (bodies a (filled ps (under g rs))) (bodies a (filled qs (under g rs)))
   body_step strict s k a c =
       subst (BodiesKept (bodies a (filled ps (under g rs)))) (sym (around_quiet a g (all_filled qs rs) c g_head))
-      (subst (λ bs. BodiesKept bs (bodies (quiet a) (filled qs (under g rs)))) (sym (around_quiet a g (all_filled ps rs) c g_head)) (new_bodies f ps qs u o (under g rs) sr z strict (x strict s k) a))
+      (subst (λ bs. BodiesKept bs (bodies (quiet a) (filled qs (under g rs)))) (sym (around_quiet a g (all_filled ps rs) c g_head)) (new_bodies f ps qs u o AsWhole (under g rs) sr z strict (x strict s k) a))
 
   pub rewritten_kept : KeptAt (Stmt q) (filled ps (under h ss)) (filled qs (under g rs))
   rewritten_kept = record {
@@ -200,9 +208,9 @@ module _ (f : Free) (ps qs : Parts) (u : AreFree ps f) (o : AreFree qs f) (h g :
     ports = λ strict d k m. (no_port m h, no_port m g);
     listed = λ l. absurd (cc l);
     exported = λ strict k. (undeclared h, undeclared g);
-    frames = λ strict s p k a c. base.frames strict s p k a (new_frames f ps qs u o (under g rs) sr z strict (x strict s k) a c);
-    fixed = λ a. base.fixed a ∙ new_fixed f ps qs u o (under g rs) sr z a;
-    declared = λ a c. base.declared a (new_declared f ps qs u o (under g rs) sr z a c);
+    frames = λ strict s p k a c. base.frames strict s p k a (new_frames f ps qs u o AsWhole (under g rs) sr z strict (x strict s k) a c);
+    fixed = λ a. base.fixed a ∙ new_fixed f ps qs u o AsWhole (under g rs) sr z a;
+    declared = λ a c. base.declared a (new_declared f ps qs u o AsWhole (under g rs) sr z a c);
   }
 
 pub statements_rewritten : StatementsRewritten

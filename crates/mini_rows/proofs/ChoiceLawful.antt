@@ -1,6 +1,6 @@
 -- What a row of choices writes keeps all that a program has to keep: it is built anew of the same parts.
 use Rattle.std.proofs.Common.{◌≡◌, ◌≤◌, ℕ, true, List, [], ◌∷◌, refl, sym, ap, subst, ◌∙◌, inl, inr}
-use Rattle.std.specs.Prelude.{◌++◌}
+use Rattle.std.specs.Prelude.{◌++◌, ◌⊎◌, codes}
 use Rattle.mini_model.specs.declared.name.Name.{Name}
 use Rattle.mini_model.specs.declared.operator.AssignmentOperator.{AssignmentOperator}
 use Rattle.mini_model.specs.declared.operator.AssignmentOperator.TheVariants.{Assign}
@@ -12,7 +12,7 @@ use Rattle.mini_model.specs.declared.place.Position.{Position}
 use Rattle.mini_model.specs.declared.place.Position.TheVariants.{Expr}
 use Rattle.mini_model.specs.declared.seat.Seat.{Seat}
 use Rattle.mini_model.specs.declared.shape.Shape.TheVariants as shape
-use Rattle.mini_model.specs.Tree.{Tree, none, ◌▸◌, identifier}
+use Rattle.mini_model.specs.Tree.{Tree, Trees, none, ◌▸◌, identifier, unresolved, logical, null_literal}
 use Rattle.mini_names.specs.declared.Use.{Use}
 use Rattle.mini_names.specs.declared.Use.TheVariants.{Write, ReadWrite}
 use Rattle.mini_names.specs.declared.Declared.TheVariants as declared
@@ -29,13 +29,14 @@ use Rattle.mini_kept.specs.SameNames.{SameNames, SameScope, NoMoreClash}
 use Rattle.mini_kept.specs.Lawful.{Lawful}
 use Rattle.mini_kept.proofs.Quiet.{no_names, no_body_names, no_body_declarations, no_loop}
 use Rattle.mini_rows.specs.Arranged.{KeptAt, Vanishes}
-use Rattle.mini_rows.specs.Sketches.{Binary, Logical, Conditional, Assignment, Sketch, part, under, end, ◌▹◌, Free, Null, Sequence, list, no_items, item}
-use Rattle.mini_rows.specs.Spellings.{assignment}
-use Rattle.mini_rows.specs.Choices.{assign, deciding, Row39, Row38, Row35, Row45, ChoiceRow, ChoiceContracts, Row46Equal, Row46Unequal, Row41Or, Row41And, Row42And, Row42Or, Row43Or, Row43And, Row43AndThen, Row43OrThen, Row49, LighterRow, OwnRow, HeldRow, HeldRowAt, HeldContracts}
+use Rattle.mini_rows.specs.Sketches.{Binary, Logical, Conditional, Assignment, Parts, Sketch, part, under, end, ◌▹◌, Free, Null, Sequence, list, no_items, item}
+use Rattle.mini_rows.specs.Spellings.{IsUndefined, void_zero, assignment}
+use Rattle.mini_rows.specs.Choices.{assign, deciding, strictly, loosely, joining, AreNullish, Row37, Row37After, Row39, Row38, Row35, Row45, ChoiceRow, ChoiceContracts, Row46Equal, Row46Unequal, Row41Or, Row41And, Row42And, Row42Or, Row43Or, Row43And, Row43AndThen, Row43OrThen, Row49, LighterRow, OwnRow, HeldRow}
 use Rattle.mini_rows.proofs.ArrangedExpressions.{expressions_arranged, expressions_arranged_freely}
 use Rattle.mini_rows.proofs.ArrangedLawful.{kept_is_lawful}
-use Rattle.mini_rows.proofs.ChoiceMeaning.{choices_same, held_mean_same}
-use Rattle.mini_rows.proofs.ChoiceShapes.{row_fits, row_asked, row_slot, held_row_fits, held_row_asked, held_row_slot}
+use Rattle.mini_rows.proofs.ChoiceSpines.{Stand, behind, themselves, filled_spine, spine, apart, first_two, spines_rearranged}
+use Rattle.mini_rows.proofs.ChoiceMeaning.{choices_same}
+use Rattle.mini_rows.proofs.ChoiceShapes.{row_fits, row_asked, row_slot}
 
 -- ---- a name that is assigned to may be read besides
 
@@ -109,7 +110,12 @@ assigns_first s = under (Assignment Assign) (part 0 ▹ s ▹ end)
 
 rotated_kept : (q : Seat) (n w : Tree) → Row39 n w → KeptAt (Expr q) n w
 rotated_kept q n w r =
-    expressions_arranged (record { trees = r.a ▸ r.b ▸ r.c ▸ none; lists = [] }) (under (Logical r.operator) (part 0 ▹ under (Logical r.operator) (part 1 ▹ part 2 ▹ end) ▹ end)) (under (Logical r.operator) (under (Logical r.operator) (part 0 ▹ part 1 ▹ end) ▹ part 2 ▹ end)) refl q n w r.shape r.written
+    let operands : Trees = r.last ▸ r.others in
+    let ps : Parts = record { trees = r.a ▸ r.b ▸ operands; lists = [] } in
+    let stand : Stand ps.trees 2 operands = behind r.a (r.b ▸ operands) 1 operands (behind r.b operands 0 operands (themselves operands)) in
+    expressions_arranged ps (apart r.operator operands) (spine r.operator 2 operands (first_two r.operator)) (spines_rearranged r.operator r.last r.others) q n w
+    (r.shape ∙ sym (ap (logical r.operator r.a) (filled_spine ps r.operator 2 operands (part 1) stand)))
+    (r.written ∙ sym (filled_spine ps r.operator 2 operands (first_two r.operator) stand))
 
 deciding_kept : (q : Seat) (n w : Tree) → Row38 n w → KeptAt (Expr q) n w
 deciding_kept q n w r =
@@ -171,13 +177,49 @@ or_then_kept q n w r = expressions_arranged (record { trees = r.a ▸ r.b ▸ r.
 both_kept : (q : Seat) (n w : Tree) → Row49 n w → KeptAt (Expr q) n w
 both_kept q n w r = expressions_arranged (record { trees = r.a ▸ r.b ▸ none; lists = [] }) (choice (part 0) (part 1) (part 1)) (in_order (part 0) (part 1)) refl q n w r.shape r.written
 
+-- 37: null and undefined are dropped
+
+null_vanishes : Vanishes null_literal
+unfolding has_inner
+null_vanishes = record { inner = refl; fixed = λ y. refl }
+
+void_vanishes : Vanishes void_zero
+unfolding has_inner
+void_vanishes = record { inner = refl; fixed = λ y. refl }
+
+undefined_vanishes : (v : Tree) → IsUndefined v → Vanishes v
+undefined_vanishes v (inl h) = subst Vanishes (sym h) (name_vanishes (unresolved (codes "undefined")))
+undefined_vanishes v (inr h) = subst Vanishes (sym h) void_vanishes
+
+nullish_vanish : (a b : Tree) → AreNullish a b → Vanishes a × Vanishes b
+nullish_vanish a b (inl h) = (subst Vanishes (sym h.0) null_vanishes, undefined_vanishes b h.1)
+nullish_vanish a b (inr h) = (undefined_vanishes a h.0, subst Vanishes (sym h.1) null_vanishes)
+
+abbrev comparisons_dropped : Free
+comparisons_dropped = record { moved = []; lists_moved = []; dropped = 1 ∷ 2 ∷ [] }
+
+abbrev compared_with : BinaryOperator → Sketch → Sketch
+compared_with o s = under (Binary o) (part 0 ▹ s ▹ end)
+
+nullish_kept : (q : Seat) (n w : Tree) → Row37 n w → KeptAt (Expr q) n w
+nullish_kept q n w r =
+    let (first, second) = nullish_vanish r.first r.second r.nullish in
+    expressions_arranged_freely comparisons_dropped (record { trees = identifier r.name ▸ r.first ▸ r.second ▸ none; lists = [] }) (tt, tt, (first, (second, tt))) (operands (joining r.equal) (compared_with (strictly r.equal) (part 1)) (compared_with (strictly r.equal) (part 2))) (compared_with (loosely r.equal) (under Null end)) refl q n w r.shape r.written
+
+nullish_after_kept : (q : Seat) (n w : Tree) → Row37After n w → KeptAt (Expr q) n w
+nullish_after_kept q n w r =
+    let (first, second) = nullish_vanish r.first r.second r.nullish in
+    expressions_arranged_freely comparisons_dropped (record { trees = identifier r.name ▸ r.first ▸ r.second ▸ r.before ▸ none; lists = [] }) (tt, tt, (first, (second, tt))) (operands (joining r.equal) (operands (joining r.equal) (part 3) (compared_with (strictly r.equal) (part 1))) (compared_with (strictly r.equal) (part 2))) (operands (joining r.equal) (part 3) (compared_with (loosely r.equal) (under Null end))) refl q n w r.shape r.written
+
 lighter_kept : (q : Seat) (n w : Tree) → LighterRow q n w → KeptAt (Expr q) n w
 lighter_kept q n w (inl r) = rotated_kept q n w r
 lighter_kept q n w (inr (inl r)) = deciding_kept q n w r
 lighter_kept q n w (inr (inr (inl r))) = computing_kept q n w r
 lighter_kept q n w (inr (inr (inr (inl r)))) = equal_kept q n w r
 lighter_kept q n w (inr (inr (inr (inr (inl r))))) = unequal_kept q n w r
-lighter_kept q n w (inr (inr (inr (inr (inr r))))) = chosen_kept q n w r
+lighter_kept q n w (inr (inr (inr (inr (inr (inl r)))))) = chosen_kept q n w r
+lighter_kept q n w (inr (inr (inr (inr (inr (inr (inl r))))))) = nullish_kept q n w r
+lighter_kept q n w (inr (inr (inr (inr (inr (inr (inr r))))))) = nullish_after_kept q n w r
 
 own_kept : (q : Seat) (n w : Tree) → OwnRow n w → KeptAt (Expr q) n w
 own_kept q n w (inl r) = own_or_kept q n w r
@@ -194,7 +236,8 @@ held_kept q n w (inr (inr (inr (inr (inr (inr r)))))) = both_kept q n w r
 
 expression_kept : (q : Seat) (n w : Tree) → ChoiceRow (Expr q) n w → KeptAt (Expr q) n w
 expression_kept q n w (inl r) = lighter_kept q n w r
-expression_kept q n w (inr r) = own_kept q n w r
+expression_kept q n w (inr (inl r)) = own_kept q n w r
+expression_kept q n w (inr (inr r)) = held_kept q n w r
 
 kept : (p : Position) (n w : Tree) → ChoiceRow p n w → KeptAt p n w
 kept (Expr q) n w r = expression_kept q n w r
@@ -211,19 +254,3 @@ lawful =
     (λ p n w c. places p n w c.row)
     (λ p n w c strict s k e. row_slot p n w c.row strict s e)
     (λ p n w c. kept p n w c.row)
-
-held_kept_at : (p : Position) (n w : Tree) → HeldRowAt p n w → KeptAt p n w
-held_kept_at (Expr q) n w r = held_kept q n w r
-held_kept_at p n w r = absurd r
-
-held_places : (p : Position) (n w : Tree) → HeldRowAt p n w → is_rewritten_place p ≡ true
-held_places (Expr q) n w r = refl
-held_places p n w r = absurd r
-
-pub held_lawful : Lawful HeldContracts
-held_lawful =
-    kept_is_lawful HeldContracts held_mean_same
-    (record { fitting = λ p n w c strict s k e. held_row_fits p n w c.row strict s e; asked = λ p n w c. held_row_asked p n w c.row })
-    (λ p n w c. held_places p n w c.row)
-    (λ p n w c strict s k e. held_row_slot p n w c.row strict s e)
-    (λ p n w c. held_kept_at p n w c.row)

@@ -4,24 +4,26 @@ use Rattle.std.specs.Prelude.{not}
 use Rattle.mini_model.specs.declared.name.Name.{Name}
 use Rattle.mini_model.specs.declared.operator.AssignmentOperator.TheVariants.{Assign}
 use Rattle.mini_model.specs.declared.operator.BinaryOperator.TheVariants as binary_operator
+use Rattle.mini_model.specs.declared.operator.BinaryOperator.TheVariants.{StrictEquality, StrictInequality}
 use Rattle.mini_model.specs.declared.operator.LogicalOperator.{LogicalOperator}
 use Rattle.mini_model.specs.declared.operator.LogicalOperator.TheVariants.{Or, And, Coalesce}
 use Rattle.mini_model.specs.declared.seat.Seat.{Seat}
-use Rattle.mini_model.specs.Tree.{Tree, identifier, logical, conditional, null_literal}
+use Rattle.mini_model.specs.Tree.{Tree, Trees, none, ◌▸◌, identifier, logical, conditional, null_literal}
 use Rattle.mini_model.specs.declared.place.Position.{Position}
 use Rattle.mini_model.specs.declared.place.Position.TheVariants.{Expr}
-use Rattle.mini_laws.specs.Value.{Value, Boolean, choose, truth, is_nullish}
+use Rattle.mini_laws.specs.Operators.{strictly_equal}
+use Rattle.mini_laws.specs.Value.{Value, Undefined, Null, Boolean, choose, truth, is_nullish}
 use Rattle.mini_laws.specs.State.{State, Completion, ok, stop, either, Environment}
 use Rattle.mini_laws.specs.Naming.{summary}
 use Rattle.mini_laws.specs.Rows.{SameAt}
 use Rattle.mini_laws.specs.Rewritten.{MeansSame}
 use Rattle.mini_laws.specs.Targets.{assigns}
-use Rattle.mini_laws.proofs.Runs.{either_cong, either_assoc, runs}
+use Rattle.mini_laws.proofs.Runs.{either_cong, either_assoc, either_ok, runs}
 use Rattle.mini_rows.specs.Spellings.{binary, assignment}
-use Rattle.mini_rows.specs.Choices.{assign, pair, deciding, Row35, Row46Equal, Row46Unequal, LighterRow, OwnRow, HeldRow, HeldRowAt, HeldContracts, ChoiceRow, ChoiceContracts}
+use Rattle.mini_rows.specs.Choices.{assign, pair, joined, strictly, loosely, joining, AreNullish, Row37, Row37After, deciding, Row35, Row46Equal, Row46Unequal, LighterRow, OwnRow, HeldRow, ChoiceRow, ChoiceContracts}
 use Rattle.mini_rows.proofs.SpellAlike.{SameTree}
 use Rattle.mini_rows.proofs.SpellMeaning.{tree_same, same_by}
-use Rattle.mini_rows.proofs.ChoiceRuns.{value, by_value, conditional_tells, logical_tells, assignment_tells, pair_tells, pair_value, by_reading, equal_null, unequal_null, conditional_value, logical_value, puts, assign_value, deciding_value, computing_value}
+use Rattle.mini_rows.proofs.ChoiceRuns.{value, by_value, conditional_tells, logical_tells, binary_tells, strict_told, null_value, undefined_value, assignment_tells, pair_tells, pair_value, by_reading, equal_null, unequal_null, conditional_value, logical_value, puts, assign_value, deciding_value, computing_value}
 
 -- 39
 
@@ -38,8 +40,16 @@ rotated_value o a b c e s =
     ∙ either_cong (value e a s) _ _ _ _ (λ v z. ap (λ x. choose (assigns o v) x (ok v z)) (logical_value e o b c z) ∙ decided_again e o b c v z (assigns o v) refl) (λ x z. refl)
     ∙ sym (logical_value e o (logical o a b) c s ∙ ap (λ x. either x (λ u y. choose (assigns o u) (value e c y) (ok u y)) (λ x y. stop x y)) (logical_value e o a b s) ∙ either_assoc (value e a s) (λ v z. choose (assigns o v) (value e b z) (ok v z)) (λ x z. stop x z) (λ u y. choose (assigns o u) (value e c y) (ok u y)) (λ x y. stop x y))
 
-rotated_same : (o : LogicalOperator) (a b c : Tree) → SameTree (logical o a (logical o b c)) (logical o (logical o a b) c)
-rotated_same o a b c = by_value _ _ (logical_tells o a (logical o b c)) (logical_tells o (logical o a b) c) refl (rotated_value o a b c)
+-- what stands on the left may stand there by its value alone
+left_value : (o : LogicalOperator) (a b c : Tree) (e : Environment) → ((s : State) → value e a s ≡ value e b s) → (s : State) → value e (logical o a c) s ≡ value e (logical o b c) s
+left_value o a b c e h s = logical_value e o a c s ∙ ap (λ y. either y (λ v z. choose (assigns o v) (value e c z) (ok v z)) (λ x z. stop x z)) (h s) ∙ sym (logical_value e o b c s)
+
+joined_value : (o : LogicalOperator) (a b : Tree) (cs : Trees) (e : Environment) (s : State) → value e (logical o a (joined o b cs)) s ≡ value e (joined o (logical o a b) cs) s
+joined_value o a b none e s = refl
+joined_value o a b (c ▸ cs) e s = rotated_value o a (joined o b cs) c e s ∙ left_value o (logical o a (joined o b cs)) (joined o (logical o a b) cs) c e (joined_value o a b cs e) s
+
+rotated_same : (o : LogicalOperator) (a b c : Tree) (cs : Trees) → SameTree (logical o a (joined o b (c ▸ cs))) (joined o (logical o a b) (c ▸ cs))
+rotated_same o a b c cs = by_value _ _ (logical_tells o a (joined o b (c ▸ cs))) (logical_tells o (joined o (logical o a b) cs) c) refl (joined_value o a b (c ▸ cs))
 
 -- 38
 
@@ -55,6 +65,86 @@ computing_same n w r =
     same_by n w _ _ r.shape r.written
     (by_value _ _ (assignment_tells Assign (identifier r.name) (binary r.operator (identifier r.name) r.b)) (assignment_tells r.combined (identifier r.name) r.b) refl
     (λ e s. assign_value e r.name (binary r.operator (identifier r.name) r.b) s ∙ computing_value e r.operator r.combined r.computes r.name r.b s))
+
+-- 37
+
+-- what a strict comparison of a name says of its value
+abbrev told_strictly : Bool → Value → Value → Bool
+told_strictly true v u = strictly_equal v u
+told_strictly false v u = not (strictly_equal v u)
+
+strict_value : (e : Environment) (equal : Bool) (x : Name) (f : Tree) (u : Value) → ((s : State) → value e f s ≡ ok u s) → (s : State) → value e (binary (strictly equal) (identifier x) f) s ≡ either (value e (identifier x) s) (λ v z. ok (Boolean (told_strictly equal v u)) z) (λ x z. stop x z)
+unfolding either
+strict_value e true x f u h s = strict_told e StrictEquality x f u (λ v. strictly_equal v u) (λ v z. refl) h s
+strict_value e false x f u h s = strict_told e StrictInequality x f u (λ v. not (strictly_equal v u)) (λ v z. refl) h s
+
+-- what a comparison with null loosely says of it
+abbrev told_loosely : Bool → Value → Bool
+told_loosely true v = is_nullish v
+told_loosely false v = not (is_nullish v)
+
+loose_value : (e : Environment) (equal : Bool) (x : Name) (s : State) → value e (binary (loosely equal) (identifier x) null_literal) s ≡ either (value e (identifier x) s) (λ v z. ok (Boolean (told_loosely equal v)) z) (λ x z. stop x z)
+loose_value e true x s = equal_null e x s
+loose_value e false x s = unequal_null e x s
+
+-- both together say it
+null_first : (equal : Bool) (v : Value) (z : State) → choose (assigns (joining equal) (Boolean (told_strictly equal v Null))) (ok (Boolean (told_strictly equal v Undefined)) z) (ok (Boolean (told_strictly equal v Null)) z) ≡ ok (Boolean (told_loosely equal v)) z
+null_first true Undefined z = refl
+null_first true Null z = refl
+null_first true v z = refl
+null_first false Undefined z = refl
+null_first false Null z = refl
+null_first false v z = refl
+
+null_last : (equal : Bool) (v : Value) (z : State) → choose (assigns (joining equal) (Boolean (told_strictly equal v Undefined))) (ok (Boolean (told_strictly equal v Null)) z) (ok (Boolean (told_strictly equal v Undefined)) z) ≡ ok (Boolean (told_loosely equal v)) z
+null_last true Undefined z = refl
+null_last true Null z = refl
+null_last true v z = refl
+null_last false Undefined z = refl
+null_last false Null z = refl
+null_last false v z = refl
+
+-- two comparisons of a name, by what each says of its value
+both_compared : (e : Environment) (o : LogicalOperator) (x : Name) (a b w : Tree) (p q r : Value → Bool) → ((s : State) → value e a s ≡ either (value e (identifier x) s) (λ v z. ok (Boolean (p v)) z) (λ x z. stop x z)) → ((s : State) → value e b s ≡ either (value e (identifier x) s) (λ v z. ok (Boolean (q v)) z) (λ x z. stop x z)) → ((s : State) → value e w s ≡ either (value e (identifier x) s) (λ v z. ok (Boolean (r v)) z) (λ x z. stop x z)) → ((v : Value) (z : State) → choose (assigns o (Boolean (p v))) (ok (Boolean (q v)) z) (ok (Boolean (p v)) z) ≡ ok (Boolean (r v)) z) → (s : State) → value e (logical o a b) s ≡ value e w s
+both_compared e o x a b w p q r first second whole says s =
+    logical_value e o a b s
+    ∙ ap (λ k. either k (λ v z. choose (assigns o v) (value e b z) (ok v z)) (λ x z. stop x z)) (first s)
+    ∙ simp runs (by_reading e x s (λ v z. choose (assigns o (Boolean (p v))) (value e b z) (ok (Boolean (p v)) z)) (λ v z. ok (Boolean (r v)) z) (λ v k. ap (λ y. choose (assigns o (Boolean (p v))) y (ok (Boolean (p v)) s)) (second s ∙ ap (λ y. either y (λ v z. ok (Boolean (q v)) z) (λ x z. stop x z)) k ∙ either_ok v s _ _) ∙ says v s))
+    ∙ sym (whole s)
+
+compared_value : (e : Environment) (equal : Bool) (x : Name) (f g : Tree) → AreNullish f g → (s : State) → value e (logical (joining equal) (binary (strictly equal) (identifier x) f) (binary (strictly equal) (identifier x) g)) s ≡ value e (binary (loosely equal) (identifier x) null_literal) s
+compared_value e equal x f g (inl h) =
+    both_compared e (joining equal) x _ _ _ (λ v. told_strictly equal v Null) (λ v. told_strictly equal v Undefined) (told_loosely equal)
+    (strict_value e equal x f Null (λ s. ap (λ t. value e t s) h.0 ∙ null_value e s))
+    (strict_value e equal x g Undefined (undefined_value e g h.1))
+    (loose_value e equal x)
+    (null_first equal)
+compared_value e equal x f g (inr h) =
+    both_compared e (joining equal) x _ _ _ (λ v. told_strictly equal v Undefined) (λ v. told_strictly equal v Null) (told_loosely equal)
+    (strict_value e equal x f Undefined (undefined_value e f h.0))
+    (strict_value e equal x g Null (λ s. ap (λ t. value e t s) h.1 ∙ null_value e s))
+    (loose_value e equal x)
+    (null_last equal)
+
+nullish_same : (n w : Tree) → Row37 n w → SameTree n w
+nullish_same n w r =
+    same_by n w _ _ r.shape r.written
+    (by_value _ _ (logical_tells (joining r.equal) (binary (strictly r.equal) (identifier r.name) r.first) (binary (strictly r.equal) (identifier r.name) r.second)) (binary_tells (loosely r.equal) (identifier r.name) null_literal) refl
+    (λ e s. compared_value e r.equal r.name r.first r.second r.nullish s))
+
+-- what stands on the right may stand there by its value alone
+right_value : (o : LogicalOperator) (a b c : Tree) (e : Environment) → ((s : State) → value e b s ≡ value e c s) → (s : State) → value e (logical o a b) s ≡ value e (logical o a c) s
+right_value o a b c e h s = logical_value e o a b s ∙ either_cong (value e a s) _ _ _ _ (λ v z. ap (λ y. choose (assigns o v) y (ok v z)) (h z)) (λ x z. refl) ∙ sym (logical_value e o a c s)
+
+nullish_after_same : (n w : Tree) → Row37After n w → SameTree n w
+nullish_after_same n w r =
+    let o = joining r.equal in
+    let first = binary (strictly r.equal) (identifier r.name) r.first in
+    let second = binary (strictly r.equal) (identifier r.name) r.second in
+    let loose = binary (loosely r.equal) (identifier r.name) null_literal in
+    same_by n w _ _ r.shape r.written
+    (by_value _ _ (logical_tells o (logical o r.before first) second) (logical_tells o r.before loose) refl
+    (λ e s. sym (rotated_value o r.before first second e s) ∙ right_value o r.before (logical o first second) loose e (compared_value e r.equal r.name r.first r.second r.nullish) s))
 
 -- 45
 
@@ -202,12 +292,14 @@ both_same a b =
 -- all
 
 lighter_same : (s : Seat) (n w : Tree) → LighterRow s n w → SameTree n w
-lighter_same s n w (inl r) = same_by n w _ _ r.shape r.written (rotated_same r.operator r.a r.b r.c)
+lighter_same s n w (inl r) = same_by n w _ _ r.shape r.written (rotated_same r.operator r.a r.b r.last r.others)
 lighter_same s n w (inr (inl r)) = same_by n w _ _ r.shape r.written (deciding_same r.operator r.name r.b)
 lighter_same s n w (inr (inr (inl r))) = computing_same n w r
 lighter_same s n w (inr (inr (inr (inl r)))) = equal_same n w r
 lighter_same s n w (inr (inr (inr (inr (inl r))))) = unequal_same n w r
-lighter_same s n w (inr (inr (inr (inr (inr r))))) = same_by n w _ _ r.shape r.written (chosen_same r.a r.name r.b r.c)
+lighter_same s n w (inr (inr (inr (inr (inr (inr (inl r))))))) = nullish_same n w r
+lighter_same s n w (inr (inr (inr (inr (inr (inr (inr r))))))) = nullish_after_same n w r
+lighter_same s n w (inr (inr (inr (inr (inr (inl r)))))) = same_by n w _ _ r.shape r.written (chosen_same r.a r.name r.b r.c)
 
 own_same : (n w : Tree) → OwnRow n w → SameTree n w
 own_same n w (inl r) = same_by n w _ _ r.shape r.written (by_value _ _ (conditional_tells (identifier r.name) (identifier r.name) r.b) (logical_tells Or (identifier r.name) r.b) refl (own_or_value r.name r.b))
@@ -224,7 +316,8 @@ held_same n w (inr (inr (inr (inr (inr (inr r)))))) = same_by n w _ _ r.shape r.
 
 expression_same : (s : Seat) (n w : Tree) → ChoiceRow (Expr s) n w → SameTree n w
 expression_same s n w (inl r) = lighter_same s n w r
-expression_same s n w (inr r) = own_same n w r
+expression_same s n w (inr (inl r)) = own_same n w r
+expression_same s n w (inr (inr r)) = held_same n w r
 
 means_same : (p : Position) (n w : Tree) → ChoiceRow p n w → SameAt p n w
 means_same (Expr s) n w r = tree_same s n w (expression_same s n w r)
@@ -236,14 +329,3 @@ reads p n w r = absurd r
 
 pub choices_same : MeansSame ChoiceContracts
 choices_same = record { same = λ p n w c. means_same p n w c.row; reads = λ p n w c. reads p n w c.row }
-
-held_at : (p : Position) (n w : Tree) → HeldRowAt p n w → SameAt p n w
-held_at (Expr s) n w r = tree_same s n w (held_same n w r)
-held_at p n w r = absurd r
-
-held_reads : (p : Position) (n w : Tree) → HeldRowAt p n w → summary n ≡ summary w
-held_reads (Expr s) n w r = (held_same n w r).read
-held_reads p n w r = absurd r
-
-pub held_mean_same : MeansSame HeldContracts
-held_mean_same = record { same = λ p n w c. held_at p n w c.row; reads = λ p n w c. held_reads p n w c.row }

@@ -19,13 +19,13 @@ use Rattle.mini_laws.specs.Asking.{first_demand, logical_demand}
 use Rattle.mini_laws.specs.Replies.{reply, passed, raise, of_made, primitive, numeric, hint_of, is_of_primitives, operate}
 use Rattle.mini_laws.specs.Conversion.{Made, makes, raises, outside, to_number}
 use Rattle.mini_laws.specs.Operators.{of_numbers, of_primitives}
-use Rattle.mini_laws.specs.Expressions.{get_identifier, operate_by, logical_step, conditional_step, sequence_step}
+use Rattle.mini_laws.specs.Expressions.{get_identifier, binary_step, operate_by, logical_step, conditional_step, sequence_step}
 use Rattle.mini_laws.specs.Targets.{assigns, AssignDemand, put_target, assignment_step}
 use Rattle.mini_laws.specs.Step.{step, means, meaning}
 use Rattle.mini_laws.specs.Truth.{told}
 use Rattle.mini_laws.proofs.Runs.{either_cong, either_eta, either_ok, runs, run_bind}
 use Rattle.mini_laws.proofs.Truth.{coherent}
-use Rattle.mini_rows.specs.Spellings.{binary, assignment}
+use Rattle.mini_rows.specs.Spellings.{IsUndefined, binary, assignment}
 use Rattle.mini_rows.specs.Choices.{assign, pair, deciding, computing}
 use Rattle.mini_rows.proofs.SpellAlike.{SameTree}
 
@@ -314,11 +314,40 @@ by_reading e x s f g h = go (reading e x s)
     go (inl o) = ap (λ y. either y f (λ x z. stop x z)) o ∙ sym (ap (λ y. either y g (λ x z. stop x z)) o)
     go (inr (v, k)) = ap (λ y. either y f (λ x z. stop x z)) k ∙ h v k ∙ sym (ap (λ y. either y g (λ x z. stop x z)) k)
 
+-- ---- what a strict comparison says of it
+
+pub strict_told : (e : Environment) (o : BinaryOperator) (x : Name) (f : Tree) (u : Value) (p : Value → Bool) → ((v : Value) (z : State) → run {q = λ i. As Val} e (binary_names o (identifier x) f) (sides e (identifier x) f) (operate_by o v u) z ≡ ok (Boolean (p v)) z) → ((s : State) → value e f s ≡ ok u s) → (s : State) → value e (binary o (identifier x) f) s ≡ either (value e (identifier x) s) (λ v z. ok (Boolean (p v)) z) (λ x z. stop x z)
+strict_told e o x f u p h g s =
+    binary_value e o (identifier x) f s
+    ∙ either_cong (value e (identifier x) s) _ _ _ _
+    (λ v z.
+    ap (λ y. either y (λ u k. run {q = λ i. As Val} e (binary_names o (identifier x) f) (sides e (identifier x) f) (operate_by o v u) k) (λ x k. stop x k)) (g z)
+    ∙ either_ok u z _ _
+    ∙ h v z)
+    (λ x z. refl)
+
+binary_told : (o : BinaryOperator) (a b : Tree) (e : Environment) (q : Demand) (r : Request q) (s : State) → means e (binary o a b) q r s ≡ asked q r (value e (binary o a b) s)
+unfolding means meaning step asked
+binary_told o a b e (As w) r s = coherent (binary o a b) w e s
+binary_told o a b e Callee r s = after_value e (naming (shape.BinaryExpression o) Callee [] 0 (summaries (a ▸ b ▸ none))) (λ i. As Val) (λ i r z. meaning e (a ▸ b ▸ none) i (As Val) r z) (binary_step o) (λ v. ret (plain_call v)) s
+binary_told o a b e OfType r s = after_value e (naming (shape.BinaryExpression o) OfType [] 0 (summaries (a ▸ b ▸ none))) (λ i. As Val) (λ i r z. meaning e (a ▸ b ▸ none) i (As Val) r z) (binary_step o) (λ v. ret v) s
+binary_told o a b e Deleted r s = after_value e (naming (shape.BinaryExpression o) Deleted [] 0 (summaries (a ▸ b ▸ none))) (λ i. As Val) (λ i r z. meaning e (a ▸ b ▸ none) i (As Val) r z) (binary_step o) (λ v. ret (AValue v)) s
+binary_told o a b e AnEntry r s = after_value e (naming (shape.BinaryExpression o) AnEntry [] 0 (summaries (a ▸ b ▸ none))) (λ i. As Val) (λ i r z. meaning e (a ▸ b ▸ none) i (As Val) r z) (binary_step o) (λ v. ret (Item v)) s
+binary_told o a b e q r s = refl
+
+pub binary_tells : (o : BinaryOperator) (a b : Tree) → Tells (binary o a b)
+binary_tells o a b = record { by = binary_told o a b }
+
 -- ---- whether it is null or undefined
 
-null_value : (e : Environment) (s : State) → value e null_literal s ≡ ok Null s
+pub null_value : (e : Environment) (s : State) → value e null_literal s ≡ ok Null s
 unfolding means step
 null_value e s = refl
+
+pub undefined_value : (e : Environment) (v : Tree) → IsUndefined v → (s : State) → value e v s ≡ ok Undefined s
+unfolding means meaning step either
+undefined_value e v (inl h) s = subst (λ (x : Tree). value e x s ≡ ok Undefined s) (sym h) refl
+undefined_value e v (inr h) s = subst (λ (x : Tree). value e x s ≡ ok Undefined s) (sym h) refl
 
 compared : (e : Environment) (names : Naming) (K : Kids (λ i. As Val)) (b : Bool) (f : Bool → Bool) (s : State) → run {q = λ i. As Val} e names K (bind (choose b (ret true) (ret false)) (λ x. ret (Boolean (f x)))) s ≡ ok (Boolean (f b)) s
 compared e names K true f s = refl

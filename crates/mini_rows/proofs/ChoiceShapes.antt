@@ -6,6 +6,7 @@ use Rattle.mini_model.specs.declared.name.Name.{Name}
 use Rattle.mini_model.specs.declared.operator.AssignmentOperator.{AssignmentOperator}
 use Rattle.mini_model.specs.declared.operator.AssignmentOperator.TheVariants.{Assign}
 use Rattle.mini_model.specs.declared.operator.BinaryOperator.TheVariants as binary_operator
+use Rattle.mini_model.specs.declared.operator.LogicalOperator.{LogicalOperator}
 use Rattle.mini_model.specs.declared.operator.LogicalOperator.TheVariants.{Or, And, Coalesce}
 use Rattle.mini_model.specs.declared.place.Position.{Position}
 use Rattle.mini_model.specs.declared.place.Position.TheVariants.{Expr}
@@ -17,8 +18,8 @@ use Rattle.mini_kept.specs.KeepsFrames.{is_body_slot}
 use Rattle.mini_kept.proofs.Bools.{left, both}
 use Rattle.mini_kept.proofs.Expressions.{expression, ThreeFit, of_conditional, TakesExpressionIn, TakesExpression, expression_taken, three_fit, two_fit}
 use Rattle.mini_rows.specs.Spellings.{binary, assignment}
-use Rattle.mini_rows.specs.Choices.{assign, deciding, ChoiceRow, pair, LighterRow, OwnRow, HeldRow, HeldRowAt}
-use Rattle.mini_rows.proofs.SpellShapes.{Form, an_assignment, a_logical, a_conditional, shaped, Kind, Alone, Linked, Ending, Assigned, Nowhere, kind_of, kind_in, filled, fits_is, Formed, formed_asked, formed_slot}
+use Rattle.mini_rows.specs.Choices.{assign, joined, strictly, loosely, joining, deciding, ChoiceRow, pair, LighterRow, OwnRow, HeldRow}
+use Rattle.mini_rows.proofs.SpellShapes.{Form, a_binary, an_assignment, a_logical, a_conditional, shaped, Kind, Alone, Linked, Ending, Assigned, Nowhere, kind_of, kind_in, filled, fits_is, Formed, formed_asked, formed_slot}
 
 -- ---- where they stand an expression does
 
@@ -104,6 +105,10 @@ module _ (strict : Bool) where
   of_pair : (a b : Tree) → Fits (pair a b) → Fits a × Fits b
   of_pair a b e = of_two a b (left (fits strict expression a && (fits strict expression b && true)) true e)
 
+  joined_fits : (o : LogicalOperator) (a b : Tree) (cs : Trees) → Fits a → Fits (joined o b cs) → Fits (joined o (logical o a b) cs)
+  joined_fits o a b none x y = two_fit strict a b x y
+  joined_fits o a b (c ▸ cs) x y = let (first, last) = of_two (joined o b cs) c y in two_fit strict (joined o (logical o a b) cs) c (joined_fits o a b cs x first) last
+
   -- ---- rows
 
   module _ (s : Slot) where
@@ -112,10 +117,10 @@ module _ (strict : Bool) where
 
     lighter_fits : (q : Seat) (n w : Tree) → LighterRow q n w → Here n → Here w
     lighter_fits q n w (inl r) e =
-        let (here, fit) = choice_taken strict s (a_logical r.operator) (r.a ▸ logical r.operator r.b r.c ▸ none) refl (subst Here r.shape e) in
-        let (first, rest) = of_two r.a (logical r.operator r.b r.c) fit in
-        let (second, third) = of_two r.b r.c rest in
-        subst Here (sym r.written) (expression_taken strict s (logical r.operator (logical r.operator r.a r.b) r.c) here (two_fit strict (logical r.operator r.a r.b) r.c (two_fit strict r.a r.b first second) third))
+        let right : Tree = joined r.operator r.b (r.last ▸ r.others) in
+        let (here, fit) = choice_taken strict s (a_logical r.operator) (r.a ▸ right ▸ none) refl (subst Here r.shape e) in
+        let (first, rest) = of_two r.a right fit in
+        subst Here (sym r.written) (expression_taken strict s (joined r.operator (logical r.operator r.a r.b) (r.last ▸ r.others)) here (joined_fits r.operator r.a r.b (r.last ▸ r.others) first rest))
     lighter_fits q n w (inr (inl r)) e =
         let (here, fit) = choice_taken strict s (a_logical r.operator) (identifier r.name ▸ assign r.name r.b ▸ none) refl (subst Here r.shape e) in
         let (first, rest) = of_two (identifier r.name) (assign r.name r.b) fit in
@@ -124,7 +129,7 @@ module _ (strict : Bool) where
         let (here, fit) = choice_taken strict s (an_assignment Assign) (identifier r.name ▸ binary r.operator (identifier r.name) r.b ▸ none) refl (subst Here r.shape e) in
         let (first, rest) = of_assignment r.name (binary r.operator (identifier r.name) r.b) fit in
         subst Here (sym r.written) (expression_taken strict s (assignment r.combined (identifier r.name) r.b) here (assignment_fits r.combined r.name r.b first (of_two (identifier r.name) r.b rest).1))
-    lighter_fits q n w (inr (inr (inr (inr (inr r))))) e =
+    lighter_fits q n w (inr (inr (inr (inr (inr (inl r)))))) e =
         let (here, fit) = choice_taken strict s a_conditional (r.a ▸ assign r.name r.b ▸ assign r.name r.c ▸ none) refl (subst Here r.shape e) in
         let (test, rest) = and_parts (fits strict expression r.a) (fits strict expression (assign r.name r.b) && (fits strict expression (assign r.name r.c) && true)) fit in
         let (first, second) = of_two (assign r.name r.b) (assign r.name r.c) rest in
@@ -136,6 +141,24 @@ module _ (strict : Bool) where
     lighter_fits q n w (inr (inr (inr (inr (inl r))))) e =
         let (here, (test, last, branch)) = of_conditional strict s (binary binary_operator.Inequality (identifier r.name) null_literal) (identifier r.name) r.b (subst Here r.shape e) in
         subst Here (sym r.written) (expression_taken strict s (logical Coalesce (identifier r.name) r.b) here (two_fit strict (identifier r.name) r.b last branch))
+    lighter_fits q n w (inr (inr (inr (inr (inr (inr (inl r))))))) e =
+        let x : Tree = identifier r.name in
+        let one : Tree = binary (strictly r.equal) x r.first in
+        let other : Tree = binary (strictly r.equal) x r.second in
+        let (here, fit) = choice_taken strict s (a_logical (joining r.equal)) (one ▸ other ▸ none) refl (subst Here r.shape e) in
+        let (first, rest) = of_two one other fit in
+        let (name, null) = of_two x r.first first in
+        subst Here (sym r.written) (expression_taken strict s (binary (loosely r.equal) x null_literal) here (two_fit strict x null_literal name refl))
+    lighter_fits q n w (inr (inr (inr (inr (inr (inr (inr r))))))) e =
+        let x : Tree = identifier r.name in
+        let one : Tree = binary (strictly r.equal) x r.first in
+        let other : Tree = binary (strictly r.equal) x r.second in
+        let left : Tree = logical (joining r.equal) r.before one in
+        let (here, fit) = choice_taken strict s (a_logical (joining r.equal)) (left ▸ other ▸ none) refl (subst Here r.shape e) in
+        let (both, rest) = of_two left other fit in
+        let (before, first) = of_two r.before one both in
+        let (name, null) = of_two x r.first first in
+        subst Here (sym r.written) (expression_taken strict s (logical (joining r.equal) r.before (binary (loosely r.equal) x null_literal)) here (two_fit strict r.before (binary (loosely r.equal) x null_literal) before (two_fit strict x null_literal name refl)))
 
     -- what is written for a conditional fits where its parts do
     for_choice : (n w a b c : Tree) → n ≡ conditional a b c → (Fits a → Fits b → Fits c → Fits w) → Here n → Here w
@@ -165,12 +188,14 @@ module _ (strict : Bool) where
 -- ---- what a parent asks
 
 row_formed : (q : Seat) (n w : Tree) → LighterRow q n w → Formed n w
-row_formed q n w (inl r) = record { first = a_logical r.operator; second = a_logical r.operator; parts = r.a ▸ logical r.operator r.b r.c ▸ none; others = logical r.operator r.a r.b ▸ r.c ▸ none; read = r.shape; made = r.written; optional = λ x. absurd (cc x) }
+row_formed q n w (inl r) = record { first = a_logical r.operator; second = a_logical r.operator; parts = r.a ▸ joined r.operator r.b (r.last ▸ r.others) ▸ none; others = joined r.operator (logical r.operator r.a r.b) r.others ▸ r.last ▸ none; read = r.shape; made = r.written; optional = λ x. absurd (cc x) }
 row_formed q n w (inr (inl r)) = record { first = a_logical r.operator; second = an_assignment (deciding r.operator); parts = identifier r.name ▸ assign r.name r.b ▸ none; others = identifier r.name ▸ r.b ▸ none; read = r.shape; made = r.written; optional = λ x. absurd (cc x) }
 row_formed q n w (inr (inr (inl r))) = record { first = an_assignment Assign; second = an_assignment r.combined; parts = identifier r.name ▸ binary r.operator (identifier r.name) r.b ▸ none; others = identifier r.name ▸ r.b ▸ none; read = r.shape; made = r.written; optional = λ x. absurd (cc x) }
-row_formed q n w (inr (inr (inr (inr (inr r))))) = record { first = a_conditional; second = an_assignment Assign; parts = r.a ▸ assign r.name r.b ▸ assign r.name r.c ▸ none; others = identifier r.name ▸ conditional r.a r.b r.c ▸ none; read = r.shape; made = r.written; optional = λ x. absurd (cc x) }
+row_formed q n w (inr (inr (inr (inr (inr (inl r)))))) = record { first = a_conditional; second = an_assignment Assign; parts = r.a ▸ assign r.name r.b ▸ assign r.name r.c ▸ none; others = identifier r.name ▸ conditional r.a r.b r.c ▸ none; read = r.shape; made = r.written; optional = λ x. absurd (cc x) }
 row_formed q n w (inr (inr (inr (inl r)))) = record { first = a_conditional; second = a_logical Coalesce; parts = binary binary_operator.Equality (identifier r.name) null_literal ▸ r.b ▸ identifier r.name ▸ none; others = identifier r.name ▸ r.b ▸ none; read = r.shape; made = r.written; optional = λ x. absurd (cc x) }
 row_formed q n w (inr (inr (inr (inr (inl r))))) = record { first = a_conditional; second = a_logical Coalesce; parts = binary binary_operator.Inequality (identifier r.name) null_literal ▸ identifier r.name ▸ r.b ▸ none; others = identifier r.name ▸ r.b ▸ none; read = r.shape; made = r.written; optional = λ x. absurd (cc x) }
+row_formed q n w (inr (inr (inr (inr (inr (inr (inl r))))))) = record { first = a_logical (joining r.equal); second = a_binary (loosely r.equal); parts = binary (strictly r.equal) (identifier r.name) r.first ▸ binary (strictly r.equal) (identifier r.name) r.second ▸ none; others = identifier r.name ▸ null_literal ▸ none; read = r.shape; made = r.written; optional = λ x. absurd (cc x) }
+row_formed q n w (inr (inr (inr (inr (inr (inr (inr r))))))) = record { first = a_logical (joining r.equal); second = a_logical (joining r.equal); parts = logical (joining r.equal) r.before (binary (strictly r.equal) (identifier r.name) r.first) ▸ binary (strictly r.equal) (identifier r.name) r.second ▸ none; others = r.before ▸ binary (loosely r.equal) (identifier r.name) null_literal ▸ none; read = r.shape; made = r.written; optional = λ x. absurd (cc x) }
 
 -- of a conditional it asks nothing that another expression hasn't
 record Choosing (n w : Tree) : Type 0 where
@@ -210,27 +235,18 @@ held_choosing n w (inr (inr (inr (inr (inr (inr r)))))) = record { a = r.a; b = 
 
 pub row_fits : (p : Position) (n w : Tree) → ChoiceRow p n w → (strict : Bool) (s : Slot) → fits strict s n ≡ true → fits strict s w ≡ true
 row_fits (Expr q) n w (inl r) strict s e = lighter_fits strict s q n w r e
-row_fits (Expr q) n w (inr r) strict s e = own_fits strict s n w r e
+row_fits (Expr q) n w (inr (inl r)) strict s e = own_fits strict s n w r e
+row_fits (Expr q) n w (inr (inr r)) strict s e = held_fits strict s n w r e
 row_fits p n w r strict s e = absurd r
 
 pub row_asked : (p : Position) (n w : Tree) → ChoiceRow p n w → AskedAlike p n w
 row_asked (Expr q) n w (inl r) = formed_asked (Expr q) n w (row_formed q n w r)
-row_asked (Expr q) n w (inr r) = choosing_asked (Expr q) n w (own_choosing n w r)
+row_asked (Expr q) n w (inr (inl r)) = choosing_asked (Expr q) n w (own_choosing n w r)
+row_asked (Expr q) n w (inr (inr r)) = choosing_asked (Expr q) n w (held_choosing n w r)
 row_asked p n w r = absurd r
 
 pub row_slot : (p : Position) (n w : Tree) → ChoiceRow p n w → (strict : Bool) (s : Slot) → fits strict s n ≡ true → is_body_slot p s ≡ true
 row_slot (Expr q) n w (inl r) = formed_slot (Expr q) n w (row_formed q n w r)
-row_slot (Expr q) n w (inr r) = formed_slot (Expr q) n n (chosen_formed n w (own_choosing n w r))
+row_slot (Expr q) n w (inr (inl r)) = formed_slot (Expr q) n n (chosen_formed n w (own_choosing n w r))
+row_slot (Expr q) n w (inr (inr r)) = formed_slot (Expr q) n n (chosen_formed n w (held_choosing n w r))
 row_slot p n w r = absurd r
-
-pub held_row_fits : (p : Position) (n w : Tree) → HeldRowAt p n w → (strict : Bool) (s : Slot) → fits strict s n ≡ true → fits strict s w ≡ true
-held_row_fits (Expr q) n w r strict s e = held_fits strict s n w r e
-held_row_fits p n w r strict s e = absurd r
-
-pub held_row_asked : (p : Position) (n w : Tree) → HeldRowAt p n w → AskedAlike p n w
-held_row_asked (Expr q) n w r = choosing_asked (Expr q) n w (held_choosing n w r)
-held_row_asked p n w r = absurd r
-
-pub held_row_slot : (p : Position) (n w : Tree) → HeldRowAt p n w → (strict : Bool) (s : Slot) → fits strict s n ≡ true → is_body_slot p s ≡ true
-held_row_slot (Expr q) n w r = formed_slot (Expr q) n n (chosen_formed n w (held_choosing n w r))
-held_row_slot p n w r = absurd r

@@ -12,15 +12,15 @@ use Rattle.mini_model.specs.declared.operator.LogicalOperator.TheVariants.{Or, A
 use Rattle.mini_model.specs.declared.seat.Seat.{Seat}
 use Rattle.mini_model.specs.declared.shape.Shape.{Shape}
 use Rattle.mini_model.specs.declared.shape.Shape.TheVariants as shape
-use Rattle.mini_model.specs.Tree.{Tree, node, none, ◌▸◌, identifier, logical, conditional, null_literal}
+use Rattle.mini_model.specs.Tree.{Tree, Trees, node, none, ◌▸◌, identifier, logical, conditional, null_literal}
 use Rattle.mini_model.specs.declared.place.Position.{Position}
 use Rattle.mini_model.specs.declared.place.Position.TheVariants.{Expr}
 use Rattle.mini_model.specs.Position.{left_operand_seat, right_operand_seat, argument_seat, branch_seat, binary_operand_seat, conditional_level}
-use Rattle.mini_model.specs.Weight.{Outline, outline, outlines, weight, place_weight, is_parenthesized, name_weight, spelled_weight, same_text}
+use Rattle.mini_model.specs.Weight.{Outline, outline, outlines, weight, place_weight, is_parenthesized, is_awkward, name_weight, spelled_weight, same_text}
 use Rattle.mini_laws.specs.Weights.{Lightens}
 use Rattle.mini_laws.proofs.Seats.{placed, placed_node}
 use Rattle.mini_rows.specs.Spellings.{binary, assignment}
-use Rattle.mini_rows.specs.Choices.{assign, is_same_operator, is_grouped, deciding, computing, LighterRow, OwnRow, HeldRow, HeldRowAt, HeldContracts, ChoiceRow, ChoiceContracts, ChoicesLighter}
+use Rattle.mini_rows.specs.Choices.{assign, is_same_operator, is_grouped, joined, strictly, loosely, joining, AreNullish, deciding, computing, LighterRow, OwnRow, HeldRow, ChoiceRow, ChoiceContracts, ChoicesLighter}
 use Rattle.mini_rows.proofs.SpellWeights.{falls_by}
 
 -- what a place adds to a node that is neither awkward nor mixed
@@ -197,15 +197,90 @@ equal_falls s x b = omega (arith, coalesced_falls s b, coalesce_at_most s (outli
 unequal_falls : (s : Seat) (x : Name) (b : Tree) → weight (Expr s) (logical Coalesce (identifier x) b) < weight (Expr s) (conditional (binary binary_operator.Inequality (identifier x) null_literal) (identifier x) b)
 unequal_falls s x b = omega (arith, coalesced_falls s b, coalesce_at_most s (outlines (identifier x ▸ b ▸ none)), name_heavy x)
 
+-- 39: the operands that follow the first on the right stand with it on the left, and the parentheses round all go
+
+regrouped_falls : (o : LogicalOperator) (s : Seat) (a b c : Tree) → weight (Expr s) (logical o (logical o a b) c) ≤ weight (Expr s) (logical o a (logical o b c))
+regrouped_falls Or s a b c =
+    let first = placed 0 (left_operand_seat Or (left_operand_seat Or s)) (left_operand_seat Or s) refl (λ h os. omega arith) a in
+    let middle = placed 4 (right_operand_seat Or (left_operand_seat Or s)) (left_operand_seat Or (right_operand_seat Or s)) refl (λ h os. omega (arith, right_marks (is_parenthesized h (right_operand_seat Or (left_operand_seat Or s))))) b in
+    let last = placed 0 (right_operand_seat Or s) (right_operand_seat Or (right_operand_seat Or s)) refl (λ h os. omega arith) c in
+    omega (arith, first, middle, last)
+regrouped_falls And s a b c =
+    let first = placed 0 (left_operand_seat And (left_operand_seat And s)) (left_operand_seat And s) refl (λ h os. omega arith) a in
+    let middle = placed 4 (right_operand_seat And (left_operand_seat And s)) (left_operand_seat And (right_operand_seat And s)) refl (λ h os. omega (arith, right_marks (is_parenthesized h (right_operand_seat And (left_operand_seat And s))))) b in
+    let last = placed 0 (right_operand_seat And s) (right_operand_seat And (right_operand_seat And s)) refl (λ h os. omega arith) c in
+    omega (arith, first, middle, last)
+regrouped_falls Coalesce s a b c =
+    let first = placed 0 (left_operand_seat Coalesce (left_operand_seat Coalesce s)) (left_operand_seat Coalesce s) refl (λ h os. omega arith) a in
+    let middle = placed 4 (right_operand_seat Coalesce (left_operand_seat Coalesce s)) (left_operand_seat Coalesce (right_operand_seat Coalesce s)) refl (λ h os. omega (arith, right_marks (is_parenthesized h (right_operand_seat Coalesce (left_operand_seat Coalesce s))))) b in
+    let last = placed 0 (right_operand_seat Coalesce s) (right_operand_seat Coalesce (right_operand_seat Coalesce s)) refl (λ h os. omega arith) c in
+    omega (arith, first, middle, last)
+
+left_falls : (o : LogicalOperator) (s : Seat) (a b c : Tree) → weight (Expr (left_operand_seat o s)) a < weight (Expr (left_operand_seat o s)) b → weight (Expr s) (logical o a c) < weight (Expr s) (logical o b c)
+left_falls o s a b c less = omega (arith, less)
+
+less_at_most : (x y z : ℕ) → x < y → y ≤ z → x < z
+less_at_most x y z h k = omega arith
+
+joined_falls : (o : LogicalOperator) (s : Seat) (a b c : Tree) (cs : Trees) → is_grouped o b ≡ false → weight (Expr s) (joined o (logical o a b) (c ▸ cs)) < weight (Expr s) (logical o a (joined o b (c ▸ cs)))
+joined_falls o s a b c none e = rotated_falls o s a b c e
+joined_falls o s a b c (d ▸ cs) e =
+    less_at_most _ _ _
+    (left_falls o s (joined o (logical o a b) (d ▸ cs)) (logical o a (joined o b (d ▸ cs))) c (joined_falls o (left_operand_seat o s) a b d cs e))
+    (regrouped_falls o s a (joined o b (d ▸ cs)) c)
+
+-- 37: a comparison and what joins the two go
+
+mark_of : (b : Bool) → (if b then 1 else 0) ≤ 1
+mark_of true = omega arith
+mark_of false = omega arith
+
+loose_light : (s : Seat) (equal : Bool) (x : Name) → weight (Expr s) (binary (loosely equal) (identifier x) null_literal) ≤ 17 + name_weight x
+loose_light s true x = omega (arith, pair_of (is_parenthesized (shape.BinaryExpression binary_operator.Equality) s), mark_of (is_awkward s (shape.BinaryExpression binary_operator.Equality) (outlines (identifier x ▸ null_literal ▸ none))))
+loose_light s false x = omega (arith, pair_of (is_parenthesized (shape.BinaryExpression binary_operator.Inequality) s), mark_of (is_awkward s (shape.BinaryExpression binary_operator.Inequality) (outlines (identifier x ▸ null_literal ▸ none))))
+
+strict_heavy : (s : Seat) (equal : Bool) (x : Name) (f : Tree) → 6 + name_weight x ≤ weight (Expr s) (binary (strictly equal) (identifier x) f)
+strict_heavy s true x f = omega arith
+strict_heavy s false x f = omega arith
+
+null_heavy : (s : Seat) (equal : Bool) (x : Name) (f : Tree) → f ≡ null_literal → 14 + name_weight x ≤ weight (Expr s) (binary (strictly equal) (identifier x) f)
+null_heavy s true x f e = subst (λ (f : Tree). 14 + name_weight x ≤ weight (Expr s) (binary (strictly true) (identifier x) f)) (sym e) (omega arith)
+null_heavy s false x f e = subst (λ (f : Tree). 14 + name_weight x ≤ weight (Expr s) (binary (strictly false) (identifier x) f)) (sym e) (omega arith)
+
+added : (n u v : ℕ) → 14 + n ≤ u → 6 + n ≤ v → 20 + n + n ≤ u + v
+added n u v h k = omega arith
+
+added' : (n u v : ℕ) → 6 + n ≤ u → 14 + n ≤ v → 20 + n + n ≤ u + v
+added' n u v h k = omega arith
+
+-- both comparisons
+both_heavy : (s t : Seat) (equal : Bool) (x : Name) (f g : Tree) → AreNullish f g → 20 + name_weight x + name_weight x ≤ weight (Expr s) (binary (strictly equal) (identifier x) f) + weight (Expr t) (binary (strictly equal) (identifier x) g)
+both_heavy s t equal x f g (inl h) = added _ _ _ (null_heavy s equal x f h.0) (strict_heavy t equal x g)
+both_heavy s t equal x f g (inr h) = added' _ _ _ (strict_heavy s equal x f) (null_heavy t equal x g h.1)
+
+compared_falls : (s : Seat) (equal : Bool) (x : Name) (f g : Tree) → AreNullish f g → weight (Expr s) (binary (loosely equal) (identifier x) null_literal) < weight (Expr s) (logical (joining equal) (binary (strictly equal) (identifier x) f) (binary (strictly equal) (identifier x) g))
+compared_falls s true x f g h = omega (arith, loose_light s true x, both_heavy (left_operand_seat Or s) (right_operand_seat Or s) true x f g h)
+compared_falls s false x f g h = omega (arith, loose_light s false x, both_heavy (left_operand_seat And s) (right_operand_seat And s) false x f g h)
+
+compared_after_falls : (s : Seat) (equal : Bool) (a : Tree) (x : Name) (f g : Tree) → AreNullish f g → weight (Expr s) (logical (joining equal) a (binary (loosely equal) (identifier x) null_literal)) < weight (Expr s) (logical (joining equal) (logical (joining equal) a (binary (strictly equal) (identifier x) f)) (binary (strictly equal) (identifier x) g))
+compared_after_falls s true a x f g h =
+    let first = placed 0 (left_operand_seat Or s) (left_operand_seat Or (left_operand_seat Or s)) refl (λ h os. omega arith) a in
+    omega (arith, first, loose_light (right_operand_seat Or s) true x, both_heavy (right_operand_seat Or (left_operand_seat Or s)) (right_operand_seat Or s) true x f g h)
+compared_after_falls s false a x f g h =
+    let first = placed 0 (left_operand_seat And s) (left_operand_seat And (left_operand_seat And s)) refl (λ h os. omega arith) a in
+    omega (arith, first, loose_light (right_operand_seat And s) false x, both_heavy (right_operand_seat And (left_operand_seat And s)) (right_operand_seat And s) false x f g h)
+
 -- all
 
 pub lighter : ChoicesLighter
-lighter s n w (inl r) = falls_by (Expr s) n w _ _ r.shape r.written (rotated_falls r.operator s r.a r.b r.c r.ungrouped)
+lighter s n w (inl r) = falls_by (Expr s) n w _ _ r.shape r.written (joined_falls r.operator s r.a r.b r.last r.others r.ungrouped)
 lighter s n w (inr (inl r)) = falls_by (Expr s) n w _ _ r.shape r.written (deciding_falls r.operator s r.name r.b)
 lighter s n w (inr (inr (inl r))) = falls_by (Expr s) n w _ _ r.shape r.written (computing_falls r.operator r.combined r.computes s r.name r.b)
 lighter s n w (inr (inr (inr (inl r)))) = falls_by (Expr s) n w _ _ r.shape r.written (equal_falls s r.name r.b)
 lighter s n w (inr (inr (inr (inr (inl r))))) = falls_by (Expr s) n w _ _ r.shape r.written (unequal_falls s r.name r.b)
-lighter s n w (inr (inr (inr (inr (inr r))))) = falls_by (Expr s) n w _ _ r.shape r.written (chosen_falls s r.seated r.a r.name r.b r.c)
+lighter s n w (inr (inr (inr (inr (inr (inr (inl r))))))) = falls_by (Expr s) n w _ _ r.shape r.written (compared_falls s r.equal r.name r.first r.second r.nullish)
+lighter s n w (inr (inr (inr (inr (inr (inr (inr r))))))) = falls_by (Expr s) n w _ _ r.shape r.written (compared_after_falls s r.equal r.before r.name r.first r.second r.nullish)
+lighter s n w (inr (inr (inr (inr (inr (inl r)))))) = falls_by (Expr s) n w _ _ r.shape r.written (chosen_falls s r.seated r.a r.name r.b r.c)
 
 -- of none of these nodes a parent's weight reads more than that it is there
 lighter_outline : (s : Seat) (n w : Tree) → LighterRow s n w → outline n ≡ outline w
@@ -214,7 +289,9 @@ lighter_outline s n w (inr (inl r)) = ap outline r.shape ∙ sym (ap outline r.w
 lighter_outline s n w (inr (inr (inl r))) = ap outline r.shape ∙ sym (ap outline r.written)
 lighter_outline s n w (inr (inr (inr (inl r)))) = ap outline r.shape ∙ sym (ap outline r.written)
 lighter_outline s n w (inr (inr (inr (inr (inl r))))) = ap outline r.shape ∙ sym (ap outline r.written)
-lighter_outline s n w (inr (inr (inr (inr (inr r))))) = ap outline r.shape ∙ sym (ap outline r.written)
+lighter_outline s n w (inr (inr (inr (inr (inr (inr (inl r))))))) = ap outline r.shape ∙ sym (ap outline r.written)
+lighter_outline s n w (inr (inr (inr (inr (inr (inr (inr r))))))) = ap outline r.shape ∙ sym (ap outline r.written)
+lighter_outline s n w (inr (inr (inr (inr (inr (inl r)))))) = ap outline r.shape ∙ sym (ap outline r.written)
 
 own_outline : (n w : Tree) → OwnRow n w → outline n ≡ outline w
 own_outline n w (inl r) = ap outline r.shape ∙ sym (ap outline r.written)
@@ -231,7 +308,8 @@ held_outline n w (inr (inr (inr (inr (inr (inr r)))))) = ap outline r.shape ∙ 
 
 outline_by_row : (p : Position) (n w : Tree) → ChoiceRow p n w → outline n ≡ outline w
 outline_by_row (Expr s) n w (inl r) = lighter_outline s n w r
-outline_by_row (Expr s) n w (inr r) = own_outline n w r
+outline_by_row (Expr s) n w (inr (inl r)) = own_outline n w r
+outline_by_row (Expr s) n w (inr (inr r)) = held_outline n w r
 outline_by_row p n w r = absurd r
 
 pub lightens : Lightens ChoiceContracts
@@ -241,17 +319,4 @@ lightens = record {
   items = λ p n w c a. ap (λ o. o.items) (outline_by_row p n w c.row);
   is_zero = λ p n w c a. inl (ap (λ o. o.is_zero) (outline_by_row p n w c.row));
   chooses = λ p n w c a. inl (λ h. sym (ap (λ o. o.chooses) (outline_by_row p n w c.row)) ∙ h);
-}
-
-held_outline_at : (p : Position) (n w : Tree) → HeldRowAt p n w → outline n ≡ outline w
-held_outline_at (Expr s) n w r = held_outline n w r
-held_outline_at p n w r = absurd r
-
-pub held_lighten : Lightens HeldContracts
-held_lighten = record {
-  lighter = λ p n w c. c.lighter;
-  absent = λ p n w c a. ap (λ o. o.absent) (held_outline_at p n w c.row);
-  items = λ p n w c a. ap (λ o. o.items) (held_outline_at p n w c.row);
-  is_zero = λ p n w c a. inl (ap (λ o. o.is_zero) (held_outline_at p n w c.row));
-  chooses = λ p n w c a. inl (λ h. sym (ap (λ o. o.chooses) (held_outline_at p n w c.row)) ∙ h);
 }

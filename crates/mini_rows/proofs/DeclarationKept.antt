@@ -5,7 +5,7 @@ use Rattle.mini_model.specs.declared.kind.VariableDeclarationKind.TheVariants.{L
 use Rattle.mini_model.specs.declared.kind.PropertyKind.{PropertyKind}
 use Rattle.mini_model.specs.declared.name.Name.{Name}
 use Rattle.mini_model.specs.declared.place.Position.{Position}
-use Rattle.mini_model.specs.declared.place.Position.TheVariants.{Expr, Stmt, StatementList, CommaList, Elsewhere}
+use Rattle.mini_model.specs.declared.place.Position.TheVariants.{Expr, Stmt, StatementList, BodyList, CommaList, Elsewhere}
 use Rattle.mini_model.specs.declared.seat.Seat.{Seat}
 use Rattle.mini_model.specs.declared.seat.StmtSeat.{StmtSeat}
 use Rattle.mini_model.specs.declared.seat.StmtSeat.TheVariants as stmt_seat
@@ -40,6 +40,7 @@ use Rattle.mini_rows.specs.Arranged.{KeptAt}
 use Rattle.mini_rows.specs.Lists.{declaration, for_loop, InList}
 use Rattle.mini_rows.specs.Spellings.{void_zero, IsUndefined}
 use Rattle.mini_rows.specs.Declarations.{binding, declarator, Row61, Item, Alone, Exported, held, Row61Item, Row61For, DeclarationRow}
+use Rattle.mini_rows.proofs.BodyLists.{body_kept}
 use Rattle.mini_rows.proofs.ListKeptDeclarations.{body_are, all_both}
 
 -- ---- names: an initializer goes by a step in the declarator
@@ -94,7 +95,7 @@ drop_keeps s n w (inl h) e = subst (λ t. Keeps (Expr s) t w) (sym h) (subst (Ke
 drop_keeps s n w (inr h) e = subst (λ t. Keeps (Expr s) t w) (sym h) (subst (Keeps (Expr s) void_zero) (sym e) (void_keeps s))
 
 drops_keep : KeepsNames Drops
-drops_keep = record { places = place; pieces = piece; keeps = λ p n w r strict sl k f. keep p n w r }
+drops_keep = record { places = λ p n w r. inl (place p n w r); pieces = piece; keeps = λ p n w r strict sl k f. keep p n w r }
   where
     place : (p : Position) (n w : Tree) → Drops p n w → is_rewritten_place p ≡ true
     place (Expr s) n w r = refl
@@ -313,5 +314,6 @@ for_kept q n w r = subst (λ t. KeptAt (Stmt q) t w) (sym r.shape) (subst (KeptA
 
 pub declaration_kept : (p : Position) (n w : Tree) → DeclarationRow p n w → KeptAt p n w
 declaration_kept StatementList n w r = in_list_kept n w r
+declaration_kept BodyList n w r = body_kept n w (in_list_kept n w r)
 declaration_kept (Stmt q) n w r = for_kept q n w r
 declaration_kept p n w r = absurd r

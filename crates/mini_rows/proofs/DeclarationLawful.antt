@@ -4,7 +4,7 @@ use Rattle.std.specs.Prelude.{◌&&◌, nat_le}
 use Rattle.std.proofs.lemmas.Bool.{and_parts}
 use Rattle.mini_model.specs.declared.kind.VariableDeclarationKind.TheVariants.{Let}
 use Rattle.mini_model.specs.declared.place.Position.{Position}
-use Rattle.mini_model.specs.declared.place.Position.TheVariants.{Stmt, StatementList}
+use Rattle.mini_model.specs.declared.place.Position.TheVariants.{Stmt, StatementList, BodyList}
 use Rattle.mini_model.specs.declared.shape.Shape.TheVariants as shape
 use Rattle.mini_model.specs.Tree.{Tree, Trees, none, ◌▸◌, count, shape_of, absent, listed}
 use Rattle.mini_model.specs.Paths.{append}
@@ -25,6 +25,7 @@ use Rattle.mini_rows.proofs.BranchAround.{is_plain}
 use Rattle.mini_rows.proofs.BranchLawful.{is_read, taken, fits_there, body_slot, plain_asked}
 use Rattle.mini_rows.proofs.DeclarationKept.{declaration_kept}
 use Rattle.mini_rows.proofs.DeclarationMeaning.{declarations_same}
+use Rattle.mini_rows.proofs.BodyLists.{same_place, same_slot}
 use Rattle.mini_rows.proofs.ListLawful.{asked_of_lists}
 use Rattle.mini_rows.proofs.ListShapes.{declaration_anywhere, init_declares, append_fits, both_fit, first_fits, more_fit}
 
@@ -147,21 +148,31 @@ for_plain n w r = (ap (λ t. is_plain (shape_of t)) r.shape, ap (λ t. is_plain 
 
 row_place : (p : Position) (n w : Tree) → DeclarationRow p n w → is_rewritten_place p ≡ true
 row_place StatementList n w r = refl
+row_place BodyList n w r = refl
 row_place (Stmt q) n w r = refl
 row_place p n w r = absurd r
 
 row_fitting : (p : Position) (n w : Tree) → DeclarationRow p n w → (strict : Bool) (s : Slot) → fits_place p s ≡ true → fits strict s n ≡ true → fits strict s w ≡ true
 row_fitting StatementList n w r strict s k e = list_fits n w r strict s k e
+row_fitting BodyList n w r strict s k e = list_fits n w r strict s (same_place s k) e
 row_fitting (Stmt q) n w r strict s k e = fits_there strict s n w (for_read n w r) (for_plain n w r).0 (for_plain n w r).1 (for_fits strict n w r) e
 row_fitting p n w r strict s k e = absurd r
 
+list_slot : (n w : Tree) → InList Row61Item n w → (strict : Bool) (s : Slot) → fits_place StatementList s ≡ true → fits strict s n ≡ true → is_body_slot StatementList s ≡ true
+list_slot n w r strict s k e = listed_body_slot strict s [] 0 (append r.before (append r.read r.after)) k (subst (λ t. fits strict s t ≡ true) r.shape e)
+
 row_slot : (p : Position) (n w : Tree) → DeclarationRow p n w → (strict : Bool) (s : Slot) → fits_place p s ≡ true → fits strict s n ≡ true → is_body_slot p s ≡ true
-row_slot StatementList n w r strict s k e = listed_body_slot strict s [] 0 (append r.before (append r.read r.after)) k (subst (λ t. fits strict s t ≡ true) r.shape e)
+row_slot StatementList n w r strict s k e = list_slot n w r strict s k e
+row_slot BodyList n w r strict s k e = same_slot s (list_slot n w r strict s (same_place s k) e)
 row_slot (Stmt q) n w r strict s k e = body_slot (Stmt q) s (taken strict s n (for_read n w r) e)
 row_slot p n w r strict s k e = absurd r
 
+list_asked : (p : Position) (n w : Tree) → InList Row61Item n w → AskedAlike p n w
+list_asked p n w r = subst (λ t. AskedAlike p t w) (sym r.shape) (subst (AskedAlike p (listed (append r.before (append r.read r.after)))) (sym r.written) (asked_of_lists p (append r.before (append r.read r.after)) (append r.before (append r.put r.after))))
+
 row_asked : (p : Position) (n w : Tree) → DeclarationRow p n w → AskedAlike p n w
-row_asked StatementList n w r = subst (λ t. AskedAlike StatementList t w) (sym r.shape) (subst (AskedAlike StatementList (listed (append r.before (append r.read r.after)))) (sym r.written) (asked_of_lists (append r.before (append r.read r.after)) (append r.before (append r.put r.after))))
+row_asked StatementList n w r = list_asked StatementList n w r
+row_asked BodyList n w r = list_asked BodyList n w r
 row_asked (Stmt q) n w r = plain_asked (Stmt q) n w (for_plain n w r).0 (for_plain n w r).1
 row_asked p n w r = absurd r
 

@@ -2,7 +2,7 @@
 use Rattle.std.proofs.Common.{◌≡◌, ℕ, zero, suc, true, false, [], ◌++◌, Option, Some, None, refl, sym, ap, ◌∙◌, inl, inr}
 use Rattle.mini_model.specs.declared.kind.VariableDeclarationKind.TheVariants.{Let}
 use Rattle.mini_model.specs.declared.place.Position.{Position}
-use Rattle.mini_model.specs.declared.place.Position.TheVariants.{Stmt, StatementList}
+use Rattle.mini_model.specs.declared.place.Position.TheVariants.{Stmt, StatementList, BodyList}
 use Rattle.mini_model.specs.declared.shape.Shape.TheVariants as shape
 use Rattle.mini_model.specs.Tree.{Tree, Trees, none, ◌▸◌, absent}
 use Rattle.mini_model.specs.Paths.{append}
@@ -24,6 +24,7 @@ use Rattle.mini_laws.proofs.Tailing.{finished, finish_none}
 use Rattle.mini_rows.specs.Lists.{declaration, for_loop, InList}
 use Rattle.mini_rows.specs.Spellings.{IsUndefined}
 use Rattle.mini_rows.specs.Declarations.{binding, declarator, Row61, Item, Alone, Exported, held, Row61Item, Row61For, DeclarationRow, DeclarationContracts}
+use Rattle.mini_rows.proofs.BodyLists.{body_same}
 use Rattle.mini_rows.proofs.ListStretches.{SameStretch, lets_append, exec_one, in_list, list_does, list_reads, replaced}
 use Rattle.mini_rows.proofs.ListStatements.{declare, declare_more, declare_append, declaration_is}
 use Rattle.mini_rows.proofs.ListHeads.{for_names, for_kids}
@@ -161,11 +162,13 @@ for_row_same n w r = statement_replaced n _ w _ r.shape r.written (for_same r.te
 
 row_same : (p : Position) (n w : Tree) → DeclarationRow p n w → SameAt p n w
 row_same StatementList n w r = equal_same StatementList n w (list_equal n w r)
+row_same BodyList n w r = body_same n w (equal_same StatementList n w (list_equal n w r))
 row_same (Stmt q) n w r = statement_same n w (for_row_same n w r) q
 row_same p n w r = absurd r
 
 row_reads : (p : Position) (n w : Tree) → DeclarationRow p n w → summary n ≡ summary w
 row_reads StatementList n w r = ap summary r.shape ∙ list_reads _ _ (list_same n w r) ∙ sym (ap summary r.written)
+row_reads BodyList n w r = ap summary r.shape ∙ list_reads _ _ (list_same n w r) ∙ sym (ap summary r.written)
 row_reads (Stmt q) n w r = (for_row_same n w r).read
 row_reads p n w r = absurd r
 

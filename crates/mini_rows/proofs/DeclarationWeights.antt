@@ -1,7 +1,7 @@
 -- What the rows of declarations write is lighter.
 use Rattle.std.proofs.Common.{◌≡◌, ◌<◌, true, false, ◌∷◌, refl, sym, ap, ◌∙◌, inl, inr, true≢false, arith}
 use Rattle.mini_model.specs.declared.place.Position.{Position}
-use Rattle.mini_model.specs.declared.place.Position.TheVariants.{Expr, Stmt, StatementList, CommaList, Elsewhere}
+use Rattle.mini_model.specs.declared.place.Position.TheVariants.{Expr, Stmt, StatementList, BodyList, CommaList, Elsewhere}
 use Rattle.mini_model.specs.declared.seat.StmtSeat.{StmtSeat}
 use Rattle.mini_model.specs.declared.seat.StmtSeat.TheVariants as stmt_seat
 use Rattle.mini_model.specs.Tree.{Tree, Trees, none, ◌▸◌, count, absent, listed}
@@ -12,7 +12,7 @@ use Rattle.mini_laws.specs.Weights.{Lightens, counts_items}
 use Rattle.mini_rows.specs.Lists.{InList}
 use Rattle.mini_rows.specs.Spellings.{IsUndefined}
 use Rattle.mini_rows.specs.Declarations.{binding, declarator, Row61, Item, Alone, Exported, held, Row61Item, Row61For, DeclarationRow, DeclarationContracts, DeclarationsLighter}
-use Rattle.mini_rows.proofs.ListWeights.{total, chooses, comma_list, declarators_append, alone, alone_after, some_after, in_list}
+use Rattle.mini_rows.proofs.ListWeights.{total, chooses, comma_list, declarators_append, alone, alone_after, some_after, in_list, weighs_there}
 
 -- ---- declarators
 
@@ -78,11 +78,18 @@ item_there a b r e = omega (arith, e, ap count r.shape)
 for_falls : (q : StmtSeat) (n w : Tree) → Row61For n w → weight (Stmt q) w < weight (Stmt q) n
 for_falls q n w r = let falls = (row_falls r.declared r.bare r.row).head in omega (arith, falls, ap (weight (Stmt q)) r.shape, ap (weight (Stmt q)) r.written)
 
-pub declarations_lighter : DeclarationsLighter
-declarations_lighter StatementList n w r =
+list_falls : (n w : Tree) → InList Row61Item n w → weight StatementList w < weight StatementList n
+list_falls n w r =
     let falls = item_falls r.read r.put r.row in
     let whole = in_list r.before r.read r.put r.after 1 (omega (arith, falls)) in
     omega (arith, whole, ap (weight StatementList) r.shape, ap (weight StatementList) r.written)
+
+pub declarations_lighter : DeclarationsLighter
+declarations_lighter StatementList n w r = list_falls n w r
+declarations_lighter BodyList n w r =
+    let old = weighs_there n (append r.before (append r.read r.after)) r.shape in
+    let new = weighs_there w (append r.before (append r.put r.after)) r.written in
+    omega (arith, list_falls n w r, old, new)
 declarations_lighter (Stmt q) n w r = for_falls q n w r
 declarations_lighter p n w r = absurd r
 
@@ -95,21 +102,25 @@ list_chooses n w r h =
 
 row_chooses : (p : Position) (n w : Tree) → DeclarationRow p n w → (outline n).chooses ≡ true → (outline w).chooses ≡ true
 row_chooses StatementList n w r = list_chooses n w r
+row_chooses BodyList n w r = list_chooses n w r
 row_chooses (Stmt q) n w r = λ h. absurd (true≢false (sym h ∙ ap (λ t. (outline t).chooses) r.shape))
 row_chooses p n w r = absurd r
 
 row_absent : (p : Position) (n w : Tree) → DeclarationRow p n w → (outline n).absent ≡ (outline w).absent
 row_absent StatementList n w r = ap (λ t. (outline t).absent) r.shape ∙ sym (ap (λ t. (outline t).absent) r.written)
+row_absent BodyList n w r = ap (λ t. (outline t).absent) r.shape ∙ sym (ap (λ t. (outline t).absent) r.written)
 row_absent (Stmt q) n w r = ap (λ t. (outline t).absent) r.shape ∙ sym (ap (λ t. (outline t).absent) r.written)
 row_absent p n w r = absurd r
 
 row_zero : (p : Position) (n w : Tree) → DeclarationRow p n w → (outline n).is_zero ≡ (outline w).is_zero
 row_zero StatementList n w r = ap (λ t. (outline t).is_zero) r.shape ∙ sym (ap (λ t. (outline t).is_zero) r.written)
+row_zero BodyList n w r = ap (λ t. (outline t).is_zero) r.shape ∙ sym (ap (λ t. (outline t).is_zero) r.written)
 row_zero (Stmt q) n w r = ap (λ t. (outline t).is_zero) r.shape ∙ sym (ap (λ t. (outline t).is_zero) r.written)
 row_zero p n w r = absurd r
 
 row_items : (p : Position) (n w : Tree) → DeclarationRow p n w → counts_items p ≡ true → (outline n).items ≡ (outline w).items
 row_items StatementList n w r e = absurd (true≢false (sym e))
+row_items BodyList n w r e = absurd (true≢false (sym e))
 row_items (Stmt q) n w r e = absurd (true≢false (sym e))
 row_items p n w r e = absurd r
 

@@ -3,6 +3,7 @@ use Rattle.std.proofs.Common.{◌≡◌, Bool, true, false, [], ◌∷◌, refl,
 use Rattle.std.specs.Prelude.{◌&&◌, ◌||◌}
 use Rattle.std.proofs.lemmas.Bool.{and_parts}
 use Rattle.mini_model.specs.declared.kind.VariableDeclarationKind.TheVariants.{Const}
+use Rattle.mini_model.specs.declared.operator.BinaryOperator.{BinaryOperator}
 use Rattle.mini_model.specs.declared.operator.LogicalOperator.{LogicalOperator}
 use Rattle.mini_model.specs.declared.place.Position.{Position}
 use Rattle.mini_model.specs.declared.place.Position.TheVariants.{Expr, Stmt}
@@ -26,15 +27,16 @@ use Rattle.mini_kept.proofs.Expressions.{refused_here, expression, TakesExpressi
 use Rattle.mini_kept.proofs.Rows.{TakesStatementIn, TakesStatement}
 use Rattle.mini_terms.specs.Parts.{is_number, suits, leaves_nothing_by, leaves_nothing, leave_nothing}
 use Rattle.mini_rows.specs.Arranged.{KeptAt, Vanishes}
-use Rattle.mini_rows.specs.Sketches.{Empty, OfExpression, Logical, part, under, end, ◌▹◌, Free}
-use Rattle.mini_rows.specs.Folding.{Row12, Row13, Row22, FoldingRow, FoldingContracts}
-use Rattle.mini_rows.proofs.ArrangedExpressions.{expressions_arranged_freely}
+use Rattle.mini_rows.specs.Sketches.{Empty, OfExpression, Logical, Binary, part, under, end, ◌▹◌, Free}
+use Rattle.mini_rows.specs.Folding.{Row12, Row13, Row22, Row28, FoldingRow, FoldingContracts}
+use Rattle.mini_rows.specs.Spellings.{binary}
+use Rattle.mini_rows.proofs.ArrangedExpressions.{expressions_arranged, expressions_arranged_freely}
 use Rattle.mini_rows.proofs.ArrangedLawful.{kept_is_lawful}
 use Rattle.mini_rows.proofs.ArrangedStatements.{statements_arranged}
 use Rattle.mini_rows.proofs.ChoiceShapes.{choice_taken}
 use Rattle.mini_rows.proofs.FoldMeaning.{foldings_same}
 use Rattle.mini_rows.proofs.FoldWeights.{not_a_number}
-use Rattle.mini_rows.proofs.SpellShapes.{a_logical}
+use Rattle.mini_rows.proofs.SpellShapes.{a_logical, a_binary, Alone, Linked, Ending, Assigned, Nowhere, Stands, stands, FitsToo, by_shape, Formed, formed_asked, formed_slot}
 
 -- ---- what is dropped leaves nothing behind
 
@@ -89,7 +91,7 @@ vanishes t e = record { inner = no_inner t e; fixed = not_fixed t e }
 
 -- ---- the same parts
 
-abbrev first_dropped : Free
+abbrev pub first_dropped : Free
 first_dropped = record { moved = []; lists_moved = []; dropped = 0 ∷ [] }
 
 passed_kept : (q : Seat) (n w : Tree) → Row13 q n w → KeptAt (Expr q) n w
@@ -98,12 +100,16 @@ passed_kept q n w r = expressions_arranged_freely first_dropped (record { trees 
 stopped_kept : (q : Seat) (n w : Tree) → Row12 q n w → KeptAt (Expr q) n w
 stopped_kept q n w r = expressions_arranged_freely first_dropped (record { trees = r.right ▸ r.left ▸ none; lists = [] }) (tt, tt, (vanishes r.right r.dropped, tt)) (under (Logical r.operator) (part 1 ▹ part 0 ▹ end)) (part 1) refl q n w r.shape r.written
 
+loosened_kept : (q : Seat) (n w : Tree) → Row28 n w → KeptAt (Expr q) n w
+loosened_kept q n w r = expressions_arranged (record { trees = r.left ▸ r.right ▸ none; lists = [] }) (under (Binary r.operator) (part 0 ▹ part 1 ▹ end)) (under (Binary r.loose) (part 0 ▹ part 1 ▹ end)) refl q n w r.shape r.written
+
 statement_kept : (q : StmtSeat) (n w : Tree) → Row22 n w → KeptAt (Stmt q) n w
 statement_kept q n w r = statements_arranged first_dropped (record { trees = r.expression ▸ none; lists = [] }) (tt, tt, (vanishes r.expression r.dropped, tt)) (under OfExpression (part 0 ▹ end)) (under Empty end) refl q n w r.shape r.written
 
 kept : (p : Position) (n w : Tree) → FoldingRow p n w → KeptAt p n w
 kept (Expr q) n w (inl r) = passed_kept q n w r
-kept (Expr q) n w (inr r) = stopped_kept q n w r
+kept (Expr q) n w (inr (inl r)) = stopped_kept q n w r
+kept (Expr q) n w (inr (inr r)) = loosened_kept q n w r
 kept (Stmt q) n w r = statement_kept q n w r
 kept p n w r = absurd r
 
@@ -142,9 +148,24 @@ operands strict s o a b e =
     let (first, rest) = and_parts (fits strict expression a) (fits strict expression b && true) whole in
     (takes, first, left (fits strict expression b) true rest)
 
+-- `==` may stand wherever `===` does
+loosened_stands : (strict : Bool) (o p : BinaryOperator) (a b : Tree) → Stands strict (a_binary o) (a ▸ b ▸ none) (a_binary p) (a ▸ b ▸ none)
+loosened_stands strict o p a b Alone e = e
+loosened_stands strict o p a b Linked e = e
+loosened_stands strict o p a b Ending e = absurd (cc e)
+loosened_stands strict o p a b Assigned e = absurd (cc e)
+loosened_stands strict o p a b Nowhere e = absurd (cc e)
+
+loosened_fits : (n w : Tree) → Row28 n w → FitsToo n w
+loosened_fits n w r = by_shape n w (binary r.operator r.left r.right) (binary r.loose r.left r.right) r.shape r.written (λ strict s. stands strict (a_binary r.operator) (a_binary r.loose) (r.left ▸ r.right ▸ none) (r.left ▸ r.right ▸ none) (loosened_stands strict r.operator r.loose r.left r.right) s)
+
+loosened_formed : (n w : Tree) → Row28 n w → Formed n w
+loosened_formed n w r = record { first = a_binary r.operator; second = a_binary r.loose; parts = r.left ▸ r.right ▸ none; others = r.left ▸ r.right ▸ none; read = r.shape; made = r.written; optional = λ e. e }
+
 row_fits : (p : Position) (n w : Tree) → FoldingRow p n w → (strict : Bool) (s : Slot) → fits strict s n ≡ true → fits strict s w ≡ true
 row_fits (Expr q) n w (inl r) strict s e = let (takes, first, second) = operands strict s r.operator r.left r.right (subst (λ t. fits strict s t ≡ true) r.shape e) in subst (λ t. fits strict s t ≡ true) (sym r.written) (expression_taken strict s r.right takes second)
-row_fits (Expr q) n w (inr r) strict s e = let (takes, first, second) = operands strict s r.operator r.left r.right (subst (λ t. fits strict s t ≡ true) r.shape e) in subst (λ t. fits strict s t ≡ true) (sym r.written) (expression_taken strict s r.left takes first)
+row_fits (Expr q) n w (inr (inr r)) strict s e = loosened_fits n w r strict s e
+row_fits (Expr q) n w (inr (inl r)) strict s e = let (takes, first, second) = operands strict s r.operator r.left r.right (subst (λ t. fits strict s t ≡ true) r.shape e) in subst (λ t. fits strict s t ≡ true) (sym r.written) (expression_taken strict s r.left takes first)
 row_fits (Stmt q) n w r strict s e = subst (λ t. fits strict s t ≡ true) (sym r.written) (empty_taken strict s (statement_taken strict s r.expression (subst (λ t. fits strict s t ≡ true) r.shape e)))
 row_fits p n w r strict s e = absurd r
 
@@ -158,7 +179,7 @@ expression_in_body an_arrow_body t = refl
 expression_in_body a_default_export t = refl
 expression_in_body k t = absurd t
 
-expression_slot : (p : Position) (s : Slot) → TakesExpression s → is_body_slot p s ≡ true
+pub expression_slot : (p : Position) (s : Slot) → TakesExpression s → is_body_slot p s ≡ true
 expression_slot p (one k) t = expression_in_body k t
 expression_slot p (one_or_absent k) t = expression_in_body k t
 expression_slot p s t = absurd t
@@ -174,13 +195,14 @@ statement_slot p s t = absurd t
 
 row_slot : (p : Position) (n w : Tree) → FoldingRow p n w → (strict : Bool) (s : Slot) → fits strict s n ≡ true → is_body_slot p s ≡ true
 row_slot (Expr q) n w (inl r) strict s e = expression_slot (Expr q) s (operands strict s r.operator r.left r.right (subst (λ t. fits strict s t ≡ true) r.shape e)).0
-row_slot (Expr q) n w (inr r) strict s e = expression_slot (Expr q) s (operands strict s r.operator r.left r.right (subst (λ t. fits strict s t ≡ true) r.shape e)).0
+row_slot (Expr q) n w (inr (inr r)) strict s e = formed_slot (Expr q) n w (loosened_formed n w r) strict s e
+row_slot (Expr q) n w (inr (inl r)) strict s e = expression_slot (Expr q) s (operands strict s r.operator r.left r.right (subst (λ t. fits strict s t ≡ true) r.shape e)).0
 row_slot (Stmt q) n w r strict s e = statement_slot (Stmt q) s (statement_taken strict s r.expression (subst (λ t. fits strict s t ≡ true) r.shape e))
 row_slot p n w r strict s e = absurd r
 
 -- ---- what a parent asks of them
 
-no_number : (t : Tree) → is_number t ≡ false → is_not_positive_number t ≡ true
+pub no_number : (t : Tree) → is_number t ≡ false → is_not_positive_number t ≡ true
 no_number (node (shape.NumericLiteral m) xs n ts) e = absurd (true≢false e)
 no_number (node h xs n ts) e = refl
 
@@ -206,7 +228,8 @@ statement_asked q a = record {
 
 row_asked : (p : Position) (n w : Tree) → FoldingRow p n w → AskedAlike p n w
 row_asked (Expr q) n w (inl r) = subst (λ t. AskedAlike (Expr q) t w) (sym r.shape) (subst (AskedAlike (Expr q) (logical r.operator r.left r.right)) (sym r.written) (logical_asked q r.operator r.left r.right r.right r.stays))
-row_asked (Expr q) n w (inr r) = subst (λ t. AskedAlike (Expr q) t w) (sym r.shape) (subst (AskedAlike (Expr q) (logical r.operator r.left r.right)) (sym r.written) (logical_asked q r.operator r.left r.right r.left r.stays))
+row_asked (Expr q) n w (inr (inr r)) = formed_asked (Expr q) n w (loosened_formed n w r)
+row_asked (Expr q) n w (inr (inl r)) = subst (λ t. AskedAlike (Expr q) t w) (sym r.shape) (subst (AskedAlike (Expr q) (logical r.operator r.left r.right)) (sym r.written) (logical_asked q r.operator r.left r.right r.left r.stays))
 row_asked (Stmt q) n w r = subst (λ t. AskedAlike (Stmt q) t w) (sym r.shape) (subst (AskedAlike (Stmt q) (expression_statement r.expression)) (sym r.written) (statement_asked q r.expression))
 row_asked p n w r = absurd r
 

@@ -20,21 +20,25 @@ use Rattle.mini_laws.specs.Rows.{SameAt}
 use Rattle.mini_laws.specs.Rewritten.{MeansSame}
 use Rattle.mini_terms.specs.Reading.{is_plain_part, is_read_by_value}
 use Rattle.mini_terms.specs.Folds.{is_effect_free}
-use Rattle.mini_terms.specs.Parts.{is_number, suits}
+use Rattle.mini_terms.specs.Parts.{is_number, takes_numbers, suits}
 use Rattle.mini_terms.proofs.Reading.{same_in_seat}
 use Rattle.mini_terms.proofs.Dropping.{goes_on_same, stops_same, does_nothing}
-use Rattle.mini_rows.specs.Folding.{Row12, Row13, FoldingRow, FoldingContracts}
+use Rattle.mini_rows.specs.Folding.{Row12, Row13, Row28, FoldingRow, FoldingContracts}
+use Rattle.mini_rows.specs.Spellings.{binary}
+use Rattle.mini_rows.proofs.FoldEqualities.{equality_same}
+use Rattle.mini_rows.proofs.SpellAlike.{SameTree}
+use Rattle.mini_rows.proofs.SpellMeaning.{tree_same, same_by}
 
 -- what a part that stays has
 
 pub plain_of : (s : Seat) (t : Tree) → suits s t ≡ true → is_plain_part t ≡ true
-plain_of s t h = (and_parts (is_plain_part t) (is_read_by_value s t && (s.boolean || not (is_number t))) h).0
+plain_of s t h = (and_parts (is_plain_part t) (is_read_by_value s t && (takes_numbers s || not (is_number t))) h).0
 
 pub value_of : (s : Seat) (t : Tree) → suits s t ≡ true → is_read_by_value s t ≡ true
-value_of s t h = (and_parts (is_read_by_value s t) (s.boolean || not (is_number t)) (and_parts (is_plain_part t) (is_read_by_value s t && (s.boolean || not (is_number t))) h).1).0
+value_of s t h = (and_parts (is_read_by_value s t) (takes_numbers s || not (is_number t)) (and_parts (is_plain_part t) (is_read_by_value s t && (takes_numbers s || not (is_number t))) h).1).0
 
-pub number_of : (s : Seat) (t : Tree) → suits s t ≡ true → s.boolean || not (is_number t) ≡ true
-number_of s t h = (and_parts (is_read_by_value s t) (s.boolean || not (is_number t)) (and_parts (is_plain_part t) (is_read_by_value s t && (s.boolean || not (is_number t))) h).1).1
+pub number_of : (s : Seat) (t : Tree) → suits s t ≡ true → takes_numbers s || not (is_number t) ≡ true
+number_of s t h = (and_parts (is_read_by_value s t) (takes_numbers s || not (is_number t)) (and_parts (is_plain_part t) (is_read_by_value s t && (takes_numbers s || not (is_number t))) h).1).1
 
 -- a parent reads nothing of it
 
@@ -48,7 +52,7 @@ link_summary b = record plain_summary { facts = record no_facts { shortens = b }
 linked : (t : Tree) → summary t ≡ plain_summary → link_summary (summary t).facts.shortens ≡ plain_summary
 linked t e = ap (λ i. link_summary i.facts.shortens) e
 
-plain_read : (t : Tree) → is_plain_part t ≡ true → summary t ≡ plain_summary
+pub plain_read : (t : Tree) → is_plain_part t ≡ true → summary t ≡ plain_summary
 plain_read (node (shape.CallExpression true) xs n ts) e = absurd (true≢false (sym e))
 plain_read (node (shape.CallExpression false) xs n none) e = absurd (true≢false (sym e))
 plain_read (node (shape.CallExpression false) xs n (t ▸ ts)) e = linked t (plain_read t e)
@@ -80,7 +84,7 @@ plain_read (node shape.RestElement xs n ts) e = absurd (true≢false (sym e))
 plain_read (node shape.AssignmentPattern xs n ts) e = absurd (true≢false (sym e))
 plain_read (node h xs n ts) e = refl
 
-logical_read : (o : LogicalOperator) (a b t : Tree) → is_plain_part t ≡ true → summary (logical o a b) ≡ summary t
+pub logical_read : (o : LogicalOperator) (a b t : Tree) → is_plain_part t ≡ true → summary (logical o a b) ≡ summary t
 logical_read o a b t e = sym (plain_read t e)
 
 -- the rows
@@ -95,6 +99,12 @@ stopped_same s n w r =
     subst (λ t. SameAt (Expr s) t w) (sym r.shape) (subst (SameAt (Expr s) (logical r.operator r.left r.right)) (sym r.written)
     (same_in_seat s (logical r.operator r.left r.right) r.left refl (value_of s r.left r.stays) (stops_same r.operator r.left r.right r.known)))
 
+loosened_alike : (n w : Tree) → Row28 n w → SameTree n w
+loosened_alike n w r = same_by n w (binary r.operator r.left r.right) (binary r.loose r.left r.right) r.shape r.written (equality_same r.operator r.loose r.loosens r.left r.right r.alike)
+
+loosened_same : (s : Seat) (n w : Tree) → Row28 n w → SameAt (Expr s) n w
+loosened_same s n w r = tree_same s n w (loosened_alike n w r)
+
 module _ (q : StmtSeat) (a : Tree) (h : is_effect_free a ≡ true) where
   nothing_by : (e : Environment) (D X : VariableSet) (d : Demand) → Fits (Stmt q) d → Same e D X d (expression_statement a) empty_statement
   nothing_by e D X (Stat t) f = does_nothing a h e D X t
@@ -105,13 +115,15 @@ module _ (q : StmtSeat) (a : Tree) (h : is_effect_free a ≡ true) where
 
 row_same : (p : Position) (n w : Tree) → FoldingRow p n w → SameAt p n w
 row_same (Expr s) n w (inl r) = passed_same s n w r
-row_same (Expr s) n w (inr r) = stopped_same s n w r
+row_same (Expr s) n w (inr (inl r)) = stopped_same s n w r
+row_same (Expr s) n w (inr (inr r)) = loosened_same s n w r
 row_same (Stmt q) n w r = subst (λ t. SameAt (Stmt q) t w) (sym r.shape) (subst (SameAt (Stmt q) (expression_statement r.expression)) (sym r.written) (nothing_same q r.expression r.effect_free))
 row_same p n w r = absurd r
 
 row_read : (p : Position) (n w : Tree) → FoldingRow p n w → summary n ≡ summary w
 row_read (Expr s) n w (inl r) = ap summary r.shape ∙ logical_read r.operator r.left r.right r.right (plain_of s r.right r.stays) ∙ sym (ap summary r.written)
-row_read (Expr s) n w (inr r) = ap summary r.shape ∙ logical_read r.operator r.left r.right r.left (plain_of s r.left r.stays) ∙ sym (ap summary r.written)
+row_read (Expr s) n w (inr (inl r)) = ap summary r.shape ∙ logical_read r.operator r.left r.right r.left (plain_of s r.left r.stays) ∙ sym (ap summary r.written)
+row_read (Expr s) n w (inr (inr r)) = (loosened_alike n w r).read
 row_read (Stmt q) n w r = ap summary r.shape ∙ sym (ap summary r.written)
 row_read p n w r = absurd r
 

@@ -1,7 +1,8 @@
 -- What a row on what is known writes weighs less wherever the node stands.
-use Rattle.std.proofs.Common.{◌≡◌, ℕ, zero, suc, ◌+◌, ◌<◌, ◌≤◌, Bool, true, false, List, [], ◌∷◌, length, refl, sym, ap, ◌∙◌, inl, inr, true≢false, arith}
-use Rattle.std.specs.Prelude.{◌||◌, ◌/◌, ◌%◌, ◌==◌, not, ℤ, pos, negsuc, if◌then◌else◌}
+use Rattle.std.proofs.Common.{◌≡◌, ℕ, zero, suc, ◌+◌, ◌<◌, ◌≤◌, Bool, true, false, List, [], ◌∷◌, length, Some, refl, sym, ap, subst, ◌∙◌, ◌⊎◌, inl, inr, true≢false, arith, ltb-true, ltb-false}
+use Rattle.std.specs.Prelude.{◌||◌, ◌&&◌, ◌/◌, ◌%◌, ◌==◌, nat_lt, not, ℤ, pos, negsuc, if◌then◌else◌}
 use Rattle.std.specs.Fmt.{decimal, signed_decimal, digits, digits_onto, digit_glyph}
+use Rattle.mini_model.specs.declared.name.Name.{Name}
 use Rattle.mini_model.specs.declared.operator.AssignmentOperator.{AssignmentOperator}
 use Rattle.mini_model.specs.declared.operator.AssignmentOperator.TheVariants as assigning
 use Rattle.mini_model.specs.declared.operator.BinaryOperator.{BinaryOperator}
@@ -16,14 +17,15 @@ use Rattle.mini_model.specs.declared.seat.Seat.{Seat}
 use Rattle.mini_model.specs.declared.seat.StmtSeat.{StmtSeat}
 use Rattle.mini_model.specs.declared.shape.Shape.{Shape}
 use Rattle.mini_model.specs.declared.shape.Shape.TheVariants as shape
-use Rattle.mini_model.specs.Tree.{Tree, node, ◌▸◌, logical, expression_statement, empty_statement}
+use Rattle.mini_model.specs.Tree.{Tree, Trees, node, ◌▸◌, logical, expression_statement, empty_statement}
 use Rattle.mini_model.specs.Position.{left_operand_seat, right_operand_seat}
-use Rattle.mini_model.specs.Weight.{outline, outlines, weight, is_parenthesized, is_awkward, unary_operator_weight, binary_operator_weight, assignment_operator_weight}
-use Rattle.mini_laws.specs.Weights.{Lightens, counts_items, asks_truth}
+use Rattle.mini_model.specs.Weight.{outline, outlines, weight, is_parenthesized, is_awkward, mixes, unary_operator_weight, binary_operator_weight, assignment_operator_weight}
+use Rattle.mini_laws.specs.Weights.{Lightens, counts_items}
 use Rattle.mini_laws.proofs.Seats.{is_inner, placed_node}
 use Rattle.mini_terms.specs.Reading.{is_plain_part_by, first_of, is_plain_part, are_plain_parts}
-use Rattle.mini_terms.specs.Parts.{is_number, suits, weighs}
-use Rattle.mini_rows.specs.Folding.{FoldingRow, FoldingContracts, FoldingsLighter}
+use Rattle.mini_terms.specs.Parts.{is_number, takes_numbers, suits, weighs}
+use Rattle.mini_rows.specs.Folding.{loosened, FoldingRow, FoldingContracts, FoldingsLighter}
+use Rattle.mini_rows.specs.Spellings.{binary}
 use Rattle.mini_rows.proofs.ChoiceWeights.{name_heavy}
 use Rattle.mini_rows.proofs.FoldMeaning.{plain_of, number_of}
 use Rattle.mini_rows.proofs.SpellWeights.{falls_by}
@@ -61,7 +63,7 @@ unary_two unary_operator.Void = omega arith
 unary_two unary_operator.Delete = omega arith
 unary_two o = omega arith
 
-binary_two : (o : BinaryOperator) → 2 ≤ binary_operator_weight o
+pub binary_two : (o : BinaryOperator) → 2 ≤ binary_operator_weight o
 binary_two binary_operator.Equality = omega arith
 binary_two binary_operator.Inequality = omega arith
 binary_two binary_operator.StrictEquality = omega arith
@@ -149,32 +151,87 @@ left_falls Or s a b h e = let heavy = two (right_operand_seat Or s) b h in let h
 left_falls And s a b h e = let heavy = two (right_operand_seat And s) b h in let here = moved s (left_operand_seat And s) a e in omega (arith, heavy, here)
 left_falls Coalesce s a b h e = let heavy = two (right_operand_seat Coalesce s) b h in let here = moved s (left_operand_seat Coalesce s) a e in omega (arith, heavy, here)
 
+-- 28: a `=` goes
+
+loosened_falls : (o p : BinaryOperator) → loosened o ≡ Some p → (s : Seat) (a b : Tree) → weight (Expr s) (binary p a b) < weight (Expr s) (binary o a b)
+loosened_falls binary_operator.StrictEquality p l s a b = subst (λ o. weight (Expr s) (binary o a b) < weight (Expr s) (binary binary_operator.StrictEquality a b)) {x = binary_operator.Equality} {y = p} (cc l) (omega arith)
+loosened_falls binary_operator.StrictInequality p l s a b = subst (λ o. weight (Expr s) (binary o a b) < weight (Expr s) (binary binary_operator.StrictInequality a b)) {x = binary_operator.Inequality} {y = p} (cc l) (omega arith)
+loosened_falls o p l s a b = absurd (cc l)
+
+-- a number that is 0
+
+-- it has parentheses where any looser expression has
+pub zero_marks : (s : Seat) (k : ℕ) → k ≤ 16 → (r : Bool) → (if nat_lt 16 s.level || (false || ((s.access && false) || (s.new_callee && false))) then 4 else 0) ≤ (if nat_lt k s.level || r then 4 else 0)
+zero_marks s k h r = go s.access s.new_callee (nat_lt 16 s.level) (nat_lt k s.level) refl refl
+  where
+    go : (x y b c : Bool) → nat_lt 16 s.level ≡ b → nat_lt k s.level ≡ c → (if b || (false || ((x && false) || (y && false))) then 4 else 0) ≤ (if c || r then 4 else 0)
+    go x y true true f g = omega arith
+    go x y true false f g = absurd (omega (arith, h, ltb-true 16 s.level f, ltb-false k s.level g))
+    go true true false c f g = omega arith
+    go true false false c f g = omega arith
+    go false true false c f g = omega arith
+    go false false false c f g = omega arith
+
+pub mark_at_most : (b : Bool) → (if b then 1 else 0) ≤ 1
+mark_at_most true = omega arith
+mark_at_most false = omega arith
+
+abbrev zero_literal : List Name → ℕ → Trees → Tree
+zero_literal xs n ts = node (shape.NumericLiteral (pos zero)) xs n ts
+
+zero_moved : (s s' : Seat) (k : ℕ) → k ≤ 16 → (r : Bool) (xs : List Name) (n : ℕ) (ts : Trees) → weight (Expr s) (zero_literal xs n ts) ≤ weight (Expr s') (zero_literal xs n ts) + ((if nat_lt k s.level || r then 4 else 0) + 1)
+zero_moved s s' k h r xs n ts =
+    placed_node ((if nat_lt k s.level || r then 4 else 0) + 1) s s' (shape.NumericLiteral (pos zero)) refl xs n ts
+    (let marks = zero_marks s k h r in let awkward = mark_at_most (is_awkward s (shape.NumericLiteral (pos zero)) (outlines ts)) in omega (arith, marks, awkward))
+
+abbrev rest_of : Seat → LogicalOperator → Bool
+rest_of s o = mixes (shape.LogicalExpression o) s.mix || ((s.access && false) || (s.new_callee && false))
+
+right_zero_falls : (o : LogicalOperator) (s : Seat) (a : Tree) (xs : List Name) (n : ℕ) (ts : Trees) → weighs a ≡ true → weight (Expr s) (zero_literal xs n ts) + 2 ≤ weight (Expr s) (logical o a (zero_literal xs n ts))
+right_zero_falls Or s a xs n ts h = let heavy = two (left_operand_seat Or s) a h in let here = zero_moved s (right_operand_seat Or s) 3 (omega arith) (rest_of s Or) xs n ts in omega (arith, heavy, here)
+right_zero_falls And s a xs n ts h = let heavy = two (left_operand_seat And s) a h in let here = zero_moved s (right_operand_seat And s) 4 (omega arith) (rest_of s And) xs n ts in omega (arith, heavy, here)
+right_zero_falls Coalesce s a xs n ts h = let heavy = two (left_operand_seat Coalesce s) a h in let here = zero_moved s (right_operand_seat Coalesce s) 3 (omega arith) (rest_of s Coalesce) xs n ts in omega (arith, heavy, here)
+
+left_zero_falls : (o : LogicalOperator) (s : Seat) (b : Tree) (xs : List Name) (n : ℕ) (ts : Trees) → weighs b ≡ true → weight (Expr s) (zero_literal xs n ts) + 2 ≤ weight (Expr s) (logical o (zero_literal xs n ts) b)
+left_zero_falls Or s b xs n ts h = let heavy = two (right_operand_seat Or s) b h in let here = zero_moved s (left_operand_seat Or s) 3 (omega arith) (rest_of s Or) xs n ts in omega (arith, heavy, here)
+left_zero_falls And s b xs n ts h = let heavy = two (right_operand_seat And s) b h in let here = zero_moved s (left_operand_seat And s) 4 (omega arith) (rest_of s And) xs n ts in omega (arith, heavy, here)
+left_zero_falls Coalesce s b xs n ts h = let heavy = two (right_operand_seat Coalesce s) b h in let here = zero_moved s (left_operand_seat Coalesce s) 3 (omega arith) (rest_of s Coalesce) xs n ts in omega (arith, heavy, here)
+
+-- a part that stays is no 0, or it is lighter by enough
+abbrev ZeroOr : Position → Tree → Tree → Type 0
+ZeroOr p n w = ((outline n).is_zero ≡ (outline w).is_zero) ⊎ (weight p w + 2 ≤ weight p n)
+
+right_zero : (o : LogicalOperator) (s : Seat) (a b : Tree) → weighs a ≡ true → ZeroOr (Expr s) (logical o a b) b
+right_zero o s a (node (shape.NumericLiteral (pos zero)) xs n ts) h = inr (right_zero_falls o s a xs n ts h)
+right_zero o s a (node h xs n ts) k = inl refl
+
+left_zero : (o : LogicalOperator) (s : Seat) (a b : Tree) → weighs b ≡ true → ZeroOr (Expr s) (logical o a b) a
+left_zero o s (node (shape.NumericLiteral (pos zero)) xs n ts) b h = inr (left_zero_falls o s b xs n ts h)
+left_zero o s (node h xs n ts) b k = inl refl
+
 statement_falls : (q : StmtSeat) (a : Tree) → weight (Stmt q) empty_statement < weight (Stmt q) (expression_statement a)
 statement_falls q a = omega arith
 
 pub lighter : FoldingsLighter
 lighter (Expr s) n w (inl r) = falls_by (Expr s) n w _ _ r.shape r.written (right_falls r.operator s r.left r.right r.heavy (plain_of s r.right r.stays))
-lighter (Expr s) n w (inr r) = falls_by (Expr s) n w _ _ r.shape r.written (left_falls r.operator s r.left r.right r.heavy (plain_of s r.left r.stays))
+lighter (Expr s) n w (inr (inl r)) = falls_by (Expr s) n w _ _ r.shape r.written (left_falls r.operator s r.left r.right r.heavy (plain_of s r.left r.stays))
+lighter (Expr s) n w (inr (inr r)) = falls_by (Expr s) n w _ _ r.shape r.written (loosened_falls r.operator r.loose r.loosens s r.left r.right)
 lighter (Stmt q) n w r = falls_by (Stmt q) n w _ _ r.shape r.written (statement_falls q r.expression)
 lighter p n w r = absurd r
 
 -- what a parent's weight reads of them
 
-there : (t : Tree) → is_plain_part t ≡ true → (outline t).absent ≡ false
+pub there : (t : Tree) → is_plain_part t ≡ true → (outline t).absent ≡ false
 there (node shape.Absent xs n ts) e = absurd (true≢false (sym e))
 there (node h xs n ts) e = refl
 
-no_choice : (t : Tree) → is_plain_part t ≡ true → (outline t).chooses ≡ false
+pub no_choice : (t : Tree) → is_plain_part t ≡ true → (outline t).chooses ≡ false
 no_choice (node shape.Listed xs n ts) e = absurd (true≢false (sym e))
 no_choice (node shape.IfStatement xs n ts) e = absurd (true≢false (sym e))
 no_choice (node h xs n ts) e = refl
 
-no_zero : (t : Tree) → is_number t ≡ false → (outline t).is_zero ≡ false
-no_zero (node (shape.NumericLiteral m) xs n ts) e = absurd (true≢false e)
-no_zero (node h xs n ts) e = refl
-
-pub not_a_number : (s : Seat) (t : Tree) → s.boolean ≡ false → suits s t ≡ true → is_number t ≡ false
-not_a_number s t b h = go s.boolean (is_number t) b (number_of s t h)
+pub not_a_number : (s : Seat) (t : Tree) → takes_numbers s ≡ false → suits s t ≡ true → is_number t ≡ false
+not_a_number s t b h = go (takes_numbers s) (is_number t) b (number_of s t h)
   where
     go : (c d : Bool) → c ≡ false → c || not d ≡ true → d ≡ false
     go c false e f = refl
@@ -183,21 +240,27 @@ not_a_number s t b h = go s.boolean (is_number t) b (number_of s t h)
 
 kept_absent : (p : Position) (n w : Tree) → FoldingRow p n w → (outline n).absent ≡ (outline w).absent
 kept_absent (Expr s) n w (inl r) = ap (λ t. (outline t).absent) r.shape ∙ sym (ap (λ t. (outline t).absent) r.written ∙ there r.right (plain_of s r.right r.stays))
-kept_absent (Expr s) n w (inr r) = ap (λ t. (outline t).absent) r.shape ∙ sym (ap (λ t. (outline t).absent) r.written ∙ there r.left (plain_of s r.left r.stays))
+kept_absent (Expr s) n w (inr (inl r)) = ap (λ t. (outline t).absent) r.shape ∙ sym (ap (λ t. (outline t).absent) r.written ∙ there r.left (plain_of s r.left r.stays))
+kept_absent (Expr s) n w (inr (inr r)) = ap (λ t. (outline t).absent) r.shape ∙ sym (ap (λ t. (outline t).absent) r.written)
 kept_absent (Stmt q) n w r = ap (λ t. (outline t).absent) r.shape ∙ sym (ap (λ t. (outline t).absent) r.written)
 kept_absent p n w r = absurd r
 
 kept_choice : (p : Position) (n w : Tree) → FoldingRow p n w → (outline n).chooses ≡ (outline w).chooses
 kept_choice (Expr s) n w (inl r) = ap (λ t. (outline t).chooses) r.shape ∙ sym (ap (λ t. (outline t).chooses) r.written ∙ no_choice r.right (plain_of s r.right r.stays))
-kept_choice (Expr s) n w (inr r) = ap (λ t. (outline t).chooses) r.shape ∙ sym (ap (λ t. (outline t).chooses) r.written ∙ no_choice r.left (plain_of s r.left r.stays))
+kept_choice (Expr s) n w (inr (inl r)) = ap (λ t. (outline t).chooses) r.shape ∙ sym (ap (λ t. (outline t).chooses) r.written ∙ no_choice r.left (plain_of s r.left r.stays))
+kept_choice (Expr s) n w (inr (inr r)) = ap (λ t. (outline t).chooses) r.shape ∙ sym (ap (λ t. (outline t).chooses) r.written)
 kept_choice (Stmt q) n w r = ap (λ t. (outline t).chooses) r.shape ∙ sym (ap (λ t. (outline t).chooses) r.written)
 kept_choice p n w r = absurd r
 
-kept_zero : (p : Position) (n w : Tree) → FoldingRow p n w → asks_truth p ≡ false → (outline n).is_zero ≡ (outline w).is_zero
-kept_zero (Expr s) n w (inl r) a = ap (λ t. (outline t).is_zero) r.shape ∙ sym (ap (λ t. (outline t).is_zero) r.written ∙ no_zero r.right (not_a_number s r.right a r.stays))
-kept_zero (Expr s) n w (inr r) a = ap (λ t. (outline t).is_zero) r.shape ∙ sym (ap (λ t. (outline t).is_zero) r.written ∙ no_zero r.left (not_a_number s r.left a r.stays))
-kept_zero (Stmt q) n w r a = ap (λ t. (outline t).is_zero) r.shape ∙ sym (ap (λ t. (outline t).is_zero) r.written)
-kept_zero p n w r a = absurd r
+zero_by : (p : Position) (n w a b : Tree) → n ≡ a → w ≡ b → ZeroOr p a b → ZeroOr p n w
+zero_by p n w a b e f h = subst (λ t. ZeroOr p t w) (sym e) (subst (ZeroOr p a) (sym f) h)
+
+kept_zero : (p : Position) (n w : Tree) → FoldingRow p n w → ZeroOr p n w
+kept_zero (Expr s) n w (inl r) = zero_by (Expr s) n w _ _ r.shape r.written (right_zero r.operator s r.left r.right r.heavy)
+kept_zero (Expr s) n w (inr (inl r)) = zero_by (Expr s) n w _ _ r.shape r.written (left_zero r.operator s r.left r.right r.heavy)
+kept_zero (Expr s) n w (inr (inr r)) = inl (ap (λ t. (outline t).is_zero) r.shape ∙ sym (ap (λ t. (outline t).is_zero) r.written))
+kept_zero (Stmt q) n w r = inl (ap (λ t. (outline t).is_zero) r.shape ∙ sym (ap (λ t. (outline t).is_zero) r.written))
+kept_zero p n w r = absurd r
 
 no_items : (p : Position) (n w : Tree) → FoldingRow p n w → counts_items p ≡ true → (outline n).items ≡ (outline w).items
 no_items (Expr s) n w r e = absurd (true≢false (sym e))
@@ -209,6 +272,6 @@ lightens = record {
   lighter = λ p n w c. c.lighter;
   absent = λ p n w c a. kept_absent p n w c.row;
   items = λ p n w c a. no_items p n w c.row a;
-  is_zero = λ p n w c a. inl (kept_zero p n w c.row a);
+  is_zero = λ p n w c a. kept_zero p n w c.row;
   chooses = λ p n w c a. inl (λ h. sym (kept_choice p n w c.row) ∙ h);
 }

@@ -1,7 +1,7 @@
 -- What the rows of lists write is lawful.
 use Rattle.std.proofs.Common.{◌≡◌, Bool, true, [], refl, sym, subst, ap, inl, inr}
 use Rattle.mini_model.specs.declared.place.Position.{Position}
-use Rattle.mini_model.specs.declared.place.Position.TheVariants.{StatementList}
+use Rattle.mini_model.specs.declared.place.Position.TheVariants.{StatementList, BodyList}
 use Rattle.mini_model.specs.Tree.{Tree, Trees, listed}
 use Rattle.mini_model.specs.Paths.{append}
 use Rattle.mini_accept.specs.WellShaped.{Slot, fits}
@@ -13,9 +13,11 @@ use Rattle.mini_kept.specs.Placed.{fits_place}
 use Rattle.mini_kept.proofs.Placed.{listed_body_slot}
 use Rattle.mini_rows.specs.Switches.{Switches}
 use Rattle.mini_rows.specs.Arranged.{KeptAt}
-use Rattle.mini_rows.specs.Lists.{Head, Return, Throw, If, Switch, For, Row67, SequencesRow, LoopRow, JoinRow, StretchRow, InList, ListRow, ListContracts, NeighbourRow}
+use Rattle.mini_rows.specs.Lists.{Head, Return, Throw, If, Switch, For, Row67, SequencesRow, LoopRow, JoinRow, StretchRow, InList, ListRow, ListContracts, NeighbourRow, EndRow, bare_return}
 use Rattle.mini_rows.specs.ListLaws.{opens_scope, PlainRow}
 use Rattle.mini_rows.proofs.ArrangedLawful.{kept_is_lawful}
+use Rattle.mini_rows.proofs.ListEndsKept.{end_kept, end_fits}
+use Rattle.mini_rows.proofs.ListWeights.{end_in_list}
 use Rattle.mini_rows.proofs.ListKept.{plain_lists_kept, guards_kept}
 use Rattle.mini_rows.proofs.ListKeptDeclarations.{declarations_kept}
 use Rattle.mini_rows.proofs.ListKeptHeads.{absent_for_kept, for_kept, switch_kept}
@@ -23,6 +25,7 @@ use Rattle.mini_rows.proofs.ListKeptVars.{free_kept, init_kept}
 use Rattle.mini_rows.proofs.ListKeptKeys.{keys_kept}
 use Rattle.mini_rows.proofs.ListMeanings.{lists_mean_same}
 use Rattle.mini_rows.proofs.ListShapes.{list_fits}
+use Rattle.mini_rows.proofs.BodyLists.{same_place, same_slot, body_kept}
 
 -- ---- whichever row it is
 
@@ -70,34 +73,43 @@ module _ (o : Switches) (n w : Tree) (r : InList (NeighbourRow o) n w) where
 
 -- ---- what a parent asks of a list, and where lists stand
 
-pub asked_of_lists : (ts us : Trees) → AskedAlike StatementList (listed ts) (listed us)
-asked_of_lists ts us = record { absent = λ e. absurd (cc e); body = λ e. absurd (cc e); optional = λ e. absurd (cc e); number = λ e k. refl; spelled = λ s e. absurd (cc e); plain = refl }
+pub asked_of_lists : (p : Position) (ts us : Trees) → AskedAlike p (listed ts) (listed us)
+asked_of_lists p ts us = record { absent = λ e. absurd (cc e); body = λ e. absurd (cc e); optional = λ e. absurd (cc e); number = λ e k. refl; spelled = λ s e. absurd (cc e); plain = refl }
 
-list_asked : (o : Switches) (n w : Tree) → InList (NeighbourRow o) n w → AskedAlike StatementList n w
-list_asked o n w r = subst (λ t. AskedAlike StatementList t w) (sym r.shape) (subst (AskedAlike StatementList (listed (append r.before (append r.read r.after)))) (sym r.written) (asked_of_lists (append r.before (append r.read r.after)) (append r.before (append r.put r.after))))
+list_asked : (R : Trees → Trees → Type 0) (p : Position) (n w : Tree) → InList R n w → AskedAlike p n w
+list_asked R p n w r = subst (λ t. AskedAlike p t w) (sym r.shape) (subst (AskedAlike p (listed (append r.before (append r.read r.after)))) (sym r.written) (asked_of_lists p (append r.before (append r.read r.after)) (append r.before (append r.put r.after))))
 
-list_slot : (o : Switches) (n w : Tree) → InList (NeighbourRow o) n w → (strict : Bool) (s : Slot) → fits_place StatementList s ≡ true → fits strict s n ≡ true → is_body_slot StatementList s ≡ true
-list_slot o n w r strict s k e = listed_body_slot strict s [] 0 (append r.before (append r.read r.after)) k (subst (λ t. fits strict s t ≡ true) r.shape e)
+list_slot : (R : Trees → Trees → Type 0) (n w : Tree) → InList R n w → (strict : Bool) (s : Slot) → fits_place StatementList s ≡ true → fits strict s n ≡ true → is_body_slot StatementList s ≡ true
+list_slot R n w r strict s k e = listed_body_slot strict s [] 0 (append r.before (append r.read r.after)) k (subst (λ t. fits strict s t ≡ true) r.shape e)
 
 module _ (o : Switches) where
   place : (p : Position) (n w : Tree) → ListRow o p n w → is_rewritten_place p ≡ true
   place StatementList n w r = refl
+  place BodyList n w r = refl
   place p n w r = absurd r
 
   slot : (p : Position) (n w : Tree) → ListRow o p n w → (strict : Bool) (s : Slot) → fits_place p s ≡ true → fits strict s n ≡ true → is_body_slot p s ≡ true
-  slot StatementList n w r strict s k e = list_slot o n w r strict s k e
+  slot StatementList n w r strict s k e = list_slot (NeighbourRow o) n w r strict s k e
+  slot BodyList n w (inl r) strict s k e = same_slot s (list_slot (NeighbourRow o) n w r strict s (same_place s k) e)
+  slot BodyList n w (inr r) strict s k e = same_slot s (list_slot (EndRow o bare_return) n w (end_in_list (EndRow o bare_return) n w r) strict s (same_place s k) e)
   slot p n w r strict s k e = absurd r
 
   fitting : (p : Position) (n w : Tree) → ListRow o p n w → (strict : Bool) (s : Slot) → fits_place p s ≡ true → fits strict s n ≡ true → fits strict s w ≡ true
   fitting StatementList n w r strict s k e = list_fits o n w r strict s k e
+  fitting BodyList n w (inl r) strict s k e = list_fits o n w r strict s (same_place s k) e
+  fitting BodyList n w (inr r) strict s k e = end_fits o n w r strict s (same_place s k) e
   fitting p n w r strict s k e = absurd r
 
   asked : (p : Position) (n w : Tree) → ListRow o p n w → AskedAlike p n w
-  asked StatementList n w r = list_asked o n w r
+  asked StatementList n w r = list_asked (NeighbourRow o) StatementList n w r
+  asked BodyList n w (inl r) = list_asked (NeighbourRow o) BodyList n w r
+  asked BodyList n w (inr r) = list_asked (EndRow o bare_return) BodyList n w (end_in_list (EndRow o bare_return) n w r)
   asked p n w r = absurd r
 
   kept : (p : Position) (n w : Tree) → ListRow o p n w → KeptAt p n w
   kept StatementList n w r = list_kept o n w r
+  kept BodyList n w (inl r) = body_kept n w (list_kept o n w r)
+  kept BodyList n w (inr r) = body_kept n w (end_kept o n w r)
   kept p n w r = absurd r
 
   pub lists_lawful : Lawful (ListContracts o)

@@ -3,15 +3,16 @@ use Rattle.std.proofs.Common.{◌≡◌, true, [], None, refl, sym, ap, ◌∙�
 use Rattle.mini_model.specs.declared.kind.VariableDeclarationKind.TheVariants.{Var}
 use Rattle.mini_model.specs.declared.operator.LogicalOperator.TheVariants.{Or}
 use Rattle.mini_model.specs.declared.place.Position.{Position}
-use Rattle.mini_model.specs.declared.place.Position.TheVariants.{StatementList}
+use Rattle.mini_model.specs.declared.place.Position.TheVariants.{StatementList, BodyList}
 use Rattle.std.proofs.lemmas.Bool.{and_parts}
 use Rattle.mini_model.specs.Tree.{shape_of, Tree, Trees, none, ◌▸◌, absent, empty_statement, expression_statement, if_else, if_alone, conditional, logical}
 use Rattle.mini_model.specs.Paths.{append}
 use Rattle.mini_laws.specs.Value.{Value, truth, choose}
 use Rattle.mini_laws.specs.State.{State, Stop, Thrown, Returned, Completion, ok, stop, either, Environment}
-use Rattle.mini_laws.specs.Demand.{Want, Val, Test, Unused, Says, Demand, As, Stat, Request}
+use Rattle.mini_laws.specs.Demand.{FunctionTail, Want, Val, Test, Unused, Says, Demand, As, Stat, Request}
 use Rattle.mini_laws.specs.Naming.{summary}
 use Rattle.mini_laws.specs.Fits.{Fits}
+use Rattle.mini_laws.specs.Rows.{SameAt}
 use Rattle.mini_laws.specs.Step.{step, means, meaning}
 use Rattle.mini_laws.specs.Truth.{told}
 use Rattle.mini_laws.proofs.Runs.{either_cong, either_assoc, either_eta, either_ok, either_stop, each_bool}
@@ -25,6 +26,8 @@ use Rattle.mini_rows.proofs.ListParts.{joined_is}
 use Rattle.mini_rows.proofs.ListStatements.{expression_is, if_is, absent_is, empty_is, return_is, throw_is, conditional_is, or_void_is, declarations_join, declarations_read, one_unscoped, read_nothing, block_is}
 use Rattle.mini_rows.proofs.ListHeads.{Nothing, nothing_by, switch_rest, switch_plain, for_rest, for_is, for_absent_is}
 use Rattle.mini_rows.proofs.ListLoops.{for_var_is, in_rest, in_is, left_lets}
+use Rattle.mini_rows.proofs.BodyLists.{body_same}
+use Rattle.mini_rows.proofs.ListTails.{body_end_same, end_reads}
 use Rattle.mini_rows.proofs.ListEnds.{never_goes, ended_tree}
 
 -- `;`
@@ -267,8 +270,8 @@ neighbours_same o a b (inr r) = row_74 a b r.1
 list_same : (o : Switches) (n w : Tree) (r : InList (NeighbourRow o) n w) → SameStretch (append r.before (append r.read r.after)) (append r.before (append r.put r.after))
 list_same o n w r = in_list r.before r.read r.put r.after (neighbours_same o r.read r.put r.row)
 
-list_equal : (o : Switches) (p : Position) (n w : Tree) → ListRow o p n w → Equal p n w
-list_equal o StatementList n w r = record { by = λ e d f z s. go e d f z s }
+list_equal : (o : Switches) (n w : Tree) → InList (NeighbourRow o) n w → Equal StatementList n w
+list_equal o n w r = record { by = λ e d f z s. go e d f z s }
   where
     same : SameStretch (append r.before (append r.read r.after)) (append r.before (append r.put r.after))
     same = list_same o n w r
@@ -276,11 +279,18 @@ list_equal o StatementList n w r = record { by = λ e d f z s. go e d f z s }
     go : (e : Environment) (d : Demand) → Fits StatementList d → (z : Request d) (s : State) → means e n d z s ≡ means e w d z s
     go e (Stat t) f z s = ap (λ x. means e x (Stat t) z s) r.shape ∙ list_does _ _ same e t z s ∙ sym (ap (λ x. means e x (Stat t) z s) r.written)
     go e d f z s = elim f [ ]
-list_equal o p n w r = absurd r
+
+row_same : (o : Switches) (p : Position) (n w : Tree) → ListRow o p n w → SameAt p n w
+row_same o StatementList n w r = equal_same StatementList n w (list_equal o n w r)
+row_same o BodyList n w (inl r) = body_same n w (equal_same StatementList n w (list_equal o n w r))
+row_same o BodyList n w (inr r) = body_end_same o n w r
+row_same o p n w r = absurd r
 
 list_read : (o : Switches) (p : Position) (n w : Tree) → ListRow o p n w → summary n ≡ summary w
 list_read o StatementList n w r = ap summary r.shape ∙ list_reads _ _ (list_same o n w r) ∙ sym (ap summary r.written)
+list_read o BodyList n w (inr r) = end_reads o FunctionTail n w r
+list_read o BodyList n w (inl r) = ap summary r.shape ∙ list_reads _ _ (list_same o n w r) ∙ sym (ap summary r.written)
 list_read o p n w r = absurd r
 
 pub lists_mean_same : ListsMeanSame
-lists_mean_same o = record { same = λ p n w c. equal_same p n w (list_equal o p n w c.row); reads = λ p n w c. list_read o p n w c.row }
+lists_mean_same o = record { same = λ p n w c. row_same o p n w c.row; reads = λ p n w c. list_read o p n w c.row }

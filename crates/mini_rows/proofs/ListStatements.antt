@@ -76,6 +76,10 @@ pub declaration_is : (e : Environment) (k : VariableDeclarationKind) (ds : Trees
 unfolding means meaning step
 declaration_is e k ds r s = finished e (naming (shape.VariableDeclaration k) (Stat None) [] 0 (summaries (listed ds ▸ none))) (λ i. Declares (is_lexical k)) (λ i r z. meaning e (listed ds ▸ none) i (Declares (is_lexical k)) r z) None (kid 0 tt (then ret)) s ∙ finish_none _ ∙ either_eta (means e (listed ds) (Declares (is_lexical k)) tt s) ∙ declares_is e ds (is_lexical k) s
 
+pub declare_none : (e : Environment) (l : Bool) (s : State) → declare e none l s ≡ ok tt s
+unfolding declare
+declare_none e l s = refl
+
 pub declare_more : (e : Environment) (d : Tree) (ds : Trees) (l : Bool) (s : State) → declare e (d ▸ ds) l s ≡ either (means e d (Declares l) tt s) (λ u z. declare e ds l z) (λ x z. stop x z)
 unfolding declare
 declare_more e d ds l s = refl

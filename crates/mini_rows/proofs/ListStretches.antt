@@ -81,7 +81,7 @@ texts_append (c ▸ a) b = ap (λ l. (summary c).facts.texts ++ l) (texts_append
 append_same : (pre a b post : Trees) → {A : Type 0} → (f : Trees → List A) → ((x y : Trees) → f (append x y) ≡ f x ++ f y) → f a ≡ f b → f (append pre (append a post)) ≡ f (append pre (append b post))
 append_same pre a b post f h u = h pre (append a post) ∙ ap (λ l. f pre ++ l) (h a post ∙ ap (λ l. l ++ f post) u ∙ sym (h b post)) ∙ sym (h pre (append b post))
 
-read_in_list : (pre a b post : Trees) → ReadSame a b → ReadSame (append pre (append a post)) (append pre (append b post))
+pub read_in_list : (pre a b post : Trees) → ReadSame a b → ReadSame (append pre (append a post)) (append pre (append b post))
 read_in_list pre a b post r = record { lets = append_same pre a b post (λ x. lets_all (summaries x)) lets_append r.lets; functions = append_same pre a b post (λ x. functions_all (summaries x)) functions_append r.functions; facts = append_same pre a b post (λ x. function_facts (facts_all (summaries x))) facts_append r.facts; texts = append_same pre a b post (λ x. texts_all (facts_all (summaries x))) texts_append r.texts }
 
 -- in any list
@@ -107,8 +107,11 @@ list_summary ls hs fs ts = record { facts = record { absent = false; shortens = 
 same_summary : (l l' : List Variable) (h h' : List Hoisted) (f f' : List FunctionFact) (t t' : List (List ℕ)) → l ≡ l' → h ≡ h' → f ≡ f' → t ≡ t' → list_summary l h f t ≡ list_summary l' h' f' t'
 same_summary l l' h h' f f' t t' u v w x = ap (λ y. list_summary y h f t) u ∙ ap (λ y. list_summary l' y f t) v ∙ ap (λ y. list_summary l' h' y t) w ∙ ap (λ y. list_summary l' h' f' y) x
 
+pub read_alike : (a b : Trees) → ReadSame a b → summary (listed a) ≡ summary (listed b)
+read_alike a b r = same_summary _ _ _ _ _ _ _ _ r.lets r.functions r.facts r.texts
+
 pub list_reads : (a b : Trees) → SameStretch a b → summary (listed a) ≡ summary (listed b)
-list_reads a b same = same_summary _ _ _ _ _ _ _ _ same.read.lets same.read.functions same.read.facts same.read.texts
+list_reads a b same = read_alike a b same.read
 
 pub replaced : (a a' b b' : Trees) → a ≡ a' → b ≡ b' → SameStretch a' b' → SameStretch a b
 replaced a a' b b' u v h = subst (λ x. SameStretch x b) (sym u) (subst (λ y. SameStretch a' y) (sym v) h)

@@ -9,19 +9,20 @@ use Rattle.mini_model.specs.declared.kind.VariableDeclarationKind.TheVariants.{V
 use Rattle.mini_model.specs.declared.operator.BinaryOperator.TheVariants as binary
 use Rattle.mini_model.specs.declared.operator.LogicalOperator.TheVariants.{Or, And, Coalesce}
 use Rattle.mini_model.specs.declared.place.Position.{Position}
-use Rattle.mini_model.specs.declared.place.Position.TheVariants.{Expr, Stmt, StatementList, CommaList, Elsewhere}
+use Rattle.mini_model.specs.declared.place.Position.TheVariants.{Expr, Stmt, StatementList, BodyList, CommaList, Elsewhere}
 use Rattle.mini_model.specs.declared.seat.Seat.{Seat}
 use Rattle.mini_model.specs.declared.seat.StmtSeat.TheVariants as stmt_seat
 use Rattle.mini_model.specs.declared.shape.Shape.{Shape}
 use Rattle.mini_model.specs.declared.shape.Shape.TheVariants as shape
 use Rattle.mini_model.specs.Tree.{Tree, Trees, node, none, ◌▸◌, count, shape_of, listed, expression_statement, if_else, if_alone}
 use Rattle.mini_model.specs.Paths.{append}
-use Rattle.mini_model.specs.Position.{seat_of_level, statement_expression_seat, if_test_seat, conditional_test_seat, whole_seat, left_operand_seat, right_operand_seat, branch_seat, passed_part_seat, part_seat, item_position}
+use Rattle.mini_model.specs.Position.{seat_of_level, statement_expression_seat, if_test_seat, conditional_test_seat, whole_seat, not_operand_seat, left_operand_seat, right_operand_seat, branch_seat, passed_part_seat, part_seat, item_position}
 use Rattle.mini_model.specs.Weight.{Outline, outline, outlines, one_chooses, is_parenthesized, commas_weight, declaring_weight, place_weight, weight, weights}
 use Rattle.mini_laws.specs.Weights.{counts_items}
 use Rattle.mini_laws.proofs.Seats.{is_inner, placed, placed_node, moved}
+use Rattle.mini_node.specs.Walks.{append_none}
 use Rattle.mini_rows.specs.Switches.{Switches}
-use Rattle.mini_rows.specs.Lists.{of_parts, is_one_part_shape, declares_nothing, are_parts, sequence, or_void, return_statement, throw_statement, is_unscoped, Head, Return, Throw, If, Switch, For, with_head, Row66Empty, Row66Joined, Row67, Row67Absent, Row67In, Row68, Row68Free, Row68Init, Row73, Row73Bare, Row76, Row79, SequencesRow, LoopRow, JoinRow, StretchRow, InList, ListRow, ListsLighter, Row74, NeighbourRow}
+use Rattle.mini_rows.specs.Lists.{of_parts, is_one_part_shape, declares_nothing, are_parts, sequence, or_void, return_statement, throw_statement, is_unscoped, Head, Return, Throw, If, Switch, For, with_head, Row66Empty, Row66Joined, Row67, Row67Absent, Row67In, Row68, Row68Free, Row68Init, Row73, Row73Bare, Row76, Row79, SequencesRow, LoopRow, JoinRow, StretchRow, InList, ListRow, ListsLighter, Row74, Row75, Row78, block, bare_return, AtEnd, EndRow, NeighbourRow}
 use Rattle.mini_rows.specs.ListLaws.{ListsLighten}
 
 -- the statements of a list, wherever in it they stand
@@ -35,6 +36,17 @@ total_is n (t ▸ ts) = let rest = total_is n ts in omega (arith, rest)
 
 list_is : (ts : Trees) → weight StatementList (listed ts) ≡ total ts
 list_is ts = let items = total_is (count ts) ts in omega (arith, items)
+
+total_body : (n : ℕ) (ts : Trees) → weights (item_position BodyList n) ts ≡ total ts
+total_body n none = refl
+total_body n (t ▸ ts) = let rest = total_body n ts in omega (arith, rest)
+
+-- and so as the list of a function's body
+pub body_is : (ts : Trees) → weight BodyList (listed ts) ≡ total ts
+body_is ts = let items = total_body (count ts) ts in omega (arith, items)
+
+pub body_weighs : (ts : Trees) → weight BodyList (listed ts) ≡ weight StatementList (listed ts)
+body_weighs ts = let one = body_is ts in let other = list_is ts in omega (arith, one, other)
 
 total_append : (a b : Trees) → total (append a b) ≡ total a + total b
 total_append none b = omega arith
@@ -323,11 +335,62 @@ in_list pre a b post k e =
     let old_inner = total_append a post in
     omega (arith, e, new, old, new_outer, new_inner, old_outer, old_inner)
 
-pub lists_lighter : ListsLighter
-lists_lighter o StatementList n w r =
-    let falls = neighbours_fall o r.read r.put r.row in
+list_lighter : (R : Trees → Trees → Type 0) (n w : Tree) (r : InList R n w) → Falls r.read r.put → weight StatementList w < weight StatementList n
+list_lighter R n w r falls =
     let whole = in_list r.before r.read r.put r.after 1 (omega (arith, falls.lighter)) in
     omega (arith, whole, ap (weight StatementList) r.shape, ap (weight StatementList) r.written)
+
+-- a list weighs as much as that of a function's body
+pub weighs_there : (t : Tree) (ts : Trees) → t ≡ listed ts → weight BodyList t ≡ weight StatementList t
+weighs_there t ts e = ap (weight BodyList) e ∙ body_weighs ts ∙ sym (ap (weight StatementList) e)
+
+body_lighter : (R : Trees → Trees → Type 0) (n w : Tree) (r : InList R n w) → Falls r.read r.put → weight BodyList w < weight BodyList n
+body_lighter R n w r falls =
+    let old = weighs_there n (append r.before (append r.read r.after)) r.shape in
+    let new = weighs_there w (append r.before (append r.put r.after)) r.written in
+    omega (arith, list_lighter R n w r falls, old, new)
+
+-- ---- at the end of a list
+
+abbrev pub end_in_list : (R : Trees → Trees → Type 0) (n w : Tree) → AtEnd R n w → InList R n w
+end_in_list R n w r = record {
+  before = r.before;
+  read = r.read;
+  put = r.put;
+  after = none;
+  row = r.row;
+  shape = r.shape ∙ ap (λ ts. listed (append r.before ts)) (sym (append_none r.read));
+  written = r.written ∙ ap (λ ts. listed (append r.before ts)) (sym (append_none r.put));
+}
+
+row_78 : (a b : Trees) → Row78 bare_return a b → Falls a b
+row_78 a b r = replaced a _ b _ r.shape r.written (record { lighter = omega arith; chosen = inl refl; some = λ e. omega (arith, e) })
+
+block_falls : (ts : Trees) → weight (Stmt stmt_seat.Consequent) (block ts) ≤ total ts + 4
+block_falls ts = let items = list_is ts in let least = braces_weigh (one_chooses (outlines ts)) in omega (arith, items, least)
+  where
+    braces_weigh : (b : Bool) → (if b then 0 else 4) ≤ 4
+    braces_weigh true = omega arith
+    braces_weigh false = omega arith
+
+guard_chooses : (test : Tree) (rest : Trees) → chooses (if_alone test bare_return ▸ rest) ≡ false
+guard_chooses test none = refl
+guard_chooses test (t ▸ ts) = refl
+
+row_75 : (a b : Trees) → Row75 bare_return a b → Falls a b
+row_75 a b r =
+    let test = moved not_operand_seat if_test_seat refl r.test in
+    let branch = block_falls r.rest in
+    replaced a _ b _ r.shape r.written (record { lighter = omega (arith, test, branch); chosen = inl (guard_chooses r.test r.rest); some = λ e. omega (arith, e) })
+
+end_falls : (o : Switches) (a b : Trees) → EndRow o bare_return a b → Falls a b
+end_falls o a b (inl r) = row_78 a b r
+end_falls o a b (inr r) = row_75 a b r.1
+
+pub lists_lighter : ListsLighter
+lists_lighter o StatementList n w r = list_lighter (NeighbourRow o) n w r (neighbours_fall o r.read r.put r.row)
+lists_lighter o BodyList n w (inl r) = body_lighter (NeighbourRow o) n w r (neighbours_fall o r.read r.put r.row)
+lists_lighter o BodyList n w (inr r) = body_lighter (EndRow o bare_return) n w (end_in_list (EndRow o bare_return) n w r) (end_falls o r.read r.put r.row)
 lists_lighter o p n w r = absurd r
 
 -- a list in which an `if` with `else` stands alone is the stretch
@@ -347,33 +410,47 @@ alone (c ▸ none) none s e = absurd (s refl)
 alone (c ▸ none) (d ▸ a) s e = absurd (true≢false (sym e))
 alone (c ▸ (d ▸ pre)) a s e = absurd (true≢false (sym e))
 
-list_chosen : (o : Switches) (n w : Tree) (r : InList (NeighbourRow o) n w) → ((outline n).chooses ≡ true → (outline w).chooses ≡ true) ⊎ (weight StatementList w + 5 ≤ weight StatementList n)
-list_chosen o n w r = go falls.chosen
+list_chosen : (R : Trees → Trees → Type 0) (n w : Tree) (r : InList R n w) → Falls r.read r.put → ((outline n).chooses ≡ true → (outline w).chooses ≡ true) ⊎ (weight StatementList w + 5 ≤ weight StatementList n)
+list_chosen R n w r falls = go falls.chosen
   where
-    falls : Falls r.read r.put
-    falls = neighbours_fall o r.read r.put r.row
-
     go : (chooses r.read ≡ false) ⊎ (total r.put + 5 ≤ total r.read) → ((outline n).chooses ≡ true → (outline w).chooses ≡ true) ⊎ (weight StatementList w + 5 ≤ weight StatementList n)
     go (inl e) = inl (λ h. absurd (true≢false (sym (alone_after r.read r.after falls.some (alone r.before (append r.read r.after) (some_after r.read r.after falls.some) (sym (ap (λ t. (outline t).chooses) r.shape) ∙ h))) ∙ e)))
     go (inr e) = let whole = in_list r.before r.read r.put r.after 5 e in inr (omega (arith, whole, ap (weight StatementList) r.shape, ap (weight StatementList) r.written))
 
-same_outline : {A : Type 0} (f : Outline → A) (o : Switches) (n w : Tree) (r : InList (NeighbourRow o) n w) → f (outline (listed (append r.before (append r.read r.after)))) ≡ f (outline (listed (append r.before (append r.put r.after)))) → f (outline n) ≡ f (outline w)
-same_outline f o n w r e = ap (λ t. f (outline t)) r.shape ∙ e ∙ sym (ap (λ t. f (outline t)) r.written)
+body_chosen : (R : Trees → Trees → Type 0) (n w : Tree) (r : InList R n w) → Falls r.read r.put → ((outline n).chooses ≡ true → (outline w).chooses ≡ true) ⊎ (weight BodyList w + 5 ≤ weight BodyList n)
+body_chosen R n w r falls =
+    let old = weighs_there n (append r.before (append r.read r.after)) r.shape in
+    let new = weighs_there w (append r.before (append r.put r.after)) r.written in
+    go old new (list_chosen R n w r falls)
+  where
+    go : weight BodyList n ≡ weight StatementList n → weight BodyList w ≡ weight StatementList w → ((outline n).chooses ≡ true → (outline w).chooses ≡ true) ⊎ (weight StatementList w + 5 ≤ weight StatementList n) → ((outline n).chooses ≡ true → (outline w).chooses ≡ true) ⊎ (weight BodyList w + 5 ≤ weight BodyList n)
+    go old new (inl f) = inl f
+    go old new (inr f) = inr (omega (arith, f, old, new))
+
+same_outline : {A : Type 0} (f : Outline → A) (R : Trees → Trees → Type 0) (n w : Tree) (r : InList R n w) → f (outline (listed (append r.before (append r.read r.after)))) ≡ f (outline (listed (append r.before (append r.put r.after)))) → f (outline n) ≡ f (outline w)
+same_outline f R n w r e = ap (λ t. f (outline t)) r.shape ∙ e ∙ sym (ap (λ t. f (outline t)) r.written)
 
 list_absent : (o : Switches) (p : Position) (n w : Tree) → ListRow o p n w → (outline n).absent ≡ (outline w).absent
-list_absent o StatementList n w r = same_outline (λ l. l.absent) o n w r refl
+list_absent o StatementList n w r = same_outline (λ l. l.absent) (NeighbourRow o) n w r refl
+list_absent o BodyList n w (inl r) = same_outline (λ l. l.absent) (NeighbourRow o) n w r refl
+list_absent o BodyList n w (inr r) = same_outline (λ l. l.absent) (EndRow o bare_return) n w (end_in_list (EndRow o bare_return) n w r) refl
 list_absent o p n w r = absurd r
 
 list_zero : (o : Switches) (p : Position) (n w : Tree) → ListRow o p n w → (outline n).is_zero ≡ (outline w).is_zero
-list_zero o StatementList n w r = same_outline (λ l. l.is_zero) o n w r refl
+list_zero o StatementList n w r = same_outline (λ l. l.is_zero) (NeighbourRow o) n w r refl
+list_zero o BodyList n w (inl r) = same_outline (λ l. l.is_zero) (NeighbourRow o) n w r refl
+list_zero o BodyList n w (inr r) = same_outline (λ l. l.is_zero) (EndRow o bare_return) n w (end_in_list (EndRow o bare_return) n w r) refl
 list_zero o p n w r = absurd r
 
 list_items : (o : Switches) (p : Position) (n w : Tree) → ListRow o p n w → counts_items p ≡ true → (outline n).items ≡ (outline w).items
 list_items o StatementList n w r e = absurd (true≢false (sym e))
+list_items o BodyList n w r e = absurd (true≢false (sym e))
 list_items o p n w r e = absurd r
 
 list_chooses : (o : Switches) (p : Position) (n w : Tree) → ListRow o p n w → ((outline n).chooses ≡ true → (outline w).chooses ≡ true) ⊎ (weight p w + 5 ≤ weight p n)
-list_chooses o StatementList n w r = list_chosen o n w r
+list_chooses o StatementList n w r = list_chosen (NeighbourRow o) n w r (neighbours_fall o r.read r.put r.row)
+list_chooses o BodyList n w (inl r) = body_chosen (NeighbourRow o) n w r (neighbours_fall o r.read r.put r.row)
+list_chooses o BodyList n w (inr r) = body_chosen (EndRow o bare_return) n w (end_in_list (EndRow o bare_return) n w r) (end_falls o r.read r.put r.row)
 list_chooses o p n w r = absurd r
 
 pub lists_lighten : ListsLighten

@@ -43,10 +43,10 @@ text_units strict s e = by (are_units s) (not (has_unpaired_surrogate s)) e
     by true b e = refl
     by false b e = e
 
-name_fits : (strict : Bool) (s : List ℕ) → is_identifier_name s ≡ true → KeyFits strict (text s) (key s)
+pub name_fits : (strict : Bool) (s : List ℕ) → is_identifier_name s ≡ true → KeyFits strict (text s) (key s)
 name_fits strict s n e = ap (λ a. ((a && is_identifier_name s) && true) && true) (text_units strict s e) ∙ ap (λ a. (a && true) && true) n
 
-number_fits : (strict : Bool) (n : ℕ) (s : List ℕ) → is_safe (pos n) ≡ true → KeyFits strict (text s) (numeral (pos n))
+pub number_fits : (strict : Bool) (n : ℕ) (s : List ℕ) → is_safe (pos n) ≡ true → KeyFits strict (text s) (numeral (pos n))
 number_fits strict n s h e = ap (λ a. (a && true) && true) h
 
 is_itself : (s : List ℕ) → is_text s s ≡ true

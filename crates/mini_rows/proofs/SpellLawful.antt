@@ -1,6 +1,6 @@
 -- What a row on a spelling writes keeps all that a program has to keep: it is built anew of the same parts.
 use Rattle.std.proofs.Common.{◌≡◌, ℕ, Bool, true, false, List, [], ◌∷◌, refl, sym, ap, subst, ◌∙◌, inl, inr}
-use Rattle.std.specs.Prelude.{pos, ℤ}
+use Rattle.std.specs.Prelude.{codes, pos, ℤ}
 use Rattle.std.specs.Fmt.{signed_decimal}
 use Rattle.mini_model.specs.declared.operator.AssignmentOperator.{AssignmentOperator}
 use Rattle.mini_model.specs.declared.operator.AssignmentOperator.TheVariants.{Assign}
@@ -14,7 +14,7 @@ use Rattle.mini_kept.specs.Lawful.{Lawful}
 use Rattle.mini_names.specs.DeclaredNames.{has_inner}
 use Rattle.mini_rows.specs.Arranged.{KeptAt, Vanishes}
 use Rattle.mini_rows.specs.Sketches.{AbsentPart, Null, BooleanValue, Number, String, PropertyName, Unary, Binary, StaticMember, ComputedMember, Yield, Assignment, Update, Sketch, part, under, end, ◌▹◌, Free, still, rearranges_expression}
-use Rattle.mini_rows.specs.Spellings.{boolean, assignment, update, plain, negated_digit, IsUndefined, Row33, Row33Name, Row33Number, Row33Assigned, Row33Updated, Row58Left, Row58Right, Row54, Row60Yield, SpellingRow, SpellingContracts}
+use Rattle.mini_rows.specs.Spellings.{boolean, assignment, update, plain, negated_digit, IsUndefined, Row33, Row33Name, Row33Number, Row33Assigned, Row33Updated, Row58Left, Row58Right, Row54, Row60Yield, ordered, typeof_name, Row55, SpellingRow, SpellingContracts}
 use Rattle.mini_rows.proofs.ArrangedExpressions.{expressions_arranged, expressions_arranged_freely}
 use Rattle.mini_rows.proofs.ArrangedLawful.{kept_is_lawful}
 use Rattle.mini_rows.proofs.SpellMeaning.{spellings_same}
@@ -92,6 +92,10 @@ swap_kept q n w r = expressions_arranged (record { trees = plain r.left ▸ r.ri
 yield_kept : (q : Seat) (n w : Tree) → Row60Yield n w → KeptAt (Expr q) n w
 yield_kept q n w r = expressions_arranged (record { trees = none; lists = [] }) (under (Yield false) (under (Unary unary_operator.Void) (under (Number (pos 0)) end ▹ end) ▹ end)) (under (Yield false) (under AbsentPart end ▹ end)) refl q n w r.shape r.written
 
+-- 55
+typeof_kept : (q : Seat) (n w : Tree) → Row55 n w → KeptAt (Expr q) n w
+typeof_kept q n w r = expressions_arranged (record { trees = typeof_name r.name ▸ none; lists = [] }) (under (Binary r.operator) (part 0 ▹ under (String (codes "undefined")) end ▹ end)) (under (Binary (ordered r.operator)) (part 0 ▹ under (String (codes "u")) end ▹ end)) refl q n w r.shape r.written
+
 -- all
 
 expression_kept : (q : Seat) (n w : Tree) → SpellingRow (Expr q) n w → KeptAt (Expr q) n w
@@ -103,7 +107,8 @@ expression_kept q n w (inr (inr (inr (inl r)))) = updated_kept q n w r
 expression_kept q n w (inr (inr (inr (inr (inl r))))) = left_kept q n w r
 expression_kept q n w (inr (inr (inr (inr (inr (inl r)))))) = right_kept q n w r
 expression_kept q n w (inr (inr (inr (inr (inr (inr (inl r))))))) = swap_kept q n w r
-expression_kept q n w (inr (inr (inr (inr (inr (inr (inr r))))))) = yield_kept q n w r
+expression_kept q n w (inr (inr (inr (inr (inr (inr (inr (inl r)))))))) = yield_kept q n w r
+expression_kept q n w (inr (inr (inr (inr (inr (inr (inr (inr r)))))))) = typeof_kept q n w r
 
 kept : (p : Position) (n w : Tree) → SpellingRow p n w → KeptAt p n w
 kept (Expr q) n w r = expression_kept q n w r

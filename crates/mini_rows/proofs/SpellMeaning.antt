@@ -1,18 +1,19 @@
 -- What each row on a spelling writes means the same.
 use Rattle.std.proofs.Common.{◌≡◌, ℕ, zero, suc, Bool, true, false, List, [], ◌∷◌, Option, Some, None, refl, sym, ap, subst, ◌∙◌, inl, inr, true≢false}
-use Rattle.std.specs.Prelude.{◌&&◌, not, ℤ}
+use Rattle.std.specs.Prelude.{◌&&◌, not, codes, ℤ}
 use Rattle.std.specs.Fmt.{signed_decimal}
 use Rattle.mini_model.specs.declared.operator.BinaryOperator.{BinaryOperator}
 use Rattle.mini_model.specs.declared.operator.BinaryOperator.TheVariants.{Equality, Inequality, StrictEquality, StrictInequality}
+use Rattle.mini_model.specs.declared.operator.UnaryOperator.TheVariants.{Typeof}
 use Rattle.mini_model.specs.declared.seat.Seat.{Seat}
 use Rattle.mini_model.specs.declared.shape.Shape.TheVariants as shape
-use Rattle.mini_model.specs.Tree.{Tree, none, ◌▸◌, absent, null_literal}
+use Rattle.mini_model.specs.Tree.{Tree, none, ◌▸◌, absent, unary, identifier, unresolved, null_literal}
 use Rattle.mini_model.specs.declared.place.Position.{Position}
 use Rattle.mini_model.specs.declared.place.Position.TheVariants.{Expr}
 use Rattle.mini_model.specs.Position.{is_equality}
-use Rattle.mini_laws.specs.Value.{Value, Undefined, Null, Boolean, Number, String, Object, VariableSet, choose, is_nullish}
+use Rattle.mini_laws.specs.Value.{Value, Undefined, Null, Boolean, Number, String, Symbol, Object, VariableSet, choose, is_nullish}
 use Rattle.mini_laws.specs.Conversion.{known_member}
-use Rattle.mini_laws.specs.Operators.{strictly_equal, loosely_equal}
+use Rattle.mini_laws.specs.Operators.{strictly_equal, loosely_equal, type_text}
 use Rattle.mini_laws.specs.State.{Entry, Item, Converted, GetOf, SetOf, ForDefault, State, Completion, ok, stop, halt, out, either, Environment}
 use Rattle.mini_laws.specs.Demand.{Val, Demand, As, Callee, OfType, Deleted, Target, AnEntry, Prepare, Fetch, Put, Reference, AMember, AFetched, Request}
 use Rattle.mini_laws.specs.Command.{is_object, Naming, Command, ret, bind, emit, Kids, run}
@@ -26,7 +27,7 @@ use Rattle.mini_laws.specs.Rows.{SameAt}
 use Rattle.mini_laws.specs.Rewritten.{MeansSame}
 use Rattle.mini_laws.proofs.Rows.{equal_same}
 use Rattle.mini_laws.proofs.Runs.{either_cong, either_ok}
-use Rattle.mini_rows.specs.Spellings.{numeral, text, key, boolean, big_int, template, void_zero, binary, computed_member, static_member, yields, IsUndefined, IsLoose, PlainForm, a_number, a_text, a_boolean, a_null, a_big_int, a_template, a_void, plain, negated_digit, Row33, Row33Assigned, Row33Updated, SpellingRow, SpellingContracts}
+use Rattle.mini_rows.specs.Spellings.{numeral, text, key, boolean, big_int, template, void_zero, binary, computed_member, static_member, yields, IsUndefined, IsLoose, PlainForm, a_number, a_text, a_boolean, a_null, a_big_int, a_template, a_void, plain, negated_digit, Row33, Row33Assigned, Row33Updated, ordered, SpellingRow, SpellingContracts}
 use Rattle.mini_rows.proofs.SpellAlike.{SameTree, Alike, bind_alike, choose_alike, valued_alike, run_kids, first_same}
 use Rattle.mini_rows.proofs.SpellSymmetry.{strictly_sym, loosely_sym}
 
@@ -320,6 +321,112 @@ swapped_same o u (a_big_int n) b s = big_int_same o n b s
 swapped_same o u (a_template l raw t) b s = tree_same s _ _ (swap_same o u (template l raw t) b (String t) (template_gives l raw t) refl)
 swapped_same o u a_void b s = tree_same s _ _ (swap_same o u void_zero b Undefined (undefined_gives void_zero (inr refl)) refl)
 
+-- 55
+
+-- what the two operators make of a text that `typeof` gives
+module _ (e : Environment) (names : Naming) (K L : Kids (λ i. As Val)) where
+  abbrev Ordered : BinaryOperator → Value → Type 0
+  Ordered o v = (z : State) → run {q = λ i. As Val} e names K (operate_by o (String (type_text v)) (String (codes "undefined"))) z ≡ run {q = λ i. As Val} e names L (operate_by (ordered o) (String (type_text v)) (String (codes "u"))) z
+
+  equal_ordered : (v : Value) → Ordered Equality v
+  equal_ordered Undefined z = refl
+  equal_ordered Null z = refl
+  equal_ordered (Boolean b) z = refl
+  equal_ordered (Number n) z = refl
+  equal_ordered (String s) z = refl
+  equal_ordered (Symbol n) z = refl
+  equal_ordered (Object n true) z = refl
+  equal_ordered (Object n false) z = refl
+
+  unequal_ordered : (v : Value) → Ordered Inequality v
+  unequal_ordered Undefined z = refl
+  unequal_ordered Null z = refl
+  unequal_ordered (Boolean b) z = refl
+  unequal_ordered (Number n) z = refl
+  unequal_ordered (String s) z = refl
+  unequal_ordered (Symbol n) z = refl
+  unequal_ordered (Object n true) z = refl
+  unequal_ordered (Object n false) z = refl
+
+  strict_ordered : (v : Value) → Ordered StrictEquality v
+  strict_ordered Undefined z = refl
+  strict_ordered Null z = refl
+  strict_ordered (Boolean b) z = refl
+  strict_ordered (Number n) z = refl
+  strict_ordered (String s) z = refl
+  strict_ordered (Symbol n) z = refl
+  strict_ordered (Object n true) z = refl
+  strict_ordered (Object n false) z = refl
+
+  different_ordered : (v : Value) → Ordered StrictInequality v
+  different_ordered Undefined z = refl
+  different_ordered Null z = refl
+  different_ordered (Boolean b) z = refl
+  different_ordered (Number n) z = refl
+  different_ordered (String s) z = refl
+  different_ordered (Symbol n) z = refl
+  different_ordered (Object n true) z = refl
+  different_ordered (Object n false) z = refl
+
+  texts_ordered : (o : BinaryOperator) → is_equality o ≡ true → (v : Value) → Ordered o v
+  texts_ordered Equality u = equal_ordered
+  texts_ordered Inequality u = unequal_ordered
+  texts_ordered StrictEquality u = strict_ordered
+  texts_ordered StrictInequality u = different_ordered
+  texts_ordered o u = absurd (true≢false (sym u))
+
+-- a `typeof` gives the text of its operand's value
+typeof_gives : (a : Tree) (e : Environment) (z : State) → means e (unary Typeof a) (As Val) tt z ≡ either (means e a OfType tt z) (λ v y. ok (String (type_text v)) y) (λ x y. stop x y)
+unfolding means meaning step
+typeof_gives a e z = refl
+
+-- what does the same beside each text that `typeof` gives
+typeof_then : (m : Completion Value) (f g : Value → State → Completion Value) → ((v : Value) (y : State) → f (String (type_text v)) y ≡ g (String (type_text v)) y)
+    → either (either m (λ v y. ok (String (type_text v)) y) (λ x y. stop x y)) f (λ x y. stop x y) ≡ either (either m (λ v y. ok (String (type_text v)) y) (λ x y. stop x y)) g (λ x y. stop x y)
+unfolding either
+typeof_then (ok v z) f g h = h v z
+typeof_then (stop x z) f g h = refl
+typeof_then (halt x z) f g h = refl
+typeof_then out f g h = refl
+
+module _ (o : BinaryOperator) (equality : is_equality o ≡ true) (a : Tree) where
+  abbrev operand : Tree
+  operand = unary Typeof a
+
+  abbrev long : Tree
+  long = text (codes "undefined")
+
+  abbrev short : Tree
+  short = text (codes "u")
+
+  -- the comparison once the left side has its value
+  abbrev compared_long : Environment → Naming → Value → State → Completion Value
+  compared_long e names b y = either (means e long (As Val) tt y) (λ c w. run {q = λ i. As Val} e names (sides e o operand long) (operate_by o b c) w) (λ x w. stop x w)
+
+  abbrev compared_short : Environment → Naming → Value → State → Completion Value
+  compared_short e names b y = either (means e short (As Val) tt y) (λ c w. run {q = λ i. As Val} e names (sides e (ordered o) operand short) (operate_by (ordered o) b c) w) (λ x w. stop x w)
+
+  compared_same : (e : Environment) (names : Naming) (v : Value) (y : State) → compared_long e names (String (type_text v)) y ≡ compared_short e names (String (type_text v)) y
+  compared_same e names v y =
+      ap (λ x. either x (λ c w. run {q = λ i. As Val} e names (sides e o operand long) (operate_by o (String (type_text v)) c) w) (λ x w. stop x w)) ((text_gives (codes "undefined")).by e y)
+      ∙ either_ok (String (codes "undefined")) y _ _
+      ∙ texts_ordered e names (sides e o operand long) (sides e (ordered o) operand short) o equality v y
+      ∙ sym (ap (λ x. either x (λ c w. run {q = λ i. As Val} e names (sides e (ordered o) operand short) (operate_by (ordered o) (String (type_text v)) c) w) (λ x w. stop x w)) ((text_gives (codes "u")).by e y) ∙ either_ok (String (codes "u")) y _ _)
+
+  ordered_step : (e : Environment) (names : Naming) → Alike e names (λ i. As Val) (sides e o operand long) (sides e (ordered o) operand short) (binary_step o) (binary_step (ordered o))
+  unfolding meaning
+  ordered_step e names z =
+      ap (λ x. either x (compared_long e names) (λ x y. stop x y)) (typeof_gives a e z)
+      ∙ typeof_then (means e a OfType tt z) (compared_long e names) (compared_short e names) (compared_same e names)
+      ∙ sym (ap (λ x. either x (compared_short e names) (λ x y. stop x y)) (typeof_gives a e z))
+
+  ordered_does : (e : Environment) (q : Demand) (r : Request q) (z : State) → means e (binary o operand long) q r z ≡ means e (binary (ordered o) operand short) q r z
+  unfolding means step
+  ordered_does e q r z = valued_alike e (names_of e o q operand long) (λ i. As Val) (sides e o operand long) (sides e (ordered o) operand short) q r (binary_step o) (binary_step (ordered o)) (ordered_step e (names_of e o q operand long)) z
+
+  ordered_same : SameTree (binary o operand long) (binary (ordered o) operand short)
+  ordered_same = record { by = ordered_does; read = refl }
+
 -- 60
 
 absent_gives : Gives absent Undefined
@@ -348,7 +455,8 @@ expression_same s n w (inr (inr (inr (inl r)))) = tree_same s n w (updated_same 
 expression_same s n w (inr (inr (inr (inr (inl r))))) = tree_same s n w (same_by n w _ _ r.shape r.written (left_same r.operator r.loose r.left r.right r.undefined))
 expression_same s n w (inr (inr (inr (inr (inr (inl r)))))) = tree_same s n w (same_by n w _ _ r.shape r.written (right_same r.operator r.loose r.left r.right r.undefined))
 expression_same s n w (inr (inr (inr (inr (inr (inr (inl r))))))) = subst (λ x. SameAt (Expr s) x w) (sym r.shape) (subst (λ x. SameAt (Expr s) (binary r.operator (plain r.left) r.right) x) (sym r.written) (swapped_same r.operator r.equality r.left r.right s))
-expression_same s n w (inr (inr (inr (inr (inr (inr (inr r))))))) = tree_same s n w (same_by n w _ _ r.shape r.written yield_same)
+expression_same s n w (inr (inr (inr (inr (inr (inr (inr (inl r)))))))) = tree_same s n w (same_by n w _ _ r.shape r.written yield_same)
+expression_same s n w (inr (inr (inr (inr (inr (inr (inr (inr r)))))))) = tree_same s n w (same_by n w _ _ r.shape r.written (ordered_same r.operator r.equality (identifier (unresolved r.name))))
 
 -- a parent reads no more of an expression than these nodes tell of themselves
 row_reads : (s : Seat) (n w : Tree) → SpellingRow (Expr s) n w → summary n ≡ summary w
@@ -359,7 +467,8 @@ row_reads s n w (inr (inr (inr (inl r)))) = (updated_same n w r).read
 row_reads s n w (inr (inr (inr (inr (inl r))))) = ap summary r.shape ∙ sym (ap summary r.written)
 row_reads s n w (inr (inr (inr (inr (inr (inl r)))))) = ap summary r.shape ∙ sym (ap summary r.written)
 row_reads s n w (inr (inr (inr (inr (inr (inr (inl r))))))) = ap summary r.shape ∙ sym (ap summary r.written)
-row_reads s n w (inr (inr (inr (inr (inr (inr (inr r))))))) = ap summary r.shape ∙ sym (ap summary r.written)
+row_reads s n w (inr (inr (inr (inr (inr (inr (inr (inl r)))))))) = ap summary r.shape ∙ sym (ap summary r.written)
+row_reads s n w (inr (inr (inr (inr (inr (inr (inr (inr r)))))))) = ap summary r.shape ∙ sym (ap summary r.written)
 
 means_same : (p : Position) (n w : Tree) → SpellingRow p n w → SameAt p n w
 means_same (Expr s) n w r = expression_same s n w r

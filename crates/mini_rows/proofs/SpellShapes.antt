@@ -1,9 +1,9 @@
 -- What a row on a spelling writes may stand wherever what it reads may, and a parent may ask the same of both.
 use Rattle.std.proofs.Common.{◌≡◌, ℕ, suc, Bool, true, false, List, [], Option, None, refl, sym, ap, subst, ◌∙◌, inl, inr}
-use Rattle.std.specs.Prelude.{◌&&◌, not, ℤ, pos, negsuc}
+use Rattle.std.specs.Prelude.{◌&&◌, not, codes, ℤ, pos, negsuc}
 use Rattle.std.specs.Fmt.{signed_decimal}
 use Rattle.std.proofs.lemmas.Bool.{le-leb}
-use Rattle.std.specs.Char.Utf16.{has_unpaired_surrogate}
+use Rattle.std.specs.Char.Utf16.{has_unpaired_surrogate, utf16_chars}
 use Rattle.mini_text.specs.Texts.{are_units, is_identifier_name}
 use Rattle.mini_text.specs.Numerals.{IsSafe, max_safe_integer}
 use Rattle.mini_model.specs.declared.operator.AssignmentOperator.{AssignmentOperator}
@@ -21,7 +21,7 @@ use Rattle.mini_model.specs.Tree.{Tree, Trees, node, none, ◌▸◌, absent, nu
 use Rattle.mini_accept.specs.WellShaped.{Depth, in_module, in_body, nested, Class, a_statement, an_init, a_loop_left, an_arrow_body, an_expression, a_link, a_chain, an_argument, a_key, a_private_or_key, an_inner_key, a_target, a_simple_target, a_member_target, a_default_export, a_label, Slot, one, one_or_absent, is_safe, is_function_body, spelling, has_optional, is_not_positive_number, expression_slots, unchained_slots, member_slots, none_if, in_depth, is_chained, is_sloppy_function, slots_of, is_whole, is_strict_in, filling, filling_by, class_of, fits, fill}
 use Rattle.mini_kept.specs.KeepsFrames.{is_in_body, is_body_slot}
 use Rattle.mini_kept.specs.KeepsShapes.{is_default, AskedAlike}
-use Rattle.mini_rows.specs.Spellings.{numeral, text, key, boolean, binary, assignment, update, computed_member, static_member, yields, void_zero, negated_digit, plain, Row33, SpellingRow}
+use Rattle.mini_rows.specs.Spellings.{numeral, text, key, boolean, binary, assignment, update, computed_member, static_member, yields, void_zero, negated_digit, plain, Row33, ordered, typeof_name, SpellingRow}
 
 -- ---- the nodes that rows on spellings read and write
 
@@ -183,6 +183,18 @@ binary_stands strict o a b c d f Ending e = absurd (cc e)
 binary_stands strict o a b c d f Assigned e = absurd (cc e)
 binary_stands strict o a b c d f Nowhere e = absurd (cc e)
 
+-- 55
+u_fits : (strict : Bool) → fits strict expression (text (codes "u")) ≡ true
+unfolding utf16_chars
+u_fits strict = refl
+
+typeof_stands : (strict : Bool) (o p : BinaryOperator) (a : Tree) (s r : List ℕ) → fits strict expression (text r) ≡ true → Stands strict (a_binary o) (a ▸ text s ▸ none) (a_binary p) (a ▸ text r ▸ none)
+typeof_stands strict o p a s r f Alone e = both_sides (fits strict expression a) (fits strict expression (text r)) (sides (fits strict expression a) (fits strict expression (text s)) e).0 f
+typeof_stands strict o p a s r f Linked e = both_sides (fits strict expression a) (fits strict expression (text r)) (sides (fits strict expression a) (fits strict expression (text s)) e).0 f
+typeof_stands strict o p a s r f Ending e = absurd (cc e)
+typeof_stands strict o p a s r f Assigned e = absurd (cc e)
+typeof_stands strict o p a s r f Nowhere e = absurd (cc e)
+
 -- 33
 
 -- a text that may stand in a program is of units, so that a name that it spells may too
@@ -294,7 +306,8 @@ expression_fits q n w (inr (inr (inr (inl r)))) = by_shape n w (update r.operato
 expression_fits q n w (inr (inr (inr (inr (inl r))))) = by_shape n w (binary r.operator r.left r.right) (binary r.operator null_literal r.right) r.shape r.written (λ strict s. stands strict (a_binary r.operator) (a_binary r.operator) (r.left ▸ r.right ▸ none) (null_literal ▸ r.right ▸ none) (binary_stands strict r.operator r.left r.right null_literal r.right (λ x y. (refl, y))) s)
 expression_fits q n w (inr (inr (inr (inr (inr (inl r)))))) = by_shape n w (binary r.operator r.left r.right) (binary r.operator r.left null_literal) r.shape r.written (λ strict s. stands strict (a_binary r.operator) (a_binary r.operator) (r.left ▸ r.right ▸ none) (r.left ▸ null_literal ▸ none) (binary_stands strict r.operator r.left r.right r.left null_literal (λ x y. (x, refl))) s)
 expression_fits q n w (inr (inr (inr (inr (inr (inr (inl r))))))) = by_shape n w (binary r.operator (plain r.left) r.right) (binary r.operator r.right (plain r.left)) r.shape r.written (λ strict s. stands strict (a_binary r.operator) (a_binary r.operator) (plain r.left ▸ r.right ▸ none) (r.right ▸ plain r.left ▸ none) (binary_stands strict r.operator (plain r.left) r.right r.right (plain r.left) (λ x y. (y, x))) s)
-expression_fits q n w (inr (inr (inr (inr (inr (inr (inr r))))))) = by_shape n w (yields void_zero) (yields absent) r.shape r.written (λ strict s. stands strict a_yield a_yield (void_zero ▸ none) (absent ▸ none) (yield_stands strict) s)
+expression_fits q n w (inr (inr (inr (inr (inr (inr (inr (inl r)))))))) = by_shape n w (yields void_zero) (yields absent) r.shape r.written (λ strict s. stands strict a_yield a_yield (void_zero ▸ none) (absent ▸ none) (yield_stands strict) s)
+expression_fits q n w (inr (inr (inr (inr (inr (inr (inr (inr r)))))))) = by_shape n w (binary r.operator (typeof_name r.name) (text (codes "undefined"))) (binary (ordered r.operator) (typeof_name r.name) (text (codes "u"))) r.shape r.written (λ strict s. stands strict (a_binary r.operator) (a_binary (ordered r.operator)) (typeof_name r.name ▸ text (codes "undefined") ▸ none) (typeof_name r.name ▸ text (codes "u") ▸ none) (typeof_stands strict r.operator (ordered r.operator) (typeof_name r.name) (codes "undefined") (codes "u") (u_fits strict)) s)
 
 -- ---- what a parent asks
 
@@ -354,7 +367,8 @@ row_formed q n w (inr (inr (inr (inl r)))) = record { first = an_update r.operat
 row_formed q n w (inr (inr (inr (inr (inl r))))) = record { first = a_binary r.operator; second = a_binary r.operator; parts = r.left ▸ r.right ▸ none; others = null_literal ▸ r.right ▸ none; read = r.shape; made = r.written; optional = λ x. absurd (cc x) }
 row_formed q n w (inr (inr (inr (inr (inr (inl r)))))) = record { first = a_binary r.operator; second = a_binary r.operator; parts = r.left ▸ r.right ▸ none; others = r.left ▸ null_literal ▸ none; read = r.shape; made = r.written; optional = λ x. absurd (cc x) }
 row_formed q n w (inr (inr (inr (inr (inr (inr (inl r))))))) = record { first = a_binary r.operator; second = a_binary r.operator; parts = plain r.left ▸ r.right ▸ none; others = r.right ▸ plain r.left ▸ none; read = r.shape; made = r.written; optional = λ x. absurd (cc x) }
-row_formed q n w (inr (inr (inr (inr (inr (inr (inr r))))))) = record { first = a_yield; second = a_yield; parts = void_zero ▸ none; others = absent ▸ none; read = r.shape; made = r.written; optional = λ x. absurd (cc x) }
+row_formed q n w (inr (inr (inr (inr (inr (inr (inr (inl r)))))))) = record { first = a_yield; second = a_yield; parts = void_zero ▸ none; others = absent ▸ none; read = r.shape; made = r.written; optional = λ x. absurd (cc x) }
+row_formed q n w (inr (inr (inr (inr (inr (inr (inr (inr r)))))))) = record { first = a_binary r.operator; second = a_binary (ordered r.operator); parts = typeof_name r.name ▸ text (codes "undefined") ▸ none; others = typeof_name r.name ▸ text (codes "u") ▸ none; read = r.shape; made = r.written; optional = λ x. absurd (cc x) }
 
 -- ---- where they stand is in a body
 

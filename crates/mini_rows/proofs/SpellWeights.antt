@@ -1,6 +1,6 @@
 -- What each row on a spelling writes weighs less wherever the expression stands.
 use Rattle.std.proofs.Common.{◌≡◌, ℕ, ◌+◌, ◌<◌, ◌≤◌, ◌*◌, Bool, true, false, List, [], refl, sym, ap, subst, ◌∙◌, inl, inr, true≢false, arith}
-use Rattle.std.specs.Prelude.{if◌then◌else◌, ℤ, pos, negsuc, length}
+use Rattle.std.specs.Prelude.{if◌then◌else◌, codes, ℤ, pos, negsuc, length}
 use Rattle.std.specs.Fmt.{signed_decimal}
 use Rattle.std.proofs.lemmas.Fmt.{decimal_digit}
 use Rattle.mini_model.specs.declared.operator.BinaryOperator.{BinaryOperator}
@@ -20,7 +20,7 @@ use Rattle.mini_model.specs.Position.{is_equality, seat_of_level, binary_operand
 use Rattle.mini_model.specs.Weight.{Outline, outline, outlines, weight, place_weight, parentheses, is_parenthesized, awkward_weight, is_awkward, binary_operator_weight}
 use Rattle.mini_laws.specs.Weights.{Lightens, counts_items}
 use Rattle.mini_laws.proofs.Seats.{placed}
-use Rattle.mini_rows.specs.Spellings.{numeral, text, key, binary, assignment, update, computed_member, static_member, yields, void_zero, IsUndefined, IsLoose, PlainForm, a_number, a_text, a_boolean, a_null, a_big_int, a_template, a_void, plain, boolean, negated_digit, is_awkward_left, is_inner, Row33, SpellingRow, SpellingContracts, SpellingsLighter}
+use Rattle.mini_rows.specs.Spellings.{numeral, text, key, binary, assignment, update, computed_member, static_member, yields, void_zero, IsUndefined, IsLoose, PlainForm, a_number, a_text, a_boolean, a_null, a_big_int, a_template, a_void, plain, boolean, negated_digit, is_awkward_left, is_inner, Row33, ordered, typeof_name, SpellingRow, SpellingContracts, SpellingsLighter}
 
 -- what a place adds is a pair of parentheses at most, and 1 where a form is awkward there
 
@@ -193,6 +193,15 @@ swap_falls : (o : BinaryOperator) → is_equality o ≡ true → (s : Seat) (f :
 swap_falls o e s f b ready outer =
     omega (arith, equality_weighs o e s (plain f) b, equality_weighs o e s b (plain f), plain_moves f, left_is_middle b ready outer, middle_falls b)
 
+-- 55
+
+typeof_falls : (o : BinaryOperator) → is_equality o ≡ true → (s : Seat) (x : List ℕ) → weight (Expr s) (binary (ordered o) (typeof_name x) (text (codes "u"))) < weight (Expr s) (binary o (typeof_name x) (text (codes "undefined")))
+typeof_falls Equality e s x = omega (arith, marks s (shape.BinaryExpression binary_operator.GreaterThan) (outlines (typeof_name x ▸ text (codes "u") ▸ none)))
+typeof_falls Inequality e s x = omega (arith, marks s (shape.BinaryExpression binary_operator.LessThan) (outlines (typeof_name x ▸ text (codes "u") ▸ none)))
+typeof_falls StrictEquality e s x = omega (arith, marks s (shape.BinaryExpression binary_operator.GreaterThan) (outlines (typeof_name x ▸ text (codes "u") ▸ none)))
+typeof_falls StrictInequality e s x = omega (arith, marks s (shape.BinaryExpression binary_operator.LessThan) (outlines (typeof_name x ▸ text (codes "u") ▸ none)))
+typeof_falls o e s x = absurd (true≢false (sym e))
+
 -- 60
 
 yield_marks : (s : Seat) (a b : Tree) → place_weight (Expr s) (shape.YieldExpression false) (outlines (a ▸ none)) ≡ place_weight (Expr s) (shape.YieldExpression false) (outlines (b ▸ none))
@@ -211,7 +220,8 @@ expression_falls s n w (inr (inr (inr (inl r)))) = falls_by (Expr s) n w _ _ r.s
 expression_falls s n w (inr (inr (inr (inr (inl r))))) = falls_by (Expr s) n w _ _ r.shape r.written (left_falls r.operator r.loose s r.left r.right r.undefined)
 expression_falls s n w (inr (inr (inr (inr (inr (inl r)))))) = falls_by (Expr s) n w _ _ r.shape r.written (right_falls r.operator r.loose s r.left r.right r.undefined)
 expression_falls s n w (inr (inr (inr (inr (inr (inr (inl r))))))) = falls_by (Expr s) n w _ _ r.shape r.written (swap_falls r.operator r.equality s r.left r.right r.ready r.outer)
-expression_falls s n w (inr (inr (inr (inr (inr (inr (inr r))))))) = falls_by (Expr s) n w _ _ r.shape r.written (yield_falls s)
+expression_falls s n w (inr (inr (inr (inr (inr (inr (inr (inl r)))))))) = falls_by (Expr s) n w _ _ r.shape r.written (yield_falls s)
+expression_falls s n w (inr (inr (inr (inr (inr (inr (inr (inr r)))))))) = falls_by (Expr s) n w _ _ r.shape r.written (typeof_falls r.operator r.equality s r.name)
 
 pub lighter : SpellingsLighter
 lighter (Expr s) n w r = expression_falls s n w r
@@ -237,7 +247,8 @@ outline_by_row f p n w r = ap f (kept p n w r)
     kept (Expr s) n w (inr (inr (inr (inr (inl r))))) = ap outline r.shape ∙ sym (ap outline r.written)
     kept (Expr s) n w (inr (inr (inr (inr (inr (inl r)))))) = ap outline r.shape ∙ sym (ap outline r.written)
     kept (Expr s) n w (inr (inr (inr (inr (inr (inr (inl r))))))) = ap outline r.shape ∙ sym (ap outline r.written)
-    kept (Expr s) n w (inr (inr (inr (inr (inr (inr (inr r))))))) = ap outline r.shape ∙ sym (ap outline r.written)
+    kept (Expr s) n w (inr (inr (inr (inr (inr (inr (inr (inl r)))))))) = ap outline r.shape ∙ sym (ap outline r.written)
+    kept (Expr s) n w (inr (inr (inr (inr (inr (inr (inr (inr r)))))))) = ap outline r.shape ∙ sym (ap outline r.written)
     kept p n w r = absurd r
 
 no_items : (p : Position) (n w : Tree) → SpellingRow p n w → counts_items p ≡ true → (outline n).items ≡ (outline w).items

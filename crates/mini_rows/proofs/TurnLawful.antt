@@ -25,7 +25,7 @@ use Rattle.mini_kept.specs.KeepsNames.{is_rewritten_place}
 use Rattle.mini_kept.specs.KeepsShapes.{KeepsShapes, is_default, AskedAlike}
 use Rattle.mini_kept.specs.Lawful.{Lawful}
 use Rattle.mini_kept.specs.Lifted.{is_piece}
-use Rattle.mini_kept.specs.Placed.{fits_place}
+use Rattle.mini_kept.specs.Placed.{fits_place, is_statement_list}
 use Rattle.mini_kept.specs.Standing.{Stands}
 use Rattle.mini_kept.proofs.Bools.{both}
 use Rattle.mini_kept.proofs.BodyRows.{turned_bodies}
@@ -194,15 +194,20 @@ row_declared (Expr q) n w r = (unequal_kept q n w r).declared
 row_declared (Stmt q) n w r = swap_along (λ x y. Among (declared_names x) (declared_names y)) n w r (branches_declared r.a r.s r.u)
 row_declared p n w r = absurd r
 
+listed_rows : (p : Position) (n w : Tree) → is_statement_list p ≡ true → TurnRow p n w → (strict : Bool) (d : Depth) → fits strict (many (a_statement d)) n ≡ true → (is_module : Bool) → ports_of is_module (children n) ≡ ports_of is_module (children w)
+listed_rows (Expr q) n w e r = absurd (cc e)
+listed_rows (Stmt q) n w e r = absurd (cc e)
+listed_rows p n w e r = absurd r
+
 rows_lawful : Lawful TurnRow
 rows_lawful = record {
   shapes = row_shapes;
   bodies = record { means = turn_rows_same; pieces = pieces; kind = kinds; bodies = row_bodies };
   frames = record {
-    names = record { places = places; pieces = pieces; keeps = row_keeps };
-    slots = λ p n w r strict s f e. slots p n w r strict s e;
+    names = record { places = λ p n w r. inl (places p n w r); pieces = pieces; keeps = row_keeps };
+    slots = λ p n w r strict s f e. inl (slots p n w r strict s e);
     ports = ports;
-    listed = λ n w r. absurd r;
+    listed = listed_rows;
     exported = exported;
     frames = row_frames;
   };

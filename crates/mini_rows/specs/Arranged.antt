@@ -29,7 +29,7 @@ use Rattle.mini_kept.specs.KeepsFrames.{is_body_slot}
 use Rattle.mini_kept.specs.KeepsShapes.{KeepsShapes}
 use Rattle.mini_kept.specs.Lawful.{Lawful}
 use Rattle.mini_kept.specs.Lifted.{is_piece}
-use Rattle.mini_kept.specs.Placed.{fits_place}
+use Rattle.mini_kept.specs.Placed.{is_statement_list, fits_place}
 use Rattle.mini_kept.specs.Standing.{Stands}
 use Rattle.mini_rows.specs.Lists.{is_unscoped, are_unscoped, return_statement, throw_statement, Row66Empty, Row66Joined, Row79, Row73, Row73Bare, Row76, InList}
 use Rattle.mini_rows.specs.Sketches.{Sketch, Items, Parts, Hole, Part, Stretch, Leaps, AsWhole, AsValue, parts_of, list_at, filled, items_filled, Free, rearranges_expression, rearranges_statement, rearranges_list, rearranges_list_once}
@@ -41,7 +41,7 @@ pub record KeptAt (p : Position) (n w : Tree) : Type 0 where
   pub kind : (strict : Bool) (s : Slot) → fits strict s n ≡ true → arrow_kind (shape_of n) ≡ arrow_kind (shape_of w)
   pub bodies : (strict : Bool) (s : Slot) → fits_place p s ≡ true → fits strict s n ≡ true → (a : Around) → Stands s p a → BodiesKept (bodies a n) (bodies a w)
   pub ports : (strict : Bool) (d : Depth) → fits strict (one (a_statement d)) n ≡ true → (is_module : Bool) → (is_port is_module (shape_of n) ≡ false) × (is_port is_module (shape_of w) ≡ false)
-  pub listed : p ≡ StatementList → (strict : Bool) (d : Depth) → fits strict (many (a_statement d)) n ≡ true → (is_module : Bool) → ports_of is_module (children n) ≡ ports_of is_module (children w)
+  pub listed : is_statement_list p ≡ true → (strict : Bool) (d : Depth) → fits strict (many (a_statement d)) n ≡ true → (is_module : Bool) → ports_of is_module (children n) ≡ ports_of is_module (children w)
   pub exported : (strict : Bool) → fits strict (one a_default_export) n ≡ true → (is_declaration (shape_of n) ≡ false) × (is_declaration (shape_of w) ≡ false)
   pub frames : (strict : Bool) (s : Slot) → fits_place p s ≡ true → fits strict s n ≡ true → FramesKept (frames None n) (frames None w)
   pub fixed : (x : Variable) → fixed_by n x ≡ fixed_by w x

@@ -10,13 +10,13 @@ use Rattle.mini_model.specs.declared.operator.LogicalOperator.{LogicalOperator}
 use Rattle.mini_model.specs.declared.operator.LogicalOperator.TheVariants.{Or, And, Coalesce}
 use Rattle.mini_model.specs.declared.seat.Seat.{Seat}
 use Rattle.mini_model.specs.declared.shape.Shape.TheVariants as shape
-use Rattle.mini_model.specs.Tree.{Tree, node, none, ◌▸◌, identifier, logical, conditional, null_literal}
+use Rattle.mini_model.specs.Tree.{Tree, Trees, node, none, ◌▸◌, identifier, logical, conditional, null_literal}
 use Rattle.mini_model.specs.declared.place.Position.{Position}
 use Rattle.mini_model.specs.declared.place.Position.TheVariants.{Expr}
 use Rattle.mini_model.specs.Position.{conditional_level}
 use Rattle.mini_model.specs.Weight.{weight}
 use Rattle.mini_rows.specs.Lists.{sequence}
-use Rattle.mini_rows.specs.Spellings.{binary, assignment}
+use Rattle.mini_rows.specs.Spellings.{IsUndefined, binary, assignment}
 
 -- Reading definitions
 
@@ -40,6 +40,28 @@ abbrev pub is_grouped : LogicalOperator → Tree → Bool
 is_grouped o (node (shape.LogicalExpression p) xs n ts) = is_same_operator p o
 is_grouped o (node shape.InnerExpression xs n ts) = true
 is_grouped o _ = false
+
+-- `b && c && d`: b, and what the operator joins to it, the last operand first
+abbrev pub joined : LogicalOperator → Tree → Trees → Tree
+joined o b none = b
+joined o b (c ▸ cs) = logical o (joined o b cs) c
+
+-- the operators of an equality, where it is told that there is one, and of an inequality: strict, loose, and what joins two
+abbrev pub strictly : Bool → BinaryOperator
+strictly true = binary_operator.StrictEquality
+strictly false = binary_operator.StrictInequality
+
+abbrev pub loosely : Bool → BinaryOperator
+loosely true = binary_operator.Equality
+loosely false = binary_operator.Inequality
+
+abbrev pub joining : Bool → LogicalOperator
+joining true = Or
+joining false = And
+
+-- null and undefined, in one order or the other
+abbrev pub AreNullish : Tree → Tree → Type 0
+AreNullish a b = ((a ≡ null_literal) × IsUndefined b) ⊎ (IsUndefined a × (b ≡ null_literal))
 
 -- the assignment that a logical operator decides on: `x ||= b`
 abbrev pub deciding : LogicalOperator → AssignmentOperator
@@ -65,15 +87,37 @@ computing _ = None
 
 -- The rows
 
--- 39: `a && (b && c)` becomes `a && b && c`, and so of `||` and `??`
+-- 39: `a && (b && c)` becomes `a && b && c`, and so of `||` and `??`, however many operands stand on the right
 pub record Row39 (n w : Tree) : Type 0 where
   pub operator : LogicalOperator
   pub a : Tree
   pub b : Tree
-  pub c : Tree
+  pub last : Tree
+  pub others : Trees
   pub ungrouped : is_grouped operator b ≡ false
-  pub shape : n ≡ logical operator a (logical operator b c)
-  pub written : w ≡ logical operator (logical operator a b) c
+  pub shape : n ≡ logical operator a (joined operator b (last ▸ others))
+  pub written : w ≡ joined operator (logical operator a b) (last ▸ others)
+
+-- 37: `x === null || x === undefined` becomes `x == null`, and `x !== null && x !== undefined` becomes `x != null`, in any order
+pub record Row37 (n w : Tree) : Type 0 where
+  pub equal : Bool
+  pub name : Name
+  pub first : Tree
+  pub second : Tree
+  pub nullish : AreNullish first second
+  pub shape : n ≡ logical (joining equal) (binary (strictly equal) (identifier name) first) (binary (strictly equal) (identifier name) second)
+  pub written : w ≡ binary (loosely equal) (identifier name) null_literal
+
+-- 37: `a || x === null || x === undefined` becomes `a || x == null`, and so of `&&`
+pub record Row37After (n w : Tree) : Type 0 where
+  pub equal : Bool
+  pub before : Tree
+  pub name : Name
+  pub first : Tree
+  pub second : Tree
+  pub nullish : AreNullish first second
+  pub shape : n ≡ logical (joining equal) (logical (joining equal) before (binary (strictly equal) (identifier name) first)) (binary (strictly equal) (identifier name) second)
+  pub written : w ≡ logical (joining equal) before (binary (loosely equal) (identifier name) null_literal)
 
 -- 38: `x || (x = b)` becomes `x ||= b`, and so of `&&` and `??`
 pub record Row38 (n w : Tree) : Type 0 where
@@ -195,19 +239,19 @@ pub record Row49 (n w : Tree) : Type 0 where
 
 -- rows of what is lighter in every seat
 abbrev pub LighterRow : Seat → Tree → Tree → Type 0
-LighterRow s n w = Row39 n w ⊎ (Row38 n w ⊎ (Row35 n w ⊎ (Row46Equal n w ⊎ (Row46Unequal n w ⊎ Row45 s n w))))
+LighterRow s n w = Row39 n w ⊎ (Row38 n w ⊎ (Row35 n w ⊎ (Row46Equal n w ⊎ (Row46Unequal n w ⊎ (Row45 s n w ⊎ (Row37 n w ⊎ Row37After n w))))))
 
--- and of what may be heavier for its parentheses
+-- of what may be heavier for its parentheses
 abbrev pub OwnRow : Tree → Tree → Type 0
 OwnRow n w = Row41Or n w ⊎ Row41And n w
 
--- rows of a branch that stands in two places
+-- and of a branch that stands in two places
 abbrev pub HeldRow : Tree → Tree → Type 0
 HeldRow n w = Row42And n w ⊎ (Row42Or n w ⊎ (Row43Or n w ⊎ (Row43And n w ⊎ (Row43AndThen n w ⊎ (Row43OrThen n w ⊎ Row49 n w)))))
 
 -- a row of choices reads n as w at this place
 abbrev pub ChoiceRow : Position → Tree → Tree → Type 0
-ChoiceRow (Expr s) n w = LighterRow s n w ⊎ OwnRow n w
+ChoiceRow (Expr s) n w = LighterRow s n w ⊎ (OwnRow n w ⊎ HeldRow n w)
 ChoiceRow _ n w = ⊥
 
 -- what it writes, where it weighs less
@@ -218,12 +262,3 @@ pub record ChoiceContracts (p : Position) (n w : Tree) : Type 0 where
 -- which is everywhere, for some
 abbrev pub ChoicesLighter : Type 0
 ChoicesLighter = (s : Seat) (n w : Tree) → LighterRow s n w → weight (Expr s) w < weight (Expr s) n
-
--- what a row of a branch in two places writes, where it weighs less
-abbrev pub HeldRowAt : Position → Tree → Tree → Type 0
-HeldRowAt (Expr s) n w = HeldRow n w
-HeldRowAt _ n w = ⊥
-
-pub record HeldContracts (p : Position) (n w : Tree) : Type 0 where
-  pub row : HeldRowAt p n w
-  pub lighter : weight p w < weight p n

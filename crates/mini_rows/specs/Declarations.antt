@@ -3,7 +3,7 @@ use Rattle.std.specs.Prelude.{◌≡◌, ◌<◌, [], ◌∷◌}
 use Rattle.mini_model.specs.declared.kind.VariableDeclarationKind.TheVariants.{Let}
 use Rattle.mini_model.specs.declared.name.Name.{Name}
 use Rattle.mini_model.specs.declared.place.Position.{Position}
-use Rattle.mini_model.specs.declared.place.Position.TheVariants.{Stmt, StatementList}
+use Rattle.mini_model.specs.declared.place.Position.TheVariants.{Stmt, StatementList, BodyList}
 use Rattle.mini_model.specs.declared.shape.Shape.TheVariants as shape
 use Rattle.mini_model.specs.Tree.{Tree, Trees, node, none, ◌▸◌, absent}
 use Rattle.mini_model.specs.Paths.{append}
@@ -61,6 +61,7 @@ pub record Row61For (n w : Tree) : Type 0 where
 -- a row reads n as w at this place
 abbrev pub DeclarationRow : Position → Tree → Tree → Type 0
 DeclarationRow StatementList n w = InList Row61Item n w
+DeclarationRow BodyList n w = InList Row61Item n w
 DeclarationRow (Stmt q) n w = Row61For n w
 DeclarationRow _ n w = ⊥
 

@@ -1,14 +1,25 @@
 -- Rows on what is known of an expression from its text, as equations: each is a shape and what is written in its place, with the
 -- JavaScript before and after. No order of rewriting is meant.
-use Rattle.std.specs.Prelude.{◌≡◌, ◌<◌, ◌⊎◌, true}
+use Rattle.std.specs.Prelude.{◌≡◌, ℕ, ◌<◌, ◌⊎◌, ◌&&◌, ◌||◌, Bool, true, false, List, [], ◌∷◌, codes, Option, Some, None}
+use Rattle.mini_model.specs.declared.name.Name.{Name}
+use Rattle.mini_model.specs.declared.operator.AssignmentOperator.{AssignmentOperator}
+use Rattle.mini_model.specs.declared.operator.AssignmentOperator.TheVariants.{Assign}
+use Rattle.mini_model.specs.declared.operator.LogicalOperator.TheVariants.{And}
+use Rattle.mini_model.specs.declared.shape.Shape.{Shape}
+use Rattle.mini_model.specs.declared.shape.Shape.TheVariants as shape
+use Rattle.mini_model.specs.declared.operator.BinaryOperator.{BinaryOperator}
+use Rattle.mini_model.specs.declared.operator.BinaryOperator.TheVariants.{Equality, Inequality, StrictEquality, StrictInequality}
 use Rattle.mini_model.specs.declared.operator.LogicalOperator.{LogicalOperator}
 use Rattle.mini_model.specs.declared.place.Position.{Position}
 use Rattle.mini_model.specs.declared.place.Position.TheVariants.{Expr, Stmt}
 use Rattle.mini_model.specs.declared.seat.Seat.{Seat}
-use Rattle.mini_model.specs.Tree.{Tree, logical, expression_statement, empty_statement}
-use Rattle.mini_model.specs.Weight.{weight}
-use Rattle.mini_terms.specs.Folds.{is_effect_free, goes_on, stops}
+use Rattle.mini_model.specs.Tree.{Tree, shape_of, logical, expression_statement, empty_statement}
+use Rattle.mini_model.specs.Weight.{same_text, weight}
+use Rattle.mini_node.specs.Children.{names_of, part}
+use Rattle.mini_node.specs.Kinds.{assignment_operator, is_identifier, is_static_member, is_computed_member}
+use Rattle.mini_terms.specs.Folds.{is_effect_free, has_one_kind, goes_on, stops}
 use Rattle.mini_terms.specs.Parts.{suits, leaves_nothing, weighs}
+use Rattle.mini_rows.specs.Spellings.{binary}
 
 -- 13, and 15 of `??`: where the left side is effect-free and known to let the right one be evaluated, `!0 && b`, `0 || b` and
 -- `null ?? b` become `b`
@@ -24,17 +35,63 @@ pub record Row13 (s : Seat) (n w : Tree) : Type 0 where
   pub shape : n ≡ logical operator left right
   pub written : w ≡ right
 
+-- `module.exports = b` and `module["exports"] = b`, by name alone: after `0 &&` they tell other programs which names a module exports
+
+abbrev pub is_spelled : List Name → List ℕ → Bool
+is_spelled [] s = false
+is_spelled (x ∷ xs) s = same_text x.spelling s
+
+abbrev pub is_module : Tree → Bool
+is_module t = is_identifier t && is_spelled (names_of t) (codes "module")
+
+abbrev pub is_exports_by : Shape → Bool
+is_exports_by (shape.IdentifierName s) = same_text s (codes "exports")
+is_exports_by (shape.StringLiteral s) = same_text s (codes "exports")
+is_exports_by h = false
+
+abbrev pub is_exports : Tree → Bool
+is_exports t = (is_static_member t || is_computed_member t) && (is_module (part t 0) && is_exports_by (shape_of (part t 1)))
+
+abbrev pub is_plain_assignment : Option AssignmentOperator → Bool
+is_plain_assignment (Some Assign) = true
+is_plain_assignment o = false
+
+abbrev pub assigns_exports : Tree → Bool
+assigns_exports t = is_plain_assignment (assignment_operator t) && is_exports (part t 0)
+
+abbrev pub names_exports : LogicalOperator → Tree → Bool
+names_exports And b = assigns_exports b
+names_exports o b = false
+
 -- 12, and 15 of `??`: where the right side is never evaluated, `0 && b`, `[] || b` and `"" ?? b` become their left sides
 pub record Row12 (s : Seat) (n w : Tree) : Type 0 where
   pub operator : LogicalOperator
   pub left : Tree
   pub right : Tree
   pub known : stops operator left ≡ true
+  pub nameless : names_exports operator right ≡ false
   pub dropped : leaves_nothing right ≡ true
   pub heavy : weighs right ≡ true
   pub stays : suits s left ≡ true
   pub shape : n ≡ logical operator left right
   pub written : w ≡ left
+
+-- `==` for `===`, and `!=` for `!==`
+abbrev pub loosened : BinaryOperator → Option BinaryOperator
+loosened StrictEquality = Some Equality
+loosened StrictInequality = Some Inequality
+loosened o = None
+
+-- 28: where both sides are of one known Kind, `typeof a === "string"` becomes `typeof a == "string"`
+pub record Row28 (n w : Tree) : Type 0 where
+  pub operator : BinaryOperator
+  pub loose : BinaryOperator
+  pub left : Tree
+  pub right : Tree
+  pub loosens : loosened operator ≡ Some loose
+  pub alike : has_one_kind left right ≡ true
+  pub shape : n ≡ binary operator left right
+  pub written : w ≡ binary loose left right
 
 -- 22: an effect-free expression statement becomes empty, `void 0;` becomes `;`
 pub record Row22 (n w : Tree) : Type 0 where
@@ -46,7 +103,7 @@ pub record Row22 (n w : Tree) : Type 0 where
 
 -- a row on what is known reads n as w at this place
 abbrev pub FoldingRow : Position → Tree → Tree → Type 0
-FoldingRow (Expr s) n w = Row13 s n w ⊎ Row12 s n w
+FoldingRow (Expr s) n w = Row13 s n w ⊎ (Row12 s n w ⊎ Row28 n w)
 FoldingRow (Stmt q) n w = Row22 n w
 FoldingRow _ n w = ⊥
 

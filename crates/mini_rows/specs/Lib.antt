@@ -1,6 +1,7 @@
 pub mod Switches
 pub mod Spellings
 pub mod SpellKeys
+pub mod KeyHolders
 pub mod Lists
 pub mod Declarations
 pub mod ListLaws
@@ -12,3 +13,7 @@ pub mod Arranged
 pub mod Redex
 pub mod Choices
 pub mod Folding
+pub mod Booleans
+pub mod Unused
+pub mod Constants
+pub mod DeMorgan

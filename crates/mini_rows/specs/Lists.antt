@@ -7,8 +7,8 @@ use Rattle.mini_model.specs.declared.operator.UnaryOperator.TheVariants.{Void, L
 use Rattle.mini_model.specs.declared.shape.Shape.{Shape}
 use Rattle.mini_model.specs.declared.shape.Shape.TheVariants as shape
 use Rattle.mini_model.specs.declared.place.Position.{Position}
-use Rattle.mini_model.specs.declared.place.Position.TheVariants.{StatementList}
-use Rattle.mini_model.specs.Tree.{Tree, Trees, node, none, ◌▸◌, count, leaf, absent, listed, unary, is_absent, shape_of, children, child_or_absent, empty_statement, expression_statement, if_else, if_alone, conditional, logical}
+use Rattle.mini_model.specs.declared.place.Position.TheVariants.{StatementList, BodyList}
+use Rattle.mini_model.specs.Tree.{Tree, Trees, node, none, ◌▸◌, count, leaf, absent, listed, unary, is_absent, shape_of, children, child_or_absent, empty_statement, expression_statement, if_else, if_alone, conditional, negation, logical}
 use Rattle.mini_model.specs.Paths.{append}
 use Rattle.mini_model.specs.Weight.{weight}
 use Rattle.mini_rows.specs.Switches.{Switches}
@@ -331,6 +331,25 @@ pub record Row74 (a b : Trees) : Type 0 where
   pub shape : a ≡ if_alone left s ▸ (if_else right s u ▸ none)
   pub written : b ≡ if_else (logical Or left right) s u ▸ none
 
+-- Rows at the end of a list after which a jump would go where the list does: a function's body, after which it returns
+
+-- 78: the last jump goes
+pub record Row78 (jump : Tree) (a b : Trees) : Type 0 where
+  pub shape : a ≡ jump ▸ none
+  pub written : b ≡ none
+
+-- 75: `if (a) return; b; c;` becomes `if (!a) { b; c; }`
+pub record Row75 (jump : Tree) (a b : Trees) : Type 0 where
+  pub test : Tree
+  pub rest : Trees
+  pub unscoped : are_unscoped rest ≡ true
+  pub shape : a ≡ if_alone test jump ▸ rest
+  pub written : b ≡ if_alone (negation test) (block rest) ▸ none
+
+-- `return;`
+abbrev pub bare_return : Tree
+bare_return = return_statement absent
+
 -- Rows in a list
 
 -- the rows that make sequences of expressions, or statements that others can make them of
@@ -367,9 +386,23 @@ pub record InList (R : Trees → Trees → Type 0) (n w : Tree) : Type 0 where
   pub shape : n ≡ listed (append before (append read after))
   pub written : w ≡ listed (append before (append put after))
 
+-- the last statements of a list, and others in their place
+pub record AtEnd (R : Trees → Trees → Type 0) (n w : Tree) : Type 0 where
+  pub before : Trees
+  pub read : Trees
+  pub put : Trees
+  pub row : R read put
+  pub shape : n ≡ listed (append before read)
+  pub written : w ≡ listed (append before put)
+
+-- the rows at the end of the list that this jump leaves
+abbrev pub EndRow : Switches → Tree → Trees → Trees → Type 0
+EndRow o jump a b = Row78 jump a b ⊎ ((o.sequences ≡ true) × Row75 jump a b)
+
 -- a row reads the list n at this place as w
 abbrev pub ListRow : Switches → Position → Tree → Tree → Type 0
 ListRow o StatementList n w = InList (NeighbourRow o) n w
+ListRow o BodyList n w = InList (NeighbourRow o) n w ⊎ AtEnd (EndRow o bare_return) n w
 ListRow o _ n w = ⊥
 
 -- what a row writes, where it weighs less

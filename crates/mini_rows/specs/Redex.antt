@@ -17,12 +17,16 @@ use Rattle.mini_rows.specs.Declarations.{DeclarationRow}
 use Rattle.mini_rows.specs.Folding.{FoldingRow}
 use Rattle.mini_rows.specs.Turns.{TurnRow}
 use Rattle.mini_rows.specs.Arrows.{ArrowRow}
+use Rattle.mini_rows.specs.Constants.{ConstantRow}
+use Rattle.mini_rows.specs.KeyHolders.{HeldKeyRow}
+use Rattle.mini_rows.specs.Booleans.{BooleanRow}
+use Rattle.mini_rows.specs.DeMorgan.{DeMorganRow}
 
 -- a row reads n as w at this place: one of negations and of `if` over expressions, of spellings, of branches and bodies of
 -- loops, of lists of statements, of the keys of object literals, of choices, of declarations, of what is known, of tests that
--- are turned, or of arrow functions
+-- are turned, of arrow functions, of constants, or of the keys of patterns and classes
 abbrev pub Row : Switches → Position → Tree → Tree → Type 0
-Row o p n w = first.Row p n w ⊎ (SpellingRow p n w ⊎ (BranchRow p n w ⊎ (ListRow o p n w ⊎ (KeyRow p n w ⊎ (ChoiceRow p n w ⊎ (DeclarationRow p n w ⊎ (FoldingRow p n w ⊎ (TurnRow p n w ⊎ ArrowRow p n w))))))))
+Row o p n w = first.Row p n w ⊎ (SpellingRow p n w ⊎ (BranchRow p n w ⊎ (ListRow o p n w ⊎ (KeyRow p n w ⊎ (ChoiceRow p n w ⊎ (DeclarationRow p n w ⊎ (FoldingRow p n w ⊎ (TurnRow p n w ⊎ (ArrowRow p n w ⊎ (ConstantRow p n w ⊎ (HeldKeyRow p n w ⊎ (BooleanRow p n w ⊎ DeMorganRow p n w))))))))))))
 
 -- what a row writes, where it weighs less
 pub record Contracts (o : Switches) (p : Position) (n w : Tree) : Type 0 where

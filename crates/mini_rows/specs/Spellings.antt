@@ -6,8 +6,8 @@ use Rattle.mini_text.specs.Texts.{is_identifier_name}
 use Rattle.mini_text.specs.Numerals.{IsSafe}
 use Rattle.mini_model.specs.declared.operator.AssignmentOperator.{AssignmentOperator}
 use Rattle.mini_model.specs.declared.operator.BinaryOperator.{BinaryOperator}
-use Rattle.mini_model.specs.declared.operator.BinaryOperator.TheVariants.{Equality, Inequality}
-use Rattle.mini_model.specs.declared.operator.UnaryOperator.TheVariants.{Void}
+use Rattle.mini_model.specs.declared.operator.BinaryOperator.TheVariants.{Equality, Inequality, StrictEquality, LessThan, GreaterThan}
+use Rattle.mini_model.specs.declared.operator.UnaryOperator.TheVariants.{Typeof, Void}
 use Rattle.mini_model.specs.declared.operator.UpdateOperator.{UpdateOperator}
 use Rattle.mini_model.specs.declared.shape.Shape.TheVariants as shape
 use Rattle.mini_model.specs.Tree.{Tree, node, none, ◌▸◌, leaf, absent, listed, identifier, unresolved, unary, negation, null_literal}
@@ -189,9 +189,28 @@ pub record Row60Yield (n w : Tree) : Type 0 where
   pub shape : n ≡ yields void_zero
   pub written : w ≡ yields absent
 
+-- of an equality with the text `undefined` on its right, the operator that tells as much beside `u`: of the texts that `typeof` gives
+-- that one alone is greater than `u` (ECMA-262, "The typeof Operator")
+abbrev pub ordered : BinaryOperator → BinaryOperator
+ordered Equality = GreaterThan
+ordered StrictEquality = GreaterThan
+ordered o = LessThan
+
+-- `typeof x`, of a name that no scope declares
+abbrev pub typeof_name : List ℕ → Tree
+typeof_name s = unary Typeof (identifier (unresolved s))
+
+-- 55: `typeof x == "undefined"` becomes `typeof x > "u"`, and of an inequality `typeof x < "u"`
+pub record Row55 (n w : Tree) : Type 0 where
+  pub operator : BinaryOperator
+  pub name : List ℕ
+  pub equality : is_equality operator ≡ true
+  pub shape : n ≡ binary operator (typeof_name name) (text (codes "undefined"))
+  pub written : w ≡ binary (ordered operator) (typeof_name name) (text (codes "u"))
+
 -- a row on a spelling reads n as w at this place
 abbrev pub SpellingRow : Position → Tree → Tree → Type 0
-SpellingRow (Expr s) n w = Row65 n w ⊎ (Row33 n w ⊎ (Row33Assigned n w ⊎ (Row33Updated n w ⊎ (Row58Left n w ⊎ (Row58Right n w ⊎ (Row54 n w ⊎ Row60Yield n w))))))
+SpellingRow (Expr s) n w = Row65 n w ⊎ (Row33 n w ⊎ (Row33Assigned n w ⊎ (Row33Updated n w ⊎ (Row58Left n w ⊎ (Row58Right n w ⊎ (Row54 n w ⊎ (Row60Yield n w ⊎ Row55 n w)))))))
 SpellingRow _ n w = ⊥
 
 -- what it writes, where it weighs less

@@ -4,19 +4,25 @@
 
 mod arrangements;
 mod arrows;
+mod booleans;
 mod branches;
 mod choices;
+mod constants;
+mod de_morgan;
 mod declarations;
 mod foldings;
 mod lists;
 mod redexes;
 mod spellings;
 mod turns;
+mod unused;
 
+pub use booleans::{booleans_are_lawful, booleans_are_lighter, booleans_mean_the_same};
 pub use branches::{branches_are_lawful, branches_lighten, branches_same};
-pub use choices::{
-    branches_are_held, choices_are_lawful, choices_are_lighter, choices_mean_the_same,
-};
+pub use choices::{choices_are_lawful, choices_are_lighter, choices_mean_the_same};
+pub use constants::{constants_are_lawful, constants_lighten, constants_mean_the_same};
+pub use de_morgan::{de_morgan_is_lawful, de_morgan_lightens, de_morgan_means_the_same};
 pub use declarations::{declarations_are_lawful, declarations_lighten, declarations_same};
 pub use foldings::{foldings_are_lawful, foldings_are_lighter, foldings_mean_the_same};
 pub use redexes::rows_are_lawful;
+pub use unused::{unused_are_lawful, unused_lighten};

@@ -13,11 +13,16 @@ use Rattle.mini_laws.proofs.Truth.{coherent}
 use Rattle.mini_laws.proofs.Rows.{goes_refl, by_equality}
 use Rattle.mini_terms.specs.Kind.{Kind, IsUndefined, IsNull, Undetermined, is_nullish_kind, kind, OfKind}
 use Rattle.mini_terms.specs.Evident.{evident_truth}
-use Rattle.mini_terms.specs.Sound.{Gives, Quiet}
+use Rattle.mini_terms.specs.Const.{Agrees}
+use Rattle.mini_terms.specs.Plain.{lit}
+use Rattle.mini_terms.specs.Sound.{Gives, Quiet, LitOf}
+use Rattle.mini_terms.specs.Calculated.{KnownSame}
 use Rattle.mini_terms.specs.Folds.{is_effect_free, is_true, is_false, is_known, GoesOnSame, StopsSame, DoesNothing}
 use Rattle.mini_terms.proofs.Frame.{gives_any, gives_map}
 use Rattle.mini_terms.proofs.Made.{and_left, and_right}
 use Rattle.mini_terms.proofs.KindTable.{kind_sound}
+use Rattle.mini_terms.proofs.ConstTable.{const_sound}
+use Rattle.mini_terms.proofs.Truths.{lit_sound}
 use Rattle.mini_terms.proofs.EffectsTable.{effect_free_sound}
 use Rattle.mini_terms.proofs.Evidence.{evident_is}
 use Rattle.mini_terms.proofs.Opened.{after, and_opened, or_opened, coalesce_opened, statement_opened}
@@ -120,6 +125,21 @@ pub stops_same : StopsSame
 stops_same And a b t e D X w = alike e D X w (logical And a b) a a (λ v. truth v ≡ false) _ _ (and_opened e a b w) (wanted e w a) (truth_is e a false (false_is (evident_truth a) t)) (λ v p z. pick e (truth v) false p _ _)
 stops_same Or a b t e D X w = alike e D X w (logical Or a b) a a (λ v. truth v ≡ true) _ _ (or_opened e a b w) (wanted e w a) (truth_is e a true (true_is (evident_truth a) t)) (λ v p z. pick e (truth v) true p _ _)
 stops_same Coalesce a b t e D X w = alike e D X w (logical Coalesce a b) a a (λ v. is_nullish v ≡ false) _ _ (coalesce_opened e a b w) (wanted e w a) (present_is e a (not_true (is_nullish_kind (kind a)) (and_right (is_known (kind a)) _ t)) (and_left (is_known (kind a)) _ t)) (λ v p z. pick e (is_nullish v) false p _ _)
+
+-- an effect-free expression with a constant
+
+after_ok : {B : Type 0} (v : Value) (s : State) (f : Value → State → Completion B) → after (ok v s) f ≡ f v s
+unfolding either
+after_ok v s f = refl
+
+literal_is : (v : Value) (l : Option Tree) (w : Tree) → l ≡ Some w → LitOf v l → (e : Environment) (s : State) → means e w (As Val) tt s ≡ ok v s
+literal_is v l w h p = subst (LitOf v) h p
+
+pub known_same : KnownSame
+known_same n w v c q l e D X u =
+    drops e D X u n n w (λ x. x ≡ v) (λ x z. ok (says u x) z) (wanted e u n) (λ s. subst (λ o. Gives (Agrees o) (means e n (As Val) tt s)) c (const_sound n e s))
+    (λ x p z. ap (λ y. ok (says u y) z) p ∙ sym (wanted e u w z ∙ ap (λ y. after y (λ x z. ok (says u x) z)) (literal_is v (lit v) w l (lit_sound v) e z) ∙ after_ok v z (λ x z. ok (says u x) z)))
+    q
 
 -- an expression statement
 

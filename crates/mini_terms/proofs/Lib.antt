@@ -11,3 +11,4 @@ pub mod Opened
 pub mod Reading
 pub mod Evidence
 pub mod Dropping
+pub mod Calculated

@@ -7,7 +7,7 @@ use Rattle.mini_laws.specs.Value.{VariableSet}
 use Rattle.mini_laws.specs.State.{Environment}
 use Rattle.mini_laws.specs.Demand.{Tail, Stat}
 use Rattle.mini_laws.specs.Same.{Same}
-use Rattle.mini_terms.specs.Kind.{Kind, Undetermined, is_nullish_kind, kind}
+use Rattle.mini_terms.specs.Kind.{Kind, Undetermined, is_nullish_kind, common, kind}
 use Rattle.mini_terms.specs.Effects.{ef}
 use Rattle.mini_terms.specs.Evident.{evident_truth}
 use Rattle.mini_terms.specs.Reading.{SameWanted}
@@ -27,6 +27,10 @@ is_false None = false
 abbrev pub is_known : Kind → Bool
 is_known Undetermined = false
 is_known k = true
+
+-- both values are of one Kind, which is known
+abbrev pub has_one_kind : Tree → Tree → Bool
+has_one_kind a b = is_known (common (kind a) (kind b))
 
 -- the right side is evaluated after this left one
 abbrev pub goes_on : LogicalOperator → Tree → Bool

@@ -8,4 +8,5 @@ pub mod Sound
 pub mod Reading
 pub mod Folds
 pub mod Parts
+pub mod Calculated
 pub mod Examples

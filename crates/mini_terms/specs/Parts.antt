@@ -14,10 +14,14 @@ abbrev pub is_number : Tree → Bool
 is_number (node (shape.NumericLiteral n) xs m ts) = true
 is_number _ = false
 
+-- no minus stands before this seat, or only the truth is asked
+abbrev pub takes_numbers : Seat → Bool
+takes_numbers s = s.boolean || not s.minus
+
 -- it may stand in the seat of its node: a parent reads no more of it than that it is there, no reference is asked there or it is
--- none, and it is no number, before which a minus would be one with it, or only its truth is asked
+-- none, and it is no number where a minus before it would be one with it
 abbrev pub suits : Seat → Tree → Bool
-suits s t = is_plain_part t && (is_read_by_value s t && (s.boolean || not (is_number t)))
+suits s t = is_plain_part t && (is_read_by_value s t && (takes_numbers s || not (is_number t)))
 
 -- Parts that are dropped
 

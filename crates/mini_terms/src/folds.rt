@@ -6,7 +6,7 @@ ghost use Rattle.mini_terms.specs.Folds as fold;
 use crate::effects::is_effect_free;
 use crate::evident::evident_truth;
 use crate::kinds::Kind;
-use crate::known::{is_nullish, kind_of};
+use crate::known::{common, is_nullish, kind_of};
 use mini_model::LogicalOperator;
 use mini_node::Node;
 
@@ -32,6 +32,13 @@ fn is_known(kind: Kind) -> bool
     ensures { result ≡ fold.is_known kind }
 {
     !matches!(kind, Kind::Undetermined)
+}
+
+/// Whether the values of two expressions are of one Kind, as far as is known.
+pub fn has_one_kind(left: &Node, right: &Node) -> bool
+    ensures { result ≡ fold.has_one_kind left.now right.now }
+{
+    is_known(common(kind_of(left), kind_of(right)))
 }
 
 /// Whether the right side is evaluated after this left one, as far as is known.

@@ -62,7 +62,8 @@ fn number_if(condition: bool) -> Kind
     }
 }
 
-fn common(left: Kind, right: Kind) -> Kind
+/// The Kind of two values, where both have one.
+pub fn common(left: Kind, right: Kind) -> Kind
     ensures { result ≡ common_kind left right }
 {
     match (left, right) {

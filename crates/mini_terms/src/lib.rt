@@ -13,7 +13,7 @@ mod parts;
 
 pub use effects::is_effect_free;
 pub use evident::evident_truth;
-pub use folds::{goes_on, has_no_effect, stops};
+pub use folds::{goes_on, has_no_effect, has_one_kind, stops};
 pub use kinds::Kind;
 pub use known::{is_nullish, is_primitive, kind_of};
 pub use laws::{

@@ -107,11 +107,17 @@ fn is_number(node: &Node) -> bool
     matches!(node.shape(), Shape::NumericLiteral(_))
 }
 
+fn takes_numbers(seat: Seat) -> bool
+    ensures { result ≡ part.takes_numbers seat }
+{
+    seat.boolean || !seat.minus
+}
+
 /// Whether a part may stand in the seat of its node.
 pub fn suits(seat: Seat, node: &Node) -> bool
     ensures { result ≡ part.suits seat node.now }
 {
-    is_plain_part(node) && is_read_by_value(seat, node) && (seat.boolean || !is_number(node))
+    is_plain_part(node) && is_read_by_value(seat, node) && (takes_numbers(seat) || !is_number(node))
 }
 
 fn leaves_nothing_itself(node: &Node) -> bool

@@ -1,0 +1,350 @@
+-- What a row on a constant writes keeps all that a program has to keep.
+use Rattle.std.proofs.Common.{◌≡◌, ℕ, suc, Bool, true, false, List, [], ◌∷◌, Option, Some, None, refl, sym, ap, subst, ◌∙◌, zero, true≢false, ltb-true, arith}
+use Rattle.std.specs.Prelude.{◌&&◌, ◌++◌, ℤ, pos, negsuc, nat_abs, ◌*◌, ◌+ℤ◌, ◌-ℤ◌}
+use Rattle.std.proofs.lemmas.Bool.{and_parts, le-leb}
+use Rattle.mini_text.specs.Numerals.{max_safe_integer}
+use Rattle.mini_model.specs.declared.name.Name.{Name}
+use Rattle.mini_model.specs.declared.operator.BinaryOperator.{BinaryOperator}
+use Rattle.mini_model.specs.declared.operator.BinaryOperator.TheVariants as binary_operator
+use Rattle.mini_model.specs.declared.operator.UnaryOperator.{UnaryOperator}
+use Rattle.mini_model.specs.declared.operator.UnaryOperator.TheVariants as unary_operator
+use Rattle.mini_model.specs.declared.place.Position.{Position}
+use Rattle.mini_model.specs.declared.place.Position.TheVariants.{Expr}
+use Rattle.mini_model.specs.declared.seat.Seat.{Seat}
+use Rattle.mini_model.specs.declared.shape.Shape.{Shape}
+use Rattle.mini_model.specs.declared.shape.Shape.TheVariants as shape
+use Rattle.mini_model.specs.Tree.{Tree, Trees, node, none, ◌▸◌, leaf, is_absent, shape_of, unary}
+use Rattle.mini_accept.specs.WellShaped.{Depth, in_module, in_body, nested, refused, Class, a_statement, a_key, a_private_or_key, an_inner_key, an_init, an_arrow_body, an_expression, a_link, an_argument, a_default_export, Slot, one, one_or_absent, is_safe, is_paired, has_names, has_its_number, has_plain_fields, has_its_parts, is_whole, class_of, is_function_body, spelling, has_optional, is_not_positive_number, filling, is_strict_in, fits, fill}
+use Rattle.mini_node.specs.Children.{part}
+use Rattle.mini_node.specs.Kinds.{binary, unary_operator as its_unary_operator}
+use Rattle.mini_node.specs.Made.{unary_is}
+use Rattle.mini_laws.specs.Value.{Value, Undefined, Null, Boolean, Number, String, choose}
+use Rattle.mini_laws.specs.Conversion.{makes, outside, signed}
+use Rattle.mini_laws.specs.Conversion as conversion
+use Rattle.mini_laws.specs.Operators.{number, safe_number, differ, is_negative}
+use Rattle.mini_kept.specs.KeepsFrames.{is_body_slot}
+use Rattle.mini_kept.specs.KeepsNames.{is_rewritten_place}
+use Rattle.mini_kept.specs.KeepsShapes.{AskedAlike, is_default}
+use Rattle.mini_kept.specs.Lawful.{Lawful}
+use Rattle.mini_kept.proofs.Expressions.{refused_here, expression, TakesExpressionIn, TakesExpression, expression_taken}
+use Rattle.mini_terms.specs.Const.{made}
+use Rattle.mini_terms.specs.Calculated.{leaf_value, over_leaf, literal_by, literal_value, calculated_unary, calculated_numbers, calculated_texts, calculated_binary, unary_value, binary_value, calculated}
+use Rattle.mini_terms.specs.Parts.{leaves_nothing}
+use Rattle.mini_terms.specs.Plain.{lit, void_zero}
+use Rattle.mini_terms.proofs.Calculated.{Form, of_unary, of_binary, form}
+use Rattle.mini_rows.specs.Arranged.{KeptAt, Vanishes}
+use Rattle.mini_rows.specs.Sketches.{Null as NullHead, Number as NumberHead, String as StringHead, Unary, Binary, part as hole, under, end, ◌▹◌, Free}
+use Rattle.mini_rows.specs.Constants.{RowConstant, ConstantRow, ConstantContracts}
+use Rattle.mini_rows.proofs.ArrangedExpressions.{expressions_arranged_freely}
+use Rattle.mini_rows.proofs.ArrangedLawful.{kept_is_lawful}
+use Rattle.mini_rows.proofs.ConstantMeaning.{nothing, constants_same}
+use Rattle.mini_rows.proofs.FoldLawful.{vanishes, first_dropped, no_number, expression_slot}
+use Rattle.mini_rows.proofs.FoldWeights.{not_a_number}
+use Rattle.mini_rows.proofs.Surrogates.{is_paired_joined}
+
+-- ---- all of it goes, and a literal is made
+
+abbrev both_dropped : Free
+both_dropped = record { moved = []; lists_moved = []; dropped = 0 ∷ 1 ∷ [] }
+
+module _ (q : Seat) (n w : Tree) (o : UnaryOperator) (a : Tree) (is : n ≡ unary o a) (goes : Vanishes a) where
+  unary_kept : (v : Value) → lit v ≡ Some w → KeptAt (Expr q) n w
+  unary_kept Undefined e = expressions_arranged_freely first_dropped (record { trees = a ▸ none; lists = [] }) (tt, tt, (goes, tt)) (under (Unary o) (hole 0 ▹ end)) (under (Unary unary_operator.Void) (under (NumberHead (pos 0)) end ▹ end)) refl q n w is (cc e)
+  unary_kept Null e = expressions_arranged_freely first_dropped (record { trees = a ▸ none; lists = [] }) (tt, tt, (goes, tt)) (under (Unary o) (hole 0 ▹ end)) (under NullHead end) refl q n w is (cc e)
+  unary_kept (Boolean true) e = expressions_arranged_freely first_dropped (record { trees = a ▸ none; lists = [] }) (tt, tt, (goes, tt)) (under (Unary o) (hole 0 ▹ end)) (under (Unary unary_operator.LogicalNot) (under (NumberHead (pos 0)) end ▹ end)) refl q n w is (cc e)
+  unary_kept (Boolean false) e = expressions_arranged_freely first_dropped (record { trees = a ▸ none; lists = [] }) (tt, tt, (goes, tt)) (under (Unary o) (hole 0 ▹ end)) (under (Unary unary_operator.LogicalNot) (under (NumberHead (pos 1)) end ▹ end)) refl q n w is (cc e)
+  unary_kept (Number m) e = expressions_arranged_freely first_dropped (record { trees = a ▸ none; lists = [] }) (tt, tt, (goes, tt)) (under (Unary o) (hole 0 ▹ end)) (under (NumberHead m) end) refl q n w is (cc e)
+  unary_kept (String s) e = expressions_arranged_freely first_dropped (record { trees = a ▸ none; lists = [] }) (tt, tt, (goes, tt)) (under (Unary o) (hole 0 ▹ end)) (under (StringHead s) end) refl q n w is (cc e)
+  unary_kept v e = nothing e
+
+module _ (q : Seat) (n w : Tree) (o : BinaryOperator) (a b : Tree) (is : n ≡ binary o a b) (goes : Vanishes a) (rest : Vanishes b) where
+  binary_kept : (v : Value) → lit v ≡ Some w → KeptAt (Expr q) n w
+  binary_kept Undefined e = expressions_arranged_freely both_dropped (record { trees = a ▸ b ▸ none; lists = [] }) (tt, tt, (goes, (rest, tt))) (under (Binary o) (hole 0 ▹ hole 1 ▹ end)) (under (Unary unary_operator.Void) (under (NumberHead (pos 0)) end ▹ end)) refl q n w is (cc e)
+  binary_kept Null e = expressions_arranged_freely both_dropped (record { trees = a ▸ b ▸ none; lists = [] }) (tt, tt, (goes, (rest, tt))) (under (Binary o) (hole 0 ▹ hole 1 ▹ end)) (under NullHead end) refl q n w is (cc e)
+  binary_kept (Boolean true) e = expressions_arranged_freely both_dropped (record { trees = a ▸ b ▸ none; lists = [] }) (tt, tt, (goes, (rest, tt))) (under (Binary o) (hole 0 ▹ hole 1 ▹ end)) (under (Unary unary_operator.LogicalNot) (under (NumberHead (pos 0)) end ▹ end)) refl q n w is (cc e)
+  binary_kept (Boolean false) e = expressions_arranged_freely both_dropped (record { trees = a ▸ b ▸ none; lists = [] }) (tt, tt, (goes, (rest, tt))) (under (Binary o) (hole 0 ▹ hole 1 ▹ end)) (under (Unary unary_operator.LogicalNot) (under (NumberHead (pos 1)) end ▹ end)) refl q n w is (cc e)
+  binary_kept (Number m) e = expressions_arranged_freely both_dropped (record { trees = a ▸ b ▸ none; lists = [] }) (tt, tt, (goes, (rest, tt))) (under (Binary o) (hole 0 ▹ hole 1 ▹ end)) (under (NumberHead m) end) refl q n w is (cc e)
+  binary_kept (String s) e = expressions_arranged_freely both_dropped (record { trees = a ▸ b ▸ none; lists = [] }) (tt, tt, (goes, (rest, tt))) (under (Binary o) (hole 0 ▹ hole 1 ▹ end)) (under (StringHead s) end) refl q n w is (cc e)
+  binary_kept v e = nothing e
+
+operand_goes : (o : UnaryOperator) (a : Tree) → leaves_nothing (unary o a) ≡ true → Vanishes a
+operand_goes o a e = vanishes a (and_parts (leaves_nothing a) true e).0
+
+operands_go : (o : BinaryOperator) (a b : Tree) → leaves_nothing (binary o a b) ≡ true → Vanishes a × Vanishes b
+operands_go o a b e = let (first, rest) = and_parts (leaves_nothing a) (leaves_nothing b && true) e in (vanishes a first, vanishes b (and_parts (leaves_nothing b) true rest).0)
+
+constant_kept : (q : Seat) (n w : Tree) → RowConstant q n w → KeptAt (Expr q) n w
+constant_kept q n w r = go (form n r.value r.known)
+  where
+    go : Form n r.value → KeptAt (Expr q) n w
+    go (of_unary o is e) = unary_kept q n w o (part n 0) is (operand_goes o (part n 0) (subst (λ x. leaves_nothing x ≡ true) is r.dropped)) r.value r.literal
+    go (of_binary o is e) =
+        let (first, second) = operands_go o (part n 0) (part n 1) (subst (λ x. leaves_nothing x ≡ true) is r.dropped) in
+        binary_kept q n w o (part n 0) (part n 1) is first second r.value r.literal
+
+kept : (p : Position) (n w : Tree) → ConstantRow p n w → KeptAt p n w
+kept (Expr q) n w r = constant_kept q n w r
+kept p n w r = absurd r
+
+places : (p : Position) (n w : Tree) → ConstantRow p n w → is_rewritten_place p ≡ true
+places (Expr q) n w r = refl
+places p n w r = absurd r
+
+-- ---- what can be written
+
+-- a value whose literal may stand in a program
+abbrev is_written : Value → Bool
+is_written (Number n) = is_safe n
+is_written (String s) = is_paired s
+is_written v = true
+
+whole : (c : Class) (h : Shape) (xs : List Name) (n : ℕ) (ts : Trees) → is_whole c h xs n ts ≡ true → has_plain_fields h ≡ true
+whole c h xs n ts e =
+    let (names, rest) = and_parts (has_names h xs) (has_its_number c h n && (has_plain_fields h && has_its_parts c h ts)) e in
+    let (number, others) = and_parts (has_its_number c h n) (has_plain_fields h && has_its_parts c h ts) rest in
+    (and_parts (has_plain_fields h) (has_its_parts c h ts) others).0
+
+plain_fields : (strict : Bool) (s : Slot) (h : Shape) (xs : List Name) (n : ℕ) (ts : Trees) → fits strict s (node h xs n ts) ≡ true → has_plain_fields h ≡ true
+plain_fields strict s h xs n ts e = whole (class_of s) h xs n ts (and_parts (is_whole (class_of s) h xs n ts) (fill (is_strict_in strict h) (filling strict s h) ts) e).0
+
+leaf_written : (h : Shape) (v : Value) → leaf_value h ≡ Some v → has_plain_fields h ≡ true → is_written v ≡ true
+leaf_written (shape.NumericLiteral m) v e f = subst (λ x. is_written x ≡ true) {x = Number m} {y = v} (cc e) f
+leaf_written (shape.StringLiteral s) v e f = subst (λ x. is_written x ≡ true) {x = String s} {y = v} (cc e) f
+leaf_written (shape.BooleanLiteral b) v e f = subst (λ x. is_written x ≡ true) {x = Boolean b} {y = v} (cc e) refl
+leaf_written shape.NullLiteral v e f = subst (λ x. is_written x ≡ true) {x = Null} {y = v} (cc e) refl
+leaf_written h v e f = nothing e
+
+shape_written : (strict : Bool) (a : Tree) (v : Value) → leaf_value (shape_of a) ≡ Some v → fits strict expression a ≡ true → is_written v ≡ true
+shape_written strict (node h xs n ts) v e f = leaf_written h v e (plain_fields strict expression h xs n ts f)
+
+over_written : (o : UnaryOperator) (c : Option Value) (v : Value) → over_leaf o c ≡ Some v → is_written v ≡ true
+over_written unary_operator.Void (Some u) v e = subst (λ x. is_written x ≡ true) {x = Undefined} {y = v} (cc e) refl
+over_written unary_operator.LogicalNot (Some u) v e = boolean_written _ v e
+  where
+    boolean_written : (b : Bool) (v : Value) → Some (Boolean b) ≡ Some v → is_written v ≡ true
+    boolean_written b v e = subst (λ x. is_written x ≡ true) {x = Boolean b} {y = v} (cc e) refl
+over_written o c v e = nothing e
+
+literal_written : (strict : Bool) (t : Tree) (v : Value) → literal_value t ≡ Some v → fits strict expression t ≡ true → is_written v ≡ true
+literal_written strict t v e f = go (its_unary_operator t) e
+  where
+    go : (o : Option UnaryOperator) → literal_by o t ≡ Some v → is_written v ≡ true
+    go (Some o) e = over_written o (leaf_value (shape_of (part t 0))) v e
+    go None e = shape_written strict t v e f
+
+-- numbers
+
+safe_is : (n : ℤ) → conversion.is_safe n ≡ true → is_safe n ≡ true
+safe_is (pos n) e = le-leb n max_safe_integer (omega (arith, ltb-true n 9_007_199_254_740_992 e))
+safe_is (negsuc n) e = le-leb (suc n) max_safe_integer (omega (arith, ltb-true (suc n) 9_007_199_254_740_992 e))
+
+abbrev Written : Value → Type 0
+Written v = is_written v ≡ true
+
+written_by : (u v : Value) → Some u ≡ Some v → Written u → Written v
+written_by u v e h = subst Written {x = u} {y = v} (cc e) h
+
+safe_written : (n : ℤ) (v : Value) → made (safe_number n) ≡ Some v → Written v
+safe_written n v e = go (conversion.is_safe n) refl e
+  where
+    go : (b : Bool) → conversion.is_safe n ≡ b → made (choose b (makes (Number n)) outside) ≡ Some v → Written v
+    go true h e = written_by (Number n) v e (safe_is n h)
+    go false h e = nothing e
+
+from_safe : (n : ℤ) (v : Value) → made (number (conversion.safe n)) ≡ Some v → Written v
+from_safe n v e = go (conversion.is_safe n) refl e
+  where
+    go : (b : Bool) → conversion.is_safe n ≡ b → made (number (choose b (makes n) outside)) ≡ Some v → Written v
+    go true h e = written_by (Number n) v e (safe_is n h)
+    go false h e = nothing e
+
+signed_written : (minus : Bool) (n : ℕ) (v : Value) → made (number (signed minus n)) ≡ Some v → Written v
+signed_written true zero v e = nothing e
+signed_written true (suc n) v e = from_safe (negsuc n) v e
+signed_written false n v e = from_safe (pos n) v e
+
+numbers_written : (o : BinaryOperator) (x y : ℤ) (v : Value) → calculated_numbers o x y ≡ Some v → Written v
+numbers_written binary_operator.Addition x y v e = safe_written (x +ℤ y) v e
+numbers_written binary_operator.Subtraction x y v e = safe_written (x -ℤ y) v e
+numbers_written binary_operator.Multiplication x y v e = signed_written (differ (is_negative x) (is_negative y)) (nat_abs x * nat_abs y) v e
+numbers_written binary_operator.LessThan x y v e = written_by _ v e refl
+numbers_written binary_operator.GreaterThan x y v e = written_by _ v e refl
+numbers_written binary_operator.LessEqualThan x y v e = written_by _ v e refl
+numbers_written binary_operator.GreaterEqualThan x y v e = written_by _ v e refl
+numbers_written binary_operator.Equality x y v e = written_by _ v e refl
+numbers_written binary_operator.Inequality x y v e = written_by _ v e refl
+numbers_written binary_operator.StrictEquality x y v e = written_by _ v e refl
+numbers_written binary_operator.StrictInequality x y v e = written_by _ v e refl
+numbers_written o x y v e = nothing e
+
+texts_written : (o : BinaryOperator) (s t : List ℕ) (v : Value) → calculated_texts o s t ≡ Some v → Written (String s) → Written (String t) → Written v
+texts_written binary_operator.Addition s t v e h k = written_by (String (s ++ t)) v e (is_paired_joined s t h k)
+texts_written binary_operator.Equality s t v e h k = written_by _ v e refl
+texts_written binary_operator.Inequality s t v e h k = written_by _ v e refl
+texts_written binary_operator.StrictEquality s t v e h k = written_by _ v e refl
+texts_written binary_operator.StrictInequality s t v e h k = written_by _ v e refl
+texts_written o s t v e h k = nothing e
+
+binary_written : (o : BinaryOperator) (x y v : Value) → calculated_binary o x y ≡ Some v → Written x → Written y → Written v
+binary_written o (Number x) (Number y) v e h k = numbers_written o x y v e
+binary_written o (String s) (String t) v e h k = texts_written o s t v e h k
+binary_written o x y v e h k = nothing e
+
+unary_written : (o : UnaryOperator) (u v : Value) → calculated_unary o u ≡ Some v → Written v
+unary_written unary_operator.Void u v e = written_by Undefined v e refl
+unary_written unary_operator.LogicalNot u v e = written_by _ v e refl
+unary_written o u v e = nothing e
+
+-- ---- where they stand
+
+one_part : (w b : Bool) → w && (b && true) ≡ true → b ≡ true
+one_part w b e = (and_parts b true (and_parts w (b && true) e).1).0
+
+two_parts : (w b c : Bool) → w && (b && (c && true)) ≡ true → (b ≡ true) × (c ≡ true)
+two_parts w b c e = let (first, rest) = and_parts b (c && true) (and_parts w (b && (c && true)) e).1 in (first, (and_parts c true rest).0)
+
+module _ (strict : Bool) (o : UnaryOperator) (a : Tree) where
+  abbrev over_one : Shape
+  over_one = shape.UnaryExpression o
+
+  unary_nowhere : (s : Bool) (d : Depth) → filling s (one (a_statement d)) over_one ≡ refused
+  unary_nowhere true in_module = refl
+  unary_nowhere true in_body = refl
+  unary_nowhere true nested = refl
+  unary_nowhere false in_module = refl
+  unary_nowhere false in_body = refl
+  unary_nowhere false nested = refl
+
+  abbrev OneTaken : Class → Type 0
+  OneTaken k = TakesExpressionIn k × (fits strict expression a ≡ true)
+
+  unary_in : (k : Class) → fits strict (one k) (unary o a) ≡ true → OneTaken k
+  unary_in an_expression e = (tt, one_part (is_whole an_expression over_one [] 0 (a ▸ none)) (fits strict expression a) e)
+  unary_in a_link e = (tt, one_part (is_whole a_link over_one [] 0 (a ▸ none)) (fits strict expression a) e)
+  unary_in an_argument e = (tt, one_part (is_whole an_argument over_one [] 0 (a ▸ none)) (fits strict expression a) e)
+  unary_in an_init e = (tt, one_part (is_whole an_init over_one [] 0 (a ▸ none)) (fits strict expression a) e)
+  unary_in (a_key true) e = (tt, one_part (is_whole (a_key true) over_one [] 0 (a ▸ none)) (fits strict expression a) e)
+  unary_in an_arrow_body e = (tt, one_part (is_whole an_arrow_body over_one [] 0 (a ▸ none)) (fits strict expression a) e)
+  unary_in a_default_export e = (tt, one_part (is_whole a_default_export over_one [] 0 (a ▸ none)) (fits strict expression a) e)
+  unary_in (a_statement d) e = absurd (refused_here strict (one (a_statement d)) over_one [] 0 (a ▸ none) (unary_nowhere strict d) e)
+  unary_in (a_private_or_key true) e = absurd (refused_here strict (one (a_private_or_key true)) over_one [] 0 (a ▸ none) refl e)
+  unary_in (a_private_or_key false) e = absurd (refused_here strict (one (a_private_or_key false)) over_one [] 0 (a ▸ none) refl e)
+  unary_in (an_inner_key true) e = absurd (refused_here strict (one (an_inner_key true)) over_one [] 0 (a ▸ none) refl e)
+  unary_in (an_inner_key false) e = absurd (refused_here strict (one (an_inner_key false)) over_one [] 0 (a ▸ none) refl e)
+  unary_in k e = absurd (refused_here strict (one k) over_one [] 0 (a ▸ none) refl e)
+
+  unary_at : (s : Slot) → fits strict s (unary o a) ≡ true → TakesExpression s × (fits strict expression a ≡ true)
+  unary_at (one k) e = unary_in k e
+  unary_at (one_or_absent k) e = unary_in k e
+  unary_at s e = absurd (refused_here strict s over_one [] 0 (a ▸ none) refl e)
+
+module _ (strict : Bool) (o : BinaryOperator) (a b : Tree) where
+  abbrev over_two : Shape
+  over_two = shape.BinaryExpression o
+
+  binary_nowhere : (s : Bool) (d : Depth) → filling s (one (a_statement d)) over_two ≡ refused
+  binary_nowhere true in_module = refl
+  binary_nowhere true in_body = refl
+  binary_nowhere true nested = refl
+  binary_nowhere false in_module = refl
+  binary_nowhere false in_body = refl
+  binary_nowhere false nested = refl
+
+  abbrev BothFit : Type 0
+  BothFit = (fits strict expression a ≡ true) × (fits strict expression b ≡ true)
+
+  binary_in : (k : Class) → fits strict (one k) (binary o a b) ≡ true → TakesExpressionIn k × BothFit
+  binary_in an_expression e = (tt, two_parts (is_whole an_expression over_two [] 0 (a ▸ b ▸ none)) (fits strict expression a) (fits strict expression b) e)
+  binary_in a_link e = (tt, two_parts (is_whole a_link over_two [] 0 (a ▸ b ▸ none)) (fits strict expression a) (fits strict expression b) e)
+  binary_in an_argument e = (tt, two_parts (is_whole an_argument over_two [] 0 (a ▸ b ▸ none)) (fits strict expression a) (fits strict expression b) e)
+  binary_in an_init e = (tt, two_parts (is_whole an_init over_two [] 0 (a ▸ b ▸ none)) (fits strict expression a) (fits strict expression b) e)
+  binary_in (a_key true) e = (tt, two_parts (is_whole (a_key true) over_two [] 0 (a ▸ b ▸ none)) (fits strict expression a) (fits strict expression b) e)
+  binary_in an_arrow_body e = (tt, two_parts (is_whole an_arrow_body over_two [] 0 (a ▸ b ▸ none)) (fits strict expression a) (fits strict expression b) e)
+  binary_in a_default_export e = (tt, two_parts (is_whole a_default_export over_two [] 0 (a ▸ b ▸ none)) (fits strict expression a) (fits strict expression b) e)
+  binary_in (a_statement d) e = absurd (refused_here strict (one (a_statement d)) over_two [] 0 (a ▸ b ▸ none) (binary_nowhere strict d) e)
+  binary_in (a_private_or_key true) e = absurd (refused_here strict (one (a_private_or_key true)) over_two [] 0 (a ▸ b ▸ none) refl e)
+  binary_in (a_private_or_key false) e = absurd (refused_here strict (one (a_private_or_key false)) over_two [] 0 (a ▸ b ▸ none) refl e)
+  binary_in (an_inner_key true) e = absurd (refused_here strict (one (an_inner_key true)) over_two [] 0 (a ▸ b ▸ none) refl e)
+  binary_in (an_inner_key false) e = absurd (refused_here strict (one (an_inner_key false)) over_two [] 0 (a ▸ b ▸ none) refl e)
+  binary_in k e = absurd (refused_here strict (one k) over_two [] 0 (a ▸ b ▸ none) refl e)
+
+  binary_at : (s : Slot) → fits strict s (binary o a b) ≡ true → TakesExpression s × BothFit
+  binary_at (one k) e = binary_in k e
+  binary_at (one_or_absent k) e = binary_in k e
+  binary_at s e = absurd (refused_here strict s over_two [] 0 (a ▸ b ▸ none) refl e)
+
+-- ---- what is written for them
+
+by_operand : (o : UnaryOperator) (v : Value) (c : Option Value) → unary_value o c ≡ Some v → Written v
+by_operand o v (Some u) e = unary_written o u v e
+by_operand o v None e = nothing e
+
+by_operands : (strict : Bool) (o : BinaryOperator) (a b : Tree) (v : Value) (c d : Option Value) → literal_value a ≡ c → literal_value b ≡ d → binary_value o c d ≡ Some v → fits strict expression a ≡ true → fits strict expression b ≡ true → Written v
+by_operands strict o a b v (Some x) (Some y) h k e f g = binary_written o x y v e (literal_written strict a x h f) (literal_written strict b y k g)
+by_operands strict o a b v (Some x) None h k e f g = nothing e
+by_operands strict o a b v None d h k e f g = nothing e
+
+value_at : (strict : Bool) (s : Slot) (n : Tree) (v : Value) → calculated n ≡ Some v → fits strict s n ≡ true → TakesExpression s × Written v
+value_at strict s n v k f = go (form n v k)
+  where
+    go : Form n v → TakesExpression s × Written v
+    go (of_unary o is e) = let (takes, fit) = unary_at strict o (part n 0) s (subst (λ x. fits strict s x ≡ true) is f) in (takes, by_operand o v (literal_value (part n 0)) e)
+    go (of_binary o is e) = let (takes, (first, second)) = binary_at strict o (part n 0) (part n 1) s (subst (λ x. fits strict s x ≡ true) is f) in (takes, by_operands strict o (part n 0) (part n 1) v (literal_value (part n 0)) (literal_value (part n 1)) refl refl e first second)
+
+abbrev Fits : Bool → Tree → Type 0
+Fits strict t = fits strict expression t ≡ true
+
+lit_fits : (strict : Bool) (v : Value) (w : Tree) → lit v ≡ Some w → Written v → Fits strict w
+lit_fits strict Undefined w e h = subst (Fits strict) {x = void_zero} {y = w} (cc e) refl
+lit_fits strict Null w e h = subst (Fits strict) {x = leaf shape.NullLiteral} {y = w} (cc e) refl
+lit_fits strict (Boolean true) w e h = subst (Fits strict) {x = unary unary_operator.LogicalNot (leaf (shape.NumericLiteral (pos 0)))} {y = w} (cc e) refl
+lit_fits strict (Boolean false) w e h = subst (Fits strict) {x = unary unary_operator.LogicalNot (leaf (shape.NumericLiteral (pos 1)))} {y = w} (cc e) refl
+lit_fits strict (Number n) w e h = subst (Fits strict) {x = leaf (shape.NumericLiteral n)} {y = w} (cc e) (ap (λ a. (a && true) && true) h)
+lit_fits strict (String s) w e h = subst (Fits strict) {x = leaf (shape.StringLiteral s)} {y = w} (cc e) (ap (λ a. (a && true) && true) h)
+lit_fits strict v w e h = nothing e
+
+constant_fits : (q : Seat) (n w : Tree) → RowConstant q n w → (strict : Bool) (s : Slot) → fits strict s n ≡ true → fits strict s w ≡ true
+constant_fits q n w r strict s e = let (takes, written) = value_at strict s n r.value r.known e in expression_taken strict s w takes (lit_fits strict r.value w r.literal written)
+
+row_fits : (p : Position) (n w : Tree) → ConstantRow p n w → (strict : Bool) (s : Slot) → fits strict s n ≡ true → fits strict s w ≡ true
+row_fits (Expr q) n w r strict s e = constant_fits q n w r strict s e
+row_fits p n w r strict s e = absurd r
+
+row_slot : (p : Position) (n w : Tree) → ConstantRow p n w → (strict : Bool) (s : Slot) → fits strict s n ≡ true → is_body_slot p s ≡ true
+row_slot (Expr q) n w r strict s e = expression_slot (Expr q) s (value_at strict s n r.value r.known e).0
+row_slot p n w r strict s e = absurd r
+
+-- ---- what a parent asks of them
+
+constant_asked : (q : Seat) (n w : Tree) → RowConstant q n w → AskedAlike (Expr q) n w
+constant_asked q n w r = go (form n r.value r.known)
+  where
+    go : Form n r.value → AskedAlike (Expr q) n w
+    go (of_unary o is e) = record {
+      absent = λ e. absurd (true≢false (sym e ∙ ap is_absent is));
+      body = λ e. absurd (true≢false (sym e ∙ ap is_function_body is));
+      optional = λ e. absurd (true≢false (sym e ∙ ap has_optional is));
+      number = λ asks k. no_number w (not_a_number q w asks r.stays);
+      spelled = λ s e. absurd (cc (sym e ∙ ap spelling is));
+      plain = ap (λ x. is_default (shape_of x)) is;
+    }
+    go (of_binary o is e) = record {
+      absent = λ e. absurd (true≢false (sym e ∙ ap is_absent is));
+      body = λ e. absurd (true≢false (sym e ∙ ap is_function_body is));
+      optional = λ e. absurd (true≢false (sym e ∙ ap has_optional is));
+      number = λ asks k. no_number w (not_a_number q w asks r.stays);
+      spelled = λ s e. absurd (cc (sym e ∙ ap spelling is));
+      plain = ap (λ x. is_default (shape_of x)) is;
+    }
+
+row_asked : (p : Position) (n w : Tree) → ConstantRow p n w → AskedAlike p n w
+row_asked (Expr q) n w r = constant_asked q n w r
+row_asked p n w r = absurd r
+
+pub constants_lawful : Lawful ConstantContracts
+constants_lawful =
+    kept_is_lawful ConstantContracts constants_same
+    (record { fitting = λ p n w c strict s k e. row_fits p n w c.row strict s e; asked = λ p n w c. row_asked p n w c.row })
+    (λ p n w c. places p n w c.row)
+    (λ p n w c strict s k e. row_slot p n w c.row strict s e)
+    (λ p n w c. kept p n w c.row)

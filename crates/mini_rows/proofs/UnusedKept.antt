@@ -1,0 +1,358 @@
+-- A block without a name that nothing mentions keeps what else a program has to keep.
+use Rattle.std.specs.Prelude.{ℕ, ◌+◌, ◌≤◌, ◌≡◌, refl, Bool, true, false, ◌||◌, List, [], ◌∷◌, ◌++◌, map, Contains, Option, None, if◌then◌else◌}
+use Rattle.std.proofs.Common.{ap, ◌∙◌, sym, subst, arith, append_assoc}
+use Rattle.std.proofs.lemmas.Bool.{eq-eqb}
+use Rattle.std.proofs.lemmas.List.{append-nil, map-append}
+use Rattle.std.proofs.lemmas.List.Elements.{Contains-append_right}
+use Rattle.mini_model.specs.declared.kind.VariableDeclarationKind.TheVariants.{Let}
+use Rattle.mini_model.specs.declared.name.Name.{Name}
+use Rattle.mini_model.specs.declared.name.SymbolId.{SymbolId}
+use Rattle.mini_model.specs.declared.place.Position.TheVariants.{Stmt}
+use Rattle.mini_model.specs.declared.seat.StmtSeat.{StmtSeat}
+use Rattle.mini_model.specs.declared.shape.Shape.TheVariants as shape
+use Rattle.mini_model.specs.Tree.{Tree, Trees, none, ◌▸◌, absent, listed, empty_statement, expression_statement}
+use Rattle.mini_model.specs.Paths.{append}
+use Rattle.mini_names.specs.declared.Binding.{Binding}
+use Rattle.mini_names.specs.declared.Declared.{Declared}
+use Rattle.mini_names.specs.declared.Declared.TheVariants as declared
+use Rattle.mini_names.specs.declared.Targets.{Targets}
+use Rattle.mini_names.specs.declared.Use.{Use}
+use Rattle.mini_names.specs.declared.Use.TheVariants.{Read}
+use Rattle.mini_names.specs.DeclaredNames.{names_of, all_names, body_names, with_names, has_inner}
+use Rattle.mini_names.specs.Edits.{Kept}
+use Rattle.mini_names.specs.Resolved.{Environment}
+use Rattle.mini_names.specs.Scopes.{scopes_by}
+use Rattle.mini_names.specs.Scoped.{Scoped, Unmentioned}
+use Rattle.mini_names.specs.Symbols.{symbols_in, declared as declared_in, times}
+use Rattle.mini_names.specs.Early.{Path, own_declarations, body_declarations, scope_declarations, early_names, targets_of, early_jumps, is_loop, clashing}
+use Rattle.mini_names.proofs.Changes.{times_both}
+use Rattle.mini_names.proofs.Drops.{dropped}
+use Rattle.mini_laws.specs.Value.{Variable}
+use Rattle.mini_laws.specs.State.{Fixed, Writable, Constant, KeepsOld}
+use Rattle.mini_laws.specs.Fixity.{stricter, fixed_by}
+use Rattle.mini_laws.specs.Bodies.{Around, bodies}
+use Rattle.mini_kept.specs.AlikeBodies.{BodiesKept}
+use Rattle.mini_kept.specs.Carried.{numbers}
+use Rattle.mini_kept.specs.Declaring.{declared as names_declared}
+use Rattle.mini_kept.specs.Frames.{frames, FramesKept}
+use Rattle.mini_kept.specs.KeepsNames.{Keeps, count_of}
+use Rattle.mini_kept.specs.Loosely.{symbol}
+use Rattle.mini_kept.specs.SameNames.{counted, NoMoreClash}
+use Rattle.mini_kept.proofs.Anywhere.{once_anywhere, targets_anywhere}
+use Rattle.mini_kept.proofs.Below.{both_empty, empty_both}
+use Rattle.mini_kept.proofs.BodyLists.{kept_itself}
+use Rattle.mini_kept.proofs.Clashes.{counted_unplaced, no_more_same, no_more_both, still_free}
+use Rattle.mini_kept.proofs.Fixed.{of_children}
+use Rattle.mini_kept.proofs.Unplaced.{as_body, all_as_body, body_is, body_same}
+use Rattle.mini_rows.specs.Lists.{block}
+use Rattle.mini_rows.specs.Declarations.{binding, declarator}
+use Rattle.mini_rows.specs.Unused.{names, let_one}
+use Rattle.mini_rows.proofs.Arranging.{Any}
+use Rattle.mini_rows.proofs.ArrangedNames.{ScopedAs, scoped_local, symbol_times, symbols_summed, number_times, numbers_summed, InnerIf, inner_local, Once, once_local, HasTarget, Aimed, aimed_local}
+use Rattle.mini_rows.proofs.ArrangedBodies.{quiet, HasBodies, bodies_local, HasFrames, frames_local, Declares, declares_local, FixedBy, fixed_local, rank, by_rank}
+use Rattle.mini_rows.proofs.ArrangedTrees.{both_same, itself}
+use Rattle.mini_rows.proofs.ListKeptDeclarations.{all_both}
+use Rattle.mini_rows.proofs.ListKeptStretch.{stretched, sum_stretched}
+use Rattle.mini_rows.proofs.UnusedNames.{unmentioned, Amid, Other, amid}
+
+-- ---- what a declaration has, and what is written for it keeps
+
+pub record Leaves (x : Name) (d w : Tree) : Type 0 where
+  pub names : names_of declared.Lexical d ≡ x ∷ []
+  pub no_names : names_of declared.Lexical w ≡ []
+  pub hoists : names_of declared.Hoisted w ≡ names_of declared.Hoisted d
+  pub as_one : as_body false d ≡ record { spelling = x.spelling; is_lexical = true; at = [] } ∷ []
+  pub as_none : as_body false w ≡ []
+  pub inner : has_inner w ≡ has_inner d
+  pub scoped : (env : Environment) → Scoped Read env d → Scoped Read env w
+  pub unmentioned : Unmentioned (record { name = x; hoists = false }) w
+  pub symbols : (y : Option SymbolId) → times y (declared_in Read w) ≤ times y (declared_in Read d)
+  pub numbered : (k : ℕ) → count_of k (numbers w) ≤ count_of k (numbers d)
+  pub once : early_names [] d ≡ [] → early_names [] w ≡ []
+  pub targets : (g : Targets) → early_jumps g [] d ≡ [] → early_jumps g [] w ≡ []
+  pub framed : frames None w ≡ frames None d
+  pub bodied : (a : Around) → bodies (quiet a) w ≡ bodies (quiet a) d
+  pub fixed : (y : Variable) → fixed_by w y ≡ fixed_by d y
+  pub declares : (y : Name) → Contains (names_declared w) y → Contains (names_declared d) y
+
+-- ---- the list
+
+module _ (x : Name) (before after : Trees) (d w : Tree) (l : Leaves x d w) where
+  abbrev pub A : Trees
+  A = append before (d ▸ after)
+
+  abbrev pub B : Trees
+  B = append before (w ▸ after)
+
+  pub list_inner : has_inner (listed B) ≡ has_inner (listed A)
+  list_inner =
+      both_same (has_inner (listed A)) (has_inner (listed B)) (stretched Any (InnerIf (has_inner (listed A))) (inner_local (has_inner (listed A))) before after (d ▸ none) (w ▸ none) (λ q. (subst (λ b. (b || has_inner (listed A)) ≡ has_inner (listed A)) (sym l.inner) q.0, tt)) (itself (has_inner (listed A))))
+      (stretched Any (InnerIf (has_inner (listed B))) (inner_local (has_inner (listed B))) before after (w ▸ none) (d ▸ none) (λ q. (subst (λ b. (b || has_inner (listed B)) ≡ has_inner (listed B)) l.inner q.0, tt)) (itself (has_inner (listed B))))
+
+  pub list_fixed : (y : Variable) → fixed_by (listed A) y ≡ fixed_by (listed B) y
+  list_fixed y =
+      let i = rank (fixed_by (listed A) y) in
+      let j = rank (fixed_by (listed B) y) in
+      by_rank (fixed_by (listed A) y) (fixed_by (listed B) y)
+      (stretched Any (FixedBy y j) (fixed_local y j) before after (w ▸ none) (d ▸ none) (λ q. (subst (λ f. rank f ≤ j) (l.fixed y) q.0, tt)) (omega arith))
+      (stretched Any (FixedBy y i) (fixed_local y i) before after (d ▸ none) (w ▸ none) (λ q. (subst (λ f. rank f ≤ i) (sym (l.fixed y)) q.0, tt)) (omega arith))
+
+  list_scoped : (env : Environment) → Scoped Read env (listed A) → Scoped Read env (listed B)
+  list_scoped env = stretched Any (ScopedAs Read env) (scoped_local Read env) before after (d ▸ none) (w ▸ none) (λ q. (l.scoped env q.0, tt))
+
+  list_symbols : (y : Option SymbolId) → times y (declared_in Read (listed B)) ≤ times y (declared_in Read (listed A))
+  list_symbols y = sum_stretched (symbol_times Read y) (symbols_summed Read y) before after (d ▸ none) (w ▸ none) (let s = l.symbols y in omega (arith, s))
+
+  pub list_numbers : (k : ℕ) → count_of k (numbers (listed B)) ≤ count_of k (numbers (listed A))
+  list_numbers k = sum_stretched (number_times k) (numbers_summed k) before after (d ▸ none) (w ▸ none) (let s = l.numbered k in omega (arith, s))
+
+  list_once : (p : Path) → early_names p (listed A) ≡ [] → early_names p (listed B) ≡ []
+  list_once p q = once_anywhere [] p (listed B) (stretched Any Once once_local before after (d ▸ none) (w ▸ none) (λ o. (l.once o.0, tt)) (once_anywhere p [] (listed A) q))
+
+  list_targets : (g : Targets) (p : Path) → early_jumps g p (listed A) ≡ [] → early_jumps g p (listed B) ≡ []
+  list_targets g p q = targets_anywhere g [] p (listed B) (stretched (HasTarget g) (Aimed g) (aimed_local g) before after (d ▸ none) (w ▸ none) (λ o. (l.targets g o.0, tt)) (targets_anywhere g p [] (listed A) q))
+
+  pub list_frames : FramesKept (frames None (listed A)) (frames None (listed B))
+  list_frames = stretched Any (HasFrames (frames None (listed A))) (frames_local (frames None (listed A))) before after (d ▸ none) (w ▸ none) (λ q. (subst (FramesKept (frames None (listed A))) (sym l.framed) q.0, tt)) (λ f q. q)
+
+  pub list_bodies : (a : Around) → BodiesKept (bodies (quiet a) (listed A)) (bodies (quiet a) (listed B))
+  list_bodies a = stretched Any (HasBodies (bodies (quiet a) (listed A)) a) (bodies_local (bodies (quiet a) (listed A)) a) before after (d ▸ none) (w ▸ none) (λ q. (subst (BodiesKept (bodies (quiet a) (listed A))) (sym (l.bodied a)) q.0, tt)) (kept_itself (bodies (quiet a) (listed A)))
+
+  pub list_declares : (y : Name) → Contains (names_declared (listed B)) y → Contains (names_declared (listed A)) y
+  list_declares = stretched Any (Declares (names_declared (listed A))) (declares_local (names_declared (listed A))) before after (d ▸ none) (w ▸ none) (λ q. ((λ y c. q.0 y (l.declares y c)), tt)) (λ y c. c)
+
+  -- ---- names
+
+  list_hoists : names_of declared.Hoisted (listed B) ≡ names_of declared.Hoisted (listed A)
+  unfolding names_of
+  list_hoists = all_both declared.Hoisted before (w ▸ after) ∙ ap (λ ys. all_names declared.Hoisted before ++ (ys ++ all_names declared.Hoisted after)) l.hoists ∙ sym (all_both declared.Hoisted before (d ▸ after))
+
+  lexical_with : names_of declared.Lexical (listed A) ≡ all_names declared.Lexical before ++ x ∷ all_names declared.Lexical after
+  unfolding names_of
+  lexical_with = all_both declared.Lexical before (d ▸ after) ∙ ap (λ ys. all_names declared.Lexical before ++ (ys ++ all_names declared.Lexical after)) l.names
+
+  lexical_without : names_of declared.Lexical (listed B) ≡ all_names declared.Lexical before ++ all_names declared.Lexical after
+  unfolding names_of
+  lexical_without = all_both declared.Lexical before (w ▸ after) ∙ ap (λ ys. all_names declared.Lexical before ++ (ys ++ all_names declared.Lexical after)) l.no_names
+
+  module _ (o : Other x (all_names declared.Lexical before)) (p : Other x (all_names declared.Lexical after)) where
+    abbrev bind : Name → Binding
+    bind y = record { name = y; hoists = false }
+
+    scopes : Amid x (with_names [] (names_of declared.Lexical (listed A))) (with_names [] (names_of declared.Lexical (listed B)))
+    scopes =
+        subst (λ ys. Amid x (with_names [] ys) (with_names [] (names_of declared.Lexical (listed B)))) (sym lexical_with)
+        (subst (λ ys. Amid x (with_names [] (all_names declared.Lexical before ++ x ∷ all_names declared.Lexical after)) (with_names [] ys)) (sym lexical_without) (amid x (all_names declared.Lexical before) (all_names declared.Lexical after) o p))
+
+    abbrev scope_of : List Name → Environment
+    scope_of ys = map bind ys
+
+    with_it : scope_of (with_names [] (names_of declared.Lexical (listed A))) ≡ scope_of scopes.first ++ bind x ∷ scope_of scopes.last
+    with_it = ap scope_of scopes.there ∙ map-append bind scopes.first (x ∷ scopes.last)
+
+    without_it : scope_of (with_names [] (names_of declared.Lexical (listed B))) ≡ scope_of scopes.first ++ scope_of scopes.last
+    without_it = ap scope_of scopes.gone ∙ map-append bind scopes.first scopes.last
+
+    one_less : (y : Option SymbolId) → times y (symbols_in (scope_of (with_names [] (names_of declared.Lexical (listed A))))) ≡ times y (x.symbol ∷ []) + times y (symbols_in (scope_of (with_names [] (names_of declared.Lexical (listed B)))))
+    one_less y =
+        let f = scope_of scopes.first in
+        let g = scope_of scopes.last in
+        let own = λ (b : Binding). b.name.symbol in
+        omega (
+          arith,
+          ap (λ bs. times y (symbols_in bs)) with_it,
+          ap (λ bs. times y (symbols_in bs)) without_it,
+          ap (times y) (map-append own f (bind x ∷ g)),
+          ap (times y) (map-append own f g),
+          times_both y (symbols_in f) (x.symbol ∷ symbols_in g),
+          times_both y (symbols_in f) (symbols_in g),
+          times_both y (x.symbol ∷ []) (symbols_in g),
+        )
+
+    block_symbols : (v : Use) (y : Option SymbolId) → times y (declared_in v (block B)) + times y (x.symbol ∷ []) ≤ times y (declared_in v (block A))
+    unfolding declared_in scopes_by
+    block_symbols v y =
+        let sa = symbols_in (scope_of (with_names [] (names_of declared.Lexical (listed A)))) in
+        let sb = symbols_in (scope_of (with_names [] (names_of declared.Lexical (listed B)))) in
+        omega (
+          arith,
+          one_less y,
+          list_symbols y,
+          times_both y sa (declared_in Read (listed A) ++ []),
+          times_both y sb (declared_in Read (listed B) ++ []),
+          times_both y (declared_in Read (listed A)) [],
+          times_both y (declared_in Read (listed B)) [],
+        )
+
+    block_scoped : Unmentioned (bind x) (listed B) → (v : Use) (env : Environment) → Scoped v env (block A) → Scoped v env (block B)
+    unfolding Scoped scopes_by
+    block_scoped m v env s =
+        let inner = list_scoped (env ++ scope_of (with_names [] (names_of declared.Lexical (listed A)))) s.1.0 in
+        let f = scope_of scopes.first in
+        let g = scope_of scopes.last in
+        let moved = subst (λ r. Scoped Read r (listed B)) (ap (λ bs. env ++ bs) with_it ∙ sym (append_assoc env f (bind x ∷ g))) inner in
+        let left = dropped Read (env ++ f) g (bind x) (listed B) moved m in
+        (tt, (subst (λ r. Scoped Read r (listed B)) (append_assoc env f g ∙ ap (λ bs. env ++ bs) (sym without_it)) left, tt))
+
+    -- ---- the block
+
+    names_kept : (q : Declared) → names_of q (block B) ≡ names_of q (block A)
+    unfolding names_of
+    names_kept declared.Bound = refl
+    names_kept declared.Lexical = refl
+    names_kept declared.Hoisted = ap (λ ys. ys ++ []) list_hoists
+
+    body_kept : body_names (block B) ≡ body_names (block A)
+    unfolding body_names names_of
+    body_kept = names_kept declared.Hoisted
+
+    inner_kept : has_inner (block B) ≡ has_inner (block A)
+    unfolding has_inner
+    inner_kept = ap (λ b. b || false) list_inner
+
+    pub block_kept : Kept (block A) (block B)
+    block_kept = record { names = names_kept; body = body_kept; inner = inner_kept; symbols = λ v y. let s = block_symbols v y in omega (arith, s) }
+
+    pub block_less : (k : ℕ) → x.symbol ≡ symbol k → (v : Use) → times (symbol k) (declared_in v (block B)) + 1 ≤ times (symbol k) (declared_in v (block A))
+    block_less k e v =
+        let s = block_symbols v (symbol k) in
+        let h : times (symbol k) (x.symbol ∷ []) ≡ 1 = ap (λ y. times (symbol k) (y ∷ [])) e ∙ own k in
+        omega (arith, s, h)
+      where
+        own : (k : ℕ) → times (symbol k) (symbol k ∷ []) ≡ 1
+        own k = ap (λ b. (if b then 1 else 0) + 0) (eq-eqb k k refl)
+
+    -- what it declares clashes no more
+
+    as_bodies : (ts us : Trees) → all_as_body false (append ts us) ≡ all_as_body false ts ++ all_as_body false us
+    as_bodies none us = refl
+    as_bodies (t ▸ ts) us = ap (λ ds. as_body false t ++ ds) (as_bodies ts us) ∙ sym (append_assoc (as_body false t) (all_as_body false ts) (all_as_body false us))
+
+    less_clash : NoMoreClash (as_body false (listed B)) (as_body false (listed A))
+    less_clash =
+        let f = all_as_body false before in
+        let g = all_as_body false after in
+        subst (λ ds. NoMoreClash (as_body false (listed B)) ds) (sym (as_bodies before (d ▸ after)))
+        (subst (λ es. NoMoreClash es (f ++ (as_body false d ++ g))) (sym (as_bodies before (w ▸ after)))
+        (no_more_both f f (as_body false d ++ g) (as_body false w ++ g) (no_more_same f f refl)
+        (subst (λ ds. NoMoreClash (ds ++ g) (as_body false d ++ g)) (sym l.as_none) (no_more_both (as_body false d) [] g g (λ s. (omega arith, λ z. refl)) (no_more_same g g refl)))))
+
+    fewer : (p : Path) → NoMoreClash (body_declarations false p (listed B)) (body_declarations false p (listed A))
+    fewer p s =
+        let is = λ (b : Bool) (t : Tree). sym (counted_unplaced b s (body_declarations false p t)) ∙ ap (counted b s) (body_is false p t) in
+        let lexical_a = is true (listed A) in
+        let lexical_b = is true (listed B) in
+        let less = (less_clash s).0 in
+        (omega (arith, lexical_a, lexical_b, less), λ z. is false (listed B) ∙ (less_clash s).1 (sym (is false (listed A)) ∙ z))
+
+    as_statements : (b : Bool) → as_body b (block B) ≡ as_body b (block A)
+    unfolding names_of
+    as_statements b = ap (λ ys. own_declarations false [] ys) (names_kept declared.Hoisted)
+
+    block_numbers : (k : ℕ) → count_of k (numbers (block B)) ≤ count_of k (numbers (block A))
+    unfolding numbers
+    block_numbers k =
+        let s = list_numbers k in
+        let b = ap (count_of k) (append-nil (numbers (listed B))) in
+        let a = ap (count_of k) (append-nil (numbers (listed A))) in
+        omega (arith, s, a, b)
+
+    block_once : (r : Path) → early_names r (block A) ≡ [] → early_names r (block B) ≡ []
+    unfolding early_names scope_declarations
+    block_once r e =
+        let p = r ++ 0 ∷ [] in
+        let (c, o) = empty_both (clashing [] (body_declarations false p (listed A))) (early_names p (listed A) ++ []) e in
+        both_empty (clashing [] (body_declarations false p (listed B))) (early_names p (listed B) ++ []) (still_free (body_declarations false p (listed A)) (body_declarations false p (listed B)) (fewer p) c)
+        (append-nil (early_names p (listed B)) ∙ list_once p (sym (append-nil (early_names p (listed A))) ∙ o))
+
+    block_targets : (g : Targets) (r : Path) → early_jumps g r (block A) ≡ [] → early_jumps g r (block B) ≡ []
+    unfolding early_jumps targets_of
+    block_targets g r e =
+        let p = r ++ 0 ∷ [] in
+        append-nil (early_jumps g p (listed B)) ∙ list_targets g p (sym (append-nil (early_jumps g p (listed A))) ∙ e)
+
+    pub block_keeps : Unmentioned (bind x) (listed B) → (q : StmtSeat) → Keeps (Stmt q) (block A) (block B)
+    unfolding is_loop
+    block_keeps m q = record {
+      kept = block_kept;
+      scoped = λ v env st a. block_scoped m v env a;
+      numbers = block_numbers;
+      declared_as_body = λ b r. body_same b r r (block A) (block B) (as_statements b);
+      once = block_once;
+      targets = block_targets;
+      loop = refl;
+      root = λ e. absurd (cc e);
+      block = λ e. absurd (cc e);
+    }
+
+-- ---- what the rows write
+
+three : {X : Type 0} (xs : List X) → ((xs ++ []) ++ []) ++ [] ≡ xs ++ []
+three xs = append-nil ((xs ++ []) ++ []) ∙ append-nil (xs ++ [])
+
+three_or : (b : Bool) → (b || false) ≡ (((b || false) || false) || false)
+three_or true = refl
+three_or false = refl
+
+alone_stricter : (f : Fixed) → stricter f Writable ≡ f
+alone_stricter Writable = refl
+alone_stricter KeepsOld = refl
+alone_stricter Constant = refl
+
+module _ (x : Name) (init : Tree) where
+  abbrev declarators : Trees
+  declarators = declarator (binding x) init ▸ none
+
+  let_fixed : (y : Variable) → fixed_by (let_one x init) y ≡ fixed_by init y
+  let_fixed y =
+      of_children (shape.VariableDeclaration Let) [] 0 (listed declarators ▸ none) y refl
+      ∙ alone_stricter (fixed_by (listed declarators) y)
+      ∙ of_children shape.Listed [] 0 declarators y refl
+      ∙ alone_stricter (fixed_by (declarator (binding x) init) y)
+      ∙ of_children shape.VariableDeclarator [] 0 (binding x ▸ (init ▸ none)) y refl
+      ∙ alone_stricter (fixed_by init y)
+
+  pub value_leaves : (k : ℕ) → x.symbol ≡ symbol k → names x init ≡ false → Leaves x (let_one x init) (expression_statement init)
+  unfolding names_of has_inner Scoped declared_in scopes_by numbers early_names scope_declarations early_jumps targets_of Unmentioned
+  value_leaves k e f = record {
+    names = refl;
+    no_names = refl;
+    hoists = refl;
+    as_one = refl;
+    as_none = refl;
+    inner = three_or (has_inner init);
+    scoped = λ env s. (tt, (subst (λ r. Scoped Read r init) (append-nil _ ∙ append-nil _ ∙ append-nil _) s.1.0.1.0.1.1.0, tt));
+    unmentioned = (tt, (unmentioned x k e init f, tt));
+    symbols = λ y. let s = ap (times y) (three (declared_in Read init)) in omega (arith, s);
+    numbered = λ n. let s = ap (count_of n) (three (numbers init)) in omega (arith, s);
+    once = λ o. append-nil (early_names (0 ∷ []) init) ∙ once_anywhere (0 ∷ 0 ∷ 1 ∷ []) (0 ∷ []) init (sym (three (early_names (0 ∷ 0 ∷ 1 ∷ []) init) ∙ append-nil (early_names (0 ∷ 0 ∷ 1 ∷ []) init)) ∙ o);
+    targets = λ g o. append-nil (early_jumps g (0 ∷ []) init) ∙ targets_anywhere g (0 ∷ 0 ∷ 1 ∷ []) (0 ∷ []) init (sym (three (early_jumps g (0 ∷ 0 ∷ 1 ∷ []) init) ∙ append-nil (early_jumps g (0 ∷ 0 ∷ 1 ∷ []) init)) ∙ o);
+    framed = sym (three (frames None init));
+    bodied = λ a. sym (three (bodies (quiet a) init));
+    fixed = λ y. of_children shape.ExpressionStatement [] 0 (init ▸ none) y refl ∙ alone_stricter (fixed_by init y) ∙ sym (let_fixed y);
+    declares = λ y c. subst (λ ys. Contains (x ∷ ys) y) (sym (three (names_declared init))) (Contains-append_right (x ∷ []) (names_declared init ++ []) y c);
+  }
+
+pub bare_leaves : (x : Name) → Leaves x (let_one x absent) empty_statement
+unfolding names_of has_inner Scoped declared_in scopes_by numbers early_names scope_declarations early_jumps targets_of Unmentioned
+bare_leaves x = record {
+  names = refl;
+  no_names = refl;
+  hoists = refl;
+  as_one = refl;
+  as_none = refl;
+  inner = refl;
+  scoped = λ env s. (tt, tt);
+  unmentioned = (tt, tt);
+  symbols = λ y. omega arith;
+  numbered = λ n. omega arith;
+  once = λ o. refl;
+  targets = λ g o. refl;
+  framed = refl;
+  bodied = λ a. refl;
+  fixed = λ y. sym (let_fixed x absent y);
+  declares = λ y c. none_there y c;
+}
+  where
+    none_there : (y : Name) → Contains [] y → Contains (x ∷ []) y
+    none_there y (i, below, at) = absurd (omega (arith, below))

@@ -1,0 +1,262 @@
+-- What the rows of names that nothing mentions write is loosely lawful.
+use Rattle.std.specs.Prelude.{ℕ, ◌≡◌, ◌⊎◌, refl, Bool, true, false, ◌&&◌, List, [], ◌++◌, Contains, Option, None}
+use Rattle.std.proofs.Common.{ap, ◌∙◌, sym, subst, inl, inr, true≢false}
+use Rattle.std.proofs.lemmas.Bool.{and_parts}
+use Rattle.std.proofs.lemmas.List.{append-nil}
+use Rattle.mini_model.specs.declared.kind.VariableDeclarationKind.TheVariants.{Let}
+use Rattle.mini_model.specs.declared.name.Name.{Name}
+use Rattle.mini_model.specs.declared.place.Position.{Position}
+use Rattle.mini_model.specs.declared.place.Position.TheVariants.{Stmt}
+use Rattle.mini_model.specs.declared.seat.StmtSeat.{StmtSeat}
+use Rattle.mini_model.specs.declared.shape.Shape.TheVariants as shape
+use Rattle.mini_model.specs.Tree.{Tree, Trees, node, none, ◌▸◌, absent, listed, shape_of, empty_statement, expression_statement}
+use Rattle.mini_model.specs.Paths.{append}
+use Rattle.mini_accept.specs.WellShaped as well
+use Rattle.mini_accept.specs.WellShaped.{Depth, in_module, in_body, nested, Class, a_statement, a_block, a_key, a_private_or_key, an_inner_key, a_declarator, a_pattern, an_expression, a_default_export, Slot, one, one_or_absent, many, many_or_holes, many_and_rest, many_or_holes_and_rest, quasis, each, filling, fits, fill}
+use Rattle.mini_names.specs.declared.Binding.{Binding}
+use Rattle.mini_names.specs.declared.Declared.TheVariants.{Lexical}
+use Rattle.mini_names.specs.Scoped.{Unmentioned, AllUnmentioned}
+use Rattle.mini_laws.specs.Value.{Variable, Declared, nothing}
+use Rattle.mini_laws.specs.State.{Environment, Writable}
+use Rattle.mini_laws.specs.Demand.{Tail, Demand, Stat}
+use Rattle.mini_laws.specs.Fits.{Fits}
+use Rattle.mini_laws.specs.Same.{Same}
+use Rattle.mini_laws.specs.Substitution.{alone}
+use Rattle.mini_laws.specs.Naming.{summary}
+use Rattle.mini_laws.specs.Fixity.{fixed_by, stricter}
+use Rattle.mini_laws.specs.Bodies.{Around, bodies, arrow_kind}
+use Rattle.mini_kept.specs.AlikeBodies.{BodiesKept}
+use Rattle.mini_kept.specs.Declaring.{declared}
+use Rattle.mini_kept.specs.Frames.{is_port, is_declaration, frames, FramesKept}
+use Rattle.mini_kept.specs.KeepsFrames.{is_in_body, is_body_slot, IsShownAlike}
+use Rattle.mini_kept.specs.KeepsLoosely.{KeepsLoosely}
+use Rattle.mini_kept.specs.KeepsNames.{is_rewritten_place}
+use Rattle.mini_kept.specs.KeepsShapes.{AskedAlike}
+use Rattle.mini_kept.specs.Lifted.{is_piece, KeepsRoot}
+use Rattle.mini_kept.specs.Loosely.{Stays, Drops, LawfulLoosely}
+use Rattle.mini_kept.specs.Placed.{fits_place, is_statement_list}
+use Rattle.mini_kept.specs.Without.{Unseen}
+use Rattle.mini_kept.proofs.Bools.{left, both}
+use Rattle.mini_kept.proofs.Expressions.{refused_here}
+use Rattle.mini_kept.proofs.Fixed.{of_children}
+use Rattle.mini_kept.proofs.InOrder.{in_order}
+use Rattle.mini_kept.proofs.WithoutLists.{from_kept}
+use Rattle.mini_rows.specs.Lists.{block, declares_nothing}
+use Rattle.mini_rows.specs.Declarations.{binding, declarator}
+use Rattle.mini_rows.specs.Unused.{resolved, let_one, Alone, UnusedRow, UnusedContracts}
+use Rattle.mini_rows.proofs.ArrangedBodies.{quiet}
+use Rattle.mini_rows.proofs.ListShapes.{declaration_anywhere, append_fits, both_fit, first_fits, more_fit}
+use Rattle.mini_rows.proofs.UnusedKept.{Leaves, list_fixed, list_frames, list_bodies, list_declares, block_kept, block_less, block_keeps, value_leaves, bare_leaves}
+use Rattle.mini_rows.proofs.UnusedMeaning.{row_72, row_72_bare}
+use Rattle.mini_rows.proofs.UnusedNames.{all_unmentioned, all_other}
+
+-- ---- where a block may stand
+
+module _ (first_list second_list : Trees) (h : (strict : Bool) → fill strict (each (one (a_statement nested))) first_list ≡ true → fill strict (each (one (a_statement nested))) second_list ≡ true) where
+  abbrev Kept : Bool → Class → Type 0
+  Kept strict c = fits strict (one c) (block first_list) ≡ true → (fits strict (one c) (block second_list) ≡ true) × (is_in_body c ≡ true)
+
+  abbrev Statements : Bool → Trees → Bool
+  Statements strict ts = fill strict (each (one (a_statement nested))) ts
+
+  over : (strict : Bool) → (Statements strict first_list && true) ≡ true → (Statements strict second_list && true) ≡ true
+  over strict e = both (Statements strict second_list) true (h strict (left (Statements strict first_list) true e)) refl
+
+  refused : (strict : Bool) (c : Class) → filling strict (one c) shape.BlockStatement ≡ well.refused → Kept strict c
+  refused strict c f e = absurd (refused_here strict (one c) shape.BlockStatement [] 0 (listed first_list ▸ none) f e)
+
+  in_class : (strict : Bool) (c : Class) → Kept strict c
+  in_class true (a_statement in_module) e = (over true e, refl)
+  in_class true (a_statement in_body) e = (over true e, refl)
+  in_class true (a_statement nested) e = (over true e, refl)
+  in_class false (a_statement in_module) e = (over false e, refl)
+  in_class false (a_statement in_body) e = (over false e, refl)
+  in_class false (a_statement nested) e = (over false e, refl)
+  in_class strict a_block e = (over strict e, refl)
+  in_class strict (a_key true) e = refused strict (a_key true) refl e
+  in_class strict (a_private_or_key true) e = refused strict (a_private_or_key true) refl e
+  in_class strict (an_inner_key true) e = refused strict (an_inner_key true) refl e
+  in_class strict c e = refused strict c refl e
+
+  in_slot : (strict : Bool) (p : Position) (s : Slot) → fits strict s (block first_list) ≡ true → (fits strict s (block second_list) ≡ true) × (is_body_slot p s ≡ true)
+  in_slot strict p (one c) e = in_class strict c e
+  in_slot strict p (one_or_absent c) e = in_class strict c e
+  in_slot strict p (many c) e = absurd (refused_here strict (many c) shape.BlockStatement [] 0 (listed first_list ▸ none) refl e)
+  in_slot strict p (many_or_holes c) e = absurd (refused_here strict (many_or_holes c) shape.BlockStatement [] 0 (listed first_list ▸ none) refl e)
+  in_slot strict p (many_and_rest c d) e = absurd (refused_here strict (many_and_rest c d) shape.BlockStatement [] 0 (listed first_list ▸ none) refl e)
+  in_slot strict p (many_or_holes_and_rest c d) e = absurd (refused_here strict (many_or_holes_and_rest c d) shape.BlockStatement [] 0 (listed first_list ▸ none) refl e)
+  in_slot strict p (quasis g) e = absurd (refused_here strict (quasis g) shape.BlockStatement [] 0 (listed first_list ▸ none) refl e)
+
+-- ---- what is written fits
+
+abbrev item : Slot
+item = one (a_statement nested)
+
+one_item : (strict : Bool) (before after : Trees) (d w : Tree) → (fits strict item d ≡ true → fits strict item w ≡ true) → fill strict (each item) (append before (d ▸ after)) ≡ true → fill strict (each item) (append before (w ▸ after)) ≡ true
+one_item strict before after d w h e =
+    let (x, y) = both_fit strict item before (d ▸ after) e in
+    let (z, v) = first_fits strict item d after y in
+    append_fits strict item before (w ▸ after) x (more_fit strict item w after (h z) v)
+
+there : (strict : Bool) (t : Tree) → declares_nothing t ≡ true → fits strict (one_or_absent an_expression) t ≡ true → fits strict (one an_expression) t ≡ true
+there strict (node shape.Absent xs n ts) d e = absurd (true≢false (sym d))
+there strict (node h xs n ts) d e = e
+
+an_expression_fits : (strict : Bool) (t : Tree) → fits strict (one an_expression) t ≡ true → fits strict item (expression_statement t) ≡ true
+an_expression_fits true t e = both (fits true (one an_expression) t) true e refl
+an_expression_fits false t e = both (fits false (one an_expression) t) true e refl
+
+empty_fits : (strict : Bool) → fits strict item empty_statement ≡ true
+empty_fits true = refl
+empty_fits false = refl
+
+value_fits : (strict : Bool) (x : Name) (init : Tree) → declares_nothing init ≡ true → fits strict item (let_one x init) ≡ true → fits strict item (expression_statement init) ≡ true
+value_fits strict x init d e =
+    let ds : Trees = declarator (binding x) init ▸ none in
+    let all : (fill strict (each (one a_declarator)) ds && true) ≡ true = sym (declaration_anywhere strict nested Let ds) ∙ e in
+    let (one_fits, rest) = first_fits strict (one a_declarator) (declarator (binding x) init) none (left (fill strict (each (one a_declarator)) ds) true all) in
+    let (id, value) = and_parts (fits strict (one a_pattern) (binding x)) (fits strict (one_or_absent an_expression) init && true) one_fits in
+    an_expression_fits strict init (there strict init d (left (fits strict (one_or_absent an_expression) init) true value))
+
+-- ---- a name that is dropped
+
+all_join : (b : Binding) (ts us : Trees) → AllUnmentioned b ts → AllUnmentioned b us → AllUnmentioned b (append ts us)
+unfolding Unmentioned
+all_join b none us p q = q
+all_join b (t ▸ ts) us p q = (p.0, all_join b ts us p.1 q)
+
+gone : (b : Binding) (ts us : Trees) (w : Tree) → AllUnmentioned b ts → Unmentioned b w → AllUnmentioned b us → Unmentioned b (listed (append ts (w ▸ us)))
+unfolding Unmentioned
+gone b ts us w p q r = (tt, all_join b ts (w ▸ us) p (q, r))
+
+record Dropped (q : StmtSeat) (k : ℕ) (n w : Tree) : Type 0 where
+  keeps : KeepsLoosely (Stmt q) n w
+  drops : Drops k (Stmt q) n w
+  frames_kept : FramesKept (frames None n) (frames None w)
+  fixed_same : (x : Variable) → fixed_by n x ≡ fixed_by w x
+  declared_there : (x : Name) → Contains (declared w) x → Contains (declared n) x
+
+module _ (q : StmtSeat) (s : List ℕ) (k : ℕ) (init : Tree) (before after : Trees) (w : Tree) (l : Leaves (resolved s k) (let_one (resolved s k) init) w) (u : Alone (resolved s k) before init after) where
+  abbrev x : Name
+  x = resolved s k
+
+  abbrev first_list : Trees
+  first_list = append before (let_one x init ▸ after)
+
+  abbrev second_list : Trees
+  second_list = append before (w ▸ after)
+
+  block_bodies : (a : Around) → BodiesKept (bodies a (block first_list)) (bodies a (block second_list))
+  block_bodies a =
+      subst (λ cs. BodiesKept cs (bodies (quiet a) (listed second_list) ++ [])) (sym (append-nil (bodies (quiet a) (listed first_list))))
+      (subst (BodiesKept (bodies (quiet a) (listed first_list))) (sym (append-nil (bodies (quiet a) (listed second_list)))) (list_bodies x before after (let_one x init) w l a))
+
+  block_frames : FramesKept (frames None (block first_list)) (frames None (block second_list))
+  block_frames =
+      subst (λ fs. FramesKept fs (frames None (listed second_list) ++ [])) (sym (append-nil (frames None (listed first_list))))
+      (subst (FramesKept (frames None (listed first_list))) (sym (append-nil (frames None (listed second_list)))) (list_frames x before after (let_one x init) w l))
+
+  block_fixed : (y : Variable) → fixed_by (block first_list) y ≡ fixed_by (block second_list) y
+  block_fixed y = of_children shape.BlockStatement [] 0 (listed first_list ▸ none) y refl ∙ ap (λ f. stricter f Writable) (list_fixed x before after (let_one x init) w l y) ∙ sym (of_children shape.BlockStatement [] 0 (listed second_list ▸ none) y refl)
+
+  block_declares : (y : Name) → Contains (declared (block second_list)) y → Contains (declared (block first_list)) y
+  block_declares y c = subst (λ ys. Contains ys y) (sym (append-nil (declared (listed first_list)))) (list_declares x before after (let_one x init) w l y (subst (λ ys. Contains ys y) (append-nil (declared (listed second_list))) c))
+
+  dropped : ((e : Environment) → Unseen (alone (Declared k)) e → (d : Demand) → Fits (Stmt q) d → Same e (alone (Declared k)) nothing d (block first_list) (block second_list)) → Dropped q k (block first_list) (block second_list)
+  dropped same =
+      let o = all_other x Lexical before u.earlier in
+      let p = all_other x Lexical after u.later in
+      let m = gone (record { name = x; hoists = false }) before after w (all_unmentioned x k refl before u.earlier) l.unmentioned (all_unmentioned x k refl after u.later) in
+      record {
+        keeps = in_order (Stmt q) (block first_list) (block second_list) (block_keeps x before after (let_one x init) w l o p m q);
+        drops = record {
+          kept = block_kept x before after (let_one x init) w l o p;
+          less = block_less x before after (let_one x init) w l o p k refl;
+          same = same;
+          bodies = λ strict c g f a z. from_kept (alone (Declared k)) (bodies a (block first_list)) (bodies a (block second_list)) (block_bodies a);
+        };
+        frames_kept = block_frames;
+        fixed_same = block_fixed;
+        declared_there = block_declares;
+      }
+
+-- ---- the rows
+
+in_tails : (e : Environment) (q : StmtSeat) (D : Variable → Bool) (n w : Tree) → ((t : Option Tail) → Same e D nothing (Stat t) n w) → (d : Demand) → Fits (Stmt q) d → Same e D nothing d n w
+in_tails e q D n w h (Stat t) f = h t
+in_tails e q D n w h d f = elim f [ ]
+
+moved : (q : StmtSeat) (k : ℕ) (n w n' w' : Tree) → n ≡ n' → w ≡ w' → Dropped q k n' w' → Dropped q k n w
+moved q k n w n' w' e f d = subst (λ t. Dropped q k t w) (sym e) (subst (Dropped q k n') (sym f) d)
+
+row_dropped : (q : StmtSeat) (n w : Tree) → UnusedRow (Stmt q) n w → (k : ℕ) × Dropped q k n w
+row_dropped q n w (inl r) =
+    let x = resolved r.spelling r.symbol in (
+      r.symbol,
+      moved q r.symbol n w _ _ r.shape r.written (dropped q r.spelling r.symbol r.init r.before r.after (expression_statement r.init) (value_leaves x r.init r.symbol refl r.unused.initial) r.unused
+          (λ e z. in_tails e q (alone (Declared r.symbol)) _ _ (row_72 e r.symbol z _ _ (record { before = r.before; spelling = r.spelling; symbol = r.symbol; init = r.init; after = r.after; present = r.present; unused = r.unused; shape = refl; written = refl }) refl))),
+    )
+row_dropped q n w (inr r) =
+    let x = resolved r.spelling r.symbol in (
+      r.symbol,
+      moved q r.symbol n w _ _ r.shape r.written (dropped q r.spelling r.symbol absent r.before r.after empty_statement (bare_leaves x) r.unused
+          (λ e z. in_tails e q (alone (Declared r.symbol)) _ _ (row_72_bare e r.symbol z _ _ (record { before = r.before; spelling = r.spelling; symbol = r.symbol; after = r.after; unused = r.unused; shape = refl; written = refl }) refl))),
+    )
+
+record Blocks (n w : Tree) : Type 0 where
+  first : Trees
+  second : Trees
+  before : n ≡ block first
+  after : w ≡ block second
+  fitting : (strict : Bool) → fill strict (each item) first ≡ true → fill strict (each item) second ≡ true
+
+row_blocks : (q : StmtSeat) (n w : Tree) → UnusedRow (Stmt q) n w → Blocks n w
+row_blocks q n w (inl r) =
+    let d = let_one (resolved r.spelling r.symbol) r.init in
+    record { first = append r.before (d ▸ r.after); second = append r.before (expression_statement r.init ▸ r.after); before = r.shape; after = r.written; fitting = λ strict. one_item strict r.before r.after d (expression_statement r.init) (value_fits strict (resolved r.spelling r.symbol) r.init r.present) }
+row_blocks q n w (inr r) =
+    let d = let_one (resolved r.spelling r.symbol) absent in
+    record { first = append r.before (d ▸ r.after); second = append r.before (empty_statement ▸ r.after); before = r.shape; after = r.written; fitting = λ strict. one_item strict r.before r.after d empty_statement (λ e. empty_fits strict) }
+
+-- of two blocks, whatever is told by their shape
+shaped : (n w : Tree) (P : Tree → Tree → Type 0) → ((first_list second_list : Trees) → P (block first_list) (block second_list)) → Blocks n w → P n w
+shaped n w P f b = subst (λ t. P t w) (sym b.before) (subst (P (block b.first)) (sym b.after) (f b.first b.second))
+
+blocks_asked : (p : Position) (first_list second_list : Trees) → AskedAlike p (block first_list) (block second_list)
+blocks_asked p first_list second_list = record { absent = λ g. absurd (true≢false (sym g)); body = λ g. absurd (true≢false (sym g)); optional = λ g. absurd (true≢false (sym g)); number = λ g h. refl; spelled = λ r g. absurd (cc g); plain = refl }
+
+in_place : (q : StmtSeat) (n w : Tree) → UnusedRow (Stmt q) n w → (strict : Bool) (s : Slot) → fits strict s n ≡ true → (fits strict s w ≡ true) × (is_body_slot (Stmt q) s ≡ true)
+in_place q n w r strict s e =
+    let b = row_blocks q n w r in
+    let (f, g) = in_slot b.first b.second b.fitting strict (Stmt q) s (sym (ap (fits strict s) b.before) ∙ e) in
+    (ap (fits strict s) b.after ∙ f, g)
+
+-- whichever place it is
+at_statement : (P : Position → Tree → Tree → Type 0) → ((q : StmtSeat) (n w : Tree) → UnusedRow (Stmt q) n w → P (Stmt q) n w) → (p : Position) (n w : Tree) → UnusedContracts p n w → P p n w
+at_statement P f (Stmt q) n w c = f q n w c.row
+at_statement P f p n w c = absurd c.row
+
+pub unused_loose : LawfulLoosely UnusedContracts
+unused_loose = record {
+  shapes = record {
+    fitting = at_statement (λ p n w. (strict : Bool) (s : Slot) → fits_place p s ≡ true → fits strict s n ≡ true → fits strict s w ≡ true) (λ q n w r strict s o e. (in_place q n w r strict s e).0);
+    asked = at_statement AskedAlike (λ q n w r. shaped n w (AskedAlike (Stmt q)) (blocks_asked (Stmt q)) (row_blocks q n w r));
+  };
+  frames = record {
+    names = record {
+      places = at_statement (λ p n w. (is_rewritten_place p ≡ true) ⊎ KeepsRoot p n w) (λ q n w r. inl refl);
+      pieces = at_statement (λ p n w. is_piece (shape_of n) ≡ false) (λ q n w r. ap (λ t. is_piece (shape_of t)) (row_blocks q n w r).before);
+      keeps = at_statement (λ p n w. (strict : Bool) (s : Slot) → fits_place p s ≡ true → fits strict s n ≡ true → KeepsLoosely p n w) (λ q n w r strict s o e. (row_dropped q n w r).1.keeps);
+    };
+    slots = at_statement (λ p n w. (strict : Bool) (s : Slot) → fits_place p s ≡ true → fits strict s n ≡ true → (is_body_slot p s ≡ true) ⊎ IsShownAlike s n w) (λ q n w r strict s o e. inl (in_place q n w r strict s e).1);
+    ports = at_statement (λ p n w. (strict : Bool) (d : Depth) → fits strict (one (a_statement d)) n ≡ true → (m : Bool) → (is_port m (shape_of n) ≡ false) × (is_port m (shape_of w) ≡ false)) (λ q n w r strict d e m. shaped n w (λ t v. (is_port m (shape_of t) ≡ false) × (is_port m (shape_of v) ≡ false)) (λ first_list second_list. (refl, refl)) (row_blocks q n w r));
+    listed = λ p n w e c. absurd (at_statement (λ p n w. is_statement_list p ≡ true → ⊥) (λ q n w r e. cc e) p n w c e);
+    exported = at_statement (λ p n w. (strict : Bool) → fits strict (one a_default_export) n ≡ true → (is_declaration (shape_of n) ≡ false) × (is_declaration (shape_of w) ≡ false)) (λ q n w r strict e. shaped n w (λ t v. (is_declaration (shape_of t) ≡ false) × (is_declaration (shape_of v) ≡ false)) (λ first_list second_list. (refl, refl)) (row_blocks q n w r));
+    frames = at_statement (λ p n w. (strict : Bool) (s : Slot) → fits_place p s ≡ true → fits strict s n ≡ true → FramesKept (frames None n) (frames None w)) (λ q n w r strict s o e. (row_dropped q n w r).1.frames_kept);
+  };
+  reads = at_statement (λ p n w. summary n ≡ summary w) (λ q n w r. shaped n w (λ t v. summary t ≡ summary v) (λ first_list second_list. refl) (row_blocks q n w r));
+  kind = at_statement (λ p n w. (strict : Bool) (s : Slot) → fits strict s n ≡ true → arrow_kind (shape_of n) ≡ arrow_kind (shape_of w)) (λ q n w r strict s e. shaped n w (λ t v. arrow_kind (shape_of t) ≡ arrow_kind (shape_of v)) (λ first_list second_list. refl) (row_blocks q n w r));
+  fixed = at_statement (λ p n w. (y : Variable) → fixed_by n y ≡ fixed_by w y) (λ q n w r. (row_dropped q n w r).1.fixed_same);
+  declared = at_statement (λ p n w. (y : Name) → Contains (declared w) y → Contains (declared n) y) (λ q n w r. (row_dropped q n w r).1.declared_there);
+  instances = at_statement (λ p n w. Stays p n w ⊎ ((k : ℕ) × Drops k p n w)) (λ q n w r. let d = row_dropped q n w r in inr (d.0, d.1.drops));
+}

@@ -1,0 +1,229 @@
+-- A block without a name that nothing mentions means the same, but for what that variable holds afterwards.
+use Rattle.std.specs.Prelude.{Bool, Option}
+use Rattle.std.proofs.lemmas.Bool.{eq-eqb}
+use Rattle.std.proofs.Common.{◌≡◌, ℕ, true, false, List, [], ◌∷◌, ◌++◌, None, Some, refl, sym, ap, ◌∙◌, subst, subst₂, true≢false}
+use Rattle.mini_model.specs.declared.kind.VariableDeclarationKind.TheVariants.{Let}
+use Rattle.mini_model.specs.declared.name.Name.{Name}
+use Rattle.mini_model.specs.declared.operator.UnaryOperator.TheVariants.{LogicalNot}
+use Rattle.mini_model.specs.declared.shape.Shape.TheVariants as shape
+use Rattle.mini_model.specs.Tree.{Tree, Trees, node, none, ◌▸◌, absent, listed, empty_statement, expression_statement}
+use Rattle.mini_model.specs.Paths.{append}
+use Rattle.mini_laws.specs.Value.{Value, Undefined, Variable, Declared, VariableSet, Holds, choose, variable_eq, is_in, nothing}
+use Rattle.mini_laws.specs.State.{State, Completion, ok, stop, halt, out, either, Environment, with_vars}
+use Rattle.mini_laws.specs.Demand.{Val, Unused, Tail, As, Stat, Declares, Binds}
+use Rattle.mini_laws.specs.Command.{set_var, run, note, act, at_variable}
+use Rattle.mini_laws.specs.State.{FreshOf}
+use Rattle.mini_laws.specs.Naming.{summary, summaries, facts_all, lets_all, functions_all, function_facts, texts_all, naming}
+use Rattle.mini_laws.specs.Asking.{first_demand}
+use Rattle.mini_laws.specs.Declarations.{declares_by}
+use Rattle.mini_laws.specs.Skeleton.{hidden_all}
+use Rattle.mini_laws.specs.Path.{here, inside}
+use Rattle.mini_laws.specs.Same.{Goes, Agree, Same}
+use Rattle.mini_laws.specs.Step.{step, means, meaning}
+use Rattle.mini_laws.specs.Stretches as first
+use Rattle.mini_laws.specs.Substitution.{alone}
+use Rattle.mini_laws.specs.Truth.{told}
+use Rattle.mini_laws.specs.Congruence.{Avoids, AllAvoid, ReadAlike, only}
+use Rattle.mini_laws.proofs.Anywhere.{stretch_anywhere}
+use Rattle.mini_laws.proofs.Congruent.{congruent_same, weaker, no_within, no_off}
+use Rattle.mini_laws.proofs.Runs.{either_cong, either_eta}
+use Rattle.mini_laws.proofs.Simulation.{within_refl}
+use Rattle.mini_laws.proofs.Truth.{coherent}
+use Rattle.mini_kept.specs.Without.{Unseen}
+use Rattle.mini_rows.specs.Lists.{block, declares_nothing}
+use Rattle.mini_rows.specs.Declarations.{binding, declarator}
+use Rattle.mini_rows.specs.Unused.{resolved, let_one, Row72, Row72Bare}
+use Rattle.mini_rows.proofs.UnusedNames.{avoided, all_avoided}
+use Rattle.mini_rows.proofs.ListStretches.{lets_append, functions_append, facts_append, texts_append, exec_one, listed_is}
+use Rattle.mini_rows.proofs.ListStatements.{declaration_is, declare_more, declare_none, expression_is, empty_is}
+
+same_append : (a b : Trees) → first.append a b ≡ append a b
+same_append none b = refl
+same_append (t ▸ a) b = ap (λ ts. t ▸ ts) (same_append a b)
+
+all_join : (D : VariableSet) (a b : Trees) → AllAvoid D a → AllAvoid D b → AllAvoid D (append a b)
+all_join D none b p q = q
+all_join D (t ▸ a) b p q = (p.0, all_join D a b p.1 q)
+
+module _ (e : Environment) (spelling : List ℕ) (k : ℕ) (z : Unseen (alone (Declared k)) e) where
+  abbrev D : VariableSet
+  D = alone (Declared k)
+
+  abbrev x : Name
+  x = resolved spelling k
+
+  own : D (Declared k) ≡ true
+  own = eq-eqb k k refl
+
+  unshared : e.shared (Declared k) ≡ false
+  unshared = z.shared (Declared k) own
+
+  -- ---- the declaration
+
+  abbrev after : Value → State → State
+  after v s = with_vars s (set_var s.vars (Declared k) (Holds v))
+
+  binds : (v : Value) (s : State) → means e (binding x) (Binds true) v s ≡ ok tt (after v s)
+  unfolding means meaning step either act at_variable
+  binds v s = ap (λ b. let t = choose b (note e FreshOf None [] (Some (Declared k)) s) s in ok tt (with_vars t (set_var t.vars (Declared k) (Holds v)))) unshared
+
+  initialised : (v : Tree) → (summary v).facts.absent ≡ false → (s : State) → means e (declarator (binding x) v) (Declares true) tt s ≡ either (means e v (As Val) tt s) (λ a z. means e (binding x) (Binds true) a z) (λ x z. stop x z)
+  unfolding means meaning step
+  initialised v h s =
+      ap (λ b. run {q = first_demand (Binds true) (As Val)} e (naming shape.VariableDeclarator (Declares true) [] 0 (summaries (binding x ▸ (v ▸ none)))) (λ i r z. meaning e (binding x ▸ (v ▸ none)) i (first_demand (Binds true) (As Val) i) r z) (declares_by true b) s) h
+      ∙ either_cong (means e v (As Val) tt s) _ _ _ _ (λ a z. either_eta (means e (binding x) (Binds true) a z)) (λ x z. refl)
+
+  bare : (s : State) → means e (declarator (binding x) absent) (Declares true) tt s ≡ means e (binding x) (Binds true) Undefined s
+  unfolding means meaning step
+  bare s = either_eta (means e (binding x) (Binds true) Undefined s)
+
+  let_is : (init : Tree) (s : State) → means e (let_one x init) (Stat None) [] s ≡ means e (declarator (binding x) init) (Declares true) tt s
+  let_is init s = declaration_is e Let (declarator (binding x) init ▸ none) [] s ∙ declare_more e (declarator (binding x) init) none true s ∙ either_cong (means e (declarator (binding x) init) (Declares true) tt s) _ _ _ _ (λ u y. declare_none e true y) (λ y r. refl) ∙ either_eta (means e (declarator (binding x) init) (Declares true) tt s)
+
+  agrees : (v : Value) (s : State) → Agree D (after v s) s
+  agrees v s = record { vars = λ y d. ap (λ c. choose c (Holds v) (s.vars y)) d; self = refl; answers = refl; turns = refl; events = refl }
+
+  itself : (s : State) → Agree D s s
+  itself s = record { vars = λ y d. refl; self = refl; answers = refl; turns = refl; events = refl }
+
+  abbrev Go : Completion (Unit {0}) → Completion (Unit {0}) → Type 0
+  Go a b = Goes true (λ u. Agree D) (Agree D) (Agree D) a b
+
+  goes : (c : Completion Value) → Go (either c (λ v s. ok tt (after v s)) (λ y s. stop y s)) (told Unused c)
+  unfolding Goes either told
+  goes (ok v s) = (refl, agrees v s)
+  goes (stop y s) = (refl, itself s)
+  goes (halt y s) = (refl, itself s)
+  goes out = tt
+
+  let_goes : (init : Tree) → (summary init).facts.absent ≡ false → (s : State) → Go (means e (let_one x init) (Stat None) [] s) (means e (expression_statement init) (Stat None) [] s)
+  let_goes init h s =
+      subst₂ Go
+      (sym (let_is init s ∙ initialised init h s ∙ either_cong (means e init (As Val) tt s) _ _ _ _ (λ v z. binds v z) (λ y z. refl)))
+      (sym (expression_is e init [] s ∙ coherent init Unused e s))
+      (goes (means e init (As Val) tt s))
+
+  bare_goes : (s : State) → Go (means e (let_one x absent) (Stat None) [] s) (means e empty_statement (Stat None) [] s)
+  unfolding Goes
+  bare_goes s = subst₂ Go (sym (let_is absent s ∙ bare s ∙ binds Undefined s)) (sym (empty_is e [] s)) (refl, agrees Undefined s)
+
+  one_same : (d w : Tree) → ((s : State) → Go (means e d (Stat None) [] s) (means e w (Stat None) [] s)) → Same e D nothing (Stat None) (listed (d ▸ none)) (listed (w ▸ none))
+  one_same d w g = record { by = λ r s i. subst₂ Go (sym (listed_is e (d ▸ none) r s ∙ exec_one e d s)) (sym (listed_is e (w ▸ none) r s ∙ exec_one e w s)) (g s) }
+
+  -- ---- the list, and the block
+
+  module _ (before after d w : Trees) (avoids : AllAvoid D after) (same : Same e D nothing (Stat None) (listed d) (listed w)) where
+    abbrev A : Trees
+    A = append before (append d after)
+
+    abbrev B : Trees
+    B = append before (append w after)
+
+    joined : (ts : Trees) → first.append before (first.append ts after) ≡ append before (append ts after)
+    joined ts = same_append before (first.append ts after) ∙ ap (append before) (same_append ts after)
+
+    list_same : (t : Option Tail) → Same e D nothing (Stat t) (listed A) (listed B)
+    list_same t = subst₂ (λ first_list second_list. Same e D nothing (Stat t) (listed first_list) (listed second_list)) (joined d) (joined w) (stretch_anywhere e D z.shared before d w after t nothing nothing avoids (no_off (hidden_all before)) (no_within _) same)
+
+  only_both : (xs ys : List Variable) → only e.shared (xs ++ ys) ≡ only e.shared xs ++ only e.shared ys
+  only_both [] ys = refl
+  only_both (y ∷ xs) ys = by (e.shared y) (only_both xs ys)
+    where
+      by : (b : Bool) → only e.shared (xs ++ ys) ≡ only e.shared xs ++ only e.shared ys → choose b (y ∷ only e.shared (xs ++ ys)) (only e.shared (xs ++ ys)) ≡ choose b (y ∷ only e.shared xs) (only e.shared xs) ++ only e.shared ys
+      by true rest = ap (λ l. y ∷ l) rest
+      by false rest = rest
+
+  is_in_both : (y : Variable) (xs ys : List Variable) → is_in y (xs ++ ys) ≡ choose (is_in y xs) true (is_in y ys)
+  is_in_both y [] ys = refl
+  is_in_both y (v ∷ xs) ys = ap (choose (variable_eq v y) true) (is_in_both y xs ys) ∙ by (variable_eq v y) (is_in y xs) (is_in y ys)
+    where
+      by : (a b c : Bool) → choose a true (choose b true c) ≡ choose (choose a true b) true c
+      by true b c = refl
+      by false b c = refl
+
+  -- of a list that declares it and one that doesn't
+  lets_alike : (before after : Trees) (d w : Tree) → (summary d).lets ≡ Declared k ∷ [] → (summary w).lets ≡ [] → (y : Variable) → D y ≡ false → is_in y (lets_all (summaries (append before (d ▸ after)))) ≡ is_in y (lets_all (summaries (append before (w ▸ after))))
+  lets_alike before after d w f g y h =
+      let rest = lets_all (summaries after) in
+      let first_lets = lets_all (summaries before) in
+      ap (is_in y) (lets_append before (d ▸ after) ∙ ap (λ l. first_lets ++ (l ++ rest)) f)
+      ∙ is_in_both y first_lets (Declared k ∷ rest)
+      ∙ ap (λ c. choose (is_in y first_lets) true (choose c true (is_in y rest))) h
+      ∙ sym (is_in_both y first_lets rest)
+      ∙ sym (ap (is_in y) (lets_append before (w ▸ after) ∙ ap (λ l. first_lets ++ (l ++ rest)) g))
+
+  shared_alike : (before after : Trees) (d w : Tree) → (summary d).lets ≡ Declared k ∷ [] → (summary w).lets ≡ [] → only e.shared (lets_all (summaries (append before (d ▸ after)))) ≡ only e.shared (lets_all (summaries (append before (w ▸ after))))
+  shared_alike before after d w f g =
+      let rest = lets_all (summaries after) in
+      let first_lets = lets_all (summaries before) in
+      ap (only e.shared) (lets_append before (d ▸ after) ∙ ap (λ l. first_lets ++ (l ++ rest)) f)
+      ∙ only_both first_lets (Declared k ∷ rest)
+      ∙ ap (λ c. only e.shared first_lets ++ choose c (Declared k ∷ only e.shared rest) (only e.shared rest)) unshared
+      ∙ sym (only_both first_lets rest)
+      ∙ sym (ap (only e.shared) (lets_append before (w ▸ after) ∙ ap (λ l. first_lets ++ (l ++ rest)) g))
+
+-- what is read of a declaration, and of what is written for it
+pub record ReadAs (k : ℕ) (d w : Tree) : Type 0 where
+  pub lets : (summary d).lets ≡ Declared k ∷ []
+  pub none_left : (summary w).lets ≡ []
+  pub functions : (summary d).functions ≡ (summary w).functions
+  pub facts : (summary d).facts.functions ≡ (summary w).facts.functions
+  pub texts : (summary d).facts.texts ≡ (summary w).facts.texts
+
+module _ (e : Environment) (spelling : List ℕ) (k : ℕ) (z : Unseen (alone (Declared k)) e) (before after : Trees) (d w : Tree) (r : ReadAs k d w) where
+  list_read : ReadAlike (alone (Declared k)) e (summary (listed (append before (d ▸ after)))) (summary (listed (append before (w ▸ after))))
+  list_read = record {
+    facts = λ j. record {
+      absent = false;
+      shortens = false;
+      declared = None;
+      functions = (facts_append before (d ▸ after) ∙ ap (λ l. function_facts (facts_all (summaries before)) ++ (l ++ function_facts (facts_all (summaries after)))) r.facts ∙ sym (facts_append before (w ▸ after))) j;
+      texts = (texts_append before (d ▸ after) ∙ ap (λ l. texts_all (facts_all (summaries before)) ++ (l ++ texts_all (facts_all (summaries after)))) r.texts ∙ sym (texts_append before (w ▸ after))) j;
+    };
+    lets = lets_alike e spelling k z before after d w r.lets r.none_left;
+    shared_lets = shared_alike e spelling k z before after d w r.lets r.none_left;
+    name = refl;
+    functions = functions_append before (d ▸ after) ∙ ap (λ l. functions_all (summaries before) ++ (l ++ functions_all (summaries after))) r.functions ∙ sym (functions_append before (w ▸ after));
+  }
+
+  pub block_same : AllAvoid (alone (Declared k)) before → Avoids (alone (Declared k)) w → AllAvoid (alone (Declared k)) after → ((s : State) → Goes true (λ u. Agree (alone (Declared k))) (Agree (alone (Declared k))) (Agree (alone (Declared k))) (means e d (Stat None) [] s) (means e w (Stat None) [] s))
+      → (t : Option Tail) → Same e (alone (Declared k)) nothing (Stat t) (block (append before (d ▸ after))) (block (append before (w ▸ after)))
+  block_same ab aw aa g t =
+      let D = alone (Declared k) in
+      let same = list_same e spelling k z before after (d ▸ none) (w ▸ none) aa (one_same e spelling k z d w g) t in
+      congruent_same e D z.shared (inside shape.BlockStatement [] 0 none here none) (listed (append before (d ▸ after))) (listed (append before (w ▸ after))) (tt, tt, tt, tt) (tt, all_join D before (w ▸ after) ab (aw, aa)) list_read nothing (Stat t) (no_off _)
+      (weaker e D D nothing _ (within_refl D) (no_within _) (Stat t) (listed (append before (d ▸ after))) (listed (append before (w ▸ after))) same)
+
+-- ---- the rows
+
+let_read : (spelling : List ℕ) (k : ℕ) (init w : Tree) → summary w ≡ summary empty_statement → ReadAs k (let_one (resolved spelling k) init) w
+let_read spelling k init w h = record { lets = refl; none_left = ap (λ i. i.lets) h; functions = sym (ap (λ i. i.functions) h); facts = sym (ap (λ i. i.facts.functions) h); texts = sym (ap (λ i. i.facts.texts) h) }
+
+-- an expression is there
+there : (t : Tree) → declares_nothing t ≡ true → (summary t).facts.absent ≡ false
+there (node shape.Absent xs n ts) e = absurd (true≢false (sym e))
+there (node (shape.UnaryExpression LogicalNot) xs n none) e = absurd (true≢false (sym e))
+there (node (shape.UnaryExpression LogicalNot) xs n (t ▸ ts)) e = there t e
+there (node shape.SwitchCase xs n ts) e = absurd (true≢false (sym e))
+there (node (shape.Function true g ds) xs n ts) e = absurd (true≢false (sym e))
+there (node (shape.Function false g ds) xs n ts) e = refl
+there (node (shape.Class true) xs n ts) e = absurd (true≢false (sym e))
+there (node (shape.Class false) xs n ts) e = refl
+there (node h xs n ts) e = refl
+
+-- the block means the same in each tail
+pub row_72 : (e : Environment) (k : ℕ) → Unseen (alone (Declared k)) e → (n w : Tree) (r : Row72 n w) → k ≡ r.symbol → (t : Option Tail) → Same e (alone (Declared k)) nothing (Stat t) n w
+row_72 e k z n w r h t =
+    let x = resolved r.spelling r.symbol in
+    let u : Unseen (alone (Declared r.symbol)) e = subst (λ j. Unseen (alone (Declared j)) e) h z in
+    let D = alone (Declared r.symbol) in
+    let same = block_same e r.spelling r.symbol u r.before r.after (let_one x r.init) (expression_statement r.init) (let_read r.spelling r.symbol r.init (expression_statement r.init) refl) (all_avoided x r.symbol refl r.before r.unused.earlier) (tt, (avoided x r.symbol refl r.init r.unused.initial, tt)) (all_avoided x r.symbol refl r.after r.unused.later) (let_goes e r.spelling r.symbol u r.init (there r.init r.present)) t in
+    subst (λ j. Same e (alone (Declared j)) nothing (Stat t) n w) (sym h) (subst₂ (Same e D nothing (Stat t)) (sym r.shape) (sym r.written) same)
+
+pub row_72_bare : (e : Environment) (k : ℕ) → Unseen (alone (Declared k)) e → (n w : Tree) (r : Row72Bare n w) → k ≡ r.symbol → (t : Option Tail) → Same e (alone (Declared k)) nothing (Stat t) n w
+row_72_bare e k z n w r h t =
+    let x = resolved r.spelling r.symbol in
+    let u : Unseen (alone (Declared r.symbol)) e = subst (λ j. Unseen (alone (Declared j)) e) h z in
+    let D = alone (Declared r.symbol) in
+    let same = block_same e r.spelling r.symbol u r.before r.after (let_one x absent) empty_statement (let_read r.spelling r.symbol absent empty_statement refl) (all_avoided x r.symbol refl r.before r.unused.earlier) (tt, tt) (all_avoided x r.symbol refl r.after r.unused.later) (bare_goes e r.spelling r.symbol u) t in
+    subst (λ j. Same e (alone (Declared j)) nothing (Stat t) n w) (sym h) (subst₂ (Same e D nothing (Stat t)) (sym r.shape) (sym r.written) same)

@@ -1,0 +1,59 @@
+-- What the rows of names that nothing mentions write is lighter.
+use Rattle.std.proofs.Common.{◌≡◌, ℕ, ◌+◌, ◌<◌, ◌≤◌, true, false, List, ◌∷◌, refl, sym, ap, ◌∙◌, inl, inr, true≢false, arith}
+use Rattle.mini_model.specs.declared.name.Name.{Name}
+use Rattle.mini_model.specs.declared.place.Position.{Position}
+use Rattle.mini_model.specs.declared.place.Position.TheVariants.{Stmt}
+use Rattle.mini_model.specs.declared.seat.StmtSeat.{StmtSeat}
+use Rattle.mini_model.specs.Tree.{Tree, Trees, none, ◌▸◌, absent, empty_statement, expression_statement}
+use Rattle.mini_model.specs.Paths.{append}
+use Rattle.mini_model.specs.Position.{argument_seat, statement_expression_seat}
+use Rattle.mini_model.specs.Weight.{outline, outlines, one_chooses, braces_weight, weight}
+use Rattle.mini_laws.specs.Weights.{Lightens, counts_items}
+use Rattle.mini_laws.proofs.Seats.{moved}
+use Rattle.mini_rows.specs.Lists.{block}
+use Rattle.mini_rows.specs.Unused.{resolved, let_one, UnusedRow, UnusedContracts, UnusedLighter}
+use Rattle.mini_rows.proofs.ListWeights.{total, in_list}
+
+value_falls : (s : List ℕ) (k : ℕ) (init : Tree) → total (expression_statement init ▸ none) + 1 ≤ total (let_one (resolved s k) init ▸ none)
+value_falls s k init = let seat = moved statement_expression_seat argument_seat refl init in omega (arith, seat)
+
+bare_falls : (s : List ℕ) (k : ℕ) → total (empty_statement ▸ none) + 1 ≤ total (let_one (resolved s k) absent ▸ none)
+bare_falls s k = omega arith
+
+-- whether a block holds one `if` with `else` alone
+same_choice : (before after : Trees) (d w : Tree) → (outline d).chooses ≡ (outline w).chooses → one_chooses (outlines (append before (d ▸ after))) ≡ one_chooses (outlines (append before (w ▸ after)))
+same_choice none none d w h = h
+same_choice none (t ▸ after) d w h = refl
+same_choice (t ▸ none) after d w h = refl
+same_choice (t ▸ (u ▸ before)) after d w h = refl
+
+block_falls : (q : StmtSeat) (before after : Trees) (d w : Tree) → (outline d).chooses ≡ (outline w).chooses → total (w ▸ none) + 1 ≤ total (d ▸ none) → weight (Stmt q) (block (append before (w ▸ after))) < weight (Stmt q) (block (append before (d ▸ after)))
+block_falls q before after d w h less =
+    let falls = in_list before (d ▸ none) (w ▸ none) after 1 less in
+    let braces = ap (braces_weight q) (same_choice before after d w h) in
+    omega (arith, falls, braces)
+
+pub unused_lighter : UnusedLighter
+unused_lighter (Stmt q) n w (inl r) =
+    let falls = block_falls q r.before r.after (let_one (resolved r.spelling r.symbol) r.init) (expression_statement r.init) refl (value_falls r.spelling r.symbol r.init) in
+    omega (arith, falls, ap (weight (Stmt q)) r.shape, ap (weight (Stmt q)) r.written)
+unused_lighter (Stmt q) n w (inr r) =
+    let falls = block_falls q r.before r.after (let_one (resolved r.spelling r.symbol) absent) empty_statement refl (bare_falls r.spelling r.symbol) in
+    omega (arith, falls, ap (weight (Stmt q)) r.shape, ap (weight (Stmt q)) r.written)
+unused_lighter p n w r = absurd r
+
+-- ---- what a parent reads of them
+
+same_outline : (p : Position) (n w : Tree) → UnusedRow p n w → outline n ≡ outline w
+same_outline (Stmt q) n w (inl r) = ap outline r.shape ∙ sym (ap outline r.written)
+same_outline (Stmt q) n w (inr r) = ap outline r.shape ∙ sym (ap outline r.written)
+same_outline p n w r = absurd r
+
+pub unused_lighten : Lightens UnusedContracts
+unused_lighten = record {
+  lighter = λ p n w c. c.lighter;
+  absent = λ p n w c e. ap (λ o. o.absent) (same_outline p n w c.row);
+  items = λ p n w c e. ap (λ o. o.items) (same_outline p n w c.row);
+  is_zero = λ p n w c e. inl (ap (λ o. o.is_zero) (same_outline p n w c.row));
+  chooses = λ p n w c e. inl (λ h. sym (ap (λ o. o.chooses) (same_outline p n w c.row)) ∙ h);
+}

@@ -1,0 +1,18 @@
+//! The rows of names that nothing mentions.
+
+ghost use Rattle.mini_laws.specs.Weights.{Lightens};
+ghost use Rattle.mini_kept.specs.Loosely.{LawfulLoosely};
+ghost use Rattle.mini_rows.specs.Unused.{UnusedContracts, UnusedLighter};
+
+/// What each row writes keeps all that a program has to keep, but a name that nothing mentions: it means the same where nobody
+/// else sees that variable.
+pub fn unused_are_lawful()
+    ensures { LawfulLoosely UnusedContracts }
+{}
+
+/// What each row writes is lighter wherever the block stands, so no weight is asked before it is applied, and it makes the
+/// whole lighter.
+pub fn unused_lighten()
+    ensures lighter { UnusedLighter }
+    ensures anywhere { Lightens UnusedContracts }
+{}
