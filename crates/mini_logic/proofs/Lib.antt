@@ -7,6 +7,7 @@ pub mod MinimizeUnaryExpression
 pub mod MinimizeConditionalExpression
 pub mod MinimizeIfStatement
 pub mod UnwrapBlock
-pub mod KnownSides
 pub mod Joined
-pub mod Choices
+pub mod MinimizeExpressionInBooleanContext
+pub mod DeMorganForVoidExpr
+pub mod NegationsSame

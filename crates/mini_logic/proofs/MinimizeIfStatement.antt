@@ -26,7 +26,8 @@ use Rattle.mini_rows.proofs.BranchWeights.{branch_lighter}
 use Rattle.mini_rows.proofs.TurnWeights.{turns_lighter}
 use Rattle.mini_walk.specs.Rule.{Applied}
 use Rattle.mini_walk.proofs.Reaching.{moves_once}
-use Rattle.mini_logic.specs.MinimizeIfStatement.{chooses, guards, is_empty, has_empty_consequent, skips, only_tests, is_weighed, turns, nests, is_bare, holds_choice, keeps_braces, swaps, choice, conjunction, disjunction, disjunct_seat, guard, skipped, lighter_negation, turned, nested, in_block, swapped, written, IsRow, Gives, Rests}
+use Rattle.mini_logic.specs.Negating.{lighter_negation}
+use Rattle.mini_logic.specs.MinimizeIfStatement.{chooses, guards, is_empty, has_empty_consequent, skips, only_tests, is_weighed, turns, nests, is_bare, holds_choice, keeps_braces, swaps, choice, conjunction, disjunction, disjunct_seat, guard, skipped, turned, nested, in_block, swapped, written, IsRow, Gives, Rests}
 use Rattle.mini_logic.proofs.Seats.{left_or_falls, left_and_falls, right_and_falls, right_or_falls}
 
 -- ---- the negation of a `!` is never heavier there than another `!` before it, so it is the lighter one of both

@@ -7,8 +7,8 @@ use Rattle.mini_model.specs.declared.operator.LogicalOperator.{LogicalOperator}
 use Rattle.mini_model.specs.declared.place.Position.TheVariants.{Expr}
 use Rattle.mini_model.specs.declared.seat.Seat.{Seat}
 use Rattle.mini_model.specs.declared.shape.Shape.TheVariants as shape
-use Rattle.mini_model.specs.Tree.{Tree, Trees, node, none, ◌▸◌, shape_of, children, node_count, node_counts}
-use Rattle.mini_model.specs.Position.{operand_seat}
+use Rattle.mini_model.specs.Tree.{Tree, Trees, node, none, ◌▸◌, shape_of, children, node_count, node_counts, logical}
+use Rattle.mini_model.specs.Position.{operand_seat, left_operand_seat, right_operand_seat}
 use Rattle.mini_model.specs.Weight.{weight, weights, parentheses}
 use Rattle.mini_model.specs.Terms.{neg, neg_each}
 use Rattle.mini_node.specs.Children.{trees_of}
@@ -41,6 +41,10 @@ no_mark false false false = omega arith
 -- a logical expression is its operator, perhaps its parentheses, and its operands
 pub weight_turned : (o : LogicalOperator) (s : Seat) (t : Tree) → weight (Expr s) (turned_over o s t) ≡ 4 + parentheses (shape.LogicalExpression o) s + negations_from (operand_seat o s) 0 (children t)
 weight_turned o s t = omega (arith, no_mark s.eq_left s.cond_test s.lifted, from_start (operand_seat o s) (children t))
+
+-- so it is over two operands
+pub weight_logical : (o : LogicalOperator) (s : Seat) (a b : Tree) → weight (Expr s) (logical o a b) ≡ 4 + parentheses (shape.LogicalExpression o) s + weight (Expr (left_operand_seat o s)) a + weight (Expr (right_operand_seat o s)) b
+weight_logical o s a b = omega (arith, no_mark s.eq_left s.cond_test s.lifted)
 
 -- an equality under another operator of its kind weighs the same, but for what an inequality weighs more as a test
 

@@ -3,12 +3,8 @@ pub mod MinimizeUnaryExpression
 pub mod MinimizeConditionalExpression
 pub mod MinimizeIfStatement
 pub mod UnwrapBlock
-pub mod FoldKnown
 pub mod Joined
 pub mod Lighter
-pub mod Assigning
-pub mod SubstituteRotateLogicalExpression
-pub mod MinimizeLogicalExpression
-pub mod MinimizeNormalAssignmentToCombinedAssignment
-pub mod MinimizeConditionalBranches
-pub mod Choices
+pub mod MinimizeExpressionInBooleanContext
+pub mod DeMorganForVoidExpr
+pub mod NegationsSame

@@ -10,8 +10,8 @@ use Rattle.mini_laws.proofs.Lighter.{step_lighter, any_step_lighter, rows_lighte
 use Rattle.mini_rows.specs.Branches.{BranchContracts}
 use Rattle.mini_rows.specs.Turns.{TurnContracts}
 use Rattle.mini_rows.proofs.BranchWeights.{branches_lighten}
-use Rattle.mini_rows.proofs.ChoiceWeights as choice_weights
-use Rattle.mini_rows.proofs.FoldWeights.{lightens}
+use Rattle.mini_rows.proofs.BooleanWeights as boolean_weights
+use Rattle.mini_rows.proofs.DeMorganLawful.{de_morgan_lighten}
 use Rattle.mini_rows.proofs.TurnWeights.{turns_lighten}
 use Rattle.mini_walk.specs.Rule.{IsLighter}
 use Rattle.mini_walk.specs.Wider.{step_of}
@@ -19,8 +19,8 @@ use Rattle.mini_logic.specs.MinimizeUnaryExpression as unary
 use Rattle.mini_logic.specs.MinimizeConditionalExpression as conditional
 use Rattle.mini_logic.specs.MinimizeIfStatement as «if»
 use Rattle.mini_logic.specs.UnwrapBlock as unwrap
-use Rattle.mini_logic.specs.Choices as choices
-use Rattle.mini_logic.specs.FoldKnown as folding
+use Rattle.mini_logic.specs.DeMorganForVoidExpr as de_morgan
+use Rattle.mini_logic.specs.MinimizeExpressionInBooleanContext as booleans
 
 pub unary_contracts : (p : Position) (t u : Tree) → unary.Gives p t u → Contracts p t u
 unary_contracts (Expr s) t u r = record { row = inl r.0; lighter = r.1 }
@@ -71,8 +71,8 @@ if_lighter = rows_lighter «if».Gives if_contracts
 pub unwrap_lighter : IsLighter unwrap.Gives
 unwrap_lighter = rows_lighter unwrap.Gives unwrap_contracts
 
-pub choices_lighter : IsLighter choices.Gives
-choices_lighter = any_step_lighter choices.Gives choice_weights.lightens
+pub booleans_lighter : IsLighter booleans.Gives
+booleans_lighter = any_step_lighter booleans.Gives boolean_weights.lightens
 
-pub folds_lighter : IsLighter folding.Gives
-folds_lighter = any_step_lighter folding.Gives lightens
+pub de_morgan_lighter : IsLighter de_morgan.Gives
+de_morgan_lighter = any_step_lighter de_morgan.Gives de_morgan_lighten

@@ -17,7 +17,7 @@ use Rattle.mini_node.specs.Kinds.{is_absent_part, is_empty_statement, is_block, 
 use Rattle.mini_rows.specs.Lists.{block}
 use Rattle.mini_rows.specs.Branches.{has_else, is_other_branch, as_consequent, conjunct_seat, IfRow}
 use Rattle.mini_rows.specs.Turns.{is_unchained, is_block_shape, may_choose, Row83Swapped}
-use Rattle.mini_logic.specs.Negating.{has_one}
+use Rattle.mini_logic.specs.Negating.{has_one, lighter_negation}
 
 -- `if (a) b; else c;`
 abbrev pub chooses : Tree → Bool
@@ -93,10 +93,6 @@ guard t = if has_negated_result (part t 0) then disjunction (neg disjunct_seat (
 -- `a || b;`, or `a && b;` of a test `!a`
 abbrev pub skipped : Tree → Tree
 skipped t = if has_negated_result (part t 0) then conjunction (neg conjunct_seat (part t 0)) (part t 2) else disjunction (part t 0) (part t 2)
-
--- the lighter negation, as far as 64 bits go
-abbrev pub lighter_negation : Seat → Tree → Tree
-lighter_negation s a = if nat_lt (capped (weight (Expr s) (negation a))) (capped (weight (Expr s) (neg s a))) then negation a else neg s a
 
 -- `if (!a) return b;`
 abbrev pub turned : Tree → Tree

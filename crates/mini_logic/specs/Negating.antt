@@ -1,16 +1,17 @@
 -- When the negation of an expression is another form than a `!` before it.
-use Rattle.std.specs.Prelude.{ℕ, zero, suc, Bool, true, false, ◌&&◌, ◌||◌, Option, Some, None, is_some, if◌then◌else◌}
+use Rattle.std.specs.Prelude.{ℕ, zero, suc, Bool, true, false, ◌&&◌, ◌||◌, nat_lt, Option, Some, None, is_some, if◌then◌else◌}
 use Rattle.mini_model.specs.declared.operator.BinaryOperator.{BinaryOperator}
 use Rattle.mini_model.specs.declared.operator.BinaryOperator.TheVariants as binary
 use Rattle.mini_model.specs.declared.operator.LogicalOperator.{LogicalOperator}
 use Rattle.mini_model.specs.declared.operator.LogicalOperator.TheVariants.{Or, And}
+use Rattle.mini_model.specs.declared.place.Position.TheVariants.{Expr}
 use Rattle.mini_model.specs.declared.seat.Seat.{Seat}
 use Rattle.mini_model.specs.declared.shape.Shape.{Shape}
 use Rattle.mini_model.specs.declared.shape.Shape.TheVariants as shape
-use Rattle.mini_model.specs.Tree.{Tree, Trees, node, none, ◌▸◌, shape_of, children}
+use Rattle.mini_model.specs.Tree.{Tree, Trees, node, none, ◌▸◌, shape_of, children, negation}
 use Rattle.mini_model.specs.Position.{operand_seat}
 use Rattle.mini_model.specs.Terms.{is_boolean, is_not_shape, neg, neg_each}
-use Rattle.mini_model.specs.Weight.{is_unequal}
+use Rattle.mini_model.specs.Weight.{weight, capped, is_unequal}
 use Rattle.mini_node.specs.Children.{names_of, number_of, part}
 
 abbrev pub has_one : Trees → Bool
@@ -56,3 +57,7 @@ abbrev pub first_negated : (ℕ → Seat) → ℕ → Trees → Trees
 first_negated σ zero ts = ts
 first_negated σ (suc k) none = none
 first_negated σ (suc k) (t ▸ ts) = neg (σ zero) t ▸ first_negated (λ i. σ (suc i)) k ts
+
+-- the lighter negation, as far as 64 bits go
+abbrev pub lighter_negation : Seat → Tree → Tree
+lighter_negation s a = if nat_lt (capped (weight (Expr s) (negation a))) (capped (weight (Expr s) (neg s a))) then negation a else neg s a

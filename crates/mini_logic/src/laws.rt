@@ -2,9 +2,10 @@
 
 ghost use Rattle.mini_logic.specs.MinimizeConditionalExpression.{RowLighter as ConditionalLighter};
 ghost use Rattle.mini_logic.specs.MinimizeIfStatement.{RowLighter as IfLighter};
-ghost use Rattle.mini_logic.specs.Choices.{WrittenIsRow, UnwrittenRests};
 ghost use Rattle.mini_logic.specs.Joined.{GivesContract, ContractsAreGiven, ReachesContract, LogicContracts, RestsSettle, RestsEverywhere};
-ghost use Rattle.mini_logic.specs.FoldKnown as folding;
+ghost use Rattle.mini_logic.specs.DeMorganForVoidExpr as de_morgan;
+ghost use Rattle.mini_logic.specs.MinimizeExpressionInBooleanContext as boolean;
+ghost use Rattle.mini_logic.specs.NegationsSame.{LighterSame};
 ghost use Rattle.mini_kept.specs.Lawful.{Lawful};
 
 /// What rows 40, 82 and 83 write is lighter wherever the node stands, so no weight is asked before they are applied.
@@ -24,17 +25,21 @@ pub fn rules_are_rows()
     ensures lawful { Lawful LogicContracts }
 {}
 
-/// What the rewrites of conditionals, logical expressions and assignments write is what a row says, and lighter; where they
-/// write nothing no row makes the expression lighter, as far as its weight fits 64 bits.
-pub fn choices_are_rows()
-    ensures written { WrittenIsRow }
-    ensures unwritten { UnwrittenRests }
+/// What is written where only the truth is asked, or where a branch is a boolean, is what a row says, and lighter; where nothing is
+/// written no row makes the expression lighter, as far as its weight fits 64 bits.
+pub fn booleans_are_rows()
+    ensures written { boolean.WrittenIsRow }
+    ensures unwritten { boolean.UnwrittenRests }
 {}
 
-/// What is written where a part is known is what a row says; where nothing is written no row reads the node.
-pub fn folds_are_rows()
-    ensures written { folding.WrittenIsRow }
-    ensures statement { folding.StatementIsRow }
-    ensures unwritten { folding.UnwrittenRests }
-    ensures rests { folding.StatementRests }
+/// What is written by De Morgan's laws for an expression statement is what the row says, and lighter; where nothing is written the
+/// row makes nothing lighter of it, as far as its weight fits 64 bits.
+pub fn de_morgan_is_row()
+    ensures written { de_morgan.WrittenIsRow }
+    ensures unwritten { de_morgan.UnwrittenRests }
+{}
+
+/// The lighter of the negation of an expression and of `!` over it means what `!` over it does, in every seat.
+pub fn negations_mean_the_same()
+    ensures { LighterSame }
 {}

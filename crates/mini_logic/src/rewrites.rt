@@ -1,10 +1,6 @@
-pub mod fold_known;
-pub mod minimize_choices;
-pub mod minimize_conditional_branches;
+pub mod de_morgan_for_void_expr;
 pub mod minimize_conditional_expression;
+pub mod minimize_expression_in_boolean_context;
 pub mod minimize_if_statement;
-pub mod minimize_logical_expression;
-pub mod minimize_normal_assignment_to_combined_assignment;
 pub mod minimize_unary_expression;
-pub mod substitute_rotate_logical_expression;
 pub mod unwrap_block;

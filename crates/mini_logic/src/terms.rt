@@ -7,7 +7,7 @@ ghost use Rattle.mini_model.specs.Position.{operand_seat};
 ghost use Rattle.mini_model.specs.Weight.{capped, is_parenthesized as in_parentheses, parentheses, weight as weight_at};
 ghost use Rattle.mini_model.specs.Terms.{neg, neg_each, has_negated_result as has_a_negated_result, is_boolean as always_boolean};
 ghost use Rattle.mini_model.specs.Tree.{shape_of};
-ghost use Rattle.mini_logic.specs.Negating.{has_one as has_one_tree, turned_by, turned_over, opposite_by, reshaped as reshaped_tree, unequal_weight as weight_of_unequal, is_unwrapped as is_it_unwrapped, has_own_negation as has_an_own_negation};
+ghost use Rattle.mini_logic.specs.Negating.{has_one as has_one_tree, turned_by, turned_over, opposite_by, reshaped as reshaped_tree, unequal_weight as weight_of_unequal, lighter_negation as lighter_negation_of, is_unwrapped as is_it_unwrapped, has_own_negation as has_an_own_negation};
 
 use mini_model::{BinaryOperator, LogicalOperator, Mix, Position, Seat, Shape, UnaryOperator};
 use mini_node::{Node, Nodes, discard, negation, one, taken};
@@ -110,8 +110,8 @@ fn is_parenthesized(operator: LogicalOperator, seat: Seat) -> bool
     seats::level_of_operator(operator) < seat.level || mixes
 }
 
-// What a logical expression weighs in the seat besides its operands.
-fn own_weight(operator: LogicalOperator, seat: Seat) -> u64
+/// What a logical expression weighs in the seat besides its operands.
+pub fn own_weight(operator: LogicalOperator, seat: Seat) -> u64
     ensures { result ≡ 4 + parentheses (LogicalExpression operator) seat }
 {
     if is_parenthesized(operator, seat) {
@@ -246,4 +246,25 @@ pub fn negated(alloc: Global, expression: Node, seat: Seat) -> Result<Node, OutO
         return Ok(one(expression));
     }
     negation(alloc, expression)
+}
+
+/// The weight of the lighter of `!a` and of the negation of a, which stays at the greatest u64.
+pub fn lighter_negation_weight(expression: &Node, seat: Seat) -> u64
+    ensures { result ≡ capped (weight_at (Expr seat) (lighter_negation_of seat expression.now)) }
+{
+    let not = negation_weight(expression, seat);
+    let other = neg_weight(expression, seat);
+    if not < other { not } else { other }
+}
+
+/// The lighter of `!a` and of the negation of a, as far as 64 bits tell it, written in this seat; the negation where both weigh the
+/// same. The only error is that memory runs out.
+pub fn lighter_negation(alloc: Global, expression: Node, seat: Seat) -> Result<Node, OutOfMemory>
+    ensures { IfOk result (λ w. w ≡ lighter_negation_of seat expression) }
+{
+    if negation_weight(&expression, seat) < neg_weight(&expression, seat) {
+        negation(alloc, expression)
+    } else {
+        negated(alloc, expression, seat)
+    }
 }

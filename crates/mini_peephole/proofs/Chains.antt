@@ -39,7 +39,7 @@ module _ (G : Tree → Position → Tree → Tree → Type 0) where
       names = record { places = each (λ q. (l q).frames.names.places); pieces = each (λ q. (l q).frames.names.pieces); keeps = each (λ q. (l q).frames.names.keeps) };
       slots = each (λ q. (l q).frames.slots);
       ports = each (λ q. (l q).frames.ports);
-      listed = λ n w r. (l r.0).frames.listed n w r.1;
+      listed = λ p n w e r. (l r.0).frames.listed p n w e r.1;
       exported = each (λ q. (l q).frames.exported);
       frames = each (λ q. (l q).frames.frames);
     };

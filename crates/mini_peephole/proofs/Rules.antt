@@ -65,7 +65,11 @@ module _ (o : CompressOptions) (q : Tree) where
   gives_contract p t u (inr (inr (inr (inr (inr (inr (inl c))))))) = record { row = inr (inr (inr (inr (inr (inl c.row))))); lighter = c.lighter }
   gives_contract p t u (inr (inr (inr (inr (inr (inr (inr (inl c)))))))) = record { row = inr (inr (inr (inr (inr (inr (inl c.row)))))); lighter = c.lighter }
   gives_contract p t u (inr (inr (inr (inr (inr (inr (inr (inr (inl c))))))))) = record { row = inr (inr (inr (inr (inr (inr (inr (inl c.row))))))); lighter = c.lighter }
-  gives_contract p t u (inr (inr (inr (inr (inr (inr (inr (inr (inr c))))))))) = record { row = inr (inr (inr (inr (inr (inr (inr (inr (inr c.row)))))))); lighter = c.lighter }
+  gives_contract p t u (inr (inr (inr (inr (inr (inr (inr (inr (inr (inl c)))))))))) = record { row = inr (inr (inr (inr (inr (inr (inr (inr (inr (inl c.row))))))))); lighter = c.lighter }
+  gives_contract p t u (inr (inr (inr (inr (inr (inr (inr (inr (inr (inr (inl c))))))))))) = record { row = inr (inr (inr (inr (inr (inr (inr (inr (inr (inr (inl c.row)))))))))); lighter = c.lighter }
+  gives_contract p t u (inr (inr (inr (inr (inr (inr (inr (inr (inr (inr (inr (inl c)))))))))))) = record { row = inr (inr (inr (inr (inr (inr (inr (inr (inr (inr (inr (inl c.row))))))))))); lighter = c.lighter }
+  gives_contract p t u (inr (inr (inr (inr (inr (inr (inr (inr (inr (inr (inr (inr (inl c))))))))))))) = record { row = inr (inr (inr (inr (inr (inr (inr (inr (inr (inr (inr (inr (inl c.row)))))))))))); lighter = c.lighter }
+  gives_contract p t u (inr (inr (inr (inr (inr (inr (inr (inr (inr (inr (inr (inr (inr c))))))))))))) = record { row = inr (inr (inr (inr (inr (inr (inr (inr (inr (inr (inr (inr (inr c.row)))))))))))); lighter = c.lighter }
 
   pub gives_lawful : Lawful (Gives o q)
   gives_lawful = lawful_narrowed (Gives o q) (Contracts (switches o)) gives_contract (all_lawful (switches o))
@@ -87,7 +91,7 @@ module _ (o : CompressOptions) (q : Tree) where
   turn_settled p t u small r row less = absurd row
 
   arrow_settled : (p : Position) (t u : Tree) → Rests o q p t → ArrowRow p t u → ⊥
-  arrow_settled (Expr s) t u r row = r.1.1.1.1.1.1.1.1.1 u row
+  arrow_settled (Expr s) t u r row = r.1.1.1.1.1.1.1.1.1.0 u row
   arrow_settled p t u r row = absurd row
 
   settled : (p : Position) (t u : Tree) → weight p t < 2 ^ 64 → Rests o q p t → Row (switches o) p t u → weight p u < weight p t → ⊥
@@ -100,7 +104,11 @@ module _ (o : CompressOptions) (q : Tree) where
   settled p t u small r (inr (inr (inr (inr (inr (inr (inl row))))))) less = r.1.1.1.1.1.1.1.0 u row
   settled p t u small r (inr (inr (inr (inr (inr (inr (inr (inl row)))))))) less = r.1.1.1.1.1.1.1.1.0 u row
   settled p t u small r (inr (inr (inr (inr (inr (inr (inr (inr (inl row))))))))) less = turn_settled p t u small r row less
-  settled p t u small r (inr (inr (inr (inr (inr (inr (inr (inr (inr row))))))))) less = arrow_settled p t u r row
+  settled p t u small r (inr (inr (inr (inr (inr (inr (inr (inr (inr (inl row)))))))))) less = arrow_settled p t u r row
+  settled p t u small r (inr (inr (inr (inr (inr (inr (inr (inr (inr (inr (inl row))))))))))) less = r.1.1.1.1.1.1.1.1.1.1.0 small u (record { row = row; lighter = less })
+  settled p t u small r (inr (inr (inr (inr (inr (inr (inr (inr (inr (inr (inr (inl row)))))))))))) less = r.1.1.1.1.1.1.1.1.1.1.1.0 u row
+  settled p t u small r (inr (inr (inr (inr (inr (inr (inr (inr (inr (inr (inr (inr (inl row))))))))))))) less = r.1.1.1.1.1.1.1.1.1.1.1.1.0 small u (record { row = row; lighter = less })
+  settled p t u small r (inr (inr (inr (inr (inr (inr (inr (inr (inr (inr (inr (inr (inr row))))))))))))) less = r.1.1.1.1.1.1.1.1.1.1.1.1.1 small u (record { row = row; lighter = less })
 
   rests_settle : (p : Position) (t : Tree) → weight p t < 2 ^ 64 → Rests o q p t → IsSettled (switches o) p t
   rests_settle p t small r x = settled p t x.to small r x.contracts.row x.contracts.lighter

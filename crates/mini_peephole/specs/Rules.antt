@@ -5,19 +5,23 @@ use Rattle.mini_model.specs.Tree.{Tree}
 use Rattle.mini_tree.specs.declared.options.CompressOptions.{CompressOptions}
 use Rattle.mini_walk.specs.Rule.{Either, Both}
 use Rattle.mini_logic.specs.Joined as logic
+use Rattle.mini_logic.specs.DeMorganForVoidExpr as de_morgan
+use Rattle.mini_logic.specs.MinimizeExpressionInBooleanContext as booleans
 use Rattle.mini_logic.specs.UnwrapBlock as blocks
-use Rattle.mini_logic.specs.Choices as choices
-use Rattle.mini_logic.specs.FoldKnown as folding
+use Rattle.mini_choices.specs.Choices as choices
+use Rattle.mini_fold.specs.FoldKnown as folding
+use Rattle.mini_fold.specs.FoldConstants as constants
 use Rattle.mini_syntax.specs.Spelled as spellings
 use Rattle.mini_syntax.specs.SubstituteArrowExpression as arrows
 use Rattle.mini_syntax.specs.SubstituteObjectProperty as keys
+use Rattle.mini_syntax.specs.SubstitutePropertyKey as held
 use Rattle.mini_syntax.specs.SubstituteReturnStatement as returns
 use Rattle.mini_syntax.specs.SubstituteVariableDeclaration as declarations
 use Rattle.mini_rows.specs.Declarations.{DeclarationContracts}
 use Rattle.mini_stmt.specs.MinimizeStatements as lists
 
 abbrev pub Gives : CompressOptions → Tree → Position → Tree → Tree → Type 0
-Gives o q = Either logic.Gives (Either blocks.Gives (Either returns.Gives (Either spellings.Gives (Either (lists.Gives o q) (Either keys.Gives (Either choices.Gives (Either DeclarationContracts (Either folding.Gives arrows.Gives))))))))
+Gives o q = Either logic.Gives (Either blocks.Gives (Either returns.Gives (Either spellings.Gives (Either (lists.Gives o q) (Either keys.Gives (Either choices.Gives (Either DeclarationContracts (Either folding.Gives (Either arrows.Gives (Either constants.Gives (Either held.Gives (Either booleans.Gives de_morgan.Gives))))))))))))
 
 abbrev pub Rests : CompressOptions → Tree → Position → Tree → Type 0
-Rests o q = Both logic.Rests (Both blocks.Rests (Both returns.Rests (Both spellings.Rests (Both (lists.RestsUnder o q) (Both keys.Rests (Both choices.Rests (Both declarations.Rests (Both folding.Rests arrows.Rests))))))))
+Rests o q = Both logic.Rests (Both blocks.Rests (Both returns.Rests (Both spellings.Rests (Both (lists.RestsUnder o q) (Both keys.Rests (Both choices.Rests (Both declarations.Rests (Both folding.Rests (Both arrows.Rests (Both constants.Rests (Both held.Rests (Both booleans.Rests de_morgan.Rests))))))))))))

@@ -14,15 +14,18 @@ ghost use Rattle.mini_peephole.specs.Faithful.{Faithful, PassesBounded};
 ghost use Rattle.mini_peephole.specs.Minified.{IsAnswer, IsMinified, IsRewriting, IsRefusal};
 
 use crate::named::{numbers_of, symbols_of};
+use mini_choices::MinimizeChoices;
 use mini_context::{TraverseCtx, resolve};
 use mini_estree::{MinifyError, Numbered, read_program};
+use mini_fold::{FoldConstants, FoldKnown};
 use mini_logic::{
-    FoldKnown, MinimizeChoices, MinimizeConditional, MinimizeIf, MinimizeUnary, UnwrapBlocks,
+    MinimizeConditional, MinimizeIf, MinimizeInBooleanContext, MinimizeUnary, MinimizeVoid,
+    UnwrapBlocks,
 };
 use mini_stmt::MinimizeStatements;
 use mini_syntax::{
-    SubstituteArrows, SubstituteDeclarations, SubstituteKeys, SubstituteReturns,
-    SubstituteSpellings,
+    SubstituteArrows, SubstituteDeclarations, SubstituteKeys, SubstitutePropertyKeys,
+    SubstituteReturns, SubstituteSpellings,
 };
 use mini_tree::{CompressOptions, Numbers, OutOfMemory, Program, discard};
 use mini_walk::{Passes, Then, run_passes};
@@ -46,7 +49,8 @@ pub struct Minified {
 }
 
 // The rules, in the order in which a node is tried with them: of logic, of blocks as branches and bodies, of spellings, of
-// lists, of keys, of choices, of declarations, of what is known and of arrow functions.
+// lists, of keys, of choices, of declarations, of what is known, of arrow functions, of constants and of keys of
+// patterns and classes.
 type Logic = Then<MinimizeUnary, Then<MinimizeConditional, MinimizeIf>>;
 
 type Spellings = Then<
@@ -59,7 +63,22 @@ type Spellings = Then<
                 SubstituteKeys,
                 Then<
                     MinimizeChoices,
-                    Then<SubstituteDeclarations, Then<FoldKnown, SubstituteArrows>>,
+                    Then<
+                        SubstituteDeclarations,
+                        Then<
+                            FoldKnown,
+                            Then<
+                                SubstituteArrows,
+                                Then<
+                                    FoldConstants,
+                                    Then<
+                                        SubstitutePropertyKeys,
+                                        Then<MinimizeInBooleanContext, MinimizeVoid>,
+                                    >,
+                                >,
+                            >,
+                        >,
+                    >,
                 >,
             >,
         >,
@@ -90,7 +109,19 @@ const RULES: Then<Logic, Then<UnwrapBlocks, Spellings>> = Then {
                                 first: SubstituteDeclarations,
                                 second: Then {
                                     first: FoldKnown,
-                                    second: SubstituteArrows,
+                                    second: Then {
+                                        first: SubstituteArrows,
+                                        second: Then {
+                                            first: FoldConstants,
+                                            second: Then {
+                                                first: SubstitutePropertyKeys,
+                                                second: Then {
+                                                    first: MinimizeInBooleanContext,
+                                                    second: MinimizeVoid,
+                                                },
+                                            },
+                                        },
+                                    },
                                 },
                             },
                         },

@@ -18,7 +18,7 @@ use Rattle.mini_rows.specs.Switches.{Switches}
 use Rattle.mini_rows.specs.Lists.{is_terminated, Row74, StretchRow, GuardsRow, NeighbourRow, InList}
 use Rattle.mini_stmt.specs.MinimizeStatements as list
 use Rattle.mini_stmt.specs.MinimizeStatements.{Changes, is_quiet, StretchRests, JoinsStatements, MinimizesList}
-use Rattle.mini_stmt.specs.JoinGuards.{meets, met, meet_first, are_apart, is_apart, last_after, meets_last, PutJoined, Joined, Rests, JoinsGuards, QuietRests}
+use Rattle.mini_stmt.specs.JoinGuards.{meets, met, meet_first, are_apart, is_apart, last_after, meets_last, PutJoined, Joined, Rests, JoinsGuards}
 use Rattle.mini_stmt.proofs.Parts.{not_true}
 use Rattle.mini_stmt.proofs.Quiet.{quiet_rests}
 use Rattle.mini_stmt.proofs.Stepping.{neighbours_in, steps_on}
@@ -66,12 +66,11 @@ either_row : (o : Switches) (n w : Tree) (r : InList (NeighbourRow o) n w) → (
 either_row o n w r f g (inl m) = f (record { before = r.before; read = r.read; put = r.put; after = r.after; row = m; shape = r.shape; written = r.written })
 either_row o n w r f g (inr m) = g (record { before = r.before; read = r.read; put = r.put; after = r.after; row = m; shape = r.shape; written = r.written })
 
-both_rest : (o : Switches) (p : Position) (n : Tree) → StretchRests o p n → Rests o p n → list.Rests o p n
-both_rest o StatementList n f g w r = either_row o n w r (f w) (g w) r.row
-both_rest o p n f g w r = absurd r
+both_rest : (o : Switches) (n : Tree) → StretchRests o StatementList n → Rests o StatementList n → list.Rests o StatementList n
+both_rest o n f g w r = either_row o n w r (f w) (g w) r.row
 
-pub no_row : QuietRests
-no_row o t q e p = both_rest o p (listed t) (quiet_rests o t q p) (apart_rests o t e p)
+pub list_no_row : (o : Switches) (t : Trees) → is_quiet o t ≡ true → is_apart o t ≡ true → list.Rests o StatementList (listed t)
+list_no_row o t q e = both_rest o (listed t) (quiet_rests o t q StatementList) (apart_rests o t e StatementList)
 
 -- ---- as the list goes on
 
@@ -119,7 +118,7 @@ pub no_last : (ts : Trees) (u : Tree) → count ts ≡ 0 → meets_last ts u ≡
 no_last none u e = refl
 no_last (t ▸ ts) u e = absurd (omega (arith, e))
 
-last_pushed : (l : Tree) (ts : Trees) (x : Tree) → last_after l (append ts (x ▸ none)) ≡ x
+pub last_pushed : (l : Tree) (ts : Trees) (x : Tree) → last_after l (append ts (x ▸ none)) ≡ x
 last_pushed l none x = refl
 last_pushed l (t ▸ ts) x = last_pushed t ts x
 
@@ -202,7 +201,7 @@ joined_then : (o : Switches) (t u v : Tree) (a b : Bool) → a ≡ false → Joi
 joined_then o t u v a true e m n = let k = subst (JoinsStatements o t u) e m in subst (λ x. list.Moves o x v) k.0 n
 joined_then o t u v a false e m n =
     let k = subst (JoinsStatements o t u) e m in
-    (n.0 ∙ k.0, both_rest o StatementList t k.1 (subst (Rests o StatementList) k.0 n.1))
+    (n.0 ∙ k.0, both_rest o t k.1 (subst (Rests o StatementList) k.0 n.1))
 
 pub joined_after : (o : Switches) (t u v : Tree) (a : Bool) (r : Result Bool OutOfMemory) → a ≡ false → JoinsStatements o t u a → IfOk r (λ b. JoinsGuards o u v b) → IfOk r (λ b. MinimizesList o t v b)
 joined_after o t u v a (Err e) f m n = n

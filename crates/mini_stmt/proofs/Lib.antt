@@ -3,3 +3,4 @@ pub mod Follows
 pub mod Quiet
 pub mod Stepping
 pub mod Guards
+pub mod Bodies

@@ -68,7 +68,3 @@ Rests o p t = (w : Tree) → InGuards o p t w → ⊥
 -- the node of a list
 abbrev pub JoinsGuards : Switches → Tree → Tree → Bool → Type 0
 JoinsGuards o t u changed = rule.Applied (ListContracts o) (Rests o) StatementList t u changed
-
--- no row at all reads a list that is quiet and in which no two neighbours are so
-abbrev pub QuietRests : Type 0
-QuietRests = (o : Switches) (t : Trees) → is_quiet o t ≡ true → is_apart o t ≡ true → (p : Position) → list.Rests o p (listed t)

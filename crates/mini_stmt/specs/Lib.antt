@@ -8,4 +8,5 @@ pub mod SpreadBlock
 pub mod MinimizeStatements
 pub mod Lighter
 pub mod JoinGuards
+pub mod MinimizeBody
 pub mod Terminated

@@ -10,7 +10,7 @@ use mini_model::VariableDeclarationKind;
 use mini_node::{Node, is_absent_part};
 
 /// How a statement may be joined to the next one.
-#[derive(Clone, Copy, Debug, PartialEq, Eq)]
+#[derive(Clone, Copy, PartialEq, Eq)]
 pub enum Lead {
     /// `a;`
     Expression,

@@ -5,7 +5,7 @@ ghost use Rattle.mini_model.specs.Paths.{append};
 ghost use Rattle.mini_model.specs.Tree.{none, ◌▸◌, children, count, node_count, node_counts};
 ghost use Rattle.mini_stmt.specs.MinimizeStatements as row;
 ghost use Rattle.mini_stmt.specs.MinimizeStatements.{Changes, Minimized, JoinsStatements, MinimizesList, Placed, Gives, RestsUnder, switches_of};
-ghost use Rattle.mini_stmt.specs.JoinGuards.{QuietRests};
+ghost use Rattle.mini_stmt.specs.MinimizeBody.{QuietRests};
 ghost use Rattle.mini_stmt.specs.Lighter.{lists_lighter};
 ghost use Rattle.mini_walk.specs.Rule.{Applied};
 
@@ -20,15 +20,15 @@ use crate::rewrites::join_jumps::{
     joined_returns, joined_throws, returns_answer, returns_nothing, test_alone, throws_answer,
 };
 use crate::rewrites::join_vars::{declares, takes_declaration, with_declaration};
+use crate::rewrites::minimize_body::minimize_body;
 use crate::rewrites::split_if::{split, splits};
 use crate::rewrites::spread_block::{body_of, spreads};
 use crate::terms::is_joinable_statement;
-use mini_context::TraverseCtx;
 use mini_model::{Position, Shape};
 use mini_node::{Node, Nodes, discard, is_empty_statement, is_listed};
 use mini_text::OutOfMemory;
 use mini_tree::CompressOptions;
-use mini_walk::Rule;
+use mini_walk::{Context, Rule};
 use std::alloc::Global;
 use std::mem;
 
@@ -111,7 +111,7 @@ fn jumps_anyway(options: CompressOptions, lead: Lead, node: &Node) -> bool
     }
 }
 
-/// No row reads a list that is quiet and has no guards to join.
+/// No row reads a list that is quiet and has no guards to join, if it isn't a function's body that ends with what a row reads.
 pub fn no_row_reads_a_quiet_list()
     ensures { QuietRests }
 {}
@@ -297,9 +297,7 @@ pub fn minimize_statements(
 /// The rows of lists as a rule: of each list of statements.
 pub struct MinimizeStatements;
 
-impl Rule for MinimizeStatements {
-    type Context = TraverseCtx;
-
+impl<C: Context> Rule<C> for MinimizeStatements {
     ghost gives = { Gives };
 
     ghost rests = { RestsUnder };
@@ -311,10 +309,11 @@ impl Rule for MinimizeStatements {
         alloc: Global,
         node: &mut Node,
         place: Position,
-        context: &mut TraverseCtx,
+        context: &mut C,
     ) -> Result<bool, OutOfMemory> {
         match place {
-            Position::StatementList => Ok(minimize_statements(alloc, context.options, node)?),
+            Position::StatementList => Ok(minimize_statements(alloc, context.options(), node)?),
+            Position::BodyList => Ok(minimize_body(alloc, context.options(), node)?),
             _ => Ok(false),
         }
     }

@@ -5,7 +5,7 @@ use Rattle.std.proofs.lemmas.Bool.{and_parts}
 use Rattle.mini_model.specs.declared.kind.VariableDeclarationKind.TheVariants.{Let}
 use Rattle.mini_model.specs.declared.name.Name.{Name}
 use Rattle.mini_model.specs.declared.place.Position.{Position}
-use Rattle.mini_model.specs.declared.place.Position.TheVariants.{Stmt, StatementList}
+use Rattle.mini_model.specs.declared.place.Position.TheVariants.{Stmt, StatementList, BodyList}
 use Rattle.mini_model.specs.declared.seat.StmtSeat.{StmtSeat}
 use Rattle.mini_model.specs.declared.shape.Shape.TheVariants as shape
 use Rattle.mini_model.specs.Tree.{Tree, Trees, node, none, ◌▸◌, absent, listed, shape_of, children, count, child_or_absent}
@@ -21,6 +21,7 @@ use Rattle.mini_walk.proofs.Reaching.{moves_once}
 use Rattle.mini_syntax.specs.Forms.{is_undefined}
 use Rattle.mini_syntax.specs.SubstituteVariableDeclaration.{is_binding, is_declarator_shape, begins_undefined, any_of, is_let_shape, declares_undefined, is_export_shape, exports_undefined, is_read, is_for_shape, loops_undefined, dropped, bared, Bared, Applied}
 use Rattle.mini_syntax.proofs.FormsAre.{undefined_is, undefined_passes}
+use Rattle.mini_kept.specs.Placed.{is_statement_list}
 
 -- ---- children
 
@@ -208,8 +209,19 @@ export_bared t u e f r g =
 contracts : (p : Position) (n w : Tree) → DeclarationRow p n w → DeclarationContracts p n w
 contracts p n w r = record { row = r; lighter = weights.declarations_lighter p n w r }
 
-pub list_applied : (t : Tree) (i : ℕ) (u : Tree) → is_listed t ≡ true → i < count (children t) → Bared (part t i) (part u i) → u ≡ with_part t i (part u i) → Applied StatementList t u true
-list_applied t i u l h b f =
+-- in a list, a function's body among them
+moves_in : (p : Position) (t u : Tree) → is_statement_list p ≡ true → InList Row61Item t u → Applied p t u true
+moves_in StatementList t u e r = moves_once DeclarationContracts StatementList t u (contracts StatementList t u r)
+moves_in BodyList t u e r = moves_once DeclarationContracts BodyList t u (contracts BodyList t u r)
+moves_in p t u e r = absurd (cc e)
+
+rests_in : (p : Position) (t : Tree) → is_statement_list p ≡ true → ((w : Tree) → InList Row61Item t w → ⊥) → Applied p t t false
+rests_in StatementList t e f = (refl, f)
+rests_in BodyList t e f = (refl, f)
+rests_in p t e f = absurd (cc e)
+
+pub list_applied : (t : Tree) (i : ℕ) (u : Tree) → is_listed t ≡ true → i < count (children t) → Bared (part t i) (part u i) → u ≡ with_part t i (part u i) → (p : Position) → is_statement_list p ≡ true → Applied p t u true
+list_applied t i u l h b f p e =
     let ts = children t in
     let row : InList Row61Item t u = record {
       before = first_children i ts;
@@ -220,7 +232,7 @@ list_applied t i u l h b f =
       shape = listed_is t l ∙ ap listed (parts_of ts i h);
       written = f ∙ ap (λ v. with_part v i (part u i)) (listed_is t l) ∙ ap listed (with_parts ts i (part u i) h);
     } in
-    moves_once DeclarationContracts StatementList t u (contracts StatementList t u row)
+    moves_in p t u e row
 
 -- a row reads what the tests tell
 
@@ -237,11 +249,11 @@ list_read n w r =
     ap (λ t. any_of is_read (children t)) r.shape ∙ ap (λ ts. any_of is_read (append r.before (append ts r.after))) i.shape
     ∙ found is_read r.before (held i.item i.declared) r.after (held_read i.item i.declared i.bare i.row)
 
-pub list_rests : (t : Tree) → false ≡ any_of is_read (children t) → Applied StatementList t t false
-list_rests t e = (refl, λ w r. true≢false (sym (list_read t w r) ∙ sym e))
+pub list_rests : (t : Tree) → false ≡ any_of is_read (children t) → (p : Position) → is_statement_list p ≡ true → Applied p t t false
+list_rests t e p k = rests_in p t k (λ w r. true≢false (sym (list_read t w r) ∙ sym e))
 
-pub other_rests : (t : Tree) → is_listed t ≡ false → Applied StatementList t t false
-other_rests t e = (refl, λ w r. true≢false (sym (ap is_listed r.shape) ∙ e))
+pub other_rests : (t : Tree) → is_listed t ≡ false → (p : Position) → is_statement_list p ≡ true → Applied p t t false
+other_rests t e p k = rests_in p t k (λ w r. true≢false (sym (ap is_listed r.shape) ∙ e))
 
 -- ---- a `for`
 

@@ -1,34 +1,39 @@
 -- What the rewrites of spellings write is what a row says, and where they write nothing no row reads the expression.
-use Rattle.std.proofs.Common.{◌≡◌, ℕ, zero, Bool, true, false, List, [], Option, Some, None, refl, sym, ap, subst, ◌∙◌, inl, inr}
-use Rattle.std.specs.Prelude.{◌⊎◌, ◌&&◌, ℤ, if◌then◌else◌}
+use Rattle.std.proofs.Common.{◌≡◌, ℕ, zero, Bool, true, false, List, [], ◌∷◌, Option, Some, None, refl, sym, ap, subst, ◌∙◌, inl, inr}
+use Rattle.std.specs.Prelude.{◌⊎◌, ◌&&◌, is_none, codes, ℤ, if◌then◌else◌}
 use Rattle.std.specs.Fmt.{signed_decimal}
 use Rattle.std.proofs.lemmas.Bool.{and_parts}
 use Rattle.mini_text.specs.Texts.{is_identifier_name}
 use Rattle.mini_text.specs.Numerals.{IsSafe, safe_number}
 use Rattle.mini_text.proofs.Safe.{text_of_number, number_of_text}
+use Rattle.mini_model.specs.declared.name.Name.{Name}
+use Rattle.mini_model.specs.declared.name.SymbolId.{SymbolId}
 use Rattle.mini_model.specs.declared.operator.AssignmentOperator.{AssignmentOperator}
 use Rattle.mini_model.specs.declared.operator.BinaryOperator.{BinaryOperator}
 use Rattle.mini_model.specs.declared.operator.BinaryOperator.TheVariants.{Equality, Inequality}
+use Rattle.mini_model.specs.declared.operator.UnaryOperator.{UnaryOperator}
+use Rattle.mini_model.specs.declared.operator.UnaryOperator.TheVariants.{Typeof}
 use Rattle.mini_model.specs.declared.operator.UpdateOperator.{UpdateOperator}
 use Rattle.mini_model.specs.declared.place.Position.TheVariants.{Expr}
 use Rattle.mini_model.specs.declared.seat.Seat.{Seat}
 use Rattle.mini_model.specs.declared.shape.Shape.TheVariants as shape
-use Rattle.mini_model.specs.Tree.{Tree, node, none, ◌▸◌, absent, null_literal}
+use Rattle.mini_model.specs.Tree.{Tree, node, none, ◌▸◌, absent, identifier, unresolved, unary, null_literal}
 use Rattle.mini_model.specs.Position.{is_equality}
 use Rattle.mini_node.specs.Children.{part}
-use Rattle.mini_node.specs.Kinds.{boolean as boolean_of, string, binary_operator, assignment_operator}
-use Rattle.mini_node.specs.Made.{boolean_is, string_is, binary_is, assignment_is}
-use Rattle.mini_rows.specs.Spellings.{numeral, text, key, boolean, binary, assignment, update, computed_member, static_member, yields, void_zero, negated_digit, IsLoose, plain, Row65, Row33, Row33Assigned, Row33Updated, Row58Left, Row58Right, Row54, Row60Yield, SpellingRow}
+use Rattle.mini_node.specs.Kinds.{boolean as boolean_of, string, unary_operator, binary_operator, assignment_operator}
+use Rattle.mini_node.specs.Made.{boolean_is, string_is, unary_is, binary_is, assignment_is}
+use Rattle.mini_rows.specs.Spellings.{numeral, text, key, boolean, binary, assignment, update, computed_member, static_member, yields, void_zero, negated_digit, IsLoose, plain, Row65, Row33, Row33Assigned, Row33Updated, Row58Left, Row58Right, Row54, Row60Yield, ordered, typeof_name, Row55, SpellingRow}
 use Rattle.mini_syntax.specs.Forms.{first_of, is_undefined, is_plain}
 use Rattle.mini_syntax.specs.SubstituteBoolean as substituted
 use Rattle.mini_syntax.specs.ConvertToDottedProperties as dotted
 use Rattle.mini_syntax.specs.ConvertToDottedProperties.{turned, is_name_text, named_member, numbered_member, as_name, update_operator}
 use Rattle.mini_syntax.specs.SubstituteLooseEqualsUndefined as loose
 use Rattle.mini_syntax.specs.SubstituteSwapBinaryExpressions as swap
+use Rattle.mini_syntax.specs.SubstituteTypeofUndefined as typeof
 use Rattle.mini_syntax.specs.SubstituteYieldExpression as yielding
 use Rattle.mini_syntax.specs.Spelled as law
-use Rattle.mini_syntax.specs.Spelled.{written}
-use Rattle.mini_syntax.proofs.FormsAre.{void_zero_is, undefined_is, undefined_passes, plain_is, plain_passes, ready_is, ready_passes}
+use Rattle.mini_syntax.specs.Spelled.{equality_written, written}
+use Rattle.mini_syntax.proofs.FormsAre.{same_texts, void_zero_is, undefined_is, undefined_passes, plain_is, plain_passes, ready_is, ready_passes}
 
 some_is : {A : Type 0} (x y : A) → Some x ≡ Some y → x ≡ y
 some_is x y e = cc e
@@ -199,6 +204,57 @@ swap_misses t w r e =
     let step : swap.written (binary r.operator (plain r.left) r.right) ≡ Some (binary r.operator r.right (plain r.left)) = ap (λ c. swap.written_by (if c then Some r.operator else None) (plain r.left) r.right) swaps in
     absurd (cc (sym step ∙ sym (ap swap.written r.shape) ∙ e))
 
+-- 55
+
+abbrev named : List ℕ → Option SymbolId → Name
+named s o = record { spelling = s; symbol = o }
+
+no_symbol : (o : Option SymbolId) → is_none o ≡ true → o ≡ None
+no_symbol None e = refl
+no_symbol (Some i) e = absurd (cc e)
+
+unresolved_is : (t : Tree) → typeof.is_unresolved t ≡ true → (s : List ℕ) × (t ≡ identifier (unresolved s))
+unresolved_is (node shape.Identifier (x ∷ []) zero none) e = (x.spelling, ap (λ o. identifier (named x.spelling o)) (no_symbol x.symbol e))
+unresolved_is t e = absurd (cc e)
+
+typeof_name_is : (t : Tree) → typeof.is_typeof_name t ≡ true → (s : List ℕ) × (t ≡ typeof_name s)
+typeof_name_is t e = let (over, operand) = and_parts (typeof.is_typeof (unary_operator t)) (typeof.is_unresolved (part t 0)) e in go (unary_operator t) refl over (unresolved_is (part t 0) operand)
+  where
+    go : (o : Option UnaryOperator) → unary_operator t ≡ o → typeof.is_typeof o ≡ true → (s : List ℕ) × (part t 0 ≡ identifier (unresolved s)) → (s : List ℕ) × (t ≡ typeof_name s)
+    go (Some Typeof) h v (s, is) = (s, unary_is t Typeof h ∙ ap (unary Typeof) is)
+    go (Some o) h v z = absurd (cc v)
+    go None h v z = absurd (cc v)
+
+undefined_text_is : (t : Tree) (o : Option (List ℕ)) → string t ≡ o → typeof.is_undefined_text o ≡ true → t ≡ text (codes "undefined")
+undefined_text_is t (Some s) h e = string_is t s h ∙ ap text (same_texts s (codes "undefined") e)
+undefined_text_is t None h e = absurd (cc e)
+
+typeof_row : (t w : Tree) → typeof.written t ≡ Some w → Row55 t w
+typeof_row t w e = go (binary_operator t) refl (typeof.is_typeof_name (part t 0) && typeof.is_undefined_text (string (part t 1))) refl e
+  where
+    by : (o : BinaryOperator) → binary_operator t ≡ Some o → (typeof.is_typeof_name (part t 0) && typeof.is_undefined_text (string (part t 1))) ≡ true → (c : Bool) → is_equality o ≡ c → typeof.written_by (if c then Some (ordered o) else None) (part t 0) ≡ Some w → Row55 t w
+    by o h f true k e =
+        let (typed, name) = and_parts (typeof.is_typeof_name (part t 0)) (typeof.is_undefined_text (string (part t 1))) f in
+        let x = typeof_name_is (part t 0) typed in
+        record {
+          operator = o;
+          name = x.0;
+          equality = k;
+          shape = binary_is t o h ∙ ap (λ a. binary o a (part t 1)) x.1 ∙ ap (binary o (typeof_name x.0)) (undefined_text_is (part t 1) (string (part t 1)) refl name);
+          written = sym (some_is (binary (ordered o) (part t 0) (text (codes "u"))) w e) ∙ ap (λ a. binary (ordered o) a (text (codes "u"))) x.1;
+        }
+    by o h f false k e = absurd (cc e)
+
+    go : (x : Option BinaryOperator) → binary_operator t ≡ x → (b : Bool) → (typeof.is_typeof_name (part t 0) && typeof.is_undefined_text (string (part t 1))) ≡ b → typeof.written_by (typeof.order_in x b) (part t 0) ≡ Some w → Row55 t w
+    go (Some o) h true f e = by o h f (is_equality o) refl e
+    go (Some o) h false f e = absurd (cc e)
+    go None h b f e = absurd (cc e)
+
+typeof_misses : (t w : Tree) → Row55 t w → typeof.written t ≡ None → ⊥
+typeof_misses t w r e =
+    let step : typeof.written (binary r.operator (typeof_name r.name) (text (codes "undefined"))) ≡ Some (binary (ordered r.operator) (typeof_name r.name) (text (codes "u"))) = ap (λ c. typeof.written_by (if c then Some (ordered r.operator) else None) (typeof_name r.name)) r.equality in
+    absurd (cc (sym step ∙ sym (ap typeof.written r.shape) ∙ e))
+
 -- 60
 
 yield_is : (t : Tree) → yielding.yields_void_zero t ≡ true → t ≡ yields void_zero
@@ -230,13 +286,17 @@ of_equality : (s : Seat) (n w : Tree) → (loose.written n ≡ Some w) ⊎ (swap
 of_equality s n w (inl e) = of_loose s n w (loose_row n w e)
 of_equality s n w (inr e) = inr (inr (inr (inr (inr (inr (inl (swap_row n w e)))))))
 
+of_binary : (s : Seat) (n w : Tree) → (typeof.written n ≡ Some w) ⊎ (equality_written n ≡ Some w) → SpellingRow (Expr s) n w
+of_binary s n w (inl e) = inr (inr (inr (inr (inr (inr (inr (inr (typeof_row n w e))))))))
+of_binary s n w (inr e) = of_equality s n w (first_is (loose.written n) (swap.written n) w e)
+
 pub written_is_row : law.WrittenIsRow
 written_is_row s (node (shape.BooleanLiteral b) xs n ts) w e = inl (boolean_follows (node (shape.BooleanLiteral b) xs n ts) w e)
 written_is_row s (node (shape.ComputedMemberExpression o) xs n ts) w e = inr (inl (turned_follows (node (shape.ComputedMemberExpression o) xs n ts) w e))
 written_is_row s (node (shape.AssignmentExpression o) xs n ts) w e = inr (inr (inl (assigned_follows (node (shape.AssignmentExpression o) xs n ts) w e)))
 written_is_row s (node (shape.UpdateExpression o l) xs n ts) w e = inr (inr (inr (inl (updated_follows (node (shape.UpdateExpression o l) xs n ts) w e))))
-written_is_row s (node (shape.BinaryExpression o) xs n ts) w e = of_equality s (node (shape.BinaryExpression o) xs n ts) w (first_is (loose.written (node (shape.BinaryExpression o) xs n ts)) (swap.written (node (shape.BinaryExpression o) xs n ts)) w e)
-written_is_row s (node (shape.YieldExpression d) xs n ts) w e = inr (inr (inr (inr (inr (inr (inr (yield_row (node (shape.YieldExpression d) xs n ts) w e)))))))
+written_is_row s (node (shape.BinaryExpression o) xs n ts) w e = of_binary s (node (shape.BinaryExpression o) xs n ts) w (first_is (typeof.written (node (shape.BinaryExpression o) xs n ts)) (equality_written (node (shape.BinaryExpression o) xs n ts)) w e)
+written_is_row s (node (shape.YieldExpression d) xs n ts) w e = inr (inr (inr (inr (inr (inr (inr (inl (yield_row (node (shape.YieldExpression d) xs n ts) w e))))))))
 written_is_row s (node h xs n ts) w e = absurd (cc e)
 
 -- what is written for a node whose form is told
@@ -258,7 +318,7 @@ updated_misses n w r e = go (turned r.target) refl (unwritten n (update r.operat
     go (Some m) h e = absurd (cc (sym (ap (dotted.updated_by (Some (r.operator, r.is_prefix))) h) ∙ e))
 
 sides_of : (o : BinaryOperator) (a b : Tree) → written (binary o a b) ≡ None → (loose.written (binary o a b) ≡ None) × (swap.written (binary o a b) ≡ None)
-sides_of o a b e = none_first (loose.written (binary o a b)) (swap.written (binary o a b)) e
+sides_of o a b e = none_first (loose.written (binary o a b)) (swap.written (binary o a b)) (none_first (typeof.written (binary o a b)) (equality_written (binary o a b)) e).1
 
 member_misses : (n w : Tree) → Row33 n w → written n ≡ None → ⊥
 member_misses n w (inl r) e = turned_misses (computed_member r.is_optional r.object (text r.name)) w (subst (λ x. Row33 x w) r.shape (inl r)) (unwritten n (computed_member r.is_optional r.object (text r.name)) r.shape e)
@@ -278,7 +338,10 @@ unwritten_rests s n e w (inr (inr (inr (inr (inr (inl r)))))) =
 unwritten_rests s n e w (inr (inr (inr (inr (inr (inr (inl r))))))) =
     let sides = sides_of r.operator (plain r.left) r.right (unwritten n (binary r.operator (plain r.left) r.right) r.shape e) in
     swap_misses (binary r.operator (plain r.left) r.right) w (subst (λ x. Row54 x w) r.shape r) sides.1
-unwritten_rests s n e w (inr (inr (inr (inr (inr (inr (inr r))))))) = absurd (cc (unwritten n (yields void_zero) r.shape e))
+unwritten_rests s n e w (inr (inr (inr (inr (inr (inr (inr (inl r)))))))) = absurd (cc (unwritten n (yields void_zero) r.shape e))
+unwritten_rests s n e w (inr (inr (inr (inr (inr (inr (inr (inr r)))))))) =
+    let long : Tree = binary r.operator (typeof_name r.name) (text (codes "undefined")) in
+    typeof_misses long w (subst (λ x. Row55 x w) r.shape r) (none_first (typeof.written long) (equality_written long) (unwritten n long r.shape e)).0
 
 pub rests_settle : law.RestsSettle
 rests_settle p n w r c = r w c.row

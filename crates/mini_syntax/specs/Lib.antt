@@ -4,9 +4,11 @@ pub mod SubstituteBoolean
 pub mod ConvertToDottedProperties
 pub mod SubstituteLooseEqualsUndefined
 pub mod SubstituteSwapBinaryExpressions
+pub mod SubstituteTypeofUndefined
 pub mod SubstituteYieldExpression
 pub mod SubstituteReturnStatement
 pub mod SubstituteObjectProperty
+pub mod SubstitutePropertyKey
 pub mod SubstituteVariableDeclaration
 pub mod Spelled
 pub mod Lighter

@@ -7,6 +7,7 @@ use Rattle.mini_rows.proofs.ArrowWeights.{arrows_lighten}
 use Rattle.mini_rows.proofs.BranchWeights.{branches_lighten}
 use Rattle.mini_rows.specs.Declarations.{DeclarationContracts}
 use Rattle.mini_rows.proofs.DeclarationWeights.{declarations_lighten}
+use Rattle.mini_rows.proofs.HeldKeyMeaning.{held_keys_lighten}
 use Rattle.mini_rows.proofs.SpellKeyWeights as keys
 use Rattle.mini_rows.proofs.SpellWeights.{lightens}
 use Rattle.mini_walk.specs.Rule.{IsLighter}
@@ -14,6 +15,7 @@ use Rattle.mini_walk.specs.Wider.{step_of}
 use Rattle.mini_syntax.specs.Spelled.{Gives}
 use Rattle.mini_syntax.specs.SubstituteArrowExpression as arrow
 use Rattle.mini_syntax.specs.SubstituteObjectProperty as keyed
+use Rattle.mini_syntax.specs.SubstitutePropertyKey as holding
 use Rattle.mini_syntax.specs.SubstituteReturnStatement as returning
 
 pub spellings_lighter : IsLighter Gives
@@ -34,3 +36,6 @@ declarations_lighter = any_step_lighter DeclarationContracts declarations_lighte
 
 pub arrows_lighter : IsLighter arrow.Gives
 arrows_lighter = any_step_lighter arrow.Gives arrows_lighten
+
+pub held_keys_lighter : IsLighter holding.Gives
+held_keys_lighter = any_step_lighter holding.Gives held_keys_lighten

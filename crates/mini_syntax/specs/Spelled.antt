@@ -12,18 +12,23 @@ use Rattle.mini_syntax.specs.SubstituteBoolean as boolean
 use Rattle.mini_syntax.specs.ConvertToDottedProperties as dotted
 use Rattle.mini_syntax.specs.SubstituteLooseEqualsUndefined as loose
 use Rattle.mini_syntax.specs.SubstituteSwapBinaryExpressions as swap
+use Rattle.mini_syntax.specs.SubstituteTypeofUndefined as typeof
 use Rattle.mini_syntax.specs.SubstituteYieldExpression as yielding
 
--- of an equality, and of other binary expressions
+-- of an equality
 abbrev pub equality_written : Tree → Option Tree
 equality_written t = first_of (loose.written t) (swap.written t)
+
+-- of binary expressions
+abbrev pub binary_written : Tree → Option Tree
+binary_written t = first_of (typeof.written t) (equality_written t)
 
 abbrev pub written_by : Shape → Tree → Option Tree
 written_by (shape.BooleanLiteral b) t = boolean.written t
 written_by (shape.ComputedMemberExpression is_optional) t = dotted.written t
 written_by (shape.AssignmentExpression o) t = dotted.written t
 written_by (shape.UpdateExpression o is_prefix) t = dotted.written t
-written_by (shape.BinaryExpression o) t = equality_written t
+written_by (shape.BinaryExpression o) t = binary_written t
 written_by (shape.YieldExpression is_delegate) t = yielding.written t
 written_by _ t = None
 

@@ -8,8 +8,8 @@ ghost use Rattle.mini_syntax.specs.Forms.{is_zero as is_it_zero, is_void_zero as
 use mini_model::{Name, Shape, UnaryOperator};
 use mini_node::{Node, is_identifier, number, unary_operator};
 
-// The units of `undefined`.
-const UNDEFINED: [u16; 9] = [117, 110, 100, 101, 102, 105, 110, 101, 100];
+/// The units of `undefined`.
+pub const UNDEFINED: [u16; 9] = [117, 110, 100, 101, 102, 105, 110, 101, 100];
 
 // `0`
 fn is_zero(node: &Node) -> bool

@@ -2,6 +2,7 @@
 
 ghost use Rattle.mini_syntax.specs.Spelled.{WrittenIsRow, UnwrittenRests, RestsSettle};
 ghost use Rattle.mini_syntax.specs.SubstituteObjectProperty.{WrittenIsReached, UnwrittenRests as KeysRest};
+ghost use Rattle.mini_syntax.specs.SubstitutePropertyKey.{WrittenIsRow as KeyIsRow, UnwrittenRests as HeldKeysRest};
 ghost use Rattle.mini_syntax.specs.SubstituteReturnStatement.{WrittenIsRow as ReturnIsRow, UnwrittenRests as OtherRests, GivesContracts};
 
 /// What the rewrites of spellings write is what a row says; where they write nothing no row reads the expression, and nothing
@@ -25,4 +26,11 @@ pub fn returns_are_rows()
 pub fn keys_are_rows()
     ensures written { WrittenIsReached }
     ensures unwritten { KeysRest }
+{}
+
+/// What the rewrite of keys of patterns and classes writes is what its row says; where it writes nothing the node is as it was, and
+/// the row doesn't read it.
+pub fn property_keys_are_rows()
+    ensures written { KeyIsRow }
+    ensures unwritten { HeldKeysRest }
 {}

@@ -5,15 +5,17 @@ mod forms;
 mod laws;
 mod rewrites;
 
-pub use laws::{keys_are_rows, returns_are_rows, spellings_are_rows};
+pub use laws::{keys_are_rows, property_keys_are_rows, returns_are_rows, spellings_are_rows};
 pub use rewrites::convert_to_dotted_properties::convert_to_dotted_properties;
 pub use rewrites::substitute_arrow_expression::{SubstituteArrows, substitute_arrow_expression};
 pub use rewrites::substitute_boolean::substitute_boolean;
 pub use rewrites::substitute_loose_equals_undefined::substitute_loose_equals_undefined;
 pub use rewrites::substitute_object_property::{SubstituteKeys, substitute_object_property};
+pub use rewrites::substitute_property_key::{SubstitutePropertyKeys, substitute_property_key};
 pub use rewrites::substitute_return_statement::{SubstituteReturns, substitute_return_statement};
 pub use rewrites::substitute_spellings::SubstituteSpellings;
 pub use rewrites::substitute_swap_binary_expressions::substitute_swap_binary_expressions;
+pub use rewrites::substitute_typeof_undefined::substitute_typeof_undefined;
 pub use rewrites::substitute_variable_declaration::{
     SubstituteDeclarations, substitute_variable_declaration,
 };

@@ -5,13 +5,12 @@ ghost use Rattle.mini_walk.specs.Rule.{Applied};
 ghost use Rattle.mini_logic.specs.Lighter.{conditional_lighter};
 ghost use Rattle.mini_logic.specs.MinimizeConditionalExpression.{has_negated_test as has_a_negated_test, swapped as with_swapped_branches, equal_by, equal_operator as its_equal_operator, turned as turned_by, written, Gives, Rests};
 
-use mini_context::TraverseCtx;
 use mini_model::{BinaryOperator, Position};
 use mini_node::{
     Node, binary, binary_operator, conditional, is_conditional, is_negation, one, taken, three, two,
 };
 use mini_text::OutOfMemory;
-use mini_walk::Rule;
+use mini_walk::{Context, Rule};
 use std::alloc::Global;
 
 // `!a ? b : c`
@@ -80,9 +79,7 @@ pub fn minimize_conditional_expression(alloc: Global, node: &mut Node) -> Result
 /// Row 40 as a rule: of each expression.
 pub struct MinimizeConditional;
 
-impl Rule for MinimizeConditional {
-    type Context = TraverseCtx;
-
+impl<C: Context> Rule<C> for MinimizeConditional {
     ghost gives = { λ o q. Gives };
 
     ghost rests = { λ o q. Rests };
@@ -95,7 +92,7 @@ impl Rule for MinimizeConditional {
         alloc: Global,
         node: &mut Node,
         place: Position,
-        context: &mut TraverseCtx,
+        context: &mut C,
     ) -> Result<bool, OutOfMemory> {
         match place {
             Position::Expr(_) => Ok(minimize_conditional_expression(alloc, node)?),

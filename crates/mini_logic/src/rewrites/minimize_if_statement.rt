@@ -8,22 +8,21 @@ ghost use Rattle.mini_model.specs.Terms.{neg};
 ghost use Rattle.mini_rows.specs.Branches.{as_consequent as as_consequent_of};
 ghost use Rattle.mini_walk.specs.Rule.{Applied};
 ghost use Rattle.mini_logic.specs.Lighter.{if_lighter};
-ghost use Rattle.mini_logic.specs.MinimizeIfStatement.{chooses as it_chooses, guards as it_guards, is_empty as is_it_empty, has_empty_consequent as has_an_empty_consequent, skips as it_skips, only_tests as it_only_tests, is_weighed as is_it_weighed, turns as it_turns, nests as it_nests, is_bare as is_it_bare, keeps_braces as it_keeps_braces, swaps as it_swaps, choice as choice_of, conjunction as conjunction_of, disjunction as disjunction_of, guard as guard_of, skipped as skipped_of, lighter_negation as lighter_negation_of, turned as turned_of, nested as nested_of, in_block as in_block_of, swapped as swapped_of, written, Gives, Rests};
+ghost use Rattle.mini_logic.specs.MinimizeIfStatement.{chooses as it_chooses, guards as it_guards, is_empty as is_it_empty, has_empty_consequent as has_an_empty_consequent, skips as it_skips, only_tests as it_only_tests, is_weighed as is_it_weighed, turns as it_turns, nests as it_nests, is_bare as is_it_bare, keeps_braces as it_keeps_braces, swaps as it_swaps, choice as choice_of, conjunction as conjunction_of, disjunction as disjunction_of, guard as guard_of, skipped as skipped_of, turned as turned_of, nested as nested_of, in_block as in_block_of, swapped as swapped_of, written, Gives, Rests};
 ghost use Rattle.mini_model.specs.Tree.{children, count, expression_statement as expression_statement_of};
 ghost use Rattle.mini_node.specs.Children.{part};
 
 use crate::statements::{has_else, is_other_branch, is_unchained, may_choose};
-use crate::terms::{has_negated_result, has_one, neg_weight, negated};
-use mini_context::TraverseCtx;
+use crate::terms::{has_negated_result, has_one, lighter_negation, negated};
 use mini_model::{LogicalOperator, Position, Seat, Shape};
 use mini_node::{
     Node, absent, block, conditional, discard, expression_statement, if_statement, is_absent_part,
     is_block, is_empty_statement, is_expression_statement, is_if_alone, is_if_statement,
-    is_negation, logical, negation, of_one, one, taken, three,
+    is_negation, logical, of_one, one, taken, three,
 };
 use mini_text::OutOfMemory;
 use mini_tree::{negation_weight, seats};
-use mini_walk::Rule;
+use mini_walk::{Context, Rule};
 use std::alloc::Global;
 
 // `if (a) b; else c;`
@@ -192,17 +191,6 @@ fn tested(alloc: Global, node: Node) -> Result<Node, OutOfMemory>
     expression_statement(alloc, one(node))
 }
 
-// The lighter of `!a` and of the negation of a.
-fn lighter_negation(alloc: Global, test: Node, seat: Seat) -> Result<Node, OutOfMemory>
-    ensures { IfOk result (λ w. w ≡ lighter_negation_of seat test) }
-{
-    if negation_weight(&test, seat) < neg_weight(&test, seat) {
-        negation(alloc, test)
-    } else {
-        negated(alloc, test, seat)
-    }
-}
-
 // A statement as a consequent: an `if` with `else` has a block around it there.
 fn as_consequent(alloc: Global, statement: Node) -> Result<Node, OutOfMemory>
     ensures { IfOk result (λ w. w ≡ as_consequent_of statement) }
@@ -289,9 +277,7 @@ pub fn try_minimize_if(alloc: Global, node: &mut Node) -> Result<bool, OutOfMemo
 /// Row 82 as a rule: of each statement.
 pub struct MinimizeIf;
 
-impl Rule for MinimizeIf {
-    type Context = TraverseCtx;
-
+impl<C: Context> Rule<C> for MinimizeIf {
     ghost gives = { λ o q. Gives };
 
     ghost rests = { λ o q. Rests };
@@ -304,7 +290,7 @@ impl Rule for MinimizeIf {
         alloc: Global,
         node: &mut Node,
         place: Position,
-        context: &mut TraverseCtx,
+        context: &mut C,
     ) -> Result<bool, OutOfMemory> {
         match place {
             Position::Stmt(_) => Ok(try_minimize_if(alloc, node)?),

@@ -6,12 +6,11 @@ ghost use Rattle.mini_logic.specs.Lighter.{unary_lighter};
 ghost use Rattle.mini_logic.specs.MinimizeUnaryExpression.{has_lighter_negation as has_a_lighter_negation, minimizes_unary, minimized_unary, Gives, Rests};
 
 use crate::terms::{has_own_negation, neg_weight, negated};
-use mini_context::TraverseCtx;
 use mini_model::{Position, Seat};
 use mini_node::{Node, is_negation, one, taken};
 use mini_text::OutOfMemory;
 use mini_tree::negation_weight;
-use mini_walk::Rule;
+use mini_walk::{Context, Rule};
 use std::alloc::Global;
 
 // Whether the negation of an expression is lighter than a `!` before it.
@@ -45,9 +44,7 @@ pub fn minimize_unary(alloc: Global, node: &mut Node, seat: Seat) -> Result<bool
 /// Row 23 as a rule: of each expression.
 pub struct MinimizeUnary;
 
-impl Rule for MinimizeUnary {
-    type Context = TraverseCtx;
-
+impl<C: Context> Rule<C> for MinimizeUnary {
     ghost gives = { λ o q. Gives };
 
     ghost rests = { λ o q. Rests };
@@ -60,7 +57,7 @@ impl Rule for MinimizeUnary {
         alloc: Global,
         node: &mut Node,
         place: Position,
-        context: &mut TraverseCtx,
+        context: &mut C,
     ) -> Result<bool, OutOfMemory> {
         match place {
             Position::Expr(seat) => Ok(minimize_unary(alloc, node, seat)?),

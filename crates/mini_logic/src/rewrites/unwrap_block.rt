@@ -10,11 +10,10 @@ ghost use Rattle.mini_walk.specs.Rule.{Applied};
 
 use crate::statements::{has_else, is_unscoped};
 use crate::terms::has_one;
-use mini_context::TraverseCtx;
 use mini_model::{Position, Shape};
 use mini_node::{Node, discard, is_block, is_if_statement, one, taken};
 use mini_text::OutOfMemory;
-use mini_walk::Rule;
+use mini_walk::{Context, Rule};
 use std::alloc::Global;
 
 // `{ a; }`, of a statement that isn't scoped
@@ -132,9 +131,7 @@ pub fn unwrap_block(alloc: Global, node: &mut Node) -> Result<bool, OutOfMemory>
 /// Row 79 as a rule: of each statement.
 pub struct UnwrapBlocks;
 
-impl Rule for UnwrapBlocks {
-    type Context = TraverseCtx;
-
+impl<C: Context> Rule<C> for UnwrapBlocks {
     ghost gives = { λ o q. Gives };
 
     ghost rests = { λ o q. Rests };
@@ -147,7 +144,7 @@ impl Rule for UnwrapBlocks {
         alloc: Global,
         node: &mut Node,
         place: Position,
-        context: &mut TraverseCtx,
+        context: &mut C,
     ) -> Result<bool, OutOfMemory> {
         match place {
             Position::Stmt(_) => Ok(unwrap_block(alloc, node)?),

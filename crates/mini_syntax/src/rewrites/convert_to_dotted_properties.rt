@@ -1,25 +1,22 @@
 //! Row 33: `o["x"]` becomes `o.x`, and `o["1"]` becomes `o[1]`, also where the member is assigned to or updated. It is
 //! lighter in every seat.
 
-ghost use Rattle.std.specs.Prelude.{◌≡◌, is_some, unwrap_or, OnOk, IfOk, IfSome};
+ghost use Rattle.std.specs.Prelude.{◌≡◌, true, is_some, unwrap_or, OnOk, IfOk};
 ghost use Rattle.std.specs.Option.{option_copied};
 ghost use Rattle.mini_model.specs.Tree.{children, count};
-ghost use Rattle.mini_node.specs.Children.{part};
-ghost use Rattle.mini_node.specs.Kinds.{string as text_of};
-ghost use Rattle.mini_rows.specs.Spellings.{assignment as assignment_of, update as update_of};
-ghost use Rattle.mini_syntax.specs.ConvertToDottedProperties.{is_name_text, number_of_text, named_member as its_named_member, numbered_member as its_numbered_member, text_in, as_name as the_name, dotted as dotted_of, numbered as numbered_of, turned, assigned, updated, update_operator as its_update_operator, written};
+ghost use Rattle.mini_node.specs.Kinds.{string as text_of, assignment_operator as operator_of};
+ghost use Rattle.mini_syntax.specs.ConvertToDottedProperties.{is_name_text, number_of_text, named_member as its_named_member, numbered_member as its_numbered_member, text_in, as_name as the_name, dotted as dotted_of, numbered as numbered_of, turned, assigned, updated, update_operator, written};
 
-use mini_model::{AssignmentOperator, Shape, UpdateOperator};
+use mini_model::Shape;
 use mini_node::{
-    Node, assignment, assignment_operator, computed_member, is_computed_member, numeric_literal,
-    of_one, of_two, one, string, taken, two,
+    Node, computed_member, is_computed_member, numeric_literal, of_two, one, string, taken, two,
 };
 use mini_text::{OutOfMemory, Text, equivalent_number, is_identifier_name};
 use std::alloc::Global;
 use std::mem;
 
-// A text that is an identifier's name.
-fn is_name(node: &Node) -> bool
+/// Whether it is a text that is an identifier's name.
+pub fn is_name(node: &Node) -> bool
     ensures { result ≡ is_name_text (text_of node.now) }
 {
     match string(node) {
@@ -94,13 +91,6 @@ fn numbered(alloc: Global, number: i64, node: Node) -> Result<Node, OutOfMemory>
     computed_member(alloc, one(node), numeric_literal(alloc, number))
 }
 
-// Whether the member changes.
-fn turns(node: &Node) -> bool
-    ensures { result ≡ is_some (turned node.now) }
-{
-    named_member(node).is_some() || numbered_member(node).is_some()
-}
-
 // `o.x` or `o[1]`
 fn turn(alloc: Global, node: &mut Node) -> Result<bool, OutOfMemory>
     ensures tree { OnOk result (node.new ≡ unwrap_or (turned node.old) node.old) }
@@ -117,67 +107,48 @@ fn turn(alloc: Global, node: &mut Node) -> Result<bool, OutOfMemory>
     Ok(false)
 }
 
-// `o.x = v`, of an assignment by this operator
-fn reassigned(alloc: Global, operator: AssignmentOperator, node: Node) -> Result<Node, OutOfMemory>
-    ensures { IfOk result (λ w. w ≡ assignment_of operator (unwrap_or (turned (part node 0)) (part node 0)) (part node 1)) }
+// `o["x"] = v`, by any operator
+fn is_assignment(node: &Node) -> bool
+    ensures kind { result ≡ is_some (operator_of node.now) }
+    ensures parts { result ≡ true → count (children node.now) ≡ 2 }
 {
-    let (mut target, value) = two(node);
-    let _ = turn(alloc, &mut target)?;
-    assignment(alloc, operator, target, value)
+    match node.shape() {
+        Shape::AssignmentExpression(_) => node.is_bare(2),
+        _ => false,
+    }
 }
 
 fn turn_assigned(alloc: Global, node: &mut Node) -> Result<bool, OutOfMemory>
     ensures tree { OnOk result (node.new ≡ unwrap_or (assigned node.old) node.old) }
     ensures said { IfOk result (λ changed. changed ≡ is_some (assigned node.old)) }
 {
-    match assignment_operator(node) {
-        Some(operator) if turns(node.child(0)) => {
-            *node = reassigned(alloc, operator, taken(alloc, node))?;
-            Ok(true)
-        }
-        _ => Ok(false),
+    if !is_assignment(node) {
+        return Ok(false);
     }
+    let changed = turn(alloc, node.children_mut().child_mut(0))?;
+    Ok(changed)
 }
 
-// The operator of an update, and whether it stands before its operand.
-fn update_operator(node: &Node) -> Option<(UpdateOperator, bool)>
-    ensures kind { result ≡ its_update_operator node.now }
-    ensures parts { IfSome result (λ _. count (children node.now) ≡ 1) }
+// `o["x"]++`, or another update
+fn is_update(node: &Node) -> bool
+    ensures kind { result ≡ is_some (update_operator node.now) }
+    ensures parts { result ≡ true → count (children node.now) ≡ 1 }
 {
     match node.shape() {
-        Shape::UpdateExpression(operator, is_prefix) if node.is_bare(1) => {
-            Some((*operator, *is_prefix))
-        }
-        _ => None,
+        Shape::UpdateExpression(_, _) => node.is_bare(1),
+        _ => false,
     }
-}
-
-// `o.x++`, of an update by this operator
-fn reupdated(
-    alloc: Global,
-    operator: UpdateOperator,
-    is_prefix: bool,
-    node: Node,
-) -> Result<Node, OutOfMemory>
-    ensures { IfOk result (λ w. w ≡ update_of operator is_prefix (unwrap_or (turned (part node 0)) (part node 0))) }
-{
-    let mut target = one(node);
-    let _ = turn(alloc, &mut target)?;
-    let children = of_one(alloc, target)?;
-    Ok(Node::new(Shape::UpdateExpression(operator, is_prefix), children))
 }
 
 fn turn_updated(alloc: Global, node: &mut Node) -> Result<bool, OutOfMemory>
     ensures tree { OnOk result (node.new ≡ unwrap_or (updated node.old) node.old) }
     ensures said { IfOk result (λ changed. changed ≡ is_some (updated node.old)) }
 {
-    match update_operator(node) {
-        Some((operator, is_prefix)) if turns(node.child(0)) => {
-            *node = reupdated(alloc, operator, is_prefix, taken(alloc, node))?;
-            Ok(true)
-        }
-        _ => Ok(false),
+    if !is_update(node) {
+        return Ok(false);
     }
+    let changed = turn(alloc, node.children_mut().child_mut(0))?;
+    Ok(changed)
 }
 
 /// `o["x"]` becomes `o.x`, and `o["1"]` becomes `o[1]`, also where the member is assigned to or updated. The answer says

@@ -8,11 +8,10 @@ ghost use Rattle.mini_syntax.specs.Lighter.{arrows_lighter};
 ghost use Rattle.mini_syntax.specs.SubstituteArrowExpression.{is_plain_arrow as is_a_plain_arrow, are_no_names, returned as returned_by, returns as it_returns, is_returning as it_is_returning, unwrapped as unwrapped_arrow, written, Gives, Rests};
 
 use crate::forms::is_list_of;
-use mini_context::TraverseCtx;
 use mini_model::{Name, Position, Shape};
 use mini_node::{Node, discard, is_return_statement, one, taken};
 use mini_text::OutOfMemory;
-use mini_walk::Rule;
+use mini_walk::{Context, Rule};
 use std::alloc::Global;
 
 // An arrow function without directives.
@@ -92,9 +91,7 @@ pub fn substitute_arrow_expression(alloc: Global, node: &mut Node) -> Result<boo
 /// Row 59 as a rule: of each expression.
 pub struct SubstituteArrows;
 
-impl Rule for SubstituteArrows {
-    type Context = TraverseCtx;
-
+impl<C: Context> Rule<C> for SubstituteArrows {
     ghost gives = { λ o q. Gives };
 
     ghost rests = { λ o q. Rests };
@@ -107,7 +104,7 @@ impl Rule for SubstituteArrows {
         alloc: Global,
         node: &mut Node,
         place: Position,
-        context: &mut TraverseCtx,
+        context: &mut C,
     ) -> Result<bool, OutOfMemory> {
         match place {
             Position::Expr(_) => Ok(substitute_arrow_expression(alloc, node)?),

@@ -13,13 +13,12 @@ ghost use Rattle.mini_syntax.specs.SubstituteObjectProperty as row;
 ghost use Rattle.mini_syntax.specs.SubstituteObjectProperty.{written, is_written, Gives, Rests};
 
 use crate::rewrites::convert_to_dotted_properties::{as_name, number_of};
-use mini_context::TraverseCtx;
 use mini_model::{Name, Position, PropertyKind, Shape};
 use mini_node::{
     Node, Nodes, discard, is_identifier, is_listed, numeric_literal, of_two, string, taken, two,
 };
 use mini_text::{OutOfMemory, Text, is_identifier_name};
-use mini_walk::Rule;
+use mini_walk::{Context, Rule};
 use std::alloc::Global;
 
 // The units of `__proto__`.
@@ -147,8 +146,8 @@ fn names_key(node: &Node) -> bool
     is_open(node) && is_key_text(is_plain(node), node.child(0))
 }
 
-// The number from 0 that a text writes.
-fn whole_of(key: &Node) -> Option<i64>
+/// The number from 0 that a text writes.
+pub fn whole_of(key: &Node) -> Option<i64>
     ensures { result ≡ row.whole_of (number_of_text (text_of key.now)) }
 {
     match number_of(key) {
@@ -314,9 +313,7 @@ pub fn substitute_object_property(alloc: Global, node: &mut Node) -> Result<bool
 /// The rows of keys as a rule: of each object literal.
 pub struct SubstituteKeys;
 
-impl Rule for SubstituteKeys {
-    type Context = TraverseCtx;
-
+impl<C: Context> Rule<C> for SubstituteKeys {
     ghost gives = { λ o q. Gives };
 
     ghost rests = { λ o q. Rests };
@@ -329,7 +326,7 @@ impl Rule for SubstituteKeys {
         alloc: Global,
         node: &mut Node,
         place: Position,
-        context: &mut TraverseCtx,
+        context: &mut C,
     ) -> Result<bool, OutOfMemory> {
         match place {
             Position::Expr(_) => Ok(substitute_object_property(alloc, node)?),

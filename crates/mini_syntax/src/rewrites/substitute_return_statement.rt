@@ -8,11 +8,10 @@ ghost use Rattle.mini_syntax.specs.Lighter.{returns_lighter};
 ghost use Rattle.mini_syntax.specs.SubstituteReturnStatement.{returns_undefined as returns_it_undefined, written, Gives, Rests};
 
 use crate::forms::is_undefined;
-use mini_context::TraverseCtx;
 use mini_model::Position;
 use mini_node::{Node, absent, is_return_statement, return_statement};
 use mini_text::OutOfMemory;
-use mini_walk::Rule;
+use mini_walk::{Context, Rule};
 use std::alloc::Global;
 
 // `return undefined;` or `return void 0;`
@@ -45,9 +44,7 @@ pub fn substitute_return_statement(alloc: Global, node: &mut Node) -> Result<boo
 /// Row 60 as a rule: of each statement.
 pub struct SubstituteReturns;
 
-impl Rule for SubstituteReturns {
-    type Context = TraverseCtx;
-
+impl<C: Context> Rule<C> for SubstituteReturns {
     ghost gives = { λ o q. Gives };
 
     ghost rests = { λ o q. Rests };
@@ -60,7 +57,7 @@ impl Rule for SubstituteReturns {
         alloc: Global,
         node: &mut Node,
         place: Position,
-        context: &mut TraverseCtx,
+        context: &mut C,
     ) -> Result<bool, OutOfMemory> {
         match place {
             Position::Stmt(_) => Ok(substitute_return_statement(alloc, node)?),

@@ -3,18 +3,18 @@
 ghost use Rattle.std.specs.Prelude.{◌≡◌, is_some, unwrap_or, OnOk, IfOk};
 ghost use Rattle.mini_walk.specs.Rule.{Applied};
 ghost use Rattle.mini_syntax.specs.Lighter.{spellings_lighter};
-ghost use Rattle.mini_syntax.specs.Spelled.{equality_written, written, Gives, Rests};
+ghost use Rattle.mini_syntax.specs.Spelled.{equality_written, binary_written, written, Gives, Rests};
 
 use crate::rewrites::convert_to_dotted_properties::convert_to_dotted_properties;
 use crate::rewrites::substitute_boolean::substitute_boolean;
 use crate::rewrites::substitute_loose_equals_undefined::substitute_loose_equals_undefined;
 use crate::rewrites::substitute_swap_binary_expressions::substitute_swap_binary_expressions;
+use crate::rewrites::substitute_typeof_undefined::substitute_typeof_undefined;
 use crate::rewrites::substitute_yield_expression::substitute_yield_expression;
-use mini_context::TraverseCtx;
 use mini_model::{Position, Shape};
 use mini_node::Node;
 use mini_text::OutOfMemory;
-use mini_walk::Rule;
+use mini_walk::{Context, Rule};
 use std::alloc::Global;
 
 fn substitute_equality(alloc: Global, node: &mut Node) -> Result<bool, OutOfMemory>
@@ -27,6 +27,16 @@ fn substitute_equality(alloc: Global, node: &mut Node) -> Result<bool, OutOfMemo
     substitute_swap_binary_expressions(alloc, node)
 }
 
+fn substitute_binary(alloc: Global, node: &mut Node) -> Result<bool, OutOfMemory>
+    ensures tree { OnOk result (node.new ≡ unwrap_or (binary_written node.old) node.old) }
+    ensures said { IfOk result (λ changed. changed ≡ is_some (binary_written node.old)) }
+{
+    if substitute_typeof_undefined(alloc, node)? {
+        return Ok(true);
+    }
+    substitute_equality(alloc, node)
+}
+
 // What a row says of the expression, if one reads it.
 fn substitute_spelling(alloc: Global, node: &mut Node) -> Result<bool, OutOfMemory>
     ensures tree { OnOk result (node.new ≡ unwrap_or (written node.old) node.old) }
@@ -37,7 +47,7 @@ fn substitute_spelling(alloc: Global, node: &mut Node) -> Result<bool, OutOfMemo
         Shape::ComputedMemberExpression(_)
         | Shape::AssignmentExpression(_)
         | Shape::UpdateExpression(_, _) => convert_to_dotted_properties(alloc, node),
-        Shape::BinaryExpression(_) => substitute_equality(alloc, node),
+        Shape::BinaryExpression(_) => substitute_binary(alloc, node),
         Shape::YieldExpression(_) => substitute_yield_expression(alloc, node),
         _ => Ok(false),
     }
@@ -46,9 +56,7 @@ fn substitute_spelling(alloc: Global, node: &mut Node) -> Result<bool, OutOfMemo
 /// The rows of spellings as a rule: of each expression.
 pub struct SubstituteSpellings;
 
-impl Rule for SubstituteSpellings {
-    type Context = TraverseCtx;
-
+impl<C: Context> Rule<C> for SubstituteSpellings {
     ghost gives = { λ o q. Gives };
 
     ghost rests = { λ o q. Rests };
@@ -61,7 +69,7 @@ impl Rule for SubstituteSpellings {
         alloc: Global,
         node: &mut Node,
         place: Position,
-        context: &mut TraverseCtx,
+        context: &mut C,
     ) -> Result<bool, OutOfMemory> {
         match place {
             Position::Expr(_) => Ok(substitute_spelling(alloc, node)?),

@@ -2,9 +2,11 @@
 //! lighter in every place.
 
 ghost use Rattle.std.specs.Prelude.{◌≡◌, ◌<◌, true, IfSome, is_some};
-ghost use Rattle.mini_model.specs.declared.place.Position.TheVariants.{StatementList, Stmt};
+ghost use Rattle.mini_model.specs.declared.place.Position.{Position as PositionSpec};
+ghost use Rattle.mini_model.specs.declared.place.Position.TheVariants.{Stmt};
 ghost use Rattle.mini_model.specs.declared.seat.StmtSeat.{StmtSeat};
 ghost use Rattle.mini_model.specs.Tree.{absent, children, count, child_or_absent};
+ghost use Rattle.mini_kept.specs.Placed.{is_statement_list};
 ghost use Rattle.mini_node.specs.Children.{part, with_part};
 ghost use Rattle.mini_rows.specs.Declarations.{Row61, DeclarationContracts};
 ghost use Rattle.mini_syntax.specs.Lighter.{declarations_lighter};
@@ -12,11 +14,10 @@ ghost use Rattle.mini_syntax.specs.SubstituteVariableDeclaration as row;
 ghost use Rattle.mini_syntax.specs.SubstituteVariableDeclaration.{any_of, begins_undefined as is_begun_undefined, declares_undefined as is_declared_undefined, is_read as is_it_read, Bared, Rests, Applied};
 
 use crate::forms::is_undefined;
-use mini_context::TraverseCtx;
 use mini_model::{Position, Shape, VariableDeclarationKind};
 use mini_node::{Node, Nodes, discard, is_listed};
 use mini_text::OutOfMemory;
-use mini_walk::Rule;
+use mini_walk::{Context, Rule};
 use std::alloc::Global;
 
 // A name that is declared.
@@ -196,7 +197,7 @@ fn drop_in_list(node: &mut Node, at: usize)
 
 // Of a list of statements, `let x = undefined;` becomes `let x;`, exported or not. The answer says whether one did.
 fn substitute_in_list(node: &mut Node) -> bool
-    ensures { Applied StatementList node.old node.new result }
+    ensures { (p : PositionSpec) → is_statement_list p ≡ true → Applied p node.old node.new result }
 {
     if !is_listed(node) {
         return false;
@@ -228,6 +229,7 @@ pub fn substitute_variable_declaration(node: &mut Node, place: Position) -> bool
 {
     match place {
         Position::StatementList => substitute_in_list(node),
+        Position::BodyList => substitute_in_list(node),
         Position::Stmt(_) => substitute_in_loop(node),
         _ => false,
     }
@@ -236,9 +238,7 @@ pub fn substitute_variable_declaration(node: &mut Node, place: Position) -> bool
 /// Row 61 as a rule: of each list of statements, and of each `for`.
 pub struct SubstituteDeclarations;
 
-impl Rule for SubstituteDeclarations {
-    type Context = TraverseCtx;
-
+impl<C: Context> Rule<C> for SubstituteDeclarations {
     ghost gives = { λ o q. DeclarationContracts };
 
     ghost rests = { λ o q. Rests };
@@ -250,7 +250,7 @@ impl Rule for SubstituteDeclarations {
         _alloc: Global,
         node: &mut Node,
         place: Position,
-        _context: &mut TraverseCtx,
+        _context: &mut C,
     ) -> Result<bool, OutOfMemory> {
         Ok(substitute_variable_declaration(node, place))
     }

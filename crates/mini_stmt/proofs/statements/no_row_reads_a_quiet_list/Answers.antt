@@ -1,4 +1,4 @@
-use Rattle.mini_stmt.proofs.Guards.{no_row}
+use Rattle.mini_stmt.proofs.Bodies.{no_row}
 use Rattle.mini_stmt.proofs.statements.no_row_reads_a_quiet_list.Goals as goal
 
 pub returns : goal.returns

@@ -5,5 +5,5 @@ use Rattle.mini_syntax.proofs.Applying.{applied}
 use Rattle.mini_syntax.proofs.rewrites.substitute_spellings.SubstituteSpellingsRule.apply.Goals as goal
 
 pub returns-in_ok-substitute_spelling-in-Expr-clause-applied : goal.returns-in_ok-substitute_spelling-in-Expr-clause-applied
-returns-in_ok-substitute_spelling-in-Expr-clause-applied c = λ o q k.
+returns-in_ok-substitute_spelling-in-Expr-clause-applied g c = λ o q k.
     subst (λ p. Applied Gives Rests p c.args.node.now c.substitute_spelling.new.node c.in_ok-substitute_spelling-in-Expr.field-0) (sym c.in-Expr.is) (applied c.in-Expr.field-0 c.args.node.now c.substitute_spelling.new.node c.in_ok-substitute_spelling-in-Expr.field-0 c.in_ok-substitute_spelling-in-Expr.ensures.tree c.in_ok-substitute_spelling-in-Expr.ensures.said)

@@ -1,0 +1,412 @@
+-- What the rewrites of choices write is what a row says, and where they write nothing no row reads the expression.
+use borrow.Author.Tests.{ltb-true}
+use Rattle.std.proofs.Common.{◌≡◌, ◌<◌, ◌^◌, arith, true≢false, Bool, true, false, Option, Some, None, refl, sym, ap, subst, ◌∙◌, inl, inr}
+use Rattle.std.specs.Prelude.{◌⊎◌, ◌&&◌, not, nat_eq, is_none, is_some, unwrap_or, if◌then◌else◌}
+use Rattle.std.proofs.lemmas.Bool.{and_parts}
+use Rattle.mini_model.specs.declared.name.Name.{Name}
+use Rattle.mini_model.specs.declared.operator.AssignmentOperator.{AssignmentOperator}
+use Rattle.mini_model.specs.declared.operator.AssignmentOperator.TheVariants.{Assign}
+use Rattle.mini_model.specs.declared.operator.BinaryOperator.{BinaryOperator}
+use Rattle.mini_model.specs.declared.operator.BinaryOperator.TheVariants.{Equality, Inequality}
+use Rattle.mini_model.specs.declared.operator.LogicalOperator.{LogicalOperator}
+use Rattle.mini_model.specs.declared.operator.LogicalOperator.TheVariants.{Or, And, Coalesce}
+use Rattle.mini_model.specs.declared.place.Position.TheVariants.{Expr}
+use Rattle.mini_model.specs.declared.seat.Seat.{Seat}
+use Rattle.mini_model.specs.declared.shape.Shape.TheVariants as shape
+use Rattle.mini_model.specs.Tree.{Tree, Trees, node, ◌▸◌, identifier, logical, conditional, null_literal}
+use Rattle.mini_model.specs.Position.{conditional_level}
+use Rattle.mini_model.specs.Weight.{weight}
+use Rattle.mini_node.specs.Children.{part}
+use Rattle.mini_node.specs.Equal.{same_tree}
+use Rattle.mini_node.specs.Kinds.{binary, assignment, is_logical, is_conditional, is_null, logical_operator, binary_operator}
+use Rattle.mini_node.specs.Made.{logical_is, binary_is, conditional_is, null_is}
+use Rattle.mini_node.proofs.Equality.{tree_itself}
+use Rattle.mini_rows.specs.Choices.{assign, is_grouped, joined, strictly, joining, deciding, computing, Row39, Row38, Row35, Row45, Row46Equal, Row46Unequal, LighterRow, OwnRow, ChoiceRow, ChoiceContracts}
+use Rattle.mini_rows.proofs.ChoiceWeights as choice_weights
+use Rattle.mini_walk.specs.Rule.{Applied}
+use Rattle.mini_walk.proofs.Reaching.{moves_once}
+use Rattle.mini_choices.specs.Assigning.{assigns_name, is_same_name, is_declared}
+use Rattle.mini_choices.specs.SubstituteRotateLogicalExpression as rotate
+use Rattle.mini_choices.specs.MinimizeLogicalExpression as decide
+use Rattle.mini_choices.specs.MinimizeNormalAssignmentToCombinedAssignment as combine
+use Rattle.mini_choices.specs.MinimizeConditionalBranches as branches
+use Rattle.mini_choices.specs.MinimizeHeldBranches as held
+use Rattle.mini_choices.proofs.Trials.{some_is, not_true, both_true, tried, first_true, later_true, first_there, second_there, lighter_test}
+use Rattle.mini_choices.specs.SubstituteRotateLogicalExpression.{leftmost}
+use Rattle.mini_choices.specs.MinimizeNullishComparison as nullish
+use Rattle.mini_choices.proofs.Names.{assigns_is, OneName, one_name}
+use Rattle.mini_choices.proofs.NullishComparison.{comparison_row, alone_passes, after_passes}
+use Rattle.mini_choices.proofs.Spines.{logical_kind_is, spine_of, leftmost_joined}
+use Rattle.mini_choices.proofs.HeldBranches.{held_row, held_passes}
+use Rattle.mini_choices.specs.Choices.{first_of, written, Gives, Rests, WrittenIsRow, UnwrittenRests}
+
+-- ---- 39
+
+rotated_row : (n w : Tree) → rotate.written n ≡ Some w → Row39 n w
+rotated_row n w e = go (logical_operator n) refl e
+  where
+    by : (o : LogicalOperator) → logical_operator n ≡ Some o → (b : Bool) → is_logical o (part n 1) && not (is_grouped o (leftmost o (part (part n 1) 0))) ≡ b → rotate.written_by (if b then Some o else None) n ≡ Some w → Row39 n w
+    by o h true k e =
+        let right : Tree = part n 1 in
+        let (kind, first) = and_parts (is_logical o right) (not (is_grouped o (leftmost o (part right 0)))) k in
+        let spine = spine_of o (part right 0) in
+        record {
+          operator = o;
+          a = part n 0;
+          b = leftmost o (part right 0);
+          last = part right 1;
+          others = spine.others;
+          ungrouped = not_true (is_grouped o (leftmost o (part right 0))) first;
+          shape = logical_is n o h ∙ ap (logical o (part n 0)) (logical_kind_is o right kind ∙ ap (λ x. logical o x (part right 1)) spine.is);
+          written = sym (some_is (rotate.rotated o n) w e) ∙ ap (λ x. logical o x (part right 1)) (spine.over (part n 0));
+        }
+    by o h false k e = absurd (cc e)
+
+    go : (o : Option LogicalOperator) → logical_operator n ≡ o → rotate.written_by (rotate.rotated_in o (part n 1)) n ≡ Some w → Row39 n w
+    go (Some o) h e = by o h (is_logical o (part n 1) && not (is_grouped o (leftmost o (part (part n 1) 0)))) refl e
+    go None h e = absurd (cc e)
+
+rotated_passes : (o : LogicalOperator) (a b c : Tree) (cs : Trees) → is_grouped o b ≡ false → is_some (rotate.written (logical o a (joined o b (c ▸ cs)))) ≡ true
+rotated_passes Or a b c cs e =
+    ap (λ x. is_some (rotate.written_by (if not (is_grouped Or x) then Some Or else None) (logical Or a (joined Or b (c ▸ cs))))) (leftmost_joined Or b cs e)
+    ∙ ap (λ g. is_some (rotate.written_by (if not g then Some Or else None) (logical Or a (joined Or b (c ▸ cs))))) e
+rotated_passes And a b c cs e =
+    ap (λ x. is_some (rotate.written_by (if not (is_grouped And x) then Some And else None) (logical And a (joined And b (c ▸ cs))))) (leftmost_joined And b cs e)
+    ∙ ap (λ g. is_some (rotate.written_by (if not g then Some And else None) (logical And a (joined And b (c ▸ cs))))) e
+rotated_passes Coalesce a b c cs e =
+    ap (λ x. is_some (rotate.written_by (if not (is_grouped Coalesce x) then Some Coalesce else None) (logical Coalesce a (joined Coalesce b (c ▸ cs))))) (leftmost_joined Coalesce b cs e)
+    ∙ ap (λ g. is_some (rotate.written_by (if not g then Some Coalesce else None) (logical Coalesce a (joined Coalesce b (c ▸ cs))))) e
+
+-- ---- 38
+
+decided_row : (n w : Tree) → decide.written n ≡ Some w → Row38 n w
+decided_row n w e = go (logical_operator n) refl e
+  where
+    by : (o : LogicalOperator) → logical_operator n ≡ Some o → (b : Bool) → assigns_name (part n 1) && is_same_name (part n 0) (part (part n 1) 0) ≡ b → decide.written_by (if b then Some o else None) (part n 1) ≡ Some w → Row38 n w
+    by o h true k e =
+        let (right, same) = and_parts (assigns_name (part n 1)) (is_same_name (part n 0) (part (part n 1) 0)) k in
+        let one = one_name (part n 0) (part (part n 1) 0) same in
+        let value = part (part n 1) 1 in
+        record {
+          operator = o;
+          name = one.name;
+          b = value;
+          shape = logical_is n o h ∙ ap (λ t. logical o t (part n 1)) one.first ∙ ap (logical o (identifier one.name)) (assigns_is (part n 1) right ∙ ap (λ t. assignment Assign t value) one.second);
+          written = sym (some_is (decide.decided o (part n 1)) w e) ∙ ap (λ t. assignment (deciding o) t value) one.second;
+        }
+    by o h false k e = absurd (cc e)
+
+    go : (o : Option LogicalOperator) → logical_operator n ≡ o → decide.written_by (decide.deciding_in o (part n 0) (part n 1)) (part n 1) ≡ Some w → Row38 n w
+    go (Some o) h e = by o h (assigns_name (part n 1) && is_same_name (part n 0) (part (part n 1) 0)) refl e
+    go None h e = absurd (cc e)
+
+decided_passes : (o : LogicalOperator) (x : Name) (b : Tree) → decide.written (logical o (identifier x) (assign x b)) ≡ Some (assignment (deciding o) (identifier x) b)
+decided_passes o x b = ap (λ g. decide.written_by (if g then Some o else None) (assign x b)) (tree_itself (identifier x))
+
+-- ---- 35
+
+combined_row : (n w : Tree) → combine.written n ≡ Some w → Row35 n w
+combined_row n w e = by (assigns_name n && is_same_name (part n 0) (part (part n 1) 0)) refl e
+  where
+    made : (o : BinaryOperator) → assigns_name n ≡ true → OneName (part n 0) (part (part n 1) 0) → binary_operator (part n 1) ≡ Some o → (c : Option AssignmentOperator) → computing o ≡ c → combine.written_by c n ≡ Some w → Row35 n w
+    made o assigning one h (Some c) k e =
+        let right = part (part n 1) 1 in
+        record {
+          operator = o;
+          combined = c;
+          name = one.name;
+          b = right;
+          computes = k;
+          shape = assigns_is n assigning ∙ ap (λ t. assignment Assign t (part n 1)) one.first ∙ ap (assignment Assign (identifier one.name)) (binary_is (part n 1) o h ∙ ap (λ t. binary o t right) one.second);
+          written = sym (some_is (combine.combined c n) w e) ∙ ap (λ t. assignment c t right) one.first;
+        }
+    made o assigning one h None k e = absurd (cc e)
+
+    go : assigns_name n ≡ true → OneName (part n 0) (part (part n 1) 0) → (o : Option BinaryOperator) → binary_operator (part n 1) ≡ o → combine.written_by (combine.computing_in o) n ≡ Some w → Row35 n w
+    go assigning one (Some o) h e = made o assigning one h (computing o) refl e
+    go assigning one None h e = absurd (cc e)
+
+    by : (b : Bool) → assigns_name n && is_same_name (part n 0) (part (part n 1) 0) ≡ b → combine.written_by (if b then combine.computing_in (binary_operator (part n 1)) else None) n ≡ Some w → Row35 n w
+    by true k e =
+        let (assigning, same) = and_parts (assigns_name n) (is_same_name (part n 0) (part (part n 1) 0)) k in
+        go assigning (one_name (part n 0) (part (part n 1) 0) same) (binary_operator (part n 1)) refl e
+    by false k e = absurd (cc e)
+
+combined_passes : (o : BinaryOperator) (c : AssignmentOperator) → computing o ≡ Some c → (x : Name) (b : Tree) → combine.written (assign x (binary o (identifier x) b)) ≡ Some (assignment c (identifier x) b)
+combined_passes o c h x b =
+    ap (λ g. combine.written_by (if g then computing o else None) (assign x (binary o (identifier x) b))) (tree_itself (identifier x)) ∙ ap (λ m. combine.written_by m (assign x (binary o (identifier x) b))) h
+
+-- ---- 45
+
+chosen_row : (s : Seat) (n : Tree) → branches.is_seated s && branches.assigns_either n ≡ true → Row45 s n (branches.assigned n)
+chosen_row s n k =
+    let (seated, either) = and_parts (branches.is_seated s) (branches.assigns_either n) k in
+    let (chooses, both) = and_parts (is_conditional n) (assigns_name (part n 1) && (assigns_name (part n 2) && (is_same_name (part (part n 1) 0) (part (part n 2) 0) && is_declared (part (part n 1) 0)))) either in
+    let (left, others) = and_parts (assigns_name (part n 1)) (assigns_name (part n 2) && (is_same_name (part (part n 1) 0) (part (part n 2) 0) && is_declared (part (part n 1) 0))) both in
+    let (right, names) = and_parts (assigns_name (part n 2)) (is_same_name (part (part n 1) 0) (part (part n 2) 0) && is_declared (part (part n 1) 0)) others in
+    let (same, declared) = and_parts (is_same_name (part (part n 1) 0) (part (part n 2) 0)) (is_declared (part (part n 1) 0)) names in
+    let one = one_name (part (part n 1) 0) (part (part n 2) 0) same in
+    let yes = part (part n 1) 1 in
+    let no = part (part n 2) 1 in
+    record {
+      a = part n 0;
+      name = one.name;
+      b = yes;
+      c = no;
+      declared = not_true (is_none one.name.symbol) (sym (ap is_declared one.first) ∙ declared);
+      seated = not_true (nat_eq s.level conditional_level) seated;
+      shape = conditional_is n chooses ∙ (λ i. conditional (part n 0) ((assigns_is (part n 1) left ∙ ap (λ t. assignment Assign t yes) one.first) i) ((assigns_is (part n 2) right ∙ ap (λ t. assignment Assign t no) one.second) i));
+      written = ap (λ t. assignment Assign t (conditional (part n 0) yes no)) one.first;
+    }
+
+-- ---- 46
+
+equal_operator : (o : Option BinaryOperator) → branches.is_equal_in o ≡ true → o ≡ Some Equality
+equal_operator (Some Equality) e = refl
+equal_operator o e = absurd (true≢false (sym e))
+
+unequal_operator : (o : Option BinaryOperator) → branches.is_unequal_in o ≡ true → o ≡ Some Inequality
+unequal_operator (Some Inequality) e = refl
+unequal_operator o e = absurd (true≢false (sym e))
+
+-- a comparison of a name with null
+record BesideNull (o : BinaryOperator) (t x : Tree) : Type 0 where
+  name : Name
+  compares : t ≡ binary o (identifier name) null_literal
+  is : x ≡ identifier name
+  declared : is_none name.symbol ≡ false
+
+beside_null : (o : BinaryOperator) (t x : Tree) → binary_operator t ≡ Some o → branches.is_beside_null t x ≡ true → BesideNull o t x
+beside_null o t x h e =
+    let (null, rest) = and_parts (is_null (part t 1)) (is_same_name (part t 0) x && is_declared x) e in
+    let (same, declared) = and_parts (is_same_name (part t 0) x) (is_declared x) rest in
+    let one = one_name (part t 0) x same in
+    record {
+      name = one.name;
+      compares = binary_is t o h ∙ (λ i. binary o (one.first i) (null_is (part t 1) null i));
+      is = one.second;
+      declared = not_true (is_none one.name.symbol) (sym (ap is_declared one.second) ∙ declared);
+    }
+
+equal_row : (n : Tree) → branches.is_own_if_equal n ≡ true → Row46Equal n (logical Coalesce (part n 2) (part n 1))
+equal_row n k =
+    let (chooses, rest) = and_parts (is_conditional n) (branches.is_equal_in (binary_operator (part n 0)) && branches.is_beside_null (part n 0) (part n 2)) k in
+    let (equal, beside) = and_parts (branches.is_equal_in (binary_operator (part n 0))) (branches.is_beside_null (part n 0) (part n 2)) rest in
+    let r = beside_null Equality (part n 0) (part n 2) (equal_operator (binary_operator (part n 0)) equal) beside in
+    record {
+      name = r.name;
+      b = part n 1;
+      declared = r.declared;
+      shape = conditional_is n chooses ∙ (λ i. conditional (r.compares i) (part n 1) (r.is i));
+      written = ap (λ t. logical Coalesce t (part n 1)) r.is;
+    }
+
+unequal_row : (n : Tree) → branches.is_own_if_unequal n ≡ true → Row46Unequal n (logical Coalesce (part n 1) (part n 2))
+unequal_row n k =
+    let (chooses, rest) = and_parts (is_conditional n) (branches.is_unequal_in (binary_operator (part n 0)) && branches.is_beside_null (part n 0) (part n 1)) k in
+    let (unequal, beside) = and_parts (branches.is_unequal_in (binary_operator (part n 0))) (branches.is_beside_null (part n 0) (part n 1)) rest in
+    let r = beside_null Inequality (part n 0) (part n 1) (unequal_operator (binary_operator (part n 0)) unequal) beside in
+    record {
+      name = r.name;
+      b = part n 2;
+      declared = r.declared;
+      shape = conditional_is n chooses ∙ (λ i. conditional (r.compares i) (r.is i) (part n 2));
+      written = ap (λ t. logical Coalesce t (part n 2)) r.is;
+    }
+
+-- ---- 41
+
+own_or_row : (s : Seat) (n : Tree) → branches.is_own_consequent s n ≡ true → ChoiceContracts (Expr s) n (logical Or (part n 0) (part n 2))
+own_or_row s n k =
+    let (chooses, rest) = and_parts (is_conditional n) (is_same_name (part n 0) (part n 1) && branches.is_lighter s (logical Or (part n 0) (part n 2)) n) k in
+    let (same, less) = and_parts (is_same_name (part n 0) (part n 1)) (branches.is_lighter s (logical Or (part n 0) (part n 2)) n) rest in
+    let one = one_name (part n 0) (part n 1) same in
+    record {
+      row = inr (inl (inl (record {
+        name = one.name;
+        b = part n 2;
+        shape = conditional_is n chooses ∙ (λ i. conditional (one.first i) (one.second i) (part n 2));
+        written = ap (λ t. logical Or t (part n 2)) one.first;
+      })));
+      lighter = omega (arith, ltb-true _ _ less);
+    }
+
+own_and_row : (s : Seat) (n : Tree) → branches.is_own_alternate s n ≡ true → ChoiceContracts (Expr s) n (logical And (part n 0) (part n 1))
+own_and_row s n k =
+    let (chooses, rest) = and_parts (is_conditional n) (is_same_name (part n 0) (part n 2) && branches.is_lighter s (logical And (part n 0) (part n 1)) n) k in
+    let (same, less) = and_parts (is_same_name (part n 0) (part n 2)) (branches.is_lighter s (logical And (part n 0) (part n 1)) n) rest in
+    let one = one_name (part n 0) (part n 2) same in
+    record {
+      row = inr (inl (inr (record {
+        name = one.name;
+        b = part n 1;
+        shape = conditional_is n chooses ∙ (λ i. conditional (one.first i) (part n 1) (one.second i));
+        written = ap (λ t. logical And t (part n 1)) one.first;
+      })));
+      lighter = omega (arith, ltb-true _ _ less);
+    }
+
+-- ---- a conditional
+
+-- one that is lighter in every seat
+sure : (s : Seat) (n w : Tree) → LighterRow s n w → ChoiceContracts (Expr s) n w
+sure s n w r = record { row = inl r; lighter = choice_weights.lighter s n w r }
+
+module _ (s : Seat) (n w : Tree) where
+  branch_row : branches.written s n ≡ Some w → ChoiceContracts (Expr s) n w
+  branch_row =
+      tried s n w (branches.is_own_if_equal n) (logical Coalesce (part n 2) (part n 1)) (branches.unequal_written s n) (λ h. sure s n (logical Coalesce (part n 2) (part n 1)) (inr (inr (inr (inl (equal_row n h))))))
+      (tried s n w (branches.is_own_if_unequal n) (logical Coalesce (part n 1) (part n 2)) (branches.consequent_written s n) (λ h. sure s n (logical Coalesce (part n 1) (part n 2)) (inr (inr (inr (inr (inl (unequal_row n h)))))))
+      (tried s n w (branches.is_own_consequent s n) (logical Or (part n 0) (part n 2)) (branches.alternate_written s n) (own_or_row s n)
+      (tried s n w (branches.is_own_alternate s n) (logical And (part n 0) (part n 1)) (branches.assignment_written s n) (own_and_row s n)
+      (tried s n w (branches.is_seated s && branches.assigns_either n) (branches.assigned n) None (λ h. sure s n (branches.assigned n) (inr (inr (inr (inr (inr (inl (chosen_row s n h)))))))) (λ e. absurd (cc e))))))
+
+module _ (s : Seat) (t : Tree) where
+  by_equal : branches.is_own_if_equal t ≡ true → is_some (branches.written s t) ≡ true
+  by_equal h = first_true (branches.is_own_if_equal t) (logical Coalesce (part t 2) (part t 1)) (branches.unequal_written s t) h
+
+  after_equal : is_some (branches.unequal_written s t) ≡ true → is_some (branches.written s t) ≡ true
+  after_equal h = later_true (branches.is_own_if_equal t) (logical Coalesce (part t 2) (part t 1)) (branches.unequal_written s t) h
+
+  by_unequal : branches.is_own_if_unequal t ≡ true → is_some (branches.written s t) ≡ true
+  by_unequal h = after_equal (first_true (branches.is_own_if_unequal t) (logical Coalesce (part t 1) (part t 2)) (branches.consequent_written s t) h)
+
+  after_unequal : is_some (branches.consequent_written s t) ≡ true → is_some (branches.written s t) ≡ true
+  after_unequal h = after_equal (later_true (branches.is_own_if_unequal t) (logical Coalesce (part t 1) (part t 2)) (branches.consequent_written s t) h)
+
+  by_consequent : branches.is_own_consequent s t ≡ true → is_some (branches.written s t) ≡ true
+  by_consequent h = after_unequal (first_true (branches.is_own_consequent s t) (logical Or (part t 0) (part t 2)) (branches.alternate_written s t) h)
+
+  after_consequent : is_some (branches.alternate_written s t) ≡ true → is_some (branches.written s t) ≡ true
+  after_consequent h = after_unequal (later_true (branches.is_own_consequent s t) (logical Or (part t 0) (part t 2)) (branches.alternate_written s t) h)
+
+  by_alternate : branches.is_own_alternate s t ≡ true → is_some (branches.written s t) ≡ true
+  by_alternate h = after_consequent (first_true (branches.is_own_alternate s t) (logical And (part t 0) (part t 1)) (branches.assignment_written s t) h)
+
+  by_assignment : branches.is_seated s && branches.assigns_either t ≡ true → is_some (branches.written s t) ≡ true
+  by_assignment h = after_consequent (later_true (branches.is_own_alternate s t) (logical And (part t 0) (part t 1)) (branches.assignment_written s t) (first_true (branches.is_seated s && branches.assigns_either t) (branches.assigned t) None h))
+
+declared_passes : (x : Name) → is_none x.symbol ≡ false → same_tree (identifier x) (identifier x) && is_declared (identifier x) ≡ true
+declared_passes x d = both_true (same_tree (identifier x) (identifier x)) (is_declared (identifier x)) (tree_itself (identifier x)) (ap not d)
+
+chosen_passes : (s : Seat) → nat_eq s.level conditional_level ≡ false → (a : Tree) (x : Name) (b c : Tree) → is_none x.symbol ≡ false → branches.is_seated s && branches.assigns_either (conditional a (assign x b) (assign x c)) ≡ true
+chosen_passes s seated a x b c d = both_true (branches.is_seated s) (branches.assigns_either (conditional a (assign x b) (assign x c))) (ap not seated) (declared_passes x d)
+
+-- ---- all
+
+either_some : (a b : Option Tree) (w : Tree) → first_of a b ≡ Some w → (a ≡ Some w) ⊎ (b ≡ Some w)
+either_some (Some a) b w e = inl e
+either_some None b w e = inr e
+
+row_of : (s : Seat) (n w : Tree) → written s n ≡ Some w → ChoiceContracts (Expr s) n w
+row_of s (node (shape.LogicalExpression o) xs m ts) w e = sure s _ w (logical_row (either_some (rotate.written (node (shape.LogicalExpression o) xs m ts)) (first_of (decide.written (node (shape.LogicalExpression o) xs m ts)) (nullish.written (node (shape.LogicalExpression o) xs m ts))) w e))
+  where
+    others_row : (decide.written (node (shape.LogicalExpression o) xs m ts) ≡ Some w) ⊎ (nullish.written (node (shape.LogicalExpression o) xs m ts) ≡ Some w) → LighterRow s (node (shape.LogicalExpression o) xs m ts) w
+    others_row (inl e) = inr (inl (decided_row _ w e))
+    others_row (inr e) = comparison_row (LighterRow s) (λ n w r. inr (inr (inr (inr (inr (inr (inl r))))))) (λ n w r. inr (inr (inr (inr (inr (inr (inr r))))))) _ w e
+
+    logical_row : (rotate.written (node (shape.LogicalExpression o) xs m ts) ≡ Some w) ⊎ (first_of (decide.written (node (shape.LogicalExpression o) xs m ts)) (nullish.written (node (shape.LogicalExpression o) xs m ts)) ≡ Some w) → LighterRow s (node (shape.LogicalExpression o) xs m ts) w
+    logical_row (inl e) = inl (rotated_row _ w e)
+    logical_row (inr e) = others_row (either_some (decide.written (node (shape.LogicalExpression o) xs m ts)) (nullish.written (node (shape.LogicalExpression o) xs m ts)) w e)
+row_of s (node (shape.AssignmentExpression o) xs m ts) w e = sure s _ w (inr (inr (inl (combined_row _ w e))))
+row_of s (node shape.ConditionalExpression xs m ts) w e = conditional_row (either_some (held.written s (node shape.ConditionalExpression xs m ts)) (branches.written s (node shape.ConditionalExpression xs m ts)) w e)
+  where
+    conditional_row : (held.written s (node shape.ConditionalExpression xs m ts) ≡ Some w) ⊎ (branches.written s (node shape.ConditionalExpression xs m ts) ≡ Some w) → ChoiceContracts (Expr s) (node shape.ConditionalExpression xs m ts) w
+    conditional_row (inl e) = held_row s _ w e
+    conditional_row (inr e) = branch_row s _ w e
+row_of s (node h xs m ts) w e = absurd (cc e)
+
+pub written_is_row : WrittenIsRow
+written_is_row s n w e = row_of s n w e
+
+in_branches : (s : Seat) (t : Tree) → is_some (branches.written s t) ≡ true → is_some (first_of (held.written s t) (branches.written s t)) ≡ true
+in_branches s t h = second_there (held.written s t) (branches.written s t) h
+
+held_there : (s : Seat) (n : Tree) → is_some (held.written s n) ≡ true → is_some (written s n) ≡ true
+held_there s n h =
+    let is = conditional_is n (chooses (is_conditional n) h) in
+    let t : Tree = conditional (part n 0) (part n 1) (part n 2) in
+    ap (λ t. is_some (written s t)) is ∙ first_there (held.written s t) (branches.written s t) (sym (ap (λ t. is_some (held.written s t)) is) ∙ h)
+  where
+    chooses : (b : Bool) → is_some (if b then held.chosen_written s n else None) ≡ true → b ≡ true
+    chooses true e = refl
+    chooses false e = e
+
+last_there : (t : Tree) → is_some (nullish.written t) ≡ true → is_some (first_of (rotate.written t) (first_of (decide.written t) (nullish.written t))) ≡ true
+last_there t h = second_there (rotate.written t) (first_of (decide.written t) (nullish.written t)) (second_there (decide.written t) (nullish.written t) h)
+
+sure_passes : (s : Seat) (n w : Tree) → LighterRow s n w → is_some (written s n) ≡ true
+sure_passes s n w (inl r) =
+    let t : Tree = logical r.operator r.a (joined r.operator r.b (r.last ▸ r.others)) in
+    ap (λ t. is_some (written s t)) r.shape ∙ first_there (rotate.written t) (first_of (decide.written t) (nullish.written t)) (rotated_passes r.operator r.a r.b r.last r.others r.ungrouped)
+sure_passes s n w (inr (inl r)) =
+    let t : Tree = logical r.operator (identifier r.name) (assign r.name r.b) in
+    ap (λ t. is_some (written s t)) r.shape ∙ first_there (decide.written t) (nullish.written t) (ap is_some (decided_passes r.operator r.name r.b))
+sure_passes s n w (inr (inr (inl r))) = ap (λ t. is_some (written s t)) r.shape ∙ ap is_some (combined_passes r.operator r.combined r.computes r.name r.b)
+sure_passes s n w (inr (inr (inr (inl r)))) = ap (λ t. is_some (written s t)) r.shape ∙ in_branches s (conditional (binary Equality (identifier r.name) null_literal) r.b (identifier r.name)) (by_equal s (conditional (binary Equality (identifier r.name) null_literal) r.b (identifier r.name)) (declared_passes r.name r.declared))
+sure_passes s n w (inr (inr (inr (inr (inl r))))) = ap (λ t. is_some (written s t)) r.shape ∙ in_branches s (conditional (binary Inequality (identifier r.name) null_literal) (identifier r.name) r.b) (by_unequal s (conditional (binary Inequality (identifier r.name) null_literal) (identifier r.name) r.b) (declared_passes r.name r.declared))
+sure_passes s n w (inr (inr (inr (inr (inr (inl r)))))) = ap (λ t. is_some (written s t)) r.shape ∙ in_branches s (conditional r.a (assign r.name r.b) (assign r.name r.c)) (by_assignment s (conditional r.a (assign r.name r.b) (assign r.name r.c)) (chosen_passes s r.seated r.a r.name r.b r.c r.declared))
+sure_passes s n w (inr (inr (inr (inr (inr (inr (inl r))))))) =
+    let t : Tree = logical (joining r.equal) (binary (strictly r.equal) (identifier r.name) r.first) (binary (strictly r.equal) (identifier r.name) r.second) in
+    ap (λ t. is_some (written s t)) r.shape ∙ last_there t (alone_passes r.equal r.name r.first r.second r.nullish)
+sure_passes s n w (inr (inr (inr (inr (inr (inr (inr r))))))) =
+    let t : Tree = logical (joining r.equal) (logical (joining r.equal) r.before (binary (strictly r.equal) (identifier r.name) r.first)) (binary (strictly r.equal) (identifier r.name) r.second) in
+    ap (λ t. is_some (written s t)) r.shape ∙ last_there t (after_passes r.equal r.before r.name r.first r.second r.nullish)
+
+own_passes : (s : Seat) (n w : Tree) → OwnRow n w → weight (Expr s) n < 2 ^ 64 → weight (Expr s) w < weight (Expr s) n → is_some (written s n) ≡ true
+own_passes s n w (inl r) small less =
+    let t : Tree = conditional (identifier r.name) (identifier r.name) r.b in
+    let u : Tree = logical Or (identifier r.name) r.b in
+    let same = ap (weight (Expr s)) r.shape in
+    let made = ap (weight (Expr s)) r.written in
+    ap (λ t. is_some (written s t)) r.shape ∙ in_branches s t (by_consequent s t (both_true (same_tree (identifier r.name) (identifier r.name)) (branches.is_lighter s u t) (tree_itself (identifier r.name)) (lighter_test s u t (omega (arith, small, same)) (omega (arith, less, same, made)))))
+own_passes s n w (inr r) small less =
+    let t : Tree = conditional (identifier r.name) r.b (identifier r.name) in
+    let u : Tree = logical And (identifier r.name) r.b in
+    let same = ap (weight (Expr s)) r.shape in
+    let made = ap (weight (Expr s)) r.written in
+    ap (λ t. is_some (written s t)) r.shape ∙ in_branches s t (by_alternate s t (both_true (same_tree (identifier r.name) (identifier r.name)) (branches.is_lighter s u t) (tree_itself (identifier r.name)) (lighter_test s u t (omega (arith, small, same)) (omega (arith, less, same, made)))))
+
+passes : (s : Seat) (n w : Tree) → ChoiceRow (Expr s) n w → weight (Expr s) n < 2 ^ 64 → weight (Expr s) w < weight (Expr s) n → is_some (written s n) ≡ true
+passes s n w (inl r) small less = sure_passes s n w r
+passes s n w (inr (inl r)) small less = own_passes s n w r small less
+passes s n w (inr (inr r)) small less = held_there s n (held_passes s n w small less r)
+
+pub unwritten_rests : UnwrittenRests
+unwritten_rests s n e small w c = absurd (cc (sym (passes s n w c.row small c.lighter) ∙ ap is_some e))
+
+pub applied : (s : Seat) (t u : Tree) (b : Bool) → u ≡ unwrap_or (written s t) t → b ≡ is_some (written s t) → Applied Gives Rests (Expr s) t u b
+applied s t u b e f = subst (λ v. Applied Gives Rests (Expr s) t v b) (sym e) (subst (Applied Gives Rests (Expr s) t (unwrap_or (written s t) t)) (sym f) (go (written s t) refl))
+  where
+    go : (o : Option Tree) → written s t ≡ o → Applied Gives Rests (Expr s) t (unwrap_or o t) (is_some o)
+    go None h = (refl, unwritten_rests s t h)
+    go (Some w) h = moves_once Gives (Expr s) t w (written_is_row s t w h)
+
+-- where the first of two rewrites writes something, that is all
+
+first_stands : (a b : Option Tree) → true ≡ is_some a → first_of a b ≡ a
+first_stands (Some w) b e = refl
+first_stands None b e = absurd (cc e)
+
+module _ (first second : Tree → Option Tree) (t u : Tree) (e : u ≡ unwrap_or (first t) t) (f : true ≡ is_some (first t)) where
+  pub first_made : u ≡ unwrap_or (first_of (first t) (second t)) t
+  first_made = e ∙ sym (ap (λ o. unwrap_or o t) (first_stands (first t) (second t) f))
+
+  pub first_said : true ≡ is_some (first_of (first t) (second t))
+  first_said = f ∙ sym (ap is_some (first_stands (first t) (second t) f))
+
+-- where the first of two rewrites writes nothing, the second is tried on the same expression
+
+none_written : (o : Option Tree) → false ≡ is_some o → o ≡ None
+none_written None e = refl
+none_written (Some w) e = absurd (cc e)
+
+module _ (first second : Tree → Option Tree) (t u : Tree) (e : u ≡ unwrap_or (first t) t) (f : false ≡ is_some (first t)) where
+  left_as_it_was : u ≡ t
+  left_as_it_was = e ∙ ap (λ o. unwrap_or o t) (none_written (first t) f)
+
+  pub second_written : second u ≡ first_of (first t) (second t)
+  second_written = ap second left_as_it_was ∙ sym (ap (λ o. first_of o (second t)) (none_written (first t) f))
+
+  pub second_made : unwrap_or (second u) u ≡ unwrap_or (first_of (first t) (second t)) t
+  second_made = ap (λ o. unwrap_or o u) second_written ∙ ap (unwrap_or (first_of (first t) (second t))) left_as_it_was

@@ -1,0 +1,10 @@
+pub mod Assigning
+pub mod Forms
+pub mod SubstituteRotateLogicalExpression
+pub mod MinimizeLogicalExpression
+pub mod MinimizeNullishComparison
+pub mod MinimizeNormalAssignmentToCombinedAssignment
+pub mod MinimizeConditionalBranches
+pub mod MinimizeHeldBranches
+pub mod Choices
+pub mod Lighter

@@ -1,0 +1,43 @@
+//! Tests of assignments of names.
+
+ghost use Rattle.std.specs.Prelude.{◌≡◌, true};
+ghost use Rattle.mini_model.specs.Tree.{children, count};
+ghost use Rattle.mini_node.specs.Children.{names};
+ghost use Rattle.mini_choices.specs.Assigning.{assigns_name as it_assigns_name, is_same_name as is_it_same_name, is_declared_in as is_it_declared_in, is_declared as is_it_declared};
+
+use mini_model::{AssignmentOperator, Name};
+use mini_node::{Node, assignment_operator, is_identifier, is_same_tree};
+
+/// `x = b`
+pub fn assigns_name(node: &Node) -> bool
+    ensures kind { result ≡ it_assigns_name node.now }
+    ensures parts { result ≡ true → count (children node.now) ≡ 2 }
+{
+    match assignment_operator(node) {
+        Some(AssignmentOperator::Assign) => is_identifier(node.child(0)),
+        _ => false,
+    }
+}
+
+/// Whether they are two names, and one.
+pub fn is_same_name(first: &Node, second: &Node) -> bool
+    ensures { result ≡ is_it_same_name first.now second.now }
+{
+    is_identifier(first) && is_same_tree(first, second)
+}
+
+fn is_declared_in(name: &Option<Name>) -> bool
+    ensures { result ≡ is_it_declared_in (names name.now) }
+{
+    match name {
+        Some(name) => !name.symbol.is_none(),
+        None => false,
+    }
+}
+
+/// Whether a scope declares the name.
+pub fn is_declared(node: &Node) -> bool
+    ensures { result ≡ is_it_declared node.now }
+{
+    is_declared_in(node.name())
+}

@@ -1,0 +1,18 @@
+//! Rewrites of choices: what conditionals, logical expressions and assignments have in common is written once. One rule for the
+//! walk, and the law that joins it to the rows.
+#![tactic(auto)]
+
+mod assigning;
+mod forms;
+mod laws;
+mod rewrites;
+mod weights;
+
+pub use laws::choices_are_rows;
+pub use rewrites::minimize_choices::MinimizeChoices;
+pub use rewrites::minimize_conditional_branches::minimize_conditional_branches;
+pub use rewrites::minimize_held_branches::minimize_held_branches;
+pub use rewrites::minimize_logical_expression::minimize_logical_expression;
+pub use rewrites::minimize_normal_assignment_to_combined_assignment::minimize_normal_assignment_to_combined_assignment;
+pub use rewrites::minimize_nullish_comparison::minimize_nullish_comparison;
+pub use rewrites::substitute_rotate_logical_expression::substitute_rotate_logical_expression;

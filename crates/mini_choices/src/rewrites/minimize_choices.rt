@@ -1,0 +1,96 @@
+//! The rewrites of conditionals, logical expressions and assignments as one rule.
+
+ghost use Rattle.std.specs.Prelude.{◌≡◌, is_some, unwrap_or, OnOk, IfOk};
+ghost use Rattle.mini_walk.specs.Rule.{Applied};
+ghost use Rattle.mini_choices.specs.Choices.{first_of, written, Gives, Rests};
+ghost use Rattle.mini_choices.specs.Lighter.{choices_lighter};
+ghost use Rattle.mini_choices.specs.MinimizeConditionalBranches as branches;
+ghost use Rattle.mini_choices.specs.MinimizeHeldBranches as held;
+ghost use Rattle.mini_choices.specs.MinimizeLogicalExpression as decide;
+ghost use Rattle.mini_choices.specs.MinimizeNullishComparison as nullish;
+ghost use Rattle.mini_choices.specs.SubstituteRotateLogicalExpression as rotate;
+
+use crate::rewrites::minimize_conditional_branches::minimize_conditional_branches;
+use crate::rewrites::minimize_held_branches::minimize_held_branches;
+use crate::rewrites::minimize_logical_expression::minimize_logical_expression;
+use crate::rewrites::minimize_normal_assignment_to_combined_assignment::minimize_normal_assignment_to_combined_assignment;
+use crate::rewrites::minimize_nullish_comparison::minimize_nullish_comparison;
+use crate::rewrites::substitute_rotate_logical_expression::substitute_rotate_logical_expression;
+use mini_model::{Position, Seat, Shape};
+use mini_node::Node;
+use mini_text::OutOfMemory;
+use mini_walk::{Context, Rule};
+use std::alloc::Global;
+
+// Of a logical expression whose operands stand from the left.
+fn minimize_operands(alloc: Global, node: &mut Node) -> Result<bool, OutOfMemory>
+    ensures tree { OnOk result (node.new ≡ unwrap_or (first_of (decide.written node.old) (nullish.written node.old)) node.old) }
+    ensures said { IfOk result (λ changed. changed ≡ is_some (first_of (decide.written node.old) (nullish.written node.old))) }
+{
+    if minimize_logical_expression(alloc, node)? {
+        return Ok(true);
+    }
+    minimize_nullish_comparison(alloc, node)
+}
+
+// Of a logical expression.
+fn minimize_logical(alloc: Global, node: &mut Node) -> Result<bool, OutOfMemory>
+    ensures tree { OnOk result (node.new ≡ unwrap_or (first_of (rotate.written node.old) (first_of (decide.written node.old) (nullish.written node.old))) node.old) }
+    ensures said { IfOk result (λ changed. changed ≡ is_some (first_of (rotate.written node.old) (first_of (decide.written node.old) (nullish.written node.old)))) }
+{
+    if substitute_rotate_logical_expression(alloc, node)? {
+        return Ok(true);
+    }
+    minimize_operands(alloc, node)
+}
+
+// Of a conditional.
+fn minimize_conditional(alloc: Global, node: &mut Node, seat: Seat) -> Result<bool, OutOfMemory>
+    ensures tree { OnOk result (node.new ≡ unwrap_or (first_of (held.written seat node.old) (branches.written seat node.old)) node.old) }
+    ensures said { IfOk result (λ changed. changed ≡ is_some (first_of (held.written seat node.old) (branches.written seat node.old))) }
+{
+    if minimize_held_branches(alloc, node, seat)? {
+        return Ok(true);
+    }
+    minimize_conditional_branches(alloc, node, seat)
+}
+
+// What a row says of the expression in its seat, if one reads it.
+fn minimize_choice(alloc: Global, node: &mut Node, seat: Seat) -> Result<bool, OutOfMemory>
+    ensures tree { OnOk result (node.new ≡ unwrap_or (written seat node.old) node.old) }
+    ensures said { IfOk result (λ changed. changed ≡ is_some (written seat node.old)) }
+{
+    match node.shape() {
+        Shape::LogicalExpression(_) => minimize_logical(alloc, node),
+        Shape::AssignmentExpression(_) => {
+            minimize_normal_assignment_to_combined_assignment(alloc, node)
+        }
+        Shape::ConditionalExpression => minimize_conditional(alloc, node, seat),
+        _ => Ok(false),
+    }
+}
+
+/// The rows of choices as a rule: of each expression.
+pub struct MinimizeChoices;
+
+impl<C: Context> Rule<C> for MinimizeChoices {
+    ghost gives = { λ o q. Gives };
+
+    ghost rests = { λ o q. Rests };
+
+    ghost lighter = { λ o q. choices_lighter };
+
+    #[tactic(auto, using(crate::proofs::Choices::applied))]
+    fn apply(
+        &self,
+        alloc: Global,
+        node: &mut Node,
+        place: Position,
+        context: &mut C,
+    ) -> Result<bool, OutOfMemory> {
+        match place {
+            Position::Expr(seat) => Ok(minimize_choice(alloc, node, seat)?),
+            _ => Ok(false),
+        }
+    }
+}

@@ -1,0 +1,182 @@
+//! Rows 41, 45 and 46: `x ? x : b` becomes `x || b`, and `x ? b : x` becomes `x && b`, where that is lighter in the seat;
+//! `a ? x = b : x = c` becomes `x = a ? b : c`, and `x == null ? b : x` becomes `x ?? b`, where a scope declares x, which is
+//! lighter in every seat.
+
+ghost use Rattle.std.specs.Prelude.{◌≡◌, true, is_some, unwrap_or, OnOk, IfOk};
+ghost use Rattle.mini_model.specs.Tree.{children, count, logical as logical_of};
+ghost use Rattle.mini_node.specs.Children.{part};
+ghost use Rattle.mini_node.specs.Kinds.{binary_operator as its_operator};
+ghost use Rattle.mini_choices.specs.MinimizeConditionalBranches.{assigns_either as it_assigns_either, is_seated as is_it_seated, assigned as assigned_of, is_equal_in, is_unequal_in, is_beside_null as is_it_beside_null, is_own_if_equal as is_it_own_if_equal, is_own_if_unequal as is_it_own_if_unequal, is_own_consequent as is_it_own_consequent, is_own_alternate as is_it_own_alternate, written};
+
+use crate::assigning::{assigns_name, is_declared, is_same_name};
+use mini_model::{AssignmentOperator, BinaryOperator, LogicalOperator, Seat};
+use mini_node::{
+    Node, assignment, binary_operator, conditional, discard, is_conditional, is_null, logical,
+    taken, three, two,
+};
+use mini_text::OutOfMemory;
+use mini_tree::{expr_weight, logical_weight};
+use std::alloc::Global;
+
+// The level of a conditional.
+const CONDITIONAL_LEVEL: u8 = 2;
+
+// `a ? x = b : x = c`
+fn assigns_either(node: &Node) -> bool
+    ensures { result ≡ it_assigns_either node.now }
+{
+    is_conditional(node)
+        && assigns_name(node.child(1))
+        && assigns_name(node.child(2))
+        && is_same_name(node.child(1).child(0), node.child(2).child(0))
+        && is_declared(node.child(1).child(0))
+}
+
+// Whether an assignment stands there as a conditional does.
+fn is_seated(seat: Seat) -> bool
+    ensures { result ≡ is_it_seated seat }
+{
+    seat.level != CONDITIONAL_LEVEL
+}
+
+// `x = a ? b : c`
+fn assigned(alloc: Global, node: Node) -> Result<Node, OutOfMemory>
+    ensures { IfOk result (λ w. w ≡ assigned_of node) }
+{
+    let (test, consequent, alternate) = three(node);
+    let (target, first) = two(consequent);
+    let (other, second) = two(alternate);
+    discard(other);
+    let value = conditional(alloc, test, first, second)?;
+    assignment(alloc, AssignmentOperator::Assign, target, value)
+}
+
+// `a == b`
+fn is_equal(node: &Node) -> bool
+    ensures kind { result ≡ is_equal_in (its_operator node.now) }
+    ensures parts { result ≡ true → count (children node.now) ≡ 2 }
+{
+    match binary_operator(node) {
+        Some(BinaryOperator::Equality) => true,
+        _ => false,
+    }
+}
+
+// `a != b`
+fn is_unequal(node: &Node) -> bool
+    ensures kind { result ≡ is_unequal_in (its_operator node.now) }
+    ensures parts { result ≡ true → count (children node.now) ≡ 2 }
+{
+    match binary_operator(node) {
+        Some(BinaryOperator::Inequality) => true,
+        _ => false,
+    }
+}
+
+// Whether a comparison is of this name, which a scope declares, with null.
+fn is_beside_null(comparison: &Node, name: &Node) -> bool
+    requires { count (children comparison.now) ≡ 2 }
+    ensures { result ≡ is_it_beside_null comparison.now name.now }
+{
+    is_null(comparison.child(1)) && is_same_name(comparison.child(0), name) && is_declared(name)
+}
+
+// `x == null ? b : x`
+fn is_own_if_equal(node: &Node) -> bool
+    ensures { result ≡ is_it_own_if_equal node.now }
+{
+    is_conditional(node) && is_equal(node.child(0)) && is_beside_null(node.child(0), node.child(2))
+}
+
+// `x != null ? x : b`
+fn is_own_if_unequal(node: &Node) -> bool
+    ensures { result ≡ is_it_own_if_unequal node.now }
+{
+    is_conditional(node)
+        && is_unequal(node.child(0))
+        && is_beside_null(node.child(0), node.child(1))
+}
+
+// `x ? x : b`, where `x || b` is lighter
+fn is_own_consequent(node: &Node, seat: Seat) -> bool
+    ensures { result ≡ is_it_own_consequent seat node.now }
+{
+    is_conditional(node)
+        && is_same_name(node.child(0), node.child(1))
+        && logical_weight(LogicalOperator::Or, node.child(0), node.child(2), seat)
+            < expr_weight(node, seat)
+}
+
+// `x ? b : x`, where `x && b` is lighter
+fn is_own_alternate(node: &Node, seat: Seat) -> bool
+    ensures { result ≡ is_it_own_alternate seat node.now }
+{
+    is_conditional(node)
+        && is_same_name(node.child(0), node.child(2))
+        && logical_weight(LogicalOperator::And, node.child(0), node.child(1), seat)
+            < expr_weight(node, seat)
+}
+
+// `x ?? b` of `x == null ? b : x`
+fn with_alternate(alloc: Global, node: Node) -> Result<Node, OutOfMemory>
+    ensures { IfOk result (λ w. w ≡ logical_of LogicalOperator.Coalesce (part node 2) (part node 1)) }
+{
+    let (test, consequent, alternate) = three(node);
+    discard(test);
+    logical(alloc, LogicalOperator::Coalesce, alternate, consequent)
+}
+
+// `x ?? b` of `x != null ? x : b`
+fn with_consequent(alloc: Global, node: Node) -> Result<Node, OutOfMemory>
+    ensures { IfOk result (λ w. w ≡ logical_of LogicalOperator.Coalesce (part node 1) (part node 2)) }
+{
+    let (test, consequent, alternate) = three(node);
+    discard(test);
+    logical(alloc, LogicalOperator::Coalesce, consequent, alternate)
+}
+
+// `x || b` of `x ? x : b`
+fn or_alternate(alloc: Global, node: Node) -> Result<Node, OutOfMemory>
+    ensures { IfOk result (λ w. w ≡ logical_of LogicalOperator.Or (part node 0) (part node 2)) }
+{
+    let (test, consequent, alternate) = three(node);
+    discard(consequent);
+    logical(alloc, LogicalOperator::Or, test, alternate)
+}
+
+// `x && b` of `x ? b : x`
+fn and_consequent(alloc: Global, node: Node) -> Result<Node, OutOfMemory>
+    ensures { IfOk result (λ w. w ≡ logical_of LogicalOperator.And (part node 0) (part node 1)) }
+{
+    let (test, consequent, alternate) = three(node);
+    discard(alternate);
+    logical(alloc, LogicalOperator::And, test, consequent)
+}
+
+/// `x ? x : b` becomes `x || b`, `x ? b : x` becomes `x && b`, `a ? x = b : x = c` becomes `x = a ? b : c`, and
+/// `x == null ? b : x` becomes `x ?? b`. The answer says whether it did; the only error is that memory runs out, and then the
+/// expression is fit only to be dropped.
+pub fn minimize_conditional_branches(
+    alloc: Global,
+    node: &mut Node,
+    seat: Seat,
+) -> Result<bool, OutOfMemory>
+    ensures tree { OnOk result (node.new ≡ unwrap_or (written seat node.old) node.old) }
+    ensures said { IfOk result (λ changed. changed ≡ is_some (written seat node.old)) }
+{
+    let made = if is_own_if_equal(node) {
+        with_alternate(alloc, taken(alloc, node))?
+    } else if is_own_if_unequal(node) {
+        with_consequent(alloc, taken(alloc, node))?
+    } else if is_own_consequent(node, seat) {
+        or_alternate(alloc, taken(alloc, node))?
+    } else if is_own_alternate(node, seat) {
+        and_consequent(alloc, taken(alloc, node))?
+    } else if is_seated(seat) && assigns_either(node) {
+        assigned(alloc, taken(alloc, node))?
+    } else {
+        return Ok(false);
+    };
+    *node = made;
+    Ok(true)
+}

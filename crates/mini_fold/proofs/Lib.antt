@@ -1,0 +1,3 @@
+pub mod KnownSides
+pub mod Constants
+pub mod Arithmetic

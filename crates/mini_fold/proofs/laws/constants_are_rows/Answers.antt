@@ -1,0 +1,8 @@
+use Rattle.mini_fold.proofs.Constants.{written_is_row, unwritten_rests}
+use Rattle.mini_fold.proofs.laws.constants_are_rows.Goals as goal
+
+pub returns-clause-written : goal.returns-clause-written
+returns-clause-written c = written_is_row
+
+pub returns-clause-unwritten : goal.returns-clause-unwritten
+returns-clause-unwritten c = unwritten_rests

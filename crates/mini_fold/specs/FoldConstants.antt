@@ -1,0 +1,47 @@
+-- The rewrites 1 and 3: a unary or binary expression over literals becomes the literal of its value, where that is lighter.
+use Rattle.std.specs.Prelude.{◌≡◌, ◌<◌, ◌^◌, nat_lt, Bool, ◌&&◌, Option, Some, None, if◌then◌else◌}
+use Rattle.mini_model.specs.declared.place.Position.{Position}
+use Rattle.mini_model.specs.declared.place.Position.TheVariants.{Expr}
+use Rattle.mini_model.specs.declared.seat.Seat.{Seat}
+use Rattle.mini_model.specs.Tree.{Tree}
+use Rattle.mini_model.specs.Weight.{weight, capped}
+use Rattle.mini_laws.specs.Value.{Value}
+use Rattle.mini_terms.specs.Calculated.{calculated}
+use Rattle.mini_terms.specs.Parts.{suits, leaves_nothing}
+use Rattle.mini_terms.specs.Plain.{lit}
+use Rattle.mini_rows.specs.Constants.{ConstantContracts}
+
+abbrev pub is_lighter : Seat → Tree → Tree → Bool
+is_lighter s w t = nat_lt (capped (weight (Expr s) w)) (capped (weight (Expr s) t))
+
+-- the literal may stand in its place, and is lighter
+abbrev pub replaces : Seat → Tree → Tree → Bool
+replaces s t w = leaves_nothing t && (suits s w && is_lighter s w t)
+
+abbrev pub literal_of : Option Value → Option Tree
+literal_of (Some v) = lit v
+literal_of None = None
+
+abbrev pub written_by : Seat → Tree → Option Tree → Option Tree
+written_by s t (Some w) = if replaces s t w then Some w else None
+written_by s t None = None
+
+-- what is written for an expression in its seat
+abbrev pub written : Seat → Tree → Option Tree
+written s t = written_by s t (literal_of (calculated t))
+
+-- what the rule makes
+abbrev pub Gives : Position → Tree → Tree → Type 0
+Gives = ConstantContracts
+
+-- no row makes a lighter expression of it, if its weight fits 64 bits
+abbrev pub Rests : Position → Tree → Type 0
+Rests p n = weight p n < 2 ^ 64 → (w : Tree) → ConstantContracts p n w → ⊥
+
+-- what is written is what a row says, and lighter
+abbrev pub WrittenIsRow : Type 0
+WrittenIsRow = (s : Seat) (n w : Tree) → written s n ≡ Some w → ConstantContracts (Expr s) n w
+
+-- and where nothing is written the rule rests
+abbrev pub UnwrittenRests : Type 0
+UnwrittenRests = (s : Seat) (n : Tree) → written s n ≡ None → Rests (Expr s) n

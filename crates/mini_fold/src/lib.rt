@@ -1,0 +1,19 @@
+//! Rewrites on what is known of an expression from its text: each with its rule for the walk, and the laws that join the rules to
+//! the definition of what can be rewritten.
+#![tactic(auto)]
+
+mod exports;
+mod laws;
+mod literals;
+mod numbers;
+mod rewrites;
+mod values;
+
+pub use laws::{constants_are_rows, folds_are_rows};
+pub use literals::{evaluate_value, is_true, literal_value};
+pub use rewrites::fold_constants::{FoldConstants, fold_constant};
+pub use rewrites::fold_known::{
+    FoldKnown, fold_expression, fold_logical_expression, remove_unused_expression,
+};
+pub use rewrites::minimize_binary::minimize_binary;
+pub use values::{ConstantValue, value_to_expr};

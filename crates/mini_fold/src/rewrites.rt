@@ -1,0 +1,3 @@
+pub mod fold_constants;
+pub mod fold_known;
+pub mod minimize_binary;

@@ -1,0 +1,78 @@
+//! Rows 1 and 3: a unary or binary expression over literals becomes the literal of its value. `60 * 60` becomes `3600`, and
+//! `"a" + "b"` becomes `"ab"`, where that is lighter in the seat.
+
+ghost use Rattle.std.specs.Prelude.{◌≡◌, is_some, unwrap_or, OnOk, IfOk};
+ghost use Rattle.mini_walk.specs.Rule.{Applied};
+ghost use Rattle.mini_terms.specs.Calculated.{calculated};
+ghost use Rattle.mini_fold.specs.FoldConstants.{replaces as does_it_replace, literal_of, written, Gives, Rests};
+ghost use Rattle.mini_fold.specs.Lighter.{constants_lighter};
+
+use crate::literals::evaluate_value;
+use crate::values::value_to_expr;
+use mini_model::{Position, Seat};
+use mini_node::Node;
+use mini_terms::{leaves_nothing, suits};
+use mini_text::OutOfMemory;
+use mini_tree::expr_weight;
+use mini_walk::{Context, Rule};
+use std::alloc::Global;
+
+// Whether a literal may stand in an expression's place, and is lighter.
+fn replaces(node: &Node, literal: &Node, seat: Seat) -> bool
+    ensures { result ≡ does_it_replace seat node.now literal.now }
+{
+    leaves_nothing(node)
+        && suits(seat, literal)
+        && expr_weight(literal, seat) < expr_weight(node, seat)
+}
+
+// The literal of an expression's value.
+fn literal(alloc: Global, node: &Node) -> Result<Option<Node>, OutOfMemory>
+    ensures { IfOk result (λ w. w ≡ literal_of (calculated node.now)) }
+{
+    match evaluate_value(alloc, node)? {
+        Some(value) => Ok(Some(value_to_expr(alloc, value)?)),
+        None => Ok(None),
+    }
+}
+
+/// An expression over literals becomes the literal of its value, where that is lighter. The answer says whether it did; the only
+/// error is that memory runs out.
+pub fn fold_constant(alloc: Global, node: &mut Node, seat: Seat) -> Result<bool, OutOfMemory>
+    ensures tree { OnOk result (node.new ≡ unwrap_or (written seat node.old) node.old) }
+    ensures said { IfOk result (λ changed. changed ≡ is_some (written seat node.old)) }
+{
+    let Some(made) = literal(alloc, node)? else {
+        return Ok(false);
+    };
+    if !replaces(node, &made, seat) {
+        return Ok(false);
+    }
+    *node = made;
+    Ok(true)
+}
+
+/// Rows 1 and 3 as a rule: of each expression.
+pub struct FoldConstants;
+
+impl<C: Context> Rule<C> for FoldConstants {
+    ghost gives = { λ o q. Gives };
+
+    ghost rests = { λ o q. Rests };
+
+    ghost lighter = { λ o q. constants_lighter };
+
+    #[tactic(auto, using(crate::proofs::Constants::applied))]
+    fn apply(
+        &self,
+        alloc: Global,
+        node: &mut Node,
+        place: Position,
+        context: &mut C,
+    ) -> Result<bool, OutOfMemory> {
+        match place {
+            Position::Expr(seat) => Ok(fold_constant(alloc, node, seat)?),
+            _ => Ok(false),
+        }
+    }
+}

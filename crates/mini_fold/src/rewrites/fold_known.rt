@@ -1,0 +1,125 @@
+//! Rows 12, 13, 15, 22 and 28: what is known of a part from its text goes. `!0 && b` becomes `b`, `0 && b` becomes `0`, the
+//! statement `void 0;` becomes `;`, and `typeof a === "string"` becomes `typeof a == "string"`. What is written is lighter in every
+//! place.
+
+ghost use Rattle.std.specs.Prelude.{◌≡◌, is_some, unwrap_or, OnOk, IfOk};
+ghost use Rattle.mini_walk.specs.Rule.{Applied};
+ghost use Rattle.mini_node.specs.Children.{part};
+ghost use Rattle.mini_fold.specs.Lighter.{folds_lighter};
+ghost use Rattle.mini_fold.specs.FoldKnown.{is_passed as passes_left, is_stopped as stops_right, written, folded, does_nothing as does_it_nothing, statement_written, Gives, Rests};
+
+use crate::exports::names_exports;
+use crate::rewrites::minimize_binary::minimize_binary;
+use mini_model::{LogicalOperator, Position, Seat, Shape};
+use mini_node::{
+    Node, discard, empty_statement, is_expression_statement, logical_operator, one, taken, two,
+};
+use mini_terms::{goes_on, has_no_effect, leaves_nothing, stops, suits, weighs};
+use mini_text::OutOfMemory;
+use mini_walk::{Context, Rule};
+use std::alloc::Global;
+
+// Whether the left side goes.
+fn is_passed(seat: Seat, operator: LogicalOperator, left: &Node, right: &Node) -> bool
+    ensures { result ≡ passes_left seat operator left.now right.now }
+{
+    goes_on(operator, left)
+        && has_no_effect(left)
+        && leaves_nothing(left)
+        && weighs(left)
+        && suits(seat, right)
+}
+
+// Whether the right side goes.
+fn is_stopped(seat: Seat, operator: LogicalOperator, left: &Node, right: &Node) -> bool
+    ensures { result ≡ stops_right seat operator left.now right.now }
+{
+    stops(operator, left)
+        && !names_exports(operator, right)
+        && leaves_nothing(right)
+        && weighs(right)
+        && suits(seat, left)
+}
+
+fn right_of(node: Node) -> Node
+    ensures { result ≡ part node 1 }
+{
+    let (left, right) = two(node);
+    discard(left);
+    right
+}
+
+/// A logical expression one of whose sides is known to go becomes the other one. The answer says whether it did.
+pub fn fold_logical_expression(alloc: Global, node: &mut Node, seat: Seat) -> bool
+    ensures tree { node.new ≡ unwrap_or (folded seat node.old) node.old }
+    ensures said { result ≡ is_some (folded seat node.old) }
+{
+    let Some(operator) = logical_operator(node) else {
+        return false;
+    };
+    if is_passed(seat, operator, node.child(0), node.child(1)) {
+        *node = right_of(taken(alloc, node));
+        return true;
+    }
+    if is_stopped(seat, operator, node.child(0), node.child(1)) {
+        *node = one(taken(alloc, node));
+        return true;
+    }
+    false
+}
+
+/// What is known of a logical expression or of the sides of an equality is folded. The answer says whether something was.
+pub fn fold_expression(alloc: Global, node: &mut Node, seat: Seat) -> bool
+    ensures tree { node.new ≡ unwrap_or (written seat node.old) node.old }
+    ensures said { result ≡ is_some (written seat node.old) }
+{
+    match node.shape() {
+        Shape::LogicalExpression(_) => fold_logical_expression(alloc, node, seat),
+        Shape::BinaryExpression(_) => minimize_binary(alloc, node),
+        _ => false,
+    }
+}
+
+fn does_nothing(node: &Node) -> bool
+    ensures { result ≡ does_it_nothing node.now }
+{
+    is_expression_statement(node) && has_no_effect(node.child(0)) && leaves_nothing(node.child(0))
+}
+
+/// An effect-free expression statement becomes empty. The answer says whether it did.
+pub fn remove_unused_expression(alloc: Global, node: &mut Node) -> bool
+    ensures tree { node.new ≡ unwrap_or (statement_written node.old) node.old }
+    ensures said { result ≡ is_some (statement_written node.old) }
+{
+    if !does_nothing(node) {
+        return false;
+    }
+    *node = empty_statement(alloc);
+    true
+}
+
+/// Rows 12, 13, 15, 22 and 28 as a rule: of each expression and each statement.
+pub struct FoldKnown;
+
+impl<C: Context> Rule<C> for FoldKnown {
+    ghost gives = { λ o q. Gives };
+
+    ghost rests = { λ o q. Rests };
+
+    ghost lighter = { λ o q. folds_lighter };
+
+    #[tactic(auto, using(crate::proofs::KnownSides::applied, crate::proofs::KnownSides::statement_applied))]
+    fn apply(
+        &self,
+        alloc: Global,
+        node: &mut Node,
+        place: Position,
+        context: &mut C,
+    ) -> Result<bool, OutOfMemory> {
+        match place {
+            Position::Expr(seat) => Ok(fold_expression(alloc, node, seat)),
+            Position::Stmt(_) => Ok(remove_unused_expression(alloc, node)),
+            _ => Ok(false),
+        }
+    }
+}

@@ -1,0 +1,260 @@
+-- What is written for booleans is what a row says, and where nothing is written no row makes the expression lighter.
+use Rattle.std.proofs.Common.{◌≡◌, ◌<◌, ◌^◌, ℤ, pos, Bool, true, false, refl, sym, ap, subst, ◌∙◌, inl, inr, arith}
+use Rattle.std.specs.Prelude.{zero, suc, ◌&&◌, ◌||◌, not, nat_lt, Option, Some, None, is_some, unwrap_or, if◌then◌else◌}
+use Rattle.std.proofs.lemmas.Bool.{and_parts}
+use borrow.Author.Tests.{ltb-true, ltb-false}
+use Rattle.mini_model.specs.declared.operator.LogicalOperator.{LogicalOperator}
+use Rattle.mini_model.specs.declared.operator.UnaryOperator.TheVariants.{LogicalNot}
+use Rattle.mini_model.specs.declared.place.Position.TheVariants.{Expr}
+use Rattle.mini_model.specs.declared.seat.Seat.{Seat}
+use Rattle.mini_model.specs.declared.shape.Shape.{Shape}
+use Rattle.mini_model.specs.declared.shape.Shape.TheVariants as shape
+use Rattle.mini_model.specs.Tree.{Tree, shape_of, negation, logical, conditional}
+use Rattle.mini_model.specs.Position.{is_and_or, left_operand_seat}
+use Rattle.mini_model.specs.Terms.{neg}
+use Rattle.mini_model.specs.Weight.{weight, capped}
+use Rattle.mini_node.specs.Children.{part}
+use Rattle.mini_node.specs.Kinds.{number, logical_operator, is_negation, is_conditional}
+use Rattle.mini_node.specs.Made.{negation_is, number_is, logical_is, conditional_is}
+use Rattle.mini_terms.specs.Evident.{evident_truth}
+use Rattle.mini_terms.specs.Folds.{is_effect_free, goes_on}
+use Rattle.mini_terms.specs.Kind.{kind}
+use Rattle.mini_terms.specs.Parts.{leaves_nothing, weighs}
+use Rattle.mini_terms.specs.Reading.{is_plain_part}
+use Rattle.mini_rows.specs.Spellings.{negated_digit}
+use Rattle.mini_rows.specs.Booleans as row
+use Rattle.mini_rows.specs.Booleans.{digit, is_boolean_kind, chosen, giving, is_turned, Row24, Row25, KnownBranch, BooleanRow, BooleanContracts}
+use Rattle.mini_rows.proofs.BooleanWeights.{lighter}
+use Rattle.mini_walk.specs.Rule.{Applied}
+use Rattle.mini_walk.proofs.Reaching.{moves_once}
+use Rattle.mini_logic.specs.MinimizeExpressionInBooleanContext.{negated_truth, digit_of, digit_written, is_told, left_written, known_truth, branch_at, may_join, tested, joined, joined_of, joins, branch_by, branch_written, either, conditional_written, written_by, written, Gives, Rests, WrittenIsRow, UnwrittenRests}
+use Rattle.mini_logic.proofs.Weights.{weight_logical}
+
+some_is : {A : Type 0} (x y : A) → Some x ≡ Some y → x ≡ y
+some_is x y e = cc e
+
+both_true : (c d : Bool) → c ≡ true → d ≡ true → c && d ≡ true
+both_true true d e f = f
+both_true false d e f = e
+
+-- ---- the lighter negation is that of the rows, as far as 64 bits go
+
+module _ (s : Seat) (a : Tree) where
+  abbrev by_capped : Bool
+  by_capped = nat_lt (capped (weight (Expr s) (negation a))) (capped (weight (Expr s) (neg s a)))
+
+  abbrev by_weight : Bool
+  by_weight = nat_lt (weight (Expr s) (negation a)) (weight (Expr s) (neg s a))
+
+  abbrev picked : Bool → Tree
+  picked b = if b then negation a else neg s a
+
+  same_not : (b c : Bool) → by_capped ≡ b → by_weight ≡ c → (weight (Expr s) (picked b) < 18446744073709551615 → picked b ≡ picked c) × (weight (Expr s) (picked c) < 18446744073709551615 → picked b ≡ picked c)
+  same_not true true e f = ((λ h. refl), (λ h. refl))
+  same_not false false e f = ((λ h. refl), (λ h. refl))
+  same_not true false e f = absurd (omega (arith, ltb-true _ _ e, ltb-false _ _ f))
+  same_not false true e f = ((λ h. absurd (omega (arith, h, ltb-false _ _ e, ltb-true _ _ f))), (λ h. absurd (omega (arith, h, ltb-false _ _ e, ltb-true _ _ f))))
+
+pub tested_same : (s : Seat) (t : Bool) (a : Tree) → (weight (Expr s) (tested s t a) < 18446744073709551615 → tested s t a ≡ row.tested s t a) × (weight (Expr s) (row.tested s t a) < 18446744073709551615 → tested s t a ≡ row.tested s t a)
+tested_same s true a = same_not s a (by_capped s a) (by_weight s a) refl refl
+tested_same s false a = ((λ h. refl), (λ h. refl))
+
+module _ (s : Seat) (i c : Bool) (a b : Tree) where
+  abbrev left_seat : Seat
+  left_seat = left_operand_seat (giving c) s
+
+  joined_by : tested left_seat (is_turned i c) a ≡ row.tested left_seat (is_turned i c) a → joined s i c a b ≡ row.joined s i c a b
+  joined_by e = ap (λ x. logical (giving c) x b) e
+
+  joined_same : weight (Expr s) (joined s i c a b) < 18446744073709551615 → joined s i c a b ≡ row.joined s i c a b
+  joined_same h = let whole = weight_logical (giving c) s (tested left_seat (is_turned i c) a) b in joined_by ((tested_same left_seat (is_turned i c) a).0 (omega (arith, h, whole)))
+
+  row_same : weight (Expr s) (row.joined s i c a b) < 18446744073709551615 → joined s i c a b ≡ row.joined s i c a b
+  row_same h = let whole = weight_logical (giving c) s (row.tested left_seat (is_turned i c) a) b in joined_by ((tested_same left_seat (is_turned i c) a).1 (omega (arith, h, whole)))
+
+-- ---- 24
+
+digit_row : (s : Seat) (n w : Tree) → digit_written s n ≡ Some w → Row24 s n w
+digit_row s n w e = go (s.boolean && is_negation n) refl e
+  where
+    by : s.boolean ≡ true → is_negation n ≡ true → (x : Option ℤ) → number (part n 0) ≡ x → digit_of (negated_truth x) ≡ Some w → Row24 s n w
+    by a h (Some (pos zero)) k e = record { truth = true; asked = a; shape = negation_is n h ∙ ap negation (number_is (part n 0) (pos 0) k); written = sym (some_is (digit true) w e) }
+    by a h (Some (pos (suc zero))) k e = record { truth = false; asked = a; shape = negation_is n h ∙ ap negation (number_is (part n 0) (pos 1) k); written = sym (some_is (digit false) w e) }
+    by a h x k e = absurd (cc e)
+
+    go : (c : Bool) → s.boolean && is_negation n ≡ c → (if c then digit_of (negated_truth (number (part n 0))) else None) ≡ Some w → Row24 s n w
+    go true h e = let (a, k) = and_parts s.boolean (is_negation n) h in by a k (number (part n 0)) refl e
+    go false h e = absurd (cc e)
+
+digit_passes : (s : Seat) (b : Bool) → s.boolean ≡ true → written s (negated_digit b) ≡ Some (digit b)
+digit_passes s true a = ap (λ c. if c && true then Some (digit true) else None) a
+digit_passes s false a = ap (λ c. if c && true then Some (digit false) else None) a
+
+-- ---- 25
+
+module _ (s : Seat) (o : LogicalOperator) (a b : Tree) where
+  left_row : is_told s o a b ≡ true → Row25 s (logical o a b) a
+  left_row h =
+      let (asked, h1) = and_parts s.boolean _ h in
+      let (tells, h2) = and_parts (is_and_or o) _ h1 in
+      let (known, h3) = and_parts (goes_on o b) _ h2 in
+      let (free, h4) = and_parts (is_effect_free b) _ h3 in
+      let (dropped, h5) = and_parts (leaves_nothing b) _ h4 in
+      let (heavy, plain) = and_parts (weighs b) _ h5 in
+      record { operator = o; left = a; right = b; asked = asked; tells = tells; known = known; effect_free = free; dropped = dropped; heavy = heavy; plain = plain; shape = refl; written = refl }
+
+logical_row : (s : Seat) (n w : Tree) → left_written s (logical_operator n) (part n 0) (part n 1) ≡ Some w → Row25 s n w
+logical_row s n w e = go (logical_operator n) refl e
+  where
+    by : (o : LogicalOperator) (c : Bool) → is_told s o (part n 0) (part n 1) ≡ c → (if c then Some (part n 0) else None) ≡ Some w → Row25 s (logical o (part n 0) (part n 1)) w
+    by o true h e = subst (Row25 s (logical o (part n 0) (part n 1))) (some_is (part n 0) w e) (left_row s o (part n 0) (part n 1) h)
+    by o false h e = absurd (cc e)
+
+    go : (x : Option LogicalOperator) → logical_operator n ≡ x → left_written s x (part n 0) (part n 1) ≡ Some w → Row25 s n w
+    go (Some o) h e = subst (λ t. Row25 s t w) (sym (logical_is n o h)) (by o (is_told s o (part n 0) (part n 1)) refl e)
+    go None h e = absurd (cc e)
+
+left_passes : (s : Seat) (n w : Tree) (r : Row25 s n w) → written s (logical r.operator r.left r.right) ≡ Some r.left
+left_passes s n w r =
+    ap (λ c. if c then Some r.left else None)
+    (both_true s.boolean _ r.asked (both_true (is_and_or r.operator) _ r.tells (both_true (goes_on r.operator r.right) _ r.known (both_true (is_effect_free r.right) _ r.effect_free (both_true (leaves_nothing r.right) _ r.dropped (both_true (weighs r.right) (is_plain_part r.left) r.heavy r.plain))))))
+
+-- ---- 26 and 47
+
+record Known (t : Tree) (c : Bool) : Type 0 where
+  effect_free : is_effect_free t ≡ true
+  dropped : leaves_nothing t ≡ true
+  known : evident_truth t ≡ Some c
+
+known_is : (t : Tree) (c : Bool) → known_truth t ≡ Some c → Known t c
+known_is t c e = go (is_effect_free t && leaves_nothing t) refl e
+  where
+    go : (b : Bool) → is_effect_free t && leaves_nothing t ≡ b → (if b then evident_truth t else None) ≡ Some c → Known t c
+    go true h e = let (free, dropped) = and_parts (is_effect_free t) (leaves_nothing t) h in record { effect_free = free; dropped = dropped; known = e }
+    go false h e = absurd (cc e)
+
+is_known : (t : Tree) (c : Bool) → is_effect_free t ≡ true → leaves_nothing t ≡ true → evident_truth t ≡ Some c → known_truth t ≡ Some c
+is_known t c f d k = ap (λ b. if b then evident_truth t else None) (both_true (is_effect_free t) (leaves_nothing t) f d) ∙ k
+
+chosen_is : (i : Bool) (n : Tree) → is_conditional n ≡ true → n ≡ chosen i (part n 0) (branch_at i n) (branch_at (not i) n)
+chosen_is true n h = conditional_is n h
+chosen_is false n h = conditional_is n h
+
+joined_row : (s : Seat) (n w : Tree) (f : KnownBranch s n w) → may_join s f.is_consequent f.truth f.test f.branch ≡ true → row.JoinedRow s n w
+joined_row s n w f h = go s.boolean refl h
+  where
+    go : (b : Bool) → s.boolean ≡ b → b || (is_boolean_kind (kind f.branch) && (is_turned f.is_consequent f.truth || is_boolean_kind (kind f.test))) ≡ true → row.JoinedRow s n w
+    go true e h = inl (record { form = f; asked = e })
+    go false e h = let (boolean, told) = and_parts (is_boolean_kind (kind f.branch)) _ h in inr (record { form = f; boolean = boolean; told = told })
+
+branch_row : (s : Seat) (i : Bool) (n w : Tree) → is_conditional n ≡ true → branch_written s i n ≡ Some w → BooleanContracts (Expr s) n w
+branch_row s i n w h e = go (known_truth (branch_at i n)) refl e
+  where
+    by : (c : Bool) → Known (branch_at i n) c → (b : Bool) → joins s i c n ≡ b → (if b then Some (joined_of s i c n) else None) ≡ Some w → BooleanContracts (Expr s) n w
+    by c k true j e =
+        let (may, less) = and_parts (may_join s i c (part n 0) (branch_at i n)) _ j in
+        let falls = ltb-true _ _ less in
+        let is : joined_of s i c n ≡ w = some_is (joined_of s i c n) w e in
+        let same = joined_same s i c (part n 0) (branch_at (not i) n) (omega (arith, falls)) in
+        let heavy = ap (weight (Expr s)) is in
+        let form : KnownBranch s n w = record { is_consequent = i; truth = c; test = part n 0; branch = branch_at i n; other = branch_at (not i) n; known = k.known; effect_free = k.effect_free; dropped = k.dropped; shape = chosen_is i n h; written = sym is ∙ same } in
+        record { row = inr (joined_row s n w form may); lighter = omega (arith, falls, heavy) }
+    by c k false j e = absurd (cc e)
+
+    go : (x : Option Bool) → known_truth (branch_at i n) ≡ x → branch_by s i x n ≡ Some w → BooleanContracts (Expr s) n w
+    go (Some c) k e = by c (known_is (branch_at i n) c k) (joins s i c n) refl e
+    go None k e = absurd (cc e)
+
+conditional_row : (s : Seat) (n w : Tree) → conditional_written s n ≡ Some w → BooleanContracts (Expr s) n w
+conditional_row s n w e = go (is_conditional n) refl e
+  where
+    by : is_conditional n ≡ true → (x : Option Tree) → branch_written s true n ≡ x → either x (branch_written s false n) ≡ Some w → BooleanContracts (Expr s) n w
+    by h (Some v) k e = branch_row s true n w h (k ∙ e)
+    by h None k e = branch_row s false n w h e
+
+    go : (b : Bool) → is_conditional n ≡ b → (if b then either (branch_written s true n) (branch_written s false n) else None) ≡ Some w → BooleanContracts (Expr s) n w
+    go true h e = by h (branch_written s true n) refl e
+    go false h e = absurd (cc e)
+
+-- where the first of two is there, it is that one, and where it isn't, the second
+pub first_is : (x y : Option Tree) → is_some x ≡ true → either x y ≡ x
+first_is (Some t) y e = refl
+first_is None y e = absurd (cc e)
+
+pub second_is : (x y : Option Tree) → is_some x ≡ false → either x y ≡ y
+second_is (Some t) y e = absurd (cc e)
+second_is None y e = refl
+
+pub unchanged : (x : Option Tree) (t : Tree) → is_some x ≡ false → unwrap_or x t ≡ t
+unchanged (Some u) t e = absurd (cc e)
+unchanged None t e = refl
+
+-- where neither branch gives anything, no row makes it lighter
+
+neither : (x y : Option Tree) → either x y ≡ None → (x ≡ None) × (y ≡ None)
+neither (Some t) y e = absurd (cc e)
+neither None y e = (refl, e)
+
+unwritten_branch : (s : Seat) (i : Bool) (a k b : Tree) → written s (chosen i a k b) ≡ None → branch_written s i (chosen i a k b) ≡ None
+unwritten_branch s true a k b e = (neither _ _ e).0
+unwritten_branch s false a k b e = (neither _ _ e).1
+
+heavy_branch : (s : Seat) (i c : Bool) (a k b : Tree) → may_join s i c a k ≡ true → known_truth k ≡ Some c → branch_written s i (chosen i a k b) ≡ None → nat_lt (capped (weight (Expr s) (joined s i c a b))) (capped (weight (Expr s) (chosen i a k b))) ≡ false
+heavy_branch s true c a k b m h e = go (nat_lt (capped (weight (Expr s) (joined s true c a b))) (capped (weight (Expr s) (conditional a k b)))) (sym (ap (λ x. branch_by s true x (conditional a k b)) h ∙ ap (λ d. if d && nat_lt (capped (weight (Expr s) (joined s true c a b))) (capped (weight (Expr s) (conditional a k b))) then Some (joined s true c a b) else None) m) ∙ e)
+  where
+    go : (d : Bool) → (if d then Some (joined s true c a b) else None) ≡ None → d ≡ false
+    go true e = absurd (cc e)
+    go false e = refl
+heavy_branch s false c a k b m h e = go (nat_lt (capped (weight (Expr s) (joined s false c a b))) (capped (weight (Expr s) (conditional a b k)))) (sym (ap (λ x. branch_by s false x (conditional a b k)) h ∙ ap (λ d. if d && nat_lt (capped (weight (Expr s) (joined s false c a b))) (capped (weight (Expr s) (conditional a b k))) then Some (joined s false c a b) else None) m) ∙ e)
+  where
+    go : (d : Bool) → (if d then Some (joined s false c a b) else None) ≡ None → d ≡ false
+    go true e = absurd (cc e)
+    go false e = refl
+
+form_missed : (s : Seat) (n w : Tree) (f : KnownBranch s n w) → may_join s f.is_consequent f.truth f.test f.branch ≡ true → written s n ≡ None → weight (Expr s) n < 2 ^ 64 → weight (Expr s) w < weight (Expr s) n → ⊥
+form_missed s n w f m e small less =
+    let i = f.is_consequent in
+    let whole = ap (weight (Expr s)) f.shape in
+    let made = ap (weight (Expr s)) f.written in
+    let same = ap (weight (Expr s)) (row_same s i f.truth f.test f.other (omega (arith, small, less, made))) in
+    let heavy = ltb-false _ _ (heavy_branch s i f.truth f.test f.branch f.other m (is_known f.branch f.truth f.effect_free f.dropped f.known) (unwritten_branch s i f.test f.branch f.other (sym (ap (written s) f.shape) ∙ e))) in
+    omega (arith, small, less, whole, made, same, heavy)
+
+-- ---- all
+
+pub written_is_row : WrittenIsRow
+written_is_row s n w e = go (shape_of n) e
+  where
+    light : row.LighterRow s n w → BooleanContracts (Expr s) n w
+    light r = record { row = inl r; lighter = lighter s n w r }
+
+    go : (h : Shape) → written_by h s n ≡ Some w → BooleanContracts (Expr s) n w
+    go (shape.UnaryExpression LogicalNot) e = light (inl (digit_row s n w e))
+    go (shape.LogicalExpression o) e = light (inr (logical_row s n w e))
+    go shape.ConditionalExpression e = conditional_row s n w e
+    go h e = absurd (cc e)
+
+never : (s : Seat) (n m v : Tree) → n ≡ m → written s n ≡ None → written s m ≡ Some v → ⊥
+never s n m v h e f = cc (sym e ∙ ap (written s) h ∙ f)
+
+pub unwritten_rests : UnwrittenRests
+unwritten_rests s n e small w c = go c.row
+  where
+    go : BooleanRow (Expr s) n w → ⊥
+    go (inl (inl r)) = never s n (negated_digit r.truth) (digit r.truth) r.shape e (digit_passes s r.truth r.asked)
+    go (inl (inr r)) = never s n (logical r.operator r.left r.right) r.left r.shape e (left_passes s n w r)
+    go (inr (inl r)) = form_missed s n w r.form (ap (λ b. b || (is_boolean_kind (kind r.form.branch) && (is_turned r.form.is_consequent r.form.truth || is_boolean_kind (kind r.form.test)))) r.asked) e small c.lighter
+    go (inr (inr r)) = form_missed s n w r.form (or_true s.boolean _ (both_true (is_boolean_kind (kind r.form.branch)) _ r.boolean r.told)) e small c.lighter
+      where
+        or_true : (b d : Bool) → d ≡ true → b || d ≡ true
+        or_true true d f = refl
+        or_true false d f = f
+
+-- ---- the rule
+
+pub applied : (s : Seat) (t u : Tree) (b : Bool) → u ≡ unwrap_or (written s t) t → b ≡ is_some (written s t) → Applied Gives Rests (Expr s) t u b
+applied s t u b e f = subst (λ v. Applied Gives Rests (Expr s) t v b) (sym e) (subst (Applied Gives Rests (Expr s) t (unwrap_or (written s t) t)) (sym f) (go (written s t) refl))
+  where
+    go : (o : Option Tree) → written s t ≡ o → Applied Gives Rests (Expr s) t (unwrap_or o t) (is_some o)
+    go None h = (refl, unwritten_rests s t h)
+    go (Some w) h = moves_once Gives (Expr s) t w (written_is_row s t w h)

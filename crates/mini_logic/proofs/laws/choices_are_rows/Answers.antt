@@ -1,8 +1,0 @@
-use Rattle.mini_logic.proofs.Choices as lemma
-use Rattle.mini_logic.proofs.laws.choices_are_rows.Goals as goal
-
-pub returns-clause-written : goal.returns-clause-written
-returns-clause-written c = lemma.written_is_row
-
-pub returns-clause-unwritten : goal.returns-clause-unwritten
-returns-clause-unwritten c = lemma.unwritten_rests

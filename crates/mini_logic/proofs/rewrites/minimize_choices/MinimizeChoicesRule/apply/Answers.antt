@@ -1,9 +1,0 @@
-use Rattle.std.proofs.Common.{subst, sym}
-use Rattle.mini_walk.specs.Rule.{Applied}
-use Rattle.mini_logic.specs.Choices.{Gives, Rests}
-use Rattle.mini_logic.proofs.Choices.{applied}
-use Rattle.mini_logic.proofs.rewrites.minimize_choices.MinimizeChoicesRule.apply.Goals as goal
-
-pub returns-in_ok-minimize_choice-in-Expr-clause-applied : goal.returns-in_ok-minimize_choice-in-Expr-clause-applied
-returns-in_ok-minimize_choice-in-Expr-clause-applied c = λ o q k.
-    subst (λ p. Applied Gives Rests p c.args.node.now c.minimize_choice.new.node c.in_ok-minimize_choice-in-Expr.field-0) (sym c.in-Expr.is) (applied c.in-Expr.seat c.args.node.now c.minimize_choice.new.node c.in_ok-minimize_choice-in-Expr.field-0 c.in_ok-minimize_choice-in-Expr.ensures.tree c.in_ok-minimize_choice-in-Expr.ensures.said)

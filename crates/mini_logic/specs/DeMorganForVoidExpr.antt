@@ -1,0 +1,46 @@
+-- 50, `de_morgan_for_void_expr`: `!a && b;` becomes `a || b;`, and `!a || b;` `a && b;`, where that is lighter.
+use Rattle.std.specs.Prelude.{◌≡◌, ◌<◌, ◌^◌, Bool, ◌&&◌, Option, Some, None, nat_lt, if◌then◌else◌}
+use Rattle.mini_model.specs.declared.operator.LogicalOperator.{LogicalOperator}
+use Rattle.mini_model.specs.declared.place.Position.{Position}
+use Rattle.mini_model.specs.declared.place.Position.TheVariants.{Expr, Stmt}
+use Rattle.mini_model.specs.declared.seat.StmtSeat.{StmtSeat}
+use Rattle.mini_model.specs.Tree.{Tree, logical, expression_statement}
+use Rattle.mini_model.specs.Position.{is_and_or, statement_expression_seat, left_operand_seat}
+use Rattle.mini_model.specs.Terms.{turned}
+use Rattle.mini_model.specs.Weight.{weight, capped}
+use Rattle.mini_node.specs.Children.{part}
+use Rattle.mini_node.specs.Kinds.{logical_operator, is_expression_statement}
+use Rattle.mini_rows.specs.DeMorgan.{DeMorganContracts}
+use Rattle.mini_logic.specs.Negating.{lighter_negation}
+
+-- the left side negated under the other operator
+abbrev pub turned_over : LogicalOperator → Tree → Tree
+turned_over o x = logical (turned o) (lighter_negation (left_operand_seat (turned o) statement_expression_seat) (part x 0)) (part x 1)
+
+-- which is lighter
+abbrev pub turns : LogicalOperator → Tree → Bool
+turns o x = is_and_or o && nat_lt (capped (weight (Expr statement_expression_seat) (turned_over o x))) (capped (weight (Expr statement_expression_seat) x))
+
+abbrev pub written_by : Option LogicalOperator → Tree → Option Tree
+written_by (Some o) x = if turns o x then Some (expression_statement (turned_over o x)) else None
+written_by None x = None
+
+-- of a statement
+abbrev pub written : Tree → Option Tree
+written t = if is_expression_statement t then written_by (logical_operator (part t 0)) (part t 0) else None
+
+-- what the rule makes
+abbrev pub Gives : Position → Tree → Tree → Type 0
+Gives = DeMorganContracts
+
+-- no row makes a lighter statement of it, if its weight fits 64 bits
+abbrev pub Rests : Position → Tree → Type 0
+Rests p n = weight p n < 2 ^ 64 → (w : Tree) → DeMorganContracts p n w → ⊥
+
+-- what is written is what a row says, and lighter
+abbrev pub WrittenIsRow : Type 0
+WrittenIsRow = (q : StmtSeat) (n w : Tree) → written n ≡ Some w → DeMorganContracts (Stmt q) n w
+
+-- and where nothing is written the rule rests
+abbrev pub UnwrittenRests : Type 0
+UnwrittenRests = (q : StmtSeat) (n : Tree) → written n ≡ None → Rests (Stmt q) n
