@@ -141,6 +141,8 @@ becomes("directives", '"use strict"; function f() { "use strict"; if (!this) g()
 becomes("a function in a block of strict code", '"use strict"; { function f() { if (a) b(); } f(); }', '"use strict"; { function f() { a && b(); } f(); }', { kept: 2, symbols: 1 });
 becomes("new.target", "function F() { if (!new.target) return new F; this.a = !new.target ? 1 : 2; }", "function F() { if (!new.target) return new F; this.a = new.target ? 2 : 1; }", { kept: 4, symbols: 1 });
 
+becomes("guards of a body are one before what follows goes into it", "function F(a, b) { if (a) return; if (b) return; while (c) f(); }", "function F(a, b) { if (!a && !b) while (c) f(); }", { kept: 2, symbols: 3, passes: 3 });
+
 // ---- classes
 
 becomes("classes that change places", "x = !a ? class A { m() { } } : class B { };", "x = a ? class B { } : class A { m() { } };", { kept: [0, 3, 1, 2], symbols: [1, 0] });
@@ -171,7 +173,7 @@ becomes(
     #p = d ? f : e;
     static h;
     [k ? n : l]() { }
-    "t"() { }
+    t() { }
     1() { }
     *i() { j && (yield j); }
     static { o || A.r(); }
@@ -206,7 +208,7 @@ becomes(
   "var { a, b: [c, , d = e ? 2 : 1, ...f], [g ? i : h]: j = 3, ...k } = l;",
   { kept: 6, symbols: 6 },
 );
-becomes("a pattern with a default of its own", 'let { "a": b, 1: c, d: { e = !f ? 1 : 2 } = {} } = g;', 'let { "a": b, 1: c, d: { e = f ? 2 : 1 } = {} } = g;', { kept: 5, symbols: 3 });
+becomes("a pattern with a default of its own", 'let { "a": b, 1: c, d: { e = !f ? 1 : 2 } = {} } = g;', 'let { a: b, 1: c, d: { e = f ? 2 : 1 } = {} } = g;', { kept: 5, symbols: 3 });
 becomes(
   "patterns that are assigned to",
   "({ a, b: c.d, e = !f ? 1 : 2, [!g ? h : i]: j[!k ? 1 : 2], ...l } = m); [n, , o.p, q = r, ...s] = t;",

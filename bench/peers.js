@@ -6,7 +6,7 @@
 // PROGRAM is crates/mini_app/out/mini_app of this repository unless it is given. COUNT pieces (250), chosen by SEED (1), are
 // scripts: statements from the top of files and functions from anywhere in them. Each peer is Debian's package of its name; one
 // that isn't installed is left out. PEERS names another root than / to look in, and NODE_PATH its usr/share/nodejs. Names are left
-// as they are by all, and so is what a piece declares at its top. A line a tool: how many pieces there are, their weight, the bytes
+// as they are by all, and so is what a piece declares at its top; a function that stands alone in a piece is handed to a call. A line a tool: how many pieces there are, their weight, the bytes
 // of their text and those of it by gzip, and the seconds that it took. All are printed by one printer, esbuild's without its
 // rewrites, so that the bytes tell rewrites alone. A piece on which one tool fails is left out of all.
 "use strict";
@@ -68,6 +68,16 @@ function measured(text) {
   return { weight: weigh(parseLeniently(text)), bytes: small.length, zipped: zlib.gzipSync(small).length };
 }
 
+// A function that stands alone in a piece is handed to a call, since some tools drop an expression that does nothing.
+function handedOut(input) {
+  const given = (statement) => {
+    if (statement.type !== "ExpressionStatement" || !/Function|Class/.test(statement.expression.type)) return statement;
+    const callee = { type: "Identifier", name: "use" };
+    return { ...statement, expression: { type: "CallExpression", callee, arguments: [statement.expression], optional: false } };
+  };
+  return { ...input, body: input.body.map(given) };
+}
+
 async function tryTool(make, text) {
   const from = performance.now();
   const made = await make(text);
@@ -76,7 +86,7 @@ async function tryTool(make, text) {
 
 async function main() {
   const isRead = (input) => input.sourceType === "script" && !isUnread(input) && !isOutside(input);
-  const inputs = chosenPieces(count, seed).map(([, input]) => input).filter(isRead);
+  const inputs = chosenPieces(count, seed).map(([, input]) => handedOut(input)).filter(isRead);
   const made = tools();
   const rows = new Map([["as it is", []], ...made.map(([name]) => [name, []])]);
   for (const input of inputs) {

@@ -137,7 +137,14 @@ function declaration(node) {
 
 const statements = (nodes) => nodes.map(statement).join(" ");
 const label = (node) => (node.label ? ` ${node.label.name}` : "");
-const braced = (node) => (node.type === "BlockStatement" ? statement(node) : `{ ${statement(node)} }`);
+// Whether an `else` behind it would be taken by an `if` that ends it.
+function endsOpen(node) {
+  if (node.type === "IfStatement") return !node.alternate || endsOpen(node.alternate);
+  return /^(While|For|ForIn|ForOf|Labeled)Statement$/.test(node.type) && endsOpen(node.body);
+}
+
+// What stands before an `else`.
+const guarded = (node) => (endsOpen(node) ? `{ ${statement(node)} }` : statement(node));
 
 function head(node) {
   if (node === null) return "";
@@ -164,7 +171,7 @@ const STATEMENTS = {
   ContinueStatement: (node) => `continue${label(node)};`,
   ReturnStatement: (node) => `return ${optional(node.argument)};`,
   ThrowStatement: (node) => `throw ${whole(node.argument)};`,
-  IfStatement: (node) => `if (${expression(node.test)}) ${braced(node.consequent)}${node.alternate ? ` else ${braced(node.alternate)}` : ""}`,
+  IfStatement: (node) => `if (${expression(node.test)}) ${node.alternate ? `${guarded(node.consequent)} else ${statement(node.alternate)}` : statement(node.consequent)}`,
   SwitchStatement: (node) => `switch (${expression(node.discriminant)}) { ${node.cases.map(caseText).join(" ")} }`,
   TryStatement: tryText,
   WhileStatement: (node) => `while (${expression(node.test)}) ${statement(node.body)}`,
