@@ -11,7 +11,9 @@ ghost use Rattle.mini_plan.specs.Views.{part_of, item_of, child_of, shape_of_hea
 
 use crate::head::is_strict_in;
 use crate::parts::{Form, down, form_of, item_part};
-use mini_fields::{Defect, Place, is_misplaced, is_unread, is_unread_unknown, kind_of, may_stand};
+use mini_fields::{
+    Defect, Place, is_misplaced, is_unread, is_unread_unknown, kind_of, may_stand_by,
+};
 use mini_plan::{Below, Items, Part, Plan, Step, entry};
 use serde_json::Value;
 
@@ -98,7 +100,7 @@ pub fn plan(strict: bool, place: Place, value: &Value) -> Result<Plan<'_>, Defec
     if is_unread(strict, place, kind, value) {
         return Err(Defect::Unsupported);
     }
-    if !may_stand(place, value) {
+    if !may_stand_by(place, kind, value) {
         return Err(Defect::BadShape);
     }
     match entry(kind, place, value) {

@@ -1,6 +1,6 @@
 -- What is written by De Morgan's laws is what a row says, and where nothing is written no row makes the statement lighter.
 use Rattle.std.proofs.Common.{◌≡◌, ◌<◌, ◌^◌, Bool, true, false, refl, sym, ap, subst, ◌∙◌, arith}
-use Rattle.std.specs.Prelude.{◌&&◌, nat_lt, Option, Some, None, is_some, unwrap_or, if◌then◌else◌}
+use Rattle.std.specs.Prelude.{not, ◌&&◌, nat_lt, Option, Some, None, is_some, unwrap_or, if◌then◌else◌}
 use Rattle.std.proofs.lemmas.Bool.{and_parts}
 use borrow.Author.Tests.{ltb-true, ltb-false}
 use Rattle.mini_model.specs.declared.operator.LogicalOperator.{LogicalOperator}
@@ -12,7 +12,7 @@ use Rattle.mini_model.specs.Position.{is_and_or, statement_expression_seat, left
 use Rattle.mini_model.specs.Terms.{turned, not_of}
 use Rattle.mini_model.specs.Weight.{weight, capped}
 use Rattle.mini_node.specs.Children.{part}
-use Rattle.mini_node.specs.Kinds.{logical_operator, is_expression_statement}
+use Rattle.mini_node.specs.Kinds.{logical_operator, is_logical, is_expression_statement}
 use Rattle.mini_node.specs.Made.{logical_is, expression_statement_is}
 use Rattle.mini_rows.specs.DeMorgan.{turned_logical, Row50, DeMorganContracts}
 use Rattle.mini_walk.specs.Rule.{Applied}
@@ -39,12 +39,17 @@ module _ (o : LogicalOperator) (a b : Tree) where
   row_same : weight (Expr statement_expression_seat) (turned_logical o a b) < 18446744073709551615 → made o a b ≡ turned_logical o a b
   row_same h = let whole = weight_logical (turned o) statement_expression_seat (not_of (seat_of o) a) b in ap (λ x. logical (turned o) x b) ((tested_same (seat_of o) true a).1 (omega (arith, h, whole)))
 
+not_so : (b : Bool) → not b ≡ true → b ≡ false
+not_so true e = absurd (cc e)
+not_so false e = refl
+
 turned_row : (q : StmtSeat) (o : LogicalOperator) (x : Tree) → x ≡ logical o (part x 0) (part x 1) → turns o x ≡ true → DeMorganContracts (Stmt q) (expression_statement x) (expression_statement (turned_over o x))
 turned_row q o x is h =
-    let (tells, less) = and_parts (is_and_or o) _ h in
+    let (asked, less) = and_parts (is_and_or o && not (is_logical o (part x 1))) _ h in
+    let (tells, apart) = and_parts (is_and_or o) _ asked in
     let falls = ltb-true _ _ less in
     record {
-      row = record { operator = o; a = part x 0; b = part x 1; tells = tells; shape = ap expression_statement is; written = ap expression_statement (made_same o (part x 0) (part x 1) (omega (arith, falls))) };
+      row = record { operator = o; a = part x 0; b = part x 1; tells = tells; apart = not_so (is_logical o (part x 1)) apart; shape = ap expression_statement is; written = ap expression_statement (made_same o (part x 0) (part x 1) (omega (arith, falls))) };
       lighter = omega (arith, falls);
     }
 
@@ -63,8 +68,11 @@ written_is_row q n w e = go (is_expression_statement n) refl e
     go true h e = subst (λ t. DeMorganContracts (Stmt q) t w) (sym (expression_statement_is n h)) (of (logical_operator (part n 0)) refl e)
     go false h e = absurd (cc e)
 
-heavy_row : (o : LogicalOperator) (a b : Tree) → is_and_or o ≡ true → written (expression_statement (logical o a b)) ≡ None → nat_lt (capped (weight (Expr statement_expression_seat) (made o a b))) (capped (weight (Expr statement_expression_seat) (logical o a b))) ≡ false
-heavy_row o a b h e = go (nat_lt (capped (weight (Expr statement_expression_seat) (made o a b))) (capped (weight (Expr statement_expression_seat) (logical o a b)))) (sym (ap (λ d. if d && nat_lt (capped (weight (Expr statement_expression_seat) (made o a b))) (capped (weight (Expr statement_expression_seat) (logical o a b))) then Some (expression_statement (made o a b)) else None) h) ∙ e)
+asked : (o : LogicalOperator) (b : Tree) → is_and_or o ≡ true → is_logical o b ≡ false → is_and_or o && not (is_logical o b) ≡ true
+asked o b h k = ap (λ z. z && not (is_logical o b)) h ∙ ap not k
+
+heavy_row : (o : LogicalOperator) (a b : Tree) → is_and_or o ≡ true → is_logical o b ≡ false → written (expression_statement (logical o a b)) ≡ None → nat_lt (capped (weight (Expr statement_expression_seat) (made o a b))) (capped (weight (Expr statement_expression_seat) (logical o a b))) ≡ false
+heavy_row o a b h k e = go (nat_lt (capped (weight (Expr statement_expression_seat) (made o a b))) (capped (weight (Expr statement_expression_seat) (logical o a b)))) (sym (ap (λ d. if d && nat_lt (capped (weight (Expr statement_expression_seat) (made o a b))) (capped (weight (Expr statement_expression_seat) (logical o a b))) then Some (expression_statement (made o a b)) else None) (asked o b h k)) ∙ e)
   where
     go : (d : Bool) → (if d then Some (expression_statement (made o a b)) else None) ≡ None → d ≡ false
     go true e = absurd (cc e)
@@ -75,7 +83,7 @@ missed q n w r e small less =
     let whole = ap (weight (Stmt q)) r.shape in
     let row = ap (weight (Stmt q)) r.written in
     let same = ap (weight (Expr statement_expression_seat)) (row_same r.operator r.a r.b (omega (arith, small, less, row))) in
-    let heavy = ltb-false _ _ (heavy_row r.operator r.a r.b r.tells (sym (ap written r.shape) ∙ e)) in
+    let heavy = ltb-false _ _ (heavy_row r.operator r.a r.b r.tells r.apart (sym (ap written r.shape) ∙ e)) in
     omega (arith, small, less, whole, row, same, heavy)
 
 pub unwritten_rests : UnwrittenRests

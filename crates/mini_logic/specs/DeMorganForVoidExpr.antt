@@ -1,5 +1,5 @@
 -- 50, `de_morgan_for_void_expr`: `!a && b;` becomes `a || b;`, and `!a || b;` `a && b;`, where that is lighter.
-use Rattle.std.specs.Prelude.{◌≡◌, ◌<◌, ◌^◌, Bool, ◌&&◌, Option, Some, None, nat_lt, if◌then◌else◌}
+use Rattle.std.specs.Prelude.{◌≡◌, ◌<◌, ◌^◌, Bool, not, ◌&&◌, Option, Some, None, nat_lt, if◌then◌else◌}
 use Rattle.mini_model.specs.declared.operator.LogicalOperator.{LogicalOperator}
 use Rattle.mini_model.specs.declared.place.Position.{Position}
 use Rattle.mini_model.specs.declared.place.Position.TheVariants.{Expr, Stmt}
@@ -9,7 +9,7 @@ use Rattle.mini_model.specs.Position.{is_and_or, statement_expression_seat, left
 use Rattle.mini_model.specs.Terms.{turned}
 use Rattle.mini_model.specs.Weight.{weight, capped}
 use Rattle.mini_node.specs.Children.{part}
-use Rattle.mini_node.specs.Kinds.{logical_operator, is_expression_statement}
+use Rattle.mini_node.specs.Kinds.{logical_operator, is_logical, is_expression_statement}
 use Rattle.mini_rows.specs.DeMorgan.{DeMorganContracts}
 use Rattle.mini_logic.specs.Negating.{lighter_negation}
 
@@ -17,9 +17,9 @@ use Rattle.mini_logic.specs.Negating.{lighter_negation}
 abbrev pub turned_over : LogicalOperator → Tree → Tree
 turned_over o x = logical (turned o) (lighter_negation (left_operand_seat (turned o) statement_expression_seat) (part x 0)) (part x 1)
 
--- which is lighter
+-- which is lighter, and nothing is joined instead
 abbrev pub turns : LogicalOperator → Tree → Bool
-turns o x = is_and_or o && nat_lt (capped (weight (Expr statement_expression_seat) (turned_over o x))) (capped (weight (Expr statement_expression_seat) x))
+turns o x = (is_and_or o && not (is_logical o (part x 1))) && nat_lt (capped (weight (Expr statement_expression_seat) (turned_over o x))) (capped (weight (Expr statement_expression_seat) x))
 
 abbrev pub written_by : Option LogicalOperator → Tree → Option Tree
 written_by (Some o) x = if turns o x then Some (expression_statement (turned_over o x)) else None

@@ -1,6 +1,6 @@
 -- Rows of expression statements, whose values nobody uses: each is a shape and what is written in its place, with the JavaScript
 -- before and after.
-use Rattle.std.specs.Prelude.{◌≡◌, ◌<◌, true}
+use Rattle.std.specs.Prelude.{◌≡◌, ◌<◌, true, false}
 use Rattle.mini_model.specs.declared.operator.LogicalOperator.{LogicalOperator}
 use Rattle.mini_model.specs.declared.place.Position.{Position}
 use Rattle.mini_model.specs.declared.place.Position.TheVariants.{Stmt}
@@ -8,17 +8,20 @@ use Rattle.mini_model.specs.Tree.{Tree, logical, expression_statement}
 use Rattle.mini_model.specs.Position.{is_and_or, statement_expression_seat, left_operand_seat}
 use Rattle.mini_model.specs.Terms.{turned, not_of}
 use Rattle.mini_model.specs.Weight.{weight}
+use Rattle.mini_node.specs.Kinds.{is_logical}
 
 -- the left side negated under the other operator
 abbrev pub turned_logical : LogicalOperator → Tree → Tree → Tree
 turned_logical o a b = logical (turned o) (not_of (left_operand_seat (turned o) statement_expression_seat) a) b
 
--- 50: `!a && b;` becomes `a || b;`, and `!a || b;` `a && b;` (De Morgan): which side is evaluated stays, and nobody asks for the value
+-- 50: `!a && b;` becomes `a || b;`, and `!a || b;` `a && b;` (De Morgan): which side is evaluated stays, and nobody asks for the value.
+-- `a && (b && c);` is joined instead, which is lighter
 pub record Row50 (n w : Tree) : Type 0 where
   pub operator : LogicalOperator
   pub a : Tree
   pub b : Tree
   pub tells : is_and_or operator ≡ true
+  pub apart : is_logical operator b ≡ false
   pub shape : n ≡ expression_statement (logical operator a b)
   pub written : w ≡ expression_statement (turned_logical operator a b)
 

@@ -12,7 +12,8 @@ use crate::rewrites::minimize_expression_in_boolean_context::{is_and_or, turned_
 use crate::terms::lighter_negation;
 use mini_model::{LogicalOperator, Position};
 use mini_node::{
-    Node, expression_statement, is_expression_statement, logical, logical_operator, one, taken, two,
+    Node, expression_statement, is_expression_statement, is_logical, logical, logical_operator,
+    one, taken, two,
 };
 use mini_text::OutOfMemory;
 use mini_tree::{expr_weight, seats};
@@ -30,12 +31,13 @@ fn turned(operator: LogicalOperator) -> LogicalOperator
     }
 }
 
-// Whether a logical expression of this operator is lighter under the other one.
+// Whether a logical expression of this operator is lighter under the other one, and its right side is none of the operator.
 fn turns(operator: LogicalOperator, expression: &Node) -> bool
     requires { count (children expression.now) ≡ 2 }
     ensures { result ≡ it_turns operator expression.now }
 {
     is_and_or(operator)
+        && !is_logical(expression.child(1), operator)
         && turned_weight(
             turned(operator),
             expression.child(0),
