@@ -8,7 +8,7 @@ use Rattle.mini_model.specs.declared.kind.MethodDefinitionKind.{MethodDefinition
 use Rattle.mini_model.specs.declared.kind.MethodDefinitionKind.TheVariants as method
 use Rattle.mini_model.specs.declared.shape.Shape.{Shape}
 use Rattle.mini_model.specs.declared.shape.Shape.TheVariants as shape
-use Rattle.mini_text.specs.Texts.{units_of}
+use Rattle.mini_model.specs.Texts.{units_of}
 use Rattle.mini_model.specs.Tree.{Tree, node, children, child_or_absent, is_absent}
 use Rattle.mini_accept.specs.WellShaped as shaped
 use Rattle.mini_accept.specs.WellShaped.{Class, Depth, in_module, in_body, nested, Slot, slots_of, is_sloppy_function, is_strict_in, is_same_flag, is_same_spelling, has_its_number, has_names, has_plain_fields, has_its_parts, none_if, fits}

@@ -3,7 +3,7 @@ use Rattle.std.proofs.Common.{◌≡◌, ℕ, suc, List, [], ◌∷◌, refl, in
 use Rattle.std.specs.Prelude.{◌⊎◌, ⊤, ◌==◌, Option, Some, None, ℤ, codes}
 use Rattle.std.proofs.lemmas.Bool.{and_from, or_left, or_right, true≢false}
 use Rattle.serde_json.specs.Data.{Data}
-use Rattle.mini_text.specs.Texts.{units_of}
+use Rattle.mini_model.specs.Texts.{units_of}
 use Rattle.mini_model.specs.declared.shape.Shape.{Shape}
 use Rattle.mini_model.specs.declared.shape.Shape.TheVariants as shape
 use Rattle.mini_model.specs.Paths.{append}

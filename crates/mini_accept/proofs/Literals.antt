@@ -4,8 +4,8 @@ use Rattle.std.specs.Prelude.{Option, Some, None, option_and_then, option_map, u
 use Rattle.std.proofs.lemmas.Bool.{and_from, and_parts, or_cases, or_parts, not-false, false≢true, true≢false}
 use Rattle.serde_json.specs.Data.{Data, unsigned, negative, float, null, boolean, number, string, array, object}
 use Rattle.serde_json.specs.Find.{get, as_str}
-use Rattle.mini_text.specs.Texts.{units_of}
-use Rattle.mini_text.specs.Numerals.{max_safe_integer}
+use Rattle.mini_model.specs.Texts.{units_of}
+use Rattle.mini_model.specs.Numerals.{max_safe_integer}
 use Rattle.mini_model.specs.declared.shape.Shape.{Shape}
 use Rattle.mini_model.specs.declared.shape.Shape.TheVariants as shape
 use Rattle.mini_model.specs.Tree.{Tree, node, none}

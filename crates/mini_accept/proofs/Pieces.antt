@@ -4,8 +4,8 @@ use Rattle.std.specs.Prelude.{Option, Some, None, option_and_then, option_map, i
 use Rattle.std.proofs.lemmas.Bool.{and_from, and_parts, eqb-true, false≢true}
 use Rattle.serde_json.specs.Data.{Data, Items, no_items, item}
 use Rattle.serde_json.specs.Find.{get, as_null, as_str}
-use Rattle.mini_text.specs.Texts.{units_of}
-use Rattle.mini_text.specs.Templates.{cooked}
+use Rattle.mini_model.specs.Texts.{units_of}
+use Rattle.mini_model.specs.Templates.{cooked}
 use Rattle.mini_model.specs.declared.kind.PropertyKind.{PropertyKind}
 use Rattle.mini_model.specs.declared.kind.PropertyKind.TheVariants as property
 use Rattle.mini_model.specs.declared.shape.Shape.TheVariants as shape

@@ -7,9 +7,9 @@ use Rattle.std.specs.Str.{chars, IsAscii}
 use Rattle.std.proofs.lemmas.Str.{scalars-chars, IsUtf8-from_ascii}
 use Rattle.serde_json.specs.Data.{Data}
 use Rattle.serde_json.specs.Find.{as_null, as_str}
-use Rattle.mini_text.specs.Texts.{units_of, bytes_of, are_units, is_identifier_name}
-use Rattle.mini_text.proofs.Units.{utf16_chars-encode_utf16, bytes_of-units_of, are_units-units_of}
-use Rattle.mini_text.proofs.Decimals.{units_of-ascii}
+use Rattle.mini_model.specs.Texts.{units_of, bytes_of, are_units, is_identifier_name}
+use Rattle.mini_model.proofs.Units.{utf16_chars-encode_utf16, bytes_of-units_of, are_units-units_of}
+use Rattle.mini_model.proofs.Decimals.{units_of-ascii}
 use Rattle.mini_accept.specs.WellShaped.{is_text, is_paired}
 use Rattle.mini_accept.specs.Fields.{require, paired_units, name_of_units}
 use Rattle.mini_accept.specs.Expressions.{cooked_by}

@@ -4,7 +4,7 @@ use Rattle.std.specs.Fmt.{digits}
 use Rattle.std.specs.Str.{chars}
 use Rattle.std.specs.Char.Utf16.{utf16_chars}
 use Rattle.serde_json.specs.Data.{Data, null, boolean, number, object, unsigned, negative, float, no_members}
-use Rattle.mini_text.specs.Texts.{units_of}
+use Rattle.mini_model.specs.Texts.{units_of}
 use Rattle.mini_model.specs.declared.kind.MetaPropertyKind.TheVariants.{ImportMeta}
 use Rattle.mini_model.specs.declared.kind.MethodDefinitionKind.TheVariants.{Constructor}
 use Rattle.mini_model.specs.declared.operator.UnaryOperator.TheVariants.{UnaryNegation}

@@ -2,8 +2,8 @@
 use Rattle.std.specs.Prelude.{ℕ, suc, nat_eq, nat_le, List, [], ◌∷◌, Bool, true, false, ◌&&◌, ◌||◌, not, Option, Some, None, option_and_then, option_map, unwrap_or, is_some, if◌then◌else◌, codes, ℤ}
 use Rattle.serde_json.specs.Data.{Data, null, boolean, number, string, array, object, Members, no_members, member}
 use Rattle.serde_json.specs.Find.{get, as_bool, as_null, as_str}
-use Rattle.mini_text.specs.Texts.{units_of}
-use Rattle.mini_text.specs.Templates.{cooked}
+use Rattle.mini_model.specs.Texts.{units_of}
+use Rattle.mini_model.specs.Templates.{cooked}
 use Rattle.mini_model.specs.declared.kind.MetaPropertyKind.{MetaPropertyKind}
 use Rattle.mini_model.specs.declared.kind.MetaPropertyKind.TheVariants.{NewTarget, ImportMeta}
 use Rattle.mini_model.specs.declared.kind.PropertyKind.{PropertyKind}

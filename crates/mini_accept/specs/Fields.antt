@@ -2,7 +2,7 @@
 use Rattle.std.specs.Prelude.{ℕ, suc, List, [], ◌∷◌, Bool, true, false, ◌||◌, not, Option, Some, None, option_and_then, option_map, is_some, unwrap_or, if◌then◌else◌, codes}
 use Rattle.serde_json.specs.Data.{Data, Items, no_items, item}
 use Rattle.serde_json.specs.Find.{get, as_str, as_bool, as_array, as_null, as_object}
-use Rattle.mini_text.specs.Texts.{units_of}
+use Rattle.mini_model.specs.Texts.{units_of}
 use Rattle.mini_accept.specs.WellShaped.{is_text, is_paired, is_name}
 use Rattle.mini_accept.specs.Kind.{Kind, types}
 

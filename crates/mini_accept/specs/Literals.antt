@@ -2,8 +2,8 @@
 use Rattle.std.specs.Prelude.{ℕ, suc, ◌+◌, ◌-◌, ◌*◌, nat_le, List, [], ◌∷◌, Bool, true, false, ◌&&◌, ◌||◌, not, Option, Some, None, option_and_then, option_map, unwrap_or, if◌then◌else◌, codes, ℤ, pos, negsuc}
 use Rattle.serde_json.specs.Data.{Data, Num, unsigned, negative, float, null, boolean, number, string, array, object}
 use Rattle.serde_json.specs.Find.{get}
-use Rattle.mini_text.specs.Numerals.{max_safe_integer}
-use Rattle.mini_text.specs.Templates.{is_digit}
+use Rattle.mini_model.specs.Numerals.{max_safe_integer}
+use Rattle.mini_model.specs.Templates.{is_digit}
 use Rattle.mini_model.specs.declared.shape.Shape.{Shape}
 use Rattle.mini_model.specs.declared.shape.Shape.TheVariants as shape
 use Rattle.mini_accept.specs.WellShaped.{is_text, max_big_int}

@@ -3,9 +3,9 @@
 use Rattle.std.specs.Prelude.{◌≡◌, ℕ, suc, List, [], ◌∷◌, length, Bool, true, false, ◌&&◌, ◌||◌, ◌==◌, not, nat_eq, nat_le, Option, Some, None, is_some, codes, ℤ, pos, negsuc, if◌then◌else◌}
 use Rattle.std.specs.Cmp.Lexicographic.{pointwise}
 use Rattle.std.specs.Char.Utf16.{has_unpaired_surrogate}
-use Rattle.mini_text.specs.Texts.{are_units, is_identifier_name}
-use Rattle.mini_text.specs.Numerals.{max_safe_integer}
-use Rattle.mini_text.specs.Templates.{cooked}
+use Rattle.mini_model.specs.Texts.{are_units, is_identifier_name}
+use Rattle.mini_model.specs.Numerals.{max_safe_integer}
+use Rattle.mini_model.specs.Templates.{cooked}
 use Rattle.mini_model.specs.declared.kind.MetaPropertyKind.TheVariants.{NewTarget, ImportMeta}
 use Rattle.mini_model.specs.declared.kind.MethodDefinitionKind.{MethodDefinitionKind}
 use Rattle.mini_model.specs.declared.kind.MethodDefinitionKind.TheVariants as method

@@ -2,7 +2,7 @@
 ghost use Rattle.std.specs.Prelude.{◌≡◌, ◌≤◌, ℕ, List, true, false, Some, Ok, Err, IsUtf8, IsAscii};
 ghost use Rattle.serde_json.specs.Data.{Data};
 ghost use Rattle.mini_model.specs.Tree.{Tree};
-ghost use Rattle.mini_text.specs.Texts.{units_of};
+ghost use Rattle.mini_model.specs.Texts.{units_of};
 ghost use Rattle.mini_accept.specs.WellShaped.{a_program, is_text, IsWellShaped};
 ghost use Rattle.mini_accept.specs.Faults.{Fault, too_deep};
 ghost use Rattle.mini_accept.specs.Places.{at};

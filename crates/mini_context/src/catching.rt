@@ -12,11 +12,10 @@ ghost use Rattle.mini_context.specs.Own.{is_catch_shape};
 ghost use Rattle.mini_context.specs.Tables.{Marked};
 
 use crate::marks::mark_name;
-use mini_model::{Name, Shape};
+use mini_model::{Name, OutOfMemory, Shape};
 use mini_names::{Binding, Declared, Use};
 use mini_node::Node;
 use mini_scope::{Environment, push_names};
-use mini_text::OutOfMemory;
 use std::alloc::Global;
 
 fn is_catch(shape: &Shape) -> bool

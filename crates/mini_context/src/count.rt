@@ -10,11 +10,10 @@ ghost use Rattle.mini_names.specs.Counts.{Contained, FellBy};
 ghost use Rattle.mini_context.specs.Tallies.{tallied, tallied_number, tallied_symbol};
 
 use crate::steps::Steps;
-use mini_model::{Name, Shape, SymbolId};
+use mini_model::{Name, OutOfMemory, Shape, SymbolId};
 use mini_names::Use;
 use mini_node::{Node, Nodes};
 use mini_scope::use_of;
-use mini_text::OutOfMemory;
 use std::alloc::Global;
 use std::sync::ledger::{Blank, Ledger};
 

@@ -15,10 +15,9 @@ use crate::lists::{no_lists, put_number};
 use crate::marks::{is_marked, no_marks};
 use crate::parts::{Part, mark_part};
 use crate::standing::{Reading, reading_below};
-use mini_model::{Name, Shape, SymbolId};
+use mini_model::{Name, OutOfMemory, OwnedList, Shape, SymbolId};
 use mini_names::Around;
 use mini_node::Node;
-use mini_text::{OutOfMemory, OwnedList};
 use std::alloc::Global;
 
 /// In which order a node evaluates its children.

@@ -10,11 +10,10 @@ ghost use Rattle.mini_context.specs.Mentioned.{Joined};
 use crate::catching::names_in;
 use crate::mentions::{Mentioned, join_symbol};
 use crate::standing::{Reading, is_absent};
-use mini_model::{Name, Shape};
+use mini_model::{Name, OutOfMemory, Shape};
 use mini_names::{Around, Binding, Declared, Use};
 use mini_node::Node;
 use mini_scope::Environment;
-use mini_text::OutOfMemory;
 use std::alloc::Global;
 
 /// Goes into a scope, whose names have their symbols.

@@ -7,9 +7,8 @@ ghost use Rattle.mini_context.specs.Known.{reference_count as count_of_reference
 
 use crate::context::TraverseCtx;
 use crate::refreshing::refresh;
-use mini_model::{Name, Shape};
+use mini_model::{Name, OutOfMemory, Shape};
 use mini_node::Node;
-use mini_text::OutOfMemory;
 use mini_tree::CompressOptions;
 use mini_walk::Context;
 use std::alloc::Global;

@@ -18,11 +18,10 @@ use crate::marks::{mark_bindings, no_marks};
 use crate::mentions::Mentioned;
 use crate::standing::{Reading, reading_below};
 use crate::strictness::is_strict_in;
-use mini_model::{Name, Shape, SymbolId};
+use mini_model::{Name, OutOfMemory, Shape, SymbolId};
 use mini_names::Binding;
 use mini_node::{Node, Nodes};
 use mini_scope::{Environment, OpenScopes, is_leaf};
-use mini_text::OutOfMemory;
 use std::alloc::Global;
 
 /// The scopes so far.

@@ -4,7 +4,7 @@ ghost use Rattle.std.specs.Prelude.{◌≡◌, ℕ, ◌||◌, nat_eq, true, [], 
 ghost use Rattle.std.specs.List.{list_any};
 ghost use Rattle.mini_context.specs.Lists.{holds, Put};
 
-use mini_text::{OutOfMemory, OwnedList};
+use mini_model::{OutOfMemory, OwnedList};
 use std::alloc::Global;
 
 /// So many empty lists.

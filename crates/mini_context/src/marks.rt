@@ -5,11 +5,10 @@ ghost use Rattle.mini_names.specs.DeclaredNames.{own_names, names_of, all_names}
 ghost use Rattle.mini_names.specs.ScopeList.{names_in};
 ghost use Rattle.mini_context.specs.Tables.{mark_at, Marked};
 
-use mini_model::{Name, SymbolId};
+use mini_model::{Name, OutOfMemory, SymbolId};
 use mini_names::{Binding, Declared, Place};
 use mini_node::{Node, Nodes};
 use mini_scope::place_of;
-use mini_text::OutOfMemory;
 use std::alloc::Global;
 
 /// A table for so many symbols, without a mark.

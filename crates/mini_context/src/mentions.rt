@@ -15,10 +15,9 @@ ghost use Rattle.mini_context.specs.declared.mentions.Mentioned.TheVariants as m
 use crate::count::{is_reference, is_write};
 use crate::lists::put_number;
 use crate::standing::Standing;
-use mini_model::{Shape, SymbolId};
+use mini_model::{OutOfMemory, OwnedList, Shape, SymbolId};
 use mini_names::Around;
 use mini_node::Node;
-use mini_text::{OutOfMemory, OwnedList};
 use std::alloc::Global;
 
 /// Where a symbol is mentioned, that is declared, bound, read or written.

@@ -8,10 +8,9 @@ ghost use Rattle.mini_context.specs.Lists.{holds};
 
 use crate::catching::names_in;
 use crate::lists::{holds_number, no_lists, put_number};
-use mini_model::{Name, Shape};
+use mini_model::{Name, OutOfMemory, OwnedList, Shape};
 use mini_names::Declared;
 use mini_node::{Node, Nodes};
-use mini_text::{OutOfMemory, OwnedList};
 use std::alloc::Global;
 
 /// The functions so far: each has a number of its own, in the order in which they were come to.

@@ -6,8 +6,8 @@ ghost use Rattle.mini_names.specs.References.{references};
 ghost use Rattle.mini_context.specs.Facts.{Refreshed};
 
 use crate::context::TraverseCtx;
+use mini_model::OutOfMemory;
 use mini_node::Node;
-use mini_text::OutOfMemory;
 use std::alloc::Global;
 
 /// Sets the counts and what a direct eval can see to those of a program. The only error is that memory runs out, and then

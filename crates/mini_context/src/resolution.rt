@@ -1,7 +1,7 @@
 //! The resolution of a program that has no early error.
 
 ghost use Rattle.std.specs.Prelude.{◌≡◌, ◌+◌, ◌<◌, ◌^◌, None, Some, length, IfErr, IfOk, IfSome, OnOk};
-ghost use Rattle.mini_text.specs.Faults.{fault_of};
+ghost use Rattle.mini_model.specs.Faults.{fault_of};
 ghost use Rattle.mini_names.specs.declared.Use.TheVariants as variant;
 ghost use Rattle.mini_names.specs.References.{references};
 ghost use Rattle.mini_names.specs.Resolved.{resolved_program, symbols};
@@ -9,9 +9,9 @@ ghost use Rattle.mini_scope.specs.Pointers.{early_fault};
 ghost use Rattle.mini_context.specs.Facts.{Tells};
 
 use crate::scopes::Scopes;
+use mini_model::MinifyError;
 use mini_node::Node;
 use mini_scope::{refuse_early, resolve_program};
-use mini_text::MinifyError;
 use std::alloc::Global;
 
 /// Gives each name of a program its symbol, and says what is known of the names.

@@ -25,12 +25,11 @@ use crate::mentions::{Mentioned, is_outside, is_somewhere, mentioned_at, no_ment
 use crate::params::is_around;
 use crate::standing::{at_top, first_reading};
 use crate::steps::Steps;
-use crate::survey::{Tables, empty_tables, no_tables, survey_node};
-use mini_model::{Shape, SymbolId};
+use crate::survey::{Tables, empty_tables, open_tables, survey_node};
+use mini_model::{OutOfMemory, Shape, SymbolId};
 use mini_names::Use;
 use mini_node::Node;
 use mini_scope::{Environment, OpenScopes};
-use mini_text::OutOfMemory;
 use std::alloc::Global;
 use std::marker::{Brand, Model};
 use std::sync::ledger::{Blank, Ledger};
@@ -103,13 +102,17 @@ fn script_tops(alloc: Global, symbols: u32, program: &Node) -> Result<Vec<bool>,
     Ok(tops)
 }
 
-// What a walk over a program with so many symbols finds.
-fn surveyed(alloc: Global, program: &Node, symbols: u32) -> Result<Tables, OutOfMemory>
-    ensures { IfOk result (λ tables. Found tables symbols program.now) }
+// Sets what a walk over a program with so many symbols finds.
+fn survey_program(
+    alloc: Global,
+    tables: &mut Tables,
+    program: &Node,
+    symbols: u32,
+) -> Result<(), OutOfMemory>
+    ensures { OnOk result (Found tables.new symbols program.now) }
 {
-    let mut tables = no_tables(alloc, symbols)?;
-    survey_node(alloc, &mut tables, at_top(), program)?;
-    Ok(tables)
+    open_tables(alloc, symbols, tables)?;
+    survey_node(alloc, tables, at_top(), program)
 }
 
 // The scopes of a program with so many symbols, and what its `var`s write.
@@ -166,7 +169,7 @@ fn look_at(look: &mut Look, alloc: Global, program: &Node, symbols: u32) -> Resu
     ensures { (tops : List Bool) → OnOk result (Told (facts_of look.new tops) symbols program.now) }
 {
     look.counts = own_counts::<Brand>(alloc, program, symbols, Blank::new(1))?;
-    look.tables = surveyed(alloc, program, symbols)?;
+    survey_program(alloc, &mut look.tables, program, symbols)?;
     let (scopes, given) = listed(alloc, program, symbols)?;
     look.scopes = scopes;
     look.given = given;

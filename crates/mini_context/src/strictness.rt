@@ -4,8 +4,7 @@ ghost use Rattle.std.specs.Prelude.{◌≡◌, codes};
 ghost use Rattle.mini_model.specs.Weight.{same_text};
 ghost use Rattle.mini_names.specs.Strict.{has_use_strict as has_use_strict_in, is_strict_in as is_strict_at};
 
-use mini_model::Shape;
-use mini_text::Text;
+use mini_model::{Shape, Text};
 
 /// The units of `use strict`.
 const USE_STRICT: [u16; 10] = [117, 115, 101, 32, 115, 116, 114, 105, 99, 116];

@@ -1,6 +1,6 @@
 //! One walk over a tree, which fills the tables of symbols and of bodies.
 
-ghost use Rattle.std.specs.Prelude.{◌≡◌, ℕ, ◌||◌, ◌&&◌, [], ◌∷◌, nat_eq, ◌<◌, true, false, length, replicate, IfOk, OnOk};
+ghost use Rattle.std.specs.Prelude.{◌≡◌, ℕ, ◌||◌, ◌&&◌, [], ◌∷◌, nat_eq, ◌<◌, true, false, length, replicate, OnOk};
 ghost use Rattle.mini_model.specs.Tree.{children, shape_of};
 ghost use Rattle.mini_names.specs.Bodies.{own_fixed};
 ghost use Rattle.mini_names.specs.Foreign.{own_lexical, own_pattern_names, own_switched};
@@ -22,10 +22,9 @@ use crate::params::{Params, empty_params, enclose, no_params};
 use crate::parts::{caught_part, fixed_part, lexical_part, mark_part, pattern_part, switched_part};
 use crate::reach::mark_reached;
 use crate::standing::{Standing, frame_in_body, numbering_of, standing_below};
-use mini_model::Shape;
+use mini_model::{OutOfMemory, OwnedList, Shape};
 use mini_names::{Declared, Numbering};
 use mini_node::Node;
-use mini_text::{OutOfMemory, OwnedList};
 use std::alloc::Global;
 
 /// What a walk over a program finds, by symbol and by the number of a body.
@@ -64,10 +63,7 @@ pub struct Tables {
 }
 
 /// Tables of no symbol.
-pub fn empty_tables(alloc: Global) -> Tables
-    ensures this_events { result.this_events.items ≡ [] }
-    ensures arguments { result.arguments.items ≡ [] }
-{
+pub fn empty_tables(alloc: Global) -> Tables {
     Tables {
         fixed: Vec::new(alloc),
         exchanged: Vec::new(alloc),
@@ -87,40 +83,85 @@ pub fn empty_tables(alloc: Global) -> Tables
     }
 }
 
-/// Tables for so many symbols, without a mark.
-pub fn no_tables(alloc: Global, symbols: u32) -> Result<Tables, OutOfMemory>
-    ensures fixed { IfOk result (λ tables. tables.fixed.items ≡ replicate symbols false) }
-    ensures exchanged { IfOk result (λ tables. tables.exchanged.items ≡ replicate symbols false) }
-    ensures reached { IfOk result (λ tables. tables.reached.items ≡ replicate symbols false) }
-    ensures imported { IfOk result (λ tables. tables.imported.items ≡ replicate symbols false) }
-    ensures patterns { IfOk result (λ tables. tables.patterns.items ≡ replicate symbols false) }
-    ensures lexical { IfOk result (λ tables. tables.lexical.items ≡ replicate symbols false) }
-    ensures switched { IfOk result (λ tables. tables.switched.items ≡ replicate symbols false) }
-    ensures params { IfOk result (λ tables. tables.params.items ≡ replicate symbols false) }
-    ensures caught { IfOk result (λ tables. tables.caught.items ≡ replicate symbols false) }
-    ensures mentioned { IfOk result (λ tables. tables.mentioned.items ≡ replicate symbols mentioned.Nowhere) }
-    ensures written { IfOk result (λ tables. tables.written.items ≡ replicate symbols mentioned.Nowhere) }
-    ensures homes { IfOk result (λ tables. tables.homes.items ≡ replicate symbols []) }
-    ensures functions { IfOk result (λ tables. tables.enclosing.by_symbol.items ≡ replicate symbols []) }
-    ensures numbers { IfOk result (λ tables. tables.enclosing.by_number.items ≡ []) }
-    ensures this_events { IfOk result (λ tables. tables.this_events.items ≡ []) }
-    ensures arguments { IfOk result (λ tables. tables.arguments.items ≡ []) }
+/// Makes them three tables for so many symbols, without a mark. After `OutOfMemory` they are fit only to be dropped.
+fn open_marks(
+    alloc: Global,
+    symbols: u32,
+    first: &mut Vec<bool>,
+    second: &mut Vec<bool>,
+    third: &mut Vec<bool>,
+) -> Result<(), OutOfMemory>
+    ensures first { OnOk result (first.new.items ≡ replicate symbols false) }
+    ensures second { OnOk result (second.new.items ≡ replicate symbols false) }
+    ensures third { OnOk result (third.new.items ≡ replicate symbols false) }
 {
-    let mut tables = empty_tables(alloc);
-    tables.fixed = no_marks(alloc, symbols)?;
-    tables.exchanged = no_marks(alloc, symbols)?;
-    tables.reached = no_marks(alloc, symbols)?;
-    tables.imported = no_marks(alloc, symbols)?;
-    tables.patterns = no_marks(alloc, symbols)?;
-    tables.lexical = no_marks(alloc, symbols)?;
-    tables.switched = no_marks(alloc, symbols)?;
-    tables.params = no_marks(alloc, symbols)?;
-    tables.caught = no_marks(alloc, symbols)?;
-    tables.mentioned = no_mentions(alloc, symbols)?;
-    tables.written = no_mentions(alloc, symbols)?;
+    *first = no_marks(alloc, symbols)?;
+    *second = no_marks(alloc, symbols)?;
+    *third = no_marks(alloc, symbols)?;
+    Ok(())
+}
+
+/// Makes them two tables for so many symbols that are mentioned nowhere.
+fn open_mentions(
+    alloc: Global,
+    symbols: u32,
+    first: &mut Vec<Mentioned>,
+    second: &mut Vec<Mentioned>,
+) -> Result<(), OutOfMemory>
+    ensures first { OnOk result (first.new.items ≡ replicate symbols mentioned.Nowhere) }
+    ensures second { OnOk result (second.new.items ≡ replicate symbols mentioned.Nowhere) }
+{
+    *first = no_mentions(alloc, symbols)?;
+    *second = no_mentions(alloc, symbols)?;
+    Ok(())
+}
+
+/// Makes them tables for so many symbols, without a mark. After `OutOfMemory` they are fit only to be dropped.
+pub fn open_tables(alloc: Global, symbols: u32, tables: &mut Tables) -> Result<(), OutOfMemory>
+    ensures fixed { OnOk result (tables.new.fixed.items ≡ replicate symbols false) }
+    ensures exchanged { OnOk result (tables.new.exchanged.items ≡ replicate symbols false) }
+    ensures reached { OnOk result (tables.new.reached.items ≡ replicate symbols false) }
+    ensures imported { OnOk result (tables.new.imported.items ≡ replicate symbols false) }
+    ensures patterns { OnOk result (tables.new.patterns.items ≡ replicate symbols false) }
+    ensures lexical { OnOk result (tables.new.lexical.items ≡ replicate symbols false) }
+    ensures switched { OnOk result (tables.new.switched.items ≡ replicate symbols false) }
+    ensures params { OnOk result (tables.new.params.items ≡ replicate symbols false) }
+    ensures caught { OnOk result (tables.new.caught.items ≡ replicate symbols false) }
+    ensures mentioned { OnOk result (tables.new.mentioned.items ≡ replicate symbols mentioned.Nowhere) }
+    ensures written { OnOk result (tables.new.written.items ≡ replicate symbols mentioned.Nowhere) }
+    ensures homes { OnOk result (tables.new.homes.items ≡ replicate symbols []) }
+    ensures functions { OnOk result (tables.new.enclosing.by_symbol.items ≡ replicate symbols []) }
+    ensures numbers { OnOk result (tables.new.enclosing.by_number.items ≡ []) }
+    ensures this_events { OnOk result (tables.new.this_events.items ≡ []) }
+    ensures arguments { OnOk result (tables.new.arguments.items ≡ []) }
+{
+    open_marks(
+        alloc,
+        symbols,
+        &mut tables.fixed,
+        &mut tables.exchanged,
+        &mut tables.reached,
+    )?;
+    open_marks(
+        alloc,
+        symbols,
+        &mut tables.imported,
+        &mut tables.patterns,
+        &mut tables.lexical,
+    )?;
+    open_marks(
+        alloc,
+        symbols,
+        &mut tables.switched,
+        &mut tables.params,
+        &mut tables.caught,
+    )?;
+    open_mentions(alloc, symbols, &mut tables.mentioned, &mut tables.written)?;
     tables.homes = no_lists(alloc, symbols)?;
     tables.enclosing = no_params(alloc, symbols)?;
-    Ok(tables)
+    tables.this_events = Vec::new(alloc);
+    tables.arguments = Vec::new(alloc);
+    Ok(())
 }
 
 /// Makes a table longer, until there is an entry at an index.

@@ -18,9 +18,9 @@ use Rattle.mini_accept.specs.Faults.{Defect, Fault, fault_under, under, â—Œ>>=â—
 use Rattle.mini_accept.specs.Places.{Step, step_text, down, place, Place}
 use Rattle.mini_accept.specs.Plans.{Part, tree_at, inner_at, checked, Child, one, many, Plan, ItemPart, parts_from}
 use Rattle.mini_accept.specs.Accept.{Read, Reader, reads, plan, takes_number, with_children, read_below, read_part, read_parts, read_child, read_children}
-use Rattle.mini_text.specs.Faults as errors
-use Rattle.mini_text.specs.Faults.{fault_of, IsUnder}
-use Rattle.mini_text.specs.declared.error.MinifyError.{MinifyError}
+use Rattle.mini_model.specs.Faults as errors
+use Rattle.mini_model.specs.Faults.{fault_of, IsUnder}
+use Rattle.mini_model.specs.declared.error.MinifyError.{MinifyError}
 use Rattle.mini_plan.specs.declared.plan.Below.{Below}
 use Rattle.mini_estree.specs.Reads.{fault_told, Blames, onto}
 use Rattle.mini_estree.proofs.Lists.{parts_front}

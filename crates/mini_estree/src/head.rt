@@ -10,12 +10,11 @@ ghost use Rattle.mini_fields.specs.Literals.{shape_of, negative_literal};
 ghost use Rattle.mini_fields.specs.Views.{class_of, place_of};
 ghost use Rattle.mini_node.specs.Children.{names};
 ghost use Rattle.mini_plan.specs.Views.{shape_of_head, names_of_head};
-ghost use Rattle.mini_text.specs.Texts.{units_of};
+ghost use Rattle.mini_model.specs.Texts.{units_of};
 
 use mini_fields::{Class, LiteralValue, Place, digits_value, has_type, list_at};
-use mini_model::{Name, Shape};
+use mini_model::{BoxedText, Name, OutOfMemory, Shape, Text, TextList};
 use mini_plan::{Head, directive_text, has_use_strict};
-use mini_text::{BoxedText, OutOfMemory, Text, TextList};
 use serde_json::Value;
 use std::alloc::Global;
 

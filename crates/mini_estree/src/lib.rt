@@ -12,7 +12,7 @@ pub use mini_accept::{
     accepted_is_well_shaped, accepts_one_tree, deeper, faults_are_there, names_have_no_symbol,
     numbers_in_preorder, refused_deeper,
 };
-pub use mini_text::{MinifyError, Pointer};
+pub use mini_model::{MinifyError, Pointer};
 pub use mini_writer::{
     accepted_weighs_little, fits, fitting_is_read, read_bytes_fit, write_program,
 };

@@ -9,8 +9,8 @@ ghost use Rattle.mini_estree.specs.Reads.{Blames};
 
 use crate::walk::node;
 use mini_fields::{Class, Place};
+use mini_model::MinifyError;
 use mini_node::Node;
-use mini_text::MinifyError;
 use serde_json::Value;
 use std::alloc::Global;
 

@@ -3,8 +3,8 @@ use Rattle.std.proofs.Common.{◌≡◌, ℕ, List, [], ◌∷◌, true, false, 
 use Rattle.std.specs.Prelude.{◌&&◌}
 use Rattle.std.specs.Str.{chars}
 use Rattle.std.proofs.lemmas.Str.{scalars-chars}
-use Rattle.mini_text.specs.Texts.{units_of, is_identifier_name, is_name_of_chars, are_name_parts, is_name_start, is_name_part}
-use Rattle.mini_text.proofs.Units.{utf16_chars-encode_utf16, are_units-units_of}
+use Rattle.mini_model.specs.Texts.{units_of, is_identifier_name, is_name_of_chars, are_name_parts, is_name_start, is_name_part}
+use Rattle.mini_model.proofs.Units.{utf16_chars-encode_utf16, are_units-units_of}
 use Rattle.mini_accept.specs.WellShaped.{is_name}
 use Rattle.mini_fields.specs.Names.{is_name_from}
 

@@ -6,10 +6,10 @@ use Rattle.std.specs.Str.Iter.{encode_utf16_pending, encode_utf16_rest, encode_u
 use Rattle.std.specs.declared.str.EncodeUtf16.{EncodeUtf16}
 use Rattle.std.proofs.lemmas.List.{nil_from_length}
 use Rattle.std.proofs.lemmas.Str.{IsUtf8-past_char}
-use Rattle.mini_text.specs.Texts.{units_of}
-use Rattle.mini_text.proofs.Units.{units_of-cons, units_of-nil}
+use Rattle.mini_model.specs.Texts.{units_of}
+use Rattle.mini_model.proofs.Units.{units_of-cons, units_of-nil}
 use Rattle.mini_accept.specs.WellShaped.{is_text, is_text_of_cooked}
-use Rattle.mini_text.specs.Templates.{Place, Step, Malformed, Gives, step, may_end, before, then_rest, cooked_from}
+use Rattle.mini_model.specs.Templates.{Place, Step, Malformed, Gives, step, may_end, before, then_rest, cooked_from}
 use Rattle.mini_fields.specs.Cooking.{next_place, units_left, Begins, is_rest, Follows}
 
 -- ---- the units of a text

@@ -3,9 +3,9 @@ use Rattle.std.specs.Prelude.{ℕ, List, [], ◌∷◌, ◌++◌, Bool, false, �
 use Rattle.std.specs.Char.Escape.{encode_utf16}
 use Rattle.std.specs.Str.Iter.{encode_utf16_pending, encode_utf16_rest}
 use Rattle.std.specs.declared.str.EncodeUtf16.{EncodeUtf16}
-use Rattle.mini_text.specs.Texts.{units_of}
+use Rattle.mini_model.specs.Texts.{units_of}
 use Rattle.mini_accept.specs.WellShaped.{is_text, is_text_of_cooked}
-use Rattle.mini_text.specs.Templates.{Place, Characters, Escape, Zero, Digits, Unicode, Brace, CodePoint, Step, Malformed, Gives, then_rest}
+use Rattle.mini_model.specs.Templates.{Place, Characters, Escape, Zero, Digits, Unicode, Brace, CodePoint, Step, Malformed, Gives, then_rest}
 use Rattle.mini_fields.specs.declared.cooking.State.{State}
 use Rattle.mini_fields.specs.declared.cooking.State.TheVariants.{Plain, Escaping, AfterZero, InDigits, AfterUnicode, AfterBrace, InBraces}
 use Rattle.mini_fields.specs.declared.cooking.Reading.{Reading}

@@ -1,7 +1,7 @@
 -- What the program's literals are as the definitions have them.
 use Rattle.std.specs.Prelude.{ℕ, ◌-◌, nat_le, Option, Some, None, option_map, unwrap_or, if◌then◌else◌, ℤ, pos, negsuc}
 use Rattle.serde_json.specs.Data.{Data}
-use Rattle.mini_text.specs.Texts.{units_of}
+use Rattle.mini_model.specs.Texts.{units_of}
 use Rattle.mini_model.specs.declared.shape.Shape.{Shape}
 use Rattle.mini_model.specs.declared.shape.Shape.TheVariants as shape
 use Rattle.mini_accept.specs.WellShaped.{max_big_int}

@@ -3,9 +3,9 @@
 ghost use Rattle.std.specs.Prelude.{◌≡◌, [], ◌∷◌, Some, is_some, not, option_map, IsUtf8};
 ghost use Rattle.std.specs.Char.Escape.{encode_utf16};
 ghost use Rattle.std.specs.Str.Iter.{encode_utf16_rest};
-ghost use Rattle.mini_text.specs.Texts.{units_of};
+ghost use Rattle.mini_model.specs.Texts.{units_of};
 ghost use Rattle.mini_accept.specs.WellShaped.{is_text_of_cooked};
-ghost use Rattle.mini_text.specs.Templates.{hex_digit, with_digit, character_step, escape_step, step, may_end, digit_step, brace_step, cooked};
+ghost use Rattle.mini_model.specs.Templates.{hex_digit, with_digit, character_step, escape_step, step, may_end, digit_step, brace_step, cooked};
 ghost use Rattle.mini_fields.specs.Cooking.{state_of, step_of, next_place, units_left, Begins, Follows};
 
 use std::marker::Model;

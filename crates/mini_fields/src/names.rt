@@ -2,7 +2,7 @@
 
 ghost use Rattle.std.specs.Prelude.{◌≡◌, option_map};
 ghost use Rattle.serde_json.specs.View.{view};
-ghost use Rattle.mini_text.specs.Texts.{units_of, is_name_start, is_name_part};
+ghost use Rattle.mini_model.specs.Texts.{units_of, is_name_start, is_name_part};
 ghost use Rattle.mini_accept.specs.WellShaped.{is_name};
 ghost use Rattle.mini_accept.specs.Fields.{name_at};
 ghost use Rattle.mini_fields.specs.Names.{fits};

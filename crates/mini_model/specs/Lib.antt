@@ -1,3 +1,14 @@
+pub mod Lends
+pub mod Texts
+pub mod formers
+pub mod Faults
+pub mod TextExamples
+pub mod Joined
+pub mod Reader
+pub mod Tails
+pub mod Templates
+pub mod Numerals
+pub mod NumeralExamples
 pub mod Tree
 pub mod Position
 pub mod Weight

@@ -1,6 +1,6 @@
 ghost use Rattle.std.specs.Prelude.{◌≡◌};
 
-use mini_text::Text;
+use crate::Text;
 
 /// The number of a symbol: one declared name of the program, whatever its spelling.
 #[derive(Clone, Copy, PartialEq, Eq)]

@@ -2,7 +2,7 @@ use crate::kind::{MetaPropertyKind, MethodDefinitionKind, PropertyKind, Variable
 use crate::operator::{
     AssignmentOperator, BinaryOperator, LogicalOperator, UnaryOperator, UpdateOperator,
 };
-use mini_text::{BoxedText, Text, TextList};
+use crate::{BoxedText, Text, TextList};
 
 /// What a node of the plain form is: its kind with its plain fields. Its names, its number and its children stand
 /// beside it. A shape has one child for each field of its type in ESTree (ES5 to ES2022) that holds a node or a list of

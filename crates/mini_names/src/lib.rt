@@ -13,8 +13,7 @@ pub use laws::{
     drops_tell, resolved_is_distinct, resolved_is_scoped, resolved_of_bare, resolved_renamed,
     resolved_symbols,
 };
-use mini_model::Name;
-use mini_text::{OwnedList, Text};
+use mini_model::{Name, OwnedList, Text};
 pub use moves::{
     drop_let, drop_name, join, move_in, move_out, of_parts, split, swap_branches, to_parts,
 };

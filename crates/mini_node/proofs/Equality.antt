@@ -10,6 +10,11 @@ use Rattle.mini_model.specs.declared.name.Name.{Name}
 use Rattle.mini_model.specs.declared.shape.Shape.{Shape}
 use Rattle.mini_model.specs.declared.shape.Shape.TheVariants as shape
 use Rattle.mini_model.specs.contracts.shape.Shape as shape'
+use Rattle.mini_model.specs.declared.kind.VariableDeclarationKind.TheVariants as kind
+use Rattle.mini_model.specs.declared.kind.MetaPropertyKind.TheVariants as meta
+use Rattle.mini_model.specs.declared.operator.LogicalOperator.TheVariants as logical
+use Rattle.mini_model.specs.declared.operator.UnaryOperator.TheVariants as unary
+use Rattle.mini_model.specs.declared.operator.UpdateOperator.TheVariants as update
 use Rattle.mini_model.specs.Tree.{Tree, Trees, node, none, ◌▸◌, count, child_or_absent, children}
 use Rattle.mini_node.specs.Children.{rest_children}
 use Rattle.mini_node.specs.Walks.{from_first, next_child, no_rest}
@@ -56,10 +61,10 @@ names_itself : (xs : List Name) → same_names xs xs ≡ true
 unfolding same_names
 names_itself xs = code_itself (names_code.code xs)
 
--- ---- shapes without fields
+-- ---- shapes with a number
 
 plain_shapes : List Shape
-plain_shapes = shape.Absent ∷ shape.Absent ∷ shape.Listed ∷ shape.InnerExpression ∷ shape.ExpressionStatement ∷ shape.EmptyStatement ∷ shape.DebuggerStatement ∷ shape.BlockStatement ∷ shape.LabeledStatement ∷ shape.BreakStatement ∷ shape.ContinueStatement ∷ shape.ReturnStatement ∷ shape.ThrowStatement ∷ shape.IfStatement ∷ shape.SwitchStatement ∷ shape.SwitchCase ∷ shape.TryStatement ∷ shape.CatchClause ∷ shape.WhileStatement ∷ shape.DoWhileStatement ∷ shape.ForStatement ∷ shape.ForInStatement ∷ shape.ForOfStatement ∷ shape.VariableDeclarator ∷ shape.FunctionBody ∷ shape.ClassBody ∷ shape.StaticBlock ∷ shape.ImportDeclaration ∷ shape.ImportSpecifier ∷ shape.ImportDefaultSpecifier ∷ shape.ImportNamespaceSpecifier ∷ shape.ExportNamedDeclaration ∷ shape.ExportSpecifier ∷ shape.ExportDefaultDeclaration ∷ shape.ExportAllDeclaration ∷ shape.Identifier ∷ shape.BindingIdentifier ∷ shape.NullLiteral ∷ shape.ThisExpression ∷ shape.Super ∷ shape.ArrayExpression ∷ shape.ObjectExpression ∷ shape.SpreadElement ∷ shape.PrivateInExpression ∷ shape.ConditionalExpression ∷ shape.SequenceExpression ∷ shape.SuperCallExpression ∷ shape.NewExpression ∷ shape.SuperStaticMemberExpression ∷ shape.SuperComputedMemberExpression ∷ shape.ChainExpression ∷ shape.TemplateLiteral ∷ shape.TaggedTemplateExpression ∷ shape.ImportExpression ∷ shape.ObjectPattern ∷ shape.ArrayPattern ∷ shape.RestElement ∷ shape.AssignmentPattern ∷ shape.ObjectAssignmentTarget ∷ shape.ArrayAssignmentTarget ∷ shape.AssignmentTargetPropertyIdentifier ∷ []
+plain_shapes = shape.Absent ∷ shape.Absent ∷ shape.Listed ∷ shape.InnerExpression ∷ shape.ExpressionStatement ∷ shape.EmptyStatement ∷ shape.DebuggerStatement ∷ shape.BlockStatement ∷ shape.LabeledStatement ∷ shape.BreakStatement ∷ shape.ContinueStatement ∷ shape.ReturnStatement ∷ shape.ThrowStatement ∷ shape.IfStatement ∷ shape.SwitchStatement ∷ shape.SwitchCase ∷ shape.TryStatement ∷ shape.CatchClause ∷ shape.WhileStatement ∷ shape.DoWhileStatement ∷ shape.ForStatement ∷ shape.ForInStatement ∷ shape.ForOfStatement ∷ shape.VariableDeclarator ∷ shape.FunctionBody ∷ shape.ClassBody ∷ shape.StaticBlock ∷ shape.ImportDeclaration ∷ shape.ImportSpecifier ∷ shape.ImportDefaultSpecifier ∷ shape.ImportNamespaceSpecifier ∷ shape.ExportNamedDeclaration ∷ shape.ExportSpecifier ∷ shape.ExportDefaultDeclaration ∷ shape.ExportAllDeclaration ∷ shape.Identifier ∷ shape.BindingIdentifier ∷ shape.NullLiteral ∷ shape.ThisExpression ∷ shape.Super ∷ shape.ArrayExpression ∷ shape.ObjectExpression ∷ shape.SpreadElement ∷ shape.PrivateInExpression ∷ shape.ConditionalExpression ∷ shape.SequenceExpression ∷ shape.SuperCallExpression ∷ shape.NewExpression ∷ shape.SuperStaticMemberExpression ∷ shape.SuperComputedMemberExpression ∷ shape.ChainExpression ∷ shape.TemplateLiteral ∷ shape.TaggedTemplateExpression ∷ shape.ImportExpression ∷ shape.ObjectPattern ∷ shape.ArrayPattern ∷ shape.RestElement ∷ shape.AssignmentPattern ∷ shape.ObjectAssignmentTarget ∷ shape.ArrayAssignmentTarget ∷ shape.AssignmentTargetPropertyIdentifier ∷ (shape.Class false) ∷ (shape.Class true) ∷ (shape.BooleanLiteral false) ∷ (shape.BooleanLiteral true) ∷ (shape.CallExpression false) ∷ (shape.CallExpression true) ∷ (shape.StaticMemberExpression false) ∷ (shape.StaticMemberExpression true) ∷ (shape.ComputedMemberExpression false) ∷ (shape.ComputedMemberExpression true) ∷ (shape.PrivateFieldExpression false) ∷ (shape.PrivateFieldExpression true) ∷ (shape.YieldExpression false) ∷ (shape.YieldExpression true) ∷ (shape.AssignmentTargetPropertyProperty false) ∷ (shape.AssignmentTargetPropertyProperty true) ∷ (shape.PropertyDefinition false false) ∷ (shape.PropertyDefinition false true) ∷ (shape.PropertyDefinition true false) ∷ (shape.PropertyDefinition true true) ∷ (shape.BindingProperty false false) ∷ (shape.BindingProperty false true) ∷ (shape.BindingProperty true false) ∷ (shape.BindingProperty true true) ∷ (shape.VariableDeclaration kind.Var) ∷ (shape.VariableDeclaration kind.Let) ∷ (shape.VariableDeclaration kind.Const) ∷ (shape.LogicalExpression logical.Or) ∷ (shape.LogicalExpression logical.And) ∷ (shape.LogicalExpression logical.Coalesce) ∷ (shape.MetaProperty meta.NewTarget) ∷ (shape.MetaProperty meta.ImportMeta) ∷ (shape.UnaryExpression unary.UnaryPlus) ∷ (shape.UnaryExpression unary.UnaryNegation) ∷ (shape.UnaryExpression unary.LogicalNot) ∷ (shape.UnaryExpression unary.BitwiseNot) ∷ (shape.UnaryExpression unary.Typeof) ∷ (shape.UnaryExpression unary.Void) ∷ (shape.UnaryExpression unary.Delete) ∷ (shape.UpdateExpression update.Increment false) ∷ (shape.UpdateExpression update.Increment true) ∷ (shape.UpdateExpression update.Decrement false) ∷ (shape.UpdateExpression update.Decrement true) ∷ []
 
 of_number : (h : Shape) → (plain_number h ≡ 0 → ⊥) → get_or plain_shapes (plain_number h) shape.Absent ≡ h
 unfolding plain_shapes
@@ -123,6 +128,49 @@ of_number shape.AssignmentPattern n = refl
 of_number shape.ObjectAssignmentTarget n = refl
 of_number shape.ArrayAssignmentTarget n = refl
 of_number shape.AssignmentTargetPropertyIdentifier n = refl
+of_number (shape.Class false) n = refl
+of_number (shape.Class true) n = refl
+of_number (shape.BooleanLiteral false) n = refl
+of_number (shape.BooleanLiteral true) n = refl
+of_number (shape.CallExpression false) n = refl
+of_number (shape.CallExpression true) n = refl
+of_number (shape.StaticMemberExpression false) n = refl
+of_number (shape.StaticMemberExpression true) n = refl
+of_number (shape.ComputedMemberExpression false) n = refl
+of_number (shape.ComputedMemberExpression true) n = refl
+of_number (shape.PrivateFieldExpression false) n = refl
+of_number (shape.PrivateFieldExpression true) n = refl
+of_number (shape.YieldExpression false) n = refl
+of_number (shape.YieldExpression true) n = refl
+of_number (shape.AssignmentTargetPropertyProperty false) n = refl
+of_number (shape.AssignmentTargetPropertyProperty true) n = refl
+of_number (shape.PropertyDefinition false false) n = refl
+of_number (shape.PropertyDefinition false true) n = refl
+of_number (shape.PropertyDefinition true false) n = refl
+of_number (shape.PropertyDefinition true true) n = refl
+of_number (shape.BindingProperty false false) n = refl
+of_number (shape.BindingProperty false true) n = refl
+of_number (shape.BindingProperty true false) n = refl
+of_number (shape.BindingProperty true true) n = refl
+of_number (shape.VariableDeclaration kind.Var) n = refl
+of_number (shape.VariableDeclaration kind.Let) n = refl
+of_number (shape.VariableDeclaration kind.Const) n = refl
+of_number (shape.LogicalExpression logical.Or) n = refl
+of_number (shape.LogicalExpression logical.And) n = refl
+of_number (shape.LogicalExpression logical.Coalesce) n = refl
+of_number (shape.MetaProperty meta.NewTarget) n = refl
+of_number (shape.MetaProperty meta.ImportMeta) n = refl
+of_number (shape.UnaryExpression unary.UnaryPlus) n = refl
+of_number (shape.UnaryExpression unary.UnaryNegation) n = refl
+of_number (shape.UnaryExpression unary.LogicalNot) n = refl
+of_number (shape.UnaryExpression unary.BitwiseNot) n = refl
+of_number (shape.UnaryExpression unary.Typeof) n = refl
+of_number (shape.UnaryExpression unary.Void) n = refl
+of_number (shape.UnaryExpression unary.Delete) n = refl
+of_number (shape.UpdateExpression update.Increment false) n = refl
+of_number (shape.UpdateExpression update.Increment true) n = refl
+of_number (shape.UpdateExpression update.Decrement false) n = refl
+of_number (shape.UpdateExpression update.Decrement true) n = refl
 of_number _ n = absurd (n refl)
 
 pub plain_decided : (h g : Shape) → (plain_number h ≡ 0 → ⊥) → Decides (nat_eq (plain_number h) (plain_number g)) (h ≡ g)

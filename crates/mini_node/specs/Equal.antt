@@ -7,6 +7,11 @@ use Rattle.mini_model.specs.contracts.name.Name as name'
 use Rattle.mini_model.specs.declared.shape.Shape.{Shape}
 use Rattle.mini_model.specs.declared.shape.Shape.TheVariants as shape
 use Rattle.mini_model.specs.contracts.shape.Shape as shape'
+use Rattle.mini_model.specs.declared.kind.VariableDeclarationKind.TheVariants as kind
+use Rattle.mini_model.specs.declared.kind.MetaPropertyKind.TheVariants as meta
+use Rattle.mini_model.specs.declared.operator.LogicalOperator.TheVariants as logical
+use Rattle.mini_model.specs.declared.operator.UnaryOperator.TheVariants as unary
+use Rattle.mini_model.specs.declared.operator.UpdateOperator.TheVariants as update
 use Rattle.mini_model.specs.Tree.{Tree, Trees, node, none, ◌▸◌, shape_of}
 use Rattle.mini_node.specs.Children.{names_of, number_of}
 
@@ -40,7 +45,7 @@ abbrev mutual
   same_trees (t ▸ ts) (u ▸ us) = same_tree t u && same_trees ts us
   same_trees _ _ = false
 
--- shapes without fields are numbered; all others have 0
+-- shapes are numbered, with each choice of their flags and of the kinds of which there are few; those with other fields have 0
 abbrev pub plain_number : Shape → ℕ
 plain_number shape.Absent = 1
 plain_number shape.Listed = 2
@@ -102,6 +107,49 @@ plain_number shape.AssignmentPattern = 57
 plain_number shape.ObjectAssignmentTarget = 58
 plain_number shape.ArrayAssignmentTarget = 59
 plain_number shape.AssignmentTargetPropertyIdentifier = 60
+plain_number (shape.Class false) = 61
+plain_number (shape.Class true) = 62
+plain_number (shape.BooleanLiteral false) = 63
+plain_number (shape.BooleanLiteral true) = 64
+plain_number (shape.CallExpression false) = 65
+plain_number (shape.CallExpression true) = 66
+plain_number (shape.StaticMemberExpression false) = 67
+plain_number (shape.StaticMemberExpression true) = 68
+plain_number (shape.ComputedMemberExpression false) = 69
+plain_number (shape.ComputedMemberExpression true) = 70
+plain_number (shape.PrivateFieldExpression false) = 71
+plain_number (shape.PrivateFieldExpression true) = 72
+plain_number (shape.YieldExpression false) = 73
+plain_number (shape.YieldExpression true) = 74
+plain_number (shape.AssignmentTargetPropertyProperty false) = 75
+plain_number (shape.AssignmentTargetPropertyProperty true) = 76
+plain_number (shape.PropertyDefinition false false) = 77
+plain_number (shape.PropertyDefinition false true) = 78
+plain_number (shape.PropertyDefinition true false) = 79
+plain_number (shape.PropertyDefinition true true) = 80
+plain_number (shape.BindingProperty false false) = 81
+plain_number (shape.BindingProperty false true) = 82
+plain_number (shape.BindingProperty true false) = 83
+plain_number (shape.BindingProperty true true) = 84
+plain_number (shape.VariableDeclaration kind.Var) = 85
+plain_number (shape.VariableDeclaration kind.Let) = 86
+plain_number (shape.VariableDeclaration kind.Const) = 87
+plain_number (shape.LogicalExpression logical.Or) = 88
+plain_number (shape.LogicalExpression logical.And) = 89
+plain_number (shape.LogicalExpression logical.Coalesce) = 90
+plain_number (shape.MetaProperty meta.NewTarget) = 91
+plain_number (shape.MetaProperty meta.ImportMeta) = 92
+plain_number (shape.UnaryExpression unary.UnaryPlus) = 93
+plain_number (shape.UnaryExpression unary.UnaryNegation) = 94
+plain_number (shape.UnaryExpression unary.LogicalNot) = 95
+plain_number (shape.UnaryExpression unary.BitwiseNot) = 96
+plain_number (shape.UnaryExpression unary.Typeof) = 97
+plain_number (shape.UnaryExpression unary.Void) = 98
+plain_number (shape.UnaryExpression unary.Delete) = 99
+plain_number (shape.UpdateExpression update.Increment false) = 100
+plain_number (shape.UpdateExpression update.Increment true) = 101
+plain_number (shape.UpdateExpression update.Decrement false) = 102
+plain_number (shape.UpdateExpression update.Decrement true) = 103
 plain_number _ = 0
 
 -- Laws

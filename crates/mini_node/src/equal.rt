@@ -8,8 +8,10 @@ ghost use Rattle.mini_node.specs.Equal.{SameIsEqual, EachIsItself};
 
 use crate::list::Nodes;
 use crate::node::Node;
-use mini_model::{Name, Shape};
-use mini_text::{BoxedText, Text};
+use mini_model::{
+    BoxedText, LogicalOperator, MetaPropertyKind, Name, Shape, Text, UnaryOperator, UpdateOperator,
+    VariableDeclarationKind,
+};
 
 /// Trees that are the same are equal, and each is the same as itself.
 pub fn same_trees_are_equal()
@@ -49,7 +51,7 @@ fn are_same_texts(first: &[Text], second: &[Text]) -> bool
     true
 }
 
-// The number of a shape that has no fields; 0 of one that has.
+// The number of a shape with what its fields are, where these are flags and the kinds of which there are few; 0 of any other.
 fn plain_number(shape: &Shape) -> u32
     ensures { result ≡ equal.plain_number shape.now }
 {
@@ -114,11 +116,54 @@ fn plain_number(shape: &Shape) -> u32
         Shape::ObjectAssignmentTarget => 58,
         Shape::ArrayAssignmentTarget => 59,
         Shape::AssignmentTargetPropertyIdentifier => 60,
+        Shape::Class(false) => 61,
+        Shape::Class(true) => 62,
+        Shape::BooleanLiteral(false) => 63,
+        Shape::BooleanLiteral(true) => 64,
+        Shape::CallExpression(false) => 65,
+        Shape::CallExpression(true) => 66,
+        Shape::StaticMemberExpression(false) => 67,
+        Shape::StaticMemberExpression(true) => 68,
+        Shape::ComputedMemberExpression(false) => 69,
+        Shape::ComputedMemberExpression(true) => 70,
+        Shape::PrivateFieldExpression(false) => 71,
+        Shape::PrivateFieldExpression(true) => 72,
+        Shape::YieldExpression(false) => 73,
+        Shape::YieldExpression(true) => 74,
+        Shape::AssignmentTargetPropertyProperty(false) => 75,
+        Shape::AssignmentTargetPropertyProperty(true) => 76,
+        Shape::PropertyDefinition(false, false) => 77,
+        Shape::PropertyDefinition(false, true) => 78,
+        Shape::PropertyDefinition(true, false) => 79,
+        Shape::PropertyDefinition(true, true) => 80,
+        Shape::BindingProperty(false, false) => 81,
+        Shape::BindingProperty(false, true) => 82,
+        Shape::BindingProperty(true, false) => 83,
+        Shape::BindingProperty(true, true) => 84,
+        Shape::VariableDeclaration(VariableDeclarationKind::Var) => 85,
+        Shape::VariableDeclaration(VariableDeclarationKind::Let) => 86,
+        Shape::VariableDeclaration(VariableDeclarationKind::Const) => 87,
+        Shape::LogicalExpression(LogicalOperator::Or) => 88,
+        Shape::LogicalExpression(LogicalOperator::And) => 89,
+        Shape::LogicalExpression(LogicalOperator::Coalesce) => 90,
+        Shape::MetaProperty(MetaPropertyKind::NewTarget) => 91,
+        Shape::MetaProperty(MetaPropertyKind::ImportMeta) => 92,
+        Shape::UnaryExpression(UnaryOperator::UnaryPlus) => 93,
+        Shape::UnaryExpression(UnaryOperator::UnaryNegation) => 94,
+        Shape::UnaryExpression(UnaryOperator::LogicalNot) => 95,
+        Shape::UnaryExpression(UnaryOperator::BitwiseNot) => 96,
+        Shape::UnaryExpression(UnaryOperator::Typeof) => 97,
+        Shape::UnaryExpression(UnaryOperator::Void) => 98,
+        Shape::UnaryExpression(UnaryOperator::Delete) => 99,
+        Shape::UpdateExpression(UpdateOperator::Increment, false) => 100,
+        Shape::UpdateExpression(UpdateOperator::Increment, true) => 101,
+        Shape::UpdateExpression(UpdateOperator::Decrement, false) => 102,
+        Shape::UpdateExpression(UpdateOperator::Decrement, true) => 103,
         _ => 0,
     }
 }
 
-// Of shapes with fields.
+// Of shapes without a number.
 fn has_equal_fields(first: &Shape, second: &Shape) -> bool
     ensures { equal.plain_number first.now ≡ 0 → Decides result (first.now ≡ second.now) }
 {
@@ -126,10 +171,6 @@ fn has_equal_fields(first: &Shape, second: &Shape) -> bool
         Shape::Program(is_module, directives) => match second {
             Shape::Program(other_is_module, other_directives) => *is_module == *other_is_module
                 && are_same_texts(directives.as_slice(), other_directives.as_slice()),
-            _ => false,
-        },
-        Shape::VariableDeclaration(kind) => match second {
-            Shape::VariableDeclaration(other_kind) => *kind == *other_kind,
             _ => false,
         },
         Shape::Function(is_declaration, is_generator, directives) => match second {
@@ -146,20 +187,10 @@ fn has_equal_fields(first: &Shape, second: &Shape) -> bool
             ),
             _ => false,
         },
-        Shape::Class(is_declaration) => match second {
-            Shape::Class(other_is_declaration) => *is_declaration == *other_is_declaration,
-            _ => false,
-        },
         Shape::MethodDefinition(kind, is_computed, is_static) => match second {
             Shape::MethodDefinition(other_kind, other_is_computed, other_is_static) => *kind
                 == *other_kind
                 && *is_computed == *other_is_computed
-                && *is_static == *other_is_static,
-            _ => false,
-        },
-        Shape::PropertyDefinition(is_computed, is_static) => match second {
-            Shape::PropertyDefinition(other_is_computed, other_is_static) => *is_computed
-                == *other_is_computed
                 && *is_static == *other_is_static,
             _ => false,
         },
@@ -177,10 +208,6 @@ fn has_equal_fields(first: &Shape, second: &Shape) -> bool
         },
         Shape::StringLiteral(text) => match second {
             Shape::StringLiteral(other_text) => is_same_text(text, other_text),
-            _ => false,
-        },
-        Shape::BooleanLiteral(value) => match second {
-            Shape::BooleanLiteral(other_value) => *value == *other_value,
             _ => false,
         },
         Shape::RegExpLiteral(pattern, flags) => match second {
@@ -206,46 +233,12 @@ fn has_equal_fields(first: &Shape, second: &Shape) -> bool
                 && *is_computed == *other_is_computed,
             _ => false,
         },
-        Shape::UnaryExpression(operator) => match second {
-            Shape::UnaryExpression(other_operator) => *operator == *other_operator,
-            _ => false,
-        },
-        Shape::UpdateExpression(operator, is_prefix) => match second {
-            Shape::UpdateExpression(other_operator, other_is_prefix) => *operator == *other_operator
-                && *is_prefix == *other_is_prefix,
-            _ => false,
-        },
         Shape::BinaryExpression(operator) => match second {
             Shape::BinaryExpression(other_operator) => *operator == *other_operator,
             _ => false,
         },
-        Shape::LogicalExpression(operator) => match second {
-            Shape::LogicalExpression(other_operator) => *operator == *other_operator,
-            _ => false,
-        },
         Shape::AssignmentExpression(operator) => match second {
             Shape::AssignmentExpression(other_operator) => *operator == *other_operator,
-            _ => false,
-        },
-        Shape::CallExpression(is_optional) => match second {
-            Shape::CallExpression(other_is_optional) => *is_optional == *other_is_optional,
-            _ => false,
-        },
-        Shape::StaticMemberExpression(is_optional) => match second {
-            Shape::StaticMemberExpression(other_is_optional) => *is_optional == *other_is_optional,
-            _ => false,
-        },
-        Shape::ComputedMemberExpression(is_optional) => match second {
-            Shape::ComputedMemberExpression(other_is_optional) => *is_optional
-                == *other_is_optional,
-            _ => false,
-        },
-        Shape::PrivateFieldExpression(is_optional) => match second {
-            Shape::PrivateFieldExpression(other_is_optional) => *is_optional == *other_is_optional,
-            _ => false,
-        },
-        Shape::YieldExpression(is_delegate) => match second {
-            Shape::YieldExpression(other_is_delegate) => *is_delegate == *other_is_delegate,
             _ => false,
         },
         Shape::TemplateElement(is_tail, raw, cooked) => match second {
@@ -253,21 +246,6 @@ fn has_equal_fields(first: &Shape, second: &Shape) -> bool
                 == *other_is_tail
                 && is_same_text(raw.text(), other_raw.text())
                 && is_same_cooked(cooked, other_cooked),
-            _ => false,
-        },
-        Shape::MetaProperty(kind) => match second {
-            Shape::MetaProperty(other_kind) => *kind == *other_kind,
-            _ => false,
-        },
-        Shape::BindingProperty(is_shorthand, is_computed) => match second {
-            Shape::BindingProperty(other_is_shorthand, other_is_computed) => *is_shorthand
-                == *other_is_shorthand
-                && *is_computed == *other_is_computed,
-            _ => false,
-        },
-        Shape::AssignmentTargetPropertyProperty(is_computed) => match second {
-            Shape::AssignmentTargetPropertyProperty(other_is_computed) => *is_computed
-                == *other_is_computed,
             _ => false,
         },
         _ => false,

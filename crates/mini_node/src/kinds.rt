@@ -8,9 +8,8 @@ ghost use Rattle.mini_node.specs.Kinds as kind;
 
 use crate::node::Node;
 use mini_model::{
-    AssignmentOperator, BinaryOperator, LogicalOperator, Name, Shape, SymbolId, UnaryOperator,
+    AssignmentOperator, BinaryOperator, LogicalOperator, Name, Shape, SymbolId, Text, UnaryOperator,
 };
-use mini_text::Text;
 
 /// Whether the part is absent.
 pub fn is_absent_part(node: &Node) -> bool

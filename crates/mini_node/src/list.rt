@@ -9,8 +9,7 @@ ghost use Rattle.mini_node.specs.Children.{with_child, with_inserted, without, f
 ghost use Rattle.mini_node.specs.Lends.{LendsChild, LendsChildIf};
 
 use crate::node::Node;
-use mini_model::Shape;
-use mini_text::OutOfMemory;
+use mini_model::{OutOfMemory, Shape};
 use std::alloc::{AllocFailed, Global};
 use std::marker::Model;
 use std::mem;

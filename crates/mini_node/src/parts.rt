@@ -8,8 +8,10 @@ ghost use Rattle.mini_node.specs.Kinds as kind;
 
 use crate::list::Nodes;
 use crate::node::Node;
-use mini_model::{AssignmentOperator, BinaryOperator, LogicalOperator, Name, Shape, UnaryOperator};
-use mini_text::{OutOfMemory, Text};
+use mini_model::{
+    AssignmentOperator, BinaryOperator, LogicalOperator, Name, OutOfMemory, Shape, Text,
+    UnaryOperator,
+};
 use std::alloc::Global;
 use std::mem;
 

@@ -3,8 +3,8 @@ use Rattle.std.proofs.Common.{◌≡◌, ℕ, List, [], Bool, true, false, refl,
 use Rattle.std.specs.Prelude.{codes, is_some, not}
 use Rattle.serde_json.specs.Data.{Data, null}
 use Rattle.serde_json.specs.Find.{get}
-use Rattle.mini_text.specs.Texts.{units_of}
-use Rattle.mini_text.specs.Templates.{cooked}
+use Rattle.mini_model.specs.Texts.{units_of}
+use Rattle.mini_model.specs.Templates.{cooked}
 use Rattle.mini_model.specs.declared.shape.Shape.TheVariants as shape
 use Rattle.mini_accept.specs.WellShaped.{is_text_of_cooked, tagged}
 use Rattle.mini_accept.specs.Fields.{require, text_at}

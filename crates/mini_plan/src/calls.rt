@@ -189,17 +189,16 @@ fn is_chain_link(value: &Value) -> bool
 fn has_mark(value: &Value) -> bool
     ensures { result ≡ has_mark (view value.now) }
 {
-    let mut link = value;
-    'links: while is_chain_link(link) {
-        if has_true("optional", link) {
-            return true;
-        }
-        match link.get(link_key(link)) {
-            None => return false,
-            Some(next) => link = next,
-        }
+    if !is_chain_link(value) {
+        return false;
     }
-    false
+    if has_true("optional", value) {
+        return true;
+    }
+    match value.get(link_key(value)) {
+        None => false,
+        Some(next) => has_mark(next),
+    }
 }
 
 const CHAIN_EXPRESSION: [Below; 1] = [Below::Node("expression", Class::Chain)];

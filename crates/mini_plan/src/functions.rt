@@ -2,7 +2,7 @@
 
 ghost use Rattle.std.specs.Prelude.{◌≡◌, option_map, codes};
 ghost use Rattle.serde_json.specs.View.{view};
-ghost use Rattle.mini_text.specs.Texts.{units_of};
+ghost use Rattle.mini_model.specs.Texts.{units_of};
 ghost use Rattle.mini_accept.specs.WellShaped.{is_text};
 ghost use Rattle.mini_accept.specs.Fields.{has_units};
 ghost use Rattle.mini_accept.specs.Functions as function;

@@ -1,19 +1,21 @@
 // Patterns: those that a declaration binds, and those that are assigned to (ESTree; ECMA-262, "Destructuring Binding
 // Patterns" and "Destructuring Assignment").
 
-ghost use Rattle.std.specs.Prelude.{◌≡◌, [], ◌∷◌, map, option_map, codes};
+ghost use Rattle.std.specs.Prelude.{◌≡◌, [], ◌∷◌, ◌&&◌, ◌||◌, not, map, option_map, codes};
+ghost use Rattle.serde_json.specs.Data.{Data};
 ghost use Rattle.serde_json.specs.View.{view};
 ghost use Rattle.mini_accept.specs.Patterns as pattern;
 ghost use Rattle.mini_accept.specs.Patterns.{is_binding, default_left};
+ghost use Rattle.mini_accept.specs.Expressions.{repeats_key};
 ghost use Rattle.mini_accept.specs.Plans.{inner};
-ghost use Rattle.mini_accept.specs.WellShaped.{an_expression};
+ghost use Rattle.mini_accept.specs.WellShaped.{an_expression, is_init};
 ghost use Rattle.mini_fields.specs.Views.{place_of};
 ghost use Rattle.mini_plan.specs.Views.{child_of, plan_of};
 
 use crate::plan::{Below, Items, Plan};
 use crate::properties::{is_init, object_property, repeats_key};
 use mini_fields::{Class, Place, child_has_type, flag_at, list_at, property_kind_at};
-use mini_model::Shape;
+use mini_model::{PropertyKind, Shape};
 use serde_json::Value;
 
 // Whether the pattern in the place is one that a declaration binds.
@@ -113,6 +115,34 @@ fn target_property(shorthand: bool, computed: bool, value: &Value) -> Option<Pla
     }
 }
 
+// No method and no accessor; a shorthand property repeats its key.
+fn is_pattern_property(
+    kind: PropertyKind,
+    is_method: bool,
+    shorthand: bool,
+    computed: bool,
+    value: &Value,
+) -> bool
+    ensures { result ≡ (is_init kind && (not is_method && (not shorthand || (not computed && repeats_key (view value.now))))) }
+{
+    if is_method || !is_init(kind) {
+        return false;
+    }
+    !shorthand || (!computed && repeats_key(value))
+}
+
+// A property of a pattern that binds.
+fn binding_property<'v>(shorthand: bool, computed: bool) -> Option<Plan<'v>>
+    ensures { (d : Data) → option_map (plan_of d) result ≡ pattern.binding_property shorthand computed }
+{
+    let shape = Shape::BindingProperty(shorthand, computed);
+    if computed {
+        Plan::of(shape, &COMPUTED_BINDING)
+    } else {
+        Plan::of(shape, &BINDING)
+    }
+}
+
 /// `Property` of a pattern: no method and no accessor; a shorthand property repeats its key.
 fn pattern_property(binds: bool, value: &Value) -> Option<Plan<'_>>
     ensures { option_map (plan_of (view value.now)) result ≡ pattern.pattern_property binds (view value.now) }
@@ -121,21 +151,13 @@ fn pattern_property(binds: bool, value: &Value) -> Option<Plan<'_>>
     let is_method = flag_at("method", value)?;
     let shorthand = flag_at("shorthand", value)?;
     let computed = flag_at("computed", value)?;
-    if !is_init(kind) || is_method || shorthand && (computed || !repeats_key(value)) {
-        return None;
+    if !is_pattern_property(kind, is_method, shorthand, computed, value) {
+        None
+    } else if binds {
+        binding_property(shorthand, computed)
+    } else {
+        target_property(shorthand, computed, value)
     }
-    if !binds {
-        return target_property(shorthand, computed, value);
-    }
-    let shape = Shape::BindingProperty(shorthand, computed);
-    Plan::of(
-        shape,
-        if computed {
-            &COMPUTED_BINDING
-        } else {
-            &BINDING
-        },
-    )
 }
 
 /// `Property`, of a pattern or of an object literal.

@@ -2,7 +2,7 @@
 
 ghost use Rattle.std.specs.Prelude.{◌≡◌, option_map, codes};
 ghost use Rattle.serde_json.specs.View.{view, items_view};
-ghost use Rattle.mini_text.specs.Texts.{units_of};
+ghost use Rattle.mini_model.specs.Texts.{units_of};
 ghost use Rattle.mini_accept.specs.WellShaped.{has_use_strict, is_text};
 ghost use Rattle.mini_accept.specs.Statements as statement;
 ghost use Rattle.mini_accept.specs.Statements.{directive_text, directives_of};

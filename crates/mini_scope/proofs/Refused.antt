@@ -5,7 +5,7 @@ use Rattle.std.proofs.lemmas.List.{append-nil}
 use Rattle.mini_model.specs.Tree.{Tree}
 use Rattle.mini_names.specs.Early.{Path, early_names, early_jumps, no_targets}
 use Rattle.mini_scope.specs.Errors.{first_path, IsFree}
-use Rattle.mini_text.specs.Faults.{Defect, Fault, early_name, early_jump}
+use Rattle.mini_model.specs.Faults.{Defect, Fault, early_name, early_jump}
 use Rattle.mini_scope.specs.Pointers.{pointer_in, fault_by, early_fault, fault_below, IsBelow}
 
 first_name : (ps qs : List Path) (t : Tree) (p : Path) → Some p ≡ first_path ps → fault_by ps qs t ≡ Some (record { defect = early_name; at = pointer_in 0 t p })

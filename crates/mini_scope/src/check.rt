@@ -7,9 +7,9 @@ ghost use Rattle.mini_scope.specs.Errors.{first_path, IsFree, Stands};
 use crate::doubles::push_early_names;
 use crate::jumps::push_early_jumps;
 use crate::targets::no_targets;
+use mini_model::{OutOfMemory, OwnedList};
 use mini_names::Path;
 use mini_node::Node;
-use mini_text::{OutOfMemory, OwnedList};
 use std::alloc::Global;
 
 /// Why a program isn't one.

@@ -5,9 +5,8 @@ ghost use Rattle.mini_names.specs.Early.{clashing};
 ghost use Rattle.mini_scope.specs.Paths.{use_for};
 
 use crate::environment::Environment;
-use mini_model::Name;
+use mini_model::{Name, OutOfMemory};
 use mini_names::{Binding, Declaration, Path, Use};
-use mini_text::OutOfMemory;
 use std::alloc::Global;
 
 /// How to look for the declarations with which a lexical one clashes, or another one.

@@ -9,10 +9,9 @@ ghost use Rattle.mini_scope.specs.Paths.{IsUp};
 use crate::declared::copy_text;
 use crate::kinds::{clash_of, holds_statements, is_function, is_pattern};
 use crate::tables::place_of;
-use mini_model::{Name, Shape};
+use mini_model::{Name, OutOfMemory, OwnedList, Shape};
 use mini_names::{Clash, Declaration, Declared, Path, Place};
 use mini_node::{Node, Nodes};
-use mini_text::{OutOfMemory, OwnedList};
 use std::alloc::Global;
 
 /// The same path once more.

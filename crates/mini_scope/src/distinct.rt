@@ -6,9 +6,8 @@ ghost use Rattle.mini_names.specs.DeclaredNames.{with_names};
 ghost use Rattle.mini_scope.specs.ScopeAt.{bound};
 
 use crate::Environment;
-use mini_model::Name;
+use mini_model::{Name, OutOfMemory};
 use mini_names::{Binding, Use};
-use mini_text::OutOfMemory;
 use std::alloc::Global;
 
 /// Adds these names.

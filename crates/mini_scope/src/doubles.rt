@@ -5,9 +5,9 @@ ghost use Rattle.mini_names.specs.Early.{early_names, all_early_names};
 
 use crate::clashes::push_clashing;
 use crate::declarations::{go_up, push_scope};
+use mini_model::OutOfMemory;
 use mini_names::Path;
 use mini_node::{Node, Nodes};
-use mini_text::OutOfMemory;
 use std::alloc::Global;
 
 /// Adds the places of the names that are declared twice in a node at a path.

@@ -5,9 +5,8 @@ ghost use Rattle.mini_names.specs.Resolved.{symbol_of, own_symbol, or_else, is_f
 ghost use Rattle.mini_scope.specs.Buckets.{AreEmpty, has_name};
 
 use crate::hash::bucket_of;
-use mini_model::SymbolId;
+use mini_model::{OutOfMemory, SymbolId, Text};
 use mini_names::{Binding, Use};
-use mini_text::{OutOfMemory, Text};
 use std::alloc::Global;
 use std::marker::Model;
 

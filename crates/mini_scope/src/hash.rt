@@ -3,7 +3,7 @@
 ghost use Rattle.std.specs.Prelude.{◌≡◌, ◌<◌};
 ghost use Rattle.mini_scope.specs.Buckets.{hash_of, bucket_of as bucket_among};
 
-use mini_text::Text;
+use mini_model::Text;
 
 /// The same number for the same text.
 fn hash(text: &Text) -> u32

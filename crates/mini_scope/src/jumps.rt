@@ -6,10 +6,9 @@ ghost use Rattle.mini_names.specs.Early.{early_jumps, all_early_jumps, targets_o
 use crate::declarations::{copy_path, go_up};
 use crate::kinds::turn_of;
 use crate::targets::{is_bad_jump, turned};
-use mini_model::Shape;
+use mini_model::{OutOfMemory, Shape};
 use mini_names::{Path, Targets, Turn};
 use mini_node::{Node, Nodes};
-use mini_text::OutOfMemory;
 use std::alloc::Global;
 
 /// Adds the path where it is wanted.

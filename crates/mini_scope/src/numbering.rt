@@ -9,10 +9,9 @@ ghost use Rattle.mini_scope.specs.ScopeAt.{scope_at};
 
 use crate::opening::OpenScopes;
 use crate::{Environment, is_leaf, use_of};
-use mini_model::Shape;
+use mini_model::{OutOfMemory, Shape};
 use mini_names::Use;
 use mini_node::{Node, Nodes};
-use mini_text::OutOfMemory;
 use std::alloc::Global;
 
 fn give_symbol(environment: &Environment, usage: Use, node: &mut Node)

@@ -9,10 +9,9 @@ ghost use Rattle.mini_names.specs.Scopes.{opened, at_or_empty, scopes_by, name_i
 
 use crate::distinct::scope_of;
 use crate::{has_inner, opening_of, push_body_names, push_names};
-use mini_model::Name;
+use mini_model::{Name, OutOfMemory};
 use mini_names::{Binding, Declared, Opening, Use};
 use mini_node::Node;
-use mini_text::OutOfMemory;
 use std::alloc::Global;
 use std::mem;
 

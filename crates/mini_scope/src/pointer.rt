@@ -2,12 +2,11 @@
 
 ghost use Rattle.std.specs.Prelude.{◌≡◌, ◌+◌, ◌∷◌, decimal};
 ghost use Rattle.mini_model.specs.Tree.{children, shape_of};
-ghost use Rattle.mini_text.specs.Faults.{fault_of};
+ghost use Rattle.mini_model.specs.Faults.{fault_of};
 ghost use Rattle.mini_scope.specs.Pointers.{key_of as key_in, step_text, shift_below as shift_in, pointer_in, IsBelow};
 
-use mini_model::Shape;
+use mini_model::{MinifyError, Shape};
 use mini_node::Node;
-use mini_text::MinifyError;
 use std::alloc::Global;
 
 // The field of the first child of a node of this shape.
@@ -148,7 +147,6 @@ fn fourth_key(shape: &Shape) -> &'static str
 }
 
 /// The field that holds the child at an index of a node of this shape.
-#[tactic(auto, using(crate::proofs::Keys::last_key))]
 fn key_of(shape: &Shape, at: usize) -> &'static str
     ensures { result.now ≡ key_in shape.now at }
 {

@@ -2,13 +2,13 @@
 
 ghost use Rattle.std.specs.Prelude.{◌≡◌, None, Some, IfErr, IfSome, OnOk};
 ghost use Rattle.mini_scope.specs.Errors.{Stands};
-ghost use Rattle.mini_text.specs.Faults.{fault_of};
+ghost use Rattle.mini_model.specs.Faults.{fault_of};
 ghost use Rattle.mini_scope.specs.Pointers.{early_fault};
 
 use crate::pointer::under_path;
 use crate::{EarlyError, check_early};
+use mini_model::{MinifyError, early_jump, early_name};
 use mini_node::Node;
-use mini_text::{MinifyError, early_jump, early_name};
 use std::alloc::Global;
 
 /// The refusal of a program that has this early error.

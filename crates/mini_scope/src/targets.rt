@@ -6,10 +6,9 @@ ghost use Rattle.mini_names.specs.Early.{no_targets as none, label_by, label_in,
 
 use crate::declared::copy_text;
 use crate::kinds::{is_labeled, is_loop as is_loop_shape, jump_of};
-use mini_model::Shape;
+use mini_model::{OutOfMemory, OwnedList, Shape, Text};
 use mini_names::{Jump, Label, Targets, Turn};
 use mini_node::{Node, Nodes};
-use mini_text::{OutOfMemory, OwnedList, Text};
 use std::alloc::Global;
 
 /// Nothing to jump to.

@@ -7,10 +7,9 @@ ghost use Rattle.mini_model.specs.Weight.{capped, same_text, name_weight as weig
 use crate::place::is_accessor;
 use itoa::Buffer;
 use mini_model::{
-    AssignmentOperator, BinaryOperator, MethodDefinitionKind, Name, PropertyKind, UnaryOperator,
-    VariableDeclarationKind,
+    AssignmentOperator, BinaryOperator, MethodDefinitionKind, Name, PropertyKind, Text, TextList,
+    UnaryOperator, VariableDeclarationKind,
 };
-use mini_text::{Text, TextList};
 
 fn spells(units: &[u16], ascii: &[u8]) -> bool
     ensures { result ≡ same_text units.now ascii.now }

@@ -11,8 +11,7 @@ use crate::own::{
     directives_weight, flagged, method_kind_weight, name_weight, number_weight, property_weight,
     quoted_weight, template_weight, twice_length, unary_operator_weight,
 };
-use mini_model::{Name, Position, Shape, StmtSeat};
-use mini_text::{BoxedText, TextList};
+use mini_model::{BoxedText, Name, Position, Shape, StmtSeat, TextList};
 
 fn optional_name_weight(name: &Option<Name>) -> u64
     ensures { result ≡ weight_of_names (names name.now) }

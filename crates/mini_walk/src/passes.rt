@@ -7,9 +7,8 @@ ghost use Rattle.mini_walk.specs.Passes.{MakesPasses};
 
 use crate::rule::{Context, Rule};
 use crate::walking::walk;
-use mini_model::Position;
+use mini_model::{OutOfMemory, Position};
 use mini_node::Node;
-use mini_text::OutOfMemory;
 use std::alloc::Global;
 
 /// What passes over a program came to.

@@ -7,9 +7,8 @@ ghost use Rattle.mini_tree.specs.declared.options.CompressOptions.{CompressOptio
 ghost use Rattle.mini_walk.specs.Context.{KnowsSome, KnowsAsBefore, KnowsAnew, ByKnown};
 ghost use Rattle.mini_walk.specs.Rule.{Applied, AreLighter, Either, Both};
 
-use mini_model::Position;
+use mini_model::{OutOfMemory, Position};
 use mini_node::Node;
-use mini_text::OutOfMemory;
 use mini_tree::CompressOptions;
 use std::alloc::Global;
 

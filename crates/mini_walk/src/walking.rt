@@ -7,9 +7,8 @@ ghost use Rattle.mini_walk.specs.Rule.{Applied};
 ghost use Rattle.mini_walk.specs.Walk.{Walked, WalkedBelow};
 
 use crate::rule::{Context, Rule};
-use mini_model::Position;
+use mini_model::{OutOfMemory, Position};
 use mini_node::Node;
-use mini_text::OutOfMemory;
 use mini_tree::child_place;
 use std::alloc::Global;
 

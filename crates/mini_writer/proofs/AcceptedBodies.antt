@@ -4,7 +4,7 @@ use Rattle.std.specs.Prelude.{Option, Some, None, option_and_then, is_some, not,
 use Rattle.std.proofs.lemmas.Bool.{and_parts, true≢false}
 use Rattle.serde_json.specs.Data.{Data, null, boolean, number, string, array, object, Items}
 use Rattle.serde_json.specs.Find.{get, get_item, as_array, as_str}
-use Rattle.mini_text.specs.Texts.{units_of, bytes_of, are_units}
+use Rattle.mini_model.specs.Texts.{units_of, bytes_of, are_units}
 use Rattle.mini_model.specs.declared.shape.Shape.TheVariants as shape
 use Rattle.mini_model.specs.Tree.{Tree, node, Trees, none, ◌▸◌, node_count, node_counts}
 use Rattle.mini_accept.specs.WellShaped as shaped

@@ -6,7 +6,7 @@ use Rattle.std.specs.Cmp.Lexicographic.{slice_cmp}
 use Rattle.std.specs.Ordering.{match_ordering}
 use Rattle.serde_json.specs.Data.{Data, null, boolean, number, string, array, object, Items, Members, no_members, member}
 use Rattle.serde_json.specs.Find.{get, get_member, as_str, as_array}
-use Rattle.mini_text.specs.Texts.{units_of}
+use Rattle.mini_model.specs.Texts.{units_of}
 use Rattle.mini_writer.specs.Fits.{values_in, values_in_items, values_in_members, units_in, units_in_items, units_in_members}
 use Rattle.mini_writer.proofs.SizedKeys.{AreOther, AreDifferent, without, kept}
 

@@ -2,7 +2,7 @@
 use Rattle.std.proofs.Common.{◌≡◌, ℕ, suc, [], refl, ap, sym, ◌∙◌, Bool, true, false, ◌||◌}
 use Rattle.std.specs.Prelude.{not}
 use Rattle.std.proofs.lemmas.Bool.{and_parts, or_left, or_right, false≢true}
-use Rattle.mini_text.specs.Texts.{are_units}
+use Rattle.mini_model.specs.Texts.{are_units}
 use Rattle.mini_model.specs.declared.kind.MetaPropertyKind.TheVariants.{NewTarget, ImportMeta}
 use Rattle.mini_model.specs.declared.operator.AssignmentOperator.TheVariants.{Assign}
 use Rattle.mini_model.specs.declared.operator.UnaryOperator.TheVariants as unary

@@ -3,7 +3,7 @@ use Rattle.std.proofs.Common.{◌≡◌, ℕ, suc, List, [], refl, ap, sym, ◌�
 use Rattle.std.specs.Prelude.{Some, not, codes, nat_le, pos}
 use Rattle.std.proofs.lemmas.Bool.{or_left, or_right, false≢true, true≢false}
 use Rattle.serde_json.specs.Data.{Data}
-use Rattle.mini_text.specs.Texts.{bytes_of, are_units}
+use Rattle.mini_model.specs.Texts.{bytes_of, are_units}
 use Rattle.mini_model.specs.declared.shape.Shape.{Shape}
 use Rattle.mini_model.specs.declared.shape.Shape.TheVariants as shape
 use Rattle.mini_model.specs.Tree.{Tree, Trees, is_absent}
@@ -12,7 +12,7 @@ use Rattle.mini_accept.specs.WellShaped.{Class, Slot, these, each, filling_by, i
 use Rattle.mini_accept.specs.declared.kind.Kind.TheVariants as kind
 use Rattle.mini_accept.specs.Fields.{is_there, has_type}
 use Rattle.mini_accept.specs.Literals.{is_string_literal}
-use Rattle.mini_text.specs.Numerals.{max_safe_integer}
+use Rattle.mini_model.specs.Numerals.{max_safe_integer}
 use Rattle.mini_accept.specs.Standing.{stands_as}
 use Rattle.mini_accept.specs.Expressions.{identifier_as, word_plan}
 use Rattle.mini_accept.proofs.Types.{text_same, text_is}

@@ -3,7 +3,7 @@ use Rattle.std.proofs.Common.{◌≡◌, ℕ, ◌+◌, ◌-◌, ◌*◌, ◌/◌
 use Rattle.std.specs.Prelude.{decimal, nat_le, Some, None, if◌then◌else◌}
 use Rattle.std.proofs.lemmas.Bool.{and_from, le-leb, leb-true}
 use Rattle.std.proofs.lemmas.Fmt.{decimal_by_steps_wide}
-use Rattle.mini_text.specs.Templates.{is_digit}
+use Rattle.mini_model.specs.Templates.{is_digit}
 use Rattle.mini_accept.specs.WellShaped.{max_big_int}
 use Rattle.mini_accept.specs.Literals.{digits_from, digits_value}
 

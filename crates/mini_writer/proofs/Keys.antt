@@ -2,7 +2,7 @@
 use Rattle.std.proofs.Common.{◌≡◌, ℕ, List, [], ◌∷◌, refl, ap, sym, ◌∙◌, subst, Bool, true, false, ◌&&◌, ◌||◌}
 use Rattle.std.specs.Prelude.{Option, Some, None, codes, pos, negsuc}
 use Rattle.std.proofs.lemmas.Bool.{and_parts, false≢true}
-use Rattle.mini_text.specs.Texts.{bytes_of, are_units}
+use Rattle.mini_model.specs.Texts.{bytes_of, are_units}
 use Rattle.mini_model.specs.declared.name.Name.{Name}
 use Rattle.mini_model.specs.declared.shape.Shape.{Shape}
 use Rattle.mini_model.specs.declared.shape.Shape.TheVariants as shape

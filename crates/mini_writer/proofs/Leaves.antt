@@ -3,8 +3,8 @@ use Rattle.std.proofs.Common.{◌≡◌, ℕ, suc, List, [], ◌∷◌, refl, ap
 use Rattle.std.specs.Prelude.{Some, option_map, unwrap_or, codes, nat_le, not, decimal, ℤ, pos, negsuc}
 use Rattle.std.proofs.lemmas.Bool.{true≢false}
 use Rattle.serde_json.specs.Data.{Data}
-use Rattle.mini_text.specs.Numerals.{max_safe_integer}
-use Rattle.mini_text.specs.Texts.{bytes_of, are_units}
+use Rattle.mini_model.specs.Numerals.{max_safe_integer}
+use Rattle.mini_model.specs.Texts.{bytes_of, are_units}
 use Rattle.mini_model.specs.declared.name.Name.{Name}
 use Rattle.mini_model.specs.declared.shape.Shape.{Shape}
 use Rattle.mini_model.specs.declared.shape.Shape.TheVariants as shape

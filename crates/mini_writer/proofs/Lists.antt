@@ -4,7 +4,7 @@ use Rattle.std.proofs.lemmas.List.{drop_all}
 use Rattle.serde_json.specs.Data.{Items, no_items, item}
 use Rattle.serde_json.specs.View.{view, items_view}
 use Rattle.serde_json.specs.declared.value.Value.{Value}
-use Rattle.mini_text.specs.Texts.{bytes_of}
+use Rattle.mini_model.specs.Texts.{bytes_of}
 use Rattle.mini_model.specs.Tree.{Tree, node_count, node_counts}
 use Rattle.mini_node.specs.Children.{trees_of}
 use Rattle.mini_writer.specs.Objects.{directive}

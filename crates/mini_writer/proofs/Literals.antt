@@ -6,8 +6,8 @@ use Rattle.std.proofs.lemmas.Fmt.{length-decimal-le_wide, length_signed_le}
 use Rattle.std.proofs.lemmas.Bool.{or_parts, not-false, leb-true}
 use Rattle.serde_json.specs.Data.{Data, unsigned, negative, float, null, boolean, number, string, array, object}
 use Rattle.serde_json.specs.Find.{get}
-use Rattle.mini_text.specs.Texts.{units_of}
-use Rattle.mini_text.specs.Numerals.{max_safe_integer}
+use Rattle.mini_model.specs.Texts.{units_of}
+use Rattle.mini_model.specs.Numerals.{max_safe_integer}
 use Rattle.mini_model.specs.declared.shape.Shape.{Shape}
 use Rattle.mini_model.specs.declared.shape.Shape.TheVariants as shape
 use Rattle.mini_model.specs.declared.place.Position.{Position}

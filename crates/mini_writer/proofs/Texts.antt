@@ -3,9 +3,9 @@ use Rattle.std.proofs.Common.{◌≡◌, ℕ, zero, suc, arith, ◌<◌, List, [
 use Rattle.std.specs.Prelude.{nat_lt, slice_index, not, Some}
 use Rattle.std.proofs.lemmas.Bool.{and_parts, ltb-true}
 use Rattle.std.specs.Char.Utf16.{has_unpaired_surrogate}
-use Rattle.mini_text.specs.Texts.{units_of, bytes_of, are_units, is_identifier_name}
-use Rattle.mini_text.proofs.Units.{units_of-bytes_of, bytes_of-units_of, is_identifier_name-paired, AllUnits-are_units}
-use Rattle.mini_text.proofs.Decimals.{units_of-ascii}
+use Rattle.mini_model.specs.Texts.{units_of, bytes_of, are_units, is_identifier_name}
+use Rattle.mini_model.proofs.Units.{units_of-bytes_of, bytes_of-units_of, is_identifier_name-paired, AllUnits-are_units}
+use Rattle.mini_model.proofs.Decimals.{units_of-ascii}
 use Rattle.std.proofs.lemmas.Str.{IsUtf8-from_ascii}
 use Rattle.mini_accept.specs.WellShaped.{is_paired, is_name}
 use Rattle.mini_accept.specs.Fields.{require, paired_units, name_of_units}

@@ -3,13 +3,13 @@ use Rattle.std.proofs.Common.{◌≡◌, ℕ, List, [], ◌∷◌, refl, inl, in
 use Rattle.std.specs.Prelude.{◌||◌, ◌==◌, Option, Some, None, not}
 use Rattle.std.specs.Char.Utf16.{has_unpaired_surrogate}
 use Rattle.std.proofs.lemmas.Bool.{and_parts, and_from, or_cases, false≢true}
-use Rattle.mini_text.specs.Texts.{are_units, is_identifier_name}
+use Rattle.mini_model.specs.Texts.{are_units, is_identifier_name}
 use Rattle.mini_model.specs.declared.name.Name.{Name}
 use Rattle.mini_model.specs.declared.shape.Shape.{Shape}
 use Rattle.mini_model.specs.declared.shape.Shape.TheVariants as shape
 use Rattle.mini_accept.specs.WellShaped as shaped
 use Rattle.mini_accept.specs.WellShaped.{Slot, Filling, Tagging, IsWellShaped, a_program, these, refused, each, each_or_last, pieces, fits, fill, filling, class_of, is_strict_in, is_last, has_names, has_plain_fields, has_its_parts, is_paired, are_paired, is_paired_cooked, is_text_of_cooked, is_name, is_quasi, is_quasi_by, are_quasis}
-use Rattle.mini_text.specs.Templates.{cooked}
+use Rattle.mini_model.specs.Templates.{cooked}
 use Rattle.mini_model.specs.Tree.{Tree, node, Trees, none, ◌▸◌}
 
 abbrev pub all_are_units : List (List ℕ) → Bool

@@ -1,7 +1,7 @@
 -- How large a value is, and which values are small enough.
 use Rattle.std.specs.Prelude.{ℕ, ◌+◌, ◌≤◌, length}
 use Rattle.serde_json.specs.Data.{Data, null, boolean, number, string, array, object, Items, no_items, item, Members, no_members, member}
-use Rattle.mini_text.specs.Texts.{units_of}
+use Rattle.mini_model.specs.Texts.{units_of}
 
 -- how many JSON values there are: the value, and each that is in it
 abbrev mutual

@@ -2,7 +2,7 @@
 -- tree's numbers and symbols aren't written.
 use Rattle.std.specs.Prelude.{ℕ, suc, List, [], ◌∷◌, Bool, true, false, Option, Some, None, ℤ, pos, negsuc, decimal}
 use Rattle.serde_json.specs.Data.{Data, null, string, array, Items, no_items, item}
-use Rattle.mini_text.specs.Texts.{bytes_of}
+use Rattle.mini_model.specs.Texts.{bytes_of}
 use Rattle.mini_model.specs.declared.kind.PropertyKind.TheVariants.{Init}
 use Rattle.mini_model.specs.declared.name.Name.{Name}
 use Rattle.mini_model.specs.declared.operator.BinaryOperator.TheVariants.{In}

@@ -5,8 +5,8 @@ ghost use Rattle.serde_json.specs.View.{view};
 ghost use Rattle.mini_writer.specs.Written.{program_data};
 
 use crate::walk::value;
+use mini_model::OutOfMemory;
 use mini_node::Node;
-use mini_text::OutOfMemory;
 use serde_json::Value;
 use std::alloc::Global;
 

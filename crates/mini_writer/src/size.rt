@@ -2,7 +2,7 @@
 
 ghost use Rattle.std.specs.Prelude.{◌≡◌, IsTrue, ◌↔◌, length};
 ghost use Rattle.serde_json.specs.View.{view, items_view, members_view};
-ghost use Rattle.mini_text.specs.Texts.{units_of};
+ghost use Rattle.mini_model.specs.Texts.{units_of};
 ghost use Rattle.mini_model.specs.Weight.{capped};
 ghost use Rattle.mini_writer.specs.Fits.{Fits, values_in, values_in_items, values_in_members, units_in, units_in_items, units_in_members};
 

@@ -4,7 +4,7 @@ ghost use Rattle.std.specs.Prelude.{◌≡◌, codes, decimal, IfOk, MatchOption
 ghost use Rattle.serde_json.specs.Data.{Data, null, string, object, member, no_members, put};
 ghost use Rattle.mini_writer.specs.Keys.{key_text};
 ghost use Rattle.serde_json.specs.View.{view, items_view};
-ghost use Rattle.mini_text.specs.Texts.{bytes_of};
+ghost use Rattle.mini_model.specs.Texts.{bytes_of};
 ghost use Rattle.mini_node.specs.Children.{names};
 ghost use Rattle.mini_writer.specs.Objects as objects;
 ghost use Rattle.mini_writer.specs.Written as written;
@@ -14,8 +14,7 @@ ghost use Rattle.mini_writer.specs.Written.{of_one};
 use crate::bodies::{arrow, class, function, program};
 use crate::{Key, Member, key_text, node, plain_object, text_value, unary_word};
 use itoa::Buffer;
-use mini_model::{Name, Shape, UnaryOperator};
-use mini_text::{BoxedText, Text};
+use mini_model::{BoxedText, Name, Shape, Text, UnaryOperator};
 use serde_json::{Map, Value, put};
 use std::alloc::{AllocError, Global};
 

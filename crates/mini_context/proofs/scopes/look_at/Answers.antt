@@ -8,7 +8,7 @@ pub returns : goal.returns
 returns c =
     let n = c.args.symbols in
     let t = c.args.program.now in
-    let found = c.in_ok-look-2.ensures in
+    let found = c.in_ok-survey_program.ensures in
     let listed = c.in_ok-scopes.ensures in
     λ tops. record {
       reads_told = c.in_ok-look.ensures.reads;
@@ -20,7 +20,7 @@ returns c =
       this_told = found.this_told;
       arguments_told = found.arguments_told;
       looked = record {
-        tops_told = from_blank n _ _ _ refl c.in_ok-look-4.ensures;
+        tops_told = from_blank n _ _ _ refl c.in_ok-look-3.ensures;
         seen_told = from_blank n (seen_by_eval t) _ c.in_ok-scopes.scopes.seen.items refl listed.seen;
         given_told = joined_blank n (program_var_writes t) _ c.in_ok-scopes.given.items refl listed.given;
         exchanged_told = found.exchanged_told;
@@ -34,7 +34,7 @@ returns c =
         mentioned_told = found.mentioned_told;
         written_told = found.written_told;
         homes_told = found.homes_told;
-        early_told = c.in_ok-look-3.ensures;
+        early_told = c.in_ok-look-2.ensures;
         enclosed_told = found.enclosed_told;
       };
     }

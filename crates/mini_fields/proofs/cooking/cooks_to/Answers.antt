@@ -1,7 +1,7 @@
 use Rattle.std.proofs.Common.{[], ◌≡◌, true, false, None, Some, sym, ap, ◌∙◌}
 use Rattle.std.specs.Prelude.{◌&&◌}
 use Rattle.mini_accept.specs.WellShaped.{is_text}
-use Rattle.mini_text.specs.Templates.{may_end}
+use Rattle.mini_model.specs.Templates.{may_end}
 use Rattle.mini_fields.specs.Cooking.{state_of, step_of, units_left}
 use Rattle.mini_fields.proofs.Cooked.{next_unit, next_utf8, no_unit, same_step, text_end, is_no_text, not_other}
 use Rattle.mini_fields.proofs.cooking.cooks_to.Goals as goal

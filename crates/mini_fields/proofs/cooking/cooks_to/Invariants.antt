@@ -1,8 +1,8 @@
 use Rattle.std.proofs.Common.{◌≡◌, IsUtf8, Some}
 use Rattle.std.specs.Str.Iter.{encode_utf16_rest}
-use Rattle.mini_text.specs.Texts.{units_of}
+use Rattle.mini_model.specs.Texts.{units_of}
 use Rattle.mini_accept.specs.WellShaped.{is_text_of_cooked}
-use Rattle.mini_text.specs.Templates.{cooked, cooked_from}
+use Rattle.mini_model.specs.Templates.{cooked, cooked_from}
 use Rattle.mini_fields.specs.Cooking.{state_of, units_left}
 use Rattle.mini_fields.proofs.cooking.cooks_to.Given as goal
 

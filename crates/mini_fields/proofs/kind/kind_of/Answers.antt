@@ -4,5 +4,5 @@ use Rattle.mini_accept.specs.Kind.{types}
 use Rattle.mini_accept.specs.Fields.{word_in}
 use Rattle.mini_fields.proofs.kind.kind_of.Goals as goal
 
-pub returns-in-None : goal.returns-in-None
-returns-in-None c = c.word_in.ensures ∙ ap (option_and_then (word_in types)) c.in_ok-text.ensures
+pub returns : goal.returns
+returns c = c.word_in.ensures ∙ ap (option_and_then (word_in types)) c.in_ok-text_at.ensures

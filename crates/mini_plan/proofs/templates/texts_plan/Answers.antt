@@ -3,8 +3,8 @@ use Rattle.std.specs.Prelude.{codes, is_some, not}
 use Rattle.serde_json.specs.Data.{null}
 use Rattle.serde_json.specs.Find.{get}
 use Rattle.serde_json.specs.View.{view}
-use Rattle.mini_text.specs.Texts.{units_of}
-use Rattle.mini_text.specs.Templates.{cooked}
+use Rattle.mini_model.specs.Texts.{units_of}
+use Rattle.mini_model.specs.Templates.{cooked}
 use Rattle.mini_accept.specs.Fields.{text_at}
 use Rattle.mini_fields.proofs.Texts.{view-Null}
 use Rattle.mini_plan.proofs.Texts.{malformed_plan}

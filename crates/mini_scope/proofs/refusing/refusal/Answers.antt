@@ -1,6 +1,6 @@
 use Rattle.std.proofs.Common.{subst, List, ℕ}
 use Rattle.mini_scope.specs.Errors.{Stands}
-use Rattle.mini_text.specs.Faults.{fault_of, early_name, early_jump}
+use Rattle.mini_model.specs.Faults.{fault_of, early_name, early_jump}
 use Rattle.mini_scope.specs.Pointers.{pointer_in, IsBelow}
 use Rattle.mini_scope.proofs.Refused.{name_fault, jump_fault, told}
 use Rattle.mini_scope.proofs.refusing.refusal.Goals as goal

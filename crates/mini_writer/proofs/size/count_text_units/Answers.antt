@@ -3,8 +3,8 @@ use Rattle.std.specs.Char.Escape.{encode_utf16}
 use Rattle.std.specs.Str.Iter.{encode_utf16_pending, encode_utf16_rest}
 use Rattle.std.proofs.lemmas.List.{nil_from_length}
 use Rattle.std.proofs.lemmas.Str.{IsUtf8-past_char}
-use Rattle.mini_text.specs.Texts.{units_of}
-use Rattle.mini_text.proofs.Units.{units_of-cons, units_of-nil}
+use Rattle.mini_model.specs.Texts.{units_of}
+use Rattle.mini_model.proofs.Units.{units_of-cons, units_of-nil}
 use Rattle.mini_writer.proofs.size.count_text_units.Goals as goal
 
 module _ (waiting waiting' rest rest' : List ℕ) (u : ℕ) where

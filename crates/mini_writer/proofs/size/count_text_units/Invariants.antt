@@ -1,7 +1,7 @@
 -- What was counted, with the units of what is left, are those of the text; and what is left is text.
 use Rattle.std.proofs.Common.{◌≡◌, ◌+◌, ◌++◌, ◌≤◌, length, IsUtf8}
 use Rattle.std.specs.Str.Iter.{encode_utf16_pending, encode_utf16_rest}
-use Rattle.mini_text.specs.Texts.{units_of}
+use Rattle.mini_model.specs.Texts.{units_of}
 use Rattle.mini_model.specs.Weight.{capped}
 use Rattle.mini_writer.proofs.size.count_text_units.Given as goal
 

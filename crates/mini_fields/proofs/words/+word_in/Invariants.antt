@@ -1,0 +1,5 @@
+use Rattle.std.proofs.Common.{length, ℕ}
+use Rattle.mini_fields.proofs.words.+word_in.Given as goal
+
+abbrev pub decreases-word_in : goal.decreases-word_in
+decreases-word_in g l = length l.table.now

@@ -1,5 +1,0 @@
-use Rattle.mini_text.proofs.Units.{bytes_of-units_of}
-use Rattle.mini_text.proofs.laws.bytes_of_units.Goals as goal
-
-pub returns : goal.returns
-returns c = bytes_of-units_of

@@ -1,5 +1,0 @@
-use Rattle.mini_text.proofs.Units.{is_identifier_name-paired}
-use Rattle.mini_text.proofs.laws.names_are_paired.Goals as goal
-
-pub returns : goal.returns
-returns c = is_identifier_name-paired

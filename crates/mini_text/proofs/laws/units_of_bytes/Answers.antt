@@ -1,5 +1,0 @@
-use Rattle.mini_text.proofs.Units.{units_of-bytes_of}
-use Rattle.mini_text.proofs.laws.units_of_bytes.Goals as goal
-
-pub returns : goal.returns
-returns c = units_of-bytes_of

@@ -1,5 +1,0 @@
-use Rattle.mini_text.proofs.Raw.{escaped_cooks}
-use Rattle.mini_text.proofs.literal_laws.escaped_cooks_to_itself.Goals as goal
-
-pub returns : goal.returns
-returns c = escaped_cooks

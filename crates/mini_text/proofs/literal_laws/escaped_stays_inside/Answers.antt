@@ -1,5 +1,0 @@
-use Rattle.mini_text.proofs.Inside.{escaped_inside}
-use Rattle.mini_text.proofs.literal_laws.escaped_stays_inside.Goals as goal
-
-pub returns : goal.returns
-returns c = escaped_inside

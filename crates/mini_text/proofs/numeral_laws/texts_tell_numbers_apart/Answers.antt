@@ -1,5 +1,0 @@
-use Rattle.mini_text.proofs.Safe.{same_text}
-use Rattle.mini_text.proofs.numeral_laws.texts_tell_numbers_apart.Goals as goal
-
-pub returns : goal.returns
-returns c = same_text
