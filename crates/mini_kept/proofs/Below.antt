@@ -1,5 +1,5 @@
 -- A node keeps what its children keep.
-use Rattle.std.specs.Prelude.{ℕ, zero, suc, ◌+◌, ◌≤◌, ◌≡◌, refl, ◌||◌, Bool, true, false, List, [], ◌∷◌, ◌++◌, Option, unwrap_or, if◌then◌else◌}
+use Rattle.std.specs.Prelude.{ℕ, zero, suc, ◌+◌, ◌≤◌, ◌≡◌, refl, ◌||◌, ◌&&◌, not, Bool, true, false, List, [], ◌∷◌, ◌++◌, Option, unwrap_or, if◌then◌else◌}
 use Rattle.std.proofs.Common.{ap, ◌∙◌, sym, subst, arith, inl, inr, ◌⊎◌}
 use Rattle.mini_model.specs.declared.name.Name.{Name}
 use Rattle.mini_model.specs.declared.place.Position.{Position}
@@ -29,13 +29,15 @@ use Rattle.mini_names.specs.Symbols.{declared as declared_in, Within}
 use Rattle.mini_names.specs.Early.{Path, declarations, holds_statements, statement_declarations, body_declarations, all_body_declarations, is_pattern_shape, clash_of, at_child, in_body, children_of_node, in_param, in_block, declarations_by, scope_declarations, clashing, early_names, all_early_names, label_by, label_in, is_loop_shape, is_labeled, is_loop, last_is_loop, last_by, turn_of, label_for, turned, targets_of, jump_of, is_bad, is_bad_jump, early_jumps, all_early_jumps}
 use Rattle.mini_kept.specs.Carried.{numbers, all_numbers, with_number}
 use Rattle.mini_kept.specs.KeepsNames.{Stands, is_rewritten_place, NamesOnce, HasTargets, count_of}
-use Rattle.mini_kept.specs.KeepsLoosely.{KeepsLoosely}
+use Rattle.mini_kept.specs.KeepsLoosely.{is_member, has_member, any_member, InnerKept, KeepsLoosely}
+use Rattle.mini_kept.proofs.Bools.{or_second}
+use Rattle.mini_kept.proofs.Unbracketed.{same_by, pattern_plain, label_plain}
 use Rattle.mini_kept.specs.SameNames.{is_among, SameNames, SameScope, NoMoreClash}
 use Rattle.mini_kept.proofs.Unplaced.{declared_same}
 use Rattle.mini_kept.proofs.Clashes.{no_more_same, no_more_both, still_free}
 use Rattle.mini_kept.proofs.SameScopes.{scope_both}
 use Rattle.mini_kept.proofs.Statements.{same_both, statement_scope, no_more_hoisted, no_more_statement}
-use Rattle.mini_kept.proofs.LooseScopes.{AllKeep, AllStand, children_scoped, children_within}
+use Rattle.mini_kept.proofs.LooseScopes.{AllKeep, AllStand, Merges, children_scoped, children_within}
 
 -- ---- names
 
@@ -83,16 +85,30 @@ unfolding names_of
 hoisted_below h xs n π ts us k =
     hoisted_by (place_of declared.Hoisted h) xs (first_names ts) (first_names us) (all_names declared.Bound ts) (all_names declared.Bound us) (all_names declared.Hoisted ts) (all_names declared.Hoisted us) (first_bound π ts us k) (all_bound π ts us k) (all_hoisted π 0 ts us k)
 
-any_inner_kept : (π : ℕ → Position) (i : ℕ) (ts us : Trees) → AllKeep π i ts us → any_inner us ≡ any_inner ts
+abbrev AnyInnerKept : Trees → Trees → Type 0
+AnyInnerKept ts us = (any_inner us ≡ any_inner ts) ⊎ (any_member ts ≡ true)
+
+both_inner : (t u : Tree) (ts us : Trees) → InnerKept t u → AnyInnerKept ts us → AnyInnerKept (t ▸ ts) (u ▸ us)
 unfolding has_inner
-any_inner_kept π i none none k = refl
+both_inner t u ts us (inl e) (inl f) = inl (λ j. e j || f j)
+both_inner t u ts us (inr m) k = inr (ap (λ b. b || any_member ts) m)
+both_inner t u ts us (inl e) (inr m) = inr (or_second (has_member t) (any_member ts) m)
+
+any_inner_kept : (π : ℕ → Position) (i : ℕ) (ts us : Trees) → AllKeep π i ts us → AnyInnerKept ts us
+unfolding has_inner
+any_inner_kept π i none none k = inl refl
 any_inner_kept π i none (u ▸ us) k = absurd k
 any_inner_kept π i (t ▸ ts) none k = absurd k
-any_inner_kept π i (t ▸ ts) (u ▸ us) k = λ j. k.0.inner j || any_inner_kept π (suc i) ts us k.1 j
+any_inner_kept π i (t ▸ ts) (u ▸ us) k = both_inner t u ts us k.0.inner (any_inner_kept π (suc i) ts us k.1)
 
-inner_below : (h : Shape) (xs : List Name) (n : ℕ) (π : ℕ → Position) (ts us : Trees) → AllKeep π 0 ts us → has_inner (node h xs n us) ≡ has_inner (node h xs n ts)
+inner_by : (h : Shape) (xs : List Name) (n : ℕ) (ts us : Trees) (b : Bool) → is_inner h ≡ b → AnyInnerKept ts us → InnerKept (node h xs n ts) (node h xs n us)
 unfolding has_inner
-inner_below h xs n π ts us k = ap (λ b. is_inner h || b) (any_inner_kept π 0 ts us k)
+inner_by h xs n ts us true e k = inl (ap (λ b. b || any_inner us) e ∙ sym (ap (λ b. b || any_inner ts) e))
+inner_by h xs n ts us false e (inl k) = inl (ap (λ b. is_inner h || b) k)
+inner_by h xs n ts us false e (inr m) = inr (ap (λ b. not b && (is_member h || any_member ts)) e ∙ or_second (is_member h) (any_member ts) m)
+
+inner_below : (h : Shape) (xs : List Name) (n : ℕ) (π : ℕ → Position) (ts us : Trees) → AllKeep π 0 ts us → InnerKept (node h xs n ts) (node h xs n us)
+inner_below h xs n π ts us k = inner_by h xs n ts us (is_inner h) refl (any_inner_kept π 0 ts us k)
 
 -- ---- the names of a body, and symbols
 
@@ -117,13 +133,13 @@ body_names_below p h xs n ts us v env k s a =
     chosen_scope (is_statement_list h) (all_body_names us) (names_of declared.Lexical u ++ names_of declared.Hoisted u) (all_body_names ts) (names_of declared.Lexical t ++ names_of declared.Hoisted t) (all_body_names_kept π (opened v h ts) (use_of h v) 0 env ts us k s a.1)
     (statement_scope v env t u a (lexical_below h xs n π ts us k) (hoisted_below h xs n π ts us k))
 
-scoped_below : (p : Position) (h : Shape) (xs : List Name) (n : ℕ) (ts us : Trees) (v : Use) (env : Environment) → AllKeep (child_position h p (count ts)) 0 ts us → AllStand (child_position h p (count ts)) (use_of h v) 0 ts → Scoped v env (node h xs n ts) → Scoped v env (node h xs n us)
+scoped_below : (p : Position) (h : Shape) (xs : List Name) (n : ℕ) (ts us : Trees) (v : Use) (env : Environment) → Merges (opening_of v h) ts → AllKeep (child_position h p (count ts)) 0 ts us → AllStand (child_position h p (count ts)) (use_of h v) 0 ts → Scoped v env (node h xs n ts) → Scoped v env (node h xs n us)
 unfolding Scoped
-scoped_below p h xs n ts us v env k s a = (a.0, children_scoped (opening_of v h) (child_position h p (count ts)) (use_of h v) env ts us k s a.1)
+scoped_below p h xs n ts us v env m k s a = (a.0, children_scoped (opening_of v h) (child_position h p (count ts)) (use_of h v) env ts us m k s a.1)
 
-symbols_below : (p : Position) (h : Shape) (xs : List Name) (n : ℕ) (ts us : Trees) (v : Use) (env : Environment) → AllKeep (child_position h p (count ts)) 0 ts us → AllStand (child_position h p (count ts)) (use_of h v) 0 ts → Scoped v env (node h xs n ts) → Within (declared_in v (node h xs n us)) (declared_in v (node h xs n ts))
+symbols_below : (p : Position) (h : Shape) (xs : List Name) (n : ℕ) (ts us : Trees) (v : Use) (env : Environment) → Merges (opening_of v h) ts → AllKeep (child_position h p (count ts)) 0 ts us → AllStand (child_position h p (count ts)) (use_of h v) 0 ts → Scoped v env (node h xs n ts) → Within (declared_in v (node h xs n us)) (declared_in v (node h xs n ts))
 unfolding Scoped declared_in
-symbols_below p h xs n ts us v env k s a x = children_within x (opening_of v h) (child_position h p (count ts)) (use_of h v) env ts us k s a.1
+symbols_below p h xs n ts us v env m k s a x = children_within x (opening_of v h) (child_position h p (count ts)) (use_of h v) env ts us m k s a.1
 
 -- ---- numbers
 
@@ -175,7 +191,7 @@ keeps_itself p t = record {
   lexical = refl;
   hoisted = λ x. refl;
   body = λ v env s a r. refl;
-  inner = refl;
+  inner = inl refl;
   scoped = λ v env s a. a;
   symbols = λ v env s a x. omega arith;
   numbers = λ k. omega arith;
@@ -227,7 +243,7 @@ scope_below clash.Catch π still ts us w q =
     let param = child_at π ts us w 0 in
     let l = is_pattern_shape (shape_of (child_or_absent ts 0)) in
     no_more_both (in_param q ts) (in_param q us) (in_block q ts) (in_block q us)
-    (subst (λ h. NoMoreClash (at_child declared.Bound (is_pattern_shape h) q us 0) (in_param q ts)) (sym (param.root (still refl 0))) (same_bound declared.Bound l (q ++ 0 ∷ []) (π 0) (child_or_absent ts 0) (child_or_absent us 0) param.bound))
+    (subst (λ b. NoMoreClash (at_child declared.Bound b q us 0) (in_param q ts)) (sym (same_by is_pattern_shape pattern_plain (shape_of (child_or_absent us 0)) (shape_of (child_or_absent ts 0)) (param.root (still refl 0)))) (same_bound declared.Bound l (q ++ 0 ∷ []) (π 0) (child_or_absent ts 0) (child_or_absent us 0) param.bound))
     ((child_at π ts us w 1).block (still refl 1) false (q ++ 1 ∷ []))
 scope_below (clash.Loop i) π still ts us w q =
     no_more_both (at_child declared.Lexical true q ts 0) (at_child declared.Lexical true q us 0) (at_child declared.Hoisted false q ts i) (at_child declared.Hoisted false q us i)
@@ -286,7 +302,7 @@ label_places (shape.YieldExpression delegate) p n = inr (inl (inr refl))
 label_places h p n = inl (refl, refl)
 
 label_same : (π : ℕ → Position) (ts us : Trees) → AllKeep π 0 ts us → is_rewritten_place (π 0) ≡ false → label_in us ≡ label_in ts
-label_same π ts us w e = ap label_by ((child_at π ts us w 0).root e)
+label_same π ts us w e = same_by label_by label_plain (shape_of (child_or_absent us 0)) (shape_of (child_or_absent ts 0)) ((child_at π ts us w 0).root e)
 
 bad_by : (j : Jump) (a : Targets) (l m : Option (List ℕ)) → (j ≡ jump.Nothing) ⊎ ((j ≡ jump.Return) ⊎ (j ≡ jump.Yield)) ⊎ (m ≡ l) → is_bad j m a ≡ is_bad j l a
 bad_by j a l m (inl e) = ap (λ k. is_bad k m a) e ∙ sym (ap (λ k. is_bad k l a) e)
@@ -361,8 +377,8 @@ targets_below p h xs n ts us w a q e =
 
 -- ---- all of it
 
-pub keeps_below : (p : Position) (h : Shape) (xs : List Name) (n : ℕ) (ts us : Trees) → AllKeep (child_position h p (count ts)) 0 ts us → ((v : Use) → Stands p v (node h xs n ts) → AllStand (child_position h p (count ts)) (use_of h v) 0 ts) → KeepsLoosely p (node h xs n ts) (node h xs n us)
-keeps_below p h xs n ts us w stand =
+pub keeps_below : (p : Position) (h : Shape) (xs : List Name) (n : ℕ) (ts us : Trees) → ((v : Use) → Merges (opening_of v h) ts) → AllKeep (child_position h p (count ts)) 0 ts us → ((v : Use) → Stands p v (node h xs n ts) → AllStand (child_position h p (count ts)) (use_of h v) 0 ts) → KeepsLoosely p (node h xs n ts) (node h xs n us)
+keeps_below p h xs n ts us m w stand =
     let π = child_position h p (count ts) in
     record {
       bound = bound_below h xs n π ts us w;
@@ -370,8 +386,8 @@ keeps_below p h xs n ts us w stand =
       hoisted = hoisted_below h xs n π ts us w;
       body = λ v env s a. body_names_below p h xs n ts us v env w (stand v s) a;
       inner = inner_below h xs n π ts us w;
-      scoped = λ v env s a. scoped_below p h xs n ts us v env w (stand v s) a;
-      symbols = λ v env s a. symbols_below p h xs n ts us v env w (stand v s) a;
+      scoped = λ v env s a. scoped_below p h xs n ts us v env (m v) w (stand v s) a;
+      symbols = λ v env s a. symbols_below p h xs n ts us v env (m v) w (stand v s) a;
       numbers = numbers_below h xs n π ts us w;
       declared_as_body = as_body_below h xs n π ts us w;
       once = once_below p h xs n ts us w;

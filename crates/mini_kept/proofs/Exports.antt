@@ -14,6 +14,7 @@ use Rattle.mini_kept.proofs.Bools.{left, right, and_false}
 use Rattle.mini_kept.proofs.Expressions.{refused_here}
 use Rattle.mini_kept.specs.KeepsShapes.{KeepsShapes}
 use Rattle.mini_kept.specs.Lifted.{KeepsNames}
+use Rattle.mini_kept.proofs.Unbracketed.{same_by, reference_plain}
 use Rattle.mini_kept.proofs.Moved.{Moved, Alike, AlikeBut, cases, still_but, still, still_list, absent_alike}
 
 -- ---- declarations
@@ -118,7 +119,7 @@ module _ (R : Position → Tree → Tree → Type 0) (l : KeepsNames R) (shapes 
   local_kept : (t u : Tree) → shape_of t ≡ shape.ExportSpecifier → AlikeBut R Elsewhere t u → is_reference (child_or_absent (children u) 1) ≡ is_reference (child_or_absent (children t) 1)
   local_kept t u s a =
       let m = subst (λ h. Moved R (child_position h Elsewhere (count (children t)) 1) (child_or_absent (children t) 1) (child_or_absent (children u) 1)) s (a.parts 0) in
-      sym (ap is_reference_shape (still R l refl m).shape)
+      sym (same_by is_reference_shape reference_plain _ _ (still R l refl m).shape)
 
   locals_kept : (own : Bool) (ts us : Trees) → count ts ≡ count us → AreSpecifiers ts → ((i : ℕ) → AlikeBut R Elsewhere (child_or_absent ts i) (child_or_absent us i)) → are_locals own us ≡ are_locals own ts
   locals_kept own none none c s a = refl

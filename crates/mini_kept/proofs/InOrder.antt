@@ -1,5 +1,5 @@
 -- What keeps names in order keeps them.
-use Rattle.std.proofs.Common.{ap}
+use Rattle.std.proofs.Common.{ap, inl}
 use Rattle.mini_model.specs.declared.place.Position.{Position}
 use Rattle.mini_model.specs.Tree.{Tree}
 use Rattle.mini_names.specs.declared.Declared.TheVariants.{Bound, Lexical, Hoisted}
@@ -15,7 +15,7 @@ in_order p t u k = record {
   lexical = k.kept.names Lexical;
   hoisted = λ x. ap (λ xs. is_among xs x) (k.kept.names Hoisted);
   body = λ v env s a r. ap (first_symbol r) k.kept.body;
-  inner = k.kept.inner;
+  inner = inl k.kept.inner;
   scoped = k.scoped;
   symbols = λ v env s a. k.kept.symbols v;
   numbers = k.numbers;

@@ -3,7 +3,13 @@ use Rattle.std.specs.Prelude.{◌≡◌, ◌⊎◌, refl, true, false}
 use Rattle.std.proofs.Common.{ap, ◌∙◌, sym, inl, inr}
 use Rattle.mini_model.specs.declared.place.Position.{Position}
 use Rattle.mini_model.specs.declared.place.Position.TheVariants.{Elsewhere}
-use Rattle.mini_model.specs.Tree.{Tree, node, children}
+use Rattle.mini_model.specs.declared.shape.Shape.TheVariants as shape
+use Rattle.mini_model.specs.Tree.{Tree, Trees, node, shape_of, children}
+use Rattle.mini_names.specs.DeclaredNames.{own_names}
+use Rattle.mini_kept.specs.Carried.{number_of}
+use Rattle.mini_kept.specs.Frames.{has_key}
+use Rattle.mini_kept.proofs.Expressions.{refused_here}
+use Rattle.mini_kept.proofs.Unbracketed.{same_shape}
 use Rattle.mini_model.specs.Redex.{Contracts}
 use Rattle.mini_model.specs.Rewriting.{Step, here, inside, Reaches, done, more}
 use Rattle.mini_accept.specs.WellShaped.{one, a_program, fits, IsWellShaped}
@@ -26,21 +32,35 @@ use Rattle.mini_kept.proofs.Whole.{any_reaches_keep}
 same_over : (t : Tree) → t ≡ over t (children t)
 same_over (node h xs n ts) = refl
 
+shape_over : (t : Tree) (us : Trees) → shape_of (over t us) ≡ shape_of t
+shape_over (node h xs n ts) us = refl
+
+root_over : (t u : Tree) → shape_of t ≡ shape_of u → own_names t ≡ own_names u → number_of t ≡ number_of u → u ≡ over t (children u)
+root_over (node h xs n ts) (node i ys m us) a b c = sym (λ j. node (a j) (b j) (c j) us)
+
 over_over : (t u v : Tree) → u ≡ over t (children u) → v ≡ over u (children v) → v ≡ over t (children v)
 over_over (node h xs n ts) u v a b = b ∙ ap (λ w. over w (children v)) a
 
 module _ (R : Position → Tree → Tree → Type 0) (l : KeepsNames R) where
-  step_root : {p : Position} {t u : Tree} → is_rewritten_place p ≡ false → Step R p t u → u ≡ over t (children u)
-  step_root e (here p t u r) = by (l.places p t u r)
+  step_root : {p : Position} {t u : Tree} → is_rewritten_place p ≡ false → has_key (shape_of t) ≡ false → Step R p t u → u ≡ over t (children u)
+  step_root e f (here p t u r) = by (l.places p t u r)
     where
       by : (is_rewritten_place p ≡ true) ⊎ KeepsRoot p t u → u ≡ over t (children u)
       by (inl q) = absurd (cc (sym e ∙ q))
-      by (inr k) = k.root
-  step_root e (inside p h xs n ts us s) = refl
+      by (inr k) = root_over t u (same_shape (shape_of t) (shape_of u) f k.shape) k.names k.number
+  step_root e f (inside p h xs n ts us s) = refl
 
-  pub reaches_root : {p : Position} {t u : Tree} → is_rewritten_place p ≡ false → Reaches R p t u → u ≡ over t (children u)
-  reaches_root e (done p t) = same_over t
-  reaches_root e (more p t u v s r) = over_over t u v (step_root e s) (reaches_root e r)
+  pub reaches_root : {p : Position} {t u : Tree} → is_rewritten_place p ≡ false → has_key (shape_of t) ≡ false → Reaches R p t u → u ≡ over t (children u)
+  reaches_root e f (done p t) = same_over t
+  reaches_root e f (more p t u v s r) = let x = step_root e f s in over_over t u v x (reaches_root e (ap (λ y. has_key (shape_of y)) x ∙ ap has_key (shape_over t (children u)) ∙ f) r)
+
+-- a program has no key
+pub keyless_program : (t : Tree) → IsWellShaped t → has_key (shape_of t) ≡ false
+keyless_program (node (shape.BindingProperty s c) xs n ts) e = absurd (refused_here false (one a_program) (shape.BindingProperty s c) xs n ts refl e)
+keyless_program (node (shape.AssignmentTargetPropertyProperty c) xs n ts) e = absurd (refused_here false (one a_program) (shape.AssignmentTargetPropertyProperty c) xs n ts refl e)
+keyless_program (node (shape.MethodDefinition k c s) xs n ts) e = absurd (refused_here false (one a_program) (shape.MethodDefinition k c s) xs n ts refl e)
+keyless_program (node (shape.PropertyDefinition c s) xs n ts) e = absurd (refused_here false (one a_program) (shape.PropertyDefinition c s) xs n ts refl e)
+keyless_program (node h xs n ts) e = refl
 
 -- ---- any number of steps
 
@@ -55,10 +75,10 @@ module _ (R : Position → Tree → Tree → Type 0) (l : Lawful R) where
   lawful_keeps t u r e = record {
     names = any_reaches_keep R names l.shapes t u r;
     bodies = reaches_keeps_bodies R l.bodies (fits false (one a_program)) (λ v f. f) program_fits t u r e;
-    frames = reaches_keeps_frames R l.frames (fits false (one a_program)) (λ v f. f) program_fits t u r e;
+    frames = reaches_keeps_frames R l.frames l.bodies (fits false (one a_program)) (λ v f. f) program_fits t u r e;
     fixities = fixities_kept R (record { reads = l.bodies.means.reads; fixed = l.fixed }) Elsewhere t u r;
     declared = reaches_declared R l.declared r;
-    root = reaches_root R names refl r;
+    root = reaches_root R names refl (keyless_program t e) r;
   }
 
 -- ---- two relations as one

@@ -1,6 +1,7 @@
 pub mod Bools
 pub mod Expressions
 pub mod Rows
+pub mod Unbracketed
 pub mod Moved
 pub mod Parts
 pub mod Exports
@@ -13,6 +14,7 @@ pub mod Hoisting
 pub mod Clashes
 pub mod Statements
 pub mod LooseScopes
+pub mod Members
 pub mod InOrder
 pub mod Each
 pub mod Programs
@@ -40,6 +42,7 @@ pub mod InPreorder
 pub mod SameShape
 pub mod SameEarly
 pub mod SymbolsOnce
+pub mod ShownFrames
 pub mod FrameLists
 pub mod FramePlaces
 pub mod FrameSteps

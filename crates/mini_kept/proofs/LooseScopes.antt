@@ -1,6 +1,6 @@
 -- Each name keeps its symbol where the bodies around it declare their names in another order.
-use Rattle.std.specs.Prelude.{ℕ, zero, suc, ◌≤◌, ◌≡◌, refl, Bool, List, [], ◌∷◌, ◌++◌, Option, if◌then◌else◌}
-use Rattle.std.proofs.Common.{ap, ◌∙◌, sym, subst, arith}
+use Rattle.std.specs.Prelude.{ℕ, zero, suc, ◌≤◌, ◌≡◌, refl, Bool, false, List, [], ◌∷◌, ◌++◌, Option, if◌then◌else◌}
+use Rattle.std.proofs.Common.{ap, ◌∙◌, sym, subst, arith, inl, inr, true≢false}
 use Rattle.mini_model.specs.declared.name.Name.{Name}
 use Rattle.mini_model.specs.declared.name.SymbolId.{SymbolId}
 use Rattle.mini_model.specs.declared.place.Position.{Position}
@@ -18,7 +18,7 @@ use Rattle.mini_names.specs.Symbols.{symbols_in, declared as declared_in, declar
 use Rattle.mini_names.proofs.Changes.{times_both}
 use Rattle.mini_names.proofs.Numbers.{symbol_of_both}
 use Rattle.mini_kept.specs.KeepsNames.{Stands}
-use Rattle.mini_kept.specs.KeepsLoosely.{KeepsLoosely}
+use Rattle.mini_kept.specs.KeepsLoosely.{has_member, InnerKept, KeepsLoosely}
 use Rattle.mini_kept.specs.SameNames.{SameScope}
 use Rattle.mini_kept.proofs.SameScopes.{body_found, body_within}
 
@@ -96,53 +96,63 @@ block_scope p t u k = same_scope (lexical_scope (names_of declared.Lexical t)) (
 params_scope : (p : Position) (t u : Tree) → KeepsLoosely p t u → ScopeAlike (body_scope [] (bound_names t)) (body_scope [] (bound_names u))
 params_scope p t u k = same_scope (body_scope [] (bound_names t)) (body_scope [] (bound_names u)) (ap (λ r. body_scope [] r) k.bound)
 
-merged_same : (p : Position) (t u : Tree) → KeepsLoosely p t u → merged u ≡ merged t
-merged_same p t u k = λ i. if k.inner i then [] else k.bound i
+merged_same : (p : Position) (t u : Tree) → KeepsLoosely p t u → has_member t ≡ false → merged u ≡ merged t
+merged_same p t u k m = by k.inner
+  where
+    by : InnerKept t u → merged u ≡ merged t
+    by (inl e) = λ i. if e i then [] else k.bound i
+    by (inr e) = absurd (true≢false (sym e ∙ m))
 
-scopes_alike : (o : Opening) (π : ℕ → Position) (vs : ℕ → Use) (env : Environment) (ts us : Trees) → AllKeep π 0 ts us → AllStand π vs 0 ts → AllScoped (at_or_empty (scopes_by o ts)) vs 0 env ts → AllAlike (scopes_by o ts) (scopes_by o us)
+-- the parameters of a function hold no member
+abbrev pub Merges : Opening → Trees → Type 0
+Merges opening.Arrow (params ▸ ts) = has_member params ≡ false
+Merges (opening.Function own) (id ▸ (params ▸ ts)) = has_member params ≡ false
+Merges o ts = Unit {0}
+
+scopes_alike : (o : Opening) (π : ℕ → Position) (vs : ℕ → Use) (env : Environment) (ts us : Trees) → Merges o ts → AllKeep π 0 ts us → AllStand π vs 0 ts → AllScoped (at_or_empty (scopes_by o ts)) vs 0 env ts → AllAlike (scopes_by o ts) (scopes_by o us)
 unfolding scopes_by Scoped
-scopes_alike opening.Nothing π vs env none none k s a = tt
-scopes_alike opening.Body π vs env none none k s a = tt
-scopes_alike opening.First π vs env none none k s a = tt
-scopes_alike opening.Bound π vs env none none k s a = tt
-scopes_alike opening.Second π vs env none none k s a = tt
-scopes_alike (opening.Class own inside) π vs env none none k s a = tt
-scopes_alike opening.Arrow π vs env none none k s a = tt
-scopes_alike (opening.Function own) π vs env none none k s a = tt
-scopes_alike o π vs env none (u ▸ us) k s a = absurd k
-scopes_alike o π vs env (t ▸ ts) none k s a = absurd k
-scopes_alike opening.Nothing π vs env (t ▸ ts) (u ▸ us) k s a = tt
-scopes_alike opening.Body π vs env (t ▸ ts) (u ▸ us) k s a = (same_body [] [] (body_names t) (body_names u) refl (k.0.body (vs 0) _ s.0 a.0), tt)
-scopes_alike opening.First π vs env (t ▸ ts) (u ▸ us) k s a = (block_scope (π 0) t u k.0, tt)
-scopes_alike opening.Bound π vs env (t ▸ ts) (u ▸ us) k s a = (bound_scope (π 0) t u k.0, tt)
-scopes_alike opening.Second π vs env (c ▸ none) (d ▸ none) k s a = tt
-scopes_alike opening.Second π vs env (c ▸ none) (d ▸ (u ▸ us)) k s a = absurd k.1
-scopes_alike opening.Second π vs env (c ▸ (t ▸ ts)) (d ▸ none) k s a = absurd k.1
-scopes_alike opening.Second π vs env (c ▸ (t ▸ ts)) (d ▸ (u ▸ us)) k s a = (same_scope [] [] refl, (block_scope (π 1) t u k.1.0, tt))
-scopes_alike (opening.Class own inside) π vs env (c ▸ none) (c' ▸ none) k s a = tt
-scopes_alike (opening.Class own inside) π vs env (c ▸ none) (c' ▸ (u ▸ us)) k s a = absurd k.1
-scopes_alike (opening.Class own inside) π vs env (c ▸ (h ▸ ts)) (c' ▸ none) k s a = absurd k.1
-scopes_alike (opening.Class own inside) π vs env (c ▸ (h ▸ none)) (c' ▸ (h' ▸ none)) k s a = tt
-scopes_alike (opening.Class own inside) π vs env (c ▸ (h ▸ none)) (c' ▸ (h' ▸ (u ▸ us))) k s a = absurd k.1.1
-scopes_alike (opening.Class own inside) π vs env (c ▸ (h ▸ (b ▸ ts))) (c' ▸ (h' ▸ none)) k s a = absurd k.1.1
-scopes_alike (opening.Class own inside) π vs env (c ▸ (h ▸ (b ▸ none))) (c' ▸ (h' ▸ (b' ▸ none))) k s a = tt
-scopes_alike (opening.Class own inside) π vs env (c ▸ (h ▸ (b ▸ none))) (c' ▸ (h' ▸ (b' ▸ (u ▸ us)))) k s a = absurd k.1.1.1
-scopes_alike (opening.Class own inside) π vs env (c ▸ (h ▸ (b ▸ (t ▸ ts)))) (c' ▸ (h' ▸ (b' ▸ none))) k s a = absurd k.1.1.1
-scopes_alike (opening.Class own inside) π vs env (c ▸ (h ▸ (b ▸ (t ▸ ts)))) (c' ▸ (h' ▸ (b' ▸ (u ▸ us)))) k s a = (name_scope (π 0) own c c' k.0, (name_scope (π 3) inside t u k.1.1.1.0, tt))
-scopes_alike opening.Arrow π vs env (c ▸ none) (c' ▸ none) k s a = tt
-scopes_alike opening.Arrow π vs env (c ▸ none) (c' ▸ (u ▸ us)) k s a = absurd k.1
-scopes_alike opening.Arrow π vs env (c ▸ (t ▸ ts)) (c' ▸ none) k s a = absurd k.1
-scopes_alike opening.Arrow π vs env (c ▸ (t ▸ ts)) (c' ▸ (u ▸ us)) k s a =
-    (params_scope (π 0) c c' k.0, (same_body (merged c) (merged c') (body_names t) (body_names u) (merged_same (π 0) c c' k.0) (k.1.0.body (vs 1) _ s.1.0 a.1.0), tt))
-scopes_alike (opening.Function own) π vs env (c ▸ none) (c' ▸ none) k s a = tt
-scopes_alike (opening.Function own) π vs env (c ▸ none) (c' ▸ (u ▸ us)) k s a = absurd k.1
-scopes_alike (opening.Function own) π vs env (c ▸ (p ▸ ts)) (c' ▸ none) k s a = absurd k.1
-scopes_alike (opening.Function own) π vs env (c ▸ (p ▸ none)) (c' ▸ (p' ▸ none)) k s a = tt
-scopes_alike (opening.Function own) π vs env (c ▸ (p ▸ none)) (c' ▸ (p' ▸ (u ▸ us))) k s a = absurd k.1.1
-scopes_alike (opening.Function own) π vs env (c ▸ (p ▸ (t ▸ ts))) (c' ▸ (p' ▸ none)) k s a = absurd k.1.1
-scopes_alike (opening.Function own) π vs env (c ▸ (p ▸ (t ▸ ts))) (c' ▸ (p' ▸ (u ▸ us))) k s a = (
+scopes_alike opening.Nothing π vs env none none m k s a = tt
+scopes_alike opening.Body π vs env none none m k s a = tt
+scopes_alike opening.First π vs env none none m k s a = tt
+scopes_alike opening.Bound π vs env none none m k s a = tt
+scopes_alike opening.Second π vs env none none m k s a = tt
+scopes_alike (opening.Class own inside) π vs env none none m k s a = tt
+scopes_alike opening.Arrow π vs env none none m k s a = tt
+scopes_alike (opening.Function own) π vs env none none m k s a = tt
+scopes_alike o π vs env none (u ▸ us) m k s a = absurd k
+scopes_alike o π vs env (t ▸ ts) none m k s a = absurd k
+scopes_alike opening.Nothing π vs env (t ▸ ts) (u ▸ us) m k s a = tt
+scopes_alike opening.Body π vs env (t ▸ ts) (u ▸ us) m k s a = (same_body [] [] (body_names t) (body_names u) refl (k.0.body (vs 0) _ s.0 a.0), tt)
+scopes_alike opening.First π vs env (t ▸ ts) (u ▸ us) m k s a = (block_scope (π 0) t u k.0, tt)
+scopes_alike opening.Bound π vs env (t ▸ ts) (u ▸ us) m k s a = (bound_scope (π 0) t u k.0, tt)
+scopes_alike opening.Second π vs env (c ▸ none) (d ▸ none) m k s a = tt
+scopes_alike opening.Second π vs env (c ▸ none) (d ▸ (u ▸ us)) m k s a = absurd k.1
+scopes_alike opening.Second π vs env (c ▸ (t ▸ ts)) (d ▸ none) m k s a = absurd k.1
+scopes_alike opening.Second π vs env (c ▸ (t ▸ ts)) (d ▸ (u ▸ us)) m k s a = (same_scope [] [] refl, (block_scope (π 1) t u k.1.0, tt))
+scopes_alike (opening.Class own inside) π vs env (c ▸ none) (c' ▸ none) m k s a = tt
+scopes_alike (opening.Class own inside) π vs env (c ▸ none) (c' ▸ (u ▸ us)) m k s a = absurd k.1
+scopes_alike (opening.Class own inside) π vs env (c ▸ (h ▸ ts)) (c' ▸ none) m k s a = absurd k.1
+scopes_alike (opening.Class own inside) π vs env (c ▸ (h ▸ none)) (c' ▸ (h' ▸ none)) m k s a = tt
+scopes_alike (opening.Class own inside) π vs env (c ▸ (h ▸ none)) (c' ▸ (h' ▸ (u ▸ us))) m k s a = absurd k.1.1
+scopes_alike (opening.Class own inside) π vs env (c ▸ (h ▸ (b ▸ ts))) (c' ▸ (h' ▸ none)) m k s a = absurd k.1.1
+scopes_alike (opening.Class own inside) π vs env (c ▸ (h ▸ (b ▸ none))) (c' ▸ (h' ▸ (b' ▸ none))) m k s a = tt
+scopes_alike (opening.Class own inside) π vs env (c ▸ (h ▸ (b ▸ none))) (c' ▸ (h' ▸ (b' ▸ (u ▸ us)))) m k s a = absurd k.1.1.1
+scopes_alike (opening.Class own inside) π vs env (c ▸ (h ▸ (b ▸ (t ▸ ts)))) (c' ▸ (h' ▸ (b' ▸ none))) m k s a = absurd k.1.1.1
+scopes_alike (opening.Class own inside) π vs env (c ▸ (h ▸ (b ▸ (t ▸ ts)))) (c' ▸ (h' ▸ (b' ▸ (u ▸ us)))) m k s a = (name_scope (π 0) own c c' k.0, (name_scope (π 3) inside t u k.1.1.1.0, tt))
+scopes_alike opening.Arrow π vs env (c ▸ none) (c' ▸ none) m k s a = tt
+scopes_alike opening.Arrow π vs env (c ▸ none) (c' ▸ (u ▸ us)) m k s a = absurd k.1
+scopes_alike opening.Arrow π vs env (c ▸ (t ▸ ts)) (c' ▸ none) m k s a = absurd k.1
+scopes_alike opening.Arrow π vs env (c ▸ (t ▸ ts)) (c' ▸ (u ▸ us)) m k s a =
+    (params_scope (π 0) c c' k.0, (same_body (merged c) (merged c') (body_names t) (body_names u) (merged_same (π 0) c c' k.0 m) (k.1.0.body (vs 1) _ s.1.0 a.1.0), tt))
+scopes_alike (opening.Function own) π vs env (c ▸ none) (c' ▸ none) m k s a = tt
+scopes_alike (opening.Function own) π vs env (c ▸ none) (c' ▸ (u ▸ us)) m k s a = absurd k.1
+scopes_alike (opening.Function own) π vs env (c ▸ (p ▸ ts)) (c' ▸ none) m k s a = absurd k.1
+scopes_alike (opening.Function own) π vs env (c ▸ (p ▸ none)) (c' ▸ (p' ▸ none)) m k s a = tt
+scopes_alike (opening.Function own) π vs env (c ▸ (p ▸ none)) (c' ▸ (p' ▸ (u ▸ us))) m k s a = absurd k.1.1
+scopes_alike (opening.Function own) π vs env (c ▸ (p ▸ (t ▸ ts))) (c' ▸ (p' ▸ none)) m k s a = absurd k.1.1
+scopes_alike (opening.Function own) π vs env (c ▸ (p ▸ (t ▸ ts))) (c' ▸ (p' ▸ (u ▸ us))) m k s a = (
   name_scope (π 0) own c c' k.0,
-  (params_scope (π 1) p p' k.1.0, (same_body (merged p) (merged p') (body_names t) (body_names u) (merged_same (π 1) p p' k.1.0) (k.1.1.0.body (vs 2) _ s.1.1.0 a.1.1.0), tt)),
+  (params_scope (π 1) p p' k.1.0, (same_body (merged p) (merged p') (body_names t) (body_names u) (merged_same (π 1) p p' k.1.0 m) (k.1.1.0.body (vs 2) _ s.1.1.0 a.1.1.0), tt)),
 )
 
 -- ---- children
@@ -175,11 +185,11 @@ all_within x π sc sc' e vs i env (t ▸ ts) (u ▸ us) k s a =
     )
 
 -- of a node over its children, where each name keeps its symbol and no symbol is declared more often
-pub children_scoped : (o : Opening) (π : ℕ → Position) (vs : ℕ → Use) (env : Environment) (ts us : Trees) → AllKeep π 0 ts us → AllStand π vs 0 ts → AllScoped (at_or_empty (scopes_by o ts)) vs 0 env ts → AllScoped (at_or_empty (scopes_by o us)) vs 0 env us
-children_scoped o π vs env ts us k s a =
-    all_scoped π (at_or_empty (scopes_by o ts)) (at_or_empty (scopes_by o us)) (at_alike (scopes_by o ts) (scopes_by o us) (scopes_alike o π vs env ts us k s a)) vs 0 env env (λ u r. refl) ts us k s a
+pub children_scoped : (o : Opening) (π : ℕ → Position) (vs : ℕ → Use) (env : Environment) (ts us : Trees) → Merges o ts → AllKeep π 0 ts us → AllStand π vs 0 ts → AllScoped (at_or_empty (scopes_by o ts)) vs 0 env ts → AllScoped (at_or_empty (scopes_by o us)) vs 0 env us
+children_scoped o π vs env ts us m k s a =
+    all_scoped π (at_or_empty (scopes_by o ts)) (at_or_empty (scopes_by o us)) (at_alike (scopes_by o ts) (scopes_by o us) (scopes_alike o π vs env ts us m k s a)) vs 0 env env (λ u r. refl) ts us k s a
 
-pub children_within : (x : Option SymbolId) (o : Opening) (π : ℕ → Position) (vs : ℕ → Use) (env : Environment) (ts us : Trees) → AllKeep π 0 ts us → AllStand π vs 0 ts → AllScoped (at_or_empty (scopes_by o ts)) vs 0 env ts
+pub children_within : (x : Option SymbolId) (o : Opening) (π : ℕ → Position) (vs : ℕ → Use) (env : Environment) (ts us : Trees) → Merges o ts → AllKeep π 0 ts us → AllStand π vs 0 ts → AllScoped (at_or_empty (scopes_by o ts)) vs 0 env ts
     → times x (declared_from (at_or_empty (scopes_by o us)) vs 0 us) ≤ times x (declared_from (at_or_empty (scopes_by o ts)) vs 0 ts)
-children_within x o π vs env ts us k s a =
-    all_within x π (at_or_empty (scopes_by o ts)) (at_or_empty (scopes_by o us)) (at_alike (scopes_by o ts) (scopes_by o us) (scopes_alike o π vs env ts us k s a)) vs 0 env ts us k s a
+children_within x o π vs env ts us m k s a =
+    all_within x π (at_or_empty (scopes_by o ts)) (at_or_empty (scopes_by o us)) (at_alike (scopes_by o ts) (scopes_by o us) (scopes_alike o π vs env ts us m k s a)) vs 0 env ts us k s a

@@ -7,7 +7,7 @@ use Rattle.mini_model.specs.declared.place.Position.TheVariants.{Elsewhere}
 use Rattle.mini_model.specs.Tree.{Tree, Trees, node, ◌▸◌, count}
 use Rattle.mini_model.specs.Position.{child_position}
 use Rattle.mini_model.specs.Rewriting.{Step, here, inside, StepIn, first, later, Reaches, done, more}
-use Rattle.mini_accept.specs.WellShaped.{one, a_program, fits, IsWellShaped}
+use Rattle.mini_accept.specs.WellShaped.{one, a_program, IsWellShaped}
 use Rattle.mini_names.specs.declared.Use.TheVariants.{Read}
 use Rattle.mini_names.specs.Scoped.{Scoped}
 use Rattle.mini_names.specs.Symbols.{declared_symbols, times, Distinct, Within}
@@ -25,9 +25,12 @@ use Rattle.mini_kept.specs.Without.{BodiesWithout, KeepsBodiesWithout}
 use Rattle.mini_kept.proofs.BodySteps.{step_without, whole_stands}
 use Rattle.mini_kept.proofs.Declared.{reaches_declared}
 use Rattle.mini_kept.proofs.Fixed.{fixities_kept}
-use Rattle.mini_kept.proofs.FrameSteps.{reaches_keeps_frames}
+use Rattle.mini_kept.specs.Frames.{frames_in}
+use Rattle.mini_kept.specs.ShownFrames.{KeyGiven, FramesShown}
+use Rattle.mini_kept.proofs.FrameSteps.{program_frames}
+use Rattle.mini_kept.proofs.ShownFrames.{frames_more, shown_on, shown_themselves, given_seldom, given_before}
 use Rattle.mini_kept.proofs.Gone.{step_less, avoids}
-use Rattle.mini_kept.proofs.Lawful.{reaches_root}
+use Rattle.mini_kept.proofs.Lawful.{reaches_root, keyless_program}
 use Rattle.mini_kept.proofs.Steps.{any_step_fits}
 use Rattle.mini_kept.proofs.Whole.{any_reaches_keep}
 use Rattle.mini_kept.proofs.WithoutLists.{Part, all_more, from_kept, kept_itself, kept_on}
@@ -137,14 +140,29 @@ module _ (R : Position → Tree → Tree → Type 0) (l : LawfulLoosely R) where
       let scoped = one_step.scoped e v in
       kept_on (undeclared w) (bodies_in t) (bodies_in u) (bodies_in w) (all_more (undeclared u) (undeclared w) (still_gone u w (others.symbols f scoped)) (bodies_in t) (bodies_in u) (step_bodies t u st e scoped d)) (reaches_bodies p u w r q f scoped (one_step.distinct e v d))
 
+  -- a key that only gives a property does so before, too, where nobody else sees what is gone
+  reaches_frames : (p : Position) (t u : Tree) → Reaches R p t u → p ≡ Elsewhere → IsWellShaped t → Scoped Read [] t → Distinct (declared_symbols t) → FramesShown (KeyGiven (undeclared u) (bodies_in t)) (frames_in t) (frames_in u)
+  reaches_frames _ _ _ (done p t) q e v d = shown_themselves (KeyGiven (undeclared t) (bodies_in t)) (frames_in t)
+  reaches_frames _ _ _ (more p t u w s r) q e v d =
+      let st : Step R Elsewhere t u = subst (λ x. Step R x t u) q s in
+      let rest : Reaches R Elsewhere u w = subst (λ x. Reaches R x u w) q r in
+      let one_step : ProgramKeeps t u = any_reaches_keep R names l.shapes t u (more Elsewhere t u u st (done Elsewhere u)) in
+      let others : ProgramKeeps u w = any_reaches_keep R names l.shapes u w rest in
+      let f = program_fits t u st e in
+      let scoped = one_step.scoped e v in
+      let kept = all_more (undeclared u) (undeclared w) (still_gone u w (others.symbols f scoped)) (bodies_in t) (bodies_in u) (step_bodies t u st e scoped d) in
+      shown_on (KeyGiven (undeclared w) (bodies_in t)) (frames_in t) (frames_in u) (frames_in w)
+      (frames_more (KeyGiven nothing (bodies_in t)) (KeyGiven (undeclared w) (bodies_in t)) (given_seldom (undeclared w) (bodies_in t)) (frames_in t) (frames_in u) (program_frames R l.frames t u st e))
+      (frames_more (KeyGiven (undeclared w) (bodies_in u)) (KeyGiven (undeclared w) (bodies_in t)) (given_before (undeclared w) (bodies_in t) (bodies_in u) kept) (frames_in u) (frames_in w) (reaches_frames p u w r q f scoped (one_step.distinct e v d)))
+
   pub loosely_keeps : (t u : Tree) → Reaches R Elsewhere t u → IsWellShaped t → ProgramIsKeptLoosely t u
   loosely_keeps t u r e = record {
     names = any_reaches_keep R names l.shapes t u r;
     bodies = reaches_bodies Elsewhere t u r refl e;
-    frames = reaches_keeps_frames R l.frames (fits false (one a_program)) (λ v f. f) program_fits t u r e;
+    frames = reaches_frames Elsewhere t u r refl e;
     fixities = fixities_kept R (record { reads = l.reads; fixed = l.fixed }) Elsewhere t u r;
     declared = reaches_declared R l.declared r;
-    root = reaches_root R names refl r;
+    root = reaches_root R names refl (keyless_program t e) r;
   }
 
 -- ---- lawful relations

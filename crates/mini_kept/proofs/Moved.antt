@@ -3,13 +3,14 @@ use Rattle.std.proofs.Common.{◌≡◌, ℕ, zero, suc, ◌<◌, true, false, L
 use Rattle.std.specs.Prelude.{◌⊎◌}
 use Rattle.mini_model.specs.declared.name.Name.{Name}
 use Rattle.mini_model.specs.declared.place.Position.{Position}
-use Rattle.mini_model.specs.declared.place.Position.TheVariants.{CommaList, Elsewhere}
-use Rattle.mini_model.specs.declared.shape.Shape.{Shape}
+use Rattle.mini_model.specs.declared.place.Position.TheVariants.{CommaList}
 use Rattle.mini_model.specs.Tree.{Tree, Trees, node, count, children, shape_of, child_or_absent, is_absent, is_absent_shape}
 use Rattle.mini_model.specs.Position.{child_position}
 use Rattle.mini_model.specs.Rewriting.{Step, here, inside, StepIn, first, later}
 use Rattle.mini_kept.specs.KeepsNames.{is_rewritten_place}
-use Rattle.mini_kept.specs.Kept.{over}
+use Rattle.mini_kept.specs.Frames.{unbracketed}
+use Rattle.mini_kept.proofs.Unbracketed.{same_by, absent_plain}
+use Rattle.mini_names.specs.DeclaredNames.{own_names}
 use Rattle.mini_kept.specs.Lifted.{KeepsNames, KeepsRoot}
 
 abbrev pub names_of : Tree → List Name
@@ -21,9 +22,9 @@ part t i = child_or_absent (children t) i
 abbrev pub Moved : (Position → Tree → Tree → Type 0) → Position → Tree → Tree → Type 0
 Moved R p t u = (t ≡ u) ⊎ Step R p t u
 
--- the same node over as many children
+-- the same node over as many children, whether or not its key stands in brackets
 pub record SameRoot (t u : Tree) : Type 0 where
-  pub shape : shape_of t ≡ shape_of u
+  pub shape : unbracketed (shape_of t) ≡ unbracketed (shape_of u)
   pub names : names_of t ≡ names_of u
   pub counted : count (children t) ≡ count (children u)
 
@@ -37,16 +38,13 @@ pub record AlikeBut (R : Position → Tree → Tree → Type 0) (p : Position) (
   pub root : SameRoot t u
   pub parts : (i : ℕ) → Moved R (child_position (shape_of t) p (count (children t)) (suc i)) (part t (suc i)) (part u (suc i))
 
-over_shape : (t : Tree) (us : Trees) → shape_of (over t us) ≡ shape_of t
-over_shape (node h xs n ts) us = refl
-
-over_names : (t : Tree) (us : Trees) → names_of (over t us) ≡ names_of t
-over_names (node h xs n ts) us = refl
+names_are : (t : Tree) → names_of t ≡ own_names t
+names_are (node h xs n ts) = refl
 
 kept_root : {p : Position} {t u : Tree} → KeepsRoot p t u → SameRoot t u
 kept_root {p} {t} {u} k = record {
-  shape = sym (ap shape_of k.root ∙ over_shape t (children u));
-  names = sym (ap names_of k.root ∙ over_names t (children u));
+  shape = k.shape;
+  names = names_are t ∙ k.names ∙ sym (names_are u);
   counted = k.counted;
 }
 
@@ -55,7 +53,7 @@ absent_by (node h xs n ts) = refl
 
 module _ (R : Position → Tree → Tree → Type 0) where
   pub absent_alike : {t u : Tree} → SameRoot t u → is_absent t ≡ is_absent u
-  absent_alike {t} {u} a = absent_by t ∙ ap is_absent_shape a.shape ∙ sym (absent_by u)
+  absent_alike {t} {u} a = absent_by t ∙ same_by is_absent_shape absent_plain (shape_of t) (shape_of u) a.shape ∙ sym (absent_by u)
 
   pub step_count : {π : ℕ → Position} {ts us : Trees} → StepIn R π ts us → count ts ≡ count us
   step_count (first π t u ts s) = refl
@@ -72,7 +70,7 @@ module _ (R : Position → Tree → Tree → Type 0) where
   stepped (later π t ts us s) (suc i) = stepped s i
 
   same_alike : (p : Position) (t u : Tree) → t ≡ u → Alike R p t u
-  same_alike p t u e = record { root = record { shape = ap shape_of e; names = ap names_of e; counted = ap (λ x. count (children x)) e }; parts = λ i. inl (ap (λ x. part x i) e) }
+  same_alike p t u e = record { root = record { shape = ap (λ x. unbracketed (shape_of x)) e; names = ap names_of e; counted = ap (λ x. count (children x)) e }; parts = λ i. inl (ap (λ x. part x i) e) }
 
   step_cases : {p : Position} {t u : Tree} → Step R p t u → Alike R p t u ⊎ R p t u
   step_cases (here p t u r) = inr r

@@ -17,6 +17,8 @@ use Rattle.mini_accept.specs.WellShaped.{Class, a_loop_left, a_method, an_expres
 use Rattle.mini_kept.proofs.Bools.{both}
 use Rattle.mini_kept.specs.KeepsShapes.{is_default, KeepsShapes}
 use Rattle.mini_kept.specs.Lifted.{KeepsNames}
+use Rattle.mini_kept.specs.Frames.{unbracketed}
+use Rattle.mini_kept.proofs.Unbracketed.{same_by, body_plain, spelling_plain, default_plain}
 use Rattle.mini_kept.proofs.Moved.{names_of, part, Moved, SameRoot, Alike, cases, still, absent_alike}
 
 -- a declaration by `let`, `const` or `var`, and an export by name: what of their parts is absent, or a name, matters to
@@ -36,6 +38,13 @@ constructor_is (node (shape.IdentifierName s) xs n ts) = refl
 constructor_is (node (shape.StringLiteral s) xs n ts) = refl
 constructor_is (node h xs n ts) = refl
 
+constructor_plain : (h : Shape) → constructor_by (unbracketed h) ≡ constructor_by h
+constructor_plain (shape.BindingProperty s c) = refl
+constructor_plain (shape.AssignmentTargetPropertyProperty c) = refl
+constructor_plain (shape.MethodDefinition k c s) = refl
+constructor_plain (shape.PropertyDefinition c s) = refl
+constructor_plain h = refl
+
 -- ---- a negative number
 
 abbrev positive_by : Shape → Bool
@@ -44,6 +53,13 @@ positive_by h = is_not_positive_number (node h [] 0 none)
 positive_is : (t : Tree) → is_not_positive_number t ≡ positive_by (shape_of t)
 positive_is (node (shape.NumericLiteral k) xs n ts) = refl
 positive_is (node h xs n ts) = refl
+
+positive_plain : (h : Shape) → positive_by (unbracketed h) ≡ positive_by h
+positive_plain (shape.BindingProperty s c) = refl
+positive_plain (shape.AssignmentTargetPropertyProperty c) = refl
+positive_plain (shape.MethodDefinition k c s) = refl
+positive_plain (shape.PropertyDefinition c s) = refl
+positive_plain h = refl
 
 -- ---- an optional link
 
@@ -83,17 +99,17 @@ module _ (R : Position → Tree → Tree → Type 0) (l : KeepsNames R) (shapes 
   body_kept {p} {t} {u} m e = so (cases R m)
     where
       so : Alike R p t u ⊎ R p t u → is_function_body u ≡ true
-      so (inl a) = sym (ap is_function_body_shape a.root.shape) ∙ e
+      so (inl a) = sym (same_by is_function_body_shape body_plain (shape_of t) (shape_of u) a.root.shape) ∙ e
       so (inr r) = (shapes.asked p t u r).body e
 
   constructor_alike : {t u : Tree} → SameRoot t u → names_constructor t ≡ names_constructor u
-  constructor_alike {t} {u} a = constructor_is t ∙ ap constructor_by a.shape ∙ sym (constructor_is u)
+  constructor_alike {t} {u} a = constructor_is t ∙ same_by constructor_by constructor_plain (shape_of t) (shape_of u) a.shape ∙ sym (constructor_is u)
 
   number_kept : (s : Seat) → s.boolean || not s.minus ≡ false → (t u : Tree) → Moved R (Expr s) t u → is_not_positive_number t ≡ true → is_not_positive_number u ≡ true
   number_kept s e t u m k = so (cases R m)
     where
       so : Alike R (Expr s) t u ⊎ R (Expr s) t u → is_not_positive_number u ≡ true
-      so (inl a) = positive_is u ∙ ap positive_by (sym a.root.shape) ∙ sym (positive_is t) ∙ k
+      so (inl a) = positive_is u ∙ sym (same_by positive_by positive_plain (shape_of t) (shape_of u) a.root.shape) ∙ sym (positive_is t) ∙ k
       so (inr r) = (shapes.asked (Expr s) t u r).number e k
 
   mutual
@@ -119,7 +135,7 @@ module _ (R : Position → Tree → Tree → Type 0) (l : KeepsNames R) (shapes 
   optional_kept (inr s) e = optional_step s e
 
   spelling_alike : {t u : Tree} → SameRoot t u → spelling t ≡ spelling u
-  spelling_alike {t} {u} a = spelling_is t ∙ ap (λ h. spelling_by h (names_of t)) a.shape ∙ ap (spelling_by (shape_of u)) a.names ∙ sym (spelling_is u)
+  spelling_alike {t} {u} a = spelling_is t ∙ same_by (λ h. spelling_by h (names_of t)) (spelling_plain (names_of t)) (shape_of t) (shape_of u) a.shape ∙ ap (spelling_by (shape_of u)) a.names ∙ sym (spelling_is u)
 
   -- a child that is spelled like something stays spelled so
   spelled_kept : {p : Position} {t u : Tree} (o : Option (List ℕ)) → Moved R p t u → is_same_spelling o (spelling t) ≡ true → spelling t ≡ spelling u
@@ -133,12 +149,12 @@ module _ (R : Position → Tree → Tree → Type 0) (l : KeepsNames R) (shapes 
   value_by {p} {t} {u} o true d m e = so (cases R m)
     where
       so : Alike R p t u ⊎ R p t u → (is_default (shape_of u) ≡ true) × (spelling (part t 0) ≡ spelling (part u 0))
-      so (inl a) = (sym (ap is_default a.root.shape) ∙ d, spelled_kept o (a.parts 0) e)
+      so (inl a) = (sym (same_by is_default default_plain (shape_of t) (shape_of u) a.root.shape) ∙ d, spelled_kept o (a.parts 0) e)
       so (inr r) = absurd (cc (sym d ∙ (shapes.asked p t u r).plain))
   value_by {p} {t} {u} o false d m e = so (cases R m)
     where
       so : Alike R p t u ⊎ R p t u → (is_default (shape_of u) ≡ false) × (spelling t ≡ spelling u)
-      so (inl a) = (sym (ap is_default a.root.shape) ∙ d, spelling_alike a.root)
+      so (inl a) = (sym (same_by is_default default_plain (shape_of t) (shape_of u) a.root.shape) ∙ d, spelling_alike a.root)
       so (inr r) = let (s, same) = some_spelling o (spelling t) e in let new = (shapes.asked p t u r).spelled s same in (spelled_plain u s new, same ∙ sym new)
 
   value_kept : {p : Position} {t u : Tree} (o : Option (List ℕ)) → Moved R p t u → is_same_spelling o (spelling (without_default t)) ≡ true → spelling (without_default t) ≡ spelling (without_default u)

@@ -19,7 +19,6 @@ use Rattle.mini_accept.proofs.Symbols.{program_unresolved}
 use Rattle.mini_kept.specs.Carried.{numbers, number_of, symbol_numbers, carried}
 use Rattle.mini_kept.specs.KeepsNames.{count_of}
 use Rattle.mini_kept.specs.Kept.{over}
-use Rattle.mini_kept.specs.Lawful.{ProgramIsKept}
 use Rattle.mini_kept.specs.Lifted.{ProgramKeeps}
 use Rattle.mini_kept.proofs.ReadAgain.{program_carried}
 use Rattle.mini_kept.proofs.Texts.{text}
@@ -69,8 +68,8 @@ pub record IsReadBack (t v u : Tree) : Type 0 where
   pub names : early_names [] t ≡ [] → early_names [] u ≡ []
   pub jumps : early_jumps no_targets [] t ≡ [] → early_jumps no_targets [] u ≡ []
 
-pub read_back : (t v u : Tree) (n m : ℕ) → IsRead t n → IsRead u m → ProgramIsKept (resolved_program t) v → text u ≡ text v → IsReadBack t v u
-read_back t v u n m a b kept e =
+pub read_back : (t v u : Tree) (n m : ℕ) → IsRead t n → IsRead u m → ProgramKeeps (resolved_program t) v → v ≡ over (resolved_program t) (children v) → text u ≡ text v → IsReadBack t v u
+read_back t v u n m a b keeps same_root e =
     record {
       shaped = shaped;
       later = subst (λ ss. carried (0 ∷ numbers v) ss (resolved_program u) ≡ v) (sym (distinct_numbered (declared_symbols v) distinct)) (program_carried u v m b.preorder root (numbered_alike u v b.unresolved b.shaped shaped e) (keeps.scoped before (scoped Read [] 0 t)) distinct);
@@ -83,9 +82,6 @@ read_back t v u n m a b kept e =
       jumps = λ o. jumps_alike no_targets [] u v e ∙ keeps.targets before (jumps_resolved no_targets [] t ∙ o);
     }
   where
-    keeps : ProgramKeeps (resolved_program t) v
-    keeps = kept.names
-
     before : IsWellShaped (resolved_program t)
     before = shaped_resolved t a.shaped
 
@@ -99,7 +95,7 @@ read_back t v u n m a b kept e =
     order = in_preorder t n a.preorder
 
     root : number_of v ≡ 0
-    root = ap number_of kept.root ∙ number_over (resolved_program t) (children v) ∙ number_resolved t ∙ order.root
+    root = ap number_of same_root ∙ number_over (resolved_program t) (children v) ∙ number_resolved t ∙ order.root
 
     counts : (k : ℕ) → count_of k (numbers v) ≤ count_of k (numbers t)
     counts k = subst (λ ns. count_of k (numbers v) ≤ count_of k ns) (numbers_resolved t) (keeps.numbers before k)

@@ -1,6 +1,7 @@
 -- The branches of an `if` are swapped.
 use Rattle.std.specs.Prelude.{ℕ, ◌≤◌, ◌≡◌, refl, ◌||◌, Bool, true, false, [], ◌∷◌, ◌++◌, Option}
-use Rattle.std.proofs.Common.{ap, ◌∙◌, sym, subst, arith}
+use Rattle.std.proofs.Common.{ap, ◌∙◌, sym, subst, arith, inl, inr}
+use Rattle.mini_kept.specs.KeepsLoosely.{has_member, InnerKept}
 use Rattle.std.proofs.lemmas.List.{append-nil}
 use Rattle.mini_model.specs.declared.name.SymbolId.{SymbolId}
 use Rattle.mini_model.specs.declared.place.Position.TheVariants.{Expr}
@@ -108,6 +109,10 @@ swapped_targets g q n w s u f e =
     let (x, y, z) = three_empty (early_jumps g (q ++ 0 ∷ []) n) (early_jumps g (q ++ 1 ∷ []) s) (early_jumps g (q ++ 2 ∷ []) u) e in
     empty_three (early_jumps g (q ++ 0 ∷ []) w) (early_jumps g (q ++ 1 ∷ []) u) (early_jumps g (q ++ 2 ∷ []) s) (f x) (targets_anywhere g (q ++ 2 ∷ []) (q ++ 1 ∷ []) u z) (targets_anywhere g (q ++ 1 ∷ []) (q ++ 2 ∷ []) s y)
 
+inner_swapped : (n w s u : Tree) → InnerKept n w → InnerKept (if_else n s u) (if_else w u s)
+inner_swapped n w s u (inl e) = inl (swapped_inner n w s u e)
+inner_swapped n w s u (inr m) = inr (ap (λ b. b || (has_member s || (has_member u || false))) m)
+
 swapped_as_body : (b : Bool) (q : Path) (n w s u : Tree) → IsQuiet n → IsQuiet w → NoMoreClash (body_declarations b q (if_else w u s)) (body_declarations b q (if_else n s u))
 unfolding body_declarations names_of
 swapped_as_body b q n w s u x y = no_more_statement b q q (if_else n s u) (if_else w u s) refl refl (swapped_hoisted n w s u x y)
@@ -133,7 +138,7 @@ branches_swapped q strict n w s u e f k =
       lexical = swapped_lexical n w s u;
       hoisted = swapped_hoisted n w s u x y;
       body = λ v env st h. swapped_scope v env n w s u x y h;
-      inner = swapped_inner n w s u k.inner;
+      inner = inner_swapped n w s u k.inner;
       scoped = λ v env st h. (let (a, b, c) = if_parts v env n s u h in of_parts v env w u s (k.scoped Read env (also (is_inner (shape_of n)) true refl) a) c b);
       symbols = λ v env st h r. (let (a, b, c) = if_parts v env n s u h in swapped_symbols r v n w s u (k.symbols Read env (also (is_inner (shape_of n)) true refl) a r));
       numbers = λ r. swapped_numbers r n w s u (k.numbers r);

@@ -45,6 +45,14 @@ has_key (shape.MethodDefinition k is_computed is_static) = true
 has_key (shape.PropertyDefinition is_computed is_static) = true
 has_key h = false
 
+-- what has a key, without brackets
+abbrev pub unbracketed : Shape → Shape
+unbracketed (shape.BindingProperty is_shorthand is_computed) = shape.BindingProperty is_shorthand false
+unbracketed (shape.AssignmentTargetPropertyProperty is_computed) = shape.AssignmentTargetPropertyProperty false
+unbracketed (shape.MethodDefinition k is_computed is_static) = shape.MethodDefinition k false is_static
+unbracketed (shape.PropertyDefinition is_computed is_static) = shape.PropertyDefinition false is_static
+unbracketed h = h
+
 abbrev pub first_as_key : Trees → Trees
 first_as_key none = none
 first_as_key (t ▸ ts) = property_key t ▸ ts

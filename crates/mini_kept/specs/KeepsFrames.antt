@@ -6,6 +6,9 @@ use Rattle.mini_model.specs.Tree.{Tree, shape_of, children}
 use Rattle.mini_accept.specs.WellShaped.{Depth, Class, a_statement, a_block, an_init, an_arrow_body, an_expression, a_link, a_chain, an_argument, a_key, a_default_export, a_loop_left, a_target, a_simple_target, a_member_target, a_class_member, a_pattern_property, a_target_property, Slot, one, one_or_absent, many, fits}
 use Rattle.mini_kept.specs.Placed.{is_statement_list, fits_place}
 use Rattle.mini_kept.specs.Lifted.{KeepsNames}
+use Rattle.mini_laws.specs.Value.{nothing}
+use Rattle.mini_laws.specs.Bodies.{Around, bodies}
+use Rattle.mini_kept.specs.ShownFrames.{KeyGiven, Shows}
 use Rattle.mini_kept.specs.Frames.{part, is_declaration, is_port, ports as ports_of, frames, FramesKept}
 
 -- where a statement, a block or an expression of a body may stand, and what is assigned to in one
@@ -47,12 +50,12 @@ is_keyed_slot (one c) = is_keyed c
 is_keyed_slot (one_or_absent c) = is_keyed c
 is_keyed_slot s = false
 
--- the frame around it shows the same
+-- the frame around it shows the same, or no brackets where the key in them gives the property that stands there then
 abbrev pub IsShownAlike : Slot → Tree → Tree → Type 0
-IsShownAlike s n w = (is_keyed_slot s ≡ true) × (part n ≡ part w)
+IsShownAlike s n w = (is_keyed_slot s ≡ true) × ((a : Around) → Shows (KeyGiven nothing (bodies a n)) (part n) (part w))
 
 -- It keeps names. Of a node that may stand where it does, it replaces one that stands where a statement or an expression of a
--- body may, or a list of statements, or what has a key, which the frame around it shows as before. A statement that it replaces is no import, no export and no function, an expression that
+-- body may, or a list of statements, or what has a key, which the frame around it shows as before or without brackets. A statement that it replaces is no import, no export and no function, an expression that
 -- is exported no declaration, and neither is what it writes there; a list that it writes has the imports, exports and
 -- functions of the list that stood there. Each frame in what it writes was there
 pub record KeepsFrames (R : Position → Tree → Tree → Type 0) : Type 0 where

@@ -1,18 +1,40 @@
 -- What a tree keeps that stands for another, where what it hoists may be declared in another order, or once in place of twice.
-use Rattle.std.specs.Prelude.{ℕ, ◌≡◌, ◌≤◌, Bool, false}
+use Rattle.std.specs.Prelude.{ℕ, ◌≡◌, ◌⊎◌, ◌≤◌, ◌&&◌, ◌||◌, not, Bool, true, false}
+use Rattle.mini_model.specs.declared.shape.Shape.{Shape}
+use Rattle.mini_model.specs.declared.shape.Shape.TheVariants as shape
 use Rattle.mini_model.specs.declared.place.Position.{Position}
-use Rattle.mini_model.specs.Tree.{Tree, shape_of}
+use Rattle.mini_model.specs.Tree.{Tree, Trees, node, none, ◌▸◌, shape_of}
 use Rattle.mini_names.specs.declared.Use.{Use}
 use Rattle.mini_names.specs.declared.Declared.TheVariants.{Bound, Lexical, Hoisted}
 use Rattle.mini_names.specs.declared.Targets.{Targets}
-use Rattle.mini_names.specs.DeclaredNames.{names_of, body_names, has_inner}
+use Rattle.mini_names.specs.DeclaredNames.{names_of, body_names, is_inner, has_inner}
 use Rattle.mini_names.specs.Resolved.{Environment}
 use Rattle.mini_names.specs.Scoped.{Scoped}
 use Rattle.mini_names.specs.Symbols.{declared as declared_in, Within}
 use Rattle.mini_names.specs.Early.{Path, body_declarations, in_body, children_of_node, is_loop}
 use Rattle.mini_kept.specs.Carried.{numbers as numbers_of}
+use Rattle.mini_kept.specs.Frames.{unbracketed}
 use Rattle.mini_kept.specs.KeepsNames.{Stands, is_rewritten_place, NamesOnce, HasTargets, count_of}
 use Rattle.mini_kept.specs.SameNames.{SameNames, SameScope, NoMoreClash}
+
+-- a member of a class, or a property that is assigned to, which stands outside inner expressions. Among parameters there is none
+-- (ECMA-262, "FormalParameters"), so what inner expressions stand in such a tree decides nothing about a function
+abbrev pub is_member : Shape → Bool
+is_member (shape.MethodDefinition k is_computed is_static) = true
+is_member (shape.PropertyDefinition is_computed is_static) = true
+is_member (shape.AssignmentTargetPropertyProperty is_computed) = true
+is_member h = false
+
+abbrev mutual
+  pub has_member : Tree → Bool
+  has_member (node h xs n ts) = not (is_inner h) && (is_member h || any_member ts)
+
+  pub any_member : Trees → Bool
+  any_member none = false
+  any_member (t ▸ ts) = has_member t || any_member ts
+
+abbrev pub InnerKept : Tree → Tree → Type 0
+InnerKept t u = (has_inner u ≡ has_inner t) ⊎ (has_member t ≡ true)
 
 pub record KeepsLoosely (p : Position) (t u : Tree) : Type 0 where
   -- the names that it binds, and those that it declares directly, in order
@@ -21,7 +43,8 @@ pub record KeepsLoosely (p : Position) (t u : Tree) : Type 0 where
   -- those that it hoists, and of a body a scope of the same names, if each name in it has the symbol that the scopes around give
   pub hoisted : SameNames (names_of Hoisted u) (names_of Hoisted t)
   pub body : (v : Use) (env : Environment) → Stands p v t → Scoped v env t → SameScope (body_names u) (body_names t)
-  pub inner : has_inner u ≡ has_inner t
+  -- as a parameter, whether an inner expression stands in it
+  pub inner : InnerKept t u
   -- then each still has it, and no symbol is declared more often
   pub scoped : (v : Use) (env : Environment) → Stands p v t → Scoped v env t → Scoped v env u
   pub symbols : (v : Use) (env : Environment) → Stands p v t → Scoped v env t → Within (declared_in v u) (declared_in v t)
@@ -33,6 +56,6 @@ pub record KeepsLoosely (p : Position) (t u : Tree) : Type 0 where
   pub once : (q : Path) → NamesOnce q t → NamesOnce q u
   pub targets : (a : Targets) (q : Path) → HasTargets a q t → HasTargets a q u
   pub loop : is_loop u ≡ is_loop t
-  -- its root, but where rewrites are made
-  pub root : is_rewritten_place p ≡ false → shape_of u ≡ shape_of t
+  -- its root, but where rewrites are made, whether or not its key stands in brackets
+  pub root : is_rewritten_place p ≡ false → unbracketed (shape_of u) ≡ unbracketed (shape_of t)
   pub block : is_rewritten_place p ≡ false → (b : Bool) (q : Path) → NoMoreClash (in_body b q (children_of_node u) 0) (in_body b q (children_of_node t) 0)

@@ -14,6 +14,7 @@ use Rattle.mini_names.specs.Scoped.{Scoped}
 use Rattle.mini_names.specs.Edits.{Kept}
 use Rattle.mini_names.specs.Early.{Path, body_declarations, in_body, children_of_node, early_names, early_jumps, is_loop}
 use Rattle.mini_kept.specs.Carried.{numbers}
+use Rattle.mini_kept.specs.Frames.{unbracketed}
 
 -- the names of an expression are read, and those of a list of statements; what else stands at a place may be used in any way
 abbrev pub is_read : Use → Bool
@@ -71,6 +72,6 @@ pub record Keeps (p : Position) (t u : Tree) : Type 0 where
   pub once : (q : Path) → NamesOnce q t → NamesOnce q u
   pub targets : (a : Targets) (q : Path) → HasTargets a q t → HasTargets a q u
   pub loop : is_loop u ≡ is_loop t
-  -- its root, but where rewrites are made
-  pub root : is_rewritten_place p ≡ false → shape_of u ≡ shape_of t
+  -- its root, but where rewrites are made, whether or not its key stands in brackets
+  pub root : is_rewritten_place p ≡ false → unbracketed (shape_of u) ≡ unbracketed (shape_of t)
   pub block : is_rewritten_place p ≡ false → (b : Bool) (q : Path) → unplaced (in_body b q (children_of_node u) 0) ≡ unplaced (in_body b q (children_of_node t) 0)

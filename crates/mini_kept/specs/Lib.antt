@@ -15,6 +15,7 @@ pub mod BodyLaws
 pub mod Fixities
 pub mod Frames
 pub mod FrameExamples
+pub mod ShownFrames
 pub mod KeepsFrames
 pub mod FrameLaws
 pub mod Declaring

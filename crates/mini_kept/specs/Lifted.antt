@@ -9,11 +9,12 @@ use Rattle.mini_model.specs.Redex.{Contracts}
 use Rattle.mini_model.specs.Rewriting.{Step, Reaches}
 use Rattle.mini_accept.specs.WellShaped.{Slot, fits, IsWellShaped}
 use Rattle.mini_names.specs.declared.Use.TheVariants.{Read}
+use Rattle.mini_names.specs.DeclaredNames.{own_names}
 use Rattle.mini_names.specs.Scoped.{Scoped}
 use Rattle.mini_names.specs.Symbols.{declared_symbols, Distinct, Within}
 use Rattle.mini_names.specs.Early.{no_targets}
-use Rattle.mini_kept.specs.Carried.{numbers as numbers_of}
-use Rattle.mini_kept.specs.Kept.{over}
+use Rattle.mini_kept.specs.Carried.{number_of, numbers as numbers_of}
+use Rattle.mini_kept.specs.Frames.{unbracketed}
 use Rattle.mini_kept.specs.Placed.{fits_place}
 use Rattle.mini_kept.specs.KeepsNames.{is_rewritten_place, NamesOnce, HasTargets, count_of}
 use Rattle.mini_kept.specs.KeepsLoosely.{KeepsLoosely}
@@ -23,10 +24,13 @@ abbrev pub is_piece : Shape → Bool
 is_piece (shape.TemplateElement tail raw c) = true
 is_piece h = false
 
--- elsewhere, as the property of a pattern does: the node over the same children, but for the first, which is its key
+-- elsewhere, as the property of a pattern does: the node over the same children, but for the first, which is its key and may lose its
+-- brackets
 pub record KeepsRoot (p : Position) (n w : Tree) : Type 0 where
   pub place : p ≡ Elsewhere
-  pub root : w ≡ over n (children w)
+  pub shape : unbracketed (shape_of n) ≡ unbracketed (shape_of w)
+  pub names : own_names n ≡ own_names w
+  pub number : number_of n ≡ number_of w
   pub counted : count (children n) ≡ count (children w)
   pub others : (i : ℕ) → child_or_absent (children n) (suc i) ≡ child_or_absent (children w) (suc i)
 

@@ -25,7 +25,8 @@ use Rattle.mini_laws.specs.Substitution.{alone}
 use Rattle.mini_laws.specs.Bodies.{Around, bodies, bodies_in, arrow_kind}
 use Rattle.mini_kept.specs.AlikeBodies.{BodiesKept}
 use Rattle.mini_kept.specs.Declaring.{declared}
-use Rattle.mini_kept.specs.Frames.{frames_in, FramesKept}
+use Rattle.mini_kept.specs.Frames.{frames_in}
+use Rattle.mini_kept.specs.ShownFrames.{KeyGiven, FramesShown}
 use Rattle.mini_kept.specs.Kept.{over}
 use Rattle.mini_kept.specs.KeepsFrames.{KeepsFrames}
 use Rattle.mini_kept.specs.KeepsShapes.{KeepsShapes}
@@ -74,7 +75,7 @@ undeclared u (Global s) = false
 pub record ProgramIsKeptLoosely (t u : Tree) : Type 0 where
   pub names : ProgramKeeps t u
   pub bodies : Scoped Read [] t → Distinct (declared_symbols t) → BodiesWithout (undeclared u) (bodies_in t) (bodies_in u)
-  pub frames : FramesKept (frames_in t) (frames_in u)
+  pub frames : Scoped Read [] t → Distinct (declared_symbols t) → FramesShown (KeyGiven (undeclared u) (bodies_in t)) (frames_in t) (frames_in u)
   pub fixities : (strict : Bool) (x : Variable) → fixed_in strict t x ≡ fixed_in strict u x
   pub declared : (x : Name) → Contains (declared u) x → Contains (declared t) x
   pub root : u ≡ over t (children u)

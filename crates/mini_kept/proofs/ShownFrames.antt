@@ -1,0 +1,249 @@
+-- Frames that show what others do, one after another, and what a key gives that another body stands for.
+use Rattle.std.specs.Prelude.{ℕ, zero, suc, ◌≡◌, refl, ◌⊎◌, Bool, true, false, List, [], ◌∷◌, ◌++◌, None, Some, Contains, if◌then◌else◌}
+use Rattle.std.proofs.Common.{ap, ◌∙◌, sym, subst, inl, inr, arith}
+use Rattle.std.proofs.lemmas.Bool.{false≢true}
+use Rattle.std.proofs.lemmas.List.Elements.{Contains-append_left, Contains-append_right, Contains-append_cases}
+use Rattle.mini_model.specs.declared.name.Name.{Name}
+use Rattle.mini_model.specs.declared.shape.Shape.{Shape}
+use Rattle.mini_model.specs.declared.shape.Shape.TheVariants as shape
+use Rattle.mini_model.specs.Tree.{Tree, Trees, node, none, ◌▸◌}
+use Rattle.mini_laws.specs.Value.{Value, Variable, VariableSet, Slot, nothing}
+use Rattle.mini_laws.specs.State.{Answer, Environment}
+use Rattle.mini_laws.specs.Body.{BodyKind, InnerValue, Ran, Run, start_of}
+use Rattle.mini_laws.specs.Bodies.{Body}
+use Rattle.mini_laws.proofs.Congruent.{no_init}
+use Rattle.mini_kept.specs.AlikeBodies.{KindKept, BodiesKept}
+use Rattle.mini_kept.specs.Without.{Unseen, AlikeWithout, BodiesWithout}
+use Rattle.mini_kept.specs.Frames.{property_key, has_key, unbracketed, first_as_key, keyed, Frame, FramesKept}
+use Rattle.mini_kept.specs.ShownFrames.{OnlyGives, KeyGiven, ShowsKey, Shows, ShowsBare, AllShow, FrameShown, FramesShown}
+use Rattle.mini_kept.proofs.WithoutLists.{from_kept, unseen_nothing, kept_stands}
+
+abbrev Keys : Type 1
+Keys = ℕ → List ℕ → Type 0
+
+-- ---- parts of frames
+
+module _ (G : Keys) where
+  mutual
+    pub shows_itself : (t : Tree) → Shows G t t
+    shows_itself (node h xs n ts) = (refl, refl, inl (refl, all_themselves ts))
+
+    pub all_themselves : (ts : Trees) → AllShow G ts ts
+    all_themselves none = tt
+    all_themselves (t ▸ ts) = (shows_itself t, all_themselves ts)
+
+  pub shows_same : (t u : Tree) → t ≡ u → Shows G t u
+  shows_same t u e = subst (Shows G t) e (shows_itself t)
+
+  pub all_same : (ts us : Trees) → ts ≡ us → AllShow G ts us
+  all_same ts us e = subst (AllShow G ts) e (all_themselves ts)
+
+  pub over_shown : (h : Shape) (xs : List Name) (n : ℕ) (ts us : Trees) → AllShow G ts us → Shows G (node h xs n ts) (node h xs n us)
+  over_shown h xs n ts us a = (refl, refl, inl (refl, a))
+
+  -- nothing else shows an inner expression, or is shown for a text
+
+  no_others : (ts : Trees) → AllShow G ts none → ts ≡ none
+  no_others none a = refl
+  no_others (t ▸ ts) a = absurd a
+
+  none_others : (us : Trees) → AllShow G none us → us ≡ none
+  none_others none a = refl
+  none_others (u ▸ us) a = absurd a
+
+  not_bare : (h i : Shape) (ts : Trees) → ShowsBare G h i ts none → ⊥
+  not_bare h i none a = a
+  not_bare h i (t ▸ ts) a = a
+
+  inner_alone : (k : ℕ) (t : Tree) → Shows G t (node shape.InnerExpression [] k none) → t ≡ node shape.InnerExpression [] k none
+  inner_alone k (node h xs n ts) (a, b, inl (e, c)) = λ j. node (e j) (a j) (b j) (no_others ts c j)
+  inner_alone k (node h xs n ts) (a, b, inr c) = absurd (not_bare h shape.InnerExpression ts c)
+
+  text_alone : (s : List ℕ) (t : Tree) → Shows G (node (shape.StringLiteral s) [] 0 none) t → t ≡ node (shape.StringLiteral s) [] 0 none
+  text_alone s (node h xs n ts) (a, b, inl (e, c)) = sym (λ j. node (e j) (a j) (b j) (sym (none_others ts c) j))
+  text_alone s (node h xs n ts) (a, b, inr c) = absurd c
+
+  -- ---- one after another
+
+  key_before : (t u v : Tree) → Shows G t u → ShowsKey G u v → ShowsKey G t v
+  key_before t u v a k = record { number = k.number; key = k.key; bracketed = inner_alone k.number t (subst (Shows G t) k.bracketed a); plain = k.plain; given = k.given }
+
+  key_after : (t u v : Tree) → ShowsKey G t u → Shows G u v → ShowsKey G t v
+  key_after t u v k a = record { number = k.number; key = k.key; bracketed = k.bracketed; plain = text_alone k.key v (subst (λ x. Shows G x v) k.plain a); given = k.given }
+
+  no_text : (t u v : Tree) → ShowsKey G t u → ShowsKey G u v → ⊥
+  no_text t u v k l = cc (sym k.plain ∙ l.bracketed)
+
+  mutual
+    pub shows_on : (t u v : Tree) → Shows G t u → Shows G u v → Shows G t v
+    shows_on (node h xs n ts) (node i ys m us) (node j zs l vs) (a, b, inl (e, c)) (a', b', inl (f, d)) = (a ∙ a', b ∙ b', inl (e ∙ f, all_on ts us vs c d))
+    shows_on (node h xs n ts) (node i ys m us) (node j zs l vs) (a, b, inl (e, c)) (a', b', inr d) = (a ∙ a', b ∙ b', inr (bare_after h i j ts us vs e c d))
+    shows_on (node h xs n ts) (node i ys m us) (node j zs l vs) (a, b, inr c) (a', b', inl (f, d)) = (a ∙ a', b ∙ b', inr (bare_before h i j ts us vs c f d))
+    shows_on (node h xs n ts) (node i ys m us) (node j zs l vs) (a, b, inr c) (a', b', inr d) = absurd (bare_twice h i j ts us vs c d)
+
+    bare_after : (h i j : Shape) (ts us vs : Trees) → h ≡ i → AllShow G ts us → ShowsBare G i j us vs → ShowsBare G h j ts vs
+    bare_after h i j none none vs e a b = absurd b
+    bare_after h i j none (u ▸ us) vs e a b = absurd a
+    bare_after h i j (t ▸ ts) none vs e a b = absurd a
+    bare_after h i j (t ▸ ts) (u ▸ us) none e a b = absurd b
+    bare_after h i j (t ▸ ts) (u ▸ us) (v ▸ vs) e (a, rs) (k, f, b, bs) = (ap has_key e ∙ k, f ∙ sym (ap unbracketed e), key_before t u v a b, all_on ts us vs rs bs)
+
+    bare_before : (h i j : Shape) (ts us vs : Trees) → ShowsBare G h i ts us → i ≡ j → AllShow G us vs → ShowsBare G h j ts vs
+    bare_before h i j none us vs a f b = absurd a
+    bare_before h i j (t ▸ ts) none vs a f b = absurd a
+    bare_before h i j (t ▸ ts) (u ▸ us) none a f b = absurd b
+    bare_before h i j (t ▸ ts) (u ▸ us) (v ▸ vs) (k, e, a, rs) f (b, bs) = (k, sym f ∙ e, key_after t u v a b, all_on ts us vs rs bs)
+
+    bare_twice : (h i j : Shape) (ts us vs : Trees) → ShowsBare G h i ts us → ShowsBare G i j us vs → ⊥
+    bare_twice h i j none us vs a b = a
+    bare_twice h i j (t ▸ ts) none vs a b = a
+    bare_twice h i j (t ▸ ts) (u ▸ us) none a b = b
+    bare_twice h i j (t ▸ ts) (u ▸ us) (v ▸ vs) (k, e, a, rs) (k', e', b, bs) = no_text t u v a b
+
+    pub all_on : (ts us vs : Trees) → AllShow G ts us → AllShow G us vs → AllShow G ts vs
+    all_on none none none a b = tt
+    all_on none none (v ▸ vs) a b = absurd b
+    all_on none (u ▸ us) vs a b = absurd a
+    all_on (t ▸ ts) none vs a b = absurd a
+    all_on (t ▸ ts) (u ▸ us) none a b = absurd b
+    all_on (t ▸ ts) (u ▸ us) (v ▸ vs) a b = (shows_on t u v a.0 b.0, all_on ts us vs a.1 b.1)
+
+  -- ---- keys
+
+  key_over : (h : Shape) (xs : List Name) (n : ℕ) (ts us : Trees) → AllShow G ts us → Shows G (property_key (node h xs n ts)) (property_key (node h xs n us))
+  key_over (shape.IdentifierName s) xs n ts us a = (refl, refl, inl (refl, a))
+  key_over (shape.NumericLiteral k) xs n ts us a = (refl, refl, inl (refl, a))
+  key_over h xs n ts us a = (refl, refl, inl (refl, a))
+
+  key_bare : (h : Shape) (xs : List Name) (n : ℕ) (ts us : Trees) → has_key h ≡ true → ShowsBare G h (unbracketed h) ts us → Shows G (property_key (node h xs n ts)) (property_key (node (unbracketed h) xs n us))
+  key_bare (shape.BindingProperty s c) xs n ts us e b = (refl, refl, inr b)
+  key_bare (shape.AssignmentTargetPropertyProperty c) xs n ts us e b = (refl, refl, inr b)
+  key_bare (shape.MethodDefinition k c s) xs n ts us e b = (refl, refl, inr b)
+  key_bare (shape.PropertyDefinition c s) xs n ts us e b = (refl, refl, inr b)
+  key_bare h xs n ts us e b = absurd (false≢true e)
+
+  bare_key : (h i : Shape) (ts us : Trees) → ShowsBare G h i ts us → (has_key h ≡ true) × (unbracketed h ≡ i)
+  bare_key h i none us a = absurd a
+  bare_key h i (t ▸ ts) none a = absurd a
+  bare_key h i (t ▸ ts) (u ▸ us) (k, e, a, rs) = (k, sym e)
+
+  as_key : (t u : Tree) → Shows G t u → Shows G (property_key t) (property_key u)
+  as_key (node h xs n ts) (node i ys m us) (a, b, inl (e, c)) =
+      subst (λ k. Shows G (property_key (node h xs n ts)) (property_key (node k ys m us))) e
+      (subst (λ zs. Shows G (property_key (node h xs n ts)) (property_key (node h zs m us))) a
+      (subst (λ l. Shows G (property_key (node h xs n ts)) (property_key (node h xs l us))) b (key_over h xs n ts us c)))
+  as_key (node h xs n ts) (node i ys m us) (a, b, inr c) =
+      let (k, e) = bare_key h i ts us c in
+      subst (λ j. Shows G (property_key (node h xs n ts)) (property_key (node j ys m us))) e
+      (subst (λ zs. Shows G (property_key (node h xs n ts)) (property_key (node (unbracketed h) zs m us))) a
+      (subst (λ l. Shows G (property_key (node h xs n ts)) (property_key (node (unbracketed h) xs l us))) b
+      (key_bare h xs n ts us k (subst (λ j. ShowsBare G h j ts us) (sym e) c))))
+
+  first_key : (b : Bool) (ts us : Trees) → AllShow G ts us → AllShow G (if b then first_as_key ts else ts) (if b then first_as_key us else us)
+  first_key false ts us a = a
+  first_key true none none a = tt
+  first_key true none (u ▸ us) a = absurd a
+  first_key true (t ▸ ts) none a = absurd a
+  first_key true (t ▸ ts) (u ▸ us) a = (as_key t u a.0, a.1)
+
+  pub keyed_shown : (h : Shape) (ts us : Trees) → AllShow G ts us → AllShow G (keyed h ts) (keyed h us)
+  keyed_shown h ts us a = first_key (has_key h) ts us a
+
+-- ---- what more keys give
+
+module _ (G H : Keys) (more : (n : ℕ) (s : List ℕ) → G n s → H n s) where
+  mutual
+    pub shows_more : (t u : Tree) → Shows G t u → Shows H t u
+    shows_more (node h xs n ts) (node i ys m us) (a, b, inl (e, c)) = (a, b, inl (e, all_more ts us c))
+    shows_more (node h xs n ts) (node i ys m us) (a, b, inr c) = (a, b, inr (bare_more h i ts us c))
+
+    bare_more : (h i : Shape) (ts us : Trees) → ShowsBare G h i ts us → ShowsBare H h i ts us
+    bare_more h i none us a = absurd a
+    bare_more h i (t ▸ ts) none a = absurd a
+    bare_more h i (t ▸ ts) (u ▸ us) (k, e, a, rs) = (k, e, record { number = a.number; key = a.key; bracketed = a.bracketed; plain = a.plain; given = more a.number a.key a.given }, all_more ts us rs)
+
+    pub all_more : (ts us : Trees) → AllShow G ts us → AllShow H ts us
+    all_more none none a = tt
+    all_more none (u ▸ us) a = absurd a
+    all_more (t ▸ ts) none a = absurd a
+    all_more (t ▸ ts) (u ▸ us) a = (shows_more t u a.0, all_more ts us a.1)
+
+  pub frames_more : (fs gs : List Frame) → FramesShown G fs gs → FramesShown H fs gs
+  frames_more fs gs k g x =
+      let (f, there, a) = k g x in
+      (f, there, record { number = a.number; property = a.property; outline = shows_more f.outline g.outline a.outline; globals = a.globals })
+
+-- ---- lists of frames
+
+module _ (G : Keys) where
+  frame_itself : (f : Frame) → FrameShown G f f
+  frame_itself f = record { number = refl; property = refl; outline = shows_itself G f.outline; globals = refl }
+
+  pub kept_shown : (fs gs : List Frame) → FramesKept fs gs → FramesShown G fs gs
+  kept_shown fs gs k g x = (g, k g x, frame_itself g)
+
+  pub shown_themselves : (fs : List Frame) → FramesShown G fs fs
+  shown_themselves fs g x = (g, x, frame_itself g)
+
+  frame_on : (f g h : Frame) → FrameShown G f g → FrameShown G g h → FrameShown G f h
+  frame_on f g h a b = record { number = a.number ∙ b.number; property = a.property ∙ b.property; outline = shows_on G f.outline g.outline h.outline a.outline b.outline; globals = a.globals ∙ b.globals }
+
+  pub shown_on : (fs gs hs : List Frame) → FramesShown G fs gs → FramesShown G gs hs → FramesShown G fs hs
+  shown_on fs gs hs k l h x =
+      let (g, there, b) = l h x in
+      let (f, here, a) = k g there in
+      (f, here, frame_on f g h a b)
+
+  pub one_shown : (f g : Frame) → FrameShown G f g → FramesShown G (f ∷ []) (g ∷ [])
+  one_shown f g a h (zero, below, at) = (f, (0, omega arith, refl), subst (FrameShown G f) at a)
+  one_shown f g a h (suc i, below, at) = absurd (omega (arith, below))
+
+  -- of two lists, each of its own
+  pub each_shown : (es fs gs hs : List Frame) → FramesShown G es gs → FramesShown G fs hs → FramesShown G (es ++ fs) (gs ++ hs)
+  each_shown es fs gs hs k l f x = by (Contains-append_cases gs hs f x)
+    where
+      by : Contains gs f ⊎ Contains hs f → (e : Frame) × Contains (es ++ fs) e × FrameShown G e f
+      by (inl y) = let (e, there, a) = k f y in (e, Contains-append_left es fs e there, a)
+      by (inr y) = let (e, there, a) = l f y in (e, Contains-append_right es fs e there, a)
+
+-- ---- bodies that give keys
+
+pub given_among : (D : VariableSet) (bs cs : List Body) → ((b : Body) → Contains bs b → Contains cs b) → (n : ℕ) (s : List ℕ) → KeyGiven D bs n s → KeyGiven D cs n s
+given_among D bs cs f n s k = record { body = k.body; there = f k.body k.there; number = k.number; kind = k.kind; gives = k.gives }
+
+-- in fewer environments
+pub given_seldom : (D : VariableSet) (bs : List Body) (n : ℕ) (s : List ℕ) → KeyGiven nothing bs n s → KeyGiven D bs n s
+given_seldom D bs n s k = record { body = k.body; there = k.there; number = k.number; kind = k.kind; gives = record { by = λ e u. k.gives.by e (unseen_nothing e) } }
+
+value_kind : (k l : BodyKind) → KindKept k l → l ≡ InnerValue → k ≡ InnerValue
+value_kind k l (inl e) f = e ∙ f
+value_kind k l (inr e) f = absurd (cc (sym e.1 ∙ f))
+
+-- of the bodies that others stand for
+pub given_before : (D : VariableSet) (bs cs : List Body) → BodiesWithout D bs cs → (n : ℕ) (s : List ℕ) → KeyGiven D cs n s → KeyGiven D bs n s
+given_before D bs cs kept n s k = from (kept_stands D bs cs kept k.body k.there)
+  where
+    from : (b : Body) × Contains bs b × AlikeWithout D b k.body → KeyGiven D bs n s
+    from (b, there, a) = record {
+      body = b;
+      there = there;
+      number = a.number ∙ k.number;
+      kind = value_kind b.kind k.body.kind a.kind k.kind;
+      gives = record { by = λ e u vars this answers turns. gives e u vars this answers turns };
+    }
+      where
+        gives : (e : Environment) → Unseen D e → (vars : Variable → Slot) (this : Value) (answers : List Answer) (turns : ℕ) → (Run e InnerValue b.root vars this answers turns ≡ None) ⊎ ((r : Ran) × (Run e InnerValue b.root vars this answers turns ≡ Some r) × OnlyGives e vars s r)
+        gives e u vars this answers turns =
+            let same = subst (λ q. (Run e q b.root vars this answers turns ≡ None) ⊎ (Run e q b.root vars this answers turns ≡ Run e k.body.kind k.body.root vars this answers turns)) (value_kind b.kind k.body.kind a.kind k.kind)
+            ((a.same e u nothing).by vars this answers turns (no_init (start_of vars this answers turns))) in
+            joined (subst (λ q. (Run e InnerValue b.root vars this answers turns ≡ None) ⊎ (Run e InnerValue b.root vars this answers turns ≡ Run e q k.body.root vars this answers turns)) k.kind same) (k.gives.by e u vars this answers turns)
+          where
+            joined : (Run e InnerValue b.root vars this answers turns ≡ None) ⊎ (Run e InnerValue b.root vars this answers turns ≡ Run e InnerValue k.body.root vars this answers turns)
+                → (Run e InnerValue k.body.root vars this answers turns ≡ None) ⊎ ((r : Ran) × (Run e InnerValue k.body.root vars this answers turns ≡ Some r) × OnlyGives e vars s r)
+                → (Run e InnerValue b.root vars this answers turns ≡ None) ⊎ ((r : Ran) × (Run e InnerValue b.root vars this answers turns ≡ Some r) × OnlyGives e vars s r)
+            joined (inl x) y = inl x
+            joined (inr x) (inl y) = inl (x ∙ y)
+            joined (inr x) (inr (r, y, z)) = inr (r, x ∙ y, z)
+
+pub given_kept : (bs cs : List Body) → BodiesKept bs cs → (n : ℕ) (s : List ℕ) → KeyGiven nothing cs n s → KeyGiven nothing bs n s
+given_kept bs cs kept = given_before nothing bs cs (from_kept nothing bs cs kept)
