@@ -5,7 +5,9 @@ use Rattle.mini_model.specs.Tree.{Tree}
 use Rattle.mini_model.specs.Weight.{weight}
 use Rattle.mini_model.specs.Redex as first
 use Rattle.mini_kept.specs.Lawful.{Lawful}
+use Rattle.mini_kept.specs.Loosely.{LawfulLoosely}
 use Rattle.mini_kept.proofs.Lawful.{lawful_join, lawful_narrowed, rows_are_lawful}
+use Rattle.mini_kept.proofs.Loosely.{lawful_is_loose, loose_join}
 use Rattle.mini_rows.specs.Switches.{Switches}
 use Rattle.mini_rows.specs.Spellings.{SpellingContracts}
 use Rattle.mini_rows.specs.Branches.{BranchContracts}
@@ -17,10 +19,14 @@ use Rattle.mini_rows.specs.Folding.{FoldingContracts}
 use Rattle.mini_rows.specs.Turns.{TurnContracts}
 use Rattle.mini_rows.specs.Arrows.{ArrowContracts}
 use Rattle.mini_rows.specs.DeMorgan.{DeMorganContracts}
+use Rattle.mini_rows.specs.Sequences.{SequenceContracts}
+use Rattle.mini_rows.specs.Operands.{OperandContracts}
+use Rattle.mini_rows.specs.Negations.{NegationContracts}
 use Rattle.mini_rows.specs.Booleans.{BooleanContracts}
 use Rattle.mini_rows.specs.Constants.{ConstantContracts}
 use Rattle.mini_rows.specs.KeyHolders.{HeldKeyContracts}
-use Rattle.mini_rows.specs.Redex.{Row, Contracts}
+use Rattle.mini_rows.specs.Unused.{UnusedContracts}
+use Rattle.mini_rows.specs.Redex.{Row, Contracts, Rewrites}
 use Rattle.mini_rows.proofs.SpellKeyLawful as keys
 use Rattle.mini_rows.proofs.FoldLawful.{foldings_lawful}
 use Rattle.mini_rows.proofs.SpellLawful as spellings
@@ -31,15 +37,28 @@ use Rattle.mini_rows.proofs.DeclarationLawful.{declarations_lawful}
 use Rattle.mini_rows.proofs.TurnLawful.{turns_lawful}
 use Rattle.mini_rows.proofs.ArrowLawful.{arrows_lawful}
 use Rattle.mini_rows.proofs.DeMorganLawful.{de_morgan_lawful}
+use Rattle.mini_rows.proofs.SequenceLawful.{sequences_lawful}
+use Rattle.mini_rows.proofs.OperandLawful.{operands_lawful}
+use Rattle.mini_rows.proofs.NegationLawful.{negations_lawful}
 use Rattle.mini_rows.proofs.BooleanLawful.{booleans_lawful}
 use Rattle.mini_rows.proofs.ConstantLawful.{constants_lawful}
-use Rattle.mini_rows.proofs.HeldKeyLawful.{held_keys_lawful}
+use Rattle.mini_rows.proofs.KeysJoined.{held_keys_lawful}
+use Rattle.mini_rows.proofs.UnusedLawful.{unused_loose}
 
 module _ (o : Switches) where
   -- by family
 
+  abbrev Answers : Position → Tree → Tree → Type 0
+  Answers p n w = OperandContracts p n w ⊎ NegationContracts p n w
+
+  abbrev Parted : Position → Tree → Tree → Type 0
+  Parted p n w = SequenceContracts p n w ⊎ Answers p n w
+
+  abbrev Orders : Position → Tree → Tree → Type 0
+  Orders p n w = DeMorganContracts p n w ⊎ Parted p n w
+
   abbrev Voids : Position → Tree → Tree → Type 0
-  Voids p n w = BooleanContracts p n w ⊎ DeMorganContracts p n w
+  Voids p n w = BooleanContracts p n w ⊎ Orders p n w
 
   abbrev Truths : Position → Tree → Tree → Type 0
   Truths p n w = HeldKeyContracts p n w ⊎ Voids p n w
@@ -78,7 +97,7 @@ module _ (o : Switches) where
   Families p n w = first.Contracts p n w ⊎ Others p n w
 
   families_lawful : Lawful Families
-  families_lawful = lawful_join first.Contracts Others rows_are_lawful (lawful_join SpellingContracts Late spellings.lawful (lawful_join BranchContracts Last branches_lawful (lawful_join (ListContracts o) Latest (lists_lawful o) (lawful_join KeyContracts Final keys.lawful (lawful_join ChoiceContracts Known choices.lawful (lawful_join DeclarationContracts End declarations_lawful (lawful_join FoldingContracts Functions foldings_lawful (lawful_join TurnContracts Ends turns_lawful (lawful_join ArrowContracts Newest arrows_lawful (lawful_join ConstantContracts Truths constants_lawful (lawful_join HeldKeyContracts Voids held_keys_lawful (lawful_join BooleanContracts DeMorganContracts booleans_lawful de_morgan_lawful))))))))))))
+  families_lawful = lawful_join first.Contracts Others rows_are_lawful (lawful_join SpellingContracts Late spellings.lawful (lawful_join BranchContracts Last branches_lawful (lawful_join (ListContracts o) Latest (lists_lawful o) (lawful_join KeyContracts Final keys.lawful (lawful_join ChoiceContracts Known choices.lawful (lawful_join DeclarationContracts End declarations_lawful (lawful_join FoldingContracts Functions foldings_lawful (lawful_join TurnContracts Ends turns_lawful (lawful_join ArrowContracts Newest arrows_lawful (lawful_join ConstantContracts Truths constants_lawful (lawful_join HeldKeyContracts Voids held_keys_lawful (lawful_join BooleanContracts Orders booleans_lawful (lawful_join DeMorganContracts Parted de_morgan_lawful (lawful_join SequenceContracts Answers sequences_lawful (lawful_join OperandContracts NegationContracts operands_lawful negations_lawful)))))))))))))))
 
   by_row : (p : Position) (n w : Tree) → Row o p n w → weight p w < weight p n → Families p n w
   by_row p n w (inl r) l = inl (record { row = r; lighter = l })
@@ -94,10 +113,17 @@ module _ (o : Switches) where
   by_row p n w (inr (inr (inr (inr (inr (inr (inr (inr (inr (inr (inl r))))))))))) l = inr (inr (inr (inr (inr (inr (inr (inr (inr (inr (inl (record { row = r; lighter = l })))))))))))
   by_row p n w (inr (inr (inr (inr (inr (inr (inr (inr (inr (inr (inr (inl r)))))))))))) l = inr (inr (inr (inr (inr (inr (inr (inr (inr (inr (inr (inl (record { row = r; lighter = l }))))))))))))
   by_row p n w (inr (inr (inr (inr (inr (inr (inr (inr (inr (inr (inr (inr (inl r))))))))))))) l = inr (inr (inr (inr (inr (inr (inr (inr (inr (inr (inr (inr (inl (record { row = r; lighter = l })))))))))))))
-  by_row p n w (inr (inr (inr (inr (inr (inr (inr (inr (inr (inr (inr (inr (inr r))))))))))))) l = inr (inr (inr (inr (inr (inr (inr (inr (inr (inr (inr (inr (inr (record { row = r; lighter = l })))))))))))))
+  by_row p n w (inr (inr (inr (inr (inr (inr (inr (inr (inr (inr (inr (inr (inr (inl r)))))))))))))) l = inr (inr (inr (inr (inr (inr (inr (inr (inr (inr (inr (inr (inr (inl (record { row = r; lighter = l }))))))))))))))
+  by_row p n w (inr (inr (inr (inr (inr (inr (inr (inr (inr (inr (inr (inr (inr (inr (inl r))))))))))))))) l = inr (inr (inr (inr (inr (inr (inr (inr (inr (inr (inr (inr (inr (inr (inl (record { row = r; lighter = l })))))))))))))))
+  by_row p n w (inr (inr (inr (inr (inr (inr (inr (inr (inr (inr (inr (inr (inr (inr (inr (inl r)))))))))))))))) l = inr (inr (inr (inr (inr (inr (inr (inr (inr (inr (inr (inr (inr (inr (inr (inl (record { row = r; lighter = l }))))))))))))))))
+  by_row p n w (inr (inr (inr (inr (inr (inr (inr (inr (inr (inr (inr (inr (inr (inr (inr (inr r)))))))))))))))) l = inr (inr (inr (inr (inr (inr (inr (inr (inr (inr (inr (inr (inr (inr (inr (inr (record { row = r; lighter = l }))))))))))))))))
 
   pub by_family : (p : Position) (n w : Tree) → Contracts o p n w → Families p n w
   by_family p n w c = by_row p n w c.row c.lighter
 
   pub all_lawful : Lawful (Contracts o)
   all_lawful = lawful_narrowed (Contracts o) Families by_family families_lawful
+
+  -- with those of names that nothing mentions
+  pub all_loose : LawfulLoosely (Rewrites o)
+  all_loose = loose_join (Contracts o) UnusedContracts (lawful_is_loose (Contracts o) all_lawful) unused_loose

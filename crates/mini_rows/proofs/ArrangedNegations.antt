@@ -54,7 +54,7 @@ not_declared s t = by (nat_lt (weight (Expr s) (negation t)) (weight (Expr s) (n
     by true = append-nil (declared t)
     by false = negated_declared s t
 
-at_quiet : (a : Around) → a.constructs ≡ false → a.is_assigned ≡ false → quiet a ≡ a
+pub at_quiet : (a : Around) → a.constructs ≡ false → a.is_assigned ≡ false → quiet a ≡ a
 at_quiet a c d = λ i. record a { constructs = sym c i; is_assigned = sym d i }
 
 pub negation_written : (s : Seat) (t : Tree) → WrittenFor t (not_of s t)

@@ -1,7 +1,7 @@
 -- A list of statements in which a branch stands twice, one right after the other, is kept where it is written once: what it
 -- hoists is declared once in place of twice.
 use Rattle.std.specs.Prelude.{ℕ, ◌≡◌, refl, ◌&&◌, ◌||◌, Bool, true, false, List, [], ◌∷◌, ◌++◌, Option, Some, None, if◌then◌else◌}
-use Rattle.std.proofs.Common.{ap, ◌∙◌, sym, subst, arith}
+use Rattle.std.proofs.Common.{inl, ap, ◌∙◌, sym, subst, arith}
 use Rattle.std.proofs.lemmas.Bool.{and_parts}
 use Rattle.mini_model.specs.declared.name.Name.{Name}
 use Rattle.mini_model.specs.declared.name.SymbolId.{SymbolId}
@@ -128,7 +128,7 @@ module _ (f : Free) (ps : Parts) (u : AreFree ps f) (is js : Items) (sn : items_
       lexical = direct Name (names_of declared.Lexical) (names_of declared.Lexical) lexical_fold;
       hoisted = same_hoisted;
       body = λ o env st k. same_body;
-      inner = same_inner f ps u AsWholeList (list is) (list js) sn sr y;
+      inner = inl (same_inner f ps u AsWholeList (list is) (list js) sn sr y);
       scoped = λ o env st k. same_scoped f ps u AsWholeList (list is) (list js) sn sr y v o env k;
       symbols = λ o env st k x. same_symbols f ps u AsWholeList (list is) (list js) sn sr y v o x;
       numbers = same_numbers f ps u AsWholeList (list is) (list js) sn sr y v;

@@ -7,7 +7,7 @@ use Rattle.mini_model.specs.declared.operator.AssignmentOperator.TheVariants.{As
 use Rattle.mini_model.specs.declared.shape.Shape.{Shape}
 use Rattle.mini_model.specs.declared.shape.Shape.TheVariants as shape
 use Rattle.mini_model.specs.Tree.{Tree, Trees, node, none, ◌▸◌, shape_of, child_or_absent}
-use Rattle.mini_accept.specs.WellShaped.{Depth, in_module, in_body, nested, Class, a_statement, a_word, a_key, a_private_or_key, an_inner_key, an_expression, a_link, an_argument, an_object_property, Slot, one, one_or_absent, many, many_or_holes, many_and_rest, many_or_holes_and_rest, quasis, is_text, none_if, statement_slots, word_slots, slots_of, Filling, refused, these, each, each_or_last, pieces, filling_by, filling, class_of, has_names, has_its_number, has_plain_fields, has_its_parts, is_whole, is_strict_in, is_last, fits, fill}
+use Rattle.mini_accept.specs.WellShaped.{Depth, in_module, in_body, nested, Class, a_statement, a_word, a_key, a_private_or_key, an_inner_key, an_expression, a_link, a_chain, an_argument, an_object_property, Slot, one, one_or_absent, many, many_or_holes, many_and_rest, many_or_holes_and_rest, quasis, is_text, none_if, statement_slots, word_slots, slots_of, Filling, refused, these, each, each_or_last, pieces, filling_by, filling, class_of, has_names, has_its_number, has_plain_fields, has_its_parts, is_whole, is_strict_in, is_last, fits, fill}
 use Rattle.mini_model.specs.Paths.{append}
 use Rattle.mini_names.specs.DeclaredNames.{own_names}
 use Rattle.mini_kept.proofs.Bools.{left, right}
@@ -39,6 +39,7 @@ abbrev pub suits : Asked → Slot → Bool
 suits c (quasis g) = false
 suits AsValue (one an_expression) = true
 suits AsValue (one a_link) = true
+suits AsValue (one a_chain) = true
 suits AsValue (one an_argument) = true
 suits AsValue (one an_object_property) = true
 suits AsValue (one_or_absent an_argument) = true
@@ -81,6 +82,13 @@ link_or_refused strict (shape.Class true) = refl
 link_or_refused strict (shape.Class false) = refl
 link_or_refused strict h = refl
 
+chain_or_refused : (strict : Bool) (h : Shape) → (is_value h || is_refused (filling strict (one a_chain) h)) ≡ true
+chain_or_refused strict (shape.Function true g ds) = refl
+chain_or_refused strict (shape.Function false g ds) = refl
+chain_or_refused strict (shape.Class true) = refl
+chain_or_refused strict (shape.Class false) = refl
+chain_or_refused strict h = refl
+
 argument_or_refused : (strict : Bool) (h : Shape) → (is_value h || is_refused (filling strict (one an_argument) h)) ≡ true
 argument_or_refused strict (shape.Function true g ds) = refl
 argument_or_refused strict (shape.Function false g ds) = refl
@@ -119,6 +127,7 @@ value_or strict s (node h xs n ts) e f = by (is_value h) e
 pub value_fits : (strict : Bool) (s : Slot) (t : Tree) → suits AsValue s ≡ true → fits strict s t ≡ true → is_value (shape_of t) ≡ true
 value_fits strict (one an_expression) t e f = value_or strict (one an_expression) t (expression_or_refused strict (shape_of t)) f
 value_fits strict (one a_link) t e f = value_or strict (one a_link) t (link_or_refused strict (shape_of t)) f
+value_fits strict (one a_chain) t e f = value_or strict (one a_chain) t (chain_or_refused strict (shape_of t)) f
 value_fits strict (one an_argument) t e f = value_or strict (one an_argument) t (argument_or_refused strict (shape_of t)) f
 value_fits strict (one an_object_property) t e f = value_or strict (one an_object_property) t (property_or_refused strict (shape_of t)) f
 value_fits strict (one_or_absent an_argument) t e f = value_or strict (one_or_absent an_argument) t (element_or_refused strict (shape_of t)) f

@@ -1,11 +1,12 @@
 -- What a row of booleans writes means the same.
 use Rattle.std.proofs.Common.{◌≡◌, ℕ, Bool, true, false, List, [], refl, sym, ap, ◌∙◌, subst, inl, inr, true≢false}
-use Rattle.std.specs.Prelude.{◌||◌, nat_lt, if◌then◌else◌}
+use Rattle.std.specs.Prelude.{not, ◌||◌, nat_lt, if◌then◌else◌}
+use Rattle.std.proofs.lemmas.Bool.{and_parts}
 use Rattle.mini_model.specs.declared.name.Name.{Name}
 use Rattle.mini_model.specs.declared.operator.BinaryOperator.{BinaryOperator}
 use Rattle.mini_model.specs.declared.operator.LogicalOperator.{LogicalOperator}
 use Rattle.mini_model.specs.declared.operator.LogicalOperator.TheVariants.{Or, And}
-use Rattle.mini_model.specs.declared.operator.UnaryOperator.TheVariants.{LogicalNot}
+use Rattle.mini_model.specs.declared.operator.UnaryOperator.TheVariants.{LogicalNot, UnaryPlus}
 use Rattle.mini_model.specs.declared.place.Position.{Position}
 use Rattle.mini_model.specs.declared.place.Position.TheVariants.{Expr}
 use Rattle.mini_model.specs.declared.seat.Seat.{Seat}
@@ -28,11 +29,14 @@ use Rattle.mini_laws.proofs.Congruent.{transitive}
 use Rattle.mini_laws.proofs.Rewritten.{any_step_same}
 use Rattle.mini_laws.proofs.Rows.{by_equality, equal_same, not_equal}
 use Rattle.mini_terms.specs.Kind.{kind}
+use Rattle.mini_terms.specs.Folds.{is_effect_free}
+use Rattle.mini_terms.specs.Reading.{stands, is_plain_part}
 use Rattle.mini_terms.proofs.Reading.{same_by_value}
 use Rattle.mini_rows.specs.Spellings.{negated_digit}
-use Rattle.mini_rows.specs.Booleans.{digit, is_boolean_kind, chosen, giving, is_turned, tested, joined, Row24, Row25, KnownBranch, Row26, Row47, BooleanRow, BooleanContracts}
+use Rattle.mini_rows.specs.Booleans.{digit, is_boolean_kind, chosen, giving, is_turned, tested, joined, Row24, Row25, KnownBranch, Row26, Row47, is_truth, truth_of, Row47Both, plus, plus_seat, as_boolean, Row48, BooleanRow, BooleanContracts}
 use Rattle.mini_rows.proofs.BooleanRuns.{known_test, known_value, boolean_test, any_test, test_of, joined_near, right_known}
-use Rattle.mini_rows.proofs.FoldMeaning.{logical_read}
+use Rattle.mini_rows.proofs.ConversionRuns.{both_near, digits_of_truth}
+use Rattle.mini_rows.proofs.FoldMeaning.{plain_read, logical_read}
 
 -- ---- seats
 
@@ -59,14 +63,14 @@ unwrapped_read : (b : Bool) (a : Tree) (xs : List Name) (n : ℕ) → summary a 
 unwrapped_read true a xs n = refl
 unwrapped_read false a xs n = refl
 
-neg_read : (s : Seat) (a : Tree) → summary (negation a) ≡ summary (neg s a)
+pub neg_read : (s : Seat) (a : Tree) → summary (negation a) ≡ summary (neg s a)
 neg_read s (node (shape.LogicalExpression And) xs n ts) = refl
 neg_read s (node (shape.LogicalExpression Or) xs n ts) = refl
 neg_read s (node (shape.UnaryExpression LogicalNot) xs n (a ▸ none)) = unwrapped_read (s.boolean || is_boolean a) a xs n
 neg_read s (node (shape.BinaryExpression o) xs n ts) = equality_read (is_equality o) o xs n ts
 neg_read s (node h xs n ts) = refl
 
-not_read : (s : Seat) (a : Tree) → summary (negation a) ≡ summary (not_of s a)
+pub not_read : (s : Seat) (a : Tree) → summary (negation a) ≡ summary (not_of s a)
 not_read s a = go (nat_lt (weight (Expr s) (negation a)) (weight (Expr s) (neg s a)))
   where
     go : (b : Bool) → summary (negation a) ≡ summary (if b then negation a else neg s a)
@@ -155,13 +159,55 @@ boolean_same s n w r =
           (giving c) (test_of (is_turned i c) f.test) f.other refl q;
     })
 
+-- ---- where both branches are known
+
+both_known_same : (p : Position) (n w : Tree) → Row47Both n w → SameAt p n w
+both_known_same p n w r =
+    let (free_consequent, free_alternate) = and_parts (is_effect_free r.consequent) (is_effect_free r.alternate) r.effect_free in
+    let (boolean_consequent, boolean_alternate) = and_parts (is_boolean_kind (kind r.consequent)) (is_boolean_kind (kind r.alternate)) r.boolean in
+    subst (λ t. SameAt p t w) (sym r.shape) (subst (SameAt p (conditional r.test r.consequent r.alternate)) (sym r.written)
+    (record {
+      by = λ e D X q f. same_by_value e D X (conditional r.test r.consequent r.alternate) (truth_of r.truth r.test) refl (truth_stands r.truth r.test)
+          (record { by = λ u z j. both_near D e r.truth r.test r.consequent r.alternate (known_value D e r.consequent r.truth r.known free_consequent boolean_consequent) (known_value D e r.alternate (not r.truth) r.otherwise free_alternate boolean_alternate) z }) q;
+    }))
+  where
+    truth_stands : (c : Bool) (a : Tree) → stands (truth_of c a) ≡ true
+    truth_stands true a = go (is_truth a) refl
+      where
+        go : (b : Bool) → is_truth a ≡ b → stands (if b then a else negation (negation a)) ≡ true
+        go true h = (and_parts (is_boolean_kind (kind a)) (stands a) h).1
+        go false h = refl
+    truth_stands false a = refl
+
+-- the lighter negation for a `!`, as the operand of a `+`
+plus_step : (s : Seat) (a : Tree) → Step Negated (Expr s) (plus (negation a)) (plus (not_of plus_seat a))
+plus_step s a =
+    inside (Expr s) (shape.UnaryExpression UnaryPlus) [] 0 (negation a ▸ none) (not_of plus_seat a ▸ none)
+    (first (child_position (shape.UnaryExpression UnaryPlus) (Expr s) 1) (negation a) (not_of plus_seat a) none (here (Expr plus_seat) (negation a) (not_of plus_seat a) (a, (refl, refl))))
+
+-- what has the same value as the conditional of digits
+digits_same : (p : Position) (c : Bool) (a x : Tree) → ((e : Environment) (z : State) → means e (conditional a (digit c) (digit (not c))) (As Val) tt z ≡ means e (plus x) (As Val) tt z) → SameAt p (conditional a (digit c) (digit (not c))) (plus x)
+digits_same p c a x h = record { by = λ e D X q f. same_by_value e D X (conditional a (digit c) (digit (not c))) (plus x) refl refl (by_equality e D X (As Val) (conditional a (digit c) (digit (not c))) (plus x) (λ r z. h e z)) q }
+
+converted_same : (s : Seat) (c : Bool) (a : Tree) → SameAt (Expr s) (conditional a (digit c) (digit (not c))) (plus (as_boolean c a))
+converted_same s true a = digits_same (Expr s) true a (truth_of true a) (λ e z. digits_of_truth e true a z)
+converted_same s false a =
+    then_same (Expr s) (conditional a (digit false) (digit true)) (plus (negation a)) (plus (not_of plus_seat a))
+    (digits_same (Expr s) false a (negation a) (λ e z. digits_of_truth e false a z))
+    (any_step_same Negated negated_means (Expr s) (plus (negation a)) (plus (not_of plus_seat a)) (plus_step s a))
+
+number_same : (s : Seat) (n w : Tree) → Row48 n w → SameAt (Expr s) n w
+number_same s n w r = subst (λ t. SameAt (Expr s) t w) (sym r.shape) (subst (SameAt (Expr s) (conditional r.test (digit r.truth) (digit (not r.truth)))) (sym r.written) (converted_same s r.truth r.test))
+
 -- ---- all
 
 row_same : (p : Position) (n w : Tree) → BooleanRow p n w → SameAt p n w
 row_same (Expr s) n w (inl (inl r)) = digit_same s n w r
 row_same (Expr s) n w (inl (inr r)) = right_same s n w r
-row_same (Expr s) n w (inr (inl r)) = branch_same s n w r
-row_same (Expr s) n w (inr (inr r)) = boolean_same s n w r
+row_same (Expr s) n w (inr (inl (inl r))) = branch_same s n w r
+row_same (Expr s) n w (inr (inl (inr r))) = boolean_same s n w r
+row_same (Expr s) n w (inr (inr (inl r))) = both_known_same (Expr s) n w r
+row_same (Expr s) n w (inr (inr (inr r))) = number_same s n w r
 row_same p n w r = absurd r
 
 digit_read : (c : Bool) → summary (negated_digit c) ≡ summary (digit c)
@@ -175,11 +221,21 @@ joined_read s false c a k b = refl
 form_read : (s : Seat) (n w : Tree) → KnownBranch s n w → summary n ≡ summary w
 form_read s n w f = ap summary f.shape ∙ joined_read s f.is_consequent f.truth f.test f.branch f.other ∙ sym (ap summary f.written)
 
+truth_read : (c : Bool) (a : Tree) → is_plain_part a ≡ true → summary (conditional a a a) ≡ summary (truth_of c a)
+truth_read true a h = go (is_truth a)
+  where
+    go : (b : Bool) → summary (conditional a a a) ≡ summary (if b then a else negation (negation a))
+    go true = sym (plain_read a h)
+    go false = sym (plain_read a h)
+truth_read false a h = sym (plain_read a h)
+
 row_read : (p : Position) (n w : Tree) → BooleanRow p n w → summary n ≡ summary w
 row_read (Expr s) n w (inl (inl r)) = ap summary r.shape ∙ digit_read r.truth ∙ sym (ap summary r.written)
 row_read (Expr s) n w (inl (inr r)) = ap summary r.shape ∙ logical_read r.operator r.left r.right r.left r.plain ∙ sym (ap summary r.written)
-row_read (Expr s) n w (inr (inl r)) = form_read s n w r.form
-row_read (Expr s) n w (inr (inr r)) = form_read s n w r.form
+row_read (Expr s) n w (inr (inl (inl r))) = form_read s n w r.form
+row_read (Expr s) n w (inr (inl (inr r))) = form_read s n w r.form
+row_read (Expr s) n w (inr (inr (inl r))) = ap summary r.shape ∙ truth_read r.truth r.test r.plain ∙ sym (ap summary r.written)
+row_read (Expr s) n w (inr (inr (inr r))) = ap summary r.shape ∙ sym (ap summary r.written)
 row_read p n w r = absurd r
 
 pub booleans_same : MeansSame BooleanContracts

@@ -81,14 +81,14 @@ module _ (D : VariableSet) where
   near_quiet s c (halt y t) q g = absurd q
   near_quiet s c out q g = weak D (ok c s)
 
-  near_after : {A : Type 0} (P : Value → Type 0) (x : Completion Value) (f g : Value → State → Completion A) → Gives P x → ((v : Value) → P v → (z : State) → Near (f v z) (g v z)) → Near (after x f) (after x g)
+  pub near_after : {A : Type 0} (P : Value → Type 0) (x : Completion Value) (f g : Value → State → Completion A) → Gives P x → ((v : Value) → P v → (z : State) → Near (f v z) (g v z)) → Near (after x f) (after x g)
   unfolding Gives either
   near_after P (ok v s) f g p h = h v p s
   near_after P (stop y s) f g p h = goes_refl D (stop y s)
   near_after P (halt y s) f g p h = goes_refl D (halt y s)
   near_after P out f g p h = goes_refl D out
 
-  along : {A : Type 0} {x y p q : Completion A} → x ≡ p → y ≡ q → Near p q → Near x y
+  pub along : {A : Type 0} {x y p q : Completion A} → x ≡ p → y ≡ q → Near p q → Near x y
   along {A} {x} {y} {p} {q} e f n = subst (λ z. Near z y) (sym e) (subst (λ z. Near p z) (sym f) n)
 
   picked : {A : Type 0} (t : Bool) (x y p q : Completion A) → (t ≡ true → Near x p) → (t ≡ false → Near y q) → Near (choose t x y) (choose t p q)

@@ -2,6 +2,7 @@
 use Rattle.std.proofs.Common.{◌≡◌, ℕ, ◌+◌, ◌<◌, ◌≤◌, Bool, true, false, List, length, refl, sym, ap, ◌∙◌, inl, inr, true≢false, arith}
 use Rattle.std.specs.Prelude.{◌&&◌, ◌||◌, nat_lt, pos, if◌then◌else◌}
 use Rattle.std.specs.Fmt.{signed_decimal}
+use Rattle.std.proofs.lemmas.Bool.{and_parts}
 use Rattle.std.proofs.lemmas.Fmt.{decimal_digit}
 use borrow.Author.Tests.{ltb-true, ltb-false}
 use Rattle.mini_model.specs.declared.operator.LogicalOperator.{LogicalOperator}
@@ -12,15 +13,16 @@ use Rattle.mini_model.specs.declared.place.Position.TheVariants.{Expr}
 use Rattle.mini_model.specs.declared.seat.Seat.{Seat}
 use Rattle.mini_model.specs.declared.shape.Shape.{Shape}
 use Rattle.mini_model.specs.declared.shape.Shape.TheVariants as shape
-use Rattle.mini_model.specs.Tree.{Tree, node, none, logical}
+use Rattle.mini_model.specs.Tree.{Tree, node, none, negation, logical}
 use Rattle.mini_model.specs.Position.{left_operand_seat, right_operand_seat}
-use Rattle.mini_model.specs.Weight.{Outline, outline, outlines, weight, place_weight, is_parenthesized, is_awkward}
+use Rattle.mini_model.specs.Weight.{Outline, plain_outline, outline, outlines, weight, place_weight, is_parenthesized, is_awkward}
 use Rattle.mini_laws.specs.Weights.{Lightens, asks_truth, counts_items}
 use Rattle.mini_laws.proofs.Seats.{is_inner, placed_node}
+use Rattle.mini_terms.specs.Kind.{kind}
 use Rattle.mini_terms.specs.Parts.{weighs}
 use Rattle.mini_terms.specs.Reading.{is_plain_part_by, first_of, is_plain_part, are_plain_parts}
 use Rattle.mini_rows.specs.Spellings.{negated_digit}
-use Rattle.mini_rows.specs.Booleans.{digit, chosen, joined, KnownBranch, BooleanRow, BooleanContracts, BooleansLighter}
+use Rattle.mini_rows.specs.Booleans.{digit, chosen, joined, KnownBranch, is_boolean_kind, is_truth, truth_of, ConvertedRow, BooleanRow, BooleanContracts, BooleansLighter}
 use Rattle.mini_rows.proofs.FoldWeights.{two}
 use Rattle.mini_rows.proofs.SpellWeights.{falls_by}
 
@@ -49,7 +51,7 @@ one_at_most false = omega arith
 digit_marks : (s : Seat) (k : ℕ) (os ps : List Outline) → place_weight (Expr s) (shape.NumericLiteral (pos k)) os ≤ place_weight (Expr s) (shape.UnaryExpression LogicalNot) ps + 1
 digit_marks s k os ps = let mark = one_at_most (is_awkward s (shape.NumericLiteral (pos k)) os) in omega (arith, mark, pairs s)
 
-digit_falls : (s : Seat) (b : Bool) → weight (Expr s) (digit b) < weight (Expr s) (negated_digit b)
+pub digit_falls : (s : Seat) (b : Bool) → weight (Expr s) (digit b) < weight (Expr s) (negated_digit b)
 digit_falls s true =
     let zero : length (signed_decimal (pos 0)) ≡ 1 = ap length (decimal_digit 0 (omega arith)) in
     let one : length (signed_decimal (pos 1)) ≡ 1 = ap length (decimal_digit 1 (omega arith)) in
@@ -92,11 +94,32 @@ joined_outline s false c a k b = refl
 form_outline : (s : Seat) (n w : Tree) → KnownBranch s n w → outline n ≡ outline w
 form_outline s n w f = ap outline f.shape ∙ joined_outline s f.is_consequent f.truth f.test f.branch f.other ∙ sym (ap outline f.written)
 
+-- of what always gives a boolean it reads nothing
+truth_plain : (a : Tree) → is_truth a ≡ true → outline a ≡ plain_outline
+truth_plain (node (shape.NumericLiteral m) xs n ts) e = absurd (true≢false (sym e))
+truth_plain (node shape.Absent xs n ts) e = absurd (true≢false (sym (and_parts (is_boolean_kind (kind (node shape.Absent xs n ts))) false e).1))
+truth_plain (node shape.Listed xs n ts) e = absurd (true≢false (sym (and_parts (is_boolean_kind (kind (node shape.Listed xs n ts))) false e).1))
+truth_plain (node shape.IfStatement xs n ts) e = absurd (true≢false (sym (and_parts (is_boolean_kind (kind (node shape.IfStatement xs n ts))) false e).1))
+truth_plain (node h xs n ts) e = refl
+
+truth_outline : (c : Bool) (a : Tree) → outline (truth_of c a) ≡ plain_outline
+truth_outline true a = go (is_truth a) refl
+  where
+    go : (b : Bool) → is_truth a ≡ b → outline (if b then a else negation (negation a)) ≡ plain_outline
+    go true h = truth_plain a h
+    go false h = refl
+truth_outline false a = refl
+
+converted_outline : (n w : Tree) → ConvertedRow n w → outline n ≡ outline w
+converted_outline n w (inl r) = ap outline r.shape ∙ sym (ap outline r.written ∙ truth_outline r.truth r.test)
+converted_outline n w (inr r) = ap outline r.shape ∙ sym (ap outline r.written)
+
 same_outline : (p : Position) (n w : Tree) → BooleanRow p n w → asks_truth p ≡ false → outline n ≡ outline w
 same_outline (Expr s) n w (inl (inl r)) a = absurd (true≢false (sym r.asked ∙ a))
 same_outline (Expr s) n w (inl (inr r)) a = absurd (true≢false (sym r.asked ∙ a))
-same_outline (Expr s) n w (inr (inl r)) a = form_outline s n w r.form
-same_outline (Expr s) n w (inr (inr r)) a = form_outline s n w r.form
+same_outline (Expr s) n w (inr (inl (inl r))) a = form_outline s n w r.form
+same_outline (Expr s) n w (inr (inl (inr r))) a = form_outline s n w r.form
+same_outline (Expr s) n w (inr (inr r)) a = converted_outline n w r
 same_outline p n w r a = absurd r
 
 no_items : (p : Position) (n w : Tree) → BooleanRow p n w → counts_items p ≡ true → (outline n).items ≡ (outline w).items

@@ -1,5 +1,5 @@
 -- What the rows write is lawful.
-use Rattle.std.specs.Prelude.{ℕ, ◌≡◌, refl, ◌&&◌, Bool, true, false, List, None, if◌then◌else◌}
+use Rattle.std.specs.Prelude.{ℕ, ◌≡◌, ◌⊎◌, refl, ◌&&◌, Bool, true, false, List, [], None, if◌then◌else◌}
 use Rattle.std.proofs.Common.{◌∙◌, sym, subst, inl, inr}
 use Rattle.std.proofs.lemmas.Bool.{and_parts}
 use Rattle.mini_model.specs.declared.name.Name.{Name}
@@ -22,15 +22,19 @@ use Rattle.mini_kept.proofs.Bools.{left, both}
 use Rattle.mini_kept.proofs.Expressions.{expression, refused_here, not_of_fits, two_fit}
 use Rattle.mini_kept.proofs.Quiet.{expression_is_quiet}
 use Rattle.mini_kept.proofs.Rows.{statement, last_statement, TakesStatementIn, TakesStatement, IfFits, of_if, of_last_statement}
-use Rattle.mini_rows.specs.Arranged.{KeptAt}
+use Rattle.mini_terms.specs.Parts.{leaves_nothing}
+use Rattle.mini_rows.specs.Arranged.{KeptAt, Vanishes}
 use Rattle.mini_rows.specs.Lists.{block, return_statement, is_unscoped}
+use Rattle.mini_rows.specs.Sketches.{AbsentPart, Return, part, under, end, ◌▹◌}
 use Rattle.mini_rows.specs.Spellings.{IsUndefined}
-use Rattle.mini_rows.specs.Branches.{IsEmpty, has_else, is_other_branch, as_consequent, Surrounding, Consequent, Alternate, WhileBody, DoBody, ForBody, InBody, OfBody, around, conjunct_seat, Row82Empty, Row83, BranchRow, BranchContracts}
+use Rattle.mini_rows.specs.Branches.{IsEmpty, IsIdleVoid, Row60, Row79, IfRow, has_else, is_other_branch, as_consequent, Surrounding, Consequent, Alternate, WhileBody, DoBody, ForBody, InBody, OfBody, around, conjunct_seat, Row82Empty, Row83, BranchRow, BranchContracts}
 use Rattle.mini_rows.proofs.ArrangedLawful.{kept_is_lawful}
+use Rattle.mini_rows.proofs.ArrangedStatements.{statements_arranged}
 use Rattle.mini_rows.proofs.BranchInside.{Inside, unwrapped_inside, wrapped_inside}
 use Rattle.mini_rows.proofs.BranchAround.{is_plain, Core, Said, core_kept, around_core, around_said, around_plain}
-use Rattle.mini_rows.proofs.BranchParts.{Value, core_then, said_then, value_itself, said_itself, value_not, said_not, empty_is_idle, turned_core, turned_said, chosen_core, chosen_said, tested_core, tested_said, nested_core, nested_said, returned_core, returned_said}
+use Rattle.mini_rows.proofs.BranchParts.{Value, core_then, said_then, value_itself, said_itself, value_not, said_not, empty_is_idle, turned_core, turned_said, chosen_core, chosen_said, tested_core, tested_said, nested_core, nested_said}
 use Rattle.mini_rows.proofs.BranchSame.{branches_same}
+use Rattle.mini_rows.proofs.FoldLawful.{vanishes, first_dropped}
 
 else_unscoped : (c : Tree) → has_else c ≡ true → is_unscoped c ≡ true
 else_unscoped (node shape.IfStatement xs n ts) h = refl
@@ -296,6 +300,12 @@ around_read (OfBody a b) x = refl
 
 -- ---- each row: what it writes fits as a statement, and what is kept
 
+record Stood (n w : Tree) : Type 0 where
+  read : is_read (shape_of n) ≡ true
+  before : is_plain (shape_of n) ≡ true
+  after : is_plain (shape_of w) ≡ true
+  fitting : (strict : Bool) → fits strict statement n ≡ true → fits strict statement w ≡ true
+
 pub record Kind (n w : Tree) : Type 0 where
   pub read : is_read (shape_of n) ≡ true
   pub before : is_plain (shape_of n) ≡ true
@@ -310,8 +320,17 @@ kind_along n n' w w' e f k = subst (λ x. Kind x w) (sym e) (subst (λ y. Kind n
 around_kind : (k : Surrounding) (x y : Tree) → Inside x y → ((strict : Bool) → fits strict statement x ≡ true → fits strict statement y ≡ true) → ((strict : Bool) → fits strict last_statement x ≡ true → fits strict last_statement y ≡ true) → Kind (around k x) (around k y)
 around_kind k x y i f g = record { read = around_read k x; before = around_plain k x; after = around_plain k y; fitting = λ strict. around_fits strict x y (f strict) (g strict) k; core = λ strict e. around_core x y i k; said = around_said x y i k }
 
-row_60 : (v : Tree) → IsUndefined v → Kind (return_statement v) (return_statement absent)
-row_60 v u = record { read = refl; before = refl; after = refl; fitting = λ strict e. refl; core = λ strict e. returned_core v u; said = returned_said v u }
+returned : (v : Tree) → Stood (return_statement v) (return_statement absent)
+returned v = record { read = refl; before = refl; after = refl; fitting = λ strict e. refl }
+
+-- what goes leaves nothing behind
+undefined_vanishes : (v : Tree) → IsUndefined v ⊎ IsIdleVoid v → Vanishes v
+undefined_vanishes v (inl (inl e)) = subst Vanishes (sym e) (vanishes _ refl)
+undefined_vanishes v (inl (inr e)) = subst Vanishes (sym e) (vanishes _ refl)
+undefined_vanishes v (inr i) = subst Vanishes (sym i.is) (vanishes _ (both (leaves_nothing i.operand) true i.dropped refl))
+
+return_kept : (q : StmtSeat) (n w : Tree) → Row60 n w → KeptAt (Stmt q) n w
+return_kept q n w r = statements_arranged first_dropped (record { trees = r.argument ▸ none; lists = [] }) (tt, tt, (undefined_vanishes r.argument r.undefined, tt)) (under Return (part 0 ▹ end)) (under Return (under AbsentPart end ▹ end)) refl q n w r.shape r.written
 
 row_79 : (k : Surrounding) (c : Tree) → is_unscoped c ≡ true → Kind (around k (block (c ▸ none))) (around k c)
 row_79 k c h = around_kind k (block (c ▸ none)) c (unwrapped_inside c h) (λ strict. block_fit strict c) (λ strict e. last_fit strict c (unscoped_there c h) (block_fit strict c e))
@@ -403,7 +422,7 @@ row_83_nested a b s = record {
   after = refl;
   fitting = λ strict e.
       let (test, inner, last) = parts strict a (if_alone b s) absent e in
-      let (second, branch, end) = parts strict b s absent inner in
+      let (second, branch, none_there) = parts strict b s absent inner in
       both (fits strict expression (logical And a b)) (fits strict statement s && true) (two_fit strict a b test second) (both (fits strict statement s) true branch refl);
   core = λ strict e.
       let (test, inner, last) = parts strict a (if_alone b s) absent e in
@@ -421,16 +440,16 @@ row_82 : (n w : Tree) → Row82Empty n w → Kind n w
 row_82 n w (inl r) = kind_along n _ w _ r.shape r.written (row_82_or r.a r.empty r.b r.is_empty)
 row_82 n w (inr r) = kind_along n _ w _ r.shape r.written (row_82_and r.a r.empty r.b r.is_empty)
 
-row_kind : (q : StmtSeat) (n w : Tree) → BranchRow (Stmt q) n w → Kind n w
-row_kind q n w (inl r) = kind_along n _ w _ r.shape r.written (row_60 r.argument r.undefined)
-row_kind q n w (inr (inl r)) = kind_along n _ w _ r.shape r.written (row_79 r.place r.statement r.unscoped)
-row_kind q n w (inr (inr (inl r))) = row_82 n w r
-row_kind q n w (inr (inr (inr r))) = row_83 n w r
+row_kind : (n w : Tree) → Row79 n w ⊎ IfRow n w → Kind n w
+row_kind n w (inl r) = kind_along n _ w _ r.shape r.written (row_79 r.place r.statement r.unscoped)
+row_kind n w (inr (inl r)) = row_82 n w r
+row_kind n w (inr (inr r)) = row_83 n w r
 
 -- ---- all
 
-statement_row : (p : Position) (n w : Tree) → BranchRow p n w → Kind n w
-statement_row (Stmt q) n w r = row_kind q n w r
+statement_row : (p : Position) (n w : Tree) → BranchRow p n w → Stood n w
+statement_row (Stmt q) n w (inl r) = subst (λ x. Stood x w) (sym r.shape) (subst (λ y. Stood (return_statement r.argument) y) (sym r.written) (returned r.argument))
+statement_row (Stmt q) n w (inr r) = let k = row_kind n w r in record { read = k.read; before = k.before; after = k.after; fitting = k.fitting }
 statement_row p n w r = absurd r
 
 row_place : (p : Position) (n w : Tree) → BranchRow p n w → is_rewritten_place p ≡ true
@@ -438,8 +457,9 @@ row_place (Stmt q) n w r = refl
 row_place p n w r = absurd r
 
 row_kept : (p : Position) (n w : Tree) → BranchRow p n w → KeptAt p n w
-row_kept (Stmt q) n w r =
-    let k = row_kind q n w r in
+row_kept (Stmt q) n w (inl r) = return_kept q n w r
+row_kept (Stmt q) n w (inr r) =
+    let k = row_kind n w r in
     core_kept q n w k.before k.after (λ strict s e. k.core strict (sym (alike strict s n k.before (taken strict s n k.read e)) ∙ e)) k.said
 row_kept p n w r = absurd r
 

@@ -1,5 +1,5 @@
 -- What the rows of `if` write keeps what it has to keep of its parts.
-use Rattle.std.specs.Prelude.{ℕ, suc, ◌≤◌, ◌≡◌, refl, ◌||◌, nat_lt, Bool, true, false, List, [], ◌∷◌, ◌++◌, Contains, Option, None, codes, if◌then◌else◌}
+use Rattle.std.specs.Prelude.{ℕ, suc, ◌≤◌, ◌≡◌, refl, ◌||◌, nat_lt, Bool, true, false, List, [], ◌∷◌, ◌++◌, Contains, Option, None, if◌then◌else◌}
 use Rattle.std.proofs.Common.{ap, ◌∙◌, sym, subst, arith, inl, inr, append_assoc}
 use Rattle.std.proofs.lemmas.List.{append-nil}
 use Rattle.mini_model.specs.declared.name.SymbolId.{SymbolId}
@@ -11,7 +11,7 @@ use Rattle.mini_model.specs.declared.operator.UnaryOperator.TheVariants.{Logical
 use Rattle.mini_model.specs.declared.place.Position.TheVariants.{Expr}
 use Rattle.mini_model.specs.declared.seat.Seat.{Seat}
 use Rattle.mini_model.specs.declared.shape.Shape.TheVariants as shape
-use Rattle.mini_model.specs.Tree.{Tree, Trees, node, none, ◌▸◌, absent, expression_statement, if_else, negation, logical, unresolved, identifier}
+use Rattle.mini_model.specs.Tree.{Tree, Trees, node, none, ◌▸◌, absent, expression_statement, if_else, negation, logical}
 use Rattle.mini_model.specs.Weight.{weight}
 use Rattle.mini_model.specs.Position.{is_equality}
 use Rattle.mini_model.specs.Terms.{is_boolean, turned_seat, unwrapped, turned_equality, neg, neg_each, not_of}
@@ -49,8 +49,6 @@ use Rattle.mini_kept.proofs.FrameRows.{not_of_frames}
 use Rattle.mini_kept.proofs.Negating.{inner_not, symbols_not, scoped_not, numbers_not, once_not, targets_not}
 use Rattle.mini_kept.proofs.Quiet.{IsQuiet, expression_is_quiet, no_names}
 use Rattle.mini_kept.proofs.Expressions.{not_of_fits}
-use Rattle.mini_rows.specs.Lists.{return_statement}
-use Rattle.mini_rows.specs.Spellings.{void_zero, IsUndefined}
 use Rattle.mini_rows.specs.Branches.{IsEmpty}
 use Rattle.mini_rows.proofs.BranchInside.{quiet}
 use Rattle.mini_rows.proofs.BranchAround.{Core, Said, Among, first_among, later_among, second_among}
@@ -482,27 +480,3 @@ module _ (a b s : Tree) where
 
   pub nested_said : Said (if_else a (if_else b s absent) absent) (if_else (logical And a b) s absent)
   nested_said = record { fixed = nested_fixed; declared = nested_declared }
-
--- ---- `return undefined;` to `return;`
-
-returned : (v : Tree) → IsUndefined v → Core (return_statement v) (return_statement absent)
-unfolding names_of body_names has_inner declared_in scopes_by Scoped numbers early_names scope_declarations early_jumps targets_of
-returned v (inl e) = subst (λ t. Core (return_statement t) (return_statement absent)) (sym e) (record { kept = record { names = λ d. go d; body = refl; inner = refl; symbols = λ u x. omega arith }; scoped = λ w env r. (tt, ((tt, tt), tt)); numbers = λ k. omega arith; once = λ q f. refl; targets = λ g q f. f; loop = refl; bodies = λ r. tt; frames = λ f c. c })
-  where
-    go : (d : Declared) → names_of d (return_statement absent) ≡ names_of d (return_statement (identifier (unresolved (codes "undefined"))))
-    go declared.Bound = refl
-    go declared.Lexical = refl
-    go declared.Hoisted = refl
-returned v (inr e) = subst (λ t. Core (return_statement t) (return_statement absent)) (sym e) (record { kept = record { names = λ d. go d; body = refl; inner = refl; symbols = λ u x. omega arith }; scoped = λ w env r. (tt, ((tt, tt), tt)); numbers = λ k. omega arith; once = λ q f. refl; targets = λ g q f. f; loop = refl; bodies = λ r. tt; frames = λ f c. c })
-  where
-    go : (d : Declared) → names_of d (return_statement absent) ≡ names_of d (return_statement void_zero)
-    go declared.Bound = refl
-    go declared.Lexical = refl
-    go declared.Hoisted = refl
-
-pub returned_core : (v : Tree) → IsUndefined v → Core (return_statement v) (return_statement absent)
-returned_core v u = returned v u
-
-pub returned_said : (v : Tree) → IsUndefined v → Said (return_statement v) (return_statement absent)
-returned_said v (inl e) = subst (λ t. Said (return_statement t) (return_statement absent)) (sym e) (record { fixed = λ z. refl; declared = λ z c. c })
-returned_said v (inr e) = subst (λ t. Said (return_statement t) (return_statement absent)) (sym e) (record { fixed = λ z. refl; declared = λ z c. c })

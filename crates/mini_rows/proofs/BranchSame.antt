@@ -1,15 +1,72 @@
 -- What each row writes means the same.
-use Rattle.std.proofs.Common.{◌≡◌, inl, inr}
+use Rattle.std.specs.Prelude.{◌⊎◌, true}
+use Rattle.std.proofs.Common.{◌≡◌, [], refl, sym, ap, subst, ◌∙◌, inl, inr}
+use Rattle.mini_model.specs.declared.operator.UnaryOperator.TheVariants.{Void}
 use Rattle.mini_model.specs.declared.place.Position.{Position}
-use Rattle.mini_model.specs.declared.place.Position.TheVariants.{Stmt}
-use Rattle.mini_model.specs.Tree.{Tree}
-use Rattle.mini_model.specs.Position.{if_test_seat}
+use Rattle.mini_model.specs.declared.place.Position.TheVariants.{Expr, Stmt}
+use Rattle.mini_model.specs.declared.seat.Seat.{Seat}
+use Rattle.mini_model.specs.declared.seat.StmtSeat.{StmtSeat}
+use Rattle.mini_model.specs.declared.shape.Shape.TheVariants as shape
+use Rattle.mini_model.specs.Tree.{Tree, none, ◌▸◌, absent, unary}
+use Rattle.mini_model.specs.Position.{whole_seat, if_test_seat, child_position}
+use Rattle.mini_model.specs.Rewriting.{Step, here, inside, first}
+use Rattle.mini_laws.specs.Value.{Undefined}
 use Rattle.mini_laws.specs.Naming.{summary}
 use Rattle.mini_laws.specs.Rows.{SameAt}
 use Rattle.mini_laws.specs.Rewritten.{MeansSame}
-use Rattle.mini_rows.specs.Branches.{conjunct_seat, Row82Empty, Row83, IfRow, BranchRow, BranchContracts}
+use Rattle.mini_laws.proofs.Rewritten.{any_step_same}
+use Rattle.mini_terms.specs.Folds.{is_effect_free}
+use Rattle.mini_terms.specs.Reading.{is_read_by_value}
+use Rattle.mini_terms.proofs.Dropping.{known_same}
+use Rattle.mini_terms.proofs.Reading.{same_in_seat}
+use Rattle.mini_rows.specs.Lists.{return_statement}
+use Rattle.mini_rows.specs.Spellings.{void_zero, IsUndefined}
+use Rattle.mini_rows.specs.Branches.{conjunct_seat, IsIdleVoid, Row60, Row82Empty, Row83, IfRow, BranchRow, BranchContracts}
 use Rattle.mini_rows.proofs.BranchMeaning.{SameStatement, statement_same, replaced, row_60, row_82_empty_or, row_82_empty_and, row_83_alone, row_83_else, row_83_nested, row_83_block}
 use Rattle.mini_rows.proofs.BranchLoops.{row_79}
+use Rattle.mini_rows.proofs.BooleanMeaning.{then_same}
+
+-- 60: `void a` means `void 0` where a has no effect
+
+record Voided (s : Seat) (n w : Tree) : Type 0 where
+  operand : Tree
+  effect_free : is_effect_free operand ≡ true
+  read : is_read_by_value s void_zero ≡ true
+  shape : n ≡ unary Void operand
+  written : w ≡ void_zero
+
+abbrev VoidedAt : Position → Tree → Tree → Type 0
+VoidedAt (Expr s) n w = Voided s n w
+VoidedAt p n w = ⊥
+
+voided_at : (p : Position) (n w : Tree) → VoidedAt p n w → SameAt p n w
+voided_at (Expr s) n w r =
+    subst (λ t. SameAt (Expr s) t w) (sym r.shape) (subst (SameAt (Expr s) (unary Void r.operand)) (sym r.written)
+    (same_in_seat s (unary Void r.operand) void_zero refl r.read (known_same (unary Void r.operand) void_zero Undefined refl r.effect_free refl)))
+voided_at p n w r = absurd r
+
+voided_read : (p : Position) (n w : Tree) → VoidedAt p n w → summary n ≡ summary w
+voided_read (Expr s) n w r = ap summary r.shape ∙ sym (ap summary r.written)
+voided_read p n w r = absurd r
+
+voided_same : MeansSame VoidedAt
+voided_same = record { same = voided_at; reads = voided_read }
+
+idle_returned : (q : StmtSeat) (a : Tree) → is_effect_free a ≡ true → SameAt (Stmt q) (return_statement (unary Void a)) (return_statement absent)
+idle_returned q a h =
+    let voided : Voided whole_seat (unary Void a) void_zero = record { operand = a; effect_free = h; read = refl; shape = refl; written = refl } in
+    let step : Step VoidedAt (Stmt q) (return_statement (unary Void a)) (return_statement void_zero) =
+    inside (Stmt q) shape.ReturnStatement [] 0 (unary Void a ▸ none) (void_zero ▸ none) (first (λ i. child_position shape.ReturnStatement (Stmt q) 1 i) (unary Void a) void_zero none (here (Expr whole_seat) (unary Void a) void_zero voided)) in
+    then_same (Stmt q) (return_statement (unary Void a)) (return_statement void_zero) (return_statement absent) (any_step_same VoidedAt voided_same (Stmt q) _ _ step) (statement_same _ _ (row_60 void_zero (inr refl)) q)
+
+returned_same : (q : StmtSeat) (v : Tree) → IsUndefined v ⊎ IsIdleVoid v → SameAt (Stmt q) (return_statement v) (return_statement absent)
+returned_same q v (inl u) = statement_same _ _ (row_60 v u) q
+returned_same q v (inr i) = subst (λ t. SameAt (Stmt q) (return_statement t) (return_statement absent)) (sym i.is) (idle_returned q i.operand i.effect_free)
+
+return_same : (q : StmtSeat) (n w : Tree) → Row60 n w → SameAt (Stmt q) n w
+return_same q n w r = subst (λ t. SameAt (Stmt q) t w) (sym r.shape) (subst (SameAt (Stmt q) (return_statement r.argument)) (sym r.written) (returned_same q r.argument r.undefined))
+
+-- the others
 
 empty_same : (n w : Tree) → Row82Empty n w → SameStatement n w
 empty_same n w (inl r) = replaced n _ w _ r.shape r.written (row_82_empty_or r.a r.empty r.b r.is_empty)
@@ -26,13 +83,13 @@ if_same n w (inl r) = empty_same n w r
 if_same n w (inr r) = row_83 n w r
 
 row_same : (p : Position) (n w : Tree) → BranchRow p n w → SameAt p n w
-row_same (Stmt q) n w (inl r) = statement_same n w (replaced n _ w _ r.shape r.written (row_60 r.argument r.undefined)) q
+row_same (Stmt q) n w (inl r) = return_same q n w r
 row_same (Stmt q) n w (inr (inl r)) = statement_same n w (replaced n _ w _ r.shape r.written (row_79 r.place r.statement r.unscoped)) q
 row_same (Stmt q) n w (inr (inr r)) = statement_same n w (if_same n w r) q
 row_same p n w r = absurd r
 
 row_reads : (p : Position) (n w : Tree) → BranchRow p n w → summary n ≡ summary w
-row_reads (Stmt q) n w (inl r) = (replaced n _ w _ r.shape r.written (row_60 r.argument r.undefined)).read
+row_reads (Stmt q) n w (inl r) = ap summary r.shape ∙ sym (ap summary r.written)
 row_reads (Stmt q) n w (inr (inl r)) = (replaced n _ w _ r.shape r.written (row_79 r.place r.statement r.unscoped)).read
 row_reads (Stmt q) n w (inr (inr r)) = (if_same n w r).read
 row_reads p n w r = absurd r

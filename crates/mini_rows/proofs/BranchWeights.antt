@@ -3,13 +3,14 @@ use Rattle.std.proofs.Common.{◌≡◌, ℕ, ◌+◌, ◌<◌, ◌≤◌, Bool,
 use borrow.Author.Tests.{ltb-false}
 use Rattle.std.specs.Prelude.{◌⊎◌, ◌||◌, not, nat_lt, if◌then◌else◌}
 use Rattle.mini_model.specs.declared.operator.LogicalOperator.TheVariants.{Or, And}
+use Rattle.mini_model.specs.declared.operator.UnaryOperator.TheVariants.{Void}
 use Rattle.mini_model.specs.declared.place.Position.{Position}
 use Rattle.mini_model.specs.declared.place.Position.TheVariants.{Expr, Stmt}
 use Rattle.mini_model.specs.declared.seat.Seat.{Seat}
 use Rattle.mini_model.specs.declared.seat.StmtSeat.{StmtSeat}
 use Rattle.mini_model.specs.declared.seat.StmtSeat.TheVariants as stmt_seat
 use Rattle.mini_model.specs.declared.shape.Shape.TheVariants as shape
-use Rattle.mini_model.specs.Tree.{Tree, Trees, node, none, ◌▸◌, is_absent, absent, expression_statement, if_else, if_alone, negation, logical}
+use Rattle.mini_model.specs.Tree.{Tree, Trees, node, none, ◌▸◌, is_absent, absent, expression_statement, if_else, if_alone, negation, logical, unary}
 use Rattle.mini_model.specs.Position.{whole_seat, if_test_seat, statement_expression_seat, left_operand_seat, right_operand_seat, not_operand_seat}
 use Rattle.mini_model.specs.Weight.{outline, outlines, nth_is_absent, first_chooses, bare_weight, is_parenthesized, weight}
 use Rattle.mini_model.specs.Terms.{neg, not_of}
@@ -17,7 +18,7 @@ use Rattle.mini_laws.specs.Weights.{Lightens}
 use Rattle.mini_laws.proofs.Seats.{placed, moved}
 use Rattle.mini_rows.specs.Lists.{block, return_statement, is_unscoped}
 use Rattle.mini_rows.specs.Spellings.{IsUndefined}
-use Rattle.mini_rows.specs.Branches.{IsEmpty, has_else, is_other_branch, as_consequent, Surrounding, Consequent, Alternate, WhileBody, DoBody, ForBody, InBody, OfBody, around, keeps_block, conjunct_seat, Row82Empty, Row83, BranchRow, BranchContracts, BranchLighter}
+use Rattle.mini_rows.specs.Branches.{IsEmpty, IsIdleVoid, has_else, is_other_branch, as_consequent, Surrounding, Consequent, Alternate, WhileBody, DoBody, ForBody, InBody, OfBody, around, keeps_block, conjunct_seat, Row82Empty, Row83, BranchRow, BranchContracts, BranchLighter}
 
 -- this much, where it is not so
 abbrev unless : Bool → ℕ → ℕ
@@ -142,14 +143,12 @@ right_falls b = placed 4 (right_operand_seat And if_test_seat) if_test_seat refl
 
 -- ---- 60
 
-undefined_weighs : (v : Tree) → IsUndefined v → (q : StmtSeat) → weight (Stmt q) (return_statement v) ≡ weight (Stmt q) (return_statement absent) + weight (Expr whole_seat) v
-undefined_weighs v u q = omega arith
+undefined_heavy : (v : Tree) → IsUndefined v ⊎ IsIdleVoid v → 2 ≤ weight (Expr whole_seat) v
+undefined_heavy v (inl (inl e)) = let same = ap (weight (Expr whole_seat)) e in omega (arith, same)
+undefined_heavy v (inl (inr e)) = let same = ap (weight (Expr whole_seat)) e in omega (arith, same)
+undefined_heavy v (inr i) = let same : weight (Expr whole_seat) v ≡ weight (Expr whole_seat) (unary Void i.operand) = ap (weight (Expr whole_seat)) i.is in omega (arith, same)
 
-undefined_heavy : (v : Tree) → IsUndefined v → 10 ≤ weight (Expr whole_seat) v
-undefined_heavy v (inl e) = let same = ap (weight (Expr whole_seat)) e in omega (arith, same)
-undefined_heavy v (inr e) = let same = ap (weight (Expr whole_seat)) e in omega (arith, same)
-
-row_60 : (q : StmtSeat) (v : Tree) → IsUndefined v → weight (Stmt q) (return_statement absent) < weight (Stmt q) (return_statement v)
+row_60 : (q : StmtSeat) (v : Tree) → IsUndefined v ⊎ IsIdleVoid v → weight (Stmt q) (return_statement absent) < weight (Stmt q) (return_statement v)
 row_60 q v u = let heavy = undefined_heavy v u in omega (arith, heavy)
 
 -- ---- 79

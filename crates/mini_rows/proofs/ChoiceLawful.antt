@@ -34,6 +34,7 @@ use Rattle.mini_rows.specs.Spellings.{IsUndefined, void_zero, assignment}
 use Rattle.mini_rows.specs.Choices.{assign, deciding, strictly, loosely, joining, AreNullish, Row37, Row37After, Row39, Row38, Row35, Row45, ChoiceRow, ChoiceContracts, Row46Equal, Row46Unequal, Row41Or, Row41And, Row42And, Row42Or, Row43Or, Row43And, Row43AndThen, Row43OrThen, Row49, LighterRow, OwnRow, HeldRow}
 use Rattle.mini_rows.proofs.ArrangedExpressions.{expressions_arranged, expressions_arranged_freely}
 use Rattle.mini_rows.proofs.ArrangedLawful.{kept_is_lawful}
+use Rattle.mini_rows.proofs.ChainLawful.{chain_row_kept}
 use Rattle.mini_rows.proofs.ChoiceSpines.{Stand, behind, themselves, filled_spine, spine, apart, first_two, spines_rearranged}
 use Rattle.mini_rows.proofs.ChoiceMeaning.{choices_same}
 use Rattle.mini_rows.proofs.ChoiceShapes.{row_fits, row_asked, row_slot}
@@ -237,7 +238,8 @@ held_kept q n w (inr (inr (inr (inr (inr (inr r)))))) = both_kept q n w r
 expression_kept : (q : Seat) (n w : Tree) → ChoiceRow (Expr q) n w → KeptAt (Expr q) n w
 expression_kept q n w (inl r) = lighter_kept q n w r
 expression_kept q n w (inr (inl r)) = own_kept q n w r
-expression_kept q n w (inr (inr r)) = held_kept q n w r
+expression_kept q n w (inr (inr (inl r))) = held_kept q n w r
+expression_kept q n w (inr (inr (inr r))) = chain_row_kept q n w r (undefined_vanishes r.missing r.undefined)
 
 kept : (p : Position) (n w : Tree) → ChoiceRow p n w → KeptAt p n w
 kept (Expr q) n w r = expression_kept q n w r

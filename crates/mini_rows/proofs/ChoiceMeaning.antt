@@ -21,6 +21,7 @@ use Rattle.mini_laws.specs.Targets.{assigns}
 use Rattle.mini_laws.proofs.Runs.{either_cong, either_assoc, either_ok, runs}
 use Rattle.mini_rows.specs.Spellings.{binary, assignment}
 use Rattle.mini_rows.specs.Choices.{assign, pair, joined, strictly, loosely, joining, AreNullish, Row37, Row37After, deciding, Row35, Row46Equal, Row46Unequal, LighterRow, OwnRow, HeldRow, ChoiceRow, ChoiceContracts}
+use Rattle.mini_rows.proofs.ChainLawful.{chain_row_same, chain_row_read}
 use Rattle.mini_rows.proofs.SpellAlike.{SameTree}
 use Rattle.mini_rows.proofs.SpellMeaning.{tree_same, same_by}
 use Rattle.mini_rows.proofs.ChoiceRuns.{value, by_value, conditional_tells, logical_tells, binary_tells, strict_told, null_value, undefined_value, assignment_tells, pair_tells, pair_value, by_reading, equal_null, unequal_null, conditional_value, logical_value, puts, assign_value, deciding_value, computing_value}
@@ -33,7 +34,7 @@ unfolding either
 decided_again e o b c v z true h = refl
 decided_again e o b c v z false h = sym (ap (λ g. choose g (value e c z) (ok v z)) h)
 
-rotated_value : (o : LogicalOperator) (a b c : Tree) (e : Environment) (s : State) → value e (logical o a (logical o b c)) s ≡ value e (logical o (logical o a b) c) s
+pub rotated_value : (o : LogicalOperator) (a b c : Tree) (e : Environment) (s : State) → value e (logical o a (logical o b c)) s ≡ value e (logical o (logical o a b) c) s
 unfolding either
 rotated_value o a b c e s =
     logical_value e o a (logical o b c) s
@@ -41,14 +42,14 @@ rotated_value o a b c e s =
     ∙ sym (logical_value e o (logical o a b) c s ∙ ap (λ x. either x (λ u y. choose (assigns o u) (value e c y) (ok u y)) (λ x y. stop x y)) (logical_value e o a b s) ∙ either_assoc (value e a s) (λ v z. choose (assigns o v) (value e b z) (ok v z)) (λ x z. stop x z) (λ u y. choose (assigns o u) (value e c y) (ok u y)) (λ x y. stop x y))
 
 -- what stands on the left may stand there by its value alone
-left_value : (o : LogicalOperator) (a b c : Tree) (e : Environment) → ((s : State) → value e a s ≡ value e b s) → (s : State) → value e (logical o a c) s ≡ value e (logical o b c) s
+pub left_value : (o : LogicalOperator) (a b c : Tree) (e : Environment) → ((s : State) → value e a s ≡ value e b s) → (s : State) → value e (logical o a c) s ≡ value e (logical o b c) s
 left_value o a b c e h s = logical_value e o a c s ∙ ap (λ y. either y (λ v z. choose (assigns o v) (value e c z) (ok v z)) (λ x z. stop x z)) (h s) ∙ sym (logical_value e o b c s)
 
 joined_value : (o : LogicalOperator) (a b : Tree) (cs : Trees) (e : Environment) (s : State) → value e (logical o a (joined o b cs)) s ≡ value e (joined o (logical o a b) cs) s
 joined_value o a b none e s = refl
 joined_value o a b (c ▸ cs) e s = rotated_value o a (joined o b cs) c e s ∙ left_value o (logical o a (joined o b cs)) (joined o (logical o a b) cs) c e (joined_value o a b cs e) s
 
-rotated_same : (o : LogicalOperator) (a b c : Tree) (cs : Trees) → SameTree (logical o a (joined o b (c ▸ cs))) (joined o (logical o a b) (c ▸ cs))
+pub rotated_same : (o : LogicalOperator) (a b c : Tree) (cs : Trees) → SameTree (logical o a (joined o b (c ▸ cs))) (joined o (logical o a b) (c ▸ cs))
 rotated_same o a b c cs = by_value _ _ (logical_tells o a (joined o b (c ▸ cs))) (logical_tells o (joined o (logical o a b) cs) c) refl (joined_value o a b (c ▸ cs))
 
 -- 38
@@ -314,17 +315,18 @@ held_same n w (inr (inr (inr (inr (inl r))))) = same_by n w _ _ r.shape r.writte
 held_same n w (inr (inr (inr (inr (inr (inl r)))))) = same_by n w _ _ r.shape r.written (or_then_same r.a r.b r.c)
 held_same n w (inr (inr (inr (inr (inr (inr r)))))) = same_by n w _ _ r.shape r.written (both_same r.a r.b)
 
-expression_same : (s : Seat) (n w : Tree) → ChoiceRow (Expr s) n w → SameTree n w
-expression_same s n w (inl r) = lighter_same s n w r
-expression_same s n w (inr (inl r)) = own_same n w r
-expression_same s n w (inr (inr r)) = held_same n w r
-
 means_same : (p : Position) (n w : Tree) → ChoiceRow p n w → SameAt p n w
-means_same (Expr s) n w r = tree_same s n w (expression_same s n w r)
+means_same (Expr s) n w (inl r) = tree_same s n w (lighter_same s n w r)
+means_same (Expr s) n w (inr (inl r)) = tree_same s n w (own_same n w r)
+means_same (Expr s) n w (inr (inr (inl r))) = tree_same s n w (held_same n w r)
+means_same (Expr s) n w (inr (inr (inr r))) = chain_row_same s n w r
 means_same p n w r = absurd r
 
 reads : (p : Position) (n w : Tree) → ChoiceRow p n w → summary n ≡ summary w
-reads (Expr s) n w r = (expression_same s n w r).read
+reads (Expr s) n w (inl r) = (lighter_same s n w r).read
+reads (Expr s) n w (inr (inl r)) = (own_same n w r).read
+reads (Expr s) n w (inr (inr (inl r))) = (held_same n w r).read
+reads (Expr s) n w (inr (inr (inr r))) = chain_row_read s n w r
 reads p n w r = absurd r
 
 pub choices_same : MeansSame ChoiceContracts

@@ -218,13 +218,13 @@ module _ (e : Environment) (m n : Naming) (σ τ : ℕ → Demand) (K : Kids σ)
 
 -- ---- what an operator of numbers makes of the old value
 
-abbrev sides : Environment → Tree → Tree → Kids (λ i. As Val)
+abbrev pub sides : Environment → Tree → Tree → Kids (λ i. As Val)
 sides e a b i r z = meaning e (a ▸ b ▸ none) i (As Val) r z
 
-abbrev binary_names : BinaryOperator → Tree → Tree → Naming
+abbrev pub binary_names : BinaryOperator → Tree → Tree → Naming
 binary_names o a b = naming (shape.BinaryExpression o) (As Val) [] 0 (summaries (a ▸ b ▸ none))
 
-binary_value : (e : Environment) (o : BinaryOperator) (a b : Tree) (s : State) → value e (binary o a b) s ≡ either (value e a s) (λ v z. either (value e b z) (λ u y. run {q = λ i. As Val} e (binary_names o a b) (sides e a b) (operate_by o v u) y) (λ x y. stop x y)) (λ x z. stop x z)
+pub binary_value : (e : Environment) (o : BinaryOperator) (a b : Tree) (s : State) → value e (binary o a b) s ≡ either (value e a s) (λ v z. either (value e b z) (λ u y. run {q = λ i. As Val} e (binary_names o a b) (sides e a b) (operate_by o v u) y) (λ x y. stop x y)) (λ x z. stop x z)
 unfolding means meaning step
 binary_value e o a b s =
     either_cong (value e a s) _ _ _ _ (λ v z. either_cong (value e b z) _ _ _ _ (λ u y. run_bind e (binary_names o a b) (operate_by o v u) (reply (As Val) tt) (sides e a b) y ∙ either_eta (run {q = λ i. As Val} e (binary_names o a b) (sides e a b) (operate_by o v u) y)) (λ x y. refl)) (λ x z. refl)

@@ -21,6 +21,7 @@ use Rattle.mini_laws.specs.Weights.{Lightens}
 use Rattle.mini_laws.proofs.Seats.{placed, placed_node}
 use Rattle.mini_rows.specs.Spellings.{binary, assignment}
 use Rattle.mini_rows.specs.Choices.{assign, is_same_operator, is_grouped, joined, strictly, loosely, joining, AreNullish, deciding, computing, LighterRow, OwnRow, HeldRow, ChoiceRow, ChoiceContracts, ChoicesLighter}
+use Rattle.mini_rows.specs.Chains.{spine, chain, if_nullish}
 use Rattle.mini_rows.proofs.SpellWeights.{falls_by}
 
 -- what a place adds to a node that is neither awkward nor mixed
@@ -306,10 +307,16 @@ held_outline n w (inr (inr (inr (inr (inl r))))) = ap outline r.shape ∙ sym (a
 held_outline n w (inr (inr (inr (inr (inr (inl r)))))) = ap outline r.shape ∙ sym (ap outline r.written)
 held_outline n w (inr (inr (inr (inr (inr (inr r)))))) = ap outline r.shape ∙ sym (ap outline r.written)
 
+-- of the conditional, and of the chain
+chain_outline : (equal : Bool) (x : Name) (a t u n w : Tree) → n ≡ if_nullish equal x a t → w ≡ chain u → outline n ≡ outline w
+chain_outline true x a t u n w e f = ap outline e ∙ sym (ap outline f)
+chain_outline false x a t u n w e f = ap outline e ∙ sym (ap outline f)
+
 outline_by_row : (p : Position) (n w : Tree) → ChoiceRow p n w → outline n ≡ outline w
 outline_by_row (Expr s) n w (inl r) = lighter_outline s n w r
 outline_by_row (Expr s) n w (inr (inl r)) = own_outline n w r
-outline_by_row (Expr s) n w (inr (inr r)) = held_outline n w r
+outline_by_row (Expr s) n w (inr (inr (inl r))) = held_outline n w r
+outline_by_row (Expr s) n w (inr (inr (inr r))) = chain_outline r.equal r.name r.missing (spine false (identifier r.name) r.last r.others) (spine true (identifier r.name) r.last r.others) n w r.shape r.written
 outline_by_row p n w r = absurd r
 
 pub lightens : Lightens ChoiceContracts

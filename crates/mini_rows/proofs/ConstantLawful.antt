@@ -2,7 +2,7 @@
 use Rattle.std.proofs.Common.{◌≡◌, ℕ, suc, Bool, true, false, List, [], ◌∷◌, Option, Some, None, refl, sym, ap, subst, ◌∙◌, zero, true≢false, ltb-true, arith}
 use Rattle.std.specs.Prelude.{◌&&◌, ◌++◌, ℤ, pos, negsuc, nat_abs, ◌*◌, ◌+ℤ◌, ◌-ℤ◌}
 use Rattle.std.proofs.lemmas.Bool.{and_parts, le-leb}
-use Rattle.mini_text.specs.Numerals.{max_safe_integer}
+use Rattle.mini_model.specs.Numerals.{max_safe_integer}
 use Rattle.mini_model.specs.declared.name.Name.{Name}
 use Rattle.mini_model.specs.declared.operator.BinaryOperator.{BinaryOperator}
 use Rattle.mini_model.specs.declared.operator.BinaryOperator.TheVariants as binary_operator
@@ -268,7 +268,7 @@ module _ (strict : Bool) (o : BinaryOperator) (a b : Tree) where
   binary_in (an_inner_key false) e = absurd (refused_here strict (one (an_inner_key false)) over_two [] 0 (a ▸ b ▸ none) refl e)
   binary_in k e = absurd (refused_here strict (one k) over_two [] 0 (a ▸ b ▸ none) refl e)
 
-  binary_at : (s : Slot) → fits strict s (binary o a b) ≡ true → TakesExpression s × BothFit
+  pub binary_at : (s : Slot) → fits strict s (binary o a b) ≡ true → TakesExpression s × BothFit
   binary_at (one k) e = binary_in k e
   binary_at (one_or_absent k) e = binary_in k e
   binary_at s e = absurd (refused_here strict s over_two [] 0 (a ▸ b ▸ none) refl e)

@@ -8,7 +8,7 @@ use Rattle.mini_model.specs.declared.place.Position.TheVariants.{Stmt}
 use Rattle.mini_model.specs.declared.shape.Shape.TheVariants as shape
 use Rattle.mini_model.specs.Tree.{Tree, none, ◌▸◌, logical, expression_statement}
 use Rattle.mini_model.specs.Position.{statement_expression_seat, left_operand_seat}
-use Rattle.mini_model.specs.Terms.{turned, not_of}
+use Rattle.mini_model.specs.Terms.{turned}
 use Rattle.mini_model.specs.Weight.{outline}
 use Rattle.mini_accept.specs.WellShaped.{in_module, in_body, nested, Class, a_statement, a_key, a_private_or_key, an_inner_key, Slot, one, one_or_absent, fits}
 use Rattle.mini_laws.specs.Weights.{Lightens}
@@ -17,16 +17,17 @@ use Rattle.mini_kept.specs.KeepsShapes.{AskedAlike}
 use Rattle.mini_kept.specs.KeepsFrames.{is_body_slot}
 use Rattle.mini_kept.specs.Lawful.{Lawful}
 use Rattle.mini_kept.proofs.Bools.{left, both}
-use Rattle.mini_kept.proofs.Expressions.{refused_here, expression, two_fit, not_of_fits}
+use Rattle.mini_kept.proofs.Expressions.{refused_here, expression, two_fit}
 use Rattle.mini_rows.specs.Arranged.{KeptAt}
 use Rattle.mini_rows.specs.Sketches.{OfExpression, Logical, Sketch, Parts, part, under, end, ◌▹◌, still}
 use Rattle.mini_rows.specs.DeMorgan.{turned_logical, DeMorganRow, DeMorganContracts}
+use Rattle.mini_rows.specs.Negations.{lightest}
 use Rattle.mini_rows.proofs.ArrangedLawful.{kept_is_lawful}
-use Rattle.mini_rows.proofs.ArrangedNegations.{negation_written}
 use Rattle.mini_rows.proofs.ArrangedRewritten.{statements_rewritten, unchanged}
 use Rattle.mini_rows.proofs.BranchLawful.{body_slot}
 use Rattle.mini_rows.proofs.FoldLawful.{statement_taken}
 use Rattle.mini_rows.proofs.DeMorganMeaning.{de_morgan_same}
+use Rattle.mini_rows.proofs.NegationKept.{of_two, lightest_written}
 
 -- ---- lighter
 
@@ -67,15 +68,12 @@ alone strict (one k) x e = alone_in strict k x e
 alone strict (one_or_absent k) x e = let a = alone_in strict k x e in record { inner = a.inner; other = a.other }
 alone strict s x e = absurd (refused_here strict s shape.ExpressionStatement [] 0 (x ▸ none) refl e)
 
-of_two : (strict : Bool) (o : LogicalOperator) (a b : Tree) → fits strict expression (logical o a b) ≡ true → (fits strict expression a ≡ true) × (fits strict expression b ≡ true)
-of_two strict o a b e = let (x, y) = and_parts (fits strict expression a) (fits strict expression b && true) e in (x, left (fits strict expression b) true y)
-
 row_fits : (p : Position) (n w : Tree) → DeMorganRow p n w → (strict : Bool) (s : Slot) → fits strict s n ≡ true → fits strict s w ≡ true
 row_fits (Stmt q) n w r strict s e =
     let here = alone strict s (logical r.operator r.a r.b) (subst (λ t. fits strict s t ≡ true) r.shape e) in
     let (a, b) = of_two strict r.operator r.a r.b here.inner in
     let seat = left_operand_seat (turned r.operator) statement_expression_seat in
-    subst (λ t. fits strict s t ≡ true) (sym r.written) (here.other (turned_logical r.operator r.a r.b) (two_fit strict (not_of seat r.a) r.b (not_of_fits strict seat r.a a) b))
+    subst (λ t. fits strict s t ≡ true) (sym r.written) (here.other (turned_logical r.operator r.a r.b) (two_fit strict (lightest seat r.a) r.b ((lightest_written seat r.a).fitting strict a) b))
 row_fits p n w r strict s e = absurd r
 
 row_slot : (p : Position) (n w : Tree) → DeMorganRow p n w → (strict : Bool) (s : Slot) → fits strict s n ≡ true → is_body_slot p s ≡ true
@@ -111,7 +109,7 @@ two a b = record { trees = a ▸ b ▸ none; lists = [] }
 kept : (p : Position) (n w : Tree) → DeMorganRow p n w → KeptAt p n w
 kept (Stmt q) n w r =
     let seat = left_operand_seat (turned r.operator) statement_expression_seat in
-    statements_rewritten still (two r.a r.b) (two (not_of seat r.a) r.b) (tt, tt, tt) (tt, tt, tt) (does r.operator) (does (turned r.operator)) refl (negation_written seat r.a, (unchanged r.b, tt)) q n w r.shape r.written
+    statements_rewritten still (two r.a r.b) (two (lightest seat r.a) r.b) (tt, tt, tt) (tt, tt, tt) (does r.operator) (does (turned r.operator)) refl (lightest_written seat r.a, (unchanged r.b, tt)) q n w r.shape r.written
     (λ strict s e. let (a, b) = of_two strict r.operator r.a r.b (alone strict s (logical r.operator r.a r.b) (subst (λ t. fits strict s t ≡ true) r.shape e)).inner in (a, (b, tt)))
 kept p n w r = absurd r
 

@@ -4,12 +4,12 @@ use Rattle.std.specs.Prelude.{not, Option}
 use Rattle.mini_model.specs.declared.operator.LogicalOperator.{LogicalOperator}
 use Rattle.mini_model.specs.declared.operator.LogicalOperator.TheVariants.{Or, And, Coalesce}
 use Rattle.mini_model.specs.declared.place.Position.{Position}
-use Rattle.mini_model.specs.declared.place.Position.TheVariants.{Stmt}
+use Rattle.mini_model.specs.declared.place.Position.TheVariants.{Expr, Stmt}
 use Rattle.mini_model.specs.declared.seat.StmtSeat.{StmtSeat}
 use Rattle.mini_model.specs.declared.shape.Shape.TheVariants as shape
 use Rattle.mini_model.specs.Tree.{Tree, none, ◌▸◌, negation, logical, expression_statement}
-use Rattle.mini_model.specs.Position.{is_and_or, statement_expression_seat, child_position}
-use Rattle.mini_model.specs.Rewriting.{Step, inside, first}
+use Rattle.mini_model.specs.Position.{is_and_or, statement_expression_seat, left_operand_seat, child_position}
+use Rattle.mini_model.specs.Rewriting.{Step, here, inside, first}
 use Rattle.mini_model.specs.Terms.{turned}
 use Rattle.mini_laws.specs.Value.{VariableSet, choose, truth}
 use Rattle.mini_laws.specs.State.{State, ok, either, Environment}
@@ -27,7 +27,9 @@ use Rattle.mini_terms.proofs.Dropping.{after_cong}
 use Rattle.mini_terms.proofs.Frame.{gives_any}
 use Rattle.mini_terms.proofs.Opened.{and_opened, or_opened, statement_opened}
 use Rattle.mini_rows.specs.DeMorgan.{turned_logical, DeMorganRow, DeMorganContracts}
-use Rattle.mini_rows.proofs.BooleanMeaning.{then_same, Negated, negated_means, left_step}
+use Rattle.mini_rows.specs.Negations.{lightest}
+use Rattle.mini_rows.proofs.BooleanMeaning.{then_same}
+use Rattle.mini_rows.proofs.NegationMeaning.{Stands, stands_means, left_stands, lightest_stands}
 use Rattle.mini_rows.proofs.BooleanRuns.{value, negated_and, negated_or}
 
 -- the left side under a `!`, and the other operator
@@ -61,16 +63,17 @@ module _ (q : StmtSeat) (o : LogicalOperator) (a b : Tree) (h : is_and_or o ≡ 
   negated_by e D X (Stat t) f = by_equality e D X (Stat t) (expression_statement (logical o a b)) (expression_statement (negated_logical o a b)) (λ ls s. statement_alike D e o a b h t ls s)
   negated_by e D X d f = absurd f
 
-  inside_step : Step Negated (Stmt q) (expression_statement (negated_logical o a b)) (expression_statement (turned_logical o a b))
+  inside_step : Step Stands (Stmt q) (expression_statement (negated_logical o a b)) (expression_statement (turned_logical o a b))
   inside_step =
+      let left = left_operand_seat (turned o) statement_expression_seat in
       inside (Stmt q) shape.ExpressionStatement [] 0 (negated_logical o a b ▸ none) (turned_logical o a b ▸ none)
-      (first (child_position shape.ExpressionStatement (Stmt q) 1) (negated_logical o a b) (turned_logical o a b) none (left_step (turned o) statement_expression_seat a b))
+      (first (child_position shape.ExpressionStatement (Stmt q) 1) (negated_logical o a b) (turned_logical o a b) none (here (Expr statement_expression_seat) (negated_logical o a b) (turned_logical o a b) (left_stands (turned o) statement_expression_seat (negation a) (lightest left a) b (lightest_stands left a))))
 
   turned_same : SameAt (Stmt q) (expression_statement (logical o a b)) (expression_statement (turned_logical o a b))
   turned_same =
       then_same (Stmt q) (expression_statement (logical o a b)) (expression_statement (negated_logical o a b)) (expression_statement (turned_logical o a b))
       (record { by = negated_by })
-      (any_step_same Negated negated_means (Stmt q) (expression_statement (negated_logical o a b)) (expression_statement (turned_logical o a b)) inside_step)
+      (any_step_same Stands stands_means (Stmt q) (expression_statement (negated_logical o a b)) (expression_statement (turned_logical o a b)) inside_step)
 
 row_same : (p : Position) (n w : Tree) → DeMorganRow p n w → SameAt p n w
 row_same (Stmt q) n w r = subst (λ t. SameAt (Stmt q) t w) (sym r.shape) (subst (SameAt (Stmt q) (expression_statement (logical r.operator r.a r.b))) (sym r.written) (turned_same q r.operator r.a r.b r.tells))

@@ -142,7 +142,7 @@ empty_taken strict (one k) t = empty_in strict k t
 empty_taken strict (one_or_absent k) t = empty_in strict k t
 empty_taken strict s t = absurd t
 
-operands : (strict : Bool) (s : Slot) (o : LogicalOperator) (a b : Tree) → fits strict s (logical o a b) ≡ true → TakesExpression s × (fits strict expression a ≡ true) × (fits strict expression b ≡ true)
+pub operands : (strict : Bool) (s : Slot) (o : LogicalOperator) (a b : Tree) → fits strict s (logical o a b) ≡ true → TakesExpression s × (fits strict expression a ≡ true) × (fits strict expression b ≡ true)
 operands strict s o a b e =
     let (takes, whole) = choice_taken strict s (a_logical o) (a ▸ b ▸ none) refl e in
     let (first, rest) = and_parts (fits strict expression a) (fits strict expression b && true) whole in

@@ -89,10 +89,13 @@ logical_read o a b t e = sym (plain_read t e)
 
 -- the rows
 
-passed_same : (s : Seat) (n w : Tree) → Row13 s n w → SameAt (Expr s) n w
+pub passed_same : (s : Seat) (n w : Tree) → Row13 s n w → SameAt (Expr s) n w
 passed_same s n w r =
     subst (λ t. SameAt (Expr s) t w) (sym r.shape) (subst (SameAt (Expr s) (logical r.operator r.left r.right)) (sym r.written)
     (same_in_seat s (logical r.operator r.left r.right) r.right refl (value_of s r.right r.stays) (goes_on_same r.operator r.left r.right r.known r.effect_free)))
+
+pub passed_read : (s : Seat) (n w : Tree) → Row13 s n w → summary n ≡ summary w
+passed_read s n w r = ap summary r.shape ∙ logical_read r.operator r.left r.right r.right (plain_of s r.right r.stays) ∙ sym (ap summary r.written)
 
 stopped_same : (s : Seat) (n w : Tree) → Row12 s n w → SameAt (Expr s) n w
 stopped_same s n w r =
@@ -121,7 +124,7 @@ row_same (Stmt q) n w r = subst (λ t. SameAt (Stmt q) t w) (sym r.shape) (subst
 row_same p n w r = absurd r
 
 row_read : (p : Position) (n w : Tree) → FoldingRow p n w → summary n ≡ summary w
-row_read (Expr s) n w (inl r) = ap summary r.shape ∙ logical_read r.operator r.left r.right r.right (plain_of s r.right r.stays) ∙ sym (ap summary r.written)
+row_read (Expr s) n w (inl r) = passed_read s n w r
 row_read (Expr s) n w (inr (inl r)) = ap summary r.shape ∙ logical_read r.operator r.left r.right r.left (plain_of s r.left r.stays) ∙ sym (ap summary r.written)
 row_read (Expr s) n w (inr (inr r)) = (loosened_alike n w r).read
 row_read (Stmt q) n w r = ap summary r.shape ∙ sym (ap summary r.written)

@@ -18,7 +18,7 @@ use Rattle.mini_names.specs.Resolved.{Environment}
 use Rattle.mini_names.specs.Scoped.{Scoped}
 use Rattle.mini_names.specs.Scopes.{scopes_by}
 use Rattle.mini_names.specs.Symbols.{declared as declared_in, times}
-use Rattle.mini_laws.specs.Value.{Variable}
+use Rattle.mini_laws.specs.Value.{Variable, nothing}
 use Rattle.mini_laws.specs.State.{Writable}
 use Rattle.mini_laws.specs.Fixity.{fixity_by, stricter, fixed_by}
 use Rattle.mini_laws.specs.Bodies.{Around, bodies, arrow_kind}
@@ -27,6 +27,8 @@ use Rattle.mini_kept.specs.Carried.{numbers}
 use Rattle.mini_kept.specs.Declaring.{declared}
 use Rattle.mini_kept.specs.Frames.{part, is_declaration, is_port, frames, FramesKept}
 use Rattle.mini_kept.specs.KeepsFrames.{IsShownAlike}
+use Rattle.mini_kept.specs.ShownFrames.{KeyGiven}
+use Rattle.mini_kept.proofs.ShownFrames.{shows_same}
 use Rattle.mini_kept.specs.KeepsLoosely.{KeepsLoosely}
 use Rattle.mini_kept.specs.KeepsNames.{count_of, unplaced}
 use Rattle.mini_kept.specs.KeepsShapes.{is_default, AskedAlike}
@@ -38,8 +40,8 @@ use Rattle.mini_kept.proofs.Fixed.{of_children}
 use Rattle.mini_kept.proofs.FrameLists.{same_frames}
 use Rattle.mini_kept.proofs.InOrder.{in_order}
 use Rattle.mini_rows.specs.Spellings.{numeral, text, key}
-use Rattle.mini_rows.specs.KeyHolders.{Holder, a_binding, a_target, a_method, a_field, holder_shape, holding, Spelling, of_name, of_whole, quoted, unquoted, Row52Held, HeldKeyRow, HeldKeyContracts}
-use Rattle.mini_rows.proofs.HeldKeyMeaning.{held_keys_same}
+use Rattle.mini_rows.specs.KeyHolders.{Holder, a_binding, a_target, a_method, a_field, holder_shape, holding, Spelling, of_name, of_whole, quoted, unquoted, Row52Held}
+use Rattle.mini_rows.proofs.HeldKeyMeaning.{HeldRow, held_same}
 use Rattle.mini_rows.proofs.HeldKeyShapes.{stands}
 
 -- ---- the keys that are read and written, each against one name
@@ -225,7 +227,7 @@ module _ (h : Holder) (i j : Word) (v : Tree) where
   })
 
   root_kept : KeepsRoot Elsewhere n w
-  root_kept = record { place = refl; root = refl; counted = refl; others = λ k. refl }
+  root_kept = record { place = refl; shape = refl; names = refl; number = refl; counted = refl; others = λ k. refl }
 
   bodies_kept : (a : Around) → BodiesKept (bodies a n) (bodies a w)
   bodies_kept a = subst (BodiesKept (bodies a n)) (over_bodies v i h a ∙ sym (over_bodies v j h a)) (kept_itself (bodies a n))
@@ -252,7 +254,7 @@ module _ (P : Tree → Tree → Type 0) (n w : Tree) (r : Row52Held n w) where
 row_stands : (n w : Tree) (r : Row52Held n w) (strict : Bool) (t : Slot) → fits strict t n ≡ true → (fits strict t w ≡ true) × IsShownAlike t n w
 row_stands n w r strict t e =
     let x = stands strict t r.holder r.spelling r.value r.is_spelling (subst (λ y. fits strict t y ≡ true) r.shape e) in
-    (subst (λ y. fits strict t y ≡ true) (sym r.written) x.written, (x.slot, along (λ y z. part y ≡ part z) n w r (shown_same r.spelling r.holder r.value)))
+    (subst (λ y. fits strict t y ≡ true) (sym r.written) x.written, (x.slot, λ a. shows_same (KeyGiven nothing (bodies a n)) (part n) (part w) (along (λ y z. part y ≡ part z) n w r (shown_same r.spelling r.holder r.value))))
 
 plain_shape : (h : Holder) (k v : Tree) → (is_absent (holding h k v) ≡ false) × (is_function_body (holding h k v) ≡ false) × (has_optional (holding h k v) ≡ false) × (is_not_positive_number (holding h k v) ≡ true) × (spelling (holding h k v) ≡ None) × (is_default (holder_shape h) ≡ false)
 plain_shape a_binding k v = (refl, refl, refl, refl, refl, refl)
@@ -282,24 +284,21 @@ plain_statement m (a_field is_static) = (refl, refl, refl)
 -- at its place
 
 module _ (P : Position → Tree → Tree → Type 0) where
-  there : ((n w : Tree) → Row52Held n w → P Elsewhere n w) → (p : Position) (n w : Tree) → HeldKeyContracts p n w → P p n w
-  there f p n w c = by p c.row
-    where
-      by : (p : Position) → HeldKeyRow p n w → P p n w
-      by Elsewhere r = f n w r
-      by p r = absurd r
+  there : ((n w : Tree) → Row52Held n w → P Elsewhere n w) → (p : Position) (n w : Tree) → HeldRow p n w → P p n w
+  there f Elsewhere n w r = f n w r
+  there f p n w r = absurd r
 
 of_words : (n w : Tree) (r : Row52Held n w) (P : Tree → Tree → Type 0) → ((h : Holder) (i j : Word) (v : Tree) → P (holding h (word i) v) (holding h (word j) v)) → P n w
 of_words n w r P f = by_words P n w r (f r.holder (first_word r.spelling) (second_word r.spelling) r.value)
 
-pub held_keys_lawful : Lawful HeldKeyContracts
-held_keys_lawful = record {
+pub held_lawful : Lawful HeldRow
+held_lawful = record {
   shapes = record {
     fitting = there (λ p n w. (strict : Bool) (s : Slot) → fits_place p s ≡ true → fits strict s n ≡ true → fits strict s w ≡ true) (λ n w r strict s k e. (row_stands n w r strict s e).0);
     asked = there AskedAlike row_asked;
   };
   bodies = record {
-    means = held_keys_same;
+    means = held_same;
     pieces = there (λ p n w. is_piece (shape_of n) ≡ false) (λ n w r. ap (λ t. is_piece (shape_of t)) r.shape ∙ (plain_statement true r.holder).2);
     kind = there (λ p n w. (strict : Bool) (s : Slot) → fits strict s n ≡ true → arrow_kind (shape_of n) ≡ arrow_kind (shape_of w)) (λ n w r strict s e. along (λ y z. arrow_kind (shape_of y) ≡ arrow_kind (shape_of z)) n w r refl);
     bodies = λ p n w c strict s k e a st. there (λ p n w. (a : Around) → BodiesKept (bodies a n) (bodies a w)) (λ n w r. of_words n w r (λ y z. (a : Around) → BodiesKept (bodies a y) (bodies a z)) bodies_kept) p n w c a;

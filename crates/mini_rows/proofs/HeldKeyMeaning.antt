@@ -1,5 +1,5 @@
 -- What a row on the key of a pattern or a class writes means the same, and weighs less.
-use Rattle.std.proofs.Common.{◌≡◌, ◌<◌, refl, sym, ap, ◌∙◌, inl, arith}
+use Rattle.std.proofs.Common.{◌≡◌, ◌<◌, refl, sym, ap, ◌∙◌, arith}
 use Rattle.mini_model.specs.declared.place.Position.{Position}
 use Rattle.mini_model.specs.declared.place.Position.TheVariants.{Elsewhere}
 use Rattle.mini_model.specs.Tree.{Tree}
@@ -10,9 +10,8 @@ use Rattle.mini_laws.specs.Naming.{summary}
 use Rattle.mini_laws.specs.Step.{step, means, meaning}
 use Rattle.mini_laws.specs.Rows.{SameAt}
 use Rattle.mini_laws.specs.Rewritten.{MeansSame}
-use Rattle.mini_laws.specs.Weights.{Lightens}
 use Rattle.mini_laws.proofs.Rows.{equal_same}
-use Rattle.mini_rows.specs.KeyHolders.{Holder, a_binding, a_target, a_method, a_field, holding, Spelling, of_name, of_whole, quoted, unquoted, Row52Held, HeldKeyRow, HeldKeyContracts, HeldKeysLighter}
+use Rattle.mini_rows.specs.KeyHolders.{Holder, a_binding, a_target, a_method, a_field, holding, Spelling, of_name, of_whole, quoted, unquoted, Row52Held}
 use Rattle.mini_rows.proofs.SpellAlike.{SameTree}
 use Rattle.mini_rows.proofs.SpellMeaning.{same_by}
 use Rattle.mini_rows.proofs.SpellWeights.{falls_by}
@@ -35,16 +34,21 @@ held_read (a_field is_static) s v = refl
 row_same : (n w : Tree) → Row52Held n w → SameTree n w
 row_same n w r = same_by n w _ _ r.shape r.written (record { by = held_does r.holder (quoted r.spelling) (unquoted r.spelling) r.value; read = held_read r.holder r.spelling r.value })
 
-same : (p : Position) (n w : Tree) → HeldKeyRow p n w → SameAt p n w
+-- of that row alone
+abbrev pub HeldRow : Position → Tree → Tree → Type 0
+HeldRow Elsewhere n w = Row52Held n w
+HeldRow _ n w = ⊥
+
+same : (p : Position) (n w : Tree) → HeldRow p n w → SameAt p n w
 same Elsewhere n w r = let h = row_same n w r in equal_same Elsewhere n w (record { by = λ e q f r z. h.by e q r z })
 same p n w r = absurd r
 
-read : (p : Position) (n w : Tree) → HeldKeyRow p n w → summary n ≡ summary w
+read : (p : Position) (n w : Tree) → HeldRow p n w → summary n ≡ summary w
 read Elsewhere n w r = (row_same n w r).read
 read p n w r = absurd r
 
-pub held_keys_same : MeansSame HeldKeyContracts
-held_keys_same = record { same = λ p n w c. same p n w c.row; reads = λ p n w c. read p n w c.row }
+pub held_same : MeansSame HeldRow
+held_same = record { same = same; reads = read }
 
 -- ---- the weight
 
@@ -58,9 +62,9 @@ held_falls (a_method kind is_static) (of_whole n) v = omega arith
 held_falls (a_field is_static) (of_name s) v = omega arith
 held_falls (a_field is_static) (of_whole n) v = omega arith
 
-pub held_keys_lighter : HeldKeysLighter
-held_keys_lighter Elsewhere n w r = falls_by Elsewhere n w _ _ r.shape r.written (held_falls r.holder r.spelling r.value)
-held_keys_lighter p n w r = absurd r
+pub held_lighter : (p : Position) (n w : Tree) → HeldRow p n w → weight p w < weight p n
+held_lighter Elsewhere n w r = falls_by Elsewhere n w _ _ r.shape r.written (held_falls r.holder r.spelling r.value)
+held_lighter p n w r = absurd r
 
 held_outline : (h : Holder) (k l v : Tree) → outline (holding h k v) ≡ outline (holding h l v)
 held_outline a_binding k l v = refl
@@ -68,15 +72,6 @@ held_outline a_target k l v = refl
 held_outline (a_method kind is_static) k l v = refl
 held_outline (a_field is_static) k l v = refl
 
-outline_kept : (p : Position) (n w : Tree) → HeldKeyRow p n w → outline n ≡ outline w
+pub outline_kept : (p : Position) (n w : Tree) → HeldRow p n w → outline n ≡ outline w
 outline_kept Elsewhere n w r = ap outline r.shape ∙ held_outline r.holder (quoted r.spelling) (unquoted r.spelling) r.value ∙ sym (ap outline r.written)
 outline_kept p n w r = absurd r
-
-pub held_keys_lighten : Lightens HeldKeyContracts
-held_keys_lighten = record {
-  lighter = λ p n w c. c.lighter;
-  absent = λ p n w c a. ap (λ o. o.absent) (outline_kept p n w c.row);
-  items = λ p n w c a. ap (λ o. o.items) (outline_kept p n w c.row);
-  is_zero = λ p n w c a. inl (ap (λ o. o.is_zero) (outline_kept p n w c.row));
-  chooses = λ p n w c a. inl (λ h. sym (ap (λ o. o.chooses) (outline_kept p n w c.row)) ∙ h);
-}

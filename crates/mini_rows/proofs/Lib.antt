@@ -12,6 +12,10 @@ pub mod SpellKeyLawful
 pub mod HeldKeyMeaning
 pub mod HeldKeyShapes
 pub mod HeldKeyLawful
+pub mod BareKeyMeaning
+pub mod BareKeyShapes
+pub mod BareKeyLawful
+pub mod KeysJoined
 pub mod BodyLists
 pub mod ListStretches
 pub mod ListParts
@@ -71,6 +75,10 @@ pub mod AllRows
 pub mod ListEndsKept
 pub mod ListLawful
 pub mod ChoiceRuns
+pub mod ChainCalm
+pub mod ChainRuns
+mod ChainHoles
+pub mod ChainLawful
 pub mod ChoiceMeaning
 pub mod ChoiceWeights
 pub mod ChoiceShapes
@@ -81,6 +89,7 @@ pub mod FoldMeaning
 pub mod FoldWeights
 pub mod FoldLawful
 pub mod BooleanRuns
+mod ConversionRuns
 pub mod BooleanMeaning
 pub mod BooleanWeights
 pub mod BooleanLawful
@@ -95,3 +104,12 @@ pub mod UnusedLawful
 pub mod UnusedWeights
 pub mod DeMorganMeaning
 pub mod DeMorganLawful
+pub mod NegationMeaning
+pub mod NegationKept
+pub mod NegationLawful
+pub mod SequenceMeaning
+pub mod SequenceWeights
+pub mod SequenceLawful
+pub mod OperandMeaning
+pub mod OperandWeights
+pub mod OperandLawful

@@ -1,25 +1,24 @@
 -- What the rows at the end of a function's body write keeps what a program has to keep.
 use Rattle.std.proofs.Common.{◌≡◌, ℕ, Bool, true, false, List, [], ◌∷◌, refl, sym, ap, ◌∙◌, subst, inl, inr}
-use Rattle.std.specs.Prelude.{◌⊎◌, ◌&&◌}
 use Rattle.std.proofs.lemmas.Bool.{and_parts}
 use Rattle.mini_model.specs.declared.kind.VariableDeclarationKind.TheVariants.{Var}
 use Rattle.mini_model.specs.declared.name.Name.{Name}
 use Rattle.mini_model.specs.declared.operator.UnaryOperator.TheVariants.{LogicalNot}
 use Rattle.mini_model.specs.declared.place.Position.TheVariants.{StatementList}
 use Rattle.mini_model.specs.declared.shape.Shape.TheVariants as shape
-use Rattle.mini_model.specs.Tree.{Tree, Trees, node, none, ◌▸◌, absent, listed, if_alone, negation}
+use Rattle.mini_model.specs.Tree.{Tree, Trees, node, none, ◌▸◌, absent, listed, if_else, if_alone, negation}
 use Rattle.mini_model.specs.Paths.{append}
-use Rattle.mini_accept.specs.WellShaped.{Depth, in_module, in_body, nested, a_statement, Slot, each, fits, fill}
+use Rattle.mini_accept.specs.WellShaped.{Depth, in_module, in_body, nested, a_statement, Slot, one_or_absent, each, fits, fill}
 use Rattle.mini_kept.proofs.Bools.{both}
 use Rattle.mini_kept.proofs.Placed.{statements_slot}
 use Rattle.mini_kept.specs.Placed.{fits_place}
 use Rattle.mini_node.specs.Walks.{append_none}
 use Rattle.mini_rows.specs.Switches.{Switches}
 use Rattle.mini_rows.specs.Arranged.{KeptAt}
-use Rattle.mini_rows.specs.Lists.{block, is_unscoped, are_unscoped, Row75, Row78, AtEnd, EndRow, bare_return}
-use Rattle.mini_rows.specs.Sketches.{Unary, AbsentPart, Return, If, Block, Sketch, part, under, list, end, ◌▹◌, no_items, item, items, still}
+use Rattle.mini_rows.specs.Lists.{block, is_unscoped, are_unscoped, alternate_of, Row75, Row75Block, Row78, AtEnd, EndRow, bare_return}
+use Rattle.mini_rows.specs.Sketches.{Unary, AbsentPart, Return, If, Block, Sketch, Items, part, under, list, end, ◌▹◌, no_items, item, items, still}
 use Rattle.mini_rows.proofs.ArrangedBetween.{between}
-use Rattle.mini_rows.proofs.ListShapes.{expression, statement, Fits, AllFit, Fitting, first_fits, more_fit, append_fits, both_fit, of_if, if_fits}
+use Rattle.mini_rows.proofs.ListShapes.{expression, statement, Fits, AllFit, Fitting, first_fits, more_fit, append_fits, both_fit, of_if, if_fits, of_block}
 
 -- ---- it is built anew of the same parts
 
@@ -42,9 +41,31 @@ module _ (before read put : Trees) where
       (r.shape ∙ ap (λ ts. if_alone r.test bare_return ▸ ts) (sym (append_none r.rest)))
       (r.written ∙ ap (λ ts. if_alone (negation r.test) (block ts) ▸ none) (sym (append_none r.rest)))
 
+  abbrev leaving_block : Items → Items
+  leaving_block is = item (under If (part 0 ▹ under Block (list (items 2 (item bare no_items)) ▹ end) ▹ under AbsentPart end ▹ end)) is
+
+  abbrev with_alternate : Sketch → Items
+  with_alternate s = item (under If (part 0 ▹ under Block (list (items 2 no_items) ▹ end) ▹ s ▹ end)) no_items
+
+  block_kept : (test : Tree) (body rest : Trees) → are_unscoped body ≡ true → are_unscoped rest ≡ true → read ≡ if_alone test (block (append body (bare_return ▸ none))) ▸ rest → put ≡ if_else test (block body) (alternate_of rest) ▸ none → Kept
+  block_kept test body none l u s w =
+      between (record { moved = []; lists_moved = 2 ∷ []; dropped = [] }) (test ▸ none) before none (body ∷ []) (tt, (l, tt), tt)
+      (leaving_block no_items) (with_alternate (under AbsentPart end)) refl read put
+      s
+      (w ∙ ap (λ ts. if_alone test (block ts) ▸ none) (sym (append_none body)))
+  block_kept test body (t ▸ ts) l u s w =
+      between (record { moved = []; lists_moved = 2 ∷ 3 ∷ []; dropped = [] }) (test ▸ none) before none (body ∷ ((t ▸ ts) ∷ [])) (tt, (l, (u, tt)), tt)
+      (leaving_block (items 3 no_items)) (with_alternate (under Block (list (items 3 no_items) ▹ end))) refl read put
+      (s ∙ ap (λ us. if_alone test (block (append body (bare_return ▸ none))) ▸ us) (sym (append_none (t ▸ ts))))
+      (w ∙ ap (λ us. if_else test (block us) (block (t ▸ ts)) ▸ none) (sym (append_none body)) ∙ ap (λ us. if_else test (block (append body none)) (block us) ▸ none) (sym (append_none (t ▸ ts))))
+
+  row_75_block_kept : Row75Block bare_return read put → Kept
+  row_75_block_kept r = block_kept r.test r.body r.rest r.loose r.unscoped r.shape r.written
+
   row_kept : (o : Switches) → EndRow o bare_return read put → Kept
   row_kept o (inl r) = row_78_kept r
-  row_kept o (inr r) = row_75_kept r.1
+  row_kept o (inr (s, inl r)) = row_75_kept r
+  row_kept o (inr (s, inr r)) = row_75_block_kept r
 
 pub end_kept : (o : Switches) (n w : Tree) → AtEnd (EndRow o bare_return) n w → KeptAt StatementList n w
 end_kept o n w r =
@@ -102,9 +123,21 @@ module _ (strict : Bool) where
       let (a, b, c) = of_if strict d test bare_return absent x in
       more_fit strict (statement d) (if_alone (negation test) (block rest)) none (if_fits strict d (negation test) (block rest) absent (not_fits test a, block_fits rest (all_deeper d rest u y), refl)) refl
 
+  alternate_fits : (ts : Trees) → AllFit strict (statement nested) ts → fits strict (one_or_absent (a_statement nested)) (alternate_of ts) ≡ true
+  alternate_fits none e = refl
+  alternate_fits (t ▸ ts) e = block_fits (t ▸ ts) e
+
+  row_75_block_fits : (test : Tree) (body rest : Trees) → are_unscoped rest ≡ true → Fitting strict (if_alone test (block (append body (bare_return ▸ none))) ▸ rest) (if_else test (block body) (alternate_of rest) ▸ none)
+  row_75_block_fits test body rest u d e =
+      let (x, y) = first_fits strict (statement d) (if_alone test (block (append body (bare_return ▸ none)))) rest e in
+      let (a, b, c) = of_if strict d test (block (append body (bare_return ▸ none))) absent x in
+      let (f, g) = both_fit strict (statement nested) body (bare_return ▸ none) (of_block strict nested (append body (bare_return ▸ none)) b) in
+      more_fit strict (statement d) (if_else test (block body) (alternate_of rest)) none (if_fits strict d test (block body) (alternate_of rest) (a, block_fits body f, alternate_fits rest (all_deeper d rest u y))) refl
+
   row_fits : (o : Switches) (a b : Trees) → EndRow o bare_return a b → Fitting strict a b
   row_fits o a b (inl r) d e = subst (AllFit strict (statement d)) (sym r.written) refl
-  row_fits o a b (inr (s, r)) d e = subst (AllFit strict (statement d)) (sym r.written) (row_75_fits r.test r.rest r.unscoped d (subst (AllFit strict (statement d)) r.shape e))
+  row_fits o a b (inr (s, inl r)) d e = subst (AllFit strict (statement d)) (sym r.written) (row_75_fits r.test r.rest r.unscoped d (subst (AllFit strict (statement d)) r.shape e))
+  row_fits o a b (inr (s, inr r)) d e = subst (AllFit strict (statement d)) (sym r.written) (row_75_block_fits r.test r.body r.rest r.unscoped d (subst (AllFit strict (statement d)) r.shape e))
 
 pub end_fits : (o : Switches) (n w : Tree) → AtEnd (EndRow o bare_return) n w → (strict : Bool) (s : Slot) → fits_place StatementList s ≡ true → fits strict s n ≡ true → fits strict s w ≡ true
 end_fits o n w r strict s k e =

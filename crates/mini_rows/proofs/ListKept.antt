@@ -6,13 +6,14 @@ use Rattle.mini_model.specs.declared.place.Position.TheVariants.{StatementList}
 use Rattle.mini_model.specs.Tree.{Tree, Trees, none, ◌▸◌, listed, absent, expression_statement, if_else, if_alone, logical}
 use Rattle.mini_model.specs.Paths.{append}
 use Rattle.mini_rows.specs.Arranged.{KeptAt, NeighboursRow}
-use Rattle.mini_rows.specs.Lists.{of_parts, sequence, return_statement, throw_statement, with_head, Row74, InList}
+use Rattle.mini_rows.specs.Lists.{of_parts, sequence, return_statement, throw_statement, with_head, Row74, InList, Saying, says, Row77}
 use Rattle.mini_rows.specs.Lists as row
-use Rattle.mini_rows.specs.Sketches.{Sketch, Items, Parts, AbsentPart, Logical, Sequence, OfExpression, Throw, Return, If, part, under, list, end, ◌▹◌, no_items, item, items, filled, still, rearranges_list}
+use Rattle.mini_rows.specs.Sketches.{Sketch, Items, Parts, AbsentPart, Logical, Sequence, OfExpression, Throw, Return, If, part, under, list, end, ◌▹◌, no_items, item, items, filled, still, rearranges_list, Free}
 use Rattle.mini_rows.specs.ListLaws.{PlainHead, opens_scope, PlainRow, PlainListsKept}
 use Rattle.mini_rows.proofs.ArrangedStatements.{lists_arranged}
 use Rattle.mini_rows.proofs.ArrangedTwice.{lists_arranged_once}
-use Rattle.mini_rows.proofs.ArrangedBetween.{in_list_kept}
+use Rattle.mini_rows.proofs.ArrangedBetween.{ended, between, in_list_kept}
+use Rattle.mini_rows.proofs.FoldLawful.{vanishes}
 
 append_none : (ts : Trees) → append ts none ≡ ts
 append_none none = refl
@@ -139,3 +140,26 @@ guards_kept n w r =
     lists_arranged_once still (record { trees = m.left ▸ (m.s ▸ (m.right ▸ (m.u ▸ none))); lists = r.before ∷ r.after ∷ [] }) (tt, tt, tt) guards guard refl n w
     (read_as r.before r.after r.read r.put n w r.shape r.written (if_alone m.left m.s ▸ (if_else m.right m.s m.u ▸ none)) m.shape)
     (put_as r.before r.after r.read r.put n w r.shape r.written (if_else (logical Or m.left m.right) m.s m.u ▸ none) m.written)
+
+-- ---- what never runs
+
+abbrev first_gone : Free
+first_gone = record { moved = []; lists_moved = []; dropped = 1 ∷ [] }
+
+abbrev of_says : Sketch → Items
+of_says s = item (part 0) (item s no_items)
+
+module _ (before after read put : Trees) (r : Row77 read put) where
+  abbrev Kept : Type 0
+  Kept = KeptAt StatementList (listed (append before (append read after))) (listed (append before (append put after)))
+
+  gone : (s : Sketch) → rearranges_list first_gone (items 0 (ended (of_says s) 1)) (items 0 (ended (item (part 0) no_items) 1)) ≡ true → read ≡ r.first ▸ (filled (record { trees = r.first ▸ (r.e ▸ none); lists = before ∷ after ∷ [] }) s ▸ none) → Kept
+  gone s e f = between first_gone (r.first ▸ (r.e ▸ none)) before after [] (tt, tt, (vanishes r.e r.dropped, tt)) (of_says s) (item (part 0) no_items) e read put f r.written
+
+  says_kept : (k : Saying) → r.saying ≡ k → Kept
+  says_kept row.AsStatement h = gone (under OfExpression (part 1 ▹ end)) refl (r.shape ∙ ap (λ j. r.first ▸ (says j r.e ▸ none)) h)
+  says_kept row.AsReturn h = gone (under Return (part 1 ▹ end)) refl (r.shape ∙ ap (λ j. r.first ▸ (says j r.e ▸ none)) h)
+  says_kept row.AsThrow h = gone (under Throw (part 1 ▹ end)) refl (r.shape ∙ ap (λ j. r.first ▸ (says j r.e ▸ none)) h)
+
+  pub row_77_kept : Kept
+  row_77_kept = says_kept r.saying refl

@@ -146,7 +146,7 @@ abbrev names_if : Bool → List Name → List Name
 names_if true xs = xs
 names_if false xs = []
 
-names_are : (d : Declared) (k : VariableDeclarationKind) (ts : Trees) → names_of d (over k (listed ts)) ≡ names_if (declares_as d k) (all_names declared.Bound ts)
+pub names_are : (d : Declared) (k : VariableDeclarationKind) (ts : Trees) → names_of d (over k (listed ts)) ≡ names_if (declares_as d k) (all_names declared.Bound ts)
 unfolding names_of
 names_are declared.Bound k ts = refl
 names_are declared.Lexical Var ts = refl
@@ -175,7 +175,7 @@ body_are k ts = (λ i. names_are declared.Lexical k ts i ++ names_are declared.H
     by Let = append-nil (all_names declared.Bound ts)
     by Const = append-nil (all_names declared.Bound ts)
 
-declarations_are : (o : Bool) (k : VariableDeclarationKind) (ts : Trees) → as_body o (over k (listed ts)) ≡ own_declarations (not (is_var k)) [] (all_names declared.Bound ts)
+pub declarations_are : (o : Bool) (k : VariableDeclarationKind) (ts : Trees) → as_body o (over k (listed ts)) ≡ own_declarations (not (is_var k)) [] (all_names declared.Bound ts)
 declarations_are o k ts =
     (λ i. own_declarations (not (o && false)) [] (names_are declared.Lexical k ts i) ++ own_declarations false [] (names_are declared.Hoisted k ts i)) ∙ by o k (all_names declared.Bound ts)
   where
@@ -222,11 +222,11 @@ used u k = use_of (shape.VariableDeclaration k) u 0
 nothing_opened : (k : VariableDeclarationKind) (t : Tree) (env : Environment) → env ++ opened Read (shape.VariableDeclaration k) (t ▸ none) 0 ≡ env
 nothing_opened k t env = ap (λ r. env ++ r) (opened_is Read k t ∙ ap (λ c. scope_if c t) (read_opens k)) ∙ append-nil env
 
-scoped_down : (k : VariableDeclarationKind) (env : Environment) (t : Tree) → Scoped Read env (over k t) → Scoped (used Read k) env t
+pub scoped_down : (k : VariableDeclarationKind) (env : Environment) (t : Tree) → Scoped Read env (over k t) → Scoped (used Read k) env t
 unfolding Scoped
 scoped_down k env t a = subst (λ r. Scoped (used Read k) r t) (nothing_opened k t env) a.1.0
 
-scoped_up : (k : VariableDeclarationKind) (env : Environment) (t : Tree) → Scoped (used Read k) env t → Scoped Read env (over k t)
+pub scoped_up : (k : VariableDeclarationKind) (env : Environment) (t : Tree) → Scoped (used Read k) env t → Scoped Read env (over k t)
 unfolding Scoped
 scoped_up k env t a = (tt, (subst (λ r. Scoped (used Read k) r t) (sym (nothing_opened k t env)) a, tt))
 
@@ -310,28 +310,28 @@ or_nothing true = refl
 or_nothing false = refl
 
 module _ (k : VariableDeclarationKind) where
-  inner_is : (t : Tree) → has_inner (over k t) ≡ has_inner t
+  pub inner_is : (t : Tree) → has_inner (over k t) ≡ has_inner t
   unfolding has_inner
   inner_is t = or_nothing (has_inner t)
 
-  numbers_are : (t : Tree) → numbers (over k t) ≡ numbers t
+  pub numbers_are : (t : Tree) → numbers (over k t) ≡ numbers t
   unfolding numbers
   numbers_are t = append-nil (numbers t)
 
-  declared_are : (t : Tree) → names_declared (over k t) ≡ names_declared t
+  pub declared_are : (t : Tree) → names_declared (over k t) ≡ names_declared t
   declared_are t = append-nil (names_declared t)
 
-  frames_are : (t : Tree) → frames None (over k t) ≡ frames None t
+  pub frames_are : (t : Tree) → frames None (over k t) ≡ frames None t
   frames_are t = append-nil (frames None t)
 
-  bodies_are : (r : Around) (t : Tree) → bodies (quiet r) (over k t) ≡ bodies (quiet r) t
+  pub bodies_are : (r : Around) (t : Tree) → bodies (quiet r) (over k t) ≡ bodies (quiet r) t
   bodies_are r t = append-nil (bodies (quiet r) t)
 
-  once_is : (t : Tree) → early_names [] (over k t) ≡ early_names (0 ∷ []) t
+  pub once_is : (t : Tree) → early_names [] (over k t) ≡ early_names (0 ∷ []) t
   unfolding early_names scope_declarations
   once_is t = append-nil (early_names (0 ∷ []) t)
 
-  jumps_are : (g : Targets) (t : Tree) → early_jumps g [] (over k t) ≡ early_jumps g (0 ∷ []) t
+  pub jumps_are : (g : Targets) (t : Tree) → early_jumps g [] (over k t) ≡ early_jumps g (0 ∷ []) t
   unfolding early_jumps targets_of
   jumps_are g t = append-nil (early_jumps g (0 ∷ []) t)
 

@@ -19,9 +19,9 @@ use Rattle.mini_laws.proofs.Runs.{either_cong, either_assoc, either_eta, either_
 use Rattle.mini_laws.proofs.Truth.{coherent}
 use Rattle.mini_laws.proofs.Rows.{Equal, equal_same}
 use Rattle.mini_rows.specs.Switches.{Switches}
-use Rattle.mini_rows.specs.Lists.{declares_nothing, is_one_part_shape, are_parts, of_parts, block, return_statement, throw_statement, switch, for_loop, for_in, declaration, or_void, Head, Return, Throw, If, Switch, For, with_head, Row66Empty, Row66Joined, Row67, Row67Absent, Row67In, Row68, Row68Free, Row68Init, Row73, Row73Bare, Row76, Row79, SequencesRow, LoopRow, JoinRow, StretchRow, InList, ListRow, Row74, NeighbourRow}
+use Rattle.mini_rows.specs.Lists.{declares_nothing, is_one_part_shape, are_parts, of_parts, block, return_statement, throw_statement, switch, for_loop, for_in, declaration, or_void, Head, Return, Throw, If, Switch, For, with_head, Row66Empty, Row66Joined, Row67, Row67Absent, Row67In, Row68, Row68Free, Row68Init, Row73, Row73Bare, Row76, Row79, SequencesRow, LoopRow, JoinRow, StretchRow, InList, ListRow, Row74, NeighbourRow, Saying, AsStatement, AsReturn, AsThrow, says, Row77, is_unscoped}
 use Rattle.mini_rows.specs.ListLaws.{ListsMeanSame}
-use Rattle.mini_rows.proofs.ListStretches.{ReadSame, SameStretch, exec_one, exec_two, listed_is, in_list, list_does, list_reads, replaced}
+use Rattle.mini_rows.proofs.ListStretches.{ReadSame, SameStretch, exec_one, exec_two, listed_is, in_list, list_does, list_reads, replaced, read_in_list}
 use Rattle.mini_rows.proofs.ListParts.{joined_is}
 use Rattle.mini_rows.proofs.ListStatements.{expression_is, if_is, absent_is, empty_is, return_is, throw_is, conditional_is, or_void_is, declarations_join, declarations_read, one_unscoped, read_nothing, block_is}
 use Rattle.mini_rows.proofs.ListHeads.{Nothing, nothing_by, switch_rest, switch_plain, for_rest, for_is, for_absent_is}
@@ -262,9 +262,22 @@ row_74 a b r = replaced a _ b _ r.shape r.written (record {
   read = record { lets = refl; functions = refl; facts = refl; texts = refl };
 })
 
+-- what never runs
+says_unscoped : (k : Saying) (e : Tree) → is_unscoped (says k e) ≡ true
+says_unscoped AsStatement e = refl
+says_unscoped AsReturn e = refl
+says_unscoped AsThrow e = refl
+
+row_77 : (a b : Trees) → Row77 a b → SameStretch a b
+row_77 a b r = replaced a _ b _ r.shape r.written (record {
+  by = λ e s. exec_two e r.first (says r.saying r.e) s ∙ never_goes (means e r.first (Stat None) [] s) (ended_tree e r.first r.terminated [] s) _ ∙ sym (exec_one e r.first s);
+  read = read_in_list (r.first ▸ none) (says r.saying r.e ▸ none) none none (one_unscoped (says r.saying r.e) (says_unscoped r.saying r.e));
+})
+
 neighbours_same : (o : Switches) (a b : Trees) → NeighbourRow o a b → SameStretch a b
 neighbours_same o a b (inl r) = stretch_same o a b r
-neighbours_same o a b (inr r) = row_74 a b r.1
+neighbours_same o a b (inr (s, inl r)) = row_74 a b r
+neighbours_same o a b (inr (s, inr r)) = row_77 a b r
 
 -- in a list
 list_same : (o : Switches) (n w : Tree) (r : InList (NeighbourRow o) n w) → SameStretch (append r.before (append r.read r.after)) (append r.before (append r.put r.after))

@@ -16,7 +16,7 @@ use Rattle.mini_kept.proofs.Bools.{left, right, both}
 use Rattle.mini_kept.proofs.Expressions.{expression_taken, two_fit}
 use Rattle.mini_kept.proofs.Placed.{statements_slot}
 use Rattle.mini_rows.specs.Switches.{Switches}
-use Rattle.mini_rows.specs.Lists.{block, sequence, return_statement, throw_statement, for_loop, declaration, or_void, void_zero, of_parts, is_one_part, are_parts, is_unscoped, are_unscoped, Head as ListHead, Return, Throw, If, Switch, For, with_head, for_in, SequencesRow, LoopRow, JoinRow, StretchRow, InList, NeighbourRow}
+use Rattle.mini_rows.specs.Lists.{block, sequence, return_statement, throw_statement, for_loop, declaration, or_void, void_zero, of_parts, is_one_part, are_parts, is_unscoped, are_unscoped, Head as ListHead, Return, Throw, If, Switch, For, with_head, for_in, SequencesRow, LoopRow, JoinRow, StretchRow, InList, NeighbourRow, says}
 
 abbrev pub expression : Slot
 expression = one an_expression
@@ -109,7 +109,7 @@ module _ (strict : Bool) where
   two_items : (ts : Trees) → 2 ≤ count ts → nat_le 2 (count ts) ≡ true
   two_items ts h = le-leb 2 (count ts) h
 
-  sequence_fits : (ts : Trees) → 2 ≤ count ts → AllFit expression ts → Fits expression (sequence ts)
+  pub sequence_fits : (ts : Trees) → 2 ≤ count ts → AllFit expression ts → Fits expression (sequence ts)
   sequence_fits ts h e = both (nat_le 2 (count ts)) (fill strict (each expression) ts && true) (two_items ts h) (both (fill strict (each expression) ts) true e refl)
 
   pub parts_fit : (p : Tree) (ps : Trees) → Fits expression (of_parts p ps) → AllFit expression (p ▸ ps)
@@ -354,7 +354,8 @@ module _ (strict : Bool) where
 
   pub neighbours_fit : (o : Switches) (a b : Trees) → NeighbourRow o a b → Fitting a b
   neighbours_fit o a b (inl r) = stretch_fits o a b r
-  neighbours_fit o a b (inr r) = like r.1.shape r.1.written (guards_fit r.1.left r.1.right r.1.s r.1.u)
+  neighbours_fit o a b (inr (s, inl r)) = like r.shape r.written (guards_fit r.left r.right r.s r.u)
+  neighbours_fit o a b (inr (s, inr r)) = like r.shape r.written (λ d e. just d r.first (two_of d r.first (says r.saying r.e) e).0)
 
 -- a list, with the stretch in it
 pub list_fits : (o : Switches) (n w : Tree) → InList (NeighbourRow o) n w → (strict : Bool) (s : Slot) → fits_place StatementList s ≡ true → fits strict s n ≡ true → fits strict s w ≡ true

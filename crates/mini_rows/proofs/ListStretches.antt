@@ -27,6 +27,9 @@ finish_none x = either_eta x
 pub exec_more : (e : Environment) (c : Tree) (ts : Trees) (s : State) → exec e (c ▸ ts) None s ≡ either (means e c (Stat None) [] s) (λ u z. exec e ts None z) (λ x z. stop x z)
 exec_more e c ts s = exec_cons e c ts None s ∙ ap (λ w. either (means e c (Stat w) [] s) (λ u z. exec e ts None z) (λ x z. stop x z)) (last_none (length (facts ts)))
 
+pub exec_none : (e : Environment) (s : State) → exec e none None s ≡ ok tt s
+exec_none e s = refl
+
 pub exec_one : (e : Environment) (c : Tree) (s : State) → exec e (c ▸ none) None s ≡ means e c (Stat None) [] s
 exec_one e c s = exec_cons e c none None s ∙ either_eta (means e c (Stat None) [] s)
 

@@ -1,10 +1,11 @@
 -- What the rows at the end of a list mean, where a jump there goes where the list does.
-use Rattle.std.proofs.Common.{◌≡◌, Bool, true, false, not, [], Some, None, refl, sym, ap, ◌∙◌, subst, inl, inr}
-use Rattle.std.specs.Prelude.{◌⊎◌}
+use Rattle.std.proofs.Common.{◌≡◌, Bool, true, false, [], Some, None, refl, sym, ap, ◌∙◌, subst, inl, inr}
+use Rattle.std.specs.Prelude.{◌&&◌}
+use Rattle.std.proofs.lemmas.Bool.{and_parts}
 use Rattle.mini_model.specs.declared.place.Position.TheVariants.{BodyList}
-use Rattle.mini_model.specs.Tree.{Tree, Trees, none, ◌▸◌, absent, listed, if_alone, negation}
+use Rattle.mini_model.specs.Tree.{Tree, Trees, none, ◌▸◌, absent, listed, if_else, if_alone, negation}
 use Rattle.mini_model.specs.Paths.{append}
-use Rattle.mini_laws.specs.Value.{choose, VariableSet}
+use Rattle.mini_laws.specs.Value.{choose}
 use Rattle.mini_laws.specs.State.{State, Completion, ok, stop, either, Environment}
 use Rattle.mini_laws.specs.Demand.{Test, Tail, LoopTail, FunctionTail, Demand, As, Stat, LabelSet, Request}
 use Rattle.mini_laws.specs.Fits.{Fits}
@@ -13,15 +14,15 @@ use Rattle.mini_laws.specs.Rows.{SameAt}
 use Rattle.mini_laws.specs.Step.{step, means, meaning}
 use Rattle.mini_laws.specs.Tails.{ends_in, jump}
 use Rattle.mini_laws.proofs.Rows.{Equal, equal_same}
-use Rattle.mini_laws.proofs.Runs.{either_cong, either_assoc, either_ok, either_stop, each_bool}
+use Rattle.mini_laws.proofs.Runs.{either_cong, either_assoc, either_ok, either_stop}
 use Rattle.mini_laws.proofs.Stretching.{exec}
 use Rattle.mini_laws.proofs.Tailing.{tail_same}
 use Rattle.mini_node.specs.Walks.{append_none}
 use Rattle.mini_rows.specs.Switches.{Switches}
-use Rattle.mini_rows.specs.Lists.{block, are_unscoped, Row75, Row78, AtEnd, EndRow, bare_return}
+use Rattle.mini_rows.specs.Lists.{block, is_unscoped, are_unscoped, alternate_of, Row75, Row75Block, Row78, AtEnd, EndRow, bare_return}
 use Rattle.mini_rows.proofs.BranchMeaning.{not_test, by_negated}
 use Rattle.mini_rows.proofs.ListStatements.{if_is, absent_is, block_is, read_nothing}
-use Rattle.mini_rows.proofs.ListStretches.{ReadSame, exec_more, exec_one, exec_append, listed_is, read_in_list, read_alike}
+use Rattle.mini_rows.proofs.ListStretches.{ReadSame, exec_none, exec_more, exec_one, exec_append, listed_is, read_in_list, read_alike}
 
 -- what some statements do at the end of such a list
 abbrev pub at_end : Tail → Completion (Unit {0}) → Completion (Unit {0})
@@ -110,11 +111,74 @@ row_75 x a b r = ends_replaced x a _ b _ r.shape r.written (record {
   read = same_both (if_alone r.test (jump x) ▸ r.rest) (if_alone (negation r.test) (block r.rest) ▸ none) (read_nothing (if_alone r.test (jump x) ▸ r.rest) r.unscoped) (read_nothing (if_alone (negation r.test) (block r.rest) ▸ none) refl);
 })
 
+-- 75, of a block that ends with the jump
+
+jump_unscoped : (x : Tail) → is_unscoped (jump x) ≡ true
+jump_unscoped LoopTail = refl
+jump_unscoped FunctionTail = refl
+
+with_jump : (x : Tail) (body : Trees) → are_unscoped body ≡ true → are_unscoped (append body (jump x ▸ none)) ≡ true
+with_jump x none h = ap (λ b. b && true) (jump_unscoped x)
+with_jump x (t ▸ ts) h = ap (λ b. b && are_unscoped (append ts (jump x ▸ none))) (and_parts (is_unscoped t) (are_unscoped ts) h).0 ∙ with_jump x ts (and_parts (is_unscoped t) (are_unscoped ts) h).1
+
+block_does : (e : Environment) (ts : Trees) → are_unscoped ts ≡ true → (z : State) → means e (block ts) (Stat None) [] z ≡ exec e ts None z
+block_does e ts h z = block_is e ts (read_nothing ts h) [] z ∙ listed_is e ts [] z
+
+alternate_does : (e : Environment) (ts : Trees) → are_unscoped ts ≡ true → (z : State) → means e (alternate_of ts) (Stat None) [] z ≡ exec e ts None z
+alternate_does e none h z = absent_is e [] z ∙ sym (exec_none e z)
+alternate_does e (t ▸ ts) h z = block_does e (t ▸ ts) h z
+
+module _ (x : Tail) (e : Environment) (test : Tree) (body rest : Trees) (loose : are_unscoped body ≡ true) (unscoped : are_unscoped rest ≡ true) where
+  -- the body is run where the test holds, the rest where it fails
+  abbrev either_way : Bool → State → Completion (Unit {0})
+  either_way t z = choose t (at_end x (exec e body None z)) (at_end x (exec e rest None z))
+
+  abbrev then_rest : Completion (Unit {0}) → Completion (Unit {0})
+  then_rest c = either c (λ u y. exec e rest None y) (λ y w. stop y w)
+
+  body_ends : (z : State) → at_end x (then_rest (exec e (append body (jump x ▸ none)) None z)) ≡ at_end x (exec e body None z)
+  body_ends z =
+      ap (λ c. at_end x (then_rest c)) (exec_append e body (jump x ▸ none) z)
+      ∙ ap (at_end x) (either_assoc (exec e body None z) (λ u y. exec e (jump x ▸ none) None y) (λ y w. stop y w) (λ u y. exec e rest None y) (λ y w. stop y w))
+      ∙ either_assoc (exec e body None z) _ _ (λ u y. ok tt y) (ends_in (Some x))
+      ∙ either_cong (exec e body None z) _ (λ u y. ok tt y) _ (ends_in (Some x))
+      (λ u y. ap (λ c. at_end x (then_rest c)) (exec_one e (jump x) y) ∙ jump_passes e x (λ u w. exec e rest None w) y)
+      (λ y w. ap (at_end x) (either_stop y w _ _) ∙ either_stop y w _ _)
+
+  leaving : (z : State) → (t : Bool) → at_end x (then_rest (choose t (means e (block (append body (jump x ▸ none))) (Stat None) [] z) (means e absent (Stat None) [] z))) ≡ either_way t z
+  leaving z true = ap (λ c. at_end x (then_rest c)) (block_does e (append body (jump x ▸ none)) (with_jump x body loose) z) ∙ body_ends z
+  leaving z false = ap (λ c. at_end x (then_rest c)) (absent_is e [] z) ∙ ap (at_end x) (either_ok tt z _ _)
+
+  leaving_does : (s : State) → at_end x (exec e (if_alone test (block (append body (jump x ▸ none))) ▸ rest) None s) ≡ either (means e test (As Test) tt s) either_way (ends_in (Some x))
+  leaving_does s =
+      ap (at_end x) (exec_more e (if_alone test (block (append body (jump x ▸ none)))) rest s
+      ∙ ap then_rest (if_is e test (block (append body (jump x ▸ none))) absent [] s)
+      ∙ either_assoc (means e test (As Test) tt s) _ _ _ _)
+      ∙ either_assoc (means e test (As Test) tt s) _ _ _ _
+      ∙ either_cong (means e test (As Test) tt s) _ either_way _ (ends_in (Some x)) (λ t z. leaving z t) (λ y z. ap (at_end x) (either_stop y z _ _) ∙ either_stop y z _ _)
+
+  parted : (z : State) → (t : Bool) → at_end x (choose t (means e (block body) (Stat None) [] z) (means e (alternate_of rest) (Stat None) [] z)) ≡ either_way t z
+  parted z true = ap (at_end x) (block_does e body loose z)
+  parted z false = ap (at_end x) (alternate_does e rest unscoped z)
+
+  parted_does : (s : State) → at_end x (exec e (if_else test (block body) (alternate_of rest) ▸ none) None s) ≡ either (means e test (As Test) tt s) either_way (ends_in (Some x))
+  parted_does s =
+      ap (at_end x) (exec_one e (if_else test (block body) (alternate_of rest)) s ∙ if_is e test (block body) (alternate_of rest) [] s)
+      ∙ either_assoc (means e test (As Test) tt s) _ _ _ _
+      ∙ either_cong (means e test (As Test) tt s) _ either_way _ (ends_in (Some x)) (λ t z. parted z t) (λ y z. either_stop y z _ _)
+
+pub row_75_block : (x : Tail) (a b : Trees) → Row75Block (jump x) a b → SameEnd x a b
+row_75_block x a b r = ends_replaced x a _ b _ r.shape r.written (record {
+  by = λ e s. leaving_does x e r.test r.body r.rest r.loose r.unscoped s ∙ sym (parted_does x e r.test r.body r.rest r.loose r.unscoped s);
+  read = same_both (if_alone r.test (block (append r.body (jump x ▸ none))) ▸ r.rest) (if_else r.test (block r.body) (alternate_of r.rest) ▸ none) (read_nothing (if_alone r.test (block (append r.body (jump x ▸ none))) ▸ r.rest) r.unscoped) (read_nothing (if_else r.test (block r.body) (alternate_of r.rest) ▸ none) refl);
+})
+
 -- ---- at the end of a function's body
 
 pub end_same : (o : Switches) (x : Tail) (a b : Trees) → EndRow o (jump x) a b → SameEnd x a b
 end_same o x a b (inl r) = row_78 x a b r
-end_same o x a b (inr r) = row_75 x a b r.1
+end_same o x a b (inr (s, inl r)) = row_75 x a b r
+end_same o x a b (inr (s, inr r)) = row_75_block x a b r
 
 body_end_equal : (o : Switches) (n w : Tree) → AtEnd (EndRow o bare_return) n w → Equal BodyList n w
 body_end_equal o n w r = record { by = λ e d f z s. go e d f z s }

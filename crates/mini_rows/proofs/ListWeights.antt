@@ -22,7 +22,7 @@ use Rattle.mini_laws.specs.Weights.{counts_items}
 use Rattle.mini_laws.proofs.Seats.{is_inner, placed, placed_node, moved}
 use Rattle.mini_node.specs.Walks.{append_none}
 use Rattle.mini_rows.specs.Switches.{Switches}
-use Rattle.mini_rows.specs.Lists.{of_parts, is_one_part_shape, declares_nothing, are_parts, sequence, or_void, return_statement, throw_statement, is_unscoped, Head, Return, Throw, If, Switch, For, with_head, Row66Empty, Row66Joined, Row67, Row67Absent, Row67In, Row68, Row68Free, Row68Init, Row73, Row73Bare, Row76, Row79, SequencesRow, LoopRow, JoinRow, StretchRow, InList, ListRow, ListsLighter, Row74, Row75, Row78, block, bare_return, AtEnd, EndRow, NeighbourRow}
+use Rattle.mini_rows.specs.Lists.{of_parts, is_one_part_shape, declares_nothing, are_parts, sequence, or_void, return_statement, throw_statement, is_unscoped, Head, Return, Throw, If, Switch, For, with_head, Row66Empty, Row66Joined, Row67, Row67Absent, Row67In, Row68, Row68Free, Row68Init, Row73, Row73Bare, Row76, Row79, SequencesRow, LoopRow, JoinRow, StretchRow, InList, ListRow, ListsLighter, Row74, Row75, Row78, block, alternate_of, bare_return, AtEnd, EndRow, NeighbourRow, Saying, AsStatement, AsReturn, AsThrow, says, Row77}
 use Rattle.mini_rows.specs.ListLaws.{ListsLighten}
 
 -- the statements of a list, wherever in it they stand
@@ -58,11 +58,11 @@ total_append (t ▸ a) b = let rest = total_append a b in omega (arith, rest)
 abbrev flat : Bool → Bool → Seat
 flat b u = record (seat_of_level 0) { boolean = b; unused = u }
 
-abbrev parts_total : Trees → ℕ
+abbrev pub parts_total : Trees → ℕ
 parts_total none = 0
 parts_total (t ▸ ts) = weight (Expr passed_part_seat) t + parts_total ts
 
-abbrev parts_weight : Tree → Trees → ℕ
+abbrev pub parts_weight : Tree → Trees → ℕ
 parts_weight p ps = weight (Expr passed_part_seat) p + parts_total ps + 2 * count ps
 
 part_falls : (s : Seat) (t : Tree) → weight (Expr passed_part_seat) t ≤ weight (Expr (branch_seat s)) t
@@ -89,6 +89,13 @@ commas_by p (q ▸ qs) = let rest = commas_by q qs in omega (arith, rest)
 sequence_is : (b u : Bool) (p : Tree) (ps : Trees) → weight (Expr (flat b u)) (sequence (p ▸ ps)) ≡ parts_weight p ps
 sequence_is b u p ps =
     let items = parts_by (part_seat (flat b u) (count (p ▸ ps))) (λ i t. part_same (flat b u) (nat_eq (suc i) (count (p ▸ ps))) t) (p ▸ ps) in
+    let commas = commas_by p ps in
+    omega (arith, items, commas)
+
+-- in any seat its place adds what it does of a sequence
+pub sequence_weighs : (s : Seat) (p : Tree) (ps : Trees) → weight (Expr s) (sequence (p ▸ ps)) ≡ place_weight (Expr s) shape.SequenceExpression (outlines (listed (p ▸ ps) ▸ none)) + parts_weight p ps
+sequence_weighs s p ps =
+    let items = parts_by (part_seat s (count (p ▸ ps))) (λ i t. part_same s (nat_eq (suc i) (count (p ▸ ps))) t) (p ▸ ps) in
     let commas = commas_by p ps in
     omega (arith, items, commas)
 
@@ -295,6 +302,14 @@ row_74 a b r =
     let right = right_falls r.right in
     replaced a _ b _ r.shape r.written (record { lighter = omega (arith, left, right); chosen = inl refl; some = λ e. omega (arith, e) })
 
+says_weighs : (k : Saying) (e : Tree) → 0 < weight (Stmt stmt_seat.List) (says k e)
+says_weighs AsStatement e = omega arith
+says_weighs AsReturn e = omega arith
+says_weighs AsThrow e = omega arith
+
+row_77 : (a b : Trees) → Row77 a b → Falls a b
+row_77 a b r = let more = says_weighs r.saying r.e in replaced a _ b _ r.shape r.written (record { lighter = omega (arith, more); chosen = inl refl; some = λ e. omega (arith, e) })
+
 sequences_fall : (a b : Trees) → SequencesRow a b → Falls a b
 sequences_fall a b (inl r) = row_66_joined a b r
 sequences_fall a b (inr (inl r)) = row_73_return a b r
@@ -321,7 +336,8 @@ stretch_falls o a b (inr (inr (inr r))) = sequences_fall a b r.1
 
 neighbours_fall : (o : Switches) (a b : Trees) → NeighbourRow o a b → Falls a b
 neighbours_fall o a b (inl r) = stretch_falls o a b r
-neighbours_fall o a b (inr r) = row_74 a b r.1
+neighbours_fall o a b (inr (s, inl r)) = row_74 a b r
+neighbours_fall o a b (inr (s, inr r)) = row_77 a b r
 
 -- in a list
 
@@ -383,9 +399,45 @@ row_75 a b r =
     let branch = block_falls r.rest in
     replaced a _ b _ r.shape r.written (record { lighter = omega (arith, test, branch); chosen = inl (guard_chooses r.test r.rest); some = λ e. omega (arith, e) })
 
+abbrev braces_weight : Bool → ℕ
+braces_weight b = if b then 0 else 4
+
+-- a block that ends with a jump has braces
+ends_plain : (ts : Trees) → one_chooses (outlines (append ts (bare_return ▸ none))) ≡ false
+ends_plain none = refl
+ends_plain (t ▸ none) = refl
+ends_plain (t ▸ (u ▸ ts)) = refl
+
+leaving_weighs : (ts : Trees) → weight (Stmt stmt_seat.Consequent) (block (append ts (bare_return ▸ none))) ≡ total ts + 20
+leaving_weighs ts =
+    let items = list_is (append ts (bare_return ▸ none)) in
+    let both = total_append ts (bare_return ▸ none) in
+    let braces = ap braces_weight (ends_plain ts) in
+    omega (arith, items, both, braces)
+
+alternate_weighs : (ts : Trees) → weight (Stmt stmt_seat.Body) (alternate_of ts) ≤ total ts + 4
+alternate_weighs none = omega arith
+alternate_weighs (t ▸ ts) = let items = list_is (t ▸ ts) in omega (arith, items)
+
+leaving_chooses : (test : Tree) (body rest : Trees) → chooses (if_alone test (block (append body (bare_return ▸ none))) ▸ rest) ≡ false
+leaving_chooses test body none = refl
+leaving_chooses test body (t ▸ ts) = refl
+
+row_75_block : (test : Tree) (body rest : Trees) → Falls (if_alone test (block (append body (bare_return ▸ none))) ▸ rest) (if_else test (block body) (alternate_of rest) ▸ none)
+row_75_block test body none =
+    let old = leaving_weighs body in
+    let new = block_falls body in
+    record { lighter = omega (arith, old, new); chosen = inl (leaving_chooses test body none); some = λ e. omega (arith, e) }
+row_75_block test body (t ▸ ts) =
+    let old = leaving_weighs body in
+    let new = block_falls body in
+    let other = alternate_weighs (t ▸ ts) in
+    record { lighter = omega (arith, old, new, other); chosen = inl (leaving_chooses test body (t ▸ ts)); some = λ e. omega (arith, e) }
+
 end_falls : (o : Switches) (a b : Trees) → EndRow o bare_return a b → Falls a b
 end_falls o a b (inl r) = row_78 a b r
-end_falls o a b (inr r) = row_75 a b r.1
+end_falls o a b (inr (s, inl r)) = row_75 a b r
+end_falls o a b (inr (s, inr r)) = replaced a _ b _ r.shape r.written (row_75_block r.test r.body r.rest)
 
 pub lists_lighter : ListsLighter
 lists_lighter o StatementList n w r = list_lighter (NeighbourRow o) n w r (neighbours_fall o r.read r.put r.row)

@@ -6,7 +6,7 @@ use Rattle.std.specs.Char.{digit_value}
 use Rattle.std.specs.Str.Parse.{AllDigits}
 use Rattle.std.proofs.lemmas.Bool.{eqb-true}
 use Rattle.std.proofs.lemmas.Fmt.{decimal_is_IsNumeral}
-use Rattle.mini_text.specs.Numerals.{IsSafe}
+use Rattle.mini_model.specs.Numerals.{IsSafe}
 use Rattle.mini_model.specs.declared.kind.PropertyKind.{PropertyKind}
 use Rattle.mini_model.specs.declared.kind.PropertyKind.TheVariants.{Init, Get, Set}
 use Rattle.mini_model.specs.declared.place.Position.{Position}

@@ -7,7 +7,7 @@ use Rattle.std.specs.Char.Utf16.{has_unpaired_surrogate}
 use Rattle.mini_model.specs.declared.kind.PropertyKind.{PropertyKind}
 use Rattle.mini_model.specs.declared.kind.PropertyKind.TheVariants.{Init, Get, Set}
 use Rattle.mini_model.specs.declared.name.Name.{Name}
-use Rattle.mini_text.specs.Texts.{are_units, is_identifier_name}
+use Rattle.mini_model.specs.Texts.{are_units, is_identifier_name}
 use Rattle.mini_model.specs.declared.place.Position.{Position}
 use Rattle.mini_model.specs.declared.place.Position.TheVariants.{Expr}
 use Rattle.mini_model.specs.Paths.{append}

@@ -424,7 +424,7 @@ module _ (o : BinaryOperator) (equality : is_equality o ≡ true) (a : Tree) whe
   unfolding means step
   ordered_does e q r z = valued_alike e (names_of e o q operand long) (λ i. As Val) (sides e o operand long) (sides e (ordered o) operand short) q r (binary_step o) (binary_step (ordered o)) (ordered_step e (names_of e o q operand long)) z
 
-  ordered_same : SameTree (binary o operand long) (binary (ordered o) operand short)
+  pub ordered_same : SameTree (binary o operand long) (binary (ordered o) operand short)
   ordered_same = record { by = ordered_does; read = refl }
 
 -- 60

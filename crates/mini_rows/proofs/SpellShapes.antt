@@ -4,8 +4,8 @@ use Rattle.std.specs.Prelude.{◌&&◌, not, codes, ℤ, pos, negsuc}
 use Rattle.std.specs.Fmt.{signed_decimal}
 use Rattle.std.proofs.lemmas.Bool.{le-leb}
 use Rattle.std.specs.Char.Utf16.{has_unpaired_surrogate, utf16_chars}
-use Rattle.mini_text.specs.Texts.{are_units, is_identifier_name}
-use Rattle.mini_text.specs.Numerals.{IsSafe, max_safe_integer}
+use Rattle.mini_model.specs.Texts.{are_units, is_identifier_name}
+use Rattle.mini_model.specs.Numerals.{IsSafe, max_safe_integer}
 use Rattle.mini_model.specs.declared.operator.AssignmentOperator.{AssignmentOperator}
 use Rattle.mini_model.specs.declared.operator.AssignmentOperator.TheVariants.{Assign}
 use Rattle.mini_model.specs.declared.operator.BinaryOperator.{BinaryOperator}

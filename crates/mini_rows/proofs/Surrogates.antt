@@ -4,7 +4,7 @@ use Rattle.std.specs.Prelude.{◌&&◌, ◌||◌, ◌++◌, not, nat_le, nat_lt,
 use Rattle.std.specs.List.{list_any}
 use Rattle.std.specs.Char.Utf16.{is_high_surrogate, is_low_surrogate, surrogate_pair_char, lone_unit_char, utf16_chars, has_unpaired_surrogate}
 use Rattle.std.proofs.lemmas.Bool.{and_parts}
-use Rattle.mini_text.specs.Texts.{are_units}
+use Rattle.mini_model.specs.Texts.{are_units}
 use Rattle.mini_accept.specs.WellShaped.{is_paired}
 
 abbrev missing : Option ℕ → Bool

@@ -10,9 +10,10 @@ use Rattle.mini_model.specs.declared.name.SymbolId.{SymbolId}
 use Rattle.mini_model.specs.declared.place.Position.TheVariants.{Stmt}
 use Rattle.mini_model.specs.declared.seat.StmtSeat.{StmtSeat}
 use Rattle.mini_model.specs.declared.shape.Shape.TheVariants as shape
-use Rattle.mini_model.specs.Tree.{Tree, Trees, none, ◌▸◌, absent, listed, empty_statement, expression_statement}
+use Rattle.mini_model.specs.Tree.{Tree, Trees, none, ◌▸◌, listed, empty_statement, expression_statement}
 use Rattle.mini_model.specs.Paths.{append}
 use Rattle.mini_names.specs.declared.Binding.{Binding}
+use Rattle.mini_names.specs.declared.Declaration.{Declaration}
 use Rattle.mini_names.specs.declared.Declared.{Declared}
 use Rattle.mini_names.specs.declared.Declared.TheVariants as declared
 use Rattle.mini_names.specs.declared.Targets.{Targets}
@@ -22,7 +23,7 @@ use Rattle.mini_names.specs.DeclaredNames.{names_of, all_names, body_names, with
 use Rattle.mini_names.specs.Edits.{Kept}
 use Rattle.mini_names.specs.Resolved.{Environment}
 use Rattle.mini_names.specs.Scopes.{scopes_by}
-use Rattle.mini_names.specs.Scoped.{Scoped, Unmentioned}
+use Rattle.mini_names.specs.Scoped.{Scoped, Unmentioned, AllUnmentioned}
 use Rattle.mini_names.specs.Symbols.{symbols_in, declared as declared_in, times}
 use Rattle.mini_names.specs.Early.{Path, own_declarations, body_declarations, scope_declarations, early_names, targets_of, early_jumps, is_loop, clashing}
 use Rattle.mini_names.proofs.Changes.{times_both}
@@ -40,29 +41,33 @@ use Rattle.mini_kept.specs.Loosely.{symbol}
 use Rattle.mini_kept.specs.SameNames.{counted, NoMoreClash}
 use Rattle.mini_kept.proofs.Anywhere.{once_anywhere, targets_anywhere}
 use Rattle.mini_kept.proofs.Below.{both_empty, empty_both}
-use Rattle.mini_kept.proofs.BodyLists.{kept_itself}
+use Rattle.mini_kept.proofs.BodyLists.{kept_itself, kept_on}
 use Rattle.mini_kept.proofs.Clashes.{counted_unplaced, no_more_same, no_more_both, still_free}
 use Rattle.mini_kept.proofs.Fixed.{of_children}
-use Rattle.mini_kept.proofs.Unplaced.{as_body, all_as_body, body_is, body_same}
+use Rattle.mini_kept.proofs.Unplaced.{as_body, all_as_body, body_is, body_same, own_both}
+use Rattle.mini_rows.specs.Arranged.{Vanishes}
 use Rattle.mini_rows.specs.Lists.{block}
 use Rattle.mini_rows.specs.Declarations.{binding, declarator}
-use Rattle.mini_rows.specs.Unused.{names, let_one}
+use Rattle.mini_rows.specs.Unused.{names, let_one, any_names, let_among, left_over}
 use Rattle.mini_rows.proofs.Arranging.{Any}
 use Rattle.mini_rows.proofs.ArrangedNames.{ScopedAs, scoped_local, symbol_times, symbols_summed, number_times, numbers_summed, InnerIf, inner_local, Once, once_local, HasTarget, Aimed, aimed_local}
-use Rattle.mini_rows.proofs.ArrangedBodies.{quiet, HasBodies, bodies_local, HasFrames, frames_local, Declares, declares_local, FixedBy, fixed_local, rank, by_rank}
+use Rattle.mini_rows.proofs.ArrangedBodies.{quiet, HasBodies, bodies_local, HasFrames, frames_local, Declares, declares_local, FixedBy, fixed_local, rank, by_rank, Among}
 use Rattle.mini_rows.proofs.ArrangedTrees.{both_same, itself}
-use Rattle.mini_rows.proofs.ListKeptDeclarations.{all_both}
+use Rattle.mini_rows.proofs.ListKeptDeclarations.{all_both, over, names_are, declarations_are, used, scoped_down, scoped_up, symbols_are, inner_is, numbers_are, declared_are, frames_are, bodies_are, once_is, jumps_are}
 use Rattle.mini_rows.proofs.ListKeptStretch.{stretched, sum_stretched}
-use Rattle.mini_rows.proofs.UnusedNames.{unmentioned, Amid, Other, amid}
+use Rattle.mini_rows.proofs.UnusedNames.{unmentioned, Amid, Other, amid, other_both, all_unmentioned, all_other}
 
 -- ---- what a declaration has, and what is written for it keeps
 
 pub record Leaves (x : Name) (d w : Tree) : Type 0 where
-  pub names : names_of declared.Lexical d ≡ x ∷ []
-  pub no_names : names_of declared.Lexical w ≡ []
+  pub first : List Name
+  pub last : List Name
+  pub names : names_of declared.Lexical d ≡ first ++ x ∷ last
+  pub left : names_of declared.Lexical w ≡ first ++ last
+  pub others_first : Other x first
+  pub others_last : Other x last
   pub hoists : names_of declared.Hoisted w ≡ names_of declared.Hoisted d
-  pub as_one : as_body false d ≡ record { spelling = x.spelling; is_lexical = true; at = [] } ∷ []
-  pub as_none : as_body false w ≡ []
+  pub clash : NoMoreClash (as_body false w) (as_body false d)
   pub inner : has_inner w ≡ has_inner d
   pub scoped : (env : Environment) → Scoped Read env d → Scoped Read env w
   pub unmentioned : Unmentioned (record { name = x; hoists = false }) w
@@ -70,8 +75,8 @@ pub record Leaves (x : Name) (d w : Tree) : Type 0 where
   pub numbered : (k : ℕ) → count_of k (numbers w) ≤ count_of k (numbers d)
   pub once : early_names [] d ≡ [] → early_names [] w ≡ []
   pub targets : (g : Targets) → early_jumps g [] d ≡ [] → early_jumps g [] w ≡ []
-  pub framed : frames None w ≡ frames None d
-  pub bodied : (a : Around) → bodies (quiet a) w ≡ bodies (quiet a) d
+  pub framed : FramesKept (frames None d) (frames None w)
+  pub bodied : (a : Around) → BodiesKept (bodies (quiet a) d) (bodies (quiet a) w)
   pub fixed : (y : Variable) → fixed_by w y ≡ fixed_by d y
   pub declares : (y : Name) → Contains (names_declared w) y → Contains (names_declared d) y
 
@@ -113,10 +118,10 @@ module _ (x : Name) (before after : Trees) (d w : Tree) (l : Leaves x d w) where
   list_targets g p q = targets_anywhere g [] p (listed B) (stretched (HasTarget g) (Aimed g) (aimed_local g) before after (d ▸ none) (w ▸ none) (λ o. (l.targets g o.0, tt)) (targets_anywhere g p [] (listed A) q))
 
   pub list_frames : FramesKept (frames None (listed A)) (frames None (listed B))
-  list_frames = stretched Any (HasFrames (frames None (listed A))) (frames_local (frames None (listed A))) before after (d ▸ none) (w ▸ none) (λ q. (subst (FramesKept (frames None (listed A))) (sym l.framed) q.0, tt)) (λ f q. q)
+  list_frames = stretched Any (HasFrames (frames None (listed A))) (frames_local (frames None (listed A))) before after (d ▸ none) (w ▸ none) (λ q. ((λ f c. q.0 f (l.framed f c)), tt)) (λ f q. q)
 
   pub list_bodies : (a : Around) → BodiesKept (bodies (quiet a) (listed A)) (bodies (quiet a) (listed B))
-  list_bodies a = stretched Any (HasBodies (bodies (quiet a) (listed A)) a) (bodies_local (bodies (quiet a) (listed A)) a) before after (d ▸ none) (w ▸ none) (λ q. (subst (BodiesKept (bodies (quiet a) (listed A))) (sym (l.bodied a)) q.0, tt)) (kept_itself (bodies (quiet a) (listed A)))
+  list_bodies a = stretched Any (HasBodies (bodies (quiet a) (listed A)) a) (bodies_local (bodies (quiet a) (listed A)) a) before after (d ▸ none) (w ▸ none) (λ q. (kept_on (bodies (quiet a) (listed A)) (bodies (quiet a) d) (bodies (quiet a) w) q.0 (l.bodied a), tt)) (kept_itself (bodies (quiet a) (listed A)))
 
   pub list_declares : (y : Name) → Contains (names_declared (listed B)) y → Contains (names_declared (listed A)) y
   list_declares = stretched Any (Declares (names_declared (listed A))) (declares_local (names_declared (listed A))) before after (d ▸ none) (w ▸ none) (λ q. ((λ y c. q.0 y (l.declares y c)), tt)) (λ y c. c)
@@ -127,13 +132,24 @@ module _ (x : Name) (before after : Trees) (d w : Tree) (l : Leaves x d w) where
   unfolding names_of
   list_hoists = all_both declared.Hoisted before (w ▸ after) ∙ ap (λ ys. all_names declared.Hoisted before ++ (ys ++ all_names declared.Hoisted after)) l.hoists ∙ sym (all_both declared.Hoisted before (d ▸ after))
 
-  lexical_with : names_of declared.Lexical (listed A) ≡ all_names declared.Lexical before ++ x ∷ all_names declared.Lexical after
-  unfolding names_of
-  lexical_with = all_both declared.Lexical before (d ▸ after) ∙ ap (λ ys. all_names declared.Lexical before ++ (ys ++ all_names declared.Lexical after)) l.names
+  abbrev lexical_first : List Name
+  lexical_first = all_names declared.Lexical before ++ l.first
 
-  lexical_without : names_of declared.Lexical (listed B) ≡ all_names declared.Lexical before ++ all_names declared.Lexical after
+  abbrev lexical_last : List Name
+  lexical_last = l.last ++ all_names declared.Lexical after
+
+  lexical_both : (t : Tree) (xs ys : List Name) → names_of declared.Lexical t ≡ xs ++ ys → names_of declared.Lexical (listed (append before (t ▸ after))) ≡ (all_names declared.Lexical before ++ xs) ++ (ys ++ all_names declared.Lexical after)
   unfolding names_of
-  lexical_without = all_both declared.Lexical before (w ▸ after) ∙ ap (λ ys. all_names declared.Lexical before ++ (ys ++ all_names declared.Lexical after)) l.no_names
+  lexical_both t xs ys e =
+      let f = all_names declared.Lexical before in
+      let g = all_names declared.Lexical after in
+      all_both declared.Lexical before (t ▸ after) ∙ ap (λ zs. f ++ (zs ++ g)) e ∙ ap (λ zs. f ++ zs) (append_assoc xs ys g) ∙ sym (append_assoc f xs (ys ++ g))
+
+  lexical_with : names_of declared.Lexical (listed A) ≡ lexical_first ++ x ∷ lexical_last
+  lexical_with = lexical_both d l.first (x ∷ l.last) l.names
+
+  lexical_without : names_of declared.Lexical (listed B) ≡ lexical_first ++ lexical_last
+  lexical_without = lexical_both w l.first l.last l.left
 
   module _ (o : Other x (all_names declared.Lexical before)) (p : Other x (all_names declared.Lexical after)) where
     abbrev bind : Name → Binding
@@ -142,7 +158,7 @@ module _ (x : Name) (before after : Trees) (d w : Tree) (l : Leaves x d w) where
     scopes : Amid x (with_names [] (names_of declared.Lexical (listed A))) (with_names [] (names_of declared.Lexical (listed B)))
     scopes =
         subst (λ ys. Amid x (with_names [] ys) (with_names [] (names_of declared.Lexical (listed B)))) (sym lexical_with)
-        (subst (λ ys. Amid x (with_names [] (all_names declared.Lexical before ++ x ∷ all_names declared.Lexical after)) (with_names [] ys)) (sym lexical_without) (amid x (all_names declared.Lexical before) (all_names declared.Lexical after) o p))
+        (subst (λ ys. Amid x (with_names [] (lexical_first ++ x ∷ lexical_last)) (with_names [] ys)) (sym lexical_without) (amid x lexical_first lexical_last (other_both x (all_names declared.Lexical before) l.first o l.others_first) (other_both x l.last (all_names declared.Lexical after) l.others_last p)))
 
     abbrev scope_of : List Name → Environment
     scope_of ys = map bind ys
@@ -235,7 +251,7 @@ module _ (x : Name) (before after : Trees) (d w : Tree) (l : Leaves x d w) where
         subst (λ ds. NoMoreClash (as_body false (listed B)) ds) (sym (as_bodies before (d ▸ after)))
         (subst (λ es. NoMoreClash es (f ++ (as_body false d ++ g))) (sym (as_bodies before (w ▸ after)))
         (no_more_both f f (as_body false d ++ g) (as_body false w ++ g) (no_more_same f f refl)
-        (subst (λ ds. NoMoreClash (ds ++ g) (as_body false d ++ g)) (sym l.as_none) (no_more_both (as_body false d) [] g g (λ s. (omega arith, λ z. refl)) (no_more_same g g refl)))))
+        (no_more_both (as_body false d) (as_body false w) g g l.clash (no_more_same g g refl))))
 
     fewer : (p : Path) → NoMoreClash (body_declarations false p (listed B)) (body_declarations false p (listed A))
     fewer p s =
@@ -315,11 +331,14 @@ module _ (x : Name) (init : Tree) where
   pub value_leaves : (k : ℕ) → x.symbol ≡ symbol k → names x init ≡ false → Leaves x (let_one x init) (expression_statement init)
   unfolding names_of has_inner Scoped declared_in scopes_by numbers early_names scope_declarations early_jumps targets_of Unmentioned
   value_leaves k e f = record {
+    first = [];
+    last = [];
     names = refl;
-    no_names = refl;
+    left = refl;
+    others_first = tt;
+    others_last = tt;
     hoists = refl;
-    as_one = refl;
-    as_none = refl;
+    clash = λ s. (omega arith, λ z. refl);
     inner = three_or (has_inner init);
     scoped = λ env s. (tt, (subst (λ r. Scoped Read r init) (append-nil _ ∙ append-nil _ ∙ append-nil _) s.1.0.1.0.1.1.0, tt));
     unmentioned = (tt, (unmentioned x k e init f, tt));
@@ -327,32 +346,171 @@ module _ (x : Name) (init : Tree) where
     numbered = λ n. let s = ap (count_of n) (three (numbers init)) in omega (arith, s);
     once = λ o. append-nil (early_names (0 ∷ []) init) ∙ once_anywhere (0 ∷ 0 ∷ 1 ∷ []) (0 ∷ []) init (sym (three (early_names (0 ∷ 0 ∷ 1 ∷ []) init) ∙ append-nil (early_names (0 ∷ 0 ∷ 1 ∷ []) init)) ∙ o);
     targets = λ g o. append-nil (early_jumps g (0 ∷ []) init) ∙ targets_anywhere g (0 ∷ 0 ∷ 1 ∷ []) (0 ∷ []) init (sym (three (early_jumps g (0 ∷ 0 ∷ 1 ∷ []) init) ∙ append-nil (early_jumps g (0 ∷ 0 ∷ 1 ∷ []) init)) ∙ o);
-    framed = sym (three (frames None init));
-    bodied = λ a. sym (three (bodies (quiet a) init));
+    framed = subst (λ fs. FramesKept fs (frames None (expression_statement init))) (sym (three (frames None init))) (λ f c. c);
+    bodied = λ a. subst (λ bs. BodiesKept bs (bodies (quiet a) (expression_statement init))) (sym (three (bodies (quiet a) init))) (kept_itself (bodies (quiet a) (expression_statement init)));
     fixed = λ y. of_children shape.ExpressionStatement [] 0 (init ▸ none) y refl ∙ alone_stricter (fixed_by init y) ∙ sym (let_fixed y);
     declares = λ y c. subst (λ ys. Contains (x ∷ ys) y) (sym (three (names_declared init))) (Contains-append_right (x ∷ []) (names_declared init ++ []) y c);
   }
 
-pub bare_leaves : (x : Name) → Leaves x (let_one x absent) empty_statement
+none_there : {X : Type 0} (xs : List X) (y : X) → Contains [] y → Contains xs y
+none_there xs y (i, below, at) = absurd (omega (arith, below))
+
+one_leaves : (x : Name) (init : Tree) → Vanishes init → Leaves x (let_one x init) empty_statement
 unfolding names_of has_inner Scoped declared_in scopes_by numbers early_names scope_declarations early_jumps targets_of Unmentioned
-bare_leaves x = record {
+one_leaves x init v = record {
+  first = [];
+  last = [];
   names = refl;
-  no_names = refl;
+  left = refl;
+  others_first = tt;
+  others_last = tt;
   hoists = refl;
-  as_one = refl;
-  as_none = refl;
-  inner = refl;
+  clash = λ s. (omega arith, λ z. refl);
+  inner = sym (ap (λ b. ((b || false) || false) || false) v.inner);
   scoped = λ env s. (tt, tt);
   unmentioned = (tt, tt);
   symbols = λ y. omega arith;
   numbered = λ n. omega arith;
   once = λ o. refl;
   targets = λ g o. refl;
-  framed = refl;
-  bodied = λ a. refl;
-  fixed = λ y. sym (let_fixed x absent y);
-  declares = λ y c. none_there y c;
+  framed = none_there (frames None (let_one x init));
+  bodied = λ a. tt;
+  fixed = λ y. sym (let_fixed x init y ∙ v.fixed y);
+  declares = none_there (names_declared (let_one x init));
 }
-  where
-    none_there : (y : Name) → Contains [] y → Contains (x ∷ []) y
-    none_there y (i, below, at) = absurd (omega (arith, below))
+
+-- ---- among other declarators
+
+all_append : (b : Binding) (ts us : Trees) → AllUnmentioned b ts → AllUnmentioned b us → AllUnmentioned b (append ts us)
+unfolding Unmentioned
+all_append b none us p q = q
+all_append b (t ▸ ts) us p q = (p.0, all_append b ts us p.1 q)
+
+module _ (x : Name) (k : ℕ) (e : x.symbol ≡ symbol k) (first : Trees) (init : Tree) (last : Trees) (v : Vanishes init) (f : any_names x first ≡ false) (g : any_names x last ≡ false) where
+  abbrev this : Tree
+  this = declarator (binding x) init
+
+  abbrev these : Tree
+  these = listed (append first (this ▸ last))
+
+  abbrev others : Tree
+  others = listed (append first last)
+
+  abbrev bound_first : List Name
+  bound_first = all_names declared.Bound first
+
+  abbrev bound_last : List Name
+  bound_last = all_names declared.Bound last
+
+  names_with : names_of declared.Lexical (over Let these) ≡ bound_first ++ x ∷ bound_last
+  unfolding names_of
+  names_with = names_are declared.Lexical Let (append first (this ▸ last)) ∙ all_both declared.Bound first (this ▸ last)
+
+  names_without : names_of declared.Lexical (over Let others) ≡ bound_first ++ bound_last
+  names_without = names_are declared.Lexical Let (append first last) ∙ all_both declared.Bound first last
+
+  abbrev own : List Name → List Declaration
+  own = own_declarations true []
+
+  among_clash : NoMoreClash (as_body false (over Let others)) (as_body false (over Let these))
+  unfolding names_of
+  among_clash =
+      let o = own (x ∷ []) in
+      subst (NoMoreClash (as_body false (over Let others))) (sym (declarations_are false Let (append first (this ▸ last)) ∙ ap own (all_both declared.Bound first (this ▸ last)) ∙ own_both true bound_first (x ∷ bound_last)))
+      (subst (λ es. NoMoreClash es (own bound_first ++ own (x ∷ bound_last))) (sym (declarations_are false Let (append first last) ∙ ap own (all_both declared.Bound first last) ∙ own_both true bound_first bound_last))
+      (no_more_both (own bound_first) (own bound_first) (o ++ own bound_last) (own bound_last) (no_more_same (own bound_first) (own bound_first) refl)
+      (no_more_both o [] (own bound_last) (own bound_last) (λ s. (omega arith, λ z. refl)) (no_more_same (own bound_last) (own bound_last) refl))))
+
+  no_inner : has_inner this ≡ false
+  unfolding has_inner
+  no_inner = ap (λ b. b || false) v.inner
+
+  same_inner : has_inner others ≡ has_inner these
+  same_inner =
+      both_same (has_inner these) (has_inner others) (stretched Any (InnerIf (has_inner these)) (inner_local (has_inner these)) first last (this ▸ none) none (λ q. tt) (itself (has_inner these)))
+      (stretched Any (InnerIf (has_inner others)) (inner_local (has_inner others)) first last none (this ▸ none) (λ q. (ap (λ b. b || has_inner others) no_inner, tt)) (itself (has_inner others)))
+
+  this_fixed : (y : Variable) → fixed_by this y ≡ Writable
+  this_fixed y = of_children shape.VariableDeclarator [] 0 (binding x ▸ (init ▸ none)) y refl ∙ alone_stricter (fixed_by init y) ∙ v.fixed y
+
+  same_fixed : (y : Variable) → fixed_by others y ≡ fixed_by these y
+  same_fixed y =
+      let i = rank (fixed_by these y) in
+      let j = rank (fixed_by others y) in
+      by_rank (fixed_by others y) (fixed_by these y)
+      (stretched Any (FixedBy y i) (fixed_local y i) first last (this ▸ none) none (λ q. tt) (omega arith))
+      (stretched Any (FixedBy y j) (fixed_local y j) first last none (this ▸ none) (λ q. (subst (λ a. rank a ≤ j) (sym (this_fixed y)) (omega arith), tt)) (omega arith))
+
+  let_is_fixed : (ts : Trees) (y : Variable) → fixed_by (over Let (listed ts)) y ≡ fixed_by (listed ts) y
+  let_is_fixed ts y = of_children (shape.VariableDeclaration Let) [] 0 (listed ts ▸ none) y refl ∙ alone_stricter (fixed_by (listed ts) y)
+
+  less_scoped : (env : Environment) → Scoped Read env (over Let these) → Scoped Read env (over Let others)
+  less_scoped env s = scoped_up Let env others (stretched Any (ScopedAs (used Read Let) env) (scoped_local (used Read Let) env) first last (this ▸ none) none (λ q. tt) (scoped_down Let env these s))
+
+  less_symbols : (y : Option SymbolId) → times y (declared_in Read (over Let others)) ≤ times y (declared_in Read (over Let these))
+  less_symbols y =
+      let parts = sum_stretched (symbol_times (used Read Let) y) (symbols_summed (used Read Let) y) first last (this ▸ none) none (omega arith) in
+      omega (arith, parts, symbols_are Read Let y others, symbols_are Read Let y these)
+
+  less_numbers : (n : ℕ) → count_of n (numbers (over Let others)) ≤ count_of n (numbers (over Let these))
+  less_numbers n =
+      let parts = sum_stretched (number_times n) (numbers_summed n) first last (this ▸ none) none (omega arith) in
+      omega (arith, parts, ap (count_of n) (numbers_are Let others), ap (count_of n) (numbers_are Let these))
+
+  less_once : early_names [] (over Let these) ≡ [] → early_names [] (over Let others) ≡ []
+  less_once o =
+      once_is Let others
+      ∙ once_anywhere [] (0 ∷ []) others (stretched Any Once once_local first last (this ▸ none) none (λ q. tt) (once_anywhere (0 ∷ []) [] these (sym (once_is Let these) ∙ o)))
+
+  less_targets : (h : Targets) → early_jumps h [] (over Let these) ≡ [] → early_jumps h [] (over Let others) ≡ []
+  less_targets h o =
+      jumps_are Let h others
+      ∙ targets_anywhere h [] (0 ∷ []) others (stretched (HasTarget h) (Aimed h) (aimed_local h) first last (this ▸ none) none (λ q. tt) (targets_anywhere h (0 ∷ []) [] these (sym (jumps_are Let h these) ∙ o)))
+
+  less_frames : FramesKept (frames None (over Let these)) (frames None (over Let others))
+  less_frames =
+      let all = frames None (over Let these) in
+      subst (FramesKept all) (sym (frames_are Let others)) (stretched Any (HasFrames all) (frames_local all) first last (this ▸ none) none (λ q. tt) (subst (FramesKept all) (frames_are Let these) (λ h c. c)))
+
+  less_bodies : (a : Around) → BodiesKept (bodies (quiet a) (over Let these)) (bodies (quiet a) (over Let others))
+  less_bodies a =
+      let all = bodies (quiet a) (over Let these) in
+      subst (BodiesKept all) (sym (bodies_are Let a others)) (stretched Any (HasBodies all a) (bodies_local all a) first last (this ▸ none) none (λ q. tt) (subst (BodiesKept all) (bodies_are Let a these) (kept_itself all)))
+
+  less_declared : (y : Name) → Contains (names_declared (over Let others)) y → Contains (names_declared (over Let these)) y
+  less_declared =
+      let all = names_declared (over Let these) in
+      subst (Among all) (sym (declared_are Let others)) (stretched Any (Declares all) (declares_local all) first last (this ▸ none) none (λ q. tt) (subst (Among all) (declared_are Let these) (λ y c. c)))
+
+  among_unmentioned : Unmentioned (record { name = x; hoists = false }) (over Let others)
+  unfolding Unmentioned
+  among_unmentioned = (tt, ((tt, all_append (record { name = x; hoists = false }) first last (all_unmentioned x k e first f) (all_unmentioned x k e last g)), tt))
+
+  among_leaves : Leaves x (let_among x first init last) (over Let others)
+  unfolding names_of
+  among_leaves = record {
+    first = bound_first;
+    last = bound_last;
+    names = names_with;
+    left = names_without;
+    others_first = all_other x declared.Bound first f;
+    others_last = all_other x declared.Bound last g;
+    hoists = refl;
+    clash = among_clash;
+    inner = inner_is Let others ∙ same_inner ∙ sym (inner_is Let these);
+    scoped = less_scoped;
+    unmentioned = among_unmentioned;
+    symbols = less_symbols;
+    numbered = less_numbers;
+    once = less_once;
+    targets = less_targets;
+    framed = less_frames;
+    bodied = less_bodies;
+    fixed = λ y. let_is_fixed (append first last) y ∙ same_fixed y ∙ sym (let_is_fixed (append first (this ▸ last)) y);
+    declares = less_declared;
+  }
+
+pub idle_leaves : (x : Name) (k : ℕ) → x.symbol ≡ symbol k → (first : Trees) (init : Tree) (last : Trees) → Vanishes init → any_names x first ≡ false → any_names x last ≡ false → Leaves x (let_among x first init last) (left_over (append first last))
+idle_leaves x k e none init none v f g = one_leaves x init v
+idle_leaves x k e none init (t ▸ last) v f g = among_leaves x k e none init (t ▸ last) v f g
+idle_leaves x k e (t ▸ first) init last v f g = among_leaves x k e (t ▸ first) init last v f g

@@ -1,7 +1,7 @@
 -- What the rows of names that nothing mentions write is loosely lawful.
-use Rattle.std.specs.Prelude.{ℕ, ◌≡◌, ◌⊎◌, refl, Bool, true, false, ◌&&◌, List, [], ◌++◌, Contains, Option, None}
-use Rattle.std.proofs.Common.{ap, ◌∙◌, sym, subst, inl, inr, true≢false}
-use Rattle.std.proofs.lemmas.Bool.{and_parts}
+use Rattle.std.specs.Prelude.{ℕ, ◌≡◌, ◌⊎◌, refl, Bool, true, false, ◌&&◌, ◌||◌, List, [], ◌++◌, Contains, Option, None, nat_le}
+use Rattle.std.proofs.Common.{ap, ◌∙◌, sym, subst, inl, inr, true≢false, arith}
+use Rattle.std.proofs.lemmas.Bool.{and_parts, le-leb}
 use Rattle.std.proofs.lemmas.List.{append-nil}
 use Rattle.mini_model.specs.declared.kind.VariableDeclarationKind.TheVariants.{Let}
 use Rattle.mini_model.specs.declared.name.Name.{Name}
@@ -9,11 +9,12 @@ use Rattle.mini_model.specs.declared.place.Position.{Position}
 use Rattle.mini_model.specs.declared.place.Position.TheVariants.{Stmt}
 use Rattle.mini_model.specs.declared.seat.StmtSeat.{StmtSeat}
 use Rattle.mini_model.specs.declared.shape.Shape.TheVariants as shape
-use Rattle.mini_model.specs.Tree.{Tree, Trees, node, none, ◌▸◌, absent, listed, shape_of, empty_statement, expression_statement}
+use Rattle.mini_model.specs.Tree.{Tree, Trees, node, none, ◌▸◌, absent, listed, shape_of, empty_statement, expression_statement, count}
 use Rattle.mini_model.specs.Paths.{append}
 use Rattle.mini_accept.specs.WellShaped as well
 use Rattle.mini_accept.specs.WellShaped.{Depth, in_module, in_body, nested, Class, a_statement, a_block, a_key, a_private_or_key, an_inner_key, a_declarator, a_pattern, an_expression, a_default_export, Slot, one, one_or_absent, many, many_or_holes, many_and_rest, many_or_holes_and_rest, quasis, each, filling, fits, fill}
 use Rattle.mini_names.specs.declared.Binding.{Binding}
+use Rattle.mini_names.specs.DeclaredNames.{has_inner}
 use Rattle.mini_names.specs.declared.Declared.TheVariants.{Lexical}
 use Rattle.mini_names.specs.Scoped.{Unmentioned, AllUnmentioned}
 use Rattle.mini_laws.specs.Value.{Variable, Declared, nothing}
@@ -41,13 +42,19 @@ use Rattle.mini_kept.proofs.Expressions.{refused_here}
 use Rattle.mini_kept.proofs.Fixed.{of_children}
 use Rattle.mini_kept.proofs.InOrder.{in_order}
 use Rattle.mini_kept.proofs.WithoutLists.{from_kept}
-use Rattle.mini_rows.specs.Lists.{block, declares_nothing}
+use Rattle.mini_node.specs.Kinds.{is_absent_part}
+use Rattle.mini_node.specs.Made.{absent_is}
+use Rattle.mini_terms.specs.Folds.{is_effect_free}
+use Rattle.mini_terms.specs.Parts.{leaves_nothing}
+use Rattle.mini_rows.specs.Arranged.{Vanishes}
+use Rattle.mini_rows.specs.Lists.{block, declares_nothing, declaration}
 use Rattle.mini_rows.specs.Declarations.{binding, declarator}
-use Rattle.mini_rows.specs.Unused.{resolved, let_one, Alone, UnusedRow, UnusedContracts}
+use Rattle.mini_rows.specs.Unused.{resolved, let_one, Alone, is_idle, UnusedRow, UnusedContracts, let_among, left_over}
 use Rattle.mini_rows.proofs.ArrangedBodies.{quiet}
+use Rattle.mini_rows.proofs.FoldLawful.{vanishes}
 use Rattle.mini_rows.proofs.ListShapes.{declaration_anywhere, append_fits, both_fit, first_fits, more_fit}
-use Rattle.mini_rows.proofs.UnusedKept.{Leaves, list_fixed, list_frames, list_bodies, list_declares, block_kept, block_less, block_keeps, value_leaves, bare_leaves}
-use Rattle.mini_rows.proofs.UnusedMeaning.{row_72, row_72_bare}
+use Rattle.mini_rows.proofs.UnusedKept.{Leaves, list_fixed, list_frames, list_bodies, list_declares, block_kept, block_less, block_keeps, value_leaves, idle_leaves}
+use Rattle.mini_rows.proofs.UnusedMeaning.{row_72, row_72_idle}
 use Rattle.mini_rows.proofs.UnusedNames.{all_unmentioned, all_other}
 
 -- ---- where a block may stand
@@ -118,6 +125,20 @@ value_fits strict x init d e =
     let (id, value) = and_parts (fits strict (one a_pattern) (binding x)) (fits strict (one_or_absent an_expression) init && true) one_fits in
     an_expression_fits strict init (there strict init d (left (fits strict (one_or_absent an_expression) init) true value))
 
+among_fits : (strict : Bool) (x : Name) (first last : Trees) (init : Tree) → nat_le 1 (count (append first last)) ≡ true → fits strict item (let_among x first init last) ≡ true → fits strict item (declaration Let (append first last)) ≡ true
+among_fits strict x first last init some e =
+    let ds = append first (declarator (binding x) init ▸ last) in
+    let all = (and_parts (nat_le 1 (count ds)) (fill strict (each (one a_declarator)) ds && true) (sym (declaration_anywhere strict nested Let ds) ∙ e)).1 in
+    let (f, g) = both_fit strict (one a_declarator) first (declarator (binding x) init ▸ last) (left (fill strict (each (one a_declarator)) ds) true all) in
+    let others = append_fits strict (one a_declarator) first last f (first_fits strict (one a_declarator) (declarator (binding x) init) last g).1 in
+    declaration_anywhere strict nested Let (append first last)
+    ∙ both (nat_le 1 (count (append first last))) (fill strict (each (one a_declarator)) (append first last) && true) some (both (fill strict (each (one a_declarator)) (append first last)) true others refl)
+
+left_fits : (strict : Bool) (x : Name) (first : Trees) (init : Tree) (last : Trees) → fits strict item (let_among x first init last) ≡ true → fits strict item (left_over (append first last)) ≡ true
+left_fits strict x none init none e = empty_fits strict
+left_fits strict x none init (t ▸ last) e = among_fits strict x none (t ▸ last) init (le-leb 1 (count (t ▸ last)) (omega arith)) e
+left_fits strict x (t ▸ first) init last e = among_fits strict x (t ▸ first) last init (le-leb 1 (count (t ▸ append first last)) (omega arith)) e
+
 -- ---- a name that is dropped
 
 all_join : (b : Binding) (ts us : Trees) → AllUnmentioned b ts → AllUnmentioned b us → AllUnmentioned b (append ts us)
@@ -136,12 +157,15 @@ record Dropped (q : StmtSeat) (k : ℕ) (n w : Tree) : Type 0 where
   fixed_same : (x : Variable) → fixed_by n x ≡ fixed_by w x
   declared_there : (x : Name) → Contains (declared w) x → Contains (declared n) x
 
-module _ (q : StmtSeat) (s : List ℕ) (k : ℕ) (init : Tree) (before after : Trees) (w : Tree) (l : Leaves (resolved s k) (let_one (resolved s k) init) w) (u : Alone (resolved s k) before init after) where
+module _ (q : StmtSeat) (s : List ℕ) (k : ℕ) (before first : Trees) (init : Tree) (last after : Trees) (w : Tree) (l : Leaves (resolved s k) (let_among (resolved s k) first init last) w) (u : Alone (resolved s k) before first init last after) where
   abbrev x : Name
   x = resolved s k
 
+  abbrev d : Tree
+  d = let_among x first init last
+
   abbrev first_list : Trees
-  first_list = append before (let_one x init ▸ after)
+  first_list = append before (d ▸ after)
 
   abbrev second_list : Trees
   second_list = append before (w ▸ after)
@@ -149,18 +173,18 @@ module _ (q : StmtSeat) (s : List ℕ) (k : ℕ) (init : Tree) (before after : T
   block_bodies : (a : Around) → BodiesKept (bodies a (block first_list)) (bodies a (block second_list))
   block_bodies a =
       subst (λ cs. BodiesKept cs (bodies (quiet a) (listed second_list) ++ [])) (sym (append-nil (bodies (quiet a) (listed first_list))))
-      (subst (BodiesKept (bodies (quiet a) (listed first_list))) (sym (append-nil (bodies (quiet a) (listed second_list)))) (list_bodies x before after (let_one x init) w l a))
+      (subst (BodiesKept (bodies (quiet a) (listed first_list))) (sym (append-nil (bodies (quiet a) (listed second_list)))) (list_bodies x before after d w l a))
 
   block_frames : FramesKept (frames None (block first_list)) (frames None (block second_list))
   block_frames =
       subst (λ fs. FramesKept fs (frames None (listed second_list) ++ [])) (sym (append-nil (frames None (listed first_list))))
-      (subst (FramesKept (frames None (listed first_list))) (sym (append-nil (frames None (listed second_list)))) (list_frames x before after (let_one x init) w l))
+      (subst (FramesKept (frames None (listed first_list))) (sym (append-nil (frames None (listed second_list)))) (list_frames x before after d w l))
 
   block_fixed : (y : Variable) → fixed_by (block first_list) y ≡ fixed_by (block second_list) y
-  block_fixed y = of_children shape.BlockStatement [] 0 (listed first_list ▸ none) y refl ∙ ap (λ f. stricter f Writable) (list_fixed x before after (let_one x init) w l y) ∙ sym (of_children shape.BlockStatement [] 0 (listed second_list ▸ none) y refl)
+  block_fixed y = of_children shape.BlockStatement [] 0 (listed first_list ▸ none) y refl ∙ ap (λ f. stricter f Writable) (list_fixed x before after d w l y) ∙ sym (of_children shape.BlockStatement [] 0 (listed second_list ▸ none) y refl)
 
   block_declares : (y : Name) → Contains (declared (block second_list)) y → Contains (declared (block first_list)) y
-  block_declares y c = subst (λ ys. Contains ys y) (sym (append-nil (declared (listed first_list)))) (list_declares x before after (let_one x init) w l y (subst (λ ys. Contains ys y) (append-nil (declared (listed second_list))) c))
+  block_declares y c = subst (λ ys. Contains ys y) (sym (append-nil (declared (listed first_list)))) (list_declares x before after d w l y (subst (λ ys. Contains ys y) (append-nil (declared (listed second_list))) c))
 
   dropped : ((e : Environment) → Unseen (alone (Declared k)) e → (d : Demand) → Fits (Stmt q) d → Same e (alone (Declared k)) nothing d (block first_list) (block second_list)) → Dropped q k (block first_list) (block second_list)
   dropped same =
@@ -168,10 +192,10 @@ module _ (q : StmtSeat) (s : List ℕ) (k : ℕ) (init : Tree) (before after : T
       let p = all_other x Lexical after u.later in
       let m = gone (record { name = x; hoists = false }) before after w (all_unmentioned x k refl before u.earlier) l.unmentioned (all_unmentioned x k refl after u.later) in
       record {
-        keeps = in_order (Stmt q) (block first_list) (block second_list) (block_keeps x before after (let_one x init) w l o p m q);
+        keeps = in_order (Stmt q) (block first_list) (block second_list) (block_keeps x before after d w l o p m q);
         drops = record {
-          kept = block_kept x before after (let_one x init) w l o p;
-          less = block_less x before after (let_one x init) w l o p k refl;
+          kept = block_kept x before after d w l o p;
+          less = block_less x before after d w l o p k refl;
           same = same;
           bodies = λ strict c g f a z. from_kept (alone (Declared k)) (bodies a (block first_list)) (bodies a (block second_list)) (block_bodies a);
         };
@@ -189,18 +213,32 @@ in_tails e q D n w h d f = elim f [ ]
 moved : (q : StmtSeat) (k : ℕ) (n w n' w' : Tree) → n ≡ n' → w ≡ w' → Dropped q k n' w' → Dropped q k n w
 moved q k n w n' w' e f d = subst (λ t. Dropped q k t w) (sym e) (subst (Dropped q k n') (sym f) d)
 
+nothing_vanishes : Vanishes absent
+unfolding has_inner
+nothing_vanishes = record { inner = refl; fixed = λ y. refl }
+
+-- what is not missed leaves nothing behind
+idle_vanishes : (init : Tree) → is_idle init ≡ true → Vanishes init
+idle_vanishes init h = by (is_absent_part init) refl
+  where
+    by : (b : Bool) → is_absent_part init ≡ b → Vanishes init
+    by true a = subst Vanishes (sym (absent_is init a)) nothing_vanishes
+    by false a =
+        let quiet = (and_parts (declares_nothing init) (is_effect_free init && leaves_nothing init) (sym (ap (λ b. b || (declares_nothing init && (is_effect_free init && leaves_nothing init))) a) ∙ h)).1 in
+        vanishes init (and_parts (is_effect_free init) (leaves_nothing init) quiet).1
+
 row_dropped : (q : StmtSeat) (n w : Tree) → UnusedRow (Stmt q) n w → (k : ℕ) × Dropped q k n w
 row_dropped q n w (inl r) =
     let x = resolved r.spelling r.symbol in (
       r.symbol,
-      moved q r.symbol n w _ _ r.shape r.written (dropped q r.spelling r.symbol r.init r.before r.after (expression_statement r.init) (value_leaves x r.init r.symbol refl r.unused.initial) r.unused
+      moved q r.symbol n w _ _ r.shape r.written (dropped q r.spelling r.symbol r.before none r.init none r.after (expression_statement r.init) (value_leaves x r.init r.symbol refl r.unused.initial) r.unused
           (λ e z. in_tails e q (alone (Declared r.symbol)) _ _ (row_72 e r.symbol z _ _ (record { before = r.before; spelling = r.spelling; symbol = r.symbol; init = r.init; after = r.after; present = r.present; unused = r.unused; shape = refl; written = refl }) refl))),
     )
 row_dropped q n w (inr r) =
     let x = resolved r.spelling r.symbol in (
       r.symbol,
-      moved q r.symbol n w _ _ r.shape r.written (dropped q r.spelling r.symbol absent r.before r.after empty_statement (bare_leaves x) r.unused
-          (λ e z. in_tails e q (alone (Declared r.symbol)) _ _ (row_72_bare e r.symbol z _ _ (record { before = r.before; spelling = r.spelling; symbol = r.symbol; after = r.after; unused = r.unused; shape = refl; written = refl }) refl))),
+      moved q r.symbol n w _ _ r.shape r.written (dropped q r.spelling r.symbol r.before r.first r.init r.last r.after (left_over (append r.first r.last)) (idle_leaves x r.symbol refl r.first r.init r.last (idle_vanishes r.init r.idle) r.unused.declared_earlier r.unused.declared_later) r.unused
+          (λ e z. in_tails e q (alone (Declared r.symbol)) _ _ (row_72_idle e r.symbol z _ _ (record { before = r.before; first = r.first; spelling = r.spelling; symbol = r.symbol; init = r.init; last = r.last; after = r.after; idle = r.idle; unused = r.unused; shape = refl; written = refl }) refl))),
     )
 
 record Blocks (n w : Tree) : Type 0 where
@@ -215,8 +253,10 @@ row_blocks q n w (inl r) =
     let d = let_one (resolved r.spelling r.symbol) r.init in
     record { first = append r.before (d ▸ r.after); second = append r.before (expression_statement r.init ▸ r.after); before = r.shape; after = r.written; fitting = λ strict. one_item strict r.before r.after d (expression_statement r.init) (value_fits strict (resolved r.spelling r.symbol) r.init r.present) }
 row_blocks q n w (inr r) =
-    let d = let_one (resolved r.spelling r.symbol) absent in
-    record { first = append r.before (d ▸ r.after); second = append r.before (empty_statement ▸ r.after); before = r.shape; after = r.written; fitting = λ strict. one_item strict r.before r.after d empty_statement (λ e. empty_fits strict) }
+    let x = resolved r.spelling r.symbol in
+    let d = let_among x r.first r.init r.last in
+    let left = left_over (append r.first r.last) in
+    record { first = append r.before (d ▸ r.after); second = append r.before (left ▸ r.after); before = r.shape; after = r.written; fitting = λ strict. one_item strict r.before r.after d left (left_fits strict x r.first r.init r.last) }
 
 -- of two blocks, whatever is told by their shape
 shaped : (n w : Tree) (P : Tree → Tree → Type 0) → ((first_list second_list : Trees) → P (block first_list) (block second_list)) → Blocks n w → P n w

@@ -1,7 +1,7 @@
 -- A block without a name that nothing mentions means the same, but for what that variable holds afterwards.
-use Rattle.std.specs.Prelude.{Bool, Option}
-use Rattle.std.proofs.lemmas.Bool.{eq-eqb}
-use Rattle.std.proofs.Common.{◌≡◌, ℕ, true, false, List, [], ◌∷◌, ◌++◌, None, Some, refl, sym, ap, ◌∙◌, subst, subst₂, true≢false}
+use Rattle.std.specs.Prelude.{◌&&◌, ◌||◌, Bool, Option}
+use Rattle.std.proofs.lemmas.Bool.{eq-eqb, and_parts}
+use Rattle.std.proofs.Common.{◌≡◌, ℕ, true, false, List, [], ◌∷◌, ◌++◌, None, Some, refl, sym, ap, ◌∙◌, subst, subst₂, true≢false, append_assoc}
 use Rattle.mini_model.specs.declared.kind.VariableDeclarationKind.TheVariants.{Let}
 use Rattle.mini_model.specs.declared.name.Name.{Name}
 use Rattle.mini_model.specs.declared.operator.UnaryOperator.TheVariants.{LogicalNot}
@@ -25,17 +25,34 @@ use Rattle.mini_laws.specs.Substitution.{alone}
 use Rattle.mini_laws.specs.Truth.{told}
 use Rattle.mini_laws.specs.Congruence.{Avoids, AllAvoid, ReadAlike, only}
 use Rattle.mini_laws.proofs.Anywhere.{stretch_anywhere}
-use Rattle.mini_laws.proofs.Congruent.{congruent_same, weaker, no_within, no_off}
+use Rattle.mini_laws.proofs.Congruent.{congruent_same, insensitive, transitive, no_init, weaker, no_within, no_off}
 use Rattle.mini_laws.proofs.Runs.{either_cong, either_eta}
 use Rattle.mini_laws.proofs.Simulation.{within_refl}
 use Rattle.mini_laws.proofs.Truth.{coherent}
 use Rattle.mini_kept.specs.Without.{Unseen}
-use Rattle.mini_rows.specs.Lists.{block, declares_nothing}
+use Rattle.mini_node.specs.Kinds.{is_absent_part}
+use Rattle.mini_node.specs.Made.{absent_is}
+use Rattle.mini_terms.specs.Folds.{is_effect_free}
+use Rattle.mini_terms.specs.Parts.{leaves_nothing}
+use Rattle.mini_terms.proofs.Dropping.{does_nothing, weak}
+use Rattle.mini_rows.specs.Lists.{block, declaration, declares_nothing}
 use Rattle.mini_rows.specs.Declarations.{binding, declarator}
-use Rattle.mini_rows.specs.Unused.{resolved, let_one, Row72, Row72Bare}
+use Rattle.mini_rows.specs.Unused.{resolved, let_among, let_one, is_idle, left_over, Row72, Row72Idle}
 use Rattle.mini_rows.proofs.UnusedNames.{avoided, all_avoided}
 use Rattle.mini_rows.proofs.ListStretches.{lets_append, functions_append, facts_append, texts_append, exec_one, listed_is}
-use Rattle.mini_rows.proofs.ListStatements.{declaration_is, declare_more, declare_none, expression_is, empty_is}
+use Rattle.mini_rows.proofs.ListStatements.{declaration_is, declare_more, declare_none, expression_is, empty_is, declarations_join}
+
+-- an expression is there
+there : (t : Tree) → declares_nothing t ≡ true → (summary t).facts.absent ≡ false
+there (node shape.Absent xs n ts) e = absurd (true≢false (sym e))
+there (node (shape.UnaryExpression LogicalNot) xs n none) e = absurd (true≢false (sym e))
+there (node (shape.UnaryExpression LogicalNot) xs n (t ▸ ts)) e = there t e
+there (node shape.SwitchCase xs n ts) e = absurd (true≢false (sym e))
+there (node (shape.Function true g ds) xs n ts) e = absurd (true≢false (sym e))
+there (node (shape.Function false g ds) xs n ts) e = refl
+there (node (shape.Class true) xs n ts) e = absurd (true≢false (sym e))
+there (node (shape.Class false) xs n ts) e = refl
+there (node h xs n ts) e = refl
 
 same_append : (a b : Trees) → first.append a b ≡ append a b
 same_append none b = refl
@@ -51,6 +68,9 @@ module _ (e : Environment) (spelling : List ℕ) (k : ℕ) (z : Unseen (alone (D
 
   abbrev x : Name
   x = resolved spelling k
+
+  apart : (y : Variable) → D y ≡ true → e.shared y ≡ false
+  apart = z.shared
 
   own : D (Declared k) ≡ true
   own = eq-eqb k k refl
@@ -110,6 +130,66 @@ module _ (e : Environment) (spelling : List ℕ) (k : ℕ) (z : Unseen (alone (D
   one_same : (d w : Tree) → ((s : State) → Go (means e d (Stat None) [] s) (means e w (Stat None) [] s)) → Same e D nothing (Stat None) (listed (d ▸ none)) (listed (w ▸ none))
   one_same d w g = record { by = λ r s i. subst₂ Go (sym (listed_is e (d ▸ none) r s ∙ exec_one e d s)) (sym (listed_is e (w ▸ none) r s ∙ exec_one e w s)) (g s) }
 
+  -- as a list
+  abbrev SameAlone : Tree → Tree → Type 0
+  SameAlone d w = Same e D nothing (Stat None) (listed (d ▸ none)) (listed (w ▸ none))
+
+  value_same : (init : Tree) → declares_nothing init ≡ true → SameAlone (let_one x init) (expression_statement init)
+  value_same init h = one_same (let_one x init) (expression_statement init) (let_goes init (there init h))
+
+  idle_same : (init : Tree) → is_idle init ≡ true → SameAlone (let_one x init) empty_statement
+  idle_same init h = by (is_absent_part init) refl
+    where
+      by : (b : Bool) → is_absent_part init ≡ b → SameAlone (let_one x init) empty_statement
+      by true a = subst (λ t. SameAlone (let_one x t) empty_statement) (sym (absent_is init a)) (one_same (let_one x absent) empty_statement bare_goes)
+      by false a =
+          let (present, quiet) = and_parts (declares_nothing init) (is_effect_free init && leaves_nothing init) (sym (ap (λ b. b || (declares_nothing init && (is_effect_free init && leaves_nothing init))) a) ∙ h) in
+          let (free, dropped) = and_parts (is_effect_free init) (leaves_nothing init) quiet in
+          transitive e D nothing (Stat None) (listed (let_one x init ▸ none)) (listed (expression_statement init ▸ none)) (listed (empty_statement ▸ none)) (value_same init present)
+          (one_same (expression_statement init) empty_statement (λ s. (does_nothing init free e D nothing None).by [] s (no_init s)))
+
+  -- ---- among other declarators
+
+  idle_ends : (init : Tree) → is_idle init ≡ true → (s : State) → Go (means e (let_one x init) (Stat None) [] s) (ok tt s)
+  idle_ends init h s =
+      let alone_is = λ (t : Tree). listed_is e (t ▸ none) [] s ∙ exec_one e t s in
+      subst₂ Go (alone_is (let_one x init)) (alone_is empty_statement ∙ empty_is e [] s) ((idle_same init h).by [] s (no_init s))
+
+  abbrev Then : Completion (Unit {0}) → (State → Completion (Unit {0})) → Completion (Unit {0})
+  Then c f = either c (λ u z. f z) (λ y z. stop y z)
+
+  then_go : (c : Completion (Unit {0})) (s : State) (f : State → Completion (Unit {0})) → Go c (ok tt s) → ((z : State) → Agree D z s → Go (f z) (f s)) → Go (Then c f) (f s)
+  unfolding Goes either
+  then_go (ok u z) s f g h = h z g.1
+  then_go (stop y z) s f g h = absurd g
+  then_go (halt y z) s f g h = absurd g
+  then_go out s f g h = weak D (f s)
+
+  both_go : (c : Completion (Unit {0})) (f g : State → Completion (Unit {0})) → ((z : State) → Go (f z) (g z)) → Go (Then c f) (Then c g)
+  unfolding Goes either
+  both_go (ok u z) f g h = h z
+  both_go (stop y z) f g h = (refl, itself z)
+  both_go (halt y z) f g h = (refl, itself z)
+  both_go out f g h = tt
+
+  module _ (first last : Trees) (init : Tree) (h : is_idle init ≡ true) (a : AllAvoid D last) where
+    abbrev these : Trees → State → Completion (Unit {0})
+    these ds z = means e (declaration Let ds) (Stat None) [] z
+
+    last_go : (s : State) → Go (these (declarator (binding x) init ▸ last) s) (these last s)
+    last_go s = subst (λ c. Go c (these last s)) (sym (declarations_join e Let (declarator (binding x) init ▸ none) last s)) (then_go (means e (let_one x init) (Stat None) [] s) s (these last) (idle_ends init h s) (λ z g. insensitive e D apart (declaration Let last) (tt, ((tt, a), tt)) (Stat None) [] z s g))
+
+    among_go : (s : State) → Go (these (append first (declarator (binding x) init ▸ last)) s) (these (append first last) s)
+    among_go s = subst₂ Go (sym (declarations_join e Let first (declarator (binding x) init ▸ last) s)) (sym (declarations_join e Let first last s)) (both_go (these first s) (these (declarator (binding x) init ▸ last)) (these last) last_go)
+
+    among_same : SameAlone (let_among x first init last) (declaration Let (append first last))
+    among_same = one_same (let_among x first init last) (declaration Let (append first last)) among_go
+
+  left_same : (first last : Trees) (init : Tree) → is_idle init ≡ true → AllAvoid D last → SameAlone (let_among x first init last) (left_over (append first last))
+  left_same none none init h a = idle_same init h
+  left_same none (t ▸ last) init h a = among_same none (t ▸ last) init h a
+  left_same (t ▸ first) last init h a = among_same (t ▸ first) last init h a
+
   -- ---- the list, and the block
 
   module _ (before after d w : Trees) (avoids : AllAvoid D after) (same : Same e D nothing (Stat None) (listed d) (listed w)) where
@@ -142,30 +222,31 @@ module _ (e : Environment) (spelling : List ℕ) (k : ℕ) (z : Unseen (alone (D
       by false b c = refl
 
   -- of a list that declares it and one that doesn't
-  lets_alike : (before after : Trees) (d w : Tree) → (summary d).lets ≡ Declared k ∷ [] → (summary w).lets ≡ [] → (y : Variable) → D y ≡ false → is_in y (lets_all (summaries (append before (d ▸ after)))) ≡ is_in y (lets_all (summaries (append before (w ▸ after))))
-  lets_alike before after d w f g y h =
-      let rest = lets_all (summaries after) in
-      let first_lets = lets_all (summaries before) in
-      ap (is_in y) (lets_append before (d ▸ after) ∙ ap (λ l. first_lets ++ (l ++ rest)) f)
-      ∙ is_in_both y first_lets (Declared k ∷ rest)
-      ∙ ap (λ c. choose (is_in y first_lets) true (choose c true (is_in y rest))) h
-      ∙ sym (is_in_both y first_lets rest)
-      ∙ sym (ap (is_in y) (lets_append before (w ▸ after) ∙ ap (λ l. first_lets ++ (l ++ rest)) g))
+  one_less : (y : Variable) (xs ys : List Variable) → D y ≡ false → is_in y (xs ++ Declared k ∷ ys) ≡ is_in y (xs ++ ys)
+  one_less y xs ys h = is_in_both y xs (Declared k ∷ ys) ∙ ap (λ c. choose (is_in y xs) true (choose c true (is_in y ys))) h ∙ sym (is_in_both y xs ys)
 
-  shared_alike : (before after : Trees) (d w : Tree) → (summary d).lets ≡ Declared k ∷ [] → (summary w).lets ≡ [] → only e.shared (lets_all (summaries (append before (d ▸ after)))) ≡ only e.shared (lets_all (summaries (append before (w ▸ after))))
-  shared_alike before after d w f g =
+  one_less_shared : (xs ys : List Variable) → only e.shared (xs ++ Declared k ∷ ys) ≡ only e.shared (xs ++ ys)
+  one_less_shared xs ys = only_both xs (Declared k ∷ ys) ∙ ap (λ c. only e.shared xs ++ choose c (Declared k ∷ only e.shared ys) (only e.shared ys)) unshared ∙ sym (only_both xs ys)
+
+  lets_around : (before after : Trees) (t : Tree) (xs ys : List Variable) → (summary t).lets ≡ xs ++ ys → lets_all (summaries (append before (t ▸ after))) ≡ (lets_all (summaries before) ++ xs) ++ (ys ++ lets_all (summaries after))
+  lets_around before after t xs ys f =
       let rest = lets_all (summaries after) in
       let first_lets = lets_all (summaries before) in
-      ap (only e.shared) (lets_append before (d ▸ after) ∙ ap (λ l. first_lets ++ (l ++ rest)) f)
-      ∙ only_both first_lets (Declared k ∷ rest)
-      ∙ ap (λ c. only e.shared first_lets ++ choose c (Declared k ∷ only e.shared rest) (only e.shared rest)) unshared
-      ∙ sym (only_both first_lets rest)
-      ∙ sym (ap (only e.shared) (lets_append before (w ▸ after) ∙ ap (λ l. first_lets ++ (l ++ rest)) g))
+      lets_append before (t ▸ after) ∙ ap (λ l. first_lets ++ (l ++ rest)) f ∙ ap (λ l. first_lets ++ l) (append_assoc xs ys rest) ∙ sym (append_assoc first_lets xs (ys ++ rest))
+
+  module _ (before after : Trees) (d w : Tree) (xs ys : List Variable) (f : (summary d).lets ≡ xs ++ Declared k ∷ ys) (g : (summary w).lets ≡ xs ++ ys) where
+    lets_alike : (y : Variable) → D y ≡ false → is_in y (lets_all (summaries (append before (d ▸ after)))) ≡ is_in y (lets_all (summaries (append before (w ▸ after))))
+    lets_alike y h = ap (is_in y) (lets_around before after d xs (Declared k ∷ ys) f) ∙ one_less y (lets_all (summaries before) ++ xs) (ys ++ lets_all (summaries after)) h ∙ sym (ap (is_in y) (lets_around before after w xs ys g))
+
+    shared_alike : only e.shared (lets_all (summaries (append before (d ▸ after)))) ≡ only e.shared (lets_all (summaries (append before (w ▸ after))))
+    shared_alike = ap (only e.shared) (lets_around before after d xs (Declared k ∷ ys) f) ∙ one_less_shared (lets_all (summaries before) ++ xs) (ys ++ lets_all (summaries after)) ∙ sym (ap (only e.shared) (lets_around before after w xs ys g))
 
 -- what is read of a declaration, and of what is written for it
 pub record ReadAs (k : ℕ) (d w : Tree) : Type 0 where
-  pub lets : (summary d).lets ≡ Declared k ∷ []
-  pub none_left : (summary w).lets ≡ []
+  pub first : List Variable
+  pub last : List Variable
+  pub lets : (summary d).lets ≡ first ++ Declared k ∷ last
+  pub left : (summary w).lets ≡ first ++ last
   pub functions : (summary d).functions ≡ (summary w).functions
   pub facts : (summary d).facts.functions ≡ (summary w).facts.functions
   pub texts : (summary d).facts.texts ≡ (summary w).facts.texts
@@ -180,36 +261,37 @@ module _ (e : Environment) (spelling : List ℕ) (k : ℕ) (z : Unseen (alone (D
       functions = (facts_append before (d ▸ after) ∙ ap (λ l. function_facts (facts_all (summaries before)) ++ (l ++ function_facts (facts_all (summaries after)))) r.facts ∙ sym (facts_append before (w ▸ after))) j;
       texts = (texts_append before (d ▸ after) ∙ ap (λ l. texts_all (facts_all (summaries before)) ++ (l ++ texts_all (facts_all (summaries after)))) r.texts ∙ sym (texts_append before (w ▸ after))) j;
     };
-    lets = lets_alike e spelling k z before after d w r.lets r.none_left;
-    shared_lets = shared_alike e spelling k z before after d w r.lets r.none_left;
+    lets = lets_alike e spelling k z before after d w r.first r.last r.lets r.left;
+    shared_lets = shared_alike e spelling k z before after d w r.first r.last r.lets r.left;
     name = refl;
     functions = functions_append before (d ▸ after) ∙ ap (λ l. functions_all (summaries before) ++ (l ++ functions_all (summaries after))) r.functions ∙ sym (functions_append before (w ▸ after));
   }
 
-  pub block_same : AllAvoid (alone (Declared k)) before → Avoids (alone (Declared k)) w → AllAvoid (alone (Declared k)) after → ((s : State) → Goes true (λ u. Agree (alone (Declared k))) (Agree (alone (Declared k))) (Agree (alone (Declared k))) (means e d (Stat None) [] s) (means e w (Stat None) [] s))
+  pub block_same : AllAvoid (alone (Declared k)) before → Avoids (alone (Declared k)) w → AllAvoid (alone (Declared k)) after → Same e (alone (Declared k)) nothing (Stat None) (listed (d ▸ none)) (listed (w ▸ none))
       → (t : Option Tail) → Same e (alone (Declared k)) nothing (Stat t) (block (append before (d ▸ after))) (block (append before (w ▸ after)))
-  block_same ab aw aa g t =
+  block_same ab aw aa one t =
       let D = alone (Declared k) in
-      let same = list_same e spelling k z before after (d ▸ none) (w ▸ none) aa (one_same e spelling k z d w g) t in
+      let same = list_same e spelling k z before after (d ▸ none) (w ▸ none) aa one t in
       congruent_same e D z.shared (inside shape.BlockStatement [] 0 none here none) (listed (append before (d ▸ after))) (listed (append before (w ▸ after))) (tt, tt, tt, tt) (tt, all_join D before (w ▸ after) ab (aw, aa)) list_read nothing (Stat t) (no_off _)
       (weaker e D D nothing _ (within_refl D) (no_within _) (Stat t) (listed (append before (d ▸ after))) (listed (append before (w ▸ after))) same)
 
 -- ---- the rows
 
 let_read : (spelling : List ℕ) (k : ℕ) (init w : Tree) → summary w ≡ summary empty_statement → ReadAs k (let_one (resolved spelling k) init) w
-let_read spelling k init w h = record { lets = refl; none_left = ap (λ i. i.lets) h; functions = sym (ap (λ i. i.functions) h); facts = sym (ap (λ i. i.facts.functions) h); texts = sym (ap (λ i. i.facts.texts) h) }
+let_read spelling k init w h = record { first = []; last = []; lets = refl; left = ap (λ i. i.lets) h; functions = sym (ap (λ i. i.functions) h); facts = sym (ap (λ i. i.facts.functions) h); texts = sym (ap (λ i. i.facts.texts) h) }
 
--- an expression is there
-there : (t : Tree) → declares_nothing t ≡ true → (summary t).facts.absent ≡ false
-there (node shape.Absent xs n ts) e = absurd (true≢false (sym e))
-there (node (shape.UnaryExpression LogicalNot) xs n none) e = absurd (true≢false (sym e))
-there (node (shape.UnaryExpression LogicalNot) xs n (t ▸ ts)) e = there t e
-there (node shape.SwitchCase xs n ts) e = absurd (true≢false (sym e))
-there (node (shape.Function true g ds) xs n ts) e = absurd (true≢false (sym e))
-there (node (shape.Function false g ds) xs n ts) e = refl
-there (node (shape.Class true) xs n ts) e = absurd (true≢false (sym e))
-there (node (shape.Class false) xs n ts) e = refl
-there (node h xs n ts) e = refl
+among_read : (spelling : List ℕ) (k : ℕ) (first last : Trees) (init : Tree) → ReadAs k (let_among (resolved spelling k) first init last) (declaration Let (append first last))
+among_read spelling k first last init = record { first = lets_all (summaries first); last = lets_all (summaries last); lets = lets_append first (declarator (binding (resolved spelling k)) init ▸ last); left = lets_append first last; functions = refl; facts = refl; texts = refl }
+
+idle_read : (spelling : List ℕ) (k : ℕ) (first last : Trees) (init : Tree) → ReadAs k (let_among (resolved spelling k) first init last) (left_over (append first last))
+idle_read spelling k none none init = let_read spelling k init empty_statement refl
+idle_read spelling k none (t ▸ last) init = among_read spelling k none (t ▸ last) init
+idle_read spelling k (t ▸ first) last init = among_read spelling k (t ▸ first) last init
+
+left_avoids : (D : VariableSet) (first last : Trees) → AllAvoid D first → AllAvoid D last → Avoids D (left_over (append first last))
+left_avoids D none none a b = (tt, tt)
+left_avoids D none (t ▸ last) a b = (tt, ((tt, b), tt))
+left_avoids D (t ▸ first) last a b = (tt, ((tt, all_join D (t ▸ first) last a b), tt))
 
 -- the block means the same in each tail
 pub row_72 : (e : Environment) (k : ℕ) → Unseen (alone (Declared k)) e → (n w : Tree) (r : Row72 n w) → k ≡ r.symbol → (t : Option Tail) → Same e (alone (Declared k)) nothing (Stat t) n w
@@ -217,13 +299,14 @@ row_72 e k z n w r h t =
     let x = resolved r.spelling r.symbol in
     let u : Unseen (alone (Declared r.symbol)) e = subst (λ j. Unseen (alone (Declared j)) e) h z in
     let D = alone (Declared r.symbol) in
-    let same = block_same e r.spelling r.symbol u r.before r.after (let_one x r.init) (expression_statement r.init) (let_read r.spelling r.symbol r.init (expression_statement r.init) refl) (all_avoided x r.symbol refl r.before r.unused.earlier) (tt, (avoided x r.symbol refl r.init r.unused.initial, tt)) (all_avoided x r.symbol refl r.after r.unused.later) (let_goes e r.spelling r.symbol u r.init (there r.init r.present)) t in
+    let same = block_same e r.spelling r.symbol u r.before r.after (let_one x r.init) (expression_statement r.init) (let_read r.spelling r.symbol r.init (expression_statement r.init) refl) (all_avoided x r.symbol refl r.before r.unused.earlier) (tt, (avoided x r.symbol refl r.init r.unused.initial, tt)) (all_avoided x r.symbol refl r.after r.unused.later) (value_same e r.spelling r.symbol u r.init r.present) t in
     subst (λ j. Same e (alone (Declared j)) nothing (Stat t) n w) (sym h) (subst₂ (Same e D nothing (Stat t)) (sym r.shape) (sym r.written) same)
 
-pub row_72_bare : (e : Environment) (k : ℕ) → Unseen (alone (Declared k)) e → (n w : Tree) (r : Row72Bare n w) → k ≡ r.symbol → (t : Option Tail) → Same e (alone (Declared k)) nothing (Stat t) n w
-row_72_bare e k z n w r h t =
+pub row_72_idle : (e : Environment) (k : ℕ) → Unseen (alone (Declared k)) e → (n w : Tree) (r : Row72Idle n w) → k ≡ r.symbol → (t : Option Tail) → Same e (alone (Declared k)) nothing (Stat t) n w
+row_72_idle e k z n w r h t =
     let x = resolved r.spelling r.symbol in
     let u : Unseen (alone (Declared r.symbol)) e = subst (λ j. Unseen (alone (Declared j)) e) h z in
     let D = alone (Declared r.symbol) in
-    let same = block_same e r.spelling r.symbol u r.before r.after (let_one x absent) empty_statement (let_read r.spelling r.symbol absent empty_statement refl) (all_avoided x r.symbol refl r.before r.unused.earlier) (tt, tt) (all_avoided x r.symbol refl r.after r.unused.later) (bare_goes e r.spelling r.symbol u) t in
+    let beside = all_avoided x r.symbol refl r.last r.unused.declared_later in
+    let same = block_same e r.spelling r.symbol u r.before r.after (let_among x r.first r.init r.last) (left_over (append r.first r.last)) (idle_read r.spelling r.symbol r.first r.last r.init) (all_avoided x r.symbol refl r.before r.unused.earlier) (left_avoids D r.first r.last (all_avoided x r.symbol refl r.first r.unused.declared_earlier) beside) (all_avoided x r.symbol refl r.after r.unused.later) (left_same e r.spelling r.symbol u r.first r.last r.init r.idle beside) t in
     subst (λ j. Same e (alone (Declared j)) nothing (Stat t) n w) (sym h) (subst₂ (Same e D nothing (Stat t)) (sym r.shape) (sym r.written) same)

@@ -78,7 +78,7 @@ abbrev pub Other : Name → List Name → Type 0
 Other x [] = Unit {0}
 Other x (y ∷ ys) = (same_text x.spelling y.spelling ≡ false) × Other x ys
 
-other_both : (x : Name) (xs ys : List Name) → Other x xs → Other x ys → Other x (xs ++ ys)
+pub other_both : (x : Name) (xs ys : List Name) → Other x xs → Other x ys → Other x (xs ++ ys)
 other_both x [] ys a b = b
 other_both x (y ∷ xs) ys a b = (a.0, other_both x xs ys a.1 b)
 

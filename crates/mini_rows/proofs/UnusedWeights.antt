@@ -1,24 +1,46 @@
 -- What the rows of names that nothing mentions write is lighter.
-use Rattle.std.proofs.Common.{◌≡◌, ℕ, ◌+◌, ◌<◌, ◌≤◌, true, false, List, ◌∷◌, refl, sym, ap, ◌∙◌, inl, inr, true≢false, arith}
+use Rattle.std.proofs.Common.{◌≡◌, ℕ, ◌+◌, ◌<◌, ◌≤◌, List, refl, sym, ap, ◌∙◌, inl, inr, arith}
+use Rattle.mini_model.specs.declared.kind.VariableDeclarationKind.TheVariants.{Let}
 use Rattle.mini_model.specs.declared.name.Name.{Name}
 use Rattle.mini_model.specs.declared.place.Position.{Position}
 use Rattle.mini_model.specs.declared.place.Position.TheVariants.{Stmt}
 use Rattle.mini_model.specs.declared.seat.StmtSeat.{StmtSeat}
-use Rattle.mini_model.specs.Tree.{Tree, Trees, none, ◌▸◌, absent, empty_statement, expression_statement}
+use Rattle.mini_model.specs.Tree.{Tree, Trees, none, ◌▸◌, expression_statement}
 use Rattle.mini_model.specs.Paths.{append}
 use Rattle.mini_model.specs.Position.{argument_seat, statement_expression_seat}
-use Rattle.mini_model.specs.Weight.{outline, outlines, one_chooses, braces_weight, weight}
-use Rattle.mini_laws.specs.Weights.{Lightens, counts_items}
+use Rattle.mini_model.specs.Weight.{commas_weight, outline, outlines, one_chooses, braces_weight, weight}
+use Rattle.mini_laws.specs.Weights.{Lightens}
 use Rattle.mini_laws.proofs.Seats.{moved}
-use Rattle.mini_rows.specs.Lists.{block}
-use Rattle.mini_rows.specs.Unused.{resolved, let_one, UnusedRow, UnusedContracts, UnusedLighter}
-use Rattle.mini_rows.proofs.ListWeights.{total, in_list}
+use Rattle.mini_rows.specs.Declarations.{binding, declarator}
+use Rattle.mini_rows.specs.Lists.{block, declaration}
+use Rattle.mini_rows.specs.Unused.{resolved, let_among, let_one, left_over, UnusedRow, UnusedContracts, UnusedLighter}
+use Rattle.mini_rows.proofs.ListWeights.{total, in_list, comma_list, declarators_append}
 
 value_falls : (s : List ℕ) (k : ℕ) (init : Tree) → total (expression_statement init ▸ none) + 1 ≤ total (let_one (resolved s k) init ▸ none)
 value_falls s k init = let seat = moved statement_expression_seat argument_seat refl init in omega (arith, seat)
 
-bare_falls : (s : List ℕ) (k : ℕ) → total (empty_statement ▸ none) + 1 ≤ total (let_one (resolved s k) absent ▸ none)
-bare_falls s k = omega arith
+-- one declarator less weighs no more commas
+commas_fall : (first last : Trees) (d : Tree) → commas_weight (outlines (append first last)) ≤ commas_weight (outlines (append first (d ▸ last)))
+commas_fall none none d = omega arith
+commas_fall none (u ▸ last) d = omega arith
+commas_fall (t ▸ none) none d = omega arith
+commas_fall (t ▸ none) (u ▸ last) d = omega arith
+commas_fall (t ▸ (c ▸ first)) last d = let rest = commas_fall (c ▸ first) last d in omega (arith, rest)
+
+among_falls : (x : Name) (first last : Trees) (init : Tree) → total (declaration Let (append first last) ▸ none) + 1 ≤ total (let_among x first init last ▸ none)
+among_falls x first last init =
+    let d = declarator (binding x) init in
+    omega (arith, commas_fall first last d, comma_list (append first last), comma_list (append first (d ▸ last)), declarators_append first last, declarators_append first (d ▸ last))
+
+idle_falls : (x : Name) (first last : Trees) (init : Tree) → total (left_over (append first last) ▸ none) + 1 ≤ total (let_among x first init last ▸ none)
+idle_falls x none none init = omega arith
+idle_falls x none (t ▸ last) init = among_falls x none (t ▸ last) init
+idle_falls x (t ▸ first) last init = among_falls x (t ▸ first) last init
+
+same_chooses : (x : Name) (first last : Trees) (init : Tree) → (outline (let_among x first init last)).chooses ≡ (outline (left_over (append first last))).chooses
+same_chooses x none none init = refl
+same_chooses x none (t ▸ last) init = refl
+same_chooses x (t ▸ first) last init = refl
 
 -- whether a block holds one `if` with `else` alone
 same_choice : (before after : Trees) (d w : Tree) → (outline d).chooses ≡ (outline w).chooses → one_chooses (outlines (append before (d ▸ after))) ≡ one_chooses (outlines (append before (w ▸ after)))
@@ -38,7 +60,7 @@ unused_lighter (Stmt q) n w (inl r) =
     let falls = block_falls q r.before r.after (let_one (resolved r.spelling r.symbol) r.init) (expression_statement r.init) refl (value_falls r.spelling r.symbol r.init) in
     omega (arith, falls, ap (weight (Stmt q)) r.shape, ap (weight (Stmt q)) r.written)
 unused_lighter (Stmt q) n w (inr r) =
-    let falls = block_falls q r.before r.after (let_one (resolved r.spelling r.symbol) absent) empty_statement refl (bare_falls r.spelling r.symbol) in
+    let falls = block_falls q r.before r.after (let_among (resolved r.spelling r.symbol) r.first r.init r.last) (left_over (append r.first r.last)) (same_chooses (resolved r.spelling r.symbol) r.first r.last r.init) (idle_falls (resolved r.spelling r.symbol) r.first r.last r.init) in
     omega (arith, falls, ap (weight (Stmt q)) r.shape, ap (weight (Stmt q)) r.written)
 unused_lighter p n w r = absurd r
 

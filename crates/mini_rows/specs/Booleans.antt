@@ -1,13 +1,14 @@
 -- Rows of expressions of which only the truth is asked, and of conditionals one of whose branches is a boolean, as equations: each
 -- is a shape and what is written in its place, with the JavaScript before and after. No order of rewriting is meant.
-use Rattle.std.specs.Prelude.{◌≡◌, ◌<◌, ◌⊎◌, Bool, true, false, not, ◌||◌, pos, Some}
+use Rattle.std.specs.Prelude.{◌≡◌, ◌<◌, ◌⊎◌, Bool, true, false, not, ◌&&◌, ◌||◌, pos, Some, if◌then◌else◌}
 use Rattle.mini_model.specs.declared.operator.LogicalOperator.{LogicalOperator}
 use Rattle.mini_model.specs.declared.operator.LogicalOperator.TheVariants.{Or, And}
+use Rattle.mini_model.specs.declared.operator.UnaryOperator.TheVariants.{UnaryPlus}
 use Rattle.mini_model.specs.declared.place.Position.{Position}
 use Rattle.mini_model.specs.declared.place.Position.TheVariants.{Expr}
 use Rattle.mini_model.specs.declared.seat.Seat.{Seat}
-use Rattle.mini_model.specs.Tree.{Tree, logical, conditional}
-use Rattle.mini_model.specs.Position.{is_and_or, left_operand_seat}
+use Rattle.mini_model.specs.Tree.{Tree, logical, conditional, negation, unary}
+use Rattle.mini_model.specs.Position.{is_and_or, left_operand_seat, unary_operand_seat}
 use Rattle.mini_model.specs.Terms.{not_of}
 use Rattle.mini_model.specs.Weight.{weight}
 use Rattle.mini_terms.specs.Evident.{evident_truth}
@@ -16,7 +17,7 @@ use Rattle.mini_terms.specs.declared.kinds.Kind.{Kind}
 use Rattle.mini_terms.specs.declared.kinds.Kind.TheVariants.{Boolean as IsBoolean}
 use Rattle.mini_terms.specs.Kind.{kind}
 use Rattle.mini_terms.specs.Parts.{leaves_nothing, weighs}
-use Rattle.mini_terms.specs.Reading.{is_plain_part}
+use Rattle.mini_terms.specs.Reading.{stands, is_plain_part}
 use Rattle.mini_rows.specs.Spellings.{numeral, negated_digit}
 
 -- ---- terms
@@ -106,6 +107,54 @@ pub record Row47 (s : Seat) (n w : Tree) : Type 0 where
   pub boolean : is_boolean_kind (kind form.branch) ≡ true
   pub told : is_turned form.is_consequent form.truth || is_boolean_kind (kind form.test) ≡ true
 
+-- ---- where both branches tell what the test is
+
+-- each value of it is a boolean, whatever is asked
+abbrev pub is_truth : Tree → Bool
+is_truth a = is_boolean_kind (kind a) && stands a
+
+-- what has the truth of a as its value (ECMA-262, "ToBoolean"): a itself, where its value is a boolean, or `!!a`; and what has the other
+-- truth, `!a`
+abbrev pub truth_of : Bool → Tree → Tree
+truth_of true a = if is_truth a then a else negation (negation a)
+truth_of false a = negation a
+
+-- 47: `a ? true : false` becomes `a` where each value of a is a boolean, and else `!!a`; `a ? false : true` becomes `!a`
+pub record Row47Both (n w : Tree) : Type 0 where
+  pub truth : Bool
+  pub test : Tree
+  pub consequent : Tree
+  pub alternate : Tree
+  pub known : evident_truth consequent ≡ Some truth
+  pub otherwise : evident_truth alternate ≡ Some (not truth)
+  pub effect_free : is_effect_free consequent && is_effect_free alternate ≡ true
+  pub dropped : leaves_nothing consequent && leaves_nothing alternate ≡ true
+  pub boolean : is_boolean_kind (kind consequent) && is_boolean_kind (kind alternate) ≡ true
+  pub plain : is_plain_part test ≡ true
+  pub shape : n ≡ conditional test consequent alternate
+  pub written : w ≡ truth_of truth test
+
+-- `+a`
+abbrev pub plus : Tree → Tree
+plus a = unary UnaryPlus a
+
+-- where it stands as the operand of `+`
+abbrev pub plus_seat : Seat
+plus_seat = unary_operand_seat UnaryPlus
+
+-- a as a boolean, or the negation of a, as the operand of `+`
+abbrev pub as_boolean : Bool → Tree → Tree
+as_boolean true a = truth_of true a
+as_boolean false a = not_of plus_seat a
+
+-- 48: `a ? 1 : 0` becomes `+a` where each value of a is a boolean, and else `+!!a`; `a ? 0 : 1` becomes `+!a` (ECMA-262, "ToNumber": true is
+-- 1, and false is 0)
+pub record Row48 (n w : Tree) : Type 0 where
+  pub truth : Bool
+  pub test : Tree
+  pub shape : n ≡ conditional test (digit truth) (digit (not truth))
+  pub written : w ≡ plus (as_boolean truth test)
+
 -- ---- all
 
 -- rows that are lighter in every seat
@@ -116,9 +165,13 @@ LighterRow s n w = Row24 s n w ⊎ Row25 s n w
 abbrev pub JoinedRow : Seat → Tree → Tree → Type 0
 JoinedRow s n w = Row26 s n w ⊎ Row47 s n w
 
+-- of a conditional that is no more than its test, as a boolean or as a number
+abbrev pub ConvertedRow : Tree → Tree → Type 0
+ConvertedRow n w = Row47Both n w ⊎ Row48 n w
+
 -- a row reads n as w at this place
 abbrev pub BooleanRow : Position → Tree → Tree → Type 0
-BooleanRow (Expr s) n w = LighterRow s n w ⊎ JoinedRow s n w
+BooleanRow (Expr s) n w = LighterRow s n w ⊎ (JoinedRow s n w ⊎ ConvertedRow n w)
 BooleanRow _ n w = ⊥
 
 -- what it writes, where it weighs less

@@ -2,15 +2,18 @@
 -- written in its place, with the JavaScript before and after.
 use Rattle.std.specs.Prelude.{◌≡◌, ◌⊎◌, ◌<◌, Bool, true, false, not, [], if◌then◌else◌}
 use Rattle.mini_model.specs.declared.operator.LogicalOperator.TheVariants.{Or, And}
+use Rattle.mini_model.specs.declared.operator.UnaryOperator.TheVariants.{Void}
 use Rattle.mini_model.specs.declared.place.Position.{Position}
 use Rattle.mini_model.specs.declared.place.Position.TheVariants.{Stmt}
 use Rattle.mini_model.specs.declared.seat.Seat.{Seat}
 use Rattle.mini_model.specs.declared.shape.Shape.{Shape}
 use Rattle.mini_model.specs.declared.shape.Shape.TheVariants as shape
-use Rattle.mini_model.specs.Tree.{Tree, node, none, ◌▸◌, shape_of, is_absent, absent, empty_statement, expression_statement, if_else, if_alone, logical}
+use Rattle.mini_model.specs.Tree.{Tree, node, none, ◌▸◌, shape_of, is_absent, absent, empty_statement, expression_statement, if_else, if_alone, logical, unary}
 use Rattle.mini_model.specs.Position.{if_test_seat, left_operand_seat, statement_expression_seat}
 use Rattle.mini_model.specs.Weight.{weight}
 use Rattle.mini_model.specs.Terms.{not_of, has_negated_result}
+use Rattle.mini_terms.specs.Folds.{is_effect_free}
+use Rattle.mini_terms.specs.Parts.{leaves_nothing}
 use Rattle.mini_rows.specs.Lists.{block, return_statement, is_unscoped}
 use Rattle.mini_rows.specs.Spellings.{IsUndefined}
 
@@ -41,10 +44,17 @@ as_consequent t = if has_else t then block (t ▸ none) else t
 
 -- ---- 60
 
--- `return undefined;` and `return void 0;` become `return;`
+-- `void a`, where a has no effect and nothing of it is left behind
+pub record IsIdleVoid (t : Tree) : Type 0 where
+  pub operand : Tree
+  pub effect_free : is_effect_free operand ≡ true
+  pub dropped : leaves_nothing operand ≡ true
+  pub is : t ≡ unary Void operand
+
+-- `return undefined;`, `return void 0;` and `return void a;` become `return;`
 pub record Row60 (n w : Tree) : Type 0 where
   pub argument : Tree
-  pub undefined : IsUndefined argument
+  pub undefined : IsUndefined argument ⊎ IsIdleVoid argument
   pub shape : n ≡ return_statement argument
   pub written : w ≡ return_statement absent
 

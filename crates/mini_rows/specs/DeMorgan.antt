@@ -6,13 +6,14 @@ use Rattle.mini_model.specs.declared.place.Position.{Position}
 use Rattle.mini_model.specs.declared.place.Position.TheVariants.{Stmt}
 use Rattle.mini_model.specs.Tree.{Tree, logical, expression_statement}
 use Rattle.mini_model.specs.Position.{is_and_or, statement_expression_seat, left_operand_seat}
-use Rattle.mini_model.specs.Terms.{turned, not_of}
+use Rattle.mini_model.specs.Terms.{turned}
 use Rattle.mini_model.specs.Weight.{weight}
 use Rattle.mini_node.specs.Kinds.{is_logical}
+use Rattle.mini_rows.specs.Negations.{lightest}
 
 -- the left side negated under the other operator
 abbrev pub turned_logical : LogicalOperator → Tree → Tree → Tree
-turned_logical o a b = logical (turned o) (not_of (left_operand_seat (turned o) statement_expression_seat) a) b
+turned_logical o a b = logical (turned o) (lightest (left_operand_seat (turned o) statement_expression_seat) a) b
 
 -- 50: `!a && b;` becomes `a || b;`, and `!a || b;` `a && b;` (De Morgan): which side is evaluated stays, and nobody asks for the value.
 -- `a && (b && c);` is joined instead, which is lighter

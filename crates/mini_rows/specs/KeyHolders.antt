@@ -1,16 +1,16 @@
 -- Rows on the keys of patterns and of classes, as equations. The node is what has the key: a property of a pattern, a method or a
 -- field. Its key names the same property before and after (ECMA-262, "Runtime Semantics: Evaluation" of LiteralPropertyName).
-use Rattle.std.specs.Prelude.{◌≡◌, ◌<◌, ℕ, Bool, true, false, List, [], pos}
+use Rattle.std.specs.Prelude.{◌≡◌, ◌<◌, ◌⊎◌, ◌&&◌, ◌||◌, not, ℕ, Bool, true, false, List, [], codes, pos}
 use Rattle.std.specs.Fmt.{signed_decimal}
-use Rattle.mini_text.specs.Texts.{is_identifier_name}
-use Rattle.mini_text.specs.Numerals.{IsSafe}
+use Rattle.mini_model.specs.Texts.{is_identifier_name}
+use Rattle.mini_model.specs.Numerals.{IsSafe}
 use Rattle.mini_model.specs.declared.kind.MethodDefinitionKind.{MethodDefinitionKind}
 use Rattle.mini_model.specs.declared.place.Position.{Position}
 use Rattle.mini_model.specs.declared.place.Position.TheVariants.{Elsewhere}
 use Rattle.mini_model.specs.declared.shape.Shape.{Shape}
 use Rattle.mini_model.specs.declared.shape.Shape.TheVariants as shape
 use Rattle.mini_model.specs.Tree.{Tree, node, none, ◌▸◌}
-use Rattle.mini_model.specs.Weight.{weight}
+use Rattle.mini_model.specs.Weight.{same_text, weight}
 use Rattle.mini_rows.specs.Spellings.{numeral, text, key}
 
 -- what has a key without brackets: a property of a declaration's pattern that is no shorthand, one of a pattern that is assigned
@@ -58,9 +58,64 @@ pub record Row52Held (n w : Tree) : Type 0 where
   pub shape : n ≡ holding holder (quoted spelling) value
   pub written : w ≡ holding holder (unquoted spelling) value
 
+-- what may lose the brackets of its key: a property of a pattern that is assigned to, a method and a field of a class
+pub data Member : Type 0 where
+  of_target : Member
+  of_method : MethodDefinitionKind → Bool → Member
+  of_field : Bool → Member
+
+abbrev pub member_shape : Bool → Member → Shape
+member_shape is_computed of_target = shape.AssignmentTargetPropertyProperty is_computed
+member_shape is_computed (of_method kind is_static) = shape.MethodDefinition kind is_computed is_static
+member_shape is_computed (of_field is_static) = shape.PropertyDefinition is_computed is_static
+
+-- the key in brackets, which has a number as each inner expression does, and without them
+abbrev pub in_brackets : Member → ℕ → Tree → Tree → Tree
+in_brackets m n k v = node (member_shape true m) [] 0 (node shape.InnerExpression [] n (k ▸ none) ▸ v ▸ none)
+
+abbrev pub without_brackets : Member → Tree → Tree → Tree
+without_brackets m k v = node (member_shape false m) [] 0 (k ▸ v ▸ none)
+
+-- a text, or a whole number from 0
+pub data PlainKey : Type 0 where
+  a_word : List ℕ → PlainKey
+  a_count : ℕ → PlainKey
+
+abbrev pub plain_key : PlainKey → Tree
+plain_key (a_word s) = text s
+plain_key (a_count n) = numeral (pos n)
+
+abbrev pub IsPlainKey : PlainKey → Type 0
+IsPlainKey (a_word s) = Unit {0}
+IsPlainKey (a_count n) = IsSafe (pos n)
+
+-- A text that stays in brackets in a class: without them a method `constructor` would be the class's constructor (ECMA-262,
+-- "ConstructorMethod"), and there is no field `constructor`, no static method and no static field `prototype` (ECMA-262, "Class
+-- Definitions: Static Semantics: Early Errors"). So does `#constructor`, which no private name may be
+abbrev pub stays_in_brackets : Bool → Bool → List ℕ → Bool
+stays_in_brackets is_method is_static s =
+    same_text s (codes "#constructor") || ((is_static && same_text s (codes "prototype")) || (not (is_method && is_static) && same_text s (codes "constructor")))
+
+abbrev pub loses_brackets : Member → PlainKey → Bool
+loses_brackets (of_method kind is_static) (a_word s) = not (stays_in_brackets true is_static s)
+loses_brackets (of_field is_static) (a_word s) = not (stays_in_brackets false is_static s)
+loses_brackets m k = true
+
+-- 52, of brackets: `({ ["x"]: v } = ..)` becomes `({ "x": v } = ..)`, and `class { ["x"]() {} static [1] = v }` becomes
+-- `class { "x"() {} static 1 = v }`
+pub record Row52Bare (n w : Tree) : Type 0 where
+  pub member : Member
+  pub number : ℕ
+  pub key : PlainKey
+  pub value : Tree
+  pub is_key : IsPlainKey key
+  pub loses : loses_brackets member key ≡ true
+  pub shape : n ≡ in_brackets member number (plain_key key) value
+  pub written : w ≡ without_brackets member (plain_key key) value
+
 -- a row on such a key reads n as w at this place
 abbrev pub HeldKeyRow : Position → Tree → Tree → Type 0
-HeldKeyRow Elsewhere n w = Row52Held n w
+HeldKeyRow Elsewhere n w = Row52Held n w ⊎ Row52Bare n w
 HeldKeyRow _ n w = ⊥
 
 -- what it writes, where it weighs less

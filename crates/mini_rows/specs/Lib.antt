@@ -11,9 +11,13 @@ pub mod Arrows
 pub mod Sketches
 pub mod Arranged
 pub mod Redex
+pub mod Chains
 pub mod Choices
 pub mod Folding
 pub mod Booleans
 pub mod Unused
 pub mod Constants
 pub mod DeMorgan
+pub mod Negations
+pub mod Sequences
+pub mod Operands

@@ -12,6 +12,7 @@ use Rattle.mini_model.specs.Tree.{Tree, Trees, node, none, ◌▸◌, count, lea
 use Rattle.mini_model.specs.Paths.{append}
 use Rattle.mini_model.specs.Weight.{weight}
 use Rattle.mini_rows.specs.Switches.{Switches}
+use Rattle.mini_terms.specs.Parts.{leaves_nothing}
 
 -- Nodes, one function a node
 
@@ -57,6 +58,16 @@ has_third _ = false
 unfoldable pub has_alternates : ℕ → Tree → Bool
 has_alternates zero t = true
 has_alternates (suc n) t = is_conditional_shape (shape_of t) && (has_third (children t) && has_alternates n (child_or_absent (children t) 2))
+
+-- it nests at most so many nodes deep, itself and lists among them: `a` one, `-a` two, `{ a; }` four
+unfoldable mutual
+  pub is_shallow : ℕ → Tree → Bool
+  is_shallow zero t = false
+  is_shallow (suc levels) (node h xs n ts) = are_shallow levels ts
+
+  pub are_shallow : ℕ → Trees → Bool
+  are_shallow levels none = true
+  are_shallow levels (t ▸ ts) = is_shallow levels t && are_shallow levels ts
 
 -- What is declared
 
@@ -321,15 +332,38 @@ pub record Row76 (a b : Trees) : Type 0 where
   pub shape : a ≡ if_else test s u ▸ none
   pub written : b ≡ if_alone test s ▸ (u ▸ none)
 
--- 74: `if (a) s; if (b) s;` becomes `if (a || b) s`, where s ends in a jump; the second may have an `else`, which stays
+-- 74: `if (a) s; if (b) s;` becomes `if (a || b) s`, where s ends in a jump, and a nests no deeper than 64; the second may have
+-- an `else`, which stays
 pub record Row74 (a b : Trees) : Type 0 where
   pub left : Tree
   pub right : Tree
   pub s : Tree
   pub u : Tree
   pub terminated : is_terminated s ≡ true
+  pub shallow : is_shallow 64 left ≡ true
   pub shape : a ≡ if_alone left s ▸ (if_else right s u ▸ none)
   pub written : b ≡ if_else (logical Or left right) s u ▸ none
+
+-- a statement of an expression
+pub data Saying : Type 0 where
+  AsStatement : Saying
+  AsReturn : Saying
+  AsThrow : Saying
+
+abbrev pub says : Saying → Tree → Tree
+says AsStatement e = expression_statement e
+says AsReturn e = return_statement e
+says AsThrow e = throw_statement e
+
+-- 77: `return a; b();` becomes `return a;`, and so `return b;` and `throw b;` go after a statement that ends in a jump
+pub record Row77 (a b : Trees) : Type 0 where
+  pub first : Tree
+  pub saying : Saying
+  pub e : Tree
+  pub terminated : is_terminated first ≡ true
+  pub dropped : leaves_nothing e ≡ true
+  pub shape : a ≡ first ▸ (says saying e ▸ none)
+  pub written : b ≡ first ▸ none
 
 -- Rows at the end of a list after which a jump would go where the list does: a function's body, after which it returns
 
@@ -338,13 +372,30 @@ pub record Row78 (jump : Tree) (a b : Trees) : Type 0 where
   pub shape : a ≡ jump ▸ none
   pub written : b ≡ none
 
--- 75: `if (a) return; b; c;` becomes `if (!a) { b; c; }`
+-- 75: `if (a) return; b; c;` becomes `if (!a) { b; c; }`, where b and c nest no deeper than 64
 pub record Row75 (jump : Tree) (a b : Trees) : Type 0 where
   pub test : Tree
   pub rest : Trees
   pub unscoped : are_unscoped rest ≡ true
+  pub shallow : are_shallow 64 rest ≡ true
   pub shape : a ≡ if_alone test jump ▸ rest
   pub written : b ≡ if_alone (negation test) (block rest) ▸ none
+
+-- the alternate that some statements make, if there are any
+abbrev pub alternate_of : Trees → Tree
+alternate_of none = absent
+alternate_of (t ▸ ts) = block (t ▸ ts)
+
+-- 75: `if (a) { b; return; } c;` becomes `if (a) { b; } else { c; }`, where c nests no deeper
+pub record Row75Block (jump : Tree) (a b : Trees) : Type 0 where
+  pub test : Tree
+  pub body : Trees
+  pub rest : Trees
+  pub loose : are_unscoped body ≡ true
+  pub unscoped : are_unscoped rest ≡ true
+  pub shallow : are_shallow 64 rest ≡ true
+  pub shape : a ≡ if_alone test (block (append body (jump ▸ none))) ▸ rest
+  pub written : b ≡ if_else test (block body) (alternate_of rest) ▸ none
 
 -- `return;`
 abbrev pub bare_return : Tree
@@ -368,9 +419,9 @@ JoinRow o a b = ((o.join_vars ≡ true) × Row68 a b) ⊎ ((o.sequences ≡ true
 abbrev pub StretchRow : Switches → Trees → Trees → Type 0
 StretchRow o a b = Row66Empty a b ⊎ (Row79 a b ⊎ (JoinRow o a b ⊎ ((o.sequences ≡ true) × SequencesRow a b)))
 
--- those on an `if` and the next one that has its branch
+-- those on a jump and what follows: on an `if` that ends in one and the next one that has its branch, and on what never runs
 abbrev pub GuardsRow : Switches → Trees → Trees → Type 0
-GuardsRow o a b = (o.sequences ≡ true) × Row74 a b
+GuardsRow o a b = (o.sequences ≡ true) × (Row74 a b ⊎ Row77 a b)
 
 -- all of them
 abbrev pub NeighbourRow : Switches → Trees → Trees → Type 0
@@ -397,7 +448,7 @@ pub record AtEnd (R : Trees → Trees → Type 0) (n w : Tree) : Type 0 where
 
 -- the rows at the end of the list that this jump leaves
 abbrev pub EndRow : Switches → Tree → Trees → Trees → Type 0
-EndRow o jump a b = Row78 jump a b ⊎ ((o.sequences ≡ true) × Row75 jump a b)
+EndRow o jump a b = Row78 jump a b ⊎ ((o.sequences ≡ true) × (Row75 jump a b ⊎ Row75Block jump a b))
 
 -- a row reads the list n at this place as w
 abbrev pub ListRow : Switches → Position → Tree → Tree → Type 0

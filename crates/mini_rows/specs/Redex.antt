@@ -7,6 +7,7 @@ use Rattle.mini_model.specs.Weight.{weight}
 use Rattle.mini_model.specs.Redex as first
 use Rattle.mini_model.specs.Rewriting.{Everywhere}
 use Rattle.mini_kept.specs.Lawful.{Lawful}
+use Rattle.mini_kept.specs.Loosely.{LawfulLoosely}
 use Rattle.mini_rows.specs.Switches.{Switches}
 use Rattle.mini_rows.specs.Spellings.{SpellingRow}
 use Rattle.mini_rows.specs.Branches.{BranchRow}
@@ -21,22 +22,30 @@ use Rattle.mini_rows.specs.Constants.{ConstantRow}
 use Rattle.mini_rows.specs.KeyHolders.{HeldKeyRow}
 use Rattle.mini_rows.specs.Booleans.{BooleanRow}
 use Rattle.mini_rows.specs.DeMorgan.{DeMorganRow}
+use Rattle.mini_rows.specs.Sequences.{SequenceRow}
+use Rattle.mini_rows.specs.Operands.{OperandRow}
+use Rattle.mini_rows.specs.Unused.{UnusedContracts}
+use Rattle.mini_rows.specs.Negations.{NegationRow}
 
 -- a row reads n as w at this place: one of negations and of `if` over expressions, of spellings, of branches and bodies of
 -- loops, of lists of statements, of the keys of object literals, of choices, of declarations, of what is known, of tests that
--- are turned, of arrow functions, of constants, or of the keys of patterns and classes
+-- are turned, of arrow functions, of constants, of the keys of patterns and classes, of booleans, of De Morgan's laws, of sequences, of operands whose value is known, or of negations that reach into the operand
 abbrev pub Row : Switches → Position → Tree → Tree → Type 0
-Row o p n w = first.Row p n w ⊎ (SpellingRow p n w ⊎ (BranchRow p n w ⊎ (ListRow o p n w ⊎ (KeyRow p n w ⊎ (ChoiceRow p n w ⊎ (DeclarationRow p n w ⊎ (FoldingRow p n w ⊎ (TurnRow p n w ⊎ (ArrowRow p n w ⊎ (ConstantRow p n w ⊎ (HeldKeyRow p n w ⊎ (BooleanRow p n w ⊎ DeMorganRow p n w))))))))))))
+Row o p n w = first.Row p n w ⊎ (SpellingRow p n w ⊎ (BranchRow p n w ⊎ (ListRow o p n w ⊎ (KeyRow p n w ⊎ (ChoiceRow p n w ⊎ (DeclarationRow p n w ⊎ (FoldingRow p n w ⊎ (TurnRow p n w ⊎ (ArrowRow p n w ⊎ (ConstantRow p n w ⊎ (HeldKeyRow p n w ⊎ (BooleanRow p n w ⊎ (DeMorganRow p n w ⊎ (SequenceRow p n w ⊎ (OperandRow p n w ⊎ NegationRow p n w)))))))))))))))
 
 -- what a row writes, where it weighs less
 pub record Contracts (o : Switches) (p : Position) (n w : Tree) : Type 0 where
   pub row : Row o p n w
   pub lighter : weight p w < weight p n
 
+-- or what one of a name that nothing mentions writes, which goes
+abbrev pub Rewrites : Switches → Position → Tree → Tree → Type 0
+Rewrites o p n w = Contracts o p n w ⊎ UnusedContracts p n w
+
 -- a redex in its place
 pub record Redex (o : Switches) (p : Position) (n : Tree) : Type 0 where
   pub to : Tree
-  pub contracts : Contracts o p n to
+  pub contracts : Rewrites o p n to
 
 -- there is nothing to rewrite at the node in its place
 abbrev pub IsSettled : Switches → Position → Tree → Type 0
@@ -49,3 +58,7 @@ HasNoRedex o p n = Everywhere (IsSettled o) p n
 -- what the rows make is lawful, whatever the options
 abbrev pub RowsAreLawful : Type 0
 RowsAreLawful = (o : Switches) → Lawful (Contracts o)
+
+-- and loosely, where names go that nothing mentions
+abbrev pub RowsAreLoose : Type 0
+RowsAreLoose = (o : Switches) → LawfulLoosely (Rewrites o)

@@ -34,6 +34,7 @@ pub data Head : Type 0 where
   New : Head
   StaticMember : Bool → Head
   ComputedMember : Bool → Head
+  Chain : Head
   Array : Head
   Object : Head
   -- a property that is no method and no accessor: whether it is shorthand, and whether its key stands in brackets
@@ -67,6 +68,7 @@ shape_by (Call is_optional) = shape.CallExpression is_optional
 shape_by New = shape.NewExpression
 shape_by (StaticMember is_optional) = shape.StaticMemberExpression is_optional
 shape_by (ComputedMember is_optional) = shape.ComputedMemberExpression is_optional
+shape_by Chain = shape.ChainExpression
 shape_by Array = shape.ArrayExpression
 shape_by Object = shape.ObjectExpression
 shape_by (Property is_shorthand is_computed) = shape.ObjectProperty Init false is_shorthand is_computed

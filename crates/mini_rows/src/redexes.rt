@@ -1,8 +1,10 @@
 //! All rows together.
 
-ghost use Rattle.mini_rows.specs.Redex.{RowsAreLawful};
+ghost use Rattle.mini_rows.specs.Redex.{RowsAreLawful, RowsAreLoose};
 
-/// What any row writes keeps all that a program has to keep, whatever the options let happen.
+/// What any row writes keeps all that a program has to keep, whatever the options let happen; and so, but for names that
+/// nothing mentions, where such names may go.
 pub fn rows_are_lawful()
-    ensures { RowsAreLawful }
+    ensures lawful { RowsAreLawful }
+    ensures loosely { RowsAreLoose }
 {}

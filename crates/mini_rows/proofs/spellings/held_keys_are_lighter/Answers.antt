@@ -1,4 +1,4 @@
-use Rattle.mini_rows.proofs.HeldKeyMeaning.{held_keys_lighter, held_keys_lighten}
+use Rattle.mini_rows.proofs.KeysJoined.{held_keys_lighter, held_keys_lighten}
 use Rattle.mini_rows.proofs.spellings.held_keys_are_lighter.Goals as goal
 
 pub returns-clause-row : goal.returns-clause-row

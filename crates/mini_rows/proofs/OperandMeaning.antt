@@ -1,0 +1,275 @@
+-- What a row on operands whose value is known writes means the same.
+use Rattle.std.proofs.Common.{◌≡◌, suc, Bool, true, false, [], ◌∷◌, Option, Some, None, refl, sym, ap, subst, ◌∙◌, inl, inr}
+use Rattle.std.specs.Prelude.{not, pos}
+use Rattle.std.proofs.lemmas.List.{append-nil}
+use Rattle.mini_model.specs.declared.operator.BinaryOperator.{BinaryOperator}
+use Rattle.mini_model.specs.declared.operator.BinaryOperator.TheVariants.{Addition}
+use Rattle.mini_model.specs.declared.place.Position.{Position}
+use Rattle.mini_model.specs.declared.place.Position.TheVariants.{Expr}
+use Rattle.mini_model.specs.declared.seat.Seat.{Seat}
+use Rattle.mini_model.specs.declared.shape.Shape.TheVariants as shape
+use Rattle.mini_model.specs.Tree.{Tree, none, ◌▸◌, logical}
+use Rattle.mini_model.specs.Position.{right_operand_seat, child_position}
+use Rattle.mini_model.specs.Rewriting.{Step, here, inside, first, later}
+use Rattle.mini_laws.specs.Value.{Value, Undefined, Null, Boolean, Number, String, Symbol, Object, truth}
+use Rattle.mini_laws.specs.State.{ForDefault, Coerce, Item, State, Completion, ok, stop, either, Environment}
+use Rattle.mini_laws.specs.Demand.{Val, As}
+use Rattle.mini_laws.specs.Command.{is_object, Naming, Command, ret, bind, emit, Kids, run}
+use Rattle.mini_laws.specs.Naming.{summary}
+use Rattle.mini_laws.specs.Operators.{same_boolean, loosely_equal}
+use Rattle.mini_laws.specs.Replies.{primitive, of_option}
+use Rattle.mini_laws.specs.Replies as replies
+use Rattle.mini_laws.specs.Expressions.{operate_by}
+use Rattle.mini_laws.specs.Step.{step, means, meaning}
+use Rattle.mini_laws.specs.Rows.{SameAt}
+use Rattle.mini_laws.specs.Rewritten.{MeansSame}
+use Rattle.mini_laws.specs.Truth.{told}
+use Rattle.mini_laws.proofs.Rewritten.{any_step_same}
+use Rattle.mini_laws.proofs.Rows.{by_equality}
+use Rattle.mini_laws.proofs.Runs.{either_cong, either_eta, either_ok}
+use Rattle.mini_laws.proofs.Truth.{coherent}
+use Rattle.mini_terms.specs.declared.kinds.Kind.TheVariants.{Boolean as IsBoolean, String as IsString}
+use Rattle.mini_terms.specs.Kind.{kind, OfKind}
+use Rattle.mini_terms.specs.Reading.{SameWanted, is_plain_part}
+use Rattle.mini_terms.specs.Sound.{Gives}
+use Rattle.mini_terms.proofs.Dropping.{after_cong}
+use Rattle.mini_terms.proofs.KindTable.{kind_sound}
+use Rattle.mini_terms.proofs.Opened.{negation_opened}
+use Rattle.mini_terms.proofs.Reading.{same_in_seat}
+use Rattle.mini_rows.specs.Booleans.{digit}
+use Rattle.mini_rows.specs.Choices.{loosely}
+use Rattle.mini_rows.specs.Folding.{Row13}
+use Rattle.mini_rows.specs.Operands.{beside, told_by, Row14, Row7, Row29, OperandRow, OperandContracts}
+use Rattle.mini_rows.specs.Spellings.{binary, negated_digit, text}
+use Rattle.mini_rows.proofs.BooleanMeaning.{then_same}
+use Rattle.mini_rows.proofs.ChoiceMeaning.{rotated_same}
+use Rattle.mini_rows.proofs.ChoiceRuns.{value, binary_value, binary_names, sides}
+use Rattle.mini_rows.proofs.FoldMeaning.{plain_of, value_of, plain_read, passed_same, passed_read}
+use Rattle.mini_rows.proofs.SpellAlike.{SameTree, Alike, bind_alike, choose_alike}
+use Rattle.mini_rows.proofs.SequenceMeaning.{same_value}
+use Rattle.mini_rows.proofs.SpellMeaning.{tree_same, same_by}
+
+-- ---- 14
+
+-- a row 13 below
+abbrev Passed : Position → Tree → Tree → Type 0
+Passed (Expr s) n w = Row13 s n w
+Passed p n w = ⊥
+
+passed_at : (p : Position) (n w : Tree) → Passed p n w → SameAt p n w
+passed_at (Expr s) n w r = passed_same s n w r
+passed_at p n w r = absurd r
+
+read_at : (p : Position) (n w : Tree) → Passed p n w → summary n ≡ summary w
+read_at (Expr s) n w r = passed_read s n w r
+read_at p n w r = absurd r
+
+passed_means : MeansSame Passed
+passed_means = record { same = passed_at; reads = read_at }
+
+middle_same : (s : Seat) (n w : Tree) → Row14 s n w → SameAt (Expr s) n w
+middle_same s n w r =
+    let o = r.operator in
+    let nested : Tree = logical o r.left (logical o r.middle r.right) in
+    let whole : Tree = logical o (logical o r.left r.middle) r.right in
+    let made : Tree = logical o r.left r.right in
+    let inner : Row13 (right_operand_seat o s) (logical o r.middle r.right) r.right = record { operator = o; left = r.middle; right = r.right; known = r.known; effect_free = r.effect_free; dropped = r.dropped; heavy = r.heavy; stays = r.stays; shape = refl; written = refl } in
+    let step : Step Passed (Expr s) nested made =
+    inside (Expr s) (shape.LogicalExpression o) [] 0 (r.left ▸ logical o r.middle r.right ▸ none) (r.left ▸ r.right ▸ none)
+    (later (child_position (shape.LogicalExpression o) (Expr s) 2) r.left (logical o r.middle r.right ▸ none) (r.right ▸ none)
+    (first (λ i. child_position (shape.LogicalExpression o) (Expr s) 2 (suc i)) (logical o r.middle r.right) r.right none (here (Expr (right_operand_seat o s)) (logical o r.middle r.right) r.right inner))) in
+    subst (λ t. SameAt (Expr s) t w) (sym r.shape) (subst (SameAt (Expr s) whole) (sym r.written)
+    (then_same (Expr s) whole nested made (tree_same s whole nested (turned (rotated_same o r.left r.middle r.right none))) (any_step_same Passed passed_means (Expr s) nested made step)))
+  where
+    turned : {a b : Tree} → SameTree a b → SameTree b a
+    turned h = record { by = λ e q x z. sym (h.by e q x z); read = sym h.read }
+
+-- ---- by values alone
+
+wanted_by : (n w : Tree) → ((e : Environment) (s : State) → value e n s ≡ value e w s) → SameWanted n w
+wanted_by n w h e D X u = by_equality e D X (As u) n w (λ r s. coherent n u e s ∙ ap (told u) (h e s) ∙ sym (coherent w u e s))
+
+-- what follows both operands
+abbrev ends_with : Environment → BinaryOperator → Tree → Tree → Value → Value → State → Completion Value
+ends_with e o a b v u y = run {q = λ i. As Val} e (binary_names o a b) (sides e a b) (operate_by o v u) y
+
+-- ---- 7
+
+empty_value : (e : Environment) (z : State) → value e (text []) z ≡ ok (String []) z
+unfolding means step
+empty_value e z = refl
+
+right_empty : (e : Environment) (a : Tree) (v : Value) → OfKind IsString v → (z : State) → ends_with e Addition a (text []) v (String []) z ≡ ok v z
+right_empty e a (String t) p z = ap (λ r. ok (String r) z) (append-nil t)
+right_empty e a v p z = absurd p
+
+left_empty : (e : Environment) (a : Tree) (v : Value) → OfKind IsString v → (z : State) → ends_with e Addition (text []) a (String []) v z ≡ ok v z
+left_empty e a (String t) p z = refl
+left_empty e a v p z = absurd p
+
+text_value : (on_right : Bool) (a : Tree) → kind a ≡ IsString → (e : Environment) (s : State) → value e (beside Addition on_right a (text [])) s ≡ value e a s
+text_value true a k e s =
+    binary_value e Addition a (text []) s
+    ∙ after_cong (OfKind IsString) (value e a s) _ (λ v z. ok v z) (subst (λ j. Gives (OfKind j) (value e a s)) k (kind_sound a e s))
+    (λ v p z. ap (λ y. either y (λ u y. ends_with e Addition a (text []) v u y) (λ x y. stop x y)) (empty_value e z) ∙ either_ok (String []) z _ _ ∙ right_empty e a v p z)
+    ∙ either_eta (value e a s)
+text_value false a k e s =
+    binary_value e Addition (text []) a s
+    ∙ ap (λ y. either y (λ v z. either (value e a z) (λ u y. ends_with e Addition (text []) a v u y) (λ x y. stop x y)) (λ x z. stop x z)) (empty_value e s)
+    ∙ either_ok (String []) s _ _
+    ∙ after_cong (OfKind IsString) (value e a s) _ (λ v z. ok v z) (subst (λ j. Gives (OfKind j) (value e a s)) k (kind_sound a e s)) (λ v p z. left_empty e a v p z)
+    ∙ either_eta (value e a s)
+
+text_same : (s : Seat) (n w : Tree) → Row7 s n w → SameAt (Expr s) n w
+text_same s n w r = onto r.on_right r.shape
+  where
+    onto : (b : Bool) → n ≡ beside Addition b r.operand (text []) → SameAt (Expr s) n w
+    onto true e = subst (λ t. SameAt (Expr s) t w) (sym e) (subst (SameAt (Expr s) (binary Addition r.operand (text []))) (sym r.written) (same_in_seat s (binary Addition r.operand (text [])) r.operand refl (value_of s r.operand r.stays) (wanted_by _ _ (text_value true r.operand r.known))))
+    onto false e = subst (λ t. SameAt (Expr s) t w) (sym e) (subst (SameAt (Expr s) (binary Addition (text []) r.operand)) (sym r.written) (same_in_seat s (binary Addition (text []) r.operand) r.operand refl (value_of s r.operand r.stays) (wanted_by _ _ (text_value false r.operand r.known))))
+
+-- ---- 29
+
+boolean_value : (c : Bool) (e : Environment) (z : State) → value e (negated_digit c) z ≡ ok (Boolean c) z
+unfolding means meaning step either
+boolean_value true e z = refl
+boolean_value false e z = refl
+
+abbrev told_of : Bool → Value → Value
+told_of true v = v
+told_of false v = Boolean (not (truth v))
+
+compared : (e : Environment) (equal c : Bool) (a : Tree) (v : Value) → OfKind IsBoolean v → (z : State) → ends_with e (loosely equal) a (negated_digit c) v (Boolean c) z ≡ ok (told_of (same_boolean equal c) v) z
+compared e true true a (Boolean true) p z = refl
+compared e true true a (Boolean false) p z = refl
+compared e true false a (Boolean true) p z = refl
+compared e true false a (Boolean false) p z = refl
+compared e false true a (Boolean true) p z = refl
+compared e false true a (Boolean false) p z = refl
+compared e false false a (Boolean true) p z = refl
+compared e false false a (Boolean false) p z = refl
+compared e equal c a v p z = absurd p
+
+told_value : (t : Bool) (a : Tree) (e : Environment) (s : State) → either (value e a s) (λ v z. ok (told_of t v) z) (λ x z. stop x z) ≡ value e (told_by t a) s
+told_value true a e s = either_eta (value e a s)
+told_value false a e s = sym (negation_opened e a s)
+
+equal_value : (equal c : Bool) (a : Tree) → kind a ≡ IsBoolean → (e : Environment) (s : State) → value e (binary (loosely equal) a (negated_digit c)) s ≡ value e (told_by (same_boolean equal c) a) s
+equal_value equal c a k e s =
+    binary_value e (loosely equal) a (negated_digit c) s
+    ∙ after_cong (OfKind IsBoolean) (value e a s) _ (λ v z. ok (told_of (same_boolean equal c) v) z) (subst (λ j. Gives (OfKind j) (value e a s)) k (kind_sound a e s))
+    (λ v p z. ap (λ y. either y (λ u y. ends_with e (loosely equal) a (negated_digit c) v u y) (λ x y. stop x y)) (boolean_value c e z) ∙ either_ok (Boolean c) z _ _ ∙ compared e equal c a v p z)
+    ∙ told_value (same_boolean equal c) a e s
+
+equal_same : (s : Seat) (n w : Tree) → Row29 s n w → SameAt (Expr s) n w
+equal_same s n w r =
+    subst (λ t. SameAt (Expr s) t w) (sym r.shape) (subst (SameAt (Expr s) (binary (loosely r.equal) r.operand (negated_digit r.truth))) (sym r.written)
+    (same_in_seat s (binary (loosely r.equal) r.operand (negated_digit r.truth)) (told_by (same_boolean r.equal r.truth) r.operand) refl (value_of s (told_by (same_boolean r.equal r.truth) r.operand) r.stays) (wanted_by _ _ (equal_value r.equal r.truth r.operand r.known))))
+
+-- ---- 30
+
+-- a boolean counts as its number
+abbrev counts : Bool → Value
+counts true = Number (pos 1)
+counts false = Number (pos 0)
+
+digit_value : (c : Bool) (e : Environment) (z : State) → value e (digit c) z ≡ ok (counts c) z
+unfolding means meaning step either
+digit_value true e z = refl
+digit_value false e z = refl
+
+module _ (e : Environment) (names : Naming) (K L : Kids (λ i. As Val)) where
+  abbrev Both : {A : Type 0} → Command (λ i. As Val) A → Command (λ i. As Val) A → Type 0
+  Both c d = Alike e names (λ i. As Val) K L c d
+
+  made_primitive : (v : Value) → Both (primitive ForDefault v) (primitive ForDefault v)
+  made_primitive v = choose_alike e names (λ i. As Val) K L (is_object v) (emit (Coerce ForDefault) (Item v ∷ [])) (ret v) (emit (Coerce ForDefault) (Item v ∷ [])) (ret v) (λ z. refl) (λ z. refl)
+
+  optional : (o : Option Bool) → Both (of_option o) (of_option o)
+  optional (Some b) z = refl
+  optional None z = refl
+
+  right_counted : (c : Bool) (v : Value) → Both (replies.loosely v (Boolean c)) (replies.loosely v (counts c))
+  right_counted true Undefined = λ z. refl
+  right_counted false Undefined = λ z. refl
+  right_counted true Null = λ z. refl
+  right_counted false Null = λ z. refl
+  right_counted true (Object m f) = bind_alike e names (λ i. As Val) K L (primitive ForDefault (Object m f)) (primitive ForDefault (Object m f)) (λ x. bind (primitive ForDefault (Boolean true)) (λ y. of_option (loosely_equal x y))) (λ x. bind (primitive ForDefault (Number (pos 1))) (λ y. of_option (loosely_equal x y))) (made_primitive (Object m f)) (λ x. optional (loosely_equal x (Boolean true)))
+  right_counted false (Object m f) = bind_alike e names (λ i. As Val) K L (primitive ForDefault (Object m f)) (primitive ForDefault (Object m f)) (λ x. bind (primitive ForDefault (Boolean false)) (λ y. of_option (loosely_equal x y))) (λ x. bind (primitive ForDefault (Number (pos 0))) (λ y. of_option (loosely_equal x y))) (made_primitive (Object m f)) (λ x. optional (loosely_equal x (Boolean false)))
+  right_counted true (Boolean b) = optional (loosely_equal (Boolean b) (Boolean true))
+  right_counted false (Boolean b) = optional (loosely_equal (Boolean b) (Boolean false))
+  right_counted true (Number m) = optional (loosely_equal (Number m) (Boolean true))
+  right_counted false (Number m) = optional (loosely_equal (Number m) (Boolean false))
+  right_counted true (String t) = optional (loosely_equal (String t) (Boolean true))
+  right_counted false (String t) = optional (loosely_equal (String t) (Boolean false))
+  right_counted true (Symbol n) = optional (loosely_equal (Symbol n) (Boolean true))
+  right_counted false (Symbol n) = optional (loosely_equal (Symbol n) (Boolean false))
+
+  left_counted : (c : Bool) (v : Value) → Both (replies.loosely (Boolean c) v) (replies.loosely (counts c) v)
+  left_counted true Undefined = λ z. refl
+  left_counted false Undefined = λ z. refl
+  left_counted true Null = λ z. refl
+  left_counted false Null = λ z. refl
+  left_counted true (Object m f) = bind_alike e names (λ i. As Val) K L (primitive ForDefault (Object m f)) (primitive ForDefault (Object m f)) (λ y. of_option (loosely_equal (Boolean true) y)) (λ y. of_option (loosely_equal (Number (pos 1)) y)) (made_primitive (Object m f)) (λ y. optional (loosely_equal (Boolean true) y))
+  left_counted false (Object m f) = bind_alike e names (λ i. As Val) K L (primitive ForDefault (Object m f)) (primitive ForDefault (Object m f)) (λ y. of_option (loosely_equal (Boolean false) y)) (λ y. of_option (loosely_equal (Number (pos 0)) y)) (made_primitive (Object m f)) (λ y. optional (loosely_equal (Boolean false) y))
+  left_counted true (Boolean b) = optional (loosely_equal (Boolean true) (Boolean b))
+  left_counted false (Boolean b) = optional (loosely_equal (Boolean false) (Boolean b))
+  left_counted true (Number m) = optional (loosely_equal (Boolean true) (Number m))
+  left_counted false (Number m) = optional (loosely_equal (Boolean false) (Number m))
+  left_counted true (String t) = optional (loosely_equal (Boolean true) (String t))
+  left_counted false (String t) = optional (loosely_equal (Boolean false) (String t))
+  left_counted true (Symbol n) = optional (loosely_equal (Boolean true) (Symbol n))
+  left_counted false (Symbol n) = optional (loosely_equal (Boolean false) (Symbol n))
+
+  -- so the equality says the same, and the inequality
+  says : (equal : Bool) (v u x y : Value) → Both (replies.loosely v u) (replies.loosely x y) → Both (operate_by (loosely equal) v u) (operate_by (loosely equal) x y)
+  says true v u x y h = bind_alike e names (λ i. As Val) K L (replies.loosely v u) (replies.loosely x y) (λ c. ret (Boolean c)) (λ c. ret (Boolean c)) h (λ c z. refl)
+  says false v u x y h = bind_alike e names (λ i. As Val) K L (replies.loosely v u) (replies.loosely x y) (λ c. ret (Boolean (not c))) (λ c. ret (Boolean (not c))) h (λ c z. refl)
+
+module _ (e : Environment) (o : BinaryOperator) (a k d : Tree) (u w : Value) (known : (z : State) → value e k z ≡ ok u z) (other : (z : State) → value e d z ≡ ok w z) where
+  -- an operand of another value on the right, where the operator makes the same of both
+  right_value : ((v : Value) (z : State) → ends_with e o a k v u z ≡ ends_with e o a d v w z) → (s : State) → value e (binary o a k) s ≡ value e (binary o a d) s
+  right_value h s =
+      binary_value e o a k s
+      ∙ either_cong (value e a s) _ _ _ _ (λ v z. ap (λ y. either y (λ u y. ends_with e o a k v u y) (λ x y. stop x y)) (known z) ∙ either_ok u z _ _ ∙ h v z ∙ sym (ap (λ y. either y (λ u y. ends_with e o a d v u y) (λ x y. stop x y)) (other z) ∙ either_ok w z _ _)) (λ x z. refl)
+      ∙ sym (binary_value e o a d s)
+
+  left_value : ((v : Value) (z : State) → ends_with e o k a u v z ≡ ends_with e o d a w v z) → (s : State) → value e (binary o k a) s ≡ value e (binary o d a) s
+  left_value h s =
+      binary_value e o k a s
+      ∙ ap (λ y. either y (λ v z. either (value e a z) (λ u y. ends_with e o k a v u y) (λ x y. stop x y)) (λ x z. stop x z)) (known s)
+      ∙ either_ok u s _ _
+      ∙ either_cong (value e a s) _ _ _ _ (λ v z. h v z) (λ x z. refl)
+      ∙ sym (binary_value e o d a s ∙ ap (λ y. either y (λ v z. either (value e a z) (λ u y. ends_with e o d a v u y) (λ x y. stop x y)) (λ x z. stop x z)) (other s) ∙ either_ok w s _ _)
+
+counted_value : (equal c on_right : Bool) (a : Tree) (e : Environment) (s : State) → value e (beside (loosely equal) on_right a (negated_digit c)) s ≡ value e (beside (loosely equal) on_right a (digit c)) s
+counted_value equal true true a e s = right_value e (loosely equal) a (negated_digit true) (digit true) (Boolean true) (Number (pos 1)) (boolean_value true e) (digit_value true e) (λ v z. says e (binary_names (loosely equal) a (digit true)) (sides e a (negated_digit true)) (sides e a (digit true)) equal v (Boolean true) v (Number (pos 1)) (right_counted e (binary_names (loosely equal) a (digit true)) (sides e a (negated_digit true)) (sides e a (digit true)) true v) z) s
+counted_value equal false true a e s = right_value e (loosely equal) a (negated_digit false) (digit false) (Boolean false) (Number (pos 0)) (boolean_value false e) (digit_value false e) (λ v z. says e (binary_names (loosely equal) a (digit false)) (sides e a (negated_digit false)) (sides e a (digit false)) equal v (Boolean false) v (Number (pos 0)) (right_counted e (binary_names (loosely equal) a (digit false)) (sides e a (negated_digit false)) (sides e a (digit false)) false v) z) s
+counted_value equal true false a e s = left_value e (loosely equal) a (negated_digit true) (digit true) (Boolean true) (Number (pos 1)) (boolean_value true e) (digit_value true e) (λ v z. says e (binary_names (loosely equal) (digit true) a) (sides e (negated_digit true) a) (sides e (digit true) a) equal (Boolean true) v (Number (pos 1)) v (left_counted e (binary_names (loosely equal) (digit true) a) (sides e (negated_digit true) a) (sides e (digit true) a) true v) z) s
+counted_value equal false false a e s = left_value e (loosely equal) a (negated_digit false) (digit false) (Boolean false) (Number (pos 0)) (boolean_value false e) (digit_value false e) (λ v z. says e (binary_names (loosely equal) (digit false) a) (sides e (negated_digit false) a) (sides e (digit false) a) equal (Boolean false) v (Number (pos 0)) v (left_counted e (binary_names (loosely equal) (digit false) a) (sides e (negated_digit false) a) (sides e (digit false) a) false v) z) s
+
+counted_alike : (equal c on_right : Bool) (a : Tree) → SameTree (beside (loosely equal) on_right a (negated_digit c)) (beside (loosely equal) on_right a (digit c))
+counted_alike equal c true a = same_value _ _ refl refl refl (counted_value equal c true a)
+counted_alike equal c false a = same_value _ _ refl refl refl (counted_value equal c false a)
+
+-- ---- all
+
+row_same : (p : Position) (n w : Tree) → OperandRow p n w → SameAt p n w
+row_same (Expr s) n w (inl r) = middle_same s n w r
+row_same (Expr s) n w (inr (inl r)) = text_same s n w r
+row_same (Expr s) n w (inr (inr (inl r))) = equal_same s n w r
+row_same (Expr s) n w (inr (inr (inr r))) = tree_same s n w (same_by n w _ _ r.shape r.written (counted_alike r.equal r.truth r.on_right r.operand))
+row_same p n w r = absurd r
+
+beside_read : (o : BinaryOperator) (b : Bool) (a k t : Tree) → is_plain_part t ≡ true → summary (beside o b a k) ≡ summary t
+beside_read o true a k t h = sym (plain_read t h)
+beside_read o false a k t h = sym (plain_read t h)
+
+row_read : (p : Position) (n w : Tree) → OperandRow p n w → summary n ≡ summary w
+row_read (Expr s) n w (inl r) = ap summary r.shape ∙ sym (ap summary r.written)
+row_read (Expr s) n w (inr (inl r)) = ap summary r.shape ∙ beside_read Addition r.on_right r.operand (text []) r.operand (plain_of s r.operand r.stays) ∙ sym (ap summary r.written)
+row_read (Expr s) n w (inr (inr (inl r))) = let t : Tree = told_by (same_boolean r.equal r.truth) r.operand in ap summary r.shape ∙ beside_read (loosely r.equal) true r.operand (negated_digit r.truth) t (plain_of s t r.stays) ∙ sym (ap summary r.written)
+row_read (Expr s) n w (inr (inr (inr r))) = ap summary r.shape ∙ (counted_alike r.equal r.truth r.on_right r.operand).read ∙ sym (ap summary r.written)
+row_read p n w r = absurd r
+
+pub operands_same : MeansSame OperandContracts
+operands_same = record { same = λ p n w c. row_same p n w c.row; reads = λ p n w c. row_read p n w c.row }

@@ -1,0 +1,177 @@
+-- What a row on operands whose value is known writes weighs less wherever the expression stands.
+use Rattle.std.proofs.Common.{◌≡◌, ℕ, ◌<◌, ◌≤◌, Bool, true, false, List, [], refl, sym, ap, ◌∙◌, inl, inr, true≢false, arith}
+use Rattle.std.specs.Prelude.{◌&&◌, ◌||◌, nat_lt, pos, length, if◌then◌else◌}
+use Rattle.std.specs.Fmt.{signed_decimal}
+use Rattle.std.proofs.lemmas.Fmt.{decimal_digit}
+use borrow.Author.Tests.{ltb-true, ltb-false}
+use Rattle.mini_model.specs.declared.operator.BinaryOperator.{BinaryOperator}
+use Rattle.mini_model.specs.declared.operator.BinaryOperator.TheVariants.{Addition, Equality, Inequality}
+use Rattle.mini_model.specs.declared.operator.LogicalOperator.{LogicalOperator}
+use Rattle.mini_model.specs.declared.operator.LogicalOperator.TheVariants.{Or, And, Coalesce}
+use Rattle.mini_model.specs.declared.operator.UnaryOperator.TheVariants.{LogicalNot}
+use Rattle.mini_model.specs.declared.place.Position.{Position}
+use Rattle.mini_model.specs.declared.place.Position.TheVariants.{Expr}
+use Rattle.mini_model.specs.declared.seat.Seat.{Seat}
+use Rattle.mini_model.specs.declared.shape.Shape.TheVariants as shape
+use Rattle.mini_model.specs.Tree.{Tree, node, none, ◌▸◌, logical}
+use Rattle.mini_model.specs.Position.{left_operand_seat, right_operand_seat, binary_operand_seat, not_operand_seat, is_and_or}
+use Rattle.mini_model.specs.Weight.{Outline, outline, outlines, weight, place_weight}
+use Rattle.mini_laws.specs.Operators.{same_boolean}
+use Rattle.mini_laws.specs.Weights.{Lightens, counts_items}
+use Rattle.mini_laws.proofs.Seats.{placed}
+use Rattle.mini_terms.specs.declared.kinds.Kind.TheVariants.{Boolean as IsBoolean, String as IsString}
+use Rattle.mini_terms.specs.Kind.{kind}
+use Rattle.mini_terms.specs.Parts.{weighs}
+use Rattle.mini_terms.specs.Reading.{is_plain_part}
+use Rattle.mini_rows.specs.Booleans.{digit}
+use Rattle.mini_rows.specs.Choices.{loosely}
+use Rattle.mini_rows.specs.Operands.{beside, told_by, OperandRow, OperandContracts, OperandsLighter}
+use Rattle.mini_rows.specs.Spellings.{binary, negated_digit, text}
+use Rattle.mini_rows.proofs.BooleanWeights.{digit_falls}
+use Rattle.mini_rows.proofs.FoldMeaning.{plain_of}
+use Rattle.mini_rows.proofs.FoldWeights.{two, moved, there, no_choice}
+use Rattle.mini_rows.proofs.SpellWeights.{falls_by}
+
+-- 14: an operand and its operator go
+
+middle_falls : (o : LogicalOperator) → is_and_or o ≡ true → (s : Seat) (a k b : Tree) → weighs k ≡ true → weight (Expr s) (logical o a b) < weight (Expr s) (logical o (logical o a k) b)
+middle_falls Or t s a k b h =
+    let first = placed 0 (left_operand_seat Or s) (left_operand_seat Or (left_operand_seat Or s)) refl (λ h os. omega arith) a in
+    let heavy = two (right_operand_seat Or (left_operand_seat Or s)) k h in
+    omega (arith, first, heavy)
+middle_falls And t s a k b h =
+    let first = placed 0 (left_operand_seat And s) (left_operand_seat And (left_operand_seat And s)) refl (λ h os. omega arith) a in
+    let heavy = two (right_operand_seat And (left_operand_seat And s)) k h in
+    omega (arith, first, heavy)
+middle_falls Coalesce t s a k b h = absurd (true≢false (sym t))
+
+-- 7: the operator and the empty text weigh 6, more than parentheses and a mark
+
+text_falls : (b : Bool) (s : Seat) (a : Tree) → is_plain_part a ≡ true → weight (Expr s) a < weight (Expr s) (beside Addition b a (text []))
+text_falls true s a h = let here = moved s (binary_operand_seat Addition 0) a h in omega (arith, here)
+text_falls false s a h = let here = moved s (binary_operand_seat Addition 1) a h in omega (arith, here)
+
+-- 29: a `!` has parentheses only where an equality has
+
+never : (b : Bool) → b && false ≡ false
+never true = refl
+never false = refl
+
+zero_mark : (e t f : Bool) → ◌≡◌ {A = ℕ} (if (e && false) || ((t && false) || (f && false)) then 1 else 0) 0
+zero_mark e t f = simp never
+
+fewer_pairs : (s : Seat) (r : Bool) → (if nat_lt 14 s.level || r then 4 else 0) ≤ (if nat_lt 8 s.level || r then 4 else 0)
+fewer_pairs s r = go (nat_lt 14 s.level) (nat_lt 8 s.level) r refl refl
+  where
+    go : (b c r : Bool) → nat_lt 14 s.level ≡ b → nat_lt 8 s.level ≡ c → (if b || r then 4 else 0) ≤ (if c || r then 4 else 0)
+    go true true r p q = omega arith
+    go false true true p q = omega arith
+    go false true false p q = omega arith
+    go false false r p q = omega arith
+    go true false r p q = absurd (omega (arith, ltb-true _ _ p, ltb-false _ _ q))
+
+not_marks : (equal : Bool) (s : Seat) (os ps : List Outline) → place_weight (Expr s) (shape.UnaryExpression LogicalNot) os ≤ place_weight (Expr s) (shape.BinaryExpression (loosely equal)) ps
+not_marks true s os ps = omega (arith, zero_mark s.eq_left s.cond_test s.lifted, fewer_pairs s (false || ((s.access && false) || (s.new_callee && false))))
+not_marks false s os ps = omega (arith, zero_mark s.eq_left s.cond_test s.lifted, fewer_pairs s (false || ((s.access && false) || (s.new_callee && false))))
+
+told_falls : (equal c : Bool) (s : Seat) (a : Tree) → is_plain_part a ≡ true → weight (Expr s) (told_by (same_boolean equal c) a) < weight (Expr s) (binary (loosely equal) a (negated_digit c))
+told_falls true true s a h = let here = moved s (binary_operand_seat Equality 0) a h in omega (arith, here)
+told_falls false false s a h = let here = moved s (binary_operand_seat Inequality 0) a h in omega (arith, here)
+told_falls true false s a h =
+    let here = moved not_operand_seat (binary_operand_seat Equality 0) a h in
+    let marks = not_marks true s (outlines (a ▸ none)) (outlines (a ▸ negated_digit false ▸ none)) in
+    let one : length (signed_decimal (pos 1)) ≡ 1 = ap length (decimal_digit 1 (omega arith)) in
+    omega (arith, here, marks, one)
+told_falls false true s a h =
+    let here = moved not_operand_seat (binary_operand_seat Inequality 0) a h in
+    let marks = not_marks false s (outlines (a ▸ none)) (outlines (a ▸ negated_digit true ▸ none)) in
+    let zero : length (signed_decimal (pos 0)) ≡ 1 = ap length (decimal_digit 0 (omega arith)) in
+    omega (arith, here, marks, zero)
+
+plain_inside : (t : Bool) (a : Tree) → is_plain_part (told_by t a) ≡ true → is_plain_part a ≡ true
+plain_inside true a h = h
+plain_inside false a h = h
+
+-- 30
+
+counted_falls : (equal c b : Bool) (s : Seat) (a : Tree) → weight (Expr s) (beside (loosely equal) b a (digit c)) < weight (Expr s) (beside (loosely equal) b a (negated_digit c))
+counted_falls true c true s a = omega (arith, digit_falls (binary_operand_seat Equality 1) c)
+counted_falls true c false s a = omega (arith, digit_falls (binary_operand_seat Equality 0) c)
+counted_falls false c true s a = omega (arith, digit_falls (binary_operand_seat Inequality 1) c)
+counted_falls false c false s a = omega (arith, digit_falls (binary_operand_seat Inequality 0) c)
+
+-- ---- all
+
+pub lighter : OperandsLighter
+lighter (Expr s) n w (inl r) = falls_by (Expr s) n w _ _ r.shape r.written (middle_falls r.operator r.tells s r.left r.middle r.right r.heavy)
+lighter (Expr s) n w (inr (inl r)) = falls_by (Expr s) n w _ _ r.shape r.written (text_falls r.on_right s r.operand (plain_of s r.operand r.stays))
+lighter (Expr s) n w (inr (inr (inl r))) = falls_by (Expr s) n w _ _ r.shape r.written (told_falls r.equal r.truth s r.operand (plain_inside (same_boolean r.equal r.truth) r.operand (plain_of s (told_by (same_boolean r.equal r.truth) r.operand) r.stays)))
+lighter (Expr s) n w (inr (inr (inr r))) = falls_by (Expr s) n w _ _ r.shape r.written (counted_falls r.equal r.truth r.on_right s r.operand)
+lighter p n w r = absurd r
+
+-- what a parent's weight reads of them
+
+-- a text is not the number 0, and no boolean is
+text_not_zero : (t : Tree) → kind t ≡ IsString → (outline t).is_zero ≡ false
+text_not_zero (node (shape.NumericLiteral m) xs n ts) e = absurd (cc e)
+text_not_zero (node h xs n ts) e = refl
+
+boolean_not_zero : (t : Tree) → kind t ≡ IsBoolean → (outline t).is_zero ≡ false
+boolean_not_zero (node (shape.NumericLiteral m) xs n ts) e = absurd (cc e)
+boolean_not_zero (node h xs n ts) e = refl
+
+told_not_zero : (b : Bool) (t : Tree) → kind t ≡ IsBoolean → (outline (told_by b t)).is_zero ≡ false
+told_not_zero true t e = boolean_not_zero t e
+told_not_zero false t e = refl
+
+beside_outline : (o : BinaryOperator) (b : Bool) (a k l : Tree) → outline (beside o b a k) ≡ outline (beside o b a l)
+beside_outline o true a k l = refl
+beside_outline o false a k l = refl
+
+beside_there : (o : BinaryOperator) (b : Bool) (a k : Tree) → (outline (beside o b a k)).absent ≡ false
+beside_there o true a k = refl
+beside_there o false a k = refl
+
+beside_chooses : (o : BinaryOperator) (b : Bool) (a k : Tree) → (outline (beside o b a k)).chooses ≡ false
+beside_chooses o true a k = refl
+beside_chooses o false a k = refl
+
+beside_zero : (o : BinaryOperator) (b : Bool) (a k : Tree) → (outline (beside o b a k)).is_zero ≡ false
+beside_zero o true a k = refl
+beside_zero o false a k = refl
+
+-- one of them is read by a parent as the other is
+record ReadAlike (n w : Tree) : Type 0 where
+  absent : (outline n).absent ≡ (outline w).absent
+  is_zero : (outline n).is_zero ≡ (outline w).is_zero
+  chooses : (outline n).chooses ≡ (outline w).chooses
+
+whole_alike : (n w : Tree) → outline n ≡ outline w → ReadAlike n w
+whole_alike n w e = record { absent = ap (λ o. o.absent) e; is_zero = ap (λ o. o.is_zero) e; chooses = ap (λ o. o.chooses) e }
+
+left_alike : (n w : Tree) (o : BinaryOperator) (b : Bool) (a k t : Tree) → n ≡ beside o b a k → w ≡ t → is_plain_part t ≡ true → (outline t).is_zero ≡ false → ReadAlike n w
+left_alike n w o b a k t e f plain zero = record {
+  absent = ap (λ x. (outline x).absent) e ∙ beside_there o b a k ∙ sym (ap (λ x. (outline x).absent) f ∙ there t plain);
+  is_zero = ap (λ x. (outline x).is_zero) e ∙ beside_zero o b a k ∙ sym (ap (λ x. (outline x).is_zero) f ∙ zero);
+  chooses = ap (λ x. (outline x).chooses) e ∙ beside_chooses o b a k ∙ sym (ap (λ x. (outline x).chooses) f ∙ no_choice t plain);
+}
+
+alike : (p : Position) (n w : Tree) → OperandRow p n w → ReadAlike n w
+alike (Expr s) n w (inl r) = whole_alike n w (ap outline r.shape ∙ sym (ap outline r.written))
+alike (Expr s) n w (inr (inl r)) = left_alike n w Addition r.on_right r.operand (text []) r.operand r.shape r.written (plain_of s r.operand r.stays) (text_not_zero r.operand r.known)
+alike (Expr s) n w (inr (inr (inl r))) = let t : Tree = told_by (same_boolean r.equal r.truth) r.operand in left_alike n w (loosely r.equal) true r.operand (negated_digit r.truth) t r.shape r.written (plain_of s t r.stays) (told_not_zero (same_boolean r.equal r.truth) r.operand r.known)
+alike (Expr s) n w (inr (inr (inr r))) = whole_alike n w (ap outline r.shape ∙ beside_outline (loosely r.equal) r.on_right r.operand (negated_digit r.truth) (digit r.truth) ∙ sym (ap outline r.written))
+alike p n w r = absurd r
+
+no_items : (p : Position) (n w : Tree) → OperandRow p n w → counts_items p ≡ true → (outline n).items ≡ (outline w).items
+no_items (Expr s) n w r e = absurd (true≢false (sym e))
+no_items p n w r e = absurd r
+
+pub lightens : Lightens OperandContracts
+lightens = record {
+  lighter = λ p n w c. c.lighter;
+  absent = λ p n w c a. (alike p n w c.row).absent;
+  items = λ p n w c a. no_items p n w c.row a;
+  is_zero = λ p n w c a. inl (alike p n w c.row).is_zero;
+  chooses = λ p n w c a. inl (λ h. sym (alike p n w c.row).chooses ∙ h);
+}

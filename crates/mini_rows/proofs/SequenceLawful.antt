@@ -1,0 +1,193 @@
+-- What a row on sequences writes keeps all that a program has to keep: it is built anew of the same parts.
+use Rattle.std.proofs.Common.{◌≡◌, ◌≤◌, Bool, true, false, [], ◌∷◌, refl, sym, ap, subst, ◌∙◌, inl, inr, true≢false, arith}
+use Rattle.std.specs.Prelude.{◌&&◌, None, nat_le}
+use Rattle.std.proofs.lemmas.Bool.{and_parts}
+use Rattle.mini_model.specs.declared.place.Position.{Position}
+use Rattle.mini_model.specs.declared.place.Position.TheVariants.{Expr}
+use Rattle.mini_model.specs.declared.seat.Seat.{Seat}
+use Rattle.mini_model.specs.declared.shape.Shape.TheVariants as shape
+use Rattle.mini_model.specs.Tree.{Tree, Trees, none, ◌▸◌, count, listed}
+use Rattle.mini_model.specs.Paths.{append}
+use Rattle.mini_accept.specs.WellShaped.{Depth, in_module, in_body, nested, Class, a_statement, an_init, an_arrow_body, an_expression, a_link, an_argument, a_key, a_private_or_key, an_inner_key, a_default_export, Slot, one, one_or_absent, statement_slots, filling_by, each, fits, fill}
+use Rattle.mini_kept.specs.KeepsNames.{is_rewritten_place}
+use Rattle.mini_kept.specs.KeepsShapes.{AskedAlike}
+use Rattle.mini_kept.specs.KeepsFrames.{is_body_slot}
+use Rattle.mini_kept.specs.Lawful.{Lawful}
+use Rattle.mini_kept.proofs.Bools.{left, both}
+use Rattle.mini_kept.proofs.Expressions.{refused_here, expression, TakesExpressionIn, TakesExpression, expression_taken, of_negation, of_conditional, two_fit, three_fit}
+use Rattle.mini_node.specs.Walks.{append_none}
+use Rattle.mini_rows.specs.Arranged.{KeptAt}
+use Rattle.mini_rows.specs.Sketches.{Unary, Logical, Conditional, Sequence, Parts, Sketch, part, under, list, end, ◌▹◌, no_items, item, items}
+use Rattle.mini_rows.specs.Lists.{sequence}
+use Rattle.mini_rows.specs.Sequences.{Operation, Decides, Chooses, Negates, over, Row21, SequenceRow, SequenceContracts}
+use Rattle.mini_model.specs.declared.operator.UnaryOperator.TheVariants.{LogicalNot}
+use Rattle.mini_rows.proofs.ArrangedExpressions.{expressions_arranged}
+use Rattle.mini_rows.proofs.ArrangedLawful.{kept_is_lawful}
+use Rattle.mini_rows.proofs.FoldLawful.{operands, expression_slot}
+use Rattle.mini_rows.proofs.ListShapes.{AllFit, sequence_fits, parts_fit, of_parts_fits, append_fits, both_fit, first_fits, more_fit}
+use Rattle.mini_rows.proofs.SequenceMeaning.{several, sequences_same}
+
+-- ---- the same parts
+
+-- the first part, some others, and a last one
+abbrev in_order : Sketch → Sketch
+in_order last = under Sequence (list (item (part 0) (items 0 (item last no_items))) ▹ end)
+
+lifted_kept : (r : Operation) (p : Tree) (ps : Trees) (l : Tree) (q : Seat) (n w : Tree) → n ≡ over r (sequence (p ▸ append ps (l ▸ none))) → w ≡ sequence (p ▸ append ps (over r l ▸ none)) → KeptAt (Expr q) n w
+lifted_kept (Decides o b) p ps l q n w e f = expressions_arranged (record { trees = p ▸ l ▸ b ▸ none; lists = ps ∷ [] }) (under (Logical o) (in_order (part 1) ▹ part 2 ▹ end)) (in_order (under (Logical o) (part 1 ▹ part 2 ▹ end))) refl q n w e f
+lifted_kept (Chooses b c) p ps l q n w e f = expressions_arranged (record { trees = p ▸ l ▸ b ▸ c ▸ none; lists = ps ∷ [] }) (under Conditional (in_order (part 1) ▹ part 2 ▹ part 3 ▹ end)) (in_order (under Conditional (part 1 ▹ part 2 ▹ part 3 ▹ end))) refl q n w e f
+lifted_kept Negates p ps l q n w e f = expressions_arranged (record { trees = p ▸ l ▸ none; lists = ps ∷ [] }) (under (Unary LogicalNot) (in_order (part 1) ▹ end)) (in_order (under (Unary LogicalNot) (part 1 ▹ end))) refl q n w e f
+
+spread_kept : (q : Seat) (n w : Tree) → Row21 n w → KeptAt (Expr q) n w
+spread_kept q n w r =
+    let ps : Parts = record { trees = r.first ▸ r.second ▸ none; lists = r.before ∷ r.others ∷ r.after ∷ [] } in
+    expressions_arranged ps
+    (under Sequence (list (items 0 (item (under Sequence (list (item (part 0) (item (part 1) (items 1 no_items))) ▹ end)) (items 2 no_items))) ▹ end))
+    (under Sequence (list (items 0 (item (part 0) (item (part 1) (items 1 (items 2 no_items))))) ▹ end))
+    refl q n w
+    (r.shape ∙ ap (λ us. sequence (append r.before (sequence (r.first ▸ (r.second ▸ us)) ▸ r.after))) (sym (append_none r.others)) ∙ ap (λ us. sequence (append r.before (sequence (r.first ▸ (r.second ▸ append r.others none)) ▸ us))) (sym (append_none r.after)))
+    (r.written ∙ ap (λ us. sequence (append r.before (r.first ▸ (r.second ▸ append r.others us)))) (sym (append_none r.after)))
+
+kept : (p : Position) (n w : Tree) → SequenceRow p n w → KeptAt p n w
+kept (Expr q) n w (inl r) = lifted_kept r.operation r.first r.others r.last q n w r.shape r.written
+kept (Expr q) n w (inr r) = spread_kept q n w r
+kept p n w r = absurd r
+
+places : (p : Position) (n w : Tree) → SequenceRow p n w → is_rewritten_place p ≡ true
+places (Expr q) n w r = refl
+places p n w r = absurd r
+
+-- ---- where they stand
+
+sequence_nowhere : (strict : Bool) (d : Depth) → statement_slots strict d shape.SequenceExpression ≡ None
+sequence_nowhere true in_module = refl
+sequence_nowhere true in_body = refl
+sequence_nowhere true nested = refl
+sequence_nowhere false in_module = refl
+sequence_nowhere false in_body = refl
+sequence_nowhere false nested = refl
+
+abbrev Stood : Bool → Class → Trees → Type 0
+Stood strict k ts = TakesExpressionIn k × (fits strict expression (sequence ts) ≡ true)
+
+sequence_in : (strict : Bool) (k : Class) (ts : Trees) → fits strict (one k) (sequence ts) ≡ true → Stood strict k ts
+sequence_in strict an_expression ts e = (tt, e)
+sequence_in strict a_link ts e = (tt, e)
+sequence_in strict an_argument ts e = (tt, e)
+sequence_in strict an_init ts e = (tt, e)
+sequence_in strict (a_key true) ts e = (tt, e)
+sequence_in strict (a_key false) ts e = absurd (refused_here strict (one (a_key false)) shape.SequenceExpression [] 0 (listed ts ▸ none) refl e)
+sequence_in strict an_arrow_body ts e = (tt, e)
+sequence_in strict a_default_export ts e = (tt, e)
+sequence_in strict (a_statement d) ts e = absurd (refused_here strict (one (a_statement d)) shape.SequenceExpression [] 0 (listed ts ▸ none) (ap filling_by (sequence_nowhere strict d)) e)
+sequence_in strict (a_private_or_key true) ts e = absurd (refused_here strict (one (a_private_or_key true)) shape.SequenceExpression [] 0 (listed ts ▸ none) refl e)
+sequence_in strict (an_inner_key true) ts e = absurd (refused_here strict (one (an_inner_key true)) shape.SequenceExpression [] 0 (listed ts ▸ none) refl e)
+sequence_in strict k ts e = absurd (refused_here strict (one k) shape.SequenceExpression [] 0 (listed ts ▸ none) refl e)
+
+of_sequence : (strict : Bool) (s : Slot) (ts : Trees) → fits strict s (sequence ts) ≡ true → TakesExpression s × (fits strict expression (sequence ts) ≡ true)
+of_sequence strict (one k) ts e = sequence_in strict k ts e
+of_sequence strict (one_or_absent k) ts e = sequence_in strict k ts e
+of_sequence strict s ts e = absurd (refused_here strict s shape.SequenceExpression [] 0 (listed ts ▸ none) refl e)
+
+two_at_least : (before : Trees) (a b : Tree) (ts : Trees) → 2 ≤ count (append before (a ▸ (b ▸ ts)))
+two_at_least none a b ts = omega arith
+two_at_least (p ▸ ps) a b ts = let rest = two_at_least ps a b ts in omega (arith, rest)
+
+module _ (strict : Bool) where
+  abbrev Fits : Tree → Type 0
+  Fits t = fits strict expression t ≡ true
+
+  -- with another last part
+  last_fits : (p : Tree) (ps : Trees) (l : Tree) → Fits (sequence (p ▸ append ps (l ▸ none))) → (m : Tree) → (Fits l → Fits m) → Fits (sequence (p ▸ append ps (m ▸ none)))
+  last_fits p ps l e m f =
+      let all = parts_fit strict p (append ps (l ▸ none)) (subst Fits (sym (several p ps l)) e) in
+      let (firsts, lasts) = both_fit strict expression (p ▸ ps) (l ▸ none) all in
+      let last = f (first_fits strict expression l none lasts).0 in
+      subst Fits (several p ps m) (of_parts_fits strict p (append ps (m ▸ none)) (append_fits strict expression (p ▸ ps) (m ▸ none) firsts (more_fit strict expression m none last refl)))
+
+  lifted_fits : (s : Slot) (r : Operation) (p : Tree) (ps : Trees) (l : Tree) → fits strict s (over r (sequence (p ▸ append ps (l ▸ none)))) ≡ true → TakesExpression s × Fits (sequence (p ▸ append ps (over r l ▸ none)))
+  lifted_fits s (Decides o b) p ps l e =
+      let (takes, first, second) = operands strict s o (sequence (p ▸ append ps (l ▸ none))) b e in
+      (takes, last_fits p ps l first (over (Decides o b) l) (λ f. two_fit strict l b f second))
+  lifted_fits s (Chooses b c) p ps l e =
+      let (takes, (first, second, third)) = of_conditional strict s (sequence (p ▸ append ps (l ▸ none))) b c e in
+      (takes, last_fits p ps l first (over (Chooses b c) l) (λ f. three_fit strict l b c f second third))
+  lifted_fits s Negates p ps l e =
+      let (takes, first) = of_negation strict s (sequence (p ▸ append ps (l ▸ none))) e in
+      (takes, last_fits p ps l first (over Negates l) (λ f. both (fits strict expression l) true f refl))
+
+  items_fit : (ts : Trees) → Fits (sequence ts) → AllFit strict expression ts
+  items_fit ts e = left (fill strict (each expression) ts) true (and_parts (nat_le 2 (count ts)) (fill strict (each expression) ts && true) e).1
+
+  spread_fits : (before : Trees) (a b : Tree) (ps after : Trees) → Fits (sequence (append before (sequence (a ▸ (b ▸ ps)) ▸ after))) → Fits (sequence (append before (a ▸ (b ▸ append ps after))))
+  spread_fits before a b ps after e =
+      let nested : Tree = sequence (a ▸ (b ▸ ps)) in
+      let (firsts, others) = both_fit strict expression before (nested ▸ after) (items_fit (append before (nested ▸ after)) e) in
+      let (inner, lasts) = first_fits strict expression nested after others in
+      sequence_fits strict (append before (a ▸ (b ▸ append ps after))) (two_at_least before a b (append ps after))
+      (append_fits strict expression before (a ▸ (b ▸ append ps after)) firsts (append_fits strict expression (a ▸ (b ▸ ps)) after (parts_fit strict a (b ▸ ps) inner) lasts))
+
+row_fits : (p : Position) (n w : Tree) → SequenceRow p n w → (strict : Bool) (s : Slot) → fits strict s n ≡ true → fits strict s w ≡ true
+row_fits (Expr q) n w (inl r) strict s e =
+    let (takes, fit) = lifted_fits strict s r.operation r.first r.others r.last (subst (λ t. fits strict s t ≡ true) r.shape e) in
+    subst (λ t. fits strict s t ≡ true) (sym r.written) (expression_taken strict s (sequence (r.first ▸ append r.others (over r.operation r.last ▸ none))) takes fit)
+row_fits (Expr q) n w (inr r) strict s e =
+    let (takes, fit) = of_sequence strict s (append r.before (sequence (r.first ▸ (r.second ▸ r.others)) ▸ r.after)) (subst (λ t. fits strict s t ≡ true) r.shape e) in
+    subst (λ t. fits strict s t ≡ true) (sym r.written) (expression_taken strict s (sequence (append r.before (r.first ▸ (r.second ▸ append r.others r.after)))) takes (spread_fits strict r.before r.first r.second r.others r.after fit))
+row_fits p n w r strict s e = absurd r
+
+row_slot : (p : Position) (n w : Tree) → SequenceRow p n w → (strict : Bool) (s : Slot) → fits strict s n ≡ true → is_body_slot p s ≡ true
+row_slot (Expr q) n w (inl r) strict s e = expression_slot (Expr q) s (lifted_fits strict s r.operation r.first r.others r.last (subst (λ t. fits strict s t ≡ true) r.shape e)).0
+row_slot (Expr q) n w (inr r) strict s e = expression_slot (Expr q) s (of_sequence strict s (append r.before (sequence (r.first ▸ (r.second ▸ r.others)) ▸ r.after)) (subst (λ t. fits strict s t ≡ true) r.shape e)).0
+row_slot p n w r strict s e = absurd r
+
+-- ---- what a parent asks of them
+
+sequence_asked : (p : Position) (ts us : Trees) → AskedAlike p (sequence ts) (sequence us)
+sequence_asked p ts us = record {
+  absent = λ e. absurd (true≢false (sym e));
+  body = λ e. absurd (true≢false (sym e));
+  optional = λ e. absurd (true≢false (sym e));
+  number = λ asks e. refl;
+  spelled = λ s e. absurd (cc e);
+  plain = refl;
+}
+
+over_asked : (p : Position) (r : Operation) (a : Tree) (ts : Trees) → AskedAlike p (over r a) (sequence ts)
+over_asked p (Decides o b) a ts = record {
+  absent = λ e. absurd (true≢false (sym e));
+  body = λ e. absurd (true≢false (sym e));
+  optional = λ e. absurd (true≢false (sym e));
+  number = λ asks e. refl;
+  spelled = λ s e. absurd (cc e);
+  plain = refl;
+}
+over_asked p (Chooses b c) a ts = record {
+  absent = λ e. absurd (true≢false (sym e));
+  body = λ e. absurd (true≢false (sym e));
+  optional = λ e. absurd (true≢false (sym e));
+  number = λ asks e. refl;
+  spelled = λ s e. absurd (cc e);
+  plain = refl;
+}
+over_asked p Negates a ts = record {
+  absent = λ e. absurd (true≢false (sym e));
+  body = λ e. absurd (true≢false (sym e));
+  optional = λ e. absurd (true≢false (sym e));
+  number = λ asks e. refl;
+  spelled = λ s e. absurd (cc e);
+  plain = refl;
+}
+
+row_asked : (p : Position) (n w : Tree) → SequenceRow p n w → AskedAlike p n w
+row_asked (Expr q) n w (inl r) = subst (λ t. AskedAlike (Expr q) t w) (sym r.shape) (subst (AskedAlike (Expr q) (over r.operation (sequence (r.first ▸ append r.others (r.last ▸ none))))) (sym r.written) (over_asked (Expr q) r.operation (sequence (r.first ▸ append r.others (r.last ▸ none))) (r.first ▸ append r.others (over r.operation r.last ▸ none))))
+row_asked (Expr q) n w (inr r) = subst (λ t. AskedAlike (Expr q) t w) (sym r.shape) (subst (AskedAlike (Expr q) (sequence (append r.before (sequence (r.first ▸ (r.second ▸ r.others)) ▸ r.after)))) (sym r.written) (sequence_asked (Expr q) (append r.before (sequence (r.first ▸ (r.second ▸ r.others)) ▸ r.after)) (append r.before (r.first ▸ (r.second ▸ append r.others r.after)))))
+row_asked p n w r = absurd r
+
+pub sequences_lawful : Lawful SequenceContracts
+sequences_lawful =
+    kept_is_lawful SequenceContracts sequences_same
+    (record { fitting = λ p n w c strict s k e. row_fits p n w c.row strict s e; asked = λ p n w c. row_asked p n w c.row })
+    (λ p n w c. places p n w c.row)
+    (λ p n w c strict s k e. row_slot p n w c.row strict s e)
+    (λ p n w c. kept p n w c.row)

@@ -1,0 +1,87 @@
+-- What a row on sequences writes means the same.
+use Rattle.std.proofs.Common.{◌≡◌, true, refl, sym, ap, ◌∙◌, inl, inr}
+use Rattle.std.specs.Prelude.{not}
+use Rattle.mini_model.specs.declared.place.Position.{Position}
+use Rattle.mini_model.specs.declared.place.Position.TheVariants.{Expr}
+use Rattle.mini_model.specs.declared.seat.Seat.{Seat}
+use Rattle.mini_model.specs.Tree.{Tree, Trees, none, ◌▸◌}
+use Rattle.mini_model.specs.Paths.{append}
+use Rattle.mini_laws.specs.Value.{Value, Boolean, choose, truth}
+use Rattle.mini_laws.specs.State.{State, Completion, ok, stop, either, Environment}
+use Rattle.mini_laws.specs.Demand.{Val, Unused, As}
+use Rattle.mini_laws.specs.Naming.{summary}
+use Rattle.mini_laws.specs.Step.{means}
+use Rattle.mini_laws.specs.Rows.{SameAt}
+use Rattle.mini_laws.specs.Rewritten.{MeansSame}
+use Rattle.mini_laws.specs.Targets.{assigns}
+use Rattle.mini_laws.proofs.Runs.{either_cong, either_assoc}
+use Rattle.mini_terms.specs.Reading.{stands, by_value}
+use Rattle.mini_terms.proofs.Opened.{negation_opened}
+use Rattle.mini_terms.proofs.Reading.{read_by_value}
+use Rattle.mini_rows.specs.Lists.{of_parts, sequence}
+use Rattle.mini_rows.specs.Sequences.{Operation, Decides, Chooses, Negates, over, SequenceRow, SequenceContracts}
+use Rattle.mini_rows.proofs.ChoiceRuns.{value, conditional_value, logical_value}
+use Rattle.mini_rows.proofs.ListParts.{joined_is, spread_is}
+use Rattle.mini_rows.proofs.SpellAlike.{SameTree}
+use Rattle.mini_rows.proofs.SpellMeaning.{tree_same, same_by}
+
+-- two expressions that are read by their value alone do the same where they have one value
+pub same_value : (n w : Tree) → stands n ≡ true → stands w ≡ true → summary n ≡ summary w → ((e : Environment) (s : State) → value e n s ≡ value e w s) → SameTree n w
+same_value n w p q r h = record { by = λ e d x s. read_by_value n p e d x s ∙ ap (by_value d x) (h e s) ∙ sym (read_by_value w q e d x s); read = r }
+
+-- ---- 20
+
+-- what a node does after the value of its first operand
+abbrev follows : Environment → Operation → Value → State → Completion Value
+follows e (Decides o b) v z = choose (assigns o v) (value e b z) (ok v z)
+follows e (Chooses b c) v z = choose (truth v) (value e b z) (value e c z)
+follows e Negates v z = ok (Boolean (not (truth v))) z
+
+over_value : (e : Environment) (r : Operation) (a : Tree) (s : State) → value e (over r a) s ≡ either (value e a s) (λ v z. follows e r v z) (λ x z. stop x z)
+over_value e (Decides o b) a s = logical_value e o a b s
+over_value e (Chooses b c) a s = conditional_value e a b c s
+over_value e Negates a s = negation_opened e a s
+
+pub several : (p : Tree) (ps : Trees) (q : Tree) → of_parts p (append ps (q ▸ none)) ≡ sequence (p ▸ append ps (q ▸ none))
+several p none q = refl
+several p (c ▸ ps) q = refl
+
+-- the parts but the last, and then the last
+in_order : (e : Environment) (p : Tree) (ps : Trees) (q : Tree) (s : State) → value e (sequence (p ▸ append ps (q ▸ none))) s ≡ either (means e (of_parts p ps) (As Unused) tt s) (λ u z. value e q z) (λ x z. stop x z)
+in_order e p ps q s = ap (λ t. value e t s) (sym (several p ps q)) ∙ joined_is e p ps q none Val s
+
+lifted_value : (r : Operation) (p : Tree) (ps : Trees) (q : Tree) (e : Environment) (s : State) → value e (over r (sequence (p ▸ append ps (q ▸ none)))) s ≡ value e (sequence (p ▸ append ps (over r q ▸ none))) s
+unfolding either
+lifted_value r p ps q e s =
+    over_value e r (sequence (p ▸ append ps (q ▸ none))) s
+    ∙ ap (λ y. either y (λ v z. follows e r v z) (λ x z. stop x z)) (in_order e p ps q s)
+    ∙ either_assoc (means e (of_parts p ps) (As Unused) tt s) (λ u z. value e q z) (λ x z. stop x z) (λ v z. follows e r v z) (λ x z. stop x z)
+    ∙ either_cong (means e (of_parts p ps) (As Unused) tt s) _ _ _ _ (λ u z. sym (over_value e r q z)) (λ x z. refl)
+    ∙ sym (in_order e p ps (over r q) s)
+
+lifted_same : (r : Operation) (p : Tree) (ps : Trees) (q : Tree) → SameTree (over r (sequence (p ▸ append ps (q ▸ none)))) (sequence (p ▸ append ps (over r q ▸ none)))
+lifted_same (Decides o b) p ps q = same_value _ _ refl refl refl (lifted_value (Decides o b) p ps q)
+lifted_same (Chooses b c) p ps q = same_value _ _ refl refl refl (lifted_value (Chooses b c) p ps q)
+lifted_same Negates p ps q = same_value _ _ refl refl refl (lifted_value Negates p ps q)
+
+-- ---- 21
+
+spread_same : (before : Trees) (a b : Tree) (ps after : Trees) → SameTree (sequence (append before (sequence (a ▸ (b ▸ ps)) ▸ after))) (sequence (append before (a ▸ (b ▸ append ps after))))
+spread_same before a b ps after = same_value _ _ refl refl refl (λ e s. spread_is e a b ps after before Val s)
+
+-- ---- all
+
+expression_same : (s : Seat) (n w : Tree) → SequenceRow (Expr s) n w → SameTree n w
+expression_same s n w (inl r) = same_by n w _ _ r.shape r.written (lifted_same r.operation r.first r.others r.last)
+expression_same s n w (inr r) = same_by n w _ _ r.shape r.written (spread_same r.before r.first r.second r.others r.after)
+
+means_same : (p : Position) (n w : Tree) → SequenceRow p n w → SameAt p n w
+means_same (Expr s) n w r = tree_same s n w (expression_same s n w r)
+means_same p n w r = absurd r
+
+reads : (p : Position) (n w : Tree) → SequenceRow p n w → summary n ≡ summary w
+reads (Expr s) n w r = (expression_same s n w r).read
+reads p n w r = absurd r
+
+pub sequences_same : MeansSame SequenceContracts
+sequences_same = record { same = λ p n w c. means_same p n w c.row; reads = λ p n w c. reads p n w c.row }

@@ -1,0 +1,167 @@
+-- What a row on sequences writes weighs less wherever the expression stands.
+use Rattle.std.proofs.Common.{◌≡◌, ℕ, ◌+◌, ◌*◌, ◌<◌, ◌≤◌, Bool, true, false, List, refl, sym, ap, ◌∙◌, inl, inr, true≢false, arith}
+use Rattle.std.specs.Prelude.{◌&&◌, ◌||◌, not, nat_eq, nat_lt, if◌then◌else◌}
+use Rattle.std.proofs.lemmas.Bool.{and_parts, eqb-true}
+use Rattle.mini_model.specs.declared.operator.BinaryOperator.TheVariants as binary_operator
+use Rattle.mini_model.specs.declared.operator.LogicalOperator.{LogicalOperator}
+use Rattle.mini_model.specs.declared.operator.LogicalOperator.TheVariants.{Or, And, Coalesce}
+use Rattle.mini_model.specs.declared.place.Position.{Position}
+use Rattle.mini_model.specs.declared.place.Position.TheVariants.{Expr}
+use Rattle.mini_model.specs.declared.seat.Seat.{Seat}
+use Rattle.mini_model.specs.declared.shape.Shape.{Shape}
+use Rattle.mini_model.specs.declared.shape.Shape.TheVariants as shape
+use Rattle.mini_model.specs.Tree.{Tree, Trees, none, ◌▸◌, count, listed}
+use Rattle.mini_model.specs.Paths.{append}
+use Rattle.mini_model.specs.Position.{left_operand_seat, right_operand_seat, conditional_test_seat, branch_seat, passed_part_seat, not_operand_seat}
+use Rattle.mini_model.specs.Weight.{Outline, outline, outlines, weight, place_weight, is_parenthesized}
+use Rattle.mini_laws.specs.Weights.{Lightens}
+use Rattle.mini_laws.proofs.Seats.{placed}
+use Rattle.mini_rows.specs.Lists.{sequence}
+use Rattle.mini_rows.specs.Sequences.{Operation, Decides, Chooses, Negates, over, is_open_seat, SequenceRow, SequenceContracts, SequencesLighter}
+use Rattle.mini_rows.proofs.ListWeights.{parts_total, parts_weight, sequence_weighs}
+use Rattle.mini_rows.proofs.SpellWeights.{falls_by}
+
+-- ---- 20
+
+-- a sequence has neither parentheses nor a mark in an open seat
+
+never : (b : Bool) → b && false ≡ false
+never true = refl
+never false = refl
+
+open_marks : (s : Seat) → is_open_seat s ≡ true → (os : List Outline) → place_weight (Expr s) shape.SequenceExpression os ≡ 0
+open_marks s h os =
+    let (level, lifted) = and_parts (nat_eq s.level 0) (not s.lifted) h in
+    go (nat_lt 0 s.level) s.access s.new_callee s.eq_left s.cond_test s.lifted (ap (λ n. nat_lt 0 n) (eqb-true s.level 0 level)) lifted
+  where
+    go : (b x y e t f : Bool) → b ≡ false → not f ≡ true → (if b || (false || ((x && false) || (y && false))) then 4 else 0) + (if (e && false) || ((t && false) || (f && true)) then 1 else 0) ≡ 0
+    go true x y e t f p q = absurd (true≢false p)
+    go false x y e t true p q = absurd (true≢false (sym q))
+    go false x y e t false p q = simp never
+
+pair_of : (b : Bool) → (if b then 4 else 0) ≤ 4
+pair_of true = omega arith
+pair_of false = omega arith
+
+-- an expression as the first operand gets parentheses at most, more than it has as a part of a sequence
+
+left_marks : (o : LogicalOperator) (s : Seat) (h : Shape) (os : List Outline) → place_weight (Expr (left_operand_seat o s)) h os ≤ place_weight (Expr passed_part_seat) h os + 4
+left_marks Or s shape.SequenceExpression os = omega arith
+left_marks And s shape.SequenceExpression os = omega arith
+left_marks Coalesce s shape.SequenceExpression os = omega arith
+left_marks o s h os = omega (arith, pair_of (is_parenthesized h (left_operand_seat o s)))
+
+test_marks : (h : Shape) (os : List Outline) → place_weight (Expr conditional_test_seat) h os ≤ place_weight (Expr passed_part_seat) h os + 4
+test_marks shape.SequenceExpression os = omega arith
+test_marks (shape.BinaryExpression binary_operator.Inequality) os = omega arith
+test_marks (shape.BinaryExpression binary_operator.StrictInequality) os = omega arith
+test_marks h os = omega (arith, pair_of (is_parenthesized h conditional_test_seat))
+
+not_marks : (h : Shape) (os : List Outline) → place_weight (Expr not_operand_seat) h os ≤ place_weight (Expr passed_part_seat) h os + 4
+not_marks shape.SequenceExpression os = omega arith
+not_marks h os = omega (arith, pair_of (is_parenthesized h not_operand_seat))
+
+left_moved : (o : LogicalOperator) (s : Seat) (t : Tree) → weight (Expr (left_operand_seat o s)) t ≤ weight (Expr passed_part_seat) t + 4
+left_moved Or s t = placed 4 (left_operand_seat Or s) passed_part_seat refl (left_marks Or s) t
+left_moved And s t = placed 4 (left_operand_seat And s) passed_part_seat refl (left_marks And s) t
+left_moved Coalesce s t = placed 4 (left_operand_seat Coalesce s) passed_part_seat refl (left_marks Coalesce s) t
+
+right_moved : (o : LogicalOperator) (s s' : Seat) (t : Tree) → weight (Expr (right_operand_seat o s)) t ≤ weight (Expr (right_operand_seat o s')) t + 0
+right_moved Or s s' t = placed 0 (right_operand_seat Or s) (right_operand_seat Or s') refl (λ h os. omega arith) t
+right_moved And s s' t = placed 0 (right_operand_seat And s) (right_operand_seat And s') refl (λ h os. omega arith) t
+right_moved Coalesce s s' t = placed 0 (right_operand_seat Coalesce s) (right_operand_seat Coalesce s') refl (λ h os. omega arith) t
+
+branch_moved : (s s' : Seat) (t : Tree) → weight (Expr (branch_seat s)) t ≤ weight (Expr (branch_seat s')) t + 0
+branch_moved s s' t = placed 0 (branch_seat s) (branch_seat s') refl (λ h os. omega arith) t
+
+-- the node over an operand as a part of a sequence, and over a sequence that has the operand as its last part: the parentheses and the
+-- mark of the sequence are 5
+abbrev Falls : Seat → Operation → Type 0
+Falls s r = (p : Tree) (ps : Trees) (q : Tree) → weight (Expr passed_part_seat) (over r q) + parts_weight p (append ps (q ▸ none)) + 1 ≤ weight (Expr s) (over r (sequence (p ▸ append ps (q ▸ none)))) + weight (Expr passed_part_seat) q
+
+node_falls : (s : Seat) (r : Operation) → Falls s r
+node_falls s (Decides Or b) p ps q =
+    let inner = sequence_weighs (left_operand_seat Or s) p (append ps (q ▸ none)) in
+    let first = left_moved Or passed_part_seat q in
+    let second = right_moved Or passed_part_seat s b in
+    omega (arith, inner, first, second)
+node_falls s (Decides And b) p ps q =
+    let inner = sequence_weighs (left_operand_seat And s) p (append ps (q ▸ none)) in
+    let first = left_moved And passed_part_seat q in
+    let second = right_moved And passed_part_seat s b in
+    omega (arith, inner, first, second)
+node_falls s (Decides Coalesce b) p ps q =
+    let inner = sequence_weighs (left_operand_seat Coalesce s) p (append ps (q ▸ none)) in
+    let first = left_moved Coalesce passed_part_seat q in
+    let second = right_moved Coalesce passed_part_seat s b in
+    omega (arith, inner, first, second)
+node_falls s (Chooses b c) p ps q =
+    let inner = sequence_weighs conditional_test_seat p (append ps (q ▸ none)) in
+    let first = placed 4 conditional_test_seat passed_part_seat refl test_marks q in
+    let second = branch_moved passed_part_seat s b in
+    let third = branch_moved passed_part_seat s c in
+    omega (arith, inner, first, second, third)
+node_falls s Negates p ps q =
+    let inner = sequence_weighs not_operand_seat p (append ps (q ▸ none)) in
+    let first = placed 4 not_operand_seat passed_part_seat refl not_marks q in
+    omega (arith, inner, first)
+
+-- the parts of a list, and a comma for each
+
+abbrev all_weigh : Trees → ℕ
+all_weigh ts = parts_total ts + 2 * count ts
+
+all_append : (a b : Trees) → all_weigh (append a b) ≡ all_weigh a + all_weigh b
+all_append none b = omega arith
+all_append (t ▸ a) b = let rest = all_append a b in omega (arith, rest)
+
+lifted_falls : (s : Seat) → is_open_seat s ≡ true → (r : Operation) (p : Tree) (ps : Trees) (q : Tree) → weight (Expr s) (sequence (p ▸ append ps (over r q ▸ none))) < weight (Expr s) (over r (sequence (p ▸ append ps (q ▸ none))))
+lifted_falls s h r p ps q =
+    let whole = sequence_weighs s p (append ps (over r q ▸ none)) in
+    let plain = open_marks s h (outlines (listed (p ▸ append ps (over r q ▸ none)) ▸ none)) in
+    let inner = all_append ps (q ▸ none) in
+    let outer = all_append ps (over r q ▸ none) in
+    let falls = node_falls s r p ps q in
+    omega (arith, whole, plain, inner, outer, falls)
+
+-- ---- 21
+
+list_weighs : (s : Seat) (before : Trees) (t : Tree) (after : Trees) → weight (Expr s) (sequence (append before (t ▸ after))) + 2 ≡ place_weight (Expr s) shape.SequenceExpression (outlines (listed (append before (t ▸ after)) ▸ none)) + all_weigh (append before (t ▸ after))
+list_weighs s none t after = let whole = sequence_weighs s t after in omega (arith, whole)
+list_weighs s (b ▸ bs) t after = let whole = sequence_weighs s b (append bs (t ▸ after)) in omega (arith, whole)
+
+spread_falls : (s : Seat) (before : Trees) (a b : Tree) (ps after : Trees) → weight (Expr s) (sequence (append before (a ▸ (b ▸ append ps after)))) < weight (Expr s) (sequence (append before (sequence (a ▸ (b ▸ ps)) ▸ after)))
+spread_falls s before a b ps after =
+    let nested = list_weighs s before (sequence (a ▸ (b ▸ ps))) after in
+    let flat = list_weighs s before a (b ▸ append ps after) in
+    let inner = sequence_weighs passed_part_seat a (b ▸ ps) in
+    let one = all_append before (sequence (a ▸ (b ▸ ps)) ▸ after) in
+    let other = all_append before (a ▸ (b ▸ append ps after)) in
+    let rest = all_append ps after in
+    omega (arith, nested, flat, inner, one, other, rest)
+
+-- ---- all
+
+pub lighter : SequencesLighter
+lighter (Expr s) n w (inl r) = falls_by (Expr s) n w _ _ r.shape r.written (lifted_falls s r.seated r.operation r.first r.others r.last)
+lighter (Expr s) n w (inr r) = falls_by (Expr s) n w _ _ r.shape r.written (spread_falls s r.before r.first r.second r.others r.after)
+lighter p n w r = absurd r
+
+over_outline : (r : Operation) (a : Tree) (ts : Trees) → outline (over r a) ≡ outline (sequence ts)
+over_outline (Decides o b) a ts = refl
+over_outline (Chooses b c) a ts = refl
+over_outline Negates a ts = refl
+
+row_outline : (p : Position) (n w : Tree) → SequenceRow p n w → outline n ≡ outline w
+row_outline (Expr s) n w (inl r) = ap outline r.shape ∙ over_outline r.operation (sequence (r.first ▸ append r.others (r.last ▸ none))) (r.first ▸ append r.others (over r.operation r.last ▸ none)) ∙ sym (ap outline r.written)
+row_outline (Expr s) n w (inr r) = ap outline r.shape ∙ sym (ap outline r.written)
+row_outline p n w r = absurd r
+
+pub lightens : Lightens SequenceContracts
+lightens = record {
+  lighter = λ p n w c. c.lighter;
+  absent = λ p n w c a. ap (λ o. o.absent) (row_outline p n w c.row);
+  items = λ p n w c a. ap (λ o. o.items) (row_outline p n w c.row);
+  is_zero = λ p n w c a. inl (ap (λ o. o.is_zero) (row_outline p n w c.row));
+  chooses = λ p n w c a. inl (λ h. sym (ap (λ o. o.chooses) (row_outline p n w c.row)) ∙ h);
+}

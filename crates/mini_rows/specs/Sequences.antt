@@ -1,0 +1,65 @@
+-- Rows on sequences, as equations: each is a shape and what is written in its place, with the JavaScript before and after. No order of
+-- rewriting is meant.
+use Rattle.std.specs.Prelude.{◌≡◌, ◌<◌, ◌⊎◌, ◌&&◌, Bool, true, not, nat_eq}
+use Rattle.mini_model.specs.declared.operator.LogicalOperator.{LogicalOperator}
+use Rattle.mini_model.specs.declared.place.Position.{Position}
+use Rattle.mini_model.specs.declared.place.Position.TheVariants.{Expr}
+use Rattle.mini_model.specs.declared.seat.Seat.{Seat}
+use Rattle.mini_model.specs.Tree.{Tree, Trees, none, ◌▸◌, negation, logical, conditional}
+use Rattle.mini_model.specs.Paths.{append}
+use Rattle.mini_model.specs.Weight.{weight}
+use Rattle.mini_rows.specs.Lists.{sequence}
+
+-- ---- terms
+
+-- a node that evaluates its first operand before all else of it, over that operand: `a && b`, `a ? b : c`, `!a`
+pub data Operation : Type 0 where
+  Decides : LogicalOperator → Tree → Operation
+  Chooses : Tree → Tree → Operation
+  Negates : Operation
+
+abbrev pub over : Operation → Tree → Tree
+over (Decides o b) a = logical o a b
+over (Chooses b c) a = conditional a b c
+over Negates a = negation a
+
+-- a sequence stands there without parentheses, as the expression of a statement, a `return` or a test does, and is not to be
+-- lifted out of it again
+abbrev pub is_open_seat : Seat → Bool
+is_open_seat s = nat_eq s.level 0 && not s.lifted
+
+-- ---- rows
+
+-- 20: `(a, b) && c` becomes `a, b && c`, `(a, b) ? c : d` becomes `a, b ? c : d`, and `!(a, b)` becomes `a, !b`
+pub record Row20 (s : Seat) (n w : Tree) : Type 0 where
+  pub operation : Operation
+  pub first : Tree
+  pub others : Trees
+  pub last : Tree
+  pub seated : is_open_seat s ≡ true
+  pub shape : n ≡ over operation (sequence (first ▸ append others (last ▸ none)))
+  pub written : w ≡ sequence (first ▸ append others (over operation last ▸ none))
+
+-- 21: `a, (b, c), d` becomes `a, b, c, d`
+pub record Row21 (n w : Tree) : Type 0 where
+  pub before : Trees
+  pub first : Tree
+  pub second : Tree
+  pub others : Trees
+  pub after : Trees
+  pub shape : n ≡ sequence (append before (sequence (first ▸ (second ▸ others)) ▸ after))
+  pub written : w ≡ sequence (append before (first ▸ (second ▸ append others after)))
+
+-- a row on sequences reads n as w at this place
+abbrev pub SequenceRow : Position → Tree → Tree → Type 0
+SequenceRow (Expr s) n w = Row20 s n w ⊎ Row21 n w
+SequenceRow _ n w = ⊥
+
+-- what it writes, where it weighs less
+pub record SequenceContracts (p : Position) (n w : Tree) : Type 0 where
+  pub row : SequenceRow p n w
+  pub lighter : weight p w < weight p n
+
+-- which is everywhere
+abbrev pub SequencesLighter : Type 0
+SequencesLighter = (p : Position) (n w : Tree) → SequenceRow p n w → weight p w < weight p n
