@@ -21,6 +21,7 @@ use Rattle.mini_node.specs.Equal.{same_tree}
 use Rattle.mini_node.specs.Kinds.{binary, assignment, is_logical, is_conditional, is_null, logical_operator, binary_operator}
 use Rattle.mini_node.specs.Made.{logical_is, binary_is, conditional_is, null_is}
 use Rattle.mini_node.proofs.Equality.{tree_itself}
+use Rattle.mini_rows.specs.Chains.{chain}
 use Rattle.mini_rows.specs.Choices.{assign, is_grouped, joined, strictly, joining, deciding, computing, Row39, Row38, Row35, Row45, Row46Equal, Row46Unequal, LighterRow, OwnRow, ChoiceRow, ChoiceContracts}
 use Rattle.mini_rows.proofs.ChoiceWeights as choice_weights
 use Rattle.mini_walk.specs.Rule.{Applied}
@@ -31,6 +32,8 @@ use Rattle.mini_choices.specs.MinimizeLogicalExpression as decide
 use Rattle.mini_choices.specs.MinimizeNormalAssignmentToCombinedAssignment as combine
 use Rattle.mini_choices.specs.MinimizeConditionalBranches as branches
 use Rattle.mini_choices.specs.MinimizeHeldBranches as held
+use Rattle.mini_choices.specs.InjectOptionalChaining as chains
+use Rattle.mini_choices.proofs.OptionalChains.{chain_row, chain_passes}
 use Rattle.mini_choices.proofs.Trials.{some_is, not_true, both_true, tried, first_true, later_true, first_there, second_there, lighter_test}
 use Rattle.mini_choices.specs.SubstituteRotateLogicalExpression.{leftmost}
 use Rattle.mini_choices.specs.MinimizeNullishComparison as nullish
@@ -309,28 +312,45 @@ row_of s (node (shape.LogicalExpression o) xs m ts) w e = sure s _ w (logical_ro
     logical_row (inl e) = inl (rotated_row _ w e)
     logical_row (inr e) = others_row (either_some (decide.written (node (shape.LogicalExpression o) xs m ts)) (nullish.written (node (shape.LogicalExpression o) xs m ts)) w e)
 row_of s (node (shape.AssignmentExpression o) xs m ts) w e = sure s _ w (inr (inr (inl (combined_row _ w e))))
-row_of s (node shape.ConditionalExpression xs m ts) w e = conditional_row (either_some (held.written s (node shape.ConditionalExpression xs m ts)) (branches.written s (node shape.ConditionalExpression xs m ts)) w e)
+row_of s (node shape.ConditionalExpression xs m ts) w e = any_row (either_some (chains.written s (node shape.ConditionalExpression xs m ts)) (first_of (held.written s (node shape.ConditionalExpression xs m ts)) (branches.written s (node shape.ConditionalExpression xs m ts))) w e)
   where
     conditional_row : (held.written s (node shape.ConditionalExpression xs m ts) ≡ Some w) ⊎ (branches.written s (node shape.ConditionalExpression xs m ts) ≡ Some w) → ChoiceContracts (Expr s) (node shape.ConditionalExpression xs m ts) w
     conditional_row (inl e) = held_row s _ w e
     conditional_row (inr e) = branch_row s _ w e
+
+    any_row : (chains.written s (node shape.ConditionalExpression xs m ts) ≡ Some w) ⊎ (first_of (held.written s (node shape.ConditionalExpression xs m ts)) (branches.written s (node shape.ConditionalExpression xs m ts)) ≡ Some w) → ChoiceContracts (Expr s) (node shape.ConditionalExpression xs m ts) w
+    any_row (inl e) = chain_row s _ w e
+    any_row (inr e) = conditional_row (either_some (held.written s (node shape.ConditionalExpression xs m ts)) (branches.written s (node shape.ConditionalExpression xs m ts)) w e)
 row_of s (node h xs m ts) w e = absurd (cc e)
 
 pub written_is_row : WrittenIsRow
 written_is_row s n w e = row_of s n w e
 
-in_branches : (s : Seat) (t : Tree) → is_some (branches.written s t) ≡ true → is_some (first_of (held.written s t) (branches.written s t)) ≡ true
-in_branches s t h = second_there (held.written s t) (branches.written s t) h
+in_branches : (s : Seat) (t : Tree) → is_some (branches.written s t) ≡ true → is_some (first_of (chains.written s t) (first_of (held.written s t) (branches.written s t))) ≡ true
+in_branches s t h = second_there (chains.written s t) (first_of (held.written s t) (branches.written s t)) (second_there (held.written s t) (branches.written s t) h)
 
 held_there : (s : Seat) (n : Tree) → is_some (held.written s n) ≡ true → is_some (written s n) ≡ true
 held_there s n h =
     let is = conditional_is n (chooses (is_conditional n) h) in
     let t : Tree = conditional (part n 0) (part n 1) (part n 2) in
-    ap (λ t. is_some (written s t)) is ∙ first_there (held.written s t) (branches.written s t) (sym (ap (λ t. is_some (held.written s t)) is) ∙ h)
+    ap (λ t. is_some (written s t)) is ∙ second_there (chains.written s t) (first_of (held.written s t) (branches.written s t)) (first_there (held.written s t) (branches.written s t) (sym (ap (λ t. is_some (held.written s t)) is) ∙ h))
   where
     chooses : (b : Bool) → is_some (if b then held.chosen_written s n else None) ≡ true → b ≡ true
     chooses true e = refl
     chooses false e = e
+
+chain_there : (s : Seat) (n : Tree) → is_some (chains.written s n) ≡ true → is_some (written s n) ≡ true
+chain_there s n h =
+    let is = conditional_is n (chooses n h) in
+    let t : Tree = conditional (part n 0) (part n 1) (part n 2) in
+    ap (λ t. is_some (written s t)) is ∙ first_there (chains.written s t) (first_of (held.written s t) (branches.written s t)) (sym (ap (λ t. is_some (chains.written s t)) is) ∙ h)
+  where
+    first_of_both : (b c d : Bool) (x y : Tree) → is_some (if b && c then Some x else (if b && d then Some y else None)) ≡ true → b ≡ true
+    first_of_both true c d x y e = refl
+    first_of_both false c d x y e = e
+
+    chooses : (t : Tree) → is_some (chains.written s t) ≡ true → is_conditional t ≡ true
+    chooses t e = first_of_both (is_conditional t) _ _ (chain (chains.optional_over (part t 2))) (chain (chains.optional_over (part t 1))) e
 
 last_there : (t : Tree) → is_some (nullish.written t) ≡ true → is_some (first_of (rotate.written t) (first_of (decide.written t) (nullish.written t))) ≡ true
 last_there t h = second_there (rotate.written t) (first_of (decide.written t) (nullish.written t)) (second_there (decide.written t) (nullish.written t) h)
@@ -370,7 +390,8 @@ own_passes s n w (inr r) small less =
 passes : (s : Seat) (n w : Tree) → ChoiceRow (Expr s) n w → weight (Expr s) n < 2 ^ 64 → weight (Expr s) w < weight (Expr s) n → is_some (written s n) ≡ true
 passes s n w (inl r) small less = sure_passes s n w r
 passes s n w (inr (inl r)) small less = own_passes s n w r small less
-passes s n w (inr (inr r)) small less = held_there s n (held_passes s n w small less r)
+passes s n w (inr (inr (inl r))) small less = held_there s n (held_passes s n w small less r)
+passes s n w (inr (inr (inr r))) small less = chain_there s n (chain_passes s n w r)
 
 pub unwritten_rests : UnwrittenRests
 unwritten_rests s n e small w c = absurd (cc (sym (passes s n w c.row small c.lighter) ∙ ap is_some e))

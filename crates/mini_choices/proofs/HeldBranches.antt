@@ -44,7 +44,7 @@ module _ (s : Seat) (n : Tree) (chooses : is_conditional n ≡ true) where
   Contracts w = ChoiceContracts (Expr s) n w
 
   weighed : (w : Tree) → HeldRow n w → is_lighter s w n ≡ true → Contracts w
-  weighed w r less = record { row = inr (inr r); lighter = omega (arith, ltb-true _ _ less) }
+  weighed w r less = record { row = inr (inr (inl r)); lighter = omega (arith, ltb-true _ _ less) }
 
   is : n ≡ conditional (part n 0) (part n 1) (part n 2)
   is = conditional_is n chooses

@@ -2,6 +2,8 @@ pub mod Trials
 pub mod Names
 pub mod FormsAre
 pub mod Spines
+pub mod LeftJoins
 pub mod HeldBranches
+pub mod OptionalChains
 pub mod NullishComparison
 pub mod Choices

@@ -73,7 +73,7 @@ by_kind o t below = go (is_logical o t) refl
     go true e = goes_on o t e below
     go false e = ends o t e
 
-absent_ends : (o : LogicalOperator) → is_logical o absent ≡ false
+pub absent_ends : (o : LogicalOperator) → is_logical o absent ≡ false
 absent_ends Or = refl
 absent_ends And = refl
 absent_ends Coalesce = refl
@@ -96,7 +96,7 @@ not_logical Or (node h xs n ts) e = refl
 not_logical And (node h xs n ts) e = refl
 not_logical Coalesce (node h xs n ts) e = refl
 
-logical_itself : (o : LogicalOperator) (a b : Tree) → is_logical o (logical o a b) ≡ true
+pub logical_itself : (o : LogicalOperator) (a b : Tree) → is_logical o (logical o a b) ≡ true
 logical_itself Or a b = refl
 logical_itself And a b = refl
 logical_itself Coalesce a b = refl

@@ -14,6 +14,7 @@ use Rattle.mini_choices.specs.MinimizeNullishComparison as nullish
 use Rattle.mini_choices.specs.MinimizeNormalAssignmentToCombinedAssignment as combine
 use Rattle.mini_choices.specs.MinimizeConditionalBranches as branches
 use Rattle.mini_choices.specs.MinimizeHeldBranches as held
+use Rattle.mini_choices.specs.InjectOptionalChaining as chains
 
 -- the first of two that is there
 abbrev pub first_of : Option Tree → Option Tree → Option Tree
@@ -23,7 +24,7 @@ first_of None b = b
 abbrev pub written_by : Shape → Seat → Tree → Option Tree
 written_by (shape.LogicalExpression o) s t = first_of (rotate.written t) (first_of (decide.written t) (nullish.written t))
 written_by (shape.AssignmentExpression o) s t = combine.written t
-written_by shape.ConditionalExpression s t = first_of (held.written s t) (branches.written s t)
+written_by shape.ConditionalExpression s t = first_of (chains.written s t) (first_of (held.written s t) (branches.written s t))
 written_by _ s t = None
 
 -- what is written for an expression in its seat, where a row reads it

@@ -1,10 +1,12 @@
 pub mod Assigning
 pub mod Forms
 pub mod SubstituteRotateLogicalExpression
+pub mod JoinWithLeftAssociativeOp
 pub mod MinimizeLogicalExpression
 pub mod MinimizeNullishComparison
 pub mod MinimizeNormalAssignmentToCombinedAssignment
 pub mod MinimizeConditionalBranches
 pub mod MinimizeHeldBranches
+pub mod InjectOptionalChaining
 pub mod Choices
 pub mod Lighter

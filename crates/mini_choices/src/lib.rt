@@ -4,11 +4,14 @@
 
 mod assigning;
 mod forms;
+mod joining;
 mod laws;
 mod rewrites;
 mod weights;
 
-pub use laws::choices_are_rows;
+pub use joining::join_with_left_associative_op;
+pub use laws::{choices_are_rows, left_joins_mean_the_same};
+pub use rewrites::inject_optional_chaining::inject_optional_chaining;
 pub use rewrites::minimize_choices::MinimizeChoices;
 pub use rewrites::minimize_conditional_branches::minimize_conditional_branches;
 pub use rewrites::minimize_held_branches::minimize_held_branches;

@@ -1,3 +1,4 @@
+pub mod inject_optional_chaining;
 pub mod minimize_choices;
 pub mod minimize_conditional_branches;
 pub mod minimize_held_branches;

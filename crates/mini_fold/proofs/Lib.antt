@@ -1,3 +1,5 @@
 pub mod KnownSides
 pub mod Constants
 pub mod Arithmetic
+pub mod Sequences
+pub mod Operands

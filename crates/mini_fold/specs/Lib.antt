@@ -2,4 +2,6 @@ pub mod MinimizeBinary
 pub mod FoldKnown
 pub mod Values
 pub mod FoldConstants
+pub mod FoldSequences
+pub mod FoldOperands
 pub mod Lighter

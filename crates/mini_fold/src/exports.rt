@@ -7,9 +7,8 @@ ghost use Rattle.mini_node.specs.Children.{names};
 ghost use Rattle.mini_node.specs.Kinds as kind;
 ghost use Rattle.mini_rows.specs.Folding as row;
 
-use mini_model::{AssignmentOperator, LogicalOperator, Name, Shape};
+use mini_model::{AssignmentOperator, LogicalOperator, Name, Shape, Text};
 use mini_node::{Node, assignment_operator, is_computed_member, is_identifier, is_static_member};
-use mini_text::Text;
 
 // The units of `module` and of `exports`.
 const MODULE: [u16; 6] = [109, 111, 100, 117, 108, 101];

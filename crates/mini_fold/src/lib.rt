@@ -15,5 +15,7 @@ pub use rewrites::fold_constants::{FoldConstants, fold_constant};
 pub use rewrites::fold_known::{
     FoldKnown, fold_expression, fold_logical_expression, remove_unused_expression,
 };
+pub use rewrites::fold_operands::{FoldOperands, fold_operands};
+pub use rewrites::fold_sequences::{FoldSequences, fold_sequence_expression};
 pub use rewrites::minimize_binary::minimize_binary;
 pub use values::{ConstantValue, value_to_expr};

@@ -9,9 +9,8 @@ ghost use Rattle.mini_fold.specs.Values.{value as value_of, value_in};
 
 use crate::numbers::calculated_numbers;
 use crate::values::ConstantValue;
-use mini_model::{BinaryOperator, Shape, UnaryOperator};
+use mini_model::{BinaryOperator, OutOfMemory, Shape, Text, UnaryOperator};
 use mini_node::{Node, binary_operator, unary_operator};
-use mini_text::{OutOfMemory, Text};
 use std::alloc::Global;
 
 // The same text once more.

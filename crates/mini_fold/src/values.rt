@@ -5,9 +5,8 @@ ghost use Rattle.mini_laws.specs.Value.{Boolean};
 ghost use Rattle.mini_terms.specs.Plain.{lit};
 ghost use Rattle.mini_fold.specs.Values.{value};
 
-use mini_model::UnaryOperator;
+use mini_model::{OutOfMemory, Text, UnaryOperator};
 use mini_node::{Node, null_literal, numeric_literal, string_literal, unary};
-use mini_text::{OutOfMemory, Text};
 use std::alloc::Global;
 
 /// A primitive value that is known from a text (ECMA-262, "ECMAScript Language Types").

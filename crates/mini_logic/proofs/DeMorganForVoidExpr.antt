@@ -9,7 +9,7 @@ use Rattle.mini_model.specs.declared.seat.Seat.{Seat}
 use Rattle.mini_model.specs.declared.seat.StmtSeat.{StmtSeat}
 use Rattle.mini_model.specs.Tree.{Tree, logical, expression_statement}
 use Rattle.mini_model.specs.Position.{is_and_or, statement_expression_seat, left_operand_seat}
-use Rattle.mini_model.specs.Terms.{turned, not_of}
+use Rattle.mini_model.specs.Terms.{turned}
 use Rattle.mini_model.specs.Weight.{weight, capped}
 use Rattle.mini_node.specs.Children.{part}
 use Rattle.mini_node.specs.Kinds.{logical_operator, is_logical, is_expression_statement}
@@ -17,16 +17,17 @@ use Rattle.mini_node.specs.Made.{logical_is, expression_statement_is}
 use Rattle.mini_rows.specs.DeMorgan.{turned_logical, Row50, DeMorganContracts}
 use Rattle.mini_walk.specs.Rule.{Applied}
 use Rattle.mini_walk.proofs.Reaching.{moves_once}
-use Rattle.mini_logic.specs.Negating.{lighter_negation}
+use Rattle.mini_rows.specs.Negations.{lightest}
+use Rattle.mini_logic.specs.MinimizeNegation.{told_lightest}
 use Rattle.mini_logic.specs.DeMorganForVoidExpr.{turned_over, turns, written_by, written, Gives, Rests, WrittenIsRow, UnwrittenRests}
-use Rattle.mini_logic.proofs.MinimizeExpressionInBooleanContext.{tested_same}
+use Rattle.mini_logic.proofs.MinimizeNegation.{lightest_agrees}
 use Rattle.mini_logic.proofs.Weights.{weight_logical}
 
 abbrev seat_of : LogicalOperator → Seat
 seat_of o = left_operand_seat (turned o) statement_expression_seat
 
 abbrev made : LogicalOperator → Tree → Tree → Tree
-made o a b = logical (turned o) (lighter_negation (seat_of o) a) b
+made o a b = logical (turned o) (told_lightest (seat_of o) a) b
 
 some_is : {A : Type 0} (x y : A) → Some x ≡ Some y → x ≡ y
 some_is x y e = cc e
@@ -34,10 +35,10 @@ some_is x y e = cc e
 -- what is made is what the row says, as far as 64 bits go
 module _ (o : LogicalOperator) (a b : Tree) where
   made_same : weight (Expr statement_expression_seat) (made o a b) < 18446744073709551615 → made o a b ≡ turned_logical o a b
-  made_same h = let whole = weight_logical (turned o) statement_expression_seat (lighter_negation (seat_of o) a) b in ap (λ x. logical (turned o) x b) ((tested_same (seat_of o) true a).0 (omega (arith, h, whole)))
+  made_same h = let whole = weight_logical (turned o) statement_expression_seat (told_lightest (seat_of o) a) b in ap (λ x. logical (turned o) x b) ((lightest_agrees (seat_of o) a).0 (omega (arith, h, whole)))
 
   row_same : weight (Expr statement_expression_seat) (turned_logical o a b) < 18446744073709551615 → made o a b ≡ turned_logical o a b
-  row_same h = let whole = weight_logical (turned o) statement_expression_seat (not_of (seat_of o) a) b in ap (λ x. logical (turned o) x b) ((tested_same (seat_of o) true a).1 (omega (arith, h, whole)))
+  row_same h = let whole = weight_logical (turned o) statement_expression_seat (lightest (seat_of o) a) b in ap (λ x. logical (turned o) x b) ((lightest_agrees (seat_of o) a).1 (omega (arith, h, whole)))
 
 not_so : (b : Bool) → not b ≡ true → b ≡ false
 not_so true e = absurd (cc e)

@@ -11,3 +11,6 @@ pub mod Joined
 pub mod MinimizeExpressionInBooleanContext
 pub mod DeMorganForVoidExpr
 pub mod NegationsSame
+pub mod WholeForms
+pub mod MinimizeNegation
+pub mod SequenceEnds

@@ -1,5 +1,5 @@
 -- What is written for booleans is what a row says, and where nothing is written no row makes the expression lighter.
-use Rattle.std.proofs.Common.{◌≡◌, ◌<◌, ◌^◌, ℤ, pos, Bool, true, false, refl, sym, ap, subst, ◌∙◌, inl, inr, arith}
+use Rattle.std.proofs.Common.{◌≡◌, ◌<◌, ◌≤◌, ◌^◌, ℤ, pos, Bool, true, false, refl, sym, ap, subst, ◌∙◌, inl, inr, arith}
 use Rattle.std.specs.Prelude.{zero, suc, ◌&&◌, ◌||◌, not, nat_lt, Option, Some, None, is_some, unwrap_or, if◌then◌else◌}
 use Rattle.std.proofs.lemmas.Bool.{and_parts}
 use borrow.Author.Tests.{ltb-true, ltb-false}
@@ -23,11 +23,11 @@ use Rattle.mini_terms.specs.Parts.{leaves_nothing, weighs}
 use Rattle.mini_terms.specs.Reading.{is_plain_part}
 use Rattle.mini_rows.specs.Spellings.{negated_digit}
 use Rattle.mini_rows.specs.Booleans as row
-use Rattle.mini_rows.specs.Booleans.{digit, is_boolean_kind, chosen, giving, is_turned, Row24, Row25, KnownBranch, BooleanRow, BooleanContracts}
+use Rattle.mini_rows.specs.Booleans.{digit, is_boolean_kind, chosen, giving, is_turned, plus, plus_seat, Row24, Row25, KnownBranch, BooleanRow, BooleanContracts}
 use Rattle.mini_rows.proofs.BooleanWeights.{lighter}
 use Rattle.mini_walk.specs.Rule.{Applied}
 use Rattle.mini_walk.proofs.Reaching.{moves_once}
-use Rattle.mini_logic.specs.MinimizeExpressionInBooleanContext.{negated_truth, digit_of, digit_written, is_told, left_written, known_truth, branch_at, may_join, tested, joined, joined_of, joins, branch_by, branch_written, either, conditional_written, written_by, written, Gives, Rests, WrittenIsRow, UnwrittenRests}
+use Rattle.mini_logic.specs.MinimizeExpressionInBooleanContext.{negated_truth, digit_of, digit_written, is_told, left_written, known_truth, branch_at, may_join, tested, joined, joined_of, joins, branch_by, branch_written, branches_written, boolean_truth, opposite, told_truth, digit_truth, counted_truth, as_boolean, is_lighter, truth_by, truth_written, number_by, number_written, either, conditional_written, written_by, written, Gives, Rests, WrittenIsRow, UnwrittenRests}
 use Rattle.mini_logic.proofs.Weights.{weight_logical}
 
 some_is : {A : Type 0} (x y : A) → Some x ≡ Some y → x ≡ y
@@ -158,22 +158,149 @@ branch_row s i n w h e = go (known_truth (branch_at i n)) refl e
         let same = joined_same s i c (part n 0) (branch_at (not i) n) (omega (arith, falls)) in
         let heavy = ap (weight (Expr s)) is in
         let form : KnownBranch s n w = record { is_consequent = i; truth = c; test = part n 0; branch = branch_at i n; other = branch_at (not i) n; known = k.known; effect_free = k.effect_free; dropped = k.dropped; shape = chosen_is i n h; written = sym is ∙ same } in
-        record { row = inr (joined_row s n w form may); lighter = omega (arith, falls, heavy) }
+        record { row = inr (inl (joined_row s n w form may)); lighter = omega (arith, falls, heavy) }
     by c k false j e = absurd (cc e)
 
     go : (x : Option Bool) → known_truth (branch_at i n) ≡ x → branch_by s i x n ≡ Some w → BooleanContracts (Expr s) n w
     go (Some c) k e = by c (known_is (branch_at i n) c k) (joins s i c n) refl e
     go None k e = absurd (cc e)
 
+branches_row : (s : Seat) (n w : Tree) → is_conditional n ≡ true → branches_written s n ≡ Some w → BooleanContracts (Expr s) n w
+branches_row s n w h e = by (branch_written s true n) refl e
+  where
+    by : (x : Option Tree) → branch_written s true n ≡ x → either x (branch_written s false n) ≡ Some w → BooleanContracts (Expr s) n w
+    by (Some v) k e = branch_row s true n w h (k ∙ e)
+    by None k e = branch_row s false n w h e
+
+-- ---- 47 and 48, where both branches are known
+
+record Opposite (x y : Option Bool) (c : Bool) : Type 0 where
+  first : x ≡ Some c
+  second : y ≡ Some (not c)
+
+opposite_is : (x y : Option Bool) (c : Bool) → opposite x y ≡ Some c → Opposite x y c
+opposite_is (Some true) (Some false) c e = subst (Opposite (Some true) (Some false)) (some_is true c e) (record { first = refl; second = refl })
+opposite_is (Some false) (Some true) c e = subst (Opposite (Some false) (Some true)) (some_is false c e) (record { first = refl; second = refl })
+opposite_is (Some true) (Some true) c e = absurd (cc e)
+opposite_is (Some false) (Some false) c e = absurd (cc e)
+opposite_is (Some b) None c e = absurd (none_is b c e)
+  where
+    none_is : (b c : Bool) → opposite (Some b) None ≡ Some c → ⊥
+    none_is true c e = cc e
+    none_is false c e = cc e
+opposite_is None y c e = absurd (cc e)
+
+opposites : (c : Bool) → opposite (Some c) (Some (not c)) ≡ Some c
+opposites true = refl
+opposites false = refl
+
+record BooleanKnown (t : Tree) (c : Bool) : Type 0 where
+  boolean : is_boolean_kind (kind t) ≡ true
+  known : Known t c
+
+boolean_known : (t : Tree) (c : Bool) → boolean_truth t ≡ Some c → BooleanKnown t c
+boolean_known t c e = go (is_boolean_kind (kind t)) refl e
+  where
+    go : (b : Bool) → is_boolean_kind (kind t) ≡ b → (if b then known_truth t else None) ≡ Some c → BooleanKnown t c
+    go true h e = record { boolean = h; known = known_is t c e }
+    go false h e = absurd (cc e)
+
+truth_told : (n : Tree) (c : Bool) → is_conditional n ≡ true → told_truth n ≡ Some c → row.Row47Both n (row.truth_of c (part n 0))
+truth_told n c h e = go (is_plain_part (part n 0)) refl e
+  where
+    go : (b : Bool) → is_plain_part (part n 0) ≡ b → (if b then opposite (boolean_truth (part n 1)) (boolean_truth (part n 2)) else None) ≡ Some c → row.Row47Both n (row.truth_of c (part n 0))
+    go true p e =
+        let both = opposite_is (boolean_truth (part n 1)) (boolean_truth (part n 2)) c e in
+        let x = boolean_known (part n 1) c both.first in
+        let y = boolean_known (part n 2) (not c) both.second in
+        record {
+          truth = c;
+          test = part n 0;
+          consequent = part n 1;
+          alternate = part n 2;
+          known = x.known.known;
+          otherwise = y.known.known;
+          effect_free = both_true (is_effect_free (part n 1)) (is_effect_free (part n 2)) x.known.effect_free y.known.effect_free;
+          dropped = both_true (leaves_nothing (part n 1)) (leaves_nothing (part n 2)) x.known.dropped y.known.dropped;
+          boolean = both_true (is_boolean_kind (kind (part n 1))) (is_boolean_kind (kind (part n 2))) x.boolean y.boolean;
+          plain = p;
+          shape = conditional_is n h;
+          written = refl;
+        }
+    go false p e = absurd (cc e)
+
+truth_row : (s : Seat) (n w : Tree) → is_conditional n ≡ true → truth_written s n ≡ Some w → BooleanContracts (Expr s) n w
+truth_row s n w h e = go (told_truth n) refl e
+  where
+    by : (c : Bool) → told_truth n ≡ Some c → (b : Bool) → is_lighter s (row.truth_of c (part n 0)) n ≡ b → (if b then Some (row.truth_of c (part n 0)) else None) ≡ Some w → BooleanContracts (Expr s) n w
+    by c k true l e =
+        let falls = ltb-true _ _ l in
+        subst (BooleanContracts (Expr s) n) (some_is (row.truth_of c (part n 0)) w e) (record { row = inr (inr (inl (truth_told n c h k))); lighter = omega (arith, falls) })
+    by c k false l e = absurd (cc e)
+
+    go : (x : Option Bool) → told_truth n ≡ x → truth_by s x n ≡ Some w → BooleanContracts (Expr s) n w
+    go (Some c) k e = by c k (is_lighter s (row.truth_of c (part n 0)) n) refl e
+    go None k e = absurd (cc e)
+
+digit_is : (t : Tree) (c : Bool) → digit_truth (number t) ≡ Some c → t ≡ digit c
+digit_is t c e = go (number t) refl e
+  where
+    go : (x : Option ℤ) → number t ≡ x → digit_truth x ≡ Some c → t ≡ digit c
+    go (Some (pos zero)) k e = number_is t (pos 0) k ∙ ap digit (some_is false c e)
+    go (Some (pos (suc zero))) k e = number_is t (pos 1) k ∙ ap digit (some_is true c e)
+    go x k e = absurd (cc e)
+
+-- `+` adds its own weight to its operand's
+plus_weighs : (s : Seat) (a : Tree) → weight (Expr plus_seat) a ≤ weight (Expr s) (plus a)
+plus_weighs s a = omega arith
+
+-- what is made is what the row says, as far as 64 bits go
+number_made : (s : Seat) (c : Bool) (a : Tree) → weight (Expr s) (plus (as_boolean c a)) < 18446744073709551615 → plus (as_boolean c a) ≡ plus (row.as_boolean c a)
+number_made s true a h = refl
+number_made s false a h = let own = plus_weighs s (as_boolean false a) in ap plus ((tested_same plus_seat true a).0 (omega (arith, h, own)))
+
+number_same : (s : Seat) (c : Bool) (a : Tree) → weight (Expr s) (plus (row.as_boolean c a)) < 18446744073709551615 → plus (as_boolean c a) ≡ plus (row.as_boolean c a)
+number_same s true a h = refl
+number_same s false a h = let own = plus_weighs s (row.as_boolean false a) in ap plus ((tested_same plus_seat true a).1 (omega (arith, h, own)))
+
+counted : (s : Seat) (n : Tree) (c : Bool) → is_conditional n ≡ true → counted_truth n ≡ Some c → is_lighter s (plus (as_boolean c (part n 0))) n ≡ true → BooleanContracts (Expr s) n (plus (as_boolean c (part n 0)))
+counted s n c h e l =
+    let both = opposite_is (digit_truth (number (part n 1))) (digit_truth (number (part n 2))) c e in
+    let falls = ltb-true _ _ l in
+    record {
+      row = inr (inr (inr (record {
+        truth = c;
+        test = part n 0;
+        shape = conditional_is n h ∙ ap (λ t. conditional (part n 0) t (part n 2)) (digit_is (part n 1) c both.first) ∙ ap (conditional (part n 0) (digit c)) (digit_is (part n 2) (not c) both.second);
+        written = number_made s c (part n 0) (omega (arith, falls));
+      })));
+      lighter = omega (arith, falls);
+    }
+
+number_row : (s : Seat) (n w : Tree) → is_conditional n ≡ true → number_written s n ≡ Some w → BooleanContracts (Expr s) n w
+number_row s n w h e = go (counted_truth n) refl e
+  where
+    by : (c : Bool) → counted_truth n ≡ Some c → (b : Bool) → is_lighter s (plus (as_boolean c (part n 0))) n ≡ b → (if b then Some (plus (as_boolean c (part n 0))) else None) ≡ Some w → BooleanContracts (Expr s) n w
+    by c k true l e = subst (BooleanContracts (Expr s) n) (some_is (plus (as_boolean c (part n 0))) w e) (counted s n c h k l)
+    by c k false l e = absurd (cc e)
+
+    go : (x : Option Bool) → counted_truth n ≡ x → number_by s x n ≡ Some w → BooleanContracts (Expr s) n w
+    go (Some c) k e = by c k (is_lighter s (plus (as_boolean c (part n 0))) n) refl e
+    go None k e = absurd (cc e)
+
 conditional_row : (s : Seat) (n w : Tree) → conditional_written s n ≡ Some w → BooleanContracts (Expr s) n w
 conditional_row s n w e = go (is_conditional n) refl e
   where
-    by : is_conditional n ≡ true → (x : Option Tree) → branch_written s true n ≡ x → either x (branch_written s false n) ≡ Some w → BooleanContracts (Expr s) n w
-    by h (Some v) k e = branch_row s true n w h (k ∙ e)
-    by h None k e = branch_row s false n w h e
+    last : is_conditional n ≡ true → (x : Option Tree) → branches_written s n ≡ x → either x (number_written s n) ≡ Some w → BooleanContracts (Expr s) n w
+    last h (Some v) k e = branches_row s n w h (k ∙ e)
+    last h None k e = number_row s n w h e
 
-    go : (b : Bool) → is_conditional n ≡ b → (if b then either (branch_written s true n) (branch_written s false n) else None) ≡ Some w → BooleanContracts (Expr s) n w
-    go true h e = by h (branch_written s true n) refl e
+    by : is_conditional n ≡ true → (x : Option Tree) → truth_written s n ≡ x → either x (either (branches_written s n) (number_written s n)) ≡ Some w → BooleanContracts (Expr s) n w
+    by h (Some v) k e = truth_row s n w h (k ∙ e)
+    by h None k e = last h (branches_written s n) refl e
+
+    go : (b : Bool) → is_conditional n ≡ b → (if b then either (truth_written s n) (either (branches_written s n) (number_written s n)) else None) ≡ Some w → BooleanContracts (Expr s) n w
+    go true h e = by h (truth_written s n) refl e
     go false h e = absurd (cc e)
 
 -- where the first of two is there, it is that one, and where it isn't, the second
@@ -195,9 +322,24 @@ neither : (x y : Option Tree) → either x y ≡ None → (x ≡ None) × (y ≡
 neither (Some t) y e = absurd (cc e)
 neither None y e = (refl, e)
 
+-- of three
+record NoneOf (s : Seat) (t : Tree) : Type 0 where
+  truth : truth_written s t ≡ None
+  first : branch_written s true t ≡ None
+  second : branch_written s false t ≡ None
+  number : number_written s t ≡ None
+
+none_of : (s : Seat) (a b c : Tree) → written s (conditional a b c) ≡ None → NoneOf s (conditional a b c)
+none_of s a b c e =
+    let t = conditional a b c in
+    let (truth, rest) = neither (truth_written s t) (either (branches_written s t) (number_written s t)) e in
+    let (branches, number) = neither (branches_written s t) (number_written s t) rest in
+    let (first, second) = neither (branch_written s true t) (branch_written s false t) branches in
+    record { truth = truth; first = first; second = second; number = number }
+
 unwritten_branch : (s : Seat) (i : Bool) (a k b : Tree) → written s (chosen i a k b) ≡ None → branch_written s i (chosen i a k b) ≡ None
-unwritten_branch s true a k b e = (neither _ _ e).0
-unwritten_branch s false a k b e = (neither _ _ e).1
+unwritten_branch s true a k b e = (none_of s a k b e).first
+unwritten_branch s false a k b e = (none_of s a b k e).second
 
 heavy_branch : (s : Seat) (i c : Bool) (a k b : Tree) → may_join s i c a k ≡ true → known_truth k ≡ Some c → branch_written s i (chosen i a k b) ≡ None → nat_lt (capped (weight (Expr s) (joined s i c a b))) (capped (weight (Expr s) (chosen i a k b))) ≡ false
 heavy_branch s true c a k b m h e = go (nat_lt (capped (weight (Expr s) (joined s true c a b))) (capped (weight (Expr s) (conditional a k b)))) (sym (ap (λ x. branch_by s true x (conditional a k b)) h ∙ ap (λ d. if d && nat_lt (capped (weight (Expr s) (joined s true c a b))) (capped (weight (Expr s) (conditional a k b))) then Some (joined s true c a b) else None) m) ∙ e)
@@ -218,6 +360,51 @@ form_missed s n w f m e small less =
     let made = ap (weight (Expr s)) f.written in
     let same = ap (weight (Expr s)) (row_same s i f.truth f.test f.other (omega (arith, small, less, made))) in
     let heavy = ltb-false _ _ (heavy_branch s i f.truth f.test f.branch f.other m (is_known f.branch f.truth f.effect_free f.dropped f.known) (unwritten_branch s i f.test f.branch f.other (sym (ap (written s) f.shape) ∙ e))) in
+    omega (arith, small, less, whole, made, same, heavy)
+
+-- of a test alone
+
+not_lighter : (s : Seat) (w t : Tree) → (if is_lighter s w t then Some w else None) ≡ None → is_lighter s w t ≡ false
+not_lighter s w t e = go (is_lighter s w t) e
+  where
+    go : (d : Bool) → (if d then Some w else None) ≡ None → d ≡ false
+    go true e = absurd (cc e)
+    go false e = refl
+
+both_truths : (s : Seat) (n w : Tree) (r : row.Row47Both n w) → told_truth (conditional r.test r.consequent r.alternate) ≡ Some r.truth
+both_truths s n w r =
+    let (free, free') = and_parts (is_effect_free r.consequent) (is_effect_free r.alternate) r.effect_free in
+    let (dropped, dropped') = and_parts (leaves_nothing r.consequent) (leaves_nothing r.alternate) r.dropped in
+    let (boolean, boolean') = and_parts (is_boolean_kind (kind r.consequent)) (is_boolean_kind (kind r.alternate)) r.boolean in
+    ap (λ b. if b then opposite (boolean_truth r.consequent) (boolean_truth r.alternate) else None) r.plain
+    ∙ ap (λ x. opposite x (boolean_truth r.alternate)) (is_boolean_known r.consequent r.truth boolean free dropped r.known)
+    ∙ ap (opposite (Some r.truth)) (is_boolean_known r.alternate (not r.truth) boolean' free' dropped' r.otherwise)
+    ∙ opposites r.truth
+  where
+    is_boolean_known : (t : Tree) (c : Bool) → is_boolean_kind (kind t) ≡ true → is_effect_free t ≡ true → leaves_nothing t ≡ true → evident_truth t ≡ Some c → boolean_truth t ≡ Some c
+    is_boolean_known t c b f d k = ap (λ x. if x then known_truth t else None) b ∙ is_known t c f d k
+
+truth_missed : (s : Seat) (n w : Tree) → row.Row47Both n w → written s n ≡ None → weight (Expr s) n < 2 ^ 64 → weight (Expr s) w < weight (Expr s) n → ⊥
+truth_missed s n w r e small less =
+    let t = conditional r.test r.consequent r.alternate in
+    let whole = ap (weight (Expr s)) r.shape in
+    let made = ap (weight (Expr s)) r.written in
+    let none = (none_of s r.test r.consequent r.alternate (sym (ap (written s) r.shape) ∙ e)).truth in
+    let heavy = ltb-false _ _ (not_lighter s (row.truth_of r.truth r.test) t (sym (ap (λ x. truth_by s x t) (both_truths s n w r)) ∙ none)) in
+    omega (arith, small, less, whole, made, heavy)
+
+digits_counted : (c : Bool) (a : Tree) → counted_truth (conditional a (digit c) (digit (not c))) ≡ Some c
+digits_counted true a = refl
+digits_counted false a = refl
+
+number_missed : (s : Seat) (n w : Tree) → row.Row48 n w → written s n ≡ None → weight (Expr s) n < 2 ^ 64 → weight (Expr s) w < weight (Expr s) n → ⊥
+number_missed s n w r e small less =
+    let t = conditional r.test (digit r.truth) (digit (not r.truth)) in
+    let whole = ap (weight (Expr s)) r.shape in
+    let made = ap (weight (Expr s)) r.written in
+    let same = ap (weight (Expr s)) (number_same s r.truth r.test (omega (arith, small, less, made))) in
+    let none = (none_of s r.test (digit r.truth) (digit (not r.truth)) (sym (ap (written s) r.shape) ∙ e)).number in
+    let heavy = ltb-false _ _ (not_lighter s (plus (as_boolean r.truth r.test)) t (sym (ap (λ x. number_by s x t) (digits_counted r.truth r.test)) ∙ none)) in
     omega (arith, small, less, whole, made, same, heavy)
 
 -- ---- all
@@ -243,8 +430,10 @@ unwritten_rests s n e small w c = go c.row
     go : BooleanRow (Expr s) n w → ⊥
     go (inl (inl r)) = never s n (negated_digit r.truth) (digit r.truth) r.shape e (digit_passes s r.truth r.asked)
     go (inl (inr r)) = never s n (logical r.operator r.left r.right) r.left r.shape e (left_passes s n w r)
-    go (inr (inl r)) = form_missed s n w r.form (ap (λ b. b || (is_boolean_kind (kind r.form.branch) && (is_turned r.form.is_consequent r.form.truth || is_boolean_kind (kind r.form.test)))) r.asked) e small c.lighter
-    go (inr (inr r)) = form_missed s n w r.form (or_true s.boolean _ (both_true (is_boolean_kind (kind r.form.branch)) _ r.boolean r.told)) e small c.lighter
+    go (inr (inr (inl r))) = truth_missed s n w r e small c.lighter
+    go (inr (inr (inr r))) = number_missed s n w r e small c.lighter
+    go (inr (inl (inl r))) = form_missed s n w r.form (ap (λ b. b || (is_boolean_kind (kind r.form.branch) && (is_turned r.form.is_consequent r.form.truth || is_boolean_kind (kind r.form.test)))) r.asked) e small c.lighter
+    go (inr (inl (inr r))) = form_missed s n w r.form (or_true s.boolean _ (both_true (is_boolean_kind (kind r.form.branch)) _ r.boolean r.told)) e small c.lighter
       where
         or_true : (b d : Bool) → d ≡ true → b || d ≡ true
         or_true true d f = refl

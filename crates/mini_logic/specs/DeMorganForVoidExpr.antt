@@ -11,11 +11,11 @@ use Rattle.mini_model.specs.Weight.{weight, capped}
 use Rattle.mini_node.specs.Children.{part}
 use Rattle.mini_node.specs.Kinds.{logical_operator, is_logical, is_expression_statement}
 use Rattle.mini_rows.specs.DeMorgan.{DeMorganContracts}
-use Rattle.mini_logic.specs.Negating.{lighter_negation}
+use Rattle.mini_logic.specs.MinimizeNegation.{told_lightest}
 
 -- the left side negated under the other operator
 abbrev pub turned_over : LogicalOperator → Tree → Tree
-turned_over o x = logical (turned o) (lighter_negation (left_operand_seat (turned o) statement_expression_seat) (part x 0)) (part x 1)
+turned_over o x = logical (turned o) (told_lightest (left_operand_seat (turned o) statement_expression_seat) (part x 0)) (part x 1)
 
 -- which is lighter, and nothing is joined instead
 abbrev pub turns : LogicalOperator → Tree → Bool

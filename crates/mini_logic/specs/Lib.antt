@@ -8,3 +8,5 @@ pub mod Lighter
 pub mod MinimizeExpressionInBooleanContext
 pub mod DeMorganForVoidExpr
 pub mod NegationsSame
+pub mod MinimizeNegation
+pub mod Sequences

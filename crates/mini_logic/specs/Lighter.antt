@@ -12,6 +12,7 @@ use Rattle.mini_rows.specs.Turns.{TurnContracts}
 use Rattle.mini_rows.proofs.BranchWeights.{branches_lighten}
 use Rattle.mini_rows.proofs.BooleanWeights as boolean_weights
 use Rattle.mini_rows.proofs.DeMorganLawful.{de_morgan_lighten}
+use Rattle.mini_rows.proofs.NegationLawful.{negations_lighten}
 use Rattle.mini_rows.proofs.TurnWeights.{turns_lighten}
 use Rattle.mini_walk.specs.Rule.{IsLighter}
 use Rattle.mini_walk.specs.Wider.{step_of}
@@ -21,6 +22,7 @@ use Rattle.mini_logic.specs.MinimizeIfStatement as «if»
 use Rattle.mini_logic.specs.UnwrapBlock as unwrap
 use Rattle.mini_logic.specs.DeMorganForVoidExpr as de_morgan
 use Rattle.mini_logic.specs.MinimizeExpressionInBooleanContext as booleans
+use Rattle.mini_logic.specs.MinimizeNegation as negation
 
 pub unary_contracts : (p : Position) (t u : Tree) → unary.Gives p t u → Contracts p t u
 unary_contracts (Expr s) t u r = record { row = inl r.0; lighter = r.1 }
@@ -76,3 +78,6 @@ booleans_lighter = any_step_lighter booleans.Gives boolean_weights.lightens
 
 pub de_morgan_lighter : IsLighter de_morgan.Gives
 de_morgan_lighter = any_step_lighter de_morgan.Gives de_morgan_lighten
+
+pub negation_lighter : IsLighter negation.Gives
+negation_lighter = any_step_lighter negation.Gives negations_lighten

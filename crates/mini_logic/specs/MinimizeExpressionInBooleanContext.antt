@@ -1,5 +1,6 @@
--- 24, 25 and 26, `minimize_expression_in_boolean_context`, and the branches of 47: where only the truth is asked, `!0` becomes `1`,
--- `a && 1` becomes `a`, and `a ? 1 : b` becomes `a || b`; and where the value is, `a ? false : b` becomes `!a && b`.
+-- 24, 25 and 26, `minimize_expression_in_boolean_context`, and 47 and 48: where only the truth is asked, `!0` becomes `1`, `a && 1`
+-- becomes `a`, and `a ? 1 : b` becomes `a || b`; and where the value is, `a ? false : b` becomes `!a && b`, `a ? true : false` `!!a`, and
+-- `a ? 0 : 1` `+!a`.
 use Rattle.std.specs.Prelude.{◌≡◌, ◌<◌, ◌^◌, ℤ, pos, zero, suc, Bool, true, false, not, ◌&&◌, ◌||◌, Option, Some, None, nat_lt, if◌then◌else◌}
 use Rattle.mini_model.specs.declared.operator.LogicalOperator.{LogicalOperator}
 use Rattle.mini_model.specs.declared.operator.UnaryOperator.TheVariants.{LogicalNot}
@@ -18,7 +19,7 @@ use Rattle.mini_terms.specs.Folds.{is_effect_free, goes_on}
 use Rattle.mini_terms.specs.Kind.{kind}
 use Rattle.mini_terms.specs.Parts.{leaves_nothing, weighs}
 use Rattle.mini_terms.specs.Reading.{is_plain_part}
-use Rattle.mini_rows.specs.Booleans.{digit, is_boolean_kind, giving, is_turned, BooleanContracts}
+use Rattle.mini_rows.specs.Booleans.{digit, is_boolean_kind, giving, is_turned, truth_of, plus, plus_seat, BooleanContracts}
 use Rattle.mini_logic.specs.Negating.{lighter_negation}
 
 -- ---- 24
@@ -90,8 +91,60 @@ abbrev pub either : Option Tree → Option Tree → Option Tree
 either (Some a) b = Some a
 either None b = b
 
+abbrev pub branches_written : Seat → Tree → Option Tree
+branches_written s t = either (branch_written s true t) (branch_written s false t)
+
+-- ---- 47 and 48, where both branches are known
+
+-- the truth of a boolean that may go
+abbrev pub boolean_truth : Tree → Option Bool
+boolean_truth t = if is_boolean_kind (kind t) then known_truth t else None
+
+-- the first of two truths, where the second is the other one
+abbrev pub opposite : Option Bool → Option Bool → Option Bool
+opposite (Some true) (Some false) = Some true
+opposite (Some false) (Some true) = Some false
+opposite _ _ = None
+
+-- the truth of the consequent, where both branches are booleans and the alternate is the other one
+abbrev pub told_truth : Tree → Option Bool
+told_truth t = if is_plain_part (part t 0) then opposite (boolean_truth (part t 1)) (boolean_truth (part t 2)) else None
+
+-- the truth of `1`, and of `0`
+abbrev pub digit_truth : Option ℤ → Option Bool
+digit_truth (Some (pos zero)) = Some false
+digit_truth (Some (pos (suc zero))) = Some true
+digit_truth _ = None
+
+-- that of the consequent, where both branches are these digits
+abbrev pub counted_truth : Tree → Option Bool
+counted_truth t = opposite (digit_truth (number (part t 1))) (digit_truth (number (part t 2)))
+
+-- the test as a boolean, or its negation, as far as 64 bits tell the lighter one, as the operand of `+`
+abbrev pub as_boolean : Bool → Tree → Tree
+as_boolean true a = truth_of true a
+as_boolean false a = lighter_negation plus_seat a
+
+abbrev pub is_lighter : Seat → Tree → Tree → Bool
+is_lighter s w t = nat_lt (capped (weight (Expr s) w)) (capped (weight (Expr s) t))
+
+abbrev pub truth_by : Seat → Option Bool → Tree → Option Tree
+truth_by s (Some c) t = if is_lighter s (truth_of c (part t 0)) t then Some (truth_of c (part t 0)) else None
+truth_by s None t = None
+
+abbrev pub truth_written : Seat → Tree → Option Tree
+truth_written s t = truth_by s (told_truth t) t
+
+abbrev pub number_by : Seat → Option Bool → Tree → Option Tree
+number_by s (Some c) t = if is_lighter s (plus (as_boolean c (part t 0))) t then Some (plus (as_boolean c (part t 0))) else None
+number_by s None t = None
+
+abbrev pub number_written : Seat → Tree → Option Tree
+number_written s t = number_by s (counted_truth t) t
+
+-- the branches come before the digits: where only the truth is asked, `a ? 1 : 0` becomes `a`
 abbrev pub conditional_written : Seat → Tree → Option Tree
-conditional_written s t = if is_conditional t then either (branch_written s true t) (branch_written s false t) else None
+conditional_written s t = if is_conditional t then either (truth_written s t) (either (branches_written s t) (number_written s t)) else None
 
 -- ---- all
 

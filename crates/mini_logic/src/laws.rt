@@ -5,7 +5,8 @@ ghost use Rattle.mini_logic.specs.MinimizeIfStatement.{RowLighter as IfLighter};
 ghost use Rattle.mini_logic.specs.Joined.{GivesContract, ContractsAreGiven, ReachesContract, LogicContracts, RestsSettle, RestsEverywhere};
 ghost use Rattle.mini_logic.specs.DeMorganForVoidExpr as de_morgan;
 ghost use Rattle.mini_logic.specs.MinimizeExpressionInBooleanContext as boolean;
-ghost use Rattle.mini_logic.specs.NegationsSame.{LighterSame};
+ghost use Rattle.mini_logic.specs.MinimizeNegation as negation;
+ghost use Rattle.mini_logic.specs.NegationsSame.{LighterSame, LightestSame};
 ghost use Rattle.mini_kept.specs.Lawful.{Lawful};
 
 /// What rows 40, 82 and 83 write is lighter wherever the node stands, so no weight is asked before they are applied.
@@ -39,7 +40,16 @@ pub fn de_morgan_is_row()
     ensures unwritten { de_morgan.UnwrittenRests }
 {}
 
-/// The lighter of the negation of an expression and of `!` over it means what `!` over it does, in every seat.
+/// What is written for a negation that is read inside its operand is what the row says, and lighter; where nothing is written the row
+/// makes nothing lighter of it, as far as its weight fits 64 bits.
+pub fn negations_are_rows()
+    ensures written { negation.WrittenIsRow }
+    ensures unwritten { negation.UnwrittenRests }
+{}
+
+/// The lighter of the negation of an expression and of `!` over it means what `!` over it does, in every seat, and so does the lightest
+/// negation.
 pub fn negations_mean_the_same()
-    ensures { LighterSame }
+    ensures lighter { LighterSame }
+    ensures lightest { LightestSame }
 {}

@@ -2,20 +2,21 @@
 
 ghost use Rattle.std.specs.Prelude.{◌≡◌, OnOk, IfOk, if◌then◌else◌};
 ghost use Rattle.mini_model.specs.Terms.{neg};
-ghost use Rattle.mini_logic.specs.Negating.{has_own_negation as has_an_own_negation, lighter_negation as lighter_negation_of};
+ghost use Rattle.mini_logic.specs.Negating.{has_own_negation as has_an_own_negation};
+ghost use Rattle.mini_logic.specs.MinimizeNegation.{told_lightest};
 
-use crate::terms::{has_own_negation, lighter_negation, negated};
-use mini_model::Seat;
+use crate::terms::{has_own_negation, negated};
+use crate::whole::lightest_negation;
+use mini_model::{OutOfMemory, Seat};
 use mini_node::{Node, taken};
-use mini_text::OutOfMemory;
 use std::alloc::Global;
 
-/// What `!e` is written as in this seat: the lighter of the negation of the expression and of `!` over it, the negation where both
-/// weigh the same. It means what `!e` does (`negations_mean_the_same`). The only error is that memory runs out.
+/// What `!e` is written as in this seat: the lightest of `!` over the expression, its negation and its whole negation, and the last where
+/// others weigh as much. It means what `!e` does (`negations_mean_the_same`). The only error is that memory runs out.
 pub fn minimize_not(alloc: Global, expression: Node, seat: Seat) -> Result<Node, OutOfMemory>
-    ensures { IfOk result (λ w. w ≡ lighter_negation_of seat expression) }
+    ensures { IfOk result (λ w. w ≡ told_lightest seat expression) }
 {
-    lighter_negation(alloc, expression, seat)
+    lightest_negation(alloc, expression, seat)
 }
 
 /// Makes an expression its negation, unless that is `!` over it. The answer says whether it did: true of `a == b`, and false of `a`,

@@ -9,14 +9,15 @@ ghost use Rattle.mini_model.specs.Terms.{neg, neg_each, has_negated_result as ha
 ghost use Rattle.mini_model.specs.Tree.{shape_of};
 ghost use Rattle.mini_logic.specs.Negating.{has_one as has_one_tree, turned_by, turned_over, opposite_by, reshaped as reshaped_tree, unequal_weight as weight_of_unequal, lighter_negation as lighter_negation_of, is_unwrapped as is_it_unwrapped, has_own_negation as has_an_own_negation};
 
-use mini_model::{BinaryOperator, LogicalOperator, Mix, Position, Seat, Shape, UnaryOperator};
+use mini_model::{
+    BinaryOperator, LogicalOperator, Mix, OutOfMemory, Position, Seat, Shape, UnaryOperator,
+};
 use mini_node::{Node, Nodes, discard, negation, one, taken};
-use mini_text::OutOfMemory;
 use mini_tree::{negation_weight, seats, weight};
 use std::alloc::Global;
 
 /// Whether the expression is a `!`.
-pub fn has_negated_result(node: &Node) -> bool
+pub fn is_not(node: &Node) -> bool
     ensures { result ≡ has_a_negated_result node.now }
 {
     matches!(
@@ -82,9 +83,7 @@ fn opposite_operator(node: &Node) -> Option<BinaryOperator>
 fn is_unwrapped(node: &Node, seat: Seat) -> bool
     ensures { result ≡ is_it_unwrapped seat node.now }
 {
-    has_negated_result(node)
-        && has_one(node.children())
-        && (seat.boolean || is_boolean(node.child(0)))
+    is_not(node) && has_one(node.children()) && (seat.boolean || is_boolean(node.child(0)))
 }
 
 // The seat of the operand at a place.

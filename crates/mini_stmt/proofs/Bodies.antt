@@ -6,26 +6,84 @@ use Rattle.mini_model.specs.declared.place.Position.{Position}
 use Rattle.mini_model.specs.declared.place.Position.TheVariants.{StatementList, BodyList}
 use Rattle.mini_model.specs.declared.shape.Shape.{Shape}
 use Rattle.mini_model.specs.declared.shape.Shape.TheVariants as shape
-use Rattle.mini_model.specs.Tree.{Tree, Trees, node, none, ◌▸◌, count, shape_of, child_or_absent, absent, listed, children, if_alone, negation}
+use Rattle.mini_model.specs.Tree.{Tree, Trees, node, none, ◌▸◌, count, shape_of, child_or_absent, absent, listed, children, if_else, if_alone, negation}
 use Rattle.mini_model.specs.Paths.{append}
 use Rattle.mini_model.specs.Position.{child_position}
+use Rattle.mini_model.specs.Weight.{weight}
 use Rattle.mini_model.specs.Rewriting.{Step, here, inside, StepIn, first, later, Reaches, done, more}
 use Rattle.mini_node.specs.Children.{part, without, first_children, rest_children}
 use Rattle.mini_node.specs.Lends.{with_children}
-use Rattle.mini_node.specs.Kinds.{is_listed, is_if_alone, is_return_statement, is_absent_part, block}
-use Rattle.mini_node.specs.Made.{listed_is, if_alone_is, return_statement_is, absent_is}
+use Rattle.mini_node.specs.Kinds.{is_listed, is_block, is_if_alone, is_return_statement, is_absent_part, block}
+use Rattle.mini_node.specs.Made.{listed_is, block_is, if_alone_is, return_statement_is, absent_is}
 use Rattle.mini_node.specs.Walks.{from_first, next_child, no_rest}
-use Rattle.mini_text.specs.declared.memory.OutOfMemory.{OutOfMemory}
+use Rattle.mini_model.specs.declared.memory.OutOfMemory.{OutOfMemory}
 use Rattle.mini_walk.specs.Rule.{Moves}
 use Rattle.mini_rows.specs.Switches.{Switches}
-use Rattle.mini_rows.specs.Lists.{return_statement, are_unscoped, is_unscoped, bare_return, Row75, Row78, AtEnd, EndRow, ListRow, ListContracts}
+use Rattle.mini_rows.specs.Lists.{return_statement, are_unscoped, is_unscoped, is_shallow, are_shallow, alternate_of, bare_return, Row75, Row75Block, Row78, AtEnd, EndRow, ListRow, ListContracts}
 use Rattle.mini_rows.proofs.ListWeights.{lists_lighter}
 use Rattle.mini_stmt.specs.JoinGuards.{last_after, is_apart}
 use Rattle.mini_stmt.specs.JoinJumps.{returns_nothing}
 use Rattle.mini_stmt.specs.MinimizeStatements.{is_quiet, Rests, MinimizesList}
-use Rattle.mini_stmt.specs.MinimizeBody.{leaves, leaves_early, ends_bare, is_ended, EarlyAt, turned, DropsLast, EndRests, EndsBody, MinimizesBody, QuietRests}
+use Rattle.mini_stmt.specs.SpreadBlock.{body_of}
+use Rattle.mini_stmt.specs.MinimizeBody.{leaves, leaves_by_block, is_guard, may_nest, leaves_early, ends_bare, is_ended, EarlyAt, Turned, TurnedAt, Turns, AllTurned, DropsLast, EndRests, EndsBody, MinimizesBody, QuietRests}
 use Rattle.mini_stmt.proofs.Parts.{not_true, not_false}
 use Rattle.mini_stmt.proofs.Guards.{last_pushed, list_no_row}
+
+-- ---- guards
+
+bare_is : (t : Tree) → returns_nothing t ≡ true → t ≡ bare_return
+bare_is t e =
+    let (returns, nothing) = and_parts (is_return_statement t) (is_absent_part (part t 0)) e in
+    return_statement_is t returns ∙ ap return_statement (absent_is (part t 0) nothing)
+
+first_unscoped : (a b : Trees) → are_unscoped (append a b) ≡ true → are_unscoped a ≡ true
+first_unscoped none b e = refl
+first_unscoped (t ▸ a) b e = let (x, y) = and_parts (is_unscoped t) (are_unscoped (append a b)) e in ap (λ c. c && are_unscoped a) x ∙ first_unscoped a b y
+
+with_return : (ts : Trees) → are_unscoped ts ≡ true → are_unscoped (append ts (bare_return ▸ none)) ≡ true
+with_return none e = refl
+with_return (t ▸ ts) e = let (x, y) = and_parts (is_unscoped t) (are_unscoped ts) e in ap (λ c. c && are_unscoped (append ts (bare_return ▸ none))) x ∙ with_return ts y
+
+-- what a row reads is a guard, and what follows may nest
+by_block : (test : Tree) (body : Trees) → are_unscoped body ≡ true → is_guard (if_alone test (block (append body (bare_return ▸ none)))) ≡ true
+by_block test body e = ap (λ b. b && are_unscoped (append body (bare_return ▸ none))) (ap returns_nothing (last_pushed absent body bare_return)) ∙ with_return body e
+
+nests : (ts : Trees) → are_unscoped ts ≡ true → are_shallow 64 ts ≡ true → may_nest ts ≡ true
+nests ts e f = ap (λ b. b && are_shallow 64 ts) e ∙ f
+
+pub bare_turned : (guard : Tree) (rest : Trees) → leaves guard ≡ true → may_nest rest ≡ true → (made : Tree) → made ≡ if_alone (negation (part guard 0)) (block rest) → Turned guard rest made
+bare_turned guard rest e f made g =
+    let (alone, bare) = and_parts (is_if_alone guard) (returns_nothing (part guard 1)) e in
+    let (loose, shallow) = and_parts (are_unscoped rest) (are_shallow 64 rest) f in
+    inl (record { test = part guard 0; rest = rest; unscoped = loose; shallow = shallow; shape = ap (λ t. t ▸ rest) (if_alone_is guard alone ∙ ap (if_alone (part guard 0)) (bare_is (part guard 1) bare)); written = ap (λ t. t ▸ none) g })
+
+pub block_ends_bare : (guard : Tree) → leaves_by_block guard ≡ true → ends_bare (body_of (part guard 1)) ≡ true
+block_ends_bare guard e =
+    let (alone, inner) = and_parts (is_if_alone guard) (is_block (part guard 1) && (ends_bare (body_of (part guard 1)) && are_unscoped (body_of (part guard 1)))) e in
+    let (is, list) = and_parts (is_block (part guard 1)) (ends_bare (body_of (part guard 1)) && are_unscoped (body_of (part guard 1))) inner in
+    (and_parts (ends_bare (body_of (part guard 1))) (are_unscoped (body_of (part guard 1))) list).0
+
+pub block_turned : (guard : Tree) (rest : Trees) → leaves_by_block guard ≡ true → may_nest rest ≡ true → (body : Trees) → DropsLast (body_of (part guard 1)) body → (made : Tree) → made ≡ if_else (part guard 0) (block body) (alternate_of rest) → Turned guard rest made
+block_turned guard rest e f body d made g =
+    let (alone, inner) = and_parts (is_if_alone guard) (is_block (part guard 1) && (ends_bare (body_of (part guard 1)) && are_unscoped (body_of (part guard 1)))) e in
+    let (is, list) = and_parts (is_block (part guard 1)) (ends_bare (body_of (part guard 1)) && are_unscoped (body_of (part guard 1))) inner in
+    let (bare, free) = and_parts (ends_bare (body_of (part guard 1))) (are_unscoped (body_of (part guard 1))) list in
+    let (loose, shallow) = and_parts (are_unscoped rest) (are_shallow 64 rest) f in
+    let whole = d.is ∙ ap (λ t. append body (t ▸ none)) (bare_is d.last d.bare) in
+    inr (record {
+      test = part guard 0;
+      body = body;
+      rest = rest;
+      loose = first_unscoped body (bare_return ▸ none) (sym (ap are_unscoped whole) ∙ free);
+      unscoped = loose;
+      shallow = shallow;
+      shape = ap (λ t. t ▸ rest) (if_alone_is guard alone ∙ ap (if_alone (part guard 0)) (block_is (part guard 1) is ∙ ap block whole));
+      written = ap (λ t. t ▸ none) g;
+    })
+
+pub turned_by : (guard : Tree) (rest : Trees) (made : Tree) (r : Result Tree OutOfMemory) → Turned guard rest made → IfOk r (λ t. t ≡ made) → IfOk r (Turned guard rest)
+turned_by guard rest made (Err e) k h = h
+turned_by guard rest made (Ok t) k h = subst (Turned guard rest) (sym h) k
 
 -- ---- what is done in a list may be done in a body's
 
@@ -59,11 +117,6 @@ module _ (o : Switches) where
       let row : ListRow o BodyList n w = inr r in
       record { next = w; step = here BodyList n w (record { row = row; lighter = lists_lighter o BodyList n w row }); others = done BodyList w }
 
-  bare_is : (t : Tree) → returns_nothing t ≡ true → t ≡ bare_return
-  bare_is t e =
-      let (returns, nothing) = and_parts (is_return_statement t) (is_absent_part (part t 0)) e in
-      return_statement_is t returns ∙ ap return_statement (absent_is (part t 0) nothing)
-
   last_row : (ts us : Trees) → DropsLast ts us → AtEnd (EndRow o bare_return) (listed ts) (listed us)
   last_row ts us d = record {
     before = us;
@@ -84,29 +137,34 @@ module _ (o : Switches) where
   parts_there (t ▸ (u ▸ ts)) zero h = refl
   parts_there (t ▸ ts) (suc i) h = ap (λ us. t ▸ us) (parts_there ts i (omega (arith, h)))
 
-  guard_is : (t : Tree) → leaves t ≡ true → t ≡ if_alone (part t 0) bare_return
-  guard_is t e =
-      let (alone, bare) = and_parts (is_if_alone t) (returns_nothing (part t 1)) e in
-      if_alone_is t alone ∙ ap (if_alone (part t 0)) (bare_is (part t 1) bare)
-
-  early_row : o.sequences ≡ true → (ts us : Trees) (i : ℕ) → EarlyAt ts (Some i) → us ≡ append (first_children i ts) (turned (child_or_absent ts i) (rest_children (i + 1) ts) ▸ none) → AtEnd (EndRow o bare_return) (listed ts) (listed us)
-  early_row s ts us i (within, leaving, loose) e = record {
+  turned_row : o.sequences ≡ true → (ts us : Trees) (i : ℕ) → i < count ts → TurnedAt ts i us → AtEnd (EndRow o bare_return) (listed ts) (listed us)
+  turned_row s ts us i within d = record {
     before = first_children i ts;
     read = child_or_absent ts i ▸ rest_children (suc i) ts;
-    put = turned (child_or_absent ts i) (rest_children (suc i) ts) ▸ none;
-    row = inr (s, record { test = part (child_or_absent ts i) 0; rest = rest_children (suc i) ts; unscoped = loose; shape = ap (λ t. t ▸ rest_children (suc i) ts) (guard_is (child_or_absent ts i) leaving); written = refl });
+    put = d.made ▸ none;
+    row = inr (s, d.row);
     shape = ap listed (parts_there ts i within);
-    written = ap listed (e ∙ ap (λ k. append (first_children i ts) (turned (child_or_absent ts i) (rest_children k ts) ▸ none)) next);
+    written = ap listed d.is;
   }
-    where
-      next : i + 1 ≡ suc i
-      next = omega arith
+
+  pub turned_lighter : o.sequences ≡ true → (ts us : Trees) (i : ℕ) → i < count ts → TurnedAt ts i us → weight BodyList (listed us) < weight BodyList (listed ts)
+  turned_lighter s ts us i within d = lists_lighter o BodyList (listed ts) (listed us) (inr (turned_row s ts us i within d))
+
+  reaches_then : {t u v : Tree} → Reaches R BodyList t u → Reaches R BodyList u v → Reaches R BodyList t v
+  reaches_then (done _ t) k = k
+  reaches_then (more _ t u v s r) k = more BodyList t u _ s (reaches_then r k)
+
+  pub turns_more : (ts us vs : Trees) (b : Bool) (i : ℕ) → o.sequences ≡ true → Turns o ts us b → i < count us → TurnedAt us i vs → Turns o ts vs true
+  turns_more ts us vs true i s m within d =
+      let k = row_moves (listed us) (listed vs) (turned_row s us vs i within d) in
+      record { next = m.next; step = m.step; others = reaches_then m.others (more BodyList (listed us) k.next (listed vs) k.step k.others) }
+  turns_more ts us vs false i s m within d = subst (λ x. Moves R BodyList (listed x) (listed vs)) m (row_moves (listed us) (listed vs) (turned_row s us vs i within d))
 
   -- a row reads what the tests tell
 
-  early_in : (before ts : Trees) (t : Tree) → leaves t ≡ true → are_unscoped ts ≡ true → leaves_early (append before (t ▸ ts)) ≡ true
-  early_in none ts t e f = ap (λ b. (b && are_unscoped ts) || leaves_early ts) e ∙ ap (λ b. b || leaves_early ts) f
-  early_in (c ▸ before) ts t e f = ap (λ b. (leaves c && are_unscoped (append before (t ▸ ts))) || b) (early_in before ts t e f) ∙ always (leaves c && are_unscoped (append before (t ▸ ts)))
+  early_in : (before ts : Trees) (t : Tree) → is_guard t ≡ true → may_nest ts ≡ true → leaves_early (append before (t ▸ ts)) ≡ true
+  early_in none ts t e f = ap (λ b. (b && may_nest ts) || leaves_early ts) e ∙ ap (λ b. b || leaves_early ts) f
+  early_in (c ▸ before) ts t e f = ap (λ b. (is_guard c && may_nest (append before (t ▸ ts))) || b) (early_in before ts t e f) ∙ always (is_guard c && may_nest (append before (t ▸ ts)))
     where
       always : (b : Bool) → b || true ≡ true
       always true = refl
@@ -115,9 +173,13 @@ module _ (o : Switches) where
   no_end_row : (ts : Trees) → ends_bare ts ≡ false → (o.sequences ≡ true → leaves_early ts ≡ false) → EndRests o (listed ts)
   no_end_row ts e f w r = go r.row
     where
+      early : o.sequences ≡ true → (t : Tree) (rest : Trees) → r.read ≡ t ▸ rest → is_guard t ≡ true → may_nest rest ≡ true → ⊥
+      early s t rest h g k = true≢false (sym (ap leaves_early (ap children r.shape ∙ ap (append r.before) h) ∙ early_in r.before rest t g k) ∙ f s)
+
       go : EndRow o bare_return r.read r.put → ⊥
       go (inl m) = true≢false (sym (ap (λ us. ends_bare us) (ap children r.shape ∙ ap (append r.before) m.shape) ∙ ap returns_nothing (last_pushed absent r.before bare_return)) ∙ e)
-      go (inr (s, m)) = true≢false (sym (ap leaves_early (ap children r.shape ∙ ap (append r.before) m.shape) ∙ early_in r.before m.rest (if_alone m.test bare_return) refl m.unscoped) ∙ f s)
+      go (inr (s, inl m)) = early s (if_alone m.test bare_return) m.rest m.shape refl (nests m.rest m.unscoped m.shallow)
+      go (inr (s, inr m)) = early s (if_alone m.test (block (append m.body (bare_return ▸ none)))) m.rest m.shape (by_block m.test m.body m.loose) (nests m.rest m.unscoped m.shallow)
 
   pub other_ends : (t : Tree) → is_listed t ≡ false → EndsBody o t t false
   other_ends t l = (refl, λ w r. true≢false (sym (ap is_listed r.shape) ∙ l))
@@ -127,10 +189,17 @@ module _ (o : Switches) where
       subst (λ x. Moves R BodyList x (with_children t us)) (sym (listed_is t l))
       (subst (Moves R BodyList (listed (children t))) (sym (ap (λ x. with_children x us) (listed_is t l))) (row_moves (listed (children t)) (listed us) (last_row (children t) us d)))
 
-  pub early_ends : (t : Tree) (us : Trees) (i : ℕ) → o.sequences ≡ true → is_listed t ≡ true → EarlyAt (children t) (Some i) → us ≡ append (first_children i (children t)) (turned (child_or_absent (children t) i) (rest_children (i + 1) (children t)) ▸ none) → EndsBody o t (with_children t us) true
-  early_ends t us i s l e f =
+  pub turned_ends : (t : Tree) (us : Trees) (b : Bool) → o.sequences ≡ true → is_listed t ≡ true → ends_bare (children t) ≡ false → AllTurned (children t) us b → EndsBody o t (with_children t us) b
+  turned_ends t us true s l e d =
       subst (λ x. Moves R BodyList x (with_children t us)) (sym (listed_is t l))
-      (subst (Moves R BodyList (listed (children t))) (sym (ap (λ x. with_children x us) (listed_is t l))) (row_moves (listed (children t)) (listed us) (early_row s (children t) us i e f)))
+      (subst (Moves R BodyList (listed (children t))) (sym (ap (λ x. with_children x us) (listed_is t l))) (d.changes o s))
+  turned_ends t us false s l e d =
+      let same = d.changes o s in
+      (ap (λ x. with_children x us) (listed_is t l) ∙ ap listed same ∙ sym (listed_is t l), subst (EndRests o) (sym (listed_is t l)) (no_end_row (children t) e (λ z. sym (ap leaves_early same) ∙ d.rests)))
+
+  pub all_turned_end : (t : Tree) (ts us : Trees) (r : Result Bool OutOfMemory) → o.sequences ≡ true → is_listed t ≡ true → ends_bare (children t) ≡ false → ts ≡ children t → IfOk r (λ b. AllTurned ts us b) → IfOk r (λ b. EndsBody o t (with_children t us) b)
+  all_turned_end t ts us (Err e) s l f h d = d
+  all_turned_end t ts us (Ok b) s l f h d = turned_ends t us b s l f (subst (λ x. AllTurned x us b) h d)
 
   pub nothing_ends : (t : Tree) → is_listed t ≡ true → ends_bare (children t) ≡ false → (o.sequences ≡ true → leaves_early (children t) ≡ false) → EndsBody o t t false
   nothing_ends t l e f = (refl, subst (EndRests o) (sym (listed_is t l)) (no_end_row (children t) e f))
@@ -170,39 +239,51 @@ no_row o t q e p f w r = absurd r
 
 -- ---- the last one that leaves early
 
--- from a place on nothing is scoped, and none leaves
+-- from a place on nothing is scoped, and no guard leaves
 abbrev pub Passed : Trees → ℕ → Type 0
 Passed ts k = (are_unscoped (rest_children k ts) ≡ true) × (leaves_early (rest_children k ts) ≡ false)
 
 pub passed_start : (ts : Trees) (k : ℕ) → k ≡ count ts → Passed ts k
 passed_start ts k e = let ends = no_rest ts k (omega (arith, e)) in (ap are_unscoped ends, ap leaves_early ends)
 
-pub passed_on : (ts : Trees) (i k : ℕ) → i < count ts → k ≡ suc i → is_unscoped (child_or_absent ts i) ≡ true → leaves (child_or_absent ts i) ≡ false → Passed ts k → Passed ts i
+pub passed_on : (ts : Trees) (i k : ℕ) → i < count ts → k ≡ suc i → is_unscoped (child_or_absent ts i) ≡ true → is_guard (child_or_absent ts i) ≡ false → Passed ts k → Passed ts i
 passed_on ts i k h e u l p =
     let next = next_child ts i h in
     let there = subst (Passed ts) e p in
-    (ap are_unscoped next ∙ ap (λ b. b && are_unscoped (rest_children (suc i) ts)) u ∙ there.0, ap leaves_early next ∙ ap (λ b. (b && are_unscoped (rest_children (suc i) ts)) || leaves_early (rest_children (suc i) ts)) l ∙ there.1)
+    (ap are_unscoped next ∙ ap (λ b. b && are_unscoped (rest_children (suc i) ts)) u ∙ there.0, ap leaves_early next ∙ ap (λ b. (b && may_nest (rest_children (suc i) ts)) || leaves_early (rest_children (suc i) ts)) l ∙ there.1)
 
-pub passed_early : (ts : Trees) (i k : ℕ) → i < count ts → k ≡ suc i → leaves (child_or_absent ts i) ≡ true → Passed ts k → EarlyAt ts (Some i)
-passed_early ts i k h e l p = (h, l, (subst (Passed ts) e p).0)
+pub passed_early : (ts : Trees) (i k j : ℕ) → i < count ts → k ≡ suc i → j ≡ suc i → is_guard (child_or_absent ts i) ≡ true → are_shallow 64 (rest_children j ts) ≡ true → Passed ts k → EarlyAt ts (Some i)
+passed_early ts i k j h e f l d p = (h, l, nests (rest_children (suc i) ts) (subst (Passed ts) e p).0 (sym (ap (λ m. are_shallow 64 (rest_children m ts)) f) ∙ d))
 
--- before a statement that is scoped none leaves
-scoped_stops : (ts : Trees) (i : ℕ) → are_unscoped (rest_children i ts) ≡ false → leaves_early (rest_children i ts) ≡ false → (leaves_early ts ≡ false) × (are_unscoped ts ≡ false)
-scoped_stops none i u e = absurd (true≢false u)
-scoped_stops (t ▸ ts) zero u e = (e, u)
-scoped_stops (t ▸ ts) (suc i) u e =
-    let (early, loose) = scoped_stops ts i u e in
-    (ap (λ b. (leaves t && b) || leaves_early ts) loose ∙ ap (λ b. b || leaves_early ts) (never (leaves t)) ∙ early, ap (λ b. is_unscoped t && b) loose ∙ never (is_unscoped t))
+-- before statements of which one is scoped, or which nest too deep, none leaves
+stays : (a b c d : Bool) → b && d ≡ false → (a && b) && (c && d) ≡ false
+stays false b c d e = refl
+stays true false c d e = refl
+stays true true false d e = refl
+stays true true true d e = e
+
+nest_stops : (ts : Trees) (i : ℕ) → may_nest (rest_children i ts) ≡ false → leaves_early (rest_children i ts) ≡ false → (leaves_early ts ≡ false) × (may_nest ts ≡ false)
+unfolding are_shallow
+nest_stops none i u e = absurd (true≢false u)
+nest_stops (t ▸ ts) zero u e = (e, u)
+nest_stops (t ▸ ts) (suc i) u e =
+    let (early, loose) = nest_stops ts i u e in
+    (ap (λ b. (is_guard t && b) || leaves_early ts) loose ∙ ap (λ b. b || leaves_early ts) (never (is_guard t)) ∙ early, stays (is_unscoped t) (are_unscoped ts) (is_shallow 64 t) (are_shallow 64 ts) loose)
   where
     never : (b : Bool) → b && false ≡ false
     never true = refl
     never false = refl
 
-pub passed_stops : (ts : Trees) (i k : ℕ) → i < count ts → k ≡ suc i → is_unscoped (child_or_absent ts i) ≡ false → leaves (child_or_absent ts i) ≡ false → Passed ts k → EarlyAt ts None
+pub passed_deep : (ts : Trees) (i k j : ℕ) → k ≡ suc i → j ≡ suc i → are_shallow 64 (rest_children j ts) ≡ false → Passed ts k → EarlyAt ts None
+passed_deep ts i k j e f d p =
+    let there = subst (Passed ts) e p in
+    (nest_stops ts (suc i) (ap (λ b. b && are_shallow 64 (rest_children (suc i) ts)) there.0 ∙ sym (ap (λ m. are_shallow 64 (rest_children m ts)) f) ∙ d) there.1).0
+
+pub passed_stops : (ts : Trees) (i k : ℕ) → i < count ts → k ≡ suc i → is_unscoped (child_or_absent ts i) ≡ false → is_guard (child_or_absent ts i) ≡ false → Passed ts k → EarlyAt ts None
 passed_stops ts i k h e u l p =
     let next = next_child ts i h in
     let there = subst (Passed ts) e p in
-    (scoped_stops ts i (ap are_unscoped next ∙ ap (λ b. b && are_unscoped (rest_children (suc i) ts)) u) (ap leaves_early next ∙ ap (λ b. (b && are_unscoped (rest_children (suc i) ts)) || leaves_early (rest_children (suc i) ts)) l ∙ there.1)).0
+    (nest_stops ts i (ap may_nest next ∙ ap (λ b. (b && are_unscoped (rest_children (suc i) ts)) && are_shallow 64 (child_or_absent ts i ▸ rest_children (suc i) ts)) u) (ap leaves_early next ∙ ap (λ b. (b && may_nest (rest_children (suc i) ts)) || leaves_early (rest_children (suc i) ts)) l ∙ there.1)).0
 
 pub passed_all : (ts : Trees) (k : ℕ) → k ≡ 0 → Passed ts k → EarlyAt ts None
 passed_all ts k e p = sym (ap leaves_early (from_first ts)) ∙ (subst (Passed ts) e p).1
@@ -223,10 +304,13 @@ drops_last ts us last e f = record { last = last; is = f; bare = sym (ap returns
 pub some_rest : (ts : Trees) (i : ℕ) → i < count ts → 0 < count (rest_children i ts)
 some_rest ts i h = let next = ap count (next_child ts i h) in omega (arith, next)
 
-pub turned_there : (ts : Trees) (i : ℕ) → i < count ts → (init rest others : Trees) (guard made : Tree) (us : Trees) → init ≡ first_children i ts → rest ≡ rest_children i ts → guard ≡ child_or_absent rest 0 → others ≡ without rest 0 → made ≡ turned guard others → us ≡ append init (made ▸ none) → us ≡ append (first_children i ts) (turned (child_or_absent ts i) (rest_children (i + 1) ts) ▸ none)
-turned_there ts i h init rest others guard made us a b c d e f =
+-- the guard and what follows
+pub rest_there : (ts : Trees) (i : ℕ) → i < count ts → (rest others : Trees) (guard : Tree) → rest ≡ rest_children i ts → guard ≡ child_or_absent rest 0 → others ≡ without rest 0 → (guard ≡ child_or_absent ts i) × (others ≡ rest_children (suc i) ts)
+rest_there ts i h rest others guard b c d =
     let there = b ∙ next_child ts i h in
-    let other : suc i ≡ i + 1 = omega arith in
-    let is = c ∙ ap (λ x. child_or_absent x 0) there in
-    let left = d ∙ ap (λ x. without x 0) there ∙ ap (λ k. rest_children k ts) other in
-    f ∙ ap (λ x. append x (made ▸ none)) a ∙ ap (λ x. append (first_children i ts) (x ▸ none)) (e ∙ ap (λ x. turned x others) is ∙ ap (turned (child_or_absent ts i)) left)
+    (c ∙ ap (λ x. child_or_absent x 0) there, d ∙ ap (λ x. without x 0) there)
+
+pub turned_there : (ts : Trees) (i : ℕ) → i < count ts → (init rest others : Trees) (guard made : Tree) (us : Trees) → init ≡ first_children i ts → rest ≡ rest_children i ts → guard ≡ child_or_absent rest 0 → others ≡ without rest 0 → Turned guard others made → us ≡ append init (made ▸ none) → TurnedAt ts i us
+turned_there ts i h init rest others guard made us a b c d e f =
+    let (x, y) = rest_there ts i h rest others guard b c d in
+    record { made = made; row = subst (λ t. Turned t (rest_children (suc i) ts) made) x (subst (λ s. Turned guard s made) y e); is = f ∙ ap (λ s. append s (made ▸ none)) a }

@@ -1,6 +1,6 @@
--- 74: an `if` that ends in a jump, and the next one that has its branch.
+-- 74: an `if` that ends in a jump, and the next one that has its branch. 77: what never runs.
 use Rattle.std.proofs.Common.{◌≡◌, ℕ, zero, suc, ◌+◌, ◌<◌, ◌≤◌, Bool, true, false, refl, sym, ap, ◌∙◌, subst, inl, inr, true≢false, arith}
-use Rattle.std.specs.Prelude.{not, ◌&&◌, ◌||◌, Result, Ok, Err, IfOk}
+use Rattle.std.specs.Prelude.{◌⊎◌, not, ◌&&◌, ◌||◌, if◌then◌else◌, Result, Ok, Err, IfOk}
 use Rattle.std.proofs.lemmas.Bool.{and_parts, false≢true}
 use Rattle.mini_model.specs.declared.place.Position.{Position}
 use Rattle.mini_model.specs.declared.place.Position.TheVariants.{StatementList}
@@ -9,27 +9,41 @@ use Rattle.mini_model.specs.Paths.{append}
 use Rattle.mini_node.specs.Children.{part, rest_children}
 use Rattle.mini_node.specs.Equal.{same_tree}
 use Rattle.mini_node.specs.Lends.{with_children}
-use Rattle.mini_node.specs.Kinds.{is_listed, is_if_alone, is_if_statement}
-use Rattle.mini_node.specs.Made.{listed_is, if_alone_is, if_statement_is}
+use Rattle.mini_node.specs.Kinds.{is_listed, is_expression_statement, is_if_alone, is_if_statement, is_return_statement, is_throw_statement}
+use Rattle.mini_node.specs.Made.{listed_is, expression_statement_is, if_alone_is, if_statement_is, return_statement_is, throw_statement_is}
+use Rattle.mini_terms.specs.Parts.{leaves_nothing}
 use Rattle.mini_node.specs.Walks.{from_first, next_child, no_rest, append_one}
 use Rattle.mini_node.proofs.Equality.{tree_same, tree_itself}
-use Rattle.mini_text.specs.declared.memory.OutOfMemory.{OutOfMemory}
+use Rattle.mini_model.specs.declared.memory.OutOfMemory.{OutOfMemory}
 use Rattle.mini_rows.specs.Switches.{Switches}
-use Rattle.mini_rows.specs.Lists.{is_terminated, Row74, StretchRow, GuardsRow, NeighbourRow, InList}
+use Rattle.mini_rows.specs.Lists.{is_terminated, is_shallow, Row74, StretchRow, GuardsRow, NeighbourRow, InList, Saying, AsStatement, AsReturn, AsThrow, says, Row77}
 use Rattle.mini_stmt.specs.MinimizeStatements as list
 use Rattle.mini_stmt.specs.MinimizeStatements.{Changes, is_quiet, StretchRests, JoinsStatements, MinimizesList}
-use Rattle.mini_stmt.specs.JoinGuards.{meets, met, meet_first, are_apart, is_apart, last_after, meets_last, PutJoined, Joined, Rests, JoinsGuards}
+use Rattle.mini_stmt.specs.JoinGuards.{are_guards, both_guards, may_go, ends_before, meets, met, meet_first, are_apart, is_apart, last_after, meets_last, PutJoined, Joined, Rests, JoinsGuards}
 use Rattle.mini_stmt.proofs.Parts.{not_true}
 use Rattle.mini_stmt.proofs.Quiet.{quiet_rests}
 use Rattle.mini_stmt.proofs.Stepping.{neighbours_in, steps_on}
 
 -- ---- two statements
 
-pub meets_row : (t u : Tree) → meets t u ≡ true → Row74 (t ▸ (u ▸ none)) (met t u ▸ none)
-meets_row t u e =
-    let (first, x) = and_parts (is_if_alone t) (is_terminated (part t 1) && (is_if_statement u && same_tree (part t 1) (part u 1))) e in
-    let (ends, y) = and_parts (is_terminated (part t 1)) (is_if_statement u && same_tree (part t 1) (part u 1)) x in
-    let (second, same) = and_parts (is_if_statement u) (same_tree (part t 1) (part u 1)) y in
+-- a statement of an expression
+record Says (u : Tree) : Type 0 where
+  saying : Saying
+  is : u ≡ says saying (part u 0)
+
+-- two that meet
+record Pair (a : Trees) : Type 0 where
+  first : Tree
+  next : Tree
+  is : a ≡ first ▸ (next ▸ none)
+  meet : meets first next ≡ true
+
+guards_row : (t u : Tree) → are_guards t u ≡ true → Row74 (t ▸ (u ▸ none)) (both_guards t u ▸ none)
+guards_row t u e =
+    let (first, x) = and_parts (is_if_alone t) (is_terminated (part t 1) && (is_if_statement u && (same_tree (part t 1) (part u 1) && is_shallow 64 (part t 0)))) e in
+    let (ends, y) = and_parts (is_terminated (part t 1)) (is_if_statement u && (same_tree (part t 1) (part u 1) && is_shallow 64 (part t 0))) x in
+    let (second, z) = and_parts (is_if_statement u) (same_tree (part t 1) (part u 1) && is_shallow 64 (part t 0)) y in
+    let (same, shallow) = and_parts (same_tree (part t 1) (part u 1)) (is_shallow 64 (part t 0)) z in
     let branch = tree_same (part t 1) (part u 1) same in
     record {
       left = part t 0;
@@ -37,12 +51,54 @@ meets_row t u e =
       s = part u 1;
       u = part u 2;
       terminated = sym (ap is_terminated branch) ∙ ends;
+      shallow = shallow;
       shape = λ i. (if_alone_is t first ∙ ap (if_alone (part t 0)) branch) i ▸ (if_statement_is u second i ▸ none);
       written = refl;
     }
 
-row_meets : (left right s u : Tree) → is_terminated s ≡ true → meets (if_alone left s) (if_else right s u) ≡ true
-row_meets left right s u e = ap (λ b. b && same_tree s s) e ∙ tree_itself s
+says_for : (u : Tree) → (is_expression_statement u || (is_return_statement u || is_throw_statement u)) ≡ true → Says u
+says_for u e = by (is_expression_statement u) refl (is_return_statement u) refl
+  where
+    by : (b : Bool) → is_expression_statement u ≡ b → (c : Bool) → is_return_statement u ≡ c → Says u
+    by true f c g = record { saying = AsStatement; is = expression_statement_is u f }
+    by false f true g = record { saying = AsReturn; is = return_statement_is u g }
+    by false f false g = record { saying = AsThrow; is = throw_statement_is u (sym (ap (λ b. b || (is_return_statement u || is_throw_statement u)) f ∙ ap (λ b. b || is_throw_statement u) g) ∙ e) }
+
+gone_row : (t u : Tree) → ends_before t u ≡ true → Row77 (t ▸ (u ▸ none)) (t ▸ none)
+gone_row t u e =
+    let (ends, x) = and_parts (is_terminated t) (may_go u) e in
+    let (kind, free) = and_parts (is_expression_statement u || (is_return_statement u || is_throw_statement u)) (leaves_nothing (part u 0)) x in
+    let said = says_for u kind in
+    record { first = t; saying = said.saying; e = part u 0; terminated = ends; dropped = free; shape = ap (λ v. t ▸ (v ▸ none)) said.is; written = refl }
+
+pub meets_row : (t u : Tree) → meets t u ≡ true → Row74 (t ▸ (u ▸ none)) (met t u ▸ none) ⊎ Row77 (t ▸ (u ▸ none)) (met t u ▸ none)
+meets_row t u e = by (ends_before t u) refl
+  where
+    by : (b : Bool) → ends_before t u ≡ b → Row74 (t ▸ (u ▸ none)) (met t u ▸ none) ⊎ Row77 (t ▸ (u ▸ none)) (met t u ▸ none)
+    by true f = inr (subst (λ v. Row77 (t ▸ (u ▸ none)) (v ▸ none)) (sym (ap (λ b. if b then t else both_guards t u) f)) (gone_row t u f))
+    by false f = inl (subst (λ v. Row74 (t ▸ (u ▸ none)) (v ▸ none)) (sym (ap (λ b. if b then t else both_guards t u) f)) (guards_row t u (sym (ap (λ b. b || are_guards t u) f) ∙ e)))
+
+always : (b : Bool) → b || true ≡ true
+always true = refl
+always false = refl
+
+-- a row reads what meets
+guards_meet : (left right s u : Tree) → is_terminated s ≡ true → is_shallow 64 left ≡ true → meets (if_alone left s) (if_else right s u) ≡ true
+guards_meet left right s u e f =
+    ap (λ b. ends_before (if_alone left s) (if_else right s u) || b) (ap (λ b. b && (same_tree s s && is_shallow 64 left)) e ∙ ap (λ b. b && is_shallow 64 left) (tree_itself s) ∙ f)
+    ∙ always (ends_before (if_alone left s) (if_else right s u))
+
+says_go : (k : Saying) (e : Tree) → leaves_nothing e ≡ true → may_go (says k e) ≡ true
+says_go AsStatement e h = h
+says_go AsReturn e h = h
+says_go AsThrow e h = h
+
+gone_meets : (t : Tree) (k : Saying) (e : Tree) → is_terminated t ≡ true → leaves_nothing e ≡ true → meets t (says k e) ≡ true
+gone_meets t k e f h = ap (λ b. b || are_guards t (says k e)) (ap (λ b. b && may_go (says k e)) f ∙ says_go k e h)
+
+row_meets : (a b : Trees) → (r : Row74 a b ⊎ Row77 a b) → Pair a
+row_meets a b (inl r) = record { first = if_alone r.left r.s; next = if_else r.right r.s r.u; is = r.shape; meet = guards_meet r.left r.right r.s r.u r.terminated r.shallow }
+row_meets a b (inr r) = record { first = r.first; next = says r.saying r.e; is = r.shape; meet = gone_meets r.first r.saying r.e r.terminated r.dropped }
 
 -- ---- a list
 
@@ -52,10 +108,10 @@ meet_before t u after (c ▸ ts) e = meet_before t u after ts (and_parts (not (m
 
 guards_rest : (o : Switches) (ts : Trees) → is_apart o ts ≡ true → (w : Tree) → InList (GuardsRow o) (listed ts) w → ⊥
 guards_rest o ts e w r =
-    let m = r.row.1 in
+    let m = row_meets r.read r.put r.row.1 in
     let apart : are_apart ts ≡ true = sym (ap (λ b. not b || are_apart ts) r.row.0) ∙ e in
-    let is : ts ≡ append r.before (if_alone m.left m.s ▸ (if_else m.right m.s m.u ▸ r.after)) = ap children r.shape ∙ ap (λ a. append r.before (append a r.after)) m.shape in
-    true≢false (sym (row_meets m.left m.right m.s m.u m.terminated) ∙ meet_before (if_alone m.left m.s) (if_else m.right m.s m.u) r.after r.before (sym (ap are_apart is) ∙ apart))
+    let is : ts ≡ append r.before (m.first ▸ (m.next ▸ r.after)) = ap children r.shape ∙ ap (λ a. append r.before (append a r.after)) m.is in
+    true≢false (sym m.meet ∙ meet_before m.first m.next r.after r.before (sym (ap are_apart is) ∙ apart))
 
 pub apart_rests : (o : Switches) (ts : Trees) → is_apart o ts ≡ true → (p : Position) → Rests o p (listed ts)
 apart_rests o ts e StatementList w r = guards_rest o ts e w r

@@ -6,8 +6,8 @@ use Rattle.mini_model.specs.declared.operator.UnaryOperator.TheVariants.{Logical
 use Rattle.mini_model.specs.declared.shape.Shape.TheVariants as shape
 use Rattle.mini_model.specs.Tree.{Tree, Trees, node, none, ◌▸◌, shape_of, children, count, child_or_absent, node_count, node_counts}
 use Rattle.mini_node.specs.Children.{part, with_part, with_child, rest_children}
-use Rattle.mini_node.specs.Walks.{next_child, no_rest}
-use Rattle.mini_rows.specs.Lists.{any, is_unscoped, are_unscoped, is_terminated, are_terminated, declares_nothing, has_alternates}
+use Rattle.mini_node.specs.Walks.{from_first, next_child, no_rest}
+use Rattle.mini_rows.specs.Lists.{any, is_unscoped, are_unscoped, is_terminated, are_terminated, declares_nothing, has_alternates, is_shallow, are_shallow}
 
 pub not_false : (b : Bool) → not b ≡ false → b ≡ true
 not_false true e = refl
@@ -108,6 +108,30 @@ unfolding has_alternates
 other_alternates zero t k s = absurd (k refl)
 other_alternates (suc k) (node shape.ConditionalExpression xs n ts) z s = absurd (s refl)
 other_alternates (suc k) (node h xs n ts) z s = refl
+
+-- ---- how deep nodes nest
+
+pub none_shallow : (t : Tree) → is_shallow 0 t ≡ false
+unfolding is_shallow
+none_shallow t = refl
+
+pub shallow_below : (k : ℕ) (t : Tree) → (k ≡ 0 → ⊥) → is_shallow k t ≡ are_shallow (k - 1) (rest_children 0 (children t))
+unfolding is_shallow
+shallow_below zero t z = absurd (z refl)
+shallow_below (suc k) (node h xs n ts) z = let same : suc k - 1 ≡ k = omega arith in sym (ap (λ j. are_shallow j (rest_children 0 ts)) same ∙ ap (are_shallow k) (from_first ts))
+
+module _ (k : ℕ) (ts : Trees) (b : Bool) where
+  pub shallow_stops : (i : ℕ) → i < count ts → is_shallow k (child_or_absent ts i) ≡ false → are_shallow k (rest_children i ts) ≡ b → false ≡ b
+  unfolding are_shallow
+  shallow_stops i h e inv = sym (ap (λ c. c && are_shallow k (rest_children (suc i) ts)) e) ∙ sym (ap (are_shallow k) (next_child ts i h)) ∙ inv
+
+  pub shallow_goes_on : (i : ℕ) → i < count ts → is_shallow k (child_or_absent ts i) ≡ true → are_shallow k (rest_children i ts) ≡ b → are_shallow k (rest_children (i + 1) ts) ≡ b
+  unfolding are_shallow
+  shallow_goes_on i h e inv = let next : i + 1 ≡ suc i = omega arith in ap (λ j. are_shallow k (rest_children j ts)) next ∙ sym (ap (λ c. c && are_shallow k (rest_children (suc i) ts)) e) ∙ sym (ap (are_shallow k) (next_child ts i h)) ∙ inv
+
+  pub shallow_ends : (i : ℕ) → count ts ≤ i → are_shallow k (rest_children i ts) ≡ b → true ≡ b
+  unfolding are_shallow
+  shallow_ends i h inv = sym (ap (are_shallow k) (no_rest ts i h)) ∙ inv
 
 -- ---- parts
 

@@ -1,5 +1,5 @@
--- 74: `if (a) s; if (b) s;` becomes `if (a || b) s`, where s ends in a jump.
-use Rattle.std.specs.Prelude.{◌≡◌, Bool, true, false, not, ◌&&◌, ◌||◌}
+-- 74: `if (a) s; if (b) s;` becomes `if (a || b) s`, where s ends in a jump. 77: `return a; b();` becomes `return a;`.
+use Rattle.std.specs.Prelude.{◌≡◌, Bool, true, false, not, ◌&&◌, ◌||◌, if◌then◌else◌}
 use Rattle.mini_model.specs.declared.operator.LogicalOperator.TheVariants.{Or}
 use Rattle.mini_model.specs.declared.place.Position.{Position}
 use Rattle.mini_model.specs.declared.place.Position.TheVariants.{StatementList}
@@ -7,20 +7,37 @@ use Rattle.mini_model.specs.Tree.{Tree, Trees, none, ◌▸◌, absent, listed, 
 use Rattle.mini_model.specs.Paths.{append}
 use Rattle.mini_node.specs.Children.{part}
 use Rattle.mini_node.specs.Equal.{same_tree}
-use Rattle.mini_node.specs.Kinds.{is_if_alone, is_if_statement}
+use Rattle.mini_node.specs.Kinds.{is_expression_statement, is_if_alone, is_if_statement, is_return_statement, is_throw_statement}
+use Rattle.mini_terms.specs.Parts.{leaves_nothing}
 use Rattle.mini_walk.specs.Rule as rule
 use Rattle.mini_rows.specs.Switches.{Switches}
-use Rattle.mini_rows.specs.Lists.{is_terminated, GuardsRow, InList, ListContracts}
+use Rattle.mini_rows.specs.Lists.{is_terminated, is_shallow, GuardsRow, InList, ListContracts}
 use Rattle.mini_stmt.specs.MinimizeStatements.{Changes, is_quiet}
 use Rattle.mini_stmt.specs.MinimizeStatements as list
 
--- `if (a) s`, and then an `if` with the branch s
+-- `if (a) s`, and then an `if` with the branch s, where a nests no deeper than 64
+abbrev pub are_guards : Tree → Tree → Bool
+are_guards t u = is_if_alone t && (is_terminated (part t 1) && (is_if_statement u && (same_tree (part t 1) (part u 1) && is_shallow 64 (part t 0))))
+
+-- `a;`, `return a;` or `throw a;`, which leaves nothing behind when it goes
+abbrev pub may_go : Tree → Bool
+may_go u = (is_expression_statement u || (is_return_statement u || is_throw_statement u)) && leaves_nothing (part u 0)
+
+-- a statement that ends in a jump, and one that never runs
+abbrev pub ends_before : Tree → Tree → Bool
+ends_before t u = is_terminated t && may_go u
+
+-- the two are one
 abbrev pub meets : Tree → Tree → Bool
-meets t u = is_if_alone t && (is_terminated (part t 1) && (is_if_statement u && same_tree (part t 1) (part u 1)))
+meets t u = ends_before t u || are_guards t u
 
 -- `if (a || b) s`, with the `else` of the second
+abbrev pub both_guards : Tree → Tree → Tree
+both_guards t u = if_else (logical Or (part t 0) (part u 0)) (part u 1) (part u 2)
+
+-- that one
 abbrev pub met : Tree → Tree → Tree
-met t u = if_else (logical Or (part t 0) (part u 0)) (part u 1) (part u 2)
+met t u = if ends_before t u then t else both_guards t u
 
 -- the first two of them
 abbrev pub meet_first : Trees → Bool

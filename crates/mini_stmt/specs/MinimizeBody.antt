@@ -1,44 +1,72 @@
 -- `minimize_body`: the list of a function's body, with the rows at its end: 78, the last `return;` goes, and 75,
--- `if (a) return; b; c;` becomes `if (!a) { b; c; }`.
-use Rattle.std.specs.Prelude.{◌≡◌, ◌<◌, ℕ, suc, Bool, true, false, not, ◌&&◌, ◌||◌, Option, Some, None}
+-- `if (a) return; b; c;` becomes `if (!a) { b; c; }`, and `if (a) { b; return; } c;` becomes `if (a) { b; } else { c; }`.
+use Rattle.std.specs.Prelude.{◌≡◌, ◌⊎◌, ◌<◌, ℕ, suc, Bool, true, false, not, ◌&&◌, ◌||◌, Option, Some, None}
 use Rattle.mini_model.specs.declared.place.Position.{Position}
 use Rattle.mini_model.specs.declared.place.Position.TheVariants.{BodyList}
-use Rattle.mini_model.specs.Tree.{Tree, Trees, none, ◌▸◌, count, child_or_absent, absent, listed, if_alone, negation}
+use Rattle.mini_model.specs.Tree.{Tree, Trees, none, ◌▸◌, count, child_or_absent, absent, listed}
 use Rattle.mini_model.specs.Paths.{append}
-use Rattle.mini_node.specs.Children.{part, rest_children}
-use Rattle.mini_node.specs.Kinds.{is_if_alone, block}
+use Rattle.mini_node.specs.Children.{part, first_children, rest_children}
+use Rattle.mini_node.specs.Kinds.{is_if_alone, is_block}
 use Rattle.mini_walk.specs.Rule as rule
 use Rattle.mini_rows.specs.Switches.{Switches}
-use Rattle.mini_rows.specs.Lists.{are_unscoped, bare_return, AtEnd, EndRow, ListContracts}
+use Rattle.mini_rows.specs.Lists.{are_unscoped, are_shallow, bare_return, Row75, Row75Block, AtEnd, EndRow, ListContracts}
 use Rattle.mini_stmt.specs.JoinGuards.{last_after, is_apart}
 use Rattle.mini_stmt.specs.JoinJumps.{returns_nothing}
 use Rattle.mini_stmt.specs.MinimizeStatements.{is_quiet, Rests}
+use Rattle.mini_stmt.specs.SpreadBlock.{body_of}
 
 -- `if (a) return;`
 abbrev pub leaves : Tree → Bool
 leaves t = is_if_alone t && returns_nothing (part t 1)
 
--- one of them, after which nothing is scoped
-abbrev pub leaves_early : Trees → Bool
-leaves_early none = false
-leaves_early (t ▸ ts) = (leaves t && are_unscoped ts) || leaves_early ts
-
 -- the last statement is `return;`
 abbrev pub ends_bare : Trees → Bool
 ends_bare ts = returns_nothing (last_after absent ts)
+
+-- `if (a) { b; return; }`, where b declares nothing in the block
+abbrev pub leaves_by_block : Tree → Bool
+leaves_by_block t = is_if_alone t && (is_block (part t 1) && (ends_bare (body_of (part t 1)) && are_unscoped (body_of (part t 1))))
+
+abbrev pub is_guard : Tree → Bool
+is_guard t = leaves t || leaves_by_block t
+
+-- what follows may go into a block
+abbrev pub may_nest : Trees → Bool
+may_nest ts = are_unscoped ts && are_shallow 64 ts
+
+-- a guard after which all may
+abbrev pub leaves_early : Trees → Bool
+leaves_early none = false
+leaves_early (t ▸ ts) = (is_guard t && may_nest ts) || leaves_early ts
 
 -- no row reads what the list ends with
 abbrev pub is_ended : Switches → Trees → Bool
 is_ended o ts = not (ends_bare ts) && (not o.sequences || not (leaves_early ts))
 
--- the place of one that leaves early, or there is none
+-- the place of such a guard, or there is none
 abbrev pub EarlyAt : Trees → Option ℕ → Type 0
-EarlyAt ts (Some i) = (i < count ts) × (leaves (child_or_absent ts i) ≡ true) × (are_unscoped (rest_children (suc i) ts) ≡ true)
+EarlyAt ts (Some i) = (i < count ts) × (is_guard (child_or_absent ts i) ≡ true) × (may_nest (rest_children (suc i) ts) ≡ true)
 EarlyAt ts None = leaves_early ts ≡ false
 
--- `if (!a) { b; c; }`, of `if (a) return;` and what follows
-abbrev pub turned : Tree → Trees → Tree
-turned t ts = if_alone (negation (part t 0)) (block ts)
+-- a guard and what follows, and what is written for both
+abbrev pub Turned : Tree → Trees → Tree → Type 0
+Turned t ts made = Row75 bare_return (t ▸ ts) (made ▸ none) ⊎ Row75Block bare_return (t ▸ ts) (made ▸ none)
+
+-- the guard at a place, with all that follows
+pub record TurnedAt (ts : Trees) (i : ℕ) (us : Trees) : Type 0 where
+  pub made : Tree
+  pub row : Turned (child_or_absent ts i) (rest_children (suc i) ts) made
+  pub is : us ≡ append (first_children i ts) (made ▸ none)
+
+-- steps at the end of a body's list, and at least one
+abbrev pub Turns : Switches → Trees → Trees → Bool → Type 0
+Turns o ts us true = rule.Moves (ListContracts o) BodyList (listed ts) (listed us)
+Turns o ts us false = us ≡ ts
+
+-- all guards are turned, or there is none to turn
+pub record AllTurned (ts us : Trees) (changed : Bool) : Type 0 where
+  pub changes : (o : Switches) → o.sequences ≡ true → Turns o ts us changed
+  pub rests : leaves_early us ≡ false
 
 -- the last statement, which is `return;`, is gone
 pub record DropsLast (ts us : Trees) : Type 0 where

@@ -3,9 +3,9 @@ use Rattle.std.proofs.Common.{◌≡◌, ℕ, zero, suc, ◌<◌, ◌≤◌, Boo
 use Rattle.std.specs.Prelude.{◌⊎◌, ◌&&◌, ◌||◌, not, is_some, if◌then◌else◌, ℤ, pos, negsuc}
 use Rattle.std.specs.Fmt.{signed_decimal}
 use Rattle.std.proofs.lemmas.Bool.{and_parts, or_parts, leb-true, le-leb, false≢true, eq-eqb}
-use Rattle.mini_text.specs.Texts.{is_identifier_name}
-use Rattle.mini_text.specs.Numerals.{max_safe_integer, IsSafe, safe_number}
-use Rattle.mini_text.proofs.Safe.{text_of_number, number_of_text}
+use Rattle.mini_model.specs.Texts.{is_identifier_name}
+use Rattle.mini_model.specs.Numerals.{max_safe_integer, IsSafe, safe_number}
+use Rattle.mini_model.proofs.Safe.{text_of_number, number_of_text}
 use Rattle.mini_model.specs.declared.kind.PropertyKind.{PropertyKind}
 use Rattle.mini_model.specs.declared.kind.PropertyKind.TheVariants.{Init, Get, Set}
 use Rattle.mini_model.specs.declared.name.Name.{Name}
@@ -106,13 +106,13 @@ whole_is : (n : ℤ) → is_whole n ≡ true → (m : ℕ) × ((n ≡ pos m) × 
 whole_is (pos m) e = (m, (refl, leb-true m max_safe_integer e))
 whole_is (negsuc m) e = absurd (false≢true e)
 
-abbrev OtherText : Bool → Tree → Type 0
+abbrev pub OtherText : Bool → Tree → Type 0
 OtherText plain k = (s : List ℕ) × ((k ≡ text s) × (plain && is_proto s ≡ false))
 
-abbrev SafeNumber : Tree → Type 0
+abbrev pub SafeNumber : Tree → Type 0
 SafeNumber k = (n : ℕ) × ((k ≡ numeral (pos n)) × IsSafe (pos n))
 
-literal_key_is : (plain : Bool) (k : Tree) → is_literal_key plain k ≡ true → OtherText plain k ⊎ SafeNumber k
+pub literal_key_is : (plain : Bool) (k : Tree) → is_literal_key plain k ≡ true → OtherText plain k ⊎ SafeNumber k
 literal_key_is plain (node (shape.StringLiteral s) xs n ts) e =
     let (bare, other) = and_parts (is_bare (node (shape.StringLiteral s) xs n ts) 0) (not (plain && is_proto s)) e in
     inl (s, (bare_is (shape.StringLiteral s) xs n ts bare, not_so (plain && is_proto s) other))

@@ -1,28 +1,29 @@
 -- The rewrite of keys of patterns and classes is that of the row, and where it writes nothing the row doesn't read the node.
-use Rattle.std.proofs.Common.{◌≡◌, ℕ, zero, Bool, true, false, List, [], Option, Some, None, refl, sym, ap, subst, ◌∙◌}
-use Rattle.std.specs.Prelude.{◌&&◌, ◌||◌, is_some, if◌then◌else◌, ℤ, pos}
+use Rattle.std.proofs.Common.{◌≡◌, ℕ, zero, Bool, true, false, List, [], Option, Some, None, refl, sym, ap, subst, ◌∙◌, inl, inr, arith}
+use Rattle.std.specs.Prelude.{◌⊎◌, ◌&&◌, ◌||◌, not, is_some, if◌then◌else◌, ℤ, pos}
 use Rattle.std.specs.Fmt.{signed_decimal}
-use Rattle.std.proofs.lemmas.Bool.{and_parts, false≢true}
-use Rattle.mini_text.specs.Texts.{is_identifier_name}
-use Rattle.mini_text.specs.Numerals.{safe_number}
-use Rattle.mini_text.proofs.Safe.{text_of_number, number_of_text}
+use Rattle.std.proofs.lemmas.Bool.{and_parts, le-leb, eqb-true, false≢true}
+use Rattle.mini_model.specs.Texts.{is_identifier_name}
+use Rattle.mini_model.specs.Numerals.{max_safe_integer, safe_number}
+use Rattle.mini_model.proofs.Safe.{text_of_number, number_of_text}
 use Rattle.mini_model.specs.declared.place.Position.{Position}
 use Rattle.mini_model.specs.declared.place.Position.TheVariants.{Elsewhere}
 use Rattle.mini_model.specs.declared.shape.Shape.TheVariants as shape
-use Rattle.mini_model.specs.Tree.{Tree, node, none, ◌▸◌, children}
-use Rattle.mini_node.specs.Children.{part, with_child}
+use Rattle.mini_model.specs.Tree.{Tree, node, none, ◌▸◌, shape_of, children, count}
+use Rattle.mini_node.specs.Children.{part, number_of, with_child}
 use Rattle.mini_node.specs.Kinds.{string}
 use Rattle.mini_node.specs.Lends.{with_children}
 use Rattle.mini_node.specs.Made.{string_is}
 use Rattle.mini_rows.specs.Spellings.{numeral, text}
-use Rattle.mini_rows.specs.KeyHolders.{Holder, a_binding, a_target, a_method, a_field, holding, Spelling, of_name, of_whole, IsSpelling, quoted, unquoted, Row52Held}
-use Rattle.mini_rows.proofs.HeldKeyMeaning.{held_keys_lighter}
+use Rattle.mini_rows.specs.KeyHolders.{Holder, a_binding, a_target, a_method, a_field, holding, Spelling, of_name, of_whole, IsSpelling, quoted, unquoted, Row52Held, Member, of_target, of_method, of_field, member_shape, in_brackets, PlainKey, a_word, a_count, plain_key, IsPlainKey, loses_brackets, Row52Bare, HeldKeyRow}
+use Rattle.mini_rows.proofs.KeysJoined.{held_keys_lighter}
 use Rattle.mini_walk.specs.Rule.{Applied}
 use Rattle.mini_walk.proofs.Reaching.{moves_once}
 use Rattle.mini_syntax.specs.ConvertToDottedProperties as dotted
 use Rattle.mini_syntax.specs.ConvertToDottedProperties.{is_name_text, as_name}
-use Rattle.mini_syntax.specs.SubstituteObjectProperty.{whole_of}
-use Rattle.mini_syntax.specs.SubstitutePropertyKey.{is_holder, names_key, key_number, respelled_by, respelled, respells, with_key, written, is_written, Gives, Rests, WrittenIsRow, UnwrittenRests}
+use Rattle.mini_syntax.specs.SubstituteObjectProperty.{is_literal_key, whole_of}
+use Rattle.mini_syntax.proofs.Keys.{OtherText, SafeNumber, literal_key_is}
+use Rattle.mini_syntax.specs.SubstitutePropertyKey.{is_holder, names_key, key_number, respelled_by, respelled, respells, with_key, spelled, is_spelled, is_bracketed, is_inner, keeps, bracketed_key, drops_brackets, bare_shape, bare, unbracketed, written, is_written, Gives, Rests, WrittenIsRow, UnwrittenRests}
 
 -- ---- what the tests say
 
@@ -74,27 +75,114 @@ spelled_by k true o h i e = name_spelled k (string k) refl h
 spelled_by k false (Some n) h i e = number_spelled k n i
 spelled_by k false None h i e = absurd (false≢true e)
 
-spelled : (k : Tree) → respells k ≡ true → Spelled k (respelled k)
-spelled k e = spelled_by k (names_key k) (key_number k) refl refl e
+key_spelled : (k : Tree) → respells k ≡ true → Spelled k (respelled k)
+key_spelled k e = spelled_by k (names_key k) (key_number k) refl refl e
 
 -- ---- what is written
 
-written_held : (t : Tree) → is_holder t ≡ true → written t ≡ with_key t (respelled (part t 0))
-written_held t e = ap (λ b. if b then with_key t (respelled (part t 0)) else t) e
+spelled_held : (t : Tree) → is_holder t ≡ true → spelled t ≡ with_key t (respelled (part t 0))
+spelled_held t e = ap (λ b. if b then with_key t (respelled (part t 0)) else t) e
 
-pub written_is_row : WrittenIsRow
-written_is_row n e =
+spelled_row : (n : Tree) → is_spelled n ≡ true → Row52Held n (spelled n)
+spelled_row n e =
     let (holds, spells) = and_parts (is_holder n) (respells (part n 0)) e in
     let h = held_is n holds in
-    let s = spelled (part n 0) spells in
+    let s = key_spelled (part n 0) spells in
     record {
       holder = h.holder;
       spelling = s.spelling;
       value = part n 1;
       is_spelling = s.is_spelling;
       shape = h.shape ∙ ap (λ k. holding h.holder k (part n 1)) s.read;
-      written = written_held n holds ∙ ap (λ t. with_key t (respelled (part n 0))) h.shape ∙ ap (λ k. holding h.holder k (part n 1)) s.made;
+      written = spelled_held n holds ∙ ap (λ t. with_key t (respelled (part n 0))) h.shape ∙ ap (λ k. holding h.holder k (part n 1)) s.made;
     }
+
+-- ---- brackets that go
+
+record Bracketed (t : Tree) : Type 0 where
+  member : Member
+  shape : t ≡ node (member_shape true member) [] 0 (part t 0 ▸ part t 1 ▸ none)
+
+bracketed_is : (t : Tree) → is_bracketed t ≡ true → Bracketed t
+bracketed_is (node (shape.AssignmentTargetPropertyProperty true) [] zero (k ▸ v ▸ none)) e = record { member = of_target; shape = refl }
+bracketed_is (node (shape.MethodDefinition kind true is_static) [] zero (k ▸ v ▸ none)) e = record { member = of_method kind is_static; shape = refl }
+bracketed_is (node (shape.PropertyDefinition true is_static) [] zero (k ▸ v ▸ none)) e = record { member = of_field is_static; shape = refl }
+bracketed_is t e = absurd (false≢true e)
+
+inner_is : (k : Tree) → is_inner k ≡ true → k ≡ node shape.InnerExpression [] (number_of k) (part k 0 ▸ none)
+inner_is (node shape.InnerExpression [] n none) e = absurd (false≢true e)
+inner_is (node shape.InnerExpression [] n (a ▸ none)) e = refl
+inner_is (node shape.InnerExpression [] n (a ▸ (b ▸ ts))) e = let two : count (a ▸ (b ▸ ts)) ≡ 1 = eqb-true (count (a ▸ (b ▸ ts))) 1 e in absurd (omega (arith, two))
+inner_is k e = absurd (false≢true e)
+
+record Literal (k : Tree) : Type 0 where
+  key : PlainKey
+  is_key : IsPlainKey key
+  is : k ≡ plain_key key
+
+literal_is : (k : Tree) → is_literal_key false k ≡ true → Literal k
+literal_is k e = by (literal_key_is false k e)
+  where
+    by : OtherText false k ⊎ SafeNumber k → Literal k
+    by (inl (s, (is, other))) = record { key = a_word s; is_key = tt; is = is }
+    by (inr (n, (is, safe))) = record { key = a_count n; is_key = safe; is = is }
+
+loses : (m : Member) (k : PlainKey) → not (keeps (member_shape true m) (shape_of (plain_key k))) ≡ loses_brackets m k
+loses of_target (a_word s) = refl
+loses of_target (a_count n) = refl
+loses (of_method kind is_static) (a_word s) = refl
+loses (of_method kind is_static) (a_count n) = refl
+loses (of_field is_static) (a_word s) = refl
+loses (of_field is_static) (a_count n) = refl
+
+bare_shape_is : (m : Member) → bare_shape (member_shape true m) ≡ member_shape false m
+bare_shape_is of_target = refl
+bare_shape_is (of_method kind is_static) = refl
+bare_shape_is (of_field is_static) = refl
+
+bare_row : (n : Tree) → drops_brackets n ≡ true → Row52Bare n (bare n)
+bare_row n e =
+    let (bracketed, others) = and_parts (is_bracketed n) (is_inner (part n 0) && (is_literal_key false (bracketed_key n) && not (keeps (shape_of n) (shape_of (bracketed_key n))))) e in
+    let (inner, rest) = and_parts (is_inner (part n 0)) (is_literal_key false (bracketed_key n) && not (keeps (shape_of n) (shape_of (bracketed_key n)))) others in
+    let (literal, lost) = and_parts (is_literal_key false (bracketed_key n)) (not (keeps (shape_of n) (shape_of (bracketed_key n)))) rest in
+    let b = bracketed_is n bracketed in
+    let l = literal_is (bracketed_key n) literal in
+    let i = number_of (part n 0) in
+    record {
+      member = b.member;
+      number = i;
+      key = l.key;
+      value = part n 1;
+      is_key = l.is_key;
+      loses = sym (loses b.member l.key) ∙ sym (ap (λ h. not (keeps h (shape_of (plain_key l.key)))) (ap shape_of b.shape)) ∙ sym (ap (λ k. not (keeps (shape_of n) (shape_of k))) l.is) ∙ lost;
+      shape = b.shape ∙ ap (λ k. node (member_shape true b.member) [] 0 (k ▸ part n 1 ▸ none)) (inner_is (part n 0) inner ∙ ap (λ k. node shape.InnerExpression [] i (k ▸ none)) l.is);
+      written = ap (λ h. node (bare_shape h) [] 0 (bracketed_key n ▸ part n 1 ▸ none)) (ap shape_of b.shape) ∙ ap (λ h. node h [] 0 (bracketed_key n ▸ part n 1 ▸ none)) (bare_shape_is b.member) ∙ ap (λ k. node (member_shape false b.member) [] 0 (k ▸ part n 1 ▸ none)) l.is;
+    }
+
+dropped : (m : Member) (i : ℕ) (k : PlainKey) (v : Tree) → IsPlainKey k → loses_brackets m k ≡ true → drops_brackets (in_brackets m i (plain_key k) v) ≡ true
+dropped of_target i (a_word s) v h l = refl
+dropped of_target i (a_count n) v h l = ap (λ b. b && true) (le-leb n max_safe_integer h)
+dropped (of_method kind is_static) i (a_word s) v h l = l
+dropped (of_method kind is_static) i (a_count n) v h l = ap (λ b. b && true) (le-leb n max_safe_integer h)
+dropped (of_field is_static) i (a_word s) v h l = l
+dropped (of_field is_static) i (a_count n) v h l = ap (λ b. b && true) (le-leb n max_safe_integer h)
+
+pub written_is_row : WrittenIsRow
+written_is_row n e = go (drops_brackets n) refl e
+  where
+    go : (b : Bool) → drops_brackets n ≡ b → b || is_spelled n ≡ true → HeldKeyRow Elsewhere n (written n)
+    go true d h = inr (subst (Row52Bare n) (sym (ap (λ b. if b then bare n else spelled n) d)) (bare_row n d))
+    go false d h = inl (subst (Row52Held n) (sym (ap (λ b. if b then bare n else spelled n) d)) (spelled_row n h))
+
+-- what is made where it drops none
+pub spelled_instead : (t u v : Tree) → drops_brackets t ≡ false → u ≡ unbracketed t → v ≡ spelled u → v ≡ written t
+spelled_instead t u v d e f = f ∙ ap spelled (e ∙ ap (λ b. if b then bare t else t) d) ∙ sym (ap (λ b. if b then bare t else spelled t) d)
+
+pub bared_instead : (t u : Tree) → drops_brackets t ≡ true → u ≡ unbracketed t → u ≡ written t
+bared_instead t u d e = e ∙ ap (λ b. if b then bare t else t) d ∙ sym (ap (λ b. if b then bare t else spelled t) d)
+
+pub said_instead : (t u : Tree) (b : Bool) → drops_brackets t ≡ false → u ≡ unbracketed t → b ≡ is_spelled u → b ≡ is_written t
+said_instead t u b d e f = f ∙ ap is_spelled (e ∙ ap (λ c. if c then bare t else t) d) ∙ sym (ap (λ c. c || is_spelled t) d)
 
 -- ---- what stays
 
@@ -108,27 +196,43 @@ quoted_respells (of_whole n) i =
     let s = signed_decimal (pos n) in
     ap (λ o. is_identifier_name s || is_some (whole_of o)) (number_of_text s (pos n) (i, refl)) ∙ or_true (is_identifier_name s)
 
-row_reads : (n w : Tree) → Row52Held n w → is_written n ≡ true
-row_reads n w r = ap is_written r.shape ∙ ap (λ b. b && respells (part (holding r.holder (quoted r.spelling) r.value) 0)) (held r.holder (quoted r.spelling) r.value) ∙ quoted_respells r.spelling r.is_spelling
+held_reads : (n w : Tree) → Row52Held n w → is_spelled n ≡ true
+held_reads n w r = ap is_spelled r.shape ∙ ap (λ b. b && respells (part (holding r.holder (quoted r.spelling) r.value) 0)) (held r.holder (quoted r.spelling) r.value) ∙ quoted_respells r.spelling r.is_spelling
 
 still_by : (k : Tree) (b : Bool) (o : Option ℤ) → b || is_some o ≡ false → respelled_by b o k ≡ k
 still_by k false None e = refl
 still_by k false (Some n) e = absurd (cc e)
 still_by k true o e = absurd (cc e)
 
+bare_reads : (n w : Tree) → Row52Bare n w → drops_brackets n ≡ true
+bare_reads n w r = ap drops_brackets r.shape ∙ dropped r.member r.number r.key r.value r.is_key r.loses
+
+reads : (p : Position) (n w : Tree) → HeldKeyRow p n w → is_written n ≡ true
+reads Elsewhere n w (inl r) = ap (λ b. drops_brackets n || b) (held_reads n w r) ∙ or_true (drops_brackets n)
+reads Elsewhere n w (inr r) = ap (λ b. b || is_spelled n) (bare_reads n w r)
+reads p n w r = absurd r
+
 rests : (p : Position) (n : Tree) → is_written n ≡ false → Rests p n
-rests Elsewhere n e w r = false≢true (sym e ∙ row_reads n w r)
-rests p n e w r = r
+rests p n e w r = false≢true (sym e ∙ reads p n w r)
 
 same_key : (t : Tree) → is_holder t ≡ true → respelled (part t 0) ≡ part t 0 → with_key t (respelled (part t 0)) ≡ t
 same_key t h e = let x = held_is t h in ap (λ k. with_key t k) e ∙ ap (λ u. with_key u (part t 0)) x.shape ∙ sym x.shape
 
-pub unwritten_rests : UnwrittenRests
-unwritten_rests p n e = (go (is_holder n) refl e, rests p n e)
+unspelled : (n : Tree) → is_spelled n ≡ false → spelled n ≡ n
+unspelled n e = go (is_holder n) refl e
   where
-    go : (b : Bool) → is_holder n ≡ b → b && respells (part n 0) ≡ false → written n ≡ n
-    go true h k = written_held n h ∙ same_key n h (still_by (part n 0) (names_key (part n 0)) (key_number (part n 0)) k)
+    go : (b : Bool) → is_holder n ≡ b → b && respells (part n 0) ≡ false → spelled n ≡ n
+    go true h k = spelled_held n h ∙ same_key n h (still_by (part n 0) (names_key (part n 0)) (key_number (part n 0)) k)
     go false h k = ap (λ b. if b then with_key n (respelled (part n 0)) else n) h
+
+neither : (a b : Bool) → a || b ≡ false → (a ≡ false) × (b ≡ false)
+neither true b e = absurd (false≢true (sym e))
+neither false b e = (refl, e)
+
+pub unwritten_rests : UnwrittenRests
+unwritten_rests p n e =
+    let (d, s) = neither (drops_brackets n) (is_spelled n) e in
+    (ap (λ b. if b then bare n else spelled n) d ∙ unspelled n s, rests p n e)
 
 -- ---- the rule
 
@@ -140,7 +244,7 @@ applied t u b e f = subst (λ v. Applied Gives Rests Elsewhere t v b) (sym e) (s
     go false h = unwritten_rests Elsewhere t h
 
 -- the key is written over in its place
-pub written_over : (t k : Tree) → is_holder t ≡ true → k ≡ respelled (part t 0) → with_children t (with_child (children t) 0 k) ≡ written t
+pub written_over : (t k : Tree) → is_holder t ≡ true → k ≡ respelled (part t 0) → with_children t (with_child (children t) 0 k) ≡ spelled t
 written_over t k h e =
     let x = held_is t h in
-    ap (λ u. with_children u (with_child (children u) 0 k)) x.shape ∙ ap (λ l. holding x.holder l (part t 1)) e ∙ sym (ap (λ u. with_key u (respelled (part t 0))) x.shape) ∙ sym (written_held t h)
+    ap (λ u. with_children u (with_child (children u) 0 k)) x.shape ∙ ap (λ l. holding x.holder l (part t 1)) e ∙ sym (ap (λ u. with_key u (respelled (part t 0))) x.shape) ∙ sym (spelled_held t h)

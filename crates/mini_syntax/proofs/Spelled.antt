@@ -3,9 +3,9 @@ use Rattle.std.proofs.Common.{◌≡◌, ℕ, zero, Bool, true, false, List, [],
 use Rattle.std.specs.Prelude.{◌⊎◌, ◌&&◌, is_none, codes, ℤ, if◌then◌else◌}
 use Rattle.std.specs.Fmt.{signed_decimal}
 use Rattle.std.proofs.lemmas.Bool.{and_parts}
-use Rattle.mini_text.specs.Texts.{is_identifier_name}
-use Rattle.mini_text.specs.Numerals.{IsSafe, safe_number}
-use Rattle.mini_text.proofs.Safe.{text_of_number, number_of_text}
+use Rattle.mini_model.specs.Texts.{is_identifier_name}
+use Rattle.mini_model.specs.Numerals.{IsSafe, safe_number}
+use Rattle.mini_model.proofs.Safe.{text_of_number, number_of_text}
 use Rattle.mini_model.specs.declared.name.Name.{Name}
 use Rattle.mini_model.specs.declared.name.SymbolId.{SymbolId}
 use Rattle.mini_model.specs.declared.operator.AssignmentOperator.{AssignmentOperator}

@@ -1,7 +1,7 @@
 -- 33, `convert_to_dotted_properties`: `o["x"]` becomes `o.x`, `o["1"]` becomes `o[1]`, also where it is assigned to or updated.
 use Rattle.std.specs.Prelude.{Bool, false, ◌&&◌, List, [], ℕ, Option, Some, None, ℤ, if◌then◌else◌}
-use Rattle.mini_text.specs.Texts.{is_identifier_name}
-use Rattle.mini_text.specs.Numerals.{safe_number}
+use Rattle.mini_model.specs.Texts.{is_identifier_name}
+use Rattle.mini_model.specs.Numerals.{safe_number}
 use Rattle.mini_model.specs.declared.operator.AssignmentOperator.{AssignmentOperator}
 use Rattle.mini_model.specs.declared.operator.UpdateOperator.{UpdateOperator}
 use Rattle.mini_model.specs.declared.shape.Shape.{Shape}

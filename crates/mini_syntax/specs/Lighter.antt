@@ -7,7 +7,7 @@ use Rattle.mini_rows.proofs.ArrowWeights.{arrows_lighten}
 use Rattle.mini_rows.proofs.BranchWeights.{branches_lighten}
 use Rattle.mini_rows.specs.Declarations.{DeclarationContracts}
 use Rattle.mini_rows.proofs.DeclarationWeights.{declarations_lighten}
-use Rattle.mini_rows.proofs.HeldKeyMeaning.{held_keys_lighten}
+use Rattle.mini_rows.proofs.KeysJoined.{held_keys_lighten}
 use Rattle.mini_rows.proofs.SpellKeyWeights as keys
 use Rattle.mini_rows.proofs.SpellWeights.{lightens}
 use Rattle.mini_walk.specs.Rule.{IsLighter}

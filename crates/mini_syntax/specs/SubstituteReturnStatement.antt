@@ -1,18 +1,24 @@
--- 60 of `return`, `substitute_return_statement`: `return undefined;` and `return void 0;` become `return;`.
-use Rattle.std.specs.Prelude.{◌≡◌, ◌<◌, Bool, ◌&&◌, Option, Some, None, if◌then◌else◌}
+-- 60 of `return`, `substitute_return_statement`: `return undefined;`, `return void 0;` and `return void a;` become `return;`.
+use Rattle.std.specs.Prelude.{◌≡◌, ◌<◌, Bool, ◌&&◌, ◌||◌, Option, Some, None, if◌then◌else◌}
 use Rattle.mini_model.specs.declared.place.Position.{Position}
 use Rattle.mini_model.specs.declared.place.Position.TheVariants.{Stmt}
 use Rattle.mini_model.specs.declared.seat.StmtSeat.{StmtSeat}
 use Rattle.mini_model.specs.Tree.{Tree, absent}
 use Rattle.mini_model.specs.Weight.{weight}
 use Rattle.mini_node.specs.Children.{part}
-use Rattle.mini_node.specs.Kinds.{is_return_statement, return_statement}
+use Rattle.mini_node.specs.Kinds.{is_return_statement, return_statement, unary_operator}
+use Rattle.mini_terms.specs.Folds.{is_effect_free}
+use Rattle.mini_terms.specs.Parts.{leaves_nothing}
 use Rattle.mini_rows.specs.Branches.{Row60, BranchContracts}
-use Rattle.mini_syntax.specs.Forms.{is_undefined}
+use Rattle.mini_syntax.specs.Forms.{is_void, is_undefined}
 
--- `return undefined;` or `return void 0;`
+-- `void a`, where a has no effect and nothing of it is left behind
+abbrev pub is_idle_void : Tree → Bool
+is_idle_void t = is_void (unary_operator t) && (is_effect_free (part t 0) && leaves_nothing (part t 0))
+
+-- `return undefined;`, `return void 0;` or `return void a;`
 abbrev pub returns_undefined : Tree → Bool
-returns_undefined t = is_return_statement t && is_undefined (part t 0)
+returns_undefined t = is_return_statement t && (is_undefined (part t 0) || is_idle_void (part t 0))
 
 abbrev pub written : Tree → Option Tree
 written t = if returns_undefined t then Some (return_statement absent) else None

@@ -11,7 +11,10 @@ pub use rewrites::substitute_arrow_expression::{SubstituteArrows, substitute_arr
 pub use rewrites::substitute_boolean::substitute_boolean;
 pub use rewrites::substitute_loose_equals_undefined::substitute_loose_equals_undefined;
 pub use rewrites::substitute_object_property::{SubstituteKeys, substitute_object_property};
-pub use rewrites::substitute_property_key::{SubstitutePropertyKeys, substitute_property_key};
+pub use rewrites::substitute_property_key::{
+    ClassPropertyKeyParent, ClassPropertyKeyParentType, SubstitutePropertyKeys, substitute_key,
+    substitute_property_key,
+};
 pub use rewrites::substitute_return_statement::{SubstituteReturns, substitute_return_statement};
 pub use rewrites::substitute_spellings::SubstituteSpellings;
 pub use rewrites::substitute_swap_binary_expressions::substitute_swap_binary_expressions;

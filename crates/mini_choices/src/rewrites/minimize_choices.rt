@@ -4,21 +4,22 @@ ghost use Rattle.std.specs.Prelude.{◌≡◌, is_some, unwrap_or, OnOk, IfOk};
 ghost use Rattle.mini_walk.specs.Rule.{Applied};
 ghost use Rattle.mini_choices.specs.Choices.{first_of, written, Gives, Rests};
 ghost use Rattle.mini_choices.specs.Lighter.{choices_lighter};
+ghost use Rattle.mini_choices.specs.InjectOptionalChaining as chains;
 ghost use Rattle.mini_choices.specs.MinimizeConditionalBranches as branches;
 ghost use Rattle.mini_choices.specs.MinimizeHeldBranches as held;
 ghost use Rattle.mini_choices.specs.MinimizeLogicalExpression as decide;
 ghost use Rattle.mini_choices.specs.MinimizeNullishComparison as nullish;
 ghost use Rattle.mini_choices.specs.SubstituteRotateLogicalExpression as rotate;
 
+use crate::rewrites::inject_optional_chaining::inject_optional_chaining;
 use crate::rewrites::minimize_conditional_branches::minimize_conditional_branches;
 use crate::rewrites::minimize_held_branches::minimize_held_branches;
 use crate::rewrites::minimize_logical_expression::minimize_logical_expression;
 use crate::rewrites::minimize_normal_assignment_to_combined_assignment::minimize_normal_assignment_to_combined_assignment;
 use crate::rewrites::minimize_nullish_comparison::minimize_nullish_comparison;
 use crate::rewrites::substitute_rotate_logical_expression::substitute_rotate_logical_expression;
-use mini_model::{Position, Seat, Shape};
+use mini_model::{OutOfMemory, Position, Seat, Shape};
 use mini_node::Node;
-use mini_text::OutOfMemory;
 use mini_walk::{Context, Rule};
 use std::alloc::Global;
 
@@ -44,8 +45,8 @@ fn minimize_logical(alloc: Global, node: &mut Node) -> Result<bool, OutOfMemory>
     minimize_operands(alloc, node)
 }
 
-// Of a conditional.
-fn minimize_conditional(alloc: Global, node: &mut Node, seat: Seat) -> Result<bool, OutOfMemory>
+// Of the branches of a conditional.
+fn minimize_branches(alloc: Global, node: &mut Node, seat: Seat) -> Result<bool, OutOfMemory>
     ensures tree { OnOk result (node.new ≡ unwrap_or (first_of (held.written seat node.old) (branches.written seat node.old)) node.old) }
     ensures said { IfOk result (λ changed. changed ≡ is_some (first_of (held.written seat node.old) (branches.written seat node.old))) }
 {
@@ -53,6 +54,17 @@ fn minimize_conditional(alloc: Global, node: &mut Node, seat: Seat) -> Result<bo
         return Ok(true);
     }
     minimize_conditional_branches(alloc, node, seat)
+}
+
+// Of a conditional.
+fn minimize_conditional(alloc: Global, node: &mut Node, seat: Seat) -> Result<bool, OutOfMemory>
+    ensures tree { OnOk result (node.new ≡ unwrap_or (first_of (chains.written seat node.old) (first_of (held.written seat node.old) (branches.written seat node.old))) node.old) }
+    ensures said { IfOk result (λ changed. changed ≡ is_some (first_of (chains.written seat node.old) (first_of (held.written seat node.old) (branches.written seat node.old)))) }
+{
+    if inject_optional_chaining(alloc, node, seat)? {
+        return Ok(true);
+    }
+    minimize_branches(alloc, node, seat)
 }
 
 // What a row says of the expression in its seat, if one reads it.

@@ -9,12 +9,11 @@ ghost use Rattle.mini_node.specs.Kinds.{binary_operator as its_operator};
 ghost use Rattle.mini_choices.specs.MinimizeConditionalBranches.{assigns_either as it_assigns_either, is_seated as is_it_seated, assigned as assigned_of, is_equal_in, is_unequal_in, is_beside_null as is_it_beside_null, is_own_if_equal as is_it_own_if_equal, is_own_if_unequal as is_it_own_if_unequal, is_own_consequent as is_it_own_consequent, is_own_alternate as is_it_own_alternate, written};
 
 use crate::assigning::{assigns_name, is_declared, is_same_name};
-use mini_model::{AssignmentOperator, BinaryOperator, LogicalOperator, Seat};
+use mini_model::{AssignmentOperator, BinaryOperator, LogicalOperator, OutOfMemory, Seat};
 use mini_node::{
     Node, assignment, binary_operator, conditional, discard, is_conditional, is_null, logical,
     taken, three, two,
 };
-use mini_text::OutOfMemory;
 use mini_tree::{expr_weight, logical_weight};
 use std::alloc::Global;
 

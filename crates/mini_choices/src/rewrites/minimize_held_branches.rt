@@ -7,12 +7,11 @@ ghost use Rattle.mini_rows.specs.Choices.{pair as pair_of};
 ghost use Rattle.mini_choices.specs.MinimizeHeldBranches.{is_pair as is_it_pair, chooses as it_chooses, decides as it_decides, follows as it_follows, consequent_chosen as consequent_chosen_of, alternate_chosen as alternate_chosen_of, consequent_decided as consequent_decided_of, alternate_decided as alternate_decided_of, consequent_followed as consequent_followed_of, alternate_followed as alternate_followed_of, both_followed as both_followed_of, is_consequent_chosen as is_its_consequent_chosen, is_alternate_chosen as is_its_alternate_chosen, is_consequent_decided as is_its_consequent_decided, is_alternate_decided as is_its_alternate_decided, is_consequent_followed as is_its_consequent_followed, is_alternate_followed as is_its_alternate_followed, are_both_alike as are_its_both_alike, written};
 
 use crate::weights::{conditional_over_weight, logical_over_weight, pair_over_weight, pair_weight};
-use mini_model::{LogicalOperator, Seat};
+use mini_model::{LogicalOperator, OutOfMemory, Seat};
 use mini_node::{
     Node, Nodes, conditional, discard, is_conditional, is_logical, is_same_tree, is_sequence,
     logical, of_two, one, sequence, taken, three, two,
 };
-use mini_text::OutOfMemory;
 use mini_tree::expr_weight;
 use std::alloc::Global;
 

@@ -6,9 +6,8 @@ ghost use Rattle.mini_rows.specs.Choices.{deciding as deciding_of};
 ghost use Rattle.mini_choices.specs.MinimizeLogicalExpression.{deciding_operator as its_deciding_operator, decided as decided_of, written};
 
 use crate::assigning::{assigns_name, is_same_name};
-use mini_model::{AssignmentOperator, LogicalOperator};
+use mini_model::{AssignmentOperator, LogicalOperator, OutOfMemory};
 use mini_node::{Node, assignment, discard, logical_operator, taken, two};
-use mini_text::OutOfMemory;
 use std::alloc::Global;
 
 // The operator of the assignment that a logical operator decides on.

@@ -5,9 +5,8 @@ ghost use Rattle.mini_rows.specs.Choices.{computing as computing_of};
 ghost use Rattle.mini_choices.specs.MinimizeNormalAssignmentToCombinedAssignment.{computing_in as computing_in_it, combined_operator as its_combined_operator, combined as combined_of, written};
 
 use crate::assigning::{assigns_name, is_same_name};
-use mini_model::{AssignmentOperator, BinaryOperator};
+use mini_model::{AssignmentOperator, BinaryOperator, OutOfMemory};
 use mini_node::{Node, assignment, binary_operator, discard, taken, two};
-use mini_text::OutOfMemory;
 use std::alloc::Global;
 
 // The operator of the assignment of what this one makes of the old value, if there is one.

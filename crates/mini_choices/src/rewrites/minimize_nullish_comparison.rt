@@ -9,12 +9,11 @@ ghost use Rattle.mini_choices.specs.MinimizeNullishComparison.{joins_in, is_stri
 
 use crate::assigning::is_same_name;
 use crate::forms::are_nullish;
-use mini_model::{BinaryOperator, LogicalOperator};
+use mini_model::{BinaryOperator, LogicalOperator, OutOfMemory};
 use mini_node::{
     Node, binary, binary_operator, discard, is_logical, logical, logical_operator, null_literal,
     one, taken, two,
 };
-use mini_text::OutOfMemory;
 use std::alloc::Global;
 
 fn joining(equal: bool) -> LogicalOperator

@@ -5,9 +5,8 @@ ghost use Rattle.std.specs.Prelude.{◌≡◌, is_some, unwrap_or, OnOk, IfOk};
 ghost use Rattle.mini_rows.specs.Choices.{is_same_operator as are_one_operator, is_grouped as is_it_grouped};
 ghost use Rattle.mini_choices.specs.SubstituteRotateLogicalExpression.{leftmost, rotated_over as rotated_over_it, rotated_operator as its_rotated_operator, rotated as rotated_of, written};
 
-use mini_model::{LogicalOperator, Shape};
+use mini_model::{LogicalOperator, OutOfMemory, Shape};
 use mini_node::{Node, is_logical, logical, logical_operator, taken, two};
-use mini_text::OutOfMemory;
 use std::alloc::Global;
 
 fn is_same_operator(first: LogicalOperator, second: LogicalOperator) -> bool

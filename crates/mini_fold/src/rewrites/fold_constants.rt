@@ -9,10 +9,9 @@ ghost use Rattle.mini_fold.specs.Lighter.{constants_lighter};
 
 use crate::literals::evaluate_value;
 use crate::values::value_to_expr;
-use mini_model::{Position, Seat};
+use mini_model::{OutOfMemory, Position, Seat};
 use mini_node::Node;
 use mini_terms::{leaves_nothing, suits};
-use mini_text::OutOfMemory;
 use mini_tree::expr_weight;
 use mini_walk::{Context, Rule};
 use std::alloc::Global;

@@ -10,12 +10,11 @@ ghost use Rattle.mini_fold.specs.FoldKnown.{is_passed as passes_left, is_stopped
 
 use crate::exports::names_exports;
 use crate::rewrites::minimize_binary::minimize_binary;
-use mini_model::{LogicalOperator, Position, Seat, Shape};
+use mini_model::{LogicalOperator, OutOfMemory, Position, Seat, Shape};
 use mini_node::{
     Node, discard, empty_statement, is_expression_statement, logical_operator, one, taken, two,
 };
 use mini_terms::{goes_on, has_no_effect, leaves_nothing, stops, suits, weighs};
-use mini_text::OutOfMemory;
 use mini_walk::{Context, Rule};
 use std::alloc::Global;
 

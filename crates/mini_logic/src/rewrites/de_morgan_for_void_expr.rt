@@ -1,21 +1,25 @@
 //! Row 50: `!a && b;` becomes `a || b;`, and `!a || b;` `a && b;`, where that is lighter.
 
 ghost use Rattle.std.specs.Prelude.{◌≡◌, is_some, unwrap_or, OnOk, IfOk};
-ghost use Rattle.mini_model.specs.Tree.{children, count, expression_statement as expression_statement_of};
+ghost use Rattle.mini_model.specs.declared.place.Position.TheVariants.{Expr};
+ghost use Rattle.mini_model.specs.Position.{left_operand_seat as left_seat, statement_expression_seat as statement_seat};
+ghost use Rattle.mini_model.specs.Tree.{children, count, expression_statement as expression_statement_of, logical as logical_of};
+ghost use Rattle.mini_model.specs.Weight.{capped, weight as weight_at};
 ghost use Rattle.mini_model.specs.Terms.{turned as turned_operator};
 ghost use Rattle.mini_node.specs.Children.{part as part_of};
 ghost use Rattle.mini_walk.specs.Rule.{Applied};
 ghost use Rattle.mini_logic.specs.Lighter.{de_morgan_lighter};
+ghost use Rattle.mini_logic.specs.MinimizeNegation.{told_lightest};
 ghost use Rattle.mini_logic.specs.DeMorganForVoidExpr.{turned_over as it_turned_over, turns as it_turns, written, Gives, Rests};
 
-use crate::rewrites::minimize_expression_in_boolean_context::{is_and_or, turned_weight};
-use crate::terms::lighter_negation;
-use mini_model::{LogicalOperator, Position};
+use crate::rewrites::minimize_expression_in_boolean_context::is_and_or;
+use crate::terms::own_weight;
+use crate::whole::{lightest_negation, lightest_negation_weight};
+use mini_model::{LogicalOperator, OutOfMemory, Position};
 use mini_node::{
     Node, expression_statement, is_expression_statement, is_logical, logical, logical_operator,
     one, taken, two,
 };
-use mini_text::OutOfMemory;
 use mini_tree::{expr_weight, seats};
 use mini_walk::{Context, Rule};
 use std::alloc::Global;
@@ -31,6 +35,17 @@ fn turned(operator: LogicalOperator) -> LogicalOperator
     }
 }
 
+// The weight of the logical expression of this operator over the negation of its left side, as a statement's.
+#[tactic(auto, using(crate::proofs::Weights::weight_logical))]
+fn turned_weight(operator: LogicalOperator, left: &Node, right: &Node) -> u64
+    ensures { result ≡ capped (weight_at (Expr statement_seat) (logical_of operator (told_lightest (left_seat operator statement_seat) left.now) right.now)) }
+{
+    let seat = seats::statement_expression();
+    own_weight(operator, seat)
+        .saturating_add(lightest_negation_weight(left, seats::left_operand(operator, seat)))
+        .saturating_add(expr_weight(right, seats::right_operand(operator, seat)))
+}
+
 // Whether a logical expression of this operator is lighter under the other one, and its right side is none of the operator.
 fn turns(operator: LogicalOperator, expression: &Node) -> bool
     requires { count (children expression.now) ≡ 2 }
@@ -38,12 +53,8 @@ fn turns(operator: LogicalOperator, expression: &Node) -> bool
 {
     is_and_or(operator)
         && !is_logical(expression.child(1), operator)
-        && turned_weight(
-            turned(operator),
-            expression.child(0),
-            expression.child(1),
-            seats::statement_expression(),
-        ) < expr_weight(expression, seats::statement_expression())
+        && turned_weight(turned(operator), expression.child(0), expression.child(1))
+            < expr_weight(expression, seats::statement_expression())
 }
 
 // The left side negated under the other operator.
@@ -56,7 +67,7 @@ fn turned_over(
 {
     let (left, right) = two(expression);
     let other = turned(operator);
-    let negated = lighter_negation(
+    let negated = lightest_negation(
         alloc,
         left,
         seats::left_operand(other, seats::statement_expression()),

@@ -5,11 +5,10 @@ ghost use Rattle.mini_walk.specs.Rule.{Applied};
 ghost use Rattle.mini_logic.specs.Lighter.{conditional_lighter};
 ghost use Rattle.mini_logic.specs.MinimizeConditionalExpression.{has_negated_test as has_a_negated_test, swapped as with_swapped_branches, equal_by, equal_operator as its_equal_operator, turned as turned_by, written, Gives, Rests};
 
-use mini_model::{BinaryOperator, Position};
+use mini_model::{BinaryOperator, OutOfMemory, Position};
 use mini_node::{
     Node, binary, binary_operator, conditional, is_conditional, is_negation, one, taken, three, two,
 };
-use mini_text::OutOfMemory;
 use mini_walk::{Context, Rule};
 use std::alloc::Global;
 

@@ -1,11 +1,13 @@
 //! Rows 24, 25 and 26, where only the truth of an expression is asked: `!0` becomes `1`, `a && 1` becomes `a`, and `a ? 1 : b`
-//! becomes `a || b`. And of row 47, where the value is asked, the branches that are booleans: `a ? false : b` becomes `!a && b`.
+//! becomes `a || b`. And of rows 47 and 48, where the value is asked: `a ? false : b` becomes `!a && b`, `a ? true : false` `!!a`, and
+//! `a ? 0 : 1` `+!a`.
 
-ghost use Rattle.std.specs.Prelude.{◌≡◌, ◌+◌, true, not, is_some, unwrap_or, OnOk, IfOk};
+ghost use Rattle.std.specs.Prelude.{◌≡◌, ◌+◌, [], true, not, is_some, unwrap_or, OnOk, IfOk};
 ghost use Rattle.mini_model.specs.Position.{is_and_or as is_it_and_or, left_operand_seat as left_seat};
-ghost use Rattle.mini_model.specs.Weight.{capped, weight as weight_at};
-ghost use Rattle.mini_model.specs.Tree.{children, count, logical as logical_of};
+ghost use Rattle.mini_model.specs.Weight.{capped, outlines, own_weight as weight_of_own, weight as weight_at};
+ghost use Rattle.mini_model.specs.Tree.{children, count, logical as logical_of, negation as negation_of};
 ghost use Rattle.mini_model.specs.declared.place.Position.TheVariants.{Expr};
+ghost use Rattle.mini_model.specs.declared.shape.Shape.TheVariants.{UnaryExpression};
 ghost use Rattle.mini_node.specs.Children.{part};
 ghost use Rattle.mini_node.specs.Kinds.{logical_operator as logical_operator_of};
 ghost use Rattle.mini_walk.specs.Rule.{Applied};
@@ -15,17 +17,17 @@ ghost use Rattle.mini_logic.specs.Negating.{lighter_negation as lighter_negation
 ghost use Rattle.mini_logic.specs.MinimizeExpressionInBooleanContext as boolean;
 ghost use Rattle.mini_logic.specs.MinimizeExpressionInBooleanContext.{Gives, Rests};
 
-use crate::terms::{lighter_negation, lighter_negation_weight, own_weight};
-use mini_model::{LogicalOperator, Position, Seat, Shape, UnaryOperator};
+use crate::terms::{lighter_negation, lighter_negation_weight, own_weight as own_logical_weight};
+use mini_model::{LogicalOperator, OutOfMemory, Position, Seat, Shape, UnaryOperator};
 use mini_node::{
-    Node, discard, is_conditional, is_negation, logical, logical_operator, number, numeric_literal,
-    one, taken, three,
+    Node, discard, is_conditional, is_negation, logical, logical_operator, negation, number,
+    numeric_literal, one, taken, three, unary,
 };
 use mini_terms::{
-    Kind, evident_truth, goes_on, has_no_effect, is_plain_part, kind_of, leaves_nothing, weighs,
+    Kind, evident_truth, goes_on, has_no_effect, is_plain_part, kind_of, leaves_nothing, stands,
+    weighs,
 };
-use mini_text::OutOfMemory;
-use mini_tree::{expr_weight, logical_weight, seats};
+use mini_tree::{expr_weight, logical_weight, negation_weight, own_weight, seats};
 use mini_walk::{Context, Rule};
 use std::alloc::Global;
 
@@ -169,7 +171,7 @@ fn may_join(seat: Seat, is_consequent: bool, truth: bool, test: &Node, branch: &
 pub fn turned_weight(operator: LogicalOperator, test: &Node, other: &Node, seat: Seat) -> u64
     ensures { result ≡ capped (weight_at (Expr seat) (logical_of operator (lighter_negation_of (left_seat operator seat) test.now) other.now)) }
 {
-    own_weight(operator, seat)
+    own_logical_weight(operator, seat)
         .saturating_add(lighter_negation_weight(test, seats::left_operand(operator, seat)))
         .saturating_add(expr_weight(other, seats::right_operand(operator, seat)))
 }
@@ -272,6 +274,222 @@ fn minimize_branch(
 
 // `a ? 1 : b` becomes `a || b`.
 #[tactic(auto, using(crate::proofs::MinimizeExpressionInBooleanContext::first_is, crate::proofs::MinimizeExpressionInBooleanContext::second_is, crate::proofs::MinimizeExpressionInBooleanContext::unchanged))]
+fn minimize_branches(alloc: Global, node: &mut Node, seat: Seat) -> Result<bool, OutOfMemory>
+    requires { count (children node.old) ≡ 3 }
+    ensures tree { OnOk result (node.new ≡ unwrap_or (boolean.branches_written seat node.old) node.old) }
+    ensures said { IfOk result (λ changed. changed ≡ is_some (boolean.branches_written seat node.old)) }
+{
+    if minimize_branch(alloc, node, seat, true)? {
+        return Ok(true);
+    }
+    minimize_branch(alloc, node, seat, false)
+}
+
+// The truth of a boolean that may go, where it is known.
+fn boolean_truth(node: &Node) -> Option<bool>
+    ensures { result ≡ boolean.boolean_truth node.now }
+{
+    if is_boolean_kind(kind_of(node)) {
+        known_truth(node)
+    } else {
+        None
+    }
+}
+
+// The first of two truths, where the second is the other one.
+fn opposite(first: Option<bool>, second: Option<bool>) -> Option<bool>
+    ensures { result ≡ boolean.opposite first second }
+{
+    match (first, second) {
+        (Some(true), Some(false)) => Some(true),
+        (Some(false), Some(true)) => Some(false),
+        _ => None,
+    }
+}
+
+// The truth of the consequent, where both branches are booleans and the alternate is the other one.
+fn told_truth(node: &Node) -> Option<bool>
+    requires { count (children node.now) ≡ 3 }
+    ensures { result ≡ boolean.told_truth node.now }
+{
+    if is_plain_part(node.child(0)) {
+        opposite(boolean_truth(node.child(1)), boolean_truth(node.child(2)))
+    } else {
+        None
+    }
+}
+
+// The truth of `1`, and of `0`.
+fn digit_truth(digit: Option<i64>) -> Option<bool>
+    ensures { result ≡ boolean.digit_truth digit }
+{
+    match digit {
+        Some(0) => Some(false),
+        Some(1) => Some(true),
+        _ => None,
+    }
+}
+
+// The truth of the consequent, where both branches are these digits.
+fn counted_truth(node: &Node) -> Option<bool>
+    requires { count (children node.now) ≡ 3 }
+    ensures { result ≡ boolean.counted_truth node.now }
+{
+    opposite(
+        digit_truth(number(node.child(1))),
+        digit_truth(number(node.child(2))),
+    )
+}
+
+// Whether each value of an expression is a boolean, whatever is asked.
+fn is_truth(node: &Node) -> bool
+    ensures { result ≡ row.is_truth node.now }
+{
+    is_boolean_kind(kind_of(node)) && stands(node)
+}
+
+// What `!` or `+` writes besides its operand, which does not depend on that.
+fn own_unary_weight(operator: UnaryOperator, like: &Node, seat: Seat) -> u64
+    ensures { result ≡ capped (weight_of_own (Expr seat) (UnaryExpression operator) [] (outlines (children like.now))) }
+{
+    own_weight(
+        &Shape::UnaryExpression(operator),
+        &None,
+        like.children(),
+        Position::Expr(seat),
+    )
+}
+
+// The weight of `!!a`.
+fn twice_negated_weight(test: &Node, seat: Seat) -> u64
+    ensures { result ≡ capped (weight_at (Expr seat) (negation_of (negation_of test.now))) }
+{
+    own_unary_weight(UnaryOperator::LogicalNot, test, seat).saturating_add(negation_weight(
+        test,
+        seats::not_operand(),
+    ))
+}
+
+// The weight of `a` or `!!a`, or of `!a`.
+fn truth_weight(truth: bool, test: &Node, seat: Seat) -> u64
+    ensures { result ≡ capped (weight_at (Expr seat) (row.truth_of truth test.now)) }
+{
+    if !truth {
+        negation_weight(test, seat)
+    } else if is_truth(test) {
+        expr_weight(test, seat)
+    } else {
+        twice_negated_weight(test, seat)
+    }
+}
+
+// `a` or `!!a`, or `!a`
+fn truth_of(alloc: Global, truth: bool, test: Node) -> Result<Node, OutOfMemory>
+    ensures { IfOk result (λ w. w ≡ row.truth_of truth test) }
+{
+    if !truth {
+        return negation(alloc, test);
+    }
+    if is_truth(&test) {
+        return Ok(test);
+    }
+    let negated = negation(alloc, test)?;
+    negation(alloc, negated)
+}
+
+// The test of a conditional.
+fn test_of(node: Node) -> Node
+    requires { count (children node) ≡ 3 }
+    ensures { result ≡ part node 0 }
+{
+    let (test, consequent, alternate) = three(node);
+    discard(consequent);
+    discard(alternate);
+    test
+}
+
+// `a ? true : false` becomes `!!a`, and `a ? false : true` becomes `!a`.
+fn minimize_truth(alloc: Global, node: &mut Node, seat: Seat) -> Result<bool, OutOfMemory>
+    requires { count (children node.old) ≡ 3 }
+    ensures tree { OnOk result (node.new ≡ unwrap_or (boolean.truth_written seat node.old) node.old) }
+    ensures said { IfOk result (λ changed. changed ≡ is_some (boolean.truth_written seat node.old)) }
+{
+    let Some(truth) = told_truth(node) else {
+        return Ok(false);
+    };
+    if truth_weight(truth, node.child(0), seat) >= expr_weight(node, seat) {
+        return Ok(false);
+    }
+    let written = truth_of(alloc, truth, test_of(taken(alloc, node)))?;
+    *node = written;
+    Ok(true)
+}
+
+// The weight of the operand of `+`.
+fn operand_weight(truth: bool, test: &Node) -> u64
+    ensures { result ≡ capped (weight_at (Expr row.plus_seat) (boolean.as_boolean truth test.now)) }
+{
+    let seat = seats::unary_operand(UnaryOperator::UnaryPlus);
+    if truth {
+        truth_weight(true, test, seat)
+    } else {
+        lighter_negation_weight(test, seat)
+    }
+}
+
+// The weight of `+a`, `+!!a` or `+!a`.
+fn number_weight(truth: bool, test: &Node, seat: Seat) -> u64
+    ensures { result ≡ capped (weight_at (Expr seat) (row.plus (boolean.as_boolean truth test.now))) }
+{
+    own_unary_weight(UnaryOperator::UnaryPlus, test, seat).saturating_add(operand_weight(
+        truth, test,
+    ))
+}
+
+// The test as a boolean, or its negation, as the operand of `+`.
+fn as_boolean(alloc: Global, truth: bool, test: Node) -> Result<Node, OutOfMemory>
+    ensures { IfOk result (λ w. w ≡ boolean.as_boolean truth test) }
+{
+    if truth {
+        truth_of(alloc, true, test)
+    } else {
+        lighter_negation(alloc, test, seats::unary_operand(UnaryOperator::UnaryPlus))
+    }
+}
+
+// `a ? 1 : 0` becomes `+!!a`, and `a ? 0 : 1` becomes `+!a`.
+fn minimize_number(alloc: Global, node: &mut Node, seat: Seat) -> Result<bool, OutOfMemory>
+    requires { count (children node.old) ≡ 3 }
+    ensures tree { OnOk result (node.new ≡ unwrap_or (boolean.number_written seat node.old) node.old) }
+    ensures said { IfOk result (λ changed. changed ≡ is_some (boolean.number_written seat node.old)) }
+{
+    let Some(truth) = counted_truth(node) else {
+        return Ok(false);
+    };
+    if number_weight(truth, node.child(0), seat) >= expr_weight(node, seat) {
+        return Ok(false);
+    }
+    let operand = as_boolean(alloc, truth, test_of(taken(alloc, node)))?;
+    let written = unary(alloc, UnaryOperator::UnaryPlus, operand)?;
+    *node = written;
+    Ok(true)
+}
+
+// By the branches, or by both as digits.
+#[tactic(auto, using(crate::proofs::MinimizeExpressionInBooleanContext::first_is, crate::proofs::MinimizeExpressionInBooleanContext::second_is, crate::proofs::MinimizeExpressionInBooleanContext::unchanged))]
+fn minimize_known_branches(alloc: Global, node: &mut Node, seat: Seat) -> Result<bool, OutOfMemory>
+    requires { count (children node.old) ≡ 3 }
+    ensures tree { OnOk result (node.new ≡ unwrap_or (boolean.either (boolean.branches_written seat node.old) (boolean.number_written seat node.old)) node.old) }
+    ensures said { IfOk result (λ changed. changed ≡ is_some (boolean.either (boolean.branches_written seat node.old) (boolean.number_written seat node.old))) }
+{
+    if minimize_branches(alloc, node, seat)? {
+        return Ok(true);
+    }
+    minimize_number(alloc, node, seat)
+}
+
+// Of a conditional.
+#[tactic(auto, using(crate::proofs::MinimizeExpressionInBooleanContext::first_is, crate::proofs::MinimizeExpressionInBooleanContext::second_is, crate::proofs::MinimizeExpressionInBooleanContext::unchanged))]
 fn minimize_conditional(alloc: Global, node: &mut Node, seat: Seat) -> Result<bool, OutOfMemory>
     ensures tree { OnOk result (node.new ≡ unwrap_or (boolean.conditional_written seat node.old) node.old) }
     ensures said { IfOk result (λ changed. changed ≡ is_some (boolean.conditional_written seat node.old)) }
@@ -279,14 +497,14 @@ fn minimize_conditional(alloc: Global, node: &mut Node, seat: Seat) -> Result<bo
     if !is_conditional(node) {
         return Ok(false);
     }
-    if minimize_branch(alloc, node, seat, true)? {
+    if minimize_truth(alloc, node, seat)? {
         return Ok(true);
     }
-    minimize_branch(alloc, node, seat, false)
+    minimize_known_branches(alloc, node, seat)
 }
 
 /// Where only the truth of an expression is asked, `!0` becomes `1`, `a && 1` becomes `a`, and `a ? 1 : b` becomes `a || b`; where
-/// its value is, `a ? false : b` becomes `!a && b`. The answer says whether it did; the only error is that memory runs out, and then
+/// its value is, `a ? false : b` becomes `!a && b`, `a ? true : false` `!!a`, and `a ? 0 : 1` `+!a`. The answer says whether it did; the only error is that memory runs out, and then
 /// the expression is fit only to be dropped.
 pub fn minimize_expression_in_boolean_context(
     alloc: Global,

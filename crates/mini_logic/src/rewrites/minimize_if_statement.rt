@@ -13,14 +13,13 @@ ghost use Rattle.mini_model.specs.Tree.{children, count, expression_statement as
 ghost use Rattle.mini_node.specs.Children.{part};
 
 use crate::statements::{has_else, is_other_branch, is_unchained, may_choose};
-use crate::terms::{has_negated_result, has_one, lighter_negation, negated};
-use mini_model::{LogicalOperator, Position, Seat, Shape};
+use crate::terms::{has_one, is_not, lighter_negation, negated};
+use mini_model::{LogicalOperator, OutOfMemory, Position, Seat, Shape};
 use mini_node::{
     Node, absent, block, conditional, discard, expression_statement, if_statement, is_absent_part,
     is_block, is_empty_statement, is_expression_statement, is_if_alone, is_if_statement,
     is_negation, logical, of_one, one, taken, three,
 };
-use mini_text::OutOfMemory;
 use mini_tree::{negation_weight, seats};
 use mini_walk::{Context, Rule};
 use std::alloc::Global;
@@ -162,7 +161,7 @@ fn guard(alloc: Global, node: Node) -> Result<Node, OutOfMemory>
 {
     let (test, consequent, alternate) = three(node);
     discard(alternate);
-    if has_negated_result(&test) {
+    if is_not(&test) {
         let left = unnegated(alloc, LogicalOperator::Or, test)?;
         disjunction(alloc, left, consequent)
     } else {
@@ -176,7 +175,7 @@ fn skipped(alloc: Global, node: Node) -> Result<Node, OutOfMemory>
 {
     let (test, consequent, alternate) = three(node);
     discard(consequent);
-    if has_negated_result(&test) {
+    if is_not(&test) {
         let left = unnegated(alloc, LogicalOperator::And, test)?;
         conjunction(alloc, left, alternate)
     } else {

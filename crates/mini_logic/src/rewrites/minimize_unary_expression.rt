@@ -6,9 +6,8 @@ ghost use Rattle.mini_logic.specs.Lighter.{unary_lighter};
 ghost use Rattle.mini_logic.specs.MinimizeUnaryExpression.{has_lighter_negation as has_a_lighter_negation, minimizes_unary, minimized_unary, Gives, Rests};
 
 use crate::terms::{has_own_negation, neg_weight, negated};
-use mini_model::{Position, Seat};
+use mini_model::{OutOfMemory, Position, Seat};
 use mini_node::{Node, is_negation, one, taken};
-use mini_text::OutOfMemory;
 use mini_tree::negation_weight;
 use mini_walk::{Context, Rule};
 use std::alloc::Global;

@@ -10,9 +10,8 @@ ghost use Rattle.mini_walk.specs.Rule.{Applied};
 
 use crate::statements::{has_else, is_unscoped};
 use crate::terms::has_one;
-use mini_model::{Position, Shape};
+use mini_model::{OutOfMemory, Position, Shape};
 use mini_node::{Node, discard, is_block, is_if_statement, one, taken};
-use mini_text::OutOfMemory;
 use mini_walk::{Context, Rule};
 use std::alloc::Global;
 

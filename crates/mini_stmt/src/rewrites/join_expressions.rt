@@ -4,8 +4,8 @@ ghost use Rattle.std.specs.Prelude.{◌≡◌, IfOk};
 ghost use Rattle.mini_stmt.specs.JoinExpressions as row;
 
 use crate::terms::join_sequence;
+use mini_model::OutOfMemory;
 use mini_node::{Node, expression_statement, one};
-use mini_text::OutOfMemory;
 use std::alloc::Global;
 
 // `a, b;`, of `a;` and `b;`

@@ -1,4 +1,4 @@
-//! 74: `if (a) s; if (b) s;` becomes `if (a || b) s`, where s ends in a jump.
+//! 74: `if (a) s; if (b) s;` becomes `if (a || b) s`, where s ends in a jump. 77: `return a; b();` becomes `return a;`.
 
 ghost use Rattle.std.specs.Prelude.{◌≡◌, ◌<◌, IfOk};
 ghost use Rattle.mini_model.specs.Tree.{count};
@@ -8,34 +8,68 @@ ghost use Rattle.mini_stmt.specs.JoinGuards.{Joined, JoinsGuards, PutJoined};
 ghost use Rattle.mini_stmt.specs.MinimizeStatements.{switches_of};
 
 use crate::statements::{put_reversed, take_last};
-use crate::terms::is_terminated;
-use mini_model::LogicalOperator;
+use crate::terms::{is_shallow, is_terminated};
+use mini_model::{LogicalOperator, OutOfMemory};
 use mini_node::{
-    Node, Nodes, if_statement, is_if_alone, is_if_statement, is_listed, is_same_tree, logical, one,
-    three,
+    Node, Nodes, discard, if_statement, is_expression_statement, is_if_alone, is_if_statement,
+    is_listed, is_return_statement, is_same_tree, is_throw_statement, logical, one, three,
 };
-use mini_text::OutOfMemory;
+use mini_terms::leaves_nothing;
 use mini_tree::CompressOptions;
 use std::alloc::Global;
 use std::mem;
 
-// Whether it is `if (a) s`, and then an `if` with the branch s.
-fn meets(first: &Node, next: &Node) -> bool
-    ensures { result ≡ row.meets first.now next.now }
+// Whether it is `if (a) s`, and then an `if` with the branch s, where a isn't too deep.
+fn are_guards(first: &Node, next: &Node) -> bool
+    ensures { result ≡ row.are_guards first.now next.now }
 {
     is_if_alone(first)
         && is_terminated(first.child(1))
         && is_if_statement(next)
         && is_same_tree(first.child(1), next.child(1))
+        && is_shallow(first.child(0), 64)
 }
 
 // `if (a || b) s`, with the `else` of the second
-fn met(alloc: Global, first: Node, next: Node) -> Result<Node, OutOfMemory>
-    ensures { IfOk result (λ made. made ≡ row.met first next) }
+fn both_guards(alloc: Global, first: Node, next: Node) -> Result<Node, OutOfMemory>
+    ensures { IfOk result (λ made. made ≡ row.both_guards first next) }
 {
     let (right, consequent, alternate) = three(next);
     let test = logical(alloc, LogicalOperator::Or, one(first), right)?;
     if_statement(alloc, test, consequent, alternate)
+}
+
+// Whether it is `a;`, `return a;` or `throw a;`, and leaves nothing behind when it goes.
+fn may_go(node: &Node) -> bool
+    ensures { result ≡ row.may_go node.now }
+{
+    (is_expression_statement(node) || is_return_statement(node) || is_throw_statement(node))
+        && leaves_nothing(node.child(0))
+}
+
+// Whether the first ends in a jump, and the next one may go.
+fn ends_before(first: &Node, next: &Node) -> bool
+    ensures { result ≡ row.ends_before first.now next.now }
+{
+    is_terminated(first) && may_go(next)
+}
+
+// Whether the two are one.
+fn meets(first: &Node, next: &Node) -> bool
+    ensures { result ≡ row.meets first.now next.now }
+{
+    ends_before(first, next) || are_guards(first, next)
+}
+
+// That one.
+fn met(alloc: Global, first: Node, next: Node) -> Result<Node, OutOfMemory>
+    ensures { IfOk result (λ made. made ≡ row.met first next) }
+{
+    if ends_before(&first, &next) {
+        discard(next);
+        return Ok(first);
+    }
+    both_guards(alloc, first, next)
 }
 
 // Whether the one at a place and the next one are so.
@@ -102,7 +136,8 @@ fn join_all(alloc: Global, list: &mut Nodes) -> Result<bool, OutOfMemory>
     Ok(changed)
 }
 
-/// Each `if` that ends in a jump, and the next one with that branch, as one. The answer says whether there were two; the only
+/// Each `if` that ends in a jump, and the next one with that branch, as one; and what ends in a jump without what never runs
+/// after it, as far as that is an expression's statement. The answer says whether there were two; the only
 /// error is that memory runs out, and then the list is fit only to be dropped.
 pub fn join_guards(
     alloc: Global,

@@ -7,11 +7,10 @@ ghost use Rattle.mini_rows.specs.Lists as list;
 ghost use Rattle.mini_stmt.specs.JoinHeads as row;
 
 use crate::terms::{declares_nothing, is_joinable, join_sequence};
-use mini_model::{Shape, VariableDeclarationKind};
+use mini_model::{OutOfMemory, Shape, VariableDeclarationKind};
 use mini_node::{
     Node, discard, is_absent_part, is_if_statement, is_return_statement, is_throw_statement, one,
 };
-use mini_text::OutOfMemory;
 use std::alloc::Global;
 
 // `switch (a) { b }`

@@ -8,13 +8,12 @@ ghost use Rattle.mini_rows.specs.Lists.{or_void as a_value};
 ghost use Rattle.mini_stmt.specs.JoinJumps as row;
 
 use crate::terms::has_alternates;
-use mini_model::{Shape, UnaryOperator};
+use mini_model::{OutOfMemory, Shape, UnaryOperator};
 use mini_node::{
     Node, conditional, discard, expression_statement, is_absent_part, is_if_alone,
     is_return_statement, is_throw_statement, numeric_literal, one, return_statement, three,
     throw_statement, unary,
 };
-use mini_text::OutOfMemory;
 use std::alloc::Global;
 
 // Whether there is no node.

@@ -6,9 +6,8 @@ ghost use Rattle.mini_node.specs.Children.{with_part};
 ghost use Rattle.mini_stmt.specs.JoinVars as row;
 
 use crate::rewrites::join_heads::{has_free_init, is_for, over_child, take_child};
-use mini_model::{Shape, VariableDeclarationKind};
+use mini_model::{OutOfMemory, Shape, VariableDeclarationKind};
 use mini_node::{Node, is_listed, listed, of_one, one};
-use mini_text::OutOfMemory;
 use std::alloc::Global;
 
 // Whether the kinds are one.

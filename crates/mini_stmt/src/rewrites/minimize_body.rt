@@ -1,20 +1,21 @@
-//! The list of a function's body. 78: its last `return;` goes. 75: `if (a) return; b; c;` becomes `if (!a) { b; c; }`.
+//! The list of a function's body. 78: its last `return;` goes. 75: `if (a) return; b; c;` becomes `if (!a) { b; c; }`, and
+//! `if (a) { b; return; } c;` becomes `if (a) { b; } else { c; }`.
 
-ghost use Rattle.std.specs.Prelude.{◌≡◌, ◌+◌, ◌<◌, true, IfOk, OnOk};
-ghost use Rattle.mini_model.specs.Paths.{append};
-ghost use Rattle.mini_model.specs.Tree.{none, ◌▸◌, child_or_absent, count};
-ghost use Rattle.mini_node.specs.Children.{first_children, rest_children};
+ghost use Rattle.std.specs.Prelude.{◌≡◌, true, Some, IfOk, OnOk};
+ghost use Rattle.mini_rows.specs.Lists.{alternate_of as its_alternate};
 ghost use Rattle.mini_stmt.specs.MinimizeBody as row;
-ghost use Rattle.mini_stmt.specs.MinimizeBody.{EarlyAt, EndsBody, MinimizesBody};
+ghost use Rattle.mini_stmt.specs.MinimizeBody.{AllTurned, EarlyAt, EndsBody, MinimizesBody, Turned, TurnedAt};
 ghost use Rattle.mini_stmt.specs.MinimizeStatements.{switches_of};
 
 use crate::rewrites::join_jumps::returns_nothing;
+use crate::rewrites::spread_block::body_of;
 use crate::statements::{minimize_statements, take_last};
-use crate::terms::statement_cares_about_scope;
+use crate::terms::{are_shallow, are_unscoped, statement_cares_about_scope};
+use mini_model::OutOfMemory;
 use mini_node::{
-    Node, Nodes, absent, block, discard, if_statement, is_if_alone, is_listed, negation, three,
+    Node, Nodes, absent, block, discard, if_statement, is_block, is_if_alone, is_listed, negation,
+    three,
 };
-use mini_text::OutOfMemory;
 use mini_tree::CompressOptions;
 use std::alloc::Global;
 
@@ -36,7 +37,24 @@ fn ends_bare(list: &Nodes) -> bool
     returns_nothing(list.child(count - 1))
 }
 
-// The last `if (a) return;` after which nothing is scoped.
+// `if (a) { b; return; }`
+fn leaves_by_block(node: &Node) -> bool
+    ensures { result ≡ row.leaves_by_block node.now }
+{
+    is_if_alone(node)
+        && is_block(node.child(1))
+        && ends_bare(node.child(1).child(0).children())
+        && are_unscoped(node.child(1).child(0).children())
+}
+
+// Either of them.
+fn is_guard(node: &Node) -> bool
+    ensures { result ≡ row.is_guard node.now }
+{
+    leaves(node) || leaves_by_block(node)
+}
+
+// The last guard, if what follows it may go into a block.
 fn early_at(list: &Nodes) -> Option<usize>
     ensures { EarlyAt list.now result }
 {
@@ -44,8 +62,12 @@ fn early_at(list: &Nodes) -> Option<usize>
     for back in 0..count {
         let at = count - 1 - back;
         let node = list.child(at);
-        if leaves(node) {
-            return Some(at);
+        if is_guard(node) {
+            return if are_shallow(list, at + 1, 64) {
+                Some(at)
+            } else {
+                None
+            };
         }
         if statement_cares_about_scope(node) {
             return None;
@@ -55,8 +77,10 @@ fn early_at(list: &Nodes) -> Option<usize>
 }
 
 // `if (!a) { b; c; }`
-fn turned(alloc: Global, guard: Node, rest: Nodes) -> Result<Node, OutOfMemory>
-    ensures { IfOk result (λ made. made ≡ row.turned guard rest) }
+fn turned_bare(alloc: Global, guard: Node, rest: Nodes) -> Result<Node, OutOfMemory>
+    requires guard { row.leaves guard ≡ true }
+    requires rest { row.may_nest rest ≡ true }
+    ensures { IfOk result (Turned guard rest) }
 {
     let (test, jump, alternate) = three(guard);
     discard(jump);
@@ -66,10 +90,47 @@ fn turned(alloc: Global, guard: Node, rest: Nodes) -> Result<Node, OutOfMemory>
     if_statement(alloc, turned, body, absent(alloc))
 }
 
-// The statements after the one at a place go into it.
+// `else { c; }`, or nothing
+fn alternate_of(alloc: Global, rest: Nodes) -> Result<Node, OutOfMemory>
+    ensures { IfOk result (λ made. made ≡ its_alternate rest) }
+{
+    if rest.len() == 0 {
+        return Ok(absent(alloc));
+    }
+    block(alloc, rest)
+}
+
+// `if (a) { b; } else { c; }`
+fn turned_block(alloc: Global, guard: Node, rest: Nodes) -> Result<Node, OutOfMemory>
+    requires guard { row.leaves_by_block guard ≡ true }
+    requires rest { row.may_nest rest ≡ true }
+    ensures { IfOk result (Turned guard rest) }
+{
+    let (test, consequent, nothing) = three(guard);
+    discard(nothing);
+    let mut body = body_of(consequent);
+    drop_last(&mut body);
+    let kept = block(alloc, body)?;
+    let alternate = alternate_of(alloc, rest)?;
+    if_statement(alloc, test, kept, alternate)
+}
+
+// Either of them.
+fn turned(alloc: Global, guard: Node, rest: Nodes) -> Result<Node, OutOfMemory>
+    requires guard { row.is_guard guard ≡ true }
+    requires rest { row.may_nest rest ≡ true }
+    ensures { IfOk result (Turned guard rest) }
+{
+    if leaves(&guard) {
+        return turned_bare(alloc, guard, rest);
+    }
+    turned_block(alloc, guard, rest)
+}
+
+// The guard at a place takes in what follows.
 fn turn_at(alloc: Global, list: &mut Nodes, at: usize) -> Result<(), OutOfMemory>
-    requires { at < count list.old }
-    ensures { OnOk result (list.new ≡ append (first_children at list.old) (row.turned (child_or_absent list.old at) (rest_children (at + 1) list.old) ▸ none)) }
+    requires { EarlyAt list.old (Some at) }
+    ensures { OnOk result (TurnedAt list.old at list.new) }
 {
     let mut rest = list.split_off(at)?;
     let guard = rest.remove(0);
@@ -87,6 +148,18 @@ fn drop_last(list: &mut Nodes)
     discard(last);
 }
 
+// Turns all guards, from the last to the first. The answer says whether there was one.
+fn turn_guards(alloc: Global, list: &mut Nodes) -> Result<bool, OutOfMemory>
+    ensures { IfOk result (λ changed. AllTurned list.old list.new changed) }
+{
+    let mut changed = false;
+    'turning: while let Some(at) = early_at(list) {
+        turn_at(alloc, list, at)?;
+        changed = true;
+    }
+    Ok(changed)
+}
+
 // The rows at the end of the list. The answer says whether one acted.
 fn end_body(alloc: Global, options: CompressOptions, node: &mut Node) -> Result<bool, OutOfMemory>
     ensures { IfOk result (λ changed. EndsBody (switches_of options) node.old node.new changed) }
@@ -101,13 +174,7 @@ fn end_body(alloc: Global, options: CompressOptions, node: &mut Node) -> Result<
     if !options.sequences {
         return Ok(false);
     }
-    match early_at(node.children()) {
-        Some(at) => {
-            turn_at(alloc, node.children_mut(), at)?;
-            Ok(true)
-        }
-        None => Ok(false),
-    }
+    turn_guards(alloc, node.children_mut())
 }
 
 /// The list of a function's body without what the rows of lists read, and without what those at its end do: the function

@@ -5,8 +5,8 @@ ghost use Rattle.mini_node.specs.Children.{part};
 ghost use Rattle.mini_stmt.specs.SplitIf as row;
 
 use crate::terms::{is_terminated, statement_cares_about_scope};
+use mini_model::OutOfMemory;
 use mini_node::{Node, absent, if_statement, is_if_statement, three};
-use mini_text::OutOfMemory;
 use std::alloc::Global;
 
 /// `if (a) s; else u`

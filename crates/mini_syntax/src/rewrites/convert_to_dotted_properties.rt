@@ -7,11 +7,10 @@ ghost use Rattle.mini_model.specs.Tree.{children, count};
 ghost use Rattle.mini_node.specs.Kinds.{string as text_of, assignment_operator as operator_of};
 ghost use Rattle.mini_syntax.specs.ConvertToDottedProperties.{is_name_text, number_of_text, named_member as its_named_member, numbered_member as its_numbered_member, text_in, as_name as the_name, dotted as dotted_of, numbered as numbered_of, turned, assigned, updated, update_operator, written};
 
-use mini_model::Shape;
+use mini_model::{OutOfMemory, Shape, Text, equivalent_number, is_identifier_name};
 use mini_node::{
     Node, computed_member, is_computed_member, numeric_literal, of_two, one, string, taken, two,
 };
-use mini_text::{OutOfMemory, Text, equivalent_number, is_identifier_name};
 use std::alloc::Global;
 use std::mem;
 

@@ -8,9 +8,8 @@ ghost use Rattle.mini_syntax.specs.Lighter.{arrows_lighter};
 ghost use Rattle.mini_syntax.specs.SubstituteArrowExpression.{is_plain_arrow as is_a_plain_arrow, are_no_names, returned as returned_by, returns as it_returns, is_returning as it_is_returning, unwrapped as unwrapped_arrow, written, Gives, Rests};
 
 use crate::forms::is_list_of;
-use mini_model::{Name, Position, Shape};
+use mini_model::{Name, OutOfMemory, Position, Shape};
 use mini_node::{Node, discard, is_return_statement, one, taken};
-use mini_text::OutOfMemory;
 use mini_walk::{Context, Rule};
 use std::alloc::Global;
 

@@ -4,8 +4,8 @@ ghost use Rattle.std.specs.Prelude.{◌≡◌, is_some, unwrap_or, OnOk, IfOk};
 ghost use Rattle.mini_rows.specs.Spellings.{negated_digit as its_digit};
 ghost use Rattle.mini_syntax.specs.SubstituteBoolean.{written};
 
+use mini_model::OutOfMemory;
 use mini_node::{Node, boolean, negation, numeric_literal};
-use mini_text::OutOfMemory;
 use std::alloc::Global;
 
 // `!0` or `!1`

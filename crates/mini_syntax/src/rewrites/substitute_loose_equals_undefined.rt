@@ -7,9 +7,8 @@ ghost use Rattle.mini_node.specs.Kinds.{binary as binary_of};
 ghost use Rattle.mini_syntax.specs.SubstituteLooseEqualsUndefined.{is_loose as is_it_loose, loose_operator as its_loose_operator, written};
 
 use crate::forms::is_undefined;
-use mini_model::BinaryOperator;
+use mini_model::{BinaryOperator, OutOfMemory};
 use mini_node::{Node, binary, binary_operator, discard, null_literal, one, taken, two};
-use mini_text::OutOfMemory;
 use std::alloc::Global;
 
 // `==` or `!=`

@@ -13,11 +13,10 @@ ghost use Rattle.mini_syntax.specs.SubstituteObjectProperty as row;
 ghost use Rattle.mini_syntax.specs.SubstituteObjectProperty.{written, is_written, Gives, Rests};
 
 use crate::rewrites::convert_to_dotted_properties::{as_name, number_of};
-use mini_model::{Name, Position, PropertyKind, Shape};
+use mini_model::{Name, OutOfMemory, Position, PropertyKind, Shape, Text, is_identifier_name};
 use mini_node::{
     Node, Nodes, discard, is_identifier, is_listed, numeric_literal, of_two, string, taken, two,
 };
-use mini_text::{OutOfMemory, Text, is_identifier_name};
 use mini_walk::{Context, Rule};
 use std::alloc::Global;
 
@@ -72,8 +71,8 @@ fn is_whole(value: i64) -> bool
     value >= 0 && value <= MAX_SAFE_INTEGER
 }
 
-// A text, or a safe whole number from 0; in a plain property not `__proto__`.
-fn is_literal_key(plain: bool, key: &Node) -> bool
+/// A text, or a safe whole number from 0; in a plain property not `__proto__`.
+pub fn is_literal_key(plain: bool, key: &Node) -> bool
     ensures { result ≡ row.is_literal_key plain key.now }
 {
     match key.shape() {
@@ -101,8 +100,8 @@ fn opened_shape(shape: &Shape) -> Shape
     }
 }
 
-// A node of this shape over a key and a value.
-fn property(alloc: Global, shape: Shape, key: Node, value: Node) -> Result<Node, OutOfMemory>
+/// A node of this shape over a key and a value.
+pub fn property(alloc: Global, shape: Shape, key: Node, value: Node) -> Result<Node, OutOfMemory>
     ensures { IfOk result (λ w. w ≡ node shape [] 0 (key ▸ value ▸ none)) }
 {
     let children = of_two(alloc, key, value)?;

@@ -1,24 +1,38 @@
-//! Row 60 of `return`: `return undefined;` and `return void 0;` become `return;`, which is lighter in every place.
+//! Row 60 of `return`: `return undefined;`, `return void 0;` and `return void a;`, where a has no effect, become `return;`, which is
+//! lighter in every place.
 
 ghost use Rattle.std.specs.Prelude.{◌≡◌, is_some, unwrap_or, OnOk, IfOk};
 ghost use Rattle.mini_model.specs.Tree.{absent as no_part};
 ghost use Rattle.mini_node.specs.Kinds.{return_statement as returns};
 ghost use Rattle.mini_walk.specs.Rule.{Applied};
 ghost use Rattle.mini_syntax.specs.Lighter.{returns_lighter};
-ghost use Rattle.mini_syntax.specs.SubstituteReturnStatement.{returns_undefined as returns_it_undefined, written, Gives, Rests};
+ghost use Rattle.mini_syntax.specs.SubstituteReturnStatement.{is_idle_void as is_it_idle_void, returns_undefined as returns_it_undefined, written, Gives, Rests};
 
 use crate::forms::is_undefined;
-use mini_model::Position;
-use mini_node::{Node, absent, is_return_statement, return_statement};
-use mini_text::OutOfMemory;
+use mini_model::{OutOfMemory, Position, UnaryOperator};
+use mini_node::{Node, absent, is_return_statement, return_statement, unary_operator};
+use mini_terms::{has_no_effect, leaves_nothing};
 use mini_walk::{Context, Rule};
 use std::alloc::Global;
 
-// `return undefined;` or `return void 0;`
+// `void a`, where a has no effect.
+fn is_idle_void(node: &Node) -> bool
+    ensures { result ≡ is_it_idle_void node.now }
+{
+    match unary_operator(node) {
+        Some(UnaryOperator::Void) => has_no_effect(node.child(0)) && leaves_nothing(node.child(0)),
+        _ => false,
+    }
+}
+
+// `return undefined;`, `return void 0;` or `return void a;`
 fn returns_undefined(node: &Node) -> bool
     ensures { result ≡ returns_it_undefined node.now }
 {
-    is_return_statement(node) && is_undefined(node.child(0))
+    if !is_return_statement(node) {
+        return false;
+    }
+    is_undefined(node.child(0)) || is_idle_void(node.child(0))
 }
 
 // `return;`
@@ -28,8 +42,8 @@ fn returns_nothing(alloc: Global) -> Result<Node, OutOfMemory>
     return_statement(alloc, absent(alloc))
 }
 
-/// `return undefined;` and `return void 0;` become `return;`. The answer says whether it did; the only error is that memory
-/// runs out, and then the statement is as it was.
+/// `return undefined;`, `return void 0;` and `return void a;`, where a has no effect, become `return;`. The answer says whether it
+/// did; the only error is that memory runs out, and then the statement is as it was.
 pub fn substitute_return_statement(alloc: Global, node: &mut Node) -> Result<bool, OutOfMemory>
     ensures tree { OnOk result (node.new ≡ unwrap_or (written node.old) node.old) }
     ensures said { IfOk result (λ changed. changed ≡ is_some (written node.old)) }

@@ -11,9 +11,8 @@ use crate::rewrites::substitute_loose_equals_undefined::substitute_loose_equals_
 use crate::rewrites::substitute_swap_binary_expressions::substitute_swap_binary_expressions;
 use crate::rewrites::substitute_typeof_undefined::substitute_typeof_undefined;
 use crate::rewrites::substitute_yield_expression::substitute_yield_expression;
-use mini_model::{Position, Shape};
+use mini_model::{OutOfMemory, Position, Shape};
 use mini_node::Node;
-use mini_text::OutOfMemory;
 use mini_walk::{Context, Rule};
 use std::alloc::Global;
 

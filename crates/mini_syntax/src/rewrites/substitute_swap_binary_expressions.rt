@@ -8,9 +8,8 @@ ghost use Rattle.mini_node.specs.Kinds.{binary as binary_of};
 ghost use Rattle.mini_syntax.specs.SubstituteSwapBinaryExpressions.{items as items_of, is_zero_shape as is_it_zero_shape, is_ready as is_it_ready, swapped_operator as its_swapped_operator, written};
 
 use crate::forms::is_plain;
-use mini_model::{BinaryOperator, Shape, UnaryOperator};
+use mini_model::{BinaryOperator, OutOfMemory, Shape, UnaryOperator};
 use mini_node::{Node, binary, binary_operator, taken, two};
-use mini_text::OutOfMemory;
 use std::alloc::Global;
 
 fn is_equality(operator: BinaryOperator) -> bool

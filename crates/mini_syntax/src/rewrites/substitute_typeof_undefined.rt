@@ -10,12 +10,11 @@ ghost use Rattle.mini_syntax.specs.SubstituteTypeofUndefined as row;
 ghost use Rattle.mini_syntax.specs.SubstituteTypeofUndefined.{written};
 
 use crate::forms::UNDEFINED;
-use mini_model::{BinaryOperator, Name, UnaryOperator};
+use mini_model::{BinaryOperator, Name, OutOfMemory, Text, UnaryOperator};
 use mini_node::{
     Node, binary, binary_operator, is_identifier, one, string, string_literal, taken,
     unary_operator,
 };
-use mini_text::{OutOfMemory, Text};
 use std::alloc::Global;
 
 // The unit of `u`.

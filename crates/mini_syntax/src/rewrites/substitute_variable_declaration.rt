@@ -14,9 +14,8 @@ ghost use Rattle.mini_syntax.specs.SubstituteVariableDeclaration as row;
 ghost use Rattle.mini_syntax.specs.SubstituteVariableDeclaration.{any_of, begins_undefined as is_begun_undefined, declares_undefined as is_declared_undefined, is_read as is_it_read, Bared, Rests, Applied};
 
 use crate::forms::is_undefined;
-use mini_model::{Position, Shape, VariableDeclarationKind};
+use mini_model::{OutOfMemory, Position, Shape, VariableDeclarationKind};
 use mini_node::{Node, Nodes, discard, is_listed};
-use mini_text::OutOfMemory;
 use mini_walk::{Context, Rule};
 use std::alloc::Global;
 

@@ -6,9 +6,8 @@ ghost use Rattle.mini_rows.specs.Spellings.{yields};
 ghost use Rattle.mini_syntax.specs.SubstituteYieldExpression.{yields_void_zero as is_it_void_zero, written};
 
 use crate::forms::is_void_zero;
-use mini_model::Shape;
+use mini_model::{OutOfMemory, Shape};
 use mini_node::{Node, absent, of_one};
-use mini_text::OutOfMemory;
 use std::alloc::Global;
 
 // `yield void 0`

@@ -1,5 +1,8 @@
-use Rattle.mini_logic.proofs.NegationsSame.{lighter_same}
+use Rattle.mini_logic.proofs.NegationsSame as lemma
 use Rattle.mini_logic.proofs.laws.negations_mean_the_same.Goals as goal
 
-pub returns : goal.returns
-returns c = lighter_same
+pub returns-clause-lighter : goal.returns-clause-lighter
+returns-clause-lighter c = lemma.lighter_same
+
+pub returns-clause-lightest : goal.returns-clause-lightest
+returns-clause-lightest c = lemma.lightest_same

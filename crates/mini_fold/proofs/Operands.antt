@@ -1,0 +1,238 @@
+-- What is written for an operand whose value is known is what a row says, and where nothing is no row reads the expression.
+use Rattle.std.proofs.Common.{◌≡◌, ℕ, zero, suc, Bool, true, false, List, [], Option, Some, None, refl, sym, ap, subst, ◌∙◌, inl, inr, true≢false}
+use Rattle.std.specs.Prelude.{◌&&◌, ◌||◌, ℤ, pos, is_some, unwrap_or, if◌then◌else◌}
+use Rattle.std.proofs.lemmas.Bool.{and_parts}
+use Rattle.mini_model.specs.declared.operator.BinaryOperator.{BinaryOperator}
+use Rattle.mini_model.specs.declared.operator.BinaryOperator.TheVariants.{Addition, Equality, Inequality}
+use Rattle.mini_model.specs.declared.operator.LogicalOperator.{LogicalOperator}
+use Rattle.mini_model.specs.declared.operator.LogicalOperator.TheVariants.{Or, And, Coalesce}
+use Rattle.mini_model.specs.declared.place.Position.TheVariants.{Expr}
+use Rattle.mini_model.specs.declared.seat.Seat.{Seat}
+use Rattle.mini_model.specs.declared.shape.Shape.{Shape}
+use Rattle.mini_model.specs.declared.shape.Shape.TheVariants as shape
+use Rattle.mini_model.specs.Tree.{Tree, shape_of, logical, negation}
+use Rattle.mini_model.specs.Position.{is_and_or, right_operand_seat}
+use Rattle.mini_node.specs.Children.{part}
+use Rattle.mini_node.specs.Kinds.{logical_operator, binary_operator, is_logical, is_negation, number, string, binary}
+use Rattle.mini_node.specs.Made.{logical_is, binary_is, and_is, or_is, negation_is, number_is, string_is}
+use Rattle.mini_laws.specs.Operators.{same_boolean}
+use Rattle.mini_terms.specs.declared.kinds.Kind.{Kind}
+use Rattle.mini_terms.specs.declared.kinds.Kind.TheVariants.{Boolean as IsBoolean, String as IsString}
+use Rattle.mini_terms.specs.Folds.{is_effect_free, goes_on}
+use Rattle.mini_terms.specs.Kind.{kind}
+use Rattle.mini_terms.specs.Parts.{takes_numbers, suits, leaves_nothing, weighs}
+use Rattle.mini_terms.specs.Reading.{is_unguarded, is_plain_part}
+use Rattle.mini_rows.specs.Booleans.{digit}
+use Rattle.mini_rows.specs.Choices.{loosely}
+use Rattle.mini_rows.specs.Operands.{beside, told_by, Row14, Row7, OperandRow}
+use Rattle.mini_rows.specs.Spellings.{negated_digit, text}
+use Rattle.mini_rows.proofs.OperandWeights.{lighter}
+use Rattle.mini_walk.specs.Rule.{Applied}
+use Rattle.mini_walk.proofs.Reaching.{moves_once}
+use Rattle.mini_fold.specs.FoldOperands.{is_redundant, logical_written, is_empty, is_string_kind, is_text, text_written, negated_truth, truth_in, is_boolean_kind, is_told, right_written, left_written, either_written, equal_written, binary_written, written_by, written, Gives, Rests}
+
+or_true : (b : Bool) → b || true ≡ true
+or_true true = refl
+or_true false = refl
+
+-- a `!` stands by its value, and is no number
+pub negated_suits : (s : Seat) (a : Tree) → is_plain_part a ≡ suits s (negation a)
+negated_suits s a = sym (ap (λ b. is_plain_part a && (b && (takes_numbers s || true))) (or_true (is_unguarded s.guard && true)) ∙ ap (λ b. is_plain_part a && b) (or_true (takes_numbers s)) ∙ both (is_plain_part a))
+  where
+    both : (b : Bool) → b && true ≡ b
+    both true = refl
+    both false = refl
+
+both_true : (b c : Bool) → b ≡ true → c ≡ true → b && c ≡ true
+both_true true c e f = f
+both_true false c e f = e
+
+some_is : (x y : Tree) → Some x ≡ Some y → x ≡ y
+some_is x y e = cc e
+
+nothing : {w : Tree} {B : Type 0} → None ≡ Some w → B
+nothing e = cc e
+
+-- ---- 14
+
+nested_is : (o : LogicalOperator) (t : Tree) → is_and_or o ≡ true → is_logical o t ≡ true → t ≡ logical o (part t 0) (part t 1)
+nested_is Or t h e = or_is t e
+nested_is And t h e = and_is t e
+nested_is Coalesce t h e = absurd (true≢false (sym h))
+
+middle_row : (s : Seat) (n : Tree) (o : LogicalOperator) → logical_operator n ≡ Some o → is_redundant s o (part n 0) (part n 1) ≡ true → Row14 s n (logical o (part (part n 0) 0) (part n 1))
+middle_row s n o h e =
+    let a : Tree = part n 0 in
+    let b : Tree = part n 1 in
+    let k : Tree = part a 1 in
+    let (tells, r1) = and_parts (is_and_or o) (is_logical o a && (goes_on o k && (is_effect_free k && (leaves_nothing k && (weighs k && suits (right_operand_seat o s) b))))) e in
+    let (nested, r2) = and_parts (is_logical o a) (goes_on o k && (is_effect_free k && (leaves_nothing k && (weighs k && suits (right_operand_seat o s) b)))) r1 in
+    let (known, r3) = and_parts (goes_on o k) (is_effect_free k && (leaves_nothing k && (weighs k && suits (right_operand_seat o s) b))) r2 in
+    let (free, r4) = and_parts (is_effect_free k) (leaves_nothing k && (weighs k && suits (right_operand_seat o s) b)) r3 in
+    let (dropped, r5) = and_parts (leaves_nothing k) (weighs k && suits (right_operand_seat o s) b) r4 in
+    let (heavy, stays) = and_parts (weighs k) (suits (right_operand_seat o s) b) r5 in record {
+      operator = o;
+      left = part a 0;
+      middle = k;
+      right = b;
+      tells = tells;
+      known = known;
+      effect_free = free;
+      dropped = dropped;
+      heavy = heavy;
+      stays = stays;
+      shape = logical_is n o h ∙ ap (λ t. logical o t b) (nested_is o a tells nested);
+      written = refl;
+    }
+
+logical_row : (s : Seat) (n w : Tree) (o : Option LogicalOperator) → logical_operator n ≡ o → logical_written s o n ≡ Some w → Row14 s n w
+logical_row s n w None h e = nothing e
+logical_row s n w (Some o) h e = go (is_redundant s o (part n 0) (part n 1)) refl e
+  where
+    go : (b : Bool) → is_redundant s o (part n 0) (part n 1) ≡ b → (if b then Some (logical o (part (part n 0) 0) (part n 1)) else None) ≡ Some w → Row14 s n w
+    go true k f = subst (Row14 s n) (some_is (logical o (part (part n 0) 0) (part n 1)) w f) (middle_row s n o h k)
+    go false k f = nothing f
+
+redundant : (s : Seat) (o : LogicalOperator) (a k b : Tree) → is_and_or o ≡ true → goes_on o k ≡ true → is_effect_free k ≡ true → leaves_nothing k ≡ true → weighs k ≡ true → suits (right_operand_seat o s) b ≡ true → is_redundant s o (logical o a k) b ≡ true
+redundant s Or a k b t h e d w p = both_true (goes_on Or k) _ h (both_true (is_effect_free k) _ e (both_true (leaves_nothing k) _ d (both_true (weighs k) (suits (right_operand_seat Or s) b) w p)))
+redundant s And a k b t h e d w p = both_true (goes_on And k) _ h (both_true (is_effect_free k) _ e (both_true (leaves_nothing k) _ d (both_true (weighs k) (suits (right_operand_seat And s) b) w p)))
+redundant s Coalesce a k b t h e d w p = absurd (true≢false (sym t))
+
+there : (b : Bool) (t : Tree) → b ≡ true → is_some (if b then Some t else None) ≡ true
+there true t e = refl
+there false t e = absurd (true≢false (sym e))
+
+middle_passes : (s : Seat) (n w : Tree) → Row14 s n w → is_some (written s n) ≡ true
+middle_passes s n w r =
+    ap (λ t. is_some (written s t)) r.shape
+    ∙ there (is_redundant s r.operator (logical r.operator r.left r.middle) r.right) (logical r.operator r.left r.right) (redundant s r.operator r.left r.middle r.right r.tells r.known r.effect_free r.dropped r.heavy r.stays)
+
+-- ---- 7
+
+empty_text : (t : Tree) → is_empty (string t) ≡ true → t ≡ text []
+empty_text t e = go (string t) refl e
+  where
+    go : (c : Option (List ℕ)) → string t ≡ c → is_empty c ≡ true → t ≡ text []
+    go (Some []) h k = string_is t [] h
+    go c h k = absurd (true≢false (sym k))
+
+string_kind : (k : Kind) → is_string_kind k ≡ true → k ≡ IsString
+string_kind IsString e = refl
+string_kind k e = absurd (true≢false (sym e))
+
+text_row : (s : Seat) (n a k : Tree) (b : Bool) → n ≡ beside Addition b a k → is_text s a k ≡ true → Row7 s n a
+text_row s n a k b is e =
+    let (empty, rest) = and_parts (is_empty (string k)) (is_string_kind (kind a) && suits s a) e in
+    let (known, stays) = and_parts (is_string_kind (kind a)) (suits s a) rest in
+    record { on_right = b; operand = a; known = string_kind (kind a) known; stays = stays; shape = is ∙ ap (beside Addition b a) (empty_text k empty); written = refl }
+
+texts_row : (s : Seat) (n w a b : Tree) → n ≡ binary Addition a b → text_written s a b ≡ Some w → Row7 s n w
+texts_row s n w a b is e = go (is_text s a b) (is_text s b a) refl refl e
+  where
+    go : (c d : Bool) → is_text s a b ≡ c → is_text s b a ≡ d → (if c then Some a else (if d then Some b else None)) ≡ Some w → Row7 s n w
+    go true d h k f = subst (Row7 s n) (some_is a w f) (text_row s n a b true is h)
+    go false true h k f = subst (Row7 s n) (some_is b w f) (text_row s n b a false is k)
+    go false false h k f = nothing f
+
+first_or_second : (b c : Bool) (t u : Tree) → b || c ≡ true → is_some (if b then Some t else (if c then Some u else None)) ≡ true
+first_or_second true c t u e = refl
+first_or_second false true t u e = refl
+first_or_second false false t u e = absurd (true≢false (sym e))
+
+is_text_there : (s : Seat) (a : Tree) → kind a ≡ IsString → suits s a ≡ true → is_text s a (text []) ≡ true
+is_text_there s a known stays = ap (λ k. is_string_kind k && suits s a) known ∙ stays
+
+or_right : (b c : Bool) → c ≡ true → b || c ≡ true
+or_right true c e = refl
+or_right false c e = e
+
+text_passes_as : (s : Seat) (b : Bool) (a : Tree) → kind a ≡ IsString → suits s a ≡ true → is_some (written s (beside Addition b a (text []))) ≡ true
+text_passes_as s true a k h = first_or_second (is_text s a (text [])) (is_text s (text []) a) a (text []) (ap (λ c. c || is_text s (text []) a) (is_text_there s a k h))
+text_passes_as s false a k h = first_or_second (is_text s (text []) a) (is_text s a (text [])) (text []) a (or_right (is_text s (text []) a) (is_text s a (text [])) (is_text_there s a k h))
+
+text_passes : (s : Seat) (n w : Tree) → Row7 s n w → is_some (written s n) ≡ true
+text_passes s n w r = ap (λ t. is_some (written s t)) r.shape ∙ text_passes_as s r.on_right r.operand r.known r.stays
+
+-- ---- 29 and 30
+
+truth_is : (t : Tree) (c : Bool) → truth_in t ≡ Some c → t ≡ negated_digit c
+truth_is t c e = go (is_negation t) refl e
+  where
+    by : is_negation t ≡ true → (x : Option ℤ) → number (part t 0) ≡ x → negated_truth x ≡ Some c → t ≡ negated_digit c
+    by h (Some (pos zero)) k f = negation_is t h ∙ ap negation (number_is (part t 0) (pos 0) k) ∙ ap negated_digit {x = true} {y = c} (cc f)
+    by h (Some (pos (suc zero))) k f = negation_is t h ∙ ap negation (number_is (part t 0) (pos 1) k) ∙ ap negated_digit {x = false} {y = c} (cc f)
+    by h x k f = absurd (cc f)
+
+    go : (b : Bool) → is_negation t ≡ b → (if b then negated_truth (number (part t 0)) else None) ≡ Some c → t ≡ negated_digit c
+    go true h f = by h (number (part t 0)) refl f
+    go false h f = absurd (cc f)
+
+boolean_kind : (k : Kind) → is_boolean_kind k ≡ true → k ≡ IsBoolean
+boolean_kind IsBoolean e = refl
+boolean_kind k e = absurd (true≢false (sym e))
+
+abbrev Reads : Seat → Tree → Tree → Type 0
+Reads s n w = OperandRow (Expr s) n w
+
+right_row : (s : Seat) (n : Tree) (equal c : Bool) (a : Tree) → n ≡ binary (loosely equal) a (negated_digit c) → Reads s n (right_written s equal c a)
+right_row s n equal c a is = go (is_told s (same_boolean equal c) a) refl
+  where
+    go : (b : Bool) → is_told s (same_boolean equal c) a ≡ b → Reads s n (if b then told_by (same_boolean equal c) a else binary (loosely equal) a (digit c))
+    go true h = let (known, stays) = and_parts (is_boolean_kind (kind a)) (suits s (told_by (same_boolean equal c) a)) h in inr (inr (inl (record { equal = equal; truth = c; operand = a; known = boolean_kind (kind a) known; stays = stays; shape = is; written = refl })))
+    go false h = inr (inr (inr (record { equal = equal; truth = c; on_right = true; operand = a; shape = is; written = refl })))
+
+equal_row : (s : Seat) (n w : Tree) (equal : Bool) (a b : Tree) → n ≡ binary (loosely equal) a b → equal_written s equal a b ≡ Some w → Reads s n w
+equal_row s n w equal a b is e = go (truth_in b) (truth_in a) refl refl e
+  where
+    go : (c d : Option Bool) → truth_in b ≡ c → truth_in a ≡ d → either_written s equal c a b ≡ Some w → Reads s n w
+    go (Some c) d h k f = subst (Reads s n) (some_is (right_written s equal c a) w f) (right_row s n equal c a (is ∙ ap (binary (loosely equal) a) (truth_is b c h)))
+    go None (Some d) h k f = inr (inr (inr (record { equal = equal; truth = d; on_right = false; operand = b; shape = is ∙ ap (λ t. binary (loosely equal) t b) (truth_is a d k); written = sym (some_is (binary (loosely equal) (digit d) b) w (sym (ap (λ o. left_written equal o b) k) ∙ f)) })))
+    go None None h k f = nothing (sym (ap (λ o. left_written equal o b) k) ∙ f)
+
+right_passes : (s : Seat) (equal c : Bool) (a : Tree) → is_some (written s (binary (loosely equal) a (negated_digit c))) ≡ true
+right_passes s true true a = refl
+right_passes s true false a = refl
+right_passes s false true a = refl
+right_passes s false false a = refl
+
+either_passes : (s : Seat) (equal c : Bool) (a : Tree) (o : Option Bool) → is_some (either_written s equal o (negated_digit c) a) ≡ true
+either_passes s equal c a (Some d) = refl
+either_passes s equal true a None = refl
+either_passes s equal false a None = refl
+
+beside_passes : (s : Seat) (equal c b : Bool) (a : Tree) → is_some (written s (beside (loosely equal) b a (negated_digit c))) ≡ true
+beside_passes s equal c true a = right_passes s equal c a
+beside_passes s true c false a = either_passes s true c a (truth_in a)
+beside_passes s false c false a = either_passes s false c a (truth_in a)
+
+-- ---- all
+
+binary_row : (s : Seat) (n w : Tree) (o : Option BinaryOperator) → binary_operator n ≡ o → binary_written s o n ≡ Some w → OperandRow (Expr s) n w
+binary_row s n w (Some Addition) h e = inr (inl (texts_row s n w (part n 0) (part n 1) (binary_is n Addition h) e))
+binary_row s n w (Some Equality) h e = equal_row s n w true (part n 0) (part n 1) (binary_is n Equality h) e
+binary_row s n w (Some Inequality) h e = equal_row s n w false (part n 0) (part n 1) (binary_is n Inequality h) e
+binary_row s n w o h e = nothing e
+
+written_is_row : (s : Seat) (n w : Tree) → written s n ≡ Some w → OperandRow (Expr s) n w
+written_is_row s n w e = go (shape_of n) e
+  where
+    go : (h : Shape) → written_by h s n ≡ Some w → OperandRow (Expr s) n w
+    go (shape.LogicalExpression o) f = inl (logical_row s n w (logical_operator n) refl f)
+    go (shape.BinaryExpression o) f = binary_row s n w (binary_operator n) refl f
+    go h f = nothing f
+
+passes : (s : Seat) (n w : Tree) → OperandRow (Expr s) n w → is_some (written s n) ≡ true
+passes s n w (inl r) = middle_passes s n w r
+passes s n w (inr (inl r)) = text_passes s n w r
+passes s n w (inr (inr (inl r))) = ap (λ t. is_some (written s t)) r.shape ∙ right_passes s r.equal r.truth r.operand
+passes s n w (inr (inr (inr r))) = ap (λ t. is_some (written s t)) r.shape ∙ beside_passes s r.equal r.truth r.on_right r.operand
+
+unwritten_rests : (s : Seat) (n : Tree) → written s n ≡ None → Rests (Expr s) n
+unwritten_rests s n e w r = true≢false (sym (passes s n w r) ∙ ap is_some e)
+
+pub applied : (s : Seat) (t u : Tree) (b : Bool) → u ≡ unwrap_or (written s t) t → b ≡ is_some (written s t) → Applied Gives Rests (Expr s) t u b
+applied s t u b e f = subst (λ v. Applied Gives Rests (Expr s) t v b) (sym e) (subst (Applied Gives Rests (Expr s) t (unwrap_or (written s t) t)) (sym f) (go (written s t) refl))
+  where
+    go : (o : Option Tree) → written s t ≡ o → Applied Gives Rests (Expr s) t (unwrap_or o t) (is_some o)
+    go None h = (refl, unwritten_rests s t h)
+    go (Some w) h = let row = written_is_row s t w h in moves_once Gives (Expr s) t w (record { row = row; lighter = lighter (Expr s) t w row })

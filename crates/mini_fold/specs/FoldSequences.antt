@@ -1,0 +1,76 @@
+-- The rewrites 20 and 21: `(a, b) && c` becomes `a, b && c`, and `a, (b, c)` becomes `a, b, c`.
+use Rattle.std.specs.Prelude.{ℕ, Bool, true, false, ◌&&◌, ◌||◌, is_some}
+use Rattle.mini_model.specs.declared.place.Position.{Position}
+use Rattle.mini_model.specs.declared.seat.Seat.{Seat}
+use Rattle.mini_model.specs.Tree.{Tree, Trees, none, ◌▸◌, absent, children, first_or_absent}
+use Rattle.mini_model.specs.Paths.{append}
+use Rattle.mini_node.specs.Children.{part, like, first_children, rest_children, with_inserted, without}
+use Rattle.mini_node.specs.Kinds.{logical_operator, is_conditional, is_negation, is_sequence, sequence}
+use Rattle.mini_rows.specs.Sequences.{is_open_seat, SequenceRow, SequenceContracts}
+
+-- two or more
+abbrev pub has_several : Trees → Bool
+has_several (a ▸ (b ▸ ts)) = true
+has_several ts = false
+
+-- a sequence
+abbrev pub is_several : Tree → Bool
+is_several t = is_sequence t && has_several (children (part t 0))
+
+-- ---- 20
+
+-- the last one, and those before it
+abbrev pub last_of : Trees → Tree
+last_of none = absent
+last_of (t ▸ none) = t
+last_of (t ▸ (u ▸ us)) = last_of (u ▸ us)
+
+abbrev pub but_last : Trees → Trees
+but_last none = none
+but_last (t ▸ none) = none
+but_last (t ▸ (u ▸ us)) = t ▸ but_last (u ▸ us)
+
+-- a node that evaluates its first operand before all else of it
+abbrev pub is_operation : Tree → Bool
+is_operation t = is_some (logical_operator t) || (is_conditional t || is_negation t)
+
+-- such a node over a sequence, which is to be lifted out here
+abbrev pub is_lifted : Seat → Tree → Bool
+is_lifted s t = is_open_seat s && (is_operation t && is_several (part t 0))
+
+-- the node over another first operand
+abbrev pub with_first : Tree → Tree → Tree
+with_first t q = like t (with_inserted (without (children t) 0) 0 q)
+
+-- the parts of the first operand
+abbrev pub parts_of_first : Tree → Trees
+parts_of_first t = children (part (part t 0) 0)
+
+-- `a, b && c` of `(a, b) && c`
+abbrev pub lifted : Tree → Tree
+lifted t = sequence (append (but_last (parts_of_first t)) (with_first t (last_of (parts_of_first t)) ▸ none))
+
+-- ---- 21
+
+-- one of them does
+abbrev pub any_of : (Tree → Bool) → Trees → Bool
+any_of f none = false
+any_of f (t ▸ ts) = f t || any_of f ts
+
+-- a sequence that stands in a sequence
+abbrev pub is_nested : Tree → Bool
+is_nested t = is_sequence t && any_of is_several (children (part t 0))
+
+-- the parts with those of the sequence at this place in its stead
+abbrev pub spread_at : ℕ → Trees → Trees
+spread_at i ts = append (append (first_children i ts) (children (part (first_or_absent (rest_children i ts)) 0))) (without (rest_children i ts) 0)
+
+-- ---- both
+
+-- what the rule makes
+abbrev pub Gives : Position → Tree → Tree → Type 0
+Gives = SequenceContracts
+
+-- no row reads it as anything
+abbrev pub Rests : Position → Tree → Type 0
+Rests p n = (w : Tree) → SequenceRow p n w → ⊥

@@ -1,0 +1,294 @@
+//! Rows 7, 14, 29 and 30: an operand whose value is known goes, or is written shorter. `typeof a + ""` becomes `typeof a`,
+//! `a || 0 || b` becomes `a || b`, `!a == !0` becomes `!a`, and `a == !0` becomes `a == 1`. What is written is lighter in every place.
+
+ghost use Rattle.std.specs.Prelude.{◌≡◌, true, is_some, unwrap_or, OnOk, IfOk};
+ghost use Rattle.mini_model.specs.Tree.{children, count};
+ghost use Rattle.mini_model.specs.Position.{is_and_or as is_it_and_or};
+ghost use Rattle.mini_node.specs.Children.{part};
+ghost use Rattle.mini_node.specs.Kinds.{logical_operator as its_logical_operator, binary_operator as its_binary_operator, string as string_of};
+ghost use Rattle.mini_laws.specs.Operators.{same_boolean as are_they_same};
+ghost use Rattle.mini_terms.specs.Parts.{suits as may_suit};
+ghost use Rattle.mini_rows.specs.Booleans.{digit as digit_of};
+ghost use Rattle.mini_rows.specs.Choices.{loosely as loose};
+ghost use Rattle.mini_rows.specs.Operands.{told_by};
+ghost use Rattle.mini_walk.specs.Rule.{Applied};
+ghost use Rattle.mini_fold.specs.FoldOperands as operand;
+ghost use Rattle.mini_fold.specs.FoldOperands.{Gives, Rests};
+ghost use Rattle.mini_fold.specs.Lighter.{operands_lighter};
+
+use mini_model::{BinaryOperator, LogicalOperator, OutOfMemory, Position, Seat, Shape};
+use mini_node::{
+    Node, binary, binary_operator, discard, is_logical, is_negation, logical, logical_operator,
+    negation, number, numeric_literal, one, string, taken, two,
+};
+use mini_terms::{
+    Kind, goes_on, has_no_effect, is_plain_part, kind_of, leaves_nothing, suits, weighs,
+};
+use mini_tree::seats;
+use mini_walk::{Context, Rule};
+use std::alloc::Global;
+
+// Whether the operands tell the truth of the whole: of `&&` and `||`.
+fn is_and_or(operator: LogicalOperator) -> bool
+    ensures { result ≡ is_it_and_or operator }
+{
+    match operator {
+        LogicalOperator::Coalesce => false,
+        LogicalOperator::Or => true,
+        LogicalOperator::And => true,
+    }
+}
+
+// `a || 0` of `a || 0 || b`: whether what is in the middle goes.
+fn is_redundant(seat: Seat, operator: LogicalOperator, left: &Node, right: &Node) -> bool
+    ensures { result ≡ operand.is_redundant seat operator left.now right.now }
+{
+    is_and_or(operator)
+        && is_logical(left, operator)
+        && goes_on(operator, left.child(1))
+        && has_no_effect(left.child(1))
+        && leaves_nothing(left.child(1))
+        && weighs(left.child(1))
+        && suits(seats::right_operand(operator, seat), right)
+}
+
+// `a || b` of `a || 0 || b`
+fn fold_middle(alloc: Global, node: &mut Node, seat: Seat) -> Result<bool, OutOfMemory>
+    ensures tree { OnOk result (node.new ≡ unwrap_or (operand.logical_written seat (its_logical_operator node.old) node.old) node.old) }
+    ensures said { IfOk result (λ changed. changed ≡ is_some (operand.logical_written seat (its_logical_operator node.old) node.old)) }
+{
+    let Some(operator) = logical_operator(node) else {
+        return Ok(false);
+    };
+    if !is_redundant(seat, operator, node.child(0), node.child(1)) {
+        return Ok(false);
+    }
+    let (left, right) = two(taken(alloc, node));
+    *node = logical(alloc, operator, one(left), right)?;
+    Ok(true)
+}
+
+// Whether it is a text without units.
+fn is_empty_text(node: &Node) -> bool
+    ensures { result ≡ operand.is_empty (string_of node.now) }
+{
+    match string(node) {
+        Some(text) => text.is_empty(),
+        None => false,
+    }
+}
+
+fn is_string_kind(kind: Kind) -> bool
+    ensures { result ≡ operand.is_string_kind kind }
+{
+    matches!(kind, Kind::String)
+}
+
+fn is_boolean_kind(kind: Kind) -> bool
+    ensures { result ≡ operand.is_boolean_kind kind }
+{
+    matches!(kind, Kind::Boolean)
+}
+
+// Whether the second is an empty text, and the first stays.
+fn is_text(seat: Seat, stays: &Node, goes: &Node) -> bool
+    ensures { result ≡ operand.is_text seat stays.now goes.now }
+{
+    is_empty_text(goes) && is_string_kind(kind_of(stays)) && suits(seat, stays)
+}
+
+fn last(node: Node) -> Node
+    ensures { result ≡ part node 1 }
+{
+    let (left, right) = two(node);
+    discard(left);
+    right
+}
+
+// `typeof a` of `typeof a + ""` and of `"" + typeof a`
+fn fold_text(alloc: Global, node: &mut Node, seat: Seat) -> bool
+    requires { count (children node.old) ≡ 2 }
+    ensures tree { node.new ≡ unwrap_or (operand.text_written seat (part node.old 0) (part node.old 1)) node.old }
+    ensures said { result ≡ is_some (operand.text_written seat (part node.old 0) (part node.old 1)) }
+{
+    if is_text(seat, node.child(0), node.child(1)) {
+        *node = one(taken(alloc, node));
+        return true;
+    }
+    if is_text(seat, node.child(1), node.child(0)) {
+        *node = last(taken(alloc, node));
+        return true;
+    }
+    false
+}
+
+fn negated_truth(digit: Option<i64>) -> Option<bool>
+    ensures { result ≡ operand.negated_truth digit }
+{
+    match digit {
+        Some(0) => Some(true),
+        Some(1) => Some(false),
+        _ => None,
+    }
+}
+
+// The truth of `!0`, and of `!1`.
+fn truth_in(node: &Node) -> Option<bool>
+    ensures { result ≡ operand.truth_in node.now }
+{
+    if is_negation(node) {
+        negated_truth(number(node.child(0)))
+    } else {
+        None
+    }
+}
+
+fn are_same(left: bool, right: bool) -> bool
+    ensures { result ≡ are_they_same left right }
+{
+    if left { right } else { !right }
+}
+
+// Whether the boolean, or its negation, may stand in the seat.
+#[tactic(auto, using(crate::proofs::Operands::negated_suits))]
+fn may_stand(seat: Seat, holds: bool, boolean: &Node) -> bool
+    ensures { result ≡ may_suit seat (told_by holds boolean.now) }
+{
+    if holds {
+        suits(seat, boolean)
+    } else {
+        is_plain_part(boolean)
+    }
+}
+
+// Whether the boolean tells the whole.
+fn is_told(seat: Seat, holds: bool, boolean: &Node) -> bool
+    ensures { result ≡ operand.is_told seat holds boolean.now }
+{
+    is_boolean_kind(kind_of(boolean)) && may_stand(seat, holds, boolean)
+}
+
+// The boolean, or its negation.
+fn told(alloc: Global, holds: bool, boolean: Node) -> Result<Node, OutOfMemory>
+    ensures { IfOk result (λ w. w ≡ told_by holds boolean) }
+{
+    if holds {
+        Ok(boolean)
+    } else {
+        negation(alloc, boolean)
+    }
+}
+
+// `1`, or `0`
+fn digit(alloc: Global, truth: bool) -> Node
+    ensures { result ≡ digit_of truth }
+{
+    if truth {
+        numeric_literal(alloc, 1)
+    } else {
+        numeric_literal(alloc, 0)
+    }
+}
+
+fn loosely(equal: bool) -> BinaryOperator
+    ensures { result ≡ loose equal }
+{
+    if equal {
+        BinaryOperator::Equality
+    } else {
+        BinaryOperator::Inequality
+    }
+}
+
+// `a` of `a == !0` where it is a boolean, and else `a == 1`
+fn right_written(
+    alloc: Global,
+    seat: Seat,
+    equal: bool,
+    truth: bool,
+    left: Node,
+) -> Result<Node, OutOfMemory>
+    ensures { IfOk result (λ w. w ≡ operand.right_written seat equal truth left) }
+{
+    let holds = are_same(equal, truth);
+    if is_told(seat, holds, &left) {
+        return told(alloc, holds, left);
+    }
+    binary(alloc, loosely(equal), left, digit(alloc, truth))
+}
+
+fn fold_equality(
+    alloc: Global,
+    node: &mut Node,
+    seat: Seat,
+    equal: bool,
+) -> Result<bool, OutOfMemory>
+    requires { count (children node.old) ≡ 2 }
+    ensures tree { OnOk result (node.new ≡ unwrap_or (operand.equal_written seat equal (part node.old 0) (part node.old 1)) node.old) }
+    ensures said { IfOk result (λ changed. changed ≡ is_some (operand.equal_written seat equal (part node.old 0) (part node.old 1))) }
+{
+    if let Some(truth) = truth_in(node.child(1)) {
+        *node = right_written(alloc, seat, equal, truth, one(taken(alloc, node)))?;
+        return Ok(true);
+    }
+    if let Some(truth) = truth_in(node.child(0)) {
+        *node = binary(
+            alloc,
+            loosely(equal),
+            digit(alloc, truth),
+            last(taken(alloc, node)),
+        )?;
+        return Ok(true);
+    }
+    Ok(false)
+}
+
+fn fold_binary(alloc: Global, node: &mut Node, seat: Seat) -> Result<bool, OutOfMemory>
+    ensures tree { OnOk result (node.new ≡ unwrap_or (operand.binary_written seat (its_binary_operator node.old) node.old) node.old) }
+    ensures said { IfOk result (λ changed. changed ≡ is_some (operand.binary_written seat (its_binary_operator node.old) node.old)) }
+{
+    match binary_operator(node) {
+        Some(BinaryOperator::Addition) => Ok(fold_text(alloc, node, seat)),
+        Some(BinaryOperator::Equality) => fold_equality(alloc, node, seat, true),
+        Some(BinaryOperator::Inequality) => fold_equality(alloc, node, seat, false),
+        _ => Ok(false),
+    }
+}
+
+/// An operand whose value is known goes, or is written shorter. The answer says whether it was; the only error is that memory runs
+/// out, and then the expression is fit only to be dropped.
+pub fn fold_operands(alloc: Global, node: &mut Node, seat: Seat) -> Result<bool, OutOfMemory>
+    ensures tree { OnOk result (node.new ≡ unwrap_or (operand.written seat node.old) node.old) }
+    ensures said { IfOk result (λ changed. changed ≡ is_some (operand.written seat node.old)) }
+{
+    match node.shape() {
+        Shape::LogicalExpression(_) => fold_middle(alloc, node, seat),
+        Shape::BinaryExpression(_) => fold_binary(alloc, node, seat),
+        _ => Ok(false),
+    }
+}
+
+/// Rows 7, 14, 29 and 30 as a rule: of each expression.
+pub struct FoldOperands;
+
+impl<C: Context> Rule<C> for FoldOperands {
+    ghost gives = { λ o q. Gives };
+
+    ghost rests = { λ o q. Rests };
+
+    ghost lighter = { λ o q. operands_lighter };
+
+    #[tactic(auto, using(crate::proofs::Operands::applied))]
+    fn apply(
+        &self,
+        alloc: Global,
+        node: &mut Node,
+        place: Position,
+        context: &mut C,
+    ) -> Result<bool, OutOfMemory> {
+        match place {
+            Position::Expr(seat) => Ok(fold_operands(alloc, node, seat)?),
+            _ => Ok(false),
+        }
+    }
+}

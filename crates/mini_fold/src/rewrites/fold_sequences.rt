@@ -1,0 +1,166 @@
+//! Rows 20 and 21: a sequence is lifted out of the first operand of a logical expression, a conditional or a `!`, and spread in a
+//! sequence. `(a, b) && c` becomes `a, b && c`, and `a, (b, c)` becomes `a, b, c`. What is written is lighter in every place.
+
+ghost use Rattle.std.specs.Prelude.{◌≡◌, ◌<◌, true, false, is_some, IfOk, IfSome};
+ghost use Rattle.mini_model.specs.Tree.{children, count, child_or_absent};
+ghost use Rattle.mini_node.specs.Children.{part};
+ghost use Rattle.mini_node.specs.Kinds.{sequence as sequence_of};
+ghost use Rattle.mini_rows.specs.Sequences.{is_open_seat as is_it_open_seat};
+ghost use Rattle.mini_walk.specs.Rule.{Applied};
+ghost use Rattle.mini_fold.specs.FoldSequences.{has_several as has_it_several, is_several as is_it_several, is_operation as is_it_operation, is_lifted as is_it_lifted, last_of, but_last, lifted, any_of, spread_at, Gives, Rests};
+ghost use Rattle.mini_fold.specs.Lighter.{sequences_lighter};
+
+use mini_model::{OutOfMemory, Position, Seat};
+use mini_node::{
+    Node, Nodes, absent, is_conditional, is_negation, is_sequence, logical_operator, one, sequence,
+    take_first, taken,
+};
+use mini_walk::{Context, Rule};
+use std::alloc::Global;
+
+// Whether a sequence stands here without parentheses, and is not to be lifted out again.
+fn is_open_seat(seat: Seat) -> bool
+    ensures { result ≡ is_it_open_seat seat }
+{
+    seat.level == 0 && !seat.lifted
+}
+
+// Whether there are two or more.
+#[tactic(auto, using(crate::proofs::Sequences::several_by_count))]
+fn has_several(nodes: &Nodes) -> bool
+    ensures { result ≡ has_it_several nodes.now }
+{
+    nodes.len() >= 2
+}
+
+// Whether it is a sequence.
+fn is_several(node: &Node) -> bool
+    ensures { result ≡ is_it_several node.now }
+{
+    is_sequence(node) && has_several(node.child(0).children())
+}
+
+// Whether it evaluates its first operand before all else of it.
+fn is_operation(node: &Node) -> bool
+    ensures kind { result ≡ is_it_operation node.now }
+    ensures parts { result ≡ true → 0 < count (children node.now) }
+{
+    logical_operator(node).is_some() || is_conditional(node) || is_negation(node)
+}
+
+// Whether it stands over a sequence that is to be lifted out.
+fn is_lifted(node: &Node, seat: Seat) -> bool
+    ensures { result ≡ is_it_lifted seat node.now }
+{
+    is_open_seat(seat) && is_operation(node) && is_several(node.child(0))
+}
+
+// Takes the last node out; of none, an absent part.
+#[tactic(auto, using(crate::proofs::Sequences::last_is, crate::proofs::Sequences::others_are))]
+fn take_last(alloc: Global, nodes: &mut Nodes) -> Node
+    ensures value { result ≡ last_of nodes.old }
+    ensures rest { nodes.new ≡ but_last nodes.old }
+{
+    match nodes.pop() {
+        Some(last) => last,
+        None => absent(alloc),
+    }
+}
+
+// `a, b && c` of `(a, b) && c`
+fn lift_sequence(alloc: Global, node: Node) -> Result<Node, OutOfMemory>
+    ensures { IfOk result (λ w. w ≡ lifted node) }
+{
+    let (shape, name, number, operands) = node.into_parts();
+    let mut operands = operands;
+    let mut parts = one(take_first(&mut operands)).into_children();
+    let last = take_last(alloc, &mut parts);
+    operands.insert(0, last)?;
+    parts.push(Node::with(shape, name, number, operands))?;
+    sequence(alloc, parts)
+}
+
+// The place of the first sequence among them.
+fn sequence_at(nodes: &Nodes) -> Option<usize>
+    ensures found { IfSome result (λ at. at < count nodes.now) }
+    ensures read { IfSome result (λ at. is_it_several (child_or_absent nodes.now at) ≡ true) }
+    ensures any { is_some result ≡ any_of is_it_several nodes.now }
+{
+    for at in 0..nodes.len() {
+        if is_several(nodes.child(at)) {
+            return Some(at);
+        }
+    }
+    None
+}
+
+// `a, b, c` of `a, (b, c)`, where the inner sequence is the part at this place.
+fn spread_sequence(alloc: Global, node: Node, at: usize) -> Result<Node, OutOfMemory>
+    requires { at < count (children (part node 0)) }
+    ensures { IfOk result (λ w. w ≡ sequence_of (spread_at at (children (part node 0)))) }
+{
+    let mut before = one(node).into_children();
+    let mut after = before.split_off(at)?;
+    let mut parts = one(take_first(&mut after)).into_children();
+    before.append(&mut parts)?;
+    before.append(&mut after)?;
+    sequence(alloc, before)
+}
+
+// A sequence in a sequence is spread. The answer says whether one was.
+fn spread(alloc: Global, node: &mut Node, seat: Seat) -> Result<bool, OutOfMemory>
+    requires { is_it_lifted seat node.old ≡ false }
+    ensures { IfOk result (λ changed. Applied Gives Rests (Position.Expr seat) node.old node.new changed) }
+{
+    if !is_sequence(node) {
+        return Ok(false);
+    }
+    match sequence_at(node.child(0).children()) {
+        Some(at) => {
+            *node = spread_sequence(alloc, taken(alloc, node), at)?;
+            Ok(true)
+        }
+        None => Ok(false),
+    }
+}
+
+/// A sequence is lifted out of the first operand of an expression, or spread in a sequence. The answer says whether it was; the
+/// only error is that memory runs out, and then the expression is fit only to be dropped.
+pub fn fold_sequence_expression(
+    alloc: Global,
+    node: &mut Node,
+    seat: Seat,
+) -> Result<bool, OutOfMemory>
+    ensures { IfOk result (λ changed. Applied Gives Rests (Position.Expr seat) node.old node.new changed) }
+{
+    if is_lifted(node, seat) {
+        *node = lift_sequence(alloc, taken(alloc, node))?;
+        return Ok(true);
+    }
+    spread(alloc, node, seat)
+}
+
+/// Rows 20 and 21 as a rule: of each expression.
+pub struct FoldSequences;
+
+impl<C: Context> Rule<C> for FoldSequences {
+    ghost gives = { λ o q. Gives };
+
+    ghost rests = { λ o q. Rests };
+
+    ghost lighter = { λ o q. sequences_lighter };
+
+    #[tactic(auto, using(crate::proofs::Sequences::elsewhere))]
+    fn apply(
+        &self,
+        alloc: Global,
+        node: &mut Node,
+        place: Position,
+        context: &mut C,
+    ) -> Result<bool, OutOfMemory> {
+        match place {
+            Position::Expr(seat) => Ok(fold_sequence_expression(alloc, node, seat)?),
+            _ => Ok(false),
+        }
+    }
+}

@@ -1,0 +1,9 @@
+use Rattle.std.proofs.Common.{subst, sym}
+use Rattle.mini_walk.specs.Rule.{Applied}
+use Rattle.mini_logic.specs.MinimizeNegation.{Gives, Rests}
+use Rattle.mini_logic.proofs.MinimizeNegation.{applied}
+use Rattle.mini_logic.proofs.rewrites.minimize_negation.MinimizeNegationsRule.apply.Goals as goal
+
+pub returns-in_ok-minimize_negation-in-Expr-clause-applied : goal.returns-in_ok-minimize_negation-in-Expr-clause-applied
+returns-in_ok-minimize_negation-in-Expr-clause-applied g c = λ o q k.
+    subst (λ p. Applied Gives Rests p c.args.node.now c.minimize_negation.new.node c.in_ok-minimize_negation-in-Expr.field-0) (sym c.in-Expr.is) (applied c.in-Expr.seat c.args.node.now c.minimize_negation.new.node c.in_ok-minimize_negation-in-Expr.field-0 c.in_ok-minimize_negation-in-Expr.ensures.tree c.in_ok-minimize_negation-in-Expr.ensures.said)

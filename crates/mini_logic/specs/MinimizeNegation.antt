@@ -1,0 +1,51 @@
+-- 23, of what is read inside the operand too, `minimize_negation`: `!(a && typeof x < "u")` becomes `!a || typeof x > "u"`, where that is
+-- lighter.
+use Rattle.std.specs.Prelude.{◌≡◌, ◌<◌, ◌^◌, Bool, ◌&&◌, nat_lt, Option, Some, None, if◌then◌else◌}
+use Rattle.mini_model.specs.declared.operator.LogicalOperator.{LogicalOperator}
+use Rattle.mini_model.specs.declared.operator.LogicalOperator.TheVariants.{Or, And}
+use Rattle.mini_model.specs.declared.place.Position.{Position}
+use Rattle.mini_model.specs.declared.place.Position.TheVariants.{Expr}
+use Rattle.mini_model.specs.declared.seat.Seat.{Seat}
+use Rattle.mini_model.specs.Tree.{Tree}
+use Rattle.mini_model.specs.Weight.{weight, capped}
+use Rattle.mini_node.specs.Children.{part}
+use Rattle.mini_node.specs.Kinds.{is_negation}
+use Rattle.mini_rows.specs.Negations.{whole_by, reaches_in, NegationContracts}
+use Rattle.mini_logic.specs.Negating.{lighter_negation}
+
+-- the operator that `&&` or `||` is turned into
+abbrev pub junction_of : Option LogicalOperator → Option LogicalOperator
+junction_of (Some And) = Some Or
+junction_of (Some Or) = Some And
+junction_of _ = None
+
+-- the whole negation, in which the lighter one is written for each part as far as 64 bits tell it
+abbrev pub told : Seat → Tree → Tree
+told = whole_by lighter_negation
+
+-- the lightest negation, as far as 64 bits tell it
+abbrev pub told_lightest : Seat → Tree → Tree
+told_lightest s a = if nat_lt (capped (weight (Expr s) (lighter_negation s a))) (capped (weight (Expr s) (told s a))) then lighter_negation s a else told s a
+
+-- it is lighter than the expression with its `!`
+abbrev pub minimizes : Seat → Tree → Bool
+minimizes s t = is_negation t && (reaches_in (part t 0) && nat_lt (capped (weight (Expr s) (told s (part t 0)))) (capped (weight (Expr s) t)))
+
+abbrev pub written : Seat → Tree → Option Tree
+written s t = if minimizes s t then Some (told s (part t 0)) else None
+
+-- what the rule makes
+abbrev pub Gives : Position → Tree → Tree → Type 0
+Gives = NegationContracts
+
+-- the row makes nothing lighter of it, if its weight fits 64 bits
+abbrev pub Rests : Position → Tree → Type 0
+Rests p n = weight p n < 2 ^ 64 → (w : Tree) → NegationContracts p n w → ⊥
+
+-- what is written is what the row says, and lighter
+abbrev pub WrittenIsRow : Type 0
+WrittenIsRow = (s : Seat) (n w : Tree) → written s n ≡ Some w → NegationContracts (Expr s) n w
+
+-- and where nothing is written the rule rests
+abbrev pub UnwrittenRests : Type 0
+UnwrittenRests = (s : Seat) (n : Tree) → written s n ≡ None → Rests (Expr s) n

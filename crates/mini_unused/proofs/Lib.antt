@@ -1,0 +1,4 @@
+pub mod Operands
+pub mod Evaluating
+pub mod Standing
+pub mod Unused

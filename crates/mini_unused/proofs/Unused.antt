@@ -1,0 +1,388 @@
+-- A block that loses a name is what the row says.
+use Rattle.std.proofs.Common.{◌≡◌, ℕ, zero, suc, ◌<◌, ◌≤◌, Bool, true, false, List, [], ◌∷◌, refl, sym, ap, ◌∙◌, subst, inl, inr, true≢false, arith}
+use Rattle.std.specs.Prelude.{not, ◌⊎◌, ◌&&◌, ◌||◌, Option, Some, None, is_some, if◌then◌else◌}
+use Rattle.std.proofs.lemmas.Bool.{and_parts}
+use Rattle.mini_model.specs.declared.kind.VariableDeclarationKind.TheVariants.{Let}
+use Rattle.mini_model.specs.declared.name.Name.{Name}
+use Rattle.mini_model.specs.declared.name.SymbolId.{SymbolId}
+use Rattle.mini_model.specs.declared.place.Position.{Position}
+use Rattle.mini_model.specs.declared.place.Position.TheVariants.{Stmt}
+use Rattle.mini_model.specs.declared.seat.StmtSeat.{StmtSeat}
+use Rattle.mini_model.specs.declared.shape.Shape.TheVariants as shape
+use Rattle.mini_model.specs.Tree.{Tree, Trees, node, none, ◌▸◌, listed, shape_of, children, count, child_or_absent, empty_statement, expression_statement}
+use Rattle.mini_model.specs.Paths.{append}
+use Rattle.mini_names.specs.ScopeList.{has_eval}
+use Rattle.mini_node.specs.Children.{names_of, part, with_child, with_part, without, is_bare, first_children, rest_children}
+use Rattle.mini_node.specs.Kinds.{is_block}
+use Rattle.mini_node.specs.Made.{block_is}
+use Rattle.mini_rows.specs.Lists.{block, declaration, declares_nothing}
+use Rattle.mini_rows.specs.Declarations.{binding, declarator}
+use Rattle.mini_rows.specs.Unused.{resolved, let_among, left_over, names, any_names, is_idle, Alone, UnusedRow, UnusedContracts}
+use Rattle.mini_rows.proofs.UnusedWeights.{unused_lighter}
+use Rattle.mini_walk.proofs.Reaching.{moves_once}
+use Rattle.mini_unused.specs.RemoveUnusedDeclaration.{is_resolved_binding, is_declarator_shape, declares_name, is_let, may_go, is_alone, is_unused_declarator, list_at, is_unused, UnusedIn, UnusedOf, UnusedAt, let_left, statement_left, block_left, Applied}
+
+-- ---- children
+
+pub same_parts : (t : Tree) (i : ℕ) (x : Tree) → count (children (with_part t i x)) ≡ count (children t)
+same_parts (node h xs n ts) i x = go ts i
+  where
+    go : (ts : Trees) (i : ℕ) → count (with_child ts i x) ≡ count ts
+    go none i = refl
+    go (t ▸ ts) zero = refl
+    go (t ▸ ts) (suc i) = ap suc (go ts i)
+
+pub part_twice : (t : Tree) (i : ℕ) (x y : Tree) → with_part (with_part t i x) i y ≡ with_part t i y
+part_twice (node h xs n ts) i x y = ap (node h xs n) (go ts i)
+  where
+    go : (ts : Trees) (i : ℕ) → with_child (with_child ts i x) i y ≡ with_child ts i y
+    go none i = refl
+    go (t ▸ ts) zero = refl
+    go (t ▸ ts) (suc i) = ap (λ us. t ▸ us) (go ts i)
+
+parts_of : (ts : Trees) (i : ℕ) → i < count ts → ts ≡ append (first_children i ts) (child_or_absent ts i ▸ rest_children (suc i) ts)
+parts_of none i h = absurd (omega (arith, h))
+parts_of (t ▸ none) zero h = refl
+parts_of (t ▸ (u ▸ ts)) zero h = refl
+parts_of (t ▸ ts) (suc i) h = ap (λ us. t ▸ us) (parts_of ts i (omega (arith, h)))
+
+with_parts : (ts : Trees) (i : ℕ) (x : Tree) → i < count ts → with_child ts i x ≡ append (first_children i ts) (x ▸ rest_children (suc i) ts)
+with_parts none i x h = absurd (omega (arith, h))
+with_parts (t ▸ none) zero x h = refl
+with_parts (t ▸ (u ▸ ts)) zero x h = refl
+with_parts (t ▸ ts) (suc i) x h = ap (λ us. t ▸ us) (with_parts ts i x (omega (arith, h)))
+
+-- the child after some others, and what stands around it
+
+there_within : (ts : Trees) (d : Tree) (us : Trees) → count ts < count (append ts (d ▸ us))
+there_within none d us = omega arith
+there_within (t ▸ ts) d us = let within = there_within ts d us in omega (arith, within)
+
+there_child : (ts : Trees) (d : Tree) (us : Trees) → child_or_absent (append ts (d ▸ us)) (count ts) ≡ d
+there_child none d us = refl
+there_child (t ▸ ts) d us = there_child ts d us
+
+there_rest : (ts : Trees) (d : Tree) (us : Trees) → rest_children (suc (count ts)) (append ts (d ▸ us)) ≡ us
+there_rest none d none = refl
+there_rest none d (u ▸ us) = refl
+there_rest (t ▸ ts) d us = there_rest ts d us
+
+there_first : (ts : Trees) (d : Tree) (us : Trees) → first_children (count ts) (append ts (d ▸ us)) ≡ ts
+there_first none d us = refl
+there_first (t ▸ ts) d us = ap (λ vs. t ▸ vs) (there_first ts d us)
+
+-- ---- what the tests say
+
+and_both : (a b : Bool) → a ≡ true → b ≡ true → a && b ≡ true
+and_both a b e f = ap (λ x. x && b) e ∙ f
+
+not_true : (b : Bool) → not b ≡ true → b ≡ false
+not_true true e = absurd (true≢false (sym e))
+not_true false e = refl
+
+abbrev name_with : List ℕ → Option SymbolId → Name
+name_with s y = record { spelling = s; symbol = y }
+
+named : (s : List ℕ) (y : Option SymbolId) → is_some y ≡ true → (k : ℕ) × (name_with s y ≡ resolved s k)
+named s (Some y) e = (y.0, refl)
+named s None e = absurd (true≢false (sym e))
+
+binding_is : (t : Tree) → is_resolved_binding t ≡ true → (s : List ℕ) × (k : ℕ) × (t ≡ binding (resolved s k))
+binding_is (node shape.BindingIdentifier (x ∷ []) zero none) e = let (k, same) = named x.spelling x.symbol e in (x.spelling, k, ap binding same)
+binding_is t e = absurd (true≢false (sym e))
+
+declarator_is : (d : Tree) → is_declarator_shape (shape_of d) && is_bare d 2 ≡ true → d ≡ declarator (part d 0) (part d 1)
+declarator_is (node shape.VariableDeclarator [] zero (a ▸ (b ▸ none))) e = refl
+declarator_is d e = absurd (true≢false (sym e))
+
+a_let : (t : Tree) → is_let t ≡ true → t ≡ declaration Let (children (part t 0))
+a_let (node (shape.VariableDeclaration Let) [] zero (node shape.Listed [] zero ds ▸ none)) e = refl
+a_let (node (shape.VariableDeclaration Let) [] zero (u ▸ none)) e = absurd (true≢false (sym e))
+a_let t e = absurd (true≢false (sym e))
+
+record Declares (d : Tree) : Type 0 where
+  spelling : List ℕ
+  symbol : ℕ
+  is : d ≡ declarator (binding (resolved spelling symbol)) (part d 1)
+
+declares : (d : Tree) → declares_name d ≡ true → Declares d
+declares d e =
+    let (a, r) = and_parts (is_declarator_shape (shape_of d)) (is_bare d 2 && is_resolved_binding (part d 0)) e in
+    let (b, c) = and_parts (is_bare d 2) (is_resolved_binding (part d 0)) r in
+    let (s, k, is) = binding_is (part d 0) c in
+    record { spelling = s; symbol = k; is = declarator_is d (and_both (is_declarator_shape (shape_of d)) (is_bare d 2) a b) ∙ ap (λ x. declarator x (part d 1)) is }
+
+-- nothing else mentions it
+record Quiet (x : Name) (init : Tree) (ds : Trees) (j : ℕ) (ts : Trees) (i : ℕ) : Type 0 where
+  initial : names x init ≡ false
+  declared_later : any_names x (rest_children (suc j) ds) ≡ false
+  later : any_names x (rest_children (suc i) ts) ≡ false
+  declared_earlier : any_names x (first_children j ds) ≡ false
+  earlier : any_names x (first_children i ts) ≡ false
+
+quiet : (x : Name) (init : Tree) (ds : Trees) (j : ℕ) (ts : Trees) (i : ℕ) → is_alone (x ∷ []) init ds j ts i ≡ true → Quiet x init ds j ts i
+quiet x init ds j ts i e =
+    let a = names x init in
+    let b = any_names x (rest_children (suc j) ds) in
+    let c = any_names x (rest_children (suc i) ts) in
+    let d = any_names x (first_children j ds) in
+    let f = any_names x (first_children i ts) in
+    let (p, q) = and_parts (not a) (not b && (not c && (not d && not f))) e in
+    let (r, s) = and_parts (not b) (not c && (not d && not f)) q in
+    let (t, u) = and_parts (not c) (not d && not f) s in
+    let (v, w) = and_parts (not d) (not f) u in
+    record { initial = not_true a p; declared_later = not_true b r; later = not_true c t; declared_earlier = not_true d v; earlier = not_true f w }
+
+-- ---- what is written is what the row says
+
+without_is : (ds : Trees) (j : ℕ) → without ds j ≡ append (first_children j ds) (rest_children (suc j) ds)
+without_is none j = refl
+without_is (t ▸ none) zero = refl
+without_is (t ▸ (u ▸ ds)) zero = refl
+without_is (t ▸ ds) (suc j) = ap (λ us. t ▸ us) (without_is ds j)
+
+left_is : (ds : Trees) (j : ℕ) → j < count ds → (if is_bare (listed ds) 1 then empty_statement else declaration Let (without ds j)) ≡ left_over (append (first_children j ds) (rest_children (suc j) ds))
+left_is none j h = absurd (omega (arith, h))
+left_is (t ▸ none) zero h = refl
+left_is (t ▸ none) (suc j) h = absurd (omega (arith, h))
+left_is (t ▸ (c ▸ ds)) zero h = refl
+left_is (t ▸ (c ▸ ds)) (suc j) h = ap (λ us. declaration Let (t ▸ us)) (without_is (c ▸ ds) j)
+
+only_one : (ds : Trees) (j : ℕ) → is_bare (listed ds) 1 ≡ true → j < count ds → (none ≡ first_children j ds) × (none ≡ rest_children (suc j) ds)
+only_one none j e h = absurd (omega (arith, h))
+only_one (t ▸ none) zero e h = (refl, refl)
+only_one (t ▸ none) (suc j) e h = absurd (omega (arith, h))
+only_one (t ▸ (c ▸ ds)) j e h = absurd (true≢false (sym e))
+
+written : (t u : Tree) (i j : ℕ) → is_block t ≡ true → i < count (children (part t 0)) → u ≡ block_left t i j → u ≡ block (append (first_children i (children (part t 0))) (statement_left (child_or_absent (children (part t 0)) i) j ▸ rest_children (suc i) (children (part t 0))))
+written t u i j b h f =
+    let ts = children (part t 0) in
+    f ∙ ap (λ v. block_left v i j) (block_is t b) ∙ ap block (with_parts ts i (statement_left (child_or_absent ts i) j) h)
+
+-- a block in which such a declarator stands
+module _ (t : Tree) (i j : ℕ) (b : is_block t ≡ true) (h : i < count (children (part t 0))) (g : j < count (children (list_at (children (part t 0)) i))) (e : is_unused (children (part t 0)) i j ≡ true) (v : has_eval t ≡ false) where
+  abbrev ts : Trees
+  ts = children (part t 0)
+
+  abbrev statement : Tree
+  statement = child_or_absent ts i
+
+  abbrev ds : Trees
+  ds = children (part statement 0)
+
+  abbrev d : Tree
+  d = child_or_absent ds j
+
+  abbrev init : Tree
+  init = part d 1
+
+  abbrev before : Trees
+  before = first_children i ts
+
+  abbrev after : Trees
+  after = rest_children (suc i) ts
+
+  abbrev first : Trees
+  first = first_children j ds
+
+  abbrev last : Trees
+  last = rest_children (suc j) ds
+
+  abbrev alone_there : Bool
+  alone_there = is_alone (names_of (part d 0)) init ds j ts i
+
+  tests : (is_let statement ≡ true) × (declares_name d ≡ true) × (may_go init (part statement 0) ≡ true) × (alone_there ≡ true)
+  tests =
+      let (a, p) = and_parts (is_let statement) (declares_name d && (may_go init (part statement 0) && alone_there)) e in
+      let (c, q) = and_parts (declares_name d) (may_go init (part statement 0) && alone_there) p in
+      let (f, r) = and_parts (may_go init (part statement 0)) alone_there q in
+      (a, c, f, r)
+
+  let_there : statement ≡ declaration Let ds
+  let_there = a_let statement tests.0
+
+  abbrev one : Declares d
+  one = declares d tests.1
+
+  abbrev x : Name
+  x = resolved one.spelling one.symbol
+
+  nothing_else : Quiet x init ds j ts i
+  nothing_else = quiet x init ds j ts i (sym (ap (λ y. is_alone (names_of (part y 0)) init ds j ts i) one.is) ∙ tests.3)
+
+  statement_is : statement ≡ let_among x first init last
+  statement_is = let_there ∙ ap (declaration Let) (parts_of ds j g ∙ ap (λ y. append first (y ▸ last)) one.is)
+
+  block_there : t ≡ block (append before (let_among x first init last ▸ after))
+  block_there = block_is t b ∙ ap block (parts_of ts i h ∙ ap (λ y. append before (y ▸ after)) statement_is)
+
+  unused : Alone x before first init last after
+  unused = record { earlier = nothing_else.earlier; declared_earlier = nothing_else.declared_earlier; initial = nothing_else.initial; declared_later = nothing_else.declared_later; later = nothing_else.later; unseen = sym (ap has_eval block_there) ∙ v }
+
+  list_is : part statement 0 ≡ listed ds
+  list_is = ap (λ y. part y 0) let_there
+
+  abbrev left_by : Bool → Tree
+  left_by c = if c then (if is_bare (part statement 0) 1 then empty_statement else let_left statement j) else expression_statement init
+
+  left_idle : is_idle init ≡ true → statement_left statement j ≡ left_over (append first last)
+  left_idle c = ap left_by c ∙ ap (λ y. if is_bare (part y 0) 1 then empty_statement else let_left y j) let_there ∙ left_is ds j g
+
+  left_value : is_idle init ≡ false → statement_left statement j ≡ expression_statement init
+  left_value c = ap left_by c
+
+  value : is_idle init ≡ false → (is_bare (listed ds) 1 ≡ true) × (declares_nothing init ≡ true)
+  value c = let (p, q) = and_parts (is_bare (part statement 0) 1) (declares_nothing init) (sym (ap (λ a. a || (is_bare (part statement 0) 1 && declares_nothing init)) c) ∙ tests.2) in (sym (ap (λ l. is_bare l 1) list_is) ∙ p, q)
+
+  row_at : (q : StmtSeat) (u : Tree) → u ≡ block_left t i j → UnusedRow (Stmt q) t u
+  row_at q u f = by (is_idle init) refl
+    where
+      by : (a : Bool) → is_idle init ≡ a → UnusedRow (Stmt q) t u
+      by true c =
+          inr (record {
+            before = before;
+            first = first;
+            spelling = one.spelling;
+            symbol = one.symbol;
+            init = init;
+            last = last;
+            after = after;
+            idle = c;
+            unused = unused;
+            shape = block_there;
+            written = written t u i j b h f ∙ ap (λ y. block (append before (y ▸ after))) (left_idle c);
+          })
+      by false c =
+          let (single, present) = value c in
+          let (no_first, no_last) = only_one ds j single g in
+          inl (record {
+            before = before;
+            spelling = one.spelling;
+            symbol = one.symbol;
+            init = init;
+            after = after;
+            present = present;
+            unused = subst (λ us. Alone x before us init none after) (sym no_first) (subst (λ us. Alone x before first init us after) (sym no_last) unused);
+            shape = block_there ∙ sym (λ k. block (append before (let_among x (no_first k) init (no_last k) ▸ after)));
+            written = written t u i j b h f ∙ ap (λ y. block (append before (y ▸ after))) (left_value c);
+          })
+
+pub applied : (t u : Tree) (i j : ℕ) → is_block t ≡ true → UnusedAt (children (part t 0)) (Some (i, j)) → has_eval t ≡ false → u ≡ block_left t i j → (q : StmtSeat) → Applied (Stmt q) t u true
+applied t u i j b h v f q =
+    let row = row_at t i j b h.0 h.1.1 h.1.2 v q u f in
+    moves_once UnusedContracts (Stmt q) t u (record { row = row; lighter = unused_lighter (Stmt q) t u row })
+
+-- ---- where nothing is written no row reads it
+
+-- a block that a row reads
+record Read (t : Tree) : Type 0 where
+  before : Trees
+  first : Trees
+  spelling : List ℕ
+  symbol : ℕ
+  init : Tree
+  last : Trees
+  after : Trees
+  goes : may_go init (listed (append first (declarator (binding (resolved spelling symbol)) init ▸ last))) ≡ true
+  unused : Alone (resolved spelling symbol) before first init last after
+  shape : t ≡ block (append before (let_among (resolved spelling symbol) first init last ▸ after))
+
+or_true : (b : Bool) → (b || true) ≡ true
+or_true true = refl
+or_true false = refl
+
+read : (q : StmtSeat) (t w : Tree) → UnusedRow (Stmt q) t w → Read t
+read q t w (inl r) = record { before = r.before; first = none; spelling = r.spelling; symbol = r.symbol; init = r.init; last = none; after = r.after; goes = ap (λ b. is_idle r.init || b) r.present ∙ or_true (is_idle r.init); unused = r.unused; shape = r.shape }
+read q t w (inr r) = record { before = r.before; first = r.first; spelling = r.spelling; symbol = r.symbol; init = r.init; last = r.last; after = r.after; goes = ap (λ b. b || (is_bare (listed (append r.first (declarator (binding (resolved r.spelling r.symbol)) r.init ▸ r.last))) 1 && declares_nothing r.init)) r.idle; unused = r.unused; shape = r.shape }
+
+module _ (t : Tree) (r : Read t) where
+  abbrev named_there : Name
+  named_there = resolved r.spelling r.symbol
+
+  abbrev declarator_there : Tree
+  declarator_there = declarator (binding named_there) r.init
+
+  abbrev declarators_there : Trees
+  declarators_there = append r.first (declarator_there ▸ r.last)
+
+  abbrev statement_there : Tree
+  statement_there = declaration Let declarators_there
+
+  abbrev statements_there : Trees
+  statements_there = append r.before (statement_there ▸ r.after)
+
+  alone_is : is_alone (named_there ∷ []) r.init declarators_there (count r.first) statements_there (count r.before) ≡ true
+  alone_is =
+      let y = named_there in
+      let all = λ (a b c d f : Bool). not a && (not b && (not c && (not d && not f))) in
+      let rest_ds = ap (any_names y) (there_rest r.first declarator_there r.last) ∙ r.unused.declared_later in
+      let rest_ts = ap (any_names y) (there_rest r.before statement_there r.after) ∙ r.unused.later in
+      let first_ds = ap (any_names y) (there_first r.first declarator_there r.last) ∙ r.unused.declared_earlier in
+      let first_ts = ap (any_names y) (there_first r.before statement_there r.after) ∙ r.unused.earlier in
+      λ k. all (r.unused.initial k) (rest_ds k) (rest_ts k) (first_ds k) (first_ts k)
+
+  unused_there : is_unused (children (part t 0)) (count r.before) (count r.first) ≡ true
+  unused_there =
+      let ts = statements_there in
+      let i = count r.before in
+      let ds = declarators_there in
+      let j = count r.first in
+      ap (λ v. is_unused (children (part v 0)) i j) r.shape
+      ∙ ap (λ c. is_let c && is_unused_declarator (part c 0) j ts i) (there_child r.before statement_there r.after)
+      ∙ ap (λ c. declares_name c && (may_go (part c 1) (listed ds) && is_alone (names_of (part c 0)) (part c 1) ds j ts i)) (there_child r.first declarator_there r.last)
+      ∙ and_both (may_go r.init (listed ds)) (is_alone (named_there ∷ []) r.init ds j ts i) r.goes alone_is
+
+  statement_within : count r.before < count (children (part t 0))
+  statement_within = subst (λ v. count r.before < count (children (part v 0))) (sym r.shape) (there_within r.before statement_there r.after)
+
+  declarator_within : count r.first < count (children (list_at (children (part t 0)) (count r.before)))
+  declarator_within =
+      subst (λ v. count r.first < count (children (list_at (children (part v 0)) (count r.before)))) (sym r.shape)
+      (subst (λ c. count r.first < count (children (part c 0))) (sym (there_child r.before statement_there r.after)) (there_within r.first declarator_there r.last))
+
+rests : (q : StmtSeat) (t : Tree) → (Read t → ⊥) → Applied (Stmt q) t t false
+rests q t f = (refl, λ w r. f (read q t w r))
+
+pub no_block : (t : Tree) → is_block t ≡ false → (q : StmtSeat) → Applied (Stmt q) t t false
+no_block t e q = rests q t (λ r. true≢false (sym (ap is_block r.shape) ∙ e))
+
+pub none_unused : (t : Tree) → UnusedAt (children (part t 0)) None → (q : StmtSeat) → Applied (Stmt q) t t false
+none_unused t f q = rests q t (λ r. true≢false (sym (unused_there t r) ∙ f (count r.before) (statement_within t r) (count r.first) (declarator_within t r)))
+
+pub seen_by_eval : (t : Tree) → has_eval t ≡ true → (q : StmtSeat) → Applied (Stmt q) t t false
+seen_by_eval t e q = rests q t (λ r. true≢false (sym e ∙ ap has_eval r.shape ∙ r.unused.unseen))
+
+pub elsewhere : (p : Position) (t : Tree) → ((q : StmtSeat) → p ≡ Stmt q → ⊥) → Applied p t t false
+elsewhere (Stmt q) t f = absurd (f q refl)
+elsewhere p t f = (refl, λ w r. absurd r)
+
+-- ---- the first one
+
+-- it holds of all up to a place
+abbrev pub SoFar : (ℕ → Type 0) → ℕ → Type 0
+SoFar P k = (i : ℕ) → i < k → P i
+
+below_or : (j i : ℕ) → j < suc i → (j < i) ⊎ (j ≡ i)
+below_or zero zero h = inr refl
+below_or zero (suc i) h = inl (omega arith)
+below_or (suc j) zero h = absurd (omega (arith, h))
+below_or (suc j) (suc i) h = elim (below_or j i (omega (arith, h))) [ inl x ↦ inl (omega (arith, x)) | inr e ↦ inr (ap suc e) ]
+
+module _ (P : ℕ → Type 0) where
+  pub so_far_start : SoFar P 0
+  so_far_start i h = absurd (omega (arith, h))
+
+  pub so_far_on : (i k : ℕ) → k ≡ suc i → P i → SoFar P i → SoFar P k
+  so_far_on i k e n f j h = elim (below_or j i (omega (arith, e, h))) [ inl x ↦ f j x | inr g ↦ subst P (sym g) n ]
+
+  pub so_far_end : (n i : ℕ) → n ≤ i → SoFar P i → SoFar P n
+  so_far_end n i g f j h = f j (omega (arith, g, h))
+
+-- of one statement
+
+pub none_of : (ts : Trees) (i : ℕ) → is_let (child_or_absent ts i) ≡ false → UnusedOf ts i None
+none_of ts i e j h = ap (λ b. b && is_unused_declarator (list_at ts i) j ts i) e
+
+pub of_list : (ts : Trees) (i : ℕ) (f : Option ℕ) → is_let (child_or_absent ts i) ≡ true → 0 < count (children (child_or_absent ts i)) → UnusedIn (list_at ts i) ts i f → UnusedOf ts i f
+of_list ts i (Some j) e h u = (h, u.0, and_both (is_let (child_or_absent ts i)) (is_unused_declarator (list_at ts i) j ts i) e u.1)
+of_list ts i None e h u = λ j g. ap (λ b. b && is_unused_declarator (list_at ts i) j ts i) e ∙ u j g

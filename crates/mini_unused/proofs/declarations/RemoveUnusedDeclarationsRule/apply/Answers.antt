@@ -1,0 +1,7 @@
+use Rattle.std.proofs.Common.{sym, subst}
+use Rattle.mini_unused.specs.RemoveUnusedDeclaration.{Applied}
+use Rattle.mini_unused.proofs.declarations.RemoveUnusedDeclarationsRule.apply.Goals as goal
+
+pub returns-in_ok-remove_unused_declaration-in-Stmt-clause-applied : goal.returns-in_ok-remove_unused_declaration-in-Stmt-clause-applied
+returns-in_ok-remove_unused_declaration-in-Stmt-clause-applied g c =
+    λ o q k. subst (λ p. Applied p c.args.node.now c.remove_unused_declaration.new.node c.in_ok-remove_unused_declaration-in-Stmt.field-0) (sym c.in-Stmt.is) (c.in_ok-remove_unused_declaration-in-Stmt.ensures c.in-Stmt.field-0)

@@ -1,0 +1,7 @@
+use Rattle.std.proofs.Common.{◌≡◌, false}
+use Rattle.mini_unused.specs.RemoveUnusedDeclaration.{is_unused_declarator}
+use Rattle.mini_unused.proofs.Unused.{SoFar}
+use Rattle.mini_unused.proofs.declarations.unused_in.Given as goal
+
+abbrev pub invariant-loop-which : goal.invariant-loop-which
+invariant-loop-which l = SoFar (λ j. is_unused_declarator l.fn.list j l.fn.statements l.fn.at ≡ false) l.which

@@ -1,0 +1,2 @@
+pub mod RemoveUnusedDeclaration
+pub mod Lighter

@@ -1,0 +1,104 @@
+-- 72, `remove_unused_declaration`: `{ let x = a(); b(); }` becomes `{ a(); b(); }`, `{ let x = 1; b(); }` becomes `{ ; b(); }`, and
+-- `{ let x, y = b(); c(y); }` becomes `{ let y = b(); c(y); }`.
+use Rattle.std.specs.Prelude.{◌≡◌, ◌<◌, ℕ, suc, Bool, true, false, not, ◌&&◌, ◌||◌, List, [], ◌∷◌, Option, Some, None, is_some, if◌then◌else◌}
+use Rattle.mini_model.specs.declared.kind.VariableDeclarationKind.TheVariants.{Let}
+use Rattle.mini_model.specs.declared.name.Name.{Name}
+use Rattle.mini_model.specs.declared.place.Position.{Position}
+use Rattle.mini_model.specs.declared.shape.Shape.{Shape}
+use Rattle.mini_model.specs.declared.shape.Shape.TheVariants as shape
+use Rattle.mini_model.specs.Tree.{Tree, Trees, shape_of, count, child_or_absent, empty_statement, expression_statement, children}
+use Rattle.mini_node.specs.Children.{names_of, like, part, with_part, without, is_bare, first_children, rest_children}
+use Rattle.mini_node.specs.Kinds.{is_listed, is_named_leaf}
+use Rattle.mini_rows.specs.Lists.{declares_nothing}
+use Rattle.mini_rows.specs.Unused.{names, any_names, is_idle, UnusedRow, UnusedContracts}
+use Rattle.mini_walk.specs.Rule as rule
+
+-- shapes
+
+abbrev pub is_binding_shape : Shape → Bool
+is_binding_shape shape.BindingIdentifier = true
+is_binding_shape _ = false
+
+abbrev pub is_declarator_shape : Shape → Bool
+is_declarator_shape shape.VariableDeclarator = true
+is_declarator_shape _ = false
+
+abbrev pub is_let_shape : Shape → Bool
+is_let_shape (shape.VariableDeclaration Let) = true
+is_let_shape _ = false
+
+-- a name that is declared, with its symbol
+abbrev pub has_symbol : List Name → Bool
+has_symbol (x ∷ []) = is_some x.symbol
+has_symbol _ = false
+
+abbrev pub is_resolved_binding : Tree → Bool
+is_resolved_binding t = is_binding_shape (shape_of t) && (is_named_leaf t && has_symbol (names_of t))
+
+-- `x = a()` or `x`, as a declarator
+abbrev pub declares_name : Tree → Bool
+declares_name d = is_declarator_shape (shape_of d) && (is_bare d 2 && is_resolved_binding (part d 0))
+
+-- a `let`, whose declarators are those of its list
+abbrev pub is_let : Tree → Bool
+is_let t = is_let_shape (shape_of t) && (is_bare t 1 && is_listed (part t 0))
+
+-- of a declarator that goes nothing misses the initializer, or it is the only one of the list and leaves an expression
+abbrev pub may_go : Tree → Tree → Bool
+may_go init l = is_idle init || (is_bare l 1 && declares_nothing init)
+
+-- no name like this one stands in the initializer of the declarator at the place, in another declarator of the `let` at its
+-- place, or in another statement
+abbrev pub is_alone : List Name → Tree → Trees → ℕ → Trees → ℕ → Bool
+is_alone [] init ds j ts i = false
+is_alone (x ∷ xs) init ds j ts i = not (names x init) && (not (any_names x (rest_children (suc j) ds)) && (not (any_names x (rest_children (suc i) ts)) && (not (any_names x (first_children j ds)) && not (any_names x (first_children i ts)))))
+
+-- the declarator at the place in the list of a `let`, which is a statement at its place, has a name that nothing else mentions
+abbrev pub is_unused_declarator : Tree → ℕ → Trees → ℕ → Bool
+is_unused_declarator l j ts i = declares_name (part l j) && (may_go (part (part l j) 1) l && is_alone (names_of (part (part l j) 0)) (part (part l j) 1) (children l) j ts i)
+
+-- of the statement at the place the list of its declarators
+abbrev pub list_at : Trees → ℕ → Tree
+list_at ts i = part (child_or_absent ts i) 0
+
+-- such a declarator of a `let`
+abbrev pub is_unused : Trees → ℕ → ℕ → Bool
+is_unused ts i j = is_let (child_or_absent ts i) && is_unused_declarator (list_at ts i) j ts i
+
+-- the place of one in a list, or there is none
+abbrev pub UnusedIn : Tree → Trees → ℕ → Option ℕ → Type 0
+UnusedIn l ts i (Some j) = (j < count (children l)) × (is_unused_declarator l j ts i ≡ true)
+UnusedIn l ts i None = (j : ℕ) → j < count (children l) → is_unused_declarator l j ts i ≡ false
+
+-- of one statement
+abbrev pub UnusedOf : Trees → ℕ → Option ℕ → Type 0
+UnusedOf ts i (Some j) = (0 < count (children (child_or_absent ts i))) × (j < count (children (list_at ts i))) × (is_unused ts i j ≡ true)
+UnusedOf ts i None = (j : ℕ) → j < count (children (list_at ts i)) → is_unused ts i j ≡ false
+
+-- of all
+abbrev pub UnusedAt : Trees → Option (ℕ × ℕ) → Type 0
+UnusedAt ts (Some p) = (p.0 < count ts) × UnusedOf ts p.0 (Some p.1)
+UnusedAt ts None = (i : ℕ) → i < count ts → UnusedOf ts i None
+
+-- the declaration without the declarator at the place
+abbrev pub let_left : Tree → ℕ → Tree
+let_left t j = with_part t 0 (like (part t 0) (without (children (part t 0)) j))
+
+-- `a();` for `let x = a();`, `;` for `let x;` and `let x = 1;`, and the others where there are some
+abbrev pub statement_left : Tree → ℕ → Tree
+statement_left t j = if is_idle (part (part (part t 0) j) 1) then (if is_bare (part t 0) 1 then empty_statement else let_left t j) else expression_statement (part (part (part t 0) j) 1)
+
+-- with that in the place of the declaration
+abbrev pub list_left : Tree → ℕ → ℕ → Tree
+list_left l i j = with_part l i (statement_left (part l i) j)
+
+abbrev pub block_left : Tree → ℕ → ℕ → Tree
+block_left t i j = with_part t 0 (list_left (part t 0) i j)
+
+-- no row reads it as anything
+abbrev pub Rests : Position → Tree → Type 0
+Rests p n = (w : Tree) → UnusedRow p n w → ⊥
+
+-- one call of the rule
+abbrev pub Applied : Position → Tree → Tree → Bool → Type 0
+Applied = rule.Applied UnusedContracts Rests

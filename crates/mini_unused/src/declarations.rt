@@ -1,0 +1,293 @@
+//! Row 72: `{ let x = a(); b(); }` becomes `{ a(); b(); }`, and `{ let x = 1, y = b(); c(y); }` becomes `{ let y = b(); c(y); }`,
+//! where nothing else in the block has x's spelling or its symbol and no direct eval stands there. It is lighter in every place.
+
+ghost use Rattle.std.specs.Prelude.{◌≡◌, ◌+◌, ◌<◌, ◌^◌, true, IfOk, OnOk};
+ghost use Rattle.mini_model.specs.declared.place.Position.TheVariants.{Stmt};
+ghost use Rattle.mini_model.specs.declared.seat.StmtSeat.{StmtSeat};
+ghost use Rattle.mini_model.specs.Tree.{absent, children, count};
+ghost use Rattle.mini_node.specs.Children.{names, part, with_part};
+ghost use Rattle.mini_rows.specs.Unused.{is_idle as is_it_idle, UnusedContracts};
+ghost use Rattle.mini_unused.specs.Lighter.{unused_is_lighter};
+ghost use Rattle.mini_unused.specs.RemoveUnusedDeclaration as row;
+ghost use Rattle.mini_unused.specs.RemoveUnusedDeclaration.{declares_name as it_declares_name, is_let as it_is_let, let_left, UnusedIn, UnusedOf, UnusedAt, Applied, Rests};
+
+use crate::declares::declares_nothing;
+use crate::evals::has_eval;
+use crate::mentions::{is_mentioned, is_mentioned_before, is_mentioned_from};
+use mini_model::{Name, OutOfMemory, Position, Shape, VariableDeclarationKind};
+use mini_node::{
+    Node, Nodes, discard, empty_statement, expression_statement, is_absent_part, is_block,
+    is_listed, two,
+};
+use mini_terms::{has_no_effect, leaves_nothing};
+use mini_walk::{Context, Rule};
+use std::alloc::Global;
+
+// A name with a symbol.
+fn has_symbol(name: &Option<Name>) -> bool
+    ensures { result ≡ row.has_symbol (names name.now) }
+{
+    match name {
+        Some(name) => name.symbol.is_some(),
+        None => false,
+    }
+}
+
+// A name that is declared, with its symbol.
+fn is_resolved_binding(node: &Node) -> bool
+    ensures { result ≡ row.is_resolved_binding node.now }
+{
+    matches!(node.shape(), Shape::BindingIdentifier)
+        && node.is_named_leaf()
+        && has_symbol(node.name())
+}
+
+// `x = a()` or `x`, as a declarator
+fn declares_name(node: &Node) -> bool
+    ensures kind { result ≡ it_declares_name node.now }
+    ensures parts { result ≡ true → count (children node.now) ≡ 2 }
+{
+    matches!(node.shape(), Shape::VariableDeclarator)
+        && node.is_bare(2)
+        && is_resolved_binding(node.child(0))
+}
+
+// A `let`, with its list of declarators.
+fn is_let(node: &Node) -> bool
+    ensures kind { result ≡ it_is_let node.now }
+    ensures list { result ≡ true → count (children node.now) ≡ 1 }
+{
+    matches!(
+        node.shape(),
+        Shape::VariableDeclaration(VariableDeclarationKind::Let)
+    ) && node.is_bare(1)
+        && is_listed(node.child(0))
+}
+
+// An initializer that nothing misses: none, or an expression that has no effect and leaves nothing behind.
+fn is_idle(init: &Node) -> bool
+    ensures { result ≡ is_it_idle init.now }
+{
+    is_absent_part(init) || declares_nothing(init) && has_no_effect(init) && leaves_nothing(init)
+}
+
+// Of a declarator that goes nothing misses the initializer, or it is the only one of the list and leaves an expression.
+fn may_go(init: &Node, list: &Node) -> bool
+    ensures { result ≡ row.may_go init.now list.now }
+{
+    is_idle(init) || list.is_bare(1) && declares_nothing(init)
+}
+
+// Whether the name stands neither in its initializer, nor in the other declarators, nor in the other statements. What follows is
+// looked at first: a name that is used mostly is soon.
+fn is_alone(
+    name: &Option<Name>,
+    init: &Node,
+    declarators: &Nodes,
+    which: usize,
+    statements: &Nodes,
+    at: usize,
+) -> bool
+    requires declarator { which < count declarators.now }
+    requires statement { at < count statements.now }
+    requires fits { which + 1 < 2 ^ 64 }
+    requires fits_too { at + 1 < 2 ^ 64 }
+    ensures { result ≡ row.is_alone (names name.now) init.now declarators.now which statements.now at }
+{
+    match name {
+        Some(name) => {
+            !is_mentioned(name, init)
+                && !is_mentioned_from(name, declarators, which + 1)
+                && !is_mentioned_from(name, statements, at + 1)
+                && !is_mentioned_before(name, declarators, which)
+                && !is_mentioned_before(name, statements, at)
+        }
+        None => false,
+    }
+}
+
+// Whether nothing else mentions the name of the declarator, and it may go.
+fn is_unused_declarator(list: &Node, which: usize, statements: &Nodes, at: usize) -> bool
+    requires declarator { which < count (children list.now) }
+    requires statement { at < count statements.now }
+    requires fits { which + 1 < 2 ^ 64 }
+    requires fits_too { at + 1 < 2 ^ 64 }
+    ensures { result ≡ row.is_unused_declarator list.now which statements.now at }
+{
+    let declarator = list.child(which);
+    declares_name(declarator)
+        && may_go(declarator.child(1), list)
+        && is_alone(
+            declarator.child(0).name(),
+            declarator.child(1),
+            list.children(),
+            which,
+            statements,
+            at,
+        )
+}
+
+// The first declarator of the list that is.
+fn unused_in(list: &Node, statements: &Nodes, at: usize) -> Option<usize>
+    requires statement { at < count statements.now }
+    requires fits { at + 1 < 2 ^ 64 }
+    ensures { UnusedIn list.now statements.now at result }
+{
+    for which in 0..list.children().len() {
+        if is_unused_declarator(list, which, statements, at) {
+            return Some(which);
+        }
+    }
+    None
+}
+
+// Of the statement, where it is a `let`.
+fn unused_of(statements: &Nodes, at: usize) -> Option<usize>
+    requires statement { at < count statements.now }
+    requires fits { at + 1 < 2 ^ 64 }
+    ensures { UnusedOf statements.now at result }
+{
+    let statement = statements.child(at);
+    if !is_let(statement) {
+        return None;
+    }
+    unused_in(statement.child(0), statements, at)
+}
+
+// The first statement that has one, and the declarator's place in it.
+fn unused_at(statements: &Nodes) -> Option<(usize, usize)>
+    ensures { UnusedAt statements.now result }
+{
+    for at in 0..statements.len() {
+        if let Some(which) = unused_of(statements, at) {
+            return Some((at, which));
+        }
+    }
+    None
+}
+
+// The child at the index, taken out of the node.
+fn take_child(node: &mut Node, at: usize) -> Node
+    requires { at < count (children node.old) }
+    ensures child { result ≡ part node.old at }
+    ensures left { node.new ≡ with_part node.old at absent }
+{
+    node.children_mut().take(at)
+}
+
+// Puts the child at the index of the node.
+fn put_child(node: &mut Node, at: usize, child: Node)
+    requires { at < count (children node.old) }
+    ensures { node.new ≡ with_part node.old at child }
+{
+    discard(node.children_mut().replace(at, child));
+}
+
+// Of a declaration, the declarator at the index, taken out of its list.
+#[tactic(auto, using(crate::proofs::Unused::same_parts, crate::proofs::Unused::part_twice))]
+fn take_declarator(declaration: &mut Node, which: usize) -> Node
+    requires list { 0 < count (children declaration.old) }
+    requires declarator { which < count (children (part declaration.old 0)) }
+    ensures declarator { result ≡ part (part declaration.old 0) which }
+    ensures left { declaration.new ≡ let_left declaration.old which }
+{
+    let mut list = take_child(declaration, 0);
+    let declarator = list.children_mut().remove(which);
+    put_child(declaration, 0, list);
+    declarator
+}
+
+// `a();` for `let x = a();`, `;` for `let x;` and `let x = 1;`, and the others where there are some.
+fn statement_left(alloc: Global, mut declaration: Node, which: usize) -> Result<Node, OutOfMemory>
+    requires list { 0 < count (children declaration) }
+    requires declarator { which < count (children (part declaration 0)) }
+    ensures { IfOk result (λ made. made ≡ row.statement_left declaration which) }
+{
+    let is_only_one = declaration.child(0).is_bare(1);
+    let (binding, init) = two(take_declarator(&mut declaration, which));
+    discard(binding);
+    if !is_idle(&init) {
+        discard(declaration);
+        return expression_statement(alloc, init);
+    }
+    discard(init);
+    if is_only_one {
+        discard(declaration);
+        return Ok(empty_statement(alloc));
+    }
+    Ok(declaration)
+}
+
+// Of a list, the statement at the index loses the declarator.
+#[tactic(auto, using(crate::proofs::Unused::same_parts, crate::proofs::Unused::part_twice))]
+fn drop_in_list(alloc: Global, list: &mut Node, at: usize, which: usize) -> Result<(), OutOfMemory>
+    requires statement { at < count (children list.old) }
+    requires declarators { 0 < count (children (part list.old at)) }
+    requires declarator { which < count (children (part (part list.old at) 0)) }
+    ensures { OnOk result (list.new ≡ row.list_left list.old at which) }
+{
+    let declaration = take_child(list, at);
+    let left = statement_left(alloc, declaration, which)?;
+    put_child(list, at, left);
+    Ok(())
+}
+
+// Of a block.
+#[tactic(auto, using(crate::proofs::Unused::same_parts, crate::proofs::Unused::part_twice))]
+fn drop_name(alloc: Global, block: &mut Node, at: usize, which: usize) -> Result<(), OutOfMemory>
+    requires list { 0 < count (children block.old) }
+    requires statement { at < count (children (part block.old 0)) }
+    requires declarators { 0 < count (children (part (part block.old 0) at)) }
+    requires declarator { which < count (children (part (part (part block.old 0) at) 0)) }
+    ensures { OnOk result (block.new ≡ row.block_left block.old at which) }
+{
+    let mut list = take_child(block, 0);
+    drop_in_list(alloc, &mut list, at, which)?;
+    put_child(block, 0, list);
+    Ok(())
+}
+
+/// Of a block, `let x = a();` becomes `a();`, `let x;` and `let x = 1;` become `;`, and `let x, y = b();` becomes `let y = b();`
+/// where nothing mentions x. The answer says whether one did; the only error is that memory runs out.
+pub fn remove_unused_declaration(alloc: Global, node: &mut Node) -> Result<bool, OutOfMemory>
+    ensures { IfOk result (λ changed. (q : StmtSeat) → Applied (Stmt q) node.old node.new changed) }
+{
+    if !is_block(node) {
+        return Ok(false);
+    }
+    match unused_at(node.child(0).children()) {
+        Some((at, which)) => {
+            if has_eval(node) {
+                return Ok(false);
+            }
+            drop_name(alloc, node, at, which)?;
+            Ok(true)
+        }
+        None => Ok(false),
+    }
+}
+
+/// Row 72 as a rule: of each block.
+pub struct RemoveUnusedDeclarations;
+
+impl<C: Context> Rule<C> for RemoveUnusedDeclarations {
+    ghost gives = { λ o q. UnusedContracts };
+
+    ghost rests = { λ o q. Rests };
+
+    ghost lighter = { λ o q. unused_is_lighter };
+
+    #[tactic(auto, using(crate::proofs::Unused::elsewhere))]
+    fn apply(
+        &self,
+        alloc: Global,
+        node: &mut Node,
+        place: Position,
+        _context: &mut C,
+    ) -> Result<bool, OutOfMemory> {
+        match place {
+            Position::Stmt(_) => Ok(remove_unused_declaration(alloc, node)?),
+            _ => Ok(false),
+        }
+    }
+}

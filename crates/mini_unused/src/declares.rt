@@ -1,0 +1,35 @@
+//! Where nothing is declared.
+
+ghost use Rattle.std.specs.Prelude.{◌≡◌};
+ghost use Rattle.mini_rows.specs.Lists as list;
+
+use mini_model::{Shape, UnaryOperator};
+use mini_node::Node;
+
+/// Whether nothing is declared there, as by an expression.
+#[tactic(auto, using(crate::proofs::Operands::operand_declares, crate::proofs::Operands::no_operand))]
+pub fn declares_nothing(node: &Node) -> bool
+    ensures { result ≡ list.declares_nothing node.now }
+{
+    match node.shape() {
+        Shape::UnaryExpression(UnaryOperator::LogicalNot) => {
+            node.children().len() > 0 && declares_nothing(node.child(0))
+        }
+        Shape::Function(is_declaration, _, _) => !*is_declaration,
+        Shape::Class(is_declaration) => !*is_declaration,
+        Shape::Absent
+        | Shape::Listed
+        | Shape::BindingIdentifier
+        | Shape::ObjectPattern
+        | Shape::ArrayPattern
+        | Shape::BindingProperty(_, _)
+        | Shape::RestElement
+        | Shape::AssignmentPattern
+        | Shape::VariableDeclarator
+        | Shape::VariableDeclaration(_)
+        | Shape::SwitchCase
+        | Shape::ExportNamedDeclaration
+        | Shape::ExportDefaultDeclaration => false,
+        _ => true,
+    }
+}
