@@ -1,7 +1,8 @@
 //! The minifier's program: ESTree JSON from standard input to standard output.
 #![tactic(auto)]
 
-use mini_run::{Status, StdSink, StdSource, Words, run};
+use mini_peephole::{Status, run};
+use mini_run::{StdSink, StdSource, Words};
 use std::env;
 use std::io::ErrorKind;
 use std::process::ExitCode;

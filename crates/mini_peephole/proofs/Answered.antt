@@ -4,7 +4,7 @@ use Rattle.std.specs.Prelude.{Ok, Result, IfOk}
 use Rattle.std.proofs.lemmas.Result.{IfOk-weaker}
 use Rattle.serde_json.specs.Data.{Data}
 use Rattle.mini_model.specs.Tree.{Tree}
-use Rattle.mini_text.specs.declared.error.MinifyError.{MinifyError}
+use Rattle.mini_model.specs.declared.error.MinifyError.{MinifyError}
 use Rattle.mini_accept.specs.Accept.{program_at}
 use Rattle.mini_tree.specs.declared.options.CompressOptions.{CompressOptions}
 use Rattle.mini_writer.specs.Fits.{Fits}

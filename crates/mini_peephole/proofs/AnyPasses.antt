@@ -1,5 +1,6 @@
 -- Passes of a lawful relation give a faithful answer.
-use Rattle.std.proofs.Common.{◌≡◌, suc, ◌+◌, ◌≤◌, max, ◌∷◌, refl, sym, ap, ◌∙◌, subst, arith}
+use Rattle.std.proofs.Common.{◌≡◌, suc, ◌+◌, ◌≤◌, max, true, false, [], ◌∷◌, refl, sym, ap, ◌∙◌, subst, arith, true≢false}
+use Rattle.std.proofs.lemmas.Bool.{eqb-true}
 use Rattle.std.specs.Prelude.{Contains, None, length}
 use Rattle.serde_json.specs.Data.{Data}
 use Rattle.serde_json.specs.View.{view}
@@ -7,23 +8,31 @@ use Rattle.mini_model.specs.declared.place.Position.{Position}
 use Rattle.mini_model.specs.Tree.{Tree}
 use Rattle.mini_model.specs.Weight.{program_weight}
 use Rattle.mini_names.specs.Resolved.{resolved_program}
-use Rattle.mini_names.specs.Symbols.{declared_symbols}
+use Rattle.mini_names.specs.Scoped.{Scoped}
+use Rattle.mini_names.specs.Symbols.{declared_symbols, times, Distinct}
+use Rattle.mini_names.specs.declared.Use.TheVariants.{Read}
+use Rattle.mini_names.proofs.Places.{resolved_distinct}
+use Rattle.mini_names.proofs.Whole.{scoped}
 use Rattle.mini_scope.specs.Pointers.{early_fault}
-use Rattle.mini_laws.specs.Value.{VariableSet}
+use Rattle.mini_laws.specs.Value.{Variable, Declared, Global, VariableSet}
 use Rattle.mini_laws.specs.Body.{environment_in}
 use Rattle.mini_laws.specs.Bodies.{Body, bodies_in}
 use Rattle.mini_tree.specs.declared.options.CompressOptions.{CompressOptions}
 use Rattle.mini_accept.specs.Accept.{Accepts}
-use Rattle.mini_kept.specs.AlikeBodies.{AlikeBody}
+use Rattle.mini_accept.specs.WellShaped.{IsWellShaped}
 use Rattle.mini_kept.specs.Carried.{numbers, symbol_numbers, carried}
 use Rattle.mini_kept.specs.Declaring.{declared}
-use Rattle.mini_kept.specs.Frames.{FramesKept, frames_in}
-use Rattle.mini_kept.specs.Lawful.{Lawful, ProgramIsKept}
-use Rattle.mini_kept.proofs.BodyLists.{kept_stands}
-use Rattle.mini_kept.proofs.Lawful.{lawful_keeps}
+use Rattle.mini_kept.specs.Frames.{frames_in}
+use Rattle.mini_kept.specs.ShownFrames.{KeyGiven, FramesShown}
+use Rattle.mini_kept.specs.Loosely.{symbol, LawfulLoosely, undeclared, ProgramIsKeptLoosely}
+use Rattle.mini_kept.specs.Without.{Unseen, AlikeWithout}
+use Rattle.mini_kept.proofs.Gone.{avoids}
+use Rattle.mini_kept.proofs.Loosely.{loosely_keeps}
 use Rattle.mini_kept.proofs.ReadBack.{IsRead, IsReadBack, read_back}
 use Rattle.mini_kept.proofs.SameShape.{shaped_resolved}
 use Rattle.mini_kept.proofs.Texts.{text}
+use Rattle.mini_kept.proofs.Undeclared.{unshared, native}
+use Rattle.mini_kept.proofs.WithoutLists.{kept_stands}
 use Rattle.mini_writer.specs.Written.{program_data}
 use Rattle.mini_walk.specs.Passes.{MakesPasses}
 use Rattle.mini_peephole.specs.Environments.{shared_by, foreign_to, initialised_for, environment_with}
@@ -38,25 +47,37 @@ use Rattle.mini_peephole.proofs.Written.{is_read, free_of, read_again}
 
 -- ---- bodies
 
-environments : (t u : Tree) → ProgramIsKept t u → (shared foreign : VariableSet) (b c : Body) → b.strict ≡ c.strict → b.asks_this ≡ c.asks_this → environment_with t shared foreign b ≡ environment_with u shared foreign c
+environments : (t u : Tree) → ProgramIsKeptLoosely t u → (shared foreign : VariableSet) (b c : Body) → b.strict ≡ c.strict → b.asks_this ≡ c.asks_this → environment_with t shared foreign b ≡ environment_with u shared foreign c
 environments t u kept shared foreign b c s a =
     (λ k. environment_in t shared foreign (s k) (a k))
     ∙ (λ k. record { shared = shared; foreign = foreign; fixed = λ x. kept.fixities c.strict x k; asks_this = c.asks_this })
 
-same_body : (t u : Tree) → ProgramIsKept t u → (b c : Body) → AlikeBody b c → IsSameBody t u b c
-same_body t u kept b c a =
+-- a variable that no scope of a program declares is neither shared nor foreign to any of its bodies
+unseen : (u : Tree) → Scoped Read [] u → (c : Body) → Unseen (undeclared u) (environment_with u (shared_by u c) (foreign_to u c) c)
+unseen u v c = record { shared = shown; foreign = changed }
+  where
+    shown : (x : Variable) → undeclared u x ≡ true → shared_by u c x ≡ false
+    shown (Declared k) h = unshared k u (avoids k Read [] u v refl (eqb-true (times (symbol k) (declared_symbols u)) 0 h)) c.number
+    shown (Global s) h = absurd (true≢false (sym h))
+
+    changed : (x : Variable) → undeclared u x ≡ true → foreign_to u c x ≡ false
+    changed (Declared k) h = native k u (avoids k Read [] u v refl (eqb-true (times (symbol k) (declared_symbols u)) 0 h)) c.number
+    changed (Global s) h = absurd (true≢false (sym h))
+
+same_body : (t u : Tree) → ProgramIsKeptLoosely t u → Scoped Read [] u → (b c : Body) → AlikeWithout (undeclared u) b c → IsSameBody t u b c
+same_body t u kept v b c a =
     let e = environment_with u (shared_by u c) (foreign_to u c) c in
     let X = initialised_for u c in
     record {
       number = a.number;
       kind = a.kind;
-      same = subst (λ d. RunsAlike d e b.kind c.kind X b.root c.root) (sym (environments t u kept (shared_by u c) (foreign_to u c) b c a.strict a.asks_this)) (record { by = (a.same e X).by });
+      same = subst (λ d. RunsAlike d e b.kind c.kind X b.root c.root) (sym (environments t u kept (shared_by u c) (foreign_to u c) b c a.strict a.asks_this)) (record { by = (a.same e (unseen u v c) X).by });
     }
 
-bodies_same : (t u : Tree) → ProgramIsKept t u → BodiesAreSame t u
-bodies_same t u kept c there =
-    let (b, stands, alike) = kept_stands (bodies_in t) (bodies_in u) kept.bodies c there in
-    (b, stands, same_body t u kept b c alike)
+bodies_same : (t u : Tree) → ProgramIsKeptLoosely t u → IsWellShaped t → Scoped Read [] t → Distinct (declared_symbols t) → BodiesAreSame t u
+bodies_same t u kept e v d c there =
+    let (b, stands, alike) = kept_stands (undeclared u) (bodies_in t) (bodies_in u) (kept.bodies v d) c there in
+    (b, stands, same_body t u kept (kept.names.scoped e v) b c alike)
 
 -- ---- the whole
 
@@ -66,7 +87,8 @@ pub record Made (G : Tree → Position → Tree → Tree → Type 0) (D : Tree �
   pub kept : m.kept ≡ 0 ∷ numbers v
   pub symbols : m.symbols ≡ symbol_numbers (declared_symbols v)
   pub back : IsReadBack t v u
-  pub rewritten : ProgramIsKept (resolved_program t) v
+  pub shaped : IsWellShaped (resolved_program t)
+  pub rewritten : ProgramIsKeptLoosely (resolved_program t) v
 
 named : (m : Minified) (t v u : Tree) → IsReadBack t v u → m.kept ≡ 0 ∷ numbers v → m.symbols ≡ symbol_numbers (declared_symbols v) → AreNamed m.kept m.symbols t u
 named m t v u r kept symbols = record {
@@ -94,8 +116,8 @@ module _ (G : Tree → Position → Tree → Tree → Type 0) (D : Tree → Posi
         jumps = made.back.jumps (free_of t free).1;
         named = named m t v u made.back made.kept made.symbols;
         spelled = λ x c. kept.declared x (subst (λ w. Contains (declared w) x) whole c);
-        frames = subst (λ w. FramesKept (frames_in (resolved_program t)) (frames_in w)) (sym whole) kept.frames;
-        bodies = subst (BodiesAreSame (resolved_program t)) (sym whole) (bodies_same (resolved_program t) v kept);
+        frames = subst (λ w. FramesShown (KeyGiven (undeclared w) (bodies_in (resolved_program t))) (frames_in (resolved_program t)) (frames_in w)) (sym whole) (kept.frames (scoped Read [] 0 t) (resolved_distinct t));
+        bodies = subst (BodiesAreSame (resolved_program t)) (sym whole) (bodies_same (resolved_program t) v kept made.shaped (scoped Read [] 0 t) (resolved_distinct t));
         weight = subst (λ w. program_weight w ≤ program_weight (resolved_program t)) (sym whole) (omega (arith, some, less));
         some_pass = some;
         within = made.passes.within;
@@ -103,15 +125,18 @@ module _ (G : Tree → Position → Tree → Tree → Type 0) (D : Tree → Posi
         unsettled = λ e. let (same, fell) = made.passes.stopped e in subst (λ w. program_weight w + max o.passes 1 ≤ program_weight (resolved_program t)) (sym whole) (omega (arith, same, fell));
       }
 
-  module _ (l : (q : Tree) → Lawful (G q)) (d : Data) (o : CompressOptions) (m : Minified) (t : Tree) (read : Accepts d t) (r : IsWritten G D (resolved_program t) o.passes m) where
+  module _ (l : (q : Tree) → LawfulLoosely (G q)) (d : Data) (o : CompressOptions) (m : Minified) (t : Tree) (read : Accepts d t) (r : IsWritten G D (resolved_program t) o.passes m) where
     pub start : IsRead t read.1
     start = is_read d read.0 read.1 t read.2
 
-    kept : ProgramIsKept (resolved_program t) r.output
-    kept = lawful_keeps (Any G) (any_lawful G l) (resolved_program t) r.output (any_reach G r.passes.reached) (shaped_resolved t start.shaped)
+    shaped : IsWellShaped (resolved_program t)
+    shaped = shaped_resolved t start.shaped
+
+    kept : ProgramIsKeptLoosely (resolved_program t) r.output
+    kept = loosely_keeps (Any G) (any_lawful G l) (resolved_program t) r.output (any_reach G r.passes.reached) shaped
 
     pub again : (u : Tree) × Accepts (program_data r.output) u × (text u ≡ text r.output)
-    again = read_again r.output (kept.names.shaped (shaped_resolved t start.shaped))
+    again = read_again r.output (kept.names.shaped shaped)
 
     pub answer_read : IsRead again.0 again.1.1
     answer_read = is_read (program_data r.output) again.1.0 again.1.1 again.0 again.1.2
@@ -120,7 +145,7 @@ module _ (G : Tree → Position → Tree → Tree → Type 0) (D : Tree → Posi
     written = subst (λ w. Accepts w again.0) (sym r.written) again.1
 
     pub made : Made G D o m t r.output again.0
-    made = record { passes = r.passes; kept = r.kept; symbols = r.symbols; back = read_back t r.output again.0 read.1 again.1.1 start answer_read kept again.2; rewritten = kept }
+    made = record { passes = r.passes; kept = r.kept; symbols = r.symbols; back = read_back t r.output again.0 read.1 again.1.1 start answer_read kept.names kept.root again.2; shaped = shaped; rewritten = kept }
 
     pub passes_faithful : early_fault t ≡ None → FaithfulWith (NothingLeft D) d o m
     passes_faithful free = record { input = t; output = again.0; accepted = read; answered = written; faithful = faithful_trees o m t r.output again.0 free made }

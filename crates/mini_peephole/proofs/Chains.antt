@@ -7,7 +7,7 @@ use Rattle.mini_model.specs.Rewriting.{Reaches, done}
 use Rattle.mini_walk.specs.Passes.{PassesReach, no_pass, one_more}
 use Rattle.mini_walk.specs.Wider.{reaches_of}
 use Rattle.mini_walk.proofs.Reaching.{reaches_trans}
-use Rattle.mini_kept.specs.Lawful.{Lawful}
+use Rattle.mini_kept.specs.Loosely.{LawfulLoosely}
 
 module _ (G : Tree → Position → Tree → Tree → Type 0) where
   -- what is made of a tree over some program
@@ -26,15 +26,9 @@ module _ (G : Tree → Position → Tree → Tree → Type 0) where
   each f p n w r = f r.0 p n w r.1
 
   -- what is lawful over every program is lawful over all together
-  pub any_lawful : ((q : Tree) → Lawful (G q)) → Lawful Any
+  pub any_lawful : ((q : Tree) → LawfulLoosely (G q)) → LawfulLoosely Any
   any_lawful l = record {
     shapes = record { fitting = each (λ q. (l q).shapes.fitting); asked = each (λ q. (l q).shapes.asked) };
-    bodies = record {
-      means = record { same = each (λ q. (l q).bodies.means.same); reads = each (λ q. (l q).bodies.means.reads) };
-      pieces = each (λ q. (l q).bodies.pieces);
-      kind = each (λ q. (l q).bodies.kind);
-      bodies = each (λ q. (l q).bodies.bodies);
-    };
     frames = record {
       names = record { places = each (λ q. (l q).frames.names.places); pieces = each (λ q. (l q).frames.names.pieces); keeps = each (λ q. (l q).frames.names.keeps) };
       slots = each (λ q. (l q).frames.slots);
@@ -43,6 +37,9 @@ module _ (G : Tree → Position → Tree → Tree → Type 0) where
       exported = each (λ q. (l q).frames.exported);
       frames = each (λ q. (l q).frames.frames);
     };
+    reads = each (λ q. (l q).reads);
+    kind = each (λ q. (l q).kind);
     fixed = each (λ q. (l q).fixed);
     declared = each (λ q. (l q).declared);
+    instances = each (λ q. (l q).instances);
   }

@@ -18,38 +18,38 @@ use Rattle.mini_kept.proofs.ReadBack.{IsRead}
 use Rattle.mini_kept.proofs.Texts.{text, text_resolved}
 use Rattle.mini_writer.specs.Written.{program_data}
 use Rattle.mini_rows.specs.Switches.{Switches}
-use Rattle.mini_rows.specs.Redex.{Contracts, IsSettled, HasNoRedex}
+use Rattle.mini_rows.specs.Redex.{Rewrites, IsSettled, HasNoRedex}
 use Rattle.mini_peephole.specs.AnyPasses.{NothingLeft}
 use Rattle.mini_peephole.specs.Minified.{IsRewriting}
-use Rattle.mini_peephole.specs.Rules.{Gives, Rests}
+use Rattle.mini_peephole.specs.Rules.{AllGives, AllRests}
 use Rattle.mini_peephole.specs.Faithful as faith
 use Rattle.mini_peephole.specs.Faithful.{earlier, switches, IsFaithfulWith, IsFaithful, Faithful, PassesBounded}
 use Rattle.mini_peephole.specs.declared.minify.Minified.{Minified}
 use Rattle.mini_peephole.proofs.AnyPasses as any
 use Rattle.mini_peephole.proofs.Chains.{within_reach}
 use Rattle.mini_peephole.proofs.Heaviest.{resolved_lighter}
-use Rattle.mini_peephole.proofs.Rules.{gives_contract, gives_lawful, rests_everywhere}
+use Rattle.mini_peephole.proofs.Rules.{all_contract, gives_lawful, rests_everywhere}
 
 -- ---- a program without a redex has no rewrite
 
 module _ (o : Switches) where
   mutual
-    no_step : {p : Position} {t u : Tree} → Step (Contracts o) p t u → HasNoRedex o p t → ⊥
+    no_step : {p : Position} {t u : Tree} → Step (Rewrites o) p t u → HasNoRedex o p t → ⊥
     no_step (here p (node h xs n ts) w c) f = f.0 (record { to = w; contracts = c })
     no_step (inside p h xs n ts us st) f = no_step_in st f.1
 
-    no_step_in : {π : ℕ → Position} {ts us : Trees} → StepIn (Contracts o) π ts us → EverywhereIn (IsSettled o) π ts → ⊥
+    no_step_in : {π : ℕ → Position} {ts us : Trees} → StepIn (Rewrites o) π ts us → EverywhereIn (IsSettled o) π ts → ⊥
     no_step_in (first π t u ts st) f = no_step st f.0
     no_step_in (later π t ts us st) f = no_step_in st f.1
 
-  stays : {p : Position} {t u : Tree} → Reaches (Contracts o) p t u → HasNoRedex o p t → u ≡ t
+  stays : {p : Position} {t u : Tree} → Reaches (Rewrites o) p t u → HasNoRedex o p t → u ≡ t
   stays (done p t) f = refl
   stays (more p t w u st r) f = absurd (no_step st f)
 
 -- ---- the rules
 
 -- where the rules have nothing to do, nothing is left to rewrite
-no_redex : (o : CompressOptions) (m : Minified) (t u : Tree) → weight Elsewhere (resolved_program t) < 2 ^ 32 → IsFaithfulWith (NothingLeft (Rests o)) o m t u → IsFaithful o m t u
+no_redex : (o : CompressOptions) (m : Minified) (t u : Tree) → weight Elsewhere (resolved_program t) < 2 ^ 32 → IsFaithfulWith (NothingLeft (AllRests o)) o m t u → IsFaithful o m t u
 no_redex o m t u light f = record {
   names = f.names;
   jumps = f.jumps;
@@ -66,23 +66,23 @@ no_redex o m t u light f = record {
 
 module _ (d : Data) (o : CompressOptions) (m : Minified) (t : Tree) (read : Accepts d t) (r : IsRewriting (resolved_program t) o m) where
   abbrev again : (u : Tree) × Accepts (program_data r.output) u × (text u ≡ text r.output)
-  again = any.again (Gives o) (Rests o) (gives_lawful o) d o m t read r
+  again = any.again (AllGives o) (AllRests o) (gives_lawful o) d o m t read r
 
   start : IsRead t read.1
-  start = any.start (Gives o) (Rests o) (gives_lawful o) d o m t read r
+  start = any.start (AllGives o) (AllRests o) (gives_lawful o) d o m t read r
 
   answer_read : IsRead again.0 again.1.1
-  answer_read = any.answer_read (Gives o) (Rests o) (gives_lawful o) d o m t read r
+  answer_read = any.answer_read (AllGives o) (AllRests o) (gives_lawful o) d o m t read r
 
   written : Accepts (view m.program) again.0
-  written = any.written (Gives o) (Rests o) (gives_lawful o) d o m t read r
+  written = any.written (AllGives o) (AllRests o) (gives_lawful o) d o m t read r
 
-  made : any.Made (Gives o) (Rests o) o m t r.output again.0
-  made = any.made (Gives o) (Rests o) (gives_lawful o) d o m t read r
+  made : any.Made (AllGives o) (AllRests o) o m t r.output again.0
+  made = any.made (AllGives o) (AllRests o) (gives_lawful o) d o m t read r
 
   pub faithful : early_fault t ≡ None → weight Elsewhere t < 2 ^ 32 → Faithful d o m
   faithful free light =
-      record { input = t; output = again.0; accepted = read; answered = written; faithful = no_redex o m t again.0 (let a = resolved_lighter t start.unresolved in omega (arith, a, light)) (any.faithful_trees (Gives o) (Rests o) o m t r.output again.0 free made) }
+      record { input = t; output = again.0; accepted = read; answered = written; faithful = no_redex o m t again.0 (let a = resolved_lighter t start.unresolved in omega (arith, a, light)) (any.faithful_trees (AllGives o) (AllRests o) o m t r.output again.0 free made) }
 
   settles : (b : Bool) → (b ≡ false → ⊥) → b ≡ true
   settles true f = refl
@@ -95,7 +95,7 @@ module _ (d : Data) (o : CompressOptions) (m : Minified) (t : Tree) (read : Acce
   bounded : (v w : Tree) → Accepts d v → Accepts (view m.program) w → program_weight (faith.later m w) + m.passes ≤ program_weight (earlier v) + 1
   bounded v w a b =
       let x = input_weight v a in
-      let y = ap (weight Elsewhere) (ap (faith.later m) (one_tree (view m.program) w again.0 b written) ∙ any.later_is (Gives o) (Rests o) o m t r.output again.0 made) in
+      let y = ap (weight Elsewhere) (ap (faith.later m) (one_tree (view m.program) w again.0 b written) ∙ any.later_is (AllGives o) (AllRests o) o m t r.output again.0 made) in
       let h = r.passes.lighter in
       omega (arith, x, y, h)
 
@@ -105,7 +105,7 @@ module _ (d : Data) (o : CompressOptions) (m : Minified) (t : Tree) (read : Acce
   fixed : (v : Tree) → Accepts d v → HasNoRedex (switches o) Elsewhere (earlier v) → Accepts (view m.program) v × (m.passes ≡ 1) × (m.settled ≡ true)
   fixed v a f =
       let one = one_tree d v t a read in
-      let same : r.output ≡ resolved_program t = stays (switches o) (within_reach (Gives o) (Contracts (switches o)) (gives_contract o) r.passes.reached) (subst (λ w. HasNoRedex (switches o) Elsewhere (resolved_program w)) one f) in
+      let same : r.output ≡ resolved_program t = stays (switches o) (within_reach (AllGives o) (Rewrites (switches o)) (all_contract o) r.passes.reached) (subst (λ w. HasNoRedex (switches o) Elsewhere (resolved_program w)) one f) in
       let w = ap (weight Elsewhere) same in
       let some = r.passes.some_pass in
       let h = r.passes.lighter in

@@ -9,3 +9,6 @@ pub mod Floats
 mod Chains
 mod Rules
 pub mod Answered
+pub mod AnswerFloats
+pub mod Due
+pub mod Told

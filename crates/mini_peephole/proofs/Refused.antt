@@ -7,8 +7,8 @@ use Rattle.mini_model.specs.Tree.{Tree}
 use Rattle.mini_tree.specs.declared.options.CompressOptions.{CompressOptions}
 use Rattle.mini_accept.specs.Accept.{program_at}
 use Rattle.mini_accept.specs.Faults as estree
-use Rattle.mini_text.specs.Faults.{Fault, fault_of}
-use Rattle.mini_text.specs.declared.error.MinifyError.{MinifyError}
+use Rattle.mini_model.specs.Faults.{Fault, fault_of}
+use Rattle.mini_model.specs.declared.error.MinifyError.{MinifyError}
 use Rattle.mini_estree.specs.Reads.{fault_told, Blames}
 use Rattle.mini_scope.specs.Pointers.{early_fault}
 use Rattle.mini_peephole.specs.Minified.{HasDefect, IsRefusal}

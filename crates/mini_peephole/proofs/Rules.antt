@@ -8,20 +8,20 @@ use Rattle.mini_model.specs.Weight.{weight, weights}
 use Rattle.mini_model.specs.Redex as first
 use Rattle.mini_model.specs.Rewriting.{Everywhere, EverywhereIn}
 use Rattle.mini_tree.specs.declared.options.CompressOptions.{CompressOptions}
-use Rattle.mini_kept.specs.Lawful.{Lawful}
-use Rattle.mini_kept.proofs.Lawful.{lawful_narrowed}
+use Rattle.mini_kept.specs.Loosely.{LawfulLoosely}
+use Rattle.mini_kept.proofs.Loosely.{loose_narrowed}
 use Rattle.mini_rows.specs.Switches.{Switches}
 use Rattle.mini_rows.specs.Branches.{BranchRow}
 use Rattle.mini_rows.specs.Turns.{TurnRow}
 use Rattle.mini_rows.specs.Arrows.{ArrowRow}
-use Rattle.mini_rows.specs.Redex.{Row, Contracts, IsSettled, HasNoRedex}
-use Rattle.mini_rows.proofs.AllRows.{all_lawful}
+use Rattle.mini_rows.specs.Redex.{Row, Contracts, Rewrites, IsSettled, HasNoRedex}
+use Rattle.mini_rows.proofs.AllRows.{all_loose}
 use Rattle.mini_logic.specs.Joined as logic_law
 use Rattle.mini_logic.specs.UnwrapBlock as blocks
 use Rattle.mini_logic.proofs.Joined as logic
 use Rattle.mini_syntax.specs.SubstituteReturnStatement as returns
 use Rattle.mini_peephole.specs.Faithful.{switches}
-use Rattle.mini_peephole.specs.Rules.{Gives, Rests}
+use Rattle.mini_peephole.specs.Rules.{Gives, Rests, AllGives, AllRests}
 
 -- the rows of the rules are among the rows
 
@@ -69,10 +69,17 @@ module _ (o : CompressOptions) (q : Tree) where
   gives_contract p t u (inr (inr (inr (inr (inr (inr (inr (inr (inr (inr (inl c))))))))))) = record { row = inr (inr (inr (inr (inr (inr (inr (inr (inr (inr (inl c.row)))))))))); lighter = c.lighter }
   gives_contract p t u (inr (inr (inr (inr (inr (inr (inr (inr (inr (inr (inr (inl c)))))))))))) = record { row = inr (inr (inr (inr (inr (inr (inr (inr (inr (inr (inr (inl c.row))))))))))); lighter = c.lighter }
   gives_contract p t u (inr (inr (inr (inr (inr (inr (inr (inr (inr (inr (inr (inr (inl c))))))))))))) = record { row = inr (inr (inr (inr (inr (inr (inr (inr (inr (inr (inr (inr (inl c.row)))))))))))); lighter = c.lighter }
-  gives_contract p t u (inr (inr (inr (inr (inr (inr (inr (inr (inr (inr (inr (inr (inr c))))))))))))) = record { row = inr (inr (inr (inr (inr (inr (inr (inr (inr (inr (inr (inr (inr c.row)))))))))))); lighter = c.lighter }
+  gives_contract p t u (inr (inr (inr (inr (inr (inr (inr (inr (inr (inr (inr (inr (inr (inl c)))))))))))))) = record { row = inr (inr (inr (inr (inr (inr (inr (inr (inr (inr (inr (inr (inr (inl c.row))))))))))))); lighter = c.lighter }
+  gives_contract p t u (inr (inr (inr (inr (inr (inr (inr (inr (inr (inr (inr (inr (inr (inr (inl c))))))))))))))) = record { row = inr (inr (inr (inr (inr (inr (inr (inr (inr (inr (inr (inr (inr (inr (inl c.row)))))))))))))); lighter = c.lighter }
+  gives_contract p t u (inr (inr (inr (inr (inr (inr (inr (inr (inr (inr (inr (inr (inr (inr (inr (inl c)))))))))))))))) = record { row = inr (inr (inr (inr (inr (inr (inr (inr (inr (inr (inr (inr (inr (inr (inr (inl c.row))))))))))))))); lighter = c.lighter }
+  gives_contract p t u (inr (inr (inr (inr (inr (inr (inr (inr (inr (inr (inr (inr (inr (inr (inr (inr c)))))))))))))))) = record { row = inr (inr (inr (inr (inr (inr (inr (inr (inr (inr (inr (inr (inr (inr (inr (inr c.row))))))))))))))); lighter = c.lighter }
 
-  pub gives_lawful : Lawful (Gives o q)
-  gives_lawful = lawful_narrowed (Gives o q) (Contracts (switches o)) gives_contract (all_lawful (switches o))
+  pub all_contract : (p : Position) (t u : Tree) → AllGives o q p t u → Rewrites (switches o) p t u
+  all_contract p t u (inl r) = inl (gives_contract p t u r)
+  all_contract p t u (inr c) = inr c
+
+  pub gives_lawful : LawfulLoosely (AllGives o q)
+  gives_lawful = loose_narrowed (AllGives o q) (Rewrites (switches o)) all_contract (all_loose (switches o))
 
   -- where all have nothing to do, nothing is to be rewritten, as far as the weight fits 64 bits
 
@@ -108,15 +115,22 @@ module _ (o : CompressOptions) (q : Tree) where
   settled p t u small r (inr (inr (inr (inr (inr (inr (inr (inr (inr (inr (inl row))))))))))) less = r.1.1.1.1.1.1.1.1.1.1.0 small u (record { row = row; lighter = less })
   settled p t u small r (inr (inr (inr (inr (inr (inr (inr (inr (inr (inr (inr (inl row)))))))))))) less = r.1.1.1.1.1.1.1.1.1.1.1.0 u row
   settled p t u small r (inr (inr (inr (inr (inr (inr (inr (inr (inr (inr (inr (inr (inl row))))))))))))) less = r.1.1.1.1.1.1.1.1.1.1.1.1.0 small u (record { row = row; lighter = less })
-  settled p t u small r (inr (inr (inr (inr (inr (inr (inr (inr (inr (inr (inr (inr (inr row))))))))))))) less = r.1.1.1.1.1.1.1.1.1.1.1.1.1 small u (record { row = row; lighter = less })
+  settled p t u small r (inr (inr (inr (inr (inr (inr (inr (inr (inr (inr (inr (inr (inr (inl row)))))))))))))) less = r.1.1.1.1.1.1.1.1.1.1.1.1.1.0 small u (record { row = row; lighter = less })
+  settled p t u small r (inr (inr (inr (inr (inr (inr (inr (inr (inr (inr (inr (inr (inr (inr (inl row))))))))))))))) less = r.1.1.1.1.1.1.1.1.1.1.1.1.1.1.0 u row
+  settled p t u small r (inr (inr (inr (inr (inr (inr (inr (inr (inr (inr (inr (inr (inr (inr (inr (inl row)))))))))))))))) less = r.1.1.1.1.1.1.1.1.1.1.1.1.1.1.1.0 u row
+  settled p t u small r (inr (inr (inr (inr (inr (inr (inr (inr (inr (inr (inr (inr (inr (inr (inr (inr row)))))))))))))))) less = r.1.1.1.1.1.1.1.1.1.1.1.1.1.1.1.1 small u (record { row = row; lighter = less })
 
-  rests_settle : (p : Position) (t : Tree) → weight p t < 2 ^ 64 → Rests o q p t → IsSettled (switches o) p t
-  rests_settle p t small r x = settled p t x.to small r x.contracts.row x.contracts.lighter
+  all_settled : (p : Position) (t u : Tree) → weight p t < 2 ^ 64 → AllRests o q p t → Rewrites (switches o) p t u → ⊥
+  all_settled p t u small r (inl c) = settled p t u small r.0 c.row c.lighter
+  all_settled p t u small r (inr c) = r.1 u c.row
+
+  rests_settle : (p : Position) (t : Tree) → weight p t < 2 ^ 64 → AllRests o q p t → IsSettled (switches o) p t
+  rests_settle p t small r x = all_settled p t x.to small r x.contracts
 
   mutual
-    pub rests_everywhere : (p : Position) (t : Tree) → weight p t < 2 ^ 64 → Everywhere (Rests o q) p t → HasNoRedex (switches o) p t
+    pub rests_everywhere : (p : Position) (t : Tree) → weight p t < 2 ^ 64 → Everywhere (AllRests o q) p t → HasNoRedex (switches o) p t
     rests_everywhere p (node h xs n ts) small r = (rests_settle p (node h xs n ts) small r.0, rest_in (child_position h p (count ts)) ts (omega (arith, small)) r.1)
 
-    rest_in : (π : ℕ → Position) (ts : Trees) → weights π ts < 2 ^ 64 → EverywhereIn (Rests o q) π ts → EverywhereIn (IsSettled (switches o)) π ts
+    rest_in : (π : ℕ → Position) (ts : Trees) → weights π ts < 2 ^ 64 → EverywhereIn (AllRests o q) π ts → EverywhereIn (IsSettled (switches o)) π ts
     rest_in π none small r = tt
     rest_in π (t ▸ ts) small r = (rests_everywhere (π zero) t (omega (arith, small)) r.0, rest_in (λ i. π (suc i)) ts (omega (arith, small)) r.1)

@@ -23,7 +23,9 @@ use Rattle.mini_tree.specs.declared.options.CompressOptions.{CompressOptions}
 use Rattle.mini_accept.specs.Accept.{Accepts}
 use Rattle.mini_kept.specs.Carried.{numbers, carried}
 use Rattle.mini_kept.specs.Declaring.{declared}
-use Rattle.mini_kept.specs.Frames.{FramesKept, frames_in}
+use Rattle.mini_kept.specs.Frames.{frames_in}
+use Rattle.mini_kept.specs.Loosely.{undeclared}
+use Rattle.mini_kept.specs.ShownFrames.{KeyGiven, FramesShown}
 use Rattle.mini_rows.specs.Switches.{Switches}
 use Rattle.mini_rows.specs.Redex.{HasNoRedex}
 use Rattle.mini_peephole.specs.Environments.{shared_by, foreign_to, initialised_for, environment_with}
@@ -94,8 +96,9 @@ pub record IsFaithfulWith (Rests : Tree → Type 0) (o : CompressOptions) (m : M
   pub named : AreNamed m.kept m.symbols t u
   -- each name that it declares is one that the input declares, and spelled as there
   pub spelled : (x : Name) → Contains (declared (later m u)) x → Contains (declared (earlier t)) x
-  -- what stands outside bodies is kept: each of its nodes with a number has the frame that the one had which it was
-  pub frames : FramesKept (frames_in (earlier t)) (frames_in (later m u))
+  -- what stands outside bodies is kept: each of its nodes with a number has the frame that the one had which it was, but for the
+  -- brackets of keys which give one property and do nothing else
+  pub frames : FramesShown (KeyGiven (undeclared (later m u)) (bodies_in (earlier t))) (frames_in (earlier t)) (frames_in (later m u))
   -- each body does what the one does that it was
   pub bodies : BodiesAreSame (earlier t) (later m u)
   -- it is no heavier

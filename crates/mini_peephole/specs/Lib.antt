@@ -3,3 +3,4 @@ pub mod Rules
 pub mod Minified
 pub mod Faithful
 pub mod AnyPasses
+pub mod Answer

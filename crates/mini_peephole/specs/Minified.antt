@@ -11,12 +11,12 @@ use Rattle.mini_names.specs.Resolved.{resolved_program}
 use Rattle.mini_names.specs.Symbols.{declared_symbols}
 use Rattle.mini_scope.specs.Pointers.{early_fault}
 use Rattle.mini_writer.specs.Written.{program_data}
-use Rattle.mini_text.specs.Faults.{Fault, fault_of}
-use Rattle.mini_text.specs.declared.error.MinifyError.{MinifyError}
+use Rattle.mini_model.specs.Faults.{Fault, fault_of}
+use Rattle.mini_model.specs.declared.error.MinifyError.{MinifyError}
 use Rattle.mini_estree.specs.Reads.{fault_told}
 use Rattle.mini_walk.specs.Passes.{MakesPasses}
 use Rattle.mini_kept.specs.Carried.{numbers, symbol_numbers}
-use Rattle.mini_peephole.specs.Rules.{Gives, Rests}
+use Rattle.mini_peephole.specs.Rules.{AllGives, AllRests}
 use Rattle.mini_peephole.specs.declared.minify.Minified.{Minified}
 
 -- passes of a rule, which over a program may make G of a tree and has nothing to do where D is, lead from the tree to the one
@@ -31,7 +31,7 @@ pub record IsWritten (G : Tree → Position → Tree → Tree → Type 0) (D : T
 
 -- of the rules, as the options have them
 abbrev pub IsRewriting : Tree → CompressOptions → Minified → Type 0
-IsRewriting input o m = IsWritten (Gives o) (Rests o) input o.passes m
+IsRewriting input o m = IsWritten (AllGives o) (AllRests o) input o.passes m
 
 -- the tree has no early error, and is resolved and rewritten
 pub record IsAnswer (input : Tree) (o : CompressOptions) (m : Minified) : Type 0 where

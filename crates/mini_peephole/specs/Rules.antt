@@ -6,11 +6,14 @@ use Rattle.mini_tree.specs.declared.options.CompressOptions.{CompressOptions}
 use Rattle.mini_walk.specs.Rule.{Either, Both}
 use Rattle.mini_logic.specs.Joined as logic
 use Rattle.mini_logic.specs.DeMorganForVoidExpr as de_morgan
+use Rattle.mini_logic.specs.MinimizeNegation as negation
 use Rattle.mini_logic.specs.MinimizeExpressionInBooleanContext as booleans
 use Rattle.mini_logic.specs.UnwrapBlock as blocks
 use Rattle.mini_choices.specs.Choices as choices
 use Rattle.mini_fold.specs.FoldKnown as folding
 use Rattle.mini_fold.specs.FoldConstants as constants
+use Rattle.mini_fold.specs.FoldSequences as sequences
+use Rattle.mini_fold.specs.FoldOperands as operands
 use Rattle.mini_syntax.specs.Spelled as spellings
 use Rattle.mini_syntax.specs.SubstituteArrowExpression as arrows
 use Rattle.mini_syntax.specs.SubstituteObjectProperty as keys
@@ -18,10 +21,20 @@ use Rattle.mini_syntax.specs.SubstitutePropertyKey as held
 use Rattle.mini_syntax.specs.SubstituteReturnStatement as returns
 use Rattle.mini_syntax.specs.SubstituteVariableDeclaration as declarations
 use Rattle.mini_rows.specs.Declarations.{DeclarationContracts}
+use Rattle.mini_rows.specs.Unused.{UnusedContracts}
 use Rattle.mini_stmt.specs.MinimizeStatements as lists
+use Rattle.mini_unused.specs.RemoveUnusedDeclaration as unused
 
+-- of those that keep each name
 abbrev pub Gives : CompressOptions → Tree → Position → Tree → Tree → Type 0
-Gives o q = Either logic.Gives (Either blocks.Gives (Either returns.Gives (Either spellings.Gives (Either (lists.Gives o q) (Either keys.Gives (Either choices.Gives (Either DeclarationContracts (Either folding.Gives (Either arrows.Gives (Either constants.Gives (Either held.Gives (Either booleans.Gives de_morgan.Gives))))))))))))
+Gives o q = Either logic.Gives (Either blocks.Gives (Either returns.Gives (Either spellings.Gives (Either (lists.Gives o q) (Either keys.Gives (Either choices.Gives (Either DeclarationContracts (Either folding.Gives (Either arrows.Gives (Either constants.Gives (Either held.Gives (Either booleans.Gives (Either de_morgan.Gives (Either sequences.Gives (Either operands.Gives negation.Gives)))))))))))))))
 
 abbrev pub Rests : CompressOptions → Tree → Position → Tree → Type 0
-Rests o q = Both logic.Rests (Both blocks.Rests (Both returns.Rests (Both spellings.Rests (Both (lists.RestsUnder o q) (Both keys.Rests (Both choices.Rests (Both declarations.Rests (Both folding.Rests (Both arrows.Rests (Both constants.Rests (Both held.Rests (Both booleans.Rests de_morgan.Rests))))))))))))
+Rests o q = Both logic.Rests (Both blocks.Rests (Both returns.Rests (Both spellings.Rests (Both (lists.RestsUnder o q) (Both keys.Rests (Both choices.Rests (Both declarations.Rests (Both folding.Rests (Both arrows.Rests (Both constants.Rests (Both held.Rests (Both booleans.Rests (Both de_morgan.Rests (Both sequences.Rests (Both operands.Rests negation.Rests)))))))))))))))
+
+-- and of those besides that drop names that nothing mentions
+abbrev pub AllGives : CompressOptions → Tree → Position → Tree → Tree → Type 0
+AllGives o q = Either (Gives o q) UnusedContracts
+
+abbrev pub AllRests : CompressOptions → Tree → Position → Tree → Type 0
+AllRests o q = Both (Rests o q) unused.Rests

@@ -9,7 +9,7 @@ ghost use Rattle.mini_names.specs.References.{references};
 ghost use Rattle.mini_names.specs.Resolved.{symbols};
 ghost use Rattle.mini_names.specs.declared.Use.TheVariants as variant;
 ghost use Rattle.mini_scope.specs.Pointers.{early_fault};
-ghost use Rattle.mini_text.specs.Faults.{fault_of};
+ghost use Rattle.mini_model.specs.Faults.{fault_of};
 ghost use Rattle.mini_peephole.specs.Faithful.{Faithful, PassesBounded};
 ghost use Rattle.mini_peephole.specs.Minified.{IsAnswer, IsMinified, IsRewriting, IsRefusal};
 
@@ -17,10 +17,10 @@ use crate::named::{numbers_of, symbols_of};
 use mini_choices::MinimizeChoices;
 use mini_context::{TraverseCtx, resolve};
 use mini_estree::{MinifyError, Numbered, read_program};
-use mini_fold::{FoldConstants, FoldKnown};
+use mini_fold::{FoldConstants, FoldKnown, FoldOperands, FoldSequences};
 use mini_logic::{
-    MinimizeConditional, MinimizeIf, MinimizeInBooleanContext, MinimizeUnary, MinimizeVoid,
-    UnwrapBlocks,
+    MinimizeConditional, MinimizeIf, MinimizeInBooleanContext, MinimizeNegations, MinimizeUnary,
+    MinimizeVoid, UnwrapBlocks,
 };
 use mini_stmt::MinimizeStatements;
 use mini_syntax::{
@@ -28,6 +28,7 @@ use mini_syntax::{
     SubstituteReturns, SubstituteSpellings,
 };
 use mini_tree::{CompressOptions, Numbers, OutOfMemory, Program, discard};
+use mini_unused::RemoveUnusedDeclarations;
 use mini_walk::{Passes, Then, run_passes};
 use mini_writer::write_program;
 use serde_json::Value;
@@ -73,7 +74,16 @@ type Spellings = Then<
                                     FoldConstants,
                                     Then<
                                         SubstitutePropertyKeys,
-                                        Then<MinimizeInBooleanContext, MinimizeVoid>,
+                                        Then<
+                                            MinimizeInBooleanContext,
+                                            Then<
+                                                MinimizeVoid,
+                                                Then<
+                                                    FoldSequences,
+                                                    Then<FoldOperands, MinimizeNegations>,
+                                                >,
+                                            >,
+                                        >,
                                     >,
                                 >,
                             >,
@@ -85,7 +95,7 @@ type Spellings = Then<
     >,
 >;
 
-const RULES: Then<Logic, Then<UnwrapBlocks, Spellings>> = Then {
+const KEEPING_RULES: Then<Logic, Then<UnwrapBlocks, Spellings>> = Then {
     first: Then {
         first: MinimizeUnary,
         second: Then {
@@ -117,7 +127,16 @@ const RULES: Then<Logic, Then<UnwrapBlocks, Spellings>> = Then {
                                                 first: SubstitutePropertyKeys,
                                                 second: Then {
                                                     first: MinimizeInBooleanContext,
-                                                    second: MinimizeVoid,
+                                                    second: Then {
+                                                        first: MinimizeVoid,
+                                                        second: Then {
+                                                            first: FoldSequences,
+                                                            second: Then {
+                                                                first: FoldOperands,
+                                                                second: MinimizeNegations,
+                                                            },
+                                                        },
+                                                    },
                                                 },
                                             },
                                         },
@@ -130,6 +149,12 @@ const RULES: Then<Logic, Then<UnwrapBlocks, Spellings>> = Then {
             },
         },
     },
+};
+
+// These keep each name; after them comes the rule of names that nothing mentions.
+const RULES: Then<Then<Logic, Then<UnwrapBlocks, Spellings>>, RemoveUnusedDeclarations> = Then {
+    first: KEEPING_RULES,
+    second: RemoveUnusedDeclarations,
 };
 
 // The answer for a resolved tree, which is rewritten in place.

@@ -1,9 +1,6 @@
-pub mod Due
-pub mod Floats
 pub mod Known
 pub mod Moves
 pub mod Named
 pub mod Orders
 pub mod Reading
 pub mod Spelled
-pub mod Told

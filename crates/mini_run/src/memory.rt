@@ -1,13 +1,13 @@
 // A source and a sink in memory, for tests.
 
-ghost use Rattle.std.specs.Prelude.{◌≡◌, ◌↔◌, ◌⊎◌, ◌+◌, ◌-◌, ◌<◌, ◌≤◌, ◌++◌, [], ℕ, List, Some, Ok, IsTrue, IfOk, OnErr, IsErr, length, take, drop};
+ghost use Rattle.std.specs.Prelude.{◌≡◌, ◌↔◌, ◌⊎◌, ◌+◌, ◌-◌, ◌<◌, ◌≤◌, ◌++◌, [], ℕ, List, Some, Ok, IsTrue, IfOk, OnErr, IsErr, length, take, drop, true, false};
 ghost use Rattle.std.specs.Io.{ReadsAtMost, WritesAtMost};
 ghost use Rattle.std.specs.Io.KnownBytes.{ReadConsumes, WriteAppends};
 ghost use Rattle.mini_run.specs.Causes.{Rose, HasCause};
-ghost use Rattle.mini_run.specs.Memory.{IsListed, one_more, after_call, moved, after_read, after_failed_read, after_failed_write};
+ghost use Rattle.mini_run.specs.Memory.{IsListed, after_call, after_fault, moved, after_read, after_failed_read, after_failed_write};
 
 use crate::outside::{Failed, Sink, Source};
-use mini_text::OutOfMemory;
+use mini_model::OutOfMemory;
 use std::alloc::Global;
 use std::marker::Model;
 
@@ -44,26 +44,23 @@ impl Plan {
     fn is_listed(&self) -> bool
         ensures { IsTrue result ↔ IsListed self.now }
     {
-        match u32::try_from(self.calls) {
-            Ok(calls) => match calls.checked_add(1) {
-                Some(number) => self.fails.contains(&number),
-                None => false,
-            },
+        match u32::try_from(self.calls.saturating_add(1)) {
+            Ok(number) => self.fails.contains(&number),
             Err(_) => false,
         }
     }
 
-    fn count_call(&mut self)
-        ensures { self.new ≡ after_call self.old }
+    // Counts a call, and its fault where it fails.
+    fn count(&mut self, fails: bool)
+        ensures ok { fails ≡ false → self.new ≡ after_call self.old }
+        ensures err { fails ≡ true → self.new ≡ after_fault self.old }
+        ensures later { self.old.faults ≤ self.new.faults }
+        ensures rose { fails ≡ true → Rose self.old.faults self.new.faults }
     {
         self.calls = self.calls.saturating_add(1);
-    }
-
-    fn count_fault(&mut self)
-        ensures value { self.new ≡ record self.old { faults = one_more self.old.faults } }
-        ensures later { self.old.faults ≤ self.new.faults }
-    {
-        self.faults = self.faults.saturating_add(1);
+        if fails {
+            self.faults = self.faults.saturating_add(1);
+        }
     }
 
     // How many bytes a call moves.
@@ -115,8 +112,8 @@ impl MemSource {
     }
 }
 
-/// Copies the front of the bytes.
-pub(crate) fn copy_front(piece: &mut [u8], bytes: &[u8], count: usize)
+// Copies the front of the bytes.
+fn copy_front(piece: &mut [u8], bytes: &[u8], count: usize)
     requires room { count ≤ length piece.old }
     requires there { count ≤ length bytes.now }
     ensures { take count piece.new ≡ take count bytes.now }
@@ -140,9 +137,8 @@ impl Source for MemSource {
         ensures err { OnErr result (self.new ≡ after_failed_read self.old) }
     {
         let fails = self.plan.is_listed();
-        self.plan.count_call();
+        self.plan.count(fails);
         if fails {
-            self.plan.count_fault();
             return Err(Failed);
         }
         let count = self.plan.moved(piece.len(), self.bytes.len() - self.at);
@@ -217,10 +213,9 @@ impl Sink for MemSink {
         ensures ok { IfOk result (λ n. self.new ≡ record { written = self.old.written ++ take n piece.now; room = self.old.room - n; schedule = after_call self.old.schedule }) }
         ensures err { OnErr result (self.new ≡ after_failed_write self.old) }
     {
-        let listed = self.plan.is_listed();
-        self.plan.count_call();
-        if listed || (self.room == 0 && !piece.is_empty()) {
-            self.plan.count_fault();
+        let fails = self.plan.is_listed() || (self.room == 0 && !piece.is_empty());
+        self.plan.count(fails);
+        if fails {
             return Err(Failed);
         }
         let count = self.plan.moved(piece.len(), self.room);

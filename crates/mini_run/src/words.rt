@@ -1,6 +1,6 @@
 ghost use Rattle.std.specs.Prelude.{◌≡◌, ◌∷◌, ◌++◌, [], length, map, string_bytes, OnOk, OnErr};
 
-use mini_text::OutOfMemory;
+use mini_model::OutOfMemory;
 use std::alloc::Global;
 use std::marker::Model;
 

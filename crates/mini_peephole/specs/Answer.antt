@@ -9,16 +9,16 @@ use Rattle.mini_model.specs.Tree.{Tree}
 use Rattle.mini_tree.specs.declared.options.CompressOptions.{CompressOptions}
 use Rattle.mini_accept.specs.Accept.{program_at}
 use Rattle.mini_scope.specs.Pointers.{early_fault}
-use Rattle.mini_text.specs.Faults.{Fault, fault_of, name_of_defect}
+use Rattle.mini_model.specs.Faults.{Fault, fault_of, name_of_defect}
 use Rattle.mini_peephole.specs.Faithful.{Faithful, PassesBounded}
 use Rattle.mini_peephole.specs.Minified.{IsMinified, HasDefect}
 use Rattle.mini_peephole.specs.declared.minify.Minified.{Minified}
 use Rattle.mini_run.specs.Causes.{Rose, GrewWithin}
 use Rattle.mini_run.specs.Words.{NameOptions, GoodWords}
-use Rattle.mini_run.specs.declared.running.Outcome.{Outcome}
-use Rattle.mini_run.specs.declared.running.Outcome.TheVariants.{Answer, Unread, Faulty, NoRoom}
-use Rattle.mini_run.specs.declared.running.Status.{Status}
-use Rattle.mini_run.specs.declared.running.Status.TheVariants.{Done, BadWords, NotJson, Refused, ReadFault, WriteFault, TooLong, OutOfMemory}
+use Rattle.mini_peephole.specs.declared.running.Outcome.{Outcome}
+use Rattle.mini_peephole.specs.declared.running.Outcome.TheVariants.{Answer, Unread, Faulty, NoRoom}
+use Rattle.mini_peephole.specs.declared.running.Status.{Status}
+use Rattle.mini_peephole.specs.declared.running.Status.TheVariants.{Done, BadWords, NotJson, Refused, ReadFault, WriteFault, TooLong, OutOfMemory}
 
 -- the number that the process ends with
 abbrev pub code_of : Status → ℕ

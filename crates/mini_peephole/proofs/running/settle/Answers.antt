@@ -2,10 +2,10 @@ use Rattle.std.proofs.Common.{◌≡◌, arith}
 use Rattle.std.specs.Prelude.{None}
 use Rattle.std.proofs.lemmas.Grind.{common_steps}
 use Rattle.serde_json.specs.View.{view}
-use Rattle.mini_text.specs.Faults.{fault_of}
+use Rattle.mini_model.specs.Faults.{fault_of}
 use Rattle.mini_writer.proofs.Counted.{bytes_fit}
-use Rattle.mini_run.proofs.Told.{defect_of}
-use Rattle.mini_run.proofs.running.settle.Goals as goal
+use Rattle.mini_peephole.proofs.Told.{defect_of}
+use Rattle.mini_peephole.proofs.running.settle.Goals as goal
 
 pub returns-else-is_memory-2 : goal.returns-else-is_memory-2
 returns-else-is_memory-2 c =

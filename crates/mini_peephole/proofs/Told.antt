@@ -3,8 +3,8 @@ use Rattle.std.proofs.Common.{◌≡◌, refl}
 use Rattle.std.specs.Prelude.{Option, Some, None, IfSome}
 use Rattle.serde_json.specs.Data.{Data}
 use Rattle.mini_tree.specs.declared.options.CompressOptions.{CompressOptions}
-use Rattle.mini_text.specs.Faults.{Fault, fault_of}
-use Rattle.mini_text.specs.declared.error.MinifyError.{MinifyError}
+use Rattle.mini_model.specs.Faults.{Fault, fault_of}
+use Rattle.mini_model.specs.declared.error.MinifyError.{MinifyError}
 use Rattle.mini_peephole.specs.Minified.{HasDefect, IsRefusal}
 
 some_of : (o : Option Fault) (P : Fault → Type 0) → IfSome o P → (o ≡ None → ⊥) → (f : Fault) × (o ≡ Some f) × P f

@@ -1,18 +1,16 @@
 // From the bytes in to the bytes out.
 
 ghost use Rattle.std.specs.Prelude.{◌≡◌, ◌<◌, ◌≤◌, ℕ, List, length, IfSome, IfOk, OnOk, IsErrOf, string_bytes, false};
-ghost use Rattle.mini_run.specs.Answer.{code_of, line_of, numbers_data, told_members, answer_text, answer_data, note_text, IsOutcome, IsDelivered, IsDue, IsTold, Gave, GaveMore, IsValidInput, IsAnswered};
+ghost use Rattle.mini_peephole.specs.Answer.{code_of, line_of, numbers_data, told_members, answer_text, answer_data, note_text, IsOutcome, IsDelivered, IsDue, IsTold, Gave, GaveMore, IsValidInput, IsAnswered};
 ghost use Rattle.mini_run.specs.Causes.{Rose};
 ghost use Rattle.serde_json.specs.Data.{put as with_member};
 ghost use Rattle.serde_json.specs.View.{view, members_view};
 ghost use Rattle.serde_json.specs.Written.{has_float};
-ghost use Rattle.mini_text.specs.Faults.{fault_of};
+ghost use Rattle.mini_model.specs.Faults.{fault_of};
 
-use crate::choice::read_options;
-use crate::outside::{Sink, Source, Stopped, read_all, write_all};
-use crate::steps::Steps;
-use crate::words::Words;
-use mini_peephole::{Minified, MinifyError, minify_value};
+use crate::minify::{Minified, minify_value};
+use mini_estree::MinifyError;
+use mini_run::{Sink, Source, Steps, Stopped, Words, read_all, read_options, write_all};
 use mini_tree::{CompressOptions, Numbers};
 use serde_json::{Map, Value, put};
 use std::alloc::{AllocError, Global};

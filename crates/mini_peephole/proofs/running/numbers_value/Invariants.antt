@@ -1,7 +1,7 @@
 use Rattle.std.proofs.Common.{◌≡◌, map, take}
 use Rattle.serde_json.specs.Data.{unsigned, number}
 use Rattle.serde_json.specs.View.{view}
-use Rattle.mini_run.proofs.running.numbers_value.Given as goal
+use Rattle.mini_peephole.proofs.running.numbers_value.Given as goal
 
 abbrev pub invariant-numbers : goal.invariant-numbers
 invariant-numbers l = map view l.values.items ≡ map (λ n. number (unsigned n)) (take l.number-index l.number-items)

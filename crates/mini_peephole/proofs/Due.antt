@@ -6,13 +6,13 @@ use Rattle.std.proofs.lemmas.List.{length-append, append-nil}
 use Rattle.mini_tree.specs.declared.options.CompressOptions.{CompressOptions}
 use Rattle.mini_accept.specs.Faults as estree
 use Rattle.mini_accept.proofs.Results.{ok_same}
-use Rattle.mini_text.specs.Faults.{Fault}
+use Rattle.mini_model.specs.Faults.{Fault}
 use Rattle.mini_scope.specs.Pointers.{early_fault}
 use Rattle.mini_peephole.specs.Minified.{HasDefect}
-use Rattle.mini_run.specs.Answer.{Change, Gave, HasFault, IsNotJson, IsDelivered, IsDue, IsValidInput, IsAnswered}
+use Rattle.mini_peephole.specs.Answer.{Change, Gave, HasFault, IsNotJson, IsDelivered, IsDue, IsValidInput, IsAnswered}
 use Rattle.mini_run.specs.Words.{NameOptions}
-use Rattle.mini_run.specs.declared.running.Status.{Status}
-use Rattle.mini_run.specs.declared.running.Status.TheVariants.{Done, BadWords, NotJson, Refused, ReadFault, WriteFault, TooLong, OutOfMemory}
+use Rattle.mini_peephole.specs.declared.running.Status.{Status}
+use Rattle.mini_peephole.specs.declared.running.Status.TheVariants.{Done, BadWords, NotJson, Refused, ReadFault, WriteFault, TooLong, OutOfMemory}
 use Rattle.mini_run.proofs.Named.{good_of, names_one}
 
 pub due_of : (s : Status) (words : List (List ℕ)) (o : CompressOptions) (source sink notes : Change) (input : List ℕ) → NameOptions words o → Gave source input → IsDelivered s o input sink notes → IsDue s words source sink notes

@@ -1,5 +1,5 @@
-use Rattle.mini_run.proofs.Due.{due_of, answered_of}
-use Rattle.mini_run.proofs.running.run.Goals as goal
+use Rattle.mini_peephole.proofs.Due.{due_of, answered_of}
+use Rattle.mini_peephole.proofs.running.run.Goals as goal
 
 pub returns-in-Ok-clause-due : goal.returns-in-Ok-clause-due
 returns-in-Ok-clause-due g c = due_of _ _ _ _ _ _ _ c.in-Some.ensures c.in-Ok.ensures.all c.deliver.ensures

@@ -4,7 +4,7 @@ use Rattle.serde_json.specs.Data.{number, unsigned}
 use Rattle.serde_json.specs.View.{view, items_of}
 use Rattle.serde_json.specs.Written.{has_float, items_have_float}
 use Rattle.mini_peephole.specs.declared.minify.Minified.{Minified}
-use Rattle.mini_run.specs.Answer.{answer_data}
+use Rattle.mini_peephole.specs.Answer.{answer_data}
 
 numbers_have_none : (ns : List ℕ) → items_have_float (items_of (map (λ n. number (unsigned n)) ns)) ≡ false
 numbers_have_none [] = refl
