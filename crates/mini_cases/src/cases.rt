@@ -2,15 +2,15 @@
 
 use crate::answers::{minify, refuse};
 use crate::depth::{read_deep, write_deep};
+use crate::echo::echoed;
 use crate::error::NoAnswer;
 use crate::lists::{change_nodes, change_numbers};
 use crate::literals::{cook_text, escape, join, name, number_text, safe_number, shorten};
-use crate::memory::{choose, code, run_in_memory, run_on_spaces, run_plain};
+use crate::memory::{choose, code, run_in_memory, run_on_spaces};
 use crate::nested::resolve_nested;
 use crate::weights::{weigh_expression, weigh_statement};
-use mini_estree::{Numbered, fits, read_program, write_program};
+use mini_estree::{Numbered, fits, read_program};
 use mini_model::{Position, StmtSeat};
-use mini_run::echoed;
 use mini_tree::seats;
 use mini_writer::{count_units, count_values};
 use serde_json::Value;
@@ -34,7 +34,6 @@ pub fn answer(alloc: Global, line: &str, out: &mut String) -> Result<(), NoAnswe
         "minify" => minify(alloc, rest, false, out),
         "answer" => minify(alloc, rest, true, out),
         "run" => run_in_memory(alloc, rest, out),
-        "plain" => run_plain(alloc, rest, out),
         "spaces" => run_on_spaces(alloc, rest, out),
         "options" => choose(alloc, rest, out),
         "code" => code(rest, out),
@@ -96,16 +95,10 @@ fn count_numbers(alloc: Global, text: &str, out: &mut String) -> Result<(), NoAn
     Ok(write!(out, "{}", found.numbers)?)
 }
 
-// What is written of the program that a text says.
-fn written(alloc: Global, text: &str) -> Result<String, NoAnswer> {
-    let found = program(alloc, text)?;
-    Ok(write_program(alloc, &found.root)?.to_string(alloc)?)
-}
-
 // Whether what is written of a program reads as that program again.
 fn write_again(alloc: Global, text: &str, out: &mut String) -> Result<(), NoAnswer> {
-    let first = written(alloc, text)?;
-    let second = written(alloc, first.as_str())?;
+    let first = echoed(alloc, String::from_str(alloc, text)?)?;
+    let second = echoed(alloc, first.clone()?)?;
     let word = if first.as_str() == second.as_str() {
         "the same"
     } else {

@@ -1,8 +1,7 @@
 // That there is no answer.
 
 use mini_estree::MinifyError;
-use mini_run::EchoError;
-use mini_text::OutOfMemory;
+use mini_model::OutOfMemory;
 use std::alloc::AllocError;
 use std::io;
 
@@ -19,12 +18,6 @@ impl From<serde_json::Error> for NoAnswer {
 
 impl From<MinifyError> for NoAnswer {
     fn from(_error: MinifyError) -> NoAnswer {
-        NoAnswer
-    }
-}
-
-impl From<EchoError> for NoAnswer {
-    fn from(_error: EchoError) -> NoAnswer {
         NoAnswer
     }
 }

@@ -3,11 +3,10 @@
 
 use crate::answers::list;
 use crate::error::NoAnswer;
-use mini_model::{Name, Position, Shape};
+use mini_model::{Name, Numbers, Position, Shape, Text};
 use mini_node::{
     Node, Nodes, call_expression, empty_statement, expression_statement, identifier, null_literal,
 };
-use mini_text::{Numbers, Text};
 use mini_tree::weight;
 use std::alloc::Global;
 use std::fmt::Write;
@@ -27,14 +26,6 @@ fn step_of(text: &str) -> Step<'_> {
     let at = parts.next().unwrap_or("").parse::<usize>().unwrap_or(0);
     let item = parts.next().unwrap_or("");
     Step { word, at, item }
-}
-
-// What a step gave, before what is in the list then.
-fn give(given: Option<u64>, out: &mut String) -> Result<(), NoAnswer> {
-    match given {
-        Some(given) => Ok(write!(out, "{given} ")?),
-        None => Ok(out.push_str("- ")?),
-    }
 }
 
 // Makes a step of a list of numbers. One that isn't known, or that its place doesn't allow, does nothing.
@@ -67,7 +58,10 @@ fn change(numbers: &mut Numbers, step: Step) -> Result<Option<u32>, NoAnswer> {
 pub fn change_numbers(alloc: Global, steps: &str, out: &mut String) -> Result<(), NoAnswer> {
     let mut numbers = Numbers::new(alloc);
     for text in steps.split(',') {
-        give(change(&mut numbers, step_of(text))?.map(u64::from), out)?;
+        match change(&mut numbers, step_of(text))? {
+            Some(given) => write!(out, "{given} ")?,
+            None => out.push_str("- ")?,
+        }
         list(&numbers, out)?;
         out.push(';')?;
     }
@@ -111,8 +105,16 @@ fn change_node(
                 *node = new;
             }
         }
-        "get" => return Ok(nodes.get(step.at).map(|node| weight(node, place))),
-        "pop" => return Ok(nodes.pop().map(|node| weight(&node, place))),
+        "get" => {
+            if let Some(node) = nodes.get(step.at) {
+                return Ok(Some(weight(node, place)));
+            }
+        }
+        "pop" => {
+            if let Some(node) = nodes.pop() {
+                return Ok(Some(weight(&node, place)));
+            }
+        }
         "is_empty" => return Ok(Some(u64::from(nodes.is_empty()))),
         _ => (),
     }
@@ -128,7 +130,10 @@ pub fn change_nodes(
 ) -> Result<(), NoAnswer> {
     let mut nodes = Nodes::new(alloc);
     for text in steps.split(',') {
-        give(change_node(alloc, &mut nodes, step_of(text), place)?, out)?;
+        match change_node(alloc, &mut nodes, step_of(text), place)? {
+            Some(given) => write!(out, "{given} ")?,
+            None => out.push_str("- ")?,
+        }
         for node in nodes.as_slice() {
             write!(out, "{},", weight(node, place))?;
         }

@@ -1,9 +1,9 @@
 // Texts, names, numerals and templates. A text stands in a line as JSON, so that any character may be in it.
 
 use crate::error::NoAnswer;
-use mini_text::{
-    BoxedText, Name, Text, TextList, concat_template_literal_raw, cook, decimal, equivalent_number,
-    escape_string_for_template_literal, is_identifier_name,
+use mini_model::{
+    BoxedText, IdentifierName, Text, TextList, concat_template_literal_raw, cook, decimal,
+    equivalent_number, escape_string_for_template_literal, is_identifier_name,
 };
 use serde_json::Value;
 use std::alloc::Global;
@@ -29,7 +29,7 @@ pub fn name(alloc: Global, json: &str, out: &mut String) -> Result<(), NoAnswer>
     let text = text_of(alloc, json)?;
     push_json(alloc, &text, out)?;
     write!(out, " {} ", is_identifier_name(&text))?;
-    match Name::new(text) {
+    match IdentifierName::new(text) {
         Some(name) => push_json(alloc, name.text(), out),
         None => Ok(out.push_str("None")?),
     }

@@ -16,6 +16,7 @@
 mod answers;
 mod cases;
 mod depth;
+mod echo;
 mod error;
 mod lists;
 mod literals;
@@ -24,8 +25,8 @@ mod nested;
 mod weights;
 
 use cases::answer;
+use echo::{echoed, same_json};
 use error::NoAnswer;
-use mini_run::{echoed, same_json};
 use std::io::Write;
 use std::process::ExitCode;
 use std::{env, io};
@@ -74,11 +75,15 @@ fn start(rt: &HostRuntime) -> Result<(), NoAnswer> {
     Ok(())
 }
 
+fn answer_line(rt: &HostRuntime, line: &str) -> Result<(), NoAnswer> {
+    let mut found = String::new(rt.alloc());
+    answer(rt.alloc(), line, &mut found)?;
+    Ok(println!(rt; "{found}")?)
+}
+
 fn answer_lines(rt: &HostRuntime, text: &str) -> Result<(), NoAnswer> {
     for line in text.lines() {
-        let mut found = String::new(rt.alloc());
-        answer(rt.alloc(), line, &mut found)?;
-        println!(rt; "{found}")?;
+        answer_line(rt, line)?;
     }
     Ok(())
 }

@@ -1,8 +1,9 @@
 // Whole runs over memory: sources and sinks that fail, that move a few bytes a call, or that have little room.
 
 use crate::error::NoAnswer;
-use mini_run::{MemSink, MemSource, PlainSink, PlainSource, Status, Words, read_options, run};
-use mini_text::OutOfMemory;
+use mini_model::OutOfMemory;
+use mini_peephole::{Status, run};
+use mini_run::{MemSink, MemSource, Words, read_options};
 use std::alloc::{AllocError, Global};
 use std::fmt::Write;
 
@@ -18,6 +19,15 @@ struct Setting<'a> {
 
 // How many bytes the notes have room for.
 const ROOM: usize = 1_000;
+
+// No call fails, and each moves all that it can.
+const WHOLE: Setting<'static> = Setting {
+    limit: usize::MAX,
+    room: ROOM,
+    reads: "",
+    writes: "",
+    notes: "",
+};
 
 // The number that a text is.
 fn size(text: &str) -> Result<usize, NoAnswer> {
@@ -56,12 +66,6 @@ fn push_words<'a>(words: &mut Words, text: &'a str) -> Result<&'a str, NoAnswer>
         last = Some(part);
     }
     Ok(last.unwrap_or(""))
-}
-
-// A source that gives the bytes of a text.
-fn source_of(alloc: Global, input: &str, setting: Setting) -> Result<MemSource, AllocError> {
-    let fails = numbers(alloc, setting.reads)?;
-    Ok(MemSource::new(bytes_of(alloc, input)?, setting.limit, fails))
 }
 
 // A sink with so much room, whose calls of these numbers fail.
@@ -127,9 +131,9 @@ fn run_setting(
     alloc: Global,
     setting: Setting,
     words: &Words,
-    input: &str,
+    input: Vec<u8>,
 ) -> Result<Ended, NoAnswer> {
-    let source = source_of(alloc, input, setting)?;
+    let source = MemSource::new(input, setting.limit, numbers(alloc, setting.reads)?);
     let sink = sink_of(alloc, setting.room, setting.limit, setting.writes)?;
     let notes = sink_of(alloc, ROOM, setting.limit, setting.notes)?;
     Ok(run_over(alloc, words, source, sink, notes))
@@ -148,29 +152,15 @@ pub fn run_in_memory(alloc: Global, text: &str, out: &mut String) -> Result<(), 
     };
     let mut words = Words::new(alloc);
     let input = push_words(&mut words, parts.next().unwrap_or(""))?;
-    let ended = run_setting(alloc, setting, &words, input)?;
+    let ended = run_setting(alloc, setting, &words, bytes_of(alloc, input)?)?;
     tell(alloc, &ended, out)
 }
 
-// The code of the status, and how many bytes were written and told, where nothing fails.
-fn run_plainly(alloc: Global, input: Vec<u8>, out: &mut String) -> Result<(), NoAnswer> {
-    let mut source = PlainSource::new(input);
-    let mut sink = PlainSink::new();
-    let mut notes = PlainSink::new();
-    let words = Words::new(alloc);
-    let status = run(alloc, &words, &mut source, &mut sink, &mut notes);
-    Ok(write!(out, "{} {} {}", status.code(), sink.taken(), notes.taken())?)
-}
-
-/// A run on an input whose calls move all that they can.
-pub fn run_plain(alloc: Global, input: &str, out: &mut String) -> Result<(), NoAnswer> {
-    run_plainly(alloc, Vec::from_slice(alloc, input.as_bytes())?, out)
-}
-
-/// The same on so many spaces.
+/// A run on so many spaces, where no call fails and each moves all that it can.
 pub fn run_on_spaces(alloc: Global, count: &str, out: &mut String) -> Result<(), NoAnswer> {
-    let count = size(count)?;
-    run_plainly(alloc, vec![in alloc; b' '; count]?, out)
+    let input = vec![in alloc; b' '; size(count)?]?;
+    let ended = run_setting(alloc, WHOLE, &Words::new(alloc), input)?;
+    tell(alloc, &ended, out)
 }
 
 /// The options that words choose, each with a bar behind it.

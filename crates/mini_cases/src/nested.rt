@@ -6,9 +6,8 @@ ghost use Rattle.mini_writer.proofs.Loads.{name_count};
 use crate::cases::number;
 use crate::error::NoAnswer;
 use mini_context::resolve;
-use mini_model::{Name, Shape, SymbolId, VariableDeclarationKind};
+use mini_model::{Name, OutOfMemory, Shape, SymbolId, Text, TextList, VariableDeclarationKind};
 use mini_node::{Node, Nodes, expression_statement, identifier, listed, of_one, of_two};
-use mini_text::{OutOfMemory, Text, TextList};
 use std::alloc::Global;
 use std::fmt::Write;
 
