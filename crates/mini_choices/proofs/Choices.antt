@@ -24,8 +24,8 @@ use Rattle.mini_node.proofs.Equality.{tree_itself}
 use Rattle.mini_rows.specs.Chains.{chain}
 use Rattle.mini_rows.specs.Choices.{assign, is_grouped, joined, strictly, joining, deciding, computing, Row39, Row38, Row35, Row45, Row46Equal, Row46Unequal, LighterRow, OwnRow, ChoiceRow, ChoiceContracts}
 use Rattle.mini_rows.proofs.ChoiceWeights as choice_weights
-use Rattle.mini_walk.specs.Rule.{Applied}
-use Rattle.mini_walk.proofs.Reaching.{moves_once}
+use Rattle.mini_tree.specs.Rule.{Applied}
+use Rattle.mini_tree.proofs.Reaching.{moves_once}
 use Rattle.mini_choices.specs.Assigning.{assigns_name, is_same_name, is_declared}
 use Rattle.mini_choices.specs.SubstituteRotateLogicalExpression as rotate
 use Rattle.mini_choices.specs.MinimizeLogicalExpression as decide

@@ -8,9 +8,9 @@ use Rattle.mini_model.specs.declared.shape.Shape.TheVariants as shape
 use Rattle.mini_model.specs.Tree.{Tree, Trees, node, shape_of, children, count, child_or_absent}
 use Rattle.mini_node.specs.Children.{names, names_of, rest_children}
 use Rattle.mini_node.specs.Walks.{next_child, no_rest, from_first}
-use Rattle.mini_names.specs.declared.Use.{Use}
-use Rattle.mini_names.specs.Scopes.{use_of}
-use Rattle.mini_names.specs.References.{Reference, own_references, references, references_from, reads, writes}
+use Rattle.mini_laws.specs.declared.names.Use.{Use}
+use Rattle.mini_laws.specs.Scopes.{use_of}
+use Rattle.mini_laws.specs.References.{Reference, own_references, references, references_from, reads, writes}
 use Rattle.mini_context.specs.Own.{is_reference_shape}
 use Rattle.mini_context.specs.declared.count.Tally.{Tally}
 use Rattle.mini_context.specs.Tallies.{tallied, tallied_one, tallied_symbol}

@@ -9,9 +9,9 @@ use Rattle.mini_model.specs.declared.shape.Shape.{Shape}
 use Rattle.mini_model.specs.declared.shape.Shape.TheVariants as shape
 use Rattle.mini_model.specs.Tree.{Tree, Trees, node, none, ◌▸◌, shape_of, children, first_or_absent}
 use Rattle.mini_node.specs.Children.{number_of, trees_of}
-use Rattle.mini_names.specs.DeclaredNames.{bound_names}
-use Rattle.mini_names.specs.Foreign.{has_number, any_has_number, own_params_around, params_with}
-use Rattle.mini_names.specs.Mentions.{same_variable, is_among}
+use Rattle.mini_laws.specs.DeclaredNames.{bound_names}
+use Rattle.mini_laws.specs.Foreign.{has_number, any_has_number, own_params_around, params_with}
+use Rattle.mini_laws.specs.Mentions.{same_variable, is_among}
 use Rattle.mini_context.specs.declared.params.Params.{Params}
 use Rattle.mini_context.specs.Enclosing.{all_numbers_in, is_around, numbers_in, own_params, Below, Enclosed, PutNames, PutNumbers}
 use Rattle.mini_context.specs.Lists.{holds}

@@ -6,8 +6,8 @@ use Rattle.mini_model.specs.Tree.{Tree, Trees, node, ◌▸◌, count, child_or_
 use Rattle.mini_model.specs.Weight.{same_text}
 use Rattle.mini_node.specs.Children.{rest_children, trees_of}
 use Rattle.mini_node.specs.Walks.{next_child, no_rest}
-use Rattle.mini_names.specs.ScopeList.{has_eval, any_has_eval, is_eval_call}
-use Rattle.mini_names.specs.Strict.{has_use_strict}
+use Rattle.mini_laws.specs.ScopeList.{has_eval, any_has_eval, is_eval_call}
+use Rattle.mini_laws.specs.Strict.{has_use_strict}
 
 any_more : (t : Tree) (ts : Trees) → any_has_eval (t ▸ ts) ≡ (has_eval t || any_has_eval ts)
 unfolding has_eval

@@ -5,17 +5,17 @@ use Rattle.std.proofs.Common.{ap, ◌∙◌, sym}
 use Rattle.std.proofs.lemmas.List.Folds.{list_any-append}
 use Rattle.mini_model.specs.declared.name.Name.{Name}
 use Rattle.mini_model.specs.Tree.{Tree, Trees, node, none, ◌▸◌}
-use Rattle.mini_names.specs.declared.Use.{Use}
-use Rattle.mini_names.specs.declared.Use.TheVariants.{Read}
-use Rattle.mini_names.specs.declared.Around.{Around}
-use Rattle.mini_names.specs.declared.Binding.{Binding}
-use Rattle.mini_names.specs.Resolved.{Environment}
-use Rattle.mini_names.specs.References.{writes}
-use Rattle.mini_names.specs.Scopes.{use_of, opened}
-use Rattle.mini_names.specs.Mentions.{Mention, around_child, same_variable, is_among, is_elsewhere, outermost, program_mentions}
-use Rattle.mini_names.specs.ScopeList.{seen_by_eval}
-use Rattle.mini_names.specs.Shared.{given_values, is_shared, program_var_writes, reached_by_arguments, script_tops, var_writes, var_writes_from, write_at}
-use Rattle.mini_names.specs.Foreign.{all_writes, imported_names, is_declared_in, is_foreign, is_foreign_always, is_read_early, is_write, lexical_variables, may_be_uninitialised, moments, pattern_names, switched as switched_names}
+use Rattle.mini_laws.specs.declared.names.Use.{Use}
+use Rattle.mini_laws.specs.declared.names.Use.TheVariants.{Read}
+use Rattle.mini_laws.specs.declared.names.Around.{Around}
+use Rattle.mini_laws.specs.declared.names.Binding.{Binding}
+use Rattle.mini_laws.specs.Resolved.{Environment}
+use Rattle.mini_laws.specs.References.{writes}
+use Rattle.mini_laws.specs.Scopes.{use_of, opened}
+use Rattle.mini_laws.specs.Mentions.{Mention, around_child, same_variable, is_among, is_elsewhere, outermost, program_mentions}
+use Rattle.mini_laws.specs.ScopeList.{seen_by_eval}
+use Rattle.mini_laws.specs.Shared.{given_values, is_shared, program_var_writes, reached_by_arguments, script_tops, var_writes, var_writes_from, write_at}
+use Rattle.mini_laws.specs.Foreign.{all_writes, imported_names, is_declared_in, is_foreign, is_foreign_always, is_read_early, is_write, lexical_variables, may_be_uninitialised, moments, pattern_names, switched as switched_names}
 use Rattle.mini_context.specs.Enclosing.{is_around}
 use Rattle.mini_context.specs.Facts.{Facts, Looked, foreign, foreign_always, is_changed, is_changed_outside, may_be_unset, shares, written_in_catch}
 use Rattle.mini_context.specs.Lists.{holds}

@@ -8,11 +8,11 @@ use Rattle.mini_model.specs.declared.shape.Shape.{Shape}
 use Rattle.mini_model.specs.declared.shape.Shape.TheVariants as shape
 use Rattle.mini_model.specs.Tree.{Tree, shape_of}
 use Rattle.mini_node.specs.Children.{names_of}
-use Rattle.mini_names.specs.declared.Use.{Use}
-use Rattle.mini_names.specs.declared.Around.{Around}
+use Rattle.mini_laws.specs.declared.names.Use.{Use}
+use Rattle.mini_laws.specs.declared.names.Around.{Around}
 use Rattle.mini_context.specs.Own.{is_binding_shape}
 use Rattle.mini_context.specs.Visits.{is_binding}
-use Rattle.mini_names.specs.Mentions.{Mention, own_mentions, same_variable, is_elsewhere}
+use Rattle.mini_laws.specs.Mentions.{Mention, own_mentions, same_variable, is_elsewhere}
 use Rattle.mini_context.specs.Tables.{named}
 use Rattle.mini_context.specs.Lists.{holds, Housed}
 use Rattle.mini_context.proofs.Gathering.{Adds}

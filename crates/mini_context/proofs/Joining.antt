@@ -1,7 +1,7 @@
 -- Mentions, added one after another.
 use Rattle.std.specs.Prelude.{ℕ, ◌≡◌, ◌<◌, refl, ◌&&◌, ◌||◌, Bool, true, false, cond, List, [], ◌∷◌, length}
 use Rattle.std.specs.List.{filter, list_any}
-use Rattle.mini_names.specs.References.{writes}
+use Rattle.mini_laws.specs.References.{writes}
 use Rattle.mini_context.specs.Own.{is_reference_shape}
 use Rattle.mini_context.specs.Visits.{is_writing}
 use Rattle.std.proofs.Common.{ap, ◌∙◌, arith, sym, subst}
@@ -11,10 +11,10 @@ use Rattle.mini_model.specs.declared.shape.Shape.{Shape}
 use Rattle.mini_model.specs.declared.shape.Shape.TheVariants as shape
 use Rattle.mini_model.specs.Tree.{Tree, shape_of}
 use Rattle.mini_node.specs.Children.{names_of}
-use Rattle.mini_names.specs.declared.Use.{Use}
-use Rattle.mini_names.specs.declared.Around.{Around}
-use Rattle.mini_names.specs.Mentions.{Mention, own_mentions, same_variable, is_elsewhere}
-use Rattle.mini_names.specs.Shared.{is_name_of_variable}
+use Rattle.mini_laws.specs.declared.names.Use.{Use}
+use Rattle.mini_laws.specs.declared.names.Around.{Around}
+use Rattle.mini_laws.specs.Mentions.{Mention, own_mentions, same_variable, is_elsewhere}
+use Rattle.mini_laws.specs.Shared.{is_name_of_variable}
 use Rattle.mini_context.specs.declared.mentions.Mentioned.{Mentioned}
 use Rattle.mini_context.specs.Tables.{named}
 use Rattle.mini_context.specs.Mentioned.{is_outside, mentioned_at, Joined}

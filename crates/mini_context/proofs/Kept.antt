@@ -6,11 +6,11 @@ use Rattle.mini_model.specs.declared.name.Name.{Name}
 use Rattle.mini_model.specs.declared.shape.Shape.{Shape}
 use Rattle.mini_model.specs.declared.shape.Shape.TheVariants as shape
 use Rattle.mini_model.specs.Tree.{Tree, Trees, node, none, ◌▸◌}
-use Rattle.mini_names.specs.declared.Use.{Use}
-use Rattle.mini_names.specs.declared.Binding.{Binding}
-use Rattle.mini_names.specs.Scopes.{use_of, opened}
-use Rattle.mini_names.specs.Resolved.{Environment, with_symbol, numbered, symbols, resolved, resolved_from}
-use Rattle.mini_names.specs.References.{own_references, references, references_from}
+use Rattle.mini_laws.specs.declared.names.Use.{Use}
+use Rattle.mini_laws.specs.declared.names.Binding.{Binding}
+use Rattle.mini_laws.specs.Scopes.{use_of, opened}
+use Rattle.mini_laws.specs.Resolved.{Environment, with_symbol, numbered, symbols, resolved, resolved_from}
+use Rattle.mini_laws.specs.References.{own_references, references, references_from}
 
 mapped_count : {A B : Type 0} (g : B → A) (xs : List B) → length (map g xs) ≡ length xs
 mapped_count g [] = refl

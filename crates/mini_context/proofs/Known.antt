@@ -6,10 +6,10 @@ use Rattle.mini_model.specs.declared.name.SymbolId.{SymbolId}
 use Rattle.mini_model.specs.declared.shape.Shape.{Shape}
 use Rattle.mini_model.specs.declared.shape.Shape.TheVariants as shape
 use Rattle.mini_model.specs.Tree.{Tree, Trees, node, none, ◌▸◌, shape_of, children, node_count, node_counts}
-use Rattle.mini_names.specs.declared.Use.{Use}
-use Rattle.mini_names.specs.declared.Use.TheVariants.{Read}
-use Rattle.mini_names.specs.References.{Reference, references, references_from, own_references, reads as is_read, one_more, with_reference, counted, counts_of}
-use Rattle.mini_names.specs.Scopes.{use_of}
+use Rattle.mini_laws.specs.declared.names.Use.{Use}
+use Rattle.mini_laws.specs.declared.names.Use.TheVariants.{Read}
+use Rattle.mini_laws.specs.References.{Reference, references, references_from, own_references, reads as is_read, one_more, with_reference, counted, counts_of}
+use Rattle.mini_laws.specs.Scopes.{use_of}
 use Rattle.mini_node.specs.Children.{trees_of, names_of}
 use Rattle.mini_tree.specs.declared.options.CompressOptions.{CompressOptions}
 use Rattle.mini_context.specs.declared.context.TraverseCtx.{TraverseCtx}

@@ -8,16 +8,16 @@ use Rattle.mini_model.specs.declared.shape.Shape.{Shape}
 use Rattle.mini_model.specs.Tree.{Tree, Trees, node, ◌▸◌, count, shape_of, children, child_or_absent, first_or_absent}
 use Rattle.mini_node.specs.Children.{rest_children}
 use Rattle.mini_node.specs.Walks.{next_child}
-use Rattle.mini_names.specs.declared.Use.{Use}
-use Rattle.mini_names.specs.declared.Binding.{Binding}
-use Rattle.mini_names.specs.Scopes.{use_of, opened}
-use Rattle.mini_names.specs.Strict.{is_strict_in}
-use Rattle.mini_names.specs.ScopeList.{Scope, by_symbol, seen_in, any_has_eval, entered, has_eval, is_eval_call, least_scopes, names_in, scope_list, scope_list_from, scope_from}
+use Rattle.mini_laws.specs.declared.names.Use.{Use}
+use Rattle.mini_laws.specs.declared.names.Binding.{Binding}
+use Rattle.mini_laws.specs.Scopes.{use_of, opened}
+use Rattle.mini_laws.specs.Strict.{is_strict_in}
+use Rattle.mini_laws.specs.ScopeList.{Scope, by_symbol, seen_in, any_has_eval, entered, has_eval, is_eval_call, least_scopes, names_in, scope_list, scope_list_from, scope_from}
 use Rattle.mini_scope.specs.ScopeAt.{scope_at}
 use Rattle.mini_scope.specs.declared.opening.OpenScopes.{OpenScopes}
 use Rattle.mini_context.specs.declared.listing.ScopeTables.{ScopeTables}
 use Rattle.mini_context.specs.Tables.{named, Listed, Marked, Owned, OwnedBy}
-use Rattle.mini_names.specs.Mentions.{is_among, same_variable}
+use Rattle.mini_laws.specs.Mentions.{is_among, same_variable}
 use Rattle.mini_context.proofs.Evals.{evals_step}
 use Rattle.mini_context.proofs.Gathering.{Adds, Gathers, Until, turn}
 use Rattle.mini_context.proofs.Marking.{marks_add}

@@ -10,18 +10,18 @@ use Rattle.mini_model.specs.Paths.{child_at}
 use Rattle.mini_model.specs.declared.shape.Shape.{Shape}
 use Rattle.mini_model.specs.declared.shape.Shape.TheVariants as shape
 use Rattle.mini_model.specs.declared.kind.VariableDeclarationKind.TheVariants.{Const, Var}
-use Rattle.mini_names.specs.declared.Declared.{Declared}
-use Rattle.mini_names.specs.DeclaredNames.{place_of, names_by, own_names, names_of, first_names, all_names}
-use Rattle.mini_names.specs.declared.Place.{Place}
-use Rattle.mini_names.specs.declared.Declared.TheVariants as declared
+use Rattle.mini_laws.specs.declared.names.Declared.{Declared}
+use Rattle.mini_laws.specs.DeclaredNames.{place_of, names_by, own_names, names_of, first_names, all_names}
+use Rattle.mini_laws.specs.declared.names.Place.{Place}
+use Rattle.mini_laws.specs.declared.names.Declared.TheVariants as declared
 use Rattle.mini_context.specs.declared.parts.Part.{Part}
 use Rattle.mini_context.specs.Own.{is_class_shape}
-use Rattle.mini_names.specs.Foreign.{own_lexical, own_pattern_names, own_switched}
-use Rattle.mini_names.specs.Shared.{own_catch_params}
+use Rattle.mini_laws.specs.Foreign.{own_lexical, own_pattern_names, own_switched}
+use Rattle.mini_laws.specs.Shared.{own_catch_params}
 use Rattle.mini_node.specs.Children.{number_of, trees_of}
 use Rattle.mini_context.specs.Parts.{bound_at, names_at, fixed_part, caught_part, lexical_part, pattern_part, switched_part}
-use Rattle.mini_names.specs.Mentions.{same_variable, same_variable_by, is_among}
-use Rattle.mini_names.specs.Bodies.{Frame, Body, own_fixed}
+use Rattle.mini_laws.specs.Mentions.{same_variable, same_variable_by, is_among}
+use Rattle.mini_laws.specs.NameBodies.{Frame, Body, own_fixed}
 use Rattle.mini_context.specs.Tables.{mark_at, named, Marked, Noted}
 use Rattle.mini_context.proofs.Gathering.{Adds, Gathers}
 

@@ -6,12 +6,12 @@ use Rattle.std.proofs.lemmas.List.Sums.{sum_by_from}
 use Rattle.mini_context.proofs.Equal.{zero_suc, suc_zero, suc_suc}
 use Rattle.mini_model.specs.declared.name.SymbolId.{SymbolId}
 use Rattle.mini_model.specs.Tree.{Tree}
-use Rattle.mini_names.specs.declared.Use.{Use}
-use Rattle.mini_names.specs.declared.Use.TheVariants.{Read}
-use Rattle.mini_names.specs.References.{Reference, references, has_symbol, one_more, with_reference, counted, counts_of}
+use Rattle.mini_laws.specs.declared.names.Use.{Use}
+use Rattle.mini_laws.specs.declared.names.Use.TheVariants.{Read}
+use Rattle.mini_laws.specs.References.{Reference, references, has_symbol, one_more, with_reference, counted, counts_of}
 use Rattle.mini_context.specs.declared.count.Tally.{Tally}
 use Rattle.mini_context.specs.declared.count.Tally.TheVariants.{In, Out}
-use Rattle.mini_names.specs.Counts.{times_of, Contained, FellBy}
+use Rattle.mini_laws.specs.Counts.{times_of, Contained, FellBy}
 use Rattle.mini_context.specs.Tallies.{tallied, tallied_one, tallied_number, tallied_symbol}
 
 -- one where a test holds

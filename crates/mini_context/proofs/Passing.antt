@@ -9,12 +9,12 @@ use Rattle.mini_model.specs.declared.shape.Shape.TheVariants as shape
 use Rattle.mini_model.specs.Tree.{Tree, Trees, node, none, ◌▸◌, count, shape_of, children, child_or_absent, first_or_absent}
 use Rattle.mini_node.specs.Children.{names, names_of, number_of, rest_children}
 use Rattle.mini_node.specs.Walks.{no_rest, from_first}
-use Rattle.mini_names.specs.declared.Use.{Use}
-use Rattle.mini_names.specs.declared.Around.{Around}
-use Rattle.mini_names.specs.Scopes.{use_of}
-use Rattle.mini_names.specs.References.{reads}
-use Rattle.mini_names.specs.Mentions.{own_mentions, around_child, same_variable, is_among, is_elsewhere}
-use Rattle.mini_names.specs.Foreign.{Moment, ended_by, ends_at, in_order, is_read_early, joined, moments, moments_from, reads_at}
+use Rattle.mini_laws.specs.declared.names.Use.{Use}
+use Rattle.mini_laws.specs.declared.names.Around.{Around}
+use Rattle.mini_laws.specs.Scopes.{use_of}
+use Rattle.mini_laws.specs.References.{reads}
+use Rattle.mini_laws.specs.Mentions.{own_mentions, around_child, same_variable, is_among, is_elsewhere}
+use Rattle.mini_laws.specs.Foreign.{Moment, ended_by, ends_at, in_order, is_read_early, joined, moments, moments_from, reads_at}
 use Rattle.mini_context.specs.declared.early.Moments.{Moments}
 use Rattle.mini_context.specs.declared.early.Order.{Order}
 use Rattle.mini_context.specs.declared.early.Order.TheVariants as order

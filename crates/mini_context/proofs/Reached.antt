@@ -6,7 +6,7 @@ use Rattle.mini_model.specs.declared.shape.Shape.TheVariants as shape
 use Rattle.mini_model.specs.Tree.{Tree, Trees, node, ◌▸◌, count, child_or_absent, shape_of, children}
 use Rattle.mini_node.specs.Children.{rest_children, names_of, trees_of}
 use Rattle.mini_node.specs.Walks.{next_child, no_rest, from_first}
-use Rattle.mini_names.specs.Shared.{names_arguments, any_names_arguments, is_arguments, is_name_of_variable, is_of_function, reached_params}
+use Rattle.mini_laws.specs.Shared.{names_arguments, any_names_arguments, is_arguments, is_name_of_variable, is_of_function, reached_params}
 use Rattle.mini_context.specs.Tables.{Marked}
 use Rattle.mini_context.proofs.Marking.{marks_add}
 

@@ -5,9 +5,9 @@ use Rattle.std.proofs.Common.{ap, ◌∙◌, sym, arith}
 use Rattle.mini_model.specs.declared.name.Name.{Name}
 use Rattle.mini_model.specs.declared.name.SymbolId.{SymbolId}
 use Rattle.mini_model.specs.Tree.{Tree}
-use Rattle.mini_names.specs.Mentions.{Mention, same_variable, is_among, is_elsewhere, is_value_spelling, program_mentions}
-use Rattle.mini_names.specs.ScopeList.{seen_by_eval}
-use Rattle.mini_names.specs.Shared.{caught, catch_params, module_names, program_var_writes, reached_by_arguments, script_tops, is_written_in_catch, is_shared}
+use Rattle.mini_laws.specs.Mentions.{Mention, same_variable, is_among, is_elsewhere, is_value_spelling, program_mentions}
+use Rattle.mini_laws.specs.ScopeList.{seen_by_eval}
+use Rattle.mini_laws.specs.Shared.{caught, catch_params, module_names, program_var_writes, reached_by_arguments, script_tops, is_written_in_catch, is_shared}
 use Rattle.mini_context.specs.declared.mentions.Mentioned.{Mentioned}
 use Rattle.mini_context.specs.declared.mentions.Mentioned.TheVariants as mentioned
 use Rattle.mini_context.specs.Outside.{is_mentioned_outside}

@@ -6,11 +6,11 @@ use Rattle.mini_model.specs.Tree.{Tree, none}
 use Rattle.mini_model.specs.Weight.{same_text}
 use Rattle.mini_model.specs.declared.name.Name.{Name}
 use Rattle.mini_node.specs.Children.{trees_of}
-use Rattle.mini_names.specs.declared.Binding.{Binding}
-use Rattle.mini_names.specs.declared.Declared.{Declared}
-use Rattle.mini_names.specs.declared.Use.TheVariants.{Read}
-use Rattle.mini_names.specs.DeclaredNames.{all_names, names_of, is_spelled}
-use Rattle.mini_names.specs.Shared.{spelled_among}
+use Rattle.mini_laws.specs.declared.names.Binding.{Binding}
+use Rattle.mini_laws.specs.declared.names.Declared.{Declared}
+use Rattle.mini_laws.specs.declared.names.Use.TheVariants.{Read}
+use Rattle.mini_laws.specs.DeclaredNames.{all_names, names_of, is_spelled}
+use Rattle.mini_laws.specs.Shared.{spelled_among}
 use Rattle.mini_scope.specs.Buckets.{has_name}
 use Rattle.mini_context.specs.Tables.{Marked}
 use Rattle.mini_context.proofs.Marking.{or_assoc, or_false, marks_add}

@@ -2,29 +2,29 @@
 use Rattle.std.specs.Prelude.{ℕ, zero, suc, ◌≤◌, ◌<◌, ◌≡◌, refl, List, [], ◌∷◌, ◌++◌, Bool, true, false, ◌&&◌, ◌||◌, cond}
 use Rattle.std.proofs.Common.{ap, ◌∙◌, sym, subst, arith, append_assoc}
 use Rattle.mini_model.specs.Tree.{Tree, Trees, node, none, ◌▸◌, children, count, child_or_absent, first_or_absent, node_count, node_counts}
-use Rattle.mini_names.specs.Bodies.{Frame, frame_at, frame_of_body, own_body, own_fixed, bodies, bodies_from, fixed_names, all_fixed_names}
+use Rattle.mini_laws.specs.NameBodies.{Frame, frame_at, frame_of_body, own_body, own_fixed, bodies, bodies_from, fixed_names, all_fixed_names}
 use Rattle.std.proofs.lemmas.List.{append-nil}
 use Rattle.mini_model.specs.declared.name.Name.{Name}
 use Rattle.mini_model.specs.declared.shape.Shape.{Shape}
 use Rattle.mini_model.specs.declared.shape.Shape.TheVariants as shape
-use Rattle.mini_names.specs.declared.Declared.TheVariants as declared
-use Rattle.mini_names.specs.DeclaredNames.{names_of}
-use Rattle.mini_names.specs.Strict.{is_strict_in}
-use Rattle.mini_names.specs.Shared.{reached_params, reached_by_arguments, all_reached_by_arguments, own_catch_params, catch_params, all_catch_params, own_caught, caught, all_caught, module_names, module_names_by, all_module_names}
+use Rattle.mini_laws.specs.declared.names.Declared.TheVariants as declared
+use Rattle.mini_laws.specs.DeclaredNames.{names_of}
+use Rattle.mini_laws.specs.Strict.{is_strict_in}
+use Rattle.mini_laws.specs.Shared.{reached_params, reached_by_arguments, all_reached_by_arguments, own_catch_params, catch_params, all_catch_params, own_caught, caught, all_caught, module_names, module_names_by, all_module_names}
 use Rattle.mini_context.specs.declared.exchanges.Exchange.{Exchange}
 use Rattle.mini_context.specs.declared.exchanges.Exchange.TheVariants as exchange
-use Rattle.mini_names.specs.declared.Use.{Use}
-use Rattle.mini_names.specs.declared.Around.{Around}
-use Rattle.mini_names.specs.Scopes.{use_of}
-use Rattle.mini_names.specs.Mentions.{own_mentions, mentions, mentions_from, around_child, numbering_of}
-use Rattle.mini_names.specs.Foreign.{imported_by, imported_names, all_imported_names, own_pattern_names, pattern_names, all_pattern_names, is_body_by, own_lexical, lexical_variables, all_lexical_variables, own_switched, switched as switched_names, all_switched}
+use Rattle.mini_laws.specs.declared.names.Use.{Use}
+use Rattle.mini_laws.specs.declared.names.Around.{Around}
+use Rattle.mini_laws.specs.Scopes.{use_of}
+use Rattle.mini_laws.specs.Mentions.{own_mentions, mentions, mentions_from, around_child, numbering_of}
+use Rattle.mini_laws.specs.Foreign.{imported_by, imported_names, all_imported_names, own_pattern_names, pattern_names, all_pattern_names, is_body_by, own_lexical, lexical_variables, all_lexical_variables, own_switched, switched as switched_names, all_switched}
 use Rattle.std.specs.List.{filter}
-use Rattle.mini_names.specs.Mentions.{Mention}
+use Rattle.mini_laws.specs.Mentions.{Mention}
 use Rattle.std.specs.List.{list_any}
 use Rattle.std.proofs.lemmas.List.Folds.{list_any-append}
-use Rattle.mini_names.specs.DeclaredNames.{bound_names}
-use Rattle.mini_names.specs.Foreign.{has_number, own_params_around, params_around, all_params_around}
-use Rattle.mini_names.specs.Mentions.{is_among, same_variable}
+use Rattle.mini_laws.specs.DeclaredNames.{bound_names}
+use Rattle.mini_laws.specs.Foreign.{has_number, own_params_around, params_around, all_params_around}
+use Rattle.mini_laws.specs.Mentions.{is_among, same_variable}
 use Rattle.mini_context.specs.Enclosing.{own_params, Enclosed}
 use Rattle.mini_context.specs.Tables.{named}
 use Rattle.mini_context.proofs.Enclosing.{enclosed_add, own_told}

@@ -6,25 +6,25 @@ use Rattle.mini_model.specs.declared.name.Name.{Name}
 use Rattle.mini_model.specs.declared.shape.Shape.{Shape}
 use Rattle.mini_model.specs.declared.shape.Shape.TheVariants as shape
 use Rattle.mini_model.specs.Tree.{Tree, node, shape_of, children}
-use Rattle.mini_names.specs.declared.Use.TheVariants.{Read}
-use Rattle.mini_names.specs.Scopes.{opened}
-use Rattle.mini_names.specs.Mentions.{Mention, mentions, outermost, program_mentions, same_variable, is_elsewhere, is_among}
+use Rattle.mini_laws.specs.declared.names.Use.TheVariants.{Read}
+use Rattle.mini_laws.specs.Scopes.{opened}
+use Rattle.mini_laws.specs.Mentions.{Mention, mentions, outermost, program_mentions, same_variable, is_elsewhere, is_among}
 use Rattle.mini_context.specs.declared.mentions.Mentioned.{Mentioned}
 use Rattle.mini_context.specs.declared.mentions.Mentioned.TheVariants as mentioned
 use Rattle.mini_context.specs.Mentioned.{is_outside, mentioned_at, Joined}
 use Rattle.mini_context.specs.Outside.{is_mentioned_outside}
-use Rattle.mini_names.specs.Bodies.{Frame, Body, no_frame, bodies, fixed_names}
-use Rattle.mini_names.specs.Resolved.{Environment}
-use Rattle.mini_names.specs.Shared.{caught, catch_params, program_var_writes, script_tops, var_writes, module_names, reached_by_arguments}
-use Rattle.mini_names.specs.Foreign.{imported_names, is_declared_in, lexical_variables, pattern_names, switched as switched_names}
+use Rattle.mini_laws.specs.NameBodies.{Frame, Body, no_frame, bodies, fixed_names}
+use Rattle.mini_laws.specs.Resolved.{Environment}
+use Rattle.mini_laws.specs.Shared.{caught, catch_params, program_var_writes, script_tops, var_writes, module_names, reached_by_arguments}
+use Rattle.mini_laws.specs.Foreign.{imported_names, is_declared_in, lexical_variables, pattern_names, switched as switched_names}
 use Rattle.mini_context.specs.declared.early.Moments.{Moments}
 use Rattle.mini_context.specs.declared.params.Params.{Params}
 use Rattle.mini_context.specs.Early.{Passed}
 use Rattle.mini_context.specs.Enclosing.{is_around, Bounded, Enclosed}
-use Rattle.mini_names.specs.DeclaredNames.{bound_names}
-use Rattle.mini_names.specs.Foreign.{has_number, is_read_early, moments, params_around}
+use Rattle.mini_laws.specs.DeclaredNames.{bound_names}
+use Rattle.mini_laws.specs.Foreign.{has_number, is_read_early, moments, params_around}
 use Rattle.mini_context.specs.Lists.{holds, Housed}
-use Rattle.mini_names.specs.ScopeList.{Scope, names_in, scope_from}
+use Rattle.mini_laws.specs.ScopeList.{Scope, names_in, scope_from}
 use Rattle.mini_scope.specs.ScopeAt.{scope_at}
 use Rattle.mini_scope.specs.declared.opening.OpenScopes.{OpenScopes}
 use Rattle.mini_context.specs.declared.standing.Reading.{Reading}

@@ -8,10 +8,10 @@ use Rattle.mini_model.specs.declared.operator.AssignmentOperator.TheVariants.{As
 use Rattle.mini_model.specs.declared.shape.Shape.{Shape}
 use Rattle.mini_model.specs.declared.shape.Shape.TheVariants as shape
 use Rattle.mini_model.specs.Tree.{Tree, Trees, node, none, ◌▸◌}
-use Rattle.mini_names.specs.declared.Use.{Use}
-use Rattle.mini_names.specs.Scopes.{use_of}
-use Rattle.mini_names.specs.References.{Reference, own_references, references, references_from, has_symbol}
-use Rattle.mini_names.specs.Counts.{times_of}
+use Rattle.mini_laws.specs.declared.names.Use.{Use}
+use Rattle.mini_laws.specs.Scopes.{use_of}
+use Rattle.mini_laws.specs.References.{Reference, own_references, references, references_from, has_symbol}
+use Rattle.mini_laws.specs.Counts.{times_of}
 
 -- a part is used either as its node is, or in one way
 use_alike : (p : Use → Bool) (h : Shape) (u v : Use) (i : ℕ) → p u ≡ p v → p (use_of h u i) ≡ p (use_of h v i)

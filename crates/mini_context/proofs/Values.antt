@@ -6,16 +6,16 @@ use Rattle.mini_model.specs.declared.shape.Shape.{Shape}
 use Rattle.mini_model.specs.Tree.{Tree, Trees, node, none, ◌▸◌, count, shape_of, children, child_or_absent, first_or_absent}
 use Rattle.mini_node.specs.Children.{number_of, rest_children, trees_of}
 use Rattle.mini_node.specs.Walks.{from_first}
-use Rattle.mini_names.specs.declared.Use.{Use}
-use Rattle.mini_names.specs.declared.Use.TheVariants as use_is
-use Rattle.mini_names.specs.declared.Around.{Around}
-use Rattle.mini_names.specs.declared.Binding.{Binding}
-use Rattle.mini_names.specs.Resolved.{Environment}
-use Rattle.mini_names.specs.Scopes.{use_of, opened}
-use Rattle.mini_names.specs.Strict.{is_strict_in}
-use Rattle.mini_names.specs.Mentions.{Mention, around_child}
-use Rattle.mini_names.specs.ScopeList.{any_has_eval, entered, least_scopes, names_in, scope_list, scope_list_from}
-use Rattle.mini_names.specs.Shared.{given_by_declarator, given_values, var_writes, var_writes_from, write_at}
+use Rattle.mini_laws.specs.declared.names.Use.{Use}
+use Rattle.mini_laws.specs.declared.names.Use.TheVariants as use_is
+use Rattle.mini_laws.specs.declared.names.Around.{Around}
+use Rattle.mini_laws.specs.declared.names.Binding.{Binding}
+use Rattle.mini_laws.specs.Resolved.{Environment}
+use Rattle.mini_laws.specs.Scopes.{use_of, opened}
+use Rattle.mini_laws.specs.Strict.{is_strict_in}
+use Rattle.mini_laws.specs.Mentions.{Mention, around_child}
+use Rattle.mini_laws.specs.ScopeList.{any_has_eval, entered, least_scopes, names_in, scope_list, scope_list_from}
+use Rattle.mini_laws.specs.Shared.{given_by_declarator, given_values, var_writes, var_writes_from, write_at}
 use Rattle.mini_scope.specs.ScopeAt.{scope_at}
 use Rattle.mini_scope.specs.declared.opening.OpenScopes.{OpenScopes}
 use Rattle.mini_context.specs.declared.listing.ScopeTables.{ScopeTables}

@@ -3,8 +3,8 @@ use Rattle.std.specs.Prelude.{ℕ, suc, ◌≡◌, ◌<◌, not, ◌&&◌, ◌||
 use Rattle.std.specs.List.{list_any}
 use Rattle.mini_model.specs.declared.shape.Shape.{Shape}
 use Rattle.mini_model.specs.declared.shape.Shape.TheVariants as shape
-use Rattle.mini_names.specs.Mentions.{same_variable}
-use Rattle.mini_names.specs.Foreign.{Moment, is_read_early}
+use Rattle.mini_laws.specs.Mentions.{same_variable}
+use Rattle.mini_laws.specs.Foreign.{Moment, is_read_early}
 use Rattle.mini_context.specs.declared.early.Moments.{Moments}
 use Rattle.mini_context.specs.declared.early.Order.{Order}
 use Rattle.mini_context.specs.declared.early.Order.TheVariants as order

@@ -5,9 +5,9 @@ use Rattle.mini_model.specs.declared.name.Name.{Name}
 use Rattle.mini_model.specs.declared.shape.Shape.{Shape}
 use Rattle.mini_model.specs.declared.shape.Shape.TheVariants as shape
 use Rattle.mini_model.specs.Tree.{Tree, Trees, node, none, ◌▸◌}
-use Rattle.mini_names.specs.DeclaredNames.{bound_names}
-use Rattle.mini_names.specs.Foreign.{has_number}
-use Rattle.mini_names.specs.Mentions.{is_among}
+use Rattle.mini_laws.specs.DeclaredNames.{bound_names}
+use Rattle.mini_laws.specs.Foreign.{has_number}
+use Rattle.mini_laws.specs.Mentions.{is_among}
 use Rattle.mini_context.specs.declared.params.Params.{Params}
 use Rattle.mini_context.specs.Lists.{holds}
 use Rattle.mini_context.specs.Tables.{named}

@@ -1,8 +1,8 @@
 -- Counts of `function f(p) { p = p + p }` when `p + p` is dropped, and in how many steps, worked out by hand.
 use Rattle.std.specs.Prelude.{◌≡◌, refl, [], ◌∷◌, length}
-use Rattle.mini_names.specs.declared.Use.TheVariants.{Read}
-use Rattle.mini_names.specs.References.{reads, writes, references}
-use Rattle.mini_names.specs.Programs.{reference_of, sum, p}
+use Rattle.mini_laws.specs.declared.names.Use.TheVariants.{Read}
+use Rattle.mini_laws.specs.References.{reads, writes, references}
+use Rattle.mini_laws.specs.Programs.{reference_of, sum, p}
 use Rattle.mini_context.specs.declared.count.Tally.TheVariants.{Out}
 use Rattle.mini_context.specs.Tallies.{tallied}
 

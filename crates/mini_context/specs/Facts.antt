@@ -2,18 +2,18 @@
 use Rattle.std.specs.Prelude.{ℕ, ◌≡◌, ◌<◌, Bool, false, List, length, map, slice_index, ◌&&◌, ◌||◌, not}
 use Rattle.std.specs.List.{filter, list_any}
 use Rattle.mini_model.specs.Tree.{Tree}
-use Rattle.mini_names.specs.References.{reads as is_read, writes as is_write, counts_of}
-use Rattle.mini_names.specs.Mentions.{is_among, is_elsewhere, outermost, program_mentions, same_variable}
+use Rattle.mini_laws.specs.References.{reads as is_read, writes as is_write, counts_of}
+use Rattle.mini_laws.specs.Mentions.{is_among, is_elsewhere, outermost, program_mentions, same_variable}
 use Rattle.mini_context.specs.declared.mentions.Mentioned.{Mentioned}
 use Rattle.mini_context.specs.declared.scopes.Look.{Look}
-use Rattle.mini_names.specs.declared.Use.TheVariants.{Read}
+use Rattle.mini_laws.specs.declared.names.Use.TheVariants.{Read}
 use Rattle.mini_context.specs.Enclosing.{is_around}
 use Rattle.mini_context.specs.Lists.{holds}
 use Rattle.mini_context.specs.Mentioned.{is_outside, is_somewhere, mentioned_at}
-use Rattle.mini_names.specs.Bodies.{fixed_names, this_has_event, has_arguments}
-use Rattle.mini_names.specs.ScopeList.{scopes_of, scope_of_symbol, seen_by_eval}
-use Rattle.mini_names.specs.Shared.{caught, catch_params, program_var_writes, script_tops, module_names, reached_by_arguments}
-use Rattle.mini_names.specs.Foreign.{imported_names, is_declared_in, is_read_early, lexical_variables, moments, params_around, pattern_names, switched as switched_names}
+use Rattle.mini_laws.specs.NameBodies.{fixed_names, this_has_event, has_arguments}
+use Rattle.mini_laws.specs.ScopeList.{scopes_of, scope_of_symbol, seen_by_eval}
+use Rattle.mini_laws.specs.Shared.{caught, catch_params, program_var_writes, script_tops, module_names, reached_by_arguments}
+use Rattle.mini_laws.specs.Foreign.{imported_names, is_declared_in, is_read_early, lexical_variables, moments, params_around, pattern_names, switched as switched_names}
 use Rattle.mini_context.specs.Outside.{is_mentioned_outside}
 use Rattle.mini_context.specs.Tables.{mark_at, named}
 use Rattle.mini_context.specs.Visits.{is_writing}

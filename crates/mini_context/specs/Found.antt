@@ -2,10 +2,10 @@
 use Rattle.std.specs.Prelude.{ℕ, ◌≡◌, ◌<◌, false, ◌&&◌}
 use Rattle.std.specs.List.{filter, list_any}
 use Rattle.mini_model.specs.Tree.{Tree}
-use Rattle.mini_names.specs.Mentions.{is_among, is_elsewhere, program_mentions, same_variable}
-use Rattle.mini_names.specs.Bodies.{fixed_names, this_has_event, has_arguments}
-use Rattle.mini_names.specs.Shared.{caught, catch_params, module_names, reached_by_arguments}
-use Rattle.mini_names.specs.Foreign.{imported_names, is_declared_in, lexical_variables, params_around, pattern_names, switched as switched_names}
+use Rattle.mini_laws.specs.Mentions.{is_among, is_elsewhere, program_mentions, same_variable}
+use Rattle.mini_laws.specs.NameBodies.{fixed_names, this_has_event, has_arguments}
+use Rattle.mini_laws.specs.Shared.{caught, catch_params, module_names, reached_by_arguments}
+use Rattle.mini_laws.specs.Foreign.{imported_names, is_declared_in, lexical_variables, params_around, pattern_names, switched as switched_names}
 use Rattle.mini_context.specs.declared.survey.Tables.{Tables}
 use Rattle.mini_context.specs.Enclosing.{is_around}
 use Rattle.mini_context.specs.Lists.{holds}

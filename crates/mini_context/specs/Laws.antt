@@ -1,17 +1,17 @@
 -- Laws of counts.
 use Rattle.std.specs.Prelude.{ℕ, ◌≡◌, ◌<◌, Bool, List, ◌++◌, slice_index, Some, length}
 use Rattle.mini_model.specs.Tree.{Tree}
-use Rattle.mini_names.specs.declared.Use.{Use}
-use Rattle.mini_names.specs.declared.Use.TheVariants.{Hoisted, Read}
-use Rattle.mini_names.specs.References.{Reference, reads, writes, read_count, write_count, counts_of, references}
-use Rattle.mini_names.specs.Mentions.{is_among}
-use Rattle.mini_names.specs.Foreign.{is_foreign}
-use Rattle.mini_names.specs.Shared.{is_shared}
+use Rattle.mini_laws.specs.declared.names.Use.{Use}
+use Rattle.mini_laws.specs.declared.names.Use.TheVariants.{Hoisted, Read}
+use Rattle.mini_laws.specs.References.{Reference, reads, writes, read_count, write_count, counts_of, references}
+use Rattle.mini_laws.specs.Mentions.{is_among}
+use Rattle.mini_laws.specs.Foreign.{is_foreign}
+use Rattle.mini_laws.specs.Shared.{is_shared}
 use Rattle.mini_context.specs.Facts.{Facts, Looked, Refreshed, foreign, shares}
 use Rattle.mini_context.specs.Tables.{named}
 use Rattle.mini_model.specs.declared.name.Name.{Name}
 use Rattle.mini_model.specs.declared.name.SymbolId.{SymbolId}
-use Rattle.mini_names.specs.Counts.{times_of}
+use Rattle.mini_laws.specs.Counts.{times_of}
 
 -- the counts by symbol of a tree are how often each symbol is read, and written
 abbrev pub CountsTell : Type 0

@@ -1,7 +1,7 @@
 -- Lists of numbers, at an index each.
 use Rattle.std.specs.Prelude.{ℕ, ◌≡◌, ◌<◌, nat_eq, Bool, not, ◌&&◌, ◌||◌, List, [], length, slice_index_or}
 use Rattle.std.specs.List.{list_any}
-use Rattle.mini_names.specs.Mentions.{Mention, same_variable, is_elsewhere}
+use Rattle.mini_laws.specs.Mentions.{Mention, same_variable, is_elsewhere}
 use Rattle.mini_context.specs.Tables.{named}
 
 -- whether a number stands in the list at an index: past the end there is none

@@ -1,7 +1,7 @@
 -- Where a symbol is mentioned, in short: enough to tell of each body whether it is mentioned outside it.
 use Rattle.std.specs.Prelude.{ℕ, ◌≡◌, ◌<◌, nat_eq, Bool, true, false, not, ◌&&◌, ◌||◌, List, length, slice_index_or}
 use Rattle.std.specs.List.{list_any}
-use Rattle.mini_names.specs.Mentions.{Mention, same_variable, is_elsewhere}
+use Rattle.mini_laws.specs.Mentions.{Mention, same_variable, is_elsewhere}
 use Rattle.mini_context.specs.declared.mentions.Mentioned.{Mentioned}
 use Rattle.mini_context.specs.declared.mentions.Mentioned.TheVariants as mentioned
 use Rattle.mini_context.specs.Tables.{named}

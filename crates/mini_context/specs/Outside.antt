@@ -3,7 +3,7 @@ use Rattle.std.specs.Prelude.{ℕ, ◌&&◌, Bool}
 use Rattle.std.specs.List.{list_any}
 use Rattle.mini_model.specs.declared.name.Name.{Name}
 use Rattle.mini_model.specs.Tree.{Tree}
-use Rattle.mini_names.specs.Mentions.{is_elsewhere, program_mentions, same_variable}
+use Rattle.mini_laws.specs.Mentions.{is_elsewhere, program_mentions, same_variable}
 
 -- whether another body than this, or a carried node, mentions a variable
 abbrev pub is_mentioned_outside : Tree → ℕ → Name → Bool

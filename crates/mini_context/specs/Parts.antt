@@ -6,8 +6,8 @@ use Rattle.mini_model.specs.declared.shape.Shape.{Shape}
 use Rattle.mini_model.specs.declared.shape.Shape.TheVariants as shape
 use Rattle.mini_model.specs.Tree.{Tree, Trees}
 use Rattle.mini_model.specs.Paths.{child_at}
-use Rattle.mini_names.specs.declared.Declared.TheVariants as declared
-use Rattle.mini_names.specs.DeclaredNames.{all_names, bound_names}
+use Rattle.mini_laws.specs.declared.names.Declared.TheVariants as declared
+use Rattle.mini_laws.specs.DeclaredNames.{all_names, bound_names}
 use Rattle.mini_context.specs.declared.parts.Part.{Part}
 use Rattle.mini_context.specs.declared.parts.Part.TheVariants as part
 

@@ -2,9 +2,9 @@
 use Rattle.std.specs.Prelude.{ℕ, ◌≡◌, ◌<◌, nat_eq, Bool, false, ◌&&◌, ◌||◌, List, [], ◌++◌, length, map, slice_index, slice_index_or, Some, if◌then◌else◌}
 use Rattle.std.specs.List.{list_any}
 use Rattle.mini_model.specs.declared.name.Name.{Name}
-use Rattle.mini_names.specs.Mentions.{is_among}
-use Rattle.mini_names.specs.Bodies.{Frame, Body}
-use Rattle.mini_names.specs.ScopeList.{Scope, scope_from, seen_in}
+use Rattle.mini_laws.specs.Mentions.{is_among}
+use Rattle.mini_laws.specs.NameBodies.{Frame, Body}
+use Rattle.mini_laws.specs.ScopeList.{Scope, scope_from, seen_in}
 use Rattle.mini_context.specs.declared.listing.ScopeTables.{ScopeTables}
 
 -- an entry: past the end there is no mark

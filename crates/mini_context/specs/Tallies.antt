@@ -1,8 +1,8 @@
 -- References that are counted in, or out.
 use Rattle.std.specs.Prelude.{ℕ, ◌+◌, ◌-◌, ◌^◌, min, Bool, List, [], ◌∷◌, slice_set, slice_index, Option, Some, None, if◌then◌else◌}
 use Rattle.mini_model.specs.declared.name.SymbolId.{SymbolId}
-use Rattle.mini_names.specs.declared.Use.{Use}
-use Rattle.mini_names.specs.References.{Reference}
+use Rattle.mini_laws.specs.declared.names.Use.{Use}
+use Rattle.mini_laws.specs.References.{Reference}
 use Rattle.mini_context.specs.declared.count.Tally.{Tally}
 use Rattle.mini_context.specs.declared.count.Tally.TheVariants.{In, Out}
 

@@ -4,21 +4,21 @@ use Rattle.std.specs.List.{filter}
 use Rattle.mini_model.specs.declared.name.Name.{Name}
 use Rattle.mini_model.specs.Tree.{Tree, Trees, node, none, ◌▸◌, shape_of, children}
 use Rattle.mini_node.specs.Children.{names_of, number_of}
-use Rattle.mini_names.specs.Bodies.{Frame, Body, no_frame, frame_at, frame_of_body, own_body, own_fixed}
-use Rattle.mini_names.specs.declared.Use.TheVariants.{Read}
-use Rattle.mini_names.specs.Mentions.{Mention, own_mentions, around_child, numbering_of, outermost}
-use Rattle.mini_names.specs.Scopes.{use_of}
+use Rattle.mini_laws.specs.NameBodies.{Frame, Body, no_frame, frame_at, frame_of_body, own_body, own_fixed}
+use Rattle.mini_laws.specs.declared.names.Use.TheVariants.{Read}
+use Rattle.mini_laws.specs.Mentions.{Mention, own_mentions, around_child, numbering_of, outermost}
+use Rattle.mini_laws.specs.Scopes.{use_of}
 use Rattle.mini_model.specs.declared.shape.Shape.{Shape}
 use Rattle.mini_model.specs.declared.shape.Shape.TheVariants as shape
-use Rattle.mini_names.specs.declared.Declared.TheVariants as declared
-use Rattle.mini_names.specs.DeclaredNames.{own_names}
-use Rattle.mini_names.specs.DeclaredNames.{names_of as names_declared}
-use Rattle.mini_names.specs.References.{writes}
-use Rattle.mini_names.specs.Shared.{own_catch_params, own_caught, reached_params}
-use Rattle.mini_names.specs.Foreign.{is_body_by, own_lexical, own_pattern_names, own_switched}
+use Rattle.mini_laws.specs.declared.names.Declared.TheVariants as declared
+use Rattle.mini_laws.specs.DeclaredNames.{own_names}
+use Rattle.mini_laws.specs.DeclaredNames.{names_of as names_declared}
+use Rattle.mini_laws.specs.References.{writes}
+use Rattle.mini_laws.specs.Shared.{own_catch_params, own_caught, reached_params}
+use Rattle.mini_laws.specs.Foreign.{is_body_by, own_lexical, own_pattern_names, own_switched}
 use Rattle.mini_context.specs.declared.exchanges.Exchange.{Exchange}
 use Rattle.mini_context.specs.declared.exchanges.Exchange.TheVariants as exchange
-use Rattle.mini_names.specs.Strict.{is_strict_in}
+use Rattle.mini_laws.specs.Strict.{is_strict_in}
 use Rattle.mini_context.specs.declared.standing.Frame.{Frame as FrameHeld}
 use Rattle.mini_context.specs.declared.standing.Reading.{Reading}
 use Rattle.mini_context.specs.declared.standing.Standing.{Standing}

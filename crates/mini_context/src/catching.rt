@@ -3,17 +3,17 @@
 ghost use Rattle.std.specs.Prelude.{◌≡◌, ℕ, List, IfOk, OnOk};
 ghost use Rattle.mini_model.specs.Tree.{children, shape_of};
 ghost use Rattle.mini_node.specs.Children.{trees_of};
-ghost use Rattle.mini_names.specs.DeclaredNames.{all_names, bound_names, is_spelled, names_of};
-ghost use Rattle.mini_names.specs.declared.Declared.TheVariants as declared;
-ghost use Rattle.mini_names.specs.declared.Use.TheVariants as variant;
-ghost use Rattle.mini_names.specs.Shared.{own_caught, spelled_among};
+ghost use Rattle.mini_laws.specs.DeclaredNames.{all_names, bound_names, is_spelled, names_of};
+ghost use Rattle.mini_laws.specs.declared.names.Declared.TheVariants as declared;
+ghost use Rattle.mini_laws.specs.declared.names.Use.TheVariants as variant;
+ghost use Rattle.mini_laws.specs.Shared.{own_caught, spelled_among};
 ghost use Rattle.mini_scope.specs.Buckets.{has_name};
 ghost use Rattle.mini_context.specs.Own.{is_catch_shape};
 ghost use Rattle.mini_context.specs.Tables.{Marked};
 
 use crate::marks::mark_name;
 use mini_model::{Name, OutOfMemory, Shape};
-use mini_names::{Binding, Declared, Use};
+use mini_laws::{Binding, Declared, Use};
 use mini_node::Node;
 use mini_scope::{Environment, push_names};
 use std::alloc::Global;

@@ -1,9 +1,9 @@
 //! The context of rewrites: the numbers of names, the options, and the place where a node stands.
 
 ghost use Rattle.std.specs.Prelude.{◌≡◌, ◌+◌, ◌-◌, ◌^◌, ◌<◌, ◌≤◌, min, length};
-ghost use Rattle.mini_names.specs.declared.Use.TheVariants as variant;
-ghost use Rattle.mini_names.specs.References.{references, reads as is_read, writes as is_write};
-ghost use Rattle.mini_names.specs.Counts.{Contained, FellBy};
+ghost use Rattle.mini_laws.specs.declared.names.Use.TheVariants as variant;
+ghost use Rattle.mini_laws.specs.References.{references, reads as is_read, writes as is_write};
+ghost use Rattle.mini_laws.specs.Counts.{Contained, FellBy};
 
 use crate::scopes::Scopes;
 use crate::steps::Steps;

@@ -2,16 +2,16 @@
 
 ghost use Rattle.std.specs.Prelude.{◌≡◌, ◌+◌, ◌≤◌, ◌^◌, ◌<◌, length, replicate, slice_index, slice_set, IfOk, if◌then◌else◌};
 ghost use Rattle.mini_node.specs.Children.{names};
-ghost use Rattle.mini_names.specs.declared.Use.TheVariants as variant;
-ghost use Rattle.mini_names.specs.Scopes.{use_of as use_at};
-ghost use Rattle.mini_names.specs.References.{references, references_from, own_references, reads as is_read, writes as is_write, counts_of};
+ghost use Rattle.mini_laws.specs.declared.names.Use.TheVariants as variant;
+ghost use Rattle.mini_laws.specs.Scopes.{use_of as use_at};
+ghost use Rattle.mini_laws.specs.References.{references, references_from, own_references, reads as is_read, writes as is_write, counts_of};
 ghost use Rattle.mini_context.specs.Own.{is_reference_shape};
-ghost use Rattle.mini_names.specs.Counts.{Contained, FellBy};
+ghost use Rattle.mini_laws.specs.Counts.{Contained, FellBy};
 ghost use Rattle.mini_context.specs.Tallies.{tallied, tallied_number, tallied_symbol};
 
 use crate::steps::Steps;
 use mini_model::{Name, OutOfMemory, Shape, SymbolId};
-use mini_names::Use;
+use mini_laws::Use;
 use mini_node::{Node, Nodes};
 use mini_scope::use_of;
 use std::alloc::Global;

@@ -3,9 +3,9 @@
 ghost use Rattle.std.specs.Prelude.{◌≡◌, ℕ, ◌<◌, ◌&&◌, ◌||◌, not, nat_eq, [], ◌∷◌, false, length, replicate, IfOk, OnOk};
 ghost use Rattle.mini_model.specs.Tree.{children, child_or_absent, count, shape_of};
 ghost use Rattle.mini_node.specs.Children.{names_of, number_of, rest_children};
-ghost use Rattle.mini_names.specs.Mentions.{around_child, is_elsewhere, own_mentions};
-ghost use Rattle.mini_names.specs.Scopes.{use_of as use_at};
-ghost use Rattle.mini_names.specs.Foreign.{ended_by, ends_at, in_order, joined as joined_in, moments as moments_of, moments_from, reads_at};
+ghost use Rattle.mini_laws.specs.Mentions.{around_child, is_elsewhere, own_mentions};
+ghost use Rattle.mini_laws.specs.Scopes.{use_of as use_at};
+ghost use Rattle.mini_laws.specs.Foreign.{ended_by, ends_at, in_order, joined as joined_in, moments as moments_of, moments_from, reads_at};
 ghost use Rattle.mini_context.specs.Early.{ended_part as ended_part_of, order_of as order_in, Passed};
 ghost use Rattle.mini_context.specs.Lists.{holds};
 ghost use Rattle.mini_context.specs.Tables.{mark_at, Marked};
@@ -16,7 +16,7 @@ use crate::marks::{is_marked, no_marks};
 use crate::parts::{Part, mark_part};
 use crate::standing::{Reading, reading_below};
 use mini_model::{Name, OutOfMemory, OwnedList, Shape, SymbolId};
-use mini_names::Around;
+use mini_laws::Around;
 use mini_node::Node;
 use std::alloc::Global;
 

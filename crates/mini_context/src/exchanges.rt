@@ -2,14 +2,14 @@
 
 ghost use Rattle.std.specs.Prelude.{◌≡◌, true};
 ghost use Rattle.mini_model.specs.Tree.{shape_of};
-ghost use Rattle.mini_names.specs.declared.Declared.TheVariants as declared;
-ghost use Rattle.mini_names.specs.DeclaredNames.{own_names, names_of};
+ghost use Rattle.mini_laws.specs.declared.names.Declared.TheVariants as declared;
+ghost use Rattle.mini_laws.specs.DeclaredNames.{own_names, names_of};
 ghost use Rattle.mini_context.specs.Tables.{Marked};
 ghost use Rattle.mini_context.specs.Visits.{exchange_of as exchange_in, exchanged_by};
 
 use crate::marks::{mark_names, mark_own_name};
 use mini_model::Shape;
-use mini_names::Declared;
+use mini_laws::Declared;
 use mini_node::Node;
 
 /// Which of a node's names a module imports or exports.

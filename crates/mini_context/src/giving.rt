@@ -3,7 +3,7 @@
 ghost use Rattle.std.specs.Prelude.{◌≡◌, ◌∷◌, [], ◌++◌, map, IfOk, OnOk};
 ghost use Rattle.mini_model.specs.Tree.{children, shape_of};
 ghost use Rattle.mini_node.specs.Children.{trees_of};
-ghost use Rattle.mini_names.specs.Shared.{given_by_declarator as given_by_declarator_in, given_by_head as given_by_head_in, given_values, write_at};
+ghost use Rattle.mini_laws.specs.Shared.{given_by_declarator as given_by_declarator_in, given_by_head as given_by_head_in, given_values, write_at};
 ghost use Rattle.mini_context.specs.Own.{is_hoisted_use};
 ghost use Rattle.mini_context.specs.Mentioned.{Joined};
 
@@ -11,7 +11,7 @@ use crate::catching::names_in;
 use crate::mentions::{Mentioned, join_symbol};
 use crate::standing::{Reading, is_absent};
 use mini_model::{Name, OutOfMemory, Shape};
-use mini_names::{Around, Binding, Declared, Use};
+use mini_laws::{Around, Binding, Declared, Use};
 use mini_node::Node;
 use mini_scope::Environment;
 use std::alloc::Global;

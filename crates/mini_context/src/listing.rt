@@ -3,12 +3,12 @@
 ghost use Rattle.std.specs.Prelude.{◌≡◌, ◌<◌, ℕ, nat_eq, ◌∷◌, [], ◌++◌, take, length, replicate, slice_index, false, IfOk, OnOk, if◌then◌else◌};
 ghost use Rattle.mini_model.specs.Tree.{children, shape_of};
 ghost use Rattle.mini_node.specs.Children.{trees_of, names, number_of, rest_children};
-ghost use Rattle.mini_names.specs.Mentions.{around_child};
-ghost use Rattle.mini_names.specs.Shared.{var_writes, var_writes_from};
-ghost use Rattle.mini_names.specs.Strict.{is_strict_in as is_strict_at};
+ghost use Rattle.mini_laws.specs.Mentions.{around_child};
+ghost use Rattle.mini_laws.specs.Shared.{var_writes, var_writes_from};
+ghost use Rattle.mini_laws.specs.Strict.{is_strict_in as is_strict_at};
 ghost use Rattle.mini_context.specs.Mentioned.{Joined};
-ghost use Rattle.mini_names.specs.Scopes.{use_of as use_at};
-ghost use Rattle.mini_names.specs.ScopeList.{any_has_eval as any_has_eval_in, calls_eval as calls_eval_in, entered, has_eval as has_eval_in, is_eval, is_eval_call as is_eval_call_in, is_eval_callee as is_eval_callee_in, least_scopes as least_in, names_in, scope_list, scope_list_from};
+ghost use Rattle.mini_laws.specs.Scopes.{use_of as use_at};
+ghost use Rattle.mini_laws.specs.ScopeList.{any_has_eval as any_has_eval_in, calls_eval as calls_eval_in, entered, has_eval as has_eval_in, is_eval, is_eval_call as is_eval_call_in, is_eval_callee as is_eval_callee_in, least_scopes as least_in, names_in, scope_list, scope_list_from};
 ghost use Rattle.mini_scope.specs.ScopeAt.{scope_at};
 ghost use Rattle.mini_context.specs.Tables.{Listed, OwnedBy};
 
@@ -19,7 +19,7 @@ use crate::mentions::Mentioned;
 use crate::standing::{Reading, reading_below};
 use crate::strictness::is_strict_in;
 use mini_model::{Name, OutOfMemory, Shape, SymbolId};
-use mini_names::Binding;
+use mini_laws::Binding;
 use mini_node::{Node, Nodes};
 use mini_scope::{Environment, OpenScopes, is_leaf};
 use std::alloc::Global;

@@ -3,8 +3,8 @@
 ghost use Rattle.std.specs.Prelude.{◌≡◌, ℕ, ◌||◌, ◌&&◌, ◌<◌, nat_eq, not, length, replicate, IfOk, OnOk};
 ghost use Rattle.mini_model.specs.Tree.{shape_of};
 ghost use Rattle.mini_node.specs.Children.{names_of};
-ghost use Rattle.mini_names.specs.Mentions.{is_elsewhere, own_mentions};
-ghost use Rattle.mini_names.specs.Shared.{is_name_of_variable as is_name_shape};
+ghost use Rattle.mini_laws.specs.Mentions.{is_elsewhere, own_mentions};
+ghost use Rattle.mini_laws.specs.Shared.{is_name_of_variable as is_name_shape};
 ghost use Rattle.std.specs.List.{filter};
 ghost use Rattle.mini_context.specs.Lists.{Housed};
 ghost use Rattle.mini_context.specs.Own.{is_binding_shape};
@@ -16,7 +16,7 @@ use crate::count::{is_reference, is_write};
 use crate::lists::put_number;
 use crate::standing::Standing;
 use mini_model::{OutOfMemory, OwnedList, Shape, SymbolId};
-use mini_names::Around;
+use mini_laws::Around;
 use mini_node::Node;
 use std::alloc::Global;
 

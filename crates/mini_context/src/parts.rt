@@ -6,7 +6,7 @@ ghost use Rattle.mini_context.specs.Tables.{Marked};
 
 use crate::marks::{mark_all_names, mark_names};
 use mini_model::{Shape, VariableDeclarationKind};
-use mini_names::Declared;
+use mini_laws::Declared;
 use mini_node::Nodes;
 
 /// Which of the names that a node's children bind or declare.

@@ -3,16 +3,16 @@
 ghost use Rattle.std.specs.Prelude.{◌≡◌, ◌&&◌};
 ghost use Rattle.mini_model.specs.Tree.{shape_of, children};
 ghost use Rattle.mini_node.specs.Children.{names, names_of};
-ghost use Rattle.mini_names.specs.Shared.{any_names_arguments as any_names_arguments_in, is_arguments as is_arguments_in, is_name_of_variable as is_name_shape, is_of_function as is_of_function_in, names_arguments as names_arguments_in, reached_params};
-ghost use Rattle.mini_names.specs.Strict.{is_strict_in as is_strict_at};
-ghost use Rattle.mini_names.specs.Early.{is_function_shape};
+ghost use Rattle.mini_laws.specs.Shared.{any_names_arguments as any_names_arguments_in, is_arguments as is_arguments_in, is_name_of_variable as is_name_shape, is_of_function as is_of_function_in, names_arguments as names_arguments_in, reached_params};
+ghost use Rattle.mini_laws.specs.Strict.{is_strict_in as is_strict_at};
+ghost use Rattle.mini_laws.specs.Early.{is_function_shape};
 ghost use Rattle.mini_context.specs.Tables.{Marked};
 
 use crate::marks::mark_names;
 use crate::mentions::is_name_of_variable;
 use crate::strictness::is_strict_in;
 use mini_model::{Name, Shape};
-use mini_names::Declared;
+use mini_laws::Declared;
 use mini_node::{Node, Nodes};
 
 /// The units of `arguments`.

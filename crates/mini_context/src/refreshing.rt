@@ -1,8 +1,8 @@
 //! The numbers of the names of a program, anew.
 
 ghost use Rattle.std.specs.Prelude.{◌≡◌, ◌+◌, ◌<◌, ◌^◌, length, OnOk};
-ghost use Rattle.mini_names.specs.declared.Use.TheVariants as variant;
-ghost use Rattle.mini_names.specs.References.{references};
+ghost use Rattle.mini_laws.specs.declared.names.Use.TheVariants as variant;
+ghost use Rattle.mini_laws.specs.References.{references};
 ghost use Rattle.mini_context.specs.Facts.{Refreshed};
 
 use crate::context::TraverseCtx;

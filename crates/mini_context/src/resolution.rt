@@ -2,9 +2,9 @@
 
 ghost use Rattle.std.specs.Prelude.{◌≡◌, ◌+◌, ◌<◌, ◌^◌, None, Some, length, IfErr, IfOk, IfSome, OnOk};
 ghost use Rattle.mini_model.specs.Faults.{fault_of};
-ghost use Rattle.mini_names.specs.declared.Use.TheVariants as variant;
-ghost use Rattle.mini_names.specs.References.{references};
-ghost use Rattle.mini_names.specs.Resolved.{resolved_program, symbols};
+ghost use Rattle.mini_laws.specs.declared.names.Use.TheVariants as variant;
+ghost use Rattle.mini_laws.specs.References.{references};
+ghost use Rattle.mini_laws.specs.Resolved.{resolved_program, symbols};
 ghost use Rattle.mini_scope.specs.Pointers.{early_fault};
 ghost use Rattle.mini_context.specs.Facts.{Tells};
 

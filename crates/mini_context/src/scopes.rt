@@ -1,20 +1,20 @@
 //! What is known of the names of a program.
 
 ghost use Rattle.std.specs.Prelude.{◌≡◌, ◌+◌, ◌^◌, ◌<◌, ℕ, Bool, List, ◌||◌, not, length, map, replicate, false, slice_index, IfOk, OnOk};
-ghost use Rattle.mini_names.specs.declared.Use.TheVariants as variant;
-ghost use Rattle.mini_names.specs.References.{references, reads as is_read, writes as is_write};
-ghost use Rattle.mini_names.specs.ScopeList.{scope_of_symbol, scopes_of, seen_by_eval as seen_names};
-ghost use Rattle.mini_names.specs.Shared.{program_var_writes, script_tops as script_tops_of};
+ghost use Rattle.mini_laws.specs.declared.names.Use.TheVariants as variant;
+ghost use Rattle.mini_laws.specs.References.{references, reads as is_read, writes as is_write};
+ghost use Rattle.mini_laws.specs.ScopeList.{scope_of_symbol, scopes_of, seen_by_eval as seen_names};
+ghost use Rattle.mini_laws.specs.Shared.{program_var_writes, script_tops as script_tops_of};
 ghost use Rattle.mini_context.specs.declared.mentions.Mentioned.TheVariants as mentioned;
 ghost use Rattle.mini_context.specs.Mentioned.{is_outside as is_outside_of, mentioned_at as entry_at, Joined};
 ghost use Rattle.mini_context.specs.Own.{is_script_shape};
 ghost use Rattle.mini_context.specs.Facts.{Refreshed, Tells, Told, facts_of, foreign, foreign_always, is_changed, is_changed_outside, may_be_unset, shares, written_in_catch};
 ghost use Rattle.mini_context.specs.Found.{Found};
-ghost use Rattle.mini_names.specs.Foreign.{is_read_early, moments};
-ghost use Rattle.mini_names.specs.Mentions.{outermost};
+ghost use Rattle.mini_laws.specs.Foreign.{is_read_early, moments};
+ghost use Rattle.mini_laws.specs.Mentions.{outermost};
 ghost use Rattle.mini_context.specs.Lists.{holds};
 ghost use Rattle.mini_context.specs.Tables.{mark_at, named, Marked};
-ghost use Rattle.mini_names.specs.Counts.{Contained, FellBy};
+ghost use Rattle.mini_laws.specs.Counts.{Contained, FellBy};
 
 use crate::count::{Counts, count_out, no_counts, own_counts};
 use crate::early::{Moments, empty_moments, no_moments, pass_node};
@@ -27,7 +27,7 @@ use crate::standing::{at_top, first_reading};
 use crate::steps::Steps;
 use crate::survey::{Tables, empty_tables, open_tables, survey_node};
 use mini_model::{OutOfMemory, Shape, SymbolId};
-use mini_names::Use;
+use mini_laws::Use;
 use mini_node::Node;
 use mini_scope::{Environment, OpenScopes};
 use std::alloc::Global;

@@ -2,15 +2,15 @@
 
 ghost use Rattle.std.specs.Prelude.{◌≡◌, ◌<◌};
 ghost use Rattle.mini_model.specs.Tree.{is_absent as is_absent_tree, children, shape_of};
-ghost use Rattle.mini_names.specs.Bodies.{frame_at, frame_of_body, has_superclass as has_superclass_in, no_frame};
-ghost use Rattle.mini_names.specs.Mentions.{around_by as around_by_numbering, around_child, numbering_of as numbering_in, outermost};
+ghost use Rattle.mini_laws.specs.NameBodies.{frame_at, frame_of_body, has_superclass as has_superclass_in, no_frame};
+ghost use Rattle.mini_laws.specs.Mentions.{around_by as around_by_numbering, around_child, numbering_of as numbering_in, outermost};
 ghost use Rattle.mini_node.specs.Children.{number_of};
-ghost use Rattle.mini_names.specs.Foreign.{is_body_by};
+ghost use Rattle.mini_laws.specs.Foreign.{is_body_by};
 ghost use Rattle.mini_context.specs.Visits.{below, first_reading, frame_by, frame_in, is_exchange_shape, is_import_shape, reading_below, top};
 
 use crate::strictness::is_strict_in;
 use mini_model::{MethodDefinitionKind, Shape};
-use mini_names::{Around, Numbering, Use};
+use mini_laws::{Around, Numbering, Use};
 use mini_node::{Node, Nodes};
 use mini_scope::use_of;
 

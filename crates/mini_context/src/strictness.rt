@@ -2,7 +2,7 @@
 
 ghost use Rattle.std.specs.Prelude.{◌≡◌, codes};
 ghost use Rattle.mini_model.specs.Weight.{same_text};
-ghost use Rattle.mini_names.specs.Strict.{has_use_strict as has_use_strict_in, is_strict_in as is_strict_at};
+ghost use Rattle.mini_laws.specs.Strict.{has_use_strict as has_use_strict_in, is_strict_in as is_strict_at};
 
 use mini_model::{Shape, Text};
 

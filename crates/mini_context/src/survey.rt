@@ -2,11 +2,11 @@
 
 ghost use Rattle.std.specs.Prelude.{◌≡◌, ℕ, ◌||◌, ◌&&◌, [], ◌∷◌, nat_eq, ◌<◌, true, false, length, replicate, OnOk};
 ghost use Rattle.mini_model.specs.Tree.{children, shape_of};
-ghost use Rattle.mini_names.specs.Bodies.{own_fixed};
-ghost use Rattle.mini_names.specs.Foreign.{own_lexical, own_pattern_names, own_switched};
-ghost use Rattle.mini_names.specs.Shared.{own_catch_params};
-ghost use Rattle.mini_names.specs.DeclaredNames.{names_of};
-ghost use Rattle.mini_names.specs.declared.Declared.TheVariants as declared;
+ghost use Rattle.mini_laws.specs.NameBodies.{own_fixed};
+ghost use Rattle.mini_laws.specs.Foreign.{own_lexical, own_pattern_names, own_switched};
+ghost use Rattle.mini_laws.specs.Shared.{own_catch_params};
+ghost use Rattle.mini_laws.specs.DeclaredNames.{names_of};
+ghost use Rattle.mini_laws.specs.declared.names.Declared.TheVariants as declared;
 ghost use Rattle.mini_node.specs.Children.{number_of};
 ghost use Rattle.mini_context.specs.Tables.{mark_at, Marked, Noted};
 ghost use Rattle.mini_context.specs.declared.mentions.Mentioned.TheVariants as mentioned;
@@ -23,7 +23,7 @@ use crate::parts::{caught_part, fixed_part, lexical_part, mark_part, pattern_par
 use crate::reach::mark_reached;
 use crate::standing::{Standing, frame_in_body, numbering_of, standing_below};
 use mini_model::{OutOfMemory, OwnedList, Shape};
-use mini_names::{Declared, Numbering};
+use mini_laws::{Declared, Numbering};
 use mini_node::Node;
 use std::alloc::Global;
 

@@ -11,8 +11,8 @@ use Rattle.mini_terms.specs.Calculated.{calculated}
 use Rattle.mini_terms.specs.Parts.{suits, leaves_nothing}
 use Rattle.mini_terms.specs.Plain.{lit}
 use Rattle.mini_rows.specs.Constants.{ConstantContracts}
-use Rattle.mini_walk.specs.Rule.{Applied}
-use Rattle.mini_walk.proofs.Reaching.{moves_once}
+use Rattle.mini_tree.specs.Rule.{Applied}
+use Rattle.mini_tree.proofs.Reaching.{moves_once}
 use Rattle.mini_fold.specs.FoldConstants.{is_lighter, replaces, literal_of, written_by, written, Gives, Rests, WrittenIsRow, UnwrittenRests}
 
 nothing : {A : Type 0} {a : A} {B : Type 0} → None ≡ Some a → B

@@ -17,8 +17,8 @@ use Rattle.mini_terms.specs.Parts.{suits, leaves_nothing, weighs}
 use Rattle.mini_rows.specs.Folding.{names_exports, loosened, Row12, Row13, Row22, Row28, FoldingRow}
 use Rattle.mini_rows.specs.Spellings.{binary}
 use Rattle.mini_rows.proofs.FoldWeights.{lighter}
-use Rattle.mini_walk.specs.Rule.{Applied}
-use Rattle.mini_walk.proofs.Reaching.{moves_once}
+use Rattle.mini_tree.specs.Rule.{Applied}
+use Rattle.mini_tree.proofs.Reaching.{moves_once}
 use Rattle.mini_fold.specs.MinimizeBinary.{loosened_by, with_operator, written_by}
 use Rattle.mini_fold.specs.MinimizeBinary as equality
 use Rattle.mini_fold.specs.FoldKnown.{is_passed, is_stopped, side, logical_written, folded, written, does_nothing, statement_written, Gives, Rests, WrittenIsRow, StatementIsRow, UnwrittenRests, StatementRests}

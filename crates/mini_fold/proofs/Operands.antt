@@ -27,8 +27,8 @@ use Rattle.mini_rows.specs.Choices.{loosely}
 use Rattle.mini_rows.specs.Operands.{beside, told_by, Row14, Row7, OperandRow}
 use Rattle.mini_rows.specs.Spellings.{negated_digit, text}
 use Rattle.mini_rows.proofs.OperandWeights.{lighter}
-use Rattle.mini_walk.specs.Rule.{Applied}
-use Rattle.mini_walk.proofs.Reaching.{moves_once}
+use Rattle.mini_tree.specs.Rule.{Applied}
+use Rattle.mini_tree.proofs.Reaching.{moves_once}
 use Rattle.mini_fold.specs.FoldOperands.{is_redundant, logical_written, is_empty, is_string_kind, is_text, text_written, negated_truth, truth_in, is_boolean_kind, is_told, right_written, left_written, either_written, equal_written, binary_written, written_by, written, Gives, Rests}
 
 or_true : (b : Bool) → b || true ≡ true

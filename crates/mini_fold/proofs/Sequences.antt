@@ -14,8 +14,8 @@ use Rattle.mini_node.specs.Made.{logical_is, conditional_is, negation_is, sequen
 use Rattle.mini_node.specs.Walks.{next_child, no_rest}
 use Rattle.mini_rows.specs.Sequences.{Operation, Decides, Chooses, Negates, over, is_open_seat, Row20, Row21, SequenceRow}
 use Rattle.mini_rows.proofs.SequenceWeights.{lighter}
-use Rattle.mini_walk.specs.Rule.{Applied}
-use Rattle.mini_walk.proofs.Reaching.{moves_once}
+use Rattle.mini_tree.specs.Rule.{Applied}
+use Rattle.mini_tree.proofs.Reaching.{moves_once}
 use Rattle.mini_fold.specs.FoldSequences.{has_several, is_several, last_of, but_last, is_operation, is_lifted, with_first, parts_of_first, lifted, any_of, is_nested, spread_at, Gives, Rests}
 
 pub several_by_count : (ts : Trees) → nat_le 2 (count ts) ≡ has_several ts

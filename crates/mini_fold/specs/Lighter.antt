@@ -4,7 +4,7 @@ use Rattle.mini_rows.proofs.ConstantWeights as constant_weights
 use Rattle.mini_rows.proofs.FoldWeights.{lightens}
 use Rattle.mini_rows.proofs.OperandWeights as operand_weights
 use Rattle.mini_rows.proofs.SequenceWeights as sequence_weights
-use Rattle.mini_walk.specs.Rule.{IsLighter}
+use Rattle.mini_tree.specs.Rule.{IsLighter}
 use Rattle.mini_fold.specs.FoldConstants as constants
 use Rattle.mini_fold.specs.FoldKnown as folding
 use Rattle.mini_fold.specs.FoldOperands as operands

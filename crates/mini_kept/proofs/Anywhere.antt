@@ -1,8 +1,8 @@
 -- Whether a tree has early errors doesn't depend on where it stands.
 use Rattle.std.specs.Prelude.{ℕ, suc, ◌≡◌, refl, Bool, true, false, [], ◌∷◌, ◌++◌, if◌then◌else◌}
 use Rattle.mini_model.specs.Tree.{Tree, Trees, node, none, ◌▸◌}
-use Rattle.mini_names.specs.declared.Targets.{Targets}
-use Rattle.mini_names.specs.Early.{Path, clash_of, declarations_by, scope_declarations, clashing, early_names, all_early_names, is_bad_jump, targets_of, early_jumps, all_early_jumps}
+use Rattle.mini_laws.specs.declared.names.Targets.{Targets}
+use Rattle.mini_laws.specs.Early.{Path, clash_of, declarations_by, scope_declarations, clashing, early_names, all_early_names, is_bad_jump, targets_of, early_jumps, all_early_jumps}
 use Rattle.mini_kept.proofs.Below.{empty_both, both_empty}
 use Rattle.mini_kept.proofs.Unplaced.{scope_same, scope_itself, free_same}
 

@@ -7,26 +7,26 @@ use Rattle.mini_model.specs.declared.shape.Shape.{Shape}
 use Rattle.mini_model.specs.declared.shape.Shape.TheVariants as shape
 use Rattle.mini_model.specs.Tree.{Tree, Trees, node, none, ◌▸◌, count, shape_of, child_or_absent}
 use Rattle.mini_model.specs.Position.{child_position}
-use Rattle.mini_names.specs.declared.Use.{Use}
-use Rattle.mini_names.specs.declared.Binding.{Binding}
-use Rattle.mini_names.specs.declared.Declared.{Declared}
-use Rattle.mini_names.specs.declared.Declared.TheVariants as declared
-use Rattle.mini_names.specs.declared.Declaration.{Declaration}
-use Rattle.mini_names.specs.declared.Clash.{Clash}
-use Rattle.mini_names.specs.declared.Clash.TheVariants as clash
-use Rattle.mini_names.specs.declared.Jump.{Jump}
-use Rattle.mini_names.specs.declared.Jump.TheVariants as jump
-use Rattle.mini_names.specs.declared.Place.{Place}
-use Rattle.mini_names.specs.declared.Place.TheVariants as place
-use Rattle.mini_names.specs.declared.Turn.{Turn}
-use Rattle.mini_names.specs.declared.Turn.TheVariants as turn
-use Rattle.mini_names.specs.declared.Targets.{Targets}
-use Rattle.mini_names.specs.DeclaredNames.{place_of, names_by, names_of, first_names, all_names, is_statement_list, body_names, all_body_names, is_inner, has_inner, any_inner}
-use Rattle.mini_names.specs.Scopes.{use_of, opening_of, opened}
-use Rattle.mini_names.specs.Resolved.{Environment}
-use Rattle.mini_names.specs.Scoped.{Scoped, AllScoped}
-use Rattle.mini_names.specs.Symbols.{declared as declared_in, Within}
-use Rattle.mini_names.specs.Early.{Path, declarations, holds_statements, statement_declarations, body_declarations, all_body_declarations, is_pattern_shape, clash_of, at_child, in_body, children_of_node, in_param, in_block, declarations_by, scope_declarations, clashing, early_names, all_early_names, label_by, label_in, is_loop_shape, is_labeled, is_loop, last_is_loop, last_by, turn_of, label_for, turned, targets_of, jump_of, is_bad, is_bad_jump, early_jumps, all_early_jumps}
+use Rattle.mini_laws.specs.declared.names.Use.{Use}
+use Rattle.mini_laws.specs.declared.names.Binding.{Binding}
+use Rattle.mini_laws.specs.declared.names.Declared.{Declared}
+use Rattle.mini_laws.specs.declared.names.Declared.TheVariants as declared
+use Rattle.mini_laws.specs.declared.names.Declaration.{Declaration}
+use Rattle.mini_laws.specs.declared.names.Clash.{Clash}
+use Rattle.mini_laws.specs.declared.names.Clash.TheVariants as clash
+use Rattle.mini_laws.specs.declared.names.Jump.{Jump}
+use Rattle.mini_laws.specs.declared.names.Jump.TheVariants as jump
+use Rattle.mini_laws.specs.declared.names.Place.{Place}
+use Rattle.mini_laws.specs.declared.names.Place.TheVariants as place
+use Rattle.mini_laws.specs.declared.names.Turn.{Turn}
+use Rattle.mini_laws.specs.declared.names.Turn.TheVariants as turn
+use Rattle.mini_laws.specs.declared.names.Targets.{Targets}
+use Rattle.mini_laws.specs.DeclaredNames.{place_of, names_by, names_of, first_names, all_names, is_statement_list, body_names, all_body_names, is_inner, has_inner, any_inner}
+use Rattle.mini_laws.specs.Scopes.{use_of, opening_of, opened}
+use Rattle.mini_laws.specs.Resolved.{Environment}
+use Rattle.mini_laws.specs.Scoped.{Scoped, AllScoped}
+use Rattle.mini_laws.specs.Symbols.{declared as declared_in, Within}
+use Rattle.mini_laws.specs.Early.{Path, declarations, holds_statements, statement_declarations, body_declarations, all_body_declarations, is_pattern_shape, clash_of, at_child, in_body, children_of_node, in_param, in_block, declarations_by, scope_declarations, clashing, early_names, all_early_names, label_by, label_in, is_loop_shape, is_labeled, is_loop, last_is_loop, last_by, turn_of, label_for, turned, targets_of, jump_of, is_bad, is_bad_jump, early_jumps, all_early_jumps}
 use Rattle.mini_kept.specs.Carried.{numbers, all_numbers, with_number}
 use Rattle.mini_kept.specs.KeepsNames.{Stands, is_rewritten_place, NamesOnce, HasTargets, count_of}
 use Rattle.mini_kept.specs.KeepsLoosely.{is_member, has_member, any_member, InnerKept, KeepsLoosely}

@@ -4,9 +4,9 @@ use Rattle.std.proofs.Common.{ap, ◌∙◌, sym, subst, inl, inr, arith}
 use Rattle.mini_model.specs.declared.name.Name.{Name}
 use Rattle.mini_model.specs.Weight.{same_text}
 use Rattle.mini_accept.specs.WellShaped.{is_same_flag}
-use Rattle.mini_names.specs.declared.Declaration.{Declaration}
-use Rattle.mini_names.specs.DeclaredNames.{is_spelled}
-use Rattle.mini_names.specs.Early.{Path, own_declarations, clashes_any, clashing}
+use Rattle.mini_laws.specs.declared.names.Declaration.{Declaration}
+use Rattle.mini_laws.specs.DeclaredNames.{is_spelled}
+use Rattle.mini_laws.specs.Early.{Path, own_declarations, clashes_any, clashing}
 use Rattle.mini_kept.specs.KeepsNames.{unplaced}
 use Rattle.mini_kept.specs.SameNames.{is_name, is_among, SameNames, counted, NoMoreClash}
 use Rattle.mini_kept.proofs.SameScopes.{same_texts, text_itself, same_name, name_itself}

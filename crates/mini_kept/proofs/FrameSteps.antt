@@ -11,9 +11,9 @@ use Rattle.mini_model.specs.Tree.{Tree, Trees, node, none, ◌▸◌, count, chi
 use Rattle.mini_model.specs.Position.{child_position}
 use Rattle.mini_model.specs.Rewriting.{Step, here, inside, StepIn, first, later, Reaches, done, more}
 use Rattle.mini_accept.specs.WellShaped.{Depth, in_module, in_body, Class, a_program, a_statement, an_exported_declaration, a_default_export, Slot, one, one_or_absent, many, Filling, refused, these, each, each_or_last, pieces, filling, class_of, is_whole, has_its_number, has_names, has_plain_fields, has_its_parts, is_strict_in, is_last, fits, fill, IsWellShaped}
-use Rattle.mini_names.specs.declared.Declared.TheVariants as declared
+use Rattle.mini_laws.specs.declared.names.Declared.TheVariants as declared
 use Rattle.mini_model.specs.declared.kind.VariableDeclarationKind.TheVariants.{Var, Let, Const}
-use Rattle.mini_names.specs.DeclaredNames.{names_of, all_names, first_names, body_names}
+use Rattle.mini_laws.specs.DeclaredNames.{names_of, all_names, first_names, body_names}
 use Rattle.mini_kept.specs.SameNames.{is_among, SameNames}
 use Rattle.mini_kept.proofs.Statements.{same_both}
 use Rattle.mini_kept.proofs.Below.{all_bound, first_bound}

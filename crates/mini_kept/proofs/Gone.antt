@@ -7,14 +7,14 @@ use Rattle.mini_model.specs.declared.name.SymbolId.{SymbolId}
 use Rattle.mini_model.specs.declared.place.Position.{Position}
 use Rattle.mini_model.specs.Tree.{Tree, Trees, node, none, ◌▸◌}
 use Rattle.mini_model.specs.Rewriting.{Step, here, inside, StepIn, first, later}
-use Rattle.mini_names.specs.declared.Use.{Use}
-use Rattle.mini_names.specs.declared.Binding.{Binding}
-use Rattle.mini_names.specs.Scopes.{use_of, opening_of, scopes_by, opened}
-use Rattle.mini_names.specs.Resolved.{Environment, or_else, is_for, own_symbol, symbol_of}
-use Rattle.mini_names.specs.Scoped.{NamesScoped, Scoped, AllScoped}
-use Rattle.mini_names.specs.Symbols.{symbols_in, declared as declared_in, declared_from, is_same, times}
-use Rattle.mini_names.specs.Edits.{Kept, AllKept}
-use Rattle.mini_names.proofs.Changes.{as_it_is, below, scopes_kept, at_same, times_both, times_three}
+use Rattle.mini_laws.specs.declared.names.Use.{Use}
+use Rattle.mini_laws.specs.declared.names.Binding.{Binding}
+use Rattle.mini_laws.specs.Scopes.{use_of, opening_of, scopes_by, opened}
+use Rattle.mini_laws.specs.Resolved.{Environment, or_else, is_for, own_symbol, symbol_of}
+use Rattle.mini_laws.specs.Scoped.{NamesScoped, Scoped, AllScoped}
+use Rattle.mini_laws.specs.Symbols.{symbols_in, declared as declared_in, declared_from, is_same, times}
+use Rattle.mini_laws.specs.Edits.{Kept, AllKept}
+use Rattle.mini_laws.proofs.Changes.{as_it_is, below, scopes_kept, at_same, times_both, times_three}
 use Rattle.mini_laws.specs.Value.{Declared, variables, variable_eq, variable_by}
 use Rattle.mini_laws.specs.Congruence.{NoneIn, Avoids, AllAvoid}
 use Rattle.mini_laws.specs.Substitution.{alone}

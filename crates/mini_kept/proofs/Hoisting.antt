@@ -7,18 +7,18 @@ use Rattle.mini_model.specs.declared.name.Name.{Name}
 use Rattle.mini_model.specs.declared.shape.Shape.TheVariants as shape
 use Rattle.mini_model.specs.Tree.{Tree, Trees, node, none, ◌▸◌}
 use Rattle.mini_model.specs.Weight.{same_text}
-use Rattle.mini_names.specs.declared.Use.{Use}
-use Rattle.mini_names.specs.declared.Use.TheVariants.{Hoisted}
-use Rattle.mini_names.specs.declared.Binding.{Binding}
-use Rattle.mini_names.specs.declared.Declared.TheVariants as declared
-use Rattle.mini_names.specs.declared.Opening.{Opening}
-use Rattle.mini_names.specs.declared.Opening.TheVariants as opening
-use Rattle.mini_names.specs.DeclaredNames.{names_of, first_names, all_names}
-use Rattle.mini_names.specs.Scopes.{use_of, opening_of, scopes_by, at_or_empty, opened}
-use Rattle.mini_names.specs.Resolved.{Environment, or_else, own_symbol, symbol_of}
-use Rattle.mini_names.specs.Scoped.{NamesScoped, Scoped, AllScoped}
-use Rattle.mini_names.proofs.Numbers.{none_if, symbol_of_both}
-use Rattle.mini_names.proofs.Kept.{NoHoists}
+use Rattle.mini_laws.specs.declared.names.Use.{Use}
+use Rattle.mini_laws.specs.declared.names.Use.TheVariants.{Hoisted}
+use Rattle.mini_laws.specs.declared.names.Binding.{Binding}
+use Rattle.mini_laws.specs.declared.names.Declared.TheVariants as declared
+use Rattle.mini_laws.specs.declared.names.Opening.{Opening}
+use Rattle.mini_laws.specs.declared.names.Opening.TheVariants as opening
+use Rattle.mini_laws.specs.DeclaredNames.{names_of, first_names, all_names}
+use Rattle.mini_laws.specs.Scopes.{use_of, opening_of, scopes_by, at_or_empty, opened}
+use Rattle.mini_laws.specs.Resolved.{Environment, or_else, own_symbol, symbol_of}
+use Rattle.mini_laws.specs.Scoped.{NamesScoped, Scoped, AllScoped}
+use Rattle.mini_laws.proofs.Numbers.{none_if, symbol_of_both}
+use Rattle.mini_laws.proofs.Kept.{NoHoists}
 
 both_scoped : (u : Use) (env : Environment) (xs ys : List Name) → NamesScoped u env xs → NamesScoped u env ys → NamesScoped u env (xs ++ ys)
 both_scoped u env [] ys a b = b

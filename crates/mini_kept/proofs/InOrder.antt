@@ -2,8 +2,8 @@
 use Rattle.std.proofs.Common.{ap, inl}
 use Rattle.mini_model.specs.declared.place.Position.{Position}
 use Rattle.mini_model.specs.Tree.{Tree}
-use Rattle.mini_names.specs.declared.Declared.TheVariants.{Bound, Lexical, Hoisted}
-use Rattle.mini_names.specs.Early.{body_declarations, in_body, children_of_node}
+use Rattle.mini_laws.specs.declared.names.Declared.TheVariants.{Bound, Lexical, Hoisted}
+use Rattle.mini_laws.specs.Early.{body_declarations, in_body, children_of_node}
 use Rattle.mini_kept.specs.KeepsNames.{Keeps}
 use Rattle.mini_kept.specs.KeepsLoosely.{KeepsLoosely}
 use Rattle.mini_kept.specs.SameNames.{is_among, first_symbol}

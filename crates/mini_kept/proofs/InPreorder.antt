@@ -4,8 +4,8 @@ use Rattle.std.proofs.Common.{ap, ◌∙◌, sym, subst, inl, inr, arith}
 use Rattle.std.proofs.lemmas.Bool.{eqb-true, eqb-false}
 use Rattle.mini_model.specs.declared.name.SymbolId.{SymbolId}
 use Rattle.mini_model.specs.Tree.{Tree, Trees, node, none, ◌▸◌}
-use Rattle.mini_names.specs.Resolved.{resolved_program}
-use Rattle.mini_names.specs.Symbols.{mapped, all_mapped, bare}
+use Rattle.mini_laws.specs.Resolved.{resolved_program}
+use Rattle.mini_laws.specs.Symbols.{mapped, all_mapped, bare}
 use Rattle.mini_accept.specs.Symbols.{has_no_symbol}
 use Rattle.mini_accept.specs.Numbered.{number_after, next_after, next_among}
 use Rattle.mini_accept.specs.WellShaped.{IsWellShaped}

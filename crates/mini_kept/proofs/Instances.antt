@@ -15,20 +15,20 @@ use Rattle.mini_model.specs.Position.{statement_expression_seat, left_operand_se
 use Rattle.mini_model.specs.Terms.{neg, not_of}
 use Rattle.mini_model.specs.Redex.{Row, Contracts}
 use Rattle.mini_accept.specs.WellShaped.{Slot, fits}
-use Rattle.mini_names.specs.declared.Use.{Use}
-use Rattle.mini_names.specs.declared.Use.TheVariants.{Read}
-use Rattle.mini_names.specs.declared.Declared.{Declared}
-use Rattle.mini_names.specs.declared.Declared.TheVariants as declared
-use Rattle.mini_names.specs.declared.Targets.{Targets}
-use Rattle.mini_names.specs.DeclaredNames.{names_of, body_names, has_inner}
-use Rattle.mini_names.specs.Scopes.{scopes_by}
-use Rattle.mini_names.specs.Resolved.{Environment}
-use Rattle.mini_names.specs.Scoped.{Scoped}
-use Rattle.mini_names.specs.Symbols.{declared as declared_in, times}
-use Rattle.mini_names.specs.Edits.{Kept}
-use Rattle.mini_names.specs.Early.{Path, declarations, body_declarations, scope_declarations, early_names, targets_of, early_jumps, is_loop}
-use Rattle.mini_names.proofs.Changes.{times_both, by_swap}
-use Rattle.mini_names.proofs.Drops.{moved}
+use Rattle.mini_laws.specs.declared.names.Use.{Use}
+use Rattle.mini_laws.specs.declared.names.Use.TheVariants.{Read}
+use Rattle.mini_laws.specs.declared.names.Declared.{Declared}
+use Rattle.mini_laws.specs.declared.names.Declared.TheVariants as declared
+use Rattle.mini_laws.specs.declared.names.Targets.{Targets}
+use Rattle.mini_laws.specs.DeclaredNames.{names_of, body_names, has_inner}
+use Rattle.mini_laws.specs.Scopes.{scopes_by}
+use Rattle.mini_laws.specs.Resolved.{Environment}
+use Rattle.mini_laws.specs.Scoped.{Scoped}
+use Rattle.mini_laws.specs.Symbols.{declared as declared_in, times}
+use Rattle.mini_laws.specs.Edits.{Kept}
+use Rattle.mini_laws.specs.Early.{Path, declarations, body_declarations, scope_declarations, early_names, targets_of, early_jumps, is_loop}
+use Rattle.mini_laws.proofs.Changes.{times_both, by_swap}
+use Rattle.mini_laws.proofs.Drops.{moved}
 use Rattle.mini_kept.proofs.Expressions.{expression, of_negation, neg_fits}
 use Rattle.mini_kept.proofs.Rows.{of_if}
 use Rattle.mini_kept.specs.Carried.{numbers}

@@ -5,7 +5,7 @@ use Rattle.mini_model.specs.declared.place.Position.{Position}
 use Rattle.mini_model.specs.declared.place.Position.TheVariants.{Elsewhere}
 use Rattle.mini_model.specs.declared.shape.Shape.TheVariants as shape
 use Rattle.mini_model.specs.Tree.{Tree, Trees, node, shape_of, children}
-use Rattle.mini_names.specs.DeclaredNames.{own_names}
+use Rattle.mini_laws.specs.DeclaredNames.{own_names}
 use Rattle.mini_kept.specs.Carried.{number_of}
 use Rattle.mini_kept.specs.Frames.{has_key}
 use Rattle.mini_kept.proofs.Expressions.{refused_here}

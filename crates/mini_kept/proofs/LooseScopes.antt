@@ -5,18 +5,18 @@ use Rattle.mini_model.specs.declared.name.Name.{Name}
 use Rattle.mini_model.specs.declared.name.SymbolId.{SymbolId}
 use Rattle.mini_model.specs.declared.place.Position.{Position}
 use Rattle.mini_model.specs.Tree.{Tree, Trees, node, none, ◌▸◌}
-use Rattle.mini_names.specs.declared.Use.{Use}
-use Rattle.mini_names.specs.declared.Binding.{Binding}
-use Rattle.mini_names.specs.declared.Declared.TheVariants as declared
-use Rattle.mini_names.specs.declared.Opening.{Opening}
-use Rattle.mini_names.specs.declared.Opening.TheVariants as opening
-use Rattle.mini_names.specs.DeclaredNames.{names_of, body_names, bound_names}
-use Rattle.mini_names.specs.Scopes.{use_of, scopes_by, at_or_empty, opened, lexical_scope, body_scope, merged, name_if}
-use Rattle.mini_names.specs.Resolved.{Environment, or_else, symbol_of}
-use Rattle.mini_names.specs.Scoped.{NamesScoped, Scoped, AllScoped}
-use Rattle.mini_names.specs.Symbols.{symbols_in, declared as declared_in, declared_from, times, Within}
-use Rattle.mini_names.proofs.Changes.{times_both}
-use Rattle.mini_names.proofs.Numbers.{symbol_of_both}
+use Rattle.mini_laws.specs.declared.names.Use.{Use}
+use Rattle.mini_laws.specs.declared.names.Binding.{Binding}
+use Rattle.mini_laws.specs.declared.names.Declared.TheVariants as declared
+use Rattle.mini_laws.specs.declared.names.Opening.{Opening}
+use Rattle.mini_laws.specs.declared.names.Opening.TheVariants as opening
+use Rattle.mini_laws.specs.DeclaredNames.{names_of, body_names, bound_names}
+use Rattle.mini_laws.specs.Scopes.{use_of, scopes_by, at_or_empty, opened, lexical_scope, body_scope, merged, name_if}
+use Rattle.mini_laws.specs.Resolved.{Environment, or_else, symbol_of}
+use Rattle.mini_laws.specs.Scoped.{NamesScoped, Scoped, AllScoped}
+use Rattle.mini_laws.specs.Symbols.{symbols_in, declared as declared_in, declared_from, times, Within}
+use Rattle.mini_laws.proofs.Changes.{times_both}
+use Rattle.mini_laws.proofs.Numbers.{symbol_of_both}
 use Rattle.mini_kept.specs.KeepsNames.{Stands}
 use Rattle.mini_kept.specs.KeepsLoosely.{has_member, InnerKept, KeepsLoosely}
 use Rattle.mini_kept.specs.SameNames.{SameScope}

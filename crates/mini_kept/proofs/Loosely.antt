@@ -8,9 +8,9 @@ use Rattle.mini_model.specs.Tree.{Tree, Trees, node, ◌▸◌, count}
 use Rattle.mini_model.specs.Position.{child_position}
 use Rattle.mini_model.specs.Rewriting.{Step, here, inside, StepIn, first, later, Reaches, done, more}
 use Rattle.mini_accept.specs.WellShaped.{one, a_program, IsWellShaped}
-use Rattle.mini_names.specs.declared.Use.TheVariants.{Read}
-use Rattle.mini_names.specs.Scoped.{Scoped}
-use Rattle.mini_names.specs.Symbols.{declared_symbols, times, Distinct, Within}
+use Rattle.mini_laws.specs.declared.names.Use.TheVariants.{Read}
+use Rattle.mini_laws.specs.Scoped.{Scoped}
+use Rattle.mini_laws.specs.Symbols.{declared_symbols, times, Distinct, Within}
 use Rattle.mini_laws.specs.Value.{Declared, Global, VariableSet, nothing}
 use Rattle.mini_laws.specs.State.{Environment}
 use Rattle.mini_laws.specs.Naming.{summary}

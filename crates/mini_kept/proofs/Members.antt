@@ -7,12 +7,12 @@ use Rattle.mini_model.specs.declared.shape.Shape.{Shape}
 use Rattle.mini_model.specs.declared.shape.Shape.TheVariants as shape
 use Rattle.mini_model.specs.Tree.{Tree, Trees, node, none, ◌▸◌}
 use Rattle.mini_accept.specs.WellShaped.{in_module, in_body, nested, Class, a_statement, a_method, a_parameter, a_key, a_private_or_key, an_inner, an_inner_key, a_pattern, a_pattern_element, a_pattern_property, a_pattern_rest, Slot, one, one_or_absent, many, many_or_holes, many_and_rest, many_or_holes_and_rest, quasis, Filling, refused, these, each, each_or_last, pieces, slots_of, filling, filling_by, class_of, is_whole, is_strict_in, is_last, fits, fill}
-use Rattle.mini_names.specs.declared.Use.{Use}
-use Rattle.mini_names.specs.DeclaredNames.{is_inner}
+use Rattle.mini_laws.specs.declared.names.Use.{Use}
+use Rattle.mini_laws.specs.DeclaredNames.{is_inner}
 use Rattle.mini_model.specs.declared.kind.VariableDeclarationKind.{VariableDeclarationKind}
 use Rattle.mini_model.specs.declared.kind.VariableDeclarationKind.TheVariants.{Var, Let, Const}
-use Rattle.mini_names.specs.declared.Opening.TheVariants as opening
-use Rattle.mini_names.specs.Scopes.{is_alone, variable_opening, opening_of}
+use Rattle.mini_laws.specs.declared.names.Opening.TheVariants as opening
+use Rattle.mini_laws.specs.Scopes.{is_alone, variable_opening, opening_of}
 use Rattle.mini_kept.specs.KeepsLoosely.{is_member, has_member, any_member}
 use Rattle.mini_kept.proofs.Bools.{left, right}
 use Rattle.mini_kept.proofs.Expressions.{refused_here}

@@ -10,7 +10,7 @@ use Rattle.mini_model.specs.Rewriting.{Step, here, inside, StepIn, first, later}
 use Rattle.mini_kept.specs.KeepsNames.{is_rewritten_place}
 use Rattle.mini_kept.specs.Frames.{unbracketed}
 use Rattle.mini_kept.proofs.Unbracketed.{same_by, absent_plain}
-use Rattle.mini_names.specs.DeclaredNames.{own_names}
+use Rattle.mini_laws.specs.DeclaredNames.{own_names}
 use Rattle.mini_kept.specs.Lifted.{KeepsNames, KeepsRoot}
 
 abbrev pub names_of : Tree → List Name

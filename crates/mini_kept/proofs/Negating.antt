@@ -16,16 +16,16 @@ use Rattle.mini_model.specs.Weight.{weight}
 use Rattle.mini_model.specs.Position.{is_equality}
 use Rattle.mini_model.specs.Terms.{is_boolean, turned_seat, unwrapped, turned_equality, neg, neg_each, not_of}
 use Rattle.std.specs.Prelude.{Option}
-use Rattle.mini_names.specs.declared.Use.TheVariants.{Read}
-use Rattle.mini_names.specs.declared.Targets.{Targets}
-use Rattle.mini_names.specs.DeclaredNames.{has_inner, any_inner}
-use Rattle.mini_names.specs.Scopes.{scopes_by}
-use Rattle.mini_names.specs.Resolved.{Environment}
-use Rattle.mini_names.specs.Scoped.{Scoped, AllScoped}
-use Rattle.mini_names.specs.Symbols.{declared as declared_in, declared_from, times}
-use Rattle.mini_names.specs.Early.{Path, scope_declarations, early_names, all_early_names, targets_of, early_jumps, all_early_jumps}
-use Rattle.mini_names.proofs.Changes.{times_both}
-use Rattle.mini_names.proofs.Drops.{moved}
+use Rattle.mini_laws.specs.declared.names.Use.TheVariants.{Read}
+use Rattle.mini_laws.specs.declared.names.Targets.{Targets}
+use Rattle.mini_laws.specs.DeclaredNames.{has_inner, any_inner}
+use Rattle.mini_laws.specs.Scopes.{scopes_by}
+use Rattle.mini_laws.specs.Resolved.{Environment}
+use Rattle.mini_laws.specs.Scoped.{Scoped, AllScoped}
+use Rattle.mini_laws.specs.Symbols.{declared as declared_in, declared_from, times}
+use Rattle.mini_laws.specs.Early.{Path, scope_declarations, early_names, all_early_names, targets_of, early_jumps, all_early_jumps}
+use Rattle.mini_laws.proofs.Changes.{times_both}
+use Rattle.mini_laws.proofs.Drops.{moved}
 use Rattle.mini_kept.specs.Carried.{numbers, all_numbers, with_number}
 use Rattle.mini_kept.specs.KeepsNames.{count_of}
 use Rattle.mini_kept.proofs.Below.{both_counts, empty_both, both_empty}

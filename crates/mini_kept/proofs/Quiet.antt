@@ -10,16 +10,16 @@ use Rattle.mini_model.specs.declared.shape.Shape.TheVariants as shape
 use Rattle.mini_model.specs.Tree.{Tree, Trees, node, none, ◌▸◌, shape_of}
 use Rattle.mini_accept.specs.WellShaped.{fits}
 use Rattle.std.specs.Prelude.{Option}
-use Rattle.mini_names.specs.declared.Use.{Use}
-use Rattle.mini_names.specs.declared.Use.TheVariants.{Read}
-use Rattle.mini_names.specs.declared.Binding.{Binding}
-use Rattle.mini_names.specs.declared.Declared.{Declared}
-use Rattle.mini_names.specs.declared.Declared.TheVariants as declared
-use Rattle.mini_names.specs.declared.Place.TheVariants as place
-use Rattle.mini_names.specs.DeclaredNames.{place_of, names_by, names_of, first_names, all_names, is_statement_list, body_names, all_body_names}
-use Rattle.mini_names.specs.Scopes.{use_of, opening_of, opened, scopes_by, at_or_empty}
-use Rattle.mini_names.specs.Symbols.{symbols_in, declared as declared_in, declared_from}
-use Rattle.mini_names.specs.Early.{Path, choose_by, own_declarations, declarations, first_declarations, all_declarations, is_function_shape, holds_statements, body_declarations, all_body_declarations, is_loop, is_labeled, is_loop_shape, last_is_loop}
+use Rattle.mini_laws.specs.declared.names.Use.{Use}
+use Rattle.mini_laws.specs.declared.names.Use.TheVariants.{Read}
+use Rattle.mini_laws.specs.declared.names.Binding.{Binding}
+use Rattle.mini_laws.specs.declared.names.Declared.{Declared}
+use Rattle.mini_laws.specs.declared.names.Declared.TheVariants as declared
+use Rattle.mini_laws.specs.declared.names.Place.TheVariants as place
+use Rattle.mini_laws.specs.DeclaredNames.{place_of, names_by, names_of, first_names, all_names, is_statement_list, body_names, all_body_names}
+use Rattle.mini_laws.specs.Scopes.{use_of, opening_of, opened, scopes_by, at_or_empty}
+use Rattle.mini_laws.specs.Symbols.{symbols_in, declared as declared_in, declared_from}
+use Rattle.mini_laws.specs.Early.{Path, choose_by, own_declarations, declarations, first_declarations, all_declarations, is_function_shape, holds_statements, body_declarations, all_body_declarations, is_loop, is_labeled, is_loop_shape, last_is_loop}
 use Rattle.mini_kept.proofs.Expressions.{expression, refused_here}
 
 -- the shapes that declare, hold statements or hand on how they are used

@@ -3,11 +3,11 @@ use Rattle.std.specs.Prelude.{ℕ, ◌≡◌, refl, [], ◌∷◌, ◌++◌, map
 use Rattle.std.proofs.Common.{ap, ◌∙◌, sym, subst}
 use Rattle.mini_model.specs.declared.name.SymbolId.{SymbolId}
 use Rattle.mini_model.specs.Tree.{Tree, Trees, node, none, ◌▸◌}
-use Rattle.mini_names.specs.declared.Use.TheVariants.{Read}
-use Rattle.mini_names.specs.Resolved.{resolved_program}
-use Rattle.mini_names.specs.Scoped.{Scoped}
-use Rattle.mini_names.specs.Symbols.{mapped, all_mapped, with_new, bare, renamed, new_symbol, declared_symbols, Distinct}
-use Rattle.mini_names.proofs.Places.{renamed_again}
+use Rattle.mini_laws.specs.declared.names.Use.TheVariants.{Read}
+use Rattle.mini_laws.specs.Resolved.{resolved_program}
+use Rattle.mini_laws.specs.Scoped.{Scoped}
+use Rattle.mini_laws.specs.Symbols.{mapped, all_mapped, with_new, bare, renamed, new_symbol, declared_symbols, Distinct}
+use Rattle.mini_laws.proofs.Places.{renamed_again}
 use Rattle.mini_accept.specs.Numbered.{next_after}
 use Rattle.mini_kept.specs.Carried.{renumbered, all_renumbered, numbers, all_numbers, with_number, number_of, number_at, NumberedAlike, carried}
 use Rattle.mini_kept.proofs.Renumbered.{program_renumbered}

@@ -3,12 +3,12 @@ use Rattle.std.specs.Prelude.{ℕ, zero, suc, ◌≤◌, ◌<◌, ◌≡◌, ref
 use Rattle.std.proofs.Common.{ap, ◌∙◌, sym, subst, arith}
 use Rattle.serde_json.specs.Data.{Data}
 use Rattle.mini_model.specs.Tree.{Tree, Trees, node, children}
-use Rattle.mini_names.specs.declared.Use.TheVariants.{Read}
-use Rattle.mini_names.specs.Early.{early_names, early_jumps, no_targets}
-use Rattle.mini_names.specs.Resolved.{resolved_program}
-use Rattle.mini_names.specs.Symbols.{declared_symbols, Distinct}
-use Rattle.mini_names.proofs.Places.{resolved_distinct}
-use Rattle.mini_names.proofs.Whole.{scoped}
+use Rattle.mini_laws.specs.declared.names.Use.TheVariants.{Read}
+use Rattle.mini_laws.specs.Early.{early_names, early_jumps, no_targets}
+use Rattle.mini_laws.specs.Resolved.{resolved_program}
+use Rattle.mini_laws.specs.Symbols.{declared_symbols, Distinct}
+use Rattle.mini_laws.proofs.Places.{resolved_distinct}
+use Rattle.mini_laws.proofs.Whole.{scoped}
 use Rattle.mini_accept.specs.Accept.{program_at, Accepts}
 use Rattle.mini_accept.specs.Numbered.{next_after}
 use Rattle.mini_accept.specs.Symbols.{has_no_symbol}

@@ -3,16 +3,16 @@ use Rattle.std.specs.Prelude.{ℕ, suc, ◌+◌, ◌≡◌, refl, Bool, true, fa
 use Rattle.std.proofs.Common.{ap, ◌∙◌}
 use Rattle.mini_model.specs.declared.shape.Shape.{Shape}
 use Rattle.mini_model.specs.Tree.{Tree, Trees, node, none, ◌▸◌}
-use Rattle.mini_names.specs.declared.Use.{Use}
-use Rattle.mini_names.specs.declared.Use.TheVariants.{Read}
-use Rattle.mini_names.specs.declared.Binding.{Binding}
-use Rattle.mini_names.specs.declared.Declared.{Declared}
-use Rattle.mini_names.specs.declared.Declared.TheVariants as declared
-use Rattle.mini_names.specs.declared.Opening.{Opening}
-use Rattle.mini_names.specs.declared.Opening.TheVariants as opening
-use Rattle.mini_names.specs.DeclaredNames.{place_of, names_by, names_of, first_names, all_names, is_statement_list, body_names, all_body_names, is_inner, has_inner, any_inner}
-use Rattle.mini_names.specs.Scopes.{use_of, opening_of, scopes_by, at_or_empty, opened, name_if, lexical_scope, body_scope, merged}
-use Rattle.mini_names.specs.Resolved.{Environment, with_symbol, numbered, symbols, symbols_from, resolved, resolved_from, resolved_program}
+use Rattle.mini_laws.specs.declared.names.Use.{Use}
+use Rattle.mini_laws.specs.declared.names.Use.TheVariants.{Read}
+use Rattle.mini_laws.specs.declared.names.Binding.{Binding}
+use Rattle.mini_laws.specs.declared.names.Declared.{Declared}
+use Rattle.mini_laws.specs.declared.names.Declared.TheVariants as declared
+use Rattle.mini_laws.specs.declared.names.Opening.{Opening}
+use Rattle.mini_laws.specs.declared.names.Opening.TheVariants as opening
+use Rattle.mini_laws.specs.DeclaredNames.{place_of, names_by, names_of, first_names, all_names, is_statement_list, body_names, all_body_names, is_inner, has_inner, any_inner}
+use Rattle.mini_laws.specs.Scopes.{use_of, opening_of, scopes_by, at_or_empty, opened, name_if, lexical_scope, body_scope, merged}
+use Rattle.mini_laws.specs.Resolved.{Environment, with_symbol, numbered, symbols, symbols_from, resolved, resolved_from, resolved_program}
 use Rattle.mini_kept.specs.Carried.{renumbered, all_renumbered}
 
 mutual

@@ -8,7 +8,7 @@ use Rattle.mini_model.specs.declared.operator.AssignmentOperator.TheVariants.{As
 use Rattle.mini_model.specs.declared.shape.Shape.{Shape}
 use Rattle.mini_model.specs.declared.shape.Shape.TheVariants as shape
 use Rattle.mini_model.specs.Tree.{Tree, Trees, node, none, ◌▸◌}
-use Rattle.mini_names.specs.Symbols.{with_new, mapped, all_mapped, bare}
+use Rattle.mini_laws.specs.Symbols.{with_new, mapped, all_mapped, bare}
 use Rattle.mini_accept.specs.Symbols.{has_no_symbol}
 use Rattle.mini_accept.specs.WellShaped.{Tagging, Depth, in_module, in_body, nested, Class, a_program, a_statement, a_block, a_case, a_catch, an_init, a_loop_left, a_declarator, a_pattern, a_pattern_element, a_pattern_property, a_pattern_rest, a_parameter, a_binding, a_label, a_private_name, a_function_body, an_arrow_body, a_class_body, a_class_member, a_method, an_expression, a_link, a_chain, an_argument, an_inner_argument, an_inner, a_super, an_object_property, a_key, a_private_or_key, an_inner_key, a_tagged_template, a_target, a_simple_target, an_element_target, a_member_target, a_named_target, a_target_name, a_target_element, a_target_property, a_target_rest, an_import, a_module_name, a_string, an_export, an_exported_name, an_exported_declaration, a_default_export, a_word, Slot, one, one_or_absent, many, many_or_holes, many_and_rest, many_or_holes_and_rest, quasis, is_text, expression_slots, is_optional, none_if, unchained_slots, is_chained, member_slots, pattern_target_slots, pattern_slots, variable_slots, function_slots, or_else, module_slots, in_depth, is_sloppy_function, statement_slots, key_slots, private_or_key_slots, inner_slots, word_slots, slots_of, is_strict_in, is_numbered, has_its_number, has_names, has_plain_fields, has_its_parts, is_whole, is_quasi_by, is_quasi, are_quasis, Filling, refused, these, each, each_or_last, pieces, filling_by, filling, class_of, is_last, fits, fill, IsWellShaped}
 use Rattle.mini_kept.specs.Carried.{renumbered, BothNumbered, NumberedAlike, AllNumberedAlike}

@@ -5,14 +5,14 @@ use Rattle.std.proofs.lemmas.Bool.{and_parts, eqb-true, eq-eqb}
 use Rattle.mini_model.specs.declared.name.Name.{Name}
 use Rattle.mini_model.specs.declared.name.SymbolId.{SymbolId}
 use Rattle.mini_model.specs.Weight.{same_text}
-use Rattle.mini_names.specs.declared.Use.{Use}
-use Rattle.mini_names.specs.declared.Use.TheVariants.{Read, Write, ReadWrite, Hoisted, Alone}
-use Rattle.mini_names.specs.DeclaredNames.{is_spelled}
-use Rattle.mini_names.specs.Scopes.{body_scope}
-use Rattle.mini_names.specs.Resolved.{Environment, or_else, serves, own_symbol, symbol_of}
-use Rattle.mini_names.specs.Scoped.{NamesScoped}
-use Rattle.mini_names.specs.Symbols.{symbols_in, is_same, times, Within}
-use Rattle.mini_names.proofs.Numbers.{or_none, bound, Distinct, fresh, with_fresh, fresh_distinct}
+use Rattle.mini_laws.specs.declared.names.Use.{Use}
+use Rattle.mini_laws.specs.declared.names.Use.TheVariants.{Read, Write, ReadWrite, Hoisted, Alone}
+use Rattle.mini_laws.specs.DeclaredNames.{is_spelled}
+use Rattle.mini_laws.specs.Scopes.{body_scope}
+use Rattle.mini_laws.specs.Resolved.{Environment, or_else, serves, own_symbol, symbol_of}
+use Rattle.mini_laws.specs.Scoped.{NamesScoped}
+use Rattle.mini_laws.specs.Symbols.{symbols_in, is_same, times, Within}
+use Rattle.mini_laws.proofs.Numbers.{or_none, bound, Distinct, fresh, with_fresh, fresh_distinct}
 use Rattle.mini_kept.specs.SameNames.{is_name, is_among, SameNames, first_symbol, SameScope}
 use Rattle.mini_kept.proofs.Bools.{both}
 

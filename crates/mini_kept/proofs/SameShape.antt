@@ -11,8 +11,8 @@ use Rattle.mini_model.specs.declared.operator.UnaryOperator.TheVariants.{UnaryNe
 use Rattle.mini_model.specs.declared.shape.Shape.{Shape}
 use Rattle.mini_model.specs.declared.shape.Shape.TheVariants as shape
 use Rattle.mini_model.specs.Tree.{Tree, Trees, node, none, ◌▸◌, count, children, child_or_absent, shape_of, is_absent}
-use Rattle.mini_names.specs.Resolved.{resolved_program}
-use Rattle.mini_names.specs.Symbols.{with_new, mapped, all_mapped}
+use Rattle.mini_laws.specs.Resolved.{resolved_program}
+use Rattle.mini_laws.specs.Symbols.{with_new, mapped, all_mapped}
 use Rattle.mini_accept.specs.WellShaped.{Tagging, Class, a_program, a_loop_left, a_method, Slot, one, Filling, refused, these, each, each_or_last, pieces, filling, class_of, is_function_body, is_reference, first_item, is_initialized, is_var, is_head_by, spelling_of_names, spelling_by, spelling, is_same_spelling, without_default, repeats_key, holds_its_name, names_constructor, has_its_kind, is_init, has_optional, has_optional_by, is_not_positive_number, is_same_flag, has_its_number, has_names, has_plain_fields, are_locals, is_whole_export, is_whole_property, has_its_parts, is_whole, is_strict_in, is_quasi, are_quasis, is_last, fits, fill, IsWellShaped}
 use Rattle.mini_kept.proofs.Texts.{no_symbol, read_resolved}
 

@@ -2,11 +2,11 @@
 use Rattle.std.specs.Prelude.{ℕ, zero, suc, ◌≡◌, refl, [], length}
 use Rattle.std.proofs.Common.{ap, ◌∙◌, sym}
 use Rattle.mini_model.specs.Tree.{Tree}
-use Rattle.mini_names.specs.declared.Use.TheVariants.{Read}
-use Rattle.mini_names.specs.Resolved.{symbols, resolved_program}
-use Rattle.mini_names.specs.Symbols.{declared_symbols, bare, symbols_to}
-use Rattle.mini_names.proofs.Back.{declared_length}
-use Rattle.mini_names.proofs.Places.{bare_again, resolved_symbols}
+use Rattle.mini_laws.specs.declared.names.Use.TheVariants.{Read}
+use Rattle.mini_laws.specs.Resolved.{symbols, resolved_program}
+use Rattle.mini_laws.specs.Symbols.{declared_symbols, bare, symbols_to}
+use Rattle.mini_laws.proofs.Back.{declared_length}
+use Rattle.mini_laws.proofs.Places.{bare_again, resolved_symbols}
 use Rattle.mini_kept.proofs.Renumbered.{same_symbols}
 use Rattle.mini_kept.proofs.Texts.{text, read_alike}
 

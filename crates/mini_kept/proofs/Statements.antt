@@ -3,13 +3,13 @@ use Rattle.std.specs.Prelude.{◌≡◌, refl, ◌||◌, ◌&&◌, not, Bool, tr
 use Rattle.std.proofs.Common.{ap, ◌∙◌, sym, subst}
 use Rattle.mini_model.specs.declared.name.Name.{Name}
 use Rattle.mini_model.specs.Tree.{Tree, shape_of}
-use Rattle.mini_names.specs.declared.Use.{Use}
-use Rattle.mini_names.specs.declared.Use.TheVariants.{Hoisted}
-use Rattle.mini_names.specs.declared.Declared.TheVariants as declared
-use Rattle.mini_names.specs.DeclaredNames.{names_of}
-use Rattle.mini_names.specs.Resolved.{Environment}
-use Rattle.mini_names.specs.Scoped.{Scoped}
-use Rattle.mini_names.specs.Early.{Path, declarations, is_function_shape, statement_declarations}
+use Rattle.mini_laws.specs.declared.names.Use.{Use}
+use Rattle.mini_laws.specs.declared.names.Use.TheVariants.{Hoisted}
+use Rattle.mini_laws.specs.declared.names.Declared.TheVariants as declared
+use Rattle.mini_laws.specs.DeclaredNames.{names_of}
+use Rattle.mini_laws.specs.Resolved.{Environment}
+use Rattle.mini_laws.specs.Scoped.{Scoped}
+use Rattle.mini_laws.specs.Early.{Path, declarations, is_function_shape, statement_declarations}
 use Rattle.mini_kept.specs.SameNames.{is_name, is_among, SameNames, first_symbol, SameScope, NoMoreClash}
 use Rattle.mini_kept.proofs.Clashes.{no_more_same, no_more_both, no_more_names}
 use Rattle.mini_kept.proofs.Hoisting.{hoisted_scoped}

@@ -9,9 +9,9 @@ use Rattle.mini_model.specs.Tree.{Tree, Trees, node, none, ◌▸◌, count, sha
 use Rattle.mini_model.specs.Position.{child_position}
 use Rattle.mini_model.specs.Rewriting.{Step, here, inside, StepIn, first, later}
 use Rattle.mini_accept.specs.WellShaped.{Tagging, untagged, tagged, Depth, in_module, in_body, nested, Class, a_statement, a_parameter, a_pattern_element, a_target_element, a_named_target, a_pattern_property, a_target_property, an_inner, a_key, a_private_or_key, an_inner_key, an_expression, Slot, one, one_or_absent, Filling, refused, these, each, each_or_last, pieces, filling, class_of, is_whole, is_strict_in, is_quasi_by, is_quasi, are_quasis, has_plain_fields, is_last, fits, fill}
-use Rattle.mini_names.specs.declared.Use.{Use}
-use Rattle.mini_names.specs.DeclaredNames.{is_inner}
-use Rattle.mini_names.specs.Scopes.{use_of}
+use Rattle.mini_laws.specs.declared.names.Use.{Use}
+use Rattle.mini_laws.specs.DeclaredNames.{is_inner}
+use Rattle.mini_laws.specs.Scopes.{use_of}
 use Rattle.mini_kept.proofs.Bools.{left, right, and_false}
 use Rattle.mini_kept.proofs.Expressions.{refused_here}
 use Rattle.mini_kept.specs.KeepsNames.{Stands, is_used}

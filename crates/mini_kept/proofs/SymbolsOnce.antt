@@ -2,7 +2,7 @@
 use Rattle.std.specs.Prelude.{ℕ, suc, ◌+◌, ◌≤◌, ◌≡◌, refl, nat_eq, List, [], ◌∷◌, length, map, Option, Some, None, if◌then◌else◌}
 use Rattle.std.proofs.Common.{ap, ◌∙◌, sym, inl, inr, arith}
 use Rattle.mini_model.specs.declared.name.SymbolId.{SymbolId}
-use Rattle.mini_names.specs.Symbols.{times, Distinct}
+use Rattle.mini_laws.specs.Symbols.{times, Distinct}
 use Rattle.mini_kept.specs.Carried.{symbol_numbers}
 use Rattle.mini_kept.specs.KeepsNames.{count_of}
 use Rattle.mini_kept.proofs.InPreorder.{tally}

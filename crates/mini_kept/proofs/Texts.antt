@@ -5,12 +5,12 @@ use Rattle.std.proofs.lemmas.Bool.{and_parts}
 use Rattle.mini_model.specs.declared.name.Name.{Name}
 use Rattle.mini_model.specs.declared.name.SymbolId.{SymbolId}
 use Rattle.mini_model.specs.Tree.{Tree, Trees, node, none, ◌▸◌}
-use Rattle.mini_names.specs.declared.Use.{Use}
-use Rattle.mini_names.specs.declared.Use.TheVariants.{Read}
-use Rattle.mini_names.specs.declared.Binding.{Binding}
-use Rattle.mini_names.specs.Scopes.{use_of, opened}
-use Rattle.mini_names.specs.Resolved.{Environment, with_symbol, numbered, symbols, resolved, resolved_from, resolved_program}
-use Rattle.mini_names.specs.Symbols.{with_new, mapped, all_mapped, bare}
+use Rattle.mini_laws.specs.declared.names.Use.{Use}
+use Rattle.mini_laws.specs.declared.names.Use.TheVariants.{Read}
+use Rattle.mini_laws.specs.declared.names.Binding.{Binding}
+use Rattle.mini_laws.specs.Scopes.{use_of, opened}
+use Rattle.mini_laws.specs.Resolved.{Environment, with_symbol, numbered, symbols, resolved, resolved_from, resolved_program}
+use Rattle.mini_laws.specs.Symbols.{with_new, mapped, all_mapped, bare}
 use Rattle.mini_accept.specs.Symbols.{are_unresolved, has_no_symbol, have_no_symbol}
 use Rattle.mini_kept.specs.Carried.{renumbered, all_renumbered}
 

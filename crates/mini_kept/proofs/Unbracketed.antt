@@ -6,7 +6,7 @@ use Rattle.mini_model.specs.declared.shape.Shape.{Shape}
 use Rattle.mini_model.specs.declared.shape.Shape.TheVariants as shape
 use Rattle.mini_model.specs.Tree.{is_absent_shape}
 use Rattle.mini_accept.specs.WellShaped.{is_function_body_shape, is_reference_shape, spelling_by}
-use Rattle.mini_names.specs.Early.{is_pattern_shape, label_by}
+use Rattle.mini_laws.specs.Early.{is_pattern_shape, label_by}
 use Rattle.mini_kept.specs.Frames.{has_key, unbracketed}
 use Rattle.mini_kept.specs.KeepsShapes.{is_default}
 

@@ -3,15 +3,15 @@ use Rattle.std.specs.Prelude.{ℕ, suc, ◌≡◌, refl, ◌&&◌, not, Bool, tr
 use Rattle.std.proofs.Common.{ap, ◌∙◌, sym}
 use Rattle.mini_model.specs.declared.name.Name.{Name}
 use Rattle.mini_model.specs.Tree.{Tree, Trees, node, none, ◌▸◌, shape_of, child_or_absent}
-use Rattle.mini_names.specs.declared.Clash.{Clash}
-use Rattle.mini_names.specs.declared.Clash.TheVariants as clash
-use Rattle.mini_names.specs.declared.Declaration.{Declaration}
-use Rattle.mini_names.specs.declared.Declared.{Declared}
-use Rattle.mini_names.specs.declared.Declared.TheVariants as declared
-use Rattle.mini_names.specs.declared.Place.{Place}
-use Rattle.mini_names.specs.declared.Place.TheVariants as place
-use Rattle.mini_names.specs.DeclaredNames.{place_of, names_by, names_of, first_names, all_names}
-use Rattle.mini_names.specs.Early.{Path, choose_by, own_declarations, declarations, first_declarations, all_declarations, is_function_shape, holds_statements, body_declarations, all_body_declarations, is_pattern_shape, at_child, in_body, children_of_node, in_param, in_block, declarations_by, clashing}
+use Rattle.mini_laws.specs.declared.names.Clash.{Clash}
+use Rattle.mini_laws.specs.declared.names.Clash.TheVariants as clash
+use Rattle.mini_laws.specs.declared.names.Declaration.{Declaration}
+use Rattle.mini_laws.specs.declared.names.Declared.{Declared}
+use Rattle.mini_laws.specs.declared.names.Declared.TheVariants as declared
+use Rattle.mini_laws.specs.declared.names.Place.{Place}
+use Rattle.mini_laws.specs.declared.names.Place.TheVariants as place
+use Rattle.mini_laws.specs.DeclaredNames.{place_of, names_by, names_of, first_names, all_names}
+use Rattle.mini_laws.specs.Early.{Path, choose_by, own_declarations, declarations, first_declarations, all_declarations, is_function_shape, holds_statements, body_declarations, all_body_declarations, is_pattern_shape, at_child, in_body, children_of_node, in_param, in_block, declarations_by, clashing}
 use Rattle.mini_kept.specs.KeepsNames.{unplaced}
 use Rattle.mini_kept.proofs.Clashes.{no_more_same, still_free}
 

@@ -9,10 +9,10 @@ use Rattle.mini_model.specs.declared.shape.Shape.{Shape}
 use Rattle.mini_model.specs.declared.shape.Shape.TheVariants as shape
 use Rattle.mini_model.specs.Tree.{Tree, shape_of}
 use Rattle.mini_model.specs.Position.{child_position, item_position}
-use Rattle.mini_names.specs.declared.Use.{Use}
-use Rattle.mini_names.specs.declared.Use.TheVariants.{Read}
-use Rattle.mini_names.specs.DeclaredNames.{is_inner}
-use Rattle.mini_names.specs.Scopes.{use_of}
+use Rattle.mini_laws.specs.declared.names.Use.{Use}
+use Rattle.mini_laws.specs.declared.names.Use.TheVariants.{Read}
+use Rattle.mini_laws.specs.DeclaredNames.{is_inner}
+use Rattle.mini_laws.specs.Scopes.{use_of}
 use Rattle.mini_kept.specs.KeepsNames.{is_read, is_used, Stands}
 
 read_used : (p : Position) → is_used p Read ≡ true

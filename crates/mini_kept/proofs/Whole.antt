@@ -7,9 +7,9 @@ use Rattle.mini_model.specs.Tree.{Tree, shape_of}
 use Rattle.mini_model.specs.Redex.{Contracts}
 use Rattle.mini_model.specs.Rewriting.{Step, Reaches, done, more}
 use Rattle.mini_accept.specs.WellShaped.{a_program, one, IsWellShaped}
-use Rattle.mini_names.specs.declared.Use.TheVariants.{Read}
-use Rattle.mini_names.specs.DeclaredNames.{is_inner}
-use Rattle.mini_names.specs.Early.{no_targets}
+use Rattle.mini_laws.specs.declared.names.Use.TheVariants.{Read}
+use Rattle.mini_laws.specs.DeclaredNames.{is_inner}
+use Rattle.mini_laws.specs.Early.{no_targets}
 use Rattle.mini_kept.proofs.ShapeRows.{rows_keep_shapes}
 use Rattle.mini_kept.proofs.Steps.{any_step_fits}
 use Rattle.mini_kept.specs.KeepsNames.{Stands}

@@ -9,7 +9,7 @@ use Rattle.mini_model.specs.declared.kind.VariableDeclarationKind.TheVariants.{V
 use Rattle.mini_model.specs.declared.name.Name.{Name}
 use Rattle.mini_model.specs.declared.shape.Shape.TheVariants as shape
 use Rattle.mini_model.specs.Tree.{Tree, node, none, ◌▸◌, leaf, absent, listed, empty_statement}
-use Rattle.mini_names.specs.DeclaredNames.{names_of, body_names}
+use Rattle.mini_laws.specs.DeclaredNames.{names_of, body_names}
 use Rattle.mini_laws.specs.Samples.{one, two, three, numbered, global, local, bound, label, number, text, called, member, function, block, script, function_body, does, declaration}
 use Rattle.mini_kept.specs.Frames.{Frame, frames, frames_in}
 use Rattle.mini_kept.specs.SameNames.{is_among}

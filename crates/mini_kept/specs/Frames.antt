@@ -10,9 +10,9 @@ use Rattle.mini_model.specs.declared.name.Name.{Name}
 use Rattle.mini_model.specs.declared.shape.Shape.{Shape}
 use Rattle.mini_model.specs.declared.shape.Shape.TheVariants as shape
 use Rattle.mini_model.specs.Tree.{Tree, Trees, node, none, ◌▸◌, absent, shape_of, children, child_or_absent}
-use Rattle.mini_names.specs.declared.Declared.TheVariants as declared
+use Rattle.mini_laws.specs.declared.names.Declared.TheVariants as declared
 use Rattle.mini_kept.specs.SameNames.{is_among}
-use Rattle.mini_names.specs.DeclaredNames.{all_names, body_names}
+use Rattle.mini_laws.specs.DeclaredNames.{all_names, body_names}
 
 -- what a node's frame shows of a child: all in it, the names that it declares, or nothing, since it is a body
 pub data Showing : Type 0 where

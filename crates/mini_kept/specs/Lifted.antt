@@ -8,11 +8,11 @@ use Rattle.mini_model.specs.Tree.{Tree, count, children, shape_of, child_or_abse
 use Rattle.mini_model.specs.Redex.{Contracts}
 use Rattle.mini_model.specs.Rewriting.{Step, Reaches}
 use Rattle.mini_accept.specs.WellShaped.{Slot, fits, IsWellShaped}
-use Rattle.mini_names.specs.declared.Use.TheVariants.{Read}
-use Rattle.mini_names.specs.DeclaredNames.{own_names}
-use Rattle.mini_names.specs.Scoped.{Scoped}
-use Rattle.mini_names.specs.Symbols.{declared_symbols, Distinct, Within}
-use Rattle.mini_names.specs.Early.{no_targets}
+use Rattle.mini_laws.specs.declared.names.Use.TheVariants.{Read}
+use Rattle.mini_laws.specs.DeclaredNames.{own_names}
+use Rattle.mini_laws.specs.Scoped.{Scoped}
+use Rattle.mini_laws.specs.Symbols.{declared_symbols, Distinct, Within}
+use Rattle.mini_laws.specs.Early.{no_targets}
 use Rattle.mini_kept.specs.Carried.{number_of, numbers as numbers_of}
 use Rattle.mini_kept.specs.Frames.{unbracketed}
 use Rattle.mini_kept.specs.Placed.{fits_place}

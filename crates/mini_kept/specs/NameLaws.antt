@@ -1,10 +1,10 @@
 -- What a program that is written and read again has to do with the one that was written.
 use Rattle.std.specs.Prelude.{ℕ, suc, ◌≡◌, [], ◌∷◌, length, Some}
 use Rattle.mini_model.specs.Tree.{Tree}
-use Rattle.mini_names.specs.Resolved.{resolved_program}
-use Rattle.mini_names.specs.declared.Use.TheVariants.{Read}
-use Rattle.mini_names.specs.Scoped.{Scoped}
-use Rattle.mini_names.specs.Symbols.{bare, declared_symbols, Distinct}
+use Rattle.mini_laws.specs.Resolved.{resolved_program}
+use Rattle.mini_laws.specs.declared.names.Use.TheVariants.{Read}
+use Rattle.mini_laws.specs.Scoped.{Scoped}
+use Rattle.mini_laws.specs.Symbols.{bare, declared_symbols, Distinct}
 use Rattle.mini_accept.specs.Numbered.{next_after}
 use Rattle.mini_kept.specs.Carried.{renumbered, numbers, number_at, number_of, NumberedAlike, carried}
 

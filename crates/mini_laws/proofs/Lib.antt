@@ -32,3 +32,16 @@ pub mod Apart
 pub mod Anywhere
 pub mod Breaking
 pub mod Moving
+pub mod Lookups
+pub mod Drops
+pub mod Back
+pub mod Bare
+pub mod BodyNames
+pub mod Changes
+pub mod Kept
+pub mod Numbers
+pub mod Places
+pub mod Whole
+mod NamesApart
+mod Parts
+mod Dropping

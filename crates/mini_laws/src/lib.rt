@@ -1,8 +1,13 @@
-//! What a tree means: a run of it over states, events and answers (`specs/`), and laws of the definitions: of the weight, of what
-//! a tree means, and of paths in it. Each function's contract is a law,
-//! and its body is empty.
+//! What a tree means: a run of it over states, events and answers; and the names of a program: which scope declares each of them,
+//! which symbol each has, and which early errors there are (`specs/`). And laws of these definitions: of the weight, of what a tree
+//! means, of paths in it, and of which edits of it keep the symbols of its names. Each function's contract is a law, and its body is
+//! empty.
 #![tactic(auto)]
 
+mod name_edits;
+mod name_laws;
+mod name_moves;
+mod names;
 mod paths;
 
 ghost use Rattle.std.specs.Prelude.{◌≡◌};
@@ -26,6 +31,20 @@ ghost use Rattle.mini_laws.specs.Tails.{TailSame, InEachTail, LastJumpSame, Bloc
 ghost use Rattle.mini_laws.specs.Truth.{Coherent};
 ghost use Rattle.mini_laws.specs.Weights.{Replacement, OwnWeightKept, ReplacementFalls, FallsOtherwise, WholeFalls, AnyStepLighter, AnyReachesLighter, StepLighter, ReachesLighter};
 
+pub use name_edits::{
+    kept_as_it_is, kept_below, kept_by_drop, kept_by_swap, kept_is_distinct, kept_twice,
+};
+pub use name_laws::{
+    drops_tell, resolved_is_distinct, resolved_is_scoped, resolved_of_bare, resolved_renamed,
+    resolved_symbols,
+};
+pub use name_moves::{
+    drop_let, drop_name, join, move_in, move_out, of_parts, split, swap_branches, to_parts,
+};
+pub use names::{
+    Around, Binding, Clash, Declaration, Declared, Jump, Label, Numbering, Opening, Path, Place,
+    Targets, Turn, Use,
+};
 pub use paths::{
     found, heads_are_kept, paths_of_all_nodes, put_at_a_path, put_further, put_is_counted,
     put_near_a_path,

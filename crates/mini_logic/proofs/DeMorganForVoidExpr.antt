@@ -15,8 +15,8 @@ use Rattle.mini_node.specs.Children.{part}
 use Rattle.mini_node.specs.Kinds.{logical_operator, is_logical, is_expression_statement}
 use Rattle.mini_node.specs.Made.{logical_is, expression_statement_is}
 use Rattle.mini_rows.specs.DeMorgan.{turned_logical, Row50, DeMorganContracts}
-use Rattle.mini_walk.specs.Rule.{Applied}
-use Rattle.mini_walk.proofs.Reaching.{moves_once}
+use Rattle.mini_tree.specs.Rule.{Applied}
+use Rattle.mini_tree.proofs.Reaching.{moves_once}
 use Rattle.mini_rows.specs.Negations.{lightest}
 use Rattle.mini_logic.specs.MinimizeNegation.{told_lightest}
 use Rattle.mini_logic.specs.DeMorganForVoidExpr.{turned_over, turns, written_by, written, Gives, Rests, WrittenIsRow, UnwrittenRests}

@@ -16,7 +16,7 @@ use Rattle.mini_rows.proofs.BranchLawful.{branches_lawful}
 use Rattle.mini_rows.proofs.TurnLawful.{turns_lawful}
 use Rattle.mini_logic.specs.Joined as law
 use Rattle.mini_logic.specs.Joined.{LogicRow, LogicContracts, HaveNoRedex}
-use Rattle.mini_walk.specs.Wider.{reaches_of}
+use Rattle.mini_tree.specs.Wider.{reaches_of}
 
 gives_row : (p : Position) (t u : Tree) → law.Gives p t u → LogicContracts p t u
 gives_row (Expr s) t u (inl r) = record { row = inl (inl r.0); lighter = r.1 }

@@ -14,8 +14,8 @@ use Rattle.mini_node.specs.Kinds.{is_conditional, is_negation, binary_operator, 
 use Rattle.mini_node.specs.Made.{conditional_is, negation_is, binary_is}
 use Rattle.mini_rows.specs.Turns.{unequal, equal, Row40Unequal}
 use Rattle.mini_rows.proofs.TurnWeights.{turns_lighter}
-use Rattle.mini_walk.specs.Rule.{Applied}
-use Rattle.mini_walk.proofs.Reaching.{moves_once}
+use Rattle.mini_tree.specs.Rule.{Applied}
+use Rattle.mini_tree.proofs.Reaching.{moves_once}
 use Rattle.mini_logic.specs.MinimizeConditionalExpression.{has_negated_test, swapped, equal_by, equal_operator, turned, written, IsRow, Gives, Rests}
 use Rattle.mini_logic.proofs.Seats.{test_falls}
 

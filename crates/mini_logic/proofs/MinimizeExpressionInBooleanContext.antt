@@ -25,8 +25,8 @@ use Rattle.mini_rows.specs.Spellings.{negated_digit}
 use Rattle.mini_rows.specs.Booleans as row
 use Rattle.mini_rows.specs.Booleans.{digit, is_boolean_kind, chosen, giving, is_turned, plus, plus_seat, Row24, Row25, KnownBranch, BooleanRow, BooleanContracts}
 use Rattle.mini_rows.proofs.BooleanWeights.{lighter}
-use Rattle.mini_walk.specs.Rule.{Applied}
-use Rattle.mini_walk.proofs.Reaching.{moves_once}
+use Rattle.mini_tree.specs.Rule.{Applied}
+use Rattle.mini_tree.proofs.Reaching.{moves_once}
 use Rattle.mini_logic.specs.MinimizeExpressionInBooleanContext.{negated_truth, digit_of, digit_written, is_told, left_written, known_truth, branch_at, may_join, tested, joined, joined_of, joins, branch_by, branch_written, branches_written, boolean_truth, opposite, told_truth, digit_truth, counted_truth, as_boolean, is_lighter, truth_by, truth_written, number_by, number_written, either, conditional_written, written_by, written, Gives, Rests, WrittenIsRow, UnwrittenRests}
 use Rattle.mini_logic.proofs.Weights.{weight_logical}
 

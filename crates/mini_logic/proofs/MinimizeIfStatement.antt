@@ -24,8 +24,8 @@ use Rattle.mini_rows.specs.Branches.{IsEmpty, is_other_branch, as_consequent, co
 use Rattle.mini_rows.specs.Turns.{is_unchained, is_block_shape, one_chooses, KeepsBraces, Row83Swapped}
 use Rattle.mini_rows.proofs.BranchWeights.{branch_lighter}
 use Rattle.mini_rows.proofs.TurnWeights.{turns_lighter}
-use Rattle.mini_walk.specs.Rule.{Applied}
-use Rattle.mini_walk.proofs.Reaching.{moves_once}
+use Rattle.mini_tree.specs.Rule.{Applied}
+use Rattle.mini_tree.proofs.Reaching.{moves_once}
 use Rattle.mini_logic.specs.Negating.{lighter_negation}
 use Rattle.mini_logic.specs.MinimizeIfStatement.{chooses, guards, is_empty, has_empty_consequent, skips, only_tests, is_weighed, turns, nests, is_bare, holds_choice, keeps_braces, swaps, choice, conjunction, disjunction, disjunct_seat, guard, skipped, turned, nested, in_block, swapped, written, IsRow, Gives, Rests}
 use Rattle.mini_logic.proofs.Seats.{left_or_falls, left_and_falls, right_and_falls, right_or_falls}

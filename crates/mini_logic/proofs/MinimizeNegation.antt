@@ -18,8 +18,8 @@ use Rattle.mini_node.specs.Children.{part}
 use Rattle.mini_node.specs.Kinds.{is_negation, boolean as boolean_value}
 use Rattle.mini_node.specs.Made.{negation_is}
 use Rattle.mini_rows.specs.Negations.{reverse_of, negated_leaf, whole, lightest, reaches_in, Row23Whole, NegationContracts}
-use Rattle.mini_walk.specs.Rule.{Applied}
-use Rattle.mini_walk.proofs.Reaching.{moves_once}
+use Rattle.mini_tree.specs.Rule.{Applied}
+use Rattle.mini_tree.proofs.Reaching.{moves_once}
 use Rattle.mini_logic.specs.Negating.{lighter_negation}
 use Rattle.mini_logic.specs.MinimizeNegation.{told, told_lightest, minimizes, written, Gives, Rests, WrittenIsRow, UnwrittenRests}
 use Rattle.mini_logic.proofs.MinimizeExpressionInBooleanContext.{tested_same}

@@ -13,8 +13,8 @@ use Rattle.mini_model.specs.Terms.{neg}
 use Rattle.mini_node.specs.Children.{part}
 use Rattle.mini_node.specs.Kinds.{is_negation}
 use Rattle.mini_node.specs.Made.{negation_is}
-use Rattle.mini_walk.specs.Rule.{Applied}
-use Rattle.mini_walk.proofs.Reaching.{moves_once}
+use Rattle.mini_tree.specs.Rule.{Applied}
+use Rattle.mini_tree.proofs.Reaching.{moves_once}
 use Rattle.mini_logic.specs.Negating.{turned_by, opposite_by, is_unwrapped, has_own_negation}
 use Rattle.mini_logic.specs.MinimizeUnaryExpression.{has_lighter_negation, minimizes_unary, minimized_unary, Gives, Rests}
 use Rattle.mini_logic.proofs.Negations.{neg_other}

@@ -12,8 +12,8 @@ use Rattle.mini_node.specs.Made.{block_is, if_statement_is}
 use Rattle.mini_rows.specs.Lists.{block, is_unscoped}
 use Rattle.mini_rows.specs.Branches.{has_else, Surrounding, Consequent, Alternate, WhileBody, DoBody, ForBody, InBody, OfBody, around, keeps_block, Row79}
 use Rattle.mini_rows.proofs.BranchWeights.{branch_lighter}
-use Rattle.mini_walk.specs.Rule.{Applied}
-use Rattle.mini_walk.proofs.Reaching.{moves_once}
+use Rattle.mini_tree.specs.Rule.{Applied}
+use Rattle.mini_tree.proofs.Reaching.{moves_once}
 use Rattle.mini_logic.specs.Negating.{has_one}
 use Rattle.mini_logic.specs.UnwrapBlock.{first_statement, holds_one, holds_bare, some_if, body_place, held_at, branch_place, place, unwrapped_at, written, Gives, Rests}
 

@@ -6,7 +6,7 @@ use Rattle.mini_model.specs.Tree.{Tree, Trees}
 use Rattle.mini_model.specs.Weight.{weight}
 use Rattle.mini_model.specs.Redex.{Row}
 use Rattle.mini_model.specs.Rewriting.{Reaches, Everywhere, EverywhereIn}
-use Rattle.mini_walk.specs.Rule.{Either, Both}
+use Rattle.mini_tree.specs.Rule.{Either, Both}
 use Rattle.mini_rows.specs.Branches.{IfRow}
 use Rattle.mini_rows.specs.Turns.{Row40Unequal, Row83Swapped}
 use Rattle.mini_logic.specs.MinimizeUnaryExpression as unary

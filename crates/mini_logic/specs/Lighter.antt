@@ -14,8 +14,8 @@ use Rattle.mini_rows.proofs.BooleanWeights as boolean_weights
 use Rattle.mini_rows.proofs.DeMorganLawful.{de_morgan_lighten}
 use Rattle.mini_rows.proofs.NegationLawful.{negations_lighten}
 use Rattle.mini_rows.proofs.TurnWeights.{turns_lighten}
-use Rattle.mini_walk.specs.Rule.{IsLighter}
-use Rattle.mini_walk.specs.Wider.{step_of}
+use Rattle.mini_tree.specs.Rule.{IsLighter}
+use Rattle.mini_tree.specs.Wider.{step_of}
 use Rattle.mini_logic.specs.MinimizeUnaryExpression as unary
 use Rattle.mini_logic.specs.MinimizeConditionalExpression as conditional
 use Rattle.mini_logic.specs.MinimizeIfStatement as «if»

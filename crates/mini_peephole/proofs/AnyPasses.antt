@@ -7,12 +7,12 @@ use Rattle.serde_json.specs.View.{view}
 use Rattle.mini_model.specs.declared.place.Position.{Position}
 use Rattle.mini_model.specs.Tree.{Tree}
 use Rattle.mini_model.specs.Weight.{program_weight}
-use Rattle.mini_names.specs.Resolved.{resolved_program}
-use Rattle.mini_names.specs.Scoped.{Scoped}
-use Rattle.mini_names.specs.Symbols.{declared_symbols, times, Distinct}
-use Rattle.mini_names.specs.declared.Use.TheVariants.{Read}
-use Rattle.mini_names.proofs.Places.{resolved_distinct}
-use Rattle.mini_names.proofs.Whole.{scoped}
+use Rattle.mini_laws.specs.Resolved.{resolved_program}
+use Rattle.mini_laws.specs.Scoped.{Scoped}
+use Rattle.mini_laws.specs.Symbols.{declared_symbols, times, Distinct}
+use Rattle.mini_laws.specs.declared.names.Use.TheVariants.{Read}
+use Rattle.mini_laws.proofs.Places.{resolved_distinct}
+use Rattle.mini_laws.proofs.Whole.{scoped}
 use Rattle.mini_scope.specs.Pointers.{early_fault}
 use Rattle.mini_laws.specs.Value.{Variable, Declared, Global, VariableSet}
 use Rattle.mini_laws.specs.Body.{environment_in}
@@ -34,7 +34,7 @@ use Rattle.mini_kept.proofs.Texts.{text}
 use Rattle.mini_kept.proofs.Undeclared.{unshared, native}
 use Rattle.mini_kept.proofs.WithoutLists.{kept_stands}
 use Rattle.mini_writer.specs.Written.{program_data}
-use Rattle.mini_walk.specs.Passes.{MakesPasses}
+use Rattle.mini_tree.specs.Passes.{MakesPasses}
 use Rattle.mini_peephole.specs.Environments.{shared_by, foreign_to, initialised_for, environment_with}
 use Rattle.mini_peephole.specs.AnyPasses.{NothingLeft}
 use Rattle.mini_peephole.specs.Minified.{IsWritten}

@@ -4,9 +4,9 @@ use Rattle.mini_model.specs.Tree.{Tree}
 use Rattle.mini_model.specs.declared.place.Position.{Position}
 use Rattle.mini_model.specs.declared.place.Position.TheVariants.{Elsewhere}
 use Rattle.mini_model.specs.Rewriting.{Reaches, done}
-use Rattle.mini_walk.specs.Passes.{PassesReach, no_pass, one_more}
-use Rattle.mini_walk.specs.Wider.{reaches_of}
-use Rattle.mini_walk.proofs.Reaching.{reaches_trans}
+use Rattle.mini_tree.specs.Passes.{PassesReach, no_pass, one_more}
+use Rattle.mini_tree.specs.Wider.{reaches_of}
+use Rattle.mini_tree.proofs.Reaching.{reaches_trans}
 use Rattle.mini_kept.specs.Loosely.{LawfulLoosely}
 
 module _ (G : Tree → Position → Tree → Tree → Type 0) where

@@ -8,7 +8,7 @@ use Rattle.mini_model.specs.declared.place.Position.TheVariants.{Elsewhere}
 use Rattle.mini_model.specs.Tree.{Tree, Trees, node}
 use Rattle.mini_model.specs.Weight.{weight, program_weight}
 use Rattle.mini_model.specs.Rewriting.{Everywhere, EverywhereIn, Step, StepIn, here, inside, first, later, Reaches, done, more}
-use Rattle.mini_names.specs.Resolved.{resolved_program}
+use Rattle.mini_laws.specs.Resolved.{resolved_program}
 use Rattle.mini_scope.specs.Pointers.{early_fault}
 use Rattle.mini_tree.specs.declared.options.CompressOptions.{CompressOptions}
 use Rattle.mini_accept.specs.Accept.{Accepts}

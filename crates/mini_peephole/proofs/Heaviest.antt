@@ -10,8 +10,8 @@ use Rattle.mini_model.specs.declared.shape.Shape.TheVariants as shape
 use Rattle.mini_model.specs.Tree.{Tree, Trees, node, none, ◌▸◌, count}
 use Rattle.mini_model.specs.Position.{child_position}
 use Rattle.mini_model.specs.Weight.{Outline, outline, outlines, outline_by, same_text, spelled_weight, name_weight, names_weight, text_weight, own_weight, weight, weights}
-use Rattle.mini_names.specs.Resolved.{resolved_program}
-use Rattle.mini_names.specs.Symbols.{with_new, mapped, all_mapped, bare}
+use Rattle.mini_laws.specs.Resolved.{resolved_program}
+use Rattle.mini_laws.specs.Symbols.{with_new, mapped, all_mapped, bare}
 use Rattle.mini_accept.specs.Symbols.{has_no_symbol}
 use Rattle.mini_kept.proofs.Texts.{no_symbol, bare_same, bare_resolved}
 

@@ -9,8 +9,8 @@ use Rattle.mini_accept.specs.Accept.{program_at, Accepts}
 use Rattle.mini_accept.proofs.Numbers.{program_numbered}
 use Rattle.mini_accept.proofs.Shaped.{program_shaped}
 use Rattle.mini_accept.proofs.Symbols.{program_unresolved}
-use Rattle.mini_names.specs.Early.{Path, early_names, early_jumps, no_targets}
-use Rattle.mini_names.specs.Symbols.{mapped, with_new}
+use Rattle.mini_laws.specs.Early.{Path, early_names, early_jumps, no_targets}
+use Rattle.mini_laws.specs.Symbols.{mapped, with_new}
 use Rattle.mini_scope.specs.Errors.{IsFree}
 use Rattle.mini_scope.specs.Pointers.{early_fault, fault_by}
 use Rattle.mini_writer.specs.Written.{program_data}

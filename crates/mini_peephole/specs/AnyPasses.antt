@@ -5,7 +5,7 @@ use Rattle.mini_model.specs.declared.place.Position.{Position}
 use Rattle.mini_model.specs.declared.place.Position.TheVariants.{Elsewhere}
 use Rattle.mini_model.specs.Tree.{Tree}
 use Rattle.mini_model.specs.Rewriting.{Everywhere}
-use Rattle.mini_names.specs.Resolved.{resolved_program}
+use Rattle.mini_laws.specs.Resolved.{resolved_program}
 use Rattle.mini_accept.specs.Accept.{Accepts}
 use Rattle.mini_scope.specs.Pointers.{early_fault}
 use Rattle.mini_tree.specs.declared.options.CompressOptions.{CompressOptions}

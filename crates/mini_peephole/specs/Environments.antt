@@ -3,9 +3,9 @@
 use Rattle.std.specs.Prelude.{ℕ, Bool, true, false, ◌&&◌, not, [], Some}
 use Rattle.mini_model.specs.declared.name.Name.{Name}
 use Rattle.mini_model.specs.Tree.{Tree, unresolved}
-use Rattle.mini_names.specs.Mentions.{is_among}
-use Rattle.mini_names.specs.Shared.{is_shared}
-use Rattle.mini_names.specs.Foreign.{is_declared_in, is_foreign, lexical_variables}
+use Rattle.mini_laws.specs.Mentions.{is_among}
+use Rattle.mini_laws.specs.Shared.{is_shared}
+use Rattle.mini_laws.specs.Foreign.{is_declared_in, is_foreign, lexical_variables}
 use Rattle.mini_laws.specs.Value.{Variable, Declared, Global, VariableSet}
 use Rattle.mini_laws.specs.State.{Environment}
 use Rattle.mini_laws.specs.Body.{environment_in}

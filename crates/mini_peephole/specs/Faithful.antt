@@ -10,9 +10,9 @@ use Rattle.mini_model.specs.declared.name.SymbolId.{SymbolId}
 use Rattle.mini_model.specs.declared.place.Position.TheVariants.{Elsewhere}
 use Rattle.mini_model.specs.Tree.{Tree}
 use Rattle.mini_model.specs.Weight.{program_weight}
-use Rattle.mini_names.specs.Resolved.{resolved_program}
-use Rattle.mini_names.specs.Symbols.{declared_symbols}
-use Rattle.mini_names.specs.Early.{early_names, early_jumps, no_targets}
+use Rattle.mini_laws.specs.Resolved.{resolved_program}
+use Rattle.mini_laws.specs.Symbols.{declared_symbols}
+use Rattle.mini_laws.specs.Early.{early_names, early_jumps, no_targets}
 use Rattle.mini_laws.specs.Value.{Value, Variable, VariableSet, Slot}
 use Rattle.mini_laws.specs.State.{Answer, Environment}
 use Rattle.mini_laws.specs.Same.{Initialised}

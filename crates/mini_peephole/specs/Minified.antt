@@ -7,14 +7,14 @@ use Rattle.mini_model.specs.Tree.{Tree}
 use Rattle.mini_tree.specs.declared.options.CompressOptions.{CompressOptions}
 use Rattle.mini_accept.specs.Faults as estree
 use Rattle.mini_accept.specs.Accept.{program_at, Accepts}
-use Rattle.mini_names.specs.Resolved.{resolved_program}
-use Rattle.mini_names.specs.Symbols.{declared_symbols}
+use Rattle.mini_laws.specs.Resolved.{resolved_program}
+use Rattle.mini_laws.specs.Symbols.{declared_symbols}
 use Rattle.mini_scope.specs.Pointers.{early_fault}
 use Rattle.mini_writer.specs.Written.{program_data}
 use Rattle.mini_model.specs.Faults.{Fault, fault_of}
 use Rattle.mini_model.specs.declared.error.MinifyError.{MinifyError}
 use Rattle.mini_estree.specs.Reads.{fault_told}
-use Rattle.mini_walk.specs.Passes.{MakesPasses}
+use Rattle.mini_tree.specs.Passes.{MakesPasses}
 use Rattle.mini_kept.specs.Carried.{numbers, symbol_numbers}
 use Rattle.mini_peephole.specs.Rules.{AllGives, AllRests}
 use Rattle.mini_peephole.specs.declared.minify.Minified.{Minified}

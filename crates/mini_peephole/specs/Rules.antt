@@ -3,7 +3,7 @@
 use Rattle.mini_model.specs.declared.place.Position.{Position}
 use Rattle.mini_model.specs.Tree.{Tree}
 use Rattle.mini_tree.specs.declared.options.CompressOptions.{CompressOptions}
-use Rattle.mini_walk.specs.Rule.{Either, Both}
+use Rattle.mini_tree.specs.Rule.{Either, Both}
 use Rattle.mini_logic.specs.Joined as logic
 use Rattle.mini_logic.specs.DeMorganForVoidExpr as de_morgan
 use Rattle.mini_logic.specs.MinimizeNegation as negation

@@ -2,7 +2,7 @@
 
 ghost use Rattle.mini_peephole.specs.AnyPasses.{LawfulPassesFaithful};
 
-use mini_walk::{Context, Rule};
+use mini_tree::{Context, Rule};
 
 /// Passes of a rule whose steps are lawful, be it loosely (`mini_kept::loose_rewriting_keeps`), under any options and over any program that
 /// its context has looked at, give a faithful answer for a program that is read and resolved: its names, numbers, symbols,

@@ -1,12 +1,12 @@
 //! The numbers of the nodes of a program, and those of the symbols that its scopes declare.
 
 ghost use Rattle.std.specs.Prelude.{◌≡◌, ◌++◌, ◌∷◌, [], IfOk, OnOk};
-ghost use Rattle.mini_names.specs.Scopes.{use_of as use_at};
-ghost use Rattle.mini_names.specs.Symbols.{declared, declared_from, declared_symbols, symbols_in};
+ghost use Rattle.mini_laws.specs.Scopes.{use_of as use_at};
+ghost use Rattle.mini_laws.specs.Symbols.{declared, declared_from, declared_symbols, symbols_in};
 ghost use Rattle.mini_kept.specs.Carried.{all_numbers, numbers, symbol_numbers, with_number};
 ghost use Rattle.mini_scope.specs.ScopeAt.{scope_at};
 
-use mini_names::{Binding, Use};
+use mini_laws::{Binding, Use};
 use mini_scope::{OpenScopes, use_of};
 use mini_tree::{Node, Nodes, Numbers, OutOfMemory, Program, Shape, SymbolId};
 use std::alloc::Global;

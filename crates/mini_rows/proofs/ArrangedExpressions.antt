@@ -8,11 +8,11 @@ use Rattle.mini_model.specs.declared.shape.Shape.{Shape}
 use Rattle.mini_model.specs.declared.shape.Shape.TheVariants as shape
 use Rattle.mini_model.specs.Tree.{Tree, node, shape_of}
 use Rattle.mini_accept.specs.WellShaped.{Depth, in_module, in_body, nested, a_statement, a_method, a_default_export, Slot, one, statement_slots, slots_of, filling_by, fits}
-use Rattle.mini_names.specs.declared.Use.{Use}
-use Rattle.mini_names.specs.declared.Use.TheVariants.{Read}
-use Rattle.mini_names.specs.DeclaredNames.{is_inner}
-use Rattle.mini_names.specs.Scoped.{Scoped}
-use Rattle.mini_names.specs.Symbols.{times}
+use Rattle.mini_laws.specs.declared.names.Use.{Use}
+use Rattle.mini_laws.specs.declared.names.Use.TheVariants.{Read}
+use Rattle.mini_laws.specs.DeclaredNames.{is_inner}
+use Rattle.mini_laws.specs.Scoped.{Scoped}
+use Rattle.mini_laws.specs.Symbols.{times}
 use Rattle.mini_laws.specs.Body.{ArrowExpression}
 use Rattle.mini_laws.specs.Bodies.{Around, bodies, arrow_kind}
 use Rattle.mini_kept.specs.AlikeBodies.{BodiesKept}

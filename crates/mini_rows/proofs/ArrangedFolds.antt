@@ -7,12 +7,12 @@ use Rattle.mini_model.specs.declared.name.Name.{Name}
 use Rattle.mini_model.specs.declared.shape.Shape.{Shape}
 use Rattle.mini_model.specs.declared.shape.Shape.TheVariants as shape
 use Rattle.mini_model.specs.Tree.{Tree, Trees, node, none, ◌▸◌, shape_of, children}
-use Rattle.mini_names.specs.declared.Declaration.{Declaration}
-use Rattle.mini_names.specs.declared.Declared.{Declared}
-use Rattle.mini_names.specs.declared.Declared.TheVariants as declared
-use Rattle.mini_names.specs.declared.Place.TheVariants as place
-use Rattle.mini_names.specs.DeclaredNames.{place_of, names_by, names_of, all_names, first_names, is_statement_list, body_names, all_body_names}
-use Rattle.mini_names.specs.Early.{own_declarations, is_function_shape}
+use Rattle.mini_laws.specs.declared.names.Declaration.{Declaration}
+use Rattle.mini_laws.specs.declared.names.Declared.{Declared}
+use Rattle.mini_laws.specs.declared.names.Declared.TheVariants as declared
+use Rattle.mini_laws.specs.declared.names.Place.TheVariants as place
+use Rattle.mini_laws.specs.DeclaredNames.{place_of, names_by, names_of, all_names, first_names, is_statement_list, body_names, all_body_names}
+use Rattle.mini_laws.specs.Early.{own_declarations, is_function_shape}
 use Rattle.mini_kept.specs.Frames.{is_port, own, ports as ports_of}
 use Rattle.mini_kept.proofs.Quiet.{is_quiet, no_names}
 use Rattle.mini_kept.proofs.Bools.{left}

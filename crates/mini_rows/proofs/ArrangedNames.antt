@@ -6,16 +6,16 @@ use Rattle.mini_model.specs.declared.name.Name.{Name}
 use Rattle.mini_model.specs.declared.name.SymbolId.{SymbolId}
 use Rattle.mini_model.specs.Tree.{Tree, Trees, none, ◌▸◌}
 use Rattle.mini_model.specs.declared.operator.AssignmentOperator.TheVariants.{Assign}
-use Rattle.mini_names.specs.declared.Use.{Use}
-use Rattle.mini_names.specs.declared.Binding.{Binding}
-use Rattle.mini_names.specs.declared.Targets.{Targets}
-use Rattle.mini_names.specs.DeclaredNames.{lexical_names, with_names, is_inner, has_inner, any_inner}
-use Rattle.mini_names.specs.Scopes.{use_of, opened, scopes_by, at_or_empty, lexical_scope}
-use Rattle.mini_names.specs.Resolved.{Environment}
-use Rattle.mini_names.specs.Scoped.{Scoped, AllScoped}
-use Rattle.mini_names.specs.Symbols.{symbols_in, declared as declared_in, declared_from, times}
-use Rattle.mini_names.specs.Early.{Path, scope_declarations, clashing, early_names, all_early_names, targets_of, is_bad_jump, early_jumps, all_early_jumps}
-use Rattle.mini_names.proofs.Changes.{times_three}
+use Rattle.mini_laws.specs.declared.names.Use.{Use}
+use Rattle.mini_laws.specs.declared.names.Binding.{Binding}
+use Rattle.mini_laws.specs.declared.names.Targets.{Targets}
+use Rattle.mini_laws.specs.DeclaredNames.{lexical_names, with_names, is_inner, has_inner, any_inner}
+use Rattle.mini_laws.specs.Scopes.{use_of, opened, scopes_by, at_or_empty, lexical_scope}
+use Rattle.mini_laws.specs.Resolved.{Environment}
+use Rattle.mini_laws.specs.Scoped.{Scoped, AllScoped}
+use Rattle.mini_laws.specs.Symbols.{symbols_in, declared as declared_in, declared_from, times}
+use Rattle.mini_laws.specs.Early.{Path, scope_declarations, clashing, early_names, all_early_names, targets_of, is_bad_jump, early_jumps, all_early_jumps}
+use Rattle.mini_laws.proofs.Changes.{times_three}
 use Rattle.mini_kept.specs.Carried.{numbers, all_numbers}
 use Rattle.mini_kept.specs.KeepsNames.{count_of}
 use Rattle.mini_kept.proofs.Below.{both_counts, empty_both, both_empty}

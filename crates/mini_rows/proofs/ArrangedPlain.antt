@@ -9,11 +9,11 @@ use Rattle.mini_model.specs.declared.shape.Shape.{Shape}
 use Rattle.mini_model.specs.declared.shape.Shape.TheVariants as shape
 use Rattle.mini_model.specs.Tree.{Tree, Trees, node, none, ◌▸◌, listed, absent}
 use Rattle.mini_model.specs.Paths.{append}
-use Rattle.mini_names.specs.declared.Declaration.{Declaration}
-use Rattle.mini_names.specs.declared.Declared.TheVariants as declared
-use Rattle.mini_names.specs.declared.Place.TheVariants as place
-use Rattle.mini_names.specs.DeclaredNames.{place_of, names_by, names_of, all_names, first_names}
-use Rattle.mini_names.specs.Early.{Path, own_declarations, is_function_shape, holds_statements, body_declarations, scope_declarations, clashes_any, clashing}
+use Rattle.mini_laws.specs.declared.names.Declaration.{Declaration}
+use Rattle.mini_laws.specs.declared.names.Declared.TheVariants as declared
+use Rattle.mini_laws.specs.declared.names.Place.TheVariants as place
+use Rattle.mini_laws.specs.DeclaredNames.{place_of, names_by, names_of, all_names, first_names}
+use Rattle.mini_laws.specs.Early.{Path, own_declarations, is_function_shape, holds_statements, body_declarations, scope_declarations, clashes_any, clashing}
 use Rattle.mini_kept.specs.KeepsNames.{unplaced}
 use Rattle.mini_kept.proofs.Bools.{left, right}
 use Rattle.mini_kept.proofs.Unplaced.{as_statement, as_body, all_as_body, body_is, free_same}

@@ -8,16 +8,16 @@ use Rattle.mini_model.specs.declared.place.Position.TheVariants.{Stmt}
 use Rattle.mini_model.specs.declared.seat.StmtSeat.{StmtSeat}
 use Rattle.mini_model.specs.Tree.{Tree, child_or_absent}
 use Rattle.mini_accept.specs.WellShaped.{an_expression, Slot, one, fits}
-use Rattle.mini_names.specs.declared.Targets.{Targets}
-use Rattle.mini_names.specs.declared.Use.{Use}
-use Rattle.mini_names.specs.Resolved.{Environment}
-use Rattle.mini_names.specs.declared.Declaration.{Declaration}
-use Rattle.mini_names.specs.declared.Declared.{Declared}
-use Rattle.mini_names.specs.declared.Declared.TheVariants as declared
-use Rattle.mini_names.specs.DeclaredNames.{has_inner, names_of, body_names}
-use Rattle.mini_names.specs.Scoped.{Scoped}
-use Rattle.mini_names.specs.Symbols.{declared as declared_in, times}
-use Rattle.mini_names.specs.Early.{early_names, early_jumps, is_loop}
+use Rattle.mini_laws.specs.declared.names.Targets.{Targets}
+use Rattle.mini_laws.specs.declared.names.Use.{Use}
+use Rattle.mini_laws.specs.Resolved.{Environment}
+use Rattle.mini_laws.specs.declared.names.Declaration.{Declaration}
+use Rattle.mini_laws.specs.declared.names.Declared.{Declared}
+use Rattle.mini_laws.specs.declared.names.Declared.TheVariants as declared
+use Rattle.mini_laws.specs.DeclaredNames.{has_inner, names_of, body_names}
+use Rattle.mini_laws.specs.Scoped.{Scoped}
+use Rattle.mini_laws.specs.Symbols.{declared as declared_in, times}
+use Rattle.mini_laws.specs.Early.{early_names, early_jumps, is_loop}
 use Rattle.mini_laws.specs.Value.{Variable}
 use Rattle.mini_laws.specs.Fixity.{fixed_by}
 use Rattle.mini_laws.specs.Bodies.{Around, bodies}

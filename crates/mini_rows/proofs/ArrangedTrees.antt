@@ -4,13 +4,13 @@ use Rattle.std.proofs.Common.{ap, arith}
 use Rattle.mini_model.specs.declared.name.Name.{Name}
 use Rattle.mini_model.specs.declared.name.SymbolId.{SymbolId}
 use Rattle.mini_model.specs.Tree.{Tree}
-use Rattle.mini_names.specs.declared.Use.{Use}
-use Rattle.mini_names.specs.declared.Targets.{Targets}
-use Rattle.mini_names.specs.DeclaredNames.{has_inner}
-use Rattle.mini_names.specs.Resolved.{Environment}
-use Rattle.mini_names.specs.Scoped.{Scoped}
-use Rattle.mini_names.specs.Symbols.{declared as declared_in, times}
-use Rattle.mini_names.specs.Early.{Path, early_names, early_jumps}
+use Rattle.mini_laws.specs.declared.names.Use.{Use}
+use Rattle.mini_laws.specs.declared.names.Targets.{Targets}
+use Rattle.mini_laws.specs.DeclaredNames.{has_inner}
+use Rattle.mini_laws.specs.Resolved.{Environment}
+use Rattle.mini_laws.specs.Scoped.{Scoped}
+use Rattle.mini_laws.specs.Symbols.{declared as declared_in, times}
+use Rattle.mini_laws.specs.Early.{Path, early_names, early_jumps}
 use Rattle.mini_laws.specs.Value.{Variable}
 use Rattle.mini_laws.specs.Fixity.{fixed_by}
 use Rattle.mini_laws.specs.Bodies.{Around, bodies}

@@ -8,10 +8,10 @@ use Rattle.mini_model.specs.declared.name.SymbolId.{SymbolId}
 use Rattle.mini_model.specs.declared.place.Position.TheVariants.{StatementList}
 use Rattle.mini_model.specs.Tree.{Tree, listed, child_or_absent}
 use Rattle.mini_model.specs.Weight.{same_text}
-use Rattle.mini_names.specs.declared.Declaration.{Declaration}
-use Rattle.mini_names.specs.declared.Declared.TheVariants as declared
-use Rattle.mini_names.specs.DeclaredNames.{names_of, body_names}
-use Rattle.mini_names.specs.Early.{body_declarations}
+use Rattle.mini_laws.specs.declared.names.Declaration.{Declaration}
+use Rattle.mini_laws.specs.declared.names.Declared.TheVariants as declared
+use Rattle.mini_laws.specs.DeclaredNames.{names_of, body_names}
+use Rattle.mini_laws.specs.Early.{body_declarations}
 use Rattle.mini_kept.specs.KeepsLoosely.{KeepsLoosely}
 use Rattle.mini_kept.specs.KeepsNames.{unplaced}
 use Rattle.mini_kept.specs.SameNames.{is_among, SameNames, first_symbol, SameScope, NoMoreClash}

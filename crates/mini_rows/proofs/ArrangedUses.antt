@@ -7,12 +7,12 @@ use Rattle.mini_model.specs.declared.name.SymbolId.{SymbolId}
 use Rattle.mini_model.specs.declared.shape.Shape.{Shape}
 use Rattle.mini_model.specs.declared.shape.Shape.TheVariants as shape
 use Rattle.mini_model.specs.Tree.{Tree, Trees, node, none, ◌▸◌}
-use Rattle.mini_names.specs.declared.Use.{Use}
-use Rattle.mini_names.specs.declared.Binding.{Binding}
-use Rattle.mini_names.specs.Scopes.{use_of, opening_of, opened, scopes_by, at_or_empty}
-use Rattle.mini_names.specs.Resolved.{Environment}
-use Rattle.mini_names.specs.Scoped.{NamesScoped, Scoped, AllScoped}
-use Rattle.mini_names.specs.Symbols.{symbols_in, declared as declared_in, declared_from, times}
+use Rattle.mini_laws.specs.declared.names.Use.{Use}
+use Rattle.mini_laws.specs.declared.names.Binding.{Binding}
+use Rattle.mini_laws.specs.Scopes.{use_of, opening_of, opened, scopes_by, at_or_empty}
+use Rattle.mini_laws.specs.Resolved.{Environment}
+use Rattle.mini_laws.specs.Scoped.{NamesScoped, Scoped, AllScoped}
+use Rattle.mini_laws.specs.Symbols.{symbols_in, declared as declared_in, declared_from, times}
 use Rattle.mini_rows.specs.Lists.{is_unscoped_shape, is_unscoped}
 use Rattle.mini_rows.specs.Sketches.{use_by}
 use Rattle.mini_rows.proofs.ArrangedValues.{Calm}

@@ -9,7 +9,7 @@ use Rattle.mini_model.specs.declared.shape.Shape.TheVariants as shape
 use Rattle.mini_model.specs.Tree.{Tree, Trees, node, none, ◌▸◌, shape_of, child_or_absent}
 use Rattle.mini_accept.specs.WellShaped.{Depth, in_module, in_body, nested, Class, a_statement, a_word, a_key, a_private_or_key, an_inner_key, an_expression, a_link, a_chain, an_argument, an_object_property, Slot, one, one_or_absent, many, many_or_holes, many_and_rest, many_or_holes_and_rest, quasis, is_text, none_if, statement_slots, word_slots, slots_of, Filling, refused, these, each, each_or_last, pieces, filling_by, filling, class_of, has_names, has_its_number, has_plain_fields, has_its_parts, is_whole, is_strict_in, is_last, fits, fill}
 use Rattle.mini_model.specs.Paths.{append}
-use Rattle.mini_names.specs.DeclaredNames.{own_names}
+use Rattle.mini_laws.specs.DeclaredNames.{own_names}
 use Rattle.mini_kept.proofs.Bools.{left, right}
 use Rattle.mini_kept.proofs.Expressions.{refused_here}
 use Rattle.mini_kept.proofs.Quiet.{is_quiet}

@@ -4,9 +4,9 @@ use Rattle.std.proofs.Common.{ap, ◌∙◌, sym, subst, arith}
 use Rattle.std.proofs.lemmas.Bool.{and_parts, eqb-true}
 use Rattle.mini_model.specs.Tree.{Tree, Trees, node, none, ◌▸◌, child_or_absent}
 use Rattle.mini_model.specs.Paths.{append}
-use Rattle.mini_names.specs.declared.Declared.TheVariants as declared
-use Rattle.mini_names.specs.DeclaredNames.{names_of}
-use Rattle.mini_names.specs.Early.{clashing, scope_declarations}
+use Rattle.mini_laws.specs.declared.names.Declared.TheVariants as declared
+use Rattle.mini_laws.specs.DeclaredNames.{names_of}
+use Rattle.mini_laws.specs.Early.{clashing, scope_declarations}
 use Rattle.mini_kept.proofs.Bools.{both}
 use Rattle.mini_rows.specs.Sketches.{Head, AList, Block, shape_by, Sketch, part, under, list, Sketches, end, ◌▹◌, Items, no_items, item, items, Parts, list_at, filled, all_filled, items_filled, Asked, AsWhole, AsWholeList, AsWholeItem, AsValue, AsValues, AsWord, AsTarget, AsUpdated, AsBranch, AsItems, AsItem, item_asked, asked_below, Leap, Returning, Yielding, leaps, Hole, Part, Stretch, Leaps, leap_holes, parts_of, parts_from, parts_in, asked_number, is_same_leap, is_same_hole, stands_in, without, has_as_often, has_each}
 

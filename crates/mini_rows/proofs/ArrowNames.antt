@@ -7,17 +7,17 @@ use Rattle.mini_model.specs.declared.place.Position.TheVariants.{Expr}
 use Rattle.mini_model.specs.declared.seat.Seat.{Seat}
 use Rattle.mini_model.specs.declared.shape.Shape.TheVariants as shape
 use Rattle.mini_model.specs.Tree.{Tree, none, ◌▸◌}
-use Rattle.mini_names.specs.declared.Use.{Use}
-use Rattle.mini_names.specs.declared.Use.TheVariants.{Read}
-use Rattle.mini_names.specs.declared.Declared.TheVariants as declared
-use Rattle.mini_names.specs.declared.Targets.{Targets}
-use Rattle.mini_names.specs.DeclaredNames.{body_names, has_inner, bound_names}
-use Rattle.mini_names.specs.Scopes.{scopes_by, body_scope, merged}
-use Rattle.mini_names.specs.Resolved.{Environment}
-use Rattle.mini_names.specs.Scoped.{Scoped}
-use Rattle.mini_names.specs.Symbols.{symbols_in, declared as declared_in, times}
-use Rattle.mini_names.specs.Early.{Path, body_declarations, scope_declarations, clashing, at_child, early_names, targets_of, early_jumps, no_targets}
-use Rattle.mini_names.proofs.Drops.{moved}
+use Rattle.mini_laws.specs.declared.names.Use.{Use}
+use Rattle.mini_laws.specs.declared.names.Use.TheVariants.{Read}
+use Rattle.mini_laws.specs.declared.names.Declared.TheVariants as declared
+use Rattle.mini_laws.specs.declared.names.Targets.{Targets}
+use Rattle.mini_laws.specs.DeclaredNames.{body_names, has_inner, bound_names}
+use Rattle.mini_laws.specs.Scopes.{scopes_by, body_scope, merged}
+use Rattle.mini_laws.specs.Resolved.{Environment}
+use Rattle.mini_laws.specs.Scoped.{Scoped}
+use Rattle.mini_laws.specs.Symbols.{symbols_in, declared as declared_in, times}
+use Rattle.mini_laws.specs.Early.{Path, body_declarations, scope_declarations, clashing, at_child, early_names, targets_of, early_jumps, no_targets}
+use Rattle.mini_laws.proofs.Drops.{moved}
 use Rattle.mini_kept.specs.Carried.{numbers, with_number}
 use Rattle.mini_kept.specs.KeepsNames.{Keeps, Stands, unplaced, count_of}
 use Rattle.mini_kept.proofs.Anywhere.{once_anywhere, targets_anywhere}

@@ -9,17 +9,17 @@ use Rattle.mini_model.specs.declared.shape.Shape.{Shape}
 use Rattle.mini_model.specs.declared.shape.Shape.TheVariants as shape
 use Rattle.mini_model.specs.Tree.{Tree, node, none, ◌▸◌, shape_of}
 use Rattle.mini_accept.specs.WellShaped.{Slot, fits}
-use Rattle.mini_names.specs.declared.Use.{Use}
-use Rattle.mini_names.specs.declared.Declared.TheVariants as declared
-use Rattle.mini_names.specs.declared.Declaration.{Declaration}
-use Rattle.mini_names.specs.declared.Targets.{Targets}
-use Rattle.mini_names.specs.DeclaredNames.{names_of}
-use Rattle.mini_names.specs.Scopes.{scopes_by}
-use Rattle.mini_names.specs.Resolved.{Environment}
-use Rattle.mini_names.specs.Scoped.{Scoped}
-use Rattle.mini_names.specs.Edits.{Kept}
-use Rattle.mini_names.specs.Early.{Path, own_declarations, declarations, is_function_shape, holds_statements, scope_declarations, clashing, early_names, targets_of, early_jumps, is_loop_shape, is_labeled, is_loop, last_is_loop}
-use Rattle.mini_names.proofs.Changes.{as_it_is, below}
+use Rattle.mini_laws.specs.declared.names.Use.{Use}
+use Rattle.mini_laws.specs.declared.names.Declared.TheVariants as declared
+use Rattle.mini_laws.specs.declared.names.Declaration.{Declaration}
+use Rattle.mini_laws.specs.declared.names.Targets.{Targets}
+use Rattle.mini_laws.specs.DeclaredNames.{names_of}
+use Rattle.mini_laws.specs.Scopes.{scopes_by}
+use Rattle.mini_laws.specs.Resolved.{Environment}
+use Rattle.mini_laws.specs.Scoped.{Scoped}
+use Rattle.mini_laws.specs.Edits.{Kept}
+use Rattle.mini_laws.specs.Early.{Path, own_declarations, declarations, is_function_shape, holds_statements, scope_declarations, clashing, early_names, targets_of, early_jumps, is_loop_shape, is_labeled, is_loop, last_is_loop}
+use Rattle.mini_laws.proofs.Changes.{as_it_is, below}
 use Rattle.mini_laws.specs.Body.{ArrowExpression}
 use Rattle.mini_laws.specs.Value.{Variable, choose, is_in}
 use Rattle.mini_laws.specs.State.{Writable}

@@ -7,19 +7,19 @@ use Rattle.mini_model.specs.declared.name.Name.{Name}
 use Rattle.mini_model.specs.declared.shape.Shape.{Shape}
 use Rattle.mini_model.specs.declared.shape.Shape.TheVariants as shape
 use Rattle.mini_model.specs.Tree.{Tree, Trees, node, none, ◌▸◌, listed}
-use Rattle.mini_names.specs.declared.Use.{Use}
-use Rattle.mini_names.specs.declared.Use.TheVariants.{Read, Alone}
-use Rattle.mini_names.specs.declared.Declared.{Declared}
-use Rattle.mini_names.specs.declared.Declared.TheVariants as declared
-use Rattle.mini_names.specs.declared.Place.TheVariants as place
-use Rattle.mini_names.specs.declared.Targets.{Targets}
-use Rattle.mini_names.specs.DeclaredNames.{bound_place, lexical_place, names_by, names_of, first_names, all_names, is_statement_list, body_names, all_body_names, with_names, has_inner}
-use Rattle.mini_names.specs.Scopes.{use_of, opening_of, scopes_by, at_or_empty, lexical_scope, opened}
-use Rattle.mini_names.specs.Resolved.{Environment, own_symbol, or_else, symbol_of}
-use Rattle.mini_names.specs.Scoped.{NamesScoped, Scoped, AllScoped}
-use Rattle.mini_names.specs.Symbols.{symbols_in, declared as declared_in, declared_from, times}
-use Rattle.mini_names.specs.Edits.{Kept}
-use Rattle.mini_names.specs.Early.{Path, scope_declarations, clashing, early_names, targets_of, early_jumps, body_declarations, in_body, own_declarations, holds_statements, clashes_any}
+use Rattle.mini_laws.specs.declared.names.Use.{Use}
+use Rattle.mini_laws.specs.declared.names.Use.TheVariants.{Read, Alone}
+use Rattle.mini_laws.specs.declared.names.Declared.{Declared}
+use Rattle.mini_laws.specs.declared.names.Declared.TheVariants as declared
+use Rattle.mini_laws.specs.declared.names.Place.TheVariants as place
+use Rattle.mini_laws.specs.declared.names.Targets.{Targets}
+use Rattle.mini_laws.specs.DeclaredNames.{bound_place, lexical_place, names_by, names_of, first_names, all_names, is_statement_list, body_names, all_body_names, with_names, has_inner}
+use Rattle.mini_laws.specs.Scopes.{use_of, opening_of, scopes_by, at_or_empty, lexical_scope, opened}
+use Rattle.mini_laws.specs.Resolved.{Environment, own_symbol, or_else, symbol_of}
+use Rattle.mini_laws.specs.Scoped.{NamesScoped, Scoped, AllScoped}
+use Rattle.mini_laws.specs.Symbols.{symbols_in, declared as declared_in, declared_from, times}
+use Rattle.mini_laws.specs.Edits.{Kept}
+use Rattle.mini_laws.specs.Early.{Path, scope_declarations, clashing, early_names, targets_of, early_jumps, body_declarations, in_body, own_declarations, holds_statements, clashes_any}
 use Rattle.mini_laws.specs.Value.{Variable, choose, is_in}
 use Rattle.mini_laws.specs.Naming.{summary}
 use Rattle.mini_laws.specs.State.{Fixed, Writable, Constant, KeepsOld}

@@ -16,19 +16,19 @@ use Rattle.mini_model.specs.Weight.{weight}
 use Rattle.mini_model.specs.Position.{is_equality}
 use Rattle.mini_model.specs.Terms.{is_boolean, turned_seat, unwrapped, turned_equality, neg, neg_each, not_of}
 use Rattle.mini_accept.specs.WellShaped.{fits}
-use Rattle.mini_names.specs.declared.Use.{Use}
-use Rattle.mini_names.specs.declared.Use.TheVariants.{Read, Alone}
-use Rattle.mini_names.specs.declared.Declared.{Declared}
-use Rattle.mini_names.specs.declared.Declared.TheVariants as declared
-use Rattle.mini_names.specs.declared.Targets.{Targets}
-use Rattle.mini_names.specs.DeclaredNames.{names_of, body_names, has_inner}
-use Rattle.mini_names.specs.Scopes.{scopes_by}
-use Rattle.mini_names.specs.Resolved.{Environment}
-use Rattle.mini_names.specs.Scoped.{Scoped}
-use Rattle.mini_names.specs.Symbols.{declared as declared_in, times}
-use Rattle.mini_names.specs.Early.{Path, scope_declarations, early_names, targets_of, early_jumps}
-use Rattle.mini_names.proofs.Changes.{twice, times_both}
-use Rattle.mini_names.proofs.Drops.{moved}
+use Rattle.mini_laws.specs.declared.names.Use.{Use}
+use Rattle.mini_laws.specs.declared.names.Use.TheVariants.{Read, Alone}
+use Rattle.mini_laws.specs.declared.names.Declared.{Declared}
+use Rattle.mini_laws.specs.declared.names.Declared.TheVariants as declared
+use Rattle.mini_laws.specs.declared.names.Targets.{Targets}
+use Rattle.mini_laws.specs.DeclaredNames.{names_of, body_names, has_inner}
+use Rattle.mini_laws.specs.Scopes.{scopes_by}
+use Rattle.mini_laws.specs.Resolved.{Environment}
+use Rattle.mini_laws.specs.Scoped.{Scoped}
+use Rattle.mini_laws.specs.Symbols.{declared as declared_in, times}
+use Rattle.mini_laws.specs.Early.{Path, scope_declarations, early_names, targets_of, early_jumps}
+use Rattle.mini_laws.proofs.Changes.{twice, times_both}
+use Rattle.mini_laws.proofs.Drops.{moved}
 use Rattle.mini_laws.specs.Value.{Variable}
 use Rattle.mini_laws.specs.State.{Fixed, Writable, Constant, KeepsOld}
 use Rattle.mini_laws.specs.Fixity.{stricter, fixed_by}

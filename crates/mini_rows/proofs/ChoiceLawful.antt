@@ -13,15 +13,15 @@ use Rattle.mini_model.specs.declared.place.Position.TheVariants.{Expr}
 use Rattle.mini_model.specs.declared.seat.Seat.{Seat}
 use Rattle.mini_model.specs.declared.shape.Shape.TheVariants as shape
 use Rattle.mini_model.specs.Tree.{Tree, Trees, none, ◌▸◌, identifier, unresolved, logical, null_literal}
-use Rattle.mini_names.specs.declared.Use.{Use}
-use Rattle.mini_names.specs.declared.Use.TheVariants.{Write, ReadWrite}
-use Rattle.mini_names.specs.declared.Declared.TheVariants as declared
-use Rattle.mini_names.specs.DeclaredNames.{names_of, body_names, has_inner}
-use Rattle.mini_names.specs.Scopes.{opened}
-use Rattle.mini_names.specs.Resolved.{Environment, symbol_of, or_else, own_symbol}
-use Rattle.mini_names.specs.Scoped.{Scoped}
-use Rattle.mini_names.specs.Symbols.{declared as declared_in, times}
-use Rattle.mini_names.specs.Early.{body_declarations, scope_declarations, early_names, early_jumps, targets_of}
+use Rattle.mini_laws.specs.declared.names.Use.{Use}
+use Rattle.mini_laws.specs.declared.names.Use.TheVariants.{Write, ReadWrite}
+use Rattle.mini_laws.specs.declared.names.Declared.TheVariants as declared
+use Rattle.mini_laws.specs.DeclaredNames.{names_of, body_names, has_inner}
+use Rattle.mini_laws.specs.Scopes.{opened}
+use Rattle.mini_laws.specs.Resolved.{Environment, symbol_of, or_else, own_symbol}
+use Rattle.mini_laws.specs.Scoped.{Scoped}
+use Rattle.mini_laws.specs.Symbols.{declared as declared_in, times}
+use Rattle.mini_laws.specs.Early.{body_declarations, scope_declarations, early_names, early_jumps, targets_of}
 use Rattle.mini_kept.specs.Carried.{numbers}
 use Rattle.mini_kept.specs.KeepsLoosely.{KeepsLoosely}
 use Rattle.mini_kept.specs.KeepsNames.{is_rewritten_place}

@@ -14,13 +14,13 @@ use Rattle.mini_model.specs.Tree.{Tree, Trees, node, none, ◌▸◌, count, sha
 use Rattle.mini_model.specs.Paths.{append}
 use Rattle.mini_model.specs.Position.{argument_seat, statement_expression_seat, child_position}
 use Rattle.mini_model.specs.Rewriting.{Step, here, inside, StepIn, first, later}
-use Rattle.mini_names.specs.declared.Declared.{Declared}
-use Rattle.mini_names.specs.declared.Declared.TheVariants as declared
-use Rattle.mini_names.specs.DeclaredNames.{has_inner, names_of, all_names, body_names}
-use Rattle.mini_names.specs.Scopes.{scopes_by}
-use Rattle.mini_names.specs.Scoped.{Scoped}
-use Rattle.mini_names.specs.Symbols.{declared as declared_in}
-use Rattle.mini_names.specs.Early.{declarations, body_declarations, scope_declarations, early_names, targets_of, early_jumps, is_loop}
+use Rattle.mini_laws.specs.declared.names.Declared.{Declared}
+use Rattle.mini_laws.specs.declared.names.Declared.TheVariants as declared
+use Rattle.mini_laws.specs.DeclaredNames.{has_inner, names_of, all_names, body_names}
+use Rattle.mini_laws.specs.Scopes.{scopes_by}
+use Rattle.mini_laws.specs.Scoped.{Scoped}
+use Rattle.mini_laws.specs.Symbols.{declared as declared_in}
+use Rattle.mini_laws.specs.Early.{declarations, body_declarations, scope_declarations, early_names, targets_of, early_jumps, is_loop}
 use Rattle.mini_laws.specs.Value.{Variable}
 use Rattle.mini_laws.specs.Fixity.{stricter, fixed_by, fixed_by_any}
 use Rattle.mini_laws.specs.Bodies.{Around, bodies, bodies_from}

@@ -13,7 +13,7 @@ use Rattle.mini_model.specs.declared.shape.Shape.{Shape}
 use Rattle.mini_model.specs.declared.shape.Shape.TheVariants as shape
 use Rattle.mini_model.specs.Tree.{Tree, Trees, node, none, ◌▸◌, logical, expression_statement, empty_statement}
 use Rattle.mini_accept.specs.WellShaped.{Class, a_statement, an_init, an_arrow_body, an_expression, a_link, an_argument, a_key, a_private_or_key, an_inner_key, a_default_export, Slot, one, one_or_absent, fits, is_not_positive_number}
-use Rattle.mini_names.specs.DeclaredNames.{is_inner, has_inner, any_inner}
+use Rattle.mini_laws.specs.DeclaredNames.{is_inner, has_inner, any_inner}
 use Rattle.mini_laws.specs.Value.{Variable, choose, is_in}
 use Rattle.mini_laws.specs.State.{Fixed, Writable}
 use Rattle.mini_laws.specs.Naming.{summaries}

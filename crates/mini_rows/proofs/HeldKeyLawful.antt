@@ -8,16 +8,16 @@ use Rattle.mini_model.specs.declared.place.Position.TheVariants.{Elsewhere}
 use Rattle.mini_model.specs.declared.shape.Shape.TheVariants as shape
 use Rattle.mini_model.specs.Tree.{Tree, none, ◌▸◌, is_absent, shape_of}
 use Rattle.mini_accept.specs.WellShaped.{Slot, fits, is_function_body, spelling, has_optional, is_not_positive_number}
-use Rattle.mini_names.specs.declared.Declared.{Declared}
-use Rattle.mini_names.specs.declared.Declared.TheVariants as declaring
-use Rattle.mini_names.specs.declared.Targets.{Targets}
-use Rattle.mini_names.specs.declared.Use.{Use}
-use Rattle.mini_names.specs.DeclaredNames.{names_of, body_names, has_inner}
-use Rattle.mini_names.specs.Early.{Path, declarations, body_declarations, in_body, children_of_node, scope_declarations, early_names, targets_of, early_jumps, is_loop}
-use Rattle.mini_names.specs.Resolved.{Environment}
-use Rattle.mini_names.specs.Scoped.{Scoped}
-use Rattle.mini_names.specs.Scopes.{scopes_by}
-use Rattle.mini_names.specs.Symbols.{declared as declared_in, times}
+use Rattle.mini_laws.specs.declared.names.Declared.{Declared}
+use Rattle.mini_laws.specs.declared.names.Declared.TheVariants as declaring
+use Rattle.mini_laws.specs.declared.names.Targets.{Targets}
+use Rattle.mini_laws.specs.declared.names.Use.{Use}
+use Rattle.mini_laws.specs.DeclaredNames.{names_of, body_names, has_inner}
+use Rattle.mini_laws.specs.Early.{Path, declarations, body_declarations, in_body, children_of_node, scope_declarations, early_names, targets_of, early_jumps, is_loop}
+use Rattle.mini_laws.specs.Resolved.{Environment}
+use Rattle.mini_laws.specs.Scoped.{Scoped}
+use Rattle.mini_laws.specs.Scopes.{scopes_by}
+use Rattle.mini_laws.specs.Symbols.{declared as declared_in, times}
 use Rattle.mini_laws.specs.Value.{Variable, nothing}
 use Rattle.mini_laws.specs.State.{Writable}
 use Rattle.mini_laws.specs.Fixity.{fixity_by, stricter, fixed_by}

@@ -11,19 +11,19 @@ use Rattle.mini_model.specs.declared.shape.Shape.TheVariants as shape
 use Rattle.mini_model.specs.Tree.{Tree, Trees, node, none, ◌▸◌, listed}
 use Rattle.mini_model.specs.Paths.{append}
 use Rattle.mini_model.specs.Weight.{same_text}
-use Rattle.mini_names.specs.declared.Use.{Use}
-use Rattle.mini_names.specs.declared.Use.TheVariants.{Read, Write, ReadWrite, Hoisted, Alone}
-use Rattle.mini_names.specs.declared.Binding.{Binding}
-use Rattle.mini_names.specs.declared.Declared.{Declared}
-use Rattle.mini_names.specs.declared.Declared.TheVariants as declared
-use Rattle.mini_names.specs.declared.Targets.{Targets}
-use Rattle.mini_names.specs.DeclaredNames.{has_inner, names_of, all_names, body_names, bound_names, is_spelled, with_name, with_names}
-use Rattle.mini_names.specs.Scopes.{use_of, is_alone, opened, scopes_by, lexical_scope}
-use Rattle.mini_names.specs.Resolved.{Environment}
-use Rattle.mini_names.specs.Scoped.{Scoped}
-use Rattle.mini_names.specs.Symbols.{symbols_in, declared as declared_in, times}
-use Rattle.mini_names.specs.Early.{own_declarations, scope_declarations, early_names, targets_of, early_jumps}
-use Rattle.mini_names.proofs.Changes.{times_both}
+use Rattle.mini_laws.specs.declared.names.Use.{Use}
+use Rattle.mini_laws.specs.declared.names.Use.TheVariants.{Read, Write, ReadWrite, Hoisted, Alone}
+use Rattle.mini_laws.specs.declared.names.Binding.{Binding}
+use Rattle.mini_laws.specs.declared.names.Declared.{Declared}
+use Rattle.mini_laws.specs.declared.names.Declared.TheVariants as declared
+use Rattle.mini_laws.specs.declared.names.Targets.{Targets}
+use Rattle.mini_laws.specs.DeclaredNames.{has_inner, names_of, all_names, body_names, bound_names, is_spelled, with_name, with_names}
+use Rattle.mini_laws.specs.Scopes.{use_of, is_alone, opened, scopes_by, lexical_scope}
+use Rattle.mini_laws.specs.Resolved.{Environment}
+use Rattle.mini_laws.specs.Scoped.{Scoped}
+use Rattle.mini_laws.specs.Symbols.{symbols_in, declared as declared_in, times}
+use Rattle.mini_laws.specs.Early.{own_declarations, scope_declarations, early_names, targets_of, early_jumps}
+use Rattle.mini_laws.proofs.Changes.{times_both}
 use Rattle.mini_laws.specs.Value.{Variable, choose, variable_eq, is_in}
 use Rattle.mini_laws.specs.State.{Fixed, Writable, Constant, KeepsOld}
 use Rattle.mini_laws.specs.Naming.{summary, summaries, lets_all}

@@ -12,20 +12,20 @@ use Rattle.mini_model.specs.declared.shape.Shape.TheVariants as shape
 use Rattle.mini_model.specs.Tree.{Tree, Trees, node, none, ◌▸◌, absent, listed, shape_of, expression_statement}
 use Rattle.mini_model.specs.Paths.{append}
 use Rattle.mini_accept.specs.WellShaped.{Depth, nested, a_statement, a_case, an_init, an_expression, one, one_or_absent, many, each, fits, fill, Filling, refused, filling}
-use Rattle.mini_names.specs.declared.Use.{Use}
-use Rattle.mini_names.specs.declared.Use.TheVariants.{Read}
-use Rattle.mini_names.specs.declared.Binding.{Binding}
-use Rattle.mini_names.specs.declared.Declaration.{Declaration}
-use Rattle.mini_names.specs.declared.Declared.{Declared}
-use Rattle.mini_names.specs.declared.Declared.TheVariants as declared
-use Rattle.mini_names.specs.declared.Targets.{Targets}
-use Rattle.mini_names.specs.DeclaredNames.{has_inner, any_inner, names_of, all_names, body_names, lexical_names, with_names}
-use Rattle.mini_names.specs.Scopes.{use_of, scopes_by, at_or_empty, lexical_scope}
-use Rattle.mini_names.specs.Resolved.{Environment}
-use Rattle.mini_names.specs.Scoped.{Scoped, AllScoped}
-use Rattle.mini_names.specs.Symbols.{declared as declared_in, declared_from, times}
-use Rattle.mini_names.specs.Early.{Path, own_declarations, declarations, body_declarations, scope_declarations, clashing, early_names, all_early_names, targets_of, early_jumps, all_early_jumps}
-use Rattle.mini_names.proofs.Changes.{times_both}
+use Rattle.mini_laws.specs.declared.names.Use.{Use}
+use Rattle.mini_laws.specs.declared.names.Use.TheVariants.{Read}
+use Rattle.mini_laws.specs.declared.names.Binding.{Binding}
+use Rattle.mini_laws.specs.declared.names.Declaration.{Declaration}
+use Rattle.mini_laws.specs.declared.names.Declared.{Declared}
+use Rattle.mini_laws.specs.declared.names.Declared.TheVariants as declared
+use Rattle.mini_laws.specs.declared.names.Targets.{Targets}
+use Rattle.mini_laws.specs.DeclaredNames.{has_inner, any_inner, names_of, all_names, body_names, lexical_names, with_names}
+use Rattle.mini_laws.specs.Scopes.{use_of, scopes_by, at_or_empty, lexical_scope}
+use Rattle.mini_laws.specs.Resolved.{Environment}
+use Rattle.mini_laws.specs.Scoped.{Scoped, AllScoped}
+use Rattle.mini_laws.specs.Symbols.{declared as declared_in, declared_from, times}
+use Rattle.mini_laws.specs.Early.{Path, own_declarations, declarations, body_declarations, scope_declarations, clashing, early_names, all_early_names, targets_of, early_jumps, all_early_jumps}
+use Rattle.mini_laws.proofs.Changes.{times_both}
 use Rattle.mini_laws.specs.Value.{Variable, choose, is_in}
 use Rattle.mini_laws.specs.State.{Writable}
 use Rattle.mini_laws.specs.Naming.{lets_first, summaries}

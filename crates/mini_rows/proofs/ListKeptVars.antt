@@ -8,16 +8,16 @@ use Rattle.mini_model.specs.declared.name.SymbolId.{SymbolId}
 use Rattle.mini_model.specs.declared.place.Position.TheVariants.{StatementList}
 use Rattle.mini_model.specs.Tree.{Tree, Trees, none, ◌▸◌, absent, listed}
 use Rattle.mini_model.specs.Paths.{append}
-use Rattle.mini_names.specs.declared.Use.{Use}
-use Rattle.mini_names.specs.declared.Use.TheVariants.{Read}
-use Rattle.mini_names.specs.declared.Declared.{Declared}
-use Rattle.mini_names.specs.declared.Declared.TheVariants as declared
-use Rattle.mini_names.specs.declared.Targets.{Targets}
-use Rattle.mini_names.specs.DeclaredNames.{names_of, body_names}
-use Rattle.mini_names.specs.Resolved.{Environment}
-use Rattle.mini_names.specs.Symbols.{declared as declared_in, times}
-use Rattle.mini_names.specs.Early.{own_declarations, declarations}
-use Rattle.mini_names.proofs.Changes.{times_both}
+use Rattle.mini_laws.specs.declared.names.Use.{Use}
+use Rattle.mini_laws.specs.declared.names.Use.TheVariants.{Read}
+use Rattle.mini_laws.specs.declared.names.Declared.{Declared}
+use Rattle.mini_laws.specs.declared.names.Declared.TheVariants as declared
+use Rattle.mini_laws.specs.declared.names.Targets.{Targets}
+use Rattle.mini_laws.specs.DeclaredNames.{names_of, body_names}
+use Rattle.mini_laws.specs.Resolved.{Environment}
+use Rattle.mini_laws.specs.Symbols.{declared as declared_in, times}
+use Rattle.mini_laws.specs.Early.{own_declarations, declarations}
+use Rattle.mini_laws.proofs.Changes.{times_both}
 use Rattle.mini_laws.specs.Value.{Variable}
 use Rattle.mini_laws.specs.Bodies.{Around, Body}
 use Rattle.mini_kept.specs.Carried.{numbers, all_numbers}

@@ -14,12 +14,12 @@ use Rattle.mini_model.specs.declared.place.Position.TheVariants.{Expr}
 use Rattle.mini_model.specs.Terms.{not_of}
 use Rattle.mini_model.specs.Weight.{weight}
 use Rattle.mini_accept.specs.WellShaped.{an_expression, one, fits}
-use Rattle.mini_names.specs.declared.Use.TheVariants.{Read}
-use Rattle.mini_names.specs.DeclaredNames.{has_inner}
-use Rattle.mini_names.specs.Scopes.{scopes_by}
-use Rattle.mini_names.specs.Scoped.{Scoped}
-use Rattle.mini_names.specs.Symbols.{declared as declared_in}
-use Rattle.mini_names.specs.Early.{early_names, scope_declarations, early_jumps, targets_of}
+use Rattle.mini_laws.specs.declared.names.Use.TheVariants.{Read}
+use Rattle.mini_laws.specs.DeclaredNames.{has_inner}
+use Rattle.mini_laws.specs.Scopes.{scopes_by}
+use Rattle.mini_laws.specs.Scoped.{Scoped}
+use Rattle.mini_laws.specs.Symbols.{declared as declared_in}
+use Rattle.mini_laws.specs.Early.{early_names, scope_declarations, early_jumps, targets_of}
 use Rattle.mini_laws.specs.Bodies.{bodies}
 use Rattle.mini_kept.specs.AlikeBodies.{BodiesKept}
 use Rattle.mini_kept.specs.Carried.{numbers}

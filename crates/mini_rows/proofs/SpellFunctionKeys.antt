@@ -10,16 +10,16 @@ use Rattle.mini_model.specs.declared.seat.Seat.{Seat}
 use Rattle.mini_model.specs.declared.shape.Shape.TheVariants as shape
 use Rattle.mini_model.specs.Paths.{append}
 use Rattle.mini_model.specs.Tree.{Tree, Trees, none, ◌▸◌, listed}
-use Rattle.mini_names.specs.declared.Binding.{Binding}
-use Rattle.mini_names.specs.declared.Targets.{Targets}
-use Rattle.mini_names.specs.declared.Use.{Use}
-use Rattle.mini_names.specs.declared.Use.TheVariants.{Read}
-use Rattle.mini_names.specs.DeclaredNames.{has_inner, any_inner}
-use Rattle.mini_names.specs.Early.{Path, scope_declarations, early_names, all_early_names, targets_of, early_jumps, all_early_jumps}
-use Rattle.mini_names.specs.Resolved.{Environment}
-use Rattle.mini_names.specs.Scoped.{Scoped, AllScoped}
-use Rattle.mini_names.specs.Scopes.{scopes_by}
-use Rattle.mini_names.specs.Symbols.{declared as declared_in, declared_from, symbols_in, times}
+use Rattle.mini_laws.specs.declared.names.Binding.{Binding}
+use Rattle.mini_laws.specs.declared.names.Targets.{Targets}
+use Rattle.mini_laws.specs.declared.names.Use.{Use}
+use Rattle.mini_laws.specs.declared.names.Use.TheVariants.{Read}
+use Rattle.mini_laws.specs.DeclaredNames.{has_inner, any_inner}
+use Rattle.mini_laws.specs.Early.{Path, scope_declarations, early_names, all_early_names, targets_of, early_jumps, all_early_jumps}
+use Rattle.mini_laws.specs.Resolved.{Environment}
+use Rattle.mini_laws.specs.Scoped.{Scoped, AllScoped}
+use Rattle.mini_laws.specs.Scopes.{scopes_by}
+use Rattle.mini_laws.specs.Symbols.{declared as declared_in, declared_from, symbols_in, times}
 use Rattle.mini_laws.specs.Value.{Variable, is_in, choose}
 use Rattle.mini_laws.specs.State.{Writable}
 use Rattle.mini_laws.specs.Naming.{summaries}

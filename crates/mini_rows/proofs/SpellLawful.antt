@@ -11,7 +11,7 @@ use Rattle.mini_model.specs.declared.seat.Seat.{Seat}
 use Rattle.mini_model.specs.Tree.{Tree, none, ◌▸◌}
 use Rattle.mini_kept.specs.KeepsNames.{is_rewritten_place}
 use Rattle.mini_kept.specs.Lawful.{Lawful}
-use Rattle.mini_names.specs.DeclaredNames.{has_inner}
+use Rattle.mini_laws.specs.DeclaredNames.{has_inner}
 use Rattle.mini_rows.specs.Arranged.{KeptAt, Vanishes}
 use Rattle.mini_rows.specs.Sketches.{AbsentPart, Null, BooleanValue, Number, String, PropertyName, Unary, Binary, StaticMember, ComputedMember, Yield, Assignment, Update, Sketch, part, under, end, ◌▹◌, Free, still, rearranges_expression}
 use Rattle.mini_rows.specs.Spellings.{boolean, assignment, update, plain, negated_digit, IsUndefined, Row33, Row33Name, Row33Number, Row33Assigned, Row33Updated, Row58Left, Row58Right, Row54, Row60Yield, ordered, typeof_name, Row55, SpellingRow, SpellingContracts}

@@ -13,10 +13,10 @@ use Rattle.mini_model.specs.Tree.{Tree, Trees, node, none, ◌▸◌, absent, li
 use Rattle.mini_model.specs.Paths.{append}
 use Rattle.mini_accept.specs.WellShaped as well
 use Rattle.mini_accept.specs.WellShaped.{Depth, in_module, in_body, nested, Class, a_statement, a_block, a_key, a_private_or_key, an_inner_key, a_declarator, a_pattern, an_expression, a_default_export, Slot, one, one_or_absent, many, many_or_holes, many_and_rest, many_or_holes_and_rest, quasis, each, filling, fits, fill}
-use Rattle.mini_names.specs.declared.Binding.{Binding}
-use Rattle.mini_names.specs.DeclaredNames.{has_inner}
-use Rattle.mini_names.specs.declared.Declared.TheVariants.{Lexical}
-use Rattle.mini_names.specs.Scoped.{Unmentioned, AllUnmentioned}
+use Rattle.mini_laws.specs.declared.names.Binding.{Binding}
+use Rattle.mini_laws.specs.DeclaredNames.{has_inner}
+use Rattle.mini_laws.specs.declared.names.Declared.TheVariants.{Lexical}
+use Rattle.mini_laws.specs.Scoped.{Unmentioned, AllUnmentioned}
 use Rattle.mini_laws.specs.Value.{Variable, Declared, nothing}
 use Rattle.mini_laws.specs.State.{Environment, Writable}
 use Rattle.mini_laws.specs.Demand.{Tail, Demand, Stat}

@@ -7,14 +7,14 @@ use Rattle.mini_model.specs.declared.name.Name.{Name}
 use Rattle.mini_model.specs.declared.name.SymbolId.{SymbolId}
 use Rattle.mini_model.specs.Tree.{Tree, Trees, node, none, ◌▸◌}
 use Rattle.mini_model.specs.Weight.{same_text}
-use Rattle.mini_names.specs.declared.Binding.{Binding}
-use Rattle.mini_names.specs.declared.Declared.{Declared}
-use Rattle.mini_names.specs.declared.Declared.TheVariants as declared
-use Rattle.mini_names.specs.declared.Place.{Place}
-use Rattle.mini_names.specs.declared.Place.TheVariants as place
-use Rattle.mini_names.specs.DeclaredNames.{place_of, names_by, names_of, first_names, all_names, is_spelled, with_name, with_names}
-use Rattle.mini_names.specs.Scoped.{NoneCarries, Unmentioned, AllUnmentioned}
-use Rattle.mini_names.specs.Symbols.{is_same}
+use Rattle.mini_laws.specs.declared.names.Binding.{Binding}
+use Rattle.mini_laws.specs.declared.names.Declared.{Declared}
+use Rattle.mini_laws.specs.declared.names.Declared.TheVariants as declared
+use Rattle.mini_laws.specs.declared.names.Place.{Place}
+use Rattle.mini_laws.specs.declared.names.Place.TheVariants as place
+use Rattle.mini_laws.specs.DeclaredNames.{place_of, names_by, names_of, first_names, all_names, is_spelled, with_name, with_names}
+use Rattle.mini_laws.specs.Scoped.{NoneCarries, Unmentioned, AllUnmentioned}
+use Rattle.mini_laws.specs.Symbols.{is_same}
 use Rattle.mini_laws.specs.Value.{Declared as Variable, variables, variable_eq, variable_by}
 use Rattle.mini_laws.specs.Congruence.{NoneIn, Avoids, AllAvoid}
 use Rattle.mini_laws.specs.Substitution.{alone}

@@ -8,12 +8,12 @@ use Rattle.mini_model.specs.declared.seat.StmtSeat.{StmtSeat}
 use Rattle.mini_model.specs.Tree.{Tree, Trees, listed, shape_of, children, child_or_absent}
 use Rattle.mini_model.specs.Redex.{Row40, Row82Else, Row82And, Row82Or}
 use Rattle.mini_accept.specs.WellShaped.{Depth, an_expression, a_statement, a_default_export, Slot, one, many, fits}
-use Rattle.mini_names.specs.declared.Targets.{Targets}
-use Rattle.mini_names.specs.declared.Use.TheVariants.{Read}
-use Rattle.mini_names.specs.DeclaredNames.{has_inner}
-use Rattle.mini_names.specs.Resolved.{Environment}
-use Rattle.mini_names.specs.Scoped.{Scoped}
-use Rattle.mini_names.specs.Symbols.{declared as declared_in, Within}
+use Rattle.mini_laws.specs.declared.names.Targets.{Targets}
+use Rattle.mini_laws.specs.declared.names.Use.TheVariants.{Read}
+use Rattle.mini_laws.specs.DeclaredNames.{has_inner}
+use Rattle.mini_laws.specs.Resolved.{Environment}
+use Rattle.mini_laws.specs.Scoped.{Scoped}
+use Rattle.mini_laws.specs.Symbols.{declared as declared_in, Within}
 use Rattle.mini_laws.specs.Value.{Variable}
 use Rattle.mini_laws.specs.State.{Writable}
 use Rattle.mini_laws.specs.Fixity.{fixed_by}

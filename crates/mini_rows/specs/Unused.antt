@@ -7,8 +7,8 @@ use Rattle.mini_model.specs.declared.place.Position.TheVariants.{Stmt}
 use Rattle.mini_model.specs.Tree.{Tree, Trees, node, none, ◌▸◌, empty_statement, expression_statement}
 use Rattle.mini_model.specs.Paths.{append}
 use Rattle.mini_model.specs.Weight.{same_text, weight}
-use Rattle.mini_names.specs.ScopeList.{has_eval}
-use Rattle.mini_names.specs.Symbols.{is_same}
+use Rattle.mini_laws.specs.ScopeList.{has_eval}
+use Rattle.mini_laws.specs.Symbols.{is_same}
 use Rattle.mini_node.specs.Kinds.{is_absent_part}
 use Rattle.mini_terms.specs.Folds.{is_effect_free}
 use Rattle.mini_terms.specs.Parts.{leaves_nothing}

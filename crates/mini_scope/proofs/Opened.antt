@@ -3,10 +3,10 @@ use Rattle.std.specs.Prelude.{ℕ, zero, suc, ◌≡◌, ◌≤◌, ◌<◌, ref
 use Rattle.std.proofs.Common.{ap, ◌∙◌, arith, sym}
 use Rattle.mini_model.specs.Tree.{Tree, Trees, none, ◌▸◌}
 use Rattle.mini_node.specs.Children.{trees_of}
-use Rattle.mini_names.specs.declared.Binding.{Binding}
-use Rattle.mini_names.specs.declared.Opening.{Opening}
-use Rattle.mini_names.specs.declared.Opening.TheVariants as opening
-use Rattle.mini_names.specs.Scopes.{at_or_empty, scopes_by}
+use Rattle.mini_laws.specs.declared.names.Binding.{Binding}
+use Rattle.mini_laws.specs.declared.names.Opening.{Opening}
+use Rattle.mini_laws.specs.declared.names.Opening.TheVariants as opening
+use Rattle.mini_laws.specs.Scopes.{at_or_empty, scopes_by}
 use Rattle.mini_scope.specs.declared.opening.OpenScopes.{OpenScopes}
 use Rattle.mini_scope.specs.ScopeAt.{scope_at}
 

@@ -7,9 +7,9 @@ use Rattle.std.specs.declared.vec.Vec.{Vec}
 use Rattle.std.specs.declared.alloc.Global.{Global}
 use Rattle.mini_model.specs.declared.name.SymbolId.{SymbolId}
 use Rattle.mini_model.specs.Weight.{same_text}
-use Rattle.mini_names.specs.declared.Use.{Use}
-use Rattle.mini_names.specs.declared.Binding.{Binding}
-use Rattle.mini_names.specs.Resolved.{or_else, serves, is_for, own_symbol, symbol_of, numbered}
+use Rattle.mini_laws.specs.declared.names.Use.{Use}
+use Rattle.mini_laws.specs.declared.names.Binding.{Binding}
+use Rattle.mini_laws.specs.Resolved.{or_else, serves, is_for, own_symbol, symbol_of, numbered}
 use Rattle.mini_scope.specs.Buckets.{bucket_of, places, AreEmpty, has_name}
 
 abbrev pub Held : List (Vec ℕ Global) → List Binding → Type 0

@@ -3,7 +3,7 @@ use Rattle.std.specs.Prelude.{ℕ, ◌≡◌, List, [], ◌∷◌, Option, Some,
 use Rattle.std.proofs.Common.{ap, ◌∙◌, sym}
 use Rattle.std.proofs.lemmas.List.{append-nil}
 use Rattle.mini_model.specs.Tree.{Tree}
-use Rattle.mini_names.specs.Early.{Path, early_names, early_jumps, no_targets}
+use Rattle.mini_laws.specs.Early.{Path, early_names, early_jumps, no_targets}
 use Rattle.mini_scope.specs.Errors.{first_path, IsFree}
 use Rattle.mini_model.specs.Faults.{Defect, Fault, early_name, early_jump}
 use Rattle.mini_scope.specs.Pointers.{pointer_in, fault_by, early_fault, fault_below, IsBelow}

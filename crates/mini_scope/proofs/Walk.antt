@@ -5,9 +5,9 @@ use Rattle.std.proofs.lemmas.List.{length-append, take-append-le, take_all}
 use Rattle.mini_model.specs.Tree.{Tree, Trees, none, ◌▸◌, node_count, node_counts, count, child_or_absent}
 use Rattle.mini_model.specs.Paths.{append}
 use Rattle.mini_node.specs.Children.{with_child, first_children, rest_children}
-use Rattle.mini_names.specs.declared.Use.{Use}
-use Rattle.mini_names.specs.declared.Binding.{Binding}
-use Rattle.mini_names.specs.Resolved.{numbered, symbols, symbols_from, resolved, resolved_from}
+use Rattle.mini_laws.specs.declared.names.Use.{Use}
+use Rattle.mini_laws.specs.declared.names.Binding.{Binding}
+use Rattle.mini_laws.specs.Resolved.{numbered, symbols, symbols_from, resolved, resolved_from}
 
 pub first_with : (ts : Trees) (i : ℕ) (x : Tree) → i < count ts → first_children (suc i) (with_child ts i x) ≡ append (first_children i ts) (x ▸ none)
 first_with none i x h = absurd (omega arith)

@@ -1,7 +1,7 @@
 -- The early errors of a program.
 use Rattle.std.specs.Prelude.{◌≡◌, List, [], ◌∷◌, Option, Some, None}
 use Rattle.mini_model.specs.Tree.{Tree}
-use Rattle.mini_names.specs.Early.{Path, early_names, early_jumps, no_targets}
+use Rattle.mini_laws.specs.Early.{Path, early_names, early_jumps, no_targets}
 use Rattle.mini_scope.specs.declared.check.EarlyError.{EarlyError}
 use Rattle.mini_scope.specs.declared.check.EarlyError.TheVariants as error
 

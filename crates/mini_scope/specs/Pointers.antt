@@ -3,7 +3,7 @@ use Rattle.std.specs.Prelude.{ℕ, zero, suc, ◌+◌, List, [], ◌∷◌, ◌+
 use Rattle.mini_model.specs.declared.shape.Shape.{Shape}
 use Rattle.mini_model.specs.declared.shape.Shape.TheVariants as shape
 use Rattle.mini_model.specs.Tree.{Tree, shape_of, children, child_or_absent}
-use Rattle.mini_names.specs.Early.{Path, early_names, early_jumps, no_targets}
+use Rattle.mini_laws.specs.Early.{Path, early_names, early_jumps, no_targets}
 use Rattle.mini_model.specs.Faults.{Fault, early_name, early_jump}
 
 abbrev pub picked : ℕ → List ℕ → List ℕ → List ℕ → List ℕ → List ℕ

@@ -1,7 +1,7 @@
 -- The scopes that a node opens, as the code holds them.
 use Rattle.std.specs.Prelude.{ℕ, zero, suc, Bool, List, [], map}
 use Rattle.mini_model.specs.declared.name.Name.{Name}
-use Rattle.mini_names.specs.declared.Binding.{Binding}
+use Rattle.mini_laws.specs.declared.names.Binding.{Binding}
 use Rattle.mini_scope.specs.declared.opening.OpenScopes.{OpenScopes}
 
 -- the names that are declared before the child at an index

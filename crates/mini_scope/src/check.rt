@@ -1,14 +1,14 @@
 //! Whether a program has an early error.
 
 ghost use Rattle.std.specs.Prelude.{◌≡◌, IfOk, OnOk, IfErr, []};
-ghost use Rattle.mini_names.specs.Early.{early_names, early_jumps, no_targets as none};
+ghost use Rattle.mini_laws.specs.Early.{early_names, early_jumps, no_targets as none};
 ghost use Rattle.mini_scope.specs.Errors.{first_path, IsFree, Stands};
 
 use crate::doubles::push_early_names;
 use crate::jumps::push_early_jumps;
 use crate::targets::no_targets;
 use mini_model::{OutOfMemory, OwnedList};
-use mini_names::Path;
+use mini_laws::Path;
 use mini_node::Node;
 use std::alloc::Global;
 

@@ -1,12 +1,12 @@
 //! Names that are declared twice, in a list of declarations.
 
 ghost use Rattle.std.specs.Prelude.{◌≡◌, [], ◌∷◌, ◌++◌, OnOk, if◌then◌else◌};
-ghost use Rattle.mini_names.specs.Early.{clashing};
+ghost use Rattle.mini_laws.specs.Early.{clashing};
 ghost use Rattle.mini_scope.specs.Paths.{use_for};
 
 use crate::environment::Environment;
 use mini_model::{Name, OutOfMemory};
-use mini_names::{Binding, Declaration, Path, Use};
+use mini_laws::{Binding, Declaration, Path, Use};
 use std::alloc::Global;
 
 /// How to look for the declarations with which a lexical one clashes, or another one.

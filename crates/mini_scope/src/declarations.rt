@@ -3,14 +3,14 @@
 ghost use Rattle.std.specs.Prelude.{◌≡◌, ◌++◌, not, ◌&&◌, IfOk, OnOk};
 ghost use Rattle.mini_model.specs.Tree.{child_or_absent, children, shape_of};
 ghost use Rattle.mini_node.specs.Children.{names};
-ghost use Rattle.mini_names.specs.Early.{own_declarations, declarations as declarations_of, all_declarations, body_declarations, all_body_declarations, at_child, in_body, is_function_shape, is_pattern_shape, in_param, in_block, declarations_by, scope_declarations};
+ghost use Rattle.mini_laws.specs.Early.{own_declarations, declarations as declarations_of, all_declarations, body_declarations, all_body_declarations, at_child, in_body, is_function_shape, is_pattern_shape, in_param, in_block, declarations_by, scope_declarations};
 ghost use Rattle.mini_scope.specs.Paths.{IsUp};
 
 use crate::declared::copy_text;
 use crate::kinds::{clash_of, holds_statements, is_function, is_pattern};
 use crate::tables::place_of;
 use mini_model::{Name, OutOfMemory, OwnedList, Shape};
-use mini_names::{Clash, Declaration, Declared, Path, Place};
+use mini_laws::{Clash, Declaration, Declared, Path, Place};
 use mini_node::{Node, Nodes};
 use std::alloc::Global;
 

@@ -2,12 +2,12 @@
 
 ghost use Rattle.std.specs.Prelude.{◌≡◌, List, ◌++◌, [], drop, length, IfOk, OnOk};
 ghost use Rattle.mini_model.specs.declared.name.Name.{Name as NameOf};
-ghost use Rattle.mini_names.specs.DeclaredNames.{with_names};
+ghost use Rattle.mini_laws.specs.DeclaredNames.{with_names};
 ghost use Rattle.mini_scope.specs.ScopeAt.{bound};
 
 use crate::Environment;
 use mini_model::{Name, OutOfMemory};
-use mini_names::{Binding, Use};
+use mini_laws::{Binding, Use};
 use std::alloc::Global;
 
 /// Adds these names.

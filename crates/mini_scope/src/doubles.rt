@@ -1,12 +1,12 @@
 //! Names that are declared twice, in a tree.
 
 ghost use Rattle.std.specs.Prelude.{◌≡◌, ◌++◌, OnOk};
-ghost use Rattle.mini_names.specs.Early.{early_names, all_early_names};
+ghost use Rattle.mini_laws.specs.Early.{early_names, all_early_names};
 
 use crate::clashes::push_clashing;
 use crate::declarations::{go_up, push_scope};
 use mini_model::OutOfMemory;
-use mini_names::Path;
+use mini_laws::Path;
 use mini_node::{Node, Nodes};
 use std::alloc::Global;
 

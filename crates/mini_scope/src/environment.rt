@@ -1,12 +1,12 @@
 //! The scopes around a place.
 
 ghost use Rattle.std.specs.Prelude.{◌≡◌, ◌+◌, ◌-◌, ◌^◌, ◌<◌, ◌++◌, ◌∷◌, [], length, take, IfOk, OnOk};
-ghost use Rattle.mini_names.specs.Resolved.{symbol_of, own_symbol, or_else, is_for as is_binding_for, numbered};
+ghost use Rattle.mini_laws.specs.Resolved.{symbol_of, own_symbol, or_else, is_for as is_binding_for, numbered};
 ghost use Rattle.mini_scope.specs.Buckets.{AreEmpty, has_name};
 
 use crate::hash::bucket_of;
 use mini_model::{OutOfMemory, SymbolId, Text};
-use mini_names::{Binding, Use};
+use mini_laws::{Binding, Use};
 use std::alloc::Global;
 use std::marker::Model;
 
@@ -21,7 +21,7 @@ impl Model for Environment {
     ghost use Rattle.std.specs.Prelude.{ℕ, List, ◌<◌, ◌≡◌, length, slice_index_or};
     ghost use Rattle.std.specs.declared.vec.Vec.{Vec};
     ghost use Rattle.std.specs.declared.alloc.Global.{Global};
-    ghost use Rattle.mini_names.specs.declared.Binding.{Binding};
+    ghost use Rattle.mini_laws.specs.declared.names.Binding.{Binding};
     ghost use Rattle.mini_scope.specs.Buckets.{places};
 
     ghost Value = { List Binding };

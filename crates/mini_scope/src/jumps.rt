@@ -1,13 +1,13 @@
 //! Jumps without a target, in a tree.
 
 ghost use Rattle.std.specs.Prelude.{◌≡◌, [], ◌∷◌, ◌++◌, OnOk, if◌then◌else◌};
-ghost use Rattle.mini_names.specs.Early.{early_jumps, all_early_jumps, targets_of, turned as turned_by};
+ghost use Rattle.mini_laws.specs.Early.{early_jumps, all_early_jumps, targets_of, turned as turned_by};
 
 use crate::declarations::{copy_path, go_up};
 use crate::kinds::turn_of;
 use crate::targets::{is_bad_jump, turned};
 use mini_model::{OutOfMemory, Shape};
-use mini_names::{Path, Targets, Turn};
+use mini_laws::{Path, Targets, Turn};
 use mini_node::{Node, Nodes};
 use std::alloc::Global;
 

@@ -2,15 +2,15 @@
 
 ghost use Rattle.std.specs.Prelude.{◌≡◌, ◌+◌, ◌^◌, ◌<◌, length, take, map, IfOk};
 ghost use Rattle.mini_node.specs.Children.{like, names_of, with_names};
-ghost use Rattle.mini_names.specs.Scopes.{use_of as use_at};
-ghost use Rattle.mini_names.specs.Resolved.{with_symbol, symbols, symbols_from, resolved, resolved_from, resolved_program};
-ghost use Rattle.mini_names.specs.declared.Use.TheVariants as variant;
+ghost use Rattle.mini_laws.specs.Scopes.{use_of as use_at};
+ghost use Rattle.mini_laws.specs.Resolved.{with_symbol, symbols, symbols_from, resolved, resolved_from, resolved_program};
+ghost use Rattle.mini_laws.specs.declared.names.Use.TheVariants as variant;
 ghost use Rattle.mini_scope.specs.ScopeAt.{scope_at};
 
 use crate::opening::OpenScopes;
 use crate::{Environment, is_leaf, use_of};
 use mini_model::{OutOfMemory, Shape};
-use mini_names::Use;
+use mini_laws::Use;
 use mini_node::{Node, Nodes};
 use std::alloc::Global;
 

@@ -3,14 +3,14 @@
 ghost use Rattle.std.specs.Prelude.{◌≡◌, ℕ, ◌<◌, true, [], ◌∷◌, map, drop, length, IfOk};
 ghost use Rattle.mini_model.specs.Tree.{children, count, shape_of};
 ghost use Rattle.mini_node.specs.Children.{trees_of};
-ghost use Rattle.mini_names.specs.declared.Declared.TheVariants as declared;
-ghost use Rattle.mini_names.specs.DeclaredNames.{names_of, body_names};
-ghost use Rattle.mini_names.specs.Scopes.{opened, at_or_empty, scopes_by, name_if, lexical_scope as scope_of_names, body_scope as scope_of_body, merged};
+ghost use Rattle.mini_laws.specs.declared.names.Declared.TheVariants as declared;
+ghost use Rattle.mini_laws.specs.DeclaredNames.{names_of, body_names};
+ghost use Rattle.mini_laws.specs.Scopes.{opened, at_or_empty, scopes_by, name_if, lexical_scope as scope_of_names, body_scope as scope_of_body, merged};
 
 use crate::distinct::scope_of;
 use crate::{has_inner, opening_of, push_body_names, push_names};
 use mini_model::{Name, OutOfMemory};
-use mini_names::{Binding, Declared, Opening, Use};
+use mini_laws::{Binding, Declared, Opening, Use};
 use mini_node::Node;
 use std::alloc::Global;
 use std::mem;

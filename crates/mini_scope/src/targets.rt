@@ -2,12 +2,12 @@
 
 ghost use Rattle.std.specs.Prelude.{◌≡◌, [], ◌∷◌, ◌++◌, not, unwrap_or, Some, None, IfOk};
 ghost use Rattle.mini_model.specs.Tree.{child_or_absent, shape_of};
-ghost use Rattle.mini_names.specs.Early.{no_targets as none, label_by, label_in, is_loop as is_loop_in, last_is_loop as last_is_loop_in, label_for, turned as turned_by, has_label as has_label_in, has_loop_label as has_loop_label_in, is_bad as is_bad_with, is_bad_jump as is_bad_jump_in};
+ghost use Rattle.mini_laws.specs.Early.{no_targets as none, label_by, label_in, is_loop as is_loop_in, last_is_loop as last_is_loop_in, label_for, turned as turned_by, has_label as has_label_in, has_loop_label as has_loop_label_in, is_bad as is_bad_with, is_bad_jump as is_bad_jump_in};
 
 use crate::declared::copy_text;
 use crate::kinds::{is_labeled, is_loop as is_loop_shape, jump_of};
 use mini_model::{OutOfMemory, OwnedList, Shape, Text};
-use mini_names::{Jump, Label, Targets, Turn};
+use mini_laws::{Jump, Label, Targets, Turn};
 use mini_node::{Node, Nodes};
 use std::alloc::Global;
 

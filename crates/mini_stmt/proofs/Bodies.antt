@@ -17,7 +17,7 @@ use Rattle.mini_node.specs.Kinds.{is_listed, is_block, is_if_alone, is_return_st
 use Rattle.mini_node.specs.Made.{listed_is, block_is, if_alone_is, return_statement_is, absent_is}
 use Rattle.mini_node.specs.Walks.{from_first, next_child, no_rest}
 use Rattle.mini_model.specs.declared.memory.OutOfMemory.{OutOfMemory}
-use Rattle.mini_walk.specs.Rule.{Moves}
+use Rattle.mini_tree.specs.Rule.{Moves}
 use Rattle.mini_rows.specs.Switches.{Switches}
 use Rattle.mini_rows.specs.Lists.{return_statement, are_unscoped, is_unscoped, is_shallow, are_shallow, alternate_of, bare_return, Row75, Row75Block, Row78, AtEnd, EndRow, ListRow, ListContracts}
 use Rattle.mini_rows.proofs.ListWeights.{lists_lighter}

@@ -9,7 +9,7 @@ use Rattle.mini_node.specs.Children.{part}
 use Rattle.mini_node.specs.Equal.{same_tree}
 use Rattle.mini_node.specs.Kinds.{is_expression_statement, is_if_alone, is_if_statement, is_return_statement, is_throw_statement}
 use Rattle.mini_terms.specs.Parts.{leaves_nothing}
-use Rattle.mini_walk.specs.Rule as rule
+use Rattle.mini_tree.specs.Rule as rule
 use Rattle.mini_rows.specs.Switches.{Switches}
 use Rattle.mini_rows.specs.Lists.{is_terminated, is_shallow, GuardsRow, InList, ListContracts}
 use Rattle.mini_stmt.specs.MinimizeStatements.{Changes, is_quiet}

@@ -2,7 +2,7 @@
 use Rattle.mini_laws.proofs.Lighter.{any_step_lighter}
 use Rattle.mini_rows.specs.Lists.{ListContracts}
 use Rattle.mini_rows.proofs.ListWeights.{lists_lighten}
-use Rattle.mini_walk.specs.Rule.{AreLighter}
+use Rattle.mini_tree.specs.Rule.{AreLighter}
 use Rattle.mini_stmt.specs.MinimizeStatements.{switches_of, Gives}
 
 pub lists_lighter : AreLighter Gives

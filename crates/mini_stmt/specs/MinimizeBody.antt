@@ -7,7 +7,7 @@ use Rattle.mini_model.specs.Tree.{Tree, Trees, none, ◌▸◌, count, child_or_
 use Rattle.mini_model.specs.Paths.{append}
 use Rattle.mini_node.specs.Children.{part, first_children, rest_children}
 use Rattle.mini_node.specs.Kinds.{is_if_alone, is_block}
-use Rattle.mini_walk.specs.Rule as rule
+use Rattle.mini_tree.specs.Rule as rule
 use Rattle.mini_rows.specs.Switches.{Switches}
 use Rattle.mini_rows.specs.Lists.{are_unscoped, are_shallow, bare_return, Row75, Row75Block, AtEnd, EndRow, ListContracts}
 use Rattle.mini_stmt.specs.JoinGuards.{last_after, is_apart}

@@ -8,7 +8,7 @@ use Rattle.mini_model.specs.Paths.{append}
 use Rattle.mini_node.specs.Children.{part}
 use Rattle.mini_node.specs.Kinds.{is_absent_part, is_empty_statement}
 use Rattle.mini_tree.specs.declared.options.CompressOptions.{CompressOptions}
-use Rattle.mini_walk.specs.Rule as rule
+use Rattle.mini_tree.specs.Rule as rule
 use Rattle.mini_rows.specs.Switches.{Switches}
 use Rattle.mini_rows.specs.Lists.{StretchRow, InList, ListRow, ListContracts}
 use Rattle.mini_stmt.specs.declared.lead.Lead.{Lead}

@@ -7,7 +7,7 @@ ghost use Rattle.mini_stmt.specs.MinimizeStatements as row;
 ghost use Rattle.mini_stmt.specs.MinimizeStatements.{Changes, Minimized, JoinsStatements, MinimizesList, Placed, Gives, RestsUnder, switches_of};
 ghost use Rattle.mini_stmt.specs.MinimizeBody.{QuietRests};
 ghost use Rattle.mini_stmt.specs.Lighter.{lists_lighter};
-ghost use Rattle.mini_walk.specs.Rule.{Applied};
+ghost use Rattle.mini_tree.specs.Rule.{Applied};
 
 use crate::lead::{Lead, lead_of};
 use crate::rewrites::join_expressions::joined_expressions;
@@ -27,7 +27,7 @@ use crate::terms::is_joinable_statement;
 use mini_model::{OutOfMemory, Position, Shape};
 use mini_node::{Node, Nodes, discard, is_empty_statement, is_listed};
 use mini_tree::CompressOptions;
-use mini_walk::{Context, Rule};
+use mini_tree::{Context, Rule};
 use std::alloc::Global;
 use std::mem;
 

@@ -5,8 +5,8 @@ use Rattle.mini_model.specs.declared.place.Position.TheVariants.{Expr}
 use Rattle.mini_model.specs.declared.seat.Seat.{Seat}
 use Rattle.mini_model.specs.Tree.{Tree}
 use Rattle.mini_rows.proofs.SpellWeights.{lighter}
-use Rattle.mini_walk.specs.Rule.{Applied}
-use Rattle.mini_walk.proofs.Reaching.{moves_once}
+use Rattle.mini_tree.specs.Rule.{Applied}
+use Rattle.mini_tree.proofs.Reaching.{moves_once}
 use Rattle.mini_syntax.specs.Forms.{first_of}
 use Rattle.mini_syntax.specs.SubstituteLooseEqualsUndefined as loose
 use Rattle.mini_syntax.specs.SubstituteSwapBinaryExpressions as swap

@@ -13,8 +13,8 @@ use Rattle.mini_node.specs.Made.{return_statement_is}
 use Rattle.mini_rows.specs.Lists.{return_statement}
 use Rattle.mini_rows.specs.Arrows.{arrow, returning, Row59}
 use Rattle.mini_rows.proofs.ArrowWeights.{arrows_lighter}
-use Rattle.mini_walk.specs.Rule.{Applied}
-use Rattle.mini_walk.proofs.Reaching.{moves_once}
+use Rattle.mini_tree.specs.Rule.{Applied}
+use Rattle.mini_tree.proofs.Reaching.{moves_once}
 use Rattle.mini_syntax.specs.SubstituteArrowExpression.{is_absent_shape, are_none, are_two, returned, returns, is_returning, unwrapped, written, Gives, Rests}
 
 false_not_true : false ≡ true → ⊥

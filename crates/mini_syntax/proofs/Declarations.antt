@@ -17,7 +17,7 @@ use Rattle.mini_node.specs.Walks.{next_child, no_rest}
 use Rattle.mini_rows.specs.Lists.{declaration, for_loop, InList}
 use Rattle.mini_rows.specs.Declarations.{binding, declarator, Row61, Item, Alone, Exported, held, Row61Item, Row61For, DeclarationRow, DeclarationContracts}
 use Rattle.mini_rows.proofs.DeclarationWeights as weights
-use Rattle.mini_walk.proofs.Reaching.{moves_once}
+use Rattle.mini_tree.proofs.Reaching.{moves_once}
 use Rattle.mini_syntax.specs.Forms.{is_undefined}
 use Rattle.mini_syntax.specs.SubstituteVariableDeclaration.{is_binding, is_declarator_shape, begins_undefined, any_of, is_let_shape, declares_undefined, is_export_shape, exports_undefined, is_read, is_for_shape, loops_undefined, dropped, bared, Bared, Applied}
 use Rattle.mini_syntax.proofs.FormsAre.{undefined_is, undefined_passes}

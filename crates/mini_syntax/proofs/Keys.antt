@@ -24,8 +24,8 @@ use Rattle.mini_node.specs.Walks.{append_one}
 use Rattle.mini_rows.specs.Spellings.{numeral, text, key}
 use Rattle.mini_rows.specs.SpellKeys.{object_literal, property, is_proto, KeyForm, a_name, a_whole, a_text_in_brackets, a_whole_in_brackets, IsSpelled, is_bracketed_form, read_key, written_key, function_property, is_function_kind, PropertyRow, RowInObject, KeyContracts}
 use Rattle.mini_rows.proofs.SpellKeyWeights.{lighter}
-use Rattle.mini_walk.specs.Rule.{Applied, Moves}
-use Rattle.mini_walk.proofs.Reaching.{moves_once, moves_trans}
+use Rattle.mini_tree.specs.Rule.{Applied, Moves}
+use Rattle.mini_tree.proofs.Reaching.{moves_once, moves_trans}
 use Rattle.mini_syntax.specs.ConvertToDottedProperties as dotted
 use Rattle.mini_syntax.specs.ConvertToDottedProperties.{as_name}
 use Rattle.mini_syntax.specs.SubstituteObjectProperty.{is_open, is_bracketed, is_plain_shape, is_plain, opened_shape, with_key, is_plain_open, is_whole, is_literal_key, drops_brackets, unbracketed, is_key_text, names_key, whole_of, key_number, named, numbered, respelled_by, respelled, respells, key_name, spells, is_doubled, shortened, turned, turns, all_turned, any_turns, is_object_literal, properties, written, is_written, Gives, Rests, WrittenIsReached, UnwrittenRests}

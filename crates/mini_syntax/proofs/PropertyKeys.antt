@@ -17,8 +17,8 @@ use Rattle.mini_node.specs.Made.{string_is}
 use Rattle.mini_rows.specs.Spellings.{numeral, text}
 use Rattle.mini_rows.specs.KeyHolders.{Holder, a_binding, a_target, a_method, a_field, holding, Spelling, of_name, of_whole, IsSpelling, quoted, unquoted, Row52Held, Member, of_target, of_method, of_field, member_shape, in_brackets, PlainKey, a_word, a_count, plain_key, IsPlainKey, loses_brackets, Row52Bare, HeldKeyRow}
 use Rattle.mini_rows.proofs.KeysJoined.{held_keys_lighter}
-use Rattle.mini_walk.specs.Rule.{Applied}
-use Rattle.mini_walk.proofs.Reaching.{moves_once}
+use Rattle.mini_tree.specs.Rule.{Applied}
+use Rattle.mini_tree.proofs.Reaching.{moves_once}
 use Rattle.mini_syntax.specs.ConvertToDottedProperties as dotted
 use Rattle.mini_syntax.specs.ConvertToDottedProperties.{is_name_text, as_name}
 use Rattle.mini_syntax.specs.SubstituteObjectProperty.{is_literal_key, whole_of}

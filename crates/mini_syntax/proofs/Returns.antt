@@ -15,8 +15,8 @@ use Rattle.mini_terms.specs.Parts.{leaves_nothing}
 use Rattle.mini_rows.specs.Branches.{IsIdleVoid, Row60}
 use Rattle.mini_rows.specs.Spellings.{IsUndefined}
 use Rattle.mini_rows.proofs.BranchWeights.{branch_lighter}
-use Rattle.mini_walk.specs.Rule.{Applied}
-use Rattle.mini_walk.proofs.Reaching.{moves_once}
+use Rattle.mini_tree.specs.Rule.{Applied}
+use Rattle.mini_tree.proofs.Reaching.{moves_once}
 use Rattle.mini_syntax.specs.Forms.{is_void, is_undefined}
 use Rattle.mini_syntax.specs.SubstituteReturnStatement.{is_idle_void, returns_undefined, written, Gives, Rests, WrittenIsRow, UnwrittenRests}
 use Rattle.mini_syntax.proofs.FormsAre.{either_true, undefined_is, undefined_passes}

@@ -10,8 +10,8 @@ use Rattle.mini_rows.proofs.DeclarationWeights.{declarations_lighten}
 use Rattle.mini_rows.proofs.KeysJoined.{held_keys_lighten}
 use Rattle.mini_rows.proofs.SpellKeyWeights as keys
 use Rattle.mini_rows.proofs.SpellWeights.{lightens}
-use Rattle.mini_walk.specs.Rule.{IsLighter}
-use Rattle.mini_walk.specs.Wider.{step_of}
+use Rattle.mini_tree.specs.Rule.{IsLighter}
+use Rattle.mini_tree.specs.Wider.{step_of}
 use Rattle.mini_syntax.specs.Spelled.{Gives}
 use Rattle.mini_syntax.specs.SubstituteArrowExpression as arrow
 use Rattle.mini_syntax.specs.SubstituteObjectProperty as keyed

@@ -16,7 +16,7 @@ use Rattle.mini_node.specs.Children.{part, is_bare, names_of}
 use Rattle.mini_node.specs.Kinds.{carried, string, is_identifier, is_listed}
 use Rattle.mini_rows.specs.Spellings.{numeral}
 use Rattle.mini_rows.specs.SpellKeys.{object_literal, property, is_proto, KeyRow, KeyContracts}
-use Rattle.mini_walk.specs.Rule as rule
+use Rattle.mini_tree.specs.Rule as rule
 use Rattle.mini_syntax.specs.ConvertToDottedProperties.{number_of_text, as_name}
 
 -- A property that is no shorthand

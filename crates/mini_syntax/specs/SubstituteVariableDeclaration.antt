@@ -8,7 +8,7 @@ use Rattle.mini_model.specs.Tree.{Tree, Trees, none, ◌▸◌, shape_of, absent
 use Rattle.mini_node.specs.Children.{part, with_part, is_bare}
 use Rattle.mini_node.specs.Kinds.{is_named_leaf, is_listed}
 use Rattle.mini_rows.specs.Declarations.{Row61, Item, held, DeclarationRow, DeclarationContracts}
-use Rattle.mini_walk.specs.Rule as rule
+use Rattle.mini_tree.specs.Rule as rule
 use Rattle.mini_syntax.specs.Forms.{is_undefined}
 
 -- shapes

@@ -1,5 +1,5 @@
-//! Syntax trees as the rest of the program speaks of them: nodes and their kinds, where they stand, what they weigh,
-//! and the options.
+//! Syntax trees as the rest of the program speaks of them: nodes and their kinds, where they stand, what they weigh, and
+//! the options; and rules applied over a whole tree, at each node, its children first, in passes until nothing is left to do.
 //!
 //! A weight is about twice the length of the text that a printer would write (`mini_model`'s `specs/Weight.antt`), and
 //! weighing takes no memory.
@@ -11,9 +11,12 @@ mod marks;
 mod options;
 mod outline;
 mod own;
+mod passes;
 mod place;
+mod rule;
 pub mod seats;
 mod text;
+mod walking;
 mod weigh;
 
 pub use classes::Argument;

@@ -5,7 +5,7 @@ use Rattle.mini_model.specs.declared.shape.Shape.{Shape}
 use Rattle.mini_model.specs.Tree.{Tree, Trees, node, ◌▸◌, count, child_or_absent, shape_of, children}
 use Rattle.mini_node.specs.Children.{rest_children, trees_of}
 use Rattle.mini_node.specs.Walks.{next_child, no_rest}
-use Rattle.mini_names.specs.ScopeList.{has_eval, any_has_eval, is_eval_call}
+use Rattle.mini_laws.specs.ScopeList.{has_eval, any_has_eval, is_eval_call}
 
 any_more : (t : Tree) (ts : Trees) → any_has_eval (t ▸ ts) ≡ (has_eval t || any_has_eval ts)
 unfolding has_eval

@@ -11,7 +11,7 @@ use Rattle.mini_model.specs.declared.seat.StmtSeat.{StmtSeat}
 use Rattle.mini_model.specs.declared.shape.Shape.TheVariants as shape
 use Rattle.mini_model.specs.Tree.{Tree, Trees, node, none, ◌▸◌, listed, shape_of, children, count, child_or_absent, empty_statement, expression_statement}
 use Rattle.mini_model.specs.Paths.{append}
-use Rattle.mini_names.specs.ScopeList.{has_eval}
+use Rattle.mini_laws.specs.ScopeList.{has_eval}
 use Rattle.mini_node.specs.Children.{names_of, part, with_child, with_part, without, is_bare, first_children, rest_children}
 use Rattle.mini_node.specs.Kinds.{is_block}
 use Rattle.mini_node.specs.Made.{block_is}
@@ -19,7 +19,7 @@ use Rattle.mini_rows.specs.Lists.{block, declaration, declares_nothing}
 use Rattle.mini_rows.specs.Declarations.{binding, declarator}
 use Rattle.mini_rows.specs.Unused.{resolved, let_among, left_over, names, any_names, is_idle, Alone, UnusedRow, UnusedContracts}
 use Rattle.mini_rows.proofs.UnusedWeights.{unused_lighter}
-use Rattle.mini_walk.proofs.Reaching.{moves_once}
+use Rattle.mini_tree.proofs.Reaching.{moves_once}
 use Rattle.mini_unused.specs.RemoveUnusedDeclaration.{is_resolved_binding, is_declarator_shape, declares_name, is_let, may_go, is_alone, is_unused_declarator, list_at, is_unused, UnusedIn, UnusedOf, UnusedAt, let_left, statement_left, block_left, Applied}
 
 -- ---- children

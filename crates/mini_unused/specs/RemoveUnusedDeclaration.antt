@@ -11,7 +11,7 @@ use Rattle.mini_node.specs.Children.{names_of, like, part, with_part, without, i
 use Rattle.mini_node.specs.Kinds.{is_listed, is_named_leaf}
 use Rattle.mini_rows.specs.Lists.{declares_nothing}
 use Rattle.mini_rows.specs.Unused.{names, any_names, is_idle, UnusedRow, UnusedContracts}
-use Rattle.mini_walk.specs.Rule as rule
+use Rattle.mini_tree.specs.Rule as rule
 
 -- shapes
 

@@ -20,7 +20,7 @@ use mini_node::{
     is_listed, two,
 };
 use mini_terms::{has_no_effect, leaves_nothing};
-use mini_walk::{Context, Rule};
+use mini_tree::{Context, Rule};
 use std::alloc::Global;
 
 // A name with a symbol.

@@ -2,7 +2,7 @@
 
 ghost use Rattle.std.specs.Prelude.{◌≡◌};
 ghost use Rattle.mini_node.specs.Children.{names, rest_children, trees_of};
-ghost use Rattle.mini_names.specs.ScopeList as scopes;
+ghost use Rattle.mini_laws.specs.ScopeList as scopes;
 
 use mini_model::{Name, Shape};
 use mini_node::{Node, Nodes};

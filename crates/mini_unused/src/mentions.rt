@@ -3,7 +3,7 @@
 ghost use Rattle.std.specs.Prelude.{◌≡◌, ◌≤◌};
 ghost use Rattle.mini_model.specs.Tree.{count};
 ghost use Rattle.mini_model.specs.Weight.{same_text};
-ghost use Rattle.mini_names.specs.Symbols.{is_same};
+ghost use Rattle.mini_laws.specs.Symbols.{is_same};
 ghost use Rattle.mini_node.specs.Children.{first_children, names as names_in, rest_children};
 ghost use Rattle.mini_rows.specs.Unused.{any_names, is_like_one, names};
 

@@ -7,18 +7,18 @@ use Rattle.mini_model.specs.declared.name.Name.{Name}
 use Rattle.mini_model.specs.declared.shape.Shape.{Shape}
 use Rattle.mini_model.specs.declared.shape.Shape.TheVariants as shape
 use Rattle.mini_model.specs.Tree.{Tree, node, Trees, none, ◌▸◌}
-use Rattle.mini_names.specs.declared.Use.{Use}
-use Rattle.mini_names.specs.declared.Binding.{Binding}
-use Rattle.mini_names.specs.declared.Declared.{Declared}
-use Rattle.mini_names.specs.declared.Declared.TheVariants as declared
-use Rattle.mini_names.specs.declared.Opening.{Opening}
-use Rattle.mini_names.specs.declared.Opening.TheVariants as opening
-use Rattle.mini_names.specs.declared.Place.{Place}
-use Rattle.mini_names.specs.declared.Place.TheVariants as place
-use Rattle.mini_names.specs.DeclaredNames.{bound_place, lexical_place, hoisted_place, place_of, names_by, names_of, first_names, all_names, is_statement_list, body_names, all_body_names, bound_names, is_spelled, with_name, with_names}
-use Rattle.mini_names.specs.References.{Reference, own_references, references, references_from}
-use Rattle.mini_names.specs.Resolved.{symbols, symbols_from}
-use Rattle.mini_names.specs.Scopes.{use_of, lexical_scope, body_scope, merged, is_alone, opening_of, name_if, scopes_by, at_or_empty, opened}
+use Rattle.mini_laws.specs.declared.names.Use.{Use}
+use Rattle.mini_laws.specs.declared.names.Binding.{Binding}
+use Rattle.mini_laws.specs.declared.names.Declared.{Declared}
+use Rattle.mini_laws.specs.declared.names.Declared.TheVariants as declared
+use Rattle.mini_laws.specs.declared.names.Opening.{Opening}
+use Rattle.mini_laws.specs.declared.names.Opening.TheVariants as opening
+use Rattle.mini_laws.specs.declared.names.Place.{Place}
+use Rattle.mini_laws.specs.declared.names.Place.TheVariants as place
+use Rattle.mini_laws.specs.DeclaredNames.{bound_place, lexical_place, hoisted_place, place_of, names_by, names_of, first_names, all_names, is_statement_list, body_names, all_body_names, bound_names, is_spelled, with_name, with_names}
+use Rattle.mini_laws.specs.References.{Reference, own_references, references, references_from}
+use Rattle.mini_laws.specs.Resolved.{symbols, symbols_from}
+use Rattle.mini_laws.specs.Scopes.{use_of, lexical_scope, body_scope, merged, is_alone, opening_of, name_if, scopes_by, at_or_empty, opened}
 use Rattle.mini_writer.proofs.Loads.{name_count, name_counts}
 
 -- ---- references

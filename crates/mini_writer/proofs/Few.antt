@@ -3,7 +3,7 @@ use Rattle.std.proofs.Common.{◌≡◌, ℕ, suc, ◌+◌, ◌≤◌, refl, Boo
 use Rattle.std.specs.Prelude.{nat_eq, Option, Some, None, option_and_then, if◌then◌else◌, Ok}
 use Rattle.serde_json.specs.Data.{Data}
 use Rattle.mini_model.specs.Tree.{Tree, node, Trees, none, ◌▸◌, node_count, node_counts}
-use Rattle.mini_names.specs.declared.Use.TheVariants.{Read}
+use Rattle.mini_laws.specs.declared.names.Use.TheVariants.{Read}
 use Rattle.mini_accept.specs.Accept.{program_at}
 use Rattle.mini_accept.specs.Numbered.{number_after, next_after, next_among}
 use Rattle.mini_accept.proofs.Numbers.{program_numbered}

@@ -2,9 +2,9 @@
 use Rattle.std.specs.Prelude.{ℕ, ◌≡◌, ◌+◌, ◌<◌, ◌^◌, length, Ok}
 use Rattle.serde_json.specs.Data.{Data}
 use Rattle.mini_model.specs.Tree.{Tree}
-use Rattle.mini_names.specs.declared.Use.TheVariants.{Read}
-use Rattle.mini_names.specs.References as reference
-use Rattle.mini_names.specs.Resolved as resolution
+use Rattle.mini_laws.specs.declared.names.Use.TheVariants.{Read}
+use Rattle.mini_laws.specs.References as reference
+use Rattle.mini_laws.specs.Resolved as resolution
 use Rattle.mini_accept.specs.Accept.{program_at}
 use Rattle.mini_writer.specs.Fits.{Fits}
 

@@ -1,7 +1,7 @@
 //! The rewrites of conditionals, logical expressions and assignments as one rule.
 
 ghost use Rattle.std.specs.Prelude.{◌≡◌, is_some, unwrap_or, OnOk, IfOk};
-ghost use Rattle.mini_walk.specs.Rule.{Applied};
+ghost use Rattle.mini_tree.specs.Rule.{Applied};
 ghost use Rattle.mini_choices.specs.Choices.{first_of, written, Gives, Rests};
 ghost use Rattle.mini_choices.specs.Lighter.{choices_lighter};
 ghost use Rattle.mini_choices.specs.InjectOptionalChaining as chains;
@@ -20,7 +20,7 @@ use crate::rewrites::minimize_nullish_comparison::minimize_nullish_comparison;
 use crate::rewrites::substitute_rotate_logical_expression::substitute_rotate_logical_expression;
 use mini_model::{OutOfMemory, Position, Seat, Shape};
 use mini_node::Node;
-use mini_walk::{Context, Rule};
+use mini_tree::{Context, Rule};
 use std::alloc::Global;
 
 // Of a logical expression whose operands stand from the left.

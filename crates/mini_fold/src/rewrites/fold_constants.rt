@@ -2,7 +2,7 @@
 //! `"a" + "b"` becomes `"ab"`, where that is lighter in the seat.
 
 ghost use Rattle.std.specs.Prelude.{◌≡◌, is_some, unwrap_or, OnOk, IfOk};
-ghost use Rattle.mini_walk.specs.Rule.{Applied};
+ghost use Rattle.mini_tree.specs.Rule.{Applied};
 ghost use Rattle.mini_terms.specs.Calculated.{calculated};
 ghost use Rattle.mini_fold.specs.FoldConstants.{replaces as does_it_replace, literal_of, written, Gives, Rests};
 ghost use Rattle.mini_fold.specs.Lighter.{constants_lighter};
@@ -13,7 +13,7 @@ use mini_model::{OutOfMemory, Position, Seat};
 use mini_node::Node;
 use mini_terms::{leaves_nothing, suits};
 use mini_tree::expr_weight;
-use mini_walk::{Context, Rule};
+use mini_tree::{Context, Rule};
 use std::alloc::Global;
 
 // Whether a literal may stand in an expression's place, and is lighter.

@@ -3,7 +3,7 @@
 //! place.
 
 ghost use Rattle.std.specs.Prelude.{◌≡◌, is_some, unwrap_or, OnOk, IfOk};
-ghost use Rattle.mini_walk.specs.Rule.{Applied};
+ghost use Rattle.mini_tree.specs.Rule.{Applied};
 ghost use Rattle.mini_node.specs.Children.{part};
 ghost use Rattle.mini_fold.specs.Lighter.{folds_lighter};
 ghost use Rattle.mini_fold.specs.FoldKnown.{is_passed as passes_left, is_stopped as stops_right, written, folded, does_nothing as does_it_nothing, statement_written, Gives, Rests};
@@ -15,7 +15,7 @@ use mini_node::{
     Node, discard, empty_statement, is_expression_statement, logical_operator, one, taken, two,
 };
 use mini_terms::{goes_on, has_no_effect, leaves_nothing, stops, suits, weighs};
-use mini_walk::{Context, Rule};
+use mini_tree::{Context, Rule};
 use std::alloc::Global;
 
 // Whether the left side goes.

@@ -11,7 +11,7 @@ ghost use Rattle.mini_terms.specs.Parts.{suits as may_suit};
 ghost use Rattle.mini_rows.specs.Booleans.{digit as digit_of};
 ghost use Rattle.mini_rows.specs.Choices.{loosely as loose};
 ghost use Rattle.mini_rows.specs.Operands.{told_by};
-ghost use Rattle.mini_walk.specs.Rule.{Applied};
+ghost use Rattle.mini_tree.specs.Rule.{Applied};
 ghost use Rattle.mini_fold.specs.FoldOperands as operand;
 ghost use Rattle.mini_fold.specs.FoldOperands.{Gives, Rests};
 ghost use Rattle.mini_fold.specs.Lighter.{operands_lighter};
@@ -25,7 +25,7 @@ use mini_terms::{
     Kind, goes_on, has_no_effect, is_plain_part, kind_of, leaves_nothing, suits, weighs,
 };
 use mini_tree::seats;
-use mini_walk::{Context, Rule};
+use mini_tree::{Context, Rule};
 use std::alloc::Global;
 
 // Whether the operands tell the truth of the whole: of `&&` and `||`.

@@ -6,7 +6,7 @@ ghost use Rattle.mini_model.specs.Tree.{children, count, child_or_absent};
 ghost use Rattle.mini_node.specs.Children.{part};
 ghost use Rattle.mini_node.specs.Kinds.{sequence as sequence_of};
 ghost use Rattle.mini_rows.specs.Sequences.{is_open_seat as is_it_open_seat};
-ghost use Rattle.mini_walk.specs.Rule.{Applied};
+ghost use Rattle.mini_tree.specs.Rule.{Applied};
 ghost use Rattle.mini_fold.specs.FoldSequences.{has_several as has_it_several, is_several as is_it_several, is_operation as is_it_operation, is_lifted as is_it_lifted, last_of, but_last, lifted, any_of, spread_at, Gives, Rests};
 ghost use Rattle.mini_fold.specs.Lighter.{sequences_lighter};
 
@@ -15,7 +15,7 @@ use mini_node::{
     Node, Nodes, absent, is_conditional, is_negation, is_sequence, logical_operator, one, sequence,
     take_first, taken,
 };
-use mini_walk::{Context, Rule};
+use mini_tree::{Context, Rule};
 use std::alloc::Global;
 
 // Whether a sequence stands here without parentheses, and is not to be lifted out again.

@@ -7,7 +7,7 @@ ghost use Rattle.mini_model.specs.Tree.{children, count, expression_statement as
 ghost use Rattle.mini_model.specs.Weight.{capped, weight as weight_at};
 ghost use Rattle.mini_model.specs.Terms.{turned as turned_operator};
 ghost use Rattle.mini_node.specs.Children.{part as part_of};
-ghost use Rattle.mini_walk.specs.Rule.{Applied};
+ghost use Rattle.mini_tree.specs.Rule.{Applied};
 ghost use Rattle.mini_logic.specs.Lighter.{de_morgan_lighter};
 ghost use Rattle.mini_logic.specs.MinimizeNegation.{told_lightest};
 ghost use Rattle.mini_logic.specs.DeMorganForVoidExpr.{turned_over as it_turned_over, turns as it_turns, written, Gives, Rests};
@@ -21,7 +21,7 @@ use mini_node::{
     one, taken, two,
 };
 use mini_tree::{expr_weight, seats};
-use mini_walk::{Context, Rule};
+use mini_tree::{Context, Rule};
 use std::alloc::Global;
 
 // `||` for `&&`, and `&&` for `||`

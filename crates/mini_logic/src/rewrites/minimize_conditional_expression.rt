@@ -1,7 +1,7 @@
 //! Row 40: `!a ? b : c` becomes `a ? c : b`, and `a != b ? c : d` becomes `a == b ? d : c`. Each is lighter in every seat.
 
 ghost use Rattle.std.specs.Prelude.{◌≡◌, is_some, unwrap_or, OnOk, IfOk};
-ghost use Rattle.mini_walk.specs.Rule.{Applied};
+ghost use Rattle.mini_tree.specs.Rule.{Applied};
 ghost use Rattle.mini_logic.specs.Lighter.{conditional_lighter};
 ghost use Rattle.mini_logic.specs.MinimizeConditionalExpression.{has_negated_test as has_a_negated_test, swapped as with_swapped_branches, equal_by, equal_operator as its_equal_operator, turned as turned_by, written, Gives, Rests};
 
@@ -9,7 +9,7 @@ use mini_model::{BinaryOperator, OutOfMemory, Position};
 use mini_node::{
     Node, binary, binary_operator, conditional, is_conditional, is_negation, one, taken, three, two,
 };
-use mini_walk::{Context, Rule};
+use mini_tree::{Context, Rule};
 use std::alloc::Global;
 
 // `!a ? b : c`

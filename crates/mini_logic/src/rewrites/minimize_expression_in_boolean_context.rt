@@ -10,7 +10,7 @@ ghost use Rattle.mini_model.specs.declared.place.Position.TheVariants.{Expr};
 ghost use Rattle.mini_model.specs.declared.shape.Shape.TheVariants.{UnaryExpression};
 ghost use Rattle.mini_node.specs.Children.{part};
 ghost use Rattle.mini_node.specs.Kinds.{logical_operator as logical_operator_of};
-ghost use Rattle.mini_walk.specs.Rule.{Applied};
+ghost use Rattle.mini_tree.specs.Rule.{Applied};
 ghost use Rattle.mini_rows.specs.Booleans as row;
 ghost use Rattle.mini_logic.specs.Lighter.{booleans_lighter};
 ghost use Rattle.mini_logic.specs.Negating.{lighter_negation as lighter_negation_of};
@@ -28,7 +28,7 @@ use mini_terms::{
     weighs,
 };
 use mini_tree::{expr_weight, logical_weight, negation_weight, own_weight, seats};
-use mini_walk::{Context, Rule};
+use mini_tree::{Context, Rule};
 use std::alloc::Global;
 
 // The truth of `!0`, and of `!1`.

@@ -6,7 +6,7 @@ ghost use Rattle.std.specs.Prelude.{◌≡◌, true, is_some, unwrap_or, OnOk, I
 ghost use Rattle.mini_model.specs.Position.{statement_expression_seat, left_operand_seat};
 ghost use Rattle.mini_model.specs.Terms.{neg};
 ghost use Rattle.mini_rows.specs.Branches.{as_consequent as as_consequent_of};
-ghost use Rattle.mini_walk.specs.Rule.{Applied};
+ghost use Rattle.mini_tree.specs.Rule.{Applied};
 ghost use Rattle.mini_logic.specs.Lighter.{if_lighter};
 ghost use Rattle.mini_logic.specs.MinimizeIfStatement.{chooses as it_chooses, guards as it_guards, is_empty as is_it_empty, has_empty_consequent as has_an_empty_consequent, skips as it_skips, only_tests as it_only_tests, is_weighed as is_it_weighed, turns as it_turns, nests as it_nests, is_bare as is_it_bare, keeps_braces as it_keeps_braces, swaps as it_swaps, choice as choice_of, conjunction as conjunction_of, disjunction as disjunction_of, guard as guard_of, skipped as skipped_of, turned as turned_of, nested as nested_of, in_block as in_block_of, swapped as swapped_of, written, Gives, Rests};
 ghost use Rattle.mini_model.specs.Tree.{children, count, expression_statement as expression_statement_of};
@@ -21,7 +21,7 @@ use mini_node::{
     is_negation, logical, of_one, one, taken, three,
 };
 use mini_tree::{negation_weight, seats};
-use mini_walk::{Context, Rule};
+use mini_tree::{Context, Rule};
 use std::alloc::Global;
 
 // `if (a) b; else c;`

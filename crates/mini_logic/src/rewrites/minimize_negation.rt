@@ -1,7 +1,7 @@
 //! Row 23, of what is read inside the operand too: `!(a && typeof x < "u")` becomes `!a || typeof x > "u"`, where that is lighter.
 
 ghost use Rattle.std.specs.Prelude.{◌≡◌, is_some, unwrap_or, OnOk, IfOk};
-ghost use Rattle.mini_walk.specs.Rule.{Applied};
+ghost use Rattle.mini_tree.specs.Rule.{Applied};
 ghost use Rattle.mini_logic.specs.Lighter.{negation_lighter};
 ghost use Rattle.mini_logic.specs.MinimizeNegation.{minimizes as it_minimizes, written, Gives, Rests};
 
@@ -9,7 +9,7 @@ use crate::whole::{reaches_in, told_negation, told_weight};
 use mini_model::{OutOfMemory, Position, Seat};
 use mini_node::{Node, is_negation, one, taken};
 use mini_tree::expr_weight;
-use mini_walk::{Context, Rule};
+use mini_tree::{Context, Rule};
 use std::alloc::Global;
 
 // `!e`, where the whole negation of e is lighter

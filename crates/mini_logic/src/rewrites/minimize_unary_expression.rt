@@ -1,7 +1,7 @@
 //! Row 23: `!e` becomes the negation of e, where that is lighter in the seat.
 
 ghost use Rattle.std.specs.Prelude.{◌≡◌, OnOk, IfOk};
-ghost use Rattle.mini_walk.specs.Rule.{Applied};
+ghost use Rattle.mini_tree.specs.Rule.{Applied};
 ghost use Rattle.mini_logic.specs.Lighter.{unary_lighter};
 ghost use Rattle.mini_logic.specs.MinimizeUnaryExpression.{has_lighter_negation as has_a_lighter_negation, minimizes_unary, minimized_unary, Gives, Rests};
 
@@ -9,7 +9,7 @@ use crate::terms::{has_own_negation, neg_weight, negated};
 use mini_model::{OutOfMemory, Position, Seat};
 use mini_node::{Node, is_negation, one, taken};
 use mini_tree::negation_weight;
-use mini_walk::{Context, Rule};
+use mini_tree::{Context, Rule};
 use std::alloc::Global;
 
 // Whether the negation of an expression is lighter than a `!` before it.

@@ -6,13 +6,13 @@ ghost use Rattle.mini_model.specs.Tree.{children, count};
 ghost use Rattle.mini_node.specs.Children.{part, is_bare as is_it_bare};
 ghost use Rattle.mini_logic.specs.UnwrapBlock.{holds_one as it_holds_one, holds_bare as it_holds_bare, some_if, body_place as body_place_of, held_at as held_at_place, branch_place as branch_place_of, place as place_of, unwrapped_at as unwrapped_at_place, written, Gives, Rests};
 ghost use Rattle.mini_logic.specs.Lighter.{unwrap_lighter};
-ghost use Rattle.mini_walk.specs.Rule.{Applied};
+ghost use Rattle.mini_tree.specs.Rule.{Applied};
 
 use crate::statements::{has_else, is_unscoped};
 use crate::terms::has_one;
 use mini_model::{OutOfMemory, Position, Shape};
 use mini_node::{Node, discard, is_block, is_if_statement, one, taken};
-use mini_walk::{Context, Rule};
+use mini_tree::{Context, Rule};
 use std::alloc::Global;
 
 // `{ a; }`, of a statement that isn't scoped

@@ -3,14 +3,14 @@
 ghost use Rattle.std.specs.Prelude.{◌≡◌, ◌<◌, true, is_some, unwrap_or, OnOk, IfOk};
 ghost use Rattle.mini_model.specs.Tree.{children, count, shape_of};
 ghost use Rattle.mini_node.specs.Children.{part, names};
-ghost use Rattle.mini_walk.specs.Rule.{Applied};
+ghost use Rattle.mini_tree.specs.Rule.{Applied};
 ghost use Rattle.mini_syntax.specs.Lighter.{arrows_lighter};
 ghost use Rattle.mini_syntax.specs.SubstituteArrowExpression.{is_plain_arrow as is_a_plain_arrow, are_no_names, returned as returned_by, returns as it_returns, is_returning as it_is_returning, unwrapped as unwrapped_arrow, written, Gives, Rests};
 
 use crate::forms::is_list_of;
 use mini_model::{Name, OutOfMemory, Position, Shape};
 use mini_node::{Node, discard, is_return_statement, one, taken};
-use mini_walk::{Context, Rule};
+use mini_tree::{Context, Rule};
 use std::alloc::Global;
 
 // An arrow function without directives.

@@ -6,7 +6,7 @@ ghost use Rattle.mini_model.specs.Tree.{node, none, ◌▸◌, children, count};
 ghost use Rattle.mini_node.specs.Children.{names, part};
 ghost use Rattle.mini_node.specs.Kinds.{string as text_of};
 ghost use Rattle.mini_rows.specs.SpellKeys.{is_proto as is_it_proto, property as property_of};
-ghost use Rattle.mini_walk.specs.Rule.{Applied};
+ghost use Rattle.mini_tree.specs.Rule.{Applied};
 ghost use Rattle.mini_syntax.specs.ConvertToDottedProperties.{number_of_text};
 ghost use Rattle.mini_syntax.specs.Lighter.{keys_lighter};
 ghost use Rattle.mini_syntax.specs.SubstituteObjectProperty as row;
@@ -17,7 +17,7 @@ use mini_model::{Name, OutOfMemory, Position, PropertyKind, Shape, Text, is_iden
 use mini_node::{
     Node, Nodes, discard, is_identifier, is_listed, numeric_literal, of_two, string, taken, two,
 };
-use mini_walk::{Context, Rule};
+use mini_tree::{Context, Rule};
 use std::alloc::Global;
 
 // The units of `__proto__`.

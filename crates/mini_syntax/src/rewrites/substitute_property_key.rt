@@ -5,7 +5,7 @@ ghost use Rattle.std.specs.Prelude.{◌≡◌, true, IfOk, OnOk};
 ghost use Rattle.mini_model.specs.Tree.{children, count, shape_of};
 ghost use Rattle.mini_node.specs.Children.{names, part};
 ghost use Rattle.mini_rows.specs.KeyHolders.{stays_in_brackets};
-ghost use Rattle.mini_walk.specs.Rule.{Applied};
+ghost use Rattle.mini_tree.specs.Rule.{Applied};
 ghost use Rattle.mini_syntax.specs.Lighter.{held_keys_lighter};
 ghost use Rattle.mini_syntax.specs.declared.rewrites.substitute_property_key.ClassPropertyKeyParentType.TheVariants.{MethodDefinition, PropertyDefinition};
 ghost use Rattle.mini_syntax.specs.SubstitutePropertyKey as row;
@@ -15,7 +15,7 @@ use crate::rewrites::convert_to_dotted_properties::{as_name, is_name};
 use crate::rewrites::substitute_object_property::{is_literal_key, property, whole_of};
 use mini_model::{Name, OutOfMemory, Position, Shape, Text};
 use mini_node::{Node, numeric_literal, one, taken, two};
-use mini_walk::{Context, Rule};
+use mini_tree::{Context, Rule};
 use std::alloc::Global;
 
 // The units of `constructor`, `#constructor` and `prototype`.

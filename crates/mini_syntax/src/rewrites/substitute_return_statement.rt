@@ -4,7 +4,7 @@
 ghost use Rattle.std.specs.Prelude.{◌≡◌, is_some, unwrap_or, OnOk, IfOk};
 ghost use Rattle.mini_model.specs.Tree.{absent as no_part};
 ghost use Rattle.mini_node.specs.Kinds.{return_statement as returns};
-ghost use Rattle.mini_walk.specs.Rule.{Applied};
+ghost use Rattle.mini_tree.specs.Rule.{Applied};
 ghost use Rattle.mini_syntax.specs.Lighter.{returns_lighter};
 ghost use Rattle.mini_syntax.specs.SubstituteReturnStatement.{is_idle_void as is_it_idle_void, returns_undefined as returns_it_undefined, written, Gives, Rests};
 
@@ -12,7 +12,7 @@ use crate::forms::is_undefined;
 use mini_model::{OutOfMemory, Position, UnaryOperator};
 use mini_node::{Node, absent, is_return_statement, return_statement, unary_operator};
 use mini_terms::{has_no_effect, leaves_nothing};
-use mini_walk::{Context, Rule};
+use mini_tree::{Context, Rule};
 use std::alloc::Global;
 
 // `void a`, where a has no effect.

@@ -1,7 +1,7 @@
 //! The rewrites of spellings as one rule.
 
 ghost use Rattle.std.specs.Prelude.{◌≡◌, is_some, unwrap_or, OnOk, IfOk};
-ghost use Rattle.mini_walk.specs.Rule.{Applied};
+ghost use Rattle.mini_tree.specs.Rule.{Applied};
 ghost use Rattle.mini_syntax.specs.Lighter.{spellings_lighter};
 ghost use Rattle.mini_syntax.specs.Spelled.{equality_written, binary_written, written, Gives, Rests};
 
@@ -13,7 +13,7 @@ use crate::rewrites::substitute_typeof_undefined::substitute_typeof_undefined;
 use crate::rewrites::substitute_yield_expression::substitute_yield_expression;
 use mini_model::{OutOfMemory, Position, Shape};
 use mini_node::Node;
-use mini_walk::{Context, Rule};
+use mini_tree::{Context, Rule};
 use std::alloc::Global;
 
 fn substitute_equality(alloc: Global, node: &mut Node) -> Result<bool, OutOfMemory>

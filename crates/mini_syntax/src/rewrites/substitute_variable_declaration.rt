@@ -16,7 +16,7 @@ ghost use Rattle.mini_syntax.specs.SubstituteVariableDeclaration.{any_of, begins
 use crate::forms::is_undefined;
 use mini_model::{OutOfMemory, Position, Shape, VariableDeclarationKind};
 use mini_node::{Node, Nodes, discard, is_listed};
-use mini_walk::{Context, Rule};
+use mini_tree::{Context, Rule};
 use std::alloc::Global;
 
 // A name that is declared.

@@ -1,5 +1,5 @@
 use Rattle.std.proofs.Common.{arith}
-use Rattle.mini_names.specs.declared.Use.TheVariants.{Read}
+use Rattle.mini_laws.specs.declared.names.Use.TheVariants.{Read}
 use Rattle.mini_writer.proofs.Declares.{references_few, symbols_few}
 use Rattle.mini_cases.proofs.nested.resolve_nested.Goals as goal
 

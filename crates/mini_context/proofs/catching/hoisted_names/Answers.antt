@@ -1,5 +1,5 @@
 use Rattle.std.proofs.Common.{arith, ◌∙◌}
-use Rattle.mini_names.specs.declared.Declared.TheVariants as declared
+use Rattle.mini_laws.specs.declared.names.Declared.TheVariants as declared
 use Rattle.mini_context.proofs.Spellings.{names_begin, names_turn, names_end}
 use Rattle.mini_context.proofs.catching.hoisted_names.Goals as goal
 

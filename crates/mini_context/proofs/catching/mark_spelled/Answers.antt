@@ -1,5 +1,5 @@
 use Rattle.std.proofs.Common.{◌∙◌, ◌+◌, subst, sym, take}
-use Rattle.mini_names.specs.Shared.{spelled_among}
+use Rattle.mini_laws.specs.Shared.{spelled_among}
 use Rattle.mini_context.specs.Tables.{Marked}
 use Rattle.mini_context.proofs.Spellings.{spelled_in, spelled_out}
 use Rattle.mini_context.proofs.catching.mark_spelled.Goals as goal

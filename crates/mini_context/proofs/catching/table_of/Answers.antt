@@ -1,6 +1,6 @@
 use Rattle.std.proofs.Common.{◌≡◌, ◌∙◌, ap, sym, ◌++◌, ◌∷◌, [], append_assoc, arith}
 use Rattle.std.proofs.lemmas.Grind.{common_steps}
-use Rattle.mini_names.specs.DeclaredNames.{is_spelled}
+use Rattle.mini_laws.specs.DeclaredNames.{is_spelled}
 use Rattle.mini_context.proofs.Spellings.{table_turn}
 use Rattle.mini_context.proofs.catching.table_of.Goals as goal
 

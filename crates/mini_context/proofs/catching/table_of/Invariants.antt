@@ -1,7 +1,7 @@
 use Rattle.std.proofs.Common.{◌≡◌, ◌++◌, List, ℕ}
 use Rattle.std.specs.Vec.Iter.{into_iter_items}
-use Rattle.mini_names.specs.declared.Use.TheVariants as variant
-use Rattle.mini_names.specs.DeclaredNames.{is_spelled}
+use Rattle.mini_laws.specs.declared.names.Use.TheVariants as variant
+use Rattle.mini_laws.specs.DeclaredNames.{is_spelled}
 use Rattle.mini_scope.specs.Buckets.{has_name}
 use Rattle.mini_context.proofs.catching.table_of.Given as goal
 

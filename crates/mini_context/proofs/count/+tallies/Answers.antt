@@ -1,7 +1,7 @@
 use Rattle.std.proofs.Common.{◌<◌, ◌≤◌, ap, arith}
 use Rattle.mini_model.specs.Tree.{Tree, node, children, count, node_count, node_counts}
-use Rattle.mini_names.specs.Scopes.{use_of}
-use Rattle.mini_names.specs.References.{reads, writes}
+use Rattle.mini_laws.specs.Scopes.{use_of}
+use Rattle.mini_laws.specs.References.{reads, writes}
 use Rattle.mini_context.proofs.Counting.{begins, node_tallied, node_steps, turn, reads_end, writes_end, steps_end}
 use Rattle.mini_context.proofs.count.+tallies.Goals as goal
 

@@ -1,7 +1,7 @@
 use Rattle.std.proofs.Common.{◌+◌, ◌*◌, length}
 use Rattle.mini_model.specs.Tree.{node_count, node_counts}
-use Rattle.mini_names.specs.Scopes.{use_of}
-use Rattle.mini_names.specs.References.{references_from, reads, writes}
+use Rattle.mini_laws.specs.Scopes.{use_of}
+use Rattle.mini_laws.specs.References.{references_from, reads, writes}
 use Rattle.mini_context.specs.Tallies.{tallied}
 use Rattle.mini_context.proofs.Counting.{Going}
 use Rattle.mini_context.proofs.count.+tallies.Given as goal

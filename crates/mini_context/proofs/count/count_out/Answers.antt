@@ -1,4 +1,4 @@
-use Rattle.mini_names.specs.References.{reads, writes}
+use Rattle.mini_laws.specs.References.{reads, writes}
 use Rattle.mini_context.proofs.Numbers.{counted_out}
 use Rattle.mini_context.proofs.count.count_out.Goals as goal
 

@@ -1,4 +1,4 @@
-use Rattle.mini_names.specs.References.{reads, writes}
+use Rattle.mini_laws.specs.References.{reads, writes}
 use Rattle.mini_context.proofs.Numbers.{fresh}
 use Rattle.mini_context.proofs.count.fresh_counts.Goals as goal
 

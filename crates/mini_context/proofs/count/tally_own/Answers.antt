@@ -1,5 +1,5 @@
 use Rattle.std.proofs.Common.{◌∙◌, sym}
-use Rattle.mini_names.specs.References.{reads, writes}
+use Rattle.mini_laws.specs.References.{reads, writes}
 use Rattle.mini_context.proofs.Counting.{own_none, own_nameless, own_named}
 use Rattle.mini_context.proofs.count.tally_own.Goals as goal
 

@@ -2,9 +2,9 @@ use Rattle.std.proofs.Common.{◌<◌, ◌≤◌, ◌++◌, ap, subst, arith}
 use Rattle.std.proofs.lemmas.Result.{on_ok_weaker}
 use Rattle.mini_model.specs.Tree.{count, children, child_or_absent, shape_of}
 use Rattle.mini_node.specs.Children.{names_of, number_of, rest_children}
-use Rattle.mini_names.specs.Foreign.{ended_by, ends_at, in_order, moments, moments_from, reads_at}
-use Rattle.mini_names.specs.Mentions.{around_child, own_mentions}
-use Rattle.mini_names.specs.Scopes.{use_of}
+use Rattle.mini_laws.specs.Foreign.{ended_by, ends_at, in_order, moments, moments_from, reads_at}
+use Rattle.mini_laws.specs.Mentions.{around_child, own_mentions}
+use Rattle.mini_laws.specs.Scopes.{use_of}
 use Rattle.mini_context.specs.Early.{Passed}
 use Rattle.mini_context.specs.declared.early.Order.TheVariants as order
 use Rattle.mini_context.proofs.Passing.{opens, passed_add, passes_in_order, rest_begins, rest_ends, rest_of, rest_turns}

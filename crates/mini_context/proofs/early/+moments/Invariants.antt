@@ -1,8 +1,8 @@
 use Rattle.std.proofs.Common.{◌+◌, ◌*◌}
 use Rattle.mini_model.specs.Tree.{children, node_count, shape_of}
 use Rattle.mini_node.specs.Children.{number_of}
-use Rattle.mini_names.specs.Mentions.{around_child}
-use Rattle.mini_names.specs.Scopes.{use_of}
+use Rattle.mini_laws.specs.Mentions.{around_child}
+use Rattle.mini_laws.specs.Scopes.{use_of}
 use Rattle.mini_context.proofs.Passing.{UntilFrom}
 use Rattle.mini_context.proofs.early.+moments.Given as goal
 

@@ -1,6 +1,6 @@
 use Rattle.std.proofs.Common.{refl}
 use Rattle.mini_model.specs.Tree.{children, shape_of}
-use Rattle.mini_names.specs.Foreign.{ended_by}
+use Rattle.mini_laws.specs.Foreign.{ended_by}
 use Rattle.mini_context.proofs.Passing.{ends_pass}
 use Rattle.mini_context.proofs.early.pass_ends.Goals as goal
 

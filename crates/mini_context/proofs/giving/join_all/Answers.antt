@@ -1,5 +1,5 @@
 use Rattle.std.proofs.Common.{arith}
-use Rattle.mini_names.specs.Shared.{write_at}
+use Rattle.mini_laws.specs.Shared.{write_at}
 use Rattle.mini_context.specs.Mentioned.{Joined}
 use Rattle.mini_context.proofs.Gathering.{items_begin, items_end, items_turn}
 use Rattle.mini_context.proofs.Joining.{joins_add}

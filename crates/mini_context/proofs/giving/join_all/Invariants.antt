@@ -1,5 +1,5 @@
 use Rattle.std.proofs.Common.{take, map}
-use Rattle.mini_names.specs.Shared.{write_at}
+use Rattle.mini_laws.specs.Shared.{write_at}
 use Rattle.mini_context.specs.Mentioned.{Joined}
 use Rattle.mini_context.proofs.giving.join_all.Given as goal
 

@@ -1,4 +1,4 @@
-use Rattle.mini_names.specs.References.{reads, writes}
+use Rattle.mini_laws.specs.References.{reads, writes}
 use Rattle.mini_context.proofs.Numbers.{counts_are_times}
 use Rattle.mini_context.proofs.laws.counts_tell.Goals as goal
 

@@ -1,6 +1,6 @@
 use Rattle.std.specs.Prelude.{refl}
-use Rattle.mini_names.specs.declared.Use.TheVariants.{Hoisted, Read}
-use Rattle.mini_names.specs.References.{reads, writes}
+use Rattle.mini_laws.specs.declared.names.Use.TheVariants.{Hoisted, Read}
+use Rattle.mini_laws.specs.References.{reads, writes}
 use Rattle.mini_context.proofs.Uses.{alike}
 use Rattle.mini_context.proofs.laws.declarators_tell.Goals as goal
 

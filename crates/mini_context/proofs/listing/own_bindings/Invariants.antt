@@ -1,5 +1,5 @@
 use Rattle.std.proofs.Common.{take}
-use Rattle.mini_names.specs.ScopeList.{names_in}
+use Rattle.mini_laws.specs.ScopeList.{names_in}
 use Rattle.mini_context.specs.Tables.{OwnedBy}
 use Rattle.mini_context.proofs.listing.own_bindings.Given as goal
 

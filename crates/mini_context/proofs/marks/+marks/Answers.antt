@@ -1,8 +1,8 @@
 use Rattle.std.proofs.Common.{◌<◌, ◌≤◌, ◌∙◌, sym, ap, subst, arith}
 use Rattle.mini_model.specs.Tree.{count, children, first_or_absent}
 use Rattle.mini_model.specs.Paths.{child_at}
-use Rattle.mini_names.specs.declared.Declared.TheVariants as declared
-use Rattle.mini_names.specs.DeclaredNames.{names_of, all_names}
+use Rattle.mini_laws.specs.declared.names.Declared.TheVariants as declared
+use Rattle.mini_laws.specs.DeclaredNames.{names_of, all_names}
 use Rattle.mini_context.specs.Tables.{Marked}
 use Rattle.mini_context.proofs.Gathering.{begins, turn, finished}
 use Rattle.mini_context.proofs.Marking.{marks_add, names_gather, named_by, first_is, got_falls}

@@ -1,6 +1,6 @@
 use Rattle.std.proofs.Common.{◌+◌, ◌*◌}
 use Rattle.mini_model.specs.Tree.{node_count, node_counts}
-use Rattle.mini_names.specs.DeclaredNames.{all_names}
+use Rattle.mini_laws.specs.DeclaredNames.{all_names}
 use Rattle.mini_context.specs.Tables.{Marked}
 use Rattle.mini_context.proofs.Gathering.{Until}
 use Rattle.mini_context.proofs.marks.+marks.Given as goal

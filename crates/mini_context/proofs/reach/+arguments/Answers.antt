@@ -1,7 +1,7 @@
 use Rattle.std.proofs.Common.{◌<◌, ◌≤◌, ◌+◌, ◌∙◌, ◌||◌, sym, ap, arith}
 use Rattle.mini_model.specs.Tree.{count, shape_of}
 use Rattle.mini_node.specs.Children.{rest_children}
-use Rattle.mini_names.specs.Shared.{any_names_arguments, is_of_function}
+use Rattle.mini_laws.specs.Shared.{any_names_arguments, is_of_function}
 use Rattle.mini_context.proofs.Reached.{begins, step, ends, own_first}
 use Rattle.mini_context.proofs.reach.+arguments.Goals as goal
 

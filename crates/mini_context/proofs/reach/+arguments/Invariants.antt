@@ -1,7 +1,7 @@
 use Rattle.std.proofs.Common.{◌≡◌, ◌+◌, ◌*◌}
 use Rattle.mini_model.specs.Tree.{node_count, node_counts}
 use Rattle.mini_node.specs.Children.{rest_children}
-use Rattle.mini_names.specs.Shared.{any_names_arguments, is_of_function}
+use Rattle.mini_laws.specs.Shared.{any_names_arguments, is_of_function}
 use Rattle.mini_context.proofs.reach.+arguments.Given as goal
 
 abbrev pub decreases-names_arguments : goal.decreases-names_arguments

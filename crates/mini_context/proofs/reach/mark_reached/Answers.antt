@@ -1,4 +1,4 @@
-use Rattle.mini_names.specs.Strict.{is_strict_in}
+use Rattle.mini_laws.specs.Strict.{is_strict_in}
 use Rattle.mini_model.specs.Tree.{shape_of}
 use Rattle.mini_context.proofs.Reached.{few_reached}
 use Rattle.mini_context.proofs.reach.mark_reached.Goals as goal

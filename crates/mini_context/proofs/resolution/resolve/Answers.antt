@@ -1,6 +1,6 @@
 use Rattle.std.proofs.Common.{ap, arith, [], length}
-use Rattle.mini_names.specs.declared.Use.TheVariants.{Read}
-use Rattle.mini_names.specs.References.{references}
+use Rattle.mini_laws.specs.declared.names.Use.TheVariants.{Read}
+use Rattle.mini_laws.specs.References.{references}
 use Rattle.mini_context.proofs.Kept.{references_kept}
 use Rattle.mini_context.proofs.resolution.resolve.Goals as goal
 

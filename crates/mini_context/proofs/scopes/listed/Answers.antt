@@ -1,6 +1,6 @@
 use Rattle.std.proofs.Common.{subst}
-use Rattle.mini_names.specs.ScopeList.{scopes_of, scope_list, seen_in}
-use Rattle.mini_names.specs.Shared.{program_var_writes}
+use Rattle.mini_laws.specs.ScopeList.{scopes_of, scope_list, seen_in}
+use Rattle.mini_laws.specs.Shared.{program_var_writes}
 use Rattle.mini_context.specs.Mentioned.{Joined}
 use Rattle.mini_context.specs.Tables.{Listed, Marked}
 use Rattle.mini_context.proofs.Told.{flags_by, owner_by, values_by}

@@ -1,6 +1,6 @@
 use Rattle.std.proofs.Common.{refl}
-use Rattle.mini_names.specs.ScopeList.{seen_by_eval}
-use Rattle.mini_names.specs.Shared.{program_var_writes}
+use Rattle.mini_laws.specs.ScopeList.{seen_by_eval}
+use Rattle.mini_laws.specs.Shared.{program_var_writes}
 use Rattle.mini_context.proofs.Told.{from_blank, joined_blank}
 use Rattle.mini_context.proofs.scopes.look_at.Goals as goal
 

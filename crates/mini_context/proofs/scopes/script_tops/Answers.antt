@@ -1,5 +1,5 @@
 use Rattle.std.proofs.Common.{subst}
-use Rattle.mini_names.specs.ScopeList.{names_in}
+use Rattle.mini_laws.specs.ScopeList.{names_in}
 use Rattle.mini_context.specs.Tables.{Marked}
 use Rattle.mini_context.proofs.Told.{no_tops, some_tops}
 use Rattle.mini_context.proofs.scopes.script_tops.Goals as goal

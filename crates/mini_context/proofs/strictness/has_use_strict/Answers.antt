@@ -1,6 +1,6 @@
 use Rattle.std.proofs.Common.{◌+◌, ◌∙◌, ◌||◌, drop, sym, ap, arith}
 use Rattle.std.proofs.lemmas.List.{drop_all}
-use Rattle.mini_names.specs.Strict.{has_use_strict}
+use Rattle.mini_laws.specs.Strict.{has_use_strict}
 use Rattle.mini_context.proofs.Evals.{strict_step}
 use Rattle.mini_context.proofs.strictness.has_use_strict.Goals as goal
 

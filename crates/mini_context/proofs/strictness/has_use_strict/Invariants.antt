@@ -1,5 +1,5 @@
 use Rattle.std.proofs.Common.{◌≡◌, drop}
-use Rattle.mini_names.specs.Strict.{has_use_strict}
+use Rattle.mini_laws.specs.Strict.{has_use_strict}
 use Rattle.mini_context.proofs.strictness.has_use_strict.Given as goal
 
 abbrev pub invariant-loop-directive : goal.invariant-loop-directive

@@ -1,6 +1,6 @@
 use Rattle.std.proofs.Common.{sym, subst}
-use Rattle.mini_names.specs.Resolved.{symbols}
-use Rattle.mini_names.specs.declared.Use.TheVariants.{Read}
+use Rattle.mini_laws.specs.Resolved.{symbols}
+use Rattle.mini_laws.specs.declared.names.Use.TheVariants.{Read}
 use Rattle.mini_context.specs.Facts.{Tells}
 use Rattle.mini_context.proofs.Known.{known_at_first}
 use Rattle.mini_peephole.proofs.minify.answer.Goals as goal

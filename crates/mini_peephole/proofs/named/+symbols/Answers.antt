@@ -3,10 +3,10 @@ use Rattle.std.specs.Prelude.{Option, Some, None}
 use Rattle.mini_model.specs.Tree.{Tree, Trees, node, shape_of, children, count, child_or_absent}
 use Rattle.mini_model.specs.declared.name.SymbolId.{SymbolId}
 use Rattle.mini_model.specs.declared.shape.Shape.{Shape}
-use Rattle.mini_names.specs.declared.Use.{Use}
-use Rattle.mini_names.specs.declared.Binding.{Binding}
-use Rattle.mini_names.specs.Scopes.{use_of, opened}
-use Rattle.mini_names.specs.Symbols.{symbols_in, declared, declared_from}
+use Rattle.mini_laws.specs.declared.names.Use.{Use}
+use Rattle.mini_laws.specs.declared.names.Binding.{Binding}
+use Rattle.mini_laws.specs.Scopes.{use_of, opened}
+use Rattle.mini_laws.specs.Symbols.{symbols_in, declared, declared_from}
 use Rattle.mini_kept.specs.Carried.{symbol_numbers}
 use Rattle.mini_scope.specs.ScopeAt.{scope_at}
 use Rattle.mini_peephole.proofs.Gathered.{Gathers, all_rest, turn, ended}

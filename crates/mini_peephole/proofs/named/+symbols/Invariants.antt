@@ -1,8 +1,8 @@
 use Rattle.std.proofs.Common.{◌≡◌, ℕ, ◌+◌, ◌*◌, ◌≤◌, ◌++◌}
 use Rattle.mini_model.specs.Tree.{node_count, node_counts}
 use Rattle.mini_node.specs.Children.{rest_children}
-use Rattle.mini_names.specs.Scopes.{use_of}
-use Rattle.mini_names.specs.Symbols.{declared_from}
+use Rattle.mini_laws.specs.Scopes.{use_of}
+use Rattle.mini_laws.specs.Symbols.{declared_from}
 use Rattle.mini_kept.specs.Carried.{symbol_numbers}
 use Rattle.mini_scope.specs.ScopeAt.{scope_at}
 use Rattle.mini_peephole.proofs.named.+symbols.Given as goal

@@ -1,5 +1,5 @@
 use Rattle.std.proofs.Common.{◌≡◌, ◌++◌, drop}
-use Rattle.mini_names.specs.Symbols.{symbols_in}
+use Rattle.mini_laws.specs.Symbols.{symbols_in}
 use Rattle.mini_kept.specs.Carried.{symbol_numbers}
 use Rattle.mini_peephole.proofs.named.push_scope.Given as goal
 

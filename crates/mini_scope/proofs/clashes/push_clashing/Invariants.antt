@@ -1,6 +1,6 @@
 use Rattle.std.proofs.Common.{◌≡◌, ◌++◌, map, []}
 use Rattle.std.specs.Vec.Iter.{into_iter_items}
-use Rattle.mini_names.specs.Early.{clashing}
+use Rattle.mini_laws.specs.Early.{clashing}
 use Rattle.mini_scope.proofs.Earlier.{as_binding}
 use Rattle.mini_scope.proofs.clashes.push_clashing.Given as goal
 

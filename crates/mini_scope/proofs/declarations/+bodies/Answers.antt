@@ -1,9 +1,9 @@
 use Rattle.std.proofs.Common.{◌≡◌, ◌≤◌, ◌<◌, [], ◌++◌, ◌∷◌, sym, ap, ◌∙◌, refl, arith, ℕ, Bool, false, not, ◌&&◌, List, append_assoc, if◌then◌else◌}
 use Rattle.std.proofs.lemmas.List.{append-nil}
 use Rattle.mini_model.specs.Tree.{Tree, node, absent, count, node_count, shape_of, children}
-use Rattle.mini_names.specs.declared.Declared.TheVariants as declared
+use Rattle.mini_laws.specs.declared.names.Declared.TheVariants as declared
 use Rattle.mini_model.specs.declared.shape.Shape.{Shape}
-use Rattle.mini_names.specs.Early.{declarations, holds_statements, is_function_shape, statement_declarations, body_declarations, all_body_declarations, in_body}
+use Rattle.mini_laws.specs.Early.{declarations, holds_statements, is_function_shape, statement_declarations, body_declarations, all_body_declarations, in_body}
 use Rattle.mini_scope.proofs.EarlyWalk.{Gathers, turn, finished, from_first, child_smaller, missing}
 use Rattle.mini_scope.proofs.declarations.+bodies.Goals as goal
 

@@ -3,11 +3,11 @@ use Rattle.std.proofs.lemmas.List.{append-nil}
 use Rattle.mini_model.specs.declared.shape.Shape.{Shape}
 use Rattle.mini_model.specs.Tree.{Tree, Trees, node, none, ◌▸◌, absent, count, node_count, shape_of, children}
 use Rattle.mini_node.specs.Children.{names_of}
-use Rattle.mini_names.specs.declared.Declared.{Declared}
-use Rattle.mini_names.specs.declared.Declared.TheVariants as declared
-use Rattle.mini_names.specs.declared.Place.{Place}
-use Rattle.mini_names.specs.DeclaredNames.{place_of}
-use Rattle.mini_names.specs.Early.{choose_by, own_declarations, declarations, first_declarations, all_declarations, at_child}
+use Rattle.mini_laws.specs.declared.names.Declared.{Declared}
+use Rattle.mini_laws.specs.declared.names.Declared.TheVariants as declared
+use Rattle.mini_laws.specs.declared.names.Place.{Place}
+use Rattle.mini_laws.specs.DeclaredNames.{place_of}
+use Rattle.mini_laws.specs.Early.{choose_by, own_declarations, declarations, first_declarations, all_declarations, at_child}
 use Rattle.mini_scope.proofs.EarlyWalk.{Gathers, turn, finished, from_first, child_smaller, missing}
 use Rattle.mini_scope.proofs.declarations.+declarations.Goals as goal
 

@@ -1,7 +1,7 @@
 use Rattle.std.proofs.Common.{◌≡◌, ◌+◌, ◌*◌, ◌++◌}
 use Rattle.mini_model.specs.Tree.{node_count, node_counts}
 use Rattle.mini_node.specs.Children.{rest_children}
-use Rattle.mini_names.specs.Early.{all_declarations}
+use Rattle.mini_laws.specs.Early.{all_declarations}
 use Rattle.mini_scope.proofs.declarations.+declarations.Given as goal
 
 abbrev pub decreases-push_declarations : goal.decreases-push_declarations

@@ -1,6 +1,6 @@
 use Rattle.std.proofs.Common.{◌≡◌, ◌≤◌, ◌∙◌, ap, sym, arith, nat_eq}
 use Rattle.mini_model.specs.Tree.{count, shape_of}
-use Rattle.mini_names.specs.Early.{is_pattern_shape}
+use Rattle.mini_laws.specs.Early.{is_pattern_shape}
 use Rattle.mini_scope.proofs.EarlyWalk.{missing}
 use Rattle.mini_scope.proofs.declarations.has_pattern.Goals as goal
 

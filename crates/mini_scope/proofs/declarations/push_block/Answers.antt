@@ -1,7 +1,7 @@
 use Rattle.std.proofs.Common.{◌≤◌, ◌∙◌, ap, sym, arith, false, [], ◌∷◌, ◌++◌}
 use Rattle.std.proofs.lemmas.List.{append-nil}
 use Rattle.mini_model.specs.Tree.{count}
-use Rattle.mini_names.specs.Early.{body_declarations, declarations, in_body, children_of_node}
+use Rattle.mini_laws.specs.Early.{body_declarations, declarations, in_body, children_of_node}
 use Rattle.mini_scope.proofs.EarlyWalk.{missing}
 use Rattle.mini_scope.proofs.declarations.push_block.Goals as goal
 

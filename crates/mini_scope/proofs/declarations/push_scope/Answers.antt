@@ -1,4 +1,4 @@
-use Rattle.mini_names.specs.Early.{scope_declarations}
+use Rattle.mini_laws.specs.Early.{scope_declarations}
 use Rattle.mini_scope.proofs.declarations.push_scope.Goals as goal
 
 pub returns-clause-found : goal.returns-clause-found

@@ -1,8 +1,8 @@
 use Rattle.std.proofs.Common.{◌≡◌, ◌++◌, sym, ap, ◌∙◌, refl, arith, append_assoc, Bool, if◌then◌else◌}
 use Rattle.mini_model.specs.declared.shape.Shape.{Shape}
 use Rattle.mini_model.specs.Tree.{Tree, node, shape_of, children}
-use Rattle.mini_names.specs.DeclaredNames.{is_statement_list, names_of, body_names, all_body_names}
-use Rattle.mini_names.specs.declared.Declared.TheVariants as declared
+use Rattle.mini_laws.specs.DeclaredNames.{is_statement_list, names_of, body_names, all_body_names}
+use Rattle.mini_laws.specs.declared.names.Declared.TheVariants as declared
 use Rattle.mini_scope.proofs.Folds.{child_falls, Gathers, before_turns, turn, after_turns}
 use Rattle.mini_scope.proofs.declared.+bodies.Goals as goal
 

@@ -3,7 +3,7 @@ use Rattle.std.proofs.lemmas.List.{drop_all}
 use Rattle.mini_model.specs.Tree.{Tree, Trees, node, ◌▸◌, shape_of, children}
 use Rattle.mini_model.specs.declared.shape.Shape.{Shape}
 use Rattle.mini_node.specs.Children.{trees_of}
-use Rattle.mini_names.specs.DeclaredNames.{is_inner, has_inner, any_inner}
+use Rattle.mini_laws.specs.DeclaredNames.{is_inner, has_inner, any_inner}
 use Rattle.mini_scope.proofs.Folds.{child_falls, any_turn}
 use Rattle.mini_scope.proofs.declared.+inner.Goals as goal
 

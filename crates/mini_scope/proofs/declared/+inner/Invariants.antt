@@ -1,7 +1,7 @@
 use Rattle.std.proofs.Common.{◌≡◌, ◌+◌, ◌*◌, drop}
 use Rattle.mini_model.specs.Tree.{node_count, node_counts}
 use Rattle.mini_node.specs.Children.{trees_of}
-use Rattle.mini_names.specs.DeclaredNames.{any_inner}
+use Rattle.mini_laws.specs.DeclaredNames.{any_inner}
 use Rattle.mini_scope.proofs.declared.+inner.Given as goal
 
 abbrev pub decreases-has_inner : goal.decreases-has_inner

@@ -3,10 +3,10 @@ use Rattle.std.proofs.lemmas.List.{append-nil}
 use Rattle.mini_model.specs.Tree.{Tree, Trees, node, none, ◌▸◌, shape_of, children}
 use Rattle.mini_node.specs.Children.{names_of as names_in}
 use Rattle.mini_model.specs.declared.shape.Shape.{Shape}
-use Rattle.mini_names.specs.declared.Declared.{Declared}
-use Rattle.mini_names.specs.declared.Declared.TheVariants as declared
-use Rattle.mini_names.specs.declared.Place.{Place}
-use Rattle.mini_names.specs.DeclaredNames.{place_of, names_by, names_of, first_names, all_names}
+use Rattle.mini_laws.specs.declared.names.Declared.{Declared}
+use Rattle.mini_laws.specs.declared.names.Declared.TheVariants as declared
+use Rattle.mini_laws.specs.declared.names.Place.{Place}
+use Rattle.mini_laws.specs.DeclaredNames.{place_of, names_by, names_of, first_names, all_names}
 use Rattle.mini_scope.proofs.Folds.{child_falls, Gathers, before_turns, turn, after_turns, first_at, no_child}
 use Rattle.mini_scope.proofs.declared.+names.Goals as goal
 

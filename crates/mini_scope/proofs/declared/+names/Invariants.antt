@@ -1,7 +1,7 @@
 use Rattle.std.proofs.Common.{◌≡◌, ◌+◌, ◌*◌, ◌++◌, take}
 use Rattle.mini_model.specs.Tree.{node_count, node_counts}
 use Rattle.mini_node.specs.Children.{trees_of}
-use Rattle.mini_names.specs.DeclaredNames.{all_names}
+use Rattle.mini_laws.specs.DeclaredNames.{all_names}
 use Rattle.mini_scope.proofs.declared.+names.Given as goal
 
 abbrev pub decreases-push_names : goal.decreases-push_names

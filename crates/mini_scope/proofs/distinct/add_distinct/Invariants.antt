@@ -1,7 +1,7 @@
 use Rattle.std.proofs.Common.{◌≡◌, ◌++◌, List}
 use Rattle.std.specs.Vec.Iter.{into_iter_items}
 use Rattle.mini_model.specs.declared.name.Name.{Name}
-use Rattle.mini_names.specs.DeclaredNames.{with_names}
+use Rattle.mini_laws.specs.DeclaredNames.{with_names}
 use Rattle.mini_scope.specs.ScopeAt.{bound}
 use Rattle.mini_scope.proofs.distinct.add_distinct.Given as goal
 

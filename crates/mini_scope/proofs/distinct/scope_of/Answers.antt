@@ -2,7 +2,7 @@ use Rattle.std.specs.Prelude.{IfOk}
 use Rattle.std.proofs.Common.{◌≡◌, ◌∙◌, ap, arith, subst, ◌++◌, length, drop}
 use Rattle.std.proofs.lemmas.List.{drop-map}
 use Rattle.std.proofs.lemmas.Grind.{common_steps}
-use Rattle.mini_names.specs.DeclaredNames.{with_names}
+use Rattle.mini_laws.specs.DeclaredNames.{with_names}
 use Rattle.mini_scope.specs.ScopeAt.{bound}
 use Rattle.mini_scope.proofs.Once.{alone, no_names, longer, bound_length}
 use Rattle.mini_scope.proofs.distinct.scope_of.Goals as goal

@@ -1,6 +1,6 @@
 use Rattle.std.proofs.Common.{◌≡◌, ◌≤◌, ◌<◌, [], ◌++◌, ◌∷◌, ap, ◌∙◌, refl, arith, ℕ, List, append_assoc}
 use Rattle.mini_model.specs.Tree.{Tree, node, count, node_count, shape_of, children}
-use Rattle.mini_names.specs.Early.{early_names, all_early_names, clashing, scope_declarations}
+use Rattle.mini_laws.specs.Early.{early_names, all_early_names, clashing, scope_declarations}
 use Rattle.mini_scope.proofs.EarlyWalk.{Gathers, turn, finished, from_first, child_smaller}
 use Rattle.mini_scope.proofs.doubles.+names.Goals as goal
 

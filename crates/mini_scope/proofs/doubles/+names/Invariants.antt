@@ -1,7 +1,7 @@
 use Rattle.std.proofs.Common.{◌≡◌, ◌+◌, ◌*◌, ◌++◌}
 use Rattle.mini_model.specs.Tree.{node_count, node_counts}
 use Rattle.mini_node.specs.Children.{rest_children}
-use Rattle.mini_names.specs.Early.{all_early_names}
+use Rattle.mini_laws.specs.Early.{all_early_names}
 use Rattle.mini_scope.proofs.doubles.+names.Given as goal
 
 abbrev pub decreases-push_early_names : goal.decreases-push_early_names

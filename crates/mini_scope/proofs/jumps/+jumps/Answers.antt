@@ -1,8 +1,8 @@
 use Rattle.std.proofs.Common.{◌≡◌, ◌≤◌, ◌<◌, [], ◌++◌, ◌∷◌, ap, ◌∙◌, refl, arith, ℕ, List, append_assoc, if◌then◌else◌}
 use Rattle.mini_model.specs.declared.shape.Shape.{Shape}
 use Rattle.mini_model.specs.Tree.{Tree, Trees, node, count, node_count, shape_of, children}
-use Rattle.mini_names.specs.declared.Targets.{Targets}
-use Rattle.mini_names.specs.Early.{early_jumps, all_early_jumps, targets_of, turned, is_bad_jump}
+use Rattle.mini_laws.specs.declared.names.Targets.{Targets}
+use Rattle.mini_laws.specs.Early.{early_jumps, all_early_jumps, targets_of, turned, is_bad_jump}
 use Rattle.mini_scope.proofs.EarlyWalk.{Gathers, turn, finished, from_first, child_smaller}
 use Rattle.mini_scope.proofs.jumps.+jumps.Goals as goal
 

@@ -4,10 +4,10 @@ use Rattle.mini_model.specs.Paths.{append}
 use Rattle.mini_node.specs.Children.{first_children}
 use Rattle.mini_model.specs.declared.name.Name.{Name}
 use Rattle.mini_node.specs.Children.{names_of, number_of, with_names, like}
-use Rattle.mini_names.specs.Scopes.{use_of, opened}
-use Rattle.mini_names.specs.declared.Use.{Use}
-use Rattle.mini_names.specs.declared.Binding.{Binding}
-use Rattle.mini_names.specs.Resolved.{Environment, with_symbol, symbols, symbols_from, resolved, resolved_from}
+use Rattle.mini_laws.specs.Scopes.{use_of, opened}
+use Rattle.mini_laws.specs.declared.names.Use.{Use}
+use Rattle.mini_laws.specs.declared.names.Binding.{Binding}
+use Rattle.mini_laws.specs.Resolved.{Environment, with_symbol, symbols, symbols_from, resolved, resolved_from}
 use Rattle.mini_scope.specs.ScopeAt.{scope_at}
 use Rattle.mini_scope.proofs.Walk.{begins, turn, child_smaller, same_child, symbols_split, no_rest, all_first, append_none}
 use Rattle.mini_scope.proofs.numbering.+resolve.Goals as goal

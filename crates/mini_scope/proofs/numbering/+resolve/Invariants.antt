@@ -1,6 +1,6 @@
 use Rattle.std.proofs.Common.{◌≡◌, ℕ, ◌+◌, ◌*◌, ◌≤◌}
 use Rattle.mini_model.specs.Tree.{node_count, node_counts}
-use Rattle.mini_names.specs.Scopes.{use_of}
+use Rattle.mini_laws.specs.Scopes.{use_of}
 use Rattle.mini_scope.specs.ScopeAt.{scope_at}
 use Rattle.mini_scope.proofs.Walk.{Walked}
 use Rattle.mini_scope.proofs.numbering.+resolve.Given as goal

@@ -1,4 +1,4 @@
-use Rattle.mini_names.specs.DeclaredNames.{with_names}
+use Rattle.mini_laws.specs.DeclaredNames.{with_names}
 use Rattle.mini_scope.proofs.opening.name_scope.Goals as goal
 
 pub returns-else-holds : goal.returns-else-holds

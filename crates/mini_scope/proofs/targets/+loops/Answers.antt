@@ -1,7 +1,7 @@
 use Rattle.std.proofs.Common.{◌≡◌, ◌≤◌, ◌<◌, ◌-◌, ◌∙◌, ap, sym, refl, arith, ℕ, suc, Bool, false, nat_lt, if◌then◌else◌}
 use Rattle.mini_model.specs.declared.shape.Shape.{Shape}
 use Rattle.mini_model.specs.Tree.{Tree, Trees, node, none, ◌▸◌, count, node_count, child_or_absent, shape_of, children}
-use Rattle.mini_names.specs.Early.{is_labeled, is_loop_shape, is_loop, last_is_loop, last_by}
+use Rattle.mini_laws.specs.Early.{is_labeled, is_loop_shape, is_loop, last_is_loop, last_by}
 use Rattle.mini_scope.proofs.EarlyWalk.{child_smaller}
 use Rattle.mini_scope.proofs.targets.+loops.Goals as goal
 

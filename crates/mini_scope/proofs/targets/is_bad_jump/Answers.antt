@@ -1,6 +1,6 @@
 use Rattle.std.proofs.Common.{◌≤◌, ◌∙◌, ap, sym, arith, None}
 use Rattle.mini_model.specs.Tree.{count, shape_of}
-use Rattle.mini_names.specs.Early.{is_bad, jump_of, label_by}
+use Rattle.mini_laws.specs.Early.{is_bad, jump_of, label_by}
 use Rattle.mini_scope.proofs.EarlyWalk.{missing}
 use Rattle.mini_scope.proofs.targets.is_bad_jump.Goals as goal
 

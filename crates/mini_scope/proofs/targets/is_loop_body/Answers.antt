@@ -1,6 +1,6 @@
 use Rattle.std.proofs.Common.{◌≡◌, ◌≤◌, ◌∙◌, ap, sym, arith, false, refl}
 use Rattle.mini_model.specs.Tree.{absent, count}
-use Rattle.mini_names.specs.Early.{is_loop}
+use Rattle.mini_laws.specs.Early.{is_loop}
 use Rattle.mini_scope.proofs.EarlyWalk.{missing, lower}
 use Rattle.mini_scope.proofs.targets.is_loop_body.Goals as goal
 

@@ -1,6 +1,6 @@
 use Rattle.std.proofs.Common.{◌≤◌, ◌∙◌, ap, sym, arith, [], unwrap_or}
 use Rattle.mini_model.specs.Tree.{count, shape_of}
-use Rattle.mini_names.specs.Early.{label_by}
+use Rattle.mini_laws.specs.Early.{label_by}
 use Rattle.mini_scope.proofs.EarlyWalk.{missing}
 use Rattle.mini_scope.proofs.targets.label_name.Goals as goal
 

@@ -2,7 +2,7 @@ use Rattle.std.proofs.Common.{◌<◌, ◌≤◌, ◌+◌, ◌∙◌, ◌||◌, 
 use Rattle.mini_model.specs.Tree.{count}
 use Rattle.mini_node.specs.Children.{rest_children}
 use Rattle.mini_node.specs.Walks.{from_first}
-use Rattle.mini_names.specs.ScopeList.{any_has_eval}
+use Rattle.mini_laws.specs.ScopeList.{any_has_eval}
 use Rattle.mini_unused.proofs.Evaluating.{evals_step, evals_end, call_first}
 use Rattle.mini_unused.proofs.evals.+evals.Goals as goal
 

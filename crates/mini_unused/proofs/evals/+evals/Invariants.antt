@@ -1,7 +1,7 @@
 use Rattle.std.proofs.Common.{◌≡◌, ◌+◌, ◌*◌}
 use Rattle.mini_model.specs.Tree.{node_count, node_counts}
 use Rattle.mini_node.specs.Children.{rest_children}
-use Rattle.mini_names.specs.ScopeList.{any_has_eval}
+use Rattle.mini_laws.specs.ScopeList.{any_has_eval}
 use Rattle.mini_unused.proofs.evals.+evals.Given as goal
 
 abbrev pub decreases-has_eval : goal.decreases-has_eval

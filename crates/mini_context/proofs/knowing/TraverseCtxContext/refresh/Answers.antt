@@ -1,5 +1,5 @@
 use Rattle.std.proofs.Common.{arith}
-use Rattle.mini_names.specs.declared.Use.TheVariants.{Read}
+use Rattle.mini_laws.specs.declared.names.Use.TheVariants.{Read}
 use Rattle.mini_context.proofs.Known.{references_counted, known_anew}
 use Rattle.mini_context.proofs.knowing.TraverseCtxContext.refresh.Goals as goal
 

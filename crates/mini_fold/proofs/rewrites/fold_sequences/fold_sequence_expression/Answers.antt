@@ -1,6 +1,6 @@
 use Rattle.std.proofs.Common.{sym, ap, subst, ◌∙◌}
 use Rattle.mini_model.specs.declared.place.Position.TheVariants.{Expr}
-use Rattle.mini_walk.specs.Rule.{Moves}
+use Rattle.mini_tree.specs.Rule.{Moves}
 use Rattle.mini_fold.specs.FoldSequences.{lifted, Gives}
 use Rattle.mini_fold.proofs.Sequences.{lifted_applied}
 use Rattle.mini_fold.proofs.rewrites.fold_sequences.fold_sequence_expression.Goals as goal

@@ -3,7 +3,7 @@ use Rattle.mini_model.specs.declared.place.Position.TheVariants.{Expr}
 use Rattle.mini_model.specs.Tree.{children, count, child_or_absent}
 use Rattle.mini_node.specs.Children.{part}
 use Rattle.mini_node.specs.Kinds.{sequence}
-use Rattle.mini_walk.specs.Rule.{Moves}
+use Rattle.mini_tree.specs.Rule.{Moves}
 use Rattle.mini_fold.specs.FoldSequences.{is_several, any_of, spread_at, Gives}
 use Rattle.mini_fold.proofs.Sequences.{spread_applied, rests, not_nested, none_nested}
 use Rattle.mini_fold.proofs.rewrites.fold_sequences.spread.Goals as goal

@@ -1,6 +1,6 @@
 use Rattle.std.proofs.Common.{◌≡◌, ◌+◌, ◌++◌, length}
 use Rattle.std.specs.Vec.Iter.{into_iter_items}
-use Rattle.mini_names.specs.Resolved.{numbered}
+use Rattle.mini_laws.specs.Resolved.{numbered}
 use Rattle.mini_scope.proofs.environment.Environment.enter.Given as goal
 
 abbrev pub invariant-loop-binding : goal.invariant-loop-binding

@@ -1,6 +1,6 @@
 use Rattle.std.proofs.Common.{◌<◌, ◌∙◌, ap, sym, arith, length, take, slice_index_or}
 use Rattle.std.proofs.lemmas.List.{take_more, take_all}
-use Rattle.mini_names.specs.Resolved.{symbol_of, own_symbol, or_else}
+use Rattle.mini_laws.specs.Resolved.{symbol_of, own_symbol, or_else}
 use Rattle.mini_scope.specs.Buckets.{bucket_of, places}
 use Rattle.mini_scope.proofs.Places.{places_below, own_there, through, through_last, found_in_bucket}
 use Rattle.mini_scope.proofs.environment.Environment.symbol_of.Goals as goal

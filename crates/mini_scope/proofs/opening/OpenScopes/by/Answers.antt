@@ -1,8 +1,8 @@
 use Rattle.std.proofs.Common.{◌∙◌, ap, refl}
 use Rattle.mini_node.specs.Children.{trees_of}
-use Rattle.mini_names.specs.declared.Opening.TheVariants as opening
-use Rattle.mini_names.specs.DeclaredNames.{body_names}
-use Rattle.mini_names.specs.Scopes.{scopes_by, body_scope}
+use Rattle.mini_laws.specs.declared.names.Opening.TheVariants as opening
+use Rattle.mini_laws.specs.DeclaredNames.{body_names}
+use Rattle.mini_laws.specs.Scopes.{scopes_by, body_scope}
 use Rattle.mini_scope.proofs.Opened.{has_scopes, one_scope, no_scope, one_up, two_up, three_up, four_up, few_for_one, few_for_arrow, few_for_class, few_for_second, few_for_function}
 use Rattle.mini_scope.proofs.opening.OpenScopes.by.Goals as goal
 

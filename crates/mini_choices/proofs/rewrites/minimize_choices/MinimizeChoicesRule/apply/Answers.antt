@@ -1,5 +1,5 @@
 use Rattle.std.proofs.Common.{subst, sym}
-use Rattle.mini_walk.specs.Rule.{Applied}
+use Rattle.mini_tree.specs.Rule.{Applied}
 use Rattle.mini_choices.specs.Choices.{Gives, Rests}
 use Rattle.mini_choices.proofs.Choices.{applied}
 use Rattle.mini_choices.proofs.rewrites.minimize_choices.MinimizeChoicesRule.apply.Goals as goal

@@ -1,5 +1,5 @@
 use Rattle.std.proofs.Common.{subst, sym}
-use Rattle.mini_walk.specs.Rule.{Applied}
+use Rattle.mini_tree.specs.Rule.{Applied}
 use Rattle.mini_fold.specs.FoldConstants.{Gives, Rests}
 use Rattle.mini_fold.proofs.Constants.{applied}
 use Rattle.mini_fold.proofs.rewrites.fold_constants.FoldConstantsRule.apply.Goals as goal

@@ -1,5 +1,5 @@
 use Rattle.std.proofs.Common.{subst, sym}
-use Rattle.mini_walk.specs.Rule.{Applied}
+use Rattle.mini_tree.specs.Rule.{Applied}
 use Rattle.mini_fold.specs.FoldOperands.{Gives, Rests}
 use Rattle.mini_fold.proofs.Operands.{applied}
 use Rattle.mini_fold.proofs.rewrites.fold_operands.FoldOperandsRule.apply.Goals as goal

@@ -1,5 +1,5 @@
 use Rattle.std.proofs.Common.{subst, sym}
-use Rattle.mini_walk.specs.Rule.{Applied}
+use Rattle.mini_tree.specs.Rule.{Applied}
 use Rattle.mini_logic.specs.DeMorganForVoidExpr.{Gives, Rests}
 use Rattle.mini_logic.proofs.DeMorganForVoidExpr.{applied}
 use Rattle.mini_logic.proofs.rewrites.de_morgan_for_void_expr.MinimizeVoidRule.apply.Goals as goal

@@ -1,5 +1,5 @@
 use Rattle.std.proofs.Common.{subst, sym}
-use Rattle.mini_walk.specs.Rule.{Applied}
+use Rattle.mini_tree.specs.Rule.{Applied}
 use Rattle.mini_logic.specs.MinimizeExpressionInBooleanContext.{Gives, Rests}
 use Rattle.mini_logic.proofs.MinimizeExpressionInBooleanContext.{applied}
 use Rattle.mini_logic.proofs.rewrites.minimize_expression_in_boolean_context.MinimizeInBooleanContextRule.apply.Goals as goal

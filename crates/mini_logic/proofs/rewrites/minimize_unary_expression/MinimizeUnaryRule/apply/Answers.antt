@@ -1,5 +1,5 @@
 use Rattle.std.proofs.Common.{subst, sym}
-use Rattle.mini_walk.specs.Rule.{Applied}
+use Rattle.mini_tree.specs.Rule.{Applied}
 use Rattle.mini_logic.specs.MinimizeUnaryExpression.{Gives, Rests}
 use Rattle.mini_logic.proofs.MinimizeUnaryExpression.{applied}
 use Rattle.mini_logic.proofs.rewrites.minimize_unary_expression.MinimizeUnaryRule.apply.Goals as goal

@@ -1,5 +1,5 @@
 use Rattle.std.proofs.Common.{subst, sym}
-use Rattle.mini_walk.specs.Rule.{Applied}
+use Rattle.mini_tree.specs.Rule.{Applied}
 use Rattle.mini_syntax.specs.SubstituteObjectProperty.{Gives, Rests}
 use Rattle.mini_syntax.proofs.Keys.{applied}
 use Rattle.mini_syntax.proofs.rewrites.substitute_object_property.SubstituteKeysRule.apply.Goals as goal

@@ -1,5 +1,5 @@
 use Rattle.std.proofs.Common.{subst, sym}
-use Rattle.mini_walk.specs.Rule.{Applied}
+use Rattle.mini_tree.specs.Rule.{Applied}
 use Rattle.mini_syntax.specs.Spelled.{Gives, Rests}
 use Rattle.mini_syntax.proofs.Applying.{applied}
 use Rattle.mini_syntax.proofs.rewrites.substitute_spellings.SubstituteSpellingsRule.apply.Goals as goal

@@ -1,5 +1,0 @@
-use Rattle.mini_names.proofs.Changes.{as_it_is}
-use Rattle.mini_names.proofs.edits.kept_as_it_is.Goals as goal
-
-pub returns : goal.returns
-returns c = as_it_is

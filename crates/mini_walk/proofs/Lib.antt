@@ -1,5 +1,0 @@
-pub mod Edits
-pub mod Reaching
-pub mod Joining
-pub mod Walks
-pub mod Passing

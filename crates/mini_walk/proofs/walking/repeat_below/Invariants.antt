@@ -1,9 +1,0 @@
-use Rattle.mini_walk.specs.Context.{KnowsAsBefore, ByKnown}
-use Rattle.mini_walk.proofs.Walks.{TriedTo}
-use Rattle.mini_walk.proofs.walking.repeat_below.Given as goal
-
-abbrev pub invariant-loop-at : goal.invariant-loop-at
-invariant-loop-at g l = record {
-  known : KnowsAsBefore g.C.Context.knows l.fn.context l.context;
-  tried : ByKnown g.C.Context.knows l.fn.context (λ o q. TriedTo (g.R.Rule.gives o q) (g.R.Rule.rests o q) l.place l.fn.node l.node);
-}
