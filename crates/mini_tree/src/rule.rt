@@ -7,9 +7,9 @@ ghost use Rattle.mini_tree.specs.declared.options.CompressOptions.{CompressOptio
 ghost use Rattle.mini_tree.specs.Context.{KnowsSome, KnowsAsBefore, KnowsAnew, ByKnown};
 ghost use Rattle.mini_tree.specs.Rule.{Applied, AreLighter, Either, Both};
 
+use crate::options::CompressOptions;
 use mini_model::{OutOfMemory, Position};
 use mini_node::Node;
-use mini_tree::CompressOptions;
 use std::alloc::Global;
 
 /// What the calls of every rule share. It knows the options, and what it has seen of a program when it last looked.

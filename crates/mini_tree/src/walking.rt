@@ -6,10 +6,10 @@ ghost use Rattle.mini_tree.specs.Context.{KnowsSome, KnowsAsBefore, ByKnown};
 ghost use Rattle.mini_tree.specs.Rule.{Applied};
 ghost use Rattle.mini_tree.specs.Walk.{Walked, WalkedBelow};
 
+use crate::place::child_place;
 use crate::rule::{Context, Rule};
 use mini_model::{OutOfMemory, Position};
 use mini_node::Node;
-use mini_tree::child_place;
 use std::alloc::Global;
 
 /// Walks over a node, its children first, and at each node applies the rule until it answers false. The answer says
