@@ -11,22 +11,25 @@ use Rattle.mini_model.specs.declared.seat.Seat.{Seat}
 use Rattle.mini_model.specs.declared.seat.StmtSeat.{StmtSeat}
 use Rattle.mini_model.specs.declared.shape.Shape.TheVariants as shape
 use Rattle.mini_model.specs.Tree.{Tree, Trees, node, none, ◌▸◌, shape_of, count, children, negation, logical, expression_statement, if_else, if_alone}
+use Rattle.mini_model.specs.Paths.{append}
 use Rattle.mini_model.specs.Position.{statement_expression_seat, left_operand_seat, if_test_seat, not_operand_seat}
 use Rattle.mini_model.specs.Weight.{weight, capped}
 use Rattle.mini_model.specs.Terms.{neg, not_of, has_negated_result}
-use Rattle.mini_model.specs.Redex.{Row82Else, Row82And, Row82Or}
+use Rattle.mini_model.specs.Redex.{Row82Else}
 use Rattle.mini_node.specs.Children.{part}
-use Rattle.mini_node.specs.Kinds.{is_empty_statement, is_block, is_absent_part, is_if_statement, is_if_alone, is_expression_statement, is_negation}
-use Rattle.mini_node.specs.Made.{absent_is, empty_statement_is, block_is, if_statement_is, if_alone_is, expression_statement_is, negation_is}
+use Rattle.mini_node.specs.Kinds.{is_empty_statement, is_block, is_absent_part, is_if_statement, is_if_alone, is_expression_statement, is_negation, sequence, is_sequence}
+use Rattle.mini_node.specs.Made.{absent_is, empty_statement_is, block_is, if_statement_is, if_alone_is, expression_statement_is, negation_is, sequence_is}
 use Rattle.mini_laws.proofs.Seats.{else_falls, moved}
 use Rattle.mini_rows.specs.Lists.{block}
-use Rattle.mini_rows.specs.Branches.{IsEmpty, is_other_branch, as_consequent, conjunct_seat, Row82Empty, Row83Alone, Row83Else, Row83Nested, Row83Block, IfRow}
+use Rattle.mini_rows.specs.Branches.{IsEmpty, is_other_branch, as_consequent, conjunct_seat, Row82Empty, Ending, not_of_all, after, with_not, without_not, Row83Alone, Row83Else, Row83Nested, Row83Block, IfRow}
 use Rattle.mini_rows.specs.Turns.{is_unchained, is_block_shape, one_chooses, KeepsBraces, Row83Swapped}
 use Rattle.mini_rows.proofs.BranchWeights.{branch_lighter}
 use Rattle.mini_rows.proofs.TurnWeights.{turns_lighter}
 use Rattle.mini_tree.specs.Rule.{Applied}
 use Rattle.mini_tree.proofs.Reaching.{moves_once}
 use Rattle.mini_logic.specs.Negating.{lighter_negation}
+use Rattle.mini_logic.specs.Sequences.{ends_in_not, last_ends, end_bared, last_bared}
+use Rattle.mini_logic.proofs.SequenceEnds.{bared_here}
 use Rattle.mini_logic.specs.MinimizeIfStatement.{chooses, guards, is_empty, has_empty_consequent, skips, only_tests, is_weighed, turns, nests, is_bare, holds_choice, keeps_braces, swaps, choice, conjunction, disjunction, disjunct_seat, guard, skipped, turned, nested, in_block, swapped, written, IsRow, Gives, Rests}
 use Rattle.mini_logic.proofs.Seats.{left_or_falls, left_and_falls, right_and_falls, right_or_falls}
 
@@ -106,14 +109,82 @@ follows_else t e =
       written = refl;
     }
 
-follows_guard : (t : Tree) → guards t ≡ true → Row82And t (guard t) ⊎ Row82Or t (guard t)
+-- a test that ends in a `!`, without it
+record Found (t : Tree) : Type 0 where
+  end : Ending
+  is : t ≡ with_not end
+  without : end_bared t ≡ without_not end
+
+record FoundLast (us : Trees) : Type 0 where
+  before : Trees
+  end : Ending
+  is : us ≡ append before (with_not end ▸ none)
+  without : last_bared us ≡ append before (without_not end ▸ none)
+
+never : (ts : Trees) (t : Tree) → none ≡ append ts (t ▸ none) → ⊥
+never none t e = cc e
+never (u ▸ ts) t e = cc e
+
+bared_in : (u : Tree) (us : Trees) (f : FoundLast us) → end_bared (sequence (u ▸ us)) ≡ without_not (after u f.before f.end)
+bared_in u none f = absurd (never f.before (with_not f.end) f.is)
+bared_in u (v ▸ us) f = ap (λ x. sequence (u ▸ x)) f.without
+
+found_in : (t u : Tree) (us : Trees) → is_sequence t ≡ true → children (part t 0) ≡ (u ▸ us) → FoundLast us → Found t
+found_in t u us k h f =
+    let whole : t ≡ sequence (u ▸ us) = sequence_is t k ∙ ap sequence h in
+    record { end = after u f.before f.end; is = whole ∙ ap (λ x. sequence (u ▸ x)) f.is; without = ap end_bared whole ∙ bared_in u us f }
+
+found_not : (t : Tree) → is_sequence t ≡ false → is_negation t ≡ true → Found t
+found_not t k f = record { end = not_of_all (part t 0); is = negation_is t f; without = bared_here t k }
+
+by_kind : (t : Tree) (x : Bool) → (is_sequence t ≡ true → x ≡ true → Found t) → (b : Bool) → is_sequence t ≡ b → (if b then x else is_negation t) ≡ true → Found t
+by_kind t x h true k f = h k f
+by_kind t x h false k f = found_not t k f
+
+mutual
+  found : (t : Tree) → ends_in_not t ≡ true → Found t
+  found (node h xs n none) e = by_kind (node h xs n none) false (λ k f. absurd (true≢false (sym f))) (is_sequence (node h xs n none)) refl e
+  found (node h xs n (node g ys m none ▸ ts)) e =
+      by_kind (node h xs n (node g ys m none ▸ ts)) false (λ k f. absurd (true≢false (sym f))) (is_sequence (node h xs n (node g ys m none ▸ ts))) refl e
+  found (node h xs n (node g ys m (u ▸ us) ▸ ts)) e =
+      by_kind (node h xs n (node g ys m (u ▸ us) ▸ ts)) (last_ends us) (λ k f. found_in (node h xs n (node g ys m (u ▸ us) ▸ ts)) u us k refl (found_last us f)) (is_sequence (node h xs n (node g ys m (u ▸ us) ▸ ts))) refl e
+
+  found_last : (us : Trees) → last_ends us ≡ true → FoundLast us
+  found_last none e = absurd (true≢false (sym e))
+  found_last (u ▸ none) e = let f = found u e in record { before = none; end = f.end; is = ap (λ x. x ▸ none) f.is; without = ap (λ x. x ▸ none) f.without }
+  found_last (u ▸ (v ▸ us)) e = let f = found_last (v ▸ us) e in record { before = u ▸ f.before; end = f.end; is = ap (λ x. u ▸ x) f.is; without = ap (λ x. u ▸ x) f.without }
+
+-- a sequence, where it is no `!` itself
+record FoundAfter (t : Tree) : Type 0 where
+  first : Tree
+  others : Trees
+  last : Ending
+  is : t ≡ with_not (after first others last)
+  without : end_bared t ≡ without_not (after first others last)
+
+found_after : (t : Tree) → has_negated_result t ≡ false → ends_in_not t ≡ true → FoundAfter t
+found_after t h e = by (found t e)
+  where
+    by_end : (c : Ending) → t ≡ with_not c → end_bared t ≡ without_not c → FoundAfter t
+    by_end (not_of_all a) f g = absurd (true≢false (sym (ap has_negated_result f) ∙ h))
+    by_end (after p ps c) f g = record { first = p; others = ps; last = c; is = f; without = g }
+
+    by : Found t → FoundAfter t
+    by f = by_end f.end f.is f.without
+
+follows_guard : (t : Tree) → guards t ≡ true → IsRow t (guard t)
 follows_guard t e = go (has_negated_result (part t 0)) refl
   where
-    go : (c : Bool) → has_negated_result (part t 0) ≡ c → Row82And t (if c then disjunction (neg disjunct_seat (part t 0)) (part t 1) else conjunction (part t 0) (part t 1)) ⊎ Row82Or t (if c then disjunction (neg disjunct_seat (part t 0)) (part t 1) else conjunction (part t 0) (part t 1))
-    go true h = inr (record { a = part t 0; b = part (part t 1) 0; shape = alone t e; negated = h; written = ap (λ a. expression_statement (logical Or a (part (part t 1) 0))) (sym (not_is disjunct_seat (part t 0) (disjunct_falls (part t 0) h))) })
-    go false h = inl (record { a = part t 0; b = part (part t 1) 0; shape = alone t e; plain = h; written = refl })
+    more : has_negated_result (part t 0) ≡ false → (d : Bool) → ends_in_not (part t 0) ≡ d → IsRow t (if d then disjunction (end_bared (part t 0)) (part t 1) else conjunction (part t 0) (part t 1))
+    more h true k = let f = found_after (part t 0) h k in
+        inr (inl (inr (inr (inl (record { first = f.first; others = f.others; last = f.last; b = part (part t 1) 0; shape = alone t e ∙ ap (λ a. if_alone a (expression_statement (part (part t 1) 0))) f.is; written = ap (λ a. expression_statement (logical Or a (part (part t 1) 0))) f.without })))))
+    more h false k = inl (inr (inl (record { a = part t 0; b = part (part t 1) 0; shape = alone t e; plain = h; written = refl })))
 
-follows_skip : (t : Tree) → skips t ≡ true → Row82Empty t (skipped t)
+    go : (c : Bool) → has_negated_result (part t 0) ≡ c → IsRow t (if c then disjunction (neg disjunct_seat (part t 0)) (part t 1) else (if ends_in_not (part t 0) then disjunction (end_bared (part t 0)) (part t 1) else conjunction (part t 0) (part t 1)))
+    go true h = inl (inr (inr (record { a = part t 0; b = part (part t 1) 0; shape = alone t e; negated = h; written = ap (λ a. expression_statement (logical Or a (part (part t 1) 0))) (sym (not_is disjunct_seat (part t 0) (disjunct_falls (part t 0) h))) })))
+    go false h = more h (ends_in_not (part t 0)) refl
+
+follows_skip : (t : Tree) → skips t ≡ true → IsRow t (skipped t)
 follows_skip t e = go (has_negated_result (part t 0)) refl
   where
     tests : (has_empty_consequent t ≡ true) × (is_expression_statement (part t 2) ≡ true)
@@ -122,9 +193,14 @@ follows_skip t e = go (has_negated_result (part t 0)) refl
     is : t ≡ if_else (part t 0) (part t 1) (expression_statement (part (part t 2) 0))
     is = (emptied t tests.0).0 ∙ ap (if_else (part t 0) (part t 1)) (expression_statement_is (part t 2) tests.1)
 
-    go : (c : Bool) → has_negated_result (part t 0) ≡ c → Row82Empty t (if c then conjunction (neg conjunct_seat (part t 0)) (part t 2) else disjunction (part t 0) (part t 2))
-    go true h = inr (record { a = part t 0; empty = part t 1; b = part (part t 2) 0; is_empty = (emptied t tests.0).1; negated = h; shape = is; written = ap (λ a. expression_statement (logical And a (part (part t 2) 0))) (sym (not_is conjunct_seat (part t 0) (conjunct_falls (part t 0) h))) })
-    go false h = inl (record { a = part t 0; empty = part t 1; b = part (part t 2) 0; is_empty = (emptied t tests.0).1; plain = h; shape = is; written = refl })
+    more : has_negated_result (part t 0) ≡ false → (d : Bool) → ends_in_not (part t 0) ≡ d → IsRow t (if d then conjunction (end_bared (part t 0)) (part t 2) else disjunction (part t 0) (part t 2))
+    more h true k = let f = found_after (part t 0) h k in
+        inr (inl (inr (inr (inr (record { first = f.first; others = f.others; last = f.last; empty = part t 1; b = part (part t 2) 0; is_empty = (emptied t tests.0).1; shape = is ∙ ap (λ a. if_else a (part t 1) (expression_statement (part (part t 2) 0))) f.is; written = ap (λ a. expression_statement (logical And a (part (part t 2) 0))) f.without })))))
+    more h false k = inr (inl (inl (inl (record { a = part t 0; empty = part t 1; b = part (part t 2) 0; is_empty = (emptied t tests.0).1; plain = h; shape = is; written = refl }))))
+
+    go : (c : Bool) → has_negated_result (part t 0) ≡ c → IsRow t (if c then conjunction (neg conjunct_seat (part t 0)) (part t 2) else (if ends_in_not (part t 0) then conjunction (end_bared (part t 0)) (part t 2) else disjunction (part t 0) (part t 2)))
+    go true h = inr (inl (inl (inr (record { a = part t 0; empty = part t 1; b = part (part t 2) 0; is_empty = (emptied t tests.0).1; negated = h; shape = is; written = ap (λ a. expression_statement (logical And a (part (part t 2) 0))) (sym (not_is conjunct_seat (part t 0) (conjunct_falls (part t 0) h))) }))))
+    go false h = more h (ends_in_not (part t 0)) refl
 
 follows_test : (t : Tree) → only_tests t ≡ true → Row83Alone t (expression_statement (part t 0))
 follows_test t e =
@@ -243,42 +319,42 @@ module _ (t w : Tree) where
   bare_follows e = go (taken (is_bare t) (in_block t) w (swap_or t) e)
     where
       go : ((is_bare t ≡ true) × (in_block t ≡ w)) ⊎ (swap_or t ≡ Some w) → IsRow t w
-      go (inl x) = inr (inl (inr (inr (inr (inr (as_is (in_block t) Row83Block (follows_bare t x.0) x.1))))))
+      go (inl x) = inr (inl (inr (inl (inr (inr (inr (as_is (in_block t) Row83Block (follows_bare t x.0) x.1)))))))
       go (inr x) = swap_follows x
 
   nest_follows : nest_or t ≡ Some w → IsRow t w
   nest_follows e = go (taken (nests t) (nested t) w (bare_or t) e)
     where
       go : ((nests t ≡ true) × (nested t ≡ w)) ⊎ (bare_or t ≡ Some w) → IsRow t w
-      go (inl x) = inr (inl (inr (inr (inr (inl (as_is (nested t) Row83Nested (follows_nest t x.0) x.1))))))
+      go (inl x) = inr (inl (inr (inl (inr (inr (inl (as_is (nested t) Row83Nested (follows_nest t x.0) x.1)))))))
       go (inr x) = bare_follows x
 
   turn_follows : turn_or t ≡ Some w → IsRow t w
   turn_follows e = go (taken (turns t) (turned t) w (nest_or t) e)
     where
       go : ((turns t ≡ true) × (turned t ≡ w)) ⊎ (nest_or t ≡ Some w) → IsRow t w
-      go (inl x) = inr (inl (inr (inr (inl (as_is (turned t) Row83Else (follows_turn t x.0) x.1)))))
+      go (inl x) = inr (inl (inr (inl (inr (inl (as_is (turned t) Row83Else (follows_turn t x.0) x.1))))))
       go (inr x) = nest_follows x
 
   test_follows : test_or t ≡ Some w → IsRow t w
   test_follows e = go (taken (only_tests t) (expression_statement (part t 0)) w (turn_or t) e)
     where
       go : ((only_tests t ≡ true) × (expression_statement (part t 0) ≡ w)) ⊎ (turn_or t ≡ Some w) → IsRow t w
-      go (inl x) = inr (inl (inr (inl (as_is (expression_statement (part t 0)) Row83Alone (follows_test t x.0) x.1))))
+      go (inl x) = inr (inl (inr (inl (inl (as_is (expression_statement (part t 0)) Row83Alone (follows_test t x.0) x.1)))))
       go (inr x) = turn_follows x
 
   skip_follows : skip_or t ≡ Some w → IsRow t w
   skip_follows e = go (taken (skips t) (skipped t) w (test_or t) e)
     where
       go : ((skips t ≡ true) × (skipped t ≡ w)) ⊎ (test_or t ≡ Some w) → IsRow t w
-      go (inl x) = inr (inl (inl (as_is (skipped t) Row82Empty (follows_skip t x.0) x.1)))
+      go (inl x) = as_is (skipped t) IsRow (follows_skip t x.0) x.1
       go (inr x) = test_follows x
 
   guard_follows : guard_or t ≡ Some w → IsRow t w
   guard_follows e = go (taken (guards t) (guard t) w (skip_or t) e)
     where
       go : ((guards t ≡ true) × (guard t ≡ w)) ⊎ (skip_or t ≡ Some w) → IsRow t w
-      go (inl x) = inl (inr (as_is (guard t) (λ a b. Row82And a b ⊎ Row82Or a b) (follows_guard t x.0) x.1))
+      go (inl x) = as_is (guard t) IsRow (follows_guard t x.0) x.1
       go (inr x) = skip_follows x
 
   follows : written t ≡ Some w → IsRow t w
@@ -337,12 +413,14 @@ fits_below q a c u h small o = go (is_weighed a) refl
 
 branch_missed : (q : StmtSeat) (t w : Tree) → Passed t → weight (Stmt q) t < 2 ^ 64 → IfRow t w → ⊥
 branch_missed q t w e small (inl r) = empty_missed t w e r
-branch_missed q t w e small (inr (inl r)) = not_both t only_tests _ e.only_tests r.shape (ap (λ b. b && true) (read_empty r.empty r.is_empty))
-branch_missed q t w e small (inr (inr (inl r))) =
+branch_missed q t w e small (inr (inl (inl r))) = not_both t only_tests _ e.only_tests r.shape (ap (λ b. b && true) (read_empty r.empty r.is_empty))
+branch_missed q t w e small (inr (inl (inr (inl r)))) =
     let fit = fits_below q r.a r.empty r.u r.is_empty (subst (λ n. weight (Stmt q) n < 2 ^ 64) r.shape small) r.other in
     not_both t turns _ e.turns r.shape (ap (λ b. b && (is_other_branch r.u && is_weighed r.a)) (read_empty r.empty r.is_empty) ∙ ap (λ b. b && is_weighed r.a) r.other ∙ fit)
-branch_missed q t w e small (inr (inr (inr (inl r)))) = not_both t nests _ e.nests r.shape refl
-branch_missed q t w e small (inr (inr (inr (inr r)))) = not_both t is_bare _ e.is_bare r.shape r.chooses
+branch_missed q t w e small (inr (inl (inr (inr (inl r))))) = not_both t nests _ e.nests r.shape refl
+branch_missed q t w e small (inr (inl (inr (inr (inr r))))) = not_both t is_bare _ e.is_bare r.shape r.chooses
+branch_missed q t w e small (inr (inr (inl r))) = not_both t guards _ e.guards r.shape refl
+branch_missed q t w e small (inr (inr (inr r))) = not_both t skips _ e.skips r.shape (ap (λ b. b && true) (read_empty r.empty r.is_empty))
 
 swap_missed : (t w : Tree) → Passed t → Row83Swapped t w → ⊥
 swap_missed t w e r =

@@ -1,12 +1,12 @@
 -- The end of a sequence, step by step, and what is left without it.
-use Rattle.std.proofs.Common.{◌≡◌, ℕ, zero, suc, ◌+◌, ◌-◌, ◌<◌, Bool, true, false, refl, sym, ap, ◌∙◌, true≢false, arith}
-use Rattle.std.specs.Prelude.{not, ◌&&◌, ◌==◌, if◌then◌else◌}
-use Rattle.std.proofs.lemmas.Bool.{and_parts, eqb-true}
+use Rattle.std.proofs.Common.{◌≡◌, ℕ, zero, suc, ◌+◌, ◌-◌, ◌<◌, Bool, true, false, refl, sym, ap, subst, ◌∙◌, true≢false, arith}
+use Rattle.std.specs.Prelude.{not, ◌&&◌, ◌==◌, nat_lt, if◌then◌else◌}
+use Rattle.std.proofs.lemmas.Bool.{and_parts, eqb-true, ltb-true, lt-ltb}
 use Rattle.mini_model.specs.Tree.{Tree, Trees, node, none, ◌▸◌, absent, children, child_or_absent, count, listed, node_count, node_counts}
 use Rattle.mini_node.specs.Children.{part, with_child, without}
-use Rattle.mini_node.specs.Kinds.{sequence, is_sequence}
+use Rattle.mini_node.specs.Kinds.{sequence, is_sequence, is_negation}
 use Rattle.mini_node.specs.Made.{sequence_is}
-use Rattle.mini_logic.specs.Sequences.{end_of, end_below, last_end, has_parts, kept_sequence, parts_left, last_left, left_below, has_end, have_end, put_back}
+use Rattle.mini_logic.specs.Sequences.{end_of, end_below, last_end, has_parts, kept_sequence, parts_left, last_left, left_below, has_end, have_end, put_back, ends_in_not, ends_below, last_ends, end_bared, bared_below, last_bared}
 
 pub children_fewer : (t : Tree) → node_counts (children t) < node_count t
 children_fewer (node h xs n ts) = omega arith
@@ -174,3 +174,73 @@ empty_back us (l ▸ ls) i e = absurd (never (count ls) e)
 pub full_back : (us ls : Trees) (i : ℕ) → count ls == 0 ≡ false → with_child us i (sequence ls) ≡ put_back us i ls
 full_back us none i e = absurd (true≢false e)
 full_back us (l ▸ ls) i e = refl
+
+-- ---- the end without its `!`
+
+pub ends_here : (t : Tree) → is_sequence t ≡ false → ends_in_not t ≡ is_negation t
+ends_here (node h xs n ts) e = ap (λ b. if b then ends_below ts else is_negation (node h xs n ts)) e
+
+last_ends_at : (us : Trees) (i : ℕ) → i + 1 ≡ count us → last_ends us ≡ ends_in_not (child_or_absent us i)
+last_ends_at none i e = absurd (omega (arith, e))
+last_ends_at (u ▸ none) zero e = refl
+last_ends_at (u ▸ none) (suc i) e = absurd (omega (arith, e))
+last_ends_at (u ▸ (v ▸ us)) zero e = absurd (omega (arith, e))
+last_ends_at (u ▸ (v ▸ us)) (suc i) e = last_ends_at (v ▸ us) i (omega (arith, e))
+
+several_end : (us : Trees) → Bool
+several_end none = false
+several_end (u ▸ us) = last_ends us
+
+ends_below_is : (ts : Trees) → ends_below ts ≡ several_end (children (child_or_absent ts 0))
+unfolding several_end
+ends_below_is none = refl
+ends_below_is (node h xs n none ▸ ts) = refl
+ends_below_is (node h xs n (u ▸ us) ▸ ts) = refl
+
+ends_in : (t : Tree) → is_sequence t ≡ true → ends_in_not t ≡ several_end (children (part t 0))
+ends_in (node h xs n ts) e = ap (λ b. if b then ends_below ts else is_negation (node h xs n ts)) e ∙ ends_below_is ts
+
+several_at : (us : Trees) → several_end us ≡ (nat_lt 1 (count us) && ends_in_not (child_or_absent us (count us - 1)))
+unfolding several_end
+several_at none = refl
+several_at (u ▸ none) = refl
+several_at (u ▸ (v ▸ us)) =
+    let last : suc (count us) ≡ count (u ▸ (v ▸ us)) - 1 = omega arith in
+    last_ends_at (v ▸ us) (count us) (omega arith)
+    ∙ sym (ap (λ b. b && ends_in_not (child_or_absent (v ▸ us) (count us))) (lt-ltb 1 (count (u ▸ (v ▸ us))) (omega arith)))
+    ∙ ap (λ i. nat_lt 1 (count (u ▸ (v ▸ us))) && ends_in_not (child_or_absent (u ▸ (v ▸ us)) i)) last
+
+-- a sequence of two at least ends as its last part does
+pub ends_last : (t : Tree) → is_sequence t ≡ true → ends_in_not t ≡ (nat_lt 1 (count (children (part t 0))) && ends_in_not (child_or_absent (children (part t 0)) (count (children (part t 0)) - 1)))
+ends_last t e = ends_in t e ∙ several_at (children (part t 0))
+
+both_are : (a b : Bool) → (a && b) ≡ true → (a ≡ true) × (b ≡ true)
+both_are a b e = and_parts a b e
+
+pub ends_then : (t : Tree) → is_sequence t ≡ true → 1 < count (children (part t 0)) → ends_in_not (child_or_absent (children (part t 0)) (count (children (part t 0)) - 1)) ≡ ends_in_not t
+ends_then t e h = ap (λ b. b && ends_in_not (child_or_absent (children (part t 0)) (count (children (part t 0)) - 1))) (sym (lt-ltb 1 (count (children (part t 0))) h)) ∙ sym (ends_last t e)
+
+pub several_parts : (t : Tree) (us : Trees) → is_sequence t ≡ true → us ≡ children (part t 0) → ends_in_not t ≡ true → 1 < count us
+several_parts t us e f g = let few = ltb-true 1 (count (children (part t 0))) (both_are _ _ (sym (ends_last t e) ∙ g)).0 in omega (arith, few, ap count f)
+
+pub last_in_not : (t : Tree) (us : Trees) → is_sequence t ≡ true → us ≡ children (part t 0) → ends_in_not t ≡ true → ends_in_not (child_or_absent us (count us - 1)) ≡ true
+last_in_not t us e f g = subst (λ x. ends_in_not (child_or_absent x (count x - 1)) ≡ true) (sym f) (both_are _ _ (sym (ends_last t e) ∙ g)).1
+
+pub bared_here : (t : Tree) → is_sequence t ≡ false → end_bared t ≡ part t 0
+bared_here (node h xs n ts) e = ap (λ b. if b then node h xs n (bared_below ts) else part (node h xs n ts) 0) e
+
+last_bared_at : (us : Trees) (i : ℕ) → i + 1 ≡ count us → last_bared us ≡ with_child us i (end_bared (child_or_absent us i))
+last_bared_at none i e = absurd (omega (arith, e))
+last_bared_at (u ▸ none) zero e = refl
+last_bared_at (u ▸ none) (suc i) e = absurd (omega (arith, e))
+last_bared_at (u ▸ (v ▸ us)) zero e = absurd (omega (arith, e))
+last_bared_at (u ▸ (v ▸ us)) (suc i) e = ap (λ x. u ▸ x) (last_bared_at (v ▸ us) i (omega (arith, e)))
+
+-- and without the `!` it is the sequence with that part without it
+pub bared_last : (t : Tree) (us : Trees) (i : ℕ) → is_sequence t ≡ true → us ≡ children (part t 0) → i + 1 ≡ count us → sequence (with_child (with_child us i absent) i (end_bared (child_or_absent us i))) ≡ end_bared t
+bared_last t us i e f g = ap sequence (with_twice us i absent (end_bared (child_or_absent us i)) ∙ sym (last_bared_at us i g)) ∙ ap (λ x. sequence (last_bared x)) f ∙ sym (ap end_bared (sequence_is t e))
+
+pub part_within : (us : Trees) (i : ℕ) → i < count us → node_count (child_or_absent us i) < 1 + node_counts us
+part_within none i e = absurd (omega (arith, e))
+part_within (u ▸ us) zero e = omega arith
+part_within (u ▸ us) (suc i) e = let rest = part_within us i (omega (arith, e)) in omega (arith, rest)

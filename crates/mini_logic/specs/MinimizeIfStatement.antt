@@ -1,5 +1,5 @@
 -- 82 and 83, `try_minimize_if`: `if (a) b; else c;` becomes `a ? b : c;`, `if (a) b;` becomes `a && b;`, and `if (!a) b;`
--- becomes `a || b;`; an empty consequent goes, `if (a) if (b) c;` becomes `if (a && b) c;`, an `if` with `else` as a
+-- becomes `a || b;`, also where a sequence ends in the `!`; an empty consequent goes, `if (a) if (b) c;` becomes `if (a && b) c;`, an `if` with `else` as a
 -- consequent gets a block, and `if (!a) return b; else throw c;` becomes `if (a) throw c; else return b;`.
 use Rattle.std.specs.Prelude.{◌⊎◌, ◌<◌, ◌^◌, ◌==◌, Bool, ◌&&◌, ◌||◌, not, nat_lt, Option, Some, None, if◌then◌else◌}
 use Rattle.mini_model.specs.declared.operator.LogicalOperator.TheVariants.{Or, And}
@@ -18,6 +18,7 @@ use Rattle.mini_rows.specs.Lists.{block}
 use Rattle.mini_rows.specs.Branches.{has_else, is_other_branch, as_consequent, conjunct_seat, IfRow}
 use Rattle.mini_rows.specs.Turns.{is_unchained, is_block_shape, may_choose, Row83Swapped}
 use Rattle.mini_logic.specs.Negating.{has_one, lighter_negation}
+use Rattle.mini_logic.specs.Sequences.{ends_in_not, end_bared}
 
 -- `if (a) b; else c;`
 abbrev pub chooses : Tree → Bool
@@ -87,12 +88,17 @@ disjunction a b = expression_statement (logical Or a (part b 0))
 abbrev pub disjunct_seat : Seat
 disjunct_seat = left_operand_seat Or statement_expression_seat
 
+-- whose `!` is dropped where a sequence ends in one
 abbrev pub guard : Tree → Tree
-guard t = if has_negated_result (part t 0) then disjunction (neg disjunct_seat (part t 0)) (part t 1) else conjunction (part t 0) (part t 1)
+guard t =
+    if has_negated_result (part t 0) then disjunction (neg disjunct_seat (part t 0)) (part t 1) else
+    (if ends_in_not (part t 0) then disjunction (end_bared (part t 0)) (part t 1) else conjunction (part t 0) (part t 1))
 
--- `a || b;`, or `a && b;` of a test `!a`
+-- `a || b;`, or `a && b;` of a test that ends in a `!`
 abbrev pub skipped : Tree → Tree
-skipped t = if has_negated_result (part t 0) then conjunction (neg conjunct_seat (part t 0)) (part t 2) else disjunction (part t 0) (part t 2)
+skipped t =
+    if has_negated_result (part t 0) then conjunction (neg conjunct_seat (part t 0)) (part t 2) else
+    (if ends_in_not (part t 0) then conjunction (end_bared (part t 0)) (part t 2) else disjunction (part t 0) (part t 2))
 
 -- `if (!a) return b;`
 abbrev pub turned : Tree → Tree

@@ -1,10 +1,10 @@
 -- `last_expression_in_sequence`, `pop_expression_from_sequence` and `has_negated_result`: the last expression of a sequence, which may end in
 -- a sequence in turn.
-use Rattle.std.specs.Prelude.{◌≡◌, refl, ℕ, Bool, true, not, ◌&&◌, ◌==◌, Option, Some, None, if◌then◌else◌}
+use Rattle.std.specs.Prelude.{◌≡◌, refl, ℕ, Bool, true, false, not, ◌&&◌, ◌==◌, Option, Some, None, if◌then◌else◌}
 use Rattle.mini_model.specs.Tree.{Tree, Trees, node, none, ◌▸◌, absent, empty_statement, children, count, negation}
 use Rattle.mini_model.specs.Terms.{has_negated_result}
 use Rattle.mini_node.specs.Children.{part, with_child, without}
-use Rattle.mini_node.specs.Kinds.{sequence, is_sequence}
+use Rattle.mini_node.specs.Kinds.{sequence, is_sequence, is_negation}
 
 -- ---- the end
 
@@ -71,6 +71,44 @@ popped t = if has_end t then Some (end_of t) else None
 abbrev pub left_of : Tree → Tree
 left_of t = if has_end t then sequence (parts_left (children (part t 0))) else t
 
+-- ---- the end without its `!`
+
+-- a `!`, or a sequence of two parts at least whose last part is one, or such a sequence
+abbrev mutual
+  pub ends_in_not : Tree → Bool
+  ends_in_not (node h xs n ts) = if is_sequence (node h xs n ts) then ends_below ts else is_negation (node h xs n ts)
+
+  pub ends_below : Trees → Bool
+  ends_below none = false
+  ends_below (t ▸ ts) = ends_inside t
+
+  pub ends_inside : Tree → Bool
+  ends_inside (node h xs n none) = false
+  ends_inside (node h xs n (u ▸ us)) = last_ends us
+
+  -- the last of them does, and there is one
+  pub last_ends : Trees → Bool
+  last_ends none = false
+  last_ends (u ▸ none) = ends_in_not u
+  last_ends (u ▸ (v ▸ us)) = last_ends (v ▸ us)
+
+-- without that `!`
+abbrev mutual
+  pub end_bared : Tree → Tree
+  end_bared (node h xs n ts) = if is_sequence (node h xs n ts) then node h xs n (bared_below ts) else part (node h xs n ts) 0
+
+  pub bared_below : Trees → Trees
+  bared_below none = none
+  bared_below (t ▸ ts) = bared_inside t ▸ ts
+
+  pub bared_inside : Tree → Tree
+  bared_inside (node h xs n us) = node h xs n (last_bared us)
+
+  pub last_bared : Trees → Trees
+  last_bared none = none
+  last_bared (u ▸ none) = end_bared u ▸ none
+  last_bared (u ▸ (v ▸ us)) = u ▸ last_bared (v ▸ us)
+
 -- ---- of parts in order
 
 -- they end in no empty sequence
@@ -115,3 +153,7 @@ not_popped = refl
 -- `a, !b` ends in a negation
 negated_end : ends_in_negation (sequence (a ▸ c ▸ none)) ≡ true
 negated_end = refl
+
+-- and without it that is `a, b`
+bared_end : end_bared (sequence (a ▸ negation b ▸ none)) ≡ sequence (a ▸ b ▸ none)
+bared_end = refl

@@ -8,7 +8,7 @@ ghost use Rattle.mini_node.specs.Kinds.{is_sequence as is_a_sequence, sequence a
 ghost use Rattle.mini_logic.specs.Sequences as end;
 
 use crate::terms::is_not;
-use mini_node::{Node, Nodes, discard, is_sequence, listed};
+use mini_node::{Node, Nodes, discard, is_negation, is_sequence, listed, one};
 
 // Whether it is a sequence of one part at least.
 fn has_parts(node: &Node) -> bool
@@ -135,4 +135,34 @@ pub fn pop_expression_from_sequence(sequence: &mut Node) -> Option<Node>
         return None;
     }
     Some(take_end(sequence))
+}
+
+/// Whether an expression is a `!`, or a sequence of two parts at least whose last part is one, or such a sequence.
+#[tactic(auto, using(crate::proofs::SequenceEnds::ends_then, crate::proofs::SequenceEnds::ends_last, crate::proofs::SequenceEnds::ends_here, crate::proofs::SequenceEnds::children_fewer))]
+pub fn ends_in_not(expression: &Node) -> bool
+    ensures { result ≡ end.ends_in_not expression.now }
+{
+    if !is_sequence(expression) {
+        return is_negation(expression);
+    }
+    let parts = expression.child(0).children();
+    parts.len() > 1 && ends_in_not(parts.child(parts.len() - 1))
+}
+
+/// The expression without the `!` in which it ends: of `a, !b` it makes `a, b`.
+#[tactic(auto, using(crate::proofs::SequenceEnds::bared_last, crate::proofs::SequenceEnds::bared_here, crate::proofs::SequenceEnds::several_parts, crate::proofs::SequenceEnds::last_in_not, crate::proofs::SequenceEnds::ends_here))]
+pub fn without_not(expression: Node) -> Node
+    requires { end.ends_in_not expression ≡ true }
+    ensures { result ≡ end.end_bared expression }
+{
+    if !is_sequence(&expression) {
+        return one(expression);
+    }
+    let mut sequence = expression;
+    let mut parts = take_parts(&mut sequence);
+    let at = parts.len() - 1;
+    let last = without_not(parts.take(at));
+    discard(parts.replace(at, last));
+    put_parts(&mut sequence, parts);
+    sequence
 }

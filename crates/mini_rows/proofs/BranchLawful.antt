@@ -21,17 +21,18 @@ use Rattle.mini_kept.specs.Lawful.{Lawful}
 use Rattle.mini_kept.proofs.Bools.{left, both}
 use Rattle.mini_kept.proofs.Expressions.{expression, refused_here, not_of_fits, two_fit}
 use Rattle.mini_kept.proofs.Quiet.{expression_is_quiet}
-use Rattle.mini_kept.proofs.Rows.{statement, last_statement, TakesStatementIn, TakesStatement, IfFits, of_if, of_last_statement}
+use Rattle.mini_kept.proofs.Rows.{statement, last_statement, TakesStatementIn, TakesStatement, IfFits, of_if, of_statement, of_last_statement}
 use Rattle.mini_terms.specs.Parts.{leaves_nothing}
 use Rattle.mini_rows.specs.Arranged.{KeptAt, Vanishes}
 use Rattle.mini_rows.specs.Lists.{block, return_statement, is_unscoped}
 use Rattle.mini_rows.specs.Sketches.{AbsentPart, Return, part, under, end, ◌▹◌}
 use Rattle.mini_rows.specs.Spellings.{IsUndefined}
-use Rattle.mini_rows.specs.Branches.{IsEmpty, IsIdleVoid, Row60, Row79, IfRow, has_else, is_other_branch, as_consequent, Surrounding, Consequent, Alternate, WhileBody, DoBody, ForBody, InBody, OfBody, around, conjunct_seat, Row82Empty, Row83, BranchRow, BranchContracts}
+use Rattle.mini_rows.specs.Branches.{IsEmpty, IsIdleVoid, Row60, Row79, has_else, is_other_branch, as_consequent, Surrounding, Consequent, Alternate, WhileBody, DoBody, ForBody, InBody, OfBody, around, conjunct_seat, Row82Empty, after, with_not, without_not, Row82Ends, Row83, BranchRow, BranchContracts}
 use Rattle.mini_rows.proofs.ArrangedLawful.{kept_is_lawful}
 use Rattle.mini_rows.proofs.ArrangedStatements.{statements_arranged}
 use Rattle.mini_rows.proofs.BranchInside.{Inside, unwrapped_inside, wrapped_inside}
 use Rattle.mini_rows.proofs.BranchAround.{is_plain, Core, Said, core_kept, around_core, around_said, around_plain}
+use Rattle.mini_rows.proofs.BranchEnds.{ending_written, ends_kept}
 use Rattle.mini_rows.proofs.BranchParts.{Value, core_then, said_then, value_itself, said_itself, value_not, said_not, empty_is_idle, turned_core, turned_said, chosen_core, chosen_said, tested_core, tested_said, nested_core, nested_said}
 use Rattle.mini_rows.proofs.BranchSame.{branches_same}
 use Rattle.mini_rows.proofs.FoldLawful.{vanishes, first_dropped}
@@ -440,16 +441,49 @@ row_82 : (n w : Tree) → Row82Empty n w → Kind n w
 row_82 n w (inl r) = kind_along n _ w _ r.shape r.written (row_82_or r.a r.empty r.b r.is_empty)
 row_82 n w (inr r) = kind_along n _ w _ r.shape r.written (row_82_and r.a r.empty r.b r.is_empty)
 
-row_kind : (n w : Tree) → Row79 n w ⊎ IfRow n w → Kind n w
+row_kind : (n w : Tree) → Row79 n w ⊎ (Row82Empty n w ⊎ Row83 n w) → Kind n w
 row_kind n w (inl r) = kind_along n _ w _ r.shape r.written (row_79 r.place r.statement r.unscoped)
 row_kind n w (inr (inl r)) = row_82 n w r
 row_kind n w (inr (inr r)) = row_83 n w r
+
+kind_stood : (n w : Tree) → Kind n w → Stood n w
+kind_stood n w k = record { read = k.read; before = k.before; after = k.after; fitting = k.fitting }
+
+kind_kept : (q : StmtSeat) (n w : Tree) → Kind n w → KeptAt (Stmt q) n w
+kind_kept q n w k = core_kept q n w k.before k.after (λ strict s e. k.core strict (sym (alike strict s n k.before (taken strict s n k.read e)) ∙ e)) k.said
+
+stood_along : (n n' w w' : Tree) → n ≡ n' → w ≡ w' → Stood n' w' → Stood n w
+stood_along n n' w w' e f k = subst (λ x. Stood x w) (sym e) (subst (λ y. Stood n' y) (sym f) k)
+
+-- where the test ends in a `!`
+ends_stood : (n w : Tree) → Row82Ends n w → Stood n w
+ends_stood n w (inl r) = let c = after r.first r.others r.last in
+    stood_along n _ w _ r.shape r.written (record {
+      read = refl;
+      before = refl;
+      after = refl;
+      fitting = λ strict e.
+          let (test, body, last) = parts strict (with_not c) (expression_statement r.b) absent e in
+          both (fits strict expression (logical Or (without_not c) r.b)) true (two_fit strict (without_not c) r.b ((ending_written c).fitting strict test) (of_statement strict r.b body)) refl;
+    })
+ends_stood n w (inr r) = let c = after r.first r.others r.last in
+    stood_along n _ w _ r.shape r.written (record {
+      read = refl;
+      before = refl;
+      after = refl;
+      fitting = λ strict e.
+          let (test, empty, last) = parts strict (with_not c) r.empty (expression_statement r.b) e in
+          both (fits strict expression (logical And (without_not c) r.b)) true (two_fit strict (without_not c) r.b ((ending_written c).fitting strict test) (of_last_statement strict r.b last)) refl;
+    })
 
 -- ---- all
 
 statement_row : (p : Position) (n w : Tree) → BranchRow p n w → Stood n w
 statement_row (Stmt q) n w (inl r) = subst (λ x. Stood x w) (sym r.shape) (subst (λ y. Stood (return_statement r.argument) y) (sym r.written) (returned r.argument))
-statement_row (Stmt q) n w (inr r) = let k = row_kind n w r in record { read = k.read; before = k.before; after = k.after; fitting = k.fitting }
+statement_row (Stmt q) n w (inr (inl r)) = kind_stood n w (row_kind n w (inl r))
+statement_row (Stmt q) n w (inr (inr (inl r))) = kind_stood n w (row_kind n w (inr (inl r)))
+statement_row (Stmt q) n w (inr (inr (inr (inl r)))) = kind_stood n w (row_kind n w (inr (inr r)))
+statement_row (Stmt q) n w (inr (inr (inr (inr r)))) = ends_stood n w r
 statement_row p n w r = absurd r
 
 row_place : (p : Position) (n w : Tree) → BranchRow p n w → is_rewritten_place p ≡ true
@@ -458,9 +492,10 @@ row_place p n w r = absurd r
 
 row_kept : (p : Position) (n w : Tree) → BranchRow p n w → KeptAt p n w
 row_kept (Stmt q) n w (inl r) = return_kept q n w r
-row_kept (Stmt q) n w (inr r) =
-    let k = row_kind n w r in
-    core_kept q n w k.before k.after (λ strict s e. k.core strict (sym (alike strict s n k.before (taken strict s n k.read e)) ∙ e)) k.said
+row_kept (Stmt q) n w (inr (inl r)) = kind_kept q n w (row_kind n w (inl r))
+row_kept (Stmt q) n w (inr (inr (inl r))) = kind_kept q n w (row_kind n w (inr (inl r)))
+row_kept (Stmt q) n w (inr (inr (inr (inl r)))) = kind_kept q n w (row_kind n w (inr (inr r)))
+row_kept (Stmt q) n w (inr (inr (inr (inr r)))) = ends_kept q n w r
 row_kept p n w r = absurd r
 
 pub branches_lawful : Lawful BranchContracts

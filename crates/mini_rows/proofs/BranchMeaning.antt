@@ -74,11 +74,11 @@ and_test : (e : Environment) (a b : Tree) (s : State) → means e (logical And a
 unfolding means meaning step
 and_test e a b s = either_cong (means e a (As Test) tt s) _ _ _ _ (each_bool _ (λ z. either_eta (means e b (As Test) tt z)) (λ z. refl)) (λ x z. refl)
 
-and_unused : (e : Environment) (a b : Tree) (s : State) → means e (logical And a b) (As Unused) tt s ≡ either (means e a (As Test) tt s) (λ t z. choose t (means e b (As Unused) tt z) (ok tt z)) (λ x z. stop x z)
+pub and_unused : (e : Environment) (a b : Tree) (s : State) → means e (logical And a b) (As Unused) tt s ≡ either (means e a (As Test) tt s) (λ t z. choose t (means e b (As Unused) tt z) (ok tt z)) (λ x z. stop x z)
 unfolding means meaning step
 and_unused e a b s = either_cong (means e a (As Test) tt s) _ _ _ _ (each_bool _ (λ z. either_eta (means e b (As Unused) tt z)) (λ z. refl)) (λ x z. refl)
 
-or_unused : (e : Environment) (a b : Tree) (s : State) → means e (logical Or a b) (As Unused) tt s ≡ either (means e a (As Test) tt s) (λ t z. choose t (ok tt z) (means e b (As Unused) tt z)) (λ x z. stop x z)
+pub or_unused : (e : Environment) (a b : Tree) (s : State) → means e (logical Or a b) (As Unused) tt s ≡ either (means e a (As Test) tt s) (λ t z. choose t (ok tt z) (means e b (As Unused) tt z)) (λ x z. stop x z)
 unfolding means meaning step
 or_unused e a b s = either_cong (means e a (As Test) tt s) _ _ _ _ (each_bool _ (λ z. refl) (λ z. either_eta (means e b (As Unused) tt z))) (λ x z. refl)
 

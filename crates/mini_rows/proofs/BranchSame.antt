@@ -23,6 +23,7 @@ use Rattle.mini_rows.specs.Lists.{return_statement}
 use Rattle.mini_rows.specs.Spellings.{void_zero, IsUndefined}
 use Rattle.mini_rows.specs.Branches.{conjunct_seat, IsIdleVoid, Row60, Row82Empty, Row83, IfRow, BranchRow, BranchContracts}
 use Rattle.mini_rows.proofs.BranchMeaning.{SameStatement, statement_same, replaced, row_60, row_82_empty_or, row_82_empty_and, row_83_alone, row_83_else, row_83_nested, row_83_block}
+use Rattle.mini_rows.proofs.BranchEnds.{ends_same}
 use Rattle.mini_rows.proofs.BranchLoops.{row_79}
 use Rattle.mini_rows.proofs.BooleanMeaning.{then_same}
 
@@ -80,7 +81,8 @@ row_83 n w (inr (inr (inr r))) = replaced n _ w _ r.shape r.written (row_83_bloc
 
 if_same : (n w : Tree) → IfRow n w → SameStatement n w
 if_same n w (inl r) = empty_same n w r
-if_same n w (inr r) = row_83 n w r
+if_same n w (inr (inl r)) = row_83 n w r
+if_same n w (inr (inr r)) = ends_same n w r
 
 row_same : (p : Position) (n w : Tree) → BranchRow p n w → SameAt p n w
 row_same (Stmt q) n w (inl r) = return_same q n w r

@@ -18,7 +18,8 @@ use Rattle.mini_laws.specs.Weights.{Lightens}
 use Rattle.mini_laws.proofs.Seats.{placed, moved}
 use Rattle.mini_rows.specs.Lists.{block, return_statement, is_unscoped}
 use Rattle.mini_rows.specs.Spellings.{IsUndefined}
-use Rattle.mini_rows.specs.Branches.{IsEmpty, IsIdleVoid, has_else, is_other_branch, as_consequent, Surrounding, Consequent, Alternate, WhileBody, DoBody, ForBody, InBody, OfBody, around, keeps_block, conjunct_seat, Row82Empty, Row83, BranchRow, BranchContracts, BranchLighter}
+use Rattle.mini_rows.specs.Branches.{IsEmpty, IsIdleVoid, has_else, is_other_branch, as_consequent, Surrounding, Consequent, Alternate, WhileBody, DoBody, ForBody, InBody, OfBody, around, keeps_block, conjunct_seat, Row82Empty, Row82Ends, Row83, BranchRow, BranchContracts, BranchLighter}
+use Rattle.mini_rows.proofs.BranchEnds.{ends_lighter, ends_fall}
 
 -- this much, where it is not so
 abbrev unless : Bool → ℕ → ℕ
@@ -222,7 +223,8 @@ row_lighter : (q : StmtSeat) (n w : Tree) → BranchRow (Stmt q) n w → weight 
 row_lighter q n w (inl r) = omega (arith, row_60 q r.argument r.undefined, ap (weight (Stmt q)) r.shape, ap (weight (Stmt q)) r.written)
 row_lighter q n w (inr (inl r)) = omega (arith, row_79 q r.place r.statement r.unscoped r.bare, ap (weight (Stmt q)) r.shape, ap (weight (Stmt q)) r.written)
 row_lighter q n w (inr (inr (inl r))) = let falls = empty_row q n w r in omega (arith, falls)
-row_lighter q n w (inr (inr (inr r))) = row_83 q n w r
+row_lighter q n w (inr (inr (inr (inl r)))) = row_83 q n w r
+row_lighter q n w (inr (inr (inr (inr r)))) = let falls = ends_lighter q n w r in omega (arith, falls)
 
 pub branch_lighter : BranchLighter
 branch_lighter (Stmt q) n w r = row_lighter q n w r
@@ -258,11 +260,16 @@ empty_outlined : (q : StmtSeat) (n w : Tree) → Row82Empty n w → Outlined (St
 empty_outlined q n w (inl r) = outlined (Stmt q) n _ w _ r.shape r.written (record { absent = refl; items = refl; is_zero = refl; chooses = inr (row_82_or q r.a r.empty r.b r.is_empty) })
 empty_outlined q n w (inr r) = outlined (Stmt q) n _ w _ r.shape r.written (record { absent = refl; items = refl; is_zero = refl; chooses = inr (row_82_and q r.a r.empty r.b r.is_empty) })
 
+ends_outlined : (q : StmtSeat) (n w : Tree) → Row82Ends n w → Outlined (Stmt q) n w
+ends_outlined q n w (inl r) = outlined (Stmt q) n _ w _ r.shape r.written (record { absent = refl; items = refl; is_zero = refl; chooses = inl (λ e. e) })
+ends_outlined q n w (inr r) = outlined (Stmt q) n _ w _ r.shape r.written (record { absent = refl; items = refl; is_zero = refl; chooses = inr (ends_fall q n w r) })
+
 row_outlined : (q : StmtSeat) (n w : Tree) → BranchRow (Stmt q) n w → Outlined (Stmt q) n w
 row_outlined q n w (inl r) = outlined (Stmt q) n _ w _ r.shape r.written (record { absent = refl; items = refl; is_zero = refl; chooses = inl (λ e. e) })
 row_outlined q n w (inr (inl r)) = outlined (Stmt q) n _ w _ r.shape r.written (row_79_outlined q r.place r.statement r.unscoped)
 row_outlined q n w (inr (inr (inl r))) = empty_outlined q n w r
-row_outlined q n w (inr (inr (inr r))) = row_83_outlined q n w r
+row_outlined q n w (inr (inr (inr (inl r)))) = row_83_outlined q n w r
+row_outlined q n w (inr (inr (inr (inr r)))) = ends_outlined q n w r
 
 row_kept : (p : Position) (n w : Tree) → BranchRow p n w → Outlined p n w
 row_kept (Stmt q) n w r = row_outlined q n w r

@@ -27,6 +27,7 @@ pub mod ListTails
 pub mod ListMeanings
 pub mod ListWeights
 pub mod BranchMeaning
+pub mod BranchEnds
 pub mod BranchLoops
 pub mod BranchSame
 pub mod BranchWeights

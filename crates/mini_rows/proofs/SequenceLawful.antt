@@ -98,7 +98,7 @@ module _ (strict : Bool) where
   Fits t = fits strict expression t ≡ true
 
   -- with another last part
-  last_fits : (p : Tree) (ps : Trees) (l : Tree) → Fits (sequence (p ▸ append ps (l ▸ none))) → (m : Tree) → (Fits l → Fits m) → Fits (sequence (p ▸ append ps (m ▸ none)))
+  pub last_fits : (p : Tree) (ps : Trees) (l : Tree) → Fits (sequence (p ▸ append ps (l ▸ none))) → (m : Tree) → (Fits l → Fits m) → Fits (sequence (p ▸ append ps (m ▸ none)))
   last_fits p ps l e m f =
       let all = parts_fit strict p (append ps (l ▸ none)) (subst Fits (sym (several p ps l)) e) in
       let (firsts, lasts) = both_fit strict expression (p ▸ ps) (l ▸ none) all in

@@ -8,13 +8,14 @@ use Rattle.mini_model.specs.declared.place.Position.TheVariants.{Stmt}
 use Rattle.mini_model.specs.declared.seat.Seat.{Seat}
 use Rattle.mini_model.specs.declared.shape.Shape.{Shape}
 use Rattle.mini_model.specs.declared.shape.Shape.TheVariants as shape
-use Rattle.mini_model.specs.Tree.{Tree, node, none, ◌▸◌, shape_of, is_absent, absent, empty_statement, expression_statement, if_else, if_alone, logical, unary}
+use Rattle.mini_model.specs.Paths.{append}
+use Rattle.mini_model.specs.Tree.{Tree, Trees, node, none, ◌▸◌, shape_of, is_absent, absent, empty_statement, expression_statement, if_else, if_alone, negation, logical, unary}
 use Rattle.mini_model.specs.Position.{if_test_seat, left_operand_seat, statement_expression_seat}
 use Rattle.mini_model.specs.Weight.{weight}
 use Rattle.mini_model.specs.Terms.{not_of, has_negated_result}
 use Rattle.mini_terms.specs.Folds.{is_effect_free}
 use Rattle.mini_terms.specs.Parts.{leaves_nothing}
-use Rattle.mini_rows.specs.Lists.{block, return_statement, is_unscoped}
+use Rattle.mini_rows.specs.Lists.{block, return_statement, is_unscoped, sequence}
 use Rattle.mini_rows.specs.Spellings.{IsUndefined}
 
 -- ---- terms
@@ -127,6 +128,43 @@ pub record Row82EmptyAnd (n w : Tree) : Type 0 where
   pub shape : n ≡ if_else a empty (expression_statement b)
   pub written : w ≡ expression_statement (logical And (not_of conjunct_seat a) b)
 
+-- ---- 82, of a sequence that ends in a `!`
+
+-- an expression that is a `!`, and a sequence whose last part ends in one
+pub data Ending : Type 0 where
+  not_of_all : Tree → Ending
+  after : Tree → Trees → Ending → Ending
+
+-- `!a`, and `a, b, !c`
+abbrev pub with_not : Ending → Tree
+with_not (not_of_all a) = negation a
+with_not (after a bs c) = sequence (a ▸ append bs (with_not c ▸ none))
+
+-- without that `!`: `a`, and `a, b, c`
+abbrev pub without_not : Ending → Tree
+without_not (not_of_all a) = a
+without_not (after a bs c) = sequence (a ▸ append bs (without_not c ▸ none))
+
+-- `if (a, !b) c;` becomes `(a, b) || c;`
+pub record Row82EndsOr (n w : Tree) : Type 0 where
+  pub first : Tree
+  pub others : Trees
+  pub last : Ending
+  pub b : Tree
+  pub shape : n ≡ if_alone (with_not (after first others last)) (expression_statement b)
+  pub written : w ≡ expression_statement (logical Or (without_not (after first others last)) b)
+
+-- and with an empty consequent `if (a, !b); else c;` becomes `(a, b) && c;`
+pub record Row82EndsAnd (n w : Tree) : Type 0 where
+  pub first : Tree
+  pub others : Trees
+  pub last : Ending
+  pub empty : Tree
+  pub b : Tree
+  pub is_empty : IsEmpty empty
+  pub shape : n ≡ if_else (with_not (after first others last)) empty (expression_statement b)
+  pub written : w ≡ expression_statement (logical And (without_not (after first others last)) b)
+
 -- ---- 83
 
 -- `if (a);` becomes `a;`
@@ -169,11 +207,14 @@ pub record Row83Block (n w : Tree) : Type 0 where
 abbrev pub Row82Empty : Tree → Tree → Type 0
 Row82Empty n w = Row82EmptyOr n w ⊎ Row82EmptyAnd n w
 
+abbrev pub Row82Ends : Tree → Tree → Type 0
+Row82Ends n w = Row82EndsOr n w ⊎ Row82EndsAnd n w
+
 abbrev pub Row83 : Tree → Tree → Type 0
 Row83 n w = Row83Alone n w ⊎ (Row83Else n w ⊎ (Row83Nested n w ⊎ Row83Block n w))
 
 abbrev pub IfRow : Tree → Tree → Type 0
-IfRow n w = Row82Empty n w ⊎ Row83 n w
+IfRow n w = Row82Empty n w ⊎ (Row83 n w ⊎ Row82Ends n w)
 
 -- a row reads n as w at this place
 abbrev pub BranchRow : Position → Tree → Tree → Type 0

@@ -20,8 +20,7 @@ use mini_node::{
     Node, expression_statement, is_expression_statement, is_logical, logical, logical_operator,
     one, taken, two,
 };
-use mini_tree::{expr_weight, seats};
-use mini_tree::{Context, Rule};
+use mini_tree::{Context, Rule, expr_weight, seats};
 use std::alloc::Global;
 
 // `||` for `&&`, and `&&` for `||`

@@ -27,8 +27,7 @@ use mini_terms::{
     Kind, evident_truth, goes_on, has_no_effect, is_plain_part, kind_of, leaves_nothing, stands,
     weighs,
 };
-use mini_tree::{expr_weight, logical_weight, negation_weight, own_weight, seats};
-use mini_tree::{Context, Rule};
+use mini_tree::{Context, Rule, expr_weight, logical_weight, negation_weight, own_weight, seats};
 use std::alloc::Global;
 
 // The truth of `!0`, and of `!1`.

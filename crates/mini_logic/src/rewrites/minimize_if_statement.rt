@@ -1,5 +1,5 @@
-//! Rows 82 and 83: `if (a) b; else c;` becomes `a ? b : c;`, `if (a) b;` becomes `a && b;`, and `if (!a) b;` becomes `a || b;`;
-//! an empty consequent goes, `if (a) if (b) c;` becomes `if (a && b) c;`, an `if` with `else` as a consequent gets a block, and
+//! Rows 82 and 83: `if (a) b; else c;` becomes `a ? b : c;`, `if (a) b;` becomes `a && b;`, and `if (!a) b;` becomes `a || b;`, and so
+//! does `if (a, !b) c;` become `(a, b) || c;`; an empty consequent goes, `if (a) if (b) c;` becomes `if (a && b) c;`, an `if` with `else` as a consequent gets a block, and
 //! `if (!a) return b; else throw c;` becomes `if (a) throw c; else return b;`. Each is lighter in every place.
 
 ghost use Rattle.std.specs.Prelude.{◌≡◌, true, is_some, unwrap_or, OnOk, IfOk};
@@ -12,6 +12,7 @@ ghost use Rattle.mini_logic.specs.MinimizeIfStatement.{chooses as it_chooses, gu
 ghost use Rattle.mini_model.specs.Tree.{children, count, expression_statement as expression_statement_of};
 ghost use Rattle.mini_node.specs.Children.{part};
 
+use crate::sequences::{ends_in_not, without_not};
 use crate::statements::{has_else, is_other_branch, is_unchained, may_choose};
 use crate::terms::{has_one, is_not, lighter_negation, negated};
 use mini_model::{LogicalOperator, OutOfMemory, Position, Seat, Shape};
@@ -20,8 +21,7 @@ use mini_node::{
     is_block, is_empty_statement, is_expression_statement, is_if_alone, is_if_statement,
     is_negation, logical, of_one, one, taken, three,
 };
-use mini_tree::{negation_weight, seats};
-use mini_tree::{Context, Rule};
+use mini_tree::{Context, Rule, negation_weight, seats};
 use std::alloc::Global;
 
 // `if (a) b; else c;`
@@ -155,7 +155,7 @@ fn unnegated(alloc: Global, operator: LogicalOperator, test: Node) -> Result<Nod
     )
 }
 
-// `a && b;`, or `a || b;` of a test `!a`
+// `a && b;`, or `a || b;` of a test `!a`, and of a sequence that ends in one
 fn guard(alloc: Global, node: Node) -> Result<Node, OutOfMemory>
     ensures { IfOk result (λ w. w ≡ guard_of node) }
 {
@@ -164,12 +164,14 @@ fn guard(alloc: Global, node: Node) -> Result<Node, OutOfMemory>
     if is_not(&test) {
         let left = unnegated(alloc, LogicalOperator::Or, test)?;
         disjunction(alloc, left, consequent)
+    } else if ends_in_not(&test) {
+        disjunction(alloc, without_not(test), consequent)
     } else {
         conjunction(alloc, test, consequent)
     }
 }
 
-// `a || b;`, or `a && b;` of a test `!a`
+// `a || b;`, or `a && b;` of a test `!a`, and of a sequence that ends in one
 fn skipped(alloc: Global, node: Node) -> Result<Node, OutOfMemory>
     ensures { IfOk result (λ w. w ≡ skipped_of node) }
 {
@@ -178,6 +180,8 @@ fn skipped(alloc: Global, node: Node) -> Result<Node, OutOfMemory>
     if is_not(&test) {
         let left = unnegated(alloc, LogicalOperator::And, test)?;
         conjunction(alloc, left, alternate)
+    } else if ends_in_not(&test) {
+        conjunction(alloc, without_not(test), alternate)
     } else {
         disjunction(alloc, test, alternate)
     }
@@ -242,8 +246,8 @@ fn swapped(alloc: Global, node: Node) -> Result<Node, OutOfMemory>
     if_statement(alloc, one(test), alternate, consequent)
 }
 
-/// `if (a) b; else c;` becomes `a ? b : c;`, `if (a) b;` becomes `a && b;`, and where a ends in a `!`, `!a || b;` with the
-/// `!` taken off; an empty consequent goes; `if (a) if (b) c;` becomes `if (a && b) c;`; an `if` with `else` as a consequent
+/// `if (a) b; else c;` becomes `a ? b : c;`, `if (a) b;` becomes `a && b;`, and where a ends in a `!`, alone or as the last part of a
+/// sequence, `!a || b;` with the `!` taken off; an empty consequent goes; `if (a) if (b) c;` becomes `if (a && b) c;`; an `if` with `else` as a consequent
 /// gets a block; and `if (!a) return b; else throw c;` becomes `if (a) throw c; else return b;`. The answer says whether it did; the only error is that memory runs out, and then the statement is fit only to
 /// be dropped.
 pub fn try_minimize_if(alloc: Global, node: &mut Node) -> Result<bool, OutOfMemory>

@@ -8,8 +8,7 @@ ghost use Rattle.mini_logic.specs.MinimizeNegation.{minimizes as it_minimizes, w
 use crate::whole::{reaches_in, told_negation, told_weight};
 use mini_model::{OutOfMemory, Position, Seat};
 use mini_node::{Node, is_negation, one, taken};
-use mini_tree::expr_weight;
-use mini_tree::{Context, Rule};
+use mini_tree::{Context, Rule, expr_weight};
 use std::alloc::Global;
 
 // `!e`, where the whole negation of e is lighter

@@ -8,8 +8,7 @@ ghost use Rattle.mini_logic.specs.MinimizeUnaryExpression.{has_lighter_negation 
 use crate::terms::{has_own_negation, neg_weight, negated};
 use mini_model::{OutOfMemory, Position, Seat};
 use mini_node::{Node, is_negation, one, taken};
-use mini_tree::negation_weight;
-use mini_tree::{Context, Rule};
+use mini_tree::{Context, Rule, negation_weight};
 use std::alloc::Global;
 
 // Whether the negation of an expression is lighter than a `!` before it.
