@@ -203,10 +203,12 @@ terminated_by shape.ContinueStatement bs = true
 terminated_by shape.Listed bs = any bs
 terminated_by shape.BlockStatement (a ∷ []) = a
 terminated_by shape.IfStatement (a ∷ b ∷ c ∷ []) = b && c
+terminated_by shape.TryStatement (a ∷ b ∷ c ∷ []) = c || (a && b)
+terminated_by shape.CatchClause (a ∷ b ∷ []) = b
 terminated_by _ bs = false
 
--- a jump, a list or a block with a terminated statement, and an `if` of two: nothing runs after it (ECMA-262, "Completion
--- Record Specification Type")
+-- a jump, a list or a block with a terminated statement, an `if` of two, and a `try` whose finalizer is, or whose block and handler
+-- are: nothing runs after it (ECMA-262, "Completion Record Specification Type", "The try Statement")
 abbrev mutual
   pub is_terminated : Tree → Bool
   is_terminated (node h xs n ts) = terminated_by h (are_terminated ts)

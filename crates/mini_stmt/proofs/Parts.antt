@@ -67,6 +67,24 @@ if_goes_on (node shape.IfStatement xs n (a ▸ (b ▸ (c ▸ none)))) s e = absu
 if_goes_on (node shape.IfStatement xs n ts) s e = refl
 if_goes_on t s e = absurd (cc s)
 
+pub try_ends : (t : Tree) → shape_of t ≡ shape.TryStatement → count (children t) ≡ 3 → is_terminated t ≡ is_terminated (part t 2) || (is_terminated (part t 0) && is_terminated (part t 1))
+try_ends (node shape.TryStatement xs n (a ▸ (b ▸ (c ▸ none)))) s e = refl
+try_ends t s e = absurd (cc (s, e))
+
+pub try_goes_on : (t : Tree) → shape_of t ≡ shape.TryStatement → (count (children t) ≡ 3 → ⊥) → is_terminated t ≡ false
+try_goes_on (node shape.TryStatement xs n (a ▸ (b ▸ (c ▸ none)))) s e = absurd (e refl)
+try_goes_on (node shape.TryStatement xs n ts) s e = refl
+try_goes_on t s e = absurd (cc s)
+
+pub catch_ends : (t : Tree) → shape_of t ≡ shape.CatchClause → count (children t) ≡ 2 → is_terminated t ≡ is_terminated (part t 1)
+catch_ends (node shape.CatchClause xs n (a ▸ (b ▸ none))) s e = refl
+catch_ends t s e = absurd (cc (s, e))
+
+pub catch_goes_on : (t : Tree) → shape_of t ≡ shape.CatchClause → (count (children t) ≡ 2 → ⊥) → is_terminated t ≡ false
+catch_goes_on (node shape.CatchClause xs n (a ▸ (b ▸ none))) s e = absurd (e refl)
+catch_goes_on (node shape.CatchClause xs n ts) s e = refl
+catch_goes_on t s e = absurd (cc s)
+
 -- ---- nothing is declared
 
 pub operand_declares : (t : Tree) → shape_of t ≡ shape.UnaryExpression LogicalNot → 0 < count (children t) → declares_nothing t ≡ declares_nothing (part t 0)

@@ -26,8 +26,7 @@ use crate::rewrites::spread_block::{body_of, spreads};
 use crate::terms::is_joinable_statement;
 use mini_model::{OutOfMemory, Position, Shape};
 use mini_node::{Node, Nodes, discard, is_empty_statement, is_listed};
-use mini_tree::CompressOptions;
-use mini_tree::{Context, Rule};
+use mini_tree::{CompressOptions, Context, Rule};
 use std::alloc::Global;
 use std::mem;
 

@@ -13,8 +13,8 @@ pub trait IsTerminated {
     /// That no run of it ends normally.
     ghost never_ends: { Self → Type 0 };
 
-    /// Whether it is terminated: a jump, a list or a block in which a statement is, an `if` both of whose branches are. An
-    /// absent part is not.
+    /// Whether it is terminated: a jump, a list or a block in which a statement is, an `if` both of whose branches are, and a
+    /// `try` whose finalizer is, or whose block and handler are. An absent part is not.
     fn is_terminated(&self) -> bool
         ensures { result ≡ terminated self.now };
 

@@ -65,7 +65,7 @@ pub fn has_terminated(nodes: &Nodes) -> bool
 
 /// Whether nothing runs after the statement.
 #[cycle(ending)]
-#[tactic(auto, using(crate::proofs::Parts::list_ends, crate::proofs::Parts::block_ends, crate::proofs::Parts::block_goes_on, crate::proofs::Parts::if_ends, crate::proofs::Parts::if_goes_on, crate::proofs::Parts::below))]
+#[tactic(auto, using(crate::proofs::Parts::list_ends, crate::proofs::Parts::block_ends, crate::proofs::Parts::block_goes_on, crate::proofs::Parts::if_ends, crate::proofs::Parts::if_goes_on, crate::proofs::Parts::try_ends, crate::proofs::Parts::try_goes_on, crate::proofs::Parts::catch_ends, crate::proofs::Parts::catch_goes_on, crate::proofs::Parts::below))]
 pub fn is_terminated(node: &Node) -> bool
     ensures { result ≡ list.is_terminated node.now }
 {
@@ -81,6 +81,12 @@ pub fn is_terminated(node: &Node) -> bool
                 && is_terminated(node.child(1))
                 && is_terminated(node.child(2))
         }
+        Shape::TryStatement => {
+            node.children().len() == 3
+                && (is_terminated(node.child(2))
+                    || (is_terminated(node.child(0)) && is_terminated(node.child(1))))
+        }
+        Shape::CatchClause => node.children().len() == 2 && is_terminated(node.child(1)),
         _ => false,
     }
 }
