@@ -1,6 +1,6 @@
 -- 23, of what is read inside the operand too, `minimize_negation`: `!(a && typeof x < "u")` becomes `!a || typeof x > "u"`, where that is
 -- lighter.
-use Rattle.std.specs.Prelude.{◌≡◌, ◌<◌, ◌^◌, Bool, ◌&&◌, nat_lt, Option, Some, None, if◌then◌else◌}
+use Rattle.std.specs.Prelude.{◌≡◌, ◌<◌, ◌^◌, Bool, ◌&&◌, ◌||◌, nat_lt, Option, Some, None, if◌then◌else◌}
 use Rattle.mini_model.specs.declared.operator.LogicalOperator.{LogicalOperator}
 use Rattle.mini_model.specs.declared.operator.LogicalOperator.TheVariants.{Or, And}
 use Rattle.mini_model.specs.declared.place.Position.{Position}
@@ -11,7 +11,7 @@ use Rattle.mini_model.specs.Weight.{weight, capped}
 use Rattle.mini_node.specs.Children.{part}
 use Rattle.mini_node.specs.Kinds.{is_negation}
 use Rattle.mini_rows.specs.Negations.{whole_by, reaches_in, NegationContracts}
-use Rattle.mini_logic.specs.Negating.{lighter_negation}
+use Rattle.mini_logic.specs.Negating.{lighter_negation, has_own_negation}
 
 -- the operator that `&&` or `||` is turned into
 abbrev pub junction_of : Option LogicalOperator → Option LogicalOperator
@@ -26,6 +26,10 @@ told = whole_by lighter_negation
 -- the lightest negation, as far as 64 bits tell it
 abbrev pub told_lightest : Seat → Tree → Tree
 told_lightest s a = if nat_lt (capped (weight (Expr s) (lighter_negation s a))) (capped (weight (Expr s) (told s a))) then lighter_negation s a else told s a
+
+-- the whole negation is another form than a `!` before the expression
+abbrev pub negates : Seat → Tree → Bool
+negates s a = reaches_in a || has_own_negation s a
 
 -- it is lighter than the expression with its `!`
 abbrev pub minimizes : Seat → Tree → Bool

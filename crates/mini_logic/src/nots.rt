@@ -1,12 +1,10 @@
 //! The negation of an expression, as calls of their own.
 
 ghost use Rattle.std.specs.Prelude.{◌≡◌, OnOk, IfOk, if◌then◌else◌};
-ghost use Rattle.mini_model.specs.Terms.{neg};
-ghost use Rattle.mini_logic.specs.Negating.{has_own_negation as has_an_own_negation};
-ghost use Rattle.mini_logic.specs.MinimizeNegation.{told_lightest};
+ghost use Rattle.mini_logic.specs.MinimizeNegation.{told, told_lightest, negates};
 
-use crate::terms::{has_own_negation, negated};
-use crate::whole::lightest_negation;
+use crate::terms::has_own_negation;
+use crate::whole::{lightest_negation, reaches_in, told_negation};
 use mini_model::{OutOfMemory, Seat};
 use mini_node::{Node, taken};
 use std::alloc::Global;
@@ -19,20 +17,21 @@ pub fn minimize_not(alloc: Global, expression: Node, seat: Seat) -> Result<Node,
     lightest_negation(alloc, expression, seat)
 }
 
-/// Makes an expression its negation, unless that is `!` over it. The answer says whether it did: true of `a == b`, and false of `a`,
-/// which stays. The only error is that memory runs out, and then the expression is fit only to be dropped.
+/// Makes an expression its whole negation, unless that is `!` over it. The answer says whether it did: true of `a == b`, of `a && b` and
+/// of `typeof a < "u"`, and false of `a`, which stays. The only error is that memory runs out, and then the expression is fit only to be
+/// dropped.
 pub fn try_negate_expression(
     alloc: Global,
     expression: &mut Node,
     seat: Seat,
 ) -> Result<bool, OutOfMemory>
-    ensures tree { OnOk result (expression.new ≡ (if has_an_own_negation seat expression.old then neg seat expression.old else expression.old)) }
-    ensures said { IfOk result (λ changed. changed ≡ has_an_own_negation seat expression.old) }
+    ensures tree { OnOk result (expression.new ≡ (if negates seat expression.old then told seat expression.old else expression.old)) }
+    ensures said { IfOk result (λ changed. changed ≡ negates seat expression.old) }
 {
-    if !has_own_negation(expression, seat) {
+    if !reaches_in(expression) && !has_own_negation(expression, seat) {
         return Ok(false);
     }
-    let other = negated(alloc, taken(alloc, expression), seat)?;
+    let other = told_negation(alloc, taken(alloc, expression), seat)?;
     *expression = other;
     Ok(true)
 }
