@@ -1,10 +1,10 @@
 -- Operators on whole numbers, in code and in the model.
 use Rattle.std.proofs.Common.{◌≡◌, ℕ, zero, suc, ◌<◌, ◌≤◌, Bool, true, false, Some, None, refl, sym, ap, ◌∙◌, true≢false, ltb-true, ltb-false, eq-eqb, eqb-true, arith}
-use Rattle.std.specs.Prelude.{ℤ, pos, negsuc, nat_lt, nat_eq, FitsSigned, int_lt}
+use Rattle.std.specs.Prelude.{ℤ, pos, negsuc, ◌-◌, ◌/◌, ◌%◌, nat_abs, nat_lt, nat_eq, FitsSigned, int_lt}
 use mir.Syntax.{w64}
 use Rattle.mini_laws.specs.Value.{choose, Number}
 use Rattle.mini_laws.specs.Conversion.{makes, outside, is_safe, signed}
-use Rattle.mini_laws.specs.Operators.{number, safe_number, is_less, same_number, is_negative}
+use Rattle.mini_laws.specs.Operators.{number, safe_number, differ, quotient, remainder, modulo_32, is_less, same_number, is_negative}
 use Rattle.mini_terms.specs.Const.{made}
 
 pub safe_number_is : (n : ℤ) → is_safe n ≡ true → Some (Number n) ≡ made (safe_number n)
@@ -55,6 +55,53 @@ negative_is n h = ap (λ b. made (number (choose b (makes (negsuc n)) outside)))
 
 pub minus_zero : None ≡ made (number (signed true zero))
 minus_zero = refl
+
+-- quotients and remainders
+
+pub no_quotient : (m n : ℤ) → nat_abs n ≡ 0 → None ≡ made (quotient m n)
+no_quotient m (pos zero) e = refl
+no_quotient m (pos (suc n)) e = absurd (omega (arith, e))
+no_quotient m (negsuc n) e = absurd (omega (arith, e))
+
+even_test : (n : ℕ) → n ≡ 0 → nat_eq n 0 ≡ true
+even_test n e = eq-eqb n 0 e
+
+uneven_test : (n : ℕ) → (n ≡ 0 → ⊥) → nat_eq n 0 ≡ false
+uneven_test n h = go (nat_eq n 0) refl
+  where
+    go : (b : Bool) → nat_eq n 0 ≡ b → b ≡ false
+    go false e = refl
+    go true e = absurd (h (eqb-true n 0 e))
+
+pub uneven_quotient : (m n : ℤ) → (nat_abs n ≡ 0 → ⊥) → (nat_abs m % nat_abs n ≡ 0 → ⊥) → None ≡ made (quotient m n)
+uneven_quotient m (pos zero) h k = absurd (h refl)
+uneven_quotient m (pos (suc n)) h k = ap (λ b. made (choose b (number (signed (differ (is_negative m) false) (nat_abs m / suc n))) outside)) (sym (uneven_test (nat_abs m % suc n) k))
+uneven_quotient m (negsuc n) h k = ap (λ b. made (choose b (number (signed (differ (is_negative m) true) (nat_abs m / suc n))) outside)) (sym (uneven_test (nat_abs m % suc n) k))
+
+pub quotient_is : (m n : ℤ) → (nat_abs n ≡ 0 → ⊥) → nat_abs m % nat_abs n ≡ 0 → made (number (signed (differ (is_negative m) (is_negative n)) (nat_abs m / nat_abs n))) ≡ made (quotient m n)
+quotient_is m (pos zero) h k = absurd (h refl)
+quotient_is m (pos (suc n)) h k = ap (λ b. made (choose b (number (signed (differ (is_negative m) false) (nat_abs m / suc n))) outside)) (sym (even_test (nat_abs m % suc n) k))
+quotient_is m (negsuc n) h k = ap (λ b. made (choose b (number (signed (differ (is_negative m) true) (nat_abs m / suc n))) outside)) (sym (even_test (nat_abs m % suc n) k))
+
+pub no_remainder : (m n : ℤ) → nat_abs n ≡ 0 → None ≡ made (remainder m n)
+no_remainder m (pos zero) e = refl
+no_remainder m (pos (suc n)) e = absurd (omega (arith, e))
+no_remainder m (negsuc n) e = absurd (omega (arith, e))
+
+pub remainder_is : (m n : ℤ) → (nat_abs n ≡ 0 → ⊥) → made (number (signed (is_negative m) (nat_abs m % nat_abs n))) ≡ made (remainder m n)
+remainder_is m (pos zero) h = absurd (h refl)
+remainder_is m (pos (suc n)) h = refl
+remainder_is m (negsuc n) h = refl
+
+-- 32 bits
+
+pub modulo_positive : (n : ℤ) → is_negative n ≡ false → nat_abs n % 4_294_967_296 ≡ modulo_32 n
+modulo_positive (pos n) e = refl
+modulo_positive (negsuc n) e = absurd (true≢false e)
+
+pub modulo_negative : (n : ℤ) → is_negative n ≡ true → 4_294_967_295 - (nat_abs n - 1) % 4_294_967_296 ≡ modulo_32 n
+modulo_negative (pos n) e = absurd (true≢false (sym e))
+modulo_negative (negsuc n) e = let less : suc n - 1 ≡ n = omega arith in ap (λ k. 4_294_967_295 - k % 4_294_967_296) less
 
 -- order and equality
 

@@ -1,16 +1,19 @@
 -- What is calculated makes what its rows say, and rests where no row makes the expression lighter.
-use Rattle.std.proofs.Common.{◌≡◌, ◌<◌, ◌^◌, Bool, true, false, refl, sym, ap, subst, ◌∙◌, true≢false, ltb-true, ltb-false, arith}
-use Rattle.std.specs.Prelude.{◌&&◌, nat_lt, Option, Some, None, is_some, unwrap_or, if◌then◌else◌}
-use Rattle.std.proofs.lemmas.Bool.{and_parts}
+use Rattle.std.proofs.Common.{◌≡◌, zero, ◌+◌, ◌<◌, ◌≤◌, ◌-◌, ◌^◌, Bool, true, false, refl, sym, ap, subst, ◌∙◌, true≢false, arith}
+use Rattle.std.specs.Prelude.{◌&&◌, pos, Option, Some, None, is_some, unwrap_or, if◌then◌else◌}
+use Rattle.std.proofs.lemmas.Bool.{and_parts, leb-true, le-leb}
+use Rattle.mini_model.specs.declared.place.Position.{Position}
 use Rattle.mini_model.specs.declared.place.Position.TheVariants.{Expr}
 use Rattle.mini_model.specs.declared.seat.Seat.{Seat}
-use Rattle.mini_model.specs.Tree.{Tree}
+use Rattle.mini_model.specs.declared.shape.Shape.{Shape}
+use Rattle.mini_model.specs.declared.shape.Shape.TheVariants as shape
+use Rattle.mini_model.specs.Tree.{Tree, shape_of}
 use Rattle.mini_model.specs.Weight.{weight, capped}
 use Rattle.mini_laws.specs.Value.{Value}
 use Rattle.mini_terms.specs.Calculated.{calculated}
 use Rattle.mini_terms.specs.Parts.{suits, leaves_nothing}
 use Rattle.mini_terms.specs.Plain.{lit}
-use Rattle.mini_rows.specs.Constants.{ConstantContracts}
+use Rattle.mini_rows.specs.Constants.{gain_by, least_gain, ConstantContracts}
 use Rattle.mini_tree.specs.Rule.{Applied}
 use Rattle.mini_tree.proofs.Reaching.{moves_once}
 use Rattle.mini_fold.specs.FoldConstants.{is_lighter, replaces, literal_of, written_by, written, Gives, Rests, WrittenIsRow, UnwrittenRests}
@@ -18,15 +21,18 @@ use Rattle.mini_fold.specs.FoldConstants.{is_lighter, replaces, literal_of, writ
 nothing : {A : Type 0} {a : A} {B : Type 0} → None ≡ Some a → B
 nothing e = cc e
 
-lighter_is : (s : Seat) (w t : Tree) → is_lighter s w t ≡ true → weight (Expr s) w < weight (Expr s) t
-lighter_is s w t e = omega (arith, ltb-true (capped (weight (Expr s) w)) (capped (weight (Expr s) t)) e)
+gains : (h : Shape) → 1 ≤ gain_by h
+gains (shape.NumericLiteral (pos zero)) = omega arith
+gains h = omega arith
 
-lighter_test : (s : Seat) (w t : Tree) → weight (Expr s) t < 2 ^ 64 → weight (Expr s) w < weight (Expr s) t → is_lighter s w t ≡ true
-lighter_test s w t small less = go (is_lighter s w t) refl
-  where
-    go : (b : Bool) → is_lighter s w t ≡ b → b ≡ true
-    go true h = refl
-    go false h = absurd (omega (arith, ltb-false _ _ h, small, less))
+lighter_is : (s : Seat) (w t : Tree) → is_lighter s w t ≡ true → weight (Expr s) w + least_gain w ≤ weight (Expr s) t
+lighter_is s w t e = omega (arith, leb-true (least_gain w) (capped (weight (Expr s) t) - capped (weight (Expr s) w)) e, gains (shape_of w))
+
+falls : (p : Position) (n w : Tree) → weight p w + least_gain w ≤ weight p n → weight p w < weight p n
+falls p n w e = omega (arith, e, gains (shape_of w))
+
+lighter_test : (s : Seat) (w t : Tree) → weight (Expr s) t < 2 ^ 64 → weight (Expr s) w + least_gain w ≤ weight (Expr s) t → is_lighter s w t ≡ true
+lighter_test s w t small less = le-leb (least_gain w) (capped (weight (Expr s) t) - capped (weight (Expr s) w)) (omega (arith, small, less))
 
 both_true : (b c : Bool) → b ≡ true → c ≡ true → b && c ≡ true
 both_true true c e f = f
@@ -37,7 +43,7 @@ module _ (s : Seat) (n w : Tree) where
   row_of v k l e =
       let (dropped, rest) = and_parts (leaves_nothing n) (suits s w && is_lighter s w n) e in
       let (stays, lighter) = and_parts (suits s w) (is_lighter s w n) rest in
-      record { row = record { value = v; known = k; literal = l; dropped = dropped; stays = stays }; lighter = lighter_is s w n lighter }
+      let gains = lighter_is s w n lighter in record { row = record { value = v; known = k; literal = l; dropped = dropped; stays = stays; gains = gains }; lighter = falls (Expr s) n w gains }
 
   by_literal : (v : Value) → calculated n ≡ Some v → (l : Option Tree) → lit v ≡ l → written_by s n l ≡ Some w → ConstantContracts (Expr s) n w
   by_literal v k (Some u) h e = go (replaces s n u) refl e
@@ -66,7 +72,7 @@ never s n w None h e f = nothing h
 pub unwritten_rests : UnwrittenRests
 unwritten_rests s n e small w c =
     never s n w (literal_of (calculated n)) (ap literal_of c.row.known ∙ c.row.literal)
-    (both_true (leaves_nothing n) (suits s w && is_lighter s w n) c.row.dropped (both_true (suits s w) (is_lighter s w n) c.row.stays (lighter_test s w n small c.lighter)))
+    (both_true (leaves_nothing n) (suits s w && is_lighter s w n) c.row.dropped (both_true (suits s w) (is_lighter s w n) c.row.stays (lighter_test s w n small c.row.gains)))
     e
 
 pub applied : (s : Seat) (t u : Tree) (b : Bool) → u ≡ unwrap_or (written s t) t → b ≡ is_some (written s t) → Applied Gives Rests (Expr s) t u b

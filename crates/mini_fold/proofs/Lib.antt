@@ -3,3 +3,4 @@ pub mod Constants
 pub mod Arithmetic
 pub mod Sequences
 pub mod Operands
+pub mod Mixed

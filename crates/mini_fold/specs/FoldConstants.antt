@@ -1,5 +1,5 @@
 -- The rewrites 1 and 3: a unary or binary expression over literals becomes the literal of its value, where that is lighter.
-use Rattle.std.specs.Prelude.{◌≡◌, ◌<◌, ◌^◌, nat_lt, Bool, ◌&&◌, Option, Some, None, if◌then◌else◌}
+use Rattle.std.specs.Prelude.{◌≡◌, ◌<◌, ◌-◌, ◌^◌, nat_le, Bool, ◌&&◌, Option, Some, None, if◌then◌else◌}
 use Rattle.mini_model.specs.declared.place.Position.{Position}
 use Rattle.mini_model.specs.declared.place.Position.TheVariants.{Expr}
 use Rattle.mini_model.specs.declared.seat.Seat.{Seat}
@@ -9,10 +9,10 @@ use Rattle.mini_laws.specs.Value.{Value}
 use Rattle.mini_terms.specs.Calculated.{calculated}
 use Rattle.mini_terms.specs.Parts.{suits, leaves_nothing}
 use Rattle.mini_terms.specs.Plain.{lit}
-use Rattle.mini_rows.specs.Constants.{ConstantContracts}
+use Rattle.mini_rows.specs.Constants.{least_gain, ConstantContracts}
 
 abbrev pub is_lighter : Seat → Tree → Tree → Bool
-is_lighter s w t = nat_lt (capped (weight (Expr s) w)) (capped (weight (Expr s) t))
+is_lighter s w t = nat_le (least_gain w) (capped (weight (Expr s) t) - capped (weight (Expr s) w))
 
 -- the literal may stand in its place, and is lighter
 abbrev pub replaces : Seat → Tree → Tree → Bool

@@ -1,5 +1,5 @@
 -- The values that are calculated.
-use Rattle.std.specs.Prelude.{ℤ, List, ℕ, Option, Some, None}
+use Rattle.std.specs.Prelude.{ℤ, Bool, true, false, Option, Some, None}
 use Rattle.mini_laws.specs.Value.{Value, Undefined, Null, Boolean, Number, String}
 use Rattle.mini_fold.specs.declared.values.ConstantValue.{ConstantValue}
 use Rattle.mini_fold.specs.declared.values.ConstantValue.TheVariants as constant
@@ -18,3 +18,7 @@ value_in None = None
 abbrev pub number_in : Option ℤ → Option Value
 number_in (Some n) = Some (Number n)
 number_in None = None
+
+abbrev pub is_text_value : Value → Bool
+is_text_value (String s) = true
+is_text_value v = false

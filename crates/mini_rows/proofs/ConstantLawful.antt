@@ -1,6 +1,8 @@
 -- What a row on a constant writes keeps all that a program has to keep.
 use Rattle.std.proofs.Common.{◌≡◌, ℕ, suc, Bool, true, false, List, [], ◌∷◌, Option, Some, None, refl, sym, ap, subst, ◌∙◌, zero, true≢false, ltb-true, arith}
-use Rattle.std.specs.Prelude.{◌&&◌, ◌++◌, ℤ, pos, negsuc, nat_abs, ◌*◌, ◌+ℤ◌, ◌-ℤ◌}
+use Rattle.std.specs.Prelude.{◌&&◌, ◌||◌, ◌++◌, ℤ, pos, negsuc, nat_abs, nat_eq, nat_le, nat_lt, ◌-◌, ◌*◌, ◌/◌, ◌%◌, ◌^◌, ◌≤◌, ◌+ℤ◌, ◌-ℤ◌}
+use Rattle.std.specs.Char.Utf16.{utf16_chars}
+use Rattle.std.proofs.Math.Nat.{div-le_self}
 use Rattle.std.proofs.lemmas.Bool.{and_parts, le-leb}
 use Rattle.mini_model.specs.Numerals.{max_safe_integer}
 use Rattle.mini_model.specs.declared.name.Name.{Name}
@@ -14,21 +16,20 @@ use Rattle.mini_model.specs.declared.seat.Seat.{Seat}
 use Rattle.mini_model.specs.declared.shape.Shape.{Shape}
 use Rattle.mini_model.specs.declared.shape.Shape.TheVariants as shape
 use Rattle.mini_model.specs.Tree.{Tree, Trees, node, none, ◌▸◌, leaf, is_absent, shape_of, unary}
-use Rattle.mini_accept.specs.WellShaped.{Depth, in_module, in_body, nested, refused, Class, a_statement, a_key, a_private_or_key, an_inner_key, an_init, an_arrow_body, an_expression, a_link, an_argument, a_default_export, Slot, one, one_or_absent, is_safe, is_paired, has_names, has_its_number, has_plain_fields, has_its_parts, is_whole, class_of, is_function_body, spelling, has_optional, is_not_positive_number, filling, is_strict_in, fits, fill}
+use Rattle.mini_accept.specs.WellShaped.{Depth, in_module, in_body, nested, refused, Class, a_statement, a_key, a_private_or_key, an_inner_key, an_init, an_arrow_body, an_expression, a_link, an_argument, a_default_export, Slot, one, one_or_absent, is_safe, is_paired, has_names, has_its_number, has_plain_fields, has_its_parts, is_whole, class_of, is_function_body, spelling, has_optional, filling, is_strict_in, fits, fill}
 use Rattle.mini_node.specs.Children.{part}
 use Rattle.mini_node.specs.Kinds.{binary, unary_operator as its_unary_operator}
-use Rattle.mini_node.specs.Made.{unary_is}
-use Rattle.mini_laws.specs.Value.{Value, Undefined, Null, Boolean, Number, String, choose}
-use Rattle.mini_laws.specs.Conversion.{makes, outside, signed}
+use Rattle.mini_laws.specs.Value.{Value, Undefined, Null, Boolean, Number, String, Symbol, Object, choose}
+use Rattle.mini_laws.specs.Conversion.{Made, makes, raises, outside, text_of_boolean, to_text, signed}
 use Rattle.mini_laws.specs.Conversion as conversion
-use Rattle.mini_laws.specs.Operators.{number, safe_number, differ, is_negative}
+use Rattle.mini_laws.specs.Operators.{number, safe_number, differ, is_negative, is_odd, small_exponent, quotient, remainder, power, modulo_32, two_to, signed_32, shifted_right, joined, of_number, type_text}
 use Rattle.mini_kept.specs.KeepsFrames.{is_body_slot}
 use Rattle.mini_kept.specs.KeepsNames.{is_rewritten_place}
 use Rattle.mini_kept.specs.KeepsShapes.{AskedAlike, is_default}
 use Rattle.mini_kept.specs.Lawful.{Lawful}
 use Rattle.mini_kept.proofs.Expressions.{refused_here, expression, TakesExpressionIn, TakesExpression, expression_taken}
 use Rattle.mini_terms.specs.Const.{made}
-use Rattle.mini_terms.specs.Calculated.{leaf_value, over_leaf, literal_by, literal_value, calculated_unary, calculated_numbers, calculated_texts, calculated_binary, unary_value, binary_value, calculated}
+use Rattle.mini_terms.specs.Calculated.{leaf_value, over_leaf, literal_by, literal_value, as_number, over_number, calculated_unary, calculated_numbers, calculated_texts, added, calculated_binary, unary_value, binary_value, calculated}
 use Rattle.mini_terms.specs.Parts.{leaves_nothing}
 use Rattle.mini_terms.specs.Plain.{lit, void_zero}
 use Rattle.mini_terms.proofs.Calculated.{Form, of_unary, of_binary, form}
@@ -40,7 +41,7 @@ use Rattle.mini_rows.proofs.ArrangedLawful.{kept_is_lawful}
 use Rattle.mini_rows.proofs.ConstantMeaning.{nothing, constants_same}
 use Rattle.mini_rows.proofs.FoldLawful.{vanishes, first_dropped, no_number, expression_slot}
 use Rattle.mini_rows.proofs.FoldWeights.{not_a_number}
-use Rattle.mini_rows.proofs.Surrogates.{is_paired_joined}
+use Rattle.mini_rows.proofs.Surrogates.{is_paired_joined, numeral_paired}
 
 -- ---- all of it goes, and a literal is made
 
@@ -163,10 +164,64 @@ signed_written true zero v e = nothing e
 signed_written true (suc n) v e = from_safe (negsuc n) v e
 signed_written false n v e = from_safe (pos n) v e
 
+chosen_written : (b minus : Bool) (n : ℕ) (v : Value) → made (choose b (number (signed minus n)) outside) ≡ Some v → Written v
+chosen_written true minus n v e = signed_written minus n v e
+chosen_written false minus n v e = nothing e
+
+quotient_written : (x y : ℤ) (v : Value) → made (quotient x y) ≡ Some v → Written v
+quotient_written x (pos zero) v e = nothing e
+quotient_written x (pos (suc n)) v e = chosen_written (nat_eq (nat_abs x % suc n) 0) (differ (is_negative x) false) (nat_abs x / suc n) v e
+quotient_written x (negsuc n) v e = chosen_written (nat_eq (nat_abs x % suc n) 0) (differ (is_negative x) true) (nat_abs x / suc n) v e
+
+remainder_written : (x y : ℤ) (v : Value) → made (remainder x y) ≡ Some v → Written v
+remainder_written x (pos zero) v e = nothing e
+remainder_written x (pos (suc n)) v e = signed_written (is_negative x) (nat_abs x % suc n) v e
+remainder_written x (negsuc n) v e = signed_written (is_negative x) (nat_abs x % suc n) v e
+
+power_written : (x y : ℤ) (v : Value) → made (power x y) ≡ Some v → Written v
+power_written x (pos n) v e = chosen_written (nat_le (nat_abs x) 1 || nat_lt n 54) (is_negative x && is_odd n) (nat_abs x ^ small_exponent n) v e
+power_written (pos (suc zero)) (negsuc n) v e = written_by (Number (pos 1)) v e refl
+power_written (pos zero) (negsuc n) v e = nothing e
+power_written (pos (suc (suc m))) (negsuc n) v e = nothing e
+power_written (negsuc m) (negsuc n) v e = nothing e
+
+safe_to : (n : ℕ) → n ≤ 4_294_967_296 → nat_le n max_safe_integer ≡ true
+safe_to n h = le-leb n max_safe_integer (omega (arith, h))
+
+signed_32_written : (n : ℕ) (v : Value) → made (signed_32 n) ≡ Some v → Written v
+signed_32_written n v e = go (nat_lt n 2_147_483_648) refl e
+  where
+    go : (b : Bool) → nat_lt n 2_147_483_648 ≡ b → made (choose b (makes (Number (pos n))) (makes (Number (negsuc (4_294_967_295 - n))))) ≡ Some v → Written v
+    go true h e = written_by (Number (pos n)) v e (safe_to n (omega (arith, ltb-true n 2_147_483_648 h)))
+    go false h e = written_by (Number (negsuc (4_294_967_295 - n))) v e (safe_to (suc (4_294_967_295 - n)) (omega arith))
+
+modulo_small : (x : ℤ) → modulo_32 x ≤ 4_294_967_295
+modulo_small (pos n) = omega arith
+modulo_small (negsuc n) = omega arith
+
+shifted_written : (n k : ℕ) (v : Value) → made (shifted_right n k) ≡ Some v → Written v
+shifted_written n k v e = go (nat_lt n 2_147_483_648) refl e
+  where
+    go : (b : Bool) → nat_lt n 2_147_483_648 ≡ b → made (choose b (makes (Number (pos (n / k)))) (makes (Number (negsuc ((4_294_967_295 - n) / k))))) ≡ Some v → Written v
+    go true h e = written_by (Number (pos (n / k))) v e (safe_to (n / k) (omega (arith, ltb-true n 2_147_483_648 h, div-le_self n k)))
+    go false h e = written_by (Number (negsuc ((4_294_967_295 - n) / k))) v e (safe_to (suc ((4_294_967_295 - n) / k)) (omega (arith, div-le_self (4_294_967_295 - n) k)))
+
+filled_written : (x y : ℤ) (v : Value) → Some (Number (pos (modulo_32 x / two_to y))) ≡ Some v → Written v
+filled_written x y v e = written_by (Number (pos (modulo_32 x / two_to y))) v e (safe_to (modulo_32 x / two_to y) (omega (arith, modulo_small x, div-le_self (modulo_32 x) (two_to y))))
+
 numbers_written : (o : BinaryOperator) (x y : ℤ) (v : Value) → calculated_numbers o x y ≡ Some v → Written v
 numbers_written binary_operator.Addition x y v e = safe_written (x +ℤ y) v e
 numbers_written binary_operator.Subtraction x y v e = safe_written (x -ℤ y) v e
 numbers_written binary_operator.Multiplication x y v e = signed_written (differ (is_negative x) (is_negative y)) (nat_abs x * nat_abs y) v e
+numbers_written binary_operator.Division x y v e = quotient_written x y v e
+numbers_written binary_operator.Remainder x y v e = remainder_written x y v e
+numbers_written binary_operator.Exponential x y v e = power_written x y v e
+numbers_written binary_operator.BitwiseAnd x y v e = signed_32_written _ v e
+numbers_written binary_operator.BitwiseOr x y v e = signed_32_written _ v e
+numbers_written binary_operator.BitwiseXor x y v e = signed_32_written _ v e
+numbers_written binary_operator.ShiftLeft x y v e = signed_32_written (modulo_32 x * two_to y % 4_294_967_296) v e
+numbers_written binary_operator.ShiftRight x y v e = shifted_written (modulo_32 x) (two_to y) v e
+numbers_written binary_operator.ShiftRightZeroFill x y v e = filled_written x y v e
 numbers_written binary_operator.LessThan x y v e = written_by _ v e refl
 numbers_written binary_operator.GreaterThan x y v e = written_by _ v e refl
 numbers_written binary_operator.LessEqualThan x y v e = written_by _ v e refl
@@ -179,21 +234,95 @@ numbers_written o x y v e = nothing e
 
 texts_written : (o : BinaryOperator) (s t : List ℕ) (v : Value) → calculated_texts o s t ≡ Some v → Written (String s) → Written (String t) → Written v
 texts_written binary_operator.Addition s t v e h k = written_by (String (s ++ t)) v e (is_paired_joined s t h k)
+texts_written binary_operator.LessThan s t v e h k = written_by _ v e refl
+texts_written binary_operator.GreaterThan s t v e h k = written_by _ v e refl
+texts_written binary_operator.LessEqualThan s t v e h k = written_by _ v e refl
+texts_written binary_operator.GreaterEqualThan s t v e h k = written_by _ v e refl
 texts_written binary_operator.Equality s t v e h k = written_by _ v e refl
 texts_written binary_operator.Inequality s t v e h k = written_by _ v e refl
 texts_written binary_operator.StrictEquality s t v e h k = written_by _ v e refl
 texts_written binary_operator.StrictInequality s t v e h k = written_by _ v e refl
 texts_written o s t v e h k = nothing e
 
+boolean_paired : (b : Bool) → is_paired (text_of_boolean b) ≡ true
+unfolding utf16_chars
+boolean_paired true = refl
+boolean_paired false = refl
+
+abbrev Paired : Made (List ℕ) → Type 0
+Paired (makes s) = is_paired s ≡ true
+Paired r = Unit {0}
+
+text_paired : (u : Value) → Written u → Paired (to_text u)
+unfolding utf16_chars
+text_paired Undefined h = refl
+text_paired Null h = refl
+text_paired (Boolean b) h = boolean_paired b
+text_paired (Number n) h = numeral_paired n
+text_paired (String s) h = h
+text_paired (Symbol n) h = tt
+text_paired (Object n f) h = tt
+
+joined_written : (c d : Made (List ℕ)) (v : Value) → made (joined c d) ≡ Some v → Paired c → Paired d → Written v
+joined_written (makes s) (makes t) v e h k = written_by (String (s ++ t)) v e (is_paired_joined s t h k)
+joined_written (makes s) raises v e h k = nothing e
+joined_written (makes s) outside v e h k = nothing e
+joined_written raises d v e h k = nothing e
+joined_written outside d v e h k = nothing e
+
+added_written : (o : BinaryOperator) (c d : Made (List ℕ)) (v : Value) → added o c d ≡ Some v → Paired c → Paired d → Written v
+added_written binary_operator.Addition c d v e h k = joined_written c d v e h k
+added_written o c d v e h k = nothing e
+
 binary_written : (o : BinaryOperator) (x y v : Value) → calculated_binary o x y ≡ Some v → Written x → Written y → Written v
 binary_written o (Number x) (Number y) v e h k = numbers_written o x y v e
 binary_written o (String s) (String t) v e h k = texts_written o s t v e h k
+binary_written o (String s) Undefined v e h k = added_written o (makes s) (to_text Undefined) v e h (text_paired Undefined k)
+binary_written o (String s) Null v e h k = added_written o (makes s) (to_text Null) v e h (text_paired Null k)
+binary_written o (String s) (Boolean b) v e h k = added_written o (makes s) (to_text (Boolean b)) v e h (text_paired (Boolean b) k)
+binary_written o (String s) (Number n) v e h k = added_written o (makes s) (to_text (Number n)) v e h (text_paired (Number n) k)
+binary_written o (String s) (Symbol n) v e h k = added_written o (makes s) (to_text (Symbol n)) v e h (text_paired (Symbol n) k)
+binary_written o (String s) (Object n f) v e h k = added_written o (makes s) (to_text (Object n f)) v e h (text_paired (Object n f) k)
+binary_written o Undefined (String t) v e h k = added_written o (to_text Undefined) (makes t) v e (text_paired Undefined h) k
+binary_written o Null (String t) v e h k = added_written o (to_text Null) (makes t) v e (text_paired Null h) k
+binary_written o (Boolean b) (String t) v e h k = added_written o (to_text (Boolean b)) (makes t) v e (text_paired (Boolean b) h) k
+binary_written o (Number n) (String t) v e h k = added_written o (to_text (Number n)) (makes t) v e (text_paired (Number n) h) k
+binary_written o (Symbol n) (String t) v e h k = added_written o (to_text (Symbol n)) (makes t) v e (text_paired (Symbol n) h) k
+binary_written o (Object n f) (String t) v e h k = added_written o (to_text (Object n f)) (makes t) v e (text_paired (Object n f) h) k
 binary_written o x y v e h k = nothing e
+
+type_written : (u v : Value) → Some (String (type_text u)) ≡ Some v → Written v
+unfolding utf16_chars
+type_written Undefined v e = written_by (String (type_text Undefined)) v e refl
+type_written Null v e = written_by (String (type_text Null)) v e refl
+type_written (Boolean b) v e = written_by (String (type_text (Boolean b))) v e refl
+type_written (Number n) v e = written_by (String (type_text (Number n))) v e refl
+type_written (String s) v e = written_by (String (type_text (String s))) v e refl
+type_written (Symbol n) v e = written_by (String (type_text (Symbol n))) v e refl
+type_written (Object n true) v e = written_by (String (type_text (Object n true))) v e refl
+type_written (Object n false) v e = written_by (String (type_text (Object n false))) v e refl
+
+of_number_written : (o : UnaryOperator) (n : ℤ) (v : Value) → conversion.is_safe n ≡ true → made (of_number o n) ≡ Some v → Written v
+of_number_written unary_operator.UnaryPlus n v h e = written_by (Number n) v e (safe_is n h)
+of_number_written unary_operator.UnaryNegation (pos zero) v h e = nothing e
+of_number_written unary_operator.UnaryNegation (pos (suc n)) v h e = written_by (Number (negsuc n)) v e (safe_is (negsuc n) h)
+of_number_written unary_operator.UnaryNegation (negsuc n) v h e = written_by (Number (pos (suc n))) v e (safe_is (pos (suc n)) h)
+of_number_written unary_operator.BitwiseNot n v h e = signed_32_written (4_294_967_295 - modulo_32 n) v e
+of_number_written o n v h e = nothing e
+
+over_number_written : (o : UnaryOperator) (c : Option ℤ) (v : Value) → over_number o c ≡ Some v → Written v
+over_number_written o (Some n) v e = go (conversion.is_safe n) refl e
+  where
+    go : (b : Bool) → conversion.is_safe n ≡ b → choose b (made (of_number o n)) None ≡ Some v → Written v
+    go true h e = of_number_written o n v h e
+    go false h e = nothing e
+over_number_written o None v e = nothing e
 
 unary_written : (o : UnaryOperator) (u v : Value) → calculated_unary o u ≡ Some v → Written v
 unary_written unary_operator.Void u v e = written_by Undefined v e refl
 unary_written unary_operator.LogicalNot u v e = written_by _ v e refl
-unary_written o u v e = nothing e
+unary_written unary_operator.Typeof u v e = type_written u v e
+unary_written o u v e = over_number_written o (as_number u) v e
 
 -- ---- where they stand
 

@@ -57,7 +57,7 @@ numeral_there (negsuc n) = omega arith
 
 -- what weighs 2 at least
 
-unary_two : (o : UnaryOperator) → 2 ≤ unary_operator_weight o
+pub unary_two : (o : UnaryOperator) → 2 ≤ unary_operator_weight o
 unary_two unary_operator.Typeof = omega arith
 unary_two unary_operator.Void = omega arith
 unary_two unary_operator.Delete = omega arith

@@ -1,9 +1,10 @@
 -- Of two texts whose surrogates have partners the text that joins them has none without.
-use Rattle.std.proofs.Common.{◌≡◌, ℕ, Bool, true, false, List, [], ◌∷◌, Option, Some, None, refl, sym, ap, ◌∙◌, true≢false, ltb-true, ltb-false, arith}
-use Rattle.std.specs.Prelude.{◌&&◌, ◌||◌, ◌++◌, not, nat_le, nat_lt, is_some, if◌then◌else◌}
+use Rattle.std.proofs.Common.{◌≡◌, ℕ, zero, suc, ◌+◌, ◌<◌, Bool, true, false, List, [], ◌∷◌, Option, Some, None, refl, sym, ap, ◌∙◌, true≢false, ltb-true, ltb-false, arith}
+use Rattle.std.specs.Prelude.{◌&&◌, ◌||◌, ◌++◌, ◌/◌, ◌%◌, ◌==◌, ℤ, pos, negsuc, not, nat_le, nat_lt, is_some, if◌then◌else◌}
+use Rattle.std.specs.Fmt.{digit_glyph, digits_onto, digits, decimal, signed_decimal}
 use Rattle.std.specs.List.{list_any}
 use Rattle.std.specs.Char.Utf16.{is_high_surrogate, is_low_surrogate, surrogate_pair_char, lone_unit_char, utf16_chars, has_unpaired_surrogate}
-use Rattle.std.proofs.lemmas.Bool.{and_parts}
+use Rattle.std.proofs.lemmas.Bool.{and_parts, leb-true, lt-ltb}
 use Rattle.mini_model.specs.Texts.{are_units}
 use Rattle.mini_accept.specs.WellShaped.{is_paired}
 
@@ -89,3 +90,50 @@ is_paired_joined s t e f =
     let (units, paired) = and_parts (are_units s) (not (has_unpaired_surrogate s)) e in
     let (others, rest) = and_parts (are_units t) (not (has_unpaired_surrogate t)) f in
     both_true (are_units (s ++ t)) (not (has_unpaired_surrogate (s ++ t))) (units_joined s t units others) (ap not (paired_joined s t (not_true _ paired) (not_true _ rest)))
+
+-- ---- texts of digits
+
+missing_small : (u : ℕ) → u < 0xD800 → missing (lone_unit_char u) ≡ false
+missing_small u h = missing_of (nat_le 0xD800 u && nat_lt u 0xE000) u ∙ go (nat_le 0xD800 u) refl
+  where
+    go : (b : Bool) → nat_le 0xD800 u ≡ b → missing (lone (b && nat_lt u 0xE000) 0) ≡ false
+    go false e = refl
+    go true e = absurd (omega (arith, h, leb-true 0xD800 u e))
+
+unit_small : (u : ℕ) → u < 0xD800 → nat_lt u 0x1_0000 ≡ true
+unit_small u h = lt-ltb u 0x1_0000 (omega (arith, h))
+
+-- a unit below the surrogates
+small_first : (u : ℕ) (us : List ℕ) → u < 0xD800 → is_paired us ≡ true → is_paired (u ∷ us) ≡ true
+small_first u us h e =
+    let (units, paired) = and_parts (are_units us) (not (has_unpaired_surrogate us)) e in
+    both_true (are_units (u ∷ us)) (not (has_unpaired_surrogate (u ∷ us))) (both_true (nat_lt u 0x1_0000) (are_units us) (unit_small u h) units) (ap not (unit_first u us (missing_small u h) (not_true _ paired)))
+
+glyph_small : (n : ℕ) → digit_glyph false (n % 10) < 0xD800
+glyph_small n = go (nat_lt (n % 10) 10)
+  where
+    go : (b : Bool) → (if b then 48 + n % 10 else 87 + n % 10) < 0xD800
+    go true = omega arith
+    go false = omega arith
+
+picked : (b : Bool) (s t : List ℕ) → is_paired s ≡ true → is_paired t ≡ true → is_paired (if b then s else t) ≡ true
+picked true s t h k = h
+picked false s t h k = k
+
+digits_paired : (k n : ℕ) (ds : List ℕ) → is_paired ds ≡ true → is_paired (digits_onto k 10 false n ds) ≡ true
+digits_paired zero n ds e = e
+digits_paired (suc k) n ds e =
+    let first = small_first (digit_glyph false (n % 10)) ds (glyph_small n) e in
+    picked (n / 10 == 0) (digit_glyph false (n % 10) ∷ ds) (digits_onto k 10 false (n / 10) (digit_glyph false (n % 10) ∷ ds)) first (digits_paired k (n / 10) (digit_glyph false (n % 10) ∷ ds) first)
+
+nothing_paired : is_paired [] ≡ true
+unfolding utf16_chars
+nothing_paired = refl
+
+decimal_paired : (n : ℕ) → is_paired (decimal n) ≡ true
+unfolding digits
+decimal_paired n = digits_paired 64 n [] nothing_paired
+
+pub numeral_paired : (n : ℤ) → is_paired (signed_decimal n) ≡ true
+numeral_paired (pos n) = decimal_paired n
+numeral_paired (negsuc n) = small_first 45 (decimal (suc n)) (omega arith) (decimal_paired (suc n))

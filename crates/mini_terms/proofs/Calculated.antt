@@ -1,6 +1,7 @@
 -- What is calculated of an expression is its constant, and it is effect-free.
-use Rattle.std.proofs.Common.{◌≡◌, ℕ, ℤ, Bool, true, false, List, [], ◌∷◌, Option, Some, None, refl, sym, ap, subst, ◌∙◌}
-use Rattle.std.specs.Prelude.{◌&&◌, ◌||◌}
+use Rattle.std.proofs.Common.{◌≡◌, ℕ, ℤ, Bool, true, false, List, Option, Some, None, refl, sym, ap, subst, ◌∙◌}
+use Rattle.std.specs.Prelude.{◌&&◌, ◌||◌, pos}
+use Rattle.std.proofs.lemmas.Bool.{false≢true}
 use Rattle.mini_model.specs.declared.name.Name.{Name}
 use Rattle.mini_model.specs.declared.operator.BinaryOperator.{BinaryOperator}
 use Rattle.mini_model.specs.declared.operator.BinaryOperator.TheVariants as binary_operator
@@ -12,13 +13,15 @@ use Rattle.mini_model.specs.Tree.{Tree, Trees, node, shape_of, unary}
 use Rattle.mini_node.specs.Children.{part}
 use Rattle.mini_node.specs.Kinds.{binary, unary_operator as its_unary_operator, binary_operator as its_binary_operator}
 use Rattle.mini_node.specs.Made.{unary_is, binary_is}
-use Rattle.mini_laws.specs.Value.{Value, Undefined, Null, Boolean, Number, String}
+use Rattle.mini_laws.specs.Value.{Value, Undefined, Null, Boolean, Number, String, Symbol, Object, choose}
+use Rattle.mini_laws.specs.Conversion.{makes, is_safe, to_number, to_text}
+use Rattle.mini_laws.specs.Operators.{of_number}
 use Rattle.mini_terms.specs.Kind.{Kind, is_primitive, is_nullish_kind, kind}
-use Rattle.mini_terms.specs.Effects.{ef_operands, ef}
-use Rattle.mini_terms.specs.Const.{unary_const, binary_const, const}
+use Rattle.mini_terms.specs.Effects.{ef_operands, is_identifier, ef}
+use Rattle.mini_terms.specs.Const.{made, of_operand, unary_const, binary_const, const}
 use Rattle.mini_terms.specs.Const as known
 use Rattle.mini_terms.specs.Folds.{is_effect_free}
-use Rattle.mini_terms.specs.Calculated.{leaf_value, over_leaf, literal_by, literal_value, calculated_unary, calculated_numbers, calculated_texts, calculated_binary, unary_value, binary_value, calculated_by, calculated, CalculatedIsConst}
+use Rattle.mini_terms.specs.Calculated.{leaf_value, over_leaf, literal_by, literal_value, as_number, over_number, calculated_unary, calculated_numbers, calculated_texts, added, calculated_binary, unary_value, binary_value, calculated_by, calculated, CalculatedIsConst}
 
 nothing : {A : Type 0} {a : A} {B : Type 0} → None ≡ Some a → B
 nothing e = cc e
@@ -62,6 +65,21 @@ both_true : (b c : Bool) → b ≡ true → c ≡ true → b && c ≡ true
 both_true true c e f = f
 both_true false c e f = e
 
+checked : (b : Bool) (c : Option Value) (v : Value) → choose b c None ≡ Some v → c ≡ Some v
+checked true c v e = e
+checked false c v e = nothing e
+
+numbered : (o : UnaryOperator) (u v : Value) → over_number o (as_number u) ≡ Some v → made (of_operand o (to_number u)) ≡ Some v
+numbered o Null v e = checked (is_safe (pos 0)) (made (of_number o (pos 0))) v e
+numbered o (Boolean true) v e = checked (is_safe (pos 1)) (made (of_number o (pos 1))) v e
+numbered o (Boolean false) v e = checked (is_safe (pos 0)) (made (of_number o (pos 0))) v e
+numbered o (Number n) v e = checked (is_safe n) (made (of_number o n)) v e
+numbered o u v e = nothing e
+
+undeleted : (c : Option ℤ) (v : Value) → over_number unary_operator.Delete c ≡ Some v → None ≡ Some v
+undeleted (Some n) v e = checked (is_safe n) None v e
+undeleted None v e = e
+
 abbrev Known : Tree → Value → Type 0
 Known t v = (const t ≡ Some v) × (is_effect_free t ≡ true)
 
@@ -69,7 +87,11 @@ module _ (a : Tree) (v : Value) where
   operated : (o : UnaryOperator) (u : Value) → Literal a u → calculated_unary o u ≡ Some v → Known (unary o a) v
   operated unary_operator.Void u l e = (e, l.free)
   operated unary_operator.LogicalNot u l e = (ap (unary_const unary_operator.LogicalNot) l.constant ∙ e, l.free)
-  operated o u l e = nothing e
+  operated unary_operator.Typeof u l e = (ap (unary_const unary_operator.Typeof) l.constant ∙ e, right_true (is_identifier a) (ef true a) l.free)
+  operated unary_operator.UnaryPlus u l e = (ap (unary_const unary_operator.UnaryPlus) l.constant ∙ numbered unary_operator.UnaryPlus u v e, both_true (ef true a) (is_primitive (kind a)) l.free l.primitive)
+  operated unary_operator.UnaryNegation u l e = (ap (unary_const unary_operator.UnaryNegation) l.constant ∙ numbered unary_operator.UnaryNegation u v e, both_true (ef true a) (is_primitive (kind a)) l.free l.primitive)
+  operated unary_operator.BitwiseNot u l e = (ap (unary_const unary_operator.BitwiseNot) l.constant ∙ numbered unary_operator.BitwiseNot u v e, both_true (ef true a) (is_primitive (kind a)) l.free l.primitive)
+  operated unary_operator.Delete u l e = nothing (undeleted (as_number u) v e)
 
   of_literal : (o : UnaryOperator) (c : Option Value) → literal_value a ≡ c → unary_value o c ≡ Some v → Known (unary o a) v
   of_literal o (Some u) k e = operated o u (literal_is a u k) e
@@ -91,6 +113,15 @@ module _ (j k : Kind) (p : is_primitive j ≡ true) (q : is_primitive k ≡ true
   numbers_are binary_operator.Addition x y v e = (e, primitives)
   numbers_are binary_operator.Subtraction x y v e = (e, primitives)
   numbers_are binary_operator.Multiplication x y v e = (e, primitives)
+  numbers_are binary_operator.Division x y v e = (e, primitives)
+  numbers_are binary_operator.Remainder x y v e = (e, primitives)
+  numbers_are binary_operator.Exponential x y v e = (e, primitives)
+  numbers_are binary_operator.BitwiseAnd x y v e = (e, primitives)
+  numbers_are binary_operator.BitwiseOr x y v e = (e, primitives)
+  numbers_are binary_operator.BitwiseXor x y v e = (e, primitives)
+  numbers_are binary_operator.ShiftLeft x y v e = (e, primitives)
+  numbers_are binary_operator.ShiftRight x y v e = (e, primitives)
+  numbers_are binary_operator.ShiftRightZeroFill x y v e = (e, primitives)
   numbers_are binary_operator.LessThan x y v e = (e, primitives)
   numbers_are binary_operator.GreaterThan x y v e = (e, primitives)
   numbers_are binary_operator.LessEqualThan x y v e = (e, primitives)
@@ -101,17 +132,51 @@ module _ (j k : Kind) (p : is_primitive j ≡ true) (q : is_primitive k ≡ true
   numbers_are binary_operator.StrictInequality x y v e = (e, refl)
   numbers_are o x y v e = nothing e
 
-  texts_are : (o : BinaryOperator) (s t : List ℕ) (v : Value) → calculated_texts o s t ≡ Some v → Operated o (String s) (String t) v
-  texts_are binary_operator.Addition s t v e = (e, primitives)
-  texts_are binary_operator.Equality s t v e = (e, comparable)
-  texts_are binary_operator.Inequality s t v e = (e, comparable)
-  texts_are binary_operator.StrictEquality s t v e = (e, refl)
-  texts_are binary_operator.StrictInequality s t v e = (e, refl)
-  texts_are o s t v e = nothing e
+  texts_are : (o : BinaryOperator) (x y : List ℕ) (v : Value) → calculated_texts o x y ≡ Some v → Operated o (String x) (String y) v
+  texts_are binary_operator.Addition x y v e = (e, primitives)
+  texts_are binary_operator.LessThan x y v e = (e, primitives)
+  texts_are binary_operator.GreaterThan x y v e = (e, primitives)
+  texts_are binary_operator.LessEqualThan x y v e = (e, primitives)
+  texts_are binary_operator.GreaterEqualThan x y v e = (e, primitives)
+  texts_are binary_operator.Equality x y v e = (e, comparable)
+  texts_are binary_operator.Inequality x y v e = (e, comparable)
+  texts_are binary_operator.StrictEquality x y v e = (e, refl)
+  texts_are binary_operator.StrictInequality x y v e = (e, refl)
+  texts_are o x y v e = nothing e
+
+  after_text : (o : BinaryOperator) (s : List ℕ) (u v : Value) → added o (makes s) (to_text u) ≡ Some v → Operated o (String s) u v
+  after_text binary_operator.Addition s u v e = (e, primitives)
+  after_text o s u v e = nothing e
+
+  abbrev is_no_text : Value → Bool
+  is_no_text (String s) = false
+  is_no_text v = true
+
+  before_text : (o : BinaryOperator) (u : Value) (t : List ℕ) (v : Value) → is_no_text u ≡ true → added o (to_text u) (makes t) ≡ Some v → Operated o u (String t) v
+  before_text binary_operator.Addition Undefined t v h e = (e, primitives)
+  before_text binary_operator.Addition Null t v h e = (e, primitives)
+  before_text binary_operator.Addition (Boolean b) t v h e = (e, primitives)
+  before_text binary_operator.Addition (Number n) t v h e = (e, primitives)
+  before_text binary_operator.Addition (String s) t v h e = absurd (false≢true h)
+  before_text binary_operator.Addition (Symbol n) t v h e = nothing e
+  before_text binary_operator.Addition (Object n f) t v h e = nothing e
+  before_text o u t v h e = nothing e
 
   values_are : (o : BinaryOperator) (x y v : Value) → calculated_binary o x y ≡ Some v → Operated o x y v
   values_are o (Number x) (Number y) v e = numbers_are o x y v e
   values_are o (String s) (String t) v e = texts_are o s t v e
+  values_are o (String s) Undefined v e = after_text o s Undefined v e
+  values_are o (String s) Null v e = after_text o s Null v e
+  values_are o (String s) (Boolean b) v e = after_text o s (Boolean b) v e
+  values_are o (String s) (Number n) v e = after_text o s (Number n) v e
+  values_are o (String s) (Symbol n) v e = after_text o s (Symbol n) v e
+  values_are o (String s) (Object n f) v e = after_text o s (Object n f) v e
+  values_are o Undefined (String t) v e = before_text o Undefined t v refl e
+  values_are o Null (String t) v e = before_text o Null t v refl e
+  values_are o (Boolean b) (String t) v e = before_text o (Boolean b) t v refl e
+  values_are o (Number n) (String t) v e = before_text o (Number n) t v refl e
+  values_are o (Symbol n) (String t) v e = before_text o (Symbol n) t v refl e
+  values_are o (Object n f) (String t) v e = before_text o (Object n f) t v refl e
   values_are o x y v e = nothing e
 
 module _ (o : BinaryOperator) (a b : Tree) (v : Value) where

@@ -1,5 +1,5 @@
 -- The constant of an operator over literals, as far as it is calculated.
-use Rattle.std.specs.Prelude.{◌≡◌, ℕ, ℤ, Bool, true, not, List, ◌++◌, Option, Some, None, ◌+ℤ◌, ◌-ℤ◌}
+use Rattle.std.specs.Prelude.{◌≡◌, ℕ, ℤ, pos, true, false, not, List, ◌++◌, Option, Some, None}
 use Rattle.mini_model.specs.declared.operator.BinaryOperator.{BinaryOperator}
 use Rattle.mini_model.specs.declared.operator.BinaryOperator.TheVariants as binary
 use Rattle.mini_model.specs.declared.operator.UnaryOperator.{UnaryOperator}
@@ -10,8 +10,9 @@ use Rattle.mini_model.specs.Tree.{Tree, shape_of}
 use Rattle.mini_model.specs.Weight.{same_text}
 use Rattle.mini_node.specs.Children.{part}
 use Rattle.mini_node.specs.Kinds.{unary_operator, binary_operator}
-use Rattle.mini_laws.specs.Value.{Value, Undefined, Null, Boolean, Number, String, truth}
-use Rattle.mini_laws.specs.Operators.{safe_number, product, is_less, same_number}
+use Rattle.mini_laws.specs.Value.{Value, Undefined, Null, Boolean, Number, String, choose, truth}
+use Rattle.mini_laws.specs.Conversion.{Made, makes, is_safe, to_text}
+use Rattle.mini_laws.specs.Operators.{of_numbers, of_number, joined, is_text_less, same_number, type_text}
 use Rattle.mini_terms.specs.Const.{made, const}
 use Rattle.mini_terms.specs.Folds.{is_effect_free}
 use Rattle.mini_terms.specs.Plain.{lit}
@@ -41,38 +42,61 @@ literal_value t = literal_by (unary_operator t) t
 
 -- Operators
 
+-- a number, a boolean or null as a number; no text is read as one
+abbrev pub as_number : Value → Option ℤ
+as_number Null = Some (pos 0)
+as_number (Boolean true) = Some (pos 1)
+as_number (Boolean false) = Some (pos 0)
+as_number (Number n) = Some n
+as_number v = None
+
+-- `+`, `-` and `~` of a safe number
+abbrev pub over_number : UnaryOperator → Option ℤ → Option Value
+over_number o (Some n) = choose (is_safe n) (made (of_number o n)) None
+over_number o None = None
+
 abbrev pub calculated_unary : UnaryOperator → Value → Option Value
 calculated_unary unary.Void v = Some Undefined
 calculated_unary unary.LogicalNot v = Some (Boolean (not (truth v)))
-calculated_unary o v = None
+calculated_unary unary.Typeof v = Some (String (type_text v))
+calculated_unary o v = over_number o (as_number v)
 
 abbrev pub calculated_numbers : BinaryOperator → ℤ → ℤ → Option Value
-calculated_numbers binary.Addition m n = made (safe_number (m +ℤ n))
-calculated_numbers binary.Subtraction m n = made (safe_number (m -ℤ n))
-calculated_numbers binary.Multiplication m n = made (product m n)
-calculated_numbers binary.LessThan m n = Some (Boolean (is_less m n))
-calculated_numbers binary.GreaterThan m n = Some (Boolean (is_less n m))
-calculated_numbers binary.LessEqualThan m n = Some (Boolean (not (is_less n m)))
-calculated_numbers binary.GreaterEqualThan m n = Some (Boolean (not (is_less m n)))
 calculated_numbers binary.Equality m n = Some (Boolean (same_number m n))
 calculated_numbers binary.StrictEquality m n = Some (Boolean (same_number m n))
 calculated_numbers binary.Inequality m n = Some (Boolean (not (same_number m n)))
 calculated_numbers binary.StrictInequality m n = Some (Boolean (not (same_number m n)))
-calculated_numbers o m n = None
+calculated_numbers o m n = made (of_numbers o m n)
+
+abbrev pub compared_texts : BinaryOperator → List ℕ → List ℕ → Option Value
+compared_texts binary.LessThan s t = Some (Boolean (is_text_less s t))
+compared_texts binary.GreaterThan s t = Some (Boolean (is_text_less t s))
+compared_texts binary.LessEqualThan s t = Some (Boolean (not (is_text_less t s)))
+compared_texts binary.GreaterEqualThan s t = Some (Boolean (not (is_text_less s t)))
+compared_texts binary.Equality s t = Some (Boolean (same_text s t))
+compared_texts binary.StrictEquality s t = Some (Boolean (same_text s t))
+compared_texts binary.Inequality s t = Some (Boolean (not (same_text s t)))
+compared_texts binary.StrictInequality s t = Some (Boolean (not (same_text s t)))
+compared_texts o s t = None
 
 abbrev pub calculated_texts : BinaryOperator → List ℕ → List ℕ → Option Value
 calculated_texts binary.Addition s t = Some (String (s ++ t))
-calculated_texts binary.Equality s t = Some (Boolean (same_text s t))
-calculated_texts binary.StrictEquality s t = Some (Boolean (same_text s t))
-calculated_texts binary.Inequality s t = Some (Boolean (not (same_text s t)))
-calculated_texts binary.StrictInequality s t = Some (Boolean (not (same_text s t)))
-calculated_texts o s t = None
+calculated_texts o s t = compared_texts o s t
 
--- of two numbers or two texts
+abbrev pub added : BinaryOperator → Made (List ℕ) → Made (List ℕ) → Option Value
+added binary.Addition s t = made (joined s t)
+added o s t = None
+
+-- `+` with a text makes a text of the other side
+abbrev pub calculated_mixed : BinaryOperator → Value → Value → Option Value
+calculated_mixed o (String s) u = added o (makes s) (to_text u)
+calculated_mixed o v (String t) = added o (to_text v) (makes t)
+calculated_mixed o v u = None
+
 abbrev pub calculated_binary : BinaryOperator → Value → Value → Option Value
 calculated_binary o (Number m) (Number n) = calculated_numbers o m n
 calculated_binary o (String s) (String t) = calculated_texts o s t
-calculated_binary o v u = None
+calculated_binary o v u = calculated_mixed o v u
 
 -- All
 

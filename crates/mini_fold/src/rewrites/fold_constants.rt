@@ -1,28 +1,42 @@
 //! Rows 1 and 3: a unary or binary expression over literals becomes the literal of its value. `60 * 60` becomes `3600`, and
-//! `"a" + "b"` becomes `"ab"`, where that is lighter in the seat.
+//! `"a" + 1` becomes `"a1"`, where that is lighter in the seat.
 
 ghost use Rattle.std.specs.Prelude.{◌≡◌, is_some, unwrap_or, OnOk, IfOk};
 ghost use Rattle.mini_tree.specs.Rule.{Applied};
 ghost use Rattle.mini_terms.specs.Calculated.{calculated};
-ghost use Rattle.mini_fold.specs.FoldConstants.{replaces as does_it_replace, literal_of, written, Gives, Rests};
+ghost use Rattle.mini_fold.specs.FoldConstants.{is_lighter as is_it_lighter, replaces as does_it_replace, literal_of, written, Gives, Rests};
+ghost use Rattle.mini_rows.specs.Constants.{least_gain as gain};
 ghost use Rattle.mini_fold.specs.Lighter.{constants_lighter};
 
 use crate::literals::evaluate_value;
 use crate::values::value_to_expr;
-use mini_model::{OutOfMemory, Position, Seat};
+use mini_model::{OutOfMemory, Position, Seat, Shape};
 use mini_node::Node;
 use mini_terms::{leaves_nothing, suits};
-use mini_tree::expr_weight;
-use mini_tree::{Context, Rule};
+use mini_tree::{Context, Rule, expr_weight};
 use std::alloc::Global;
+
+// How much less a literal is to weigh.
+fn least_gain(literal: &Node) -> u64
+    ensures { result ≡ gain literal.now }
+{
+    match literal.shape() {
+        Shape::NumericLiteral(0) => 2,
+        _ => 1,
+    }
+}
+
+fn is_lighter(literal: &Node, node: &Node, seat: Seat) -> bool
+    ensures { result ≡ is_it_lighter seat literal.now node.now }
+{
+    least_gain(literal) <= expr_weight(node, seat).saturating_sub(expr_weight(literal, seat))
+}
 
 // Whether a literal may stand in an expression's place, and is lighter.
 fn replaces(node: &Node, literal: &Node, seat: Seat) -> bool
     ensures { result ≡ does_it_replace seat node.now literal.now }
 {
-    leaves_nothing(node)
-        && suits(seat, literal)
-        && expr_weight(literal, seat) < expr_weight(node, seat)
+    leaves_nothing(node) && suits(seat, literal) && is_lighter(literal, node, seat)
 }
 
 // The literal of an expression's value.

@@ -24,8 +24,7 @@ use mini_node::{
 use mini_terms::{
     Kind, goes_on, has_no_effect, is_plain_part, kind_of, leaves_nothing, suits, weighs,
 };
-use mini_tree::seats;
-use mini_tree::{Context, Rule};
+use mini_tree::{Context, Rule, seats};
 use std::alloc::Global;
 
 // Whether the operands tell the truth of the whole: of `&&` and `||`.
