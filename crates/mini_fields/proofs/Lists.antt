@@ -1,5 +1,5 @@
 -- Lists of items.
-use Rattle.std.proofs.Common.{◌≡◌, ℕ, ◌≤◌, length, [], ◌∷◌, List, Bool, false, refl, arith}
+use Rattle.std.proofs.Common.{◌≡◌, ◌≤◌, length, [], ◌∷◌, List, Bool, false, refl, arith}
 use Rattle.serde_json.specs.View.{items_view}
 use Rattle.serde_json.specs.declared.value.Value.{Value}
 use Rattle.mini_accept.specs.Fields.{no_item, item_count}

@@ -1,7 +1,7 @@
 -- What is known of a node whose type is known, or isn't in the kind.
 use Rattle.std.proofs.Common.{◌≡◌, ℕ, List, [], ◌∷◌, Bool, true, false, refl, sym, ap, ap₂, ◌∙◌, Option, Some, None}
-use Rattle.std.specs.Prelude.{◌&&◌, ◌||◌, not, is_some, codes, option_and_then, option_map, unwrap_or, if◌then◌else◌}
-use Rattle.serde_json.specs.Data.{Data, string, object, member, no_members}
+use Rattle.std.specs.Prelude.{◌&&◌, ◌||◌, not, is_some, codes, option_and_then, option_map, unwrap_or}
+use Rattle.serde_json.specs.Data.{Data}
 use Rattle.mini_accept.specs.WellShaped.{is_text}
 use Rattle.mini_accept.specs.declared.kind.Kind.TheVariants as kind
 use Rattle.mini_accept.specs.declared.kind.Kind.{Kind}
@@ -10,7 +10,7 @@ use Rattle.mini_accept.specs.Places.{Place, at, a_directive, a_directive_text, a
 use Rattle.mini_accept.specs.Fields.{text_at, kind_of, has_type, has_one_of, is_one_of, is_bare, is_text_by, word_in, has_text, is_given}
 use Rattle.mini_accept.specs.Literals.{literal, is_big_int_shape, is_big_int_literal, is_unread_literal}
 use Rattle.mini_accept.specs.Standing.{may_stand, has_unread_type, has_unread_field, has_true, unread_types, begins_with, is_key, is_nested, is_unread, is_unread_form, is_unread_there}
-use Rattle.mini_accept.proofs.Types.{type_name, kind_typed, typed_has, typed_one, text_same, text_is, some_same}
+use Rattle.mini_accept.proofs.Types.{type_name, kind_typed, typed_has, typed_one}
 use Rattle.mini_accept.proofs.Identifiers.{text_symmetric}
 use Rattle.mini_accept.proofs.Marks.{typed_by}
 use Rattle.mini_fields.specs.Unread.{is_for_text, is_literal, is_function_declaration, has_unread_field_of, is_unread_itself, is_unread_at, is_unread_of}
@@ -105,7 +105,7 @@ unread_by strict p k d is = ap₂ ◌||◌ (form_by p k d is) (there_by strict p
 
 -- ---- types that aren't the table's
 
-if_not : (b : Bool) → (b ≡ true → ⊥) → b ≡ false
+pub if_not : (b : Bool) → (b ≡ true → ⊥) → b ≡ false
 if_not true h = absurd (h refl)
 if_not false h = refl
 

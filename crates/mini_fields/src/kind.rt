@@ -4,8 +4,7 @@ ghost use Rattle.std.specs.Prelude.{◌≡◌};
 ghost use Rattle.serde_json.specs.View.{view};
 ghost use Rattle.mini_accept.specs.Fields.{kind_of};
 
-use crate::look::text_at;
-use crate::words::word_in;
+use crate::words::word_at;
 use mini_accept::Kind;
 use serde_json::Value;
 
@@ -86,5 +85,5 @@ const TYPES: [(&str, Kind); 69] = [
 pub fn kind_of(value: &Value) -> Option<Kind>
     ensures { result ≡ kind_of (view value.now) }
 {
-    word_in(&TYPES, text_at("type", value)?)
+    word_at(&TYPES, "type", value)
 }

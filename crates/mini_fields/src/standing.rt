@@ -1,12 +1,11 @@
 // Which nodes may stand in a place, and which forms aren't read.
 
-ghost use Rattle.std.specs.Prelude.{◌≡◌, Bool, None, Some, map};
+ghost use Rattle.std.specs.Prelude.{◌≡◌, Bool, None, Some, map, option_map};
 ghost use Rattle.serde_json.specs.View.{view, items_view};
 ghost use Rattle.mini_accept.specs.Fields.{is_one_of, has_one_of, kind_of};
-ghost use Rattle.mini_accept.specs.Standing.{statement_types, is_expression, is_identifier, is_block, is_variable, is_pattern, is_default, has_true, is_member_target, is_method, is_head_by, is_head, is_piece, is_statement_in, stands_as, may_stand, begins_with, has_unread_type, is_nested, is_key, is_unread, is_misplaced};
-ghost use Rattle.mini_fields.specs.declared.place.Class.TheVariants as class;
+ghost use Rattle.mini_accept.specs.Standing.{is_identifier, is_variable, is_default, has_true, is_member_target, is_method, is_head_by, is_head, is_piece, stands_as, may_stand, begins_with, has_unread_type, is_nested, is_key, is_unread, is_misplaced};
 ghost use Rattle.mini_fields.specs.Unread.{is_foreign, is_for_text, is_literal, is_function_declaration, has_unread_field_of, is_unread_itself, is_unread_at, is_unread_of};
-ghost use Rattle.mini_fields.specs.Stands.{is_expression_kind, is_statement_kind, is_pattern_kind, is_identifier_kind, is_block_kind};
+ghost use Rattle.mini_fields.specs.Stands.{is_expression_kind, is_statement_kind, is_pattern_kind, is_identifier_kind, is_block_kind, is_statement_of, is_loop_left, asked_type, stands_otherwise, stands_in_list};
 ghost use Rattle.mini_fields.specs.Views.{depth_of, class_of, place_of, letters_of};
 
 use crate::kind::kind_of;
@@ -18,61 +17,25 @@ use serde_json::Value;
 
 // ---- types that stand in like places
 
-const EXPRESSION_TYPES: [&str; 24] = [
-    "Identifier",
-    "Literal",
-    "ThisExpression",
-    "ArrayExpression",
-    "ObjectExpression",
-    "FunctionExpression",
-    "ArrowFunctionExpression",
-    "ClassExpression",
-    "UnaryExpression",
-    "UpdateExpression",
-    "BinaryExpression",
-    "LogicalExpression",
-    "AssignmentExpression",
-    "ConditionalExpression",
-    "SequenceExpression",
-    "CallExpression",
-    "NewExpression",
-    "MemberExpression",
-    "ChainExpression",
-    "YieldExpression",
-    "TemplateLiteral",
-    "TaggedTemplateExpression",
-    "MetaProperty",
-    "ImportExpression",
-];
-
 const DECLARATION_TYPES: [&str; 3] = [
     "VariableDeclaration",
     "FunctionDeclaration",
     "ClassDeclaration",
 ];
 
-const STATEMENT_TYPES: [&str; 20] = [
-    "ExpressionStatement",
-    "EmptyStatement",
-    "DebuggerStatement",
-    "BlockStatement",
-    "LabeledStatement",
-    "BreakStatement",
-    "ContinueStatement",
-    "ReturnStatement",
-    "ThrowStatement",
-    "IfStatement",
-    "SwitchStatement",
-    "TryStatement",
-    "WhileStatement",
-    "DoWhileStatement",
-    "ForStatement",
-    "ForInStatement",
-    "ForOfStatement",
-    "VariableDeclaration",
-    "FunctionDeclaration",
-    "ClassDeclaration",
+const MEMBER_TYPES: [&str; 3] = ["MethodDefinition", "PropertyDefinition", "StaticBlock"];
+
+const CHAIN_TYPES: [&str; 2] = ["CallExpression", "MemberExpression"];
+
+const PROPERTY_TYPES: [&str; 2] = ["Property", "SpreadElement"];
+
+const IMPORT_TYPES: [&str; 3] = [
+    "ImportSpecifier",
+    "ImportDefaultSpecifier",
+    "ImportNamespaceSpecifier",
 ];
+
+const EXPORT_TYPES: [&str; 2] = ["FunctionDeclaration", "ClassDeclaration"];
 
 const MODULE_TYPES: [&str; 4] = [
     "ImportDeclaration",
@@ -85,12 +48,10 @@ const MODULE_TYPES: [&str; 4] = [
 fn is_one_of(words: &[&str], text: &str) -> bool
     ensures { result ≡ is_one_of (map (λ w. w.now) words.now) text.now }
 {
-    for word in words {
-        if text == *word {
-            return true;
-        }
+    match words {
+        [] => false,
+        [word, rest @ ..] => text == *word || is_one_of(rest, text),
     }
-    false
 }
 
 /// Whether the value is a node of one of these types.
@@ -103,13 +64,6 @@ pub fn has_one_of(types: &[&str], value: &Value) -> bool
     }
 }
 
-/// Whether the value is an expression.
-pub fn is_expression(value: &Value) -> bool
-    ensures { result ≡ is_expression (view value.now) }
-{
-    has_one_of(&EXPRESSION_TYPES, value)
-}
-
 /// Whether the value is an identifier.
 pub fn is_identifier(value: &Value) -> bool
     ensures { result ≡ is_identifier (view value.now) }
@@ -117,25 +71,11 @@ pub fn is_identifier(value: &Value) -> bool
     has_type("Identifier", value)
 }
 
-// Whether the value is a block.
-fn is_block(value: &Value) -> bool
-    ensures { result ≡ is_block (view value.now) }
-{
-    has_type("BlockStatement", value)
-}
-
 // Whether the value is a declaration of variables.
 fn is_variable(value: &Value) -> bool
     ensures { result ≡ is_variable (view value.now) }
 {
     has_type("VariableDeclaration", value)
-}
-
-// Whether the value is a name or a pattern without a default.
-fn is_pattern(value: &Value) -> bool
-    ensures { result ≡ is_pattern (view value.now) }
-{
-    has_one_of(&["Identifier", "ObjectPattern", "ArrayPattern"], value)
 }
 
 // Whether the value is a pattern with a default.
@@ -208,143 +148,6 @@ fn is_piece(last: bool, tail: Option<bool>) -> bool
 }
 
 // ---- places
-
-// Whether the value is a statement that may stand in such a body.
-fn is_statement_in(depth: Depth, value: &Value) -> bool
-    ensures { result ≡ is_statement_in (depth_of depth) (view value.now) }
-{
-    match depth {
-        Depth::InModule => has_one_of(&STATEMENT_TYPES, value) || has_one_of(&MODULE_TYPES, value),
-        Depth::InBody => has_one_of(&STATEMENT_TYPES, value),
-        Depth::Nested => has_one_of(&STATEMENT_TYPES, value),
-    }
-}
-
-// Whether it is the head of a `for..in` (true) or `for..of`.
-fn is_loop_left(enumerates: bool, value: &Value) -> bool
-    ensures { result ≡ stands_as (class_of (class.LoopLeft enumerates)) (view value.now) }
-{
-    if is_variable(value) {
-        is_head(enumerates, value)
-    } else {
-        is_pattern(value) || is_member_target(value)
-    }
-}
-
-// Whether the value is a member of a class.
-fn is_member_of_class(value: &Value) -> bool
-    ensures { result ≡ stands_as (class_of class.ClassMember) (view value.now) }
-{
-    has_one_of(
-        &["MethodDefinition", "PropertyDefinition", "StaticBlock"],
-        value,
-    )
-}
-
-// Whether the value is a specifier of an import.
-fn is_import(value: &Value) -> bool
-    ensures { result ≡ stands_as (class_of class.Import) (view value.now) }
-{
-    has_one_of(
-        &[
-            "ImportSpecifier",
-            "ImportDefaultSpecifier",
-            "ImportNamespaceSpecifier",
-        ],
-        value,
-    )
-}
-
-// Whether the value may be exported by default.
-fn is_default_export(value: &Value) -> bool
-    ensures { result ≡ stands_as (class_of class.DefaultExport) (view value.now) }
-{
-    is_expression(value) || has_one_of(&["FunctionDeclaration", "ClassDeclaration"], value)
-}
-
-// The letters of a word of a meta property.
-fn letters_of(word: MetaWord) -> &'static str
-    ensures { result.now ≡ letters_of word }
-{
-    match word {
-        MetaWord::New => "new",
-        MetaWord::Target => "target",
-        MetaWord::Import => "import",
-        MetaWord::Meta => "meta",
-    }
-}
-
-// Whether the value is this word of a meta property.
-fn is_word(word: MetaWord, value: &Value) -> bool
-    ensures { result ≡ stands_as (class_of (class.Word word)) (view value.now) }
-{
-    is_identifier(value) && has_text("name", letters_of(word), value)
-}
-
-/// Whether the value may stand where this class is asked for.
-pub fn stands_as(class: Class, value: &Value) -> bool
-    ensures { result ≡ stands_as (class_of class) (view value.now) }
-{
-    match class {
-        Class::Program => has_type("Program", value),
-        Class::Statement(depth) => is_statement_in(depth, value),
-        Class::Block | Class::FunctionBody => is_block(value),
-        Class::Case => has_type("SwitchCase", value),
-        Class::Catch => has_type("CatchClause", value),
-        Class::Init => is_variable(value) || is_expression(value),
-        Class::LoopLeft(enumerates) => is_loop_left(enumerates, value),
-        Class::Declarator => has_type("VariableDeclarator", value),
-        Class::Pattern | Class::ElementTarget => is_pattern(value),
-        Class::PatternElement | Class::Parameter | Class::TargetElement => {
-            is_pattern(value) || is_default(value)
-        }
-        Class::PatternProperty | Class::TargetProperty => has_type("Property", value),
-        Class::PatternRest | Class::TargetRest => has_type("RestElement", value),
-        Class::Binding | Class::Label | Class::TargetName => is_identifier(value),
-        Class::PrivateName => has_type("PrivateIdentifier", value),
-        Class::ArrowBody => is_block(value) || is_expression(value),
-        Class::ClassBody => has_type("ClassBody", value),
-        Class::ClassMember => is_member_of_class(value),
-        Class::Method => is_method(value),
-        Class::Expression | Class::Link | Class::Key(true) => is_expression(value),
-        Class::Chain => has_one_of(&["CallExpression", "MemberExpression"], value),
-        Class::Argument => has_type("SpreadElement", value) || is_expression(value),
-        Class::InnerArgument => has_type("SpreadElement", value),
-        Class::Super => has_type("Super", value),
-        Class::ObjectProperty => has_one_of(&["Property", "SpreadElement"], value),
-        Class::Key(false) | Class::InnerKey => is_identifier(value) || is_key_literal(value),
-        Class::PrivateOrKey => {
-            is_identifier(value) || (is_key_literal(value) || has_type("PrivateIdentifier", value))
-        }
-        Class::TaggedTemplate => has_type("TemplateLiteral", value),
-        Class::Target => is_pattern(value) || is_member_target(value),
-        Class::SimpleTarget => is_identifier(value) || is_member_target(value),
-        Class::MemberTarget => is_member_target(value),
-        Class::NamedTarget => is_identifier(value) || is_default(value),
-        Class::Import => is_import(value),
-        Class::ModuleName => is_identifier(value) || is_string_literal(value),
-        Class::String => is_string_literal(value),
-        Class::ExportedDeclaration => has_one_of(&DECLARATION_TYPES, value),
-        Class::DefaultExport => is_default_export(value),
-        Class::Word(word) => is_word(word, value),
-    }
-}
-
-/// Whether the type of the node, and where the place asks for one its form, is one that stands there.
-pub fn may_stand(place: Place, value: &Value) -> bool
-    ensures { result ≡ may_stand (place_of place) (view value.now) }
-{
-    match place {
-        Place::At(class) => stands_as(class, value),
-        Place::Directive => has_type("ExpressionStatement", value),
-        Place::DirectiveText => has_type("Literal", value) && text_at("value", value).is_some(),
-        Place::Quasi(_, last) => {
-            has_type("TemplateElement", value) && is_piece(last, flag_at("tail", value))
-        }
-        Place::Exported(_) => has_type("ExportSpecifier", value),
-        Place::LocalName => is_identifier(value),
-    }
-}
 
 // Whether nodes of the type are expressions.
 fn is_expression_kind(kind: Kind) -> bool
@@ -438,81 +241,118 @@ fn is_block_kind(kind: Kind) -> bool
     }
 }
 
-// Whether a value of the type is an expression.
-fn is_expression_of(kind: Kind, value: &Value) -> bool
-    requires { kind_of (view value.now) ≡ Some kind }
-    ensures { result ≡ is_expression (view value.now) }
-{
-    is_expression_kind(kind)
-}
-
-// Whether a value of the type is a statement that may stand in any body.
-fn is_statement_of(kind: Kind, value: &Value) -> bool
-    requires { kind_of (view value.now) ≡ Some kind }
-    ensures { result ≡ has_one_of statement_types (view value.now) }
-{
-    is_statement_kind(kind)
-}
-
-// Whether a value of the type is a name or a pattern without a default.
-fn is_pattern_of(kind: Kind, value: &Value) -> bool
-    requires { kind_of (view value.now) ≡ Some kind }
-    ensures { result ≡ is_pattern (view value.now) }
-{
-    is_pattern_kind(kind)
-}
-
-// Whether a value of the type is an identifier.
-fn is_identifier_of(kind: Kind, value: &Value) -> bool
-    requires { kind_of (view value.now) ≡ Some kind }
-    ensures { result ≡ is_identifier (view value.now) }
-{
-    is_identifier_kind(kind)
-}
-
-// Whether a value of the type is a block.
-fn is_block_of(kind: Kind, value: &Value) -> bool
-    requires { kind_of (view value.now) ≡ Some kind }
-    ensures { result ≡ is_block (view value.now) }
-{
-    is_block_kind(kind)
-}
-
-// Whether a value of the type is a statement that may stand in such a body.
-fn is_statement_of_in(depth: Depth, kind: Kind, value: &Value) -> bool
-    requires { kind_of (view value.now) ≡ Some kind }
-    ensures { result ≡ is_statement_in (depth_of depth) (view value.now) }
+// Whether a node of the type is a statement that may stand in such a body.
+fn is_statement_in(depth: Depth, kind: Kind, value: &Value) -> bool
+    ensures { result ≡ is_statement_of (depth_of depth) kind (view value.now) }
 {
     match depth {
-        Depth::InModule => is_statement_of(kind, value) || has_one_of(&MODULE_TYPES, value),
-        Depth::InBody => is_statement_of(kind, value),
-        Depth::Nested => is_statement_of(kind, value),
+        Depth::InModule => is_statement_kind(kind) || has_one_of(&MODULE_TYPES, value),
+        Depth::InBody | Depth::Nested => is_statement_kind(kind),
     }
 }
 
-// Whether a value of the type may stand where this class is asked for: most classes ask for the type alone.
+// Whether it is the head of a `for..in` (true) or `for..of`.
+fn is_loop_left(enumerates: bool, kind: Kind, value: &Value) -> bool
+    ensures { result ≡ is_loop_left enumerates kind (view value.now) }
+{
+    if is_variable(value) {
+        is_head(enumerates, value)
+    } else {
+        is_pattern_kind(kind) || is_member_target(value)
+    }
+}
+
+// The letters of a word of a meta property.
+fn letters_of(word: MetaWord) -> &'static str
+    ensures { result.now ≡ letters_of word }
+{
+    match word {
+        MetaWord::New => "new",
+        MetaWord::Target => "target",
+        MetaWord::Import => "import",
+        MetaWord::Meta => "meta",
+    }
+}
+
+// The type that the class asks for, where it asks for one and for nothing else.
+fn asked_type(class: Class) -> Option<&'static str>
+    ensures { option_map (λ s. s.now) result ≡ asked_type class }
+{
+    match class {
+        Class::Program => Some("Program"),
+        Class::Case => Some("SwitchCase"),
+        Class::Catch => Some("CatchClause"),
+        Class::Declarator => Some("VariableDeclarator"),
+        Class::PatternProperty | Class::TargetProperty => Some("Property"),
+        Class::PatternRest | Class::TargetRest => Some("RestElement"),
+        Class::PrivateName => Some("PrivateIdentifier"),
+        Class::ClassBody => Some("ClassBody"),
+        Class::InnerArgument => Some("SpreadElement"),
+        Class::Super => Some("Super"),
+        Class::TaggedTemplate => Some("TemplateLiteral"),
+        _ => None,
+    }
+}
+
+// Whether a node of the type may stand where another class is asked for: most ask for the type alone.
+fn stands_otherwise(class: Class, kind: Kind, value: &Value) -> bool
+    ensures { result ≡ stands_otherwise class kind (view value.now) }
+{
+    match class {
+        Class::Expression | Class::Link | Class::Key(true) => is_expression_kind(kind),
+        Class::Statement(depth) => is_statement_in(depth, kind, value),
+        Class::Block | Class::FunctionBody => is_block_kind(kind),
+        Class::ArrowBody => is_block_kind(kind) || is_expression_kind(kind),
+        Class::Init => is_variable(value) || is_expression_kind(kind),
+        Class::LoopLeft(enumerates) => is_loop_left(enumerates, kind, value),
+        Class::Argument => has_type("SpreadElement", value) || is_expression_kind(kind),
+        Class::Pattern | Class::ElementTarget => is_pattern_kind(kind),
+        Class::PatternElement | Class::Parameter | Class::TargetElement => {
+            is_pattern_kind(kind) || is_default(value)
+        }
+        Class::Binding | Class::Label | Class::TargetName => is_identifier_kind(kind),
+        Class::Key(false) | Class::InnerKey => is_identifier_kind(kind) || is_key_literal(value),
+        Class::PrivateOrKey => {
+            is_identifier_kind(kind)
+                || (is_key_literal(value) || has_type("PrivateIdentifier", value))
+        }
+        Class::Target => is_pattern_kind(kind) || is_member_target(value),
+        Class::SimpleTarget => is_identifier_kind(kind) || is_member_target(value),
+        Class::MemberTarget => is_member_target(value),
+        Class::NamedTarget => is_identifier_kind(kind) || is_default(value),
+        Class::Method => is_method(value),
+        Class::ModuleName => is_identifier_kind(kind) || is_string_literal(value),
+        Class::String => is_string_literal(value),
+        Class::Word(word) => {
+            is_identifier_kind(kind) && has_text("name", letters_of(word), value)
+        }
+        _ => stands_in_list(class, kind, value),
+    }
+}
+
+// The same of the classes that ask for one of some types.
+fn stands_in_list(class: Class, kind: Kind, value: &Value) -> bool
+    ensures { result ≡ stands_in_list class kind (view value.now) }
+{
+    match class {
+        Class::ClassMember => has_one_of(&MEMBER_TYPES, value),
+        Class::Chain => has_one_of(&CHAIN_TYPES, value),
+        Class::ObjectProperty => has_one_of(&PROPERTY_TYPES, value),
+        Class::Import => has_one_of(&IMPORT_TYPES, value),
+        Class::ExportedDeclaration => has_one_of(&DECLARATION_TYPES, value),
+        Class::DefaultExport => is_expression_kind(kind) || has_one_of(&EXPORT_TYPES, value),
+        _ => false,
+    }
+}
+
+// Whether a value of the type may stand where this class is asked for.
 fn stands_by(class: Class, kind: Kind, value: &Value) -> bool
     requires { kind_of (view value.now) ≡ Some kind }
     ensures { result ≡ stands_as (class_of class) (view value.now) }
 {
-    match class {
-        Class::Expression | Class::Link | Class::Key(true) => is_expression_of(kind, value),
-        Class::Statement(depth) => is_statement_of_in(depth, kind, value),
-        Class::Block | Class::FunctionBody => is_block_of(kind, value),
-        Class::ArrowBody => is_block_of(kind, value) || is_expression_of(kind, value),
-        Class::Init => is_variable(value) || is_expression_of(kind, value),
-        Class::Argument => has_type("SpreadElement", value) || is_expression_of(kind, value),
-        Class::Pattern | Class::ElementTarget => is_pattern_of(kind, value),
-        Class::PatternElement | Class::Parameter | Class::TargetElement => {
-            is_pattern_of(kind, value) || is_default(value)
-        }
-        Class::Binding | Class::Label | Class::TargetName => is_identifier_of(kind, value),
-        Class::Key(false) | Class::InnerKey => {
-            is_identifier_of(kind, value) || is_key_literal(value)
-        }
-        Class::Target => is_pattern_of(kind, value) || is_member_target(value),
-        Class::SimpleTarget => is_identifier_of(kind, value) || is_member_target(value),
-        _ => stands_as(class, value),
+    match asked_type(class) {
+        Some(name) => has_type(name, value),
+        None => stands_otherwise(class, kind, value),
     }
 }
 
@@ -523,7 +363,23 @@ pub fn may_stand_by(place: Place, kind: Kind, value: &Value) -> bool
 {
     match place {
         Place::At(class) => stands_by(class, kind, value),
-        _ => may_stand(place, value),
+        Place::Directive => has_type("ExpressionStatement", value),
+        Place::DirectiveText => has_type("Literal", value) && text_at("value", value).is_some(),
+        Place::Quasi(_, last) => {
+            has_type("TemplateElement", value) && is_piece(last, flag_at("tail", value))
+        }
+        Place::Exported(_) => has_type("ExportSpecifier", value),
+        Place::LocalName => is_identifier(value),
+    }
+}
+
+/// Whether the type of the node, and where the place asks for one its form, is one that stands there.
+pub fn may_stand(place: Place, value: &Value) -> bool
+    ensures { result ≡ may_stand (place_of place) (view value.now) }
+{
+    match kind_of(value) {
+        None => false,
+        Some(kind) => may_stand_by(place, kind, value),
     }
 }
 
@@ -579,7 +435,6 @@ fn is_for_text(place: Place) -> bool
 }
 
 /// Whether a node whose type isn't in the table is a form that isn't read.
-#[tactic(auto, using(crate::proofs::Typed::unknown_unread))]
 pub fn is_unread_unknown(place: Place, value: &Value) -> bool
     ensures { (strict : Bool) → kind_of (view value.now) ≡ None → result ≡ is_unread strict (place_of place) (view value.now) }
 {
@@ -678,7 +533,6 @@ fn is_unread_of(strict: bool, place: Place, kind: Kind, value: &Value) -> bool
 }
 
 /// Whether a node of the type is a form that isn't read, in strict or sloppy code.
-#[tactic(auto, using(crate::proofs::Typed::unread_by))]
 pub fn is_unread(strict: bool, place: Place, kind: Kind, value: &Value) -> bool
     ensures { kind_of (view value.now) ≡ Some kind → result ≡ is_unread strict (place_of place) (view value.now) }
 {
@@ -686,7 +540,6 @@ pub fn is_unread(strict: bool, place: Place, kind: Kind, value: &Value) -> bool
 }
 
 /// Whether the value is a defect of the node above: it is no object, or has another type than the place asks for.
-#[tactic(auto, using(crate::proofs::Typed::unknown_stands, crate::proofs::Stands::stands_placed, crate::proofs::Stands::stands_nowhere))]
 pub fn is_misplaced(strict: bool, place: Place, value: &Value) -> bool
     ensures { result ≡ is_misplaced strict (place_of place) (view value.now) }
 {

@@ -1,4 +1,4 @@
-use Rattle.std.proofs.Common.{length, ℕ}
+use Rattle.std.proofs.Common.{length}
 use Rattle.mini_fields.proofs.words.+word_in.Given as goal
 
 abbrev pub decreases-word_in : goal.decreases-word_in

@@ -1,8 +1,0 @@
-use Rattle.std.proofs.Common.{◌≡◌}
-use Rattle.serde_json.specs.View.{members_view}
-use Rattle.serde_json.specs.Data.{no_members}
-use Rattle.mini_writer.specs.Keys.{with_members}
-use Rattle.mini_writer.proofs.members.plain_object.Given as goal
-
-abbrev pub invariant-loop-member : goal.invariant-loop-member
-invariant-loop-member l = with_members l.member-iterator.rest.items (members_view l.object.entries) ≡ with_members l.fn.members.items no_members
