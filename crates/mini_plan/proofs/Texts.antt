@@ -1,5 +1,5 @@
 -- The texts of a piece of a template.
-use Rattle.std.proofs.Common.{◌≡◌, ℕ, List, [], Bool, true, false, refl, sym, Option, Some, None, IsUtf8}
+use Rattle.std.proofs.Common.{◌≡◌, ℕ, List, [], Bool, true, refl, Option, Some, None, IsUtf8}
 use Rattle.std.specs.Prelude.{codes, is_some, not}
 use Rattle.serde_json.specs.Data.{Data, null}
 use Rattle.serde_json.specs.Find.{get}

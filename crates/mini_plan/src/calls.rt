@@ -10,7 +10,7 @@ ghost use Rattle.mini_fields.specs.Views.{place_of};
 ghost use Rattle.mini_plan.specs.Views.{plan_of};
 
 use crate::plan::{Below, Items, Plan};
-use mini_fields::{Class, Place, child_has_type, flag_at, has_true, has_type, list_at};
+use mini_fields::{Class, Place, child_has_type, flag_at, has_list, has_true, has_type};
 use mini_model::Shape;
 use serde_json::Value;
 
@@ -46,7 +46,9 @@ pub fn call(place: Place, value: &Value) -> Option<Plan<'_>>
     ensures { option_map (plan_of (view value.now)) result ≡ expression.call (place_of place) (view value.now) }
 {
     let optional = flag_at("optional", value)?;
-    list_at("arguments", value)?;
+    if !has_list("arguments", value) {
+        return None;
+    }
     if child_has_type("callee", "Super", value) {
         if optional {
             None

@@ -1,14 +1,16 @@
 // The table: how a node of each type is read (ESTree, ES5 to ES2022).
 
-ghost use Rattle.std.specs.Prelude.{◌≡◌, option_map};
+ghost use Rattle.std.specs.Prelude.{◌≡◌, map, option_map};
+ghost use Rattle.serde_json.specs.Data.{Data};
 ghost use Rattle.serde_json.specs.View.{view};
 ghost use Rattle.mini_accept.specs.Entries.{entry};
 ghost use Rattle.mini_fields.specs.Views.{place_of};
-ghost use Rattle.mini_plan.specs.Views.{plan_of};
+ghost use Rattle.mini_plan.specs.Plains.{plain_shape, plain_children, has_its_list, other_entry};
+ghost use Rattle.mini_plan.specs.Views.{child_of, plan_of};
 
 use crate::plan::{Below, Items, Plan};
 use crate::{calls, expressions, functions, modules, patterns, statements, templates};
-use mini_fields::{Class, Depth, Kind, Place, list_at};
+use mini_fields::{Class, Depth, Kind, Place, has_list};
 use mini_model::Shape;
 use serde_json::Value;
 
@@ -121,89 +123,121 @@ const TAGGED_TEMPLATE_EXPRESSION: [Below; 2] = [
 
 const IMPORT_EXPRESSION: [Below; 1] = [Below::Inner("source", EXPRESSION)];
 
-/// How a node of this type is read; None where it isn't as ESTree has it.
-pub fn entry(kind: Kind, place: Place, value: &Value) -> Option<Plan<'_>>
-    ensures { option_map (plan_of (view value.now)) result ≡ entry kind (place_of place) (view value.now) }
+// The shape of a node of this type, where all nodes of the type have one, without a text.
+fn plain_shape(kind: Kind) -> Option<Shape>
+    ensures { result ≡ plain_shape kind }
 {
     match kind {
-        // statements
+        Kind::EmptyStatement => Some(Shape::EmptyStatement),
+        Kind::DebuggerStatement => Some(Shape::DebuggerStatement),
+        Kind::LabeledStatement => Some(Shape::LabeledStatement),
+        Kind::BreakStatement => Some(Shape::BreakStatement),
+        Kind::ContinueStatement => Some(Shape::ContinueStatement),
+        Kind::ReturnStatement => Some(Shape::ReturnStatement),
+        Kind::ThrowStatement => Some(Shape::ThrowStatement),
+        Kind::IfStatement => Some(Shape::IfStatement),
+        Kind::SwitchStatement => Some(Shape::SwitchStatement),
+        Kind::SwitchCase => Some(Shape::SwitchCase),
+        Kind::CatchClause => Some(Shape::CatchClause),
+        Kind::WhileStatement => Some(Shape::WhileStatement),
+        Kind::DoWhileStatement => Some(Shape::DoWhileStatement),
+        Kind::ForStatement => Some(Shape::ForStatement),
+        Kind::ForInStatement => Some(Shape::ForInStatement),
+        Kind::VariableDeclarator => Some(Shape::VariableDeclarator),
+        Kind::ClassBody => Some(Shape::ClassBody),
+        Kind::StaticBlock => Some(Shape::StaticBlock),
+        Kind::ImportSpecifier => Some(Shape::ImportSpecifier),
+        Kind::ImportDefaultSpecifier => Some(Shape::ImportDefaultSpecifier),
+        Kind::ImportNamespaceSpecifier => Some(Shape::ImportNamespaceSpecifier),
+        Kind::ExportDefaultDeclaration => Some(Shape::ExportDefaultDeclaration),
+        Kind::ThisExpression => Some(Shape::ThisExpression),
+        Kind::Super => Some(Shape::Super),
+        Kind::ArrayExpression => Some(Shape::ArrayExpression),
+        Kind::ObjectExpression => Some(Shape::ObjectExpression),
+        Kind::ConditionalExpression => Some(Shape::ConditionalExpression),
+        Kind::NewExpression => Some(Shape::NewExpression),
+        Kind::TaggedTemplateExpression => Some(Shape::TaggedTemplateExpression),
+        Kind::ImportExpression => Some(Shape::ImportExpression),
+        _ => None,
+    }
+}
+
+// Its children.
+fn plain_children(kind: Kind) -> &'static [Below]
+    ensures { (d : Data) → map (child_of d) result.now ≡ plain_children kind d }
+{
+    match kind {
+        Kind::LabeledStatement => &LABELED_STATEMENT,
+        Kind::BreakStatement => &BREAK_STATEMENT,
+        Kind::ContinueStatement => &CONTINUE_STATEMENT,
+        Kind::ReturnStatement => &RETURN_STATEMENT,
+        Kind::ThrowStatement => &THROW_STATEMENT,
+        Kind::IfStatement => &IF_STATEMENT,
+        Kind::SwitchStatement => &SWITCH_STATEMENT,
+        Kind::SwitchCase => &SWITCH_CASE,
+        Kind::CatchClause => &CATCH_CLAUSE,
+        Kind::WhileStatement => &WHILE_STATEMENT,
+        Kind::DoWhileStatement => &DO_WHILE_STATEMENT,
+        Kind::ForStatement => &FOR_STATEMENT,
+        Kind::ForInStatement => &FOR_IN_STATEMENT,
+        Kind::VariableDeclarator => &VARIABLE_DECLARATOR,
+        Kind::ClassBody => &CLASS_BODY,
+        Kind::StaticBlock => &STATIC_BLOCK,
+        Kind::ImportSpecifier => &IMPORT_SPECIFIER,
+        Kind::ImportDefaultSpecifier => &IMPORT_DEFAULT_SPECIFIER,
+        Kind::ImportNamespaceSpecifier => &IMPORT_NAMESPACE_SPECIFIER,
+        Kind::ExportDefaultDeclaration => &EXPORT_DEFAULT_DECLARATION,
+        Kind::ArrayExpression => &ARRAY_EXPRESSION,
+        Kind::ObjectExpression => &OBJECT_EXPRESSION,
+        Kind::ConditionalExpression => &CONDITIONAL_EXPRESSION,
+        Kind::NewExpression => &NEW_EXPRESSION,
+        Kind::TaggedTemplateExpression => &TAGGED_TEMPLATE_EXPRESSION,
+        Kind::ImportExpression => &IMPORT_EXPRESSION,
+        _ => &[],
+    }
+}
+
+// Whether the list that it has to have is there.
+fn has_its_list(kind: Kind, value: &Value) -> bool
+    ensures { result ≡ has_its_list kind (view value.now) }
+{
+    match kind {
+        Kind::SwitchStatement => has_list("cases", value),
+        Kind::SwitchCase => has_list("consequent", value),
+        Kind::ClassBody => has_list("body", value),
+        Kind::StaticBlock => has_list("body", value),
+        Kind::ArrayExpression => has_list("elements", value),
+        Kind::ObjectExpression => has_list("properties", value),
+        Kind::NewExpression => has_list("arguments", value),
+        _ => true,
+    }
+}
+
+// How a node of another type is read.
+fn other_entry(kind: Kind, place: Place, value: &Value) -> Option<Plan<'_>>
+    ensures { option_map (plan_of (view value.now)) result ≡ other_entry kind (place_of place) (view value.now) }
+{
+    match kind {
         Kind::Program => statements::program(value),
         Kind::ExpressionStatement => statements::expression_statement(place, value),
-        Kind::EmptyStatement => Plan::of(Shape::EmptyStatement, &[]),
-        Kind::DebuggerStatement => Plan::of(Shape::DebuggerStatement, &[]),
         Kind::BlockStatement => statements::block_in(place, value),
-        Kind::LabeledStatement => Plan::of(Shape::LabeledStatement, &LABELED_STATEMENT),
-        Kind::BreakStatement => Plan::of(Shape::BreakStatement, &BREAK_STATEMENT),
-        Kind::ContinueStatement => Plan::of(Shape::ContinueStatement, &CONTINUE_STATEMENT),
-        Kind::ReturnStatement => Plan::of(Shape::ReturnStatement, &RETURN_STATEMENT),
-        Kind::ThrowStatement => Plan::of(Shape::ThrowStatement, &THROW_STATEMENT),
-        Kind::IfStatement => Plan::of(Shape::IfStatement, &IF_STATEMENT),
-        Kind::SwitchStatement => {
-            list_at("cases", value)?;
-            Plan::of(Shape::SwitchStatement, &SWITCH_STATEMENT)
-        }
-        Kind::SwitchCase => {
-            list_at("consequent", value)?;
-            Plan::of(Shape::SwitchCase, &SWITCH_CASE)
-        }
         Kind::TryStatement => statements::try_statement(value),
-        Kind::CatchClause => Plan::of(Shape::CatchClause, &CATCH_CLAUSE),
-        Kind::WhileStatement => Plan::of(Shape::WhileStatement, &WHILE_STATEMENT),
-        Kind::DoWhileStatement => Plan::of(Shape::DoWhileStatement, &DO_WHILE_STATEMENT),
-        Kind::ForStatement => Plan::of(Shape::ForStatement, &FOR_STATEMENT),
-        Kind::ForInStatement => Plan::of(Shape::ForInStatement, &FOR_IN_STATEMENT),
         Kind::ForOfStatement => statements::for_of(value),
         Kind::VariableDeclaration => statements::variable(value),
-        Kind::VariableDeclarator => Plan::of(Shape::VariableDeclarator, &VARIABLE_DECLARATOR),
-        // functions and classes
         Kind::FunctionDeclaration => functions::function(true, place, value),
         Kind::FunctionExpression => functions::function(false, place, value),
         Kind::ArrowFunctionExpression => functions::arrow(value),
         Kind::ClassDeclaration => functions::class(true, place, value),
         Kind::ClassExpression => functions::class(false, place, value),
-        Kind::ClassBody => {
-            list_at("body", value)?;
-            Plan::of(Shape::ClassBody, &CLASS_BODY)
-        }
         Kind::MethodDefinition => functions::method_definition(value),
         Kind::PropertyDefinition => functions::property_definition(value),
-        Kind::StaticBlock => {
-            list_at("body", value)?;
-            Plan::of(Shape::StaticBlock, &STATIC_BLOCK)
-        }
-        // modules
         Kind::ImportDeclaration => modules::import(value),
-        Kind::ImportSpecifier => Plan::of(Shape::ImportSpecifier, &IMPORT_SPECIFIER),
-        Kind::ImportDefaultSpecifier => Plan::of(
-            Shape::ImportDefaultSpecifier,
-            &IMPORT_DEFAULT_SPECIFIER,
-        ),
-        Kind::ImportNamespaceSpecifier => Plan::of(
-            Shape::ImportNamespaceSpecifier,
-            &IMPORT_NAMESPACE_SPECIFIER,
-        ),
         Kind::ExportNamedDeclaration => modules::export_named(value),
         Kind::ExportSpecifier => modules::export_specifier(place, value),
-        Kind::ExportDefaultDeclaration => Plan::of(
-            Shape::ExportDefaultDeclaration,
-            &EXPORT_DEFAULT_DECLARATION,
-        ),
         Kind::ExportAllDeclaration => modules::export_all(value),
-        // names and literals
         Kind::Identifier => expressions::identifier(place, value),
         Kind::PrivateIdentifier => expressions::private_identifier(value),
         Kind::Literal => expressions::literal_node(place, value),
-        // expressions
-        Kind::ThisExpression => Plan::of(Shape::ThisExpression, &[]),
-        Kind::Super => Plan::of(Shape::Super, &[]),
-        Kind::ArrayExpression => {
-            list_at("elements", value)?;
-            Plan::of(Shape::ArrayExpression, &ARRAY_EXPRESSION)
-        }
-        Kind::ObjectExpression => {
-            list_at("properties", value)?;
-            Plan::of(Shape::ObjectExpression, &OBJECT_EXPRESSION)
-        }
         Kind::Property => patterns::property(place, value),
         Kind::SpreadElement => expressions::spread(place, value),
         Kind::UnaryExpression => expressions::unary(value),
@@ -211,31 +245,31 @@ pub fn entry(kind: Kind, place: Place, value: &Value) -> Option<Plan<'_>>
         Kind::BinaryExpression => expressions::binary(value),
         Kind::LogicalExpression => expressions::logical(value),
         Kind::AssignmentExpression => expressions::assignment(value),
-        Kind::ConditionalExpression => Plan::of(
-            Shape::ConditionalExpression,
-            &CONDITIONAL_EXPRESSION,
-        ),
         Kind::SequenceExpression => expressions::sequence(value),
         Kind::CallExpression => calls::call(place, value),
-        Kind::NewExpression => {
-            list_at("arguments", value)?;
-            Plan::of(Shape::NewExpression, &NEW_EXPRESSION)
-        }
         Kind::MemberExpression => calls::member_expression(place, value),
         Kind::ChainExpression => calls::chain(value),
         Kind::YieldExpression => expressions::yield_expression(value),
         Kind::TemplateLiteral => templates::template(place, value),
         Kind::TemplateElement => templates::quasi(place, value),
-        Kind::TaggedTemplateExpression => Plan::of(
-            Shape::TaggedTemplateExpression,
-            &TAGGED_TEMPLATE_EXPRESSION,
-        ),
         Kind::MetaProperty => expressions::meta_property(value),
-        Kind::ImportExpression => Plan::of(Shape::ImportExpression, &IMPORT_EXPRESSION),
-        // patterns
         Kind::ObjectPattern => patterns::object_pattern(place, value),
         Kind::ArrayPattern => patterns::array_pattern(place, value),
         Kind::RestElement => patterns::rest(place, value),
         Kind::AssignmentPattern => patterns::default(place, value),
+        _ => None,
+    }
+}
+
+/// How a node of this type is read; None where it isn't as ESTree has it.
+pub fn entry(kind: Kind, place: Place, value: &Value) -> Option<Plan<'_>>
+    ensures { option_map (plan_of (view value.now)) result ≡ entry kind (place_of place) (view value.now) }
+{
+    if !has_its_list(kind, value) {
+        return None;
+    }
+    match plain_shape(kind) {
+        None => other_entry(kind, place, value),
+        Some(shape) => Plan::of(shape, plain_children(kind)),
     }
 }

@@ -10,6 +10,7 @@ ghost use Rattle.mini_accept.specs.Expressions.{identifier_in, is_prefix, minus_
 ghost use Rattle.mini_accept.specs.Fields.{item_count};
 ghost use Rattle.mini_fields.specs.Literals.{negative_literal};
 ghost use Rattle.mini_fields.specs.Views.{place_of};
+ghost use Rattle.mini_plan.specs.Named.{is_declared, is_word};
 ghost use Rattle.mini_plan.specs.Views.{plan_of};
 
 use crate::plan::{Below, Head, Items, Plan};
@@ -25,13 +26,23 @@ const EXPRESSION: Class = Class::Expression;
 
 // ---- names and literals
 
-// What an identifier of this text is, by where it stands.
-fn identifier_in<'v>(place: Place, text: &'v str) -> Plan<'v>
-    ensures { (d : Data) → plan_of d result ≡ identifier_in (place_of place) (units_of text.now) }
+// Whether an identifier there declares its name.
+fn is_declared(place: Place) -> bool
+    ensures { result ≡ is_declared place }
 {
-    let head = match place {
-        Place::At(Class::Pattern | Class::PatternElement | Class::Parameter | Class::Binding) =>
-            Head::Binding(text),
+    match place {
+        Place::At(Class::Pattern | Class::PatternElement | Class::Parameter | Class::Binding) => {
+            true
+        }
+        _ => false,
+    }
+}
+
+// Whether the name of an identifier there names no variable.
+fn is_word(place: Place) -> bool
+    ensures { result ≡ is_word place }
+{
+    match place {
         Place::At(
             Class::Label
             | Class::Key(false)
@@ -39,12 +50,30 @@ fn identifier_in<'v>(place: Place, text: &'v str) -> Plan<'v>
             | Class::InnerKey
             | Class::ModuleName
             | Class::Word(_),
-        ) => Head::Word(text),
-        _ => Head::Reference(text),
-    };
-    Plan {
-        head,
-        children: &[],
+        ) => true,
+        _ => false,
+    }
+}
+
+// What an identifier of this text is, by where it stands.
+fn identifier_in<'v>(place: Place, text: &'v str) -> Plan<'v>
+    ensures { (d : Data) → plan_of d result ≡ identifier_in (place_of place) (units_of text.now) }
+{
+    if is_declared(place) {
+        Plan {
+            head: Head::Binding(text),
+            children: &[],
+        }
+    } else if is_word(place) {
+        Plan {
+            head: Head::Word(text),
+            children: &[],
+        }
+    } else {
+        Plan {
+            head: Head::Reference(text),
+            children: &[],
+        }
     }
 }
 

@@ -1,10 +1,10 @@
 // Functions and classes (ESTree; ECMA-262, "Functions and Classes").
 
-ghost use Rattle.std.specs.Prelude.{◌≡◌, option_map, codes};
+ghost use Rattle.std.specs.Prelude.{◌≡◌, ◌&&◌, is_some, option_map, codes};
 ghost use Rattle.serde_json.specs.View.{view};
 ghost use Rattle.mini_model.specs.Texts.{units_of};
 ghost use Rattle.mini_accept.specs.WellShaped.{is_text};
-ghost use Rattle.mini_accept.specs.Fields.{has_units};
+ghost use Rattle.mini_accept.specs.Fields.{has_units, list_at, flag_at};
 ghost use Rattle.mini_accept.specs.Functions as function;
 ghost use Rattle.mini_accept.specs.Functions.{is_default_export, is_named, names_constructor, is_constructor, has_its_kind};
 ghost use Rattle.mini_fields.specs.Views.{place_of};
@@ -12,8 +12,8 @@ ghost use Rattle.mini_plan.specs.Views.{plan_of};
 
 use crate::plan::{Below, Head, Items, Plan};
 use mini_fields::{
-    Class, Place, child_has_type, flag_at, has_flag, has_type, is_given, is_string_literal,
-    list_at, method_kind_at, text_at,
+    Class, Place, child_has_type, flag_at, has_flag, has_list, has_type, is_given,
+    is_string_literal, method_kind_at, text_at,
 };
 use mini_model::{MethodDefinitionKind, Shape};
 use serde_json::Value;
@@ -37,6 +37,13 @@ fn is_named(declaration: bool, place: Place, value: &Value) -> bool
     !declaration || is_default_export(place) || is_given("id", value)
 }
 
+// Whether the parameters are a list, and `async` is a flag.
+fn has_parameters(value: &Value) -> bool
+    ensures { result ≡ (is_some (list_at (codes "params") (view value.now)) && is_some (flag_at (codes "async") (view value.now))) }
+{
+    has_list("params", value) && has_flag("async", value)
+}
+
 const FUNCTION: [Below; 3] = [
     Below::Optional("id", Class::Binding),
     Below::Many("params", Items::Parameters),
@@ -48,8 +55,7 @@ pub fn function(declaration: bool, place: Place, value: &Value) -> Option<Plan<'
     ensures { option_map (plan_of (view value.now)) result ≡ function.function declaration (place_of place) (view value.now) }
 {
     let generator = flag_at("generator", value)?;
-    list_at("params", value)?;
-    if !has_flag("async", value) || !is_named(declaration, place, value) {
+    if !has_parameters(value) || !is_named(declaration, place, value) {
         return None;
     }
     Some(Plan {
@@ -68,9 +74,8 @@ pub fn arrow(value: &Value) -> Option<Plan<'_>>
     ensures { option_map (plan_of (view value.now)) result ≡ function.arrow (view value.now) }
 {
     let expression = flag_at("expression", value)?;
-    list_at("params", value)?;
     let is_block = child_has_type("body", "BlockStatement", value);
-    if !has_flag("async", value) || expression == is_block {
+    if !has_parameters(value) || expression == is_block {
         return None;
     }
     Some(Plan {

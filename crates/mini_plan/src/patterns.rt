@@ -14,7 +14,7 @@ ghost use Rattle.mini_plan.specs.Views.{child_of, plan_of};
 
 use crate::plan::{Below, Items, Plan};
 use crate::properties::{is_init, object_property, repeats_key};
-use mini_fields::{Class, Place, child_has_type, flag_at, list_at, property_kind_at};
+use mini_fields::{Class, Place, child_has_type, flag_at, has_list, property_kind_at};
 use mini_model::{PropertyKind, Shape};
 use serde_json::Value;
 
@@ -39,8 +39,9 @@ const TARGET_PROPERTIES: [Below; 1] = [Below::Many("properties", Items::TargetPr
 pub fn object_pattern(place: Place, value: &Value) -> Option<Plan<'_>>
     ensures { option_map (plan_of (view value.now)) result ≡ pattern.object_pattern (place_of place) (view value.now) }
 {
-    list_at("properties", value)?;
-    if is_binding(place) {
+    if !has_list("properties", value) {
+        None
+    } else if is_binding(place) {
         Plan::of(Shape::ObjectPattern, &PATTERN_PROPERTIES)
     } else {
         Plan::of(Shape::ObjectAssignmentTarget, &TARGET_PROPERTIES)
@@ -55,8 +56,9 @@ const TARGET_ELEMENTS: [Below; 1] = [Below::Many("elements", Items::TargetElemen
 pub fn array_pattern(place: Place, value: &Value) -> Option<Plan<'_>>
     ensures { option_map (plan_of (view value.now)) result ≡ pattern.array_pattern (place_of place) (view value.now) }
 {
-    list_at("elements", value)?;
-    if is_binding(place) {
+    if !has_list("elements", value) {
+        None
+    } else if is_binding(place) {
         Plan::of(Shape::ArrayPattern, &PATTERN_ELEMENTS)
     } else {
         Plan::of(Shape::ArrayAssignmentTarget, &TARGET_ELEMENTS)

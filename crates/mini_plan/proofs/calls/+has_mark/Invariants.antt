@@ -1,4 +1,3 @@
-use Rattle.std.proofs.Common.{ℕ}
 use Rattle.serde_json.specs.View.{view}
 use Rattle.mini_plan.proofs.Marks.{size}
 use Rattle.mini_plan.proofs.calls.+has_mark.Given as goal
