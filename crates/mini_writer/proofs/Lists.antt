@@ -5,10 +5,12 @@ use Rattle.serde_json.specs.Data.{Items, no_items, item}
 use Rattle.serde_json.specs.View.{view, items_view}
 use Rattle.serde_json.specs.declared.value.Value.{Value}
 use Rattle.mini_model.specs.Texts.{bytes_of}
-use Rattle.mini_model.specs.Tree.{Tree, node_count, node_counts}
-use Rattle.mini_node.specs.Children.{trees_of}
+use Rattle.mini_model.specs.declared.name.Name.{Name}
+use Rattle.mini_model.specs.declared.shape.Shape.{Shape}
+use Rattle.mini_model.specs.Tree.{Tree, node, children, shape_of, node_count, node_counts}
+use Rattle.mini_node.specs.Children.{names_of, trees_of}
 use Rattle.mini_writer.specs.Objects.{directive}
-use Rattle.mini_writer.specs.Written.{tree_data, trees_data, with_directives}
+use Rattle.mini_writer.specs.Written.{node_data, tree_data, trees_data, with_directives}
 
 -- what was written of the items before
 pub with_values : List Value → Items → Items
@@ -43,6 +45,13 @@ pub items_end : (vs : List Value) (xs : List Tree) (i : ℕ) (whole : Items) →
 items_end vs xs i whole h e =
     let over : drop i xs ≡ [] = drop_all i xs h in
     sym (with_values_none vs) ∙ (sym (ap (λ ys. with_values vs (trees_data (trees_of ys))) over) ∙ e)
+
+told : (t : Tree) → node_data (shape_of t) (names_of t) (trees_data (children t)) ≡ tree_data t
+told (node h xs n ts) = refl
+
+-- a node, of its shape, its names and what its children are written as
+pub written_node : (t : Tree) (h : Shape) (xs : List Name) (ds : Items) → h ≡ shape_of t → xs ≡ names_of t → ds ≡ trees_data (children t) → node_data h xs ds ≡ tree_data t
+written_node t h xs ds hh hx hd = rw (hh, hx, hd) (told t)
 
 -- ---- directives before statements
 

@@ -1,6 +1,6 @@
 -- The table of the nodes that are written as their plain fields, and a field for each child. The others have texts, or
 -- directives before what they hold.
-use Rattle.std.specs.Prelude.{ℕ, List, [], ◌∷◌, codes, true, false, Option, Some, None, option_map}
+use Rattle.std.specs.Prelude.{ℕ, List, [], ◌∷◌, codes, true, false, Bool, Option, Some, None, option_map}
 use Rattle.serde_json.specs.Data.{Data, null, boolean, string, array, object, Items, no_items, item, Members, no_members, member, put}
 use Rattle.mini_model.specs.declared.shape.Shape.{Shape}
 use Rattle.mini_model.specs.declared.shape.Shape.TheVariants as shape
@@ -39,95 +39,190 @@ object_if ms (Some xs) = object (with_fields xs ms)
 abbrev pub row_data : Row → Items → Data
 row_data r ds = object_if (row_members r) (zipped r.keys ds)
 
-abbrev pub of_kind : List ℕ → List Field → List key_type.Key → Option Row
-of_kind kind plain keys = Some (record { kind = kind; plain = plain; keys = keys })
+-- ---- plain fields that several types have
 
--- patterns
-abbrev pub pattern_row : Shape → Option Row
-pattern_row shape.ObjectPattern = of_kind (codes "ObjectPattern") [] (key.Properties ∷ [])
-pattern_row shape.ArrayPattern = of_kind (codes "ArrayPattern") [] (key.Elements ∷ [])
-pattern_row (shape.BindingProperty shorthand computed) = of_kind (codes "Property") ((key.Computed, boolean computed) ∷ (key.Kind, string (codes "init")) ∷ (key.Method, boolean false) ∷ (key.Shorthand, boolean shorthand) ∷ []) (key.Key ∷ key.Value ∷ [])
-pattern_row shape.RestElement = of_kind (codes "RestElement") [] (key.Argument ∷ [])
-pattern_row shape.AssignmentPattern = of_kind (codes "AssignmentPattern") [] (key.Left ∷ key.Right ∷ [])
-pattern_row shape.ObjectAssignmentTarget = of_kind (codes "ObjectPattern") [] (key.Properties ∷ [])
-pattern_row shape.ArrayAssignmentTarget = of_kind (codes "ArrayPattern") [] (key.Elements ∷ [])
-pattern_row shape.AssignmentTargetPropertyIdentifier = of_kind (codes "Property") ((key.Computed, boolean false) ∷ (key.Kind, string (codes "init")) ∷ (key.Method, boolean false) ∷ (key.Shorthand, boolean true) ∷ []) (key.Key ∷ key.Value ∷ [])
-pattern_row (shape.AssignmentTargetPropertyProperty computed) = of_kind (codes "Property") ((key.Computed, boolean computed) ∷ (key.Kind, string (codes "init")) ∷ (key.Method, boolean false) ∷ (key.Shorthand, boolean false) ∷ []) (key.Key ∷ key.Value ∷ [])
-pattern_row h = None
+abbrev pub prefix_fields : List ℕ → Bool → List Field
+prefix_fields operator prefix = (key.Operator, string operator) ∷ (key.Prefix, boolean prefix) ∷ []
 
--- expressions
-abbrev pub expression_row : Shape → Option Row
-expression_row shape.ArrayExpression = of_kind (codes "ArrayExpression") [] (key.Elements ∷ [])
-expression_row shape.ObjectExpression = of_kind (codes "ObjectExpression") [] (key.Properties ∷ [])
-expression_row (shape.ObjectProperty kind is_method shorthand computed) = of_kind (codes "Property") ((key.Computed, boolean computed) ∷ (key.Kind, string (property_word kind)) ∷ (key.Method, boolean is_method) ∷ (key.Shorthand, boolean shorthand) ∷ []) (key.Key ∷ key.Value ∷ [])
-expression_row shape.SpreadElement = of_kind (codes "SpreadElement") [] (key.Argument ∷ [])
-expression_row (shape.UnaryExpression operator) = of_kind (codes "UnaryExpression") ((key.Operator, string (unary_word operator)) ∷ (key.Prefix, boolean true) ∷ []) (key.Argument ∷ [])
-expression_row (shape.UpdateExpression operator prefix) = of_kind (codes "UpdateExpression") ((key.Operator, string (update_word operator)) ∷ (key.Prefix, boolean prefix) ∷ []) (key.Argument ∷ [])
-expression_row (shape.BinaryExpression operator) = of_kind (codes "BinaryExpression") ((key.Operator, string (binary_word operator)) ∷ []) (key.Left ∷ key.Right ∷ [])
-expression_row shape.PrivateInExpression = of_kind (codes "BinaryExpression") ((key.Operator, string (codes "in")) ∷ []) (key.Left ∷ key.Right ∷ [])
-expression_row (shape.LogicalExpression operator) = of_kind (codes "LogicalExpression") ((key.Operator, string (logical_word operator)) ∷ []) (key.Left ∷ key.Right ∷ [])
-expression_row (shape.AssignmentExpression operator) = of_kind (codes "AssignmentExpression") ((key.Operator, string (assignment_word operator)) ∷ []) (key.Left ∷ key.Right ∷ [])
-expression_row shape.ConditionalExpression = of_kind (codes "ConditionalExpression") [] (key.Test ∷ key.Consequent ∷ key.Alternate ∷ [])
-expression_row shape.SequenceExpression = of_kind (codes "SequenceExpression") [] (key.Expressions ∷ [])
-expression_row (shape.CallExpression optional) = of_kind (codes "CallExpression") ((key.Optional, boolean optional) ∷ []) (key.Callee ∷ key.Arguments ∷ [])
-expression_row shape.SuperCallExpression = of_kind (codes "CallExpression") ((key.Optional, boolean false) ∷ []) (key.Callee ∷ key.Arguments ∷ [])
-expression_row shape.NewExpression = of_kind (codes "NewExpression") [] (key.Callee ∷ key.Arguments ∷ [])
-expression_row (shape.StaticMemberExpression optional) = of_kind (codes "MemberExpression") ((key.Computed, boolean false) ∷ (key.Optional, boolean optional) ∷ []) (key.Object ∷ key.Property ∷ [])
-expression_row (shape.ComputedMemberExpression optional) = of_kind (codes "MemberExpression") ((key.Computed, boolean true) ∷ (key.Optional, boolean optional) ∷ []) (key.Object ∷ key.Property ∷ [])
-expression_row (shape.PrivateFieldExpression optional) = of_kind (codes "MemberExpression") ((key.Computed, boolean false) ∷ (key.Optional, boolean optional) ∷ []) (key.Object ∷ key.Property ∷ [])
-expression_row shape.SuperStaticMemberExpression = of_kind (codes "MemberExpression") ((key.Computed, boolean false) ∷ (key.Optional, boolean false) ∷ []) (key.Object ∷ key.Property ∷ [])
-expression_row shape.SuperComputedMemberExpression = of_kind (codes "MemberExpression") ((key.Computed, boolean true) ∷ (key.Optional, boolean false) ∷ []) (key.Object ∷ key.Property ∷ [])
-expression_row shape.ChainExpression = of_kind (codes "ChainExpression") [] (key.Expression ∷ [])
-expression_row (shape.YieldExpression delegate) = of_kind (codes "YieldExpression") ((key.Delegate, boolean delegate) ∷ []) (key.Argument ∷ [])
-expression_row shape.TemplateLiteral = of_kind (codes "TemplateLiteral") [] (key.Quasis ∷ key.Expressions ∷ [])
-expression_row shape.TaggedTemplateExpression = of_kind (codes "TaggedTemplateExpression") [] (key.Tag ∷ key.Quasi ∷ [])
-expression_row (shape.MetaProperty kind) = of_kind (codes "MetaProperty") [] (key.Meta ∷ key.Property ∷ [])
-expression_row shape.ImportExpression = of_kind (codes "ImportExpression") [] (key.Source ∷ [])
-expression_row h = None
+abbrev pub member_fields : Bool → Bool → List Field
+member_fields computed optional = (key.Computed, boolean computed) ∷ (key.Optional, boolean optional) ∷ []
 
--- parts of classes, and modules
-abbrev pub function_row : Shape → Option Row
-function_row shape.ClassBody = of_kind (codes "ClassBody") [] (key.Body ∷ [])
-function_row (shape.MethodDefinition kind computed is_static) = of_kind (codes "MethodDefinition") ((key.Computed, boolean computed) ∷ (key.Kind, string (method_word kind)) ∷ (key.Static, boolean is_static) ∷ []) (key.Key ∷ key.Value ∷ [])
-function_row (shape.PropertyDefinition computed is_static) = of_kind (codes "PropertyDefinition") ((key.Computed, boolean computed) ∷ (key.Static, boolean is_static) ∷ []) (key.Key ∷ key.Value ∷ [])
-function_row shape.StaticBlock = of_kind (codes "StaticBlock") [] (key.Body ∷ [])
-function_row shape.ImportDeclaration = of_kind (codes "ImportDeclaration") ((key.Attributes, array no_items) ∷ []) (key.Specifiers ∷ key.Source ∷ [])
-function_row shape.ImportSpecifier = of_kind (codes "ImportSpecifier") [] (key.Imported ∷ key.Local ∷ [])
-function_row shape.ImportDefaultSpecifier = of_kind (codes "ImportDefaultSpecifier") [] (key.Local ∷ [])
-function_row shape.ImportNamespaceSpecifier = of_kind (codes "ImportNamespaceSpecifier") [] (key.Local ∷ [])
-function_row shape.ExportNamedDeclaration = of_kind (codes "ExportNamedDeclaration") ((key.Attributes, array no_items) ∷ []) (key.Declaration ∷ key.Specifiers ∷ key.Source ∷ [])
-function_row shape.ExportSpecifier = of_kind (codes "ExportSpecifier") [] (key.Exported ∷ key.Local ∷ [])
-function_row shape.ExportDefaultDeclaration = of_kind (codes "ExportDefaultDeclaration") [] (key.Declaration ∷ [])
-function_row shape.ExportAllDeclaration = of_kind (codes "ExportAllDeclaration") ((key.Attributes, array no_items) ∷ []) (key.Exported ∷ key.Source ∷ [])
-function_row h = None
+abbrev pub property_fields : Bool → List ℕ → Bool → Bool → List Field
+property_fields computed kind is_method shorthand = (key.Computed, boolean computed) ∷ (key.Kind, string kind) ∷ (key.Method, boolean is_method) ∷ (key.Shorthand, boolean shorthand) ∷ []
 
--- statements
-abbrev pub statement_row : Shape → Option Row
-statement_row shape.ExpressionStatement = of_kind (codes "ExpressionStatement") [] (key.Expression ∷ [])
-statement_row shape.BlockStatement = of_kind (codes "BlockStatement") [] (key.Body ∷ [])
-statement_row shape.LabeledStatement = of_kind (codes "LabeledStatement") [] (key.Label ∷ key.Body ∷ [])
-statement_row shape.BreakStatement = of_kind (codes "BreakStatement") [] (key.Label ∷ [])
-statement_row shape.ContinueStatement = of_kind (codes "ContinueStatement") [] (key.Label ∷ [])
-statement_row shape.ReturnStatement = of_kind (codes "ReturnStatement") [] (key.Argument ∷ [])
-statement_row shape.ThrowStatement = of_kind (codes "ThrowStatement") [] (key.Argument ∷ [])
-statement_row shape.IfStatement = of_kind (codes "IfStatement") [] (key.Test ∷ key.Consequent ∷ key.Alternate ∷ [])
-statement_row shape.SwitchStatement = of_kind (codes "SwitchStatement") [] (key.Discriminant ∷ key.Cases ∷ [])
-statement_row shape.SwitchCase = of_kind (codes "SwitchCase") [] (key.Test ∷ key.Consequent ∷ [])
-statement_row shape.TryStatement = of_kind (codes "TryStatement") [] (key.Block ∷ key.Handler ∷ key.Finalizer ∷ [])
-statement_row shape.CatchClause = of_kind (codes "CatchClause") [] (key.Param ∷ key.Body ∷ [])
-statement_row shape.WhileStatement = of_kind (codes "WhileStatement") [] (key.Test ∷ key.Body ∷ [])
-statement_row shape.DoWhileStatement = of_kind (codes "DoWhileStatement") [] (key.Body ∷ key.Test ∷ [])
-statement_row shape.ForStatement = of_kind (codes "ForStatement") [] (key.Init ∷ key.Test ∷ key.Update ∷ key.Body ∷ [])
-statement_row shape.ForInStatement = of_kind (codes "ForInStatement") [] (key.Left ∷ key.Right ∷ key.Body ∷ [])
-statement_row shape.ForOfStatement = of_kind (codes "ForOfStatement") ((key.Await, boolean false) ∷ []) (key.Left ∷ key.Right ∷ key.Body ∷ [])
-statement_row (shape.VariableDeclaration kind) = of_kind (codes "VariableDeclaration") ((key.Kind, string (variable_word kind)) ∷ []) (key.Declarations ∷ [])
-statement_row shape.VariableDeclarator = of_kind (codes "VariableDeclarator") [] (key.Id ∷ key.Init ∷ [])
-statement_row h = None
+-- ---- the table
 
-abbrev pub first : Option Row → Option Row → Option Row
-first None o = o
-first (Some r) o = Some r
+-- the type, where a shape has a row
+abbrev pub row_kind : Shape → Option (List ℕ)
+row_kind shape.ExpressionStatement = Some (codes "ExpressionStatement")
+row_kind shape.BlockStatement = Some (codes "BlockStatement")
+row_kind shape.LabeledStatement = Some (codes "LabeledStatement")
+row_kind shape.BreakStatement = Some (codes "BreakStatement")
+row_kind shape.ContinueStatement = Some (codes "ContinueStatement")
+row_kind shape.ReturnStatement = Some (codes "ReturnStatement")
+row_kind shape.ThrowStatement = Some (codes "ThrowStatement")
+row_kind shape.IfStatement = Some (codes "IfStatement")
+row_kind shape.SwitchStatement = Some (codes "SwitchStatement")
+row_kind shape.SwitchCase = Some (codes "SwitchCase")
+row_kind shape.TryStatement = Some (codes "TryStatement")
+row_kind shape.CatchClause = Some (codes "CatchClause")
+row_kind shape.WhileStatement = Some (codes "WhileStatement")
+row_kind shape.DoWhileStatement = Some (codes "DoWhileStatement")
+row_kind shape.ForStatement = Some (codes "ForStatement")
+row_kind shape.ForInStatement = Some (codes "ForInStatement")
+row_kind shape.ForOfStatement = Some (codes "ForOfStatement")
+row_kind (shape.VariableDeclaration kind) = Some (codes "VariableDeclaration")
+row_kind shape.VariableDeclarator = Some (codes "VariableDeclarator")
+row_kind shape.ClassBody = Some (codes "ClassBody")
+row_kind (shape.MethodDefinition kind computed is_static) = Some (codes "MethodDefinition")
+row_kind (shape.PropertyDefinition computed is_static) = Some (codes "PropertyDefinition")
+row_kind shape.StaticBlock = Some (codes "StaticBlock")
+row_kind shape.ImportDeclaration = Some (codes "ImportDeclaration")
+row_kind shape.ImportSpecifier = Some (codes "ImportSpecifier")
+row_kind shape.ImportDefaultSpecifier = Some (codes "ImportDefaultSpecifier")
+row_kind shape.ImportNamespaceSpecifier = Some (codes "ImportNamespaceSpecifier")
+row_kind shape.ExportNamedDeclaration = Some (codes "ExportNamedDeclaration")
+row_kind shape.ExportSpecifier = Some (codes "ExportSpecifier")
+row_kind shape.ExportDefaultDeclaration = Some (codes "ExportDefaultDeclaration")
+row_kind shape.ExportAllDeclaration = Some (codes "ExportAllDeclaration")
+row_kind shape.ArrayExpression = Some (codes "ArrayExpression")
+row_kind shape.ObjectExpression = Some (codes "ObjectExpression")
+row_kind (shape.ObjectProperty kind is_method shorthand computed) = Some (codes "Property")
+row_kind shape.SpreadElement = Some (codes "SpreadElement")
+row_kind (shape.UnaryExpression operator) = Some (codes "UnaryExpression")
+row_kind (shape.UpdateExpression operator prefix) = Some (codes "UpdateExpression")
+row_kind (shape.BinaryExpression operator) = Some (codes "BinaryExpression")
+row_kind shape.PrivateInExpression = Some (codes "BinaryExpression")
+row_kind (shape.LogicalExpression operator) = Some (codes "LogicalExpression")
+row_kind (shape.AssignmentExpression operator) = Some (codes "AssignmentExpression")
+row_kind shape.ConditionalExpression = Some (codes "ConditionalExpression")
+row_kind shape.SequenceExpression = Some (codes "SequenceExpression")
+row_kind (shape.CallExpression optional) = Some (codes "CallExpression")
+row_kind shape.SuperCallExpression = Some (codes "CallExpression")
+row_kind shape.NewExpression = Some (codes "NewExpression")
+row_kind (shape.StaticMemberExpression optional) = Some (codes "MemberExpression")
+row_kind (shape.ComputedMemberExpression optional) = Some (codes "MemberExpression")
+row_kind (shape.PrivateFieldExpression optional) = Some (codes "MemberExpression")
+row_kind shape.SuperStaticMemberExpression = Some (codes "MemberExpression")
+row_kind shape.SuperComputedMemberExpression = Some (codes "MemberExpression")
+row_kind shape.ChainExpression = Some (codes "ChainExpression")
+row_kind (shape.YieldExpression delegate) = Some (codes "YieldExpression")
+row_kind shape.TemplateLiteral = Some (codes "TemplateLiteral")
+row_kind shape.TaggedTemplateExpression = Some (codes "TaggedTemplateExpression")
+row_kind (shape.MetaProperty kind) = Some (codes "MetaProperty")
+row_kind shape.ImportExpression = Some (codes "ImportExpression")
+row_kind shape.ObjectPattern = Some (codes "ObjectPattern")
+row_kind shape.ArrayPattern = Some (codes "ArrayPattern")
+row_kind (shape.BindingProperty shorthand computed) = Some (codes "Property")
+row_kind shape.RestElement = Some (codes "RestElement")
+row_kind shape.AssignmentPattern = Some (codes "AssignmentPattern")
+row_kind shape.ObjectAssignmentTarget = Some (codes "ObjectPattern")
+row_kind shape.ArrayAssignmentTarget = Some (codes "ArrayPattern")
+row_kind shape.AssignmentTargetPropertyIdentifier = Some (codes "Property")
+row_kind (shape.AssignmentTargetPropertyProperty computed) = Some (codes "Property")
+row_kind h = None
+
+abbrev pub row_plain : Shape → List Field
+row_plain shape.ForOfStatement = (key.Await, boolean false) ∷ []
+row_plain (shape.VariableDeclaration kind) = (key.Kind, string (variable_word kind)) ∷ []
+row_plain (shape.MethodDefinition kind computed is_static) = (key.Computed, boolean computed) ∷ (key.Kind, string (method_word kind)) ∷ (key.Static, boolean is_static) ∷ []
+row_plain (shape.PropertyDefinition computed is_static) = (key.Computed, boolean computed) ∷ (key.Static, boolean is_static) ∷ []
+row_plain shape.ImportDeclaration = (key.Attributes, array no_items) ∷ []
+row_plain shape.ExportNamedDeclaration = (key.Attributes, array no_items) ∷ []
+row_plain shape.ExportAllDeclaration = (key.Attributes, array no_items) ∷ []
+row_plain (shape.ObjectProperty kind is_method shorthand computed) = property_fields computed (property_word kind) is_method shorthand
+row_plain (shape.UnaryExpression operator) = prefix_fields (unary_word operator) true
+row_plain (shape.UpdateExpression operator prefix) = prefix_fields (update_word operator) prefix
+row_plain (shape.BinaryExpression operator) = (key.Operator, string (binary_word operator)) ∷ []
+row_plain shape.PrivateInExpression = (key.Operator, string (codes "in")) ∷ []
+row_plain (shape.LogicalExpression operator) = (key.Operator, string (logical_word operator)) ∷ []
+row_plain (shape.AssignmentExpression operator) = (key.Operator, string (assignment_word operator)) ∷ []
+row_plain (shape.CallExpression optional) = (key.Optional, boolean optional) ∷ []
+row_plain shape.SuperCallExpression = (key.Optional, boolean false) ∷ []
+row_plain (shape.StaticMemberExpression optional) = member_fields false optional
+row_plain (shape.ComputedMemberExpression optional) = member_fields true optional
+row_plain (shape.PrivateFieldExpression optional) = member_fields false optional
+row_plain shape.SuperStaticMemberExpression = member_fields false false
+row_plain shape.SuperComputedMemberExpression = member_fields true false
+row_plain (shape.YieldExpression delegate) = (key.Delegate, boolean delegate) ∷ []
+row_plain (shape.BindingProperty shorthand computed) = property_fields computed (codes "init") false shorthand
+row_plain shape.AssignmentTargetPropertyIdentifier = property_fields false (codes "init") false true
+row_plain (shape.AssignmentTargetPropertyProperty computed) = property_fields computed (codes "init") false false
+row_plain h = []
+
+abbrev pub row_keys : Shape → List key_type.Key
+row_keys shape.ExpressionStatement = key.Expression ∷ []
+row_keys shape.BlockStatement = key.Body ∷ []
+row_keys shape.LabeledStatement = key.Label ∷ key.Body ∷ []
+row_keys shape.BreakStatement = key.Label ∷ []
+row_keys shape.ContinueStatement = key.Label ∷ []
+row_keys shape.ReturnStatement = key.Argument ∷ []
+row_keys shape.ThrowStatement = key.Argument ∷ []
+row_keys shape.IfStatement = key.Test ∷ key.Consequent ∷ key.Alternate ∷ []
+row_keys shape.SwitchStatement = key.Discriminant ∷ key.Cases ∷ []
+row_keys shape.SwitchCase = key.Test ∷ key.Consequent ∷ []
+row_keys shape.TryStatement = key.Block ∷ key.Handler ∷ key.Finalizer ∷ []
+row_keys shape.CatchClause = key.Param ∷ key.Body ∷ []
+row_keys shape.WhileStatement = key.Test ∷ key.Body ∷ []
+row_keys shape.DoWhileStatement = key.Body ∷ key.Test ∷ []
+row_keys shape.ForStatement = key.Init ∷ key.Test ∷ key.Update ∷ key.Body ∷ []
+row_keys shape.ForInStatement = key.Left ∷ key.Right ∷ key.Body ∷ []
+row_keys shape.ForOfStatement = key.Left ∷ key.Right ∷ key.Body ∷ []
+row_keys (shape.VariableDeclaration kind) = key.Declarations ∷ []
+row_keys shape.VariableDeclarator = key.Id ∷ key.Init ∷ []
+row_keys shape.ClassBody = key.Body ∷ []
+row_keys (shape.MethodDefinition kind computed is_static) = key.Key ∷ key.Value ∷ []
+row_keys (shape.PropertyDefinition computed is_static) = key.Key ∷ key.Value ∷ []
+row_keys shape.StaticBlock = key.Body ∷ []
+row_keys shape.ImportDeclaration = key.Specifiers ∷ key.Source ∷ []
+row_keys shape.ImportSpecifier = key.Imported ∷ key.Local ∷ []
+row_keys shape.ImportDefaultSpecifier = key.Local ∷ []
+row_keys shape.ImportNamespaceSpecifier = key.Local ∷ []
+row_keys shape.ExportNamedDeclaration = key.Declaration ∷ key.Specifiers ∷ key.Source ∷ []
+row_keys shape.ExportSpecifier = key.Exported ∷ key.Local ∷ []
+row_keys shape.ExportDefaultDeclaration = key.Declaration ∷ []
+row_keys shape.ExportAllDeclaration = key.Exported ∷ key.Source ∷ []
+row_keys shape.ArrayExpression = key.Elements ∷ []
+row_keys shape.ObjectExpression = key.Properties ∷ []
+row_keys (shape.ObjectProperty kind is_method shorthand computed) = key.Key ∷ key.Value ∷ []
+row_keys shape.SpreadElement = key.Argument ∷ []
+row_keys (shape.UnaryExpression operator) = key.Argument ∷ []
+row_keys (shape.UpdateExpression operator prefix) = key.Argument ∷ []
+row_keys (shape.BinaryExpression operator) = key.Left ∷ key.Right ∷ []
+row_keys shape.PrivateInExpression = key.Left ∷ key.Right ∷ []
+row_keys (shape.LogicalExpression operator) = key.Left ∷ key.Right ∷ []
+row_keys (shape.AssignmentExpression operator) = key.Left ∷ key.Right ∷ []
+row_keys shape.ConditionalExpression = key.Test ∷ key.Consequent ∷ key.Alternate ∷ []
+row_keys shape.SequenceExpression = key.Expressions ∷ []
+row_keys (shape.CallExpression optional) = key.Callee ∷ key.Arguments ∷ []
+row_keys shape.SuperCallExpression = key.Callee ∷ key.Arguments ∷ []
+row_keys shape.NewExpression = key.Callee ∷ key.Arguments ∷ []
+row_keys (shape.StaticMemberExpression optional) = key.Object ∷ key.Property ∷ []
+row_keys (shape.ComputedMemberExpression optional) = key.Object ∷ key.Property ∷ []
+row_keys (shape.PrivateFieldExpression optional) = key.Object ∷ key.Property ∷ []
+row_keys shape.SuperStaticMemberExpression = key.Object ∷ key.Property ∷ []
+row_keys shape.SuperComputedMemberExpression = key.Object ∷ key.Property ∷ []
+row_keys shape.ChainExpression = key.Expression ∷ []
+row_keys (shape.YieldExpression delegate) = key.Argument ∷ []
+row_keys shape.TemplateLiteral = key.Quasis ∷ key.Expressions ∷ []
+row_keys shape.TaggedTemplateExpression = key.Tag ∷ key.Quasi ∷ []
+row_keys (shape.MetaProperty kind) = key.Meta ∷ key.Property ∷ []
+row_keys shape.ImportExpression = key.Source ∷ []
+row_keys shape.ObjectPattern = key.Properties ∷ []
+row_keys shape.ArrayPattern = key.Elements ∷ []
+row_keys (shape.BindingProperty shorthand computed) = key.Key ∷ key.Value ∷ []
+row_keys shape.RestElement = key.Argument ∷ []
+row_keys shape.AssignmentPattern = key.Left ∷ key.Right ∷ []
+row_keys shape.ObjectAssignmentTarget = key.Properties ∷ []
+row_keys shape.ArrayAssignmentTarget = key.Elements ∷ []
+row_keys shape.AssignmentTargetPropertyIdentifier = key.Key ∷ key.Value ∷ []
+row_keys (shape.AssignmentTargetPropertyProperty computed) = key.Key ∷ key.Value ∷ []
+row_keys h = []
+
+abbrev pub row_by : Option (List ℕ) → List Field → List key_type.Key → Option Row
+row_by None plain keys = None
+row_by (Some kind) plain keys = Some (record { kind = kind; plain = plain; keys = keys })
 
 -- the row of a shape
 abbrev pub row : Shape → Option Row
-row h = first (statement_row h) (first (function_row h) (first (expression_row h) (pattern_row h)))
+row h = row_by (row_kind h) (row_plain h) (row_keys h)

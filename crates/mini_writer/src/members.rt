@@ -1,9 +1,9 @@
 // Objects of ESTree, by their members.
 
-ghost use Rattle.std.specs.Prelude.{◌≡◌, IfOk};
-ghost use Rattle.serde_json.specs.Data.{string};
-ghost use Rattle.serde_json.specs.View.{view};
-ghost use Rattle.mini_writer.specs.Keys.{key_text, node_object, plain_object};
+ghost use Rattle.std.specs.Prelude.{◌≡◌, codes, IfOk};
+ghost use Rattle.serde_json.specs.Data.{string, object, member, no_members};
+ghost use Rattle.serde_json.specs.View.{view, members_view};
+ghost use Rattle.mini_writer.specs.Keys.{key_text, with_members, node_object, plain_object};
 
 use serde_json::{Map, Value, put};
 use std::alloc::{AllocError, Global};
@@ -221,26 +221,42 @@ pub fn text_value(alloc: Global, text: &str) -> Result<Value, AllocError>
     Ok(Value::String(String::from_str(alloc, text)?))
 }
 
-/// The node of this type with these fields, of which none stands twice.
-pub fn node(alloc: Global, kind: &str, members: Vec<Member>) -> Result<Value, AllocError>
-    ensures { IfOk result (λ v. view v ≡ node_object kind.now members.items) }
+/// The object of a node of this type, without other fields yet.
+pub(crate) fn typed(alloc: Global, kind: &str) -> Result<Map<String, Value>, AllocError>
+    ensures { IfOk result (λ object. members_view object.entries ≡ member (codes "type") (string kind.now) no_members) }
 {
     let mut object = Map::new(alloc);
-    let value = text_value(alloc, kind)?;
-    put(&mut object, alloc, "type", value)?;
+    let kind = text_value(alloc, kind)?;
+    put(&mut object, alloc, "type", kind)?;
+    Ok(object)
+}
+
+// The object with these fields besides.
+fn filled(
+    alloc: Global,
+    started: Map<String, Value>,
+    members: Vec<Member>,
+) -> Result<Value, AllocError>
+    ensures { IfOk result (λ v. view v ≡ object (with_members members.items (members_view started.entries))) }
+{
+    let mut object = started;
     for member in members {
         put(&mut object, alloc, key_text(member.0), member.1)?;
     }
     Ok(Value::Object(object))
 }
 
+/// The node of this type with these fields, of which none stands twice.
+pub fn node(alloc: Global, kind: &str, members: Vec<Member>) -> Result<Value, AllocError>
+    ensures { IfOk result (λ v. view v ≡ node_object kind.now members.items) }
+{
+    let object = typed(alloc, kind)?;
+    filled(alloc, object, members)
+}
+
 /// The object with these fields, which is no node.
 pub fn plain_object(alloc: Global, members: Vec<Member>) -> Result<Value, AllocError>
     ensures { IfOk result (λ v. view v ≡ plain_object members.items) }
 {
-    let mut object = Map::new(alloc);
-    for member in members {
-        put(&mut object, alloc, key_text(member.0), member.1)?;
-    }
-    Ok(Value::Object(object))
+    filled(alloc, Map::new(alloc), members)
 }

@@ -1,10 +1,11 @@
 // The nodes that no row has: what stands for others, leaves, texts, and what has directives.
 
-ghost use Rattle.std.specs.Prelude.{◌≡◌, codes, decimal, IfOk, MatchOption};
+ghost use Rattle.std.specs.Prelude.{◌≡◌, [], ◌∷◌, codes, decimal, IfOk, MatchOption};
 ghost use Rattle.serde_json.specs.Data.{Data, null, string, object, member, no_members, put};
-ghost use Rattle.mini_writer.specs.Keys.{key_text};
+ghost use Rattle.mini_writer.specs.Keys.{key_text, node_object, plain_object};
 ghost use Rattle.serde_json.specs.View.{view, items_view};
 ghost use Rattle.mini_model.specs.Texts.{bytes_of};
+ghost use Rattle.mini_model.specs.declared.operator.UnaryOperator.TheVariants.{UnaryNegation};
 ghost use Rattle.mini_node.specs.Children.{names};
 ghost use Rattle.mini_writer.specs.Objects as objects;
 ghost use Rattle.mini_writer.specs.Written as written;
@@ -12,10 +13,13 @@ ghost use Rattle.mini_writer.specs.Special.{special_data};
 ghost use Rattle.mini_writer.specs.Written.{of_one};
 
 use crate::bodies::{arrow, class, function, program};
+use crate::members::typed;
+use crate::objects::row_value;
+use crate::rows::{ARGUMENT, Row, prefix_fields};
 use crate::{Key, Member, key_text, node, plain_object, text_value, unary_word};
 use itoa::Buffer;
 use mini_model::{BoxedText, Name, Shape, Text, UnaryOperator};
-use serde_json::{Map, Value, put};
+use serde_json::{Value, put};
 use std::alloc::{AllocError, Global};
 
 // ---- texts
@@ -30,21 +34,50 @@ pub fn text(alloc: Global, units: &Text) -> Result<Value, AllocError>
     }
 }
 
-// The node of a type with one field.
-fn with_field(alloc: Global, kind: &str, key: Key, value: Value) -> Result<Value, AllocError>
+/// The node of a type with one field.
+pub fn with_field(alloc: Global, kind: &str, key: Key, value: Value) -> Result<Value, AllocError>
     ensures { IfOk result (λ v. view v ≡ object (put (key_text key) (view value) (member (codes "type") (string kind.now) no_members))) }
 {
-    let mut object = Map::new(alloc);
-    let kind = text_value(alloc, kind)?;
-    put(&mut object, alloc, "type", kind)?;
+    let mut object = typed(alloc, kind)?;
     put(&mut object, alloc, key_text(key), value)?;
     Ok(Value::Object(object))
 }
 
+// The node of a type without fields.
 fn bare(alloc: Global, kind: &str) -> Result<Value, AllocError>
     ensures { IfOk result (λ v. view v ≡ object (member (codes "type") (string kind.now) no_members)) }
 {
-    node(alloc, kind, Vec::new(alloc))
+    let object = typed(alloc, kind)?;
+    Ok(Value::Object(object))
+}
+
+// Two fields.
+fn pair(alloc: Global, first: Member, second: Member) -> Result<Vec<Member>, AllocError>
+    ensures { IfOk result (λ members. members.items ≡ first ∷ second ∷ []) }
+{
+    let members = Vec::from_array(alloc, [first, second])?;
+    Ok(members)
+}
+
+/// The node of a type with two fields.
+pub fn with_two(
+    alloc: Global,
+    kind: &str,
+    first: Member,
+    second: Member,
+) -> Result<Value, AllocError>
+    ensures { IfOk result (λ v. view v ≡ node_object kind.now (first ∷ second ∷ [])) }
+{
+    let members = pair(alloc, first, second)?;
+    node(alloc, kind, members)
+}
+
+// The object with two fields, which is no node.
+fn object_of_two(alloc: Global, first: Member, second: Member) -> Result<Value, AllocError>
+    ensures { IfOk result (λ v. view v ≡ plain_object (first ∷ second ∷ [])) }
+{
+    let members = pair(alloc, first, second)?;
+    plain_object(alloc, members)
 }
 
 // `Identifier`
@@ -82,24 +115,29 @@ fn literal(alloc: Global, value: Value) -> Result<Value, AllocError>
     with_field(alloc, "Literal", Key::Value, value)
 }
 
+// The minus over a number above 0.
+fn minus(alloc: Global, operand: Value) -> Result<Value, AllocError>
+    ensures { IfOk result (λ v. view v ≡ objects.unary_expression UnaryNegation (view operand)) }
+{
+    let row = Row {
+        kind: "UnaryExpression",
+        plain: prefix_fields(unary_word(UnaryOperator::UnaryNegation), true),
+        keys: &ARGUMENT,
+    };
+    let below = Vec::from_array(alloc, [operand])?;
+    row_value(alloc, row, below)
+}
+
 // `Literal` of a number, below 0 with a minus before it.
 fn number(alloc: Global, value: i64) -> Result<Value, AllocError>
     ensures { IfOk result (λ v. view v ≡ written.number_literal value) }
 {
     let found = literal(alloc, Value::from(value.unsigned_abs()))?;
     if value >= 0 {
-        return Ok(found);
+        Ok(found)
+    } else {
+        minus(alloc, found)
     }
-    let minus = text_value(alloc, unary_word(UnaryOperator::UnaryNegation))?;
-    let members = Vec::from_array(
-        alloc,
-        [
-            Member(Key::Operator, minus),
-            Member(Key::Prefix, Value::Bool(true)),
-            Member(Key::Argument, found),
-        ],
-    )?;
-    node(alloc, "UnaryExpression", members)
 }
 
 // `Literal` of a regular expression.
@@ -108,16 +146,17 @@ fn reg_exp(alloc: Global, pattern: &Text, flags: &Text) -> Result<Value, AllocEr
 {
     let pattern = text(alloc, pattern)?;
     let flags = text(alloc, flags)?;
-    let members = Vec::from_array(
+    let regex = object_of_two(
         alloc,
-        [Member(Key::Flags, flags), Member(Key::Pattern, pattern)],
+        Member(Key::Flags, flags),
+        Member(Key::Pattern, pattern),
     )?;
-    let regex = plain_object(alloc, members)?;
-    let members = Vec::from_array(
+    with_two(
         alloc,
-        [Member(Key::Regex, regex), Member(Key::Value, Value::Null)],
-    )?;
-    node(alloc, "Literal", members)
+        "Literal",
+        Member(Key::Regex, regex),
+        Member(Key::Value, Value::Null),
+    )
 }
 
 // `Literal` of a BigInt.
@@ -126,11 +165,12 @@ fn big_int(alloc: Global, value: u128) -> Result<Value, AllocError>
 {
     let mut buffer = Buffer::new();
     let digits = text_value(alloc, buffer.format(value))?;
-    let members = Vec::from_array(
+    with_two(
         alloc,
-        [Member(Key::Bigint, digits), Member(Key::Value, Value::Null)],
-    )?;
-    node(alloc, "Literal", members)
+        "Literal",
+        Member(Key::Bigint, digits),
+        Member(Key::Value, Value::Null),
+    )
 }
 
 // The cooked text, or null where the raw one is malformed.
@@ -154,23 +194,20 @@ fn quasi(
 {
     let raw = text(alloc, raw)?;
     let cooked = cooked_text(alloc, cooked)?;
-    let members = Vec::from_array(alloc, [Member(Key::Raw, raw), Member(Key::Cooked, cooked)])?;
-    let texts = plain_object(alloc, members)?;
-    let members = Vec::from_array(
+    let texts = object_of_two(alloc, Member(Key::Raw, raw), Member(Key::Cooked, cooked))?;
+    with_two(
         alloc,
-        [
-            Member(Key::Tail, Value::Bool(tail)),
-            Member(Key::Value, texts),
-        ],
-    )?;
-    node(alloc, "TemplateElement", members)
+        "TemplateElement",
+        Member(Key::Tail, Value::Bool(tail)),
+        Member(Key::Value, texts),
+    )
 }
 
 // ---- children
 
-/// The only value, if there is just one.
+// The only value, if there is just one.
 #[tactic(auto, using(crate::proofs::Values::only_one, crate::proofs::Values::more_than_one, crate::proofs::Values::none_of_one))]
-pub fn one(below: Vec<Value>) -> Option<Value>
+fn one(below: Vec<Value>) -> Option<Value>
     ensures { MatchOption result ((f : Data → Data) → of_one f (items_view below.items) ≡ null) (λ v. (f : Data → Data) → of_one f (items_view below.items) ≡ f (view v)) }
 {
     let mut rest = below;

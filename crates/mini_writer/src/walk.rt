@@ -36,7 +36,7 @@ fn node_value(
 }
 
 /// What is written for a node.
-#[tactic(auto, using(crate::proofs::Lists::items_begin, crate::proofs::Lists::item_step, crate::proofs::Lists::items_end, crate::proofs::Lists::node_within))]
+#[tactic(auto, using(crate::proofs::Lists::items_begin, crate::proofs::Lists::node_within))]
 pub fn value(alloc: Global, node: &Node) -> Result<Value, AllocError>
     ensures { IfOk result (λ v. view v ≡ tree_data node.now) }
 {
