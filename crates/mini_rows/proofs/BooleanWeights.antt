@@ -73,7 +73,7 @@ no_inner : (h : Shape) (b : Bool) → is_plain_part_by h b ≡ true → is_inner
 no_inner shape.InnerExpression b e = absurd (true≢false (sym e))
 no_inner h b e = refl
 
-moved : (s s' : Seat) (t : Tree) → is_plain_part t ≡ true → weight (Expr s) t ≤ weight (Expr s') t + 5
+pub moved : (s s' : Seat) (t : Tree) → is_plain_part t ≡ true → weight (Expr s) t ≤ weight (Expr s') t + 5
 moved s s' (node h xs n ts) e = placed_node 5 s s' h (no_inner h (first_of (are_plain_parts ts)) e) xs n ts (let marks = marks_at_most (is_parenthesized h s) (is_awkward s h (outlines ts)) in omega (arith, marks))
 
 left_falls : (o : LogicalOperator) (s : Seat) (a b : Tree) → weighs b ≡ true → is_plain_part a ≡ true → weight (Expr s) a < weight (Expr s) (logical o a b)

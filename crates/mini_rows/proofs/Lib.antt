@@ -95,6 +95,11 @@ pub mod BooleanMeaning
 pub mod BooleanWeights
 pub mod BooleanLawful
 pub mod UnusedNames
+pub mod SingleUse
+pub mod SingleWeights
+pub mod SingleMeaning
+pub mod SingleFits
+pub mod SingleKept
 pub mod Surrogates
 pub mod ConstantMeaning
 pub mod ConstantWeights

@@ -1,6 +1,6 @@
 -- A block without a name that nothing mentions keeps what else a program has to keep.
 use Rattle.std.specs.Prelude.{ℕ, ◌+◌, ◌≤◌, ◌≡◌, refl, Bool, true, false, ◌||◌, List, [], ◌∷◌, ◌++◌, map, Contains, Option, None, if◌then◌else◌}
-use Rattle.std.proofs.Common.{ap, ◌∙◌, sym, subst, arith, append_assoc}
+use Rattle.std.proofs.Common.{ap, ◌∙◌, sym, subst, subst₂, arith, append_assoc}
 use Rattle.std.proofs.lemmas.Bool.{eq-eqb}
 use Rattle.std.proofs.lemmas.List.{append-nil, map-append}
 use Rattle.std.proofs.lemmas.List.Elements.{Contains-append_right}
@@ -31,11 +31,11 @@ use Rattle.mini_laws.proofs.Drops.{dropped}
 use Rattle.mini_laws.specs.Value.{Variable}
 use Rattle.mini_laws.specs.State.{Fixed, Writable, Constant, KeepsOld}
 use Rattle.mini_laws.specs.Fixity.{stricter, fixed_by}
-use Rattle.mini_laws.specs.Bodies.{Around, bodies}
+use Rattle.mini_laws.specs.Bodies.{Around, Body, bodies}
 use Rattle.mini_kept.specs.AlikeBodies.{BodiesKept}
 use Rattle.mini_kept.specs.Carried.{numbers}
 use Rattle.mini_kept.specs.Declaring.{declared as names_declared}
-use Rattle.mini_kept.specs.Frames.{frames, FramesKept}
+use Rattle.mini_kept.specs.Frames.{Frame, frames, FramesKept}
 use Rattle.mini_kept.specs.KeepsNames.{Keeps, count_of}
 use Rattle.mini_kept.specs.Loosely.{symbol}
 use Rattle.mini_kept.specs.SameNames.{counted, NoMoreClash}
@@ -49,7 +49,8 @@ use Rattle.mini_rows.specs.Arranged.{Vanishes}
 use Rattle.mini_rows.specs.Lists.{block}
 use Rattle.mini_rows.specs.Declarations.{binding, declarator}
 use Rattle.mini_rows.specs.Unused.{names, let_one, any_names, let_among, left_over}
-use Rattle.mini_rows.proofs.Arranging.{Any}
+use Rattle.mini_rows.specs.Sketches.{AsWholeItem}
+use Rattle.mini_rows.proofs.Arranging.{All, Any, sum_all}
 use Rattle.mini_rows.proofs.ArrangedNames.{ScopedAs, scoped_local, symbol_times, symbols_summed, number_times, numbers_summed, InnerIf, inner_local, Once, once_local, HasTarget, Aimed, aimed_local}
 use Rattle.mini_rows.proofs.ArrangedBodies.{quiet, HasBodies, bodies_local, HasFrames, frames_local, Declares, declares_local, FixedBy, fixed_local, rank, by_rank, Among}
 use Rattle.mini_rows.proofs.ArrangedTrees.{both_same, itself}
@@ -80,57 +81,108 @@ pub record Leaves (x : Name) (d w : Tree) : Type 0 where
   pub fixed : (y : Variable) → fixed_by w y ≡ fixed_by d y
   pub declares : (y : Name) → Contains (names_declared w) y → Contains (names_declared d) y
 
+-- what some neighbours have, and those that are written for them keep
+pub record LeavesThere (x : Name) (d w : Trees) : Type 0 where
+  pub first : List Name
+  pub last : List Name
+  pub names : all_names declared.Lexical d ≡ first ++ x ∷ last
+  pub left : all_names declared.Lexical w ≡ first ++ last
+  pub others_first : Other x first
+  pub others_last : Other x last
+  pub hoists : all_names declared.Hoisted w ≡ all_names declared.Hoisted d
+  pub clash : NoMoreClash (all_as_body false w) (all_as_body false d)
+  pub inner : (b : Bool) → All (InnerIf b) AsWholeItem d → All (InnerIf b) AsWholeItem w
+  pub inner_back : (b : Bool) → All (InnerIf b) AsWholeItem w → All (InnerIf b) AsWholeItem d
+  pub scoped : (env : Environment) → All (ScopedAs Read env) AsWholeItem d → All (ScopedAs Read env) AsWholeItem w
+  pub unmentioned : AllUnmentioned (record { name = x; hoists = false }) w
+  pub symbols : (y : Option SymbolId) → sum_all (symbol_times Read y) AsWholeItem w ≤ sum_all (symbol_times Read y) AsWholeItem d
+  pub numbered : (k : ℕ) → sum_all (number_times k) AsWholeItem w ≤ sum_all (number_times k) AsWholeItem d
+  pub once : All Once AsWholeItem d → All Once AsWholeItem w
+  pub targets : (g : Targets) → All (Aimed g) AsWholeItem d → All (Aimed g) AsWholeItem w
+  pub framed : (all : List Frame) → All (HasFrames all) AsWholeItem d → All (HasFrames all) AsWholeItem w
+  pub bodied : (all : List Body) (a : Around) → All (HasBodies all a) AsWholeItem d → All (HasBodies all a) AsWholeItem w
+  pub fixed : (y : Variable) (j : ℕ) → All (FixedBy y j) AsWholeItem d → All (FixedBy y j) AsWholeItem w
+  pub fixed_back : (y : Variable) (j : ℕ) → All (FixedBy y j) AsWholeItem w → All (FixedBy y j) AsWholeItem d
+  pub declares : (all : List Name) → All (Declares all) AsWholeItem d → All (Declares all) AsWholeItem w
+
+pub leaves_alone : (x : Name) (d w : Tree) → Leaves x d w → LeavesThere x (d ▸ none) (w ▸ none)
+unfolding Unmentioned names_of
+leaves_alone x d w l = record {
+  first = l.first;
+  last = l.last;
+  names = append-nil (names_of declared.Lexical d) ∙ l.names;
+  left = append-nil (names_of declared.Lexical w) ∙ l.left;
+  others_first = l.others_first;
+  others_last = l.others_last;
+  hoists = ap (λ ys. ys ++ []) l.hoists;
+  clash = subst₂ NoMoreClash (sym (append-nil (as_body false w))) (sym (append-nil (as_body false d))) l.clash;
+  inner = λ b q. (subst (λ c. (c || b) ≡ b) (sym l.inner) q.0, tt);
+  inner_back = λ b q. (subst (λ c. (c || b) ≡ b) l.inner q.0, tt);
+  scoped = λ env q. (l.scoped env q.0, tt);
+  unmentioned = (l.unmentioned, tt);
+  symbols = λ y. let s = l.symbols y in omega (arith, s);
+  numbered = λ k. let s = l.numbered k in omega (arith, s);
+  once = λ o. (l.once o.0, tt);
+  targets = λ g o. (l.targets g o.0, tt);
+  framed = λ all q. ((λ f c. q.0 f (l.framed f c)), tt);
+  bodied = λ all a q. (kept_on all (bodies (quiet a) d) (bodies (quiet a) w) q.0 (l.bodied a), tt);
+  fixed = λ y j q. (subst (λ f. rank f ≤ j) (sym (l.fixed y)) q.0, tt);
+  fixed_back = λ y j q. (subst (λ f. rank f ≤ j) (l.fixed y) q.0, tt);
+  declares = λ all q. ((λ y c. q.0 y (l.declares y c)), tt);
+}
+
 -- ---- the list
 
-module _ (x : Name) (before after : Trees) (d w : Tree) (l : Leaves x d w) where
+module _ (x : Name) (before after d w : Trees) (l : LeavesThere x d w) where
   abbrev pub A : Trees
-  A = append before (d ▸ after)
+  A = append before (append d after)
 
   abbrev pub B : Trees
-  B = append before (w ▸ after)
+  B = append before (append w after)
 
   pub list_inner : has_inner (listed B) ≡ has_inner (listed A)
   list_inner =
-      both_same (has_inner (listed A)) (has_inner (listed B)) (stretched Any (InnerIf (has_inner (listed A))) (inner_local (has_inner (listed A))) before after (d ▸ none) (w ▸ none) (λ q. (subst (λ b. (b || has_inner (listed A)) ≡ has_inner (listed A)) (sym l.inner) q.0, tt)) (itself (has_inner (listed A))))
-      (stretched Any (InnerIf (has_inner (listed B))) (inner_local (has_inner (listed B))) before after (w ▸ none) (d ▸ none) (λ q. (subst (λ b. (b || has_inner (listed B)) ≡ has_inner (listed B)) l.inner q.0, tt)) (itself (has_inner (listed B))))
+      both_same (has_inner (listed A)) (has_inner (listed B)) (stretched Any (InnerIf (has_inner (listed A))) (inner_local (has_inner (listed A))) before after d w (l.inner (has_inner (listed A))) (itself (has_inner (listed A))))
+      (stretched Any (InnerIf (has_inner (listed B))) (inner_local (has_inner (listed B))) before after w d (l.inner_back (has_inner (listed B))) (itself (has_inner (listed B))))
 
   pub list_fixed : (y : Variable) → fixed_by (listed A) y ≡ fixed_by (listed B) y
   list_fixed y =
       let i = rank (fixed_by (listed A) y) in
       let j = rank (fixed_by (listed B) y) in
-      by_rank (fixed_by (listed A) y) (fixed_by (listed B) y)
-      (stretched Any (FixedBy y j) (fixed_local y j) before after (w ▸ none) (d ▸ none) (λ q. (subst (λ f. rank f ≤ j) (l.fixed y) q.0, tt)) (omega arith))
-      (stretched Any (FixedBy y i) (fixed_local y i) before after (d ▸ none) (w ▸ none) (λ q. (subst (λ f. rank f ≤ i) (sym (l.fixed y)) q.0, tt)) (omega arith))
+      by_rank (fixed_by (listed A) y) (fixed_by (listed B) y) (stretched Any (FixedBy y j) (fixed_local y j) before after w d (l.fixed_back y j) (omega arith)) (stretched Any (FixedBy y i) (fixed_local y i) before after d w (l.fixed y i) (omega arith))
 
   list_scoped : (env : Environment) → Scoped Read env (listed A) → Scoped Read env (listed B)
-  list_scoped env = stretched Any (ScopedAs Read env) (scoped_local Read env) before after (d ▸ none) (w ▸ none) (λ q. (l.scoped env q.0, tt))
+  list_scoped env = stretched Any (ScopedAs Read env) (scoped_local Read env) before after d w (l.scoped env)
 
   list_symbols : (y : Option SymbolId) → times y (declared_in Read (listed B)) ≤ times y (declared_in Read (listed A))
-  list_symbols y = sum_stretched (symbol_times Read y) (symbols_summed Read y) before after (d ▸ none) (w ▸ none) (let s = l.symbols y in omega (arith, s))
+  list_symbols y = sum_stretched (symbol_times Read y) (symbols_summed Read y) before after d w (l.symbols y)
 
   pub list_numbers : (k : ℕ) → count_of k (numbers (listed B)) ≤ count_of k (numbers (listed A))
-  list_numbers k = sum_stretched (number_times k) (numbers_summed k) before after (d ▸ none) (w ▸ none) (let s = l.numbered k in omega (arith, s))
+  list_numbers k = sum_stretched (number_times k) (numbers_summed k) before after d w (l.numbered k)
 
   list_once : (p : Path) → early_names p (listed A) ≡ [] → early_names p (listed B) ≡ []
-  list_once p q = once_anywhere [] p (listed B) (stretched Any Once once_local before after (d ▸ none) (w ▸ none) (λ o. (l.once o.0, tt)) (once_anywhere p [] (listed A) q))
+  list_once p q = once_anywhere [] p (listed B) (stretched Any Once once_local before after d w l.once (once_anywhere p [] (listed A) q))
 
   list_targets : (g : Targets) (p : Path) → early_jumps g p (listed A) ≡ [] → early_jumps g p (listed B) ≡ []
-  list_targets g p q = targets_anywhere g [] p (listed B) (stretched (HasTarget g) (Aimed g) (aimed_local g) before after (d ▸ none) (w ▸ none) (λ o. (l.targets g o.0, tt)) (targets_anywhere g p [] (listed A) q))
+  list_targets g p q = targets_anywhere g [] p (listed B) (stretched (HasTarget g) (Aimed g) (aimed_local g) before after d w (l.targets g) (targets_anywhere g p [] (listed A) q))
 
   pub list_frames : FramesKept (frames None (listed A)) (frames None (listed B))
-  list_frames = stretched Any (HasFrames (frames None (listed A))) (frames_local (frames None (listed A))) before after (d ▸ none) (w ▸ none) (λ q. ((λ f c. q.0 f (l.framed f c)), tt)) (λ f q. q)
+  list_frames = stretched Any (HasFrames (frames None (listed A))) (frames_local (frames None (listed A))) before after d w (l.framed (frames None (listed A))) (λ f q. q)
 
   pub list_bodies : (a : Around) → BodiesKept (bodies (quiet a) (listed A)) (bodies (quiet a) (listed B))
-  list_bodies a = stretched Any (HasBodies (bodies (quiet a) (listed A)) a) (bodies_local (bodies (quiet a) (listed A)) a) before after (d ▸ none) (w ▸ none) (λ q. (kept_on (bodies (quiet a) (listed A)) (bodies (quiet a) d) (bodies (quiet a) w) q.0 (l.bodied a), tt)) (kept_itself (bodies (quiet a) (listed A)))
+  list_bodies a = stretched Any (HasBodies (bodies (quiet a) (listed A)) a) (bodies_local (bodies (quiet a) (listed A)) a) before after d w (l.bodied (bodies (quiet a) (listed A)) a) (kept_itself (bodies (quiet a) (listed A)))
 
   pub list_declares : (y : Name) → Contains (names_declared (listed B)) y → Contains (names_declared (listed A)) y
-  list_declares = stretched Any (Declares (names_declared (listed A))) (declares_local (names_declared (listed A))) before after (d ▸ none) (w ▸ none) (λ q. ((λ y c. q.0 y (l.declares y c)), tt)) (λ y c. c)
+  list_declares = stretched Any (Declares (names_declared (listed A))) (declares_local (names_declared (listed A))) before after d w (l.declares (names_declared (listed A))) (λ y c. c)
 
   -- ---- names
 
+  names_both : (q : Declared) (ts : Trees) → all_names q (append before (append ts after)) ≡ all_names q before ++ (all_names q ts ++ all_names q after)
+  names_both q ts = all_both q before (append ts after) ∙ ap (λ ys. all_names q before ++ ys) (all_both q ts after)
+
   list_hoists : names_of declared.Hoisted (listed B) ≡ names_of declared.Hoisted (listed A)
   unfolding names_of
-  list_hoists = all_both declared.Hoisted before (w ▸ after) ∙ ap (λ ys. all_names declared.Hoisted before ++ (ys ++ all_names declared.Hoisted after)) l.hoists ∙ sym (all_both declared.Hoisted before (d ▸ after))
+  list_hoists = names_both declared.Hoisted w ∙ ap (λ ys. all_names declared.Hoisted before ++ (ys ++ all_names declared.Hoisted after)) l.hoists ∙ sym (names_both declared.Hoisted d)
 
   abbrev lexical_first : List Name
   lexical_first = all_names declared.Lexical before ++ l.first
@@ -138,12 +190,12 @@ module _ (x : Name) (before after : Trees) (d w : Tree) (l : Leaves x d w) where
   abbrev lexical_last : List Name
   lexical_last = l.last ++ all_names declared.Lexical after
 
-  lexical_both : (t : Tree) (xs ys : List Name) → names_of declared.Lexical t ≡ xs ++ ys → names_of declared.Lexical (listed (append before (t ▸ after))) ≡ (all_names declared.Lexical before ++ xs) ++ (ys ++ all_names declared.Lexical after)
+  lexical_both : (ts : Trees) (xs ys : List Name) → all_names declared.Lexical ts ≡ xs ++ ys → names_of declared.Lexical (listed (append before (append ts after))) ≡ (all_names declared.Lexical before ++ xs) ++ (ys ++ all_names declared.Lexical after)
   unfolding names_of
-  lexical_both t xs ys e =
+  lexical_both ts xs ys e =
       let f = all_names declared.Lexical before in
       let g = all_names declared.Lexical after in
-      all_both declared.Lexical before (t ▸ after) ∙ ap (λ zs. f ++ (zs ++ g)) e ∙ ap (λ zs. f ++ zs) (append_assoc xs ys g) ∙ sym (append_assoc f xs (ys ++ g))
+      names_both declared.Lexical ts ∙ ap (λ zs. f ++ (zs ++ g)) e ∙ ap (λ zs. f ++ zs) (append_assoc xs ys g) ∙ sym (append_assoc f xs (ys ++ g))
 
   lexical_with : names_of declared.Lexical (listed A) ≡ lexical_first ++ x ∷ lexical_last
   lexical_with = lexical_both d l.first (x ∷ l.last) l.names
@@ -248,10 +300,11 @@ module _ (x : Name) (before after : Trees) (d w : Tree) (l : Leaves x d w) where
     less_clash =
         let f = all_as_body false before in
         let g = all_as_body false after in
-        subst (λ ds. NoMoreClash (as_body false (listed B)) ds) (sym (as_bodies before (d ▸ after)))
-        (subst (λ es. NoMoreClash es (f ++ (as_body false d ++ g))) (sym (as_bodies before (w ▸ after)))
-        (no_more_both f f (as_body false d ++ g) (as_body false w ++ g) (no_more_same f f refl)
-        (no_more_both (as_body false d) (as_body false w) g g l.clash (no_more_same g g refl))))
+        let both = λ (ts : Trees). as_bodies before (append ts after) ∙ ap (λ es. f ++ es) (as_bodies ts after) in
+        subst (λ ds. NoMoreClash (as_body false (listed B)) ds) (sym (both d))
+        (subst (λ es. NoMoreClash es (f ++ (all_as_body false d ++ g))) (sym (both w))
+        (no_more_both f f (all_as_body false d ++ g) (all_as_body false w ++ g) (no_more_same f f refl)
+        (no_more_both (all_as_body false d) (all_as_body false w) g g l.clash (no_more_same g g refl))))
 
     fewer : (p : Path) → NoMoreClash (body_declarations false p (listed B)) (body_declarations false p (listed A))
     fewer p s =
@@ -310,7 +363,7 @@ three_or : (b : Bool) → (b || false) ≡ (((b || false) || false) || false)
 three_or true = refl
 three_or false = refl
 
-alone_stricter : (f : Fixed) → stricter f Writable ≡ f
+pub alone_stricter : (f : Fixed) → stricter f Writable ≡ f
 alone_stricter Writable = refl
 alone_stricter KeepsOld = refl
 alone_stricter Constant = refl
@@ -381,12 +434,12 @@ one_leaves x init v = record {
 
 -- ---- among other declarators
 
-all_append : (b : Binding) (ts us : Trees) → AllUnmentioned b ts → AllUnmentioned b us → AllUnmentioned b (append ts us)
+pub all_append : (b : Binding) (ts us : Trees) → AllUnmentioned b ts → AllUnmentioned b us → AllUnmentioned b (append ts us)
 unfolding Unmentioned
 all_append b none us p q = q
 all_append b (t ▸ ts) us p q = (p.0, all_append b ts us p.1 q)
 
-module _ (x : Name) (k : ℕ) (e : x.symbol ≡ symbol k) (first : Trees) (init : Tree) (last : Trees) (v : Vanishes init) (f : any_names x first ≡ false) (g : any_names x last ≡ false) where
+module _ (x : Name) (k : ℕ) (e : x.symbol ≡ symbol k) (first : Trees) (init : Tree) (last : Trees) (f : any_names x first ≡ false) (g : any_names x last ≡ false) where
   abbrev this : Tree
   this = declarator (binding x) init
 
@@ -396,23 +449,23 @@ module _ (x : Name) (k : ℕ) (e : x.symbol ≡ symbol k) (first : Trees) (init 
   abbrev others : Tree
   others = listed (append first last)
 
-  abbrev bound_first : List Name
+  abbrev pub bound_first : List Name
   bound_first = all_names declared.Bound first
 
   abbrev bound_last : List Name
   bound_last = all_names declared.Bound last
 
-  names_with : names_of declared.Lexical (over Let these) ≡ bound_first ++ x ∷ bound_last
+  pub names_with : names_of declared.Lexical (over Let these) ≡ bound_first ++ x ∷ bound_last
   unfolding names_of
   names_with = names_are declared.Lexical Let (append first (this ▸ last)) ∙ all_both declared.Bound first (this ▸ last)
 
-  names_without : names_of declared.Lexical (over Let others) ≡ bound_first ++ bound_last
+  pub names_without : names_of declared.Lexical (over Let others) ≡ bound_first ++ bound_last
   names_without = names_are declared.Lexical Let (append first last) ∙ all_both declared.Bound first last
 
   abbrev own : List Name → List Declaration
   own = own_declarations true []
 
-  among_clash : NoMoreClash (as_body false (over Let others)) (as_body false (over Let these))
+  pub among_clash : NoMoreClash (as_body false (over Let others)) (as_body false (over Let these))
   unfolding names_of
   among_clash =
       let o = own (x ∷ []) in
@@ -421,74 +474,74 @@ module _ (x : Name) (k : ℕ) (e : x.symbol ≡ symbol k) (first : Trees) (init 
       (no_more_both (own bound_first) (own bound_first) (o ++ own bound_last) (own bound_last) (no_more_same (own bound_first) (own bound_first) refl)
       (no_more_both o [] (own bound_last) (own bound_last) (λ s. (omega arith, λ z. refl)) (no_more_same (own bound_last) (own bound_last) refl))))
 
-  no_inner : has_inner this ≡ false
+  no_inner : Vanishes init → has_inner this ≡ false
   unfolding has_inner
-  no_inner = ap (λ b. b || false) v.inner
+  no_inner v = ap (λ b. b || false) v.inner
 
-  same_inner : has_inner others ≡ has_inner these
-  same_inner =
+  same_inner : Vanishes init → has_inner others ≡ has_inner these
+  same_inner v =
       both_same (has_inner these) (has_inner others) (stretched Any (InnerIf (has_inner these)) (inner_local (has_inner these)) first last (this ▸ none) none (λ q. tt) (itself (has_inner these)))
-      (stretched Any (InnerIf (has_inner others)) (inner_local (has_inner others)) first last none (this ▸ none) (λ q. (ap (λ b. b || has_inner others) no_inner, tt)) (itself (has_inner others)))
+      (stretched Any (InnerIf (has_inner others)) (inner_local (has_inner others)) first last none (this ▸ none) (λ q. (ap (λ b. b || has_inner others) (no_inner v), tt)) (itself (has_inner others)))
 
-  this_fixed : (y : Variable) → fixed_by this y ≡ Writable
-  this_fixed y = of_children shape.VariableDeclarator [] 0 (binding x ▸ (init ▸ none)) y refl ∙ alone_stricter (fixed_by init y) ∙ v.fixed y
+  this_fixed : Vanishes init → (y : Variable) → fixed_by this y ≡ Writable
+  this_fixed v y = of_children shape.VariableDeclarator [] 0 (binding x ▸ (init ▸ none)) y refl ∙ alone_stricter (fixed_by init y) ∙ v.fixed y
 
-  same_fixed : (y : Variable) → fixed_by others y ≡ fixed_by these y
-  same_fixed y =
+  same_fixed : Vanishes init → (y : Variable) → fixed_by others y ≡ fixed_by these y
+  same_fixed v y =
       let i = rank (fixed_by these y) in
       let j = rank (fixed_by others y) in
       by_rank (fixed_by others y) (fixed_by these y)
       (stretched Any (FixedBy y i) (fixed_local y i) first last (this ▸ none) none (λ q. tt) (omega arith))
-      (stretched Any (FixedBy y j) (fixed_local y j) first last none (this ▸ none) (λ q. (subst (λ a. rank a ≤ j) (sym (this_fixed y)) (omega arith), tt)) (omega arith))
+      (stretched Any (FixedBy y j) (fixed_local y j) first last none (this ▸ none) (λ q. (subst (λ a. rank a ≤ j) (sym (this_fixed v y)) (omega arith), tt)) (omega arith))
 
-  let_is_fixed : (ts : Trees) (y : Variable) → fixed_by (over Let (listed ts)) y ≡ fixed_by (listed ts) y
+  pub let_is_fixed : (ts : Trees) (y : Variable) → fixed_by (over Let (listed ts)) y ≡ fixed_by (listed ts) y
   let_is_fixed ts y = of_children (shape.VariableDeclaration Let) [] 0 (listed ts ▸ none) y refl ∙ alone_stricter (fixed_by (listed ts) y)
 
-  less_scoped : (env : Environment) → Scoped Read env (over Let these) → Scoped Read env (over Let others)
+  pub less_scoped : (env : Environment) → Scoped Read env (over Let these) → Scoped Read env (over Let others)
   less_scoped env s = scoped_up Let env others (stretched Any (ScopedAs (used Read Let) env) (scoped_local (used Read Let) env) first last (this ▸ none) none (λ q. tt) (scoped_down Let env these s))
 
-  less_symbols : (y : Option SymbolId) → times y (declared_in Read (over Let others)) ≤ times y (declared_in Read (over Let these))
+  pub less_symbols : (y : Option SymbolId) → times y (declared_in Read (over Let others)) ≤ times y (declared_in Read (over Let these))
   less_symbols y =
       let parts = sum_stretched (symbol_times (used Read Let) y) (symbols_summed (used Read Let) y) first last (this ▸ none) none (omega arith) in
       omega (arith, parts, symbols_are Read Let y others, symbols_are Read Let y these)
 
-  less_numbers : (n : ℕ) → count_of n (numbers (over Let others)) ≤ count_of n (numbers (over Let these))
+  pub less_numbers : (n : ℕ) → count_of n (numbers (over Let others)) ≤ count_of n (numbers (over Let these))
   less_numbers n =
       let parts = sum_stretched (number_times n) (numbers_summed n) first last (this ▸ none) none (omega arith) in
       omega (arith, parts, ap (count_of n) (numbers_are Let others), ap (count_of n) (numbers_are Let these))
 
-  less_once : early_names [] (over Let these) ≡ [] → early_names [] (over Let others) ≡ []
+  pub less_once : early_names [] (over Let these) ≡ [] → early_names [] (over Let others) ≡ []
   less_once o =
       once_is Let others
       ∙ once_anywhere [] (0 ∷ []) others (stretched Any Once once_local first last (this ▸ none) none (λ q. tt) (once_anywhere (0 ∷ []) [] these (sym (once_is Let these) ∙ o)))
 
-  less_targets : (h : Targets) → early_jumps h [] (over Let these) ≡ [] → early_jumps h [] (over Let others) ≡ []
+  pub less_targets : (h : Targets) → early_jumps h [] (over Let these) ≡ [] → early_jumps h [] (over Let others) ≡ []
   less_targets h o =
       jumps_are Let h others
       ∙ targets_anywhere h [] (0 ∷ []) others (stretched (HasTarget h) (Aimed h) (aimed_local h) first last (this ▸ none) none (λ q. tt) (targets_anywhere h (0 ∷ []) [] these (sym (jumps_are Let h these) ∙ o)))
 
-  less_frames : FramesKept (frames None (over Let these)) (frames None (over Let others))
+  pub less_frames : FramesKept (frames None (over Let these)) (frames None (over Let others))
   less_frames =
       let all = frames None (over Let these) in
       subst (FramesKept all) (sym (frames_are Let others)) (stretched Any (HasFrames all) (frames_local all) first last (this ▸ none) none (λ q. tt) (subst (FramesKept all) (frames_are Let these) (λ h c. c)))
 
-  less_bodies : (a : Around) → BodiesKept (bodies (quiet a) (over Let these)) (bodies (quiet a) (over Let others))
+  pub less_bodies : (a : Around) → BodiesKept (bodies (quiet a) (over Let these)) (bodies (quiet a) (over Let others))
   less_bodies a =
       let all = bodies (quiet a) (over Let these) in
       subst (BodiesKept all) (sym (bodies_are Let a others)) (stretched Any (HasBodies all a) (bodies_local all a) first last (this ▸ none) none (λ q. tt) (subst (BodiesKept all) (bodies_are Let a these) (kept_itself all)))
 
-  less_declared : (y : Name) → Contains (names_declared (over Let others)) y → Contains (names_declared (over Let these)) y
+  pub less_declared : (y : Name) → Contains (names_declared (over Let others)) y → Contains (names_declared (over Let these)) y
   less_declared =
       let all = names_declared (over Let these) in
       subst (Among all) (sym (declared_are Let others)) (stretched Any (Declares all) (declares_local all) first last (this ▸ none) none (λ q. tt) (subst (Among all) (declared_are Let these) (λ y c. c)))
 
-  among_unmentioned : Unmentioned (record { name = x; hoists = false }) (over Let others)
+  pub among_unmentioned : Unmentioned (record { name = x; hoists = false }) (over Let others)
   unfolding Unmentioned
   among_unmentioned = (tt, ((tt, all_append (record { name = x; hoists = false }) first last (all_unmentioned x k e first f) (all_unmentioned x k e last g)), tt))
 
-  among_leaves : Leaves x (let_among x first init last) (over Let others)
+  among_leaves : Vanishes init → Leaves x (let_among x first init last) (over Let others)
   unfolding names_of
-  among_leaves = record {
+  among_leaves v = record {
     first = bound_first;
     last = bound_last;
     names = names_with;
@@ -497,7 +550,7 @@ module _ (x : Name) (k : ℕ) (e : x.symbol ≡ symbol k) (first : Trees) (init 
     others_last = all_other x declared.Bound last g;
     hoists = refl;
     clash = among_clash;
-    inner = inner_is Let others ∙ same_inner ∙ sym (inner_is Let these);
+    inner = inner_is Let others ∙ same_inner v ∙ sym (inner_is Let these);
     scoped = less_scoped;
     unmentioned = among_unmentioned;
     symbols = less_symbols;
@@ -506,11 +559,11 @@ module _ (x : Name) (k : ℕ) (e : x.symbol ≡ symbol k) (first : Trees) (init 
     targets = less_targets;
     framed = less_frames;
     bodied = less_bodies;
-    fixed = λ y. let_is_fixed (append first last) y ∙ same_fixed y ∙ sym (let_is_fixed (append first (this ▸ last)) y);
+    fixed = λ y. let_is_fixed (append first last) y ∙ same_fixed v y ∙ sym (let_is_fixed (append first (this ▸ last)) y);
     declares = less_declared;
   }
 
 pub idle_leaves : (x : Name) (k : ℕ) → x.symbol ≡ symbol k → (first : Trees) (init : Tree) (last : Trees) → Vanishes init → any_names x first ≡ false → any_names x last ≡ false → Leaves x (let_among x first init last) (left_over (append first last))
 idle_leaves x k e none init none v f g = one_leaves x init v
-idle_leaves x k e none init (t ▸ last) v f g = among_leaves x k e none init (t ▸ last) v f g
-idle_leaves x k e (t ▸ first) init last v f g = among_leaves x k e (t ▸ first) init last v f g
+idle_leaves x k e none init (t ▸ last) v f g = among_leaves x k e none init (t ▸ last) f g v
+idle_leaves x k e (t ▸ first) init last v f g = among_leaves x k e (t ▸ first) init last f g v

@@ -46,15 +46,18 @@ use Rattle.mini_node.specs.Kinds.{is_absent_part}
 use Rattle.mini_node.specs.Made.{absent_is}
 use Rattle.mini_terms.specs.Folds.{is_effect_free}
 use Rattle.mini_terms.specs.Parts.{leaves_nothing}
+use Rattle.mini_terms.specs.Reading.{is_plain_part}
 use Rattle.mini_rows.specs.Arranged.{Vanishes}
 use Rattle.mini_rows.specs.Lists.{block, declares_nothing, declaration}
 use Rattle.mini_rows.specs.Declarations.{binding, declarator}
-use Rattle.mini_rows.specs.Unused.{resolved, let_one, Alone, is_idle, UnusedRow, UnusedContracts, let_among, left_over}
+use Rattle.mini_rows.specs.Unused.{resolved, let_one, any_names, is_idle, may_move, reads_first, UnusedRow, UnusedContracts, let_among, left_over, put_first}
 use Rattle.mini_rows.proofs.ArrangedBodies.{quiet}
 use Rattle.mini_rows.proofs.FoldLawful.{vanishes}
 use Rattle.mini_rows.proofs.ListShapes.{declaration_anywhere, append_fits, both_fit, first_fits, more_fit}
-use Rattle.mini_rows.proofs.UnusedKept.{Leaves, list_fixed, list_frames, list_bodies, list_declares, block_kept, block_less, block_keeps, value_leaves, idle_leaves}
-use Rattle.mini_rows.proofs.UnusedMeaning.{row_72, row_72_idle}
+use Rattle.mini_rows.proofs.UnusedKept.{LeavesThere, leaves_alone, list_fixed, list_frames, list_bodies, list_declares, block_kept, block_less, block_keeps, value_leaves, idle_leaves}
+use Rattle.mini_rows.proofs.SingleKept.{single_leaves}
+use Rattle.mini_rows.proofs.SingleFits.{put_fits}
+use Rattle.mini_rows.proofs.UnusedMeaning.{movable, row_72, row_72_idle, row_71}
 use Rattle.mini_rows.proofs.UnusedNames.{all_unmentioned, all_other}
 
 -- ---- where a block may stand
@@ -105,6 +108,14 @@ one_item strict before after d w h e =
     let (z, v) = first_fits strict item d after y in
     append_fits strict item before (w ▸ after) x (more_fit strict item w after (h z) v)
 
+two_items : (strict : Bool) (before after : Trees) (d e v w : Tree) → (fits strict item d ≡ true → fits strict item e ≡ true → (fits strict item v ≡ true) × (fits strict item w ≡ true)) → fill strict (each item) (append before (d ▸ (e ▸ after))) ≡ true → fill strict (each item) (append before (v ▸ (w ▸ after))) ≡ true
+two_items strict before after d e v w h f =
+    let (x, y) = both_fit strict item before (d ▸ (e ▸ after)) f in
+    let (z, u) = first_fits strict item d (e ▸ after) y in
+    let (a, b) = first_fits strict item e after u in
+    let (o, p) = h z a in
+    append_fits strict item before (v ▸ (w ▸ after)) x (more_fit strict item v (w ▸ after) o (more_fit strict item w after p b))
+
 there : (strict : Bool) (t : Tree) → declares_nothing t ≡ true → fits strict (one_or_absent an_expression) t ≡ true → fits strict (one an_expression) t ≡ true
 there strict (node shape.Absent xs n ts) d e = absurd (true≢false (sym d))
 there strict (node h xs n ts) d e = e
@@ -139,6 +150,26 @@ left_fits strict x none init none e = empty_fits strict
 left_fits strict x none init (t ▸ last) e = among_fits strict x none (t ▸ last) init (le-leb 1 (count (t ▸ last)) (omega arith)) e
 left_fits strict x (t ▸ first) init last e = among_fits strict x (t ▸ first) last init (le-leb 1 (count (t ▸ append first last)) (omega arith)) e
 
+none_after : (ts : Trees) → append ts none ≡ ts
+none_after none = refl
+none_after (t ▸ ts) = ap (λ us. t ▸ us) (none_after ts)
+
+plain_there : (strict : Bool) (t : Tree) → is_plain_part t ≡ true → fits strict (one_or_absent an_expression) t ≡ true → fits strict (one an_expression) t ≡ true
+plain_there strict (node shape.Absent xs n ts) d e = absurd (true≢false (sym d))
+plain_there strict (node h xs n ts) d e = e
+
+single_fits : (strict : Bool) (x : Name) (first : Trees) (init head : Tree) → may_move init ≡ true → reads_first x head ≡ true → fits strict item (let_among x first init none) ≡ true → fits strict item head ≡ true → (fits strict item (left_over first) ≡ true) × (fits strict item (put_first init head) ≡ true)
+single_fits strict x first init head m r e f =
+    let ds : Trees = append first (declarator (binding x) init ▸ none) in
+    let all = (and_parts (nat_le 1 (count ds)) (fill strict (each (one a_declarator)) ds && true) (sym (declaration_anywhere strict nested Let ds) ∙ e)).1 in
+    let (g, h) = both_fit strict (one a_declarator) first (declarator (binding x) init ▸ none) (left (fill strict (each (one a_declarator)) ds) true all) in
+    let (one_fits, rest) = first_fits strict (one a_declarator) (declarator (binding x) init) none h in
+    let (id, value) = and_parts (fits strict (one a_pattern) (binding x)) (fits strict (one_or_absent an_expression) init && true) one_fits in
+    let moves = plain_there strict init (movable init m) (left (fits strict (one_or_absent an_expression) init) true value) in (
+      ap (λ ts. fits strict item (left_over ts)) (sym (none_after first)) ∙ left_fits strict x first init none e,
+      put_fits strict x head r init moves f,
+    )
+
 -- ---- a name that is dropped
 
 all_join : (b : Binding) (ts us : Trees) → AllUnmentioned b ts → AllUnmentioned b us → AllUnmentioned b (append ts us)
@@ -146,9 +177,9 @@ unfolding Unmentioned
 all_join b none us p q = q
 all_join b (t ▸ ts) us p q = (p.0, all_join b ts us p.1 q)
 
-gone : (b : Binding) (ts us : Trees) (w : Tree) → AllUnmentioned b ts → Unmentioned b w → AllUnmentioned b us → Unmentioned b (listed (append ts (w ▸ us)))
+gone : (b : Binding) (ts us ws : Trees) → AllUnmentioned b ts → AllUnmentioned b ws → AllUnmentioned b us → Unmentioned b (listed (append ts (append ws us)))
 unfolding Unmentioned
-gone b ts us w p q r = (tt, all_join b ts (w ▸ us) p (q, r))
+gone b ts us ws p q r = (tt, all_join b ts (append ws us) p (all_join b ws us q r))
 
 record Dropped (q : StmtSeat) (k : ℕ) (n w : Tree) : Type 0 where
   keeps : KeepsLoosely (Stmt q) n w
@@ -157,18 +188,15 @@ record Dropped (q : StmtSeat) (k : ℕ) (n w : Tree) : Type 0 where
   fixed_same : (x : Variable) → fixed_by n x ≡ fixed_by w x
   declared_there : (x : Name) → Contains (declared w) x → Contains (declared n) x
 
-module _ (q : StmtSeat) (s : List ℕ) (k : ℕ) (before first : Trees) (init : Tree) (last after : Trees) (w : Tree) (l : Leaves (resolved s k) (let_among (resolved s k) first init last) w) (u : Alone (resolved s k) before first init last after) where
+module _ (q : StmtSeat) (s : List ℕ) (k : ℕ) (before after d w : Trees) (l : LeavesThere (resolved s k) d w) (earlier : any_names (resolved s k) before ≡ false) (later : any_names (resolved s k) after ≡ false) where
   abbrev x : Name
   x = resolved s k
 
-  abbrev d : Tree
-  d = let_among x first init last
-
   abbrev first_list : Trees
-  first_list = append before (d ▸ after)
+  first_list = append before (append d after)
 
   abbrev second_list : Trees
-  second_list = append before (w ▸ after)
+  second_list = append before (append w after)
 
   block_bodies : (a : Around) → BodiesKept (bodies a (block first_list)) (bodies a (block second_list))
   block_bodies a =
@@ -188,9 +216,9 @@ module _ (q : StmtSeat) (s : List ℕ) (k : ℕ) (before first : Trees) (init : 
 
   dropped : ((e : Environment) → Unseen (alone (Declared k)) e → (d : Demand) → Fits (Stmt q) d → Same e (alone (Declared k)) nothing d (block first_list) (block second_list)) → Dropped q k (block first_list) (block second_list)
   dropped same =
-      let o = all_other x Lexical before u.earlier in
-      let p = all_other x Lexical after u.later in
-      let m = gone (record { name = x; hoists = false }) before after w (all_unmentioned x k refl before u.earlier) l.unmentioned (all_unmentioned x k refl after u.later) in
+      let o = all_other x Lexical before earlier in
+      let p = all_other x Lexical after later in
+      let m = gone (record { name = x; hoists = false }) before after w (all_unmentioned x k refl before earlier) l.unmentioned (all_unmentioned x k refl after later) in
       record {
         keeps = in_order (Stmt q) (block first_list) (block second_list) (block_keeps x before after d w l o p m q);
         drops = record {
@@ -231,14 +259,20 @@ row_dropped : (q : StmtSeat) (n w : Tree) → UnusedRow (Stmt q) n w → (k : �
 row_dropped q n w (inl r) =
     let x = resolved r.spelling r.symbol in (
       r.symbol,
-      moved q r.symbol n w _ _ r.shape r.written (dropped q r.spelling r.symbol r.before none r.init none r.after (expression_statement r.init) (value_leaves x r.init r.symbol refl r.unused.initial) r.unused
+      moved q r.symbol n w _ _ r.shape r.written (dropped q r.spelling r.symbol r.before r.after (let_one x r.init ▸ none) (expression_statement r.init ▸ none) (leaves_alone x (let_one x r.init) (expression_statement r.init) (value_leaves x r.init r.symbol refl r.unused.initial)) r.unused.earlier r.unused.later
           (λ e z. in_tails e q (alone (Declared r.symbol)) _ _ (row_72 e r.symbol z _ _ (record { before = r.before; spelling = r.spelling; symbol = r.symbol; init = r.init; after = r.after; present = r.present; unused = r.unused; shape = refl; written = refl }) refl))),
     )
-row_dropped q n w (inr r) =
+row_dropped q n w (inr (inl r)) =
     let x = resolved r.spelling r.symbol in (
       r.symbol,
-      moved q r.symbol n w _ _ r.shape r.written (dropped q r.spelling r.symbol r.before r.first r.init r.last r.after (left_over (append r.first r.last)) (idle_leaves x r.symbol refl r.first r.init r.last (idle_vanishes r.init r.idle) r.unused.declared_earlier r.unused.declared_later) r.unused
+      moved q r.symbol n w _ _ r.shape r.written (dropped q r.spelling r.symbol r.before r.after (let_among x r.first r.init r.last ▸ none) (left_over (append r.first r.last) ▸ none) (leaves_alone x (let_among x r.first r.init r.last) (left_over (append r.first r.last)) (idle_leaves x r.symbol refl r.first r.init r.last (idle_vanishes r.init r.idle) r.unused.declared_earlier r.unused.declared_later)) r.unused.earlier r.unused.later
           (λ e z. in_tails e q (alone (Declared r.symbol)) _ _ (row_72_idle e r.symbol z _ _ (record { before = r.before; first = r.first; spelling = r.spelling; symbol = r.symbol; init = r.init; last = r.last; after = r.after; idle = r.idle; unused = r.unused; shape = refl; written = refl }) refl))),
+    )
+row_dropped q n w (inr (inr r)) =
+    let x = resolved r.spelling r.symbol in (
+      r.symbol,
+      moved q r.symbol n w _ _ r.shape r.written (dropped q r.spelling r.symbol r.before r.after (let_among x r.first r.init none ▸ (r.head ▸ none)) (left_over r.first ▸ (put_first r.init r.head ▸ none)) (single_leaves x r.symbol refl r.first r.init r.head r.once r.initial r.declared_earlier) r.earlier r.later
+          (λ e z. in_tails e q (alone (Declared r.symbol)) _ _ (row_71 e r.symbol z _ _ (record { before = r.before; first = r.first; spelling = r.spelling; symbol = r.symbol; init = r.init; head = r.head; after = r.after; moves = r.moves; once = r.once; earlier = r.earlier; declared_earlier = r.declared_earlier; initial = r.initial; later = r.later; unseen = r.unseen; shape = refl; written = refl }) refl))),
     )
 
 record Blocks (n w : Tree) : Type 0 where
@@ -252,11 +286,21 @@ row_blocks : (q : StmtSeat) (n w : Tree) → UnusedRow (Stmt q) n w → Blocks n
 row_blocks q n w (inl r) =
     let d = let_one (resolved r.spelling r.symbol) r.init in
     record { first = append r.before (d ▸ r.after); second = append r.before (expression_statement r.init ▸ r.after); before = r.shape; after = r.written; fitting = λ strict. one_item strict r.before r.after d (expression_statement r.init) (value_fits strict (resolved r.spelling r.symbol) r.init r.present) }
-row_blocks q n w (inr r) =
+row_blocks q n w (inr (inl r)) =
     let x = resolved r.spelling r.symbol in
     let d = let_among x r.first r.init r.last in
     let left = left_over (append r.first r.last) in
     record { first = append r.before (d ▸ r.after); second = append r.before (left ▸ r.after); before = r.shape; after = r.written; fitting = λ strict. one_item strict r.before r.after d left (left_fits strict x r.first r.init r.last) }
+row_blocks q n w (inr (inr r)) =
+    let x = resolved r.spelling r.symbol in
+    let d = let_among x r.first r.init none in
+    record {
+      first = append r.before (d ▸ (r.head ▸ r.after));
+      second = append r.before (left_over r.first ▸ (put_first r.init r.head ▸ r.after));
+      before = r.shape;
+      after = r.written;
+      fitting = λ strict. two_items strict r.before r.after d r.head (left_over r.first) (put_first r.init r.head) (λ f g. single_fits strict x r.first r.init r.head r.moves r.once f g);
+    }
 
 -- of two blocks, whatever is told by their shape
 shaped : (n w : Tree) (P : Tree → Tree → Type 0) → ((first_list second_list : Trees) → P (block first_list) (block second_list)) → Blocks n w → P n w

@@ -1,12 +1,14 @@
 -- A block without a name that nothing mentions means the same, but for what that variable holds afterwards.
-use Rattle.std.specs.Prelude.{◌&&◌, ◌||◌, Bool, Option}
-use Rattle.std.proofs.lemmas.Bool.{eq-eqb, and_parts}
+use Rattle.std.specs.Prelude.{◌&&◌, ◌||◌, not, Bool, Option}
+use Rattle.std.proofs.lemmas.Bool.{eq-eqb, eqb-true, and_parts}
+use Rattle.std.proofs.lemmas.List.{append-nil}
 use Rattle.std.proofs.Common.{◌≡◌, ℕ, true, false, List, [], ◌∷◌, ◌++◌, None, Some, refl, sym, ap, ◌∙◌, subst, subst₂, true≢false, append_assoc}
 use Rattle.mini_model.specs.declared.kind.VariableDeclarationKind.TheVariants.{Let}
 use Rattle.mini_model.specs.declared.name.Name.{Name}
+use Rattle.mini_model.specs.declared.name.SymbolId.{SymbolId}
 use Rattle.mini_model.specs.declared.operator.UnaryOperator.TheVariants.{LogicalNot}
 use Rattle.mini_model.specs.declared.shape.Shape.TheVariants as shape
-use Rattle.mini_model.specs.Tree.{Tree, Trees, node, none, ◌▸◌, absent, listed, empty_statement, expression_statement}
+use Rattle.mini_model.specs.Tree.{Tree, Trees, node, none, ◌▸◌, absent, listed, shape_of, identifier, empty_statement, expression_statement}
 use Rattle.mini_model.specs.Paths.{append}
 use Rattle.mini_laws.specs.Value.{Value, Undefined, Variable, Declared, VariableSet, Holds, choose, variable_eq, is_in, nothing}
 use Rattle.mini_laws.specs.State.{State, Completion, ok, stop, halt, out, either, Environment, with_vars}
@@ -22,11 +24,12 @@ use Rattle.mini_laws.specs.Same.{Goes, Agree, Same}
 use Rattle.mini_laws.specs.Step.{step, means, meaning}
 use Rattle.mini_laws.specs.Stretches as first
 use Rattle.mini_laws.specs.Substitution.{alone}
+use Rattle.mini_laws.specs.Symbols.{is_same}
 use Rattle.mini_laws.specs.Truth.{told}
 use Rattle.mini_laws.specs.Congruence.{Avoids, AllAvoid, ReadAlike, only}
 use Rattle.mini_laws.proofs.Anywhere.{stretch_anywhere}
 use Rattle.mini_laws.proofs.Congruent.{congruent_same, insensitive, transitive, no_init, weaker, no_within, no_off}
-use Rattle.mini_laws.proofs.Runs.{either_cong, either_eta}
+use Rattle.mini_laws.proofs.Runs.{either_cong, either_eta, either_assoc, either_stop}
 use Rattle.mini_laws.proofs.Simulation.{within_refl}
 use Rattle.mini_laws.proofs.Truth.{coherent}
 use Rattle.mini_kept.specs.Without.{Unseen}
@@ -34,12 +37,17 @@ use Rattle.mini_node.specs.Kinds.{is_absent_part}
 use Rattle.mini_node.specs.Made.{absent_is}
 use Rattle.mini_terms.specs.Folds.{is_effect_free}
 use Rattle.mini_terms.specs.Parts.{leaves_nothing}
+use Rattle.mini_terms.specs.Reading.{is_plain_part}
 use Rattle.mini_terms.proofs.Dropping.{does_nothing, weak}
 use Rattle.mini_rows.specs.Lists.{block, declaration, declares_nothing}
 use Rattle.mini_rows.specs.Declarations.{binding, declarator}
-use Rattle.mini_rows.specs.Unused.{resolved, let_among, let_one, is_idle, left_over, Row72, Row72Idle}
+use Rattle.mini_rows.specs.Sketches.{shape_by, AsWholeItem}
+use Rattle.mini_rows.specs.Unused.{resolved, names, let_among, let_one, is_idle, left_over, is_definition, may_move, put_first, reads_first, Row72, Row72Idle, Row71}
+use Rattle.mini_rows.proofs.FoldMeaning.{plain_read}
+use Rattle.mini_rows.proofs.SingleUse.{Lead, Doing, Giving, Raising, head_of, Step, led, is_end, Stands, Well, statement, unnamed}
+use Rattle.mini_rows.proofs.SingleMeaning.{first_goes}
 use Rattle.mini_rows.proofs.UnusedNames.{avoided, all_avoided}
-use Rattle.mini_rows.proofs.ListStretches.{lets_append, functions_append, facts_append, texts_append, exec_one, listed_is}
+use Rattle.mini_rows.proofs.ListStretches.{lets_append, functions_append, facts_append, texts_append, exec_one, exec_two, listed_is}
 use Rattle.mini_rows.proofs.ListStatements.{declaration_is, declare_more, declare_none, expression_is, empty_is, declarations_join}
 
 -- an expression is there
@@ -228,17 +236,17 @@ module _ (e : Environment) (spelling : List ℕ) (k : ℕ) (z : Unseen (alone (D
   one_less_shared : (xs ys : List Variable) → only e.shared (xs ++ Declared k ∷ ys) ≡ only e.shared (xs ++ ys)
   one_less_shared xs ys = only_both xs (Declared k ∷ ys) ∙ ap (λ c. only e.shared xs ++ choose c (Declared k ∷ only e.shared ys) (only e.shared ys)) unshared ∙ sym (only_both xs ys)
 
-  lets_around : (before after : Trees) (t : Tree) (xs ys : List Variable) → (summary t).lets ≡ xs ++ ys → lets_all (summaries (append before (t ▸ after))) ≡ (lets_all (summaries before) ++ xs) ++ (ys ++ lets_all (summaries after))
-  lets_around before after t xs ys f =
+  lets_around : (before after ts : Trees) (xs ys : List Variable) → lets_all (summaries ts) ≡ xs ++ ys → lets_all (summaries (append before (append ts after))) ≡ (lets_all (summaries before) ++ xs) ++ (ys ++ lets_all (summaries after))
+  lets_around before after ts xs ys f =
       let rest = lets_all (summaries after) in
       let first_lets = lets_all (summaries before) in
-      lets_append before (t ▸ after) ∙ ap (λ l. first_lets ++ (l ++ rest)) f ∙ ap (λ l. first_lets ++ l) (append_assoc xs ys rest) ∙ sym (append_assoc first_lets xs (ys ++ rest))
+      lets_append before (append ts after) ∙ ap (λ l. first_lets ++ l) (lets_append ts after) ∙ ap (λ l. first_lets ++ (l ++ rest)) f ∙ ap (λ l. first_lets ++ l) (append_assoc xs ys rest) ∙ sym (append_assoc first_lets xs (ys ++ rest))
 
-  module _ (before after : Trees) (d w : Tree) (xs ys : List Variable) (f : (summary d).lets ≡ xs ++ Declared k ∷ ys) (g : (summary w).lets ≡ xs ++ ys) where
-    lets_alike : (y : Variable) → D y ≡ false → is_in y (lets_all (summaries (append before (d ▸ after)))) ≡ is_in y (lets_all (summaries (append before (w ▸ after))))
+  module _ (before after d w : Trees) (xs ys : List Variable) (f : lets_all (summaries d) ≡ xs ++ Declared k ∷ ys) (g : lets_all (summaries w) ≡ xs ++ ys) where
+    lets_alike : (y : Variable) → D y ≡ false → is_in y (lets_all (summaries (append before (append d after)))) ≡ is_in y (lets_all (summaries (append before (append w after))))
     lets_alike y h = ap (is_in y) (lets_around before after d xs (Declared k ∷ ys) f) ∙ one_less y (lets_all (summaries before) ++ xs) (ys ++ lets_all (summaries after)) h ∙ sym (ap (is_in y) (lets_around before after w xs ys g))
 
-    shared_alike : only e.shared (lets_all (summaries (append before (d ▸ after)))) ≡ only e.shared (lets_all (summaries (append before (w ▸ after))))
+    shared_alike : only e.shared (lets_all (summaries (append before (append d after)))) ≡ only e.shared (lets_all (summaries (append before (append w after))))
     shared_alike = ap (only e.shared) (lets_around before after d xs (Declared k ∷ ys) f) ∙ one_less_shared (lets_all (summaries before) ++ xs) (ys ++ lets_all (summaries after)) ∙ sym (ap (only e.shared) (lets_around before after w xs ys g))
 
 -- what is read of a declaration, and of what is written for it
@@ -251,29 +259,59 @@ pub record ReadAs (k : ℕ) (d w : Tree) : Type 0 where
   pub facts : (summary d).facts.functions ≡ (summary w).facts.functions
   pub texts : (summary d).facts.texts ≡ (summary w).facts.texts
 
-module _ (e : Environment) (spelling : List ℕ) (k : ℕ) (z : Unseen (alone (Declared k)) e) (before after : Trees) (d w : Tree) (r : ReadAs k d w) where
-  list_read : ReadAlike (alone (Declared k)) e (summary (listed (append before (d ▸ after)))) (summary (listed (append before (w ▸ after))))
+-- and of some neighbours
+pub record ReadThere (k : ℕ) (d w : Trees) : Type 0 where
+  pub first : List Variable
+  pub last : List Variable
+  pub lets : lets_all (summaries d) ≡ first ++ Declared k ∷ last
+  pub left : lets_all (summaries w) ≡ first ++ last
+  pub functions : functions_all (summaries d) ≡ functions_all (summaries w)
+  pub facts : function_facts (facts_all (summaries d)) ≡ function_facts (facts_all (summaries w))
+  pub texts : texts_all (facts_all (summaries d)) ≡ texts_all (facts_all (summaries w))
+
+read_alone : (k : ℕ) (d w : Tree) → ReadAs k d w → ReadThere k (d ▸ none) (w ▸ none)
+read_alone k d w r = record {
+  first = r.first;
+  last = r.last;
+  lets = append-nil (summary d).lets ∙ r.lets;
+  left = append-nil (summary w).lets ∙ r.left;
+  functions = ap (λ l. l ++ []) r.functions;
+  facts = ap (λ l. l ++ []) r.facts;
+  texts = ap (λ l. l ++ []) r.texts;
+}
+
+module _ (e : Environment) (spelling : List ℕ) (k : ℕ) (z : Unseen (alone (Declared k)) e) (before after d w : Trees) (r : ReadThere k d w) where
+  functions_around : (ts : Trees) → functions_all (summaries (append before (append ts after))) ≡ functions_all (summaries before) ++ (functions_all (summaries ts) ++ functions_all (summaries after))
+  functions_around ts = functions_append before (append ts after) ∙ ap (λ l. functions_all (summaries before) ++ l) (functions_append ts after)
+
+  facts_around : (ts : Trees) → function_facts (facts_all (summaries (append before (append ts after)))) ≡ function_facts (facts_all (summaries before)) ++ (function_facts (facts_all (summaries ts)) ++ function_facts (facts_all (summaries after)))
+  facts_around ts = facts_append before (append ts after) ∙ ap (λ l. function_facts (facts_all (summaries before)) ++ l) (facts_append ts after)
+
+  texts_around : (ts : Trees) → texts_all (facts_all (summaries (append before (append ts after)))) ≡ texts_all (facts_all (summaries before)) ++ (texts_all (facts_all (summaries ts)) ++ texts_all (facts_all (summaries after)))
+  texts_around ts = texts_append before (append ts after) ∙ ap (λ l. texts_all (facts_all (summaries before)) ++ l) (texts_append ts after)
+
+  list_read : ReadAlike (alone (Declared k)) e (summary (listed (append before (append d after)))) (summary (listed (append before (append w after))))
   list_read = record {
     facts = λ j. record {
       absent = false;
       shortens = false;
       declared = None;
-      functions = (facts_append before (d ▸ after) ∙ ap (λ l. function_facts (facts_all (summaries before)) ++ (l ++ function_facts (facts_all (summaries after)))) r.facts ∙ sym (facts_append before (w ▸ after))) j;
-      texts = (texts_append before (d ▸ after) ∙ ap (λ l. texts_all (facts_all (summaries before)) ++ (l ++ texts_all (facts_all (summaries after)))) r.texts ∙ sym (texts_append before (w ▸ after))) j;
+      functions = (facts_around d ∙ ap (λ l. function_facts (facts_all (summaries before)) ++ (l ++ function_facts (facts_all (summaries after)))) r.facts ∙ sym (facts_around w)) j;
+      texts = (texts_around d ∙ ap (λ l. texts_all (facts_all (summaries before)) ++ (l ++ texts_all (facts_all (summaries after)))) r.texts ∙ sym (texts_around w)) j;
     };
     lets = lets_alike e spelling k z before after d w r.first r.last r.lets r.left;
     shared_lets = shared_alike e spelling k z before after d w r.first r.last r.lets r.left;
     name = refl;
-    functions = functions_append before (d ▸ after) ∙ ap (λ l. functions_all (summaries before) ++ (l ++ functions_all (summaries after))) r.functions ∙ sym (functions_append before (w ▸ after));
+    functions = functions_around d ∙ ap (λ l. functions_all (summaries before) ++ (l ++ functions_all (summaries after))) r.functions ∙ sym (functions_around w);
   }
 
-  pub block_same : AllAvoid (alone (Declared k)) before → Avoids (alone (Declared k)) w → AllAvoid (alone (Declared k)) after → Same e (alone (Declared k)) nothing (Stat None) (listed (d ▸ none)) (listed (w ▸ none))
-      → (t : Option Tail) → Same e (alone (Declared k)) nothing (Stat t) (block (append before (d ▸ after))) (block (append before (w ▸ after)))
+  pub block_same : AllAvoid (alone (Declared k)) before → AllAvoid (alone (Declared k)) w → AllAvoid (alone (Declared k)) after → Same e (alone (Declared k)) nothing (Stat None) (listed d) (listed w)
+      → (t : Option Tail) → Same e (alone (Declared k)) nothing (Stat t) (block (append before (append d after))) (block (append before (append w after)))
   block_same ab aw aa one t =
       let D = alone (Declared k) in
-      let same = list_same e spelling k z before after (d ▸ none) (w ▸ none) aa one t in
-      congruent_same e D z.shared (inside shape.BlockStatement [] 0 none here none) (listed (append before (d ▸ after))) (listed (append before (w ▸ after))) (tt, tt, tt, tt) (tt, all_join D before (w ▸ after) ab (aw, aa)) list_read nothing (Stat t) (no_off _)
-      (weaker e D D nothing _ (within_refl D) (no_within _) (Stat t) (listed (append before (d ▸ after))) (listed (append before (w ▸ after))) same)
+      let same = list_same e spelling k z before after d w aa one t in
+      congruent_same e D z.shared (inside shape.BlockStatement [] 0 none here none) (listed (append before (append d after))) (listed (append before (append w after))) (tt, tt, tt, tt) (tt, all_join D before (append w after) ab (all_join D w after aw aa)) list_read nothing (Stat t) (no_off _)
+      (weaker e D D nothing _ (within_refl D) (no_within _) (Stat t) (listed (append before (append d after))) (listed (append before (append w after))) same)
 
 -- ---- the rows
 
@@ -299,7 +337,7 @@ row_72 e k z n w r h t =
     let x = resolved r.spelling r.symbol in
     let u : Unseen (alone (Declared r.symbol)) e = subst (λ j. Unseen (alone (Declared j)) e) h z in
     let D = alone (Declared r.symbol) in
-    let same = block_same e r.spelling r.symbol u r.before r.after (let_one x r.init) (expression_statement r.init) (let_read r.spelling r.symbol r.init (expression_statement r.init) refl) (all_avoided x r.symbol refl r.before r.unused.earlier) (tt, (avoided x r.symbol refl r.init r.unused.initial, tt)) (all_avoided x r.symbol refl r.after r.unused.later) (value_same e r.spelling r.symbol u r.init r.present) t in
+    let same = block_same e r.spelling r.symbol u r.before r.after (let_one x r.init ▸ none) (expression_statement r.init ▸ none) (read_alone r.symbol (let_one x r.init) (expression_statement r.init) (let_read r.spelling r.symbol r.init (expression_statement r.init) refl)) (all_avoided x r.symbol refl r.before r.unused.earlier) ((tt, (avoided x r.symbol refl r.init r.unused.initial, tt)), tt) (all_avoided x r.symbol refl r.after r.unused.later) (value_same e r.spelling r.symbol u r.init r.present) t in
     subst (λ j. Same e (alone (Declared j)) nothing (Stat t) n w) (sym h) (subst₂ (Same e D nothing (Stat t)) (sym r.shape) (sym r.written) same)
 
 pub row_72_idle : (e : Environment) (k : ℕ) → Unseen (alone (Declared k)) e → (n w : Tree) (r : Row72Idle n w) → k ≡ r.symbol → (t : Option Tail) → Same e (alone (Declared k)) nothing (Stat t) n w
@@ -308,5 +346,120 @@ row_72_idle e k z n w r h t =
     let u : Unseen (alone (Declared r.symbol)) e = subst (λ j. Unseen (alone (Declared j)) e) h z in
     let D = alone (Declared r.symbol) in
     let beside = all_avoided x r.symbol refl r.last r.unused.declared_later in
-    let same = block_same e r.spelling r.symbol u r.before r.after (let_among x r.first r.init r.last) (left_over (append r.first r.last)) (idle_read r.spelling r.symbol r.first r.last r.init) (all_avoided x r.symbol refl r.before r.unused.earlier) (left_avoids D r.first r.last (all_avoided x r.symbol refl r.first r.unused.declared_earlier) beside) (all_avoided x r.symbol refl r.after r.unused.later) (left_same e r.spelling r.symbol u r.first r.last r.init r.idle beside) t in
+    let same = block_same e r.spelling r.symbol u r.before r.after (let_among x r.first r.init r.last ▸ none) (left_over (append r.first r.last) ▸ none) (read_alone r.symbol (let_among x r.first r.init r.last) (left_over (append r.first r.last)) (idle_read r.spelling r.symbol r.first r.last r.init)) (all_avoided x r.symbol refl r.before r.unused.earlier) (left_avoids D r.first r.last (all_avoided x r.symbol refl r.first r.unused.declared_earlier) beside, tt) (all_avoided x r.symbol refl r.after r.unused.later) (left_same e r.spelling r.symbol u r.first r.last r.init r.idle beside) t in
+    subst (λ j. Same e (alone (Declared j)) nothing (Stat t) n w) (sym h) (subst₂ (Same e D nothing (Stat t)) (sym r.shape) (sym r.written) same)
+
+-- ---- a name that is read once
+
+-- an initializer that may move, and what is read of it
+pub movable : (init : Tree) → may_move init ≡ true → is_plain_part init ≡ true
+movable init h = (and_parts (is_plain_part init) (not (is_definition (shape_of init))) h).0
+
+stated : (l : Lead) (b : Bool) → Stands AsWholeItem l b → (t u : Tree) → summary (node (shape_by (head_of l)) [] 0 (t ▸ none)) ≡ summary empty_statement
+stated Doing b s t u = refl
+stated Giving b s t u = refl
+stated Raising b s t u = refl
+stated l b s t u = absurd s
+
+head_read : (x : Name) (head : Tree) → reads_first x head ≡ true → (init : Tree) → (summary head ≡ summary empty_statement) × (summary (put_first init head) ≡ summary empty_statement)
+head_read x head e init =
+    let t = statement x head e in (
+      ap summary t.is ∙ stated t.lead true (t.stands true) t.inner t.inner,
+      ap (λ u. summary (put_first init u)) t.is ∙ stated t.lead true (t.stands true) (put_first init t.inner) t.inner,
+    )
+
+left_read : (first : Trees) → (summary (left_over first)).lets ≡ lets_all (summaries first)
+left_read none = refl
+left_read (t ▸ first) = refl
+
+left_plain : (first : Trees) → ((summary (left_over first)).functions ≡ []) × ((summary (left_over first)).facts.functions ≡ []) × ((summary (left_over first)).facts.texts ≡ [])
+left_plain none = (refl, refl, refl)
+left_plain (t ▸ first) = (refl, refl, refl)
+
+single_read : (spelling : List ℕ) (k : ℕ) (first : Trees) (init head w : Tree) → summary head ≡ summary empty_statement → summary w ≡ summary empty_statement → ReadThere k (let_among (resolved spelling k) first init none ▸ (head ▸ none)) (left_over first ▸ (w ▸ none))
+single_read spelling k first init head w h g =
+    let d = let_among (resolved spelling k) first init none in
+    let nothing_left = left_plain first in
+    record {
+      first = lets_all (summaries first);
+      last = [];
+      lets = ap (λ i. (summary d).lets ++ (i.lets ++ [])) h ∙ append-nil (summary d).lets ∙ lets_append first (declarator (binding (resolved spelling k)) init ▸ none);
+      left = ap (λ i. (summary (left_over first)).lets ++ (i.lets ++ [])) g ∙ append-nil (summary (left_over first)).lets ∙ left_read first ∙ sym (append-nil (lets_all (summaries first)));
+      functions = ap (λ i. i.functions ++ []) h ∙ sym (ap (λ i. (summary (left_over first)).functions ++ (i.functions ++ [])) g ∙ ap (λ l. l ++ []) nothing_left.0);
+      facts = ap (λ i. i.facts.functions ++ []) h ∙ sym (ap (λ i. (summary (left_over first)).facts.functions ++ (i.facts.functions ++ [])) g ∙ ap (λ l. l ++ []) nothing_left.1);
+      texts = ap (λ i. i.facts.texts ++ []) h ∙ sym (ap (λ i. (summary (left_over first)).facts.texts ++ (i.facts.texts ++ [])) g ∙ ap (λ l. l ++ []) nothing_left.2);
+    }
+
+-- the name that is read has the symbol
+same_symbol : (k : ℕ) (y : Option SymbolId) → is_same (Some (record { 0 = k })) y ≡ true → y ≡ Some (record { 0 = k })
+same_symbol k (Some y) e = ap (λ m. Some (record { 0 = m })) (sym (eqb-true k y.0 e))
+same_symbol k None e = absurd (true≢false (sym e))
+
+left_over_avoids : (D : VariableSet) (first : Trees) → AllAvoid D first → Avoids D (left_over first)
+left_over_avoids D none a = (tt, tt)
+left_over_avoids D (t ▸ first) a = (tt, ((tt, a), tt))
+
+module _ (e : Environment) (spelling : List ℕ) (k : ℕ) (z : Unseen (alone (Declared k)) e) (first : Trees) (init head : Tree) (moves : may_move init ≡ true) (once : reads_first (resolved spelling k) head ≡ true) where
+  abbrev single_name : Name
+  single_name = resolved spelling k
+
+  abbrev single_set : VariableSet
+  single_set = alone (Declared k)
+
+  plain_init : summary (identifier (resolved spelling k)) ≡ summary init
+  plain_init = sym (plain_read init (movable init moves))
+
+  -- the declaration and the statement, run
+  abbrev Run : Completion (Unit {0}) → Completion (Unit {0}) → Type 0
+  Run a b = Goes true (λ u. Agree single_set) (Agree single_set) (Agree single_set) a b
+
+  head_goes : (s : State) → Run (either (means e init (As Val) tt s) (λ v t. means e head (Stat None) [] (with_vars t (set_var t.vars (Declared k) (Holds v)))) (λ y t. stop y t)) (means e (put_first init head) (Stat None) [] s)
+  head_goes s =
+      let t = statement single_name head once in
+      let steps : List Step = record { lead = t.lead; rest = none } ∷ t.path.steps in
+      let reading = t.path.read in
+      let read_as : identifier reading ≡ identifier (resolved reading.spelling k) = ap (λ y. identifier (record { spelling = reading.spelling; symbol = y })) (same_symbol k reading.symbol t.path.same) in
+      let one = λ (u : Tree). led (record { lead = t.lead; rest = none } ∷ []) u in
+      let there : head ≡ led steps (identifier (resolved reading.spelling k)) = t.is ∙ ap one (t.path.is ∙ ap (led t.path.steps) read_as) in
+      let put : put_first init head ≡ led steps init = ap (put_first init) t.is ∙ ap one (t.path.puts init) in
+      subst₂ (λ h w. Run (either (means e init (As Val) tt s) (λ v t. means e h (Stat None) [] (with_vars t (set_var t.vars (Declared k) (Holds v)))) (λ y t. stop y t)) (means e w (Stat None) [] s)) (sym there) (sym put)
+      (first_goes e k z single_name refl reading.spelling init plain_init AsWholeItem steps (t.stands (is_end t.path.steps), subst (λ c. Well c t.path.steps) (sym (t.below AsWholeItem)) t.path.well) (refl, t.path.spared) (Stat None) tt [] s)
+
+  let_run : (s : State) → means e (let_one single_name init) (Stat None) [] s ≡ either (means e init (As Val) tt s) (λ v t. ok tt (with_vars t (set_var t.vars (Declared k) (Holds v)))) (λ y t. stop y t)
+  let_run s = let_is e spelling k z init s ∙ initialised e spelling k z init (ap (λ i. i.facts.absent) (sym plain_init)) s ∙ either_cong (means e init (As Val) tt s) _ _ _ _ (λ v t. binds e spelling k z v t) (λ y t. refl)
+
+  let_then : (s : State) → either (means e (let_one single_name init) (Stat None) [] s) (λ u t. means e head (Stat None) [] t) (λ y t. stop y t) ≡ either (means e init (As Val) tt s) (λ v t. means e head (Stat None) [] (with_vars t (set_var t.vars (Declared k) (Holds v)))) (λ y t. stop y t)
+  unfolding either
+  let_then s = ap (λ c. either c (λ u t. means e head (Stat None) [] t) (λ y t. stop y t)) (let_run s) ∙ either_assoc (means e init (As Val) tt s) _ _ _ _
+
+  abbrev others : Trees → State → Completion (Unit {0})
+  others ds s = means e (left_over ds) (Stat None) [] s
+
+  both_parts : (first : Trees) (s : State) → means e (let_among single_name first init none) (Stat None) [] s ≡ either (others first s) (λ u t. means e (let_one single_name init) (Stat None) [] t) (λ y t. stop y t)
+  unfolding either
+  both_parts none s = sym (ap (λ c. either c (λ u t. means e (let_one single_name init) (Stat None) [] t) (λ y t. stop y t)) (empty_is e [] s))
+  both_parts (t ▸ first) s = declarations_join e Let (t ▸ first) (declarator (binding single_name) init ▸ none) s
+
+  pair_goes : (s : State) → Run (either (means e (let_among single_name first init none) (Stat None) [] s) (λ u t. means e head (Stat None) [] t) (λ y t. stop y t)) (either (others first s) (λ u t. means e (put_first init head) (Stat None) [] t) (λ y t. stop y t))
+  pair_goes s =
+      subst (λ c. Run c (either (others first s) (λ u t. means e (put_first init head) (Stat None) [] t) (λ y t. stop y t)))
+      (sym (ap (λ c. either c (λ u t. means e head (Stat None) [] t) (λ y t. stop y t)) (both_parts first s) ∙ either_assoc (others first s) _ _ _ _ ∙ either_cong (others first s) _ _ _ _ (λ u t. let_then t) (λ y t. either_stop y t _ _)))
+      (both_go e spelling k z (others first s) _ _ head_goes)
+
+  single_same : Same e single_set nothing (Stat None) (listed (let_among single_name first init none ▸ (head ▸ none))) (listed (left_over first ▸ (put_first init head ▸ none)))
+  single_same = record { by = λ r s i. subst₂ Run (sym (listed_is e (let_among single_name first init none ▸ (head ▸ none)) r s ∙ exec_two e (let_among single_name first init none) head s)) (sym (listed_is e (left_over first ▸ (put_first init head ▸ none)) r s ∙ exec_two e (left_over first) (put_first init head) s)) (pair_goes s) }
+
+pub head_unnamed : (x : Name) (head : Tree) → reads_first x head ≡ true → (init : Tree) → names x init ≡ false → names x (put_first init head) ≡ false
+head_unnamed x head e init f =
+    let t = statement x head e in
+    ap (λ u. names x (put_first init u)) t.is ∙ ap (λ u. names x u || false) (t.path.puts init) ∙ ap (λ b. b || false) (unnamed x t.path.steps t.path.spared init f)
+
+pub row_71 : (e : Environment) (k : ℕ) → Unseen (alone (Declared k)) e → (n w : Tree) (r : Row71 n w) → k ≡ r.symbol → (t : Option Tail) → Same e (alone (Declared k)) nothing (Stat t) n w
+row_71 e k z n w r h t =
+    let x = resolved r.spelling r.symbol in
+    let u : Unseen (alone (Declared r.symbol)) e = subst (λ j. Unseen (alone (Declared j)) e) h z in
+    let D = alone (Declared r.symbol) in
+    let (read, put) = head_read x r.head r.once r.init in
+    let same = block_same e r.spelling r.symbol u r.before r.after (let_among x r.first r.init none ▸ (r.head ▸ none)) (left_over r.first ▸ (put_first r.init r.head ▸ none)) (single_read r.spelling r.symbol r.first r.init r.head (put_first r.init r.head) read put) (all_avoided x r.symbol refl r.before r.earlier)
+    (left_over_avoids D r.first (all_avoided x r.symbol refl r.first r.declared_earlier), (avoided x r.symbol refl (put_first r.init r.head) (head_unnamed x r.head r.once r.init r.initial), tt)) (all_avoided x r.symbol refl r.after r.later) (single_same e r.spelling r.symbol u r.first r.init r.head r.moves r.once) t in
     subst (λ j. Same e (alone (Declared j)) nothing (Stat t) n w) (sym h) (subst₂ (Same e D nothing (Stat t)) (sym r.shape) (sym r.written) same)

@@ -1,11 +1,13 @@
 -- What the rows of names that nothing mentions write is lighter.
 use Rattle.std.proofs.Common.{◌≡◌, ℕ, ◌+◌, ◌<◌, ◌≤◌, List, refl, sym, ap, ◌∙◌, inl, inr, arith}
+use Rattle.std.specs.Prelude.{not}
+use Rattle.std.proofs.lemmas.Bool.{and_parts}
 use Rattle.mini_model.specs.declared.kind.VariableDeclarationKind.TheVariants.{Let}
 use Rattle.mini_model.specs.declared.name.Name.{Name}
 use Rattle.mini_model.specs.declared.place.Position.{Position}
 use Rattle.mini_model.specs.declared.place.Position.TheVariants.{Stmt}
 use Rattle.mini_model.specs.declared.seat.StmtSeat.{StmtSeat}
-use Rattle.mini_model.specs.Tree.{Tree, Trees, none, ◌▸◌, expression_statement}
+use Rattle.mini_model.specs.Tree.{Tree, Trees, none, ◌▸◌, shape_of, expression_statement}
 use Rattle.mini_model.specs.Paths.{append}
 use Rattle.mini_model.specs.Position.{argument_seat, statement_expression_seat}
 use Rattle.mini_model.specs.Weight.{commas_weight, outline, outlines, one_chooses, braces_weight, weight}
@@ -13,7 +15,9 @@ use Rattle.mini_laws.specs.Weights.{Lightens}
 use Rattle.mini_laws.proofs.Seats.{moved}
 use Rattle.mini_rows.specs.Declarations.{binding, declarator}
 use Rattle.mini_rows.specs.Lists.{block, declaration}
-use Rattle.mini_rows.specs.Unused.{resolved, let_among, let_one, left_over, UnusedRow, UnusedContracts, UnusedLighter}
+use Rattle.mini_rows.specs.Unused.{resolved, let_among, let_one, left_over, is_definition, UnusedRow, UnusedContracts, UnusedLighter}
+use Rattle.mini_terms.specs.Reading.{is_plain_part}
+use Rattle.mini_rows.proofs.SingleWeights.{single_falls}
 use Rattle.mini_rows.proofs.ListWeights.{total, in_list, comma_list, declarators_append}
 
 value_falls : (s : List ℕ) (k : ℕ) (init : Tree) → total (expression_statement init ▸ none) + 1 ≤ total (let_one (resolved s k) init ▸ none)
@@ -59,8 +63,12 @@ pub unused_lighter : UnusedLighter
 unused_lighter (Stmt q) n w (inl r) =
     let falls = block_falls q r.before r.after (let_one (resolved r.spelling r.symbol) r.init) (expression_statement r.init) refl (value_falls r.spelling r.symbol r.init) in
     omega (arith, falls, ap (weight (Stmt q)) r.shape, ap (weight (Stmt q)) r.written)
-unused_lighter (Stmt q) n w (inr r) =
+unused_lighter (Stmt q) n w (inr (inl r)) =
     let falls = block_falls q r.before r.after (let_among (resolved r.spelling r.symbol) r.first r.init r.last) (left_over (append r.first r.last)) (same_chooses (resolved r.spelling r.symbol) r.first r.last r.init) (idle_falls (resolved r.spelling r.symbol) r.first r.last r.init) in
+    omega (arith, falls, ap (weight (Stmt q)) r.shape, ap (weight (Stmt q)) r.written)
+unused_lighter (Stmt q) n w (inr (inr r)) =
+    let plain = (and_parts (is_plain_part r.init) (not (is_definition (shape_of r.init))) r.moves).0 in
+    let falls = single_falls q r.before r.first r.spelling r.symbol r.init r.head r.after plain r.once in
     omega (arith, falls, ap (weight (Stmt q)) r.shape, ap (weight (Stmt q)) r.written)
 unused_lighter p n w r = absurd r
 
@@ -68,7 +76,8 @@ unused_lighter p n w r = absurd r
 
 same_outline : (p : Position) (n w : Tree) → UnusedRow p n w → outline n ≡ outline w
 same_outline (Stmt q) n w (inl r) = ap outline r.shape ∙ sym (ap outline r.written)
-same_outline (Stmt q) n w (inr r) = ap outline r.shape ∙ sym (ap outline r.written)
+same_outline (Stmt q) n w (inr (inl r)) = ap outline r.shape ∙ sym (ap outline r.written)
+same_outline (Stmt q) n w (inr (inr r)) = ap outline r.shape ∙ sym (ap outline r.written)
 same_outline p n w r = absurd r
 
 pub unused_lighten : Lightens UnusedContracts

@@ -1,17 +1,22 @@
 -- Rows of names that nothing mentions: each is a shape and what is written in its place, with the JavaScript before and after.
-use Rattle.std.specs.Prelude.{◌≡◌, ◌<◌, ◌⊎◌, ◌||◌, ◌&&◌, ℕ, Bool, true, false, List, [], ◌∷◌, Some}
+use Rattle.std.specs.Prelude.{◌≡◌, ◌<◌, ◌⊎◌, ◌||◌, ◌&&◌, not, ℕ, Bool, true, false, List, [], ◌∷◌, Some}
 use Rattle.mini_model.specs.declared.kind.VariableDeclarationKind.TheVariants.{Let}
 use Rattle.mini_model.specs.declared.name.Name.{Name}
+use Rattle.mini_model.specs.declared.operator.UnaryOperator.TheVariants.{LogicalNot}
 use Rattle.mini_model.specs.declared.place.Position.{Position}
 use Rattle.mini_model.specs.declared.place.Position.TheVariants.{Stmt}
-use Rattle.mini_model.specs.Tree.{Tree, Trees, node, none, ◌▸◌, empty_statement, expression_statement}
+use Rattle.mini_model.specs.declared.shape.Shape.{Shape}
+use Rattle.mini_model.specs.declared.shape.Shape.TheVariants as shape
+use Rattle.mini_model.specs.Tree.{Tree, Trees, node, none, ◌▸◌, shape_of, empty_statement, expression_statement}
 use Rattle.mini_model.specs.Paths.{append}
 use Rattle.mini_model.specs.Weight.{same_text, weight}
 use Rattle.mini_laws.specs.ScopeList.{has_eval}
 use Rattle.mini_laws.specs.Symbols.{is_same}
-use Rattle.mini_node.specs.Kinds.{is_absent_part}
+use Rattle.mini_node.specs.Children.{names_of, part, is_bare, is_nameless}
+use Rattle.mini_node.specs.Kinds.{is_absent_part, is_listed_shape, is_sequence_shape, is_identifier}
 use Rattle.mini_terms.specs.Folds.{is_effect_free}
 use Rattle.mini_terms.specs.Parts.{leaves_nothing}
+use Rattle.mini_terms.specs.Reading.{is_plain_part}
 use Rattle.mini_rows.specs.Lists.{block, declaration, declares_nothing}
 use Rattle.mini_rows.specs.Declarations.{binding, declarator}
 
@@ -87,9 +92,90 @@ pub record Row72Idle (n w : Tree) : Type 0 where
   pub shape : n ≡ block (append before (let_among (resolved spelling symbol) first init last ▸ after))
   pub written : w ≡ block (append before (left_over (append first last) ▸ after))
 
+-- ---- a name that is read once, and that is the first thing that happens
+
+-- what evaluates its first part before all else, and asks for its value alone. A name that is called by itself isn't such a part:
+-- of a member in its place the object would be `this`
+abbrev pub begins : Shape → Bool → Bool
+begins (shape.UnaryExpression LogicalNot) is_leaf = true
+begins (shape.BinaryExpression o) is_leaf = true
+begins (shape.LogicalExpression o) is_leaf = true
+begins shape.ConditionalExpression is_leaf = true
+begins shape.SequenceExpression is_leaf = true
+begins (shape.CallExpression false) is_leaf = not is_leaf
+begins (shape.StaticMemberExpression false) is_leaf = true
+begins (shape.ComputedMemberExpression false) is_leaf = true
+begins h is_leaf = false
+
+-- an expression, or the list of a sequence's parts
+abbrev pub leads : Bool → Shape → Bool → Bool
+leads true h is_leaf = is_listed_shape h
+leads false h is_leaf = begins h is_leaf
+
+abbrev pub is_childless : Tree → Bool
+is_childless (node h ys n none) = true
+is_childless t = false
+
+abbrev pub has_symbol_of : Name → List Name → Bool
+has_symbol_of x [] = false
+has_symbol_of x (y ∷ ys) = is_same x.symbol y.symbol
+
+-- it reads the variable
+abbrev pub reads : Name → Tree → Bool
+reads x t = is_identifier t && has_symbol_of x (names_of t)
+
+-- an expression, or a list of parts, reads the variable before all else, and nothing else in it mentions the name
+abbrev pub is_first : Name → Bool → Tree → Bool
+is_first x in_list (node h ys n none) = not in_list && reads x (node h ys n none)
+is_first x in_list (node h ys n (t ▸ ts)) = leads in_list h (is_childless t) && (is_nameless (node h ys n (t ▸ ts)) && (is_first x (is_sequence_shape h) t && not (any_names x ts)))
+
+-- another tree in the place of what is read there
+abbrev pub put_first : Tree → Tree → Tree
+put_first r (node h ys n none) = r
+put_first r (node h ys n (t ▸ ts)) = node h ys n (put_first r t ▸ ts)
+
+abbrev pub is_head_shape : Shape → Bool
+is_head_shape shape.ExpressionStatement = true
+is_head_shape shape.ReturnStatement = true
+is_head_shape shape.ThrowStatement = true
+is_head_shape h = false
+
+-- so does a statement
+abbrev pub reads_first : Name → Tree → Bool
+reads_first x t = is_head_shape (shape_of t) && (is_bare t 1 && is_first x false (part t 0))
+
+-- a function or a class without a name of its own gets the variable's (ECMA-262, "NamedEvaluation"): none of them moves
+abbrev pub is_definition : Shape → Bool
+is_definition (shape.Function is_declaration is_generator directives) = true
+is_definition (shape.ArrowFunctionExpression directives) = true
+is_definition (shape.Class is_declaration) = true
+is_definition h = false
+
+abbrev pub may_move : Tree → Bool
+may_move t = is_plain_part t && not (is_definition (shape_of t))
+
+-- 71: `{ let a, x = b(); return x + c; }` becomes `{ let a; return b() + c; }`, and `{ let x = b(); return x; }` `{ ; return b(); }`
+pub record Row71 (n w : Tree) : Type 0 where
+  pub before : Trees
+  pub first : Trees
+  pub spelling : List ℕ
+  pub symbol : ℕ
+  pub init : Tree
+  pub head : Tree
+  pub after : Trees
+  pub moves : may_move init ≡ true
+  pub once : reads_first (resolved spelling symbol) head ≡ true
+  pub earlier : any_names (resolved spelling symbol) before ≡ false
+  pub declared_earlier : any_names (resolved spelling symbol) first ≡ false
+  pub initial : names (resolved spelling symbol) init ≡ false
+  pub later : any_names (resolved spelling symbol) after ≡ false
+  pub unseen : has_eval (block (append before (let_among (resolved spelling symbol) first init none ▸ (head ▸ after)))) ≡ false
+  pub shape : n ≡ block (append before (let_among (resolved spelling symbol) first init none ▸ (head ▸ after)))
+  pub written : w ≡ block (append before (left_over first ▸ (put_first init head ▸ after)))
+
 -- a row reads n as w at this place
 abbrev pub UnusedRow : Position → Tree → Tree → Type 0
-UnusedRow (Stmt q) n w = Row72 n w ⊎ Row72Idle n w
+UnusedRow (Stmt q) n w = Row72 n w ⊎ (Row72Idle n w ⊎ Row71 n w)
 UnusedRow _ n w = ⊥
 
 -- what it writes, where it weighs less

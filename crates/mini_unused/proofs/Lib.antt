@@ -2,3 +2,4 @@ pub mod Operands
 pub mod Evaluating
 pub mod Standing
 pub mod Unused
+pub mod SingleUses

@@ -17,7 +17,7 @@ use Rattle.mini_node.specs.Kinds.{is_block}
 use Rattle.mini_node.specs.Made.{block_is}
 use Rattle.mini_rows.specs.Lists.{block, declaration, declares_nothing}
 use Rattle.mini_rows.specs.Declarations.{binding, declarator}
-use Rattle.mini_rows.specs.Unused.{resolved, let_among, left_over, names, any_names, is_idle, Alone, UnusedRow, UnusedContracts}
+use Rattle.mini_rows.specs.Unused.{resolved, let_among, left_over, names, any_names, is_idle, Alone, Row72, Row72Idle, Row71, UnusedRow, UnusedContracts}
 use Rattle.mini_rows.proofs.UnusedWeights.{unused_lighter}
 use Rattle.mini_tree.proofs.Reaching.{moves_once}
 use Rattle.mini_unused.specs.RemoveUnusedDeclaration.{is_resolved_binding, is_declarator_shape, declares_name, is_let, may_go, is_alone, is_unused_declarator, list_at, is_unused, UnusedIn, UnusedOf, UnusedAt, let_left, statement_left, block_left, Applied}
@@ -40,7 +40,7 @@ part_twice (node h xs n ts) i x y = ap (node h xs n) (go ts i)
     go (t ▸ ts) zero = refl
     go (t ▸ ts) (suc i) = ap (λ us. t ▸ us) (go ts i)
 
-parts_of : (ts : Trees) (i : ℕ) → i < count ts → ts ≡ append (first_children i ts) (child_or_absent ts i ▸ rest_children (suc i) ts)
+pub parts_of : (ts : Trees) (i : ℕ) → i < count ts → ts ≡ append (first_children i ts) (child_or_absent ts i ▸ rest_children (suc i) ts)
 parts_of none i h = absurd (omega (arith, h))
 parts_of (t ▸ none) zero h = refl
 parts_of (t ▸ (u ▸ ts)) zero h = refl
@@ -54,29 +54,29 @@ with_parts (t ▸ ts) (suc i) x h = ap (λ us. t ▸ us) (with_parts ts i x (ome
 
 -- the child after some others, and what stands around it
 
-there_within : (ts : Trees) (d : Tree) (us : Trees) → count ts < count (append ts (d ▸ us))
+pub there_within : (ts : Trees) (d : Tree) (us : Trees) → count ts < count (append ts (d ▸ us))
 there_within none d us = omega arith
 there_within (t ▸ ts) d us = let within = there_within ts d us in omega (arith, within)
 
-there_child : (ts : Trees) (d : Tree) (us : Trees) → child_or_absent (append ts (d ▸ us)) (count ts) ≡ d
+pub there_child : (ts : Trees) (d : Tree) (us : Trees) → child_or_absent (append ts (d ▸ us)) (count ts) ≡ d
 there_child none d us = refl
 there_child (t ▸ ts) d us = there_child ts d us
 
-there_rest : (ts : Trees) (d : Tree) (us : Trees) → rest_children (suc (count ts)) (append ts (d ▸ us)) ≡ us
+pub there_rest : (ts : Trees) (d : Tree) (us : Trees) → rest_children (suc (count ts)) (append ts (d ▸ us)) ≡ us
 there_rest none d none = refl
 there_rest none d (u ▸ us) = refl
 there_rest (t ▸ ts) d us = there_rest ts d us
 
-there_first : (ts : Trees) (d : Tree) (us : Trees) → first_children (count ts) (append ts (d ▸ us)) ≡ ts
+pub there_first : (ts : Trees) (d : Tree) (us : Trees) → first_children (count ts) (append ts (d ▸ us)) ≡ ts
 there_first none d us = refl
 there_first (t ▸ ts) d us = ap (λ vs. t ▸ vs) (there_first ts d us)
 
 -- ---- what the tests say
 
-and_both : (a b : Bool) → a ≡ true → b ≡ true → a && b ≡ true
+pub and_both : (a b : Bool) → a ≡ true → b ≡ true → a && b ≡ true
 and_both a b e f = ap (λ x. x && b) e ∙ f
 
-not_true : (b : Bool) → not b ≡ true → b ≡ false
+pub not_true : (b : Bool) → not b ≡ true → b ≡ false
 not_true true e = absurd (true≢false (sym e))
 not_true false e = refl
 
@@ -95,17 +95,17 @@ declarator_is : (d : Tree) → is_declarator_shape (shape_of d) && is_bare d 2 �
 declarator_is (node shape.VariableDeclarator [] zero (a ▸ (b ▸ none))) e = refl
 declarator_is d e = absurd (true≢false (sym e))
 
-a_let : (t : Tree) → is_let t ≡ true → t ≡ declaration Let (children (part t 0))
+pub a_let : (t : Tree) → is_let t ≡ true → t ≡ declaration Let (children (part t 0))
 a_let (node (shape.VariableDeclaration Let) [] zero (node shape.Listed [] zero ds ▸ none)) e = refl
 a_let (node (shape.VariableDeclaration Let) [] zero (u ▸ none)) e = absurd (true≢false (sym e))
 a_let t e = absurd (true≢false (sym e))
 
-record Declares (d : Tree) : Type 0 where
-  spelling : List ℕ
-  symbol : ℕ
-  is : d ≡ declarator (binding (resolved spelling symbol)) (part d 1)
+pub record Declares (d : Tree) : Type 0 where
+  pub spelling : List ℕ
+  pub symbol : ℕ
+  pub is : d ≡ declarator (binding (resolved spelling symbol)) (part d 1)
 
-declares : (d : Tree) → declares_name d ≡ true → Declares d
+pub declares : (d : Tree) → declares_name d ≡ true → Declares d
 declares d e =
     let (a, r) = and_parts (is_declarator_shape (shape_of d)) (is_bare d 2 && is_resolved_binding (part d 0)) e in
     let (b, c) = and_parts (is_bare d 2) (is_resolved_binding (part d 0)) r in
@@ -141,7 +141,7 @@ without_is (t ▸ none) zero = refl
 without_is (t ▸ (u ▸ ds)) zero = refl
 without_is (t ▸ ds) (suc j) = ap (λ us. t ▸ us) (without_is ds j)
 
-left_is : (ds : Trees) (j : ℕ) → j < count ds → (if is_bare (listed ds) 1 then empty_statement else declaration Let (without ds j)) ≡ left_over (append (first_children j ds) (rest_children (suc j) ds))
+pub left_is : (ds : Trees) (j : ℕ) → j < count ds → (if is_bare (listed ds) 1 then empty_statement else declaration Let (without ds j)) ≡ left_over (append (first_children j ds) (rest_children (suc j) ds))
 left_is none j h = absurd (omega (arith, h))
 left_is (t ▸ none) zero h = refl
 left_is (t ▸ none) (suc j) h = absurd (omega (arith, h))
@@ -239,7 +239,7 @@ module _ (t : Tree) (i j : ℕ) (b : is_block t ≡ true) (h : i < count (childr
     where
       by : (a : Bool) → is_idle init ≡ a → UnusedRow (Stmt q) t u
       by true c =
-          inr (record {
+          inr (inl (record {
             before = before;
             first = first;
             spelling = one.spelling;
@@ -251,7 +251,7 @@ module _ (t : Tree) (i j : ℕ) (b : is_block t ≡ true) (h : i < count (childr
             unused = unused;
             shape = block_there;
             written = written t u i j b h f ∙ ap (λ y. block (append before (y ▸ after))) (left_idle c);
-          })
+          }))
       by false c =
           let (single, present) = value c in
           let (no_first, no_last) = only_one ds j single g in
@@ -275,7 +275,7 @@ applied t u i j b h v f q =
 -- ---- where nothing is written no row reads it
 
 -- a block that a row reads
-record Read (t : Tree) : Type 0 where
+pub record Read (t : Tree) : Type 0 where
   before : Trees
   first : Trees
   spelling : List ℕ
@@ -291,9 +291,11 @@ or_true : (b : Bool) → (b || true) ≡ true
 or_true true = refl
 or_true false = refl
 
-read : (q : StmtSeat) (t w : Tree) → UnusedRow (Stmt q) t w → Read t
-read q t w (inl r) = record { before = r.before; first = none; spelling = r.spelling; symbol = r.symbol; init = r.init; last = none; after = r.after; goes = ap (λ b. is_idle r.init || b) r.present ∙ or_true (is_idle r.init); unused = r.unused; shape = r.shape }
-read q t w (inr r) = record { before = r.before; first = r.first; spelling = r.spelling; symbol = r.symbol; init = r.init; last = r.last; after = r.after; goes = ap (λ b. b || (is_bare (listed (append r.first (declarator (binding (resolved r.spelling r.symbol)) r.init ▸ r.last))) 1 && declares_nothing r.init)) r.idle; unused = r.unused; shape = r.shape }
+dropped : (t w : Tree) → Row72 t w → Read t
+dropped t w r = record { before = r.before; first = none; spelling = r.spelling; symbol = r.symbol; init = r.init; last = none; after = r.after; goes = ap (λ b. is_idle r.init || b) r.present ∙ or_true (is_idle r.init); unused = r.unused; shape = r.shape }
+
+dropped_idle : (t w : Tree) → Row72Idle t w → Read t
+dropped_idle t w r = record { before = r.before; first = r.first; spelling = r.spelling; symbol = r.symbol; init = r.init; last = r.last; after = r.after; goes = ap (λ b. b || (is_bare (listed (append r.first (declarator (binding (resolved r.spelling r.symbol)) r.init ▸ r.last))) 1 && declares_nothing r.init)) r.idle; unused = r.unused; shape = r.shape }
 
 module _ (t : Tree) (r : Read t) where
   abbrev named_there : Name
@@ -340,17 +342,22 @@ module _ (t : Tree) (r : Read t) where
       subst (λ v. count r.first < count (children (list_at (children (part v 0)) (count r.before)))) (sym r.shape)
       (subst (λ c. count r.first < count (children (part c 0))) (sym (there_child r.before statement_there r.after)) (there_within r.first declarator_there r.last))
 
-rests : (q : StmtSeat) (t : Tree) → (Read t → ⊥) → Applied (Stmt q) t t false
-rests q t f = (refl, λ w r. f (read q t w r))
+pub rests : (q : StmtSeat) (t : Tree) → (Read t → ⊥) → ((w : Tree) → Row71 t w → ⊥) → Applied (Stmt q) t t false
+rests q t f g = (refl, λ w r. by w r)
+  where
+    by : (w : Tree) → UnusedRow (Stmt q) t w → ⊥
+    by w (inl r) = f (dropped t w r)
+    by w (inr (inl r)) = f (dropped_idle t w r)
+    by w (inr (inr r)) = g w r
 
 pub no_block : (t : Tree) → is_block t ≡ false → (q : StmtSeat) → Applied (Stmt q) t t false
-no_block t e q = rests q t (λ r. true≢false (sym (ap is_block r.shape) ∙ e))
+no_block t e q = rests q t (λ r. true≢false (sym (ap is_block r.shape) ∙ e)) (λ w r. true≢false (sym (ap is_block r.shape) ∙ e))
 
-pub none_unused : (t : Tree) → UnusedAt (children (part t 0)) None → (q : StmtSeat) → Applied (Stmt q) t t false
-none_unused t f q = rests q t (λ r. true≢false (sym (unused_there t r) ∙ f (count r.before) (statement_within t r) (count r.first) (declarator_within t r)))
+pub all_used : (t : Tree) → UnusedAt (children (part t 0)) None → Read t → ⊥
+all_used t f r = true≢false (sym (unused_there t r) ∙ f (count r.before) (statement_within t r) (count r.first) (declarator_within t r))
 
 pub seen_by_eval : (t : Tree) → has_eval t ≡ true → (q : StmtSeat) → Applied (Stmt q) t t false
-seen_by_eval t e q = rests q t (λ r. true≢false (sym e ∙ ap has_eval r.shape ∙ r.unused.unseen))
+seen_by_eval t e q = rests q t (λ r. true≢false (sym e ∙ ap has_eval r.shape ∙ r.unused.unseen)) (λ w r. true≢false (sym e ∙ ap has_eval r.shape ∙ r.unseen))
 
 pub elsewhere : (p : Position) (t : Tree) → ((q : StmtSeat) → p ≡ Stmt q → ⊥) → Applied p t t false
 elsewhere (Stmt q) t f = absurd (f q refl)

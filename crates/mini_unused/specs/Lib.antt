@@ -1,2 +1,3 @@
 pub mod RemoveUnusedDeclaration
 pub mod Lighter
+pub mod SubstituteSingleUse

@@ -14,6 +14,7 @@ ghost use Rattle.mini_unused.specs.RemoveUnusedDeclaration.{declares_name as it_
 use crate::declares::declares_nothing;
 use crate::evals::has_eval;
 use crate::mentions::{is_mentioned, is_mentioned_before, is_mentioned_from};
+use crate::single_uses::substitute_single_use;
 use mini_model::{Name, OutOfMemory, Position, Shape, VariableDeclarationKind};
 use mini_node::{
     Node, Nodes, discard, empty_statement, expression_statement, is_absent_part, is_block,
@@ -43,7 +44,7 @@ fn is_resolved_binding(node: &Node) -> bool
 }
 
 // `x = a()` or `x`, as a declarator
-fn declares_name(node: &Node) -> bool
+pub fn declares_name(node: &Node) -> bool
     ensures kind { result ≡ it_declares_name node.now }
     ensures parts { result ≡ true → count (children node.now) ≡ 2 }
 {
@@ -53,7 +54,7 @@ fn declares_name(node: &Node) -> bool
 }
 
 // A `let`, with its list of declarators.
-fn is_let(node: &Node) -> bool
+pub fn is_let(node: &Node) -> bool
     ensures kind { result ≡ it_is_let node.now }
     ensures list { result ≡ true → count (children node.now) ≡ 1 }
 {
@@ -167,7 +168,7 @@ fn unused_at(statements: &Nodes) -> Option<(usize, usize)>
 }
 
 // The child at the index, taken out of the node.
-fn take_child(node: &mut Node, at: usize) -> Node
+pub fn take_child(node: &mut Node, at: usize) -> Node
     requires { at < count (children node.old) }
     ensures child { result ≡ part node.old at }
     ensures left { node.new ≡ with_part node.old at absent }
@@ -176,7 +177,7 @@ fn take_child(node: &mut Node, at: usize) -> Node
 }
 
 // Puts the child at the index of the node.
-fn put_child(node: &mut Node, at: usize, child: Node)
+pub fn put_child(node: &mut Node, at: usize, child: Node)
     requires { at < count (children node.old) }
     ensures { node.new ≡ with_part node.old at child }
 {
@@ -185,7 +186,7 @@ fn put_child(node: &mut Node, at: usize, child: Node)
 
 // Of a declaration, the declarator at the index, taken out of its list.
 #[tactic(auto, using(crate::proofs::Unused::same_parts, crate::proofs::Unused::part_twice))]
-fn take_declarator(declaration: &mut Node, which: usize) -> Node
+pub fn take_declarator(declaration: &mut Node, which: usize) -> Node
     requires list { 0 < count (children declaration.old) }
     requires declarator { which < count (children (part declaration.old 0)) }
     ensures declarator { result ≡ part (part declaration.old 0) which }
@@ -263,7 +264,7 @@ pub fn remove_unused_declaration(alloc: Global, node: &mut Node) -> Result<bool,
             drop_name(alloc, node, at, which)?;
             Ok(true)
         }
-        None => Ok(false),
+        None => Ok(substitute_single_use(alloc, node)),
     }
 }
 

@@ -5,6 +5,7 @@ mod declarations;
 mod declares;
 mod evals;
 mod mentions;
+mod single_uses;
 
 pub use declarations::{RemoveUnusedDeclarations, remove_unused_declaration};
 pub use evals::has_eval;

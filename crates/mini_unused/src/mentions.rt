@@ -16,7 +16,7 @@ fn is_same_text(left: &Text, right: &Text) -> bool
     left.as_slice() == right.as_slice()
 }
 
-fn is_same_symbol(left: Option<SymbolId>, right: Option<SymbolId>) -> bool
+pub fn is_same_symbol(left: Option<SymbolId>, right: Option<SymbolId>) -> bool
     ensures { result ≡ is_same left right }
 {
     match (left, right) {

@@ -1,0 +1,280 @@
+-- A declaration of a name that the statement after it reads first, and the two without the name: what they have.
+use Rattle.std.specs.Prelude.{ℕ, ◌+◌, ◌≤◌, ◌≡◌, refl, Bool, true, false, ◌||◌, List, [], ◌∷◌, ◌++◌, Contains, Option, None}
+use Rattle.std.proofs.Common.{ap, ◌∙◌, sym, subst, subst₂, arith}
+use Rattle.std.proofs.lemmas.List.{append-nil}
+use Rattle.std.proofs.lemmas.List.Elements.{Contains-append_right}
+use Rattle.mini_model.specs.declared.kind.VariableDeclarationKind.TheVariants.{Let}
+use Rattle.mini_model.specs.declared.name.Name.{Name}
+use Rattle.mini_model.specs.declared.name.SymbolId.{SymbolId}
+use Rattle.mini_model.specs.declared.shape.Shape.TheVariants as shape
+use Rattle.mini_model.specs.Tree.{Tree, Trees, node, none, ◌▸◌, listed, identifier}
+use Rattle.mini_model.specs.Paths.{append}
+use Rattle.mini_laws.specs.declared.names.Declaration.{Declaration}
+use Rattle.mini_laws.specs.declared.names.Declared.TheVariants as declared
+use Rattle.mini_laws.specs.declared.names.Targets.{Targets}
+use Rattle.mini_laws.specs.declared.names.Use.TheVariants.{Read}
+use Rattle.mini_laws.specs.DeclaredNames.{names_of, all_names, has_inner}
+use Rattle.mini_laws.specs.Resolved.{Environment}
+use Rattle.mini_laws.specs.Scopes.{scopes_by}
+use Rattle.mini_laws.specs.Scoped.{Scoped, Unmentioned}
+use Rattle.mini_laws.specs.Symbols.{declared as declared_in, times}
+use Rattle.mini_laws.specs.Early.{own_declarations, scope_declarations, early_names, targets_of, early_jumps}
+use Rattle.mini_laws.specs.Value.{Variable}
+use Rattle.mini_laws.specs.Fixity.{fixed_by}
+use Rattle.mini_laws.specs.Bodies.{Around, Body, bodies}
+use Rattle.mini_kept.specs.AlikeBodies.{BodiesKept}
+use Rattle.mini_kept.specs.Carried.{numbers}
+use Rattle.mini_kept.specs.Declaring.{declared as names_declared}
+use Rattle.mini_kept.specs.Frames.{Frame, frames, FramesKept}
+use Rattle.mini_kept.specs.KeepsNames.{count_of}
+use Rattle.mini_kept.specs.Loosely.{symbol}
+use Rattle.mini_kept.specs.SameNames.{NoMoreClash}
+use Rattle.mini_kept.proofs.Anywhere.{once_anywhere, targets_anywhere}
+use Rattle.mini_kept.proofs.Clashes.{no_more_same, no_more_both}
+use Rattle.mini_kept.proofs.Fixed.{of_children}
+use Rattle.mini_kept.proofs.Unplaced.{as_body, own_both}
+use Rattle.mini_rows.specs.Declarations.{binding, declarator}
+use Rattle.mini_rows.specs.Sketches.{shape_by, Asked, AsWholeItem, AsValue, AsWholeList, Leap}
+use Rattle.mini_rows.specs.Unused.{names, any_names, let_among, left_over, put_first, reads_first}
+use Rattle.mini_rows.proofs.Arranging.{All, Any, Local}
+use Rattle.mini_rows.proofs.ArrangedNames.{ScopedAs, scoped_local, symbol_times, symbols_summed, number_times, numbers_summed, InnerIf, inner_local, Once, once_local, HasTarget, Aimed, aimed_local}
+use Rattle.mini_rows.proofs.ArrangedBodies.{quiet, HasBodies, bodies_local, HasFrames, frames_local, Among, Declares, declares_local, FixedBy, fixed_local, rank}
+use Rattle.mini_rows.proofs.ListKeptDeclarations.{all_both, over, names_are, declarations_are, used, scoped_down, scoped_up, symbols_are, inner_is, numbers_are, declared_are, frames_are, bodies_are, once_is, jumps_are}
+use Rattle.mini_rows.proofs.ListKeptStretch.{joined, parted, sum_joined}
+use Rattle.mini_rows.proofs.SingleUse.{Lead, Doing, Giving, Raising, head_of, Step, led, is_end, Stands, Well, statement, swapped, taken, swapped_sum, unnamed}
+use Rattle.mini_rows.proofs.UnusedKept.{LeavesThere, alone_stricter, let_is_fixed, names_with}
+use Rattle.mini_rows.proofs.UnusedNames.{all_unmentioned, all_other, unmentioned}
+
+two : {X : Type 0} (xs : List X) → (xs ++ []) ++ [] ≡ xs
+two xs = append-nil (xs ++ []) ∙ append-nil xs
+
+or_two : (a b : Bool) → (((a || false) || false) || b) ≡ (a || b)
+or_two true b = refl
+or_two false b = refl
+
+-- ---- the declaration: what is left of it, and the initializer
+
+module _ (x : Name) (k : ℕ) (e : x.symbol ≡ symbol k) (first : Trees) (init : Tree) (f : any_names x first ≡ false) where
+  abbrev this : Trees
+  this = declarator (binding x) init ▸ none
+
+  abbrev these : Tree
+  these = listed (append first this)
+
+  abbrev d : Tree
+  d = let_among x first init none
+
+  -- what holds of its list
+  module _ (J : Leap → Type 0) (Q : Asked → Tree → Type 0) (l : Local J Q) (P : Tree → Type 0) (down : Q AsWholeList these) (inner : Q AsWholeList (listed this) → P init) (nothing_there : P (left_over none)) (up : (t : Tree) (ts : Trees) → Q AsWholeList (listed (t ▸ ts)) → P (left_over (t ▸ ts))) where
+    of_first : (ts : Trees) → Q AsWholeList (listed ts) → P (left_over ts)
+    of_first none q = nothing_there
+    of_first (t ▸ ts) q = up t ts q
+
+    both_of : P (left_over first) × P init
+    both_of = let (a, b) = parted J Q l first this down in (of_first first a, inner b)
+
+  scoped_both : (env : Environment) → Scoped Read env d → Scoped Read env (left_over first) × Scoped Read env init
+  unfolding Scoped scopes_by
+  scoped_both env s =
+      both_of Any (ScopedAs (used Read Let) env) (scoped_local (used Read Let) env) (Scoped Read env) (scoped_down Let env these s) (λ q. subst (λ r. Scoped Read r init) (append-nil _ ∙ append-nil _ ∙ append-nil _) q.1.0.1.1.0) (tt, tt) (λ t ts q. scoped_up Let env (listed (t ▸ ts)) q)
+
+  symbols_both : (y : Option SymbolId) → times y (declared_in Read (left_over first)) + times y (declared_in Read init) ≤ times y (declared_in Read d)
+  unfolding declared_in scopes_by
+  symbols_both y =
+      let parts = sum_joined (symbol_times (used Read Let) y) (symbols_summed (used Read Let) y) first this in
+      let own = ap (times y) (two (declared_in Read init)) in
+      omega (arith, parts, own, symbols_are Read Let y these, left first)
+    where
+      left : (ts : Trees) → times y (declared_in Read (left_over ts)) ≤ times y (declared_in (used Read Let) (listed ts))
+      left none = omega arith
+      left (t ▸ ts) = let same = symbols_are Read Let y (listed (t ▸ ts)) in omega (arith, same)
+
+  numbers_both : (n : ℕ) → count_of n (numbers (left_over first)) + count_of n (numbers init) ≤ count_of n (numbers d)
+  unfolding numbers
+  numbers_both n =
+      let parts = sum_joined (number_times n) (numbers_summed n) first this in
+      let own = ap (count_of n) (two (numbers init)) in
+      omega (arith, parts, own, ap (count_of n) (numbers_are Let these), left first)
+    where
+      left : (ts : Trees) → count_of n (numbers (left_over ts)) ≤ count_of n (numbers (listed ts))
+      left none = omega arith
+      left (t ▸ ts) = let same = ap (count_of n) (numbers_are Let (listed (t ▸ ts))) in omega (arith, same)
+
+  inner_both : (b : Bool) → InnerIf b AsWholeItem d → InnerIf b AsWholeItem (left_over first) × InnerIf b AsValue init
+  unfolding has_inner
+  inner_both b q =
+      both_of Any (InnerIf b) (inner_local b) (InnerIf b AsValue) (sym (ap (λ c. c || b) (inner_is Let these)) ∙ q) (λ q. sym (or_two (has_inner init) b) ∙ q) refl (λ t ts q. ap (λ c. c || b) (inner_is Let (listed (t ▸ ts))) ∙ q)
+
+  once_both : Once AsWholeItem d → Once AsWholeItem (left_over first) × Once AsValue init
+  unfolding early_names scope_declarations
+  once_both q =
+      both_of Any Once once_local (Once AsValue) (once_anywhere (0 ∷ []) [] these (sym (once_is Let these) ∙ q)) (λ q. once_anywhere (0 ∷ 1 ∷ []) [] init (sym (two (early_names (0 ∷ 1 ∷ []) init)) ∙ q)) refl
+      (λ t ts q. once_is Let (listed (t ▸ ts)) ∙ once_anywhere [] (0 ∷ []) (listed (t ▸ ts)) q)
+
+  targets_both : (g : Targets) → Aimed g AsWholeItem d → Aimed g AsWholeItem (left_over first) × Aimed g AsValue init
+  unfolding early_jumps targets_of
+  targets_both g q =
+      both_of (HasTarget g) (Aimed g) (aimed_local g) (Aimed g AsValue) (targets_anywhere g (0 ∷ []) [] these (sym (jumps_are Let g these) ∙ q)) (λ q. targets_anywhere g (0 ∷ 1 ∷ []) [] init (sym (two (early_jumps g (0 ∷ 1 ∷ []) init)) ∙ q)) refl
+      (λ t ts q. jumps_are Let g (listed (t ▸ ts)) ∙ targets_anywhere g [] (0 ∷ []) (listed (t ▸ ts)) q)
+
+  frames_both : (all : List Frame) → HasFrames all AsWholeItem d → HasFrames all AsWholeItem (left_over first) × HasFrames all AsValue init
+  frames_both all q =
+      both_of Any (HasFrames all) (frames_local all) (HasFrames all AsValue) (subst (FramesKept all) (frames_are Let these) q) (λ q. subst (FramesKept all) (two (frames None init)) q) (λ h c. absurd (none_there h c))
+      (λ t ts q. subst (FramesKept all) (sym (frames_are Let (listed (t ▸ ts)))) q)
+    where
+      none_there : (h : Frame) → Contains [] h → ⊥
+      none_there h (i, below, at) = omega (arith, below)
+
+  bodies_both : (all : List Body) (a : Around) → HasBodies all a AsWholeItem d → HasBodies all a AsWholeItem (left_over first) × HasBodies all a AsValue init
+  bodies_both all a q =
+      both_of Any (HasBodies all a) (bodies_local all a) (HasBodies all a AsValue) (subst (BodiesKept all) (bodies_are Let a these) q) (λ q. subst (BodiesKept all) (two (bodies (quiet a) init)) q) tt (λ t ts q. subst (BodiesKept all) (sym (bodies_are Let a (listed (t ▸ ts)))) q)
+
+  declares_both : (all : List Name) → Declares all AsWholeItem d → Declares all AsWholeItem (left_over first) × Declares all AsValue init
+  declares_both all q =
+      both_of Any (Declares all) (declares_local all) (Declares all AsValue) (subst (Among all) (declared_are Let these) q) (λ q y c. q y (subst (λ ys. Contains (x ∷ ys) y) (sym (two (names_declared init))) (Contains-append_right (x ∷ []) (names_declared init) y c)))
+      (λ h c. absurd (none_there h c)) (λ t ts q. subst (Among all) (sym (declared_are Let (listed (t ▸ ts)))) q)
+    where
+      none_there : (h : Name) → Contains [] h → ⊥
+      none_there h (i, below, at) = omega (arith, below)
+
+  this_fixed : (y : Variable) → fixed_by (listed this) y ≡ fixed_by init y
+  this_fixed y =
+      of_children shape.Listed [] 0 this y refl
+      ∙ alone_stricter (fixed_by (declarator (binding x) init) y)
+      ∙ of_children shape.VariableDeclarator [] 0 (binding x ▸ (init ▸ none)) y refl
+      ∙ alone_stricter (fixed_by init y)
+
+  let_fixed : (ts : Trees) (y : Variable) → fixed_by (over Let (listed ts)) y ≡ fixed_by (listed ts) y
+  let_fixed ts y = let_is_fixed x k e first init none f refl ts y
+
+  fixed_both : (y : Variable) (j : ℕ) → FixedBy y j AsWholeItem d → FixedBy y j AsWholeItem (left_over first) × FixedBy y j AsValue init
+  fixed_both y j q =
+      both_of Any (FixedBy y j) (fixed_local y j) (FixedBy y j AsValue) (subst (λ g. rank g ≤ j) (let_fixed (append first this) y) q) (λ q. subst (λ g. rank g ≤ j) (this_fixed y) q) (omega arith) (λ t ts q. subst (λ g. rank g ≤ j) (sym (let_fixed (t ▸ ts) y)) q)
+
+  -- and back
+
+  inner_back : (b : Bool) → InnerIf b AsWholeItem (left_over first) → InnerIf b AsValue init → InnerIf b AsWholeItem d
+  unfolding has_inner
+  inner_back b p q = ap (λ c. c || b) (inner_is Let these) ∙ joined Any (InnerIf b) (inner_local b) first this (left first p) (or_two (has_inner init) b ∙ q)
+    where
+      left : (ts : Trees) → InnerIf b AsWholeItem (left_over ts) → InnerIf b AsWholeList (listed ts)
+      left none p = refl
+      left (t ▸ ts) p = sym (ap (λ c. c || b) (inner_is Let (listed (t ▸ ts)))) ∙ p
+
+  fixed_back : (y : Variable) (j : ℕ) → FixedBy y j AsWholeItem (left_over first) → FixedBy y j AsValue init → FixedBy y j AsWholeItem d
+  fixed_back y j p q = subst (λ g. rank g ≤ j) (sym (let_fixed (append first this) y)) (joined Any (FixedBy y j) (fixed_local y j) first this (left first p) (subst (λ g. rank g ≤ j) (sym (this_fixed y)) q))
+    where
+      left : (ts : Trees) → FixedBy y j AsWholeItem (left_over ts) → FixedBy y j AsWholeList (listed ts)
+      left none p = omega arith
+      left (t ▸ ts) p = subst (λ g. rank g ≤ j) (let_fixed (t ▸ ts) y) p
+
+  -- names
+
+  abbrev bound : List Name
+  bound = all_names declared.Bound first
+
+  names_there : names_of declared.Lexical d ≡ bound ++ x ∷ []
+  unfolding names_of
+  names_there = names_with x k e first init none f refl
+
+  names_left : (ts : Trees) → names_of declared.Lexical (left_over ts) ≡ all_names declared.Bound ts
+  unfolding names_of
+  names_left none = refl
+  names_left (t ▸ ts) = names_are declared.Lexical Let (t ▸ ts)
+
+  hoists_nothing : (ts : Trees) → names_of declared.Hoisted (left_over ts) ≡ []
+  unfolding names_of
+  hoists_nothing none = refl
+  hoists_nothing (t ▸ ts) = refl
+
+  abbrev own : List Name → List Declaration
+  own = own_declarations true []
+
+  left_declares : (ts : Trees) → as_body false (left_over ts) ≡ own (all_names declared.Bound ts)
+  unfolding names_of
+  left_declares none = refl
+  left_declares (t ▸ ts) = declarations_are false Let (t ▸ ts)
+
+  clash : NoMoreClash (as_body false (left_over first)) (as_body false d)
+  unfolding names_of
+  clash =
+      let o = own (x ∷ []) in
+      subst₂ NoMoreClash (append-nil (own bound) ∙ sym (left_declares first)) (sym (declarations_are false Let (append first this) ∙ ap own (all_both declared.Bound first this) ∙ own_both true bound (x ∷ [])))
+      (no_more_both (own bound) (own bound) o [] (no_more_same (own bound) (own bound) refl) (λ s. (omega arith, λ z. refl)))
+
+  left_unmentioned : Unmentioned (record { name = x; hoists = false }) (left_over first)
+  unfolding Unmentioned
+  left_unmentioned = by first f
+    where
+      by : (ts : Trees) → any_names x ts ≡ false → Unmentioned (record { name = x; hoists = false }) (left_over ts)
+      by none f = (tt, tt)
+      by (t ▸ ts) f = (tt, ((tt, all_unmentioned x k e (t ▸ ts) f), tt))
+
+-- ---- the statement
+
+record Named (t : Tree) : Type 0 where
+  lexical : names_of declared.Lexical t ≡ []
+  hoisted : names_of declared.Hoisted t ≡ []
+  declares : as_body false t ≡ []
+
+stated : (l : Lead) → Stands AsWholeItem l true → (t : Tree) → Named (node (shape_by (head_of l)) [] 0 (t ▸ none))
+unfolding names_of
+stated Doing s t = record { lexical = refl; hoisted = refl; declares = refl }
+stated Giving s t = record { lexical = refl; hoisted = refl; declares = refl }
+stated Raising s t = record { lexical = refl; hoisted = refl; declares = refl }
+stated l s t = absurd s
+
+module _ (x : Name) (k : ℕ) (e : x.symbol ≡ symbol k) (first : Trees) (init : Tree) (f : any_names x first ≡ false) (ss : List Step) (w : Well AsWholeItem ss) (y : Name) (g : names x (led ss init) ≡ false) (n : Named (led ss (identifier y))) (m : Named (led ss init)) where
+  abbrev head : Tree
+  head = led ss (identifier y)
+
+  abbrev put : Tree
+  put = led ss init
+
+  abbrev earlier : Trees
+  earlier = let_among x first init none ▸ (head ▸ none)
+
+  abbrev later : Trees
+  later = left_over first ▸ (put ▸ none)
+
+  moved : (J : Leap → Type 0) (Q : Asked → Tree → Type 0) → Local J Q → (Q AsWholeItem (let_among x first init none) → Q AsWholeItem (left_over first) × Q AsValue init) → All Q AsWholeItem earlier → All Q AsWholeItem later
+  moved J Q l h a = let (p, q) = h a.0 in (p, (swapped J Q l AsWholeItem ss w (identifier y) init (λ z. q) a.1.0, tt))
+
+  moved_back : (J : Leap → Type 0) (Q : Asked → Tree → Type 0) → Local J Q → Q AsValue (identifier y) → (Q AsWholeItem (left_over first) → Q AsValue init → Q AsWholeItem (let_among x first init none)) → All Q AsWholeItem later → All Q AsWholeItem earlier
+  moved_back J Q l o h a = (h a.0 (taken J Q l AsWholeItem ss w init a.1.0), (swapped J Q l AsWholeItem ss w init (identifier y) (λ z. o) a.1.0, tt))
+
+  there_leaves : LeavesThere x earlier later
+  unfolding names_of Unmentioned has_inner
+  there_leaves = record {
+    first = all_names declared.Bound first;
+    last = [];
+    names = (λ i. names_there x k e first init f i ++ (n.lexical i ++ [])) ∙ append-nil (all_names declared.Bound first ++ x ∷ []);
+    left = λ i. names_left x k e first init f first i ++ (m.lexical i ++ []);
+    others_first = all_other x declared.Bound first f;
+    others_last = tt;
+    hoists = (λ i. hoists_nothing x k e first init f first i ++ (m.hoisted i ++ [])) ∙ sym (ap (λ ys. ys ++ []) n.hoisted);
+    clash = subst₂ NoMoreClash (sym (ap (λ ds. as_body false (left_over first) ++ (ds ++ [])) m.declares ∙ append-nil (as_body false (left_over first)))) (sym (ap (λ ds. as_body false (let_among x first init none) ++ (ds ++ [])) n.declares ∙ append-nil (as_body false (let_among x first init none)))) (clash x k e first init f);
+    inner = λ b. moved Any (InnerIf b) (inner_local b) (inner_both x k e first init f b);
+    inner_back = λ b. moved_back Any (InnerIf b) (inner_local b) refl (inner_back x k e first init f b);
+    scoped = λ env. moved Any (ScopedAs Read env) (scoped_local Read env) (scoped_both x k e first init f env);
+    unmentioned = (left_unmentioned x k e first init f, (unmentioned x k e put g, tt));
+    symbols = λ z. let parts = symbols_both x k e first init f z in let same = swapped_sum (symbol_times Read z) (symbols_summed Read z) AsWholeItem ss w (identifier y) init in omega (arith, parts, same);
+    numbered = λ z. let parts = numbers_both x k e first init f z in let same = swapped_sum (number_times z) (numbers_summed z) AsWholeItem ss w (identifier y) init in omega (arith, parts, same);
+    once = moved Any Once once_local (once_both x k e first init f);
+    targets = λ h. moved (HasTarget h) (Aimed h) (aimed_local h) (targets_both x k e first init f h);
+    framed = λ all. moved Any (HasFrames all) (frames_local all) (frames_both x k e first init f all);
+    bodied = λ all a. moved Any (HasBodies all a) (bodies_local all a) (bodies_both x k e first init f all a);
+    fixed = λ z j. moved Any (FixedBy z j) (fixed_local z j) (fixed_both x k e first init f z j);
+    fixed_back = λ z j. moved_back Any (FixedBy z j) (fixed_local z j) (omega arith) (fixed_back x k e first init f z j);
+    declares = λ all. moved Any (Declares all) (declares_local all) (declares_both x k e first init f all);
+  }
+
+pub single_leaves : (x : Name) (k : ℕ) → x.symbol ≡ symbol k → (first : Trees) (init head : Tree) → reads_first x head ≡ true → names x init ≡ false → any_names x first ≡ false → LeavesThere x (let_among x first init none ▸ (head ▸ none)) (left_over first ▸ (put_first init head ▸ none))
+single_leaves x k e first init head r i f =
+    let t = statement x head r in
+    let steps : List Step = record { lead = t.lead; rest = none } ∷ t.path.steps in
+    let one = λ (u : Tree). led (record { lead = t.lead; rest = none } ∷ []) u in
+    let there : head ≡ led steps (identifier t.path.read) = t.is ∙ ap one t.path.is in
+    let put : put_first init head ≡ led steps init = ap (put_first init) t.is ∙ ap one (t.path.puts init) in
+    subst₂ (λ h w. LeavesThere x (let_among x first init none ▸ (h ▸ none)) (left_over first ▸ (w ▸ none))) (sym there) (sym put)
+    (there_leaves x k e first init f steps (t.stands (is_end t.path.steps), subst (λ c. Well c t.path.steps) (sym (t.below AsWholeItem)) t.path.well) t.path.read (unnamed x steps (refl, t.path.spared) init i) (stated t.lead (t.stands true) (led t.path.steps (identifier t.path.read))) (stated t.lead (t.stands true) (led t.path.steps init)))

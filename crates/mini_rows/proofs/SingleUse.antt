@@ -1,0 +1,211 @@
+-- A tree that reads a variable before all else, as a path to that read: what leads there, and what stands beside it.
+use Rattle.std.specs.Prelude.{ℕ, zero, suc, ◌+◌, ◌≡◌, refl, not, ◌&&◌, ◌||◌, Bool, true, false, List, [], ◌∷◌}
+use Rattle.std.proofs.Common.{ap, ◌∙◌, sym, subst, arith, true≢false}
+use Rattle.std.proofs.lemmas.Bool.{and_parts}
+use Rattle.mini_model.specs.declared.name.Name.{Name}
+use Rattle.mini_model.specs.declared.operator.BinaryOperator.{BinaryOperator}
+use Rattle.mini_model.specs.declared.operator.LogicalOperator.{LogicalOperator}
+use Rattle.mini_model.specs.declared.operator.UnaryOperator.TheVariants.{LogicalNot}
+use Rattle.mini_model.specs.declared.shape.Shape.{Shape}
+use Rattle.mini_model.specs.declared.shape.Shape.TheVariants as shape
+use Rattle.mini_model.specs.Tree.{Tree, Trees, node, none, ◌▸◌, identifier}
+use Rattle.mini_laws.specs.Naming.{summary, summaries, summary_of}
+use Rattle.mini_laws.specs.Symbols.{is_same}
+use Rattle.mini_node.specs.Kinds.{is_sequence_shape}
+use Rattle.mini_rows.specs.Sketches.{Head, AList, Unary, Binary, Logical, Conditional, Sequence, Call, StaticMember, ComputedMember, OfExpression, Throw, Return, shape_by, Asked, AsWholeItem, AsValue, AsValues, asked_below, Leap}
+use Rattle.mini_rows.specs.Unused.{names, any_names, leads, is_childless, reads, is_first, put_first, reads_first}
+use Rattle.mini_rows.proofs.Arranging.{Plain, Local, Summed}
+
+-- ---- what leads there
+
+pub data Lead : Type 0 where
+  Not : Lead
+  Beside : BinaryOperator → Lead
+  Deciding : LogicalOperator → Lead
+  Choosing : Lead
+  Passing : Lead
+  Called : Lead
+  Member : Lead
+  Keyed : Lead
+  -- the list of a sequence's parts
+  Listing : Lead
+  -- statements
+  Doing : Lead
+  Giving : Lead
+  Raising : Lead
+
+abbrev pub head_of : Lead → Head
+head_of Not = Unary LogicalNot
+head_of (Beside o) = Binary o
+head_of (Deciding o) = Logical o
+head_of Choosing = Conditional
+head_of Passing = Sequence
+head_of Called = Call false
+head_of Member = StaticMember false
+head_of Keyed = ComputedMember false
+head_of Listing = AList
+head_of Doing = OfExpression
+head_of Giving = Return
+head_of Raising = Throw
+
+pub record Step : Type 0 where
+  pub lead : Lead
+  pub rest : Trees
+
+abbrev pub led : List Step → Tree → Tree
+led [] u = u
+led (s ∷ ss) u = node (shape_by (head_of s.lead)) [] 0 (led ss u ▸ s.rest)
+
+abbrev pub is_end : List Step → Bool
+is_end [] = true
+is_end (s ∷ ss) = false
+
+-- it stands there
+abbrev pub Stands : Asked → Lead → Bool → Type 0
+Stands AsWholeItem Doing at_end = Unit {0}
+Stands AsWholeItem Giving at_end = Unit {0}
+Stands AsWholeItem Raising at_end = Unit {0}
+Stands AsValues Listing at_end = Unit {0}
+Stands AsValue Not at_end = Unit {0}
+Stands AsValue (Beside o) at_end = Unit {0}
+Stands AsValue (Deciding o) at_end = Unit {0}
+Stands AsValue Choosing at_end = Unit {0}
+Stands AsValue Passing at_end = Unit {0}
+Stands AsValue Called at_end = at_end ≡ false
+Stands AsValue Member at_end = Unit {0}
+Stands AsValue Keyed at_end = Unit {0}
+Stands c l at_end = ⊥
+
+abbrev pub Well : Asked → List Step → Type 0
+Well AsValue [] = Unit {0}
+Well c [] = ⊥
+Well c (s ∷ ss) = Stands c s.lead (is_end ss) × Well (asked_below (head_of s.lead) c 0) ss
+
+abbrev pub Spared : Name → List Step → Type 0
+Spared x [] = Unit {0}
+Spared x (s ∷ ss) = (any_names x s.rest ≡ false) × Spared x ss
+
+-- ---- a tree as such a path
+
+pub record Path (x : Name) (c : Asked) (t : Tree) : Type 0 where
+  pub steps : List Step
+  pub read : Name
+  pub well : Well c steps
+  pub spared : Spared x steps
+  pub same : is_same x.symbol read.symbol ≡ true
+  pub is : t ≡ led steps (identifier read)
+  pub puts : (r : Tree) → put_first r t ≡ led steps r
+  pub ends : is_end steps ≡ is_childless t
+
+abbrev asked : Bool → Asked
+asked true = AsValues
+asked false = AsValue
+
+record Leads (b c : Bool) (h : Shape) : Type 0 where
+  lead : Lead
+  is : shape_by (head_of lead) ≡ h
+  stands : Stands (asked b) lead c
+  below : asked_below (head_of lead) (asked b) 0 ≡ asked (is_sequence_shape h)
+
+not_leaf : (c : Bool) → not c ≡ true → c ≡ false
+not_leaf true e = absurd (true≢false (sym e))
+not_leaf false e = refl
+
+lead_by : (b c : Bool) (h : Shape) → leads b h c ≡ true → Leads b c h
+lead_by true c shape.Listed e = record { lead = Listing; is = refl; stands = tt; below = refl }
+lead_by true c h e = absurd (true≢false (sym e))
+lead_by false c (shape.UnaryExpression LogicalNot) e = record { lead = Not; is = refl; stands = tt; below = refl }
+lead_by false c (shape.BinaryExpression o) e = record { lead = Beside o; is = refl; stands = tt; below = refl }
+lead_by false c (shape.LogicalExpression o) e = record { lead = Deciding o; is = refl; stands = tt; below = refl }
+lead_by false c shape.ConditionalExpression e = record { lead = Choosing; is = refl; stands = tt; below = refl }
+lead_by false c shape.SequenceExpression e = record { lead = Passing; is = refl; stands = tt; below = refl }
+lead_by false c (shape.CallExpression false) e = record { lead = Called; is = refl; stands = not_leaf c e; below = refl }
+lead_by false c (shape.StaticMemberExpression false) e = record { lead = Member; is = refl; stands = tt; below = refl }
+lead_by false c (shape.ComputedMemberExpression false) e = record { lead = Keyed; is = refl; stands = tt; below = refl }
+lead_by false c h e = absurd (true≢false (sym e))
+
+not_true : (b : Bool) → not b ≡ true → b ≡ false
+not_true true e = absurd (true≢false (sym e))
+not_true false e = refl
+
+read_is : (x : Name) (t : Tree) → reads x t ≡ true → (y : Name) × (t ≡ identifier y) × (is_same x.symbol y.symbol ≡ true)
+read_is x (node shape.Identifier (y ∷ []) zero none) e = (y, refl, e)
+read_is x t e = absurd (true≢false (sym e))
+
+one_step : (x : Name) (b : Bool) (h : Shape) (t : Tree) (ts : Trees) → Leads b (is_childless t) h → Path x (asked (is_sequence_shape h)) t → any_names x ts ≡ false → Path x (asked b) (node h [] 0 (t ▸ ts))
+one_step x b h t ts l p f = record {
+  steps = record { lead = l.lead; rest = ts } ∷ p.steps;
+  read = p.read;
+  well = (subst (Stands (asked b) l.lead) (sym p.ends) l.stands, subst (λ c. Well c p.steps) (sym l.below) p.well);
+  spared = (f, p.spared);
+  same = p.same;
+  is = λ k. node (sym l.is k) [] 0 (p.is k ▸ ts);
+  puts = λ r k. node (sym l.is k) [] 0 (p.puts r k ▸ ts);
+  ends = refl;
+}
+
+pub path : (x : Name) (b : Bool) (t : Tree) → is_first x b t ≡ true → Path x (asked b) t
+path x true (node h ys n none) e = absurd (true≢false (sym e))
+path x false (node h ys n none) e =
+    let (y, is, same) = read_is x (node h ys n none) e in
+    record { steps = []; read = y; well = tt; spared = tt; same = same; is = is; puts = λ r. refl; ends = refl }
+path x b (node h [] zero (t ▸ ts)) e =
+    let (l, p) = and_parts (leads b h (is_childless t)) (is_first x (is_sequence_shape h) t && not (any_names x ts)) e in
+    let (q, f) = and_parts (is_first x (is_sequence_shape h) t) (not (any_names x ts)) p in
+    one_step x b h t ts (lead_by b (is_childless t) h l) (path x (is_sequence_shape h) t q) (not_true (any_names x ts) f)
+path x b (node h [] (suc n) (t ▸ ts)) e = absurd (true≢false (sym (and_parts (leads b h (is_childless t)) false e).1))
+path x b (node h (y ∷ ys) n (t ▸ ts)) e = absurd (true≢false (sym (and_parts (leads b h (is_childless t)) false e).1))
+
+-- a statement has at least one step
+pub record Statement (x : Name) (t : Tree) : Type 0 where
+  pub lead : Lead
+  pub stands : (b : Bool) → Stands AsWholeItem lead b
+  pub below : (c : Asked) → asked_below (head_of lead) c 0 ≡ AsValue
+  pub inner : Tree
+  pub path : Path x AsValue inner
+  pub is : t ≡ node (shape_by (head_of lead)) [] 0 (inner ▸ none)
+
+pub statement : (x : Name) (t : Tree) → reads_first x t ≡ true → Statement x t
+statement x (node shape.ExpressionStatement [] zero (t ▸ none)) e = record { lead = Doing; stands = λ b. tt; below = λ c. refl; inner = t; path = path x false t e; is = refl }
+statement x (node shape.ReturnStatement [] zero (t ▸ none)) e = record { lead = Giving; stands = λ b. tt; below = λ c. refl; inner = t; path = path x false t e; is = refl }
+statement x (node shape.ThrowStatement [] zero (t ▸ none)) e = record { lead = Raising; stands = λ b. tt; below = λ c. refl; inner = t; path = path x false t e; is = refl }
+statement x t e = absurd (true≢false (sym e))
+
+-- ---- what holds of it
+
+plain_lead : (l : Lead) (ts : Trees) → Plain (head_of l) ts
+plain_lead Not ts = tt
+plain_lead l ts = tt
+
+module _ (J : Leap → Type 0) (Q : Asked → Tree → Type 0) (l : Local J Q) where
+  pub swapped : (c : Asked) (ss : List Step) → Well c ss → (t r : Tree) → (Q AsValue t → Q AsValue r) → Q c (led ss t) → Q c (led ss r)
+  swapped AsValue [] w t r f q = f q
+  swapped c [] w t r f q = absurd w
+  swapped c (s ∷ ss) w t r f q =
+      let (x, y) = l.down (head_of s.lead) c (led ss t ▸ s.rest) (plain_lead s.lead (led ss t ▸ s.rest)) q in
+      l.up (head_of s.lead) c (led ss r ▸ s.rest) (plain_lead s.lead (led ss r ▸ s.rest)) x (swapped (asked_below (head_of s.lead) c 0) ss w.1 t r f y.0, y.1)
+
+  pub taken : (c : Asked) (ss : List Step) → Well c ss → (r : Tree) → Q c (led ss r) → Q AsValue r
+  taken AsValue [] w r q = q
+  taken c [] w r q = absurd w
+  taken c (s ∷ ss) w r q = taken (asked_below (head_of s.lead) c 0) ss w.1 r (l.down (head_of s.lead) c (led ss r ▸ s.rest) (plain_lead s.lead (led ss r ▸ s.rest)) q).1.0
+
+module _ (m : Asked → Tree → ℕ) (l : Summed m) where
+  pub swapped_sum : (c : Asked) (ss : List Step) → Well c ss → (t r : Tree) → m c (led ss r) + m AsValue t ≡ m c (led ss t) + m AsValue r
+  swapped_sum AsValue [] w t r = omega arith
+  swapped_sum c [] w t r = absurd w
+  swapped_sum c (s ∷ ss) w t r =
+      let one = l (head_of s.lead) c (led ss t ▸ s.rest) (plain_lead s.lead (led ss t ▸ s.rest)) in
+      let other = l (head_of s.lead) c (led ss r ▸ s.rest) (plain_lead s.lead (led ss r ▸ s.rest)) in
+      let inner = swapped_sum (asked_below (head_of s.lead) c 0) ss w.1 t r in
+      omega (arith, one, other, inner)
+
+-- what a parent reads of it
+pub summary_led : (ss : List Step) (t r : Tree) → summary t ≡ summary r → summary (led ss t) ≡ summary (led ss r)
+summary_led [] t r e = e
+summary_led (s ∷ ss) t r e = ap (λ i. summary_of (shape_by (head_of s.lead)) [] 0 (i ∷ summaries s.rest)) (summary_led ss t r e)
+
+-- a name that neither the rest nor what is put there mentions
+pub unnamed : (x : Name) (ss : List Step) → Spared x ss → (r : Tree) → names x r ≡ false → names x (led ss r) ≡ false
+unnamed x [] f r e = e
+unnamed x (s ∷ ss) f r e = ap (λ b. b || any_names x s.rest) (unnamed x ss f.1 r e) ∙ f.0

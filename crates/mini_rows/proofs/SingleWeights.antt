@@ -1,0 +1,146 @@
+-- What a tree weighs with another in the place of what it reads first.
+use Rattle.std.proofs.Common.{◌≡◌, ℕ, suc, ◌+◌, ◌≤◌, Bool, true, false, [], ◌∷◌, List, Option, Some, None, refl, sym, ap, ◌∙◌, subst, true≢false, arith}
+use Rattle.std.specs.Prelude.{is_none, if◌then◌else◌}
+use Rattle.mini_model.specs.declared.name.Name.{Name}
+use Rattle.mini_model.specs.declared.name.SymbolId.{SymbolId}
+use Rattle.mini_model.specs.declared.place.Position.{Position}
+use Rattle.mini_model.specs.declared.place.Position.TheVariants.{Expr, Stmt, SequenceList}
+use Rattle.mini_model.specs.declared.seat.Seat.{Seat}
+use Rattle.mini_model.specs.declared.seat.StmtSeat.{StmtSeat}
+use Rattle.mini_model.specs.declared.seat.StmtSeat.TheVariants as stmt_seat
+use Rattle.mini_model.specs.Tree.{Tree, Trees, none, ◌▸◌, count, identifier}
+use Rattle.mini_model.specs.Paths.{append}
+use Rattle.mini_model.specs.Position.{argument_seat, child_position}
+use Rattle.mini_model.specs.Weight.{Outline, commas_weight, outline, outlines, one_chooses, braces_weight, own_weight, spelled_weight, weight}
+use Rattle.mini_laws.specs.Symbols.{is_same}
+use Rattle.mini_terms.specs.Reading.{is_plain_part}
+use Rattle.mini_rows.specs.Declarations.{binding, declarator}
+use Rattle.mini_rows.specs.Lists.{block}
+use Rattle.mini_rows.specs.Sketches.{shape_by, Asked, AsWholeItem, AsValue, AsValues, asked_below}
+use Rattle.mini_rows.specs.Unused.{resolved, let_among, left_over, put_first, reads_first}
+use Rattle.mini_rows.proofs.BooleanWeights.{moved}
+use Rattle.mini_rows.proofs.ListWeights.{total, in_list, comma_list, declarators_append}
+use Rattle.mini_rows.proofs.SingleUse.{Lead, Not, Beside, Deciding, Choosing, Passing, Called, Member, Keyed, Listing, Doing, Giving, Raising, head_of, Step, led, is_end, Stands, Well, statement}
+
+-- ---- where the steps stand
+
+abbrev Placed : Asked → Position → Type 0
+Placed AsWholeItem (Stmt q) = Unit {0}
+Placed AsValue (Expr s) = Unit {0}
+Placed AsValues (SequenceList s) = Unit {0}
+Placed c p = ⊥
+
+placed_statement : (l : Lead) (b : Bool) → Stands AsWholeItem l b → (p : Position) (n : ℕ) → Placed (asked_below (head_of l) AsWholeItem 0) (child_position (shape_by (head_of l)) p n 0)
+placed_statement Doing b s p n = tt
+placed_statement Giving b s p n = tt
+placed_statement Raising b s p n = tt
+placed_statement l b s p n = absurd s
+
+placed_value : (l : Lead) (b : Bool) → Stands AsValue l b → (p : Position) (n : ℕ) → Placed (asked_below (head_of l) AsValue 0) (child_position (shape_by (head_of l)) p n 0)
+placed_value Not b s p n = tt
+placed_value (Beside o) b s p n = tt
+placed_value (Deciding o) b s p n = tt
+placed_value Choosing b s p n = tt
+placed_value Passing b s p n = tt
+placed_value Called b s p n = tt
+placed_value Member b s p n = tt
+placed_value Keyed b s p n = tt
+placed_value l b s p n = absurd s
+
+placed_part : (l : Lead) (b : Bool) → Stands AsValues l b → (p : Position) → Placed AsValues p → (n : ℕ) → Placed (asked_below (head_of l) AsValues 0) (child_position (shape_by (head_of l)) p n 0)
+placed_part Listing b s (SequenceList t) q n = tt
+placed_part Listing b s p q n = absurd q
+placed_part l b s p q n = absurd s
+
+placed_below : (c : Asked) (l : Lead) (b : Bool) → Stands c l b → (p : Position) → Placed c p → (n : ℕ) → Placed (asked_below (head_of l) c 0) (child_position (shape_by (head_of l)) p n 0)
+placed_below AsWholeItem l b s p q n = placed_statement l b s p n
+placed_below AsValue l b s p q n = placed_value l b s p n
+placed_below AsValues l b s p q n = placed_part l b s p q n
+placed_below c l b s p q n = absurd s
+
+-- ---- a step weighs the same
+
+same_statement : (l : Lead) (b : Bool) → Stands AsWholeItem l b → (q : StmtSeat) (o k : Outline) (os : List Outline) → own_weight (Stmt q) (shape_by (head_of l)) [] (o ∷ os) ≡ own_weight (Stmt q) (shape_by (head_of l)) [] (k ∷ os)
+same_statement Doing b s q o k os = refl
+same_statement Giving b s q o k os = refl
+same_statement Raising b s q o k os = refl
+same_statement l b s q o k os = absurd s
+
+same_value : (l : Lead) (b : Bool) → Stands AsValue l b → (t : Seat) (o k : Outline) (os : List Outline) → own_weight (Expr t) (shape_by (head_of l)) [] (o ∷ os) ≡ own_weight (Expr t) (shape_by (head_of l)) [] (k ∷ os)
+same_value Not b s t o k os = refl
+same_value (Beside p) b s t o k os = refl
+same_value (Deciding p) b s t o k os = refl
+same_value Choosing b s t o k os = refl
+same_value Passing b s t o k os = refl
+same_value Called b s t o k os = refl
+same_value Member b s t o k os = refl
+same_value Keyed b s t o k os = refl
+same_value l b s t o k os = absurd s
+
+same_parts : (l : Lead) (b : Bool) → Stands AsValues l b → (t : Seat) (o k : Outline) (os : List Outline) → own_weight (SequenceList t) (shape_by (head_of l)) [] (o ∷ os) ≡ own_weight (SequenceList t) (shape_by (head_of l)) [] (k ∷ os)
+same_parts Listing b s t o k [] = refl
+same_parts Listing b s t o k (p ∷ os) = refl
+same_parts l b s t o k os = absurd s
+
+same_own : (c : Asked) (l : Lead) (b : Bool) → Stands c l b → (p : Position) → Placed c p → (o k : Outline) (os : List Outline) → own_weight p (shape_by (head_of l)) [] (o ∷ os) ≡ own_weight p (shape_by (head_of l)) [] (k ∷ os)
+same_own AsWholeItem l b s (Stmt q) a o k os = same_statement l b s q o k os
+same_own AsValue l b s (Expr t) a o k os = same_value l b s t o k os
+same_own AsValues l b s (SequenceList t) a o k os = same_parts l b s t o k os
+same_own c l b s p a o k os = absurd a
+
+-- ---- the whole: parentheses and a mark more at most, and the name less
+
+name_weighs : (s : Seat) (y : Name) → is_none y.symbol ≡ false → 2 ≤ weight (Expr s) (identifier y)
+name_weighs s y e = let own = ap (λ b. if b then spelled_weight y.spelling else 2) e in omega (arith, own)
+
+led_falls : (c : Asked) (ss : List Step) → Well c ss → (p : Position) → Placed c p → (r : Tree) → is_plain_part r ≡ true → (y : Name) → is_none y.symbol ≡ false → weight p (led ss r) ≤ weight p (led ss (identifier y)) + (weight (Expr argument_seat) r + 3)
+led_falls AsValue [] w (Expr s) a r f y e = let here = moved s argument_seat r f in let name = name_weighs s y e in omega (arith, here, name)
+led_falls AsValue [] w p a r f y e = absurd a
+led_falls c [] w p a r f y e = absurd w
+led_falls c (s ∷ ss) w p a r f y e =
+    let own = same_own c s.lead (is_end ss) w.0 p a (outline (led ss r)) (outline (led ss (identifier y))) (outlines s.rest) in
+    let inner = led_falls (asked_below (head_of s.lead) c 0) ss w.1 (child_position (shape_by (head_of s.lead)) p (suc (count s.rest)) 0) (placed_below c s.lead (is_end ss) w.0 p a (suc (count s.rest))) r f y e in
+    omega (arith, own, inner)
+
+some_symbol : (k : ℕ) (y : Option SymbolId) → is_same (Some (record { 0 = k })) y ≡ true → is_none y ≡ false
+some_symbol k (Some y) e = refl
+some_symbol k None e = absurd (true≢false (sym e))
+
+head_falls : (s : List ℕ) (k : ℕ) (head : Tree) → reads_first (resolved s k) head ≡ true → (q : StmtSeat) (r : Tree) → is_plain_part r ≡ true → weight (Stmt q) (put_first r head) ≤ weight (Stmt q) head + (weight (Expr argument_seat) r + 3)
+head_falls s k head e q r f =
+    let t = statement (resolved s k) head e in
+    let steps : List Step = record { lead = t.lead; rest = none } ∷ t.path.steps in
+    let falls = led_falls AsWholeItem steps (t.stands (is_end t.path.steps), subst (λ c. Well c t.path.steps) (sym (t.below AsWholeItem)) t.path.well) (Stmt q) tt r f t.path.read (some_symbol k t.path.read.symbol t.path.same) in
+    let there : head ≡ led steps (identifier t.path.read) = t.is ∙ ap (λ u. led (record { lead = t.lead; rest = none } ∷ []) u) t.path.is in
+    let put : put_first r head ≡ led steps r = ap (put_first r) t.is ∙ ap (λ u. led (record { lead = t.lead; rest = none } ∷ []) u) (t.path.puts r) in
+    omega (arith, falls, ap (weight (Stmt q)) there, ap (weight (Stmt q)) put)
+
+-- ---- the declaration: a name and a comma less, or all but `;`
+
+commas_more : (t : Tree) (first : Trees) (d : Tree) → commas_weight (outlines (append (t ▸ first) (d ▸ none))) ≡ commas_weight (outlines (t ▸ first)) + 2
+commas_more t none d = refl
+commas_more t (c ▸ first) d = let rest = commas_more c first d in omega (arith, rest)
+
+left_falls : (x : Name) (first : Trees) (init : Tree) → total (left_over first ▸ none) + (weight (Expr argument_seat) init + 4) ≤ total (let_among x first init none ▸ none)
+left_falls x none init = omega arith
+left_falls x (t ▸ first) init =
+    let d = declarator (binding x) init in
+    omega (arith, commas_more t first d, comma_list (t ▸ first), comma_list (append (t ▸ first) (d ▸ none)), declarators_append (t ▸ first) (d ▸ none))
+
+-- ---- the block
+
+no_choice : (before after : Trees) (d e v w : Tree) → one_chooses (outlines (append before (d ▸ (e ▸ after)))) ≡ one_chooses (outlines (append before (v ▸ (w ▸ after))))
+no_choice none after d e v w = refl
+no_choice (t ▸ none) after d e v w = refl
+no_choice (t ▸ (u ▸ before)) after d e v w = refl
+
+pub single_falls : (q : StmtSeat) (before first : Trees) (s : List ℕ) (k : ℕ) (init head : Tree) (after : Trees) → is_plain_part init ≡ true → reads_first (resolved s k) head ≡ true → weight (Stmt q) (block (append before (left_over first ▸ (put_first init head ▸ after)))) + 1 ≤ weight (Stmt q) (block (append before (let_among (resolved s k) first init none ▸ (head ▸ after))))
+single_falls q before first s k init head after f e =
+    let x = resolved s k in
+    let d = let_among x first init none in
+    let one = left_falls x first init in
+    let other = head_falls s k head e stmt_seat.List init f in
+    let less : total (left_over first ▸ (put_first init head ▸ none)) + 1 ≤ total (d ▸ (head ▸ none)) = omega (arith, one, other) in
+    let falls = in_list before (d ▸ (head ▸ none)) (left_over first ▸ (put_first init head ▸ none)) after 1 less in
+    let braces = ap (braces_weight q) (no_choice before after d head (left_over first) (put_first init head)) in
+    omega (arith, falls, braces)

@@ -1,0 +1,293 @@
+-- A block in which a name is read once, right after its declaration.
+use Rattle.std.proofs.Common.{◌≡◌, ℕ, zero, suc, ◌+◌, ◌<◌, ◌≤◌, Bool, true, false, List, [], ◌∷◌, refl, sym, ap, ◌∙◌, subst, inl, inr, true≢false, add-one, arith}
+use Rattle.std.specs.Prelude.{not, ◌&&◌, ◌||◌, Option, Some, None, if◌then◌else◌}
+use Rattle.std.proofs.lemmas.Bool.{and_parts}
+use Rattle.mini_model.specs.declared.kind.VariableDeclarationKind.TheVariants.{Let}
+use Rattle.mini_model.specs.declared.name.Name.{Name}
+use Rattle.mini_model.specs.declared.place.Position.TheVariants.{Stmt}
+use Rattle.mini_model.specs.declared.seat.StmtSeat.{StmtSeat}
+use Rattle.mini_model.specs.Tree.{Tree, Trees, node, none, ◌▸◌, shape_of, children, count, node_count, child_or_absent, empty_statement}
+use Rattle.mini_model.specs.Paths.{append}
+use Rattle.mini_laws.specs.ScopeList.{has_eval}
+use Rattle.mini_node.specs.Children.{names_of, part, with_child, with_part, without, is_bare, is_nameless, first_children, rest_children}
+use Rattle.mini_node.specs.Kinds.{is_block, is_sequence_shape}
+use Rattle.mini_node.specs.Made.{block_is}
+use Rattle.mini_node.specs.Walks.{next_child}
+use Rattle.mini_rows.specs.Lists.{block, declaration}
+use Rattle.mini_rows.specs.Declarations.{binding, declarator}
+use Rattle.mini_rows.specs.Unused.{resolved, let_among, left_over, names, any_names, leads, is_childless, reads, is_first, put_first, reads_first, may_move, Row71, UnusedContracts}
+use Rattle.mini_rows.proofs.UnusedWeights.{unused_lighter}
+use Rattle.mini_tree.proofs.Reaching.{moves_once}
+use Rattle.mini_unused.specs.RemoveUnusedDeclaration.{declares_name, is_let, list_at, UnusedAt, let_left, Applied}
+use Rattle.mini_unused.specs.SubstituteSingleUse.{may_begin, last_place, is_declared_over, is_mentioned_around, reads_next, is_read_once, is_single_declarator, is_single, SingleAt, declaration_left, list_single, block_single}
+use Rattle.mini_unused.proofs.Unused.{parts_of, there_within, there_child, there_rest, there_first, and_both, not_true, a_let, Declares, declares, left_is, rests, all_used}
+
+-- ---- the first part
+
+pub childless : (t : Tree) → count (children t) ≡ 0 → is_childless t ≡ true
+childless (node h xs n none) e = refl
+childless (node h xs n (t ▸ ts)) e = absurd (omega (arith, e))
+
+pub first_leaf : (x : Name) (b : Bool) (t : Tree) → count (children t) ≡ 0 → is_first x b t ≡ (not b && reads x t)
+first_leaf x b (node h xs n none) e = refl
+first_leaf x b (node h xs n (t ▸ ts)) e = absurd (omega (arith, e))
+
+no_first : (ts : Trees) → rest_children 0 ts ≡ ts
+no_first none = refl
+no_first (t ▸ ts) = refl
+
+and_assoc : (a b c : Bool) → (a && (b && c)) ≡ ((a && b) && c)
+and_assoc true b c = refl
+and_assoc false b c = refl
+
+-- by what is asked of the node, of its first part and of the others
+pub first_by : (x : Name) (b : Bool) (t : Tree) (m f a : Bool) → 0 < count (children t) → m ≡ may_begin b t → f ≡ is_first x (is_sequence_shape (shape_of t)) (part t 0) → a ≡ any_names x (rest_children 1 (children t)) → is_first x b t ≡ (m && (f && not a))
+first_by x b (node h xs n none) m f a s e g i = absurd (omega (arith, s))
+first_by x b (node h xs n (t ▸ ts)) m f a s e g i =
+    and_assoc (leads b h (is_childless t)) (is_nameless (node h xs n (t ▸ ts))) (is_first x (is_sequence_shape h) t && not (any_names x ts)) ∙ sym (λ k. e k && (g k && not ((i ∙ ap (any_names x) (no_first ts)) k)))
+
+pub not_begun : (x : Name) (b : Bool) (t : Tree) → 0 < count (children t) → may_begin b t ≡ false → is_first x b t ≡ false
+not_begun x b t s e = first_by x b t false (is_first x (is_sequence_shape (shape_of t)) (part t 0)) (any_names x (rest_children 1 (children t))) s (sym e) refl refl
+
+and_false : (a : Bool) → (a && false) ≡ false
+and_false true = refl
+and_false false = refl
+
+pub not_read : (x : Name) (b : Bool) (t : Tree) → 0 < count (children t) → is_first x (is_sequence_shape (shape_of t)) (part t 0) ≡ false → is_first x b t ≡ false
+not_read x b t s e = first_by x b t (may_begin b t) false (any_names x (rest_children 1 (children t))) s refl (sym e) refl ∙ and_false (may_begin b t)
+
+pub read_by : (x : Name) (b : Bool) (t : Tree) (a : Bool) → 0 < count (children t) → may_begin b t ≡ true → is_first x (is_sequence_shape (shape_of t)) (part t 0) ≡ true → a ≡ any_names x (rest_children 1 (children t)) → is_first x b t ≡ not a
+read_by x b t a s e f g = first_by x b t true true a s (sym e) (sym f) g
+
+pub put_leaf : (r t : Tree) → count (children t) ≡ 0 → put_first r t ≡ r
+put_leaf r (node h xs n none) e = refl
+put_leaf r (node h xs n (t ▸ ts)) e = absurd (omega (arith, e))
+
+pub put_step : (r t : Tree) → 0 < count (children t) → put_first r t ≡ with_part t 0 (put_first r (part t 0))
+put_step r (node h xs n none) e = absurd (omega (arith, e))
+put_step r (node h xs n (t ▸ ts)) e = refl
+
+pub part_smaller : (t u : Tree) → 0 < count (children t) → u ≡ part t 0 → node_count u < node_count t
+part_smaller (node h xs n none) u e f = absurd (omega (arith, e))
+part_smaller (node h xs n (t ▸ ts)) u e f = let same = ap node_count f in omega (arith, same)
+
+-- ---- the last declarator
+
+pub last_is : (ts : Trees) → 0 < count ts → last_place ts + 1 ≡ count ts
+last_is none h = absurd (omega (arith, h))
+last_is (t ▸ none) h = refl
+last_is (t ▸ (u ▸ ts)) h = let rest = last_is (u ▸ ts) (omega arith) in omega (arith, rest)
+
+pub no_declarator : (l : Tree) (ts : Trees) (i j : ℕ) → count (children l) ≡ 0 → is_single_declarator l j ts i ≡ false
+no_declarator (node h xs n none) ts i j e = refl
+no_declarator (node h xs n (t ▸ us)) ts i j e = absurd (omega (arith, e))
+
+pub read_next : (x : Name) (ts : Trees) (i : ℕ) → reads_first x (child_or_absent ts (i + 1)) ≡ reads_next x ts i
+read_next x ts i = ap (λ k. reads_first x (child_or_absent ts k)) (add-one i)
+
+pub single_by : (ts : Trees) (i : ℕ) (statement l : Tree) (n : ℕ) (r : Bool) → statement ≡ child_or_absent ts i → is_let statement ≡ true → l ≡ part statement 0 → n ≡ last_place (children l) → r ≡ is_single_declarator l n ts i → r ≡ is_single ts i
+single_by ts i statement l n r s e f g h =
+    let there : l ≡ list_at ts i = f ∙ ap (λ t. part t 0) s in
+    h ∙ (λ k. is_single_declarator (there k) ((g ∙ ap (λ t. last_place (children t)) there) k) ts i) ∙ sym (ap (λ b. b && is_single_declarator (list_at ts i) (last_place (children (list_at ts i))) ts i) (ap is_let (sym s) ∙ e))
+
+last_rest : (ts : Trees) → rest_children (suc (last_place ts)) ts ≡ none
+last_rest none = refl
+last_rest (t ▸ none) = refl
+last_rest (t ▸ (u ▸ ts)) = last_rest (u ▸ ts)
+
+last_there : (ts : Trees) (d : Tree) → last_place (append ts (d ▸ none)) ≡ count ts
+last_there none d = refl
+last_there (t ▸ none) d = refl
+last_there (t ▸ (u ▸ ts)) d = ap suc (last_there (u ▸ ts) d)
+
+none_after : (ts : Trees) → append ts none ≡ ts
+none_after none = refl
+none_after (t ▸ ts) = ap (λ us. t ▸ us) (none_after ts)
+
+-- ---- two neighbours
+
+pub next_part : (t : Tree) (i : ℕ) (x : Tree) → part (with_part t i x) (suc i) ≡ part t (suc i)
+next_part (node h xs n ts) i x = go ts i
+  where
+    go : (ts : Trees) (i : ℕ) → child_or_absent (with_child ts i x) (suc i) ≡ child_or_absent ts (suc i)
+    go none i = refl
+    go (t ▸ ts) zero = refl
+    go (t ▸ ts) (suc i) = go ts i
+
+with_two : (ts : Trees) (i : ℕ) (x y : Tree) → suc i < count ts → with_child (with_child ts i x) (suc i) y ≡ append (first_children i ts) (x ▸ (y ▸ rest_children (suc (suc i)) ts))
+with_two none i x y h = absurd (omega (arith, h))
+with_two (t ▸ none) i x y h = absurd (omega (arith, h))
+with_two (t ▸ (u ▸ ts)) zero x y h = ap (λ us. x ▸ (y ▸ us)) (sym (no_first ts))
+with_two (t ▸ (u ▸ ts)) (suc i) x y h = ap (λ us. t ▸ us) (with_two (u ▸ ts) i x y (omega (arith, h)))
+
+next_there : (ts : Trees) (d e : Tree) (us : Trees) → child_or_absent (append ts (d ▸ (e ▸ us))) (suc (count ts)) ≡ e
+next_there none d e us = refl
+next_there (t ▸ ts) d e us = next_there ts d e us
+
+rest_there : (ts : Trees) (d e : Tree) (us : Trees) → rest_children (suc (suc (count ts))) (append ts (d ▸ (e ▸ us))) ≡ us
+rest_there none d e us = no_first us
+rest_there (t ▸ ts) d e us = rest_there ts d e us
+
+within_there : (ts : Trees) (d e : Tree) (us : Trees) → suc (count ts) < count (append ts (d ▸ (e ▸ us)))
+within_there none d e us = omega arith
+within_there (t ▸ ts) d e us = let within = within_there ts d e us in omega (arith, within)
+
+-- ---- what is written is what the row says
+
+record Once (x : Name) (init : Tree) (ds : Trees) (j : ℕ) (ts : Trees) (i : ℕ) : Type 0 where
+  once : reads_first x (child_or_absent ts (suc i)) ≡ true
+  initial : names x init ≡ false
+  declared_earlier : any_names x (first_children j ds) ≡ false
+  earlier : any_names x (first_children i ts) ≡ false
+  later : any_names x (rest_children (suc (suc i)) ts) ≡ false
+
+neither : (a b : Bool) → not (a || b) ≡ true → (a ≡ false) × (b ≡ false)
+neither true b e = absurd (true≢false (sym e))
+neither false true e = absurd (true≢false (sym e))
+neither false false e = (refl, refl)
+
+read_once : (x : Name) (init : Tree) (ds : Trees) (j : ℕ) (ts : Trees) (i : ℕ) → is_read_once (x ∷ []) init ds j ts i ≡ true → Once x init ds j ts i
+read_once x init ds j ts i e =
+    let a = reads_first x (child_or_absent ts (suc i)) in
+    let (p, q) = and_parts a (not (is_declared_over x init ds j) && not (is_mentioned_around x ts i)) e in
+    let (r, s) = and_parts (not (is_declared_over x init ds j)) (not (is_mentioned_around x ts i)) q in
+    let (t, u) = neither (names x init) (any_names x (first_children j ds)) r in
+    let (v, w) = neither (any_names x (first_children i ts)) (any_names x (rest_children (suc (suc i)) ts)) s in
+    record { once = p; initial = t; declared_earlier = u; earlier = v; later = w }
+
+module _ (t : Tree) (i : ℕ) (b : is_block t ≡ true) (s : SingleAt (children (part t 0)) (Some i)) (v : has_eval t ≡ false) where
+  abbrev ts : Trees
+  ts = children (part t 0)
+
+  abbrev statement : Tree
+  statement = child_or_absent ts i
+
+  abbrev ds : Trees
+  ds = children (part statement 0)
+
+  abbrev j : ℕ
+  j = last_place ds
+
+  abbrev d : Tree
+  d = child_or_absent ds j
+
+  abbrev init : Tree
+  init = part d 1
+
+  abbrev head : Tree
+  head = child_or_absent ts (suc i)
+
+  abbrev before : Trees
+  before = first_children i ts
+
+  abbrev after : Trees
+  after = rest_children (suc (suc i)) ts
+
+  abbrev first : Trees
+  first = first_children j ds
+
+  abbrev once_there : Bool
+  once_there = is_read_once (names_of (part d 0)) init ds j ts i
+
+  tests : (is_let statement ≡ true) × (declares_name d ≡ true) × (may_move init ≡ true) × (once_there ≡ true)
+  tests =
+      let (a, p) = and_parts (is_let statement) (declares_name d && (may_move init && once_there)) s.4 in
+      let (c, q) = and_parts (declares_name d) (may_move init && once_there) p in
+      let (f, r) = and_parts (may_move init) once_there q in
+      (a, c, f, r)
+
+  let_there : statement ≡ declaration Let ds
+  let_there = a_let statement tests.0
+
+  abbrev one : Declares d
+  one = declares d tests.1
+
+  abbrev x : Name
+  x = resolved one.spelling one.symbol
+
+  reading : Once x init ds j ts i
+  reading = read_once x init ds j ts i (sym (ap (λ y. is_read_once (names_of (part y 0)) init ds j ts i) one.is) ∙ tests.3)
+
+  last_within : j < count ds
+  last_within = let same = last_is ds s.3 in omega (arith, same)
+
+  statement_is : statement ≡ let_among x first init none
+  statement_is = let_there ∙ ap (declaration Let) (parts_of ds j last_within ∙ ap (λ us. append first (d ▸ us)) (last_rest ds) ∙ ap (λ y. append first (y ▸ none)) one.is)
+
+  block_there : t ≡ block (append before (let_among x first init none ▸ (head ▸ after)))
+  block_there = block_is t b ∙ ap block (parts_of ts i (let within = s.0 in omega (arith, within)) ∙ ap (λ us. append before (statement ▸ us)) (next_child ts (suc i) s.0) ∙ ap (λ y. append before (y ▸ (head ▸ after))) statement_is)
+
+  left_there : declaration_left statement j ≡ left_over first
+  left_there = ap (λ y. declaration_left y j) let_there ∙ left_is ds j last_within ∙ ap (λ us. left_over (append first us)) (last_rest ds) ∙ ap left_over (none_after first)
+
+  written_there : (u : Tree) → u ≡ block_single t i j → u ≡ block (append before (left_over first ▸ (put_first init head ▸ after)))
+  written_there u f =
+      f ∙ ap (λ y. block_single y i j) (block_is t b) ∙ ap block (with_two ts i (declaration_left statement j) (put_first init head) s.0) ∙ ap (λ y. block (append before (y ▸ (put_first init head ▸ after)))) left_there
+
+  row_there : (u : Tree) → u ≡ block_single t i j → Row71 t u
+  row_there u f = record {
+    before = before;
+    first = first;
+    spelling = one.spelling;
+    symbol = one.symbol;
+    init = init;
+    head = head;
+    after = after;
+    moves = tests.2;
+    once = reading.once;
+    earlier = reading.earlier;
+    declared_earlier = reading.declared_earlier;
+    initial = reading.initial;
+    later = reading.later;
+    unseen = sym (ap has_eval block_there) ∙ v;
+    shape = block_there;
+    written = written_there u f;
+  }
+
+pub substituted : (t u : Tree) (i : ℕ) → is_block t ≡ true → SingleAt (children (part t 0)) (Some i) → has_eval t ≡ false → u ≡ block_single t i (last_place (children (part (part (part t 0) i) 0))) → (q : StmtSeat) → Applied (Stmt q) t u true
+substituted t u i b s v f q =
+    let row = inr (inr (row_there t i b s v u f)) in
+    moves_once UnusedContracts (Stmt q) t u (record { row = row; lighter = unused_lighter (Stmt q) t u row })
+
+-- ---- where nothing is written no row reads it
+
+module _ (t w : Tree) (r : Row71 t w) where
+  abbrev named : Name
+  named = resolved r.spelling r.symbol
+
+  abbrev declared : Tree
+  declared = declarator (binding named) r.init
+
+  abbrev declarators : Trees
+  declarators = append r.first (declared ▸ none)
+
+  abbrev stated : Tree
+  stated = declaration Let declarators
+
+  abbrev statements : Trees
+  statements = append r.before (stated ▸ (r.head ▸ r.after))
+
+  once_is : is_read_once (named ∷ []) r.init declarators (count r.first) statements (count r.before) ≡ true
+  once_is =
+      let y = named in
+      let all = λ (a b c d f : Bool). a && (not (b || c) && not (d || f)) in
+      let head_there = ap (reads_first y) (next_there r.before stated r.head r.after) ∙ r.once in
+      let first_ds = ap (any_names y) (there_first r.first declared none) ∙ r.declared_earlier in
+      let first_ts = ap (any_names y) (there_first r.before stated (r.head ▸ r.after)) ∙ r.earlier in
+      let rest_ts = ap (any_names y) (rest_there r.before stated r.head r.after) ∙ r.later in
+      λ k. all (head_there k) (r.initial k) (first_ds k) (first_ts k) (rest_ts k)
+
+  single_there : is_single (children (part t 0)) (count r.before) ≡ true
+  single_there =
+      let i = count r.before in
+      ap (λ v. is_single (children (part v 0)) i) r.shape
+      ∙ ap (λ c. is_let c && is_single_declarator (part c 0) (last_place (children (part c 0))) statements i) (there_child r.before stated (r.head ▸ r.after))
+      ∙ ap (λ j. is_single_declarator (part stated 0) j statements i) (last_there r.first declared)
+      ∙ ap (λ c. declares_name c && (may_move (part c 1) && is_read_once (names_of (part c 0)) (part c 1) declarators (count r.first) statements i)) (there_child r.first declared none)
+      ∙ and_both (may_move r.init) (is_read_once (named ∷ []) r.init declarators (count r.first) statements i) r.moves once_is
+
+  single_within : suc (count r.before) < count (children (part t 0))
+  single_within = subst (λ v. suc (count r.before) < count (children (part v 0))) (sym r.shape) (within_there r.before stated r.head r.after)
+
+pub none_single : (t : Tree) → UnusedAt (children (part t 0)) None → SingleAt (children (part t 0)) None → (q : StmtSeat) → Applied (Stmt q) t t false
+none_single t u f q = rests q t (all_used t u) (λ w r. true≢false (sym (single_there t w r) ∙ f (count r.before) (single_within t w r)))

@@ -1,0 +1,63 @@
+-- 71, `substitute_single_use`: `{ let x = a(); return x + b; }` becomes `{ ; return a() + b; }`, and `{ let a, x = b(); return x; }`
+-- becomes `{ let a; return b(); }`.
+use Rattle.std.specs.Prelude.{◌≡◌, ◌<◌, ◌^◌, ℕ, zero, suc, Bool, true, false, not, ◌&&◌, ◌||◌, List, [], ◌∷◌, Option, Some, None, if◌then◌else◌}
+use Rattle.mini_model.specs.declared.name.Name.{Name}
+use Rattle.mini_model.specs.Tree.{Tree, Trees, none, ◌▸◌, count, child_or_absent, empty_statement, shape_of, children}
+use Rattle.mini_node.specs.Children.{names_of, part, with_part, is_bare, is_nameless, first_children, rest_children}
+use Rattle.mini_rows.specs.Unused.{names, any_names, leads, is_childless, may_move, reads_first, put_first}
+use Rattle.mini_unused.specs.RemoveUnusedDeclaration.{declares_name, is_let, list_at, let_left}
+
+-- a node without a name and a number, which evaluates its first part before all else
+abbrev pub may_begin : Bool → Tree → Bool
+may_begin in_list t = leads in_list (shape_of t) (is_childless (part t 0)) && is_nameless t
+
+-- the place of the last of some declarators
+abbrev pub last_place : Trees → ℕ
+last_place none = 0
+last_place (t ▸ none) = 0
+last_place (t ▸ (u ▸ ts)) = suc (last_place (u ▸ ts))
+
+-- a name like it stands in the initializer, or in a declarator before the place
+abbrev pub is_declared_over : Name → Tree → Trees → ℕ → Bool
+is_declared_over x init ds j = names x init || any_names x (first_children j ds)
+
+-- or before the statement at the place, or after the next
+abbrev pub is_mentioned_around : Name → Trees → ℕ → Bool
+is_mentioned_around x ts i = any_names x (first_children i ts) || any_names x (rest_children (suc (suc i)) ts)
+
+-- the next statement reads it first
+abbrev pub reads_next : Name → Trees → ℕ → Bool
+reads_next x ts i = reads_first x (child_or_absent ts (suc i))
+
+-- the next statement reads the name first, and no name like it stands elsewhere
+abbrev pub is_read_once : List Name → Tree → Trees → ℕ → Trees → ℕ → Bool
+is_read_once [] init ds j ts i = false
+is_read_once (x ∷ xs) init ds j ts i = reads_next x ts i && (not (is_declared_over x init ds j) && not (is_mentioned_around x ts i))
+
+-- so is the name of the declarator at the place, whose initializer may move
+abbrev pub is_single_declarator : Tree → ℕ → Trees → ℕ → Bool
+is_single_declarator l j ts i = declares_name (part l j) && (may_move (part (part l j) 1) && is_read_once (names_of (part (part l j) 0)) (part (part l j) 1) (children l) j ts i)
+
+-- the statement at the place is a `let`, whose last declarator is such a one
+abbrev pub is_single : Trees → ℕ → Bool
+is_single ts i = is_let (child_or_absent ts i) && is_single_declarator (list_at ts i) (last_place (children (list_at ts i))) ts i
+
+-- the place of such a statement, or there is none
+abbrev pub SingleAt : Trees → Option ℕ → Type 0
+SingleAt ts (Some i) = (suc i < count ts) × (suc i < 2 ^ 64) × (0 < count (children (child_or_absent ts i))) × (0 < count (children (list_at ts i))) × (is_single ts i ≡ true)
+SingleAt ts None = (i : ℕ) → suc i < count ts → is_single ts i ≡ false
+
+-- the declaration without the declarator at the place: `;` where it is the only one
+abbrev pub declaration_left : Tree → ℕ → Tree
+declaration_left t j = if is_bare (part t 0) 1 then empty_statement else let_left t j
+
+-- the initializer of the declarator at the place
+abbrev pub initializer : Tree → ℕ → ℕ → Tree
+initializer l i j = part (part (part (part l i) 0) j) 1
+
+-- with that in its place, and the initializer in the next statement
+abbrev pub list_single : Tree → ℕ → ℕ → Tree
+list_single l i j = with_part (with_part l i (declaration_left (part l i) j)) (suc i) (put_first (initializer l i j) (part l (suc i)))
+
+abbrev pub block_single : Tree → ℕ → ℕ → Tree
+block_single t i j = with_part t 0 (list_single (part t 0) i j)

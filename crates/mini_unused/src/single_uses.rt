@@ -1,0 +1,352 @@
+//! Row 71: `{ let x = a(); return x + b; }` becomes `{ ; return a() + b; }`, and `{ let a, x = b(); return x; }` becomes
+//! `{ let a; return b(); }`, where the statement evaluates x before all else and nothing else in the block has its spelling or its
+//! symbol, and no direct eval stands there.
+
+ghost use Rattle.std.specs.Prelude.{◌≡◌, ◌+◌, ◌<◌, ◌^◌, true, None, if◌then◌else◌};
+ghost use Rattle.mini_model.specs.declared.place.Position.TheVariants.{Stmt};
+ghost use Rattle.mini_model.specs.declared.seat.StmtSeat.{StmtSeat};
+ghost use Rattle.mini_model.specs.Tree.{child_or_absent, children, count, empty_statement};
+ghost use Rattle.mini_node.specs.Children.{names, part, with_part};
+ghost use Rattle.mini_node.specs.Kinds.{is_block as is_it_block, is_sequence_shape as is_it_sequence_shape};
+ghost use Rattle.mini_rows.specs.Unused as reading;
+ghost use Rattle.mini_rows.specs.Unused.{put_first as it_put_first};
+ghost use Rattle.mini_unused.specs.RemoveUnusedDeclaration.{list_at, UnusedAt, Applied};
+ghost use Rattle.mini_unused.specs.SubstituteSingleUse as row;
+ghost use Rattle.mini_unused.specs.SubstituteSingleUse.{declaration_left, SingleAt};
+
+use crate::declarations::{declares_name, is_let, put_child, take_child, take_declarator};
+use crate::evals::has_eval;
+use crate::mentions::{is_mentioned, is_mentioned_before, is_mentioned_from, is_same_symbol};
+use mini_model::{Name, Shape, UnaryOperator};
+use mini_node::{Node, Nodes, discard, empty_statement, is_identifier, two};
+use mini_terms::is_plain_part;
+use std::alloc::Global;
+
+// What evaluates its first part before all else, and asks for its value alone.
+fn begins(shape: &Shape, is_leaf: bool) -> bool
+    ensures { result ≡ reading.begins shape.now is_leaf }
+{
+    match shape {
+        Shape::UnaryExpression(UnaryOperator::LogicalNot)
+        | Shape::BinaryExpression(_)
+        | Shape::LogicalExpression(_)
+        | Shape::ConditionalExpression
+        | Shape::SequenceExpression
+        | Shape::StaticMemberExpression(false)
+        | Shape::ComputedMemberExpression(false) => true,
+        Shape::CallExpression(false) => !is_leaf,
+        _ => false,
+    }
+}
+
+// An expression, or the list of a sequence's parts.
+fn leads(in_list: bool, shape: &Shape, is_leaf: bool) -> bool
+    ensures { result ≡ reading.leads in_list shape.now is_leaf }
+{
+    if in_list {
+        matches!(shape, Shape::Listed)
+    } else {
+        begins(shape, is_leaf)
+    }
+}
+
+fn has_symbol_of(name: &Name, other: &Option<Name>) -> bool
+    ensures { result ≡ reading.has_symbol_of name.now (names other.now) }
+{
+    match other {
+        Some(other) => is_same_symbol(name.symbol, other.symbol),
+        None => false,
+    }
+}
+
+// It reads the variable.
+fn reads(name: &Name, node: &Node) -> bool
+    ensures { result ≡ reading.reads name.now node.now }
+{
+    is_identifier(node) && has_symbol_of(name, node.name())
+}
+
+fn is_childless(node: &Node) -> bool
+    ensures { result ≡ reading.is_childless node.now }
+{
+    node.children().len() == 0
+}
+
+// A node without a name and a number, which evaluates its first part before all else.
+fn may_begin(in_list: bool, node: &Node) -> bool
+    requires { 0 < count (children node.now) }
+    ensures { result ≡ row.may_begin in_list node.now }
+{
+    leads(in_list, node.shape(), is_childless(node.child(0))) && node.is_nameless()
+}
+
+fn is_sequence_shape(shape: &Shape) -> bool
+    ensures { result ≡ is_it_sequence_shape shape.now }
+{
+    matches!(shape, Shape::SequenceExpression)
+}
+
+// An expression, or a list of parts, reads the variable before all else, and nothing else in it mentions the name.
+#[tactic(auto, using(crate::proofs::SingleUses::first_leaf))]
+fn is_first(name: &Name, in_list: bool, node: &Node) -> bool
+    ensures { result ≡ reading.is_first name.now in_list node.now }
+{
+    if node.children().len() == 0 {
+        return !in_list && reads(name, node);
+    }
+    if !may_begin(in_list, node) {
+        return false;
+    }
+    if !is_first(name, is_sequence_shape(node.shape()), node.child(0)) {
+        return false;
+    }
+    !is_mentioned_from(name, node.children(), 1)
+}
+
+// So does a statement.
+fn reads_first(name: &Name, node: &Node) -> bool
+    ensures { result ≡ reading.reads_first name.now node.now }
+{
+    let is_head = matches!(
+        node.shape(),
+        Shape::ExpressionStatement | Shape::ReturnStatement | Shape::ThrowStatement
+    );
+    is_head && node.is_bare(1) && is_first(name, false, node.child(0))
+}
+
+// A function or a class, which may get the variable's name.
+fn is_definition(shape: &Shape) -> bool
+    ensures { result ≡ reading.is_definition shape.now }
+{
+    matches!(
+        shape,
+        Shape::Function(_, _, _) | Shape::ArrowFunctionExpression(_) | Shape::Class(_)
+    )
+}
+
+fn may_move(node: &Node) -> bool
+    ensures { result ≡ reading.may_move node.now }
+{
+    is_plain_part(node) && !is_definition(node.shape())
+}
+
+// Whether the name stands in the initializer, or in a declarator before it.
+fn is_declared_over(name: &Name, init: &Node, declarators: &Nodes, which: usize) -> bool
+    requires { which < count declarators.now }
+    ensures { result ≡ row.is_declared_over name.now init.now declarators.now which }
+{
+    is_mentioned(name, init) || is_mentioned_before(name, declarators, which)
+}
+
+// Whether it stands before the declaration, or after the next statement.
+fn is_mentioned_around(name: &Name, statements: &Nodes, at: usize) -> bool
+    requires next { at + 1 < count statements.now }
+    requires fits { at + 2 < 2 ^ 64 }
+    ensures { result ≡ row.is_mentioned_around name.now statements.now at }
+{
+    is_mentioned_before(name, statements, at) || is_mentioned_from(name, statements, at + 2)
+}
+
+// Whether the statement after the place reads it first.
+#[tactic(auto, using(crate::proofs::SingleUses::read_next))]
+fn reads_next(name: &Name, statements: &Nodes, at: usize) -> bool
+    requires next { at + 1 < count statements.now }
+    requires fits { at + 1 < 2 ^ 64 }
+    ensures { result ≡ row.reads_next name.now statements.now at }
+{
+    reads_first(name, statements.child(at + 1))
+}
+
+// The next statement reads the name first, and nothing else mentions it.
+fn is_read_once(
+    name: &Option<Name>,
+    init: &Node,
+    declarators: &Nodes,
+    which: usize,
+    statements: &Nodes,
+    at: usize,
+) -> bool
+    requires declarator { which < count declarators.now }
+    requires next { at + 1 < count statements.now }
+    requires fits { at + 2 < 2 ^ 64 }
+    ensures { result ≡ row.is_read_once (names name.now) init.now declarators.now which statements.now at }
+{
+    match name {
+        Some(name) => {
+            reads_next(name, statements, at)
+                && !is_declared_over(name, init, declarators, which)
+                && !is_mentioned_around(name, statements, at)
+        }
+        None => false,
+    }
+}
+
+fn is_single_declarator(list: &Node, which: usize, statements: &Nodes, at: usize) -> bool
+    requires declarator { which < count (children list.now) }
+    requires next { at + 1 < count statements.now }
+    requires fits { at + 2 < 2 ^ 64 }
+    ensures { result ≡ row.is_single_declarator list.now which statements.now at }
+{
+    let declarator = list.child(which);
+    declares_name(declarator)
+        && may_move(declarator.child(1))
+        && is_read_once(
+            declarator.child(0).name(),
+            declarator.child(1),
+            list.children(),
+            which,
+            statements,
+            at,
+        )
+}
+
+// The statement is a `let`, whose last declarator is such a one.
+#[tactic(auto, using(crate::proofs::SingleUses::no_declarator, crate::proofs::SingleUses::last_is))]
+fn is_single(statements: &Nodes, at: usize) -> bool
+    requires next { at + 1 < count statements.now }
+    requires fits { at + 2 < 2 ^ 64 }
+    ensures single { result ≡ row.is_single statements.now at }
+    ensures list { result ≡ true → 0 < count (children (child_or_absent statements.now at)) }
+    ensures declarators { result ≡ true → 0 < count (children (list_at statements.now at)) }
+{
+    let statement = statements.child(at);
+    if !is_let(statement) {
+        return false;
+    }
+    let list = statement.child(0);
+    let count = list.children().len();
+    if count == 0 {
+        return false;
+    }
+    is_single_declarator(list, count - 1, statements, at)
+}
+
+// The first such statement.
+fn single_at(statements: &Nodes) -> Option<usize>
+    ensures { SingleAt statements.now result }
+{
+    let count = statements.len();
+    if count == 0 {
+        return None;
+    }
+    for at in 0..count - 1 {
+        if is_single(statements, at) {
+            return Some(at);
+        }
+    }
+    None
+}
+
+// Another tree in the place of what is read first.
+#[tactic(auto, using(crate::proofs::SingleUses::put_leaf, crate::proofs::SingleUses::put_step, crate::proofs::SingleUses::part_smaller, crate::proofs::Unused::same_parts, crate::proofs::Unused::part_twice))]
+fn put_first(value: Node, mut node: Node) -> Node
+    ensures { result ≡ reading.put_first value node }
+{
+    if node.children().len() == 0 {
+        discard(node);
+        return value;
+    }
+    let first = take_child(&mut node, 0);
+    let first = put_first(value, first);
+    put_child(&mut node, 0, first);
+    node
+}
+
+// Of a declaration that has lost a declarator, what is written: `;` where it was the only one.
+fn left_of(alloc: Global, declaration: Node, is_only_one: bool) -> Node
+    ensures { result ≡ if is_only_one then empty_statement else declaration }
+{
+    if is_only_one {
+        discard(declaration);
+        return empty_statement(alloc);
+    }
+    declaration
+}
+
+// Of a declaration that is the only one, `;` is left, and of another its other declarators. The answer is the initializer.
+#[tactic(auto, using(crate::proofs::Unused::same_parts, crate::proofs::Unused::part_twice))]
+fn take_initializer(alloc: Global, list: &mut Node, at: usize, which: usize) -> Node
+    requires statement { at < count (children list.old) }
+    requires declarators { 0 < count (children (part list.old at)) }
+    requires declarator { which < count (children (part (part list.old at) 0)) }
+    ensures value { result ≡ row.initializer list.old at which }
+    ensures left { list.new ≡ with_part list.old at (declaration_left (part list.old at) which) }
+{
+    let mut declaration = take_child(list, at);
+    let is_only_one = declaration.child(0).is_bare(1);
+    let (binding, init) = two(take_declarator(&mut declaration, which));
+    discard(binding);
+    put_child(list, at, left_of(alloc, declaration, is_only_one));
+    init
+}
+
+// In the statement at the index it goes in the place of what is read first.
+#[tactic(auto, using(crate::proofs::Unused::same_parts, crate::proofs::Unused::part_twice))]
+fn put_in(list: &mut Node, at: usize, value: Node)
+    requires { at < count (children list.old) }
+    ensures { list.new ≡ with_part list.old at (it_put_first value (part list.old at)) }
+{
+    let head = take_child(list, at);
+    put_child(list, at, put_first(value, head));
+}
+
+// Of a list.
+#[tactic(auto, using(crate::proofs::Unused::same_parts, crate::proofs::SingleUses::next_part))]
+fn substitute_in_list(alloc: Global, list: &mut Node, at: usize, which: usize)
+    requires next { at + 1 < count (children list.old) }
+    requires fits { at + 1 < 2 ^ 64 }
+    requires declarators { 0 < count (children (part list.old at)) }
+    requires declarator { which < count (children (part (part list.old at) 0)) }
+    ensures { list.new ≡ row.list_single list.old at which }
+{
+    let init = take_initializer(alloc, list, at, which);
+    put_in(list, at + 1, init);
+}
+
+// The place of the last declarator of a declaration in a list.
+#[tactic(auto, using(crate::proofs::SingleUses::last_is))]
+fn last_declarator(list: &Node, at: usize) -> usize
+    requires statement { at < count (children list.now) }
+    requires declarators { 0 < count (children (part list.now at)) }
+    requires some { 0 < count (children (part (part list.now at) 0)) }
+    ensures place { result ≡ row.last_place (children (part (part list.now at) 0)) }
+    ensures within { result < count (children (part (part list.now at) 0)) }
+{
+    list.child(at).child(0).children().len() - 1
+}
+
+// Of a block.
+#[tactic(auto, using(crate::proofs::Unused::same_parts, crate::proofs::Unused::part_twice))]
+fn substitute(alloc: Global, block: &mut Node, at: usize)
+    requires list { 0 < count (children block.old) }
+    requires next { at + 1 < count (children (part block.old 0)) }
+    requires fits { at + 1 < 2 ^ 64 }
+    requires declarators { 0 < count (children (part (part block.old 0) at)) }
+    requires some { 0 < count (children (part (part (part block.old 0) at) 0)) }
+    ensures { block.new ≡ row.block_single block.old at (row.last_place (children (part (part (part block.old 0) at) 0))) }
+{
+    let mut list = take_child(block, 0);
+    let which = last_declarator(&list, at);
+    substitute_in_list(alloc, &mut list, at, which);
+    put_child(block, 0, list);
+}
+
+/// Of a block in which no name is unused, `let x = a(); return x + b;` becomes `; return a() + b;`, and `let a, x = b(); return x;`
+/// becomes `let a; return b();`. The answer says whether one did.
+pub fn substitute_single_use(alloc: Global, node: &mut Node) -> bool
+    requires list { 0 < count (children node.old) }
+    requires block { is_it_block node.old ≡ true }
+    requires used { UnusedAt (children (part node.old 0)) None }
+    ensures { (q : StmtSeat) → Applied (Stmt q) node.old node.new result }
+{
+    match single_at(node.child(0).children()) {
+        Some(at) => {
+            if has_eval(node) {
+                return false;
+            }
+            substitute(alloc, node, at);
+            true
+        }
+        None => false,
+    }
+}
