@@ -435,6 +435,20 @@ becomes("one that leaves another alone", "{ let x = a(), y; b(); }", "a(), b();"
 becomes("two of a consequent of nothing else", "if (a) { let b, c; }", "a;", { symbols: [] });
 becomes("one in a body, none in the head", "for (let i = 0, j; i < a; i++) { let x, y = b(i); c(y, y); }", "for (let i = 0, j; i < a; i++) { let y = b(i); c(y, y); }", { symbols: [0, 1, 3] });
 
+// ---- a name that the next statement reads first, and nothing else, goes, and its symbol
+
+becomes("a read that a return begins with", "function f(y) { if (y) { let x = a(); return x + y; } b(); }", "function f(y) { if (y) return a() + y; b(); }", { kept: 2, symbols: 2 });
+becomes("one that is all that is thrown", "{ let x = a(); throw x; }", "throw a();", { symbols: [] });
+becomes("the object of a call", "{ let x = a(); x.b(c); }", "a().b(c);", { symbols: [] });
+becomes("the object of a key", "{ let x = a(); x[b()]; }", "a()[b()];", { symbols: [] });
+becomes("a left operand", "{ let x = a(); x && b(); }", "a() && b();", { symbols: [] });
+becomes("a test of a conditional", "{ let x = a(); throw x ? b : c; }", "throw a() ? b : c;", { symbols: [] });
+becomes("the operand of a negation", "{ let x = a(); throw !x; }", "throw !a();", { symbols: [] });
+becomes("an initializer that gets parentheses", "{ let x = a ? b : c; x.d(); }", "(a ? b : c).d();", { symbols: [] });
+becomes("the last of several declarators", "{ let x = a, y = b(); y[c](d), e(x); }", "{ let x = a; b()[c](d), e(x); }", { symbols: [0] });
+becomes("a first part of a sequence", "{ let x = a(); x.b(), c(); }", "a().b(), c();", { symbols: [] });
+becomes("one read by another", "{ let x = a(); let y = x.b(); y.c(); }", "a().b().c();", { symbols: [] });
+
 // ---- the files
 
 const before = (lines) => {
