@@ -2,6 +2,8 @@
 use Rattle.std.proofs.Common.{◌≡◌, ◌<◌, ◌≤◌, arith, ℕ, zero, suc, true, false, refl, ap, ◌∙◌}
 use Rattle.std.specs.Prelude.{Some, None, nat_eq}
 use Rattle.std.proofs.Math.Dec.{eqb-suc-zero, eqb-suc-suc}
+use Rattle.std.proofs.lemmas.Bool.{false≢true}
+use Rattle.std.proofs.lemmas.Option.{none-some}
 use Rattle.mini_model.specs.declared.operator.BinaryOperator.{BinaryOperator}
 use Rattle.mini_model.specs.declared.operator.BinaryOperator.TheVariants as binary
 use Rattle.mini_model.specs.declared.operator.LogicalOperator.{LogicalOperator}
@@ -22,18 +24,18 @@ one_by_count (t ▸ u ▸ ts) = eqb-suc-suc (suc (count ts)) 0 ∙ eqb-suc-zero 
 pub neg_turned : (s : Seat) (t : Tree) (o : LogicalOperator) → turned_by (shape_of t) ≡ Some o → neg s t ≡ turned_over o s t
 neg_turned s (node (shape.LogicalExpression And) xs n ts) o e = let same : Or ≡ o = cc e in ap (λ q. turned_over q s (node (shape.LogicalExpression And) xs n ts)) same
 neg_turned s (node (shape.LogicalExpression Or) xs n ts) o e = let same : And ≡ o = cc e in ap (λ q. turned_over q s (node (shape.LogicalExpression Or) xs n ts)) same
-neg_turned s t o e = absurd (cc e)
+neg_turned s t o e = absurd (none-some o e)
 
 pub neg_unwrapped : (s : Seat) (t : Tree) → is_unwrapped s t ≡ true → neg s t ≡ part t 0
 neg_unwrapped s (node (shape.UnaryExpression LogicalNot) xs n (a ▸ none)) e = ap (λ b. unwrapped b a (node (shape.UnaryExpression LogicalNot) xs n (a ▸ none))) e
-neg_unwrapped s t e = absurd (cc e)
+neg_unwrapped s t e = absurd (false≢true e)
 
 pub neg_opposite : (s : Seat) (t : Tree) (o : BinaryOperator) → opposite_by (shape_of t) ≡ Some o → neg s t ≡ reshaped (shape.BinaryExpression o) t
 neg_opposite s (node (shape.BinaryExpression binary.Equality) xs n ts) o e = let same : binary.Inequality ≡ o = cc e in ap (λ q. node (shape.BinaryExpression q) xs n ts) same
 neg_opposite s (node (shape.BinaryExpression binary.Inequality) xs n ts) o e = let same : binary.Equality ≡ o = cc e in ap (λ q. node (shape.BinaryExpression q) xs n ts) same
 neg_opposite s (node (shape.BinaryExpression binary.StrictEquality) xs n ts) o e = let same : binary.StrictInequality ≡ o = cc e in ap (λ q. node (shape.BinaryExpression q) xs n ts) same
 neg_opposite s (node (shape.BinaryExpression binary.StrictInequality) xs n ts) o e = let same : binary.StrictEquality ≡ o = cc e in ap (λ q. node (shape.BinaryExpression q) xs n ts) same
-neg_opposite s t o e = absurd (cc e)
+neg_opposite s t o e = absurd (none-some o e)
 
 pub neg_other : (s : Seat) (t : Tree) → turned_by (shape_of t) ≡ None → opposite_by (shape_of t) ≡ None → is_unwrapped s t ≡ false → neg s t ≡ negation t
 neg_other s (node (shape.LogicalExpression And) xs n ts) e g f = absurd (cc e)

@@ -1,7 +1,8 @@
 -- The rewrite is that of row 79, and always lighter.
 use Rattle.std.proofs.Common.{◌≡◌, ℕ, zero, Bool, true, false, [], refl, sym, ap, subst, ◌∙◌, inl, inr}
 use Rattle.std.specs.Prelude.{◌&&◌, not, Option, Some, None, is_some, unwrap_or, option_map, if◌then◌else◌}
-use Rattle.std.proofs.lemmas.Bool.{and_parts}
+use Rattle.std.proofs.lemmas.Bool.{and_parts, false≢true}
+use Rattle.std.proofs.lemmas.Option.{none-some}
 use Rattle.mini_model.specs.declared.place.Position.TheVariants.{Stmt}
 use Rattle.mini_model.specs.declared.seat.StmtSeat.{StmtSeat}
 use Rattle.mini_model.specs.declared.shape.Shape.TheVariants as shape
@@ -21,7 +22,7 @@ use Rattle.mini_logic.specs.UnwrapBlock.{first_statement, holds_one, holds_bare,
 
 only_one : (ts : Trees) → has_one ts ≡ true → ts ≡ part (node shape.Listed [] 0 ts) 0 ▸ none
 only_one (t ▸ none) e = refl
-only_one ts e = absurd (cc e)
+only_one ts e = absurd (false≢true e)
 
 held : (t : Tree) → holds_one t ≡ true → (t ≡ block (first_statement t ▸ none)) × (is_unscoped (first_statement t) ≡ true)
 held t e =
@@ -58,7 +59,7 @@ loop_row (node shape.DoWhileStatement [] zero (b ▸ (a ▸ none))) i e = let (o
 loop_row (node shape.ForStatement [] zero (x ▸ (y ▸ (z ▸ (b ▸ none))))) i e = let (one, at) = some_then (holds_one b) 3 i e in subst (λ j. Row79 (around (ForBody x y z) b) (unwrapped_at (around (ForBody x y z) b) j)) at (unwrapped (ForBody x y z) b one refl)
 loop_row (node shape.ForInStatement [] zero (x ▸ (y ▸ (b ▸ none)))) i e = let (one, at) = some_then (holds_one b) 2 i e in subst (λ j. Row79 (around (InBody x y) b) (unwrapped_at (around (InBody x y) b) j)) at (unwrapped (InBody x y) b one refl)
 loop_row (node shape.ForOfStatement [] zero (x ▸ (y ▸ (b ▸ none)))) i e = let (one, at) = some_then (holds_one b) 2 i e in subst (λ j. Row79 (around (OfBody x y) b) (unwrapped_at (around (OfBody x y) b) j)) at (unwrapped (OfBody x y) b one refl)
-loop_row t i e = absurd (cc e)
+loop_row t i e = absurd (none-some i e)
 
 row_at : (t : Tree) (i : ℕ) → place t ≡ Some i → Row79 t (unwrapped_at t i)
 row_at t i e = go (is_if_statement t) refl e

@@ -1,6 +1,7 @@
 -- The weight of operands that are negated, from one on.
-use Rattle.std.proofs.Common.{◌≡◌, refl, ap, sym, ◌∙◌, ℕ, zero, suc, ◌+◌, ◌<◌, ◌≤◌, Bool, true, false, List, [], ◌∷◌, length, arith}
+use Rattle.std.proofs.Common.{◌≡◌, refl, ap, sym, subst, ◌∙◌, ℕ, zero, suc, ◌+◌, ◌<◌, ◌≤◌, Bool, true, false, List, [], ◌∷◌, length, arith}
 use Rattle.std.specs.Prelude.{slice_index_or, ◌&&◌, ◌||◌, Some, if◌then◌else◌}
+use Rattle.std.proofs.lemmas.Option.{none-some}
 use Rattle.mini_model.specs.declared.operator.BinaryOperator.{BinaryOperator}
 use Rattle.mini_model.specs.declared.operator.BinaryOperator.TheVariants as binary
 use Rattle.mini_model.specs.declared.operator.LogicalOperator.{LogicalOperator}
@@ -62,15 +63,15 @@ test_mark false true false false = refl
 test_mark false false u true = refl
 test_mark false false u false = refl
 
-abbrev off_test : Seat → Seat
-off_test s = record s { cond_test = false }
+abbrev Weighs : Seat → Tree → BinaryOperator → Type 0
+Weighs s t o = weight (Expr s) (reshaped (shape.BinaryExpression o) t) ≡ weight (Expr (record s { cond_test = false })) t + unequal_weight o s
 
 pub opposite_weighs : (s : Seat) (t : Tree) (o : BinaryOperator) → opposite_by (shape_of t) ≡ Some o → weight (Expr s) (reshaped (shape.BinaryExpression o) t) ≡ weight (Expr (record s { cond_test = false })) t + unequal_weight o s
-opposite_weighs s (node (shape.BinaryExpression binary.Equality) xs n ts) binary.Inequality e = omega (arith, test_mark s.eq_left s.cond_test true s.lifted, test_mark s.eq_left false false s.lifted)
-opposite_weighs s (node (shape.BinaryExpression binary.Inequality) xs n ts) binary.Equality e = omega (arith, test_mark s.eq_left s.cond_test false s.lifted, test_mark s.eq_left false true s.lifted)
-opposite_weighs s (node (shape.BinaryExpression binary.StrictEquality) xs n ts) binary.StrictInequality e = omega (arith, test_mark s.eq_left s.cond_test true s.lifted, test_mark s.eq_left false false s.lifted)
-opposite_weighs s (node (shape.BinaryExpression binary.StrictInequality) xs n ts) binary.StrictEquality e = omega (arith, test_mark s.eq_left s.cond_test false s.lifted, test_mark s.eq_left false true s.lifted)
-opposite_weighs s t o e = absurd (cc e)
+opposite_weighs s (node (shape.BinaryExpression binary.Equality) xs n ts) o e = let same : binary.Inequality ≡ o = cc e in subst (Weighs s (node (shape.BinaryExpression binary.Equality) xs n ts)) same (omega (arith, test_mark s.eq_left s.cond_test true s.lifted, test_mark s.eq_left false false s.lifted))
+opposite_weighs s (node (shape.BinaryExpression binary.Inequality) xs n ts) o e = let same : binary.Equality ≡ o = cc e in subst (Weighs s (node (shape.BinaryExpression binary.Inequality) xs n ts)) same (omega (arith, test_mark s.eq_left s.cond_test false s.lifted, test_mark s.eq_left false true s.lifted))
+opposite_weighs s (node (shape.BinaryExpression binary.StrictEquality) xs n ts) o e = let same : binary.StrictInequality ≡ o = cc e in subst (Weighs s (node (shape.BinaryExpression binary.StrictEquality) xs n ts)) same (omega (arith, test_mark s.eq_left s.cond_test true s.lifted, test_mark s.eq_left false false s.lifted))
+opposite_weighs s (node (shape.BinaryExpression binary.StrictInequality) xs n ts) o e = let same : binary.StrictEquality ≡ o = cc e in subst (Weighs s (node (shape.BinaryExpression binary.StrictInequality) xs n ts)) same (omega (arith, test_mark s.eq_left s.cond_test false s.lifted, test_mark s.eq_left false true s.lifted))
+opposite_weighs s t o e = absurd (none-some o e)
 
 -- an item of a list is a smaller tree
 pub item_within : (ts : List Tree) (i : ℕ) (d : Tree) → i < length ts → node_count (slice_index_or ts i d) ≤ node_counts (trees_of ts)

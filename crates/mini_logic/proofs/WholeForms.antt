@@ -1,6 +1,7 @@
 -- The whole negation by the kind of its expression.
-use Rattle.std.proofs.Common.{◌≡◌, ◌+◌, ◌<◌, zero, Bool, true, false, [], Option, Some, None, refl, sym, ap, ◌∙◌, subst, arith}
+use Rattle.std.proofs.Common.{◌≡◌, zero, Bool, true, false, [], Some, None, refl, sym, ap, ◌∙◌, subst}
 use Rattle.std.specs.Prelude.{not, ◌||◌, is_some, if◌then◌else◌}
+use Rattle.std.proofs.lemmas.Option.{none-some}
 use Rattle.mini_model.specs.declared.operator.BinaryOperator.{BinaryOperator}
 use Rattle.mini_model.specs.declared.operator.BinaryOperator.TheVariants.{LessThan, GreaterThan}
 use Rattle.mini_model.specs.declared.operator.LogicalOperator.{LogicalOperator}
@@ -15,7 +16,7 @@ use Rattle.mini_node.specs.Children.{is_bare, part}
 use Rattle.mini_node.specs.Kinds.{logical_operator, boolean as boolean_value}
 use Rattle.mini_node.specs.Made.{boolean_is}
 use Rattle.mini_rows.specs.Spellings.{binary, boolean}
-use Rattle.mini_rows.specs.Negations.{beside_u, reversed, reverse_of, negated_leaf, whole_by, is_junction, reaches_in}
+use Rattle.mini_rows.specs.Negations.{beside_u, reversed, reverse_of, negated_leaf, is_junction, reaches_in}
 use Rattle.mini_rows.proofs.NegationMeaning.{reverses}
 use Rattle.mini_logic.specs.Negating.{lighter_negation}
 use Rattle.mini_logic.specs.MinimizeNegation.{junction_of, told}
@@ -28,7 +29,7 @@ pub told_junction : (s : Seat) (t : Tree) (o : LogicalOperator) → junction_of 
 told_junction s (node (shape.LogicalExpression And) [] zero (a ▸ b ▸ none)) o e = let same : Or ≡ o = cc e in ap (λ p. logical p (told (left_operand_seat p s) a) (told (right_operand_seat p s) b)) same
 told_junction s (node (shape.LogicalExpression Or) [] zero (a ▸ b ▸ none)) o e = let same : And ≡ o = cc e in ap (λ p. logical p (told (left_operand_seat p s) a) (told (right_operand_seat p s) b)) same
 told_junction s (node (shape.LogicalExpression Coalesce) xs n ts) o e = absurd (cc (sym (no_coalesce (is_bare (node (shape.LogicalExpression Coalesce) xs n ts) 2)) ∙ e))
-told_junction s t o e = absurd (cc e)
+told_junction s t o e = absurd (none-some o e)
 
 junction_is : (t : Tree) → is_some (junction_of (logical_operator t)) ≡ is_junction t
 junction_is (node (shape.LogicalExpression And) [] zero (a ▸ b ▸ none)) = refl
@@ -50,7 +51,7 @@ no_junction t o e = let r = reverses t o e in ap (λ u. junction_of (logical_ope
 same_weight : (s : Seat) (p o : BinaryOperator) (a : Tree) → reversed p ≡ Some o → weight (Expr s) (beside_u p a) ≡ weight (Expr s) (beside_u o a)
 same_weight s LessThan o a e = let same : GreaterThan ≡ o = cc e in subst (λ x. weight (Expr s) (beside_u LessThan a) ≡ weight (Expr s) (beside_u x a)) same refl
 same_weight s GreaterThan o a e = let same : LessThan ≡ o = cc e in subst (λ x. weight (Expr s) (beside_u GreaterThan a) ≡ weight (Expr s) (beside_u x a)) same refl
-same_weight s p o a e = absurd (cc e)
+same_weight s p o a e = absurd (none-some o e)
 
 literal_weight : (s : Seat) (b : Bool) → weight (Expr s) (boolean b) ≡ weight (Expr s) (boolean (not b))
 literal_weight s true = refl

@@ -122,7 +122,6 @@ pub fn own_weight(operator: LogicalOperator, seat: Seat) -> u64
 
 // The weight of the logical expression of this operator over the negated operands.
 #[cycle(weighing)]
-#[tactic(auto, using(crate::proofs::Weights::from_start, crate::proofs::Weights::item_within, crate::proofs::Weights::weight_turned))]
 fn turned_weight(operator: LogicalOperator, expression: &Node, seat: Seat) -> u64
     ensures { result ≡ capped (weight_at (Expr seat) (turned_over operator seat expression.now)) }
 {
@@ -161,7 +160,6 @@ fn opposite_weight(operator: BinaryOperator, expression: &Node, seat: Seat) -> u
 
 /// The weight of the negation of an expression, written in its seat, which stays at the greatest u64.
 #[cycle(weighing)]
-#[tactic(auto, using(crate::proofs::Negations::neg_turned, crate::proofs::Negations::neg_opposite, crate::proofs::Negations::neg_unwrapped, crate::proofs::Negations::neg_other))]
 pub fn neg_weight(expression: &Node, seat: Seat) -> u64
     ensures { result ≡ capped (weight_at (Expr seat) (neg seat expression.now)) }
 {
@@ -231,7 +229,6 @@ fn turned(
 /// and `||` are turned into each other with their operands negated, `==` and `!=`, `===` and `!==` are turned into each other, and
 /// any other e gives `!e`.
 #[cycle(negating)]
-#[tactic(auto, using(crate::proofs::Negations::neg_turned, crate::proofs::Negations::neg_opposite, crate::proofs::Negations::neg_unwrapped, crate::proofs::Negations::neg_other))]
 pub fn negated(alloc: Global, expression: Node, seat: Seat) -> Result<Node, OutOfMemory>
     ensures { IfOk result (λ w. w ≡ neg seat expression) }
 {

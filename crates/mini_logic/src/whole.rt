@@ -87,7 +87,6 @@ pub fn reaches_in(expression: &Node) -> bool
 }
 
 /// The weight of the whole negation of an expression, written in its seat, which stays at the greatest u64.
-#[tactic(auto, using(crate::proofs::WholeForms::told_junction, crate::proofs::WholeForms::told_reversed, crate::proofs::WholeForms::told_literal, crate::proofs::WholeForms::told_other, crate::proofs::Weights::weight_logical))]
 pub fn told_weight(expression: &Node, seat: Seat) -> u64
     ensures { result ≡ capped (weight_at (Expr seat) (told seat expression.now)) }
 {
@@ -110,7 +109,6 @@ pub fn told_weight(expression: &Node, seat: Seat) -> u64
 /// The whole negation of an expression, written in its seat: `&&` and `||` are turned into each other with both sides negated,
 /// `typeof a < "u"` and `typeof a > "u"` are turned into each other, `true` and `false` too, and of any other expression the lighter of
 /// its negation and of `!` over it is written. The only error is that memory runs out.
-#[tactic(auto, using(crate::proofs::WholeForms::told_junction, crate::proofs::WholeForms::told_reversed, crate::proofs::WholeForms::told_literal, crate::proofs::WholeForms::told_other))]
 pub fn told_negation(alloc: Global, expression: Node, seat: Seat) -> Result<Node, OutOfMemory>
     ensures { IfOk result (λ w. w ≡ told seat expression) }
 {
