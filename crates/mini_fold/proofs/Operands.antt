@@ -1,6 +1,6 @@
 -- What is written for an operand whose value is known is what a row says, and where nothing is no row reads the expression.
 use Rattle.std.proofs.Common.{◌≡◌, ℕ, zero, suc, Bool, true, false, List, [], Option, Some, None, refl, sym, ap, subst, ◌∙◌, inl, inr, true≢false}
-use Rattle.std.specs.Prelude.{◌&&◌, ◌||◌, ℤ, pos, is_some, unwrap_or, if◌then◌else◌}
+use Rattle.std.specs.Prelude.{◌&&◌, ◌||◌, ◌++◌, ℤ, pos, is_some, unwrap_or, if◌then◌else◌}
 use Rattle.std.proofs.lemmas.Bool.{and_parts}
 use Rattle.mini_model.specs.declared.operator.BinaryOperator.{BinaryOperator}
 use Rattle.mini_model.specs.declared.operator.BinaryOperator.TheVariants.{Addition, Equality, Inequality}
@@ -24,12 +24,12 @@ use Rattle.mini_terms.specs.Parts.{takes_numbers, suits, leaves_nothing, weighs}
 use Rattle.mini_terms.specs.Reading.{is_unguarded, is_plain_part}
 use Rattle.mini_rows.specs.Booleans.{digit}
 use Rattle.mini_rows.specs.Choices.{loosely}
-use Rattle.mini_rows.specs.Operands.{beside, told_by, Row14, Row7, OperandRow}
+use Rattle.mini_rows.specs.Operands.{beside, told_by, tail_text, is_bits, zero_told, Row14, Row7, Row4, Row27, OperandRow}
 use Rattle.mini_rows.specs.Spellings.{negated_digit, text}
 use Rattle.mini_rows.proofs.OperandWeights.{lighter}
 use Rattle.mini_tree.specs.Rule.{Applied}
 use Rattle.mini_tree.proofs.Reaching.{moves_once}
-use Rattle.mini_fold.specs.FoldOperands.{is_redundant, logical_written, is_empty, is_string_kind, is_text, text_written, negated_truth, truth_in, is_boolean_kind, is_told, right_written, left_written, either_written, equal_written, binary_written, written_by, written, Gives, Rests}
+use Rattle.mini_fold.specs.FoldOperands.{is_redundant, logical_written, is_empty, is_string_kind, is_text, text_written, sum_text_by, joined_texts, with_text, joined_written, or_else, sum_written, is_zero, tests_bits, negated_truth, truth_in, is_boolean_kind, is_told, right_written, left_written, either_written, equal_written, binary_written, written_by, written, Gives, Rests}
 
 or_true : (b : Bool) → b || true ≡ true
 or_true true = refl
@@ -146,12 +146,112 @@ or_right : (b c : Bool) → c ≡ true → b || c ≡ true
 or_right true c e = refl
 or_right false c e = e
 
+or_else_there : (t u : Option Tree) → is_some t ≡ true → is_some (or_else t u) ≡ true
+or_else_there (Some t) u e = refl
+or_else_there None u e = absurd (true≢false (sym e))
+
+or_else_other : (t u : Option Tree) → is_some u ≡ true → is_some (or_else t u) ≡ true
+or_else_other (Some t) u e = refl
+or_else_other None u e = e
+
 text_passes_as : (s : Seat) (b : Bool) (a : Tree) → kind a ≡ IsString → suits s a ≡ true → is_some (written s (beside Addition b a (text []))) ≡ true
-text_passes_as s true a k h = first_or_second (is_text s a (text [])) (is_text s (text []) a) a (text []) (ap (λ c. c || is_text s (text []) a) (is_text_there s a k h))
-text_passes_as s false a k h = first_or_second (is_text s (text []) a) (is_text s a (text [])) (text []) a (or_right (is_text s (text []) a) (is_text s a (text [])) (is_text_there s a k h))
+text_passes_as s true a k h = or_else_there (text_written s a (text [])) (joined_written a (text [])) (first_or_second (is_text s a (text [])) (is_text s (text []) a) a (text []) (ap (λ c. c || is_text s (text []) a) (is_text_there s a k h)))
+text_passes_as s false a k h = or_else_there (text_written s (text []) a) (joined_written (text []) a) (first_or_second (is_text s (text []) a) (is_text s a (text [])) (text []) a (or_right (is_text s (text []) a) (is_text s a (text [])) (is_text_there s a k h)))
 
 text_passes : (s : Seat) (n w : Tree) → Row7 s n w → is_some (written s n) ≡ true
 text_passes s n w r = ap (λ t. is_some (written s t)) r.shape ∙ text_passes_as s r.on_right r.operand r.known r.stays
+
+-- ---- 4
+
+joined_row : (n w a k : Tree) → n ≡ binary Addition a k → joined_written a k ≡ Some w → Row4 n w
+joined_row n w a k is e = go (binary_operator a) (string (part a 1)) (tail_text k) refl refl refl e
+  where
+    go : (o : Option BinaryOperator) (c d : Option (List ℕ)) → binary_operator a ≡ o → string (part a 1) ≡ c → tail_text k ≡ d → with_text a (joined_texts (sum_text_by o (part a 1)) d) ≡ Some w → Row4 n w
+    go (Some Addition) (Some s) (Some t) h g j f = record {
+      left = part a 0;
+      before = s;
+      tail = k;
+      after = t;
+      known = j;
+      shape = is ∙ ap (λ x. binary Addition x k) (binary_is a Addition h ∙ ap (binary Addition (part a 0)) (string_is (part a 1) s g));
+      written = sym (some_is (binary Addition (part a 0) (text (s ++ t))) w (sym (ap (λ c. with_text a (joined_texts c (Some t))) g) ∙ f));
+    }
+    go (Some Addition) (Some s) None h g j f = nothing (sym (ap (λ c. with_text a (joined_texts c None)) g) ∙ f)
+    go (Some Addition) None d h g j f = nothing (sym (ap (λ c. with_text a (joined_texts c d)) g) ∙ f)
+    go o c d h g j f = nothing f
+
+sum_row : (s : Seat) (n w a b : Tree) → n ≡ binary Addition a b → sum_written s a b ≡ Some w → OperandRow (Expr s) n w
+sum_row s n w a b is e = go (text_written s a b) refl e
+  where
+    go : (c : Option Tree) → text_written s a b ≡ c → or_else c (joined_written a b) ≡ Some w → OperandRow (Expr s) n w
+    go (Some t) h f = inr (inl (texts_row s n w a b is (h ∙ f)))
+    go None h f = inr (inr (inr (inr (inl (joined_row n w a b is f)))))
+
+-- what is written first, and what is where that is nothing
+module _ (s : Seat) (n : Tree) where
+  abbrev text_first : Option Tree
+  text_first = text_written s (part n 0) (part n 1)
+
+  abbrev sum_first : Option Tree
+  sum_first = sum_written s (part n 0) (part n 1)
+
+  pub text_made : (u : Tree) → u ≡ unwrap_or text_first n → true ≡ is_some text_first → (u ≡ unwrap_or sum_first n) × (true ≡ is_some sum_first)
+  text_made u e h = go text_first (joined_written (part n 0) (part n 1)) e h
+    where
+      go : (c d : Option Tree) → u ≡ unwrap_or c n → true ≡ is_some c → (u ≡ unwrap_or (or_else c d) n) × (true ≡ is_some (or_else c d))
+      go (Some t) d e h = (e, refl)
+      go None d e h = absurd (true≢false h)
+
+  pub text_kept : (u : Tree) → u ≡ unwrap_or text_first n → false ≡ is_some text_first → u ≡ n
+  text_kept u e h = go text_first e h
+    where
+      go : (c : Option Tree) → u ≡ unwrap_or c n → false ≡ is_some c → u ≡ n
+      go (Some t) e h = absurd (true≢false (sym h))
+      go None e h = e
+
+  pub no_text : false ≡ is_some text_first → sum_first ≡ joined_written (part n 0) (part n 1)
+  no_text h = go text_first (joined_written (part n 0) (part n 1)) h
+    where
+      go : (c d : Option Tree) → false ≡ is_some c → or_else c d ≡ d
+      go (Some t) d h = absurd (true≢false (sym h))
+      go None d h = refl
+
+  pub joined_kept : (u : Tree) → u ≡ n → false ≡ is_some text_first → unwrap_or (joined_written (part u 0) (part u 1)) u ≡ unwrap_or sum_first n
+  joined_kept u e h = ap (λ x. unwrap_or (joined_written (part x 0) (part x 1)) x) e ∙ ap (λ c. unwrap_or c n) (sym (no_text h))
+
+  pub joined_said : (u : Tree) → u ≡ n → false ≡ is_some text_first → is_some (joined_written (part u 0) (part u 1)) ≡ is_some sum_first
+  joined_said u e h = ap (λ x. is_some (joined_written (part x 0) (part x 1))) e ∙ ap is_some (sym (no_text h))
+
+joined_passes : (s : Seat) (n w : Tree) → Row4 n w → is_some (written s n) ≡ true
+joined_passes s n w r =
+    ap (λ t. is_some (written s t)) r.shape
+    ∙ or_else_other (text_written s (binary Addition r.left (text r.before)) r.tail) (joined_written (binary Addition r.left (text r.before)) r.tail)
+    (ap (λ d. is_some (with_text (binary Addition r.left (text r.before)) (joined_texts (Some r.before) d))) r.known)
+
+-- ---- 27
+
+zero_is : (b : Tree) → is_zero (number b) ≡ true → b ≡ digit false
+zero_is b e = go (number b) refl e
+  where
+    go : (c : Option ℤ) → number b ≡ c → is_zero c ≡ true → b ≡ digit false
+    go (Some (pos zero)) h f = number_is b (pos 0) h
+    go c h f = absurd (true≢false (sym f))
+
+zero_row : (n : Tree) (equal : Bool) (a b : Tree) → n ≡ binary (loosely equal) a b → tests_bits a b ≡ true → Row27 n (zero_told equal a)
+zero_row n equal a b is e =
+    let (nought, bits) = and_parts (is_zero (number b)) (is_bits a) e in
+    record { equal = equal; operand = a; known = bits; shape = is ∙ ap (binary (loosely equal) a) (zero_is b nought); written = refl }
+
+tested : (b : Bool) (t : Tree) (u : Option Tree) → is_some u ≡ true → is_some (if b then Some t else u) ≡ true
+tested true t u e = refl
+tested false t u e = e
+
+zero_there : (equal : Bool) (a : Tree) → is_bits a ≡ true → (s : Seat) → is_some (equal_written s equal a (digit false)) ≡ true
+zero_there equal a e s = ap (λ b. is_some (if b then Some (zero_told equal a) else either_written s equal (truth_in (digit false)) a (digit false))) e
+
+zero_passes_as : (s : Seat) (equal : Bool) (a : Tree) → is_bits a ≡ true → is_some (written s (binary (loosely equal) a (digit false))) ≡ true
+zero_passes_as s true a e = zero_there true a e s
+zero_passes_as s false a e = zero_there false a e s
 
 -- ---- 29 and 30
 
@@ -179,15 +279,22 @@ right_row s n equal c a is = go (is_told s (same_boolean equal c) a) refl
   where
     go : (b : Bool) → is_told s (same_boolean equal c) a ≡ b → Reads s n (if b then told_by (same_boolean equal c) a else binary (loosely equal) a (digit c))
     go true h = let (known, stays) = and_parts (is_boolean_kind (kind a)) (suits s (told_by (same_boolean equal c) a)) h in inr (inr (inl (record { equal = equal; truth = c; operand = a; known = boolean_kind (kind a) known; stays = stays; shape = is; written = refl })))
-    go false h = inr (inr (inr (record { equal = equal; truth = c; on_right = true; operand = a; shape = is; written = refl })))
+    go false h = inr (inr (inr (inl (record { equal = equal; truth = c; on_right = true; operand = a; shape = is; written = refl }))))
 
-equal_row : (s : Seat) (n w : Tree) (equal : Bool) (a b : Tree) → n ≡ binary (loosely equal) a b → equal_written s equal a b ≡ Some w → Reads s n w
-equal_row s n w equal a b is e = go (truth_in b) (truth_in a) refl refl e
+others_row : (s : Seat) (n w : Tree) (equal : Bool) (a b : Tree) → n ≡ binary (loosely equal) a b → either_written s equal (truth_in b) a b ≡ Some w → Reads s n w
+others_row s n w equal a b is e = go (truth_in b) (truth_in a) refl refl e
   where
     go : (c d : Option Bool) → truth_in b ≡ c → truth_in a ≡ d → either_written s equal c a b ≡ Some w → Reads s n w
     go (Some c) d h k f = subst (Reads s n) (some_is (right_written s equal c a) w f) (right_row s n equal c a (is ∙ ap (binary (loosely equal) a) (truth_is b c h)))
-    go None (Some d) h k f = inr (inr (inr (record { equal = equal; truth = d; on_right = false; operand = b; shape = is ∙ ap (λ t. binary (loosely equal) t b) (truth_is a d k); written = sym (some_is (binary (loosely equal) (digit d) b) w (sym (ap (λ o. left_written equal o b) k) ∙ f)) })))
+    go None (Some d) h k f = inr (inr (inr (inl (record { equal = equal; truth = d; on_right = false; operand = b; shape = is ∙ ap (λ t. binary (loosely equal) t b) (truth_is a d k); written = sym (some_is (binary (loosely equal) (digit d) b) w (sym (ap (λ o. left_written equal o b) k) ∙ f)) }))))
     go None None h k f = nothing (sym (ap (λ o. left_written equal o b) k) ∙ f)
+
+equal_row : (s : Seat) (n w : Tree) (equal : Bool) (a b : Tree) → n ≡ binary (loosely equal) a b → equal_written s equal a b ≡ Some w → Reads s n w
+equal_row s n w equal a b is e = go (tests_bits a b) refl e
+  where
+    go : (c : Bool) → tests_bits a b ≡ c → (if c then Some (zero_told equal a) else either_written s equal (truth_in b) a b) ≡ Some w → Reads s n w
+    go true h f = inr (inr (inr (inr (inr (subst (Row27 n) (some_is (zero_told equal a) w f) (zero_row n equal a b is h))))))
+    go false h f = others_row s n w equal a b is f
 
 right_passes : (s : Seat) (equal c : Bool) (a : Tree) → is_some (written s (binary (loosely equal) a (negated_digit c))) ≡ true
 right_passes s true true a = refl
@@ -202,13 +309,13 @@ either_passes s equal false a None = refl
 
 beside_passes : (s : Seat) (equal c b : Bool) (a : Tree) → is_some (written s (beside (loosely equal) b a (negated_digit c))) ≡ true
 beside_passes s equal c true a = right_passes s equal c a
-beside_passes s true c false a = either_passes s true c a (truth_in a)
-beside_passes s false c false a = either_passes s false c a (truth_in a)
+beside_passes s true c false a = tested (tests_bits (negated_digit c) a) _ _ (either_passes s true c a (truth_in a))
+beside_passes s false c false a = tested (tests_bits (negated_digit c) a) _ _ (either_passes s false c a (truth_in a))
 
 -- ---- all
 
 binary_row : (s : Seat) (n w : Tree) (o : Option BinaryOperator) → binary_operator n ≡ o → binary_written s o n ≡ Some w → OperandRow (Expr s) n w
-binary_row s n w (Some Addition) h e = inr (inl (texts_row s n w (part n 0) (part n 1) (binary_is n Addition h) e))
+binary_row s n w (Some Addition) h e = sum_row s n w (part n 0) (part n 1) (binary_is n Addition h) e
 binary_row s n w (Some Equality) h e = equal_row s n w true (part n 0) (part n 1) (binary_is n Equality h) e
 binary_row s n w (Some Inequality) h e = equal_row s n w false (part n 0) (part n 1) (binary_is n Inequality h) e
 binary_row s n w o h e = nothing e
@@ -225,7 +332,9 @@ passes : (s : Seat) (n w : Tree) → OperandRow (Expr s) n w → is_some (writte
 passes s n w (inl r) = middle_passes s n w r
 passes s n w (inr (inl r)) = text_passes s n w r
 passes s n w (inr (inr (inl r))) = ap (λ t. is_some (written s t)) r.shape ∙ right_passes s r.equal r.truth r.operand
-passes s n w (inr (inr (inr r))) = ap (λ t. is_some (written s t)) r.shape ∙ beside_passes s r.equal r.truth r.on_right r.operand
+passes s n w (inr (inr (inr (inl r)))) = ap (λ t. is_some (written s t)) r.shape ∙ beside_passes s r.equal r.truth r.on_right r.operand
+passes s n w (inr (inr (inr (inr (inl r))))) = joined_passes s n w r
+passes s n w (inr (inr (inr (inr (inr r))))) = ap (λ t. is_some (written s t)) r.shape ∙ zero_passes_as s r.equal r.operand r.known
 
 unwritten_rests : (s : Seat) (n : Tree) → written s n ≡ None → Rests (Expr s) n
 unwritten_rests s n e w r = true≢false (sym (passes s n w r) ∙ ap is_some e)

@@ -1,5 +1,5 @@
--- The rewrites 7, 14, 29 and 30: what is known of an operand goes, or is written shorter.
-use Rattle.std.specs.Prelude.{ℕ, suc, zero, ℤ, pos, Bool, true, false, ◌&&◌, List, [], Option, Some, None, if◌then◌else◌}
+-- The rewrites 4, 7, 14, 27, 29 and 30: what is known of an operand goes, or is written shorter.
+use Rattle.std.specs.Prelude.{ℕ, suc, zero, ℤ, pos, Bool, true, false, ◌&&◌, List, [], ◌++◌, Option, Some, None, if◌then◌else◌}
 use Rattle.mini_model.specs.declared.operator.BinaryOperator.{BinaryOperator}
 use Rattle.mini_model.specs.declared.operator.BinaryOperator.TheVariants.{Addition, Equality, Inequality}
 use Rattle.mini_model.specs.declared.operator.LogicalOperator.{LogicalOperator}
@@ -19,8 +19,8 @@ use Rattle.mini_terms.specs.Kind.{kind}
 use Rattle.mini_terms.specs.Parts.{suits, leaves_nothing, weighs}
 use Rattle.mini_rows.specs.Booleans.{digit}
 use Rattle.mini_rows.specs.Choices.{loosely}
-use Rattle.mini_rows.specs.Operands.{told_by, OperandRow, OperandContracts}
-use Rattle.mini_rows.specs.Spellings.{binary}
+use Rattle.mini_rows.specs.Operands.{told_by, tail_text, is_bits, zero_told, OperandRow, OperandContracts}
+use Rattle.mini_rows.specs.Spellings.{binary, text}
 
 -- ---- 14
 
@@ -48,6 +48,45 @@ is_text s a k = is_empty (string k) && (is_string_kind (kind a) && suits s a)
 
 abbrev pub text_written : Seat → Tree → Tree → Option Tree
 text_written s a b = if is_text s a b then Some a else (if is_text s b a then Some b else None)
+
+-- ---- 4
+
+-- the text at the end of `a + "s"`
+abbrev pub sum_text_by : Option BinaryOperator → Tree → Option (List ℕ)
+sum_text_by (Some Addition) k = string k
+sum_text_by o k = None
+
+abbrev pub sum_text : Tree → Option (List ℕ)
+sum_text t = sum_text_by (binary_operator t) (part t 1)
+
+abbrev pub joined_texts : Option (List ℕ) → Option (List ℕ) → Option (List ℕ)
+joined_texts (Some s) (Some t) = Some (s ++ t)
+joined_texts c d = None
+
+abbrev pub with_text : Tree → Option (List ℕ) → Option Tree
+with_text a (Some r) = Some (binary Addition (part a 0) (text r))
+with_text a None = None
+
+-- `a + "st"` of `a + "s" + "t"`
+abbrev pub joined_written : Tree → Tree → Option Tree
+joined_written a k = with_text a (joined_texts (sum_text a) (tail_text k))
+
+abbrev pub or_else : Option Tree → Option Tree → Option Tree
+or_else (Some t) u = Some t
+or_else None u = u
+
+abbrev pub sum_written : Seat → Tree → Tree → Option Tree
+sum_written s a b = or_else (text_written s a b) (joined_written a b)
+
+-- ---- 27
+
+abbrev pub is_zero : Option ℤ → Bool
+is_zero (Some (pos zero)) = true
+is_zero n = false
+
+-- bits beside 0
+abbrev pub tests_bits : Tree → Tree → Bool
+tests_bits a b = is_zero (number b) && is_bits a
 
 -- ---- 29 and 30
 
@@ -80,12 +119,12 @@ either_written s equal (Some c) a b = Some (right_written s equal c a)
 either_written s equal None a b = left_written equal (truth_in a) b
 
 abbrev pub equal_written : Seat → Bool → Tree → Tree → Option Tree
-equal_written s equal a b = either_written s equal (truth_in b) a b
+equal_written s equal a b = if tests_bits a b then Some (zero_told equal a) else either_written s equal (truth_in b) a b
 
 -- ---- all
 
 abbrev pub binary_written : Seat → Option BinaryOperator → Tree → Option Tree
-binary_written s (Some Addition) t = text_written s (part t 0) (part t 1)
+binary_written s (Some Addition) t = sum_written s (part t 0) (part t 1)
 binary_written s (Some Equality) t = equal_written s true (part t 0) (part t 1)
 binary_written s (Some Inequality) t = equal_written s false (part t 0) (part t 1)
 binary_written s o t = None

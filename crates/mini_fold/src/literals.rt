@@ -32,8 +32,8 @@ const NUMBER: [u16; 6] = [110, 117, 109, 98, 101, 114];
 
 const STRING: [u16; 6] = [115, 116, 114, 105, 110, 103];
 
-// The text with these units.
-fn copied(alloc: Global, units: &[u16]) -> Result<Text, OutOfMemory>
+/// The text with these units.
+pub fn copied(alloc: Global, units: &[u16]) -> Result<Text, OutOfMemory>
     ensures { IfOk result (λ copy. copy ≡ units.now) }
 {
     let mut copy = Text::new(alloc);
@@ -41,6 +41,17 @@ fn copied(alloc: Global, units: &[u16]) -> Result<Text, OutOfMemory>
         copy.push(*unit)?;
     }
     Ok(copy)
+}
+
+/// A text and another behind it.
+pub fn text_of_both(alloc: Global, before: &[u16], after: Text) -> Result<Text, OutOfMemory>
+    ensures { IfOk result (λ text. text ≡ before.now ++ after) }
+{
+    let mut text = copied(alloc, before)?;
+    for unit in after.as_slice() {
+        text.push(*unit)?;
+    }
+    Ok(text)
 }
 
 // Of a literal that is no operator's.

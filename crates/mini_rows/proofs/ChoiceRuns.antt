@@ -194,7 +194,7 @@ module _ (e : Environment) (m n : Naming) (σ τ : ℕ → Demand) (K : Kids σ)
   choose_free true c c' d d' h k = h
   choose_free false c c' d d' h k = k
 
-  raise_free : {A : Type 0} → Free {A = A} raise raise
+  pub raise_free : {A : Type 0} → Free {A = A} raise raise
   unfolding act
   raise_free z = refl
 
@@ -203,7 +203,7 @@ module _ (e : Environment) (m n : Naming) (σ τ : ℕ → Demand) (K : Kids σ)
   made_free raises z = raise_free z
   made_free outside z = refl
 
-  primitive_free : (h : Hint) (v : Value) → Free (primitive h v) (primitive h v)
+  pub primitive_free : (h : Hint) (v : Value) → Free (primitive h v) (primitive h v)
   unfolding act
   primitive_free h v = choose_free (is_object v) (emit (Coerce h) (Item v ∷ [])) (ret v) (emit (Coerce h) (Item v ∷ [])) (ret v) (λ z. refl) (λ z. refl)
 

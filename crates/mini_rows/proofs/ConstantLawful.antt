@@ -105,7 +105,7 @@ whole c h xs n ts e =
     let (number, others) = and_parts (has_its_number c h n) (has_plain_fields h && has_its_parts c h ts) rest in
     (and_parts (has_plain_fields h) (has_its_parts c h ts) others).0
 
-plain_fields : (strict : Bool) (s : Slot) (h : Shape) (xs : List Name) (n : ℕ) (ts : Trees) → fits strict s (node h xs n ts) ≡ true → has_plain_fields h ≡ true
+pub plain_fields : (strict : Bool) (s : Slot) (h : Shape) (xs : List Name) (n : ℕ) (ts : Trees) → fits strict s (node h xs n ts) ≡ true → has_plain_fields h ≡ true
 plain_fields strict s h xs n ts e = whole (class_of s) h xs n ts (and_parts (is_whole (class_of s) h xs n ts) (fill (is_strict_in strict h) (filling strict s h) ts) e).0
 
 leaf_written : (h : Shape) (v : Value) → leaf_value h ≡ Some v → has_plain_fields h ≡ true → is_written v ≡ true

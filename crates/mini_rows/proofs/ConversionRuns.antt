@@ -1,6 +1,6 @@
 -- What a conditional does both of whose branches are known, and what its test does as a boolean or as a number.
 use Rattle.std.proofs.Common.{◌≡◌, Bool, true, false, [], refl, sym, ap, ◌∙◌}
-use Rattle.std.specs.Prelude.{not, ◌&&◌, pos, ℤ, if◌then◌else◌}
+use Rattle.std.specs.Prelude.{not, pos, ℤ, if◌then◌else◌}
 use Rattle.std.proofs.lemmas.Bool.{and_parts}
 use Rattle.mini_model.specs.declared.operator.UnaryOperator.TheVariants.{UnaryPlus}
 use Rattle.mini_model.specs.declared.shape.Shape.TheVariants as shape
@@ -34,7 +34,7 @@ twice : (t : Bool) → not (not t) ≡ t
 twice true = refl
 twice false = refl
 
-after_boolean : {A : Type 0} (x : Completion Value) (f : Value → Bool) (g : Value → State → Completion A) → after (after x (λ v z. ok (Boolean (f v)) z)) g ≡ after x (λ v z. g (Boolean (f v)) z)
+pub after_boolean : {A : Type 0} (x : Completion Value) (f : Value → Bool) (g : Value → State → Completion A) → after (after x (λ v z. ok (Boolean (f v)) z)) g ≡ after x (λ v z. g (Boolean (f v)) z)
 unfolding either
 after_boolean (ok v s) f g = refl
 after_boolean (stop y s) f g = refl

@@ -118,4 +118,5 @@ pub mod SequenceWeights
 pub mod SequenceLawful
 pub mod OperandMeaning
 pub mod OperandWeights
+pub mod OperandForms
 pub mod OperandLawful

@@ -1,14 +1,15 @@
 -- What a row on operands whose value is known writes keeps all that a program has to keep: it is built anew of the same parts.
-use Rattle.std.proofs.Common.{◌≡◌, Bool, true, false, [], refl, sym, subst, inl, inr, true≢false}
-use Rattle.std.specs.Prelude.{pos}
+use Rattle.std.proofs.Common.{◌≡◌, ℕ, Bool, true, false, List, [], ◌++◌, refl, sym, ap, ◌∙◌, subst, inl, inr, true≢false}
+use Rattle.std.specs.Prelude.{◌&&◌, pos}
 use Rattle.mini_model.specs.declared.operator.BinaryOperator.{BinaryOperator}
 use Rattle.mini_model.specs.declared.operator.BinaryOperator.TheVariants.{Addition}
 use Rattle.mini_model.specs.declared.operator.UnaryOperator.TheVariants.{LogicalNot}
 use Rattle.mini_model.specs.declared.place.Position.{Position}
 use Rattle.mini_model.specs.declared.place.Position.TheVariants.{Expr}
 use Rattle.mini_model.specs.declared.seat.Seat.{Seat}
-use Rattle.mini_model.specs.Tree.{Tree, none, ◌▸◌, logical}
-use Rattle.mini_accept.specs.WellShaped.{Slot, fits}
+use Rattle.mini_model.specs.declared.shape.Shape.TheVariants as shape
+use Rattle.mini_model.specs.Tree.{Tree, none, ◌▸◌, logical, negation}
+use Rattle.mini_accept.specs.WellShaped.{Slot, is_paired, fits}
 use Rattle.mini_kept.specs.KeepsNames.{is_rewritten_place}
 use Rattle.mini_kept.specs.KeepsShapes.{AskedAlike}
 use Rattle.mini_kept.specs.KeepsFrames.{is_body_slot}
@@ -20,15 +21,17 @@ use Rattle.mini_terms.specs.Parts.{suits}
 use Rattle.mini_rows.specs.Arranged.{KeptAt}
 use Rattle.mini_rows.specs.Booleans.{digit}
 use Rattle.mini_rows.specs.Choices.{loosely}
-use Rattle.mini_rows.specs.Operands.{beside, told_by, Row14, OperandRow, OperandContracts}
+use Rattle.mini_rows.specs.Operands.{beside, told_by, zero_told, Row14, OperandRow, OperandContracts}
 use Rattle.mini_rows.specs.Sketches.{Number, String, Unary, Binary, Logical, Sketch, part, under, end, ◌▹◌}
 use Rattle.mini_rows.specs.Spellings.{binary, negated_digit, text}
 use Rattle.mini_rows.proofs.ArrangedExpressions.{expressions_arranged, expressions_arranged_freely}
 use Rattle.mini_rows.proofs.ArrangedLawful.{kept_is_lawful}
-use Rattle.mini_rows.proofs.ConstantLawful.{binary_at}
+use Rattle.mini_rows.proofs.ConstantLawful.{plain_fields, binary_at}
 use Rattle.mini_rows.proofs.FoldLawful.{vanishes, first_dropped, operands, expression_slot, no_number}
 use Rattle.mini_rows.proofs.FoldWeights.{not_a_number}
+use Rattle.mini_rows.proofs.OperandForms.{Tail, of_text, of_number, tail_form}
 use Rattle.mini_rows.proofs.OperandMeaning.{operands_same}
+use Rattle.mini_rows.proofs.Surrogates.{is_paired_joined, numeral_paired}
 
 -- ---- the same parts
 
@@ -63,11 +66,21 @@ counted_kept o true false a q n w e f = expressions_arranged (record { trees = a
 counted_kept o false true a q n w e f = expressions_arranged (record { trees = a ▸ none; lists = [] }) (of_two o false (a_boolean true)) (of_two o false (a_digit true)) refl q n w e f
 counted_kept o false false a q n w e f = expressions_arranged (record { trees = a ▸ none; lists = [] }) (of_two o false (a_boolean false)) (of_two o false (a_digit false)) refl q n w e f
 
+joined_kept : (a : Tree) (s : List ℕ) (k : Tree) (t : List ℕ) → Tail k t → (q : Seat) (n w : Tree) → n ≡ binary Addition (binary Addition a (text s)) k → w ≡ binary Addition a (text (s ++ t)) → KeptAt (Expr q) n w
+joined_kept a s k t (of_text is) q n w e f = expressions_arranged (record { trees = a ▸ none; lists = [] }) (under (Binary Addition) (under (Binary Addition) (part 0 ▹ under (String s) end ▹ end) ▹ under (String t) end ▹ end)) (under (Binary Addition) (part 0 ▹ under (String (s ++ t)) end ▹ end)) refl q n w (e ∙ ap (binary Addition (binary Addition a (text s))) is) f
+joined_kept a s k t (of_number m is same) q n w e f = expressions_arranged (record { trees = a ▸ none; lists = [] }) (under (Binary Addition) (under (Binary Addition) (part 0 ▹ under (String s) end ▹ end) ▹ under (Number m) end ▹ end)) (under (Binary Addition) (part 0 ▹ under (String (s ++ t)) end ▹ end)) refl q n w (e ∙ ap (binary Addition (binary Addition a (text s))) is) f
+
+zero_kept : (equal : Bool) (a : Tree) (q : Seat) (n w : Tree) → n ≡ binary (loosely equal) a (digit false) → w ≡ zero_told equal a → KeptAt (Expr q) n w
+zero_kept true a q n w e f = expressions_arranged (record { trees = a ▸ none; lists = [] }) (of_two (loosely true) true (a_digit false)) (under (Unary LogicalNot) (part 0 ▹ end)) refl q n w e f
+zero_kept false a q n w e f = expressions_arranged (record { trees = a ▸ none; lists = [] }) (of_two (loosely false) true (a_digit false)) (under (Unary LogicalNot) (under (Unary LogicalNot) (part 0 ▹ end) ▹ end)) refl q n w e f
+
 kept : (p : Position) (n w : Tree) → OperandRow p n w → KeptAt p n w
 kept (Expr q) n w (inl r) = middle_kept q n w r
 kept (Expr q) n w (inr (inl r)) = text_kept r.on_right r.operand q n w r.shape r.written
 kept (Expr q) n w (inr (inr (inl r))) = told_kept r.equal r.truth r.operand q n w r.shape r.written
-kept (Expr q) n w (inr (inr (inr r))) = counted_kept (loosely r.equal) r.on_right r.truth r.operand q n w r.shape r.written
+kept (Expr q) n w (inr (inr (inr (inl r)))) = counted_kept (loosely r.equal) r.on_right r.truth r.operand q n w r.shape r.written
+kept (Expr q) n w (inr (inr (inr (inr (inl r))))) = joined_kept r.left r.before r.tail r.after (tail_form r.tail r.after r.known) q n w r.shape r.written
+kept (Expr q) n w (inr (inr (inr (inr (inr r))))) = zero_kept r.equal r.operand q n w r.shape r.written
 kept p n w r = absurd r
 
 places : (p : Position) (n w : Tree) → OperandRow p n w → is_rewritten_place p ≡ true
@@ -96,6 +109,20 @@ module _ (strict : Bool) (s : Slot) where
   told_fits true a e = e
   told_fits false a e = both (fits strict expression a) true e refl
 
+  text_paired : (t : List ℕ) → Fits (text t) → is_paired t ≡ true
+  text_paired t e = plain_fields strict expression (shape.StringLiteral t) [] 0 none e
+
+  text_fits : (t : List ℕ) → is_paired t ≡ true → Fits (text t)
+  text_fits t e = ap (λ b. (b && true) && true) e
+
+  tail_paired : (k : Tree) (t : List ℕ) → Tail k t → Fits k → is_paired t ≡ true
+  tail_paired k t (of_text is) e = text_paired t (subst Fits is e)
+  tail_paired k t (of_number m is same) e = subst (λ r. is_paired r ≡ true) same (numeral_paired m)
+
+  zero_fits : (equal : Bool) (a : Tree) → Fits a → Fits (zero_told equal a)
+  zero_fits true a e = told_fits false a e
+  zero_fits false a e = told_fits false (negation a) (told_fits false a e)
+
   -- what is written, where an expression is taken
   stood : (p : Position) (n w : Tree) → OperandRow p n w → fits strict s n ≡ true → TakesExpression s × Fits w
   stood (Expr q) n w (inl r) e =
@@ -108,9 +135,16 @@ module _ (strict : Bool) (s : Slot) where
   stood (Expr q) n w (inr (inr (inl r))) e =
       let (takes, fit) = beside_at (loosely r.equal) true r.operand (negated_digit r.truth) (subst (λ t. fits strict s t ≡ true) r.shape e) in
       (takes, subst Fits (sym r.written) (told_fits (same_boolean r.equal r.truth) r.operand fit))
-  stood (Expr q) n w (inr (inr (inr r))) e =
+  stood (Expr q) n w (inr (inr (inr (inl r)))) e =
       let (takes, fit) = beside_at (loosely r.equal) r.on_right r.operand (negated_digit r.truth) (subst (λ t. fits strict s t ≡ true) r.shape e) in
       (takes, subst Fits (sym r.written) (beside_fits (loosely r.equal) r.on_right r.operand (digit r.truth) fit (digit_fits r.truth)))
+  stood (Expr q) n w (inr (inr (inr (inr (inl r))))) e =
+      let (takes, (sum, tail)) = binary_at strict Addition (binary Addition r.left (text r.before)) r.tail s (subst (λ t. fits strict s t ≡ true) r.shape e) in
+      let (within, (left, before)) = binary_at strict Addition r.left (text r.before) expression sum in
+      (takes, subst Fits (sym r.written) (two_fit strict r.left (text (r.before ++ r.after)) left (text_fits (r.before ++ r.after) (is_paired_joined r.before r.after (text_paired r.before before) (tail_paired r.tail r.after (tail_form r.tail r.after r.known) tail)))))
+  stood (Expr q) n w (inr (inr (inr (inr (inr r))))) e =
+      let (takes, fit) = beside_at (loosely r.equal) true r.operand (digit false) (subst (λ t. fits strict s t ≡ true) r.shape e) in
+      (takes, subst Fits (sym r.written) (zero_fits r.equal r.operand fit))
   stood p n w r e = absurd r
 
 row_fits : (p : Position) (n w : Tree) → OperandRow p n w → (strict : Bool) (s : Slot) → fits strict s n ≡ true → fits strict s w ≡ true
@@ -167,6 +201,34 @@ middle_asked q n w r = subst (λ t. AskedAlike (Expr q) t w) (sym r.shape) (subs
   plain = refl;
 }))
 
+joined_asked : (q : Seat) (o : BinaryOperator) (a b c d : Tree) → AskedAlike (Expr q) (binary o a b) (binary o c d)
+joined_asked q o a b c d = record {
+  absent = λ e. absurd (true≢false (sym e));
+  body = λ e. absurd (true≢false (sym e));
+  optional = λ e. absurd (true≢false (sym e));
+  number = λ asks e. refl;
+  spelled = λ s e. absurd (cc e);
+  plain = refl;
+}
+
+zero_asked : (q : Seat) (o : BinaryOperator) (equal : Bool) (a b : Tree) → AskedAlike (Expr q) (binary o a b) (zero_told equal a)
+zero_asked q o true a b = record {
+  absent = λ e. absurd (true≢false (sym e));
+  body = λ e. absurd (true≢false (sym e));
+  optional = λ e. absurd (true≢false (sym e));
+  number = λ asks e. refl;
+  spelled = λ s e. absurd (cc e);
+  plain = refl;
+}
+zero_asked q o false a b = record {
+  absent = λ e. absurd (true≢false (sym e));
+  body = λ e. absurd (true≢false (sym e));
+  optional = λ e. absurd (true≢false (sym e));
+  number = λ asks e. refl;
+  spelled = λ s e. absurd (cc e);
+  plain = refl;
+}
+
 asked_by : (q : Seat) (n w a b : Tree) → n ≡ a → w ≡ b → AskedAlike (Expr q) a b → AskedAlike (Expr q) n w
 asked_by q n w a b e f h = subst (λ t. AskedAlike (Expr q) t w) (sym e) (subst (AskedAlike (Expr q) a) (sym f) h)
 
@@ -174,7 +236,9 @@ row_asked : (p : Position) (n w : Tree) → OperandRow p n w → AskedAlike p n 
 row_asked (Expr q) n w (inl r) = middle_asked q n w r
 row_asked (Expr q) n w (inr (inl r)) = asked_by q n w _ _ r.shape r.written (beside_asked q Addition r.on_right r.operand (text []) r.operand r.stays)
 row_asked (Expr q) n w (inr (inr (inl r))) = asked_by q n w _ _ r.shape r.written (beside_asked q (loosely r.equal) true r.operand (negated_digit r.truth) (told_by (same_boolean r.equal r.truth) r.operand) r.stays)
-row_asked (Expr q) n w (inr (inr (inr r))) = asked_by q n w _ _ r.shape r.written (both_asked q (loosely r.equal) r.on_right r.operand (negated_digit r.truth) (digit r.truth))
+row_asked (Expr q) n w (inr (inr (inr (inl r)))) = asked_by q n w _ _ r.shape r.written (both_asked q (loosely r.equal) r.on_right r.operand (negated_digit r.truth) (digit r.truth))
+row_asked (Expr q) n w (inr (inr (inr (inr (inl r))))) = asked_by q n w _ _ r.shape r.written (joined_asked q Addition (binary Addition r.left (text r.before)) r.tail r.left (text (r.before ++ r.after)))
+row_asked (Expr q) n w (inr (inr (inr (inr (inr r))))) = asked_by q n w _ _ r.shape r.written (zero_asked q (loosely r.equal) r.equal r.operand (digit false))
 row_asked p n w r = absurd r
 
 pub operands_lawful : Lawful OperandContracts

@@ -1,6 +1,7 @@
 -- What a row on operands whose value is known writes means the same.
-use Rattle.std.proofs.Common.{◌≡◌, suc, Bool, true, false, [], ◌∷◌, Option, Some, None, refl, sym, ap, subst, ◌∙◌, inl, inr}
-use Rattle.std.specs.Prelude.{not, pos}
+use Rattle.std.proofs.Common.{◌≡◌, ℕ, ℤ, suc, Bool, true, false, List, [], ◌∷◌, ◌++◌, Option, Some, None, append_assoc, refl, sym, ap, subst, ◌∙◌, inl, inr}
+use Rattle.std.specs.Prelude.{not, pos, negsuc, nat_eq}
+use Rattle.std.specs.Fmt.{signed_decimal}
 use Rattle.std.proofs.lemmas.List.{append-nil}
 use Rattle.mini_model.specs.declared.operator.BinaryOperator.{BinaryOperator}
 use Rattle.mini_model.specs.declared.operator.BinaryOperator.TheVariants.{Addition}
@@ -8,7 +9,7 @@ use Rattle.mini_model.specs.declared.place.Position.{Position}
 use Rattle.mini_model.specs.declared.place.Position.TheVariants.{Expr}
 use Rattle.mini_model.specs.declared.seat.Seat.{Seat}
 use Rattle.mini_model.specs.declared.shape.Shape.TheVariants as shape
-use Rattle.mini_model.specs.Tree.{Tree, none, ◌▸◌, logical}
+use Rattle.mini_model.specs.Tree.{Tree, none, ◌▸◌, logical, negation}
 use Rattle.mini_model.specs.Position.{right_operand_seat, child_position}
 use Rattle.mini_model.specs.Rewriting.{Step, here, inside, first, later}
 use Rattle.mini_laws.specs.Value.{Value, Undefined, Null, Boolean, Number, String, Symbol, Object, truth}
@@ -16,8 +17,9 @@ use Rattle.mini_laws.specs.State.{ForDefault, Coerce, Item, State, Completion, o
 use Rattle.mini_laws.specs.Demand.{Val, As}
 use Rattle.mini_laws.specs.Command.{is_object, Naming, Command, ret, bind, emit, Kids, run}
 use Rattle.mini_laws.specs.Naming.{summary}
-use Rattle.mini_laws.specs.Operators.{same_boolean, loosely_equal}
-use Rattle.mini_laws.specs.Replies.{primitive, of_option}
+use Rattle.mini_laws.specs.Conversion.{Made, makes, raises, outside, to_text}
+use Rattle.mini_laws.specs.Operators.{same_boolean, loosely_equal, joined, of_primitives}
+use Rattle.mini_laws.specs.Replies.{primitive, raise, of_made, of_option}
 use Rattle.mini_laws.specs.Replies as replies
 use Rattle.mini_laws.specs.Expressions.{operate_by}
 use Rattle.mini_laws.specs.Step.{step, means, meaning}
@@ -26,11 +28,11 @@ use Rattle.mini_laws.specs.Rewritten.{MeansSame}
 use Rattle.mini_laws.specs.Truth.{told}
 use Rattle.mini_laws.proofs.Rewritten.{any_step_same}
 use Rattle.mini_laws.proofs.Rows.{by_equality}
-use Rattle.mini_laws.proofs.Runs.{either_cong, either_eta, either_ok}
+use Rattle.mini_laws.proofs.Runs.{either_cong, either_assoc, either_eta, either_ok, either_stop, either_out, runs, run_bind}
 use Rattle.mini_laws.proofs.Truth.{coherent}
-use Rattle.mini_terms.specs.declared.kinds.Kind.TheVariants.{Boolean as IsBoolean, String as IsString}
+use Rattle.mini_terms.specs.declared.kinds.Kind.TheVariants.{Boolean as IsBoolean, Number as IsNumber, String as IsString}
 use Rattle.mini_terms.specs.Kind.{kind, OfKind}
-use Rattle.mini_terms.specs.Reading.{SameWanted, is_plain_part}
+use Rattle.mini_terms.specs.Reading.{SameWanted, stands, is_plain_part}
 use Rattle.mini_terms.specs.Sound.{Gives}
 use Rattle.mini_terms.proofs.Dropping.{after_cong}
 use Rattle.mini_terms.proofs.KindTable.{kind_sound}
@@ -39,12 +41,14 @@ use Rattle.mini_terms.proofs.Reading.{same_in_seat}
 use Rattle.mini_rows.specs.Booleans.{digit}
 use Rattle.mini_rows.specs.Choices.{loosely}
 use Rattle.mini_rows.specs.Folding.{Row13}
-use Rattle.mini_rows.specs.Operands.{beside, told_by, Row14, Row7, Row29, OperandRow, OperandContracts}
-use Rattle.mini_rows.specs.Spellings.{binary, negated_digit, text}
+use Rattle.mini_rows.specs.Operands.{beside, told_by, is_bits, zero_told, Row14, Row7, Row29, OperandRow, OperandContracts}
+use Rattle.mini_rows.specs.Spellings.{binary, negated_digit, numeral, text}
 use Rattle.mini_rows.proofs.BooleanMeaning.{then_same}
 use Rattle.mini_rows.proofs.ChoiceMeaning.{rotated_same}
-use Rattle.mini_rows.proofs.ChoiceRuns.{value, binary_value, binary_names, sides}
+use Rattle.mini_rows.proofs.ChoiceRuns.{value, binary_value, binary_names, sides, raise_free, primitive_free}
+use Rattle.mini_rows.proofs.ConversionRuns.{after_boolean}
 use Rattle.mini_rows.proofs.FoldMeaning.{plain_of, value_of, plain_read, passed_same, passed_read}
+use Rattle.mini_rows.proofs.OperandForms.{Tail, of_text, of_number, tail_form, bits_number, bits_plain}
 use Rattle.mini_rows.proofs.SpellAlike.{SameTree, Alike, bind_alike, choose_alike}
 use Rattle.mini_rows.proofs.SequenceMeaning.{same_value}
 use Rattle.mini_rows.proofs.SpellMeaning.{tree_same, same_by}
@@ -251,13 +255,126 @@ counted_alike : (equal c on_right : Bool) (a : Tree) → SameTree (beside (loose
 counted_alike equal c true a = same_value _ _ refl refl refl (counted_value equal c true a)
 counted_alike equal c false a = same_value _ _ refl refl refl (counted_value equal c false a)
 
+-- ---- 4
+
+-- what `+` makes of a value and a text
+with_text : (x : Value) (r : List ℕ) → of_primitives Addition x (String r) ≡ joined (to_text x) (makes r)
+with_text Undefined r = refl
+with_text Null r = refl
+with_text (Boolean b) r = refl
+with_text (Number m) r = refl
+with_text (String p) r = refl
+with_text (Symbol m) r = refl
+with_text (Object m f) r = refl
+
+module _ (e : Environment) (m n : Naming) (K L : Kids (λ i. As Val)) (s t : List ℕ) (then_text : Value → State → Completion Value) (later : (r : List ℕ) (z : State) → then_text (String r) z ≡ ok (String (r ++ t)) z) where
+  raised : (z : State) → either (run {q = λ i. As Val} e m K (raise {A = Value}) z) then_text (λ x y. stop x y) ≡ run {q = λ i. As Val} e n L (raise {A = Value}) z
+  raised z = simp runs (raise_free e m n (λ i. As Val) (λ i. As Val) K L z)
+
+  made_later : (x : Made (List ℕ)) (z : State) → either (run {q = λ i. As Val} e m K (of_made (joined x (makes s))) z) then_text (λ x y. stop x y) ≡ run {q = λ i. As Val} e n L (of_made (joined x (makes (s ++ t)))) z
+  made_later (makes p) z = either_ok (String (p ++ s)) z _ _ ∙ later (p ++ s) z ∙ ap (λ r. ok (String r) z) (append_assoc p s t)
+  made_later raises z = raised z
+  made_later outside z = either_out then_text (λ x y. stop x y)
+
+  primitive_later : (x : Value) (z : State) → either (run {q = λ i. As Val} e m K (of_made (of_primitives Addition x (String s))) z) then_text (λ x y. stop x y) ≡ run {q = λ i. As Val} e n L (of_made (of_primitives Addition x (String (s ++ t)))) z
+  primitive_later x z =
+      ap (λ c. either (run {q = λ i. As Val} e m K (of_made c) z) then_text (λ x y. stop x y)) (with_text x s)
+      ∙ made_later (to_text x) z
+      ∙ sym (ap (λ c. run {q = λ i. As Val} e n L (of_made c) z) (with_text x (s ++ t)))
+
+  added_twice : (v : Value) (z : State) → either (run {q = λ i. As Val} e m K (operate_by Addition v (String s)) z) then_text (λ x y. stop x y) ≡ run {q = λ i. As Val} e n L (operate_by Addition v (String (s ++ t))) z
+  added_twice v z =
+      ap (λ c. either c then_text (λ x y. stop x y)) (run_bind e m (primitive ForDefault v) (λ x. of_made (of_primitives Addition x (String s))) K z)
+      ∙ either_assoc (run {q = λ i. As Val} e m K (primitive ForDefault v) z) _ _ _ _
+      ∙ either_cong (run {q = λ i. As Val} e m K (primitive ForDefault v) z) _ (λ x y. run {q = λ i. As Val} e n L (of_made (of_primitives Addition x (String (s ++ t)))) y) _ (λ x y. stop x y) primitive_later (λ x y. either_stop x y _ _)
+      ∙ ap (λ c. either c (λ x y. run {q = λ i. As Val} e n L (of_made (of_primitives Addition x (String (s ++ t)))) y) (λ x y. stop x y)) (primitive_free e m n (λ i. As Val) (λ i. As Val) K L ForDefault v z)
+      ∙ sym (run_bind e n (primitive ForDefault v) (λ x. of_made (of_primitives Addition x (String (s ++ t)))) L z)
+
+text_value_is : (t : List ℕ) (e : Environment) (z : State) → value e (text t) z ≡ ok (String t) z
+unfolding means step
+text_value_is t e z = refl
+
+number_value : (m : ℤ) (e : Environment) (z : State) → value e (numeral m) z ≡ ok (Number m) z
+unfolding means step
+number_value m e z = refl
+
+abbrev sum_of : Tree → List ℕ → Tree
+sum_of a s = binary Addition a (text s)
+
+module _ (e : Environment) (a : Tree) (s t : List ℕ) (k : Tree) (u : Value) (known : (z : State) → value e k z ≡ ok u z) (later : (r : List ℕ) (z : State) → ends_with e Addition (sum_of a s) k (String r) u z ≡ ok (String (r ++ t)) z) where
+  -- what the sum of an expression and a text is
+  sum_value : (r : List ℕ) (z : State) → value e (sum_of a r) z ≡ either (value e a z) (λ v y. ends_with e Addition a (text r) v (String r) y) (λ x y. stop x y)
+  sum_value r z =
+      binary_value e Addition a (text r) z
+      ∙ either_cong (value e a z) _ _ _ _ (λ v y. ap (λ c. either c (λ w y. ends_with e Addition a (text r) v w y) (λ x y. stop x y)) (text_value_is r e y) ∙ either_ok (String r) y _ _) (λ x y. refl)
+
+  joined_value : (z : State) → value e (binary Addition (sum_of a s) k) z ≡ value e (sum_of a (s ++ t)) z
+  joined_value z =
+      binary_value e Addition (sum_of a s) k z
+      ∙ either_cong (value e (sum_of a s) z) _ (λ v y. ends_with e Addition (sum_of a s) k v u y) _ (λ x y. stop x y) (λ v y. ap (λ c. either c (λ w y. ends_with e Addition (sum_of a s) k v w y) (λ x y. stop x y)) (known y) ∙ either_ok u y _ _) (λ x y. refl)
+      ∙ ap (λ c. either c (λ v y. ends_with e Addition (sum_of a s) k v u y) (λ x y. stop x y)) (sum_value s z)
+      ∙ either_assoc (value e a z) _ _ _ _
+      ∙ either_cong (value e a z) _ (λ v y. ends_with e Addition a (text (s ++ t)) v (String (s ++ t)) y) _ (λ x y. stop x y) (λ v y. added_twice e (binary_names Addition a (text s)) (binary_names Addition a (text (s ++ t))) (sides e a (text s)) (sides e a (text (s ++ t))) s t (λ r y. ends_with e Addition (sum_of a s) k r u y) later v y) (λ x y. either_stop x y _ _)
+      ∙ sym (sum_value (s ++ t) z)
+
+tail_value : (a : Tree) (s : List ℕ) (k : Tree) (t : List ℕ) → Tail k t → (e : Environment) (z : State) → value e (binary Addition (sum_of a s) k) z ≡ value e (sum_of a (s ++ t)) z
+tail_value a s k t (of_text is) e z = ap (λ x. value e (binary Addition (sum_of a s) x) z) is ∙ joined_value e a s t (text t) (String t) (text_value_is t e) (λ r y. refl) z
+tail_value a s k t (of_number m is same) e z =
+    ap (λ x. value e (binary Addition (sum_of a s) x) z) is
+    ∙ joined_value e a s (signed_decimal m) (numeral m) (Number m) (number_value m e) (λ r y. refl) z
+    ∙ ap (λ r. value e (sum_of a (s ++ r)) z) same
+
+joined_alike : (a : Tree) (s : List ℕ) (k : Tree) (t : List ℕ) → Tail k t → SameTree (binary Addition (sum_of a s) k) (sum_of a (s ++ t))
+joined_alike a s k t h = same_value _ _ refl refl refl (λ e z. tail_value a s k t h e z)
+
+-- ---- 27
+
+abbrev zero_of : Bool → Value → Value
+zero_of true v = Boolean (not (truth v))
+zero_of false v = Boolean (not (not (truth v)))
+
+twice : (b : Bool) → not (not b) ≡ b
+twice true = refl
+twice false = refl
+
+is_zero : (e : Environment) (equal : Bool) (a : Tree) (v : Value) → OfKind IsNumber v → (z : State) → ends_with e (loosely equal) a (digit false) v (Number (pos 0)) z ≡ ok (zero_of equal v) z
+is_zero e true a (Number (pos m)) p z = ap (λ b. ok (Boolean b) z) (sym (twice (nat_eq m 0)))
+is_zero e false a (Number (pos m)) p z = ap (λ b. ok (Boolean b) z) (sym (twice (not (nat_eq m 0))))
+is_zero e true a (Number (negsuc m)) p z = refl
+is_zero e false a (Number (negsuc m)) p z = refl
+is_zero e equal a v p z = absurd p
+
+zero_told_value : (equal : Bool) (a : Tree) (e : Environment) (s : State) → either (value e a s) (λ v z. ok (zero_of equal v) z) (λ x z. stop x z) ≡ value e (zero_told equal a) s
+zero_told_value true a e s = sym (negation_opened e a s)
+zero_told_value false a e s = sym (negation_opened e (negation a) s ∙ ap (λ x. either x (λ v z. ok (Boolean (not (truth v))) z) (λ x z. stop x z)) (negation_opened e a s) ∙ after_boolean (value e a s) (λ v. not (truth v)) (λ v z. ok (Boolean (not (truth v))) z))
+
+zero_value : (equal : Bool) (a : Tree) → kind a ≡ IsNumber → (e : Environment) (s : State) → value e (binary (loosely equal) a (digit false)) s ≡ value e (zero_told equal a) s
+zero_value equal a k e s =
+    binary_value e (loosely equal) a (digit false) s
+    ∙ after_cong (OfKind IsNumber) (value e a s) _ (λ v z. ok (zero_of equal v) z) (subst (λ j. Gives (OfKind j) (value e a s)) k (kind_sound a e s))
+    (λ v p z. ap (λ y. either y (λ u y. ends_with e (loosely equal) a (digit false) v u y) (λ x y. stop x y)) (digit_value false e z) ∙ either_ok (Number (pos 0)) z _ _ ∙ is_zero e equal a v p z)
+    ∙ zero_told_value equal a e s
+
+zero_read : (equal : Bool) (a : Tree) → is_plain_part a ≡ true → summary (binary (loosely equal) a (digit false)) ≡ summary (zero_told equal a)
+zero_read true a h = sym (plain_read (negation a) h)
+zero_read false a h = sym (plain_read (negation (negation a)) h)
+
+zero_stands : (equal : Bool) (a : Tree) → stands (zero_told equal a) ≡ true
+zero_stands true a = refl
+zero_stands false a = refl
+
+zero_alike : (equal : Bool) (a : Tree) → is_bits a ≡ true → SameTree (binary (loosely equal) a (digit false)) (zero_told equal a)
+zero_alike equal a h = same_value _ _ refl (zero_stands equal a) (zero_read equal a (bits_plain a h)) (zero_value equal a (bits_number a h))
+
 -- ---- all
 
 row_same : (p : Position) (n w : Tree) → OperandRow p n w → SameAt p n w
 row_same (Expr s) n w (inl r) = middle_same s n w r
 row_same (Expr s) n w (inr (inl r)) = text_same s n w r
 row_same (Expr s) n w (inr (inr (inl r))) = equal_same s n w r
-row_same (Expr s) n w (inr (inr (inr r))) = tree_same s n w (same_by n w _ _ r.shape r.written (counted_alike r.equal r.truth r.on_right r.operand))
+row_same (Expr s) n w (inr (inr (inr (inl r)))) = tree_same s n w (same_by n w _ _ r.shape r.written (counted_alike r.equal r.truth r.on_right r.operand))
+row_same (Expr s) n w (inr (inr (inr (inr (inl r))))) = tree_same s n w (same_by n w _ _ r.shape r.written (joined_alike r.left r.before r.tail r.after (tail_form r.tail r.after r.known)))
+row_same (Expr s) n w (inr (inr (inr (inr (inr r))))) = tree_same s n w (same_by n w _ _ r.shape r.written (zero_alike r.equal r.operand r.known))
 row_same p n w r = absurd r
 
 beside_read : (o : BinaryOperator) (b : Bool) (a k t : Tree) → is_plain_part t ≡ true → summary (beside o b a k) ≡ summary t
@@ -268,7 +385,9 @@ row_read : (p : Position) (n w : Tree) → OperandRow p n w → summary n ≡ su
 row_read (Expr s) n w (inl r) = ap summary r.shape ∙ sym (ap summary r.written)
 row_read (Expr s) n w (inr (inl r)) = ap summary r.shape ∙ beside_read Addition r.on_right r.operand (text []) r.operand (plain_of s r.operand r.stays) ∙ sym (ap summary r.written)
 row_read (Expr s) n w (inr (inr (inl r))) = let t : Tree = told_by (same_boolean r.equal r.truth) r.operand in ap summary r.shape ∙ beside_read (loosely r.equal) true r.operand (negated_digit r.truth) t (plain_of s t r.stays) ∙ sym (ap summary r.written)
-row_read (Expr s) n w (inr (inr (inr r))) = ap summary r.shape ∙ (counted_alike r.equal r.truth r.on_right r.operand).read ∙ sym (ap summary r.written)
+row_read (Expr s) n w (inr (inr (inr (inl r)))) = ap summary r.shape ∙ (counted_alike r.equal r.truth r.on_right r.operand).read ∙ sym (ap summary r.written)
+row_read (Expr s) n w (inr (inr (inr (inr (inl r))))) = ap summary r.shape ∙ (joined_alike r.left r.before r.tail r.after (tail_form r.tail r.after r.known)).read ∙ sym (ap summary r.written)
+row_read (Expr s) n w (inr (inr (inr (inr (inr r))))) = ap summary r.shape ∙ (zero_alike r.equal r.operand r.known).read ∙ sym (ap summary r.written)
 row_read p n w r = absurd r
 
 pub operands_same : MeansSame OperandContracts

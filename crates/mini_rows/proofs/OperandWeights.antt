@@ -1,5 +1,5 @@
 -- What a row on operands whose value is known writes weighs less wherever the expression stands.
-use Rattle.std.proofs.Common.{◌≡◌, ℕ, ◌<◌, ◌≤◌, Bool, true, false, List, [], refl, sym, ap, ◌∙◌, inl, inr, true≢false, arith}
+use Rattle.std.proofs.Common.{◌≡◌, ℕ, ◌<◌, ◌≤◌, Bool, true, false, List, [], ◌++◌, length-append, refl, sym, ap, subst, ◌∙◌, inl, inr, true≢false, arith}
 use Rattle.std.specs.Prelude.{◌&&◌, ◌||◌, nat_lt, pos, length, if◌then◌else◌}
 use Rattle.std.specs.Fmt.{signed_decimal}
 use Rattle.std.proofs.lemmas.Fmt.{decimal_digit}
@@ -13,7 +13,7 @@ use Rattle.mini_model.specs.declared.place.Position.{Position}
 use Rattle.mini_model.specs.declared.place.Position.TheVariants.{Expr}
 use Rattle.mini_model.specs.declared.seat.Seat.{Seat}
 use Rattle.mini_model.specs.declared.shape.Shape.TheVariants as shape
-use Rattle.mini_model.specs.Tree.{Tree, node, none, ◌▸◌, logical}
+use Rattle.mini_model.specs.Tree.{Tree, node, none, ◌▸◌, logical, negation}
 use Rattle.mini_model.specs.Position.{left_operand_seat, right_operand_seat, binary_operand_seat, not_operand_seat, is_and_or}
 use Rattle.mini_model.specs.Weight.{Outline, outline, outlines, weight, place_weight}
 use Rattle.mini_laws.specs.Operators.{same_boolean}
@@ -25,11 +25,12 @@ use Rattle.mini_terms.specs.Parts.{weighs}
 use Rattle.mini_terms.specs.Reading.{is_plain_part}
 use Rattle.mini_rows.specs.Booleans.{digit}
 use Rattle.mini_rows.specs.Choices.{loosely}
-use Rattle.mini_rows.specs.Operands.{beside, told_by, OperandRow, OperandContracts, OperandsLighter}
+use Rattle.mini_rows.specs.Operands.{beside, told_by, zero_told, OperandRow, OperandContracts, OperandsLighter}
 use Rattle.mini_rows.specs.Spellings.{binary, negated_digit, text}
 use Rattle.mini_rows.proofs.BooleanWeights.{digit_falls}
 use Rattle.mini_rows.proofs.FoldMeaning.{plain_of}
 use Rattle.mini_rows.proofs.FoldWeights.{two, moved, there, no_choice}
+use Rattle.mini_rows.proofs.OperandForms.{Tail, of_text, of_number, tail_form, Bits, inverted, masked, differing, joined, bits_form, bits_plain}
 use Rattle.mini_rows.proofs.SpellWeights.{falls_by}
 
 -- 14: an operand and its operator go
@@ -100,13 +101,45 @@ counted_falls true c false s a = omega (arith, digit_falls (binary_operand_seat 
 counted_falls false c true s a = omega (arith, digit_falls (binary_operand_seat Inequality 1) c)
 counted_falls false c false s a = omega (arith, digit_falls (binary_operand_seat Inequality 0) c)
 
+-- 4: an operator goes, and the quotes of a text, if it is one
+
+joined_falls : (seat : Seat) (a : Tree) (s : List ℕ) (k : Tree) (t : List ℕ) → Tail k t → weight (Expr seat) (binary Addition a (text (s ++ t))) < weight (Expr seat) (binary Addition (binary Addition a (text s)) k)
+joined_falls seat a s k t (of_text is) = subst (λ x. weight (Expr seat) (binary Addition a (text (s ++ t))) < weight (Expr seat) (binary Addition (binary Addition a (text s)) x)) (sym is) (omega (arith, length-append s t))
+joined_falls seat a s k t (of_number m is same) = subst (λ x. weight (Expr seat) (binary Addition a (text (s ++ t))) < weight (Expr seat) (binary Addition (binary Addition a (text s)) x)) (sym is) (omega (arith, length-append s t, ap length same))
+
+-- 27: what is looked at has parentheses on the left of an equality where it has them under a `!`
+
+bits_moved : (equal : Bool) (a : Tree) → Bits a → weight (Expr not_operand_seat) a ≤ weight (Expr (binary_operand_seat (loosely equal) 0)) a
+bits_moved true a (inverted is) = subst (λ x. weight (Expr not_operand_seat) x ≤ weight (Expr (binary_operand_seat Equality 0)) x) (sym is) (omega arith)
+bits_moved true a (masked is) = subst (λ x. weight (Expr not_operand_seat) x ≤ weight (Expr (binary_operand_seat Equality 0)) x) (sym is) (omega arith)
+bits_moved true a (differing is) = subst (λ x. weight (Expr not_operand_seat) x ≤ weight (Expr (binary_operand_seat Equality 0)) x) (sym is) (omega arith)
+bits_moved true a (joined is) = subst (λ x. weight (Expr not_operand_seat) x ≤ weight (Expr (binary_operand_seat Equality 0)) x) (sym is) (omega arith)
+bits_moved false a (inverted is) = subst (λ x. weight (Expr not_operand_seat) x ≤ weight (Expr (binary_operand_seat Inequality 0)) x) (sym is) (omega arith)
+bits_moved false a (masked is) = subst (λ x. weight (Expr not_operand_seat) x ≤ weight (Expr (binary_operand_seat Inequality 0)) x) (sym is) (omega arith)
+bits_moved false a (differing is) = subst (λ x. weight (Expr not_operand_seat) x ≤ weight (Expr (binary_operand_seat Inequality 0)) x) (sym is) (omega arith)
+bits_moved false a (joined is) = subst (λ x. weight (Expr not_operand_seat) x ≤ weight (Expr (binary_operand_seat Inequality 0)) x) (sym is) (omega arith)
+
+zero_falls : (equal : Bool) (s : Seat) (a : Tree) → Bits a → weight (Expr s) (zero_told equal a) < weight (Expr s) (binary (loosely equal) a (digit false))
+zero_falls true s a h =
+    let here = bits_moved true a h in
+    let marks = not_marks true s (outlines (a ▸ none)) (outlines (a ▸ digit false ▸ none)) in
+    let zero : length (signed_decimal (pos 0)) ≡ 1 = ap length (decimal_digit 0 (omega arith)) in
+    omega (arith, here, marks, zero)
+zero_falls false s a h =
+    let here = bits_moved false a h in
+    let marks = not_marks false s (outlines (negation a ▸ none)) (outlines (a ▸ digit false ▸ none)) in
+    let zero : length (signed_decimal (pos 0)) ≡ 1 = ap length (decimal_digit 0 (omega arith)) in
+    omega (arith, here, marks, zero)
+
 -- ---- all
 
 pub lighter : OperandsLighter
 lighter (Expr s) n w (inl r) = falls_by (Expr s) n w _ _ r.shape r.written (middle_falls r.operator r.tells s r.left r.middle r.right r.heavy)
 lighter (Expr s) n w (inr (inl r)) = falls_by (Expr s) n w _ _ r.shape r.written (text_falls r.on_right s r.operand (plain_of s r.operand r.stays))
 lighter (Expr s) n w (inr (inr (inl r))) = falls_by (Expr s) n w _ _ r.shape r.written (told_falls r.equal r.truth s r.operand (plain_inside (same_boolean r.equal r.truth) r.operand (plain_of s (told_by (same_boolean r.equal r.truth) r.operand) r.stays)))
-lighter (Expr s) n w (inr (inr (inr r))) = falls_by (Expr s) n w _ _ r.shape r.written (counted_falls r.equal r.truth r.on_right s r.operand)
+lighter (Expr s) n w (inr (inr (inr (inl r)))) = falls_by (Expr s) n w _ _ r.shape r.written (counted_falls r.equal r.truth r.on_right s r.operand)
+lighter (Expr s) n w (inr (inr (inr (inr (inl r))))) = falls_by (Expr s) n w _ _ r.shape r.written (joined_falls s r.left r.before r.tail r.after (tail_form r.tail r.after r.known))
+lighter (Expr s) n w (inr (inr (inr (inr (inr r))))) = falls_by (Expr s) n w _ _ r.shape r.written (zero_falls r.equal s r.operand (bits_form r.operand r.known))
 lighter p n w r = absurd r
 
 -- what a parent's weight reads of them
@@ -156,11 +189,21 @@ left_alike n w o b a k t e f plain zero = record {
   chooses = ap (λ x. (outline x).chooses) e ∙ beside_chooses o b a k ∙ sym (ap (λ x. (outline x).chooses) f ∙ no_choice t plain);
 }
 
+zero_plain : (equal : Bool) (a : Tree) → is_plain_part a ≡ true → is_plain_part (zero_told equal a) ≡ true
+zero_plain true a h = h
+zero_plain false a h = h
+
+zero_is_none : (equal : Bool) (a : Tree) → (outline (zero_told equal a)).is_zero ≡ false
+zero_is_none true a = refl
+zero_is_none false a = refl
+
 alike : (p : Position) (n w : Tree) → OperandRow p n w → ReadAlike n w
 alike (Expr s) n w (inl r) = whole_alike n w (ap outline r.shape ∙ sym (ap outline r.written))
 alike (Expr s) n w (inr (inl r)) = left_alike n w Addition r.on_right r.operand (text []) r.operand r.shape r.written (plain_of s r.operand r.stays) (text_not_zero r.operand r.known)
 alike (Expr s) n w (inr (inr (inl r))) = let t : Tree = told_by (same_boolean r.equal r.truth) r.operand in left_alike n w (loosely r.equal) true r.operand (negated_digit r.truth) t r.shape r.written (plain_of s t r.stays) (told_not_zero (same_boolean r.equal r.truth) r.operand r.known)
-alike (Expr s) n w (inr (inr (inr r))) = whole_alike n w (ap outline r.shape ∙ beside_outline (loosely r.equal) r.on_right r.operand (negated_digit r.truth) (digit r.truth) ∙ sym (ap outline r.written))
+alike (Expr s) n w (inr (inr (inr (inl r)))) = whole_alike n w (ap outline r.shape ∙ beside_outline (loosely r.equal) r.on_right r.operand (negated_digit r.truth) (digit r.truth) ∙ sym (ap outline r.written))
+alike (Expr s) n w (inr (inr (inr (inr (inl r))))) = whole_alike n w (ap outline r.shape ∙ sym (ap outline r.written))
+alike (Expr s) n w (inr (inr (inr (inr (inr r))))) = left_alike n w (loosely r.equal) true r.operand (digit false) (zero_told r.equal r.operand) r.shape r.written (zero_plain r.equal r.operand (bits_plain r.operand r.known)) (zero_is_none r.equal r.operand)
 alike p n w r = absurd r
 
 no_items : (p : Position) (n w : Tree) → OperandRow p n w → counts_items p ≡ true → (outline n).items ≡ (outline w).items

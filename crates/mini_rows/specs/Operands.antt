@@ -1,19 +1,23 @@
 -- Rows on operands whose value is known, as equations: each is a shape and what is written in its place, with the JavaScript before and
 -- after. No order of rewriting is meant.
-use Rattle.std.specs.Prelude.{◌≡◌, ◌<◌, ◌⊎◌, Bool, true, false, []}
+use Rattle.std.specs.Prelude.{◌≡◌, ℕ, ℤ, ◌<◌, ◌⊎◌, ◌&&◌, Bool, true, false, List, [], ◌++◌, Option, Some, None}
+use Rattle.std.specs.Fmt.{signed_decimal}
 use Rattle.mini_model.specs.declared.operator.BinaryOperator.{BinaryOperator}
-use Rattle.mini_model.specs.declared.operator.BinaryOperator.TheVariants.{Addition}
+use Rattle.mini_model.specs.declared.operator.BinaryOperator.TheVariants.{Addition, BitwiseAnd, BitwiseXor, BitwiseOr}
 use Rattle.mini_model.specs.declared.operator.LogicalOperator.{LogicalOperator}
+use Rattle.mini_model.specs.declared.operator.UnaryOperator.{UnaryOperator}
+use Rattle.mini_model.specs.declared.operator.UnaryOperator.TheVariants.{BitwiseNot}
 use Rattle.mini_model.specs.declared.place.Position.{Position}
 use Rattle.mini_model.specs.declared.place.Position.TheVariants.{Expr}
 use Rattle.mini_model.specs.declared.seat.Seat.{Seat}
 use Rattle.mini_model.specs.Tree.{Tree, logical, negation}
 use Rattle.mini_model.specs.Position.{is_and_or, right_operand_seat}
 use Rattle.mini_model.specs.Weight.{weight}
+use Rattle.mini_node.specs.Kinds.{unary_operator, binary_operator, number, string}
 use Rattle.mini_laws.specs.Operators.{same_boolean}
 use Rattle.mini_terms.specs.declared.kinds.Kind.TheVariants.{Boolean as IsBoolean, String as IsString}
 use Rattle.mini_terms.specs.Folds.{is_effect_free, goes_on}
-use Rattle.mini_terms.specs.Kind.{kind}
+use Rattle.mini_terms.specs.Kind.{is_number, kind}
 use Rattle.mini_terms.specs.Parts.{suits, leaves_nothing, weighs}
 use Rattle.mini_rows.specs.Booleans.{digit}
 use Rattle.mini_rows.specs.Choices.{loosely}
@@ -30,6 +34,31 @@ beside o false a k = binary o k a
 abbrev pub told_by : Bool → Tree → Tree
 told_by true b = b
 told_by false b = negation b
+
+-- the text that `+` makes of a literal beside a text
+abbrev pub tail_by : Option (List ℕ) → Option ℤ → Option (List ℕ)
+tail_by (Some t) n = Some t
+tail_by None (Some n) = Some (signed_decimal n)
+tail_by None None = None
+
+abbrev pub tail_text : Tree → Option (List ℕ)
+tail_text k = tail_by (string k) (number k)
+
+-- Int32, but for shifts: `~`, and `&`, `^` and `|` where one side is known to be a number
+abbrev pub makes_bits : Option UnaryOperator → Option BinaryOperator → Bool
+makes_bits (Some BitwiseNot) o = true
+makes_bits None (Some BitwiseAnd) = true
+makes_bits None (Some BitwiseXor) = true
+makes_bits None (Some BitwiseOr) = true
+makes_bits u o = false
+
+abbrev pub is_bits : Tree → Bool
+is_bits t = makes_bits (unary_operator t) (binary_operator t) && is_number (kind t)
+
+-- `!a`, or `!!a`
+abbrev pub zero_told : Bool → Tree → Tree
+zero_told true a = negation a
+zero_told false a = negation (negation a)
 
 -- ---- rows
 
@@ -77,9 +106,27 @@ pub record Row30 (n w : Tree) : Type 0 where
   pub shape : n ≡ beside (loosely equal) on_right operand (negated_digit truth)
   pub written : w ≡ beside (loosely equal) on_right operand (digit truth)
 
+-- 4: `a + "s" + "t"` becomes `a + "st"`, and `a + "s" + 1` becomes `a + "s1"`
+pub record Row4 (n w : Tree) : Type 0 where
+  pub left : Tree
+  pub before : List ℕ
+  pub tail : Tree
+  pub after : List ℕ
+  pub known : tail_text tail ≡ Some after
+  pub shape : n ≡ binary Addition (binary Addition left (text before)) tail
+  pub written : w ≡ binary Addition left (text (before ++ after))
+
+-- 27: `(a & 1) == 0` becomes `!(a & 1)`, and `(a & 1) != 0` becomes `!!(a & 1)`
+pub record Row27 (n w : Tree) : Type 0 where
+  pub equal : Bool
+  pub operand : Tree
+  pub known : is_bits operand ≡ true
+  pub shape : n ≡ binary (loosely equal) operand (digit false)
+  pub written : w ≡ zero_told equal operand
+
 -- a row on operands reads n as w at this place
 abbrev pub OperandRow : Position → Tree → Tree → Type 0
-OperandRow (Expr s) n w = Row14 s n w ⊎ (Row7 s n w ⊎ (Row29 s n w ⊎ Row30 n w))
+OperandRow (Expr s) n w = Row14 s n w ⊎ (Row7 s n w ⊎ (Row29 s n w ⊎ (Row30 n w ⊎ (Row4 n w ⊎ Row27 n w))))
 OperandRow _ n w = ⊥
 
 -- what it writes, where it weighs less

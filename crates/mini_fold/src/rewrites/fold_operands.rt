@@ -1,7 +1,8 @@
-//! Rows 7, 14, 29 and 30: an operand whose value is known goes, or is written shorter. `typeof a + ""` becomes `typeof a`,
-//! `a || 0 || b` becomes `a || b`, `!a == !0` becomes `!a`, and `a == !0` becomes `a == 1`. What is written is lighter in every place.
+//! Rows 4, 7, 14, 27, 29 and 30: an operand whose value is known goes, or is written shorter. `a + "s" + "t"` becomes `a + "st"`,
+//! `typeof a + ""` becomes `typeof a`, `a || 0 || b` becomes `a || b`, `(a & 1) == 0` becomes `!(a & 1)`, `!a == !0` becomes `!a`, and
+//! `a == !0` becomes `a == 1`. What is written is lighter in every place.
 
-ghost use Rattle.std.specs.Prelude.{◌≡◌, true, is_some, unwrap_or, OnOk, IfOk};
+ghost use Rattle.std.specs.Prelude.{◌≡◌, true, is_some, unwrap_or, option_copied, OnOk, IfOk};
 ghost use Rattle.mini_model.specs.Tree.{children, count};
 ghost use Rattle.mini_model.specs.Position.{is_and_or as is_it_and_or};
 ghost use Rattle.mini_node.specs.Children.{part};
@@ -10,16 +11,21 @@ ghost use Rattle.mini_laws.specs.Operators.{same_boolean as are_they_same};
 ghost use Rattle.mini_terms.specs.Parts.{suits as may_suit};
 ghost use Rattle.mini_rows.specs.Booleans.{digit as digit_of};
 ghost use Rattle.mini_rows.specs.Choices.{loosely as loose};
-ghost use Rattle.mini_rows.specs.Operands.{told_by};
+ghost use Rattle.mini_rows.specs.Operands.{told_by, tail_text as tail_of, makes_bits as do_they_make_bits, is_bits as are_they_bits, zero_told as zero_told_of};
+ghost use Rattle.mini_terms.specs.Kind.{is_number as is_number_of};
 ghost use Rattle.mini_tree.specs.Rule.{Applied};
 ghost use Rattle.mini_fold.specs.FoldOperands as operand;
 ghost use Rattle.mini_fold.specs.FoldOperands.{Gives, Rests};
 ghost use Rattle.mini_fold.specs.Lighter.{operands_lighter};
 
-use mini_model::{BinaryOperator, LogicalOperator, OutOfMemory, Position, Seat, Shape};
+use crate::literals::{copied, text_of_both};
+use mini_model::{
+    BinaryOperator, LogicalOperator, OutOfMemory, Position, Seat, Shape, Text, UnaryOperator,
+    decimal,
+};
 use mini_node::{
     Node, binary, binary_operator, discard, is_logical, is_negation, logical, logical_operator,
-    negation, number, numeric_literal, one, string, taken, two,
+    negation, number, numeric_literal, one, string, string_literal, taken, two, unary_operator,
 };
 use mini_terms::{
     Kind, goes_on, has_no_effect, is_plain_part, kind_of, leaves_nothing, suits, weighs,
@@ -119,6 +125,131 @@ fn fold_text(alloc: Global, node: &mut Node, seat: Seat) -> bool
         return true;
     }
     false
+}
+
+// The text at the end of `a + "s"`.
+fn sum_text(node: &Node) -> Option<&Text>
+    ensures { option_copied result ≡ operand.sum_text node.now }
+{
+    match binary_operator(node) {
+        Some(BinaryOperator::Addition) => string(node.child(1)),
+        _ => None,
+    }
+}
+
+// The text that `+` makes of a text or a number.
+fn tail_text(alloc: Global, node: &Node) -> Result<Option<Text>, OutOfMemory>
+    ensures { IfOk result (λ t. t ≡ tail_of node.now) }
+{
+    if let Some(text) = string(node) {
+        return Ok(Some(copied(alloc, text.as_slice())?));
+    }
+    match number(node) {
+        Some(number) => Ok(Some(decimal(alloc, number)?)),
+        None => Ok(None),
+    }
+}
+
+// `st` of `a + "s"` and `"t"`
+fn joined_text(alloc: Global, left: &Node, right: &Node) -> Result<Option<Text>, OutOfMemory>
+    ensures { IfOk result (λ t. t ≡ operand.joined_texts (operand.sum_text left.now) (tail_of right.now)) }
+{
+    let Some(before) = sum_text(left) else {
+        return Ok(None);
+    };
+    match tail_text(alloc, right)? {
+        Some(after) => Ok(Some(text_of_both(alloc, before.as_slice(), after)?)),
+        None => Ok(None),
+    }
+}
+
+fn first_of_first(node: Node) -> Node
+    ensures { result ≡ part (part node 0) 0 }
+{
+    one(one(node))
+}
+
+// `a + "st"` of `a + "s" + "t"`
+fn join_texts(alloc: Global, node: &mut Node) -> Result<bool, OutOfMemory>
+    requires { count (children node.old) ≡ 2 }
+    ensures tree { OnOk result (node.new ≡ unwrap_or (operand.joined_written (part node.old 0) (part node.old 1)) node.old) }
+    ensures said { IfOk result (λ changed. changed ≡ is_some (operand.joined_written (part node.old 0) (part node.old 1))) }
+{
+    let Some(text) = joined_text(alloc, node.child(0), node.child(1))? else {
+        return Ok(false);
+    };
+    let left = first_of_first(taken(alloc, node));
+    *node = binary(
+        alloc,
+        BinaryOperator::Addition,
+        left,
+        string_literal(alloc, text),
+    )?;
+    Ok(true)
+}
+
+fn fold_sum(alloc: Global, node: &mut Node, seat: Seat) -> Result<bool, OutOfMemory>
+    requires { count (children node.old) ≡ 2 }
+    ensures tree { OnOk result (node.new ≡ unwrap_or (operand.sum_written seat (part node.old 0) (part node.old 1)) node.old) }
+    ensures said { IfOk result (λ changed. changed ≡ is_some (operand.sum_written seat (part node.old 0) (part node.old 1))) }
+{
+    if fold_text(alloc, node, seat) {
+        return Ok(true);
+    }
+    join_texts(alloc, node)
+}
+
+fn makes_bits(unary: Option<UnaryOperator>, binary: Option<BinaryOperator>) -> bool
+    ensures { result ≡ do_they_make_bits unary binary }
+{
+    match (unary, binary) {
+        (Some(UnaryOperator::BitwiseNot), _) => true,
+        (None, Some(BinaryOperator::BitwiseAnd)) => true,
+        (None, Some(BinaryOperator::BitwiseXor)) => true,
+        (None, Some(BinaryOperator::BitwiseOr)) => true,
+        _ => false,
+    }
+}
+
+fn is_number_kind(kind: Kind) -> bool
+    ensures { result ≡ is_number_of kind }
+{
+    matches!(kind, Kind::Number)
+}
+
+// Whether each value of it is a number of 32 bits, as of `a & 1`.
+fn is_bits(node: &Node) -> bool
+    ensures { result ≡ are_they_bits node.now }
+{
+    makes_bits(unary_operator(node), binary_operator(node)) && is_number_kind(kind_of(node))
+}
+
+fn is_zero(number: Option<i64>) -> bool
+    ensures { result ≡ operand.is_zero number }
+{
+    match number {
+        Some(value) => value == 0,
+        None => false,
+    }
+}
+
+// Whether they are bits beside 0.
+fn tests_bits(left: &Node, right: &Node) -> bool
+    ensures { result ≡ operand.tests_bits left.now right.now }
+{
+    is_zero(number(right)) && is_bits(left)
+}
+
+// `!a`, or `!!a`
+fn zero_told(alloc: Global, equal: bool, bits: Node) -> Result<Node, OutOfMemory>
+    ensures { IfOk result (λ w. w ≡ zero_told_of equal bits) }
+{
+    let negated = negation(alloc, bits)?;
+    if equal {
+        Ok(negated)
+    } else {
+        negation(alloc, negated)
+    }
 }
 
 fn negated_truth(digit: Option<i64>) -> Option<bool>
@@ -226,6 +357,10 @@ fn fold_equality(
     ensures tree { OnOk result (node.new ≡ unwrap_or (operand.equal_written seat equal (part node.old 0) (part node.old 1)) node.old) }
     ensures said { IfOk result (λ changed. changed ≡ is_some (operand.equal_written seat equal (part node.old 0) (part node.old 1))) }
 {
+    if tests_bits(node.child(0), node.child(1)) {
+        *node = zero_told(alloc, equal, one(taken(alloc, node)))?;
+        return Ok(true);
+    }
     if let Some(truth) = truth_in(node.child(1)) {
         *node = right_written(alloc, seat, equal, truth, one(taken(alloc, node)))?;
         return Ok(true);
@@ -247,7 +382,7 @@ fn fold_binary(alloc: Global, node: &mut Node, seat: Seat) -> Result<bool, OutOf
     ensures said { IfOk result (λ changed. changed ≡ is_some (operand.binary_written seat (its_binary_operator node.old) node.old)) }
 {
     match binary_operator(node) {
-        Some(BinaryOperator::Addition) => Ok(fold_text(alloc, node, seat)),
+        Some(BinaryOperator::Addition) => fold_sum(alloc, node, seat),
         Some(BinaryOperator::Equality) => fold_equality(alloc, node, seat, true),
         Some(BinaryOperator::Inequality) => fold_equality(alloc, node, seat, false),
         _ => Ok(false),
@@ -267,7 +402,7 @@ pub fn fold_operands(alloc: Global, node: &mut Node, seat: Seat) -> Result<bool,
     }
 }
 
-/// Rows 7, 14, 29 and 30 as a rule: of each expression.
+/// Rows 4, 7, 14, 27, 29 and 30 as a rule: of each expression.
 pub struct FoldOperands;
 
 impl<C: Context> Rule<C> for FoldOperands {

@@ -1,0 +1,66 @@
+-- What is told of an operand by its operator or its literal.
+use Rattle.std.proofs.Common.{◌≡◌, ℕ, ℤ, true, List, Option, Some, None, refl, sym, ap, ◌∙◌, true≢false}
+use Rattle.std.specs.Fmt.{signed_decimal}
+use Rattle.std.proofs.lemmas.Bool.{and_parts}
+use Rattle.mini_model.specs.declared.operator.BinaryOperator.{BinaryOperator}
+use Rattle.mini_model.specs.declared.operator.BinaryOperator.TheVariants as binary_operator
+use Rattle.mini_model.specs.declared.operator.UnaryOperator.{UnaryOperator}
+use Rattle.mini_model.specs.declared.operator.UnaryOperator.TheVariants as unary_operator
+use Rattle.mini_model.specs.Tree.{Tree, unary}
+use Rattle.mini_node.specs.Children.{part}
+use Rattle.mini_node.specs.Kinds.{unary_operator as its_unary_operator, binary_operator as its_binary_operator, number, string}
+use Rattle.mini_node.specs.Made.{unary_is, binary_is, number_is, string_is}
+use Rattle.mini_terms.specs.declared.kinds.Kind.{Kind}
+use Rattle.mini_terms.specs.declared.kinds.Kind.TheVariants.{Number as IsNumber}
+use Rattle.mini_terms.specs.Kind.{is_number, kind}
+use Rattle.mini_terms.specs.Reading.{is_plain_part}
+use Rattle.mini_rows.specs.Operands.{tail_by, tail_text, makes_bits, is_bits}
+use Rattle.mini_rows.specs.Spellings.{binary, numeral, text}
+
+-- a text, or a number
+
+pub data Tail (k : Tree) (t : List ℕ) : Type 0 where
+  of_text : k ≡ text t → Tail k t
+  of_number : (n : ℤ) → k ≡ numeral n → signed_decimal n ≡ t → Tail k t
+
+pub tail_form : (k : Tree) (t : List ℕ) → tail_text k ≡ Some t → Tail k t
+tail_form k t e = go (string k) (number k) refl refl e
+  where
+    go : (c : Option (List ℕ)) (d : Option ℤ) → string k ≡ c → number k ≡ d → tail_by c d ≡ Some t → Tail k t
+    go (Some r) d h g e = let same : r ≡ t = cc e in of_text (string_is k r h ∙ ap text same)
+    go None (Some n) h g e = let same : signed_decimal n ≡ t = cc e in of_number n (number_is k n g) same
+    go None None h g e = cc e
+
+-- whole bits
+
+pub data Bits (t : Tree) : Type 0 where
+  inverted : t ≡ unary unary_operator.BitwiseNot (part t 0) → Bits t
+  masked : t ≡ binary binary_operator.BitwiseAnd (part t 0) (part t 1) → Bits t
+  differing : t ≡ binary binary_operator.BitwiseXor (part t 0) (part t 1) → Bits t
+  joined : t ≡ binary binary_operator.BitwiseOr (part t 0) (part t 1) → Bits t
+
+bits_by : (t : Tree) (u : Option UnaryOperator) (o : Option BinaryOperator) → its_unary_operator t ≡ u → its_binary_operator t ≡ o → makes_bits u o ≡ true → Bits t
+bits_by t (Some unary_operator.BitwiseNot) o h g e = inverted (unary_is t unary_operator.BitwiseNot h)
+bits_by t None (Some binary_operator.BitwiseAnd) h g e = masked (binary_is t binary_operator.BitwiseAnd g)
+bits_by t None (Some binary_operator.BitwiseXor) h g e = differing (binary_is t binary_operator.BitwiseXor g)
+bits_by t None (Some binary_operator.BitwiseOr) h g e = joined (binary_is t binary_operator.BitwiseOr g)
+bits_by t u o h g e = absurd (true≢false (sym e))
+
+pub bits_form : (t : Tree) → is_bits t ≡ true → Bits t
+bits_form t e = bits_by t (its_unary_operator t) (its_binary_operator t) refl refl (and_parts (makes_bits (its_unary_operator t) (its_binary_operator t)) (is_number (kind t)) e).0
+
+number_by : (k : Kind) → is_number k ≡ true → k ≡ IsNumber
+number_by IsNumber e = refl
+number_by k e = absurd (true≢false (sym e))
+
+pub bits_number : (t : Tree) → is_bits t ≡ true → kind t ≡ IsNumber
+bits_number t e = number_by (kind t) (and_parts (makes_bits (its_unary_operator t) (its_binary_operator t)) (is_number (kind t)) e).1
+
+pub bits_plain : (t : Tree) → is_bits t ≡ true → is_plain_part t ≡ true
+bits_plain t e = go (bits_form t e)
+  where
+    go : Bits t → is_plain_part t ≡ true
+    go (inverted is) = ap is_plain_part is
+    go (masked is) = ap is_plain_part is
+    go (differing is) = ap is_plain_part is
+    go (joined is) = ap is_plain_part is
