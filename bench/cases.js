@@ -147,7 +147,7 @@ becomes("guards of a body are one before what follows goes into it", "function F
 
 // ---- classes
 
-becomes("classes that change places", "x = !a ? class A { m() { } } : class B { };", "x = a ? class B { } : class A { m() { } };", { kept: [0, 3, 1, 2], symbols: [1, 0] });
+becomes("classes that change places, and lose their names", "x = !a ? class A { m() { } } : class B { };", "x = a ? class { } : class { m() { } };", { kept: [0, 3, 1, 2], symbols: [] });
 becomes(
   "a class with members of all kinds",
   `class A extends B {
@@ -448,6 +448,28 @@ becomes("an initializer that gets parentheses", "{ let x = a ? b : c; x.d(); }",
 becomes("the last of several declarators", "{ let x = a, y = b(); y[c](d), e(x); }", "{ let x = a; b()[c](d), e(x); }", { symbols: [0] });
 becomes("a first part of a sequence", "{ let x = a(); x.b(), c(); }", "a().b(), c();", { symbols: [] });
 becomes("one read by another", "{ let x = a(); let y = x.b(); y.c(); }", "a().b().c();", { symbols: [] });
+
+// ---- so do the names of function and class expressions, and of what is caught
+
+becomes("a function", "f(function g() { return 1; });", "f(function () { return 1; });", { kept: 2, symbols: [] });
+becomes("one with a parameter", "a = function g(b) { b(); };", "a = function (b) { b(); };", { kept: 2, symbols: [1] });
+becomes("a generator", "f(function* g() { yield a(); });", "f(function* () { yield a(); });", { kept: 2, symbols: [] });
+becomes("one that is called where it stands", "(function g() { f(); })();", "(function () { f(); })();", { kept: 2, symbols: [] });
+becomes("one in another", "f(function g() { return function h() { return a; }; });", "f(function () { return function () { return a; }; });", { kept: 3, symbols: [] });
+becomes("one in another that is named", "f(function g() { return function h() { return g; }; });", "f(function g() { return function () { return g; }; });", { kept: 3, symbols: [0] });
+becomes("the value of a property", "f({ m: function g() { a(); } });", "f({ m: function () { a(); } });", { kept: 2, symbols: [] });
+becomes("one whose name was read for nothing", "f(function g() { typeof g; });", "f(function () {});", { kept: 2, symbols: [] });
+becomes("one with an eval that is no direct one", "f(function g() { (0, eval)(a); });", "f(function () { (0, eval)(a); });", { kept: 2, symbols: [] });
+becomes("one beside a direct eval", "f(function g() { return 1; }, eval(a));", "f(function () { return 1; }, eval(a));", { kept: 2, symbols: [] });
+becomes("one of a name around it", "let g = a(); f(function g() { return 1; }, g);", "let g = a(); f(function () { return 1; }, g);", { kept: 2, symbols: [0] });
+becomes("a class", "f(class C {});", "f(class {});", { kept: 2, symbols: [] });
+becomes("one with a superclass and a method", "f(class C extends D { m() { a(); } });", "f(class extends D { m() { a(); } });", { kept: 4, symbols: [] });
+becomes("what is caught", "try { a(); } catch (e) { b(); }", "try { a(); } catch { b(); }", { symbols: [] });
+becomes("what is caught before a finalizer", "try { a(); } catch (e) { b(); } finally { c(); }", "try { a(); } catch { b(); } finally { c(); }", { symbols: [] });
+becomes("what is caught by a handler with a name of its own", "try { a(); } catch (e) { let b = c(); d(b, b); }", "try { a(); } catch { let b = c(); d(b, b); }", { symbols: [1] });
+becomes("what is caught beside a name of its spelling", "let e = a(); try { b(e); } catch (e) { c(); } d(e);", "let e = a(); try { b(e); } catch { c(); } d(e);", { symbols: [0] });
+becomes("what is caught and read for nothing", "try { a(); } catch (e) { typeof e; }", "try { a(); } catch {}", { symbols: [] });
+becomes("what an inner handler catches", "try { a(); } catch (e) { try { b(e); } catch (d) { c(); } }", "try { a(); } catch (e) { try { b(e); } catch { c(); } }", { symbols: [0] });
 
 // ---- the files
 

@@ -16,16 +16,16 @@ use Rattle.mini_model.specs.Weight.{weight}
 use Rattle.mini_model.specs.Terms.{is_boolean, turned_seat, unwrapped, opposite, turned_equality, neg, neg_each, not_of}
 use Rattle.mini_model.specs.Redex.{Row, Contracts}
 use Rattle.mini_model.specs.Rewriting.{Step, here, inside, StepIn, first, later, Reaches, done, more}
-use Rattle.mini_laws.specs.Value.{Variable, variables, choose, is_in}
+use Rattle.mini_laws.specs.Value.{Variable, VariableSet, variables, choose, is_in, nothing}
 use Rattle.mini_laws.specs.State.{Fixed, Writable, Constant, KeepsOld}
 use Rattle.mini_laws.specs.Naming.{summary, summary_of, summaries}
 use Rattle.mini_laws.specs.Fixity.{fixity_by, declared_by, stricter, fixed_by, fixed_by_any, written_in}
 use Rattle.mini_laws.proofs.Rewritten.{rows_mean_same}
-use Rattle.mini_kept.specs.Fixities.{KeepsFixities, ReachesKeepsFixities, RowsKeepFixities, ProgramKeepsFixities}
+use Rattle.mini_kept.specs.Fixities.{KeepsFixities, KeepsFixitiesBut, ReachesKeepsFixities, RowsKeepFixities, ProgramKeepsFixities}
 
 -- ---- steps
 
-module _ (R : Position → Tree → Tree → Type 0) (k : KeepsFixities R) where
+module _ (D : VariableSet) (R : Position → Tree → Tree → Type 0) (k : KeepsFixitiesBut D R) where
   mutual
     step_summary : {p : Position} {t u : Tree} → Step R p t u → summary t ≡ summary u
     step_summary (here p n w c) = k.reads p n w c
@@ -36,20 +36,20 @@ module _ (R : Position → Tree → Tree → Type 0) (k : KeepsFixities R) where
     steps_summaries (later π t ts us s) = ap (λ is. summary t ∷ is) (steps_summaries s)
 
   mutual
-    step_fixed : {p : Position} {t u : Tree} → Step R p t u → (x : Variable) → fixed_by t x ≡ fixed_by u x
-    step_fixed (here p n w c) x = k.fixed p n w c x
-    step_fixed (inside p h xs n ts us s) x = λ i. stricter (choose (is_in x (declared_by h (steps_summaries s i))) (fixity_by h) Writable) (steps_fixed s x i)
+    pub step_fixed : {p : Position} {t u : Tree} → Step R p t u → (x : Variable) → D x ≡ false → fixed_by t x ≡ fixed_by u x
+    step_fixed (here p n w c) x d = k.fixed p n w c x d
+    step_fixed (inside p h xs n ts us s) x d = λ i. stricter (choose (is_in x (declared_by h (steps_summaries s i))) (fixity_by h) Writable) (steps_fixed s x d i)
 
-    steps_fixed : {π : ℕ → Position} {ts us : Trees} → StepIn R π ts us → (x : Variable) → fixed_by_any ts x ≡ fixed_by_any us x
-    steps_fixed (first π t u ts s) x = ap (λ f. stricter f (fixed_by_any ts x)) (step_fixed s x)
-    steps_fixed (later π t ts us s) x = ap (stricter (fixed_by t x)) (steps_fixed s x)
+    steps_fixed : {π : ℕ → Position} {ts us : Trees} → StepIn R π ts us → (x : Variable) → D x ≡ false → fixed_by_any ts x ≡ fixed_by_any us x
+    steps_fixed (first π t u ts s) x d = ap (λ f. stricter f (fixed_by_any ts x)) (step_fixed s x d)
+    steps_fixed (later π t ts us s) x d = ap (stricter (fixed_by t x)) (steps_fixed s x d)
 
-  reaches_fixed : {p : Position} {t u : Tree} → Reaches R p t u → (x : Variable) → fixed_by t x ≡ fixed_by u x
-  reaches_fixed (done p t) x = refl
-  reaches_fixed (more p t u v s r) x = step_fixed s x ∙ reaches_fixed r x
+  reaches_fixed : {p : Position} {t u : Tree} → Reaches R p t u → (x : Variable) → D x ≡ false → fixed_by t x ≡ fixed_by u x
+  reaches_fixed (done p t) x d = refl
+  reaches_fixed (more p t u v s r) x d = step_fixed s x d ∙ reaches_fixed r x d
 
 pub fixities_kept : (R : Position → Tree → Tree → Type 0) → ReachesKeepsFixities R
-fixities_kept R k p t u r strict x = ap (written_in strict) (reaches_fixed R k r x)
+fixities_kept R k p t u r strict x = ap (written_in strict) (reaches_fixed nothing R (record { reads = k.reads; fixed = λ p n w c x d. k.fixed p n w c x }) r x refl)
 
 -- ---- nodes that declare nothing that can't be written
 

@@ -19,8 +19,8 @@ use Rattle.mini_kept.proofs.Statements.{same_both}
 use Rattle.mini_kept.proofs.Below.{all_bound, first_bound}
 use Rattle.mini_kept.specs.Standing.{is_method_slot}
 use Rattle.mini_kept.specs.Frames.{Showing, Whole, Named, Hidden, showing, part, parts, keyed, is_declaration, declaration, shown, shown_from, own, is_port, ports, outline, globals, property_below, frame_of, frames, frames_from, frames_in, FramesKept}
-use Rattle.mini_kept.specs.KeepsFrames.{is_body_slot, IsShownAlike, KeepsFrames}
-use Rattle.mini_kept.specs.ShownFrames.{KeyGiven, Shows, AllShow, FramesShown}
+use Rattle.mini_kept.specs.KeepsFrames.{is_body_slot, IsShownAlike, KeepsFrames, KeepsPlaces, KeepsFramesBut}
+use Rattle.mini_kept.specs.ShownFrames.{KeyGiven, Shows, AllShow, no_key, Gone, none_gone, FramesShown}
 use Rattle.mini_kept.specs.KeepsBodies.{KeepsBodies}
 use Rattle.mini_kept.specs.FrameLaws.{StepKeepsFrames, ReachesKeepsFrames}
 use Rattle.mini_kept.proofs.Bools.{left, right}
@@ -113,21 +113,21 @@ of_children : (a : Around) (h : Shape) (xs : List Name) (m : ℕ) (ts : Trees) (
 of_children a h xs m ts = given_among nothing (bodies_from (below a h ts) 0 ts) (bodies a (node h xs m ts)) (λ b x. Contains-append_right (body_of a h m (node h xs m ts) ts) (bodies_from (below a h ts) 0 ts) b x)
 
 -- what a step in a tree keeps, where the tree fills a slot, and one in some trees, where these fill those of a node
-record Keeps (p : Position) (t u : Tree) : Type 0 where
+record Keeps (M : Gone) (p : Position) (t u : Tree) : Type 0 where
   of_part : (a : Around) (strict : Bool) (s : Slot) → fits_place p s ≡ true → fits strict s t ≡ true → is_part_slot s ≡ true → Shows (In a t) (part t) (part u)
   of_declared : (strict : Bool) (s : Slot) → fits_place p s ≡ true → fits strict s t ≡ true → is_declared_slot s ≡ true → declaration t ≡ declaration u
   of_port : (a : Around) (strict : Bool) (d : Depth) → fits strict (one (a_statement d)) t ≡ true → (m : Bool) (ts : Trees) → AllShow (In a t) (ports m (t ▸ ts)) (ports m (u ▸ ts))
   of_statements : (a : Around) (strict : Bool) (d : Depth) → fits_place p (many (a_statement d)) ≡ true → fits strict (many (a_statement d)) t ≡ true → (m : Bool) → AllShow (In a t) (ports m (children t)) (ports m (children u))
   of_hoisted : (strict : Bool) (s : Slot) → fits_place p s ≡ true → fits strict s t ≡ true → SameNames (names_of declared.Hoisted u) (names_of declared.Hoisted t)
-  of_frames : (a : Around) (strict : Bool) (s : Slot) → fits_place p s ≡ true → fits strict s t ≡ true → (k : Option PropertyKind) → (is_method_slot s ≡ false → k ≡ None) → FramesShown (In a t) (frames k t) (frames k u)
+  of_frames : (a : Around) (strict : Bool) (s : Slot) → fits_place p s ≡ true → fits strict s t ≡ true → (k : Option PropertyKind) → (is_method_slot s ≡ false → k ≡ None) → FramesShown M (In a t) (frames k t) (frames k u)
 
-record AllKeep (π : ℕ → Position) (ts us : Trees) : Type 0 where
+record AllKeep (M : Gone) (π : ℕ → Position) (ts us : Trees) : Type 0 where
   of_parts : (α : ℕ → Around) (j : ℕ) (strict : Bool) (g : Filling) → Placed π g → fill strict g ts ≡ true → (i : ℕ) → Are (λ j s. is_part_slot s ≡ true) i g → AllShow (InAll α j ts) (parts ts) (parts us)
   of_own : (α : ℕ → Around) (j : ℕ) (strict : Bool) (g : Filling) → Placed π g → fill strict g ts ≡ true → (σ : ℕ → Showing) (i : ℕ) → Are (λ j s. shows_right (σ j) s ≡ true) i g → AllShow (InAll α j ts) (shown_from σ i ts) (shown_from σ i us)
   of_ports : (α : ℕ → Around) (j : ℕ) (strict : Bool) (d : Depth) → fill strict (each (one (a_statement d))) ts ≡ true → (m : Bool) → AllShow (InAll α j ts) (ports m ts) (ports m us)
   of_program : (α : ℕ → Around) (j : ℕ) (strict : Bool) (d : Depth) → Placed π (these (many (a_statement d) ∷ [])) → fill strict (these (many (a_statement d) ∷ [])) ts ≡ true → (m : Bool) → AllShow (InAll α j ts) (ports m (children (child_or_absent ts 0))) (ports m (children (child_or_absent us 0)))
   of_hoisted : (strict : Bool) (g : Filling) → Placed π g → fill strict g ts ≡ true → SameNames (all_names declared.Hoisted us) (all_names declared.Hoisted ts)
-  of_frames : (α : ℕ → Around) (j : ℕ) (strict : Bool) (g : Filling) → Placed π g → fill strict g ts ≡ true → (kind : ℕ → Option PropertyKind) (i : ℕ) → Are (Plain kind) i g → FramesShown (InAll α j ts) (frames_from kind i ts) (frames_from kind i us)
+  of_frames : (α : ℕ → Around) (j : ℕ) (strict : Bool) (g : Filling) → Placed π g → fill strict g ts ≡ true → (kind : ℕ → Option PropertyKind) (i : ℕ) → Are (Plain kind) i g → FramesShown M (InAll α j ts) (frames_from kind i ts) (frames_from kind i us)
 
 -- of a script alone
 of_script : (m : Bool) (ys xs : List Name) → SameNames ys xs → (x : Name) → is_among (if m then [] else xs) x ≡ is_among (if m then [] else ys) x
@@ -149,10 +149,10 @@ undeclared (node h xs n ts) e = ap (λ b. if b then node h (body_names (node h x
 no_port : (m : Bool) (t : Tree) (ts : Trees) → is_port m (shape_of t) ≡ false → ports m (t ▸ ts) ≡ ports m ts
 no_port m t ts e = ap (λ b. if b then own t ▸ ports m ts else ports m ts) e
 
-child_kept : (p : Position) (t u : Tree) → Keeps p t u → (a : Around) (strict : Bool) (s : Slot) → fits_place p s ≡ true → fits strict s t ≡ true → (σ : Showing) → shows_right σ s ≡ true → Shows (In a t) (shown σ t) (shown σ u)
-child_kept p t u k a strict s v e Whole q = k.of_part a strict s v e q
-child_kept p t u k a strict s v e Named q = shows_same (In a t) (declaration t) (declaration u) (k.of_declared strict s v e q)
-child_kept p t u k a strict s v e Hidden q = shows_itself (In a t) absent
+child_kept : (M : Gone) (p : Position) (t u : Tree) → Keeps M p t u → (a : Around) (strict : Bool) (s : Slot) → fits_place p s ≡ true → fits strict s t ≡ true → (σ : Showing) → shows_right σ s ≡ true → Shows (In a t) (shown σ t) (shown σ u)
+child_kept M p t u k a strict s v e Whole q = k.of_part a strict s v e q
+child_kept M p t u k a strict s v e Named q = shows_same (In a t) (declaration t) (declaration u) (k.of_declared strict s v e q)
+child_kept M p t u k a strict s v e Hidden q = shows_itself (In a t) absent
 
 first_more : (α : ℕ → Around) (j : ℕ) (t : Tree) (ts : Trees) (x y : Tree) → Shows (In (α j) t) x y → Shows (InAll α j (t ▸ ts)) x y
 first_more α j t ts x y = shows_more (In (α j) t) (InAll α j (t ▸ ts)) (of_first α j t ts) x y
@@ -167,7 +167,7 @@ after_port : (G : ℕ → List ℕ → Type 0) (m : Bool) (t : Tree) (b : Bool) 
 after_port G m t true xs ys k = (shows_itself G (own t), k)
 after_port G m t false xs ys k = k
 
-module _ (R : Position → Tree → Tree → Type 0) (l : KeepsFrames R) where
+module _ (M : Gone) (R : Position → Tree → Tree → Type 0) (l : KeepsPlaces R) (framed : (p : Position) (n w : Tree) → R p n w → (strict : Bool) (s : Slot) → fits_place p s ≡ true → fits strict s n ≡ true → FramesShown M no_key (frames None n) (frames None w)) where
   -- ---- the node that is replaced
 
   abbrev Standing : Position → Slot → Tree → Tree → Type 0
@@ -199,14 +199,14 @@ module _ (R : Position → Tree → Tree → Type 0) (l : KeepsFrames R) where
   statements_here : (p : Position) (t u : Tree) → R p t u → (strict : Bool) (d : Depth) → fits_place p (many (a_statement d)) ≡ true → fits strict (many (a_statement d)) t ≡ true → (m : Bool) → ports m (children t) ≡ ports m (children u)
   statements_here p t u r strict d v e m = l.listed p t u (statements_place p d (is_body p d t u (l.slots p t u r strict (many (a_statement d)) v e))) r strict d e m
 
-  here_kept : (p : Position) (t u : Tree) → R p t u → Keeps p t u
+  here_kept : (p : Position) (t u : Tree) → R p t u → Keeps M p t u
   here_kept p t u r = record {
     of_part = λ a strict s v e q. part_here p s t u q (l.slots p t u r strict s v e) a;
     of_declared = declared_here p t u r;
     of_port = λ a strict d e m ts. let (x, y) = l.ports p t u r strict d e m in all_same (In a t) (ports m (t ▸ ts)) (ports m (u ▸ ts)) (no_port m t ts x ∙ sym (no_port m u ts y));
     of_statements = λ a strict d v e m. all_same (In a t) (ports m (children t)) (ports m (children u)) (statements_here p t u r strict d v e m);
     of_hoisted = λ strict s v e. (l.names.keeps p t u r strict s v e).hoisted;
-    of_frames = λ a strict s v e k z. kept_shown (In a t) (frames k t) (frames k u) (subst (λ k. FramesKept (frames k t) (frames k u)) (sym (z (no_method_here p s t u (l.slots p t u r strict s v e)))) (l.frames p t u r strict s v e));
+    of_frames = λ a strict s v e k z. frames_more M no_key (In a t) (λ n s g. absurd g) (frames k t) (frames k u) (subst (λ k. FramesShown M no_key (frames k t) (frames k u)) (sym (z (no_method_here p s t u (l.slots p t u r strict s v e)))) (framed p t u r strict s v e));
   }
 
   -- ---- a step in one of some children
@@ -239,20 +239,20 @@ module _ (R : Position → Tree → Tree → Type 0) (l : KeepsFrames R) where
   unfolding names_of
   others_hoisted t ts us e x = same_both (names_of declared.Hoisted t) (all_names declared.Hoisted us) (names_of declared.Hoisted t) (all_names declared.Hoisted ts) (λ y. refl) e x
 
-  first_kept : (π : ℕ → Position) (t u : Tree) (ts : Trees) → StepIn R π (t ▸ ts) (u ▸ ts) → Keeps (π 0) t u → AllKeep π (t ▸ ts) (u ▸ ts)
+  first_kept : (π : ℕ → Position) (t u : Tree) (ts : Trees) → StepIn R π (t ▸ ts) (u ▸ ts) → Keeps M (π 0) t u → AllKeep M π (t ▸ ts) (u ▸ ts)
   first_kept π t u ts st k = record {
     of_parts = λ α j strict g v e i a. let (s, f, z) = filled π t u ts ts st strict g e in (first_more α j t ts (part t) (part u) (k.of_part (α j) strict s (first_placed π g s v f) z (first_is (λ j r. is_part_slot r ≡ true) i g s a f)), all_themselves (InAll α j (t ▸ ts)) (parts ts));
-    of_own = λ α j strict g v e σ i a. let (s, f, z) = filled π t u ts ts st strict g e in (first_more α j t ts (shown (σ i) t) (shown (σ i) u) (child_kept (π 0) t u k (α j) strict s (first_placed π g s v f) z (σ i) (first_is (λ j r. shows_right (σ j) r ≡ true) i g s a f)), all_themselves (InAll α j (t ▸ ts)) (shown_from σ (suc i) ts));
+    of_own = λ α j strict g v e σ i a. let (s, f, z) = filled π t u ts ts st strict g e in (first_more α j t ts (shown (σ i) t) (shown (σ i) u) (child_kept M (π 0) t u k (α j) strict s (first_placed π g s v f) z (σ i) (first_is (λ j r. shows_right (σ j) r ≡ true) i g s a f)), all_themselves (InAll α j (t ▸ ts)) (shown_from σ (suc i) ts));
     of_ports = λ α j strict d e m. all_more (In (α j) t) (InAll α j (t ▸ ts)) (of_first α j t ts) (ports m (t ▸ ts)) (ports m (u ▸ ts)) (k.of_port (α j) strict d (left (fits strict (one (a_statement d)) t) (fill strict (each (one (a_statement d))) ts) e) m ts);
     of_program = λ α j strict d v e m. all_more (In (α j) t) (InAll α j (t ▸ ts)) (of_first α j t ts) (ports m (children t)) (ports m (children u)) (k.of_statements (α j) strict d v.0 (left (fits strict (many (a_statement d)) t) (fill strict (these []) ts) e) m);
     of_hoisted = λ strict g v e. let (s, f, z) = filled π t u ts ts st strict g e in first_hoisted t u ts (k.of_hoisted strict s (first_placed π g s v f) z);
     of_frames = λ α j strict g v e kind i a. let (s, f, z) = filled π t u ts ts st strict g e in
-        each_shown (InAll α j (t ▸ ts)) (frames (kind i) t) (frames_from kind (suc i) ts) (frames (kind i) u) (frames_from kind (suc i) ts)
-        (frames_more (In (α j) t) (InAll α j (t ▸ ts)) (of_first α j t ts) (frames (kind i) t) (frames (kind i) u) (k.of_frames (α j) strict s (first_placed π g s v f) z (kind i) (first_is (Plain kind) i g s a f)))
-        (shown_themselves (InAll α j (t ▸ ts)) (frames_from kind (suc i) ts));
+        each_shown M (InAll α j (t ▸ ts)) (frames (kind i) t) (frames_from kind (suc i) ts) (frames (kind i) u) (frames_from kind (suc i) ts)
+        (frames_more M (In (α j) t) (InAll α j (t ▸ ts)) (of_first α j t ts) (frames (kind i) t) (frames (kind i) u) (k.of_frames (α j) strict s (first_placed π g s v f) z (kind i) (first_is (Plain kind) i g s a f)))
+        (shown_themselves M (InAll α j (t ▸ ts)) (frames_from kind (suc i) ts));
   }
 
-  later_kept : (π : ℕ → Position) (t : Tree) (ts us : Trees) → StepIn R π (t ▸ ts) (t ▸ us) → AllKeep (λ j. π (suc j)) ts us → AllKeep π (t ▸ ts) (t ▸ us)
+  later_kept : (π : ℕ → Position) (t : Tree) (ts us : Trees) → StepIn R π (t ▸ ts) (t ▸ us) → AllKeep M (λ j. π (suc j)) ts us → AllKeep M π (t ▸ ts) (t ▸ us)
   later_kept π t ts us st k = record {
     of_parts = λ α j strict g v e i a. (shows_itself (InAll α j (t ▸ ts)) (part t), others_more α j t ts (parts ts) (parts us) (k.of_parts α (suc j) strict (Rest g) (rest_placed π g v) (others π t t ts us st strict g e) (suc i) (rest_are (λ j r. is_part_slot r ≡ true) i g a)));
     of_own = λ α j strict g v e σ i a. (shows_itself (InAll α j (t ▸ ts)) (shown (σ i) t), others_more α j t ts (shown_from σ (suc i) ts) (shown_from σ (suc i) us) (k.of_own α (suc j) strict (Rest g) (rest_placed π g v) (others π t t ts us st strict g e) σ (suc i) (rest_are (λ j r. shows_right (σ j) r ≡ true) i g a)));
@@ -260,9 +260,9 @@ module _ (R : Position → Tree → Tree → Type 0) (l : KeepsFrames R) where
     of_program = λ α j strict d v e m. all_themselves (InAll α j (t ▸ ts)) (ports m (children t));
     of_hoisted = λ strict g v e. others_hoisted t ts us (k.of_hoisted strict (Rest g) (rest_placed π g v) (others π t t ts us st strict g e));
     of_frames = λ α j strict g v e kind i a.
-        each_shown (InAll α j (t ▸ ts)) (frames (kind i) t) (frames_from kind (suc i) ts) (frames (kind i) t) (frames_from kind (suc i) us)
-        (shown_themselves (InAll α j (t ▸ ts)) (frames (kind i) t))
-        (frames_more (InAll α (suc j) ts) (InAll α j (t ▸ ts)) (of_others α j t ts) (frames_from kind (suc i) ts) (frames_from kind (suc i) us) (k.of_frames α (suc j) strict (Rest g) (rest_placed π g v) (others π t t ts us st strict g e) kind (suc i) (rest_are (Plain kind) i g a)));
+        each_shown M (InAll α j (t ▸ ts)) (frames (kind i) t) (frames_from kind (suc i) ts) (frames (kind i) t) (frames_from kind (suc i) us)
+        (shown_themselves M (InAll α j (t ▸ ts)) (frames (kind i) t))
+        (frames_more M (InAll α (suc j) ts) (InAll α j (t ▸ ts)) (of_others α j t ts) (frames_from kind (suc i) ts) (frames_from kind (suc i) us) (k.of_frames α (suc j) strict (Rest g) (rest_placed π g v) (others π t t ts us st strict g e) kind (suc i) (rest_are (Plain kind) i g a)));
   }
 
   -- ---- the same node over other children
@@ -273,7 +273,7 @@ module _ (R : Position → Tree → Tree → Type 0) (l : KeepsFrames R) where
   number_fits : (strict : Bool) (s : Slot) (h : Shape) (xs : List Name) (n : ℕ) (ts : Trees) → fits strict s (node h xs n ts) ≡ true → has_its_number (class_of s) h n ≡ true
   number_fits strict s h xs n ts e = its_number (class_of s) h xs n ts (fill (is_strict_in strict h) (filling strict s h) ts) e
 
-  module _ (p : Position) (h : Shape) (xs : List Name) (ts us : Trees) (all : AllKeep (child_position h p (count ts)) ts us) (a : Around) where
+  module _ (p : Position) (h : Shape) (xs : List Name) (ts us : Trees) (all : AllKeep M (child_position h p (count ts)) ts us) (a : Around) where
     part_inside : (n : ℕ) (strict : Bool) (s : Slot) → fits strict s (node h xs n ts) ≡ true → is_part_slot s ≡ true → Shows (In a (node h xs n ts)) (part (node h xs n ts)) (part (node h xs n us))
     part_inside zero strict s e q =
         over_shown (In a (node h xs 0 ts)) h xs 0 (keyed h (parts ts)) (keyed h (parts us)) (keyed_shown (In a (node h xs 0 ts)) h (parts ts) (parts us)
@@ -294,12 +294,12 @@ module _ (R : Position → Tree → Tree → Type 0) (l : KeepsFrames R) where
             (over_shown (In a (node h xs n ts)) h xs n (shown_from (showing h) 0 ts) (shown_from (showing h) 0 us) (own_inside n strict (one (a_statement d)) e (port_outline m h q)), all_themselves (In a (node h xs n ts)) (ports m vs))
         by false q = all_same (In a (node h xs n ts)) (ports m (node h xs n ts ▸ vs)) (ports m (node h xs n us ▸ vs)) (no_port m (node h xs n ts) vs q ∙ sym (no_port m (node h xs n us) vs q))
 
-  statements_inside : (p : Position) (h : Shape) (xs : List Name) (n : ℕ) (ts us : Trees) → AllKeep (child_position h p (count ts)) ts us → (a : Around) (strict : Bool) (d : Depth) → fits strict (many (a_statement d)) (node h xs n ts) ≡ true → (m : Bool) → AllShow (In a (node h xs n ts)) (ports m ts) (ports m us)
+  statements_inside : (p : Position) (h : Shape) (xs : List Name) (n : ℕ) (ts us : Trees) → AllKeep M (child_position h p (count ts)) ts us → (a : Around) (strict : Bool) (d : Depth) → fits strict (many (a_statement d)) (node h xs n ts) ≡ true → (m : Bool) → AllShow (In a (node h xs n ts)) (ports m ts) (ports m us)
   statements_inside p shape.Listed xs n ts us all a strict d e m = node_more a shape.Listed xs n ts (ports m ts) (ports m us) (all.of_ports (below a shape.Listed ts) 0 strict d (children_fill strict (many (a_statement d)) shape.Listed xs n ts e) m)
   statements_inside p h xs n ts us all a strict d e m = absurd (refused_here strict (many (a_statement d)) h xs n ts refl e)
 
   -- a program's outline
-  module _ (p : Position) (m : Bool) (ds : List (List ℕ)) (xs : List Name) (n : ℕ) (ts us : Trees) (all : AllKeep (child_position (shape.Program m ds) p (count ts)) ts us) (a : Around) where
+  module _ (p : Position) (m : Bool) (ds : List (List ℕ)) (xs : List Name) (n : ℕ) (ts us : Trees) (all : AllKeep M (child_position (shape.Program m ds) p (count ts)) ts us) (a : Around) where
     abbrev G : ℕ → List ℕ → Type 0
     G = In a (node (shape.Program m ds) xs n ts)
 
@@ -313,20 +313,20 @@ module _ (R : Position → Tree → Tree → Type 0) (l : KeepsFrames R) where
             (all.of_program (below a (shape.Program m ds) ts) 0 (is_strict_in strict (shape.Program m ds)) (if m then in_module else in_body) (refl, tt) (subst (λ g. fill (is_strict_in strict (shape.Program m ds)) g ts ≡ true) f (children_fill strict s (shape.Program m ds) xs n ts e)) m)
 
     program_frame : (k : Option PropertyKind) (strict : Bool) (s : Slot) → fits strict s (node (shape.Program m ds) xs n ts) ≡ true
-        → FramesShown G (frame_of k (shape.Program m ds) n (outline (shape.Program m ds) xs n ts) (globals (shape.Program m ds) ts)) (frame_of k (shape.Program m ds) n (outline (shape.Program m ds) xs n us) (globals (shape.Program m ds) us))
+        → FramesShown M G (frame_of k (shape.Program m ds) n (outline (shape.Program m ds) xs n ts) (globals (shape.Program m ds) ts)) (frame_of k (shape.Program m ds) n (outline (shape.Program m ds) xs n us) (globals (shape.Program m ds) us))
     program_frame k strict s e =
         let hoisted = all.of_hoisted (is_strict_in strict (shape.Program m ds)) (filling strict s (shape.Program m ds)) (placed_below strict s (shape.Program m ds) p (count ts)) (children_fill strict s (shape.Program m ds) xs n ts e) in
-        one_shown G (record { number = n; property = k; outline = outline (shape.Program m ds) xs n ts; globals = is_among (globals (shape.Program m ds) ts) })
+        one_shown M G (record { number = n; property = k; outline = outline (shape.Program m ds) xs n ts; globals = is_among (globals (shape.Program m ds) ts) })
         (record { number = n; property = k; outline = outline (shape.Program m ds) xs n us; globals = is_among (globals (shape.Program m ds) us) })
-        (record { number = refl; property = refl; outline = over_shown G (shape.Program m ds) [] n _ _ (program_ports strict s e); globals = λ i x. of_script m (all_names declared.Hoisted us) (all_names declared.Hoisted ts) hoisted x i })
+        (record { number = refl; property = refl; outline = inl (over_shown G (shape.Program m ds) [] n _ _ (program_ports strict s e)); globals = λ i x. of_script m (all_names declared.Hoisted us) (all_names declared.Hoisted ts) hoisted x i })
 
-  numbered_frame : (G : ℕ → List ℕ → Type 0) (k : Option PropertyKind) (n : ℕ) (o o' : Tree) → Shows G o o' → FramesShown G (record { number = suc n; property = k; outline = o; globals = is_among [] } ∷ []) (record { number = suc n; property = k; outline = o'; globals = is_among [] } ∷ [])
-  numbered_frame G k n o o' x = one_shown G (record { number = suc n; property = k; outline = o; globals = is_among [] }) (record { number = suc n; property = k; outline = o'; globals = is_among [] }) (record { number = refl; property = refl; outline = x; globals = refl })
+  numbered_frame : (G : ℕ → List ℕ → Type 0) (k : Option PropertyKind) (n : ℕ) (o o' : Tree) → Shows G o o' → FramesShown M G (record { number = suc n; property = k; outline = o; globals = is_among [] } ∷ []) (record { number = suc n; property = k; outline = o'; globals = is_among [] } ∷ [])
+  numbered_frame G k n o o' x = one_shown M G (record { number = suc n; property = k; outline = o; globals = is_among [] }) (record { number = suc n; property = k; outline = o'; globals = is_among [] }) (record { number = refl; property = refl; outline = inl x; globals = refl })
 
-  frame_inside : (p : Position) (k : Option PropertyKind) (h : Shape) (xs : List Name) (n : ℕ) (ts us : Trees) → AllKeep (child_position h p (count ts)) ts us → (a : Around) (strict : Bool) (s : Slot) → fits strict s (node h xs n ts) ≡ true
-      → FramesShown (In a (node h xs n ts)) (frame_of k h n (outline h xs n ts) (globals h ts)) (frame_of k h n (outline h xs n us) (globals h us))
+  frame_inside : (p : Position) (k : Option PropertyKind) (h : Shape) (xs : List Name) (n : ℕ) (ts us : Trees) → AllKeep M (child_position h p (count ts)) ts us → (a : Around) (strict : Bool) (s : Slot) → fits strict s (node h xs n ts) ≡ true
+      → FramesShown M (In a (node h xs n ts)) (frame_of k h n (outline h xs n ts) (globals h ts)) (frame_of k h n (outline h xs n us) (globals h us))
   frame_inside p k (shape.Program m ds) xs n ts us all a strict s e = program_frame p m ds xs n ts us all a k strict s e
-  frame_inside p k h xs zero ts us all a strict s e = shown_themselves (In a (node h xs 0 ts)) []
+  frame_inside p k h xs zero ts us all a strict s e = shown_themselves M (In a (node h xs 0 ts)) []
   frame_inside p k h xs (suc n) ts us all a strict s e =
       numbered_frame (In a (node h xs (suc n) ts)) k n (own (node h xs (suc n) ts)) (own (node h xs (suc n) us))
       (over_shown (In a (node h xs (suc n) ts)) h xs (suc n) (shown_from (showing h) 0 ts) (shown_from (showing h) 0 us) (own_inside p h xs ts us all a (suc n) strict s e (numbered_outline (class_of s) h n (number_fits strict s h xs (suc n) ts e))))
@@ -342,7 +342,7 @@ module _ (R : Position → Tree → Tree → Type 0) (l : KeepsFrames R) where
           let kept = steps_keep R l.names st (is_strict_in strict h) (filling strict s h) (placed_below strict s h p (count ts)) (children_fill strict s h xs n ts e) in
           ap (λ ns. if is_declaration h then node h ns n none else absent) (declaration_names h xs n ts us q (sym (all_bound π ts us kept)) (sym (first_bound π ts us kept)))
 
-  inside_kept : (p : Position) (h : Shape) (xs : List Name) (n : ℕ) (ts us : Trees) → StepIn R (child_position h p (count ts)) ts us → AllKeep (child_position h p (count ts)) ts us → Keeps p (node h xs n ts) (node h xs n us)
+  inside_kept : (p : Position) (h : Shape) (xs : List Name) (n : ℕ) (ts us : Trees) → StepIn R (child_position h p (count ts)) ts us → AllKeep M (child_position h p (count ts)) ts us → Keeps M p (node h xs n ts) (node h xs n us)
   inside_kept p h xs n ts us st all = record {
     of_part = λ a strict s v e q. part_inside p h xs ts us all a n strict s e q;
     of_declared = λ strict s v e q. declared_inside p h xs n ts us st strict s e;
@@ -350,37 +350,44 @@ module _ (R : Position → Tree → Tree → Type 0) (l : KeepsFrames R) where
     of_statements = λ a strict d v e m. statements_inside p h xs n ts us all a strict d e m;
     of_hoisted = λ strict s v e. (step_keeps R l.names (inside p h xs n ts us st) strict s v e).hoisted;
     of_frames = λ a strict s v e k z.
-        each_shown (In a (node h xs n ts)) (frame_of k h n (outline h xs n ts) (globals h ts)) (frames_from (property_below h) 0 ts) (frame_of k h n (outline h xs n us) (globals h us)) (frames_from (property_below h) 0 us)
+        each_shown M (In a (node h xs n ts)) (frame_of k h n (outline h xs n ts) (globals h ts)) (frames_from (property_below h) 0 ts) (frame_of k h n (outline h xs n us) (globals h us)) (frames_from (property_below h) 0 us)
         (frame_inside p k h xs n ts us all a strict s e)
-        (frames_more (InAll (below a h ts) 0 ts) (In a (node h xs n ts)) (of_children a h xs n ts) (frames_from (property_below h) 0 ts) (frames_from (property_below h) 0 us)
+        (frames_more M (InAll (below a h ts) 0 ts) (In a (node h xs n ts)) (of_children a h xs n ts) (frames_from (property_below h) 0 ts) (frames_from (property_below h) 0 us)
         (all.of_frames (below a h ts) 0 (is_strict_in strict h) (filling strict s h) (placed_below strict s h p (count ts)) (children_fill strict s h xs n ts e) (property_below h) 0 (plain_right strict s h)));
   }
 
   mutual
-    step_kept : {p : Position} {t u : Tree} → Step R p t u → Keeps p t u
+    step_kept : {p : Position} {t u : Tree} → Step R p t u → Keeps M p t u
     step_kept (here p t u r) = here_kept p t u r
     step_kept (inside p h xs n ts us st) = inside_kept p h xs n ts us st (steps_kept st)
 
-    steps_kept : {π : ℕ → Position} {ts us : Trees} → StepIn R π ts us → AllKeep π ts us
+    steps_kept : {π : ℕ → Position} {ts us : Trees} → StepIn R π ts us → AllKeep M π ts us
     steps_kept (first π t u ts st) = first_kept π t u ts (first π t u ts st) (step_kept st)
     steps_kept (later π t ts us st) = later_kept π t ts us (later π t ts us st) (steps_kept st)
 
-pub step_keeps_frames : (R : Position → Tree → Tree → Type 0) → StepKeepsFrames R
-step_keeps_frames R l p t u st strict s v e a k z = (step_kept R l st).of_frames a strict s v e k z
+-- without frames
+pub places_of : (R : Position → Tree → Tree → Type 0) → KeepsFrames R → KeepsPlaces R
+places_of R l = record { names = l.names; slots = l.slots; ports = l.ports; listed = l.listed; exported = l.exported }
 
-pub program_frames : (R : Position → Tree → Tree → Type 0) → KeepsFrames R → (t u : Tree) → Step R Elsewhere t u → IsWellShaped t → FramesShown (KeyGiven nothing (bodies_in t)) (frames_in t) (frames_in u)
+pub step_frames_but : (M : Gone) (R : Position → Tree → Tree → Type 0) → KeepsFramesBut M R → (t u : Tree) → Step R Elsewhere t u → IsWellShaped t → FramesShown M (KeyGiven nothing (bodies_in t)) (frames_in t) (frames_in u)
+step_frames_but M R l t u st e = (step_kept M R l.places l.frames st).of_frames outermost false (one a_program) refl e None (λ z. refl)
+
+pub step_keeps_frames : (R : Position → Tree → Tree → Type 0) → StepKeepsFrames R
+step_keeps_frames R l p t u st strict s v e a k z = (step_kept none_gone R (places_of R l) (λ p n w r strict s v e. kept_shown none_gone no_key (frames None n) (frames None w) (l.frames p n w r strict s v e)) st).of_frames a strict s v e k z
+
+pub program_frames : (R : Position → Tree → Tree → Type 0) → KeepsFrames R → (t u : Tree) → Step R Elsewhere t u → IsWellShaped t → FramesShown none_gone (KeyGiven nothing (bodies_in t)) (frames_in t) (frames_in u)
 program_frames R l t u st e = step_keeps_frames R l Elsewhere t u st false (one a_program) refl e outermost None (λ z. refl)
 
 -- ---- any number of steps
 
 module _ (R : Position → Tree → Tree → Type 0) (l : KeepsFrames R) (b : KeepsBodies R) where
   reaches_frames : (holds : Tree → Bool) → ((t : Tree) → holds t ≡ true → IsWellShaped t) → ((t u : Tree) → Step R Elsewhere t u → holds t ≡ true → holds u ≡ true) → (p : Position) (t u : Tree) → Reaches R p t u → p ≡ Elsewhere → holds t ≡ true
-      → FramesShown (KeyGiven nothing (bodies_in t)) (frames_in t) (frames_in u)
-  reaches_frames holds shaped stays _ _ _ (done p t) q e = shown_themselves (KeyGiven nothing (bodies_in t)) (frames_in t)
+      → FramesShown none_gone (KeyGiven nothing (bodies_in t)) (frames_in t) (frames_in u)
+  reaches_frames holds shaped stays _ _ _ (done p t) q e = shown_themselves none_gone (KeyGiven nothing (bodies_in t)) (frames_in t)
   reaches_frames holds shaped stays _ _ _ (more p t u v s r) q e =
       let st : Step R Elsewhere t u = subst (λ x. Step R x t u) q s in
-      shown_on (KeyGiven nothing (bodies_in t)) (frames_in t) (frames_in u) (frames_in v) (program_frames R l t u st (shaped t e))
-      (frames_more (KeyGiven nothing (bodies_in u)) (KeyGiven nothing (bodies_in t)) (given_kept (bodies_in t) (bodies_in u) (step_keeps_bodies R b Elsewhere t u st false (one a_program) refl (shaped t e) outermost whole_stands)) (frames_in u) (frames_in v)
+      shown_on none_gone (KeyGiven nothing (bodies_in t)) (frames_in t) (frames_in u) (frames_in v) (program_frames R l t u st (shaped t e))
+      (frames_more none_gone (KeyGiven nothing (bodies_in u)) (KeyGiven nothing (bodies_in t)) (given_kept (bodies_in t) (bodies_in u) (step_keeps_bodies R b Elsewhere t u st false (one a_program) refl (shaped t e) outermost whole_stands)) (frames_in u) (frames_in v)
       (reaches_frames holds shaped stays p u v r q (stays t u st e)))
 
 pub reaches_keeps_frames : (R : Position → Tree → Tree → Type 0) → ReachesKeepsFrames R

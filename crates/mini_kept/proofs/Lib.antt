@@ -55,3 +55,4 @@ pub mod Lawful
 pub mod Gone
 pub mod Loosely
 pub mod Undeclared
+pub mod Refixed

@@ -1,9 +1,10 @@
 -- What any number of steps of a loosely lawful relation keep, and loosely lawful relations.
-use Rattle.std.specs.Prelude.{ℕ, zero, suc, ◌≤◌, ◌≡◌, ◌⊎◌, refl, false, []}
+use Rattle.std.specs.Prelude.{ℕ, zero, suc, ◌≤◌, ◌≡◌, ◌⊎◌, refl, Bool, true, false, List, [], None}
 use Rattle.std.proofs.Common.{ap, ◌∙◌, sym, subst, inl, inr, arith, true≢false}
 use Rattle.std.proofs.lemmas.Bool.{eqb-true, eq-eqb}
 use Rattle.mini_model.specs.declared.place.Position.{Position}
 use Rattle.mini_model.specs.declared.place.Position.TheVariants.{Elsewhere}
+use Rattle.mini_model.specs.declared.shape.Shape.{Shape}
 use Rattle.mini_model.specs.Tree.{Tree, Trees, node, ◌▸◌, count}
 use Rattle.mini_model.specs.Position.{child_position}
 use Rattle.mini_model.specs.Rewriting.{Step, here, inside, StepIn, first, later, Reaches, done, more}
@@ -11,7 +12,7 @@ use Rattle.mini_accept.specs.WellShaped.{one, a_program, IsWellShaped}
 use Rattle.mini_laws.specs.declared.names.Use.TheVariants.{Read}
 use Rattle.mini_laws.specs.Scoped.{Scoped}
 use Rattle.mini_laws.specs.Symbols.{declared_symbols, times, Distinct, Within}
-use Rattle.mini_laws.specs.Value.{Declared, Global, VariableSet, nothing}
+use Rattle.mini_laws.specs.Value.{Variable, Declared, Global, VariableSet, nothing}
 use Rattle.mini_laws.specs.State.{Environment}
 use Rattle.mini_laws.specs.Naming.{summary}
 use Rattle.mini_laws.specs.Congruence.{ReadAlike}
@@ -24,11 +25,14 @@ use Rattle.mini_kept.specs.Loosely.{symbol, Stays, Drops, LawfulLoosely, undecla
 use Rattle.mini_kept.specs.Without.{BodiesWithout, KeepsBodiesWithout}
 use Rattle.mini_kept.proofs.BodySteps.{step_without, whole_stands}
 use Rattle.mini_kept.proofs.Declared.{reaches_declared}
-use Rattle.mini_kept.proofs.Fixed.{fixities_kept}
-use Rattle.mini_kept.specs.Frames.{frames_in}
-use Rattle.mini_kept.specs.ShownFrames.{KeyGiven, FramesShown}
-use Rattle.mini_kept.proofs.FrameSteps.{program_frames}
-use Rattle.mini_kept.proofs.ShownFrames.{frames_more, shown_on, shown_themselves, given_seldom, given_before}
+use Rattle.mini_laws.specs.Fixity.{fixed_by, written_in}
+use Rattle.mini_kept.proofs.Fixed.{step_fixed}
+use Rattle.mini_kept.specs.Frames.{frames, frames_in}
+use Rattle.mini_kept.specs.KeepsFrames.{KeepsPlaces, KeepsFramesBut}
+use Rattle.mini_kept.specs.Fixities.{KeepsFixitiesBut}
+use Rattle.mini_kept.specs.ShownFrames.{KeyGiven, no_key, gone_from, FramesShown}
+use Rattle.mini_kept.proofs.FrameSteps.{places_of, step_frames_but}
+use Rattle.mini_kept.proofs.ShownFrames.{all_frames_more, frames_more, gone_more, kept_shown, shown_on, shown_themselves, given_seldom, given_before}
 use Rattle.mini_kept.proofs.Gone.{step_less, avoids}
 use Rattle.mini_kept.proofs.Lawful.{reaches_root, keyless_program}
 use Rattle.mini_kept.proofs.Steps.{any_step_fits}
@@ -53,9 +57,9 @@ still_gone t u w (Global s) h = absurd (true≢false (sym h))
 
 -- ---- steps
 
-module _ (R : Position → Tree → Tree → Type 0) (l : LawfulLoosely R) where
+module _ (R : Position → Tree → Tree → Type 0) (K : Shape → Bool) (l : LawfulLoosely K R) where
   names : KeepsNames R
-  names = l.frames.names
+  names = l.places.names
 
   program_fits : (t u : Tree) → Step R Elsewhere t u → IsWellShaped t → IsWellShaped u
   program_fits t u s e = any_step_fits R names l.shapes s false (one a_program) refl e
@@ -65,13 +69,13 @@ module _ (R : Position → Tree → Tree → Type 0) (l : LawfulLoosely R) where
   Staying p n w = R p n w × Stays p n w
 
   abbrev Dropping : ℕ → Position → Tree → Tree → Type 0
-  Dropping k p n w = R p n w × Drops k p n w
+  Dropping k p n w = R p n w × Drops K k p n w
 
   mutual
     told : {p : Position} {t u : Tree} → Step R p t u → Step Staying p t u ⊎ ((k : ℕ) × Step (Dropping k) p t u)
     told (here p n w r) = by (l.instances p n w r)
       where
-        by : Stays p n w ⊎ ((k : ℕ) × Drops k p n w) → Step Staying p n w ⊎ ((k : ℕ) × Step (Dropping k) p n w)
+        by : Stays p n w ⊎ ((k : ℕ) × Drops K k p n w) → Step Staying p n w ⊎ ((k : ℕ) × Step (Dropping k) p n w)
         by (inl d) = inl (here p n w (r, d))
         by (inr d) = inr (d.0, here p n w (r, d.1))
     told (inside p h xs n ts us s) = by (all_told s)
@@ -140,9 +144,38 @@ module _ (R : Position → Tree → Tree → Type 0) (l : LawfulLoosely R) where
       let scoped = one_step.scoped e v in
       kept_on (undeclared w) (bodies_in t) (bodies_in u) (bodies_in w) (all_more (undeclared u) (undeclared w) (still_gone u w (others.symbols f scoped)) (bodies_in t) (bodies_in u) (step_bodies t u st e scoped d)) (reaches_bodies p u w r q f scoped (one_step.distinct e v d))
 
+  -- ---- frames
+
+  narrowed_places : (S : Position → Tree → Tree → Type 0) → ((p : Position) (n w : Tree) → S p n w → R p n w) → KeepsPlaces S
+  narrowed_places S f = record {
+    names = record { places = λ p n w r. names.places p n w (f p n w r); pieces = λ p n w r. names.pieces p n w (f p n w r); keeps = λ p n w r. names.keeps p n w (f p n w r) };
+    slots = λ p n w r. l.places.slots p n w (f p n w r);
+    ports = λ p n w r. l.places.ports p n w (f p n w r);
+    listed = λ p n w e r. l.places.listed p n w e (f p n w r);
+    exported = λ p n w r. l.places.exported p n w (f p n w r);
+  }
+
+  staying_frames : KeepsFramesBut (gone_from K nothing) Staying
+  staying_frames = record { places = narrowed_places Staying (λ p n w r. r.0); frames = λ p n w r strict s v e. kept_shown (gone_from K nothing) no_key (frames None n) (frames None w) (r.1.frames strict s v e) }
+
+  dropping_frames : (k : ℕ) → KeepsFramesBut (gone_from K (alone (Declared k))) (Dropping k)
+  dropping_frames k = record { places = narrowed_places (Dropping k) (λ p n w r. r.0); frames = λ p n w r. r.1.frames }
+
+  step_frames : (t u : Tree) → Step R Elsewhere t u → IsWellShaped t → Distinct (declared_symbols t) → FramesShown (gone_from K (undeclared u)) (KeyGiven nothing (bodies_in t)) (frames_in t) (frames_in u)
+  step_frames t u s e d = by (told s)
+    where
+      G : ℕ → List ℕ → Type 0
+      G = KeyGiven nothing (bodies_in t)
+
+      by : Step Staying Elsewhere t u ⊎ ((k : ℕ) × Step (Dropping k) Elsewhere t u) → FramesShown (gone_from K (undeclared u)) G (frames_in t) (frames_in u)
+      by (inl x) = all_frames_more (gone_from K nothing) (gone_from K (undeclared u)) G G (gone_more K nothing (undeclared u) (nothing_gone (undeclared u))) (λ n s g. g) (frames_in t) (frames_in u) (step_frames_but (gone_from K nothing) Staying staying_frames t u x e)
+      by (inr (k, x)) =
+          all_frames_more (gone_from K (alone (Declared k))) (gone_from K (undeclared u)) G G (gone_more K (alone (Declared k)) (undeclared u) (one_gone k u (dropped k t u x d))) (λ n s g. g) (frames_in t) (frames_in u)
+          (step_frames_but (gone_from K (alone (Declared k))) (Dropping k) (dropping_frames k) t u x e)
+
   -- a key that only gives a property does so before, too, where nobody else sees what is gone
-  reaches_frames : (p : Position) (t u : Tree) → Reaches R p t u → p ≡ Elsewhere → IsWellShaped t → Scoped Read [] t → Distinct (declared_symbols t) → FramesShown (KeyGiven (undeclared u) (bodies_in t)) (frames_in t) (frames_in u)
-  reaches_frames _ _ _ (done p t) q e v d = shown_themselves (KeyGiven (undeclared t) (bodies_in t)) (frames_in t)
+  reaches_frames : (p : Position) (t u : Tree) → Reaches R p t u → p ≡ Elsewhere → IsWellShaped t → Scoped Read [] t → Distinct (declared_symbols t) → FramesShown (gone_from K (undeclared u)) (KeyGiven (undeclared u) (bodies_in t)) (frames_in t) (frames_in u)
+  reaches_frames _ _ _ (done p t) q e v d = shown_themselves (gone_from K (undeclared t)) (KeyGiven (undeclared t) (bodies_in t)) (frames_in t)
   reaches_frames _ _ _ (more p t u w s r) q e v d =
       let st : Step R Elsewhere t u = subst (λ x. Step R x t u) q s in
       let rest : Reaches R Elsewhere u w = subst (λ x. Reaches R x u w) q r in
@@ -150,17 +183,53 @@ module _ (R : Position → Tree → Tree → Type 0) (l : LawfulLoosely R) where
       let others : ProgramKeeps u w = any_reaches_keep R names l.shapes u w rest in
       let f = program_fits t u st e in
       let scoped = one_step.scoped e v in
-      let kept = all_more (undeclared u) (undeclared w) (still_gone u w (others.symbols f scoped)) (bodies_in t) (bodies_in u) (step_bodies t u st e scoped d) in
-      shown_on (KeyGiven (undeclared w) (bodies_in t)) (frames_in t) (frames_in u) (frames_in w)
-      (frames_more (KeyGiven nothing (bodies_in t)) (KeyGiven (undeclared w) (bodies_in t)) (given_seldom (undeclared w) (bodies_in t)) (frames_in t) (frames_in u) (program_frames R l.frames t u st e))
-      (frames_more (KeyGiven (undeclared w) (bodies_in u)) (KeyGiven (undeclared w) (bodies_in t)) (given_before (undeclared w) (bodies_in t) (bodies_in u) kept) (frames_in u) (frames_in w) (reaches_frames p u w r q f scoped (one_step.distinct e v d)))
+      let gone = still_gone u w (others.symbols f scoped) in
+      let kept = all_more (undeclared u) (undeclared w) gone (bodies_in t) (bodies_in u) (step_bodies t u st e scoped d) in
+      let M = gone_from K (undeclared w) in
+      shown_on M (KeyGiven (undeclared w) (bodies_in t)) (frames_in t) (frames_in u) (frames_in w)
+      (all_frames_more (gone_from K (undeclared u)) M (KeyGiven nothing (bodies_in t)) (KeyGiven (undeclared w) (bodies_in t)) (gone_more K (undeclared u) (undeclared w) gone) (given_seldom (undeclared w) (bodies_in t)) (frames_in t) (frames_in u) (step_frames t u st e d))
+      (frames_more M (KeyGiven (undeclared w) (bodies_in u)) (KeyGiven (undeclared w) (bodies_in t)) (given_before (undeclared w) (bodies_in t) (bodies_in u) kept) (frames_in u) (frames_in w) (reaches_frames p u w r q f scoped (one_step.distinct e v d)))
 
-  pub loosely_keeps : (t u : Tree) → Reaches R Elsewhere t u → IsWellShaped t → ProgramIsKeptLoosely t u
+  -- ---- what a write of a variable does that is still declared
+
+  not_part : (D E : VariableSet) → Part D E → (x : Variable) → E x ≡ false → D x ≡ false
+  not_part D E f x e = by (D x) refl
+    where
+      by : (b : Bool) → D x ≡ b → D x ≡ false
+      by true q = absurd (true≢false (sym (f x q) ∙ e))
+      by false q = q
+
+  staying_fixed : KeepsFixitiesBut nothing Staying
+  staying_fixed = record { reads = λ p n w r. l.reads p n w r.0; fixed = λ p n w r x d. r.1.fixed x }
+
+  dropping_fixed : (k : ℕ) → KeepsFixitiesBut (alone (Declared k)) (Dropping k)
+  dropping_fixed k = record { reads = λ p n w r. l.reads p n w r.0; fixed = λ p n w r. r.1.fixed }
+
+  step_fixities : (t u : Tree) → Step R Elsewhere t u → Distinct (declared_symbols t) → (x : Variable) → undeclared u x ≡ false → fixed_by t x ≡ fixed_by u x
+  step_fixities t u s d x h = by (told s)
+    where
+      by : Step Staying Elsewhere t u ⊎ ((k : ℕ) × Step (Dropping k) Elsewhere t u) → fixed_by t x ≡ fixed_by u x
+      by (inl y) = step_fixed nothing Staying staying_fixed y x refl
+      by (inr (k, y)) = step_fixed (alone (Declared k)) (Dropping k) (dropping_fixed k) y x (not_part (alone (Declared k)) (undeclared u) (one_gone k u (dropped k t u y d)) x h)
+
+  reaches_fixities : (p : Position) (t u : Tree) → Reaches R p t u → p ≡ Elsewhere → IsWellShaped t → Scoped Read [] t → Distinct (declared_symbols t) → (x : Variable) → undeclared u x ≡ false → fixed_by t x ≡ fixed_by u x
+  reaches_fixities _ _ _ (done p t) q e v d x h = refl
+  reaches_fixities _ _ _ (more p t u w s r) q e v d x h =
+      let st : Step R Elsewhere t u = subst (λ x. Step R x t u) q s in
+      let rest : Reaches R Elsewhere u w = subst (λ x. Reaches R x u w) q r in
+      let one_step : ProgramKeeps t u = any_reaches_keep R names l.shapes t u (more Elsewhere t u u st (done Elsewhere u)) in
+      let others : ProgramKeeps u w = any_reaches_keep R names l.shapes u w rest in
+      let f = program_fits t u st e in
+      let scoped = one_step.scoped e v in
+      let still = not_part (undeclared u) (undeclared w) (still_gone u w (others.symbols f scoped)) x h in
+      step_fixities t u st d x still ∙ reaches_fixities p u w r q f scoped (one_step.distinct e v d) x h
+
+  pub loosely_keeps : (t u : Tree) → Reaches R Elsewhere t u → IsWellShaped t → ProgramIsKeptLoosely K t u
   loosely_keeps t u r e = record {
     names = any_reaches_keep R names l.shapes t u r;
     bodies = reaches_bodies Elsewhere t u r refl e;
     frames = reaches_frames Elsewhere t u r refl e;
-    fixities = fixities_kept R (record { reads = l.reads; fixed = l.fixed }) Elsewhere t u r;
+    fixities = λ v d strict x h. ap (written_in strict) (reaches_fixities Elsewhere t u r refl e v d x h);
     declared = reaches_declared R l.declared r;
     root = reaches_root R names refl (keyless_program t e) r;
   }
@@ -169,14 +238,13 @@ module _ (R : Position → Tree → Tree → Type 0) (l : LawfulLoosely R) where
 
 module _ (R : Position → Tree → Tree → Type 0) where
   pub lawful_is_loose : LawfulIsLoose R
-  lawful_is_loose l = record {
+  lawful_is_loose K l = record {
     shapes = l.shapes;
-    frames = l.frames;
+    places = places_of R l.frames;
     reads = l.bodies.means.reads;
     kind = l.bodies.kind;
-    fixed = l.fixed;
     declared = l.declared;
-    instances = λ p n w r. inl (record { same = l.bodies.means.same p n w r; bodies = λ strict s q e a z. l.bodies.bodies p n w r strict s q e a z });
+    instances = λ p n w r. inl (record { same = l.bodies.means.same p n w r; fixed = l.fixed p n w r; frames = l.frames.frames p n w r; bodies = λ strict s q e a z. l.bodies.bodies p n w r strict s q e a z });
   }
 
 module _ (R S : Position → Tree → Tree → Type 0) where
@@ -189,19 +257,17 @@ module _ (R S : Position → Tree → Tree → Type 0) where
   either_row p n w f g (inr s) = g s
 
   pub loose_join : LooseJoin R S
-  loose_join l m = record {
+  loose_join K l m = record {
     shapes = record { fitting = one_or_other l.shapes.fitting m.shapes.fitting; asked = one_or_other l.shapes.asked m.shapes.asked };
-    frames = record {
-      names = record { places = one_or_other l.frames.names.places m.frames.names.places; pieces = one_or_other l.frames.names.pieces m.frames.names.pieces; keeps = one_or_other l.frames.names.keeps m.frames.names.keeps };
-      slots = one_or_other l.frames.slots m.frames.slots;
-      ports = one_or_other l.frames.ports m.frames.ports;
-      listed = λ p n w e. either_row p n w (l.frames.listed p n w e) (m.frames.listed p n w e);
-      exported = one_or_other l.frames.exported m.frames.exported;
-      frames = one_or_other l.frames.frames m.frames.frames;
+    places = record {
+      names = record { places = one_or_other l.places.names.places m.places.names.places; pieces = one_or_other l.places.names.pieces m.places.names.pieces; keeps = one_or_other l.places.names.keeps m.places.names.keeps };
+      slots = one_or_other l.places.slots m.places.slots;
+      ports = one_or_other l.places.ports m.places.ports;
+      listed = λ p n w e. either_row p n w (l.places.listed p n w e) (m.places.listed p n w e);
+      exported = one_or_other l.places.exported m.places.exported;
     };
     reads = one_or_other l.reads m.reads;
     kind = one_or_other l.kind m.kind;
-    fixed = one_or_other l.fixed m.fixed;
     declared = one_or_other l.declared m.declared;
     instances = one_or_other l.instances m.instances;
   }
@@ -210,19 +276,17 @@ module _ (R S : Position → Tree → Tree → Type 0) where
   narrowed f g p n w r = g p n w (f p n w r)
 
   pub loose_narrowed : LooseNarrowed R S
-  loose_narrowed f l = record {
+  loose_narrowed K f l = record {
     shapes = record { fitting = narrowed f l.shapes.fitting; asked = narrowed f l.shapes.asked };
-    frames = record {
-      names = record { places = narrowed f l.frames.names.places; pieces = narrowed f l.frames.names.pieces; keeps = narrowed f l.frames.names.keeps };
-      slots = narrowed f l.frames.slots;
-      ports = narrowed f l.frames.ports;
-      listed = λ p n w e r. l.frames.listed p n w e (f p n w r);
-      exported = narrowed f l.frames.exported;
-      frames = narrowed f l.frames.frames;
+    places = record {
+      names = record { places = narrowed f l.places.names.places; pieces = narrowed f l.places.names.pieces; keeps = narrowed f l.places.names.keeps };
+      slots = narrowed f l.places.slots;
+      ports = narrowed f l.places.ports;
+      listed = λ p n w e r. l.places.listed p n w e (f p n w r);
+      exported = narrowed f l.places.exported;
     };
     reads = narrowed f l.reads;
     kind = narrowed f l.kind;
-    fixed = narrowed f l.fixed;
     declared = narrowed f l.declared;
     instances = narrowed f l.instances;
   }

@@ -1,13 +1,14 @@
 -- Frames that show what others do, one after another, and what a key gives that another body stands for.
-use Rattle.std.specs.Prelude.{ℕ, zero, suc, ◌≡◌, refl, ◌⊎◌, Bool, true, false, List, [], ◌∷◌, ◌++◌, None, Some, Contains, if◌then◌else◌}
+use Rattle.std.specs.Prelude.{ℕ, zero, suc, ◌≡◌, refl, ◌⊎◌, ◌&&◌, Bool, true, false, List, [], ◌∷◌, ◌++◌, None, Some, Contains, if◌then◌else◌}
 use Rattle.std.proofs.Common.{ap, ◌∙◌, sym, subst, inl, inr, arith}
-use Rattle.std.proofs.lemmas.Bool.{false≢true}
+use Rattle.std.proofs.lemmas.Bool.{and_parts, false≢true}
 use Rattle.std.proofs.lemmas.List.Elements.{Contains-append_left, Contains-append_right, Contains-append_cases}
 use Rattle.mini_model.specs.declared.name.Name.{Name}
 use Rattle.mini_model.specs.declared.shape.Shape.{Shape}
 use Rattle.mini_model.specs.declared.shape.Shape.TheVariants as shape
-use Rattle.mini_model.specs.Tree.{Tree, Trees, node, none, ◌▸◌}
-use Rattle.mini_laws.specs.Value.{Value, Variable, VariableSet, Slot, nothing}
+use Rattle.mini_model.specs.Tree.{Tree, Trees, node, none, ◌▸◌, absent, shape_of, children}
+use Rattle.mini_laws.specs.DeclaredNames.{own_names}
+use Rattle.mini_laws.specs.Value.{Value, Variable, VariableSet, Slot, nothing, variables}
 use Rattle.mini_laws.specs.State.{Answer, Environment}
 use Rattle.mini_laws.specs.Body.{BodyKind, InnerValue, Ran, Run, start_of}
 use Rattle.mini_laws.specs.Bodies.{Body}
@@ -15,7 +16,8 @@ use Rattle.mini_laws.proofs.Congruent.{no_init}
 use Rattle.mini_kept.specs.AlikeBodies.{KindKept, BodiesKept}
 use Rattle.mini_kept.specs.Without.{Unseen, AlikeWithout, BodiesWithout}
 use Rattle.mini_kept.specs.Frames.{property_key, has_key, unbracketed, first_as_key, keyed, Frame, FramesKept}
-use Rattle.mini_kept.specs.ShownFrames.{OnlyGives, KeyGiven, ShowsKey, Shows, ShowsBare, AllShow, FrameShown, FramesShown}
+use Rattle.mini_kept.specs.Carried.{number_of}
+use Rattle.mini_kept.specs.ShownFrames.{OnlyGives, KeyGiven, ShowsKey, Shows, ShowsBare, AllShow, no_key, Gone, none_gone, is_named_expression, gone_from, AllGone, LosesName, FrameShown, FramesShown}
 use Rattle.mini_kept.proofs.WithoutLists.{from_kept, unseen_nothing, kept_stands}
 
 abbrev Keys : Type 1
@@ -168,41 +170,176 @@ module _ (G H : Keys) (more : (n : ℕ) (s : List ℕ) → G n s → H n s) wher
     all_more (t ▸ ts) none a = absurd a
     all_more (t ▸ ts) (u ▸ us) a = (shows_more t u a.0, all_more ts us a.1)
 
-  pub frames_more : (fs gs : List Frame) → FramesShown G fs gs → FramesShown H fs gs
-  frames_more fs gs k g x =
+-- ---- a name that is gone
+
+no_keyed_name : (h : Shape) → has_key h ≡ true → is_named_expression h ≡ true → ⊥
+no_keyed_name (shape.BindingProperty s c) k e = false≢true e
+no_keyed_name (shape.AssignmentTargetPropertyProperty c) k e = false≢true e
+no_keyed_name (shape.MethodDefinition l c s) k e = false≢true e
+no_keyed_name (shape.PropertyDefinition c s) k e = false≢true e
+no_keyed_name h k e = false≢true k
+
+no_bare_name : (h : Shape) → has_key h ≡ true → is_named_expression (unbracketed h) ≡ true → ⊥
+no_bare_name (shape.BindingProperty s c) k e = false≢true e
+no_bare_name (shape.AssignmentTargetPropertyProperty c) k e = false≢true e
+no_bare_name (shape.MethodDefinition l c s) k e = false≢true e
+no_bare_name (shape.PropertyDefinition c s) k e = false≢true e
+no_bare_name h k e = false≢true k
+
+abbrev other_trees : Trees → Trees
+other_trees none = none
+other_trees (t ▸ ts) = ts
+
+more_gone : (D E : VariableSet) → ((x : Variable) → D x ≡ true → E x ≡ true) → (xs : List Variable) → AllGone D xs → AllGone E xs
+more_gone D E f [] a = tt
+more_gone D E f (x ∷ xs) a = (f x a.0, more_gone D E f xs a.1)
+
+module _ (M : Gone) (G : Keys) where
+  shown_names : (t u : Tree) → Shows G t u → own_names t ≡ own_names u
+  shown_names (node h xs n ts) (node i ys m us) a = a.0
+
+  absent_alone : (t : Tree) → Shows G absent t → t ≡ absent
+  absent_alone (node h xs n ts) (a, b, inl (e, c)) = sym (λ j. node (e j) (a j) (b j) (sym (none_others G ts c) j))
+  absent_alone (node h xs n ts) (a, b, inr c) = absurd c
+
+  -- what shows a node that then loses its name loses it
+  lost_after : (t u v : Tree) → Shows G t u → LosesName M G u v → LosesName M G t v
+  lost_after t u v a l = by t (subst (Shows G t) l.earlier a)
+    where
+      of_children : (h : Shape) (xs : List Name) (n : ℕ) (ts : Trees) → h ≡ l.shape → xs ≡ l.names → n ≡ l.number → AllShow G ts (l.name ▸ l.before) → LosesName M G (node h xs n ts) v
+      of_children h xs n none e f g c = absurd c
+      of_children h xs n (s ▸ ts) e f g c = record {
+        shape = l.shape;
+        names = l.names;
+        number = l.number;
+        name = s;
+        before = ts;
+        after = l.after;
+        named = l.named;
+        earlier = λ j. node (e j) (f j) (g j) (s ▸ ts);
+        later = l.later;
+        gone = subst (λ ys. AllGone (M l.shape) (variables ys)) (sym (shown_names s l.name c.0)) l.gone;
+        others = all_on G ts l.before l.after c.1 l.others;
+      }
+
+      by : (t : Tree) → Shows G t (node l.shape l.names l.number (l.name ▸ l.before)) → LosesName M G t v
+      by (node h xs n ts) (f, g, inl (e, c)) = of_children h xs n ts e f g c
+      by (node h xs n ts) (f, g, inr c) = let (k, e) = bare_key G h l.shape ts (l.name ▸ l.before) c in absurd (no_bare_name h k (ap is_named_expression e ∙ l.named))
+
+  -- and what is shown later has lost it
+  lost_before : (t u v : Tree) → LosesName M G t u → Shows G u v → LosesName M G t v
+  lost_before t u v l a = by v (subst (λ w. Shows G w v) l.later a)
+    where
+      of_children : (i : Shape) (ys : List Name) (m : ℕ) (vs : Trees) → l.shape ≡ i → l.names ≡ ys → l.number ≡ m → AllShow G (absent ▸ l.after) vs → LosesName M G t (node i ys m vs)
+      of_children i ys m none e f g c = absurd c
+      of_children i ys m (w ▸ vs) e f g c = record {
+        shape = l.shape;
+        names = l.names;
+        number = l.number;
+        name = l.name;
+        before = l.before;
+        after = vs;
+        named = l.named;
+        earlier = l.earlier;
+        later = λ j. node (sym e j) (sym f j) (sym g j) (absent_alone w c.0 j ▸ vs);
+        gone = l.gone;
+        others = all_on G l.before l.after vs l.others c.1;
+      }
+
+      by : (v : Tree) → Shows G (node l.shape l.names l.number (absent ▸ l.after)) v → LosesName M G t v
+      by (node i ys m vs) (f, g, inl (e, c)) = of_children i ys m vs e f g c
+      by (node i ys m vs) (f, g, inr c) = absurd (no_keyed_name l.shape (bare_key G l.shape i (absent ▸ l.after) vs c).0 l.named)
+
+  lost_twice : (t u v : Tree) → LosesName M G t u → LosesName M G u v → LosesName M G t v
+  lost_twice t u v l m =
+      let e : node l.shape l.names l.number (absent ▸ l.after) ≡ node m.shape m.names m.number (m.name ▸ m.before) = sym l.later ∙ m.earlier in
+      let rest : l.after ≡ m.before = ap (λ x. other_trees (children x)) e in
+      record {
+        shape = l.shape;
+        names = l.names;
+        number = l.number;
+        name = l.name;
+        before = l.before;
+        after = m.after;
+        named = l.named;
+        earlier = l.earlier;
+        later = m.later ∙ sym (λ j. node (shape_of (e j)) (own_names (e j)) (number_of (e j)) (absent ▸ m.after));
+        gone = l.gone;
+        others = all_on G l.before l.after m.after l.others (subst (λ ts. AllShow G ts m.after) (sym rest) m.others);
+      }
+
+-- ---- more keys and names
+
+module _ (M N : Gone) (G H : Keys) (less : (h : Shape) (x : Variable) → M h x ≡ true → N h x ≡ true) (more : (n : ℕ) (s : List ℕ) → G n s → H n s) where
+  lost_more : (t u : Tree) → LosesName M G t u → LosesName N H t u
+  lost_more t u l = record {
+    shape = l.shape;
+    names = l.names;
+    number = l.number;
+    name = l.name;
+    before = l.before;
+    after = l.after;
+    named = l.named;
+    earlier = l.earlier;
+    later = l.later;
+    gone = more_gone (M l.shape) (N l.shape) (less l.shape) (variables (own_names l.name)) l.gone;
+    others = all_more G H more l.before l.after l.others;
+  }
+
+  outline_more : (t u : Tree) → Shows G t u ⊎ LosesName M G t u → Shows H t u ⊎ LosesName N H t u
+  outline_more t u (inl a) = inl (shows_more G H more t u a)
+  outline_more t u (inr a) = inr (lost_more t u a)
+
+  pub all_frames_more : (fs gs : List Frame) → FramesShown M G fs gs → FramesShown N H fs gs
+  all_frames_more fs gs k g x =
       let (f, there, a) = k g x in
-      (f, there, record { number = a.number; property = a.property; outline = shows_more f.outline g.outline a.outline; globals = a.globals })
+      (f, there, record { number = a.number; property = a.property; outline = outline_more f.outline g.outline a.outline; globals = a.globals })
+
+pub frames_more : (M : Gone) (G H : Keys) → ((n : ℕ) (s : List ℕ) → G n s → H n s) → (fs gs : List Frame) → FramesShown M G fs gs → FramesShown M H fs gs
+frames_more M G H more = all_frames_more M M G H (λ h x e. e) more
+
+pub none_less : (N : Gone) (h : Shape) (x : Variable) → none_gone h x ≡ true → N h x ≡ true
+none_less N h x e = absurd (false≢true e)
+
+pub gone_more : (K : Shape → Bool) (D E : VariableSet) → ((x : Variable) → D x ≡ true → E x ≡ true) → (h : Shape) (x : Variable) → gone_from K D h x ≡ true → gone_from K E h x ≡ true
+gone_more K D E f h x e = let (k, d) = and_parts (K h) (D x) e in λ i. k i && f x d i
 
 -- ---- lists of frames
 
-module _ (G : Keys) where
-  frame_itself : (f : Frame) → FrameShown G f f
-  frame_itself f = record { number = refl; property = refl; outline = shows_itself G f.outline; globals = refl }
+module _ (M : Gone) (G : Keys) where
+  frame_itself : (f : Frame) → FrameShown M G f f
+  frame_itself f = record { number = refl; property = refl; outline = inl (shows_itself G f.outline); globals = refl }
 
-  pub kept_shown : (fs gs : List Frame) → FramesKept fs gs → FramesShown G fs gs
+  pub kept_shown : (fs gs : List Frame) → FramesKept fs gs → FramesShown M G fs gs
   kept_shown fs gs k g x = (g, k g x, frame_itself g)
 
-  pub shown_themselves : (fs : List Frame) → FramesShown G fs fs
+  pub shown_themselves : (fs : List Frame) → FramesShown M G fs fs
   shown_themselves fs g x = (g, x, frame_itself g)
 
-  frame_on : (f g h : Frame) → FrameShown G f g → FrameShown G g h → FrameShown G f h
-  frame_on f g h a b = record { number = a.number ∙ b.number; property = a.property ∙ b.property; outline = shows_on G f.outline g.outline h.outline a.outline b.outline; globals = a.globals ∙ b.globals }
+  outline_on : (t u v : Tree) → Shows G t u ⊎ LosesName M G t u → Shows G u v ⊎ LosesName M G u v → Shows G t v ⊎ LosesName M G t v
+  outline_on t u v (inl a) (inl b) = inl (shows_on G t u v a b)
+  outline_on t u v (inl a) (inr b) = inr (lost_after M G t u v a b)
+  outline_on t u v (inr a) (inl b) = inr (lost_before M G t u v a b)
+  outline_on t u v (inr a) (inr b) = inr (lost_twice M G t u v a b)
 
-  pub shown_on : (fs gs hs : List Frame) → FramesShown G fs gs → FramesShown G gs hs → FramesShown G fs hs
+  frame_on : (f g h : Frame) → FrameShown M G f g → FrameShown M G g h → FrameShown M G f h
+  frame_on f g h a b = record { number = a.number ∙ b.number; property = a.property ∙ b.property; outline = outline_on f.outline g.outline h.outline a.outline b.outline; globals = a.globals ∙ b.globals }
+
+  pub shown_on : (fs gs hs : List Frame) → FramesShown M G fs gs → FramesShown M G gs hs → FramesShown M G fs hs
   shown_on fs gs hs k l h x =
       let (g, there, b) = l h x in
       let (f, here, a) = k g there in
       (f, here, frame_on f g h a b)
 
-  pub one_shown : (f g : Frame) → FrameShown G f g → FramesShown G (f ∷ []) (g ∷ [])
-  one_shown f g a h (zero, below, at) = (f, (0, omega arith, refl), subst (FrameShown G f) at a)
+  pub one_shown : (f g : Frame) → FrameShown M G f g → FramesShown M G (f ∷ []) (g ∷ [])
+  one_shown f g a h (zero, below, at) = (f, (0, omega arith, refl), subst (FrameShown M G f) at a)
   one_shown f g a h (suc i, below, at) = absurd (omega (arith, below))
 
   -- of two lists, each of its own
-  pub each_shown : (es fs gs hs : List Frame) → FramesShown G es gs → FramesShown G fs hs → FramesShown G (es ++ fs) (gs ++ hs)
+  pub each_shown : (es fs gs hs : List Frame) → FramesShown M G es gs → FramesShown M G fs hs → FramesShown M G (es ++ fs) (gs ++ hs)
   each_shown es fs gs hs k l f x = by (Contains-append_cases gs hs f x)
     where
-      by : Contains gs f ⊎ Contains hs f → (e : Frame) × Contains (es ++ fs) e × FrameShown G e f
+      by : Contains gs f ⊎ Contains hs f → (e : Frame) × Contains (es ++ fs) e × FrameShown M G e f
       by (inl y) = let (e, there, a) = k f y in (e, Contains-append_left es fs e there, a)
       by (inr y) = let (e, there, a) = l f y in (e, Contains-append_right es fs e there, a)
 

@@ -13,7 +13,7 @@ use Rattle.mini_laws.specs.Bodies.{bodies_in}
 use Rattle.mini_kept.specs.AlikeBodies.{BodiesKept}
 use Rattle.mini_kept.specs.Declaring.{declared}
 use Rattle.mini_kept.specs.Frames.{frames_in}
-use Rattle.mini_kept.specs.ShownFrames.{KeyGiven, FramesShown}
+use Rattle.mini_kept.specs.ShownFrames.{KeyGiven, none_gone, FramesShown}
 use Rattle.mini_kept.specs.Kept.{over}
 use Rattle.mini_kept.specs.KeepsBodies.{KeepsBodies}
 use Rattle.mini_kept.specs.KeepsFrames.{KeepsFrames}
@@ -33,7 +33,7 @@ pub record Lawful (R : Position → Tree → Tree → Type 0) : Type 0 where
 pub record ProgramIsKept (t u : Tree) : Type 0 where
   pub names : ProgramKeeps t u
   pub bodies : BodiesKept (bodies_in t) (bodies_in u)
-  pub frames : FramesShown (KeyGiven nothing (bodies_in t)) (frames_in t) (frames_in u)
+  pub frames : FramesShown none_gone (KeyGiven nothing (bodies_in t)) (frames_in t) (frames_in u)
   -- what a write of each variable does
   pub fixities : (strict : Bool) (x : Variable) → fixed_in strict t x ≡ fixed_in strict u x
   pub declared : (x : Name) → Contains (declared u) x → Contains (declared t) x

@@ -1,10 +1,11 @@
 -- A relation of rewriting that keeps all that a program has to keep but names that nothing mentions, and what any number of its
 -- steps keep.
-use Rattle.std.specs.Prelude.{ℕ, ◌≡◌, ◌+◌, ◌≤◌, ◌⊎◌, nat_eq, Bool, true, false, Contains, [], Option, Some}
+use Rattle.std.specs.Prelude.{ℕ, ◌≡◌, ◌+◌, ◌≤◌, ◌⊎◌, nat_eq, Bool, true, false, Contains, [], Option, None, Some}
 use Rattle.mini_model.specs.declared.name.Name.{Name}
 use Rattle.mini_model.specs.declared.name.SymbolId.{SymbolId}
 use Rattle.mini_model.specs.declared.place.Position.{Position}
 use Rattle.mini_model.specs.declared.place.Position.TheVariants.{Elsewhere}
+use Rattle.mini_model.specs.declared.shape.Shape.{Shape}
 use Rattle.mini_model.specs.Tree.{Tree, shape_of, children}
 use Rattle.mini_model.specs.Rewriting.{Reaches}
 use Rattle.mini_accept.specs.WellShaped.{Slot, fits, IsWellShaped}
@@ -25,10 +26,10 @@ use Rattle.mini_laws.specs.Substitution.{alone}
 use Rattle.mini_laws.specs.Bodies.{Around, bodies, bodies_in, arrow_kind}
 use Rattle.mini_kept.specs.AlikeBodies.{BodiesKept}
 use Rattle.mini_kept.specs.Declaring.{declared}
-use Rattle.mini_kept.specs.Frames.{frames_in}
-use Rattle.mini_kept.specs.ShownFrames.{KeyGiven, FramesShown}
+use Rattle.mini_kept.specs.Frames.{frames, frames_in, FramesKept}
+use Rattle.mini_kept.specs.ShownFrames.{KeyGiven, no_key, gone_from, FramesShown}
 use Rattle.mini_kept.specs.Kept.{over}
-use Rattle.mini_kept.specs.KeepsFrames.{KeepsFrames}
+use Rattle.mini_kept.specs.KeepsFrames.{KeepsPlaces}
 use Rattle.mini_kept.specs.KeepsShapes.{KeepsShapes}
 use Rattle.mini_kept.specs.Lawful.{Lawful}
 use Rattle.mini_kept.specs.Lifted.{ProgramKeeps}
@@ -39,31 +40,36 @@ use Rattle.mini_kept.specs.Without.{Unseen, BodiesWithout}
 abbrev pub symbol : ℕ → Option SymbolId
 symbol k = Some (record { 0 = k })
 
--- one node in the place of another that means the same everywhere, with its bodies
+-- one node in the place of another that means the same everywhere, with its bodies and frames, and what a write of each variable
+-- does
 pub record Stays (p : Position) (n w : Tree) : Type 0 where
   pub same : SameAt p n w
+  pub fixed : (x : Variable) → fixed_by n x ≡ fixed_by w x
+  pub frames : (strict : Bool) (s : Slot) → fits_place p s ≡ true → fits strict s n ≡ true → FramesKept (frames None n) (frames None w)
   pub bodies : (strict : Bool) (s : Slot) → fits_place p s ≡ true → fits strict s n ≡ true → (a : Around) → Stands s p a → BodiesKept (bodies a n) (bodies a w)
 
 -- One without a name that a scope in the other declares: the names that are seen around it are those, in order, and the
 -- symbol is declared in it once less. Where nobody else sees that variable it means the same but for what the variable
--- holds afterwards, and it has the bodies. That nothing in the later program mentions the symbol follows, where each name of
--- the program has the symbol that the scopes around it give and no symbol is declared twice
-pub record Drops (k : ℕ) (p : Position) (n w : Tree) : Type 0 where
+-- holds afterwards, and it has the bodies, and the frames but for that name, where it is the own one of a function or class that
+-- K lets lose it. What a write of any other variable does stays. That nothing in the later program mentions the symbol follows, where
+-- each name of the program has the symbol that the scopes around it give and no symbol is declared twice
+pub record Drops (K : Shape → Bool) (k : ℕ) (p : Position) (n w : Tree) : Type 0 where
   pub kept : Kept n w
   pub less : (v : Use) → times (symbol k) (declared_in v w) + 1 ≤ times (symbol k) (declared_in v n)
   pub same : (e : Environment) → Unseen (alone (Declared k)) e → (q : Demand) → Fits p q → Same e (alone (Declared k)) nothing q n w
+  pub fixed : (x : Variable) → alone (Declared k) x ≡ false → fixed_by n x ≡ fixed_by w x
+  pub frames : (strict : Bool) (s : Slot) → fits_place p s ≡ true → fits strict s n ≡ true → FramesShown (gone_from K (alone (Declared k))) no_key (frames None n) (frames None w)
   pub bodies : (strict : Bool) (s : Slot) → fits_place p s ≡ true → fits strict s n ≡ true → (a : Around) → Stands s p a → BodiesWithout (alone (Declared k)) (bodies a n) (bodies a w)
 
--- It keeps shapes, names and frames, a parent reads alike what it writes, and that declares no other name; each instance
--- stays, or drops one name
-pub record LawfulLoosely (R : Position → Tree → Tree → Type 0) : Type 0 where
+-- It keeps shapes, names and places, a parent reads alike what it writes, and that declares no other name; each instance
+-- stays, or drops one name. K says which functions and classes may lose their own name
+pub record LawfulLoosely (K : Shape → Bool) (R : Position → Tree → Tree → Type 0) : Type 0 where
   pub shapes : KeepsShapes R
-  pub frames : KeepsFrames R
+  pub places : KeepsPlaces R
   pub reads : (p : Position) (n w : Tree) → R p n w → summary n ≡ summary w
   pub kind : (p : Position) (n w : Tree) → R p n w → (strict : Bool) (s : Slot) → fits strict s n ≡ true → arrow_kind (shape_of n) ≡ arrow_kind (shape_of w)
-  pub fixed : (p : Position) (n w : Tree) → R p n w → (x : Variable) → fixed_by n x ≡ fixed_by w x
   pub declared : (p : Position) (n w : Tree) → R p n w → (x : Name) → Contains (declared w) x → Contains (declared n) x
-  pub instances : (p : Position) (n w : Tree) → R p n w → Stays p n w ⊎ ((k : ℕ) × Drops k p n w)
+  pub instances : (p : Position) (n w : Tree) → R p n w → Stays p n w ⊎ ((k : ℕ) × Drops K k p n w)
 
 -- the variables whose symbol a program doesn't declare
 abbrev pub undeclared : Tree → VariableSet
@@ -71,26 +77,26 @@ undeclared u (Declared k) = nat_eq (times (symbol k) (declared_symbols u)) 0
 undeclared u (Global s) = false
 
 -- what any number of steps keep of a program whose names are resolved: each body runs as before where nobody else sees a
--- variable that the later program doesn't declare
-pub record ProgramIsKeptLoosely (t u : Tree) : Type 0 where
+-- variable that the later program doesn't declare; what a write of each variable that it does declare does stays
+pub record ProgramIsKeptLoosely (K : Shape → Bool) (t u : Tree) : Type 0 where
   pub names : ProgramKeeps t u
   pub bodies : Scoped Read [] t → Distinct (declared_symbols t) → BodiesWithout (undeclared u) (bodies_in t) (bodies_in u)
-  pub frames : Scoped Read [] t → Distinct (declared_symbols t) → FramesShown (KeyGiven (undeclared u) (bodies_in t)) (frames_in t) (frames_in u)
-  pub fixities : (strict : Bool) (x : Variable) → fixed_in strict t x ≡ fixed_in strict u x
+  pub frames : Scoped Read [] t → Distinct (declared_symbols t) → FramesShown (gone_from K (undeclared u)) (KeyGiven (undeclared u) (bodies_in t)) (frames_in t) (frames_in u)
+  pub fixities : Scoped Read [] t → Distinct (declared_symbols t) → (strict : Bool) (x : Variable) → undeclared u x ≡ false → fixed_in strict t x ≡ fixed_in strict u x
   pub declared : (x : Name) → Contains (declared u) x → Contains (declared t) x
   pub root : u ≡ over t (children u)
 
 abbrev pub LooselyKeeps : (Position → Tree → Tree → Type 0) → Type 0
-LooselyKeeps R = LawfulLoosely R → (t u : Tree) → Reaches R Elsewhere t u → IsWellShaped t → ProgramIsKeptLoosely t u
+LooselyKeeps R = (K : Shape → Bool) → LawfulLoosely K R → (t u : Tree) → Reaches R Elsewhere t u → IsWellShaped t → ProgramIsKeptLoosely K t u
 
 -- what is lawful is so loosely
 abbrev pub LawfulIsLoose : (Position → Tree → Tree → Type 0) → Type 0
-LawfulIsLoose R = Lawful R → LawfulLoosely R
+LawfulIsLoose R = (K : Shape → Bool) → Lawful R → LawfulLoosely K R
 
 -- two loosely lawful relations make one
 abbrev pub LooseJoin : (Position → Tree → Tree → Type 0) → (Position → Tree → Tree → Type 0) → Type 0
-LooseJoin R S = LawfulLoosely R → LawfulLoosely S → LawfulLoosely (λ p t u. R p t u ⊎ S p t u)
+LooseJoin R S = (K : Shape → Bool) → LawfulLoosely K R → LawfulLoosely K S → LawfulLoosely K (λ p t u. R p t u ⊎ S p t u)
 
 -- and so is what makes no more than a loosely lawful one
 abbrev pub LooseNarrowed : (Position → Tree → Tree → Type 0) → (Position → Tree → Tree → Type 0) → Type 0
-LooseNarrowed R S = ((p : Position) (t u : Tree) → R p t u → S p t u) → LawfulLoosely S → LawfulLoosely R
+LooseNarrowed R S = (K : Shape → Bool) → ((p : Position) (t u : Tree) → R p t u → S p t u) → LawfulLoosely K S → LawfulLoosely K R

@@ -1,11 +1,15 @@
--- Frames that show what others do, where some keys have lost their brackets. A key in brackets is a body of its own; where it gives one
--- property key and does nothing else, it may stand without them, as that property (ECMA-262, "Runtime Semantics: Evaluation" of
--- ComputedPropertyName and of LiteralPropertyName). Its number is then in no frame any more.
-use Rattle.std.specs.Prelude.{◌≡◌, ◌⊎◌, ℕ, true, List, [], Contains, None, Some}
+-- Frames that show what others do, where some keys have lost their brackets, and some functions and classes their own name. A key in
+-- brackets is a body of its own; where it gives one property key and does nothing else, it may stand without them, as that property
+-- (ECMA-262, "Runtime Semantics: Evaluation" of ComputedPropertyName and of LiteralPropertyName). Its number is then in no frame any more.
+-- The name of a function or class expression is declared for what stands in it alone (ECMA-262,
+-- "InstantiateOrdinaryFunctionExpression", "ClassDefinitionEvaluation"); where nothing mentions it, it may go.
+use Rattle.std.specs.Prelude.{◌≡◌, ◌⊎◌, ◌&&◌, ℕ, Bool, true, false, not, List, [], ◌∷◌, Contains, None, Some}
+use Rattle.mini_model.specs.declared.name.Name.{Name}
 use Rattle.mini_model.specs.declared.shape.Shape.{Shape}
 use Rattle.mini_model.specs.declared.shape.Shape.TheVariants as shape
-use Rattle.mini_model.specs.Tree.{Tree, Trees, node, none, ◌▸◌}
-use Rattle.mini_laws.specs.Value.{Value, Variable, VariableSet, Slot}
+use Rattle.mini_model.specs.Tree.{Tree, Trees, node, none, ◌▸◌, absent}
+use Rattle.mini_laws.specs.DeclaredNames.{own_names}
+use Rattle.mini_laws.specs.Value.{Value, Variable, VariableSet, Slot, nothing, variables}
 use Rattle.mini_laws.specs.State.{Answer, Environment, seen}
 use Rattle.mini_laws.specs.Conversion.{makes, to_text}
 use Rattle.mini_laws.specs.Body.{InnerValue, NormalOf, Ran, Run}
@@ -62,12 +66,61 @@ abbrev mutual
   AllShow G (t ▸ ts) none = ⊥
   AllShow G (t ▸ ts) (u ▸ us) = Shows G t u × AllShow G ts us
 
-pub record FrameShown (G : ℕ → List ℕ → Type 0) (f g : Frame) : Type 0 where
+-- a frame tells all keys: none is given
+abbrev pub no_key : ℕ → List ℕ → Type 0
+no_key n s = ⊥
+
+-- ---- names that are gone
+
+-- of which shapes which variables may be gone as names
+abbrev pub Gone : Type 0
+Gone = Shape → VariableSet
+
+abbrev pub none_gone : Gone
+none_gone h = nothing
+
+-- what has a name of its own: a function expression or a class expression
+abbrev pub is_named_expression : Shape → Bool
+is_named_expression (shape.Function false is_generator directives) = true
+is_named_expression (shape.Class false) = true
+is_named_expression h = false
+
+-- whose names may go, where those of function expressions are kept or not, and those of class expressions
+abbrev pub loses_name : Bool → Bool → Shape → Bool
+loses_name functions_kept classes_kept (shape.Function false is_generator directives) = not functions_kept
+loses_name functions_kept classes_kept (shape.Class false) = not classes_kept
+loses_name functions_kept classes_kept h = false
+
+-- of those the names of these variables
+abbrev pub gone_from : (Shape → Bool) → VariableSet → Gone
+gone_from K D h x = K h && D x
+
+abbrev pub AllGone : VariableSet → List Variable → Type 0
+AllGone D [] = Unit {0}
+AllGone D (x ∷ xs) = (D x ≡ true) × AllGone D xs
+
+-- the later one lacks the name that the earlier has of its own, which is gone
+pub record LosesName (M : Gone) (G : ℕ → List ℕ → Type 0) (t u : Tree) : Type 0 where
+  pub shape : Shape
+  pub names : List Name
+  pub number : ℕ
+  pub name : Tree
+  pub before : Trees
+  pub after : Trees
+  pub named : is_named_expression shape ≡ true
+  pub earlier : t ≡ node shape names number (name ▸ before)
+  pub later : u ≡ node shape names number (absent ▸ after)
+  pub gone : AllGone (M shape) (variables (own_names name))
+  pub others : AllShow G before after
+
+-- ---- frames
+
+pub record FrameShown (M : Gone) (G : ℕ → List ℕ → Type 0) (f g : Frame) : Type 0 where
   pub number : f.number ≡ g.number
   pub property : f.property ≡ g.property
-  pub outline : Shows G f.outline g.outline
+  pub outline : Shows G f.outline g.outline ⊎ LosesName M G f.outline g.outline
   pub globals : f.globals ≡ g.globals
 
--- each later frame is one of the earlier, but for such keys
-abbrev pub FramesShown : (ℕ → List ℕ → Type 0) → List Frame → List Frame → Type 0
-FramesShown G fs gs = (g : Frame) → Contains gs g → (f : Frame) × Contains fs f × FrameShown G f g
+-- each later frame is one of the earlier, but for such keys and names
+abbrev pub FramesShown : Gone → (ℕ → List ℕ → Type 0) → List Frame → List Frame → Type 0
+FramesShown M G fs gs = (g : Frame) → Contains gs g → (f : Frame) × Contains fs f × FrameShown M G f g

@@ -1,10 +1,11 @@
 -- Passes of a lawful relation give a faithful answer.
-use Rattle.std.proofs.Common.{◌≡◌, suc, ◌+◌, ◌≤◌, max, true, false, [], ◌∷◌, refl, sym, ap, ◌∙◌, subst, arith, true≢false}
+use Rattle.std.proofs.Common.{◌≡◌, ◌⊎◌, Bool, suc, ◌+◌, ◌≤◌, max, true, false, [], ◌∷◌, refl, sym, ap, ◌∙◌, subst, arith, true≢false}
 use Rattle.std.proofs.lemmas.Bool.{eqb-true}
 use Rattle.std.specs.Prelude.{Contains, None, length}
 use Rattle.serde_json.specs.Data.{Data}
 use Rattle.serde_json.specs.View.{view}
 use Rattle.mini_model.specs.declared.place.Position.{Position}
+use Rattle.mini_model.specs.declared.shape.Shape.{Shape}
 use Rattle.mini_model.specs.Tree.{Tree}
 use Rattle.mini_model.specs.Weight.{program_weight}
 use Rattle.mini_laws.specs.Resolved.{resolved_program}
@@ -15,20 +16,24 @@ use Rattle.mini_laws.proofs.Places.{resolved_distinct}
 use Rattle.mini_laws.proofs.Whole.{scoped}
 use Rattle.mini_scope.specs.Pointers.{early_fault}
 use Rattle.mini_laws.specs.Value.{Variable, Declared, Global, VariableSet}
-use Rattle.mini_laws.specs.Body.{environment_in}
-use Rattle.mini_laws.specs.Bodies.{Body, bodies_in}
+use Rattle.mini_laws.specs.Body.{Run}
+use Rattle.mini_laws.specs.Bodies.{Body, bodies_in, outermost}
+use Rattle.mini_laws.specs.Congruence.{Avoids}
+use Rattle.mini_laws.specs.Fixity.{fixed_in}
+use Rattle.mini_laws.specs.Substitution.{alone}
 use Rattle.mini_tree.specs.declared.options.CompressOptions.{CompressOptions}
 use Rattle.mini_accept.specs.Accept.{Accepts}
 use Rattle.mini_accept.specs.WellShaped.{IsWellShaped}
 use Rattle.mini_kept.specs.Carried.{numbers, symbol_numbers, carried}
 use Rattle.mini_kept.specs.Declaring.{declared}
 use Rattle.mini_kept.specs.Frames.{frames_in}
-use Rattle.mini_kept.specs.ShownFrames.{KeyGiven, FramesShown}
+use Rattle.mini_kept.specs.ShownFrames.{KeyGiven, gone_from, FramesShown}
 use Rattle.mini_kept.specs.Loosely.{symbol, LawfulLoosely, undeclared, ProgramIsKeptLoosely}
 use Rattle.mini_kept.specs.Without.{Unseen, AlikeWithout}
 use Rattle.mini_kept.proofs.Gone.{avoids}
 use Rattle.mini_kept.proofs.Loosely.{loosely_keeps}
 use Rattle.mini_kept.proofs.ReadBack.{IsRead, IsReadBack, read_back}
+use Rattle.mini_kept.proofs.Refixed.{avoids_all, roots_avoid, refixed}
 use Rattle.mini_kept.proofs.SameShape.{shaped_resolved}
 use Rattle.mini_kept.proofs.Texts.{text}
 use Rattle.mini_kept.proofs.Undeclared.{unshared, native}
@@ -38,8 +43,9 @@ use Rattle.mini_tree.specs.Passes.{MakesPasses}
 use Rattle.mini_peephole.specs.Environments.{shared_by, foreign_to, initialised_for, environment_with}
 use Rattle.mini_peephole.specs.AnyPasses.{NothingLeft}
 use Rattle.mini_peephole.specs.Minified.{IsWritten}
+use Rattle.mini_rows.specs.Switches.{let_go}
 use Rattle.mini_peephole.specs.Faithful as faith
-use Rattle.mini_peephole.specs.Faithful.{earlier, symbols_of, HasNoRepeat, BeginsWithProgram, AreNamed, RunsAlike, IsSameBody, BodiesAreSame, IsFaithfulWith, FaithfulWith}
+use Rattle.mini_peephole.specs.Faithful.{earlier, switches, symbols_of, HasNoRepeat, BeginsWithProgram, AreNamed, IsSameBody, BodiesAreSame, IsFaithfulWith, FaithfulWith}
 use Rattle.mini_peephole.specs.declared.minify.Minified.{Minified}
 use Rattle.mini_peephole.proofs.Chains.{Any, any_lawful, any_reach}
 use Rattle.mini_peephole.proofs.Repeats.{no_repeat}
@@ -47,10 +53,13 @@ use Rattle.mini_peephole.proofs.Written.{is_read, free_of, read_again}
 
 -- ---- bodies
 
-environments : (t u : Tree) → ProgramIsKeptLoosely t u → (shared foreign : VariableSet) (b c : Body) → b.strict ≡ c.strict → b.asks_this ≡ c.asks_this → environment_with t shared foreign b ≡ environment_with u shared foreign c
-environments t u kept shared foreign b c s a =
-    (λ k. environment_in t shared foreign (s k) (a k))
-    ∙ (λ k. record { shared = shared; foreign = foreign; fixed = λ x. kept.fixities c.strict x k; asks_this = c.asks_this })
+-- a program mentions no variable that it doesn't declare
+avoided : (u : Tree) → Scoped Read [] u → Avoids (undeclared u) u
+avoided u v = avoids_all (undeclared u) u by
+  where
+    by : (x : Variable) → undeclared u x ≡ true → Avoids (alone x) u
+    by (Declared k) h = avoids k Read [] u v refl (eqb-true (times (symbol k) (declared_symbols u)) 0 h)
+    by (Global s) h = absurd (true≢false (sym h))
 
 -- a variable that no scope of a program declares is neither shared nor foreign to any of its bodies
 unseen : (u : Tree) → Scoped Read [] u → (c : Body) → Unseen (undeclared u) (environment_with u (shared_by u c) (foreign_to u c) c)
@@ -64,20 +73,29 @@ unseen u v c = record { shared = shown; foreign = changed }
     changed (Declared k) h = native k u (avoids k Read [] u v refl (eqb-true (times (symbol k) (declared_symbols u)) 0 h)) c.number
     changed (Global s) h = absurd (true≢false (sym h))
 
-same_body : (t u : Tree) → ProgramIsKeptLoosely t u → Scoped Read [] u → (b c : Body) → AlikeWithout (undeclared u) b c → IsSameBody t u b c
-same_body t u kept v b c a =
-    let e = environment_with u (shared_by u c) (foreign_to u c) c in
-    let X = initialised_for u c in
-    record {
-      number = a.number;
-      kind = a.kind;
-      same = subst (λ d. RunsAlike d e b.kind c.kind X b.root c.root) (sym (environments t u kept (shared_by u c) (foreign_to u c) b c a.strict a.asks_this)) (record { by = (a.same e (unseen u v c) X).by });
-    }
+module _ (K : Shape → Bool) where
+  same_body : (t u : Tree) → ProgramIsKeptLoosely K t u → Scoped Read [] t → Distinct (declared_symbols t) → Scoped Read [] u → (b c : Body) → Contains (bodies_in u) c → AlikeWithout (undeclared u) b c → IsSameBody t u b c
+  same_body t u kept vt d v b c there a =
+      let e = environment_with t (shared_by u c) (foreign_to u c) b in
+      let f = environment_with u (shared_by u c) (foreign_to u c) c in
+      let X = initialised_for u c in
+      let seen = unseen u v c in
+      let root = roots_avoid (undeclared u) outermost u (avoided u v) c there in
+      let modes : record { shared = e.shared; foreign = e.foreign; fixed = f.fixed; asks_this = e.asks_this } ≡ f = (λ k. record { shared = e.shared; foreign = e.foreign; fixed = f.fixed; asks_this = a.asks_this k }) in
+      record {
+        number = a.number;
+        kind = a.kind;
+        same = record {
+          by = λ vars this answers turns i.
+              let again = refixed e f.fixed (undeclared u) (λ x h. (λ k. fixed_in (a.strict k) t x) ∙ kept.fixities vt d c.strict x h) c.kind c.root root vars this answers turns ∙ (λ k. Run (modes k) c.kind c.root vars this answers turns) in
+              subst (λ r. (Run e b.kind b.root vars this answers turns ≡ None) ⊎ (Run e b.kind b.root vars this answers turns ≡ r)) again ((a.same e (record { shared = seen.shared; foreign = seen.foreign }) X).by vars this answers turns i);
+        };
+      }
 
-bodies_same : (t u : Tree) → ProgramIsKeptLoosely t u → IsWellShaped t → Scoped Read [] t → Distinct (declared_symbols t) → BodiesAreSame t u
-bodies_same t u kept e v d c there =
-    let (b, stands, alike) = kept_stands (undeclared u) (bodies_in t) (bodies_in u) (kept.bodies v d) c there in
-    (b, stands, same_body t u kept (kept.names.scoped e v) b c alike)
+  bodies_same : (t u : Tree) → ProgramIsKeptLoosely K t u → IsWellShaped t → Scoped Read [] t → Distinct (declared_symbols t) → BodiesAreSame t u
+  bodies_same t u kept e v d c there =
+      let (b, stands, alike) = kept_stands (undeclared u) (bodies_in t) (bodies_in u) (kept.bodies v d) c there in
+      (b, stands, same_body t u kept v d (kept.names.scoped e v) b c there alike)
 
 -- ---- the whole
 
@@ -88,7 +106,7 @@ pub record Made (G : Tree → Position → Tree → Tree → Type 0) (D : Tree �
   pub symbols : m.symbols ≡ symbol_numbers (declared_symbols v)
   pub back : IsReadBack t v u
   pub shaped : IsWellShaped (resolved_program t)
-  pub rewritten : ProgramIsKeptLoosely (resolved_program t) v
+  pub rewritten : ProgramIsKeptLoosely (let_go (switches o)) (resolved_program t) v
 
 named : (m : Minified) (t v u : Tree) → IsReadBack t v u → m.kept ≡ 0 ∷ numbers v → m.symbols ≡ symbol_numbers (declared_symbols v) → AreNamed m.kept m.symbols t u
 named m t v u r kept symbols = record {
@@ -116,8 +134,8 @@ module _ (G : Tree → Position → Tree → Tree → Type 0) (D : Tree → Posi
         jumps = made.back.jumps (free_of t free).1;
         named = named m t v u made.back made.kept made.symbols;
         spelled = λ x c. kept.declared x (subst (λ w. Contains (declared w) x) whole c);
-        frames = subst (λ w. FramesShown (KeyGiven (undeclared w) (bodies_in (resolved_program t))) (frames_in (resolved_program t)) (frames_in w)) (sym whole) (kept.frames (scoped Read [] 0 t) (resolved_distinct t));
-        bodies = subst (BodiesAreSame (resolved_program t)) (sym whole) (bodies_same (resolved_program t) v kept made.shaped (scoped Read [] 0 t) (resolved_distinct t));
+        frames = subst (λ w. FramesShown (gone_from (let_go (switches o)) (undeclared w)) (KeyGiven (undeclared w) (bodies_in (resolved_program t))) (frames_in (resolved_program t)) (frames_in w)) (sym whole) (kept.frames (scoped Read [] 0 t) (resolved_distinct t));
+        bodies = subst (BodiesAreSame (resolved_program t)) (sym whole) (bodies_same (let_go (switches o)) (resolved_program t) v kept made.shaped (scoped Read [] 0 t) (resolved_distinct t));
         weight = subst (λ w. program_weight w ≤ program_weight (resolved_program t)) (sym whole) (omega (arith, some, less));
         some_pass = some;
         within = made.passes.within;
@@ -125,15 +143,15 @@ module _ (G : Tree → Position → Tree → Tree → Type 0) (D : Tree → Posi
         unsettled = λ e. let (same, fell) = made.passes.stopped e in subst (λ w. program_weight w + max o.passes 1 ≤ program_weight (resolved_program t)) (sym whole) (omega (arith, same, fell));
       }
 
-  module _ (l : (q : Tree) → LawfulLoosely (G q)) (d : Data) (o : CompressOptions) (m : Minified) (t : Tree) (read : Accepts d t) (r : IsWritten G D (resolved_program t) o.passes m) where
+  module _ (o : CompressOptions) (l : (q : Tree) → LawfulLoosely (let_go (switches o)) (G q)) (d : Data) (m : Minified) (t : Tree) (read : Accepts d t) (r : IsWritten G D (resolved_program t) o.passes m) where
     pub start : IsRead t read.1
     start = is_read d read.0 read.1 t read.2
 
     shaped : IsWellShaped (resolved_program t)
     shaped = shaped_resolved t start.shaped
 
-    kept : ProgramIsKeptLoosely (resolved_program t) r.output
-    kept = loosely_keeps (Any G) (any_lawful G l) (resolved_program t) r.output (any_reach G r.passes.reached) shaped
+    kept : ProgramIsKeptLoosely (let_go (switches o)) (resolved_program t) r.output
+    kept = loosely_keeps (Any G) (let_go (switches o)) (any_lawful G (let_go (switches o)) l) (resolved_program t) r.output (any_reach G r.passes.reached) shaped
 
     pub again : (u : Tree) × Accepts (program_data r.output) u × (text u ≡ text r.output)
     again = read_again r.output (kept.names.shaped shaped)

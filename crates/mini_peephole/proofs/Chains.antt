@@ -1,8 +1,9 @@
 -- Passes one after another, each over the program as it began, as steps of one relation.
-use Rattle.std.proofs.Common.{ℕ}
+use Rattle.std.proofs.Common.{ℕ, Bool}
 use Rattle.mini_model.specs.Tree.{Tree}
 use Rattle.mini_model.specs.declared.place.Position.{Position}
 use Rattle.mini_model.specs.declared.place.Position.TheVariants.{Elsewhere}
+use Rattle.mini_model.specs.declared.shape.Shape.{Shape}
 use Rattle.mini_model.specs.Rewriting.{Reaches, done}
 use Rattle.mini_tree.specs.Passes.{PassesReach, no_pass, one_more}
 use Rattle.mini_tree.specs.Wider.{reaches_of}
@@ -26,20 +27,18 @@ module _ (G : Tree → Position → Tree → Tree → Type 0) where
   each f p n w r = f r.0 p n w r.1
 
   -- what is lawful over every program is lawful over all together
-  pub any_lawful : ((q : Tree) → LawfulLoosely (G q)) → LawfulLoosely Any
-  any_lawful l = record {
+  pub any_lawful : (K : Shape → Bool) → ((q : Tree) → LawfulLoosely K (G q)) → LawfulLoosely K Any
+  any_lawful K l = record {
     shapes = record { fitting = each (λ q. (l q).shapes.fitting); asked = each (λ q. (l q).shapes.asked) };
-    frames = record {
-      names = record { places = each (λ q. (l q).frames.names.places); pieces = each (λ q. (l q).frames.names.pieces); keeps = each (λ q. (l q).frames.names.keeps) };
-      slots = each (λ q. (l q).frames.slots);
-      ports = each (λ q. (l q).frames.ports);
-      listed = λ p n w e r. (l r.0).frames.listed p n w e r.1;
-      exported = each (λ q. (l q).frames.exported);
-      frames = each (λ q. (l q).frames.frames);
+    places = record {
+      names = record { places = each (λ q. (l q).places.names.places); pieces = each (λ q. (l q).places.names.pieces); keeps = each (λ q. (l q).places.names.keeps) };
+      slots = each (λ q. (l q).places.slots);
+      ports = each (λ q. (l q).places.ports);
+      listed = λ p n w e r. (l r.0).places.listed p n w e r.1;
+      exported = each (λ q. (l q).places.exported);
     };
     reads = each (λ q. (l q).reads);
     kind = each (λ q. (l q).kind);
-    fixed = each (λ q. (l q).fixed);
     declared = each (λ q. (l q).declared);
     instances = each (λ q. (l q).instances);
   }

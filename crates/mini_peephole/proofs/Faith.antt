@@ -66,19 +66,19 @@ no_redex o m t u light f = record {
 
 module _ (d : Data) (o : CompressOptions) (m : Minified) (t : Tree) (read : Accepts d t) (r : IsRewriting (resolved_program t) o m) where
   abbrev again : (u : Tree) × Accepts (program_data r.output) u × (text u ≡ text r.output)
-  again = any.again (AllGives o) (AllRests o) (gives_lawful o) d o m t read r
+  again = any.again (AllGives o) (AllRests o) o (gives_lawful o) d m t read r
 
   start : IsRead t read.1
-  start = any.start (AllGives o) (AllRests o) (gives_lawful o) d o m t read r
+  start = any.start (AllGives o) (AllRests o) o (gives_lawful o) d m t read r
 
   answer_read : IsRead again.0 again.1.1
-  answer_read = any.answer_read (AllGives o) (AllRests o) (gives_lawful o) d o m t read r
+  answer_read = any.answer_read (AllGives o) (AllRests o) o (gives_lawful o) d m t read r
 
   written : Accepts (view m.program) again.0
-  written = any.written (AllGives o) (AllRests o) (gives_lawful o) d o m t read r
+  written = any.written (AllGives o) (AllRests o) o (gives_lawful o) d m t read r
 
   made : any.Made (AllGives o) (AllRests o) o m t r.output again.0
-  made = any.made (AllGives o) (AllRests o) (gives_lawful o) d o m t read r
+  made = any.made (AllGives o) (AllRests o) o (gives_lawful o) d m t read r
 
   pub faithful : early_fault t ≡ None → weight Elsewhere t < 2 ^ 32 → Faithful d o m
   faithful free light =

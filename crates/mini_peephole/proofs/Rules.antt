@@ -10,7 +10,7 @@ use Rattle.mini_model.specs.Rewriting.{Everywhere, EverywhereIn}
 use Rattle.mini_tree.specs.declared.options.CompressOptions.{CompressOptions}
 use Rattle.mini_kept.specs.Loosely.{LawfulLoosely}
 use Rattle.mini_kept.proofs.Loosely.{loose_narrowed}
-use Rattle.mini_rows.specs.Switches.{Switches}
+use Rattle.mini_rows.specs.Switches.{Switches, let_go}
 use Rattle.mini_rows.specs.Branches.{BranchRow}
 use Rattle.mini_rows.specs.Turns.{TurnRow}
 use Rattle.mini_rows.specs.Arrows.{ArrowRow}
@@ -78,8 +78,8 @@ module _ (o : CompressOptions) (q : Tree) where
   all_contract p t u (inl r) = inl (gives_contract p t u r)
   all_contract p t u (inr c) = inr c
 
-  pub gives_lawful : LawfulLoosely (AllGives o q)
-  gives_lawful = loose_narrowed (AllGives o q) (Rewrites (switches o)) all_contract (all_loose (switches o))
+  pub gives_lawful : LawfulLoosely (let_go (switches o)) (AllGives o q)
+  gives_lawful = loose_narrowed (AllGives o q) (Rewrites (switches o)) (let_go (switches o)) all_contract (all_loose (switches o))
 
   -- where all have nothing to do, nothing is to be rewritten, as far as the weight fits 64 bits
 
@@ -122,7 +122,9 @@ module _ (o : CompressOptions) (q : Tree) where
 
   all_settled : (p : Position) (t u : Tree) → weight p t < 2 ^ 64 → AllRests o q p t → Rewrites (switches o) p t u → ⊥
   all_settled p t u small r (inl c) = settled p t u small r.0 c.row c.lighter
-  all_settled p t u small r (inr c) = r.1 u c.row
+  all_settled p t u small r (inr (inl c)) = r.1.0 u c.row
+  all_settled p t u small r (inr (inr (inl c))) = r.1.1.0 u c.row
+  all_settled p t u small r (inr (inr (inr c))) = r.1.1.1 u c.row
 
   rests_settle : (p : Position) (t : Tree) → weight p t < 2 ^ 64 → AllRests o q p t → IsSettled (switches o) p t
   rests_settle p t small r x = all_settled p t x.to small r x.contracts

@@ -25,8 +25,8 @@ use Rattle.mini_kept.specs.Carried.{numbers, carried}
 use Rattle.mini_kept.specs.Declaring.{declared}
 use Rattle.mini_kept.specs.Frames.{frames_in}
 use Rattle.mini_kept.specs.Loosely.{undeclared}
-use Rattle.mini_kept.specs.ShownFrames.{KeyGiven, FramesShown}
-use Rattle.mini_rows.specs.Switches.{Switches}
+use Rattle.mini_kept.specs.ShownFrames.{KeyGiven, gone_from, FramesShown}
+use Rattle.mini_rows.specs.Switches.{Switches, let_go}
 use Rattle.mini_rows.specs.Redex.{HasNoRedex}
 use Rattle.mini_peephole.specs.Environments.{shared_by, foreign_to, initialised_for, environment_with}
 use Rattle.mini_peephole.specs.declared.minify.Minified.{Minified}
@@ -87,6 +87,10 @@ BodiesAreSame t u = (c : Body) → Contains (bodies_in u) c → (b : Body) × Co
 abbrev pub pass_bound : CompressOptions → ℕ
 pass_bound o = max o.passes 1
 
+-- which rewrites the options let happen
+abbrev pub switches : CompressOptions → Switches
+switches o = record { sequences = o.sequences; join_vars = o.join_vars; keep_function_names = o.keep_names.function; keep_class_names = o.keep_names.class }
+
 -- what is said of the two trees, where Rests says of the later one that nothing is left to do
 pub record IsFaithfulWith (Rests : Tree → Type 0) (o : CompressOptions) (m : Minified) (t u : Tree) : Type 0 where
   -- the answer has no early error
@@ -97,8 +101,9 @@ pub record IsFaithfulWith (Rests : Tree → Type 0) (o : CompressOptions) (m : M
   -- each name that it declares is one that the input declares, and spelled as there
   pub spelled : (x : Name) → Contains (declared (later m u)) x → Contains (declared (earlier t)) x
   -- what stands outside bodies is kept: each of its nodes with a number has the frame that the one had which it was, but for the
-  -- brackets of keys which give one property and do nothing else
-  pub frames : FramesShown (KeyGiven (undeclared (later m u)) (bodies_in (earlier t))) (frames_in (earlier t)) (frames_in (later m u))
+  -- brackets of keys which give one property and do nothing else, and for the name of a function or a class expression that the later
+  -- program doesn't declare, so that nothing in it refers to that, where the options let it go
+  pub frames : FramesShown (gone_from (let_go (switches o)) (undeclared (later m u))) (KeyGiven (undeclared (later m u)) (bodies_in (earlier t))) (frames_in (earlier t)) (frames_in (later m u))
   -- each body does what the one does that it was
   pub bodies : BodiesAreSame (earlier t) (later m u)
   -- it is no heavier
@@ -116,10 +121,6 @@ pub record FaithfulWith (Rests : Tree → Type 0) (d : Data) (o : CompressOption
   pub accepted : Accepts d input
   pub answered : Accepts (view m.program) output
   pub faithful : IsFaithfulWith Rests o m input output
-
--- which rewrites the options let happen
-abbrev pub switches : CompressOptions → Switches
-switches o = record { sequences = o.sequences; join_vars = o.join_vars }
 
 -- of rewrites: nothing is left to rewrite
 abbrev pub IsFaithful : CompressOptions → Minified → Tree → Tree → Type 0

@@ -21,9 +21,12 @@ use Rattle.mini_syntax.specs.SubstitutePropertyKey as held
 use Rattle.mini_syntax.specs.SubstituteReturnStatement as returns
 use Rattle.mini_syntax.specs.SubstituteVariableDeclaration as declarations
 use Rattle.mini_rows.specs.Declarations.{DeclarationContracts}
+use Rattle.mini_rows.specs.Catches.{CatchContracts}
 use Rattle.mini_rows.specs.Unused.{UnusedContracts}
 use Rattle.mini_stmt.specs.MinimizeStatements as lists
 use Rattle.mini_unused.specs.RemoveUnusedDeclaration as unused
+use Rattle.mini_unused.specs.RemoveUnusedName as names
+use Rattle.mini_unused.specs.SubstituteCatchClause as catches
 
 -- of those that keep each name
 abbrev pub Gives : CompressOptions → Tree → Position → Tree → Tree → Type 0
@@ -34,7 +37,7 @@ Rests o q = Both logic.Rests (Both blocks.Rests (Both returns.Rests (Both spelli
 
 -- and of those besides that drop names that nothing mentions
 abbrev pub AllGives : CompressOptions → Tree → Position → Tree → Tree → Type 0
-AllGives o q = Either (Gives o q) UnusedContracts
+AllGives o q = Either (Gives o q) (Either UnusedContracts (Either (names.Gives o q) CatchContracts))
 
 abbrev pub AllRests : CompressOptions → Tree → Position → Tree → Type 0
-AllRests o q = Both (Rests o q) unused.Rests
+AllRests o q = Both (Rests o q) (Both unused.Rests (Both (names.RestsUnder o q) catches.Rests))

@@ -27,9 +27,10 @@ use mini_syntax::{
     SubstituteArrows, SubstituteDeclarations, SubstituteKeys, SubstitutePropertyKeys,
     SubstituteReturns, SubstituteSpellings,
 };
-use mini_tree::{CompressOptions, Numbers, OutOfMemory, Program, discard};
-use mini_unused::RemoveUnusedDeclarations;
-use mini_tree::{Passes, Then, run_passes};
+use mini_tree::{
+    CompressOptions, Numbers, OutOfMemory, Passes, Program, Then, discard, run_passes,
+};
+use mini_unused::{RemoveUnusedDeclarations, RemoveUnusedNames, SubstituteCatches};
 use mini_writer::write_program;
 use serde_json::Value;
 use std::alloc::Global;
@@ -151,10 +152,20 @@ const KEEPING_RULES: Then<Logic, Then<UnwrapBlocks, Spellings>> = Then {
     },
 };
 
-// These keep each name; after them comes the rule of names that nothing mentions.
-const RULES: Then<Then<Logic, Then<UnwrapBlocks, Spellings>>, RemoveUnusedDeclarations> = Then {
+// These keep each name; after them come the rules of names that nothing mentions.
+type Keeping = Then<Logic, Then<UnwrapBlocks, Spellings>>;
+
+type Dropping = Then<RemoveUnusedDeclarations, Then<RemoveUnusedNames, SubstituteCatches>>;
+
+const RULES: Then<Keeping, Dropping> = Then {
     first: KEEPING_RULES,
-    second: RemoveUnusedDeclarations,
+    second: Then {
+        first: RemoveUnusedDeclarations,
+        second: Then {
+            first: RemoveUnusedNames,
+            second: SubstituteCatches,
+        },
+    },
 };
 
 // The answer for a resolved tree, which is rewritten in place.

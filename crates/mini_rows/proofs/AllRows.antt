@@ -8,7 +8,7 @@ use Rattle.mini_kept.specs.Lawful.{Lawful}
 use Rattle.mini_kept.specs.Loosely.{LawfulLoosely}
 use Rattle.mini_kept.proofs.Lawful.{lawful_join, lawful_narrowed, rows_are_lawful}
 use Rattle.mini_kept.proofs.Loosely.{lawful_is_loose, loose_join}
-use Rattle.mini_rows.specs.Switches.{Switches}
+use Rattle.mini_rows.specs.Switches.{Switches, let_go}
 use Rattle.mini_rows.specs.Spellings.{SpellingContracts}
 use Rattle.mini_rows.specs.Branches.{BranchContracts}
 use Rattle.mini_rows.specs.Lists.{ListContracts}
@@ -26,6 +26,8 @@ use Rattle.mini_rows.specs.Booleans.{BooleanContracts}
 use Rattle.mini_rows.specs.Constants.{ConstantContracts}
 use Rattle.mini_rows.specs.KeyHolders.{HeldKeyContracts}
 use Rattle.mini_rows.specs.Unused.{UnusedContracts}
+use Rattle.mini_rows.specs.Names.{NameContracts}
+use Rattle.mini_rows.specs.Catches.{CatchContracts}
 use Rattle.mini_rows.specs.Redex.{Row, Contracts, Rewrites}
 use Rattle.mini_rows.proofs.SpellKeyLawful as keys
 use Rattle.mini_rows.proofs.FoldLawful.{foldings_lawful}
@@ -43,6 +45,8 @@ use Rattle.mini_rows.proofs.NegationLawful.{negations_lawful}
 use Rattle.mini_rows.proofs.BooleanLawful.{booleans_lawful}
 use Rattle.mini_rows.proofs.ConstantLawful.{constants_lawful}
 use Rattle.mini_rows.proofs.KeysJoined.{held_keys_lawful}
+use Rattle.mini_rows.proofs.CatchLawful.{catches_lawful}
+use Rattle.mini_rows.proofs.NameLawful.{names_lawful}
 use Rattle.mini_rows.proofs.UnusedLawful.{unused_loose}
 
 module _ (o : Switches) where
@@ -124,6 +128,12 @@ module _ (o : Switches) where
   pub all_lawful : Lawful (Contracts o)
   all_lawful = lawful_narrowed (Contracts o) Families by_family families_lawful
 
+  abbrev Dropping : Position → Tree → Tree → Type 0
+  Dropping p n w = NameContracts o p n w ⊎ CatchContracts p n w
+
+  abbrev Going : Position → Tree → Tree → Type 0
+  Going p n w = UnusedContracts p n w ⊎ Dropping p n w
+
   -- with those of names that nothing mentions
-  pub all_loose : LawfulLoosely (Rewrites o)
-  all_loose = loose_join (Contracts o) UnusedContracts (lawful_is_loose (Contracts o) all_lawful) unused_loose
+  pub all_loose : LawfulLoosely (let_go o) (Rewrites o)
+  all_loose = loose_join (Contracts o) Going (let_go o) (lawful_is_loose (Contracts o) (let_go o) all_lawful) (loose_join UnusedContracts Dropping (let_go o) (unused_loose (let_go o)) (loose_join (NameContracts o) CatchContracts (let_go o) (names_lawful o) (catches_lawful (let_go o))))

@@ -120,3 +120,7 @@ pub mod OperandMeaning
 pub mod OperandWeights
 pub mod OperandForms
 pub mod OperandLawful
+pub mod NameWeights
+pub mod NameLawful
+pub mod CatchWeights
+pub mod CatchLawful

@@ -8,6 +8,7 @@ use Rattle.mini_model.specs.declared.name.Name.{Name}
 use Rattle.mini_model.specs.declared.place.Position.{Position}
 use Rattle.mini_model.specs.declared.place.Position.TheVariants.{Stmt}
 use Rattle.mini_model.specs.declared.seat.StmtSeat.{StmtSeat}
+use Rattle.mini_model.specs.declared.shape.Shape.{Shape}
 use Rattle.mini_model.specs.declared.shape.Shape.TheVariants as shape
 use Rattle.mini_model.specs.Tree.{Tree, Trees, node, none, ◌▸◌, absent, listed, shape_of, empty_statement, expression_statement, count}
 use Rattle.mini_model.specs.Paths.{append}
@@ -36,11 +37,13 @@ use Rattle.mini_kept.specs.KeepsShapes.{AskedAlike}
 use Rattle.mini_kept.specs.Lifted.{is_piece, KeepsRoot}
 use Rattle.mini_kept.specs.Loosely.{Stays, Drops, LawfulLoosely}
 use Rattle.mini_kept.specs.Placed.{fits_place, is_statement_list}
+use Rattle.mini_kept.specs.ShownFrames.{no_key, gone_from}
 use Rattle.mini_kept.specs.Without.{Unseen}
 use Rattle.mini_kept.proofs.Bools.{left, both}
 use Rattle.mini_kept.proofs.Expressions.{refused_here}
 use Rattle.mini_kept.proofs.Fixed.{of_children}
 use Rattle.mini_kept.proofs.InOrder.{in_order}
+use Rattle.mini_kept.proofs.ShownFrames.{kept_shown}
 use Rattle.mini_kept.proofs.WithoutLists.{from_kept}
 use Rattle.mini_node.specs.Kinds.{is_absent_part}
 use Rattle.mini_node.specs.Made.{absent_is}
@@ -50,7 +53,7 @@ use Rattle.mini_terms.specs.Reading.{is_plain_part}
 use Rattle.mini_rows.specs.Arranged.{Vanishes}
 use Rattle.mini_rows.specs.Lists.{block, declares_nothing, declaration}
 use Rattle.mini_rows.specs.Declarations.{binding, declarator}
-use Rattle.mini_rows.specs.Unused.{resolved, let_one, any_names, is_idle, may_move, reads_first, UnusedRow, UnusedContracts, let_among, left_over, put_first}
+use Rattle.mini_rows.specs.Unused.{resolved, let_one, any_names, is_idle, may_move, reads_first, UnusedRow, UnusedContracts, UnusedAreLawful, let_among, left_over, put_first}
 use Rattle.mini_rows.proofs.ArrangedBodies.{quiet}
 use Rattle.mini_rows.proofs.FoldLawful.{vanishes}
 use Rattle.mini_rows.proofs.ListShapes.{declaration_anywhere, append_fits, both_fit, first_fits, more_fit}
@@ -183,9 +186,7 @@ gone b ts us ws p q r = (tt, all_join b ts (append ws us) p (all_join b ws us q 
 
 record Dropped (q : StmtSeat) (k : ℕ) (n w : Tree) : Type 0 where
   keeps : KeepsLoosely (Stmt q) n w
-  drops : Drops k (Stmt q) n w
-  frames_kept : FramesKept (frames None n) (frames None w)
-  fixed_same : (x : Variable) → fixed_by n x ≡ fixed_by w x
+  drops : (K : Shape → Bool) → Drops K k (Stmt q) n w
   declared_there : (x : Name) → Contains (declared w) x → Contains (declared n) x
 
 module _ (q : StmtSeat) (s : List ℕ) (k : ℕ) (before after d w : Trees) (l : LeavesThere (resolved s k) d w) (earlier : any_names (resolved s k) before ≡ false) (later : any_names (resolved s k) after ≡ false) where
@@ -221,14 +222,14 @@ module _ (q : StmtSeat) (s : List ℕ) (k : ℕ) (before after d w : Trees) (l :
       let m = gone (record { name = x; hoists = false }) before after w (all_unmentioned x k refl before earlier) l.unmentioned (all_unmentioned x k refl after later) in
       record {
         keeps = in_order (Stmt q) (block first_list) (block second_list) (block_keeps x before after d w l o p m q);
-        drops = record {
+        drops = λ K. record {
           kept = block_kept x before after d w l o p;
           less = block_less x before after d w l o p k refl;
           same = same;
+          fixed = λ y f. block_fixed y;
+          frames = λ strict c g f. kept_shown (gone_from K (alone (Declared k))) no_key (frames None (block first_list)) (frames None (block second_list)) block_frames;
           bodies = λ strict c g f a z. from_kept (alone (Declared k)) (bodies a (block first_list)) (bodies a (block second_list)) (block_bodies a);
         };
-        frames_kept = block_frames;
-        fixed_same = block_fixed;
         declared_there = block_declares;
       }
 
@@ -320,13 +321,13 @@ at_statement : (P : Position → Tree → Tree → Type 0) → ((q : StmtSeat) (
 at_statement P f (Stmt q) n w c = f q n w c.row
 at_statement P f p n w c = absurd c.row
 
-pub unused_loose : LawfulLoosely UnusedContracts
-unused_loose = record {
+pub unused_loose : UnusedAreLawful
+unused_loose K = record {
   shapes = record {
     fitting = at_statement (λ p n w. (strict : Bool) (s : Slot) → fits_place p s ≡ true → fits strict s n ≡ true → fits strict s w ≡ true) (λ q n w r strict s o e. (in_place q n w r strict s e).0);
     asked = at_statement AskedAlike (λ q n w r. shaped n w (AskedAlike (Stmt q)) (blocks_asked (Stmt q)) (row_blocks q n w r));
   };
-  frames = record {
+  places = record {
     names = record {
       places = at_statement (λ p n w. (is_rewritten_place p ≡ true) ⊎ KeepsRoot p n w) (λ q n w r. inl refl);
       pieces = at_statement (λ p n w. is_piece (shape_of n) ≡ false) (λ q n w r. ap (λ t. is_piece (shape_of t)) (row_blocks q n w r).before);
@@ -336,11 +337,9 @@ unused_loose = record {
     ports = at_statement (λ p n w. (strict : Bool) (d : Depth) → fits strict (one (a_statement d)) n ≡ true → (m : Bool) → (is_port m (shape_of n) ≡ false) × (is_port m (shape_of w) ≡ false)) (λ q n w r strict d e m. shaped n w (λ t v. (is_port m (shape_of t) ≡ false) × (is_port m (shape_of v) ≡ false)) (λ first_list second_list. (refl, refl)) (row_blocks q n w r));
     listed = λ p n w e c. absurd (at_statement (λ p n w. is_statement_list p ≡ true → ⊥) (λ q n w r e. cc e) p n w c e);
     exported = at_statement (λ p n w. (strict : Bool) → fits strict (one a_default_export) n ≡ true → (is_declaration (shape_of n) ≡ false) × (is_declaration (shape_of w) ≡ false)) (λ q n w r strict e. shaped n w (λ t v. (is_declaration (shape_of t) ≡ false) × (is_declaration (shape_of v) ≡ false)) (λ first_list second_list. (refl, refl)) (row_blocks q n w r));
-    frames = at_statement (λ p n w. (strict : Bool) (s : Slot) → fits_place p s ≡ true → fits strict s n ≡ true → FramesKept (frames None n) (frames None w)) (λ q n w r strict s o e. (row_dropped q n w r).1.frames_kept);
   };
   reads = at_statement (λ p n w. summary n ≡ summary w) (λ q n w r. shaped n w (λ t v. summary t ≡ summary v) (λ first_list second_list. refl) (row_blocks q n w r));
   kind = at_statement (λ p n w. (strict : Bool) (s : Slot) → fits strict s n ≡ true → arrow_kind (shape_of n) ≡ arrow_kind (shape_of w)) (λ q n w r strict s e. shaped n w (λ t v. arrow_kind (shape_of t) ≡ arrow_kind (shape_of v)) (λ first_list second_list. refl) (row_blocks q n w r));
-  fixed = at_statement (λ p n w. (y : Variable) → fixed_by n y ≡ fixed_by w y) (λ q n w r. (row_dropped q n w r).1.fixed_same);
   declared = at_statement (λ p n w. (y : Name) → Contains (declared w) y → Contains (declared n) y) (λ q n w r. (row_dropped q n w r).1.declared_there);
-  instances = at_statement (λ p n w. Stays p n w ⊎ ((k : ℕ) × Drops k p n w)) (λ q n w r. let d = row_dropped q n w r in inr (d.0, d.1.drops));
+  instances = at_statement (λ p n w. Stays p n w ⊎ ((k : ℕ) × Drops K k p n w)) (λ q n w r. let d = row_dropped q n w r in inr (d.0, d.1.drops K));
 }

@@ -21,3 +21,5 @@ pub mod DeMorgan
 pub mod Negations
 pub mod Sequences
 pub mod Operands
+pub mod Names
+pub mod Catches

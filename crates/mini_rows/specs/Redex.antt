@@ -8,7 +8,7 @@ use Rattle.mini_model.specs.Redex as first
 use Rattle.mini_model.specs.Rewriting.{Everywhere}
 use Rattle.mini_kept.specs.Lawful.{Lawful}
 use Rattle.mini_kept.specs.Loosely.{LawfulLoosely}
-use Rattle.mini_rows.specs.Switches.{Switches}
+use Rattle.mini_rows.specs.Switches.{Switches, let_go}
 use Rattle.mini_rows.specs.Spellings.{SpellingRow}
 use Rattle.mini_rows.specs.Branches.{BranchRow}
 use Rattle.mini_rows.specs.Lists.{ListRow}
@@ -25,6 +25,8 @@ use Rattle.mini_rows.specs.DeMorgan.{DeMorganRow}
 use Rattle.mini_rows.specs.Sequences.{SequenceRow}
 use Rattle.mini_rows.specs.Operands.{OperandRow}
 use Rattle.mini_rows.specs.Unused.{UnusedContracts}
+use Rattle.mini_rows.specs.Names.{NameContracts}
+use Rattle.mini_rows.specs.Catches.{CatchContracts}
 use Rattle.mini_rows.specs.Negations.{NegationRow}
 
 -- a row reads n as w at this place: one of negations and of `if` over expressions, of spellings, of branches and bodies of
@@ -40,7 +42,7 @@ pub record Contracts (o : Switches) (p : Position) (n w : Tree) : Type 0 where
 
 -- or what one of a name that nothing mentions writes, which goes
 abbrev pub Rewrites : Switches → Position → Tree → Tree → Type 0
-Rewrites o p n w = Contracts o p n w ⊎ UnusedContracts p n w
+Rewrites o p n w = Contracts o p n w ⊎ (UnusedContracts p n w ⊎ (NameContracts o p n w ⊎ CatchContracts p n w))
 
 -- a redex in its place
 pub record Redex (o : Switches) (p : Position) (n : Tree) : Type 0 where
@@ -61,4 +63,4 @@ RowsAreLawful = (o : Switches) → Lawful (Contracts o)
 
 -- and loosely, where names go that nothing mentions
 abbrev pub RowsAreLoose : Type 0
-RowsAreLoose = (o : Switches) → LawfulLoosely (Rewrites o)
+RowsAreLoose = (o : Switches) → LawfulLoosely (let_go o) (Rewrites o)

@@ -1,8 +1,17 @@
 -- Which rewrites the options let happen.
 use Rattle.std.specs.Prelude.{Bool}
+use Rattle.mini_model.specs.declared.shape.Shape.{Shape}
+use Rattle.mini_kept.specs.ShownFrames.{loses_name}
 
 pub record Switches : Type 0 where
   -- statements may be joined into sequences of expressions
   pub sequences : Bool
   -- neighbouring declarations may be joined
   pub join_vars : Bool
+  -- the names of function expressions stay though nothing mentions them, and those of class expressions
+  pub keep_function_names : Bool
+  pub keep_class_names : Bool
+
+-- which functions and classes may lose their own name
+abbrev pub let_go : Switches → Shape → Bool
+let_go o h = loses_name o.keep_function_names o.keep_class_names h

@@ -12,6 +12,7 @@ use Rattle.mini_model.specs.Paths.{append}
 use Rattle.mini_model.specs.Weight.{same_text, weight}
 use Rattle.mini_laws.specs.ScopeList.{has_eval}
 use Rattle.mini_laws.specs.Symbols.{is_same}
+use Rattle.mini_kept.specs.Loosely.{LawfulLoosely}
 use Rattle.mini_node.specs.Children.{names_of, part, is_bare, is_nameless}
 use Rattle.mini_node.specs.Kinds.{is_absent_part, is_listed_shape, is_sequence_shape, is_identifier}
 use Rattle.mini_terms.specs.Folds.{is_effect_free}
@@ -186,3 +187,7 @@ pub record UnusedContracts (p : Position) (n w : Tree) : Type 0 where
 -- which is everywhere
 abbrev pub UnusedLighter : Type 0
 UnusedLighter = (p : Position) (n w : Tree) → UnusedRow p n w → weight p w < weight p n
+
+-- it drops a name that nothing mentions, whichever functions and classes may lose their own
+abbrev pub UnusedAreLawful : Type 0
+UnusedAreLawful = (K : Shape → Bool) → LawfulLoosely K UnusedContracts

@@ -1,13 +1,12 @@
 //! The rows of names that nothing mentions.
 
 ghost use Rattle.mini_laws.specs.Weights.{Lightens};
-ghost use Rattle.mini_kept.specs.Loosely.{LawfulLoosely};
-ghost use Rattle.mini_rows.specs.Unused.{UnusedContracts, UnusedLighter};
+ghost use Rattle.mini_rows.specs.Unused.{UnusedAreLawful, UnusedContracts, UnusedLighter};
 
 /// What each row writes keeps all that a program has to keep, but a name that nothing mentions: it means the same where nobody
 /// else sees that variable.
 pub fn unused_are_lawful()
-    ensures { LawfulLoosely UnusedContracts }
+    ensures { UnusedAreLawful }
 {}
 
 /// What each row writes is lighter wherever the block stands, so no weight is asked before it is applied, and it makes the

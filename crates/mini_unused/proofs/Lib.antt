@@ -3,3 +3,5 @@ pub mod Evaluating
 pub mod Standing
 pub mod Unused
 pub mod SingleUses
+pub mod Nameless
+pub mod Catching

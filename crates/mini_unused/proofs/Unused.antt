@@ -87,7 +87,7 @@ named : (s : List ℕ) (y : Option SymbolId) → is_some y ≡ true → (k : ℕ
 named s (Some y) e = (y.0, refl)
 named s None e = absurd (true≢false (sym e))
 
-binding_is : (t : Tree) → is_resolved_binding t ≡ true → (s : List ℕ) × (k : ℕ) × (t ≡ binding (resolved s k))
+pub binding_is : (t : Tree) → is_resolved_binding t ≡ true → (s : List ℕ) × (k : ℕ) × (t ≡ binding (resolved s k))
 binding_is (node shape.BindingIdentifier (x ∷ []) zero none) e = let (k, same) = named x.spelling x.symbol e in (x.spelling, k, ap binding same)
 binding_is t e = absurd (true≢false (sym e))
 
@@ -287,7 +287,7 @@ pub record Read (t : Tree) : Type 0 where
   unused : Alone (resolved spelling symbol) before first init last after
   shape : t ≡ block (append before (let_among (resolved spelling symbol) first init last ▸ after))
 
-or_true : (b : Bool) → (b || true) ≡ true
+pub or_true : (b : Bool) → (b || true) ≡ true
 or_true true = refl
 or_true false = refl
 

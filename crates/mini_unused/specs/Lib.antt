@@ -1,3 +1,5 @@
 pub mod RemoveUnusedDeclaration
 pub mod Lighter
 pub mod SubstituteSingleUse
+pub mod RemoveUnusedName
+pub mod SubstituteCatchClause

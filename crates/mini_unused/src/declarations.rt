@@ -34,8 +34,8 @@ fn has_symbol(name: &Option<Name>) -> bool
     }
 }
 
-// A name that is declared, with its symbol.
-fn is_resolved_binding(node: &Node) -> bool
+/// A name that is declared, with its symbol.
+pub fn is_resolved_binding(node: &Node) -> bool
     ensures { result ≡ row.is_resolved_binding node.now }
 {
     matches!(node.shape(), Shape::BindingIdentifier)
@@ -167,7 +167,7 @@ fn unused_at(statements: &Nodes) -> Option<(usize, usize)>
     None
 }
 
-// The child at the index, taken out of the node.
+/// The child at the index, taken out of the node.
 pub fn take_child(node: &mut Node, at: usize) -> Node
     requires { at < count (children node.old) }
     ensures child { result ≡ part node.old at }

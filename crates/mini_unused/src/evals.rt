@@ -51,9 +51,9 @@ pub fn has_eval(node: &Node) -> bool
     is_eval_call(node.shape(), node.parts()) || any_has_eval(node.children(), 0)
 }
 
-// Whether one stands in one of these nodes, from an index on.
+/// Whether one stands in one of these nodes, from an index on.
 #[cycle(evals)]
-fn any_has_eval(nodes: &Nodes, from: usize) -> bool
+pub fn any_has_eval(nodes: &Nodes, from: usize) -> bool
     ensures { result ≡ scopes.any_has_eval (rest_children from nodes.now) }
 {
     for at in from..nodes.len() {

@@ -1,12 +1,16 @@
 //! Rewrites of names that nothing mentions: each with its rule for the walk.
 #![tactic(auto)]
 
+mod catches;
 mod declarations;
 mod declares;
 mod evals;
 mod mentions;
+mod names;
 mod single_uses;
 
+pub use catches::{SubstituteCatches, substitute_catch_clause};
 pub use declarations::{RemoveUnusedDeclarations, remove_unused_declaration};
 pub use evals::has_eval;
 pub use mentions::{is_mentioned, is_mentioned_before, is_mentioned_from};
+pub use names::{RemoveUnusedNames, remove_unused_name};

@@ -1,0 +1,62 @@
+-- A handler that loses the name of what it catches is what the row says.
+use Rattle.std.proofs.Common.{◌≡◌, zero, Bool, true, false, List, [], ◌∷◌, refl, sym, ap, ◌∙◌, subst, true≢false}
+use Rattle.std.specs.Prelude.{not, ◌&&◌}
+use Rattle.std.proofs.lemmas.Bool.{and_parts}
+use Rattle.mini_model.specs.declared.place.Position.{Position}
+use Rattle.mini_model.specs.declared.place.Position.TheVariants.{Elsewhere}
+use Rattle.mini_model.specs.declared.shape.Shape.TheVariants as shape
+use Rattle.mini_model.specs.Tree.{Tree, node, none, ◌▸◌, shape_of}
+use Rattle.mini_laws.specs.ScopeList.{has_eval}
+use Rattle.mini_node.specs.Children.{names_of, part, is_bare}
+use Rattle.mini_rows.specs.Catches.{handler, Row63, CatchRow, CatchContracts}
+use Rattle.mini_rows.specs.Declarations.{binding}
+use Rattle.mini_rows.specs.Unused.{names, resolved}
+use Rattle.mini_rows.proofs.CatchWeights.{catches_lighter}
+use Rattle.mini_tree.proofs.Reaching.{moves_once}
+use Rattle.mini_unused.specs.RemoveUnusedDeclaration.{is_resolved_binding}
+use Rattle.mini_unused.specs.SubstituteCatchClause.{is_handler_shape, is_unseen, loses_it, nameless, Applied}
+use Rattle.mini_unused.proofs.Unused.{not_true, binding_is}
+
+whole : (t : Tree) → is_handler_shape (shape_of t) ≡ true → is_bare t 2 ≡ true → t ≡ handler (part t 0) (part t 1)
+whole (node shape.CatchClause [] zero (a ▸ (b ▸ none))) e f = refl
+whole (node shape.CatchClause xs n ts) e f = absurd (true≢false (sym f))
+whole t e f = absurd (true≢false (sym e))
+
+row_there : (t : Tree) → loses_it t ≡ true → Row63 t (nameless t)
+row_there t e =
+    let c = is_unseen (names_of (part t 0)) (part t 1) in
+    let b = is_resolved_binding (part t 0) in
+    let (p, q) = and_parts (is_handler_shape (shape_of t)) (is_bare t 2 && (b && c)) e in
+    let (r, s) = and_parts (is_bare t 2) (b && c) q in
+    let (u, v) = and_parts b c s in
+    let is = whole t p r in
+    let (spelling, symbol, named) = binding_is (part t 0) u in
+    let x = resolved spelling symbol in
+    let body = part t 1 in
+    let (unmentioned, unseen) = and_parts (not (names x body)) (not (has_eval body)) (sym (ap (λ y. is_unseen (names_of y) body) named) ∙ v) in
+    record {
+      spelling = spelling;
+      symbol = symbol;
+      body = body;
+      unmentioned = not_true (names x body) unmentioned;
+      unseen = not_true (has_eval body) unseen;
+      shape = is ∙ ap (λ y. handler y body) named;
+      written = ap nameless is;
+    }
+
+pub applied : (t u : Tree) → loses_it t ≡ true → u ≡ nameless t → Applied Elsewhere t u true
+applied t u e f =
+    let row = subst (Row63 t) (sym f) (row_there t e) in
+    moves_once CatchContracts Elsewhere t u (record { row = row; lighter = catches_lighter Elsewhere t u row })
+
+-- ---- where nothing is written the row doesn't read it
+
+read : (t w : Tree) → Row63 t w → loses_it t ≡ true
+read t w r = ap loses_it r.shape ∙ (λ i. not (r.unmentioned i) && not (r.unseen i))
+
+pub stays : (t : Tree) → loses_it t ≡ false → Applied Elsewhere t t false
+stays t e = (refl, λ w r. true≢false (sym (read t w r) ∙ e))
+
+pub elsewhere : (p : Position) (t : Tree) → (p ≡ Elsewhere → ⊥) → Applied p t t false
+elsewhere Elsewhere t f = absurd (f refl)
+elsewhere p t f = (refl, λ w r. absurd r)
