@@ -1,6 +1,8 @@
 -- The scopes of a node, as the code holds them and as they are defined.
-use Rattle.std.specs.Prelude.{ℕ, zero, suc, ◌≡◌, ◌≤◌, ◌<◌, refl, Bool, List, [], ◌∷◌, length, drop, slice_index_or}
+use Rattle.std.specs.Prelude.{ℕ, zero, suc, ◌≡◌, ◌≤◌, ◌<◌, refl, Bool, List, [], ◌∷◌, ◌++◌, length, drop, slice_index_or, Result, IfOk}
 use Rattle.std.proofs.Common.{ap, ◌∙◌, arith, sym}
+use Rattle.std.proofs.lemmas.Result.{IfOk-weaker}
+use Rattle.mini_model.specs.declared.memory.OutOfMemory.{OutOfMemory}
 use Rattle.mini_model.specs.Tree.{Tree, Trees, none, ◌▸◌}
 use Rattle.mini_node.specs.Children.{trees_of}
 use Rattle.mini_laws.specs.declared.names.Binding.{Binding}
@@ -10,14 +12,14 @@ use Rattle.mini_laws.specs.Scopes.{at_or_empty, scopes_by}
 use Rattle.mini_scope.specs.declared.opening.OpenScopes.{OpenScopes}
 use Rattle.mini_scope.specs.ScopeAt.{scope_at}
 
-at_each : (o : OpenScopes) (ss : List (List Binding)) → o.first.items ≡ at_or_empty ss 0 → o.second.items ≡ at_or_empty ss 1 → o.third.items ≡ at_or_empty ss 2 → ((k : ℕ) → [] ≡ at_or_empty ss (suc (suc (suc k)))) → (k : ℕ) → scope_at o k ≡ at_or_empty ss k
-at_each o ss a b c d zero = a
-at_each o ss a b c d (suc zero) = b
-at_each o ss a b c d (suc (suc zero)) = c
-at_each o ss a b c d (suc (suc (suc k))) = d k
+none_at : (o : OpenScopes) → o.first.items ≡ [] → o.second.items ≡ [] → o.third.items ≡ [] → (k : ℕ) → scope_at o k ≡ at_or_empty [] k
+none_at o a b c zero = a
+none_at o a b c (suc zero) = b
+none_at o a b c (suc (suc zero)) = c
+none_at o a b c (suc (suc (suc k))) = refl
 
-pub same_scopes : (o : OpenScopes) (ss : List (List Binding)) → o.first.items ≡ at_or_empty ss 0 → o.second.items ≡ at_or_empty ss 1 → o.third.items ≡ at_or_empty ss 2 → ((k : ℕ) → [] ≡ at_or_empty ss (suc (suc (suc k)))) → scope_at o ≡ at_or_empty ss
-same_scopes o ss a b c d = λ i k. at_each o ss a b c d k i
+pub no_scopes : (o : OpenScopes) → o.first.items ≡ [] → o.second.items ≡ [] → o.third.items ≡ [] → scope_at o ≡ at_or_empty []
+no_scopes o a b c = λ i k. none_at o a b c k i
 
 -- a slice by its first nodes
 pub one_up : (xs : List Tree) (x : Tree) → 1 ≤ length xs → x ≡ slice_index_or xs 0 x → trees_of xs ≡ x ▸ trees_of (drop 1 xs)
@@ -68,12 +70,18 @@ few_for_function own (x ∷ []) h = refl
 few_for_function own (x ∷ (y ∷ [])) h = refl
 few_for_function own (x ∷ (y ∷ (z ∷ xs))) h = absurd (omega arith)
 
--- scopes that are these by definition
-pub has_scopes : (o : OpenScopes) (p : Opening) (ts : Trees) (ss : List (List Binding)) → scopes_by p ts ≡ ss → o.first.items ≡ at_or_empty ss 0 → o.second.items ≡ at_or_empty ss 1 → o.third.items ≡ at_or_empty ss 2 → ((k : ℕ) → [] ≡ at_or_empty ss (suc (suc (suc k)))) → scope_at o ≡ at_or_empty (scopes_by p ts)
-has_scopes o p ts ss e a b c d = same_scopes o ss a b c d ∙ ap at_or_empty (sym e)
+-- scopes that are these by definition, or these with empty ones after them
+last_empty : (ss : List (List Binding)) (k : ℕ) → at_or_empty (ss ++ [] ∷ []) k ≡ at_or_empty ss k
+last_empty [] zero = refl
+last_empty [] (suc k) = refl
+last_empty (s ∷ ss) zero = refl
+last_empty (s ∷ ss) (suc k) = last_empty ss k
 
-pub one_scope : (o : OpenScopes) (p : Opening) (ts : Trees) (s : List Binding) → scopes_by p ts ≡ s ∷ [] → o.first.items ≡ s → o.second.items ≡ [] → o.third.items ≡ [] → scope_at o ≡ at_or_empty (scopes_by p ts)
-one_scope o p ts s e a b c = has_scopes o p ts (s ∷ []) e a b c (λ k. refl)
+pub padded : (ss : List (List Binding)) → at_or_empty (ss ++ [] ∷ []) ≡ at_or_empty ss
+padded ss = λ i k. last_empty ss k i
 
-pub no_scope : (o : OpenScopes) (p : Opening) (ts : Trees) → scopes_by p ts ≡ [] → o.first.items ≡ [] → o.second.items ≡ [] → o.third.items ≡ [] → scope_at o ≡ at_or_empty (scopes_by p ts)
-no_scope o p ts e a b c = has_scopes o p ts [] e a b c (λ k. refl)
+pub these_scopes : (p : Opening) (ts : Trees) (ss : List (List Binding)) (r : Result OpenScopes OutOfMemory) → scopes_by p ts ≡ ss → IfOk r (λ o. scope_at o ≡ at_or_empty ss) → IfOk r (λ o. scope_at o ≡ at_or_empty (scopes_by p ts))
+these_scopes p ts ss r e h = IfOk-weaker r _ _ (λ o f. f ∙ ap at_or_empty (sym e)) h
+
+pub no_scope : (o : OpenScopes) (p : Opening) (ts : Trees) → scopes_by p ts ≡ [] → scope_at o ≡ at_or_empty [] → scope_at o ≡ at_or_empty (scopes_by p ts)
+no_scope o p ts e f = f ∙ ap at_or_empty (sym e)

@@ -7,8 +7,8 @@ ghost use Rattle.mini_scope.specs.Errors.{first_path, IsFree, Stands};
 use crate::doubles::push_early_names;
 use crate::jumps::push_early_jumps;
 use crate::targets::no_targets;
-use mini_model::{OutOfMemory, OwnedList};
 use mini_laws::Path;
+use mini_model::{OutOfMemory, OwnedList};
 use mini_node::Node;
 use std::alloc::Global;
 

@@ -5,8 +5,8 @@ ghost use Rattle.mini_laws.specs.Early.{clashing};
 ghost use Rattle.mini_scope.specs.Paths.{use_for};
 
 use crate::environment::Environment;
-use mini_model::{Name, OutOfMemory};
 use mini_laws::{Binding, Declaration, Path, Use};
+use mini_model::{Name, OutOfMemory};
 use std::alloc::Global;
 
 /// How to look for the declarations with which a lexical one clashes, or another one.

@@ -9,8 +9,8 @@ ghost use Rattle.mini_scope.specs.Paths.{IsUp};
 use crate::declared::copy_text;
 use crate::kinds::{clash_of, holds_statements, is_function, is_pattern};
 use crate::tables::place_of;
-use mini_model::{Name, OutOfMemory, OwnedList, Shape};
 use mini_laws::{Clash, Declaration, Declared, Path, Place};
+use mini_model::{Name, OutOfMemory, OwnedList, Shape};
 use mini_node::{Node, Nodes};
 use std::alloc::Global;
 

@@ -6,8 +6,8 @@ ghost use Rattle.mini_node.specs.Children.{trees_of};
 ghost use Rattle.mini_laws.specs.DeclaredNames.{own_names, names_of, all_names, body_names, all_body_names, has_inner as has_inner_part, any_inner as any_inner_part};
 
 use crate::tables::{is_inner, is_statement_list, place_of};
-use mini_model::{Name, OutOfMemory, OwnedList, Text};
 use mini_laws::{Declared, Place};
+use mini_model::{Name, OutOfMemory, OwnedList, Text};
 use mini_node::{Node, Nodes};
 use std::alloc::Global;
 

@@ -6,8 +6,8 @@ ghost use Rattle.mini_laws.specs.DeclaredNames.{with_names};
 ghost use Rattle.mini_scope.specs.ScopeAt.{bound};
 
 use crate::Environment;
-use mini_model::{Name, OutOfMemory};
 use mini_laws::{Binding, Use};
+use mini_model::{Name, OutOfMemory};
 use std::alloc::Global;
 
 /// Adds these names.

@@ -5,8 +5,8 @@ ghost use Rattle.mini_laws.specs.Early.{early_names, all_early_names};
 
 use crate::clashes::push_clashing;
 use crate::declarations::{go_up, push_scope};
-use mini_model::OutOfMemory;
 use mini_laws::Path;
+use mini_model::OutOfMemory;
 use mini_node::{Node, Nodes};
 use std::alloc::Global;
 

@@ -5,8 +5,8 @@ ghost use Rattle.mini_laws.specs.Resolved.{symbol_of, own_symbol, or_else, is_fo
 ghost use Rattle.mini_scope.specs.Buckets.{AreEmpty, has_name};
 
 use crate::hash::bucket_of;
-use mini_model::{OutOfMemory, SymbolId, Text};
 use mini_laws::{Binding, Use};
+use mini_model::{OutOfMemory, SymbolId, Text};
 use std::alloc::Global;
 use std::marker::Model;
 

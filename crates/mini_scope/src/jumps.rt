@@ -6,8 +6,8 @@ ghost use Rattle.mini_laws.specs.Early.{early_jumps, all_early_jumps, targets_of
 use crate::declarations::{copy_path, go_up};
 use crate::kinds::turn_of;
 use crate::targets::{is_bad_jump, turned};
-use mini_model::{OutOfMemory, Shape};
 use mini_laws::{Path, Targets, Turn};
+use mini_model::{OutOfMemory, Shape};
 use mini_node::{Node, Nodes};
 use std::alloc::Global;
 

@@ -3,8 +3,8 @@
 ghost use Rattle.std.specs.Prelude.{◌≡◌};
 ghost use Rattle.mini_laws.specs.Early.{clash_of as clash_in, holds_statements as holds_them, is_function_shape, is_labeled as is_labeled_shape, is_loop_shape, is_pattern_shape, jump_of as jump_in, turn_of as turn_in};
 
-use mini_model::Shape;
 use mini_laws::{Clash, Jump, Turn};
+use mini_model::Shape;
 
 /// Whether a node of this shape holds the statements of a body, in order.
 pub fn holds_statements(shape: &Shape) -> bool

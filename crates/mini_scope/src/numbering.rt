@@ -9,8 +9,8 @@ ghost use Rattle.mini_scope.specs.ScopeAt.{scope_at};
 
 use crate::opening::OpenScopes;
 use crate::{Environment, is_leaf, use_of};
-use mini_model::{OutOfMemory, Shape};
 use mini_laws::Use;
+use mini_model::{OutOfMemory, Shape};
 use mini_node::{Node, Nodes};
 use std::alloc::Global;
 
@@ -20,13 +20,6 @@ fn give_symbol(environment: &Environment, usage: Use, node: &mut Node)
     if let Some(name) = node.name_mut() {
         name.symbol = environment.symbol_of(usage, &name.spelling);
     }
-}
-
-// The same for a node without children, which opens no scope before one.
-fn name_leaf(environment: &Environment, usage: Use, node: &mut Node)
-    ensures { node.new ≡ with_names node.old (map (with_symbol usage environment.now) (names_of node.old)) }
-{
-    give_symbol(environment, usage, node);
 }
 
 fn put_children(node: &mut Node, children: Nodes)
@@ -49,12 +42,11 @@ pub fn resolve_node(
     ensures resolved { IfOk result (λ after. node.new ≡ resolved usage environment.old next node.old) }
     ensures left { IfOk result (λ after. environment.new ≡ environment.old) }
 {
+    give_symbol(environment, usage, node);
     if is_leaf(node) {
-        name_leaf(environment, usage, node);
         return Ok(next);
     }
-    let scopes = OpenScopes::of(alloc, usage, node)?;
-    give_symbol(environment, usage, node);
+    let mut scopes = OpenScopes::of(alloc, usage, node)?;
     let around = environment.len();
     let mut children = node.take_children();
     let after = resolve_nodes(
@@ -63,12 +55,12 @@ pub fn resolve_node(
         next,
         usage,
         node.shape(),
-        scopes,
+        &mut scopes,
         &mut children,
-    )?;
+    );
     put_children(node, children);
     environment.leave(around);
-    Ok(after)
+    after
 }
 
 /// The same for the children of a node of this shape, which opens these scopes.
@@ -79,15 +71,14 @@ fn resolve_nodes(
     next: u32,
     usage: Use,
     shape: &Shape,
-    scopes: OpenScopes,
+    scopes: &mut OpenScopes,
     nodes: &mut Nodes,
 ) -> Result<u32, OutOfMemory>
-    requires { next + symbols_from (scope_at scopes) (use_at shape.now usage) 0 nodes.old < 2 ^ 32 }
-    ensures after { IfOk result (λ after. after ≡ next + symbols_from (scope_at scopes) (use_at shape.now usage) 0 nodes.old) }
-    ensures resolved { IfOk result (λ after. nodes.new ≡ resolved_from (scope_at scopes) (use_at shape.now usage) 0 environment.old next nodes.old) }
+    requires { next + symbols_from (scope_at scopes.old) (use_at shape.now usage) 0 nodes.old < 2 ^ 32 }
+    ensures after { IfOk result (λ after. after ≡ next + symbols_from (scope_at scopes.old) (use_at shape.now usage) 0 nodes.old) }
+    ensures resolved { IfOk result (λ after. nodes.new ≡ resolved_from (scope_at scopes.old) (use_at shape.now usage) 0 environment.old next nodes.old) }
     ensures within { IfOk result (λ after. take (length environment.old) environment.new ≡ environment.old) }
 {
-    let mut scopes = scopes;
     let mut next = next;
     for at in 0..nodes.len() {
         next = environment.enter(next, scopes.take(alloc, at))?;

@@ -1,16 +1,17 @@
 //! The scopes that a node opens.
 
-ghost use Rattle.std.specs.Prelude.{◌≡◌, ℕ, ◌<◌, true, [], ◌∷◌, map, drop, length, IfOk};
+ghost use Rattle.std.specs.Prelude.{◌≡◌, ℕ, ◌<◌, true, List, [], ◌∷◌, map, drop, length, IfOk};
 ghost use Rattle.mini_model.specs.Tree.{children, count, shape_of};
 ghost use Rattle.mini_node.specs.Children.{trees_of};
 ghost use Rattle.mini_laws.specs.declared.names.Declared.TheVariants as declared;
+ghost use Rattle.mini_laws.specs.declared.names.Binding.{Binding as BindingOf};
 ghost use Rattle.mini_laws.specs.DeclaredNames.{names_of, body_names};
 ghost use Rattle.mini_laws.specs.Scopes.{opened, at_or_empty, scopes_by, name_if, lexical_scope as scope_of_names, body_scope as scope_of_body, merged};
 
 use crate::distinct::scope_of;
 use crate::{has_inner, opening_of, push_body_names, push_names};
-use mini_model::{Name, OutOfMemory};
 use mini_laws::{Binding, Declared, Opening, Use};
+use mini_model::{Name, OutOfMemory};
 use mini_node::Node;
 use std::alloc::Global;
 use std::mem;
@@ -72,6 +73,13 @@ fn merged_names(alloc: Global, params: &Node) -> Result<Vec<Name>, OutOfMemory>
     Ok(names)
 }
 
+/// The scope of the names of a function's body, but those that are parameters too.
+fn inner_scope(alloc: Global, params: &Node, body: &Node) -> Result<Vec<Binding>, OutOfMemory>
+    ensures { IfOk result (λ scope. scope.items ≡ scope_of_body (merged params.now) (body_names body.now)) }
+{
+    body_scope(alloc, merged_names(alloc, params)?, body)
+}
+
 /// The scope of a function's or class's own name, where it has one.
 fn name_scope(alloc: Global, holds: bool, id: &Node) -> Result<Vec<Binding>, OutOfMemory>
     ensures { IfOk result (λ scope. scope.items ≡ scope_of_names (name_if holds id.now)) }
@@ -88,9 +96,7 @@ impl OpenScopes {
 
     /// No scope.
     fn none(alloc: Global) -> OpenScopes
-        ensures first { result.first.items ≡ [] }
-        ensures second { result.second.items ≡ [] }
-        ensures third { result.third.items ≡ [] }
+        ensures { scope_at result ≡ at_or_empty [] }
     {
         OpenScopes {
             first: Vec::new(alloc),
@@ -99,17 +105,29 @@ impl OpenScopes {
         }
     }
 
-    /// One scope, for all children.
-    fn one(alloc: Global, first: Vec<Binding>) -> OpenScopes
-        ensures first { result.first.items ≡ first.items }
-        ensures second { result.second.items ≡ [] }
-        ensures third { result.third.items ≡ [] }
+    /// These scopes, where there was memory for each.
+    fn filled(
+        first: Result<Vec<Binding>, OutOfMemory>,
+        second: Result<Vec<Binding>, OutOfMemory>,
+        third: Result<Vec<Binding>, OutOfMemory>,
+    ) -> Result<OpenScopes, OutOfMemory>
+        ensures { (a b c : List BindingOf) → IfOk first (λ s. s.items ≡ a) → IfOk second (λ s. s.items ≡ b) → IfOk third (λ s. s.items ≡ c) → IfOk result (λ scopes. scope_at scopes ≡ at_or_empty (a ∷ b ∷ c ∷ [])) }
     {
-        OpenScopes {
-            first,
-            second: Vec::new(alloc),
-            third: Vec::new(alloc),
-        }
+        Ok(OpenScopes {
+            first: first?,
+            second: second?,
+            third: third?,
+        })
+    }
+
+    /// One scope, for all children.
+    fn one(
+        alloc: Global,
+        first: Result<Vec<Binding>, OutOfMemory>,
+    ) -> Result<OpenScopes, OutOfMemory>
+        ensures { (a : List BindingOf) → IfOk first (λ s. s.items ≡ a) → IfOk result (λ scopes. scope_at scopes ≡ at_or_empty (a ∷ [])) }
+    {
+        OpenScopes::filled(first, Ok(Vec::new(alloc)), Ok(Vec::new(alloc)))
     }
 
     /// Takes out those before the child at an index.
@@ -138,53 +156,49 @@ impl OpenScopes {
         match opening {
             Opening::Nothing => Ok(OpenScopes::none(alloc)),
             Opening::Body => match nodes {
-                [body, ..] => Ok(OpenScopes::one(alloc, body_scope(alloc, Vec::new(alloc), body)?)),
+                [body, ..] => OpenScopes::one(alloc, body_scope(alloc, Vec::new(alloc), body)),
                 [] => Ok(OpenScopes::none(alloc)),
             },
             Opening::Function(own) => match nodes {
-                [id, params, body, ..] => Ok(OpenScopes {
-                    first: name_scope(alloc, own, id)?,
-                    second: parameter_scope(alloc, params)?,
-                    third: body_scope(alloc, merged_names(alloc, params)?, body)?,
-                }),
+                [id, params, body, ..] => OpenScopes::filled(
+                    name_scope(alloc, own, id),
+                    parameter_scope(alloc, params),
+                    inner_scope(alloc, params, body),
+                ),
                 _ => Ok(OpenScopes::none(alloc)),
             },
             Opening::Arrow => match nodes {
-                [params, body, ..] => Ok(OpenScopes {
-                    first: parameter_scope(alloc, params)?,
-                    second: body_scope(alloc, merged_names(alloc, params)?, body)?,
-                    third: Vec::new(alloc),
-                }),
+                [params, body, ..] => OpenScopes::filled(
+                    parameter_scope(alloc, params),
+                    inner_scope(alloc, params, body),
+                    Ok(Vec::new(alloc)),
+                ),
                 _ => Ok(OpenScopes::none(alloc)),
             },
             Opening::Class(own, inside) => match nodes {
-                [id, _super_class, _body, again, ..] => Ok(OpenScopes {
-                    first: name_scope(alloc, own, id)?,
-                    second: name_scope(alloc, inside, again)?,
-                    third: Vec::new(alloc),
-                }),
+                [id, _super_class, _body, again, ..] => OpenScopes::filled(
+                    name_scope(alloc, own, id),
+                    name_scope(alloc, inside, again),
+                    Ok(Vec::new(alloc)),
+                ),
                 _ => Ok(OpenScopes::none(alloc)),
             },
             Opening::First => match nodes {
-                [first, ..] => Ok(OpenScopes::one(
-                    alloc,
-                    lexical_scope(alloc, Declared::Lexical, first)?,
-                )),
+                [first, ..] => {
+                    OpenScopes::one(alloc, lexical_scope(alloc, Declared::Lexical, first))
+                }
                 [] => Ok(OpenScopes::none(alloc)),
             },
             Opening::Second => match nodes {
-                [_first, second, ..] => Ok(OpenScopes {
-                    first: Vec::new(alloc),
-                    second: lexical_scope(alloc, Declared::Lexical, second)?,
-                    third: Vec::new(alloc),
-                }),
+                [_first, second, ..] => OpenScopes::filled(
+                    Ok(Vec::new(alloc)),
+                    lexical_scope(alloc, Declared::Lexical, second),
+                    Ok(Vec::new(alloc)),
+                ),
                 _ => Ok(OpenScopes::none(alloc)),
             },
             Opening::Bound => match nodes {
-                [first, ..] => Ok(OpenScopes::one(
-                    alloc,
-                    lexical_scope(alloc, Declared::Bound, first)?,
-                )),
+                [first, ..] => OpenScopes::one(alloc, lexical_scope(alloc, Declared::Bound, first)),
                 [] => Ok(OpenScopes::none(alloc)),
             },
         }

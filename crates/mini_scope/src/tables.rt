@@ -4,8 +4,8 @@ ghost use Rattle.std.specs.Prelude.{◌≡◌};
 ghost use Rattle.mini_laws.specs.Scopes.{use_of as use_at, is_alone as is_alone_use, opening_of as opening_in, variable_opening as variable_opening_in};
 ghost use Rattle.mini_laws.specs.DeclaredNames.{place_of as place_in, bound_place as bound_in, lexical_place as lexical_in, hoisted_place as hoisted_in, is_statement_list as is_list, is_inner as is_inner_shape};
 
-use mini_model::{AssignmentOperator, Shape, VariableDeclarationKind};
 use mini_laws::{Declared, Opening, Place, Use};
+use mini_model::{AssignmentOperator, Shape, VariableDeclarationKind};
 
 /// Where a node of this shape has the names that it declares.
 pub fn place_of(declared: Declared, shape: &Shape) -> Place

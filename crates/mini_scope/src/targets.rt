@@ -6,8 +6,8 @@ ghost use Rattle.mini_laws.specs.Early.{no_targets as none, label_by, label_in, 
 
 use crate::declared::copy_text;
 use crate::kinds::{is_labeled, is_loop as is_loop_shape, jump_of};
-use mini_model::{OutOfMemory, OwnedList, Shape, Text};
 use mini_laws::{Jump, Label, Targets, Turn};
+use mini_model::{OutOfMemory, OwnedList, Shape, Text};
 use mini_node::{Node, Nodes};
 use std::alloc::Global;
 
