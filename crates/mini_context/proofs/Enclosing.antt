@@ -1,9 +1,12 @@
 -- Functions, added one after another.
-use Rattle.std.specs.Prelude.{ℕ, zero, suc, ◌≡◌, ◌≤◌, ◌<◌, refl, nat_eq, nat_lt, ◌&&◌, ◌||◌, Bool, true, false, List, [], ◌∷◌, length, slice_index_or, if◌then◌else◌}
+use Rattle.std.specs.Prelude.{ℕ, zero, suc, ◌≡◌, ◌≤◌, ◌<◌, refl, nat_eq, nat_lt, ◌&&◌, ◌||◌, Bool, true, false, List, [], ◌∷◌, ◌+◌, ◌++◌, length, slice_index_or, take, if◌then◌else◌, Result, OnOk}
 use Rattle.std.specs.List.{list_any}
 use Rattle.std.proofs.Common.{ap, ◌∙◌, arith, sym, subst, eq-eqb}
 use Rattle.std.proofs.lemmas.Bool.{eqb-true, ltb-true, ltb-false}
+use Rattle.std.proofs.lemmas.List.{take_all, take_more}
 use Rattle.std.proofs.lemmas.List.Folds.{list_any-append}
+use Rattle.std.proofs.lemmas.Result.{on_ok_weaker}
+use Rattle.mini_model.specs.declared.memory.OutOfMemory.{OutOfMemory}
 use Rattle.mini_model.specs.declared.name.Name.{Name}
 use Rattle.mini_model.specs.declared.shape.Shape.{Shape}
 use Rattle.mini_model.specs.declared.shape.Shape.TheVariants as shape
@@ -37,7 +40,7 @@ or_in false b e = e
 or_first : (a b : Bool) → a ≡ true → (a || b) ≡ true
 or_first a b e = ap (λ v. v || b) e
 
-and_left : (a b : Bool) → (a && b) ≡ true → a ≡ true
+pub and_left : (a b : Bool) → (a && b) ≡ true → a ≡ true
 and_left true b e = refl
 and_left false b e = absurd (cc e)
 
@@ -71,6 +74,12 @@ names_put k = record {
         ∙ ap (λ v. holds a s j || (v && nat_eq k j)) (sym (list_any-append (same_variable (named s)) xs ys));
   };
 }
+
+pub names_turn : (k : ℕ) (xs : List Name) (i : ℕ) (x : Name) (a b c : List (List ℕ)) → i < length xs → x ≡ slice_index_or xs i x → PutNames k (take i xs) a b → PutNames k (x ∷ []) b c → PutNames k (take (i + 1) xs) a c
+names_turn k xs i x a b c h e p q = subst (λ ys. PutNames k ys a c) (sym (take_more xs i x h ∙ ap (λ y. take i xs ++ y ∷ []) (sym e))) ((names_put k).both (take i xs) (x ∷ []) a b c p q)
+
+pub names_end : (k : ℕ) (xs : List Name) (i : ℕ) (a b : List (List ℕ)) → length xs ≤ i → PutNames k (take i xs) a b → PutNames k xs a b
+names_end k xs i a b h p = subst (λ ys. PutNames k ys a b) (take_all i xs h) p
 
 pub numbers_put : (k : ℕ) → Adds (PutNumbers k)
 numbers_put k = record {
@@ -250,3 +259,35 @@ no_params_in d g ds (x ∷ (y ∷ xs)) h = absurd (omega arith)
 
 pub few_params : (n : Tree) (d g : Bool) (ds : List (List ℕ)) (xs : List Tree) (old : Params) → shape_of n ≡ shape.Function d g ds → trees_of xs ≡ children n → length xs < 2 → Enclosed (own_params (shape_of n) (children n)) old old
 few_params n d g ds xs old e f h = subst (λ ps. Enclosed ps old old) (sym (ap (λ k. own_params k (children n)) e ∙ ap (own_params (shape.Function d g ds)) (sym f) ∙ no_params_in d g ds xs h)) (enclosed_add.nothing old)
+
+-- a node that is no function
+other_params : (h : Shape) (ts : Trees) → ((d g : Bool) (ds : List (List ℕ)) → h ≡ shape.Function d g ds → ⊥) → ((ds : List (List ℕ)) → h ≡ shape.ArrowFunctionExpression ds → ⊥) → own_params h ts ≡ []
+other_params (shape.Function d g ds) ts n m = absurd (n d g ds refl)
+other_params (shape.ArrowFunctionExpression ds) ts n m = absurd (m ds refl)
+other_params h ts n m = refl
+
+pub unenclosed : (n : Tree) (h : Shape) (old : Params) → h ≡ shape_of n → ((d g : Bool) (ds : List (List ℕ)) → h ≡ shape.Function d g ds → ⊥) → ((ds : List (List ℕ)) → h ≡ shape.ArrowFunctionExpression ds → ⊥) → Enclosed (own_params (shape_of n) (children n)) old old
+unenclosed n h old e f g = subst (λ ps. Enclosed ps old old) (sym (ap (λ k. own_params k (children n)) (sym e) ∙ other_params h (children n) f g)) (enclosed_add.nothing old)
+
+no_arrow_params : (ds : List (List ℕ)) (xs : List Tree) → length xs < 1 → own_params (shape.ArrowFunctionExpression ds) (trees_of xs) ≡ []
+no_arrow_params ds [] h = refl
+no_arrow_params ds (x ∷ xs) h = absurd (omega arith)
+
+second_params : (d g : Bool) (ds : List (List ℕ)) (xs : List Tree) (x : Tree) → 2 ≤ length xs → x ≡ slice_index_or xs 1 x → own_params (shape.Function d g ds) (trees_of xs) ≡ x ∷ []
+second_params d g ds [] x h e = absurd (omega arith)
+second_params d g ds (y ∷ []) x h e = absurd (omega arith)
+second_params d g ds (y ∷ (z ∷ xs)) x h e = ap (λ r. r ∷ []) (sym e)
+
+first_params : (ds : List (List ℕ)) (xs : List Tree) (x : Tree) → 1 ≤ length xs → x ≡ slice_index_or xs 0 x → own_params (shape.ArrowFunctionExpression ds) (trees_of xs) ≡ x ∷ []
+first_params ds [] x h e = absurd (omega arith)
+first_params ds (y ∷ xs) x h e = ap (λ r. r ∷ []) (sym e)
+
+pub few_arrow_params : (n : Tree) (ds : List (List ℕ)) (xs : List Tree) (old : Params) → shape_of n ≡ shape.ArrowFunctionExpression ds → trees_of xs ≡ children n → length xs < 1 → Enclosed (own_params (shape_of n) (children n)) old old
+few_arrow_params n ds xs old e f h = subst (λ ps. Enclosed ps old old) (sym (ap (λ k. own_params k (children n)) e ∙ ap (own_params (shape.ArrowFunctionExpression ds)) (sym f) ∙ no_arrow_params ds xs h)) (enclosed_add.nothing old)
+
+-- a function, of which the parameters are added
+pub function_enclosed : (n : Tree) (d g : Bool) (ds : List (List ℕ)) (xs : List Tree) (x : Tree) (old new : Params) → shape_of n ≡ shape.Function d g ds → trees_of xs ≡ children n → 2 ≤ length xs → x ≡ slice_index_or xs 1 x → (r : Result Unit OutOfMemory) → OnOk r (Enclosed (x ∷ []) old new) → OnOk r (Enclosed (own_params (shape_of n) (children n)) old new)
+function_enclosed n d g ds xs x old new e f h i r o = on_ok_weaker r (λ q. subst (λ ps. Enclosed ps old new) (sym (ap (λ k. own_params k (children n)) e ∙ ap (own_params (shape.Function d g ds)) (sym f) ∙ second_params d g ds xs x h i)) q) o
+
+pub arrow_enclosed : (n : Tree) (ds : List (List ℕ)) (xs : List Tree) (x : Tree) (old new : Params) → shape_of n ≡ shape.ArrowFunctionExpression ds → trees_of xs ≡ children n → 1 ≤ length xs → x ≡ slice_index_or xs 0 x → (r : Result Unit OutOfMemory) → OnOk r (Enclosed (x ∷ []) old new) → OnOk r (Enclosed (own_params (shape_of n) (children n)) old new)
+arrow_enclosed n ds xs x old new e f h i r o = on_ok_weaker r (λ q. subst (λ ps. Enclosed ps old new) (sym (ap (λ k. own_params k (children n)) e ∙ ap (own_params (shape.ArrowFunctionExpression ds)) (sym f) ∙ first_params ds xs x h i)) q) o

@@ -1,5 +1,5 @@
 -- The walk that lists scopes, and the scope of each symbol.
-use Rattle.std.specs.Prelude.{ℕ, suc, ◌+◌, ◌≡◌, ◌≤◌, ◌<◌, refl, Bool, true, false, ◌||◌, List, [], ◌∷◌, ◌++◌, length, map, slice_index, if◌then◌else◌}
+use Rattle.std.specs.Prelude.{ℕ, zero, suc, ◌+◌, ◌≡◌, ◌≤◌, ◌<◌, refl, nat_eq, Bool, true, false, ◌&&◌, ◌||◌, List, [], ◌∷◌, ◌++◌, length, map, slice_index, if◌then◌else◌}
 use Rattle.std.proofs.Common.{ap, ◌∙◌, sym, subst, arith, append_assoc}
 use Rattle.std.proofs.lemmas.List.{append-nil, length-append}
 use Rattle.std.proofs.lemmas.List.Folds.{list_any-append}
@@ -18,6 +18,8 @@ use Rattle.mini_scope.specs.declared.opening.OpenScopes.{OpenScopes}
 use Rattle.mini_context.specs.declared.listing.ScopeTables.{ScopeTables}
 use Rattle.mini_context.specs.Tables.{named, Listed, Marked, Owned, OwnedBy}
 use Rattle.mini_laws.specs.Mentions.{is_among, same_variable}
+use Rattle.std.proofs.lemmas.Bool.{eqb-true}
+use Rattle.mini_context.proofs.Enclosing.{and_left}
 use Rattle.mini_context.proofs.Evals.{evals_step}
 use Rattle.mini_context.proofs.Gathering.{Adds, Gathers, Until, turn}
 use Rattle.mini_context.proofs.Marking.{marks_add}
@@ -76,6 +78,38 @@ lists_add = record {
     seen = subst (λ ns. Marked ns a.seen.items c.seen.items) (sym (seen_both xs ys)) (marks_add.both (seen_in xs) (seen_in ys) a.seen.items b.seen.items c.seen.items f.seen g.seen);
   };
 }
+
+-- ---- the scopes that are entered at once
+entered_one : (l : ℕ) (bs : List Binding) (strict evals : Bool) → l ≤ 1 → (nat_eq l 0 && nat_eq (length bs) 0) ≡ false → entered l (record { names = names_in bs; strict = strict; evals = evals }) ≡ record { names = names_in bs; strict = strict; evals = evals } ∷ []
+entered_one zero [] strict evals h e = absurd (cc e)
+entered_one zero (b ∷ bs) strict evals h e = refl
+entered_one (suc zero) bs strict evals h e = refl
+entered_one (suc (suc l)) bs strict evals h e = absurd (omega arith)
+
+entered_two : (l : ℕ) (bs : List Binding) (strict evals : Bool) → 1 < l → entered l (record { names = names_in bs; strict = strict; evals = evals }) ≡ record { names = []; strict = strict; evals = evals } ∷ (record { names = names_in bs; strict = strict; evals = evals } ∷ [])
+entered_two zero bs strict evals h = absurd (omega arith)
+entered_two (suc zero) bs strict evals h = absurd (omega arith)
+entered_two (suc (suc l)) bs strict evals h = refl
+
+pub lists_one : (l : ℕ) (bs : List Binding) (strict evals : Bool) (a b : ScopeTables) → l ≤ 1 → (nat_eq l 0 && nat_eq (length bs) 0) ≡ false → Listed (record { names = names_in bs; strict = strict; evals = evals } ∷ []) a b → Listed (entered l (record { names = names_in bs; strict = strict; evals = evals })) a b
+lists_one l bs strict evals a b h e f = subst (λ ss. Listed ss a b) (sym (entered_one l bs strict evals h e)) f
+
+pub lists_two : (l : ℕ) (bs none_of : List Binding) (strict evals : Bool) (a b c : ScopeTables) → 1 < l → none_of ≡ [] → Listed (record { names = names_in none_of; strict = strict; evals = evals } ∷ []) a b → Listed (record { names = names_in bs; strict = strict; evals = evals } ∷ []) b c → Listed (entered l (record { names = names_in bs; strict = strict; evals = evals })) a c
+lists_two l bs none_of strict evals a b c h e f g =
+    let first = subst (λ xs. Listed (record { names = names_in xs; strict = strict; evals = evals } ∷ []) a b) e f in
+    subst (λ ss. Listed ss a c) (sym (entered_two l bs strict evals h)) (lists_add.both (record { names = []; strict = strict; evals = evals } ∷ []) (record { names = names_in bs; strict = strict; evals = evals } ∷ []) a b c first g)
+
+-- no scope
+no_more : (n : ℕ) → nat_eq (suc n) 0 ≡ true → ⊥
+no_more n e = let same : suc n ≡ 0 = eqb-true (suc n) 0 e in absurd (omega (arith, same))
+
+entered_none : (l : ℕ) (bs : List Binding) (strict evals : Bool) → (nat_eq l 0 && nat_eq (length bs) 0) ≡ true → entered l (record { names = names_in bs; strict = strict; evals = evals }) ≡ []
+entered_none zero [] strict evals e = refl
+entered_none zero (b ∷ bs) strict evals e = absurd (no_more (length bs) e)
+entered_none (suc l) bs strict evals e = absurd (no_more l (and_left (nat_eq (suc l) 0) (nat_eq (length bs) 0) e))
+
+pub lists_none : (l : ℕ) (bs : List Binding) (strict evals : Bool) (a : ScopeTables) → (nat_eq l 0 && nat_eq (length bs) 0) ≡ true → Listed (entered l (record { names = names_in bs; strict = strict; evals = evals })) a a
+lists_none l bs strict evals a e = subst (λ ss. Listed ss a a) (sym (entered_none l bs strict evals e)) (lists_add.nothing a)
 
 -- ---- what is given of a child: the scopes entered before it, and those in it
 abbrev pub child_scopes : (ℕ → List Binding) → (ℕ → Use) → (ℕ → ℕ) → Bool → ℕ → Trees → List Scope

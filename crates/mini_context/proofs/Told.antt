@@ -1,7 +1,8 @@
 -- What the tables of a program say.
-use Rattle.std.specs.Prelude.{ℕ, zero, suc, ◌≡◌, ◌<◌, refl, nat_eq, ◌&&◌, ◌||◌, Bool, true, false, cond, not, List, [], ◌∷◌, ◌++◌, length, map, replicate, slice_index}
+use Rattle.std.specs.Prelude.{ℕ, zero, suc, ◌≡◌, ◌<◌, refl, nat_eq, ◌&&◌, ◌||◌, Bool, true, false, cond, not, List, [], ◌∷◌, ◌++◌, length, map, replicate, slice_index, Result, Ok, Err, OnOk}
 use Rattle.std.specs.List.{filter, list_any}
 use Rattle.std.proofs.Common.{ap, ◌∙◌, arith, sym, subst}
+use Rattle.mini_model.specs.declared.memory.OutOfMemory.{OutOfMemory}
 use Rattle.mini_model.specs.declared.name.Name.{Name}
 use Rattle.mini_model.specs.declared.shape.Shape.{Shape}
 use Rattle.mini_model.specs.declared.shape.Shape.TheVariants as shape
@@ -24,13 +25,15 @@ use Rattle.mini_context.specs.Enclosing.{is_around, Bounded, Enclosed}
 use Rattle.mini_laws.specs.DeclaredNames.{bound_names}
 use Rattle.mini_laws.specs.Foreign.{has_number, is_read_early, moments, params_around}
 use Rattle.mini_context.specs.Lists.{holds, Housed}
-use Rattle.mini_laws.specs.ScopeList.{Scope, names_in, scope_from}
+use Rattle.mini_laws.specs.ScopeList.{Scope, names_in, scope_from, scope_list, scopes_of, seen_in}
+use Rattle.mini_context.specs.declared.listing.ScopeTables.{ScopeTables}
+use Rattle.mini_context.specs.Found.{FoundScopes}
 use Rattle.mini_scope.specs.ScopeAt.{scope_at}
 use Rattle.mini_scope.specs.declared.opening.OpenScopes.{OpenScopes}
 use Rattle.mini_context.specs.declared.standing.Reading.{Reading}
 use Rattle.mini_context.specs.declared.standing.Standing.{Standing}
 use Rattle.mini_context.specs.Own.{is_script_shape}
-use Rattle.mini_context.specs.Tables.{mark_at, named, Marked, Noted, Owned}
+use Rattle.mini_context.specs.Tables.{mark_at, named, Listed, Marked, Noted, Owned, Unlisted}
 use Rattle.mini_context.specs.Visits.{visits, given, fixed_at, bodies_at, mentions_at, exchanged_at, reached_at, imported_at, patterns_at, lexical_at, switched_at, params_at, caught_at, writes_at, binds_at, enclosing_at, is_writing, is_binding, frame_in, first_reading, top}
 use Rattle.mini_context.proofs.Surveys.{fixed_told, bodies_told, mentions_told, modules_told, reached_told, imported_told, patterns_told, lexical_told, switched_told, params_told, caught_told, enclosed_told, filtered}
 use Rattle.mini_context.proofs.Marking.{marks_add}
@@ -231,3 +234,22 @@ early_by n a t old new e f g p s h b =
     ∙ ap (λ v. v || (not (mark_at old.ended.items s) && is_read_early b (named s) (moments a.usage a.around t))) (ap (λ r. holds r s b) g ∙ unlisted n s b)
     ∙ ap (λ v. not v && is_read_early b (named s) (moments a.usage a.around t)) (ap (λ r. mark_at r s) f ∙ blank n s)
     ∙ ap (λ r. is_read_early b (named s) (moments r.usage r.around t)) e
+
+-- what is found of the scopes, where the walk over them ended well
+found_scopes : (n : ℕ) (a : Reading) (env : Environment) (t : Tree) (old new : ScopeTables) (before after : List Mentioned) → a ≡ first_reading → env ≡ [] → Unlisted n old → before ≡ replicate n mentioned.Nowhere →
+    Listed (scope_list a.usage a.strict t) old new → Joined (var_writes a.usage env a.around t) before after → FoundScopes new after n t
+found_scopes n a env t old new before after e f blank g l j =
+    let ss = scopes_of t in
+    let listed = subst (λ r. Listed (scope_list r.usage r.strict t) old new) e l in
+    record {
+      owners = owner_by n ss old.owners.items new.owners.items old.strict.items blank.owners blank.strict listed.owners;
+      strict = flags_by (λ r. r.strict) ss old.strict.items new.strict.items blank.strict listed.stricts;
+      evals = flags_by (λ r. r.evals) ss old.evals.items new.evals.items blank.evals listed.evals;
+      seen = subst (λ o. Marked (seen_in ss) o new.seen.items) blank.seen listed.seen;
+      given = subst (λ o. Joined (program_var_writes t) o after) g (values_by a env t before after e f j);
+    }
+
+pub scopes_found : (n : ℕ) (a : Reading) (env : Environment) (t : Tree) (old new : ScopeTables) (before after : List Mentioned) → a ≡ first_reading → env ≡ [] → Unlisted n old → before ≡ replicate n mentioned.Nowhere →
+    (r : Result Unit OutOfMemory) → OnOk r (Listed (scope_list a.usage a.strict t) old new) → OnOk r (Joined (var_writes a.usage env a.around t) before after) → OnOk r (FoundScopes new after n t)
+scopes_found n a env t old new before after e f blank g (Ok x) l j = found_scopes n a env t old new before after e f blank g l j
+scopes_found n a env t old new before after e f blank g (Err x) l j = tt

@@ -1,9 +1,9 @@
 -- Laws of counts.
-use Rattle.std.specs.Prelude.{ℕ, ◌≡◌, ◌<◌, Bool, List, ◌++◌, slice_index, Some, length}
+use Rattle.std.specs.Prelude.{ℕ, ◌≡◌, ◌<◌, Bool, List, slice_index, Some, length}
 use Rattle.mini_model.specs.Tree.{Tree}
 use Rattle.mini_laws.specs.declared.names.Use.{Use}
 use Rattle.mini_laws.specs.declared.names.Use.TheVariants.{Hoisted, Read}
-use Rattle.mini_laws.specs.References.{Reference, reads, writes, read_count, write_count, counts_of, references}
+use Rattle.mini_laws.specs.References.{reads, writes, read_count, write_count, counts_of, references}
 use Rattle.mini_laws.specs.Mentions.{is_among}
 use Rattle.mini_laws.specs.Foreign.{is_foreign}
 use Rattle.mini_laws.specs.Shared.{is_shared}

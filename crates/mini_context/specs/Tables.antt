@@ -1,5 +1,5 @@
 -- Tables of marks, by symbol and by body.
-use Rattle.std.specs.Prelude.{ℕ, ◌≡◌, ◌<◌, nat_eq, Bool, false, ◌&&◌, ◌||◌, List, [], ◌++◌, length, map, slice_index, slice_index_or, Some, if◌then◌else◌}
+use Rattle.std.specs.Prelude.{ℕ, ◌≡◌, ◌<◌, nat_eq, Bool, false, ◌&&◌, ◌||◌, List, [], ◌++◌, length, map, replicate, slice_index, slice_index_or, Some, if◌then◌else◌}
 use Rattle.std.specs.List.{list_any}
 use Rattle.mini_model.specs.declared.name.Name.{Name}
 use Rattle.mini_laws.specs.Mentions.{is_among}
@@ -33,6 +33,13 @@ pub record OwnedBy (k : ℕ) (xs : List Name) (old new : List ℕ) : Type 0 wher
 pub record Owned (k : ℕ) (ss : List Scope) (old new : List ℕ) : Type 0 where
   pub symbols : length new ≡ length old
   pub each : (s : ℕ) → s < length old → slice_index new s ≡ scope_from (slice_index old s) k ss s
+
+-- before any scope is listed, and so many symbols are declared
+pub record Unlisted (n : ℕ) (f : ScopeTables) : Type 0 where
+  pub strict : f.strict.items ≡ []
+  pub evals : f.evals.items ≡ []
+  pub owners : f.owners.items ≡ replicate n 0
+  pub seen : f.seen.items ≡ replicate n false
 
 -- these scopes were listed after those that are
 pub record Listed (ss : List Scope) (old new : ScopeTables) : Type 0 where

@@ -12,8 +12,8 @@ ghost use Rattle.mini_context.specs.Own.{is_catch_shape};
 ghost use Rattle.mini_context.specs.Tables.{Marked};
 
 use crate::marks::mark_name;
-use mini_model::{Name, OutOfMemory, Shape};
 use mini_laws::{Binding, Declared, Use};
+use mini_model::{Name, OutOfMemory, Shape};
 use mini_node::Node;
 use mini_scope::{Environment, push_names};
 use std::alloc::Global;

@@ -10,8 +10,8 @@ ghost use Rattle.mini_laws.specs.Counts.{Contained, FellBy};
 ghost use Rattle.mini_context.specs.Tallies.{tallied, tallied_number, tallied_symbol};
 
 use crate::steps::Steps;
-use mini_model::{Name, OutOfMemory, Shape, SymbolId};
 use mini_laws::Use;
+use mini_model::{Name, OutOfMemory, Shape, SymbolId};
 use mini_node::{Node, Nodes};
 use mini_scope::use_of;
 use std::alloc::Global;

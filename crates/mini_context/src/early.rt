@@ -15,8 +15,8 @@ use crate::lists::{no_lists, put_number};
 use crate::marks::{is_marked, no_marks};
 use crate::parts::{Part, mark_part};
 use crate::standing::{Reading, reading_below};
-use mini_model::{Name, OutOfMemory, OwnedList, Shape, SymbolId};
 use mini_laws::Around;
+use mini_model::{Name, OutOfMemory, OwnedList, Shape, SymbolId};
 use mini_node::Node;
 use std::alloc::Global;
 
@@ -48,15 +48,14 @@ pub fn empty_moments(alloc: Global) -> Moments {
     }
 }
 
-/// The first moment of a program with so many symbols.
-pub fn no_moments(alloc: Global, symbols: u32) -> Result<Moments, OutOfMemory>
-    ensures ended { IfOk result (λ m. m.ended.items ≡ replicate symbols false) }
-    ensures early { IfOk result (λ m. m.early.items ≡ replicate symbols []) }
+/// Makes it the first moment of a program with so many symbols. After `OutOfMemory` it is fit only to be dropped.
+pub fn open_moments(alloc: Global, symbols: u32, moments: &mut Moments) -> Result<(), OutOfMemory>
+    ensures ended { OnOk result (moments.new.ended.items ≡ replicate symbols false) }
+    ensures early { OnOk result (moments.new.early.items ≡ replicate symbols []) }
 {
-    Ok(Moments {
-        ended: no_marks(alloc, symbols)?,
-        early: no_lists(alloc, symbols)?,
-    })
+    moments.ended = no_marks(alloc, symbols)?;
+    moments.early = no_lists(alloc, symbols)?;
+    Ok(())
 }
 
 fn order_of(shape: &Shape, count: usize) -> Order
@@ -140,22 +139,23 @@ fn pass_below(moments: &mut Moments, reading: Reading, node: &Node) -> Result<()
 {
     match order_of(node.shape(), node.children().len()) {
         Order::InOrder => {
-            pass_rest(moments, reading, node, 0)?;
+            let passed = pass_rest(moments, reading, node, 0);
             pass_ends(moments, reading, node);
+            passed
         }
         Order::RightFirst => {
             pass_child(moments, reading, node, 1)?;
             pass_child(moments, reading, node, 0)?;
-            pass_rest(moments, reading, node, 2)?;
+            let passed = pass_rest(moments, reading, node, 2);
             pass_ends(moments, reading, node);
+            passed
         }
         Order::ParamFirst => {
             pass_child(moments, reading, node, 0)?;
             pass_ends(moments, reading, node);
-            pass_rest(moments, reading, node, 1)?;
+            pass_rest(moments, reading, node, 1)
         }
     }
-    Ok(())
 }
 
 #[cycle(moments)]

@@ -8,8 +8,8 @@ ghost use Rattle.mini_context.specs.Tables.{Marked};
 ghost use Rattle.mini_context.specs.Visits.{exchange_of as exchange_in, exchanged_by};
 
 use crate::marks::{mark_names, mark_own_name};
-use mini_model::Shape;
 use mini_laws::Declared;
+use mini_model::Shape;
 use mini_node::Node;
 
 /// Which of a node's names a module imports or exports.

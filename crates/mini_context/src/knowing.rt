@@ -9,8 +9,7 @@ use crate::context::TraverseCtx;
 use crate::refreshing::refresh;
 use mini_model::{Name, OutOfMemory, Shape};
 use mini_node::Node;
-use mini_tree::CompressOptions;
-use mini_tree::Context;
+use mini_tree::{CompressOptions, Context};
 use std::alloc::Global;
 
 fn own_reference_count(shape: &Shape, name: &Option<Name>) -> u64

@@ -1,6 +1,6 @@
 //! The scopes of a program, in the order in which they are entered.
 
-ghost use Rattle.std.specs.Prelude.{◌≡◌, ◌<◌, ℕ, nat_eq, ◌∷◌, [], ◌++◌, take, length, replicate, slice_index, false, IfOk, OnOk, if◌then◌else◌};
+ghost use Rattle.std.specs.Prelude.{◌≡◌, ◌<◌, ℕ, nat_eq, ◌&&◌, ◌∷◌, [], ◌++◌, take, length, replicate, slice_index, false, IfOk, OnOk, if◌then◌else◌};
 ghost use Rattle.mini_model.specs.Tree.{children, shape_of};
 ghost use Rattle.mini_node.specs.Children.{trees_of, names, number_of, rest_children};
 ghost use Rattle.mini_laws.specs.Mentions.{around_child};
@@ -10,7 +10,7 @@ ghost use Rattle.mini_context.specs.Mentioned.{Joined};
 ghost use Rattle.mini_laws.specs.Scopes.{use_of as use_at};
 ghost use Rattle.mini_laws.specs.ScopeList.{any_has_eval as any_has_eval_in, calls_eval as calls_eval_in, entered, has_eval as has_eval_in, is_eval, is_eval_call as is_eval_call_in, is_eval_callee as is_eval_callee_in, least_scopes as least_in, names_in, scope_list, scope_list_from};
 ghost use Rattle.mini_scope.specs.ScopeAt.{scope_at};
-ghost use Rattle.mini_context.specs.Tables.{Listed, OwnedBy};
+ghost use Rattle.mini_context.specs.Tables.{Listed, OwnedBy, Unlisted};
 
 use crate::count::zeros;
 use crate::giving::{enter_scope, join_values};
@@ -18,8 +18,8 @@ use crate::marks::{mark_bindings, no_marks};
 use crate::mentions::Mentioned;
 use crate::standing::{Reading, reading_below};
 use crate::strictness::is_strict_in;
-use mini_model::{Name, OutOfMemory, Shape, SymbolId};
 use mini_laws::Binding;
+use mini_model::{Name, OutOfMemory, Shape, SymbolId};
 use mini_node::{Node, Nodes};
 use mini_scope::{Environment, OpenScopes, is_leaf};
 use std::alloc::Global;
@@ -38,10 +38,7 @@ pub struct ScopeTables {
 }
 
 /// No scope, and no symbol.
-pub fn empty_scopes(alloc: Global) -> ScopeTables
-    ensures strict { result.strict.items ≡ [] }
-    ensures evals { result.evals.items ≡ [] }
-{
+pub fn empty_scopes(alloc: Global) -> ScopeTables {
     ScopeTables {
         strict: Vec::new(alloc),
         evals: Vec::new(alloc),
@@ -50,17 +47,15 @@ pub fn empty_scopes(alloc: Global) -> ScopeTables
     }
 }
 
-/// No scope, before so many symbols are declared.
-pub fn no_scopes(alloc: Global, symbols: u32) -> Result<ScopeTables, OutOfMemory>
-    ensures strict { IfOk result (λ tables. tables.strict.items ≡ []) }
-    ensures evals { IfOk result (λ tables. tables.evals.items ≡ []) }
-    ensures owners { IfOk result (λ tables. tables.owners.items ≡ replicate symbols 0) }
-    ensures seen { IfOk result (λ tables. tables.seen.items ≡ replicate symbols false) }
+/// Makes them tables of no scope, before so many symbols are declared. After `OutOfMemory` they are fit only to be dropped.
+pub fn open_scopes(alloc: Global, symbols: u32, tables: &mut ScopeTables) -> Result<(), OutOfMemory>
+    ensures { OnOk result (Unlisted symbols tables.new) }
 {
-    let mut tables = empty_scopes(alloc);
+    tables.strict = Vec::new(alloc);
+    tables.evals = Vec::new(alloc);
     tables.owners = zeros(alloc, symbols)?;
     tables.seen = no_marks(alloc, symbols)?;
-    Ok(tables)
+    Ok(())
 }
 
 /// The units of `eval`.
@@ -198,6 +193,32 @@ fn evals_from(may_eval: bool, nodes: &Nodes, from: usize) -> bool
     may_eval && any_has_eval(nodes, from)
 }
 
+/// Lists at least so many scopes, of which the last declares these names, where there are some or a scope is wanted.
+fn push_scopes(
+    tables: &mut ScopeTables,
+    least: usize,
+    scope: &[Binding],
+    strict: bool,
+    evals: bool,
+) -> Result<(), OutOfMemory>
+    requires { (nat_eq least 0 && nat_eq (length scope.now) 0) ≡ false }
+    ensures { OnOk result (Listed (entered least (record { names = names_in scope.now; strict = strict; evals = evals })) tables.old tables.new) }
+{
+    if least > 1 {
+        push_scope(tables, &scope[..0], strict, evals)?;
+        push_scope(tables, scope, strict, evals)
+    } else {
+        push_scope(tables, scope, strict, evals)
+    }
+}
+
+/// Whether no scope is wanted, and these are no names.
+fn enters_none(least: usize, scope: &[Binding]) -> bool
+    ensures { result ≡ (nat_eq least 0 && nat_eq (length scope.now) 0) }
+{
+    least == 0 && scope.is_empty()
+}
+
 /// Lists the scopes that are entered before the child at an index: at least so many, of which the last declares these
 /// names. Whether a direct eval may stand in that child or in one after it.
 fn push_entered(
@@ -213,14 +234,11 @@ fn push_entered(
     ensures listed { OnOk result (Listed (entered least (record { names = names_in scope.now; strict = strict; evals = any_has_eval_in (rest_children at nodes.now) })) tables.old tables.new) }
     ensures evals { IfOk result (λ may. may ≡ false → any_has_eval_in (rest_children at nodes.now) ≡ false) }
 {
-    if least == 0 && scope.is_empty() {
+    if enters_none(least, scope) {
         return Ok(may_eval);
     }
     let evals = evals_from(may_eval, nodes, at);
-    if least > 1 {
-        push_scope(tables, &scope[..0], strict, evals)?;
-    }
-    push_scope(tables, scope, strict, evals)?;
+    push_scopes(tables, least, scope, strict, evals)?;
     Ok(evals)
 }
 
@@ -245,9 +263,9 @@ pub fn list_scopes(
     if is_leaf(node) {
         return Ok(());
     }
-    let scopes = OpenScopes::of(alloc, reading.usage, node)?;
+    let mut scopes = OpenScopes::of(alloc, reading.usage, node)?;
     let around = environment.len();
-    list_below(
+    let listed = list_below(
         alloc,
         tables,
         given,
@@ -255,10 +273,10 @@ pub fn list_scopes(
         may_eval,
         reading,
         node,
-        scopes,
-    )?;
+        &mut scopes,
+    );
     environment.leave(around);
-    Ok(())
+    listed
 }
 
 #[cycle(listing)]
@@ -270,14 +288,13 @@ fn list_below(
     may_eval: bool,
     reading: Reading,
     node: &Node,
-    scopes: OpenScopes,
+    scopes: &mut OpenScopes,
 ) -> Result<(), OutOfMemory>
     requires { may_eval ≡ false → any_has_eval_in (children node.now) ≡ false }
-    ensures listed { OnOk result (Listed (scope_list_from (scope_at scopes) (use_at (shape_of node.now) reading.usage) (least_in (shape_of node.now)) (is_strict_at reading.strict (shape_of node.now)) 0 (children node.now)) tables.old tables.new) }
-    ensures given { OnOk result (Joined (var_writes_from (scope_at scopes) (use_at (shape_of node.now) reading.usage) (around_child (shape_of node.now) reading.around (number_of node.now)) 0 environment.old (children node.now)) given.old.items given.new.items) }
+    ensures listed { OnOk result (Listed (scope_list_from (scope_at scopes.old) (use_at (shape_of node.now) reading.usage) (least_in (shape_of node.now)) (is_strict_at reading.strict (shape_of node.now)) 0 (children node.now)) tables.old tables.new) }
+    ensures given { OnOk result (Joined (var_writes_from (scope_at scopes.old) (use_at (shape_of node.now) reading.usage) (around_child (shape_of node.now) reading.around (number_of node.now)) 0 environment.old (children node.now)) given.old.items given.new.items) }
     ensures around { OnOk result (take (length environment.old) environment.new ≡ environment.old) }
 {
-    let mut scopes = scopes;
     let mut may_eval = may_eval;
     let nodes = node.children();
     let strict = is_strict_in(reading.strict, node.shape());

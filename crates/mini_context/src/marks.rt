@@ -5,8 +5,8 @@ ghost use Rattle.mini_laws.specs.DeclaredNames.{own_names, names_of, all_names};
 ghost use Rattle.mini_laws.specs.ScopeList.{names_in};
 ghost use Rattle.mini_context.specs.Tables.{mark_at, Marked};
 
-use mini_model::{Name, OutOfMemory, SymbolId};
 use mini_laws::{Binding, Declared, Place};
+use mini_model::{Name, OutOfMemory, SymbolId};
 use mini_node::{Node, Nodes};
 use mini_scope::place_of;
 use std::alloc::Global;

@@ -15,8 +15,8 @@ ghost use Rattle.mini_context.specs.declared.mentions.Mentioned.TheVariants as m
 use crate::count::{is_reference, is_write};
 use crate::lists::put_number;
 use crate::standing::Standing;
-use mini_model::{OutOfMemory, OwnedList, Shape, SymbolId};
 use mini_laws::Around;
+use mini_model::{OutOfMemory, OwnedList, Shape, SymbolId};
 use mini_node::Node;
 use std::alloc::Global;
 

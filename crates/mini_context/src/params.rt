@@ -8,8 +8,8 @@ ghost use Rattle.mini_context.specs.Lists.{holds};
 
 use crate::catching::names_in;
 use crate::lists::{holds_number, no_lists, put_number};
-use mini_model::{Name, OutOfMemory, OwnedList, Shape};
 use mini_laws::Declared;
+use mini_model::{Name, OutOfMemory, OwnedList, Shape};
 use mini_node::{Node, Nodes};
 use std::alloc::Global;
 

@@ -5,8 +5,8 @@ ghost use Rattle.mini_context.specs.Parts.{caught_part as caught_part_of, fixed_
 ghost use Rattle.mini_context.specs.Tables.{Marked};
 
 use crate::marks::{mark_all_names, mark_names};
-use mini_model::{Shape, VariableDeclarationKind};
 use mini_laws::Declared;
+use mini_model::{Shape, VariableDeclarationKind};
 use mini_node::Nodes;
 
 /// Which of the names that a node's children bind or declare.

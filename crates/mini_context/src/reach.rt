@@ -1,6 +1,6 @@
 //! The parameters that an `arguments` reaches.
 
-ghost use Rattle.std.specs.Prelude.{◌≡◌, ◌&&◌};
+ghost use Rattle.std.specs.Prelude.{◌≡◌, ◌&&◌, ◌||◌, not};
 ghost use Rattle.mini_model.specs.Tree.{shape_of, children};
 ghost use Rattle.mini_node.specs.Children.{names, names_of};
 ghost use Rattle.mini_laws.specs.Shared.{any_names_arguments as any_names_arguments_in, is_arguments as is_arguments_in, is_name_of_variable as is_name_shape, is_of_function as is_of_function_in, names_arguments as names_arguments_in, reached_params};
@@ -11,8 +11,8 @@ ghost use Rattle.mini_context.specs.Tables.{Marked};
 use crate::marks::mark_names;
 use crate::mentions::is_name_of_variable;
 use crate::strictness::is_strict_in;
-use mini_model::{Name, Shape};
 use mini_laws::Declared;
+use mini_model::{Name, Shape};
 use mini_node::{Node, Nodes};
 
 /// The units of `arguments`.
@@ -77,17 +77,29 @@ fn is_function(shape: &Shape) -> bool
     matches!(shape, Shape::Function(..))
 }
 
+/// Whether a node of this shape is a sloppy function.
+fn is_sloppy_function(strict: bool, shape: &Shape) -> bool
+    ensures { result ≡ (is_function_shape shape.now && not (is_strict_at strict shape.now)) }
+{
+    is_function(shape) && !is_strict_in(strict, shape)
+}
+
+/// Whether a function with these parameters and this body names its own `arguments`.
+fn names_own_arguments(params: &Node, body: &Node) -> bool
+    ensures { result ≡ (names_arguments_in params.now || names_arguments_in body.now) }
+{
+    names_arguments(params) || names_arguments(body)
+}
+
 /// Marks the parameters of a sloppy function that names its `arguments`. (ECMA-262, "CreateMappedArgumentsObject".)
 pub fn mark_reached(marks: &mut Vec<bool>, strict: bool, node: &Node)
     ensures { Marked (reached_params (is_strict_at strict (shape_of node.now)) (shape_of node.now) (children node.now)) marks.old.items marks.new.items }
 {
-    let shape = node.shape();
-    if !is_function(shape) || is_strict_in(strict, shape) {
-        return;
-    }
-    if let [_id, params, body, ..] = node.parts() {
-        if names_arguments(params) || names_arguments(body) {
-            mark_names(marks, Declared::Bound, params);
+    if is_sloppy_function(strict, node.shape()) {
+        if let [_id, params, body, ..] = node.parts() {
+            if names_own_arguments(params, body) {
+                mark_names(marks, Declared::Bound, params);
+            }
         }
     }
 }

@@ -3,22 +3,20 @@
 ghost use Rattle.std.specs.Prelude.{◌≡◌, ◌+◌, ◌^◌, ◌<◌, ℕ, Bool, List, ◌||◌, not, length, map, replicate, false, slice_index, IfOk, OnOk};
 ghost use Rattle.mini_laws.specs.declared.names.Use.TheVariants as variant;
 ghost use Rattle.mini_laws.specs.References.{references, reads as is_read, writes as is_write};
-ghost use Rattle.mini_laws.specs.ScopeList.{scope_of_symbol, scopes_of, seen_by_eval as seen_names};
-ghost use Rattle.mini_laws.specs.Shared.{program_var_writes, script_tops as script_tops_of};
-ghost use Rattle.mini_context.specs.declared.mentions.Mentioned.TheVariants as mentioned;
-ghost use Rattle.mini_context.specs.Mentioned.{is_outside as is_outside_of, mentioned_at as entry_at, Joined};
+ghost use Rattle.mini_laws.specs.Shared.{script_tops as script_tops_of};
+ghost use Rattle.mini_context.specs.Mentioned.{is_outside as is_outside_of, mentioned_at as entry_at};
 ghost use Rattle.mini_context.specs.Own.{is_script_shape};
 ghost use Rattle.mini_context.specs.Facts.{Refreshed, Tells, Told, facts_of, foreign, foreign_always, is_changed, is_changed_outside, may_be_unset, shares, written_in_catch};
-ghost use Rattle.mini_context.specs.Found.{Found};
-ghost use Rattle.mini_laws.specs.Foreign.{is_read_early, moments};
+ghost use Rattle.mini_context.specs.Found.{Found, FoundScopes};
+ghost use Rattle.mini_laws.specs.Foreign.{is_read_early, moments as moments_of};
 ghost use Rattle.mini_laws.specs.Mentions.{outermost};
 ghost use Rattle.mini_context.specs.Lists.{holds};
 ghost use Rattle.mini_context.specs.Tables.{mark_at, named, Marked};
 ghost use Rattle.mini_laws.specs.Counts.{Contained, FellBy};
 
 use crate::count::{Counts, count_out, no_counts, own_counts};
-use crate::early::{Moments, empty_moments, no_moments, pass_node};
-use crate::listing::{ScopeTables, empty_scopes, has_eval, list_scopes, no_scopes};
+use crate::early::{Moments, empty_moments, open_moments, pass_node};
+use crate::listing::{ScopeTables, empty_scopes, has_eval, list_scopes, open_scopes};
 use crate::lists::holds_number;
 use crate::marks::{is_marked, mark_bindings, no_marks};
 use crate::mentions::{Mentioned, is_outside, is_somewhere, mentioned_at, no_mentions};
@@ -26,8 +24,8 @@ use crate::params::is_around;
 use crate::standing::{at_top, first_reading};
 use crate::steps::Steps;
 use crate::survey::{Tables, empty_tables, open_tables, survey_node};
-use mini_model::{OutOfMemory, Shape, SymbolId};
 use mini_laws::Use;
+use mini_model::{OutOfMemory, Shape, SymbolId};
 use mini_node::Node;
 use mini_scope::{Environment, OpenScopes};
 use std::alloc::Global;
@@ -89,17 +87,22 @@ fn is_script(shape: &Shape) -> bool
     matches!(shape, Shape::Program(false, _))
 }
 
-// A script's top names, among so many symbols.
-fn script_tops(alloc: Global, symbols: u32, program: &Node) -> Result<Vec<bool>, OutOfMemory>
-    ensures { IfOk result (λ tops. Marked (script_tops_of program.now) (replicate symbols false) tops.items) }
+// Sets which of so many symbols are a script's top names.
+fn mark_tops(
+    alloc: Global,
+    tops: &mut Vec<bool>,
+    program: &Node,
+    symbols: u32,
+) -> Result<(), OutOfMemory>
+    ensures { OnOk result (Marked (script_tops_of program.now) (replicate symbols false) tops.new.items) }
 {
-    let mut tops = no_marks(alloc, symbols)?;
+    *tops = no_marks(alloc, symbols)?;
     if !is_script(program.shape()) {
-        return Ok(tops);
+        return Ok(());
     }
     let scopes = OpenScopes::of(alloc, Use::Read, program)?;
-    mark_bindings(&mut tops, scopes.first.as_slice());
-    Ok(tops)
+    mark_bindings(tops, scopes.first.as_slice());
+    Ok(())
 }
 
 // Sets what a walk over a program with so many symbols finds.
@@ -115,40 +118,41 @@ fn survey_program(
     survey_node(alloc, tables, at_top(), program)
 }
 
-// The scopes of a program with so many symbols, and what its `var`s write.
-fn listed(
+// Sets the scopes of a program with so many symbols, and what its `var`s write.
+fn list_program(
     alloc: Global,
+    scopes: &mut ScopeTables,
+    given: &mut Vec<Mentioned>,
     program: &Node,
     symbols: u32,
-) -> Result<(ScopeTables, Vec<Mentioned>), OutOfMemory>
-    ensures owners { IfOk result (λ r. (s : ℕ) → s < symbols → slice_index r.0.owners.items s ≡ scope_of_symbol program.now s) }
-    ensures strict { IfOk result (λ r. r.0.strict.items ≡ map (λ k. k.strict) (scopes_of program.now)) }
-    ensures evals { IfOk result (λ r. r.0.evals.items ≡ map (λ k. k.evals) (scopes_of program.now)) }
-    ensures seen { IfOk result (λ r. Marked (seen_names program.now) (replicate symbols false) r.0.seen.items) }
-    ensures given { IfOk result (λ r. Joined (program_var_writes program.now) (replicate symbols mentioned.Nowhere) r.1.items) }
+) -> Result<(), OutOfMemory>
+    ensures { OnOk result (FoundScopes scopes.new given.new.items symbols program.now) }
 {
-    let mut scopes = no_scopes(alloc, symbols)?;
-    let mut given = no_mentions(alloc, symbols)?;
+    open_scopes(alloc, symbols, scopes)?;
+    *given = no_mentions(alloc, symbols)?;
     let mut environment = Environment::new(alloc, (symbols as usize).min(BUCKETS) + 1)?;
     list_scopes(
         alloc,
-        &mut scopes,
-        &mut given,
+        scopes,
+        given,
         &mut environment,
         has_eval(program),
         first_reading(),
         program,
-    )?;
-    Ok((scopes, given))
+    )
 }
 
-// Which bodies read each of so many symbols before its declaration has ended.
-fn passed(alloc: Global, program: &Node, symbols: u32) -> Result<Moments, OutOfMemory>
-    ensures { IfOk result (λ m. (s : ℕ) → s < symbols → (b : ℕ) → holds m.early.items s b ≡ is_read_early b (named s) (moments variant.Read outermost program.now)) }
+// Sets which bodies read each of so many symbols before its declaration has ended.
+fn pass_program(
+    alloc: Global,
+    moments: &mut Moments,
+    program: &Node,
+    symbols: u32,
+) -> Result<(), OutOfMemory>
+    ensures { OnOk result ((s : ℕ) → s < symbols → (b : ℕ) → holds moments.new.early.items s b ≡ is_read_early b (named s) (moments_of variant.Read outermost program.now)) }
 {
-    let mut moments = no_moments(alloc, symbols)?;
-    pass_node(&mut moments, first_reading(), program)?;
-    Ok(moments)
+    open_moments(alloc, symbols, moments)?;
+    pass_node(moments, first_reading(), program)
 }
 
 // No look yet.
@@ -170,12 +174,9 @@ fn look_at(look: &mut Look, alloc: Global, program: &Node, symbols: u32) -> Resu
 {
     look.counts = own_counts::<Brand>(alloc, program, symbols, Blank::new(1))?;
     survey_program(alloc, &mut look.tables, program, symbols)?;
-    let (scopes, given) = listed(alloc, program, symbols)?;
-    look.scopes = scopes;
-    look.given = given;
-    look.moments = passed(alloc, program, symbols)?;
-    look.tops = script_tops(alloc, symbols, program)?;
-    Ok(())
+    list_program(alloc, &mut look.scopes, &mut look.given, program, symbols)?;
+    pass_program(alloc, &mut look.moments, program, symbols)?;
+    mark_tops(alloc, &mut look.tops, program, symbols)
 }
 
 impl Scopes {
@@ -184,7 +185,8 @@ impl Scopes {
         requires { length (references variant.Read program.now) + 1 < 2 ^ 32 }
         ensures { IfOk result (λ scopes. Tells scopes symbols program.now) }
     {
-        let first_tops = script_tops(alloc, symbols, program)?;
+        let mut first_tops = Vec::new(alloc);
+        mark_tops(alloc, &mut first_tops, program, symbols)?;
         let mut look = no_look(alloc);
         look_at(&mut look, alloc, program, symbols)?;
         Ok(Scopes { look, first_tops })

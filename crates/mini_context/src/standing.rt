@@ -9,8 +9,8 @@ ghost use Rattle.mini_laws.specs.Foreign.{is_body_by};
 ghost use Rattle.mini_context.specs.Visits.{below, first_reading, frame_by, frame_in, is_exchange_shape, is_import_shape, reading_below, top};
 
 use crate::strictness::is_strict_in;
-use mini_model::{MethodDefinitionKind, Shape};
 use mini_laws::{Around, Numbering, Use};
+use mini_model::{MethodDefinitionKind, Shape};
 use mini_node::{Node, Nodes};
 use mini_scope::use_of;
 

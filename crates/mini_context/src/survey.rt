@@ -2,12 +2,11 @@
 
 ghost use Rattle.std.specs.Prelude.{◌≡◌, ℕ, ◌||◌, ◌&&◌, [], ◌∷◌, nat_eq, ◌<◌, true, false, length, replicate, OnOk};
 ghost use Rattle.mini_model.specs.Tree.{children, shape_of};
-ghost use Rattle.mini_laws.specs.NameBodies.{own_fixed};
-ghost use Rattle.mini_laws.specs.Foreign.{own_lexical, own_pattern_names, own_switched};
-ghost use Rattle.mini_laws.specs.Shared.{own_catch_params};
+ghost use Rattle.mini_laws.specs.Foreign.{own_lexical};
 ghost use Rattle.mini_laws.specs.DeclaredNames.{names_of};
 ghost use Rattle.mini_laws.specs.declared.names.Declared.TheVariants as declared;
 ghost use Rattle.mini_node.specs.Children.{number_of};
+ghost use Rattle.mini_context.specs.Found.{Unmarked};
 ghost use Rattle.mini_context.specs.Tables.{mark_at, Marked, Noted};
 ghost use Rattle.mini_context.specs.declared.mentions.Mentioned.TheVariants as mentioned;
 ghost use Rattle.mini_context.specs.Own.{is_class_shape, is_import_declaration};
@@ -22,8 +21,8 @@ use crate::params::{Params, empty_params, enclose, no_params};
 use crate::parts::{caught_part, fixed_part, lexical_part, mark_part, pattern_part, switched_part};
 use crate::reach::mark_reached;
 use crate::standing::{Standing, frame_in_body, numbering_of, standing_below};
-use mini_model::{OutOfMemory, OwnedList, Shape};
 use mini_laws::{Declared, Numbering};
+use mini_model::{OutOfMemory, OwnedList, Shape};
 use mini_node::Node;
 use std::alloc::Global;
 
@@ -118,22 +117,7 @@ fn open_mentions(
 
 /// Makes them tables for so many symbols, without a mark. After `OutOfMemory` they are fit only to be dropped.
 pub fn open_tables(alloc: Global, symbols: u32, tables: &mut Tables) -> Result<(), OutOfMemory>
-    ensures fixed { OnOk result (tables.new.fixed.items ≡ replicate symbols false) }
-    ensures exchanged { OnOk result (tables.new.exchanged.items ≡ replicate symbols false) }
-    ensures reached { OnOk result (tables.new.reached.items ≡ replicate symbols false) }
-    ensures imported { OnOk result (tables.new.imported.items ≡ replicate symbols false) }
-    ensures patterns { OnOk result (tables.new.patterns.items ≡ replicate symbols false) }
-    ensures lexical { OnOk result (tables.new.lexical.items ≡ replicate symbols false) }
-    ensures switched { OnOk result (tables.new.switched.items ≡ replicate symbols false) }
-    ensures params { OnOk result (tables.new.params.items ≡ replicate symbols false) }
-    ensures caught { OnOk result (tables.new.caught.items ≡ replicate symbols false) }
-    ensures mentioned { OnOk result (tables.new.mentioned.items ≡ replicate symbols mentioned.Nowhere) }
-    ensures written { OnOk result (tables.new.written.items ≡ replicate symbols mentioned.Nowhere) }
-    ensures homes { OnOk result (tables.new.homes.items ≡ replicate symbols []) }
-    ensures functions { OnOk result (tables.new.enclosing.by_symbol.items ≡ replicate symbols []) }
-    ensures numbers { OnOk result (tables.new.enclosing.by_number.items ≡ []) }
-    ensures this_events { OnOk result (tables.new.this_events.items ≡ []) }
-    ensures arguments { OnOk result (tables.new.arguments.items ≡ []) }
+    ensures { OnOk result (Unmarked symbols tables.new) }
 {
     open_marks(
         alloc,
@@ -207,31 +191,6 @@ fn mark_body(
     Ok(())
 }
 
-fn mark_fixed(marks: &mut Vec<bool>, node: &Node)
-    ensures { Marked (own_fixed (shape_of node.now) (children node.now)) marks.old.items marks.new.items }
-{
-    mark_part(marks, fixed_part(node.shape()), node.children());
-}
-
-fn mark_patterns(marks: &mut Vec<bool>, node: &Node)
-    ensures { Marked (own_pattern_names (shape_of node.now) (number_of node.now) (children node.now)) marks.old.items marks.new.items }
-{
-    let part = pattern_part(node.shape(), node.number());
-    mark_part(marks, part, node.children());
-}
-
-fn mark_switched(marks: &mut Vec<bool>, node: &Node)
-    ensures { Marked (own_switched (shape_of node.now) (children node.now)) marks.old.items marks.new.items }
-{
-    mark_part(marks, switched_part(node.shape()), node.children());
-}
-
-fn mark_params(marks: &mut Vec<bool>, node: &Node)
-    ensures { Marked (own_catch_params (shape_of node.now) (children node.now)) marks.old.items marks.new.items }
-{
-    mark_part(marks, caught_part(node.shape()), node.children());
-}
-
 fn is_import(shape: &Shape) -> bool
     ensures { result ≡ is_import_declaration shape.now }
 {
@@ -281,26 +240,28 @@ fn visit(
 ) -> Result<(), OutOfMemory>
     ensures { OnOk result (Surveyed (record { standing = standing; tree = node.now } ∷ []) tables.old tables.new) }
 {
-    mark_fixed(&mut tables.fixed, node);
+    let shape = node.shape();
+    let nodes = node.children();
+    mark_part(&mut tables.fixed, fixed_part(shape), nodes);
+    mark_part(&mut tables.switched, switched_part(shape), nodes);
+    mark_part(&mut tables.params, caught_part(shape), nodes);
+    let pattern = pattern_part(shape, node.number());
+    mark_part(&mut tables.patterns, pattern, nodes);
     mark_exchanged(&mut tables.exchanged, standing.exchanges, node);
     mark_reached(&mut tables.reached, standing.strict, node);
     mark_imported(&mut tables.imported, standing.imports, node);
-    mark_patterns(&mut tables.patterns, node);
     mark_lexical(&mut tables.lexical, standing.in_body, node);
-    mark_switched(&mut tables.switched, node);
-    mark_params(&mut tables.params, node);
     mark_caught(alloc, &mut tables.caught, node)?;
     join_own(&mut tables.mentioned, standing, node);
     join_write(&mut tables.written, standing, node);
     put_home(&mut tables.homes, standing, node)?;
-    enclose(alloc, &mut tables.enclosing, node)?;
     mark_body(
         &mut tables.this_events,
         &mut tables.arguments,
         standing,
         node,
     )?;
-    Ok(())
+    enclose(alloc, &mut tables.enclosing, node)
 }
 
 /// Walks over a tree that stands so.

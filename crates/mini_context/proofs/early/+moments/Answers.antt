@@ -40,18 +40,18 @@ pass_node-returns t c =
     let rest = in_order (shape_of n) (moments_from (use_of (shape_of n) u) (around_child (shape_of n) a (number_of n)) 0 (children n)) (ends_at a (ended_by (shape_of n) (children n))) in
     on_ok_weaker _ (λ p. subst (λ ms. Passed ms c.args.moments.now c.pass_below.new.moments) (opens u a n) (passed_add.both own rest _ _ _ c.in_ok-pass_own.ensures p)) c.pass_below.ensures
 
-pub pass_below-returns-in_ok-pass_rest-in-InOrder : goal.pass_below-returns-in_ok-pass_rest-in-InOrder
-pass_below-returns-in_ok-pass_rest-in-InOrder t c =
+pub pass_below-returns-in-InOrder : goal.pass_below-returns-in-InOrder
+pass_below-returns-in-InOrder t c =
     let n = c.args.node.now in
     let a = c.args.reading.around in
     let uses = use_of (shape_of n) c.args.reading.usage in
     let arounds = around_child (shape_of n) a (number_of n) in
     let e = ends_at a (ended_by (shape_of n) (children n)) in
-    passes_in_order a uses arounds n order.InOrder c.shape.result.now c.len.result c.children.result.now e _ _ c.in-InOrder.ensures c.shape.ensures c.len.ensures c.children.ensures
-    (passed_add.both (rest_of uses arounds 0 (rest_children 0 (children n))) e _ _ _ c.in_ok-pass_rest-in-InOrder.ensures c.pass_ends.ensures)
+    on_ok_weaker c.pass_rest-passed.result (λ p. passes_in_order a uses arounds n order.InOrder c.shape.result.now c.len.result c.children.result.now e _ _ c.in-InOrder.ensures c.shape.ensures c.len.ensures c.children.ensures
+    (passed_add.both (rest_of uses arounds 0 (rest_children 0 (children n))) e _ _ _ p c.pass_ends.ensures)) c.pass_rest-passed.ensures
 
-pub pass_below-returns-in_ok-pass_rest-in-RightFirst : goal.pass_below-returns-in_ok-pass_rest-in-RightFirst
-pass_below-returns-in_ok-pass_rest-in-RightFirst t c =
+pub pass_below-returns-in_ok-pass_child-in-RightFirst-2 : goal.pass_below-returns-in_ok-pass_child-in-RightFirst-2
+pass_below-returns-in_ok-pass_child-in-RightFirst-2 t c =
     let n = c.args.node.now in
     let a = c.args.reading.around in
     let uses = use_of (shape_of n) c.args.reading.usage in
@@ -60,11 +60,11 @@ pass_below-returns-in_ok-pass_rest-in-RightFirst t c =
     let left = moments (uses 0) (arounds 0) (child_or_absent (children n) 0) in
     let rest = rest_of uses arounds 2 (rest_children 2 (children n)) in
     let e = ends_at a (ended_by (shape_of n) (children n)) in
-    passes_in_order a uses arounds n order.RightFirst c.shape.result.now c.len.result c.children.result.now e _ _ c.in-RightFirst.ensures c.shape.ensures c.len.ensures c.children.ensures
-    (passed_add.both ((right ++ left) ++ rest) e _ _ _ (passed_add.both (right ++ left) rest _ _ _ (passed_add.both right left _ _ _ c.in_ok-pass_child-in-RightFirst.ensures c.in_ok-pass_child-in-RightFirst-2.ensures) c.in_ok-pass_rest-in-RightFirst.ensures) c.pass_ends-in-RightFirst.ensures)
+    on_ok_weaker c.pass_rest-passed-in-RightFirst.result (λ p. passes_in_order a uses arounds n order.RightFirst c.shape.result.now c.len.result c.children.result.now e _ _ c.in-RightFirst.ensures c.shape.ensures c.len.ensures c.children.ensures
+    (passed_add.both ((right ++ left) ++ rest) e _ _ _ (passed_add.both (right ++ left) rest _ _ _ (passed_add.both right left _ _ _ c.in_ok-pass_child-in-RightFirst.ensures c.in_ok-pass_child-in-RightFirst-2.ensures) p) c.pass_ends-in-RightFirst.ensures)) c.pass_rest-passed-in-RightFirst.ensures
 
-pub pass_below-returns-in_ok-pass_rest-in-ParamFirst : goal.pass_below-returns-in_ok-pass_rest-in-ParamFirst
-pass_below-returns-in_ok-pass_rest-in-ParamFirst t c =
+pub pass_below-returns-in_ok-pass_child-in-ParamFirst : goal.pass_below-returns-in_ok-pass_child-in-ParamFirst
+pass_below-returns-in_ok-pass_child-in-ParamFirst t c =
     let n = c.args.node.now in
     let a = c.args.reading.around in
     let uses = use_of (shape_of n) c.args.reading.usage in
@@ -72,5 +72,5 @@ pass_below-returns-in_ok-pass_rest-in-ParamFirst t c =
     let param = moments (uses 0) (arounds 0) (child_or_absent (children n) 0) in
     let rest = rest_of uses arounds 1 (rest_children 1 (children n)) in
     let e = ends_at a (ended_by (shape_of n) (children n)) in
-    passes_in_order a uses arounds n order.ParamFirst c.shape.result.now c.len.result c.children.result.now e _ _ c.in-ParamFirst.ensures c.shape.ensures c.len.ensures c.children.ensures
-    (passed_add.both (param ++ e) rest _ _ _ (passed_add.both param e _ _ _ c.in_ok-pass_child-in-ParamFirst.ensures c.pass_ends-in-ParamFirst.ensures) c.in_ok-pass_rest-in-ParamFirst.ensures)
+    on_ok_weaker c.pass_rest.result (λ p. passes_in_order a uses arounds n order.ParamFirst c.shape.result.now c.len.result c.children.result.now e _ _ c.in-ParamFirst.ensures c.shape.ensures c.len.ensures c.children.ensures
+    (passed_add.both (param ++ e) rest _ _ _ (passed_add.both param e _ _ _ c.in_ok-pass_child-in-ParamFirst.ensures c.pass_ends-in-ParamFirst.ensures) p)) c.pass_rest.ensures

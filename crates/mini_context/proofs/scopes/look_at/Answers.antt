@@ -1,4 +1,5 @@
 use Rattle.std.proofs.Common.{refl}
+use Rattle.std.proofs.lemmas.Result.{on_ok_weaker}
 use Rattle.mini_laws.specs.ScopeList.{seen_by_eval}
 use Rattle.mini_laws.specs.Shared.{program_var_writes}
 use Rattle.mini_context.proofs.Told.{from_blank, joined_blank}
@@ -9,8 +10,8 @@ returns c =
     let n = c.args.symbols in
     let t = c.args.program.now in
     let found = c.in_ok-survey_program.ensures in
-    let listed = c.in_ok-scopes.ensures in
-    λ tops. record {
+    let listed = c.in_ok-list_program.ensures in
+    λ tops. on_ok_weaker c.mark_tops.result (λ marked. record {
       reads_told = c.in_ok-look.ensures.reads;
       writes_told = c.in_ok-look.ensures.writes;
       fixed_told = found.fixed_told;
@@ -20,9 +21,9 @@ returns c =
       this_told = found.this_told;
       arguments_told = found.arguments_told;
       looked = record {
-        tops_told = from_blank n _ _ _ refl c.in_ok-look-3.ensures;
-        seen_told = from_blank n (seen_by_eval t) _ c.in_ok-scopes.scopes.seen.items refl listed.seen;
-        given_told = joined_blank n (program_var_writes t) _ c.in_ok-scopes.given.items refl listed.given;
+        tops_told = from_blank n _ _ _ refl marked;
+        seen_told = from_blank n (seen_by_eval t) _ c.list_program.new.scopes.seen.items refl listed.seen;
+        given_told = joined_blank n (program_var_writes t) _ c.list_program.new.given.items refl listed.given;
         exchanged_told = found.exchanged_told;
         imported_told = found.imported_told;
         reached_told = found.reached_told;
@@ -34,7 +35,7 @@ returns c =
         mentioned_told = found.mentioned_told;
         written_told = found.written_told;
         homes_told = found.homes_told;
-        early_told = c.in_ok-look-2.ensures;
+        early_told = c.in_ok-pass_program.ensures;
         enclosed_told = found.enclosed_told;
       };
-    }
+    }) c.mark_tops.ensures

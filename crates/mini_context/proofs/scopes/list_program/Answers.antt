@@ -1,0 +1,7 @@
+use Rattle.mini_context.proofs.Told.{scopes_found}
+use Rattle.mini_context.proofs.scopes.list_program.Goals as goal
+
+pub returns : goal.returns
+returns c =
+    scopes_found c.args.symbols c.first_reading.result c.in_ok-environment.environment c.args.program.now c.open_scopes.new.tables c.list_scopes.new.tables c.in_ok-given.field-0.items c.list_scopes.new.given.items
+    c.first_reading.ensures c.in_ok-environment.ensures c.in_ok-open_scopes.ensures c.in_ok-given.ensures c.list_scopes.result c.list_scopes.ensures.listed c.list_scopes.ensures.given
