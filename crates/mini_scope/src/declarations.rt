@@ -114,10 +114,12 @@ fn push_at(
 {
     if at < nodes.len() {
         path.push(at)?;
-        push_declarations(alloc, declared, is_lexical, path, nodes.child(at), found)?;
+        let pushed = push_declarations(alloc, declared, is_lexical, path, nodes.child(at), found);
         go_up(path);
+        pushed
+    } else {
+        Ok(())
     }
-    Ok(())
 }
 
 /// Whether what a statement of this shape declares in a body is lexical.
@@ -182,10 +184,12 @@ fn push_body_at(
 {
     if at < nodes.len() {
         path.push(at)?;
-        push_body(alloc, is_outer, path, nodes.child(at), found)?;
+        let pushed = push_body(alloc, is_outer, path, nodes.child(at), found);
         go_up(path);
+        pushed
+    } else {
+        Ok(())
     }
-    Ok(())
 }
 
 /// Whether the parameter of a `catch` with these children is a pattern, and not a name alone.
@@ -207,10 +211,12 @@ fn push_block(
 {
     if 1 < nodes.len() {
         path.push(1)?;
-        push_body_at(alloc, false, path, nodes.child(1).children(), 0, found)?;
+        let pushed = push_body_at(alloc, false, path, nodes.child(1).children(), 0, found);
         go_up(path);
+        pushed
+    } else {
+        Ok(())
     }
-    Ok(())
 }
 
 /// Adds what must not clash in the scopes that a node opens.

@@ -72,7 +72,24 @@ fn first_key(shape: &Shape) -> &'static str
         Shape::TaggedTemplateExpression => "tag",
         Shape::MetaProperty(_) => "meta",
         Shape::ImportExpression => "source",
-        _ => "",
+        Shape::Absent
+        | Shape::Listed
+        | Shape::InnerExpression
+        | Shape::EmptyStatement
+        | Shape::DebuggerStatement
+        | Shape::Identifier
+        | Shape::BindingIdentifier
+        | Shape::IdentifierName(_)
+        | Shape::PrivateIdentifier(_)
+        | Shape::NumericLiteral(_)
+        | Shape::StringLiteral(_)
+        | Shape::BooleanLiteral(_)
+        | Shape::NullLiteral
+        | Shape::RegExpLiteral(..)
+        | Shape::BigIntLiteral(_)
+        | Shape::ThisExpression
+        | Shape::Super
+        | Shape::TemplateElement(..) => "",
     }
 }
 

@@ -1,6 +1,6 @@
 //! What may be jumped to.
 
-ghost use Rattle.std.specs.Prelude.{◌≡◌, [], ◌∷◌, ◌++◌, not, unwrap_or, Some, None, IfOk};
+ghost use Rattle.std.specs.Prelude.{◌≡◌, [], ◌∷◌, ◌++◌, not, unwrap_or, Some, None, IfOk, if◌then◌else◌};
 ghost use Rattle.mini_model.specs.Tree.{child_or_absent, shape_of};
 ghost use Rattle.mini_laws.specs.Early.{no_targets as none, label_by, label_in, is_loop as is_loop_in, last_is_loop as last_is_loop_in, label_for, turned as turned_by, has_label as has_label_in, has_loop_label as has_loop_label_in, is_bad as is_bad_with, is_bad_jump as is_bad_jump_in};
 
@@ -132,24 +132,16 @@ pub fn turned(
     Ok(inner)
 }
 
+/// Whether a label with this text is among these; or, for a `continue`, one of a loop.
 #[cycle(has_label)]
-fn has_label(text: &Text, labels: &[Label]) -> bool
-    ensures { result ≡ has_label_in text.now labels.now }
+fn has_label(text: &Text, labels: &[Label], of_loop: bool) -> bool
+    ensures { result ≡ (if of_loop then has_loop_label_in text.now labels.now else has_label_in text.now labels.now) }
 {
     match labels {
         [] => false,
-        [label, rest @ ..] => label.name.as_slice() == text.as_slice() || has_label(text, rest),
-    }
-}
-
-#[cycle(has_loop_label)]
-fn has_loop_label(text: &Text, labels: &[Label]) -> bool
-    ensures { result ≡ has_loop_label_in text.now labels.now }
-{
-    match labels {
-        [] => false,
-        [label, rest @ ..] => (label.name.as_slice() == text.as_slice() && label.is_loop)
-            || has_loop_label(text, rest),
+        [label, rest @ ..] => (label.name.as_slice() == text.as_slice()
+            && (!of_loop || label.is_loop))
+            || has_label(text, rest, of_loop),
     }
 }
 
@@ -172,9 +164,9 @@ fn is_bad_labeled(jump: Jump, text: &Text, targets: &Targets) -> bool
     ensures { result ≡ is_bad_with jump (Some text.now) targets.now }
 {
     match jump {
-        Jump::Break => !has_label(text, targets.labels.as_slice()),
-        Jump::Continue => !has_loop_label(text, targets.labels.as_slice()),
-        Jump::Label => has_label(text, targets.labels.as_slice()),
+        Jump::Break => !has_label(text, targets.labels.as_slice(), false),
+        Jump::Continue => !has_label(text, targets.labels.as_slice(), true),
+        Jump::Label => has_label(text, targets.labels.as_slice(), false),
         Jump::Return => !targets.returns,
         Jump::Yield => !targets.yields,
         Jump::Nothing => false,

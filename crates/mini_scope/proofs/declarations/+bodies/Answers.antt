@@ -1,5 +1,6 @@
 use Rattle.std.proofs.Common.{◌≡◌, ◌≤◌, ◌<◌, [], ◌++◌, ◌∷◌, sym, ap, ◌∙◌, refl, arith, ℕ, Bool, false, not, ◌&&◌, List, append_assoc, if◌then◌else◌}
 use Rattle.std.proofs.lemmas.List.{append-nil}
+use Rattle.std.proofs.lemmas.Result.{on_ok_weaker}
 use Rattle.mini_model.specs.Tree.{Tree, node, absent, count, node_count, shape_of, children}
 use Rattle.mini_laws.specs.declared.names.Declared.TheVariants as declared
 use Rattle.mini_model.specs.declared.shape.Shape.{Shape}
@@ -39,10 +40,18 @@ push_all_bodies-returns-clause-found t c =
     let over : count c.args.nodes.now ≤ c.loop-at.at = omega arith in
     finished _ _ (gathers c.args.is_outer c.args.path.now) c.args.nodes.now c.loop-at.at _ _ over c.loop-at.invariant.1
 
-pub push_body_at-push_body-requires : goal.push_body_at-push_body-requires
-push_body_at-push_body-requires t c =
+pub push_body_at-push_body-pushed-requires : goal.push_body_at-push_body-pushed-requires
+push_body_at-push_body-pushed-requires t c =
     let within : c.args.at < count c.args.nodes.now = omega arith in
     (omega (arith, ap node_count c.child.ensures.value, child_smaller c.args.nodes.now c.args.at within), tt)
+
+pub push_body_at-returns-in_ok-push-clause-path : goal.push_body_at-returns-in_ok-push-clause-path
+push_body_at-returns-in_ok-push-clause-path t c = on_ok_weaker c.push_body-pushed.result (λ e. c.go_up.ensures c.args.path.now c.args.at (e ∙ c.in_ok-push.ensures.ok)) c.push_body-pushed.ensures.path
+
+pub push_body_at-returns-in_ok-push-clause-found : goal.push_body_at-returns-in_ok-push-clause-found
+push_body_at-returns-in_ok-push-clause-found t c =
+    let d = body_declarations c.args.is_outer in
+    on_ok_weaker c.push_body-pushed.result (λ e. e ∙ ap (λ p. c.args.found.now.items ++ d p c.child.result.now) c.in_ok-push.ensures.ok ∙ ap (λ u. c.args.found.now.items ++ d (c.args.path.now ++ c.args.at ∷ []) u) c.child.ensures.value) c.push_body-pushed.ensures.found
 
 pub push_body_at-returns-else-at-len-clause-found : goal.push_body_at-returns-else-at-len-clause-found
 push_body_at-returns-else-at-len-clause-found t c =

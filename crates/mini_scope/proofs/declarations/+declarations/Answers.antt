@@ -1,5 +1,6 @@
 use Rattle.std.proofs.Common.{◌≡◌, ◌≤◌, ◌<◌, [], ◌++◌, ◌∷◌, sym, ap, ◌∙◌, refl, arith, ℕ, Bool, List}
 use Rattle.std.proofs.lemmas.List.{append-nil}
+use Rattle.std.proofs.lemmas.Result.{on_ok_weaker}
 use Rattle.mini_model.specs.declared.shape.Shape.{Shape}
 use Rattle.mini_model.specs.Tree.{Tree, Trees, node, none, ◌▸◌, absent, count, node_count, shape_of, children}
 use Rattle.mini_node.specs.Children.{names_of}
@@ -51,10 +52,18 @@ push_all-returns-clause-found t c =
     let over : count c.args.nodes.now ≤ c.loop-at.at = omega arith in
     finished _ _ (gathers c.args.declared c.args.is_lexical c.args.path.now) c.args.nodes.now c.loop-at.at _ _ over c.loop-at.invariant.1
 
-pub push_at-push_declarations-requires : goal.push_at-push_declarations-requires
-push_at-push_declarations-requires t c =
+pub push_at-push_declarations-pushed-requires : goal.push_at-push_declarations-pushed-requires
+push_at-push_declarations-pushed-requires t c =
     let within : c.args.at < count c.args.nodes.now = omega arith in
     (omega (arith, ap node_count c.child.ensures.value, child_smaller c.args.nodes.now c.args.at within), tt)
+
+pub push_at-returns-in_ok-push-clause-path : goal.push_at-returns-in_ok-push-clause-path
+push_at-returns-in_ok-push-clause-path t c = on_ok_weaker c.push_declarations-pushed.result (λ e. c.go_up.ensures c.args.path.now c.args.at (e ∙ c.in_ok-push.ensures.ok)) c.push_declarations-pushed.ensures.path
+
+pub push_at-returns-in_ok-push-clause-found : goal.push_at-returns-in_ok-push-clause-found
+push_at-returns-in_ok-push-clause-found t c =
+    let d = declarations c.args.declared c.args.is_lexical in
+    on_ok_weaker c.push_declarations-pushed.result (λ e. e ∙ ap (λ p. c.args.found.now.items ++ d p c.child.result.now) c.in_ok-push.ensures.ok ∙ ap (λ u. c.args.found.now.items ++ d (c.args.path.now ++ c.args.at ∷ []) u) c.child.ensures.value) c.push_declarations-pushed.ensures.found
 
 pub push_at-returns-else-at-len-clause-found : goal.push_at-returns-else-at-len-clause-found
 push_at-returns-else-at-len-clause-found t c =
