@@ -8,7 +8,7 @@ ghost use Rattle.mini_laws.specs.Scopes.{use_of as use_at};
 ghost use Rattle.mini_laws.specs.Foreign.{ended_by, ends_at, in_order, joined as joined_in, moments as moments_of, moments_from, reads_at};
 ghost use Rattle.mini_context.specs.Early.{ended_part as ended_part_of, order_of as order_in, Passed};
 ghost use Rattle.mini_context.specs.Lists.{holds};
-ghost use Rattle.mini_context.specs.Tables.{mark_at, Marked};
+ghost use Rattle.mini_context.specs.Tables.{mark_at};
 
 use crate::count::{is_read, is_reference};
 use crate::lists::{no_lists, put_number};
@@ -80,16 +80,14 @@ fn ended_part(shape: &Shape) -> Part
     }
 }
 
-fn mark_ended(marks: &mut Vec<bool>, node: &Node)
-    ensures { Marked (ended_by (shape_of node.now) (children node.now)) marks.old.items marks.new.items }
-{
-    mark_part(marks, ended_part(node.shape()), node.children());
-}
-
 fn pass_ends(moments: &mut Moments, reading: Reading, node: &Node)
     ensures { Passed (ends_at reading.around (ended_by (shape_of node.now) (children node.now))) moments.old moments.new }
 {
-    mark_ended(&mut moments.ended, node);
+    mark_part(
+        &mut moments.ended,
+        ended_part(node.shape()),
+        node.children(),
+    );
 }
 
 fn note_read(moments: &mut Moments, symbol: SymbolId, around: Around) -> Result<(), OutOfMemory>

@@ -36,7 +36,7 @@ use std::sync::ledger::{Blank, Ledger};
 const BUCKETS: usize = 65535;
 
 /// The number of a scope: the scopes of a program are numbered in the order in which they are entered.
-#[derive(Clone, Copy, Debug, PartialEq, Eq)]
+#[derive(Clone, Copy)]
 pub struct ScopeId(pub u32);
 
 /// What a look at a program finds of its names.

@@ -7,3 +7,4 @@ mod Earlier
 mod EarlyWalk
 mod Folds
 mod Keys
+mod Copies
