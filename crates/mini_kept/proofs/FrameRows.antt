@@ -26,7 +26,7 @@ use Rattle.mini_kept.proofs.Expressions.{expression, AreExpressions, two, TakesE
 use Rattle.mini_kept.proofs.Rows.{TakesStatementIn, TakesStatement, of_if}
 use Rattle.mini_kept.proofs.Instances.{row_elsewhere, contracts_keep}
 use Rattle.mini_kept.proofs.FrameLists.{same_frames, first_of, second_of, both_of, alone_of}
-use Rattle.mini_kept.proofs.FrameSteps.{its_number}
+use Rattle.mini_kept.proofs.FrameSteps.{its_number, kept_are_shown}
 
 -- ---- the negation of an expression
 
@@ -176,5 +176,5 @@ rows_keep_frames = record {
   ports = λ p t u c strict d e m. row_ports strict d p t u c.row e m;
   listed = λ p t u e c. absurd (true≢false (sym e ∙ row_elsewhere p t u c.row));
   exported = λ p t u c strict e. row_exported strict p t u c.row e;
-  frames = λ p t u c strict s v e. row_frames strict s p t u c.row e;
+  frames = λ p t u c strict s v e. kept_are_shown t u (row_frames strict s p t u c.row e);
 }

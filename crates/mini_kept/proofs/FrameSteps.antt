@@ -167,7 +167,7 @@ after_port : (G : ℕ → List ℕ → Type 0) (m : Bool) (t : Tree) (b : Bool) 
 after_port G m t true xs ys k = (shows_itself G (own t), k)
 after_port G m t false xs ys k = k
 
-module _ (M : Gone) (R : Position → Tree → Tree → Type 0) (l : KeepsPlaces R) (framed : (p : Position) (n w : Tree) → R p n w → (strict : Bool) (s : Slot) → fits_place p s ≡ true → fits strict s n ≡ true → FramesShown M no_key (frames None n) (frames None w)) where
+module _ (M : Gone) (R : Position → Tree → Tree → Type 0) (l : KeepsPlaces R) (framed : (p : Position) (n w : Tree) → R p n w → (strict : Bool) (s : Slot) → fits_place p s ≡ true → fits strict s n ≡ true → (a : Around) → FramesShown M (KeyGiven nothing (bodies a n)) (frames None n) (frames None w)) where
   -- ---- the node that is replaced
 
   abbrev Standing : Position → Slot → Tree → Tree → Type 0
@@ -206,7 +206,7 @@ module _ (M : Gone) (R : Position → Tree → Tree → Type 0) (l : KeepsPlaces
     of_port = λ a strict d e m ts. let (x, y) = l.ports p t u r strict d e m in all_same (In a t) (ports m (t ▸ ts)) (ports m (u ▸ ts)) (no_port m t ts x ∙ sym (no_port m u ts y));
     of_statements = λ a strict d v e m. all_same (In a t) (ports m (children t)) (ports m (children u)) (statements_here p t u r strict d v e m);
     of_hoisted = λ strict s v e. (l.names.keeps p t u r strict s v e).hoisted;
-    of_frames = λ a strict s v e k z. frames_more M no_key (In a t) (λ n s g. absurd g) (frames k t) (frames k u) (subst (λ k. FramesShown M no_key (frames k t) (frames k u)) (sym (z (no_method_here p s t u (l.slots p t u r strict s v e)))) (framed p t u r strict s v e));
+    of_frames = λ a strict s v e k z. subst (λ k. FramesShown M (In a t) (frames k t) (frames k u)) (sym (z (no_method_here p s t u (l.slots p t u r strict s v e)))) (framed p t u r strict s v e a);
   }
 
   -- ---- a step in one of some children
@@ -365,6 +365,10 @@ module _ (M : Gone) (R : Position → Tree → Tree → Type 0) (l : KeepsPlaces
     steps_kept (first π t u ts st) = first_kept π t u ts (first π t u ts st) (step_kept st)
     steps_kept (later π t ts us st) = later_kept π t ts us (later π t ts us st) (steps_kept st)
 
+-- frames that were there show what they do
+pub kept_are_shown : (n w : Tree) → FramesKept (frames None n) (frames None w) → (a : Around) → FramesShown none_gone (KeyGiven nothing (bodies a n)) (frames None n) (frames None w)
+kept_are_shown n w k a = kept_shown none_gone (KeyGiven nothing (bodies a n)) (frames None n) (frames None w) k
+
 -- without frames
 pub places_of : (R : Position → Tree → Tree → Type 0) → KeepsFrames R → KeepsPlaces R
 places_of R l = record { names = l.names; slots = l.slots; ports = l.ports; listed = l.listed; exported = l.exported }
@@ -373,7 +377,7 @@ pub step_frames_but : (M : Gone) (R : Position → Tree → Tree → Type 0) →
 step_frames_but M R l t u st e = (step_kept M R l.places l.frames st).of_frames outermost false (one a_program) refl e None (λ z. refl)
 
 pub step_keeps_frames : (R : Position → Tree → Tree → Type 0) → StepKeepsFrames R
-step_keeps_frames R l p t u st strict s v e a k z = (step_kept none_gone R (places_of R l) (λ p n w r strict s v e. kept_shown none_gone no_key (frames None n) (frames None w) (l.frames p n w r strict s v e)) st).of_frames a strict s v e k z
+step_keeps_frames R l p t u st strict s v e a k z = (step_kept none_gone R (places_of R l) l.frames st).of_frames a strict s v e k z
 
 pub program_frames : (R : Position → Tree → Tree → Type 0) → KeepsFrames R → (t u : Tree) → Step R Elsewhere t u → IsWellShaped t → FramesShown none_gone (KeyGiven nothing (bodies_in t)) (frames_in t) (frames_in u)
 program_frames R l t u st e = step_keeps_frames R l Elsewhere t u st false (one a_program) refl e outermost None (λ z. refl)

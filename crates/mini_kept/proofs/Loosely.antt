@@ -30,7 +30,7 @@ use Rattle.mini_kept.proofs.Fixed.{step_fixed}
 use Rattle.mini_kept.specs.Frames.{frames, frames_in}
 use Rattle.mini_kept.specs.KeepsFrames.{KeepsPlaces, KeepsFramesBut}
 use Rattle.mini_kept.specs.Fixities.{KeepsFixitiesBut}
-use Rattle.mini_kept.specs.ShownFrames.{KeyGiven, no_key, gone_from, FramesShown}
+use Rattle.mini_kept.specs.ShownFrames.{KeyGiven, no_key, none_gone, gone_from, FramesShown}
 use Rattle.mini_kept.proofs.FrameSteps.{places_of, step_frames_but}
 use Rattle.mini_kept.proofs.ShownFrames.{all_frames_more, frames_more, gone_more, kept_shown, shown_on, shown_themselves, given_seldom, given_before}
 use Rattle.mini_kept.proofs.Gone.{step_less, avoids}
@@ -156,10 +156,10 @@ module _ (R : Position → Tree → Tree → Type 0) (K : Shape → Bool) (l : L
   }
 
   staying_frames : KeepsFramesBut (gone_from K nothing) Staying
-  staying_frames = record { places = narrowed_places Staying (λ p n w r. r.0); frames = λ p n w r strict s v e. kept_shown (gone_from K nothing) no_key (frames None n) (frames None w) (r.1.frames strict s v e) }
+  staying_frames = record { places = narrowed_places Staying (λ p n w r. r.0); frames = λ p n w r strict s v e a. all_frames_more none_gone (gone_from K nothing) (KeyGiven nothing (bodies a n)) (KeyGiven nothing (bodies a n)) (λ h x g. absurd (true≢false (sym g))) (λ m t g. g) (frames None n) (frames None w) (r.1.frames strict s v e a) }
 
   dropping_frames : (k : ℕ) → KeepsFramesBut (gone_from K (alone (Declared k))) (Dropping k)
-  dropping_frames k = record { places = narrowed_places (Dropping k) (λ p n w r. r.0); frames = λ p n w r. r.1.frames }
+  dropping_frames k = record { places = narrowed_places (Dropping k) (λ p n w r. r.0); frames = λ p n w r strict s v e a. frames_more (gone_from K (alone (Declared k))) no_key (KeyGiven nothing (bodies a n)) (λ m t g. absurd g) (frames None n) (frames None w) (r.1.frames strict s v e) }
 
   step_frames : (t u : Tree) → Step R Elsewhere t u → IsWellShaped t → Distinct (declared_symbols t) → FramesShown (gone_from K (undeclared u)) (KeyGiven nothing (bodies_in t)) (frames_in t) (frames_in u)
   step_frames t u s e d = by (told s)

@@ -3,15 +3,15 @@ use Rattle.std.specs.Prelude.{◌≡◌, ◌⊎◌, Bool, true, false, None}
 use Rattle.mini_model.specs.declared.place.Position.{Position}
 use Rattle.mini_model.specs.declared.place.Position.TheVariants.{StatementList, BodyList}
 use Rattle.mini_model.specs.Tree.{Tree, shape_of, children}
-use Rattle.mini_accept.specs.WellShaped.{Depth, Class, a_statement, a_block, a_catch, an_init, an_arrow_body, an_expression, a_link, a_chain, an_argument, a_key, a_default_export, a_loop_left, a_target, a_simple_target, a_member_target, a_class_member, a_pattern_property, a_target_property, Slot, one, one_or_absent, many, fits}
+use Rattle.mini_accept.specs.WellShaped.{Depth, Class, a_statement, a_block, a_catch, an_init, an_arrow_body, an_expression, a_link, a_chain, an_argument, a_key, a_default_export, a_loop_left, a_declarator, a_target, a_simple_target, a_member_target, a_class_member, a_pattern_property, a_target_property, Slot, one, one_or_absent, many, fits}
 use Rattle.mini_kept.specs.Placed.{is_statement_list, fits_place}
 use Rattle.mini_kept.specs.Lifted.{KeepsNames}
 use Rattle.mini_laws.specs.Value.{nothing}
 use Rattle.mini_laws.specs.Bodies.{Around, bodies}
-use Rattle.mini_kept.specs.ShownFrames.{KeyGiven, Shows, no_key, Gone, FramesShown}
-use Rattle.mini_kept.specs.Frames.{part, is_declaration, is_port, ports as ports_of, frames, FramesKept}
+use Rattle.mini_kept.specs.ShownFrames.{KeyGiven, Shows, Gone, none_gone, FramesShown}
+use Rattle.mini_kept.specs.Frames.{part, is_declaration, is_port, ports as ports_of, frames}
 
--- where a statement, a block, what handles a throw or an expression of a body may stand, and what is assigned to in one
+-- where a statement, a block, what handles a throw, a declarator or an expression of a body may stand, and what is assigned to in one
 abbrev pub is_in_body : Class → Bool
 is_in_body (a_statement d) = true
 is_in_body a_block = true
@@ -25,6 +25,7 @@ is_in_body an_argument = true
 is_in_body (a_key is_computed) = is_computed
 is_in_body a_default_export = true
 is_in_body (a_loop_left enumerates) = true
+is_in_body a_declarator = true
 is_in_body a_target = true
 is_in_body a_simple_target = true
 is_in_body a_member_target = true
@@ -58,14 +59,14 @@ IsShownAlike s n w = (is_keyed_slot s ≡ true) × ((a : Around) → Shows (KeyG
 -- It keeps names. Of a node that may stand where it does, it replaces one that stands where a statement or an expression of a
 -- body may, or a list of statements, or what has a key, which the frame around it shows as before or without brackets. A statement that it replaces is no import, no export and no function, an expression that
 -- is exported no declaration, and neither is what it writes there; a list that it writes has the imports, exports and
--- functions of the list that stood there. Each frame in what it writes was there
+-- functions of the list that stood there. Each frame in what it writes was there, but for keys that lost their brackets
 pub record KeepsFrames (R : Position → Tree → Tree → Type 0) : Type 0 where
   pub names : KeepsNames R
   pub slots : (p : Position) (n w : Tree) → R p n w → (strict : Bool) (s : Slot) → fits_place p s ≡ true → fits strict s n ≡ true → (is_body_slot p s ≡ true) ⊎ IsShownAlike s n w
   pub ports : (p : Position) (n w : Tree) → R p n w → (strict : Bool) (d : Depth) → fits strict (one (a_statement d)) n ≡ true → (is_module : Bool) → (is_port is_module (shape_of n) ≡ false) × (is_port is_module (shape_of w) ≡ false)
   pub listed : (p : Position) (n w : Tree) → is_statement_list p ≡ true → R p n w → (strict : Bool) (d : Depth) → fits strict (many (a_statement d)) n ≡ true → (is_module : Bool) → ports_of is_module (children n) ≡ ports_of is_module (children w)
   pub exported : (p : Position) (n w : Tree) → R p n w → (strict : Bool) → fits strict (one a_default_export) n ≡ true → (is_declaration (shape_of n) ≡ false) × (is_declaration (shape_of w) ≡ false)
-  pub frames : (p : Position) (n w : Tree) → R p n w → (strict : Bool) (s : Slot) → fits_place p s ≡ true → fits strict s n ≡ true → FramesKept (frames None n) (frames None w)
+  pub frames : (p : Position) (n w : Tree) → R p n w → (strict : Bool) (s : Slot) → fits_place p s ≡ true → fits strict s n ≡ true → (a : Around) → FramesShown none_gone (KeyGiven nothing (bodies a n)) (frames None n) (frames None w)
 
 -- all of this but frames: where it replaces what, and that imports, exports and functions stay
 pub record KeepsPlaces (R : Position → Tree → Tree → Type 0) : Type 0 where
@@ -78,4 +79,4 @@ pub record KeepsPlaces (R : Position → Tree → Tree → Type 0) : Type 0 wher
 -- and each frame in what it writes was there, or has lost a name that is gone
 pub record KeepsFramesBut (M : Gone) (R : Position → Tree → Tree → Type 0) : Type 0 where
   pub places : KeepsPlaces R
-  pub frames : (p : Position) (n w : Tree) → R p n w → (strict : Bool) (s : Slot) → fits_place p s ≡ true → fits strict s n ≡ true → FramesShown M no_key (frames None n) (frames None w)
+  pub frames : (p : Position) (n w : Tree) → R p n w → (strict : Bool) (s : Slot) → fits_place p s ≡ true → fits strict s n ≡ true → (a : Around) → FramesShown M (KeyGiven nothing (bodies a n)) (frames None n) (frames None w)

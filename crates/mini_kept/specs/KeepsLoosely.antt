@@ -17,12 +17,14 @@ use Rattle.mini_kept.specs.Frames.{unbracketed}
 use Rattle.mini_kept.specs.KeepsNames.{Stands, is_rewritten_place, NamesOnce, HasTargets, count_of}
 use Rattle.mini_kept.specs.SameNames.{SameNames, SameScope, NoMoreClash}
 
--- a member of a class, or a property that is assigned to, which stands outside inner expressions. Among parameters there is none
--- (ECMA-262, "FormalParameters"), so what inner expressions stand in such a tree decides nothing about a function
+-- a member of a class, a property that is assigned to, or what declares names, which stands outside inner expressions. Among parameters
+-- there is none (ECMA-262, "FormalParameters"), so what inner expressions stand in such a tree decides nothing about a function
 abbrev pub is_member : Shape → Bool
 is_member (shape.MethodDefinition k is_computed is_static) = true
 is_member (shape.PropertyDefinition is_computed is_static) = true
 is_member (shape.AssignmentTargetPropertyProperty is_computed) = true
+is_member shape.VariableDeclarator = true
+is_member shape.CatchClause = true
 is_member h = false
 
 abbrev mutual

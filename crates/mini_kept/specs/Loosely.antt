@@ -27,7 +27,7 @@ use Rattle.mini_laws.specs.Bodies.{Around, bodies, bodies_in, arrow_kind}
 use Rattle.mini_kept.specs.AlikeBodies.{BodiesKept}
 use Rattle.mini_kept.specs.Declaring.{declared}
 use Rattle.mini_kept.specs.Frames.{frames, frames_in, FramesKept}
-use Rattle.mini_kept.specs.ShownFrames.{KeyGiven, no_key, gone_from, FramesShown}
+use Rattle.mini_kept.specs.ShownFrames.{KeyGiven, no_key, none_gone, gone_from, FramesShown}
 use Rattle.mini_kept.specs.Kept.{over}
 use Rattle.mini_kept.specs.KeepsFrames.{KeepsPlaces}
 use Rattle.mini_kept.specs.KeepsShapes.{KeepsShapes}
@@ -45,7 +45,7 @@ symbol k = Some (record { 0 = k })
 pub record Stays (p : Position) (n w : Tree) : Type 0 where
   pub same : SameAt p n w
   pub fixed : (x : Variable) → fixed_by n x ≡ fixed_by w x
-  pub frames : (strict : Bool) (s : Slot) → fits_place p s ≡ true → fits strict s n ≡ true → FramesKept (frames None n) (frames None w)
+  pub frames : (strict : Bool) (s : Slot) → fits_place p s ≡ true → fits strict s n ≡ true → (a : Around) → FramesShown none_gone (KeyGiven nothing (bodies a n)) (frames None n) (frames None w)
   pub bodies : (strict : Bool) (s : Slot) → fits_place p s ≡ true → fits strict s n ≡ true → (a : Around) → Stands s p a → BodiesKept (bodies a n) (bodies a w)
 
 -- One without a name that a scope in the other declares: the names that are seen around it are those, in order, and the

@@ -2,6 +2,7 @@
 use Rattle.std.proofs.Common.{inl}
 use Rattle.mini_model.specs.declared.place.Position.{Position}
 use Rattle.mini_model.specs.Tree.{Tree}
+use Rattle.mini_kept.proofs.FrameSteps.{kept_are_shown}
 use Rattle.mini_rows.specs.Arranged.{KeptIsLawful}
 
 pub kept_is_lawful : (R : Position → Tree → Tree → Type 0) → KeptIsLawful R
@@ -14,7 +15,7 @@ kept_is_lawful R means shapes places slots kept = record {
     ports = λ p n w r. (kept p n w r).ports;
     listed = λ p n w e r. (kept p n w r).listed e;
     exported = λ p n w r. (kept p n w r).exported;
-    frames = λ p n w r. (kept p n w r).frames;
+    frames = λ p n w r strict s k e. kept_are_shown n w ((kept p n w r).frames strict s k e);
   };
   fixed = λ p n w r. (kept p n w r).fixed;
   declared = λ p n w r. (kept p n w r).declared;

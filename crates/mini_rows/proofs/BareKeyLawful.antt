@@ -40,6 +40,7 @@ use Rattle.mini_kept.proofs.BodyLists.{kept_itself, second_of}
 use Rattle.mini_kept.proofs.Clashes.{no_more_same}
 use Rattle.mini_kept.proofs.Fixed.{of_children}
 use Rattle.mini_kept.proofs.FrameLists.{second_of as second_frames}
+use Rattle.mini_kept.proofs.FrameSteps.{kept_are_shown}
 use Rattle.mini_kept.proofs.ShownFrames.{all_themselves}
 use Rattle.mini_rows.specs.KeyHolders.{Member, of_target, of_method, of_field, member_shape, in_brackets, without_brackets, PlainKey, a_word, a_count, plain_key, Row52Bare}
 use Rattle.mini_rows.proofs.BareKeyMeaning.{BareRow, bare_same, property_of, gives_key}
@@ -327,7 +328,7 @@ bare_lawful = record {
     ports = λ p n w c strict d e m. there (λ p n w. (is_port m (shape_of n) ≡ false) × (is_port m (shape_of w) ≡ false)) (λ n w r. (ap (λ t. is_port m (shape_of t)) r.shape ∙ (plain_statement true m r.member).0, ap (λ t. is_port m (shape_of t)) r.written ∙ (plain_statement false m r.member).0)) p n w c;
     listed = λ p n w e c. absurd (there (λ p n w. is_statement_list p ≡ true → ⊥) (λ n w r e. cc e) p n w c e);
     exported = λ p n w c strict e. there (λ p n w. (is_declaration (shape_of n) ≡ false) × (is_declaration (shape_of w) ≡ false)) (λ n w r. (ap (λ t. is_declaration (shape_of t)) r.shape ∙ (plain_statement true true r.member).1, ap (λ t. is_declaration (shape_of t)) r.written ∙ (plain_statement false true r.member).1)) p n w c;
-    frames = λ p n w c strict s k e. there (λ p n w. FramesKept (frames None n) (frames None w)) (everywhere (λ y z. FramesKept (frames None y) (frames None z)) frames_kept) p n w c;
+    frames = λ p n w c strict s k e. kept_are_shown n w (there (λ p n w. FramesKept (frames None n) (frames None w)) (everywhere (λ y z. FramesKept (frames None y) (frames None z)) frames_kept) p n w c);
   };
   fixed = there (λ p n w. (x : Variable) → fixed_by n x ≡ fixed_by w x) (everywhere (λ y z. (x : Variable) → fixed_by y x ≡ fixed_by z x) fixed_kept);
   declared = λ p n w c x k. subst (λ xs. Contains xs x) (sym (there (λ p n w. declared n ≡ declared w) (everywhere (λ y z. declared y ≡ declared z) declared_kept) p n w c)) k;

@@ -28,6 +28,7 @@ use Rattle.mini_kept.specs.Declaring.{declared}
 use Rattle.mini_kept.specs.Frames.{part, is_declaration, is_port, frames, FramesKept}
 use Rattle.mini_kept.specs.KeepsFrames.{IsShownAlike}
 use Rattle.mini_kept.specs.ShownFrames.{KeyGiven}
+use Rattle.mini_kept.proofs.FrameSteps.{kept_are_shown}
 use Rattle.mini_kept.proofs.ShownFrames.{shows_same}
 use Rattle.mini_kept.specs.KeepsLoosely.{KeepsLoosely}
 use Rattle.mini_kept.specs.KeepsNames.{count_of, unplaced}
@@ -313,7 +314,7 @@ held_lawful = record {
     ports = λ p n w c strict d e m. there (λ p n w. (is_port m (shape_of n) ≡ false) × (is_port m (shape_of w) ≡ false)) (λ n w r. (ap (λ t. is_port m (shape_of t)) r.shape ∙ (plain_statement m r.holder).0, ap (λ t. is_port m (shape_of t)) r.written ∙ (plain_statement m r.holder).0)) p n w c;
     listed = λ p n w e c. absurd (there (λ p n w. is_statement_list p ≡ true → ⊥) (λ n w r e. cc e) p n w c e);
     exported = λ p n w c strict e. there (λ p n w. (is_declaration (shape_of n) ≡ false) × (is_declaration (shape_of w) ≡ false)) (λ n w r. (ap (λ t. is_declaration (shape_of t)) r.shape ∙ (plain_statement true r.holder).1, ap (λ t. is_declaration (shape_of t)) r.written ∙ (plain_statement true r.holder).1)) p n w c;
-    frames = λ p n w c strict s k e. there (λ p n w. FramesKept (frames None n) (frames None w)) (λ n w r. of_words n w r (λ y z. FramesKept (frames None y) (frames None z)) frames_kept) p n w c;
+    frames = λ p n w c strict s k e. kept_are_shown n w (there (λ p n w. FramesKept (frames None n) (frames None w)) (λ n w r. of_words n w r (λ y z. FramesKept (frames None y) (frames None z)) frames_kept) p n w c);
   };
   fixed = there (λ p n w. (x : Variable) → fixed_by n x ≡ fixed_by w x) (λ n w r. of_words n w r (λ y z. (x : Variable) → fixed_by y x ≡ fixed_by z x) fixed_kept);
   declared = λ p n w c x k. subst (λ xs. Contains xs x) (sym (there (λ p n w. declared n ≡ declared w) (λ n w r. of_words n w r (λ y z. declared y ≡ declared z) declared_kept) p n w c)) k;

@@ -32,6 +32,7 @@ use Rattle.mini_kept.proofs.BodyRows.{turned_bodies}
 use Rattle.mini_kept.proofs.Expressions.{expression, expression_taken, of_negation, of_conditional, three_fit}
 use Rattle.mini_kept.proofs.Fixed.{of_if, swapped}
 use Rattle.mini_kept.proofs.Fixed as fixities
+use Rattle.mini_kept.proofs.FrameSteps.{kept_are_shown}
 use Rattle.mini_kept.proofs.FrameRows.{expression_slot}
 use Rattle.mini_kept.proofs.FrameRows as framed
 use Rattle.mini_kept.proofs.Lawful.{lawful_narrowed}
@@ -209,7 +210,7 @@ rows_lawful = record {
     ports = ports;
     listed = listed_rows;
     exported = exported;
-    frames = row_frames;
+    frames = λ p n w r strict s f e. kept_are_shown n w (row_frames p n w r strict s f e);
   };
   fixed = row_fixed;
   declared = row_declared;
