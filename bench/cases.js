@@ -447,6 +447,7 @@ becomes("the operand of a negation", "{ let x = a(); throw !x; }", "throw !a();"
 becomes("an initializer that gets parentheses", "{ let x = a ? b : c; x.d(); }", "(a ? b : c).d();", { symbols: [] });
 becomes("the last of several declarators", "{ let x = a, y = b(); y[c](d), e(x); }", "{ let x = a; b()[c](d), e(x); }", { symbols: [0] });
 becomes("a first part of a sequence", "{ let x = a(); x.b(), c(); }", "a().b(), c();", { symbols: [] });
+becomes("the test of an if", "{ let x = a(); if (x.b) throw c; d(); }", "if (a().b) throw c; d();", { symbols: [] });
 becomes("one read by another", "{ let x = a(); let y = x.b(); y.c(); }", "a().b().c();", { symbols: [] });
 
 // ---- so do the names of function and class expressions, and of what is caught

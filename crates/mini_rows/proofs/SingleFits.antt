@@ -10,7 +10,7 @@ use Rattle.mini_kept.proofs.Bools.{both}
 use Rattle.mini_kept.proofs.Expressions.{refused_here}
 use Rattle.mini_rows.specs.Sketches.{shape_by, Asked, AsWholeItem, AsValue, AsValues, asked_below}
 use Rattle.mini_rows.specs.Unused.{put_first, reads_first}
-use Rattle.mini_rows.proofs.SingleUse.{Lead, Not, Beside, Deciding, Choosing, Passing, Called, Member, Keyed, Listing, Doing, Giving, Raising, head_of, Step, led, is_end, Stands, Well, statement}
+use Rattle.mini_rows.proofs.SingleUse.{Lead, Not, Beside, Deciding, Choosing, Passing, Called, Member, Keyed, Listing, Doing, Giving, Raising, Testing, head_of, Step, led, is_end, Stands, Well, statement}
 
 first_of : (a b c : Bool) → (a ≡ true → b ≡ true) → a && c ≡ true → b && c ≡ true
 first_of true b c f e = ap (λ d. d && c) (f refl) ∙ e
@@ -99,15 +99,17 @@ there strict (s ∷ ss) w y e = by s.lead w.0 e
     by Keyed s e = e
     by l s e = absurd s
 
-stated : (l : Lead) → Stands AsWholeItem l true → (strict : Bool) (t u : Tree) → (fits strict (one an_expression) t ≡ true → fits strict (one an_expression) u ≡ true) → (fits strict (one_or_absent an_expression) t ≡ true → fits strict (one_or_absent an_expression) u ≡ true)
-    → fits strict (one (a_statement nested)) (node (shape_by (head_of l)) [] 0 (t ▸ none)) ≡ true → fits strict (one (a_statement nested)) (node (shape_by (head_of l)) [] 0 (u ▸ none)) ≡ true
-stated Doing s true t u f g e = first_of (fits true (one an_expression) t) (fits true (one an_expression) u) true f e
-stated Doing s false t u f g e = first_of (fits false (one an_expression) t) (fits false (one an_expression) u) true f e
-stated Giving s true t u f g e = first_of (fits true (one_or_absent an_expression) t) (fits true (one_or_absent an_expression) u) true g e
-stated Giving s false t u f g e = first_of (fits false (one_or_absent an_expression) t) (fits false (one_or_absent an_expression) u) true g e
-stated Raising s true t u f g e = first_of (fits true (one an_expression) t) (fits true (one an_expression) u) true f e
-stated Raising s false t u f g e = first_of (fits false (one an_expression) t) (fits false (one an_expression) u) true f e
-stated l s strict t u f g e = absurd s
+stated : (l : Lead) → Stands AsWholeItem l true → (strict : Bool) (t u : Tree) (ts : Trees) → (fits strict (one an_expression) t ≡ true → fits strict (one an_expression) u ≡ true) → (fits strict (one_or_absent an_expression) t ≡ true → fits strict (one_or_absent an_expression) u ≡ true)
+    → fits strict (one (a_statement nested)) (node (shape_by (head_of l)) [] 0 (t ▸ ts)) ≡ true → fits strict (one (a_statement nested)) (node (shape_by (head_of l)) [] 0 (u ▸ ts)) ≡ true
+stated Doing s true t u ts f g e = first_of (fits true (one an_expression) t) (fits true (one an_expression) u) _ f e
+stated Doing s false t u ts f g e = first_of (fits false (one an_expression) t) (fits false (one an_expression) u) _ f e
+stated Giving s true t u ts f g e = first_of (fits true (one_or_absent an_expression) t) (fits true (one_or_absent an_expression) u) _ g e
+stated Giving s false t u ts f g e = first_of (fits false (one_or_absent an_expression) t) (fits false (one_or_absent an_expression) u) _ g e
+stated Raising s true t u ts f g e = first_of (fits true (one an_expression) t) (fits true (one an_expression) u) _ f e
+stated Raising s false t u ts f g e = first_of (fits false (one an_expression) t) (fits false (one an_expression) u) _ f e
+stated Testing s true t u ts f g e = first_of (fits true (one an_expression) t) (fits true (one an_expression) u) _ f e
+stated Testing s false t u ts f g e = first_of (fits false (one an_expression) t) (fits false (one an_expression) u) _ f e
+stated l s strict t u ts f g e = absurd s
 
 pub put_fits : (strict : Bool) (x : Name) (head : Tree) → reads_first x head ≡ true → (r : Tree) → fits strict (one an_expression) r ≡ true → fits strict (one (a_statement nested)) head ≡ true → fits strict (one (a_statement nested)) (put_first r head) ≡ true
 put_fits strict x head e r f g =
@@ -115,4 +117,4 @@ put_fits strict x head e r f g =
     let p = t.path in
     let inner = λ (h : fits strict (one an_expression) t.inner ≡ true). ap (fits strict (one an_expression)) (p.puts r) ∙ put_value strict AsValue p.steps p.well (λ e. cc e) (identifier p.read) r f (sym (ap (fits strict (one an_expression)) p.is) ∙ h) in
     let inner_there = λ (h : fits strict (one_or_absent an_expression) t.inner ≡ true). or_absent strict (put_first r t.inner) (inner (ap (fits strict (one an_expression)) p.is ∙ there strict p.steps p.well p.read (sym (ap (fits strict (one_or_absent an_expression)) p.is) ∙ h))) in
-    ap (λ u. fits strict (one (a_statement nested)) (put_first r u)) t.is ∙ stated t.lead (t.stands true) strict t.inner (put_first r t.inner) inner inner_there (sym (ap (fits strict (one (a_statement nested))) t.is) ∙ g)
+    ap (λ u. fits strict (one (a_statement nested)) (put_first r u)) t.is ∙ stated t.lead (t.stands true) strict t.inner (put_first r t.inner) t.rest inner inner_there (sym (ap (fits strict (one (a_statement nested))) t.is) ∙ g)

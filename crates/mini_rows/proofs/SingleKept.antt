@@ -1,11 +1,12 @@
 -- A declaration of a name that the statement after it reads first, and the two without the name: what they have.
 use Rattle.std.specs.Prelude.{ℕ, ◌+◌, ◌≤◌, ◌≡◌, refl, Bool, true, false, ◌||◌, List, [], ◌∷◌, ◌++◌, Contains, Option, None}
-use Rattle.std.proofs.Common.{ap, ◌∙◌, sym, subst, subst₂, arith}
+use Rattle.std.proofs.Common.{ap, ◌∙◌, sym, subst, subst₂, true≢false, arith}
 use Rattle.std.proofs.lemmas.List.{append-nil}
 use Rattle.std.proofs.lemmas.List.Elements.{Contains-append_right}
 use Rattle.mini_model.specs.declared.kind.VariableDeclarationKind.TheVariants.{Let}
 use Rattle.mini_model.specs.declared.name.Name.{Name}
 use Rattle.mini_model.specs.declared.name.SymbolId.{SymbolId}
+use Rattle.mini_model.specs.declared.shape.Shape.{Shape}
 use Rattle.mini_model.specs.declared.shape.Shape.TheVariants as shape
 use Rattle.mini_model.specs.Tree.{Tree, Trees, node, none, ◌▸◌, listed, identifier}
 use Rattle.mini_model.specs.Paths.{append}
@@ -13,7 +14,8 @@ use Rattle.mini_laws.specs.declared.names.Declaration.{Declaration}
 use Rattle.mini_laws.specs.declared.names.Declared.TheVariants as declared
 use Rattle.mini_laws.specs.declared.names.Targets.{Targets}
 use Rattle.mini_laws.specs.declared.names.Use.TheVariants.{Read}
-use Rattle.mini_laws.specs.DeclaredNames.{names_of, all_names, has_inner}
+use Rattle.mini_laws.specs.declared.names.Place.TheVariants as place
+use Rattle.mini_laws.specs.DeclaredNames.{place_of, names_by, names_of, first_names, all_names, has_inner}
 use Rattle.mini_laws.specs.Resolved.{Environment}
 use Rattle.mini_laws.specs.Scopes.{scopes_by}
 use Rattle.mini_laws.specs.Scoped.{Scoped, Unmentioned}
@@ -26,13 +28,14 @@ use Rattle.mini_kept.specs.AlikeBodies.{BodiesKept}
 use Rattle.mini_kept.specs.Carried.{numbers}
 use Rattle.mini_kept.specs.Declaring.{declared as names_declared}
 use Rattle.mini_kept.specs.Frames.{Frame, frames, FramesKept}
-use Rattle.mini_kept.specs.KeepsNames.{count_of}
+use Rattle.mini_kept.specs.KeepsNames.{count_of, unplaced}
 use Rattle.mini_kept.specs.Loosely.{symbol}
 use Rattle.mini_kept.specs.SameNames.{NoMoreClash}
 use Rattle.mini_kept.proofs.Anywhere.{once_anywhere, targets_anywhere}
 use Rattle.mini_kept.proofs.Clashes.{no_more_same, no_more_both}
 use Rattle.mini_kept.proofs.Fixed.{of_children}
 use Rattle.mini_kept.proofs.Unplaced.{as_body, own_both}
+use Rattle.mini_terms.specs.Reading.{is_plain_part_by, first_of, is_plain_part, are_plain_parts}
 use Rattle.mini_rows.specs.Declarations.{binding, declarator}
 use Rattle.mini_rows.specs.Sketches.{shape_by, Asked, AsWholeItem, AsValue, AsWholeList, Leap}
 use Rattle.mini_rows.specs.Unused.{names, any_names, let_among, left_over, put_first, reads_first}
@@ -41,7 +44,7 @@ use Rattle.mini_rows.proofs.ArrangedNames.{ScopedAs, scoped_local, symbol_times,
 use Rattle.mini_rows.proofs.ArrangedBodies.{quiet, HasBodies, bodies_local, HasFrames, frames_local, Among, Declares, declares_local, FixedBy, fixed_local, rank}
 use Rattle.mini_rows.proofs.ListKeptDeclarations.{all_both, over, names_are, declarations_are, used, scoped_down, scoped_up, symbols_are, inner_is, numbers_are, declared_are, frames_are, bodies_are, once_is, jumps_are}
 use Rattle.mini_rows.proofs.ListKeptStretch.{joined, parted, sum_joined}
-use Rattle.mini_rows.proofs.SingleUse.{Lead, Doing, Giving, Raising, head_of, Step, led, is_end, Stands, Well, statement, swapped, taken, swapped_sum, unnamed}
+use Rattle.mini_rows.proofs.SingleUse.{Lead, Not, Beside, Deciding, Choosing, Passing, Called, Member, Keyed, Doing, Giving, Raising, Testing, head_of, Step, led, is_end, Stands, Well, statement, swapped, taken, swapped_sum, unnamed}
 use Rattle.mini_rows.proofs.UnusedKept.{LeavesThere, alone_stricter, let_is_fixed, names_with}
 use Rattle.mini_rows.proofs.UnusedNames.{all_unmentioned, all_other, unmentioned}
 
@@ -212,19 +215,70 @@ module _ (x : Name) (k : ℕ) (e : x.symbol ≡ symbol k) (first : Trees) (init 
 
 -- ---- the statement
 
-record Named (t : Tree) : Type 0 where
-  lexical : names_of declared.Lexical t ≡ []
-  hoisted : names_of declared.Hoisted t ≡ []
-  declares : as_body false t ≡ []
+-- what declares names of an expression: nothing
+hoists_by : (h : Shape) (b : Bool) → is_plain_part_by h b ≡ true → place_of declared.Hoisted h ≡ place.Nowhere
+hoists_by (shape.VariableDeclaration k) b e = absurd (true≢false (sym e))
+hoists_by shape.Listed b e = absurd (true≢false (sym e))
+hoists_by shape.BlockStatement b e = absurd (true≢false (sym e))
+hoists_by shape.IfStatement b e = absurd (true≢false (sym e))
+hoists_by shape.WhileStatement b e = absurd (true≢false (sym e))
+hoists_by shape.DoWhileStatement b e = absurd (true≢false (sym e))
+hoists_by shape.ForStatement b e = absurd (true≢false (sym e))
+hoists_by shape.ForInStatement b e = absurd (true≢false (sym e))
+hoists_by shape.ForOfStatement b e = absurd (true≢false (sym e))
+hoists_by shape.LabeledStatement b e = absurd (true≢false (sym e))
+hoists_by shape.SwitchStatement b e = absurd (true≢false (sym e))
+hoists_by shape.SwitchCase b e = absurd (true≢false (sym e))
+hoists_by shape.TryStatement b e = absurd (true≢false (sym e))
+hoists_by shape.CatchClause b e = absurd (true≢false (sym e))
+hoists_by shape.FunctionBody b e = absurd (true≢false (sym e))
+hoists_by shape.ExportNamedDeclaration b e = absurd (true≢false (sym e))
+hoists_by h b e = refl
 
-stated : (l : Lead) → Stands AsWholeItem l true → (t : Tree) → Named (node (shape_by (head_of l)) [] 0 (t ▸ none))
+plain_hoists : (t : Tree) → is_plain_part t ≡ true → names_of declared.Hoisted t ≡ []
 unfolding names_of
-stated Doing s t = record { lexical = refl; hoisted = refl; declares = refl }
-stated Giving s t = record { lexical = refl; hoisted = refl; declares = refl }
-stated Raising s t = record { lexical = refl; hoisted = refl; declares = refl }
-stated l s t = absurd s
+plain_hoists (node h xs n ts) e = ap (λ p. names_by p xs (first_names ts) (all_names declared.Bound ts) (all_names declared.Hoisted ts)) (hoists_by h (first_of (are_plain_parts ts)) e)
 
-module _ (x : Name) (k : ℕ) (e : x.symbol ≡ symbol k) (first : Trees) (init : Tree) (f : any_names x first ≡ false) (ss : List Step) (w : Well AsWholeItem ss) (y : Name) (g : names x (led ss init) ≡ false) (n : Named (led ss (identifier y))) (m : Named (led ss init)) where
+led_hoists : (c : Asked) (ss : List Step) → Well c ss → c ≡ AsValue → (t : Tree) → names_of declared.Hoisted t ≡ [] → names_of declared.Hoisted (led ss t) ≡ []
+unfolding names_of
+led_hoists AsValue [] w q t e = e
+led_hoists c [] w q t e = absurd w
+led_hoists AsValue (s ∷ ss) w q t e = by s.lead (is_end ss) w.0
+  where
+    by : (l : Lead) (b : Bool) → Stands AsValue l b → names_of declared.Hoisted (node (shape_by (head_of l)) [] 0 (led ss t ▸ s.rest)) ≡ []
+    by Not b w = refl
+    by (Beside o) b w = refl
+    by (Deciding o) b w = refl
+    by Choosing b w = refl
+    by Passing b w = refl
+    by Called b w = refl
+    by Member b w = refl
+    by Keyed b w = refl
+    by l b w = absurd w
+led_hoists c (s ∷ ss) w q t e = absurd (cc q)
+
+name_hoists : (y : Name) → names_of declared.Hoisted (identifier y) ≡ []
+unfolding names_of
+name_hoists y = refl
+
+-- a statement and the one that is written for it declare no lexical name, and hoist the same
+record Named (t u : Tree) : Type 0 where
+  lexical : names_of declared.Lexical t ≡ []
+  still_none : names_of declared.Lexical u ≡ []
+  hoisted : names_of declared.Hoisted u ≡ names_of declared.Hoisted t
+  declares : as_body false u ≡ as_body false t
+
+stated : (l : Lead) → Stands AsWholeItem l true → (t u : Tree) (ts : Trees) → names_of declared.Hoisted t ≡ [] → names_of declared.Hoisted u ≡ [] → Named (node (shape_by (head_of l)) [] 0 (t ▸ ts)) (node (shape_by (head_of l)) [] 0 (u ▸ ts))
+unfolding names_of
+stated Doing s t u ts e f = record { lexical = refl; still_none = refl; hoisted = refl; declares = refl }
+stated Giving s t u ts e f = record { lexical = refl; still_none = refl; hoisted = refl; declares = refl }
+stated Raising s t u ts e f = record { lexical = refl; still_none = refl; hoisted = refl; declares = refl }
+stated Testing s t u ts e f =
+    let same = ap (λ ys. ys ++ all_names declared.Hoisted ts) (f ∙ sym e) in
+    record { lexical = refl; still_none = refl; hoisted = same; declares = ap (λ ys. own_declarations false [] ys) same }
+stated l s t u ts e f = absurd s
+
+module _ (x : Name) (k : ℕ) (e : x.symbol ≡ symbol k) (first : Trees) (init : Tree) (f : any_names x first ≡ false) (ss : List Step) (w : Well AsWholeItem ss) (y : Name) (g : names x (led ss init) ≡ false) (n : Named (led ss (identifier y)) (led ss init)) where
   abbrev head : Tree
   head = led ss (identifier y)
 
@@ -249,11 +303,11 @@ module _ (x : Name) (k : ℕ) (e : x.symbol ≡ symbol k) (first : Trees) (init 
     first = all_names declared.Bound first;
     last = [];
     names = (λ i. names_there x k e first init f i ++ (n.lexical i ++ [])) ∙ append-nil (all_names declared.Bound first ++ x ∷ []);
-    left = λ i. names_left x k e first init f first i ++ (m.lexical i ++ []);
+    left = λ i. names_left x k e first init f first i ++ (n.still_none i ++ []);
     others_first = all_other x declared.Bound first f;
     others_last = tt;
-    hoists = (λ i. hoists_nothing x k e first init f first i ++ (m.hoisted i ++ [])) ∙ sym (ap (λ ys. ys ++ []) n.hoisted);
-    clash = subst₂ NoMoreClash (sym (ap (λ ds. as_body false (left_over first) ++ (ds ++ [])) m.declares ∙ append-nil (as_body false (left_over first)))) (sym (ap (λ ds. as_body false (let_among x first init none) ++ (ds ++ [])) n.declares ∙ append-nil (as_body false (let_among x first init none)))) (clash x k e first init f);
+    hoists = λ i. hoists_nothing x k e first init f first i ++ (n.hoisted i ++ []);
+    clash = no_more_both (as_body false (let_among x first init none)) (as_body false (left_over first)) (as_body false head ++ []) (as_body false put ++ []) (clash x k e first init f) (no_more_same (as_body false head ++ []) (as_body false put ++ []) (ap (λ ds. unplaced (ds ++ [])) n.declares));
     inner = λ b. moved Any (InnerIf b) (inner_local b) (inner_both x k e first init f b);
     inner_back = λ b. moved_back Any (InnerIf b) (inner_local b) refl (inner_back x k e first init f b);
     scoped = λ env. moved Any (ScopedAs Read env) (scoped_local Read env) (scoped_both x k e first init f env);
@@ -269,12 +323,12 @@ module _ (x : Name) (k : ℕ) (e : x.symbol ≡ symbol k) (first : Trees) (init 
     declares = λ all. moved Any (Declares all) (declares_local all) (declares_both x k e first init f all);
   }
 
-pub single_leaves : (x : Name) (k : ℕ) → x.symbol ≡ symbol k → (first : Trees) (init head : Tree) → reads_first x head ≡ true → names x init ≡ false → any_names x first ≡ false → LeavesThere x (let_among x first init none ▸ (head ▸ none)) (left_over first ▸ (put_first init head ▸ none))
-single_leaves x k e first init head r i f =
+pub single_leaves : (x : Name) (k : ℕ) → x.symbol ≡ symbol k → (first : Trees) (init head : Tree) → is_plain_part init ≡ true → reads_first x head ≡ true → names x init ≡ false → any_names x first ≡ false → LeavesThere x (let_among x first init none ▸ (head ▸ none)) (left_over first ▸ (put_first init head ▸ none))
+single_leaves x k e first init head plain r i f =
     let t = statement x head r in
-    let steps : List Step = record { lead = t.lead; rest = none } ∷ t.path.steps in
-    let one = λ (u : Tree). led (record { lead = t.lead; rest = none } ∷ []) u in
+    let steps : List Step = record { lead = t.lead; rest = t.rest } ∷ t.path.steps in
+    let one = λ (u : Tree). led (record { lead = t.lead; rest = t.rest } ∷ []) u in
     let there : head ≡ led steps (identifier t.path.read) = t.is ∙ ap one t.path.is in
     let put : put_first init head ≡ led steps init = ap (put_first init) t.is ∙ ap one (t.path.puts init) in
     subst₂ (λ h w. LeavesThere x (let_among x first init none ▸ (h ▸ none)) (left_over first ▸ (w ▸ none))) (sym there) (sym put)
-    (there_leaves x k e first init f steps (t.stands (is_end t.path.steps), subst (λ c. Well c t.path.steps) (sym (t.below AsWholeItem)) t.path.well) t.path.read (unnamed x steps (refl, t.path.spared) init i) (stated t.lead (t.stands true) (led t.path.steps (identifier t.path.read))) (stated t.lead (t.stands true) (led t.path.steps init)))
+    (there_leaves x k e first init f steps (t.stands (is_end t.path.steps), subst (λ c. Well c t.path.steps) (sym (t.below AsWholeItem)) t.path.well) t.path.read (unnamed x steps (t.free, t.path.spared) init i) (stated t.lead (t.stands true) (led t.path.steps (identifier t.path.read)) (led t.path.steps init) t.rest (led_hoists AsValue t.path.steps t.path.well refl (identifier t.path.read) (name_hoists t.path.read)) (led_hoists AsValue t.path.steps t.path.well refl init (plain_hoists init plain))))

@@ -23,7 +23,7 @@ use Rattle.mini_laws.specs.Replies.{reply, valued, passed, passing, merged, rais
 use Rattle.mini_laws.specs.Expressions.{get_identifier, operate_by, binary_step, logical_step, conditional_step, sequence_step, not_step, call_event, call_step, member_step, got, called_member}
 use Rattle.mini_laws.specs.Lists.{parts}
 use Rattle.mini_laws.specs.Targets.{as_member}
-use Rattle.mini_laws.specs.Statements.{return_step, throw_step}
+use Rattle.mini_laws.specs.Statements.{if_step, return_step, throw_step}
 use Rattle.mini_laws.specs.Step.{step, means, meaning}
 use Rattle.mini_laws.specs.Same.{Goes, Agree}
 use Rattle.mini_laws.specs.Substitution.{alone}
@@ -37,7 +37,7 @@ use Rattle.mini_laws.proofs.Truth.{coherent}
 use Rattle.mini_kept.specs.Without.{Unseen}
 use Rattle.mini_rows.specs.Sketches.{shape_by, Asked, AsWholeItem, AsValue, AsValues, asked_below}
 use Rattle.mini_rows.specs.Unused.{any_names, resolved}
-use Rattle.mini_rows.proofs.SingleUse.{Lead, Not, Beside, Deciding, Choosing, Passing, Called as CalledLead, Member, Keyed, Listing, Doing, Giving, Raising, head_of, Step, led, is_end, Stands, Well, Spared, summary_led}
+use Rattle.mini_rows.proofs.SingleUse.{Lead, Not, Beside, Deciding, Choosing, Passing, Called as CalledLead, Member, Keyed, Listing, Doing, Giving, Raising, Testing, head_of, Step, led, is_end, Stands, Well, Spared, summary_led}
 use Rattle.mini_rows.proofs.UnusedNames.{all_avoided}
 
 -- ---- a command that doesn't ask the first child any more
@@ -259,6 +259,7 @@ unfolding step
 statement_asks Doing b s fs r = record { begins = begins_statement (λ i. As Unused) _ (one (λ i. As Unused) (Unit {0}) tt ret (λ v. tt)); below = tt }
 statement_asks Giving b s fs r = record { begins = begins_statement (λ i. As Val) return_step (one (λ i. As Val) (Unit {0}) tt _ (λ v. tt)); below = tt }
 statement_asks Raising b s fs r = record { begins = begins_statement (λ i. As Val) throw_step (one (λ i. As Val) (Unit {0}) tt _ (λ v. tt)); below = tt }
+statement_asks Testing b s fs r = record { begins = begins_statement (first_demand (As Test) (Stat None)) (if_step None) (one (first_demand (As Test) (Stat None)) (Unit {0}) tt _ (λ c. later_choose {σ = first_demand (As Test) (Stat None)} c (kid 1 [] ((then) ret)) (kid 2 [] ((then) ret)) (λ u. tt, λ y. tt) (λ u. tt, λ y. tt))); below = tt }
 statement_asks l b s fs r = absurd s
 
 list_asks : (l : Lead) (b : Bool) → Stands AsValues l b → (f : Facts) (fs : List Facts) (w : Want) (r : Request (Parts w)) → Asks AsValues l (f ∷ fs) (Parts w) r b

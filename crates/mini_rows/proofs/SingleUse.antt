@@ -12,7 +12,7 @@ use Rattle.mini_model.specs.Tree.{Tree, Trees, node, none, ◌▸◌, identifier
 use Rattle.mini_laws.specs.Naming.{summary, summaries, summary_of}
 use Rattle.mini_laws.specs.Symbols.{is_same}
 use Rattle.mini_node.specs.Kinds.{is_sequence_shape}
-use Rattle.mini_rows.specs.Sketches.{Head, AList, Unary, Binary, Logical, Conditional, Sequence, Call, StaticMember, ComputedMember, OfExpression, Throw, Return, shape_by, Asked, AsWholeItem, AsValue, AsValues, asked_below, Leap}
+use Rattle.mini_rows.specs.Sketches.{Head, AList, Unary, Binary, Logical, Conditional, Sequence, Call, StaticMember, ComputedMember, OfExpression, Throw, Return, If, shape_by, Asked, AsWholeItem, AsValue, AsValues, asked_below, Leap}
 use Rattle.mini_rows.specs.Unused.{names, any_names, leads, is_childless, reads, is_first, put_first, reads_first}
 use Rattle.mini_rows.proofs.Arranging.{Plain, Local, Summed}
 
@@ -33,6 +33,7 @@ pub data Lead : Type 0 where
   Doing : Lead
   Giving : Lead
   Raising : Lead
+  Testing : Lead
 
 abbrev pub head_of : Lead → Head
 head_of Not = Unary LogicalNot
@@ -47,6 +48,7 @@ head_of Listing = AList
 head_of Doing = OfExpression
 head_of Giving = Return
 head_of Raising = Throw
+head_of Testing = If
 
 pub record Step : Type 0 where
   pub lead : Lead
@@ -65,6 +67,7 @@ abbrev pub Stands : Asked → Lead → Bool → Type 0
 Stands AsWholeItem Doing at_end = Unit {0}
 Stands AsWholeItem Giving at_end = Unit {0}
 Stands AsWholeItem Raising at_end = Unit {0}
+Stands AsWholeItem Testing at_end = Unit {0}
 Stands AsValues Listing at_end = Unit {0}
 Stands AsValue Not at_end = Unit {0}
 Stands AsValue (Beside o) at_end = Unit {0}
@@ -162,13 +165,23 @@ pub record Statement (x : Name) (t : Tree) : Type 0 where
   pub stands : (b : Bool) → Stands AsWholeItem lead b
   pub below : (c : Asked) → asked_below (head_of lead) c 0 ≡ AsValue
   pub inner : Tree
+  pub rest : Trees
   pub path : Path x AsValue inner
-  pub is : t ≡ node (shape_by (head_of lead)) [] 0 (inner ▸ none)
+  pub free : any_names x rest ≡ false
+  pub is : t ≡ node (shape_by (head_of lead)) [] 0 (inner ▸ rest)
+
+-- of this lead
+stated : (x : Name) (l : Lead) (t : Tree) (ts : Trees) → ((b : Bool) → Stands AsWholeItem l b) → ((c : Asked) → asked_below (head_of l) c 0 ≡ AsValue) → is_first x false t && not (any_names x ts) ≡ true → Statement x (node (shape_by (head_of l)) [] 0 (t ▸ ts))
+stated x l t ts s b e =
+    let (q, f) = and_parts (is_first x false t) (not (any_names x ts)) e in
+    record { lead = l; stands = s; below = b; inner = t; rest = ts; path = path x false t q; free = not_true (any_names x ts) f; is = refl }
 
 pub statement : (x : Name) (t : Tree) → reads_first x t ≡ true → Statement x t
-statement x (node shape.ExpressionStatement [] zero (t ▸ none)) e = record { lead = Doing; stands = λ b. tt; below = λ c. refl; inner = t; path = path x false t e; is = refl }
-statement x (node shape.ReturnStatement [] zero (t ▸ none)) e = record { lead = Giving; stands = λ b. tt; below = λ c. refl; inner = t; path = path x false t e; is = refl }
-statement x (node shape.ThrowStatement [] zero (t ▸ none)) e = record { lead = Raising; stands = λ b. tt; below = λ c. refl; inner = t; path = path x false t e; is = refl }
+statement x (node h ys n none) e = absurd (true≢false (sym e))
+statement x (node shape.ExpressionStatement [] zero (t ▸ ts)) e = stated x Doing t ts (λ b. tt) (λ c. refl) e
+statement x (node shape.ReturnStatement [] zero (t ▸ ts)) e = stated x Giving t ts (λ b. tt) (λ c. refl) e
+statement x (node shape.ThrowStatement [] zero (t ▸ ts)) e = stated x Raising t ts (λ b. tt) (λ c. refl) e
+statement x (node shape.IfStatement [] zero (t ▸ ts)) e = stated x Testing t ts (λ b. tt) (λ c. refl) e
 statement x t e = absurd (true≢false (sym e))
 
 -- ---- what holds of it

@@ -20,7 +20,7 @@ use Rattle.mini_rows.specs.Sketches.{shape_by, Asked, AsWholeItem, AsValue, AsVa
 use Rattle.mini_rows.specs.Unused.{resolved, let_among, left_over, put_first, reads_first}
 use Rattle.mini_rows.proofs.BooleanWeights.{moved}
 use Rattle.mini_rows.proofs.ListWeights.{total, in_list, comma_list, declarators_append}
-use Rattle.mini_rows.proofs.SingleUse.{Lead, Not, Beside, Deciding, Choosing, Passing, Called, Member, Keyed, Listing, Doing, Giving, Raising, head_of, Step, led, is_end, Stands, Well, statement}
+use Rattle.mini_rows.proofs.SingleUse.{Lead, Not, Beside, Deciding, Choosing, Passing, Called, Member, Keyed, Listing, Doing, Giving, Raising, Testing, head_of, Step, led, is_end, Stands, Well, statement}
 
 -- ---- where the steps stand
 
@@ -34,6 +34,7 @@ placed_statement : (l : Lead) (b : Bool) → Stands AsWholeItem l b → (p : Pos
 placed_statement Doing b s p n = tt
 placed_statement Giving b s p n = tt
 placed_statement Raising b s p n = tt
+placed_statement Testing b s p n = tt
 placed_statement l b s p n = absurd s
 
 placed_value : (l : Lead) (b : Bool) → Stands AsValue l b → (p : Position) (n : ℕ) → Placed (asked_below (head_of l) AsValue 0) (child_position (shape_by (head_of l)) p n 0)
@@ -64,6 +65,7 @@ same_statement : (l : Lead) (b : Bool) → Stands AsWholeItem l b → (q : StmtS
 same_statement Doing b s q o k os = refl
 same_statement Giving b s q o k os = refl
 same_statement Raising b s q o k os = refl
+same_statement Testing b s q o k os = refl
 same_statement l b s q o k os = absurd s
 
 same_value : (l : Lead) (b : Bool) → Stands AsValue l b → (t : Seat) (o k : Outline) (os : List Outline) → own_weight (Expr t) (shape_by (head_of l)) [] (o ∷ os) ≡ own_weight (Expr t) (shape_by (head_of l)) [] (k ∷ os)
@@ -109,10 +111,10 @@ some_symbol k None e = absurd (true≢false (sym e))
 head_falls : (s : List ℕ) (k : ℕ) (head : Tree) → reads_first (resolved s k) head ≡ true → (q : StmtSeat) (r : Tree) → is_plain_part r ≡ true → weight (Stmt q) (put_first r head) ≤ weight (Stmt q) head + (weight (Expr argument_seat) r + 3)
 head_falls s k head e q r f =
     let t = statement (resolved s k) head e in
-    let steps : List Step = record { lead = t.lead; rest = none } ∷ t.path.steps in
+    let steps : List Step = record { lead = t.lead; rest = t.rest } ∷ t.path.steps in
     let falls = led_falls AsWholeItem steps (t.stands (is_end t.path.steps), subst (λ c. Well c t.path.steps) (sym (t.below AsWholeItem)) t.path.well) (Stmt q) tt r f t.path.read (some_symbol k t.path.read.symbol t.path.same) in
-    let there : head ≡ led steps (identifier t.path.read) = t.is ∙ ap (λ u. led (record { lead = t.lead; rest = none } ∷ []) u) t.path.is in
-    let put : put_first r head ≡ led steps r = ap (put_first r) t.is ∙ ap (λ u. led (record { lead = t.lead; rest = none } ∷ []) u) (t.path.puts r) in
+    let there : head ≡ led steps (identifier t.path.read) = t.is ∙ ap (λ u. led (record { lead = t.lead; rest = t.rest } ∷ []) u) t.path.is in
+    let put : put_first r head ≡ led steps r = ap (put_first r) t.is ∙ ap (λ u. led (record { lead = t.lead; rest = t.rest } ∷ []) u) (t.path.puts r) in
     omega (arith, falls, ap (weight (Stmt q)) there, ap (weight (Stmt q)) put)
 
 -- ---- the declaration: a name and a comma less, or all but `;`

@@ -272,7 +272,7 @@ row_dropped q n w (inr (inl r)) =
 row_dropped q n w (inr (inr r)) =
     let x = resolved r.spelling r.symbol in (
       r.symbol,
-      moved q r.symbol n w _ _ r.shape r.written (dropped q r.spelling r.symbol r.before r.after (let_among x r.first r.init none ▸ (r.head ▸ none)) (left_over r.first ▸ (put_first r.init r.head ▸ none)) (single_leaves x r.symbol refl r.first r.init r.head r.once r.initial r.declared_earlier) r.earlier r.later
+      moved q r.symbol n w _ _ r.shape r.written (dropped q r.spelling r.symbol r.before r.after (let_among x r.first r.init none ▸ (r.head ▸ none)) (left_over r.first ▸ (put_first r.init r.head ▸ none)) (single_leaves x r.symbol refl r.first r.init r.head (movable r.init r.moves) r.once r.initial r.declared_earlier) r.earlier r.later
           (λ e z. in_tails e q (alone (Declared r.symbol)) _ _ (row_71 e r.symbol z _ _ (record { before = r.before; first = r.first; spelling = r.spelling; symbol = r.symbol; init = r.init; head = r.head; after = r.after; moves = r.moves; once = r.once; earlier = r.earlier; declared_earlier = r.declared_earlier; initial = r.initial; later = r.later; unseen = r.unseen; shape = refl; written = refl }) refl))),
     )
 

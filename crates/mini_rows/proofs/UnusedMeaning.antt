@@ -42,9 +42,9 @@ use Rattle.mini_terms.proofs.Dropping.{does_nothing, weak}
 use Rattle.mini_rows.specs.Lists.{block, declaration, declares_nothing}
 use Rattle.mini_rows.specs.Declarations.{binding, declarator}
 use Rattle.mini_rows.specs.Sketches.{shape_by, AsWholeItem}
-use Rattle.mini_rows.specs.Unused.{resolved, names, let_among, let_one, is_idle, left_over, is_definition, may_move, put_first, reads_first, Row72, Row72Idle, Row71}
+use Rattle.mini_rows.specs.Unused.{resolved, names, any_names, let_among, let_one, is_idle, left_over, is_definition, may_move, put_first, reads_first, Row72, Row72Idle, Row71}
 use Rattle.mini_rows.proofs.FoldMeaning.{plain_read}
-use Rattle.mini_rows.proofs.SingleUse.{Lead, Doing, Giving, Raising, head_of, Step, led, is_end, Stands, Well, statement, unnamed}
+use Rattle.mini_rows.proofs.SingleUse.{Lead, Doing, Giving, Raising, Testing, head_of, Step, led, is_end, Stands, Well, statement, unnamed}
 use Rattle.mini_rows.proofs.SingleMeaning.{first_goes}
 use Rattle.mini_rows.proofs.UnusedNames.{avoided, all_avoided}
 use Rattle.mini_rows.proofs.ListStretches.{lets_append, functions_append, facts_append, texts_append, exec_one, exec_two, listed_is}
@@ -355,17 +355,18 @@ row_72_idle e k z n w r h t =
 pub movable : (init : Tree) → may_move init ≡ true → is_plain_part init ≡ true
 movable init h = (and_parts (is_plain_part init) (not (is_definition (shape_of init))) h).0
 
-stated : (l : Lead) (b : Bool) → Stands AsWholeItem l b → (t u : Tree) → summary (node (shape_by (head_of l)) [] 0 (t ▸ none)) ≡ summary empty_statement
-stated Doing b s t u = refl
-stated Giving b s t u = refl
-stated Raising b s t u = refl
-stated l b s t u = absurd s
+stated : (l : Lead) (b : Bool) → Stands AsWholeItem l b → (ts : Trees) → summary (node (shape_by (head_of l)) [] 0 ts) ≡ summary empty_statement
+stated Doing b s ts = refl
+stated Giving b s ts = refl
+stated Raising b s ts = refl
+stated Testing b s ts = refl
+stated l b s ts = absurd s
 
 head_read : (x : Name) (head : Tree) → reads_first x head ≡ true → (init : Tree) → (summary head ≡ summary empty_statement) × (summary (put_first init head) ≡ summary empty_statement)
 head_read x head e init =
     let t = statement x head e in (
-      ap summary t.is ∙ stated t.lead true (t.stands true) t.inner t.inner,
-      ap (λ u. summary (put_first init u)) t.is ∙ stated t.lead true (t.stands true) (put_first init t.inner) t.inner,
+      ap summary t.is ∙ stated t.lead true (t.stands true) (t.inner ▸ t.rest),
+      ap (λ u. summary (put_first init u)) t.is ∙ stated t.lead true (t.stands true) (put_first init t.inner ▸ t.rest),
     )
 
 left_read : (first : Trees) → (summary (left_over first)).lets ≡ lets_all (summaries first)
@@ -416,14 +417,14 @@ module _ (e : Environment) (spelling : List ℕ) (k : ℕ) (z : Unseen (alone (D
   head_goes : (s : State) → Run (either (means e init (As Val) tt s) (λ v t. means e head (Stat None) [] (with_vars t (set_var t.vars (Declared k) (Holds v)))) (λ y t. stop y t)) (means e (put_first init head) (Stat None) [] s)
   head_goes s =
       let t = statement single_name head once in
-      let steps : List Step = record { lead = t.lead; rest = none } ∷ t.path.steps in
+      let steps : List Step = record { lead = t.lead; rest = t.rest } ∷ t.path.steps in
       let reading = t.path.read in
       let read_as : identifier reading ≡ identifier (resolved reading.spelling k) = ap (λ y. identifier (record { spelling = reading.spelling; symbol = y })) (same_symbol k reading.symbol t.path.same) in
-      let one = λ (u : Tree). led (record { lead = t.lead; rest = none } ∷ []) u in
+      let one = λ (u : Tree). led (record { lead = t.lead; rest = t.rest } ∷ []) u in
       let there : head ≡ led steps (identifier (resolved reading.spelling k)) = t.is ∙ ap one (t.path.is ∙ ap (led t.path.steps) read_as) in
       let put : put_first init head ≡ led steps init = ap (put_first init) t.is ∙ ap one (t.path.puts init) in
       subst₂ (λ h w. Run (either (means e init (As Val) tt s) (λ v t. means e h (Stat None) [] (with_vars t (set_var t.vars (Declared k) (Holds v)))) (λ y t. stop y t)) (means e w (Stat None) [] s)) (sym there) (sym put)
-      (first_goes e k z single_name refl reading.spelling init plain_init AsWholeItem steps (t.stands (is_end t.path.steps), subst (λ c. Well c t.path.steps) (sym (t.below AsWholeItem)) t.path.well) (refl, t.path.spared) (Stat None) tt [] s)
+      (first_goes e k z single_name refl reading.spelling init plain_init AsWholeItem steps (t.stands (is_end t.path.steps), subst (λ c. Well c t.path.steps) (sym (t.below AsWholeItem)) t.path.well) (t.free, t.path.spared) (Stat None) tt [] s)
 
   let_run : (s : State) → means e (let_one single_name init) (Stat None) [] s ≡ either (means e init (As Val) tt s) (λ v t. ok tt (with_vars t (set_var t.vars (Declared k) (Holds v)))) (λ y t. stop y t)
   let_run s = let_is e spelling k z init s ∙ initialised e spelling k z init (ap (λ i. i.facts.absent) (sym plain_init)) s ∙ either_cong (means e init (As Val) tt s) _ _ _ _ (λ v t. binds e spelling k z v t) (λ y t. refl)
@@ -452,7 +453,7 @@ module _ (e : Environment) (spelling : List ℕ) (k : ℕ) (z : Unseen (alone (D
 pub head_unnamed : (x : Name) (head : Tree) → reads_first x head ≡ true → (init : Tree) → names x init ≡ false → names x (put_first init head) ≡ false
 head_unnamed x head e init f =
     let t = statement x head e in
-    ap (λ u. names x (put_first init u)) t.is ∙ ap (λ u. names x u || false) (t.path.puts init) ∙ ap (λ b. b || false) (unnamed x t.path.steps t.path.spared init f)
+    ap (λ u. names x (put_first init u)) t.is ∙ ap (λ u. names x u || any_names x t.rest) (t.path.puts init) ∙ ap (λ b. b || any_names x t.rest) (unnamed x t.path.steps t.path.spared init f) ∙ t.free
 
 pub row_71 : (e : Environment) (k : ℕ) → Unseen (alone (Declared k)) e → (n w : Tree) (r : Row71 n w) → k ≡ r.symbol → (t : Option Tail) → Same e (alone (Declared k)) nothing (Stat t) n w
 row_71 e k z n w r h t =

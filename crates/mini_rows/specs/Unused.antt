@@ -13,7 +13,7 @@ use Rattle.mini_model.specs.Weight.{same_text, weight}
 use Rattle.mini_laws.specs.ScopeList.{has_eval}
 use Rattle.mini_laws.specs.Symbols.{is_same}
 use Rattle.mini_kept.specs.Loosely.{LawfulLoosely}
-use Rattle.mini_node.specs.Children.{names_of, part, is_bare, is_nameless}
+use Rattle.mini_node.specs.Children.{names_of, is_nameless}
 use Rattle.mini_node.specs.Kinds.{is_absent_part, is_listed_shape, is_sequence_shape, is_identifier}
 use Rattle.mini_terms.specs.Folds.{is_effect_free}
 use Rattle.mini_terms.specs.Parts.{leaves_nothing}
@@ -139,11 +139,13 @@ abbrev pub is_head_shape : Shape → Bool
 is_head_shape shape.ExpressionStatement = true
 is_head_shape shape.ReturnStatement = true
 is_head_shape shape.ThrowStatement = true
+is_head_shape shape.IfStatement = true
 is_head_shape h = false
 
 -- so does a statement
 abbrev pub reads_first : Name → Tree → Bool
-reads_first x t = is_head_shape (shape_of t) && (is_bare t 1 && is_first x false (part t 0))
+reads_first x (node h ys n none) = false
+reads_first x (node h ys n (t ▸ ts)) = is_head_shape h && (is_nameless (node h ys n (t ▸ ts)) && (is_first x false t && not (any_names x ts)))
 
 -- a function or a class without a name of its own gets the variable's (ECMA-262, "NamedEvaluation"): none of them moves
 abbrev pub is_definition : Shape → Bool

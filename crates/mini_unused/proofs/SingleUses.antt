@@ -15,11 +15,11 @@ use Rattle.mini_node.specs.Made.{block_is}
 use Rattle.mini_node.specs.Walks.{next_child}
 use Rattle.mini_rows.specs.Lists.{block, declaration}
 use Rattle.mini_rows.specs.Declarations.{binding, declarator}
-use Rattle.mini_rows.specs.Unused.{resolved, let_among, left_over, names, any_names, leads, is_childless, reads, is_first, put_first, reads_first, may_move, Row71, UnusedContracts}
+use Rattle.mini_rows.specs.Unused.{resolved, let_among, left_over, names, any_names, leads, is_childless, reads, is_first, put_first, is_head_shape, reads_first, may_move, Row71, UnusedContracts}
 use Rattle.mini_rows.proofs.UnusedWeights.{unused_lighter}
 use Rattle.mini_tree.proofs.Reaching.{moves_once}
 use Rattle.mini_unused.specs.RemoveUnusedDeclaration.{declares_name, is_let, list_at, UnusedAt, let_left, Applied}
-use Rattle.mini_unused.specs.SubstituteSingleUse.{may_begin, last_place, is_declared_over, is_mentioned_around, reads_next, is_read_once, is_single_declarator, is_single, SingleAt, declaration_left, list_single, block_single}
+use Rattle.mini_unused.specs.SubstituteSingleUse.{may_begin, is_head, last_place, is_declared_over, is_mentioned_around, reads_next, is_read_once, is_single_declarator, is_single, SingleAt, declaration_left, list_single, block_single}
 use Rattle.mini_unused.proofs.Unused.{parts_of, there_within, there_child, there_rest, there_first, and_both, not_true, a_let, Declares, declares, left_is, rests, all_used}
 
 -- ---- the first part
@@ -58,6 +58,26 @@ not_read x b t s e = first_by x b t (may_begin b t) false (any_names x (rest_chi
 
 pub read_by : (x : Name) (b : Bool) (t : Tree) (a : Bool) → 0 < count (children t) → may_begin b t ≡ true → is_first x (is_sequence_shape (shape_of t)) (part t 0) ≡ true → a ≡ any_names x (rest_children 1 (children t)) → is_first x b t ≡ not a
 read_by x b t a s e f g = first_by x b t true true a s (sym e) (sym f) g
+
+-- of a statement
+
+pub no_part : (x : Name) (t : Tree) → count (children t) ≡ 0 → reads_first x t ≡ false
+no_part x (node h xs n none) e = refl
+no_part x (node h xs n (t ▸ ts)) e = absurd (omega (arith, e))
+
+pub reads_by : (x : Name) (t : Tree) (m f a : Bool) → 0 < count (children t) → m ≡ is_head t → f ≡ is_first x false (part t 0) → a ≡ any_names x (rest_children 1 (children t)) → reads_first x t ≡ (m && (f && not a))
+reads_by x (node h xs n none) m f a s e g i = absurd (omega (arith, s))
+reads_by x (node h xs n (t ▸ ts)) m f a s e g i = and_assoc (is_head_shape h) (is_nameless (node h xs n (t ▸ ts))) (is_first x false t && not (any_names x ts)) ∙ sym (λ k. e k && (g k && not ((i ∙ ap (any_names x) (no_first ts)) k)))
+
+pub no_head : (x : Name) (t : Tree) → is_head t ≡ false → reads_first x t ≡ false
+no_head x (node h xs n none) e = refl
+no_head x (node h xs n (t ▸ ts)) e = reads_by x (node h xs n (t ▸ ts)) false (is_first x false t) (any_names x (rest_children 1 (t ▸ ts))) (omega arith) (sym e) refl refl
+
+pub head_not_read : (x : Name) (t : Tree) → 0 < count (children t) → is_first x false (part t 0) ≡ false → reads_first x t ≡ false
+head_not_read x t s e = reads_by x t (is_head t) false (any_names x (rest_children 1 (children t))) s refl (sym e) refl ∙ and_false (is_head t)
+
+pub head_read_by : (x : Name) (t : Tree) (a : Bool) → 0 < count (children t) → is_head t ≡ true → is_first x false (part t 0) ≡ true → a ≡ any_names x (rest_children 1 (children t)) → reads_first x t ≡ not a
+head_read_by x t a s e f g = reads_by x t true true a s (sym e) (sym f) g
 
 pub put_leaf : (r t : Tree) → count (children t) ≡ 0 → put_first r t ≡ r
 put_leaf r (node h xs n none) e = refl

@@ -4,12 +4,16 @@ use Rattle.std.specs.Prelude.{◌≡◌, ◌<◌, ◌^◌, ℕ, zero, suc, Bool,
 use Rattle.mini_model.specs.declared.name.Name.{Name}
 use Rattle.mini_model.specs.Tree.{Tree, Trees, none, ◌▸◌, count, child_or_absent, empty_statement, shape_of, children}
 use Rattle.mini_node.specs.Children.{names_of, part, with_part, is_bare, is_nameless, first_children, rest_children}
-use Rattle.mini_rows.specs.Unused.{names, any_names, leads, is_childless, may_move, reads_first, put_first}
+use Rattle.mini_rows.specs.Unused.{names, any_names, leads, is_childless, is_head_shape, may_move, reads_first, put_first}
 use Rattle.mini_unused.specs.RemoveUnusedDeclaration.{declares_name, is_let, list_at, let_left}
 
 -- a node without a name and a number, which evaluates its first part before all else
 abbrev pub may_begin : Bool → Tree → Bool
 may_begin in_list t = leads in_list (shape_of t) (is_childless (part t 0)) && is_nameless t
+
+-- a statement that does
+abbrev pub is_head : Tree → Bool
+is_head t = is_head_shape (shape_of t) && is_nameless t
 
 -- the place of the last of some declarators
 abbrev pub last_place : Trees → ℕ

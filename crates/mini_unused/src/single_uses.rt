@@ -103,15 +103,35 @@ fn is_first(name: &Name, in_list: bool, node: &Node) -> bool
     !is_mentioned_from(name, node.children(), 1)
 }
 
+// A statement that evaluates its first part before all else.
+fn is_head(node: &Node) -> bool
+    ensures { result ≡ row.is_head node.now }
+{
+    let has_shape = matches!(
+        node.shape(),
+        Shape::ExpressionStatement
+            | Shape::ReturnStatement
+            | Shape::ThrowStatement
+            | Shape::IfStatement
+    );
+    has_shape && node.is_nameless()
+}
+
 // So does a statement.
+#[tactic(auto, using(crate::proofs::SingleUses::no_part, crate::proofs::SingleUses::no_head))]
 fn reads_first(name: &Name, node: &Node) -> bool
     ensures { result ≡ reading.reads_first name.now node.now }
 {
-    let is_head = matches!(
-        node.shape(),
-        Shape::ExpressionStatement | Shape::ReturnStatement | Shape::ThrowStatement
-    );
-    is_head && node.is_bare(1) && is_first(name, false, node.child(0))
+    if node.children().len() == 0 {
+        return false;
+    }
+    if !is_head(node) {
+        return false;
+    }
+    if !is_first(name, false, node.child(0)) {
+        return false;
+    }
+    !is_mentioned_from(name, node.children(), 1)
 }
 
 // A function or a class, which may get the variable's name.
