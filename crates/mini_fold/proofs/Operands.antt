@@ -3,7 +3,7 @@ use Rattle.std.proofs.Common.{◌≡◌, ℕ, zero, suc, Bool, true, false, List
 use Rattle.std.specs.Prelude.{◌&&◌, ◌||◌, ◌++◌, ℤ, pos, is_some, unwrap_or, if◌then◌else◌}
 use Rattle.std.proofs.lemmas.Bool.{and_parts}
 use Rattle.mini_model.specs.declared.operator.BinaryOperator.{BinaryOperator}
-use Rattle.mini_model.specs.declared.operator.BinaryOperator.TheVariants.{Addition, Equality, Inequality}
+use Rattle.mini_model.specs.declared.operator.BinaryOperator.TheVariants.{Addition, Equality, Inequality, BitwiseAnd, BitwiseXor, BitwiseOr, ShiftLeft, ShiftRight}
 use Rattle.mini_model.specs.declared.operator.LogicalOperator.{LogicalOperator}
 use Rattle.mini_model.specs.declared.operator.LogicalOperator.TheVariants.{Or, And, Coalesce}
 use Rattle.mini_model.specs.declared.place.Position.TheVariants.{Expr}
@@ -24,12 +24,12 @@ use Rattle.mini_terms.specs.Parts.{takes_numbers, suits, leaves_nothing, weighs}
 use Rattle.mini_terms.specs.Reading.{is_unguarded, is_plain_part}
 use Rattle.mini_rows.specs.Booleans.{digit}
 use Rattle.mini_rows.specs.Choices.{loosely}
-use Rattle.mini_rows.specs.Operands.{beside, told_by, tail_text, is_bits, zero_told, Row14, Row7, Row4, Row27, OperandRow}
-use Rattle.mini_rows.specs.Spellings.{negated_digit, text}
+use Rattle.mini_rows.specs.Operands.{beside, told_by, tail_text, is_bits, is_int32, keeps_bits, has_room, zero_told, Row14, Row7, Row4, Row27, Row31, Row32, OperandRow}
+use Rattle.mini_rows.specs.Spellings.{negated_digit, numeral, text}
 use Rattle.mini_rows.proofs.OperandWeights.{lighter}
 use Rattle.mini_tree.specs.Rule.{Applied}
 use Rattle.mini_tree.proofs.Reaching.{moves_once}
-use Rattle.mini_fold.specs.FoldOperands.{is_redundant, logical_written, is_empty, is_string_kind, is_text, text_written, sum_text_by, joined_texts, with_text, joined_written, or_else, sum_written, is_zero, tests_bits, negated_truth, truth_in, is_boolean_kind, is_told, right_written, left_written, either_written, equal_written, binary_written, written_by, written, Gives, Rests}
+use Rattle.mini_fold.specs.FoldOperands.{is_redundant, logical_written, is_empty, is_string_kind, is_text, text_written, sum_text_by, joined_texts, with_text, joined_written, or_else, sum_written, is_zero, tests_bits, keeps_beside, kept_written, whole_written, negated_truth, truth_in, is_boolean_kind, is_told, right_written, left_written, either_written, equal_written, binary_written, written_by, written, Gives, Rests}
 
 or_true : (b : Bool) → b || true ≡ true
 or_true true = refl
@@ -293,7 +293,7 @@ equal_row : (s : Seat) (n w : Tree) (equal : Bool) (a b : Tree) → n ≡ binary
 equal_row s n w equal a b is e = go (tests_bits a b) refl e
   where
     go : (c : Bool) → tests_bits a b ≡ c → (if c then Some (zero_told equal a) else either_written s equal (truth_in b) a b) ≡ Some w → Reads s n w
-    go true h f = inr (inr (inr (inr (inr (subst (Row27 n) (some_is (zero_told equal a) w f) (zero_row n equal a b is h))))))
+    go true h f = inr (inr (inr (inr (inr (inl (subst (Row27 n) (some_is (zero_told equal a) w f) (zero_row n equal a b is h)))))))
     go false h f = others_row s n w equal a b is f
 
 right_passes : (s : Seat) (equal c : Bool) (a : Tree) → is_some (written s (binary (loosely equal) a (negated_digit c))) ≡ true
@@ -312,12 +312,51 @@ beside_passes s equal c true a = right_passes s equal c a
 beside_passes s true c false a = tested (tests_bits (negated_digit c) a) _ _ (either_passes s true c a (truth_in a))
 beside_passes s false c false a = tested (tests_bits (negated_digit c) a) _ _ (either_passes s false c a (truth_in a))
 
+-- ---- 31 and 32
+
+kept_row : (s : Seat) (n w : Tree) (o : BinaryOperator) (a k : Tree) → n ≡ binary o a k → kept_written s o a k ≡ Some w → Row31 s n w
+kept_row s n w o a k is e = go (number k) refl e
+  where
+    made : (x : ℤ) → number k ≡ Some x → (b : Bool) → keeps_bits o x && has_room o s ≡ b → (if b then Some (binary BitwiseOr a (digit false)) else None) ≡ Some w → Row31 s n w
+    made x h true j f =
+        let (known, seated) = and_parts (keeps_bits o x) (has_room o s) j in
+        record { operator = o; operand = a; number = x; known = known; seated = seated; shape = is ∙ ap (binary o a) (number_is k x h); written = sym (some_is (binary BitwiseOr a (digit false)) w f) }
+    made x h false j f = nothing f
+
+    go : (c : Option ℤ) → number k ≡ c → (if keeps_beside o c && has_room o s then Some (binary BitwiseOr a (digit false)) else None) ≡ Some w → Row31 s n w
+    go (Some x) h f = made x h (keeps_bits o x && has_room o s) refl f
+    go None h f = nothing f
+
+whole_row : (n w a k : Tree) → n ≡ binary BitwiseOr a k → whole_written a k ≡ Some w → Row32 n w
+whole_row n w a k is e = go (is_zero (number k) && is_int32 a) refl e
+  where
+    go : (b : Bool) → is_zero (number k) && is_int32 a ≡ b → (if b then Some a else None) ≡ Some w → Row32 n w
+    go true j f =
+        let (nought, known) = and_parts (is_zero (number k)) (is_int32 a) j in
+        record { operand = a; known = known; shape = is ∙ ap (binary BitwiseOr a) (zero_is k nought); written = sym (some_is a w f) }
+    go false j f = nothing f
+
+kept_passes : (s : Seat) (o : BinaryOperator) (x : ℤ) → keeps_bits o x ≡ true → has_room o s ≡ true → (a : Tree) → is_some (written s (binary o a (numeral x))) ≡ true
+kept_passes s ShiftLeft x e h a = there (keeps_bits ShiftLeft x && has_room ShiftLeft s) _ (both_true (keeps_bits ShiftLeft x) (has_room ShiftLeft s) e h)
+kept_passes s ShiftRight x e h a = there (keeps_bits ShiftRight x && has_room ShiftRight s) _ (both_true (keeps_bits ShiftRight x) (has_room ShiftRight s) e h)
+kept_passes s BitwiseXor x e h a = there (keeps_bits BitwiseXor x && has_room BitwiseXor s) _ (both_true (keeps_bits BitwiseXor x) (has_room BitwiseXor s) e h)
+kept_passes s BitwiseAnd x e h a = there (keeps_bits BitwiseAnd x && has_room BitwiseAnd s) _ (both_true (keeps_bits BitwiseAnd x) (has_room BitwiseAnd s) e h)
+kept_passes s o x e h a = absurd (true≢false (sym e))
+
+whole_passes : (s : Seat) (a : Tree) → is_int32 a ≡ true → is_some (written s (binary BitwiseOr a (digit false))) ≡ true
+whole_passes s a e = there (is_int32 a) a e
+
 -- ---- all
 
 binary_row : (s : Seat) (n w : Tree) (o : Option BinaryOperator) → binary_operator n ≡ o → binary_written s o n ≡ Some w → OperandRow (Expr s) n w
 binary_row s n w (Some Addition) h e = sum_row s n w (part n 0) (part n 1) (binary_is n Addition h) e
 binary_row s n w (Some Equality) h e = equal_row s n w true (part n 0) (part n 1) (binary_is n Equality h) e
 binary_row s n w (Some Inequality) h e = equal_row s n w false (part n 0) (part n 1) (binary_is n Inequality h) e
+binary_row s n w (Some BitwiseOr) h e = inr (inr (inr (inr (inr (inr (inr (whole_row n w (part n 0) (part n 1) (binary_is n BitwiseOr h) e)))))))
+binary_row s n w (Some BitwiseAnd) h e = inr (inr (inr (inr (inr (inr (inl (kept_row s n w BitwiseAnd (part n 0) (part n 1) (binary_is n BitwiseAnd h) e)))))))
+binary_row s n w (Some BitwiseXor) h e = inr (inr (inr (inr (inr (inr (inl (kept_row s n w BitwiseXor (part n 0) (part n 1) (binary_is n BitwiseXor h) e)))))))
+binary_row s n w (Some ShiftLeft) h e = inr (inr (inr (inr (inr (inr (inl (kept_row s n w ShiftLeft (part n 0) (part n 1) (binary_is n ShiftLeft h) e)))))))
+binary_row s n w (Some ShiftRight) h e = inr (inr (inr (inr (inr (inr (inl (kept_row s n w ShiftRight (part n 0) (part n 1) (binary_is n ShiftRight h) e)))))))
 binary_row s n w o h e = nothing e
 
 written_is_row : (s : Seat) (n w : Tree) → written s n ≡ Some w → OperandRow (Expr s) n w
@@ -334,7 +373,9 @@ passes s n w (inr (inl r)) = text_passes s n w r
 passes s n w (inr (inr (inl r))) = ap (λ t. is_some (written s t)) r.shape ∙ right_passes s r.equal r.truth r.operand
 passes s n w (inr (inr (inr (inl r)))) = ap (λ t. is_some (written s t)) r.shape ∙ beside_passes s r.equal r.truth r.on_right r.operand
 passes s n w (inr (inr (inr (inr (inl r))))) = joined_passes s n w r
-passes s n w (inr (inr (inr (inr (inr r))))) = ap (λ t. is_some (written s t)) r.shape ∙ zero_passes_as s r.equal r.operand r.known
+passes s n w (inr (inr (inr (inr (inr (inl r)))))) = ap (λ t. is_some (written s t)) r.shape ∙ zero_passes_as s r.equal r.operand r.known
+passes s n w (inr (inr (inr (inr (inr (inr (inl r))))))) = ap (λ t. is_some (written s t)) r.shape ∙ kept_passes s r.operator r.number r.known r.seated r.operand
+passes s n w (inr (inr (inr (inr (inr (inr (inr r))))))) = ap (λ t. is_some (written s t)) r.shape ∙ whole_passes s r.operand r.known
 
 unwritten_rests : (s : Seat) (n : Tree) → written s n ≡ None → Rests (Expr s) n
 unwritten_rests s n e w r = true≢false (sym (passes s n w r) ∙ ap is_some e)

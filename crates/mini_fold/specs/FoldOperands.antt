@@ -1,7 +1,7 @@
--- The rewrites 4, 7, 14, 27, 29 and 30: what is known of an operand goes, or is written shorter.
+-- The rewrites 4, 7, 14, 27, 29, 30, 31 and 32: what is known of an operand goes, or is written shorter.
 use Rattle.std.specs.Prelude.{ℕ, suc, zero, ℤ, pos, Bool, true, false, ◌&&◌, List, [], ◌++◌, Option, Some, None, if◌then◌else◌}
 use Rattle.mini_model.specs.declared.operator.BinaryOperator.{BinaryOperator}
-use Rattle.mini_model.specs.declared.operator.BinaryOperator.TheVariants.{Addition, Equality, Inequality}
+use Rattle.mini_model.specs.declared.operator.BinaryOperator.TheVariants.{Addition, Equality, Inequality, BitwiseAnd, BitwiseXor, BitwiseOr, ShiftLeft, ShiftRight}
 use Rattle.mini_model.specs.declared.operator.LogicalOperator.{LogicalOperator}
 use Rattle.mini_model.specs.declared.place.Position.{Position}
 use Rattle.mini_model.specs.declared.seat.Seat.{Seat}
@@ -19,7 +19,7 @@ use Rattle.mini_terms.specs.Kind.{kind}
 use Rattle.mini_terms.specs.Parts.{suits, leaves_nothing, weighs}
 use Rattle.mini_rows.specs.Booleans.{digit}
 use Rattle.mini_rows.specs.Choices.{loosely}
-use Rattle.mini_rows.specs.Operands.{told_by, tail_text, is_bits, zero_told, OperandRow, OperandContracts}
+use Rattle.mini_rows.specs.Operands.{told_by, tail_text, is_bits, is_int32, keeps_bits, has_room, zero_told, OperandRow, OperandContracts}
 use Rattle.mini_rows.specs.Spellings.{binary, text}
 
 -- ---- 14
@@ -121,12 +121,32 @@ either_written s equal None a b = left_written equal (truth_in a) b
 abbrev pub equal_written : Seat → Bool → Tree → Tree → Option Tree
 equal_written s equal a b = if tests_bits a b then Some (zero_told equal a) else either_written s equal (truth_in b) a b
 
+-- ---- 31 and 32
+
+-- the operator gives beside it what `| 0` does
+abbrev pub keeps_beside : BinaryOperator → Option ℤ → Bool
+keeps_beside o (Some n) = keeps_bits o n
+keeps_beside o None = false
+
+-- `a | 0` of `a << 0`
+abbrev pub kept_written : Seat → BinaryOperator → Tree → Tree → Option Tree
+kept_written s o a k = if keeps_beside o (number k) && has_room o s then Some (binary BitwiseOr a (digit false)) else None
+
+-- `a << 1` of `a << 1 | 0`
+abbrev pub whole_written : Tree → Tree → Option Tree
+whole_written a k = if is_zero (number k) && is_int32 a then Some a else None
+
 -- ---- all
 
 abbrev pub binary_written : Seat → Option BinaryOperator → Tree → Option Tree
 binary_written s (Some Addition) t = sum_written s (part t 0) (part t 1)
 binary_written s (Some Equality) t = equal_written s true (part t 0) (part t 1)
 binary_written s (Some Inequality) t = equal_written s false (part t 0) (part t 1)
+binary_written s (Some BitwiseOr) t = whole_written (part t 0) (part t 1)
+binary_written s (Some BitwiseAnd) t = kept_written s BitwiseAnd (part t 0) (part t 1)
+binary_written s (Some BitwiseXor) t = kept_written s BitwiseXor (part t 0) (part t 1)
+binary_written s (Some ShiftLeft) t = kept_written s ShiftLeft (part t 0) (part t 1)
+binary_written s (Some ShiftRight) t = kept_written s ShiftRight (part t 0) (part t 1)
 binary_written s o t = None
 
 abbrev pub written_by : Shape → Seat → Tree → Option Tree

@@ -236,8 +236,9 @@ fn is_less(left: i64, right: i64) -> bool
     left < right
 }
 
+/// Whether they are the same number.
 #[tactic(auto, using(crate::proofs::Arithmetic::same_true, crate::proofs::Arithmetic::same_false))]
-fn is_same(left: i64, right: i64) -> bool
+pub fn is_same(left: i64, right: i64) -> bool
     ensures { result ≡ operators.same_number left right }
 {
     if left == right { true } else { false }

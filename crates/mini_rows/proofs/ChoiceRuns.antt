@@ -183,7 +183,7 @@ module _ (e : Environment) (m n : Naming) (σ τ : ℕ → Demand) (K : Kids σ)
   abbrev Free : {A : Type 0} → Command σ A → Command τ A → Type 0
   Free c d = (z : State) → run {q = σ} e m K c z ≡ run {q = τ} e n L d z
 
-  bind_free : {A B : Type 0} (c : Command σ A) (d : Command τ A) (f : A → Command σ B) (g : A → Command τ B) → Free c d → ((a : A) → Free (f a) (g a)) → Free (bind c f) (bind d g)
+  pub bind_free : {A B : Type 0} (c : Command σ A) (d : Command τ A) (f : A → Command σ B) (g : A → Command τ B) → Free c d → ((a : A) → Free (f a) (g a)) → Free (bind c f) (bind d g)
   bind_free c d f g h k z =
       run_bind e m c f K z
       ∙ ap (λ x. either x (λ a z. run {q = σ} e m K (f a) z) (λ x z. stop x z)) (h z)
@@ -198,7 +198,7 @@ module _ (e : Environment) (m n : Naming) (σ τ : ℕ → Demand) (K : Kids σ)
   unfolding act
   raise_free z = refl
 
-  made_free : {A : Type 0} (x : Made A) → Free (of_made x) (of_made x)
+  pub made_free : {A : Type 0} (x : Made A) → Free (of_made x) (of_made x)
   made_free (makes a) z = refl
   made_free raises z = raise_free z
   made_free outside z = refl
@@ -207,7 +207,7 @@ module _ (e : Environment) (m n : Naming) (σ τ : ℕ → Demand) (K : Kids σ)
   unfolding act
   primitive_free h v = choose_free (is_object v) (emit (Coerce h) (Item v ∷ [])) (ret v) (emit (Coerce h) (Item v ∷ [])) (ret v) (λ z. refl) (λ z. refl)
 
-  numeric_free : (v : Value) → Free (numeric v) (numeric v)
+  pub numeric_free : (v : Value) → Free (numeric v) (numeric v)
   numeric_free v = bind_free (primitive ForNumber v) (primitive ForNumber v) (λ x. of_made (to_number x)) (λ x. of_made (to_number x)) (primitive_free ForNumber v) (λ x. made_free (to_number x))
 
   pub operate_free : (o : BinaryOperator) (a b : Value) → Free (operate o a b) (operate o a b)

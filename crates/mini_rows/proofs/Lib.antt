@@ -119,6 +119,7 @@ pub mod SequenceLawful
 pub mod OperandMeaning
 pub mod OperandWeights
 pub mod OperandForms
+pub mod BitNumbers
 pub mod OperandLawful
 pub mod NameWeights
 pub mod NameLawful

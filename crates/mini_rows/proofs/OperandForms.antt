@@ -1,5 +1,5 @@
 -- What is told of an operand by its operator or its literal.
-use Rattle.std.proofs.Common.{◌≡◌, ℕ, ℤ, true, List, Option, Some, None, refl, sym, ap, ◌∙◌, true≢false}
+use Rattle.std.proofs.Common.{◌≡◌, Bool, false, ℕ, ℤ, true, List, Option, Some, None, refl, sym, ap, ◌∙◌, true≢false}
 use Rattle.std.specs.Fmt.{signed_decimal}
 use Rattle.std.proofs.lemmas.Bool.{and_parts}
 use Rattle.mini_model.specs.declared.operator.BinaryOperator.{BinaryOperator}
@@ -14,7 +14,7 @@ use Rattle.mini_terms.specs.declared.kinds.Kind.{Kind}
 use Rattle.mini_terms.specs.declared.kinds.Kind.TheVariants.{Number as IsNumber}
 use Rattle.mini_terms.specs.Kind.{is_number, kind}
 use Rattle.mini_terms.specs.Reading.{is_plain_part}
-use Rattle.mini_rows.specs.Operands.{tail_by, tail_text, makes_bits, is_bits}
+use Rattle.mini_rows.specs.Operands.{tail_by, tail_text, makes_bits, is_bits, makes_int32, is_int32}
 use Rattle.mini_rows.specs.Spellings.{binary, numeral, text}
 
 -- a text, or a number
@@ -64,3 +64,33 @@ bits_plain t e = go (bits_form t e)
     go (masked is) = ap is_plain_part is
     go (differing is) = ap is_plain_part is
     go (joined is) = ap is_plain_part is
+
+-- numbers of 32 bits
+
+abbrev pub is_int32_operator : BinaryOperator → Bool
+is_int32_operator binary_operator.BitwiseAnd = true
+is_int32_operator binary_operator.BitwiseXor = true
+is_int32_operator binary_operator.BitwiseOr = true
+is_int32_operator binary_operator.ShiftLeft = true
+is_int32_operator binary_operator.ShiftRight = true
+is_int32_operator o = false
+
+pub data Int32 (t : Tree) : Type 0 where
+  inverts : t ≡ unary unary_operator.BitwiseNot (part t 0) → Int32 t
+  operates : (o : BinaryOperator) → is_int32_operator o ≡ true → t ≡ binary o (part t 0) (part t 1) → Int32 t
+
+int32_by : (t : Tree) (u : Option UnaryOperator) (o : Option BinaryOperator) → its_unary_operator t ≡ u → its_binary_operator t ≡ o → makes_int32 u o ≡ true → Int32 t
+int32_by t (Some unary_operator.BitwiseNot) o h g e = inverts (unary_is t unary_operator.BitwiseNot h)
+int32_by t None (Some binary_operator.BitwiseAnd) h g e = operates binary_operator.BitwiseAnd refl (binary_is t binary_operator.BitwiseAnd g)
+int32_by t None (Some binary_operator.BitwiseXor) h g e = operates binary_operator.BitwiseXor refl (binary_is t binary_operator.BitwiseXor g)
+int32_by t None (Some binary_operator.BitwiseOr) h g e = operates binary_operator.BitwiseOr refl (binary_is t binary_operator.BitwiseOr g)
+int32_by t None (Some binary_operator.ShiftLeft) h g e = operates binary_operator.ShiftLeft refl (binary_is t binary_operator.ShiftLeft g)
+int32_by t None (Some binary_operator.ShiftRight) h g e = operates binary_operator.ShiftRight refl (binary_is t binary_operator.ShiftRight g)
+int32_by t u o h g e = absurd (true≢false (sym e))
+
+pub int32_form : (t : Tree) → is_int32 t ≡ true → Int32 t
+int32_form t e = int32_by t (its_unary_operator t) (its_binary_operator t) refl refl (and_parts (makes_int32 (its_unary_operator t) (its_binary_operator t)) (is_number (kind t)) e).0
+
+pub int32_plain : (t : Tree) → Int32 t → is_plain_part t ≡ true
+int32_plain t (inverts is) = ap is_plain_part is
+int32_plain t (operates o h is) = ap is_plain_part is

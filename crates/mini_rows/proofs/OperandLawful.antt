@@ -2,13 +2,14 @@
 use Rattle.std.proofs.Common.{◌≡◌, ℕ, Bool, true, false, List, [], ◌++◌, refl, sym, ap, ◌∙◌, subst, inl, inr, true≢false}
 use Rattle.std.specs.Prelude.{◌&&◌, pos}
 use Rattle.mini_model.specs.declared.operator.BinaryOperator.{BinaryOperator}
-use Rattle.mini_model.specs.declared.operator.BinaryOperator.TheVariants.{Addition}
-use Rattle.mini_model.specs.declared.operator.UnaryOperator.TheVariants.{LogicalNot}
+use Rattle.mini_model.specs.declared.operator.BinaryOperator.TheVariants.{Addition, BitwiseOr}
+use Rattle.mini_model.specs.declared.operator.UnaryOperator.TheVariants.{LogicalNot, BitwiseNot}
 use Rattle.mini_model.specs.declared.place.Position.{Position}
 use Rattle.mini_model.specs.declared.place.Position.TheVariants.{Expr}
 use Rattle.mini_model.specs.declared.seat.Seat.{Seat}
 use Rattle.mini_model.specs.declared.shape.Shape.TheVariants as shape
-use Rattle.mini_model.specs.Tree.{Tree, none, ◌▸◌, logical, negation}
+use Rattle.mini_model.specs.Tree.{Tree, none, ◌▸◌, unary, logical, negation}
+use Rattle.mini_node.specs.Children.{part as its_part}
 use Rattle.mini_accept.specs.WellShaped.{Slot, is_paired, fits}
 use Rattle.mini_kept.specs.KeepsNames.{is_rewritten_place}
 use Rattle.mini_kept.specs.KeepsShapes.{AskedAlike}
@@ -23,13 +24,13 @@ use Rattle.mini_rows.specs.Booleans.{digit}
 use Rattle.mini_rows.specs.Choices.{loosely}
 use Rattle.mini_rows.specs.Operands.{beside, told_by, zero_told, Row14, OperandRow, OperandContracts}
 use Rattle.mini_rows.specs.Sketches.{Number, String, Unary, Binary, Logical, Sketch, part, under, end, ◌▹◌}
-use Rattle.mini_rows.specs.Spellings.{binary, negated_digit, text}
+use Rattle.mini_rows.specs.Spellings.{binary, negated_digit, numeral, text}
 use Rattle.mini_rows.proofs.ArrangedExpressions.{expressions_arranged, expressions_arranged_freely}
 use Rattle.mini_rows.proofs.ArrangedLawful.{kept_is_lawful}
 use Rattle.mini_rows.proofs.ConstantLawful.{plain_fields, binary_at}
 use Rattle.mini_rows.proofs.FoldLawful.{vanishes, first_dropped, operands, expression_slot, no_number}
 use Rattle.mini_rows.proofs.FoldWeights.{not_a_number}
-use Rattle.mini_rows.proofs.OperandForms.{Tail, of_text, of_number, tail_form}
+use Rattle.mini_rows.proofs.OperandForms.{Tail, of_text, of_number, tail_form, Int32, inverts, operates, int32_form}
 use Rattle.mini_rows.proofs.OperandMeaning.{operands_same}
 use Rattle.mini_rows.proofs.Surrogates.{is_paired_joined, numeral_paired}
 
@@ -80,7 +81,9 @@ kept (Expr q) n w (inr (inl r)) = text_kept r.on_right r.operand q n w r.shape r
 kept (Expr q) n w (inr (inr (inl r))) = told_kept r.equal r.truth r.operand q n w r.shape r.written
 kept (Expr q) n w (inr (inr (inr (inl r)))) = counted_kept (loosely r.equal) r.on_right r.truth r.operand q n w r.shape r.written
 kept (Expr q) n w (inr (inr (inr (inr (inl r))))) = joined_kept r.left r.before r.tail r.after (tail_form r.tail r.after r.known) q n w r.shape r.written
-kept (Expr q) n w (inr (inr (inr (inr (inr r))))) = zero_kept r.equal r.operand q n w r.shape r.written
+kept (Expr q) n w (inr (inr (inr (inr (inr (inl r)))))) = zero_kept r.equal r.operand q n w r.shape r.written
+kept (Expr q) n w (inr (inr (inr (inr (inr (inr (inl r))))))) = expressions_arranged (record { trees = r.operand ▸ none; lists = [] }) (of_two r.operator true (under (Number r.number) end)) (of_two BitwiseOr true (a_digit false)) refl q n w r.shape r.written
+kept (Expr q) n w (inr (inr (inr (inr (inr (inr (inr r))))))) = expressions_arranged (record { trees = r.operand ▸ none; lists = [] }) (of_two BitwiseOr true (a_digit false)) (part 0) refl q n w r.shape r.written
 kept p n w r = absurd r
 
 places : (p : Position) (n w : Tree) → OperandRow p n w → is_rewritten_place p ≡ true
@@ -142,7 +145,13 @@ module _ (strict : Bool) (s : Slot) where
       let (takes, (sum, tail)) = binary_at strict Addition (binary Addition r.left (text r.before)) r.tail s (subst (λ t. fits strict s t ≡ true) r.shape e) in
       let (within, (left, before)) = binary_at strict Addition r.left (text r.before) expression sum in
       (takes, subst Fits (sym r.written) (two_fit strict r.left (text (r.before ++ r.after)) left (text_fits (r.before ++ r.after) (is_paired_joined r.before r.after (text_paired r.before before) (tail_paired r.tail r.after (tail_form r.tail r.after r.known) tail)))))
-  stood (Expr q) n w (inr (inr (inr (inr (inr r))))) e =
+  stood (Expr q) n w (inr (inr (inr (inr (inr (inr (inl r))))))) e =
+      let (takes, fit) = beside_at r.operator true r.operand (numeral r.number) (subst (λ t. fits strict s t ≡ true) r.shape e) in
+      (takes, subst Fits (sym r.written) (beside_fits BitwiseOr true r.operand (digit false) fit (digit_fits false)))
+  stood (Expr q) n w (inr (inr (inr (inr (inr (inr (inr r))))))) e =
+      let (takes, fit) = beside_at BitwiseOr true r.operand (digit false) (subst (λ t. fits strict s t ≡ true) r.shape e) in
+      (takes, subst Fits (sym r.written) fit)
+  stood (Expr q) n w (inr (inr (inr (inr (inr (inl r)))))) e =
       let (takes, fit) = beside_at (loosely r.equal) true r.operand (digit false) (subst (λ t. fits strict s t ≡ true) r.shape e) in
       (takes, subst Fits (sym r.written) (zero_fits r.equal r.operand fit))
   stood p n w r e = absurd r
@@ -201,8 +210,8 @@ middle_asked q n w r = subst (λ t. AskedAlike (Expr q) t w) (sym r.shape) (subs
   plain = refl;
 }))
 
-joined_asked : (q : Seat) (o : BinaryOperator) (a b c d : Tree) → AskedAlike (Expr q) (binary o a b) (binary o c d)
-joined_asked q o a b c d = record {
+joined_asked : (q : Seat) (o p : BinaryOperator) (a b c d : Tree) → AskedAlike (Expr q) (binary o a b) (binary p c d)
+joined_asked q o p a b c d = record {
   absent = λ e. absurd (true≢false (sym e));
   body = λ e. absurd (true≢false (sym e));
   optional = λ e. absurd (true≢false (sym e));
@@ -229,6 +238,20 @@ zero_asked q o false a b = record {
   plain = refl;
 }
 
+inverse_asked : (q : Seat) (a b c : Tree) → AskedAlike (Expr q) (binary BitwiseOr a b) (unary BitwiseNot c)
+inverse_asked q a b c = record {
+  absent = λ e. absurd (true≢false (sym e));
+  body = λ e. absurd (true≢false (sym e));
+  optional = λ e. absurd (true≢false (sym e));
+  number = λ asks e. refl;
+  spelled = λ s e. absurd (cc e);
+  plain = refl;
+}
+
+int32_asked : (q : Seat) (t k : Tree) → Int32 t → AskedAlike (Expr q) (binary BitwiseOr t k) t
+int32_asked q t k (inverts is) = subst (AskedAlike (Expr q) (binary BitwiseOr t k)) (sym is) (inverse_asked q t k (its_part t 0))
+int32_asked q t k (operates o h is) = subst (AskedAlike (Expr q) (binary BitwiseOr t k)) (sym is) (joined_asked q BitwiseOr o t k (its_part t 0) (its_part t 1))
+
 asked_by : (q : Seat) (n w a b : Tree) → n ≡ a → w ≡ b → AskedAlike (Expr q) a b → AskedAlike (Expr q) n w
 asked_by q n w a b e f h = subst (λ t. AskedAlike (Expr q) t w) (sym e) (subst (AskedAlike (Expr q) a) (sym f) h)
 
@@ -237,8 +260,10 @@ row_asked (Expr q) n w (inl r) = middle_asked q n w r
 row_asked (Expr q) n w (inr (inl r)) = asked_by q n w _ _ r.shape r.written (beside_asked q Addition r.on_right r.operand (text []) r.operand r.stays)
 row_asked (Expr q) n w (inr (inr (inl r))) = asked_by q n w _ _ r.shape r.written (beside_asked q (loosely r.equal) true r.operand (negated_digit r.truth) (told_by (same_boolean r.equal r.truth) r.operand) r.stays)
 row_asked (Expr q) n w (inr (inr (inr (inl r)))) = asked_by q n w _ _ r.shape r.written (both_asked q (loosely r.equal) r.on_right r.operand (negated_digit r.truth) (digit r.truth))
-row_asked (Expr q) n w (inr (inr (inr (inr (inl r))))) = asked_by q n w _ _ r.shape r.written (joined_asked q Addition (binary Addition r.left (text r.before)) r.tail r.left (text (r.before ++ r.after)))
-row_asked (Expr q) n w (inr (inr (inr (inr (inr r))))) = asked_by q n w _ _ r.shape r.written (zero_asked q (loosely r.equal) r.equal r.operand (digit false))
+row_asked (Expr q) n w (inr (inr (inr (inr (inl r))))) = asked_by q n w _ _ r.shape r.written (joined_asked q Addition Addition (binary Addition r.left (text r.before)) r.tail r.left (text (r.before ++ r.after)))
+row_asked (Expr q) n w (inr (inr (inr (inr (inr (inr (inl r))))))) = asked_by q n w _ _ r.shape r.written (joined_asked q r.operator BitwiseOr r.operand (numeral r.number) r.operand (digit false))
+row_asked (Expr q) n w (inr (inr (inr (inr (inr (inr (inr r))))))) = asked_by q n w _ _ r.shape r.written (int32_asked q r.operand (digit false) (int32_form r.operand r.known))
+row_asked (Expr q) n w (inr (inr (inr (inr (inr (inl r)))))) = asked_by q n w _ _ r.shape r.written (zero_asked q (loosely r.equal) r.equal r.operand (digit false))
 row_asked p n w r = absurd r
 
 pub operands_lawful : Lawful OperandContracts

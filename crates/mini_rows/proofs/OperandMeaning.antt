@@ -1,25 +1,27 @@
 -- What a row on operands whose value is known writes means the same.
-use Rattle.std.proofs.Common.{◌≡◌, ℕ, ℤ, suc, Bool, true, false, List, [], ◌∷◌, ◌++◌, Option, Some, None, append_assoc, refl, sym, ap, subst, ◌∙◌, inl, inr}
-use Rattle.std.specs.Prelude.{not, pos, negsuc, nat_eq}
+use Rattle.std.proofs.Common.{◌≡◌, ℕ, ℤ, suc, Bool, true, false, List, [], ◌∷◌, ◌++◌, Option, Some, None, append_assoc, refl, sym, ap, subst, ◌∙◌, inl, inr, true≢false}
+use Rattle.std.specs.Prelude.{not, pos, negsuc, nat_eq, ◌-◌}
 use Rattle.std.specs.Fmt.{signed_decimal}
 use Rattle.std.proofs.lemmas.List.{append-nil}
 use Rattle.mini_model.specs.declared.operator.BinaryOperator.{BinaryOperator}
-use Rattle.mini_model.specs.declared.operator.BinaryOperator.TheVariants.{Addition}
+use Rattle.mini_model.specs.declared.operator.BinaryOperator.TheVariants.{Addition, BitwiseAnd, BitwiseXor, BitwiseOr, ShiftLeft, ShiftRight}
+use Rattle.mini_model.specs.declared.operator.UnaryOperator.TheVariants.{BitwiseNot}
 use Rattle.mini_model.specs.declared.place.Position.{Position}
 use Rattle.mini_model.specs.declared.place.Position.TheVariants.{Expr}
 use Rattle.mini_model.specs.declared.seat.Seat.{Seat}
 use Rattle.mini_model.specs.declared.shape.Shape.TheVariants as shape
-use Rattle.mini_model.specs.Tree.{Tree, none, ◌▸◌, logical, negation}
+use Rattle.mini_model.specs.Tree.{Tree, none, ◌▸◌, unary, logical, negation}
 use Rattle.mini_model.specs.Position.{right_operand_seat, child_position}
+use Rattle.mini_node.specs.Children.{part}
 use Rattle.mini_model.specs.Rewriting.{Step, here, inside, first, later}
 use Rattle.mini_laws.specs.Value.{Value, Undefined, Null, Boolean, Number, String, Symbol, Object, truth}
 use Rattle.mini_laws.specs.State.{ForDefault, Coerce, Item, State, Completion, ok, stop, either, Environment}
 use Rattle.mini_laws.specs.Demand.{Val, As}
 use Rattle.mini_laws.specs.Command.{is_object, Naming, Command, ret, bind, emit, Kids, run}
-use Rattle.mini_laws.specs.Naming.{summary}
+use Rattle.mini_laws.specs.Naming.{summary, summaries, naming}
 use Rattle.mini_laws.specs.Conversion.{Made, makes, raises, outside, to_text}
-use Rattle.mini_laws.specs.Operators.{same_boolean, loosely_equal, joined, of_primitives}
-use Rattle.mini_laws.specs.Replies.{primitive, raise, of_made, of_option}
+use Rattle.mini_laws.specs.Operators.{same_boolean, loosely_equal, joined, of_primitives, of_numbers, of_number, modulo_32}
+use Rattle.mini_laws.specs.Replies.{reply, primitive, numeric, raise, of_made, of_option}
 use Rattle.mini_laws.specs.Replies as replies
 use Rattle.mini_laws.specs.Expressions.{operate_by}
 use Rattle.mini_laws.specs.Step.{step, means, meaning}
@@ -41,14 +43,16 @@ use Rattle.mini_terms.proofs.Reading.{same_in_seat}
 use Rattle.mini_rows.specs.Booleans.{digit}
 use Rattle.mini_rows.specs.Choices.{loosely}
 use Rattle.mini_rows.specs.Folding.{Row13}
-use Rattle.mini_rows.specs.Operands.{beside, told_by, is_bits, zero_told, Row14, Row7, Row29, OperandRow, OperandContracts}
+use Rattle.mini_rows.specs.Operands.{beside, told_by, is_bits, keeps_bits, zero_told, Row14, Row7, Row29, OperandRow, OperandContracts}
 use Rattle.mini_rows.specs.Spellings.{binary, negated_digit, numeral, text}
 use Rattle.mini_rows.proofs.BooleanMeaning.{then_same}
 use Rattle.mini_rows.proofs.ChoiceMeaning.{rotated_same}
-use Rattle.mini_rows.proofs.ChoiceRuns.{value, binary_value, binary_names, sides, raise_free, primitive_free}
+use Rattle.mini_rows.proofs.ChoiceRuns.{value, binary_value, binary_names, sides, raise_free, primitive_free, bind_free, numeric_free, made_free}
+use Rattle.mini_rows.proofs.BitNumbers.{whole, IsWhole, keeps_is, signed_whole, operated_whole}
 use Rattle.mini_rows.proofs.ConversionRuns.{after_boolean}
 use Rattle.mini_rows.proofs.FoldMeaning.{plain_of, value_of, plain_read, passed_same, passed_read}
-use Rattle.mini_rows.proofs.OperandForms.{Tail, of_text, of_number, tail_form, bits_number, bits_plain}
+use Rattle.mini_rows.proofs.OperandForms.{Tail, of_text, tail_form, bits_number, bits_plain, is_int32_operator, Int32, inverts, operates, int32_form, int32_plain}
+use Rattle.mini_rows.proofs.OperandForms as form
 use Rattle.mini_rows.proofs.SpellAlike.{SameTree, Alike, bind_alike, choose_alike}
 use Rattle.mini_rows.proofs.SequenceMeaning.{same_value}
 use Rattle.mini_rows.proofs.SpellMeaning.{tree_same, same_by}
@@ -319,7 +323,7 @@ module _ (e : Environment) (a : Tree) (s t : List ℕ) (k : Tree) (u : Value) (k
 
 tail_value : (a : Tree) (s : List ℕ) (k : Tree) (t : List ℕ) → Tail k t → (e : Environment) (z : State) → value e (binary Addition (sum_of a s) k) z ≡ value e (sum_of a (s ++ t)) z
 tail_value a s k t (of_text is) e z = ap (λ x. value e (binary Addition (sum_of a s) x) z) is ∙ joined_value e a s t (text t) (String t) (text_value_is t e) (λ r y. refl) z
-tail_value a s k t (of_number m is same) e z =
+tail_value a s k t (form.of_number m is same) e z =
     ap (λ x. value e (binary Addition (sum_of a s) x) z) is
     ∙ joined_value e a s (signed_decimal m) (numeral m) (Number m) (number_value m e) (λ r y. refl) z
     ∙ ap (λ r. value e (sum_of a (s ++ r)) z) same
@@ -366,6 +370,124 @@ zero_stands false a = refl
 zero_alike : (equal : Bool) (a : Tree) → is_bits a ≡ true → SameTree (binary (loosely equal) a (digit false)) (zero_told equal a)
 zero_alike equal a h = same_value _ _ refl (zero_stands equal a) (zero_read equal a (bits_plain a h)) (zero_value equal a (bits_number a h))
 
+-- ---- 31
+
+module _ (e : Environment) (m n : Naming) (K L : Kids (λ i. As Val)) where
+  -- what an operator of two numbers makes of any value and a number
+  beside_number : (o p : BinaryOperator) (x y : ℤ) → ((a : ℤ) → of_numbers o a x ≡ of_numbers p a y) → (v : Value) (z : State) → run {q = λ i. As Val} e m K (bind (numeric v) (λ a. of_made (of_numbers o a x))) z ≡ run {q = λ i. As Val} e n L (bind (numeric v) (λ a. of_made (of_numbers p a y))) z
+  beside_number o p x y h v z =
+      bind_free e m n (λ i. As Val) (λ i. As Val) K L (numeric v) (numeric v) (λ a. of_made (of_numbers o a x)) (λ a. of_made (of_numbers p a y)) (numeric_free e m n (λ i. As Val) (λ i. As Val) K L v)
+      (λ a y'. made_free e m n (λ i. As Val) (λ i. As Val) K L (of_numbers o a x) y' ∙ ap (λ c. run {q = λ i. As Val} e n L (of_made c) y') (h a)) z
+
+  kept_bits : (o : BinaryOperator) (x : ℤ) → keeps_bits o x ≡ true → (v : Value) (z : State) → run {q = λ i. As Val} e m K (operate_by o v (Number x)) z ≡ run {q = λ i. As Val} e n L (operate_by BitwiseOr v (Number (pos 0))) z
+  kept_bits ShiftLeft x h v z = beside_number ShiftLeft BitwiseOr x (pos 0) (λ a. keeps_is ShiftLeft x a h) v z
+  kept_bits ShiftRight x h v z = beside_number ShiftRight BitwiseOr x (pos 0) (λ a. keeps_is ShiftRight x a h) v z
+  kept_bits BitwiseXor x h v z = beside_number BitwiseXor BitwiseOr x (pos 0) (λ a. keeps_is BitwiseXor x a h) v z
+  kept_bits BitwiseAnd x h v z = beside_number BitwiseAnd BitwiseOr x (pos 0) (λ a. keeps_is BitwiseAnd x a h) v z
+  kept_bits o x h v z = absurd (true≢false (sym h))
+
+-- an operator of a value and a literal
+literal_last : (e : Environment) (o : BinaryOperator) (a k : Tree) (u : Value) → ((z : State) → value e k z ≡ ok u z) → (s : State) → value e (binary o a k) s ≡ either (value e a s) (λ v z. ends_with e o a k v u z) (λ x z. stop x z)
+literal_last e o a k u known s =
+    binary_value e o a k s
+    ∙ either_cong (value e a s) _ _ _ _ (λ v z. ap (λ c. either c (λ w y. ends_with e o a k v w y) (λ x y. stop x y)) (known z) ∙ either_ok u z _ _) (λ x z. refl)
+
+kept_value : (o : BinaryOperator) (x : ℤ) → keeps_bits o x ≡ true → (a : Tree) (e : Environment) (s : State) → value e (binary o a (numeral x)) s ≡ value e (binary BitwiseOr a (digit false)) s
+kept_value o x h a e s =
+    literal_last e o a (numeral x) (Number x) (number_value x e) s
+    ∙ either_cong (value e a s) _ _ _ _ (λ v z. kept_bits e (binary_names o a (numeral x)) (binary_names BitwiseOr a (digit false)) (sides e a (numeral x)) (sides e a (digit false)) o x h v z) (λ x z. refl)
+    ∙ sym (literal_last e BitwiseOr a (digit false) (Number (pos 0)) (digit_value false e) s)
+
+kept_alike : (o : BinaryOperator) (x : ℤ) → keeps_bits o x ≡ true → (a : Tree) → SameTree (binary o a (numeral x)) (binary BitwiseOr a (digit false))
+kept_alike o x h a = same_value _ _ refl refl refl (kept_value o x h a)
+
+-- ---- 32
+
+module _ (e : Environment) (names : Naming) (K : Kids (λ i. As Val)) (then_whole : Value → State → Completion Value) (later : (m : ℤ) (z : State) → then_whole (Number m) z ≡ run {q = λ i. As Val} e names K (of_made (whole m)) z) where
+  abbrev Settles : Command (λ i. As Val) Value → Type 0
+  Settles c = (z : State) → either (run {q = λ i. As Val} e names K c z) then_whole (λ x y. stop x y) ≡ run {q = λ i. As Val} e names K c z
+
+  settled_bind : {A : Type 0} (c : Command (λ i. As Val) A) (f : A → Command (λ i. As Val) Value) → ((a : A) → Settles (f a)) → Settles (bind c f)
+  settled_bind c f h z =
+      ap (λ y. either y then_whole (λ x y. stop x y)) (run_bind e names c f K z)
+      ∙ either_assoc (run {q = λ i. As Val} e names K c z) _ _ _ _
+      ∙ either_cong (run {q = λ i. As Val} e names K c z) _ (λ a y. run {q = λ i. As Val} e names K (f a) y) _ (λ x y. stop x y) h (λ x y. either_stop x y _ _)
+      ∙ sym (run_bind e names c f K z)
+
+  settled_made : (x : Made Value) → IsWhole x → Settles (of_made x)
+  settled_made (makes (Number m)) h z = either_ok (Number m) z _ _ ∙ later m z ∙ ap (λ c. run {q = λ i. As Val} e names K (of_made c) z) h
+  settled_made (makes Undefined) h z = absurd h
+  settled_made (makes Null) h z = absurd h
+  settled_made (makes (Boolean b)) h z = absurd h
+  settled_made (makes (String t)) h z = absurd h
+  settled_made (makes (Symbol m)) h z = absurd h
+  settled_made (makes (Object m f)) h z = absurd h
+  settled_made raises h z = simp runs
+  settled_made outside h z = either_out then_whole (λ x y. stop x y)
+
+  settled_numbers : (f : ℤ → ℤ → Made Value) → ((a b : ℤ) → IsWhole (f a b)) → (v u : Value) → Settles (bind (numeric v) (λ a. bind (numeric u) (λ b. of_made (f a b))))
+  settled_numbers f h v u = settled_bind (numeric v) (λ a. bind (numeric u) (λ b. of_made (f a b))) (λ a. settled_bind (numeric u) (λ b. of_made (f a b)) (λ b. settled_made (f a b) (h a b)))
+
+  settled_operator : (o : BinaryOperator) → is_int32_operator o ≡ true → (v u : Value) → Settles (operate_by o v u)
+  settled_operator BitwiseAnd h v u = settled_numbers (of_numbers BitwiseAnd) (operated_whole BitwiseAnd h) v u
+  settled_operator BitwiseXor h v u = settled_numbers (of_numbers BitwiseXor) (operated_whole BitwiseXor h) v u
+  settled_operator BitwiseOr h v u = settled_numbers (of_numbers BitwiseOr) (operated_whole BitwiseOr h) v u
+  settled_operator ShiftLeft h v u = settled_numbers (of_numbers ShiftLeft) (operated_whole ShiftLeft h) v u
+  settled_operator ShiftRight h v u = settled_numbers (of_numbers ShiftRight) (operated_whole ShiftRight h) v u
+  settled_operator o h v u = absurd (true≢false (sym h))
+
+  settled_inverse : (v : Value) → Settles (bind (numeric v) (λ a. of_made (of_number BitwiseNot a)))
+  settled_inverse v = settled_bind (numeric v) (λ a. of_made (of_number BitwiseNot a)) (λ a. settled_made (of_number BitwiseNot a) (signed_whole (4_294_967_295 - modulo_32 a)))
+
+  -- what settles after a value
+  settled_after : (y : Completion Value) (f : Value → State → Completion Value) → ((v : Value) (z : State) → either (f v z) then_whole (λ x y. stop x y) ≡ f v z) → either (either y f (λ x y. stop x y)) then_whole (λ x y. stop x y) ≡ either y f (λ x y. stop x y)
+  settled_after y f h = either_assoc y f _ _ _ ∙ either_cong y _ f _ (λ x y. stop x y) h (λ x z. either_stop x z _ _)
+
+-- what `~` does with the value of its operand
+abbrev under_not : Environment → Tree → Kids (λ i. As Val)
+under_not e a i r z = meaning e (a ▸ none) i (As Val) r z
+
+abbrev not_names : Tree → Naming
+not_names a = naming (shape.UnaryExpression BitwiseNot) (As Val) [] 0 (summaries (a ▸ none))
+
+inverse_value : (e : Environment) (a : Tree) (s : State) → value e (unary BitwiseNot a) s ≡ either (value e a s) (λ v z. run {q = λ i. As Val} e (not_names a) (under_not e a) (bind (numeric v) (λ b. of_made (of_number BitwiseNot b))) z) (λ x z. stop x z)
+unfolding means meaning step
+inverse_value e a s =
+    either_cong (value e a s) _ _ _ _ (λ v z. run_bind e (not_names a) (bind (numeric v) (λ b. of_made (of_number BitwiseNot b))) (reply (As Val) tt) (under_not e a) z ∙ either_eta (run {q = λ i. As Val} e (not_names a) (under_not e a) (bind (numeric v) (λ b. of_made (of_number BitwiseNot b))) z)) (λ x z. refl)
+
+module _ (e : Environment) (t : Tree) where
+  abbrev or_zero : Value → State → Completion Value
+  or_zero v z = ends_with e BitwiseOr t (digit false) v (Number (pos 0)) z
+
+  or_later : (names : Naming) (K : Kids (λ i. As Val)) (m : ℤ) (z : State) → or_zero (Number m) z ≡ run {q = λ i. As Val} e names K (of_made (whole m)) z
+  or_later names K m z = made_free e (binary_names BitwiseOr t (digit false)) names (λ i. As Val) (λ i. As Val) (sides e t (digit false)) K (whole m) z
+
+  whole_value : Int32 t → (s : State) → either (value e t s) or_zero (λ x z. stop x z) ≡ value e t s
+  whole_value (inverts is) s =
+      let a : Tree = part t 0 in
+      let opened = ap (λ x. value e x s) is ∙ inverse_value e a s in
+      ap (λ y. either y or_zero (λ x z. stop x z)) opened
+      ∙ settled_after e (not_names a) (under_not e a) or_zero (or_later (not_names a) (under_not e a)) (value e a s) (λ v z. run {q = λ i. As Val} e (not_names a) (under_not e a) (bind (numeric v) (λ b. of_made (of_number BitwiseNot b))) z) (λ v z. settled_inverse e (not_names a) (under_not e a) or_zero (or_later (not_names a) (under_not e a)) v z)
+      ∙ sym opened
+  whole_value (operates o h is) s =
+      let a : Tree = part t 0 in
+      let b : Tree = part t 1 in
+      let opened = ap (λ x. value e x s) is ∙ binary_value e o a b s in
+      ap (λ y. either y or_zero (λ x z. stop x z)) opened
+      ∙ settled_after e (binary_names o a b) (sides e a b) or_zero (or_later (binary_names o a b) (sides e a b)) (value e a s) (λ v z. either (value e b z) (λ u y. ends_with e o a b v u y) (λ x y. stop x y))
+      (λ v z. settled_after e (binary_names o a b) (sides e a b) or_zero (or_later (binary_names o a b) (sides e a b)) (value e b z) (λ u y. ends_with e o a b v u y) (λ u y. settled_operator e (binary_names o a b) (sides e a b) or_zero (or_later (binary_names o a b) (sides e a b)) o h v u y))
+      ∙ sym opened
+
+int32_value : (t : Tree) → Int32 t → (e : Environment) (s : State) → value e (binary BitwiseOr t (digit false)) s ≡ value e t s
+int32_value t h e s = literal_last e BitwiseOr t (digit false) (Number (pos 0)) (digit_value false e) s ∙ whole_value e t h s
+
+int32_stands : (t : Tree) → Int32 t → stands t ≡ true
+int32_stands t (inverts is) = ap stands is
+int32_stands t (operates o h is) = ap stands is
+
+int32_alike : (t : Tree) → Int32 t → SameTree (binary BitwiseOr t (digit false)) t
+int32_alike t h = same_value _ _ refl (int32_stands t h) (sym (plain_read t (int32_plain t h))) (int32_value t h)
+
 -- ---- all
 
 row_same : (p : Position) (n w : Tree) → OperandRow p n w → SameAt p n w
@@ -374,7 +496,9 @@ row_same (Expr s) n w (inr (inl r)) = text_same s n w r
 row_same (Expr s) n w (inr (inr (inl r))) = equal_same s n w r
 row_same (Expr s) n w (inr (inr (inr (inl r)))) = tree_same s n w (same_by n w _ _ r.shape r.written (counted_alike r.equal r.truth r.on_right r.operand))
 row_same (Expr s) n w (inr (inr (inr (inr (inl r))))) = tree_same s n w (same_by n w _ _ r.shape r.written (joined_alike r.left r.before r.tail r.after (tail_form r.tail r.after r.known)))
-row_same (Expr s) n w (inr (inr (inr (inr (inr r))))) = tree_same s n w (same_by n w _ _ r.shape r.written (zero_alike r.equal r.operand r.known))
+row_same (Expr s) n w (inr (inr (inr (inr (inr (inl r)))))) = tree_same s n w (same_by n w _ _ r.shape r.written (zero_alike r.equal r.operand r.known))
+row_same (Expr s) n w (inr (inr (inr (inr (inr (inr (inl r))))))) = tree_same s n w (same_by n w _ _ r.shape r.written (kept_alike r.operator r.number r.known r.operand))
+row_same (Expr s) n w (inr (inr (inr (inr (inr (inr (inr r))))))) = tree_same s n w (same_by n w _ _ r.shape r.written (int32_alike r.operand (int32_form r.operand r.known)))
 row_same p n w r = absurd r
 
 beside_read : (o : BinaryOperator) (b : Bool) (a k t : Tree) → is_plain_part t ≡ true → summary (beside o b a k) ≡ summary t
@@ -387,7 +511,9 @@ row_read (Expr s) n w (inr (inl r)) = ap summary r.shape ∙ beside_read Additio
 row_read (Expr s) n w (inr (inr (inl r))) = let t : Tree = told_by (same_boolean r.equal r.truth) r.operand in ap summary r.shape ∙ beside_read (loosely r.equal) true r.operand (negated_digit r.truth) t (plain_of s t r.stays) ∙ sym (ap summary r.written)
 row_read (Expr s) n w (inr (inr (inr (inl r)))) = ap summary r.shape ∙ (counted_alike r.equal r.truth r.on_right r.operand).read ∙ sym (ap summary r.written)
 row_read (Expr s) n w (inr (inr (inr (inr (inl r))))) = ap summary r.shape ∙ (joined_alike r.left r.before r.tail r.after (tail_form r.tail r.after r.known)).read ∙ sym (ap summary r.written)
-row_read (Expr s) n w (inr (inr (inr (inr (inr r))))) = ap summary r.shape ∙ (zero_alike r.equal r.operand r.known).read ∙ sym (ap summary r.written)
+row_read (Expr s) n w (inr (inr (inr (inr (inr (inl r)))))) = ap summary r.shape ∙ (zero_alike r.equal r.operand r.known).read ∙ sym (ap summary r.written)
+row_read (Expr s) n w (inr (inr (inr (inr (inr (inr (inl r))))))) = ap summary r.shape ∙ (kept_alike r.operator r.number r.known r.operand).read ∙ sym (ap summary r.written)
+row_read (Expr s) n w (inr (inr (inr (inr (inr (inr (inr r))))))) = ap summary r.shape ∙ (int32_alike r.operand (int32_form r.operand r.known)).read ∙ sym (ap summary r.written)
 row_read p n w r = absurd r
 
 pub operands_same : MeansSame OperandContracts

@@ -1,21 +1,23 @@
 -- What a row on operands whose value is known writes weighs less wherever the expression stands.
-use Rattle.std.proofs.Common.{◌≡◌, ℕ, ◌<◌, ◌≤◌, Bool, true, false, List, [], ◌++◌, length-append, refl, sym, ap, subst, ◌∙◌, inl, inr, true≢false, arith}
-use Rattle.std.specs.Prelude.{◌&&◌, ◌||◌, nat_lt, pos, length, if◌then◌else◌}
-use Rattle.std.specs.Fmt.{signed_decimal}
+use Rattle.std.proofs.Common.{◌≡◌, ℕ, ◌+◌, ◌<◌, ◌≤◌, Bool, true, false, List, [], ◌++◌, length-append, refl, sym, ap, subst, ◌∙◌, inl, inr, true≢false, arith}
+use Rattle.std.specs.Prelude.{◌&&◌, ◌||◌, nat_le, nat_lt, ℤ, pos, length, if◌then◌else◌}
+use Rattle.std.specs.Fmt.{signed_decimal, digits}
+use Rattle.std.proofs.lemmas.Bool.{leb-true}
 use Rattle.std.proofs.lemmas.Fmt.{decimal_digit}
 use borrow.Author.Tests.{ltb-true, ltb-false}
 use Rattle.mini_model.specs.declared.operator.BinaryOperator.{BinaryOperator}
-use Rattle.mini_model.specs.declared.operator.BinaryOperator.TheVariants.{Addition, Equality, Inequality}
+use Rattle.mini_model.specs.declared.operator.BinaryOperator.TheVariants.{Addition, Equality, Inequality, BitwiseAnd, BitwiseXor, BitwiseOr, ShiftLeft, ShiftRight}
 use Rattle.mini_model.specs.declared.operator.LogicalOperator.{LogicalOperator}
 use Rattle.mini_model.specs.declared.operator.LogicalOperator.TheVariants.{Or, And, Coalesce}
 use Rattle.mini_model.specs.declared.operator.UnaryOperator.TheVariants.{LogicalNot}
 use Rattle.mini_model.specs.declared.place.Position.{Position}
 use Rattle.mini_model.specs.declared.place.Position.TheVariants.{Expr}
 use Rattle.mini_model.specs.declared.seat.Seat.{Seat}
+use Rattle.mini_model.specs.declared.shape.Shape.{Shape}
 use Rattle.mini_model.specs.declared.shape.Shape.TheVariants as shape
 use Rattle.mini_model.specs.Tree.{Tree, node, none, ◌▸◌, logical, negation}
 use Rattle.mini_model.specs.Position.{left_operand_seat, right_operand_seat, binary_operand_seat, not_operand_seat, is_and_or}
-use Rattle.mini_model.specs.Weight.{Outline, outline, outlines, weight, place_weight}
+use Rattle.mini_model.specs.Weight.{Outline, outline, outlines, weight, level_of, mixes, is_chain, is_call, place_weight}
 use Rattle.mini_laws.specs.Operators.{same_boolean}
 use Rattle.mini_laws.specs.Weights.{Lightens, counts_items}
 use Rattle.mini_laws.proofs.Seats.{placed}
@@ -25,12 +27,13 @@ use Rattle.mini_terms.specs.Parts.{weighs}
 use Rattle.mini_terms.specs.Reading.{is_plain_part}
 use Rattle.mini_rows.specs.Booleans.{digit}
 use Rattle.mini_rows.specs.Choices.{loosely}
-use Rattle.mini_rows.specs.Operands.{beside, told_by, zero_told, OperandRow, OperandContracts, OperandsLighter}
-use Rattle.mini_rows.specs.Spellings.{binary, negated_digit, text}
+use Rattle.mini_rows.specs.Operands.{beside, told_by, keeps_bits, has_room, zero_told, OperandRow, OperandContracts, OperandsLighter}
+use Rattle.mini_rows.specs.Spellings.{binary, negated_digit, numeral, text}
 use Rattle.mini_rows.proofs.BooleanWeights.{digit_falls}
 use Rattle.mini_rows.proofs.FoldMeaning.{plain_of}
 use Rattle.mini_rows.proofs.FoldWeights.{two, moved, there, no_choice}
-use Rattle.mini_rows.proofs.OperandForms.{Tail, of_text, of_number, tail_form, Bits, inverted, masked, differing, joined, bits_form, bits_plain}
+use Rattle.mini_rows.proofs.OperandForms.{Tail, of_text, of_number, tail_form, Bits, inverted, masked, differing, joined, bits_form, bits_plain, Int32, inverts, operates, int32_form, int32_plain}
+use Rattle.mini_rows.proofs.BitNumbers.{same_is}
 use Rattle.mini_rows.proofs.SpellWeights.{falls_by}
 
 -- 14: an operand and its operator go
@@ -131,6 +134,86 @@ zero_falls false s a h =
     let zero : length (signed_decimal (pos 0)) ≡ 1 = ap length (decimal_digit 0 (omega arith)) in
     omega (arith, here, marks, zero)
 
+-- 31: `|` has parentheses where the other operator has them, or there is room, and what stands on its left has no more
+
+pairs : (k l : ℕ) → k ≤ l → (m : ℕ) (r : Bool) → (if nat_lt l m || r then 4 else 0) ≤ (if nat_lt k m || r then 4 else 0)
+pairs k l h m r = go (nat_lt l m) (nat_lt k m) r refl refl
+  where
+    go : (b c r : Bool) → nat_lt l m ≡ b → nat_lt k m ≡ c → (if b || r then 4 else 0) ≤ (if c || r then 4 else 0)
+    go true true r p q = omega arith
+    go false true true p q = omega arith
+    go false true false p q = omega arith
+    go false false r p q = omega arith
+    go true false r p q = absurd (omega (arith, h, ltb-true _ _ p, ltb-false _ _ q))
+
+room : (k : ℕ) (s : Seat) → nat_le s.level 5 || nat_lt k s.level ≡ true → (r : Bool) → (if nat_lt 5 s.level || r then 4 else 0) ≤ (if nat_lt k s.level || r then 4 else 0)
+room k s h r = go (nat_lt 5 s.level) (nat_lt k s.level) (nat_le s.level 5) r refl refl refl h
+  where
+    go : (b c d r : Bool) → nat_lt 5 s.level ≡ b → nat_lt k s.level ≡ c → nat_le s.level 5 ≡ d → d || c ≡ true → (if b || r then 4 else 0) ≤ (if c || r then 4 else 0)
+    go true true d r p q w e = omega arith
+    go false true d true p q w e = omega arith
+    go false true d false p q w e = omega arith
+    go false false d r p q w e = omega arith
+    go true false true r p q w e = absurd (omega (arith, ltb-true _ _ p, leb-true _ _ w))
+    go true false false r p q w e = absurd (true≢false (sym e))
+
+pair_at_most : (b : Bool) → (if b then 4 else 0) ≤ 4
+pair_at_most true = omega arith
+pair_at_most false = omega arith
+
+-- a left operand in the seat of an operator that binds no tighter
+inside : (l m : ℕ) → l ≤ m → (h : Shape) (r : Bool) → (if nat_lt (level_of h) l || r then 4 else 0) ≤ (if nat_lt (level_of h) m || r then 4 else 0)
+inside l m k h r = go (nat_lt (level_of h) l) (nat_lt (level_of h) m) r refl refl
+  where
+    go : (b c r : Bool) → nat_lt (level_of h) l ≡ b → nat_lt (level_of h) m ≡ c → (if b || r then 4 else 0) ≤ (if c || r then 4 else 0)
+    go true true r p q = omega arith
+    go false true true p q = omega arith
+    go false true false p q = omega arith
+    go false false r p q = omega arith
+    go true false r p q = absurd (omega (arith, k, ltb-true _ _ p, ltb-false _ _ q))
+
+abbrev or_seat : Seat
+or_seat = binary_operand_seat BitwiseOr 0
+
+abbrev rest_inside : Shape → Bool
+rest_inside h = mixes h or_seat.mix || ((or_seat.access && is_chain h) || (or_seat.new_callee && is_call h))
+
+left_moved : (o : BinaryOperator) (x : ℤ) → keeps_bits o x ≡ true → (a : Tree) → weight (Expr or_seat) a ≤ weight (Expr (binary_operand_seat o 0)) a + 0
+left_moved ShiftLeft x e a = placed 0 or_seat (binary_operand_seat ShiftLeft 0) refl (λ h os. omega (arith, inside 5 10 (omega arith) h (rest_inside h))) a
+left_moved ShiftRight x e a = placed 0 or_seat (binary_operand_seat ShiftRight 0) refl (λ h os. omega (arith, inside 5 10 (omega arith) h (rest_inside h))) a
+left_moved BitwiseXor x e a = placed 0 or_seat (binary_operand_seat BitwiseXor 0) refl (λ h os. omega (arith, inside 5 6 (omega arith) h (rest_inside h))) a
+left_moved BitwiseAnd x e a = placed 0 or_seat (binary_operand_seat BitwiseAnd 0) refl (λ h os. omega (arith, inside 5 7 (omega arith) h (rest_inside h))) a
+left_moved o x e a = absurd (true≢false (sym e))
+
+nought_text : length (signed_decimal (pos 0)) ≡ 1
+unfolding digits
+nought_text = refl
+
+mask_text : length (signed_decimal (pos 4_294_967_295)) ≡ 10
+unfolding digits
+mask_text = refl
+
+abbrev rest_of : Seat → Bool
+rest_of s = false || ((s.access && false) || (s.new_callee && false))
+
+kept_falls : (o : BinaryOperator) (x : ℤ) → keeps_bits o x ≡ true → (s : Seat) → has_room o s ≡ true → (a : Tree) → weight (Expr s) (binary BitwiseOr a (digit false)) < weight (Expr s) (binary o a (numeral x))
+kept_falls ShiftLeft x e s h a = subst (λ y. weight (Expr s) (binary BitwiseOr a (digit false)) < weight (Expr s) (binary ShiftLeft a (numeral y))) (sym (same_is x 0 e)) (omega (arith, left_moved ShiftLeft x e a, room 10 s h (rest_of s), zero_mark s.eq_left s.cond_test s.lifted))
+kept_falls ShiftRight x e s h a = subst (λ y. weight (Expr s) (binary BitwiseOr a (digit false)) < weight (Expr s) (binary ShiftRight a (numeral y))) (sym (same_is x 0 e)) (omega (arith, left_moved ShiftRight x e a, room 10 s h (rest_of s), zero_mark s.eq_left s.cond_test s.lifted))
+kept_falls BitwiseXor x e s h a = subst (λ y. weight (Expr s) (binary BitwiseOr a (digit false)) < weight (Expr s) (binary BitwiseXor a (numeral y))) (sym (same_is x 0 e)) (omega (arith, left_moved BitwiseXor x e a, room 6 s h (rest_of s), zero_mark s.eq_left s.cond_test s.lifted))
+kept_falls BitwiseAnd x e s h a = subst (λ y. weight (Expr s) (binary BitwiseOr a (digit false)) < weight (Expr s) (binary BitwiseAnd a (numeral y))) (sym (same_is x 4_294_967_295 e)) (omega (arith, left_moved BitwiseAnd x e a, pair_at_most (nat_lt 5 s.level || rest_of s), zero_mark s.eq_left s.cond_test s.lifted, nought_text, mask_text))
+kept_falls o x e s h a = absurd (true≢false (sym e))
+
+-- 32: what stays has parentheses only where `|` has
+
+int32_falls : (s : Seat) (t : Tree) → Int32 t → weight (Expr s) t < weight (Expr s) (binary BitwiseOr t (digit false))
+int32_falls s t (inverts is) = subst (λ x. weight (Expr s) x < weight (Expr s) (binary BitwiseOr x (digit false))) (sym is) (omega (arith, pairs 5 14 (omega arith) s.level (rest_of s), zero_mark s.eq_left s.cond_test s.lifted))
+int32_falls s t (operates BitwiseAnd h is) = subst (λ x. weight (Expr s) x < weight (Expr s) (binary BitwiseOr x (digit false))) (sym is) (omega (arith, pairs 5 7 (omega arith) s.level (rest_of s), zero_mark s.eq_left s.cond_test s.lifted))
+int32_falls s t (operates BitwiseXor h is) = subst (λ x. weight (Expr s) x < weight (Expr s) (binary BitwiseOr x (digit false))) (sym is) (omega (arith, pairs 5 6 (omega arith) s.level (rest_of s), zero_mark s.eq_left s.cond_test s.lifted))
+int32_falls s t (operates BitwiseOr h is) = subst (λ x. weight (Expr s) x < weight (Expr s) (binary BitwiseOr x (digit false))) (sym is) (omega (arith, zero_mark s.eq_left s.cond_test s.lifted))
+int32_falls s t (operates ShiftLeft h is) = subst (λ x. weight (Expr s) x < weight (Expr s) (binary BitwiseOr x (digit false))) (sym is) (omega (arith, pairs 5 10 (omega arith) s.level (rest_of s), zero_mark s.eq_left s.cond_test s.lifted))
+int32_falls s t (operates ShiftRight h is) = subst (λ x. weight (Expr s) x < weight (Expr s) (binary BitwiseOr x (digit false))) (sym is) (omega (arith, pairs 5 10 (omega arith) s.level (rest_of s), zero_mark s.eq_left s.cond_test s.lifted))
+int32_falls s t (operates o h is) = absurd (true≢false (sym h))
+
 -- ---- all
 
 pub lighter : OperandsLighter
@@ -139,7 +222,9 @@ lighter (Expr s) n w (inr (inl r)) = falls_by (Expr s) n w _ _ r.shape r.written
 lighter (Expr s) n w (inr (inr (inl r))) = falls_by (Expr s) n w _ _ r.shape r.written (told_falls r.equal r.truth s r.operand (plain_inside (same_boolean r.equal r.truth) r.operand (plain_of s (told_by (same_boolean r.equal r.truth) r.operand) r.stays)))
 lighter (Expr s) n w (inr (inr (inr (inl r)))) = falls_by (Expr s) n w _ _ r.shape r.written (counted_falls r.equal r.truth r.on_right s r.operand)
 lighter (Expr s) n w (inr (inr (inr (inr (inl r))))) = falls_by (Expr s) n w _ _ r.shape r.written (joined_falls s r.left r.before r.tail r.after (tail_form r.tail r.after r.known))
-lighter (Expr s) n w (inr (inr (inr (inr (inr r))))) = falls_by (Expr s) n w _ _ r.shape r.written (zero_falls r.equal s r.operand (bits_form r.operand r.known))
+lighter (Expr s) n w (inr (inr (inr (inr (inr (inl r)))))) = falls_by (Expr s) n w _ _ r.shape r.written (zero_falls r.equal s r.operand (bits_form r.operand r.known))
+lighter (Expr s) n w (inr (inr (inr (inr (inr (inr (inl r))))))) = falls_by (Expr s) n w _ _ r.shape r.written (kept_falls r.operator r.number r.known s r.seated r.operand)
+lighter (Expr s) n w (inr (inr (inr (inr (inr (inr (inr r))))))) = falls_by (Expr s) n w _ _ r.shape r.written (int32_falls s r.operand (int32_form r.operand r.known))
 lighter p n w r = absurd r
 
 -- what a parent's weight reads of them
@@ -197,13 +282,19 @@ zero_is_none : (equal : Bool) (a : Tree) → (outline (zero_told equal a)).is_ze
 zero_is_none true a = refl
 zero_is_none false a = refl
 
+int32_no_zero : (t : Tree) → Int32 t → (outline t).is_zero ≡ false
+int32_no_zero t (inverts is) = ap (λ x. (outline x).is_zero) is
+int32_no_zero t (operates o h is) = ap (λ x. (outline x).is_zero) is
+
 alike : (p : Position) (n w : Tree) → OperandRow p n w → ReadAlike n w
 alike (Expr s) n w (inl r) = whole_alike n w (ap outline r.shape ∙ sym (ap outline r.written))
 alike (Expr s) n w (inr (inl r)) = left_alike n w Addition r.on_right r.operand (text []) r.operand r.shape r.written (plain_of s r.operand r.stays) (text_not_zero r.operand r.known)
 alike (Expr s) n w (inr (inr (inl r))) = let t : Tree = told_by (same_boolean r.equal r.truth) r.operand in left_alike n w (loosely r.equal) true r.operand (negated_digit r.truth) t r.shape r.written (plain_of s t r.stays) (told_not_zero (same_boolean r.equal r.truth) r.operand r.known)
 alike (Expr s) n w (inr (inr (inr (inl r)))) = whole_alike n w (ap outline r.shape ∙ beside_outline (loosely r.equal) r.on_right r.operand (negated_digit r.truth) (digit r.truth) ∙ sym (ap outline r.written))
 alike (Expr s) n w (inr (inr (inr (inr (inl r))))) = whole_alike n w (ap outline r.shape ∙ sym (ap outline r.written))
-alike (Expr s) n w (inr (inr (inr (inr (inr r))))) = left_alike n w (loosely r.equal) true r.operand (digit false) (zero_told r.equal r.operand) r.shape r.written (zero_plain r.equal r.operand (bits_plain r.operand r.known)) (zero_is_none r.equal r.operand)
+alike (Expr s) n w (inr (inr (inr (inr (inr (inl r)))))) = left_alike n w (loosely r.equal) true r.operand (digit false) (zero_told r.equal r.operand) r.shape r.written (zero_plain r.equal r.operand (bits_plain r.operand r.known)) (zero_is_none r.equal r.operand)
+alike (Expr s) n w (inr (inr (inr (inr (inr (inr (inl r))))))) = left_alike n w r.operator true r.operand (numeral r.number) (binary BitwiseOr r.operand (digit false)) r.shape r.written refl refl
+alike (Expr s) n w (inr (inr (inr (inr (inr (inr (inr r))))))) = let form = int32_form r.operand r.known in left_alike n w BitwiseOr true r.operand (digit false) r.operand r.shape r.written (int32_plain r.operand form) (int32_no_zero r.operand form)
 alike p n w r = absurd r
 
 no_items : (p : Position) (n w : Tree) → OperandRow p n w → counts_items p ≡ true → (outline n).items ≡ (outline w).items

@@ -1,9 +1,9 @@
 -- Rows on operands whose value is known, as equations: each is a shape and what is written in its place, with the JavaScript before and
 -- after. No order of rewriting is meant.
-use Rattle.std.specs.Prelude.{◌≡◌, ℕ, ℤ, ◌<◌, ◌⊎◌, ◌&&◌, Bool, true, false, List, [], ◌++◌, Option, Some, None}
+use Rattle.std.specs.Prelude.{◌≡◌, ℕ, ℤ, pos, ◌<◌, nat_le, nat_lt, ◌⊎◌, ◌&&◌, ◌||◌, Bool, true, false, List, [], ◌++◌, Option, Some, None}
 use Rattle.std.specs.Fmt.{signed_decimal}
 use Rattle.mini_model.specs.declared.operator.BinaryOperator.{BinaryOperator}
-use Rattle.mini_model.specs.declared.operator.BinaryOperator.TheVariants.{Addition, BitwiseAnd, BitwiseXor, BitwiseOr}
+use Rattle.mini_model.specs.declared.operator.BinaryOperator.TheVariants.{Addition, BitwiseAnd, BitwiseXor, BitwiseOr, ShiftLeft, ShiftRight}
 use Rattle.mini_model.specs.declared.operator.LogicalOperator.{LogicalOperator}
 use Rattle.mini_model.specs.declared.operator.UnaryOperator.{UnaryOperator}
 use Rattle.mini_model.specs.declared.operator.UnaryOperator.TheVariants.{BitwiseNot}
@@ -14,14 +14,14 @@ use Rattle.mini_model.specs.Tree.{Tree, logical, negation}
 use Rattle.mini_model.specs.Position.{is_and_or, right_operand_seat}
 use Rattle.mini_model.specs.Weight.{weight}
 use Rattle.mini_node.specs.Kinds.{unary_operator, binary_operator, number, string}
-use Rattle.mini_laws.specs.Operators.{same_boolean}
+use Rattle.mini_laws.specs.Operators.{same_boolean, same_number}
 use Rattle.mini_terms.specs.declared.kinds.Kind.TheVariants.{Boolean as IsBoolean, String as IsString}
 use Rattle.mini_terms.specs.Folds.{is_effect_free, goes_on}
 use Rattle.mini_terms.specs.Kind.{is_number, kind}
 use Rattle.mini_terms.specs.Parts.{suits, leaves_nothing, weighs}
 use Rattle.mini_rows.specs.Booleans.{digit}
 use Rattle.mini_rows.specs.Choices.{loosely}
-use Rattle.mini_rows.specs.Spellings.{binary, negated_digit, text}
+use Rattle.mini_rows.specs.Spellings.{binary, negated_digit, numeral, text}
 
 -- ---- terms
 
@@ -54,6 +54,29 @@ makes_bits u o = false
 
 abbrev pub is_bits : Tree → Bool
 is_bits t = makes_bits (unary_operator t) (binary_operator t) && is_number (kind t)
+
+-- Int32: shifts too, but `>>>`
+abbrev pub makes_int32 : Option UnaryOperator → Option BinaryOperator → Bool
+makes_int32 None (Some ShiftLeft) = true
+makes_int32 None (Some ShiftRight) = true
+makes_int32 u o = makes_bits u o
+
+abbrev pub is_int32 : Tree → Bool
+is_int32 t = makes_int32 (unary_operator t) (binary_operator t) && is_number (kind t)
+
+-- beside this number the operator gives what `| 0` does
+abbrev pub keeps_bits : BinaryOperator → ℤ → Bool
+keeps_bits ShiftLeft n = same_number n (pos 0)
+keeps_bits ShiftRight n = same_number n (pos 0)
+keeps_bits BitwiseXor n = same_number n (pos 0)
+keeps_bits BitwiseAnd n = same_number n (pos 4_294_967_295)
+keeps_bits o n = false
+
+-- `|` has no parentheses in the seat where this operator has none, or they weigh less than what goes
+abbrev pub has_room : BinaryOperator → Seat → Bool
+has_room BitwiseAnd s = true
+has_room BitwiseXor s = nat_le s.level 5 || nat_lt 6 s.level
+has_room o s = nat_le s.level 5 || nat_lt 10 s.level
 
 -- `!a`, or `!!a`
 abbrev pub zero_told : Bool → Tree → Tree
@@ -124,9 +147,26 @@ pub record Row27 (n w : Tree) : Type 0 where
   pub shape : n ≡ binary (loosely equal) operand (digit false)
   pub written : w ≡ zero_told equal operand
 
+-- 31: `a << 0`, `a >> 0`, `a ^ 0` and `a & 4294967295` become `a | 0`
+pub record Row31 (s : Seat) (n w : Tree) : Type 0 where
+  pub operator : BinaryOperator
+  pub operand : Tree
+  pub number : ℤ
+  pub known : keeps_bits operator number ≡ true
+  pub seated : has_room operator s ≡ true
+  pub shape : n ≡ binary operator operand (numeral number)
+  pub written : w ≡ binary BitwiseOr operand (digit false)
+
+-- 32: `a << 1 | 0` becomes `a << 1`, where that is a number of 32 bits
+pub record Row32 (n w : Tree) : Type 0 where
+  pub operand : Tree
+  pub known : is_int32 operand ≡ true
+  pub shape : n ≡ binary BitwiseOr operand (digit false)
+  pub written : w ≡ operand
+
 -- a row on operands reads n as w at this place
 abbrev pub OperandRow : Position → Tree → Tree → Type 0
-OperandRow (Expr s) n w = Row14 s n w ⊎ (Row7 s n w ⊎ (Row29 s n w ⊎ (Row30 n w ⊎ (Row4 n w ⊎ Row27 n w))))
+OperandRow (Expr s) n w = Row14 s n w ⊎ (Row7 s n w ⊎ (Row29 s n w ⊎ (Row30 n w ⊎ (Row4 n w ⊎ (Row27 n w ⊎ (Row31 s n w ⊎ Row32 n w))))))
 OperandRow _ n w = ⊥
 
 -- what it writes, where it weighs less

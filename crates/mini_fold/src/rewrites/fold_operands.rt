@@ -1,6 +1,6 @@
-//! Rows 4, 7, 14, 27, 29 and 30: an operand whose value is known goes, or is written shorter. `a + "s" + "t"` becomes `a + "st"`,
+//! Rows 4, 7, 14, 27 and 29 to 32: an operand whose value is known goes, or is written shorter. `a + "s" + "t"` becomes `a + "st"`,
 //! `typeof a + ""` becomes `typeof a`, `a || 0 || b` becomes `a || b`, `(a & 1) == 0` becomes `!(a & 1)`, `!a == !0` becomes `!a`, and
-//! `a == !0` becomes `a == 1`. What is written is lighter in every place.
+//! `a == !0` becomes `a == 1`; `a << 0` becomes `a | 0`, and `a << 1 | 0` becomes `a << 1`. What is written is lighter in every place.
 
 ghost use Rattle.std.specs.Prelude.{◌≡◌, true, is_some, unwrap_or, option_copied, OnOk, IfOk};
 ghost use Rattle.mini_model.specs.Tree.{children, count};
@@ -11,7 +11,7 @@ ghost use Rattle.mini_laws.specs.Operators.{same_boolean as are_they_same};
 ghost use Rattle.mini_terms.specs.Parts.{suits as may_suit};
 ghost use Rattle.mini_rows.specs.Booleans.{digit as digit_of};
 ghost use Rattle.mini_rows.specs.Choices.{loosely as loose};
-ghost use Rattle.mini_rows.specs.Operands.{told_by, tail_text as tail_of, makes_bits as do_they_make_bits, is_bits as are_they_bits, zero_told as zero_told_of};
+ghost use Rattle.mini_rows.specs.Operands.{told_by, tail_text as tail_of, makes_bits as do_they_make_bits, is_bits as are_they_bits, makes_int32 as do_they_make_int32, is_int32 as is_it_int32, keeps_bits as does_it_keep_bits, has_room as has_it_room, zero_told as zero_told_of};
 ghost use Rattle.mini_terms.specs.Kind.{is_number as is_number_of};
 ghost use Rattle.mini_tree.specs.Rule.{Applied};
 ghost use Rattle.mini_fold.specs.FoldOperands as operand;
@@ -19,6 +19,7 @@ ghost use Rattle.mini_fold.specs.FoldOperands.{Gives, Rests};
 ghost use Rattle.mini_fold.specs.Lighter.{operands_lighter};
 
 use crate::literals::{copied, text_of_both};
+use crate::numbers::is_same;
 use mini_model::{
     BinaryOperator, LogicalOperator, OutOfMemory, Position, Seat, Shape, Text, UnaryOperator,
     decimal,
@@ -377,6 +378,92 @@ fn fold_equality(
     Ok(false)
 }
 
+// Whether it gives beside this number what `| 0` does.
+fn keeps_bits(operator: BinaryOperator, number: i64) -> bool
+    ensures { result ≡ does_it_keep_bits operator number }
+{
+    match operator {
+        BinaryOperator::ShiftLeft | BinaryOperator::ShiftRight | BinaryOperator::BitwiseXor => {
+            is_same(number, 0)
+        }
+        BinaryOperator::BitwiseAnd => is_same(number, 4_294_967_295),
+        _ => false,
+    }
+}
+
+fn keeps_beside(operator: BinaryOperator, number: Option<i64>) -> bool
+    ensures { result ≡ operand.keeps_beside operator number }
+{
+    match number {
+        Some(known) => keeps_bits(operator, known),
+        None => false,
+    }
+}
+
+// Whether `|` has no parentheses that count where this operator has none.
+fn has_room(operator: BinaryOperator, seat: Seat) -> bool
+    ensures { result ≡ has_it_room operator seat }
+{
+    match operator {
+        BinaryOperator::BitwiseAnd => true,
+        BinaryOperator::BitwiseXor => seat.level <= 5 || seat.level > 6,
+        _ => seat.level <= 5 || seat.level > 10,
+    }
+}
+
+// `a | 0` of `a << 0`
+fn fold_kept(
+    alloc: Global,
+    node: &mut Node,
+    seat: Seat,
+    operator: BinaryOperator,
+) -> Result<bool, OutOfMemory>
+    requires { count (children node.old) ≡ 2 }
+    ensures tree { OnOk result (node.new ≡ unwrap_or (operand.kept_written seat operator (part node.old 0) (part node.old 1)) node.old) }
+    ensures said { IfOk result (λ changed. changed ≡ is_some (operand.kept_written seat operator (part node.old 0) (part node.old 1))) }
+{
+    if keeps_beside(operator, number(node.child(1))) && has_room(operator, seat) {
+        *node = binary(
+            alloc,
+            BinaryOperator::BitwiseOr,
+            one(taken(alloc, node)),
+            digit(alloc, false),
+        )?;
+        return Ok(true);
+    }
+    Ok(false)
+}
+
+fn makes_int32(unary: Option<UnaryOperator>, binary: Option<BinaryOperator>) -> bool
+    ensures { result ≡ do_they_make_int32 unary binary }
+{
+    match (unary, binary) {
+        (None, Some(BinaryOperator::ShiftLeft)) => true,
+        (None, Some(BinaryOperator::ShiftRight)) => true,
+        _ => makes_bits(unary, binary),
+    }
+}
+
+// Whether each value of it is a number of 32 bits with a sign.
+fn is_int32(node: &Node) -> bool
+    ensures { result ≡ is_it_int32 node.now }
+{
+    makes_int32(unary_operator(node), binary_operator(node)) && is_number_kind(kind_of(node))
+}
+
+// `a << 1` of `a << 1 | 0`
+fn fold_whole(alloc: Global, node: &mut Node) -> bool
+    requires { count (children node.old) ≡ 2 }
+    ensures tree { node.new ≡ unwrap_or (operand.whole_written (part node.old 0) (part node.old 1)) node.old }
+    ensures said { result ≡ is_some (operand.whole_written (part node.old 0) (part node.old 1)) }
+{
+    if is_zero(number(node.child(1))) && is_int32(node.child(0)) {
+        *node = one(taken(alloc, node));
+        return true;
+    }
+    false
+}
+
 fn fold_binary(alloc: Global, node: &mut Node, seat: Seat) -> Result<bool, OutOfMemory>
     ensures tree { OnOk result (node.new ≡ unwrap_or (operand.binary_written seat (its_binary_operator node.old) node.old) node.old) }
     ensures said { IfOk result (λ changed. changed ≡ is_some (operand.binary_written seat (its_binary_operator node.old) node.old)) }
@@ -385,6 +472,17 @@ fn fold_binary(alloc: Global, node: &mut Node, seat: Seat) -> Result<bool, OutOf
         Some(BinaryOperator::Addition) => fold_sum(alloc, node, seat),
         Some(BinaryOperator::Equality) => fold_equality(alloc, node, seat, true),
         Some(BinaryOperator::Inequality) => fold_equality(alloc, node, seat, false),
+        Some(BinaryOperator::BitwiseOr) => Ok(fold_whole(alloc, node)),
+        Some(BinaryOperator::BitwiseAnd) => {
+            fold_kept(alloc, node, seat, BinaryOperator::BitwiseAnd)
+        }
+        Some(BinaryOperator::BitwiseXor) => {
+            fold_kept(alloc, node, seat, BinaryOperator::BitwiseXor)
+        }
+        Some(BinaryOperator::ShiftLeft) => fold_kept(alloc, node, seat, BinaryOperator::ShiftLeft),
+        Some(BinaryOperator::ShiftRight) => {
+            fold_kept(alloc, node, seat, BinaryOperator::ShiftRight)
+        }
         _ => Ok(false),
     }
 }
@@ -402,7 +500,7 @@ pub fn fold_operands(alloc: Global, node: &mut Node, seat: Seat) -> Result<bool,
     }
 }
 
-/// Rows 4, 7, 14, 27, 29 and 30 as a rule: of each expression.
+/// Rows 4, 7, 14, 27 and 29 to 32 as a rule: of each expression.
 pub struct FoldOperands;
 
 impl<C: Context> Rule<C> for FoldOperands {
