@@ -187,7 +187,7 @@ fn is_chain_link(value: &Value) -> bool
 }
 
 // Whether some link of the chain is optional.
-#[tactic(auto, using(crate::proofs::Marks::mark_here, crate::proofs::Marks::mark_below, crate::proofs::Marks::no_mark, crate::proofs::Marks::off_chain, crate::proofs::Marks::below_is_smaller))]
+#[tactic(auto, using(crate::proofs::Marks::below_is_smaller))]
 fn has_mark(value: &Value) -> bool
     ensures { result ≡ has_mark (view value.now) }
 {

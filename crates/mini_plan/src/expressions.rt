@@ -31,9 +31,10 @@ fn is_declared(place: Place) -> bool
     ensures { result ≡ is_declared place }
 {
     match place {
-        Place::At(Class::Pattern | Class::PatternElement | Class::Parameter | Class::Binding) => {
-            true
-        }
+        Place::At(Class::Pattern)
+        | Place::At(Class::PatternElement)
+        | Place::At(Class::Parameter)
+        | Place::At(Class::Binding) => true,
         _ => false,
     }
 }
@@ -43,14 +44,12 @@ fn is_word(place: Place) -> bool
     ensures { result ≡ is_word place }
 {
     match place {
-        Place::At(
-            Class::Label
-            | Class::Key(false)
-            | Class::PrivateOrKey
-            | Class::InnerKey
-            | Class::ModuleName
-            | Class::Word(_),
-        ) => true,
+        Place::At(Class::Label)
+        | Place::At(Class::Key(false))
+        | Place::At(Class::PrivateOrKey)
+        | Place::At(Class::InnerKey)
+        | Place::At(Class::ModuleName)
+        | Place::At(Class::Word(_)) => true,
         _ => false,
     }
 }

@@ -13,9 +13,9 @@ ghost use Rattle.mini_fields.specs.Views.{place_of};
 ghost use Rattle.mini_plan.specs.Views.{child_of, plan_of};
 
 use crate::plan::{Below, Items, Plan};
-use crate::properties::{is_init, object_property, repeats_key};
-use mini_fields::{Class, Place, child_has_type, flag_at, has_list, property_kind_at};
-use mini_model::{PropertyKind, Shape};
+use crate::properties::{PropertyFields, is_init, object_property, property_fields, repeats_key};
+use mini_fields::{Class, Place, child_has_type, has_list};
+use mini_model::Shape;
 use serde_json::Value;
 
 // Whether the pattern in the place is one that a declaration binds.
@@ -118,19 +118,13 @@ fn target_property(shorthand: bool, computed: bool, value: &Value) -> Option<Pla
 }
 
 // No method and no accessor; a shorthand property repeats its key.
-fn is_pattern_property(
-    kind: PropertyKind,
-    is_method: bool,
-    shorthand: bool,
-    computed: bool,
-    value: &Value,
-) -> bool
-    ensures { result ≡ (is_init kind && (not is_method && (not shorthand || (not computed && repeats_key (view value.now))))) }
+fn is_pattern_property(fields: PropertyFields, value: &Value) -> bool
+    ensures { result ≡ (is_init fields.kind && (not fields.is_method && (not fields.shorthand || (not fields.computed && repeats_key (view value.now))))) }
 {
-    if is_method || !is_init(kind) {
+    if fields.is_method || !is_init(fields.kind) {
         return false;
     }
-    !shorthand || (!computed && repeats_key(value))
+    !fields.shorthand || (!fields.computed && repeats_key(value))
 }
 
 // A property of a pattern that binds.
@@ -149,16 +143,13 @@ fn binding_property<'v>(shorthand: bool, computed: bool) -> Option<Plan<'v>>
 fn pattern_property(binds: bool, value: &Value) -> Option<Plan<'_>>
     ensures { option_map (plan_of (view value.now)) result ≡ pattern.pattern_property binds (view value.now) }
 {
-    let kind = property_kind_at("kind", value)?;
-    let is_method = flag_at("method", value)?;
-    let shorthand = flag_at("shorthand", value)?;
-    let computed = flag_at("computed", value)?;
-    if !is_pattern_property(kind, is_method, shorthand, computed, value) {
+    let fields = property_fields(value)?;
+    if !is_pattern_property(fields, value) {
         None
     } else if binds {
-        binding_property(shorthand, computed)
+        binding_property(fields.shorthand, fields.computed)
     } else {
-        target_property(shorthand, computed, value)
+        target_property(fields.shorthand, fields.computed, value)
     }
 }
 

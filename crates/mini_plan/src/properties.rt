@@ -8,6 +8,7 @@ ghost use Rattle.mini_accept.specs.WellShaped.{is_init, a_key, value_class};
 ghost use Rattle.mini_accept.specs.Expressions as expression;
 ghost use Rattle.mini_accept.specs.Expressions.{is_same_name, is_name_with_default, identifier_text, repeats_key, is_whole_property};
 ghost use Rattle.mini_accept.specs.Plans.{child};
+ghost use Rattle.mini_plan.specs.Properties.{property_fields};
 ghost use Rattle.mini_plan.specs.Views.{child_of, plan_of};
 
 use crate::plan::{Below, Plan};
@@ -74,19 +75,16 @@ pub fn is_init(kind: PropertyKind) -> bool
 }
 
 // A method or an accessor is no shorthand, and an accessor no method; a shorthand property repeats its key.
-fn is_whole_property(
-    kind: PropertyKind,
-    is_method: bool,
-    shorthand: bool,
-    computed: bool,
-    value: &Value,
-) -> bool
-    ensures { result ≡ is_whole_property kind is_method shorthand computed (view value.now) }
+fn is_whole_property(fields: PropertyFields, value: &Value) -> bool
+    ensures { result ≡ is_whole_property fields.kind fields.is_method fields.shorthand fields.computed (view value.now) }
 {
-    if is_method && shorthand || !is_init(kind) && (is_method || shorthand) {
+    let is_accessor = !is_init(fields.kind);
+    if fields.is_method && fields.shorthand
+        || is_accessor && (fields.is_method || fields.shorthand)
+    {
         return false;
     }
-    !shorthand || (!computed && repeats_key(value))
+    !fields.shorthand || (!fields.computed && repeats_key(value))
 }
 
 const COMPUTED_METHOD: [Below; 2] = [
@@ -122,19 +120,46 @@ fn children(kind: PropertyKind, is_method: bool, computed: bool) -> &'static [Be
     }
 }
 
-/// `Property` of an object literal.
-pub fn object_property(value: &Value) -> Option<Plan<'_>>
-    ensures { option_map (plan_of (view value.now)) result ≡ expression.object_property (view value.now) }
+/// The plain fields of a property.
+#[derive(Clone, Copy)]
+pub struct PropertyFields {
+    pub kind: PropertyKind,
+    pub is_method: bool,
+    pub shorthand: bool,
+    pub computed: bool,
+}
+
+/// The plain fields of a property; None where one has another form.
+pub fn property_fields(value: &Value) -> Option<PropertyFields>
+    ensures { result ≡ property_fields (view value.now) }
 {
     let kind = property_kind_at("kind", value)?;
     let is_method = flag_at("method", value)?;
     let shorthand = flag_at("shorthand", value)?;
     let computed = flag_at("computed", value)?;
-    if !is_whole_property(kind, is_method, shorthand, computed, value) {
+    Some(PropertyFields {
+        kind,
+        is_method,
+        shorthand,
+        computed,
+    })
+}
+
+/// `Property` of an object literal.
+pub fn object_property(value: &Value) -> Option<Plan<'_>>
+    ensures { option_map (plan_of (view value.now)) result ≡ expression.object_property (view value.now) }
+{
+    let fields = property_fields(value)?;
+    if !is_whole_property(fields, value) {
         return None;
     }
     Plan::of(
-        Shape::ObjectProperty(kind, is_method, shorthand, computed),
-        children(kind, is_method, computed),
+        Shape::ObjectProperty(
+            fields.kind,
+            fields.is_method,
+            fields.shorthand,
+            fields.computed,
+        ),
+        children(fields.kind, fields.is_method, fields.computed),
     )
 }
