@@ -1,6 +1,6 @@
 -- Reading from node to node.
-use Rattle.std.proofs.Common.{◌≡◌, ℕ, zero, suc, ◌<◌, ◌≤◌, ◌-◌, ◌+◌, length, get_or, List, [], ◌∷◌, Bool, true, false, map, drop, refl, sym, ap, ◌∙◌, Option, Some, None, arith, add-one, drop-cons}
-use Rattle.std.specs.Prelude.{◌==◌, option_map, IfSome, Ok, Err}
+use Rattle.std.proofs.Common.{◌≡◌, ℕ, zero, suc, ◌<◌, ◌≤◌, ◌-◌, ◌+◌, length, get_or, List, [], ◌∷◌, Bool, true, false, map, drop, refl, sym, ap, ◌∙◌, subst, Option, Some, None, arith, add-one, drop-cons}
+use Rattle.std.specs.Prelude.{◌==◌, option_map, IfSome, IfOk, IfErr, Result, Ok, Err}
 use Rattle.std.proofs.lemmas.List.{drop_all}
 use Rattle.std.specs.Result.{result_err}
 use Rattle.serde_json.specs.Data.{Data}
@@ -22,7 +22,7 @@ use Rattle.mini_model.specs.Faults as errors
 use Rattle.mini_model.specs.Faults.{fault_of, IsUnder}
 use Rattle.mini_model.specs.declared.error.MinifyError.{MinifyError}
 use Rattle.mini_plan.specs.declared.plan.Below.{Below}
-use Rattle.mini_estree.specs.Reads.{fault_told, Blames, onto}
+use Rattle.mini_estree.specs.Reads.{fault_told, Blames, onto, number_given, first_below}
 use Rattle.mini_estree.proofs.Lists.{parts_front}
 
 -- ---- errors
@@ -48,6 +48,15 @@ of_memory (Some f) o h = absurd (cc h)
 pub blames_memory : (e : MinifyError) (o : Option Fault) → fault_of e ≡ None → Blames e o
 unfolding IsOf
 blames_memory e o h = of_memory (fault_of e) o h
+
+pub none_blamed : (r : Result ℕ MinifyError) (o : Option Fault) → IfErr r (λ e. fault_of e ≡ None) → IfErr r (λ e. Blames e o)
+none_blamed (Ok m) o h = tt
+none_blamed (Err e) o h = blames_memory e o h
+
+-- what was put behind what was read before
+pub then_put : (r : Result ℕ MinifyError) (next : ℕ) (out' whole : Trees) (read : Read Trees) → IfOk r (λ m. (m ≡ next) × (out' ≡ whole)) → (out' ≡ whole → read ≡ Ok (out', next)) → IfOk r (λ m. read ≡ Ok (out', m))
+then_put (Ok m) next out' whole read (is, put) f = rw is (f put)
+then_put (Err e) next out' whole read h f = tt
 
 of_fault : (told : Option errors.Fault) (f : Fault) → told ≡ Some (fault_told f) → IsOf told (Some f)
 unfolding IsOf
@@ -126,14 +135,14 @@ over_leaf h xs n ts r t is made = made ∙ ap (λ u. like u ts) is
 less : (k : ℕ) → suc k - 1 ≡ k
 less k = omega arith
 
-pub numbered_read : (k : ℕ) (s : Bool) (p : Place) (n m i : ℕ) (d : Data) (x : Plan) (ts : Trees) (t : Tree) → 0 < k → plan s p d ≡ Ok x → takes_number p x.shape ≡ true → i ≡ suc n
+numbered_read : (k : ℕ) (s : Bool) (p : Place) (n m i : ℕ) (d : Data) (x : Plan) (ts : Trees) (t : Tree) → 0 < k → plan s p d ≡ Ok x → takes_number p x.shape ≡ true → i ≡ suc n
     → read_children (reads (k - 1)) (is_strict_in s x.shape) d i x.children ≡ Ok (ts, m) → t ≡ node x.shape x.names n ts → reads k s p n d ≡ Ok (t, m)
 numbered_read zero s p n m i d x ts t h is takes next below made = absurd (omega arith)
 numbered_read (suc k) s p n m i d x ts t h is takes next below made =
     let same : read_children (reads k) (is_strict_in s x.shape) d (suc n) x.children ≡ Ok (ts, m) = rw (less k, next) at below in
     rw (is, takes, same, made) refl
 
-pub plain_read : (k : ℕ) (s : Bool) (p : Place) (n m : ℕ) (d : Data) (x : Plan) (ts : Trees) (t : Tree) → 0 < k → plan s p d ≡ Ok x → takes_number p x.shape ≡ false
+plain_read : (k : ℕ) (s : Bool) (p : Place) (n m : ℕ) (d : Data) (x : Plan) (ts : Trees) (t : Tree) → 0 < k → plan s p d ≡ Ok x → takes_number p x.shape ≡ false
     → read_children (reads (k - 1)) (is_strict_in s x.shape) d n x.children ≡ Ok (ts, m) → t ≡ node x.shape x.names 0 ts → reads k s p n d ≡ Ok (t, m)
 plain_read zero s p n m d x ts t h is takes below made = absurd (omega arith)
 plain_read (suc k) s p n m d x ts t h is takes below made =
@@ -144,19 +153,39 @@ kept : (e : MinifyError) (h : Shape) (xs : List Name) (n : ℕ) (r : Read Trees)
 kept e h xs n (Ok q) b = blames_nothing e None b
 kept e h xs n (Err f) b = b
 
-pub numbered_stop : (e : MinifyError) (k : ℕ) (s : Bool) (p : Place) (n i : ℕ) (d : Data) (x : Plan) → 0 < k → plan s p d ≡ Ok x → takes_number p x.shape ≡ true → i ≡ suc n
+numbered_stop : (e : MinifyError) (k : ℕ) (s : Bool) (p : Place) (n i : ℕ) (d : Data) (x : Plan) → 0 < k → plan s p d ≡ Ok x → takes_number p x.shape ≡ true → i ≡ suc n
     → Blames e (result_err (read_children (reads (k - 1)) (is_strict_in s x.shape) d i x.children)) → Blames e (result_err (reads k s p n d))
 numbered_stop e zero s p n i d x h is takes next below = absurd (omega arith)
 numbered_stop e (suc k) s p n i d x h is takes next below =
     let same : Blames e (result_err (read_children (reads k) (is_strict_in s x.shape) d (suc n) x.children)) = rw (less k, next) at below in
     rw (is, takes) (kept e x.shape x.names n (read_children (reads k) (is_strict_in s x.shape) d (suc n) x.children) same)
 
-pub plain_stop : (e : MinifyError) (k : ℕ) (s : Bool) (p : Place) (n : ℕ) (d : Data) (x : Plan) → 0 < k → plan s p d ≡ Ok x → takes_number p x.shape ≡ false
+plain_stop : (e : MinifyError) (k : ℕ) (s : Bool) (p : Place) (n : ℕ) (d : Data) (x : Plan) → 0 < k → plan s p d ≡ Ok x → takes_number p x.shape ≡ false
     → Blames e (result_err (read_children (reads (k - 1)) (is_strict_in s x.shape) d n x.children)) → Blames e (result_err (reads k s p n d))
 plain_stop e zero s p n d x h is takes below = absurd (omega arith)
 plain_stop e (suc k) s p n d x h is takes below =
     let same : Blames e (result_err (read_children (reads k) (is_strict_in s x.shape) d n x.children)) = rw (less k) at below in
     rw (is, takes) (kept e x.shape x.names 0 (read_children (reads k) (is_strict_in s x.shape) d n x.children) same)
+
+-- a node that takes a number, or takes none
+read_by : (b : Bool) (k : ℕ) (s : Bool) (p : Place) (n m i j : ℕ) (d : Data) (x : Plan) (ts : Trees) (t : Tree) → 0 < k → plan s p d ≡ Ok x → takes_number p x.shape ≡ b → i ≡ number_given b n → j ≡ first_below b n
+    → read_children (reads (k - 1)) (is_strict_in s x.shape) d j x.children ≡ Ok (ts, m) → t ≡ node x.shape x.names i ts → reads k s p n d ≡ Ok (t, m)
+read_by true k s p n m i j d x ts t h is takes given first below made = numbered_read k s p n m j d x ts t h is takes first below (made ∙ ap (λ a. node x.shape x.names a ts) given)
+read_by false k s p n m i j d x ts t h is takes given first below made =
+    plain_read k s p n m d x ts t h is takes (sym (ap (λ a. read_children (reads (k - 1)) (is_strict_in s x.shape) d a x.children) first) ∙ below) (made ∙ ap (λ a. node x.shape x.names a ts) given)
+
+pub node_read : (b : Bool) (k : ℕ) (s : Bool) (p : Place) (n m i j : ℕ) (d : Data) (x : Plan) (ts : Trees) (t : Tree) → 0 < k → plan s p d ≡ Ok x → b ≡ takes_number p x.shape → i ≡ number_given b n → j ≡ first_below b n
+    → read_children (reads (k - 1)) (is_strict_in s x.shape) d j x.children ≡ Ok (ts, m) → t ≡ node x.shape x.names i ts → reads k s p n d ≡ Ok (t, m)
+node_read b k s p n m i j d x ts t h is takes given first below made = read_by b k s p n m i j d x ts t h is (sym takes) given first below made
+
+stopped_by : (b : Bool) (e : MinifyError) (k : ℕ) (s : Bool) (p : Place) (n j : ℕ) (d : Data) (x : Plan) → 0 < k → plan s p d ≡ Ok x → takes_number p x.shape ≡ b → j ≡ first_below b n
+    → Blames e (result_err (read_children (reads (k - 1)) (is_strict_in s x.shape) d j x.children)) → Blames e (result_err (reads k s p n d))
+stopped_by true e k s p n j d x h is takes first below = numbered_stop e k s p n j d x h is takes first below
+stopped_by false e k s p n j d x h is takes first below = plain_stop e k s p n d x h is takes (subst (λ (a : ℕ). Blames e (result_err (read_children (reads (k - 1)) (is_strict_in s x.shape) d a x.children))) first below)
+
+pub node_stop : (b : Bool) (e : MinifyError) (k : ℕ) (s : Bool) (p : Place) (n j : ℕ) (d : Data) (x : Plan) → 0 < k → plan s p d ≡ Ok x → b ≡ takes_number p x.shape → j ≡ first_below b n
+    → Blames e (result_err (read_children (reads (k - 1)) (is_strict_in s x.shape) d j x.children)) → Blames e (result_err (reads k s p n d))
+node_stop b e k s p n j d x h is takes first below = stopped_by b e k s p n j d x h is (sym takes) first below
 
 with_list : Read Trees → Read Trees
 with_list x = x >>= λ q. Ok (listed q.0 ▸ none, q.1)

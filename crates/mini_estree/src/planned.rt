@@ -33,7 +33,6 @@ fn is_part_placed(strict: bool, part: Part, value: &Value) -> bool
     }
 }
 
-#[tactic(auto, using(crate::proofs::Lists::placed_step, crate::proofs::Lists::placed_stop))]
 fn is_list_placed(
     strict: bool,
     items: Items,
@@ -62,16 +61,15 @@ fn is_child_placed(strict: bool, below: Below, value: &Value) -> bool
     }
 }
 
-#[tactic(auto, using(crate::proofs::Lists::children_step, crate::proofs::Lists::children_stop))]
 fn are_placed(strict: bool, children: &[Below], value: &Value) -> bool
     ensures { result ≡ are_placed strict (view value.now) (map (child_of (view value.now)) children.now) }
 {
-    for below in children {
-        if !is_child_placed(strict, *below, value) {
-            return false;
+    match children {
+        [] => true,
+        [below, rest @ ..] => {
+            is_child_placed(strict, *below, value) && are_placed(strict, rest, value)
         }
     }
-    true
 }
 
 // ---- plans

@@ -8,9 +8,11 @@ ghost use Rattle.mini_accept.specs.Places.{step_text};
 ghost use Rattle.mini_accept.specs.Plans.{parts_from};
 ghost use Rattle.mini_model.specs.Faults.{fault_of, IsUnder};
 ghost use Rattle.mini_fields.specs.Views.{place_of, defect_of};
-ghost use Rattle.mini_model.specs.Tree.{node as tree_node, none};
+ghost use Rattle.mini_model.specs.Paths.{append};
+ghost use Rattle.mini_model.specs.Tree.{node as tree_node, none, ◌▸◌};
+ghost use Rattle.mini_model.specs.declared.shape.Shape.TheVariants as shape;
 ghost use Rattle.mini_plan.specs.Views.{step_of, part_of, item_of, child_of, shape_of_head, names_of_head};
-ghost use Rattle.mini_estree.specs.Reads.{Blames, Gives, fault_told, onto};
+ghost use Rattle.mini_estree.specs.Reads.{Blames, Gives, fault_told, onto, number_given, first_below};
 
 use crate::head::{is_strict_in, name, shape, takes_number};
 use crate::parts::{Form, down, form_of, item_part};
@@ -55,6 +57,19 @@ fn next_number(n: u32) -> Result<u32, MinifyError>
     }
 }
 
+// The number of a node, which is 0 where it takes none, and the first one below it.
+fn numbering(takes_number: bool, n: u32) -> Result<(u32, u32), MinifyError>
+    ensures given { IfOk result (λ p. (p.0 ≡ number_given takes_number n) × (p.1 ≡ first_below takes_number n)) }
+    ensures last { IfErr result (λ e. fault_of e ≡ None) }
+{
+    if takes_number {
+        let first = next_number(n)?;
+        Ok((n, first))
+    } else {
+        Ok((0, n))
+    }
+}
+
 // ---- nodes
 
 // The node of a head and a number, without children yet.
@@ -64,6 +79,25 @@ fn leaf(alloc: Global, head: Head<'_>, number: u32) -> Result<Node, OutOfMemory>
     let name = name(alloc, &head)?;
     let shape = shape(alloc, head)?;
     Ok(Node::with(shape, name, number, Nodes::new(alloc)))
+}
+
+// A node behind those before it, and the next number.
+fn put(out: &mut Nodes, node: Node, next: u32) -> Result<u32, MinifyError>
+    ensures put { IfOk result (λ m. (m ≡ next) × (out.new ≡ append out.old (node ▸ none))) }
+    ensures last { IfErr result (λ e. fault_of e ≡ None) }
+{
+    out.push(node)?;
+    Ok(next)
+}
+
+// An inner expression over a node.
+fn inner(alloc: Global, number: u32, below: Node) -> Result<Node, MinifyError>
+    ensures made { IfOk result (λ x. x ≡ tree_node shape.InnerExpression [] number (below ▸ none)) }
+    ensures last { IfErr result (λ e. fault_of e ≡ None) }
+{
+    let mut children = Nodes::with_capacity(alloc, 1)?;
+    children.push(below)?;
+    Ok(Node::with(Shape::InnerExpression, None, number, children))
 }
 
 /// The tree of a node in a place, which nests at most so deep, in strict or sloppy code, and the next number.
@@ -91,16 +125,10 @@ pub fn node(
         children: below,
     } = planned;
     let inside = is_strict_in(strict, &head);
-    if takes_number(place, &head) {
-        let root = leaf(alloc, head, n)?;
-        let first = next_number(n)?;
-        let (children, next) = children(alloc, inside, below, value, depth - 1, first)?;
-        Ok((root.over(children), next))
-    } else {
-        let root = leaf(alloc, head, 0)?;
-        let (children, next) = children(alloc, inside, below, value, depth - 1, n)?;
-        Ok((root.over(children), next))
-    }
+    let (number, first) = numbering(takes_number(place, &head), n)?;
+    let root = leaf(alloc, head, number)?;
+    let (children, next) = children(alloc, inside, below, value, depth - 1, first)?;
+    Ok((root.over(children), next))
 }
 
 // The trees of the children of a node, and the next number.
@@ -143,8 +171,7 @@ fn child(
         Form::One(one) => part(alloc, strict, one, value, depth, n, out),
         Form::Many(items, key, list) => {
             let (children, next) = listed(alloc, strict, items, key, list, value, depth, n)?;
-            out.push(Node::new(Shape::Listed, children))?;
-            Ok(next)
+            put(out, Node::new(Shape::Listed, children), next)
         }
     }
 }
@@ -198,22 +225,15 @@ fn part(
     ensures refused { IfErr result (λ e. Blames e (result_err (read_part (reads depth) strict (view value.now) n (part_of part)))) }
 {
     match part {
-        Part::Hole => {
-            out.push(Node::leaf(alloc, Shape::Absent))?;
-            Ok(n)
-        }
+        Part::Hole => put(out, Node::leaf(alloc, Shape::Absent), n),
         Part::Tree(step, place) => {
             let (found, next) = below(alloc, strict, step, place, value, depth, n)?;
-            out.push(found)?;
-            Ok(next)
+            put(out, found, next)
         }
         Part::Inner(step, place) => {
             let first = next_number(n)?;
             let (found, next) = below(alloc, strict, step, place, value, depth, first)?;
-            let mut children = Nodes::with_capacity(alloc, 1)?;
-            children.push(found)?;
-            out.push(Node::with(Shape::InnerExpression, None, n, children))?;
-            Ok(next)
+            put(out, inner(alloc, n, found)?, next)
         }
         Part::Checked(step, place) => {
             let (_, _) = below(alloc, strict, step, place, value, depth, n)?;

@@ -1,4 +1,4 @@
-use Rattle.std.proofs.Common.{◌≡◌, ◌<◌, ◌-◌, ◌∙◌, sym, arith, rules}
+use Rattle.std.proofs.Common.{◌≡◌, ◌<◌, ◌-◌, ◌∙◌, arith, rules}
 use Rattle.std.specs.Prelude.{Ok}
 use Rattle.std.specs.Result.{result_err}
 use Rattle.serde_json.specs.View.{view}
@@ -7,7 +7,7 @@ use Rattle.mini_accept.specs.Accept.{reads, read_children}
 use Rattle.mini_fields.specs.Views.{place_of}
 use Rattle.mini_plan.specs.Views.{child_of, plan_of}
 use Rattle.mini_estree.specs.Reads.{Blames}
-use Rattle.mini_estree.proofs.Nodes.{children_step, read_again, over_leaf, numbered_read, numbered_stop, plain_read, plain_stop}
+use Rattle.mini_estree.proofs.Nodes.{children_step, read_again, over_leaf, node_read, node_stop}
 use Rattle.mini_estree.proofs.walk.+walk.Goals as goal
 
 pub children-loop-below-preserved : goal.children-loop-below-preserved
@@ -15,23 +15,15 @@ children-loop-below-preserved t c =
     let d = view c.args.value.now in
     c.loop-below.invariant ∙ children_step (reads c.args.depth) c.args.strict d (child_of d) c.args.all.now c.loop-below.below-index c.loop-below.next c.in_ok-next.next _ c.loop-below.out c.child.new.out c.loop-below-test.true (read_again _ _ _ c.loop-below-test.true) c.in_ok-next.ensures.read
 
-pub node-returns-in_ok-children : goal.node-returns-in_ok-children
-node-returns-in_ok-children t c =
+pub node-returns : goal.node-returns
+node-returns t c =
     let d = view c.args.value.now in
     let x = plan_of d c.in-Ok.planned in
     let h : 0 < c.args.depth = omega arith in
-    let below : read_children (reads (c.args.depth - 1)) (is_strict_in c.args.strict x.shape) d c.in_ok-first.first x.children ≡ Ok (c.in_ok-children.children, c.in_ok-children.next) = rw c.is_strict_in-inside.ensures at c.in_ok-children.ensures in
-    numbered_read c.args.depth c.args.strict (place_of c.args.place) c.args.n c.in_ok-children.next c.in_ok-first.first d x c.in_ok-children.children c.over.result h c.in-Ok.ensures.planned (sym c.takes_number.ensures ∙ c.if-takes_number.true) c.in_ok-first.ensures.next below
-    (over_leaf x.shape x.names c.args.n c.in_ok-children.children c.in_ok-root.root c.over.result c.in_ok-root.ensures c.over.ensures)
-
-pub node-returns-in_ok-children-2 : goal.node-returns-in_ok-children-2
-node-returns-in_ok-children-2 t c =
-    let d = view c.args.value.now in
-    let x = plan_of d c.in-Ok.planned in
-    let h : 0 < c.args.depth = omega arith in
-    let below : read_children (reads (c.args.depth - 1)) (is_strict_in c.args.strict x.shape) d c.args.n x.children ≡ Ok (c.in_ok-children-2.children, c.in_ok-children-2.next) = rw c.is_strict_in-inside.ensures at c.in_ok-children-2.ensures in
-    plain_read c.args.depth c.args.strict (place_of c.args.place) c.args.n c.in_ok-children-2.next d x c.in_ok-children-2.children c.over-else-takes_number.result h c.in-Ok.ensures.planned (sym c.takes_number.ensures ∙ c.if-takes_number.false) below
-    (over_leaf x.shape x.names 0 c.in_ok-children-2.children c.in_ok-root-2.root c.over-else-takes_number.result c.in_ok-root-2.ensures c.over-else-takes_number.ensures)
+    let below : read_children (reads (c.args.depth - 1)) (is_strict_in c.args.strict x.shape) d c.in_ok-number.first x.children ≡ Ok (c.in_ok-children.children, c.in_ok-children.next) = rw c.is_strict_in-inside.ensures at c.in_ok-children.ensures in
+    node_read c.takes_number.result c.args.depth c.args.strict (place_of c.args.place) c.args.n c.in_ok-children.next c.in_ok-number.number c.in_ok-number.first d x c.in_ok-children.children c.over.result h c.in-Ok.ensures.planned c.takes_number.ensures
+    c.in_ok-number.ensures.given.0 c.in_ok-number.ensures.given.1 below
+    (over_leaf x.shape x.names c.in_ok-number.number c.in_ok-children.children c.in_ok-root.root c.over.result c.in_ok-root.ensures c.over.ensures)
 
 pub node-returns-in_err-children : goal.node-returns-in_err-children
 node-returns-in_err-children t c =
@@ -39,16 +31,6 @@ node-returns-in_err-children t c =
     let x = plan_of d c.in-Ok.planned in
     let h : 0 < c.args.depth = omega arith in
     let e = c.in_err-children.field-0.0 in
-    let below : Blames e (result_err (read_children (reads (c.args.depth - 1)) (is_strict_in c.args.strict x.shape) d c.in_ok-first.first x.children)) = rw c.is_strict_in-inside.ensures at c.in_err-children.ensures in
-    let stop : Blames e (result_err (reads c.args.depth c.args.strict (place_of c.args.place) c.args.n d)) = numbered_stop e c.args.depth c.args.strict (place_of c.args.place) c.args.n c.in_ok-first.first d x h c.in-Ok.ensures.planned (sym c.takes_number.ensures ∙ c.if-takes_number.true) c.in_ok-first.ensures.next below in
-    search (rules, stop)
-
-pub node-returns-in_err-children-2 : goal.node-returns-in_err-children-2
-node-returns-in_err-children-2 t c =
-    let d = view c.args.value.now in
-    let x = plan_of d c.in-Ok.planned in
-    let h : 0 < c.args.depth = omega arith in
-    let e = c.in_err-children-2.field-0.0 in
-    let below : Blames e (result_err (read_children (reads (c.args.depth - 1)) (is_strict_in c.args.strict x.shape) d c.args.n x.children)) = rw c.is_strict_in-inside.ensures at c.in_err-children-2.ensures in
-    let stop : Blames e (result_err (reads c.args.depth c.args.strict (place_of c.args.place) c.args.n d)) = plain_stop e c.args.depth c.args.strict (place_of c.args.place) c.args.n d x h c.in-Ok.ensures.planned (sym c.takes_number.ensures ∙ c.if-takes_number.false) below in
+    let below : Blames e (result_err (read_children (reads (c.args.depth - 1)) (is_strict_in c.args.strict x.shape) d c.in_ok-number.first x.children)) = rw c.is_strict_in-inside.ensures at c.in_err-children.ensures in
+    let stop : Blames e (result_err (reads c.args.depth c.args.strict (place_of c.args.place) c.args.n d)) = node_stop c.takes_number.result e c.args.depth c.args.strict (place_of c.args.place) c.args.n c.in_ok-number.first d x h c.in-Ok.ensures.planned c.takes_number.ensures c.in_ok-number.ensures.given.1 below in
     search (rules, stop)
