@@ -1,8 +1,9 @@
 -- Moments, passed one after another.
-use Rattle.std.specs.Prelude.{ℕ, ◌+◌, ◌≡◌, ◌≤◌, ◌<◌, refl, nat_eq, not, ◌&&◌, ◌||◌, Bool, true, false, List, [], ◌∷◌, ◌++◌, length, Option, Some, None, if◌then◌else◌}
+use Rattle.std.specs.Prelude.{ℕ, ◌+◌, ◌≡◌, ◌≤◌, ◌<◌, refl, nat_eq, not, ◌&&◌, ◌||◌, Bool, true, false, List, [], ◌∷◌, ◌++◌, length, Option, Some, None, Result, Ok, Err, OnOk, if◌then◌else◌}
 use Rattle.std.proofs.Common.{ap, ◌∙◌, arith, sym, subst}
 use Rattle.std.proofs.lemmas.Bool.{eqb-true}
 use Rattle.std.proofs.lemmas.List.Folds.{list_any-append}
+use Rattle.mini_model.specs.declared.memory.OutOfMemory.{OutOfMemory}
 use Rattle.mini_model.specs.declared.name.Name.{Name}
 use Rattle.mini_model.specs.declared.shape.Shape.{Shape}
 use Rattle.mini_model.specs.declared.shape.Shape.TheVariants as shape
@@ -200,6 +201,11 @@ name_passes x a k old new e f l r = record {
   ends = λ s h. ap (λ v. mark_at v.items s) f ∙ sym (or_false (mark_at old.ended.items s)) ∙ ap (λ v. mark_at old.ended.items s || v) (sym (no_end (same_variable (named s) x)));
   reads = λ s h i b. r s i b ∙ ap (λ v. holds old.early.items s b || (not (mark_at old.ended.items s) && v)) (ap (λ v. v && not (is_elsewhere b a)) (sym (same_symbol s k x e)) ∙ sym (read_by (same_variable (named s) x) (not (is_elsewhere b a))));
 }
+
+-- the same, where the read was noted
+pub noted_passes : (x : Name) (a : Around) (k : ℕ) (old new : Moments) → x.symbol ≡ Some (record { 0 = k }) → (q : Result Unit OutOfMemory) → OnOk q (new.ended ≡ old.ended) → OnOk q (length new.early.items ≡ length old.early.items) → OnOk q ((s : ℕ) → s < length old.early.items → (b : ℕ) → holds new.early.items s b ≡ (holds old.early.items s b || (not (mark_at old.ended.items s) && (nat_eq k s && not (is_elsewhere b a))))) → OnOk q (Passed (record { name = x; ends = false; around = a } ∷ []) old new)
+noted_passes x a k old new e (Ok u) f l r = name_passes x a k old new e f l r
+noted_passes x a k old new e (Err u) f l r = tt
 
 pub nameless_passes : (x : Name) (a : Around) (old : Moments) → x.symbol ≡ None → Passed (record { name = x; ends = false; around = a } ∷ []) old old
 nameless_passes x a old e = record {

@@ -12,8 +12,9 @@ use Rattle.mini_laws.specs.declared.names.Use.TheVariants.{Read}
 use Rattle.mini_laws.specs.DeclaredNames.{all_names, names_of, is_spelled}
 use Rattle.mini_laws.specs.Shared.{spelled_among}
 use Rattle.mini_scope.specs.Buckets.{has_name}
+use Rattle.mini_scope.specs.ScopeAt.{bound}
 use Rattle.mini_context.specs.Tables.{Marked}
-use Rattle.mini_context.proofs.Marking.{or_assoc, or_false, marks_add}
+use Rattle.mini_context.proofs.Marking.{marks_add}
 
 none_named : (d : Declared) → all_names d none ≡ []
 unfolding names_of
@@ -42,16 +43,12 @@ names_end d xs i now h p = p ∙ ap (λ r. all_names d (trees_of r)) (take_all i
 
 -- ---- a table of names
 
-bound_more : (s : List ℕ) (bs : List Binding) (x : Name) → has_name Read s (bs ++ record { name = x; hoists = true } ∷ []) ≡ (has_name Read s bs || same_text x.spelling s)
-bound_more s [] x = or_false (same_text x.spelling s)
-bound_more s (b ∷ bs) x = ap (λ r. same_text b.name.spelling s || r) (bound_more s bs x) ∙ sym (or_assoc (same_text b.name.spelling s) (has_name Read s bs) (same_text x.spelling s))
+bound_spelled : (s : List ℕ) (xs : List Name) → has_name Read s (bound true xs) ≡ is_spelled s xs
+bound_spelled s [] = refl
+bound_spelled s (x ∷ xs) = ap (λ r. same_text x.spelling s || r) (bound_spelled s xs)
 
-spelled_more : (s : List ℕ) (xs : List Name) (x : Name) → is_spelled s (xs ++ x ∷ []) ≡ (is_spelled s xs || same_text x.spelling s)
-spelled_more s [] x = or_false (same_text x.spelling s)
-spelled_more s (y ∷ ys) x = ap (λ r. same_text y.spelling s || r) (spelled_more s ys x) ∙ sym (or_assoc (same_text y.spelling s) (is_spelled s ys) (same_text x.spelling s))
-
-pub table_turn : (bs cs : List Binding) (xs : List Name) (x : Name) → cs ≡ bs ++ record { name = x; hoists = true } ∷ [] → ((s : List ℕ) → has_name Read s bs ≡ is_spelled s xs) → (s : List ℕ) → has_name Read s cs ≡ is_spelled s (xs ++ x ∷ [])
-table_turn bs cs xs x e f s = ap (has_name Read s) e ∙ bound_more s bs x ∙ ap (λ r. r || same_text x.spelling s) (f s) ∙ sym (spelled_more s xs x)
+pub all_told : (bs cs : List Binding) (xs : List Name) → bs ≡ [] → cs ≡ bs ++ bound true xs → (s : List ℕ) → has_name Read s cs ≡ is_spelled s xs
+all_told bs cs xs e f s = ap (has_name Read s) (f ∙ ap (λ r. r ++ bound true xs) e) ∙ bound_spelled s xs
 
 -- ---- names that are spelled like others
 

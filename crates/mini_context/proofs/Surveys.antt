@@ -1,7 +1,7 @@
 -- The walk that fills the tables, and what each table says then.
-use Rattle.std.specs.Prelude.{ℕ, zero, suc, ◌≤◌, ◌<◌, ◌≡◌, refl, List, [], ◌∷◌, ◌++◌, Bool, true, false, ◌&&◌, ◌||◌, cond}
+use Rattle.std.specs.Prelude.{ℕ, zero, suc, ◌≤◌, ◌<◌, ◌≡◌, refl, nat_eq, List, [], ◌∷◌, ◌++◌, Bool, true, false, ◌&&◌, ◌||◌, cond}
 use Rattle.std.proofs.Common.{ap, ◌∙◌, sym, subst, arith, append_assoc}
-use Rattle.mini_model.specs.Tree.{Tree, Trees, node, none, ◌▸◌, children, count, child_or_absent, first_or_absent, node_count, node_counts}
+use Rattle.mini_model.specs.Tree.{Tree, Trees, node, none, ◌▸◌, children, count, child_or_absent, first_or_absent, node_count, node_counts, shape_of}
 use Rattle.mini_laws.specs.NameBodies.{Frame, frame_at, frame_of_body, own_body, own_fixed, bodies, bodies_from, fixed_names, all_fixed_names}
 use Rattle.std.proofs.lemmas.List.{append-nil}
 use Rattle.mini_model.specs.declared.name.Name.{Name}
@@ -26,7 +26,7 @@ use Rattle.mini_laws.specs.DeclaredNames.{bound_names}
 use Rattle.mini_laws.specs.Foreign.{has_number, own_params_around, params_around, all_params_around}
 use Rattle.mini_laws.specs.Mentions.{is_among, same_variable}
 use Rattle.mini_context.specs.Enclosing.{own_params, Enclosed}
-use Rattle.mini_context.specs.Tables.{named}
+use Rattle.mini_context.specs.Tables.{mark_at, named}
 use Rattle.mini_context.proofs.Enclosing.{enclosed_add, own_told}
 use Rattle.mini_context.specs.Lists.{Housed}
 use Rattle.mini_context.proofs.Housing.{houses_add}
@@ -37,7 +37,10 @@ use Rattle.mini_context.specs.declared.survey.Tables.{Tables}
 use Rattle.mini_context.specs.Tables.{Marked, Noted}
 use Rattle.mini_context.specs.Visits.{Visit, visits, visits_from, given, below, frame_in, fixed_at, bodies_at, mentions_at, exchanged_at, exchanged_by, exchange_of, is_exchange_shape, imported_here, imported_at, is_import_shape, patterns_at, lexical_at, switched_at, params_at, caught_at, writes_at, binds_at, enclosing_at, reached_at, Surveyed}
 use Rattle.mini_context.proofs.Gathering.{Adds, Gathers}
-use Rattle.mini_context.proofs.Marking.{marks_add, notes_add}
+use Rattle.mini_context.proofs.Marking.{marks_add, notes_add, or_false}
+use Rattle.mini_laws.specs.declared.names.Numbering.{Numbering}
+use Rattle.mini_laws.specs.declared.names.Numbering.TheVariants as numbering
+use Rattle.mini_node.specs.Children.{number_of}
 
 given_both : {A : Type 0} (f : Visit → List A) (xs ys : List Visit) → given f (xs ++ ys) ≡ given f xs ++ given f ys
 given_both f [] ys = refl
@@ -375,3 +378,24 @@ filter_both p (x ∷ xs) ys = kept_by (p x) x (filter p (xs ++ ys)) (filter p xs
 pub filtered : (p : Mention → Bool) (vs : List Visit) → given (λ v. filter p (mentions_at v)) vs ≡ filter p (given mentions_at vs)
 filtered p [] = refl
 filtered p (v ∷ vs) = ap (λ r. filter p (mentions_at v) ++ r) (filtered p vs) ∙ sym (filter_both p (mentions_at v) (given mentions_at vs))
+
+-- ---- the body that a node is
+
+no_body : (k : Numbering) (n : ℕ) (f : Frame) → (k ≡ numbering.Body → ⊥) → own_body k n f ≡ []
+no_body numbering.Body n f e = absurd (e refl)
+no_body k n f e = refl
+
+numbered : (t : Tree) (h : Shape) (n : ℕ) (k : Numbering) → h ≡ shape_of t → n ≡ number_of t → k ≡ numbering_of h n → k ≡ numbering_of (shape_of t) (number_of t)
+numbered t h n k e f g = g ∙ ap (λ q. numbering_of q n) e ∙ ap (numbering_of (shape_of t)) f
+
+pub unbodied : (p : Frame → Bool) (a : Standing) (t : Tree) (h : Shape) (n : ℕ) (k : Numbering) (marks : List Bool) → h ≡ shape_of t → n ≡ number_of t → k ≡ numbering_of h n → (k ≡ numbering.Body → ⊥) → Noted p (bodies_at (record { standing = a; tree = t })) marks marks
+unbodied p a t h n k marks e f g i =
+    let frame = frame_of_body (shape_of t) (frame_in a.frame) in
+    subst (λ bs. Noted p bs marks marks) (sym (ap (λ j. own_body j (number_of t) frame) (sym (numbered t h n k e f g)) ∙ no_body k (number_of t) frame i)) ((notes_add p).nothing marks)
+
+pub bodied : (p : Frame → Bool) (a : Standing) (t : Tree) (h : Shape) (n : ℕ) (k : Numbering) (m : ℕ) (v : Bool) (old new : List Bool) → h ≡ shape_of t → n ≡ number_of t → k ≡ numbering_of h n → k ≡ numbering.Body → m ≡ number_of t → v ≡ p (frame_of_body (shape_of t) (frame_in a.frame)) →
+    ((b : ℕ) → mark_at new b ≡ (mark_at old b || (nat_eq m b && v))) → Noted p (bodies_at (record { standing = a; tree = t })) old new
+bodied p a t h n k m v old new e f g i j w r =
+    let frame = frame_of_body (shape_of t) (frame_in a.frame) in
+    subst (λ bs. Noted p bs old new) (sym (ap (λ q. own_body q (number_of t) frame) (sym (numbered t h n k e f g) ∙ i)))
+    (λ b. r b ∙ ap (λ x. mark_at old b || x) (ap (λ q. nat_eq q b && v) j ∙ ap (λ x. nat_eq (number_of t) b && x) w ∙ sym (or_false (nat_eq (number_of t) b && p frame))))

@@ -12,10 +12,10 @@ ghost use Rattle.mini_context.specs.Own.{is_catch_shape};
 ghost use Rattle.mini_context.specs.Tables.{Marked};
 
 use crate::marks::mark_name;
-use mini_laws::{Binding, Declared, Use};
+use mini_laws::{Declared, Use};
 use mini_model::{Name, OutOfMemory, Shape};
 use mini_node::Node;
-use mini_scope::{Environment, push_names};
+use mini_scope::{Environment, add_all, push_names};
 use std::alloc::Global;
 
 fn is_catch(shape: &Shape) -> bool
@@ -48,9 +48,7 @@ fn table_of(alloc: Global, names: Vec<Name>) -> Result<Environment, OutOfMemory>
     ensures { IfOk result (λ table. (s : List ℕ) → has_name variant.Read s table ≡ is_spelled s names.items) }
 {
     let mut table = Environment::new(alloc, names.len().max(1))?;
-    for name in names {
-        table.push(Binding { name, hoists: true })?;
-    }
+    add_all(&mut table, names, true)?;
     Ok(table)
 }
 
@@ -85,8 +83,8 @@ pub fn mark_caught(alloc: Global, marks: &mut Vec<bool>, node: &Node) -> Result<
     if !is_catch(node.shape()) {
         return Ok(());
     }
-    if let [param, rest @ ..] = node.parts() {
-        mark_under(alloc, marks, param, rest)?;
+    match node.parts() {
+        [param, rest @ ..] => mark_under(alloc, marks, param, rest),
+        [] => Ok(()),
     }
-    Ok(())
 }

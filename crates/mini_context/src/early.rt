@@ -104,10 +104,10 @@ fn note_read(moments: &mut Moments, symbol: SymbolId, around: Around) -> Result<
 fn pass_name(moments: &mut Moments, around: Around, name: &Name) -> Result<(), OutOfMemory>
     ensures { OnOk result (Passed (record { name = name.now; ends = false; around = around } ∷ []) moments.old moments.new) }
 {
-    if let Some(symbol) = name.symbol {
-        note_read(moments, symbol, around)?;
+    match name.symbol {
+        Some(symbol) => note_read(moments, symbol, around),
+        None => Ok(()),
     }
-    Ok(())
 }
 
 fn pass_own(moments: &mut Moments, reading: Reading, node: &Node) -> Result<(), OutOfMemory>
@@ -116,10 +116,10 @@ fn pass_own(moments: &mut Moments, reading: Reading, node: &Node) -> Result<(), 
     if !is_reference(node.shape()) || !is_read(reading.usage) {
         return Ok(());
     }
-    if let Some(name) = node.name() {
-        pass_name(moments, reading.around, name)?;
+    match node.name() {
+        Some(name) => pass_name(moments, reading.around, name),
+        None => Ok(()),
     }
-    Ok(())
 }
 
 /// The moments of a tree that stands so pass.

@@ -66,7 +66,8 @@ pub fn put_number(lists: &mut Vec<OwnedList<u32>>, at: u32, number: u32) -> Resu
 {
     let at = at as usize;
     if at < lists.len() {
-        add_number(&mut lists[at], number)?;
+        add_number(&mut lists[at], number)
+    } else {
+        Ok(())
     }
-    Ok(())
 }

@@ -103,10 +103,10 @@ fn put_all_numbers(
 fn put_name(lists: &mut Vec<OwnedList<u32>>, name: &Name, function: u32) -> Result<(), OutOfMemory>
     ensures { OnOk result (PutNames function (name.now ∷ []) lists.old.items lists.new.items) }
 {
-    if let Some(symbol) = name.symbol {
-        put_number(lists, symbol.0, function)?;
+    match name.symbol {
+        Some(symbol) => put_number(lists, symbol.0, function),
+        None => Ok(()),
     }
-    Ok(())
 }
 
 fn put_names(

@@ -186,9 +186,10 @@ fn mark_body(
     if let Numbering::Body = numbering_of(node.shape(), node.number()) {
         let inside = frame_in_body(node.shape(), standing.frame);
         mark_number(this_events, node.number(), inside.binds_this)?;
-        mark_number(arguments, node.number(), inside.has_arguments)?;
+        mark_number(arguments, node.number(), inside.has_arguments)
+    } else {
+        Ok(())
     }
-    Ok(())
 }
 
 fn is_import(shape: &Shape) -> bool

@@ -32,16 +32,24 @@ fn copy_name(alloc: Global, name: &Name) -> Result<Name, OutOfMemory>
     })
 }
 
+/// Adds a name.
+fn push_name(names: &mut Vec<Name>, name: Name) -> Result<(), OutOfMemory>
+    ensures { OnOk result (names.new.items ≡ names.old.items ++ name ∷ []) }
+{
+    match names.push(name) {
+        Ok(()) => Ok(()),
+        Err(_) => Err(OutOfMemory),
+    }
+}
+
 /// Adds the name of a node, where it has one.
 fn push_own_name(alloc: Global, node: &Node, names: &mut Vec<Name>) -> Result<(), OutOfMemory>
     ensures { OnOk result (names.new.items ≡ names.old.items ++ own_names node.now) }
 {
-    if let Some(name) = node.name() {
-        names
-            .push(copy_name(alloc, name)?)
-            .map_err(|_| OutOfMemory)?;
+    match node.name() {
+        Some(name) => push_name(names, copy_name(alloc, name)?),
+        None => Ok(()),
     }
-    Ok(())
 }
 
 /// Adds the names that a node declares.

@@ -10,8 +10,8 @@ use mini_laws::{Binding, Use};
 use mini_model::{Name, OutOfMemory};
 use std::alloc::Global;
 
-/// Adds these names.
-fn add_all(scope: &mut Environment, names: Vec<Name>, hoists: bool) -> Result<(), OutOfMemory>
+/// Adds these names, each of them.
+pub fn add_all(scope: &mut Environment, names: Vec<Name>, hoists: bool) -> Result<(), OutOfMemory>
     ensures { OnOk result (scope.new ≡ scope.old ++ bound hoists names.items) }
 {
     for name in names {

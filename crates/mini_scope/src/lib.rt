@@ -20,6 +20,7 @@ mod targets;
 
 pub use check::{EarlyError, check_early};
 pub use declared::{copy_text, has_inner, push_body_names, push_names};
+pub use distinct::add_all;
 pub use environment::Environment;
 pub use numbering::{resolve_node, resolve_program};
 pub use opening::{OpenScopes, is_leaf};

@@ -1,4 +1,5 @@
-use Rattle.mini_context.proofs.Passing.{other_passes, read_passes, silent_passes}
+use Rattle.std.proofs.lemmas.Result.{on_ok_weaker}
+use Rattle.mini_context.proofs.Passing.{other_passes, read_passes, silent_passes, unnamed_passes}
 use Rattle.mini_context.proofs.early.pass_own.Goals as goal
 use Rattle.mini_context.proofs.early.pass_own.Goals.{then-not-is_reference-via-then-not-is_reference, then-not-is_reference-via-else-not-is_reference+then-not-is_read}
 
@@ -9,5 +10,8 @@ returns-then-not-is_reference c =
       | then-not-is_reference-via-else-not-is_reference+then-not-is_read w ↦ silent_passes c.args.reading.usage c.args.reading.around c.args.node.now w.is_read.result _ w.is_read.ensures w.if-not-is_read.true
     ]
 
-pub returns-in_ok-pass_name : goal.returns-in_ok-pass_name
-returns-in_ok-pass_name c = read_passes c.args.reading.usage c.args.reading.around c.args.node.now c.shape.result.now c.name.result.now c.in-Some.name c.is_reference.result c.is_read.result _ _ c.shape.ensures c.is_reference.ensures c.if-not-is_reference.false c.is_read.ensures c.if-not-is_read.false c.name.ensures c.in-Some.is c.in_ok-pass_name.ensures
+pub returns-in-Some : goal.returns-in-Some
+returns-in-Some c = on_ok_weaker c.pass_name.result (read_passes c.args.reading.usage c.args.reading.around c.args.node.now c.shape.result.now c.name.result.now c.in-Some.name c.is_reference.result c.is_read.result _ _ c.shape.ensures c.is_reference.ensures c.if-not-is_reference.false c.is_read.ensures c.if-not-is_read.false c.name.ensures c.in-Some.is) c.pass_name.ensures
+
+pub returns-in-None : goal.returns-in-None
+returns-in-None c = unnamed_passes c.args.reading.usage c.args.reading.around c.args.node.now c.name.result.now c.args.moments.now c.name.ensures c.in-None.is
