@@ -448,6 +448,8 @@ becomes("an initializer that gets parentheses", "{ let x = a ? b : c; x.d(); }",
 becomes("the last of several declarators", "{ let x = a, y = b(); y[c](d), e(x); }", "{ let x = a; b()[c](d), e(x); }", { symbols: [0] });
 becomes("a first part of a sequence", "{ let x = a(); x.b(), c(); }", "a().b(), c();", { symbols: [] });
 becomes("the test of an if", "{ let x = a(); if (x.b) throw c; d(); }", "if (a().b) throw c; d();", { symbols: [] });
+becomes("a constant", "if (a) { const x = b(), y = x.c(); throw y.d; }", "if (a) throw b().c().d;", { symbols: [] });
+becomes("a constant after another", "{ const x = a(), y = b(); y.c(x, x); }", "{ const x = a(); b().c(x, x); }", { symbols: [0] });
 becomes("one read by another", "{ let x = a(); let y = x.b(); y.c(); }", "a().b().c();", { symbols: [] });
 
 // ---- so do the names of function and class expressions, and of what is caught

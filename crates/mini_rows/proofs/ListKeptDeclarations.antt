@@ -137,12 +137,12 @@ abbrev is_var : VariableDeclarationKind → Bool
 is_var Var = true
 is_var k = false
 
-abbrev declares_as : Declared → VariableDeclarationKind → Bool
+abbrev pub declares_as : Declared → VariableDeclarationKind → Bool
 declares_as declared.Bound k = false
 declares_as declared.Lexical k = not (is_var k)
 declares_as declared.Hoisted k = is_var k
 
-abbrev names_if : Bool → List Name → List Name
+abbrev pub names_if : Bool → List Name → List Name
 names_if true xs = xs
 names_if false xs = []
 
@@ -211,7 +211,7 @@ opened_is Write Const t = refl
 opened_is ReadWrite Const t = refl
 opened_is Hoisted Const t = refl
 
-read_opens : (k : VariableDeclarationKind) → opens Read k ≡ false
+pub read_opens : (k : VariableDeclarationKind) → opens Read k ≡ false
 read_opens Var = refl
 read_opens Let = refl
 read_opens Const = refl
@@ -243,7 +243,7 @@ scopes_fit false x a b = omega arith
 
 -- ---- what a write does
 
-abbrev lets : Trees → List Variable
+abbrev pub lets : Trees → List Variable
 lets ts = lets_all (summaries ts)
 
 lets_both : (a b : Trees) → lets (append a b) ≡ lets a ++ lets b
@@ -279,28 +279,28 @@ module _ (m : ℕ) where
   both_rank Constant KeepsOld e d = e
   both_rank Constant Constant e d = e
 
-  either_down : (f : Fixed) (a b : Bool) → rank (choose (choose a true b) f Writable) ≤ m → (rank (choose a f Writable) ≤ m) × (rank (choose b f Writable) ≤ m)
+  pub either_down : (f : Fixed) (a b : Bool) → rank (choose (choose a true b) f Writable) ≤ m → (rank (choose a f Writable) ≤ m) × (rank (choose b f Writable) ≤ m)
   either_down f true true e = (e, e)
   either_down f true false e = (e, omega arith)
   either_down f false b e = (omega arith, e)
 
-  either_up : (f : Fixed) (a b : Bool) → rank (choose a f Writable) ≤ m → rank (choose b f Writable) ≤ m → rank (choose (choose a true b) f Writable) ≤ m
+  pub either_up : (f : Fixed) (a b : Bool) → rank (choose a f Writable) ≤ m → rank (choose b f Writable) ≤ m → rank (choose (choose a true b) f Writable) ≤ m
   either_up f true b e d = e
   either_up f false b e d = d
 
   module _ (k : VariableDeclarationKind) (x : Variable) where
-    abbrev own_fixed : Trees → Fixed
+    abbrev pub own_fixed : Trees → Fixed
     own_fixed ts = choose (is_in x (lets ts)) (fixity_by (shape.VariableDeclaration k)) Writable
 
-    own_both_fixed : (a b : Trees) → own_fixed (append a b) ≡ choose (choose (is_in x (lets a)) true (is_in x (lets b))) (fixity_by (shape.VariableDeclaration k)) Writable
+    pub own_both_fixed : (a b : Trees) → own_fixed (append a b) ≡ choose (choose (is_in x (lets a)) true (is_in x (lets b))) (fixity_by (shape.VariableDeclaration k)) Writable
     own_both_fixed a b = ap (λ c. choose c (fixity_by (shape.VariableDeclaration k)) Writable) (ap (is_in x) (lets_both a b) ∙ is_in_both x (lets a) (lets b))
 
-    fixed_down : (ts : Trees) → rank (fixed_by (over k (listed ts)) x) ≤ m → (rank (own_fixed ts) ≤ m) × (rank (fixed_by (listed ts) x) ≤ m)
+    pub fixed_down : (ts : Trees) → rank (fixed_by (over k (listed ts)) x) ≤ m → (rank (own_fixed ts) ≤ m) × (rank (fixed_by (listed ts) x) ≤ m)
     fixed_down ts e =
         let (y, z) = split_rank (own_fixed ts) (stricter (fixed_by (listed ts) x) Writable) e in
         (y, (split_rank (fixed_by (listed ts) x) Writable z).0)
 
-    fixed_up : (ts : Trees) → rank (own_fixed ts) ≤ m → rank (fixed_by (listed ts) x) ≤ m → rank (fixed_by (over k (listed ts)) x) ≤ m
+    pub fixed_up : (ts : Trees) → rank (own_fixed ts) ≤ m → rank (fixed_by (listed ts) x) ≤ m → rank (fixed_by (over k (listed ts)) x) ≤ m
     fixed_up ts e d = both_rank (own_fixed ts) (stricter (fixed_by (listed ts) x) Writable) e (both_rank (fixed_by (listed ts) x) Writable d (omega arith))
 
 -- ---- two declarations, and one

@@ -17,7 +17,7 @@ use Rattle.mini_terms.specs.Reading.{is_plain_part}
 use Rattle.mini_rows.specs.Declarations.{binding, declarator}
 use Rattle.mini_rows.specs.Lists.{block}
 use Rattle.mini_rows.specs.Sketches.{shape_by, Asked, AsWholeItem, AsValue, AsValues, asked_below}
-use Rattle.mini_rows.specs.Unused.{resolved, let_among, left_over, put_first, reads_first}
+use Rattle.mini_rows.specs.Unused.{resolved, lexical_among, lexical_left, put_first, reads_first}
 use Rattle.mini_rows.proofs.BooleanWeights.{moved}
 use Rattle.mini_rows.proofs.ListWeights.{total, in_list, comma_list, declarators_append}
 use Rattle.mini_rows.proofs.SingleUse.{Lead, Not, Beside, Deciding, Choosing, Passing, Called, Member, Keyed, Listing, Doing, Giving, Raising, Testing, head_of, Step, led, is_end, Stands, Well, statement}
@@ -123,9 +123,13 @@ commas_more : (t : Tree) (first : Trees) (d : Tree) → commas_weight (outlines 
 commas_more t none d = refl
 commas_more t (c ▸ first) d = let rest = commas_more c first d in omega (arith, rest)
 
-left_falls : (x : Name) (first : Trees) (init : Tree) → total (left_over first ▸ none) + (weight (Expr argument_seat) init + 4) ≤ total (let_among x first init none ▸ none)
-left_falls x none init = omega arith
-left_falls x (t ▸ first) init =
+left_falls : (c : Bool) (x : Name) (first : Trees) (init : Tree) → total (lexical_left c first ▸ none) + (weight (Expr argument_seat) init + 4) ≤ total (lexical_among c x first init ▸ none)
+left_falls true x none init = omega arith
+left_falls false x none init = omega arith
+left_falls true x (t ▸ first) init =
+    let d = declarator (binding x) init in
+    omega (arith, commas_more t first d, comma_list (t ▸ first), comma_list (append (t ▸ first) (d ▸ none)), declarators_append (t ▸ first) (d ▸ none))
+left_falls false x (t ▸ first) init =
     let d = declarator (binding x) init in
     omega (arith, commas_more t first d, comma_list (t ▸ first), comma_list (append (t ▸ first) (d ▸ none)), declarators_append (t ▸ first) (d ▸ none))
 
@@ -136,13 +140,14 @@ no_choice none after d e v w = refl
 no_choice (t ▸ none) after d e v w = refl
 no_choice (t ▸ (u ▸ before)) after d e v w = refl
 
-pub single_falls : (q : StmtSeat) (before first : Trees) (s : List ℕ) (k : ℕ) (init head : Tree) (after : Trees) → is_plain_part init ≡ true → reads_first (resolved s k) head ≡ true → weight (Stmt q) (block (append before (left_over first ▸ (put_first init head ▸ after)))) + 1 ≤ weight (Stmt q) (block (append before (let_among (resolved s k) first init none ▸ (head ▸ after))))
-single_falls q before first s k init head after f e =
+pub single_falls : (q : StmtSeat) (before : Trees) (c : Bool) (first : Trees) (s : List ℕ) (k : ℕ) (init head : Tree) (after : Trees) → is_plain_part init ≡ true → reads_first (resolved s k) head ≡ true → weight (Stmt q) (block (append before (lexical_left c first ▸ (put_first init head ▸ after)))) + 1 ≤ weight (Stmt q) (block (append before (lexical_among c (resolved s k) first init ▸ (head ▸ after))))
+single_falls q before c first s k init head after f e =
     let x = resolved s k in
-    let d = let_among x first init none in
-    let one = left_falls x first init in
+    let d = lexical_among c x first init in
+    let left = lexical_left c first in
+    let one = left_falls c x first init in
     let other = head_falls s k head e stmt_seat.List init f in
-    let less : total (left_over first ▸ (put_first init head ▸ none)) + 1 ≤ total (d ▸ (head ▸ none)) = omega (arith, one, other) in
-    let falls = in_list before (d ▸ (head ▸ none)) (left_over first ▸ (put_first init head ▸ none)) after 1 less in
-    let braces = ap (braces_weight q) (no_choice before after d head (left_over first) (put_first init head)) in
+    let less : total (left ▸ (put_first init head ▸ none)) + 1 ≤ total (d ▸ (head ▸ none)) = omega (arith, one, other) in
+    let falls = in_list before (d ▸ (head ▸ none)) (left ▸ (put_first init head ▸ none)) after 1 less in
+    let braces = ap (braces_weight q) (no_choice before after d head left (put_first init head)) in
     omega (arith, falls, braces)

@@ -28,7 +28,7 @@ use Rattle.mini_laws.specs.Symbols.{symbols_in, declared as declared_in, times}
 use Rattle.mini_laws.specs.Early.{Path, own_declarations, body_declarations, scope_declarations, early_names, targets_of, early_jumps, is_loop, clashing}
 use Rattle.mini_laws.proofs.Changes.{times_both}
 use Rattle.mini_laws.proofs.Drops.{dropped}
-use Rattle.mini_laws.specs.Value.{Variable}
+use Rattle.mini_laws.specs.Value.{Variable, variable_eq, variable_of}
 use Rattle.mini_laws.specs.State.{Fixed, Writable, Constant, KeepsOld}
 use Rattle.mini_laws.specs.Fixity.{stricter, fixed_by}
 use Rattle.mini_laws.specs.Bodies.{Around, Body, bodies}
@@ -102,7 +102,7 @@ pub record LeavesThere (x : Name) (d w : Trees) : Type 0 where
   pub framed : (all : List Frame) → All (HasFrames all) AsWholeItem d → All (HasFrames all) AsWholeItem w
   pub bodied : (all : List Body) (a : Around) → All (HasBodies all a) AsWholeItem d → All (HasBodies all a) AsWholeItem w
   pub fixed : (y : Variable) (j : ℕ) → All (FixedBy y j) AsWholeItem d → All (FixedBy y j) AsWholeItem w
-  pub fixed_back : (y : Variable) (j : ℕ) → All (FixedBy y j) AsWholeItem w → All (FixedBy y j) AsWholeItem d
+  pub fixed_back : (y : Variable) (j : ℕ) → variable_eq (variable_of x) y ≡ false → All (FixedBy y j) AsWholeItem w → All (FixedBy y j) AsWholeItem d
   pub declares : (all : List Name) → All (Declares all) AsWholeItem d → All (Declares all) AsWholeItem w
 
 pub leaves_alone : (x : Name) (d w : Tree) → Leaves x d w → LeavesThere x (d ▸ none) (w ▸ none)
@@ -127,7 +127,7 @@ leaves_alone x d w l = record {
   framed = λ all q. ((λ f c. q.0 f (l.framed f c)), tt);
   bodied = λ all a q. (kept_on all (bodies (quiet a) d) (bodies (quiet a) w) q.0 (l.bodied a), tt);
   fixed = λ y j q. (subst (λ f. rank f ≤ j) (sym (l.fixed y)) q.0, tt);
-  fixed_back = λ y j q. (subst (λ f. rank f ≤ j) (l.fixed y) q.0, tt);
+  fixed_back = λ y j o q. (subst (λ f. rank f ≤ j) (l.fixed y) q.0, tt);
   declares = λ all q. ((λ y c. q.0 y (l.declares y c)), tt);
 }
 
@@ -145,11 +145,11 @@ module _ (x : Name) (before after d w : Trees) (l : LeavesThere x d w) where
       both_same (has_inner (listed A)) (has_inner (listed B)) (stretched Any (InnerIf (has_inner (listed A))) (inner_local (has_inner (listed A))) before after d w (l.inner (has_inner (listed A))) (itself (has_inner (listed A))))
       (stretched Any (InnerIf (has_inner (listed B))) (inner_local (has_inner (listed B))) before after w d (l.inner_back (has_inner (listed B))) (itself (has_inner (listed B))))
 
-  pub list_fixed : (y : Variable) → fixed_by (listed A) y ≡ fixed_by (listed B) y
-  list_fixed y =
+  pub list_fixed : (y : Variable) → variable_eq (variable_of x) y ≡ false → fixed_by (listed A) y ≡ fixed_by (listed B) y
+  list_fixed y o =
       let i = rank (fixed_by (listed A) y) in
       let j = rank (fixed_by (listed B) y) in
-      by_rank (fixed_by (listed A) y) (fixed_by (listed B) y) (stretched Any (FixedBy y j) (fixed_local y j) before after w d (l.fixed_back y j) (omega arith)) (stretched Any (FixedBy y i) (fixed_local y i) before after d w (l.fixed y i) (omega arith))
+      by_rank (fixed_by (listed A) y) (fixed_by (listed B) y) (stretched Any (FixedBy y j) (fixed_local y j) before after w d (l.fixed_back y j o) (omega arith)) (stretched Any (FixedBy y i) (fixed_local y i) before after d w (l.fixed y i) (omega arith))
 
   list_scoped : (env : Environment) → Scoped Read env (listed A) → Scoped Read env (listed B)
   list_scoped env = stretched Any (ScopedAs Read env) (scoped_local Read env) before after d w (l.scoped env)

@@ -53,7 +53,7 @@ use Rattle.mini_terms.specs.Reading.{is_plain_part}
 use Rattle.mini_rows.specs.Arranged.{Vanishes}
 use Rattle.mini_rows.specs.Lists.{block, declares_nothing, declaration}
 use Rattle.mini_rows.specs.Declarations.{binding, declarator}
-use Rattle.mini_rows.specs.Unused.{resolved, let_one, any_names, is_idle, may_move, reads_first, UnusedRow, UnusedContracts, UnusedAreLawful, let_among, left_over, put_first}
+use Rattle.mini_rows.specs.Unused.{resolved, let_one, any_names, is_idle, may_move, reads_first, UnusedRow, UnusedContracts, UnusedAreLawful, let_among, lexical_kind, lexical_among, lexical_left, left_over, put_first}
 use Rattle.mini_rows.proofs.ArrangedBodies.{quiet}
 use Rattle.mini_rows.proofs.FoldLawful.{vanishes}
 use Rattle.mini_rows.proofs.ListShapes.{declaration_anywhere, append_fits, both_fit, first_fits, more_fit}
@@ -161,17 +161,21 @@ plain_there : (strict : Bool) (t : Tree) → is_plain_part t ≡ true → fits s
 plain_there strict (node shape.Absent xs n ts) d e = absurd (true≢false (sym d))
 plain_there strict (node h xs n ts) d e = e
 
-single_fits : (strict : Bool) (x : Name) (first : Trees) (init head : Tree) → may_move init ≡ true → reads_first x head ≡ true → fits strict item (let_among x first init none) ≡ true → fits strict item head ≡ true → (fits strict item (left_over first) ≡ true) × (fits strict item (put_first init head) ≡ true)
-single_fits strict x first init head m r e f =
+lexical_fits : (strict : Bool) (c : Bool) (first : Trees) → fill strict (each (one a_declarator)) first ≡ true → fits strict item (lexical_left c first) ≡ true
+lexical_fits strict c none e = empty_fits strict
+lexical_fits strict c (t ▸ first) e =
+    declaration_anywhere strict nested (lexical_kind c) (t ▸ first)
+    ∙ both (nat_le 1 (count (t ▸ first))) (fill strict (each (one a_declarator)) (t ▸ first) && true) (le-leb 1 (count (t ▸ first)) (omega arith)) (both (fill strict (each (one a_declarator)) (t ▸ first)) true e refl)
+
+single_fits : (strict : Bool) (c : Bool) (x : Name) (first : Trees) (init head : Tree) → may_move init ≡ true → reads_first x head ≡ true → fits strict item (lexical_among c x first init) ≡ true → fits strict item head ≡ true → (fits strict item (lexical_left c first) ≡ true) × (fits strict item (put_first init head) ≡ true)
+single_fits strict c x first init head m r e f =
     let ds : Trees = append first (declarator (binding x) init ▸ none) in
-    let all = (and_parts (nat_le 1 (count ds)) (fill strict (each (one a_declarator)) ds && true) (sym (declaration_anywhere strict nested Let ds) ∙ e)).1 in
+    let all = (and_parts (nat_le 1 (count ds)) (fill strict (each (one a_declarator)) ds && true) (sym (declaration_anywhere strict nested (lexical_kind c) ds) ∙ e)).1 in
     let (g, h) = both_fit strict (one a_declarator) first (declarator (binding x) init ▸ none) (left (fill strict (each (one a_declarator)) ds) true all) in
     let (one_fits, rest) = first_fits strict (one a_declarator) (declarator (binding x) init) none h in
     let (id, value) = and_parts (fits strict (one a_pattern) (binding x)) (fits strict (one_or_absent an_expression) init && true) one_fits in
-    let moves = plain_there strict init (movable init m) (left (fits strict (one_or_absent an_expression) init) true value) in (
-      ap (λ ts. fits strict item (left_over ts)) (sym (none_after first)) ∙ left_fits strict x first init none e,
-      put_fits strict x head r init moves f,
-    )
+    let moves = plain_there strict init (movable init m) (left (fits strict (one_or_absent an_expression) init) true value) in
+    (lexical_fits strict c first g, put_fits strict x head r init moves f)
 
 -- ---- a name that is dropped
 
@@ -209,8 +213,8 @@ module _ (q : StmtSeat) (s : List ℕ) (k : ℕ) (before after d w : Trees) (l :
       subst (λ fs. FramesKept fs (frames None (listed second_list) ++ [])) (sym (append-nil (frames None (listed first_list))))
       (subst (FramesKept (frames None (listed first_list))) (sym (append-nil (frames None (listed second_list)))) (list_frames x before after d w l))
 
-  block_fixed : (y : Variable) → fixed_by (block first_list) y ≡ fixed_by (block second_list) y
-  block_fixed y = of_children shape.BlockStatement [] 0 (listed first_list ▸ none) y refl ∙ ap (λ f. stricter f Writable) (list_fixed x before after d w l y) ∙ sym (of_children shape.BlockStatement [] 0 (listed second_list ▸ none) y refl)
+  block_fixed : (y : Variable) → alone (Declared k) y ≡ false → fixed_by (block first_list) y ≡ fixed_by (block second_list) y
+  block_fixed y o = of_children shape.BlockStatement [] 0 (listed first_list ▸ none) y refl ∙ ap (λ f. stricter f Writable) (list_fixed x before after d w l y o) ∙ sym (of_children shape.BlockStatement [] 0 (listed second_list ▸ none) y refl)
 
   block_declares : (y : Name) → Contains (declared (block second_list)) y → Contains (declared (block first_list)) y
   block_declares y c = subst (λ ys. Contains ys y) (sym (append-nil (declared (listed first_list)))) (list_declares x before after d w l y (subst (λ ys. Contains ys y) (append-nil (declared (listed second_list))) c))
@@ -226,7 +230,7 @@ module _ (q : StmtSeat) (s : List ℕ) (k : ℕ) (before after d w : Trees) (l :
           kept = block_kept x before after d w l o p;
           less = block_less x before after d w l o p k refl;
           same = same;
-          fixed = λ y f. block_fixed y;
+          fixed = block_fixed;
           frames = λ strict c g f. kept_shown (gone_from K (alone (Declared k))) no_key (frames None (block first_list)) (frames None (block second_list)) block_frames;
           bodies = λ strict c g f a z. from_kept (alone (Declared k)) (bodies a (block first_list)) (bodies a (block second_list)) (block_bodies a);
         };
@@ -272,8 +276,8 @@ row_dropped q n w (inr (inl r)) =
 row_dropped q n w (inr (inr r)) =
     let x = resolved r.spelling r.symbol in (
       r.symbol,
-      moved q r.symbol n w _ _ r.shape r.written (dropped q r.spelling r.symbol r.before r.after (let_among x r.first r.init none ▸ (r.head ▸ none)) (left_over r.first ▸ (put_first r.init r.head ▸ none)) (single_leaves x r.symbol refl r.first r.init r.head (movable r.init r.moves) r.once r.initial r.declared_earlier) r.earlier r.later
-          (λ e z. in_tails e q (alone (Declared r.symbol)) _ _ (row_71 e r.symbol z _ _ (record { before = r.before; first = r.first; spelling = r.spelling; symbol = r.symbol; init = r.init; head = r.head; after = r.after; moves = r.moves; once = r.once; earlier = r.earlier; declared_earlier = r.declared_earlier; initial = r.initial; later = r.later; unseen = r.unseen; shape = refl; written = refl }) refl))),
+      moved q r.symbol n w _ _ r.shape r.written (dropped q r.spelling r.symbol r.before r.after (lexical_among r.is_constant x r.first r.init ▸ (r.head ▸ none)) (lexical_left r.is_constant r.first ▸ (put_first r.init r.head ▸ none)) (single_leaves r.is_constant x r.symbol refl r.first r.init r.head (movable r.init r.moves) r.once r.initial r.declared_earlier) r.earlier r.later
+          (λ e z. in_tails e q (alone (Declared r.symbol)) _ _ (row_71 e r.symbol z _ _ (record { before = r.before; is_constant = r.is_constant; first = r.first; spelling = r.spelling; symbol = r.symbol; init = r.init; head = r.head; after = r.after; moves = r.moves; once = r.once; earlier = r.earlier; declared_earlier = r.declared_earlier; initial = r.initial; later = r.later; unseen = r.unseen; shape = refl; written = refl }) refl))),
     )
 
 record Blocks (n w : Tree) : Type 0 where
@@ -294,13 +298,14 @@ row_blocks q n w (inr (inl r)) =
     record { first = append r.before (d ▸ r.after); second = append r.before (left ▸ r.after); before = r.shape; after = r.written; fitting = λ strict. one_item strict r.before r.after d left (left_fits strict x r.first r.init r.last) }
 row_blocks q n w (inr (inr r)) =
     let x = resolved r.spelling r.symbol in
-    let d = let_among x r.first r.init none in
+    let d = lexical_among r.is_constant x r.first r.init in
+    let left = lexical_left r.is_constant r.first in
     record {
       first = append r.before (d ▸ (r.head ▸ r.after));
-      second = append r.before (left_over r.first ▸ (put_first r.init r.head ▸ r.after));
+      second = append r.before (left ▸ (put_first r.init r.head ▸ r.after));
       before = r.shape;
       after = r.written;
-      fitting = λ strict. two_items strict r.before r.after d r.head (left_over r.first) (put_first r.init r.head) (λ f g. single_fits strict x r.first r.init r.head r.moves r.once f g);
+      fitting = λ strict. two_items strict r.before r.after d r.head left (put_first r.init r.head) (λ f g. single_fits strict r.is_constant x r.first r.init r.head r.moves r.once f g);
     }
 
 -- of two blocks, whatever is told by their shape

@@ -3,7 +3,7 @@ use Rattle.std.specs.Prelude.{◌&&◌, ◌||◌, not, Bool, Option}
 use Rattle.std.proofs.lemmas.Bool.{eq-eqb, eqb-true, and_parts}
 use Rattle.std.proofs.lemmas.List.{append-nil}
 use Rattle.std.proofs.Common.{◌≡◌, ℕ, true, false, List, [], ◌∷◌, ◌++◌, None, Some, refl, sym, ap, ◌∙◌, subst, subst₂, true≢false, append_assoc}
-use Rattle.mini_model.specs.declared.kind.VariableDeclarationKind.TheVariants.{Let}
+use Rattle.mini_model.specs.declared.kind.VariableDeclarationKind.TheVariants.{Let, Const}
 use Rattle.mini_model.specs.declared.name.Name.{Name}
 use Rattle.mini_model.specs.declared.name.SymbolId.{SymbolId}
 use Rattle.mini_model.specs.declared.operator.UnaryOperator.TheVariants.{LogicalNot}
@@ -42,7 +42,7 @@ use Rattle.mini_terms.proofs.Dropping.{does_nothing, weak}
 use Rattle.mini_rows.specs.Lists.{block, declaration, declares_nothing}
 use Rattle.mini_rows.specs.Declarations.{binding, declarator}
 use Rattle.mini_rows.specs.Sketches.{shape_by, AsWholeItem}
-use Rattle.mini_rows.specs.Unused.{resolved, names, any_names, let_among, let_one, is_idle, left_over, is_definition, may_move, put_first, reads_first, Row72, Row72Idle, Row71}
+use Rattle.mini_rows.specs.Unused.{resolved, names, any_names, let_among, let_one, is_idle, left_over, lexical_kind, lexical_among, lexical_left, is_definition, may_move, put_first, reads_first, Row72, Row72Idle, Row71}
 use Rattle.mini_rows.proofs.FoldMeaning.{plain_read}
 use Rattle.mini_rows.proofs.SingleUse.{Lead, Doing, Giving, Raising, Testing, head_of, Step, led, is_end, Stands, Well, statement, unnamed}
 use Rattle.mini_rows.proofs.SingleMeaning.{first_goes}
@@ -369,26 +369,32 @@ head_read x head e init =
       ap (λ u. summary (put_first init u)) t.is ∙ stated t.lead true (t.stands true) (put_first init t.inner ▸ t.rest),
     )
 
-left_read : (first : Trees) → (summary (left_over first)).lets ≡ lets_all (summaries first)
-left_read none = refl
-left_read (t ▸ first) = refl
+left_read : (c : Bool) (first : Trees) → (summary (lexical_left c first)).lets ≡ lets_all (summaries first)
+left_read c none = refl
+left_read true (t ▸ first) = refl
+left_read false (t ▸ first) = refl
 
-left_plain : (first : Trees) → ((summary (left_over first)).functions ≡ []) × ((summary (left_over first)).facts.functions ≡ []) × ((summary (left_over first)).facts.texts ≡ [])
-left_plain none = (refl, refl, refl)
-left_plain (t ▸ first) = (refl, refl, refl)
+left_plain : (c : Bool) (first : Trees) → ((summary (lexical_left c first)).functions ≡ []) × ((summary (lexical_left c first)).facts.functions ≡ []) × ((summary (lexical_left c first)).facts.texts ≡ [])
+left_plain c none = (refl, refl, refl)
+left_plain c (t ▸ first) = (refl, refl, refl)
 
-single_read : (spelling : List ℕ) (k : ℕ) (first : Trees) (init head w : Tree) → summary head ≡ summary empty_statement → summary w ≡ summary empty_statement → ReadThere k (let_among (resolved spelling k) first init none ▸ (head ▸ none)) (left_over first ▸ (w ▸ none))
-single_read spelling k first init head w h g =
-    let d = let_among (resolved spelling k) first init none in
-    let nothing_left = left_plain first in
+among_lets : (c : Bool) (x : Name) (first : Trees) (init : Tree) → (summary (lexical_among c x first init)).lets ≡ lets_all (summaries (append first (declarator (binding x) init ▸ none)))
+among_lets true x first init = refl
+among_lets false x first init = refl
+
+single_read : (spelling : List ℕ) (k : ℕ) (c : Bool) (first : Trees) (init head w : Tree) → summary head ≡ summary empty_statement → summary w ≡ summary empty_statement → ReadThere k (lexical_among c (resolved spelling k) first init ▸ (head ▸ none)) (lexical_left c first ▸ (w ▸ none))
+single_read spelling k c first init head w h g =
+    let d = lexical_among c (resolved spelling k) first init in
+    let left = lexical_left c first in
+    let nothing_left = left_plain c first in
     record {
       first = lets_all (summaries first);
       last = [];
-      lets = ap (λ i. (summary d).lets ++ (i.lets ++ [])) h ∙ append-nil (summary d).lets ∙ lets_append first (declarator (binding (resolved spelling k)) init ▸ none);
-      left = ap (λ i. (summary (left_over first)).lets ++ (i.lets ++ [])) g ∙ append-nil (summary (left_over first)).lets ∙ left_read first ∙ sym (append-nil (lets_all (summaries first)));
-      functions = ap (λ i. i.functions ++ []) h ∙ sym (ap (λ i. (summary (left_over first)).functions ++ (i.functions ++ [])) g ∙ ap (λ l. l ++ []) nothing_left.0);
-      facts = ap (λ i. i.facts.functions ++ []) h ∙ sym (ap (λ i. (summary (left_over first)).facts.functions ++ (i.facts.functions ++ [])) g ∙ ap (λ l. l ++ []) nothing_left.1);
-      texts = ap (λ i. i.facts.texts ++ []) h ∙ sym (ap (λ i. (summary (left_over first)).facts.texts ++ (i.facts.texts ++ [])) g ∙ ap (λ l. l ++ []) nothing_left.2);
+      lets = ap (λ i. (summary d).lets ++ (i.lets ++ [])) h ∙ append-nil (summary d).lets ∙ among_lets c (resolved spelling k) first init ∙ lets_append first (declarator (binding (resolved spelling k)) init ▸ none);
+      left = ap (λ i. (summary left).lets ++ (i.lets ++ [])) g ∙ append-nil (summary left).lets ∙ left_read c first ∙ sym (append-nil (lets_all (summaries first)));
+      functions = ap (λ i. i.functions ++ []) h ∙ sym (ap (λ i. (summary left).functions ++ (i.functions ++ [])) g ∙ ap (λ l. l ++ []) nothing_left.0);
+      facts = ap (λ i. i.facts.functions ++ []) h ∙ sym (ap (λ i. (summary left).facts.functions ++ (i.facts.functions ++ [])) g ∙ ap (λ l. l ++ []) nothing_left.1);
+      texts = ap (λ i. i.facts.texts ++ []) h ∙ sym (ap (λ i. (summary left).facts.texts ++ (i.facts.texts ++ [])) g ∙ ap (λ l. l ++ []) nothing_left.2);
     }
 
 -- the name that is read has the symbol
@@ -396,9 +402,9 @@ same_symbol : (k : ℕ) (y : Option SymbolId) → is_same (Some (record { 0 = k 
 same_symbol k (Some y) e = ap (λ m. Some (record { 0 = m })) (sym (eqb-true k y.0 e))
 same_symbol k None e = absurd (true≢false (sym e))
 
-left_over_avoids : (D : VariableSet) (first : Trees) → AllAvoid D first → Avoids D (left_over first)
-left_over_avoids D none a = (tt, tt)
-left_over_avoids D (t ▸ first) a = (tt, ((tt, a), tt))
+left_over_avoids : (D : VariableSet) (c : Bool) (first : Trees) → AllAvoid D first → Avoids D (lexical_left c first)
+left_over_avoids D c none a = (tt, tt)
+left_over_avoids D c (t ▸ first) a = (tt, ((tt, a), tt))
 
 module _ (e : Environment) (spelling : List ℕ) (k : ℕ) (z : Unseen (alone (Declared k)) e) (first : Trees) (init head : Tree) (moves : may_move init ≡ true) (once : reads_first (resolved spelling k) head ≡ true) where
   abbrev single_name : Name
@@ -447,8 +453,25 @@ module _ (e : Environment) (spelling : List ℕ) (k : ℕ) (z : Unseen (alone (D
       (sym (ap (λ c. either c (λ u t. means e head (Stat None) [] t) (λ y t. stop y t)) (both_parts first s) ∙ either_assoc (others first s) _ _ _ _ ∙ either_cong (others first s) _ _ _ _ (λ u t. let_then t) (λ y t. either_stop y t _ _)))
       (both_go e spelling k z (others first s) _ _ head_goes)
 
-  single_same : Same e single_set nothing (Stat None) (listed (let_among single_name first init none ▸ (head ▸ none))) (listed (left_over first ▸ (put_first init head ▸ none)))
-  single_same = record { by = λ r s i. subst₂ Run (sym (listed_is e (let_among single_name first init none ▸ (head ▸ none)) r s ∙ exec_two e (let_among single_name first init none) head s)) (sym (listed_is e (left_over first ▸ (put_first init head ▸ none)) r s ∙ exec_two e (left_over first) (put_first init head) s)) (pair_goes s) }
+  -- a `const` does what a `let` does
+
+  as_let : (c : Bool) (ds : Trees) (s : State) → means e (declaration (lexical_kind c) ds) (Stat None) [] s ≡ means e (declaration Let ds) (Stat None) [] s
+  as_let true ds s = declaration_is e Const ds [] s ∙ sym (declaration_is e Let ds [] s)
+  as_let false ds s = refl
+
+  left_as_let : (c : Bool) (ds : Trees) (s : State) → means e (lexical_left c ds) (Stat None) [] s ≡ others ds s
+  left_as_let c none s = refl
+  left_as_let c (t ▸ ds) s = as_let c (t ▸ ds) s
+
+  single_goes : (c : Bool) (s : State) → Run (either (means e (lexical_among c single_name first init) (Stat None) [] s) (λ u t. means e head (Stat None) [] t) (λ y t. stop y t)) (either (means e (lexical_left c first) (Stat None) [] s) (λ u t. means e (put_first init head) (Stat None) [] t) (λ y t. stop y t))
+  single_goes c s =
+      subst₂ (λ a b. Run (either a (λ u t. means e head (Stat None) [] t) (λ y t. stop y t)) (either b (λ u t. means e (put_first init head) (Stat None) [] t) (λ y t. stop y t)))
+      (sym (as_let c (append first (declarator (binding single_name) init ▸ none)) s)) (sym (left_as_let c first s)) (pair_goes s)
+
+  single_same : (c : Bool) → Same e single_set nothing (Stat None) (listed (lexical_among c single_name first init ▸ (head ▸ none))) (listed (lexical_left c first ▸ (put_first init head ▸ none)))
+  single_same c = record {
+    by = λ r s i. subst₂ Run (sym (listed_is e (lexical_among c single_name first init ▸ (head ▸ none)) r s ∙ exec_two e (lexical_among c single_name first init) head s)) (sym (listed_is e (lexical_left c first ▸ (put_first init head ▸ none)) r s ∙ exec_two e (lexical_left c first) (put_first init head) s)) (single_goes c s);
+  }
 
 pub head_unnamed : (x : Name) (head : Tree) → reads_first x head ≡ true → (init : Tree) → names x init ≡ false → names x (put_first init head) ≡ false
 head_unnamed x head e init f =
@@ -461,6 +484,6 @@ row_71 e k z n w r h t =
     let u : Unseen (alone (Declared r.symbol)) e = subst (λ j. Unseen (alone (Declared j)) e) h z in
     let D = alone (Declared r.symbol) in
     let (read, put) = head_read x r.head r.once r.init in
-    let same = block_same e r.spelling r.symbol u r.before r.after (let_among x r.first r.init none ▸ (r.head ▸ none)) (left_over r.first ▸ (put_first r.init r.head ▸ none)) (single_read r.spelling r.symbol r.first r.init r.head (put_first r.init r.head) read put) (all_avoided x r.symbol refl r.before r.earlier)
-    (left_over_avoids D r.first (all_avoided x r.symbol refl r.first r.declared_earlier), (avoided x r.symbol refl (put_first r.init r.head) (head_unnamed x r.head r.once r.init r.initial), tt)) (all_avoided x r.symbol refl r.after r.later) (single_same e r.spelling r.symbol u r.first r.init r.head r.moves r.once) t in
+    let same = block_same e r.spelling r.symbol u r.before r.after (lexical_among r.is_constant x r.first r.init ▸ (r.head ▸ none)) (lexical_left r.is_constant r.first ▸ (put_first r.init r.head ▸ none)) (single_read r.spelling r.symbol r.is_constant r.first r.init r.head (put_first r.init r.head) read put) (all_avoided x r.symbol refl r.before r.earlier)
+    (left_over_avoids D r.is_constant r.first (all_avoided x r.symbol refl r.first r.declared_earlier), (avoided x r.symbol refl (put_first r.init r.head) (head_unnamed x r.head r.once r.init r.initial), tt)) (all_avoided x r.symbol refl r.after r.later) (single_same e r.spelling r.symbol u r.first r.init r.head r.moves r.once r.is_constant) t in
     subst (λ j. Same e (alone (Declared j)) nothing (Stat t) n w) (sym h) (subst₂ (Same e D nothing (Stat t)) (sym r.shape) (sym r.written) same)

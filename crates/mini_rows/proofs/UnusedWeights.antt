@@ -68,7 +68,7 @@ unused_lighter (Stmt q) n w (inr (inl r)) =
     omega (arith, falls, ap (weight (Stmt q)) r.shape, ap (weight (Stmt q)) r.written)
 unused_lighter (Stmt q) n w (inr (inr r)) =
     let plain = (and_parts (is_plain_part r.init) (not (is_definition (shape_of r.init))) r.moves).0 in
-    let falls = single_falls q r.before r.first r.spelling r.symbol r.init r.head r.after plain r.once in
+    let falls = single_falls q r.before r.is_constant r.first r.spelling r.symbol r.init r.head r.after plain r.once in
     omega (arith, falls, ap (weight (Stmt q)) r.shape, ap (weight (Stmt q)) r.written)
 unused_lighter p n w r = absurd r
 

@@ -1,6 +1,7 @@
 -- Rows of names that nothing mentions: each is a shape and what is written in its place, with the JavaScript before and after.
 use Rattle.std.specs.Prelude.{◌≡◌, ◌<◌, ◌⊎◌, ◌||◌, ◌&&◌, not, ℕ, Bool, true, false, List, [], ◌∷◌, Some}
-use Rattle.mini_model.specs.declared.kind.VariableDeclarationKind.TheVariants.{Let}
+use Rattle.mini_model.specs.declared.kind.VariableDeclarationKind.{VariableDeclarationKind}
+use Rattle.mini_model.specs.declared.kind.VariableDeclarationKind.TheVariants.{Let, Const}
 use Rattle.mini_model.specs.declared.name.Name.{Name}
 use Rattle.mini_model.specs.declared.operator.UnaryOperator.TheVariants.{LogicalNot}
 use Rattle.mini_model.specs.declared.place.Position.{Position}
@@ -74,10 +75,18 @@ pub record Row72 (n w : Tree) : Type 0 where
 abbrev pub is_idle : Tree → Bool
 is_idle init = is_absent_part init || (declares_nothing init && (is_effect_free init && leaves_nothing init))
 
--- what is left of a declaration: `let y = b();`, or `;` where no declarator is
+-- `let` or `const`
+abbrev pub lexical_kind : Bool → VariableDeclarationKind
+lexical_kind true = Const
+lexical_kind false = Let
+
+-- what is left of such a declaration: `let y = b();`, or `;` where no declarator is
+abbrev pub lexical_left : Bool → Trees → Tree
+lexical_left is_constant none = empty_statement
+lexical_left is_constant (d ▸ ds) = declaration (lexical_kind is_constant) (d ▸ ds)
+
 abbrev pub left_over : Trees → Tree
-left_over none = empty_statement
-left_over (d ▸ ds) = declaration Let (d ▸ ds)
+left_over ds = lexical_left false ds
 
 -- `{ let x, y = b(); c(y); }` becomes `{ let y = b(); c(y); }`, and `{ let x; b(); }` and `{ let x = 1; b(); }` become `{ ; b(); }`
 pub record Row72Idle (n w : Tree) : Type 0 where
@@ -157,9 +166,14 @@ is_definition h = false
 abbrev pub may_move : Tree → Bool
 may_move t = is_plain_part t && not (is_definition (shape_of t))
 
--- 71: `{ let a, x = b(); return x + c; }` becomes `{ let a; return b() + c; }`, and `{ let x = b(); return x; }` `{ ; return b(); }`
+-- `let a, x = r;` or `const a, x = r;`
+abbrev pub lexical_among : Bool → Name → Trees → Tree → Tree
+lexical_among is_constant x first init = declaration (lexical_kind is_constant) (append first (declarator (binding x) init ▸ none))
+
+-- 71: `{ let a, x = b(); return x + c; }` becomes `{ let a; return b() + c; }`, and `{ const x = b(); return x; }` `{ ; return b(); }`
 pub record Row71 (n w : Tree) : Type 0 where
   pub before : Trees
+  pub is_constant : Bool
   pub first : Trees
   pub spelling : List ℕ
   pub symbol : ℕ
@@ -172,9 +186,9 @@ pub record Row71 (n w : Tree) : Type 0 where
   pub declared_earlier : any_names (resolved spelling symbol) first ≡ false
   pub initial : names (resolved spelling symbol) init ≡ false
   pub later : any_names (resolved spelling symbol) after ≡ false
-  pub unseen : has_eval (block (append before (let_among (resolved spelling symbol) first init none ▸ (head ▸ after)))) ≡ false
-  pub shape : n ≡ block (append before (let_among (resolved spelling symbol) first init none ▸ (head ▸ after)))
-  pub written : w ≡ block (append before (left_over first ▸ (put_first init head ▸ after)))
+  pub unseen : has_eval (block (append before (lexical_among is_constant (resolved spelling symbol) first init ▸ (head ▸ after)))) ≡ false
+  pub shape : n ≡ block (append before (lexical_among is_constant (resolved spelling symbol) first init ▸ (head ▸ after)))
+  pub written : w ≡ block (append before (lexical_left is_constant first ▸ (put_first init head ▸ after)))
 
 -- a row reads n as w at this place
 abbrev pub UnusedRow : Position → Tree → Tree → Type 0

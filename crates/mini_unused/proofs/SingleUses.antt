@@ -2,11 +2,12 @@
 use Rattle.std.proofs.Common.{◌≡◌, ℕ, zero, suc, ◌+◌, ◌<◌, ◌≤◌, Bool, true, false, List, [], ◌∷◌, refl, sym, ap, ◌∙◌, subst, inl, inr, true≢false, add-one, arith}
 use Rattle.std.specs.Prelude.{not, ◌&&◌, ◌||◌, Option, Some, None, if◌then◌else◌}
 use Rattle.std.proofs.lemmas.Bool.{and_parts}
-use Rattle.mini_model.specs.declared.kind.VariableDeclarationKind.TheVariants.{Let}
+use Rattle.mini_model.specs.declared.kind.VariableDeclarationKind.TheVariants.{Let, Const}
 use Rattle.mini_model.specs.declared.name.Name.{Name}
 use Rattle.mini_model.specs.declared.place.Position.TheVariants.{Stmt}
 use Rattle.mini_model.specs.declared.seat.StmtSeat.{StmtSeat}
-use Rattle.mini_model.specs.Tree.{Tree, Trees, node, none, ◌▸◌, shape_of, children, count, node_count, child_or_absent, empty_statement}
+use Rattle.mini_model.specs.declared.shape.Shape.TheVariants as shape
+use Rattle.mini_model.specs.Tree.{Tree, Trees, node, none, ◌▸◌, listed, shape_of, children, count, node_count, child_or_absent, empty_statement}
 use Rattle.mini_model.specs.Paths.{append}
 use Rattle.mini_laws.specs.ScopeList.{has_eval}
 use Rattle.mini_node.specs.Children.{names_of, part, with_child, with_part, without, is_bare, is_nameless, first_children, rest_children}
@@ -15,12 +16,12 @@ use Rattle.mini_node.specs.Made.{block_is}
 use Rattle.mini_node.specs.Walks.{next_child}
 use Rattle.mini_rows.specs.Lists.{block, declaration}
 use Rattle.mini_rows.specs.Declarations.{binding, declarator}
-use Rattle.mini_rows.specs.Unused.{resolved, let_among, left_over, names, any_names, leads, is_childless, reads, is_first, put_first, is_head_shape, reads_first, may_move, Row71, UnusedContracts}
+use Rattle.mini_rows.specs.Unused.{resolved, lexical_kind, lexical_among, lexical_left, names, any_names, leads, is_childless, reads, is_first, put_first, is_head_shape, reads_first, may_move, Row71, UnusedContracts}
 use Rattle.mini_rows.proofs.UnusedWeights.{unused_lighter}
 use Rattle.mini_tree.proofs.Reaching.{moves_once}
-use Rattle.mini_unused.specs.RemoveUnusedDeclaration.{declares_name, is_let, list_at, UnusedAt, let_left, Applied}
-use Rattle.mini_unused.specs.SubstituteSingleUse.{may_begin, is_head, last_place, is_declared_over, is_mentioned_around, reads_next, is_read_once, is_single_declarator, is_single, SingleAt, declaration_left, list_single, block_single}
-use Rattle.mini_unused.proofs.Unused.{parts_of, there_within, there_child, there_rest, there_first, and_both, not_true, a_let, Declares, declares, left_is, rests, all_used}
+use Rattle.mini_unused.specs.RemoveUnusedDeclaration.{declares_name, list_at, UnusedAt, let_left, Applied}
+use Rattle.mini_unused.specs.SubstituteSingleUse.{may_begin, is_head, is_lexical, last_place, is_declared_over, is_mentioned_around, reads_next, is_read_once, is_single_declarator, is_single, SingleAt, declaration_left, list_single, block_single}
+use Rattle.mini_unused.proofs.Unused.{parts_of, there_within, there_child, there_rest, there_first, and_both, not_true, Declares, declares, without_is, rests, all_used}
 
 -- ---- the first part
 
@@ -105,10 +106,10 @@ no_declarator (node h xs n (t ▸ us)) ts i j e = absurd (omega (arith, e))
 pub read_next : (x : Name) (ts : Trees) (i : ℕ) → reads_first x (child_or_absent ts (i + 1)) ≡ reads_next x ts i
 read_next x ts i = ap (λ k. reads_first x (child_or_absent ts k)) (add-one i)
 
-pub single_by : (ts : Trees) (i : ℕ) (statement l : Tree) (n : ℕ) (r : Bool) → statement ≡ child_or_absent ts i → is_let statement ≡ true → l ≡ part statement 0 → n ≡ last_place (children l) → r ≡ is_single_declarator l n ts i → r ≡ is_single ts i
+pub single_by : (ts : Trees) (i : ℕ) (statement l : Tree) (n : ℕ) (r : Bool) → statement ≡ child_or_absent ts i → is_lexical statement ≡ true → l ≡ part statement 0 → n ≡ last_place (children l) → r ≡ is_single_declarator l n ts i → r ≡ is_single ts i
 single_by ts i statement l n r s e f g h =
     let there : l ≡ list_at ts i = f ∙ ap (λ t. part t 0) s in
-    h ∙ (λ k. is_single_declarator (there k) ((g ∙ ap (λ t. last_place (children t)) there) k) ts i) ∙ sym (ap (λ b. b && is_single_declarator (list_at ts i) (last_place (children (list_at ts i))) ts i) (ap is_let (sym s) ∙ e))
+    h ∙ (λ k. is_single_declarator (there k) ((g ∙ ap (λ t. last_place (children t)) there) k) ts i) ∙ sym (ap (λ b. b && is_single_declarator (list_at ts i) (last_place (children (list_at ts i))) ts i) (ap is_lexical (sym s) ∙ e))
 
 last_rest : (ts : Trees) → rest_children (suc (last_place ts)) ts ≡ none
 last_rest none = refl
@@ -123,6 +124,26 @@ last_there (t ▸ (u ▸ ts)) d = ap suc (last_there (u ▸ ts) d)
 none_after : (ts : Trees) → append ts none ≡ ts
 none_after none = refl
 none_after (t ▸ ts) = ap (λ us. t ▸ us) (none_after ts)
+
+-- ---- a `let` or a `const`
+
+a_lexical : (t : Tree) → is_lexical t ≡ true → (c : Bool) × (t ≡ declaration (lexical_kind c) (children (part t 0)))
+a_lexical (node (shape.VariableDeclaration Let) [] zero (node shape.Listed [] zero ds ▸ none)) e = (false, refl)
+a_lexical (node (shape.VariableDeclaration Const) [] zero (node shape.Listed [] zero ds ▸ none)) e = (true, refl)
+a_lexical (node (shape.VariableDeclaration Let) [] zero (u ▸ none)) e = absurd (true≢false (sym e))
+a_lexical (node (shape.VariableDeclaration Const) [] zero (u ▸ none)) e = absurd (true≢false (sym e))
+a_lexical t e = absurd (true≢false (sym e))
+
+lexical_is : (c : Bool) (ds : Trees) → is_lexical (declaration (lexical_kind c) ds) ≡ true
+lexical_is true ds = refl
+lexical_is false ds = refl
+
+lexical_left_is : (c : Bool) (ds : Trees) (j : ℕ) → j < count ds → (if is_bare (listed ds) 1 then empty_statement else declaration (lexical_kind c) (without ds j)) ≡ lexical_left c (append (first_children j ds) (rest_children (suc j) ds))
+lexical_left_is c none j h = absurd (omega (arith, h))
+lexical_left_is c (t ▸ none) zero h = refl
+lexical_left_is c (t ▸ none) (suc j) h = absurd (omega (arith, h))
+lexical_left_is c (t ▸ (u ▸ ds)) zero h = refl
+lexical_left_is c (t ▸ (u ▸ ds)) (suc j) h = ap (λ us. declaration (lexical_kind c) (t ▸ us)) (without_is (u ▸ ds) j)
 
 -- ---- two neighbours
 
@@ -209,15 +230,18 @@ module _ (t : Tree) (i : ℕ) (b : is_block t ≡ true) (s : SingleAt (children 
   abbrev once_there : Bool
   once_there = is_read_once (names_of (part d 0)) init ds j ts i
 
-  tests : (is_let statement ≡ true) × (declares_name d ≡ true) × (may_move init ≡ true) × (once_there ≡ true)
+  tests : (is_lexical statement ≡ true) × (declares_name d ≡ true) × (may_move init ≡ true) × (once_there ≡ true)
   tests =
-      let (a, p) = and_parts (is_let statement) (declares_name d && (may_move init && once_there)) s.4 in
+      let (a, p) = and_parts (is_lexical statement) (declares_name d && (may_move init && once_there)) s.4 in
       let (c, q) = and_parts (declares_name d) (may_move init && once_there) p in
       let (f, r) = and_parts (may_move init) once_there q in
       (a, c, f, r)
 
-  let_there : statement ≡ declaration Let ds
-  let_there = a_let statement tests.0
+  abbrev kind : Bool
+  kind = (a_lexical statement tests.0).0
+
+  let_there : statement ≡ declaration (lexical_kind kind) ds
+  let_there = (a_lexical statement tests.0).1
 
   abbrev one : Declares d
   one = declares d tests.1
@@ -231,22 +255,23 @@ module _ (t : Tree) (i : ℕ) (b : is_block t ≡ true) (s : SingleAt (children 
   last_within : j < count ds
   last_within = let same = last_is ds s.3 in omega (arith, same)
 
-  statement_is : statement ≡ let_among x first init none
-  statement_is = let_there ∙ ap (declaration Let) (parts_of ds j last_within ∙ ap (λ us. append first (d ▸ us)) (last_rest ds) ∙ ap (λ y. append first (y ▸ none)) one.is)
+  statement_is : statement ≡ lexical_among kind x first init
+  statement_is = let_there ∙ ap (declaration (lexical_kind kind)) (parts_of ds j last_within ∙ ap (λ us. append first (d ▸ us)) (last_rest ds) ∙ ap (λ y. append first (y ▸ none)) one.is)
 
-  block_there : t ≡ block (append before (let_among x first init none ▸ (head ▸ after)))
+  block_there : t ≡ block (append before (lexical_among kind x first init ▸ (head ▸ after)))
   block_there = block_is t b ∙ ap block (parts_of ts i (let within = s.0 in omega (arith, within)) ∙ ap (λ us. append before (statement ▸ us)) (next_child ts (suc i) s.0) ∙ ap (λ y. append before (y ▸ (head ▸ after))) statement_is)
 
-  left_there : declaration_left statement j ≡ left_over first
-  left_there = ap (λ y. declaration_left y j) let_there ∙ left_is ds j last_within ∙ ap (λ us. left_over (append first us)) (last_rest ds) ∙ ap left_over (none_after first)
+  left_there : declaration_left statement j ≡ lexical_left kind first
+  left_there = ap (λ y. declaration_left y j) let_there ∙ lexical_left_is kind ds j last_within ∙ ap (λ us. lexical_left kind (append first us)) (last_rest ds) ∙ ap (lexical_left kind) (none_after first)
 
-  written_there : (u : Tree) → u ≡ block_single t i j → u ≡ block (append before (left_over first ▸ (put_first init head ▸ after)))
+  written_there : (u : Tree) → u ≡ block_single t i j → u ≡ block (append before (lexical_left kind first ▸ (put_first init head ▸ after)))
   written_there u f =
       f ∙ ap (λ y. block_single y i j) (block_is t b) ∙ ap block (with_two ts i (declaration_left statement j) (put_first init head) s.0) ∙ ap (λ y. block (append before (y ▸ (put_first init head ▸ after)))) left_there
 
   row_there : (u : Tree) → u ≡ block_single t i j → Row71 t u
   row_there u f = record {
     before = before;
+    is_constant = kind;
     first = first;
     spelling = one.spelling;
     symbol = one.symbol;
@@ -282,7 +307,7 @@ module _ (t w : Tree) (r : Row71 t w) where
   declarators = append r.first (declared ▸ none)
 
   abbrev stated : Tree
-  stated = declaration Let declarators
+  stated = declaration (lexical_kind r.is_constant) declarators
 
   abbrev statements : Trees
   statements = append r.before (stated ▸ (r.head ▸ r.after))
@@ -301,7 +326,8 @@ module _ (t w : Tree) (r : Row71 t w) where
   single_there =
       let i = count r.before in
       ap (λ v. is_single (children (part v 0)) i) r.shape
-      ∙ ap (λ c. is_let c && is_single_declarator (part c 0) (last_place (children (part c 0))) statements i) (there_child r.before stated (r.head ▸ r.after))
+      ∙ ap (λ c. is_lexical c && is_single_declarator (part c 0) (last_place (children (part c 0))) statements i) (there_child r.before stated (r.head ▸ r.after))
+      ∙ ap (λ b. b && is_single_declarator (part stated 0) (last_place (children (part stated 0))) statements i) (lexical_is r.is_constant declarators)
       ∙ ap (λ j. is_single_declarator (part stated 0) j statements i) (last_there r.first declared)
       ∙ ap (λ c. declares_name c && (may_move (part c 1) && is_read_once (names_of (part c 0)) (part c 1) declarators (count r.first) statements i)) (there_child r.first declared none)
       ∙ and_both (may_move r.init) (is_read_once (named ∷ []) r.init declarators (count r.first) statements i) r.moves once_is

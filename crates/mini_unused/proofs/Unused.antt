@@ -95,7 +95,7 @@ declarator_is : (d : Tree) → is_declarator_shape (shape_of d) && is_bare d 2 �
 declarator_is (node shape.VariableDeclarator [] zero (a ▸ (b ▸ none))) e = refl
 declarator_is d e = absurd (true≢false (sym e))
 
-pub a_let : (t : Tree) → is_let t ≡ true → t ≡ declaration Let (children (part t 0))
+a_let : (t : Tree) → is_let t ≡ true → t ≡ declaration Let (children (part t 0))
 a_let (node (shape.VariableDeclaration Let) [] zero (node shape.Listed [] zero ds ▸ none)) e = refl
 a_let (node (shape.VariableDeclaration Let) [] zero (u ▸ none)) e = absurd (true≢false (sym e))
 a_let t e = absurd (true≢false (sym e))
@@ -135,13 +135,13 @@ quiet x init ds j ts i e =
 
 -- ---- what is written is what the row says
 
-without_is : (ds : Trees) (j : ℕ) → without ds j ≡ append (first_children j ds) (rest_children (suc j) ds)
+pub without_is : (ds : Trees) (j : ℕ) → without ds j ≡ append (first_children j ds) (rest_children (suc j) ds)
 without_is none j = refl
 without_is (t ▸ none) zero = refl
 without_is (t ▸ (u ▸ ds)) zero = refl
 without_is (t ▸ ds) (suc j) = ap (λ us. t ▸ us) (without_is ds j)
 
-pub left_is : (ds : Trees) (j : ℕ) → j < count ds → (if is_bare (listed ds) 1 then empty_statement else declaration Let (without ds j)) ≡ left_over (append (first_children j ds) (rest_children (suc j) ds))
+left_is : (ds : Trees) (j : ℕ) → j < count ds → (if is_bare (listed ds) 1 then empty_statement else declaration Let (without ds j)) ≡ left_over (append (first_children j ds) (rest_children (suc j) ds))
 left_is none j h = absurd (omega (arith, h))
 left_is (t ▸ none) zero h = refl
 left_is (t ▸ none) (suc j) h = absurd (omega (arith, h))

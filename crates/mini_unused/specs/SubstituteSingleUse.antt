@@ -1,11 +1,15 @@
--- 71, `substitute_single_use`: `{ let x = a(); return x + b; }` becomes `{ ; return a() + b; }`, and `{ let a, x = b(); return x; }`
--- becomes `{ let a; return b(); }`.
+-- 71, `substitute_single_use`: `{ let x = a(); return x + b; }` becomes `{ ; return a() + b; }`, and `{ const a = b(), x = c(); return x; }`
+-- becomes `{ const a = b(); return c(); }`.
 use Rattle.std.specs.Prelude.{◌≡◌, ◌<◌, ◌^◌, ℕ, zero, suc, Bool, true, false, not, ◌&&◌, ◌||◌, List, [], ◌∷◌, Option, Some, None, if◌then◌else◌}
+use Rattle.mini_model.specs.declared.kind.VariableDeclarationKind.TheVariants.{Let, Const}
 use Rattle.mini_model.specs.declared.name.Name.{Name}
+use Rattle.mini_model.specs.declared.shape.Shape.{Shape}
+use Rattle.mini_model.specs.declared.shape.Shape.TheVariants as shape
 use Rattle.mini_model.specs.Tree.{Tree, Trees, none, ◌▸◌, count, child_or_absent, empty_statement, shape_of, children}
 use Rattle.mini_node.specs.Children.{names_of, part, with_part, is_bare, is_nameless, first_children, rest_children}
+use Rattle.mini_node.specs.Kinds.{is_listed}
 use Rattle.mini_rows.specs.Unused.{names, any_names, leads, is_childless, is_head_shape, may_move, reads_first, put_first}
-use Rattle.mini_unused.specs.RemoveUnusedDeclaration.{declares_name, is_let, list_at, let_left}
+use Rattle.mini_unused.specs.RemoveUnusedDeclaration.{declares_name, list_at, let_left}
 
 -- a node without a name and a number, which evaluates its first part before all else
 abbrev pub may_begin : Bool → Tree → Bool
@@ -14,6 +18,15 @@ may_begin in_list t = leads in_list (shape_of t) (is_childless (part t 0)) && is
 -- a statement that does
 abbrev pub is_head : Tree → Bool
 is_head t = is_head_shape (shape_of t) && is_nameless t
+
+-- a `let` or a `const`, whose declarators are those of its list
+abbrev pub is_lexical_shape : Shape → Bool
+is_lexical_shape (shape.VariableDeclaration Let) = true
+is_lexical_shape (shape.VariableDeclaration Const) = true
+is_lexical_shape _ = false
+
+abbrev pub is_lexical : Tree → Bool
+is_lexical t = is_lexical_shape (shape_of t) && (is_bare t 1 && is_listed (part t 0))
 
 -- the place of the last of some declarators
 abbrev pub last_place : Trees → ℕ
@@ -42,9 +55,9 @@ is_read_once (x ∷ xs) init ds j ts i = reads_next x ts i && (not (is_declared_
 abbrev pub is_single_declarator : Tree → ℕ → Trees → ℕ → Bool
 is_single_declarator l j ts i = declares_name (part l j) && (may_move (part (part l j) 1) && is_read_once (names_of (part (part l j) 0)) (part (part l j) 1) (children l) j ts i)
 
--- the statement at the place is a `let`, whose last declarator is such a one
+-- the statement at the place is a `let` or a `const`, whose last declarator is such a one
 abbrev pub is_single : Trees → ℕ → Bool
-is_single ts i = is_let (child_or_absent ts i) && is_single_declarator (list_at ts i) (last_place (children (list_at ts i))) ts i
+is_single ts i = is_lexical (child_or_absent ts i) && is_single_declarator (list_at ts i) (last_place (children (list_at ts i))) ts i
 
 -- the place of such a statement, or there is none
 abbrev pub SingleAt : Trees → Option ℕ → Type 0

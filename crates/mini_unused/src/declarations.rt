@@ -54,7 +54,7 @@ pub fn declares_name(node: &Node) -> bool
 }
 
 // A `let`, with its list of declarators.
-pub fn is_let(node: &Node) -> bool
+fn is_let(node: &Node) -> bool
     ensures kind { result ≡ it_is_let node.now }
     ensures list { result ≡ true → count (children node.now) ≡ 1 }
 {

@@ -1,4 +1,4 @@
-//! Row 71: `{ let x = a(); return x + b; }` becomes `{ ; return a() + b; }`, and `{ let a, x = b(); return x; }` becomes
+//! Row 71: `{ const x = a(); return x + b; }` becomes `{ ; return a() + b; }`, and `{ let a, x = b(); return x; }` becomes
 //! `{ let a; return b(); }`, where the statement evaluates x before all else and nothing else in the block has its spelling or its
 //! symbol, and no direct eval stands there.
 
@@ -14,11 +14,11 @@ ghost use Rattle.mini_unused.specs.RemoveUnusedDeclaration.{list_at, UnusedAt, A
 ghost use Rattle.mini_unused.specs.SubstituteSingleUse as row;
 ghost use Rattle.mini_unused.specs.SubstituteSingleUse.{declaration_left, SingleAt};
 
-use crate::declarations::{declares_name, is_let, put_child, take_child, take_declarator};
+use crate::declarations::{declares_name, put_child, take_child, take_declarator};
 use crate::evals::has_eval;
 use crate::mentions::{is_mentioned, is_mentioned_before, is_mentioned_from, is_same_symbol};
-use mini_model::{Name, Shape, UnaryOperator};
-use mini_node::{Node, Nodes, discard, empty_statement, is_identifier, two};
+use mini_model::{Name, Shape, UnaryOperator, VariableDeclarationKind};
+use mini_node::{Node, Nodes, discard, empty_statement, is_identifier, is_listed, two};
 use mini_terms::is_plain_part;
 use std::alloc::Global;
 
@@ -220,7 +220,19 @@ fn is_single_declarator(list: &Node, which: usize, statements: &Nodes, at: usize
         )
 }
 
-// The statement is a `let`, whose last declarator is such a one.
+// A `let` or a `const`, with its list of declarators.
+fn is_lexical(node: &Node) -> bool
+    ensures kind { result ≡ row.is_lexical node.now }
+    ensures list { result ≡ true → count (children node.now) ≡ 1 }
+{
+    let has_shape = matches!(
+        node.shape(),
+        Shape::VariableDeclaration(VariableDeclarationKind::Let | VariableDeclarationKind::Const)
+    );
+    has_shape && node.is_bare(1) && is_listed(node.child(0))
+}
+
+// The statement is a `let` or a `const`, whose last declarator is such a one.
 #[tactic(auto, using(crate::proofs::SingleUses::no_declarator, crate::proofs::SingleUses::last_is))]
 fn is_single(statements: &Nodes, at: usize) -> bool
     requires next { at + 1 < count statements.now }
@@ -230,7 +242,7 @@ fn is_single(statements: &Nodes, at: usize) -> bool
     ensures declarators { result ≡ true → 0 < count (children (list_at statements.now at)) }
 {
     let statement = statements.child(at);
-    if !is_let(statement) {
+    if !is_lexical(statement) {
         return false;
     }
     let list = statement.child(0);
