@@ -1,121 +1,131 @@
 // Cases and their answers.
 
-use crate::answers::{minify, refuse};
+use crate::answer::Answer;
 use crate::depth::{read_deep, write_deep};
-use crate::echo::echoed;
-use crate::error::NoAnswer;
 use crate::lists::{change_nodes, change_numbers};
-use crate::literals::{cook_text, escape, join, name, number_text, safe_number, shorten};
+use crate::literals::{answer_text, join, number_text};
 use crate::memory::{choose, code, run_in_memory, run_on_spaces};
 use crate::nested::resolve_nested;
+use crate::programs::{Task, answer_program, echo, write_again};
 use crate::weights::{weigh_expression, weigh_statement};
-use mini_estree::{Numbered, fits, read_program};
+use crate::words::{TextCase, word_in};
 use mini_model::{Position, StmtSeat};
 use mini_tree::seats;
-use mini_writer::{count_units, count_values};
-use serde_json::Value;
 use std::alloc::Global;
-use std::fmt::Write;
 
-// How deep the nodes of a value may nest where a case says nothing of it.
-const MAX_DEPTH: u32 = 30;
+/// What a line asks for.
+#[derive(Clone, Copy)]
+enum Case {
+    /// A title, which is its own answer.
+    Title,
+    /// A text as JSON is read, and asked about.
+    Text(TextCase),
+    /// A program is read, and asked about.
+    Program(Task),
+    Again,
+    Echo,
+    Expression,
+    Statement,
+    Run,
+    Options,
+    Numeral,
+    Joined,
+    List,
+    Statements,
+    Expressions,
+    Read,
+    /// Something is done with a number.
+    Number(NumberCase),
+}
+
+/// What is done with a number.
+#[derive(Clone, Copy)]
+enum NumberCase {
+    Spaces,
+    Code,
+    Write,
+    Nested,
+}
+
+const CASES: [(&str, Case); 27] = [
+    ("#", Case::Title),
+    ("tell", Case::Program(Task::Tell)),
+    ("numbers", Case::Program(Task::Numbers)),
+    ("sizes", Case::Program(Task::Sizes)),
+    ("minify", Case::Program(Task::Minify)),
+    ("answer", Case::Program(Task::Answer)),
+    ("again", Case::Again),
+    ("echo", Case::Echo),
+    ("expression", Case::Expression),
+    ("statement", Case::Statement),
+    ("run", Case::Run),
+    ("options", Case::Options),
+    ("text", Case::Text(TextCase::Name)),
+    ("shortened", Case::Text(TextCase::Shortened)),
+    ("safe", Case::Text(TextCase::Safe)),
+    ("escaped", Case::Text(TextCase::Escaped)),
+    ("cooked", Case::Text(TextCase::Cooked)),
+    ("joined", Case::Joined),
+    ("numeral", Case::Numeral),
+    ("list", Case::List),
+    ("statements", Case::Statements),
+    ("expressions", Case::Expressions),
+    ("read", Case::Read),
+    ("spaces", Case::Number(NumberCase::Spaces)),
+    ("code", Case::Number(NumberCase::Code)),
+    ("write", Case::Number(NumberCase::Write)),
+    ("nested", Case::Number(NumberCase::Nested)),
+];
 
 /// Adds the answer to a line.
-pub fn answer(alloc: Global, line: &str, out: &mut String) -> Result<(), NoAnswer> {
-    let (word, rest) = line.split_once(' ').ok_or(NoAnswer)?;
-    match word {
-        "#" => Ok(out.push_str(line)?),
-        "tell" => tell(alloc, rest, out),
-        "numbers" => count_numbers(alloc, rest, out),
-        "again" => write_again(alloc, rest, out),
-        "echo" => echo(alloc, rest, out),
-        "expression" => weigh_expression(alloc, rest, out),
-        "statement" => weigh_statement(alloc, rest, out),
-        "minify" => minify(alloc, rest, false, out),
-        "answer" => minify(alloc, rest, true, out),
-        "run" => run_in_memory(alloc, rest, out),
-        "spaces" => run_on_spaces(alloc, rest, out),
-        "options" => choose(alloc, rest, out),
-        "code" => code(rest, out),
-        _ => answer_part(alloc, word, rest, out),
+pub fn answer(alloc: Global, line: &str, out: &mut Answer) {
+    match line.split_once(' ') {
+        Some((word, rest)) => match word_in(&CASES, word) {
+            Some(case) => answer_case(alloc, case, rest, out),
+            None => out.fail(),
+        },
+        None => out.fail(),
     }
 }
 
-// Adds the answer to a line that asks for a part of a library.
-fn answer_part(alloc: Global, word: &str, rest: &str, out: &mut String) -> Result<(), NoAnswer> {
-    match word {
-        "text" => name(alloc, rest, out),
-        "shortened" => shorten(alloc, rest, out),
-        "numeral" => number_text(alloc, rest, out),
-        "safe" => safe_number(alloc, rest, out),
-        "escaped" => escape(alloc, rest, out),
-        "cooked" => cook_text(alloc, rest, out),
-        "joined" => join(alloc, rest, out),
-        "sizes" => sizes(alloc, rest, out),
-        "list" => change_numbers(alloc, rest, out),
-        "statements" => change_nodes(alloc, rest, Position::Stmt(StmtSeat::List), out),
-        "expressions" => change_nodes(alloc, rest, Position::Expr(seats::if_test()), out),
-        "read" => read_deep(alloc, rest, out),
-        "write" => write_deep(alloc, rest, out),
-        "nested" => resolve_nested(alloc, rest, out),
-        _ => Err(NoAnswer),
+fn answer_case(alloc: Global, case: Case, rest: &str, out: &mut Answer) {
+    match case {
+        Case::Title => title(rest, out),
+        Case::Text(case) => answer_text(alloc, case, rest, out),
+        Case::Program(task) => answer_program(alloc, task, rest, out),
+        Case::Again => write_again(alloc, rest, out),
+        Case::Echo => echo(alloc, rest, out),
+        Case::Expression => weigh_expression(alloc, rest, out),
+        Case::Statement => weigh_statement(alloc, rest, out),
+        Case::Run => run_in_memory(alloc, rest, out),
+        Case::Options => choose(alloc, rest, out),
+        Case::Numeral => number_text(alloc, rest, out),
+        Case::Joined => join(alloc, rest, out),
+        Case::List => change_numbers(alloc, rest, out),
+        Case::Statements => change_nodes(alloc, rest, Position::Stmt(StmtSeat::List), out),
+        Case::Expressions => change_nodes(alloc, rest, Position::Expr(seats::if_test()), out),
+        Case::Read => read_deep(alloc, rest, out),
+        Case::Number(case) => answer_number(alloc, case, rest, out),
     }
 }
 
-/// A number.
-pub fn number(text: &str) -> Result<u32, NoAnswer> {
-    text.parse::<u32>().map_err(|_| NoAnswer)
+fn title(rest: &str, out: &mut Answer) {
+    out.text("# ");
+    out.text(rest);
 }
 
-/// A number, and what stands behind it.
-pub fn numbered(text: &str) -> Result<(u32, &str), NoAnswer> {
-    let (first, rest) = text.split_once(' ').ok_or(NoAnswer)?;
-    Ok((number(first)?, rest))
-}
-
-// Whether a value is read within a depth: `Ok`, or the error and the pointer of the node that has the defect.
-fn tell(alloc: Global, text: &str, out: &mut String) -> Result<(), NoAnswer> {
-    let (max_depth, text) = numbered(text)?;
-    let value = Value::from_str(alloc, text)?;
-    match read_program(alloc, &value, max_depth) {
-        Ok(_) => Ok(out.push_str("Ok")?),
-        Err(error) => refuse(&error, out),
+fn answer_number(alloc: Global, case: NumberCase, text: &str, out: &mut Answer) {
+    match text.parse::<u32>() {
+        Ok(number) => do_with_number(alloc, case, number, out),
+        Err(_) => out.fail(),
     }
 }
 
-/// The program that a text says.
-pub fn program(alloc: Global, text: &str) -> Result<Numbered, NoAnswer> {
-    let value = Value::from_str(alloc, text)?;
-    Ok(read_program(alloc, &value, MAX_DEPTH)?)
-}
-
-// How many nodes of a program have a number.
-fn count_numbers(alloc: Global, text: &str, out: &mut String) -> Result<(), NoAnswer> {
-    let found = program(alloc, text)?;
-    Ok(write!(out, "{}", found.numbers)?)
-}
-
-// Whether what is written of a program reads as that program again.
-fn write_again(alloc: Global, text: &str, out: &mut String) -> Result<(), NoAnswer> {
-    let first = echoed(alloc, String::from_str(alloc, text)?)?;
-    let second = echoed(alloc, first.clone()?)?;
-    let word = if first.as_str() == second.as_str() {
-        "the same"
-    } else {
-        "another"
-    };
-    Ok(out.push_str(word)?)
-}
-
-// What is written of a program of any depth.
-fn echo(alloc: Global, text: &str, out: &mut String) -> Result<(), NoAnswer> {
-    let back = echoed(alloc, String::from_str(alloc, text)?)?;
-    Ok(out.push_str(back.as_str())?)
-}
-
-// How many values a value is made of, how many UTF-16 units its texts have, and whether it is small enough.
-fn sizes(alloc: Global, text: &str, out: &mut String) -> Result<(), NoAnswer> {
-    let value = Value::from_str(alloc, text)?;
-    let (values, units) = (count_values(&value), count_units(&value));
-    Ok(write!(out, "{values} {units} {}", fits(&value))?)
+fn do_with_number(alloc: Global, case: NumberCase, number: u32, out: &mut Answer) {
+    match case {
+        NumberCase::Spaces => run_on_spaces(alloc, number, out),
+        NumberCase::Code => code(number, out),
+        NumberCase::Write => write_deep(alloc, number, out),
+        NumberCase::Nested => resolve_nested(alloc, number, out),
+    }
 }

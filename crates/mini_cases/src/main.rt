@@ -13,7 +13,7 @@
 //! The repository has no test besides these lines, since a crate with tests is proved a second time with them.
 #![tactic(auto)]
 
-mod answers;
+mod answer;
 mod cases;
 mod depth;
 mod echo;
@@ -22,8 +22,11 @@ mod lists;
 mod literals;
 mod memory;
 mod nested;
+mod programs;
 mod weights;
+mod words;
 
+use answer::Answer;
 use cases::answer;
 use echo::{echoed, same_json};
 use error::NoAnswer;
@@ -49,36 +52,44 @@ fn main(rt: HostRuntime) -> ExitCode {
     }
 }
 
-// What the words ask for, where the last one counts.
-fn asked(rt: &HostRuntime) -> Result<Task, NoAnswer> {
-    let mut task = Task::Cases;
-    for word in env::args(rt)?.skip(1) {
-        task = match word.as_str() {
-            "--echo" => Task::Echo,
-            "--json" => Task::Json,
-            _ => return Err(NoAnswer),
-        };
+// What a word asks for.
+fn task_of(word: &str) -> Result<Task, NoAnswer> {
+    match word {
+        "--echo" => Ok(Task::Echo),
+        "--json" => Ok(Task::Json),
+        _ => Err(NoAnswer),
     }
-    Ok(task)
+}
+
+// What the first word asks for, if there is one.
+fn asked(rt: &HostRuntime) -> Result<Task, NoAnswer> {
+    match env::args(rt)?.nth(1) {
+        Some(word) => task_of(word.as_str()),
+        None => Ok(Task::Cases),
+    }
 }
 
 fn start(rt: &HostRuntime) -> Result<(), NoAnswer> {
-    let alloc = rt.alloc();
     let task = asked(rt)?;
-    let text = io::read_to_string(alloc, rt.stdin())?;
-    let back = match task {
-        Task::Cases => return answer_lines(rt, text.as_str()),
-        Task::Echo => echoed(alloc, text)?,
-        Task::Json => same_json(alloc, text)?,
-    };
-    rt.stdout().write_all(back.as_bytes())?;
-    Ok(())
+    let text = io::read_to_string(rt.alloc(), rt.stdin())?;
+    match task {
+        Task::Cases => answer_lines(rt, text.as_str()),
+        Task::Echo => print(rt, echoed(rt.alloc(), text)),
+        Task::Json => print(rt, same_json(rt.alloc(), text)),
+    }
+}
+
+fn print(rt: &HostRuntime, text: Result<String, NoAnswer>) -> Result<(), NoAnswer> {
+    Ok(rt.stdout().write_all(text?.as_bytes())?)
 }
 
 fn answer_line(rt: &HostRuntime, line: &str) -> Result<(), NoAnswer> {
-    let mut found = String::new(rt.alloc());
-    answer(rt.alloc(), line, &mut found)?;
-    Ok(println!(rt; "{found}")?)
+    let mut found = Answer::new(rt.alloc());
+    answer(rt.alloc(), line, &mut found);
+    match found.whole() {
+        Some(text) => Ok(println!(rt; "{text}")?),
+        None => Err(NoAnswer),
+    }
 }
 
 fn answer_lines(rt: &HostRuntime, text: &str) -> Result<(), NoAnswer> {

@@ -1,11 +1,11 @@
 // Whole runs over memory: sources and sinks that fail, that move a few bytes a call, or that have little room.
 
-use crate::error::NoAnswer;
+use crate::answer::Answer;
+use crate::words::numbered;
 use mini_model::OutOfMemory;
 use mini_peephole::{Status, run};
 use mini_run::{MemSink, MemSource, Words, read_options};
 use std::alloc::{AllocError, Global};
-use std::fmt::Write;
 
 /// What a run is over: how many bytes a call moves, for how many bytes the sink has room, and which calls fail.
 #[derive(Clone, Copy)]
@@ -29,11 +29,6 @@ const WHOLE: Setting<'static> = Setting {
     notes: "",
 };
 
-// The number that a text is.
-fn size(text: &str) -> Result<usize, NoAnswer> {
-    text.parse::<usize>().map_err(|_| NoAnswer)
-}
-
 // The numbers between commas. What is no number, as a hyphen, stands for none.
 fn numbers(alloc: Global, text: &str) -> Result<Vec<u32>, AllocError> {
     let mut found = Vec::new(alloc);
@@ -56,16 +51,33 @@ fn bytes_of(alloc: Global, text: &str) -> Result<Vec<u8>, AllocError> {
     Ok(bytes)
 }
 
-// Puts the words before a bar each behind the others, and gives what stands behind the last bar.
-fn push_words<'a>(words: &mut Words, text: &'a str) -> Result<&'a str, NoAnswer> {
-    let mut last = None;
-    for part in text.split('|') {
-        if let Some(word) = last {
-            words.push(word)?;
+// Puts the words between bars each behind the others.
+fn push_words(words: &mut Words, text: &str, out: &mut Answer) {
+    for word in text.split('|') {
+        if words.push(word).is_err() {
+            out.fail();
         }
-        last = Some(part);
     }
-    Ok(last.unwrap_or(""))
+}
+
+// The words before the last bar, each with a bar behind it, and what stands behind that bar.
+fn words_of<'a>(alloc: Global, text: &'a str, out: &mut Answer) -> (Words, &'a str) {
+    let mut words = Words::new(alloc);
+    match text.rsplit_once('|') {
+        Some((front, rest)) => {
+            push_words(&mut words, front, out);
+            (words, rest)
+        }
+        None => (words, text),
+    }
+}
+
+// A source of these bytes, whose calls of these numbers fail.
+fn source_of(alloc: Global, input: Vec<u8>, setting: Setting) -> Result<MemSource, OutOfMemory> {
+    match numbers(alloc, setting.reads) {
+        Ok(fails) => Ok(MemSource::new(input, setting.limit, fails)),
+        Err(_) => Err(OutOfMemory),
+    }
 }
 
 // A sink with so much room, whose calls of these numbers fail.
@@ -76,13 +88,25 @@ fn sink_of(alloc: Global, room: usize, limit: usize, calls: &str) -> Result<MemS
     }
 }
 
-/// How a run ended, and what is left, written and told.
-#[derive(Drop)]
-struct Ended {
-    status: Status,
-    source: MemSource,
-    sink: MemSink,
-    notes: MemSink,
+// The bytes behind a space, if there are any, without spaces and lines at their end.
+fn tell_bytes(alloc: Global, bytes: &[u8], out: &mut Answer) {
+    if bytes.is_empty() {
+        return;
+    }
+    match String::from_utf8_lossy(alloc, bytes) {
+        Ok(text) => out.word(&text.as_str().trim_end()),
+        Err(_) => out.fail(),
+    }
+}
+
+// The status, how many bytes are left, written and told, and which were written or told.
+fn tell(alloc: Global, status: Status, left: &[u8], written: &[u8], told: &[u8], out: &mut Answer) {
+    out.show(&status.code());
+    out.word(&left.len());
+    out.word(&written.len());
+    out.word(&told.len());
+    tell_bytes(alloc, written, out);
+    tell_bytes(alloc, told, out);
 }
 
 // A run over memory, of which nothing is said: what a line asks of it is computed.
@@ -92,113 +116,131 @@ fn run_over(
     mut source: MemSource,
     mut sink: MemSink,
     mut notes: MemSink,
-) -> Ended {
+    out: &mut Answer,
+) {
     let status = run(alloc, words, &mut source, &mut sink, &mut notes);
-    Ended {
+    tell(
+        alloc,
         status,
-        source,
-        sink,
-        notes,
-    }
-}
-
-// The bytes behind a space, if there are any, without spaces and lines at their end.
-fn push_bytes(alloc: Global, bytes: &[u8], out: &mut String) -> Result<(), NoAnswer> {
-    if bytes.is_empty() {
-        return Ok(());
-    }
-    let text = String::from_utf8_lossy(alloc, bytes)?;
-    Ok(write!(out, " {}", text.as_str().trim_end())?)
-}
-
-// The status, how many bytes are left, written and told, and which were written or told.
-fn tell(alloc: Global, ended: &Ended, out: &mut String) -> Result<(), NoAnswer> {
-    let (written, told) = (ended.sink.written(), ended.notes.written());
-    write!(
+        source.left(),
+        sink.written(),
+        notes.written(),
         out,
-        "{} {} {} {}",
-        ended.status.code(),
-        ended.source.left().len(),
-        written.len(),
-        told.len()
-    )?;
-    push_bytes(alloc, written, out)?;
-    push_bytes(alloc, told, out)
+    );
 }
 
-// A run over memory on words and an input.
-fn run_setting(
+fn run_to(
     alloc: Global,
     setting: Setting,
     words: &Words,
-    input: Vec<u8>,
-) -> Result<Ended, NoAnswer> {
-    let source = MemSource::new(input, setting.limit, numbers(alloc, setting.reads)?);
-    let sink = sink_of(alloc, setting.room, setting.limit, setting.writes)?;
-    let notes = sink_of(alloc, ROOM, setting.limit, setting.notes)?;
-    Ok(run_over(alloc, words, source, sink, notes))
+    source: MemSource,
+    sink: MemSink,
+    out: &mut Answer,
+) {
+    match sink_of(alloc, ROOM, setting.limit, setting.notes) {
+        Ok(notes) => run_over(alloc, words, source, sink, notes, out),
+        Err(_) => out.fail(),
+    }
+}
+
+fn run_from(alloc: Global, setting: Setting, words: &Words, source: MemSource, out: &mut Answer) {
+    match sink_of(alloc, setting.room, setting.limit, setting.writes) {
+        Ok(sink) => run_to(alloc, setting, words, source, sink, out),
+        Err(_) => out.fail(),
+    }
+}
+
+// A run over memory on words and an input.
+fn run_on(
+    alloc: Global,
+    setting: Setting,
+    words: &Words,
+    input: Result<Vec<u8>, AllocError>,
+    out: &mut Answer,
+) {
+    match input {
+        Ok(input) => match source_of(alloc, input, setting) {
+            Ok(source) => run_from(alloc, setting, words, source, out),
+            Err(_) => out.fail(),
+        },
+        Err(_) => out.fail(),
+    }
+}
+
+// What a line says of a run, and what stands behind that.
+fn setting_of(text: &str) -> Option<(Setting<'_>, &str)> {
+    let (limit, text) = numbered(text)?;
+    let (room, text) = numbered(text)?;
+    let (reads, text) = text.split_once(' ')?;
+    let (writes, text) = text.split_once(' ')?;
+    let (notes, text) = text.split_once(' ')?;
+    let setting = Setting {
+        limit,
+        room,
+        reads,
+        writes,
+        notes,
+    };
+    Some((setting, text))
 }
 
 /// A run over a limit of bytes a call, a room, the calls that fail of the source, of the sink and of the notes, and behind
 /// them words, each with a bar behind it, and the input, of which each character is the byte of its number.
-pub fn run_in_memory(alloc: Global, text: &str, out: &mut String) -> Result<(), NoAnswer> {
-    let mut parts = text.splitn(6, ' ');
-    let setting = Setting {
-        limit: size(parts.next().unwrap_or(""))?,
-        room: size(parts.next().unwrap_or(""))?,
-        reads: parts.next().unwrap_or(""),
-        writes: parts.next().unwrap_or(""),
-        notes: parts.next().unwrap_or(""),
-    };
-    let mut words = Words::new(alloc);
-    let input = push_words(&mut words, parts.next().unwrap_or(""))?;
-    let ended = run_setting(alloc, setting, &words, bytes_of(alloc, input)?)?;
-    tell(alloc, &ended, out)
-}
-
-/// A run on so many spaces, where no call fails and each moves all that it can.
-pub fn run_on_spaces(alloc: Global, count: &str, out: &mut String) -> Result<(), NoAnswer> {
-    let input = vec![in alloc; b' '; size(count)?]?;
-    let ended = run_setting(alloc, WHOLE, &Words::new(alloc), input)?;
-    tell(alloc, &ended, out)
-}
-
-/// The options that words choose, each with a bar behind it.
-pub fn choose(alloc: Global, text: &str, out: &mut String) -> Result<(), NoAnswer> {
-    let mut words = Words::new(alloc);
-    let _ = push_words(&mut words, text)?;
-    match read_options(&words) {
-        Some(found) => Ok(write!(
-            out,
-            "{} {} {} {} {} {} {} {}",
-            found.passes,
-            found.max_depth,
-            found.sequences,
-            found.join_vars,
-            found.keep_names.function,
-            found.keep_names.class,
-            found.pure_coercion,
-            found.known_calls
-        )?),
-        None => Ok(out.push_str("None")?),
+pub fn run_in_memory(alloc: Global, text: &str, out: &mut Answer) {
+    match setting_of(text) {
+        Some((setting, text)) => run_with(alloc, setting, text, out),
+        None => out.fail(),
     }
 }
 
-const STATUSES: [Status; 8] = [
-    Status::Done,
-    Status::BadWords,
-    Status::NotJson,
-    Status::Refused,
-    Status::ReadFault,
-    Status::WriteFault,
-    Status::TooLong,
-    Status::OutOfMemory,
+fn run_with(alloc: Global, setting: Setting, text: &str, out: &mut Answer) {
+    let (words, input) = words_of(alloc, text, out);
+    run_on(alloc, setting, &words, bytes_of(alloc, input), out);
+}
+
+/// A run on so many spaces, where no call fails and each moves all that it can.
+pub fn run_on_spaces(alloc: Global, count: u32, out: &mut Answer) {
+    let input = vec![in alloc; b' '; count as usize];
+    run_on(alloc, WHOLE, &Words::new(alloc), input, out);
+}
+
+/// The options that words choose, each with a bar behind it.
+pub fn choose(alloc: Global, text: &str, out: &mut Answer) {
+    let (words, _) = words_of(alloc, text, out);
+    match read_options(&words) {
+        Some(found) => {
+            out.show(&found.passes);
+            out.word(&found.max_depth);
+            out.word(&found.sequences);
+            out.word(&found.join_vars);
+            out.word(&found.keep_names.function);
+            out.word(&found.keep_names.class);
+            out.word(&found.pure_coercion);
+            out.word(&found.known_calls);
+        }
+        None => out.text("None"),
+    }
+}
+
+/// The code and the name of a status.
+const STATUSES: [(Status, &str); 8] = [
+    (Status::Done, "Done"),
+    (Status::BadWords, "BadWords"),
+    (Status::NotJson, "NotJson"),
+    (Status::Refused, "Refused"),
+    (Status::ReadFault, "ReadFault"),
+    (Status::WriteFault, "WriteFault"),
+    (Status::TooLong, "TooLong"),
+    (Status::OutOfMemory, "OutOfMemory"),
 ];
 
 /// The code of the status at a place of the table of the README.
-pub fn code(at: &str, out: &mut String) -> Result<(), NoAnswer> {
-    match STATUSES.get(size(at)?) {
-        Some(status) => Ok(write!(out, "{} {status:?}", status.code())?),
-        None => Err(NoAnswer),
+pub fn code(at: u32, out: &mut Answer) {
+    match STATUSES.get(at as usize) {
+        Some((status, name)) => {
+            out.show(&status.code());
+            out.word(name);
+        }
+        None => out.fail(),
     }
 }

@@ -1,21 +1,27 @@
 // Scopes in one another, more than the text of JSON may hold.
 
-ghost use Rattle.std.specs.Prelude.{◌≡◌, ◌+◌, IfOk};
+ghost use Rattle.std.specs.Prelude.{◌≡◌, ◌+◌, ◌≤◌, IfOk};
 ghost use Rattle.mini_writer.proofs.Loads.{name_count};
 
-use crate::cases::number;
-use crate::error::NoAnswer;
+use crate::answer::Answer;
+use crate::depth::script;
 use mini_context::resolve;
-use mini_model::{Name, OutOfMemory, Shape, SymbolId, Text, TextList, VariableDeclarationKind};
+use mini_model::{Name, OutOfMemory, Shape, SymbolId, Text, VariableDeclarationKind};
 use mini_node::{Node, Nodes, expression_statement, identifier, listed, of_one, of_two};
 use std::alloc::Global;
-use std::fmt::Write;
 
 // The names are a0, a1 and so on.
-fn name_at(alloc: Global, index: u32) -> Result<Name, NoAnswer> {
-    let text = format!(in alloc; "a{index}")?;
+fn name_at(alloc: Global, index: u32) -> Result<Name, OutOfMemory> {
+    match format!(in alloc; "a{index}") {
+        Ok(text) => named(alloc, text.as_str()),
+        Err(_) => Err(OutOfMemory),
+    }
+}
+
+fn named(alloc: Global, text: &str) -> Result<Name, OutOfMemory> {
+    let spelling = Text::from_str(alloc, text)?;
     Ok(Name {
-        spelling: Text::from_str(alloc, text.as_str())?,
+        spelling,
         symbol: None,
     })
 }
@@ -41,30 +47,46 @@ fn block_around(alloc: Global, name: Name, inner: Node) -> Result<Node, OutOfMem
     Ok(Node::new(Shape::BlockStatement, of_one(alloc, items)?))
 }
 
+// So many blocks in one another around a statement, each of which declares a name.
+fn nested_blocks(alloc: Global, statement: Node, count: u32) -> Result<Node, OutOfMemory>
+    ensures { IfOk result (λ made. name_count made ≡ name_count statement + count) }
+{
+    if count == 0 {
+        return Ok(statement);
+    }
+    let block = block_around(alloc, name_at(alloc, count - 1)?, statement)?;
+    nested_blocks(alloc, block, count - 1)
+}
+
 // A script of so many blocks in one another, each of which declares a name; the innermost reads that of the outermost.
-fn nested_program(alloc: Global, count: u32) -> Result<Node, NoAnswer>
+fn nested_program(alloc: Global, count: u32) -> Result<Node, OutOfMemory>
     ensures { IfOk result (λ made. name_count made ≡ count + 1) }
 {
-    let outermost = name_at(alloc, count.saturating_sub(1))?;
-    let mut statement = expression_statement(alloc, identifier(alloc, outermost))?;
-    for index in 0..count {
-        statement = block_around(alloc, name_at(alloc, index)?, statement)?;
+    let name = name_at(alloc, 0)?;
+    let statement = expression_statement(alloc, identifier(alloc, name))?;
+    let blocks = nested_blocks(alloc, statement, count)?;
+    script(alloc, blocks)
+}
+
+fn tell_resolved(alloc: Global, mut program: Node, count: u32, out: &mut Answer)
+    requires { name_count program ≤ 100001 }
+{
+    match resolve(alloc, &mut program) {
+        Ok(scopes) => {
+            out.show(&scopes.scope_of(SymbolId(count.saturating_sub(1))).0);
+            out.word(&scopes.reads(SymbolId(0)));
+        }
+        Err(_) => out.fail(),
     }
-    let body = listed(of_one(alloc, statement)?);
-    let shape = Shape::Program(false, TextList::new(alloc));
-    Ok(Node::new(shape, of_one(alloc, body)?))
 }
 
 /// Adds the number of the scope of the innermost name of so many blocks, and how often the outermost name is read.
-pub fn resolve_nested(alloc: Global, text: &str, out: &mut String) -> Result<(), NoAnswer> {
-    let count = number(text)?;
+pub fn resolve_nested(alloc: Global, count: u32, out: &mut Answer) {
     if count > 100_000 {
-        return Err(NoAnswer);
+        return out.fail();
     }
-    let mut program = nested_program(alloc, count)?;
-    let scopes = resolve(alloc, &mut program)?;
-    let innermost = SymbolId(count.saturating_sub(1));
-    let scope = scopes.scope_of(innermost).0;
-    let reads = scopes.reads(SymbolId(0));
-    Ok(write!(out, "{scope} {reads}")?)
+    match nested_program(alloc, count) {
+        Ok(program) => tell_resolved(alloc, program, count, out),
+        Err(_) => out.fail(),
+    }
 }

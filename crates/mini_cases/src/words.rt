@@ -1,0 +1,41 @@
+// Words and numbers of a line.
+
+/// What is asked of a text.
+#[derive(Clone, Copy)]
+pub enum TextCase {
+    Name,
+    Shortened,
+    Safe,
+    Escaped,
+    Cooked,
+}
+
+/// What stands beside the text in a table of words.
+pub fn word_in<A: Copy>(table: &[(&str, A)], text: &str) -> Option<A> {
+    match table {
+        [] => None,
+        [row, rest @ ..] => if text == row.0 {
+            Some(row.1)
+        } else {
+            word_in(rest, text)
+        },
+    }
+}
+
+/// A number, and what stands behind the space behind it.
+pub fn numbered(text: &str) -> Option<(usize, &str)> {
+    let (first, rest) = text.split_once(' ')?;
+    match first.parse::<usize>() {
+        Ok(number) => Some((number, rest)),
+        Err(_) => None,
+    }
+}
+
+/// A small number, and what stands behind the space behind it.
+pub fn small_numbered(text: &str) -> Option<(u32, &str)> {
+    let (number, rest) = numbered(text)?;
+    match u32::try_from(number) {
+        Ok(number) => Some((number, rest)),
+        Err(_) => None,
+    }
+}
