@@ -1,10 +1,11 @@
-// What is answered to a line.
+// What is answered to lines.
 
+use crate::error::NoAnswer;
 use std::alloc::Global;
 use std::fmt::{Display, Write};
 
-/// The answer so far. Once it fails there is none: the line is no case, or what it asks for failed, as for want of memory. The
-/// program then ends with a status alone, so that nothing is kept of why.
+/// The answers so far. They fail where a line is no case, or where what it asks for fails, as for want of memory: nothing of that is
+/// in the text, nothing is kept of why, and the program ends with another status.
 #[derive(Drop)]
 pub struct Answer {
     text: String,
@@ -20,23 +21,28 @@ impl Answer {
         }
     }
 
-    /// There is none.
+    /// What is asked for has no answer.
     pub fn fail(&mut self) {
         self.failed = true;
     }
 
-    /// Adds a text.
-    pub fn text(&mut self, text: &str) {
-        if self.text.push_str(text).is_err() {
+    /// What was done, which may have failed.
+    pub fn done<E: Drop>(&mut self, done: Result<(), E>) {
+        if done.is_err() {
             self.failed = true;
         }
     }
 
+    /// Adds a text.
+    pub fn text(&mut self, text: &str) {
+        let done = self.text.push_str(text);
+        self.done(done);
+    }
+
     /// Adds a value as it is shown.
     pub fn show<T: Display>(&mut self, value: &T) {
-        if write!(self.text, "{value}").is_err() {
-            self.failed = true;
-        }
+        let done = write!(self.text, "{value}");
+        self.done(done);
     }
 
     /// Adds a space, and a value as it is shown.
@@ -45,11 +51,16 @@ impl Answer {
         self.show(value);
     }
 
-    /// All of it, where there is one.
-    pub fn whole(&self) -> Option<&str> {
+    /// All that was added.
+    pub fn as_bytes(&self) -> &[u8] {
+        self.text.as_bytes()
+    }
+
+    /// Whether there is one to each line.
+    pub fn ended(&self) -> Result<(), NoAnswer> {
         if self.failed {
-            return None;
+            return Err(NoAnswer);
         }
-        Some(self.text.as_str())
+        Ok(())
     }
 }

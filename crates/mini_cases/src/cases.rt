@@ -7,7 +7,7 @@ use crate::literals::{answer_text, join, number_text};
 use crate::memory::{choose, code, run_in_memory, run_on_spaces};
 use crate::nested::resolve_nested;
 use crate::programs::{Task, answer_program, echo, write_again};
-use crate::weights::{weigh_expression, weigh_statement};
+use crate::weights::{Weighed, weigh};
 use crate::words::{TextCase, word_in};
 use mini_model::{Position, StmtSeat};
 use mini_tree::seats;
@@ -24,8 +24,8 @@ enum Case {
     Program(Task),
     Again,
     Echo,
-    Expression,
-    Statement,
+    /// The weights of what is read are told.
+    Weight(Weighed),
     Run,
     Options,
     Numeral,
@@ -56,8 +56,8 @@ const CASES: [(&str, Case); 27] = [
     ("answer", Case::Program(Task::Answer)),
     ("again", Case::Again),
     ("echo", Case::Echo),
-    ("expression", Case::Expression),
-    ("statement", Case::Statement),
+    ("expression", Case::Weight(Weighed::Expression)),
+    ("statement", Case::Weight(Weighed::Statement)),
     ("run", Case::Run),
     ("options", Case::Options),
     ("text", Case::Text(TextCase::Name)),
@@ -95,8 +95,7 @@ fn answer_case(alloc: Global, case: Case, rest: &str, out: &mut Answer) {
         Case::Program(task) => answer_program(alloc, task, rest, out),
         Case::Again => write_again(alloc, rest, out),
         Case::Echo => echo(alloc, rest, out),
-        Case::Expression => weigh_expression(alloc, rest, out),
-        Case::Statement => weigh_statement(alloc, rest, out),
+        Case::Weight(weighed) => weigh(alloc, weighed, rest, out),
         Case::Run => run_in_memory(alloc, rest, out),
         Case::Options => choose(alloc, rest, out),
         Case::Numeral => number_text(alloc, rest, out),

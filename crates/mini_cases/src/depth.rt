@@ -2,14 +2,15 @@
 // build with checks, as `rt try` makes one, takes more than that.
 
 ghost use Rattle.std.specs.Prelude.{◌≡◌, IfOk};
-ghost use Rattle.mini_writer.proofs.Loads.{name_count};
+ghost use Rattle.mini_writer.proofs.Loads.{name_count, name_counts};
 
 use crate::answer::Answer;
 use crate::lists::name_node;
+use crate::programs::tell;
 use crate::words::small_numbered;
-use mini_estree::{MinifyError, read_program, write_program};
+use mini_estree::write_program;
 use mini_model::{OutOfMemory, Shape, TextList};
-use mini_node::{Node, expression_statement, listed, negation, of_one};
+use mini_node::{Node, Nodes, expression_statement, listed, negation, of_one};
 use serde_json::Value;
 use std::alloc::Global;
 
@@ -24,19 +25,34 @@ fn negated(alloc: Global, expression: Node, count: u32) -> Result<Node, OutOfMem
     }
 }
 
+/// A node over a list.
+pub fn over_list(alloc: Global, shape: Shape, items: Nodes) -> Result<Node, OutOfMemory>
+    ensures { IfOk result (λ made. name_count made ≡ name_counts items) }
+{
+    match of_one(alloc, listed(items)) {
+        Ok(children) => Ok(Node::new(shape, children)),
+        Err(_) => Err(OutOfMemory),
+    }
+}
+
 /// A script of one statement.
 pub fn script(alloc: Global, statement: Node) -> Result<Node, OutOfMemory>
     ensures { IfOk result (λ made. name_count made ≡ name_count statement) }
 {
-    let body = listed(of_one(alloc, statement)?);
     let shape = Shape::Program(false, TextList::new(alloc));
-    Ok(Node::new(shape, of_one(alloc, body)?))
+    match of_one(alloc, statement) {
+        Ok(items) => over_list(alloc, shape, items),
+        Err(_) => Err(OutOfMemory),
+    }
 }
 
 // The script `!!..a;`, with so many `!`. The name is at depth 3 where there are none.
 fn nested(alloc: Global, count: u32) -> Result<Node, OutOfMemory> {
     let expression = negated(alloc, name_node(alloc)?, count)?;
-    script(alloc, expression_statement(alloc, expression)?)
+    match expression_statement(alloc, expression) {
+        Ok(statement) => script(alloc, statement),
+        Err(_) => Err(OutOfMemory),
+    }
 }
 
 fn nested_value(alloc: Global, count: u32) -> Option<Value> {
@@ -59,21 +75,9 @@ fn first_expression(program: &Value) -> Option<&Value> {
     program.get("body")?.get(0)?.get("expression")
 }
 
-fn refuse(error: &MinifyError, out: &mut Answer) {
-    out.text(error.variant());
-    out.word(&error.place().len());
-}
-
-fn read_value(alloc: Global, value: &Value, max_depth: u32, out: &mut Answer) {
-    match read_program(alloc, value, max_depth) {
-        Ok(_) => out.text("Ok"),
-        Err(error) => refuse(&error, out),
-    }
-}
-
 fn read_nested(alloc: Global, max_depth: u32, count: u32, out: &mut Answer) {
     match nested_value(alloc, count) {
-        Some(value) => read_value(alloc, &value, max_depth, out),
+        Some(value) => tell(alloc, max_depth, &value, out),
         None => out.fail(),
     }
 }

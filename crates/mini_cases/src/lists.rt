@@ -65,13 +65,8 @@ fn tell_given(given: Option<u64>, out: &mut Answer) {
 }
 
 // A step that gives nothing, which fails where it is an error.
-fn tell_done<E>(done: Result<(), E>, out: &mut Answer)
-where
-    E: Drop,
-{
-    if done.is_err() {
-        out.fail();
-    }
+fn tell_done<E: Drop>(done: Result<(), E>, out: &mut Answer) {
+    out.done(done);
     out.text("- ");
 }
 

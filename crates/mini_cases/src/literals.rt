@@ -12,8 +12,15 @@ use std::alloc::Global;
 // The text that JSON says.
 fn text_of(alloc: Global, json: &str) -> Option<Text> {
     match Value::from_str(alloc, json) {
-        Ok(value) => Text::from_str(alloc, value.as_str()?).ok(),
+        Ok(value) => text_in(alloc, &value),
         Err(_) => None,
+    }
+}
+
+fn text_in(alloc: Global, value: &Value) -> Option<Text> {
+    match value.as_str() {
+        Some(text) => Text::from_str(alloc, text).ok(),
+        None => None,
     }
 }
 
@@ -121,9 +128,7 @@ pub fn join(alloc: Global, json: &str, out: &mut Answer) {
 fn join_raw(alloc: Global, raws: &str, out: &mut Answer) {
     let mut parts = TextList::new(alloc);
     for raw in raws.split('|') {
-        if push_part(alloc, &mut parts, raw).is_err() {
-            out.fail();
-        }
+        out.done(push_part(alloc, &mut parts, raw));
     }
     tell_made(alloc, concat_template_literal_raw(alloc, &parts), out)
 }

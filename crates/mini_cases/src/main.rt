@@ -30,6 +30,7 @@ use answer::Answer;
 use cases::answer;
 use echo::{echoed, same_json};
 use error::NoAnswer;
+use std::alloc::Global;
 use std::io::Write;
 use std::process::ExitCode;
 use std::{env, io};
@@ -73,7 +74,7 @@ fn start(rt: &HostRuntime) -> Result<(), NoAnswer> {
     let task = asked(rt)?;
     let text = io::read_to_string(rt.alloc(), rt.stdin())?;
     match task {
-        Task::Cases => answer_lines(rt, text.as_str()),
+        Task::Cases => print_answers(rt, &answers(rt.alloc(), text.as_str())),
         Task::Echo => print(rt, echoed(rt.alloc(), text)),
         Task::Json => print(rt, same_json(rt.alloc(), text)),
     }
@@ -83,18 +84,17 @@ fn print(rt: &HostRuntime, text: Result<String, NoAnswer>) -> Result<(), NoAnswe
     Ok(rt.stdout().write_all(text?.as_bytes())?)
 }
 
-fn answer_line(rt: &HostRuntime, line: &str) -> Result<(), NoAnswer> {
-    let mut found = Answer::new(rt.alloc());
-    answer(rt.alloc(), line, &mut found);
-    match found.whole() {
-        Some(text) => Ok(println!(rt; "{text}")?),
-        None => Err(NoAnswer),
-    }
+fn print_answers(rt: &HostRuntime, found: &Answer) -> Result<(), NoAnswer> {
+    rt.stdout().write_all(found.as_bytes())?;
+    found.ended()
 }
 
-fn answer_lines(rt: &HostRuntime, text: &str) -> Result<(), NoAnswer> {
+// The answers to lines, a line each.
+fn answers(alloc: Global, text: &str) -> Answer {
+    let mut out = Answer::new(alloc);
     for line in text.lines() {
-        answer_line(rt, line)?;
+        answer(alloc, line, &mut out);
+        out.text("\n");
     }
-    Ok(())
+    out
 }

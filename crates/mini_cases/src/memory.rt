@@ -2,10 +2,9 @@
 
 use crate::answer::Answer;
 use crate::words::numbered;
-use mini_model::OutOfMemory;
 use mini_peephole::{Status, run};
 use mini_run::{MemSink, MemSource, Words, read_options};
-use std::alloc::{AllocError, Global};
+use std::alloc::Global;
 
 /// What a run is over: how many bytes a call moves, for how many bytes the sink has room, and which calls fail.
 #[derive(Clone, Copy)]
@@ -30,33 +29,31 @@ const WHOLE: Setting<'static> = Setting {
 };
 
 // The numbers between commas. What is no number, as a hyphen, stands for none.
-fn numbers(alloc: Global, text: &str) -> Result<Vec<u32>, AllocError> {
+fn numbers(alloc: Global, text: &str, out: &mut Answer) -> Vec<u32> {
     let mut found = Vec::new(alloc);
     for part in text.split(',') {
         if let Ok(number) = part.parse::<u32>() {
-            found.push(number)?;
+            out.done(found.push(number));
         }
     }
-    Ok(found)
+    found
 }
 
 // The bytes whose numbers the characters are, so that they need be no UTF-8.
-fn bytes_of(alloc: Global, text: &str) -> Result<Vec<u8>, AllocError> {
+fn bytes_of(alloc: Global, text: &str, out: &mut Answer) -> Vec<u8> {
     let mut bytes = Vec::new(alloc);
     for ch in text.chars() {
         if let Ok(byte) = u8::try_from(u32::from(ch)) {
-            bytes.push(byte)?;
+            out.done(bytes.push(byte));
         }
     }
-    Ok(bytes)
+    bytes
 }
 
 // Puts the words between bars each behind the others.
 fn push_words(words: &mut Words, text: &str, out: &mut Answer) {
     for word in text.split('|') {
-        if words.push(word).is_err() {
-            out.fail();
-        }
+        out.done(words.push(word));
     }
 }
 
@@ -69,22 +66,6 @@ fn words_of<'a>(alloc: Global, text: &'a str, out: &mut Answer) -> (Words, &'a s
             (words, rest)
         }
         None => (words, text),
-    }
-}
-
-// A source of these bytes, whose calls of these numbers fail.
-fn source_of(alloc: Global, input: Vec<u8>, setting: Setting) -> Result<MemSource, OutOfMemory> {
-    match numbers(alloc, setting.reads) {
-        Ok(fails) => Ok(MemSource::new(input, setting.limit, fails)),
-        Err(_) => Err(OutOfMemory),
-    }
-}
-
-// A sink with so much room, whose calls of these numbers fail.
-fn sink_of(alloc: Global, room: usize, limit: usize, calls: &str) -> Result<MemSink, OutOfMemory> {
-    match numbers(alloc, calls) {
-        Ok(fails) => MemSink::new(alloc, room, limit, fails),
-        Err(_) => Err(OutOfMemory),
     }
 }
 
@@ -137,32 +118,19 @@ fn run_to(
     sink: MemSink,
     out: &mut Answer,
 ) {
-    match sink_of(alloc, ROOM, setting.limit, setting.notes) {
+    let fails = numbers(alloc, setting.notes, out);
+    match MemSink::new(alloc, ROOM, setting.limit, fails) {
         Ok(notes) => run_over(alloc, words, source, sink, notes, out),
         Err(_) => out.fail(),
     }
 }
 
-fn run_from(alloc: Global, setting: Setting, words: &Words, source: MemSource, out: &mut Answer) {
-    match sink_of(alloc, setting.room, setting.limit, setting.writes) {
-        Ok(sink) => run_to(alloc, setting, words, source, sink, out),
-        Err(_) => out.fail(),
-    }
-}
-
 // A run over memory on words and an input.
-fn run_on(
-    alloc: Global,
-    setting: Setting,
-    words: &Words,
-    input: Result<Vec<u8>, AllocError>,
-    out: &mut Answer,
-) {
-    match input {
-        Ok(input) => match source_of(alloc, input, setting) {
-            Ok(source) => run_from(alloc, setting, words, source, out),
-            Err(_) => out.fail(),
-        },
+fn run_on(alloc: Global, setting: Setting, words: &Words, input: Vec<u8>, out: &mut Answer) {
+    let source = MemSource::new(input, setting.limit, numbers(alloc, setting.reads, out));
+    let fails = numbers(alloc, setting.writes, out);
+    match MemSink::new(alloc, setting.room, setting.limit, fails) {
+        Ok(sink) => run_to(alloc, setting, words, source, sink, out),
         Err(_) => out.fail(),
     }
 }
@@ -195,13 +163,16 @@ pub fn run_in_memory(alloc: Global, text: &str, out: &mut Answer) {
 
 fn run_with(alloc: Global, setting: Setting, text: &str, out: &mut Answer) {
     let (words, input) = words_of(alloc, text, out);
-    run_on(alloc, setting, &words, bytes_of(alloc, input), out);
+    let input = bytes_of(alloc, input, out);
+    run_on(alloc, setting, &words, input, out);
 }
 
 /// A run on so many spaces, where no call fails and each moves all that it can.
 pub fn run_on_spaces(alloc: Global, count: u32, out: &mut Answer) {
-    let input = vec![in alloc; b' '; count as usize];
-    run_on(alloc, WHOLE, &Words::new(alloc), input, out);
+    match vec![in alloc; b' '; count as usize] {
+        Ok(input) => run_on(alloc, WHOLE, &Words::new(alloc), input, out),
+        Err(_) => out.fail(),
+    }
 }
 
 /// The options that words choose, each with a bar behind it.

@@ -4,10 +4,10 @@ ghost use Rattle.std.specs.Prelude.{◌≡◌, ◌+◌, ◌≤◌, IfOk};
 ghost use Rattle.mini_writer.proofs.Loads.{name_count};
 
 use crate::answer::Answer;
-use crate::depth::script;
-use mini_context::resolve;
+use crate::depth::{over_list, script};
+use mini_context::{Scopes, resolve};
 use mini_model::{Name, OutOfMemory, Shape, SymbolId, Text, VariableDeclarationKind};
-use mini_node::{Node, Nodes, expression_statement, identifier, listed, of_one, of_two};
+use mini_node::{Node, Nodes, expression_statement, identifier, of_one, of_two};
 use std::alloc::Global;
 
 // The names are a0, a1 and so on.
@@ -31,20 +31,28 @@ fn declaration(alloc: Global, name: Name) -> Result<Node, OutOfMemory>
     ensures { IfOk result (λ made. name_count made ≡ 1) }
 {
     let id = Node::with(Shape::BindingIdentifier, Some(name), 0, Nodes::new(alloc));
-    let absent = Node::leaf(alloc, Shape::Absent);
-    let declarator = Node::new(Shape::VariableDeclarator, of_two(alloc, id, absent)?);
-    let list = listed(of_one(alloc, declarator)?);
+    match of_two(alloc, id, Node::leaf(alloc, Shape::Absent)) {
+        Ok(parts) => declare(alloc, Node::new(Shape::VariableDeclarator, parts)),
+        Err(_) => Err(OutOfMemory),
+    }
+}
+
+fn declare(alloc: Global, declarator: Node) -> Result<Node, OutOfMemory>
+    ensures { IfOk result (λ made. name_count made ≡ name_count declarator) }
+{
     let shape = Shape::VariableDeclaration(VariableDeclarationKind::Let);
-    Ok(Node::new(shape, of_one(alloc, list)?))
+    match of_one(alloc, declarator) {
+        Ok(items) => over_list(alloc, shape, items),
+        Err(_) => Err(OutOfMemory),
+    }
 }
 
 // The block `{ let NAME; INNER }`.
 fn block_around(alloc: Global, name: Name, inner: Node) -> Result<Node, OutOfMemory>
     ensures { IfOk result (λ made. name_count made ≡ name_count inner + 1) }
 {
-    let declared = declaration(alloc, name)?;
-    let items = listed(of_two(alloc, declared, inner)?);
-    Ok(Node::new(Shape::BlockStatement, of_one(alloc, items)?))
+    let items = of_two(alloc, declaration(alloc, name)?, inner)?;
+    over_list(alloc, Shape::BlockStatement, items)
 }
 
 // So many blocks in one another around a statement, each of which declares a name.
@@ -72,12 +80,14 @@ fn tell_resolved(alloc: Global, mut program: Node, count: u32, out: &mut Answer)
     requires { name_count program ≤ 100001 }
 {
     match resolve(alloc, &mut program) {
-        Ok(scopes) => {
-            out.show(&scopes.scope_of(SymbolId(count.saturating_sub(1))).0);
-            out.word(&scopes.reads(SymbolId(0)));
-        }
+        Ok(scopes) => tell_scopes(&scopes, count, out),
         Err(_) => out.fail(),
     }
+}
+
+fn tell_scopes(scopes: &Scopes, count: u32, out: &mut Answer) {
+    out.show(&scopes.scope_of(SymbolId(count.saturating_sub(1))).0);
+    out.word(&scopes.reads(SymbolId(0)));
 }
 
 /// Adds the number of the scope of the innermost name of so many blocks, and how often the outermost name is read.

@@ -27,6 +27,9 @@ pub enum Task {
 // How deep the nodes of a value may nest where a case says nothing of it.
 const MAX_DEPTH: u32 = 30;
 
+// How long a pointer may be that is told.
+const MAX_POINTER: usize = 1_000;
+
 /// What is asked of the value of a text, before which a number may stand.
 pub fn answer_program(alloc: Global, task: Task, text: &str, out: &mut Answer) {
     let (number, text) = match task {
@@ -49,36 +52,45 @@ fn answer_value(alloc: Global, task: Task, number: u32, value: &Value, out: &mut
     }
 }
 
+// An error, and the pointer of the node that has it, or how long that is where it is too long to be told.
 fn refuse(error: &MinifyError, out: &mut Answer) {
+    let place = error.place();
     out.text(error.variant());
-    out.text(" ");
-    out.text(error.place());
+    if place.len() > MAX_POINTER {
+        out.word(&place.len());
+    } else {
+        out.word(&place);
+    }
 }
 
-fn tell(alloc: Global, max_depth: u32, value: &Value, out: &mut Answer) {
+/// The program of a value whose nodes nest so deep at most. Why there is none is added to the answer.
+pub fn read(alloc: Global, value: &Value, max_depth: u32, out: &mut Answer) -> Option<Numbered> {
     match read_program(alloc, value, max_depth) {
-        Ok(_) => out.text("Ok"),
-        Err(error) => refuse(&error, out),
+        Ok(found) => Some(found),
+        Err(error) => {
+            refuse(&error, out);
+            None
+        }
+    }
+}
+
+/// Whether a value is read within a depth: `Ok`, or the error and the pointer of the node that has the defect.
+pub fn tell(alloc: Global, max_depth: u32, value: &Value, out: &mut Answer) {
+    if read(alloc, value, max_depth, out).is_some() {
+        out.text("Ok");
     }
 }
 
 /// The program that a text says.
-pub fn program(alloc: Global, text: &str) -> Option<Numbered> {
+pub fn program(alloc: Global, text: &str, out: &mut Answer) -> Option<Numbered> {
     match Value::from_str(alloc, text) {
-        Ok(value) => program_of(alloc, &value),
-        Err(_) => None,
-    }
-}
-
-fn program_of(alloc: Global, value: &Value) -> Option<Numbered> {
-    match read_program(alloc, value, MAX_DEPTH) {
-        Ok(found) => Some(found),
+        Ok(value) => read(alloc, &value, MAX_DEPTH, out),
         Err(_) => None,
     }
 }
 
 fn count_numbers(alloc: Global, value: &Value, out: &mut Answer) {
-    match program_of(alloc, value) {
+    match read(alloc, value, MAX_DEPTH, out) {
         Some(found) => out.show(&found.numbers),
         None => out.fail(),
     }
@@ -116,15 +128,18 @@ fn tell_minified(found: &Minified, with_numbers: bool, out: &mut Answer) {
     out.word(&found.program);
 }
 
-fn minify(alloc: Global, passes: u32, value: &Value, with_numbers: bool, out: &mut Answer) {
-    let options = CompressOptions {
+fn options_of(passes: u32) -> CompressOptions {
+    CompressOptions {
         passes,
         ..CompressOptions::new()
-    };
+    }
+}
+
+fn minify(alloc: Global, passes: u32, value: &Value, with_numbers: bool, out: &mut Answer) {
     if !fits(value) {
         return out.fail();
     }
-    match minify_estree(alloc, value, &options) {
+    match minify_estree(alloc, value, &options_of(passes)) {
         Ok(found) => tell_minified(&found, with_numbers, out),
         Err(error) => refuse(&error, out),
     }
@@ -155,15 +170,15 @@ pub fn write_again(alloc: Global, text: &str, out: &mut Answer) {
 
 fn compare(alloc: Global, first: &str, out: &mut Answer) {
     match echoed_text(alloc, first) {
-        Some(second) => out.text(same(first, second.as_str())),
+        Some(second) => tell_same(first == second.as_str(), out),
         None => out.fail(),
     }
 }
 
-fn same(first: &str, second: &str) -> &'static str {
-    if first == second {
-        "the same"
+fn tell_same(same: bool, out: &mut Answer) {
+    if same {
+        out.text("the same");
     } else {
-        "another"
+        out.text("another");
     }
 }

@@ -7,54 +7,64 @@ use mini_node::Node;
 use mini_tree::{expr_weight, seats, stmt_weight};
 use std::alloc::Global;
 
-// The first statement of a program.
-fn first_statement(program: &Node) -> Option<&Node> {
-    program.parts().first()?.parts().first()
+/// What is weighed.
+#[derive(Clone, Copy)]
+pub enum Weighed {
+    /// An expression, as the test of an `if`.
+    Expression,
+    /// A statement of a module, in a list, as a body and as a consequent.
+    Statement,
 }
 
-// The test of an `if` that is the first statement of a program.
-fn first_test(program: &Node) -> Option<&Node> {
-    first_statement(program)?.parts().first()
-}
+// What stands before it in a program, and behind it.
+const AS_TEST: (&str, &str) = (
+    r#"{"type":"Program","sourceType":"script","body":[{"type":"IfStatement","test":"#,
+    r#","consequent":{"type":"EmptyStatement"}}]}"#,
+);
 
-/// The weight of an expression as the test of an `if`.
-pub fn weigh_expression(alloc: Global, expression: &str, out: &mut Answer) {
-    let text = format!(in alloc;
-        r#"{{"type":"Program","sourceType":"script","body":[{{"type":"IfStatement","test":{expression},"consequent":{{"type":"EmptyStatement"}}}}]}}"#
-    );
-    match text {
-        Ok(text) => weigh_test(alloc, text.as_str(), out),
+const IN_MODULE: (&str, &str) = (r#"{"type":"Program","sourceType":"module","body":["#, "]}");
+
+/// The weights of what a text says.
+pub fn weigh(alloc: Global, weighed: Weighed, text: &str, out: &mut Answer) {
+    let (before, behind) = match weighed {
+        Weighed::Expression => AS_TEST,
+        Weighed::Statement => IN_MODULE,
+    };
+    match format!(in alloc; "{before}{text}{behind}") {
+        Ok(text) => weigh_program(alloc, weighed, text.as_str(), out),
         Err(_) => out.fail(),
     }
 }
 
-fn weigh_test(alloc: Global, text: &str, out: &mut Answer) {
-    match program(alloc, text) {
-        Some(found) => match first_test(&found.root) {
-            Some(test) => out.show(&expr_weight(test, seats::if_test())),
-            None => out.fail(),
+fn weigh_program(alloc: Global, weighed: Weighed, text: &str, out: &mut Answer) {
+    match program(alloc, text, out) {
+        Some(found) => weigh_first(weighed, &found.root, out),
+        None => out.fail(),
+    }
+}
+
+// The first statement of a program, or its test.
+fn weigh_first(weighed: Weighed, program: &Node, out: &mut Answer) {
+    match first(program, 2) {
+        Some(statement) => match weighed {
+            Weighed::Expression => weigh_test(statement, out),
+            Weighed::Statement => tell_weights(statement, out),
         },
         None => out.fail(),
     }
 }
 
-/// The weights of a statement of a module in a list, as a body and as a consequent.
-pub fn weigh_statement(alloc: Global, statement: &str, out: &mut Answer) {
-    let text = format!(in alloc;
-        r#"{{"type":"Program","sourceType":"module","body":[{statement}]}}"#
-    );
-    match text {
-        Ok(text) => weigh_first(alloc, text.as_str(), out),
-        Err(_) => out.fail(),
+// The first child of the first child, and so on, so many steps down.
+fn first(node: &Node, steps: u32) -> Option<&Node> {
+    if steps == 0 {
+        return Some(node);
     }
+    first(node.parts().first()?, steps - 1)
 }
 
-fn weigh_first(alloc: Global, text: &str, out: &mut Answer) {
-    match program(alloc, text) {
-        Some(found) => match first_statement(&found.root) {
-            Some(statement) => tell_weights(statement, out),
-            None => out.fail(),
-        },
+fn weigh_test(statement: &Node, out: &mut Answer) {
+    match first(statement, 1) {
+        Some(test) => out.show(&expr_weight(test, seats::if_test())),
         None => out.fail(),
     }
 }
