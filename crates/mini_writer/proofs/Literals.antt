@@ -108,10 +108,13 @@ literal_plan strict a_local_name d typed read = by_literal d (form_read d typed 
 
 -- ---- a number with a minus before it
 
+none_some : (z : ℤ) → None ≡ Some z → ⊥
+none_some z e = cc e
+
 negative_by : (d : Data) (o : Option Shape) (z : ℤ) → literal d ≡ o → is_unread_literal d ≡ false → negative_of o ≡ Some z → is_safe z ≡ true
 negative_by d None z is read e = absurd (cc e)
 negative_by d (Some (shape.NumericLiteral (pos (suc n)))) z is read e = subst (λ x. is_safe x ≡ true) (some_same (negsuc n) z e) (literal_sound d (shape.NumericLiteral (pos (suc n))) is read)
-negative_by d (Some h) z is read e = absurd (cc e)
+negative_by d (Some h) z is read e = absurd (none_some z e)
 
 minus_by : (strict : Bool) (d : Data) (b : Bool) (z : ℤ) → has_type (codes "Literal") d ≡ b → is_unread strict (at shaped.an_expression) d ≡ false → (if b then negative_of (literal d) else None) ≡ Some z → is_safe z ≡ true
 minus_by strict d true z typed read e = negative_by d (literal d) z refl (literal_read strict shaped.an_expression d typed read) e

@@ -1,6 +1,6 @@
 -- The table of the nodes that are written as their plain fields, and a field for each child. The others have texts, or
 -- directives before what they hold.
-use Rattle.std.specs.Prelude.{ℕ, List, [], ◌∷◌, codes, true, false, Bool, Option, Some, None, option_map}
+use Rattle.std.specs.Prelude.{ℕ, List, [], ◌∷◌, codes, true, false, Bool, Option, Some, None, option_map, if◌then◌else◌}
 use Rattle.serde_json.specs.Data.{Data, null, boolean, string, array, object, Items, no_items, item, Members, no_members, member, put}
 use Rattle.mini_model.specs.declared.shape.Shape.{Shape}
 use Rattle.mini_model.specs.declared.shape.Shape.TheVariants as shape
@@ -52,75 +52,100 @@ property_fields computed kind is_method shorthand = (key.Computed, boolean compu
 
 -- ---- the table
 
--- the type, where a shape has a row
-abbrev pub row_kind : Shape → Option (List ℕ)
-row_kind shape.ExpressionStatement = Some (codes "ExpressionStatement")
-row_kind shape.BlockStatement = Some (codes "BlockStatement")
-row_kind shape.LabeledStatement = Some (codes "LabeledStatement")
-row_kind shape.BreakStatement = Some (codes "BreakStatement")
-row_kind shape.ContinueStatement = Some (codes "ContinueStatement")
-row_kind shape.ReturnStatement = Some (codes "ReturnStatement")
-row_kind shape.ThrowStatement = Some (codes "ThrowStatement")
-row_kind shape.IfStatement = Some (codes "IfStatement")
-row_kind shape.SwitchStatement = Some (codes "SwitchStatement")
-row_kind shape.SwitchCase = Some (codes "SwitchCase")
-row_kind shape.TryStatement = Some (codes "TryStatement")
-row_kind shape.CatchClause = Some (codes "CatchClause")
-row_kind shape.WhileStatement = Some (codes "WhileStatement")
-row_kind shape.DoWhileStatement = Some (codes "DoWhileStatement")
-row_kind shape.ForStatement = Some (codes "ForStatement")
-row_kind shape.ForInStatement = Some (codes "ForInStatement")
-row_kind shape.ForOfStatement = Some (codes "ForOfStatement")
-row_kind (shape.VariableDeclaration kind) = Some (codes "VariableDeclaration")
-row_kind shape.VariableDeclarator = Some (codes "VariableDeclarator")
-row_kind shape.ClassBody = Some (codes "ClassBody")
-row_kind (shape.MethodDefinition kind computed is_static) = Some (codes "MethodDefinition")
-row_kind (shape.PropertyDefinition computed is_static) = Some (codes "PropertyDefinition")
-row_kind shape.StaticBlock = Some (codes "StaticBlock")
-row_kind shape.ImportDeclaration = Some (codes "ImportDeclaration")
-row_kind shape.ImportSpecifier = Some (codes "ImportSpecifier")
-row_kind shape.ImportDefaultSpecifier = Some (codes "ImportDefaultSpecifier")
-row_kind shape.ImportNamespaceSpecifier = Some (codes "ImportNamespaceSpecifier")
-row_kind shape.ExportNamedDeclaration = Some (codes "ExportNamedDeclaration")
-row_kind shape.ExportSpecifier = Some (codes "ExportSpecifier")
-row_kind shape.ExportDefaultDeclaration = Some (codes "ExportDefaultDeclaration")
-row_kind shape.ExportAllDeclaration = Some (codes "ExportAllDeclaration")
-row_kind shape.ArrayExpression = Some (codes "ArrayExpression")
-row_kind shape.ObjectExpression = Some (codes "ObjectExpression")
-row_kind (shape.ObjectProperty kind is_method shorthand computed) = Some (codes "Property")
-row_kind shape.SpreadElement = Some (codes "SpreadElement")
-row_kind (shape.UnaryExpression operator) = Some (codes "UnaryExpression")
-row_kind (shape.UpdateExpression operator prefix) = Some (codes "UpdateExpression")
-row_kind (shape.BinaryExpression operator) = Some (codes "BinaryExpression")
-row_kind shape.PrivateInExpression = Some (codes "BinaryExpression")
-row_kind (shape.LogicalExpression operator) = Some (codes "LogicalExpression")
-row_kind (shape.AssignmentExpression operator) = Some (codes "AssignmentExpression")
-row_kind shape.ConditionalExpression = Some (codes "ConditionalExpression")
-row_kind shape.SequenceExpression = Some (codes "SequenceExpression")
-row_kind (shape.CallExpression optional) = Some (codes "CallExpression")
-row_kind shape.SuperCallExpression = Some (codes "CallExpression")
-row_kind shape.NewExpression = Some (codes "NewExpression")
-row_kind (shape.StaticMemberExpression optional) = Some (codes "MemberExpression")
-row_kind (shape.ComputedMemberExpression optional) = Some (codes "MemberExpression")
-row_kind (shape.PrivateFieldExpression optional) = Some (codes "MemberExpression")
-row_kind shape.SuperStaticMemberExpression = Some (codes "MemberExpression")
-row_kind shape.SuperComputedMemberExpression = Some (codes "MemberExpression")
-row_kind shape.ChainExpression = Some (codes "ChainExpression")
-row_kind (shape.YieldExpression delegate) = Some (codes "YieldExpression")
-row_kind shape.TemplateLiteral = Some (codes "TemplateLiteral")
-row_kind shape.TaggedTemplateExpression = Some (codes "TaggedTemplateExpression")
-row_kind (shape.MetaProperty kind) = Some (codes "MetaProperty")
-row_kind shape.ImportExpression = Some (codes "ImportExpression")
-row_kind shape.ObjectPattern = Some (codes "ObjectPattern")
-row_kind shape.ArrayPattern = Some (codes "ArrayPattern")
-row_kind (shape.BindingProperty shorthand computed) = Some (codes "Property")
-row_kind shape.RestElement = Some (codes "RestElement")
-row_kind shape.AssignmentPattern = Some (codes "AssignmentPattern")
-row_kind shape.ObjectAssignmentTarget = Some (codes "ObjectPattern")
-row_kind shape.ArrayAssignmentTarget = Some (codes "ArrayPattern")
-row_kind shape.AssignmentTargetPropertyIdentifier = Some (codes "Property")
-row_kind (shape.AssignmentTargetPropertyProperty computed) = Some (codes "Property")
-row_kind h = None
+abbrev pub has_row : Shape → Bool
+has_row shape.Absent = false
+has_row shape.Listed = false
+has_row shape.InnerExpression = false
+has_row shape.FunctionBody = false
+has_row shape.EmptyStatement = false
+has_row shape.DebuggerStatement = false
+has_row shape.ThisExpression = false
+has_row shape.Super = false
+has_row shape.Identifier = false
+has_row shape.BindingIdentifier = false
+has_row (shape.IdentifierName s) = false
+has_row (shape.PrivateIdentifier s) = false
+has_row (shape.NumericLiteral n) = false
+has_row (shape.StringLiteral s) = false
+has_row (shape.BooleanLiteral b) = false
+has_row shape.NullLiteral = false
+has_row (shape.RegExpLiteral pattern flags) = false
+has_row (shape.BigIntLiteral n) = false
+has_row (shape.TemplateElement tail raw c) = false
+has_row (shape.Program is_module directives) = false
+has_row (shape.Function declaration generator directives) = false
+has_row (shape.ArrowFunctionExpression directives) = false
+has_row (shape.Class declaration) = false
+has_row h = true
+
+abbrev pub row_kind : Shape → List ℕ
+row_kind shape.ExpressionStatement = codes "ExpressionStatement"
+row_kind shape.BlockStatement = codes "BlockStatement"
+row_kind shape.LabeledStatement = codes "LabeledStatement"
+row_kind shape.BreakStatement = codes "BreakStatement"
+row_kind shape.ContinueStatement = codes "ContinueStatement"
+row_kind shape.ReturnStatement = codes "ReturnStatement"
+row_kind shape.ThrowStatement = codes "ThrowStatement"
+row_kind shape.IfStatement = codes "IfStatement"
+row_kind shape.SwitchStatement = codes "SwitchStatement"
+row_kind shape.SwitchCase = codes "SwitchCase"
+row_kind shape.TryStatement = codes "TryStatement"
+row_kind shape.CatchClause = codes "CatchClause"
+row_kind shape.WhileStatement = codes "WhileStatement"
+row_kind shape.DoWhileStatement = codes "DoWhileStatement"
+row_kind shape.ForStatement = codes "ForStatement"
+row_kind shape.ForInStatement = codes "ForInStatement"
+row_kind shape.ForOfStatement = codes "ForOfStatement"
+row_kind (shape.VariableDeclaration kind) = codes "VariableDeclaration"
+row_kind shape.VariableDeclarator = codes "VariableDeclarator"
+row_kind shape.ClassBody = codes "ClassBody"
+row_kind (shape.MethodDefinition kind computed is_static) = codes "MethodDefinition"
+row_kind (shape.PropertyDefinition computed is_static) = codes "PropertyDefinition"
+row_kind shape.StaticBlock = codes "StaticBlock"
+row_kind shape.ImportDeclaration = codes "ImportDeclaration"
+row_kind shape.ImportSpecifier = codes "ImportSpecifier"
+row_kind shape.ImportDefaultSpecifier = codes "ImportDefaultSpecifier"
+row_kind shape.ImportNamespaceSpecifier = codes "ImportNamespaceSpecifier"
+row_kind shape.ExportNamedDeclaration = codes "ExportNamedDeclaration"
+row_kind shape.ExportSpecifier = codes "ExportSpecifier"
+row_kind shape.ExportDefaultDeclaration = codes "ExportDefaultDeclaration"
+row_kind shape.ExportAllDeclaration = codes "ExportAllDeclaration"
+row_kind shape.ArrayExpression = codes "ArrayExpression"
+row_kind shape.ObjectExpression = codes "ObjectExpression"
+row_kind (shape.ObjectProperty kind is_method shorthand computed) = codes "Property"
+row_kind shape.SpreadElement = codes "SpreadElement"
+row_kind (shape.UnaryExpression operator) = codes "UnaryExpression"
+row_kind (shape.UpdateExpression operator prefix) = codes "UpdateExpression"
+row_kind (shape.BinaryExpression operator) = codes "BinaryExpression"
+row_kind shape.PrivateInExpression = codes "BinaryExpression"
+row_kind (shape.LogicalExpression operator) = codes "LogicalExpression"
+row_kind (shape.AssignmentExpression operator) = codes "AssignmentExpression"
+row_kind shape.ConditionalExpression = codes "ConditionalExpression"
+row_kind shape.SequenceExpression = codes "SequenceExpression"
+row_kind (shape.CallExpression optional) = codes "CallExpression"
+row_kind shape.SuperCallExpression = codes "CallExpression"
+row_kind shape.NewExpression = codes "NewExpression"
+row_kind (shape.StaticMemberExpression optional) = codes "MemberExpression"
+row_kind (shape.ComputedMemberExpression optional) = codes "MemberExpression"
+row_kind (shape.PrivateFieldExpression optional) = codes "MemberExpression"
+row_kind shape.SuperStaticMemberExpression = codes "MemberExpression"
+row_kind shape.SuperComputedMemberExpression = codes "MemberExpression"
+row_kind shape.ChainExpression = codes "ChainExpression"
+row_kind (shape.YieldExpression delegate) = codes "YieldExpression"
+row_kind shape.TemplateLiteral = codes "TemplateLiteral"
+row_kind shape.TaggedTemplateExpression = codes "TaggedTemplateExpression"
+row_kind (shape.MetaProperty kind) = codes "MetaProperty"
+row_kind shape.ImportExpression = codes "ImportExpression"
+row_kind shape.ObjectPattern = codes "ObjectPattern"
+row_kind shape.ArrayPattern = codes "ArrayPattern"
+row_kind (shape.BindingProperty shorthand computed) = codes "Property"
+row_kind shape.RestElement = codes "RestElement"
+row_kind shape.AssignmentPattern = codes "AssignmentPattern"
+row_kind shape.ObjectAssignmentTarget = codes "ObjectPattern"
+row_kind shape.ArrayAssignmentTarget = codes "ArrayPattern"
+row_kind shape.AssignmentTargetPropertyIdentifier = codes "Property"
+row_kind (shape.AssignmentTargetPropertyProperty computed) = codes "Property"
+row_kind h = []
 
 abbrev pub row_plain : Shape → List Field
 row_plain shape.ForOfStatement = (key.Await, boolean false) ∷ []
@@ -219,10 +244,6 @@ row_keys shape.AssignmentTargetPropertyIdentifier = key.Key ∷ key.Value ∷ []
 row_keys (shape.AssignmentTargetPropertyProperty computed) = key.Key ∷ key.Value ∷ []
 row_keys h = []
 
-abbrev pub row_by : Option (List ℕ) → List Field → List key_type.Key → Option Row
-row_by None plain keys = None
-row_by (Some kind) plain keys = Some (record { kind = kind; plain = plain; keys = keys })
-
 -- the row of a shape
 abbrev pub row : Shape → Option Row
-row h = row_by (row_kind h) (row_plain h) (row_keys h)
+row h = if has_row h then Some (record { kind = row_kind h; plain = row_plain h; keys = row_keys h }) else None
