@@ -3,7 +3,7 @@
 ghost use Rattle.std.specs.Prelude.{◌≡◌, IfOk, IfSome, option_map};
 ghost use Rattle.serde_json.specs.View.{view, items_view};
 ghost use Rattle.mini_accept.specs.WellShaped.{has_use_strict, is_numbered, is_strict_in};
-ghost use Rattle.mini_accept.specs.Accept.{takes_number};
+ghost use Rattle.mini_accept.specs.Accept.{is_root, takes_number};
 ghost use Rattle.mini_accept.specs.Functions.{directives_below};
 ghost use Rattle.mini_accept.specs.Statements.{directives_of};
 ghost use Rattle.mini_fields.specs.Literals.{shape_of, negative_literal};
@@ -137,19 +137,34 @@ fn is_numbered(class: Class, shape: &Shape) -> bool
     }
 }
 
-/// Whether a node in the place has a number.
-pub fn takes_number(place: Place, head: &Head<'_>) -> bool
-    ensures { result ≡ takes_number (place_of place) (shape_of_head head.now) }
+// Whether the class is the root's.
+fn is_root(class: Class) -> bool
+    ensures { result ≡ is_root (class_of class) }
 {
-    let class = match place {
-        Place::At(Class::Program) => return true,
-        Place::At(class) => class,
-        _ => return false,
-    };
+    match class {
+        Class::Program => true,
+        _ => false,
+    }
+}
+
+// Whether a node with the head has a number where the class is asked for.
+fn has_number(class: Class, head: &Head<'_>) -> bool
+    ensures { result ≡ is_numbered (class_of class) (shape_of_head head.now) }
+{
     match head {
         Head::Plain(shape) => is_numbered(class, shape),
         Head::Program(_, _) | Head::Function(_, _, _) | Head::Arrow(_) => true,
         Head::Literal(LiteralValue::RegExp { .. }) => true,
+        _ => false,
+    }
+}
+
+/// Whether a node in the place has a number.
+pub fn takes_number(place: Place, head: &Head<'_>) -> bool
+    ensures { result ≡ takes_number (place_of place) (shape_of_head head.now) }
+{
+    match place {
+        Place::At(class) => is_root(class) || has_number(class, head),
         _ => false,
     }
 }

@@ -1,10 +1,12 @@
 // What is read of a node's children, part by part.
 
-ghost use Rattle.std.specs.Prelude.{◌≡◌, option_map, if◌then◌else◌, codes};
+ghost use Rattle.std.specs.Prelude.{◌≡◌, option_map, is_some, if◌then◌else◌, codes};
+ghost use Rattle.serde_json.specs.Find.{as_null};
 ghost use Rattle.serde_json.specs.View.{view, items_view};
 ghost use Rattle.mini_accept.specs.WellShaped.{a_statement, a_target_element, a_target_rest};
-ghost use Rattle.mini_accept.specs.Places.{at, a_directive, down};
-ghost use Rattle.mini_accept.specs.Plans.{tree_at, checked, each, or_rest, target_part};
+ghost use Rattle.mini_accept.specs.Fields.{is_given};
+ghost use Rattle.mini_accept.specs.Places.{at, field, a_directive, down};
+ghost use Rattle.mini_accept.specs.Plans.{tree_at, inner_at, hole, checked, each, or_rest, target_part};
 ghost use Rattle.mini_accept.specs.Statements.{body};
 ghost use Rattle.mini_fields.specs.Views.{class_of, depth_of, place_of};
 ghost use Rattle.mini_plan.specs.Bodies.{is_before};
@@ -51,25 +53,53 @@ fn body<'v>(depth: Depth, value: &'v Value) -> Form<'v>
     Form::Many(Items::Body(depth, directive_count(list)), "body", list)
 }
 
+// The tree of the node in a field.
+fn tree(key: &'static str, class: Class) -> Part
+    ensures { part_of result ≡ tree_at (field key.now) (at (class_of class)) }
+{
+    Part::Tree(Step::Field(key), Place::At(class))
+}
+
+// An inner expression over it.
+fn inner(key: &'static str, class: Class) -> Part
+    ensures { part_of result ≡ inner_at (field key.now) (at (class_of class)) }
+{
+    Part::Inner(Step::Field(key), Place::At(class))
+}
+
+// The part, if its field is given.
+fn if_given(key: &str, value: &Value, part: Part) -> Part
+    ensures { part_of result ≡ (if is_given key.now (view value.now) then part_of part else hole) }
+{
+    if is_given(key, value) {
+        part
+    } else {
+        Part::Hole
+    }
+}
+
 /// The form of a child.
 pub fn form_of(below: Below, value: &Value) -> Form<'_>
     ensures { child_of_form result ≡ child_of (view value.now) below }
 {
     match below {
         Below::Absent => Form::One(Part::Hole),
-        Below::Node(key, class) => Form::One(Part::Tree(Step::Field(key), Place::At(class))),
+        Below::Node(key, class) => Form::One(tree(key, class)),
         Below::Placed(key, place) => Form::One(Part::Tree(Step::Field(key), place)),
-        Below::Inner(key, class) => Form::One(Part::Inner(Step::Field(key), Place::At(class))),
+        Below::Inner(key, class) => Form::One(inner(key, class)),
         Below::Checked(key, class) => Form::One(Part::Checked(Step::Field(key), Place::At(class))),
-        Below::Optional(key, _) if !is_given(key, value) => Form::One(Part::Hole),
-        Below::Optional(key, class) => Form::One(Part::Tree(Step::Field(key), Place::At(class))),
-        Below::OptionalInner(key, _) if !is_given(key, value) => Form::One(Part::Hole),
-        Below::OptionalInner(key, class) => {
-            Form::One(Part::Inner(Step::Field(key), Place::At(class)))
-        }
+        Below::Optional(key, class) => Form::One(if_given(key, value, tree(key, class))),
+        Below::OptionalInner(key, class) => Form::One(if_given(key, value, inner(key, class))),
         Below::Many(key, items) => Form::Many(items, key, items_at(key, value)),
         Below::Body(depth) => body(depth, value),
     }
+}
+
+// No node where the item is null.
+fn or_hole(value: &Value, part: Part) -> Part
+    ensures { part_of result ≡ (if is_some (as_null (view value.now)) then hole else part_of part) }
+{
+    if value.is_null() { Part::Hole } else { part }
 }
 
 // A node of one class, behind which a rest may stand.
@@ -112,8 +142,7 @@ pub fn item_part(items: Items, last: bool, value: &Value, step: Step) -> Part
 {
     match items {
         Items::Each(class) => Part::Tree(step, Place::At(class)),
-        Items::Elements if value.is_null() => Part::Hole,
-        Items::Elements => Part::Tree(step, Place::At(Class::Argument)),
+        Items::Elements => or_hole(value, Part::Tree(step, Place::At(Class::Argument))),
         Items::Parameters => or_rest(Class::Parameter, Class::PatternRest, last, value, step),
         Items::InnerArguments if has_type("SpreadElement", value) => {
             Part::Tree(step, Place::At(Class::InnerArgument))
@@ -132,15 +161,14 @@ pub fn item_part(items: Items, last: bool, value: &Value, step: Step) -> Part
                 step,
             )
         }
-        Items::PatternElements if value.is_null() => Part::Hole,
-        Items::PatternElements => {
-            or_rest(Class::PatternElement, Class::PatternRest, last, value, step)
-        }
+        Items::PatternElements => or_hole(
+            value,
+            or_rest(Class::PatternElement, Class::PatternRest, last, value, step),
+        ),
         Items::TargetProperties => {
             or_rest(Class::TargetProperty, Class::TargetRest, last, value, step)
         }
-        Items::TargetElements if value.is_null() => Part::Hole,
-        Items::TargetElements => target_element(last, value, step),
+        Items::TargetElements => or_hole(value, target_element(last, value, step)),
         Items::Body(depth, directives) => body_item(depth, directives, step),
     }
 }
