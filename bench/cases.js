@@ -410,6 +410,10 @@ for (const line of fs.readFileSync(path.join(__dirname, "rows.txt"), "utf8").spl
   else if (line) row(family, line);
 }
 
+// ---- a test that ends in a negation
+
+becomes("branches that change places", "if (a, !b) c(); else d();", "a, b ? d() : c();", { passes: 3 });
+
 // ---- names that nothing mentions go, and their symbols
 
 becomes("a let of a block", "{ let x = a(); b(); }", "a(), b();", { symbols: [] });
