@@ -2,6 +2,7 @@
 use Rattle.std.proofs.Common.{◌≡◌, ◌<◌, Bool, true, false, refl, sym, ap, subst, ◌∙◌, inl, inr, arith}
 use Rattle.std.specs.Prelude.{Option, Some, None, is_some, unwrap_or, option_map, if◌then◌else◌}
 use Rattle.std.proofs.lemmas.Bool.{and_parts}
+use Rattle.std.proofs.lemmas.Option.{none-some}
 use Rattle.mini_model.specs.declared.operator.BinaryOperator.{BinaryOperator}
 use Rattle.mini_model.specs.declared.operator.BinaryOperator.TheVariants as operator
 use Rattle.mini_model.specs.declared.place.Position.TheVariants.{Expr}
@@ -36,7 +37,7 @@ unequal_is x o e = go (binary_operator x) refl e
     go : (p : Option BinaryOperator) → binary_operator x ≡ p → equal_by p ≡ Some o → Unequal x o
     go (Some operator.Inequality) i e = record { is_strict = false; is = binary_is x operator.Inequality i; to = sym (cc e) }
     go (Some operator.StrictInequality) i e = record { is_strict = true; is = binary_is x operator.StrictInequality i; to = sym (cc e) }
-    go p i e = absurd (cc e)
+    go p i e = absurd (none-some o e)
 
 -- the test of a conditional
 abbrev tested : Bool → Tree → Option BinaryOperator

@@ -2,6 +2,7 @@
 use Rattle.std.proofs.Common.{◌≡◌, ◌<◌, ◌≤◌, ◌^◌, ℤ, pos, Bool, true, false, refl, sym, ap, subst, ◌∙◌, inl, inr, arith}
 use Rattle.std.specs.Prelude.{zero, suc, ◌&&◌, ◌||◌, not, nat_lt, Option, Some, None, is_some, unwrap_or, if◌then◌else◌}
 use Rattle.std.proofs.lemmas.Bool.{and_parts}
+use Rattle.std.proofs.lemmas.Option.{none-some}
 use borrow.Author.Tests.{ltb-true, ltb-false}
 use Rattle.mini_model.specs.declared.operator.LogicalOperator.{LogicalOperator}
 use Rattle.mini_model.specs.declared.operator.UnaryOperator.TheVariants.{LogicalNot}
@@ -80,7 +81,7 @@ digit_row s n w e = go (s.boolean && is_negation n) refl e
     by : s.boolean ≡ true → is_negation n ≡ true → (x : Option ℤ) → number (part n 0) ≡ x → digit_of (negated_truth x) ≡ Some w → Row24 s n w
     by a h (Some (pos zero)) k e = record { truth = true; asked = a; shape = negation_is n h ∙ ap negation (number_is (part n 0) (pos 0) k); written = sym (some_is (digit true) w e) }
     by a h (Some (pos (suc zero))) k e = record { truth = false; asked = a; shape = negation_is n h ∙ ap negation (number_is (part n 0) (pos 1) k); written = sym (some_is (digit false) w e) }
-    by a h x k e = absurd (cc e)
+    by a h x k e = absurd (none-some w e)
 
     go : (c : Bool) → s.boolean && is_negation n ≡ c → (if c then digit_of (negated_truth (number (part n 0))) else None) ≡ Some w → Row24 s n w
     go true h e = let (a, k) = and_parts s.boolean (is_negation n) h in by a k (number (part n 0)) refl e
@@ -248,7 +249,7 @@ digit_is t c e = go (number t) refl e
     go : (x : Option ℤ) → number t ≡ x → digit_truth x ≡ Some c → t ≡ digit c
     go (Some (pos zero)) k e = number_is t (pos 0) k ∙ ap digit (some_is false c e)
     go (Some (pos (suc zero))) k e = number_is t (pos 1) k ∙ ap digit (some_is true c e)
-    go x k e = absurd (cc e)
+    go x k e = absurd (none-some c e)
 
 -- `+` adds its own weight to its operand's
 plus_weighs : (s : Seat) (a : Tree) → weight (Expr plus_seat) a ≤ weight (Expr s) (plus a)
@@ -419,7 +420,7 @@ written_is_row s n w e = go (shape_of n) e
     go (shape.UnaryExpression LogicalNot) e = light (inl (digit_row s n w e))
     go (shape.LogicalExpression o) e = light (inr (logical_row s n w e))
     go shape.ConditionalExpression e = conditional_row s n w e
-    go h e = absurd (cc e)
+    go h e = absurd (none-some w e)
 
 never : (s : Seat) (n m v : Tree) → n ≡ m → written s n ≡ None → written s m ≡ Some v → ⊥
 never s n m v h e f = cc (sym e ∙ ap (written s) h ∙ f)

@@ -2,7 +2,7 @@
 use Rattle.std.proofs.Common.{◌≡◌, ℕ, zero, ◌<◌, ◌≤◌, ◌^◌, Bool, true, false, refl, sym, ap, subst, ◌∙◌, inl, inr, arith, true≢false}
 use borrow.Author.Tests.{ltb-true, ltb-false}
 use Rattle.std.specs.Prelude.{◌⊎◌, ◌&&◌, ◌||◌, ◌==◌, not, nat_lt, Option, Some, None, is_some, unwrap_or, if◌then◌else◌}
-use Rattle.std.proofs.lemmas.Bool.{and_parts}
+use Rattle.std.proofs.lemmas.Bool.{and_parts, false≢true}
 use Rattle.std.proofs.Math.Dec.{eqb-suc-zero}
 use Rattle.mini_model.specs.declared.operator.LogicalOperator.TheVariants.{Or, And}
 use Rattle.mini_model.specs.declared.operator.UnaryOperator.TheVariants.{LogicalNot}
@@ -39,13 +39,13 @@ disjunct_falls : (a : Tree) → has_negated_result a ≡ true → weight (Expr d
 disjunct_falls (node (shape.UnaryExpression LogicalNot) xs n none) e = omega arith
 disjunct_falls (node (shape.UnaryExpression LogicalNot) xs n (a ▸ none)) e = let falls = left_or_falls a in omega (arith, falls)
 disjunct_falls (node (shape.UnaryExpression LogicalNot) xs n (a ▸ b ▸ ts)) e = omega arith
-disjunct_falls t e = absurd (cc e)
+disjunct_falls t e = absurd (false≢true e)
 
 conjunct_falls : (a : Tree) → has_negated_result a ≡ true → weight (Expr conjunct_seat) (neg conjunct_seat a) ≤ weight (Expr conjunct_seat) (negation a)
 conjunct_falls (node (shape.UnaryExpression LogicalNot) xs n none) e = omega arith
 conjunct_falls (node (shape.UnaryExpression LogicalNot) xs n (a ▸ none)) e = let falls = left_and_falls a in omega (arith, falls)
 conjunct_falls (node (shape.UnaryExpression LogicalNot) xs n (a ▸ b ▸ ts)) e = omega arith
-conjunct_falls t e = absurd (cc e)
+conjunct_falls t e = absurd (false≢true e)
 
 lighter_one : (m n : Tree) (a b : ℕ) → b ≤ a → (if nat_lt a b then m else n) ≡ n
 lighter_one m n a b h = go (nat_lt a b) refl
@@ -444,7 +444,7 @@ and_lighter q a b =
 
 same_negation : (a : Tree) → has_negated_result a ≡ true → weight (Expr not_operand_seat) a ≡ weight (Expr if_test_seat) a
 same_negation (node (shape.UnaryExpression LogicalNot) xs n ts) e = omega arith
-same_negation t e = absurd (cc e)
+same_negation t e = absurd (false≢true e)
 
 or_lighter : (q : StmtSeat) (a b : Tree) → has_negated_result a ≡ true → weight (Stmt q) (expression_statement (logical Or (neg disjunct_seat a) b)) < weight (Stmt q) (if_alone a (expression_statement b))
 or_lighter q a b e =
