@@ -1,6 +1,7 @@
 -- References that are counted in or out, one after another.
 use Rattle.std.specs.Prelude.{ℕ, suc, ◌+◌, ◌≡◌, ◌≤◌, ◌<◌, refl, Bool, true, false, List, [], ◌∷◌, ◌++◌, length, Option, Some, None, if◌then◌else◌}
 use Rattle.std.proofs.Common.{ap, ◌∙◌, arith, sym, add-one}
+use Rattle.std.proofs.lemmas.Bool.{false≢true}
 use Rattle.std.proofs.lemmas.List.{length-append}
 use Rattle.mini_model.specs.declared.name.Name.{Name}
 use Rattle.mini_model.specs.declared.shape.Shape.{Shape}
@@ -36,7 +37,7 @@ no_name u h = refl
 own_one : (u : Use) (h : Shape) (x : Name) → is_reference_shape h ≡ true → own_references u h (x ∷ []) ≡ one_reference u x ∷ []
 unfolding one_reference
 own_one u shape.Identifier x e = refl
-own_one u h x e = absurd (cc e)
+own_one u h x e = absurd (false≢true e)
 
 pub own_none : (d : Tally) (p : Use → Bool) (u : Use) (h : Shape) (o : Option Name) (c : List ℕ) → is_reference_shape h ≡ false → c ≡ tallied d p (own_references u h (names o)) c
 unfolding tallied

@@ -5,6 +5,7 @@ use Rattle.mini_laws.specs.References.{writes}
 use Rattle.mini_context.specs.Own.{is_reference_shape}
 use Rattle.mini_context.specs.Visits.{is_writing}
 use Rattle.std.proofs.Common.{ap, ◌∙◌, arith, sym, subst}
+use Rattle.std.proofs.lemmas.Bool.{false≢true}
 use Rattle.std.proofs.lemmas.List.Folds.{list_any-append}
 use Rattle.mini_model.specs.declared.name.Name.{Name}
 use Rattle.mini_model.specs.declared.shape.Shape.{Shape}
@@ -77,7 +78,7 @@ binds_none u a (x ∷ xs) = binds_none u a xs
 
 writes_of : (u : Use) (a : Around) (h : Shape) (xs : List Name) → is_reference_shape h ≡ true → writes u ≡ true → filter is_writing (own_mentions u a h xs) ≡ own_mentions u a h xs
 writes_of u a shape.Identifier xs e f = writes_all u a xs f
-writes_of u a h xs e f = absurd (cc e)
+writes_of u a h xs e f = absurd (false≢true e)
 
 silent_use : (u : Use) (a : Around) (h : Shape) (xs : List Name) → writes u ≡ false → filter is_writing (own_mentions u a h xs) ≡ []
 silent_use u a shape.Identifier xs f = writes_none u a xs f

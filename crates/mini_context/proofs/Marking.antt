@@ -2,6 +2,7 @@
 use Rattle.std.specs.Prelude.{ℕ, zero, suc, ◌≡◌, ◌≤◌, ◌<◌, refl, nat_eq, ◌&&◌, ◌||◌, Bool, true, false, List, [], ◌∷◌, length, Option, Some, None}
 use Rattle.std.specs.List.{list_any}
 use Rattle.std.proofs.Common.{ap, ◌∙◌, arith, sym, subst}
+use Rattle.std.proofs.lemmas.Bool.{false≢true}
 use Rattle.std.proofs.lemmas.List.Folds.{list_any-append}
 use Rattle.mini_model.specs.declared.name.Name.{Name}
 use Rattle.mini_model.specs.declared.name.SymbolId.{SymbolId}
@@ -164,7 +165,7 @@ class_same b (shape.Class d) (t ▸ none) e = refl
 class_same b (shape.Class d) (t ▸ (u ▸ none)) e = refl
 class_same b (shape.Class d) (t ▸ (u ▸ (v ▸ none))) e = refl
 class_same b (shape.Class d) (t ▸ (u ▸ (v ▸ (w ▸ ts)))) e = refl
-class_same b h ts e = absurd (cc e)
+class_same b h ts e = absurd (false≢true e)
 
 pub class_marks : (b : Bool) (n : Tree) (h : Shape) (v : Bool) (old new : List Bool) → h ≡ shape_of n → v ≡ is_class_shape h → v ≡ true → (is_class_shape (shape_of n) ≡ true → Marked (own_lexical false (shape_of n) (children n)) old new) → Marked (own_lexical b (shape_of n) (children n)) old new
 class_marks b n h v old new e f g m =
@@ -177,7 +178,7 @@ few (shape.Class d) (x ∷ []) e l = refl
 few (shape.Class d) (x ∷ (y ∷ [])) e l = refl
 few (shape.Class d) (x ∷ (y ∷ (z ∷ []))) e l = refl
 few (shape.Class d) (x ∷ (y ∷ (z ∷ (w ∷ xs)))) e l = absurd (omega arith)
-few h xs e l = absurd (cc e)
+few h xs e l = absurd (false≢true e)
 
 pub few_names : (n : Tree) (xs : List Tree) (marks : List Bool) → trees_of xs ≡ children n → length xs < 4 → is_class_shape (shape_of n) ≡ true → Marked (own_lexical false (shape_of n) (children n)) marks marks
 few_names n xs marks e l c = subst (λ ns. Marked ns marks marks) (sym (ap (own_lexical false (shape_of n)) (sym e) ∙ few (shape_of n) xs c l)) (marks_add.nothing marks)

@@ -1,7 +1,7 @@
 -- Moments, passed one after another.
 use Rattle.std.specs.Prelude.{ℕ, ◌+◌, ◌≡◌, ◌≤◌, ◌<◌, refl, nat_eq, not, ◌&&◌, ◌||◌, Bool, true, false, List, [], ◌∷◌, ◌++◌, length, Option, Some, None, Result, Ok, Err, OnOk, if◌then◌else◌}
 use Rattle.std.proofs.Common.{ap, ◌∙◌, arith, sym, subst}
-use Rattle.std.proofs.lemmas.Bool.{eqb-true}
+use Rattle.std.proofs.lemmas.Bool.{eqb-true, false≢true}
 use Rattle.std.proofs.lemmas.List.Folds.{list_any-append}
 use Rattle.mini_model.specs.declared.memory.OutOfMemory.{OutOfMemory}
 use Rattle.mini_model.specs.declared.name.Name.{Name}
@@ -222,7 +222,7 @@ nothing_named u a h = refl
 
 one_moment : (u : Use) (a : Around) (h : Shape) (x : Name) → is_reference_shape h ≡ true → reads u ≡ true → reads_at (own_mentions u a h (x ∷ [])) ≡ record { name = x; ends = false; around = a } ∷ []
 one_moment u a shape.Identifier x e f = ap (λ v. if v then record { name = x; ends = false; around = a } ∷ [] else []) f
-one_moment u a h x e f = absurd (cc e)
+one_moment u a h x e f = absurd (false≢true e)
 
 pub read_passes : (u : Use) (a : Around) (t : Tree) (h : Shape) (o : Option Name) (x : Name) (v w : Bool) (old new : Moments) → h ≡ shape_of t → v ≡ is_reference_shape h → v ≡ true → w ≡ reads u → w ≡ true → names o ≡ names_of t → o ≡ Some x → Passed (record { name = x; ends = false; around = a } ∷ []) old new → Passed (reads_at (own_mentions u a (shape_of t) (names_of t))) old new
 read_passes u a t h o x v w old new e f g i j k l p =

@@ -2,7 +2,10 @@
 use Rattle.std.specs.Prelude.{ℕ, zero, suc, ◌+◌, ◌≡◌, ◌≤◌, ◌<◌, refl, ◌||◌, Bool, true, false, List, [], ◌∷◌, ◌++◌, length, take, slice_index_or, if◌then◌else◌}
 use Rattle.std.proofs.Common.{ap, ◌∙◌, arith, sym, subst, append_assoc, add-one}
 use Rattle.std.proofs.lemmas.List.{append-nil, take_all}
-use Rattle.mini_model.specs.Tree.{Tree, none}
+use Rattle.mini_model.specs.declared.shape.Shape.{Shape}
+use Rattle.mini_model.specs.declared.shape.Shape.TheVariants as shape
+use Rattle.mini_model.specs.Tree.{Tree, Trees, none, children, shape_of}
+use Rattle.mini_context.specs.Own.{is_catch_shape}
 use Rattle.mini_model.specs.Weight.{same_text}
 use Rattle.mini_model.specs.declared.name.Name.{Name}
 use Rattle.mini_node.specs.Children.{trees_of}
@@ -10,7 +13,7 @@ use Rattle.mini_laws.specs.declared.names.Binding.{Binding}
 use Rattle.mini_laws.specs.declared.names.Declared.{Declared}
 use Rattle.mini_laws.specs.declared.names.Use.TheVariants.{Read}
 use Rattle.mini_laws.specs.DeclaredNames.{all_names, names_of, is_spelled}
-use Rattle.mini_laws.specs.Shared.{spelled_among}
+use Rattle.mini_laws.specs.Shared.{own_caught, spelled_among}
 use Rattle.mini_scope.specs.Buckets.{has_name}
 use Rattle.mini_scope.specs.ScopeAt.{bound}
 use Rattle.mini_context.specs.Tables.{Marked}
@@ -81,3 +84,12 @@ unfolding chosen
 spelled_out xs ys i y b old now h e f g m =
     subst (λ ns. Marked ns old now) (sym (append-nil (spelled_among xs (take i ys))) ∙ ap (λ v. spelled_among xs (take i ys) ++ chosen v y) (sym (sym f ∙ g)) ∙ sym (among_more xs ys i y h e) ∙ ap (λ j. spelled_among xs (take j ys)) (sym (add-one i)))
     m
+
+-- ---- what is no `catch`
+
+no_catch : (h : Shape) (ts : Trees) → is_catch_shape h ≡ false → own_caught h ts ≡ []
+no_catch shape.CatchClause ts e = absurd (cc e)
+no_catch h ts e = refl
+
+pub uncaught : (t : Tree) (h : Shape) (v : Bool) (marks : List Bool) → h ≡ shape_of t → v ≡ is_catch_shape h → v ≡ false → Marked (own_caught (shape_of t) (children t)) marks marks
+uncaught t h v marks e f g = subst (λ ns. Marked ns marks marks) (sym (no_catch (shape_of t) (children t) (ap is_catch_shape (sym e) ∙ sym f ∙ g))) (marks_add.nothing marks)

@@ -2,6 +2,7 @@
 use Rattle.std.specs.Prelude.{ℕ, zero, suc, ◌≡◌, ◌<◌, refl, nat_eq, ◌&&◌, ◌||◌, Bool, true, false, cond, not, List, [], ◌∷◌, ◌++◌, length, map, replicate, slice_index, Result, Ok, Err, OnOk}
 use Rattle.std.specs.List.{filter, list_any}
 use Rattle.std.proofs.Common.{ap, ◌∙◌, arith, sym, subst}
+use Rattle.std.proofs.lemmas.Bool.{false≢true}
 use Rattle.mini_model.specs.declared.memory.OutOfMemory.{OutOfMemory}
 use Rattle.mini_model.specs.declared.name.Name.{Name}
 use Rattle.mini_model.specs.declared.shape.Shape.{Shape}
@@ -85,7 +86,7 @@ other_tops (node h xs n ts) e = refl
 
 script_is : (t : Tree) → is_script_shape (shape_of t) ≡ true → script_tops t ≡ names_in (opened Read (shape_of t) (children t) 0)
 script_is (node (shape.Program false ds) xs n ts) e = refl
-script_is (node h xs n ts) e = absurd (cc e)
+script_is (node h xs n ts) e = absurd (false≢true e)
 
 pub no_tops : (n : ℕ) (t : Tree) (h : Shape) (v : Bool) (marks : List Bool) → h ≡ shape_of t → v ≡ is_script_shape h → v ≡ false → marks ≡ replicate n false → Marked (script_tops t) (replicate n false) marks
 no_tops n t h v marks e f g m =
