@@ -22,7 +22,7 @@ use Rattle.mini_node.specs.Kinds.{binary, assignment, is_logical, is_conditional
 use Rattle.mini_node.specs.Made.{logical_is, binary_is, conditional_is, null_is}
 use Rattle.mini_node.proofs.Equality.{tree_itself}
 use Rattle.mini_rows.specs.Chains.{chain}
-use Rattle.mini_rows.specs.Choices.{assign, is_grouped, joined, strictly, joining, deciding, computing, Row39, Row38, Row35, Row45, Row46Equal, Row46Unequal, LighterRow, OwnRow, ChoiceRow, ChoiceContracts}
+use Rattle.mini_rows.specs.Choices.{assign, is_grouped, joined, strictly, joining, asks_object, null_compared, ended, deciding, computing, Row39, Row38, Row35, Row45, Row46Equal, Row46Unequal, LighterRow, OwnRow, ChoiceRow, ChoiceContracts}
 use Rattle.mini_rows.proofs.ChoiceWeights as choice_weights
 use Rattle.mini_tree.specs.Rule.{Applied}
 use Rattle.mini_tree.proofs.Reaching.{moves_once}
@@ -37,8 +37,10 @@ use Rattle.mini_choices.proofs.OptionalChains.{chain_row, chain_passes}
 use Rattle.mini_choices.proofs.Trials.{some_is, not_true, both_true, tried, first_true, later_true, first_there, second_there, lighter_test}
 use Rattle.mini_choices.specs.SubstituteRotateLogicalExpression.{leftmost}
 use Rattle.mini_choices.specs.MinimizeNullishComparison as nullish
+use Rattle.mini_choices.specs.MinimizeObjectTest as object_test
 use Rattle.mini_choices.proofs.Names.{assigns_is, OneName, one_name}
 use Rattle.mini_choices.proofs.NullishComparison.{comparison_row, alone_passes, after_passes}
+use Rattle.mini_choices.proofs.ObjectTest.{object_row, object_passes, before_passes}
 use Rattle.mini_choices.proofs.Spines.{logical_kind_is, spine_of, leftmost_joined}
 use Rattle.mini_choices.proofs.HeldBranches.{held_row, held_passes}
 use Rattle.mini_choices.specs.Choices.{first_of, written, Gives, Rests, WrittenIsRow, UnwrittenRests}
@@ -302,15 +304,19 @@ either_some (Some a) b w e = inl e
 either_some None b w e = inr e
 
 row_of : (s : Seat) (n w : Tree) → written s n ≡ Some w → ChoiceContracts (Expr s) n w
-row_of s (node (shape.LogicalExpression o) xs m ts) w e = sure s _ w (logical_row (either_some (rotate.written (node (shape.LogicalExpression o) xs m ts)) (first_of (decide.written (node (shape.LogicalExpression o) xs m ts)) (nullish.written (node (shape.LogicalExpression o) xs m ts))) w e))
+row_of s (node (shape.LogicalExpression o) xs m ts) w e = sure s _ w (logical_row (either_some (rotate.written (node (shape.LogicalExpression o) xs m ts)) (first_of (decide.written (node (shape.LogicalExpression o) xs m ts)) (first_of (nullish.written (node (shape.LogicalExpression o) xs m ts)) (object_test.written (node (shape.LogicalExpression o) xs m ts)))) w e))
   where
-    others_row : (decide.written (node (shape.LogicalExpression o) xs m ts) ≡ Some w) ⊎ (nullish.written (node (shape.LogicalExpression o) xs m ts) ≡ Some w) → LighterRow s (node (shape.LogicalExpression o) xs m ts) w
-    others_row (inl e) = inr (inl (decided_row _ w e))
-    others_row (inr e) = comparison_row (LighterRow s) (λ n w r. inr (inr (inr (inr (inr (inr (inl r))))))) (λ n w r. inr (inr (inr (inr (inr (inr (inr r))))))) _ w e
+    comparisons_row : (nullish.written (node (shape.LogicalExpression o) xs m ts) ≡ Some w) ⊎ (object_test.written (node (shape.LogicalExpression o) xs m ts) ≡ Some w) → LighterRow s (node (shape.LogicalExpression o) xs m ts) w
+    comparisons_row (inl e) = comparison_row (LighterRow s) (λ n w r. inr (inr (inr (inr (inr (inr (inl r))))))) (λ n w r. inr (inr (inr (inr (inr (inr (inr (inl r)))))))) _ w e
+    comparisons_row (inr e) = object_row (LighterRow s) (λ n w r. inr (inr (inr (inr (inr (inr (inr (inr (inl r))))))))) (λ n w r. inr (inr (inr (inr (inr (inr (inr (inr (inr r))))))))) _ w e
 
-    logical_row : (rotate.written (node (shape.LogicalExpression o) xs m ts) ≡ Some w) ⊎ (first_of (decide.written (node (shape.LogicalExpression o) xs m ts)) (nullish.written (node (shape.LogicalExpression o) xs m ts)) ≡ Some w) → LighterRow s (node (shape.LogicalExpression o) xs m ts) w
+    others_row : (decide.written (node (shape.LogicalExpression o) xs m ts) ≡ Some w) ⊎ (first_of (nullish.written (node (shape.LogicalExpression o) xs m ts)) (object_test.written (node (shape.LogicalExpression o) xs m ts)) ≡ Some w) → LighterRow s (node (shape.LogicalExpression o) xs m ts) w
+    others_row (inl e) = inr (inl (decided_row _ w e))
+    others_row (inr e) = comparisons_row (either_some (nullish.written (node (shape.LogicalExpression o) xs m ts)) (object_test.written (node (shape.LogicalExpression o) xs m ts)) w e)
+
+    logical_row : (rotate.written (node (shape.LogicalExpression o) xs m ts) ≡ Some w) ⊎ (first_of (decide.written (node (shape.LogicalExpression o) xs m ts)) (first_of (nullish.written (node (shape.LogicalExpression o) xs m ts)) (object_test.written (node (shape.LogicalExpression o) xs m ts))) ≡ Some w) → LighterRow s (node (shape.LogicalExpression o) xs m ts) w
     logical_row (inl e) = inl (rotated_row _ w e)
-    logical_row (inr e) = others_row (either_some (decide.written (node (shape.LogicalExpression o) xs m ts)) (nullish.written (node (shape.LogicalExpression o) xs m ts)) w e)
+    logical_row (inr e) = others_row (either_some (decide.written (node (shape.LogicalExpression o) xs m ts)) (first_of (nullish.written (node (shape.LogicalExpression o) xs m ts)) (object_test.written (node (shape.LogicalExpression o) xs m ts))) w e)
 row_of s (node (shape.AssignmentExpression o) xs m ts) w e = sure s _ w (inr (inr (inl (combined_row _ w e))))
 row_of s (node shape.ConditionalExpression xs m ts) w e = any_row (either_some (chains.written s (node shape.ConditionalExpression xs m ts)) (first_of (held.written s (node shape.ConditionalExpression xs m ts)) (branches.written s (node shape.ConditionalExpression xs m ts))) w e)
   where
@@ -352,26 +358,38 @@ chain_there s n h =
     chooses : (t : Tree) → is_some (chains.written s t) ≡ true → is_conditional t ≡ true
     chooses t e = first_of_both (is_conditional t) _ _ (chain (chains.optional_over (part t 2))) (chain (chains.optional_over (part t 1))) e
 
-last_there : (t : Tree) → is_some (nullish.written t) ≡ true → is_some (first_of (rotate.written t) (first_of (decide.written t) (nullish.written t))) ≡ true
-last_there t h = second_there (rotate.written t) (first_of (decide.written t) (nullish.written t)) (second_there (decide.written t) (nullish.written t) h)
+in_comparisons : (t : Tree) → is_some (first_of (nullish.written t) (object_test.written t)) ≡ true → is_some (first_of (rotate.written t) (first_of (decide.written t) (first_of (nullish.written t) (object_test.written t)))) ≡ true
+in_comparisons t h = second_there (rotate.written t) (first_of (decide.written t) (first_of (nullish.written t) (object_test.written t))) (second_there (decide.written t) (first_of (nullish.written t) (object_test.written t)) h)
+
+by_nullish : (t : Tree) → is_some (nullish.written t) ≡ true → is_some (first_of (rotate.written t) (first_of (decide.written t) (first_of (nullish.written t) (object_test.written t)))) ≡ true
+by_nullish t h = in_comparisons t (first_there (nullish.written t) (object_test.written t) h)
+
+by_object : (t : Tree) → is_some (object_test.written t) ≡ true → is_some (first_of (rotate.written t) (first_of (decide.written t) (first_of (nullish.written t) (object_test.written t)))) ≡ true
+by_object t h = in_comparisons t (second_there (nullish.written t) (object_test.written t) h)
 
 sure_passes : (s : Seat) (n w : Tree) → LighterRow s n w → is_some (written s n) ≡ true
 sure_passes s n w (inl r) =
     let t : Tree = logical r.operator r.a (joined r.operator r.b (r.last ▸ r.others)) in
-    ap (λ t. is_some (written s t)) r.shape ∙ first_there (rotate.written t) (first_of (decide.written t) (nullish.written t)) (rotated_passes r.operator r.a r.b r.last r.others r.ungrouped)
+    ap (λ t. is_some (written s t)) r.shape ∙ first_there (rotate.written t) (first_of (decide.written t) (first_of (nullish.written t) (object_test.written t))) (rotated_passes r.operator r.a r.b r.last r.others r.ungrouped)
 sure_passes s n w (inr (inl r)) =
     let t : Tree = logical r.operator (identifier r.name) (assign r.name r.b) in
-    ap (λ t. is_some (written s t)) r.shape ∙ first_there (decide.written t) (nullish.written t) (ap is_some (decided_passes r.operator r.name r.b))
+    ap (λ t. is_some (written s t)) r.shape ∙ first_there (decide.written t) (first_of (nullish.written t) (object_test.written t)) (ap is_some (decided_passes r.operator r.name r.b))
 sure_passes s n w (inr (inr (inl r))) = ap (λ t. is_some (written s t)) r.shape ∙ ap is_some (combined_passes r.operator r.combined r.computes r.name r.b)
 sure_passes s n w (inr (inr (inr (inl r)))) = ap (λ t. is_some (written s t)) r.shape ∙ in_branches s (conditional (binary Equality (identifier r.name) null_literal) r.b (identifier r.name)) (by_equal s (conditional (binary Equality (identifier r.name) null_literal) r.b (identifier r.name)) (declared_passes r.name r.declared))
 sure_passes s n w (inr (inr (inr (inr (inl r))))) = ap (λ t. is_some (written s t)) r.shape ∙ in_branches s (conditional (binary Inequality (identifier r.name) null_literal) (identifier r.name) r.b) (by_unequal s (conditional (binary Inequality (identifier r.name) null_literal) (identifier r.name) r.b) (declared_passes r.name r.declared))
 sure_passes s n w (inr (inr (inr (inr (inr (inl r)))))) = ap (λ t. is_some (written s t)) r.shape ∙ in_branches s (conditional r.a (assign r.name r.b) (assign r.name r.c)) (by_assignment s (conditional r.a (assign r.name r.b) (assign r.name r.c)) (chosen_passes s r.seated r.a r.name r.b r.c r.declared))
 sure_passes s n w (inr (inr (inr (inr (inr (inr (inl r))))))) =
     let t : Tree = logical (joining r.equal) (binary (strictly r.equal) (identifier r.name) r.first) (binary (strictly r.equal) (identifier r.name) r.second) in
-    ap (λ t. is_some (written s t)) r.shape ∙ last_there t (alone_passes r.equal r.name r.first r.second r.nullish)
-sure_passes s n w (inr (inr (inr (inr (inr (inr (inr r))))))) =
+    ap (λ t. is_some (written s t)) r.shape ∙ by_nullish t (alone_passes r.equal r.name r.first r.second r.nullish)
+sure_passes s n w (inr (inr (inr (inr (inr (inr (inr (inl r)))))))) =
     let t : Tree = logical (joining r.equal) (logical (joining r.equal) r.before (binary (strictly r.equal) (identifier r.name) r.first)) (binary (strictly r.equal) (identifier r.name) r.second) in
-    ap (λ t. is_some (written s t)) r.shape ∙ last_there t (after_passes r.equal r.before r.name r.first r.second r.nullish)
+    ap (λ t. is_some (written s t)) r.shape ∙ by_nullish t (after_passes r.equal r.before r.name r.first r.second r.nullish)
+sure_passes s n w (inr (inr (inr (inr (inr (inr (inr (inr (inl r))))))))) =
+    let t : Tree = logical (joining (not r.there)) (ended (joining (not r.there)) r.before (asks_object r.there r.name)) (null_compared r.strict (not r.there) r.name) in
+    ap (λ t. is_some (written s t)) r.shape ∙ by_object t (object_passes r.there r.strict r.before r.name r.declared)
+sure_passes s n w (inr (inr (inr (inr (inr (inr (inr (inr (inr r))))))))) =
+    let t : Tree = logical (joining (not r.there)) (ended (joining (not r.there)) r.before (null_compared r.strict (not r.there) r.name)) (asks_object r.there r.name) in
+    ap (λ t. is_some (written s t)) r.shape ∙ by_object t (before_passes r.there r.strict r.before r.name r.declared)
 
 own_passes : (s : Seat) (n w : Tree) → OwnRow n w → weight (Expr s) n < 2 ^ 64 → weight (Expr s) w < weight (Expr s) n → is_some (written s n) ≡ true
 own_passes s n w (inl r) small less =

@@ -6,4 +6,5 @@ pub mod LeftJoins
 pub mod HeldBranches
 pub mod OptionalChains
 pub mod NullishComparison
+pub mod ObjectTest
 pub mod Choices

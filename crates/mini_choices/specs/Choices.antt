@@ -11,6 +11,7 @@ use Rattle.mini_rows.specs.Choices.{ChoiceContracts}
 use Rattle.mini_choices.specs.SubstituteRotateLogicalExpression as rotate
 use Rattle.mini_choices.specs.MinimizeLogicalExpression as decide
 use Rattle.mini_choices.specs.MinimizeNullishComparison as nullish
+use Rattle.mini_choices.specs.MinimizeObjectTest as object_test
 use Rattle.mini_choices.specs.MinimizeNormalAssignmentToCombinedAssignment as combine
 use Rattle.mini_choices.specs.MinimizeConditionalBranches as branches
 use Rattle.mini_choices.specs.MinimizeHeldBranches as held
@@ -22,7 +23,7 @@ first_of (Some a) b = Some a
 first_of None b = b
 
 abbrev pub written_by : Shape → Seat → Tree → Option Tree
-written_by (shape.LogicalExpression o) s t = first_of (rotate.written t) (first_of (decide.written t) (nullish.written t))
+written_by (shape.LogicalExpression o) s t = first_of (rotate.written t) (first_of (decide.written t) (first_of (nullish.written t) (object_test.written t)))
 written_by (shape.AssignmentExpression o) s t = combine.written t
 written_by shape.ConditionalExpression s t = first_of (chains.written s t) (first_of (held.written s t) (branches.written s t))
 written_by _ s t = None

@@ -4,6 +4,7 @@ pub mod SubstituteRotateLogicalExpression
 pub mod JoinWithLeftAssociativeOp
 pub mod MinimizeLogicalExpression
 pub mod MinimizeNullishComparison
+pub mod MinimizeObjectTest
 pub mod MinimizeNormalAssignmentToCombinedAssignment
 pub mod MinimizeConditionalBranches
 pub mod MinimizeHeldBranches

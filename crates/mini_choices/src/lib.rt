@@ -18,4 +18,5 @@ pub use rewrites::minimize_held_branches::minimize_held_branches;
 pub use rewrites::minimize_logical_expression::minimize_logical_expression;
 pub use rewrites::minimize_normal_assignment_to_combined_assignment::minimize_normal_assignment_to_combined_assignment;
 pub use rewrites::minimize_nullish_comparison::minimize_nullish_comparison;
+pub use rewrites::minimize_object_test::minimize_object_test;
 pub use rewrites::substitute_rotate_logical_expression::substitute_rotate_logical_expression;

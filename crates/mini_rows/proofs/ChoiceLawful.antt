@@ -1,6 +1,6 @@
 -- What a row of choices writes keeps all that a program has to keep: it is built anew of the same parts.
-use Rattle.std.proofs.Common.{◌≡◌, ◌≤◌, ℕ, true, List, [], ◌∷◌, refl, sym, ap, subst, ◌∙◌, inl, inr}
-use Rattle.std.specs.Prelude.{◌++◌, ◌⊎◌, codes}
+use Rattle.std.proofs.Common.{◌≡◌, ◌≤◌, ℕ, Bool, true, false, Option, Some, None, List, [], ◌∷◌, refl, sym, ap, subst, ◌∙◌, inl, inr}
+use Rattle.std.specs.Prelude.{◌++◌, not, codes}
 use Rattle.mini_model.specs.declared.name.Name.{Name}
 use Rattle.mini_model.specs.declared.operator.AssignmentOperator.{AssignmentOperator}
 use Rattle.mini_model.specs.declared.operator.AssignmentOperator.TheVariants.{Assign}
@@ -8,6 +8,7 @@ use Rattle.mini_model.specs.declared.operator.BinaryOperator.{BinaryOperator}
 use Rattle.mini_model.specs.declared.operator.BinaryOperator.TheVariants as binary_operator
 use Rattle.mini_model.specs.declared.operator.LogicalOperator.{LogicalOperator}
 use Rattle.mini_model.specs.declared.operator.LogicalOperator.TheVariants.{Or, And, Coalesce}
+use Rattle.mini_model.specs.declared.operator.UnaryOperator.TheVariants.{LogicalNot}
 use Rattle.mini_model.specs.declared.place.Position.{Position}
 use Rattle.mini_model.specs.declared.place.Position.TheVariants.{Expr}
 use Rattle.mini_model.specs.declared.seat.Seat.{Seat}
@@ -29,9 +30,9 @@ use Rattle.mini_kept.specs.SameNames.{SameNames, SameScope, NoMoreClash}
 use Rattle.mini_kept.specs.Lawful.{Lawful}
 use Rattle.mini_kept.proofs.Quiet.{no_names, no_body_names, no_body_declarations, no_loop}
 use Rattle.mini_rows.specs.Arranged.{KeptAt, Vanishes}
-use Rattle.mini_rows.specs.Sketches.{Binary, Logical, Conditional, Assignment, Parts, Sketch, part, under, end, ◌▹◌, Free, Null, Sequence, list, no_items, item}
+use Rattle.mini_rows.specs.Sketches.{Unary, Binary, Logical, Conditional, Assignment, Parts, Sketch, part, under, end, ◌▹◌, Free, Null, Sequence, list, no_items, item}
 use Rattle.mini_rows.specs.Spellings.{IsUndefined, void_zero, assignment}
-use Rattle.mini_rows.specs.Choices.{assign, deciding, strictly, loosely, joining, AreNullish, Row37, Row37After, Row39, Row38, Row35, Row45, ChoiceRow, ChoiceContracts, Row46Equal, Row46Unequal, Row41Or, Row41And, Row42And, Row42Or, Row43Or, Row43And, Row43AndThen, Row43OrThen, Row49, LighterRow, OwnRow, HeldRow}
+use Rattle.mini_rows.specs.Choices.{assign, deciding, strictly, loosely, joining, AreNullish, Row37, Row37After, asks_object, null_compared, held, ended, Row57, Row57Null, Row39, Row38, Row35, Row45, ChoiceRow, ChoiceContracts, Row46Equal, Row46Unequal, Row41Or, Row41And, Row42And, Row42Or, Row43Or, Row43And, Row43AndThen, Row43OrThen, Row49, LighterRow, OwnRow, HeldRow}
 use Rattle.mini_rows.proofs.ArrangedExpressions.{expressions_arranged, expressions_arranged_freely}
 use Rattle.mini_rows.proofs.ArrangedLawful.{kept_is_lawful}
 use Rattle.mini_rows.proofs.ChainLawful.{chain_row_kept}
@@ -212,6 +213,53 @@ nullish_after_kept q n w r =
     let (first, second) = nullish_vanish r.first r.second r.nullish in
     expressions_arranged_freely comparisons_dropped (record { trees = identifier r.name ▸ r.first ▸ r.second ▸ r.before ▸ none; lists = [] }) (tt, tt, (first, (second, tt))) (operands (joining r.equal) (operands (joining r.equal) (part 3) (compared_with (strictly r.equal) (part 1))) (compared_with (strictly r.equal) (part 2))) (operands (joining r.equal) (part 3) (compared_with (loosely r.equal) (under Null end))) refl q n w r.shape r.written
 
+-- 57: null is dropped
+
+abbrev comparison : Bool → Bool → BinaryOperator
+comparison true equal = strictly equal
+comparison false equal = loosely equal
+
+abbrev null_dropped : Free
+null_dropped = record { moved = []; lists_moved = []; dropped = 2 ∷ [] }
+
+abbrev negated : Sketch → Sketch
+negated s = under (Unary LogicalNot) (s ▹ end)
+
+abbrev held_part : Bool → Sketch
+held_part true = negated (negated (part 0))
+held_part false = negated (part 0)
+
+-- behind the part 3, or not
+abbrev ended_by : LogicalOperator → Bool → Sketch → Sketch
+ended_by o true s = operands o (part 3) s
+ended_by o false s = s
+
+type_kept : (q : Seat) (n w : Tree) → Row57 n w → KeptAt (Expr q) n w
+type_kept q n w r = by r.there r.strict r.before r.shape r.written
+  where
+    by : (there strict : Bool) (before : Option Tree) → n ≡ logical (joining (not there)) (ended (joining (not there)) before (asks_object there r.name)) (null_compared strict (not there) r.name) → w ≡ logical (joining (not there)) (ended (joining (not there)) before (asks_object there r.name)) (held there r.name) → KeptAt (Expr q) n w
+    by true true None f g = expressions_arranged_freely null_dropped (record { trees = identifier r.name ▸ asks_object true r.name ▸ null_literal ▸ none; lists = [] }) (tt, tt, (null_vanishes, tt)) (operands And (ended_by And false (part 1)) (compared_with (comparison true false) (part 2))) (operands And (ended_by And false (part 1)) (held_part true)) refl q n w f g
+    by true true (Some b) f g = expressions_arranged_freely null_dropped (record { trees = identifier r.name ▸ asks_object true r.name ▸ null_literal ▸ b ▸ none; lists = [] }) (tt, tt, (null_vanishes, tt)) (operands And (ended_by And true (part 1)) (compared_with (comparison true false) (part 2))) (operands And (ended_by And true (part 1)) (held_part true)) refl q n w f g
+    by true false None f g = expressions_arranged_freely null_dropped (record { trees = identifier r.name ▸ asks_object true r.name ▸ null_literal ▸ none; lists = [] }) (tt, tt, (null_vanishes, tt)) (operands And (ended_by And false (part 1)) (compared_with (comparison false false) (part 2))) (operands And (ended_by And false (part 1)) (held_part true)) refl q n w f g
+    by true false (Some b) f g = expressions_arranged_freely null_dropped (record { trees = identifier r.name ▸ asks_object true r.name ▸ null_literal ▸ b ▸ none; lists = [] }) (tt, tt, (null_vanishes, tt)) (operands And (ended_by And true (part 1)) (compared_with (comparison false false) (part 2))) (operands And (ended_by And true (part 1)) (held_part true)) refl q n w f g
+    by false true None f g = expressions_arranged_freely null_dropped (record { trees = identifier r.name ▸ asks_object false r.name ▸ null_literal ▸ none; lists = [] }) (tt, tt, (null_vanishes, tt)) (operands Or (ended_by Or false (part 1)) (compared_with (comparison true true) (part 2))) (operands Or (ended_by Or false (part 1)) (held_part false)) refl q n w f g
+    by false true (Some b) f g = expressions_arranged_freely null_dropped (record { trees = identifier r.name ▸ asks_object false r.name ▸ null_literal ▸ b ▸ none; lists = [] }) (tt, tt, (null_vanishes, tt)) (operands Or (ended_by Or true (part 1)) (compared_with (comparison true true) (part 2))) (operands Or (ended_by Or true (part 1)) (held_part false)) refl q n w f g
+    by false false None f g = expressions_arranged_freely null_dropped (record { trees = identifier r.name ▸ asks_object false r.name ▸ null_literal ▸ none; lists = [] }) (tt, tt, (null_vanishes, tt)) (operands Or (ended_by Or false (part 1)) (compared_with (comparison false true) (part 2))) (operands Or (ended_by Or false (part 1)) (held_part false)) refl q n w f g
+    by false false (Some b) f g = expressions_arranged_freely null_dropped (record { trees = identifier r.name ▸ asks_object false r.name ▸ null_literal ▸ b ▸ none; lists = [] }) (tt, tt, (null_vanishes, tt)) (operands Or (ended_by Or true (part 1)) (compared_with (comparison false true) (part 2))) (operands Or (ended_by Or true (part 1)) (held_part false)) refl q n w f g
+
+null_type_kept : (q : Seat) (n w : Tree) → Row57Null n w → KeptAt (Expr q) n w
+null_type_kept q n w r = by r.there r.strict r.before r.shape r.written
+  where
+    by : (there strict : Bool) (before : Option Tree) → n ≡ logical (joining (not there)) (ended (joining (not there)) before (null_compared strict (not there) r.name)) (asks_object there r.name) → w ≡ logical (joining (not there)) (ended (joining (not there)) before (held there r.name)) (asks_object there r.name) → KeptAt (Expr q) n w
+    by true true None f g = expressions_arranged_freely null_dropped (record { trees = identifier r.name ▸ asks_object true r.name ▸ null_literal ▸ none; lists = [] }) (tt, tt, (null_vanishes, tt)) (operands And (ended_by And false (compared_with (comparison true false) (part 2))) (part 1)) (operands And (ended_by And false (held_part true)) (part 1)) refl q n w f g
+    by true true (Some b) f g = expressions_arranged_freely null_dropped (record { trees = identifier r.name ▸ asks_object true r.name ▸ null_literal ▸ b ▸ none; lists = [] }) (tt, tt, (null_vanishes, tt)) (operands And (ended_by And true (compared_with (comparison true false) (part 2))) (part 1)) (operands And (ended_by And true (held_part true)) (part 1)) refl q n w f g
+    by true false None f g = expressions_arranged_freely null_dropped (record { trees = identifier r.name ▸ asks_object true r.name ▸ null_literal ▸ none; lists = [] }) (tt, tt, (null_vanishes, tt)) (operands And (ended_by And false (compared_with (comparison false false) (part 2))) (part 1)) (operands And (ended_by And false (held_part true)) (part 1)) refl q n w f g
+    by true false (Some b) f g = expressions_arranged_freely null_dropped (record { trees = identifier r.name ▸ asks_object true r.name ▸ null_literal ▸ b ▸ none; lists = [] }) (tt, tt, (null_vanishes, tt)) (operands And (ended_by And true (compared_with (comparison false false) (part 2))) (part 1)) (operands And (ended_by And true (held_part true)) (part 1)) refl q n w f g
+    by false true None f g = expressions_arranged_freely null_dropped (record { trees = identifier r.name ▸ asks_object false r.name ▸ null_literal ▸ none; lists = [] }) (tt, tt, (null_vanishes, tt)) (operands Or (ended_by Or false (compared_with (comparison true true) (part 2))) (part 1)) (operands Or (ended_by Or false (held_part false)) (part 1)) refl q n w f g
+    by false true (Some b) f g = expressions_arranged_freely null_dropped (record { trees = identifier r.name ▸ asks_object false r.name ▸ null_literal ▸ b ▸ none; lists = [] }) (tt, tt, (null_vanishes, tt)) (operands Or (ended_by Or true (compared_with (comparison true true) (part 2))) (part 1)) (operands Or (ended_by Or true (held_part false)) (part 1)) refl q n w f g
+    by false false None f g = expressions_arranged_freely null_dropped (record { trees = identifier r.name ▸ asks_object false r.name ▸ null_literal ▸ none; lists = [] }) (tt, tt, (null_vanishes, tt)) (operands Or (ended_by Or false (compared_with (comparison false true) (part 2))) (part 1)) (operands Or (ended_by Or false (held_part false)) (part 1)) refl q n w f g
+    by false false (Some b) f g = expressions_arranged_freely null_dropped (record { trees = identifier r.name ▸ asks_object false r.name ▸ null_literal ▸ b ▸ none; lists = [] }) (tt, tt, (null_vanishes, tt)) (operands Or (ended_by Or true (compared_with (comparison false true) (part 2))) (part 1)) (operands Or (ended_by Or true (held_part false)) (part 1)) refl q n w f g
+
 lighter_kept : (q : Seat) (n w : Tree) → LighterRow q n w → KeptAt (Expr q) n w
 lighter_kept q n w (inl r) = rotated_kept q n w r
 lighter_kept q n w (inr (inl r)) = deciding_kept q n w r
@@ -220,7 +268,9 @@ lighter_kept q n w (inr (inr (inr (inl r)))) = equal_kept q n w r
 lighter_kept q n w (inr (inr (inr (inr (inl r))))) = unequal_kept q n w r
 lighter_kept q n w (inr (inr (inr (inr (inr (inl r)))))) = chosen_kept q n w r
 lighter_kept q n w (inr (inr (inr (inr (inr (inr (inl r))))))) = nullish_kept q n w r
-lighter_kept q n w (inr (inr (inr (inr (inr (inr (inr r))))))) = nullish_after_kept q n w r
+lighter_kept q n w (inr (inr (inr (inr (inr (inr (inr (inl r)))))))) = nullish_after_kept q n w r
+lighter_kept q n w (inr (inr (inr (inr (inr (inr (inr (inr (inl r))))))))) = type_kept q n w r
+lighter_kept q n w (inr (inr (inr (inr (inr (inr (inr (inr (inr r))))))))) = null_type_kept q n w r
 
 own_kept : (q : Seat) (n w : Tree) → OwnRow n w → KeptAt (Expr q) n w
 own_kept q n w (inl r) = own_or_kept q n w r

@@ -1,6 +1,6 @@
 -- What each row of choices writes means the same.
-use Rattle.std.proofs.Common.{◌≡◌, Bool, true, false, refl, sym, ap, ◌∙◌, inl, inr}
-use Rattle.std.specs.Prelude.{not}
+use Rattle.std.proofs.Common.{◌≡◌, ℕ, List, [], ◌∷◌, Option, Some, None, Bool, true, false, refl, sym, ap, subst, subst₂, ◌∙◌, inl, inr}
+use Rattle.std.specs.Prelude.{◌⊎◌, not, codes}
 use Rattle.mini_model.specs.declared.name.Name.{Name}
 use Rattle.mini_model.specs.declared.operator.AssignmentOperator.TheVariants.{Assign}
 use Rattle.mini_model.specs.declared.operator.BinaryOperator.TheVariants as binary_operator
@@ -8,23 +8,30 @@ use Rattle.mini_model.specs.declared.operator.BinaryOperator.TheVariants.{Strict
 use Rattle.mini_model.specs.declared.operator.LogicalOperator.{LogicalOperator}
 use Rattle.mini_model.specs.declared.operator.LogicalOperator.TheVariants.{Or, And, Coalesce}
 use Rattle.mini_model.specs.declared.seat.Seat.{Seat}
-use Rattle.mini_model.specs.Tree.{Tree, Trees, none, ◌▸◌, identifier, logical, conditional, null_literal}
+use Rattle.mini_model.specs.declared.operator.UnaryOperator.TheVariants.{Typeof}
+use Rattle.mini_model.specs.declared.shape.Shape.TheVariants as shape
+use Rattle.mini_model.specs.Tree.{Tree, Trees, none, ◌▸◌, identifier, unary, negation, logical, conditional, null_literal}
 use Rattle.mini_model.specs.declared.place.Position.{Position}
 use Rattle.mini_model.specs.declared.place.Position.TheVariants.{Expr}
-use Rattle.mini_laws.specs.Operators.{strictly_equal}
-use Rattle.mini_laws.specs.Value.{Value, Undefined, Null, Boolean, choose, truth, is_nullish}
-use Rattle.mini_laws.specs.State.{State, Completion, ok, stop, either, Environment}
-use Rattle.mini_laws.specs.Naming.{summary}
+use Rattle.mini_laws.specs.Operators.{strictly_equal, type_text}
+use Rattle.mini_laws.specs.Value.{Value, Undefined, Null, Boolean, Number, String, Symbol, Object, Variable, Slot, Holds, Missing, Uninitialised, choose, truth, is_nullish, variable_of}
+use Rattle.mini_laws.specs.State.{State, Completion, ok, stop, out, either, Environment}
+use Rattle.mini_laws.specs.Demand.{Val, As, OfType, Stat}
+use Rattle.mini_laws.specs.Command.{ret, bind, Kids, read_slot, read_any, at_variable, act, run}
+use Rattle.mini_laws.specs.Naming.{NameKind, UndefinedName, NumberName, summary, naming, kind_of}
+use Rattle.mini_laws.specs.Expressions.{get_identifier, type_identifier, operate_by}
+use Rattle.mini_laws.specs.Step.{step, means, meaning}
 use Rattle.mini_laws.specs.Rows.{SameAt}
 use Rattle.mini_laws.specs.Rewritten.{MeansSame}
 use Rattle.mini_laws.specs.Targets.{assigns}
-use Rattle.mini_laws.proofs.Runs.{either_cong, either_assoc, either_ok, runs}
-use Rattle.mini_rows.specs.Spellings.{binary, assignment}
-use Rattle.mini_rows.specs.Choices.{assign, pair, joined, strictly, loosely, joining, AreNullish, Row37, Row37After, deciding, Row35, Row46Equal, Row46Unequal, LighterRow, OwnRow, HeldRow, ChoiceRow, ChoiceContracts}
+use Rattle.mini_laws.proofs.Runs.{either_cong, either_assoc, either_eta, either_ok, either_stop, runs}
+use Rattle.mini_terms.proofs.Opened.{negation_opened}
+use Rattle.mini_rows.specs.Spellings.{binary, text, assignment}
+use Rattle.mini_rows.specs.Choices.{assign, pair, joined, strictly, loosely, joining, AreNullish, Row37, Row37After, deciding, Row35, Row46Equal, Row46Unequal, asks_object, null_compared, held, ended, Row57, Row57Null, LighterRow, OwnRow, HeldRow, ChoiceRow, ChoiceContracts}
 use Rattle.mini_rows.proofs.ChainLawful.{chain_row_same, chain_row_read}
 use Rattle.mini_rows.proofs.SpellAlike.{SameTree}
 use Rattle.mini_rows.proofs.SpellMeaning.{tree_same, same_by}
-use Rattle.mini_rows.proofs.ChoiceRuns.{value, by_value, conditional_tells, logical_tells, binary_tells, strict_told, null_value, undefined_value, assignment_tells, pair_tells, pair_value, by_reading, equal_null, unequal_null, conditional_value, logical_value, puts, assign_value, deciding_value, computing_value}
+use Rattle.mini_rows.proofs.ChoiceRuns.{value, by_value, conditional_tells, logical_tells, binary_tells, strict_told, null_value, undefined_value, assignment_tells, pair_tells, pair_value, by_reading, equal_null, unequal_null, sides, binary_names, binary_value, conditional_value, logical_value, puts, assign_value, deciding_value, computing_value}
 
 -- 39
 
@@ -290,6 +297,229 @@ both_same a b =
     by_value _ _ (conditional_tells a b b) (pair_tells a b) refl
     (λ e s. conditional_value e a b b s ∙ either_cong (value e a s) _ _ _ _ (λ v z. anyhow (truth v) (value e b z)) (λ x z. refl) ∙ sym (pair_value e a b s))
 
+-- 57
+
+-- what `typeof` is given of a name: what reading it gives, unless the name is missing or not initialised
+abbrev Typed : Completion Value → Completion Value → State → Type 0
+Typed y t s = ((y ≡ out) × ((t ≡ out) ⊎ (t ≡ ok Undefined s))) ⊎ (t ≡ y)
+
+slot_typed : (k : Slot) (s : State) → Typed (read_slot k s) (read_any k s) s
+unfolding read_slot read_any
+slot_typed (Holds v) s = inr refl
+slot_typed Missing s = inl (refl, inr refl)
+slot_typed Uninitialised s = inl (refl, inl refl)
+
+kind_typed : (e : Environment) (y : Variable) (K L : Kids (λ i. Stat None)) (k : NameKind) (s : State) → Typed (run {q = λ i. Stat None} e (naming shape.Identifier (As Val) (y ∷ []) 0 []) K (bind (get_identifier k) (λ v. ret v)) s) (run {q = λ i. Stat None} e (naming shape.Identifier OfType (y ∷ []) 0 []) L (bind (type_identifier k) ret) s) s
+unfolding act at_variable
+kind_typed e y K L UndefinedName s = inr refl
+kind_typed e y K L NumberName s = inl (refl, inl refl)
+kind_typed e y K L k s = subst₂ (λ a b. Typed a b s) (sym (either_eta (read_slot (s.vars y) s))) (sym (either_eta (read_any (s.vars y) s))) (slot_typed (s.vars y) s)
+
+typed : (e : Environment) (x : Name) (s : State) → Typed (value e (identifier x) s) (means e (identifier x) OfType tt s) s
+unfolding means step
+typed e x s = kind_typed e (variable_of x) (λ i r z. meaning e none i (Stat None) r z) (λ i r z. meaning e none i (Stat None) r z) (kind_of x) s
+
+-- what the comparison says of the value
+abbrev told_object : Bool → Value → Bool
+told_object there Null = there
+told_object there (Object n false) = there
+told_object there v = not there
+
+object_compared : (e : Environment) (there : Bool) (a b : Tree) (v : Value) (z : State) → run {q = λ i. As Val} e (binary_names (loosely there) a b) (sides e a b) (operate_by (loosely there) (String (type_text v)) (String (codes "object"))) z ≡ ok (Boolean (told_object there v)) z
+object_compared e true a b Undefined z = refl
+object_compared e true a b Null z = refl
+object_compared e true a b (Boolean c) z = refl
+object_compared e true a b (Number n) z = refl
+object_compared e true a b (String c) z = refl
+object_compared e true a b (Symbol n) z = refl
+object_compared e true a b (Object n true) z = refl
+object_compared e true a b (Object n false) z = refl
+object_compared e false a b Undefined z = refl
+object_compared e false a b Null z = refl
+object_compared e false a b (Boolean c) z = refl
+object_compared e false a b (Number n) z = refl
+object_compared e false a b (String c) z = refl
+object_compared e false a b (Symbol n) z = refl
+object_compared e false a b (Object n true) z = refl
+object_compared e false a b (Object n false) z = refl
+
+text_value : (e : Environment) (c : List ℕ) (s : State) → value e (text c) s ≡ ok (String c) s
+unfolding means step
+text_value e c s = refl
+
+type_value : (e : Environment) (x : Name) (s : State) → value e (unary Typeof (identifier x)) s ≡ either (means e (identifier x) OfType tt s) (λ v y. ok (String (type_text v)) y) (λ y z. stop y z)
+unfolding means meaning step
+type_value e x s = refl
+
+object_value : (e : Environment) (there : Bool) (x : Name) (s : State) → value e (asks_object there x) s ≡ either (means e (identifier x) OfType tt s) (λ v z. ok (Boolean (told_object there v)) z) (λ y z. stop y z)
+object_value e there x s =
+    let a = unary Typeof (identifier x) in
+    let b = text (codes "object") in
+    binary_value e (loosely there) a b s
+    ∙ ap (λ k. either k (λ v z. either (value e b z) (λ u y. run {q = λ i. As Val} e (binary_names (loosely there) a b) (sides e a b) (operate_by (loosely there) v u) y) (λ x y. stop x y)) (λ x z. stop x z)) (type_value e x s)
+    ∙ either_assoc (means e (identifier x) OfType tt s) (λ v y. ok (String (type_text v)) y) (λ y z. stop y z) _ _
+    ∙ either_cong (means e (identifier x) OfType tt s) _ _ _ _ (λ v z. either_ok (String (type_text v)) z _ _ ∙ ap (λ k. either k (λ u y. run {q = λ i. As Val} e (binary_names (loosely there) a b) (sides e a b) (operate_by (loosely there) (String (type_text v)) u) y) (λ x y. stop x y)) (text_value e (codes "object") z) ∙ either_ok (String (codes "object")) z _ _ ∙ object_compared e there a b v z) (λ y z. either_stop y z _ _)
+
+-- what a comparison with null says, and what `!!x` or `!x` does
+abbrev told_null : Bool → Bool → Value → Bool
+told_null true equal v = told_strictly equal v Null
+told_null false equal v = told_loosely equal v
+
+beside_value : (e : Environment) (strict equal : Bool) (x : Name) (s : State) → value e (null_compared strict equal x) s ≡ either (value e (identifier x) s) (λ v z. ok (Boolean (told_null strict equal v)) z) (λ y z. stop y z)
+beside_value e true equal x s = strict_value e equal x null_literal Null (null_value e) s
+beside_value e false equal x s = loose_value e equal x s
+
+abbrev told_held : Bool → Value → Bool
+told_held true v = not (not (truth v))
+told_held false v = not (truth v)
+
+held_value : (e : Environment) (there : Bool) (x : Name) (s : State) → value e (held there x) s ≡ either (value e (identifier x) s) (λ v z. ok (Boolean (told_held there v)) z) (λ y z. stop y z)
+held_value e false x s = negation_opened e (identifier x) s
+held_value e true x s =
+    negation_opened e (negation (identifier x)) s
+    ∙ ap (λ k. either k (λ v z. ok (Boolean (not (truth v))) z) (λ y z. stop y z)) (negation_opened e (identifier x) s)
+    ∙ either_assoc (value e (identifier x) s) (λ v z. ok (Boolean (not (truth v))) z) (λ y z. stop y z) _ _
+    ∙ either_cong (value e (identifier x) s) _ _ _ _ (λ v z. either_ok (Boolean (not (truth v))) z _ _) (λ y z. either_stop y z _ _)
+
+-- beside the comparison of `typeof` both say the same
+
+chosen_first : (there strict : Bool) (v : Value) (z : State) → choose (assigns (joining (not there)) (Boolean (told_object there v))) (ok (Boolean (told_null strict (not there) v)) z) (ok (Boolean (told_object there v)) z) ≡ choose (assigns (joining (not there)) (Boolean (told_object there v))) (ok (Boolean (told_held there v)) z) (ok (Boolean (told_object there v)) z)
+chosen_first true true Null z = refl
+chosen_first true true (Object n false) z = refl
+chosen_first true true v z = refl
+chosen_first true false Null z = refl
+chosen_first true false (Object n false) z = refl
+chosen_first true false v z = refl
+chosen_first false true Null z = refl
+chosen_first false true (Object n false) z = refl
+chosen_first false true v z = refl
+chosen_first false false Null z = refl
+chosen_first false false (Object n false) z = refl
+chosen_first false false v z = refl
+
+closes : (there q : Bool) (z : State) → choose (assigns (joining (not there)) (Boolean q)) (ok (Boolean (not there)) z) (ok (Boolean q) z) ≡ ok (Boolean (not there)) z
+closes true true z = refl
+closes true false z = refl
+closes false true z = refl
+closes false false z = refl
+
+abbrev Last : Bool → Bool → Value → State → Type 0
+Last there strict v z = choose (assigns (joining (not there)) (Boolean (told_null strict (not there) v))) (ok (Boolean (told_object there v)) z) (ok (Boolean (told_null strict (not there) v)) z) ≡ choose (assigns (joining (not there)) (Boolean (told_held there v))) (ok (Boolean (told_object there v)) z) (ok (Boolean (told_held there v)) z)
+
+no_object : (there strict : Bool) (v : Value) (z : State) → told_object there v ≡ not there → Last there strict v z
+no_object there strict v z h =
+    ap (λ t. choose (assigns (joining (not there)) (Boolean (told_null strict (not there) v))) (ok (Boolean t) z) (ok (Boolean (told_null strict (not there) v)) z)) h
+    ∙ closes there (told_null strict (not there) v) z
+    ∙ sym (ap (λ t. choose (assigns (joining (not there)) (Boolean (told_held there v))) (ok (Boolean t) z) (ok (Boolean (told_held there v)) z)) h ∙ closes there (told_held there v) z)
+
+chosen_last : (there strict : Bool) (v : Value) (z : State) → Last there strict v z
+chosen_last true true Null z = refl
+chosen_last true false Null z = refl
+chosen_last false true Null z = refl
+chosen_last false false Null z = refl
+chosen_last true true (Object n false) z = refl
+chosen_last true false (Object n false) z = refl
+chosen_last false true (Object n false) z = refl
+chosen_last false false (Object n false) z = refl
+chosen_last there strict Undefined z = no_object there strict Undefined z refl
+chosen_last there strict (Boolean b) z = no_object there strict (Boolean b) z refl
+chosen_last there strict (Number n) z = no_object there strict (Number n) z refl
+chosen_last there strict (String c) z = no_object there strict (String c) z refl
+chosen_last there strict (Symbol n) z = no_object there strict (Symbol n) z refl
+chosen_last there strict (Object n true) z = no_object there strict (Object n true) z refl
+
+missing_first : (there : Bool) (c d : Completion Value) (z : State) → choose (assigns (joining (not there)) (Boolean (told_object there Undefined))) c (ok (Boolean (told_object there Undefined)) z) ≡ choose (assigns (joining (not there)) (Boolean (told_object there Undefined))) d (ok (Boolean (told_object there Undefined)) z)
+missing_first true c d z = refl
+missing_first false c d z = refl
+
+-- a comparison that says something of the value of a name, where that is read
+says_there : (e : Environment) (x : Name) (t : Tree) (p : Value → Bool) → ((s : State) → value e t s ≡ either (value e (identifier x) s) (λ v z. ok (Boolean (p v)) z) (λ y z. stop y z)) → (v : Value) (s : State) → value e (identifier x) s ≡ ok v s → value e t s ≡ ok (Boolean (p v)) s
+says_there e x t p h v s k = h s ∙ ap (λ y. either y (λ v z. ok (Boolean (p v)) z) (λ y z. stop y z)) k ∙ either_ok v s _ _
+
+out_same : (f g : Value → State → Completion Value) → either out f (λ y z. stop y z) ≡ either out g (λ y z. stop y z)
+unfolding either
+out_same f g = refl
+
+module _ (e : Environment) (there strict : Bool) (x : Name) where
+  abbrev o : LogicalOperator
+  o = joining (not there)
+
+  abbrev asks : Tree
+  asks = asks_object there x
+
+  abbrev beside : Tree
+  beside = null_compared strict (not there) x
+
+  abbrev follows : Tree → Value → State → Completion Value
+  follows t v z = choose (assigns o (Boolean (told_object there v))) (value e t z) (ok (Boolean (told_object there v)) z)
+
+  asked_first : (t : Tree) (s : State) → value e (logical o asks t) s ≡ either (means e (identifier x) OfType tt s) (follows t) (λ y z. stop y z)
+  asked_first t s =
+      logical_value e o asks t s
+      ∙ ap (λ k. either k (λ v z. choose (assigns o v) (value e t z) (ok v z)) (λ y z. stop y z)) (object_value e there x s)
+      ∙ either_assoc (means e (identifier x) OfType tt s) (λ v z. ok (Boolean (told_object there v)) z) (λ y z. stop y z) _ _
+      ∙ either_cong (means e (identifier x) OfType tt s) _ _ _ _ (λ v z. either_ok (Boolean (told_object there v)) z _ _) (λ y z. either_stop y z _ _)
+
+  same_first : (v : Value) (s : State) → value e (identifier x) s ≡ ok v s → follows beside v s ≡ follows (held there x) v s
+  same_first v s k =
+      ap (λ c. choose (assigns o (Boolean (told_object there v))) c (ok (Boolean (told_object there v)) s)) (says_there e x beside (told_null strict (not there)) (beside_value e strict (not there) x) v s k)
+      ∙ chosen_first there strict v s
+      ∙ sym (ap (λ c. choose (assigns o (Boolean (told_object there v))) c (ok (Boolean (told_object there v)) s)) (says_there e x (held there x) (told_held there) (held_value e there x) v s k))
+
+  first_follows : (s : State) → either (means e (identifier x) OfType tt s) (follows beside) (λ y z. stop y z) ≡ either (means e (identifier x) OfType tt s) (follows (held there x)) (λ y z. stop y z)
+  first_follows s = by (typed e x s)
+    where
+      by : Typed (value e (identifier x) s) (means e (identifier x) OfType tt s) s → either (means e (identifier x) OfType tt s) (follows beside) (λ y z. stop y z) ≡ either (means e (identifier x) OfType tt s) (follows (held there x)) (λ y z. stop y z)
+      by (inl (q, inl g)) = subst (λ k. either k (follows beside) (λ y z. stop y z) ≡ either k (follows (held there x)) (λ y z. stop y z)) (sym g) (out_same (follows beside) (follows (held there x)))
+      by (inl (q, inr g)) = subst (λ k. either k (follows beside) (λ y z. stop y z) ≡ either k (follows (held there x)) (λ y z. stop y z)) (sym g) (either_ok Undefined s _ _ ∙ missing_first there (value e beside s) (value e (held there x) s) s ∙ sym (either_ok Undefined s _ _))
+      by (inr g) = subst (λ k. either k (follows beside) (λ y z. stop y z) ≡ either k (follows (held there x)) (λ y z. stop y z)) (sym g) (by_reading e x s (follows beside) (follows (held there x)) (λ v k. same_first v s k))
+
+  type_first : (s : State) → value e (logical o asks beside) s ≡ value e (logical o asks (held there x)) s
+  type_first s = asked_first beside s ∙ first_follows s ∙ sym (asked_first (held there x) s)
+
+  -- the other way round
+
+  asks_there : (v : Value) (s : State) → value e (identifier x) s ≡ ok v s → value e asks s ≡ ok (Boolean (told_object there v)) s
+  asks_there v s k = object_value e there x s ∙ by (typed e x s)
+    where
+      by : Typed (value e (identifier x) s) (means e (identifier x) OfType tt s) s → either (means e (identifier x) OfType tt s) (λ v z. ok (Boolean (told_object there v)) z) (λ y z. stop y z) ≡ ok (Boolean (told_object there v)) s
+      by (inl (q, g)) = absurd (cc (sym q ∙ k))
+      by (inr g) = ap (λ c. either c (λ v z. ok (Boolean (told_object there v)) z) (λ y z. stop y z)) (g ∙ k) ∙ either_ok v s _ _
+
+  told_then : (t : Tree) (p : Value → Bool) → ((s : State) → value e t s ≡ either (value e (identifier x) s) (λ v z. ok (Boolean (p v)) z) (λ y z. stop y z)) → (s : State) → value e (logical o t asks) s ≡ either (value e (identifier x) s) (λ v z. choose (assigns o (Boolean (p v))) (value e asks z) (ok (Boolean (p v)) z)) (λ y z. stop y z)
+  told_then t p h s =
+      logical_value e o t asks s
+      ∙ ap (λ k. either k (λ v z. choose (assigns o v) (value e asks z) (ok v z)) (λ y z. stop y z)) (h s)
+      ∙ either_assoc (value e (identifier x) s) (λ v z. ok (Boolean (p v)) z) (λ y z. stop y z) _ _
+      ∙ either_cong (value e (identifier x) s) _ _ _ _ (λ v z. either_ok (Boolean (p v)) z _ _) (λ y z. either_stop y z _ _)
+
+  null_first_same : (s : State) → value e (logical o beside asks) s ≡ value e (logical o (held there x) asks) s
+  null_first_same s =
+      told_then beside (told_null strict (not there)) (beside_value e strict (not there) x) s
+      ∙ by_reading e x s _ _ (λ v k. ap (λ c. choose (assigns o (Boolean (told_null strict (not there) v))) c (ok (Boolean (told_null strict (not there) v)) s)) (asks_there v s k) ∙ chosen_last there strict v s ∙ sym (ap (λ c. choose (assigns o (Boolean (told_held there v))) c (ok (Boolean (told_held there v)) s)) (asks_there v s k)))
+      ∙ sym (told_then (held there x) (told_held there) (held_value e there x) s)
+
+-- behind an equal operator
+ended_value : (e : Environment) (o : LogicalOperator) (before : Option Tree) (a b c d : Tree) → ((s : State) → value e (logical o a b) s ≡ value e (logical o c d) s) → (s : State) → value e (logical o (ended o before a) b) s ≡ value e (logical o (ended o before c) d) s
+ended_value e o None a b c d h s = h s
+ended_value e o (Some f) a b c d h s = sym (rotated_value o f a b e s) ∙ right_value o f (logical o a b) (logical o c d) e h s ∙ rotated_value o f c d e s
+
+type_same : (n w : Tree) → Row57 n w → SameTree n w
+type_same n w r =
+    let o = joining (not r.there) in
+    let t = asks_object r.there r.name in
+    same_by n w _ _ r.shape r.written
+    (by_value _ _ (logical_tells o (ended o r.before t) (null_compared r.strict (not r.there) r.name)) (logical_tells o (ended o r.before t) (held r.there r.name)) refl
+    (λ e s. ended_value e o r.before t (null_compared r.strict (not r.there) r.name) t (held r.there r.name) (type_first e r.there r.strict r.name) s))
+
+null_type_same : (n w : Tree) → Row57Null n w → SameTree n w
+null_type_same n w r =
+    let o = joining (not r.there) in
+    let t = asks_object r.there r.name in
+    same_by n w _ _ r.shape r.written
+    (by_value _ _ (logical_tells o (ended o r.before (null_compared r.strict (not r.there) r.name)) t) (logical_tells o (ended o r.before (held r.there r.name)) t) refl
+    (λ e s. ended_value e o r.before (null_compared r.strict (not r.there) r.name) t (held r.there r.name) t (null_first_same e r.there r.strict r.name) s))
+
 -- all
 
 lighter_same : (s : Seat) (n w : Tree) → LighterRow s n w → SameTree n w
@@ -299,7 +529,9 @@ lighter_same s n w (inr (inr (inl r))) = computing_same n w r
 lighter_same s n w (inr (inr (inr (inl r)))) = equal_same n w r
 lighter_same s n w (inr (inr (inr (inr (inl r))))) = unequal_same n w r
 lighter_same s n w (inr (inr (inr (inr (inr (inr (inl r))))))) = nullish_same n w r
-lighter_same s n w (inr (inr (inr (inr (inr (inr (inr r))))))) = nullish_after_same n w r
+lighter_same s n w (inr (inr (inr (inr (inr (inr (inr (inl r)))))))) = nullish_after_same n w r
+lighter_same s n w (inr (inr (inr (inr (inr (inr (inr (inr (inl r))))))))) = type_same n w r
+lighter_same s n w (inr (inr (inr (inr (inr (inr (inr (inr (inr r))))))))) = null_type_same n w r
 lighter_same s n w (inr (inr (inr (inr (inr (inl r)))))) = same_by n w _ _ r.shape r.written (chosen_same r.a r.name r.b r.c)
 
 own_same : (n w : Tree) → OwnRow n w → SameTree n w

@@ -1,6 +1,6 @@
 -- What a row of choices writes may stand wherever what it reads may, and a parent may ask the same of both.
-use Rattle.std.proofs.Common.{◌≡◌, Bool, true, false, [], refl, sym, ap, subst, ◌∙◌, inl, inr, true≢false}
-use Rattle.std.specs.Prelude.{◌&&◌}
+use Rattle.std.proofs.Common.{◌≡◌, Bool, true, false, Option, Some, None, [], refl, sym, ap, subst, ◌∙◌, inl, inr, true≢false}
+use Rattle.std.specs.Prelude.{◌&&◌, not}
 use Rattle.std.proofs.lemmas.Bool.{and_parts}
 use Rattle.mini_model.specs.declared.name.Name.{Name}
 use Rattle.mini_model.specs.declared.operator.AssignmentOperator.{AssignmentOperator}
@@ -11,14 +11,14 @@ use Rattle.mini_model.specs.declared.operator.LogicalOperator.TheVariants.{Or, A
 use Rattle.mini_model.specs.declared.place.Position.{Position}
 use Rattle.mini_model.specs.declared.place.Position.TheVariants.{Expr}
 use Rattle.mini_model.specs.declared.seat.Seat.{Seat}
-use Rattle.mini_model.specs.Tree.{Tree, Trees, node, none, ◌▸◌, identifier, logical, conditional, null_literal, is_absent, shape_of}
+use Rattle.mini_model.specs.Tree.{Tree, Trees, node, none, ◌▸◌, identifier, negation, logical, conditional, null_literal, is_absent, shape_of}
 use Rattle.mini_accept.specs.WellShaped.{Class, an_init, an_arrow_body, an_expression, a_link, an_argument, a_key, a_default_export, a_target, a_simple_target, Slot, one, one_or_absent, fits, is_function_body, has_optional, is_not_positive_number, spelling}
 use Rattle.mini_kept.specs.KeepsShapes.{AskedAlike, is_default}
 use Rattle.mini_kept.specs.KeepsFrames.{is_body_slot}
 use Rattle.mini_kept.proofs.Bools.{left, both}
 use Rattle.mini_kept.proofs.Expressions.{expression, ThreeFit, of_conditional, TakesExpressionIn, TakesExpression, expression_taken, three_fit, two_fit}
 use Rattle.mini_rows.specs.Spellings.{binary, assignment}
-use Rattle.mini_rows.specs.Choices.{assign, joined, strictly, loosely, joining, deciding, ChoiceRow, pair, LighterRow, OwnRow, HeldRow}
+use Rattle.mini_rows.specs.Choices.{assign, joined, strictly, loosely, joining, asks_object, null_compared, held, ended, deciding, ChoiceRow, pair, LighterRow, OwnRow, HeldRow}
 use Rattle.mini_rows.proofs.ChainLawful.{chain_row_fits, chain_row_asked, chain_row_slot}
 use Rattle.mini_rows.proofs.SpellShapes.{Form, a_binary, an_assignment, a_logical, a_conditional, shaped, Kind, Alone, Linked, Ending, Assigned, Nowhere, kind_of, kind_in, filled, fits_is, Formed, formed_asked, formed_slot}
 
@@ -112,6 +112,21 @@ module _ (strict : Bool) where
 
   -- ---- rows
 
+  -- of a comparison of a name with null
+  name_there : (strictly_compared equal : Bool) (x : Name) → Fits (null_compared strictly_compared equal x) → Fits (identifier x)
+  name_there true true x e = (of_two (identifier x) null_literal e).0
+  name_there true false x e = (of_two (identifier x) null_literal e).0
+  name_there false true x e = (of_two (identifier x) null_literal e).0
+  name_there false false x e = (of_two (identifier x) null_literal e).0
+
+  held_fits_there : (there : Bool) (x : Name) → Fits (identifier x) → Fits (held there x)
+  held_fits_there true x e = both (fits strict expression (negation (identifier x))) true (both (fits strict expression (identifier x)) true e refl) refl
+  held_fits_there false x e = both (fits strict expression (identifier x)) true e refl
+
+  ended_fits : (o : LogicalOperator) (before : Option Tree) (t u : Tree) → (Fits t → Fits u) → Fits (ended o before t) → Fits (ended o before u)
+  ended_fits o None t u f e = f e
+  ended_fits o (Some b) t u f e = let (first, last) = of_two b t e in two_fit strict b u first (f last)
+
   module _ (s : Slot) where
     abbrev Here : Tree → Type 0
     Here t = fits strict s t ≡ true
@@ -150,7 +165,7 @@ module _ (strict : Bool) where
         let (first, rest) = of_two one other fit in
         let (name, null) = of_two x r.first first in
         subst Here (sym r.written) (expression_taken strict s (binary (loosely r.equal) x null_literal) here (two_fit strict x null_literal name refl))
-    lighter_fits q n w (inr (inr (inr (inr (inr (inr (inr r))))))) e =
+    lighter_fits q n w (inr (inr (inr (inr (inr (inr (inr (inl r)))))))) e =
         let x : Tree = identifier r.name in
         let one : Tree = binary (strictly r.equal) x r.first in
         let other : Tree = binary (strictly r.equal) x r.second in
@@ -160,6 +175,20 @@ module _ (strict : Bool) where
         let (before, first) = of_two r.before one both in
         let (name, null) = of_two x r.first first in
         subst Here (sym r.written) (expression_taken strict s (logical (joining r.equal) r.before (binary (loosely r.equal) x null_literal)) here (two_fit strict r.before (binary (loosely r.equal) x null_literal) before (two_fit strict x null_literal name refl)))
+    lighter_fits q n w (inr (inr (inr (inr (inr (inr (inr (inr (inl r))))))))) e =
+        let o = joining (not r.there) in
+        let left = ended o r.before (asks_object r.there r.name) in
+        let right = null_compared r.strict (not r.there) r.name in
+        let (here, fit) = choice_taken strict s (a_logical o) (left ▸ right ▸ none) refl (subst Here r.shape e) in
+        let (first, second) = of_two left right fit in
+        subst Here (sym r.written) (expression_taken strict s (logical o left (held r.there r.name)) here (two_fit strict left (held r.there r.name) first (held_fits_there r.there r.name (name_there r.strict (not r.there) r.name second))))
+    lighter_fits q n w (inr (inr (inr (inr (inr (inr (inr (inr (inr r))))))))) e =
+        let o = joining (not r.there) in
+        let test = null_compared r.strict (not r.there) r.name in
+        let right = asks_object r.there r.name in
+        let (here, fit) = choice_taken strict s (a_logical o) (ended o r.before test ▸ right ▸ none) refl (subst Here r.shape e) in
+        let (first, second) = of_two (ended o r.before test) right fit in
+        subst Here (sym r.written) (expression_taken strict s (logical o (ended o r.before (held r.there r.name)) right) here (two_fit strict (ended o r.before (held r.there r.name)) right (ended_fits o r.before test (held r.there r.name) (λ f. held_fits_there r.there r.name (name_there r.strict (not r.there) r.name f)) first) second))
 
     -- what is written for a conditional fits where its parts do
     for_choice : (n w a b c : Tree) → n ≡ conditional a b c → (Fits a → Fits b → Fits c → Fits w) → Here n → Here w
@@ -196,7 +225,9 @@ row_formed q n w (inr (inr (inr (inr (inr (inl r)))))) = record { first = a_cond
 row_formed q n w (inr (inr (inr (inl r)))) = record { first = a_conditional; second = a_logical Coalesce; parts = binary binary_operator.Equality (identifier r.name) null_literal ▸ r.b ▸ identifier r.name ▸ none; others = identifier r.name ▸ r.b ▸ none; read = r.shape; made = r.written; optional = λ x. absurd (cc x) }
 row_formed q n w (inr (inr (inr (inr (inl r))))) = record { first = a_conditional; second = a_logical Coalesce; parts = binary binary_operator.Inequality (identifier r.name) null_literal ▸ identifier r.name ▸ r.b ▸ none; others = identifier r.name ▸ r.b ▸ none; read = r.shape; made = r.written; optional = λ x. absurd (cc x) }
 row_formed q n w (inr (inr (inr (inr (inr (inr (inl r))))))) = record { first = a_logical (joining r.equal); second = a_binary (loosely r.equal); parts = binary (strictly r.equal) (identifier r.name) r.first ▸ binary (strictly r.equal) (identifier r.name) r.second ▸ none; others = identifier r.name ▸ null_literal ▸ none; read = r.shape; made = r.written; optional = λ x. absurd (cc x) }
-row_formed q n w (inr (inr (inr (inr (inr (inr (inr r))))))) = record { first = a_logical (joining r.equal); second = a_logical (joining r.equal); parts = logical (joining r.equal) r.before (binary (strictly r.equal) (identifier r.name) r.first) ▸ binary (strictly r.equal) (identifier r.name) r.second ▸ none; others = r.before ▸ binary (loosely r.equal) (identifier r.name) null_literal ▸ none; read = r.shape; made = r.written; optional = λ x. absurd (cc x) }
+row_formed q n w (inr (inr (inr (inr (inr (inr (inr (inl r)))))))) = record { first = a_logical (joining r.equal); second = a_logical (joining r.equal); parts = logical (joining r.equal) r.before (binary (strictly r.equal) (identifier r.name) r.first) ▸ binary (strictly r.equal) (identifier r.name) r.second ▸ none; others = r.before ▸ binary (loosely r.equal) (identifier r.name) null_literal ▸ none; read = r.shape; made = r.written; optional = λ x. absurd (cc x) }
+row_formed q n w (inr (inr (inr (inr (inr (inr (inr (inr (inl r))))))))) = record { first = a_logical (joining (not r.there)); second = a_logical (joining (not r.there)); parts = ended (joining (not r.there)) r.before (asks_object r.there r.name) ▸ null_compared r.strict (not r.there) r.name ▸ none; others = ended (joining (not r.there)) r.before (asks_object r.there r.name) ▸ held r.there r.name ▸ none; read = r.shape; made = r.written; optional = λ x. absurd (cc x) }
+row_formed q n w (inr (inr (inr (inr (inr (inr (inr (inr (inr r))))))))) = record { first = a_logical (joining (not r.there)); second = a_logical (joining (not r.there)); parts = ended (joining (not r.there)) r.before (null_compared r.strict (not r.there) r.name) ▸ asks_object r.there r.name ▸ none; others = ended (joining (not r.there)) r.before (held r.there r.name) ▸ asks_object r.there r.name ▸ none; read = r.shape; made = r.written; optional = λ x. absurd (cc x) }
 
 -- of a conditional it asks nothing that another expression hasn't
 record Choosing (n w : Tree) : Type 0 where

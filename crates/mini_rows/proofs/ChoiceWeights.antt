@@ -1,6 +1,6 @@
 -- What each row of choices writes weighs less wherever the expression stands.
-use Rattle.std.proofs.Common.{◌≡◌, ℕ, ◌+◌, ◌<◌, ◌≤◌, Bool, true, false, List, refl, sym, ap, subst, ◌∙◌, inl, inr, true≢false, arith}
-use Rattle.std.specs.Prelude.{◌&&◌, ◌||◌, nat_eq, nat_lt, if◌then◌else◌, Some, is_none, codes, pos, negsuc}
+use Rattle.std.proofs.Common.{◌≡◌, ℕ, ◌+◌, ◌<◌, ◌≤◌, Bool, true, false, Option, None, List, refl, sym, ap, subst, ◌∙◌, inl, inr, true≢false, arith}
+use Rattle.std.specs.Prelude.{◌&&◌, ◌||◌, not, nat_eq, nat_lt, if◌then◌else◌, Some, is_none, codes, pos, negsuc}
 use borrow.Author.Tests.{ltb-true, ltb-false}
 use Rattle.mini_model.specs.declared.name.Name.{Name}
 use Rattle.mini_model.specs.declared.operator.AssignmentOperator.{AssignmentOperator}
@@ -20,7 +20,7 @@ use Rattle.mini_model.specs.Weight.{Outline, outline, outlines, weight, place_we
 use Rattle.mini_laws.specs.Weights.{Lightens}
 use Rattle.mini_laws.proofs.Seats.{placed, placed_node}
 use Rattle.mini_rows.specs.Spellings.{binary, assignment}
-use Rattle.mini_rows.specs.Choices.{assign, is_same_operator, is_grouped, joined, strictly, loosely, joining, AreNullish, deciding, computing, LighterRow, OwnRow, HeldRow, ChoiceRow, ChoiceContracts, ChoicesLighter}
+use Rattle.mini_rows.specs.Choices.{asks_object, null_compared, held, ended, assign, is_same_operator, is_grouped, joined, strictly, loosely, joining, AreNullish, deciding, computing, LighterRow, OwnRow, HeldRow, ChoiceRow, ChoiceContracts, ChoicesLighter}
 use Rattle.mini_rows.specs.Chains.{spine, chain, if_nullish}
 use Rattle.mini_rows.proofs.SpellWeights.{falls_by}
 
@@ -271,6 +271,28 @@ compared_after_falls s false a x f g h =
     let first = placed 0 (left_operand_seat And s) (left_operand_seat And (left_operand_seat And s)) refl (λ h os. omega arith) a in
     omega (arith, first, loose_light (right_operand_seat And s) false x, both_heavy (right_operand_seat And (left_operand_seat And s)) (right_operand_seat And s) false x f g h)
 
+-- 57: a comparison with null goes
+
+type_falls : (s : Seat) (there strict : Bool) (before : Option Tree) (x : Name) → weight (Expr s) (logical (joining (not there)) (ended (joining (not there)) before (asks_object there x)) (held there x)) < weight (Expr s) (logical (joining (not there)) (ended (joining (not there)) before (asks_object there x)) (null_compared strict (not there) x))
+type_falls s true true None x = omega arith
+type_falls s true true (Some b) x = omega arith
+type_falls s true false None x = omega arith
+type_falls s true false (Some b) x = omega arith
+type_falls s false true None x = omega arith
+type_falls s false true (Some b) x = omega arith
+type_falls s false false None x = omega arith
+type_falls s false false (Some b) x = omega arith
+
+null_type_falls : (s : Seat) (there strict : Bool) (before : Option Tree) (x : Name) → weight (Expr s) (logical (joining (not there)) (ended (joining (not there)) before (held there x)) (asks_object there x)) < weight (Expr s) (logical (joining (not there)) (ended (joining (not there)) before (null_compared strict (not there) x)) (asks_object there x))
+null_type_falls s true true None x = omega arith
+null_type_falls s true true (Some b) x = omega arith
+null_type_falls s true false None x = omega arith
+null_type_falls s true false (Some b) x = omega arith
+null_type_falls s false true None x = omega arith
+null_type_falls s false true (Some b) x = omega arith
+null_type_falls s false false None x = omega arith
+null_type_falls s false false (Some b) x = omega arith
+
 -- all
 
 pub lighter : ChoicesLighter
@@ -280,7 +302,9 @@ lighter s n w (inr (inr (inl r))) = falls_by (Expr s) n w _ _ r.shape r.written 
 lighter s n w (inr (inr (inr (inl r)))) = falls_by (Expr s) n w _ _ r.shape r.written (equal_falls s r.name r.b)
 lighter s n w (inr (inr (inr (inr (inl r))))) = falls_by (Expr s) n w _ _ r.shape r.written (unequal_falls s r.name r.b)
 lighter s n w (inr (inr (inr (inr (inr (inr (inl r))))))) = falls_by (Expr s) n w _ _ r.shape r.written (compared_falls s r.equal r.name r.first r.second r.nullish)
-lighter s n w (inr (inr (inr (inr (inr (inr (inr r))))))) = falls_by (Expr s) n w _ _ r.shape r.written (compared_after_falls s r.equal r.before r.name r.first r.second r.nullish)
+lighter s n w (inr (inr (inr (inr (inr (inr (inr (inl r)))))))) = falls_by (Expr s) n w _ _ r.shape r.written (compared_after_falls s r.equal r.before r.name r.first r.second r.nullish)
+lighter s n w (inr (inr (inr (inr (inr (inr (inr (inr (inl r))))))))) = falls_by (Expr s) n w _ _ r.shape r.written (type_falls s r.there r.strict r.before r.name)
+lighter s n w (inr (inr (inr (inr (inr (inr (inr (inr (inr r))))))))) = falls_by (Expr s) n w _ _ r.shape r.written (null_type_falls s r.there r.strict r.before r.name)
 lighter s n w (inr (inr (inr (inr (inr (inl r)))))) = falls_by (Expr s) n w _ _ r.shape r.written (chosen_falls s r.seated r.a r.name r.b r.c)
 
 -- of none of these nodes a parent's weight reads more than that it is there
@@ -291,7 +315,9 @@ lighter_outline s n w (inr (inr (inl r))) = ap outline r.shape ∙ sym (ap outli
 lighter_outline s n w (inr (inr (inr (inl r)))) = ap outline r.shape ∙ sym (ap outline r.written)
 lighter_outline s n w (inr (inr (inr (inr (inl r))))) = ap outline r.shape ∙ sym (ap outline r.written)
 lighter_outline s n w (inr (inr (inr (inr (inr (inr (inl r))))))) = ap outline r.shape ∙ sym (ap outline r.written)
-lighter_outline s n w (inr (inr (inr (inr (inr (inr (inr r))))))) = ap outline r.shape ∙ sym (ap outline r.written)
+lighter_outline s n w (inr (inr (inr (inr (inr (inr (inr (inl r)))))))) = ap outline r.shape ∙ sym (ap outline r.written)
+lighter_outline s n w (inr (inr (inr (inr (inr (inr (inr (inr (inl r))))))))) = ap outline r.shape ∙ sym (ap outline r.written)
+lighter_outline s n w (inr (inr (inr (inr (inr (inr (inr (inr (inr r))))))))) = ap outline r.shape ∙ sym (ap outline r.written)
 lighter_outline s n w (inr (inr (inr (inr (inr (inl r)))))) = ap outline r.shape ∙ sym (ap outline r.written)
 
 own_outline : (n w : Tree) → OwnRow n w → outline n ≡ outline w

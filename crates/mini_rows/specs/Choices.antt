@@ -1,6 +1,6 @@
 -- Rows of conditionals, logical expressions and assignments that are written shorter of the same parts, as equations: each is a
 -- shape and what is written in its place. No order of rewriting is meant.
-use Rattle.std.specs.Prelude.{◌≡◌, ◌<◌, ◌⊎◌, Bool, true, false, nat_eq, Option, Some, None, is_none}
+use Rattle.std.specs.Prelude.{◌≡◌, ◌<◌, ◌⊎◌, Bool, true, false, not, nat_eq, Option, Some, None, is_none, codes}
 use Rattle.mini_model.specs.declared.name.Name.{Name}
 use Rattle.mini_model.specs.declared.operator.AssignmentOperator.{AssignmentOperator}
 use Rattle.mini_model.specs.declared.operator.AssignmentOperator.TheVariants as assigning
@@ -8,15 +8,16 @@ use Rattle.mini_model.specs.declared.operator.BinaryOperator.{BinaryOperator}
 use Rattle.mini_model.specs.declared.operator.BinaryOperator.TheVariants as binary_operator
 use Rattle.mini_model.specs.declared.operator.LogicalOperator.{LogicalOperator}
 use Rattle.mini_model.specs.declared.operator.LogicalOperator.TheVariants.{Or, And, Coalesce}
+use Rattle.mini_model.specs.declared.operator.UnaryOperator.TheVariants.{Typeof}
 use Rattle.mini_model.specs.declared.seat.Seat.{Seat}
 use Rattle.mini_model.specs.declared.shape.Shape.TheVariants as shape
-use Rattle.mini_model.specs.Tree.{Tree, Trees, node, none, ◌▸◌, identifier, logical, conditional, null_literal}
+use Rattle.mini_model.specs.Tree.{Tree, Trees, node, none, ◌▸◌, identifier, unary, negation, logical, conditional, null_literal}
 use Rattle.mini_model.specs.declared.place.Position.{Position}
 use Rattle.mini_model.specs.declared.place.Position.TheVariants.{Expr}
 use Rattle.mini_model.specs.Position.{conditional_level}
 use Rattle.mini_model.specs.Weight.{weight}
 use Rattle.mini_rows.specs.Lists.{sequence}
-use Rattle.mini_rows.specs.Spellings.{IsUndefined, binary, assignment}
+use Rattle.mini_rows.specs.Spellings.{IsUndefined, binary, text, assignment}
 use Rattle.mini_rows.specs.Chains.{Row46Chain}
 
 -- Reading definitions
@@ -165,6 +166,46 @@ pub record Row46Unequal (n w : Tree) : Type 0 where
   pub shape : n ≡ conditional (binary binary_operator.Inequality (identifier name) null_literal) (identifier name) b
   pub written : w ≡ logical Coalesce (identifier name) b
 
+-- `typeof x == "object"`, or `!=`
+abbrev pub asks_object : Bool → Name → Tree
+asks_object there x = binary (loosely there) (unary Typeof (identifier x)) (text (codes "object"))
+
+-- a comparison of a name with null: strict or not, and an equality or not
+abbrev pub null_compared : Bool → Bool → Name → Tree
+null_compared true equal x = binary (strictly equal) (identifier x) null_literal
+null_compared false equal x = binary (loosely equal) (identifier x) null_literal
+
+-- `!!x`, or `!x`
+abbrev pub held : Bool → Name → Tree
+held true x = negation (negation (identifier x))
+held false x = negation (identifier x)
+
+-- t, or `b && t`
+abbrev pub ended : LogicalOperator → Option Tree → Tree → Tree
+ended o None t = t
+ended o (Some b) t = logical o b t
+
+-- 57: `typeof x == "object" && x !== null` becomes `typeof x == "object" && !!x`, and `typeof x != "object" || x === null` becomes
+-- `typeof x != "object" || !x`, with `!=` and `==` too, and after an equal operator to the left
+pub record Row57 (n w : Tree) : Type 0 where
+  pub there : Bool
+  pub strict : Bool
+  pub before : Option Tree
+  pub name : Name
+  pub declared : is_none name.symbol ≡ false
+  pub shape : n ≡ logical (joining (not there)) (ended (joining (not there)) before (asks_object there name)) (null_compared strict (not there) name)
+  pub written : w ≡ logical (joining (not there)) (ended (joining (not there)) before (asks_object there name)) (held there name)
+
+-- 57: the same in the other order
+pub record Row57Null (n w : Tree) : Type 0 where
+  pub there : Bool
+  pub strict : Bool
+  pub before : Option Tree
+  pub name : Name
+  pub declared : is_none name.symbol ≡ false
+  pub shape : n ≡ logical (joining (not there)) (ended (joining (not there)) before (null_compared strict (not there) name)) (asks_object there name)
+  pub written : w ≡ logical (joining (not there)) (ended (joining (not there)) before (held there name)) (asks_object there name)
+
 -- What a conditional evaluates in two places is written once
 
 -- 41: `x ? x : b` becomes `x || b`
@@ -240,7 +281,7 @@ pub record Row49 (n w : Tree) : Type 0 where
 
 -- rows of what is lighter in every seat
 abbrev pub LighterRow : Seat → Tree → Tree → Type 0
-LighterRow s n w = Row39 n w ⊎ (Row38 n w ⊎ (Row35 n w ⊎ (Row46Equal n w ⊎ (Row46Unequal n w ⊎ (Row45 s n w ⊎ (Row37 n w ⊎ Row37After n w))))))
+LighterRow s n w = Row39 n w ⊎ (Row38 n w ⊎ (Row35 n w ⊎ (Row46Equal n w ⊎ (Row46Unequal n w ⊎ (Row45 s n w ⊎ (Row37 n w ⊎ (Row37After n w ⊎ (Row57 n w ⊎ Row57Null n w))))))))
 
 -- of what may be heavier for its parentheses
 abbrev pub OwnRow : Tree → Tree → Type 0

@@ -9,6 +9,7 @@ ghost use Rattle.mini_choices.specs.MinimizeConditionalBranches as branches;
 ghost use Rattle.mini_choices.specs.MinimizeHeldBranches as held;
 ghost use Rattle.mini_choices.specs.MinimizeLogicalExpression as decide;
 ghost use Rattle.mini_choices.specs.MinimizeNullishComparison as nullish;
+ghost use Rattle.mini_choices.specs.MinimizeObjectTest as object_test;
 ghost use Rattle.mini_choices.specs.SubstituteRotateLogicalExpression as rotate;
 
 use crate::rewrites::inject_optional_chaining::inject_optional_chaining;
@@ -17,27 +18,39 @@ use crate::rewrites::minimize_held_branches::minimize_held_branches;
 use crate::rewrites::minimize_logical_expression::minimize_logical_expression;
 use crate::rewrites::minimize_normal_assignment_to_combined_assignment::minimize_normal_assignment_to_combined_assignment;
 use crate::rewrites::minimize_nullish_comparison::minimize_nullish_comparison;
+use crate::rewrites::minimize_object_test::minimize_object_test;
 use crate::rewrites::substitute_rotate_logical_expression::substitute_rotate_logical_expression;
 use mini_model::{OutOfMemory, Position, Seat, Shape};
 use mini_node::Node;
 use mini_tree::{Context, Rule};
 use std::alloc::Global;
 
+// Of two comparisons.
+fn minimize_comparisons(alloc: Global, node: &mut Node) -> Result<bool, OutOfMemory>
+    ensures tree { OnOk result (node.new ≡ unwrap_or (first_of (nullish.written node.old) (object_test.written node.old)) node.old) }
+    ensures said { IfOk result (λ changed. changed ≡ is_some (first_of (nullish.written node.old) (object_test.written node.old))) }
+{
+    if minimize_nullish_comparison(alloc, node)? {
+        return Ok(true);
+    }
+    minimize_object_test(alloc, node)
+}
+
 // Of a logical expression whose operands stand from the left.
 fn minimize_operands(alloc: Global, node: &mut Node) -> Result<bool, OutOfMemory>
-    ensures tree { OnOk result (node.new ≡ unwrap_or (first_of (decide.written node.old) (nullish.written node.old)) node.old) }
-    ensures said { IfOk result (λ changed. changed ≡ is_some (first_of (decide.written node.old) (nullish.written node.old))) }
+    ensures tree { OnOk result (node.new ≡ unwrap_or (first_of (decide.written node.old) (first_of (nullish.written node.old) (object_test.written node.old))) node.old) }
+    ensures said { IfOk result (λ changed. changed ≡ is_some (first_of (decide.written node.old) (first_of (nullish.written node.old) (object_test.written node.old)))) }
 {
     if minimize_logical_expression(alloc, node)? {
         return Ok(true);
     }
-    minimize_nullish_comparison(alloc, node)
+    minimize_comparisons(alloc, node)
 }
 
 // Of a logical expression.
 fn minimize_logical(alloc: Global, node: &mut Node) -> Result<bool, OutOfMemory>
-    ensures tree { OnOk result (node.new ≡ unwrap_or (first_of (rotate.written node.old) (first_of (decide.written node.old) (nullish.written node.old))) node.old) }
-    ensures said { IfOk result (λ changed. changed ≡ is_some (first_of (rotate.written node.old) (first_of (decide.written node.old) (nullish.written node.old)))) }
+    ensures tree { OnOk result (node.new ≡ unwrap_or (first_of (rotate.written node.old) (first_of (decide.written node.old) (first_of (nullish.written node.old) (object_test.written node.old)))) node.old) }
+    ensures said { IfOk result (λ changed. changed ≡ is_some (first_of (rotate.written node.old) (first_of (decide.written node.old) (first_of (nullish.written node.old) (object_test.written node.old))))) }
 {
     if substitute_rotate_logical_expression(alloc, node)? {
         return Ok(true);
