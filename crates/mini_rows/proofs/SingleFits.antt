@@ -4,7 +4,7 @@ use Rattle.std.proofs.Common.{ap, ◌∙◌, sym, true≢false}
 use Rattle.std.proofs.lemmas.Bool.{and_parts}
 use Rattle.mini_model.specs.declared.name.Name.{Name}
 use Rattle.mini_model.specs.declared.shape.Shape.TheVariants as shape
-use Rattle.mini_model.specs.Tree.{Tree, Trees, node, none, ◌▸◌, count, children, identifier}
+use Rattle.mini_model.specs.Tree.{Tree, Trees, node, ◌▸◌, count, children, identifier}
 use Rattle.mini_accept.specs.WellShaped.{nested, a_statement, an_expression, Slot, one, one_or_absent, many, these, fits, fill}
 use Rattle.mini_kept.proofs.Bools.{both}
 use Rattle.mini_kept.proofs.Expressions.{refused_here}

@@ -35,7 +35,7 @@ use Rattle.mini_kept.specs.KeepsLoosely.{KeepsLoosely}
 use Rattle.mini_kept.specs.KeepsNames.{is_rewritten_place}
 use Rattle.mini_kept.specs.KeepsShapes.{AskedAlike}
 use Rattle.mini_kept.specs.Lifted.{is_piece, KeepsRoot}
-use Rattle.mini_kept.specs.Loosely.{Stays, Drops, LawfulLoosely}
+use Rattle.mini_kept.specs.Loosely.{Stays, Drops}
 use Rattle.mini_kept.specs.Placed.{fits_place, is_statement_list}
 use Rattle.mini_kept.specs.ShownFrames.{no_key, gone_from}
 use Rattle.mini_kept.specs.Without.{Unseen}

@@ -1,6 +1,6 @@
 -- A block in which a name is read once, right after its declaration.
-use Rattle.std.proofs.Common.{◌≡◌, ℕ, zero, suc, ◌+◌, ◌<◌, ◌≤◌, Bool, true, false, List, [], ◌∷◌, refl, sym, ap, ◌∙◌, subst, inl, inr, true≢false, add-one, arith}
-use Rattle.std.specs.Prelude.{not, ◌&&◌, ◌||◌, Option, Some, None, if◌then◌else◌}
+use Rattle.std.proofs.Common.{◌≡◌, ℕ, zero, suc, ◌+◌, ◌<◌, Bool, true, false, [], ◌∷◌, refl, sym, ap, ◌∙◌, subst, inr, true≢false, add-one, arith}
+use Rattle.std.specs.Prelude.{not, ◌&&◌, ◌||◌, Some, None, if◌then◌else◌}
 use Rattle.std.proofs.lemmas.Bool.{and_parts}
 use Rattle.mini_model.specs.declared.kind.VariableDeclarationKind.TheVariants.{Let, Const}
 use Rattle.mini_model.specs.declared.name.Name.{Name}
@@ -19,9 +19,9 @@ use Rattle.mini_rows.specs.Declarations.{binding, declarator}
 use Rattle.mini_rows.specs.Unused.{resolved, lexical_kind, lexical_among, lexical_left, names, any_names, leads, is_childless, reads, is_first, put_first, is_head_shape, reads_first, may_move, Row71, UnusedContracts}
 use Rattle.mini_rows.proofs.UnusedWeights.{unused_lighter}
 use Rattle.mini_tree.proofs.Reaching.{moves_once}
-use Rattle.mini_unused.specs.RemoveUnusedDeclaration.{declares_name, list_at, UnusedAt, let_left, Applied}
-use Rattle.mini_unused.specs.SubstituteSingleUse.{may_begin, is_head, is_lexical, last_place, is_declared_over, is_mentioned_around, reads_next, is_read_once, is_single_declarator, is_single, SingleAt, declaration_left, list_single, block_single}
-use Rattle.mini_unused.proofs.Unused.{parts_of, there_within, there_child, there_rest, there_first, and_both, not_true, Declares, declares, without_is, rests, all_used}
+use Rattle.mini_unused.specs.RemoveUnusedDeclaration.{declares_name, list_at, UnusedAt, Applied}
+use Rattle.mini_unused.specs.SubstituteSingleUse.{may_begin, is_head, is_lexical, last_place, is_declared_over, is_mentioned_around, reads_next, is_read_once, is_single_declarator, is_single, SingleAt, declaration_left, block_single}
+use Rattle.mini_unused.proofs.Unused.{parts_of, there_child, there_first, and_both, Declares, declares, without_is, rests, all_used}
 
 -- ---- the first part
 

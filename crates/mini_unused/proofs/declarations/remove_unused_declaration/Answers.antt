@@ -1,5 +1,5 @@
 use Rattle.std.proofs.Common.{◌∙◌, ap, sym, subst}
-use Rattle.std.specs.Prelude.{Some, None}
+use Rattle.std.specs.Prelude.{Some}
 use Rattle.mini_model.specs.Tree.{children}
 use Rattle.mini_unused.specs.RemoveUnusedDeclaration.{UnusedAt}
 use Rattle.mini_unused.proofs.Unused.{applied}

@@ -1,6 +1,6 @@
-use Rattle.std.proofs.Common.{◌<◌, ◌∙◌, sym, ap, subst, arith}
-use Rattle.mini_model.specs.Tree.{children, count, shape_of}
-use Rattle.mini_node.specs.Children.{part, rest_children}
+use Rattle.std.proofs.Common.{◌<◌, ◌∙◌, sym, ap, arith}
+use Rattle.mini_model.specs.Tree.{children, count}
+use Rattle.mini_node.specs.Children.{rest_children}
 use Rattle.mini_node.specs.Kinds.{is_sequence_shape}
 use Rattle.mini_rows.specs.Unused.{any_names, is_first}
 use Rattle.mini_unused.proofs.SingleUses.{not_read, read_by}

@@ -1,4 +1,4 @@
-use Rattle.std.proofs.Common.{◌≡◌, ◌<◌, ◌-◌, ◌∙◌, sym, ap, subst, arith}
+use Rattle.std.proofs.Common.{◌≡◌, ◌-◌, ◌∙◌, sym, ap, arith}
 use Rattle.mini_model.specs.Tree.{children, count}
 use Rattle.mini_unused.specs.SubstituteSingleUse.{last_place}
 use Rattle.mini_unused.proofs.SingleUses.{last_is, single_by}

@@ -2,7 +2,6 @@ use Rattle.std.proofs.Common.{◌<◌, ◌∙◌, sym, ap, arith}
 use Rattle.mini_model.specs.Tree.{children, count}
 use Rattle.mini_node.specs.Children.{rest_children}
 use Rattle.mini_rows.specs.Unused.{any_names, is_first}
-use Rattle.mini_unused.specs.SubstituteSingleUse.{is_head}
 use Rattle.mini_unused.proofs.SingleUses.{head_not_read, head_read_by}
 use Rattle.mini_unused.proofs.single_uses.reads_first.Goals as goal
 
