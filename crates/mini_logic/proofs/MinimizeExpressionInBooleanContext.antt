@@ -1,9 +1,10 @@
 -- What is written for booleans is what a row says, and where nothing is written no row makes the expression lighter.
 use Rattle.std.proofs.Common.{◌≡◌, ◌<◌, ◌≤◌, ◌^◌, ℤ, pos, Bool, true, false, refl, sym, ap, subst, ◌∙◌, inl, inr, arith}
-use Rattle.std.specs.Prelude.{zero, suc, ◌&&◌, ◌||◌, not, nat_lt, Option, Some, None, is_some, unwrap_or, if◌then◌else◌}
+use Rattle.std.specs.Prelude.{zero, suc, ◌&&◌, ◌||◌, not, nat_lt, Option, Some, None, is_some, unwrap_or, Result, OnOk, IfOk, if◌then◌else◌}
 use Rattle.std.proofs.lemmas.Bool.{and_parts}
 use Rattle.std.proofs.lemmas.Option.{none-some}
 use borrow.Author.Tests.{ltb-true, ltb-false}
+use Rattle.mini_model.specs.declared.memory.OutOfMemory.{OutOfMemory}
 use Rattle.mini_model.specs.declared.operator.LogicalOperator.{LogicalOperator}
 use Rattle.mini_model.specs.declared.operator.UnaryOperator.TheVariants.{LogicalNot}
 use Rattle.mini_model.specs.declared.place.Position.TheVariants.{Expr}
@@ -305,17 +306,23 @@ conditional_row s n w e = go (is_conditional n) refl e
     go false h e = absurd (cc e)
 
 -- where the first of two is there, it is that one, and where it isn't, the second
-pub first_is : (x y : Option Tree) → is_some x ≡ true → either x y ≡ x
-first_is (Some t) y e = refl
-first_is None y e = absurd (cc e)
-
-pub second_is : (x y : Option Tree) → is_some x ≡ false → either x y ≡ y
+second_is : (x y : Option Tree) → is_some x ≡ false → either x y ≡ y
 second_is (Some t) y e = absurd (cc e)
 second_is None y e = refl
 
-pub unchanged : (x : Option Tree) (t : Tree) → is_some x ≡ false → unwrap_or x t ≡ t
+unchanged : (x : Option Tree) (t : Tree) → is_some x ≡ false → unwrap_or x t ≡ t
 unchanged (Some u) t e = absurd (cc e)
 unchanged None t e = refl
+
+-- what a second rewrite says, where the first one gave nothing
+
+pub tree_after : (r : Result Bool OutOfMemory) (x : Option Tree) (y : Tree → Option Tree) (t m v : Tree) → is_some x ≡ false → m ≡ unwrap_or x t → OnOk r (v ≡ unwrap_or (y m) m) → OnOk r (v ≡ unwrap_or (either x (y t)) t)
+tree_after r x y t m v f e h =
+    subst (λ u. OnOk r (v ≡ unwrap_or u t)) (sym (second_is x (y t) f)) (subst (λ n. OnOk r (v ≡ unwrap_or (y n) n)) (e ∙ unchanged x t f) h)
+
+pub said_after : (r : Result Bool OutOfMemory) (x : Option Tree) (y : Tree → Option Tree) (t m : Tree) → is_some x ≡ false → m ≡ unwrap_or x t → IfOk r (λ b. b ≡ is_some (y m)) → IfOk r (λ b. b ≡ is_some (either x (y t)))
+said_after r x y t m f e h =
+    subst (λ u. IfOk r (λ b. b ≡ is_some u)) (sym (second_is x (y t) f)) (subst (λ n. IfOk r (λ b. b ≡ is_some (y n))) (e ∙ unchanged x t f) h)
 
 -- where neither branch gives anything, no row makes it lighter
 

@@ -1,7 +1,7 @@
 -- What is written for a negation that is read inside its operand is what the row says, and where nothing is written the row makes
 -- nothing lighter.
 use Rattle.std.proofs.Common.{◌≡◌, ◌<◌, ◌^◌, zero, Bool, true, false, [], Option, Some, None, refl, sym, ap, subst, ◌∙◌, arith}
-use Rattle.std.specs.Prelude.{not, ◌&&◌, nat_lt, is_some, unwrap_or, if◌then◌else◌}
+use Rattle.std.specs.Prelude.{◌&&◌, nat_lt, is_some, unwrap_or, if◌then◌else◌}
 use Rattle.std.proofs.lemmas.Bool.{and_parts}
 use borrow.Author.Tests.{ltb-true, ltb-false}
 use Rattle.mini_model.specs.declared.operator.BinaryOperator.{BinaryOperator}

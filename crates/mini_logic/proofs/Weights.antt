@@ -1,7 +1,8 @@
 -- The weight of operands that are negated, from one on.
 use Rattle.std.proofs.Common.{◌≡◌, refl, ap, sym, subst, ◌∙◌, ℕ, zero, suc, ◌+◌, ◌<◌, ◌≤◌, Bool, true, false, List, [], ◌∷◌, length, arith}
-use Rattle.std.specs.Prelude.{slice_index_or, ◌&&◌, ◌||◌, Some, if◌then◌else◌}
+use Rattle.std.specs.Prelude.{slice_index_or, nat_lt, ◌&&◌, ◌||◌, Some, if◌then◌else◌}
 use Rattle.std.proofs.lemmas.Option.{none-some}
+use borrow.Author.Tests.{ltb-true, ltb-false}
 use Rattle.mini_model.specs.declared.operator.BinaryOperator.{BinaryOperator}
 use Rattle.mini_model.specs.declared.operator.BinaryOperator.TheVariants as binary
 use Rattle.mini_model.specs.declared.operator.LogicalOperator.{LogicalOperator}
@@ -72,6 +73,22 @@ opposite_weighs s (node (shape.BinaryExpression binary.Inequality) xs n ts) o e 
 opposite_weighs s (node (shape.BinaryExpression binary.StrictEquality) xs n ts) o e = let same : binary.StrictInequality ≡ o = cc e in subst (Weighs s (node (shape.BinaryExpression binary.StrictEquality) xs n ts)) same (omega (arith, test_mark s.eq_left s.cond_test true s.lifted, test_mark s.eq_left false false s.lifted))
 opposite_weighs s (node (shape.BinaryExpression binary.StrictInequality) xs n ts) o e = let same : binary.StrictEquality ≡ o = cc e in subst (Weighs s (node (shape.BinaryExpression binary.StrictInequality) xs n ts)) same (omega (arith, test_mark s.eq_left s.cond_test false s.lifted, test_mark s.eq_left false true s.lifted))
 opposite_weighs s t o e = absurd (none-some o e)
+
+-- the lighter one of two trees, by weights that are told
+
+pub lighter_first : (t u : Tree) (m n a b : ℕ) → m ≡ a → n ≡ b → m < n → (if nat_lt a b then t else u) ≡ t
+lighter_first t u m n a b e f h = go (nat_lt a b) refl
+  where
+    go : (d : Bool) → nat_lt a b ≡ d → (if d then t else u) ≡ t
+    go true k = refl
+    go false k = absurd (omega (arith, e, f, h, ltb-false a b k))
+
+pub lighter_second : (t u : Tree) (m n a b : ℕ) → m ≡ a → n ≡ b → n ≤ m → (if nat_lt a b then t else u) ≡ u
+lighter_second t u m n a b e f h = go (nat_lt a b) refl
+  where
+    go : (d : Bool) → nat_lt a b ≡ d → (if d then t else u) ≡ u
+    go true k = absurd (omega (arith, e, f, h, ltb-true a b k))
+    go false k = refl
 
 -- an item of a list is a smaller tree
 pub item_within : (ts : List Tree) (i : ℕ) (d : Tree) → i < length ts → node_count (slice_index_or ts i d) ≤ node_counts (trees_of ts)

@@ -272,7 +272,6 @@ fn minimize_branch(
 }
 
 // `a ? 1 : b` becomes `a || b`.
-#[tactic(auto, using(crate::proofs::MinimizeExpressionInBooleanContext::first_is, crate::proofs::MinimizeExpressionInBooleanContext::second_is, crate::proofs::MinimizeExpressionInBooleanContext::unchanged))]
 fn minimize_branches(alloc: Global, node: &mut Node, seat: Seat) -> Result<bool, OutOfMemory>
     requires { count (children node.old) ≡ 3 }
     ensures tree { OnOk result (node.new ≡ unwrap_or (boolean.branches_written seat node.old) node.old) }
@@ -475,7 +474,6 @@ fn minimize_number(alloc: Global, node: &mut Node, seat: Seat) -> Result<bool, O
 }
 
 // By the branches, or by both as digits.
-#[tactic(auto, using(crate::proofs::MinimizeExpressionInBooleanContext::first_is, crate::proofs::MinimizeExpressionInBooleanContext::second_is, crate::proofs::MinimizeExpressionInBooleanContext::unchanged))]
 fn minimize_known_branches(alloc: Global, node: &mut Node, seat: Seat) -> Result<bool, OutOfMemory>
     requires { count (children node.old) ≡ 3 }
     ensures tree { OnOk result (node.new ≡ unwrap_or (boolean.either (boolean.branches_written seat node.old) (boolean.number_written seat node.old)) node.old) }
@@ -488,7 +486,6 @@ fn minimize_known_branches(alloc: Global, node: &mut Node, seat: Seat) -> Result
 }
 
 // Of a conditional.
-#[tactic(auto, using(crate::proofs::MinimizeExpressionInBooleanContext::first_is, crate::proofs::MinimizeExpressionInBooleanContext::second_is, crate::proofs::MinimizeExpressionInBooleanContext::unchanged))]
 fn minimize_conditional(alloc: Global, node: &mut Node, seat: Seat) -> Result<bool, OutOfMemory>
     ensures tree { OnOk result (node.new ≡ unwrap_or (boolean.conditional_written seat node.old) node.old) }
     ensures said { IfOk result (λ changed. changed ≡ is_some (boolean.conditional_written seat node.old)) }
