@@ -3,7 +3,7 @@ use Rattle.mini_model.specs.declared.place.Position.TheVariants.{Expr}
 use Rattle.mini_model.specs.Position.{operand_seat}
 use Rattle.mini_model.specs.Tree.{node_count}
 use Rattle.mini_model.specs.Weight.{capped, weight}
-use Rattle.mini_logic.proofs.Negations.{neg_turned, neg_other}
+use Rattle.mini_logic.proofs.Negations.{neg_turned, neg_opposite, neg_unwrapped, neg_other}
 use Rattle.mini_logic.proofs.Weights.{negations_from, weight_turned, item_within}
 use Rattle.mini_logic.proofs.terms.+weighing.Goals as goal
 
@@ -11,6 +11,19 @@ pub neg_weight-returns-in-Some : goal.neg_weight-returns-in-Some
 neg_weight-returns-in-Some t c =
     let is = neg_turned c.args.seat c.args.expression.now c.in-Some.operator (sym c.turned_operator.ensures ∙ c.in-Some.is) in
     c.turned_weight.ensures ∙ ap (λ u. capped (weight (Expr c.args.seat) u)) (sym is)
+
+pub neg_weight-opposite_weight-requires : goal.neg_weight-opposite_weight-requires
+neg_weight-opposite_weight-requires t c = sym c.opposite_operator.ensures ∙ c.in-Some-opposite_operator.is
+
+pub neg_weight-returns-in-Some-opposite_operator : goal.neg_weight-returns-in-Some-opposite_operator
+neg_weight-returns-in-Some-opposite_operator t c =
+    let is = neg_opposite c.args.seat c.args.expression.now c.in-Some-opposite_operator.operator (sym c.opposite_operator.ensures ∙ c.in-Some-opposite_operator.is) in
+    c.opposite_weight.ensures ∙ ap (λ u. capped (weight (Expr c.args.seat) u)) (sym is)
+
+pub neg_weight-returns-then-is_unwrapped : goal.neg_weight-returns-then-is_unwrapped
+neg_weight-returns-then-is_unwrapped t c =
+    let is = neg_unwrapped c.args.seat c.args.expression.now (sym c.is_unwrapped.ensures ∙ c.if-is_unwrapped.true) in
+    c.weight.ensures ∙ ap (λ u. capped (weight (Expr c.args.seat) u)) (c.child.ensures.value ∙ sym is)
 
 pub neg_weight-returns : goal.neg_weight-returns
 neg_weight-returns t c =
