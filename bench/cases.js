@@ -394,6 +394,21 @@ bare('f(class { ["constructor"]() { g(); } static ["constructor"]() { h(); } });
 bare('f(class { ["constructor"] = 1; static ["constructor"] = 2; ["prototype"] = 3; static ["prototype"] = 4; });', 'f(class { ["constructor"] = 1; static ["constructor"] = 2; prototype = 3; static ["prototype"] = 4; });', [0, 1, 2, 3, 4, 5, 7, 8, 9]);
 bare('f(class { static ["prototype"]() { g(); } ["prototype"]() { h(); } ["#constructor"]() { g(); } ["#x"]() { h(); } });', 'f(class { static ["prototype"]() { g(); } prototype() { h(); } ["#constructor"]() { g(); } "#x"() { h(); } });', [0, 1, 2, 3, 5, 6, 7, 9]);
 
+// of a pattern that is declared they go at what declares it, so that the text waits for another pass
+
+const declared = (source, after, kept, symbols, passes) => becomes("a key without its brackets", source, after, { kept, symbols, passes });
+
+declared('let { ["x"]: a } = f();', "let { x: a } = f();", [0, 1], 1, 3);
+declared('let { "x": a = 1, ["y"]: b, ...c } = f();', "let { x: a = 1, y: b, ...c } = f();", [0, 1, 2], 3, 3);
+declared('const { ["a-b"]: a, [1]: b } = f();', 'const { "a-b": a, 1: b } = f();', [0, 1], 2, 2);
+declared('let { p: { ["x"]: a }, q: [{ ["2"]: b = 1 }] } = f();', "let { p: { x: a }, q: [{ 2: b = 1 }] } = f();", [0, 1, 2, 4, 5, 7], 2, 3);
+declared('let { [x]: { ["y"]: a } } = f();', "let { [x]: { y: a } } = f();", [0, 1, 2, 3], 1, 3);
+declared('let { ["__proto__"]: a, ["constructor"]: b } = f();', "let { __proto__: a, constructor: b } = f();", [0, 1], 2, 3);
+declared("for (let { [1]: a } of b) f(a);", "for (let { 1: a } of b) f(a);", [0, 1], 1, 2);
+declared('for (let { ["x"]: a } = f(); a; ) g(a);', "for (let { x: a } = f(); a; ) g(a);", [0, 1], 1, 3);
+declared('try { f(); } catch ({ ["message"]: m }) { g(m); }', "try { f(); } catch ({ message: m }) { g(m); }", [0, 1], 1, 3);
+declared('f(({ ["x"]: a }) => { let { ["y"]: b } = a; return b(b); });', 'f(({ ["x"]: a }) => { let { y: b } = a; return b(b); });', [0, 1, 2, 3, 4], 2, 3);
+
 // ---- each rewrite by itself, and near misses
 
 // A line of rows.txt: the program before, which ends in `;` or `}`, `=>`, and after. Nothing in it changes its number or its symbol.

@@ -73,10 +73,10 @@ pub numbered : (strict : Bool) (i : ℕ) (k : Tree) → fits strict (one (an_inn
 numbered strict zero k e = absurd (false≢true e)
 numbered strict (suc j) k e = (j, refl)
 
-as_expression : (strict : Bool) (i : ℕ) (k : Tree) → fits strict (one (an_inner an_expression)) (inner i k) ≡ true → fits strict (one an_expression) k ≡ true
+pub as_expression : (strict : Bool) (i : ℕ) (k : Tree) → fits strict (one (an_inner an_expression)) (inner i k) ≡ true → fits strict (one an_expression) k ≡ true
 as_expression strict i k e = left (fits strict (one an_expression) k) true (right (is_whole (an_inner an_expression) shape.InnerExpression [] i (k ▸ none)) (fits strict (one an_expression) k && true) e)
 
-plain_fits : (strict : Bool) (k : PlainKey) → fits strict (one an_expression) (plain_key k) ≡ true → fits strict (one (a_key false)) (plain_key k) ≡ true
+pub plain_fits : (strict : Bool) (k : PlainKey) → fits strict (one an_expression) (plain_key k) ≡ true → fits strict (one (a_key false)) (plain_key k) ≡ true
 plain_fits strict (a_word s) e = e
 plain_fits strict (a_count n) e = e
 
@@ -85,7 +85,7 @@ private_key : (strict : Bool) (k : PlainKey) → fits strict (one (a_key false))
 private_key strict (a_word s) e = e
 private_key strict (a_count n) e = e
 
-inner_key : (strict : Bool) (k : PlainKey) → fits strict (one (a_key false)) (plain_key k) ≡ true → fits strict (one (an_inner_key false)) (plain_key k) ≡ true
+pub inner_key : (strict : Bool) (k : PlainKey) → fits strict (one (a_key false)) (plain_key k) ≡ true → fits strict (one (an_inner_key false)) (plain_key k) ≡ true
 inner_key strict (a_word s) e = e
 inner_key strict (a_count n) e = e
 
@@ -110,7 +110,7 @@ kind_kept kind is_static i k l e = refl
 
 -- ---- the whole
 
-changed : (a b c : Bool) → (a ≡ true → b ≡ true) → (a && (c && true)) ≡ true → (b && (c && true)) ≡ true
+pub changed : (a b c : Bool) → (a ≡ true → b ≡ true) → (a && (c && true)) ≡ true → (b && (c && true)) ≡ true
 changed true b c h e = ap (λ x. x && (c && true)) (h refl) ∙ e
 changed false b c h e = absurd (cc e)
 

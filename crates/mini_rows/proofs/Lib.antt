@@ -15,6 +15,8 @@ pub mod HeldKeyLawful
 pub mod BareKeyMeaning
 pub mod BareKeyShapes
 pub mod BareKeyLawful
+pub mod DeclaredKeyParts
+pub mod DeclaredKeyLawful
 pub mod KeysJoined
 pub mod BodyLists
 pub mod ListStretches

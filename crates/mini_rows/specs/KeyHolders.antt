@@ -1,6 +1,6 @@
 -- Rows on the keys of patterns and of classes, as equations. The node is what has the key: a property of a pattern, a method or a
 -- field. Its key names the same property before and after (ECMA-262, "Runtime Semantics: Evaluation" of LiteralPropertyName).
-use Rattle.std.specs.Prelude.{◌≡◌, ◌<◌, ◌⊎◌, ◌&&◌, ◌||◌, not, ℕ, Bool, true, false, List, [], codes, pos}
+use Rattle.std.specs.Prelude.{◌≡◌, ◌<◌, ◌⊎◌, ◌&&◌, ◌||◌, not, ℕ, suc, Bool, true, false, List, [], codes, pos, if◌then◌else◌}
 use Rattle.std.specs.Fmt.{signed_decimal}
 use Rattle.mini_model.specs.Texts.{is_identifier_name}
 use Rattle.mini_model.specs.Numerals.{IsSafe}
@@ -9,7 +9,9 @@ use Rattle.mini_model.specs.declared.place.Position.{Position}
 use Rattle.mini_model.specs.declared.place.Position.TheVariants.{Elsewhere}
 use Rattle.mini_model.specs.declared.shape.Shape.{Shape}
 use Rattle.mini_model.specs.declared.shape.Shape.TheVariants as shape
-use Rattle.mini_model.specs.Tree.{Tree, node, none, ◌▸◌}
+use Rattle.mini_model.specs.Paths.{append}
+use Rattle.mini_model.specs.declared.name.Name.{Name}
+use Rattle.mini_model.specs.Tree.{Tree, Trees, node, none, ◌▸◌}
 use Rattle.mini_model.specs.Weight.{same_text, weight}
 use Rattle.mini_rows.specs.Spellings.{numeral, text, key}
 
@@ -113,9 +115,49 @@ pub record Row52Bare (n w : Tree) : Type 0 where
   pub shape : n ≡ in_brackets member number (plain_key key) value
   pub written : w ≡ without_brackets member (plain_key key) value
 
+-- ---- brackets in a pattern that is declared
+
+-- what such a pattern is made of, shorthand properties aside: its lists, patterns in it, its properties, a rest, and what has a default
+abbrev pub is_pattern_part : Shape → Bool
+is_pattern_part shape.Listed = true
+is_pattern_part shape.ObjectPattern = true
+is_pattern_part shape.ArrayPattern = true
+is_pattern_part (shape.BindingProperty false is_computed) = true
+is_pattern_part shape.RestElement = true
+is_pattern_part shape.AssignmentPattern = true
+is_pattern_part _ = false
+
+-- a property of it, with the key in brackets and without them
+abbrev pub bracketed : ℕ → PlainKey → Tree → Tree
+bracketed n k v = node (shape.BindingProperty false true) [] 0 (node shape.InnerExpression [] (suc n) (plain_key k ▸ none) ▸ v ▸ none)
+
+abbrev pub plain : PlainKey → Tree → Tree
+plain k v = node (shape.BindingProperty false false) [] 0 (plain_key k ▸ v ▸ none)
+
+-- a part of such a pattern, and without the brackets of one key in it
+pub data Bares : Tree → Tree → Type 0 where
+  bares_key : (n : ℕ) (k : PlainKey) (v : Tree) → IsPlainKey k → Bares (bracketed n k v) (plain k v)
+  bares_within : (h : Shape) (xs : List Name) (n : ℕ) (before after : Trees) (t u : Tree) → is_pattern_part h ≡ true → Bares t u → Bares (node h xs n (append before (t ▸ after))) (node h xs n (append before (u ▸ after)))
+
+-- what declares the names of a pattern, other than a function of its parameters
+abbrev pub declaring_shape : Bool → Shape
+declaring_shape is_catch = if is_catch then shape.CatchClause else shape.VariableDeclarator
+
+-- 52, of brackets: `let { ["x"]: v } = o` becomes `let { "x": v } = o`, and `catch ({ [1]: v }) {}` becomes `catch ({ 1: v }) {}`, however
+-- deep the pattern has the key. Among parameters brackets decide whether the body's `var`s are the parameters (ECMA-262,
+-- "FunctionDeclarationInstantiation"); so the node is what declares, and no property
+pub record Row52Declared (n w : Tree) : Type 0 where
+  pub is_catch : Bool
+  pub pattern : Tree
+  pub bared : Tree
+  pub rest : Tree
+  pub bares : Bares pattern bared
+  pub shape : n ≡ node (declaring_shape is_catch) [] 0 (pattern ▸ rest ▸ none)
+  pub written : w ≡ node (declaring_shape is_catch) [] 0 (bared ▸ rest ▸ none)
+
 -- a row on such a key reads n as w at this place
 abbrev pub HeldKeyRow : Position → Tree → Tree → Type 0
-HeldKeyRow Elsewhere n w = Row52Held n w ⊎ Row52Bare n w
+HeldKeyRow Elsewhere n w = Row52Held n w ⊎ (Row52Bare n w ⊎ Row52Declared n w)
 HeldKeyRow _ n w = ⊥
 
 -- what it writes, where it weighs less

@@ -1,29 +1,32 @@
 -- The rewrite of keys of patterns and classes is that of the row, and where it writes nothing the row doesn't read the node.
-use Rattle.std.proofs.Common.{◌≡◌, ℕ, zero, Bool, true, false, List, [], Option, Some, None, refl, sym, ap, subst, ◌∙◌, inl, inr, arith}
-use Rattle.std.specs.Prelude.{◌⊎◌, ◌&&◌, ◌||◌, not, is_some, if◌then◌else◌, ℤ, pos}
+use Rattle.std.proofs.Common.{◌≡◌, ℕ, zero, Bool, true, false, List, [], Option, Some, None, refl, sym, ap, subst, ◌∙◌, inl, inr}
+use Rattle.std.specs.Prelude.{◌&&◌, ◌||◌, not, is_some, if◌then◌else◌, ℤ, pos}
 use Rattle.std.specs.Fmt.{signed_decimal}
-use Rattle.std.proofs.lemmas.Bool.{and_parts, le-leb, eqb-true, false≢true}
+use Rattle.std.proofs.lemmas.Bool.{and_parts, le-leb, false≢true}
 use Rattle.mini_model.specs.Texts.{is_identifier_name}
 use Rattle.mini_model.specs.Numerals.{max_safe_integer, safe_number}
 use Rattle.mini_model.proofs.Safe.{text_of_number, number_of_text}
 use Rattle.mini_model.specs.declared.place.Position.{Position}
 use Rattle.mini_model.specs.declared.place.Position.TheVariants.{Elsewhere}
 use Rattle.mini_model.specs.declared.shape.Shape.TheVariants as shape
-use Rattle.mini_model.specs.Tree.{Tree, node, none, ◌▸◌, shape_of, children, count}
+use Rattle.mini_model.specs.Tree.{Tree, node, none, ◌▸◌, shape_of, children}
 use Rattle.mini_node.specs.Children.{part, number_of, with_child}
 use Rattle.mini_node.specs.Kinds.{string}
 use Rattle.mini_node.specs.Lends.{with_children}
 use Rattle.mini_node.specs.Made.{string_is}
 use Rattle.mini_rows.specs.Spellings.{numeral, text}
-use Rattle.mini_rows.specs.KeyHolders.{Holder, a_binding, a_target, a_method, a_field, holding, Spelling, of_name, of_whole, IsSpelling, quoted, unquoted, Row52Held, Member, of_target, of_method, of_field, member_shape, in_brackets, PlainKey, a_word, a_count, plain_key, IsPlainKey, loses_brackets, Row52Bare, HeldKeyRow}
+use Rattle.mini_rows.specs.KeyHolders.{Holder, a_binding, a_target, a_method, a_field, holding, Spelling, of_name, of_whole, IsSpelling, quoted, unquoted, Row52Held, Member, of_target, of_method, of_field, member_shape, in_brackets, PlainKey, a_word, a_count, plain_key, IsPlainKey, loses_brackets, Row52Bare, Row52Declared, HeldKeyRow}
 use Rattle.mini_rows.proofs.KeysJoined.{held_keys_lighter}
 use Rattle.mini_tree.specs.Rule.{Applied}
 use Rattle.mini_tree.proofs.Reaching.{moves_once}
 use Rattle.mini_syntax.specs.ConvertToDottedProperties as dotted
 use Rattle.mini_syntax.specs.ConvertToDottedProperties.{is_name_text, as_name}
 use Rattle.mini_syntax.specs.SubstituteObjectProperty.{is_literal_key, whole_of}
-use Rattle.mini_syntax.proofs.Keys.{OtherText, SafeNumber, literal_key_is}
-use Rattle.mini_syntax.specs.SubstitutePropertyKey.{is_holder, names_key, key_number, respelled_by, respelled, respells, with_key, spelled, is_spelled, is_bracketed, is_inner, keeps, bracketed_key, drops_brackets, bare_shape, bare, unbracketed, written, is_written, Gives, Rests, WrittenIsRow, UnwrittenRests}
+use Rattle.mini_syntax.specs.Forms.{is_inner, bracketed_key}
+use Rattle.mini_syntax.specs.SubstituteBindingProperty.{declares_brackets, declared_bare}
+use Rattle.mini_syntax.proofs.InnerKeys.{inner_is, literal_is}
+use Rattle.mini_syntax.proofs.BindingKeys.{declared_row, declared_reads, declared_stays}
+use Rattle.mini_syntax.specs.SubstitutePropertyKey.{is_holder, names_key, key_number, respelled_by, respelled, respells, with_key, spelled, is_spelled, is_bracketed, keeps, drops_brackets, bare_shape, bare, held_written, is_held_written, written, is_written, Gives, Rests, WrittenIsRow, UnwrittenRests}
 
 -- ---- what the tests say
 
@@ -109,24 +112,6 @@ bracketed_is (node (shape.MethodDefinition kind true is_static) [] zero (k ▸ v
 bracketed_is (node (shape.PropertyDefinition true is_static) [] zero (k ▸ v ▸ none)) e = record { member = of_field is_static; shape = refl }
 bracketed_is t e = absurd (false≢true e)
 
-inner_is : (k : Tree) → is_inner k ≡ true → k ≡ node shape.InnerExpression [] (number_of k) (part k 0 ▸ none)
-inner_is (node shape.InnerExpression [] n none) e = absurd (false≢true e)
-inner_is (node shape.InnerExpression [] n (a ▸ none)) e = refl
-inner_is (node shape.InnerExpression [] n (a ▸ (b ▸ ts))) e = let two : count (a ▸ (b ▸ ts)) ≡ 1 = eqb-true (count (a ▸ (b ▸ ts))) 1 e in absurd (omega (arith, two))
-inner_is k e = absurd (false≢true e)
-
-record Literal (k : Tree) : Type 0 where
-  key : PlainKey
-  is_key : IsPlainKey key
-  is : k ≡ plain_key key
-
-literal_is : (k : Tree) → is_literal_key false k ≡ true → Literal k
-literal_is k e = by (literal_key_is false k e)
-  where
-    by : OtherText false k ⊎ SafeNumber k → Literal k
-    by (inl (s, (is, other))) = record { key = a_word s; is_key = tt; is = is }
-    by (inr (n, (is, safe))) = record { key = a_count n; is_key = safe; is = is }
-
 loses : (m : Member) (k : PlainKey) → not (keeps (member_shape true m) (shape_of (plain_key k))) ≡ loses_brackets m k
 loses of_target (a_word s) = refl
 loses of_target (a_count n) = refl
@@ -167,22 +152,29 @@ dropped (of_method kind is_static) i (a_count n) v h l = ap (λ b. b && true) (l
 dropped (of_field is_static) i (a_word s) v h l = l
 dropped (of_field is_static) i (a_count n) v h l = ap (λ b. b && true) (le-leb n max_safe_integer h)
 
-pub written_is_row : WrittenIsRow
-written_is_row n e = go (drops_brackets n) refl e
+held_row : (n : Tree) → is_held_written n ≡ true → HeldKeyRow Elsewhere n (held_written n)
+held_row n e = go (drops_brackets n) refl e
   where
-    go : (b : Bool) → drops_brackets n ≡ b → b || is_spelled n ≡ true → HeldKeyRow Elsewhere n (written n)
-    go true d h = inr (subst (Row52Bare n) (sym (ap (λ b. if b then bare n else spelled n) d)) (bare_row n d))
+    go : (b : Bool) → drops_brackets n ≡ b → b || is_spelled n ≡ true → HeldKeyRow Elsewhere n (held_written n)
+    go true d h = inr (inl (subst (Row52Bare n) (sym (ap (λ b. if b then bare n else spelled n) d)) (bare_row n d)))
     go false d h = inl (subst (Row52Held n) (sym (ap (λ b. if b then bare n else spelled n) d)) (spelled_row n h))
 
--- what is made where it drops none
-pub spelled_instead : (t u v : Tree) → drops_brackets t ≡ false → u ≡ unbracketed t → v ≡ spelled u → v ≡ written t
-spelled_instead t u v d e f = f ∙ ap spelled (e ∙ ap (λ b. if b then bare t else t) d) ∙ sym (ap (λ b. if b then bare t else spelled t) d)
+pub written_is_row : WrittenIsRow
+written_is_row n e = go (declares_brackets n) refl e
+  where
+    go : (b : Bool) → declares_brackets n ≡ b → b || is_held_written n ≡ true → HeldKeyRow Elsewhere n (written n)
+    go true d h = inr (inr (subst (Row52Declared n) (sym (ap (λ b. if b then declared_bare n else held_written n) d)) (declared_row n d)))
+    go false d h = subst (HeldKeyRow Elsewhere n) (sym (ap (λ b. if b then declared_bare n else held_written n) d)) (held_row n h)
 
-pub bared_instead : (t u : Tree) → drops_brackets t ≡ true → u ≡ unbracketed t → u ≡ written t
-bared_instead t u d e = e ∙ ap (λ b. if b then bare t else t) d ∙ sym (ap (λ b. if b then bare t else spelled t) d)
+-- what is made where no pattern loses brackets, and where one does
+pub held_instead : (t u v : Tree) → false ≡ declares_brackets t → u ≡ declared_bare t → v ≡ held_written u → v ≡ written t
+held_instead t u v d e f = f ∙ ap held_written (e ∙ declared_stays t (sym d)) ∙ sym (ap (λ b. if b then declared_bare t else held_written t) (sym d))
 
-pub said_instead : (t u : Tree) (b : Bool) → drops_brackets t ≡ false → u ≡ unbracketed t → b ≡ is_spelled u → b ≡ is_written t
-said_instead t u b d e f = f ∙ ap is_spelled (e ∙ ap (λ c. if c then bare t else t) d) ∙ sym (ap (λ c. c || is_spelled t) d)
+pub held_said : (t u : Tree) (b : Bool) → false ≡ declares_brackets t → u ≡ declared_bare t → b ≡ is_held_written u → b ≡ is_written t
+held_said t u b d e f = f ∙ ap is_held_written (e ∙ declared_stays t (sym d)) ∙ sym (ap (λ c. c || is_held_written t) (sym d))
+
+pub bared_instead : (t u : Tree) → true ≡ declares_brackets t → u ≡ declared_bare t → u ≡ written t
+bared_instead t u d e = e ∙ sym (ap (λ b. if b then declared_bare t else held_written t) (sym d))
 
 -- ---- what stays
 
@@ -207,9 +199,13 @@ still_by k true o e = absurd (cc e)
 bare_reads : (n w : Tree) → Row52Bare n w → drops_brackets n ≡ true
 bare_reads n w r = ap drops_brackets r.shape ∙ dropped r.member r.number r.key r.value r.is_key r.loses
 
+later_said : (a b : Bool) → b ≡ true → a || b ≡ true
+later_said a b e = ap (λ c. a || c) e ∙ or_true a
+
 reads : (p : Position) (n w : Tree) → HeldKeyRow p n w → is_written n ≡ true
-reads Elsewhere n w (inl r) = ap (λ b. drops_brackets n || b) (held_reads n w r) ∙ or_true (drops_brackets n)
-reads Elsewhere n w (inr r) = ap (λ b. b || is_spelled n) (bare_reads n w r)
+reads Elsewhere n w (inl r) = later_said (declares_brackets n) (is_held_written n) (later_said (drops_brackets n) (is_spelled n) (held_reads n w r))
+reads Elsewhere n w (inr (inl r)) = later_said (declares_brackets n) (is_held_written n) (ap (λ b. b || is_spelled n) (bare_reads n w r))
+reads Elsewhere n w (inr (inr r)) = ap (λ b. b || is_held_written n) (declared_reads n w r)
 reads p n w r = absurd r
 
 rests : (p : Position) (n : Tree) → is_written n ≡ false → Rests p n
@@ -231,8 +227,9 @@ neither false b e = (refl, e)
 
 pub unwritten_rests : UnwrittenRests
 unwritten_rests p n e =
-    let (d, s) = neither (drops_brackets n) (is_spelled n) e in
-    (ap (λ b. if b then bare n else spelled n) d ∙ unspelled n s, rests p n e)
+    let (declared, held) = neither (declares_brackets n) (is_held_written n) e in
+    let (d, s) = neither (drops_brackets n) (is_spelled n) held in
+    (ap (λ b. if b then declared_bare n else held_written n) declared ∙ ap (λ b. if b then bare n else spelled n) d ∙ unspelled n s, rests p n e)
 
 -- ---- the rule
 

@@ -1,11 +1,11 @@
 -- Tests of expressions that several rewrites ask.
-use Rattle.std.specs.Prelude.{ℕ, Bool, true, false, ◌&&◌, ◌||◌, List, [], ◌∷◌, Option, Some, None, is_none, codes, ℤ}
+use Rattle.std.specs.Prelude.{ℕ, Bool, true, false, ◌&&◌, ◌||◌, List, [], ◌∷◌, Option, Some, None, is_none, codes, nat_eq, ℤ}
 use Rattle.mini_model.specs.declared.name.Name.{Name}
 use Rattle.mini_model.specs.declared.operator.UnaryOperator.{UnaryOperator}
 use Rattle.mini_model.specs.declared.operator.UnaryOperator.TheVariants.{Void}
 use Rattle.mini_model.specs.declared.shape.Shape.{Shape}
 use Rattle.mini_model.specs.declared.shape.Shape.TheVariants as shape
-use Rattle.mini_model.specs.Tree.{Tree, shape_of}
+use Rattle.mini_model.specs.Tree.{Tree, shape_of, children, count}
 use Rattle.mini_model.specs.Weight.{same_text, is_zero_number}
 use Rattle.mini_node.specs.Children.{part, is_bare, names_of}
 use Rattle.mini_node.specs.Kinds.{number, unary_operator, is_identifier, is_listed_shape}
@@ -78,3 +78,21 @@ is_text_template t = is_template_shape (shape_of t) && (is_bare t 2 && (is_list_
 -- a value that is written out
 abbrev pub is_plain : Tree → Bool
 is_plain t = is_literal t || (is_text_template t || is_void_zero t)
+
+-- Keys in brackets
+
+abbrev pub is_inner_shape : Shape → Bool
+is_inner_shape shape.InnerExpression = true
+is_inner_shape _ = false
+
+abbrev pub is_unnamed : List Name → Bool
+is_unnamed [] = true
+is_unnamed (x ∷ xs) = false
+
+-- an inner expression
+abbrev pub is_inner : Tree → Bool
+is_inner k = is_inner_shape (shape_of k) && (is_unnamed (names_of k) && nat_eq (count (children k)) 1)
+
+-- what stands in the brackets of a key
+abbrev pub bracketed_key : Tree → Tree
+bracketed_key t = part (part t 0) 0

@@ -8,6 +8,7 @@ pub mod SubstituteTypeofUndefined
 pub mod SubstituteYieldExpression
 pub mod SubstituteReturnStatement
 pub mod SubstituteObjectProperty
+pub mod SubstituteBindingProperty
 pub mod SubstitutePropertyKey
 pub mod SubstituteVariableDeclaration
 pub mod Spelled

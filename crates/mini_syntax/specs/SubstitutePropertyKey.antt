@@ -1,17 +1,18 @@
 -- 52 of patterns and classes, `substitute_property_key`: of a property of a pattern, a method or a field a text becomes the name or
--- the number that it writes; and a text or a whole number in brackets loses them, but of a pattern of a declaration.
-use Rattle.std.specs.Prelude.{◌≡◌, Bool, true, false, not, ◌&&◌, ◌||◌, nat_eq, List, [], ◌∷◌, Option, Some, None, is_some, if◌then◌else◌, ℤ}
-use Rattle.mini_model.specs.declared.name.Name.{Name}
+-- the number that it writes; and a text or a whole number in brackets loses them, but of a parameter.
+use Rattle.std.specs.Prelude.{◌≡◌, Bool, true, false, not, ◌&&◌, ◌||◌, [], Option, Some, None, is_some, if◌then◌else◌, ℤ}
 use Rattle.mini_model.specs.declared.place.Position.{Position}
 use Rattle.mini_model.specs.declared.place.Position.TheVariants.{Elsewhere}
 use Rattle.mini_model.specs.declared.shape.Shape.{Shape}
 use Rattle.mini_model.specs.declared.shape.Shape.TheVariants as shape
-use Rattle.mini_model.specs.Tree.{Tree, node, none, ◌▸◌, shape_of, children, count}
-use Rattle.mini_node.specs.Children.{part, names_of, is_bare}
+use Rattle.mini_model.specs.Tree.{Tree, node, none, ◌▸◌, shape_of}
+use Rattle.mini_node.specs.Children.{part, is_bare}
 use Rattle.mini_node.specs.Kinds.{string}
 use Rattle.mini_rows.specs.Spellings.{numeral}
 use Rattle.mini_rows.specs.KeyHolders.{stays_in_brackets, HeldKeyRow, HeldKeyContracts}
 use Rattle.mini_syntax.specs.ConvertToDottedProperties.{is_name_text, number_of_text, as_name}
+use Rattle.mini_syntax.specs.Forms.{is_inner, bracketed_key}
+use Rattle.mini_syntax.specs.SubstituteBindingProperty.{declares_brackets, declared_bare}
 use Rattle.mini_syntax.specs.SubstituteObjectProperty.{is_literal_key, whole_of}
 use Rattle.mini_syntax.specs.declared.rewrites.substitute_property_key.ClassPropertyKeyParent.{ClassPropertyKeyParent}
 use Rattle.mini_syntax.specs.declared.rewrites.substitute_property_key.ClassPropertyKeyParentType.{ClassPropertyKeyParentType}
@@ -72,17 +73,6 @@ is_member_shape _ = false
 abbrev pub is_bracketed : Tree → Bool
 is_bracketed t = is_member_shape (shape_of t) && is_bare t 2
 
-abbrev pub is_inner_shape : Shape → Bool
-is_inner_shape shape.InnerExpression = true
-is_inner_shape _ = false
-
-abbrev pub is_unnamed : List Name → Bool
-is_unnamed [] = true
-is_unnamed (x ∷ xs) = false
-
-abbrev pub is_inner : Tree → Bool
-is_inner k = is_inner_shape (shape_of k) && (is_unnamed (names_of k) && nat_eq (count (children k)) 1)
-
 -- of what a key is in a class
 abbrev pub is_method : ClassPropertyKeyParentType → Bool
 is_method MethodDefinition = true
@@ -105,10 +95,6 @@ keeps (shape.MethodDefinition kind is_computed is_static) (shape.StringLiteral s
 keeps (shape.PropertyDefinition is_computed is_static) (shape.StringLiteral s) = stays_in_brackets false is_static s
 keeps _ _ = false
 
--- what stands in the brackets
-abbrev pub bracketed_key : Tree → Tree
-bracketed_key t = part (part t 0) 0
-
 -- a text, or a safe whole number from 0
 abbrev pub drops_brackets : Tree → Bool
 drops_brackets t = is_bracketed t && (is_inner (part t 0) && (is_literal_key false (bracketed_key t) && not (keeps (shape_of t) (shape_of (bracketed_key t)))))
@@ -125,14 +111,20 @@ bare t = node (bare_shape (shape_of t)) [] 0 (bracketed_key t ▸ part t 1 ▸ n
 abbrev pub unbracketed : Tree → Tree
 unbracketed t = if drops_brackets t then bare t else t
 
--- Of all
-
-abbrev pub written : Tree → Tree
-written t = if drops_brackets t then bare t else spelled t
+abbrev pub held_written : Tree → Tree
+held_written t = if drops_brackets t then bare t else spelled t
 
 -- whether it changes
+abbrev pub is_held_written : Tree → Bool
+is_held_written t = drops_brackets t || is_spelled t
+
+-- Of all, among them what declares a pattern
+
+abbrev pub written : Tree → Tree
+written t = if declares_brackets t then declared_bare t else held_written t
+
 abbrev pub is_written : Tree → Bool
-is_written t = drops_brackets t || is_spelled t
+is_written t = declares_brackets t || is_held_written t
 
 -- what the rule makes
 abbrev pub Gives : Position → Tree → Tree → Type 0

@@ -3,7 +3,7 @@
 ghost use Rattle.std.specs.Prelude.{◌≡◌, true};
 ghost use Rattle.mini_model.specs.Tree.{children, count};
 ghost use Rattle.mini_node.specs.Children.{names};
-ghost use Rattle.mini_syntax.specs.Forms.{is_zero as is_it_zero, is_void_zero as is_it_void_zero, is_undefined_name as is_it_undefined_name, is_global_undefined as is_it_global_undefined, is_undefined as is_it_undefined, is_literal as is_it_literal, is_cooked as is_it_cooked, is_list_of as is_it_list_of, is_text_template as is_it_text_template, is_plain as is_it_plain};
+ghost use Rattle.mini_syntax.specs.Forms.{is_zero as is_it_zero, is_void_zero as is_it_void_zero, is_undefined_name as is_it_undefined_name, is_global_undefined as is_it_global_undefined, is_undefined as is_it_undefined, is_literal as is_it_literal, is_cooked as is_it_cooked, is_list_of as is_it_list_of, is_text_template as is_it_text_template, is_plain as is_it_plain, is_unnamed as is_it_unnamed, is_inner as is_it_inner};
 
 use mini_model::{Name, Shape, UnaryOperator};
 use mini_node::{Node, is_identifier, number, unary_operator};
@@ -109,4 +109,24 @@ pub fn is_plain(node: &Node) -> bool
     ensures { result ≡ is_it_plain node.now }
 {
     is_literal(node) || is_text_template(node) || is_void_zero(node)
+}
+
+fn is_unnamed(name: &Option<Name>) -> bool
+    ensures { result ≡ is_it_unnamed (names name.now) }
+{
+    match name {
+        Some(_) => false,
+        None => true,
+    }
+}
+
+/// An inner expression.
+pub fn is_inner(key: &Node) -> bool
+    ensures kind { result ≡ is_it_inner key.now }
+    ensures parts { result ≡ true → count (children key.now) ≡ 1 }
+{
+    match key.shape() {
+        Shape::InnerExpression => is_unnamed(key.name()) && key.children().len() == 1,
+        _ => false,
+    }
 }

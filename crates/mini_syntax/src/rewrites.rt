@@ -1,5 +1,6 @@
 pub mod convert_to_dotted_properties;
 pub mod substitute_arrow_expression;
+pub mod substitute_binding_property;
 pub mod substitute_boolean;
 pub mod substitute_loose_equals_undefined;
 pub mod substitute_object_property;

@@ -1,9 +1,9 @@
 //! Row 52 of patterns and classes: of a property of a pattern, a method or a field a text becomes the name or the number that it
-//! writes, and a text or a whole number in brackets loses them, but of a pattern of a declaration. It is lighter in every place.
+//! writes, and a text or a whole number in brackets loses them, but of a parameter. It is lighter in every place.
 
 ghost use Rattle.std.specs.Prelude.{◌≡◌, true, IfOk, OnOk};
 ghost use Rattle.mini_model.specs.Tree.{children, count, shape_of};
-ghost use Rattle.mini_node.specs.Children.{names, part};
+ghost use Rattle.mini_node.specs.Children.{part};
 ghost use Rattle.mini_rows.specs.KeyHolders.{stays_in_brackets};
 ghost use Rattle.mini_tree.specs.Rule.{Applied};
 ghost use Rattle.mini_syntax.specs.Lighter.{held_keys_lighter};
@@ -11,9 +11,11 @@ ghost use Rattle.mini_syntax.specs.declared.rewrites.substitute_property_key.Cla
 ghost use Rattle.mini_syntax.specs.SubstitutePropertyKey as row;
 ghost use Rattle.mini_syntax.specs.SubstitutePropertyKey.{spelled, is_spelled, written, is_written, Gives, Rests};
 
+use crate::forms::is_inner;
 use crate::rewrites::convert_to_dotted_properties::{as_name, is_name};
+use crate::rewrites::substitute_binding_property::substitute_binding_property;
 use crate::rewrites::substitute_object_property::{is_literal_key, property, whole_of};
-use mini_model::{Name, OutOfMemory, Position, Shape, Text};
+use mini_model::{OutOfMemory, Position, Shape, Text};
 use mini_node::{Node, numeric_literal, one, taken, two};
 use mini_tree::{Context, Rule};
 use std::alloc::Global;
@@ -177,26 +179,6 @@ fn is_bracketed(node: &Node) -> bool
     }
 }
 
-fn is_unnamed(name: &Option<Name>) -> bool
-    ensures { result ≡ row.is_unnamed (names name.now) }
-{
-    match name {
-        Some(_) => false,
-        None => true,
-    }
-}
-
-// An inner expression.
-fn is_inner(key: &Node) -> bool
-    ensures kind { result ≡ row.is_inner key.now }
-    ensures parts { result ≡ true → count (children key.now) ≡ 1 }
-{
-    match key.shape() {
-        Shape::InnerExpression => is_unnamed(key.name()) && key.children().len() == 1,
-        _ => false,
-    }
-}
-
 // `["x"]` and `[1]`
 fn drops_brackets(node: &Node) -> bool
     ensures kind { result ≡ row.drops_brackets node.now }
@@ -248,12 +230,10 @@ fn unbracket(alloc: Global, node: &mut Node) -> Result<bool, OutOfMemory>
     Ok(true)
 }
 
-/// Of a property of a pattern, a method or a field a key in brackets loses them where it is a text or a whole number from 0, but of
-/// a pattern of a declaration and where `should_keep_as_computed_property`; another key that is a text becomes the name or the number
-/// that it writes. The answer says whether anything changed; the only error is that memory runs out.
-pub fn substitute_key(alloc: Global, node: &mut Node) -> Result<bool, OutOfMemory>
-    ensures tree { OnOk result (node.new ≡ written node.old) }
-    ensures said { IfOk result (λ changed. changed ≡ is_written node.old) }
+// What has a key: it loses its brackets, or is respelled.
+fn substitute_held_key(alloc: Global, node: &mut Node) -> Result<bool, OutOfMemory>
+    ensures tree { OnOk result (node.new ≡ row.held_written node.old) }
+    ensures said { IfOk result (λ changed. changed ≡ row.is_held_written node.old) }
 {
     if unbracket(alloc, node)? {
         return Ok(true);
@@ -261,7 +241,24 @@ pub fn substitute_key(alloc: Global, node: &mut Node) -> Result<bool, OutOfMemor
     Ok(substitute_property_key(alloc, node))
 }
 
-/// The row on keys of patterns and classes as a rule: of each property of a pattern, each method and each field.
+/// Of a property of a pattern, a method or a field a key in brackets loses them where it is a text or a whole number from 0, but of
+/// a parameter and where `should_keep_as_computed_property`; another key that is a text becomes the name or the number that it
+/// writes. Of a pattern that is declared the brackets go at what declares it. The answer says whether anything changed; the only error
+/// is that memory runs out.
+#[tactic(auto, using(crate::proofs::PropertyKeys::held_instead, crate::proofs::PropertyKeys::held_said, crate::proofs::PropertyKeys::bared_instead))]
+pub fn substitute_key(alloc: Global, node: &mut Node) -> Result<bool, OutOfMemory>
+    ensures tree { OnOk result (node.new ≡ written node.old) }
+    ensures said { IfOk result (λ changed. changed ≡ is_written node.old) }
+{
+    if substitute_binding_property(alloc, node)? {
+        return Ok(true);
+    }
+    let changed = substitute_held_key(alloc, node)?;
+    Ok(changed)
+}
+
+/// The row on keys of patterns and classes as a rule: of each property of a pattern, each method, each field and what declares a
+/// pattern.
 pub struct SubstitutePropertyKeys;
 
 impl<C: Context> Rule<C> for SubstitutePropertyKeys {
