@@ -10,18 +10,19 @@ use Rattle.mini_model.specs.declared.operator.LogicalOperator.TheVariants.{Or, A
 use Rattle.mini_model.specs.declared.place.Position.TheVariants.{Expr}
 use Rattle.mini_model.specs.declared.seat.Seat.{Seat}
 use Rattle.mini_model.specs.declared.shape.Shape.TheVariants as shape
-use Rattle.mini_model.specs.Tree.{Tree, node, none, ◌▸◌, negation, logical}
-use Rattle.mini_model.specs.Position.{left_operand_seat, right_operand_seat}
+use Rattle.mini_model.specs.Tree.{Tree, Trees, node, none, ◌▸◌, negation, logical}
+use Rattle.mini_model.specs.Position.{left_operand_seat, right_operand_seat, branch_seat, passed_part_seat}
 use Rattle.mini_model.specs.Terms.{not_of}
 use Rattle.mini_model.specs.Weight.{weight, capped}
 use Rattle.mini_node.specs.Children.{part}
-use Rattle.mini_node.specs.Kinds.{is_negation, boolean as boolean_value}
+use Rattle.mini_node.specs.Kinds.{is_negation, boolean as boolean_value, sequence}
 use Rattle.mini_node.specs.Made.{negation_is}
-use Rattle.mini_rows.specs.Negations.{reverse_of, negated_leaf, whole, lightest, reaches_in, Row23Whole, NegationContracts}
+use Rattle.mini_rows.specs.Negations.{reverse_of, negated_leaf, last_by, whole, lightest, reaches_in, Row23Whole, NegationContracts}
+use Rattle.mini_rows.proofs.ListWeights.{parts_total, part_same, sequence_weighs}
 use Rattle.mini_tree.specs.Rule.{Applied}
 use Rattle.mini_tree.proofs.Reaching.{moves_once}
 use Rattle.mini_logic.specs.Negating.{lighter_negation}
-use Rattle.mini_logic.specs.MinimizeNegation.{told, told_lightest, minimizes, written, Gives, Rests, WrittenIsRow, UnwrittenRests}
+use Rattle.mini_logic.specs.MinimizeNegation.{told, last_told, told_lightest, minimizes, written, Gives, Rests, WrittenIsRow, UnwrittenRests}
 use Rattle.mini_logic.proofs.MinimizeExpressionInBooleanContext.{tested_same}
 use Rattle.mini_logic.proofs.Weights.{weight_logical}
 
@@ -47,12 +48,39 @@ leaf_agrees s t (Some o) b = ((λ h. refl), (λ h. refl))
 leaf_agrees s t None (Some b) = ((λ h. refl), (λ h. refl))
 leaf_agrees s t None None = tested_same s true t
 
-pub agrees : (t : Tree) (s : Seat) → Agrees s (told s t) (whole s t)
-agrees (node (shape.LogicalExpression And) [] zero (a ▸ b ▸ none)) s =
-    junction_agrees Or s (told (left_operand_seat Or s) a) (told (right_operand_seat Or s) b) (whole (left_operand_seat Or s) a) (whole (right_operand_seat Or s) b) (agrees a (left_operand_seat Or s)) (agrees b (right_operand_seat Or s))
-agrees (node (shape.LogicalExpression Or) [] zero (a ▸ b ▸ none)) s =
-    junction_agrees And s (told (left_operand_seat And s) a) (told (right_operand_seat And s) b) (whole (left_operand_seat And s) a) (whole (right_operand_seat And s) b) (agrees a (left_operand_seat And s)) (agrees b (right_operand_seat And s))
-agrees t s = leaf_agrees s t (reverse_of t) (boolean_value t)
+-- lists of parts that are equal if either one is light
+abbrev Listed : Trees → Trees → Type 0
+Listed us vs = (parts_total us < 18446744073709551615 → us ≡ vs) × (parts_total vs < 18446744073709551615 → us ≡ vs)
+
+one_agrees : (s : Seat) (x y : Tree) → Agrees (branch_seat s) x y → Listed (x ▸ none) (y ▸ none)
+one_agrees s x y l =
+    let first : weight (Expr (branch_seat s)) x ≡ weight (Expr passed_part_seat) x = part_same s true x in
+    let second : weight (Expr (branch_seat s)) y ≡ weight (Expr passed_part_seat) y = part_same s true y in
+    ((λ h. ap (λ z. z ▸ none) (l.0 (omega (arith, h, first)))), (λ h. ap (λ z. z ▸ none) (l.1 (omega (arith, h, second)))))
+
+more_agree : (t : Tree) (us vs : Trees) → Listed us vs → Listed (t ▸ us) (t ▸ vs)
+more_agree t us vs l = ((λ h. ap (λ xs. t ▸ xs) (l.0 (omega (arith, h)))), (λ h. ap (λ xs. t ▸ xs) (l.1 (omega (arith, h)))))
+
+sequence_agrees : (s : Seat) (t : Tree) (us vs : Trees) → Listed us vs → Agrees s (sequence (t ▸ us)) (sequence (t ▸ vs))
+sequence_agrees s t us vs l = (
+  λ h. let sum = sequence_weighs s t us in ap (λ xs. sequence (t ▸ xs)) (l.0 (omega (arith, h, sum))),
+  λ h. let sum = sequence_weighs s t vs in ap (λ xs. sequence (t ▸ xs)) (l.1 (omega (arith, h, sum))),
+)
+
+mutual
+  pub agrees : (t : Tree) (s : Seat) → Agrees s (told s t) (whole s t)
+  agrees (node (shape.LogicalExpression And) [] zero (a ▸ b ▸ none)) s =
+      junction_agrees Or s (told (left_operand_seat Or s) a) (told (right_operand_seat Or s) b) (whole (left_operand_seat Or s) a) (whole (right_operand_seat Or s) b) (agrees a (left_operand_seat Or s)) (agrees b (right_operand_seat Or s))
+  agrees (node (shape.LogicalExpression Or) [] zero (a ▸ b ▸ none)) s =
+      junction_agrees And s (told (left_operand_seat And s) a) (told (right_operand_seat And s) b) (whole (left_operand_seat And s) a) (whole (right_operand_seat And s) b) (agrees a (left_operand_seat And s)) (agrees b (right_operand_seat And s))
+  agrees (node shape.SequenceExpression [] zero (node shape.Listed [] zero (a ▸ (b ▸ ts)) ▸ none)) s =
+      sequence_agrees s a (last_told (branch_seat s) (b ▸ ts)) (last_by not_of (branch_seat s) (b ▸ ts)) (parts_agree (b ▸ ts) s)
+  agrees t s = leaf_agrees s t (reverse_of t) (boolean_value t)
+
+  parts_agree : (us : Trees) (s : Seat) → Listed (last_told (branch_seat s) us) (last_by not_of (branch_seat s) us)
+  parts_agree none s = ((λ h. refl), (λ h. refl))
+  parts_agree (t ▸ none) s = one_agrees s (told (branch_seat s) t) (whole (branch_seat s) t) (agrees t (branch_seat s))
+  parts_agree (t ▸ (u ▸ us)) s = more_agree t (last_told (branch_seat s) (u ▸ us)) (last_by not_of (branch_seat s) (u ▸ us)) (parts_agree (u ▸ us) s)
 
 -- and so is the lightest
 module _ (s : Seat) (t : Tree) where

@@ -1,16 +1,17 @@
--- 23, of what is read inside the operand too, `minimize_negation`: `!(a && typeof x < "u")` becomes `!a || typeof x > "u"`, where that is
--- lighter.
-use Rattle.std.specs.Prelude.{◌≡◌, ◌<◌, ◌^◌, Bool, ◌&&◌, ◌||◌, nat_lt, Option, Some, None, if◌then◌else◌}
+-- 23, of what is read inside the operand too, `minimize_negation`: `!(a && typeof x < "u")` becomes `!a || typeof x > "u"`, and
+-- `!(a, b == c)` becomes `a, b != c`, where that is lighter.
+use Rattle.std.specs.Prelude.{◌≡◌, ◌+◌, ◌<◌, ◌^◌, ℕ, zero, suc, Bool, ◌&&◌, ◌||◌, nat_lt, Option, Some, None, if◌then◌else◌}
 use Rattle.mini_model.specs.declared.operator.LogicalOperator.{LogicalOperator}
 use Rattle.mini_model.specs.declared.operator.LogicalOperator.TheVariants.{Or, And}
 use Rattle.mini_model.specs.declared.place.Position.{Position}
 use Rattle.mini_model.specs.declared.place.Position.TheVariants.{Expr}
 use Rattle.mini_model.specs.declared.seat.Seat.{Seat}
-use Rattle.mini_model.specs.Tree.{Tree}
+use Rattle.mini_model.specs.Tree.{Tree, Trees, none, ◌▸◌}
+use Rattle.mini_model.specs.Position.{passed_part_seat}
 use Rattle.mini_model.specs.Weight.{weight, capped}
 use Rattle.mini_node.specs.Children.{part}
 use Rattle.mini_node.specs.Kinds.{is_negation}
-use Rattle.mini_rows.specs.Negations.{whole_by, reaches_in, NegationContracts}
+use Rattle.mini_rows.specs.Negations.{whole_by, last_by, reaches_in, NegationContracts}
 use Rattle.mini_logic.specs.Negating.{lighter_negation, has_own_negation}
 
 -- the operator that `&&` or `||` is turned into
@@ -22,6 +23,16 @@ junction_of _ = None
 -- the whole negation, in which the lighter one is written for each part as far as 64 bits tell it
 abbrev pub told : Seat → Tree → Tree
 told = whole_by lighter_negation
+
+-- the parts of a sequence with that of the last one
+abbrev pub last_told : Seat → Trees → Trees
+last_told = last_by lighter_negation
+
+-- what the first so many parts weigh, each with its comma
+abbrev pub leading : ℕ → Trees → ℕ
+leading zero ts = 0
+leading (suc k) none = 0
+leading (suc k) (t ▸ ts) = weight (Expr passed_part_seat) t + 2 + leading k ts
 
 -- the lightest negation, as far as 64 bits tell it
 abbrev pub told_lightest : Seat → Tree → Tree

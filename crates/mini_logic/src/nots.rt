@@ -17,8 +17,8 @@ pub fn minimize_not(alloc: Global, expression: Node, seat: Seat) -> Result<Node,
     lightest_negation(alloc, expression, seat)
 }
 
-/// Makes an expression its whole negation, unless that is `!` over it. The answer says whether it did: true of `a == b`, of `a && b` and
-/// of `typeof a < "u"`, and false of `a`, which stays. The only error is that memory runs out, and then the expression is fit only to be
+/// Makes an expression its whole negation, unless that is `!` over it. The answer says whether it did: true of `a == b`, of `a && b`, of
+/// `a, b` and of `typeof a < "u"`, and false of `a`, which stays. The only error is that memory runs out, and then the expression is fit only to be
 /// dropped.
 pub fn try_negate_expression(
     alloc: Global,

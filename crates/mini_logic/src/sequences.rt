@@ -57,9 +57,9 @@ fn has_end(node: &Node) -> bool
     is_sequence(node) && !is_sequence(end_of(node))
 }
 
-// The parts of a sequence, taken out of it.
+/// The parts of a sequence, taken out of it.
 #[tactic(auto, using(crate::proofs::SequenceEnds::sequence_again, crate::proofs::SequenceEnds::parts_fewer, crate::proofs::SequenceEnds::holds_list))]
-fn take_parts(sequence: &mut Node) -> Nodes
+pub fn take_parts(sequence: &mut Node) -> Nodes
     requires { is_a_sequence sequence.old ≡ true }
     ensures parts { result ≡ children (part sequence.old 0) }
     ensures rest { sequence.new ≡ sequence_of none }
@@ -68,8 +68,8 @@ fn take_parts(sequence: &mut Node) -> Nodes
     sequence.children_mut().child_mut(0).take_children()
 }
 
-// A sequence of these parts, of one that has lost its own.
-fn put_parts(sequence: &mut Node, parts: Nodes)
+/// A sequence of these parts, of one that has lost its own.
+pub fn put_parts(sequence: &mut Node, parts: Nodes)
     requires { sequence.old ≡ sequence_of none }
     ensures { sequence.new ≡ sequence_of parts }
 {

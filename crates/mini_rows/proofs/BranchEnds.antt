@@ -156,20 +156,20 @@ lighter_one m n a b h = go (nat_lt a b) refl
 operand_is : (a : Tree) → not_of not_operand_seat (negation a) ≡ a
 operand_is a = lighter_one (negation (negation a)) a (weight (Expr not_operand_seat) (negation (negation a))) (weight (Expr not_operand_seat) a) (omega arith)
 
-abbrev in_order : Sketch
+abbrev pub in_order : Sketch
 in_order = under Sequence (list (item (part_of 0) (items 0 (item (part_of 1) no_items))) ▹ end)
 
-abbrev parts : Tree → Trees → Tree → Parts
+abbrev pub parts : Tree → Trees → Tree → Parts
 parts p ps q = record { trees = p ▸ q ▸ none; lists = ps ∷ [] }
 
-last_is : (strict : Bool) (p : Tree) (ps : Trees) (q : Tree) → fits strict expression (sequence (p ▸ append ps (q ▸ none))) ≡ true → (fits strict expression p ≡ true) × (fits strict expression q ≡ true)
+pub last_is : (strict : Bool) (p : Tree) (ps : Trees) (q : Tree) → fits strict expression (sequence (p ▸ append ps (q ▸ none))) ≡ true → (fits strict expression p ≡ true) × (fits strict expression q ≡ true)
 last_is strict p ps q e =
     let all = parts_fit strict p (append ps (q ▸ none)) (subst (λ t. fits strict expression t ≡ true) (sym (several p ps q)) e) in
     let (firsts, lasts) = both_fit strict expression (p ▸ ps) (q ▸ none) all in
     ((first_fits strict expression p ps firsts).0, (first_fits strict expression q none lasts).0)
 
 module _ (p : Tree) (ps : Trees) (q r : Tree) (l : WrittenFor q r) where
-  last_written : WrittenFor (sequence (p ▸ append ps (q ▸ none))) (sequence (p ▸ append ps (r ▸ none)))
+  pub last_written : WrittenFor (sequence (p ▸ append ps (q ▸ none))) (sequence (p ▸ append ps (r ▸ none)))
   last_written = record {
     fitting = λ strict e. last_fits strict p ps q e r (l.fitting strict);
     inner = new_inner still (parts p ps q) (parts p ps r) (tt, tt, tt) (tt, tt, tt) AsValue in_order refl (unchanged p, (refl, (l, tt)));

@@ -71,7 +71,7 @@ part_falls s t = let falls = placed 0 passed_part_seat (branch_seat s) refl (λ 
 part_rises : (s : Seat) (t : Tree) → weight (Expr (branch_seat s)) t ≤ weight (Expr passed_part_seat) t
 part_rises s t = let falls = placed 0 (branch_seat s) passed_part_seat refl (λ h os. omega arith) t in omega (arith, falls)
 
-part_same : (s : Seat) (b : Bool) (t : Tree) → weight (Expr (if b then branch_seat s else passed_part_seat)) t ≡ weight (Expr passed_part_seat) t
+pub part_same : (s : Seat) (b : Bool) (t : Tree) → weight (Expr (if b then branch_seat s else passed_part_seat)) t ≡ weight (Expr passed_part_seat) t
 part_same s true t = let falls = part_falls s t in let rises = part_rises s t in omega (arith, falls, rises)
 part_same s false t = refl
 

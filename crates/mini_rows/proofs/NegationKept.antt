@@ -8,8 +8,9 @@ use Rattle.mini_model.specs.declared.operator.LogicalOperator.{LogicalOperator}
 use Rattle.mini_model.specs.declared.operator.LogicalOperator.TheVariants.{Or, And}
 use Rattle.mini_model.specs.declared.seat.Seat.{Seat}
 use Rattle.mini_model.specs.declared.shape.Shape.TheVariants as shape
-use Rattle.mini_model.specs.Tree.{Tree, node, none, ◌▸◌, logical}
-use Rattle.mini_model.specs.Position.{left_operand_seat, right_operand_seat}
+use Rattle.mini_model.specs.Paths.{append}
+use Rattle.mini_model.specs.Tree.{Tree, Trees, node, none, ◌▸◌, logical}
+use Rattle.mini_model.specs.Position.{left_operand_seat, right_operand_seat, branch_seat}
 use Rattle.mini_model.specs.declared.place.Position.TheVariants.{Expr}
 use Rattle.mini_model.specs.Terms.{not_of}
 use Rattle.mini_model.specs.Weight.{weight}
@@ -29,12 +30,15 @@ use Rattle.mini_kept.proofs.Expressions.{expression, two_fit}
 use Rattle.mini_node.specs.Children.{part}
 use Rattle.mini_node.specs.Kinds.{boolean as boolean_value}
 use Rattle.mini_node.specs.Made.{boolean_is}
+use Rattle.mini_node.specs.Walks.{append_one}
 use Rattle.mini_rows.specs.Arranged.{WrittenFor}
+use Rattle.mini_rows.specs.Lists.{sequence}
 use Rattle.mini_rows.specs.Sketches.{Logical, Sketch, Parts, part as part_of, under, end, ◌▹◌, AsValue, still}
 use Rattle.mini_rows.specs.Spellings.{binary, boolean}
-use Rattle.mini_rows.specs.Negations.{beside_u, reversed, reverse_of, negated_leaf, whole, lightest}
+use Rattle.mini_rows.specs.Negations.{beside_u, reversed, reverse_of, negated_leaf, last_by, whole, lightest}
 use Rattle.mini_rows.proofs.ArrangedNegations.{at_quiet, negation_written}
-use Rattle.mini_rows.proofs.ArrangedRewritten.{new_inner, new_fixed, new_declared, new_once, new_targets, new_scoped, new_symbols, new_numbers, new_bodies, new_frames}
+use Rattle.mini_rows.proofs.ArrangedRewritten.{new_inner, new_fixed, new_declared, new_once, new_targets, new_scoped, new_symbols, new_numbers, new_bodies, new_frames, unchanged}
+use Rattle.mini_rows.proofs.BranchEnds.{last_written}
 use Rattle.mini_rows.proofs.NegationMeaning.{reverses}
 
 pub of_two : (strict : Bool) (o : LogicalOperator) (a b : Tree) → fits strict expression (logical o a b) ≡ true → (fits strict expression a ≡ true) × (fits strict expression b ≡ true)
@@ -193,16 +197,26 @@ leaf_written s t = go (reverse_of t) refl (boolean_value t) refl
     go None h (Some b) k = subst (λ x. WrittenFor x (boolean (not b))) (sym (boolean_is t b k)) (literal_written b)
     go None h None k = negation_written s t
 
-pub whole_written : (t : Tree) (s : Seat) → WrittenFor t (whole s t)
-whole_written (node (shape.LogicalExpression And) [] zero (a ▸ b ▸ none)) s =
-    let x = whole (left_operand_seat Or s) a in
-    let y = whole (right_operand_seat Or s) b in
-    written_then (logical And a b) (logical Or a b) (logical Or x y) (junction_written a b).0 (both_written Or a b x y (whole_written a (left_operand_seat Or s)) (whole_written b (right_operand_seat Or s)))
-whole_written (node (shape.LogicalExpression Or) [] zero (a ▸ b ▸ none)) s =
-    let x = whole (left_operand_seat And s) a in
-    let y = whole (right_operand_seat And s) b in
-    written_then (logical Or a b) (logical And a b) (logical And x y) (junction_written a b).1 (both_written And a b x y (whole_written a (left_operand_seat And s)) (whole_written b (right_operand_seat And s)))
-whole_written t s = leaf_written s t
+mutual
+  pub whole_written : (t : Tree) (s : Seat) → WrittenFor t (whole s t)
+  whole_written (node (shape.LogicalExpression And) [] zero (a ▸ b ▸ none)) s =
+      let x = whole (left_operand_seat Or s) a in
+      let y = whole (right_operand_seat Or s) b in
+      written_then (logical And a b) (logical Or a b) (logical Or x y) (junction_written a b).0 (both_written Or a b x y (whole_written a (left_operand_seat Or s)) (whole_written b (right_operand_seat Or s)))
+  whole_written (node (shape.LogicalExpression Or) [] zero (a ▸ b ▸ none)) s =
+      let x = whole (left_operand_seat And s) a in
+      let y = whole (right_operand_seat And s) b in
+      written_then (logical Or a b) (logical And a b) (logical And x y) (junction_written a b).1 (both_written And a b x y (whole_written a (left_operand_seat And s)) (whole_written b (right_operand_seat And s)))
+  whole_written (node shape.SequenceExpression [] zero (node shape.Listed [] zero (a ▸ (b ▸ ts)) ▸ none)) s = parts_written (b ▸ ts) a none s
+  whole_written t s = leaf_written s t
+
+  -- a sequence with its last part written so
+  parts_written : (us : Trees) (p : Tree) (ps : Trees) (s : Seat) → WrittenFor (sequence (p ▸ append ps us)) (sequence (p ▸ append ps (last_by not_of (branch_seat s) us)))
+  parts_written none p ps s = unchanged (sequence (p ▸ append ps none))
+  parts_written (q ▸ none) p ps s = last_written p ps q (whole (branch_seat s) q) (whole_written q (branch_seat s))
+  parts_written (q ▸ (r ▸ us)) p ps s =
+      subst (λ x. WrittenFor (sequence (p ▸ x)) (sequence (p ▸ append ps (q ▸ last_by not_of (branch_seat s) (r ▸ us))))) (append_one ps q (r ▸ us))
+      (subst (λ x. WrittenFor (sequence (p ▸ append (append ps (q ▸ none)) (r ▸ us))) (sequence (p ▸ x))) (append_one ps q (last_by not_of (branch_seat s) (r ▸ us))) (parts_written (r ▸ us) p (append ps (q ▸ none)) s))
 
 pub lightest_written : (s : Seat) (t : Tree) → WrittenFor t (lightest s t)
 lightest_written s t = go (nat_lt (weight (Expr s) (not_of s t)) (weight (Expr s) (whole s t)))

@@ -9,8 +9,9 @@ use Rattle.mini_model.specs.declared.place.Position.{Position}
 use Rattle.mini_model.specs.declared.place.Position.TheVariants.{Expr}
 use Rattle.mini_model.specs.declared.seat.Seat.{Seat}
 use Rattle.mini_model.specs.declared.shape.Shape.TheVariants as shape
-use Rattle.mini_model.specs.Tree.{Tree, node, none, ◌▸◌, negation, logical}
-use Rattle.mini_model.specs.Position.{left_operand_seat, right_operand_seat}
+use Rattle.mini_model.specs.Paths.{append}
+use Rattle.mini_model.specs.Tree.{Tree, Trees, node, none, ◌▸◌, negation, logical}
+use Rattle.mini_model.specs.Position.{left_operand_seat, right_operand_seat, branch_seat}
 use Rattle.mini_model.specs.Terms.{not_of}
 use Rattle.mini_model.specs.Weight.{plain_outline, outline}
 use Rattle.mini_accept.specs.WellShaped.{Slot, fits, is_not_positive_number}
@@ -24,15 +25,19 @@ use Rattle.mini_kept.proofs.FrameRows.{expression_slot}
 use Rattle.mini_node.specs.Children.{part}
 use Rattle.mini_node.specs.Kinds.{boolean as boolean_value}
 use Rattle.mini_node.specs.Made.{boolean_is}
+use Rattle.mini_node.specs.Walks.{append_one}
 use Rattle.mini_rows.specs.Arranged.{KeptAt}
-use Rattle.mini_rows.specs.Sketches.{BooleanValue, String, Unary, Binary, Logical, Sketch, Parts, part as part_of, under, end, ◌▹◌, still}
+use Rattle.mini_rows.specs.Lists.{sequence}
+use Rattle.mini_rows.specs.Sketches.{BooleanValue, String, Unary, Binary, Logical, Sequence, Sketch, Parts, part as part_of, under, list, no_items, item, items, end, ◌▹◌, still}
 use Rattle.mini_rows.specs.Spellings.{binary, boolean}
-use Rattle.mini_rows.specs.Negations.{beside_u, reversed, reverse_of, negated_leaf, whole, reaches_in, Row23Whole, NegationRow, NegationContracts}
+use Rattle.mini_rows.specs.Negations.{beside_u, reversed, reverse_of, negated_leaf, last_by, whole, reaches_in, Row23Whole, NegationRow, NegationContracts}
 use Rattle.mini_rows.proofs.ArrangedExpressions.{expressions_arranged}
 use Rattle.mini_rows.proofs.ArrangedLawful.{kept_is_lawful}
 use Rattle.mini_rows.proofs.ArrangedOthers.{expressions_rewritten}
+use Rattle.mini_rows.proofs.ArrangedRewritten.{unchanged}
+use Rattle.mini_rows.proofs.BranchEnds.{in_order, parts, last_is}
 use Rattle.mini_rows.proofs.NegationKept.{of_two, sides, two, whole_written}
-use Rattle.mini_rows.proofs.NegationMeaning.{reverses, negations_same}
+use Rattle.mini_rows.proofs.NegationMeaning.{is_some_part, reverses, negations_same}
 
 -- ---- what is written is another operator, or a literal
 
@@ -51,6 +56,7 @@ leaf_plain s t e = go (reverse_of t) (boolean_value t) e
 whole_plain : (s : Seat) (t : Tree) → reaches_in t ≡ true → IsPlain (whole s t)
 whole_plain s (node (shape.LogicalExpression And) [] zero (a ▸ b ▸ none)) e = record { outlined = refl; unsigned = refl }
 whole_plain s (node (shape.LogicalExpression Or) [] zero (a ▸ b ▸ none)) e = record { outlined = refl; unsigned = refl }
+whole_plain s (node shape.SequenceExpression [] zero (node shape.Listed [] zero (a ▸ (b ▸ ts)) ▸ none)) e = record { outlined = refl; unsigned = refl }
 whole_plain s t e = leaf_plain s t e
 
 row_plain : (s : Seat) (n w : Tree) → Row23Whole s n w → IsPlain w
@@ -132,6 +138,17 @@ leaf_kept q t e = go (reverse_of t) refl (boolean_value t) refl e
     go None h (Some b) k e = subst (λ x. KeptAt (Expr q) (negation x) (boolean (not b))) (sym (boolean_is t b k)) (literal_kept q b)
     go None h None k e = absurd (true≢false (sym e))
 
+-- a sequence with the negation of its last part
+parts_kept : (q : Seat) (us : Trees) (p : Tree) (ps : Trees) → is_some_part us ≡ true → KeptAt (Expr q) (negation (sequence (p ▸ append ps us))) (sequence (p ▸ append ps (last_by not_of (branch_seat q) us)))
+parts_kept q none p ps e = absurd (true≢false (sym e))
+parts_kept q (l ▸ none) p ps e =
+    let x = whole (branch_seat q) l in
+    expressions_rewritten still (parts p ps l) (parts p ps x) (tt, tt, tt) (tt, tt, tt) (under_not in_order) Sequence (list (item (part_of 0) (items 0 (item (part_of 1) no_items))) ▹ end) refl (unchanged p, (refl, (whole_written l (branch_seat q), tt))) q (negation (sequence (p ▸ append ps (l ▸ none)))) (sequence (p ▸ append ps (x ▸ none))) refl refl
+    (λ strict s f. let (takes, operand) = of_negation strict s (sequence (p ▸ append ps (l ▸ none))) f in let (first, last) = last_is strict p ps l operand in (first, (last, tt)))
+parts_kept q (l ▸ (m ▸ us)) p ps e =
+    subst (λ x. KeptAt (Expr q) (negation (sequence (p ▸ x))) (sequence (p ▸ append ps (l ▸ last_by not_of (branch_seat q) (m ▸ us))))) (append_one ps l (m ▸ us))
+    (subst (λ x. KeptAt (Expr q) (negation (sequence (p ▸ append (append ps (l ▸ none)) (m ▸ us)))) (sequence (p ▸ x))) (append_one ps l (last_by not_of (branch_seat q) (m ▸ us))) (parts_kept q (m ▸ us) p (append ps (l ▸ none)) refl))
+
 whole_kept : (q : Seat) (t : Tree) → reaches_in t ≡ true → KeptAt (Expr q) (negation t) (whole q t)
 whole_kept q (node (shape.LogicalExpression And) [] zero (a ▸ b ▸ none)) e =
     let x = whole (left_operand_seat Or q) a in
@@ -143,6 +160,7 @@ whole_kept q (node (shape.LogicalExpression Or) [] zero (a ▸ b ▸ none)) e =
     let y = whole (right_operand_seat And q) b in
     expressions_rewritten still (two a b) (two x y) (tt, tt, tt) (tt, tt, tt) (under_not (sides Or)) (Logical And) (part_of 0 ▹ part_of 1 ▹ end) refl (whole_written a (left_operand_seat And q), (whole_written b (right_operand_seat And q), tt)) q (negation (logical Or a b)) (logical And x y) refl refl
     (λ strict s f. let (takes, operand) = of_negation strict s (logical Or a b) f in let (l, r) = of_two strict Or a b operand in (l, (r, tt)))
+whole_kept q (node shape.SequenceExpression [] zero (node shape.Listed [] zero (a ▸ (b ▸ ts)) ▸ none)) e = parts_kept q (b ▸ ts) a none refl
 whole_kept q t e = leaf_kept q t e
 
 kept : (p : Position) (n w : Tree) → NegationRow p n w → KeptAt p n w

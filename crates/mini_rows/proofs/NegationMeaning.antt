@@ -1,7 +1,7 @@
 -- The whole negation of an expression means what `!` over it does.
 use Rattle.std.proofs.Common.{◌≡◌, ℕ, zero, suc, Bool, true, false, List, [], Option, Some, None, refl, sym, ap, ◌∙◌, subst, true≢false}
 use Rattle.std.specs.Prelude.{not, ◌&&◌, codes, nat_lt, if◌then◌else◌}
-use Rattle.std.proofs.lemmas.Bool.{and_parts}
+use Rattle.std.proofs.lemmas.Bool.{and_parts, eq-eqb}
 use Rattle.mini_model.specs.declared.operator.BinaryOperator.{BinaryOperator}
 use Rattle.mini_model.specs.declared.operator.BinaryOperator.TheVariants.{Equality, Inequality, LessThan, GreaterThan}
 use Rattle.mini_model.specs.declared.operator.LogicalOperator.{LogicalOperator}
@@ -9,12 +9,13 @@ use Rattle.mini_model.specs.declared.operator.LogicalOperator.TheVariants.{Or, A
 use Rattle.mini_model.specs.declared.operator.UnaryOperator.{UnaryOperator}
 use Rattle.mini_model.specs.declared.operator.UnaryOperator.TheVariants.{LogicalNot, Typeof}
 use Rattle.mini_model.specs.declared.place.Position.{Position}
-use Rattle.mini_model.specs.declared.place.Position.TheVariants.{Expr}
+use Rattle.mini_model.specs.declared.place.Position.TheVariants.{Expr, SequenceList}
 use Rattle.mini_model.specs.declared.seat.Seat.{Seat}
 use Rattle.mini_model.specs.declared.shape.Shape.TheVariants as shape
-use Rattle.mini_model.specs.Tree.{Tree, node, none, ◌▸◌, unary, negation, logical}
-use Rattle.mini_model.specs.Position.{not_operand_seat, left_operand_seat, right_operand_seat, child_position}
-use Rattle.mini_model.specs.Rewriting.{here, inside, first, later}
+use Rattle.mini_model.specs.Paths.{append}
+use Rattle.mini_model.specs.Tree.{Tree, Trees, node, none, ◌▸◌, count, listed, unary, negation, logical}
+use Rattle.mini_model.specs.Position.{not_operand_seat, left_operand_seat, right_operand_seat, branch_seat, passed_part_seat, part_seat, child_position}
+use Rattle.mini_model.specs.Rewriting.{StepIn, here, inside, first, later}
 use Rattle.mini_model.specs.Terms.{neg, not_of}
 use Rattle.mini_model.specs.Weight.{weight}
 use Rattle.mini_laws.specs.State.{State, either, Environment}
@@ -29,9 +30,13 @@ use Rattle.mini_kept.proofs.SameScopes.{same_texts}
 use Rattle.mini_node.specs.Children.{part}
 use Rattle.mini_node.specs.Kinds.{binary_operator, unary_operator, boolean as boolean_value, string}
 use Rattle.mini_node.specs.Made.{binary_is, unary_is, boolean_is, string_is}
+use Rattle.mini_node.specs.Walks.{append_one}
+use Rattle.mini_rows.specs.Lists.{sequence}
+use Rattle.mini_rows.specs.Sequences.{Negates}
 use Rattle.mini_rows.specs.Spellings.{binary, boolean, text}
-use Rattle.mini_rows.specs.Negations.{beside_u, reversed, is_typeof, is_letter, reversed_in, reverse_of, negated_leaf, whole_by, whole, lightest, NegationRow, NegationContracts, WholeSame}
+use Rattle.mini_rows.specs.Negations.{beside_u, reversed, is_typeof, is_letter, reversed_in, reverse_of, negated_leaf, whole_by, last_by, whole, lightest, NegationRow, NegationContracts, WholeSame}
 use Rattle.mini_rows.proofs.BooleanMeaning.{then_same, neg_read, not_read}
+use Rattle.mini_rows.proofs.SequenceMeaning.{lifted_same}
 use Rattle.mini_rows.proofs.SpellAlike.{SameTree}
 use Rattle.mini_rows.proofs.SpellMeaning.{tree_same, ordered_same}
 
@@ -169,6 +174,38 @@ literal_read false = refl
 literal_stands : (s : Seat) (b : Bool) → Stands (Expr s) (negation (boolean b)) (boolean (not b))
 literal_stands s b = of_tree s (negation (boolean b)) (boolean (not b)) (record { by = literal_does b; read = literal_read b })
 
+-- ---- a sequence: its last part
+
+-- another one in the place of the last
+last_step : (π : ℕ → Position) (ps : Trees) (q r : Tree) → Stands (π (count ps)) q r → StepIn Stands π (append ps (q ▸ none)) (append ps (r ▸ none))
+last_step π none q r h = first π q r none (here (π zero) q r h)
+last_step π (p ▸ ps) q r h = later π p (append ps (q ▸ none)) (append ps (r ▸ none)) (last_step (λ i. π (suc i)) ps q r h)
+
+one_more : (ps : Trees) (q : Tree) → suc (count ps) ≡ count (append ps (q ▸ none))
+one_more none q = refl
+one_more (p ▸ ps) q = ap suc (one_more ps q)
+
+-- which stands as a branch does
+last_seat : (s : Seat) (ps : Trees) (q : Tree) → Expr (branch_seat s) ≡ Expr (part_seat s (count (append ps (q ▸ none))) (count ps))
+last_seat s ps q = sym (ap (λ b. Expr (if b then branch_seat s else passed_part_seat)) (eq-eqb (suc (count ps)) (count (append ps (q ▸ none))) (one_more ps q)))
+
+module _ (s : Seat) (p : Tree) (ps : Trees) (q r : Tree) where
+  abbrev old_parts : Trees
+  old_parts = p ▸ append ps (q ▸ none)
+
+  abbrev new_parts : Trees
+  new_parts = p ▸ append ps (r ▸ none)
+
+  last_part_stands : Stands (Expr (branch_seat s)) q r → Stands (Expr s) (sequence old_parts) (sequence new_parts)
+  last_part_stands h = (
+    any_step_same Stands stands_means (Expr s) (sequence old_parts) (sequence new_parts)
+        (inside (Expr s) shape.SequenceExpression [] 0 (listed old_parts ▸ none) (listed new_parts ▸ none)
+        (first (child_position shape.SequenceExpression (Expr s) 1) (listed old_parts) (listed new_parts) none
+        (inside (SequenceList s) shape.Listed [] 0 old_parts new_parts
+        (last_step (child_position shape.Listed (SequenceList s) (count old_parts)) (p ▸ ps) q r (subst (λ x. Stands x q r) (last_seat s (p ▸ ps) q) h))))),
+    refl,
+  )
+
 -- ---- all
 
 leaf_stands : (s : Seat) (t other : Tree) → Stands (Expr s) (negation t) other → Stands (Expr s) (negation t) (negated_leaf (reverse_of t) (boolean_value t) t other)
@@ -188,14 +225,32 @@ turned_stand o p s a b x y h l r =
     stands_then s (negation (logical o a b)) (logical p (neg left a) (neg right b)) (logical p x y) h
     (both_stand p s (neg left a) (neg right b) x y (stands_then left (neg left a) (negation a) x (back_stands left a) l) (stands_then right (neg right b) (negation b) y (back_stands right b) r))
 
+abbrev pub is_some_part : Trees → Bool
+is_some_part none = false
+is_some_part (t ▸ ts) = true
+
 -- whatever is written for other parts, if it stands for them
 module _ (f : Seat → Tree → Tree) (h : (s : Seat) (t : Tree) → Stands (Expr s) (negation t) (f s t)) where
-  pub negated_stands : (t : Tree) (s : Seat) → Stands (Expr s) (negation t) (whole_by f s t)
-  negated_stands (node (shape.LogicalExpression And) [] zero (a ▸ b ▸ none)) s =
-      turned_stand And Or s a b (whole_by f (left_operand_seat Or s) a) (whole_by f (right_operand_seat Or s) b) (neg_stands s (logical And a b)) (negated_stands a (left_operand_seat Or s)) (negated_stands b (right_operand_seat Or s))
-  negated_stands (node (shape.LogicalExpression Or) [] zero (a ▸ b ▸ none)) s =
-      turned_stand Or And s a b (whole_by f (left_operand_seat And s) a) (whole_by f (right_operand_seat And s) b) (neg_stands s (logical Or a b)) (negated_stands a (left_operand_seat And s)) (negated_stands b (right_operand_seat And s))
-  negated_stands t s = leaf_stands s t (f s t) (h s t)
+  mutual
+    pub negated_stands : (t : Tree) (s : Seat) → Stands (Expr s) (negation t) (whole_by f s t)
+    negated_stands (node (shape.LogicalExpression And) [] zero (a ▸ b ▸ none)) s =
+        turned_stand And Or s a b (whole_by f (left_operand_seat Or s) a) (whole_by f (right_operand_seat Or s) b) (neg_stands s (logical And a b)) (negated_stands a (left_operand_seat Or s)) (negated_stands b (right_operand_seat Or s))
+    negated_stands (node (shape.LogicalExpression Or) [] zero (a ▸ b ▸ none)) s =
+        turned_stand Or And s a b (whole_by f (left_operand_seat And s) a) (whole_by f (right_operand_seat And s) b) (neg_stands s (logical Or a b)) (negated_stands a (left_operand_seat And s)) (negated_stands b (right_operand_seat And s))
+    negated_stands (node shape.SequenceExpression [] zero (node shape.Listed [] zero (a ▸ (b ▸ ts)) ▸ none)) s = parts_stand (b ▸ ts) refl a none s
+    negated_stands t s = leaf_stands s t (f s t) (h s t)
+
+    -- the `!` over a sequence goes to its last part, and there it is what is written
+    parts_stand : (us : Trees) → is_some_part us ≡ true → (p : Tree) (ps : Trees) (s : Seat) → Stands (Expr s) (negation (sequence (p ▸ append ps us))) (sequence (p ▸ append ps (last_by f (branch_seat s) us)))
+    parts_stand none e p ps s = absurd (true≢false (sym e))
+    parts_stand (q ▸ none) e p ps s =
+        let first_made = sequence (p ▸ append ps (negation q ▸ none)) in
+        stands_then s (negation (sequence (p ▸ append ps (q ▸ none)))) first_made (sequence (p ▸ append ps (whole_by f (branch_seat s) q ▸ none)))
+        (of_tree s (negation (sequence (p ▸ append ps (q ▸ none)))) first_made (lifted_same Negates p ps q))
+        (last_part_stands s p ps (negation q) (whole_by f (branch_seat s) q) (negated_stands q (branch_seat s)))
+    parts_stand (q ▸ (r ▸ us)) e p ps s =
+        subst (λ x. Stands (Expr s) (negation (sequence (p ▸ x))) (sequence (p ▸ append ps (q ▸ last_by f (branch_seat s) (r ▸ us))))) (append_one ps q (r ▸ us))
+        (subst (λ x. Stands (Expr s) (negation (sequence (p ▸ append (append ps (q ▸ none)) (r ▸ us)))) (sequence (p ▸ x))) (append_one ps q (last_by f (branch_seat s) (r ▸ us))) (parts_stand (r ▸ us) refl p (append ps (q ▸ none)) s))
 
 pub whole_stands : (t : Tree) (s : Seat) → Stands (Expr s) (negation t) (whole s t)
 whole_stands = negated_stands not_of not_stands

@@ -59,7 +59,7 @@ lifted_value r p ps q e s =
     ∙ either_cong (means e (of_parts p ps) (As Unused) tt s) _ _ _ _ (λ u z. sym (over_value e r q z)) (λ x z. refl)
     ∙ sym (in_order e p ps (over r q) s)
 
-lifted_same : (r : Operation) (p : Tree) (ps : Trees) (q : Tree) → SameTree (over r (sequence (p ▸ append ps (q ▸ none)))) (sequence (p ▸ append ps (over r q ▸ none)))
+pub lifted_same : (r : Operation) (p : Tree) (ps : Trees) (q : Tree) → SameTree (over r (sequence (p ▸ append ps (q ▸ none)))) (sequence (p ▸ append ps (over r q ▸ none)))
 lifted_same (Decides o b) p ps q = same_value _ _ refl refl refl (lifted_value (Decides o b) p ps q)
 lifted_same (Chooses b c) p ps q = same_value _ _ refl refl refl (lifted_value (Chooses b c) p ps q)
 lifted_same Negates p ps q = same_value _ _ refl refl refl (lifted_value Negates p ps q)

@@ -11,13 +11,13 @@ use Rattle.mini_model.specs.declared.place.Position.TheVariants.{Expr}
 use Rattle.mini_model.specs.declared.seat.Seat.{Seat}
 use Rattle.mini_model.specs.declared.shape.Shape.{Shape}
 use Rattle.mini_model.specs.declared.shape.Shape.TheVariants as shape
-use Rattle.mini_model.specs.Tree.{Tree, node, none, ◌▸◌, shape_of, unary, negation, logical}
-use Rattle.mini_model.specs.Position.{left_operand_seat, right_operand_seat}
+use Rattle.mini_model.specs.Tree.{Tree, Trees, node, none, ◌▸◌, shape_of, unary, negation, logical}
+use Rattle.mini_model.specs.Position.{left_operand_seat, right_operand_seat, branch_seat}
 use Rattle.mini_model.specs.Terms.{not_of}
 use Rattle.mini_model.specs.Weight.{weight, same_text}
 use Rattle.mini_laws.specs.Rows.{SameAt}
 use Rattle.mini_node.specs.Children.{part}
-use Rattle.mini_node.specs.Kinds.{binary_operator, unary_operator, boolean as boolean_value, string}
+use Rattle.mini_node.specs.Kinds.{binary_operator, unary_operator, boolean as boolean_value, string, sequence}
 use Rattle.mini_rows.specs.Spellings.{binary, boolean, text}
 
 -- ---- terms
@@ -55,12 +55,26 @@ negated_leaf (Some o) b t other = binary o (part t 0) (part t 1)
 negated_leaf None (Some b) t other = boolean (not b)
 negated_leaf None None t other = other
 
--- `&&` and `||` are turned into each other with both sides negated (De Morgan), however deep, and what else is written for the negation
--- of a part is given by a function of its seat
-abbrev pub whole_by : (Seat → Tree → Tree) → Seat → Tree → Tree
-whole_by f s (node (shape.LogicalExpression And) [] zero (a ▸ b ▸ none)) = logical Or (whole_by f (left_operand_seat Or s) a) (whole_by f (right_operand_seat Or s) b)
-whole_by f s (node (shape.LogicalExpression Or) [] zero (a ▸ b ▸ none)) = logical And (whole_by f (left_operand_seat And s) a) (whole_by f (right_operand_seat And s) b)
-whole_by f s t = negated_leaf (reverse_of t) (boolean_value t) t (f s t)
+-- a sequence of two parts at least
+abbrev pub is_several : Tree → Bool
+is_several (node shape.SequenceExpression [] zero (node shape.Listed [] zero (a ▸ (b ▸ ts)) ▸ none)) = true
+is_several _ = false
+
+-- `&&` and `||` are turned into each other with both sides negated (De Morgan), however deep, of a sequence the last part is negated,
+-- which gives its value (ECMA-262, "Comma Operator"), and what else is written for the negation of a part is given by a function of its
+-- seat
+abbrev mutual
+  pub whole_by : (Seat → Tree → Tree) → Seat → Tree → Tree
+  whole_by f s (node (shape.LogicalExpression And) [] zero (a ▸ b ▸ none)) = logical Or (whole_by f (left_operand_seat Or s) a) (whole_by f (right_operand_seat Or s) b)
+  whole_by f s (node (shape.LogicalExpression Or) [] zero (a ▸ b ▸ none)) = logical And (whole_by f (left_operand_seat And s) a) (whole_by f (right_operand_seat And s) b)
+  whole_by f s (node shape.SequenceExpression [] zero (node shape.Listed [] zero (a ▸ (b ▸ ts)) ▸ none)) = sequence (a ▸ last_by f (branch_seat s) (b ▸ ts))
+  whole_by f s t = negated_leaf (reverse_of t) (boolean_value t) t (f s t)
+
+  -- the parts with the last one negated, in its seat
+  pub last_by : (Seat → Tree → Tree) → Seat → Trees → Trees
+  last_by f s none = none
+  last_by f s (a ▸ none) = whole_by f s a ▸ none
+  last_by f s (a ▸ (b ▸ ts)) = a ▸ last_by f s (b ▸ ts)
 
 -- the whole negation of an expression, in this seat
 abbrev pub whole : Seat → Tree → Tree
@@ -75,14 +89,14 @@ is_junction (node (shape.LogicalExpression And) [] zero (a ▸ b ▸ none)) = tr
 is_junction (node (shape.LogicalExpression Or) [] zero (a ▸ b ▸ none)) = true
 is_junction _ = false
 
--- it is `&&` or `||`, such a comparison, or a literal of a boolean
+-- it is `&&` or `||`, a sequence, such a comparison, or a literal of a boolean
 abbrev pub reaches_in : Tree → Bool
-reaches_in t = is_junction t || (is_some (reverse_of t) || is_some (boolean_value t))
+reaches_in t = is_junction t || (is_several t || (is_some (reverse_of t) || is_some (boolean_value t)))
 
 -- ---- the row
 
--- 23, of what is read inside the operand too: `!(a && typeof x < "u")` becomes `!a || typeof x > "u"`, `!(typeof x < "u")` becomes
--- `typeof x > "u"`, and `!true` becomes `false`
+-- 23, of what is read inside the operand too: `!(a && typeof x < "u")` becomes `!a || typeof x > "u"`, `!(a, b == c)` becomes
+-- `a, b != c`, `!(typeof x < "u")` becomes `typeof x > "u"`, and `!true` becomes `false`
 pub record Row23Whole (s : Seat) (n w : Tree) : Type 0 where
   pub e : Tree
   pub inside : reaches_in e ≡ true
@@ -115,3 +129,7 @@ comparison_turns s = refl
 -- `!(typeof a <= "u")` stays
 other_stays : reaches_in (binary LessEqualThan (unary Typeof example_name) (text (codes "u"))) ≡ false
 other_stays = refl
+
+-- `!(a, (b, typeof a < "u"))` is `a, (b, typeof a > "u")`
+inner_turns : (s : Seat) (a b : Tree) → whole s (sequence (a ▸ (sequence (b ▸ (beside_u LessThan example_name ▸ none)) ▸ none))) ≡ sequence (a ▸ (sequence (b ▸ (beside_u GreaterThan example_name ▸ none)) ▸ none))
+inner_turns s a b = refl
