@@ -453,6 +453,8 @@ becomes("each declarator of several", "{ let x, y = 1; b(); }", "b();", { symbol
 becomes("one that leaves another alone", "{ let x = a(), y; b(); }", "a(), b();", { symbols: [] });
 becomes("two of a consequent of nothing else", "if (a) { let b, c; }", "a;", { symbols: [] });
 becomes("one in a body, none in the head", "for (let i = 0, j; i < a; i++) { let x, y = b(i); c(y, y); }", "for (let i = 0, j; i < a; i++) { let y = b(i); c(y, y); }", { symbols: [0, 1, 3] });
+becomes("a let of an arrow function", "f(() => { let x = a(); b(); });", "f(() => { a(), b(); });", { kept: 2, symbols: [], passes: 3 });
+becomes("one beside its parameters", "f((y, z) => { let x; y(z); });", "f((y, z) => { y(z); });", { kept: 2, symbols: 2, passes: 3 });
 
 // ---- a name that the next statement reads first, and nothing else, goes, and its symbol
 
@@ -470,6 +472,9 @@ becomes("the test of an if", "{ let x = a(); if (x.b) throw c; d(); }", "if (a()
 becomes("a constant", "if (a) { const x = b(), y = x.c(); throw y.d; }", "if (a) throw b().c().d;", { symbols: [] });
 becomes("a constant after another", "{ const x = a(), y = b(); y.c(x, x); }", "{ const x = a(); b().c(x, x); }", { symbols: [0] });
 becomes("one read by another", "{ let x = a(); let y = x.b(); y.c(); }", "a().b().c();", { symbols: [] });
+becomes("what an arrow function returns", "f(() => { let x = a(); return x + 1; });", "f(() => a() + 1);", { kept: 2, symbols: [], passes: 3 });
+becomes("a constant beside its parameters", "f((y, z) => { const x = y(); return x.b(z); });", "f((y, z) => y().b(z));", { kept: 2, symbols: 2, passes: 3 });
+becomes("one behind a directive", 'f(() => { "use strict"; let x = a(); x.b(); });', 'f(() => { "use strict"; a().b(); });', { kept: 2, symbols: [], passes: 3 });
 
 // ---- so do the names of function and class expressions, and of what is caught
 

@@ -110,6 +110,9 @@ pub mod UnusedMeaning
 pub mod UnusedKept
 pub mod UnusedLawful
 pub mod UnusedWeights
+pub mod UnusedStretches
+pub mod ArrowBodyKept
+pub mod ArrowBodyLawful
 pub mod DeMorganMeaning
 pub mod DeMorganLawful
 pub mod NegationMeaning

@@ -34,7 +34,7 @@ total_is : (n : ℕ) (ts : Trees) → weights (item_position StatementList n) ts
 total_is n none = refl
 total_is n (t ▸ ts) = let rest = total_is n ts in omega (arith, rest)
 
-list_is : (ts : Trees) → weight StatementList (listed ts) ≡ total ts
+pub list_is : (ts : Trees) → weight StatementList (listed ts) ≡ total ts
 list_is ts = let items = total_is (count ts) ts in omega (arith, items)
 
 total_body : (n : ℕ) (ts : Trees) → weights (item_position BodyList n) ts ≡ total ts

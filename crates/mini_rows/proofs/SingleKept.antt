@@ -1,6 +1,6 @@
 -- A declaration of a name that the statement after it reads first, and the two without the name: what they have.
 use Rattle.std.specs.Prelude.{ℕ, ◌+◌, ◌≤◌, ◌≡◌, refl, Bool, true, false, ◌||◌, List, [], ◌∷◌, ◌++◌, Contains, Option, None}
-use Rattle.std.proofs.Common.{ap, ◌∙◌, sym, subst, subst₂, true≢false, arith}
+use Rattle.std.proofs.Common.{ap, ◌∙◌, sym, subst, subst₂, true≢false, arith, append_assoc}
 use Rattle.std.proofs.lemmas.List.{append-nil}
 use Rattle.std.proofs.lemmas.List.Elements.{Contains-append_right}
 use Rattle.mini_model.specs.declared.kind.VariableDeclarationKind.{VariableDeclarationKind}
@@ -16,7 +16,7 @@ use Rattle.mini_laws.specs.declared.names.Declared.TheVariants as declared
 use Rattle.mini_laws.specs.declared.names.Targets.{Targets}
 use Rattle.mini_laws.specs.declared.names.Use.TheVariants.{Read}
 use Rattle.mini_laws.specs.declared.names.Place.TheVariants as place
-use Rattle.mini_laws.specs.DeclaredNames.{place_of, names_by, names_of, first_names, all_names, has_inner}
+use Rattle.mini_laws.specs.DeclaredNames.{place_of, names_by, names_of, first_names, all_names, body_names, has_inner}
 use Rattle.mini_laws.specs.Resolved.{Environment}
 use Rattle.mini_laws.specs.Scopes.{scopes_by}
 use Rattle.mini_laws.specs.Scoped.{Scoped, Unmentioned}
@@ -47,8 +47,8 @@ use Rattle.mini_rows.proofs.ArrangedBodies.{quiet, HasBodies, bodies_local, HasF
 use Rattle.mini_rows.proofs.ListKeptDeclarations.{all_both, over, names_if, declares_as, lets, scope_if, read_opens, own_fixed, own_both_fixed, fixed_down, fixed_up, either_up, either_down, names_are, declarations_are, used, scoped_down, scoped_up, symbols_are, inner_is, numbers_are, declared_are, frames_are, bodies_are, once_is, jumps_are}
 use Rattle.mini_rows.proofs.ListKeptStretch.{joined, parted, sum_joined}
 use Rattle.mini_rows.proofs.SingleUse.{Lead, Not, Beside, Deciding, Choosing, Passing, Called, Member, Keyed, Doing, Giving, Raising, Testing, head_of, Step, led, is_end, Stands, Well, statement, swapped, taken, swapped_sum, unnamed}
-use Rattle.mini_rows.proofs.UnusedKept.{LeavesThere, alone_stricter}
-use Rattle.mini_rows.proofs.UnusedNames.{all_unmentioned, all_other, unmentioned}
+use Rattle.mini_rows.proofs.UnusedKept.{LeavesThere, DeclaresThere, alone_stricter}
+use Rattle.mini_rows.proofs.UnusedNames.{Other, all_unmentioned, declared_other, all_other, unmentioned}
 
 two : {X : Type 0} (xs : List X) → (xs ++ []) ++ [] ≡ xs
 two xs = append-nil (xs ++ []) ∙ append-nil xs
@@ -244,6 +244,21 @@ module _ (c : Bool) (x : Name) (k : ℕ) (e : x.symbol ≡ symbol k) (first : Tr
       subst₂ NoMoreClash (append-nil (own bound) ∙ sym (left_declares first)) (sym (declares_own (append first this) ∙ ap own (all_both declared.Bound first this) ∙ own_both true bound (x ∷ [])))
       (no_more_both (own bound) (own bound) o [] (no_more_same (own bound) (own bound) refl) (λ s. (omega arith, λ z. refl)))
 
+  left_alike : (ts : Trees) → as_body true (lexical_left c ts) ≡ as_body false (lexical_left c ts)
+  left_alike none = refl
+  left_alike (t ▸ ts) = refl
+
+  -- in a function's body
+
+  body_there : body_names d ≡ bound ++ x ∷ []
+  unfolding body_names
+  body_there = (λ i. names_there i ++ hoists_there i) ∙ append-nil (bound ++ x ∷ [])
+
+  body_left : (ts : Trees) → body_names (lexical_left c ts) ≡ all_names declared.Bound ts
+  unfolding body_names names_of
+  body_left none = refl
+  body_left (t ▸ ts) = (λ i. names_left (t ▸ ts) i ++ hoists_nothing (t ▸ ts) i) ∙ append-nil (all_names declared.Bound (t ▸ ts))
+
   left_unmentioned : Unmentioned (record { name = x; hoists = false }) (lexical_left c first)
   unfolding Unmentioned
   left_unmentioned = by first f
@@ -306,15 +321,20 @@ record Named (t u : Tree) : Type 0 where
   still_none : names_of declared.Lexical u ≡ []
   hoisted : names_of declared.Hoisted u ≡ names_of declared.Hoisted t
   declares : as_body false u ≡ as_body false t
+  -- and so in a function's body
+  names : body_names t ≡ names_of declared.Hoisted t
+  left : body_names u ≡ names_of declared.Hoisted u
+  declares_there : as_body true u ≡ as_body true t
 
 stated : (l : Lead) → Stands AsWholeItem l true → (t u : Tree) (ts : Trees) → names_of declared.Hoisted t ≡ [] → names_of declared.Hoisted u ≡ [] → Named (node (shape_by (head_of l)) [] 0 (t ▸ ts)) (node (shape_by (head_of l)) [] 0 (u ▸ ts))
-unfolding names_of
-stated Doing s t u ts e f = record { lexical = refl; still_none = refl; hoisted = refl; declares = refl }
-stated Giving s t u ts e f = record { lexical = refl; still_none = refl; hoisted = refl; declares = refl }
-stated Raising s t u ts e f = record { lexical = refl; still_none = refl; hoisted = refl; declares = refl }
+unfolding names_of body_names
+stated Doing s t u ts e f = record { lexical = refl; still_none = refl; hoisted = refl; declares = refl; names = refl; left = refl; declares_there = refl }
+stated Giving s t u ts e f = record { lexical = refl; still_none = refl; hoisted = refl; declares = refl; names = refl; left = refl; declares_there = refl }
+stated Raising s t u ts e f = record { lexical = refl; still_none = refl; hoisted = refl; declares = refl; names = refl; left = refl; declares_there = refl }
 stated Testing s t u ts e f =
     let same = ap (λ ys. ys ++ all_names declared.Hoisted ts) (f ∙ sym e) in
-    record { lexical = refl; still_none = refl; hoisted = same; declares = ap (λ ys. own_declarations false [] ys) same }
+    let alike = ap (λ ys. own_declarations false [] ys) same in
+    record { lexical = refl; still_none = refl; hoisted = same; declares = alike; names = refl; left = refl; declares_there = alike }
 stated l s t u ts e f = absurd s
 
 module _ (c : Bool) (x : Name) (k : ℕ) (e : x.symbol ≡ symbol k) (first : Trees) (init : Tree) (f : any_names x first ≡ false) (ss : List Step) (w : Well AsWholeItem ss) (y : Name) (g : names x (led ss init) ≡ false) (n : Named (led ss (identifier y)) (led ss init)) where
@@ -362,12 +382,36 @@ module _ (c : Bool) (x : Name) (k : ℕ) (e : x.symbol ≡ symbol k) (first : Tr
     declares = λ all. moved Any (Declares all) (declares_local all) (declares_both c x k e first init f all);
   }
 
+  there_declares : DeclaresThere x earlier later
+  unfolding body_names
+  there_declares =
+      let bound = all_names declared.Bound first in
+      let hoists = names_of declared.Hoisted head in
+      record {
+        first = bound;
+        last = hoists;
+        names = (λ i. body_there c x k e first init f i ++ (n.names i ++ [])) ∙ ap (λ ys. (bound ++ x ∷ []) ++ ys) (append-nil hoists) ∙ append_assoc bound (x ∷ []) hoists;
+        left = (λ i. body_left c x k e first init f first i ++ ((n.left ∙ n.hoisted) i ++ [])) ∙ ap (λ ys. bound ++ ys) (append-nil hoists);
+        others_first = all_other x declared.Bound first f;
+        others_last = subst (Other x) n.hoisted (declared_other x declared.Hoisted put g);
+        clash = no_more_both (as_body true (lexical_among c x first init)) (as_body true (lexical_left c first)) (as_body true head ++ []) (as_body true put ++ []) (subst (λ ds. NoMoreClash ds (as_body true (lexical_among c x first init))) (sym (left_alike c x k e first init f first)) (clash c x k e first init f)) (no_more_same (as_body true head ++ []) (as_body true put ++ []) (ap (λ ds. unplaced (ds ++ [])) n.declares_there));
+      }
+
+-- the two as paths
+module _ (c : Bool) (x : Name) (k : ℕ) (e : x.symbol ≡ symbol k) (first : Trees) (init head : Tree) (plain : is_plain_part init ≡ true) (r : reads_first x head ≡ true) (i : names x init ≡ false) (f : any_names x first ≡ false) (P : Trees → Trees → Type 0)
+    (by : (ss : List Step) → Well AsWholeItem ss → (y : Name) → names x (led ss init) ≡ false → Named (led ss (identifier y)) (led ss init) → P (lexical_among c x first init ▸ (led ss (identifier y) ▸ none)) (lexical_left c first ▸ (led ss init ▸ none))) where
+  along : P (lexical_among c x first init ▸ (head ▸ none)) (lexical_left c first ▸ (put_first init head ▸ none))
+  along =
+      let t = statement x head r in
+      let steps : List Step = record { lead = t.lead; rest = t.rest } ∷ t.path.steps in
+      let one = λ (u : Tree). led (record { lead = t.lead; rest = t.rest } ∷ []) u in
+      let there : head ≡ led steps (identifier t.path.read) = t.is ∙ ap one t.path.is in
+      let put : put_first init head ≡ led steps init = ap (put_first init) t.is ∙ ap one (t.path.puts init) in
+      subst₂ (λ h w. P (lexical_among c x first init ▸ (h ▸ none)) (lexical_left c first ▸ (w ▸ none))) (sym there) (sym put)
+      (by steps (t.stands (is_end t.path.steps), subst (λ c. Well c t.path.steps) (sym (t.below AsWholeItem)) t.path.well) t.path.read (unnamed x steps (t.free, t.path.spared) init i) (stated t.lead (t.stands true) (led t.path.steps (identifier t.path.read)) (led t.path.steps init) t.rest (led_hoists AsValue t.path.steps t.path.well refl (identifier t.path.read) (name_hoists t.path.read)) (led_hoists AsValue t.path.steps t.path.well refl init (plain_hoists init plain))))
+
 pub single_leaves : (c : Bool) (x : Name) (k : ℕ) → x.symbol ≡ symbol k → (first : Trees) (init head : Tree) → is_plain_part init ≡ true → reads_first x head ≡ true → names x init ≡ false → any_names x first ≡ false → LeavesThere x (lexical_among c x first init ▸ (head ▸ none)) (lexical_left c first ▸ (put_first init head ▸ none))
-single_leaves c x k e first init head plain r i f =
-    let t = statement x head r in
-    let steps : List Step = record { lead = t.lead; rest = t.rest } ∷ t.path.steps in
-    let one = λ (u : Tree). led (record { lead = t.lead; rest = t.rest } ∷ []) u in
-    let there : head ≡ led steps (identifier t.path.read) = t.is ∙ ap one t.path.is in
-    let put : put_first init head ≡ led steps init = ap (put_first init) t.is ∙ ap one (t.path.puts init) in
-    subst₂ (λ h w. LeavesThere x (lexical_among c x first init ▸ (h ▸ none)) (lexical_left c first ▸ (w ▸ none))) (sym there) (sym put)
-    (there_leaves c x k e first init f steps (t.stands (is_end t.path.steps), subst (λ c. Well c t.path.steps) (sym (t.below AsWholeItem)) t.path.well) t.path.read (unnamed x steps (t.free, t.path.spared) init i) (stated t.lead (t.stands true) (led t.path.steps (identifier t.path.read)) (led t.path.steps init) t.rest (led_hoists AsValue t.path.steps t.path.well refl (identifier t.path.read) (name_hoists t.path.read)) (led_hoists AsValue t.path.steps t.path.well refl init (plain_hoists init plain))))
+single_leaves c x k e first init head plain r i f = along c x k e first init head plain r i f (LeavesThere x) (λ ss w y g n. there_leaves c x k e first init f ss w y g n)
+
+pub single_declares : (c : Bool) (x : Name) (k : ℕ) → x.symbol ≡ symbol k → (first : Trees) (init head : Tree) → is_plain_part init ≡ true → reads_first x head ≡ true → names x init ≡ false → any_names x first ≡ false → DeclaresThere x (lexical_among c x first init ▸ (head ▸ none)) (lexical_left c first ▸ (put_first init head ▸ none))
+single_declares c x k e first init head plain r i f = along c x k e first init head plain r i f (DeclaresThere x) (λ ss w y g n. there_declares c x k e first init f ss w y g n)

@@ -19,7 +19,7 @@ use Rattle.mini_laws.specs.declared.names.Declared.TheVariants as declared
 use Rattle.mini_laws.specs.declared.names.Targets.{Targets}
 use Rattle.mini_laws.specs.declared.names.Use.{Use}
 use Rattle.mini_laws.specs.declared.names.Use.TheVariants.{Read}
-use Rattle.mini_laws.specs.DeclaredNames.{names_of, all_names, body_names, with_names, has_inner}
+use Rattle.mini_laws.specs.DeclaredNames.{names_of, all_names, body_names, all_body_names, with_names, has_inner}
 use Rattle.mini_laws.specs.Edits.{Kept}
 use Rattle.mini_laws.specs.Resolved.{Environment}
 use Rattle.mini_laws.specs.Scopes.{scopes_by}
@@ -46,7 +46,7 @@ use Rattle.mini_kept.proofs.Clashes.{counted_unplaced, no_more_same, no_more_bot
 use Rattle.mini_kept.proofs.Fixed.{of_children}
 use Rattle.mini_kept.proofs.Unplaced.{as_body, all_as_body, body_is, body_same, own_both}
 use Rattle.mini_rows.specs.Arranged.{Vanishes}
-use Rattle.mini_rows.specs.Lists.{block}
+use Rattle.mini_rows.specs.Lists.{block, declaration}
 use Rattle.mini_rows.specs.Declarations.{binding, declarator}
 use Rattle.mini_rows.specs.Unused.{names, let_one, any_names, let_among, left_over}
 use Rattle.mini_rows.specs.Sketches.{AsWholeItem}
@@ -131,6 +131,29 @@ leaves_alone x d w l = record {
   declares = λ all q. ((λ y c. q.0 y (l.declares y c)), tt);
 }
 
+-- what some neighbours declare in a function's body, and those that are written for them
+pub record DeclaresThere (x : Name) (d w : Trees) : Type 0 where
+  pub first : List Name
+  pub last : List Name
+  pub names : all_body_names d ≡ first ++ x ∷ last
+  pub left : all_body_names w ≡ first ++ last
+  pub others_first : Other x first
+  pub others_last : Other x last
+  pub clash : NoMoreClash (all_as_body true w) (all_as_body true d)
+
+-- of one that declares no function and hoists no name
+pub declares_alone : (x : Name) (d w : Tree) → Leaves x d w → body_names d ≡ names_of declared.Lexical d → body_names w ≡ names_of declared.Lexical w → as_body true d ≡ as_body false d → as_body true w ≡ as_body false w → DeclaresThere x (d ▸ none) (w ▸ none)
+unfolding body_names
+declares_alone x d w l p q r s = record {
+  first = l.first;
+  last = l.last;
+  names = append-nil (body_names d) ∙ p ∙ l.names;
+  left = append-nil (body_names w) ∙ q ∙ l.left;
+  others_first = l.others_first;
+  others_last = l.others_last;
+  clash = subst₂ NoMoreClash (sym (append-nil (as_body true w) ∙ s)) (sym (append-nil (as_body true d) ∙ r)) l.clash;
+}
+
 -- ---- the list
 
 module _ (x : Name) (before after d w : Trees) (l : LeavesThere x d w) where
@@ -151,19 +174,19 @@ module _ (x : Name) (before after d w : Trees) (l : LeavesThere x d w) where
       let j = rank (fixed_by (listed B) y) in
       by_rank (fixed_by (listed A) y) (fixed_by (listed B) y) (stretched Any (FixedBy y j) (fixed_local y j) before after w d (l.fixed_back y j o) (omega arith)) (stretched Any (FixedBy y i) (fixed_local y i) before after d w (l.fixed y i) (omega arith))
 
-  list_scoped : (env : Environment) → Scoped Read env (listed A) → Scoped Read env (listed B)
+  pub list_scoped : (env : Environment) → Scoped Read env (listed A) → Scoped Read env (listed B)
   list_scoped env = stretched Any (ScopedAs Read env) (scoped_local Read env) before after d w (l.scoped env)
 
-  list_symbols : (y : Option SymbolId) → times y (declared_in Read (listed B)) ≤ times y (declared_in Read (listed A))
+  pub list_symbols : (y : Option SymbolId) → times y (declared_in Read (listed B)) ≤ times y (declared_in Read (listed A))
   list_symbols y = sum_stretched (symbol_times Read y) (symbols_summed Read y) before after d w (l.symbols y)
 
   pub list_numbers : (k : ℕ) → count_of k (numbers (listed B)) ≤ count_of k (numbers (listed A))
   list_numbers k = sum_stretched (number_times k) (numbers_summed k) before after d w (l.numbered k)
 
-  list_once : (p : Path) → early_names p (listed A) ≡ [] → early_names p (listed B) ≡ []
+  pub list_once : (p : Path) → early_names p (listed A) ≡ [] → early_names p (listed B) ≡ []
   list_once p q = once_anywhere [] p (listed B) (stretched Any Once once_local before after d w l.once (once_anywhere p [] (listed A) q))
 
-  list_targets : (g : Targets) (p : Path) → early_jumps g p (listed A) ≡ [] → early_jumps g p (listed B) ≡ []
+  pub list_targets : (g : Targets) (p : Path) → early_jumps g p (listed A) ≡ [] → early_jumps g p (listed B) ≡ []
   list_targets g p q = targets_anywhere g [] p (listed B) (stretched (HasTarget g) (Aimed g) (aimed_local g) before after d w (l.targets g) (targets_anywhere g p [] (listed A) q))
 
   pub list_frames : FramesKept (frames None (listed A)) (frames None (listed B))
@@ -567,3 +590,31 @@ pub idle_leaves : (x : Name) (k : ℕ) → x.symbol ≡ symbol k → (first : Tr
 idle_leaves x k e none init none v f g = one_leaves x init v
 idle_leaves x k e none init (t ▸ last) v f g = among_leaves x k e none init (t ▸ last) f g v
 idle_leaves x k e (t ▸ first) init last v f g = among_leaves x k e (t ▸ first) init last f g v
+
+-- ---- in a function's body
+
+let_names : (ds : Trees) → body_names (declaration Let ds) ≡ names_of declared.Lexical (declaration Let ds)
+unfolding body_names names_of
+let_names ds = append-nil (names_of declared.Lexical (declaration Let ds))
+
+left_names : (first last : Trees) → body_names (left_over (append first last)) ≡ names_of declared.Lexical (left_over (append first last))
+unfolding body_names names_of
+left_names none none = refl
+left_names none (t ▸ last) = let_names (t ▸ last)
+left_names (t ▸ first) last = let_names (t ▸ append first last)
+
+left_alike : (first last : Trees) → as_body true (left_over (append first last)) ≡ as_body false (left_over (append first last))
+left_alike none none = refl
+left_alike none (t ▸ last) = refl
+left_alike (t ▸ first) last = refl
+
+value_names : (init : Tree) → body_names (expression_statement init) ≡ names_of declared.Lexical (expression_statement init)
+unfolding body_names names_of
+value_names init = refl
+
+pub value_declares : (x : Name) (k : ℕ) → x.symbol ≡ symbol k → (init : Tree) → names x init ≡ false → DeclaresThere x (let_one x init ▸ none) (expression_statement init ▸ none)
+value_declares x k e init f = declares_alone x (let_one x init) (expression_statement init) (value_leaves x init k e f) (let_names (declarator (binding x) init ▸ none)) (value_names init) refl refl
+
+pub idle_declares : (x : Name) (k : ℕ) → x.symbol ≡ symbol k → (first : Trees) (init : Tree) (last : Trees) → Vanishes init → any_names x first ≡ false → any_names x last ≡ false → DeclaresThere x (let_among x first init last ▸ none) (left_over (append first last) ▸ none)
+idle_declares x k e first init last v f g =
+    declares_alone x (let_among x first init last) (left_over (append first last)) (idle_leaves x k e first init last v f g) (let_names (append first (declarator (binding x) init ▸ last))) (left_names first last) refl (left_alike first last)

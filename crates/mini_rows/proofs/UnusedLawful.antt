@@ -35,7 +35,7 @@ use Rattle.mini_kept.specs.KeepsLoosely.{KeepsLoosely}
 use Rattle.mini_kept.specs.KeepsNames.{is_rewritten_place}
 use Rattle.mini_kept.specs.KeepsShapes.{AskedAlike}
 use Rattle.mini_kept.specs.Lifted.{is_piece, KeepsRoot}
-use Rattle.mini_kept.specs.Loosely.{Stays, Drops}
+use Rattle.mini_kept.specs.Loosely.{Stays, Drops, LawfulLoosely}
 use Rattle.mini_kept.specs.Placed.{fits_place, is_statement_list}
 use Rattle.mini_kept.specs.ShownFrames.{no_key, gone_from}
 use Rattle.mini_kept.specs.Without.{Unseen}
@@ -53,7 +53,7 @@ use Rattle.mini_terms.specs.Reading.{is_plain_part}
 use Rattle.mini_rows.specs.Arranged.{Vanishes}
 use Rattle.mini_rows.specs.Lists.{block, declares_nothing, declaration}
 use Rattle.mini_rows.specs.Declarations.{binding, declarator}
-use Rattle.mini_rows.specs.Unused.{resolved, let_one, any_names, is_idle, may_move, reads_first, UnusedRow, UnusedContracts, UnusedAreLawful, let_among, lexical_kind, lexical_among, lexical_left, left_over, put_first}
+use Rattle.mini_rows.specs.Unused.{resolved, let_one, any_names, is_idle, may_move, reads_first, BlockRow, let_among, lexical_kind, lexical_among, lexical_left, left_over, put_first}
 use Rattle.mini_rows.proofs.ArrangedBodies.{quiet}
 use Rattle.mini_rows.proofs.FoldLawful.{vanishes}
 use Rattle.mini_rows.proofs.ListShapes.{declaration_anywhere, append_fits, both_fit, first_fits, more_fit}
@@ -102,7 +102,7 @@ module _ (first_list second_list : Trees) (h : (strict : Bool) → fill strict (
 
 -- ---- what is written fits
 
-abbrev item : Slot
+abbrev pub item : Slot
 item = one (a_statement nested)
 
 one_item : (strict : Bool) (before after : Trees) (d w : Tree) → (fits strict item d ≡ true → fits strict item w ≡ true) → fill strict (each item) (append before (d ▸ after)) ≡ true → fill strict (each item) (append before (w ▸ after)) ≡ true
@@ -127,11 +127,11 @@ an_expression_fits : (strict : Bool) (t : Tree) → fits strict (one an_expressi
 an_expression_fits true t e = both (fits true (one an_expression) t) true e refl
 an_expression_fits false t e = both (fits false (one an_expression) t) true e refl
 
-empty_fits : (strict : Bool) → fits strict item empty_statement ≡ true
+pub empty_fits : (strict : Bool) → fits strict item empty_statement ≡ true
 empty_fits true = refl
 empty_fits false = refl
 
-value_fits : (strict : Bool) (x : Name) (init : Tree) → declares_nothing init ≡ true → fits strict item (let_one x init) ≡ true → fits strict item (expression_statement init) ≡ true
+pub value_fits : (strict : Bool) (x : Name) (init : Tree) → declares_nothing init ≡ true → fits strict item (let_one x init) ≡ true → fits strict item (expression_statement init) ≡ true
 value_fits strict x init d e =
     let ds : Trees = declarator (binding x) init ▸ none in
     let all : (fill strict (each (one a_declarator)) ds && true) ≡ true = sym (declaration_anywhere strict nested Let ds) ∙ e in
@@ -148,7 +148,7 @@ among_fits strict x first last init some e =
     declaration_anywhere strict nested Let (append first last)
     ∙ both (nat_le 1 (count (append first last))) (fill strict (each (one a_declarator)) (append first last) && true) some (both (fill strict (each (one a_declarator)) (append first last)) true others refl)
 
-left_fits : (strict : Bool) (x : Name) (first : Trees) (init : Tree) (last : Trees) → fits strict item (let_among x first init last) ≡ true → fits strict item (left_over (append first last)) ≡ true
+pub left_fits : (strict : Bool) (x : Name) (first : Trees) (init : Tree) (last : Trees) → fits strict item (let_among x first init last) ≡ true → fits strict item (left_over (append first last)) ≡ true
 left_fits strict x none init none e = empty_fits strict
 left_fits strict x none init (t ▸ last) e = among_fits strict x none (t ▸ last) init (le-leb 1 (count (t ▸ last)) (omega arith)) e
 left_fits strict x (t ▸ first) init last e = among_fits strict x (t ▸ first) last init (le-leb 1 (count (t ▸ append first last)) (omega arith)) e
@@ -167,7 +167,7 @@ lexical_fits strict c (t ▸ first) e =
     declaration_anywhere strict nested (lexical_kind c) (t ▸ first)
     ∙ both (nat_le 1 (count (t ▸ first))) (fill strict (each (one a_declarator)) (t ▸ first) && true) (le-leb 1 (count (t ▸ first)) (omega arith)) (both (fill strict (each (one a_declarator)) (t ▸ first)) true e refl)
 
-single_fits : (strict : Bool) (c : Bool) (x : Name) (first : Trees) (init head : Tree) → may_move init ≡ true → reads_first x head ≡ true → fits strict item (lexical_among c x first init) ≡ true → fits strict item head ≡ true → (fits strict item (lexical_left c first) ≡ true) × (fits strict item (put_first init head) ≡ true)
+pub single_fits : (strict : Bool) (c : Bool) (x : Name) (first : Trees) (init head : Tree) → may_move init ≡ true → reads_first x head ≡ true → fits strict item (lexical_among c x first init) ≡ true → fits strict item head ≡ true → (fits strict item (lexical_left c first) ≡ true) × (fits strict item (put_first init head) ≡ true)
 single_fits strict c x first init head m r e f =
     let ds : Trees = append first (declarator (binding x) init ▸ none) in
     let all = (and_parts (nat_le 1 (count ds)) (fill strict (each (one a_declarator)) ds && true) (sym (declaration_anywhere strict nested (lexical_kind c) ds) ∙ e)).1 in
@@ -251,7 +251,7 @@ unfolding has_inner
 nothing_vanishes = record { inner = refl; fixed = λ y. refl }
 
 -- what is not missed leaves nothing behind
-idle_vanishes : (init : Tree) → is_idle init ≡ true → Vanishes init
+pub idle_vanishes : (init : Tree) → is_idle init ≡ true → Vanishes init
 idle_vanishes init h = by (is_absent_part init) refl
   where
     by : (b : Bool) → is_absent_part init ≡ b → Vanishes init
@@ -260,7 +260,7 @@ idle_vanishes init h = by (is_absent_part init) refl
         let quiet = (and_parts (declares_nothing init) (is_effect_free init && leaves_nothing init) (sym (ap (λ b. b || (declares_nothing init && (is_effect_free init && leaves_nothing init))) a) ∙ h)).1 in
         vanishes init (and_parts (is_effect_free init) (leaves_nothing init) quiet).1
 
-row_dropped : (q : StmtSeat) (n w : Tree) → UnusedRow (Stmt q) n w → (k : ℕ) × Dropped q k n w
+row_dropped : (q : StmtSeat) (n w : Tree) → BlockRow n w → (k : ℕ) × Dropped q k n w
 row_dropped q n w (inl r) =
     let x = resolved r.spelling r.symbol in (
       r.symbol,
@@ -287,7 +287,7 @@ record Blocks (n w : Tree) : Type 0 where
   after : w ≡ block second
   fitting : (strict : Bool) → fill strict (each item) first ≡ true → fill strict (each item) second ≡ true
 
-row_blocks : (q : StmtSeat) (n w : Tree) → UnusedRow (Stmt q) n w → Blocks n w
+row_blocks : (q : StmtSeat) (n w : Tree) → BlockRow n w → Blocks n w
 row_blocks q n w (inl r) =
     let d = let_one (resolved r.spelling r.symbol) r.init in
     record { first = append r.before (d ▸ r.after); second = append r.before (expression_statement r.init ▸ r.after); before = r.shape; after = r.written; fitting = λ strict. one_item strict r.before r.after d (expression_statement r.init) (value_fits strict (resolved r.spelling r.symbol) r.init r.present) }
@@ -315,19 +315,24 @@ shaped n w P f b = subst (λ t. P t w) (sym b.before) (subst (P (block b.first))
 blocks_asked : (p : Position) (first_list second_list : Trees) → AskedAlike p (block first_list) (block second_list)
 blocks_asked p first_list second_list = record { absent = λ g. absurd (true≢false (sym g)); body = λ g. absurd (true≢false (sym g)); optional = λ g. absurd (true≢false (sym g)); number = λ g h. refl; spelled = λ r g. absurd (cc g); plain = refl }
 
-in_place : (q : StmtSeat) (n w : Tree) → UnusedRow (Stmt q) n w → (strict : Bool) (s : Slot) → fits strict s n ≡ true → (fits strict s w ≡ true) × (is_body_slot (Stmt q) s ≡ true)
+in_place : (q : StmtSeat) (n w : Tree) → BlockRow n w → (strict : Bool) (s : Slot) → fits strict s n ≡ true → (fits strict s w ≡ true) × (is_body_slot (Stmt q) s ≡ true)
 in_place q n w r strict s e =
     let b = row_blocks q n w r in
     let (f, g) = in_slot b.first b.second b.fitting strict (Stmt q) s (sym (ap (fits strict s) b.before) ∙ e) in
     (ap (fits strict s) b.after ∙ f, g)
 
--- whichever place it is
-at_statement : (P : Position → Tree → Tree → Type 0) → ((q : StmtSeat) (n w : Tree) → UnusedRow (Stmt q) n w → P (Stmt q) n w) → (p : Position) (n w : Tree) → UnusedContracts p n w → P p n w
-at_statement P f (Stmt q) n w c = f q n w c.row
-at_statement P f p n w c = absurd c.row
+-- of a statement
+abbrev pub OfBlock : Position → Tree → Tree → Type 0
+OfBlock (Stmt q) n w = BlockRow n w
+OfBlock p n w = ⊥
 
-pub unused_loose : UnusedAreLawful
-unused_loose K = record {
+-- whichever place it is
+at_statement : (P : Position → Tree → Tree → Type 0) → ((q : StmtSeat) (n w : Tree) → BlockRow n w → P (Stmt q) n w) → (p : Position) (n w : Tree) → OfBlock p n w → P p n w
+at_statement P f (Stmt q) n w c = f q n w c
+at_statement P f p n w c = absurd c
+
+pub blocks_loose : (K : Shape → Bool) → LawfulLoosely K OfBlock
+blocks_loose K = record {
   shapes = record {
     fitting = at_statement (λ p n w. (strict : Bool) (s : Slot) → fits_place p s ≡ true → fits strict s n ≡ true → fits strict s w ≡ true) (λ q n w r strict s o e. (in_place q n w r strict s e).0);
     asked = at_statement AskedAlike (λ q n w r. shaped n w (AskedAlike (Stmt q)) (blocks_asked (Stmt q)) (row_blocks q n w r));

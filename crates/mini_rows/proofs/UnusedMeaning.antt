@@ -12,7 +12,7 @@ use Rattle.mini_model.specs.Tree.{Tree, Trees, node, none, ◌▸◌, absent, li
 use Rattle.mini_model.specs.Paths.{append}
 use Rattle.mini_laws.specs.Value.{Value, Undefined, Variable, Declared, VariableSet, Holds, choose, variable_eq, is_in, nothing}
 use Rattle.mini_laws.specs.State.{State, Completion, ok, stop, halt, out, either, Environment, with_vars}
-use Rattle.mini_laws.specs.Demand.{Val, Unused, Tail, As, Stat, Declares, Binds}
+use Rattle.mini_laws.specs.Demand.{Val, Unused, Tail, FunctionTail, As, Stat, Declares, Binds}
 use Rattle.mini_laws.specs.Command.{set_var, run, note, act, at_variable}
 use Rattle.mini_laws.specs.State.{FreshOf}
 use Rattle.mini_laws.specs.Naming.{summary, summaries, facts_all, lets_all, functions_all, function_facts, texts_all, naming}
@@ -42,7 +42,7 @@ use Rattle.mini_terms.proofs.Dropping.{does_nothing, weak}
 use Rattle.mini_rows.specs.Lists.{block, declaration, declares_nothing}
 use Rattle.mini_rows.specs.Declarations.{binding, declarator}
 use Rattle.mini_rows.specs.Sketches.{shape_by, AsWholeItem}
-use Rattle.mini_rows.specs.Unused.{resolved, names, any_names, let_among, let_one, is_idle, left_over, lexical_kind, lexical_among, lexical_left, is_definition, may_move, put_first, reads_first, Row72, Row72Idle, Row71}
+use Rattle.mini_rows.specs.Unused.{resolved, names, any_names, let_among, let_one, is_idle, left_over, lexical_kind, lexical_among, lexical_left, is_definition, may_move, put_first, reads_first, statements, Row72, Row72Idle, Row71}
 use Rattle.mini_rows.proofs.FoldMeaning.{plain_read}
 use Rattle.mini_rows.proofs.SingleUse.{Lead, Doing, Giving, Raising, Testing, head_of, Step, led, is_end, Stands, Well, statement, unnamed}
 use Rattle.mini_rows.proofs.SingleMeaning.{first_goes}
@@ -142,7 +142,7 @@ module _ (e : Environment) (spelling : List ℕ) (k : ℕ) (z : Unseen (alone (D
   abbrev SameAlone : Tree → Tree → Type 0
   SameAlone d w = Same e D nothing (Stat None) (listed (d ▸ none)) (listed (w ▸ none))
 
-  value_same : (init : Tree) → declares_nothing init ≡ true → SameAlone (let_one x init) (expression_statement init)
+  pub value_same : (init : Tree) → declares_nothing init ≡ true → SameAlone (let_one x init) (expression_statement init)
   value_same init h = one_same (let_one x init) (expression_statement init) (let_goes init (there init h))
 
   idle_same : (init : Tree) → is_idle init ≡ true → SameAlone (let_one x init) empty_statement
@@ -193,7 +193,7 @@ module _ (e : Environment) (spelling : List ℕ) (k : ℕ) (z : Unseen (alone (D
     among_same : SameAlone (let_among x first init last) (declaration Let (append first last))
     among_same = one_same (let_among x first init last) (declaration Let (append first last)) among_go
 
-  left_same : (first last : Trees) (init : Tree) → is_idle init ≡ true → AllAvoid D last → SameAlone (let_among x first init last) (left_over (append first last))
+  pub left_same : (first last : Trees) (init : Tree) → is_idle init ≡ true → AllAvoid D last → SameAlone (let_among x first init last) (left_over (append first last))
   left_same none none init h a = idle_same init h
   left_same none (t ▸ last) init h a = among_same none (t ▸ last) init h a
   left_same (t ▸ first) last init h a = among_same (t ▸ first) last init h a
@@ -269,7 +269,7 @@ pub record ReadThere (k : ℕ) (d w : Trees) : Type 0 where
   pub facts : function_facts (facts_all (summaries d)) ≡ function_facts (facts_all (summaries w))
   pub texts : texts_all (facts_all (summaries d)) ≡ texts_all (facts_all (summaries w))
 
-read_alone : (k : ℕ) (d w : Tree) → ReadAs k d w → ReadThere k (d ▸ none) (w ▸ none)
+pub read_alone : (k : ℕ) (d w : Tree) → ReadAs k d w → ReadThere k (d ▸ none) (w ▸ none)
 read_alone k d w r = record {
   first = r.first;
   last = r.last;
@@ -313,20 +313,29 @@ module _ (e : Environment) (spelling : List ℕ) (k : ℕ) (z : Unseen (alone (D
       congruent_same e D z.shared (inside shape.BlockStatement [] 0 none here none) (listed (append before (append d after))) (listed (append before (append w after))) (tt, tt, tt, tt) (tt, all_join D before (append w after) ab (all_join D w after aw aa)) list_read nothing (Stat t) (no_off _)
       (weaker e D D nothing _ (within_refl D) (no_within _) (Stat t) (listed (append before (append d after))) (listed (append before (append w after))) same)
 
+  -- and so does the body of a function
+  pub statements_same : AllAvoid (alone (Declared k)) before → AllAvoid (alone (Declared k)) w → AllAvoid (alone (Declared k)) after → Same e (alone (Declared k)) nothing (Stat None) (listed d) (listed w)
+      → Same e (alone (Declared k)) nothing (Stat None) (statements (append before (append d after))) (statements (append before (append w after)))
+  statements_same ab aw aa one =
+      let D = alone (Declared k) in
+      let same = list_same e spelling k z before after d w aa one (Some FunctionTail) in
+      congruent_same e D z.shared (inside shape.FunctionBody [] 0 none here none) (listed (append before (append d after))) (listed (append before (append w after))) (tt, tt, tt, tt) (tt, all_join D before (append w after) ab (all_join D w after aw aa)) list_read nothing (Stat None) (no_off _)
+      (weaker e D D nothing _ (within_refl D) (no_within _) (Stat (Some FunctionTail)) (listed (append before (append d after))) (listed (append before (append w after))) same)
+
 -- ---- the rows
 
-let_read : (spelling : List ℕ) (k : ℕ) (init w : Tree) → summary w ≡ summary empty_statement → ReadAs k (let_one (resolved spelling k) init) w
+pub let_read : (spelling : List ℕ) (k : ℕ) (init w : Tree) → summary w ≡ summary empty_statement → ReadAs k (let_one (resolved spelling k) init) w
 let_read spelling k init w h = record { first = []; last = []; lets = refl; left = ap (λ i. i.lets) h; functions = sym (ap (λ i. i.functions) h); facts = sym (ap (λ i. i.facts.functions) h); texts = sym (ap (λ i. i.facts.texts) h) }
 
 among_read : (spelling : List ℕ) (k : ℕ) (first last : Trees) (init : Tree) → ReadAs k (let_among (resolved spelling k) first init last) (declaration Let (append first last))
 among_read spelling k first last init = record { first = lets_all (summaries first); last = lets_all (summaries last); lets = lets_append first (declarator (binding (resolved spelling k)) init ▸ last); left = lets_append first last; functions = refl; facts = refl; texts = refl }
 
-idle_read : (spelling : List ℕ) (k : ℕ) (first last : Trees) (init : Tree) → ReadAs k (let_among (resolved spelling k) first init last) (left_over (append first last))
+pub idle_read : (spelling : List ℕ) (k : ℕ) (first last : Trees) (init : Tree) → ReadAs k (let_among (resolved spelling k) first init last) (left_over (append first last))
 idle_read spelling k none none init = let_read spelling k init empty_statement refl
 idle_read spelling k none (t ▸ last) init = among_read spelling k none (t ▸ last) init
 idle_read spelling k (t ▸ first) last init = among_read spelling k (t ▸ first) last init
 
-left_avoids : (D : VariableSet) (first last : Trees) → AllAvoid D first → AllAvoid D last → Avoids D (left_over (append first last))
+pub left_avoids : (D : VariableSet) (first last : Trees) → AllAvoid D first → AllAvoid D last → Avoids D (left_over (append first last))
 left_avoids D none none a b = (tt, tt)
 left_avoids D none (t ▸ last) a b = (tt, ((tt, b), tt))
 left_avoids D (t ▸ first) last a b = (tt, ((tt, all_join D (t ▸ first) last a b), tt))
@@ -362,7 +371,7 @@ stated Raising b s ts = refl
 stated Testing b s ts = refl
 stated l b s ts = absurd s
 
-head_read : (x : Name) (head : Tree) → reads_first x head ≡ true → (init : Tree) → (summary head ≡ summary empty_statement) × (summary (put_first init head) ≡ summary empty_statement)
+pub head_read : (x : Name) (head : Tree) → reads_first x head ≡ true → (init : Tree) → (summary head ≡ summary empty_statement) × (summary (put_first init head) ≡ summary empty_statement)
 head_read x head e init =
     let t = statement x head e in (
       ap summary t.is ∙ stated t.lead true (t.stands true) (t.inner ▸ t.rest),
@@ -382,7 +391,7 @@ among_lets : (c : Bool) (x : Name) (first : Trees) (init : Tree) → (summary (l
 among_lets true x first init = refl
 among_lets false x first init = refl
 
-single_read : (spelling : List ℕ) (k : ℕ) (c : Bool) (first : Trees) (init head w : Tree) → summary head ≡ summary empty_statement → summary w ≡ summary empty_statement → ReadThere k (lexical_among c (resolved spelling k) first init ▸ (head ▸ none)) (lexical_left c first ▸ (w ▸ none))
+pub single_read : (spelling : List ℕ) (k : ℕ) (c : Bool) (first : Trees) (init head w : Tree) → summary head ≡ summary empty_statement → summary w ≡ summary empty_statement → ReadThere k (lexical_among c (resolved spelling k) first init ▸ (head ▸ none)) (lexical_left c first ▸ (w ▸ none))
 single_read spelling k c first init head w h g =
     let d = lexical_among c (resolved spelling k) first init in
     let left = lexical_left c first in
@@ -402,7 +411,7 @@ same_symbol : (k : ℕ) (y : Option SymbolId) → is_same (Some (record { 0 = k 
 same_symbol k (Some y) e = ap (λ m. Some (record { 0 = m })) (sym (eqb-true k y.0 e))
 same_symbol k None e = absurd (true≢false (sym e))
 
-left_over_avoids : (D : VariableSet) (c : Bool) (first : Trees) → AllAvoid D first → Avoids D (lexical_left c first)
+pub left_over_avoids : (D : VariableSet) (c : Bool) (first : Trees) → AllAvoid D first → Avoids D (lexical_left c first)
 left_over_avoids D c none a = (tt, tt)
 left_over_avoids D c (t ▸ first) a = (tt, ((tt, a), tt))
 
@@ -468,7 +477,7 @@ module _ (e : Environment) (spelling : List ℕ) (k : ℕ) (z : Unseen (alone (D
       subst₂ (λ a b. Run (either a (λ u t. means e head (Stat None) [] t) (λ y t. stop y t)) (either b (λ u t. means e (put_first init head) (Stat None) [] t) (λ y t. stop y t)))
       (sym (as_let c (append first (declarator (binding single_name) init ▸ none)) s)) (sym (left_as_let c first s)) (pair_goes s)
 
-  single_same : (c : Bool) → Same e single_set nothing (Stat None) (listed (lexical_among c single_name first init ▸ (head ▸ none))) (listed (lexical_left c first ▸ (put_first init head ▸ none)))
+  pub single_same : (c : Bool) → Same e single_set nothing (Stat None) (listed (lexical_among c single_name first init ▸ (head ▸ none))) (listed (lexical_left c first ▸ (put_first init head ▸ none)))
   single_same c = record {
     by = λ r s i. subst₂ Run (sym (listed_is e (lexical_among c single_name first init ▸ (head ▸ none)) r s ∙ exec_two e (lexical_among c single_name first init) head s)) (sym (listed_is e (lexical_left c first ▸ (put_first init head ▸ none)) r s ∙ exec_two e (lexical_left c first) (put_first init head) s)) (single_goes c s);
   }

@@ -1,5 +1,5 @@
 -- A name that nothing in a tree is like: no name there has its symbol, none that is declared there its spelling.
-use Rattle.std.specs.Prelude.{ℕ, ◌≡◌, refl, Bool, true, false, ◌||◌, List, [], ◌∷◌, ◌++◌, Option, Some, None, if◌then◌else◌}
+use Rattle.std.specs.Prelude.{ℕ, ◌≡◌, refl, Bool, true, false, ◌||◌, List, [], ◌∷◌, ◌++◌, length, drop, Option, Some, None, if◌then◌else◌}
 use Rattle.std.proofs.Common.{ap, ◌∙◌, sym, subst, append_assoc, true≢false}
 use Rattle.std.proofs.lemmas.Bool.{eq-eqb}
 use Rattle.std.proofs.lemmas.List.{append-nil}
@@ -12,7 +12,7 @@ use Rattle.mini_laws.specs.declared.names.Declared.{Declared}
 use Rattle.mini_laws.specs.declared.names.Declared.TheVariants as declared
 use Rattle.mini_laws.specs.declared.names.Place.{Place}
 use Rattle.mini_laws.specs.declared.names.Place.TheVariants as place
-use Rattle.mini_laws.specs.DeclaredNames.{place_of, names_by, names_of, first_names, all_names, is_spelled, with_name, with_names}
+use Rattle.mini_laws.specs.DeclaredNames.{place_of, names_by, names_of, first_names, all_names, is_statement_list, body_names, all_body_names, is_spelled, with_name, with_names}
 use Rattle.mini_laws.specs.Scoped.{NoneCarries, Unmentioned, AllUnmentioned}
 use Rattle.mini_laws.specs.Symbols.{is_same}
 use Rattle.mini_laws.specs.Value.{Declared as Variable, variables, variable_eq, variable_by}
@@ -22,7 +22,7 @@ use Rattle.mini_kept.specs.Loosely.{symbol}
 use Rattle.mini_kept.proofs.SameScopes.{same_texts, text_itself}
 use Rattle.mini_rows.specs.Unused.{is_like_one, names, any_names}
 
-or_parts : (a b : Bool) → (a || b) ≡ false → (a ≡ false) × (b ≡ false)
+pub or_parts : (a b : Bool) → (a || b) ≡ false → (a ≡ false) × (b ≡ false)
 or_parts true b e = absurd (true≢false e)
 or_parts false b e = (refl, e)
 
@@ -112,6 +112,23 @@ module _ (x : Name) where
     all_other d none f = tt
     all_other d (t ▸ ts) f = let (one, others) = or_parts (names x t) (any_names x ts) f in other_both x (names_of d t) (all_names d ts) (declared_other d t one) (all_other d ts others)
 
+  either_other : (b : Bool) (xs ys : List Name) → Other x xs → Other x ys → Other x (if b then xs else ys)
+  either_other true xs ys a b = a
+  either_other false xs ys a b = b
+
+  mutual
+    unfolding body_names
+
+    pub body_other : (t : Tree) → names x t ≡ false → Other x (body_names t)
+    body_other (node h xs n ts) f =
+        let lexical = names_of declared.Lexical (node h xs n ts) in
+        let hoisted = names_of declared.Hoisted (node h xs n ts) in
+        either_other (is_statement_list h) (all_body_names ts) (lexical ++ hoisted) (all_body_other ts (or_parts (is_like_one x xs) (any_names x ts) f).1) (other_both x lexical hoisted (declared_other declared.Lexical (node h xs n ts) f) (declared_other declared.Hoisted (node h xs n ts) f))
+
+    pub all_body_other : (ts : Trees) → any_names x ts ≡ false → Other x (all_body_names ts)
+    all_body_other none f = tt
+    all_body_other (t ▸ ts) f = let (one, others) = or_parts (names x t) (any_names x ts) f in other_both x (body_names t) (all_body_names ts) (body_other t one) (all_body_other ts others)
+
 -- ---- a scope without it
 
 both_ways : (s r : List ℕ) → same_text s r ≡ false → same_text r s ≡ false
@@ -184,3 +201,55 @@ amid x ys zs o p =
   where
     by : (seen zs : List Name) → Other x zs → Amid x (with_names (seen ++ x ∷ []) zs) (with_names seen zs)
     by seen zs p = subst (λ l. Amid x (with_names (seen ++ x ∷ []) zs) (with_names l zs)) (append-nil seen) (amid_more x seen [] zs p)
+
+-- ---- in a function's body, whose scope has none of the names of its parameters
+
+after_names : (p xs : List Name) → drop (length p) (p ++ xs) ≡ xs
+after_names [] xs = refl
+after_names (y ∷ p) xs = after_names p xs
+
+grown : (seen ys : List Name) → (more : List Name) × (with_names seen ys ≡ seen ++ more)
+unfolding with_names
+grown seen [] = ([], sym (append-nil seen))
+grown seen (y ∷ ys) = by (is_spelled y.spelling seen) (grown seen ys) (grown (seen ++ y ∷ []) ys)
+  where
+    by : (b : Bool) → (more : List Name) × (with_names seen ys ≡ seen ++ more) → (more : List Name) × (with_names (seen ++ y ∷ []) ys ≡ (seen ++ y ∷ []) ++ more) → (more : List Name) × (with_names (if b then seen else seen ++ y ∷ []) ys ≡ seen ++ more)
+    by true m k = m
+    by false m k = (y ∷ k.0, k.1 ∙ append_assoc seen (y ∷ []) k.0)
+
+with_new : (x : Name) (seen zs : List Name) → is_spelled x.spelling seen ≡ false → with_names seen (x ∷ zs) ≡ with_names (seen ++ x ∷ []) zs
+unfolding with_names
+with_new x seen zs f = ap (λ b. with_names (if b then seen else seen ++ x ∷ []) zs) f
+
+module _ (x : Name) (p : List Name) where
+  abbrev behind : List Name → List Name
+  behind xs = drop (length p) xs
+
+  behind_more : (first last ys : List Name) → Other x ys → Amid x (behind (with_names ((p ++ first) ++ x ∷ last) ys)) (behind (with_names ((p ++ first) ++ last) ys))
+  unfolding with_names
+  behind_more first last [] o = record {
+    first = first;
+    last = last;
+    there = ap behind (append_assoc p first (x ∷ last)) ∙ after_names p (first ++ x ∷ last);
+    gone = ap behind (append_assoc p first last) ∙ after_names p (first ++ last);
+  }
+  behind_more first last (y ∷ ys) o = by (is_spelled y.spelling ((p ++ first) ++ last)) (same_spelled x y (p ++ first) last o.0) (behind_more first last ys o.1) (behind_more first (last ++ y ∷ []) ys o.1)
+    where
+      by : (c : Bool) → is_spelled y.spelling ((p ++ first) ++ x ∷ last) ≡ c → Amid x (behind (with_names ((p ++ first) ++ x ∷ last) ys)) (behind (with_names ((p ++ first) ++ last) ys)) → Amid x (behind (with_names ((p ++ first) ++ x ∷ (last ++ y ∷ [])) ys)) (behind (with_names ((p ++ first) ++ (last ++ y ∷ [])) ys))
+          → Amid x (behind (with_names (if is_spelled y.spelling ((p ++ first) ++ x ∷ last) then (p ++ first) ++ x ∷ last else ((p ++ first) ++ x ∷ last) ++ y ∷ []) ys)) (behind (with_names (if c then (p ++ first) ++ last else ((p ++ first) ++ last) ++ y ∷ []) ys))
+      by true q m k =
+          subst (λ b. Amid x (behind (with_names (if b then (p ++ first) ++ x ∷ last else ((p ++ first) ++ x ∷ last) ++ y ∷ []) ys)) (behind (with_names ((p ++ first) ++ last) ys))) (sym q) m
+      by false q m k =
+          subst (λ b. Amid x (behind (with_names (if b then (p ++ first) ++ x ∷ last else ((p ++ first) ++ x ∷ last) ++ y ∷ []) ys)) (behind (with_names (((p ++ first) ++ last) ++ y ∷ []) ys))) (sym q)
+          (subst (λ l. Amid x (behind (with_names l ys)) (behind (with_names (((p ++ first) ++ last) ++ y ∷ []) ys))) (sym (append_assoc (p ++ first) (x ∷ last) (y ∷ [])))
+          (subst (λ l. Amid x (behind (with_names ((p ++ first) ++ x ∷ (last ++ y ∷ [])) ys)) (behind (with_names l ys))) (sym (append_assoc (p ++ first) last (y ∷ []))) k))
+
+  -- of names that a body declares, one of which it is
+  pub amid_behind : (ys zs : List Name) → Other x p → Other x ys → Other x zs → Amid x (behind (with_names p (ys ++ x ∷ zs))) (behind (with_names p (ys ++ zs)))
+  amid_behind ys zs a o q =
+      let seen = with_names p ys in
+      let (more, is) = grown p ys in
+      let new : is_spelled x.spelling seen ≡ false = unspelled x seen (other_with x p ys a o) in
+      let there : with_names p (ys ++ x ∷ zs) ≡ with_names ((p ++ more) ++ x ∷ []) zs = with_more p ys (x ∷ zs) ∙ with_new x seen zs new ∙ ap (λ l. with_names (l ++ x ∷ []) zs) is in
+      let gone : with_names p (ys ++ zs) ≡ with_names ((p ++ more) ++ []) zs = with_more p ys zs ∙ ap (λ l. with_names l zs) (is ∙ sym (append-nil (p ++ more))) in
+      subst (λ l. Amid x (behind l) (behind (with_names p (ys ++ zs)))) (sym there) (subst (λ l. Amid x (behind (with_names ((p ++ more) ++ x ∷ []) zs)) (behind l)) (sym gone) (behind_more more [] zs q))

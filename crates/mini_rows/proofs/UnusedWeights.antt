@@ -5,9 +5,10 @@ use Rattle.std.proofs.lemmas.Bool.{and_parts}
 use Rattle.mini_model.specs.declared.kind.VariableDeclarationKind.TheVariants.{Let}
 use Rattle.mini_model.specs.declared.name.Name.{Name}
 use Rattle.mini_model.specs.declared.place.Position.{Position}
-use Rattle.mini_model.specs.declared.place.Position.TheVariants.{Stmt}
+use Rattle.mini_model.specs.declared.place.Position.TheVariants.{Expr, Stmt}
 use Rattle.mini_model.specs.declared.seat.StmtSeat.{StmtSeat}
-use Rattle.mini_model.specs.Tree.{Tree, Trees, none, ◌▸◌, shape_of, expression_statement}
+use Rattle.mini_model.specs.declared.seat.StmtSeat.TheVariants as stmt_seat
+use Rattle.mini_model.specs.Tree.{Tree, Trees, none, ◌▸◌, listed, shape_of, expression_statement}
 use Rattle.mini_model.specs.Paths.{append}
 use Rattle.mini_model.specs.Position.{argument_seat, statement_expression_seat}
 use Rattle.mini_model.specs.Weight.{commas_weight, outline, outlines, one_chooses, braces_weight, weight}
@@ -15,10 +16,10 @@ use Rattle.mini_laws.specs.Weights.{Lightens}
 use Rattle.mini_laws.proofs.Seats.{moved}
 use Rattle.mini_rows.specs.Declarations.{binding, declarator}
 use Rattle.mini_rows.specs.Lists.{block, declaration}
-use Rattle.mini_rows.specs.Unused.{resolved, let_among, let_one, left_over, is_definition, UnusedRow, UnusedContracts, UnusedLighter}
+use Rattle.mini_rows.specs.Unused.{resolved, let_among, let_one, left_over, is_definition, BlockRow, UnusedRow, UnusedContracts, UnusedLighter}
 use Rattle.mini_terms.specs.Reading.{is_plain_part}
 use Rattle.mini_rows.proofs.SingleWeights.{single_falls}
-use Rattle.mini_rows.proofs.ListWeights.{total, in_list, comma_list, declarators_append}
+use Rattle.mini_rows.proofs.ListWeights.{total, list_is, body_is, in_list, comma_list, declarators_append}
 
 value_falls : (s : List ℕ) (k : ℕ) (init : Tree) → total (expression_statement init ▸ none) + 1 ≤ total (let_one (resolved s k) init ▸ none)
 value_falls s k init = let seat = moved statement_expression_seat argument_seat refl init in omega (arith, seat)
@@ -59,17 +60,33 @@ block_falls q before after d w h less =
     let braces = ap (braces_weight q) (same_choice before after d w h) in
     omega (arith, falls, braces)
 
-pub unused_lighter : UnusedLighter
-unused_lighter (Stmt q) n w (inl r) =
+block_lighter : (q : StmtSeat) (n w : Tree) → BlockRow n w → weight (Stmt q) w < weight (Stmt q) n
+block_lighter q n w (inl r) =
     let falls = block_falls q r.before r.after (let_one (resolved r.spelling r.symbol) r.init) (expression_statement r.init) refl (value_falls r.spelling r.symbol r.init) in
     omega (arith, falls, ap (weight (Stmt q)) r.shape, ap (weight (Stmt q)) r.written)
-unused_lighter (Stmt q) n w (inr (inl r)) =
+block_lighter q n w (inr (inl r)) =
     let falls = block_falls q r.before r.after (let_among (resolved r.spelling r.symbol) r.first r.init r.last) (left_over (append r.first r.last)) (same_chooses (resolved r.spelling r.symbol) r.first r.last r.init) (idle_falls (resolved r.spelling r.symbol) r.first r.last r.init) in
     omega (arith, falls, ap (weight (Stmt q)) r.shape, ap (weight (Stmt q)) r.written)
-unused_lighter (Stmt q) n w (inr (inr r)) =
+block_lighter q n w (inr (inr r)) =
     let plain = (and_parts (is_plain_part r.init) (not (is_definition (shape_of r.init))) r.moves).0 in
     let falls = single_falls q r.before r.is_constant r.first r.spelling r.symbol r.init r.head r.after plain r.once in
     omega (arith, falls, ap (weight (Stmt q)) r.shape, ap (weight (Stmt q)) r.written)
+
+-- a function's body by the block that its parameters and its statements would be
+pub unused_lighter : UnusedLighter
+unused_lighter (Stmt q) n w r = block_lighter q n w r
+unused_lighter (Expr s) n w r =
+    let less = block_lighter stmt_seat.List (block (listed r.parameters ▸ r.before)) (block (listed r.parameters ▸ r.after)) r.row in
+    omega (
+      arith,
+      less,
+      list_is (listed r.parameters ▸ r.before),
+      list_is (listed r.parameters ▸ r.after),
+      body_is r.before,
+      body_is r.after,
+      ap (weight (Expr s)) r.shape,
+      ap (weight (Expr s)) r.written,
+    )
 unused_lighter p n w r = absurd r
 
 -- ---- what a parent reads of them
@@ -78,6 +95,7 @@ same_outline : (p : Position) (n w : Tree) → UnusedRow p n w → outline n ≡
 same_outline (Stmt q) n w (inl r) = ap outline r.shape ∙ sym (ap outline r.written)
 same_outline (Stmt q) n w (inr (inl r)) = ap outline r.shape ∙ sym (ap outline r.written)
 same_outline (Stmt q) n w (inr (inr r)) = ap outline r.shape ∙ sym (ap outline r.written)
+same_outline (Expr s) n w r = ap outline r.shape ∙ sym (ap outline r.written)
 same_outline p n w r = absurd r
 
 pub unused_lighten : Lightens UnusedContracts

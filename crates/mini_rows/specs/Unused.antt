@@ -5,10 +5,10 @@ use Rattle.mini_model.specs.declared.kind.VariableDeclarationKind.TheVariants.{L
 use Rattle.mini_model.specs.declared.name.Name.{Name}
 use Rattle.mini_model.specs.declared.operator.UnaryOperator.TheVariants.{LogicalNot}
 use Rattle.mini_model.specs.declared.place.Position.{Position}
-use Rattle.mini_model.specs.declared.place.Position.TheVariants.{Stmt}
+use Rattle.mini_model.specs.declared.place.Position.TheVariants.{Expr, Stmt}
 use Rattle.mini_model.specs.declared.shape.Shape.{Shape}
 use Rattle.mini_model.specs.declared.shape.Shape.TheVariants as shape
-use Rattle.mini_model.specs.Tree.{Tree, Trees, node, none, ◌▸◌, shape_of, empty_statement, expression_statement}
+use Rattle.mini_model.specs.Tree.{Tree, Trees, node, none, ◌▸◌, listed, shape_of, empty_statement, expression_statement}
 use Rattle.mini_model.specs.Paths.{append}
 use Rattle.mini_model.specs.Weight.{same_text, weight}
 use Rattle.mini_laws.specs.ScopeList.{has_eval}
@@ -190,9 +190,36 @@ pub record Row71 (n w : Tree) : Type 0 where
   pub shape : n ≡ block (append before (lexical_among is_constant (resolved spelling symbol) first init ▸ (head ▸ after)))
   pub written : w ≡ block (append before (lexical_left is_constant first ▸ (put_first init head ▸ after)))
 
+-- one of them reads a block
+abbrev pub BlockRow : Tree → Tree → Type 0
+BlockRow n w = Row72 n w ⊎ (Row72Idle n w ⊎ Row71 n w)
+
+-- ---- in the body of an arrow function
+
+-- `{ .. }`, as a body
+abbrev pub statements : Trees → Tree
+statements ts = node shape.FunctionBody [] 0 (listed ts ▸ none)
+
+-- an arrow function with statements, with its directives, its number and its parameters
+abbrev pub arrow_with : List (List ℕ) → ℕ → Trees → Trees → Tree
+arrow_with directives n parameters ts = node (shape.ArrowFunctionExpression directives) [] n (listed parameters ▸ (statements ts ▸ none))
+
+-- 71 and 72 in its body: `(a) => { let x = b(); return x + a; }` becomes `(a) => { ; return b() + a; }`. Its parameters are read like
+-- what stands before the declaration in a block
+pub record ArrowBodyRow (n w : Tree) : Type 0 where
+  pub directives : List (List ℕ)
+  pub number : ℕ
+  pub parameters : Trees
+  pub before : Trees
+  pub after : Trees
+  pub row : BlockRow (block (listed parameters ▸ before)) (block (listed parameters ▸ after))
+  pub shape : n ≡ arrow_with directives number parameters before
+  pub written : w ≡ arrow_with directives number parameters after
+
 -- a row reads n as w at this place
 abbrev pub UnusedRow : Position → Tree → Tree → Type 0
-UnusedRow (Stmt q) n w = Row72 n w ⊎ (Row72Idle n w ⊎ Row71 n w)
+UnusedRow (Stmt q) n w = BlockRow n w
+UnusedRow (Expr s) n w = ArrowBodyRow n w
 UnusedRow _ n w = ⊥
 
 -- what it writes, where it weighs less

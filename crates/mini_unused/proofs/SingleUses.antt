@@ -1,11 +1,9 @@
 -- A block in which a name is read once, right after its declaration.
-use Rattle.std.proofs.Common.{◌≡◌, ℕ, zero, suc, ◌+◌, ◌<◌, Bool, true, false, [], ◌∷◌, refl, sym, ap, ◌∙◌, subst, inr, true≢false, add-one, arith}
-use Rattle.std.specs.Prelude.{not, ◌&&◌, ◌||◌, Some, None, if◌then◌else◌}
+use Rattle.std.proofs.Common.{◌≡◌, ℕ, zero, suc, ◌+◌, ◌<◌, Bool, true, false, [], ◌∷◌, refl, sym, ap, ◌∙◌, subst, true≢false, add-one, arith}
+use Rattle.std.specs.Prelude.{not, ◌&&◌, ◌||◌, if◌then◌else◌}
 use Rattle.std.proofs.lemmas.Bool.{and_parts}
 use Rattle.mini_model.specs.declared.kind.VariableDeclarationKind.TheVariants.{Let, Const}
 use Rattle.mini_model.specs.declared.name.Name.{Name}
-use Rattle.mini_model.specs.declared.place.Position.TheVariants.{Stmt}
-use Rattle.mini_model.specs.declared.seat.StmtSeat.{StmtSeat}
 use Rattle.mini_model.specs.declared.shape.Shape.TheVariants as shape
 use Rattle.mini_model.specs.Tree.{Tree, Trees, node, none, ◌▸◌, listed, shape_of, children, count, node_count, child_or_absent, empty_statement}
 use Rattle.mini_model.specs.Paths.{append}
@@ -16,12 +14,10 @@ use Rattle.mini_node.specs.Made.{block_is}
 use Rattle.mini_node.specs.Walks.{next_child}
 use Rattle.mini_rows.specs.Lists.{block, declaration}
 use Rattle.mini_rows.specs.Declarations.{binding, declarator}
-use Rattle.mini_rows.specs.Unused.{resolved, lexical_kind, lexical_among, lexical_left, names, any_names, leads, is_childless, reads, is_first, put_first, is_head_shape, reads_first, may_move, Row71, UnusedContracts}
-use Rattle.mini_rows.proofs.UnusedWeights.{unused_lighter}
-use Rattle.mini_tree.proofs.Reaching.{moves_once}
-use Rattle.mini_unused.specs.RemoveUnusedDeclaration.{declares_name, list_at, UnusedAt, Applied}
-use Rattle.mini_unused.specs.SubstituteSingleUse.{may_begin, is_head, is_lexical, last_place, is_declared_over, is_mentioned_around, reads_next, is_read_once, is_single_declarator, is_single, SingleAt, declaration_left, block_single}
-use Rattle.mini_unused.proofs.Unused.{parts_of, there_child, there_first, and_both, Declares, declares, without_is, rests, all_used}
+use Rattle.mini_rows.specs.Unused.{resolved, lexical_kind, lexical_among, lexical_left, names, any_names, leads, is_childless, reads, is_first, put_first, is_head_shape, reads_first, may_move, Row71}
+use Rattle.mini_unused.specs.RemoveUnusedDeclaration.{declares_name, list_at}
+use Rattle.mini_unused.specs.SubstituteSingleUse.{may_begin, is_head, is_lexical, last_place, is_declared_over, is_mentioned_around, reads_next, is_read_once, is_single_declarator, is_single, declaration_left, list_single}
+use Rattle.mini_unused.proofs.Unused.{no_outside, parts_of, there_child, there_first, and_both, Declares, declares, without_is}
 
 -- ---- the first part
 
@@ -99,17 +95,17 @@ last_is none h = absurd (omega (arith, h))
 last_is (t ▸ none) h = refl
 last_is (t ▸ (u ▸ ts)) h = let rest = last_is (u ▸ ts) (omega arith) in omega (arith, rest)
 
-pub no_declarator : (l : Tree) (ts : Trees) (i j : ℕ) → count (children l) ≡ 0 → is_single_declarator l j ts i ≡ false
-no_declarator (node h xs n none) ts i j e = refl
-no_declarator (node h xs n (t ▸ us)) ts i j e = absurd (omega (arith, e))
+pub no_declarator : (l o : Tree) (ts : Trees) (i j : ℕ) → count (children l) ≡ 0 → is_single_declarator l j o ts i ≡ false
+no_declarator (node h xs n none) o ts i j e = refl
+no_declarator (node h xs n (t ▸ us)) o ts i j e = absurd (omega (arith, e))
 
 pub read_next : (x : Name) (ts : Trees) (i : ℕ) → reads_first x (child_or_absent ts (i + 1)) ≡ reads_next x ts i
 read_next x ts i = ap (λ k. reads_first x (child_or_absent ts k)) (add-one i)
 
-pub single_by : (ts : Trees) (i : ℕ) (statement l : Tree) (n : ℕ) (r : Bool) → statement ≡ child_or_absent ts i → is_lexical statement ≡ true → l ≡ part statement 0 → n ≡ last_place (children l) → r ≡ is_single_declarator l n ts i → r ≡ is_single ts i
-single_by ts i statement l n r s e f g h =
+pub single_by : (o : Tree) (ts : Trees) (i : ℕ) (statement l : Tree) (n : ℕ) (r : Bool) → statement ≡ child_or_absent ts i → is_lexical statement ≡ true → l ≡ part statement 0 → n ≡ last_place (children l) → r ≡ is_single_declarator l n o ts i → r ≡ is_single o ts i
+single_by o ts i statement l n r s e f g h =
     let there : l ≡ list_at ts i = f ∙ ap (λ t. part t 0) s in
-    h ∙ (λ k. is_single_declarator (there k) ((g ∙ ap (λ t. last_place (children t)) there) k) ts i) ∙ sym (ap (λ b. b && is_single_declarator (list_at ts i) (last_place (children (list_at ts i))) ts i) (ap is_lexical (sym s) ∙ e))
+    h ∙ (λ k. is_single_declarator (there k) ((g ∙ ap (λ t. last_place (children t)) there) k) o ts i) ∙ sym (ap (λ b. b && is_single_declarator (list_at ts i) (last_place (children (list_at ts i))) o ts i) (ap is_lexical (sym s) ∙ e))
 
 last_rest : (ts : Trees) → rest_children (suc (last_place ts)) ts ≡ none
 last_rest none = refl
@@ -187,7 +183,7 @@ neither true b e = absurd (true≢false (sym e))
 neither false true e = absurd (true≢false (sym e))
 neither false false e = (refl, refl)
 
-read_once : (x : Name) (init : Tree) (ds : Trees) (j : ℕ) (ts : Trees) (i : ℕ) → is_read_once (x ∷ []) init ds j ts i ≡ true → Once x init ds j ts i
+read_once : (x : Name) (init : Tree) (ds : Trees) (j : ℕ) (ts : Trees) (i : ℕ) → is_read_once (x ∷ []) no_outside init ds j ts i ≡ true → Once x init ds j ts i
 read_once x init ds j ts i e =
     let a = reads_first x (child_or_absent ts (suc i)) in
     let (p, q) = and_parts a (not (is_declared_over x init ds j) && not (is_mentioned_around x ts i)) e in
@@ -196,7 +192,10 @@ read_once x init ds j ts i e =
     let (v, w) = neither (any_names x (first_children i ts)) (any_names x (rest_children (suc (suc i)) ts)) s in
     record { once = p; initial = t; declared_earlier = u; earlier = v; later = w }
 
-module _ (t : Tree) (i : ℕ) (b : is_block t ≡ true) (s : SingleAt (children (part t 0)) (Some i)) (v : has_eval t ≡ false) where
+abbrev pub block_single : Tree → ℕ → ℕ → Tree
+block_single t i j = with_part t 0 (list_single (part t 0) i j)
+
+module _ (t : Tree) (i : ℕ) (b : is_block t ≡ true) (next : suc i < count (children (part t 0))) (some : 0 < count (children (list_at (children (part t 0)) i))) (single : is_single no_outside (children (part t 0)) i ≡ true) (v : has_eval t ≡ false) where
   abbrev ts : Trees
   ts = children (part t 0)
 
@@ -228,11 +227,11 @@ module _ (t : Tree) (i : ℕ) (b : is_block t ≡ true) (s : SingleAt (children 
   first = first_children j ds
 
   abbrev once_there : Bool
-  once_there = is_read_once (names_of (part d 0)) init ds j ts i
+  once_there = is_read_once (names_of (part d 0)) no_outside init ds j ts i
 
   tests : (is_lexical statement ≡ true) × (declares_name d ≡ true) × (may_move init ≡ true) × (once_there ≡ true)
   tests =
-      let (a, p) = and_parts (is_lexical statement) (declares_name d && (may_move init && once_there)) s.4 in
+      let (a, p) = and_parts (is_lexical statement) (declares_name d && (may_move init && once_there)) single in
       let (c, q) = and_parts (declares_name d) (may_move init && once_there) p in
       let (f, r) = and_parts (may_move init) once_there q in
       (a, c, f, r)
@@ -250,25 +249,25 @@ module _ (t : Tree) (i : ℕ) (b : is_block t ≡ true) (s : SingleAt (children 
   x = resolved one.spelling one.symbol
 
   reading : Once x init ds j ts i
-  reading = read_once x init ds j ts i (sym (ap (λ y. is_read_once (names_of (part y 0)) init ds j ts i) one.is) ∙ tests.3)
+  reading = read_once x init ds j ts i (sym (ap (λ y. is_read_once (names_of (part y 0)) no_outside init ds j ts i) one.is) ∙ tests.3)
 
   last_within : j < count ds
-  last_within = let same = last_is ds s.3 in omega (arith, same)
+  last_within = let same = last_is ds some in omega (arith, same)
 
   statement_is : statement ≡ lexical_among kind x first init
   statement_is = let_there ∙ ap (declaration (lexical_kind kind)) (parts_of ds j last_within ∙ ap (λ us. append first (d ▸ us)) (last_rest ds) ∙ ap (λ y. append first (y ▸ none)) one.is)
 
   block_there : t ≡ block (append before (lexical_among kind x first init ▸ (head ▸ after)))
-  block_there = block_is t b ∙ ap block (parts_of ts i (let within = s.0 in omega (arith, within)) ∙ ap (λ us. append before (statement ▸ us)) (next_child ts (suc i) s.0) ∙ ap (λ y. append before (y ▸ (head ▸ after))) statement_is)
+  block_there = block_is t b ∙ ap block (parts_of ts i (let within = next in omega (arith, within)) ∙ ap (λ us. append before (statement ▸ us)) (next_child ts (suc i) next) ∙ ap (λ y. append before (y ▸ (head ▸ after))) statement_is)
 
   left_there : declaration_left statement j ≡ lexical_left kind first
   left_there = ap (λ y. declaration_left y j) let_there ∙ lexical_left_is kind ds j last_within ∙ ap (λ us. lexical_left kind (append first us)) (last_rest ds) ∙ ap (lexical_left kind) (none_after first)
 
   written_there : (u : Tree) → u ≡ block_single t i j → u ≡ block (append before (lexical_left kind first ▸ (put_first init head ▸ after)))
   written_there u f =
-      f ∙ ap (λ y. block_single y i j) (block_is t b) ∙ ap block (with_two ts i (declaration_left statement j) (put_first init head) s.0) ∙ ap (λ y. block (append before (y ▸ (put_first init head ▸ after)))) left_there
+      f ∙ ap (λ y. block_single y i j) (block_is t b) ∙ ap block (with_two ts i (declaration_left statement j) (put_first init head) next) ∙ ap (λ y. block (append before (y ▸ (put_first init head ▸ after)))) left_there
 
-  row_there : (u : Tree) → u ≡ block_single t i j → Row71 t u
+  pub row_there : (u : Tree) → u ≡ block_single t i j → Row71 t u
   row_there u f = record {
     before = before;
     is_constant = kind;
@@ -289,11 +288,6 @@ module _ (t : Tree) (i : ℕ) (b : is_block t ≡ true) (s : SingleAt (children 
     written = written_there u f;
   }
 
-pub substituted : (t u : Tree) (i : ℕ) → is_block t ≡ true → SingleAt (children (part t 0)) (Some i) → has_eval t ≡ false → u ≡ block_single t i (last_place (children (part (part (part t 0) i) 0))) → (q : StmtSeat) → Applied (Stmt q) t u true
-substituted t u i b s v f q =
-    let row = inr (inr (row_there t i b s v u f)) in
-    moves_once UnusedContracts (Stmt q) t u (record { row = row; lighter = unused_lighter (Stmt q) t u row })
-
 -- ---- where nothing is written no row reads it
 
 module _ (t w : Tree) (r : Row71 t w) where
@@ -312,7 +306,7 @@ module _ (t w : Tree) (r : Row71 t w) where
   abbrev statements : Trees
   statements = append r.before (stated ▸ (r.head ▸ r.after))
 
-  once_is : is_read_once (named ∷ []) r.init declarators (count r.first) statements (count r.before) ≡ true
+  once_is : is_read_once (named ∷ []) no_outside r.init declarators (count r.first) statements (count r.before) ≡ true
   once_is =
       let y = named in
       let all = λ (a b c d f : Bool). a && (not (b || c) && not (d || f)) in
@@ -322,18 +316,18 @@ module _ (t w : Tree) (r : Row71 t w) where
       let rest_ts = ap (any_names y) (rest_there r.before stated r.head r.after) ∙ r.later in
       λ k. all (head_there k) (r.initial k) (first_ds k) (first_ts k) (rest_ts k)
 
-  single_there : is_single (children (part t 0)) (count r.before) ≡ true
+  single_there : is_single no_outside (children (part t 0)) (count r.before) ≡ true
   single_there =
       let i = count r.before in
-      ap (λ v. is_single (children (part v 0)) i) r.shape
-      ∙ ap (λ c. is_lexical c && is_single_declarator (part c 0) (last_place (children (part c 0))) statements i) (there_child r.before stated (r.head ▸ r.after))
-      ∙ ap (λ b. b && is_single_declarator (part stated 0) (last_place (children (part stated 0))) statements i) (lexical_is r.is_constant declarators)
-      ∙ ap (λ j. is_single_declarator (part stated 0) j statements i) (last_there r.first declared)
-      ∙ ap (λ c. declares_name c && (may_move (part c 1) && is_read_once (names_of (part c 0)) (part c 1) declarators (count r.first) statements i)) (there_child r.first declared none)
-      ∙ and_both (may_move r.init) (is_read_once (named ∷ []) r.init declarators (count r.first) statements i) r.moves once_is
+      ap (λ v. is_single no_outside (children (part v 0)) i) r.shape
+      ∙ ap (λ c. is_lexical c && is_single_declarator (part c 0) (last_place (children (part c 0))) no_outside statements i) (there_child r.before stated (r.head ▸ r.after))
+      ∙ ap (λ b. b && is_single_declarator (part stated 0) (last_place (children (part stated 0))) no_outside statements i) (lexical_is r.is_constant declarators)
+      ∙ ap (λ j. is_single_declarator (part stated 0) j no_outside statements i) (last_there r.first declared)
+      ∙ ap (λ c. declares_name c && (may_move (part c 1) && is_read_once (names_of (part c 0)) no_outside (part c 1) declarators (count r.first) statements i)) (there_child r.first declared none)
+      ∙ and_both (may_move r.init) (is_read_once (named ∷ []) no_outside r.init declarators (count r.first) statements i) r.moves once_is
 
   single_within : suc (count r.before) < count (children (part t 0))
   single_within = subst (λ v. suc (count r.before) < count (children (part v 0))) (sym r.shape) (within_there r.before stated r.head r.after)
 
-pub none_single : (t : Tree) → UnusedAt (children (part t 0)) None → SingleAt (children (part t 0)) None → (q : StmtSeat) → Applied (Stmt q) t t false
-none_single t u f q = rests q t (all_used t u) (λ w r. true≢false (sym (single_there t w r) ∙ f (count r.before) (single_within t w r)))
+pub none_single : (t : Tree) → ((i : ℕ) → suc i < count (children (part t 0)) → is_single no_outside (children (part t 0)) i ≡ false) → (w : Tree) → Row71 t w → ⊥
+none_single t f w r = true≢false (sym (single_there t w r) ∙ f (count r.before) (single_within t w r))

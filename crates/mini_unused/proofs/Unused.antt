@@ -6,10 +6,11 @@ use Rattle.mini_model.specs.declared.kind.VariableDeclarationKind.TheVariants.{L
 use Rattle.mini_model.specs.declared.name.Name.{Name}
 use Rattle.mini_model.specs.declared.name.SymbolId.{SymbolId}
 use Rattle.mini_model.specs.declared.place.Position.{Position}
-use Rattle.mini_model.specs.declared.place.Position.TheVariants.{Stmt}
+use Rattle.mini_model.specs.declared.place.Position.TheVariants.{Expr, Stmt}
+use Rattle.mini_model.specs.declared.seat.Seat.{Seat}
 use Rattle.mini_model.specs.declared.seat.StmtSeat.{StmtSeat}
 use Rattle.mini_model.specs.declared.shape.Shape.TheVariants as shape
-use Rattle.mini_model.specs.Tree.{Tree, Trees, node, none, ◌▸◌, listed, shape_of, children, count, child_or_absent, empty_statement, expression_statement}
+use Rattle.mini_model.specs.Tree.{Tree, Trees, node, none, ◌▸◌, absent, listed, shape_of, children, count, child_or_absent, empty_statement, expression_statement}
 use Rattle.mini_model.specs.Paths.{append}
 use Rattle.mini_laws.specs.ScopeList.{has_eval}
 use Rattle.mini_node.specs.Children.{names_of, part, with_child, with_part, without, is_bare, first_children, rest_children}
@@ -17,10 +18,8 @@ use Rattle.mini_node.specs.Kinds.{is_block}
 use Rattle.mini_node.specs.Made.{block_is}
 use Rattle.mini_rows.specs.Lists.{block, declaration, declares_nothing}
 use Rattle.mini_rows.specs.Declarations.{binding, declarator}
-use Rattle.mini_rows.specs.Unused.{resolved, let_among, left_over, names, any_names, is_idle, Alone, Row72, Row72Idle, Row71, UnusedRow, UnusedContracts}
-use Rattle.mini_rows.proofs.UnusedWeights.{unused_lighter}
-use Rattle.mini_tree.proofs.Reaching.{moves_once}
-use Rattle.mini_unused.specs.RemoveUnusedDeclaration.{is_resolved_binding, is_declarator_shape, declares_name, is_let, may_go, is_alone, is_unused_declarator, list_at, is_unused, UnusedIn, UnusedOf, UnusedAt, let_left, statement_left, block_left, Applied}
+use Rattle.mini_rows.specs.Unused.{resolved, let_among, left_over, names, any_names, is_idle, Alone, Row72, Row72Idle, Row71, BlockRow}
+use Rattle.mini_unused.specs.RemoveUnusedDeclaration.{is_resolved_binding, is_declarator_shape, declares_name, is_let, may_go, is_alone, is_unused_declarator, list_at, is_unused, UnusedIn, UnusedOf, UnusedAt, let_left, statement_left, list_left, Applied}
 
 -- ---- children
 
@@ -71,6 +70,14 @@ pub there_first : (ts : Trees) (d : Tree) (us : Trees) → first_children (count
 there_first none d us = refl
 there_first (t ▸ ts) d us = ap (λ vs. t ▸ vs) (there_first ts d us)
 
+-- ---- a block, outside of whose statements nothing stands
+
+abbrev pub no_outside : Tree
+no_outside = node shape.BlockStatement [] 0 (absent ▸ none)
+
+abbrev pub block_left : Tree → ℕ → ℕ → Tree
+block_left t i j = with_part t 0 (list_left (part t 0) i j)
+
 -- ---- what the tests say
 
 pub and_both : (a b : Bool) → a ≡ true → b ≡ true → a && b ≡ true
@@ -120,7 +127,7 @@ record Quiet (x : Name) (init : Tree) (ds : Trees) (j : ℕ) (ts : Trees) (i : �
   declared_earlier : any_names x (first_children j ds) ≡ false
   earlier : any_names x (first_children i ts) ≡ false
 
-quiet : (x : Name) (init : Tree) (ds : Trees) (j : ℕ) (ts : Trees) (i : ℕ) → is_alone (x ∷ []) init ds j ts i ≡ true → Quiet x init ds j ts i
+quiet : (x : Name) (init : Tree) (ds : Trees) (j : ℕ) (ts : Trees) (i : ℕ) → is_alone (x ∷ []) no_outside init ds j ts i ≡ true → Quiet x init ds j ts i
 quiet x init ds j ts i e =
     let a = names x init in
     let b = any_names x (rest_children (suc j) ds) in
@@ -160,7 +167,7 @@ written t u i j b h f =
     f ∙ ap (λ v. block_left v i j) (block_is t b) ∙ ap block (with_parts ts i (statement_left (child_or_absent ts i) j) h)
 
 -- a block in which such a declarator stands
-module _ (t : Tree) (i j : ℕ) (b : is_block t ≡ true) (h : i < count (children (part t 0))) (g : j < count (children (list_at (children (part t 0)) i))) (e : is_unused (children (part t 0)) i j ≡ true) (v : has_eval t ≡ false) where
+module _ (t : Tree) (i j : ℕ) (b : is_block t ≡ true) (h : i < count (children (part t 0))) (g : j < count (children (list_at (children (part t 0)) i))) (e : is_unused no_outside (children (part t 0)) i j ≡ true) (v : has_eval t ≡ false) where
   abbrev ts : Trees
   ts = children (part t 0)
 
@@ -189,7 +196,7 @@ module _ (t : Tree) (i j : ℕ) (b : is_block t ≡ true) (h : i < count (childr
   last = rest_children (suc j) ds
 
   abbrev alone_there : Bool
-  alone_there = is_alone (names_of (part d 0)) init ds j ts i
+  alone_there = is_alone (names_of (part d 0)) no_outside init ds j ts i
 
   tests : (is_let statement ≡ true) × (declares_name d ≡ true) × (may_go init (part statement 0) ≡ true) × (alone_there ≡ true)
   tests =
@@ -208,7 +215,7 @@ module _ (t : Tree) (i j : ℕ) (b : is_block t ≡ true) (h : i < count (childr
   x = resolved one.spelling one.symbol
 
   nothing_else : Quiet x init ds j ts i
-  nothing_else = quiet x init ds j ts i (sym (ap (λ y. is_alone (names_of (part y 0)) init ds j ts i) one.is) ∙ tests.3)
+  nothing_else = quiet x init ds j ts i (sym (ap (λ y. is_alone (names_of (part y 0)) no_outside init ds j ts i) one.is) ∙ tests.3)
 
   statement_is : statement ≡ let_among x first init last
   statement_is = let_there ∙ ap (declaration Let) (parts_of ds j g ∙ ap (λ y. append first (y ▸ last)) one.is)
@@ -234,10 +241,10 @@ module _ (t : Tree) (i j : ℕ) (b : is_block t ≡ true) (h : i < count (childr
   value : is_idle init ≡ false → (is_bare (listed ds) 1 ≡ true) × (declares_nothing init ≡ true)
   value c = let (p, q) = and_parts (is_bare (part statement 0) 1) (declares_nothing init) (sym (ap (λ a. a || (is_bare (part statement 0) 1 && declares_nothing init)) c) ∙ tests.2) in (sym (ap (λ l. is_bare l 1) list_is) ∙ p, q)
 
-  row_at : (q : StmtSeat) (u : Tree) → u ≡ block_left t i j → UnusedRow (Stmt q) t u
-  row_at q u f = by (is_idle init) refl
+  pub row_at : (u : Tree) → u ≡ block_left t i j → BlockRow t u
+  row_at u f = by (is_idle init) refl
     where
-      by : (a : Bool) → is_idle init ≡ a → UnusedRow (Stmt q) t u
+      by : (a : Bool) → is_idle init ≡ a → BlockRow t u
       by true c =
           inr (inl (record {
             before = before;
@@ -266,11 +273,6 @@ module _ (t : Tree) (i j : ℕ) (b : is_block t ≡ true) (h : i < count (childr
             shape = block_there ∙ sym (λ k. block (append before (let_among x (no_first k) init (no_last k) ▸ after)));
             written = written t u i j b h f ∙ ap (λ y. block (append before (y ▸ after))) (left_value c);
           })
-
-pub applied : (t u : Tree) (i j : ℕ) → is_block t ≡ true → UnusedAt (children (part t 0)) (Some (i, j)) → has_eval t ≡ false → u ≡ block_left t i j → (q : StmtSeat) → Applied (Stmt q) t u true
-applied t u i j b h v f q =
-    let row = row_at t i j b h.0 h.1.1 h.1.2 v q u f in
-    moves_once UnusedContracts (Stmt q) t u (record { row = row; lighter = unused_lighter (Stmt q) t u row })
 
 -- ---- where nothing is written no row reads it
 
@@ -313,7 +315,7 @@ module _ (t : Tree) (r : Read t) where
   abbrev statements_there : Trees
   statements_there = append r.before (statement_there ▸ r.after)
 
-  alone_is : is_alone (named_there ∷ []) r.init declarators_there (count r.first) statements_there (count r.before) ≡ true
+  alone_is : is_alone (named_there ∷ []) no_outside r.init declarators_there (count r.first) statements_there (count r.before) ≡ true
   alone_is =
       let y = named_there in
       let all = λ (a b c d f : Bool). not a && (not b && (not c && (not d && not f))) in
@@ -323,16 +325,16 @@ module _ (t : Tree) (r : Read t) where
       let first_ts = ap (any_names y) (there_first r.before statement_there r.after) ∙ r.unused.earlier in
       λ k. all (r.unused.initial k) (rest_ds k) (rest_ts k) (first_ds k) (first_ts k)
 
-  unused_there : is_unused (children (part t 0)) (count r.before) (count r.first) ≡ true
+  unused_there : is_unused no_outside (children (part t 0)) (count r.before) (count r.first) ≡ true
   unused_there =
       let ts = statements_there in
       let i = count r.before in
       let ds = declarators_there in
       let j = count r.first in
-      ap (λ v. is_unused (children (part v 0)) i j) r.shape
-      ∙ ap (λ c. is_let c && is_unused_declarator (part c 0) j ts i) (there_child r.before statement_there r.after)
-      ∙ ap (λ c. declares_name c && (may_go (part c 1) (listed ds) && is_alone (names_of (part c 0)) (part c 1) ds j ts i)) (there_child r.first declarator_there r.last)
-      ∙ and_both (may_go r.init (listed ds)) (is_alone (named_there ∷ []) r.init ds j ts i) r.goes alone_is
+      ap (λ v. is_unused no_outside (children (part v 0)) i j) r.shape
+      ∙ ap (λ c. is_let c && is_unused_declarator (part c 0) j no_outside ts i) (there_child r.before statement_there r.after)
+      ∙ ap (λ c. declares_name c && (may_go (part c 1) (listed ds) && is_alone (names_of (part c 0)) no_outside (part c 1) ds j ts i)) (there_child r.first declarator_there r.last)
+      ∙ and_both (may_go r.init (listed ds)) (is_alone (named_there ∷ []) no_outside r.init ds j ts i) r.goes alone_is
 
   statement_within : count r.before < count (children (part t 0))
   statement_within = subst (λ v. count r.before < count (children (part v 0))) (sym r.shape) (there_within r.before statement_there r.after)
@@ -342,26 +344,24 @@ module _ (t : Tree) (r : Read t) where
       subst (λ v. count r.first < count (children (list_at (children (part v 0)) (count r.before)))) (sym r.shape)
       (subst (λ c. count r.first < count (children (part c 0))) (sym (there_child r.before statement_there r.after)) (there_within r.first declarator_there r.last))
 
-pub rests : (q : StmtSeat) (t : Tree) → (Read t → ⊥) → ((w : Tree) → Row71 t w → ⊥) → Applied (Stmt q) t t false
-rests q t f g = (refl, λ w r. by w r)
-  where
-    by : (w : Tree) → UnusedRow (Stmt q) t w → ⊥
-    by w (inl r) = f (dropped t w r)
-    by w (inr (inl r)) = f (dropped_idle t w r)
-    by w (inr (inr r)) = g w r
+pub no_row : (t : Tree) → (Read t → ⊥) → ((w : Tree) → Row71 t w → ⊥) → (w : Tree) → BlockRow t w → ⊥
+no_row t f g w (inl r) = f (dropped t w r)
+no_row t f g w (inr (inl r)) = f (dropped_idle t w r)
+no_row t f g w (inr (inr r)) = g w r
 
 pub no_block : (t : Tree) → is_block t ≡ false → (q : StmtSeat) → Applied (Stmt q) t t false
-no_block t e q = rests q t (λ r. true≢false (sym (ap is_block r.shape) ∙ e)) (λ w r. true≢false (sym (ap is_block r.shape) ∙ e))
+no_block t e q = (refl, no_row t (λ r. true≢false (sym (ap is_block r.shape) ∙ e)) (λ w r. true≢false (sym (ap is_block r.shape) ∙ e)))
 
-pub all_used : (t : Tree) → UnusedAt (children (part t 0)) None → Read t → ⊥
+pub all_used : (t : Tree) → UnusedAt no_outside (children (part t 0)) None → Read t → ⊥
 all_used t f r = true≢false (sym (unused_there t r) ∙ f (count r.before) (statement_within t r) (count r.first) (declarator_within t r))
 
-pub seen_by_eval : (t : Tree) → has_eval t ≡ true → (q : StmtSeat) → Applied (Stmt q) t t false
-seen_by_eval t e q = rests q t (λ r. true≢false (sym e ∙ ap has_eval r.shape ∙ r.unused.unseen)) (λ w r. true≢false (sym e ∙ ap has_eval r.shape ∙ r.unseen))
+pub seen_by_eval : (t : Tree) → has_eval t ≡ true → (w : Tree) → BlockRow t w → ⊥
+seen_by_eval t e = no_row t (λ r. true≢false (sym e ∙ ap has_eval r.shape ∙ r.unused.unseen)) (λ w r. true≢false (sym e ∙ ap has_eval r.shape ∙ r.unseen))
 
-pub elsewhere : (p : Position) (t : Tree) → ((q : StmtSeat) → p ≡ Stmt q → ⊥) → Applied p t t false
-elsewhere (Stmt q) t f = absurd (f q refl)
-elsewhere p t f = (refl, λ w r. absurd r)
+pub elsewhere : (p : Position) (t : Tree) → ((q : StmtSeat) → p ≡ Stmt q → ⊥) → ((s : Seat) → p ≡ Expr s → ⊥) → Applied p t t false
+elsewhere (Stmt q) t f g = absurd (f q refl)
+elsewhere (Expr s) t f g = absurd (g s refl)
+elsewhere p t f g = (refl, λ w r. absurd r)
 
 -- ---- the first one
 
@@ -387,9 +387,9 @@ module _ (P : ℕ → Type 0) where
 
 -- of one statement
 
-pub none_of : (ts : Trees) (i : ℕ) → is_let (child_or_absent ts i) ≡ false → UnusedOf ts i None
-none_of ts i e j h = ap (λ b. b && is_unused_declarator (list_at ts i) j ts i) e
+pub none_of : (o : Tree) (ts : Trees) (i : ℕ) → is_let (child_or_absent ts i) ≡ false → UnusedOf o ts i None
+none_of o ts i e j h = ap (λ b. b && is_unused_declarator (list_at ts i) j o ts i) e
 
-pub of_list : (ts : Trees) (i : ℕ) (f : Option ℕ) → is_let (child_or_absent ts i) ≡ true → 0 < count (children (child_or_absent ts i)) → UnusedIn (list_at ts i) ts i f → UnusedOf ts i f
-of_list ts i (Some j) e h u = (h, u.0, and_both (is_let (child_or_absent ts i)) (is_unused_declarator (list_at ts i) j ts i) e u.1)
-of_list ts i None e h u = λ j g. ap (λ b. b && is_unused_declarator (list_at ts i) j ts i) e ∙ u j g
+pub of_list : (o : Tree) (ts : Trees) (i : ℕ) (f : Option ℕ) → is_let (child_or_absent ts i) ≡ true → 0 < count (children (child_or_absent ts i)) → UnusedIn (list_at ts i) o ts i f → UnusedOf o ts i f
+of_list o ts i (Some j) e h u = (h, u.0, and_both (is_let (child_or_absent ts i)) (is_unused_declarator (list_at ts i) j o ts i) e u.1)
+of_list o ts i None e h u = λ j g. ap (λ b. b && is_unused_declarator (list_at ts i) j o ts i) e ∙ u j g

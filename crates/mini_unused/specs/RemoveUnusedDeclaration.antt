@@ -1,6 +1,6 @@
 -- 72, `remove_unused_declaration`: `{ let x = a(); b(); }` becomes `{ a(); b(); }`, `{ let x = 1; b(); }` becomes `{ ; b(); }`, and
--- `{ let x, y = b(); c(y); }` becomes `{ let y = b(); c(y); }`.
-use Rattle.std.specs.Prelude.{◌≡◌, ◌<◌, ℕ, suc, Bool, true, false, not, ◌&&◌, ◌||◌, List, [], ◌∷◌, Option, Some, None, is_some, if◌then◌else◌}
+-- `{ let x, y = b(); c(y); }` becomes `{ let y = b(); c(y); }`; so do the statements of an arrow function.
+use Rattle.std.specs.Prelude.{◌≡◌, ◌<◌, ℕ, suc, nat_eq, Bool, true, false, not, ◌&&◌, ◌||◌, List, [], ◌∷◌, Option, Some, None, is_some, if◌then◌else◌}
 use Rattle.mini_model.specs.declared.kind.VariableDeclarationKind.TheVariants.{Let}
 use Rattle.mini_model.specs.declared.name.Name.{Name}
 use Rattle.mini_model.specs.declared.place.Position.{Position}
@@ -47,38 +47,39 @@ is_let t = is_let_shape (shape_of t) && (is_bare t 1 && is_listed (part t 0))
 abbrev pub may_go : Tree → Tree → Bool
 may_go init l = is_idle init || (is_bare l 1 && declares_nothing init)
 
--- no name like this one stands in the initializer of the declarator at the place, in another declarator of the `let` at its
--- place, or in another statement
-abbrev pub is_alone : List Name → Tree → Trees → ℕ → Trees → ℕ → Bool
-is_alone [] init ds j ts i = false
-is_alone (x ∷ xs) init ds j ts i = not (names x init) && (not (any_names x (rest_children (suc j) ds)) && (not (any_names x (rest_children (suc i) ts)) && (not (any_names x (first_children j ds)) && not (any_names x (first_children i ts)))))
+-- no name like this one stands in what is outside of the statements, as a function's parameters, in the initializer of the
+-- declarator at the place, in another declarator of the `let` at its place, or in another statement
+abbrev pub is_alone : List Name → Tree → Tree → Trees → ℕ → Trees → ℕ → Bool
+is_alone [] o init ds j ts i = false
+is_alone (x ∷ xs) o init ds j ts i =
+    not (names x o) && (not (names x init) && (not (any_names x (rest_children (suc j) ds)) && (not (any_names x (rest_children (suc i) ts)) && (not (any_names x (first_children j ds)) && not (any_names x (first_children i ts))))))
 
 -- the declarator at the place in the list of a `let`, which is a statement at its place, has a name that nothing else mentions
-abbrev pub is_unused_declarator : Tree → ℕ → Trees → ℕ → Bool
-is_unused_declarator l j ts i = declares_name (part l j) && (may_go (part (part l j) 1) l && is_alone (names_of (part (part l j) 0)) (part (part l j) 1) (children l) j ts i)
+abbrev pub is_unused_declarator : Tree → ℕ → Tree → Trees → ℕ → Bool
+is_unused_declarator l j o ts i = declares_name (part l j) && (may_go (part (part l j) 1) l && is_alone (names_of (part (part l j) 0)) o (part (part l j) 1) (children l) j ts i)
 
 -- of the statement at the place the list of its declarators
 abbrev pub list_at : Trees → ℕ → Tree
 list_at ts i = part (child_or_absent ts i) 0
 
 -- such a declarator of a `let`
-abbrev pub is_unused : Trees → ℕ → ℕ → Bool
-is_unused ts i j = is_let (child_or_absent ts i) && is_unused_declarator (list_at ts i) j ts i
+abbrev pub is_unused : Tree → Trees → ℕ → ℕ → Bool
+is_unused o ts i j = is_let (child_or_absent ts i) && is_unused_declarator (list_at ts i) j o ts i
 
 -- the place of one in a list, or there is none
-abbrev pub UnusedIn : Tree → Trees → ℕ → Option ℕ → Type 0
-UnusedIn l ts i (Some j) = (j < count (children l)) × (is_unused_declarator l j ts i ≡ true)
-UnusedIn l ts i None = (j : ℕ) → j < count (children l) → is_unused_declarator l j ts i ≡ false
+abbrev pub UnusedIn : Tree → Tree → Trees → ℕ → Option ℕ → Type 0
+UnusedIn l o ts i (Some j) = (j < count (children l)) × (is_unused_declarator l j o ts i ≡ true)
+UnusedIn l o ts i None = (j : ℕ) → j < count (children l) → is_unused_declarator l j o ts i ≡ false
 
 -- of one statement
-abbrev pub UnusedOf : Trees → ℕ → Option ℕ → Type 0
-UnusedOf ts i (Some j) = (0 < count (children (child_or_absent ts i))) × (j < count (children (list_at ts i))) × (is_unused ts i j ≡ true)
-UnusedOf ts i None = (j : ℕ) → j < count (children (list_at ts i)) → is_unused ts i j ≡ false
+abbrev pub UnusedOf : Tree → Trees → ℕ → Option ℕ → Type 0
+UnusedOf o ts i (Some j) = (0 < count (children (child_or_absent ts i))) × (j < count (children (list_at ts i))) × (is_unused o ts i j ≡ true)
+UnusedOf o ts i None = (j : ℕ) → j < count (children (list_at ts i)) → is_unused o ts i j ≡ false
 
 -- of all
-abbrev pub UnusedAt : Trees → Option (ℕ × ℕ) → Type 0
-UnusedAt ts (Some p) = (p.0 < count ts) × UnusedOf ts p.0 (Some p.1)
-UnusedAt ts None = (i : ℕ) → i < count ts → UnusedOf ts i None
+abbrev pub UnusedAt : Tree → Trees → Option (ℕ × ℕ) → Type 0
+UnusedAt o ts (Some p) = (p.0 < count ts) × UnusedOf o ts p.0 (Some p.1)
+UnusedAt o ts None = (i : ℕ) → i < count ts → UnusedOf o ts i None
 
 -- the declaration without the declarator at the place
 abbrev pub let_left : Tree → ℕ → Tree
@@ -92,8 +93,24 @@ statement_left t j = if is_idle (part (part (part t 0) j) 1) then (if is_bare (p
 abbrev pub list_left : Tree → ℕ → ℕ → Tree
 list_left l i j = with_part l i (statement_left (part l i) j)
 
-abbrev pub block_left : Tree → ℕ → ℕ → Tree
-block_left t i j = with_part t 0 (list_left (part t 0) i j)
+-- an arrow function with statements: its parameters are a list, and its body has a list of statements
+abbrev pub is_arrow_shape : Shape → Bool
+is_arrow_shape (shape.ArrowFunctionExpression directives) = true
+is_arrow_shape _ = false
+
+abbrev pub is_body_shape : Shape → Bool
+is_body_shape shape.FunctionBody = true
+is_body_shape _ = false
+
+abbrev pub are_statements : Tree → Bool
+are_statements t = is_body_shape (shape_of t) && (is_bare t 1 && is_listed (part t 0))
+
+abbrev pub are_no_names : List Name → Bool
+are_no_names [] = true
+are_no_names (x ∷ xs) = false
+
+abbrev pub has_statements : Tree → Bool
+has_statements t = is_arrow_shape (shape_of t) && (are_no_names (names_of t) && (nat_eq (count (children t)) 2 && (is_listed (part t 0) && are_statements (part t 1))))
 
 -- no row reads it as anything
 abbrev pub Rests : Position → Tree → Type 0

@@ -1,15 +1,16 @@
 -- 71, `substitute_single_use`: `{ let x = a(); return x + b; }` becomes `{ ; return a() + b; }`, and `{ const a = b(), x = c(); return x; }`
 -- becomes `{ const a = b(); return c(); }`.
-use Rattle.std.specs.Prelude.{◌≡◌, ◌<◌, ◌^◌, ℕ, suc, Bool, true, false, not, ◌&&◌, ◌||◌, List, [], ◌∷◌, Option, Some, None, if◌then◌else◌}
+use Rattle.std.specs.Prelude.{◌≡◌, ◌<◌, ◌^◌, ◌⊎◌, ℕ, suc, Bool, true, false, not, ◌&&◌, ◌||◌, List, [], ◌∷◌, Option, Some, None, if◌then◌else◌}
 use Rattle.mini_model.specs.declared.kind.VariableDeclarationKind.TheVariants.{Let, Const}
 use Rattle.mini_model.specs.declared.name.Name.{Name}
 use Rattle.mini_model.specs.declared.shape.Shape.{Shape}
 use Rattle.mini_model.specs.declared.shape.Shape.TheVariants as shape
 use Rattle.mini_model.specs.Tree.{Tree, Trees, none, ◌▸◌, count, child_or_absent, empty_statement, shape_of, children}
+use Rattle.mini_laws.specs.ScopeList.{has_eval}
 use Rattle.mini_node.specs.Children.{names_of, part, with_part, is_bare, is_nameless, first_children, rest_children}
 use Rattle.mini_node.specs.Kinds.{is_listed}
 use Rattle.mini_rows.specs.Unused.{names, any_names, leads, is_childless, is_head_shape, may_move, reads_first, put_first}
-use Rattle.mini_unused.specs.RemoveUnusedDeclaration.{declares_name, list_at, let_left}
+use Rattle.mini_unused.specs.RemoveUnusedDeclaration.{declares_name, list_at, let_left, list_left, UnusedAt}
 
 -- a node without a name and a number, which evaluates its first part before all else
 abbrev pub may_begin : Bool → Tree → Bool
@@ -46,23 +47,23 @@ is_mentioned_around x ts i = any_names x (first_children i ts) || any_names x (r
 abbrev pub reads_next : Name → Trees → ℕ → Bool
 reads_next x ts i = reads_first x (child_or_absent ts (suc i))
 
--- the next statement reads the name first, and no name like it stands elsewhere
-abbrev pub is_read_once : List Name → Tree → Trees → ℕ → Trees → ℕ → Bool
-is_read_once [] init ds j ts i = false
-is_read_once (x ∷ xs) init ds j ts i = reads_next x ts i && (not (is_declared_over x init ds j) && not (is_mentioned_around x ts i))
+-- the next statement reads the name first, and no name like it stands elsewhere, nor in what is outside of the statements
+abbrev pub is_read_once : List Name → Tree → Tree → Trees → ℕ → Trees → ℕ → Bool
+is_read_once [] o init ds j ts i = false
+is_read_once (x ∷ xs) o init ds j ts i = not (names x o) && (reads_next x ts i && (not (is_declared_over x init ds j) && not (is_mentioned_around x ts i)))
 
 -- so is the name of the declarator at the place, whose initializer may move
-abbrev pub is_single_declarator : Tree → ℕ → Trees → ℕ → Bool
-is_single_declarator l j ts i = declares_name (part l j) && (may_move (part (part l j) 1) && is_read_once (names_of (part (part l j) 0)) (part (part l j) 1) (children l) j ts i)
+abbrev pub is_single_declarator : Tree → ℕ → Tree → Trees → ℕ → Bool
+is_single_declarator l j o ts i = declares_name (part l j) && (may_move (part (part l j) 1) && is_read_once (names_of (part (part l j) 0)) o (part (part l j) 1) (children l) j ts i)
 
 -- the statement at the place is a `let` or a `const`, whose last declarator is such a one
-abbrev pub is_single : Trees → ℕ → Bool
-is_single ts i = is_lexical (child_or_absent ts i) && is_single_declarator (list_at ts i) (last_place (children (list_at ts i))) ts i
+abbrev pub is_single : Tree → Trees → ℕ → Bool
+is_single o ts i = is_lexical (child_or_absent ts i) && is_single_declarator (list_at ts i) (last_place (children (list_at ts i))) o ts i
 
 -- the place of such a statement, or there is none
-abbrev pub SingleAt : Trees → Option ℕ → Type 0
-SingleAt ts (Some i) = (suc i < count ts) × (suc i < 2 ^ 64) × (0 < count (children (child_or_absent ts i))) × (0 < count (children (list_at ts i))) × (is_single ts i ≡ true)
-SingleAt ts None = (i : ℕ) → suc i < count ts → is_single ts i ≡ false
+abbrev pub SingleAt : Tree → Trees → Option ℕ → Type 0
+SingleAt o ts (Some i) = (suc i < count ts) × (suc i < 2 ^ 64) × (0 < count (children (child_or_absent ts i))) × (0 < count (children (list_at ts i))) × (is_single o ts i ≡ true)
+SingleAt o ts None = (i : ℕ) → suc i < count ts → is_single o ts i ≡ false
 
 -- the declaration without the declarator at the place: `;` where it is the only one
 abbrev pub declaration_left : Tree → ℕ → Tree
@@ -76,5 +77,24 @@ initializer l i j = part (part (part (part l i) 0) j) 1
 abbrev pub list_single : Tree → ℕ → ℕ → Tree
 list_single l i j = with_part (with_part l i (declaration_left (part l i) j)) (suc i) (put_first (initializer l i j) (part l (suc i)))
 
-abbrev pub block_single : Tree → ℕ → ℕ → Tree
-block_single t i j = with_part t 0 (list_single (part t 0) i j)
+-- ---- one call, of a list of statements and what is outside of them
+
+-- a name that nothing mentions is gone
+pub record NameGone (o l m : Tree) : Type 0 where
+  pub at : ℕ
+  pub which : ℕ
+  pub unused : UnusedAt o (children l) (Some (at, which))
+  pub left : m ≡ list_left l at which
+
+-- one that was read once is gone
+pub record ReadGone (o l m : Tree) : Type 0 where
+  pub at : ℕ
+  pub next : suc at < count (children l)
+  pub declares : 0 < count (children (list_at (children l) at))
+  pub single : is_single o (children l) at ≡ true
+  pub left : m ≡ list_single l at (last_place (children (list_at (children l) at)))
+
+-- or there is none, or a direct eval sees it
+abbrev pub Removed : Tree → Tree → Tree → Bool → Type 0
+Removed o l m true = ((has_eval o || has_eval l) ≡ false) × (NameGone o l m ⊎ ReadGone o l m)
+Removed o l m false = (m ≡ l) × (((has_eval o || has_eval l) ≡ true) ⊎ (UnusedAt o (children l) None × SingleAt o (children l) None))

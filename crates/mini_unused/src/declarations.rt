@@ -1,8 +1,10 @@
 //! Row 72: `{ let x = a(); b(); }` becomes `{ a(); b(); }`, and `{ let x = 1, y = b(); c(y); }` becomes `{ let y = b(); c(y); }`,
-//! where nothing else in the block has x's spelling or its symbol and no direct eval stands there. It is lighter in every place.
+//! where nothing else in the block has x's spelling or its symbol and no direct eval stands there. So do the statements of an arrow
+//! function. It is lighter in every place.
 
 ghost use Rattle.std.specs.Prelude.{◌≡◌, ◌+◌, ◌<◌, ◌^◌, true, IfOk, OnOk};
-ghost use Rattle.mini_model.specs.declared.place.Position.TheVariants.{Stmt};
+ghost use Rattle.mini_model.specs.declared.place.Position.TheVariants.{Expr, Stmt};
+ghost use Rattle.mini_model.specs.declared.seat.Seat.{Seat};
 ghost use Rattle.mini_model.specs.declared.seat.StmtSeat.{StmtSeat};
 ghost use Rattle.mini_model.specs.Tree.{absent, children, count};
 ghost use Rattle.mini_node.specs.Children.{names, part, with_part};
@@ -10,9 +12,10 @@ ghost use Rattle.mini_rows.specs.Unused.{is_idle as is_it_idle, UnusedContracts}
 ghost use Rattle.mini_unused.specs.Lighter.{unused_is_lighter};
 ghost use Rattle.mini_unused.specs.RemoveUnusedDeclaration as row;
 ghost use Rattle.mini_unused.specs.RemoveUnusedDeclaration.{declares_name as it_declares_name, is_let as it_is_let, let_left, UnusedIn, UnusedOf, UnusedAt, Applied, Rests};
+ghost use Rattle.mini_unused.specs.SubstituteSingleUse.{Removed};
 
 use crate::declares::declares_nothing;
-use crate::evals::has_eval;
+use crate::evals::either_has_eval;
 use crate::mentions::{is_mentioned, is_mentioned_before, is_mentioned_from};
 use crate::single_uses::substitute_single_use;
 use mini_model::{Name, OutOfMemory, Position, Shape, VariableDeclarationKind};
@@ -79,10 +82,11 @@ fn may_go(init: &Node, list: &Node) -> bool
     is_idle(init) || list.is_bare(1) && declares_nothing(init)
 }
 
-// Whether the name stands neither in its initializer, nor in the other declarators, nor in the other statements. What follows is
-// looked at first: a name that is used mostly is soon.
+// Whether the name stands neither outside of the statements, nor in its initializer, nor in the other declarators, nor in the other
+// statements. What follows is looked at first: a name that is used mostly is soon.
 fn is_alone(
     name: &Option<Name>,
+    outside: &Node,
     init: &Node,
     declarators: &Nodes,
     which: usize,
@@ -93,11 +97,12 @@ fn is_alone(
     requires statement { at < count statements.now }
     requires fits { which + 1 < 2 ^ 64 }
     requires fits_too { at + 1 < 2 ^ 64 }
-    ensures { result ≡ row.is_alone (names name.now) init.now declarators.now which statements.now at }
+    ensures { result ≡ row.is_alone (names name.now) outside.now init.now declarators.now which statements.now at }
 {
     match name {
         Some(name) => {
-            !is_mentioned(name, init)
+            !is_mentioned(name, outside)
+                && !is_mentioned(name, init)
                 && !is_mentioned_from(name, declarators, which + 1)
                 && !is_mentioned_from(name, statements, at + 1)
                 && !is_mentioned_before(name, declarators, which)
@@ -108,18 +113,25 @@ fn is_alone(
 }
 
 // Whether nothing else mentions the name of the declarator, and it may go.
-fn is_unused_declarator(list: &Node, which: usize, statements: &Nodes, at: usize) -> bool
+fn is_unused_declarator(
+    list: &Node,
+    which: usize,
+    outside: &Node,
+    statements: &Nodes,
+    at: usize,
+) -> bool
     requires declarator { which < count (children list.now) }
     requires statement { at < count statements.now }
     requires fits { which + 1 < 2 ^ 64 }
     requires fits_too { at + 1 < 2 ^ 64 }
-    ensures { result ≡ row.is_unused_declarator list.now which statements.now at }
+    ensures { result ≡ row.is_unused_declarator list.now which outside.now statements.now at }
 {
     let declarator = list.child(which);
     declares_name(declarator)
         && may_go(declarator.child(1), list)
         && is_alone(
             declarator.child(0).name(),
+            outside,
             declarator.child(1),
             list.children(),
             which,
@@ -129,13 +141,13 @@ fn is_unused_declarator(list: &Node, which: usize, statements: &Nodes, at: usize
 }
 
 // The first declarator of the list that is.
-fn unused_in(list: &Node, statements: &Nodes, at: usize) -> Option<usize>
+fn unused_in(list: &Node, outside: &Node, statements: &Nodes, at: usize) -> Option<usize>
     requires statement { at < count statements.now }
     requires fits { at + 1 < 2 ^ 64 }
-    ensures { UnusedIn list.now statements.now at result }
+    ensures { UnusedIn list.now outside.now statements.now at result }
 {
     for which in 0..list.children().len() {
-        if is_unused_declarator(list, which, statements, at) {
+        if is_unused_declarator(list, which, outside, statements, at) {
             return Some(which);
         }
     }
@@ -143,24 +155,24 @@ fn unused_in(list: &Node, statements: &Nodes, at: usize) -> Option<usize>
 }
 
 // Of the statement, where it is a `let`.
-fn unused_of(statements: &Nodes, at: usize) -> Option<usize>
+fn unused_of(outside: &Node, statements: &Nodes, at: usize) -> Option<usize>
     requires statement { at < count statements.now }
     requires fits { at + 1 < 2 ^ 64 }
-    ensures { UnusedOf statements.now at result }
+    ensures { UnusedOf outside.now statements.now at result }
 {
     let statement = statements.child(at);
     if !is_let(statement) {
         return None;
     }
-    unused_in(statement.child(0), statements, at)
+    unused_in(statement.child(0), outside, statements, at)
 }
 
 // The first statement that has one, and the declarator's place in it.
-fn unused_at(statements: &Nodes) -> Option<(usize, usize)>
-    ensures { UnusedAt statements.now result }
+fn unused_at(outside: &Node, statements: &Nodes) -> Option<(usize, usize)>
+    ensures { UnusedAt outside.now statements.now result }
 {
     for at in 0..statements.len() {
-        if let Some(which) = unused_of(statements, at) {
+        if let Some(which) = unused_of(outside, statements, at) {
             return Some((at, which));
         }
     }
@@ -233,42 +245,85 @@ fn drop_in_list(alloc: Global, list: &mut Node, at: usize, which: usize) -> Resu
     Ok(())
 }
 
-// Of a block.
-#[tactic(auto, using(crate::proofs::Unused::same_parts, crate::proofs::Unused::part_twice))]
-fn drop_name(alloc: Global, block: &mut Node, at: usize, which: usize) -> Result<(), OutOfMemory>
-    requires list { 0 < count (children block.old) }
-    requires statement { at < count (children (part block.old 0)) }
-    requires declarators { 0 < count (children (part (part block.old 0) at)) }
-    requires declarator { which < count (children (part (part (part block.old 0) at) 0)) }
-    ensures { OnOk result (block.new ≡ row.block_left block.old at which) }
+// Of a list of statements, with what stands outside of them, a name that nothing else mentions goes, or one that is read once. The
+// answer says whether one did.
+fn remove_in_list(alloc: Global, outside: &Node, list: &mut Node) -> Result<bool, OutOfMemory>
+    ensures { IfOk result (λ changed. Removed outside.now list.old list.new changed) }
 {
-    let mut list = take_child(block, 0);
-    drop_in_list(alloc, &mut list, at, which)?;
-    put_child(block, 0, list);
-    Ok(())
+    match unused_at(outside, list.children()) {
+        Some((at, which)) => {
+            if either_has_eval(outside, list) {
+                return Ok(false);
+            }
+            drop_in_list(alloc, list, at, which)?;
+            Ok(true)
+        }
+        None => Ok(substitute_single_use(alloc, outside, list)),
+    }
 }
 
 /// Of a block, `let x = a();` becomes `a();`, `let x;` and `let x = 1;` become `;`, and `let x, y = b();` becomes `let y = b();`
 /// where nothing mentions x. The answer says whether one did; the only error is that memory runs out.
+#[tactic(auto, using(crate::proofs::Unused::same_parts, crate::proofs::Unused::part_twice))]
 pub fn remove_unused_declaration(alloc: Global, node: &mut Node) -> Result<bool, OutOfMemory>
     ensures { IfOk result (λ changed. (q : StmtSeat) → Applied (Stmt q) node.old node.new changed) }
 {
     if !is_block(node) {
         return Ok(false);
     }
-    match unused_at(node.child(0).children()) {
-        Some((at, which)) => {
-            if has_eval(node) {
-                return Ok(false);
-            }
-            drop_name(alloc, node, at, which)?;
-            Ok(true)
-        }
-        None => Ok(substitute_single_use(alloc, node)),
+    let mut list = take_child(node, 0);
+    let changed = remove_in_list(alloc, node, &mut list);
+    put_child(node, 0, list);
+    changed
+}
+
+fn has_no_name(name: &Option<Name>) -> bool
+    ensures { result ≡ row.are_no_names (names name.now) }
+{
+    match name {
+        Some(_) => false,
+        None => true,
     }
 }
 
-/// Row 72 as a rule: of each block.
+// `{ .. }`, as a body.
+fn are_statements(node: &Node) -> bool
+    ensures kind { result ≡ row.are_statements node.now }
+    ensures parts { result ≡ true → count (children node.now) ≡ 1 }
+{
+    matches!(node.shape(), Shape::FunctionBody) && node.is_bare(1) && is_listed(node.child(0))
+}
+
+// An arrow function with statements.
+fn has_statements(node: &Node) -> bool
+    ensures kind { result ≡ row.has_statements node.now }
+    ensures parts { result ≡ true → count (children node.now) ≡ 2 }
+    ensures list { result ≡ true → count (children (part node.now 1)) ≡ 1 }
+{
+    matches!(node.shape(), Shape::ArrowFunctionExpression(_))
+        && has_no_name(node.name())
+        && node.children().len() == 2
+        && is_listed(node.child(0))
+        && are_statements(node.child(1))
+}
+
+/// So do the statements of an arrow function, whose parameters don't mention x either.
+#[tactic(auto, using(crate::proofs::Unused::same_parts, crate::proofs::Unused::part_twice))]
+pub fn remove_unused_in_arrow(alloc: Global, node: &mut Node) -> Result<bool, OutOfMemory>
+    ensures { IfOk result (λ changed. (s : Seat) → Applied (Expr s) node.old node.new changed) }
+{
+    if !has_statements(node) {
+        return Ok(false);
+    }
+    let mut body = take_child(node, 1);
+    let mut list = take_child(&mut body, 0);
+    let changed = remove_in_list(alloc, node, &mut list);
+    put_child(&mut body, 0, list);
+    put_child(node, 1, body);
+    changed
+}
+
+/// Rows 71 and 72 as a rule: of each block, and of each arrow function with statements.
 pub struct RemoveUnusedDeclarations;
 
 impl<C: Context> Rule<C> for RemoveUnusedDeclarations {
@@ -288,6 +343,7 @@ impl<C: Context> Rule<C> for RemoveUnusedDeclarations {
     ) -> Result<bool, OutOfMemory> {
         match place {
             Position::Stmt(_) => Ok(remove_unused_declaration(alloc, node)?),
+            Position::Expr(_) => Ok(remove_unused_in_arrow(alloc, node)?),
             _ => Ok(false),
         }
     }

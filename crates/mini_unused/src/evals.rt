@@ -1,6 +1,6 @@
 //! Whether a direct eval stands in a tree: it sees each name in whose scope it stands.
 
-ghost use Rattle.std.specs.Prelude.{◌≡◌};
+ghost use Rattle.std.specs.Prelude.{◌≡◌, ◌||◌};
 ghost use Rattle.mini_node.specs.Children.{names, rest_children, trees_of};
 ghost use Rattle.mini_laws.specs.ScopeList as scopes;
 
@@ -62,4 +62,11 @@ pub fn any_has_eval(nodes: &Nodes, from: usize) -> bool
         }
     }
     false
+}
+
+/// Whether one stands in one of two.
+pub fn either_has_eval(left: &Node, right: &Node) -> bool
+    ensures { result ≡ (scopes.has_eval left.now || scopes.has_eval right.now) }
+{
+    has_eval(left) || has_eval(right)
 }

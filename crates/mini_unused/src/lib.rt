@@ -10,7 +10,9 @@ mod names;
 mod single_uses;
 
 pub use catches::{SubstituteCatches, substitute_catch_clause};
-pub use declarations::{RemoveUnusedDeclarations, remove_unused_declaration};
+pub use declarations::{
+    RemoveUnusedDeclarations, remove_unused_declaration, remove_unused_in_arrow,
+};
 pub use evals::has_eval;
 pub use mentions::{is_mentioned, is_mentioned_before, is_mentioned_from};
 pub use names::{RemoveUnusedNames, remove_unused_name};

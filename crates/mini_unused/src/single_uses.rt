@@ -3,19 +3,17 @@
 //! symbol, and no direct eval stands there.
 
 ghost use Rattle.std.specs.Prelude.{◌≡◌, ◌+◌, ◌<◌, ◌^◌, true, None, if◌then◌else◌};
-ghost use Rattle.mini_model.specs.declared.place.Position.TheVariants.{Stmt};
-ghost use Rattle.mini_model.specs.declared.seat.StmtSeat.{StmtSeat};
 ghost use Rattle.mini_model.specs.Tree.{child_or_absent, children, count, empty_statement};
 ghost use Rattle.mini_node.specs.Children.{names, part, with_part};
-ghost use Rattle.mini_node.specs.Kinds.{is_block as is_it_block, is_sequence_shape as is_it_sequence_shape};
+ghost use Rattle.mini_node.specs.Kinds.{is_sequence_shape as is_it_sequence_shape};
 ghost use Rattle.mini_rows.specs.Unused as reading;
 ghost use Rattle.mini_rows.specs.Unused.{put_first as it_put_first};
-ghost use Rattle.mini_unused.specs.RemoveUnusedDeclaration.{list_at, UnusedAt, Applied};
+ghost use Rattle.mini_unused.specs.RemoveUnusedDeclaration.{list_at, UnusedAt};
 ghost use Rattle.mini_unused.specs.SubstituteSingleUse as row;
-ghost use Rattle.mini_unused.specs.SubstituteSingleUse.{declaration_left, SingleAt};
+ghost use Rattle.mini_unused.specs.SubstituteSingleUse.{declaration_left, SingleAt, Removed};
 
 use crate::declarations::{declares_name, put_child, take_child, take_declarator};
-use crate::evals::has_eval;
+use crate::evals::either_has_eval;
 use crate::mentions::{is_mentioned, is_mentioned_before, is_mentioned_from, is_same_symbol};
 use mini_model::{Name, Shape, UnaryOperator, VariableDeclarationKind};
 use mini_node::{Node, Nodes, discard, empty_statement, is_identifier, is_listed, two};
@@ -180,6 +178,7 @@ fn reads_next(name: &Name, statements: &Nodes, at: usize) -> bool
 // The next statement reads the name first, and nothing else mentions it.
 fn is_read_once(
     name: &Option<Name>,
+    outside: &Node,
     init: &Node,
     declarators: &Nodes,
     which: usize,
@@ -189,11 +188,12 @@ fn is_read_once(
     requires declarator { which < count declarators.now }
     requires next { at + 1 < count statements.now }
     requires fits { at + 2 < 2 ^ 64 }
-    ensures { result ≡ row.is_read_once (names name.now) init.now declarators.now which statements.now at }
+    ensures { result ≡ row.is_read_once (names name.now) outside.now init.now declarators.now which statements.now at }
 {
     match name {
         Some(name) => {
-            reads_next(name, statements, at)
+            !is_mentioned(name, outside)
+                && reads_next(name, statements, at)
                 && !is_declared_over(name, init, declarators, which)
                 && !is_mentioned_around(name, statements, at)
         }
@@ -201,17 +201,24 @@ fn is_read_once(
     }
 }
 
-fn is_single_declarator(list: &Node, which: usize, statements: &Nodes, at: usize) -> bool
+fn is_single_declarator(
+    list: &Node,
+    which: usize,
+    outside: &Node,
+    statements: &Nodes,
+    at: usize,
+) -> bool
     requires declarator { which < count (children list.now) }
     requires next { at + 1 < count statements.now }
     requires fits { at + 2 < 2 ^ 64 }
-    ensures { result ≡ row.is_single_declarator list.now which statements.now at }
+    ensures { result ≡ row.is_single_declarator list.now which outside.now statements.now at }
 {
     let declarator = list.child(which);
     declares_name(declarator)
         && may_move(declarator.child(1))
         && is_read_once(
             declarator.child(0).name(),
+            outside,
             declarator.child(1),
             list.children(),
             which,
@@ -234,10 +241,10 @@ fn is_lexical(node: &Node) -> bool
 
 // The statement is a `let` or a `const`, whose last declarator is such a one.
 #[tactic(auto, using(crate::proofs::SingleUses::no_declarator, crate::proofs::SingleUses::last_is))]
-fn is_single(statements: &Nodes, at: usize) -> bool
+fn is_single(outside: &Node, statements: &Nodes, at: usize) -> bool
     requires next { at + 1 < count statements.now }
     requires fits { at + 2 < 2 ^ 64 }
-    ensures single { result ≡ row.is_single statements.now at }
+    ensures single { result ≡ row.is_single outside.now statements.now at }
     ensures list { result ≡ true → 0 < count (children (child_or_absent statements.now at)) }
     ensures declarators { result ≡ true → 0 < count (children (list_at statements.now at)) }
 {
@@ -250,19 +257,19 @@ fn is_single(statements: &Nodes, at: usize) -> bool
     if count == 0 {
         return false;
     }
-    is_single_declarator(list, count - 1, statements, at)
+    is_single_declarator(list, count - 1, outside, statements, at)
 }
 
 // The first such statement.
-fn single_at(statements: &Nodes) -> Option<usize>
-    ensures { SingleAt statements.now result }
+fn single_at(outside: &Node, statements: &Nodes) -> Option<usize>
+    ensures { SingleAt outside.now statements.now result }
 {
     let count = statements.len();
     if count == 0 {
         return None;
     }
     for at in 0..count - 1 {
-        if is_single(statements, at) {
+        if is_single(outside, statements, at) {
             return Some(at);
         }
     }
@@ -347,36 +354,19 @@ fn last_declarator(list: &Node, at: usize) -> usize
     list.child(at).child(0).children().len() - 1
 }
 
-// Of a block.
-#[tactic(auto, using(crate::proofs::Unused::same_parts, crate::proofs::Unused::part_twice))]
-fn substitute(alloc: Global, block: &mut Node, at: usize)
-    requires list { 0 < count (children block.old) }
-    requires next { at + 1 < count (children (part block.old 0)) }
-    requires fits { at + 1 < 2 ^ 64 }
-    requires declarators { 0 < count (children (part (part block.old 0) at)) }
-    requires some { 0 < count (children (part (part (part block.old 0) at) 0)) }
-    ensures { block.new ≡ row.block_single block.old at (row.last_place (children (part (part (part block.old 0) at) 0))) }
+/// Of a list of statements in which no name is unused, with what stands outside of them, `let x = a(); return x + b;` becomes
+/// `; return a() + b;`, and `let a, x = b(); return x;` becomes `let a; return b();`. The answer says whether one did.
+pub fn substitute_single_use(alloc: Global, outside: &Node, list: &mut Node) -> bool
+    requires { UnusedAt outside.now (children list.old) None }
+    ensures { Removed outside.now list.old list.new result }
 {
-    let mut list = take_child(block, 0);
-    let which = last_declarator(&list, at);
-    substitute_in_list(alloc, &mut list, at, which);
-    put_child(block, 0, list);
-}
-
-/// Of a block in which no name is unused, `let x = a(); return x + b;` becomes `; return a() + b;`, and `let a, x = b(); return x;`
-/// becomes `let a; return b();`. The answer says whether one did.
-pub fn substitute_single_use(alloc: Global, node: &mut Node) -> bool
-    requires list { 0 < count (children node.old) }
-    requires block { is_it_block node.old ≡ true }
-    requires used { UnusedAt (children (part node.old 0)) None }
-    ensures { (q : StmtSeat) → Applied (Stmt q) node.old node.new result }
-{
-    match single_at(node.child(0).children()) {
+    match single_at(outside, list.children()) {
         Some(at) => {
-            if has_eval(node) {
+            if either_has_eval(outside, list) {
                 return false;
             }
-            substitute(alloc, node, at);
+            let which = last_declarator(list, at);
+            substitute_in_list(alloc, list, at, which);
             true
         }
         None => false,

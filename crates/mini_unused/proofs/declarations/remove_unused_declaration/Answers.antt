@@ -1,11 +1,14 @@
-use Rattle.std.proofs.Common.{◌∙◌, ap, sym, subst}
-use Rattle.std.specs.Prelude.{Some}
-use Rattle.mini_model.specs.Tree.{children}
-use Rattle.mini_unused.specs.RemoveUnusedDeclaration.{UnusedAt}
-use Rattle.mini_unused.proofs.Unused.{applied}
+use Rattle.std.proofs.Common.{sym, subst₂}
+use Rattle.mini_model.specs.declared.place.Position.TheVariants.{Stmt}
+use Rattle.mini_model.specs.declared.seat.StmtSeat.{StmtSeat}
+use Rattle.mini_unused.specs.RemoveUnusedDeclaration.{Applied}
+use Rattle.mini_unused.specs.SubstituteSingleUse.{Removed}
+use Rattle.mini_unused.proofs.Holders.{of_block, where_ok, put_back}
 use Rattle.mini_unused.proofs.declarations.remove_unused_declaration.Goals as goal
 
-pub returns-in_ok-drop_name-in-Some : goal.returns-in_ok-drop_name-in-Some
-returns-in_ok-drop_name-in-Some c =
-    let list = c.children.ensures ∙ ap children c.child.ensures.value in
-    applied c.args.node.now c.drop_name.new.block c.in-Some.at c.in-Some.which (sym c.if-not-is_block.ensures.kind) (subst (λ ts. UnusedAt ts (Some (c.in-Some.at, c.in-Some.which))) list c.in-Some.ensures) (sym c.if-has_eval.ensures) c.in_ok-drop_name-in-Some.ensures
+pub returns : goal.returns
+returns c =
+    let m = c.remove_in_list-changed.new.list in
+    where_ok c.remove_in_list-changed.result (λ changed. Removed c.take_child-list.new.node c.take_child-list.result m changed) (λ changed. (q : StmtSeat) → Applied (Stmt q) c.args.node.now c.put_child.new.node changed)
+    (λ changed r. of_block c.args.node.now m changed (sym c.if-not-is_block.ensures.kind) (subst₂ (λ o l. Removed o l m changed) c.take_child-list.ensures.left c.take_child-list.ensures.child r) c.put_child.new.node (put_back c.args.node.now 0 m c.take_child-list.new.node c.put_child.new.node c.take_child-list.ensures.left c.put_child.ensures))
+    c.remove_in_list-changed.ensures

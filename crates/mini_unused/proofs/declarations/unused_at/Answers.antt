@@ -5,4 +5,4 @@ use Rattle.mini_unused.proofs.Unused.{so_far_on}
 use Rattle.mini_unused.proofs.declarations.unused_at.Goals as goal
 
 pub loop-at-preserved : goal.loop-at-preserved
-loop-at-preserved c = so_far_on (λ i. UnusedOf c.args.statements.now i None) c.loop-at.at _ (omega arith) c.in_default.ensures c.loop-at.invariant
+loop-at-preserved c = so_far_on (λ i. UnusedOf c.args.outside.now c.args.statements.now i None) c.loop-at.at _ (omega arith) c.in_default.ensures c.loop-at.invariant

@@ -4,4 +4,4 @@ use Rattle.mini_unused.proofs.Unused.{SoFar}
 use Rattle.mini_unused.proofs.declarations.unused_at.Given as goal
 
 abbrev pub invariant-loop-at : goal.invariant-loop-at
-invariant-loop-at l = SoFar (λ i. UnusedOf l.fn.statements i None) l.at
+invariant-loop-at l = SoFar (λ i. UnusedOf l.fn.outside l.fn.statements i None) l.at

@@ -4,4 +4,4 @@ use Rattle.mini_unused.proofs.Unused.{SoFar}
 use Rattle.mini_unused.proofs.declarations.unused_in.Given as goal
 
 abbrev pub invariant-loop-which : goal.invariant-loop-which
-invariant-loop-which l = SoFar (λ j. is_unused_declarator l.fn.list j l.fn.statements l.fn.at ≡ false) l.which
+invariant-loop-which l = SoFar (λ j. is_unused_declarator l.fn.list j l.fn.outside l.fn.statements l.fn.at ≡ false) l.which

@@ -8,4 +8,4 @@ pub returns-clause-single : goal.returns-clause-single
 returns-clause-single c =
     let counted = c.len-count.ensures ∙ ap count c.children.ensures in
     let last : c.len-count.result - 1 ≡ last_place (children c.child-list.result.now) = omega (arith, counted, last_is (children c.child-list.result.now) (omega (arith, counted))) in
-    single_by c.args.statements.now c.args.at c.child-statement.result.now c.child-list.result.now (c.len-count.result - 1) c.is_single_declarator.result c.child-statement.ensures.value (sym c.if-not-is_lexical.ensures.kind) c.child-list.ensures.value last c.is_single_declarator.ensures
+    single_by c.args.outside.now c.args.statements.now c.args.at c.child-statement.result.now c.child-list.result.now (c.len-count.result - 1) c.is_single_declarator.result c.child-statement.ensures.value (sym c.if-not-is_lexical.ensures.kind) c.child-list.ensures.value last c.is_single_declarator.ensures

@@ -4,4 +4,4 @@ use Rattle.mini_unused.proofs.Unused.{SoFar}
 use Rattle.mini_unused.proofs.single_uses.single_at.Given as goal
 
 abbrev pub invariant-loop-at : goal.invariant-loop-at
-invariant-loop-at l = SoFar (λ i. is_single l.fn.statements i ≡ false) l.at
+invariant-loop-at l = SoFar (λ i. is_single l.fn.outside l.fn.statements i ≡ false) l.at

@@ -5,3 +5,7 @@ use Rattle.mini_unused.proofs.declarations.RemoveUnusedDeclarationsRule.apply.Go
 pub returns-in_ok-remove_unused_declaration-in-Stmt-clause-applied : goal.returns-in_ok-remove_unused_declaration-in-Stmt-clause-applied
 returns-in_ok-remove_unused_declaration-in-Stmt-clause-applied g c =
     λ o q k. subst (λ p. Applied p c.args.node.now c.remove_unused_declaration.new.node c.in_ok-remove_unused_declaration-in-Stmt.field-0) (sym c.in-Stmt.is) (c.in_ok-remove_unused_declaration-in-Stmt.ensures c.in-Stmt.field-0)
+
+pub returns-in_ok-remove_unused_in_arrow-in-Expr-clause-applied : goal.returns-in_ok-remove_unused_in_arrow-in-Expr-clause-applied
+returns-in_ok-remove_unused_in_arrow-in-Expr-clause-applied g c =
+    λ o q k. subst (λ p. Applied p c.args.node.now c.remove_unused_in_arrow.new.node c.in_ok-remove_unused_in_arrow-in-Expr.field-0) (sym c.in-Expr.is) (c.in_ok-remove_unused_in_arrow-in-Expr.ensures c.in-Expr.field-0)

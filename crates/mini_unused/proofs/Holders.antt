@@ -1,0 +1,220 @@
+-- What holds the statements of a list: a block, or an arrow function, which is read like a block that begins with its parameters.
+use Rattle.std.proofs.Common.{◌≡◌, ℕ, zero, suc, ◌<◌, Bool, true, false, List, [], ◌∷◌, refl, sym, ap, ◌∙◌, subst, inl, inr, true≢false, arith}
+use Rattle.std.specs.Prelude.{not, ◌⊎◌, ◌&&◌, ◌||◌, nat_eq, None, Result, Ok, Err, IfOk}
+use Rattle.std.proofs.lemmas.Bool.{and_parts, eqb-true}
+use Rattle.mini_model.specs.declared.name.Name.{Name}
+use Rattle.mini_model.specs.declared.place.Position.TheVariants.{Expr, Stmt}
+use Rattle.mini_model.specs.declared.seat.Seat.{Seat}
+use Rattle.mini_model.specs.declared.seat.StmtSeat.{StmtSeat}
+use Rattle.mini_model.specs.declared.shape.Shape.TheVariants as shape
+use Rattle.mini_model.specs.Tree.{Tree, Trees, node, none, ◌▸◌, absent, listed, shape_of, children, count, child_or_absent}
+use Rattle.mini_laws.specs.ScopeList.{has_eval, any_has_eval}
+use Rattle.mini_node.specs.Children.{names_of, number_of, part, with_part, first_children, rest_children}
+use Rattle.mini_node.specs.Kinds.{is_block, is_listed}
+use Rattle.mini_node.specs.Made.{block_is, listed_is}
+use Rattle.mini_rows.specs.Lists.{block}
+use Rattle.mini_rows.specs.Unused.{names, any_names, may_move, statements, arrow_with, ArrowBodyRow, BlockRow, UnusedRow, UnusedContracts}
+use Rattle.mini_rows.proofs.UnusedWeights.{unused_lighter}
+use Rattle.mini_tree.proofs.Reaching.{moves_once}
+use Rattle.mini_unused.specs.RemoveUnusedDeclaration.{declares_name, is_let, may_go, is_alone, list_at, is_unused, UnusedAt, is_arrow_shape, are_statements, are_no_names, has_statements, Applied}
+use Rattle.mini_unused.specs.SubstituteSingleUse.{is_lexical, last_place, is_declared_over, reads_next, is_read_once, is_single, SingleAt, NameGone, ReadGone, Removed}
+use Rattle.mini_unused.proofs.Unused.{no_outside, part_twice, row_at, no_row, all_used, seen_by_eval}
+use Rattle.mini_unused.proofs.SingleUses.{row_there, none_single}
+
+-- ---- a block
+
+next_within : (i n : ℕ) → i < n → suc i < suc n
+next_within i n h = omega (arith, h)
+
+or_none : (b : Bool) → (b || false) ≡ b
+or_none true = refl
+or_none false = refl
+
+block_seen : (ts : Trees) → has_eval (block ts) ≡ (has_eval no_outside || has_eval (listed ts))
+unfolding has_eval
+block_seen ts = or_none (any_has_eval ts)
+
+abbrev held : Tree → Tree
+held m = node shape.BlockStatement [] 0 (m ▸ none)
+
+removed_row : (ts : Trees) (m : Tree) → Removed no_outside (listed ts) m true → BlockRow (block ts) (held m)
+removed_row ts m r = by r.1
+  where
+    by : NameGone no_outside (listed ts) m ⊎ ReadGone no_outside (listed ts) m → BlockRow (block ts) (held m)
+    by (inl g) = row_at (block ts) g.at g.which refl g.unused.0 g.unused.1.1 g.unused.1.2 (block_seen ts ∙ r.0) (held m) (ap held g.left)
+    by (inr g) = inr (inr (row_there (block ts) g.at refl g.next g.declares g.single (block_seen ts ∙ r.0) (held m) (ap held g.left)))
+
+rests : (ts : Trees) (m : Tree) → Removed no_outside (listed ts) m false → (w : Tree) → BlockRow (block ts) w → ⊥
+rests ts m r = by r.1
+  where
+    by : ((has_eval no_outside || has_eval (listed ts)) ≡ true) ⊎ (UnusedAt no_outside ts None × SingleAt no_outside ts None) → (w : Tree) → BlockRow (block ts) w → ⊥
+    by (inl e) = seen_by_eval (block ts) (block_seen ts ∙ e)
+    by (inr u) = no_row (block ts) (all_used (block ts) u.0) (none_single (block ts) u.1)
+
+applied_by : (q : StmtSeat) (t u : Tree) → UnusedRow (Stmt q) t u → Applied (Stmt q) t u true
+applied_by q t u r = moves_once UnusedContracts (Stmt q) t u (record { row = r; lighter = unused_lighter (Stmt q) t u r })
+
+block_applied : (ts : Trees) (m : Tree) (c : Bool) → Removed no_outside (listed ts) m c → (q : StmtSeat) → Applied (Stmt q) (block ts) (held m) c
+block_applied ts m true r q = applied_by q (block ts) (held m) (removed_row ts m r)
+block_applied ts m false r q = (ap held r.0, rests ts m r)
+
+pub of_block : (t m : Tree) (c : Bool) → is_block t ≡ true → Removed (with_part t 0 absent) (part t 0) m c → (u : Tree) → u ≡ with_part t 0 m → (q : StmtSeat) → Applied (Stmt q) t u c
+of_block t m c b r u f q =
+    let is = block_is t b in
+    let ts = children (part t 0) in
+    let there = subst (λ v. Removed (with_part v 0 absent) (part v 0) m c) is r in
+    subst (λ v. Applied (Stmt q) v u c) (sym is) (subst (λ v. Applied (Stmt q) (block ts) v c) (sym (f ∙ ap (λ v. with_part v 0 m) is)) (block_applied ts m c there q))
+
+-- ---- an arrow function: its parameters stand before its statements
+
+and_false : (a : Bool) → (a && false) ≡ false
+and_false true = refl
+and_false false = refl
+
+alone_pulled : (p a b c d f : Bool) → (not (p || false) && (not a && (not b && (not c && (not d && not f))))) ≡ (not a && (not b && (not c && (not d && not (p || f)))))
+alone_pulled false a b c d f = refl
+alone_pulled true a b c d f =
+    sym (ap (λ v. not a && (not b && (not c && v))) (and_false (not d)) ∙ ap (λ v. not a && (not b && v)) (and_false (not c)) ∙ ap (λ v. not a && v) (and_false (not b)) ∙ and_false (not a))
+
+read_pulled : (p r q f c : Bool) → (not (p || false) && (r && (not q && not (f || c)))) ≡ (r && (not q && not ((p || f) || c)))
+read_pulled false r q f c = refl
+read_pulled true r q f c = sym (ap (λ v. r && v) (and_false (not q)) ∙ and_false r)
+
+module _ (directives : List (List ℕ)) (number : ℕ) (ps ts : Trees) where
+  abbrev outside : Tree
+  outside = node (shape.ArrowFunctionExpression directives) [] number (listed ps ▸ (absent ▸ none))
+
+  -- as a block
+  abbrev behind : Trees
+  behind = listed ps ▸ ts
+
+  alone_there : (xs : List Name) (init : Tree) (ds : Trees) (j i : ℕ) → is_alone xs outside init ds j ts i ≡ is_alone xs no_outside init ds j behind (suc i)
+  alone_there [] init ds j i = refl
+  alone_there (x ∷ xs) init ds j i = alone_pulled (any_names x ps) (names x init) (any_names x (rest_children (suc j) ds)) (any_names x (rest_children (suc i) ts)) (any_names x (first_children j ds)) (any_names x (first_children i ts))
+
+  unused_there : (i j : ℕ) → is_unused outside ts i j ≡ is_unused no_outside behind (suc i) j
+  unused_there i j =
+      let l = list_at ts i in
+      ap (λ b. is_let (child_or_absent ts i) && (declares_name (part l j) && (may_go (part (part l j) 1) l && b))) (alone_there (names_of (part (part l j) 0)) (part (part l j) 1) (children l) j i)
+
+  read_there : (xs : List Name) (init : Tree) (ds : Trees) (j i : ℕ) → is_read_once xs outside init ds j ts i ≡ is_read_once xs no_outside init ds j behind (suc i)
+  read_there [] init ds j i = refl
+  read_there (x ∷ xs) init ds j i = read_pulled (any_names x ps) (reads_next x ts i) (is_declared_over x init ds j) (any_names x (first_children i ts)) (any_names x (rest_children (suc (suc i)) ts))
+
+  single_there : (i : ℕ) → is_single outside ts i ≡ is_single no_outside behind (suc i)
+  single_there i =
+      let l = list_at ts i in
+      let j = last_place (children l) in
+      ap (λ b. is_lexical (child_or_absent ts i) && (declares_name (part l j) && (may_move (part (part l j) 1) && b))) (read_there (names_of (part (part l j) 0)) (part (part l j) 1) (children l) j i)
+
+  seen_there : (has_eval no_outside || has_eval (listed behind)) ≡ (has_eval outside || has_eval (listed ts))
+  unfolding has_eval
+  seen_there = sym (ap (λ b. b || any_has_eval ts) (or_none (any_has_eval ps)))
+
+  none_unused : UnusedAt outside ts None → UnusedAt no_outside behind None
+  none_unused u zero h = λ j g. refl
+  none_unused u (suc i) h = λ j g. sym (unused_there i j) ∙ u i (omega (arith, h)) j g
+
+  none_read : SingleAt outside ts None → SingleAt no_outside behind None
+  none_read u zero h = refl
+  none_read u (suc i) h = sym (single_there i) ∙ u i (omega (arith, h))
+
+  -- the list that is left, behind the parameters
+  abbrev left : Tree → Tree
+  left m = listed (listed ps ▸ children m)
+
+  removed_there : (m : Tree) (c : Bool) → Removed outside (listed ts) m c → Removed no_outside (listed behind) (left m) c × (m ≡ listed (children m))
+  removed_there m true r = by r.1
+    where
+      by : NameGone outside (listed ts) m ⊎ ReadGone outside (listed ts) m → Removed no_outside (listed behind) (left m) true × (m ≡ listed (children m))
+      by (inl g) = (
+        (
+          seen_there ∙ r.0,
+          inl (record { at = suc g.at; which = g.which; unused = (next_within g.at (count ts) g.unused.0, (g.unused.1.0, g.unused.1.1, sym (unused_there g.at g.which) ∙ g.unused.1.2)); left = ap left g.left }),
+        ),
+        g.left ∙ sym (ap (λ l. listed (children l)) g.left),
+      )
+      by (inr g) = (
+        (
+          seen_there ∙ r.0,
+          inr (record { at = suc g.at; next = next_within (suc g.at) (count ts) g.next; declares = g.declares; single = sym (single_there g.at) ∙ g.single; left = ap left g.left }),
+        ),
+        g.left ∙ sym (ap (λ l. listed (children l)) g.left),
+      )
+  removed_there m false r = ((ap left r.0, by r.1), r.0 ∙ sym (ap (λ l. listed (children l)) r.0))
+    where
+      by : ((has_eval outside || has_eval (listed ts)) ≡ true) ⊎ (UnusedAt outside ts None × SingleAt outside ts None) → ((has_eval no_outside || has_eval (listed behind)) ≡ true) ⊎ (UnusedAt no_outside behind None × SingleAt no_outside behind None)
+      by (inl e) = inl (seen_there ∙ e)
+      by (inr u) = inr (none_unused u.0, none_read u.1)
+
+  -- the function, over the list that is left
+  abbrev over : Tree → Tree
+  over m = node (shape.ArrowFunctionExpression directives) [] number (listed ps ▸ (node shape.FunctionBody [] 0 (m ▸ none) ▸ none))
+
+  row_over : (m : Tree) → Removed outside (listed ts) m true → ArrowBodyRow (arrow_with directives number ps ts) (over m)
+  row_over m r =
+      let (there, is) = removed_there m true r in
+      record { directives = directives; number = number; parameters = ps; before = ts; after = children m; row = removed_row behind (left m) there; shape = refl; written = ap over is }
+
+  rests_over : (m : Tree) → Removed outside (listed ts) m false → (w : Tree) → ArrowBodyRow (arrow_with directives number ps ts) w → ⊥
+  rests_over m r w row =
+      let (there, is) = removed_there m false r in
+      let parameters : listed row.parameters ≡ listed ps = sym (ap (λ t. part t 0) row.shape) in
+      let before : row.before ≡ ts = sym (ap (λ t. children (part (part t 1) 0)) row.shape) in
+      rests behind (left m) there (block (listed row.parameters ▸ row.after)) (subst (λ v. BlockRow (block v) (block (listed row.parameters ▸ row.after))) (λ k. parameters k ▸ before k) row.row)
+
+  arrow_applied : (m : Tree) (c : Bool) → Removed outside (listed ts) m c → (s : Seat) → Applied (Expr s) (arrow_with directives number ps ts) (over m) c
+  arrow_applied m true r s =
+      let row = row_over m r in
+      moves_once UnusedContracts (Expr s) (arrow_with directives number ps ts) (over m) (record { row = row; lighter = unused_lighter (Expr s) (arrow_with directives number ps ts) (over m) row })
+  arrow_applied m false r s = (ap over r.0, rests_over m r)
+
+-- ---- what has such statements
+
+body_is : (t : Tree) → are_statements t ≡ true → t ≡ statements (children (part t 0))
+body_is (node shape.FunctionBody [] zero (node shape.Listed [] zero ts ▸ none)) e = refl
+body_is (node shape.FunctionBody [] zero (u ▸ none)) e = absurd (true≢false (sym e))
+body_is t e = absurd (true≢false (sym e))
+
+arrow_parts : (t : Tree) → is_arrow_shape (shape_of t) ≡ true → are_no_names (names_of t) ≡ true → nat_eq (count (children t)) 2 ≡ true → (directives : List (List ℕ)) × (t ≡ node (shape.ArrowFunctionExpression directives) [] (number_of t) (part t 0 ▸ (part t 1 ▸ none)))
+arrow_parts (node (shape.ArrowFunctionExpression directives) (x ∷ xs) n ts) e f g = absurd (true≢false (sym f))
+arrow_parts (node (shape.ArrowFunctionExpression directives) [] n (a ▸ (b ▸ none))) e f g = (directives, refl)
+arrow_parts (node (shape.ArrowFunctionExpression directives) [] n none) e f g = absurd (true≢false (sym g))
+arrow_parts (node (shape.ArrowFunctionExpression directives) [] n (a ▸ none)) e f g = absurd (true≢false (sym g))
+arrow_parts (node (shape.ArrowFunctionExpression directives) [] n (a ▸ (b ▸ (c ▸ ts)))) e f g = let two = eqb-true (count (a ▸ (b ▸ (c ▸ ts)))) 2 g in absurd (omega (arith, two))
+arrow_parts t e f g = absurd (true≢false (sym e))
+
+arrow_is : (t : Tree) → has_statements t ≡ true → (directives : List (List ℕ)) × (t ≡ arrow_with directives (number_of t) (children (part t 0)) (children (part (part t 1) 0)))
+arrow_is t e =
+    let (a, p) = and_parts (is_arrow_shape (shape_of t)) (are_no_names (names_of t) && (nat_eq (count (children t)) 2 && (is_listed (part t 0) && are_statements (part t 1)))) e in
+    let (b, q) = and_parts (are_no_names (names_of t)) (nat_eq (count (children t)) 2 && (is_listed (part t 0) && are_statements (part t 1))) p in
+    let (c, r) = and_parts (nat_eq (count (children t)) 2) (is_listed (part t 0) && are_statements (part t 1)) q in
+    let (d, f) = and_parts (is_listed (part t 0)) (are_statements (part t 1)) r in
+    let (directives, is) = arrow_parts t a b c in
+    (directives, is ∙ (λ k. node (shape.ArrowFunctionExpression directives) [] (number_of t) (listed_is (part t 0) d k ▸ (body_is (part t 1) f k ▸ none))))
+
+pub of_arrow : (t m : Tree) (c : Bool) → has_statements t ≡ true → Removed (with_part t 1 absent) (part (part t 1) 0) m c → (u : Tree) → u ≡ with_part t 1 (with_part (part t 1) 0 m) → (s : Seat) → Applied (Expr s) t u c
+of_arrow t m c h r u f s =
+    let (directives, is) = arrow_is t h in
+    let n = number_of t in
+    let ps = children (part t 0) in
+    let ts = children (part (part t 1) 0) in
+    let there = subst (λ v. Removed (with_part v 1 absent) (part (part v 1) 0) m c) is r in
+    subst (λ v. Applied (Expr s) v u c) (sym is)
+    (subst (λ v. Applied (Expr s) (arrow_with directives n ps ts) v c) (sym (f ∙ ap (λ v. with_part v 1 (with_part (part v 1) 0 m)) is)) (arrow_applied directives n ps ts m c there s))
+
+arrow_row_is : (t w : Tree) → ArrowBodyRow t w → has_statements t ≡ true
+arrow_row_is t w r = ap has_statements r.shape
+
+pub no_arrow : (t : Tree) → has_statements t ≡ false → (s : Seat) → Applied (Expr s) t t false
+no_arrow t e s = (refl, λ w r. true≢false (sym (arrow_row_is t w r) ∙ e))
+
+-- ---- where memory does not run out
+
+pub where_ok : {E : Type 0} (r : Result Bool E) (P Q : Bool → Type 0) → ((c : Bool) → P c → Q c) → IfOk r P → IfOk r Q
+where_ok (Ok c) P Q f p = f c p
+where_ok (Err e) P Q f p = p
+
+-- what is put back at a place
+pub put_back : (t : Tree) (i : ℕ) (m u v : Tree) → u ≡ with_part t i absent → v ≡ with_part u i m → v ≡ with_part t i m
+put_back t i m u v e f = f ∙ ap (λ w. with_part w i m) e ∙ part_twice t i absent m
