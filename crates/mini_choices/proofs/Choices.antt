@@ -13,20 +13,23 @@ use Rattle.mini_model.specs.declared.operator.LogicalOperator.TheVariants.{Or, A
 use Rattle.mini_model.specs.declared.place.Position.TheVariants.{Expr}
 use Rattle.mini_model.specs.declared.seat.Seat.{Seat}
 use Rattle.mini_model.specs.declared.shape.Shape.TheVariants as shape
-use Rattle.mini_model.specs.Tree.{Tree, Trees, node, ◌▸◌, identifier, logical, conditional, null_literal}
+use Rattle.mini_model.specs.Tree.{Tree, Trees, node, leaf, ◌▸◌, identifier, logical, conditional, call, null_literal}
 use Rattle.mini_model.specs.Position.{conditional_level}
 use Rattle.mini_model.specs.Weight.{weight}
 use Rattle.mini_node.specs.Children.{part}
 use Rattle.mini_node.specs.Equal.{same_tree}
-use Rattle.mini_node.specs.Kinds.{binary, assignment, is_logical, is_conditional, is_null, logical_operator, binary_operator}
-use Rattle.mini_node.specs.Made.{logical_is, binary_is, conditional_is, null_is}
+use Rattle.mini_node.specs.Kinds.{binary, assignment, is_logical, is_conditional, is_null, logical_operator, binary_operator, assignment_operator}
+use Rattle.mini_node.specs.Made.{assignment_is, logical_is, binary_is, conditional_is, null_is}
 use Rattle.mini_node.proofs.Equality.{tree_itself}
+use Rattle.mini_terms.specs.Folds.{is_effect_free}
 use Rattle.mini_rows.specs.Chains.{chain}
-use Rattle.mini_rows.specs.Choices.{assign, is_grouped, joined, strictly, joining, asks_object, null_compared, ended, deciding, computing, Row39, Row38, Row35, Row45, Row46Equal, Row46Unequal, LighterRow, OwnRow, ChoiceRow, ChoiceContracts}
+use Rattle.mini_rows.specs.Choices.{assign, is_grouped, joined, strictly, joining, asks_object, null_compared, ended, deciding, computing, may_choose, Row39, Row38, Row35, Row45, Row46Equal, Row46Unequal, Row44, LighterRow, OwnRow, ChoiceRow, ChoiceContracts}
+use Rattle.mini_rows.proofs.ChoiceCalls.{calls_lighter}
 use Rattle.mini_rows.proofs.ChoiceWeights as choice_weights
 use Rattle.mini_tree.specs.Rule.{Applied}
 use Rattle.mini_tree.proofs.Reaching.{moves_once}
-use Rattle.mini_choices.specs.Assigning.{assigns_name, is_same_name, is_declared}
+use Rattle.mini_choices.specs.Assigning.{assigns_name, is_same_operator, is_operator, is_same_name, is_declared}
+use Rattle.mini_choices.specs.Calling.{calls_either, called}
 use Rattle.mini_choices.specs.SubstituteRotateLogicalExpression as rotate
 use Rattle.mini_choices.specs.MinimizeLogicalExpression as decide
 use Rattle.mini_choices.specs.MinimizeNormalAssignmentToCombinedAssignment as combine
@@ -38,11 +41,12 @@ use Rattle.mini_choices.proofs.Trials.{some_is, not_true, both_true, tried, firs
 use Rattle.mini_choices.specs.SubstituteRotateLogicalExpression.{leftmost}
 use Rattle.mini_choices.specs.MinimizeNullishComparison as nullish
 use Rattle.mini_choices.specs.MinimizeObjectTest as object_test
-use Rattle.mini_choices.proofs.Names.{assigns_is, OneName, one_name}
+use Rattle.mini_choices.proofs.Names.{assigns_is, operator_is, OneName, one_name}
 use Rattle.mini_choices.proofs.NullishComparison.{comparison_row, alone_passes, after_passes}
 use Rattle.mini_choices.proofs.ObjectTest.{object_row, object_passes, before_passes}
 use Rattle.mini_choices.proofs.Spines.{logical_kind_is, spine_of, leftmost_joined}
 use Rattle.mini_choices.proofs.HeldBranches.{held_row, held_passes}
+use Rattle.mini_choices.proofs.Calls.{called_row, called_passes}
 use Rattle.mini_choices.specs.Choices.{first_of, written, Gives, Rests, WrittenIsRow, UnwrittenRests}
 
 -- ---- 39
@@ -146,23 +150,35 @@ combined_passes o c h x b =
 chosen_row : (s : Seat) (n : Tree) → branches.is_seated s && branches.assigns_either n ≡ true → Row45 s n (branches.assigned n)
 chosen_row s n k =
     let (seated, either) = and_parts (branches.is_seated s) (branches.assigns_either n) k in
-    let (chooses, both) = and_parts (is_conditional n) (assigns_name (part n 1) && (assigns_name (part n 2) && (is_same_name (part (part n 1) 0) (part (part n 2) 0) && is_declared (part (part n 1) 0)))) either in
-    let (left, others) = and_parts (assigns_name (part n 1)) (assigns_name (part n 2) && (is_same_name (part (part n 1) 0) (part (part n 2) 0) && is_declared (part (part n 1) 0))) both in
-    let (right, names) = and_parts (assigns_name (part n 2)) (is_same_name (part (part n 1) 0) (part (part n 2) 0) && is_declared (part (part n 1) 0)) others in
-    let (same, declared) = and_parts (is_same_name (part (part n 1) 0) (part (part n 2) 0)) (is_declared (part (part n 1) 0)) names in
-    let one = one_name (part (part n 1) 0) (part (part n 2) 0) same in
-    let yes = part (part n 1) 1 in
-    let no = part (part n 2) 1 in
-    record {
-      a = part n 0;
-      name = one.name;
-      b = yes;
-      c = no;
-      declared = not_true (is_none one.name.symbol) (sym (ap is_declared one.first) ∙ declared);
-      seated = not_true (nat_eq s.level conditional_level) seated;
-      shape = conditional_is n chooses ∙ (λ i. conditional (part n 0) ((assigns_is (part n 1) left ∙ ap (λ t. assignment Assign t yes) one.first) i) ((assigns_is (part n 2) right ∙ ap (λ t. assignment Assign t no) one.second) i));
-      written = ap (λ t. assignment Assign t (conditional (part n 0) yes no)) one.first;
-    }
+    let (chooses, alike) = and_parts (is_conditional n) (branches.assigns_alike (assignment_operator yes) (part n 0) yes no) either in
+    go seated chooses (assignment_operator yes) refl alike
+  where
+    yes : Tree
+    yes = part n 1
+
+    no : Tree
+    no = part n 2
+
+    go : not (nat_eq s.level conditional_level) ≡ true → is_conditional n ≡ true → (o : Option AssignmentOperator) → assignment_operator (part n 1) ≡ o → branches.assigns_alike o (part n 0) (part n 1) (part n 2) ≡ true → Row45 s n (branches.assigned n)
+    go seated chooses (Some o) h e =
+        let test = part n 0 in
+        let x = part (part n 1) 0 in
+        let value = conditional test (part (part n 1) 1) (part (part n 2) 1) in
+        let (by, rest) = and_parts (is_operator o (assignment_operator (part n 2))) (is_same_name x (part (part n 2) 0) && may_choose o (is_declared x) (is_effect_free test)) e in
+        let (same, may) = and_parts (is_same_name x (part (part n 2) 0)) (may_choose o (is_declared x) (is_effect_free test)) rest in
+        let one = one_name x (part (part n 2) 0) same in
+        record {
+          operator = o;
+          a = test;
+          name = one.name;
+          b = part (part n 1) 1;
+          c = part (part n 2) 1;
+          chosen = sym (ap (λ t. may_choose o (is_declared t) (is_effect_free test)) one.first) ∙ may;
+          seated = not_true (nat_eq s.level conditional_level) seated;
+          shape = conditional_is n chooses ∙ (λ i. conditional test ((assignment_is (part n 1) o h ∙ ap (λ t. assignment o t (part (part n 1) 1)) one.first) i) ((operator_is o (part n 2) by ∙ ap (λ t. assignment o t (part (part n 2) 1)) one.second) i));
+          written = ap (λ p. assignment (unwrap_or p Assign) x value) h ∙ ap (λ t. assignment o t value) one.first;
+        }
+    go seated chooses None h e = absurd (true≢false (sym e))
 
 -- ---- 46
 
@@ -257,6 +273,9 @@ own_and_row s n k =
 sure : (s : Seat) (n w : Tree) → LighterRow s n w → ChoiceContracts (Expr s) n w
 sure s n w r = record { row = inl r; lighter = choice_weights.lighter s n w r }
 
+called_lighter : (s : Seat) (n w : Tree) → Row44 n w → ChoiceContracts (Expr s) n w
+called_lighter s n w r = record { row = inr (inr (inr (inr r))); lighter = calls_lighter s n w r }
+
 module _ (s : Seat) (n w : Tree) where
   branch_row : branches.written s n ≡ Some w → ChoiceContracts (Expr s) n w
   branch_row =
@@ -264,7 +283,8 @@ module _ (s : Seat) (n w : Tree) where
       (tried s n w (branches.is_own_if_unequal n) (logical Coalesce (part n 1) (part n 2)) (branches.consequent_written s n) (λ h. sure s n (logical Coalesce (part n 1) (part n 2)) (inr (inr (inr (inr (inl (unequal_row n h)))))))
       (tried s n w (branches.is_own_consequent s n) (logical Or (part n 0) (part n 2)) (branches.alternate_written s n) (own_or_row s n)
       (tried s n w (branches.is_own_alternate s n) (logical And (part n 0) (part n 1)) (branches.assignment_written s n) (own_and_row s n)
-      (tried s n w (branches.is_seated s && branches.assigns_either n) (branches.assigned n) None (λ h. sure s n (branches.assigned n) (inr (inr (inr (inr (inr (inl (chosen_row s n h)))))))) (λ e. absurd (cc e))))))
+      (tried s n w (branches.is_seated s && branches.assigns_either n) (branches.assigned n) (branches.called_written n) (λ h. sure s n (branches.assigned n) (inr (inr (inr (inr (inr (inl (chosen_row s n h))))))))
+      (tried s n w (calls_either n) (called n) None (λ h. called_lighter s n (called n) (called_row n h)) (λ e. absurd (cc e)))))))
 
 module _ (s : Seat) (t : Tree) where
   by_equal : branches.is_own_if_equal t ≡ true → is_some (branches.written s t) ≡ true
@@ -289,13 +309,18 @@ module _ (s : Seat) (t : Tree) where
   by_alternate h = after_consequent (first_true (branches.is_own_alternate s t) (logical And (part t 0) (part t 1)) (branches.assignment_written s t) h)
 
   by_assignment : branches.is_seated s && branches.assigns_either t ≡ true → is_some (branches.written s t) ≡ true
-  by_assignment h = after_consequent (later_true (branches.is_own_alternate s t) (logical And (part t 0) (part t 1)) (branches.assignment_written s t) (first_true (branches.is_seated s && branches.assigns_either t) (branches.assigned t) None h))
+  by_assignment h = after_consequent (later_true (branches.is_own_alternate s t) (logical And (part t 0) (part t 1)) (branches.assignment_written s t) (first_true (branches.is_seated s && branches.assigns_either t) (branches.assigned t) (branches.called_written t) h))
+
+  by_called : calls_either t ≡ true → is_some (branches.written s t) ≡ true
+  by_called h = after_consequent (later_true (branches.is_own_alternate s t) (logical And (part t 0) (part t 1)) (branches.assignment_written s t) (later_true (branches.is_seated s && branches.assigns_either t) (branches.assigned t) (branches.called_written t) (first_true (calls_either t) (called t) None h)))
 
 declared_passes : (x : Name) → is_none x.symbol ≡ false → same_tree (identifier x) (identifier x) && is_declared (identifier x) ≡ true
 declared_passes x d = both_true (same_tree (identifier x) (identifier x)) (is_declared (identifier x)) (tree_itself (identifier x)) (ap not d)
 
-chosen_passes : (s : Seat) → nat_eq s.level conditional_level ≡ false → (a : Tree) (x : Name) (b c : Tree) → is_none x.symbol ≡ false → branches.is_seated s && branches.assigns_either (conditional a (assign x b) (assign x c)) ≡ true
-chosen_passes s seated a x b c d = both_true (branches.is_seated s) (branches.assigns_either (conditional a (assign x b) (assign x c))) (ap not seated) (declared_passes x d)
+chosen_passes : (s : Seat) → nat_eq s.level conditional_level ≡ false → (o : AssignmentOperator) (a : Tree) (x : Name) (b c : Tree) → may_choose o (not (is_none x.symbol)) (is_effect_free a) ≡ true → branches.is_seated s && branches.assigns_either (conditional a (assignment o (identifier x) b) (assignment o (identifier x) c)) ≡ true
+chosen_passes s seated o a x b c d =
+    both_true (branches.is_seated s) (branches.assigns_either (conditional a (assignment o (identifier x) b) (assignment o (identifier x) c))) (ap not seated)
+    (both_true (is_same_operator o o) _ (tree_itself (leaf (shape.AssignmentExpression o))) (both_true (same_tree (identifier x) (identifier x)) _ (tree_itself (identifier x)) d))
 
 -- ---- all
 
@@ -377,7 +402,7 @@ sure_passes s n w (inr (inl r)) =
 sure_passes s n w (inr (inr (inl r))) = ap (λ t. is_some (written s t)) r.shape ∙ ap is_some (combined_passes r.operator r.combined r.computes r.name r.b)
 sure_passes s n w (inr (inr (inr (inl r)))) = ap (λ t. is_some (written s t)) r.shape ∙ in_branches s (conditional (binary Equality (identifier r.name) null_literal) r.b (identifier r.name)) (by_equal s (conditional (binary Equality (identifier r.name) null_literal) r.b (identifier r.name)) (declared_passes r.name r.declared))
 sure_passes s n w (inr (inr (inr (inr (inl r))))) = ap (λ t. is_some (written s t)) r.shape ∙ in_branches s (conditional (binary Inequality (identifier r.name) null_literal) (identifier r.name) r.b) (by_unequal s (conditional (binary Inequality (identifier r.name) null_literal) (identifier r.name) r.b) (declared_passes r.name r.declared))
-sure_passes s n w (inr (inr (inr (inr (inr (inl r)))))) = ap (λ t. is_some (written s t)) r.shape ∙ in_branches s (conditional r.a (assign r.name r.b) (assign r.name r.c)) (by_assignment s (conditional r.a (assign r.name r.b) (assign r.name r.c)) (chosen_passes s r.seated r.a r.name r.b r.c r.declared))
+sure_passes s n w (inr (inr (inr (inr (inr (inl r)))))) = ap (λ t. is_some (written s t)) r.shape ∙ in_branches s (conditional r.a (assignment r.operator (identifier r.name) r.b) (assignment r.operator (identifier r.name) r.c)) (by_assignment s (conditional r.a (assignment r.operator (identifier r.name) r.b) (assignment r.operator (identifier r.name) r.c)) (chosen_passes s r.seated r.operator r.a r.name r.b r.c r.chosen))
 sure_passes s n w (inr (inr (inr (inr (inr (inr (inl r))))))) =
     let t : Tree = logical (joining r.equal) (binary (strictly r.equal) (identifier r.name) r.first) (binary (strictly r.equal) (identifier r.name) r.second) in
     ap (λ t. is_some (written s t)) r.shape ∙ by_nullish t (alone_passes r.equal r.name r.first r.second r.nullish)
@@ -409,7 +434,10 @@ passes : (s : Seat) (n w : Tree) → ChoiceRow (Expr s) n w → weight (Expr s) 
 passes s n w (inl r) small less = sure_passes s n w r
 passes s n w (inr (inl r)) small less = own_passes s n w r small less
 passes s n w (inr (inr (inl r))) small less = held_there s n (held_passes s n w small less r)
-passes s n w (inr (inr (inr r))) small less = chain_there s n (chain_passes s n w r)
+passes s n w (inr (inr (inr (inl r)))) small less = chain_there s n (chain_passes s n w r)
+passes s n w (inr (inr (inr (inr r)))) small less =
+    let t : Tree = conditional r.a (call false (identifier r.name) (r.p ▸ r.others)) (call false (identifier r.name) (r.q ▸ r.others)) in
+    ap (λ t. is_some (written s t)) r.shape ∙ in_branches s t (by_called s t (called_passes n w r))
 
 pub unwritten_rests : UnwrittenRests
 unwritten_rests s n e small w c = absurd (cc (sym (passes s n w c.row small c.lighter) ∙ ap is_some e))

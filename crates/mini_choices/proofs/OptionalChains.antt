@@ -244,7 +244,7 @@ module _ (s : Seat) (n : Tree) where
         shape = is ∙ ap (if_nullish equal a.name missing) sp.is;
         written = ap chain sp.over;
       } in
-      record { row = inr (inr (inr row)); lighter = chain_row_lighter s n (chain (optional_over read)) row }
+      record { row = inr (inr (inr (inl row))); lighter = chain_row_lighter s n (chain (optional_over read)) row }
 
   last_row : is_read_last s n ≡ true → ChoiceContracts (Expr s) n (chain (optional_over (part n 2)))
   last_row h =

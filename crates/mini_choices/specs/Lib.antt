@@ -1,4 +1,5 @@
 pub mod Assigning
+pub mod Calling
 pub mod Forms
 pub mod SubstituteRotateLogicalExpression
 pub mod JoinWithLeftAssociativeOp

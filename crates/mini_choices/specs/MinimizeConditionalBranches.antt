@@ -1,6 +1,8 @@
--- 41, 45 and 46, of `minimize_conditional_expression`: `x ? x : b` becomes `x || b`, `x ? b : x` becomes `x && b`,
--- `a ? x = b : x = c` becomes `x = a ? b : c`, and `x == null ? b : x` becomes `x ?? b`; the last two where a scope declares x.
-use Rattle.std.specs.Prelude.{Bool, true, false, Option, Some, None, ◌&&◌, not, nat_eq, nat_lt, if◌then◌else◌}
+-- 41, 44, 45 and 46, of `minimize_conditional_expression`: `x ? x : b` becomes `x || b`, `x ? b : x` becomes `x && b`,
+-- `a ? x = b : x = c` becomes `x = a ? b : c`, where a scope declares x or a has no effect, and so of `+=` where both hold, `x == null ? b : x` becomes `x ?? b`, where a
+-- scope declares x, and `a ? f(p, r) : f(q, r)` becomes `f(a ? p : q, r)`, where a scope declares f and a has no effect.
+use Rattle.std.specs.Prelude.{Bool, true, false, Option, Some, None, ◌&&◌, not, nat_eq, nat_lt, unwrap_or, if◌then◌else◌}
+use Rattle.mini_model.specs.declared.operator.AssignmentOperator.{AssignmentOperator}
 use Rattle.mini_model.specs.declared.operator.AssignmentOperator.TheVariants.{Assign}
 use Rattle.mini_model.specs.declared.operator.BinaryOperator.{BinaryOperator}
 use Rattle.mini_model.specs.declared.operator.BinaryOperator.TheVariants.{Equality, Inequality}
@@ -11,22 +13,30 @@ use Rattle.mini_model.specs.Tree.{Tree, logical, conditional}
 use Rattle.mini_model.specs.Position.{conditional_level}
 use Rattle.mini_model.specs.Weight.{weight, capped}
 use Rattle.mini_node.specs.Children.{part}
-use Rattle.mini_node.specs.Kinds.{assignment, is_conditional, is_null, binary_operator}
-use Rattle.mini_choices.specs.Assigning.{assigns_name, is_same_name, is_declared}
+use Rattle.mini_node.specs.Kinds.{assignment, assignment_operator, is_conditional, is_null, binary_operator}
+use Rattle.mini_terms.specs.Folds.{is_effect_free}
+use Rattle.mini_rows.specs.Choices.{may_choose}
+use Rattle.mini_choices.specs.Assigning.{is_operator, is_same_name, is_declared}
+use Rattle.mini_choices.specs.Calling.{calls_either, called}
 
 -- ---- 45
 
--- `a ? x = b : x = c`
+-- both are assignments to one name by this operator, between which this test may choose after the name is read
+abbrev pub assigns_alike : Option AssignmentOperator → Tree → Tree → Tree → Bool
+assigns_alike (Some o) a t u = is_operator o (assignment_operator u) && (is_same_name (part t 0) (part u 0) && may_choose o (is_declared (part t 0)) (is_effect_free a))
+assigns_alike None a t u = false
+
+-- `a ? x = b : x = c`, or `a ? x += b : x += c`
 abbrev pub assigns_either : Tree → Bool
-assigns_either t = is_conditional t && (assigns_name (part t 1) && (assigns_name (part t 2) && (is_same_name (part (part t 1) 0) (part (part t 2) 0) && is_declared (part (part t 1) 0))))
+assigns_either t = is_conditional t && assigns_alike (assignment_operator (part t 1)) (part t 0) (part t 1) (part t 2)
 
 -- an assignment stands there as a conditional does
 abbrev pub is_seated : Seat → Bool
 is_seated s = not (nat_eq s.level conditional_level)
 
--- `x = a ? b : c`
+-- `x = a ? b : c`, or `x += a ? b : c`
 abbrev pub assigned : Tree → Tree
-assigned t = assignment Assign (part (part t 1) 0) (conditional (part t 0) (part (part t 1) 1) (part (part t 2) 1))
+assigned t = assignment (unwrap_or (assignment_operator (part t 1)) Assign) (part (part t 1) 0) (conditional (part t 0) (part (part t 1) 1) (part (part t 2) 1))
 
 -- ---- 46
 
@@ -66,8 +76,11 @@ is_own_alternate s t = is_conditional t && (is_same_name (part t 0) (part t 2) &
 
 -- ---- one after another
 
+abbrev pub called_written : Tree → Option Tree
+called_written t = if calls_either t then Some (called t) else None
+
 abbrev pub assignment_written : Seat → Tree → Option Tree
-assignment_written s t = if is_seated s && assigns_either t then Some (assigned t) else None
+assignment_written s t = if is_seated s && assigns_either t then Some (assigned t) else called_written t
 
 abbrev pub alternate_written : Seat → Tree → Option Tree
 alternate_written s t = if is_own_alternate s t then Some (logical And (part t 0) (part t 1)) else assignment_written s t

@@ -1,9 +1,11 @@
 //! Tests of assignments of names.
 
+ghost use Rattle.std.specs.Bool.{Decides};
 ghost use Rattle.std.specs.Prelude.{◌≡◌, true};
 ghost use Rattle.mini_model.specs.Tree.{children, count};
 ghost use Rattle.mini_node.specs.Children.{names};
-ghost use Rattle.mini_choices.specs.Assigning.{assigns_name as it_assigns_name, is_same_name as is_it_same_name, is_declared_in as is_it_declared_in, is_declared as is_it_declared};
+ghost use Rattle.mini_node.specs.Kinds.{assignment_operator as its_operator};
+ghost use Rattle.mini_choices.specs.Assigning.{assigns_name as it_assigns_name, is_same_operator as is_it_same_operator, is_operator, is_same_name as is_it_same_name, is_declared_in as is_it_declared_in, is_declared as is_it_declared};
 
 use mini_model::{AssignmentOperator, Name};
 use mini_node::{Node, assignment_operator, is_identifier, is_same_tree};
@@ -16,6 +18,29 @@ pub fn assigns_name(node: &Node) -> bool
     match assignment_operator(node) {
         Some(AssignmentOperator::Assign) => is_identifier(node.child(0)),
         _ => false,
+    }
+}
+
+fn are_equal(first: AssignmentOperator, second: AssignmentOperator) -> bool
+    ensures { Decides result (first ≡ second) }
+{
+    first == second
+}
+
+fn is_same_operator(first: AssignmentOperator, second: AssignmentOperator) -> bool
+    ensures { result ≡ is_it_same_operator first second }
+{
+    are_equal(first, second)
+}
+
+/// Whether it is an assignment by this operator.
+pub fn assigns_by(operator: AssignmentOperator, node: &Node) -> bool
+    ensures kind { result ≡ is_operator operator (its_operator node.now) }
+    ensures parts { result ≡ true → count (children node.now) ≡ 2 }
+{
+    match assignment_operator(node) {
+        Some(other) => is_same_operator(operator, other),
+        None => false,
     }
 }
 

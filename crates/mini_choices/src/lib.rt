@@ -3,6 +3,7 @@
 #![tactic(auto)]
 
 mod assigning;
+mod calling;
 mod forms;
 mod joining;
 mod laws;

@@ -1,13 +1,10 @@
 -- An arrow function keeps its names where its value stands for its body.
-use Rattle.std.specs.Prelude.{ℕ, ◌≤◌, ◌≡◌, refl, ◌||◌, Bool, true, false, List, [], ◌∷◌, ◌++◌, Option}
+use Rattle.std.specs.Prelude.{ℕ, ◌≡◌, refl, ◌||◌, Bool, true, false, List, [], ◌∷◌, ◌++◌}
 use Rattle.std.proofs.Common.{ap, ◌∙◌, sym, subst, arith}
 use Rattle.std.proofs.lemmas.List.{append-nil}
-use Rattle.mini_model.specs.declared.name.SymbolId.{SymbolId}
 use Rattle.mini_model.specs.declared.place.Position.TheVariants.{Expr}
 use Rattle.mini_model.specs.declared.seat.Seat.{Seat}
-use Rattle.mini_model.specs.declared.shape.Shape.TheVariants as shape
 use Rattle.mini_model.specs.Tree.{Tree, none, ◌▸◌}
-use Rattle.mini_laws.specs.declared.names.Use.{Use}
 use Rattle.mini_laws.specs.declared.names.Use.TheVariants.{Read}
 use Rattle.mini_laws.specs.declared.names.Declared.TheVariants as declared
 use Rattle.mini_laws.specs.declared.names.Targets.{Targets}
@@ -19,7 +16,7 @@ use Rattle.mini_laws.specs.Symbols.{symbols_in, declared as declared_in, times}
 use Rattle.mini_laws.specs.Early.{Path, body_declarations, scope_declarations, clashing, at_child, early_names, targets_of, early_jumps, no_targets}
 use Rattle.mini_laws.proofs.Drops.{moved}
 use Rattle.mini_kept.specs.Carried.{numbers, with_number}
-use Rattle.mini_kept.specs.KeepsNames.{Keeps, Stands, unplaced, count_of}
+use Rattle.mini_kept.specs.KeepsNames.{Keeps, unplaced, count_of}
 use Rattle.mini_kept.proofs.Anywhere.{once_anywhere, targets_anywhere}
 use Rattle.mini_kept.proofs.Below.{empty_both, both_empty}
 use Rattle.mini_kept.proofs.Instances.{read_is, quiet_kept, both_as_body}

@@ -30,22 +30,22 @@ use Rattle.mini_rows.proofs.ChoiceRuns.{Reading, reading, conditional_value, equ
 abbrev value : Environment → Tree → State → Completion Value
 value e t s = means e t (As Val) tt s
 
-abbrev called : Environment → Tree → State → Completion Called
+abbrev pub called : Environment → Tree → State → Completion Called
 called e t s = means e t Callee tt s
 
-abbrev items : Environment → Trees → State → Completion (List Entry)
+abbrev pub items : Environment → Trees → State → Completion (List Entry)
 items e ts s = means e (listed ts) Items tt s
 
 -- goes on after a reply
-abbrev next : {A B : Type 0} → Completion A → (A → State → Completion B) → Completion B
+abbrev pub next : {A B : Type 0} → Completion A → (A → State → Completion B) → Completion B
 next x f = either x f (λ y z. stop y z)
 
 -- ---- what a link does once its parts are known, whatever node it stands in
 
-abbrev no_names : Naming
+abbrev pub no_names : Naming
 no_names = record { own = []; written = []; bound = []; number = 0; scope = []; functions = [] }
 
-abbrev no_kids : Kids (λ i. As Val)
+abbrev pub no_kids : Kids (λ i. As Val)
 no_kids i r z = out
 
 abbrev gets : Environment → Value → Value → State → Completion Value
@@ -54,7 +54,7 @@ gets e v u z = run {q = λ i. As Val} e no_names no_kids (bind (get_member v u) 
 abbrev gets_called : Environment → Value → Value → State → Completion Called
 gets_called e v u z = run {q = λ i. As Val} e no_names no_kids (called_member (AMember v u)) z
 
-abbrev calls : Environment → Bool → Called → List Entry → State → Completion Value
+abbrev pub calls : Environment → Bool → Called → List Entry → State → Completion Value
 calls e o f vs z = run {q = λ i. As Val} e no_names no_kids (bind (call_event o f vs) (reply (As Val) tt)) z
 
 module _ (e : Environment) (names : Naming) (σ : ℕ → Demand) (K : Kids σ) where
@@ -133,7 +133,7 @@ module _ (e : Environment) where
 -- ---- the name
 
 -- its value as a function that is called
-abbrev named_call : Bool → Value → Called
+abbrev pub named_call : Bool → Value → Called
 named_call direct v = record { value = v; this_value = Undefined; direct = direct }
 
 name_kind : (e : Environment) (m n : Naming) (σ τ : ℕ → Demand) (K : Kids σ) (L : Kids τ) (k : NameKind) → m.own ≡ n.own → (s : State) → run {q = σ} {A = Called} e m K (bind (get_identifier k) (λ v. ret (named_call (is_eval k) v))) s ≡ next (run {q = τ} e n L (bind (get_identifier k) (λ v. ret v)) s) (λ v z. ok (named_call (is_eval k) v) z)

@@ -13,7 +13,7 @@ use Rattle.mini_model.specs.declared.place.Position.{Position}
 use Rattle.mini_model.specs.declared.place.Position.TheVariants.{Expr}
 use Rattle.mini_model.specs.declared.seat.Seat.{Seat}
 use Rattle.mini_model.specs.declared.shape.Shape.TheVariants as shape
-use Rattle.mini_model.specs.Tree.{Tree, Trees, none, ◌▸◌, identifier, unresolved, logical, null_literal}
+use Rattle.mini_model.specs.Tree.{Tree, Trees, none, ◌▸◌, identifier, unresolved, logical, conditional, null_literal}
 use Rattle.mini_laws.specs.declared.names.Use.{Use}
 use Rattle.mini_laws.specs.declared.names.Use.TheVariants.{Write, ReadWrite}
 use Rattle.mini_laws.specs.declared.names.Declared.TheVariants as declared
@@ -36,6 +36,7 @@ use Rattle.mini_rows.specs.Choices.{assign, deciding, strictly, loosely, joining
 use Rattle.mini_rows.proofs.ArrangedExpressions.{expressions_arranged, expressions_arranged_freely}
 use Rattle.mini_rows.proofs.ArrangedLawful.{kept_is_lawful}
 use Rattle.mini_rows.proofs.ChainLawful.{chain_row_kept}
+use Rattle.mini_rows.proofs.ChoiceCalls.{calls_kept}
 use Rattle.mini_rows.proofs.ChoiceSpines.{Stand, behind, themselves, filled_spine, spine, apart, first_two, spines_rearranged}
 use Rattle.mini_rows.proofs.ChoiceMeaning.{choices_same}
 use Rattle.mini_rows.proofs.ChoiceShapes.{row_fits, row_asked, row_slot}
@@ -105,8 +106,11 @@ abbrev first_dropped : Free
 first_dropped = record { moved = []; lists_moved = []; dropped = 0 ∷ [] }
 
 -- an assignment to the part 0 of this
+abbrev assigns_part : AssignmentOperator → Sketch → Sketch
+assigns_part o s = under (Assignment o) (part 0 ▹ s ▹ end)
+
 abbrev assigns_first : Sketch → Sketch
-assigns_first s = under (Assignment Assign) (part 0 ▹ s ▹ end)
+assigns_first s = assigns_part Assign s
 
 -- ---- rows
 
@@ -130,8 +134,11 @@ computing_kept q n w r =
     (retargeted r.combined r.name r.b q n (expressions_arranged_freely first_dropped (record { trees = identifier r.name ▸ r.b ▸ none; lists = [] }) (tt, tt, (name_vanishes r.name, tt)) (assigns_first (under (Binary r.operator) (part 0 ▹ part 1 ▹ end))) (assigns_first (part 1)) refl q n (assign r.name r.b) r.shape refl))
 
 chosen_kept : (q : Seat) (n w : Tree) → Row45 q n w → KeptAt (Expr q) n w
-chosen_kept q n w r =
-    expressions_arranged (record { trees = identifier r.name ▸ r.a ▸ r.b ▸ r.c ▸ none; lists = [] }) (under Conditional (part 1 ▹ assigns_first (part 2) ▹ assigns_first (part 3) ▹ end)) (assigns_first (under Conditional (part 1 ▹ part 2 ▹ part 3 ▹ end))) refl q n w r.shape r.written
+chosen_kept q n w r = by r.operator r.shape r.written
+  where
+    by : (o : AssignmentOperator) → n ≡ conditional r.a (assignment o (identifier r.name) r.b) (assignment o (identifier r.name) r.c) → w ≡ assignment o (identifier r.name) (conditional r.a r.b r.c) → KeptAt (Expr q) n w
+    by Assign f g = expressions_arranged (record { trees = identifier r.name ▸ r.a ▸ r.b ▸ r.c ▸ none; lists = [] }) (under Conditional (part 1 ▹ assigns_part Assign (part 2) ▹ assigns_part Assign (part 3) ▹ end)) (assigns_part Assign (under Conditional (part 1 ▹ part 2 ▹ part 3 ▹ end))) refl q n w f g
+    by o f g = expressions_arranged (record { trees = identifier r.name ▸ r.a ▸ r.b ▸ r.c ▸ none; lists = [] }) (under Conditional (part 1 ▹ assigns_part o (part 2) ▹ assigns_part o (part 3) ▹ end)) (assigns_part o (under Conditional (part 1 ▹ part 2 ▹ part 3 ▹ end))) refl q n w f g
 
 -- sketches of a conditional, of a logical expression, and of two parts in order
 abbrev choice : Sketch → Sketch → Sketch → Sketch
@@ -289,7 +296,8 @@ expression_kept : (q : Seat) (n w : Tree) → ChoiceRow (Expr q) n w → KeptAt 
 expression_kept q n w (inl r) = lighter_kept q n w r
 expression_kept q n w (inr (inl r)) = own_kept q n w r
 expression_kept q n w (inr (inr (inl r))) = held_kept q n w r
-expression_kept q n w (inr (inr (inr r))) = chain_row_kept q n w r (undefined_vanishes r.missing r.undefined)
+expression_kept q n w (inr (inr (inr (inl r)))) = chain_row_kept q n w r (undefined_vanishes r.missing r.undefined)
+expression_kept q n w (inr (inr (inr (inr r)))) = calls_kept q n w r
 
 kept : (p : Position) (n w : Tree) → ChoiceRow p n w → KeptAt p n w
 kept (Expr q) n w r = expression_kept q n w r

@@ -1,8 +1,12 @@
 -- What each row of choices writes means the same.
-use Rattle.std.proofs.Common.{◌≡◌, ℕ, List, [], ◌∷◌, Option, Some, None, Bool, true, false, refl, sym, ap, subst, subst₂, ◌∙◌, inl, inr}
-use Rattle.std.specs.Prelude.{◌⊎◌, not, codes}
+use Rattle.std.proofs.Common.{◌≡◌, ℕ, List, [], ◌∷◌, Option, Some, None, Bool, true, false, refl, sym, ap, subst, subst₂, ◌∙◌, inl, inr, true≢false}
+use Rattle.std.specs.Prelude.{◌⊎◌, not, is_none, codes}
+use Rattle.std.proofs.lemmas.Bool.{and_parts}
 use Rattle.mini_model.specs.declared.name.Name.{Name}
+use Rattle.mini_model.specs.declared.operator.AssignmentOperator.{AssignmentOperator}
+use Rattle.mini_model.specs.declared.operator.AssignmentOperator.TheVariants as assigning
 use Rattle.mini_model.specs.declared.operator.AssignmentOperator.TheVariants.{Assign}
+use Rattle.mini_model.specs.declared.operator.BinaryOperator.{BinaryOperator}
 use Rattle.mini_model.specs.declared.operator.BinaryOperator.TheVariants as binary_operator
 use Rattle.mini_model.specs.declared.operator.BinaryOperator.TheVariants.{StrictEquality, StrictInequality}
 use Rattle.mini_model.specs.declared.operator.LogicalOperator.{LogicalOperator}
@@ -16,22 +20,27 @@ use Rattle.mini_model.specs.declared.place.Position.TheVariants.{Expr}
 use Rattle.mini_laws.specs.Operators.{strictly_equal, type_text}
 use Rattle.mini_laws.specs.Value.{Value, Undefined, Null, Boolean, Number, String, Symbol, Object, Variable, Slot, Holds, Missing, Uninitialised, choose, truth, is_nullish, variable_of}
 use Rattle.mini_laws.specs.State.{State, Completion, ok, stop, out, either, Environment}
-use Rattle.mini_laws.specs.Demand.{Val, As, OfType, Stat}
+use Rattle.mini_laws.specs.Demand.{Val, Demand, As, OfType, Stat}
 use Rattle.mini_laws.specs.Command.{ret, bind, Kids, read_slot, read_any, at_variable, act, run}
 use Rattle.mini_laws.specs.Naming.{NameKind, UndefinedName, NumberName, summary, naming, kind_of}
 use Rattle.mini_laws.specs.Expressions.{get_identifier, type_identifier, operate_by}
 use Rattle.mini_laws.specs.Step.{step, means, meaning}
+use Rattle.mini_laws.specs.Replies.{operate}
 use Rattle.mini_laws.specs.Rows.{SameAt}
 use Rattle.mini_laws.specs.Rewritten.{MeansSame}
 use Rattle.mini_laws.specs.Targets.{assigns}
-use Rattle.mini_laws.proofs.Runs.{either_cong, either_assoc, either_eta, either_ok, either_stop, runs}
+use Rattle.mini_laws.proofs.Runs.{either_cong, either_assoc, either_eta, either_ok, either_stop, either_out, runs}
+use Rattle.mini_terms.specs.Folds.{is_effect_free}
 use Rattle.mini_terms.proofs.Opened.{negation_opened}
 use Rattle.mini_rows.specs.Spellings.{binary, text, assignment}
-use Rattle.mini_rows.specs.Choices.{assign, pair, joined, strictly, loosely, joining, AreNullish, Row37, Row37After, deciding, Row35, Row46Equal, Row46Unequal, asks_object, null_compared, held, ended, Row57, Row57Null, LighterRow, OwnRow, HeldRow, ChoiceRow, ChoiceContracts}
+use Rattle.mini_rows.specs.Choices.{assign, pair, joined, strictly, loosely, joining, AreNullish, Row37, Row37After, deciding, computing, may_choose, Row45, Row35, Row46Equal, Row46Unequal, asks_object, null_compared, held, ended, Row57, Row57Null, LighterRow, OwnRow, HeldRow, ChoiceRow, ChoiceContracts}
 use Rattle.mini_rows.proofs.ChainLawful.{chain_row_same, chain_row_read}
+use Rattle.mini_rows.proofs.ChainRuns.{next, no_names, no_kids}
+use Rattle.mini_rows.proofs.ChoiceCalls.{calls_same}
+use Rattle.mini_rows.proofs.ChoiceFree.{free_told, goes_on_chosen, begins_alike}
 use Rattle.mini_rows.proofs.SpellAlike.{SameTree}
 use Rattle.mini_rows.proofs.SpellMeaning.{tree_same, same_by}
-use Rattle.mini_rows.proofs.ChoiceRuns.{value, by_value, conditional_tells, logical_tells, binary_tells, strict_told, null_value, undefined_value, assignment_tells, pair_tells, pair_value, by_reading, equal_null, unequal_null, sides, binary_names, binary_value, conditional_value, logical_value, puts, assign_value, deciding_value, computing_value}
+use Rattle.mini_rows.proofs.ChoiceRuns.{value, by_value, reading, written_out, operate_free, conditional_tells, logical_tells, binary_tells, strict_told, null_value, undefined_value, assignment_tells, pair_tells, pair_value, by_reading, equal_null, unequal_null, sides, binary_names, binary_value, conditional_value, logical_value, puts, assign_value, deciding_value, computing_value}
 
 -- 39
 
@@ -167,8 +176,63 @@ chosen_value a x b c e s =
     ∙ either_cong (value e a s) _ _ _ _ (λ v z. (λ k. choose (truth v) (assign_value e x b z k) (assign_value e x c z k)) ∙ put_either e x (truth v) (value e b z) (value e c z)) (λ x z. refl)
     ∙ sym (assign_value e x (conditional a b c) s ∙ ap (puts e x) (conditional_value e a b c s) ∙ simp runs)
 
-chosen_same : (a : Tree) (x : Name) (b c : Tree) → SameTree (conditional a (assign x b) (assign x c)) (assign x (conditional a b c))
-chosen_same a x b c = by_value _ _ (conditional_tells a (assign x b) (assign x c)) (assignment_tells Assign (identifier x) (conditional a b c)) refl (chosen_value a x b c)
+-- where an operator computes, the name is read before the test
+
+-- what the operator makes of two values
+abbrev made : Environment → BinaryOperator → Value → Value → State → Completion Value
+made e o v u z = run {q = λ i. As Val} e no_names no_kids (operate o v u) z
+
+computes_it : {σ : ℕ → Demand} (o : BinaryOperator) (c : AssignmentOperator) → computing o ≡ Some c → (v u : Value) → operate_by {σ = σ} o v u ≡ operate o v u
+computes_it binary_operator.Equality c h v u = absurd (cc h)
+computes_it binary_operator.Inequality c h v u = absurd (cc h)
+computes_it binary_operator.StrictEquality c h v u = absurd (cc h)
+computes_it binary_operator.StrictInequality c h v u = absurd (cc h)
+computes_it binary_operator.In c h v u = absurd (cc h)
+computes_it binary_operator.Instanceof c h v u = absurd (cc h)
+computes_it o c h v u = refl
+
+computed_value : (e : Environment) (o : BinaryOperator) (c : AssignmentOperator) → computing o ≡ Some c → (x : Name) (b : Tree) (s : State) → value e (assignment c (identifier x) b) s ≡ next (value e (identifier x) s) (λ v z. next (value e b z) (λ u y. puts e x (made e o v u y)))
+computed_value e o c h x b s =
+    let f : Tree = identifier x in
+    sym (computing_value e o c h x b s)
+    ∙ written_out e o x b s
+    ∙ either_cong (value e f s) _ _ _ _ (λ v z. either_cong (value e b z) _ _ _ _ (λ u y. ap (puts e x) (ap (λ k. run {q = λ i. As Val} e (binary_names o f b) (sides e f b) k y) (computes_it o c h v u) ∙ operate_free e (binary_names o f b) no_names (λ i. As Val) (λ i. As Val) (sides e f b) no_kids o v u y)) (λ x y. refl)) (λ x z. refl)
+
+computed_chosen : (e : Environment) (o : BinaryOperator) (c : AssignmentOperator) → computing o ≡ Some c → (a : Tree) (x : Name) (b d : Tree) → is_effect_free a ≡ true → (s : State) → value e (conditional a (assignment c (identifier x) b) (assignment c (identifier x) d)) s ≡ value e (assignment c (identifier x) (conditional a b d)) s
+computed_chosen e o c h a x b d free s =
+    let f : Tree = identifier x in
+    let quiet = free_told e a free s in
+    let goes_on : Value → Completion Value → Completion Value = λ v y. next y (λ u z. puts e x (made e o v u z)) in
+    let follows : Tree → Value → State → Completion Value = λ t v z. goes_on v (value e t z) in
+    conditional_value e a (assignment c f b) (assignment c f d) s
+    ∙ begins_alike s (value e f s) (value e a s) (reading e x s) quiet (follows b) (follows d) (follows (conditional a b d))
+    (λ v. ap (goes_on v) (conditional_value e a b d s) ∙ goes_on_chosen (goes_on v) (either_out _ _) (value e a s) s quiet (λ z. value e b z) (λ z. value e d z))
+    (λ z. value e (assignment c f b) z) (λ z. value e (assignment c f d) z) (computed_value e o c h x b s) (computed_value e o c h x d s)
+    ∙ sym (computed_value e o c h x (conditional a b d) s)
+
+chosen_by : (o : AssignmentOperator) (a : Tree) (x : Name) (b c : Tree) → may_choose o (not (is_none x.symbol)) (is_effect_free a) ≡ true → (e : Environment) (s : State) → value e (conditional a (assignment o (identifier x) b) (assignment o (identifier x) c)) s ≡ value e (assignment o (identifier x) (conditional a b c)) s
+chosen_by assigning.Assign a x b c h e s = chosen_value a x b c e s
+chosen_by assigning.LogicalOr a x b c h e s = absurd (true≢false (sym h))
+chosen_by assigning.LogicalAnd a x b c h e s = absurd (true≢false (sym h))
+chosen_by assigning.LogicalNullish a x b c h e s = absurd (true≢false (sym h))
+chosen_by assigning.Addition a x b c h e s = computed_chosen e binary_operator.Addition assigning.Addition refl a x b c (and_parts (not (is_none x.symbol)) (is_effect_free a) h).1 s
+chosen_by assigning.Subtraction a x b c h e s = computed_chosen e binary_operator.Subtraction assigning.Subtraction refl a x b c (and_parts (not (is_none x.symbol)) (is_effect_free a) h).1 s
+chosen_by assigning.Multiplication a x b c h e s = computed_chosen e binary_operator.Multiplication assigning.Multiplication refl a x b c (and_parts (not (is_none x.symbol)) (is_effect_free a) h).1 s
+chosen_by assigning.Division a x b c h e s = computed_chosen e binary_operator.Division assigning.Division refl a x b c (and_parts (not (is_none x.symbol)) (is_effect_free a) h).1 s
+chosen_by assigning.Remainder a x b c h e s = computed_chosen e binary_operator.Remainder assigning.Remainder refl a x b c (and_parts (not (is_none x.symbol)) (is_effect_free a) h).1 s
+chosen_by assigning.Exponential a x b c h e s = computed_chosen e binary_operator.Exponential assigning.Exponential refl a x b c (and_parts (not (is_none x.symbol)) (is_effect_free a) h).1 s
+chosen_by assigning.ShiftLeft a x b c h e s = computed_chosen e binary_operator.ShiftLeft assigning.ShiftLeft refl a x b c (and_parts (not (is_none x.symbol)) (is_effect_free a) h).1 s
+chosen_by assigning.ShiftRight a x b c h e s = computed_chosen e binary_operator.ShiftRight assigning.ShiftRight refl a x b c (and_parts (not (is_none x.symbol)) (is_effect_free a) h).1 s
+chosen_by assigning.ShiftRightZeroFill a x b c h e s = computed_chosen e binary_operator.ShiftRightZeroFill assigning.ShiftRightZeroFill refl a x b c (and_parts (not (is_none x.symbol)) (is_effect_free a) h).1 s
+chosen_by assigning.BitwiseAnd a x b c h e s = computed_chosen e binary_operator.BitwiseAnd assigning.BitwiseAnd refl a x b c (and_parts (not (is_none x.symbol)) (is_effect_free a) h).1 s
+chosen_by assigning.BitwiseXor a x b c h e s = computed_chosen e binary_operator.BitwiseXor assigning.BitwiseXor refl a x b c (and_parts (not (is_none x.symbol)) (is_effect_free a) h).1 s
+chosen_by assigning.BitwiseOr a x b c h e s = computed_chosen e binary_operator.BitwiseOr assigning.BitwiseOr refl a x b c (and_parts (not (is_none x.symbol)) (is_effect_free a) h).1 s
+
+chosen_same : (s : Seat) (n w : Tree) → Row45 s n w → SameTree n w
+chosen_same s n w r =
+    let x : Tree = identifier r.name in
+    same_by n w _ _ r.shape r.written
+    (by_value _ _ (conditional_tells r.a (assignment r.operator x r.b) (assignment r.operator x r.c)) (assignment_tells r.operator x (conditional r.a r.b r.c)) refl (chosen_by r.operator r.a r.name r.b r.c r.chosen))
 
 -- 46
 
@@ -532,7 +596,7 @@ lighter_same s n w (inr (inr (inr (inr (inr (inr (inl r))))))) = nullish_same n 
 lighter_same s n w (inr (inr (inr (inr (inr (inr (inr (inl r)))))))) = nullish_after_same n w r
 lighter_same s n w (inr (inr (inr (inr (inr (inr (inr (inr (inl r))))))))) = type_same n w r
 lighter_same s n w (inr (inr (inr (inr (inr (inr (inr (inr (inr r))))))))) = null_type_same n w r
-lighter_same s n w (inr (inr (inr (inr (inr (inl r)))))) = same_by n w _ _ r.shape r.written (chosen_same r.a r.name r.b r.c)
+lighter_same s n w (inr (inr (inr (inr (inr (inl r)))))) = chosen_same s n w r
 
 own_same : (n w : Tree) → OwnRow n w → SameTree n w
 own_same n w (inl r) = same_by n w _ _ r.shape r.written (by_value _ _ (conditional_tells (identifier r.name) (identifier r.name) r.b) (logical_tells Or (identifier r.name) r.b) refl (own_or_value r.name r.b))
@@ -551,14 +615,16 @@ means_same : (p : Position) (n w : Tree) → ChoiceRow p n w → SameAt p n w
 means_same (Expr s) n w (inl r) = tree_same s n w (lighter_same s n w r)
 means_same (Expr s) n w (inr (inl r)) = tree_same s n w (own_same n w r)
 means_same (Expr s) n w (inr (inr (inl r))) = tree_same s n w (held_same n w r)
-means_same (Expr s) n w (inr (inr (inr r))) = chain_row_same s n w r
+means_same (Expr s) n w (inr (inr (inr (inl r)))) = chain_row_same s n w r
+means_same (Expr s) n w (inr (inr (inr (inr r)))) = tree_same s n w (calls_same n w r)
 means_same p n w r = absurd r
 
 reads : (p : Position) (n w : Tree) → ChoiceRow p n w → summary n ≡ summary w
 reads (Expr s) n w (inl r) = (lighter_same s n w r).read
 reads (Expr s) n w (inr (inl r)) = (own_same n w r).read
 reads (Expr s) n w (inr (inr (inl r))) = (held_same n w r).read
-reads (Expr s) n w (inr (inr (inr r))) = chain_row_read s n w r
+reads (Expr s) n w (inr (inr (inr (inl r)))) = chain_row_read s n w r
+reads (Expr s) n w (inr (inr (inr (inr r)))) = (calls_same n w r).read
 reads p n w r = absurd r
 
 pub choices_same : MeansSame ChoiceContracts

@@ -236,7 +236,7 @@ computed e o c x b s =
     ∙ either_cong (value e (identifier x) s) _ _ _ _ (λ v z. either_cong (value e b z) _ _ _ _ (λ u y. computes e (assigning_names e c x b) (assigning_kids e x b) (operate o v u) y ∙ ap (puts e x) (operate_free e (assigning_names e c x b) (binary_names o (identifier x) b) AssignDemand (λ i. As Val) (assigning_kids e x b) (sides e (identifier x) b) o v u y)) (λ x y. refl)) (λ x z. refl)
 
 -- the same as what is assigned of the operator's value
-written_out : (e : Environment) (o : BinaryOperator) (x : Name) (b : Tree) (s : State) → puts e x (value e (binary o (identifier x) b) s) ≡ either (value e (identifier x) s) (λ v z. either (value e b z) (λ u y. puts e x (run {q = λ i. As Val} e (binary_names o (identifier x) b) (sides e (identifier x) b) (operate_by o v u) y)) (λ x y. stop x y)) (λ x z. stop x z)
+pub written_out : (e : Environment) (o : BinaryOperator) (x : Name) (b : Tree) (s : State) → puts e x (value e (binary o (identifier x) b) s) ≡ either (value e (identifier x) s) (λ v z. either (value e b z) (λ u y. puts e x (run {q = λ i. As Val} e (binary_names o (identifier x) b) (sides e (identifier x) b) (operate_by o v u) y)) (λ x y. stop x y)) (λ x z. stop x z)
 written_out e o x b s = ap (puts e x) (binary_value e o (identifier x) b s) ∙ simp runs
 
 abbrev SameValue : Environment → BinaryOperator → Name → Tree → State → AssignmentOperator → Type 0

@@ -11,15 +11,16 @@ use Rattle.mini_model.specs.declared.operator.LogicalOperator.TheVariants.{Or, A
 use Rattle.mini_model.specs.declared.place.Position.{Position}
 use Rattle.mini_model.specs.declared.place.Position.TheVariants.{Expr}
 use Rattle.mini_model.specs.declared.seat.Seat.{Seat}
-use Rattle.mini_model.specs.Tree.{Tree, Trees, node, none, ◌▸◌, identifier, negation, logical, conditional, null_literal, is_absent, shape_of}
+use Rattle.mini_model.specs.Tree.{Tree, Trees, node, none, ◌▸◌, identifier, negation, logical, conditional, call, null_literal, is_absent, shape_of}
 use Rattle.mini_accept.specs.WellShaped.{Class, an_init, an_arrow_body, an_expression, a_link, an_argument, a_key, a_default_export, a_target, a_simple_target, Slot, one, one_or_absent, fits, is_function_body, has_optional, is_not_positive_number, spelling}
 use Rattle.mini_kept.specs.KeepsShapes.{AskedAlike, is_default}
 use Rattle.mini_kept.specs.KeepsFrames.{is_body_slot}
 use Rattle.mini_kept.proofs.Bools.{left, both}
 use Rattle.mini_kept.proofs.Expressions.{expression, ThreeFit, of_conditional, TakesExpressionIn, TakesExpression, expression_taken, three_fit, two_fit}
 use Rattle.mini_rows.specs.Spellings.{binary, assignment}
-use Rattle.mini_rows.specs.Choices.{assign, joined, strictly, loosely, joining, asks_object, null_compared, held, ended, deciding, ChoiceRow, pair, LighterRow, OwnRow, HeldRow}
+use Rattle.mini_rows.specs.Choices.{assign, joined, strictly, loosely, joining, asks_object, null_compared, held, ended, deciding, ChoiceRow, pair, Row44, LighterRow, OwnRow, HeldRow}
 use Rattle.mini_rows.proofs.ChainLawful.{chain_row_fits, chain_row_asked, chain_row_slot}
+use Rattle.mini_rows.proofs.ChoiceCalls.{calls_fit}
 use Rattle.mini_rows.proofs.SpellShapes.{Form, a_binary, an_assignment, a_logical, a_conditional, shaped, Kind, Alone, Linked, Ending, Assigned, Nowhere, kind_of, kind_in, filled, fits_is, Formed, formed_asked, formed_slot}
 
 -- ---- where they stand an expression does
@@ -94,8 +95,9 @@ module _ (strict : Bool) where
   assignment_fits Assign x b e f = both (fits strict (one a_target) (identifier x)) (fits strict expression b && true) e (both (fits strict expression b) true f refl)
   assignment_fits c x b e f = both (fits strict (one a_simple_target) (identifier x)) (fits strict expression b && true) e (both (fits strict expression b) true f refl)
 
-  of_assignment : (x : Name) (b : Tree) → Fits (assign x b) → Fits (identifier x) × Fits b
-  of_assignment x b e = let (y, z) = and_parts (fits strict (one a_target) (identifier x)) (fits strict expression b && true) e in (y, left (fits strict expression b) true z)
+  of_assignment : (c : AssignmentOperator) (x : Name) (b : Tree) → Fits (assignment c (identifier x) b) → Fits (identifier x) × Fits b
+  of_assignment Assign x b e = let (y, z) = and_parts (fits strict (one a_target) (identifier x)) (fits strict expression b && true) e in (y, left (fits strict expression b) true z)
+  of_assignment c x b e = let (y, z) = and_parts (fits strict (one a_simple_target) (identifier x)) (fits strict expression b && true) e in (y, left (fits strict expression b) true z)
 
   of_three : (a b c : Tree) → Fits (conditional a b c) → ThreeFit strict a b c
   of_three a b c e = (of_conditional strict expression a b c e).1
@@ -140,17 +142,17 @@ module _ (strict : Bool) where
     lighter_fits q n w (inr (inl r)) e =
         let (here, fit) = choice_taken strict s (a_logical r.operator) (identifier r.name ▸ assign r.name r.b ▸ none) refl (subst Here r.shape e) in
         let (first, rest) = of_two (identifier r.name) (assign r.name r.b) fit in
-        subst Here (sym r.written) (expression_taken strict s (assignment (deciding r.operator) (identifier r.name) r.b) here (assignment_fits (deciding r.operator) r.name r.b first (of_assignment r.name r.b rest).1))
+        subst Here (sym r.written) (expression_taken strict s (assignment (deciding r.operator) (identifier r.name) r.b) here (assignment_fits (deciding r.operator) r.name r.b first (of_assignment Assign r.name r.b rest).1))
     lighter_fits q n w (inr (inr (inl r))) e =
         let (here, fit) = choice_taken strict s (an_assignment Assign) (identifier r.name ▸ binary r.operator (identifier r.name) r.b ▸ none) refl (subst Here r.shape e) in
-        let (first, rest) = of_assignment r.name (binary r.operator (identifier r.name) r.b) fit in
+        let (first, rest) = of_assignment Assign r.name (binary r.operator (identifier r.name) r.b) fit in
         subst Here (sym r.written) (expression_taken strict s (assignment r.combined (identifier r.name) r.b) here (assignment_fits r.combined r.name r.b first (of_two (identifier r.name) r.b rest).1))
     lighter_fits q n w (inr (inr (inr (inr (inr (inl r)))))) e =
-        let (here, fit) = choice_taken strict s a_conditional (r.a ▸ assign r.name r.b ▸ assign r.name r.c ▸ none) refl (subst Here r.shape e) in
-        let (test, rest) = and_parts (fits strict expression r.a) (fits strict expression (assign r.name r.b) && (fits strict expression (assign r.name r.c) && true)) fit in
-        let (first, second) = of_two (assign r.name r.b) (assign r.name r.c) rest in
-        let (name, b) = of_assignment r.name r.b first in
-        subst Here (sym r.written) (expression_taken strict s (assign r.name (conditional r.a r.b r.c)) here (assignment_fits Assign r.name (conditional r.a r.b r.c) name (three_fit strict r.a r.b r.c test b (of_assignment r.name r.c second).1)))
+        let yes : Tree = assignment r.operator (identifier r.name) r.b in
+        let no : Tree = assignment r.operator (identifier r.name) r.c in
+        let (here, (test, first, second)) = of_conditional strict s r.a yes no (subst Here r.shape e) in
+        let (name, b) = of_assignment r.operator r.name r.b first in
+        subst Here (sym r.written) (expression_taken strict s (assignment r.operator (identifier r.name) (conditional r.a r.b r.c)) here (assignment_fits r.operator r.name (conditional r.a r.b r.c) name (three_fit strict r.a r.b r.c test b (of_assignment r.operator r.name r.c second).1)))
     lighter_fits q n w (inr (inr (inr (inl r)))) e =
         let (here, (test, branch, last)) = of_conditional strict s (binary binary_operator.Equality (identifier r.name) null_literal) r.b (identifier r.name) (subst Here r.shape e) in
         subst Here (sym r.written) (expression_taken strict s (logical Coalesce (identifier r.name) r.b) here (two_fit strict (identifier r.name) r.b last branch))
@@ -215,13 +217,16 @@ module _ (strict : Bool) where
         for_choice n w _ _ _ r.shape (λ x y z. let (b, c) = of_pair r.b r.c z in subst Fits (sym r.written) (pair_fits (logical Or r.a r.b) r.c (two_fit strict r.a r.b x b) y))
     held_fits n w (inr (inr (inr (inr (inr (inr r)))))) = for_choice n w _ _ _ r.shape (λ x y z. subst Fits (sym r.written) (pair_fits r.a r.b x y))
 
+    called_fits : (n w : Tree) → Row44 n w → Here n → Here w
+    called_fits n w r = for_choice n w _ _ _ r.shape (λ x y z. subst Fits (sym r.written) (calls_fit strict r.name r.a r.p r.q r.others r.first r.second x y z))
+
 -- ---- what a parent asks
 
 row_formed : (q : Seat) (n w : Tree) → LighterRow q n w → Formed n w
 row_formed q n w (inl r) = record { first = a_logical r.operator; second = a_logical r.operator; parts = r.a ▸ joined r.operator r.b (r.last ▸ r.others) ▸ none; others = joined r.operator (logical r.operator r.a r.b) r.others ▸ r.last ▸ none; read = r.shape; made = r.written; optional = λ x. absurd (cc x) }
 row_formed q n w (inr (inl r)) = record { first = a_logical r.operator; second = an_assignment (deciding r.operator); parts = identifier r.name ▸ assign r.name r.b ▸ none; others = identifier r.name ▸ r.b ▸ none; read = r.shape; made = r.written; optional = λ x. absurd (cc x) }
 row_formed q n w (inr (inr (inl r))) = record { first = an_assignment Assign; second = an_assignment r.combined; parts = identifier r.name ▸ binary r.operator (identifier r.name) r.b ▸ none; others = identifier r.name ▸ r.b ▸ none; read = r.shape; made = r.written; optional = λ x. absurd (cc x) }
-row_formed q n w (inr (inr (inr (inr (inr (inl r)))))) = record { first = a_conditional; second = an_assignment Assign; parts = r.a ▸ assign r.name r.b ▸ assign r.name r.c ▸ none; others = identifier r.name ▸ conditional r.a r.b r.c ▸ none; read = r.shape; made = r.written; optional = λ x. absurd (cc x) }
+row_formed q n w (inr (inr (inr (inr (inr (inl r)))))) = record { first = a_conditional; second = an_assignment r.operator; parts = r.a ▸ assignment r.operator (identifier r.name) r.b ▸ assignment r.operator (identifier r.name) r.c ▸ none; others = identifier r.name ▸ conditional r.a r.b r.c ▸ none; read = r.shape; made = r.written; optional = λ x. absurd (cc x) }
 row_formed q n w (inr (inr (inr (inl r)))) = record { first = a_conditional; second = a_logical Coalesce; parts = binary binary_operator.Equality (identifier r.name) null_literal ▸ r.b ▸ identifier r.name ▸ none; others = identifier r.name ▸ r.b ▸ none; read = r.shape; made = r.written; optional = λ x. absurd (cc x) }
 row_formed q n w (inr (inr (inr (inr (inl r))))) = record { first = a_conditional; second = a_logical Coalesce; parts = binary binary_operator.Inequality (identifier r.name) null_literal ▸ identifier r.name ▸ r.b ▸ none; others = identifier r.name ▸ r.b ▸ none; read = r.shape; made = r.written; optional = λ x. absurd (cc x) }
 row_formed q n w (inr (inr (inr (inr (inr (inr (inl r))))))) = record { first = a_logical (joining r.equal); second = a_binary (loosely r.equal); parts = binary (strictly r.equal) (identifier r.name) r.first ▸ binary (strictly r.equal) (identifier r.name) r.second ▸ none; others = identifier r.name ▸ null_literal ▸ none; read = r.shape; made = r.written; optional = λ x. absurd (cc x) }
@@ -263,25 +268,31 @@ held_choosing n w (inr (inr (inr (inr (inl r))))) = record { a = r.a; b = pair r
 held_choosing n w (inr (inr (inr (inr (inr (inl r)))))) = record { a = r.a; b = r.c; c = pair r.b r.c; read = r.shape; number = ap is_not_positive_number r.written }
 held_choosing n w (inr (inr (inr (inr (inr (inr r)))))) = record { a = r.a; b = r.b; c = r.b; read = r.shape; number = ap is_not_positive_number r.written }
 
+called_choosing : (n w : Tree) → Row44 n w → Choosing n w
+called_choosing n w r = record { a = r.a; b = call false (identifier r.name) (r.p ▸ r.others); c = call false (identifier r.name) (r.q ▸ r.others); read = r.shape; number = ap is_not_positive_number r.written }
+
 -- ---- wherever rows are made
 
 pub row_fits : (p : Position) (n w : Tree) → ChoiceRow p n w → (strict : Bool) (s : Slot) → fits strict s n ≡ true → fits strict s w ≡ true
 row_fits (Expr q) n w (inl r) strict s e = lighter_fits strict s q n w r e
 row_fits (Expr q) n w (inr (inl r)) strict s e = own_fits strict s n w r e
 row_fits (Expr q) n w (inr (inr (inl r))) strict s e = held_fits strict s n w r e
-row_fits (Expr q) n w (inr (inr (inr r))) strict s e = chain_row_fits q n w r strict s e
+row_fits (Expr q) n w (inr (inr (inr (inl r)))) strict s e = chain_row_fits q n w r strict s e
+row_fits (Expr q) n w (inr (inr (inr (inr r)))) strict s e = called_fits strict s n w r e
 row_fits p n w r strict s e = absurd r
 
 pub row_asked : (p : Position) (n w : Tree) → ChoiceRow p n w → AskedAlike p n w
 row_asked (Expr q) n w (inl r) = formed_asked (Expr q) n w (row_formed q n w r)
 row_asked (Expr q) n w (inr (inl r)) = choosing_asked (Expr q) n w (own_choosing n w r)
 row_asked (Expr q) n w (inr (inr (inl r))) = choosing_asked (Expr q) n w (held_choosing n w r)
-row_asked (Expr q) n w (inr (inr (inr r))) = chain_row_asked q n w r
+row_asked (Expr q) n w (inr (inr (inr (inl r)))) = chain_row_asked q n w r
+row_asked (Expr q) n w (inr (inr (inr (inr r)))) = choosing_asked (Expr q) n w (called_choosing n w r)
 row_asked p n w r = absurd r
 
 pub row_slot : (p : Position) (n w : Tree) → ChoiceRow p n w → (strict : Bool) (s : Slot) → fits strict s n ≡ true → is_body_slot p s ≡ true
 row_slot (Expr q) n w (inl r) = formed_slot (Expr q) n w (row_formed q n w r)
 row_slot (Expr q) n w (inr (inl r)) = formed_slot (Expr q) n n (chosen_formed n w (own_choosing n w r))
 row_slot (Expr q) n w (inr (inr (inl r))) = formed_slot (Expr q) n n (chosen_formed n w (held_choosing n w r))
-row_slot (Expr q) n w (inr (inr (inr r))) = chain_row_slot q n w r
+row_slot (Expr q) n w (inr (inr (inr (inl r)))) = chain_row_slot q n w r
+row_slot (Expr q) n w (inr (inr (inr (inr r)))) = formed_slot (Expr q) n n (chosen_formed n w (called_choosing n w r))
 row_slot p n w r = absurd r

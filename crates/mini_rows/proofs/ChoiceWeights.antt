@@ -26,7 +26,7 @@ use Rattle.mini_rows.proofs.SpellWeights.{falls_by}
 
 -- what a place adds to a node that is neither awkward nor mixed
 
-no_awkward : (e t f : Bool) → ◌≡◌ {A = ℕ} (if (e && false) || ((t && false) || (f && false)) then 1 else 0) 0
+pub no_awkward : (e t f : Bool) → ◌≡◌ {A = ℕ} (if (e && false) || ((t && false) || (f && false)) then 1 else 0) 0
 no_awkward true true true = refl
 no_awkward true true false = refl
 no_awkward true false true = refl
@@ -36,7 +36,7 @@ no_awkward false true false = refl
 no_awkward false false true = refl
 no_awkward false false false = refl
 
-pair_of : (b : Bool) → (if b then 4 else 0) ≤ 4
+pub pair_of : (b : Bool) → (if b then 4 else 0) ≤ 4
 pair_of true = omega arith
 pair_of false = omega arith
 
@@ -162,8 +162,8 @@ computing_falls o c h s x b = absurd (cc h)
 
 -- 45: a name and its `=` go
 
-loose_marks : (s : Seat) (os ps : List Outline) → nat_eq s.level conditional_level ≡ false → place_weight (Expr s) (shape.AssignmentExpression assigning.Assign) os ≤ place_weight (Expr s) shape.ConditionalExpression ps
-loose_marks s os ps e = let plain = no_awkward s.eq_left s.cond_test s.lifted in let less = parens (nat_lt 1 s.level) (nat_lt 2 s.level) refl refl in omega (arith, plain, less)
+loose_marks : (s : Seat) (o : AssignmentOperator) (os ps : List Outline) → nat_eq s.level conditional_level ≡ false → place_weight (Expr s) (shape.AssignmentExpression o) os ≤ place_weight (Expr s) shape.ConditionalExpression ps
+loose_marks s o os ps e = let plain = no_awkward s.eq_left s.cond_test s.lifted in let less = parens (nat_lt 1 s.level) (nat_lt 2 s.level) refl refl in omega (arith, plain, less)
   where
     parens : (b c : Bool) → nat_lt 1 s.level ≡ b → nat_lt 2 s.level ≡ c → (if b || (false || ((s.access && false) || (s.new_callee && false))) then 4 else 0) ≤ (if c || (false || ((s.access && false) || (s.new_callee && false))) then 4 else 0)
     parens true true f g = omega arith
@@ -173,9 +173,9 @@ loose_marks s os ps e = let plain = no_awkward s.eq_left s.cond_test s.lifted in
         let level : s.level ≡ 2 = omega (arith, ltb-true _ _ f, ltb-false _ _ g) in
         absurd (true≢false (sym (ap (λ l. nat_eq l 2) level) ∙ e))
 
-chosen_falls : (s : Seat) → nat_eq s.level conditional_level ≡ false → (a : Tree) (x : Name) (b c : Tree) → weight (Expr s) (assign x (conditional a b c)) < weight (Expr s) (conditional a (assign x b) (assign x c))
-chosen_falls s e a x b c =
-    let marks = loose_marks s (outlines (identifier x ▸ conditional a b c ▸ none)) (outlines (a ▸ assign x b ▸ assign x c ▸ none)) e in
+chosen_falls : (s : Seat) → nat_eq s.level conditional_level ≡ false → (o : AssignmentOperator) (a : Tree) (x : Name) (b c : Tree) → weight (Expr s) (assignment o (identifier x) (conditional a b c)) < weight (Expr s) (conditional a (assignment o (identifier x) b) (assignment o (identifier x) c))
+chosen_falls s e o a x b c =
+    let marks = loose_marks s o (outlines (identifier x ▸ conditional a b c ▸ none)) (outlines (a ▸ assignment o (identifier x) b ▸ assignment o (identifier x) c ▸ none)) e in
     let first = placed 0 (branch_seat argument_seat) argument_seat refl (λ h os. omega arith) b in
     let second = placed 0 (branch_seat argument_seat) argument_seat refl (λ h os. omega arith) c in
     omega (arith, marks, first, second, name_heavy x)
@@ -305,7 +305,7 @@ lighter s n w (inr (inr (inr (inr (inr (inr (inl r))))))) = falls_by (Expr s) n 
 lighter s n w (inr (inr (inr (inr (inr (inr (inr (inl r)))))))) = falls_by (Expr s) n w _ _ r.shape r.written (compared_after_falls s r.equal r.before r.name r.first r.second r.nullish)
 lighter s n w (inr (inr (inr (inr (inr (inr (inr (inr (inl r))))))))) = falls_by (Expr s) n w _ _ r.shape r.written (type_falls s r.there r.strict r.before r.name)
 lighter s n w (inr (inr (inr (inr (inr (inr (inr (inr (inr r))))))))) = falls_by (Expr s) n w _ _ r.shape r.written (null_type_falls s r.there r.strict r.before r.name)
-lighter s n w (inr (inr (inr (inr (inr (inl r)))))) = falls_by (Expr s) n w _ _ r.shape r.written (chosen_falls s r.seated r.a r.name r.b r.c)
+lighter s n w (inr (inr (inr (inr (inr (inl r)))))) = falls_by (Expr s) n w _ _ r.shape r.written (chosen_falls s r.seated r.operator r.a r.name r.b r.c)
 
 -- of none of these nodes a parent's weight reads more than that it is there
 lighter_outline : (s : Seat) (n w : Tree) → LighterRow s n w → outline n ≡ outline w
@@ -342,7 +342,8 @@ outline_by_row : (p : Position) (n w : Tree) → ChoiceRow p n w → outline n �
 outline_by_row (Expr s) n w (inl r) = lighter_outline s n w r
 outline_by_row (Expr s) n w (inr (inl r)) = own_outline n w r
 outline_by_row (Expr s) n w (inr (inr (inl r))) = held_outline n w r
-outline_by_row (Expr s) n w (inr (inr (inr r))) = chain_outline r.equal r.name r.missing (spine false (identifier r.name) r.last r.others) (spine true (identifier r.name) r.last r.others) n w r.shape r.written
+outline_by_row (Expr s) n w (inr (inr (inr (inr r)))) = ap outline r.shape ∙ sym (ap outline r.written)
+outline_by_row (Expr s) n w (inr (inr (inr (inl r)))) = chain_outline r.equal r.name r.missing (spine false (identifier r.name) r.last r.others) (spine true (identifier r.name) r.last r.others) n w r.shape r.written
 outline_by_row p n w r = absurd r
 
 pub lightens : Lightens ChoiceContracts

@@ -82,8 +82,11 @@ pub mod ChainCalm
 pub mod ChainRuns
 mod ChainHoles
 pub mod ChainLawful
-pub mod ChoiceMeaning
+mod ChoiceItems
+mod ChoiceFree
 pub mod ChoiceWeights
+pub mod ChoiceCalls
+pub mod ChoiceMeaning
 pub mod ChoiceShapes
 mod ChoiceSpines
 pub mod ChoiceLawful

@@ -1,6 +1,6 @@
 -- Rows of conditionals, logical expressions and assignments that are written shorter of the same parts, as equations: each is a
 -- shape and what is written in its place. No order of rewriting is meant.
-use Rattle.std.specs.Prelude.{◌≡◌, ◌<◌, ◌⊎◌, Bool, true, false, not, nat_eq, Option, Some, None, is_none, codes}
+use Rattle.std.specs.Prelude.{◌≡◌, ◌<◌, ◌⊎◌, ◌||◌, ◌&&◌, Bool, true, false, not, nat_eq, Option, Some, None, is_none, codes}
 use Rattle.mini_model.specs.declared.name.Name.{Name}
 use Rattle.mini_model.specs.declared.operator.AssignmentOperator.{AssignmentOperator}
 use Rattle.mini_model.specs.declared.operator.AssignmentOperator.TheVariants as assigning
@@ -11,11 +11,13 @@ use Rattle.mini_model.specs.declared.operator.LogicalOperator.TheVariants.{Or, A
 use Rattle.mini_model.specs.declared.operator.UnaryOperator.TheVariants.{Typeof}
 use Rattle.mini_model.specs.declared.seat.Seat.{Seat}
 use Rattle.mini_model.specs.declared.shape.Shape.TheVariants as shape
-use Rattle.mini_model.specs.Tree.{Tree, Trees, node, none, ◌▸◌, identifier, unary, negation, logical, conditional, null_literal}
+use Rattle.mini_model.specs.Tree.{Tree, Trees, node, none, ◌▸◌, identifier, unary, negation, logical, conditional, null_literal, call}
 use Rattle.mini_model.specs.declared.place.Position.{Position}
 use Rattle.mini_model.specs.declared.place.Position.TheVariants.{Expr}
 use Rattle.mini_model.specs.Position.{conditional_level}
 use Rattle.mini_model.specs.Weight.{weight}
+use Rattle.mini_terms.specs.Folds.{is_effect_free}
+use Rattle.mini_terms.specs.Reading.{is_item}
 use Rattle.mini_rows.specs.Lists.{sequence}
 use Rattle.mini_rows.specs.Spellings.{IsUndefined, binary, text, assignment}
 use Rattle.mini_rows.specs.Chains.{Row46Chain}
@@ -139,17 +141,27 @@ pub record Row35 (n w : Tree) : Type 0 where
   pub shape : n ≡ assign name (binary operator (identifier name) b)
   pub written : w ≡ assignment combined (identifier name) b
 
--- 45: `a ? x = b : x = c` becomes `x = a ? b : c`, where a scope declares x. In a seat of the level of a conditional an assignment
--- would stand in parentheses; a program has none
+-- whether a choice may come after the name is resolved, and, where the operator computes, read: told whether a scope declares the name, and
+-- whether the test has no effect
+abbrev pub may_choose : AssignmentOperator → Bool → Bool → Bool
+may_choose assigning.Assign declared free = declared || free
+may_choose assigning.LogicalOr declared free = false
+may_choose assigning.LogicalAnd declared free = false
+may_choose assigning.LogicalNullish declared free = false
+may_choose o declared free = declared && free
+
+-- 45: `a ? x = b : x = c` becomes `x = a ? b : c`, where a scope declares x, or a has no effect; and so of `+=` and the other operators of
+-- numbers, where both hold. In a seat of the level of a conditional an assignment would stand in parentheses; a program has none
 pub record Row45 (s : Seat) (n w : Tree) : Type 0 where
+  pub operator : AssignmentOperator
   pub a : Tree
   pub name : Name
   pub b : Tree
   pub c : Tree
-  pub declared : is_none name.symbol ≡ false
+  pub chosen : may_choose operator (not (is_none name.symbol)) (is_effect_free a) ≡ true
   pub seated : nat_eq s.level conditional_level ≡ false
-  pub shape : n ≡ conditional a (assign name b) (assign name c)
-  pub written : w ≡ assign name (conditional a b c)
+  pub shape : n ≡ conditional a (assignment operator (identifier name) b) (assignment operator (identifier name) c)
+  pub written : w ≡ assignment operator (identifier name) (conditional a b c)
 
 -- 46: `x == null ? b : x` becomes `x ?? b`, where a scope declares x, and so does `x != null ? x : b`
 pub record Row46Equal (n w : Tree) : Type 0 where
@@ -279,6 +291,23 @@ pub record Row49 (n w : Tree) : Type 0 where
   pub shape : n ≡ conditional a b b
   pub written : w ≡ pair a b
 
+-- Where the test has no effect, what both branches read before their own parts may be read before it
+
+-- 44: `a ? f(p, r) : f(q, r)` becomes `f(a ? p : q, r)`, where a scope declares f, which is a name, and a has no effect; r may be of any
+-- number of arguments, and p and q are expressions
+pub record Row44 (n w : Tree) : Type 0 where
+  pub a : Tree
+  pub name : Name
+  pub p : Tree
+  pub q : Tree
+  pub others : Trees
+  pub declared : is_none name.symbol ≡ false
+  pub effect_free : is_effect_free a ≡ true
+  pub first : is_item p ≡ true
+  pub second : is_item q ≡ true
+  pub shape : n ≡ conditional a (call false (identifier name) (p ▸ others)) (call false (identifier name) (q ▸ others))
+  pub written : w ≡ call false (identifier name) (conditional a p q ▸ others)
+
 -- rows of what is lighter in every seat
 abbrev pub LighterRow : Seat → Tree → Tree → Type 0
 LighterRow s n w = Row39 n w ⊎ (Row38 n w ⊎ (Row35 n w ⊎ (Row46Equal n w ⊎ (Row46Unequal n w ⊎ (Row45 s n w ⊎ (Row37 n w ⊎ (Row37After n w ⊎ (Row57 n w ⊎ Row57Null n w))))))))
@@ -293,7 +322,7 @@ HeldRow n w = Row42And n w ⊎ (Row42Or n w ⊎ (Row43Or n w ⊎ (Row43And n w �
 
 -- a row of choices reads n as w at this place
 abbrev pub ChoiceRow : Position → Tree → Tree → Type 0
-ChoiceRow (Expr s) n w = LighterRow s n w ⊎ (OwnRow n w ⊎ (HeldRow n w ⊎ Row46Chain s n w))
+ChoiceRow (Expr s) n w = LighterRow s n w ⊎ (OwnRow n w ⊎ (HeldRow n w ⊎ (Row46Chain s n w ⊎ Row44 n w)))
 ChoiceRow _ n w = ⊥
 
 -- what it writes, where it weighs less
@@ -304,3 +333,6 @@ pub record ChoiceContracts (p : Position) (n w : Tree) : Type 0 where
 -- which is everywhere, for some
 abbrev pub ChoicesLighter : Type 0
 ChoicesLighter = (s : Seat) (n w : Tree) → LighterRow s n w → weight (Expr s) w < weight (Expr s) n
+
+abbrev pub CallsLighter : Type 0
+CallsLighter = (s : Seat) (n w : Tree) → Row44 n w → weight (Expr s) w < weight (Expr s) n

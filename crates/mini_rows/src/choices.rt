@@ -3,7 +3,7 @@
 ghost use Rattle.mini_kept.specs.Lawful.{Lawful};
 ghost use Rattle.mini_laws.specs.Rewritten.{MeansSame};
 ghost use Rattle.mini_laws.specs.Weights.{Lightens};
-ghost use Rattle.mini_rows.specs.Choices.{ChoiceContracts, ChoicesLighter};
+ghost use Rattle.mini_rows.specs.Choices.{ChoiceContracts, ChoicesLighter, CallsLighter};
 
 /// What a row of choices writes means the same wherever the expression stands, and a parent reads it alike.
 pub fn choices_mean_the_same()
@@ -14,6 +14,7 @@ pub fn choices_mean_the_same()
 /// in two places, which may get parentheses; and a step by a row where it is lighter makes the whole lighter.
 pub fn choices_are_lighter()
     ensures row { ChoicesLighter }
+    ensures called { CallsLighter }
     ensures step { Lightens ChoiceContracts }
 {}
 

@@ -1,34 +1,62 @@
-//! Rows 41, 45 and 46: `x ? x : b` becomes `x || b`, and `x ? b : x` becomes `x && b`, where that is lighter in the seat;
-//! `a ? x = b : x = c` becomes `x = a ? b : c`, and `x == null ? b : x` becomes `x ?? b`, where a scope declares x, which is
-//! lighter in every seat.
+//! Rows 41, 44, 45 and 46: `x ? x : b` becomes `x || b`, and `x ? b : x` becomes `x && b`, where that is lighter in the seat;
+//! `a ? x = b : x = c` becomes `x = a ? b : c`, where a scope declares x or a has no effect, and so of `+=` where both hold,
+//! `x == null ? b : x` becomes `x ?? b`,
+//! where a scope declares x, and `a ? f(p, r) : f(q, r)` becomes `f(a ? p : q, r)`, where a scope declares f and a has no effect,
+//! which is lighter in every seat.
 
 ghost use Rattle.std.specs.Prelude.{◌≡◌, true, is_some, unwrap_or, OnOk, IfOk};
 ghost use Rattle.mini_model.specs.Tree.{children, count, logical as logical_of};
 ghost use Rattle.mini_node.specs.Children.{part};
-ghost use Rattle.mini_node.specs.Kinds.{binary_operator as its_operator};
-ghost use Rattle.mini_choices.specs.MinimizeConditionalBranches.{assigns_either as it_assigns_either, is_seated as is_it_seated, assigned as assigned_of, is_equal_in, is_unequal_in, is_beside_null as is_it_beside_null, is_own_if_equal as is_it_own_if_equal, is_own_if_unequal as is_it_own_if_unequal, is_own_consequent as is_it_own_consequent, is_own_alternate as is_it_own_alternate, written};
+ghost use Rattle.mini_node.specs.Kinds.{assignment_operator as operator_of, binary_operator as its_operator};
+ghost use Rattle.mini_rows.specs.Choices.{may_choose as may_it_choose};
+ghost use Rattle.mini_choices.specs.MinimizeConditionalBranches.{assigns_alike as they_assign_alike, assigns_either as it_assigns_either, is_seated as is_it_seated, assigned as assigned_of, is_equal_in, is_unequal_in, is_beside_null as is_it_beside_null, is_own_if_equal as is_it_own_if_equal, is_own_if_unequal as is_it_own_if_unequal, is_own_consequent as is_it_own_consequent, is_own_alternate as is_it_own_alternate, written};
 
-use crate::assigning::{assigns_name, is_declared, is_same_name};
+use crate::assigning::{assigns_by, is_declared, is_same_name};
+use crate::calling::{called, calls_either};
 use mini_model::{AssignmentOperator, BinaryOperator, LogicalOperator, OutOfMemory, Seat};
 use mini_node::{
-    Node, assignment, binary_operator, conditional, discard, is_conditional, is_null, logical,
-    taken, three, two,
+    Node, assignment, assignment_operator, binary_operator, conditional, discard, is_conditional,
+    is_null, logical, taken, three, two,
 };
+use mini_terms::has_no_effect;
 use mini_tree::{expr_weight, logical_weight};
 use std::alloc::Global;
 
 // The level of a conditional.
 const CONDITIONAL_LEVEL: u8 = 2;
 
-// `a ? x = b : x = c`
+// Whether a choice may come after the name is resolved, and, where the operator computes, read.
+fn may_choose(operator: AssignmentOperator, declared: bool, free: bool) -> bool
+    ensures { result ≡ may_it_choose operator declared free }
+{
+    match operator {
+        AssignmentOperator::Assign => declared || free,
+        AssignmentOperator::LogicalOr => false,
+        AssignmentOperator::LogicalAnd => false,
+        AssignmentOperator::LogicalNullish => false,
+        _ => declared && free,
+    }
+}
+
+// Whether both are assignments to one name by one operator, between which the test may choose after the name is read.
+fn assigns_alike(test: &Node, first: &Node, second: &Node) -> bool
+    ensures { result ≡ they_assign_alike (operator_of first.now) test.now first.now second.now }
+{
+    match assignment_operator(first) {
+        Some(operator) => {
+            assigns_by(operator, second)
+                && is_same_name(first.child(0), second.child(0))
+                && may_choose(operator, is_declared(first.child(0)), has_no_effect(test))
+        }
+        None => false,
+    }
+}
+
+// `a ? x = b : x = c`, or `a ? x += b : x += c`
 fn assigns_either(node: &Node) -> bool
     ensures { result ≡ it_assigns_either node.now }
 {
-    is_conditional(node)
-        && assigns_name(node.child(1))
-        && assigns_name(node.child(2))
-        && is_same_name(node.child(1).child(0), node.child(2).child(0))
-        && is_declared(node.child(1).child(0))
+    is_conditional(node) && assigns_alike(node.child(0), node.child(1), node.child(2))
 }
 
 // Whether an assignment stands there as a conditional does.
@@ -38,16 +66,17 @@ fn is_seated(seat: Seat) -> bool
     seat.level != CONDITIONAL_LEVEL
 }
 
-// `x = a ? b : c`
+// `x = a ? b : c`, or `x += a ? b : c`
 fn assigned(alloc: Global, node: Node) -> Result<Node, OutOfMemory>
     ensures { IfOk result (λ w. w ≡ assigned_of node) }
 {
     let (test, consequent, alternate) = three(node);
+    let operator = assignment_operator(&consequent).unwrap_or(AssignmentOperator::Assign);
     let (target, first) = two(consequent);
     let (other, second) = two(alternate);
     discard(other);
     let value = conditional(alloc, test, first, second)?;
-    assignment(alloc, AssignmentOperator::Assign, target, value)
+    assignment(alloc, operator, target, value)
 }
 
 // `a == b`
@@ -152,9 +181,9 @@ fn and_consequent(alloc: Global, node: Node) -> Result<Node, OutOfMemory>
     logical(alloc, LogicalOperator::And, test, consequent)
 }
 
-/// `x ? x : b` becomes `x || b`, `x ? b : x` becomes `x && b`, `a ? x = b : x = c` becomes `x = a ? b : c`, and
-/// `x == null ? b : x` becomes `x ?? b`. The answer says whether it did; the only error is that memory runs out, and then the
-/// expression is fit only to be dropped.
+/// `x ? x : b` becomes `x || b`, `x ? b : x` becomes `x && b`, `a ? x = b : x = c` becomes `x = a ? b : c`, and so of `+=`,
+/// `x == null ? b : x` becomes `x ?? b`, and `a ? f(p, r) : f(q, r)` becomes `f(a ? p : q, r)`. The answer says whether it did; the
+/// only error is that memory runs out, and then the expression is fit only to be dropped.
 pub fn minimize_conditional_branches(
     alloc: Global,
     node: &mut Node,
@@ -173,6 +202,8 @@ pub fn minimize_conditional_branches(
         and_consequent(alloc, taken(alloc, node))?
     } else if is_seated(seat) && assigns_either(node) {
         assigned(alloc, taken(alloc, node))?
+    } else if calls_either(node) {
+        called(alloc, taken(alloc, node))?
     } else {
         return Ok(false);
     };
