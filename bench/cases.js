@@ -429,6 +429,10 @@ for (const line of fs.readFileSync(path.join(__dirname, "rows.txt"), "utf8").spl
 
 becomes("branches that change places", "if (a, !b) c(); else d();", "a, b ? d() : c();", { passes: 3 });
 
+// ---- two calls that differ in their first argument
+
+becomes("what is chosen is read by another rewrite", "function F(a, f) { return a == null ? f(2) : f(a); }", "function F(a, f) { return f(a ?? 2); }", { kept: 2, symbols: 3, passes: 3 });
+
 // ---- names that nothing mentions go, and their symbols
 
 becomes("a let of a block", "{ let x = a(); b(); }", "a(), b();", { symbols: [] });
