@@ -13,8 +13,10 @@ pub use rewrites::substitute_boolean::substitute_boolean;
 pub use rewrites::substitute_loose_equals_undefined::substitute_loose_equals_undefined;
 pub use rewrites::substitute_object_property::{SubstituteKeys, substitute_object_property};
 pub use rewrites::substitute_property_key::{
-    ClassPropertyKeyParent, ClassPropertyKeyParentType, SubstitutePropertyKeys, substitute_key,
-    substitute_property_key,
+    ClassPropertyKeyParent, ClassPropertyKeyParentType, SubstitutePropertyKeys,
+    substitute_held_key as substitute_assignment_target_property_property,
+    substitute_held_key as substitute_method_definition,
+    substitute_held_key as substitute_property_definition, substitute_key, substitute_property_key,
 };
 pub use rewrites::substitute_return_statement::{SubstituteReturns, substitute_return_statement};
 pub use rewrites::substitute_spellings::SubstituteSpellings;

@@ -230,8 +230,11 @@ fn unbracket(alloc: Global, node: &mut Node) -> Result<bool, OutOfMemory>
     Ok(true)
 }
 
-// What has a key: it loses its brackets, or is respelled.
-fn substitute_held_key(alloc: Global, node: &mut Node) -> Result<bool, OutOfMemory>
+/// Of a property of a pattern that is assigned to (`[{ ["x"]: a } = b]`), a method or a field of a class a key in brackets loses them where it
+/// is a text or a whole number from 0, but where `should_keep_as_computed_property`; another key that is a text becomes the name or the
+/// number that it writes. The answer says whether anything changed; the only error is that memory runs out. It is handed on as
+/// `substitute_assignment_target_property_property`, `substitute_method_definition` and `substitute_property_definition`.
+pub fn substitute_held_key(alloc: Global, node: &mut Node) -> Result<bool, OutOfMemory>
     ensures tree { OnOk result (node.new ≡ row.held_written node.old) }
     ensures said { IfOk result (λ changed. changed ≡ row.is_held_written node.old) }
 {
