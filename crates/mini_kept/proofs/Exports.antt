@@ -101,7 +101,7 @@ module _ (R : Position → Tree → Tree → Type 0) (l : KeepsNames R) (shapes 
   head_kept b k (t ▸ none) (u ▸ (v ▸ us)) c a f e = absurd (omega (arith, c))
 
   initializer_stays : (d e : Tree) → AlikeBut R Elsewhere d e → is_absent (child_or_absent (children d) 1) ≡ true → is_absent (child_or_absent (children e) 1) ≡ true
-  initializer_stays d e a x = absent_stays (a.parts 0) x
+  initializer_stays d e a x = absent_stays a.second x
 
   items_alike : (t u : Tree) → shape_of t ≡ shape.Listed → Alike R CommaList t u → (i : ℕ) → AlikeBut R Elsewhere (child_or_absent (children t) i) (child_or_absent (children u) i)
   items_alike t u s a i = still_but R l refl (subst (λ q. Moved R q (child_or_absent (children t) i) (child_or_absent (children u) i)) (item_elsewhere CommaList (shape_of t) (count (children t)) i s) (a.parts i))
@@ -118,7 +118,7 @@ module _ (R : Position → Tree → Tree → Type 0) (l : KeepsNames R) (shapes 
 
   local_kept : (t u : Tree) → shape_of t ≡ shape.ExportSpecifier → AlikeBut R Elsewhere t u → is_reference (child_or_absent (children u) 1) ≡ is_reference (child_or_absent (children t) 1)
   local_kept t u s a =
-      let m = subst (λ h. Moved R (child_position h Elsewhere (count (children t)) 1) (child_or_absent (children t) 1) (child_or_absent (children u) 1)) s (a.parts 0) in
+      let m = subst (λ h. Moved R (child_position h Elsewhere (count (children t)) 1) (child_or_absent (children t) 1) (child_or_absent (children u) 1)) s a.second in
       sym (same_by is_reference_shape reference_plain _ _ (still R l refl m).shape)
 
   locals_kept : (own : Bool) (ts us : Trees) → count ts ≡ count us → AreSpecifiers ts → ((i : ℕ) → AlikeBut R Elsewhere (child_or_absent ts i) (child_or_absent us i)) → are_locals own us ≡ are_locals own ts

@@ -18,13 +18,14 @@ use Rattle.mini_kept.specs.SameNames.{is_among, SameNames}
 use Rattle.mini_kept.proofs.Statements.{same_both}
 use Rattle.mini_kept.proofs.Below.{all_bound, first_bound}
 use Rattle.mini_kept.specs.Standing.{is_method_slot}
-use Rattle.mini_kept.specs.Frames.{Showing, Whole, Named, Hidden, showing, part, parts, keyed, is_declaration, declaration, shown, shown_from, own, is_port, ports, outline, globals, property_below, frame_of, frames, frames_from, frames_in, FramesKept}
-use Rattle.mini_kept.specs.KeepsFrames.{is_body_slot, IsShownAlike, KeepsFrames, KeepsPlaces, KeepsFramesBut}
-use Rattle.mini_kept.specs.ShownFrames.{KeyGiven, Shows, AllShow, no_key, Gone, none_gone, FramesShown}
+use Rattle.mini_kept.specs.Frames.{Showing, Whole, Named, Hidden, showing, part, parts, keyed, is_declaration, declaration, shown, shown_from, own, is_port, ports, outline, globals, property_below, Frame, frame_of, frames, frames_from, frames_in, FramesKept}
+use Rattle.mini_kept.specs.KeepsFrames.{is_body_slot, IsShownAlike, NoPort, NoDeclaration, function_over, KeepsFunction, KeepsFrames, KeepsPlaces, KeepsFramesBut}
+use Rattle.mini_kept.specs.ShownFrames.{KeyGiven, Shows, AllShow, Gone, none_gone, FramesShown}
 use Rattle.mini_kept.specs.KeepsBodies.{KeepsBodies}
 use Rattle.mini_kept.specs.FrameLaws.{StepKeepsFrames, ReachesKeepsFrames}
 use Rattle.mini_kept.proofs.Bools.{left, right}
 use Rattle.mini_kept.proofs.Expressions.{refused_here}
+use Rattle.mini_kept.proofs.FrameLists.{each_of}
 use Rattle.mini_kept.proofs.Stepping.{no_steps, step_keeps, steps_keep}
 use Rattle.mini_kept.proofs.BodySteps.{one_of, step_keeps_bodies, whole_stands}
 use Rattle.mini_laws.specs.Value.{nothing}
@@ -167,46 +168,95 @@ after_port : (G : ℕ → List ℕ → Type 0) (m : Bool) (t : Tree) (b : Bool) 
 after_port G m t true xs ys k = (shows_itself G (own t), k)
 after_port G m t false xs ys k = k
 
+-- ---- a function with another body
+
+same_declared : (d g : Bool) (ds : List (List ℕ)) (n : ℕ) (name parameters a b : Tree) → declaration (function_over d g ds n name parameters a) ≡ declaration (function_over d g ds n name parameters b)
+unfolding body_names names_of
+same_declared true g ds n name parameters a b = refl
+same_declared false g ds n name parameters a b = refl
+
+module _ (t u : Tree) (k : KeepsFunction t u) where
+  abbrev over : Tree → Tree
+  over = function_over k.is_declared k.is_generator k.directives (suc k.number) k.name k.parameters
+
+  function_part : part t ≡ part u
+  function_part = ap part k.before ∙ sym (ap part k.after)
+
+  function_declared : declaration t ≡ declaration u
+  function_declared = ap declaration k.before ∙ same_declared k.is_declared k.is_generator k.directives (suc k.number) k.name k.parameters k.earlier k.later ∙ sym (ap declaration k.after)
+
+  function_ports : (m : Bool) (ts : Trees) → ports m (t ▸ ts) ≡ ports m (u ▸ ts)
+  function_ports m ts = ap (λ v. ports m (v ▸ ts)) k.before ∙ sym (ap (λ v. ports m (v ▸ ts)) k.after)
+
+  no_list_here : (strict : Bool) (d : Depth) → fits strict (many (a_statement d)) t ≡ true → ⊥
+  no_list_here strict d e =
+      refused_here strict (many (a_statement d)) (shape.Function k.is_declared k.is_generator k.directives) [] (suc k.number) (k.name ▸ (k.parameters ▸ (k.earlier ▸ none))) refl (sym (ap (fits strict (many (a_statement d))) k.before) ∙ e)
+
+  -- those in its name, its parameters and its body
+  abbrev within : Tree → List Frame
+  within body = frames None k.name ++ (frames None k.parameters ++ (frames None body ++ []))
+
+  within_kept : FramesKept (within k.earlier) (within k.later)
+  within_kept =
+      each_of (frames None k.name) (frames None k.parameters ++ (frames None k.earlier ++ [])) (frames None k.name) (frames None k.parameters ++ (frames None k.later ++ [])) (λ f c. c)
+      (each_of (frames None k.parameters) (frames None k.earlier ++ []) (frames None k.parameters) (frames None k.later ++ []) (λ f c. c) (each_of (frames None k.earlier) [] (frames None k.later) [] k.framed (λ f c. c)))
+
+  -- whichever property it is the value of
+  function_frames : (q : Option PropertyKind) → FramesKept (frames q t) (frames q u)
+  function_frames q =
+      let own_frame = record { number = suc k.number; property = q; outline = own (over k.earlier); globals = is_among [] } ∷ [] in
+      subst (λ v. FramesKept (frames q v) (frames q u)) (sym k.before) (subst (λ v. FramesKept (frames q (over k.earlier)) (frames q v)) (sym k.after) (each_of own_frame (within k.earlier) own_frame (within k.later) (λ f c. c) within_kept))
+
 module _ (M : Gone) (R : Position → Tree → Tree → Type 0) (l : KeepsPlaces R) (framed : (p : Position) (n w : Tree) → R p n w → (strict : Bool) (s : Slot) → fits_place p s ≡ true → fits strict s n ≡ true → (a : Around) → FramesShown M (KeyGiven nothing (bodies a n)) (frames None n) (frames None w)) where
   -- ---- the node that is replaced
 
   abbrev Standing : Position → Slot → Tree → Tree → Type 0
-  Standing p s t u = (is_body_slot p s ≡ true) ⊎ IsShownAlike s t u
+  Standing p s t u = ((is_body_slot p s ≡ true) ⊎ IsShownAlike s t u) ⊎ KeepsFunction t u
 
   part_here : (p : Position) (s : Slot) (t u : Tree) → is_part_slot s ≡ true → Standing p s t u → (a : Around) → Shows (In a t) (part t) (part u)
-  part_here p s t u q (inl b) a = absurd (slot_apart p s q b)
-  part_here p s t u q (inr k) a = k.1 a
+  part_here p s t u q (inl (inl b)) a = absurd (slot_apart p s q b)
+  part_here p s t u q (inl (inr k)) a = k.1 a
+  part_here p s t u q (inr k) a = shows_same (In a t) (part t) (part u) (function_part t u k)
 
-  no_export : (p : Position) (t u : Tree) → Standing p (one_or_absent an_exported_declaration) t u → ⊥
-  no_export p t u (inl b) = cc b
-  no_export p t u (inr k) = cc k.0
+  exported_here : (p : Position) (t u : Tree) → Standing p (one_or_absent an_exported_declaration) t u → declaration t ≡ declaration u
+  exported_here p t u (inl (inl b)) = absurd (cc b)
+  exported_here p t u (inl (inr k)) = absurd (cc k.0)
+  exported_here p t u (inr k) = function_declared t u k
 
-  is_body : (p : Position) (d : Depth) (t u : Tree) → Standing p (many (a_statement d)) t u → is_body_slot p (many (a_statement d)) ≡ true
-  is_body p d t u (inl b) = b
-  is_body p d t u (inr k) = absurd (cc k.0)
+  default_here : (t u : Tree) → NoDeclaration t u ⊎ KeepsFunction t u → declaration t ≡ declaration u
+  default_here t u (inl (x, y)) = undeclared t x ∙ sym (undeclared u y)
+  default_here t u (inr k) = function_declared t u k
 
-  no_method_here : (p : Position) (s : Slot) (t u : Tree) → Standing p s t u → is_method_slot s ≡ false
-  no_method_here p s t u (inl b) = no_method p s b
-  no_method_here p s t u (inr k) = no_keyed_method s k.0
+  port_here : (m : Bool) (t u : Tree) (ts : Trees) → NoPort m t u ⊎ KeepsFunction t u → ports m (t ▸ ts) ≡ ports m (u ▸ ts)
+  port_here m t u ts (inl (x, y)) = no_port m t ts x ∙ sym (no_port m u ts y)
+  port_here m t u ts (inr k) = function_ports t u k m ts
+
+  is_body : (p : Position) (strict : Bool) (d : Depth) (t u : Tree) → fits strict (many (a_statement d)) t ≡ true → Standing p (many (a_statement d)) t u → is_body_slot p (many (a_statement d)) ≡ true
+  is_body p strict d t u e (inl (inl b)) = b
+  is_body p strict d t u e (inl (inr k)) = absurd (cc k.0)
+  is_body p strict d t u e (inr k) = absurd (no_list_here t u k strict d e)
+
+  frames_here : (p : Position) (s : Slot) (t u : Tree) → Standing p s t u → (a : Around) → FramesShown M (In a t) (frames None t) (frames None u) → (k : Option PropertyKind) → (is_method_slot s ≡ false → k ≡ None) → FramesShown M (In a t) (frames k t) (frames k u)
+  frames_here p s t u (inl (inl b)) a f k z = subst (λ k. FramesShown M (In a t) (frames k t) (frames k u)) (sym (z (no_method p s b))) f
+  frames_here p s t u (inl (inr b)) a f k z = subst (λ k. FramesShown M (In a t) (frames k t) (frames k u)) (sym (z (no_keyed_method s b.0))) f
+  frames_here p s t u (inr b) a f k z = kept_shown M (In a t) (frames k t) (frames k u) (function_frames t u b k)
 
   declared_here : (p : Position) (t u : Tree) → R p t u → (strict : Bool) (s : Slot) → fits_place p s ≡ true → fits strict s t ≡ true → is_declared_slot s ≡ true → declaration t ≡ declaration u
-  declared_here p t u r strict (one a_default_export) v e q =
-      let (x, y) = l.exported p t u r strict e in
-      undeclared t x ∙ sym (undeclared u y)
-  declared_here p t u r strict (one_or_absent an_exported_declaration) v e q = absurd (no_export p t u (l.slots p t u r strict (one_or_absent an_exported_declaration) v e))
+  declared_here p t u r strict (one a_default_export) v e q = default_here t u (l.exported p t u r strict e)
+  declared_here p t u r strict (one_or_absent an_exported_declaration) v e q = exported_here p t u (l.slots p t u r strict (one_or_absent an_exported_declaration) v e)
   declared_here p t u r strict s v e q = absurd (cc q)
 
   statements_here : (p : Position) (t u : Tree) → R p t u → (strict : Bool) (d : Depth) → fits_place p (many (a_statement d)) ≡ true → fits strict (many (a_statement d)) t ≡ true → (m : Bool) → ports m (children t) ≡ ports m (children u)
-  statements_here p t u r strict d v e m = l.listed p t u (statements_place p d (is_body p d t u (l.slots p t u r strict (many (a_statement d)) v e))) r strict d e m
+  statements_here p t u r strict d v e m = l.listed p t u (statements_place p d (is_body p strict d t u e (l.slots p t u r strict (many (a_statement d)) v e))) r strict d e m
 
   here_kept : (p : Position) (t u : Tree) → R p t u → Keeps M p t u
   here_kept p t u r = record {
     of_part = λ a strict s v e q. part_here p s t u q (l.slots p t u r strict s v e) a;
     of_declared = declared_here p t u r;
-    of_port = λ a strict d e m ts. let (x, y) = l.ports p t u r strict d e m in all_same (In a t) (ports m (t ▸ ts)) (ports m (u ▸ ts)) (no_port m t ts x ∙ sym (no_port m u ts y));
+    of_port = λ a strict d e m ts. all_same (In a t) (ports m (t ▸ ts)) (ports m (u ▸ ts)) (port_here m t u ts (l.ports p t u r strict d e m));
     of_statements = λ a strict d v e m. all_same (In a t) (ports m (children t)) (ports m (children u)) (statements_here p t u r strict d v e m);
     of_hoisted = λ strict s v e. (l.names.keeps p t u r strict s v e).hoisted;
-    of_frames = λ a strict s v e k z. subst (λ k. FramesShown M (In a t) (frames k t) (frames k u)) (sym (z (no_method_here p s t u (l.slots p t u r strict s v e)))) (framed p t u r strict s v e a);
+    of_frames = λ a strict s v e k z. frames_here p s t u (l.slots p t u r strict s v e) a (framed p t u r strict s v e a) k z;
   }
 
   -- ---- a step in one of some children
@@ -371,7 +421,7 @@ kept_are_shown n w k a = kept_shown none_gone (KeyGiven nothing (bodies a n)) (f
 
 -- without frames
 pub places_of : (R : Position → Tree → Tree → Type 0) → KeepsFrames R → KeepsPlaces R
-places_of R l = record { names = l.names; slots = l.slots; ports = l.ports; listed = l.listed; exported = l.exported }
+places_of R l = record { names = l.names; slots = λ p n w r strict s v e. inl (l.slots p n w r strict s v e); ports = λ p n w r strict d e m. inl (l.ports p n w r strict d e m); listed = l.listed; exported = λ p n w r strict e. inl (l.exported p n w r strict e) }
 
 pub step_frames_but : (M : Gone) (R : Position → Tree → Tree → Type 0) → KeepsFramesBut M R → (t u : Tree) → Step R Elsewhere t u → IsWellShaped t → FramesShown M (KeyGiven nothing (bodies_in t)) (frames_in t) (frames_in u)
 step_frames_but M R l t u st e = (step_kept M R l.places l.frames st).of_frames outermost false (one a_program) refl e None (λ z. refl)

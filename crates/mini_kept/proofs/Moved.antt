@@ -33,10 +33,10 @@ pub record Alike (R : Position → Tree → Tree → Type 0) (p : Position) (t u
   pub root : SameRoot t u
   pub parts : (i : ℕ) → Moved R (child_position (shape_of t) p (count (children t)) i) (part t i) (part u i)
 
--- or of which all moved but the first, which may be another
+-- or of which the second moved: the first and the third may be others
 pub record AlikeBut (R : Position → Tree → Tree → Type 0) (p : Position) (t u : Tree) : Type 0 where
   pub root : SameRoot t u
-  pub parts : (i : ℕ) → Moved R (child_position (shape_of t) p (count (children t)) (suc i)) (part t (suc i)) (part u (suc i))
+  pub second : Moved R (child_position (shape_of t) p (count (children t)) 1) (part t 1) (part u 1)
 
 names_are : (t : Tree) → names_of t ≡ own_names t
 names_are (node h xs n ts) = refl
@@ -87,10 +87,10 @@ module _ (R : Position → Tree → Tree → Type 0) where
     where
       replaced : (is_rewritten_place p ≡ true) ⊎ KeepsRoot p t u → AlikeBut R p t u
       replaced (inl q) = absurd (cc (sym e ∙ q))
-      replaced (inr k) = record { root = kept_root k; parts = λ i. inl (k.others i) }
+      replaced (inr k) = record { root = kept_root k; second = inl k.second }
 
       so : Alike R p t u ⊎ R p t u → AlikeBut R p t u
-      so (inl a) = record { root = a.root; parts = λ i. a.parts (suc i) }
+      so (inl a) = record { root = a.root; second = a.parts 1 }
       so (inr r) = replaced (l.places p t u r)
 
   pub still : KeepsNames R → {p : Position} {t u : Tree} → is_rewritten_place p ≡ false → Moved R p t u → SameRoot t u

@@ -1,7 +1,7 @@
 -- What a relation of rewriting has to keep of the nodes that it replaces, for a program to keep it.
-use Rattle.std.specs.Prelude.{ℕ, suc, ◌≡◌, ◌⊎◌, ◌≤◌, Bool, true, false, []}
+use Rattle.std.specs.Prelude.{ℕ, ◌≡◌, ◌⊎◌, ◌≤◌, Bool, true, false, []}
 use Rattle.mini_model.specs.declared.place.Position.{Position}
-use Rattle.mini_model.specs.declared.place.Position.TheVariants.{Elsewhere}
+use Rattle.mini_model.specs.declared.place.Position.TheVariants.{Elsewhere, Method}
 use Rattle.mini_model.specs.declared.shape.Shape.{Shape}
 use Rattle.mini_model.specs.declared.shape.Shape.TheVariants as shape
 use Rattle.mini_model.specs.Tree.{Tree, count, children, shape_of, child_or_absent}
@@ -24,15 +24,21 @@ abbrev pub is_piece : Shape → Bool
 is_piece (shape.TemplateElement tail raw c) = true
 is_piece h = false
 
--- elsewhere, as the property of a pattern does: the node over the same children, but for the first, which is its key and may lose its
--- brackets
+-- where a node may be replaced that keeps its root: elsewhere, as the property of a pattern, or as the value of a method
+abbrev pub is_rooted_place : Position → Bool
+is_rooted_place Elsewhere = true
+is_rooted_place Method = true
+is_rooted_place p = false
+
+-- the node over as many children, of which the second is the same: the first is its key, which may lose its brackets, and the third
+-- of a function is its body
 pub record KeepsRoot (p : Position) (n w : Tree) : Type 0 where
-  pub place : p ≡ Elsewhere
+  pub place : is_rooted_place p ≡ true
   pub shape : unbracketed (shape_of n) ≡ unbracketed (shape_of w)
   pub names : own_names n ≡ own_names w
   pub number : number_of n ≡ number_of w
   pub counted : count (children n) ≡ count (children w)
-  pub others : (i : ℕ) → child_or_absent (children n) (suc i) ≡ child_or_absent (children w) (suc i)
+  pub second : child_or_absent (children n) 1 ≡ child_or_absent (children w) 1
 
 -- it replaces expressions, statements and lists of statements, or what keeps its root, and what it writes keeps what the node,
 -- where it may stand, has

@@ -25,8 +25,8 @@ use Rattle.mini_laws.proofs.Rows.{equal_same}
 use Rattle.mini_laws.proofs.Simulation.{within_refl}
 use Rattle.mini_kept.specs.AlikeBodies.{RunsAs}
 use Rattle.mini_kept.specs.Declaring.{declared}
-use Rattle.mini_kept.specs.Frames.{is_port, is_declaration, outline, globals, frame_of, Frame, frames, FramesKept}
-use Rattle.mini_kept.specs.KeepsFrames.{is_body_slot, IsShownAlike}
+use Rattle.mini_kept.specs.Frames.{outline, globals, frame_of, Frame, frames, FramesKept}
+use Rattle.mini_kept.specs.KeepsFrames.{is_body_slot, IsShownAlike, NoPort, NoDeclaration, KeepsFunction}
 use Rattle.mini_kept.specs.KeepsLoosely.{KeepsLoosely}
 use Rattle.mini_kept.specs.KeepsNames.{Keeps, is_rewritten_place}
 use Rattle.mini_kept.specs.KeepsShapes.{AskedAlike}
@@ -254,10 +254,10 @@ arrows_loose K = record {
       pieces = at_arrow (λ p n w. is_piece (shape_of n) ≡ false) (λ q. shaped (λ n w. is_piece (shape_of n) ≡ false) (λ ds k ps a b. refl));
       keeps = at_arrow (λ p n w. (strict : Bool) (s : Slot) → fits_place p s ≡ true → fits strict s n ≡ true → KeepsLoosely p n w) (λ q n w r strict s z e. (instance q n w r).keeps);
     };
-    slots = at_arrow (λ p n w. (strict : Bool) (s : Slot) → fits_place p s ≡ true → fits strict s n ≡ true → (is_body_slot p s ≡ true) ⊎ IsShownAlike s n w) (λ q n w r strict s z e. inl (expression_slot (Expr q) s (stands n w r strict s e).0));
-    ports = at_arrow (λ p n w. (strict : Bool) (d : Depth) → fits strict (one (a_statement d)) n ≡ true → (m : Bool) → (is_port m (shape_of n) ≡ false) × (is_port m (shape_of w) ≡ false)) (λ q n w r strict d e. absurd (stands n w r strict (one (a_statement d)) e).0);
+    slots = at_arrow (λ p n w. (strict : Bool) (s : Slot) → fits_place p s ≡ true → fits strict s n ≡ true → ((is_body_slot p s ≡ true) ⊎ IsShownAlike s n w) ⊎ KeepsFunction n w) (λ q n w r strict s z e. inl (inl (expression_slot (Expr q) s (stands n w r strict s e).0)));
+    ports = at_arrow (λ p n w. (strict : Bool) (d : Depth) → fits strict (one (a_statement d)) n ≡ true → (m : Bool) → NoPort m n w ⊎ KeepsFunction n w) (λ q n w r strict d e. absurd (stands n w r strict (one (a_statement d)) e).0);
     listed = λ p n w e c. absurd (at_arrow (λ p n w. is_statement_list p ≡ true → ⊥) (λ q n w r e. cc e) p n w c e);
-    exported = at_arrow (λ p n w. (strict : Bool) → fits strict (one a_default_export) n ≡ true → (is_declaration (shape_of n) ≡ false) × (is_declaration (shape_of w) ≡ false)) (λ q n w r strict e. shaped (λ n w. (is_declaration (shape_of n) ≡ false) × (is_declaration (shape_of w) ≡ false)) (λ ds k ps a b. (refl, refl)) n w r);
+    exported = at_arrow (λ p n w. (strict : Bool) → fits strict (one a_default_export) n ≡ true → NoDeclaration n w ⊎ KeepsFunction n w) (λ q n w r strict e. inl (shaped NoDeclaration (λ ds k ps a b. (refl, refl)) n w r));
   };
   reads = at_arrow (λ p n w. summary n ≡ summary w) (λ q. shaped (λ n w. summary n ≡ summary w) (λ ds k ps a b. refl));
   kind = at_arrow (λ p n w. (strict : Bool) (s : Slot) → fits strict s n ≡ true → arrow_kind (shape_of n) ≡ arrow_kind (shape_of w)) (λ q n w r strict s e. shaped (λ n w. arrow_kind (shape_of n) ≡ arrow_kind (shape_of w)) (λ ds k ps a b. refl) n w r);

@@ -176,7 +176,7 @@ names_kept m i k v = record {
     same_root (of_field is_static) = refl
 
 root_kept : (m : Member) (i : ℕ) (k : PlainKey) (v : Tree) → KeepsRoot Elsewhere (before i k v m) (after i k v m)
-root_kept m i k v = record { place = refl; shape = same_root m; names = refl; number = refl; counted = refl; others = λ j. refl }
+root_kept m i k v = record { place = refl; shape = same_root m; names = refl; number = refl; counted = refl; second = refl }
   where
     same_root : (m : Member) → unbracketed (member_shape true m) ≡ unbracketed (member_shape false m)
     same_root of_target = refl

@@ -311,7 +311,7 @@ over_kind : (c : Bool) (t u rest : Tree) → arrow_kind (shape_of (over c t rest
 over_kind c t u rest = refl
 
 over_root : (c : Bool) (t u rest : Tree) → KeepsRoot Elsewhere (over c t rest) (over c u rest)
-over_root c t u rest = record { place = refl; shape = refl; names = refl; number = refl; counted = refl; others = λ j. refl }
+over_root c t u rest = record { place = refl; shape = refl; names = refl; number = refl; counted = refl; second = refl }
 
 over_member : (c : Bool) (t u rest : Tree) → has_member (over c t rest) ≡ true
 over_member true t u rest = refl

@@ -228,7 +228,7 @@ module _ (h : Holder) (i j : Word) (v : Tree) where
   })
 
   root_kept : KeepsRoot Elsewhere n w
-  root_kept = record { place = refl; shape = refl; names = refl; number = refl; counted = refl; others = λ k. refl }
+  root_kept = record { place = refl; shape = refl; names = refl; number = refl; counted = refl; second = refl }
 
   bodies_kept : (a : Around) → BodiesKept (bodies a n) (bodies a w)
   bodies_kept a = subst (BodiesKept (bodies a n)) (over_bodies v i h a ∙ sym (over_bodies v j h a)) (kept_itself (bodies a n))
