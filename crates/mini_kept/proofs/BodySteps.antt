@@ -226,7 +226,7 @@ module _ (R : Position → Tree → Tree → Type 0) (D : VariableSet) (l : Keep
     kept = λ strict s q e a z.
         each_of D (body_of a h n (node h xs n ts) ts) (bodies_from (below a h ts) 0 ts) (body_of a h n (node h xs n us) us) (bodies_from (below a h us) 0 us)
         (own_kept a p h xs n ts us st (moved (is_strict_in strict h) (filling strict s h) st (parts_fill strict s h xs n ts e)) (λ q. inner_stands strict s h xs n ts q e p z.whole) v)
-        (same_around a h ts us st (k.kept (is_strict_in strict h) (filling strict s h) (placed_below strict s h p (count ts)) (parts_fill strict s h xs n ts e) (below a h ts) 0 (children_stand strict s h p (count ts) a ts z)));
+        (same_around a h ts us st (k.kept (is_strict_in strict h) (filling strict s h) (placed_below strict s h p (count ts) q) (parts_fill strict s h xs n ts e) (below a h ts) 0 (children_stand strict s h p (count ts) a ts z)));
   }
 
   item_kept : (p : Position) (t u : Tree) → Keeps D p t u → (strict : Bool) (s r : Slot) → fits_place p s ≡ true → fits_place p r ≡ true → (a : Around) → Stands s p a → Stands r p a → (fits strict s t ≡ true) ⊎ (fits strict r t ≡ true) → BodiesWithout D (bodies a t) (bodies a u)

@@ -117,7 +117,7 @@ of_children a h xs m ts = given_among nothing (bodies_from (below a h ts) 0 ts) 
 record Keeps (M : Gone) (p : Position) (t u : Tree) : Type 0 where
   of_part : (a : Around) (strict : Bool) (s : Slot) → fits_place p s ≡ true → fits strict s t ≡ true → is_part_slot s ≡ true → Shows (In a t) (part t) (part u)
   of_declared : (strict : Bool) (s : Slot) → fits_place p s ≡ true → fits strict s t ≡ true → is_declared_slot s ≡ true → declaration t ≡ declaration u
-  of_port : (a : Around) (strict : Bool) (d : Depth) → fits strict (one (a_statement d)) t ≡ true → (m : Bool) (ts : Trees) → AllShow (In a t) (ports m (t ▸ ts)) (ports m (u ▸ ts))
+  of_port : (a : Around) (strict : Bool) (d : Depth) → fits_place p (one (a_statement d)) ≡ true → fits strict (one (a_statement d)) t ≡ true → (m : Bool) (ts : Trees) → AllShow (In a t) (ports m (t ▸ ts)) (ports m (u ▸ ts))
   of_statements : (a : Around) (strict : Bool) (d : Depth) → fits_place p (many (a_statement d)) ≡ true → fits strict (many (a_statement d)) t ≡ true → (m : Bool) → AllShow (In a t) (ports m (children t)) (ports m (children u))
   of_hoisted : (strict : Bool) (s : Slot) → fits_place p s ≡ true → fits strict s t ≡ true → SameNames (names_of declared.Hoisted u) (names_of declared.Hoisted t)
   of_frames : (a : Around) (strict : Bool) (s : Slot) → fits_place p s ≡ true → fits strict s t ≡ true → (k : Option PropertyKind) → (is_method_slot s ≡ false → k ≡ None) → FramesShown M (In a t) (frames k t) (frames k u)
@@ -125,7 +125,7 @@ record Keeps (M : Gone) (p : Position) (t u : Tree) : Type 0 where
 record AllKeep (M : Gone) (π : ℕ → Position) (ts us : Trees) : Type 0 where
   of_parts : (α : ℕ → Around) (j : ℕ) (strict : Bool) (g : Filling) → Placed π g → fill strict g ts ≡ true → (i : ℕ) → Are (λ j s. is_part_slot s ≡ true) i g → AllShow (InAll α j ts) (parts ts) (parts us)
   of_own : (α : ℕ → Around) (j : ℕ) (strict : Bool) (g : Filling) → Placed π g → fill strict g ts ≡ true → (σ : ℕ → Showing) (i : ℕ) → Are (λ j s. shows_right (σ j) s ≡ true) i g → AllShow (InAll α j ts) (shown_from σ i ts) (shown_from σ i us)
-  of_ports : (α : ℕ → Around) (j : ℕ) (strict : Bool) (d : Depth) → fill strict (each (one (a_statement d))) ts ≡ true → (m : Bool) → AllShow (InAll α j ts) (ports m ts) (ports m us)
+  of_ports : (α : ℕ → Around) (j : ℕ) (strict : Bool) (d : Depth) → Placed π (each (one (a_statement d))) → fill strict (each (one (a_statement d))) ts ≡ true → (m : Bool) → AllShow (InAll α j ts) (ports m ts) (ports m us)
   of_program : (α : ℕ → Around) (j : ℕ) (strict : Bool) (d : Depth) → Placed π (these (many (a_statement d) ∷ [])) → fill strict (these (many (a_statement d) ∷ [])) ts ≡ true → (m : Bool) → AllShow (InAll α j ts) (ports m (children (child_or_absent ts 0))) (ports m (children (child_or_absent us 0)))
   of_hoisted : (strict : Bool) (g : Filling) → Placed π g → fill strict g ts ≡ true → SameNames (all_names declared.Hoisted us) (all_names declared.Hoisted ts)
   of_frames : (α : ℕ → Around) (j : ℕ) (strict : Bool) (g : Filling) → Placed π g → fill strict g ts ≡ true → (kind : ℕ → Option PropertyKind) (i : ℕ) → Are (Plain kind) i g → FramesShown M (InAll α j ts) (frames_from kind i ts) (frames_from kind i us)
@@ -253,7 +253,7 @@ module _ (M : Gone) (R : Position → Tree → Tree → Type 0) (l : KeepsPlaces
   here_kept p t u r = record {
     of_part = λ a strict s v e q. part_here p s t u q (l.slots p t u r strict s v e) a;
     of_declared = declared_here p t u r;
-    of_port = λ a strict d e m ts. all_same (In a t) (ports m (t ▸ ts)) (ports m (u ▸ ts)) (port_here m t u ts (l.ports p t u r strict d e m));
+    of_port = λ a strict d v e m ts. all_same (In a t) (ports m (t ▸ ts)) (ports m (u ▸ ts)) (port_here m t u ts (l.ports p t u r strict d e m));
     of_statements = λ a strict d v e m. all_same (In a t) (ports m (children t)) (ports m (children u)) (statements_here p t u r strict d v e m);
     of_hoisted = λ strict s v e. (l.names.keeps p t u r strict s v e).hoisted;
     of_frames = λ a strict s v e k z. frames_here p s t u (l.slots p t u r strict s v e) a (framed p t u r strict s v e a) k z;
@@ -293,7 +293,7 @@ module _ (M : Gone) (R : Position → Tree → Tree → Type 0) (l : KeepsPlaces
   first_kept π t u ts st k = record {
     of_parts = λ α j strict g v e i a. let (s, f, z) = filled π t u ts ts st strict g e in (first_more α j t ts (part t) (part u) (k.of_part (α j) strict s (first_placed π g s v f) z (first_is (λ j r. is_part_slot r ≡ true) i g s a f)), all_themselves (InAll α j (t ▸ ts)) (parts ts));
     of_own = λ α j strict g v e σ i a. let (s, f, z) = filled π t u ts ts st strict g e in (first_more α j t ts (shown (σ i) t) (shown (σ i) u) (child_kept M (π 0) t u k (α j) strict s (first_placed π g s v f) z (σ i) (first_is (λ j r. shows_right (σ j) r ≡ true) i g s a f)), all_themselves (InAll α j (t ▸ ts)) (shown_from σ (suc i) ts));
-    of_ports = λ α j strict d e m. all_more (In (α j) t) (InAll α j (t ▸ ts)) (of_first α j t ts) (ports m (t ▸ ts)) (ports m (u ▸ ts)) (k.of_port (α j) strict d (left (fits strict (one (a_statement d)) t) (fill strict (each (one (a_statement d))) ts) e) m ts);
+    of_ports = λ α j strict d v e m. all_more (In (α j) t) (InAll α j (t ▸ ts)) (of_first α j t ts) (ports m (t ▸ ts)) (ports m (u ▸ ts)) (k.of_port (α j) strict d (v 0) (left (fits strict (one (a_statement d)) t) (fill strict (each (one (a_statement d))) ts) e) m ts);
     of_program = λ α j strict d v e m. all_more (In (α j) t) (InAll α j (t ▸ ts)) (of_first α j t ts) (ports m (children t)) (ports m (children u)) (k.of_statements (α j) strict d v.0 (left (fits strict (many (a_statement d)) t) (fill strict (these []) ts) e) m);
     of_hoisted = λ strict g v e. let (s, f, z) = filled π t u ts ts st strict g e in first_hoisted t u ts (k.of_hoisted strict s (first_placed π g s v f) z);
     of_frames = λ α j strict g v e kind i a. let (s, f, z) = filled π t u ts ts st strict g e in
@@ -306,7 +306,7 @@ module _ (M : Gone) (R : Position → Tree → Tree → Type 0) (l : KeepsPlaces
   later_kept π t ts us st k = record {
     of_parts = λ α j strict g v e i a. (shows_itself (InAll α j (t ▸ ts)) (part t), others_more α j t ts (parts ts) (parts us) (k.of_parts α (suc j) strict (Rest g) (rest_placed π g v) (others π t t ts us st strict g e) (suc i) (rest_are (λ j r. is_part_slot r ≡ true) i g a)));
     of_own = λ α j strict g v e σ i a. (shows_itself (InAll α j (t ▸ ts)) (shown (σ i) t), others_more α j t ts (shown_from σ (suc i) ts) (shown_from σ (suc i) us) (k.of_own α (suc j) strict (Rest g) (rest_placed π g v) (others π t t ts us st strict g e) σ (suc i) (rest_are (λ j r. shows_right (σ j) r ≡ true) i g a)));
-    of_ports = λ α j strict d e m. after_port (InAll α j (t ▸ ts)) m t (is_port m (shape_of t)) (ports m ts) (ports m us) (others_more α j t ts (ports m ts) (ports m us) (k.of_ports α (suc j) strict d (right (fits strict (one (a_statement d)) t) (fill strict (each (one (a_statement d))) ts) e) m));
+    of_ports = λ α j strict d v e m. after_port (InAll α j (t ▸ ts)) m t (is_port m (shape_of t)) (ports m ts) (ports m us) (others_more α j t ts (ports m ts) (ports m us) (k.of_ports α (suc j) strict d (λ i. v (suc i)) (right (fits strict (one (a_statement d)) t) (fill strict (each (one (a_statement d))) ts) e) m));
     of_program = λ α j strict d v e m. all_themselves (InAll α j (t ▸ ts)) (ports m (children t));
     of_hoisted = λ strict g v e. others_hoisted t ts us (k.of_hoisted strict (Rest g) (rest_placed π g v) (others π t t ts us st strict g e));
     of_frames = λ α j strict g v e kind i a.
@@ -324,29 +324,29 @@ module _ (M : Gone) (R : Position → Tree → Tree → Type 0) (l : KeepsPlaces
   number_fits strict s h xs n ts e = its_number (class_of s) h xs n ts (fill (is_strict_in strict h) (filling strict s h) ts) e
 
   module _ (p : Position) (h : Shape) (xs : List Name) (ts us : Trees) (all : AllKeep M (child_position h p (count ts)) ts us) (a : Around) where
-    part_inside : (n : ℕ) (strict : Bool) (s : Slot) → fits strict s (node h xs n ts) ≡ true → is_part_slot s ≡ true → Shows (In a (node h xs n ts)) (part (node h xs n ts)) (part (node h xs n us))
-    part_inside zero strict s e q =
+    part_inside : (n : ℕ) (strict : Bool) (s : Slot) → fits_place p s ≡ true → fits strict s (node h xs n ts) ≡ true → is_part_slot s ≡ true → Shows (In a (node h xs n ts)) (part (node h xs n ts)) (part (node h xs n us))
+    part_inside zero strict s v e q =
         over_shown (In a (node h xs 0 ts)) h xs 0 (keyed h (parts ts)) (keyed h (parts us)) (keyed_shown (In a (node h xs 0 ts)) h (parts ts) (parts us)
-        (node_more a h xs 0 ts (parts ts) (parts us) (all.of_parts (below a h ts) 0 (is_strict_in strict h) (filling strict s h) (placed_below strict s h p (count ts)) (children_fill strict s h xs 0 ts e) 0 (part_right strict s h q (number_fits strict s h xs 0 ts e)))))
-    part_inside (suc n) strict s e q = shows_itself (In a (node h xs (suc n) ts)) (node h xs (suc n) none)
+        (node_more a h xs 0 ts (parts ts) (parts us) (all.of_parts (below a h ts) 0 (is_strict_in strict h) (filling strict s h) (placed_below strict s h p (count ts) v) (children_fill strict s h xs 0 ts e) 0 (part_right strict s h q (number_fits strict s h xs 0 ts e)))))
+    part_inside (suc n) strict s v e q = shows_itself (In a (node h xs (suc n) ts)) (node h xs (suc n) none)
 
-    own_inside : (n : ℕ) (strict : Bool) (s : Slot) → fits strict s (node h xs n ts) ≡ true → Outlined h → AllShow (In a (node h xs n ts)) (shown_from (showing h) 0 ts) (shown_from (showing h) 0 us)
-    own_inside n strict s e o = node_more a h xs n ts (shown_from (showing h) 0 ts) (shown_from (showing h) 0 us) (all.of_own (below a h ts) 0 (is_strict_in strict h) (filling strict s h) (placed_below strict s h p (count ts)) (children_fill strict s h xs n ts e) (showing h) 0 (own_right strict s h o))
+    own_inside : (n : ℕ) (strict : Bool) (s : Slot) → fits_place p s ≡ true → fits strict s (node h xs n ts) ≡ true → Outlined h → AllShow (In a (node h xs n ts)) (shown_from (showing h) 0 ts) (shown_from (showing h) 0 us)
+    own_inside n strict s v e o = node_more a h xs n ts (shown_from (showing h) 0 ts) (shown_from (showing h) 0 us) (all.of_own (below a h ts) 0 (is_strict_in strict h) (filling strict s h) (placed_below strict s h p (count ts) v) (children_fill strict s h xs n ts e) (showing h) 0 (own_right strict s h o))
 
-    port_inside : (n : ℕ) (strict : Bool) (d : Depth) → fits strict (one (a_statement d)) (node h xs n ts) ≡ true → (m : Bool) (vs : Trees) → AllShow (In a (node h xs n ts)) (ports m (node h xs n ts ▸ vs)) (ports m (node h xs n us ▸ vs))
-    port_inside n strict d e m vs = by (is_port m h) refl
+    port_inside : (n : ℕ) (strict : Bool) (d : Depth) → fits_place p (one (a_statement d)) ≡ true → fits strict (one (a_statement d)) (node h xs n ts) ≡ true → (m : Bool) (vs : Trees) → AllShow (In a (node h xs n ts)) (ports m (node h xs n ts ▸ vs)) (ports m (node h xs n us ▸ vs))
+    port_inside n strict d v e m vs = by (is_port m h) refl
       where
         G : ℕ → List ℕ → Type 0
         G = In a (node h xs n ts)
 
         by : (b : Bool) → is_port m h ≡ b → AllShow (In a (node h xs n ts)) (ports m (node h xs n ts ▸ vs)) (ports m (node h xs n us ▸ vs))
         by true q = subst (λ b. AllShow (In a (node h xs n ts)) (if b then own (node h xs n ts) ▸ ports m vs else ports m vs) (if b then own (node h xs n us) ▸ ports m vs else ports m vs)) (sym q)
-            (over_shown (In a (node h xs n ts)) h xs n (shown_from (showing h) 0 ts) (shown_from (showing h) 0 us) (own_inside n strict (one (a_statement d)) e (port_outline m h q)), all_themselves (In a (node h xs n ts)) (ports m vs))
+            (over_shown (In a (node h xs n ts)) h xs n (shown_from (showing h) 0 ts) (shown_from (showing h) 0 us) (own_inside n strict (one (a_statement d)) v e (port_outline m h q)), all_themselves (In a (node h xs n ts)) (ports m vs))
         by false q = all_same (In a (node h xs n ts)) (ports m (node h xs n ts ▸ vs)) (ports m (node h xs n us ▸ vs)) (no_port m (node h xs n ts) vs q ∙ sym (no_port m (node h xs n us) vs q))
 
-  statements_inside : (p : Position) (h : Shape) (xs : List Name) (n : ℕ) (ts us : Trees) → AllKeep M (child_position h p (count ts)) ts us → (a : Around) (strict : Bool) (d : Depth) → fits strict (many (a_statement d)) (node h xs n ts) ≡ true → (m : Bool) → AllShow (In a (node h xs n ts)) (ports m ts) (ports m us)
-  statements_inside p shape.Listed xs n ts us all a strict d e m = node_more a shape.Listed xs n ts (ports m ts) (ports m us) (all.of_ports (below a shape.Listed ts) 0 strict d (children_fill strict (many (a_statement d)) shape.Listed xs n ts e) m)
-  statements_inside p h xs n ts us all a strict d e m = absurd (refused_here strict (many (a_statement d)) h xs n ts refl e)
+  statements_inside : (p : Position) (h : Shape) (xs : List Name) (n : ℕ) (ts us : Trees) → AllKeep M (child_position h p (count ts)) ts us → (a : Around) (strict : Bool) (d : Depth) → fits_place p (many (a_statement d)) ≡ true → fits strict (many (a_statement d)) (node h xs n ts) ≡ true → (m : Bool) → AllShow (In a (node h xs n ts)) (ports m ts) (ports m us)
+  statements_inside p shape.Listed xs n ts us all a strict d v e m = node_more a shape.Listed xs n ts (ports m ts) (ports m us) (all.of_ports (below a shape.Listed ts) 0 strict d (placed_below strict (many (a_statement d)) shape.Listed p (count ts) v) (children_fill strict (many (a_statement d)) shape.Listed xs n ts e) m)
+  statements_inside p h xs n ts us all a strict d v e m = absurd (refused_here strict (many (a_statement d)) h xs n ts refl e)
 
   -- a program's outline
   module _ (p : Position) (m : Bool) (ds : List (List ℕ)) (xs : List Name) (n : ℕ) (ts us : Trees) (all : AllKeep M (child_position (shape.Program m ds) p (count ts)) ts us) (a : Around) where
@@ -362,10 +362,10 @@ module _ (M : Gone) (R : Position → Tree → Tree → Type 0) (l : KeepsPlaces
             node_more a (shape.Program m ds) xs n ts (ports m (children (child_or_absent ts 0))) (ports m (children (child_or_absent us 0)))
             (all.of_program (below a (shape.Program m ds) ts) 0 (is_strict_in strict (shape.Program m ds)) (if m then in_module else in_body) (refl, tt) (subst (λ g. fill (is_strict_in strict (shape.Program m ds)) g ts ≡ true) f (children_fill strict s (shape.Program m ds) xs n ts e)) m)
 
-    program_frame : (k : Option PropertyKind) (strict : Bool) (s : Slot) → fits strict s (node (shape.Program m ds) xs n ts) ≡ true
+    program_frame : (k : Option PropertyKind) (strict : Bool) (s : Slot) → fits_place p s ≡ true → fits strict s (node (shape.Program m ds) xs n ts) ≡ true
         → FramesShown M G (frame_of k (shape.Program m ds) n (outline (shape.Program m ds) xs n ts) (globals (shape.Program m ds) ts)) (frame_of k (shape.Program m ds) n (outline (shape.Program m ds) xs n us) (globals (shape.Program m ds) us))
-    program_frame k strict s e =
-        let hoisted = all.of_hoisted (is_strict_in strict (shape.Program m ds)) (filling strict s (shape.Program m ds)) (placed_below strict s (shape.Program m ds) p (count ts)) (children_fill strict s (shape.Program m ds) xs n ts e) in
+    program_frame k strict s v e =
+        let hoisted = all.of_hoisted (is_strict_in strict (shape.Program m ds)) (filling strict s (shape.Program m ds)) (placed_below strict s (shape.Program m ds) p (count ts) v) (children_fill strict s (shape.Program m ds) xs n ts e) in
         one_shown M G (record { number = n; property = k; outline = outline (shape.Program m ds) xs n ts; globals = is_among (globals (shape.Program m ds) ts) })
         (record { number = n; property = k; outline = outline (shape.Program m ds) xs n us; globals = is_among (globals (shape.Program m ds) us) })
         (record { number = refl; property = refl; outline = inl (over_shown G (shape.Program m ds) [] n _ _ (program_ports strict s e)); globals = λ i x. of_script m (all_names declared.Hoisted us) (all_names declared.Hoisted ts) hoisted x i })
@@ -373,37 +373,37 @@ module _ (M : Gone) (R : Position → Tree → Tree → Type 0) (l : KeepsPlaces
   numbered_frame : (G : ℕ → List ℕ → Type 0) (k : Option PropertyKind) (n : ℕ) (o o' : Tree) → Shows G o o' → FramesShown M G (record { number = suc n; property = k; outline = o; globals = is_among [] } ∷ []) (record { number = suc n; property = k; outline = o'; globals = is_among [] } ∷ [])
   numbered_frame G k n o o' x = one_shown M G (record { number = suc n; property = k; outline = o; globals = is_among [] }) (record { number = suc n; property = k; outline = o'; globals = is_among [] }) (record { number = refl; property = refl; outline = inl x; globals = refl })
 
-  frame_inside : (p : Position) (k : Option PropertyKind) (h : Shape) (xs : List Name) (n : ℕ) (ts us : Trees) → AllKeep M (child_position h p (count ts)) ts us → (a : Around) (strict : Bool) (s : Slot) → fits strict s (node h xs n ts) ≡ true
+  frame_inside : (p : Position) (k : Option PropertyKind) (h : Shape) (xs : List Name) (n : ℕ) (ts us : Trees) → AllKeep M (child_position h p (count ts)) ts us → (a : Around) (strict : Bool) (s : Slot) → fits_place p s ≡ true → fits strict s (node h xs n ts) ≡ true
       → FramesShown M (In a (node h xs n ts)) (frame_of k h n (outline h xs n ts) (globals h ts)) (frame_of k h n (outline h xs n us) (globals h us))
-  frame_inside p k (shape.Program m ds) xs n ts us all a strict s e = program_frame p m ds xs n ts us all a k strict s e
-  frame_inside p k h xs zero ts us all a strict s e = shown_themselves M (In a (node h xs 0 ts)) []
-  frame_inside p k h xs (suc n) ts us all a strict s e =
+  frame_inside p k (shape.Program m ds) xs n ts us all a strict s v e = program_frame p m ds xs n ts us all a k strict s v e
+  frame_inside p k h xs zero ts us all a strict s v e = shown_themselves M (In a (node h xs 0 ts)) []
+  frame_inside p k h xs (suc n) ts us all a strict s v e =
       numbered_frame (In a (node h xs (suc n) ts)) k n (own (node h xs (suc n) ts)) (own (node h xs (suc n) us))
-      (over_shown (In a (node h xs (suc n) ts)) h xs (suc n) (shown_from (showing h) 0 ts) (shown_from (showing h) 0 us) (own_inside p h xs ts us all a (suc n) strict s e (numbered_outline (class_of s) h n (number_fits strict s h xs (suc n) ts e))))
+      (over_shown (In a (node h xs (suc n) ts)) h xs (suc n) (shown_from (showing h) 0 ts) (shown_from (showing h) 0 us) (own_inside p h xs ts us all a (suc n) strict s v e (numbered_outline (class_of s) h n (number_fits strict s h xs (suc n) ts e))))
 
   -- what a declaration declares
-  declared_inside : (p : Position) (h : Shape) (xs : List Name) (n : ℕ) (ts us : Trees) → StepIn R (child_position h p (count ts)) ts us → (strict : Bool) (s : Slot) → fits strict s (node h xs n ts) ≡ true → declaration (node h xs n ts) ≡ declaration (node h xs n us)
-  declared_inside p h xs n ts us st strict s e = by (is_declaration h) refl
+  declared_inside : (p : Position) (h : Shape) (xs : List Name) (n : ℕ) (ts us : Trees) → StepIn R (child_position h p (count ts)) ts us → (strict : Bool) (s : Slot) → fits_place p s ≡ true → fits strict s (node h xs n ts) ≡ true → declaration (node h xs n ts) ≡ declaration (node h xs n us)
+  declared_inside p h xs n ts us st strict s v e = by (is_declaration h) refl
     where
       by : (b : Bool) → is_declaration h ≡ b → declaration (node h xs n ts) ≡ declaration (node h xs n us)
       by false q = undeclared (node h xs n ts) q ∙ sym (undeclared (node h xs n us) q)
       by true q =
           let π = child_position h p (count ts) in
-          let kept = steps_keep R l.names st (is_strict_in strict h) (filling strict s h) (placed_below strict s h p (count ts)) (children_fill strict s h xs n ts e) in
+          let kept = steps_keep R l.names st (is_strict_in strict h) (filling strict s h) (placed_below strict s h p (count ts) v) (children_fill strict s h xs n ts e) in
           ap (λ ns. if is_declaration h then node h ns n none else absent) (declaration_names h xs n ts us q (sym (all_bound π ts us kept)) (sym (first_bound π ts us kept)))
 
   inside_kept : (p : Position) (h : Shape) (xs : List Name) (n : ℕ) (ts us : Trees) → StepIn R (child_position h p (count ts)) ts us → AllKeep M (child_position h p (count ts)) ts us → Keeps M p (node h xs n ts) (node h xs n us)
   inside_kept p h xs n ts us st all = record {
-    of_part = λ a strict s v e q. part_inside p h xs ts us all a n strict s e q;
-    of_declared = λ strict s v e q. declared_inside p h xs n ts us st strict s e;
+    of_part = λ a strict s v e q. part_inside p h xs ts us all a n strict s v e q;
+    of_declared = λ strict s v e q. declared_inside p h xs n ts us st strict s v e;
     of_port = λ a. port_inside p h xs ts us all a n;
-    of_statements = λ a strict d v e m. statements_inside p h xs n ts us all a strict d e m;
+    of_statements = λ a strict d v e m. statements_inside p h xs n ts us all a strict d v e m;
     of_hoisted = λ strict s v e. (step_keeps R l.names (inside p h xs n ts us st) strict s v e).hoisted;
     of_frames = λ a strict s v e k z.
         each_shown M (In a (node h xs n ts)) (frame_of k h n (outline h xs n ts) (globals h ts)) (frames_from (property_below h) 0 ts) (frame_of k h n (outline h xs n us) (globals h us)) (frames_from (property_below h) 0 us)
-        (frame_inside p k h xs n ts us all a strict s e)
+        (frame_inside p k h xs n ts us all a strict s v e)
         (frames_more M (InAll (below a h ts) 0 ts) (In a (node h xs n ts)) (of_children a h xs n ts) (frames_from (property_below h) 0 ts) (frames_from (property_below h) 0 us)
-        (all.of_frames (below a h ts) 0 (is_strict_in strict h) (filling strict s h) (placed_below strict s h p (count ts)) (children_fill strict s h xs n ts e) (property_below h) 0 (plain_right strict s h)));
+        (all.of_frames (below a h ts) 0 (is_strict_in strict h) (filling strict s h) (placed_below strict s h p (count ts) v) (children_fill strict s h xs n ts e) (property_below h) 0 (plain_right strict s h)));
   }
 
   mutual

@@ -219,7 +219,7 @@ module _ (R : Position → Tree → Tree → Type 0) (l : KeepsNames R) where
     pub step_keeps : {p : Position} {t u : Tree} → Step R p t u → (strict : Bool) (s : Slot) → fits_place p s ≡ true → fits strict s t ≡ true → KeepsLoosely p t u
     step_keeps (here p t u r) strict s k e = l.keeps p t u r strict s k e
     step_keeps (inside p h xs n ts us st) strict s k e =
-        keeps_below p h xs n ts us (merges strict s h xs n ts e) (steps_keep st (is_strict_in strict h) (filling strict s h) (placed_below strict s h p (count ts)) (right (is_whole (class_of s) h xs n ts) (fill (is_strict_in strict h) (filling strict s h) ts) e)) (all_stand strict s h xs n ts e p (count ts))
+        keeps_below p h xs n ts us (merges strict s h xs n ts e) (steps_keep st (is_strict_in strict h) (filling strict s h) (placed_below strict s h p (count ts) k) (right (is_whole (class_of s) h xs n ts) (fill (is_strict_in strict h) (filling strict s h) ts) e)) (all_stand strict s h xs n ts e p (count ts))
 
     pub steps_keep : {π : ℕ → Position} {ts us : Trees} → StepIn R π ts us → (strict : Bool) (g : Filling) → Placed π g → fill strict g ts ≡ true → AllKeep π 0 ts us
     steps_keep (first π t u ts st) strict refused k e = absurd (cc e)

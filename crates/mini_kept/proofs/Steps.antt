@@ -20,9 +20,10 @@ use Rattle.mini_kept.specs.Lifted.{KeepsNames}
 use Rattle.mini_kept.proofs.Moved.{Moved, stepped}
 use Rattle.mini_kept.proofs.Parts.{any_parts_kept}
 use Rattle.mini_kept.proofs.Stepping.{no_steps}
-use Rattle.mini_kept.proofs.Instances.{contracts_keep, row_elsewhere}
-use Rattle.mini_kept.proofs.Placed.{Placed, placed_below, fits_elsewhere}
+use Rattle.mini_kept.proofs.Instances.{contracts_keep}
+use Rattle.mini_kept.proofs.Placed.{PlacedBy, placed_below, anywhere, all_anywhere}
 use Rattle.mini_kept.specs.Placed.{fits_place}
+use Rattle.mini_kept.proofs.Rows.{row_fits}
 use Rattle.mini_kept.proofs.ShapeRows.{rows_keep_shapes}
 
 -- ---- the node
@@ -78,49 +79,55 @@ module _ (R : Position → Tree → Tree → Type 0) (l : KeepsNames R) (shapes 
 
   -- the same node over children that fill its slots
   over_fits : (p : Position) (h : Shape) (xs : List Name) (n : ℕ) (ts us : Trees) → StepIn R (child_position h p (count ts)) ts us → (strict : Bool) (s : Slot) → fits strict s (node h xs n ts) ≡ true
-      → ((strict : Bool) (g : Filling) → Placed (child_position h p (count ts)) g → fill strict g ts ≡ true → fill strict g us ≡ true) → fits strict s (node h xs n us) ≡ true
+      → (fill (is_strict_in strict h) (filling strict s h) ts ≡ true → fill (is_strict_in strict h) (filling strict s h) us ≡ true) → fits strict s (node h xs n us) ≡ true
   over_fits p h xs n ts us st strict s e fills =
       both (is_whole (class_of s) h xs n us) (fill (is_strict_in strict h) (filling strict s h) us)
       (whole_kept s p strict h xs n ts us e st)
-      (fills (is_strict_in strict h) (filling strict s h) (placed_below strict s h p (count ts)) (right (is_whole (class_of s) h xs n ts) (fill (is_strict_in strict h) (filling strict s h) ts) e))
+      (fills (right (is_whole (class_of s) h xs n ts) (fill (is_strict_in strict h) (filling strict s h) ts) e))
 
-  mutual
-    pub any_step_fits : {p : Position} {t u : Tree} → Step R p t u → (strict : Bool) (s : Slot) → fits_place p s ≡ true → fits strict s t ≡ true → fits strict s u ≡ true
-    any_step_fits (here p t u r) strict s k e = shapes.fitting p t u r strict s k e
-    any_step_fits (inside p h xs n ts us st) strict s k e = over_fits p h xs n ts us st strict s e (step_fills st)
+  -- where a test of places and slots, which what is replaced meets, is met by the children of what meets it
+  module _ (v : Position → Slot → Bool) (below : (strict : Bool) (s : Slot) (h : Shape) (p : Position) (m : ℕ) → v p s ≡ true → PlacedBy v (child_position h p m) (filling strict s h))
+      (fitting : (p : Position) (n w : Tree) → R p n w → (strict : Bool) (s : Slot) → v p s ≡ true → fits strict s n ≡ true → fits strict s w ≡ true) where
+    mutual
+      step_fits_by : {p : Position} {t u : Tree} → Step R p t u → (strict : Bool) (s : Slot) → v p s ≡ true → fits strict s t ≡ true → fits strict s u ≡ true
+      step_fits_by (here p t u r) strict s k e = fitting p t u r strict s k e
+      step_fits_by (inside p h xs n ts us st) strict s k e = over_fits p h xs n ts us st strict s e (step_fills st (is_strict_in strict h) (filling strict s h) (below strict s h p (count ts) k))
 
-    step_fills : {π : ℕ → Position} {ts us : Trees} → StepIn R π ts us → (strict : Bool) (g : Filling) → Placed π g → fill strict g ts ≡ true → fill strict g us ≡ true
-    step_fills (first π t u ts st) strict refused k e = e
-    step_fills (first π t u ts st) strict (these []) k e = e
-    step_fills (first π t u ts st) strict (these (s ∷ ss)) k e =
-        let (one_fits, rest) = and_parts (fits strict s t) (fill strict (these ss) ts) e in
-        both (fits strict s u) (fill strict (these ss) ts) (any_step_fits st strict s k.0 one_fits) rest
-    step_fills (first π t u ts st) strict (each s) k e =
-        let (one_fits, rest) = and_parts (fits strict s t) (fill strict (each s) ts) e in
-        both (fits strict s u) (fill strict (each s) ts) (any_step_fits st strict s (k 0) one_fits) rest
-    step_fills (first π t u ts st) strict (each_or_last s l) k e =
-        let (one_fits, rest) = and_parts (fits strict s t || (is_last ts && fits strict l t)) (fill strict (each_or_last s l) ts) e in
-        both (fits strict s u || (is_last ts && fits strict l u)) (fill strict (each_or_last s l) ts)
-        (or_last (fits strict s t) (fits strict l t) (is_last ts) (fits strict s u) (fits strict l u) (any_step_fits st strict s (k 0).0) (any_step_fits st strict l (k 0).1) one_fits) rest
-    step_fills (first π t u ts st) strict (pieces g) k e = absurd (no_steps R l g (first π t u ts st) e)
-    step_fills (later π t ts us st) strict refused k e = e
-    step_fills (later π t ts us st) strict (these []) k e = e
-    step_fills (later π t ts us st) strict (these (s ∷ ss)) k e =
-        let (one_fits, rest) = and_parts (fits strict s t) (fill strict (these ss) ts) e in
-        both (fits strict s t) (fill strict (these ss) us) one_fits (step_fills st strict (these ss) k.1 rest)
-    step_fills (later π t ts us st) strict (each s) k e =
-        let (one_fits, rest) = and_parts (fits strict s t) (fill strict (each s) ts) e in
-        both (fits strict s t) (fill strict (each s) us) one_fits (step_fills st strict (each s) (λ j. k (suc j)) rest)
-    step_fills (later π t ts us st) strict (each_or_last s l) k e =
-        let (one_fits, rest) = and_parts (fits strict s t || (is_last ts && fits strict l t)) (fill strict (each_or_last s l) ts) e in
-        both (fits strict s t || (is_last us && fits strict l t)) (fill strict (each_or_last s l) us)
-        (subst (λ b. (fits strict s t || (b && fits strict l t)) ≡ true) (last_kept st) one_fits)
-        (step_fills st strict (each_or_last s l) (λ j. k (suc j)) rest)
-    step_fills (later π t ts us st) strict (pieces g) k e = absurd (no_steps R l g (later π t ts us st) e)
+      step_fills : {π : ℕ → Position} {ts us : Trees} → StepIn R π ts us → (strict : Bool) (g : Filling) → PlacedBy v π g → fill strict g ts ≡ true → fill strict g us ≡ true
+      step_fills (first π t u ts st) strict refused k e = e
+      step_fills (first π t u ts st) strict (these []) k e = e
+      step_fills (first π t u ts st) strict (these (s ∷ ss)) k e =
+          let (one_fits, rest) = and_parts (fits strict s t) (fill strict (these ss) ts) e in
+          both (fits strict s u) (fill strict (these ss) ts) (step_fits_by st strict s k.0 one_fits) rest
+      step_fills (first π t u ts st) strict (each s) k e =
+          let (one_fits, rest) = and_parts (fits strict s t) (fill strict (each s) ts) e in
+          both (fits strict s u) (fill strict (each s) ts) (step_fits_by st strict s (k 0) one_fits) rest
+      step_fills (first π t u ts st) strict (each_or_last s l) k e =
+          let (one_fits, rest) = and_parts (fits strict s t || (is_last ts && fits strict l t)) (fill strict (each_or_last s l) ts) e in
+          both (fits strict s u || (is_last ts && fits strict l u)) (fill strict (each_or_last s l) ts)
+          (or_last (fits strict s t) (fits strict l t) (is_last ts) (fits strict s u) (fits strict l u) (step_fits_by st strict s (k 0).0) (step_fits_by st strict l (k 0).1) one_fits) rest
+      step_fills (first π t u ts st) strict (pieces g) k e = absurd (no_steps R l g (first π t u ts st) e)
+      step_fills (later π t ts us st) strict refused k e = e
+      step_fills (later π t ts us st) strict (these []) k e = e
+      step_fills (later π t ts us st) strict (these (s ∷ ss)) k e =
+          let (one_fits, rest) = and_parts (fits strict s t) (fill strict (these ss) ts) e in
+          both (fits strict s t) (fill strict (these ss) us) one_fits (step_fills st strict (these ss) k.1 rest)
+      step_fills (later π t ts us st) strict (each s) k e =
+          let (one_fits, rest) = and_parts (fits strict s t) (fill strict (each s) ts) e in
+          both (fits strict s t) (fill strict (each s) us) one_fits (step_fills st strict (each s) (λ j. k (suc j)) rest)
+      step_fills (later π t ts us st) strict (each_or_last s l) k e =
+          let (one_fits, rest) = and_parts (fits strict s t || (is_last ts && fits strict l t)) (fill strict (each_or_last s l) ts) e in
+          both (fits strict s t || (is_last us && fits strict l t)) (fill strict (each_or_last s l) us)
+          (subst (λ b. (fits strict s t || (b && fits strict l t)) ≡ true) (last_kept st) one_fits)
+          (step_fills st strict (each_or_last s l) (λ j. k (suc j)) rest)
+      step_fills (later π t ts us st) strict (pieces g) k e = absurd (no_steps R l g (later π t ts us st) e)
+
+pub any_step_fits : (R : Position → Tree → Tree → Type 0) → KeepsNames R → KeepsShapes R → {p : Position} {t u : Tree} → Step R p t u → (strict : Bool) (s : Slot) → fits_place p s ≡ true → fits strict s t ≡ true → fits strict s u ≡ true
+any_step_fits R l shapes st = step_fits_by R l shapes fits_place placed_below shapes.fitting st
 
 -- ---- rewrites
 
--- whatever its slot: no row writes a list
+-- whatever its slot
 pub step_fits : {p : Position} {t u : Tree} → Step Contracts p t u → (strict : Bool) (s : Slot) → fits strict s t ≡ true → fits strict s u ≡ true
-step_fits (here p t u c) strict s e = rows_keep_shapes.fitting p t u c strict s (fits_elsewhere p s (row_elsewhere p t u c.row)) e
-step_fits (inside p h xs n ts us st) strict s e = over_fits Contracts contracts_keep rows_keep_shapes p h xs n ts us st strict s e (step_fills Contracts contracts_keep rows_keep_shapes st)
+step_fits st strict s e =
+    step_fits_by Contracts contracts_keep rows_keep_shapes anywhere (λ strict s h p m v. all_anywhere (child_position h p m) (filling strict s h)) (λ p n w c strict s k e. row_fits strict s p n w c.row e) st strict s refl e
