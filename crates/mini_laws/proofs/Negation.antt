@@ -24,7 +24,7 @@ use Rattle.mini_laws.specs.Expressions.{operate_by, binary_step, and_step, or_st
 use Rattle.mini_laws.specs.Step.{step, means, meaning}
 use Rattle.mini_laws.specs.Fits.{Fits}
 use Rattle.mini_laws.specs.Truth.{told}
-use Rattle.mini_laws.proofs.Runs.{either_cong, either_assoc, either_eta, either_ok, either_out, runs, each_bool, run_bind}
+use Rattle.mini_laws.proofs.Runs.{either_cong, either_assoc, either_eta, either_out, runs, each_bool, run_bind}
 use Rattle.mini_laws.proofs.Truth.{coherent}
 use Rattle.mini_laws.proofs.Fitting.{fits_operand}
 

@@ -4,16 +4,17 @@ use Rattle.mini_model.specs.declared.kind.VariableDeclarationKind.{VariableDecla
 use Rattle.mini_laws.specs.Value.{Value, Undefined}
 use Rattle.mini_laws.specs.State.{NodeOf, AnObject, ExportDefaultOf, Item}
 use Rattle.mini_laws.specs.Demand.{Val, Demand, As, Stat, Declares, Binds, ClassValue, Request, Reply}
-use Rattle.mini_laws.specs.Command.{write, init, bind_names, Command, ret, stuck, op, kid, then, attempt, bind, emit, emit_mine}
+use Rattle.mini_laws.specs.Command.{init, bind_names, Command, ret, stuck, op, kid, then, attempt, bind, emit, emit_mine}
 use Rattle.mini_laws.specs.Naming.{Declared, Variables, AClass, FunctionFact}
 use Rattle.mini_laws.specs.Asking.{first_demand, declaration_demand, lexically, exported_demand}
-use Rattle.mini_laws.specs.Replies.{merged}
+use Rattle.mini_laws.specs.Replies.{merged, put_own}
 use Rattle.mini_laws.specs.Targets.{put_carried}
 
--- a name takes a value: a lexical one is initialised by it (ECMA-262, "InitializeReferencedBinding"), and a `var` written
+-- a name takes a value: a lexical one is initialised by it (ECMA-262, "InitializeReferencedBinding"), and a `var` is written as
+-- an assignment does it (ECMA-262, "Variable Statement", Evaluation: PutValue)
 abbrev pub name_takes : {σ : ℕ → Demand} → Bool → Value → Command σ (Unit {0})
 name_takes true v = op (init 0 v) (then ret)
-name_takes false v = op (write 0 v) (then ret)
+name_takes false v = put_own v
 
 abbrev pub binding_name : {σ : ℕ → Demand} → (q : Demand) (r : Request q) → Command σ (Reply q r)
 binding_name (Binds lexical) v = name_takes lexical v
