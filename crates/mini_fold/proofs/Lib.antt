@@ -2,5 +2,6 @@ pub mod KnownSides
 pub mod Constants
 pub mod Arithmetic
 pub mod Sequences
+pub mod Operators
 pub mod Operands
 pub mod Mixed

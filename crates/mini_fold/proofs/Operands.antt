@@ -1,6 +1,6 @@
 -- What is written for an operand whose value is known is what a row says, and where nothing is no row reads the expression.
 use Rattle.std.proofs.Common.{◌≡◌, ℕ, zero, suc, Bool, true, false, List, [], Option, Some, None, refl, sym, ap, subst, ◌∙◌, inl, inr, true≢false}
-use Rattle.std.specs.Prelude.{◌&&◌, ◌||◌, ◌++◌, ℤ, pos, is_some, unwrap_or, if◌then◌else◌}
+use Rattle.std.specs.Prelude.{◌⊎◌, ◌&&◌, ◌||◌, ◌++◌, ℤ, pos, is_some, unwrap_or, if◌then◌else◌}
 use Rattle.std.proofs.lemmas.Bool.{and_parts}
 use Rattle.mini_model.specs.declared.operator.BinaryOperator.{BinaryOperator}
 use Rattle.mini_model.specs.declared.operator.BinaryOperator.TheVariants.{Addition, Equality, Inequality, BitwiseAnd, BitwiseXor, BitwiseOr, ShiftLeft, ShiftRight}
@@ -10,10 +10,11 @@ use Rattle.mini_model.specs.declared.place.Position.TheVariants.{Expr}
 use Rattle.mini_model.specs.declared.seat.Seat.{Seat}
 use Rattle.mini_model.specs.declared.shape.Shape.{Shape}
 use Rattle.mini_model.specs.declared.shape.Shape.TheVariants as shape
-use Rattle.mini_model.specs.Tree.{Tree, shape_of, logical, negation}
+use Rattle.mini_model.specs.declared.operator.UnaryOperator.TheVariants.{Typeof}
+use Rattle.mini_model.specs.Tree.{Tree, shape_of, unary, identifier, logical, negation}
 use Rattle.mini_model.specs.Position.{is_and_or, right_operand_seat}
 use Rattle.mini_node.specs.Children.{part}
-use Rattle.mini_node.specs.Kinds.{logical_operator, binary_operator, is_logical, is_negation, number, string, binary}
+use Rattle.mini_node.specs.Kinds.{logical_operator, binary_operator, unary_operator, is_logical, is_negation, number, string, binary}
 use Rattle.mini_node.specs.Made.{logical_is, binary_is, and_is, or_is, negation_is, number_is, string_is}
 use Rattle.mini_laws.specs.Operators.{same_boolean}
 use Rattle.mini_terms.specs.declared.kinds.Kind.{Kind}
@@ -21,15 +22,18 @@ use Rattle.mini_terms.specs.declared.kinds.Kind.TheVariants.{Boolean as IsBoolea
 use Rattle.mini_terms.specs.Folds.{is_effect_free, goes_on}
 use Rattle.mini_terms.specs.Kind.{kind}
 use Rattle.mini_terms.specs.Parts.{takes_numbers, suits, leaves_nothing, weighs}
-use Rattle.mini_terms.specs.Reading.{is_unguarded, is_plain_part}
-use Rattle.mini_rows.specs.Booleans.{digit}
+use Rattle.mini_terms.specs.Reading.{is_unguarded, is_plain_part, stands}
 use Rattle.mini_rows.specs.Choices.{loosely}
 use Rattle.mini_rows.specs.Operands.{beside, told_by, tail_text, is_bits, is_int32, keeps_bits, has_room, zero_told, Row14, Row7, Row4, Row27, Row31, Row32, OperandRow}
+use Rattle.mini_rows.specs.Booleans.{digit, plus}
+use Rattle.mini_rows.specs.Operators.{deleted, Row16, Row17, Row56Left, Row56Right, OperatorRow}
 use Rattle.mini_rows.specs.Spellings.{negated_digit, numeral, text}
 use Rattle.mini_rows.proofs.OperandWeights.{lighter}
 use Rattle.mini_tree.specs.Rule.{Applied}
 use Rattle.mini_tree.proofs.Reaching.{moves_once}
-use Rattle.mini_fold.specs.FoldOperands.{is_redundant, logical_written, is_empty, is_string_kind, is_text, text_written, sum_text_by, joined_texts, with_text, joined_written, or_else, sum_written, is_zero, tests_bits, keeps_beside, kept_written, whole_written, negated_truth, truth_in, is_boolean_kind, is_told, right_written, left_written, either_written, equal_written, binary_written, written_by, written, Gives, Rests}
+use Rattle.mini_fold.specs.FoldOperators.{told, drops_left, drops_right, boolean_or, operator_written}
+use Rattle.mini_fold.proofs.Operators.{operator_or, delete_row, same_there, never_there, left_there, right_there}
+use Rattle.mini_fold.specs.FoldOperands.{is_redundant, logical_written, is_empty, is_string_kind, is_text, text_written, sum_text_by, joined_texts, with_text, joined_written, or_else, sum_written, is_zero, tests_bits, keeps_beside, kept_written, whole_written, negated_truth, truth_in, is_boolean_kind, is_told, right_written, left_written, either_written, equal_written, operands_written, binary_written, written_by, written, Gives, Rests}
 
 or_true : (b : Bool) → b || true ≡ true
 or_true true = refl
@@ -52,6 +56,17 @@ some_is x y e = cc e
 
 nothing : {w : Tree} {B : Type 0} → None ≡ Some w → B
 nothing e = cc e
+
+-- ---- what is written for the operands is written unless an operator tells more
+
+later : (o : BinaryOperator) (t : Tree) (u : Option Tree) → is_some u ≡ true → is_some (operator_written o t u) ≡ true
+later o t u h = go (told o t) (drops_left o (part t 0) (part t 1)) (drops_right o (part t 0) (part t 1))
+  where
+    go : (c : Option Bool) (x y : Bool) → is_some (boolean_or c (if x then Some (binary o (part (part t 0) 0) (part t 1)) else (if y then Some (binary o (part t 0) (part (part t 1) 0)) else u))) ≡ true
+    go (Some c) x y = refl
+    go None true y = refl
+    go None false true = refl
+    go None false false = h
 
 -- ---- 14
 
@@ -155,8 +170,8 @@ or_else_other (Some t) u e = refl
 or_else_other None u e = e
 
 text_passes_as : (s : Seat) (b : Bool) (a : Tree) → kind a ≡ IsString → suits s a ≡ true → is_some (written s (beside Addition b a (text []))) ≡ true
-text_passes_as s true a k h = or_else_there (text_written s a (text [])) (joined_written a (text [])) (first_or_second (is_text s a (text [])) (is_text s (text []) a) a (text []) (ap (λ c. c || is_text s (text []) a) (is_text_there s a k h)))
-text_passes_as s false a k h = or_else_there (text_written s (text []) a) (joined_written (text []) a) (first_or_second (is_text s (text []) a) (is_text s a (text [])) (text []) a (or_right (is_text s (text []) a) (is_text s a (text [])) (is_text_there s a k h)))
+text_passes_as s true a k h = later Addition (binary Addition a (text [])) (sum_written s a (text [])) (or_else_there (text_written s a (text [])) (joined_written a (text [])) (first_or_second (is_text s a (text [])) (is_text s (text []) a) a (text []) (ap (λ c. c || is_text s (text []) a) (is_text_there s a k h))))
+text_passes_as s false a k h = later Addition (binary Addition (text []) a) (sum_written s (text []) a) (or_else_there (text_written s (text []) a) (joined_written (text []) a) (first_or_second (is_text s (text []) a) (is_text s a (text [])) (text []) a (or_right (is_text s (text []) a) (is_text s a (text [])) (is_text_there s a k h))))
 
 text_passes : (s : Seat) (n w : Tree) → Row7 s n w → is_some (written s n) ≡ true
 text_passes s n w r = ap (λ t. is_some (written s t)) r.shape ∙ text_passes_as s r.on_right r.operand r.known r.stays
@@ -225,8 +240,9 @@ module _ (s : Seat) (n : Tree) where
 joined_passes : (s : Seat) (n w : Tree) → Row4 n w → is_some (written s n) ≡ true
 joined_passes s n w r =
     ap (λ t. is_some (written s t)) r.shape
-    ∙ or_else_other (text_written s (binary Addition r.left (text r.before)) r.tail) (joined_written (binary Addition r.left (text r.before)) r.tail)
-    (ap (λ d. is_some (with_text (binary Addition r.left (text r.before)) (joined_texts (Some r.before) d))) r.known)
+    ∙ later Addition (binary Addition (binary Addition r.left (text r.before)) r.tail) (sum_written s (binary Addition r.left (text r.before)) r.tail)
+    (or_else_other (text_written s (binary Addition r.left (text r.before)) r.tail) (joined_written (binary Addition r.left (text r.before)) r.tail)
+    (ap (λ d. is_some (with_text (binary Addition r.left (text r.before)) (joined_texts (Some r.before) d))) r.known))
 
 -- ---- 27
 
@@ -250,8 +266,8 @@ zero_there : (equal : Bool) (a : Tree) → is_bits a ≡ true → (s : Seat) →
 zero_there equal a e s = ap (λ b. is_some (if b then Some (zero_told equal a) else either_written s equal (truth_in (digit false)) a (digit false))) e
 
 zero_passes_as : (s : Seat) (equal : Bool) (a : Tree) → is_bits a ≡ true → is_some (written s (binary (loosely equal) a (digit false))) ≡ true
-zero_passes_as s true a e = zero_there true a e s
-zero_passes_as s false a e = zero_there false a e s
+zero_passes_as s true a e = later Equality (binary Equality a (digit false)) (equal_written s true a (digit false)) (zero_there true a e s)
+zero_passes_as s false a e = later Inequality (binary Inequality a (digit false)) (equal_written s false a (digit false)) (zero_there false a e s)
 
 -- ---- 29 and 30
 
@@ -297,10 +313,10 @@ equal_row s n w equal a b is e = go (tests_bits a b) refl e
     go false h f = others_row s n w equal a b is f
 
 right_passes : (s : Seat) (equal c : Bool) (a : Tree) → is_some (written s (binary (loosely equal) a (negated_digit c))) ≡ true
-right_passes s true true a = refl
-right_passes s true false a = refl
-right_passes s false true a = refl
-right_passes s false false a = refl
+right_passes s true true a = later Equality (binary Equality a (negated_digit true)) (equal_written s true a (negated_digit true)) refl
+right_passes s true false a = later Equality (binary Equality a (negated_digit false)) (equal_written s true a (negated_digit false)) refl
+right_passes s false true a = later Inequality (binary Inequality a (negated_digit true)) (equal_written s false a (negated_digit true)) refl
+right_passes s false false a = later Inequality (binary Inequality a (negated_digit false)) (equal_written s false a (negated_digit false)) refl
 
 either_passes : (s : Seat) (equal c : Bool) (a : Tree) (o : Option Bool) → is_some (either_written s equal o (negated_digit c) a) ≡ true
 either_passes s equal c a (Some d) = refl
@@ -309,8 +325,8 @@ either_passes s equal false a None = refl
 
 beside_passes : (s : Seat) (equal c b : Bool) (a : Tree) → is_some (written s (beside (loosely equal) b a (negated_digit c))) ≡ true
 beside_passes s equal c true a = right_passes s equal c a
-beside_passes s true c false a = tested (tests_bits (negated_digit c) a) _ _ (either_passes s true c a (truth_in a))
-beside_passes s false c false a = tested (tests_bits (negated_digit c) a) _ _ (either_passes s false c a (truth_in a))
+beside_passes s true c false a = later Equality (binary Equality (negated_digit c) a) (equal_written s true (negated_digit c) a) (tested (tests_bits (negated_digit c) a) _ _ (either_passes s true c a (truth_in a)))
+beside_passes s false c false a = later Inequality (binary Inequality (negated_digit c) a) (equal_written s false (negated_digit c) a) (tested (tests_bits (negated_digit c) a) _ _ (either_passes s false c a (truth_in a)))
 
 -- ---- 31 and 32
 
@@ -337,27 +353,39 @@ whole_row n w a k is e = go (is_zero (number k) && is_int32 a) refl e
     go false j f = nothing f
 
 kept_passes : (s : Seat) (o : BinaryOperator) (x : ℤ) → keeps_bits o x ≡ true → has_room o s ≡ true → (a : Tree) → is_some (written s (binary o a (numeral x))) ≡ true
-kept_passes s ShiftLeft x e h a = there (keeps_bits ShiftLeft x && has_room ShiftLeft s) _ (both_true (keeps_bits ShiftLeft x) (has_room ShiftLeft s) e h)
-kept_passes s ShiftRight x e h a = there (keeps_bits ShiftRight x && has_room ShiftRight s) _ (both_true (keeps_bits ShiftRight x) (has_room ShiftRight s) e h)
-kept_passes s BitwiseXor x e h a = there (keeps_bits BitwiseXor x && has_room BitwiseXor s) _ (both_true (keeps_bits BitwiseXor x) (has_room BitwiseXor s) e h)
-kept_passes s BitwiseAnd x e h a = there (keeps_bits BitwiseAnd x && has_room BitwiseAnd s) _ (both_true (keeps_bits BitwiseAnd x) (has_room BitwiseAnd s) e h)
+kept_passes s ShiftLeft x e h a = later ShiftLeft (binary ShiftLeft a (numeral x)) (kept_written s ShiftLeft a (numeral x)) (there (keeps_bits ShiftLeft x && has_room ShiftLeft s) _ (both_true (keeps_bits ShiftLeft x) (has_room ShiftLeft s) e h))
+kept_passes s ShiftRight x e h a = later ShiftRight (binary ShiftRight a (numeral x)) (kept_written s ShiftRight a (numeral x)) (there (keeps_bits ShiftRight x && has_room ShiftRight s) _ (both_true (keeps_bits ShiftRight x) (has_room ShiftRight s) e h))
+kept_passes s BitwiseXor x e h a = later BitwiseXor (binary BitwiseXor a (numeral x)) (kept_written s BitwiseXor a (numeral x)) (there (keeps_bits BitwiseXor x && has_room BitwiseXor s) _ (both_true (keeps_bits BitwiseXor x) (has_room BitwiseXor s) e h))
+kept_passes s BitwiseAnd x e h a = later BitwiseAnd (binary BitwiseAnd a (numeral x)) (kept_written s BitwiseAnd a (numeral x)) (there (keeps_bits BitwiseAnd x && has_room BitwiseAnd s) _ (both_true (keeps_bits BitwiseAnd x) (has_room BitwiseAnd s) e h))
 kept_passes s o x e h a = absurd (true≢false (sym e))
 
 whole_passes : (s : Seat) (a : Tree) → is_int32 a ≡ true → is_some (written s (binary BitwiseOr a (digit false))) ≡ true
-whole_passes s a e = there (is_int32 a) a e
+whole_passes s a e = later BitwiseOr (binary BitwiseOr a (digit false)) (whole_written a (digit false)) (there (is_int32 a) a e)
 
 -- ---- all
 
+operands_row : (s : Seat) (n w : Tree) (o : BinaryOperator) → n ≡ binary o (part n 0) (part n 1) → operands_written s o n ≡ Some w → OperandRow (Expr s) n w
+operands_row s n w Addition is e = sum_row s n w (part n 0) (part n 1) is e
+operands_row s n w Equality is e = equal_row s n w true (part n 0) (part n 1) is e
+operands_row s n w Inequality is e = equal_row s n w false (part n 0) (part n 1) is e
+operands_row s n w BitwiseOr is e = inr (inr (inr (inr (inr (inr (inr (inl (whole_row n w (part n 0) (part n 1) is e))))))))
+operands_row s n w BitwiseAnd is e = inr (inr (inr (inr (inr (inr (inl (kept_row s n w BitwiseAnd (part n 0) (part n 1) is e)))))))
+operands_row s n w BitwiseXor is e = inr (inr (inr (inr (inr (inr (inl (kept_row s n w BitwiseXor (part n 0) (part n 1) is e)))))))
+operands_row s n w ShiftLeft is e = inr (inr (inr (inr (inr (inr (inl (kept_row s n w ShiftLeft (part n 0) (part n 1) is e)))))))
+operands_row s n w ShiftRight is e = inr (inr (inr (inr (inr (inr (inl (kept_row s n w ShiftRight (part n 0) (part n 1) is e)))))))
+operands_row s n w o is e = nothing e
+
+-- of operators
+of_operator : (s : Seat) (n w : Tree) → OperatorRow s n w → OperandRow (Expr s) n w
+of_operator s n w r = inr (inr (inr (inr (inr (inr (inr (inr r)))))))
+
 binary_row : (s : Seat) (n w : Tree) (o : Option BinaryOperator) → binary_operator n ≡ o → binary_written s o n ≡ Some w → OperandRow (Expr s) n w
-binary_row s n w (Some Addition) h e = sum_row s n w (part n 0) (part n 1) (binary_is n Addition h) e
-binary_row s n w (Some Equality) h e = equal_row s n w true (part n 0) (part n 1) (binary_is n Equality h) e
-binary_row s n w (Some Inequality) h e = equal_row s n w false (part n 0) (part n 1) (binary_is n Inequality h) e
-binary_row s n w (Some BitwiseOr) h e = inr (inr (inr (inr (inr (inr (inr (whole_row n w (part n 0) (part n 1) (binary_is n BitwiseOr h) e)))))))
-binary_row s n w (Some BitwiseAnd) h e = inr (inr (inr (inr (inr (inr (inl (kept_row s n w BitwiseAnd (part n 0) (part n 1) (binary_is n BitwiseAnd h) e)))))))
-binary_row s n w (Some BitwiseXor) h e = inr (inr (inr (inr (inr (inr (inl (kept_row s n w BitwiseXor (part n 0) (part n 1) (binary_is n BitwiseXor h) e)))))))
-binary_row s n w (Some ShiftLeft) h e = inr (inr (inr (inr (inr (inr (inl (kept_row s n w ShiftLeft (part n 0) (part n 1) (binary_is n ShiftLeft h) e)))))))
-binary_row s n w (Some ShiftRight) h e = inr (inr (inr (inr (inr (inr (inl (kept_row s n w ShiftRight (part n 0) (part n 1) (binary_is n ShiftRight h) e)))))))
-binary_row s n w o h e = nothing e
+binary_row s n w None h e = nothing e
+binary_row s n w (Some o) h e = go (operator_or s n w o (operands_written s o n) (binary_is n o h) e)
+  where
+    go : OperatorRow s n w ⊎ (operands_written s o n ≡ Some w) → OperandRow (Expr s) n w
+    go (inl r) = of_operator s n w r
+    go (inr f) = operands_row s n w o (binary_is n o h) f
 
 written_is_row : (s : Seat) (n w : Tree) → written s n ≡ Some w → OperandRow (Expr s) n w
 written_is_row s n w e = go (shape_of n) e
@@ -365,7 +393,14 @@ written_is_row s n w e = go (shape_of n) e
     go : (h : Shape) → written_by h s n ≡ Some w → OperandRow (Expr s) n w
     go (shape.LogicalExpression o) f = inl (logical_row s n w (logical_operator n) refl f)
     go (shape.BinaryExpression o) f = binary_row s n w (binary_operator n) refl f
+    go (shape.UnaryExpression o) f = of_operator s n w (inl (delete_row n w (unary_operator n) refl f))
     go h f = nothing f
+
+operator_passes : (s : Seat) (n w : Tree) → Row16 n w ⊎ (Row17 n w ⊎ (Row56Left n w ⊎ Row56Right n w)) → is_some (written s n) ≡ true
+operator_passes s n w (inl r) = ap (λ t. is_some (written s t)) r.shape ∙ same_there r.operator r.name r.equality (operands_written s r.operator (binary r.operator (unary Typeof (identifier r.name)) (unary Typeof (identifier r.name))))
+operator_passes s n w (inr (inl r)) = ap (λ t. is_some (written s t)) r.shape ∙ never_there r.operator r.operand r.right r.equality r.known r.effect_free r.dropped (operands_written s r.operator (binary r.operator (unary Typeof r.operand) r.right))
+operator_passes s n w (inr (inr (inl r))) = ap (λ t. is_some (written s t)) r.shape ∙ left_there r.operator r.operand r.number r.numeric (operands_written s r.operator (binary r.operator (plus r.operand) (numeral r.number)))
+operator_passes s n w (inr (inr (inr r))) = ap (λ t. is_some (written s t)) r.shape ∙ right_there r.operator r.left r.operand r.numeric r.known (operands_written s r.operator (binary r.operator r.left (plus r.operand)))
 
 passes : (s : Seat) (n w : Tree) → OperandRow (Expr s) n w → is_some (written s n) ≡ true
 passes s n w (inl r) = middle_passes s n w r
@@ -375,7 +410,9 @@ passes s n w (inr (inr (inr (inl r)))) = ap (λ t. is_some (written s t)) r.shap
 passes s n w (inr (inr (inr (inr (inl r))))) = joined_passes s n w r
 passes s n w (inr (inr (inr (inr (inr (inl r)))))) = ap (λ t. is_some (written s t)) r.shape ∙ zero_passes_as s r.equal r.operand r.known
 passes s n w (inr (inr (inr (inr (inr (inr (inl r))))))) = ap (λ t. is_some (written s t)) r.shape ∙ kept_passes s r.operator r.number r.known r.seated r.operand
-passes s n w (inr (inr (inr (inr (inr (inr (inr r))))))) = ap (λ t. is_some (written s t)) r.shape ∙ whole_passes s r.operand r.known
+passes s n w (inr (inr (inr (inr (inr (inr (inr (inl r)))))))) = ap (λ t. is_some (written s t)) r.shape ∙ whole_passes s r.operand r.known
+passes s n w (inr (inr (inr (inr (inr (inr (inr (inr (inl r))))))))) = ap (λ t. is_some (written s t)) r.shape ∙ there (stands r.operand) (deleted r.operand) r.value
+passes s n w (inr (inr (inr (inr (inr (inr (inr (inr (inr r))))))))) = operator_passes s n w r
 
 unwritten_rests : (s : Seat) (n : Tree) → written s n ≡ None → Rests (Expr s) n
 unwritten_rests s n e w r = true≢false (sym (passes s n w r) ∙ ap is_some e)

@@ -1,4 +1,5 @@
--- The rewrites 4, 7, 14, 27, 29, 30, 31 and 32: what is known of an operand goes, or is written shorter.
+-- The rewrites 4, 7, 14, 27, 29, 30, 31 and 32: what is known of an operand goes, or is written shorter. Those of operators stand
+-- before them.
 use Rattle.std.specs.Prelude.{ℕ, suc, zero, ℤ, pos, Bool, true, false, ◌&&◌, List, [], ◌++◌, Option, Some, None, if◌then◌else◌}
 use Rattle.mini_model.specs.declared.operator.BinaryOperator.{BinaryOperator}
 use Rattle.mini_model.specs.declared.operator.BinaryOperator.TheVariants.{Addition, Equality, Inequality, BitwiseAnd, BitwiseXor, BitwiseOr, ShiftLeft, ShiftRight}
@@ -10,7 +11,7 @@ use Rattle.mini_model.specs.declared.shape.Shape.TheVariants as shape
 use Rattle.mini_model.specs.Tree.{Tree, shape_of, logical}
 use Rattle.mini_model.specs.Position.{is_and_or, right_operand_seat}
 use Rattle.mini_node.specs.Children.{part}
-use Rattle.mini_node.specs.Kinds.{logical_operator, binary_operator, is_logical, is_negation, number, string}
+use Rattle.mini_node.specs.Kinds.{logical_operator, binary_operator, unary_operator, is_logical, is_negation, number, string}
 use Rattle.mini_laws.specs.Operators.{same_boolean}
 use Rattle.mini_terms.specs.declared.kinds.Kind.{Kind}
 use Rattle.mini_terms.specs.declared.kinds.Kind.TheVariants.{Boolean as IsBoolean, String as IsString}
@@ -21,6 +22,7 @@ use Rattle.mini_rows.specs.Booleans.{digit}
 use Rattle.mini_rows.specs.Choices.{loosely}
 use Rattle.mini_rows.specs.Operands.{told_by, tail_text, is_bits, is_int32, keeps_bits, has_room, zero_told, OperandRow, OperandContracts}
 use Rattle.mini_rows.specs.Spellings.{binary, text}
+use Rattle.mini_fold.specs.FoldOperators.{delete_written, operator_written}
 
 -- ---- 14
 
@@ -138,20 +140,25 @@ whole_written a k = if is_zero (number k) && is_int32 a then Some a else None
 
 -- ---- all
 
+abbrev pub operands_written : Seat → BinaryOperator → Tree → Option Tree
+operands_written s Addition t = sum_written s (part t 0) (part t 1)
+operands_written s Equality t = equal_written s true (part t 0) (part t 1)
+operands_written s Inequality t = equal_written s false (part t 0) (part t 1)
+operands_written s BitwiseOr t = whole_written (part t 0) (part t 1)
+operands_written s BitwiseAnd t = kept_written s BitwiseAnd (part t 0) (part t 1)
+operands_written s BitwiseXor t = kept_written s BitwiseXor (part t 0) (part t 1)
+operands_written s ShiftLeft t = kept_written s ShiftLeft (part t 0) (part t 1)
+operands_written s ShiftRight t = kept_written s ShiftRight (part t 0) (part t 1)
+operands_written s o t = None
+
 abbrev pub binary_written : Seat → Option BinaryOperator → Tree → Option Tree
-binary_written s (Some Addition) t = sum_written s (part t 0) (part t 1)
-binary_written s (Some Equality) t = equal_written s true (part t 0) (part t 1)
-binary_written s (Some Inequality) t = equal_written s false (part t 0) (part t 1)
-binary_written s (Some BitwiseOr) t = whole_written (part t 0) (part t 1)
-binary_written s (Some BitwiseAnd) t = kept_written s BitwiseAnd (part t 0) (part t 1)
-binary_written s (Some BitwiseXor) t = kept_written s BitwiseXor (part t 0) (part t 1)
-binary_written s (Some ShiftLeft) t = kept_written s ShiftLeft (part t 0) (part t 1)
-binary_written s (Some ShiftRight) t = kept_written s ShiftRight (part t 0) (part t 1)
-binary_written s o t = None
+binary_written s (Some o) t = operator_written o t (operands_written s o t)
+binary_written s None t = None
 
 abbrev pub written_by : Shape → Seat → Tree → Option Tree
 written_by (shape.LogicalExpression o) s t = logical_written s (logical_operator t) t
 written_by (shape.BinaryExpression o) s t = binary_written s (binary_operator t) t
+written_by (shape.UnaryExpression o) s t = delete_written (unary_operator t) (part t 0)
 written_by h s t = None
 
 -- what is written for an expression

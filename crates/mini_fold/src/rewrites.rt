@@ -1,5 +1,6 @@
 pub mod fold_constants;
 pub mod fold_known;
 pub mod fold_operands;
+pub mod fold_operators;
 pub mod fold_sequences;
 pub mod minimize_binary;

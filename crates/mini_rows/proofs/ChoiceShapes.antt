@@ -102,7 +102,7 @@ module _ (strict : Bool) where
   of_three : (a b c : Tree) → Fits (conditional a b c) → ThreeFit strict a b c
   of_three a b c e = (of_conditional strict expression a b c e).1
 
-  pair_fits : (a b : Tree) → Fits a → Fits b → Fits (pair a b)
+  pub pair_fits : (a b : Tree) → Fits a → Fits b → Fits (pair a b)
   pair_fits a b e f = both (fits strict expression a && (fits strict expression b && true)) true (two_fit strict a b e f) refl
 
   of_pair : (a b : Tree) → Fits (pair a b) → Fits a × Fits b

@@ -362,7 +362,7 @@ module _ (strict : Bool) (o : UnaryOperator) (a : Tree) where
   unary_in (an_inner_key false) e = absurd (refused_here strict (one (an_inner_key false)) over_one [] 0 (a ▸ none) refl e)
   unary_in k e = absurd (refused_here strict (one k) over_one [] 0 (a ▸ none) refl e)
 
-  unary_at : (s : Slot) → fits strict s (unary o a) ≡ true → TakesExpression s × (fits strict expression a ≡ true)
+  pub unary_at : (s : Slot) → fits strict s (unary o a) ≡ true → TakesExpression s × (fits strict expression a ≡ true)
   unary_at (one k) e = unary_in k e
   unary_at (one_or_absent k) e = unary_in k e
   unary_at s e = absurd (refused_here strict s over_one [] 0 (a ▸ none) refl e)

@@ -124,6 +124,9 @@ pub mod NegationLawful
 pub mod SequenceMeaning
 pub mod SequenceWeights
 pub mod SequenceLawful
+pub mod OperatorMeaning
+pub mod OperatorWeights
+pub mod OperatorLawful
 pub mod OperandMeaning
 pub mod OperandWeights
 pub mod OperandForms

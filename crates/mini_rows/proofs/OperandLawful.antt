@@ -32,6 +32,7 @@ use Rattle.mini_rows.proofs.FoldLawful.{vanishes, first_dropped, operands, expre
 use Rattle.mini_rows.proofs.FoldWeights.{not_a_number}
 use Rattle.mini_rows.proofs.OperandForms.{Tail, of_text, of_number, tail_form, Int32, inverts, operates, int32_form}
 use Rattle.mini_rows.proofs.OperandMeaning.{operands_same}
+use Rattle.mini_rows.proofs.OperatorLawful.{operator_kept, operator_stood, operator_asked}
 use Rattle.mini_rows.proofs.Surrogates.{is_paired_joined, numeral_paired}
 
 -- ---- the same parts
@@ -83,7 +84,8 @@ kept (Expr q) n w (inr (inr (inr (inl r)))) = counted_kept (loosely r.equal) r.o
 kept (Expr q) n w (inr (inr (inr (inr (inl r))))) = joined_kept r.left r.before r.tail r.after (tail_form r.tail r.after r.known) q n w r.shape r.written
 kept (Expr q) n w (inr (inr (inr (inr (inr (inl r)))))) = zero_kept r.equal r.operand q n w r.shape r.written
 kept (Expr q) n w (inr (inr (inr (inr (inr (inr (inl r))))))) = expressions_arranged (record { trees = r.operand ▸ none; lists = [] }) (of_two r.operator true (under (Number r.number) end)) (of_two BitwiseOr true (a_digit false)) refl q n w r.shape r.written
-kept (Expr q) n w (inr (inr (inr (inr (inr (inr (inr r))))))) = expressions_arranged (record { trees = r.operand ▸ none; lists = [] }) (of_two BitwiseOr true (a_digit false)) (part 0) refl q n w r.shape r.written
+kept (Expr q) n w (inr (inr (inr (inr (inr (inr (inr (inl r)))))))) = expressions_arranged (record { trees = r.operand ▸ none; lists = [] }) (of_two BitwiseOr true (a_digit false)) (part 0) refl q n w r.shape r.written
+kept (Expr q) n w (inr (inr (inr (inr (inr (inr (inr (inr r)))))))) = operator_kept q n w r
 kept p n w r = absurd r
 
 places : (p : Position) (n w : Tree) → OperandRow p n w → is_rewritten_place p ≡ true
@@ -148,12 +150,13 @@ module _ (strict : Bool) (s : Slot) where
   stood (Expr q) n w (inr (inr (inr (inr (inr (inr (inl r))))))) e =
       let (takes, fit) = beside_at r.operator true r.operand (numeral r.number) (subst (λ t. fits strict s t ≡ true) r.shape e) in
       (takes, subst Fits (sym r.written) (beside_fits BitwiseOr true r.operand (digit false) fit (digit_fits false)))
-  stood (Expr q) n w (inr (inr (inr (inr (inr (inr (inr r))))))) e =
+  stood (Expr q) n w (inr (inr (inr (inr (inr (inr (inr (inl r)))))))) e =
       let (takes, fit) = beside_at BitwiseOr true r.operand (digit false) (subst (λ t. fits strict s t ≡ true) r.shape e) in
       (takes, subst Fits (sym r.written) fit)
   stood (Expr q) n w (inr (inr (inr (inr (inr (inl r)))))) e =
       let (takes, fit) = beside_at (loosely r.equal) true r.operand (digit false) (subst (λ t. fits strict s t ≡ true) r.shape e) in
       (takes, subst Fits (sym r.written) (zero_fits r.equal r.operand fit))
+  stood (Expr q) n w (inr (inr (inr (inr (inr (inr (inr (inr r)))))))) e = operator_stood strict s q n w r e
   stood p n w r e = absurd r
 
 row_fits : (p : Position) (n w : Tree) → OperandRow p n w → (strict : Bool) (s : Slot) → fits strict s n ≡ true → fits strict s w ≡ true
@@ -262,8 +265,9 @@ row_asked (Expr q) n w (inr (inr (inl r))) = asked_by q n w _ _ r.shape r.writte
 row_asked (Expr q) n w (inr (inr (inr (inl r)))) = asked_by q n w _ _ r.shape r.written (both_asked q (loosely r.equal) r.on_right r.operand (negated_digit r.truth) (digit r.truth))
 row_asked (Expr q) n w (inr (inr (inr (inr (inl r))))) = asked_by q n w _ _ r.shape r.written (joined_asked q Addition Addition (binary Addition r.left (text r.before)) r.tail r.left (text (r.before ++ r.after)))
 row_asked (Expr q) n w (inr (inr (inr (inr (inr (inr (inl r))))))) = asked_by q n w _ _ r.shape r.written (joined_asked q r.operator BitwiseOr r.operand (numeral r.number) r.operand (digit false))
-row_asked (Expr q) n w (inr (inr (inr (inr (inr (inr (inr r))))))) = asked_by q n w _ _ r.shape r.written (int32_asked q r.operand (digit false) (int32_form r.operand r.known))
+row_asked (Expr q) n w (inr (inr (inr (inr (inr (inr (inr (inl r)))))))) = asked_by q n w _ _ r.shape r.written (int32_asked q r.operand (digit false) (int32_form r.operand r.known))
 row_asked (Expr q) n w (inr (inr (inr (inr (inr (inl r)))))) = asked_by q n w _ _ r.shape r.written (zero_asked q (loosely r.equal) r.equal r.operand (digit false))
+row_asked (Expr q) n w (inr (inr (inr (inr (inr (inr (inr (inr r)))))))) = operator_asked q n w r
 row_asked p n w r = absurd r
 
 pub operands_lawful : Lawful OperandContracts

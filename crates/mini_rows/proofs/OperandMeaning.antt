@@ -53,6 +53,7 @@ use Rattle.mini_rows.proofs.ConversionRuns.{after_boolean}
 use Rattle.mini_rows.proofs.FoldMeaning.{plain_of, value_of, plain_read, passed_same, passed_read}
 use Rattle.mini_rows.proofs.OperandForms.{Tail, of_text, tail_form, bits_number, bits_plain, is_int32_operator, Int32, inverts, operates, int32_form, int32_plain}
 use Rattle.mini_rows.proofs.OperandForms as form
+use Rattle.mini_rows.proofs.OperatorMeaning.{operator_same, operator_read}
 use Rattle.mini_rows.proofs.SpellAlike.{SameTree, Alike, bind_alike, choose_alike}
 use Rattle.mini_rows.proofs.SequenceMeaning.{same_value}
 use Rattle.mini_rows.proofs.SpellMeaning.{tree_same, same_by}
@@ -498,7 +499,8 @@ row_same (Expr s) n w (inr (inr (inr (inl r)))) = tree_same s n w (same_by n w _
 row_same (Expr s) n w (inr (inr (inr (inr (inl r))))) = tree_same s n w (same_by n w _ _ r.shape r.written (joined_alike r.left r.before r.tail r.after (tail_form r.tail r.after r.known)))
 row_same (Expr s) n w (inr (inr (inr (inr (inr (inl r)))))) = tree_same s n w (same_by n w _ _ r.shape r.written (zero_alike r.equal r.operand r.known))
 row_same (Expr s) n w (inr (inr (inr (inr (inr (inr (inl r))))))) = tree_same s n w (same_by n w _ _ r.shape r.written (kept_alike r.operator r.number r.known r.operand))
-row_same (Expr s) n w (inr (inr (inr (inr (inr (inr (inr r))))))) = tree_same s n w (same_by n w _ _ r.shape r.written (int32_alike r.operand (int32_form r.operand r.known)))
+row_same (Expr s) n w (inr (inr (inr (inr (inr (inr (inr (inl r)))))))) = tree_same s n w (same_by n w _ _ r.shape r.written (int32_alike r.operand (int32_form r.operand r.known)))
+row_same (Expr s) n w (inr (inr (inr (inr (inr (inr (inr (inr r)))))))) = operator_same s n w r
 row_same p n w r = absurd r
 
 beside_read : (o : BinaryOperator) (b : Bool) (a k t : Tree) → is_plain_part t ≡ true → summary (beside o b a k) ≡ summary t
@@ -513,7 +515,8 @@ row_read (Expr s) n w (inr (inr (inr (inl r)))) = ap summary r.shape ∙ (counte
 row_read (Expr s) n w (inr (inr (inr (inr (inl r))))) = ap summary r.shape ∙ (joined_alike r.left r.before r.tail r.after (tail_form r.tail r.after r.known)).read ∙ sym (ap summary r.written)
 row_read (Expr s) n w (inr (inr (inr (inr (inr (inl r)))))) = ap summary r.shape ∙ (zero_alike r.equal r.operand r.known).read ∙ sym (ap summary r.written)
 row_read (Expr s) n w (inr (inr (inr (inr (inr (inr (inl r))))))) = ap summary r.shape ∙ (kept_alike r.operator r.number r.known r.operand).read ∙ sym (ap summary r.written)
-row_read (Expr s) n w (inr (inr (inr (inr (inr (inr (inr r))))))) = ap summary r.shape ∙ (int32_alike r.operand (int32_form r.operand r.known)).read ∙ sym (ap summary r.written)
+row_read (Expr s) n w (inr (inr (inr (inr (inr (inr (inr (inl r)))))))) = ap summary r.shape ∙ (int32_alike r.operand (int32_form r.operand r.known)).read ∙ sym (ap summary r.written)
+row_read (Expr s) n w (inr (inr (inr (inr (inr (inr (inr (inr r)))))))) = operator_read s n w r
 row_read p n w r = absurd r
 
 pub operands_same : MeansSame OperandContracts

@@ -17,7 +17,7 @@ use Rattle.mini_model.specs.declared.shape.Shape.{Shape}
 use Rattle.mini_model.specs.declared.shape.Shape.TheVariants as shape
 use Rattle.mini_model.specs.Tree.{Tree, node, none, ◌▸◌, logical, negation}
 use Rattle.mini_model.specs.Position.{left_operand_seat, right_operand_seat, binary_operand_seat, not_operand_seat, is_and_or}
-use Rattle.mini_model.specs.Weight.{Outline, outline, outlines, weight, level_of, mixes, is_chain, is_call, place_weight}
+use Rattle.mini_model.specs.Weight.{Outline, outline, outlines, weight, mixes, is_chain, is_call, place_weight}
 use Rattle.mini_laws.specs.Operators.{same_boolean}
 use Rattle.mini_laws.specs.Weights.{Lightens, counts_items}
 use Rattle.mini_laws.proofs.Seats.{placed}
@@ -34,6 +34,7 @@ use Rattle.mini_rows.proofs.FoldMeaning.{plain_of}
 use Rattle.mini_rows.proofs.FoldWeights.{two, moved, there, no_choice}
 use Rattle.mini_rows.proofs.OperandForms.{Tail, of_text, of_number, tail_form, Bits, inverted, masked, differing, joined, bits_form, bits_plain, Int32, inverts, operates, int32_form, int32_plain}
 use Rattle.mini_rows.proofs.BitNumbers.{same_is}
+use Rattle.mini_rows.proofs.OperatorWeights.{zero_mark, pair_at_most, pairs, inside, rest_of, operator_lighter, operator_outline}
 use Rattle.mini_rows.proofs.SpellWeights.{falls_by}
 
 -- 14: an operand and its operator go
@@ -56,13 +57,6 @@ text_falls true s a h = let here = moved s (binary_operand_seat Addition 0) a h 
 text_falls false s a h = let here = moved s (binary_operand_seat Addition 1) a h in omega (arith, here)
 
 -- 29: a `!` has parentheses only where an equality has
-
-never : (b : Bool) → b && false ≡ false
-never true = refl
-never false = refl
-
-zero_mark : (e t f : Bool) → ◌≡◌ {A = ℕ} (if (e && false) || ((t && false) || (f && false)) then 1 else 0) 0
-zero_mark e t f = simp never
 
 fewer_pairs : (s : Seat) (r : Bool) → (if nat_lt 14 s.level || r then 4 else 0) ≤ (if nat_lt 8 s.level || r then 4 else 0)
 fewer_pairs s r = go (nat_lt 14 s.level) (nat_lt 8 s.level) r refl refl
@@ -136,16 +130,6 @@ zero_falls false s a h =
 
 -- 31: `|` has parentheses where the other operator has them, or there is room, and what stands on its left has no more
 
-pairs : (k l : ℕ) → k ≤ l → (m : ℕ) (r : Bool) → (if nat_lt l m || r then 4 else 0) ≤ (if nat_lt k m || r then 4 else 0)
-pairs k l h m r = go (nat_lt l m) (nat_lt k m) r refl refl
-  where
-    go : (b c r : Bool) → nat_lt l m ≡ b → nat_lt k m ≡ c → (if b || r then 4 else 0) ≤ (if c || r then 4 else 0)
-    go true true r p q = omega arith
-    go false true true p q = omega arith
-    go false true false p q = omega arith
-    go false false r p q = omega arith
-    go true false r p q = absurd (omega (arith, h, ltb-true _ _ p, ltb-false _ _ q))
-
 room : (k : ℕ) (s : Seat) → nat_le s.level 5 || nat_lt k s.level ≡ true → (r : Bool) → (if nat_lt 5 s.level || r then 4 else 0) ≤ (if nat_lt k s.level || r then 4 else 0)
 room k s h r = go (nat_lt 5 s.level) (nat_lt k s.level) (nat_le s.level 5) r refl refl refl h
   where
@@ -156,21 +140,6 @@ room k s h r = go (nat_lt 5 s.level) (nat_lt k s.level) (nat_le s.level 5) r ref
     go false false d r p q w e = omega arith
     go true false true r p q w e = absurd (omega (arith, ltb-true _ _ p, leb-true _ _ w))
     go true false false r p q w e = absurd (true≢false (sym e))
-
-pair_at_most : (b : Bool) → (if b then 4 else 0) ≤ 4
-pair_at_most true = omega arith
-pair_at_most false = omega arith
-
--- a left operand in the seat of an operator that binds no tighter
-inside : (l m : ℕ) → l ≤ m → (h : Shape) (r : Bool) → (if nat_lt (level_of h) l || r then 4 else 0) ≤ (if nat_lt (level_of h) m || r then 4 else 0)
-inside l m k h r = go (nat_lt (level_of h) l) (nat_lt (level_of h) m) r refl refl
-  where
-    go : (b c r : Bool) → nat_lt (level_of h) l ≡ b → nat_lt (level_of h) m ≡ c → (if b || r then 4 else 0) ≤ (if c || r then 4 else 0)
-    go true true r p q = omega arith
-    go false true true p q = omega arith
-    go false true false p q = omega arith
-    go false false r p q = omega arith
-    go true false r p q = absurd (omega (arith, k, ltb-true _ _ p, ltb-false _ _ q))
 
 abbrev or_seat : Seat
 or_seat = binary_operand_seat BitwiseOr 0
@@ -192,9 +161,6 @@ nought_text = refl
 mask_text : length (signed_decimal (pos 4_294_967_295)) ≡ 10
 unfolding digits
 mask_text = refl
-
-abbrev rest_of : Seat → Bool
-rest_of s = false || ((s.access && false) || (s.new_callee && false))
 
 kept_falls : (o : BinaryOperator) (x : ℤ) → keeps_bits o x ≡ true → (s : Seat) → has_room o s ≡ true → (a : Tree) → weight (Expr s) (binary BitwiseOr a (digit false)) < weight (Expr s) (binary o a (numeral x))
 kept_falls ShiftLeft x e s h a = subst (λ y. weight (Expr s) (binary BitwiseOr a (digit false)) < weight (Expr s) (binary ShiftLeft a (numeral y))) (sym (same_is x 0 e)) (omega (arith, left_moved ShiftLeft x e a, room 10 s h (rest_of s), zero_mark s.eq_left s.cond_test s.lifted))
@@ -224,7 +190,8 @@ lighter (Expr s) n w (inr (inr (inr (inl r)))) = falls_by (Expr s) n w _ _ r.sha
 lighter (Expr s) n w (inr (inr (inr (inr (inl r))))) = falls_by (Expr s) n w _ _ r.shape r.written (joined_falls s r.left r.before r.tail r.after (tail_form r.tail r.after r.known))
 lighter (Expr s) n w (inr (inr (inr (inr (inr (inl r)))))) = falls_by (Expr s) n w _ _ r.shape r.written (zero_falls r.equal s r.operand (bits_form r.operand r.known))
 lighter (Expr s) n w (inr (inr (inr (inr (inr (inr (inl r))))))) = falls_by (Expr s) n w _ _ r.shape r.written (kept_falls r.operator r.number r.known s r.seated r.operand)
-lighter (Expr s) n w (inr (inr (inr (inr (inr (inr (inr r))))))) = falls_by (Expr s) n w _ _ r.shape r.written (int32_falls s r.operand (int32_form r.operand r.known))
+lighter (Expr s) n w (inr (inr (inr (inr (inr (inr (inr (inl r)))))))) = falls_by (Expr s) n w _ _ r.shape r.written (int32_falls s r.operand (int32_form r.operand r.known))
+lighter (Expr s) n w (inr (inr (inr (inr (inr (inr (inr (inr r)))))))) = operator_lighter s n w r
 lighter p n w r = absurd r
 
 -- what a parent's weight reads of them
@@ -294,7 +261,8 @@ alike (Expr s) n w (inr (inr (inr (inl r)))) = whole_alike n w (ap outline r.sha
 alike (Expr s) n w (inr (inr (inr (inr (inl r))))) = whole_alike n w (ap outline r.shape ∙ sym (ap outline r.written))
 alike (Expr s) n w (inr (inr (inr (inr (inr (inl r)))))) = left_alike n w (loosely r.equal) true r.operand (digit false) (zero_told r.equal r.operand) r.shape r.written (zero_plain r.equal r.operand (bits_plain r.operand r.known)) (zero_is_none r.equal r.operand)
 alike (Expr s) n w (inr (inr (inr (inr (inr (inr (inl r))))))) = left_alike n w r.operator true r.operand (numeral r.number) (binary BitwiseOr r.operand (digit false)) r.shape r.written refl refl
-alike (Expr s) n w (inr (inr (inr (inr (inr (inr (inr r))))))) = let form = int32_form r.operand r.known in left_alike n w BitwiseOr true r.operand (digit false) r.operand r.shape r.written (int32_plain r.operand form) (int32_no_zero r.operand form)
+alike (Expr s) n w (inr (inr (inr (inr (inr (inr (inr (inl r)))))))) = let form = int32_form r.operand r.known in left_alike n w BitwiseOr true r.operand (digit false) r.operand r.shape r.written (int32_plain r.operand form) (int32_no_zero r.operand form)
+alike (Expr s) n w (inr (inr (inr (inr (inr (inr (inr (inr r)))))))) = whole_alike n w (operator_outline s n w r)
 alike p n w r = absurd r
 
 no_items : (p : Position) (n w : Tree) → OperandRow p n w → counts_items p ≡ true → (outline n).items ≡ (outline w).items

@@ -20,6 +20,7 @@ pub mod Constants
 pub mod DeMorgan
 pub mod Negations
 pub mod Sequences
+pub mod Operators
 pub mod Operands
 pub mod Names
 pub mod Catches

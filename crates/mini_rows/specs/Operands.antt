@@ -21,6 +21,7 @@ use Rattle.mini_terms.specs.Kind.{is_number, kind}
 use Rattle.mini_terms.specs.Parts.{suits, leaves_nothing, weighs}
 use Rattle.mini_rows.specs.Booleans.{digit}
 use Rattle.mini_rows.specs.Choices.{loosely}
+use Rattle.mini_rows.specs.Operators.{OperatorRow}
 use Rattle.mini_rows.specs.Spellings.{binary, negated_digit, numeral, text}
 
 -- ---- terms
@@ -164,9 +165,9 @@ pub record Row32 (n w : Tree) : Type 0 where
   pub shape : n ≡ binary BitwiseOr operand (digit false)
   pub written : w ≡ operand
 
--- a row on operands reads n as w at this place
+-- a row on operands, or on operators, reads n as w at this place
 abbrev pub OperandRow : Position → Tree → Tree → Type 0
-OperandRow (Expr s) n w = Row14 s n w ⊎ (Row7 s n w ⊎ (Row29 s n w ⊎ (Row30 n w ⊎ (Row4 n w ⊎ (Row27 n w ⊎ (Row31 s n w ⊎ Row32 n w))))))
+OperandRow (Expr s) n w = Row14 s n w ⊎ (Row7 s n w ⊎ (Row29 s n w ⊎ (Row30 n w ⊎ (Row4 n w ⊎ (Row27 n w ⊎ (Row31 s n w ⊎ (Row32 n w ⊎ OperatorRow s n w)))))))
 OperandRow _ n w = ⊥
 
 -- what it writes, where it weighs less

@@ -1,4 +1,4 @@
-//! Rows 4, 7, 14, 27 and 29 to 32: an operand whose value is known goes, or is written shorter. `a + "s" + "t"` becomes `a + "st"`,
+//! Rows 4, 7, 14, 27 and 29 to 32, and those of operators (2, 16, 17 and 56): an operand whose value is known goes, or is written shorter. `a + "s" + "t"` becomes `a + "st"`,
 //! `typeof a + ""` becomes `typeof a`, `a || 0 || b` becomes `a || b`, `(a & 1) == 0` becomes `!(a & 1)`, `!a == !0` becomes `!a`, and
 //! `a == !0` becomes `a == 1`; `a << 0` becomes `a | 0`, and `a << 1 | 0` becomes `a << 1`. What is written is lighter in every place.
 
@@ -14,12 +14,16 @@ ghost use Rattle.mini_rows.specs.Choices.{loosely as loose};
 ghost use Rattle.mini_rows.specs.Operands.{told_by, tail_text as tail_of, makes_bits as do_they_make_bits, is_bits as are_they_bits, makes_int32 as do_they_make_int32, is_int32 as is_it_int32, keeps_bits as does_it_keep_bits, has_room as has_it_room, zero_told as zero_told_of};
 ghost use Rattle.mini_terms.specs.Kind.{is_number as is_number_of};
 ghost use Rattle.mini_tree.specs.Rule.{Applied};
+ghost use Rattle.mini_fold.specs.FoldOperators.{without_plus};
 ghost use Rattle.mini_fold.specs.FoldOperands as operand;
 ghost use Rattle.mini_fold.specs.FoldOperands.{Gives, Rests};
 ghost use Rattle.mini_fold.specs.Lighter.{operands_lighter};
 
 use crate::literals::{copied, text_of_both};
 use crate::numbers::is_same;
+use crate::rewrites::fold_operators::{
+    drops_left, drops_right, fold_delete, negated_digit, told_by_types,
+};
 use mini_model::{
     BinaryOperator, LogicalOperator, OutOfMemory, Position, Seat, Shape, Text, UnaryOperator,
     decimal,
@@ -464,27 +468,66 @@ fn fold_whole(alloc: Global, node: &mut Node) -> bool
     false
 }
 
+// By what is known of an operand.
+fn fold_sides(
+    alloc: Global,
+    node: &mut Node,
+    seat: Seat,
+    operator: BinaryOperator,
+) -> Result<bool, OutOfMemory>
+    requires { count (children node.old) ≡ 2 }
+    ensures tree { OnOk result (node.new ≡ unwrap_or (operand.operands_written seat operator node.old) node.old) }
+    ensures said { IfOk result (λ changed. changed ≡ is_some (operand.operands_written seat operator node.old)) }
+{
+    match operator {
+        BinaryOperator::Addition => fold_sum(alloc, node, seat),
+        BinaryOperator::Equality => fold_equality(alloc, node, seat, true),
+        BinaryOperator::Inequality => fold_equality(alloc, node, seat, false),
+        BinaryOperator::BitwiseOr => Ok(fold_whole(alloc, node)),
+        BinaryOperator::BitwiseAnd => fold_kept(alloc, node, seat, BinaryOperator::BitwiseAnd),
+        BinaryOperator::BitwiseXor => fold_kept(alloc, node, seat, BinaryOperator::BitwiseXor),
+        BinaryOperator::ShiftLeft => fold_kept(alloc, node, seat, BinaryOperator::ShiftLeft),
+        BinaryOperator::ShiftRight => fold_kept(alloc, node, seat, BinaryOperator::ShiftRight),
+        _ => Ok(false),
+    }
+}
+
+// `a * 2` of `+a * 2`, and `2 * a` of `2 * +a`, and else by what is known of an operand
+fn fold_plus(
+    alloc: Global,
+    node: &mut Node,
+    seat: Seat,
+    operator: BinaryOperator,
+) -> Result<bool, OutOfMemory>
+    requires { count (children node.old) ≡ 2 }
+    ensures tree { OnOk result (node.new ≡ unwrap_or (without_plus operator (part node.old 0) (part node.old 1) (operand.operands_written seat operator node.old)) node.old) }
+    ensures said { IfOk result (λ changed. changed ≡ is_some (without_plus operator (part node.old 0) (part node.old 1) (operand.operands_written seat operator node.old))) }
+{
+    if drops_left(operator, node.child(0), node.child(1)) {
+        let (left, right) = two(taken(alloc, node));
+        *node = binary(alloc, operator, one(left), right)?;
+        return Ok(true);
+    }
+    if drops_right(operator, node.child(0), node.child(1)) {
+        let (left, right) = two(taken(alloc, node));
+        *node = binary(alloc, operator, left, one(right))?;
+        return Ok(true);
+    }
+    fold_sides(alloc, node, seat, operator)
+}
+
 fn fold_binary(alloc: Global, node: &mut Node, seat: Seat) -> Result<bool, OutOfMemory>
     ensures tree { OnOk result (node.new ≡ unwrap_or (operand.binary_written seat (its_binary_operator node.old) node.old) node.old) }
     ensures said { IfOk result (λ changed. changed ≡ is_some (operand.binary_written seat (its_binary_operator node.old) node.old)) }
 {
-    match binary_operator(node) {
-        Some(BinaryOperator::Addition) => fold_sum(alloc, node, seat),
-        Some(BinaryOperator::Equality) => fold_equality(alloc, node, seat, true),
-        Some(BinaryOperator::Inequality) => fold_equality(alloc, node, seat, false),
-        Some(BinaryOperator::BitwiseOr) => Ok(fold_whole(alloc, node)),
-        Some(BinaryOperator::BitwiseAnd) => {
-            fold_kept(alloc, node, seat, BinaryOperator::BitwiseAnd)
-        }
-        Some(BinaryOperator::BitwiseXor) => {
-            fold_kept(alloc, node, seat, BinaryOperator::BitwiseXor)
-        }
-        Some(BinaryOperator::ShiftLeft) => fold_kept(alloc, node, seat, BinaryOperator::ShiftLeft),
-        Some(BinaryOperator::ShiftRight) => {
-            fold_kept(alloc, node, seat, BinaryOperator::ShiftRight)
-        }
-        _ => Ok(false),
+    let Some(operator) = binary_operator(node) else {
+        return Ok(false);
+    };
+    if let Some(truth) = told_by_types(node, operator) {
+        *node = negated_digit(alloc, truth)?;
+        return Ok(true);
     }
+    fold_plus(alloc, node, seat, operator)
 }
 
 /// An operand whose value is known goes, or is written shorter. The answer says whether it was; the only error is that memory runs
@@ -496,11 +539,12 @@ pub fn fold_operands(alloc: Global, node: &mut Node, seat: Seat) -> Result<bool,
     match node.shape() {
         Shape::LogicalExpression(_) => fold_middle(alloc, node, seat),
         Shape::BinaryExpression(_) => fold_binary(alloc, node, seat),
+        Shape::UnaryExpression(_) => fold_delete(alloc, node),
         _ => Ok(false),
     }
 }
 
-/// Rows 4, 7, 14, 27 and 29 to 32 as a rule: of each expression.
+/// Rows 2, 4, 7, 14, 16, 17, 27, 29 to 32 and 56 as a rule: of each expression.
 pub struct FoldOperands;
 
 impl<C: Context> Rule<C> for FoldOperands {

@@ -1,0 +1,188 @@
+-- What is written for an operator is what a row says, and each row is written.
+use Rattle.std.proofs.Common.{◌≡◌, ℤ, Bool, true, false, Option, Some, None, refl, sym, ap, subst, ◌∙◌, inl, inr, true≢false}
+use Rattle.std.specs.Prelude.{◌⊎◌, ◌&&◌, not, is_some, if◌then◌else◌}
+use Rattle.std.proofs.lemmas.Bool.{and_parts}
+use Rattle.mini_model.specs.declared.name.Name.{Name}
+use Rattle.mini_model.specs.declared.operator.BinaryOperator.{BinaryOperator}
+use Rattle.mini_model.specs.declared.operator.UnaryOperator.{UnaryOperator}
+use Rattle.mini_model.specs.declared.operator.UnaryOperator.TheVariants.{Typeof, Delete, UnaryPlus}
+use Rattle.mini_model.specs.declared.seat.Seat.{Seat}
+use Rattle.mini_model.specs.Tree.{Tree, unary, identifier}
+use Rattle.mini_model.specs.Position.{is_equality}
+use Rattle.mini_node.specs.Children.{part}
+use Rattle.mini_node.specs.Equal.{same_tree}
+use Rattle.mini_node.specs.Kinds.{unary_operator, is_identifier, number}
+use Rattle.mini_node.specs.Made.{unary_is, identifier_is, number_is}
+use Rattle.mini_node.proofs.Equality.{tree_same, tree_itself}
+use Rattle.mini_terms.specs.declared.kinds.Kind.{Kind}
+use Rattle.mini_terms.specs.declared.kinds.Kind.TheVariants.{Number as IsNumber}
+use Rattle.mini_terms.specs.Folds.{is_effect_free}
+use Rattle.mini_terms.specs.Kind.{is_number, kind}
+use Rattle.mini_terms.specs.Parts.{leaves_nothing}
+use Rattle.mini_terms.specs.Reading.{stands}
+use Rattle.mini_rows.specs.Booleans.{plus}
+use Rattle.mini_rows.specs.Operators.{deleted, says_equal, is_no_type, makes_numbers, Row2, Row16, Row17, Row56Left, Row56Right, OperatorRow}
+use Rattle.mini_rows.specs.Spellings.{binary, negated_digit, numeral}
+use Rattle.mini_fold.specs.FoldOperators.{delete_written, is_typeof_by, is_typeof, are_types_same, is_never_type, told_by, told, is_plus_by, is_plus, drops_left, drops_right, without_plus, boolean_or, operator_written}
+
+both_true : (b c : Bool) → b ≡ true → c ≡ true → b && c ≡ true
+both_true true c e f = f
+both_true false c e f = e
+
+some_is : (x y : Tree) → Some x ≡ Some y → x ≡ y
+some_is x y e = cc e
+
+nothing : {A : Type 0} {a : A} {B : Type 0} → None ≡ Some a → B
+nothing e = cc e
+
+-- ---- 2
+
+pub delete_row : (n w : Tree) (o : Option UnaryOperator) → unary_operator n ≡ o → delete_written o (part n 0) ≡ Some w → Row2 n w
+delete_row n w (Some Delete) h e = go (stands (part n 0)) refl e
+  where
+    go : (b : Bool) → stands (part n 0) ≡ b → (if b then Some (deleted (part n 0)) else None) ≡ Some w → Row2 n w
+    go true k f = record { operand = part n 0; value = k; shape = unary_is n Delete h; written = sym (some_is (deleted (part n 0)) w f) }
+    go false k f = nothing f
+delete_row n w o h e = nothing e
+
+-- ---- 16 and 17
+
+typeof_is : (t : Tree) → is_typeof t ≡ true → t ≡ unary Typeof (part t 0)
+typeof_is t e = go (unary_operator t) refl e
+  where
+    go : (o : Option UnaryOperator) → unary_operator t ≡ o → is_typeof_by o ≡ true → t ≡ unary Typeof (part t 0)
+    go (Some Typeof) h k = unary_is t Typeof h
+    go o h k = absurd (true≢false (sym k))
+
+same_row : (n : Tree) (o : BinaryOperator) (a b : Tree) → n ≡ binary o a b → is_equality o ≡ true → are_types_same a b ≡ true → Row16 n (negated_digit (says_equal o))
+same_row n o a b is h e =
+    let (first, rest) = and_parts (is_typeof a) (is_identifier (part a 0) && same_tree a b) e in
+    let (named, equal) = and_parts (is_identifier (part a 0)) (same_tree a b) rest in
+    let (x, name) = identifier_is (part a 0) named in
+    let left : a ≡ unary Typeof (identifier x) = typeof_is a first ∙ ap (unary Typeof) name in
+    record { operator = o; name = x; equality = h; shape = is ∙ ap (binary o a) (sym (tree_same a b equal)) ∙ ap (λ t. binary o t t) left; written = refl }
+
+never_row : (n : Tree) (o : BinaryOperator) → n ≡ binary o (part n 0) (part n 1) → is_equality o ≡ true → is_never_type n ≡ true → Row17 n (negated_digit (not (says_equal o)))
+never_row n o is h e =
+    let a : Tree = part n 0 in
+    let b : Tree = part n 1 in
+    let (first, r1) = and_parts (is_typeof a) (is_no_type b && (is_effect_free n && leaves_nothing n)) e in
+    let (known, r2) = and_parts (is_no_type b) (is_effect_free n && leaves_nothing n) r1 in
+    let (free, dropped) = and_parts (is_effect_free n) (leaves_nothing n) r2 in
+    let whole : n ≡ binary o (unary Typeof (part a 0)) b = is ∙ ap (λ t. binary o t b) (typeof_is a first) in record {
+      operator = o;
+      operand = part a 0;
+      right = b;
+      equality = h;
+      known = known;
+      effect_free = sym (ap is_effect_free whole) ∙ free;
+      dropped = sym (ap leaves_nothing whole) ∙ dropped;
+      shape = whole;
+      written = refl;
+    }
+
+told_row : (s : Seat) (n : Tree) (o : BinaryOperator) (c : Bool) → n ≡ binary o (part n 0) (part n 1) → told o n ≡ Some c → OperatorRow s n (negated_digit c)
+told_row s n o c is e = go (is_equality o) (are_types_same (part n 0) (part n 1)) (is_never_type n) refl refl refl e
+  where
+    go : (b x y : Bool) → is_equality o ≡ b → are_types_same (part n 0) (part n 1) ≡ x → is_never_type n ≡ y → (if b then told_by o x y else None) ≡ Some c → OperatorRow s n (negated_digit c)
+    go true true y h k l f = subst (λ d. OperatorRow s n (negated_digit d)) {x = says_equal o} {y = c} (cc f) (inr (inl (same_row n o (part n 0) (part n 1) is h k)))
+    go true false true h k l f = subst (λ d. OperatorRow s n (negated_digit d)) {x = not (says_equal o)} {y = c} (cc f) (inr (inr (inl (never_row n o is h l))))
+    go true false false h k l f = nothing f
+    go false x y h k l f = nothing f
+
+-- ---- 56
+
+plus_is : (t : Tree) → is_plus t ≡ true → t ≡ plus (part t 0)
+plus_is t e = go (unary_operator t) refl e
+  where
+    go : (o : Option UnaryOperator) → unary_operator t ≡ o → is_plus_by o ≡ true → t ≡ plus (part t 0)
+    go (Some UnaryPlus) h k = unary_is t UnaryPlus h
+    go o h k = absurd (true≢false (sym k))
+
+number_kind : (k : Kind) → is_number k ≡ true → k ≡ IsNumber
+number_kind IsNumber e = refl
+number_kind k e = absurd (true≢false (sym e))
+
+number_there : (t : Tree) → is_some (number t) ≡ true → (m : ℤ) × (t ≡ numeral m)
+number_there t e = go (number t) refl e
+  where
+    go : (c : Option ℤ) → number t ≡ c → is_some c ≡ true → (m : ℤ) × (t ≡ numeral m)
+    go (Some m) h k = (m, number_is t m h)
+    go None h k = absurd (true≢false (sym k))
+
+module _ (s : Seat) (n : Tree) (o : BinaryOperator) (a b : Tree) (is : n ≡ binary o a b) where
+  left_row : drops_left o a b ≡ true → Row56Left n (binary o (part a 0) b)
+  left_row e =
+      let (first, rest) = and_parts (is_plus a) (makes_numbers o && is_some (number b)) e in
+      let (numeric, there) = and_parts (makes_numbers o) (is_some (number b)) rest in
+      let (m, last) = number_there b there in
+      record { operator = o; operand = part a 0; number = m; numeric = numeric; shape = is ∙ ap (λ t. binary o t b) (plus_is a first) ∙ ap (binary o (plus (part a 0))) last; written = ap (binary o (part a 0)) last }
+
+  right_row : drops_right o a b ≡ true → Row56Right n (binary o a (part b 0))
+  right_row e =
+      let (last, rest) = and_parts (is_plus b) (makes_numbers o && is_number (kind a)) e in
+      let (numeric, known) = and_parts (makes_numbers o) (is_number (kind a)) rest in
+      record { operator = o; left = a; operand = part b 0; numeric = numeric; known = number_kind (kind a) known; shape = is ∙ ap (binary o a) (plus_is b last); written = refl }
+
+  plus_or : (w : Tree) (u : Option Tree) → without_plus o a b u ≡ Some w → OperatorRow s n w ⊎ (u ≡ Some w)
+  plus_or w u e = go (drops_left o a b) (drops_right o a b) refl refl e
+    where
+      go : (x y : Bool) → drops_left o a b ≡ x → drops_right o a b ≡ y → (if x then Some (binary o (part a 0) b) else (if y then Some (binary o a (part b 0)) else u)) ≡ Some w → OperatorRow s n w ⊎ (u ≡ Some w)
+      go true y h k f = inl (inr (inr (inr (inl (subst (Row56Left n) (some_is (binary o (part a 0) b) w f) (left_row h))))))
+      go false true h k f = inl (inr (inr (inr (inr (subst (Row56Right n) (some_is (binary o a (part b 0)) w f) (right_row k))))))
+      go false false h k f = inr f
+
+-- ---- all
+
+-- what is written is a row's, or what else would be
+pub operator_or : (s : Seat) (n w : Tree) (o : BinaryOperator) (u : Option Tree) → n ≡ binary o (part n 0) (part n 1) → operator_written o n u ≡ Some w → OperatorRow s n w ⊎ (u ≡ Some w)
+operator_or s n w o u is e = go (told o n) refl e
+  where
+    go : (c : Option Bool) → told o n ≡ c → boolean_or c (without_plus o (part n 0) (part n 1) u) ≡ Some w → OperatorRow s n w ⊎ (u ≡ Some w)
+    go (Some c) h f = inl (subst (OperatorRow s n) (some_is (negated_digit c) w f) (told_row s n o c is h))
+    go None h f = plus_or s n o (part n 0) (part n 1) is w u f
+
+-- ---- and each row is written
+
+boolean_first : (o : BinaryOperator) (b x y : Bool) (u : Option Tree) → b ≡ true → x ≡ true → is_some (boolean_or (if b then told_by o x y else None) u) ≡ true
+boolean_first o true true y u h k = refl
+boolean_first o true false y u h k = absurd (true≢false (sym k))
+boolean_first o false x y u h k = absurd (true≢false (sym h))
+
+boolean_second : (o : BinaryOperator) (b x y : Bool) (u : Option Tree) → b ≡ true → y ≡ true → is_some (boolean_or (if b then told_by o x y else None) u) ≡ true
+boolean_second o true true y u h k = refl
+boolean_second o true false true u h k = refl
+boolean_second o true false false u h k = absurd (true≢false (sym k))
+boolean_second o false x y u h k = absurd (true≢false (sym h))
+
+pub same_there : (o : BinaryOperator) (x : Name) → is_equality o ≡ true → (u : Option Tree) → is_some (operator_written o (binary o (unary Typeof (identifier x)) (unary Typeof (identifier x))) u) ≡ true
+same_there o x h u =
+    let t : Tree = unary Typeof (identifier x) in
+    boolean_first o (is_equality o) (are_types_same t t) (is_never_type (binary o t t)) (without_plus o t t u) h (tree_itself t)
+
+pub never_there : (o : BinaryOperator) (a b : Tree) → is_equality o ≡ true → is_no_type b ≡ true → is_effect_free (binary o (unary Typeof a) b) ≡ true → leaves_nothing (binary o (unary Typeof a) b) ≡ true → (u : Option Tree) → is_some (operator_written o (binary o (unary Typeof a) b) u) ≡ true
+never_there o a b h k e d u =
+    let t : Tree = binary o (unary Typeof a) b in
+    boolean_second o (is_equality o) (are_types_same (unary Typeof a) b) (is_never_type t) (without_plus o (unary Typeof a) b u) h (both_true (is_no_type b) (is_effect_free t && leaves_nothing t) k (both_true (is_effect_free t) (leaves_nothing t) e d))
+
+after_boolean : (c : Option Bool) (u : Option Tree) → is_some u ≡ true → is_some (boolean_or c u) ≡ true
+after_boolean (Some c) u h = refl
+after_boolean None u h = h
+
+first_there : (x : Bool) (t : Tree) (u : Option Tree) → x ≡ true → is_some (if x then Some t else u) ≡ true
+first_there true t u h = refl
+first_there false t u h = absurd (true≢false (sym h))
+
+second_there : (x y : Bool) (t v : Tree) (u : Option Tree) → y ≡ true → is_some (if x then Some t else (if y then Some v else u)) ≡ true
+second_there true y t v u h = refl
+second_there false y t v u h = first_there y v u h
+
+pub left_there : (o : BinaryOperator) (a : Tree) (m : ℤ) → makes_numbers o ≡ true → (u : Option Tree) → is_some (operator_written o (binary o (plus a) (numeral m)) u) ≡ true
+left_there o a m h u =
+    let t : Tree = binary o (plus a) (numeral m) in
+    after_boolean (told o t) (without_plus o (plus a) (numeral m) u) (first_there (drops_left o (plus a) (numeral m)) (binary o a (numeral m)) _ (both_true (makes_numbers o) true h refl))
+
+pub right_there : (o : BinaryOperator) (a b : Tree) → makes_numbers o ≡ true → kind a ≡ IsNumber → (u : Option Tree) → is_some (operator_written o (binary o a (plus b)) u) ≡ true
+right_there o a b h k u =
+    let t : Tree = binary o a (plus b) in
+    after_boolean (told o t) (without_plus o a (plus b) u) (second_there (drops_left o a (plus b)) (drops_right o a (plus b)) (binary o (part a 0) (plus b)) (binary o a b) u (both_true (makes_numbers o) (is_number (kind a)) h (ap is_number k)))

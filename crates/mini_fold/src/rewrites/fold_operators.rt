@@ -1,0 +1,244 @@
+//! Rows 2, 16, 17 and 56: an operator whose value is told by its operands, or that does alike without a part of them. `delete a()`
+//! becomes `a(), !0`, `typeof x == typeof x` becomes `!0`, `typeof a == null` becomes `!1`, and `+a * 2` becomes `a * 2`. What is written
+//! is lighter in every place.
+
+ghost use Rattle.std.specs.Prelude.{◌≡◌, true, is_some, unwrap_or, option_copied, OnOk, IfOk};
+ghost use Rattle.mini_model.specs.Tree.{children, count};
+ghost use Rattle.mini_model.specs.Position.{is_equality as is_it_equality};
+ghost use Rattle.mini_node.specs.Children.{part};
+ghost use Rattle.mini_node.specs.Kinds.{unary_operator as its_unary_operator};
+ghost use Rattle.mini_terms.specs.Kind.{is_number as is_number_of};
+ghost use Rattle.mini_rows.specs.Choices.{pair};
+ghost use Rattle.mini_rows.specs.Operators as row;
+ghost use Rattle.mini_rows.specs.Spellings.{negated_digit as negated_digit_of};
+ghost use Rattle.mini_fold.specs.FoldOperators as tree;
+
+use mini_model::{BinaryOperator, OutOfMemory, Text, UnaryOperator};
+use mini_node::{
+    Node, discard, is_identifier, is_same_tree, negation, number, numeric_literal, of_two, one,
+    sequence, string, taken, unary_operator,
+};
+use mini_terms::{Kind, has_no_effect, kind_of, leaves_nothing, stands};
+use std::alloc::Global;
+
+// The units of the texts that `typeof` gives, and of one that it gave of old.
+const UNDEFINED: [u16; 9] = [117, 110, 100, 101, 102, 105, 110, 101, 100];
+
+const OBJECT: [u16; 6] = [111, 98, 106, 101, 99, 116];
+
+const BOOLEAN: [u16; 7] = [98, 111, 111, 108, 101, 97, 110];
+
+const NUMBER: [u16; 6] = [110, 117, 109, 98, 101, 114];
+
+const STRING: [u16; 6] = [115, 116, 114, 105, 110, 103];
+
+const SYMBOL: [u16; 6] = [115, 121, 109, 98, 111, 108];
+
+const BIG_INT: [u16; 6] = [98, 105, 103, 105, 110, 116];
+
+const FUNCTION: [u16; 8] = [102, 117, 110, 99, 116, 105, 111, 110];
+
+const UNKNOWN: [u16; 7] = [117, 110, 107, 110, 111, 119, 110];
+
+/// `!0` for true, `!1` for false.
+pub fn negated_digit(alloc: Global, truth: bool) -> Result<Node, OutOfMemory>
+    ensures { IfOk result (λ w. w ≡ negated_digit_of truth) }
+{
+    let digit = if truth { 0 } else { 1 };
+    negation(alloc, numeric_literal(alloc, digit))
+}
+
+// `a, !0`
+fn then_true(alloc: Global, operand: Node) -> Result<Node, OutOfMemory>
+    ensures { IfOk result (λ w. w ≡ pair operand (negated_digit_of true)) }
+{
+    let last = negated_digit(alloc, true)?;
+    sequence(alloc, of_two(alloc, operand, last)?)
+}
+
+// What `delete` of a value gives, after what the value does.
+fn deleted(alloc: Global, operand: Node) -> Result<Node, OutOfMemory>
+    ensures { IfOk result (λ w. w ≡ row.deleted operand) }
+{
+    if has_no_effect(&operand) && leaves_nothing(&operand) {
+        discard(operand);
+        return negated_digit(alloc, true);
+    }
+    then_true(alloc, operand)
+}
+
+/// `delete a()` becomes `a(), !0`. The answer says whether it did; the only error is that memory runs out, and then the expression is
+/// fit only to be dropped.
+pub fn fold_delete(alloc: Global, node: &mut Node) -> Result<bool, OutOfMemory>
+    ensures tree { OnOk result (node.new ≡ unwrap_or (tree.delete_written (its_unary_operator node.old) (part node.old 0)) node.old) }
+    ensures said { IfOk result (λ changed. changed ≡ is_some (tree.delete_written (its_unary_operator node.old) (part node.old 0))) }
+{
+    match unary_operator(node) {
+        Some(UnaryOperator::Delete) if stands(node.child(0)) => {
+            *node = deleted(alloc, one(taken(alloc, node)))?;
+            Ok(true)
+        }
+        _ => Ok(false),
+    }
+}
+
+fn is_typeof(node: &Node) -> bool
+    ensures kind { result ≡ tree.is_typeof node.now }
+    ensures parts { result ≡ true → count (children node.now) ≡ 1 }
+{
+    match unary_operator(node) {
+        Some(UnaryOperator::Typeof) => true,
+        _ => false,
+    }
+}
+
+// Whether both are `typeof` of one name.
+fn are_types_same(left: &Node, right: &Node) -> bool
+    ensures { result ≡ tree.are_types_same left.now right.now }
+{
+    is_typeof(left) && is_identifier(left.child(0)) && is_same_tree(left, right)
+}
+
+// Whether engines give the text as that of a type.
+fn is_type_text(text: &Text) -> bool
+    ensures { result ≡ row.is_type_text text.now }
+{
+    let units = text.as_slice();
+    units == UNDEFINED.as_slice()
+        || units == OBJECT.as_slice()
+        || units == BOOLEAN.as_slice()
+        || units == NUMBER.as_slice()
+        || units == STRING.as_slice()
+        || units == SYMBOL.as_slice()
+        || units == BIG_INT.as_slice()
+        || units == FUNCTION.as_slice()
+        || units == UNKNOWN.as_slice()
+}
+
+// Whether its values are primitive, and no texts.
+fn is_other_kind(kind: Kind) -> bool
+    ensures { result ≡ row.is_other_kind kind }
+{
+    matches!(
+        kind,
+        Kind::Undefined | Kind::Null | Kind::Boolean | Kind::Number
+    )
+}
+
+// Whether no text that `typeof` gives equals it.
+fn is_no_type(node: &Node) -> bool
+    ensures { result ≡ row.is_no_type node.now }
+{
+    match string(node) {
+        Some(text) => !is_type_text(text),
+        None => is_other_kind(kind_of(node)),
+    }
+}
+
+// Whether `typeof` stands beside what none of its texts equals.
+fn is_never_type(node: &Node) -> bool
+    requires { count (children node.now) ≡ 2 }
+    ensures { result ≡ tree.is_never_type node.now }
+{
+    is_typeof(node.child(0))
+        && is_no_type(node.child(1))
+        && has_no_effect(node)
+        && leaves_nothing(node)
+}
+
+fn is_equality(operator: BinaryOperator) -> bool
+    ensures { result ≡ is_it_equality operator }
+{
+    match operator {
+        BinaryOperator::Equality
+        | BinaryOperator::Inequality
+        | BinaryOperator::StrictEquality
+        | BinaryOperator::StrictInequality => true,
+        _ => false,
+    }
+}
+
+fn says_equal(operator: BinaryOperator) -> bool
+    ensures { result ≡ row.says_equal operator }
+{
+    matches!(
+        operator,
+        BinaryOperator::Equality | BinaryOperator::StrictEquality
+    )
+}
+
+// What an equality tells whose sides are equal, or never are.
+fn told_of(node: &Node, operator: BinaryOperator) -> Option<bool>
+    requires { count (children node.now) ≡ 2 }
+    ensures { result ≡ tree.told_by operator (tree.are_types_same (part node.now 0) (part node.now 1)) (tree.is_never_type node.now) }
+{
+    if are_types_same(node.child(0), node.child(1)) {
+        return Some(says_equal(operator));
+    }
+    if is_never_type(node) {
+        return Some(!says_equal(operator));
+    }
+    None
+}
+
+/// What an equality of the results of `typeof` tells, as far as it is known.
+pub fn told_by_types(node: &Node, operator: BinaryOperator) -> Option<bool>
+    requires { count (children node.now) ≡ 2 }
+    ensures { result ≡ tree.told operator node.now }
+{
+    if is_equality(operator) {
+        told_of(node, operator)
+    } else {
+        None
+    }
+}
+
+// Whether it makes numbers of its operands, the left one first, whatever they are.
+fn makes_numbers(operator: BinaryOperator) -> bool
+    ensures { result ≡ row.makes_numbers operator }
+{
+    match operator {
+        BinaryOperator::Subtraction
+        | BinaryOperator::Multiplication
+        | BinaryOperator::Division
+        | BinaryOperator::Remainder
+        | BinaryOperator::Exponential
+        | BinaryOperator::BitwiseAnd
+        | BinaryOperator::BitwiseXor
+        | BinaryOperator::BitwiseOr
+        | BinaryOperator::ShiftLeft
+        | BinaryOperator::ShiftRight
+        | BinaryOperator::ShiftRightZeroFill => true,
+        _ => false,
+    }
+}
+
+fn is_plus(node: &Node) -> bool
+    ensures kind { result ≡ tree.is_plus node.now }
+    ensures parts { result ≡ true → count (children node.now) ≡ 1 }
+{
+    match unary_operator(node) {
+        Some(UnaryOperator::UnaryPlus) => true,
+        _ => false,
+    }
+}
+
+fn is_number_kind(kind: Kind) -> bool
+    ensures { result ≡ is_number_of kind }
+{
+    matches!(kind, Kind::Number)
+}
+
+/// Whether the plus of `+a * 2` goes.
+pub fn drops_left(operator: BinaryOperator, left: &Node, right: &Node) -> bool
+    ensures { result ≡ tree.drops_left operator left.now right.now }
+{
+    is_plus(left) && makes_numbers(operator) && number(right).is_some()
+}
+
+/// Whether the plus of `2 * +a` goes.
+pub fn drops_right(operator: BinaryOperator, left: &Node, right: &Node) -> bool
+    ensures { result ≡ tree.drops_right operator left.now right.now }
+{
+    is_plus(right) && makes_numbers(operator) && is_number_kind(kind_of(left))
+}

@@ -1,0 +1,164 @@
+-- What a row on operators writes keeps all that a program has to keep: it is built anew of the same parts.
+use Rattle.std.proofs.Common.{◌≡◌, Bool, true, false, [], ◌∷◌, refl, sym, subst, inl, inr, true≢false}
+use Rattle.std.specs.Prelude.{◌&&◌, not, pos, if◌then◌else◌}
+use Rattle.std.proofs.lemmas.Bool.{and_parts}
+use Rattle.mini_model.specs.declared.name.Name.{Name}
+use Rattle.mini_model.specs.declared.operator.BinaryOperator.{BinaryOperator}
+use Rattle.mini_model.specs.declared.operator.UnaryOperator.TheVariants.{Typeof, Delete, UnaryPlus, LogicalNot}
+use Rattle.mini_model.specs.declared.place.Position.TheVariants.{Expr}
+use Rattle.mini_model.specs.declared.seat.Seat.{Seat}
+use Rattle.mini_model.specs.Tree.{Tree, none, ◌▸◌, unary, identifier}
+use Rattle.mini_accept.specs.WellShaped.{Slot, fits}
+use Rattle.mini_kept.specs.KeepsShapes.{AskedAlike}
+use Rattle.mini_kept.proofs.Bools.{both}
+use Rattle.mini_kept.proofs.Expressions.{expression, TakesExpression, two_fit}
+use Rattle.mini_terms.specs.Folds.{is_effect_free}
+use Rattle.mini_terms.specs.Parts.{leaves_nothing}
+use Rattle.mini_rows.specs.Arranged.{KeptAt, Vanishes}
+use Rattle.mini_rows.specs.Booleans.{plus}
+use Rattle.mini_rows.specs.Choices.{pair}
+use Rattle.mini_rows.specs.Operators.{deleted, says_equal, Row17, OperatorRow}
+use Rattle.mini_rows.specs.Sketches.{Number, Unary, Binary, Sequence, Sketch, part, under, list, end, ◌▹◌, no_items, item, Free}
+use Rattle.mini_rows.specs.Spellings.{binary, negated_digit, numeral}
+use Rattle.mini_rows.proofs.ArrangedExpressions.{expressions_arranged, expressions_arranged_freely}
+use Rattle.mini_rows.proofs.ChoiceShapes.{pair_fits}
+use Rattle.mini_rows.proofs.ConstantLawful.{unary_at, binary_at}
+use Rattle.mini_rows.proofs.FoldLawful.{vanishes, first_dropped}
+
+-- ---- the same parts
+
+abbrev a_boolean : Bool → Sketch
+a_boolean true = under (Unary LogicalNot) (under (Number (pos 0)) end ▹ end)
+a_boolean false = under (Unary LogicalNot) (under (Number (pos 1)) end ▹ end)
+
+deleted_kept : (a : Tree) (q : Seat) (n w : Tree) → n ≡ unary Delete a → w ≡ deleted a → KeptAt (Expr q) n w
+deleted_kept a q n w e f = go (is_effect_free a && leaves_nothing a) refl f
+  where
+    go : (b : Bool) → is_effect_free a && leaves_nothing a ≡ b → w ≡ (if b then negated_digit true else pair a (negated_digit true)) → KeptAt (Expr q) n w
+    go true h g = expressions_arranged_freely first_dropped (record { trees = a ▸ none; lists = [] }) (tt, tt, (vanishes a (and_parts (is_effect_free a) (leaves_nothing a) h).1, tt)) (under (Unary Delete) (part 0 ▹ end)) (a_boolean true) refl q n w e g
+    go false h g = expressions_arranged (record { trees = a ▸ none; lists = [] }) (under (Unary Delete) (part 0 ▹ end)) (under Sequence (list (item (part 0) (item (a_boolean true) no_items)) ▹ end)) refl q n w e g
+
+abbrev both_dropped : Free
+both_dropped = record { moved = []; lists_moved = []; dropped = 0 ∷ 1 ∷ [] }
+
+-- both sides go
+told_kept : (o : BinaryOperator) (a b : Tree) (c : Bool) → Vanishes a → Vanishes b → (q : Seat) (n w : Tree) → n ≡ binary o a b → w ≡ negated_digit c → KeptAt (Expr q) n w
+told_kept o a b true x y q n w e f = expressions_arranged_freely both_dropped (record { trees = a ▸ b ▸ none; lists = [] }) (tt, tt, (x, (y, tt))) (under (Binary o) (part 0 ▹ part 1 ▹ end)) (a_boolean true) refl q n w e f
+told_kept o a b false x y q n w e f = expressions_arranged_freely both_dropped (record { trees = a ▸ b ▸ none; lists = [] }) (tt, tt, (x, (y, tt))) (under (Binary o) (part 0 ▹ part 1 ▹ end)) (a_boolean false) refl q n w e f
+
+both_vanish : (o : BinaryOperator) (a b : Tree) → leaves_nothing (binary o a b) ≡ true → Vanishes a × Vanishes b
+both_vanish o a b e = let (first, rest) = and_parts (leaves_nothing a) (leaves_nothing b && true) e in (vanishes a first, vanishes b (and_parts (leaves_nothing b) true rest).0)
+
+type_kept : (q : Seat) (n w : Tree) → Row17 n w → KeptAt (Expr q) n w
+type_kept q n w r =
+    let (first, second) = both_vanish r.operator (unary Typeof r.operand) r.right r.dropped in
+    told_kept r.operator (unary Typeof r.operand) r.right (not (says_equal r.operator)) first second q n w r.shape r.written
+
+types_kept : (o : BinaryOperator) (x : Name) (q : Seat) (n w : Tree) → n ≡ binary o (unary Typeof (identifier x)) (unary Typeof (identifier x)) → w ≡ negated_digit (says_equal o) → KeptAt (Expr q) n w
+types_kept o x q n w e f = let goes = vanishes (unary Typeof (identifier x)) refl in told_kept o (unary Typeof (identifier x)) (unary Typeof (identifier x)) (says_equal o) goes goes q n w e f
+
+pub operator_kept : (q : Seat) (n w : Tree) → OperatorRow q n w → KeptAt (Expr q) n w
+operator_kept q n w (inl r) = deleted_kept r.operand q n w r.shape r.written
+operator_kept q n w (inr (inl r)) = types_kept r.operator r.name q n w r.shape r.written
+operator_kept q n w (inr (inr (inl r))) = type_kept q n w r
+operator_kept q n w (inr (inr (inr (inl r)))) = expressions_arranged (record { trees = r.operand ▸ none; lists = [] }) (under (Binary r.operator) (under (Unary UnaryPlus) (part 0 ▹ end) ▹ under (Number r.number) end ▹ end)) (under (Binary r.operator) (part 0 ▹ under (Number r.number) end ▹ end)) refl q n w r.shape r.written
+operator_kept q n w (inr (inr (inr (inr r)))) = expressions_arranged (record { trees = r.left ▸ r.operand ▸ none; lists = [] }) (under (Binary r.operator) (part 0 ▹ under (Unary UnaryPlus) (part 1 ▹ end) ▹ end)) (under (Binary r.operator) (part 0 ▹ part 1 ▹ end)) refl q n w r.shape r.written
+
+-- ---- where they stand
+
+module _ (strict : Bool) (s : Slot) where
+  abbrev Fits : Tree → Type 0
+  Fits t = fits strict expression t ≡ true
+
+  boolean_fits : (c : Bool) → Fits (negated_digit c)
+  boolean_fits true = refl
+  boolean_fits false = refl
+
+  deleted_fits : (a : Tree) → Fits a → Fits (deleted a)
+  deleted_fits a e = go (is_effect_free a && leaves_nothing a)
+    where
+      go : (b : Bool) → Fits (if b then negated_digit true else pair a (negated_digit true))
+      go true = refl
+      go false = pair_fits strict a (negated_digit true) e refl
+
+  of_plus : (a : Tree) → Fits (plus a) → Fits a
+  of_plus a e = (unary_at strict UnaryPlus a expression e).1
+
+  -- what is written, where an expression is taken
+  pub operator_stood : (q : Seat) (n w : Tree) → OperatorRow q n w → fits strict s n ≡ true → TakesExpression s × Fits w
+  operator_stood q n w (inl r) e =
+      let (takes, fit) = unary_at strict Delete r.operand s (subst (λ t. fits strict s t ≡ true) r.shape e) in
+      (takes, subst Fits (sym r.written) (deleted_fits r.operand fit))
+  operator_stood q n w (inr (inl r)) e =
+      let (takes, both) = binary_at strict r.operator (unary Typeof (identifier r.name)) (unary Typeof (identifier r.name)) s (subst (λ t. fits strict s t ≡ true) r.shape e) in
+      (takes, subst Fits (sym r.written) (boolean_fits (says_equal r.operator)))
+  operator_stood q n w (inr (inr (inl r))) e =
+      let (takes, both) = binary_at strict r.operator (unary Typeof r.operand) r.right s (subst (λ t. fits strict s t ≡ true) r.shape e) in
+      (takes, subst Fits (sym r.written) (boolean_fits (not (says_equal r.operator))))
+  operator_stood q n w (inr (inr (inr (inl r)))) e =
+      let (takes, (first, second)) = binary_at strict r.operator (plus r.operand) (numeral r.number) s (subst (λ t. fits strict s t ≡ true) r.shape e) in
+      (takes, subst Fits (sym r.written) (two_fit strict r.operand (numeral r.number) (of_plus r.operand first) second))
+  operator_stood q n w (inr (inr (inr (inr r)))) e =
+      let (takes, (first, second)) = binary_at strict r.operator r.left (plus r.operand) s (subst (λ t. fits strict s t ≡ true) r.shape e) in
+      (takes, subst Fits (sym r.written) (two_fit strict r.left r.operand first (of_plus r.operand second)))
+
+-- ---- what a parent asks of them
+
+deleted_asked : (q : Seat) (a b : Tree) → AskedAlike (Expr q) (unary Delete a) (deleted b)
+deleted_asked q a b = go (is_effect_free b && leaves_nothing b)
+  where
+    go : (c : Bool) → AskedAlike (Expr q) (unary Delete a) (if c then negated_digit true else pair b (negated_digit true))
+    go true = record {
+      absent = λ e. absurd (true≢false (sym e));
+      body = λ e. absurd (true≢false (sym e));
+      optional = λ e. absurd (true≢false (sym e));
+      number = λ asks e. refl;
+      spelled = λ s e. absurd (cc e);
+      plain = refl;
+    }
+    go false = record {
+      absent = λ e. absurd (true≢false (sym e));
+      body = λ e. absurd (true≢false (sym e));
+      optional = λ e. absurd (true≢false (sym e));
+      number = λ asks e. refl;
+      spelled = λ s e. absurd (cc e);
+      plain = refl;
+    }
+
+told_asked : (q : Seat) (o : BinaryOperator) (a b : Tree) (c : Bool) → AskedAlike (Expr q) (binary o a b) (negated_digit c)
+told_asked q o a b true = record {
+  absent = λ e. absurd (true≢false (sym e));
+  body = λ e. absurd (true≢false (sym e));
+  optional = λ e. absurd (true≢false (sym e));
+  number = λ asks e. refl;
+  spelled = λ s e. absurd (cc e);
+  plain = refl;
+}
+told_asked q o a b false = record {
+  absent = λ e. absurd (true≢false (sym e));
+  body = λ e. absurd (true≢false (sym e));
+  optional = λ e. absurd (true≢false (sym e));
+  number = λ asks e. refl;
+  spelled = λ s e. absurd (cc e);
+  plain = refl;
+}
+
+binary_asked : (q : Seat) (o : BinaryOperator) (a b c d : Tree) → AskedAlike (Expr q) (binary o a b) (binary o c d)
+binary_asked q o a b c d = record {
+  absent = λ e. absurd (true≢false (sym e));
+  body = λ e. absurd (true≢false (sym e));
+  optional = λ e. absurd (true≢false (sym e));
+  number = λ asks e. refl;
+  spelled = λ s e. absurd (cc e);
+  plain = refl;
+}
+
+asked_by : (q : Seat) (n w a b : Tree) → n ≡ a → w ≡ b → AskedAlike (Expr q) a b → AskedAlike (Expr q) n w
+asked_by q n w a b e f h = subst (λ t. AskedAlike (Expr q) t w) (sym e) (subst (AskedAlike (Expr q) a) (sym f) h)
+
+pub operator_asked : (q : Seat) (n w : Tree) → OperatorRow q n w → AskedAlike (Expr q) n w
+operator_asked q n w (inl r) = asked_by q n w _ _ r.shape r.written (deleted_asked q r.operand r.operand)
+operator_asked q n w (inr (inl r)) = asked_by q n w _ _ r.shape r.written (told_asked q r.operator (unary Typeof (identifier r.name)) (unary Typeof (identifier r.name)) (says_equal r.operator))
+operator_asked q n w (inr (inr (inl r))) = asked_by q n w _ _ r.shape r.written (told_asked q r.operator (unary Typeof r.operand) r.right (not (says_equal r.operator)))
+operator_asked q n w (inr (inr (inr (inl r)))) = asked_by q n w _ _ r.shape r.written (binary_asked q r.operator (plus r.operand) (numeral r.number) r.operand (numeral r.number))
+operator_asked q n w (inr (inr (inr (inr r)))) = asked_by q n w _ _ r.shape r.written (binary_asked q r.operator r.left (plus r.operand) r.left r.operand)
