@@ -47,7 +47,7 @@ use Rattle.mini_rows.proofs.ConstantLawful.{constants_lawful}
 use Rattle.mini_rows.proofs.KeysJoined.{held_keys_lawful}
 use Rattle.mini_rows.proofs.CatchLawful.{catches_lawful}
 use Rattle.mini_rows.proofs.NameLawful.{names_lawful}
-use Rattle.mini_rows.proofs.ArrowBodyLawful.{unused_loose}
+use Rattle.mini_rows.proofs.FunctionBodyLawful.{unused_loose}
 
 module _ (o : Switches) where
   -- by family

@@ -1,9 +1,9 @@
--- What the rows of names that nothing mentions write of an arrow function is loosely lawful, and so is what all of them write.
+-- What the rows of names that nothing mentions write of an arrow function is loosely lawful.
 use Rattle.std.specs.Prelude.{ℕ, ◌≡◌, ◌⊎◌, refl, ◌&&◌, Bool, true, false, List, [], ◌++◌, Contains, None}
 use Rattle.std.proofs.Common.{ap, ◌∙◌, sym, subst, inl, inr, true≢false}
 use Rattle.mini_model.specs.declared.name.Name.{Name}
 use Rattle.mini_model.specs.declared.place.Position.{Position}
-use Rattle.mini_model.specs.declared.place.Position.TheVariants.{Expr, Stmt}
+use Rattle.mini_model.specs.declared.place.Position.TheVariants.{Expr}
 use Rattle.mini_model.specs.declared.seat.Seat.{Seat}
 use Rattle.mini_model.specs.declared.shape.Shape.{Shape}
 use Rattle.mini_model.specs.declared.shape.Shape.TheVariants as shape
@@ -40,16 +40,14 @@ use Rattle.mini_kept.proofs.Expressions.{TakesExpressionIn, TakesExpression, ref
 use Rattle.mini_kept.proofs.FrameLists as frame_list
 use Rattle.mini_kept.proofs.FrameRows.{expression_slot}
 use Rattle.mini_kept.proofs.InOrder.{in_order}
-use Rattle.mini_kept.proofs.Loosely.{loose_join, loose_narrowed}
 use Rattle.mini_kept.proofs.ShownFrames.{kept_shown}
 use Rattle.mini_kept.proofs.WithoutLists as without
 use Rattle.mini_kept.proofs.WithoutLists.{from_kept}
-use Rattle.mini_rows.specs.Unused.{resolved, statements, arrow_with, ArrowBodyRow, UnusedContracts, UnusedAreLawful}
+use Rattle.mini_rows.specs.Unused.{resolved, statements, arrow_with, ArrowBodyRow}
 use Rattle.mini_rows.proofs.ArrangedBodies.{quiet}
-use Rattle.mini_rows.proofs.ArrowBodyKept.{arrow_less, arrow_keeps, arrow_fixed, frames_behind, bodies_behind, arrow_declares}
+use Rattle.mini_rows.proofs.FunctionBodyKept.{arrow_less, arrow_keeps, arrow_fixed, frames_behind, bodies_behind, arrow_declares}
 use Rattle.mini_rows.proofs.ListShapes.{append_fits, both_fit}
 use Rattle.mini_rows.proofs.UnusedKept.{all_append}
-use Rattle.mini_rows.proofs.UnusedLawful.{OfBlock, blocks_loose}
 use Rattle.mini_rows.proofs.UnusedMeaning.{statements_same}
 use Rattle.mini_rows.proofs.UnusedNames.{all_avoided, all_unmentioned}
 use Rattle.mini_rows.proofs.UnusedStretches.{body_item, Stretch, row_stretch}
@@ -125,7 +123,7 @@ module _ (ds : List (List ℕ)) (k : ℕ) (ps a b : Trees) (h : (strict : Bool) 
   in_slot strict (one_or_absent c) e = let (takes, f) = arrow_in strict c e in (takes, f)
   in_slot strict s e = absurd (refused_here strict s (shape.ArrowFunctionExpression ds) [] k (listed ps ▸ (statements a ▸ none)) refl e)
 
-list_fits : (p : Tree) (a b : Trees) → Stretch p a b → (strict : Bool) → fill strict (each body_item) a ≡ true → fill strict (each body_item) b ≡ true
+pub list_fits : (p : Tree) (a b : Trees) → Stretch p a b → (strict : Bool) → fill strict (each body_item) a ≡ true → fill strict (each body_item) b ≡ true
 list_fits p a b t strict e =
     let (x, y) = both_fit strict body_item t.before (append t.d t.after) (sym (ap (fill strict (each body_item)) t.read_is) ∙ e) in
     let (z, v) = both_fit strict body_item t.d t.after y in
@@ -133,11 +131,34 @@ list_fits p a b t strict e =
 
 -- ---- an instance
 
-record Instance (s : Seat) (n w : Tree) : Type 0 where
-  symbol : ℕ
-  keeps : KeepsLoosely (Expr s) n w
-  drops : (K : Shape → Bool) → Drops K symbol (Expr s) n w
-  declared_there : (y : Name) → Contains (declared w) y → Contains (declared n) y
+pub record Instance (p : Position) (n w : Tree) : Type 0 where
+  pub symbol : ℕ
+  pub keeps : KeepsLoosely p n w
+  pub drops : (K : Shape → Bool) → Drops K symbol p n w
+  pub declared_there : (y : Name) → Contains (declared w) y → Contains (declared n) y
+
+-- the statements, behind what stands before them
+module _ (p : Tree) (a b : Trees) (t : Stretch p a b) where
+  abbrev gone : VariableSet
+  gone = alone (Declared t.symbol)
+
+  abbrev statements_before : Trees
+  statements_before = append t.before (append t.d t.after)
+
+  abbrev statements_after : Trees
+  statements_after = append t.before (append t.w t.after)
+
+  pub none_mention : AllUnmentioned (record { name = resolved t.spelling t.symbol; hoists = false }) statements_after
+  none_mention =
+      let x = resolved t.spelling t.symbol in
+      all_append (record { name = x; hoists = false }) t.before (append t.w t.after) (all_unmentioned x t.symbol refl t.before t.earlier) (all_append (record { name = x; hoists = false }) t.w t.after t.loses.leaves.unmentioned (all_unmentioned x t.symbol refl t.after t.later))
+
+  pub statements_run : (e : Environment) → Unseen gone e → (X : VariableSet) → RunsAs e FunctionStatements FunctionStatements X (statements statements_before) (statements statements_after)
+  statements_run e u X =
+      let x = resolved t.spelling t.symbol in
+      let same = statements_same e t.spelling t.symbol u t.before t.after t.d t.w t.loses.read (all_avoided x t.symbol refl t.before t.earlier) t.loses.avoids (all_avoided x t.symbol refl t.after t.later) (t.loses.same e u) in
+      let whole = body_same e gone X u.shared FunctionStatements (statements statements_before) (statements statements_after) (weaker e gone gone nothing X (within_refl gone) (no_within X) (Stat None) (statements statements_before) (statements statements_after) same) in
+      record { by = whole.by }
 
 module _ (s : Seat) (ds : List (List ℕ)) (number : ℕ) (ps a b : Trees) (t : Stretch (listed ps) a b) where
   abbrev x : Name
@@ -158,18 +179,8 @@ module _ (s : Seat) (ds : List (List ℕ)) (number : ℕ) (ps a b : Trees) (t : 
   abbrev that : Tree
   that = arrow_with ds number ps second_list
 
-  unmentioned : AllUnmentioned (record { name = x; hoists = false }) second_list
-  unmentioned =
-      all_append (record { name = x; hoists = false }) t.before (append t.w t.after) (all_unmentioned x t.symbol refl t.before t.earlier) (all_append (record { name = x; hoists = false }) t.w t.after t.loses.leaves.unmentioned (all_unmentioned x t.symbol refl t.after t.later))
-
   keeps : Keeps (Expr s) this that
-  keeps = arrow_keeps ds number (listed ps) x t.before t.after t.d t.w t.loses.leaves t.loses.declares t.outside t.earlier t.later unmentioned s
-
-  runs : (e : Environment) → Unseen D e → (X : VariableSet) → RunsAs e FunctionStatements FunctionStatements X (statements first_list) (statements second_list)
-  runs e u X =
-      let same = statements_same e t.spelling t.symbol u t.before t.after t.d t.w t.loses.read (all_avoided x t.symbol refl t.before t.earlier) t.loses.avoids (all_avoided x t.symbol refl t.after t.later) (t.loses.same e u) in
-      let whole = body_same e D X u.shared FunctionStatements (statements first_list) (statements second_list) (weaker e D D nothing X (within_refl D) (no_within X) (Stat None) (statements first_list) (statements second_list) same) in
-      record { by = whole.by }
+  keeps = arrow_keeps (listed ps) x t.before t.after t.d t.w t.loses.leaves t.loses.declares t.outside t.earlier t.later ds number (none_mention (listed ps) a b t) s
 
   abbrev own : Around → Trees → List Body
   own a ts = body_of a (shape.ArrowFunctionExpression ds) number (arrow_with ds number ps ts) (listed ps ▸ (statements ts ▸ none))
@@ -180,10 +191,10 @@ module _ (s : Seat) (ds : List (List ℕ)) (number : ℕ) (ps a b : Trees) (t : 
   abbrev bodies_after : Around → Trees → List Body
   bodies_after a ts = bodies (around a 0) (listed ps) ++ ((bodies (quiet (around a 1)) (listed ts) ++ []) ++ [])
 
-  arrow_bodies : (a : Around) → BodiesWithout D (bodies a this) (bodies a that)
-  arrow_bodies a =
-      without.each_of D (own a first_list) (bodies_after a first_list) (own a second_list) (bodies_after a second_list) (inl (record { number = refl; kind = inl refl; strict = refl; asks_this = refl; same = runs }), tt)
-      (from_kept D (bodies_after a first_list) (bodies_after a second_list) (bodies_behind ds number (listed ps) x t.before t.after t.d t.w t.loses.leaves t.loses.declares t.outside t.earlier t.later (around a 0) (around a 1)))
+  arrow_bodies : (e : Around) → BodiesWithout D (bodies e this) (bodies e that)
+  arrow_bodies e =
+      without.each_of D (own e first_list) (bodies_after e first_list) (own e second_list) (bodies_after e second_list) (inl (record { number = refl; kind = inl refl; strict = refl; asks_this = refl; same = statements_run (listed ps) a b t }), tt)
+      (from_kept D (bodies_after e first_list) (bodies_after e second_list) (bodies_behind (listed ps) x t.before t.after t.d t.w t.loses.leaves t.loses.declares t.outside t.earlier t.later (around e 0) (around e 1)))
 
   abbrev own_frame : List Frame
   own_frame = frame_of None (shape.ArrowFunctionExpression ds) number (outline (shape.ArrowFunctionExpression ds) [] number (listed ps ▸ (statements first_list ▸ none))) (globals (shape.ArrowFunctionExpression ds) (listed ps ▸ (statements first_list ▸ none)))
@@ -192,38 +203,38 @@ module _ (s : Seat) (ds : List (List ℕ)) (number : ℕ) (ps a b : Trees) (t : 
   frames_after ts = frames None (listed ps) ++ ((frames None (listed ts) ++ []) ++ [])
 
   arrow_frames : FramesKept (frames None this) (frames None that)
-  arrow_frames = frame_list.each_of own_frame (frames_after first_list) own_frame (frames_after second_list) (λ f c. c) (frames_behind ds number (listed ps) x t.before t.after t.d t.w t.loses.leaves t.loses.declares t.outside t.earlier t.later)
+  arrow_frames = frame_list.each_of own_frame (frames_after first_list) own_frame (frames_after second_list) (λ f c. c) (frames_behind (listed ps) x t.before t.after t.d t.w t.loses.leaves t.loses.declares t.outside t.earlier t.later)
 
   dropped : (K : Shape → Bool) → Drops K t.symbol (Expr s) this that
   dropped K = record {
     kept = keeps.kept;
-    less = arrow_less ds number (listed ps) x t.before t.after t.d t.w t.loses.leaves t.loses.declares t.outside t.earlier t.later t.symbol refl;
+    less = arrow_less (listed ps) x t.before t.after t.d t.w t.loses.leaves t.loses.declares t.outside t.earlier t.later ds number t.symbol refl;
     same = λ e u q f. weaker e nothing D nothing nothing (no_within D) (no_within nothing) q this that ((same_at ds number ps first_list second_list (Expr s)).by e nothing nothing q f);
-    fixed = arrow_fixed ds number (listed ps) x t.before t.after t.d t.w t.loses.leaves t.loses.declares t.outside t.earlier t.later;
+    fixed = arrow_fixed (listed ps) x t.before t.after t.d t.w t.loses.leaves t.loses.declares t.outside t.earlier t.later ds number;
     frames = λ strict c g f. kept_shown (gone_from K D) no_key (frames None this) (frames None that) arrow_frames;
     bodies = λ strict c g f a z. arrow_bodies a;
   }
 
-  stretched : Instance s this that
+  stretched : Instance (Expr s) this that
   stretched = record {
     symbol = t.symbol;
     keeps = in_order (Expr s) this that keeps;
     drops = dropped;
-    declared_there = arrow_declares ds number (listed ps) x t.before t.after t.d t.w t.loses.leaves t.loses.declares t.outside t.earlier t.later;
+    declared_there = arrow_declares (listed ps) x t.before t.after t.d t.w t.loses.leaves t.loses.declares t.outside t.earlier t.later ds number;
   }
 
-instance : (s : Seat) (n w : Tree) → ArrowBodyRow n w → Instance s n w
+instance : (s : Seat) (n w : Tree) → ArrowBodyRow n w → Instance (Expr s) n w
 instance s n w r =
     let t = row_stretch (listed r.parameters) r.before r.after refl r.row in
     let first = r.shape ∙ ap (arrow_with r.directives r.number r.parameters) t.read_is in
     let second = r.written ∙ ap (arrow_with r.directives r.number r.parameters) t.written_is in
-    subst (λ v. Instance s v w) (sym first)
-    (subst (Instance s (arrow_with r.directives r.number r.parameters (append t.before (append t.d t.after)))) (sym second) (stretched s r.directives r.number r.parameters r.before r.after t))
+    subst (λ v. Instance (Expr s) v w) (sym first)
+    (subst (Instance (Expr s) (arrow_with r.directives r.number r.parameters (append t.before (append t.d t.after)))) (sym second) (stretched s r.directives r.number r.parameters r.before r.after t))
 
 -- ---- all
 
 -- of an expression
-abbrev OfArrow : Position → Tree → Tree → Type 0
+abbrev pub OfArrow : Position → Tree → Tree → Type 0
 OfArrow (Expr s) n w = ArrowBodyRow n w
 OfArrow p n w = ⊥
 
@@ -242,7 +253,7 @@ at_arrow : (P : Position → Tree → Tree → Type 0) → ((s : Seat) (n w : Tr
 at_arrow P f (Expr s) n w r = f s n w r
 at_arrow P f p n w r = absurd r
 
-arrows_loose : (K : Shape → Bool) → LawfulLoosely K OfArrow
+pub arrows_loose : (K : Shape → Bool) → LawfulLoosely K OfArrow
 arrows_loose K = record {
   shapes = record {
     fitting = at_arrow (λ p n w. (strict : Bool) (s : Slot) → fits_place p s ≡ true → fits strict s n ≡ true → fits strict s w ≡ true) (λ q n w r strict s z e. (stands n w r strict s e).1);
@@ -264,11 +275,3 @@ arrows_loose K = record {
   declared = at_arrow (λ p n w. (y : Name) → Contains (declared w) y → Contains (declared n) y) (λ q n w r. (instance q n w r).declared_there);
   instances = at_arrow (λ p n w. Stays p n w ⊎ ((k : ℕ) × Drops K k p n w)) (λ q n w r. let i = instance q n w r in inr (i.symbol, i.drops K));
 }
-
-either_holder : (p : Position) (n w : Tree) → UnusedContracts p n w → OfBlock p n w ⊎ OfArrow p n w
-either_holder (Stmt q) n w c = inl c.row
-either_holder (Expr s) n w c = inr c.row
-either_holder p n w c = absurd c.row
-
-pub unused_loose : UnusedAreLawful
-unused_loose K = loose_narrowed UnusedContracts (λ p n w. OfBlock p n w ⊎ OfArrow p n w) K either_holder (loose_join OfBlock OfArrow K (blocks_loose K) (arrows_loose K))

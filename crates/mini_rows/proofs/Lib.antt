@@ -114,8 +114,9 @@ pub mod UnusedKept
 pub mod UnusedLawful
 pub mod UnusedWeights
 pub mod UnusedStretches
-pub mod ArrowBodyKept
+pub mod FunctionBodyKept
 pub mod ArrowBodyLawful
+pub mod FunctionBodyLawful
 pub mod DeMorganMeaning
 pub mod DeMorganLawful
 pub mod NegationMeaning

@@ -5,7 +5,8 @@ use Rattle.std.proofs.lemmas.Bool.{and_parts}
 use Rattle.mini_model.specs.declared.kind.VariableDeclarationKind.TheVariants.{Let}
 use Rattle.mini_model.specs.declared.name.Name.{Name}
 use Rattle.mini_model.specs.declared.place.Position.{Position}
-use Rattle.mini_model.specs.declared.place.Position.TheVariants.{Expr, Stmt}
+use Rattle.mini_model.specs.declared.place.Position.TheVariants.{Expr, Stmt, Method, Elsewhere}
+use Rattle.mini_model.specs.declared.seat.Seat.{Seat}
 use Rattle.mini_model.specs.declared.seat.StmtSeat.{StmtSeat}
 use Rattle.mini_model.specs.declared.seat.StmtSeat.TheVariants as stmt_seat
 use Rattle.mini_model.specs.Tree.{Tree, Trees, none, ◌▸◌, listed, shape_of, expression_statement}
@@ -16,7 +17,7 @@ use Rattle.mini_laws.specs.Weights.{Lightens}
 use Rattle.mini_laws.proofs.Seats.{moved}
 use Rattle.mini_rows.specs.Declarations.{binding, declarator}
 use Rattle.mini_rows.specs.Lists.{block, declaration}
-use Rattle.mini_rows.specs.Unused.{resolved, let_among, let_one, left_over, is_definition, BlockRow, UnusedRow, UnusedContracts, UnusedLighter}
+use Rattle.mini_rows.specs.Unused.{resolved, let_among, let_one, left_over, is_definition, BlockRow, ArrowBodyRow, FunctionBodyRow, UnusedRow, UnusedContracts, UnusedLighter}
 use Rattle.mini_terms.specs.Reading.{is_plain_part}
 use Rattle.mini_rows.proofs.SingleWeights.{single_falls}
 use Rattle.mini_rows.proofs.ListWeights.{total, list_is, body_is, in_list, comma_list, declarators_append}
@@ -72,10 +73,9 @@ block_lighter q n w (inr (inr r)) =
     let falls = single_falls q r.before r.is_constant r.first r.spelling r.symbol r.init r.head r.after plain r.once in
     omega (arith, falls, ap (weight (Stmt q)) r.shape, ap (weight (Stmt q)) r.written)
 
--- a function's body by the block that its parameters and its statements would be
-pub unused_lighter : UnusedLighter
-unused_lighter (Stmt q) n w r = block_lighter q n w r
-unused_lighter (Expr s) n w r =
+-- a function's body by the block that what stands before it and its statements would be
+arrow_lighter : (s : Seat) (n w : Tree) → ArrowBodyRow n w → weight (Expr s) w < weight (Expr s) n
+arrow_lighter s n w r =
     let less = block_lighter stmt_seat.List (block (listed r.parameters ▸ r.before)) (block (listed r.parameters ▸ r.after)) r.row in
     omega (
       arith,
@@ -87,15 +87,36 @@ unused_lighter (Expr s) n w r =
       ap (weight (Expr s)) r.shape,
       ap (weight (Expr s)) r.written,
     )
+
+function_lighter : (p : Position) (n w : Tree) → FunctionBodyRow n w → weight p w < weight p n
+function_lighter p n w r =
+    let front = listed (r.name ▸ r.parameters) in
+    let less = block_lighter stmt_seat.List (block (front ▸ r.before)) (block (front ▸ r.after)) r.row in
+    omega (arith, less, list_is (front ▸ r.before), list_is (front ▸ r.after), body_is r.before, body_is r.after, ap (weight p) r.shape, ap (weight p) r.written)
+
+pub unused_lighter : UnusedLighter
+unused_lighter (Stmt q) n w (inl r) = block_lighter q n w r
+unused_lighter (Stmt q) n w (inr r) = function_lighter (Stmt q) n w r
+unused_lighter (Expr s) n w (inl r) = arrow_lighter s n w r
+unused_lighter (Expr s) n w (inr r) = function_lighter (Expr s) n w r
+unused_lighter Method n w r = function_lighter Method n w r
+unused_lighter Elsewhere n w r = function_lighter Elsewhere n w r
 unused_lighter p n w r = absurd r
 
 -- ---- what a parent reads of them
 
+function_outline : (n w : Tree) → FunctionBodyRow n w → outline n ≡ outline w
+function_outline n w r = ap outline r.shape ∙ sym (ap outline r.written)
+
 same_outline : (p : Position) (n w : Tree) → UnusedRow p n w → outline n ≡ outline w
-same_outline (Stmt q) n w (inl r) = ap outline r.shape ∙ sym (ap outline r.written)
-same_outline (Stmt q) n w (inr (inl r)) = ap outline r.shape ∙ sym (ap outline r.written)
-same_outline (Stmt q) n w (inr (inr r)) = ap outline r.shape ∙ sym (ap outline r.written)
-same_outline (Expr s) n w r = ap outline r.shape ∙ sym (ap outline r.written)
+same_outline (Stmt q) n w (inl (inl r)) = ap outline r.shape ∙ sym (ap outline r.written)
+same_outline (Stmt q) n w (inl (inr (inl r))) = ap outline r.shape ∙ sym (ap outline r.written)
+same_outline (Stmt q) n w (inl (inr (inr r))) = ap outline r.shape ∙ sym (ap outline r.written)
+same_outline (Stmt q) n w (inr r) = function_outline n w r
+same_outline (Expr s) n w (inl r) = ap outline r.shape ∙ sym (ap outline r.written)
+same_outline (Expr s) n w (inr r) = function_outline n w r
+same_outline Method n w r = function_outline n w r
+same_outline Elsewhere n w r = function_outline n w r
 same_outline p n w r = absurd r
 
 pub unused_lighten : Lightens UnusedContracts

@@ -5,7 +5,7 @@ use Rattle.mini_model.specs.declared.kind.VariableDeclarationKind.TheVariants.{L
 use Rattle.mini_model.specs.declared.name.Name.{Name}
 use Rattle.mini_model.specs.declared.operator.UnaryOperator.TheVariants.{LogicalNot}
 use Rattle.mini_model.specs.declared.place.Position.{Position}
-use Rattle.mini_model.specs.declared.place.Position.TheVariants.{Expr, Stmt}
+use Rattle.mini_model.specs.declared.place.Position.TheVariants.{Expr, Stmt, Method, Elsewhere}
 use Rattle.mini_model.specs.declared.shape.Shape.{Shape}
 use Rattle.mini_model.specs.declared.shape.Shape.TheVariants as shape
 use Rattle.mini_model.specs.Tree.{Tree, Trees, node, none, ◌▸◌, listed, shape_of, empty_statement, expression_statement}
@@ -216,10 +216,33 @@ pub record ArrowBodyRow (n w : Tree) : Type 0 where
   pub shape : n ≡ arrow_with directives number parameters before
   pub written : w ≡ arrow_with directives number parameters after
 
--- a row reads n as w at this place
+-- ---- in the body of any other function
+
+-- a function with statements: whether it is declared, and a generator, its directives, its number, its name and its parameters
+abbrev pub function_with : Bool → Bool → List (List ℕ) → ℕ → Tree → Trees → Trees → Tree
+function_with is_declared is_generator directives n name parameters ts = node (shape.Function is_declared is_generator directives) [] n (name ▸ (listed parameters ▸ (statements ts ▸ none)))
+
+-- 71 and 72 in its body: `function f(a) { let x = b(); return x + a; }` becomes `function f(a) { ; return b() + a; }`. Its name and its
+-- parameters are read like what stands before the declaration in a block
+pub record FunctionBodyRow (n w : Tree) : Type 0 where
+  pub is_declared : Bool
+  pub is_generator : Bool
+  pub directives : List (List ℕ)
+  pub number : ℕ
+  pub name : Tree
+  pub parameters : Trees
+  pub before : Trees
+  pub after : Trees
+  pub row : BlockRow (block (listed (name ▸ parameters) ▸ before)) (block (listed (name ▸ parameters) ▸ after))
+  pub shape : n ≡ function_with is_declared is_generator directives number name parameters before
+  pub written : w ≡ function_with is_declared is_generator directives number name parameters after
+
+-- a row reads n as w at this place: a function may be a statement, an expression, the value of a method, or exported
 abbrev pub UnusedRow : Position → Tree → Tree → Type 0
-UnusedRow (Stmt q) n w = BlockRow n w
-UnusedRow (Expr s) n w = ArrowBodyRow n w
+UnusedRow (Stmt q) n w = BlockRow n w ⊎ FunctionBodyRow n w
+UnusedRow (Expr s) n w = ArrowBodyRow n w ⊎ FunctionBodyRow n w
+UnusedRow Method n w = FunctionBodyRow n w
+UnusedRow Elsewhere n w = FunctionBodyRow n w
 UnusedRow _ n w = ⊥
 
 -- what it writes, where it weighs less

@@ -1,9 +1,11 @@
--- What holds the statements of a list: a block, or an arrow function, which is read like a block that begins with its parameters.
+-- What holds the statements of a list: a block, or a function, which is read like a block that begins with what stands before its
+-- statements: its name and its parameters.
 use Rattle.std.proofs.Common.{◌≡◌, ℕ, zero, suc, ◌<◌, Bool, true, false, List, [], ◌∷◌, refl, sym, ap, ◌∙◌, subst, inl, inr, true≢false, arith}
 use Rattle.std.specs.Prelude.{not, ◌⊎◌, ◌&&◌, ◌||◌, nat_eq, None, Result, Ok, Err, IfOk}
 use Rattle.std.proofs.lemmas.Bool.{and_parts, eqb-true}
 use Rattle.mini_model.specs.declared.name.Name.{Name}
-use Rattle.mini_model.specs.declared.place.Position.TheVariants.{Expr, Stmt}
+use Rattle.mini_model.specs.declared.place.Position.{Position}
+use Rattle.mini_model.specs.declared.place.Position.TheVariants.{Expr, Stmt, Method, Elsewhere}
 use Rattle.mini_model.specs.declared.seat.Seat.{Seat}
 use Rattle.mini_model.specs.declared.seat.StmtSeat.{StmtSeat}
 use Rattle.mini_model.specs.declared.shape.Shape.TheVariants as shape
@@ -13,12 +15,12 @@ use Rattle.mini_node.specs.Children.{names_of, number_of, part, with_part, first
 use Rattle.mini_node.specs.Kinds.{is_block, is_listed}
 use Rattle.mini_node.specs.Made.{block_is, listed_is}
 use Rattle.mini_rows.specs.Lists.{block}
-use Rattle.mini_rows.specs.Unused.{names, any_names, may_move, statements, arrow_with, ArrowBodyRow, BlockRow, UnusedRow, UnusedContracts}
+use Rattle.mini_rows.specs.Unused.{names, any_names, may_move, statements, arrow_with, ArrowBodyRow, function_with, FunctionBodyRow, BlockRow, UnusedRow, UnusedContracts}
 use Rattle.mini_rows.proofs.UnusedWeights.{unused_lighter}
 use Rattle.mini_tree.proofs.Reaching.{moves_once}
-use Rattle.mini_unused.specs.RemoveUnusedDeclaration.{declares_name, is_let, may_go, is_alone, list_at, is_unused, UnusedAt, is_arrow_shape, are_statements, are_no_names, has_statements, Applied}
+use Rattle.mini_unused.specs.RemoveUnusedDeclaration.{declares_name, is_let, may_go, is_alone, list_at, is_unused, UnusedAt, is_arrow_shape, are_statements, are_no_names, has_statements, is_function_shape, is_function, Applied, AppliedInFunction}
 use Rattle.mini_unused.specs.SubstituteSingleUse.{is_lexical, last_place, is_declared_over, reads_next, is_read_once, is_single, SingleAt, NameGone, ReadGone, Removed}
-use Rattle.mini_unused.proofs.Unused.{no_outside, part_twice, row_at, no_row, all_used, seen_by_eval}
+use Rattle.mini_unused.proofs.Unused.{no_outside, part_twice, row_at, no_row, no_block, all_used, seen_by_eval}
 use Rattle.mini_unused.proofs.SingleUses.{row_there, none_single}
 
 -- ---- a block
@@ -51,12 +53,23 @@ rests ts m r = by r.1
     by (inl e) = seen_by_eval (block ts) (block_seen ts ∙ e)
     by (inr u) = no_row (block ts) (all_used (block ts) u.0) (none_single (block ts) u.1)
 
-applied_by : (q : StmtSeat) (t u : Tree) → UnusedRow (Stmt q) t u → Applied (Stmt q) t u true
-applied_by q t u r = moves_once UnusedContracts (Stmt q) t u (record { row = r; lighter = unused_lighter (Stmt q) t u r })
+applied_by : (p : Position) (t u : Tree) → UnusedRow p t u → Applied p t u true
+applied_by p t u r = moves_once UnusedContracts p t u (record { row = r; lighter = unused_lighter p t u r })
+
+-- no other holder
+no_function : (t : Tree) → is_function t ≡ false → (w : Tree) → FunctionBodyRow t w → ⊥
+no_function t e w r = true≢false (sym (ap is_function r.shape) ∙ e)
+
+no_arrow : (t : Tree) → has_statements t ≡ false → (w : Tree) → ArrowBodyRow t w → ⊥
+no_arrow t e w r = true≢false (sym (ap has_statements r.shape) ∙ e)
 
 block_applied : (ts : Trees) (m : Tree) (c : Bool) → Removed no_outside (listed ts) m c → (q : StmtSeat) → Applied (Stmt q) (block ts) (held m) c
-block_applied ts m true r q = applied_by q (block ts) (held m) (removed_row ts m r)
-block_applied ts m false r q = (ap held r.0, rests ts m r)
+block_applied ts m true r q = applied_by (Stmt q) (block ts) (held m) (inl (removed_row ts m r))
+block_applied ts m false r q = (ap held r.0, by)
+  where
+    by : (w : Tree) → UnusedRow (Stmt q) (block ts) w → ⊥
+    by w (inl b) = rests ts m r w b
+    by w (inr f) = no_function (block ts) refl w f
 
 pub of_block : (t m : Tree) (c : Bool) → is_block t ≡ true → Removed (with_part t 0 absent) (part t 0) m c → (u : Tree) → u ≡ with_part t 0 m → (q : StmtSeat) → Applied (Stmt q) t u c
 of_block t m c b r u f q =
@@ -65,32 +78,36 @@ of_block t m c b r u f q =
     let there = subst (λ v. Removed (with_part v 0 absent) (part v 0) m c) is r in
     subst (λ v. Applied (Stmt q) v u c) (sym is) (subst (λ v. Applied (Stmt q) (block ts) v c) (sym (f ∙ ap (λ v. with_part v 0 m) is)) (block_applied ts m c there q))
 
--- ---- an arrow function: its parameters stand before its statements
+-- ---- a function: what its statements stand behind is read before them
 
 and_false : (a : Bool) → (a && false) ≡ false
 and_false true = refl
 and_false false = refl
 
-alone_pulled : (p a b c d f : Bool) → (not (p || false) && (not a && (not b && (not c && (not d && not f))))) ≡ (not a && (not b && (not c && (not d && not (p || f)))))
+alone_pulled : (p a b c d f : Bool) → (not p && (not a && (not b && (not c && (not d && not f))))) ≡ (not a && (not b && (not c && (not d && not (p || f)))))
 alone_pulled false a b c d f = refl
 alone_pulled true a b c d f =
     sym (ap (λ v. not a && (not b && (not c && v))) (and_false (not d)) ∙ ap (λ v. not a && (not b && v)) (and_false (not c)) ∙ ap (λ v. not a && v) (and_false (not b)) ∙ and_false (not a))
 
-read_pulled : (p r q f c : Bool) → (not (p || false) && (r && (not q && not (f || c)))) ≡ (r && (not q && not ((p || f) || c)))
+read_pulled : (p r q f c : Bool) → (not p && (r && (not q && not (f || c)))) ≡ (r && (not q && not ((p || f) || c)))
 read_pulled false r q f c = refl
 read_pulled true r q f c = sym (ap (λ v. r && v) (and_false (not q)) ∙ and_false r)
 
-module _ (directives : List (List ℕ)) (number : ℕ) (ps ts : Trees) where
-  abbrev outside : Tree
-  outside = node (shape.ArrowFunctionExpression directives) [] number (listed ps ▸ (absent ▸ none))
-
+-- what is outside of the statements, and as a list before them
+module _ (outside : Tree) (front ts : Trees) (mentions : (x : Name) → names x outside ≡ any_names x front) (evals : has_eval outside ≡ any_has_eval front) where
   -- as a block
   abbrev behind : Trees
-  behind = listed ps ▸ ts
+  behind = listed front ▸ ts
 
   alone_there : (xs : List Name) (init : Tree) (ds : Trees) (j i : ℕ) → is_alone xs outside init ds j ts i ≡ is_alone xs no_outside init ds j behind (suc i)
   alone_there [] init ds j i = refl
-  alone_there (x ∷ xs) init ds j i = alone_pulled (any_names x ps) (names x init) (any_names x (rest_children (suc j) ds)) (any_names x (rest_children (suc i) ts)) (any_names x (first_children j ds)) (any_names x (first_children i ts))
+  alone_there (x ∷ xs) init ds j i =
+      let a = names x init in
+      let b = any_names x (rest_children (suc j) ds) in
+      let c = any_names x (rest_children (suc i) ts) in
+      let d = any_names x (first_children j ds) in
+      let f = any_names x (first_children i ts) in
+      ap (λ p. not p && (not a && (not b && (not c && (not d && not f))))) (mentions x) ∙ alone_pulled (any_names x front) a b c d f
 
   unused_there : (i j : ℕ) → is_unused outside ts i j ≡ is_unused no_outside behind (suc i) j
   unused_there i j =
@@ -99,7 +116,12 @@ module _ (directives : List (List ℕ)) (number : ℕ) (ps ts : Trees) where
 
   read_there : (xs : List Name) (init : Tree) (ds : Trees) (j i : ℕ) → is_read_once xs outside init ds j ts i ≡ is_read_once xs no_outside init ds j behind (suc i)
   read_there [] init ds j i = refl
-  read_there (x ∷ xs) init ds j i = read_pulled (any_names x ps) (reads_next x ts i) (is_declared_over x init ds j) (any_names x (first_children i ts)) (any_names x (rest_children (suc (suc i)) ts))
+  read_there (x ∷ xs) init ds j i =
+      let r = reads_next x ts i in
+      let q = is_declared_over x init ds j in
+      let f = any_names x (first_children i ts) in
+      let c = any_names x (rest_children (suc (suc i)) ts) in
+      ap (λ p. not p && (r && (not q && not (f || c)))) (mentions x) ∙ read_pulled (any_names x front) r q f c
 
   single_there : (i : ℕ) → is_single outside ts i ≡ is_single no_outside behind (suc i)
   single_there i =
@@ -109,7 +131,7 @@ module _ (directives : List (List ℕ)) (number : ℕ) (ps ts : Trees) where
 
   seen_there : (has_eval no_outside || has_eval (listed behind)) ≡ (has_eval outside || has_eval (listed ts))
   unfolding has_eval
-  seen_there = sym (ap (λ b. b || any_has_eval ts) (or_none (any_has_eval ps)))
+  seen_there = ap (λ b. b || any_has_eval ts) (sym evals)
 
   none_unused : UnusedAt outside ts None → UnusedAt no_outside behind None
   none_unused u zero h = λ j g. refl
@@ -119,9 +141,9 @@ module _ (directives : List (List ℕ)) (number : ℕ) (ps ts : Trees) where
   none_read u zero h = refl
   none_read u (suc i) h = sym (single_there i) ∙ u i (omega (arith, h))
 
-  -- the list that is left, behind the parameters
+  -- the list that is left, behind what stands before it
   abbrev left : Tree → Tree
-  left m = listed (listed ps ▸ children m)
+  left m = listed (listed front ▸ children m)
 
   removed_there : (m : Tree) (c : Bool) → Removed outside (listed ts) m c → Removed no_outside (listed behind) (left m) c × (m ≡ listed (children m))
   removed_there m true r = by r.1
@@ -147,27 +169,91 @@ module _ (directives : List (List ℕ)) (number : ℕ) (ps ts : Trees) where
       by (inl e) = inl (seen_there ∙ e)
       by (inr u) = inr (none_unused u.0, none_read u.1)
 
+  row_behind : (m : Tree) → Removed outside (listed ts) m true → BlockRow (block behind) (block (listed front ▸ children m))
+  row_behind m r = removed_row behind (left m) (removed_there m true r).0
+
+  none_behind : (m : Tree) → Removed outside (listed ts) m false → (us : Trees) → us ≡ behind → (w : Tree) → BlockRow (block us) w → ⊥
+  none_behind m r us e w row = rests behind (left m) (removed_there m false r).0 w (subst (λ v. BlockRow (block v) w) e row)
+
+  list_is : (m : Tree) (c : Bool) → Removed outside (listed ts) m c → m ≡ listed (children m)
+  list_is m c r = (removed_there m c r).1
+
+-- ---- an arrow function: its parameters stand before its statements
+
+module _ (directives : List (List ℕ)) (number : ℕ) (ps ts : Trees) where
+  abbrev outside_arrow : Tree
+  outside_arrow = node (shape.ArrowFunctionExpression directives) [] number (listed ps ▸ (absent ▸ none))
+
+  arrow_mentions : (x : Name) → names x outside_arrow ≡ any_names x ps
+  arrow_mentions x = or_none (any_names x ps)
+
+  arrow_evals : has_eval outside_arrow ≡ any_has_eval ps
+  unfolding has_eval
+  arrow_evals = or_none (any_has_eval ps)
+
   -- the function, over the list that is left
   abbrev over : Tree → Tree
   over m = node (shape.ArrowFunctionExpression directives) [] number (listed ps ▸ (node shape.FunctionBody [] 0 (m ▸ none) ▸ none))
 
-  row_over : (m : Tree) → Removed outside (listed ts) m true → ArrowBodyRow (arrow_with directives number ps ts) (over m)
-  row_over m r =
-      let (there, is) = removed_there m true r in
-      record { directives = directives; number = number; parameters = ps; before = ts; after = children m; row = removed_row behind (left m) there; shape = refl; written = ap over is }
+  arrow_over : (m : Tree) → Removed outside_arrow (listed ts) m true → ArrowBodyRow (arrow_with directives number ps ts) (over m)
+  arrow_over m r =
+      record { directives = directives; number = number; parameters = ps; before = ts; after = children m; row = row_behind outside_arrow ps ts arrow_mentions arrow_evals m r; shape = refl; written = ap over (list_is outside_arrow ps ts arrow_mentions arrow_evals m true r) }
 
-  rests_over : (m : Tree) → Removed outside (listed ts) m false → (w : Tree) → ArrowBodyRow (arrow_with directives number ps ts) w → ⊥
-  rests_over m r w row =
-      let (there, is) = removed_there m false r in
+  arrow_rests : (m : Tree) → Removed outside_arrow (listed ts) m false → (w : Tree) → ArrowBodyRow (arrow_with directives number ps ts) w → ⊥
+  arrow_rests m r w row =
       let parameters : listed row.parameters ≡ listed ps = sym (ap (λ t. part t 0) row.shape) in
       let before : row.before ≡ ts = sym (ap (λ t. children (part (part t 1) 0)) row.shape) in
-      rests behind (left m) there (block (listed row.parameters ▸ row.after)) (subst (λ v. BlockRow (block v) (block (listed row.parameters ▸ row.after))) (λ k. parameters k ▸ before k) row.row)
+      none_behind outside_arrow ps ts arrow_mentions arrow_evals m r (listed row.parameters ▸ row.before) (λ k. parameters k ▸ before k) (block (listed row.parameters ▸ row.after)) row.row
 
-  arrow_applied : (m : Tree) (c : Bool) → Removed outside (listed ts) m c → (s : Seat) → Applied (Expr s) (arrow_with directives number ps ts) (over m) c
-  arrow_applied m true r s =
-      let row = row_over m r in
-      moves_once UnusedContracts (Expr s) (arrow_with directives number ps ts) (over m) (record { row = row; lighter = unused_lighter (Expr s) (arrow_with directives number ps ts) (over m) row })
-  arrow_applied m false r s = (ap over r.0, rests_over m r)
+  arrow_applied : (m : Tree) (c : Bool) → Removed outside_arrow (listed ts) m c → (s : Seat) → Applied (Expr s) (arrow_with directives number ps ts) (over m) c
+  arrow_applied m true r s = applied_by (Expr s) (arrow_with directives number ps ts) (over m) (inl (arrow_over m r))
+  arrow_applied m false r s = (ap over r.0, by)
+    where
+      by : (w : Tree) → UnusedRow (Expr s) (arrow_with directives number ps ts) w → ⊥
+      by w (inl a) = arrow_rests m r w a
+      by w (inr f) = no_function (arrow_with directives number ps ts) refl w f
+
+-- ---- any other function: its name and its parameters do
+
+module _ (d g : Bool) (directives : List (List ℕ)) (number : ℕ) (name : Tree) (ps ts : Trees) where
+  abbrev outside_function : Tree
+  outside_function = node (shape.Function d g directives) [] number (name ▸ (listed ps ▸ (absent ▸ none)))
+
+  function_mentions : (x : Name) → names x outside_function ≡ any_names x (name ▸ ps)
+  function_mentions x = ap (λ b. names x name || b) (or_none (any_names x ps))
+
+  function_evals : has_eval outside_function ≡ any_has_eval (name ▸ ps)
+  unfolding has_eval
+  function_evals = ap (λ b. has_eval name || b) (or_none (any_has_eval ps))
+
+  abbrev function_with_list : Tree → Tree
+  function_with_list m = node (shape.Function d g directives) [] number (name ▸ (listed ps ▸ (node shape.FunctionBody [] 0 (m ▸ none) ▸ none)))
+
+  function_over : (m : Tree) → Removed outside_function (listed ts) m true → FunctionBodyRow (function_with d g directives number name ps ts) (function_with_list m)
+  function_over m r = record {
+    is_declared = d;
+    is_generator = g;
+    directives = directives;
+    number = number;
+    name = name;
+    parameters = ps;
+    before = ts;
+    after = children m;
+    row = row_behind outside_function (name ▸ ps) ts function_mentions function_evals m r;
+    shape = refl;
+    written = ap function_with_list (list_is outside_function (name ▸ ps) ts function_mentions function_evals m true r);
+  }
+
+  function_rests : (m : Tree) → Removed outside_function (listed ts) m false → (w : Tree) → FunctionBodyRow (function_with d g directives number name ps ts) w → ⊥
+  function_rests m r w row =
+      let named : row.name ≡ name = sym (ap (λ t. part t 0) row.shape) in
+      let parameters : row.parameters ≡ ps = sym (ap (λ t. children (part t 1)) row.shape) in
+      let before : row.before ≡ ts = sym (ap (λ t. children (part (part t 2) 0)) row.shape) in
+      none_behind outside_function (name ▸ ps) ts function_mentions function_evals m r (listed (row.name ▸ row.parameters) ▸ row.before) (λ k. listed (named k ▸ parameters k) ▸ before k) (block (listed (row.name ▸ row.parameters) ▸ row.after)) row.row
+
+  function_applied : (m : Tree) (c : Bool) → Removed outside_function (listed ts) m c → AppliedInFunction (function_with d g directives number name ps ts) (function_with_list m) c
+  function_applied m true r = function_over m r
+  function_applied m false r = (ap function_with_list r.0, function_rests m r)
 
 -- ---- what has such statements
 
@@ -203,11 +289,63 @@ of_arrow t m c h r u f s =
     subst (λ v. Applied (Expr s) v u c) (sym is)
     (subst (λ v. Applied (Expr s) (arrow_with directives n ps ts) v c) (sym (f ∙ ap (λ v. with_part v 1 (with_part (part v 1) 0 m)) is)) (arrow_applied directives n ps ts m c there s))
 
-arrow_row_is : (t w : Tree) → ArrowBodyRow t w → has_statements t ≡ true
-arrow_row_is t w r = ap has_statements r.shape
+function_parts : (t : Tree) → is_function_shape (shape_of t) ≡ true → are_no_names (names_of t) ≡ true → nat_eq (count (children t)) 3 ≡ true → (d : Bool) × (g : Bool) × (directives : List (List ℕ)) × (t ≡ node (shape.Function d g directives) [] (number_of t) (part t 0 ▸ (part t 1 ▸ (part t 2 ▸ none))))
+function_parts (node (shape.Function d g directives) (x ∷ xs) n ts) e f h = absurd (true≢false (sym f))
+function_parts (node (shape.Function d g directives) [] n (a ▸ (b ▸ (c ▸ none)))) e f h = (d, g, directives, refl)
+function_parts (node (shape.Function d g directives) [] n none) e f h = absurd (true≢false (sym h))
+function_parts (node (shape.Function d g directives) [] n (a ▸ none)) e f h = absurd (true≢false (sym h))
+function_parts (node (shape.Function d g directives) [] n (a ▸ (b ▸ none))) e f h = absurd (true≢false (sym h))
+function_parts (node (shape.Function d g directives) [] n (a ▸ (b ▸ (c ▸ (u ▸ ts))))) e f h = let three = eqb-true (count (a ▸ (b ▸ (c ▸ (u ▸ ts))))) 3 h in absurd (omega (arith, three))
+function_parts t e f h = absurd (true≢false (sym e))
 
-pub no_arrow : (t : Tree) → has_statements t ≡ false → (s : Seat) → Applied (Expr s) t t false
-no_arrow t e s = (refl, λ w r. true≢false (sym (arrow_row_is t w r) ∙ e))
+function_is : (t : Tree) → is_function t ≡ true → (d : Bool) × (g : Bool) × (directives : List (List ℕ)) × (t ≡ function_with d g directives (number_of t) (part t 0) (children (part t 1)) (children (part (part t 2) 0)))
+function_is t e =
+    let (a, p) = and_parts (is_function_shape (shape_of t)) (are_no_names (names_of t) && (nat_eq (count (children t)) 3 && (is_listed (part t 1) && are_statements (part t 2)))) e in
+    let (b, q) = and_parts (are_no_names (names_of t)) (nat_eq (count (children t)) 3 && (is_listed (part t 1) && are_statements (part t 2))) p in
+    let (c, r) = and_parts (nat_eq (count (children t)) 3) (is_listed (part t 1) && are_statements (part t 2)) q in
+    let (l, f) = and_parts (is_listed (part t 1)) (are_statements (part t 2)) r in
+    let (d, g, directives, is) = function_parts t a b c in
+    (d, g, directives, is ∙ (λ k. node (shape.Function d g directives) [] (number_of t) (part t 0 ▸ (listed_is (part t 1) l k ▸ (body_is (part t 2) f k ▸ none)))))
+
+pub of_function : (t m : Tree) (c : Bool) → is_function t ≡ true → Removed (with_part t 2 absent) (part (part t 2) 0) m c → (u : Tree) → u ≡ with_part t 2 (with_part (part t 2) 0 m) → AppliedInFunction t u c
+of_function t m c h r u f =
+    let (d, g, directives, is) = function_is t h in
+    let n = number_of t in
+    let name = part t 0 in
+    let ps = children (part t 1) in
+    let ts = children (part (part t 2) 0) in
+    let there = subst (λ v. Removed (with_part v 2 absent) (part (part v 2) 0) m c) is r in
+    subst (λ v. AppliedInFunction v u c) (sym is)
+    (subst (λ v. AppliedInFunction (function_with d g directives n name ps ts) v c) (sym (f ∙ ap (λ v. with_part v 2 (with_part (part v 2) 0 m)) is)) (function_applied d g directives n name ps ts m c there))
+
+pub stays : (t : Tree) → is_function t ≡ false → AppliedInFunction t t false
+stays t e = (refl, no_function t e)
+
+-- ---- where a function stands
+
+pub as_statement : (t u : Tree) (c : Bool) → is_block t ≡ false → AppliedInFunction t u c → (q : StmtSeat) → Applied (Stmt q) t u c
+as_statement t u true e r q = applied_by (Stmt q) t u (inr r)
+as_statement t u false e r q = (r.0, by)
+  where
+    by : (w : Tree) → UnusedRow (Stmt q) t w → ⊥
+    by w (inl b) = no_block t e w b
+    by w (inr f) = r.1 w f
+
+pub as_expression : (t u : Tree) (c : Bool) → has_statements t ≡ false → AppliedInFunction t u c → (s : Seat) → Applied (Expr s) t u c
+as_expression t u true e r s = applied_by (Expr s) t u (inr r)
+as_expression t u false e r s = (r.0, by)
+  where
+    by : (w : Tree) → UnusedRow (Expr s) t w → ⊥
+    by w (inl a) = no_arrow t e w a
+    by w (inr f) = r.1 w f
+
+pub as_method : (t u : Tree) (c : Bool) → AppliedInFunction t u c → Applied Method t u c
+as_method t u true r = applied_by Method t u r
+as_method t u false r = r
+
+pub as_exported : (t u : Tree) (c : Bool) → AppliedInFunction t u c → Applied Elsewhere t u c
+as_exported t u true r = applied_by Elsewhere t u r
+as_exported t u false r = r
 
 -- ---- where memory does not run out
 

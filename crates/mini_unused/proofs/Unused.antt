@@ -6,7 +6,7 @@ use Rattle.mini_model.specs.declared.kind.VariableDeclarationKind.TheVariants.{L
 use Rattle.mini_model.specs.declared.name.Name.{Name}
 use Rattle.mini_model.specs.declared.name.SymbolId.{SymbolId}
 use Rattle.mini_model.specs.declared.place.Position.{Position}
-use Rattle.mini_model.specs.declared.place.Position.TheVariants.{Expr, Stmt}
+use Rattle.mini_model.specs.declared.place.Position.TheVariants.{Expr, Stmt, Method, Elsewhere}
 use Rattle.mini_model.specs.declared.seat.Seat.{Seat}
 use Rattle.mini_model.specs.declared.seat.StmtSeat.{StmtSeat}
 use Rattle.mini_model.specs.declared.shape.Shape.TheVariants as shape
@@ -349,8 +349,8 @@ no_row t f g w (inl r) = f (dropped t w r)
 no_row t f g w (inr (inl r)) = f (dropped_idle t w r)
 no_row t f g w (inr (inr r)) = g w r
 
-pub no_block : (t : Tree) → is_block t ≡ false → (q : StmtSeat) → Applied (Stmt q) t t false
-no_block t e q = (refl, no_row t (λ r. true≢false (sym (ap is_block r.shape) ∙ e)) (λ w r. true≢false (sym (ap is_block r.shape) ∙ e)))
+pub no_block : (t : Tree) → is_block t ≡ false → (w : Tree) → BlockRow t w → ⊥
+no_block t e = no_row t (λ r. true≢false (sym (ap is_block r.shape) ∙ e)) (λ w r. true≢false (sym (ap is_block r.shape) ∙ e))
 
 pub all_used : (t : Tree) → UnusedAt no_outside (children (part t 0)) None → Read t → ⊥
 all_used t f r = true≢false (sym (unused_there t r) ∙ f (count r.before) (statement_within t r) (count r.first) (declarator_within t r))
@@ -358,10 +358,12 @@ all_used t f r = true≢false (sym (unused_there t r) ∙ f (count r.before) (st
 pub seen_by_eval : (t : Tree) → has_eval t ≡ true → (w : Tree) → BlockRow t w → ⊥
 seen_by_eval t e = no_row t (λ r. true≢false (sym e ∙ ap has_eval r.shape ∙ r.unused.unseen)) (λ w r. true≢false (sym e ∙ ap has_eval r.shape ∙ r.unseen))
 
-pub elsewhere : (p : Position) (t : Tree) → ((q : StmtSeat) → p ≡ Stmt q → ⊥) → ((s : Seat) → p ≡ Expr s → ⊥) → Applied p t t false
-elsewhere (Stmt q) t f g = absurd (f q refl)
-elsewhere (Expr s) t f g = absurd (g s refl)
-elsewhere p t f g = (refl, λ w r. absurd r)
+pub elsewhere : (p : Position) (t : Tree) → ((q : StmtSeat) → p ≡ Stmt q → ⊥) → ((s : Seat) → p ≡ Expr s → ⊥) → (p ≡ Method → ⊥) → (p ≡ Elsewhere → ⊥) → Applied p t t false
+elsewhere (Stmt q) t f g h i = absurd (f q refl)
+elsewhere (Expr s) t f g h i = absurd (g s refl)
+elsewhere Method t f g h i = absurd (h refl)
+elsewhere Elsewhere t f g h i = absurd (i refl)
+elsewhere p t f g h i = (refl, λ w r. absurd r)
 
 -- ---- the first one
 

@@ -1,5 +1,5 @@
 -- 72, `remove_unused_declaration`: `{ let x = a(); b(); }` becomes `{ a(); b(); }`, `{ let x = 1; b(); }` becomes `{ ; b(); }`, and
--- `{ let x, y = b(); c(y); }` becomes `{ let y = b(); c(y); }`; so do the statements of an arrow function.
+-- `{ let x, y = b(); c(y); }` becomes `{ let y = b(); c(y); }`; so do the statements of a function.
 use Rattle.std.specs.Prelude.{◌≡◌, ◌<◌, ℕ, suc, nat_eq, Bool, true, false, not, ◌&&◌, ◌||◌, List, [], ◌∷◌, Option, Some, None, is_some, if◌then◌else◌}
 use Rattle.mini_model.specs.declared.kind.VariableDeclarationKind.TheVariants.{Let}
 use Rattle.mini_model.specs.declared.name.Name.{Name}
@@ -10,7 +10,7 @@ use Rattle.mini_model.specs.Tree.{Tree, Trees, shape_of, count, child_or_absent,
 use Rattle.mini_node.specs.Children.{names_of, like, part, with_part, without, is_bare, first_children, rest_children}
 use Rattle.mini_node.specs.Kinds.{is_listed, is_named_leaf}
 use Rattle.mini_rows.specs.Lists.{declares_nothing}
-use Rattle.mini_rows.specs.Unused.{names, any_names, is_idle, UnusedRow, UnusedContracts}
+use Rattle.mini_rows.specs.Unused.{names, any_names, is_idle, FunctionBodyRow, UnusedRow, UnusedContracts}
 use Rattle.mini_tree.specs.Rule as rule
 
 -- shapes
@@ -112,6 +112,14 @@ are_no_names (x ∷ xs) = false
 abbrev pub has_statements : Tree → Bool
 has_statements t = is_arrow_shape (shape_of t) && (are_no_names (names_of t) && (nat_eq (count (children t)) 2 && (is_listed (part t 0) && are_statements (part t 1))))
 
+-- any other function with statements: its name, its parameters in a list, and its body
+abbrev pub is_function_shape : Shape → Bool
+is_function_shape (shape.Function is_declared is_generator directives) = true
+is_function_shape _ = false
+
+abbrev pub is_function : Tree → Bool
+is_function t = is_function_shape (shape_of t) && (are_no_names (names_of t) && (nat_eq (count (children t)) 3 && (is_listed (part t 1) && are_statements (part t 2))))
+
 -- no row reads it as anything
 abbrev pub Rests : Position → Tree → Type 0
 Rests p n = (w : Tree) → UnusedRow p n w → ⊥
@@ -119,3 +127,8 @@ Rests p n = (w : Tree) → UnusedRow p n w → ⊥
 -- one call of the rule
 abbrev pub Applied : Position → Tree → Tree → Bool → Type 0
 Applied = rule.Applied UnusedContracts Rests
+
+-- one call of it for a function, wherever that stands
+abbrev pub AppliedInFunction : Tree → Tree → Bool → Type 0
+AppliedInFunction t u true = FunctionBodyRow t u
+AppliedInFunction t u false = (u ≡ t) × ((w : Tree) → FunctionBodyRow t w → ⊥)

@@ -1,6 +1,6 @@
 //! Row 72: `{ let x = a(); b(); }` becomes `{ a(); b(); }`, and `{ let x = 1, y = b(); c(y); }` becomes `{ let y = b(); c(y); }`,
-//! where nothing else in the block has x's spelling or its symbol and no direct eval stands there. So do the statements of an arrow
-//! function. It is lighter in every place.
+//! where nothing else in the block has x's spelling or its symbol and no direct eval stands there. So do the statements of a function,
+//! wherever it stands. It is lighter in every place.
 
 ghost use Rattle.std.specs.Prelude.{◌≡◌, ◌+◌, ◌<◌, ◌^◌, true, IfOk, OnOk};
 ghost use Rattle.mini_model.specs.declared.place.Position.TheVariants.{Expr, Stmt};
@@ -11,7 +11,7 @@ ghost use Rattle.mini_node.specs.Children.{names, part, with_part};
 ghost use Rattle.mini_rows.specs.Unused.{is_idle as is_it_idle, UnusedContracts};
 ghost use Rattle.mini_unused.specs.Lighter.{unused_is_lighter};
 ghost use Rattle.mini_unused.specs.RemoveUnusedDeclaration as row;
-ghost use Rattle.mini_unused.specs.RemoveUnusedDeclaration.{declares_name as it_declares_name, is_let as it_is_let, let_left, UnusedIn, UnusedOf, UnusedAt, Applied, Rests};
+ghost use Rattle.mini_unused.specs.RemoveUnusedDeclaration.{declares_name as it_declares_name, is_let as it_is_let, let_left, UnusedIn, UnusedOf, UnusedAt, Applied, AppliedInFunction, Rests};
 ghost use Rattle.mini_unused.specs.SubstituteSingleUse.{Removed};
 
 use crate::declares::declares_nothing;
@@ -263,13 +263,14 @@ fn remove_in_list(alloc: Global, outside: &Node, list: &mut Node) -> Result<bool
 }
 
 /// Of a block, `let x = a();` becomes `a();`, `let x;` and `let x = 1;` become `;`, and `let x, y = b();` becomes `let y = b();`
-/// where nothing mentions x. The answer says whether one did; the only error is that memory runs out.
+/// where nothing mentions x, and so do the statements of a function that is declared. The answer says whether one did; the only error
+/// is that memory runs out.
 #[tactic(auto, using(crate::proofs::Unused::same_parts, crate::proofs::Unused::part_twice))]
 pub fn remove_unused_declaration(alloc: Global, node: &mut Node) -> Result<bool, OutOfMemory>
     ensures { IfOk result (λ changed. (q : StmtSeat) → Applied (Stmt q) node.old node.new changed) }
 {
     if !is_block(node) {
-        return Ok(false);
+        return remove_unused_in_function(alloc, node);
     }
     let mut list = take_child(node, 0);
     let changed = remove_in_list(alloc, node, &mut list);
@@ -307,13 +308,14 @@ fn has_statements(node: &Node) -> bool
         && are_statements(node.child(1))
 }
 
-/// So do the statements of an arrow function, whose parameters don't mention x either.
+/// So do the statements of an arrow function, whose parameters don't mention x either, and those of any other function that stands as an
+/// expression.
 #[tactic(auto, using(crate::proofs::Unused::same_parts, crate::proofs::Unused::part_twice))]
 pub fn remove_unused_in_arrow(alloc: Global, node: &mut Node) -> Result<bool, OutOfMemory>
     ensures { IfOk result (λ changed. (s : Seat) → Applied (Expr s) node.old node.new changed) }
 {
     if !has_statements(node) {
-        return Ok(false);
+        return remove_unused_in_function(alloc, node);
     }
     let mut body = take_child(node, 1);
     let mut list = take_child(&mut body, 0);
@@ -323,7 +325,37 @@ pub fn remove_unused_in_arrow(alloc: Global, node: &mut Node) -> Result<bool, Ou
     changed
 }
 
-/// Rows 71 and 72 as a rule: of each block, and of each arrow function with statements.
+// Any other function.
+fn is_function(node: &Node) -> bool
+    ensures kind { result ≡ row.is_function node.now }
+    ensures parts { result ≡ true → count (children node.now) ≡ 3 }
+    ensures list { result ≡ true → count (children (part node.now 2)) ≡ 1 }
+{
+    matches!(node.shape(), Shape::Function(_, _, _))
+        && has_no_name(node.name())
+        && node.children().len() == 3
+        && is_listed(node.child(1))
+        && are_statements(node.child(2))
+}
+
+/// Of a function that is no arrow function, as `function f(a) { let x = b(); return x + a; }`, whose own name and whose parameters don't
+/// mention x either, wherever it stands. The answer says whether a name went; the only error is that memory runs out.
+#[tactic(auto, using(crate::proofs::Unused::same_parts, crate::proofs::Unused::part_twice))]
+pub fn remove_unused_in_function(alloc: Global, node: &mut Node) -> Result<bool, OutOfMemory>
+    ensures { IfOk result (λ changed. AppliedInFunction node.old node.new changed) }
+{
+    if !is_function(node) {
+        return Ok(false);
+    }
+    let mut body = take_child(node, 2);
+    let mut list = take_child(&mut body, 0);
+    let changed = remove_in_list(alloc, node, &mut list);
+    put_child(&mut body, 0, list);
+    put_child(node, 2, body);
+    changed
+}
+
+/// Rows 71 and 72 as a rule: of each block, and of each function with statements.
 pub struct RemoveUnusedDeclarations;
 
 impl<C: Context> Rule<C> for RemoveUnusedDeclarations {
@@ -344,6 +376,8 @@ impl<C: Context> Rule<C> for RemoveUnusedDeclarations {
         match place {
             Position::Stmt(_) => Ok(remove_unused_declaration(alloc, node)?),
             Position::Expr(_) => Ok(remove_unused_in_arrow(alloc, node)?),
+            Position::Method => Ok(remove_unused_in_function(alloc, node)?),
+            Position::Elsewhere => Ok(remove_unused_in_function(alloc, node)?),
             _ => Ok(false),
         }
     }

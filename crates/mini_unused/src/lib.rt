@@ -12,6 +12,7 @@ mod single_uses;
 pub use catches::{SubstituteCatches, substitute_catch_clause};
 pub use declarations::{
     RemoveUnusedDeclarations, remove_unused_declaration, remove_unused_in_arrow,
+    remove_unused_in_function,
 };
 pub use evals::has_eval;
 pub use mentions::{is_mentioned, is_mentioned_before, is_mentioned_from};

@@ -1,4 +1,4 @@
-use Rattle.mini_rows.proofs.ArrowBodyLawful.{unused_loose}
+use Rattle.mini_rows.proofs.FunctionBodyLawful.{unused_loose}
 use Rattle.mini_rows.proofs.unused.unused_are_lawful.Goals as goal
 
 pub returns : goal.returns
