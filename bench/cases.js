@@ -117,8 +117,8 @@ becomes("three that do", "x = !a ? !b ? (c => c) : (d => d) : (e => e);", "x = a
 becomes(
   "with the scopes in them",
   "x = !a ? function () { let b; { let c; e(c); } } : function () { var d; };",
-  "x = a ? function () { var d; } : function () { let b; { let c; e(c); } };",
-  { kept: [0, 2, 1], symbols: [2, 0, 1] },
+  "x = a ? function () { var d; } : function () { { let c; e(c); } };",
+  { kept: [0, 2, 1], symbols: [2, 1], passes: 3 },
 );
 becomes(
   "functions in functions",
@@ -479,6 +479,36 @@ becomes("one read by another", "{ let x = a(); let y = x.b(); y.c(); }", "a().b(
 becomes("what an arrow function returns", "f(() => { let x = a(); return x + 1; });", "f(() => a() + 1);", { kept: 2, symbols: [], passes: 3 });
 becomes("a constant beside its parameters", "f((y, z) => { const x = y(); return x.b(z); });", "f((y, z) => y().b(z));", { kept: 2, symbols: 2, passes: 3 });
 becomes("one behind a directive", 'f(() => { "use strict"; let x = a(); x.b(); });', 'f(() => { "use strict"; a().b(); });', { kept: 2, symbols: [], passes: 3 });
+
+// ---- names go in functions of every kind, those that nothing mentions and those that are read once
+
+becomes("a let of a function", "function f() { let x = a(); b(); }", "function f() { a(), b(); }", { kept: 2, symbols: [0], passes: 3 });
+becomes("one of several", "function f() { let x, y = b(); c(y, y); }", "function f() { let y = b(); c(y, y); }", { kept: 2, symbols: [0, 2] });
+becomes("a let of a function expression", "f(function () { let x = a(); b(); });", "f(function () { a(), b(); });", { kept: 2, symbols: [], passes: 3 });
+becomes("one beside a parameter", "f(function (y) { let x; y(); });", "f(function (y) { y(); });", { kept: 2, symbols: 1, passes: 3 });
+becomes("one of a generator", "f(function* () { let x = 1; yield a(); });", "f(function* () { yield a(); });", { kept: 2, symbols: [], passes: 3 });
+becomes("one of a method of an object", "f({ m() { let x = a(); b(); } });", "f({ m() { a(), b(); } });", { kept: 2, symbols: [], passes: 3 });
+becomes("one of a getter", "f({ get m() { let x = a(); return b; } });", "f({ get m() { return a(), b; } });", { kept: 2, symbols: [], passes: 3 });
+becomes("one of a setter", "f({ set m(v) { let x = 1; a(v); } });", "f({ set m(v) { a(v); } });", { kept: 2, symbols: 1, passes: 3 });
+becomes("one of a method of a class", "f(class { m() { let x; a(); } });", "f(class { m() { a(); } });", { kept: 3, symbols: [], passes: 3 });
+becomes("one of a constructor", "f(class { constructor() { let x; a(); } });", "f(class { constructor() { a(); } });", { kept: 3, symbols: [], passes: 3 });
+becomes("one of a static method with a key in brackets", "f(class { static [k]() { let x; a(); } });", "f(class { static [k]() { a(); } });", { kept: 4, symbols: [], passes: 3 });
+becomes("one of a function that is exported", "export function f() { let x = a(); b(); }", "export function f() { a(), b(); }", { kept: 2, symbols: [0], passes: 3 });
+becomes("one of a default export", "export default function () { let x = a(); b(); }", "export default function () { a(), b(); }", { kept: 2, symbols: [], passes: 3 });
+becomes("one behind a directive", 'function f() { "use strict"; let x = a(); b(); }', 'function f() { "use strict"; a(), b(); }', { kept: 2, symbols: [0], passes: 3 });
+becomes("one in a function of a function", "function f() { function g() { let x = a(); b(); } return g; }", "function f() { function g() { a(), b(); } return g; }", { kept: 3, symbols: [0, 1], passes: 3 });
+becomes("one before a function that mentions another", "function f() { let x = a(), y = b(); return () => y; }", "function f() { let x = a(), y = b(); return () => y; }", { kept: 3, symbols: 3, passes: 1 });
+becomes("what a function returns", "function f() { let x = a(); return x.b; }", "function f() { return a().b; }", { kept: 2, symbols: [0], passes: 3 });
+becomes("a constant beside a parameter", "f(function (y) { const x = y(); return x + y; });", "f(function (y) { return y() + y; });", { kept: 2, symbols: 1, passes: 3 });
+becomes("what a method returns", "f({ m(y) { let x = a(); return x.b(y); } });", "f({ m(y) { return a().b(y); } });", { kept: 2, symbols: 1, passes: 3 });
+becomes("what a getter returns", "f({ get m() { let x = a(); return x ? b : c; } });", "f({ get m() { return a() ? b : c; } });", { kept: 2, symbols: [], passes: 3 });
+becomes("what a static method returns", "f(class { static m() { const x = a(); return x || b; } });", "f(class { static m() { return a() || b; } });", { kept: 3, symbols: [], passes: 3 });
+becomes("what an exported function returns", "export function f(y) { const x = a(y); return !x; }", "export function f(y) { return !a(y); }", { kept: 2, symbols: 2, passes: 3 });
+becomes("what a default export returns", "export default function (y) { let x = y(); return x[y]; }", "export default function (y) { return y()[y]; }", { kept: 2, symbols: 1, passes: 3 });
+becomes("what a generator throws", "function* f() { let x = a(); throw x; }", "function* f() { throw a(); }", { kept: 2, symbols: [0], passes: 3 });
+becomes("a test in a function", "function f() { let x = a(); if (x) return b; c(); }", "function f() { if (a()) return b; c(); }", { kept: 2, symbols: [0], passes: 3 });
+becomes("one read by another in a function", "function f() { let x = a(); let y = x.b(); return y.c; }", "function f() { return a().b().c; }", { kept: 2, symbols: [0], passes: 3 });
+becomes("one in a function that a frame of a script shows", "let x = a(); function f(y) { let z = y(); return z.b(x); }", "let x = a(); function f(y) { return y().b(x); }", { kept: 2, symbols: [0, 1, 2], passes: 3 });
 
 // ---- so do the names of function and class expressions, and of what is caught
 
