@@ -1,5 +1,6 @@
 pub mod SpellAlike
 pub mod SpellSymmetry
+pub mod TemplateTexts
 pub mod SpellMeaning
 pub mod SpellWeights
 pub mod SpellShapes

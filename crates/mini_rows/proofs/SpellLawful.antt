@@ -14,11 +14,12 @@ use Rattle.mini_kept.specs.Lawful.{Lawful}
 use Rattle.mini_laws.specs.DeclaredNames.{has_inner}
 use Rattle.mini_rows.specs.Arranged.{KeptAt, Vanishes}
 use Rattle.mini_rows.specs.Sketches.{AbsentPart, Null, BooleanValue, Number, String, PropertyName, Unary, Binary, StaticMember, ComputedMember, Yield, Assignment, Update, Sketch, part, under, end, ◌▹◌, Free, still, rearranges_expression}
-use Rattle.mini_rows.specs.Spellings.{boolean, assignment, update, plain, negated_digit, IsUndefined, Row33, Row33Name, Row33Number, Row33Assigned, Row33Updated, Row58Left, Row58Right, Row54, Row60Yield, ordered, typeof_name, Row55, SpellingRow, SpellingContracts}
+use Rattle.mini_rows.specs.Spellings.{boolean, assignment, update, template, plain, negated_digit, IsUndefined, Row33, Row33Name, Row33Number, Row33Assigned, Row33Updated, Row58Left, Row58Right, Row54, Row60Yield, ordered, typeof_name, Row55, SpellingRow, SpellingContracts}
 use Rattle.mini_rows.proofs.ArrangedExpressions.{expressions_arranged, expressions_arranged_freely}
 use Rattle.mini_rows.proofs.ArrangedLawful.{kept_is_lawful}
 use Rattle.mini_rows.proofs.SpellMeaning.{spellings_same}
 use Rattle.mini_rows.proofs.SpellShapes.{row_fits, row_asked, row_slot}
+use Rattle.mini_rows.proofs.TemplateTexts.{text_kept}
 
 -- 65
 boolean_kept : (q : Seat) (n w : Tree) (b : Bool) → n ≡ boolean b → w ≡ negated_digit b → KeptAt (Expr q) n w
@@ -108,7 +109,8 @@ expression_kept q n w (inr (inr (inr (inr (inl r))))) = left_kept q n w r
 expression_kept q n w (inr (inr (inr (inr (inr (inl r)))))) = right_kept q n w r
 expression_kept q n w (inr (inr (inr (inr (inr (inr (inl r))))))) = swap_kept q n w r
 expression_kept q n w (inr (inr (inr (inr (inr (inr (inr (inl r)))))))) = yield_kept q n w r
-expression_kept q n w (inr (inr (inr (inr (inr (inr (inr (inr r)))))))) = typeof_kept q n w r
+expression_kept q n w (inr (inr (inr (inr (inr (inr (inr (inr (inl r))))))))) = typeof_kept q n w r
+expression_kept q n w (inr (inr (inr (inr (inr (inr (inr (inr (inr r))))))))) = subst (λ t. KeptAt (Expr q) t w) (sym r.shape) (subst (KeptAt (Expr q) (template r.is_tail r.raw r.content)) (sym r.written) (text_kept r.is_tail r.raw r.content q))
 
 kept : (p : Position) (n w : Tree) → SpellingRow p n w → KeptAt p n w
 kept (Expr q) n w r = expression_kept q n w r
@@ -121,7 +123,7 @@ places p n w r = absurd r
 pub lawful : Lawful SpellingContracts
 lawful =
     kept_is_lawful SpellingContracts spellings_same
-    (record { fitting = λ p n w c strict s k e. row_fits p n w c.row strict s e; asked = λ p n w c. row_asked p n w c.row })
+    (record { fitting = λ p n w c strict s k e. row_fits p n w c.row strict s k e; asked = λ p n w c. row_asked p n w c.row })
     (λ p n w c. places p n w c.row)
-    (λ p n w c strict s k e. row_slot p n w c.row strict s e)
+    (λ p n w c strict s k e. row_slot p n w c.row strict s k e)
     (λ p n w c. kept p n w c.row)

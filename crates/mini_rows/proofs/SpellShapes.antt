@@ -1,6 +1,6 @@
 -- What a row on a spelling writes may stand wherever what it reads may, and a parent may ask the same of both.
 use Rattle.std.proofs.Common.{◌≡◌, ℕ, suc, Bool, true, false, List, [], Option, None, refl, sym, ap, subst, ◌∙◌, inl, inr}
-use Rattle.std.specs.Prelude.{◌&&◌, not, codes, ℤ, pos, negsuc}
+use Rattle.std.specs.Prelude.{◌⊎◌, ◌&&◌, not, codes, ℤ, pos, negsuc}
 use Rattle.std.specs.Fmt.{signed_decimal}
 use Rattle.std.proofs.lemmas.Bool.{le-leb}
 use Rattle.std.specs.Char.Utf16.{has_unpaired_surrogate, utf16_chars}
@@ -21,7 +21,10 @@ use Rattle.mini_model.specs.Tree.{Tree, Trees, node, none, ◌▸◌, absent, nu
 use Rattle.mini_accept.specs.WellShaped.{Depth, in_module, in_body, nested, Class, a_statement, an_init, a_loop_left, an_arrow_body, an_expression, a_link, a_chain, an_argument, a_key, a_private_or_key, an_inner_key, a_target, a_simple_target, a_member_target, a_default_export, a_label, Slot, one, one_or_absent, is_safe, is_function_body, spelling, has_optional, is_not_positive_number, expression_slots, unchained_slots, member_slots, none_if, in_depth, is_chained, is_sloppy_function, slots_of, is_whole, is_strict_in, filling, filling_by, class_of, fits, fill}
 use Rattle.mini_kept.specs.KeepsFrames.{is_in_body, is_body_slot}
 use Rattle.mini_kept.specs.KeepsShapes.{is_default, AskedAlike}
-use Rattle.mini_rows.specs.Spellings.{numeral, text, key, boolean, binary, assignment, update, computed_member, static_member, yields, void_zero, negated_digit, plain, Row33, ordered, typeof_name, SpellingRow}
+use Rattle.mini_kept.specs.Placed.{fits_place}
+use Rattle.mini_kept.proofs.FrameRows.{expression_slot}
+use Rattle.mini_rows.proofs.TemplateTexts.{template_at, text_fits, text_asked}
+use Rattle.mini_rows.specs.Spellings.{numeral, text, key, boolean, binary, assignment, update, computed_member, static_member, yields, void_zero, negated_digit, plain, Row33, ordered, typeof_name, template, Row19, SpellingRow}
 
 -- ---- the nodes that rows on spellings read and write
 
@@ -298,16 +301,24 @@ yield_stands strict Nowhere e = absurd (cc e)
 
 -- ---- all
 
-expression_fits : (q : Seat) (n w : Tree) → SpellingRow (Expr q) n w → FitsToo n w
-expression_fits q n w (inl r) = by_shape n w (boolean r.value) (negated_digit r.value) r.shape r.written (boolean_fits r.value)
-expression_fits q n w (inr (inl r)) = member_fits n w r
-expression_fits q n w (inr (inr (inl r))) = by_shape n w (assignment r.operator r.target r.value) (assignment r.operator r.turned r.value) r.shape r.written (λ strict s. stands strict (an_assignment r.operator) (an_assignment r.operator) (r.target ▸ r.value ▸ none) (r.turned ▸ r.value ▸ none) (assigned_stands strict r.operator r.target r.turned r.value (member_fits r.target r.turned r.member)) s)
-expression_fits q n w (inr (inr (inr (inl r)))) = by_shape n w (update r.operator r.is_prefix r.target) (update r.operator r.is_prefix r.turned) r.shape r.written (λ strict s. stands strict (an_update r.operator r.is_prefix) (an_update r.operator r.is_prefix) (r.target ▸ none) (r.turned ▸ none) (updated_stands strict r.operator r.is_prefix r.target r.turned (member_fits r.target r.turned r.member)) s)
-expression_fits q n w (inr (inr (inr (inr (inl r))))) = by_shape n w (binary r.operator r.left r.right) (binary r.operator null_literal r.right) r.shape r.written (λ strict s. stands strict (a_binary r.operator) (a_binary r.operator) (r.left ▸ r.right ▸ none) (null_literal ▸ r.right ▸ none) (binary_stands strict r.operator r.left r.right null_literal r.right (λ x y. (refl, y))) s)
-expression_fits q n w (inr (inr (inr (inr (inr (inl r)))))) = by_shape n w (binary r.operator r.left r.right) (binary r.operator r.left null_literal) r.shape r.written (λ strict s. stands strict (a_binary r.operator) (a_binary r.operator) (r.left ▸ r.right ▸ none) (r.left ▸ null_literal ▸ none) (binary_stands strict r.operator r.left r.right r.left null_literal (λ x y. (x, refl))) s)
-expression_fits q n w (inr (inr (inr (inr (inr (inr (inl r))))))) = by_shape n w (binary r.operator (plain r.left) r.right) (binary r.operator r.right (plain r.left)) r.shape r.written (λ strict s. stands strict (a_binary r.operator) (a_binary r.operator) (plain r.left ▸ r.right ▸ none) (r.right ▸ plain r.left ▸ none) (binary_stands strict r.operator (plain r.left) r.right r.right (plain r.left) (λ x y. (y, x))) s)
-expression_fits q n w (inr (inr (inr (inr (inr (inr (inr (inl r)))))))) = by_shape n w (yields void_zero) (yields absent) r.shape r.written (λ strict s. stands strict a_yield a_yield (void_zero ▸ none) (absent ▸ none) (yield_stands strict) s)
-expression_fits q n w (inr (inr (inr (inr (inr (inr (inr (inr r)))))))) = by_shape n w (binary r.operator (typeof_name r.name) (text (codes "undefined"))) (binary (ordered r.operator) (typeof_name r.name) (text (codes "u"))) r.shape r.written (λ strict s. stands strict (a_binary r.operator) (a_binary (ordered r.operator)) (typeof_name r.name ▸ text (codes "undefined") ▸ none) (typeof_name r.name ▸ text (codes "u") ▸ none) (typeof_stands strict r.operator (ordered r.operator) (typeof_name r.name) (codes "undefined") (codes "u") (u_fits strict)) s)
+-- where an expression may stand
+abbrev FitsThere : Seat → Tree → Tree → Type 0
+FitsThere q n w = (strict : Bool) (s : Slot) → fits_place (Expr q) s ≡ true → fits strict s n ≡ true → fits strict s w ≡ true
+
+anywhere : (q : Seat) (n w : Tree) → FitsToo n w → FitsThere q n w
+anywhere q n w f strict s v e = f strict s e
+
+expression_fits : (q : Seat) (n w : Tree) → SpellingRow (Expr q) n w → FitsThere q n w
+expression_fits q n w (inl r) = anywhere q n w (by_shape n w (boolean r.value) (negated_digit r.value) r.shape r.written (boolean_fits r.value))
+expression_fits q n w (inr (inl r)) = anywhere q n w (member_fits n w r)
+expression_fits q n w (inr (inr (inl r))) = anywhere q n w (by_shape n w (assignment r.operator r.target r.value) (assignment r.operator r.turned r.value) r.shape r.written (λ strict s. stands strict (an_assignment r.operator) (an_assignment r.operator) (r.target ▸ r.value ▸ none) (r.turned ▸ r.value ▸ none) (assigned_stands strict r.operator r.target r.turned r.value (member_fits r.target r.turned r.member)) s))
+expression_fits q n w (inr (inr (inr (inl r)))) = anywhere q n w (by_shape n w (update r.operator r.is_prefix r.target) (update r.operator r.is_prefix r.turned) r.shape r.written (λ strict s. stands strict (an_update r.operator r.is_prefix) (an_update r.operator r.is_prefix) (r.target ▸ none) (r.turned ▸ none) (updated_stands strict r.operator r.is_prefix r.target r.turned (member_fits r.target r.turned r.member)) s))
+expression_fits q n w (inr (inr (inr (inr (inl r))))) = anywhere q n w (by_shape n w (binary r.operator r.left r.right) (binary r.operator null_literal r.right) r.shape r.written (λ strict s. stands strict (a_binary r.operator) (a_binary r.operator) (r.left ▸ r.right ▸ none) (null_literal ▸ r.right ▸ none) (binary_stands strict r.operator r.left r.right null_literal r.right (λ x y. (refl, y))) s))
+expression_fits q n w (inr (inr (inr (inr (inr (inl r)))))) = anywhere q n w (by_shape n w (binary r.operator r.left r.right) (binary r.operator r.left null_literal) r.shape r.written (λ strict s. stands strict (a_binary r.operator) (a_binary r.operator) (r.left ▸ r.right ▸ none) (r.left ▸ null_literal ▸ none) (binary_stands strict r.operator r.left r.right r.left null_literal (λ x y. (x, refl))) s))
+expression_fits q n w (inr (inr (inr (inr (inr (inr (inl r))))))) = anywhere q n w (by_shape n w (binary r.operator (plain r.left) r.right) (binary r.operator r.right (plain r.left)) r.shape r.written (λ strict s. stands strict (a_binary r.operator) (a_binary r.operator) (plain r.left ▸ r.right ▸ none) (r.right ▸ plain r.left ▸ none) (binary_stands strict r.operator (plain r.left) r.right r.right (plain r.left) (λ x y. (y, x))) s))
+expression_fits q n w (inr (inr (inr (inr (inr (inr (inr (inl r)))))))) = anywhere q n w (by_shape n w (yields void_zero) (yields absent) r.shape r.written (λ strict s. stands strict a_yield a_yield (void_zero ▸ none) (absent ▸ none) (yield_stands strict) s))
+expression_fits q n w (inr (inr (inr (inr (inr (inr (inr (inr (inl r))))))))) = anywhere q n w (by_shape n w (binary r.operator (typeof_name r.name) (text (codes "undefined"))) (binary (ordered r.operator) (typeof_name r.name) (text (codes "u"))) r.shape r.written (λ strict s. stands strict (a_binary r.operator) (a_binary (ordered r.operator)) (typeof_name r.name ▸ text (codes "undefined") ▸ none) (typeof_name r.name ▸ text (codes "u") ▸ none) (typeof_stands strict r.operator (ordered r.operator) (typeof_name r.name) (codes "undefined") (codes "u") (u_fits strict)) s))
+expression_fits q n w (inr (inr (inr (inr (inr (inr (inr (inr (inr r))))))))) = λ strict s v e. subst (λ t. fits strict s t ≡ true) (sym r.written) (text_fits r.is_tail r.raw r.content strict q s v (subst (λ t. fits strict s t ≡ true) r.shape e))
 
 -- ---- what a parent asks
 
@@ -359,16 +370,17 @@ boolean_formed : (n w : Tree) (b : Bool) → n ≡ boolean b → w ≡ negated_d
 boolean_formed n w true e f = record { first = a_boolean true; second = a_negation; parts = none; others = numeral (pos 0) ▸ none; read = e; made = f; optional = λ x. absurd (cc x) }
 boolean_formed n w false e f = record { first = a_boolean false; second = a_negation; parts = none; others = numeral (pos 1) ▸ none; read = e; made = f; optional = λ x. absurd (cc x) }
 
-row_formed : (q : Seat) (n w : Tree) → SpellingRow (Expr q) n w → Formed n w
-row_formed q n w (inl r) = boolean_formed n w r.value r.shape r.written
-row_formed q n w (inr (inl r)) = member_formed n w r
-row_formed q n w (inr (inr (inl r))) = record { first = an_assignment r.operator; second = an_assignment r.operator; parts = r.target ▸ r.value ▸ none; others = r.turned ▸ r.value ▸ none; read = r.shape; made = r.written; optional = λ x. absurd (cc x) }
-row_formed q n w (inr (inr (inr (inl r)))) = record { first = an_update r.operator r.is_prefix; second = an_update r.operator r.is_prefix; parts = r.target ▸ none; others = r.turned ▸ none; read = r.shape; made = r.written; optional = λ x. absurd (cc x) }
-row_formed q n w (inr (inr (inr (inr (inl r))))) = record { first = a_binary r.operator; second = a_binary r.operator; parts = r.left ▸ r.right ▸ none; others = null_literal ▸ r.right ▸ none; read = r.shape; made = r.written; optional = λ x. absurd (cc x) }
-row_formed q n w (inr (inr (inr (inr (inr (inl r)))))) = record { first = a_binary r.operator; second = a_binary r.operator; parts = r.left ▸ r.right ▸ none; others = r.left ▸ null_literal ▸ none; read = r.shape; made = r.written; optional = λ x. absurd (cc x) }
-row_formed q n w (inr (inr (inr (inr (inr (inr (inl r))))))) = record { first = a_binary r.operator; second = a_binary r.operator; parts = plain r.left ▸ r.right ▸ none; others = r.right ▸ plain r.left ▸ none; read = r.shape; made = r.written; optional = λ x. absurd (cc x) }
-row_formed q n w (inr (inr (inr (inr (inr (inr (inr (inl r)))))))) = record { first = a_yield; second = a_yield; parts = void_zero ▸ none; others = absent ▸ none; read = r.shape; made = r.written; optional = λ x. absurd (cc x) }
-row_formed q n w (inr (inr (inr (inr (inr (inr (inr (inr r)))))))) = record { first = a_binary r.operator; second = a_binary (ordered r.operator); parts = typeof_name r.name ▸ text (codes "undefined") ▸ none; others = typeof_name r.name ▸ text (codes "u") ▸ none; read = r.shape; made = r.written; optional = λ x. absurd (cc x) }
+row_formed : (q : Seat) (n w : Tree) → SpellingRow (Expr q) n w → Formed n w ⊎ Row19 n w
+row_formed q n w (inl r) = inl (boolean_formed n w r.value r.shape r.written)
+row_formed q n w (inr (inl r)) = inl (member_formed n w r)
+row_formed q n w (inr (inr (inl r))) = inl (record { first = an_assignment r.operator; second = an_assignment r.operator; parts = r.target ▸ r.value ▸ none; others = r.turned ▸ r.value ▸ none; read = r.shape; made = r.written; optional = λ x. absurd (cc x) })
+row_formed q n w (inr (inr (inr (inl r)))) = inl (record { first = an_update r.operator r.is_prefix; second = an_update r.operator r.is_prefix; parts = r.target ▸ none; others = r.turned ▸ none; read = r.shape; made = r.written; optional = λ x. absurd (cc x) })
+row_formed q n w (inr (inr (inr (inr (inl r))))) = inl (record { first = a_binary r.operator; second = a_binary r.operator; parts = r.left ▸ r.right ▸ none; others = null_literal ▸ r.right ▸ none; read = r.shape; made = r.written; optional = λ x. absurd (cc x) })
+row_formed q n w (inr (inr (inr (inr (inr (inl r)))))) = inl (record { first = a_binary r.operator; second = a_binary r.operator; parts = r.left ▸ r.right ▸ none; others = r.left ▸ null_literal ▸ none; read = r.shape; made = r.written; optional = λ x. absurd (cc x) })
+row_formed q n w (inr (inr (inr (inr (inr (inr (inl r))))))) = inl (record { first = a_binary r.operator; second = a_binary r.operator; parts = plain r.left ▸ r.right ▸ none; others = r.right ▸ plain r.left ▸ none; read = r.shape; made = r.written; optional = λ x. absurd (cc x) })
+row_formed q n w (inr (inr (inr (inr (inr (inr (inr (inl r)))))))) = inl (record { first = a_yield; second = a_yield; parts = void_zero ▸ none; others = absent ▸ none; read = r.shape; made = r.written; optional = λ x. absurd (cc x) })
+row_formed q n w (inr (inr (inr (inr (inr (inr (inr (inr (inl r))))))))) = inl (record { first = a_binary r.operator; second = a_binary (ordered r.operator); parts = typeof_name r.name ▸ text (codes "undefined") ▸ none; others = typeof_name r.name ▸ text (codes "u") ▸ none; read = r.shape; made = r.written; optional = λ x. absurd (cc x) })
+row_formed q n w (inr (inr (inr (inr (inr (inr (inr (inr (inr r))))))))) = inr r
 
 -- ---- where they stand is in a body
 
@@ -406,14 +418,22 @@ formed_slot p n w r strict s e = body_slot p s (somewhere strict (kind_in s) r.f
 
 -- ---- wherever rows are made
 
-pub row_fits : (p : Position) (n w : Tree) → SpellingRow p n w → (strict : Bool) (s : Slot) → fits strict s n ≡ true → fits strict s w ≡ true
+expression_asked : (q : Seat) (n w : Tree) → Formed n w ⊎ Row19 n w → AskedAlike (Expr q) n w
+expression_asked q n w (inl f) = formed_asked (Expr q) n w f
+expression_asked q n w (inr r) = subst (λ t. AskedAlike (Expr q) t w) (sym r.shape) (subst (AskedAlike (Expr q) (template r.is_tail r.raw r.content)) (sym r.written) (text_asked r.is_tail r.raw r.content q))
+
+in_body_slot : (q : Seat) (n w : Tree) → Formed n w ⊎ Row19 n w → (strict : Bool) (s : Slot) → fits_place (Expr q) s ≡ true → fits strict s n ≡ true → is_body_slot (Expr q) s ≡ true
+in_body_slot q n w (inl f) strict s v e = formed_slot (Expr q) n w f strict s e
+in_body_slot q n w (inr r) strict s v e = expression_slot (Expr q) s (template_at r.is_tail r.raw r.content strict q s v (subst (λ t. fits strict s t ≡ true) r.shape e)).0
+
+pub row_fits : (p : Position) (n w : Tree) → SpellingRow p n w → (strict : Bool) (s : Slot) → fits_place p s ≡ true → fits strict s n ≡ true → fits strict s w ≡ true
 row_fits (Expr q) n w r = expression_fits q n w r
 row_fits p n w r = absurd r
 
 pub row_asked : (p : Position) (n w : Tree) → SpellingRow p n w → AskedAlike p n w
-row_asked (Expr q) n w r = formed_asked (Expr q) n w (row_formed q n w r)
+row_asked (Expr q) n w r = expression_asked q n w (row_formed q n w r)
 row_asked p n w r = absurd r
 
-pub row_slot : (p : Position) (n w : Tree) → SpellingRow p n w → (strict : Bool) (s : Slot) → fits strict s n ≡ true → is_body_slot p s ≡ true
-row_slot (Expr q) n w r = formed_slot (Expr q) n w (row_formed q n w r)
+pub row_slot : (p : Position) (n w : Tree) → SpellingRow p n w → (strict : Bool) (s : Slot) → fits_place p s ≡ true → fits strict s n ≡ true → is_body_slot p s ≡ true
+row_slot (Expr q) n w r = in_body_slot q n w (row_formed q n w r)
 row_slot p n w r = absurd r

@@ -21,6 +21,7 @@ use Rattle.mini_model.specs.Weight.{Outline, outline, outlines, weight, place_we
 use Rattle.mini_laws.specs.Weights.{Lightens, counts_items}
 use Rattle.mini_laws.proofs.Seats.{placed}
 use Rattle.mini_rows.specs.Spellings.{numeral, text, key, binary, assignment, update, computed_member, static_member, yields, void_zero, IsUndefined, IsLoose, PlainForm, a_number, a_text, a_boolean, a_null, a_big_int, a_template, a_void, plain, boolean, negated_digit, is_awkward_left, is_inner, Row33, ordered, typeof_name, SpellingRow, SpellingContracts, SpellingsLighter}
+use Rattle.mini_rows.proofs.TemplateTexts.{text_falls}
 
 -- what a place adds is a pair of parentheses at most, and 1 where a form is awkward there
 
@@ -221,7 +222,8 @@ expression_falls s n w (inr (inr (inr (inr (inl r))))) = falls_by (Expr s) n w _
 expression_falls s n w (inr (inr (inr (inr (inr (inl r)))))) = falls_by (Expr s) n w _ _ r.shape r.written (right_falls r.operator r.loose s r.left r.right r.undefined)
 expression_falls s n w (inr (inr (inr (inr (inr (inr (inl r))))))) = falls_by (Expr s) n w _ _ r.shape r.written (swap_falls r.operator r.equality s r.left r.right r.ready r.outer)
 expression_falls s n w (inr (inr (inr (inr (inr (inr (inr (inl r)))))))) = falls_by (Expr s) n w _ _ r.shape r.written (yield_falls s)
-expression_falls s n w (inr (inr (inr (inr (inr (inr (inr (inr r)))))))) = falls_by (Expr s) n w _ _ r.shape r.written (typeof_falls r.operator r.equality s r.name)
+expression_falls s n w (inr (inr (inr (inr (inr (inr (inr (inr (inl r))))))))) = falls_by (Expr s) n w _ _ r.shape r.written (typeof_falls r.operator r.equality s r.name)
+expression_falls s n w (inr (inr (inr (inr (inr (inr (inr (inr (inr r))))))))) = falls_by (Expr s) n w _ _ r.shape r.written (text_falls s r.is_tail r.raw r.content r.shorter)
 
 pub lighter : SpellingsLighter
 lighter (Expr s) n w r = expression_falls s n w r
@@ -248,7 +250,8 @@ outline_by_row f p n w r = ap f (kept p n w r)
     kept (Expr s) n w (inr (inr (inr (inr (inr (inl r)))))) = ap outline r.shape ∙ sym (ap outline r.written)
     kept (Expr s) n w (inr (inr (inr (inr (inr (inr (inl r))))))) = ap outline r.shape ∙ sym (ap outline r.written)
     kept (Expr s) n w (inr (inr (inr (inr (inr (inr (inr (inl r)))))))) = ap outline r.shape ∙ sym (ap outline r.written)
-    kept (Expr s) n w (inr (inr (inr (inr (inr (inr (inr (inr r)))))))) = ap outline r.shape ∙ sym (ap outline r.written)
+    kept (Expr s) n w (inr (inr (inr (inr (inr (inr (inr (inr (inl r))))))))) = ap outline r.shape ∙ sym (ap outline r.written)
+    kept (Expr s) n w (inr (inr (inr (inr (inr (inr (inr (inr (inr r))))))))) = ap outline r.shape ∙ sym (ap outline r.written)
     kept p n w r = absurd r
 
 no_items : (p : Position) (n w : Tree) → SpellingRow p n w → counts_items p ≡ true → (outline n).items ≡ (outline w).items

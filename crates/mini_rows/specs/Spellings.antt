@@ -1,6 +1,6 @@
 -- Rows on how an expression is spelled, as equations: each is a shape and what is written in its place. No order of rewriting
 -- is meant.
-use Rattle.std.specs.Prelude.{◌≡◌, ◌<◌, ◌⊎◌, ℕ, Bool, true, false, List, [], Some, codes, ℤ, pos}
+use Rattle.std.specs.Prelude.{◌≡◌, ◌<◌, ◌⊎◌, ℕ, nat_le, Bool, true, false, List, [], length, Some, codes, ℤ, pos}
 use Rattle.std.specs.Fmt.{signed_decimal}
 use Rattle.mini_model.specs.Texts.{is_identifier_name}
 use Rattle.mini_model.specs.Numerals.{IsSafe}
@@ -208,9 +208,19 @@ pub record Row55 (n w : Tree) : Type 0 where
   pub shape : n ≡ binary operator (typeof_name name) (text (codes "undefined"))
   pub written : w ≡ binary (ordered operator) (typeof_name name) (text (codes "u"))
 
+-- 19: a template without expressions becomes its text, as abc in backticks becomes `"abc"`. What is written in it is no shorter than the
+-- text, as in any program
+pub record Row19 (n w : Tree) : Type 0 where
+  pub is_tail : Bool
+  pub raw : List ℕ
+  pub content : List ℕ
+  pub shorter : nat_le (length content) (length raw) ≡ true
+  pub shape : n ≡ template is_tail raw content
+  pub written : w ≡ text content
+
 -- a row on a spelling reads n as w at this place
 abbrev pub SpellingRow : Position → Tree → Tree → Type 0
-SpellingRow (Expr s) n w = Row65 n w ⊎ (Row33 n w ⊎ (Row33Assigned n w ⊎ (Row33Updated n w ⊎ (Row58Left n w ⊎ (Row58Right n w ⊎ (Row54 n w ⊎ (Row60Yield n w ⊎ Row55 n w)))))))
+SpellingRow (Expr s) n w = Row65 n w ⊎ (Row33 n w ⊎ (Row33Assigned n w ⊎ (Row33Updated n w ⊎ (Row58Left n w ⊎ (Row58Right n w ⊎ (Row54 n w ⊎ (Row60Yield n w ⊎ (Row55 n w ⊎ Row19 n w))))))))
 SpellingRow _ n w = ⊥
 
 -- what it writes, where it weighs less

@@ -106,15 +106,16 @@ no_item t e = absurd (cc e)
 abbrev template_over : Tree → Tree → Tree
 template_over a b = node shape.TemplateLiteral [] 0 (a ▸ b ▸ none)
 
-template_is : (t : Tree) → is_text_template t ≡ true → (f : PlainForm) × (t ≡ plain f)
-template_is (node shape.TemplateLiteral [] zero (a ▸ b ▸ none)) e =
+pub template_told : (t : Tree) → is_text_template t ≡ true → (l : Bool) × ((raw : List ℕ) × ((s : List ℕ) × (t ≡ plain (a_template l raw s))))
+template_told (node shape.TemplateLiteral [] zero (a ▸ b ▸ none)) e =
     let (one, rest) = and_parts (is_list_of 1 a) (is_list_of 0 b && is_cooked (part a 0)) e in
     let (nothing, cooked) = and_parts (is_list_of 0 b) (is_cooked (part a 0)) rest in
-    let piece = cooked_is (part a 0) cooked in (
-      a_template piece.0 piece.1.0 piece.1.1.0,
-      ap (λ x. template_over x b) (one_item a one ∙ ap (λ x. listed (x ▸ none)) piece.1.1.1) ∙ ap (λ x. template_over (listed (leaf (shape.TemplateElement piece.0 piece.1.0 (Some piece.1.1.0)) ▸ none)) x) (no_item b nothing),
-    )
-template_is t e = absurd (cc e)
+    let piece = cooked_is (part a 0) cooked in
+    (piece.0, (piece.1.0, (piece.1.1.0, ap (λ x. template_over x b) (one_item a one ∙ ap (λ x. listed (x ▸ none)) piece.1.1.1) ∙ ap (template_over (listed (leaf (shape.TemplateElement piece.0 piece.1.0 (Some piece.1.1.0)) ▸ none))) (no_item b nothing))))
+template_told t e = absurd (cc e)
+
+template_is : (t : Tree) → is_text_template t ≡ true → (f : PlainForm) × (t ≡ plain f)
+template_is t e = let (l, (raw, (s, is))) = template_told t e in (a_template l raw s, is)
 
 pub plain_is : (t : Tree) → is_plain t ≡ true → (f : PlainForm) × (t ≡ plain f)
 plain_is t e = go (either_true (is_literal t) (is_text_template t || is_void_zero t) e)

@@ -1,6 +1,6 @@
 -- What the rewrites of spellings write is what a row says, and where they write nothing no row reads the expression.
 use Rattle.std.proofs.Common.{◌≡◌, ℕ, zero, Bool, true, false, List, [], ◌∷◌, Option, Some, None, refl, sym, ap, subst, ◌∙◌, inl, inr}
-use Rattle.std.specs.Prelude.{◌⊎◌, ◌&&◌, is_none, codes, ℤ, if◌then◌else◌}
+use Rattle.std.specs.Prelude.{◌⊎◌, ◌&&◌, nat_le, length, is_none, codes, ℤ, if◌then◌else◌}
 use Rattle.std.specs.Fmt.{signed_decimal}
 use Rattle.std.proofs.lemmas.Bool.{and_parts}
 use Rattle.mini_model.specs.Texts.{is_identifier_name}
@@ -17,23 +17,24 @@ use Rattle.mini_model.specs.declared.operator.UpdateOperator.{UpdateOperator}
 use Rattle.mini_model.specs.declared.place.Position.TheVariants.{Expr}
 use Rattle.mini_model.specs.declared.seat.Seat.{Seat}
 use Rattle.mini_model.specs.declared.shape.Shape.TheVariants as shape
-use Rattle.mini_model.specs.Tree.{Tree, node, none, ◌▸◌, absent, identifier, unresolved, unary, null_literal}
+use Rattle.mini_model.specs.Tree.{Tree, shape_of, node, none, ◌▸◌, absent, identifier, unresolved, unary, null_literal}
 use Rattle.mini_model.specs.Position.{is_equality}
 use Rattle.mini_node.specs.Children.{part}
 use Rattle.mini_node.specs.Kinds.{boolean as boolean_of, string, unary_operator, binary_operator, assignment_operator}
 use Rattle.mini_node.specs.Made.{boolean_is, string_is, unary_is, binary_is, assignment_is}
-use Rattle.mini_rows.specs.Spellings.{numeral, text, key, boolean, binary, assignment, update, computed_member, static_member, yields, void_zero, negated_digit, IsLoose, plain, Row65, Row33, Row33Assigned, Row33Updated, Row58Left, Row58Right, Row54, Row60Yield, ordered, typeof_name, Row55, SpellingRow}
-use Rattle.mini_syntax.specs.Forms.{first_of, is_undefined, is_plain}
+use Rattle.mini_rows.specs.Spellings.{numeral, text, template, Row19, key, boolean, binary, assignment, update, computed_member, static_member, yields, void_zero, negated_digit, IsLoose, plain, Row65, Row33, Row33Assigned, Row33Updated, Row58Left, Row58Right, Row54, Row60Yield, ordered, typeof_name, Row55, SpellingRow}
+use Rattle.mini_syntax.specs.Forms.{first_of, is_undefined, is_plain, is_text_template}
 use Rattle.mini_syntax.specs.SubstituteBoolean as substituted
 use Rattle.mini_syntax.specs.ConvertToDottedProperties as dotted
 use Rattle.mini_syntax.specs.ConvertToDottedProperties.{turned, is_name_text, named_member, numbered_member, as_name, update_operator}
 use Rattle.mini_syntax.specs.SubstituteLooseEqualsUndefined as loose
 use Rattle.mini_syntax.specs.SubstituteSwapBinaryExpressions as swap
+use Rattle.mini_syntax.specs.SubstituteTemplateLiteral as templates
 use Rattle.mini_syntax.specs.SubstituteTypeofUndefined as typeof
 use Rattle.mini_syntax.specs.SubstituteYieldExpression as yielding
 use Rattle.mini_syntax.specs.Spelled as law
 use Rattle.mini_syntax.specs.Spelled.{equality_written, written}
-use Rattle.mini_syntax.proofs.FormsAre.{same_texts, void_zero_is, undefined_is, undefined_passes, plain_is, plain_passes, ready_is, ready_passes}
+use Rattle.mini_syntax.proofs.FormsAre.{same_texts, void_zero_is, undefined_is, undefined_passes, template_told, plain_is, plain_passes, ready_is, ready_passes}
 
 some_is : {A : Type 0} (x y : A) → Some x ≡ Some y → x ≡ y
 some_is x y e = cc e
@@ -268,6 +269,25 @@ yield_row t w e = go (yielding.yields_void_zero t) refl e
     go true h e = record { shape = yield_is t h; written = sym (some_is (yields absent) w e) }
     go false h e = absurd (cc e)
 
+-- 19
+
+template_row : (t w : Tree) → templates.written t ≡ Some w → Row19 t w
+template_row t w e = go (is_text_template t) refl e
+  where
+    over : (l : Bool) (raw s : List ℕ) → t ≡ template l raw s → (c : Bool) → nat_le (length s) (length raw) ≡ c → (if c then Some (text s) else None) ≡ Some w → Row19 t w
+    over l raw s is true h e = record { is_tail = l; raw = raw; content = s; shorter = h; shape = is; written = sym (some_is (text s) w e) }
+    over l raw s is false h e = absurd (cc e)
+
+    told : (l : Bool) × ((raw : List ℕ) × ((s : List ℕ) × (t ≡ template l raw s))) → templates.piece_text (shape_of (part (part t 0) 0)) ≡ Some w → Row19 t w
+    told (l, (raw, (s, is))) e = over l raw s is (nat_le (length s) (length raw)) refl (sym (ap (λ x. templates.piece_text (shape_of (part (part x 0) 0))) is) ∙ e)
+
+    go : (b : Bool) → is_text_template t ≡ b → (if b then templates.piece_text (shape_of (part (part t 0) 0)) else None) ≡ Some w → Row19 t w
+    go true h e = told (template_told t h) e
+    go false h e = absurd (cc e)
+
+template_misses : (l : Bool) (raw s : List ℕ) → nat_le (length s) (length raw) ≡ true → templates.written (template l raw s) ≡ None → ⊥
+template_misses l raw s h e = absurd (cc (sym (ap (λ b. if b then Some (text s) else None) h) ∙ e))
+
 -- all
 
 first_is : {A : Type 0} (a b : Option A) (x : A) → first_of a b ≡ Some x → (a ≡ Some x) ⊎ (b ≡ Some x)
@@ -287,7 +307,7 @@ of_equality s n w (inl e) = of_loose s n w (loose_row n w e)
 of_equality s n w (inr e) = inr (inr (inr (inr (inr (inr (inl (swap_row n w e)))))))
 
 of_binary : (s : Seat) (n w : Tree) → (typeof.written n ≡ Some w) ⊎ (equality_written n ≡ Some w) → SpellingRow (Expr s) n w
-of_binary s n w (inl e) = inr (inr (inr (inr (inr (inr (inr (inr (typeof_row n w e))))))))
+of_binary s n w (inl e) = inr (inr (inr (inr (inr (inr (inr (inr (inl (typeof_row n w e)))))))))
 of_binary s n w (inr e) = of_equality s n w (first_is (loose.written n) (swap.written n) w e)
 
 pub written_is_row : law.WrittenIsRow
@@ -297,6 +317,7 @@ written_is_row s (node (shape.AssignmentExpression o) xs n ts) w e = inr (inr (i
 written_is_row s (node (shape.UpdateExpression o l) xs n ts) w e = inr (inr (inr (inl (updated_follows (node (shape.UpdateExpression o l) xs n ts) w e))))
 written_is_row s (node (shape.BinaryExpression o) xs n ts) w e = of_binary s (node (shape.BinaryExpression o) xs n ts) w (first_is (typeof.written (node (shape.BinaryExpression o) xs n ts)) (equality_written (node (shape.BinaryExpression o) xs n ts)) w e)
 written_is_row s (node (shape.YieldExpression d) xs n ts) w e = inr (inr (inr (inr (inr (inr (inr (inl (yield_row (node (shape.YieldExpression d) xs n ts) w e))))))))
+written_is_row s (node shape.TemplateLiteral xs n ts) w e = inr (inr (inr (inr (inr (inr (inr (inr (inr (template_row (node shape.TemplateLiteral xs n ts) w e)))))))))
 written_is_row s (node h xs n ts) w e = absurd (cc e)
 
 -- what is written for a node whose form is told
@@ -339,9 +360,10 @@ unwritten_rests s n e w (inr (inr (inr (inr (inr (inr (inl r))))))) =
     let sides = sides_of r.operator (plain r.left) r.right (unwritten n (binary r.operator (plain r.left) r.right) r.shape e) in
     swap_misses (binary r.operator (plain r.left) r.right) w (subst (λ x. Row54 x w) r.shape r) sides.1
 unwritten_rests s n e w (inr (inr (inr (inr (inr (inr (inr (inl r)))))))) = absurd (cc (unwritten n (yields void_zero) r.shape e))
-unwritten_rests s n e w (inr (inr (inr (inr (inr (inr (inr (inr r)))))))) =
+unwritten_rests s n e w (inr (inr (inr (inr (inr (inr (inr (inr (inl r))))))))) =
     let long : Tree = binary r.operator (typeof_name r.name) (text (codes "undefined")) in
     typeof_misses long w (subst (λ x. Row55 x w) r.shape r) (none_first (typeof.written long) (equality_written long) (unwritten n long r.shape e)).0
+unwritten_rests s n e w (inr (inr (inr (inr (inr (inr (inr (inr (inr r))))))))) = template_misses r.is_tail r.raw r.content r.shorter (unwritten n (template r.is_tail r.raw r.content) r.shape e)
 
 pub rests_settle : law.RestsSettle
 rests_settle p n w r c = r w c.row

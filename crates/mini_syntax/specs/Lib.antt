@@ -5,6 +5,7 @@ pub mod ConvertToDottedProperties
 pub mod SubstituteLooseEqualsUndefined
 pub mod SubstituteSwapBinaryExpressions
 pub mod SubstituteTypeofUndefined
+pub mod SubstituteTemplateLiteral
 pub mod SubstituteYieldExpression
 pub mod SubstituteReturnStatement
 pub mod SubstituteObjectProperty

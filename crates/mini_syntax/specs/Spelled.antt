@@ -12,6 +12,7 @@ use Rattle.mini_syntax.specs.SubstituteBoolean as boolean
 use Rattle.mini_syntax.specs.ConvertToDottedProperties as dotted
 use Rattle.mini_syntax.specs.SubstituteLooseEqualsUndefined as loose
 use Rattle.mini_syntax.specs.SubstituteSwapBinaryExpressions as swap
+use Rattle.mini_syntax.specs.SubstituteTemplateLiteral as templates
 use Rattle.mini_syntax.specs.SubstituteTypeofUndefined as typeof
 use Rattle.mini_syntax.specs.SubstituteYieldExpression as yielding
 
@@ -30,6 +31,7 @@ written_by (shape.AssignmentExpression o) t = dotted.written t
 written_by (shape.UpdateExpression o is_prefix) t = dotted.written t
 written_by (shape.BinaryExpression o) t = binary_written t
 written_by (shape.YieldExpression is_delegate) t = yielding.written t
+written_by shape.TemplateLiteral t = templates.written t
 written_by _ t = None
 
 -- what is written for an expression, where a row reads it

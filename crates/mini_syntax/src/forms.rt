@@ -2,7 +2,7 @@
 
 ghost use Rattle.std.specs.Prelude.{◌≡◌, true};
 ghost use Rattle.mini_model.specs.Tree.{children, count};
-ghost use Rattle.mini_node.specs.Children.{names};
+ghost use Rattle.mini_node.specs.Children.{names, part};
 ghost use Rattle.mini_syntax.specs.Forms.{is_zero as is_it_zero, is_void_zero as is_it_void_zero, is_undefined_name as is_it_undefined_name, is_global_undefined as is_it_global_undefined, is_undefined as is_it_undefined, is_literal as is_it_literal, is_cooked as is_it_cooked, is_list_of as is_it_list_of, is_text_template as is_it_text_template, is_plain as is_it_plain, is_unnamed as is_it_unnamed, is_inner as is_it_inner};
 
 use mini_model::{Name, Shape, UnaryOperator};
@@ -89,9 +89,11 @@ pub fn is_list_of(size: usize, node: &Node) -> bool
     }
 }
 
-// A template without expressions.
-fn is_text_template(node: &Node) -> bool
-    ensures { result ≡ is_it_text_template node.now }
+/// A template without expressions.
+pub fn is_text_template(node: &Node) -> bool
+    ensures kind { result ≡ is_it_text_template node.now }
+    ensures parts { result ≡ true → count (children node.now) ≡ 2 }
+    ensures piece { result ≡ true → count (children (part node.now 0)) ≡ 1 }
 {
     match node.shape() {
         Shape::TemplateLiteral => {

@@ -8,6 +8,7 @@ pub mod substitute_property_key;
 pub mod substitute_return_statement;
 pub mod substitute_spellings;
 pub mod substitute_swap_binary_expressions;
+pub mod substitute_template_literal;
 pub mod substitute_typeof_undefined;
 pub mod substitute_variable_declaration;
 pub mod substitute_yield_expression;

@@ -9,6 +9,7 @@ use crate::rewrites::convert_to_dotted_properties::convert_to_dotted_properties;
 use crate::rewrites::substitute_boolean::substitute_boolean;
 use crate::rewrites::substitute_loose_equals_undefined::substitute_loose_equals_undefined;
 use crate::rewrites::substitute_swap_binary_expressions::substitute_swap_binary_expressions;
+use crate::rewrites::substitute_template_literal::substitute_template_literal;
 use crate::rewrites::substitute_typeof_undefined::substitute_typeof_undefined;
 use crate::rewrites::substitute_yield_expression::substitute_yield_expression;
 use mini_model::{OutOfMemory, Position, Shape};
@@ -48,6 +49,7 @@ fn substitute_spelling(alloc: Global, node: &mut Node) -> Result<bool, OutOfMemo
         | Shape::UpdateExpression(_, _) => convert_to_dotted_properties(alloc, node),
         Shape::BinaryExpression(_) => substitute_binary(alloc, node),
         Shape::YieldExpression(_) => substitute_yield_expression(alloc, node),
+        Shape::TemplateLiteral => substitute_template_literal(alloc, node),
         _ => Ok(false),
     }
 }
