@@ -26,13 +26,13 @@ use Rattle.mini_terms.specs.Reading.{is_unguarded, is_plain_part, stands}
 use Rattle.mini_rows.specs.Choices.{loosely}
 use Rattle.mini_rows.specs.Operands.{beside, told_by, tail_text, is_bits, is_int32, keeps_bits, has_room, zero_told, Row14, Row7, Row4, Row27, Row31, Row32, OperandRow}
 use Rattle.mini_rows.specs.Booleans.{digit, plus}
-use Rattle.mini_rows.specs.Operators.{deleted, Row16, Row17, Row56Left, Row56Right, OperatorRow}
+use Rattle.mini_rows.specs.Operators.{deleted, with_number, Row8, Row16, Row17, Row56Left, Row56Right, OperatorRow}
 use Rattle.mini_rows.specs.Spellings.{negated_digit, numeral, text}
 use Rattle.mini_rows.proofs.OperandWeights.{lighter}
 use Rattle.mini_tree.specs.Rule.{Applied}
 use Rattle.mini_tree.proofs.Reaching.{moves_once}
-use Rattle.mini_fold.specs.FoldOperators.{told, drops_left, drops_right, boolean_or, operator_written}
-use Rattle.mini_fold.proofs.Operators.{operator_or, delete_row, same_there, never_there, left_there, right_there}
+use Rattle.mini_fold.specs.FoldOperators.{operator_written}
+use Rattle.mini_fold.proofs.Operators.{operator_or, delete_row, same_there, never_there, left_there, right_there, later, masks_there}
 use Rattle.mini_fold.specs.FoldOperands.{is_redundant, logical_written, is_empty, is_string_kind, is_text, text_written, sum_text_by, joined_texts, with_text, joined_written, or_else, sum_written, is_zero, tests_bits, keeps_beside, kept_written, whole_written, negated_truth, truth_in, is_boolean_kind, is_told, right_written, left_written, either_written, equal_written, operands_written, binary_written, written_by, written, Gives, Rests}
 
 or_true : (b : Bool) → b || true ≡ true
@@ -56,17 +56,6 @@ some_is x y e = cc e
 
 nothing : {w : Tree} {B : Type 0} → None ≡ Some w → B
 nothing e = cc e
-
--- ---- what is written for the operands is written unless an operator tells more
-
-later : (o : BinaryOperator) (t : Tree) (u : Option Tree) → is_some u ≡ true → is_some (operator_written o t u) ≡ true
-later o t u h = go (told o t) (drops_left o (part t 0) (part t 1)) (drops_right o (part t 0) (part t 1))
-  where
-    go : (c : Option Bool) (x y : Bool) → is_some (boolean_or c (if x then Some (binary o (part (part t 0) 0) (part t 1)) else (if y then Some (binary o (part t 0) (part (part t 1) 0)) else u))) ≡ true
-    go (Some c) x y = refl
-    go None true y = refl
-    go None false true = refl
-    go None false false = h
 
 -- ---- 14
 
@@ -396,11 +385,12 @@ written_is_row s n w e = go (shape_of n) e
     go (shape.UnaryExpression o) f = of_operator s n w (inl (delete_row n w (unary_operator n) refl f))
     go h f = nothing f
 
-operator_passes : (s : Seat) (n w : Tree) → Row16 n w ⊎ (Row17 n w ⊎ (Row56Left n w ⊎ Row56Right n w)) → is_some (written s n) ≡ true
+operator_passes : (s : Seat) (n w : Tree) → Row16 n w ⊎ (Row17 n w ⊎ (Row56Left n w ⊎ (Row56Right n w ⊎ Row8 n w))) → is_some (written s n) ≡ true
 operator_passes s n w (inl r) = ap (λ t. is_some (written s t)) r.shape ∙ same_there r.operator r.name r.equality (operands_written s r.operator (binary r.operator (unary Typeof (identifier r.name)) (unary Typeof (identifier r.name))))
 operator_passes s n w (inr (inl r)) = ap (λ t. is_some (written s t)) r.shape ∙ never_there r.operator r.operand r.right r.equality r.known r.effect_free r.dropped (operands_written s r.operator (binary r.operator (unary Typeof r.operand) r.right))
 operator_passes s n w (inr (inr (inl r))) = ap (λ t. is_some (written s t)) r.shape ∙ left_there r.operator r.operand r.number r.numeric (operands_written s r.operator (binary r.operator (plus r.operand) (numeral r.number)))
-operator_passes s n w (inr (inr (inr r))) = ap (λ t. is_some (written s t)) r.shape ∙ right_there r.operator r.left r.operand r.numeric r.known (operands_written s r.operator (binary r.operator r.left (plus r.operand)))
+operator_passes s n w (inr (inr (inr (inl r)))) = ap (λ t. is_some (written s t)) r.shape ∙ right_there r.operator r.left r.operand r.numeric r.known (operands_written s r.operator (binary r.operator r.left (plus r.operand)))
+operator_passes s n w (inr (inr (inr (inr r)))) = ap (λ t. is_some (written s t)) r.shape ∙ masks_there r.operator r.on_right r.operand r.first r.second r.joined r.bitwise r.known r.short (operands_written s r.operator (binary r.operator (with_number r.operator r.on_right r.operand r.first) (numeral r.second)))
 
 passes : (s : Seat) (n w : Tree) → OperandRow (Expr s) n w → is_some (written s n) ≡ true
 passes s n w (inl r) = middle_passes s n w r

@@ -4,6 +4,7 @@ use Rattle.std.specs.Prelude.{◌⊎◌, ◌&&◌, not, is_some, if◌then◌els
 use Rattle.std.proofs.lemmas.Bool.{and_parts}
 use Rattle.mini_model.specs.declared.name.Name.{Name}
 use Rattle.mini_model.specs.declared.operator.BinaryOperator.{BinaryOperator}
+use Rattle.mini_model.specs.declared.operator.BinaryOperator.TheVariants.{BitwiseAnd, BitwiseXor, BitwiseOr}
 use Rattle.mini_model.specs.declared.operator.UnaryOperator.{UnaryOperator}
 use Rattle.mini_model.specs.declared.operator.UnaryOperator.TheVariants.{Typeof, Delete, UnaryPlus}
 use Rattle.mini_model.specs.declared.seat.Seat.{Seat}
@@ -11,19 +12,21 @@ use Rattle.mini_model.specs.Tree.{Tree, unary, identifier}
 use Rattle.mini_model.specs.Position.{is_equality}
 use Rattle.mini_node.specs.Children.{part}
 use Rattle.mini_node.specs.Equal.{same_tree}
-use Rattle.mini_node.specs.Kinds.{unary_operator, is_identifier, number}
-use Rattle.mini_node.specs.Made.{unary_is, identifier_is, number_is}
+use Rattle.mini_node.specs.Kinds.{unary_operator, binary_operator, is_identifier, number}
+use Rattle.mini_node.specs.Made.{unary_is, binary_is, identifier_is, number_is}
 use Rattle.mini_node.proofs.Equality.{tree_same, tree_itself}
 use Rattle.mini_terms.specs.declared.kinds.Kind.{Kind}
 use Rattle.mini_terms.specs.declared.kinds.Kind.TheVariants.{Number as IsNumber}
+use Rattle.mini_laws.specs.Value.{Value, Number}
+use Rattle.mini_terms.specs.Calculated.{calculated_numbers}
 use Rattle.mini_terms.specs.Folds.{is_effect_free}
 use Rattle.mini_terms.specs.Kind.{is_number, kind}
 use Rattle.mini_terms.specs.Parts.{leaves_nothing}
 use Rattle.mini_terms.specs.Reading.{stands}
 use Rattle.mini_rows.specs.Booleans.{plus}
-use Rattle.mini_rows.specs.Operators.{deleted, says_equal, is_no_type, makes_numbers, Row2, Row16, Row17, Row56Left, Row56Right, OperatorRow}
+use Rattle.mini_rows.specs.Operators.{deleted, says_equal, is_no_type, makes_numbers, is_bitwise, with_number, is_short, Row2, Row8, Row16, Row17, Row56Left, Row56Right, OperatorRow}
 use Rattle.mini_rows.specs.Spellings.{binary, negated_digit, numeral}
-use Rattle.mini_fold.specs.FoldOperators.{delete_written, is_typeof_by, is_typeof, are_types_same, is_never_type, told_by, told, is_plus_by, is_plus, drops_left, drops_right, without_plus, boolean_or, operator_written}
+use Rattle.mini_fold.specs.FoldOperators.{delete_written, is_typeof_by, is_typeof, are_types_same, is_never_type, told_by, told, is_plus_by, is_plus, drops_left, drops_right, holds_bitwise, number_of, shortened, masked, with_mask, masks_written, mask_written, without_plus, boolean_or, operator_written}
 
 both_true : (b c : Bool) → b ≡ true → c ≡ true → b && c ≡ true
 both_true true c e f = f
@@ -129,8 +132,68 @@ module _ (s : Seat) (n : Tree) (o : BinaryOperator) (a b : Tree) (is : n ≡ bin
     where
       go : (x y : Bool) → drops_left o a b ≡ x → drops_right o a b ≡ y → (if x then Some (binary o (part a 0) b) else (if y then Some (binary o a (part b 0)) else u)) ≡ Some w → OperatorRow s n w ⊎ (u ≡ Some w)
       go true y h k f = inl (inr (inr (inr (inl (subst (Row56Left n) (some_is (binary o (part a 0) b) w f) (left_row h))))))
-      go false true h k f = inl (inr (inr (inr (inr (subst (Row56Right n) (some_is (binary o a (part b 0)) w f) (right_row k))))))
+      go false true h k f = inl (inr (inr (inr (inr (inl (subst (Row56Right n) (some_is (binary o a (part b 0)) w f) (right_row k)))))))
       go false false h k f = inr f
+
+-- ---- 8
+
+record Bitwise (o : BinaryOperator) (t : Tree) : Type 0 where
+  bitwise : is_bitwise o ≡ true
+  inner : t ≡ binary o (part t 0) (part t 1)
+
+bitwise_by : (o : BinaryOperator) (t : Tree) (p : Option BinaryOperator) → binary_operator t ≡ p → holds_bitwise o p ≡ true → Bitwise o t
+bitwise_by BitwiseAnd t (Some BitwiseAnd) h e = record { bitwise = refl; inner = binary_is t BitwiseAnd h }
+bitwise_by BitwiseXor t (Some BitwiseXor) h e = record { bitwise = refl; inner = binary_is t BitwiseXor h }
+bitwise_by BitwiseOr t (Some BitwiseOr) h e = record { bitwise = refl; inner = binary_is t BitwiseOr h }
+bitwise_by o t p h e = absurd (true≢false (sym e))
+
+-- two numbers, and what is made of them
+record Numbers (o : BinaryOperator) (c d : Option ℤ) (r : ℤ) : Type 0 where
+  first : ℤ
+  second : ℤ
+  one : c ≡ Some first
+  other : d ≡ Some second
+  known : calculated_numbers o first second ≡ Some (Number r)
+  short : is_short r first second ≡ true
+
+numbers_by : (o : BinaryOperator) (c d : Option ℤ) (r : ℤ) → masked o c d ≡ Some r → Numbers o c d r
+numbers_by o None d r e = nothing e
+numbers_by o (Some c) None r e = nothing e
+numbers_by o (Some c) (Some d) r e = go (calculated_numbers o c d) refl e
+  where
+    short : (m : ℤ) → calculated_numbers o c d ≡ Some (Number m) → (b : Bool) → is_short m c d ≡ b → (if b then Some m else None) ≡ Some r → Numbers o (Some c) (Some d) r
+    short m h true k f = subst (Numbers o (Some c) (Some d)) {x = m} {y = r} (cc f) (record { first = c; second = d; one = refl; other = refl; known = h; short = k })
+    short m h false k f = nothing f
+
+    go : (v : Option Value) → calculated_numbers o c d ≡ v → shortened (number_of v) c d ≡ Some r → Numbers o (Some c) (Some d) r
+    go (Some (Number m)) h f = short m h (is_short m c d) refl f
+    go v h f = nothing f
+
+module _ (s : Seat) (n : Tree) (o : BinaryOperator) (a b : Tree) (is : n ≡ binary o a b) where
+  right_mask : Bitwise o a → (r : ℤ) → masked o (number (part a 1)) (number b) ≡ Some r → Row8 n (binary o (part a 0) (numeral r))
+  right_mask g r e =
+      let m = numbers_by o (number (part a 1)) (number b) r e in
+      record { operator = o; on_right = true; operand = part a 0; first = m.first; second = m.second; joined = r; bitwise = g.bitwise; known = m.known; short = m.short; shape = is ∙ ap (λ t. binary o t b) (g.inner ∙ ap (binary o (part a 0)) (number_is (part a 1) m.first m.one)) ∙ ap (binary o (binary o (part a 0) (numeral m.first))) (number_is b m.second m.other); written = refl }
+
+  left_mask : Bitwise o a → (r : ℤ) → masked o (number (part a 0)) (number b) ≡ Some r → Row8 n (binary o (part a 1) (numeral r))
+  left_mask g r e =
+      let m = numbers_by o (number (part a 0)) (number b) r e in
+      record { operator = o; on_right = false; operand = part a 1; first = m.first; second = m.second; joined = r; bitwise = g.bitwise; known = m.known; short = m.short; shape = is ∙ ap (λ t. binary o t b) (g.inner ∙ ap (λ t. binary o t (part a 1)) (number_is (part a 0) m.first m.one)) ∙ ap (binary o (binary o (numeral m.first) (part a 1))) (number_is b m.second m.other); written = refl }
+
+  masks_or : (w : Tree) (u : Option Tree) → Bitwise o a → masks_written o a b u ≡ Some w → OperatorRow s n w ⊎ (u ≡ Some w)
+  masks_or w u g e = go (masked o (number (part a 1)) (number b)) (masked o (number (part a 0)) (number b)) refl refl e
+    where
+      go : (c d : Option ℤ) → masked o (number (part a 1)) (number b) ≡ c → masked o (number (part a 0)) (number b) ≡ d → with_mask o (part a 0) c (with_mask o (part a 1) d u) ≡ Some w → OperatorRow s n w ⊎ (u ≡ Some w)
+      go (Some r) d h k f = inl (inr (inr (inr (inr (inr (subst (Row8 n) (some_is (binary o (part a 0) (numeral r)) w f) (right_mask g r h)))))))
+      go None (Some r) h k f = inl (inr (inr (inr (inr (inr (subst (Row8 n) (some_is (binary o (part a 1) (numeral r)) w f) (left_mask g r k)))))))
+      go None None h k f = inr f
+
+  mask_or : (w : Tree) (u : Option Tree) → mask_written o a b u ≡ Some w → OperatorRow s n w ⊎ (u ≡ Some w)
+  mask_or w u e = go (holds_bitwise o (binary_operator a)) refl e
+    where
+      go : (c : Bool) → holds_bitwise o (binary_operator a) ≡ c → (if c then masks_written o a b u else u) ≡ Some w → OperatorRow s n w ⊎ (u ≡ Some w)
+      go true h f = masks_or w u (bitwise_by o a (binary_operator a) refl h) f
+      go false h f = inr f
 
 -- ---- all
 
@@ -138,9 +201,13 @@ module _ (s : Seat) (n : Tree) (o : BinaryOperator) (a b : Tree) (is : n ≡ bin
 pub operator_or : (s : Seat) (n w : Tree) (o : BinaryOperator) (u : Option Tree) → n ≡ binary o (part n 0) (part n 1) → operator_written o n u ≡ Some w → OperatorRow s n w ⊎ (u ≡ Some w)
 operator_or s n w o u is e = go (told o n) refl e
   where
-    go : (c : Option Bool) → told o n ≡ c → boolean_or c (without_plus o (part n 0) (part n 1) u) ≡ Some w → OperatorRow s n w ⊎ (u ≡ Some w)
+    last : OperatorRow s n w ⊎ (mask_written o (part n 0) (part n 1) u ≡ Some w) → OperatorRow s n w ⊎ (u ≡ Some w)
+    last (inl r) = inl r
+    last (inr f) = mask_or s n o (part n 0) (part n 1) is w u f
+
+    go : (c : Option Bool) → told o n ≡ c → boolean_or c (without_plus o (part n 0) (part n 1) (mask_written o (part n 0) (part n 1) u)) ≡ Some w → OperatorRow s n w ⊎ (u ≡ Some w)
     go (Some c) h f = inl (subst (OperatorRow s n) (some_is (negated_digit c) w f) (told_row s n o c is h))
-    go None h f = plus_or s n o (part n 0) (part n 1) is w u f
+    go None h f = last (plus_or s n o (part n 0) (part n 1) is w (mask_written o (part n 0) (part n 1) u) f)
 
 -- ---- and each row is written
 
@@ -158,12 +225,12 @@ boolean_second o false x y u h k = absurd (true≢false (sym h))
 pub same_there : (o : BinaryOperator) (x : Name) → is_equality o ≡ true → (u : Option Tree) → is_some (operator_written o (binary o (unary Typeof (identifier x)) (unary Typeof (identifier x))) u) ≡ true
 same_there o x h u =
     let t : Tree = unary Typeof (identifier x) in
-    boolean_first o (is_equality o) (are_types_same t t) (is_never_type (binary o t t)) (without_plus o t t u) h (tree_itself t)
+    boolean_first o (is_equality o) (are_types_same t t) (is_never_type (binary o t t)) (without_plus o t t (mask_written o t t u)) h (tree_itself t)
 
 pub never_there : (o : BinaryOperator) (a b : Tree) → is_equality o ≡ true → is_no_type b ≡ true → is_effect_free (binary o (unary Typeof a) b) ≡ true → leaves_nothing (binary o (unary Typeof a) b) ≡ true → (u : Option Tree) → is_some (operator_written o (binary o (unary Typeof a) b) u) ≡ true
 never_there o a b h k e d u =
     let t : Tree = binary o (unary Typeof a) b in
-    boolean_second o (is_equality o) (are_types_same (unary Typeof a) b) (is_never_type t) (without_plus o (unary Typeof a) b u) h (both_true (is_no_type b) (is_effect_free t && leaves_nothing t) k (both_true (is_effect_free t) (leaves_nothing t) e d))
+    boolean_second o (is_equality o) (are_types_same (unary Typeof a) b) (is_never_type t) (without_plus o (unary Typeof a) b (mask_written o (unary Typeof a) b u)) h (both_true (is_no_type b) (is_effect_free t && leaves_nothing t) k (both_true (is_effect_free t) (leaves_nothing t) e d))
 
 after_boolean : (c : Option Bool) (u : Option Tree) → is_some u ≡ true → is_some (boolean_or c u) ≡ true
 after_boolean (Some c) u h = refl
@@ -180,9 +247,58 @@ second_there false y t v u h = first_there y v u h
 pub left_there : (o : BinaryOperator) (a : Tree) (m : ℤ) → makes_numbers o ≡ true → (u : Option Tree) → is_some (operator_written o (binary o (plus a) (numeral m)) u) ≡ true
 left_there o a m h u =
     let t : Tree = binary o (plus a) (numeral m) in
-    after_boolean (told o t) (without_plus o (plus a) (numeral m) u) (first_there (drops_left o (plus a) (numeral m)) (binary o a (numeral m)) _ (both_true (makes_numbers o) true h refl))
+    after_boolean (told o t) (without_plus o (plus a) (numeral m) (mask_written o (plus a) (numeral m) u)) (first_there (drops_left o (plus a) (numeral m)) (binary o a (numeral m)) _ (both_true (makes_numbers o) true h refl))
 
 pub right_there : (o : BinaryOperator) (a b : Tree) → makes_numbers o ≡ true → kind a ≡ IsNumber → (u : Option Tree) → is_some (operator_written o (binary o a (plus b)) u) ≡ true
 right_there o a b h k u =
     let t : Tree = binary o a (plus b) in
-    after_boolean (told o t) (without_plus o a (plus b) u) (second_there (drops_left o a (plus b)) (drops_right o a (plus b)) (binary o (part a 0) (plus b)) (binary o a b) u (both_true (makes_numbers o) (is_number (kind a)) h (ap is_number k)))
+    after_boolean (told o t) (without_plus o a (plus b) (mask_written o a (plus b) u)) (second_there (drops_left o a (plus b)) (drops_right o a (plus b)) (binary o (part a 0) (plus b)) (binary o a b) (mask_written o a (plus b) u) (both_true (makes_numbers o) (is_number (kind a)) h (ap is_number k)))
+
+-- what comes after the others is written unless one of them is
+plus_later : (o : BinaryOperator) (a b : Tree) (u : Option Tree) → is_some u ≡ true → is_some (without_plus o a b u) ≡ true
+plus_later o a b u h = go (drops_left o a b) (drops_right o a b)
+  where
+    go : (x y : Bool) → is_some (if x then Some (binary o (part a 0) b) else (if y then Some (binary o a (part b 0)) else u)) ≡ true
+    go true y = refl
+    go false true = refl
+    go false false = h
+
+mask_first : (o : BinaryOperator) (a : Tree) (c : Option ℤ) (u : Option Tree) → is_some c ≡ true → is_some (with_mask o a c u) ≡ true
+mask_first o a (Some r) u h = refl
+mask_first o a None u h = absurd (true≢false (sym h))
+
+mask_later : (o : BinaryOperator) (a : Tree) (c : Option ℤ) (u : Option Tree) → is_some u ≡ true → is_some (with_mask o a c u) ≡ true
+mask_later o a (Some r) u h = refl
+mask_later o a None u h = h
+
+bitwise_later : (o : BinaryOperator) (a b : Tree) (u : Option Tree) → is_some u ≡ true → is_some (mask_written o a b u) ≡ true
+bitwise_later o a b u h = go (holds_bitwise o (binary_operator a))
+  where
+    go : (c : Bool) → is_some (if c then masks_written o a b u else u) ≡ true
+    go true = mask_later o (part a 0) (masked o (number (part a 1)) (number b)) _ (mask_later o (part a 1) (masked o (number (part a 0)) (number b)) u h)
+    go false = h
+
+pub later : (o : BinaryOperator) (t : Tree) (u : Option Tree) → is_some u ≡ true → is_some (operator_written o t u) ≡ true
+later o t u h = after_boolean (told o t) (without_plus o (part t 0) (part t 1) (mask_written o (part t 0) (part t 1) u)) (plus_later o (part t 0) (part t 1) (mask_written o (part t 0) (part t 1) u) (bitwise_later o (part t 0) (part t 1) u h))
+
+holds_itself : (o : BinaryOperator) → is_bitwise o ≡ true → holds_bitwise o (Some o) ≡ true
+holds_itself BitwiseAnd h = refl
+holds_itself BitwiseXor h = refl
+holds_itself BitwiseOr h = refl
+holds_itself o h = absurd (true≢false (sym h))
+
+masked_there : (o : BinaryOperator) (c d r : ℤ) → calculated_numbers o c d ≡ Some (Number r) → is_short r c d ≡ true → is_some (masked o (Some c) (Some d)) ≡ true
+masked_there o c d r h k = ap (λ v. is_some (shortened (number_of v) c d)) h ∙ ap (λ b. is_some (if b then Some r else None)) k
+
+mask_there : (o : BinaryOperator) (b : Bool) (a : Tree) (c d r : ℤ) → is_bitwise o ≡ true → calculated_numbers o c d ≡ Some (Number r) → is_short r c d ≡ true → (u : Option Tree) → is_some (mask_written o (with_number o b a c) (numeral d) u) ≡ true
+mask_there o true a c d r h k l u =
+    ap (λ x. is_some (if x then masks_written o (binary o a (numeral c)) (numeral d) u else u)) (holds_itself o h)
+    ∙ mask_first o a (masked o (Some c) (Some d)) (with_mask o (numeral c) (masked o (number a) (Some d)) u) (masked_there o c d r k l)
+mask_there o false a c d r h k l u =
+    ap (λ x. is_some (if x then masks_written o (binary o (numeral c) a) (numeral d) u else u)) (holds_itself o h)
+    ∙ mask_later o (numeral c) (masked o (number a) (Some d)) (with_mask o a (masked o (Some c) (Some d)) u) (mask_first o a (masked o (Some c) (Some d)) u (masked_there o c d r k l))
+
+pub masks_there : (o : BinaryOperator) (b : Bool) (a : Tree) (c d r : ℤ) → is_bitwise o ≡ true → calculated_numbers o c d ≡ Some (Number r) → is_short r c d ≡ true → (u : Option Tree) → is_some (operator_written o (binary o (with_number o b a c) (numeral d)) u) ≡ true
+masks_there o b a c d r h k l u =
+    let t : Tree = binary o (with_number o b a c) (numeral d) in
+    after_boolean (told o t) (without_plus o (with_number o b a c) (numeral d) (mask_written o (with_number o b a c) (numeral d) u)) (plus_later o (with_number o b a c) (numeral d) (mask_written o (with_number o b a c) (numeral d) u) (mask_there o b a c d r h k l u))

@@ -209,7 +209,7 @@ shifted_written n k v e = go (nat_lt n 2_147_483_648) refl e
 filled_written : (x y : ℤ) (v : Value) → Some (Number (pos (modulo_32 x / two_to y))) ≡ Some v → Written v
 filled_written x y v e = written_by (Number (pos (modulo_32 x / two_to y))) v e (safe_to (modulo_32 x / two_to y) (omega (arith, modulo_small x, div-le_self (modulo_32 x) (two_to y))))
 
-numbers_written : (o : BinaryOperator) (x y : ℤ) (v : Value) → calculated_numbers o x y ≡ Some v → Written v
+pub numbers_written : (o : BinaryOperator) (x y : ℤ) (v : Value) → calculated_numbers o x y ≡ Some v → Written v
 numbers_written binary_operator.Addition x y v e = safe_written (x +ℤ y) v e
 numbers_written binary_operator.Subtraction x y v e = safe_written (x -ℤ y) v e
 numbers_written binary_operator.Multiplication x y v e = signed_written (differ (is_negative x) (is_negative y)) (nat_abs x * nat_abs y) v e
@@ -423,7 +423,7 @@ value_at strict s n v k f = go (form n v k)
 abbrev Fits : Bool → Tree → Type 0
 Fits strict t = fits strict expression t ≡ true
 
-lit_fits : (strict : Bool) (v : Value) (w : Tree) → lit v ≡ Some w → Written v → Fits strict w
+pub lit_fits : (strict : Bool) (v : Value) (w : Tree) → lit v ≡ Some w → Written v → Fits strict w
 lit_fits strict Undefined w e h = subst (Fits strict) {x = void_zero} {y = w} (cc e) refl
 lit_fits strict Null w e h = subst (Fits strict) {x = leaf shape.NullLiteral} {y = w} (cc e) refl
 lit_fits strict (Boolean true) w e h = subst (Fits strict) {x = unary unary_operator.LogicalNot (leaf (shape.NumericLiteral (pos 0)))} {y = w} (cc e) refl

@@ -126,6 +126,7 @@ pub mod NegationLawful
 pub mod SequenceMeaning
 pub mod SequenceWeights
 pub mod SequenceLawful
+pub mod OperatorBits
 pub mod OperatorMeaning
 pub mod OperatorWeights
 pub mod OperatorLawful

@@ -1,5 +1,5 @@
 -- What a row on operators writes keeps all that a program has to keep: it is built anew of the same parts.
-use Rattle.std.proofs.Common.{◌≡◌, Bool, true, false, [], ◌∷◌, refl, sym, subst, inl, inr, true≢false}
+use Rattle.std.proofs.Common.{◌≡◌, ℤ, Bool, true, false, [], ◌∷◌, refl, sym, subst, inl, inr, true≢false}
 use Rattle.std.specs.Prelude.{◌&&◌, not, pos, if◌then◌else◌}
 use Rattle.std.proofs.lemmas.Bool.{and_parts}
 use Rattle.mini_model.specs.declared.name.Name.{Name}
@@ -12,24 +12,25 @@ use Rattle.mini_accept.specs.WellShaped.{Slot, fits}
 use Rattle.mini_kept.specs.KeepsShapes.{AskedAlike}
 use Rattle.mini_kept.proofs.Bools.{both}
 use Rattle.mini_kept.proofs.Expressions.{expression, TakesExpression, two_fit}
+use Rattle.mini_laws.specs.Value.{Number}
 use Rattle.mini_terms.specs.Folds.{is_effect_free}
 use Rattle.mini_terms.specs.Parts.{leaves_nothing}
 use Rattle.mini_rows.specs.Arranged.{KeptAt, Vanishes}
 use Rattle.mini_rows.specs.Booleans.{plus}
 use Rattle.mini_rows.specs.Choices.{pair}
-use Rattle.mini_rows.specs.Operators.{deleted, says_equal, Row17, OperatorRow}
-use Rattle.mini_rows.specs.Sketches.{Number, Unary, Binary, Sequence, Sketch, part, under, list, end, ◌▹◌, no_items, item, Free}
+use Rattle.mini_rows.specs.Operators.{deleted, says_equal, with_number, Row17, OperatorRow}
+use Rattle.mini_rows.specs.Sketches.{Number as NumberHead, Unary, Binary, Sequence, Sketch, part, under, list, end, ◌▹◌, no_items, item, Free}
 use Rattle.mini_rows.specs.Spellings.{binary, negated_digit, numeral}
 use Rattle.mini_rows.proofs.ArrangedExpressions.{expressions_arranged, expressions_arranged_freely}
 use Rattle.mini_rows.proofs.ChoiceShapes.{pair_fits}
-use Rattle.mini_rows.proofs.ConstantLawful.{unary_at, binary_at}
+use Rattle.mini_rows.proofs.ConstantLawful.{unary_at, binary_at, numbers_written, lit_fits}
 use Rattle.mini_rows.proofs.FoldLawful.{vanishes, first_dropped}
 
 -- ---- the same parts
 
 abbrev a_boolean : Bool → Sketch
-a_boolean true = under (Unary LogicalNot) (under (Number (pos 0)) end ▹ end)
-a_boolean false = under (Unary LogicalNot) (under (Number (pos 1)) end ▹ end)
+a_boolean true = under (Unary LogicalNot) (under (NumberHead (pos 0)) end ▹ end)
+a_boolean false = under (Unary LogicalNot) (under (NumberHead (pos 1)) end ▹ end)
 
 deleted_kept : (a : Tree) (q : Seat) (n w : Tree) → n ≡ unary Delete a → w ≡ deleted a → KeptAt (Expr q) n w
 deleted_kept a q n w e f = go (is_effect_free a && leaves_nothing a) refl f
@@ -57,12 +58,17 @@ type_kept q n w r =
 types_kept : (o : BinaryOperator) (x : Name) (q : Seat) (n w : Tree) → n ≡ binary o (unary Typeof (identifier x)) (unary Typeof (identifier x)) → w ≡ negated_digit (says_equal o) → KeptAt (Expr q) n w
 types_kept o x q n w e f = let goes = vanishes (unary Typeof (identifier x)) refl in told_kept o (unary Typeof (identifier x)) (unary Typeof (identifier x)) (says_equal o) goes goes q n w e f
 
+masked_kept : (o : BinaryOperator) (b : Bool) (a : Tree) (c d r : ℤ) (q : Seat) (n w : Tree) → n ≡ binary o (with_number o b a c) (numeral d) → w ≡ binary o a (numeral r) → KeptAt (Expr q) n w
+masked_kept o true a c d r q n w e f = expressions_arranged (record { trees = a ▸ none; lists = [] }) (under (Binary o) (under (Binary o) (part 0 ▹ under (NumberHead c) end ▹ end) ▹ under (NumberHead d) end ▹ end)) (under (Binary o) (part 0 ▹ under (NumberHead r) end ▹ end)) refl q n w e f
+masked_kept o false a c d r q n w e f = expressions_arranged (record { trees = a ▸ none; lists = [] }) (under (Binary o) (under (Binary o) (under (NumberHead c) end ▹ part 0 ▹ end) ▹ under (NumberHead d) end ▹ end)) (under (Binary o) (part 0 ▹ under (NumberHead r) end ▹ end)) refl q n w e f
+
 pub operator_kept : (q : Seat) (n w : Tree) → OperatorRow q n w → KeptAt (Expr q) n w
 operator_kept q n w (inl r) = deleted_kept r.operand q n w r.shape r.written
 operator_kept q n w (inr (inl r)) = types_kept r.operator r.name q n w r.shape r.written
 operator_kept q n w (inr (inr (inl r))) = type_kept q n w r
-operator_kept q n w (inr (inr (inr (inl r)))) = expressions_arranged (record { trees = r.operand ▸ none; lists = [] }) (under (Binary r.operator) (under (Unary UnaryPlus) (part 0 ▹ end) ▹ under (Number r.number) end ▹ end)) (under (Binary r.operator) (part 0 ▹ under (Number r.number) end ▹ end)) refl q n w r.shape r.written
-operator_kept q n w (inr (inr (inr (inr r)))) = expressions_arranged (record { trees = r.left ▸ r.operand ▸ none; lists = [] }) (under (Binary r.operator) (part 0 ▹ under (Unary UnaryPlus) (part 1 ▹ end) ▹ end)) (under (Binary r.operator) (part 0 ▹ part 1 ▹ end)) refl q n w r.shape r.written
+operator_kept q n w (inr (inr (inr (inl r)))) = expressions_arranged (record { trees = r.operand ▸ none; lists = [] }) (under (Binary r.operator) (under (Unary UnaryPlus) (part 0 ▹ end) ▹ under (NumberHead r.number) end ▹ end)) (under (Binary r.operator) (part 0 ▹ under (NumberHead r.number) end ▹ end)) refl q n w r.shape r.written
+operator_kept q n w (inr (inr (inr (inr (inr r))))) = masked_kept r.operator r.on_right r.operand r.first r.second r.joined q n w r.shape r.written
+operator_kept q n w (inr (inr (inr (inr (inl r))))) = expressions_arranged (record { trees = r.left ▸ r.operand ▸ none; lists = [] }) (under (Binary r.operator) (part 0 ▹ under (Unary UnaryPlus) (part 1 ▹ end) ▹ end)) (under (Binary r.operator) (part 0 ▹ part 1 ▹ end)) refl q n w r.shape r.written
 
 -- ---- where they stand
 
@@ -84,6 +90,11 @@ module _ (strict : Bool) (s : Slot) where
   of_plus : (a : Tree) → Fits (plus a) → Fits a
   of_plus a e = (unary_at strict UnaryPlus a expression e).1
 
+  -- the operand beside a number
+  of_number : (o : BinaryOperator) (b : Bool) (a : Tree) (c : ℤ) → Fits (with_number o b a c) → Fits a
+  of_number o true a c e = let (takes, (first, second)) = binary_at strict o a (numeral c) expression e in first
+  of_number o false a c e = let (takes, (first, second)) = binary_at strict o (numeral c) a expression e in second
+
   -- what is written, where an expression is taken
   pub operator_stood : (q : Seat) (n w : Tree) → OperatorRow q n w → fits strict s n ≡ true → TakesExpression s × Fits w
   operator_stood q n w (inl r) e =
@@ -98,7 +109,10 @@ module _ (strict : Bool) (s : Slot) where
   operator_stood q n w (inr (inr (inr (inl r)))) e =
       let (takes, (first, second)) = binary_at strict r.operator (plus r.operand) (numeral r.number) s (subst (λ t. fits strict s t ≡ true) r.shape e) in
       (takes, subst Fits (sym r.written) (two_fit strict r.operand (numeral r.number) (of_plus r.operand first) second))
-  operator_stood q n w (inr (inr (inr (inr r)))) e =
+  operator_stood q n w (inr (inr (inr (inr (inr r))))) e =
+      let (takes, (first, second)) = binary_at strict r.operator (with_number r.operator r.on_right r.operand r.first) (numeral r.second) s (subst (λ t. fits strict s t ≡ true) r.shape e) in
+      (takes, subst Fits (sym r.written) (two_fit strict r.operand (numeral r.joined) (of_number r.operator r.on_right r.operand r.first first) (lit_fits strict (Number r.joined) (numeral r.joined) refl (numbers_written r.operator r.first r.second (Number r.joined) r.known))))
+  operator_stood q n w (inr (inr (inr (inr (inl r))))) e =
       let (takes, (first, second)) = binary_at strict r.operator r.left (plus r.operand) s (subst (λ t. fits strict s t ≡ true) r.shape e) in
       (takes, subst Fits (sym r.written) (two_fit strict r.left r.operand first (of_plus r.operand second)))
 
@@ -161,4 +175,5 @@ operator_asked q n w (inl r) = asked_by q n w _ _ r.shape r.written (deleted_ask
 operator_asked q n w (inr (inl r)) = asked_by q n w _ _ r.shape r.written (told_asked q r.operator (unary Typeof (identifier r.name)) (unary Typeof (identifier r.name)) (says_equal r.operator))
 operator_asked q n w (inr (inr (inl r))) = asked_by q n w _ _ r.shape r.written (told_asked q r.operator (unary Typeof r.operand) r.right (not (says_equal r.operator)))
 operator_asked q n w (inr (inr (inr (inl r)))) = asked_by q n w _ _ r.shape r.written (binary_asked q r.operator (plus r.operand) (numeral r.number) r.operand (numeral r.number))
-operator_asked q n w (inr (inr (inr (inr r)))) = asked_by q n w _ _ r.shape r.written (binary_asked q r.operator r.left (plus r.operand) r.left r.operand)
+operator_asked q n w (inr (inr (inr (inr (inr r))))) = asked_by q n w _ _ r.shape r.written (binary_asked q r.operator (with_number r.operator r.on_right r.operand r.first) (numeral r.second) r.operand (numeral r.joined))
+operator_asked q n w (inr (inr (inr (inr (inl r))))) = asked_by q n w _ _ r.shape r.written (binary_asked q r.operator r.left (plus r.operand) r.left r.operand)

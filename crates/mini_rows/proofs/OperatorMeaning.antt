@@ -33,6 +33,7 @@ use Rattle.mini_laws.proofs.Truth.{coherent}
 use Rattle.mini_kept.proofs.SameScopes.{same_texts, text_itself}
 use Rattle.mini_terms.specs.declared.kinds.Kind.{Kind}
 use Rattle.mini_terms.specs.declared.kinds.Kind.TheVariants.{Undefined as IsUndefined, Null as IsNull, Boolean as IsBoolean, Number as IsNumber}
+use Rattle.mini_terms.specs.Calculated.{calculated_numbers}
 use Rattle.mini_terms.specs.Folds.{is_effect_free}
 use Rattle.mini_terms.specs.Kind.{kind, OfKind}
 use Rattle.mini_terms.specs.Parts.{leaves_nothing}
@@ -46,10 +47,11 @@ use Rattle.mini_terms.proofs.Opened.{after}
 use Rattle.mini_terms.proofs.Reading.{same_in_seat, read_by_value}
 use Rattle.mini_rows.specs.Booleans.{plus}
 use Rattle.mini_rows.specs.Choices.{pair}
-use Rattle.mini_rows.specs.Operators.{deleted, says_equal, is_type_text, is_other_kind, is_no_type_by, is_no_type, makes_numbers, OperatorRow}
+use Rattle.mini_rows.specs.Operators.{deleted, says_equal, is_type_text, is_other_kind, is_no_type_by, is_no_type, makes_numbers, is_bitwise, with_number, OperatorRow}
 use Rattle.mini_rows.specs.Spellings.{binary, negated_digit, numeral, text}
-use Rattle.mini_rows.proofs.ChoiceRuns.{value, binary_value, binary_names, sides, pair_value, numeric_free, made_free}
+use Rattle.mini_rows.proofs.ChoiceRuns.{value, binary_value, binary_names, sides, pair_value, bind_free, numeric_free, made_free}
 use Rattle.mini_rows.proofs.FoldMeaning.{plain_read}
+use Rattle.mini_rows.proofs.OperatorBits.{masked_by, sides_free}
 use Rattle.mini_rows.proofs.SequenceMeaning.{same_value}
 use Rattle.mini_rows.proofs.SpellAlike.{SameTree}
 use Rattle.mini_rows.proofs.SpellMeaning.{tree_same, same_by}
@@ -468,6 +470,79 @@ left_alike o h a m = same_value _ _ refl refl refl (λ e s. left_value e o h a m
 right_alike : (o : BinaryOperator) → makes_numbers o ≡ true → (a b : Tree) → kind a ≡ IsNumber → SameTree (binary o a (plus b)) (binary o a b)
 right_alike o h a b k = same_value _ _ refl refl refl (λ e s. right_value e o h a b k s)
 
+-- ---- 8
+
+bitwise_numbers : (o : BinaryOperator) → is_bitwise o ≡ true → makes_numbers o ≡ true
+bitwise_numbers binary_operator.BitwiseAnd h = refl
+bitwise_numbers binary_operator.BitwiseXor h = refl
+bitwise_numbers binary_operator.BitwiseOr h = refl
+bitwise_numbers o h = absurd (true≢false (sym h))
+
+module _ (e : Environment) (o : BinaryOperator) (h : is_bitwise o ≡ true) (a : Tree) (d r : ℤ) where
+  abbrev numeric_operator : makes_numbers o ≡ true
+  numeric_operator = bitwise_numbers o h
+
+  -- of an operand and a number
+  abbrev over_number : ℤ → Value → State → Completion Value
+  over_number c v z = run {q = λ i. As Val} e (binary_names o a (numeral c)) (sides e a (numeral c)) (bind (numeric v) (λ x. of_made (of_numbers o x c))) z
+
+  right_opened : (c : ℤ) (s : State) → value e (with_number o true a c) s ≡ either (value e a s) (λ v z. over_number c v z) (λ x z. stop x z)
+  right_opened c s = literal_last e o numeric_operator a c s ∙ either_cong (value e a s) _ _ _ _ (λ v z. ap (λ k. run {q = λ i. As Val} e (binary_names o a (numeral c)) (sides e a (numeral c)) k z) (operates o numeric_operator v (Number c))) (λ x z. refl)
+
+  -- with the number on the left the same
+  turned_around : (c : ℤ) (v : Value) (z : State) → ends_with e o (numeral c) a (Number c) v z ≡ over_number c v z
+  turned_around c v z =
+      ap (λ k. run {q = λ i. As Val} e (binary_names o (numeral c) a) (sides e (numeral c) a) k z) (operates o numeric_operator (Number c) v)
+      ∙ bind_free e (binary_names o (numeral c) a) (binary_names o a (numeral c)) (λ i. As Val) (λ i. As Val) (sides e (numeral c) a) (sides e a (numeral c)) (numeric v) (numeric v) (λ x. of_made (of_numbers o c x)) (λ x. of_made (of_numbers o x c))
+      (numeric_free e (binary_names o (numeral c) a) (binary_names o a (numeral c)) (λ i. As Val) (λ i. As Val) (sides e (numeral c) a) (sides e a (numeral c)) v)
+      (λ x y. made_free e (binary_names o (numeral c) a) (binary_names o a (numeral c)) (λ i. As Val) (λ i. As Val) (sides e (numeral c) a) (sides e a (numeral c)) (of_numbers o c x) y ∙ ap (λ k. run {q = λ i. As Val} e (binary_names o a (numeral c)) (sides e a (numeral c)) (of_made k) y) (sides_free o h c x)) z
+
+  left_opened : (c : ℤ) (s : State) → value e (with_number o false a c) s ≡ either (value e a s) (λ v z. over_number c v z) (λ x z. stop x z)
+  left_opened c s =
+      binary_value e o (numeral c) a s
+      ∙ ap (λ k. either k (λ v z. either (value e a z) (λ u y. ends_with e o (numeral c) a v u y) (λ x y. stop x y)) (λ x z. stop x z)) (number_value c e s)
+      ∙ either_ok (Number c) s _ _
+      ∙ either_cong (value e a s) _ _ _ _ (λ u y. turned_around c u y) (λ x y. refl)
+
+  opened : (on_right : Bool) (c : ℤ) (s : State) → value e (with_number o on_right a c) s ≡ either (value e a s) (λ v z. over_number c v z) (λ x z. stop x z)
+  opened true c s = right_opened c s
+  opened false c s = left_opened c s
+
+  module _ (on_right : Bool) (c : ℤ) (known : calculated_numbers o c d ≡ Some (Number r)) where
+    abbrev inner : Tree
+    inner = with_number o on_right a c
+
+    -- the operator once more
+    abbrev again : Value → State → Completion Value
+    again v z = ends_with e o inner (numeral d) v (Number d) z
+
+    number_again : (x : ℤ) (z : State) → either (run {q = λ i. As Val} e (binary_names o a (numeral c)) (sides e a (numeral c)) (of_made (of_numbers o x c)) z) again (λ x y. stop x y) ≡ run {q = λ i. As Val} e (binary_names o a (numeral r)) (sides e a (numeral r)) (of_made (of_numbers o x r)) z
+    number_again x z =
+        let m = masked_by o h x c d r known in
+        ap (λ k. either (run {q = λ i. As Val} e (binary_names o a (numeral c)) (sides e a (numeral c)) (of_made k) z) again (λ x y. stop x y)) m.first
+        ∙ either_ok (Number m.number) z _ _
+        ∙ of_two e o numeric_operator inner (numeral d) a (numeral r) m.number d z
+        ∙ ap (λ k. run {q = λ i. As Val} e (binary_names o a (numeral r)) (sides e a (numeral r)) (of_made k) z) m.second
+
+    value_again : (v : Value) (z : State) → either (over_number c v z) again (λ x y. stop x y) ≡ over_number r v z
+    value_again v z =
+        ap (λ k. either k again (λ x y. stop x y)) (run_bind e (binary_names o a (numeral c)) (numeric v) (λ x. of_made (of_numbers o x c)) (sides e a (numeral c)) z)
+        ∙ either_assoc (run {q = λ i. As Val} e (binary_names o a (numeral c)) (sides e a (numeral c)) (numeric v) z) _ _ _ _
+        ∙ either_cong (run {q = λ i. As Val} e (binary_names o a (numeral c)) (sides e a (numeral c)) (numeric v) z) _ (λ x y. run {q = λ i. As Val} e (binary_names o a (numeral r)) (sides e a (numeral r)) (of_made (of_numbers o x r)) y) _ (λ x y. stop x y) number_again (λ x y. either_stop x y _ _)
+        ∙ ap (λ k. either k (λ x y. run {q = λ i. As Val} e (binary_names o a (numeral r)) (sides e a (numeral r)) (of_made (of_numbers o x r)) y) (λ x y. stop x y)) (numeric_free e (binary_names o a (numeral c)) (binary_names o a (numeral r)) (λ i. As Val) (λ i. As Val) (sides e a (numeral c)) (sides e a (numeral r)) v z)
+        ∙ sym (run_bind e (binary_names o a (numeral r)) (numeric v) (λ x. of_made (of_numbers o x r)) (sides e a (numeral r)) z)
+
+    masked_value : (s : State) → value e (binary o inner (numeral d)) s ≡ value e (binary o a (numeral r)) s
+    masked_value s =
+        literal_last e o numeric_operator inner d s
+        ∙ ap (λ k. either k again (λ x z. stop x z)) (opened on_right c s)
+        ∙ either_assoc (value e a s) _ _ _ _
+        ∙ either_cong (value e a s) _ (λ v z. over_number r v z) _ (λ x z. stop x z) value_again (λ x z. either_stop x z _ _)
+        ∙ sym (right_opened r s)
+
+masked_alike : (o : BinaryOperator) → is_bitwise o ≡ true → (b : Bool) (a : Tree) (c d r : ℤ) → calculated_numbers o c d ≡ Some (Number r) → SameTree (binary o (with_number o b a c) (numeral d)) (binary o a (numeral r))
+masked_alike o h b a c d r k = same_value _ _ refl refl refl (λ e s. masked_value e o h a d r b c k s)
+
 -- ---- all
 
 same_by_parts : (s : Seat) (n w t u : Tree) → n ≡ t → w ≡ u → SameAt (Expr s) t u → SameAt (Expr s) n w
@@ -478,11 +553,13 @@ operator_same s n w (inl r) = same_by_parts s n w _ _ r.shape r.written (delete_
 operator_same s n w (inr (inl r)) = same_by_parts s n w _ _ r.shape r.written (boolean_same s _ (says_equal r.operator) refl (types_same r.operator r.equality r.name))
 operator_same s n w (inr (inr (inl r))) = same_by_parts s n w _ _ r.shape r.written (boolean_same s _ (not (says_equal r.operator)) refl (type_differs r.operator r.equality r.operand r.right r.known r.effect_free))
 operator_same s n w (inr (inr (inr (inl r)))) = tree_same s n w (same_by n w _ _ r.shape r.written (left_alike r.operator r.numeric r.operand r.number))
-operator_same s n w (inr (inr (inr (inr r)))) = tree_same s n w (same_by n w _ _ r.shape r.written (right_alike r.operator r.numeric r.left r.operand r.known))
+operator_same s n w (inr (inr (inr (inr (inl r))))) = tree_same s n w (same_by n w _ _ r.shape r.written (right_alike r.operator r.numeric r.left r.operand r.known))
+operator_same s n w (inr (inr (inr (inr (inr r))))) = tree_same s n w (same_by n w _ _ r.shape r.written (masked_alike r.operator r.bitwise r.on_right r.operand r.first r.second r.joined r.known))
 
 pub operator_read : (s : Seat) (n w : Tree) → OperatorRow s n w → summary n ≡ summary w
 operator_read s n w (inl r) = ap summary r.shape ∙ delete_read r.operand ∙ sym (ap summary r.written)
 operator_read s n w (inr (inl r)) = ap summary r.shape ∙ sym (ap summary r.written ∙ plain_read (negated_digit (says_equal r.operator)) (boolean_read (says_equal r.operator)))
 operator_read s n w (inr (inr (inl r))) = ap summary r.shape ∙ sym (ap summary r.written ∙ plain_read (negated_digit (not (says_equal r.operator))) (boolean_read (not (says_equal r.operator))))
 operator_read s n w (inr (inr (inr (inl r)))) = ap summary r.shape ∙ (left_alike r.operator r.numeric r.operand r.number).read ∙ sym (ap summary r.written)
-operator_read s n w (inr (inr (inr (inr r)))) = ap summary r.shape ∙ (right_alike r.operator r.numeric r.left r.operand r.known).read ∙ sym (ap summary r.written)
+operator_read s n w (inr (inr (inr (inr (inl r))))) = ap summary r.shape ∙ (right_alike r.operator r.numeric r.left r.operand r.known).read ∙ sym (ap summary r.written)
+operator_read s n w (inr (inr (inr (inr (inr r))))) = ap summary r.shape ∙ (masked_alike r.operator r.bitwise r.on_right r.operand r.first r.second r.joined r.known).read ∙ sym (ap summary r.written)

@@ -1,7 +1,8 @@
 -- What a row on operators writes weighs less wherever the expression stands.
-use Rattle.std.proofs.Common.{◌≡◌, ℕ, ◌+◌, ◌<◌, ◌≤◌, Bool, true, false, List, refl, sym, ap, ◌∙◌, inl, inr, true≢false, arith}
-use Rattle.std.specs.Prelude.{◌&&◌, ◌||◌, not, nat_lt, pos, length, if◌then◌else◌}
+use Rattle.std.proofs.Common.{◌≡◌, ℤ, ℕ, ◌+◌, ◌<◌, ◌≤◌, Bool, true, false, List, refl, sym, ap, ◌∙◌, inl, inr, true≢false, arith}
+use Rattle.std.specs.Prelude.{◌&&◌, ◌||◌, not, nat_lt, pos, length, if◌then◌else◌, negsuc, ◌*◌}
 use Rattle.std.specs.Fmt.{signed_decimal}
+use Rattle.std.proofs.lemmas.Bool.{leb-true}
 use Rattle.std.proofs.lemmas.Fmt.{decimal_digit}
 use borrow.Author.Tests.{ltb-true, ltb-false}
 use Rattle.mini_model.specs.declared.operator.BinaryOperator.{BinaryOperator}
@@ -19,7 +20,7 @@ use Rattle.mini_terms.specs.Folds.{is_effect_free}
 use Rattle.mini_terms.specs.Parts.{leaves_nothing}
 use Rattle.mini_rows.specs.Booleans.{plus}
 use Rattle.mini_rows.specs.Choices.{pair}
-use Rattle.mini_rows.specs.Operators.{deleted, says_equal, makes_numbers, OperatorRow}
+use Rattle.mini_rows.specs.Operators.{deleted, says_equal, makes_numbers, is_bitwise, with_number, is_short, OperatorRow}
 use Rattle.mini_rows.specs.Spellings.{binary, negated_digit, numeral}
 use Rattle.mini_rows.proofs.ListWeights.{sequence_weighs}
 use Rattle.mini_rows.proofs.SpellWeights.{falls_by}
@@ -136,6 +137,26 @@ right_falls s binary_operator.ShiftRight e a b = let last = moved_in (binary_ope
 right_falls s binary_operator.ShiftRightZeroFill e a b = let last = moved_in (binary_operand_seat binary_operator.ShiftRightZeroFill 1) refl 0 (λ h os. omega (arith, inside 11 14 (omega arith) h (rest_inside h))) b in omega (arith, last)
 right_falls s o e a b = absurd (true≢false (sym e))
 
+-- ---- 8: an operator goes, which weighs more than the mark that a sequence has on the left
+
+number_weighs : (o : BinaryOperator) → is_bitwise o ≡ true → (r : ℤ) → weight (Expr (binary_operand_seat o 1)) (numeral r) ≡ 2 * length (signed_decimal r)
+number_weighs binary_operator.BitwiseAnd e (pos n) = omega arith
+number_weighs binary_operator.BitwiseAnd e (negsuc n) = omega arith
+number_weighs binary_operator.BitwiseXor e (pos n) = omega arith
+number_weighs binary_operator.BitwiseXor e (negsuc n) = omega arith
+number_weighs binary_operator.BitwiseOr e (pos n) = omega arith
+number_weighs binary_operator.BitwiseOr e (negsuc n) = omega arith
+number_weighs o e r = absurd (true≢false (sym e))
+
+masked_falls : (s : Seat) (o : BinaryOperator) → is_bitwise o ≡ true → (b : Bool) (a : Tree) (c d r : ℤ) → is_short r c d ≡ true → weight (Expr s) (binary o a (numeral r)) < weight (Expr s) (binary o (with_number o b a c) (numeral d))
+masked_falls s binary_operator.BitwiseAnd e true a c d r h = omega (arith, leb-true _ _ h, number_weighs binary_operator.BitwiseAnd refl r)
+masked_falls s binary_operator.BitwiseXor e true a c d r h = omega (arith, leb-true _ _ h, number_weighs binary_operator.BitwiseXor refl r)
+masked_falls s binary_operator.BitwiseOr e true a c d r h = omega (arith, leb-true _ _ h, number_weighs binary_operator.BitwiseOr refl r)
+masked_falls s binary_operator.BitwiseAnd e false a c d r h = let moved = placed 1 (binary_operand_seat binary_operator.BitwiseAnd 0) (binary_operand_seat binary_operator.BitwiseAnd 1) refl (λ k os. omega (arith, inside 7 8 (omega arith) k (rest_inside k), mark_at_most (is_awkward (binary_operand_seat binary_operator.BitwiseAnd 0) k os))) a in omega (arith, leb-true _ _ h, moved, number_weighs binary_operator.BitwiseAnd refl r)
+masked_falls s binary_operator.BitwiseXor e false a c d r h = let moved = placed 1 (binary_operand_seat binary_operator.BitwiseXor 0) (binary_operand_seat binary_operator.BitwiseXor 1) refl (λ k os. omega (arith, inside 6 7 (omega arith) k (rest_inside k), mark_at_most (is_awkward (binary_operand_seat binary_operator.BitwiseXor 0) k os))) a in omega (arith, leb-true _ _ h, moved, number_weighs binary_operator.BitwiseXor refl r)
+masked_falls s binary_operator.BitwiseOr e false a c d r h = let moved = placed 1 (binary_operand_seat binary_operator.BitwiseOr 0) (binary_operand_seat binary_operator.BitwiseOr 1) refl (λ k os. omega (arith, inside 5 6 (omega arith) k (rest_inside k), mark_at_most (is_awkward (binary_operand_seat binary_operator.BitwiseOr 0) k os))) a in omega (arith, leb-true _ _ h, moved, number_weighs binary_operator.BitwiseOr refl r)
+masked_falls s o e b a c d r h = absurd (true≢false (sym e))
+
 -- ---- all
 
 pub operator_lighter : (s : Seat) (n w : Tree) → OperatorRow s n w → weight (Expr s) w < weight (Expr s) n
@@ -143,7 +164,8 @@ operator_lighter s n w (inl r) = falls_by (Expr s) n w _ _ r.shape r.written (de
 operator_lighter s n w (inr (inl r)) = falls_by (Expr s) n w _ _ r.shape r.written (boolean_falls s r.operator r.equality (identifier r.name) (unary Typeof (identifier r.name)) (says_equal r.operator))
 operator_lighter s n w (inr (inr (inl r))) = falls_by (Expr s) n w _ _ r.shape r.written (boolean_falls s r.operator r.equality r.operand r.right (not (says_equal r.operator)))
 operator_lighter s n w (inr (inr (inr (inl r)))) = falls_by (Expr s) n w _ _ r.shape r.written (left_falls s r.operator r.numeric r.operand (numeral r.number))
-operator_lighter s n w (inr (inr (inr (inr r)))) = falls_by (Expr s) n w _ _ r.shape r.written (right_falls s r.operator r.numeric r.left r.operand)
+operator_lighter s n w (inr (inr (inr (inr (inl r))))) = falls_by (Expr s) n w _ _ r.shape r.written (right_falls s r.operator r.numeric r.left r.operand)
+operator_lighter s n w (inr (inr (inr (inr (inr r))))) = falls_by (Expr s) n w _ _ r.shape r.written (masked_falls s r.operator r.bitwise r.on_right r.operand r.first r.second r.joined r.short)
 
 -- a parent's weight reads the same of both
 
@@ -163,4 +185,5 @@ operator_outline s n w (inl r) = ap outline r.shape ∙ deleted_outline r.operan
 operator_outline s n w (inr (inl r)) = ap outline r.shape ∙ boolean_outline r.operator (unary Typeof (identifier r.name)) (unary Typeof (identifier r.name)) (says_equal r.operator) ∙ sym (ap outline r.written)
 operator_outline s n w (inr (inr (inl r))) = ap outline r.shape ∙ boolean_outline r.operator (unary Typeof r.operand) r.right (not (says_equal r.operator)) ∙ sym (ap outline r.written)
 operator_outline s n w (inr (inr (inr (inl r)))) = ap outline r.shape ∙ sym (ap outline r.written)
-operator_outline s n w (inr (inr (inr (inr r)))) = ap outline r.shape ∙ sym (ap outline r.written)
+operator_outline s n w (inr (inr (inr (inr (inl r))))) = ap outline r.shape ∙ sym (ap outline r.written)
+operator_outline s n w (inr (inr (inr (inr (inr r))))) = ap outline r.shape ∙ sym (ap outline r.written)

@@ -1,6 +1,7 @@
 -- Rows on operators whose value is told by their operands, or that do alike without a part of these, as equations: each is a shape and
 -- what is written in its place, with the JavaScript before and after. No order of rewriting is meant.
-use Rattle.std.specs.Prelude.{◌≡◌, ◌⊎◌, ℕ, ℤ, Bool, true, false, not, ◌&&◌, ◌||◌, List, codes, Option, Some, None, if◌then◌else◌}
+use Rattle.std.specs.Prelude.{◌≡◌, ◌⊎◌, ℕ, ℤ, Bool, true, false, not, ◌&&◌, ◌||◌, ◌-◌, nat_le, length, List, codes, Option, Some, None, if◌then◌else◌}
+use Rattle.std.specs.Fmt.{signed_decimal}
 use Rattle.mini_model.specs.declared.name.Name.{Name}
 use Rattle.mini_model.specs.declared.operator.BinaryOperator.{BinaryOperator}
 use Rattle.mini_model.specs.declared.operator.BinaryOperator.TheVariants as binary_operator
@@ -10,6 +11,8 @@ use Rattle.mini_model.specs.Tree.{Tree, unary, identifier}
 use Rattle.mini_model.specs.Position.{is_equality}
 use Rattle.mini_model.specs.Weight.{same_text}
 use Rattle.mini_node.specs.Kinds.{string}
+use Rattle.mini_laws.specs.Value.{Number}
+use Rattle.mini_terms.specs.Calculated.{calculated_numbers}
 use Rattle.mini_terms.specs.declared.kinds.Kind.{Kind}
 use Rattle.mini_terms.specs.declared.kinds.Kind.TheVariants.{Undefined as IsUndefined, Null as IsNull, Boolean as IsBoolean, Number as IsNumber}
 use Rattle.mini_terms.specs.Folds.{is_effect_free}
@@ -68,6 +71,22 @@ makes_numbers binary_operator.ShiftRight = true
 makes_numbers binary_operator.ShiftRightZeroFill = true
 makes_numbers o = false
 
+-- `&`, `^` and `|`
+abbrev pub is_bitwise : BinaryOperator → Bool
+is_bitwise binary_operator.BitwiseAnd = true
+is_bitwise binary_operator.BitwiseXor = true
+is_bitwise binary_operator.BitwiseOr = true
+is_bitwise o = false
+
+-- an operator of an operand and a number, which stands on the right, or on the left
+abbrev pub with_number : BinaryOperator → Bool → Tree → ℤ → Tree
+with_number o true a c = binary o a (numeral c)
+with_number o false a c = binary o (numeral c) a
+
+-- the first is no longer in decimals than the other two together
+abbrev pub is_short : ℤ → ℤ → ℤ → Bool
+is_short r c d = nat_le (length (signed_decimal r) - length (signed_decimal c)) (length (signed_decimal d))
+
 -- ---- rows
 
 -- 2: `delete a()` becomes `a(), !0`, and `delete (a + 1)` `!0` where that has no effect: what is no reference is not deleted
@@ -116,6 +135,20 @@ pub record Row56Right (n w : Tree) : Type 0 where
   pub shape : n ≡ binary operator left (plus operand)
   pub written : w ≡ binary operator left operand
 
+-- 8: `a & 6 & 3` becomes `a & 2`, and `6 | a | 3` becomes `a | 7`
+pub record Row8 (n w : Tree) : Type 0 where
+  pub operator : BinaryOperator
+  pub on_right : Bool
+  pub operand : Tree
+  pub first : ℤ
+  pub second : ℤ
+  pub joined : ℤ
+  pub bitwise : is_bitwise operator ≡ true
+  pub known : calculated_numbers operator first second ≡ Some (Number joined)
+  pub short : is_short joined first second ≡ true
+  pub shape : n ≡ binary operator (with_number operator on_right operand first) (numeral second)
+  pub written : w ≡ binary operator operand (numeral joined)
+
 -- a row on operators reads n as w in this seat
 abbrev pub OperatorRow : Seat → Tree → Tree → Type 0
-OperatorRow s n w = Row2 n w ⊎ (Row16 n w ⊎ (Row17 n w ⊎ (Row56Left n w ⊎ Row56Right n w)))
+OperatorRow s n w = Row2 n w ⊎ (Row16 n w ⊎ (Row17 n w ⊎ (Row56Left n w ⊎ (Row56Right n w ⊎ Row8 n w))))

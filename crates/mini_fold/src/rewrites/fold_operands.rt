@@ -1,4 +1,4 @@
-//! Rows 4, 7, 14, 27 and 29 to 32, and those of operators (2, 16, 17 and 56): an operand whose value is known goes, or is written shorter. `a + "s" + "t"` becomes `a + "st"`,
+//! Rows 4, 7, 14, 27 and 29 to 32, and those of operators (2, 8, 16, 17 and 56): an operand whose value is known goes, or is written shorter. `a + "s" + "t"` becomes `a + "st"`,
 //! `typeof a + ""` becomes `typeof a`, `a || 0 || b` becomes `a || b`, `(a & 1) == 0` becomes `!(a & 1)`, `!a == !0` becomes `!a`, and
 //! `a == !0` becomes `a == 1`; `a << 0` becomes `a | 0`, and `a << 1 | 0` becomes `a << 1`. What is written is lighter in every place.
 
@@ -14,7 +14,7 @@ ghost use Rattle.mini_rows.specs.Choices.{loosely as loose};
 ghost use Rattle.mini_rows.specs.Operands.{told_by, tail_text as tail_of, makes_bits as do_they_make_bits, is_bits as are_they_bits, makes_int32 as do_they_make_int32, is_int32 as is_it_int32, keeps_bits as does_it_keep_bits, has_room as has_it_room, zero_told as zero_told_of};
 ghost use Rattle.mini_terms.specs.Kind.{is_number as is_number_of};
 ghost use Rattle.mini_tree.specs.Rule.{Applied};
-ghost use Rattle.mini_fold.specs.FoldOperators.{without_plus};
+ghost use Rattle.mini_fold.specs.FoldOperators.{without_plus, masks_written, mask_written};
 ghost use Rattle.mini_fold.specs.FoldOperands as operand;
 ghost use Rattle.mini_fold.specs.FoldOperands.{Gives, Rests};
 ghost use Rattle.mini_fold.specs.Lighter.{operands_lighter};
@@ -22,7 +22,7 @@ ghost use Rattle.mini_fold.specs.Lighter.{operands_lighter};
 use crate::literals::{copied, text_of_both};
 use crate::numbers::is_same;
 use crate::rewrites::fold_operators::{
-    drops_left, drops_right, fold_delete, negated_digit, told_by_types,
+    drops_left, drops_right, fold_delete, holds_bitwise, masked, negated_digit, told_by_types,
 };
 use mini_model::{
     BinaryOperator, LogicalOperator, OutOfMemory, Position, Seat, Shape, Text, UnaryOperator,
@@ -492,7 +492,58 @@ fn fold_sides(
     }
 }
 
-// `a * 2` of `+a * 2`, and `2 * a` of `2 * +a`, and else by what is known of an operand
+// `b` of `a & b`
+fn second_of_first(node: Node) -> Node
+    ensures { result ≡ part (part node 0) 1 }
+{
+    last(one(node))
+}
+
+// `a & 2` of `a & 6 & 3`, and of `6 & a & 3`
+fn fold_masks(
+    alloc: Global,
+    node: &mut Node,
+    seat: Seat,
+    operator: BinaryOperator,
+) -> Result<bool, OutOfMemory>
+    requires inner { count (children (part node.old 0)) ≡ 2 }
+    requires outer { count (children node.old) ≡ 2 }
+    ensures tree { OnOk result (node.new ≡ unwrap_or (masks_written operator (part node.old 0) (part node.old 1) (operand.operands_written seat operator node.old)) node.old) }
+    ensures said { IfOk result (λ changed. changed ≡ is_some (masks_written operator (part node.old 0) (part node.old 1) (operand.operands_written seat operator node.old))) }
+{
+    let mask = number(node.child(1));
+    if let Some(joined) = masked(alloc, operator, number(node.child(0).child(1)), mask)? {
+        let left = first_of_first(taken(alloc, node));
+        *node = binary(alloc, operator, left, numeric_literal(alloc, joined))?;
+        return Ok(true);
+    }
+    if let Some(joined) = masked(alloc, operator, number(node.child(0).child(0)), mask)? {
+        let left = second_of_first(taken(alloc, node));
+        *node = binary(alloc, operator, left, numeric_literal(alloc, joined))?;
+        return Ok(true);
+    }
+    fold_sides(alloc, node, seat, operator)
+}
+
+// The same where this operator of bits stands over the same one, and else by what is known of an operand.
+fn fold_mask(
+    alloc: Global,
+    node: &mut Node,
+    seat: Seat,
+    operator: BinaryOperator,
+) -> Result<bool, OutOfMemory>
+    requires { count (children node.old) ≡ 2 }
+    ensures tree { OnOk result (node.new ≡ unwrap_or (mask_written operator (part node.old 0) (part node.old 1) (operand.operands_written seat operator node.old)) node.old) }
+    ensures said { IfOk result (λ changed. changed ≡ is_some (mask_written operator (part node.old 0) (part node.old 1) (operand.operands_written seat operator node.old))) }
+{
+    if holds_bitwise(operator, node.child(0)) {
+        fold_masks(alloc, node, seat, operator)
+    } else {
+        fold_sides(alloc, node, seat, operator)
+    }
+}
+
+// `a * 2` of `+a * 2`, and `2 * a` of `2 * +a`
 fn fold_plus(
     alloc: Global,
     node: &mut Node,
@@ -500,8 +551,8 @@ fn fold_plus(
     operator: BinaryOperator,
 ) -> Result<bool, OutOfMemory>
     requires { count (children node.old) ≡ 2 }
-    ensures tree { OnOk result (node.new ≡ unwrap_or (without_plus operator (part node.old 0) (part node.old 1) (operand.operands_written seat operator node.old)) node.old) }
-    ensures said { IfOk result (λ changed. changed ≡ is_some (without_plus operator (part node.old 0) (part node.old 1) (operand.operands_written seat operator node.old))) }
+    ensures tree { OnOk result (node.new ≡ unwrap_or (without_plus operator (part node.old 0) (part node.old 1) (mask_written operator (part node.old 0) (part node.old 1) (operand.operands_written seat operator node.old))) node.old) }
+    ensures said { IfOk result (λ changed. changed ≡ is_some (without_plus operator (part node.old 0) (part node.old 1) (mask_written operator (part node.old 0) (part node.old 1) (operand.operands_written seat operator node.old)))) }
 {
     if drops_left(operator, node.child(0), node.child(1)) {
         let (left, right) = two(taken(alloc, node));
@@ -513,7 +564,7 @@ fn fold_plus(
         *node = binary(alloc, operator, left, one(right))?;
         return Ok(true);
     }
-    fold_sides(alloc, node, seat, operator)
+    fold_mask(alloc, node, seat, operator)
 }
 
 fn fold_binary(alloc: Global, node: &mut Node, seat: Seat) -> Result<bool, OutOfMemory>
@@ -544,7 +595,7 @@ pub fn fold_operands(alloc: Global, node: &mut Node, seat: Seat) -> Result<bool,
     }
 }
 
-/// Rows 2, 4, 7, 14, 16, 17, 27, 29 to 32 and 56 as a rule: of each expression.
+/// Rows 2, 4, 7, 8, 14, 16, 17, 27, 29 to 32 and 56 as a rule: of each expression.
 pub struct FoldOperands;
 
 impl<C: Context> Rule<C> for FoldOperands {

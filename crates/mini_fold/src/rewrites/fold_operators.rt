@@ -1,22 +1,26 @@
-//! Rows 2, 16, 17 and 56: an operator whose value is told by its operands, or that does alike without a part of them. `delete a()`
-//! becomes `a(), !0`, `typeof x == typeof x` becomes `!0`, `typeof a == null` becomes `!1`, and `+a * 2` becomes `a * 2`. What is written
+//! Rows 2, 8, 16, 17 and 56: an operator whose value is told by its operands, or that does alike without a part of them. `delete a()`
+//! becomes `a(), !0`, `typeof x == typeof x` becomes `!0`, `typeof a == null` becomes `!1`, `+a * 2` becomes `a * 2`, and `a & 6 & 3` becomes `a & 2`. What is written
 //! is lighter in every place.
 
-ghost use Rattle.std.specs.Prelude.{◌≡◌, true, is_some, unwrap_or, option_copied, OnOk, IfOk};
+ghost use Rattle.std.specs.Prelude.{◌≡◌, true, is_some, unwrap_or, option_copied, length, OnOk, IfOk};
+ghost use Rattle.std.specs.Fmt.{signed_decimal};
 ghost use Rattle.mini_model.specs.Tree.{children, count};
 ghost use Rattle.mini_model.specs.Position.{is_equality as is_it_equality};
 ghost use Rattle.mini_node.specs.Children.{part};
-ghost use Rattle.mini_node.specs.Kinds.{unary_operator as its_unary_operator};
+ghost use Rattle.mini_node.specs.Kinds.{unary_operator as its_unary_operator, binary_operator as its_binary_operator};
 ghost use Rattle.mini_terms.specs.Kind.{is_number as is_number_of};
 ghost use Rattle.mini_rows.specs.Choices.{pair};
 ghost use Rattle.mini_rows.specs.Operators as row;
 ghost use Rattle.mini_rows.specs.Spellings.{negated_digit as negated_digit_of};
 ghost use Rattle.mini_fold.specs.FoldOperators as tree;
+ghost use Rattle.mini_fold.specs.Values.{value_in};
 
-use mini_model::{BinaryOperator, OutOfMemory, Text, UnaryOperator};
+use crate::numbers::calculated_numbers;
+use crate::values::ConstantValue;
+use mini_model::{BinaryOperator, OutOfMemory, Text, UnaryOperator, decimal};
 use mini_node::{
-    Node, discard, is_identifier, is_same_tree, negation, number, numeric_literal, of_two, one,
-    sequence, string, taken, unary_operator,
+    Node, binary_operator, discard, is_identifier, is_same_tree, negation, number, numeric_literal,
+    of_two, one, sequence, string, taken, unary_operator,
 };
 use mini_terms::{Kind, has_no_effect, kind_of, leaves_nothing, stands};
 use std::alloc::Global;
@@ -241,4 +245,79 @@ pub fn drops_right(operator: BinaryOperator, left: &Node, right: &Node) -> bool
     ensures { result ≡ tree.drops_right operator left.now right.now }
 {
     is_plus(right) && makes_numbers(operator) && is_number_kind(kind_of(left))
+}
+
+/// Whether this operator of bits stands over the same one.
+pub fn holds_bitwise(operator: BinaryOperator, node: &Node) -> bool
+    ensures kind { result ≡ tree.holds_bitwise operator (its_binary_operator node.now) }
+    ensures parts { result ≡ true → count (children node.now) ≡ 2 }
+{
+    match (operator, binary_operator(node)) {
+        (BinaryOperator::BitwiseAnd, Some(BinaryOperator::BitwiseAnd)) => true,
+        (BinaryOperator::BitwiseXor, Some(BinaryOperator::BitwiseXor)) => true,
+        (BinaryOperator::BitwiseOr, Some(BinaryOperator::BitwiseOr)) => true,
+        _ => false,
+    }
+}
+
+fn number_of(value: Option<ConstantValue>) -> Option<i64>
+    ensures { result ≡ tree.number_of (value_in value) }
+{
+    match value {
+        Some(ConstantValue::Number(number)) => Some(number),
+        _ => None,
+    }
+}
+
+fn decimal_length(alloc: Global, number: i64) -> Result<usize, OutOfMemory>
+    ensures { IfOk result (λ n. n ≡ length (signed_decimal number)) }
+{
+    Ok(decimal(alloc, number)?.len())
+}
+
+// Whether the first is no longer in decimals than the other two together.
+fn is_short(alloc: Global, joined: i64, first: i64, second: i64) -> Result<bool, OutOfMemory>
+    ensures { IfOk result (λ short. short ≡ row.is_short joined first second) }
+{
+    let length = decimal_length(alloc, joined)?;
+    let before = decimal_length(alloc, first)?;
+    Ok(length.saturating_sub(before) <= decimal_length(alloc, second)?)
+}
+
+fn shortened(
+    alloc: Global,
+    joined: Option<i64>,
+    first: i64,
+    second: i64,
+) -> Result<Option<i64>, OutOfMemory>
+    ensures { IfOk result (λ number. number ≡ tree.shortened joined first second) }
+{
+    let Some(number) = joined else {
+        return Ok(None);
+    };
+    if is_short(alloc, number, first, second)? {
+        Ok(Some(number))
+    } else {
+        Ok(None)
+    }
+}
+
+/// What an operator makes of two numbers, where it is no longer than they are.
+///
+/// The only error is that memory runs out.
+pub fn masked(
+    alloc: Global,
+    operator: BinaryOperator,
+    first: Option<i64>,
+    second: Option<i64>,
+) -> Result<Option<i64>, OutOfMemory>
+    ensures { IfOk result (λ number. number ≡ tree.masked operator first second) }
+{
+    match (first, second) {
+        (Some(one), Some(other)) => {
+            let joined = number_of(calculated_numbers(operator, one, other));
+            shortened(alloc, joined, one, other)
+        }
+        _ => Ok(None),
+    }
 }
