@@ -36,6 +36,8 @@ use Rattle.mini_choices.specs.MinimizeNormalAssignmentToCombinedAssignment as co
 use Rattle.mini_choices.specs.MinimizeConditionalBranches as branches
 use Rattle.mini_choices.specs.MinimizeHeldBranches as held
 use Rattle.mini_choices.specs.InjectOptionalChaining as chains
+use Rattle.mini_choices.specs.FoldChainExpr as folded
+use Rattle.mini_choices.proofs.ChainLinks.{chain_is, folded_row, folded_passes}
 use Rattle.mini_choices.proofs.OptionalChains.{chain_row, chain_passes}
 use Rattle.mini_choices.proofs.Trials.{some_is, not_true, both_true, tried, first_true, later_true, first_there, second_there, lighter_test}
 use Rattle.mini_choices.specs.SubstituteRotateLogicalExpression.{leftmost}
@@ -274,7 +276,7 @@ sure : (s : Seat) (n w : Tree) → LighterRow s n w → ChoiceContracts (Expr s)
 sure s n w r = record { row = inl r; lighter = choice_weights.lighter s n w r }
 
 called_lighter : (s : Seat) (n w : Tree) → Row44 n w → ChoiceContracts (Expr s) n w
-called_lighter s n w r = record { row = inr (inr (inr (inr r))); lighter = calls_lighter s n w r }
+called_lighter s n w r = record { row = inr (inr (inr (inr (inl r)))); lighter = calls_lighter s n w r }
 
 module _ (s : Seat) (n w : Tree) where
   branch_row : branches.written s n ≡ Some w → ChoiceContracts (Expr s) n w
@@ -352,6 +354,7 @@ row_of s (node shape.ConditionalExpression xs m ts) w e = any_row (either_some (
     any_row : (chains.written s (node shape.ConditionalExpression xs m ts) ≡ Some w) ⊎ (first_of (held.written s (node shape.ConditionalExpression xs m ts)) (branches.written s (node shape.ConditionalExpression xs m ts)) ≡ Some w) → ChoiceContracts (Expr s) (node shape.ConditionalExpression xs m ts) w
     any_row (inl e) = chain_row s _ w e
     any_row (inr e) = conditional_row (either_some (held.written s (node shape.ConditionalExpression xs m ts)) (branches.written s (node shape.ConditionalExpression xs m ts)) w e)
+row_of s (node shape.ChainExpression xs m ts) w e = folded_row s (node shape.ChainExpression xs m ts) w e
 row_of s (node h xs m ts) w e = absurd (cc e)
 
 pub written_is_row : WrittenIsRow
@@ -382,6 +385,16 @@ chain_there s n h =
 
     chooses : (t : Tree) → is_some (chains.written s t) ≡ true → is_conditional t ≡ true
     chooses t e = first_of_both (is_conditional t) _ _ (chain (chains.optional_over (part t 2))) (chain (chains.optional_over (part t 1))) e
+
+folded_there : (s : Seat) (n : Tree) → is_some (folded.written s n) ≡ true → is_some (written s n) ≡ true
+folded_there s n h = ap (λ t. is_some (written s t)) (chain_is n (chains n h)) ∙ sym (ap (λ t. is_some (folded.written s t)) (chain_is n (chains n h))) ∙ h
+  where
+    first_of_both : (b c d : Bool) (x y : Tree) → is_some (if b && c then Some x else (if b && d then Some y else None)) ≡ true → b ≡ true
+    first_of_both true c d x y e = refl
+    first_of_both false c d x y e = e
+
+    chains : (t : Tree) → is_some (folded.written s t) ≡ true → folded.is_chain t ≡ true
+    chains t e = first_of_both (folded.is_chain t) _ _ (folded.joined t) (folded.closed t) e
 
 in_comparisons : (t : Tree) → is_some (first_of (nullish.written t) (object_test.written t)) ≡ true → is_some (first_of (rotate.written t) (first_of (decide.written t) (first_of (nullish.written t) (object_test.written t)))) ≡ true
 in_comparisons t h = second_there (rotate.written t) (first_of (decide.written t) (first_of (nullish.written t) (object_test.written t))) (second_there (decide.written t) (first_of (nullish.written t) (object_test.written t)) h)
@@ -435,7 +448,8 @@ passes s n w (inl r) small less = sure_passes s n w r
 passes s n w (inr (inl r)) small less = own_passes s n w r small less
 passes s n w (inr (inr (inl r))) small less = held_there s n (held_passes s n w small less r)
 passes s n w (inr (inr (inr (inl r)))) small less = chain_there s n (chain_passes s n w r)
-passes s n w (inr (inr (inr (inr r)))) small less =
+passes s n w (inr (inr (inr (inr (inr r))))) small less = folded_there s n (folded_passes s n w r)
+passes s n w (inr (inr (inr (inr (inl r))))) small less =
     let t : Tree = conditional r.a (call false (identifier r.name) (r.p ▸ r.others)) (call false (identifier r.name) (r.q ▸ r.others)) in
     ap (λ t. is_some (written s t)) r.shape ∙ in_branches s t (by_called s t (called_passes n w r))
 

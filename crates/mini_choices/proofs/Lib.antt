@@ -6,6 +6,7 @@ pub mod LeftJoins
 pub mod HeldBranches
 pub mod Calls
 pub mod OptionalChains
+pub mod ChainLinks
 pub mod NullishComparison
 pub mod ObjectTest
 pub mod Choices

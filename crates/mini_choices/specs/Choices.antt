@@ -16,6 +16,7 @@ use Rattle.mini_choices.specs.MinimizeNormalAssignmentToCombinedAssignment as co
 use Rattle.mini_choices.specs.MinimizeConditionalBranches as branches
 use Rattle.mini_choices.specs.MinimizeHeldBranches as held
 use Rattle.mini_choices.specs.InjectOptionalChaining as chains
+use Rattle.mini_choices.specs.FoldChainExpr as folded
 
 -- the first of two that is there
 abbrev pub first_of : Option Tree → Option Tree → Option Tree
@@ -26,6 +27,7 @@ abbrev pub written_by : Shape → Seat → Tree → Option Tree
 written_by (shape.LogicalExpression o) s t = first_of (rotate.written t) (first_of (decide.written t) (first_of (nullish.written t) (object_test.written t)))
 written_by (shape.AssignmentExpression o) s t = combine.written t
 written_by shape.ConditionalExpression s t = first_of (chains.written s t) (first_of (held.written s t) (branches.written s t))
+written_by shape.ChainExpression s t = folded.written s t
 written_by _ s t = None
 
 -- what is written for an expression in its seat, where a row reads it

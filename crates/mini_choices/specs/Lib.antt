@@ -10,5 +10,6 @@ pub mod MinimizeNormalAssignmentToCombinedAssignment
 pub mod MinimizeConditionalBranches
 pub mod MinimizeHeldBranches
 pub mod InjectOptionalChaining
+pub mod FoldChainExpr
 pub mod Choices
 pub mod Lighter

@@ -1,3 +1,4 @@
+pub mod fold_chain_expr;
 pub mod inject_optional_chaining;
 pub mod minimize_choices;
 pub mod minimize_conditional_branches;

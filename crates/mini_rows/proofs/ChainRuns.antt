@@ -27,7 +27,7 @@ use Rattle.mini_rows.specs.Chains.{is_calm, are_calm, is_word_shape, Link, a_mem
 use Rattle.mini_rows.proofs.ChainCalm.{Calm, calm_next, run_calm, tidy_bind, get_tidy, called_tidy, call_tidy, tree_calm}
 use Rattle.mini_rows.proofs.ChoiceRuns.{Reading, reading, conditional_value, equal_null, unequal_null, undefined_value}
 
-abbrev value : Environment → Tree → State → Completion Value
+abbrev pub value : Environment → Tree → State → Completion Value
 value e t s = means e t (As Val) tt s
 
 abbrev pub called : Environment → Tree → State → Completion Called
@@ -48,10 +48,10 @@ no_names = record { own = []; written = []; bound = []; number = 0; scope = []; 
 abbrev pub no_kids : Kids (λ i. As Val)
 no_kids i r z = out
 
-abbrev gets : Environment → Value → Value → State → Completion Value
+abbrev pub gets : Environment → Value → Value → State → Completion Value
 gets e v u z = run {q = λ i. As Val} e no_names no_kids (bind (get_member v u) (reply (As Val) tt)) z
 
-abbrev gets_called : Environment → Value → Value → State → Completion Called
+abbrev pub gets_called : Environment → Value → Value → State → Completion Called
 gets_called e v u z = run {q = λ i. As Val} e no_names no_kids (called_member (AMember v u)) z
 
 abbrev pub calls : Environment → Bool → Called → List Entry → State → Completion Value
@@ -87,15 +87,15 @@ module _ (e : Environment) (names : Naming) (σ : ℕ → Demand) (K : Kids σ) 
 -- ---- a link, by what stands before it
 
 -- where it is optional, null and undefined end the chain
-abbrev ends_if : {A : Type 0} → Bool → State → Completion A → Completion A
+abbrev pub ends_if : {A : Type 0} → Bool → State → Completion A → Completion A
 ends_if b z x = choose b (stop Short z) x
 
-abbrev linked_value : Environment → Bool → Link → Completion Value → Completion Called → Completion Value
+abbrev pub linked_value : Environment → Bool → Link → Completion Value → Completion Called → Completion Value
 linked_value e o (a_member k) v f = next v (λ v z. ends_if (o && is_nullish v) z (next (value e k z) (λ u y. gets e v (key_value u) y)))
 linked_value e o (a_computed k) v f = next v (λ v z. ends_if (o && is_nullish v) z (next (value e k z) (λ u y. gets e v (key_value u) y)))
 linked_value e o (a_call ts) v f = next f (λ f z. ends_if (o && is_nullish f.value) z (next (items e ts z) (λ vs y. calls e o f vs y)))
 
-abbrev linked_called : Environment → Bool → Link → Completion Value → Completion Called → Completion Called
+abbrev pub linked_called : Environment → Bool → Link → Completion Value → Completion Called → Completion Called
 linked_called e o (a_member k) v f = next v (λ v z. ends_if (o && is_nullish v) z (next (value e k z) (λ u y. gets_called e v (key_value u) y)))
 linked_called e o (a_computed k) v f = next v (λ v z. ends_if (o && is_nullish v) z (next (value e k z) (λ u y. gets_called e v (key_value u) y)))
 linked_called e o (a_call ts) v f = next (linked_value e o (a_call ts) v f) (λ v z. ok (plain_call v) z)
@@ -168,18 +168,30 @@ module _ (e : Environment) where
   word_calm : (t : Tree) → is_word_shape (shape_of t) ≡ true → (s : State) → Calm (value e t s)
   word_calm (node h xs n ts) p s = word_by h p xs n ts s
 
-  value_calm : (t : Tree) → is_calm t ≡ true → (s : State) → Calm (value e t s)
+  pub value_calm : (t : Tree) → is_calm t ≡ true → (s : State) → Calm (value e t s)
   value_calm t p s = tree_calm e t p (As Val) tt tt s
 
   items_calm : (ts : Trees) → are_calm ts ≡ true → (s : State) → Calm (items e ts s)
   items_calm ts p s = tree_calm e (listed ts) p Items tt tt s
 
-  link_calm : (l : Link) → is_calm_link l ≡ true → (v : Completion Value) (f : Completion Called) → Calm v → Calm f → Calm (linked_value e false l v f) × Calm (linked_called e false l v f)
+  pub link_calm : (l : Link) → is_calm_link l ≡ true → (v : Completion Value) (f : Completion Called) → Calm v → Calm f → Calm (linked_value e false l v f) × Calm (linked_called e false l v f)
   link_calm (a_member k) p v f c d = (calm_next v _ c (λ v z. calm_next (value e k z) _ (word_calm k p z) (λ u y. gets_calm v (key_value u) y)), calm_next v _ c (λ v z. calm_next (value e k z) _ (word_calm k p z) (λ u y. methods_calm v (key_value u) y)))
   link_calm (a_computed k) p v f c d = (calm_next v _ c (λ v z. calm_next (value e k z) _ (value_calm k p z) (λ u y. gets_calm v (key_value u) y)), calm_next v _ c (λ v z. calm_next (value e k z) _ (value_calm k p z) (λ u y. methods_calm v (key_value u) y)))
   link_calm (a_call ts) p v f c d =
       let whole = calm_next f _ d (λ g z. calm_next (items e ts z) _ (items_calm ts p z) (λ vs y. calls_calm false g vs y)) in
       (whole, calm_next (linked_value e false (a_call ts) v f) (λ v z. ok (plain_call v) z) whole (λ v z. tt))
+
+  -- one over what is neither undefined nor null does the same whether or not it is optional
+  pub same_first : (s : State) (v : Value) (f : Called) → is_nullish v ≡ false → is_nullish f.value ≡ false → f.direct ≡ false → (l : Link) → (linked_value e true l (ok v s) (ok f s) ≡ linked_value e false l (ok v s) (ok f s)) × (linked_called e true l (ok v s) (ok f s) ≡ linked_called e false l (ok v s) (ok f s))
+  unfolding either
+  same_first s v f p q d (a_member k) = (ap (λ b. ends_if b s (next (value e k s) (λ u y. gets e v (key_value u) y))) p, ap (λ b. ends_if b s (next (value e k s) (λ u y. gets_called e v (key_value u) y))) p)
+  same_first s v f p q d (a_computed k) = (ap (λ b. ends_if b s (next (value e k s) (λ u y. gets e v (key_value u) y))) p, ap (λ b. ends_if b s (next (value e k s) (λ u y. gets_called e v (key_value u) y))) p)
+  same_first s v f p q d (a_call ts) =
+      let whole : linked_value e true (a_call ts) (ok v s) (ok f s) ≡ linked_value e false (a_call ts) (ok v s) (ok f s) =
+      ap (λ b. ends_if b s (next (items e ts s) (λ vs y. calls e true f vs y))) q
+      ∙ (λ i. next (items e ts s) (λ vs y. run {q = λ i. As Val} e no_names no_kids (bind (choose (d i && false) (emit DirectEval (Item f.value ∷ vs)) (emit CallOf (Item f.value ∷ Item f.this_value ∷ vs))) (reply (As Val) tt)) y))
+      ∙ sym (λ i. next (items e ts s) (λ vs y. run {q = λ i. As Val} e no_names no_kids (bind (choose (d i && true) (emit DirectEval (Item f.value ∷ vs)) (emit CallOf (Item f.value ∷ Item f.this_value ∷ vs))) (reply (As Val) tt)) y)) in
+      (whole, ap (λ x. next x (λ v z. ok (plain_call v) z)) whole)
 
   -- ---- over the name
 
@@ -226,22 +238,11 @@ module _ (e : Environment) where
 
     -- anything else
 
-    same_first : (v : Value) (f : Called) → is_nullish v ≡ false → is_nullish f.value ≡ false → f.direct ≡ false → (l : Link) → (linked_value e true l (ok v s) (ok f s) ≡ linked_value e false l (ok v s) (ok f s)) × (linked_called e true l (ok v s) (ok f s) ≡ linked_called e false l (ok v s) (ok f s))
-    unfolding either
-    same_first v f p q d (a_member k) = (ap (λ b. ends_if b s (next (value e k s) (λ u y. gets e v (key_value u) y))) p, ap (λ b. ends_if b s (next (value e k s) (λ u y. gets_called e v (key_value u) y))) p)
-    same_first v f p q d (a_computed k) = (ap (λ b. ends_if b s (next (value e k s) (λ u y. gets e v (key_value u) y))) p, ap (λ b. ends_if b s (next (value e k s) (λ u y. gets_called e v (key_value u) y))) p)
-    same_first v f p q d (a_call ts) =
-        let whole : linked_value e true (a_call ts) (ok v s) (ok f s) ≡ linked_value e false (a_call ts) (ok v s) (ok f s) =
-        ap (λ b. ends_if b s (next (items e ts s) (λ vs y. calls e true f vs y))) q
-        ∙ (λ i. next (items e ts s) (λ vs y. run {q = λ i. As Val} e no_names no_kids (bind (choose (d i && false) (emit DirectEval (Item f.value ∷ vs)) (emit CallOf (Item f.value ∷ Item f.this_value ∷ vs))) (reply (As Val) tt)) y))
-        ∙ sym (λ i. next (items e ts s) (λ vs y. run {q = λ i. As Val} e no_names no_kids (bind (choose (d i && true) (emit DirectEval (Item f.value ∷ vs)) (emit CallOf (Item f.value ∷ Item f.this_value ∷ vs))) (reply (As Val) tt)) y)) in
-        (whole, ap (λ x. next x (λ v z. ok (plain_call v) z)) whole)
-
     same_spine : (v : Value) (f : Called) → is_nullish v ≡ false → is_nullish f.value ≡ false → f.direct ≡ false → value e X s ≡ ok v s → called e X s ≡ ok f s → (l : Link) (ls : List Link) → (value e (over true l ls) s ≡ value e (over false l ls) s) × (called e (over true l ls) s ≡ called e (over false l ls) s)
     same_spine v f p q d g h l [] =
         let a = above true l X (ok v s) (ok f s) g h in
         let b = above false l X (ok v s) (ok f s) g h in
-        let c = same_first v f p q d l in
+        let c = same_first s v f p q d l in
         (a.0 ∙ c.0 ∙ sym b.0, a.1 ∙ c.1 ∙ sym b.1)
     same_spine v f p q d g h l (m ∷ ls) =
         let r = same_spine v f p q d g h m ls in
@@ -267,14 +268,14 @@ chain_ends e names K (Returned v) z c = refl
 chain_ends e names K (Broken l) z c = refl
 chain_ends e names K (Continued l) z c = refl
 
-abbrev chain_of : Environment → Tree → Completion Value → Completion Value
+abbrev pub chain_of : Environment → Tree → Completion Value → Completion Value
 chain_of e t x = either x (λ v z. ok v z) (λ y z. run {q = λ i. As Val} e (naming shape.ChainExpression (As Val) [] 0 (summaries (t ▸ none))) (λ i r z. meaning e (t ▸ none) i (As Val) r z) (chain_end (As Val) tt (ended y)) z)
 
-chain_value : (e : Environment) (t : Tree) (s : State) → value e (chain t) s ≡ chain_of e t (value e t s)
+pub chain_value : (e : Environment) (t : Tree) (s : State) → value e (chain t) s ≡ chain_of e t (value e t s)
 unfolding means meaning step
 chain_value e t s = refl
 
-chain_calm : (e : Environment) (t : Tree) (x : Completion Value) → Calm x → chain_of e t x ≡ x
+pub chain_calm : (e : Environment) (t : Tree) (x : Completion Value) → Calm x → chain_of e t x ≡ x
 unfolding either
 chain_calm e t (ok v s) c = refl
 chain_calm e t (stop y s) c = chain_ends e _ _ y s c

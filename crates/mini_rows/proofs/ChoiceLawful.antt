@@ -33,6 +33,7 @@ use Rattle.mini_rows.specs.Arranged.{KeptAt, Vanishes}
 use Rattle.mini_rows.specs.Sketches.{Unary, Binary, Logical, Conditional, Assignment, Parts, Sketch, part, under, end, ◌▹◌, Free, Null, Sequence, list, no_items, item}
 use Rattle.mini_rows.specs.Spellings.{IsUndefined, void_zero, assignment}
 use Rattle.mini_rows.specs.Choices.{assign, deciding, strictly, loosely, joining, AreNullish, Row37, Row37After, asks_object, null_compared, held, ended, Row57, Row57Null, Row39, Row38, Row35, Row45, ChoiceRow, ChoiceContracts, Row46Equal, Row46Unequal, Row41Or, Row41And, Row42And, Row42Or, Row43Or, Row43And, Row43AndThen, Row43OrThen, Row49, LighterRow, OwnRow, HeldRow}
+use Rattle.mini_rows.proofs.ChainLinkLawful.{chains_kept}
 use Rattle.mini_rows.proofs.ArrangedExpressions.{expressions_arranged, expressions_arranged_freely}
 use Rattle.mini_rows.proofs.ArrangedLawful.{kept_is_lawful}
 use Rattle.mini_rows.proofs.ChainLawful.{chain_row_kept}
@@ -297,7 +298,8 @@ expression_kept q n w (inl r) = lighter_kept q n w r
 expression_kept q n w (inr (inl r)) = own_kept q n w r
 expression_kept q n w (inr (inr (inl r))) = held_kept q n w r
 expression_kept q n w (inr (inr (inr (inl r)))) = chain_row_kept q n w r (undefined_vanishes r.missing r.undefined)
-expression_kept q n w (inr (inr (inr (inr r)))) = calls_kept q n w r
+expression_kept q n w (inr (inr (inr (inr (inl r))))) = calls_kept q n w r
+expression_kept q n w (inr (inr (inr (inr (inr r))))) = chains_kept q n w r
 
 kept : (p : Position) (n w : Tree) → ChoiceRow p n w → KeptAt p n w
 kept (Expr q) n w r = expression_kept q n w r

@@ -81,8 +81,10 @@ pub mod ListLawful
 pub mod ChoiceRuns
 pub mod ChainCalm
 pub mod ChainRuns
+pub mod ChainLinkMeaning
 mod ChainHoles
 pub mod ChainLawful
+pub mod ChainLinkLawful
 mod ChoiceItems
 mod ChoiceFree
 pub mod ChoiceWeights

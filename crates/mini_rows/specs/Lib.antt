@@ -12,6 +12,7 @@ pub mod Sketches
 pub mod Arranged
 pub mod Redex
 pub mod Chains
+pub mod ChainLinks
 pub mod Choices
 pub mod Folding
 pub mod Booleans

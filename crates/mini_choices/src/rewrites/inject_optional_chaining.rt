@@ -22,8 +22,8 @@ use std::alloc::Global;
 // The units of `eval`.
 const EVAL: [u16; 4] = [101, 118, 97, 108];
 
-// A property's name.
-fn is_word(node: &Node) -> bool
+/// A property's name.
+pub fn is_word(node: &Node) -> bool
     ensures { result ≡ is_word_shape (shape_of node.now) }
 {
     matches!(node.shape(), Shape::IdentifierName(_))
@@ -93,17 +93,18 @@ fn is_open(node: &Node) -> bool
     )
 }
 
-// Whether in an expression each optional link stands in a chain of its own, so that it ends no chain that it stands in.
+/// Whether in an expression each optional link stands in a chain of its own, so that it ends no chain that it stands in.
 #[cycle(calmness)]
 #[tactic(auto, using(crate::proofs::OptionalChains::calm_is, crate::proofs::OptionalChains::calm_below))]
-fn is_calm(node: &Node) -> bool
+pub fn is_calm(node: &Node) -> bool
     ensures { result ≡ is_it_calm node.now }
 {
     is_closed(node) || (is_open(node) && are_calm(node.children()))
 }
 
+/// Whether that is so of each of some nodes.
 #[cycle(calmness)]
-fn are_calm(nodes: &Nodes) -> bool
+pub fn are_calm(nodes: &Nodes) -> bool
     ensures { result ≡ are_they_calm nodes.now }
 {
     for at in 0..nodes.len() {
@@ -200,7 +201,8 @@ fn reads_name(comparison: &Node, missing: &Node, read: &Node) -> bool
     asks_name(comparison) && is_undefined(missing) && is_spine(comparison.child(0), read)
 }
 
-fn is_unguarded(seat: Seat) -> bool
+/// Whether no reference is asked in the seat.
+pub fn is_unguarded(seat: Seat) -> bool
     ensures { result ≡ is_it_unguarded seat.guard }
 {
     matches!(seat.guard, Guard::None)

@@ -12,6 +12,7 @@ ghost use Rattle.mini_choices.specs.MinimizeNullishComparison as nullish;
 ghost use Rattle.mini_choices.specs.MinimizeObjectTest as object_test;
 ghost use Rattle.mini_choices.specs.SubstituteRotateLogicalExpression as rotate;
 
+use crate::rewrites::fold_chain_expr::fold_chain_expr;
 use crate::rewrites::inject_optional_chaining::inject_optional_chaining;
 use crate::rewrites::minimize_conditional_branches::minimize_conditional_branches;
 use crate::rewrites::minimize_held_branches::minimize_held_branches;
@@ -91,6 +92,7 @@ fn minimize_choice(alloc: Global, node: &mut Node, seat: Seat) -> Result<bool, O
             minimize_normal_assignment_to_combined_assignment(alloc, node)
         }
         Shape::ConditionalExpression => minimize_conditional(alloc, node, seat),
+        Shape::ChainExpression => fold_chain_expr(alloc, node, seat),
         _ => Ok(false),
     }
 }
