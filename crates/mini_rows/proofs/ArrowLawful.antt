@@ -1,30 +1,26 @@
 -- What the row of arrow functions writes keeps all that a program has to keep.
-use Rattle.std.specs.Prelude.{ℕ, suc, ◌≡◌, ◌⊎◌, refl, ◌&&◌, Bool, true, false, List, [], ◌∷◌, ◌++◌, Contains, None}
+use Rattle.std.specs.Prelude.{ℕ, ◌≡◌, refl, ◌&&◌, Bool, true, false, List, [], ◌++◌, Contains, None}
 use Rattle.std.proofs.Common.{ap, ◌∙◌, sym, subst, inl, inr, true≢false}
-use Rattle.std.proofs.lemmas.List.{append-nil}
 use Rattle.mini_model.specs.declared.place.Position.{Position}
-use Rattle.mini_model.specs.declared.place.Position.TheVariants.{Expr, StatementList}
+use Rattle.mini_model.specs.declared.place.Position.TheVariants.{Expr}
 use Rattle.mini_model.specs.declared.seat.Seat.{Seat}
-use Rattle.mini_model.specs.declared.shape.Shape.{Shape}
 use Rattle.mini_model.specs.declared.shape.Shape.TheVariants as shape
 use Rattle.mini_model.specs.Tree.{Tree, node, none, ◌▸◌, listed, shape_of, is_absent}
 use Rattle.mini_accept.specs.WellShaped.{Depth, in_module, in_body, nested, Class, a_statement, an_init, an_arrow_body, an_expression, a_link, an_argument, a_key, a_private_or_key, an_inner_key, a_default_export, a_parameter, a_pattern_rest, Slot, one, one_or_absent, many_and_rest, filling_by, statement_slots, is_whole, is_strict_in, fits, is_function_body, spelling, has_optional, is_not_positive_number}
 use Rattle.mini_laws.specs.Value.{Variable}
 use Rattle.mini_laws.specs.State.{Writable}
 use Rattle.mini_laws.specs.Fixity.{stricter, fixed_by}
-use Rattle.mini_laws.specs.Body.{FunctionStatements, ArrowExpression, Run}
+use Rattle.mini_laws.specs.Body.{ArrowExpression, Run}
 use Rattle.mini_laws.specs.Bodies.{Around, below, Body, bodies, body_of, arrow_kind}
 use Rattle.mini_kept.specs.AlikeBodies.{BodiesKept}
 use Rattle.mini_kept.specs.Declaring.{declared as declared_names}
-use Rattle.mini_kept.specs.Frames.{is_declaration, is_port, outline, globals, frame_of, Frame, frames, FramesKept}
+use Rattle.mini_kept.specs.Frames.{outline, globals, frame_of, frames}
 use Rattle.mini_kept.specs.KeepsFrames.{is_body_slot}
 use Rattle.mini_kept.specs.KeepsNames.{is_rewritten_place}
-use Rattle.mini_kept.specs.KeepsShapes.{KeepsShapes, is_default, AskedAlike}
+use Rattle.mini_kept.specs.KeepsShapes.{is_default, AskedAlike}
 use Rattle.mini_kept.specs.Lawful.{Lawful}
-use Rattle.mini_kept.specs.Lifted.{is_piece}
-use Rattle.mini_kept.specs.Placed.{fits_place}
-use Rattle.mini_kept.proofs.Bools.{left, right}
-use Rattle.mini_kept.proofs.BodyLists.{kept_itself, first_of, each_of}
+use Rattle.mini_kept.proofs.Bools.{left}
+use Rattle.mini_kept.proofs.BodyLists.{kept_itself, each_of}
 use Rattle.mini_kept.proofs.BodyRows.{expression_kind}
 use Rattle.mini_kept.proofs.Expressions.{expression, TakesExpressionIn, TakesExpression, refused_here, expression_taken}
 use Rattle.mini_kept.proofs.Fixed.{of_one, of_children}

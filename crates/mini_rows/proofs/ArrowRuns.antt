@@ -1,8 +1,7 @@
 -- What an arrow function does, and that its body runs as the value that it returns.
-use Rattle.std.proofs.Common.{◌≡◌, ℕ, false, [], List, Some, None, refl, sym, ap, ◌∙◌, subst}
+use Rattle.std.proofs.Common.{◌≡◌, ℕ, false, [], List, Some, None, refl, sym, ap, ◌∙◌}
 use Rattle.mini_model.specs.declared.place.Position.{Position}
 use Rattle.mini_model.specs.declared.place.Position.TheVariants.{Expr}
-use Rattle.mini_model.specs.declared.seat.Seat.{Seat}
 use Rattle.mini_model.specs.declared.shape.Shape.TheVariants as shape
 use Rattle.mini_model.specs.Tree.{Tree, none, ◌▸◌, listed}
 use Rattle.mini_laws.specs.Value.{Value, Undefined, Variable, Slot}
@@ -21,7 +20,7 @@ use Rattle.mini_laws.proofs.Runs.{either_assoc, either_cong, either_eta, either_
 use Rattle.mini_laws.proofs.Stretching.{listed_one}
 use Rattle.mini_laws.proofs.Tailing.{finished, finish_none, tail_same}
 use Rattle.mini_rows.specs.Lists.{return_statement}
-use Rattle.mini_rows.specs.Arrows.{arrow, returning, Row59, ArrowRow, ArrowContracts}
+use Rattle.mini_rows.specs.Arrows.{arrow, returning, ArrowRow, ArrowContracts}
 use Rattle.mini_rows.proofs.ListStatements.{return_is}
 
 -- ---- the function itself

@@ -2,13 +2,12 @@
 use Rattle.std.proofs.Common.{◌≡◌, ◌<◌, refl, sym, ap, ◌∙◌, inl, arith}
 use Rattle.mini_model.specs.declared.place.Position.{Position}
 use Rattle.mini_model.specs.declared.place.Position.TheVariants.{Expr}
-use Rattle.mini_model.specs.declared.seat.Seat.{Seat}
 use Rattle.mini_model.specs.Tree.{Tree}
 use Rattle.mini_model.specs.Position.{argument_seat, whole_seat}
 use Rattle.mini_model.specs.Weight.{outline, weight}
 use Rattle.mini_laws.specs.Weights.{Lightens}
 use Rattle.mini_laws.proofs.Seats.{moved}
-use Rattle.mini_rows.specs.Arrows.{arrow, returning, Row59, ArrowRow, ArrowContracts, ArrowsLighter}
+use Rattle.mini_rows.specs.Arrows.{ArrowRow, ArrowContracts, ArrowsLighter}
 
 row_lighter : (p : Position) (n w : Tree) → ArrowRow p n w → weight p w < weight p n
 row_lighter (Expr s) n w r =

@@ -9,7 +9,6 @@ use Rattle.mini_laws.specs.Fits.{Fits}
 use Rattle.mini_laws.specs.Rows.{SameAt}
 use Rattle.mini_kept.specs.KeepsFrames.{is_body_slot}
 use Rattle.mini_kept.specs.KeepsLoosely.{KeepsLoosely}
-use Rattle.mini_kept.specs.KeepsShapes.{AskedAlike}
 use Rattle.mini_kept.specs.Placed.{fits_place}
 use Rattle.mini_kept.specs.Standing.{stands_whole, Stands}
 use Rattle.mini_rows.specs.Arranged.{KeptAt}

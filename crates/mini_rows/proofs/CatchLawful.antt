@@ -9,29 +9,27 @@ use Rattle.mini_model.specs.declared.place.Position.{Position}
 use Rattle.mini_model.specs.declared.place.Position.TheVariants.{Elsewhere}
 use Rattle.mini_model.specs.declared.shape.Shape.{Shape}
 use Rattle.mini_model.specs.declared.shape.Shape.TheVariants as shape
-use Rattle.mini_model.specs.Tree.{Tree, Trees, node, none, ◌▸◌, absent, shape_of}
-use Rattle.mini_accept.specs.WellShaped.{Depth, in_module, in_body, nested, Class, a_statement, a_block, a_catch, a_key, a_private_or_key, an_inner_key, a_default_export, a_pattern, Slot, one, one_or_absent, many, filling_by, these, statement_slots, is_whole, fits, fill}
+use Rattle.mini_model.specs.Tree.{Tree, none, ◌▸◌, absent, shape_of}
+use Rattle.mini_accept.specs.WellShaped.{Depth, in_module, in_body, nested, Class, a_statement, a_block, a_catch, a_key, a_private_or_key, an_inner_key, a_default_export, a_pattern, Slot, one, one_or_absent, filling_by, statement_slots, fits}
 use Rattle.mini_laws.specs.declared.names.Binding.{Binding}
 use Rattle.mini_laws.specs.declared.names.Declaration.{Declaration}
 use Rattle.mini_laws.specs.declared.names.Declared.{Declared}
 use Rattle.mini_laws.specs.declared.names.Declared.TheVariants as declares
 use Rattle.mini_laws.specs.declared.names.Targets.{Targets}
 use Rattle.mini_laws.specs.declared.names.Use.{Use}
-use Rattle.mini_laws.specs.declared.names.Use.TheVariants.{Read}
 use Rattle.mini_laws.specs.DeclaredNames.{names_of, body_names, with_names, has_inner}
-use Rattle.mini_laws.specs.Early.{Path, own_declarations, body_declarations, declarations, in_body as body_part, children_of_node, in_block, scope_declarations, clashing, early_names, targets_of, early_jumps, is_loop}
+use Rattle.mini_laws.specs.Early.{Path, body_declarations, declarations, in_body as body_part, children_of_node, in_block, scope_declarations, clashing, early_names, targets_of, early_jumps, is_loop}
 use Rattle.mini_laws.specs.Edits.{Kept}
 use Rattle.mini_laws.specs.Resolved.{Environment}
 use Rattle.mini_laws.specs.Scopes.{opened, use_of, scopes_by}
-use Rattle.mini_laws.specs.Scoped.{Scoped, Unmentioned, AllUnmentioned}
+use Rattle.mini_laws.specs.Scoped.{Scoped, Unmentioned}
 use Rattle.mini_laws.specs.Symbols.{declared as declared_in, times, is_same}
-use Rattle.mini_laws.specs.Value.{Value, Variable, VariableSet, Holds, Uninitialised, choose, nothing, variable_eq, is_in}
+use Rattle.mini_laws.specs.Value.{Value, Variable, VariableSet, Holds, Uninitialised, choose, nothing}
 use Rattle.mini_laws.specs.Value.{Declared as Symbol}
 use Rattle.mini_laws.specs.State.{State, Completion, ok, stop, halt, out, either, FreshOf, with_vars}
 use Rattle.mini_laws.specs.State.{Environment as World}
 use Rattle.mini_laws.specs.Demand.{Demand, Stat, Binds, Catches, Request}
 use Rattle.mini_laws.specs.Command.{set_var, hide_all, note, act, at_variable}
-use Rattle.mini_laws.specs.Fits.{Fits}
 use Rattle.mini_laws.specs.Fixity.{fixed_by}
 use Rattle.mini_laws.specs.Naming.{summary}
 use Rattle.mini_laws.specs.Step.{step, means, meaning}
@@ -51,7 +49,7 @@ use Rattle.mini_kept.specs.KeepsShapes.{AskedAlike}
 use Rattle.mini_kept.specs.Lifted.{is_piece, KeepsRoot}
 use Rattle.mini_kept.specs.Loosely.{symbol, Stays, Drops}
 use Rattle.mini_kept.specs.Placed.{fits_place, is_statement_list}
-use Rattle.mini_kept.specs.SameNames.{counted, NoMoreClash}
+use Rattle.mini_kept.specs.SameNames.{NoMoreClash}
 use Rattle.mini_kept.specs.ShownFrames.{no_key, gone_from}
 use Rattle.mini_kept.specs.Without.{Unseen}
 use Rattle.mini_kept.proofs.Below.{both_empty, empty_both}
@@ -62,9 +60,9 @@ use Rattle.mini_kept.proofs.Fixed.{of_children}
 use Rattle.mini_kept.proofs.InOrder.{in_order}
 use Rattle.mini_kept.proofs.ShownFrames.{shown_themselves}
 use Rattle.mini_kept.proofs.WithoutLists.{from_kept}
-use Rattle.mini_rows.specs.Catches.{handler, Row63, CatchRow, CatchContracts, CatchesAreLawful}
+use Rattle.mini_rows.specs.Catches.{handler, Row63, CatchContracts, CatchesAreLawful}
 use Rattle.mini_rows.specs.Declarations.{binding}
-use Rattle.mini_rows.specs.Unused.{names, resolved}
+use Rattle.mini_rows.specs.Unused.{resolved}
 use Rattle.mini_rows.proofs.UnusedNames.{unmentioned, avoided}
 
 -- ---- it does the same, but for the name

@@ -1,12 +1,12 @@
 -- A handler without a name for what it catches is lighter in every place.
-use Rattle.std.proofs.Common.{◌≡◌, ◌<◌, refl, sym, ap, ◌∙◌, inl, arith}
+use Rattle.std.proofs.Common.{◌≡◌, ◌<◌, sym, ap, ◌∙◌, inl, arith}
 use Rattle.mini_model.specs.declared.name.Name.{Name}
 use Rattle.mini_model.specs.declared.place.Position.{Position}
 use Rattle.mini_model.specs.declared.place.Position.TheVariants.{Elsewhere}
 use Rattle.mini_model.specs.Tree.{Tree, absent}
 use Rattle.mini_model.specs.Weight.{outline, weight}
 use Rattle.mini_laws.specs.Weights.{Lightens}
-use Rattle.mini_rows.specs.Catches.{handler, Row63, CatchRow, CatchContracts, CatchesLighter}
+use Rattle.mini_rows.specs.Catches.{handler, CatchRow, CatchContracts, CatchesLighter}
 use Rattle.mini_rows.specs.Declarations.{binding}
 use Rattle.mini_rows.specs.Unused.{resolved}
 

@@ -1,5 +1,5 @@
 -- The operands that an operator joins, as sketches: what is joined on the right may be joined from the left.
-use Rattle.std.proofs.Common.{◌≡◌, append_assoc, eq-eqb, ℕ, zero, suc, Bool, true, false, List, [], ◌∷◌, refl, sym, ap, subst, ◌∙◌}
+use Rattle.std.proofs.Common.{◌≡◌, append_assoc, eq-eqb, ℕ, suc, Bool, true, List, [], ◌∷◌, refl, sym, ap, subst, ◌∙◌}
 use Rattle.std.specs.Prelude.{◌++◌, ◌&&◌, ◌||◌, nat_eq, if◌then◌else◌}
 use Rattle.std.proofs.lemmas.List.{append-nil}
 use Rattle.mini_model.specs.declared.operator.LogicalOperator.{LogicalOperator}

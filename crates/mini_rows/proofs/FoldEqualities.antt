@@ -1,15 +1,15 @@
 -- Of two values of one Kind a loose equality says what the strict one does.
-use Rattle.std.proofs.Common.{◌≡◌, ℕ, Bool, true, false, [], Option, Some, None, refl, sym, ap, subst, ◌∙◌, true≢false}
-use Rattle.std.specs.Prelude.{◌&&◌, not}
+use Rattle.std.proofs.Common.{◌≡◌, Bool, true, false, [], Some, refl, sym, subst, true≢false}
+use Rattle.std.specs.Prelude.{not}
 use Rattle.mini_model.specs.declared.operator.BinaryOperator.{BinaryOperator}
 use Rattle.mini_model.specs.declared.operator.BinaryOperator.TheVariants.{Equality, Inequality, StrictEquality, StrictInequality}
 use Rattle.mini_model.specs.declared.shape.Shape.TheVariants as shape
 use Rattle.mini_model.specs.Tree.{Tree, none, ◌▸◌}
-use Rattle.mini_laws.specs.Value.{Value, Undefined, Null, Boolean, Number, String, Object, choose}
+use Rattle.mini_laws.specs.Value.{Value, Undefined, Null, Boolean, Number, String, Object}
 use Rattle.mini_laws.specs.Operators.{strictly_equal}
-use Rattle.mini_laws.specs.State.{State, Completion, ok, stop, either, Environment}
+use Rattle.mini_laws.specs.State.{State, Environment}
 use Rattle.mini_laws.specs.Demand.{Val, Demand, As, Request}
-use Rattle.mini_laws.specs.Command.{Naming, Command, ret, bind, Kids, run}
+use Rattle.mini_laws.specs.Command.{Naming, Command, ret, Kids}
 use Rattle.mini_laws.specs.Naming.{summaries, naming}
 use Rattle.mini_laws.specs.Replies.{loosely}
 use Rattle.mini_laws.specs.Expressions.{operate_by, binary_step}
@@ -20,7 +20,6 @@ use Rattle.mini_terms.specs.Kind.{common, kind, OfKind}
 use Rattle.mini_terms.specs.Folds.{is_known, has_one_kind}
 use Rattle.mini_terms.proofs.Dropping.{after_cong}
 use Rattle.mini_terms.proofs.KindTable.{kind_sound}
-use Rattle.mini_terms.proofs.Opened.{after}
 use Rattle.mini_rows.specs.Folding.{loosened}
 use Rattle.mini_rows.specs.Spellings.{binary}
 use Rattle.mini_rows.proofs.SpellAlike.{SameTree, Alike, bind_alike, valued_alike}

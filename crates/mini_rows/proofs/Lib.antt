@@ -24,6 +24,8 @@ pub mod ListStretches
 pub mod ListParts
 pub mod ListStatements
 pub mod ListHeads
+pub mod ListBegun
+pub mod ListKeptBegun
 pub mod ListLoops
 pub mod ListEnds
 pub mod ListTails

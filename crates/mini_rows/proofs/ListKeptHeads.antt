@@ -65,11 +65,11 @@ module _ (J : Leap → Type 0) (Q : Asked → Tree → Type 0) (l : Local J Q) w
   sequence_of : (ts : Trees) → All Q AsValue ts → Q AsValue (sequence ts)
   sequence_of ts a = l.up Sequence AsValue (listed ts ▸ none) tt tt (l.up AList AsValues ts tt tt (of_all J Q AsValue 0 ts a), tt)
 
-  parts_of_it : (p : Tree) (ps : Trees) → Q AsValue (of_parts p ps) → All Q AsValue (p ▸ ps)
+  pub parts_of_it : (p : Tree) (ps : Trees) → Q AsValue (of_parts p ps) → All Q AsValue (p ▸ ps)
   parts_of_it p none q = (q, tt)
   parts_of_it p (t ▸ ps) q = of_sequence (p ▸ (t ▸ ps)) q
 
-  it_of_parts : (p : Tree) (ps : Trees) → All Q AsValue (p ▸ ps) → Q AsValue (of_parts p ps)
+  pub it_of_parts : (p : Tree) (ps : Trees) → All Q AsValue (p ▸ ps) → Q AsValue (of_parts p ps)
   it_of_parts p none a = a.0
   it_of_parts p (t ▸ ps) a = sequence_of (p ▸ (t ▸ ps)) a
 
@@ -83,7 +83,7 @@ module _ (J : Leap → Type 0) (Q : Asked → Tree → Type 0) (l : Local J Q) w
   nothing_there = l.up AbsentPart AsValue none tt tt tt
 
 module _ (m : Asked → Tree → ℕ) (l : Summed m) where
-  sum_parts : (p : Tree) (ps : Trees) → m AsValue (of_parts p ps) ≡ sum_all m AsValue (p ▸ ps)
+  pub sum_parts : (p : Tree) (ps : Trees) → m AsValue (of_parts p ps) ≡ sum_all m AsValue (p ▸ ps)
   sum_parts p none = omega arith
   sum_parts p (t ▸ ps) =
       let ts : Trees = p ▸ (t ▸ ps) in
@@ -321,13 +321,13 @@ seated_symbols x (Choice cases) e k = refl
 unfoldable pub hoisted_beside : Seat → List Name
 hoisted_beside s = all_names declared.Hoisted (rest s)
 
-seated_hoists : (s : Seat) (e : Tree) → is_value (shape_of e) ≡ true → names_of declared.Hoisted (seated s e) ≡ hoisted_beside s
+pub seated_hoists : (s : Seat) (e : Tree) → is_value (shape_of e) ≡ true → names_of declared.Hoisted (seated s e) ≡ hoisted_beside s
 unfolding names_of hoisted_beside
 seated_hoists (Loop u v w) e k = ap (λ r. r ++ all_names declared.Hoisted (u ▸ (v ▸ (w ▸ none)))) (no_names declared.Hoisted e (quiet_value e k))
 seated_hoists (Choice cases) e k = ap (λ r. r ++ all_names declared.Hoisted (cases ▸ none)) (no_names declared.Hoisted e (quiet_value e k))
 
 -- a statement that declares nothing but what it hoists
-seated_names : (d : Declared) (s : Seat) (e j : Tree) → names_of declared.Hoisted (seated s j) ≡ names_of declared.Hoisted (seated s e) → names_of d (seated s j) ≡ names_of d (seated s e)
+pub seated_names : (d : Declared) (s : Seat) (e j : Tree) → names_of declared.Hoisted (seated s j) ≡ names_of declared.Hoisted (seated s e) → names_of d (seated s j) ≡ names_of d (seated s e)
 unfolding names_of
 seated_names declared.Bound (Loop u v w) e j k = refl
 seated_names declared.Bound (Choice cases) e j k = refl

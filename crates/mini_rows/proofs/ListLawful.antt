@@ -19,6 +19,7 @@ use Rattle.mini_rows.proofs.ArrangedLawful.{kept_is_lawful}
 use Rattle.mini_rows.proofs.ListEndsKept.{end_kept, end_fits}
 use Rattle.mini_rows.proofs.ListWeights.{end_in_list}
 use Rattle.mini_rows.proofs.ListKept.{plain_lists_kept, guards_kept, row_77_kept}
+use Rattle.mini_rows.proofs.ListKeptBegun.{begun_kept}
 use Rattle.mini_rows.proofs.ListKeptDeclarations.{declarations_kept}
 use Rattle.mini_rows.proofs.ListKeptHeads.{absent_for_kept, for_kept, switch_kept}
 use Rattle.mini_rows.proofs.ListKeptVars.{free_kept, init_kept}
@@ -66,8 +67,9 @@ module _ (o : Switches) (n w : Tree) (r : InList (NeighbourRow o) n w) where
 
   neighbours_kept : NeighbourRow o r.read r.put → KeptAt StatementList n w
   neighbours_kept (inl m) = row_kept m
-  neighbours_kept (inr (s, inl m)) = guards_kept n w (record { before = r.before; read = r.read; put = r.put; after = r.after; row = m; shape = r.shape; written = r.written })
-  neighbours_kept (inr (s, inr m)) = subst (λ t. KeptAt StatementList t w) (sym r.shape) (subst (KeptAt StatementList (listed (append r.before (append r.read r.after)))) (sym r.written) (row_77_kept r.before r.after r.read r.put m))
+  neighbours_kept (inr (inr m)) = begun_kept r.before r.after n w r.read r.put m r.shape r.written
+  neighbours_kept (inr (inl (s, inl m))) = guards_kept n w (record { before = r.before; read = r.read; put = r.put; after = r.after; row = m; shape = r.shape; written = r.written })
+  neighbours_kept (inr (inl (s, inr m))) = subst (λ t. KeptAt StatementList t w) (sym r.shape) (subst (KeptAt StatementList (listed (append r.before (append r.read r.after)))) (sym r.written) (row_77_kept r.before r.after r.read r.put m))
 
   list_kept : KeptAt StatementList n w
   list_kept = neighbours_kept r.row

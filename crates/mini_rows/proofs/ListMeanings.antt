@@ -1,6 +1,7 @@
 -- What the rows of lists write means the same.
-use Rattle.std.proofs.Common.{◌≡◌, true, [], None, refl, sym, ap, ◌∙◌, inl, inr}
+use Rattle.std.proofs.Common.{◌≡◌, true, [], None, refl, sym, ap, ◌∙◌, subst, inl, inr}
 use Rattle.mini_model.specs.declared.kind.VariableDeclarationKind.TheVariants.{Var}
+use Rattle.mini_model.specs.declared.name.Name.{Name}
 use Rattle.mini_model.specs.declared.operator.LogicalOperator.TheVariants.{Or}
 use Rattle.mini_model.specs.declared.place.Position.{Position}
 use Rattle.mini_model.specs.declared.place.Position.TheVariants.{StatementList, BodyList}
@@ -19,13 +20,14 @@ use Rattle.mini_laws.proofs.Runs.{either_cong, either_assoc, either_eta, either_
 use Rattle.mini_laws.proofs.Truth.{coherent}
 use Rattle.mini_laws.proofs.Rows.{Equal, equal_same}
 use Rattle.mini_rows.specs.Switches.{Switches}
-use Rattle.mini_rows.specs.Lists.{declares_nothing, is_one_part_shape, are_parts, of_parts, block, return_statement, throw_statement, switch, for_loop, for_in, declaration, or_void, Head, Return, Throw, If, Switch, For, with_head, Row66Empty, Row66Joined, Row67, Row67Absent, Row67In, Row68, Row68Free, Row68Init, Row73, Row73Bare, Row76, Row79, SequencesRow, LoopRow, JoinRow, StretchRow, InList, ListRow, Row74, NeighbourRow, Saying, AsStatement, AsReturn, AsThrow, says, Row77, is_unscoped}
+use Rattle.mini_rows.specs.Lists.{declares_nothing, is_one_part_shape, are_parts, of_parts, block, return_statement, throw_statement, switch, for_loop, for_in, declaration, or_void, Head, Return, Throw, If, Switch, For, with_head, Row66Empty, Row66Joined, Row67, Row67Absent, Row67In, Row68, Row68Free, Row68Init, Row73, Row73Bare, Row76, Row79, SequencesRow, LoopRow, JoinRow, StretchRow, InList, ListRow, Row74, NeighbourRow, Saying, AsStatement, AsReturn, AsThrow, says, Row77, is_unscoped, sequence, resolved, assigned, Statement, Heading, Beginning, Alone, Init, Before, begun, begun_without, begins_well, Row70}
 use Rattle.mini_rows.specs.ListLaws.{ListsMeanSame}
 use Rattle.mini_rows.proofs.ListStretches.{ReadSame, SameStretch, exec_one, exec_two, listed_is, in_list, list_does, list_reads, replaced, read_in_list}
 use Rattle.mini_rows.proofs.ListParts.{joined_is}
 use Rattle.mini_rows.proofs.ListStatements.{expression_is, if_is, absent_is, empty_is, return_is, throw_is, conditional_is, or_void_is, declarations_join, declarations_read, one_unscoped, read_nothing, block_is}
 use Rattle.mini_rows.proofs.ListHeads.{Nothing, nothing_by, switch_rest, switch_plain, for_rest, for_is, for_absent_is}
 use Rattle.mini_rows.proofs.ListLoops.{for_var_is, in_rest, in_is, left_lets}
+use Rattle.mini_rows.proofs.ListBegun.{without_value, with_value, assignment_enters}
 use Rattle.mini_rows.proofs.BodyLists.{body_same}
 use Rattle.mini_rows.proofs.ListTails.{body_end_same, end_reads}
 use Rattle.mini_rows.proofs.ListEnds.{never_goes, ended_tree}
@@ -274,10 +276,67 @@ row_77 a b r = replaced a _ b _ r.shape r.written (record {
   read = read_in_list (r.first ▸ none) (says r.saying r.e ▸ none) none none (one_unscoped (says r.saying r.e) (says_unscoped r.saying r.e));
 })
 
+-- `var a; a = b;`
+
+then_same : (a b c : Trees) → SameStretch a b → SameStretch b c → SameStretch a c
+then_same a b c h k = record {
+  by = λ e s. h.by e s ∙ k.by e s;
+  read = record { lets = h.read.lets ∙ k.read.lets; functions = h.read.functions ∙ k.read.functions; facts = h.read.facts ∙ k.read.facts; texts = h.read.texts ∙ k.read.texts };
+}
+
+back_same : (a b : Trees) → SameStretch a b → SameStretch b a
+back_same a b h = record { by = λ e s. sym (h.by e s); read = record { lets = sym h.read.lets; functions = sym h.read.functions; facts = sym h.read.facts; texts = sym h.read.texts } }
+
+-- an assignment that begins a statement stands before what is left of it
+joined_twice : (p q : Tree) (qs : Trees) → SameStretch (expression_statement p ▸ (expression_statement (of_parts q qs) ▸ none)) (expression_statement (sequence (p ▸ (q ▸ qs))) ▸ none)
+joined_twice p q qs = record {
+  by = λ e s.
+      exec_two e (expression_statement p) (expression_statement (of_parts q qs)) s
+      ∙ ap (λ x. either x (λ u z. means e (expression_statement (of_parts q qs)) (Stat None) [] z) (λ x z. stop x z)) (expression_is e p [] s)
+      ∙ either_cong (means e p (As Unused) tt s) _ _ _ _ (λ u z. expression_is e (of_parts q qs) [] z) (λ x z. refl)
+      ∙ sym (exec_one e (expression_statement (sequence (p ▸ (q ▸ qs)))) s ∙ expression_is e (sequence (p ▸ (q ▸ qs))) [] s ∙ joined_is e p none q qs Unused s);
+  read = record { lets = refl; functions = refl; facts = refl; texts = refl };
+}
+
+init_alone : (a : Tree) → declares_nothing a ≡ true → (u v w : Tree) → SameStretch (expression_statement a ▸ (for_loop absent u v w ▸ none)) (for_loop a u v w ▸ none)
+init_alone a h u v w = record {
+  by = λ e s.
+      exec_two e (expression_statement a) (for_loop absent u v w) s
+      ∙ ap (λ x. either x (λ y z. means e (for_loop absent u v w) (Stat None) [] z) (λ x z. stop x z)) (expression_is e a [] s)
+      ∙ either_cong (means e a (As Unused) tt s) _ _ _ _ (λ y z. for_absent_is e u v w [] z) (λ x z. refl)
+      ∙ sym (exec_one e (for_loop a u v w) s ∙ for_is e u v w a (nothing_by a h) [] s);
+  read = record { lets = refl; functions = refl; facts = refl; texts = refl };
+}
+
+begun_same : (b : Beginning) (x : Name) (value : Tree) → begins_well b ≡ true → SameStretch (expression_statement (assigned x value) ▸ begun_without b) (begun b (assigned x value) ▸ none)
+begun_same Alone x value h = record { by = λ e s. refl; read = record { lets = refl; functions = refl; facts = refl; texts = refl } }
+begun_same (Init u v w) x value h = init_alone (assigned x value) refl u v w
+begun_same (Before Statement q qs) x value h = joined_twice (assigned x value) q qs
+begun_same (Before (Heading head) q qs) x value h = enters (assigned x value) none q qs head h
+
+row_70 : (a b : Trees) → Row70 a b → SameStretch a b
+row_70 a b r =
+    let old = without_value r.ds r.spelling r.target r.symbol r.es r.value in
+    let new = with_value r.ds r.spelling r.target r.symbol r.es r.value in
+    let whole = begun r.beginning (assigned (resolved r.target r.symbol) r.value) in
+    let alone = expression_statement (assigned (resolved r.target r.symbol) r.value) in
+    let left = begun_without r.beginning in
+    let apart : SameStretch (old ▸ (whole ▸ none)) (old ▸ (alone ▸ left)) = stretch_after old _ _ (back_same (alone ▸ left) (whole ▸ none) (begun_same r.beginning (resolved r.target r.symbol) r.value r.parts)) in
+    let entered : SameStretch (old ▸ (alone ▸ left)) (new ▸ left) = in_list none (old ▸ (alone ▸ none)) (new ▸ none) left (assignment_enters r.ds r.spelling r.target r.symbol r.es r.value r.bare r.plain) in
+    replaced a _ b _ r.shape r.written (then_same _ _ _ apart entered)
+  where
+    with_none : (ts : Trees) → append ts none ≡ ts
+    with_none none = refl
+    with_none (t ▸ ts) = ap (λ us. t ▸ us) (with_none ts)
+
+    stretch_after : (t : Tree) (x y : Trees) → SameStretch x y → SameStretch (t ▸ x) (t ▸ y)
+    stretch_after t x y h = subst (λ z. SameStretch (t ▸ z) (t ▸ y)) (with_none x) (subst (λ z. SameStretch (t ▸ append x none) (t ▸ z)) (with_none y) (in_list (t ▸ none) x y none h))
+
 neighbours_same : (o : Switches) (a b : Trees) → NeighbourRow o a b → SameStretch a b
 neighbours_same o a b (inl r) = stretch_same o a b r
-neighbours_same o a b (inr (s, inl r)) = row_74 a b r
-neighbours_same o a b (inr (s, inr r)) = row_77 a b r
+neighbours_same o a b (inr (inl (s, inl r))) = row_74 a b r
+neighbours_same o a b (inr (inl (s, inr r))) = row_77 a b r
+neighbours_same o a b (inr (inr r)) = row_70 a b r
 
 -- in a list
 list_same : (o : Switches) (n w : Tree) (r : InList (NeighbourRow o) n w) → SameStretch (append r.before (append r.read r.after)) (append r.before (append r.put r.after))

@@ -7,16 +7,16 @@ use Rattle.mini_model.specs.declared.kind.VariableDeclarationKind.TheVariants.{V
 use Rattle.mini_model.specs.declared.name.Name.{Name}
 use Rattle.mini_model.specs.declared.operator.LogicalOperator.TheVariants.{Or}
 use Rattle.mini_model.specs.declared.shape.Shape.TheVariants as shape
-use Rattle.mini_model.specs.Tree.{Tree, Trees, node, none, ◌▸◌, count, absent, listed, is_absent, expression_statement, if_else, if_alone, conditional, logical}
+use Rattle.mini_model.specs.Tree.{Tree, Trees, node, none, ◌▸◌, count, absent, listed, is_absent, identifier, expression_statement, if_else, if_alone, conditional, logical}
 use Rattle.mini_model.specs.Paths.{append}
-use Rattle.mini_accept.specs.WellShaped.{Depth, in_module, in_body, nested, Class, a_statement, a_case, a_loop_left, a_declarator, an_expression, an_init, Slot, one, one_or_absent, many, each, fits, fill}
+use Rattle.mini_accept.specs.WellShaped.{Depth, in_module, in_body, nested, Class, a_statement, a_case, a_loop_left, a_declarator, a_pattern, a_target, an_expression, an_init, Slot, one, one_or_absent, many, each, fits, fill}
 use Rattle.mini_model.specs.declared.place.Position.TheVariants.{StatementList}
 use Rattle.mini_kept.specs.Placed.{fits_place}
 use Rattle.mini_kept.proofs.Bools.{left, right, both}
 use Rattle.mini_kept.proofs.Expressions.{expression_taken, two_fit}
 use Rattle.mini_kept.proofs.Placed.{statements_slot}
 use Rattle.mini_rows.specs.Switches.{Switches}
-use Rattle.mini_rows.specs.Lists.{block, sequence, return_statement, throw_statement, for_loop, declaration, or_void, void_zero, of_parts, is_one_part, are_parts, is_unscoped, are_unscoped, Head as ListHead, Return, Throw, If, Switch, For, with_head, for_in, SequencesRow, LoopRow, JoinRow, StretchRow, InList, NeighbourRow, says}
+use Rattle.mini_rows.specs.Lists.{block, sequence, return_statement, throw_statement, switch, for_loop, declaration, or_void, void_zero, of_parts, is_one_part, are_parts, is_unscoped, are_unscoped, Head as ListHead, Return, Throw, If, Switch, For, with_head, for_in, SequencesRow, LoopRow, JoinRow, StretchRow, InList, NeighbourRow, says, resolved, binding, declarator, assigned, declares_nothing, Statement, Heading, Beginning, Alone, Init, Before, begun, begun_without, begins_well}
 
 abbrev pub expression : Slot
 expression = one an_expression
@@ -326,6 +326,78 @@ module _ (strict : Bool) where
       let (x, y) = two_of d (declaration k ds) (declaration k es) e in
       just d (declaration k (append ds es)) (declaration_anywhere strict d k (append ds es) ∙ some_fit ds es (sym (declaration_anywhere strict d k ds) ∙ x) (sym (declaration_anywhere strict d k es) ∙ y))
 
+  -- an assignment, and a declarator that has its value
+
+  of_assigned : (x : Name) (value : Tree) → Fits expression (assigned x value) → Fits expression value
+  of_assigned x value e = left (fits strict expression value) true (and_parts (fits strict (one a_target) (identifier x)) (fits strict expression value && true) e).1
+
+  there_by : (t : Tree) → declares_nothing t ≡ true → is_absent t ≡ false
+  there_by (node shape.Absent xs n ts) e = absurd (cc e)
+  there_by (node h xs n ts) e = refl
+
+  value_fits : (x : Name) (value : Tree) → declares_nothing value ≡ true → Fits (one a_declarator) (declarator (binding x) absent) → Fits expression value → Fits (one a_declarator) (declarator (binding x) value)
+  value_fits x value h e f =
+      both (fits strict (one a_pattern) (binding x)) (fits strict (one_or_absent an_expression) value && true) (and_parts (fits strict (one a_pattern) (binding x)) (fits strict (one_or_absent an_expression) absent && true) e).0
+      (both (fits strict (one_or_absent an_expression) value) true (or_absent an_expression value f (there_by value h)) refl)
+
+  values_fit : (ds : Trees) (x : Name) (es : Trees) (value : Tree) → declares_nothing value ≡ true → SomeFit (append ds (declarator (binding x) absent ▸ es)) → Fits expression value → SomeFit (append ds (declarator (binding x) value ▸ es))
+  values_fit ds x es value h e f =
+      let old = declarator (binding x) absent in
+      let new = declarator (binding x) value in
+      let (some, filled) = and_parts (nat_le 1 (count (append ds (old ▸ es)))) (fill strict (each (one a_declarator)) (append ds (old ▸ es)) && true) e in
+      let (first, more) = both_fit (one a_declarator) ds (old ▸ es) (left (fill strict (each (one a_declarator)) (append ds (old ▸ es))) true filled) in
+      let (own, last) = first_fits (one a_declarator) old es more in
+      let all = append_fits (one a_declarator) ds (new ▸ es) first (more_fit (one a_declarator) new es (value_fits x value h own f) last) in
+      both (nat_le 1 (count (append ds (new ▸ es)))) (fill strict (each (one a_declarator)) (append ds (new ▸ es)) && true) (more_than_none ds (new ▸ es) (le-leb 1 (count (new ▸ es)) (omega arith))) (both (fill strict (each (one a_declarator)) (append ds (new ▸ es))) true all refl)
+
+  -- a statement, and what is left of it without the assignment
+  Leaves : Tree → Trees → Depth → Type 0
+  Leaves a left d = Fits expression a × AllFit (statement d) left
+
+  of_sequence : (a q : Tree) (qs : Trees) → Fits expression (sequence (a ▸ (q ▸ qs))) → Fits expression a × Fits expression (of_parts q qs)
+  of_sequence a q qs e = let (x, y) = first_fits expression a (q ▸ qs) (parts_fit a (q ▸ qs) e) in (x, of_parts_fits q qs y)
+
+  head_leaves : (h : ListHead) (a q : Tree) (qs : Trees) (d : Depth) → are_parts q qs ≡ true → Fits (statement d) (with_head h (sequence (a ▸ (q ▸ qs)))) → Leaves a (with_head h (of_parts q qs) ▸ none) d
+  unfolding Leaves
+  head_leaves Return a q qs d k e =
+      let (x, y) = of_sequence a q qs (of_return d (sequence (a ▸ (q ▸ qs))) e) in
+      (x, just d (return_statement (of_parts q qs)) (return_fits d (of_parts q qs) (parts_there q qs k) y))
+  head_leaves Throw a q qs d k e =
+      let (x, y) = of_sequence a q qs (of_throw d (sequence (a ▸ (q ▸ qs))) e) in
+      (x, just d (throw_statement (of_parts q qs)) (throw_fits d (of_parts q qs) y))
+  head_leaves (If u v) a q qs d k e =
+      let (f, b, c) = of_if d (sequence (a ▸ (q ▸ qs))) u v e in
+      let (x, y) = of_sequence a q qs f in
+      (x, just d (if_else (of_parts q qs) u v) (if_fits d (of_parts q qs) u v (y, b, c)))
+  head_leaves (Switch cases) a q qs d k e =
+      let (f, b) = and_parts (fits strict expression (sequence (a ▸ (q ▸ qs)))) (fits strict (many a_case) cases && true) e in
+      let (x, y) = of_sequence a q qs f in
+      (x, just d (switch (of_parts q qs) cases) (both (fits strict expression (of_parts q qs)) (fits strict (many a_case) cases && true) y b))
+  head_leaves (For u v w) a q qs d k e =
+      let (f, b) = and_parts (fits strict (one_or_absent an_init) (sequence (a ▸ (q ▸ qs)))) (loop_rest u v w) e in
+      let (x, y) = of_sequence a q qs f in
+      (x, just d (for_loop (of_parts q qs) u v w) (both (fits strict (one_or_absent an_init) (of_parts q qs)) (loop_rest u v w) (expression_taken strict (one_or_absent an_init) (of_parts q qs) tt y) b))
+
+  begun_leaves : (b : Beginning) (y : Name) (value : Tree) (d : Depth) → begins_well b ≡ true → Fits (statement d) (begun b (assigned y value)) → Leaves (assigned y value) (begun_without b) d
+  unfolding Leaves
+  begun_leaves Alone y value d k e = (of_expression d (assigned y value) e, refl)
+  begun_leaves (Init u v w) y value d k e =
+      let (f, b) = and_parts (fits strict (one_or_absent an_init) (assigned y value)) (loop_rest u v w) e in
+      (f, just d (for_loop absent u v w) (both (fits strict (one_or_absent an_init) absent) (loop_rest u v w) refl b))
+  begun_leaves (Before Statement q qs) y value d k e =
+      let (x, z) = of_sequence (assigned y value) q qs (of_expression d (sequence (assigned y value ▸ (q ▸ qs))) e) in
+      (x, just d (expression_statement (of_parts q qs)) (expression_fits d (of_parts q qs) z))
+  begun_leaves (Before (Heading h) q qs) y value d k e = head_leaves h (assigned y value) q qs d k e
+
+  begun_fit : (ds : Trees) (x y : Name) (es : Trees) (value : Tree) (b : Beginning) → declares_nothing value ≡ true → begins_well b ≡ true → Fitting (declaration Var (append ds (declarator (binding x) absent ▸ es)) ▸ (begun b (assigned y value) ▸ none)) (declaration Var (append ds (declarator (binding x) value ▸ es)) ▸ begun_without b)
+  unfolding Leaves
+  begun_fit ds x y es value b h k d e =
+      let old = append ds (declarator (binding x) absent ▸ es) in
+      let new = append ds (declarator (binding x) value ▸ es) in
+      let (f, g) = two_of d (declaration Var old) (begun b (assigned y value)) e in
+      let (a, left) = begun_leaves b y value d k g in
+      more_fit (statement d) (declaration Var new) (begun_without b) (declaration_anywhere strict d Var new ∙ values_fit ds x es value h (sym (declaration_anywhere strict d Var old) ∙ f) (of_assigned y value a)) left
+
   -- whichever row it is
 
   sequences_fit : (a b : Trees) → SequencesRow a b → Fitting a b
@@ -354,8 +426,9 @@ module _ (strict : Bool) where
 
   pub neighbours_fit : (o : Switches) (a b : Trees) → NeighbourRow o a b → Fitting a b
   neighbours_fit o a b (inl r) = stretch_fits o a b r
-  neighbours_fit o a b (inr (s, inl r)) = like r.shape r.written (guards_fit r.left r.right r.s r.u)
-  neighbours_fit o a b (inr (s, inr r)) = like r.shape r.written (λ d e. just d r.first (two_of d r.first (says r.saying r.e) e).0)
+  neighbours_fit o a b (inr (inr r)) = like r.shape r.written (begun_fit r.ds (resolved r.spelling r.symbol) (resolved r.target r.symbol) r.es r.value r.beginning r.plain r.parts)
+  neighbours_fit o a b (inr (inl (s, inl r))) = like r.shape r.written (guards_fit r.left r.right r.s r.u)
+  neighbours_fit o a b (inr (inl (s, inr r))) = like r.shape r.written (λ d e. just d r.first (two_of d r.first (says r.saying r.e) e).0)
 
 -- a list, with the stretch in it
 pub list_fits : (o : Switches) (n w : Tree) → InList (NeighbourRow o) n w → (strict : Bool) (s : Slot) → fits_place StatementList s ≡ true → fits strict s n ≡ true → fits strict s w ≡ true

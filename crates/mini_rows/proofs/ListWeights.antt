@@ -14,15 +14,15 @@ use Rattle.mini_model.specs.declared.seat.Seat.{Seat}
 use Rattle.mini_model.specs.declared.seat.StmtSeat.TheVariants as stmt_seat
 use Rattle.mini_model.specs.declared.shape.Shape.{Shape}
 use Rattle.mini_model.specs.declared.shape.Shape.TheVariants as shape
-use Rattle.mini_model.specs.Tree.{Tree, Trees, node, none, ◌▸◌, count, shape_of, listed, expression_statement, if_else, if_alone}
+use Rattle.mini_model.specs.Tree.{Tree, Trees, node, none, ◌▸◌, count, shape_of, absent, listed, expression_statement, if_else, if_alone}
 use Rattle.mini_model.specs.Paths.{append}
-use Rattle.mini_model.specs.Position.{seat_of_level, statement_expression_seat, if_test_seat, conditional_test_seat, whole_seat, not_operand_seat, left_operand_seat, right_operand_seat, branch_seat, passed_part_seat, part_seat, item_position}
+use Rattle.mini_model.specs.Position.{seat_of_level, argument_seat, statement_expression_seat, if_test_seat, conditional_test_seat, whole_seat, not_operand_seat, left_operand_seat, right_operand_seat, branch_seat, passed_part_seat, part_seat, item_position}
 use Rattle.mini_model.specs.Weight.{Outline, outline, outlines, one_chooses, is_parenthesized, commas_weight, declaring_weight, place_weight, weight, weights}
 use Rattle.mini_laws.specs.Weights.{counts_items}
 use Rattle.mini_laws.proofs.Seats.{is_inner, placed, placed_node, moved}
 use Rattle.mini_node.specs.Walks.{append_none}
 use Rattle.mini_rows.specs.Switches.{Switches}
-use Rattle.mini_rows.specs.Lists.{of_parts, is_one_part_shape, declares_nothing, are_parts, sequence, or_void, return_statement, throw_statement, is_unscoped, Head, Return, Throw, If, Switch, For, with_head, Row66Empty, Row66Joined, Row67, Row67Absent, Row67In, Row68, Row68Free, Row68Init, Row73, Row73Bare, Row76, Row79, SequencesRow, LoopRow, JoinRow, StretchRow, InList, ListRow, ListsLighter, Row74, Row75, Row78, block, alternate_of, bare_return, AtEnd, EndRow, NeighbourRow, Saying, AsStatement, AsReturn, AsThrow, says, Row77}
+use Rattle.mini_rows.specs.Lists.{of_parts, is_one_part_shape, declares_nothing, are_parts, sequence, or_void, return_statement, throw_statement, is_unscoped, Head, Return, Throw, If, Switch, For, with_head, Row66Empty, Row66Joined, Row67, Row67Absent, Row67In, Row68, Row68Free, Row68Init, Row73, Row73Bare, Row76, Row79, SequencesRow, LoopRow, JoinRow, StretchRow, InList, ListRow, ListsLighter, Row74, Row75, Row78, block, alternate_of, bare_return, AtEnd, EndRow, NeighbourRow, Saying, AsStatement, AsReturn, AsThrow, says, Row77, declaration, resolved, binding, declarator, assigned, Holder, Statement, Heading, holding, Beginning, Alone, Init, Before, begun, begun_without, Row70}
 use Rattle.mini_rows.specs.ListLaws.{ListsLighten}
 
 -- the statements of a list, wherever in it they stand
@@ -310,6 +310,83 @@ says_weighs AsThrow e = omega arith
 row_77 : (a b : Trees) → Row77 a b → Falls a b
 row_77 a b r = let more = says_weighs r.saying r.e in replaced a _ b _ r.shape r.written (record { lighter = omega (arith, more); chosen = inl refl; some = λ e. omega (arith, e) })
 
+-- `var a; a = b;`
+
+-- what is left of a sequence weighs no more alone
+flat_marks : (b u : Bool) (h : Shape) (os : List Outline) → place_weight (Expr (flat b u)) h os ≤ place_weight (Expr passed_part_seat) h os + 0
+flat_marks b u shape.SequenceExpression os = omega arith
+flat_marks b u (shape.LogicalExpression Or) os = omega arith
+flat_marks b u (shape.LogicalExpression And) os = omega arith
+flat_marks b u (shape.LogicalExpression Coalesce) os = omega arith
+flat_marks b u (shape.BinaryExpression binary.BitwiseOr) os = omega arith
+flat_marks b u (shape.BinaryExpression o) os = omega arith
+flat_marks b u (shape.NumericLiteral (pos n)) os = omega arith
+flat_marks b u (shape.NumericLiteral (negsuc n)) os = omega arith
+flat_marks b u h os = omega arith
+
+left_falls : (b u : Bool) (q : Tree) (qs : Trees) → weight (Expr (flat b u)) (of_parts q qs) ≤ parts_weight q qs
+left_falls b u q none = let falls = placed 0 (flat b u) passed_part_seat refl (flat_marks b u) q in omega (arith, falls)
+left_falls b u q (c ▸ qs) = let same = sequence_is b u q (c ▸ qs) in omega (arith, same)
+
+first_falls : (b u : Bool) (p q : Tree) (qs : Trees) → weight (Expr (flat b u)) (of_parts q qs) + weight (Expr passed_part_seat) p + 2 ≤ weight (Expr (flat b u)) (sequence (p ▸ (q ▸ qs)))
+first_falls b u p q qs =
+    let left = left_falls b u q qs in
+    let whole = sequence_is b u p (q ▸ qs) in
+    omega (arith, left, whole)
+
+held_falls : (h : Holder) (p q : Tree) (qs : Trees) → total (holding h (of_parts q qs) ▸ none) + weight (Expr passed_part_seat) p + 2 ≤ total (holding h (sequence (p ▸ (q ▸ qs))) ▸ none)
+held_falls Statement p q qs = let falls = first_falls false true p q qs in omega (arith, falls)
+held_falls (Heading Return) p q qs = let falls = first_falls false false p q qs in omega (arith, falls)
+held_falls (Heading Throw) p q qs = let falls = first_falls false false p q qs in omega (arith, falls)
+held_falls (Heading (If u v)) p q qs = let falls = first_falls true false p q qs in omega (arith, falls)
+held_falls (Heading (Switch cases)) p q qs = let falls = first_falls false false p q qs in omega (arith, falls)
+held_falls (Heading (For u v w)) p q qs = let falls = first_falls false true p q qs in omega (arith, falls)
+
+-- an assignment weighs its value, its name and its sign
+assigned_weighs : (x : List ℕ) (k : ℕ) (value : Tree) → weight (Expr passed_part_seat) (assigned (resolved x k) value) ≡ weight (Expr argument_seat) value + 4
+assigned_weighs x k value = omega arith
+
+begun_falls : (b : Beginning) (x : List ℕ) (k : ℕ) (value : Tree) → total (begun_without b) + weight (Expr argument_seat) value + 3 ≤ total (begun b (assigned (resolved x k) value) ▸ none)
+begun_falls Alone x k value = omega arith
+begun_falls (Init u v w) x k value = omega arith
+begun_falls (Before h q qs) x k value =
+    let falls = held_falls h (assigned (resolved x k) value) q qs in
+    let weighs = assigned_weighs x k value in
+    omega (arith, falls, weighs)
+
+commas_there : (ds : Trees) (d c : Tree) (es : Trees) → commas_weight (outlines (append ds (d ▸ es))) ≡ commas_weight (outlines (append ds (c ▸ es)))
+commas_there none d c none = refl
+commas_there none d c (e ▸ es) = refl
+commas_there (t ▸ none) d c es = let rest = commas_there none d c es in omega (arith, rest)
+commas_there (t ▸ (u ▸ ds)) d c es = let rest = commas_there (u ▸ ds) d c es in omega (arith, rest)
+
+at_most : (b : Bool) → (if b then 0 else 2) ≤ 2
+at_most true = omega arith
+at_most false = omega arith
+
+value_rises : (x : List ℕ) (k : ℕ) (value : Tree) → weight Elsewhere (declarator (binding (resolved x k)) value) ≤ weight Elsewhere (declarator (binding (resolved x k)) absent) + weight (Expr argument_seat) value + 2
+value_rises x k value = let sign = at_most (outline value).absent in omega (arith, sign)
+
+declared_rises : (ds : Trees) (x : List ℕ) (k : ℕ) (es : Trees) (value : Tree) → total (declaration Var (append ds (declarator (binding (resolved x k)) value ▸ es)) ▸ none) ≤ total (declaration Var (append ds (declarator (binding (resolved x k)) absent ▸ es)) ▸ none) + weight (Expr argument_seat) value + 2
+declared_rises ds x k es value =
+    let old = declarator (binding (resolved x k)) absent in
+    let new = declarator (binding (resolved x k)) value in
+    omega (
+      arith,
+      value_rises x k value,
+      commas_there ds new old es,
+      comma_list (append ds (new ▸ es)),
+      comma_list (append ds (old ▸ es)),
+      declarators_append ds (new ▸ es),
+      declarators_append ds (old ▸ es),
+    )
+
+row_70 : (a b : Trees) → Row70 a b → Falls a b
+row_70 a b r =
+    let begins = begun_falls r.beginning r.target r.symbol r.value in
+    let rises = declared_rises r.ds r.spelling r.symbol r.es r.value in
+    replaced a _ b _ r.shape r.written (record { lighter = omega (arith, begins, rises); chosen = inl refl; some = λ e. omega (arith, e) })
+
 sequences_fall : (a b : Trees) → SequencesRow a b → Falls a b
 sequences_fall a b (inl r) = row_66_joined a b r
 sequences_fall a b (inr (inl r)) = row_73_return a b r
@@ -336,8 +413,9 @@ stretch_falls o a b (inr (inr (inr r))) = sequences_fall a b r.1
 
 neighbours_fall : (o : Switches) (a b : Trees) → NeighbourRow o a b → Falls a b
 neighbours_fall o a b (inl r) = stretch_falls o a b r
-neighbours_fall o a b (inr (s, inl r)) = row_74 a b r
-neighbours_fall o a b (inr (s, inr r)) = row_77 a b r
+neighbours_fall o a b (inr (inl (s, inl r))) = row_74 a b r
+neighbours_fall o a b (inr (inl (s, inr r))) = row_77 a b r
+neighbours_fall o a b (inr (inr r)) = row_70 a b r
 
 -- in a list
 

@@ -1,5 +1,5 @@
 -- A function or class expression without a name that nothing mentions keeps what else a program has to keep.
-use Rattle.std.specs.Prelude.{ℕ, zero, suc, ◌+◌, ◌≤◌, ◌≡◌, ◌⊎◌, refl, ◌&&◌, Bool, true, false, List, [], ◌∷◌, ◌++◌, Contains, Option, Some, None, if◌then◌else◌}
+use Rattle.std.specs.Prelude.{ℕ, zero, suc, ◌+◌, ◌≤◌, ◌≡◌, ◌⊎◌, refl, ◌&&◌, Bool, true, false, List, [], ◌∷◌, Contains, Option, None, if◌then◌else◌}
 use Rattle.std.proofs.Common.{ap, ◌∙◌, sym, subst, inl, inr, true≢false, arith}
 use Rattle.std.proofs.lemmas.Bool.{eq-eqb}
 use Rattle.std.proofs.lemmas.List.Elements.{Contains-append_right}
@@ -10,61 +10,57 @@ use Rattle.mini_model.specs.declared.place.Position.TheVariants.{Expr}
 use Rattle.mini_model.specs.declared.seat.Seat.{Seat}
 use Rattle.mini_model.specs.declared.shape.Shape.{Shape}
 use Rattle.mini_model.specs.declared.shape.Shape.TheVariants as shape
-use Rattle.mini_model.specs.Tree.{Tree, Trees, node, none, ◌▸◌, absent, shape_of, is_absent}
-use Rattle.mini_accept.specs.WellShaped.{Depth, in_module, in_body, nested, Class, a_statement, a_method, an_init, an_arrow_body, an_expression, a_link, an_argument, a_key, a_private_or_key, an_inner_key, a_default_export, a_parameter, a_pattern_rest, a_function_body, a_class_body, a_binding, an_inner, Slot, one, one_or_absent, many, many_and_rest, filling_by, these, filling, statement_slots, has_its_number, has_plain_fields, is_whole, is_strict_in, fits, fill, is_function_body, spelling, has_optional, is_not_positive_number}
+use Rattle.mini_model.specs.Tree.{Tree, Trees, node, none, ◌▸◌, absent, shape_of}
+use Rattle.mini_accept.specs.WellShaped.{Depth, in_module, in_body, nested, Class, a_statement, a_method, an_init, an_arrow_body, an_expression, a_link, an_argument, a_key, a_private_or_key, an_inner_key, a_default_export, a_parameter, a_pattern_rest, a_function_body, a_class_body, a_binding, an_inner, Slot, one, one_or_absent, many_and_rest, filling_by, these, filling, statement_slots, has_its_number, has_plain_fields, is_whole, is_strict_in, fits, fill}
 use Rattle.mini_laws.specs.declared.names.Binding.{Binding}
 use Rattle.mini_laws.specs.declared.names.Declared.{Declared}
 use Rattle.mini_laws.specs.declared.names.Declared.TheVariants as declares
 use Rattle.mini_laws.specs.declared.names.Targets.{Targets}
 use Rattle.mini_laws.specs.declared.names.Use.{Use}
-use Rattle.mini_laws.specs.declared.names.Use.TheVariants.{Read}
 use Rattle.mini_laws.specs.DeclaredNames.{names_of, body_names, with_names, has_inner}
 use Rattle.mini_laws.specs.Early.{Path, body_declarations, declarations, scope_declarations, early_names, targets_of, early_jumps, is_loop}
 use Rattle.mini_laws.specs.Edits.{Kept}
 use Rattle.mini_laws.specs.Resolved.{Environment}
 use Rattle.mini_laws.specs.Scopes.{opened, use_of, scopes_by}
-use Rattle.mini_laws.specs.Scoped.{Scoped, AllScoped, Unmentioned, AllUnmentioned}
+use Rattle.mini_laws.specs.Scoped.{Scoped, AllUnmentioned}
 use Rattle.mini_laws.specs.Symbols.{declared as declared_in, times, is_same}
 use Rattle.mini_laws.specs.Value.{Variable, nothing, variable_eq, variable_by, is_in, choose}
 use Rattle.mini_laws.specs.Value.{Declared as Symbol}
 use Rattle.mini_laws.specs.State.{State, Fixed, Writable, Constant, KeepsOld}
 use Rattle.mini_laws.specs.State.{Environment as World}
 use Rattle.mini_laws.specs.Demand.{Demand, As, Callee, OfType, Deleted, AnEntry, Request}
-use Rattle.mini_laws.specs.Fits.{Fits}
 use Rattle.mini_laws.specs.Fixity.{stricter, fixed_by, fixed_by_any}
 use Rattle.mini_laws.specs.Naming.{summary}
 use Rattle.mini_laws.specs.Step.{step, means}
-use Rattle.mini_laws.specs.Same.{Same}
 use Rattle.mini_laws.specs.Rows.{SameAt}
 use Rattle.mini_laws.specs.Substitution.{alone}
-use Rattle.mini_laws.specs.Bodies.{Around, Body, bodies, arrow_kind}
+use Rattle.mini_laws.specs.Bodies.{Around, bodies, arrow_kind}
 use Rattle.mini_laws.proofs.Congruent.{weaker, no_within}
 use Rattle.mini_laws.proofs.Drops.{all_dropped}
 use Rattle.mini_laws.proofs.Rows.{equal_same}
 use Rattle.mini_kept.specs.Without.{BodiesWithout}
 use Rattle.mini_kept.specs.Carried.{numbers}
 use Rattle.mini_kept.specs.Declaring.{declared}
-use Rattle.mini_kept.specs.Frames.{showing, shown_from, own, is_declaration, Frame, frames, frames_from, property_below}
+use Rattle.mini_kept.specs.Frames.{showing, shown_from, is_declaration, Frame, frames, frames_from, property_below}
 use Rattle.mini_kept.specs.KeepsFrames.{is_body_slot, IsShownAlike, NoPort, NoDeclaration, KeepsFunction}
 use Rattle.mini_kept.specs.KeepsLoosely.{KeepsLoosely}
 use Rattle.mini_kept.specs.KeepsNames.{Keeps, unplaced, is_rewritten_place, count_of}
-use Rattle.mini_kept.specs.KeepsShapes.{is_default, AskedAlike}
+use Rattle.mini_kept.specs.KeepsShapes.{AskedAlike}
 use Rattle.mini_kept.specs.Lifted.{is_piece, KeepsRoot}
-use Rattle.mini_kept.specs.Loosely.{symbol, Stays, Drops, LawfulLoosely}
+use Rattle.mini_kept.specs.Loosely.{symbol, Stays, Drops}
 use Rattle.mini_kept.specs.Placed.{fits_place, is_statement_list}
 use Rattle.mini_kept.specs.SameNames.{is_among}
-use Rattle.mini_kept.specs.ShownFrames.{no_key, gone_from, FrameShown, FramesShown}
+use Rattle.mini_kept.specs.ShownFrames.{no_key, gone_from, FramesShown}
 use Rattle.mini_kept.proofs.BodyLists.{kept_itself}
-use Rattle.mini_kept.proofs.Bools.{left, both}
 use Rattle.mini_kept.proofs.Expressions.{TakesExpressionIn, TakesExpression, refused_here}
 use Rattle.mini_kept.proofs.FrameRows.{expression_slot}
 use Rattle.mini_kept.proofs.InOrder.{in_order}
 use Rattle.mini_kept.proofs.ShownFrames.{all_themselves, shown_themselves, one_shown, each_shown}
 use Rattle.mini_kept.proofs.WithoutLists.{from_kept}
 use Rattle.mini_rows.specs.Declarations.{binding}
-use Rattle.mini_rows.specs.Names.{Nameable, AFunction, AClass, shape_by, inside_of, nameable, Row62, NameRow, NameContracts, NamesAreLawful}
+use Rattle.mini_rows.specs.Names.{Nameable, AFunction, AClass, shape_by, inside_of, nameable, Row62, NameContracts, NamesAreLawful}
 use Rattle.mini_rows.specs.Switches.{Switches, let_go}
-use Rattle.mini_rows.specs.Unused.{any_names, resolved}
+use Rattle.mini_rows.specs.Unused.{resolved}
 use Rattle.mini_rows.proofs.UnusedNames.{all_unmentioned}
 
 -- ---- it does the same

@@ -6,9 +6,8 @@ use Rattle.mini_model.specs.declared.place.Position.TheVariants.{Expr}
 use Rattle.mini_model.specs.declared.seat.Seat.{Seat}
 use Rattle.mini_model.specs.Tree.{Tree, absent}
 use Rattle.mini_model.specs.Weight.{outline, weight}
-use Rattle.mini_laws.specs.Weights.{Lightens}
 use Rattle.mini_rows.specs.Declarations.{binding}
-use Rattle.mini_rows.specs.Names.{Nameable, AFunction, AClass, nameable, Row62, NameRow, NameContracts, NamesLighter, NamesLighten}
+use Rattle.mini_rows.specs.Names.{Nameable, AFunction, AClass, nameable, NameRow, NamesLighter, NamesLighten}
 use Rattle.mini_rows.specs.Switches.{Switches}
 use Rattle.mini_rows.specs.Unused.{resolved}
 

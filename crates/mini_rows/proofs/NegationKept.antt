@@ -1,5 +1,5 @@
 -- The whole negation of an expression may be written for it as a part.
-use Rattle.std.proofs.Common.{◌≡◌, ℕ, zero, Bool, true, false, [], ◌∷◌, Option, Some, None, refl, sym, ap, ◌∙◌, subst, arith}
+use Rattle.std.proofs.Common.{◌≡◌, ℕ, zero, Bool, true, false, [], Option, Some, None, refl, sym, ◌∙◌, subst, arith}
 use Rattle.std.specs.Prelude.{◌≤◌, not, ◌&&◌, nat_lt, if◌then◌else◌}
 use Rattle.std.proofs.lemmas.Bool.{and_parts}
 use Rattle.mini_model.specs.declared.operator.BinaryOperator.{BinaryOperator}
@@ -14,7 +14,7 @@ use Rattle.mini_model.specs.Position.{left_operand_seat, right_operand_seat, bra
 use Rattle.mini_model.specs.declared.place.Position.TheVariants.{Expr}
 use Rattle.mini_model.specs.Terms.{not_of}
 use Rattle.mini_model.specs.Weight.{weight}
-use Rattle.mini_accept.specs.WellShaped.{an_expression, one, fits}
+use Rattle.mini_accept.specs.WellShaped.{fits}
 use Rattle.mini_laws.specs.declared.names.Use.TheVariants.{Read}
 use Rattle.mini_laws.specs.DeclaredNames.{has_inner}
 use Rattle.mini_laws.specs.Scopes.{scopes_by}

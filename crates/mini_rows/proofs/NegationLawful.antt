@@ -1,5 +1,5 @@
 -- What the row of negations writes makes a whole lighter, and keeps all that a program has to keep.
-use Rattle.std.proofs.Common.{◌≡◌, zero, Bool, true, false, [], Option, Some, None, refl, sym, ap, subst, ◌∙◌, inl, true≢false}
+use Rattle.std.proofs.Common.{◌≡◌, zero, Bool, true, [], Option, Some, None, refl, sym, ap, subst, ◌∙◌, inl, true≢false}
 use Rattle.std.specs.Prelude.{not, ◌||◌, is_some, codes}
 use Rattle.mini_model.specs.declared.operator.BinaryOperator.{BinaryOperator}
 use Rattle.mini_model.specs.declared.operator.BinaryOperator.TheVariants.{LessThan, GreaterThan}

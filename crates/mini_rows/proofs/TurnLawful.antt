@@ -1,11 +1,11 @@
 -- What a row that turns a test writes keeps all that a program has to keep.
-use Rattle.std.specs.Prelude.{◌≡◌, ◌⊎◌, refl, ◌&&◌, Bool, true, false, List, [], ◌++◌, Contains, None}
+use Rattle.std.specs.Prelude.{◌≡◌, ◌⊎◌, refl, ◌&&◌, Bool, true, false, [], ◌++◌, Contains, None}
 use Rattle.std.proofs.Common.{◌∙◌, ap, sym, subst, inl, inr, true≢false}
 use Rattle.std.proofs.lemmas.List.{append-nil}
 use Rattle.std.proofs.lemmas.List.Elements.{Contains-append_left, Contains-append_right, Contains-append_cases}
 use Rattle.mini_model.specs.declared.name.Name.{Name}
 use Rattle.mini_model.specs.declared.place.Position.{Position}
-use Rattle.mini_model.specs.declared.place.Position.TheVariants.{Expr, Stmt, StatementList}
+use Rattle.mini_model.specs.declared.place.Position.TheVariants.{Expr, Stmt}
 use Rattle.mini_model.specs.declared.seat.Seat.{Seat}
 use Rattle.mini_model.specs.declared.seat.StmtSeat.{StmtSeat}
 use Rattle.mini_model.specs.declared.shape.Shape.TheVariants as shape
@@ -13,7 +13,6 @@ use Rattle.mini_model.specs.Tree.{Tree, node, none, ◌▸◌, shape_of, is_abse
 use Rattle.mini_model.specs.Position.{if_test_seat}
 use Rattle.mini_accept.specs.WellShaped.{Depth, a_statement, a_default_export, Slot, one, many, fits, is_function_body, spelling, has_optional, is_not_positive_number}
 use Rattle.mini_laws.specs.Value.{Variable}
-use Rattle.mini_laws.specs.State.{Writable}
 use Rattle.mini_laws.specs.Fixity.{stricter, fixed_by}
 use Rattle.mini_laws.specs.Bodies.{Around, bodies, arrow_kind}
 use Rattle.mini_kept.specs.AlikeBodies.{BodiesKept}

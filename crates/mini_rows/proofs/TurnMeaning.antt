@@ -1,5 +1,5 @@
 -- What a row that turns a test writes means the same.
-use Rattle.std.proofs.Common.{◌≡◌, Bool, true, false, [], Option, None, refl, sym, ap, ◌∙◌, subst}
+use Rattle.std.proofs.Common.{◌≡◌, Bool, true, false, [], None, refl, sym, ap, ◌∙◌, subst}
 use Rattle.mini_model.specs.declared.place.Position.{Position}
 use Rattle.mini_model.specs.declared.place.Position.TheVariants.{Expr, Stmt}
 use Rattle.mini_model.specs.declared.seat.Seat.{Seat}
@@ -15,7 +15,7 @@ use Rattle.mini_laws.specs.Rewritten.{MeansSame}
 use Rattle.mini_laws.proofs.Negation.{equality_turns}
 use Rattle.mini_laws.proofs.Rows.{equal_same, row_40}
 use Rattle.mini_rows.specs.Spellings.{binary}
-use Rattle.mini_rows.specs.Turns.{unequal, equal, Row40Unequal, Row83Swapped, TurnRow, TurnContracts}
+use Rattle.mini_rows.specs.Turns.{unequal, equal, Row40Unequal, TurnRow, TurnContracts}
 use Rattle.mini_rows.proofs.ListStatements.{if_is}
 use Rattle.mini_rows.proofs.SpellAlike.{SameTree, first_same}
 use Rattle.mini_rows.proofs.BranchMeaning.{SameStatement, statement_same, equal_statement, replaced, not_test, by_negated}

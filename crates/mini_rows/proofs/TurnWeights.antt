@@ -1,6 +1,6 @@
 -- What a row that turns a test writes is lighter in every place.
-use Rattle.std.proofs.Common.{◌≡◌, ℕ, ◌+◌, ◌<◌, ◌≤◌, Bool, true, false, List, [], refl, sym, ap, ◌∙◌, inl, inr, true≢false, arith}
-use Rattle.std.specs.Prelude.{◌⊎◌, ◌||◌, not, pos, negsuc, if◌then◌else◌}
+use Rattle.std.proofs.Common.{◌≡◌, ℕ, ◌+◌, ◌<◌, ◌≤◌, Bool, true, false, List, refl, sym, ap, ◌∙◌, inl, inr, true≢false, arith}
+use Rattle.std.specs.Prelude.{not, pos, negsuc, if◌then◌else◌}
 use Rattle.mini_model.specs.declared.operator.BinaryOperator.TheVariants as binary_operator
 use Rattle.mini_model.specs.declared.operator.LogicalOperator.TheVariants.{Or, And, Coalesce}
 use Rattle.mini_model.specs.declared.place.Position.{Position}
@@ -17,8 +17,8 @@ use Rattle.mini_laws.specs.Weights.{Lightens}
 use Rattle.mini_laws.proofs.Seats.{placed}
 use Rattle.mini_rows.specs.Lists.{block}
 use Rattle.mini_rows.specs.Spellings.{binary}
-use Rattle.mini_rows.specs.Branches.{has_else, is_other_branch}
-use Rattle.mini_rows.specs.Turns.{unequal, equal, is_unchained, is_block_shape, may_choose, one_chooses, KeepsBraces, Row40Unequal, Row83Swapped, TurnRow, TurnContracts, TurnsLighter}
+use Rattle.mini_rows.specs.Branches.{is_other_branch}
+use Rattle.mini_rows.specs.Turns.{unequal, equal, is_unchained, is_block_shape, may_choose, one_chooses, KeepsBraces, TurnRow, TurnContracts, TurnsLighter}
 use Rattle.mini_rows.proofs.BranchWeights.{absent_is, chooses_is, other_present}
 
 abbrev unless : Bool → ℕ → ℕ

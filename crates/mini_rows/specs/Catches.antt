@@ -7,7 +7,6 @@ use Rattle.mini_model.specs.declared.shape.Shape.TheVariants as shape
 use Rattle.mini_model.specs.Tree.{Tree, node, none, ◌▸◌, absent}
 use Rattle.mini_model.specs.Weight.{weight}
 use Rattle.mini_laws.specs.ScopeList.{has_eval}
-use Rattle.mini_laws.specs.Weights.{Lightens}
 use Rattle.mini_kept.specs.Loosely.{LawfulLoosely}
 use Rattle.mini_rows.specs.Declarations.{binding}
 use Rattle.mini_rows.specs.Unused.{names, resolved}

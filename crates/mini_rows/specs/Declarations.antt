@@ -1,5 +1,5 @@
 -- Rows of declarations: each is a shape and what is written in its place, with the JavaScript before and after.
-use Rattle.std.specs.Prelude.{◌≡◌, ◌<◌, [], ◌∷◌}
+use Rattle.std.specs.Prelude.{◌≡◌, ◌<◌, []}
 use Rattle.mini_model.specs.declared.kind.VariableDeclarationKind.TheVariants.{Let}
 use Rattle.mini_model.specs.declared.name.Name.{Name}
 use Rattle.mini_model.specs.declared.place.Position.{Position}
@@ -9,15 +9,8 @@ use Rattle.mini_model.specs.Tree.{Tree, Trees, node, none, ◌▸◌, absent}
 use Rattle.mini_model.specs.Paths.{append}
 use Rattle.mini_model.specs.Weight.{weight}
 use Rattle.mini_rows.specs.Lists.{declaration, for_loop, InList}
+pub use Rattle.mini_rows.specs.Lists.{binding, declarator}
 use Rattle.mini_rows.specs.Spellings.{IsUndefined}
-
--- a name that is declared
-abbrev pub binding : Name → Tree
-binding x = node shape.BindingIdentifier (x ∷ []) 0 none
-
--- a declarator: what it binds, and an initializer, which may be absent
-abbrev pub declarator : Tree → Tree → Tree
-declarator id init = node shape.VariableDeclarator [] 0 (id ▸ (init ▸ none))
 
 -- 61: `let x = undefined` and `let x = void 0` become `let x`
 pub record Row61 (n w : Tree) : Type 0 where

@@ -1,14 +1,16 @@
 -- Rows of lists of statements: each reads some neighbours in a list and writes others in their place.
-use Rattle.std.specs.Prelude.{◌≡◌, ◌⊎◌, ◌<◌, ℕ, zero, suc, Bool, true, false, not, ◌&&◌, ◌||◌, nat_eq, pos, List, [], ◌∷◌, if◌then◌else◌}
+use Rattle.std.specs.Prelude.{◌≡◌, ◌⊎◌, ◌<◌, ℕ, zero, suc, Bool, true, false, not, ◌&&◌, ◌||◌, nat_eq, pos, List, [], ◌∷◌, Some, if◌then◌else◌}
 use Rattle.mini_model.specs.declared.kind.VariableDeclarationKind.{VariableDeclarationKind}
 use Rattle.mini_model.specs.declared.kind.VariableDeclarationKind.TheVariants.{Var}
+use Rattle.mini_model.specs.declared.name.Name.{Name}
+use Rattle.mini_model.specs.declared.operator.AssignmentOperator.TheVariants.{Assign}
 use Rattle.mini_model.specs.declared.operator.LogicalOperator.TheVariants.{Or}
 use Rattle.mini_model.specs.declared.operator.UnaryOperator.TheVariants.{Void, LogicalNot}
 use Rattle.mini_model.specs.declared.shape.Shape.{Shape}
 use Rattle.mini_model.specs.declared.shape.Shape.TheVariants as shape
 use Rattle.mini_model.specs.declared.place.Position.{Position}
 use Rattle.mini_model.specs.declared.place.Position.TheVariants.{StatementList, BodyList}
-use Rattle.mini_model.specs.Tree.{Tree, Trees, node, none, ◌▸◌, count, leaf, absent, listed, unary, is_absent, shape_of, children, child_or_absent, empty_statement, expression_statement, if_else, if_alone, conditional, negation, logical}
+use Rattle.mini_model.specs.Tree.{Tree, Trees, node, none, ◌▸◌, count, leaf, absent, listed, unary, is_absent, shape_of, children, child_or_absent, empty_statement, expression_statement, identifier, if_else, if_alone, conditional, negation, logical}
 use Rattle.mini_model.specs.Paths.{append}
 use Rattle.mini_model.specs.Weight.{weight}
 use Rattle.mini_rows.specs.Switches.{Switches}
@@ -37,6 +39,22 @@ for_loop init test update body = node shape.ForStatement [] 0 (init ▸ (test �
 
 abbrev pub declaration : VariableDeclarationKind → Trees → Tree
 declaration k ds = node (shape.VariableDeclaration k) [] 0 (listed ds ▸ none)
+
+-- a name with its symbol
+abbrev pub resolved : List ℕ → ℕ → Name
+resolved s k = record { spelling = s; symbol = Some (record { 0 = k }) }
+
+-- a name that is declared
+abbrev pub binding : Name → Tree
+binding x = node shape.BindingIdentifier (x ∷ []) 0 none
+
+-- a declarator: what it binds, and an initializer, which may be absent
+abbrev pub declarator : Tree → Tree → Tree
+declarator id init = node shape.VariableDeclarator [] 0 (id ▸ (init ▸ none))
+
+-- `x = b`
+abbrev pub assigned : Name → Tree → Tree
+assigned x b = node (shape.AssignmentExpression Assign) [] 0 (identifier x ▸ (b ▸ none))
 
 -- `void 0`
 abbrev pub void_zero : Tree
@@ -367,6 +385,64 @@ pub record Row77 (a b : Trees) : Type 0 where
   pub shape : a ≡ first ▸ (says saying e ▸ none)
   pub written : b ≡ first ▸ none
 
+-- a declarator without an initializer
+abbrev pub is_declarator_shape : Shape → Bool
+is_declarator_shape shape.VariableDeclarator = true
+is_declarator_shape _ = false
+
+abbrev pub is_bare_declarator : Tree → Bool
+is_bare_declarator d = is_declarator_shape (shape_of d) && lacks_initializer d
+
+abbrev pub are_bare_declarators : Trees → Bool
+are_bare_declarators none = true
+are_bare_declarators (d ▸ ds) = is_bare_declarator d && are_bare_declarators ds
+
+-- what holds an expression that is evaluated first: `e;`, or a head
+pub data Holder : Type 0 where
+  Statement : Holder
+  Heading : Head → Holder
+
+abbrev pub holding : Holder → Tree → Tree
+holding Statement e = expression_statement e
+holding (Heading h) e = with_head h e
+
+-- how an assignment begins a statement: it is all of `e;` or of the expression that a `for` begins with, or the first part of a
+-- sequence in such a statement or in a head
+pub data Beginning : Type 0 where
+  Alone : Beginning
+  Init : Tree → Tree → Tree → Beginning
+  Before : Holder → Tree → Trees → Beginning
+
+abbrev pub begun : Beginning → Tree → Tree
+begun Alone a = expression_statement a
+begun (Init u v w) a = for_loop a u v w
+begun (Before h q qs) a = holding h (sequence (a ▸ (q ▸ qs)))
+
+-- and the statement without it
+abbrev pub begun_without : Beginning → Trees
+begun_without Alone = none
+begun_without (Init u v w) = for_loop absent u v w ▸ none
+begun_without (Before h q qs) = holding h (of_parts q qs) ▸ none
+
+abbrev pub begins_well : Beginning → Bool
+begins_well (Before h q qs) = are_parts q qs
+begins_well _ = true
+
+-- 70: `var a, c; a = b;` becomes `var a = b, c;`, and `var a; return a = b, d;` becomes `var a = b; return d;`
+pub record Row70 (a b : Trees) : Type 0 where
+  pub ds : Trees
+  pub spelling : List ℕ
+  pub symbol : ℕ
+  pub es : Trees
+  pub target : List ℕ
+  pub value : Tree
+  pub beginning : Beginning
+  pub bare : are_bare_declarators es ≡ true
+  pub plain : declares_nothing value ≡ true
+  pub parts : begins_well beginning ≡ true
+  pub shape : a ≡ declaration Var (append ds (declarator (binding (resolved spelling symbol)) absent ▸ es)) ▸ (begun beginning (assigned (resolved target symbol) value) ▸ none)
+  pub written : b ≡ declaration Var (append ds (declarator (binding (resolved spelling symbol)) value ▸ es)) ▸ begun_without beginning
+
 -- Rows at the end of a list after which a jump would go where the list does: a function's body, after which it returns
 
 -- 78: the last jump goes
@@ -427,7 +503,7 @@ GuardsRow o a b = (o.sequences ≡ true) × (Row74 a b ⊎ Row77 a b)
 
 -- all of them
 abbrev pub NeighbourRow : Switches → Trees → Trees → Type 0
-NeighbourRow o a b = StretchRow o a b ⊎ GuardsRow o a b
+NeighbourRow o a b = StretchRow o a b ⊎ (GuardsRow o a b ⊎ Row70 a b)
 
 -- some neighbours in a list, and others in their place
 pub record InList (R : Trees → Trees → Type 0) (n w : Tree) : Type 0 where

@@ -2,16 +2,14 @@
 use Rattle.std.specs.Prelude.{◌≡◌, refl, ◌<◌, ℕ, zero, Bool, true, false, not, ◌&&◌, ◌||◌, List, [], Option, Some, None, is_some, codes, nat_lt, if◌then◌else◌}
 use Rattle.mini_model.specs.declared.operator.BinaryOperator.{BinaryOperator}
 use Rattle.mini_model.specs.declared.operator.BinaryOperator.TheVariants.{LessThan, LessEqualThan, GreaterThan}
-use Rattle.mini_model.specs.declared.operator.LogicalOperator.{LogicalOperator}
 use Rattle.mini_model.specs.declared.operator.LogicalOperator.TheVariants.{Or, And}
 use Rattle.mini_model.specs.declared.operator.UnaryOperator.{UnaryOperator}
 use Rattle.mini_model.specs.declared.operator.UnaryOperator.TheVariants.{Typeof}
 use Rattle.mini_model.specs.declared.place.Position.{Position}
 use Rattle.mini_model.specs.declared.place.Position.TheVariants.{Expr}
 use Rattle.mini_model.specs.declared.seat.Seat.{Seat}
-use Rattle.mini_model.specs.declared.shape.Shape.{Shape}
 use Rattle.mini_model.specs.declared.shape.Shape.TheVariants as shape
-use Rattle.mini_model.specs.Tree.{Tree, Trees, node, none, ◌▸◌, shape_of, unary, negation, logical}
+use Rattle.mini_model.specs.Tree.{Tree, Trees, node, none, ◌▸◌, unary, negation, logical}
 use Rattle.mini_model.specs.Position.{left_operand_seat, right_operand_seat, branch_seat}
 use Rattle.mini_model.specs.Terms.{not_of}
 use Rattle.mini_model.specs.Weight.{weight, same_text}

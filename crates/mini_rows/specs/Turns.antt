@@ -7,7 +7,7 @@ use Rattle.mini_model.specs.declared.place.Position.{Position}
 use Rattle.mini_model.specs.declared.place.Position.TheVariants.{Expr, Stmt}
 use Rattle.mini_model.specs.declared.shape.Shape.{Shape}
 use Rattle.mini_model.specs.declared.shape.Shape.TheVariants as shape
-use Rattle.mini_model.specs.Tree.{Tree, Trees, node, none, ◌▸◌, shape_of, negation, conditional, if_else}
+use Rattle.mini_model.specs.Tree.{Tree, Trees, none, ◌▸◌, shape_of, negation, conditional, if_else}
 use Rattle.mini_model.specs.Weight.{weight}
 use Rattle.mini_rows.specs.Lists.{block}
 use Rattle.mini_rows.specs.Spellings.{binary}

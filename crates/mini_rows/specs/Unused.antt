@@ -1,5 +1,5 @@
 -- Rows of names that nothing mentions: each is a shape and what is written in its place, with the JavaScript before and after.
-use Rattle.std.specs.Prelude.{◌≡◌, ◌<◌, ◌⊎◌, ◌||◌, ◌&&◌, not, ℕ, Bool, true, false, List, [], ◌∷◌, Some}
+use Rattle.std.specs.Prelude.{◌≡◌, ◌<◌, ◌⊎◌, ◌||◌, ◌&&◌, not, ℕ, Bool, true, false, List, [], ◌∷◌}
 use Rattle.mini_model.specs.declared.kind.VariableDeclarationKind.{VariableDeclarationKind}
 use Rattle.mini_model.specs.declared.kind.VariableDeclarationKind.TheVariants.{Let, Const}
 use Rattle.mini_model.specs.declared.name.Name.{Name}
@@ -20,6 +20,7 @@ use Rattle.mini_terms.specs.Folds.{is_effect_free}
 use Rattle.mini_terms.specs.Parts.{leaves_nothing}
 use Rattle.mini_terms.specs.Reading.{is_plain_part}
 use Rattle.mini_rows.specs.Lists.{block, declaration, declares_nothing}
+pub use Rattle.mini_rows.specs.Lists.{resolved}
 use Rattle.mini_rows.specs.Declarations.{binding, declarator}
 
 -- whether one of these names has the symbol of this one, or its spelling
@@ -35,10 +36,6 @@ abbrev mutual
   pub any_names : Name → Trees → Bool
   any_names x none = false
   any_names x (t ▸ ts) = names x t || any_names x ts
-
--- a name with its symbol
-abbrev pub resolved : List ℕ → ℕ → Name
-resolved s k = record { spelling = s; symbol = Some (record { 0 = k }) }
 
 -- `let a, x = r, b;`, where x stands among other declarators
 abbrev pub let_among : Name → Trees → Tree → Trees → Tree

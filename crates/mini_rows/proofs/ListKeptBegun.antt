@@ -1,0 +1,598 @@
+-- An assignment that begins the statement after a `var`, and becomes an initializer in it, is kept.
+use Rattle.std.specs.Prelude.{ℕ, ◌+◌, ◌≤◌, ◌≡◌, refl, ◌&&◌, ◌||◌, Bool, true, false, List, [], ◌∷◌, ◌++◌, Contains, Option, None}
+use Rattle.std.proofs.Common.{ap, ◌∙◌, sym, subst, arith, inl, inr, ◌⊎◌}
+use Rattle.std.proofs.lemmas.List.{append-nil}
+use Rattle.std.proofs.lemmas.List.Elements.{Contains-append_cases}
+use Rattle.mini_model.specs.declared.kind.VariableDeclarationKind.TheVariants.{Var}
+use Rattle.mini_model.specs.declared.name.Name.{Name}
+use Rattle.mini_model.specs.declared.name.SymbolId.{SymbolId}
+use Rattle.mini_model.specs.declared.operator.AssignmentOperator.TheVariants.{Assign}
+use Rattle.mini_model.specs.declared.place.Position.TheVariants.{StatementList}
+use Rattle.mini_model.specs.declared.shape.Shape.TheVariants as shape
+use Rattle.mini_model.specs.Tree.{Tree, Trees, none, ◌▸◌, absent, listed, identifier, shape_of, expression_statement, if_else}
+use Rattle.mini_model.specs.Paths.{append}
+use Rattle.mini_accept.specs.WellShaped.{Depth, a_statement, a_case, an_init, an_expression, one, one_or_absent, many, each, fits, fill, nested}
+use Rattle.mini_laws.specs.declared.names.Use.{Use}
+use Rattle.mini_laws.specs.declared.names.Use.TheVariants.{Read, Hoisted}
+use Rattle.mini_laws.specs.declared.names.Declared.{Declared}
+use Rattle.mini_laws.specs.declared.names.Declared.TheVariants as declared
+use Rattle.mini_laws.specs.declared.names.Targets.{Targets}
+use Rattle.mini_laws.specs.DeclaredNames.{has_inner, any_inner, names_of, all_names, body_names}
+use Rattle.mini_laws.specs.Scopes.{scopes_by}
+use Rattle.mini_laws.specs.Resolved.{Environment}
+use Rattle.mini_laws.specs.Scoped.{Scoped}
+use Rattle.mini_laws.specs.Symbols.{declared as declared_in, times}
+use Rattle.mini_laws.specs.Early.{clashing, own_declarations, scope_declarations, early_names, targets_of, early_jumps}
+use Rattle.mini_laws.proofs.Changes.{times_both}
+use Rattle.mini_laws.specs.Value.{Variable}
+use Rattle.mini_laws.specs.State.{Fixed, Writable, Constant, KeepsOld}
+use Rattle.mini_laws.specs.Fixity.{stricter, fixed_by, fixed_by_any}
+use Rattle.mini_laws.specs.Bodies.{Around, Body, bodies, bodies_from}
+use Rattle.mini_kept.specs.AlikeBodies.{BodiesKept}
+use Rattle.mini_kept.specs.Carried.{numbers, all_numbers}
+use Rattle.mini_kept.specs.Declaring.{declared as names_declared, declared_all}
+use Rattle.mini_kept.specs.Frames.{Frame, frames, FramesKept}
+use Rattle.mini_kept.specs.KeepsNames.{count_of}
+use Rattle.mini_kept.proofs.Anywhere.{once_anywhere, targets_anywhere}
+use Rattle.mini_kept.proofs.Below.{both_counts}
+use Rattle.mini_kept.proofs.Bools.{left}
+use Rattle.mini_kept.proofs.Fixed.{of_children}
+use Rattle.mini_kept.proofs.Quiet.{no_names}
+use Rattle.mini_kept.proofs.Unplaced.{as_body}
+use Rattle.mini_rows.specs.Lists.{sequence, return_statement, throw_statement, of_parts, Return, Throw, If, Switch, For, resolved, binding, declarator, assigned, Holder, Statement, Heading, holding, Beginning, Alone, Init, Before, begun, begun_without, Row70}
+use Rattle.mini_rows.specs.Arranged.{KeptAt}
+use Rattle.mini_rows.specs.Sketches.{AList, Sequence, Assignment, OfExpression, part, Asked, AsWholeList, AsWholeItem, AsValue, AsValues, AsTarget, AsBranch, Leap, leaps}
+use Rattle.mini_rows.specs.Sketches as sketch
+use Rattle.mini_rows.proofs.Arranging.{All, Any, Leaping, Local, sum_all, Summed}
+use Rattle.mini_rows.proofs.ArrangedNames.{ScopedAs, scoped_local, symbol_times, symbols_summed, number_times, numbers_summed, InnerIf, inner_local, Once, once_local, HasTarget, Aimed, aimed_local}
+use Rattle.mini_rows.proofs.ArrangedBodies.{quiet, HasBodies, bodies_local, HasFrames, frames_local, Among, Declares, declares_local, FixedBy, fixed_local, rank}
+use Rattle.mini_rows.proofs.ArrangedValues.{is_value, Valued, sketch_valued}
+use Rattle.mini_rows.proofs.ArrangedFolds.{port}
+use Rattle.mini_rows.proofs.ArrangedGather.{concat}
+use Rattle.mini_rows.proofs.ListShapes.{of_expression, of_return, of_throw, of_if, parts_fit, of_parts_fits, first_fits}
+use Rattle.mini_rows.proofs.ListKeptStretch.{stretched, parted, sum_joined, NamesStretched, Stretched, stretch_kept}
+use Rattle.mini_rows.proofs.ListKeptDeclarations.{over, names_if, declares_as, names_are, body_are, declarations_are, all_both, scoped_down as var_scoped_down, scoped_up as var_scoped_up, symbols_are, inner_is, numbers_are, declared_are, frames_are, bodies_are, once_is, jumps_are}
+use Rattle.mini_rows.proofs.ListKeptHeads.{parts_of_it, it_of_parts, of_statement, statement_of, nothing_there, sum_parts, sum_statement, Seat, Loop, Choice, seated, rest, quiet_value, inner_down, inner_up, fixed_down, fixed_up, declares_down, declares_up, frames_beside, frames_down, frames_up, bodies_down, bodies_up, numbers_beside, jumps_beside, aimed_down, aimed_up, Unlexical, value_unlexical, declared_beside, names_beside, once_down, once_up, ScopedBeside, scoped_down, scoped_up, symbols_beside, seated_symbols, seated_hoists, seated_names, seated_body, seated_as_body, seated_port, seated_calm, statement_names, statement_body, statement_as_body, second_of}
+
+-- ---- a statement that holds an expression, and what is beside that
+
+-- what has to be known of the expression in the statement, and of the one that is left
+Needs : (Tree → Type 0) → Beginning → Tree → Type 0
+Needs P Alone a = Unit {0}
+Needs P (Init u v w) a = P a × P absent
+Needs P (Before h q qs) a = P (sequence (a ▸ (q ▸ qs))) × P (of_parts q qs)
+
+-- of two expressions
+record Opens (Q : Asked → Tree → Type 0) (hold : Tree → Tree) (e d : Tree) : Type 1 where
+  Beside : Type 0
+  down : Q AsWholeItem (hold e) → Q AsValue e × Beside
+  up : Q AsValue d → Beside → Q AsWholeItem (hold d)
+
+module _ (J : Leap → Type 0) (Q : Asked → Tree → Type 0) (l : Local J Q) where
+  statement_opens : (e d : Tree) → Opens Q expression_statement e d
+  statement_opens e d = record { Beside = Unit {0}; down = λ q. (of_statement J Q l e q, tt); up = λ q r. statement_of J Q l d q }
+
+  return_opens : (e d : Tree) → Opens Q return_statement e d
+  return_opens e d = record {
+    Beside = Leaping J (leaps sketch.Return);
+    down = λ q. let (x, y) = l.down sketch.Return AsWholeItem (e ▸ none) tt q in (y.0, x);
+    up = λ q r. l.up sketch.Return AsWholeItem (d ▸ none) tt r (q, tt);
+  }
+
+  throw_opens : (e d : Tree) → Opens Q throw_statement e d
+  throw_opens e d = record { Beside = Unit {0}; down = λ q. ((l.down sketch.Throw AsWholeItem (e ▸ none) tt q).1.0, tt); up = λ q r. l.up sketch.Throw AsWholeItem (d ▸ none) tt tt (q, tt) }
+
+  if_opens : (u v e d : Tree) → Opens Q (λ t. if_else t u v) e d
+  if_opens u v e d = record {
+    Beside = Q AsBranch u × Q AsBranch v;
+    down = λ q. let y = (l.down sketch.If AsWholeItem (e ▸ (u ▸ (v ▸ none))) tt q).1 in (y.0, (y.1.0, y.1.1.0));
+    up = λ q r. l.up sketch.If AsWholeItem (d ▸ (u ▸ (v ▸ none))) tt tt (q, (r.0, (r.1, tt)));
+  }
+
+  holder_opens : (e d : Tree) → ((s : Seat) → Opens Q (seated s) e d) → (h : Holder) → Opens Q (holding h) e d
+  holder_opens e d k Statement = statement_opens e d
+  holder_opens e d k (Heading Return) = return_opens e d
+  holder_opens e d k (Heading Throw) = throw_opens e d
+  holder_opens e d k (Heading (If u v)) = if_opens u v e d
+  holder_opens e d k (Heading (Switch cases)) = k (Choice cases)
+  holder_opens e d k (Heading (For u v w)) = k (Loop u v w)
+
+  module _ (P : Tree → Type 0) (k : (s : Seat) (e d : Tree) → P e → P d → Opens Q (seated s) e d) where
+    -- an assignment, and what is left without it
+    apart : (b : Beginning) (a : Tree) → Needs P b a → Q AsWholeItem (begun b a) → Q AsValue a × All Q AsWholeItem (begun_without b)
+    unfolding Needs
+    apart Alone a n q = (of_statement J Q l a q, tt)
+    apart (Init u v w) a n q =
+        let o = k (Loop u v w) a absent n.0 n.1 in
+        let (x, r) = o.down q in
+        (x, (o.up (nothing_there J Q l) r, tt))
+    apart (Before h p ps) a n q =
+        let o = holder_opens (sequence (a ▸ (p ▸ ps))) (of_parts p ps) (λ s. k s (sequence (a ▸ (p ▸ ps))) (of_parts p ps) n.0 n.1) h in
+        let (x, r) = o.down q in
+        let all = parts_of_it J Q l a (p ▸ ps) x in
+        (all.0, (o.up (it_of_parts J Q l p ps all.1) r, tt))
+
+    -- the value that is assigned
+    value_of : (x : Name) (value : Tree) → Q AsValue (assigned x value) → Q AsValue value
+    value_of x value q = (l.down (Assignment Assign) AsValue (identifier x ▸ (value ▸ none)) tt q).1.1.0
+
+-- both together again
+module _ (Q : Asked → Tree → Type 0) (l : Local Any Q) (k : (s : Seat) (e d : Tree) → Opens Q (seated s) e d) where
+  together : (b : Beginning) (a : Tree) → Q AsValue a → All Q AsWholeItem (begun_without b) → Q AsWholeItem (begun b a)
+  together Alone a q r = statement_of Any Q l a q
+  together (Init u v w) a q r = let o = k (Loop u v w) absent a in o.up q (o.down r.0).1
+  together (Before h p ps) a q r =
+      let o = holder_opens Any Q l (of_parts p ps) (sequence (a ▸ (p ▸ ps))) (λ s. k s (of_parts p ps) (sequence (a ▸ (p ▸ ps)))) h in
+      let (x, y) = o.down r.0 in
+      o.up (it_of_parts Any Q l a (p ▸ ps) (q, parts_of_it Any Q l p ps x)) y
+
+  assigned_of : (x : Name) (value : Tree) → Q AsTarget (identifier x) → Q AsValue value → Q AsValue (assigned x value)
+  assigned_of x value t q = l.up (Assignment Assign) AsValue (identifier x ▸ (value ▸ none)) tt tt (t, (q, tt))
+
+-- ---- sums
+
+module _ (m : Asked → Tree → ℕ) (l : Summed m) (P : Tree → Type 0) (k : (s : Seat) → (c : ℕ) × ((e : Tree) → P e → m AsWholeItem (seated s e) ≡ m AsValue e + c)) where
+  held_sum : (h : Holder) → (c : ℕ) × ((e : Tree) → P e → m AsWholeItem (holding h e) ≡ m AsValue e + c)
+  held_sum Statement = (0, λ e p. omega (arith, sum_statement m l e))
+  held_sum (Heading Return) = (0, λ e p. omega (arith, l sketch.Return AsWholeItem (e ▸ none) tt))
+  held_sum (Heading Throw) = (0, λ e p. omega (arith, l sketch.Throw AsWholeItem (e ▸ none) tt))
+  held_sum (Heading (If u v)) = (m AsBranch u + m AsBranch v, λ e p. omega (arith, l sketch.If AsWholeItem (e ▸ (u ▸ (v ▸ none))) tt))
+  held_sum (Heading (Switch cases)) = k (Choice cases)
+  held_sum (Heading (For u v w)) = k (Loop u v w)
+
+  begun_sum : m AsValue absent ≡ 0 → (b : Beginning) (a : Tree) → Needs P b a → m AsValue a + sum_all m AsWholeItem (begun_without b) ≤ m AsWholeItem (begun b a)
+  unfolding Needs
+  begun_sum z Alone a n = omega (arith, sum_statement m l a)
+  begun_sum z (Init u v w) a n = let (c, is) = k (Loop u v w) in omega (arith, is a n.0, is absent n.1, z)
+  begun_sum z (Before h q qs) a n =
+      let (c, is) = held_sum h in
+      omega (arith, is (sequence (a ▸ (q ▸ qs))) n.0, is (of_parts q qs) n.1, sum_parts m l a (q ▸ qs), sum_parts m l q qs)
+
+  value_sum : (x : Name) (value : Tree) → m AsValue value ≤ m AsValue (assigned x value)
+  value_sum x value = omega (arith, l (Assignment Assign) AsValue (identifier x ▸ (value ▸ none)) tt)
+
+-- ---- a declarator with a value in it
+
+or_nothing : (b : Bool) → (b || false) ≡ b
+or_nothing true = refl
+or_nothing false = refl
+
+stricter_alone : (f : Fixed) → stricter f Writable ≡ f
+stricter_alone Writable = refl
+stricter_alone KeepsOld = refl
+stricter_alone Constant = refl
+
+module _ (x : Name) (value : Tree) where
+  abbrev bare : Tree
+  bare = declarator (binding x) absent
+
+  abbrev given : Tree
+  given = declarator (binding x) value
+
+  inner_value : has_inner given ≡ has_inner value
+  unfolding has_inner
+  inner_value = or_nothing (has_inner value)
+
+  no_inner : has_inner bare ≡ false
+  unfolding has_inner
+  no_inner = refl
+
+  fixed_value : (y : Variable) → fixed_by given y ≡ fixed_by value y
+  fixed_value y = of_children shape.VariableDeclarator [] 0 (binding x ▸ (value ▸ none)) y refl ∙ stricter_alone (fixed_by value y)
+
+  fixed_bare : (y : Variable) → fixed_by bare y ≡ Writable
+  fixed_bare y = of_children shape.VariableDeclarator [] 0 (binding x ▸ (absent ▸ none)) y refl
+
+  declared_value : names_declared given ≡ x ∷ names_declared value
+  declared_value = ap (λ r. x ∷ r) (append-nil (names_declared value))
+
+  frames_value : frames None given ≡ frames None value
+  frames_value = append-nil (frames None value)
+
+  bodies_value : (r : Around) → bodies (quiet r) given ≡ bodies (quiet r) value
+  bodies_value r = append-nil (bodies (quiet r) value)
+
+  numbers_value : numbers given ≡ numbers value
+  unfolding numbers
+  numbers_value = append-nil (numbers value)
+
+  no_numbers : numbers bare ≡ []
+  unfolding numbers
+  no_numbers = refl
+
+  symbols_value : declared_in Hoisted given ≡ declared_in Read value
+  unfolding declared_in scopes_by
+  symbols_value = append-nil (declared_in Read value)
+
+  no_symbols : declared_in Hoisted bare ≡ []
+  unfolding declared_in scopes_by
+  no_symbols = refl
+
+  once_value : early_names [] given ≡ early_names (1 ∷ []) value
+  unfolding early_names scope_declarations
+  once_value = append-nil (early_names (1 ∷ []) value)
+
+  jumps_value : (g : Targets) → early_jumps g [] given ≡ early_jumps g (1 ∷ []) value
+  unfolding early_jumps targets_of
+  jumps_value g = append-nil (early_jumps g (1 ∷ []) value)
+
+  scoped_value : (env : Environment) → Scoped Hoisted env bare → Scoped Read env value → Scoped Hoisted env given
+  unfolding Scoped scopes_by
+  scoped_value env a b = (a.0, (a.1.0, (subst (λ r. Scoped Read r value) (sym (append-nil (env ++ []) ∙ append-nil env)) b, tt)))
+
+  among_value : (all : List Name) → Among all (names_declared bare) → Among all (names_declared value) → Among all (names_declared given)
+  among_value all a b y c = by (Contains-append_cases (x ∷ []) (names_declared value) y (subst (λ r. Contains r y) declared_value c))
+    where
+      by : Contains (x ∷ []) y ⊎ Contains (names_declared value) y → Contains all y
+      by (inl d) = a y d
+      by (inr d) = b y d
+
+-- ---- a `var` with it in
+
+module _ (ds : Trees) (x : Name) (es : Trees) (value : Tree) where
+  abbrev old_list : Trees
+  old_list = append ds (bare x value ▸ es)
+
+  abbrev new_list : Trees
+  new_list = append ds (given x value ▸ es)
+
+  abbrev old_var : Tree
+  old_var = over Var (listed old_list)
+
+  abbrev new_var : Tree
+  new_var = over Var (listed new_list)
+
+  -- what holds of it and of the value
+  filled : (J : Leap → Type 0) (Q : Asked → Tree → Type 0) → Local J Q → (Q AsWholeItem (bare x value) → Q AsWholeItem (given x value)) → Q AsWholeList (listed old_list) → Q AsWholeList (listed new_list)
+  filled J Q l k q = stretched J Q l ds es (bare x value ▸ none) (given x value ▸ none) (λ a. (k a.0, tt)) q
+
+  emptied : (J : Leap → Type 0) (Q : Asked → Tree → Type 0) → Local J Q → Q AsWholeItem (bare x value) → Q AsWholeList (listed new_list) → Q AsWholeList (listed old_list)
+  emptied J Q l k q = stretched J Q l ds es (given x value ▸ none) (bare x value ▸ none) (λ a. (k, tt)) q
+
+  -- the value in it
+  found : (J : Leap → Type 0) (Q : Asked → Tree → Type 0) → Local J Q → Q AsWholeList (listed new_list) → Q AsWholeItem (given x value)
+  found J Q l q =
+      let (a, b) = parted J Q l ds (given x value ▸ es) q in
+      let (c, d) = parted J Q l (given x value ▸ none) es b in
+      (l.down AList AsWholeList (given x value ▸ none) tt c).1.0
+
+  inner_given : (b : Bool) → InnerIf b AsWholeItem old_var → InnerIf b AsValue value → InnerIf b AsWholeItem new_var
+  inner_given b q v = subst (λ c. (c || b) ≡ b) (sym (inner_is Var (listed new_list))) (filled Any (InnerIf b) (inner_local b) (λ a. subst (λ c. (c || b) ≡ b) (sym (inner_value x value)) v) (subst (λ c. (c || b) ≡ b) (inner_is Var (listed old_list)) q))
+
+  inner_taken : (b : Bool) → InnerIf b AsWholeItem new_var → InnerIf b AsWholeItem old_var × InnerIf b AsValue value
+  inner_taken b q =
+      let list = subst (λ c. (c || b) ≡ b) (inner_is Var (listed new_list)) q in (
+        subst (λ c. (c || b) ≡ b) (sym (inner_is Var (listed old_list))) (emptied Any (InnerIf b) (inner_local b) (ap (λ c. c || b) (no_inner x value)) list),
+        subst (λ c. (c || b) ≡ b) (inner_value x value) (found Any (InnerIf b) (inner_local b) list),
+      )
+
+  var_fixed : (ts : Trees) (y : Variable) → fixed_by (over Var (listed ts)) y ≡ fixed_by (listed ts) y
+  var_fixed ts y = of_children (shape.VariableDeclaration Var) [] 0 (listed ts ▸ none) y refl ∙ stricter_alone (fixed_by (listed ts) y)
+
+  fixed_given : (y : Variable) (k : ℕ) → FixedBy y k AsWholeItem old_var → FixedBy y k AsValue value → FixedBy y k AsWholeItem new_var
+  fixed_given y k q v = subst (λ f. rank f ≤ k) (sym (var_fixed new_list y)) (filled Any (FixedBy y k) (fixed_local y k) (λ a. subst (λ f. rank f ≤ k) (sym (fixed_value x value y)) v) (subst (λ f. rank f ≤ k) (var_fixed old_list y) q))
+
+  fixed_taken : (y : Variable) (k : ℕ) → FixedBy y k AsWholeItem new_var → FixedBy y k AsWholeItem old_var × FixedBy y k AsValue value
+  fixed_taken y k q =
+      let list = subst (λ f. rank f ≤ k) (var_fixed new_list y) q in (
+        subst (λ f. rank f ≤ k) (sym (var_fixed old_list y)) (emptied Any (FixedBy y k) (fixed_local y k) (subst (λ f. rank f ≤ k) (sym (fixed_bare x value y)) (omega arith)) list),
+        subst (λ f. rank f ≤ k) (fixed_value x value y) (found Any (FixedBy y k) (fixed_local y k) list),
+      )
+
+  declares_given : (all : List Name) → Declares all AsWholeItem old_var → Declares all AsValue value → Declares all AsWholeItem new_var
+  declares_given all q v = subst (Among all) (sym (declared_are Var (listed new_list))) (filled Any (Declares all) (declares_local all) (λ a. among_value x value all a v) (subst (Among all) (declared_are Var (listed old_list)) q))
+
+  frames_given : (all : List Frame) → HasFrames all AsWholeItem old_var → HasFrames all AsValue value → HasFrames all AsWholeItem new_var
+  frames_given all q v = subst (FramesKept all) (sym (frames_are Var (listed new_list))) (filled Any (HasFrames all) (frames_local all) (λ a. subst (FramesKept all) (sym (frames_value x value)) v) (subst (FramesKept all) (frames_are Var (listed old_list)) q))
+
+  bodies_given : (all : List Body) (r : Around) → HasBodies all r AsWholeItem old_var → HasBodies all r AsValue value → HasBodies all r AsWholeItem new_var
+  bodies_given all r q v = subst (BodiesKept all) (sym (bodies_are Var r (listed new_list))) (filled Any (HasBodies all r) (bodies_local all r) (λ a. subst (BodiesKept all) (sym (bodies_value x value r)) v) (subst (BodiesKept all) (bodies_are Var r (listed old_list)) q))
+
+  targets_given : (g : Targets) → Aimed g AsWholeItem old_var → Aimed g AsValue value → Aimed g AsWholeItem new_var
+  targets_given g q v =
+      jumps_are Var g (listed new_list)
+      ∙ targets_anywhere g [] (0 ∷ []) (listed new_list)
+      (filled (HasTarget g) (Aimed g) (aimed_local g) (λ a. jumps_value x value g ∙ targets_anywhere g [] (1 ∷ []) value v) (targets_anywhere g (0 ∷ []) [] (listed old_list) (sym (jumps_are Var g (listed old_list)) ∙ q)))
+
+  once_given : Once AsWholeItem old_var → Once AsValue value → Once AsWholeItem new_var
+  once_given q v =
+      once_is Var (listed new_list)
+      ∙ once_anywhere [] (0 ∷ []) (listed new_list)
+      (filled Any Once once_local (λ a. once_value x value ∙ once_anywhere [] (1 ∷ []) value v) (once_anywhere (0 ∷ []) [] (listed old_list) (sym (once_is Var (listed old_list)) ∙ q)))
+
+  scoped_given : (env : Environment) → ScopedAs Read env AsWholeItem old_var → ScopedAs Read env AsValue value → ScopedAs Read env AsWholeItem new_var
+  scoped_given env q v = var_scoped_up Var env (listed new_list) (filled Any (ScopedAs Hoisted env) (scoped_local Hoisted env) (λ a. scoped_value x value env a v) (var_scoped_down Var env (listed old_list) q))
+
+  list_sum : (m : Asked → Tree → ℕ) → Summed m → m AsWholeItem (given x value) ≤ m AsWholeItem (bare x value) + m AsValue value → m AsWholeList (listed new_list) ≤ m AsWholeList (listed old_list) + m AsValue value
+  list_sum m l k =
+      omega (
+        arith,
+        k,
+        sum_joined m l ds (given x value ▸ es),
+        sum_joined m l (given x value ▸ none) es,
+        l AList AsWholeList (given x value ▸ none) tt,
+        sum_joined m l ds (bare x value ▸ es),
+        sum_joined m l (bare x value ▸ none) es,
+        l AList AsWholeList (bare x value ▸ none) tt,
+      )
+
+  numbers_given : (n : ℕ) → number_times n AsWholeItem new_var ≤ number_times n AsWholeItem old_var + number_times n AsValue value
+  numbers_given n =
+      let k : number_times n AsWholeItem (given x value) ≤ number_times n AsWholeItem (bare x value) + number_times n AsValue value = omega (arith, ap (count_of n) (numbers_value x value)) in
+      omega (arith, ap (count_of n) (numbers_are Var (listed new_list)), ap (count_of n) (numbers_are Var (listed old_list)), list_sum (number_times n) (numbers_summed n) k)
+
+  symbols_given : (u : Use) (y : Option SymbolId) → symbol_times u y AsWholeItem new_var ≤ symbol_times u y AsWholeItem old_var + times y (declared_in Read value)
+  symbols_given u y =
+      let k : symbol_times Hoisted y AsWholeItem (given x value) ≤ symbol_times Hoisted y AsWholeItem (bare x value) + symbol_times Hoisted y AsValue value = omega (arith, ap (times y) (symbols_value x value)) in
+      omega (arith, symbols_are u Var y (listed new_list), symbols_are u Var y (listed old_list), list_sum (symbol_times Hoisted y) (symbols_summed Hoisted y) k)
+
+  -- its names are those that it had
+  bound_same : all_names declared.Bound new_list ≡ all_names declared.Bound old_list
+  unfolding names_of
+  bound_same = all_both declared.Bound ds (given x value ▸ es) ∙ sym (all_both declared.Bound ds (bare x value ▸ es))
+
+  var_names : (d : Declared) → names_of d new_var ≡ names_of d old_var
+  var_names d = names_are d Var new_list ∙ ap (names_if (declares_as d Var)) bound_same ∙ sym (names_are d Var old_list)
+
+  var_body : body_names new_var ≡ body_names old_var
+  var_body = body_are Var new_list ∙ bound_same ∙ sym (body_are Var old_list)
+
+  var_as_body : (o : Bool) → as_body o new_var ≡ as_body o old_var
+  var_as_body o = declarations_are o Var new_list ∙ ap (own_declarations false []) bound_same ∙ sym (declarations_are o Var old_list)
+
+-- ---- in the statements that open a scope
+
+module _ (s : Seat) (e d : Tree) where
+  inner_seat : (b : Bool) → Opens (InnerIf b) (seated s) e d
+  inner_seat b = record { Beside = (any_inner (rest s) || b) ≡ b; down = inner_down b s e; up = inner_up b s d }
+
+  fixed_seat : (x : Variable) (k : ℕ) → Opens (FixedBy x k) (seated s) e d
+  fixed_seat x k = record { Beside = rank (fixed_by_any (rest s) x) ≤ k; down = fixed_down x k s e; up = fixed_up x k s d }
+
+  declares_seat : (xs : List Name) → Opens (Declares xs) (seated s) e d
+  declares_seat xs = record { Beside = Among xs (declared_all (rest s)); down = declares_down xs s e; up = declares_up xs s d }
+
+  frames_seat : (fs : List Frame) → Opens (HasFrames fs) (seated s) e d
+  frames_seat fs = record { Beside = FramesKept fs (frames_beside s); down = frames_down fs s e; up = frames_up fs s d }
+
+  bodies_seat : (bs : List Body) (r : Around) → Opens (HasBodies bs r) (seated s) e d
+  bodies_seat bs r = record { Beside = BodiesKept bs (bodies_from (λ i. quiet r) 1 (rest s)); down = bodies_down bs r s e; up = bodies_up bs r s d }
+
+  targets_seat : (g : Targets) → Opens (Aimed g) (seated s) e d
+  targets_seat g = record { Beside = jumps_beside g s ≡ []; down = aimed_down g s e; up = aimed_up g s d }
+
+  once_seat : Unlexical e → Unlexical d → Opens Once (seated s) e d
+  once_seat p q = record { Beside = (clashing [] (declared_beside s) ≡ []) × (names_beside s ≡ []); down = once_down s e p; up = once_up s d q }
+
+  scoped_seat : (env : Environment) → Unlexical e → Unlexical d → Opens (ScopedAs Read env) (seated s) e d
+  scoped_seat env p q = record { Beside = ScopedBeside s env; down = scoped_down env s e p; up = scoped_up env s d q }
+
+seat_numbers : (n : ℕ) (s : Seat) → (c : ℕ) × ((e : Tree) → Unit {0} → number_times n AsWholeItem (seated s e) ≡ number_times n AsValue e + c)
+seat_numbers n s = (count_of n (all_numbers (rest s)), λ e p. omega (arith, ap (count_of n) (numbers_beside s e), both_counts n (numbers e) (all_numbers (rest s))))
+
+seat_symbols : (u : Use) (x : Option SymbolId) (s : Seat) → (c : ℕ) × ((e : Tree) → Unlexical e → symbol_times u x AsWholeItem (seated s e) ≡ symbol_times u x AsValue e + c)
+seat_symbols u x s = (times x (symbols_beside u s), λ e p. omega (arith, ap (times x) (seated_symbols u s e p), times_both x (declared_in Read e) (symbols_beside u s)))
+
+-- ---- names
+
+return_names : (d : Declared) (e : Tree) → names_of d (return_statement e) ≡ []
+unfolding names_of
+return_names declared.Bound e = refl
+return_names declared.Lexical e = refl
+return_names declared.Hoisted e = refl
+
+throw_names : (d : Declared) (e : Tree) → names_of d (throw_statement e) ≡ []
+unfolding names_of
+throw_names declared.Bound e = refl
+throw_names declared.Lexical e = refl
+throw_names declared.Hoisted e = refl
+
+if_hoists : (e u v : Tree) → is_value (shape_of e) ≡ true → names_of declared.Hoisted (if_else e u v) ≡ all_names declared.Hoisted (u ▸ (v ▸ none))
+unfolding names_of
+if_hoists e u v k = ap (λ r. r ++ all_names declared.Hoisted (u ▸ (v ▸ none))) (no_names declared.Hoisted e (quiet_value e k))
+
+if_names : (d : Declared) (e j u v : Tree) → names_of declared.Hoisted (if_else j u v) ≡ names_of declared.Hoisted (if_else e u v) → names_of d (if_else j u v) ≡ names_of d (if_else e u v)
+unfolding names_of
+if_names declared.Bound e j u v k = refl
+if_names declared.Lexical e j u v k = refl
+if_names declared.Hoisted e j u v k = k
+
+-- what is known of a statement by its names
+record Names (t u : Tree) : Type 0 where
+  names : (d : Declared) → names_of d u ≡ names_of d t
+  body : body_names u ≡ body_names t
+  as_body : (o : Bool) → as_body o u ≡ as_body o t
+  ports : (m : Bool) → port m u ≡ port m t
+
+return_same : (e j : Tree) → Names (return_statement e) (return_statement j)
+unfolding body_names names_of
+return_same e j = record { names = λ d. return_names d j ∙ sym (return_names d e); body = refl; as_body = λ o. refl; ports = λ m. refl }
+
+throw_same : (e j : Tree) → Names (throw_statement e) (throw_statement j)
+unfolding body_names names_of
+throw_same e j = record { names = λ d. throw_names d j ∙ sym (throw_names d e); body = refl; as_body = λ o. refl; ports = λ m. refl }
+
+if_body : (e u v : Tree) → body_names (if_else e u v) ≡ names_of declared.Hoisted (if_else e u v)
+unfolding body_names names_of
+if_body e u v = refl
+
+if_as_body : (o : Bool) (e u v : Tree) → as_body o (if_else e u v) ≡ own_declarations false [] (names_of declared.Hoisted (if_else e u v))
+unfolding names_of
+if_as_body o e u v = refl
+
+if_same : (u v e j : Tree) → is_value (shape_of e) ≡ true → is_value (shape_of j) ≡ true → Names (if_else e u v) (if_else j u v)
+if_same u v e j p q =
+    let hoists = if_hoists j u v q ∙ sym (if_hoists e u v p) in
+    record {
+      names = λ d. if_names d e j u v hoists;
+      body = if_body j u v ∙ hoists ∙ sym (if_body e u v);
+      as_body = λ o. if_as_body o j u v ∙ ap (own_declarations false []) hoists ∙ sym (if_as_body o e u v);
+      ports = λ m. refl;
+    }
+
+seat_same : (s : Seat) (e j : Tree) → is_value (shape_of e) ≡ true → is_value (shape_of j) ≡ true → Names (seated s e) (seated s j)
+seat_same s e j p q =
+    let hoists = seated_hoists s j q ∙ sym (seated_hoists s e p) in
+    record {
+      names = λ d. seated_names d s e j hoists;
+      body = seated_body s j ∙ hoists ∙ sym (seated_body s e);
+      as_body = λ o. seated_as_body o s j ∙ ap (own_declarations false []) hoists ∙ sym (seated_as_body o s e);
+      ports = λ m. seated_port m s j ∙ sym (seated_port m s e);
+    }
+
+held_same : (h : Holder) (e j : Tree) → is_value (shape_of e) ≡ true → is_value (shape_of j) ≡ true → Names (holding h e) (holding h j)
+held_same Statement e j p q = record { names = λ d. statement_names d j ∙ sym (statement_names d e); body = statement_body j ∙ sym (statement_body e); as_body = λ o. statement_as_body o j ∙ sym (statement_as_body o e); ports = λ m. refl }
+held_same (Heading Return) e j p q = return_same e j
+held_same (Heading Throw) e j p q = throw_same e j
+held_same (Heading (If u v)) e j p q = if_same u v e j p q
+held_same (Heading (Switch cases)) e j p q = seat_same (Choice cases) e j p q
+held_same (Heading (For u v w)) e j p q = seat_same (Loop u v w) e j p q
+
+-- the expression that is left is one
+LeftValue : Beginning → Type 0
+LeftValue (Before h q qs) = is_value (shape_of (of_parts q qs)) ≡ true
+LeftValue b = Unit {0}
+
+-- whatever it gives of the names of a statement
+left_same : {A : Type 0} (g : Tree → List A) (b : Beginning) (a : Tree) → is_value (shape_of a) ≡ true → LeftValue b → ((e : Tree) → g (expression_statement e) ≡ []) → ((t u : Tree) → Names t u → g u ≡ g t) → concat g (begun_without b) ≡ g (begun b a) ++ []
+unfolding LeftValue
+left_same g Alone a p v z k = sym (ap (λ r. r ++ []) (z a))
+left_same g (Init x y w) a p v z k = ap (λ r. r ++ []) (k _ _ (seat_same (Loop x y w) a absent p refl))
+left_same g (Before h q qs) a p v z k = ap (λ r. r ++ []) (k _ _ (held_same h (sequence (a ▸ (q ▸ qs))) (of_parts q qs) refl v))
+
+-- ---- the two statements, and what is written
+
+module _ (ds : Trees) (x y : Name) (es : Trees) (value : Tree) (b : Beginning) where
+  abbrev assignment : Tree
+  assignment = assigned y value
+
+  abbrev read : Trees
+  read = old_var ds x es value ▸ (begun b assignment ▸ none)
+
+  abbrev put : Trees
+  put = new_var ds x es value ▸ begun_without b
+
+  forward : (J : Leap → Type 0) (Q : Asked → Tree → Type 0) (l : Local J Q) (P : Tree → Type 0) → ((s : Seat) (e d : Tree) → P e → P d → Opens Q (seated s) e d) → Needs P b assignment → (Q AsWholeItem (old_var ds x es value) → Q AsValue value → Q AsWholeItem (new_var ds x es value)) → All Q AsWholeItem read → All Q AsWholeItem put
+  forward J Q l P k n g a =
+      let (p, q) = apart J Q l P k b assignment n a.1.0 in
+      (g a.0 (value_of J Q l P k y value p), q)
+
+  nothing_needed : (c : Beginning) (a : Tree) → Needs (λ t. Unit {0}) c a
+  unfolding Needs
+  nothing_needed Alone a = tt
+  nothing_needed (Init u v w) a = (tt, tt)
+  nothing_needed (Before h q qs) a = (tt, tt)
+
+  freely : (J : Leap → Type 0) (Q : Asked → Tree → Type 0) (l : Local J Q) → ((s : Seat) (e d : Tree) → Opens Q (seated s) e d) → (Q AsWholeItem (old_var ds x es value) → Q AsValue value → Q AsWholeItem (new_var ds x es value)) → All Q AsWholeItem read → All Q AsWholeItem put
+  freely J Q l k = forward J Q l (λ t. Unit {0}) (λ s e d p q. k s e d) (nothing_needed b assignment)
+
+  backward : (Q : Asked → Tree → Type 0) (l : Local Any Q) → ((s : Seat) (e d : Tree) → Opens Q (seated s) e d) → Q AsTarget (identifier y) → (Q AsWholeItem (new_var ds x es value) → Q AsWholeItem (old_var ds x es value) × Q AsValue value) → All Q AsWholeItem put → All Q AsWholeItem read
+  backward Q l k t g a = let (o, v) = g a.0 in (o, (together Q l k b assignment (assigned_of Q l k y value t v) a.1, tt))
+
+  inner_target : (c : Bool) → InnerIf c AsTarget (identifier y)
+  unfolding has_inner
+  inner_target c = refl
+
+  fixed_target : (z : Variable) (k : ℕ) → FixedBy z k AsTarget (identifier y)
+  fixed_target z k = subst (λ f. rank f ≤ k) (sym (of_children shape.Identifier (y ∷ []) 0 none z refl)) (omega arith)
+
+  no_number : (n : ℕ) → number_times n AsValue absent ≡ 0
+  unfolding numbers
+  no_number n = refl
+
+  no_symbol : (u : Use) (z : Option SymbolId) → symbol_times u z AsValue absent ≡ 0
+  unfolding declared_in scopes_by
+  no_symbol u z = refl
+
+  numbers_one : (n : ℕ) → sum_all (number_times n) AsWholeItem put ≤ sum_all (number_times n) AsWholeItem read
+  numbers_one n =
+      let seats = seat_numbers n in
+      omega (
+        arith,
+        numbers_given ds x es value n,
+        begun_sum (number_times n) (numbers_summed n) (λ t. Unit {0}) seats (no_number n) b assignment (nothing_needed b assignment),
+        value_sum (number_times n) (numbers_summed n) (λ t. Unit {0}) seats y value,
+      )
+
+  module _ (v : LeftValue b) where
+    needed : (c : Beginning) → LeftValue c → Needs Unlexical c assignment
+    unfolding Needs LeftValue
+    needed Alone w = tt
+    needed (Init p q r) w = (value_unlexical assignment refl, value_unlexical absent refl)
+    needed (Before h q qs) w = (value_unlexical (sequence (assignment ▸ (q ▸ qs))) refl, value_unlexical (of_parts q qs) w)
+
+    symbols_one : (u : Use) (z : Option SymbolId) → sum_all (symbol_times u z) AsWholeItem put ≤ sum_all (symbol_times u z) AsWholeItem read
+    symbols_one u z =
+        let seats = seat_symbols u z in
+        omega (
+          arith,
+          symbols_given ds x es value u z,
+          begun_sum (symbol_times u z) (symbols_summed u z) Unlexical seats (no_symbol u z) b assignment (needed b v),
+          value_sum (symbol_times u z) (symbols_summed u z) Unlexical seats y value,
+        )
+
+    names_one : NamesStretched read put
+    names_one = record {
+      names = λ d i. var_names ds x es value d i ++ left_same (names_of d) b assignment refl v (statement_names d) (λ t u k. k.names d) i;
+      body = λ i. var_body ds x es value i ++ left_same body_names b assignment refl v statement_body (λ t u k. k.body) i;
+      as_body = λ o i. var_as_body ds x es value o i ++ left_same (as_body o) b assignment refl v (statement_as_body o) (λ t u k. k.as_body o) i;
+      ports = λ m. left_same (port m) b assignment refl v (λ e. refl) (λ t u k. k.ports m);
+      scoped = λ env. forward Any (ScopedAs Read env) (scoped_local Read env) Unlexical (λ s e d. scoped_seat s e d env) (needed b v) (scoped_given ds x es value env);
+      symbols = symbols_one;
+      once = forward Any Once once_local Unlexical once_seat (needed b v) (once_given ds x es value);
+    }
+
+  left_calm : (c : Beginning) → All Valued AsWholeItem (begun_without c)
+  left_calm Alone = tt
+  left_calm (Init u v w) = (seated_calm (Loop u v w) absent, tt)
+  left_calm (Before Statement q qs) = ((refl, refl), tt)
+  left_calm (Before (Heading Return) q qs) = ((refl, refl), tt)
+  left_calm (Before (Heading Throw) q qs) = ((refl, refl), tt)
+  left_calm (Before (Heading (If u v)) q qs) = ((refl, refl), tt)
+  left_calm (Before (Heading (Switch cases)) q qs) = (seated_calm (Choice cases) (of_parts q qs), tt)
+  left_calm (Before (Heading (For u v w)) q qs) = (seated_calm (Loop u v w) (of_parts q qs), tt)
+
+  stretched_one : ((strict : Bool) (k : Depth) → fill strict (each (one (a_statement k))) read ≡ true → LeftValue b) → Stretched read put
+  stretched_one values = record {
+    named = λ strict k f. names_one (values strict k f);
+    calm = ((refl, refl), left_calm b);
+    inner = λ c. freely Any (InnerIf c) (inner_local c) (λ s e d. inner_seat s e d c) (inner_given ds x es value c);
+    inner_back = λ c. backward (InnerIf c) (inner_local c) (λ s e d. inner_seat s e d c) (inner_target c) (inner_taken ds x es value c);
+    fixed = λ z k. freely Any (FixedBy z k) (fixed_local z k) (λ s e d. fixed_seat s e d z k) (fixed_given ds x es value z k);
+    fixed_back = λ z k. backward (FixedBy z k) (fixed_local z k) (λ s e d. fixed_seat s e d z k) (fixed_target z k) (fixed_taken ds x es value z k);
+    declares = λ xs. freely Any (Declares xs) (declares_local xs) (λ s e d. declares_seat s e d xs) (declares_given ds x es value xs);
+    frames = λ fs. freely Any (HasFrames fs) (frames_local fs) (λ s e d. frames_seat s e d fs) (frames_given ds x es value fs);
+    bodies = λ bs r. freely Any (HasBodies bs r) (bodies_local bs r) (λ s e d. bodies_seat s e d bs r) (bodies_given ds x es value bs r);
+    targets = λ g. freely (HasTarget g) (Aimed g) (aimed_local g) (λ s e d. targets_seat s e d g) (targets_given ds x es value g);
+    numbers = numbers_one;
+  }
+
+-- ---- the expression that is left is one where the statement fits
+
+held_sequence : (strict : Bool) (k : Depth) (h : Holder) (ts : Trees) → fits strict (one (a_statement k)) (holding h (sequence ts)) ≡ true → fits strict (one an_expression) (sequence ts) ≡ true
+held_sequence strict k Statement ts f = of_expression strict k (sequence ts) f
+held_sequence strict k (Heading Return) ts f = of_return strict k (sequence ts) f
+held_sequence strict k (Heading Throw) ts f = of_throw strict k (sequence ts) f
+held_sequence strict k (Heading (If u v)) ts f = (of_if strict k (sequence ts) u v f).0
+held_sequence strict k (Heading (Switch cases)) ts f = left (fits strict (one an_expression) (sequence ts)) (fits strict (many a_case) cases && true) f
+held_sequence strict k (Heading (For u v w)) ts f =
+    left (fits strict (one_or_absent an_init) (sequence ts)) (fits strict (one_or_absent an_expression) u && (fits strict (one_or_absent an_expression) v && (fits strict (one (a_statement nested)) w && true))) f
+
+left_value : (strict : Bool) (k : Depth) (b : Beginning) (a : Tree) → fits strict (one (a_statement k)) (begun b a) ≡ true → LeftValue b
+unfolding LeftValue
+left_value strict k Alone a f = tt
+left_value strict k (Init u v w) a f = tt
+left_value strict k (Before h q qs) a f =
+    let (x, y) = first_fits strict (one an_expression) a (q ▸ qs) (parts_fit strict a (q ▸ qs) (held_sequence strict k h (a ▸ (q ▸ qs)) f)) in
+    (sketch_valued (record { trees = of_parts q qs ▸ none; lists = [] }) strict AsValue (one an_expression) (part 0) refl (of_parts_fits strict q qs y)).0
+
+-- `var a; a = b;` and `var a = b;` in a list
+pub begun_kept : (before after : Trees) (n w : Tree) (a b : Trees) → Row70 a b → n ≡ listed (append before (append a after)) → w ≡ listed (append before (append b after)) → KeptAt StatementList n w
+begun_kept before after n w a b r f g =
+    let x = resolved r.spelling r.symbol in
+    let y = resolved r.target r.symbol in
+    let two = read r.ds x y r.es r.value r.beginning in
+    let one_there = put r.ds x y r.es r.value r.beginning in
+    let values = λ (strict : Bool) (k : Depth) (h : fill strict (each (one (a_statement k))) two ≡ true). left_value strict k r.beginning (assigned y r.value) (second_of strict k (old_var r.ds x r.es r.value) (begun r.beginning (assigned y r.value)) none h) in
+    subst (λ t. KeptAt StatementList t w) (sym (f ∙ ap (λ ts. listed (append before (append ts after))) r.shape))
+    (subst (KeptAt StatementList (listed (append before (append two after)))) (sym (g ∙ ap (λ ts. listed (append before (append ts after))) r.written)) (stretch_kept before after two one_there (stretched_one r.ds x y r.es r.value r.beginning values)))
