@@ -124,11 +124,11 @@ module _ (ds : Trees) (spelling target : List ℕ) (k : ℕ) (es : Trees) (value
         ∙ either_assoc (declare e ds false s) _ _ _ _
         ∙ either_cong (declare e ds false s) _ _ _ _
         (λ u z.
-          ap (λ c. either c (λ u z. means e (expression_statement (assigned (resolved target k) value)) (Stat None) [] z) (λ x z. stop x z)) (bare_one e (declarator (binding (resolved spelling k)) absent) refl z)
-          ∙ either_ok tt z _ _
-          ∙ expression_is e (assigned (resolved target k) value) [] z
-          ∙ assigned_is e spelling target k value z
-          ∙ sym (initialised e spelling target k value g z))
+        ap (λ c. either c (λ u z. means e (expression_statement (assigned (resolved target k) value)) (Stat None) [] z) (λ x z. stop x z)) (bare_one e (declarator (binding (resolved spelling k)) absent) refl z)
+        ∙ either_ok tt z _ _
+        ∙ expression_is e (assigned (resolved target k) value) [] z
+        ∙ assigned_is e spelling target k value z
+        ∙ sym (initialised e spelling target k value g z))
         (λ x z. either_stop x z _ _)
         ∙ sym (exec_one e with_value s ∙ declared_by e value h s);
     read = record { lets = refl; functions = refl; facts = refl; texts = refl };

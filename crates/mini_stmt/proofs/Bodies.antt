@@ -27,7 +27,8 @@ use Rattle.mini_stmt.specs.MinimizeStatements.{is_quiet, Rests, MinimizesList}
 use Rattle.mini_stmt.specs.SpreadBlock.{body_of}
 use Rattle.mini_stmt.specs.MinimizeBody.{leaves, leaves_by_block, is_guard, may_nest, leaves_early, ends_bare, is_ended, EarlyAt, Turned, TurnedAt, Turns, AllTurned, DropsLast, EndRests, EndsBody, MinimizesBody, QuietRests}
 use Rattle.mini_stmt.proofs.Parts.{not_true, not_false}
-use Rattle.mini_stmt.proofs.Guards.{last_pushed, list_no_row}
+use Rattle.mini_stmt.proofs.Guards.{last_pushed}
+use Rattle.mini_stmt.proofs.Assignments.{list_no_row}
 
 -- ---- guards
 
@@ -230,12 +231,12 @@ module _ (o : Switches) where
 
 -- no row at all
 pub no_row : QuietRests
-no_row o t q e StatementList f w r = list_no_row o t q e w r
-no_row o t q e BodyList f w (inl r) = list_no_row o t q e w r
-no_row o t q e BodyList f w (inr r) =
+no_row o t q e k StatementList f w r = list_no_row o t q e k w r
+no_row o t q e k BodyList f w (inl r) = list_no_row o t q e k w r
+no_row o t q e k BodyList f w (inr r) =
     let (bare, early) = and_parts (not (ends_bare t)) (not o.sequences || not (leaves_early t)) (f refl) in
     no_end_row o t (not_true (ends_bare t) bare) (λ s. not_true (leaves_early t) (sym (ap (λ b. not b || not (leaves_early t)) s) ∙ early)) w r
-no_row o t q e p f w r = absurd r
+no_row o t q e k p f w r = absurd r
 
 -- ---- the last one that leaves early
 

@@ -71,7 +71,7 @@ switch_is : (t : Tree) → is_switch t ≡ true → t ≡ switch (part t 0) (par
 switch_is (node shape.SwitchStatement [] zero (a ▸ (b ▸ none))) e = refl
 switch_is t e = absurd (false≢true e)
 
-for_is : (t : Tree) → is_for t ≡ true → t ≡ for_loop (part t 0) (part t 1) (part t 2) (part t 3)
+pub for_is : (t : Tree) → is_for t ≡ true → t ≡ for_loop (part t 0) (part t 1) (part t 2) (part t 3)
 for_is (node shape.ForStatement [] zero (a ▸ (b ▸ (c ▸ (d ▸ none))))) e = refl
 for_is t e = absurd (false≢true e)
 

@@ -16,10 +16,11 @@ use Rattle.mini_node.specs.Walks.{from_first, next_child, no_rest, append_one}
 use Rattle.mini_node.proofs.Equality.{tree_same, tree_itself}
 use Rattle.mini_model.specs.declared.memory.OutOfMemory.{OutOfMemory}
 use Rattle.mini_rows.specs.Switches.{Switches}
-use Rattle.mini_rows.specs.Lists.{is_terminated, is_shallow, Row74, StretchRow, GuardsRow, NeighbourRow, InList, Saying, AsStatement, AsReturn, AsThrow, says, Row77}
+use Rattle.mini_rows.specs.Lists.{is_terminated, is_shallow, Row74, StretchRow, GuardsRow, NeighbourRow, InList, Row70, Saying, AsStatement, AsReturn, AsThrow, says, Row77}
 use Rattle.mini_stmt.specs.MinimizeStatements as list
-use Rattle.mini_stmt.specs.MinimizeStatements.{Changes, is_quiet, StretchRests, JoinsStatements, MinimizesList}
-use Rattle.mini_stmt.specs.JoinGuards.{are_guards, both_guards, may_go, ends_before, meets, met, meet_first, are_apart, is_apart, last_after, meets_last, PutJoined, Joined, Rests, JoinsGuards}
+use Rattle.mini_stmt.specs.MinimizeStatements.{Changes, is_quiet, StretchRests, JoinsStatements}
+use Rattle.mini_stmt.specs.JoinGuards.{are_guards, both_guards, may_go, ends_before, meets, met, meet_first, are_apart, is_apart, last_after, meets_last, PutJoined, Joined, Rests, JoinsGuards, JoinsOthers}
+use Rattle.mini_stmt.specs.JoinAssignments as assignments
 use Rattle.mini_stmt.proofs.Parts.{not_true}
 use Rattle.mini_stmt.proofs.Quiet.{quiet_rests}
 use Rattle.mini_stmt.proofs.Stepping.{neighbours_in, steps_on}
@@ -118,15 +119,13 @@ apart_rests o ts e StatementList w r = guards_rest o ts e w r
 apart_rests o ts e p w r = absurd r
 
 -- a row is of the one kind or the other
-either_row : (o : Switches) (n w : Tree) (r : InList (NeighbourRow o) n w) → (InList (StretchRow o) n w → ⊥) → (InList (GuardsRow o) n w → ⊥) → NeighbourRow o r.read r.put → ⊥
-either_row o n w r f g (inl m) = f (record { before = r.before; read = r.read; put = r.put; after = r.after; row = m; shape = r.shape; written = r.written })
-either_row o n w r f g (inr m) = g (record { before = r.before; read = r.read; put = r.put; after = r.after; row = m; shape = r.shape; written = r.written })
+either_row : (o : Switches) (n w : Tree) (r : InList (NeighbourRow o) n w) → (InList (StretchRow o) n w → ⊥) → (InList (GuardsRow o) n w → ⊥) → (InList Row70 n w → ⊥) → NeighbourRow o r.read r.put → ⊥
+either_row o n w r f g h (inl m) = f (record { before = r.before; read = r.read; put = r.put; after = r.after; row = m; shape = r.shape; written = r.written })
+either_row o n w r f g h (inr (inl m)) = g (record { before = r.before; read = r.read; put = r.put; after = r.after; row = m; shape = r.shape; written = r.written })
+either_row o n w r f g h (inr (inr m)) = h (record { before = r.before; read = r.read; put = r.put; after = r.after; row = m; shape = r.shape; written = r.written })
 
-both_rest : (o : Switches) (n : Tree) → StretchRests o StatementList n → Rests o StatementList n → list.Rests o StatementList n
-both_rest o n f g w r = either_row o n w r (f w) (g w) r.row
-
-pub list_no_row : (o : Switches) (t : Trees) → is_quiet o t ≡ true → is_apart o t ≡ true → list.Rests o StatementList (listed t)
-list_no_row o t q e = both_rest o (listed t) (quiet_rests o t q StatementList) (apart_rests o t e StatementList)
+pub all_rest : (o : Switches) (n : Tree) → StretchRests o StatementList n → Rests o StatementList n → assignments.Rests StatementList n → list.Rests o StatementList n
+all_rest o n f g h w r = either_row o n w r (f w) (g w) (h w) r.row
 
 -- ---- as the list goes on
 
@@ -213,7 +212,7 @@ put_met before init last t joined after e f g h =
       changes = λ rest o s.
           subst (λ x. Changes o x (append after rest) true) (sym (ap (λ x. append x (t ▸ rest)) f ∙ append_one init last (t ▸ rest)))
           (subst (λ x. Changes o (append init (last ▸ (t ▸ rest))) x true) (sym (ap (λ x. append x rest) made ∙ append_one init (met last t) rest))
-          (steps_on o (append init (last ▸ (t ▸ rest))) (append init (met last t ▸ rest)) (neighbours_in o init (last ▸ (t ▸ none)) (met last t ▸ none) rest (inr (s, row)))));
+          (steps_on o (append init (last ▸ (t ▸ rest))) (append init (met last t ▸ rest)) (neighbours_in o init (last ▸ (t ▸ none)) (met last t ▸ none) rest (inr (inl (s, row))))));
       apart = λ c. absurd (true≢false c);
     }
 
@@ -250,15 +249,15 @@ pub no_sequences : (o : Switches) (t : Tree) → o.sequences ≡ false → Joins
 no_sequences o t s = (refl, λ w r. absurd (true≢false (sym r.row.0 ∙ s)))
 
 -- both
-pub joined_first : (o : Switches) (t u : Tree) (b : Bool) → b ≡ true → JoinsStatements o t u b → MinimizesList o t u true
+pub joined_first : (o : Switches) (t u : Tree) (b : Bool) → b ≡ true → JoinsStatements o t u b → JoinsOthers o t u true
 joined_first o t u b e m = subst (JoinsStatements o t u) e m
 
-joined_then : (o : Switches) (t u v : Tree) (a b : Bool) → a ≡ false → JoinsStatements o t u a → JoinsGuards o u v b → MinimizesList o t v b
+joined_then : (o : Switches) (t u v : Tree) (a b : Bool) → a ≡ false → JoinsStatements o t u a → JoinsGuards o u v b → JoinsOthers o t v b
 joined_then o t u v a true e m n = let k = subst (JoinsStatements o t u) e m in subst (λ x. list.Moves o x v) k.0 n
 joined_then o t u v a false e m n =
     let k = subst (JoinsStatements o t u) e m in
-    (n.0 ∙ k.0, both_rest o t k.1 (subst (Rests o StatementList) k.0 n.1))
+    (n.0 ∙ k.0, (k.1, subst (Rests o StatementList) k.0 n.1))
 
-pub joined_after : (o : Switches) (t u v : Tree) (a : Bool) (r : Result Bool OutOfMemory) → a ≡ false → JoinsStatements o t u a → IfOk r (λ b. JoinsGuards o u v b) → IfOk r (λ b. MinimizesList o t v b)
+pub joined_after : (o : Switches) (t u v : Tree) (a : Bool) (r : Result Bool OutOfMemory) → a ≡ false → JoinsStatements o t u a → IfOk r (λ b. JoinsGuards o u v b) → IfOk r (λ b. JoinsOthers o t v b)
 joined_after o t u v a (Err e) f m n = n
 joined_after o t u v a (Ok b) f m n = joined_then o t u v a b f m n

@@ -3,4 +3,5 @@ pub mod Follows
 pub mod Quiet
 pub mod Stepping
 pub mod Guards
+pub mod Assignments
 pub mod Bodies

@@ -12,7 +12,7 @@ use Rattle.mini_terms.specs.Parts.{leaves_nothing}
 use Rattle.mini_tree.specs.Rule as rule
 use Rattle.mini_rows.specs.Switches.{Switches}
 use Rattle.mini_rows.specs.Lists.{is_terminated, is_shallow, GuardsRow, InList, ListContracts}
-use Rattle.mini_stmt.specs.MinimizeStatements.{Changes, is_quiet}
+use Rattle.mini_stmt.specs.MinimizeStatements.{Changes, is_quiet, StretchRests}
 use Rattle.mini_stmt.specs.MinimizeStatements as list
 
 -- `if (a) s`, and then an `if` with the branch s, where a nests no deeper than 64
@@ -85,3 +85,11 @@ Rests o p t = (w : Tree) → InGuards o p t w → ⊥
 -- the node of a list
 abbrev pub JoinsGuards : Switches → Tree → Tree → Bool → Type 0
 JoinsGuards o t u changed = rule.Applied (ListContracts o) (Rests o) StatementList t u changed
+
+-- no row but those of assignments reads it
+abbrev pub OthersRest : Switches → Position → Tree → Type 0
+OthersRest o p t = StretchRests o p t × Rests o p t
+
+-- the node of a list, by those rows
+abbrev pub JoinsOthers : Switches → Tree → Tree → Bool → Type 0
+JoinsOthers o t u changed = rule.Applied (ListContracts o) (OthersRest o) StatementList t u changed

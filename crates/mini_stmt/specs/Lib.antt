@@ -8,5 +8,6 @@ pub mod SpreadBlock
 pub mod MinimizeStatements
 pub mod Lighter
 pub mod JoinGuards
+pub mod JoinAssignments
 pub mod MinimizeBody
 pub mod Terminated

@@ -11,6 +11,7 @@ use Rattle.mini_tree.specs.Rule as rule
 use Rattle.mini_rows.specs.Switches.{Switches}
 use Rattle.mini_rows.specs.Lists.{are_unscoped, are_shallow, bare_return, Row75, Row75Block, AtEnd, EndRow, ListContracts}
 use Rattle.mini_stmt.specs.JoinGuards.{last_after, is_apart}
+use Rattle.mini_stmt.specs.JoinAssignments.{are_entered}
 use Rattle.mini_stmt.specs.JoinJumps.{returns_nothing}
 use Rattle.mini_stmt.specs.MinimizeStatements.{is_quiet, Rests}
 use Rattle.mini_stmt.specs.SpreadBlock.{body_of}
@@ -86,7 +87,7 @@ EndsBody o t u changed = rule.Applied (ListContracts o) (λ p. EndRests o) BodyL
 abbrev pub MinimizesBody : Switches → Tree → Tree → Bool → Type 0
 MinimizesBody o t u changed = rule.Applied (ListContracts o) (Rests o) BodyList t u changed
 
--- no row at all reads a list that is quiet and in which no two neighbours are guards to join; nor one of a function's body, if
--- its end isn't read
+-- no row at all reads a list that is quiet, and in which no two neighbours are guards to join and no assignment goes into a `var`
+-- before it; nor one of a function's body, if its end isn't read
 abbrev pub QuietRests : Type 0
-QuietRests = (o : Switches) (t : Trees) → is_quiet o t ≡ true → is_apart o t ≡ true → (p : Position) → (p ≡ BodyList → is_ended o t ≡ true) → Rests o p (listed t)
+QuietRests = (o : Switches) (t : Trees) → is_quiet o t ≡ true → is_apart o t ≡ true → are_entered t ≡ true → (p : Position) → (p ≡ BodyList → is_ended o t ≡ true) → Rests o p (listed t)

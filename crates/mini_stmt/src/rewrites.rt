@@ -1,3 +1,4 @@
+pub mod join_assignments;
 pub mod join_expressions;
 pub mod join_guards;
 pub mod join_heads;

@@ -5,11 +5,13 @@ ghost use Rattle.mini_model.specs.Paths.{append};
 ghost use Rattle.mini_model.specs.Tree.{none, ◌▸◌, children, count, node_count, node_counts};
 ghost use Rattle.mini_stmt.specs.MinimizeStatements as row;
 ghost use Rattle.mini_stmt.specs.MinimizeStatements.{Changes, Minimized, JoinsStatements, MinimizesList, Placed, Gives, RestsUnder, switches_of};
+ghost use Rattle.mini_stmt.specs.JoinGuards.{JoinsOthers};
 ghost use Rattle.mini_stmt.specs.MinimizeBody.{QuietRests};
 ghost use Rattle.mini_stmt.specs.Lighter.{lists_lighter};
 ghost use Rattle.mini_tree.specs.Rule.{Applied};
 
 use crate::lead::{Lead, lead_of};
+use crate::rewrites::join_assignments::join_assignments;
 use crate::rewrites::join_expressions::joined_expressions;
 use crate::rewrites::join_guards::join_guards;
 use crate::rewrites::join_heads::{
@@ -276,6 +278,20 @@ fn join_statements(
     minimize_all(alloc, options, node.children_mut())
 }
 
+// A list of statements without what the rows of lists read but for those of assignments.
+fn join_others(
+    alloc: Global,
+    options: CompressOptions,
+    node: &mut Node,
+) -> Result<bool, OutOfMemory>
+    ensures { IfOk result (λ changed. JoinsOthers (switches_of options) node.old node.new changed) }
+{
+    if join_statements(alloc, options, node)? {
+        return Ok(true);
+    }
+    join_guards(alloc, options, node)
+}
+
 /// A list of statements without what the rows of lists read: empty statements go, blocks are spread, neighbours are
 /// joined. The answer says whether it changed; the only error is that memory runs out, and then the list is fit only to be
 /// dropped.
@@ -286,10 +302,10 @@ pub fn minimize_statements(
 ) -> Result<bool, OutOfMemory>
     ensures { IfOk result (λ changed. MinimizesList (switches_of options) node.old node.new changed) }
 {
-    if join_statements(alloc, options, node)? {
+    if join_assignments(alloc, node)? {
         return Ok(true);
     }
-    join_guards(alloc, options, node)
+    join_others(alloc, options, node)
 }
 
 /// The rows of lists as a rule: of each list of statements.

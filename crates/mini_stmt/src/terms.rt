@@ -119,8 +119,8 @@ pub fn declares_nothing(node: &Node) -> bool
     }
 }
 
-// Whether the expression is one part by itself.
-fn is_one_part(node: &Node) -> bool
+/// Whether the expression is one part by itself.
+pub fn is_one_part(node: &Node) -> bool
     ensures { result ≡ list.is_one_part node.now }
 {
     match node.shape() {

@@ -37,8 +37,8 @@ fn is_for_in(node: &Node) -> bool
     matches!(node.shape(), Shape::ForInStatement) && node.is_bare(3)
 }
 
-// Whether a declarator has no initializer.
-fn lacks_initializer(node: &Node) -> bool
+/// Whether a declarator has no initializer.
+pub fn lacks_initializer(node: &Node) -> bool
     ensures { result ≡ list.lacks_initializer node.now }
 {
     node.children().len() == 2 && matches!(node.child(1).shape(), Shape::Absent)
@@ -69,8 +69,8 @@ fn is_plain_left(node: &Node) -> bool
     declares_nothing(node) || is_bare_var(node)
 }
 
-// Whether the first child is the head.
-fn has_head(node: &Node) -> bool
+/// Whether the first child is the head.
+pub fn has_head(node: &Node) -> bool
     ensures kind { result ≡ row.has_head node.now }
     ensures parts { result ≡ true → 0 < count (children node.now) }
 {

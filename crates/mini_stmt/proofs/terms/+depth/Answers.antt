@@ -1,4 +1,4 @@
-use Rattle.std.proofs.Common.{◌∙◌, ap, sym, refl, arith}
+use Rattle.std.proofs.Common.{◌∙◌, ap, sym, arith}
 use Rattle.mini_node.specs.Children.{rest_children}
 use Rattle.mini_rows.specs.Lists.{is_shallow, are_shallow}
 use Rattle.mini_stmt.proofs.Parts.{shallow_stops, shallow_goes_on, shallow_ends}

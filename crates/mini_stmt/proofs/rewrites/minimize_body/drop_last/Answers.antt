@@ -1,4 +1,3 @@
-use Rattle.std.proofs.Common.{◌≡◌, sym}
 use Rattle.mini_stmt.proofs.Bodies.{some_bare, drops_last}
 use Rattle.mini_stmt.proofs.rewrites.minimize_body.drop_last.Goals as goal
 

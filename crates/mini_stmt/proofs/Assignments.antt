@@ -1,0 +1,616 @@
+-- 70: an assignment that begins the statement after a `var`.
+use Rattle.std.proofs.Common.{◌≡◌, ℕ, zero, suc, ◌+◌, ◌<◌, ◌≤◌, Bool, true, false, refl, sym, ap, ◌∙◌, subst, inl, inr, ⊎_elim, true≢false, arith}
+use Rattle.std.specs.Prelude.{◌⊎◌, not, ◌&&◌, ◌||◌, if◌then◌else◌, List, [], ◌∷◌, Option, Some, None, nat_eq, Result, Ok, Err, IfOk}
+use Rattle.std.proofs.lemmas.Bool.{and_parts, eqb-true, eq-eqb}
+use Rattle.mini_model.specs.declared.kind.VariableDeclarationKind.TheVariants.{Var}
+use Rattle.mini_model.specs.declared.memory.OutOfMemory.{OutOfMemory}
+use Rattle.mini_model.specs.declared.name.Name.{Name}
+use Rattle.mini_model.specs.declared.name.SymbolId.{SymbolId}
+use Rattle.mini_model.specs.declared.operator.AssignmentOperator.TheVariants.{Assign}
+use Rattle.mini_model.specs.declared.place.Position.{Position}
+use Rattle.mini_model.specs.declared.place.Position.TheVariants.{StatementList}
+use Rattle.mini_model.specs.declared.shape.Shape.TheVariants as shape
+use Rattle.mini_model.specs.Tree.{Tree, Trees, node, none, ◌▸◌, count, shape_of, child_or_absent, absent, listed, children, identifier, expression_statement, node_count, node_counts}
+use Rattle.mini_model.specs.Paths.{append}
+use Rattle.mini_node.specs.Children.{part, with_part, with_child, without, is_bare, names_of, first_children, rest_children}
+use Rattle.mini_node.specs.Lends.{with_children}
+use Rattle.mini_node.specs.Kinds.{is_absent_part, is_identifier, is_named_leaf, is_listed, is_sequence, is_expression_statement, same_symbol, same_names}
+use Rattle.mini_node.specs.Made.{listed_is, absent_is, sequence_is, expression_statement_is, identifier_is}
+use Rattle.mini_node.specs.Walks.{from_first, next_child, no_rest, append_one, append_none}
+use Rattle.mini_rows.specs.Lists.{of_parts, are_parts, sequence, for_loop, declaration, declares_nothing, resolved, binding, declarator, assigned, is_declarator_shape, is_bare_declarator, are_bare_declarators, Head, Return, Throw, If, Switch, For, with_head, Holder, Statement, Heading, holding, Beginning, Alone, Init, Before, begun, begun_without, begins_well, Row70, NeighbourRow, InList}
+use Rattle.mini_stmt.specs.JoinHeads.{is_for, has_head}
+use Rattle.mini_stmt.specs.JoinVars.{declares}
+use Rattle.mini_stmt.specs.JoinGuards.{last_after, JoinsOthers}
+use Rattle.mini_rows.specs.Switches.{Switches}
+use Rattle.mini_stmt.specs.MinimizeStatements.{Changes, Moves, is_quiet, reversed, StretchRests, MinimizesList}
+use Rattle.mini_stmt.specs.MinimizeStatements as list
+use Rattle.mini_stmt.specs.JoinGuards as guards
+use Rattle.mini_stmt.specs.JoinAssignments.{is_assign_shape, assigns_name, is_binding_shape, declares_bare, takes_name, TakesAt, leaves_parts, holds_sequence, holds_alone, beginning_of, assigns_first, may_enter, enters, EntersAt, other_parts, left_alone, left_of, with_value, Entered, enters_first, are_entered, enters_last, EntersLast, PutEntered, AllEntered, Rests, JoinsAssignments}
+use Rattle.mini_stmt.proofs.Parts.{not_true, below}
+use Rattle.mini_stmt.proofs.Follows.{Headed, head_by, for_is, with_other, declares_is}
+use Rattle.mini_stmt.proofs.Guards.{last_pushed, last_is, apart_rests, all_rest}
+use Rattle.mini_stmt.proofs.Quiet.{quiet_rests}
+use Rattle.mini_stmt.proofs.Stepping.{neighbours_in, steps_on, changes_on}
+
+both : (a b : Bool) → a ≡ true → b ≡ true → a && b ≡ true
+both true b e f = f
+both false b e f = absurd (true≢false (sym e))
+
+or_cases : (a b : Bool) → a || b ≡ true → (a ≡ true) ⊎ (b ≡ true)
+or_cases true b h = inl refl
+or_cases false b h = inr h
+
+or_true : (b : Bool) → b || true ≡ true
+or_true true = refl
+or_true false = refl
+
+-- ---- an assignment, and a declarator of the name
+
+assignment_is : (a : Tree) → is_assign_shape (shape_of a) && is_bare a 2 ≡ true → a ≡ node (shape.AssignmentExpression Assign) [] 0 (part a 0 ▸ (part a 1 ▸ none))
+assignment_is (node (shape.AssignmentExpression Assign) [] zero (x ▸ (b ▸ none))) e = refl
+assignment_is a e = absurd (true≢false (sym e))
+
+-- `x = b` by its parts
+record Assigns (a : Tree) : Type 0 where
+  is : a ≡ node (shape.AssignmentExpression Assign) [] 0 (part a 0 ▸ (part a 1 ▸ none))
+  target : is_identifier (part a 0) ≡ true
+  plain : declares_nothing (part a 1) ≡ true
+
+assigns_by : (a : Tree) → assigns_name a ≡ true → Assigns a
+assigns_by a e =
+    let (x, r) = and_parts (is_assign_shape (shape_of a)) (is_bare a 2 && (is_identifier (part a 0) && declares_nothing (part a 1))) e in
+    let (y, s) = and_parts (is_bare a 2) (is_identifier (part a 0) && declares_nothing (part a 1)) r in
+    let (z, w) = and_parts (is_identifier (part a 0)) (declares_nothing (part a 1)) s in
+    record { is = assignment_is a (both (is_assign_shape (shape_of a)) (is_bare a 2) x y); target = z; plain = w }
+
+declarator_is : (d : Tree) → is_declarator_shape (shape_of d) && is_bare d 2 ≡ true → d ≡ declarator (part d 0) (part d 1)
+declarator_is (node shape.VariableDeclarator [] zero (a ▸ (b ▸ none))) e = refl
+declarator_is d e = absurd (true≢false (sym e))
+
+binding_is : (t : Tree) → is_binding_shape (shape_of t) && is_named_leaf t ≡ true → (x : Name) × (t ≡ binding x)
+binding_is (node shape.BindingIdentifier (x ∷ []) zero none) e = (x, refl)
+binding_is t e = absurd (true≢false (sym e))
+
+symbols_are : (a b : Option SymbolId) → same_symbol a b ≡ true → (k : ℕ) × ((a ≡ Some (record { 0 = k })) × (b ≡ Some (record { 0 = k })))
+symbols_are (Some a) (Some b) e = (a.0, (refl, ap (λ n. Some (record { 0 = n })) (sym (eqb-true a.0 b.0 e))))
+symbols_are (Some a) None e = absurd (true≢false (sym e))
+symbols_are None b e = absurd (true≢false (sym e))
+
+name_with : (x : Name) (o : Option SymbolId) → Name
+name_with x o = record { spelling = x.spelling; symbol = o }
+
+-- a declarator and the name that is assigned to, of one symbol
+record Bound (d x : Tree) : Type 0 where
+  name : Name
+  target : Name
+  symbol : ℕ
+  is : d ≡ declarator (binding (resolved name.spelling symbol)) absent
+  target_is : x ≡ identifier (resolved target.spelling symbol)
+
+bound_names : (d x : Tree) (y z : Name) → d ≡ declarator (binding z) absent → x ≡ identifier y → same_symbol z.symbol y.symbol ≡ true → Bound d x
+unfolding name_with
+bound_names d x y z e f g =
+    let (k, (p, q)) = symbols_are z.symbol y.symbol g in
+    record {
+      name = z;
+      target = y;
+      symbol = k;
+      is = e ∙ ap (λ o. declarator (binding (name_with z o)) absent) p;
+      target_is = f ∙ ap (λ o. identifier (name_with y o)) q;
+    }
+
+bound_by : (d x : Tree) → is_identifier x ≡ true → declares_bare d x ≡ true → Bound d x
+bound_by d x i e =
+    let id = part d 0 in
+    let names = same_names (names_of id) (names_of x) && is_absent_part (part d 1) in
+    let named = is_binding_shape (shape_of id) && is_named_leaf id in
+    let (a, r) = and_parts (is_declarator_shape (shape_of d)) (is_bare d 2 && (named && names)) e in
+    let (b, s) = and_parts (is_bare d 2) (named && names) r in
+    let (c, q) = and_parts named names s in
+    let (same, gone) = and_parts (same_names (names_of id) (names_of x)) (is_absent_part (part d 1)) q in
+    let (z, z_is) = binding_is id c in
+    let (y, y_is) = identifier_is x i in
+    bound_names d x y z
+    (declarator_is d (both (is_declarator_shape (shape_of d)) (is_bare d 2) a b) ∙ (λ j. declarator (z_is j) (absent_is (part d 1) gone j)))
+    y_is
+    ((λ j. same_names (names_of (sym z_is j)) (names_of (sym y_is j))) ∙ same)
+
+-- ---- what a statement begins with
+
+record Begins (u : Tree) : Type 0 where
+  beginning : Beginning
+  well : begins_well beginning ≡ true
+  whole : u ≡ begun beginning (beginning_of u)
+  left : left_of u ≡ begun_without beginning
+
+-- a statement or a head
+record Held (u : Tree) : Type 0 where
+  holder : Holder
+  is : u ≡ holding holder (part u 0)
+  other : (e : Tree) → with_part u 0 e ≡ holding holder e
+
+held_by : (u : Tree) → is_expression_statement u || has_head u ≡ true → Held u
+held_by u h = ⊎_elim
+    (λ e. let is = expression_statement_is u e in record { holder = Statement; is = is; other = λ x. ap (λ v. with_part v 0 x) is })
+    (λ e. let headed = head_by u e in record { holder = Heading headed.head; is = headed.is; other = λ x. with_other u headed.head (part u 0) x headed.is })
+    (or_cases (is_expression_statement u) (has_head u) h)
+
+-- the parts of its sequence
+several : (u : Tree) (h : Held u) → part u 0 ≡ sequence (children (part (part u 0) 0)) → holds_sequence u ≡ true → (ts : Trees) → children (part (part u 0) 0) ≡ ts → leaves_parts ts ≡ true → Begins u
+several u h s b none e f = absurd (true≢false (sym f))
+several u h s b (a ▸ none) e f = absurd (true≢false (sym f))
+several u h s b (a ▸ (q ▸ qs)) e f =
+    let first : beginning_of u ≡ a = ap (λ c. if c then part (part (part u 0) 0) 0 else part u 0) b ∙ ap (λ x. child_or_absent x 0) e in
+    record {
+      beginning = Before h.holder q qs;
+      well = f;
+      whole = h.is ∙ ap (holding h.holder) (s ∙ ap sequence e) ∙ ap (λ x. holding h.holder (sequence (x ▸ (q ▸ qs)))) (sym first);
+      left = ap (λ c. if c then with_part u 0 (other_parts (children (part (part u 0) 0))) ▸ none else left_alone u) b ∙ ap (λ x. x ▸ none) (h.other (other_parts (children (part (part u 0) 0))) ∙ ap (λ x. holding h.holder (other_parts x)) e);
+    }
+
+sequence_begins : (u : Tree) → holds_sequence u ≡ true → Begins u
+sequence_begins u e =
+    let (held, r) = and_parts (is_expression_statement u || has_head u) (is_sequence (part u 0) && leaves_parts (children (part (part u 0) 0))) e in
+    let (is, leaves) = and_parts (is_sequence (part u 0)) (leaves_parts (children (part (part u 0) 0))) r in
+    several u (held_by u held) (sequence_is (part u 0) is) e (children (part (part u 0) 0)) refl leaves
+
+alone_begins : (u : Tree) → holds_sequence u ≡ false → holds_alone u ≡ true → Begins u
+alone_begins u s h = by (is_expression_statement u) refl h
+  where
+    first : beginning_of u ≡ part u 0
+    first = ap (λ c. if c then part (part (part u 0) 0) 0 else part u 0) s
+
+    rest : left_of u ≡ left_alone u
+    rest = ap (λ c. if c then with_part u 0 (other_parts (children (part (part u 0) 0))) ▸ none else left_alone u) s
+
+    by : (b : Bool) → is_expression_statement u ≡ b → b || is_for u ≡ true → Begins u
+    by true e g = record {
+      beginning = Alone;
+      well = refl;
+      whole = expression_statement_is u e ∙ ap expression_statement (sym first);
+      left = rest ∙ ap (λ c. if c then none else with_part u 0 absent ▸ none) e;
+    }
+    by false e g =
+        let loop = for_is u g in
+        record {
+          beginning = Init (part u 1) (part u 2) (part u 3);
+          well = refl;
+          whole = loop ∙ ap (λ i. for_loop i (part u 1) (part u 2) (part u 3)) (sym first);
+          left = rest ∙ ap (λ c. if c then none else with_part u 0 absent ▸ none) e ∙ ap (λ v. with_part v 0 absent ▸ none) loop;
+        }
+
+begins_by : (u : Tree) → holds_sequence u || holds_alone u ≡ true → Begins u
+begins_by u h = by (holds_sequence u) refl h
+  where
+    by : (b : Bool) → holds_sequence u ≡ b → b || holds_alone u ≡ true → Begins u
+    by true e g = sequence_begins u e
+    by false e g = alone_begins u e g
+
+-- ---- the row
+
+split_at : (ts : Trees) (i : ℕ) → i < count ts → ts ≡ append (first_children i ts) (child_or_absent ts i ▸ rest_children (suc i) ts)
+split_at none i h = absurd (omega (arith, h))
+split_at (t ▸ none) zero h = refl
+split_at (t ▸ (u ▸ ts)) zero h = refl
+split_at (t ▸ ts) (suc i) h = ap (λ us. t ▸ us) (split_at ts i (omega (arith, h)))
+
+with_at : (ts : Trees) (i : ℕ) (x : Tree) → i < count ts → with_child ts i x ≡ append (first_children i ts) (x ▸ rest_children (suc i) ts)
+with_at none i x h = absurd (omega (arith, h))
+with_at (t ▸ none) zero x h = refl
+with_at (t ▸ (u ▸ ts)) zero x h = refl
+with_at (t ▸ ts) (suc i) x h = ap (λ us. t ▸ us) (with_at ts i x (omega (arith, h)))
+
+pub enters_row : (t u : Tree) (i : ℕ) → EntersAt t u (Some i) → Entered t u (with_value t i (part (beginning_of u) 1)) (left_of u)
+enters_row t u i m =
+    let ts = children (part t 0) in
+    let d = child_or_absent ts i in
+    let value = part (beginning_of u) 1 in
+    let (var, first) = and_parts (declares Var t) (assigns_first u) m.0 in
+    let (whole, assigns) = and_parts (holds_sequence u || holds_alone u) (assigns_name (beginning_of u)) first in
+    let begins = begins_by u whole in
+    let a = assigns_by (beginning_of u) assigns in
+    let (within, declared, others) = m.1 in
+    let bound = bound_by d (part (beginning_of u) 0) a.target declared in
+    let made : assigned (resolved bound.target.spelling bound.symbol) value ≡ beginning_of u = sym (a.is ∙ ap (λ x. node (shape.AssignmentExpression Assign) [] 0 (x ▸ (value ▸ none))) bound.target_is) in
+    record {
+      ds = first_children i ts;
+      spelling = bound.name.spelling;
+      symbol = bound.symbol;
+      es = rest_children (suc i) ts;
+      target = bound.target.spelling;
+      value = value;
+      beginning = begins.beginning;
+      bare = others;
+      plain = a.plain;
+      parts = begins.well;
+      shape =
+          λ j. (declares_is Var t var ∙ ap (declaration Var) (split_at ts i within) ∙ ap (λ x. declaration Var (append (first_children i ts) (x ▸ rest_children (suc i) ts))) bound.is) j
+          ▸ ((begins.whole ∙ ap (begun begins.beginning) (sym made)) j ▸ none);
+      written =
+          λ j. (ap (declaration Var) (with_at ts i (with_part d 1 value) within) ∙ ap (λ x. declaration Var (append (first_children i ts) (with_part x 1 value ▸ rest_children (suc i) ts))) bound.is) j
+          ▸ begins.left j;
+    }
+
+-- ---- a row reads what the tests tell
+
+record Pair (a : Trees) : Type 0 where
+  first : Tree
+  next : Tree
+  is : a ≡ first ▸ (next ▸ none)
+  met : enters first next ≡ true
+
+assigned_tells : (x : Name) (value : Tree) → declares_nothing value ≡ true → assigns_name (assigned x value) ≡ true
+assigned_tells x value h = h
+
+head_has : (h : Head) (e : Tree) → has_head (with_head h e) ≡ true
+head_has Return e = refl
+head_has Throw e = refl
+head_has (If u v) e = refl
+head_has (Switch cases) e = refl
+head_has (For u v w) e = refl
+
+head_first : (h : Head) (e : Tree) → part (with_head h e) 0 ≡ e
+head_first Return e = refl
+head_first Throw e = refl
+head_first (If u v) e = refl
+head_first (Switch cases) e = refl
+head_first (For u v w) e = refl
+
+holder_has : (h : Holder) (e : Tree) → is_expression_statement (holding h e) || has_head (holding h e) ≡ true
+holder_has Statement e = refl
+holder_has (Heading h) e = ap (λ b. is_expression_statement (with_head h e) || b) (head_has h e) ∙ or_true (is_expression_statement (with_head h e))
+
+holder_first : (h : Holder) (e : Tree) → part (holding h e) 0 ≡ e
+holder_first Statement e = refl
+holder_first (Heading h) e = head_first h e
+
+holds_tells : (h : Holder) (a q : Tree) (qs : Trees) → are_parts q qs ≡ true → holds_sequence (holding h (sequence (a ▸ (q ▸ qs)))) ≡ true
+holds_tells h a q qs k =
+    let e = sequence (a ▸ (q ▸ qs)) in
+    ap (λ b. b && (is_sequence (part (holding h e) 0) && leaves_parts (children (part (part (holding h e) 0) 0)))) (holder_has h e)
+    ∙ ap (λ x. is_sequence x && leaves_parts (children (part x 0))) (holder_first h e) ∙ k
+
+-- it is told, and so is what it begins with
+record Told (b : Beginning) (a : Tree) : Type 0 where
+  holds : holds_sequence (begun b a) || holds_alone (begun b a) ≡ true
+  first : beginning_of (begun b a) ≡ a
+
+told_by : (b : Beginning) (x : Name) (value : Tree) → begins_well b ≡ true → Told b (assigned x value)
+told_by Alone x value k = record { holds = refl; first = refl }
+told_by (Init u v w) x value k = record { holds = refl; first = refl }
+told_by (Before h q qs) x value k =
+    let e = sequence (assigned x value ▸ (q ▸ qs)) in
+    let told = holds_tells h (assigned x value) q qs k in
+    record {
+      holds = ap (λ b. b || holds_alone (holding h e)) told;
+      first = ap (λ c. if c then part (part (part (holding h e) 0) 0) 0 else part (holding h e) 0) told ∙ ap (λ y. part (part y 0) 0) (holder_first h e);
+    }
+
+name_taken : (s t : List ℕ) (k : ℕ) (ds es : Trees) → are_bare_declarators es ≡ true → takes_name (identifier (resolved t k)) (append ds (declarator (binding (resolved s k)) absent ▸ es)) ≡ true
+name_taken s t k none es h = ap (λ b. (b && are_bare_declarators es) || takes_name (identifier (resolved t k)) es) (ap (λ b. b && true) (eq-eqb k k refl)) ∙ ap (λ b. b || takes_name (identifier (resolved t k)) es) h
+name_taken s t k (d ▸ ds) es h =
+    let rest = append ds (declarator (binding (resolved s k)) absent ▸ es) in
+    ap (λ b. (declares_bare d (identifier (resolved t k)) && are_bare_declarators rest) || b) (name_taken s t k ds es h) ∙ or_true (declares_bare d (identifier (resolved t k)) && are_bare_declarators rest)
+
+row_enters : (a b : Trees) → Row70 a b → Pair a
+row_enters a b r =
+    let old = declaration Var (append r.ds (declarator (binding (resolved r.spelling r.symbol)) absent ▸ r.es)) in
+    let x = resolved r.target r.symbol in
+    let u = begun r.beginning (assigned x r.value) in
+    let told = told_by r.beginning x r.value r.parts in
+    record {
+      first = old;
+      next = u;
+      is = r.shape;
+      met =
+          both (declares Var old && assigns_first u) (takes_name (part (beginning_of u) 0) (children (part old 0)))
+          (both (holds_sequence u || holds_alone u) (assigns_name (beginning_of u)) told.holds (ap assigns_name told.first ∙ assigned_tells x r.value r.plain))
+          (ap (λ v. takes_name (part v 0) (children (part old 0))) told.first ∙ name_taken r.spelling r.target r.symbol r.ds r.es r.bare);
+    }
+
+-- ---- a list
+
+enter_before : (t u : Tree) (after : Trees) (ts : Trees) → are_entered (append ts (t ▸ (u ▸ after))) ≡ true → enters t u ≡ false
+enter_before t u after none e = not_true (enters t u) (and_parts (not (enters t u)) (are_entered (u ▸ after)) e).0
+enter_before t u after (c ▸ ts) e = enter_before t u after ts (and_parts (not (enters_first (c ▸ append ts (t ▸ (u ▸ after))))) (are_entered (append ts (t ▸ (u ▸ after)))) e).1
+
+entered_rest : (ts : Trees) → are_entered ts ≡ true → (w : Tree) → InList Row70 (listed ts) w → ⊥
+entered_rest ts e w r =
+    let m = row_enters r.read r.put r.row in
+    let is : ts ≡ append r.before (m.first ▸ (m.next ▸ r.after)) = ap children r.shape ∙ ap (λ a. append r.before (append a r.after)) m.is in
+    true≢false (sym m.met ∙ enter_before m.first m.next r.after r.before (sym (ap are_entered is) ∙ e))
+
+pub entered_rests : (ts : Trees) → are_entered ts ≡ true → (p : Position) → Rests p (listed ts)
+entered_rests ts e StatementList w r = entered_rest ts e w r
+entered_rests ts e p w r = absurd r
+
+-- ---- as the list goes on
+
+pub entered_stops : (ts : Trees) (i : ℕ) → i < count ts → enters_first (rest_children i ts) ≡ true → are_entered (rest_children i ts) ≡ are_entered ts → false ≡ are_entered ts
+entered_stops ts i h e inv =
+    let next = next_child ts i h in
+    let here : enters_first (child_or_absent ts i ▸ rest_children (suc i) ts) ≡ true = sym (ap enters_first next) ∙ e in
+    sym (ap (λ b. not b && are_entered (rest_children (suc i) ts)) here) ∙ sym (ap are_entered next) ∙ inv
+
+pub entered_goes_on : (ts : Trees) (i : ℕ) → i < count ts → enters_first (rest_children i ts) ≡ false → are_entered (rest_children i ts) ≡ are_entered ts → are_entered (rest_children (i + 1) ts) ≡ are_entered ts
+entered_goes_on ts i h e inv =
+    let next = next_child ts i h in
+    let other : i + 1 ≡ suc i = omega arith in
+    let here : enters_first (child_or_absent ts i ▸ rest_children (suc i) ts) ≡ false = sym (ap enters_first next) ∙ e in
+    ap (λ k. are_entered (rest_children k ts)) other ∙ sym (ap (λ b. not b && are_entered (rest_children (suc i) ts)) here) ∙ sym (ap are_entered next) ∙ inv
+
+pub entered_ends : (ts : Trees) (i : ℕ) → count ts ≤ i → are_entered (rest_children i ts) ≡ are_entered ts → true ≡ are_entered ts
+entered_ends ts i h inv = sym (ap are_entered (no_rest ts i h)) ∙ inv
+
+pub entered_start : (ts : Trees) → are_entered (rest_children 0 ts) ≡ are_entered ts
+entered_start ts = ap are_entered (from_first ts)
+
+-- one of them and the next one
+pub two_there : (ts : Trees) (i : ℕ) → i + 1 < count ts → enters_first (rest_children i ts) ≡ enters (child_or_absent ts i) (child_or_absent ts (i + 1))
+two_there ts i h =
+    let other : i + 1 ≡ suc i = omega arith in
+    ap enters_first (next_child ts i (omega (arith, h)) ∙ ap (λ r. child_or_absent ts i ▸ r) (next_child ts (suc i) (omega (arith, h)))) ∙ ap (λ k. enters (child_or_absent ts i) (child_or_absent ts k)) (sym other)
+
+pub one_there : (ts : Trees) (i : ℕ) → i < count ts → count ts ≤ i + 1 → enters_first (rest_children i ts) ≡ false
+one_there ts i h k = ap enters_first (next_child ts i h ∙ ap (λ r. child_or_absent ts i ▸ r) (no_rest ts (suc i) (omega (arith, k))))
+
+-- a place tells
+place_tells : (x : Tree) (ts : Trees) (i : ℕ) → TakesAt x ts (Some i) → takes_name x ts ≡ true
+place_tells x none i m = absurd (omega (arith, m.0))
+place_tells x (d ▸ ds) zero m = ap (λ b. (b && are_bare_declarators ds) || takes_name x ds) m.1 ∙ ap (λ b. b || takes_name x ds) (ap are_bare_declarators (sym (from_first ds)) ∙ m.2)
+place_tells x (d ▸ ds) (suc i) m = ap (λ b. (declares_bare d x && are_bare_declarators ds) || b) (place_tells x ds i (omega (arith, m.0), m.1, m.2)) ∙ or_true (declares_bare d x && are_bare_declarators ds)
+
+abbrev is_some : Option ℕ → Bool
+is_some (Some i) = true
+is_some None = false
+
+pub tells : (t u : Tree) (o : Option ℕ) → EntersAt t u o → (b : Bool) → b ≡ is_some o → b ≡ enters t u
+tells t u (Some i) m b e = e ∙ sym (both (may_enter t u) (takes_name (part (beginning_of u) 0) (children (part t 0))) m.0 (place_tells (part (beginning_of u) 0) (children (part t 0)) i m.1))
+tells t u None m b e = e ∙ sym m
+
+pub may_not : (t u : Tree) → may_enter t u ≡ false → EntersAt t u None
+may_not t u e = ap (λ b. b && takes_name (part (beginning_of u) 0) (children (part t 0))) e
+
+pub may : (t u : Tree) (o : Option ℕ) → may_enter t u ≡ true → TakesAt (part (beginning_of u) 0) (children (part t 0)) o → EntersAt t u o
+may t u (Some i) e m = (e, m)
+may t u None e m = ap (λ b. b && takes_name (part (beginning_of u) 0) (children (part t 0))) e ∙ m
+
+-- ---- the last declarator of a name
+
+-- from a place on none has an initializer, and none is of the name
+abbrev pub Passed : Tree → Trees → ℕ → Type 0
+Passed x ts k = (are_bare_declarators (rest_children k ts) ≡ true) × (takes_name x (rest_children k ts) ≡ false)
+
+module _ (x : Tree) where
+  pub passed_start : (ts : Trees) (k : ℕ) → k ≡ count ts → Passed x ts k
+  passed_start ts k e = let ends = no_rest ts k (omega (arith, e)) in (ap are_bare_declarators ends, ap (takes_name x) ends)
+
+  pub passed_on : (ts : Trees) (i k : ℕ) → i < count ts → k ≡ suc i → is_bare_declarator (child_or_absent ts i) ≡ true → declares_bare (child_or_absent ts i) x ≡ false → Passed x ts k → Passed x ts i
+  passed_on ts i k h e u l p =
+      let next = next_child ts i h in
+      let there = subst (Passed x ts) e p in
+      (ap are_bare_declarators next ∙ ap (λ b. b && are_bare_declarators (rest_children (suc i) ts)) u ∙ there.0, ap (takes_name x) next ∙ ap (λ b. (b && are_bare_declarators (rest_children (suc i) ts)) || takes_name x (rest_children (suc i) ts)) l ∙ there.1)
+
+  pub passed_found : (ts : Trees) (i k : ℕ) → i < count ts → k ≡ suc i → declares_bare (child_or_absent ts i) x ≡ true → Passed x ts k → TakesAt x ts (Some i)
+  passed_found ts i k h e f p = (h, f, (subst (Passed x ts) e p).0)
+
+  stop : (ts : Trees) (i : ℕ) → are_bare_declarators (rest_children i ts) ≡ false → takes_name x (rest_children i ts) ≡ false → (takes_name x ts ≡ false) × (are_bare_declarators ts ≡ false)
+  stop none i u e = absurd (true≢false u)
+  stop (t ▸ ts) zero u e = (e, u)
+  stop (t ▸ ts) (suc i) u e =
+      let (takes, bare) = stop ts i u e in
+      (ap (λ b. (declares_bare t x && b) || takes_name x ts) bare ∙ ap (λ b. b || takes_name x ts) (never (declares_bare t x)) ∙ takes, ap (λ b. is_bare_declarator t && b) bare ∙ never (is_bare_declarator t))
+    where
+      never : (b : Bool) → b && false ≡ false
+      never true = refl
+      never false = refl
+
+  pub passed_stops : (ts : Trees) (i k : ℕ) → i < count ts → k ≡ suc i → is_bare_declarator (child_or_absent ts i) ≡ false → declares_bare (child_or_absent ts i) x ≡ false → Passed x ts k → TakesAt x ts None
+  passed_stops ts i k h e u l p =
+      let next = next_child ts i h in
+      let there = subst (Passed x ts) e p in
+      (stop ts i (ap are_bare_declarators next ∙ ap (λ b. b && are_bare_declarators (rest_children (suc i) ts)) u) (ap (takes_name x) next ∙ ap (λ b. (b && are_bare_declarators (rest_children (suc i) ts)) || takes_name x (rest_children (suc i) ts)) l ∙ there.1)).0
+
+  pub passed_all : (ts : Trees) (k : ℕ) → k ≡ 0 → Passed x ts k → TakesAt x ts None
+  passed_all ts k e p = sym (ap (takes_name x) (from_first ts)) ∙ (subst (Passed x ts) e p).1
+
+-- ---- a statement after the others
+
+pub no_last : (ts : Trees) (u : Tree) → count ts ≡ 0 → EntersLast ts u None
+no_last none u e = refl
+no_last (t ▸ ts) u e = absurd (omega (arith, e))
+
+pub last_enters : (ts : Trees) (u : Tree) (i : ℕ) (o : Option ℕ) → count ts ≡ i + 1 → EntersAt (child_or_absent ts i) u o → EntersLast ts u o
+last_enters ts u i (Some j) e m = (omega (arith, e), subst (λ t. EntersAt t u (Some j)) (sym (last_is absent ts i e)) m)
+last_enters ts u i None e m = ap (λ t. enters t u) (last_is absent ts i e) ∙ m
+
+-- the last of them is that one
+pub last_there : (before init : Trees) (last t : Tree) (i : ℕ) → EntersLast before t (Some i) → before ≡ append init (last ▸ none) → EntersAt last t (Some i)
+last_there before init last t i m e = subst (λ x. EntersAt x t (Some i)) (ap (last_after absent) e ∙ last_pushed absent init last) m.1
+
+push_entered : (t : Tree) (ts : Trees) (x : Tree) → enters (last_after t ts) x ≡ false → are_entered (t ▸ ts) ≡ true → are_entered (t ▸ append ts (x ▸ none)) ≡ true
+push_entered t none x e h = ap (λ b. not b && true) e
+push_entered t (u ▸ ts) x e h =
+    let (here, rest) = and_parts (not (enters t u)) (are_entered (u ▸ ts)) h in
+    ap (λ b. b && are_entered (u ▸ append ts (x ▸ none))) here ∙ push_entered u ts x e rest
+
+entered_push : (ts : Trees) (x : Tree) → enters_last ts x ≡ false → are_entered ts ≡ true → are_entered (append ts (x ▸ none)) ≡ true
+entered_push none x e h = refl
+entered_push (t ▸ ts) x e h = push_entered t ts x e h
+
+pub put_apart : (before : Trees) (t : Tree) (rest after : Trees) → EntersLast before t None → after ≡ append before (t ▸ none) → PutEntered before t rest after rest false
+put_apart before t rest after e f = record {
+  changes = λ o. ap (λ x. append x (reversed rest)) f ∙ append_one before t (reversed rest);
+  entered = λ c h. ap are_entered f ∙ entered_push before t e h;
+  smaller = let own = below t in omega (arith, own);
+}
+
+-- what is left is smaller
+
+parts_smaller : (a q : Tree) (qs : Trees) → node_count (of_parts q qs) < node_count (sequence (a ▸ (q ▸ qs)))
+parts_smaller a q none = omega arith
+parts_smaller a q (c ▸ qs) = let own = below a in omega (arith, own)
+
+holder_smaller : (h : Holder) (e d : Tree) → node_count e < node_count d → node_counts (holding h e ▸ none) < node_count (holding h d)
+holder_smaller Statement e d k = omega (arith, k)
+holder_smaller (Heading Return) e d k = omega (arith, k)
+holder_smaller (Heading Throw) e d k = omega (arith, k)
+holder_smaller (Heading (If u v)) e d k = omega (arith, k)
+holder_smaller (Heading (Switch cases)) e d k = omega (arith, k)
+holder_smaller (Heading (For u v w)) e d k = omega (arith, k)
+
+begun_smaller : (b : Beginning) (x : Name) (value : Tree) → node_counts (begun_without b) < node_count (begun b (assigned x value))
+begun_smaller Alone x value = omega arith
+begun_smaller (Init u v w) x value = omega arith
+begun_smaller (Before h q qs) x value = holder_smaller h (of_parts q qs) (sequence (assigned x value ▸ (q ▸ qs))) (parts_smaller (assigned x value) q qs)
+
+left_smaller : (t u made : Tree) (left : Trees) → Entered t u made left → node_counts left < node_count u
+left_smaller t u made left r =
+    let small = begun_smaller r.beginning (resolved r.target r.symbol) r.value in
+    let next = ap (λ ts. node_count (child_or_absent ts 1)) r.shape in
+    let rest = ap (λ ts. node_counts (without ts 0)) r.written in
+    omega (arith, small, next, rest)
+
+pub put_entered : (before init : Trees) (last t declared : Tree) (left rest after others : Trees) → before ≡ append init (last ▸ none) → Entered last t declared left → after ≡ append init (declared ▸ none) → reversed others ≡ append left (reversed rest) → node_counts others ≡ node_counts rest + node_counts left → PutEntered before t rest after others true
+put_entered before init last t declared left rest after others e r f g h = record {
+  changes = λ o.
+      subst (λ x. Changes o x (append after (reversed others)) true) (sym (ap (λ x. append x (t ▸ reversed rest)) e ∙ append_one init last (t ▸ reversed rest)))
+      (subst (λ x. Changes o (append init (last ▸ (t ▸ reversed rest))) x true) (sym (ap (λ x. append x (reversed others)) f ∙ append_one init declared (reversed others) ∙ ap (λ x. append init (declared ▸ x)) g))
+      (steps_on o (append init (last ▸ (t ▸ reversed rest))) (append init (declared ▸ append left (reversed rest))) (neighbours_in o init (last ▸ (t ▸ none)) (declared ▸ left) (reversed rest) (inr (inr r)))));
+  entered = λ c. absurd (true≢false c);
+  smaller = let small = left_smaller last t declared left r in omega (arith, small, h);
+}
+
+-- ---- the node
+
+list_entered : (ts us : Trees) (b : Bool) → AllEntered ts us b → JoinsAssignments (listed ts) (listed us) b
+list_entered ts us true m = λ o. m.changes o
+list_entered ts us false m = λ o. let same = m.changes o in (ap listed same, entered_rests ts (sym (ap are_entered same) ∙ m.entered refl) StatementList)
+
+pub node_entered : (t : Tree) (us : Trees) (r : Result Bool OutOfMemory) → is_listed t ≡ true → IfOk r (λ b. AllEntered (children t) us b) → IfOk r (λ b. JoinsAssignments t (with_children t us) b)
+node_entered t us (Err e) l m = m
+node_entered t us (Ok b) l m =
+    let is = listed_is t l in
+    subst (λ x. JoinsAssignments x (with_children t us) b) (sym is) (subst (λ x. JoinsAssignments (listed (children t)) x b) (sym (ap (λ x. with_children x us) is)) (list_entered (children t) us b m))
+
+pub not_entered : (t : Tree) → is_listed t ≡ true → are_entered (children t) ≡ true → JoinsAssignments t t false
+not_entered t l e = λ o. (refl, subst (Rests StatementList) (sym (listed_is t l)) (entered_rests (children t) e StatementList))
+
+pub no_list : (t : Tree) → is_listed t ≡ false → JoinsAssignments t t false
+no_list t l = λ o. (refl, λ w r. absurd (true≢false (sym (ap is_listed r.shape) ∙ l)))
+
+-- and then the other rows
+pub assignments_first : (o : Switches) (t u : Tree) (b : Bool) → b ≡ true → JoinsAssignments t u b → MinimizesList o t u true
+assignments_first o t u b e m = subst (λ c. JoinsAssignments t u c) e m o
+
+others_then : (o : Switches) (t u v : Tree) (a b : Bool) → a ≡ false → JoinsAssignments t u a → JoinsOthers o u v b → MinimizesList o t v b
+others_then o t u v a true e m n = let k = subst (λ c. JoinsAssignments t u c) e m o in subst (λ x. Moves o x v) k.0 n
+others_then o t u v a false e m n =
+    let k = subst (λ c. JoinsAssignments t u c) e m o in
+    (n.0 ∙ k.0, all_rest o t (subst (StretchRests o StatementList) k.0 n.1.0) (subst (guards.Rests o StatementList) k.0 n.1.1) k.1)
+
+pub others_after : (o : Switches) (t u v : Tree) (a : Bool) (r : Result Bool OutOfMemory) → a ≡ false → JoinsAssignments t u a → IfOk r (λ b. JoinsOthers o u v b) → IfOk r (λ b. MinimizesList o t v b)
+others_after o t u v a (Err e) f m n = n
+others_after o t u v a (Ok b) f m n = others_then o t u v a b f m n
+
+pub list_no_row : (o : Switches) (t : Trees) → is_quiet o t ≡ true → guards.is_apart o t ≡ true → are_entered t ≡ true → list.Rests o StatementList (listed t)
+list_no_row o t q e k = all_rest o (listed t) (quiet_rests o t q StatementList) (apart_rests o t e StatementList) (entered_rests t k StatementList)
+
+-- ---- by the parts of a list
+
+pub one_part : (ts : Trees) → count ts ≡ 1 → child_or_absent ts 0 ≡ of_parts (child_or_absent ts 0) (without ts 0)
+one_part none e = absurd (omega (arith, e))
+one_part (t ▸ none) e = refl
+one_part (t ▸ (u ▸ ts)) e = absurd (omega (arith, e))
+
+more_parts : (ts : Trees) → 0 < count ts → (count ts ≡ 1 → ⊥) → sequence ts ≡ of_parts (child_or_absent ts 0) (without ts 0)
+more_parts none h e = absurd (omega (arith, h))
+more_parts (t ▸ none) h e = absurd (e (omega arith))
+more_parts (t ▸ (u ▸ ts)) h e = refl
+
+pub sequence_made : (ts : Trees) (r : Result Tree OutOfMemory) → 0 < count ts → (count ts ≡ 1 → ⊥) → IfOk r (λ t. t ≡ sequence ts) → IfOk r (λ t. t ≡ of_parts (child_or_absent ts 0) (without ts 0))
+sequence_made ts (Err e) h k m = m
+sequence_made ts (Ok t) h k m = m ∙ more_parts ts h k
+
+pub others_are : (ts : Trees) → 1 < count ts → other_parts ts ≡ of_parts (child_or_absent (without ts 0) 0) (without (without ts 0) 0)
+others_are none h = absurd (omega (arith, h))
+others_are (t ▸ none) h = absurd (omega (arith, h))
+others_are (t ▸ (u ▸ ts)) h = refl
+
+pub count_others : (ts : Trees) → 1 < count ts → 0 < count (without ts 0)
+count_others none h = absurd (omega (arith, h))
+count_others (t ▸ none) h = absurd (omega (arith, h))
+count_others (t ▸ (u ▸ ts)) h = omega arith
+
+pub child_twice : (ts : Trees) (i : ℕ) (x y : Tree) → with_child (with_child ts i x) i y ≡ with_child ts i y
+child_twice none i x y = refl
+child_twice (t ▸ ts) zero x y = refl
+child_twice (t ▸ ts) (suc i) x y = ap (λ us. t ▸ us) (child_twice ts i x y)
+
+-- the declarator has two parts
+pub two_parts : (d x : Tree) → declares_bare d x ≡ true → 1 < count (children d)
+two_parts d x e =
+    let id = part d 0 in
+    let names = same_names (names_of id) (names_of x) && is_absent_part (part d 1) in
+    let named = is_binding_shape (shape_of id) && is_named_leaf id in
+    let (a, r) = and_parts (is_declarator_shape (shape_of d)) (is_bare d 2 && (named && names)) e in
+    let is = ap (λ t. count (children t)) (declarator_is d (both (is_declarator_shape (shape_of d)) (is_bare d 2) a (and_parts (is_bare d 2) (named && names) r).0)) in
+    omega (arith, is)
+
+-- a statement that begins with an assignment has a part
+pub some_part : (u : Tree) → holds_sequence u || holds_alone u ≡ true → 0 < count (children u)
+some_part u h = by (begins_by u h)
+  where
+    held_parts : (h : Holder) (e : Tree) → 0 < count (children (holding h e))
+    held_parts Statement e = omega arith
+    held_parts (Heading Return) e = omega arith
+    held_parts (Heading Throw) e = omega arith
+    held_parts (Heading (If u v)) e = omega arith
+    held_parts (Heading (Switch cases)) e = omega arith
+    held_parts (Heading (For u v w)) e = omega arith
+
+    begun_parts : (b : Beginning) (a : Tree) → 0 < count (children (begun b a))
+    begun_parts Alone a = omega arith
+    begun_parts (Init x y z) a = omega arith
+    begun_parts (Before h q qs) a = held_parts h (sequence (a ▸ (q ▸ qs)))
+
+    by : Begins u → 0 < count (children u)
+    by b = let is = ap (λ t. count (children t)) b.whole in let some = begun_parts b.beginning (beginning_of u) in omega (arith, is, some)
+
+-- what `enter` is given
+pub record Given (t u : Tree) (i : ℕ) : Type 0 where
+  pub within : i < count (children (part t 0))
+  pub parts : 1 < count (children (child_or_absent (children (part t 0)) i))
+  pub some : 0 < count (children u)
+
+pub given : (t u : Tree) (i : ℕ) → EntersAt t u (Some i) → Given t u i
+given t u i m =
+    let (var, first) = and_parts (declares Var t) (assigns_first u) m.0 in
+    record {
+      within = m.1.0;
+      parts = two_parts (child_or_absent (children (part t 0)) i) (part (beginning_of u) 0) m.1.1;
+      some = some_part u (and_parts (holds_sequence u || holds_alone u) (assigns_name (beginning_of u)) first).0;
+    }
+
+-- the place may be asked
+pub record Askable (t u : Tree) : Type 0 where
+  pub list : 0 < count (children t)
+  pub some : 0 < count (children u)
+  pub target : 0 < count (children (beginning_of u))
+
+pub askable : (t u : Tree) → may_enter t u ≡ true → Askable t u
+askable t u e =
+    let (var, first) = and_parts (declares Var t) (assigns_first u) e in
+    let (whole, assigns) = and_parts (holds_sequence u || holds_alone u) (assigns_name (beginning_of u)) first in
+    let is = ap (λ x. count (children x)) (declares_is Var t var) in
+    let begun_is = ap (λ x. count (children x)) (assigns_by (beginning_of u) assigns).is in
+    record { list = omega (arith, is); some = some_part u whole; target = omega (arith, begun_is) }
+
+pub made_row : (t u declared value : Tree) (left : Trees) (i : ℕ) → EntersAt t u (Some i) → value ≡ part (beginning_of u) 1 → left ≡ left_of u → declared ≡ with_value t i value → Entered t u declared left
+made_row t u declared value left i m e f g =
+    subst (λ d. Entered t u d left) (sym (g ∙ ap (with_value t i) e)) (subst (Entered t u (with_value t i (part (beginning_of u) 1))) (sym f) (enters_row t u i m))
+
+pub value_made : (t : Tree) (i : ℕ) (value whole d : Tree) (ds taken given : Trees) → whole ≡ part t 0 → ds ≡ children whole → d ≡ child_or_absent ds i → taken ≡ with_child ds i absent → given ≡ with_child taken i (with_part d 1 value) → declaration Var given ≡ with_value t i value
+value_made t i value whole d ds taken made a b e f g =
+    let is = b ∙ ap children a in
+    ap (declaration Var) (g ∙ ap (λ ts. with_child ts i (with_part d 1 value)) f ∙ child_twice ds i absent (with_part d 1 value) ∙ ap (λ x. with_child ds i (with_part x 1 value)) e ∙ ap (λ ts. with_child ts i (with_part (child_or_absent ts i) 1 value)) is)

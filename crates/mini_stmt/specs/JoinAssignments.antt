@@ -1,0 +1,141 @@
+-- 70: `var a, c; a = b;` becomes `var a = b, c;`, and so where the assignment begins a sequence or the head of a `for`.
+use Rattle.std.specs.Prelude.{◌≡◌, ◌<◌, ◌+◌, ℕ, suc, Bool, true, false, not, ◌&&◌, ◌||◌, Option, Some, None, if◌then◌else◌}
+use Rattle.mini_model.specs.declared.kind.VariableDeclarationKind.TheVariants.{Var}
+use Rattle.mini_model.specs.declared.operator.AssignmentOperator.TheVariants.{Assign}
+use Rattle.mini_model.specs.declared.place.Position.{Position}
+use Rattle.mini_model.specs.declared.place.Position.TheVariants.{StatementList}
+use Rattle.mini_model.specs.declared.shape.Shape.{Shape}
+use Rattle.mini_model.specs.declared.shape.Shape.TheVariants as shape
+use Rattle.mini_model.specs.Tree.{Tree, Trees, none, ◌▸◌, count, shape_of, children, child_or_absent, absent, node_count, node_counts}
+use Rattle.mini_model.specs.Paths.{append}
+use Rattle.mini_node.specs.Children.{part, with_part, with_child, is_bare, names_of, rest_children}
+use Rattle.mini_node.specs.Kinds.{is_absent_part, is_identifier, is_named_leaf, is_sequence, is_expression_statement, same_names}
+use Rattle.mini_tree.specs.Rule as rule
+use Rattle.mini_rows.specs.Switches.{Switches}
+use Rattle.mini_rows.specs.Lists.{of_parts, are_parts, declaration, declares_nothing, is_declarator_shape, are_bare_declarators, Row70, InList, ListContracts}
+use Rattle.mini_stmt.specs.JoinHeads.{is_for, has_head}
+use Rattle.mini_stmt.specs.JoinVars.{declares}
+use Rattle.mini_stmt.specs.JoinGuards.{last_after}
+use Rattle.mini_stmt.specs.MinimizeStatements.{Changes, reversed}
+
+abbrev pub is_assign_shape : Shape → Bool
+is_assign_shape (shape.AssignmentExpression Assign) = true
+is_assign_shape _ = false
+
+-- `x = b`
+abbrev pub assigns_name : Tree → Bool
+assigns_name a = is_assign_shape (shape_of a) && (is_bare a 2 && (is_identifier (part a 0) && declares_nothing (part a 1)))
+
+abbrev pub is_binding_shape : Shape → Bool
+is_binding_shape shape.BindingIdentifier = true
+is_binding_shape _ = false
+
+-- a declarator without an initializer, of the name that is assigned to
+abbrev pub declares_bare : Tree → Tree → Bool
+declares_bare d x = is_declarator_shape (shape_of d) && (is_bare d 2 && ((is_binding_shape (shape_of (part d 0)) && is_named_leaf (part d 0)) && (same_names (names_of (part d 0)) (names_of x) && is_absent_part (part d 1))))
+
+-- such a declarator, after which none has an initializer
+abbrev pub takes_name : Tree → Trees → Bool
+takes_name x none = false
+takes_name x (d ▸ ds) = (declares_bare d x && are_bare_declarators ds) || takes_name x ds
+
+-- the place of the last one, or there is none
+abbrev pub TakesAt : Tree → Trees → Option ℕ → Type 0
+TakesAt x ts (Some i) = (i < count ts) × (declares_bare (child_or_absent ts i) x ≡ true) × (are_bare_declarators (rest_children (suc i) ts) ≡ true)
+TakesAt x ts None = takes_name x ts ≡ false
+
+-- parts of a sequence, of which the others may stand without the first
+abbrev pub leaves_parts : Trees → Bool
+leaves_parts (a ▸ (q ▸ qs)) = are_parts q qs
+leaves_parts _ = false
+
+-- `a, b;`, or a head with a sequence
+abbrev pub holds_sequence : Tree → Bool
+holds_sequence u = (is_expression_statement u || has_head u) && (is_sequence (part u 0) && leaves_parts (children (part (part u 0) 0)))
+
+-- `a;`, or a `for`
+abbrev pub holds_alone : Tree → Bool
+holds_alone u = is_expression_statement u || is_for u
+
+-- what the statement begins with
+abbrev pub beginning_of : Tree → Tree
+beginning_of u = if holds_sequence u then part (part (part u 0) 0) 0 else part u 0
+
+-- it begins with an assignment, which leaves a statement, or nothing
+abbrev pub assigns_first : Tree → Bool
+assigns_first u = (holds_sequence u || holds_alone u) && assigns_name (beginning_of u)
+
+-- and what stands before it is a `var`
+abbrev pub may_enter : Tree → Tree → Bool
+may_enter t u = declares Var t && assigns_first u
+
+-- the assignment goes into the `var` t
+abbrev pub enters : Tree → Tree → Bool
+enters t u = may_enter t u && takes_name (part (beginning_of u) 0) (children (part t 0))
+
+-- the place of the declarator, or there is none
+abbrev pub EntersAt : Tree → Tree → Option ℕ → Type 0
+EntersAt t u (Some i) = (may_enter t u ≡ true) × TakesAt (part (beginning_of u) 0) (children (part t 0)) (Some i)
+EntersAt t u None = enters t u ≡ false
+
+-- the parts without the first
+abbrev pub other_parts : Trees → Tree
+other_parts (a ▸ (q ▸ qs)) = of_parts q qs
+other_parts _ = absent
+
+-- what is left of `a = b;`, or of a `for`
+abbrev pub left_alone : Tree → Trees
+left_alone u = if is_expression_statement u then none else with_part u 0 absent ▸ none
+
+-- what is left of the statement
+abbrev pub left_of : Tree → Trees
+left_of u = if holds_sequence u then with_part u 0 (other_parts (children (part (part u 0) 0))) ▸ none else left_alone u
+
+-- the `var` with a value
+abbrev pub with_value : Tree → ℕ → Tree → Tree
+with_value t i v = declaration Var (with_child (children (part t 0)) i (with_part (child_or_absent (children (part t 0)) i) 1 v))
+
+-- the two statements, and what is written for both
+abbrev pub Entered : Tree → Tree → Tree → Trees → Type 0
+Entered t u made left = Row70 (t ▸ (u ▸ none)) (made ▸ left)
+
+-- the first two of them
+abbrev pub enters_first : Trees → Bool
+enters_first (t ▸ (u ▸ ts)) = enters t u
+enters_first _ = false
+
+-- no two neighbours
+abbrev pub are_entered : Trees → Bool
+are_entered none = true
+are_entered (t ▸ ts) = not (enters_first (t ▸ ts)) && are_entered ts
+
+-- into the last of them
+abbrev pub enters_last : Trees → Tree → Bool
+enters_last ts u = enters (last_after absent ts) u
+
+abbrev pub EntersLast : Trees → Tree → Option ℕ → Type 0
+EntersLast ts u (Some i) = (0 < count ts) × EntersAt (last_after absent ts) u (Some i)
+EntersLast ts u None = enters_last ts u ≡ false
+
+-- a statement is put after the others, which others follow, the nearest of them last
+pub record PutEntered (before : Trees) (t : Tree) (rest after others : Trees) (changed : Bool) : Type 0 where
+  pub changes : (o : Switches) → Changes o (append before (t ▸ reversed rest)) (append after (reversed others)) changed
+  pub entered : changed ≡ false → are_entered before ≡ true → are_entered after ≡ true
+  pub smaller : node_counts others < node_counts rest + node_count t
+
+-- a list changes, or there is nothing to do in it
+pub record AllEntered (t u : Trees) (changed : Bool) : Type 0 where
+  pub changes : (o : Switches) → Changes o t u changed
+  pub entered : changed ≡ false → are_entered u ≡ true
+
+-- no such row reads the list
+abbrev pub InAssignments : Position → Tree → Tree → Type 0
+InAssignments StatementList n w = InList Row70 n w
+InAssignments _ n w = ⊥
+
+abbrev pub Rests : Position → Tree → Type 0
+Rests p t = (w : Tree) → InAssignments p t w → ⊥
+
+-- the node of a list
+abbrev pub JoinsAssignments : Tree → Tree → Bool → Type 0
+JoinsAssignments t u changed = (o : Switches) → rule.Applied (ListContracts o) Rests StatementList t u changed

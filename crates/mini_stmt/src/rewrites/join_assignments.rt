@@ -1,0 +1,316 @@
+//! 70: `var a, c; a = b;` becomes `var a = b, c;`, and `var a; return a = b, c;` becomes `var a = b; return c;`.
+
+ghost use Rattle.std.specs.Prelude.{◌≡◌, ◌<◌, ◌&&◌, true, Some, IfOk};
+ghost use Rattle.mini_model.specs.Tree.{none, ◌▸◌, child_or_absent, children, count};
+ghost use Rattle.mini_node.specs.Children.{part, with_part, rest_children, without};
+ghost use Rattle.mini_rows.specs.Lists as list;
+ghost use Rattle.mini_stmt.specs.JoinAssignments as row;
+ghost use Rattle.mini_stmt.specs.JoinAssignments.{AllEntered, Entered, EntersAt, EntersLast, JoinsAssignments, PutEntered, TakesAt};
+
+use crate::rewrites::join_heads::{has_head, is_for, lacks_initializer, over_child, take_child};
+use crate::rewrites::join_vars::declares;
+use crate::statements::{put_reversed, take_last};
+use crate::terms::{declares_nothing, is_one_part};
+use mini_model::{AssignmentOperator, OutOfMemory, Shape, VariableDeclarationKind};
+use mini_node::{
+    Node, Nodes, discard, is_absent_part, is_expression_statement, is_identifier, is_listed,
+    is_same_symbol, is_sequence, listed, of_one, one, sequence, two,
+};
+use std::alloc::Global;
+use std::mem;
+
+// `x = b`
+fn assigns_name(node: &Node) -> bool
+    ensures kind { result ≡ row.assigns_name node.now }
+    ensures parts { result ≡ true → count (children node.now) ≡ 2 }
+{
+    matches!(
+        node.shape(),
+        Shape::AssignmentExpression(AssignmentOperator::Assign)
+    ) && node.is_bare(2)
+        && is_identifier(node.child(0))
+        && declares_nothing(node.child(1))
+}
+
+// Whether the declarator has no initializer, and the name that is assigned to.
+fn declares_bare(declarator: &Node, target: &Node) -> bool
+    ensures { result ≡ row.declares_bare declarator.now target.now }
+{
+    matches!(declarator.shape(), Shape::VariableDeclarator)
+        && declarator.is_bare(2)
+        && matches!(declarator.child(0).shape(), Shape::BindingIdentifier)
+        && declarator.child(0).is_named_leaf()
+        && is_same_symbol(declarator.child(0).name(), target.name())
+        && is_absent_part(declarator.child(1))
+}
+
+// Whether a declarator has no initializer.
+fn is_bare_declarator(node: &Node) -> bool
+    ensures { result ≡ list.is_bare_declarator node.now }
+{
+    matches!(node.shape(), Shape::VariableDeclarator) && lacks_initializer(node)
+}
+
+// The place of the last declarator of the name, if none from there on has an initializer.
+fn takes_at(list: &Nodes, target: &Node) -> Option<usize>
+    ensures { TakesAt target.now list.now result }
+{
+    let count = list.len();
+    for back in 0..count {
+        let at = count - 1 - back;
+        let node = list.child(at);
+        if declares_bare(node, target) {
+            return Some(at);
+        }
+        if !is_bare_declarator(node) {
+            return None;
+        }
+    }
+    None
+}
+
+// Whether the parts of a sequence may stand without the first.
+fn leaves_parts(parts: &Nodes) -> bool
+    ensures kind { result ≡ row.leaves_parts parts.now }
+    ensures parts { result ≡ true → 1 < count parts.now }
+{
+    parts.len() > 1 && (parts.len() > 2 || is_one_part(parts.child(1)))
+}
+
+// `a, b;`, or a head with a sequence
+fn holds_sequence(node: &Node) -> bool
+    ensures kind { result ≡ row.holds_sequence node.now }
+    ensures first { result ≡ true → 0 < count (children node.now) }
+    ensures list { result ≡ true → 0 < count (children (part node.now 0)) }
+    ensures parts { result ≡ true → 1 < count (children (part (part node.now 0) 0)) }
+{
+    (is_expression_statement(node) || has_head(node))
+        && is_sequence(node.child(0))
+        && leaves_parts(node.child(0).child(0).children())
+}
+
+// `a;`, or a `for`
+fn holds_alone(node: &Node) -> bool
+    ensures kind { result ≡ row.holds_alone node.now }
+    ensures parts { result ≡ true → 0 < count (children node.now) }
+{
+    is_expression_statement(node) || is_for(node)
+}
+
+// What the statement begins with.
+fn beginning_of(node: &Node) -> &Node
+    requires { 0 < count (children node.now) }
+    ensures { result.now ≡ row.beginning_of node.now }
+{
+    if holds_sequence(node) {
+        return node.child(0).child(0).child(0);
+    }
+    node.child(0)
+}
+
+// Whether it begins with an assignment, which leaves a statement, or nothing.
+fn assigns_first(node: &Node) -> bool
+    ensures kind { result ≡ row.assigns_first node.now }
+    ensures parts { result ≡ true → 0 < count (children node.now) }
+{
+    (holds_sequence(node) || holds_alone(node)) && assigns_name(beginning_of(node))
+}
+
+// Whether the first is a `var`, and the second begins with an assignment.
+fn may_enter(first: &Node, next: &Node) -> bool
+    ensures { result ≡ row.may_enter first.now next.now }
+{
+    declares(first, VariableDeclarationKind::Var) && assigns_first(next)
+}
+
+// The place of the declarator that the assignment goes into.
+fn enters_at(first: &Node, next: &Node) -> Option<usize>
+    ensures { EntersAt first.now next.now result }
+{
+    if !may_enter(first, next) {
+        return None;
+    }
+    takes_at(first.child(0).children(), beginning_of(next).child(0))
+}
+
+// The expression of these parts.
+fn of_parts(alloc: Global, mut parts: Nodes) -> Result<Node, OutOfMemory>
+    requires { 0 < count parts }
+    ensures { IfOk result (λ made. made ≡ list.of_parts (child_or_absent parts 0) (without parts 0)) }
+{
+    if parts.len() == 1 {
+        return Ok(parts.remove(0));
+    }
+    sequence(alloc, parts)
+}
+
+// `b`, of `x = b`
+fn value_of(assignment: Node) -> Node
+    ensures { result ≡ part assignment 1 }
+{
+    let (target, value) = two(assignment);
+    discard(target);
+    value
+}
+
+// `b`, and `c;`, of `a = b, c;`
+#[tactic(auto, using(crate::proofs::Parts::same_parts, crate::proofs::Parts::part_twice, crate::proofs::Assignments::others_are, crate::proofs::Assignments::count_others))]
+fn leave_sequence(alloc: Global, mut next: Node) -> Result<(Node, Nodes), OutOfMemory>
+    requires first { 0 < count (children next) }
+    requires parts { 1 < count (children (part (part next 0) 0)) }
+    ensures value { IfOk result (λ made. made.0 ≡ part (part (part (part next 0) 0) 0) 1) }
+    ensures left { IfOk result (λ made. made.1 ≡ with_part next 0 (row.other_parts (children (part (part next 0) 0))) ▸ none) }
+{
+    let mut parts = one(take_child(&mut next, 0)).into_children();
+    let value = value_of(parts.remove(0));
+    let rest = of_parts(alloc, parts)?;
+    let left = of_one(alloc, over_child(next, 0, rest))?;
+    Ok((value, left))
+}
+
+// `b`, and nothing, of `a = b;`; or `for (; c; d) e`, of `for (a = b; c; d) e`
+fn leave_alone(alloc: Global, mut next: Node) -> Result<(Node, Nodes), OutOfMemory>
+    requires { 0 < count (children next) }
+    ensures value { IfOk result (λ made. made.0 ≡ part (part next 0) 1) }
+    ensures left { IfOk result (λ made. made.1 ≡ row.left_alone next) }
+{
+    if is_expression_statement(&next) {
+        return Ok((value_of(one(next)), Nodes::new(alloc)));
+    }
+    let value = value_of(take_child(&mut next, 0));
+    let left = of_one(alloc, next)?;
+    Ok((value, left))
+}
+
+// The value that is assigned, and what is left of the statement.
+fn leave(alloc: Global, next: Node) -> Result<(Node, Nodes), OutOfMemory>
+    requires { 0 < count (children next) }
+    ensures value { IfOk result (λ made. made.0 ≡ part (row.beginning_of next) 1) }
+    ensures left { IfOk result (λ made. made.1 ≡ row.left_of next) }
+{
+    if holds_sequence(&next) {
+        leave_sequence(alloc, next)
+    } else {
+        leave_alone(alloc, next)
+    }
+}
+
+// The declarator, with a value.
+fn initialised(declarator: Node, value: Node) -> Node
+    requires { 1 < count (children declarator) }
+    ensures { result ≡ with_part declarator 1 value }
+{
+    over_child(declarator, 1, value)
+}
+
+// `var a = b, c;`, of `var a, c;`
+fn with_value(alloc: Global, declaration: Node, at: usize, value: Node) -> Result<Node, OutOfMemory>
+    requires within { at < count (children (part declaration 0)) }
+    requires parts { 1 < count (children (child_or_absent (children (part declaration 0)) at)) }
+    ensures { IfOk result (λ made. made ≡ row.with_value declaration at value) }
+{
+    let mut declarators = one(declaration).into_children();
+    let declarator = declarators.take(at);
+    discard(declarators.replace(at, initialised(declarator, value)));
+    let children = of_one(alloc, listed(declarators))?;
+    Ok(Node::new(
+        Shape::VariableDeclaration(VariableDeclarationKind::Var),
+        children,
+    ))
+}
+
+// The `var` with the value in it, and what is left of the statement.
+fn enter(alloc: Global, first: Node, next: Node, at: usize) -> Result<(Node, Nodes), OutOfMemory>
+    requires { EntersAt first next (Some at) }
+    ensures { IfOk result (λ made. Entered first next made.0 made.1) }
+{
+    let (value, left) = leave(alloc, next)?;
+    let declared = with_value(alloc, first, at, value)?;
+    Ok((declared, left))
+}
+
+// Whether the assignment that begins the one after a place goes into the one there.
+fn enters_next(list: &Nodes, at: usize) -> bool
+    requires { at < count list.now }
+    ensures { result ≡ row.enters_first (rest_children at list.now) }
+{
+    let last = list.len() - 1;
+    if at == last {
+        return false;
+    }
+    enters_at(list.child(at), list.child(at + 1)).is_some()
+}
+
+// Whether no assignment goes into what is before it.
+fn are_entered(list: &Nodes) -> bool
+    ensures { result ≡ row.are_entered list.now }
+{
+    for at in 0..list.len() {
+        if enters_next(list, at) {
+            return false;
+        }
+    }
+    true
+}
+
+// The place where the assignment goes that begins the statement, in the last of the others.
+fn enters_last(before: &Nodes, statement: &Node) -> Option<usize>
+    ensures { EntersLast before.now statement.now result }
+{
+    let count = before.len();
+    if count == 0 {
+        return None;
+    }
+    enters_at(before.child(count - 1), statement)
+}
+
+// Puts the statement after the others; where it begins with an assignment that goes into the last of them, what is left of
+// it is put back. The answer says whether one did.
+fn put_entered(
+    alloc: Global,
+    before: &mut Nodes,
+    rest: &mut Nodes,
+    statement: Node,
+) -> Result<bool, OutOfMemory>
+    ensures { IfOk result (PutEntered before.old statement rest.old before.new rest.new) }
+{
+    match enters_last(before, &statement) {
+        None => {
+            before.push(statement)?;
+            Ok(false)
+        }
+        Some(at) => {
+            let last = take_last(before);
+            let (declared, left) = enter(alloc, last, statement, at)?;
+            before.push(declared)?;
+            put_reversed(rest, left)?;
+            Ok(true)
+        }
+    }
+}
+
+// Does all statements, from the first to the last.
+fn enter_all(alloc: Global, list: &mut Nodes) -> Result<bool, OutOfMemory>
+    ensures { IfOk result (AllEntered list.old list.new) }
+{
+    let whole = mem::replace(list, Nodes::new(alloc));
+    let mut rest = Nodes::new(alloc);
+    put_reversed(&mut rest, whole)?;
+    let mut changed = false;
+    'statements: while let Some(statement) = rest.pop() {
+        let entered = put_entered(alloc, list, &mut rest, statement)?;
+        changed = changed | entered;
+    }
+    Ok(changed)
+}
+
+/// Each assignment that begins the statement after a `var` as an initializer in it. The answer says whether there was one; the
+/// only error is that memory runs out, and then the list is fit only to be dropped.
+pub fn join_assignments(alloc: Global, node: &mut Node) -> Result<bool, OutOfMemory>
+    ensures { IfOk result (JoinsAssignments node.old node.new) }
+{
+    if !is_listed(node) || are_entered(node.children()) {
+        return Ok(false);
+    }
+    enter_all(alloc, node.children_mut())
+}
