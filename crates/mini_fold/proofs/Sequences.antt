@@ -1,7 +1,7 @@
 -- What is lifted out or spread is what a row says, and where nothing is no row reads the expression.
 use Rattle.std.proofs.Common.{◌≡◌, ℕ, zero, suc, ◌<◌, ◌≤◌, Bool, true, false, Option, Some, None, refl, sym, ap, ◌∙◌, inl, inr, true≢false, arith}
-use Rattle.std.specs.Prelude.{◌+◌, ◌&&◌, ◌||◌, nat_le, is_some}
-use Rattle.std.proofs.lemmas.Bool.{and_parts, le-leb}
+use Rattle.std.specs.Prelude.{◌+◌, ◌&&◌, ◌||◌, nat_eq, nat_le, is_some, if◌then◌else◌}
+use Rattle.std.proofs.lemmas.Bool.{and_parts, le-leb, leb-true, eqb-true}
 use Rattle.mini_model.specs.declared.operator.LogicalOperator.{LogicalOperator}
 use Rattle.mini_model.specs.declared.place.Position.{Position}
 use Rattle.mini_model.specs.declared.place.Position.TheVariants.{Expr}
@@ -11,12 +11,14 @@ use Rattle.mini_model.specs.Paths.{append}
 use Rattle.mini_node.specs.Children.{part, first_children, rest_children, without}
 use Rattle.mini_node.specs.Kinds.{logical_operator, is_conditional, is_negation, is_sequence, sequence}
 use Rattle.mini_node.specs.Made.{logical_is, conditional_is, negation_is, sequence_is}
-use Rattle.mini_node.specs.Walks.{next_child, no_rest}
-use Rattle.mini_rows.specs.Sequences.{Operation, Decides, Chooses, Negates, over, is_open_seat, Row20, Row21, SequenceRow}
+use Rattle.mini_node.specs.Walks.{from_first, next_child, no_rest}
+use Rattle.mini_terms.specs.Folds.{is_effect_free}
+use Rattle.mini_terms.specs.Parts.{suits, leaves_nothing, weighs}
+use Rattle.mini_rows.specs.Sequences.{Operation, Decides, Chooses, Negates, over, is_open_seat, takes_alone, Row20, Row21, Row21Idle, Row21Alone, SequenceRow}
 use Rattle.mini_rows.proofs.SequenceWeights.{lighter}
 use Rattle.mini_tree.specs.Rule.{Applied}
 use Rattle.mini_tree.proofs.Reaching.{moves_once}
-use Rattle.mini_fold.specs.FoldSequences.{has_several, is_several, last_of, but_last, is_operation, is_lifted, with_first, parts_of_first, lifted, any_of, is_nested, spread_at, Gives, Rests}
+use Rattle.mini_fold.specs.FoldSequences.{has_several, is_several, last_of, but_last, is_operation, is_lifted, with_first, parts_of_first, lifted, any_of, is_nested, spread_at, is_idle, idle_before_last, is_left, loses_part, Gives, Rests}
 
 pub several_by_count : (ts : Trees) → nat_le 2 (count ts) ≡ has_several ts
 several_by_count none = refl
@@ -126,7 +128,7 @@ spread_row t i is h e =
     go kind (a ▸ none) f k = absurd (true≢false (sym k))
 
 pub spread_applied : (s : Seat) (t : Tree) (i : ℕ) → is_sequence t ≡ true → i < count (children (part t 0)) → is_several (child_or_absent (children (part t 0)) i) ≡ true → Applied Gives Rests (Expr s) t (sequence (spread_at i (children (part t 0)))) true
-spread_applied s t i is h e = let row = spread_row t i is h e in let w : Tree = sequence (spread_at i (children (part t 0))) in moves_once Gives (Expr s) t w (record { row = inr row; lighter = lighter (Expr s) t w (inr row) })
+spread_applied s t i is h e = let row = spread_row t i is h e in let w : Tree = sequence (spread_at i (children (part t 0))) in moves_once Gives (Expr s) t w (record { row = inr (inl row); lighter = lighter (Expr s) t w (inr (inl row)) })
 
 -- ---- where no row reads it
 
@@ -147,9 +149,130 @@ found : (before : Trees) (t : Tree) (after : Trees) → is_several t ≡ true �
 found none t after e = ap (λ b. b || any_of is_several after) e
 found (u ▸ us) t after e = or_true (is_several u) (any_of is_several (append us (t ▸ after))) (found us t after e)
 
-pub rests : (s : Seat) (t : Tree) → is_lifted s t ≡ false → is_nested t ≡ false → Rests (Expr s) t
-rests s t h k w (inl r) = true≢false (sym (lifts s r.operation r.first r.others r.last r.seated) ∙ sym (ap (is_lifted s) r.shape) ∙ h)
-rests s t h k w (inr r) = true≢false (sym (found r.before (sequence (r.first ▸ (r.second ▸ r.others))) r.after refl) ∙ sym (ap is_nested r.shape) ∙ k)
+-- ---- 21, of parts that have no effect
+
+without_is : (ts : Trees) (i : ℕ) → i < count ts → without ts i ≡ append (first_children i ts) (rest_children (suc i) ts)
+without_is none i h = absurd (omega (arith, h))
+without_is (t ▸ ts) zero h = sym (from_first ts)
+without_is (t ▸ ts) (suc i) h = ap (λ us. t ▸ us) (without_is ts i (omega (arith, h)))
+
+count_without : (ts : Trees) (i : ℕ) → i < count ts → suc (count (without ts i)) ≡ count ts
+count_without none i h = absurd (omega (arith, h))
+count_without (t ▸ ts) zero h = refl
+count_without (t ▸ ts) (suc i) h = ap suc (count_without ts i (omega (arith, h)))
+
+idle_row : (t : Tree) (i : ℕ) → is_sequence t ≡ true → i + 1 < count (children (part t 0)) → is_idle (child_or_absent (children (part t 0)) i) ≡ true → nat_le 3 (count (children (part t 0))) ≡ true → Row21Idle t (sequence (without (children (part t 0)) i))
+idle_row t i is h e k =
+    let ts : Trees = children (part t 0) in
+    let idle : Tree = child_or_absent ts i in
+    let here : i < count ts = omega (arith, h) in
+    let (free, rest) = and_parts (is_effect_free idle) (leaves_nothing idle && weighs idle) e in
+    let (dropped, heavy) = and_parts (leaves_nothing idle) (weighs idle) rest in
+    let next : rest_children (suc i) ts ≡ child_or_absent ts (suc i) ▸ rest_children (suc (suc i)) ts = next_child ts (suc i) (omega (arith, h)) in
+    let kept : without ts i ≡ append (first_children i ts) (child_or_absent ts (suc i) ▸ rest_children (suc (suc i)) ts) = without_is ts i here ∙ ap (append (first_children i ts)) next in
+    let whole : ts ≡ append (first_children i ts) (idle ▸ (child_or_absent ts (suc i) ▸ rest_children (suc (suc i)) ts)) = split ts i here ∙ ap (λ us. append (first_children i ts) (idle ▸ without us 0)) (next_child ts i here) ∙ ap (λ us. append (first_children i ts) (idle ▸ us)) next in record {
+      before = first_children i ts;
+      idle = idle;
+      next = child_or_absent ts (suc i);
+      after = rest_children (suc (suc i)) ts;
+      effect_free = free;
+      dropped = dropped;
+      heavy = heavy;
+      several = ap (λ us. nat_le 2 (count us)) (sym kept) ∙ le-leb 2 (count (without ts i)) (omega (arith, count_without ts i here, leb-true 3 (count ts) k));
+      shape = sequence_is t is ∙ ap sequence whole;
+      written = ap sequence kept;
+    }
+
+pub idle_applied : (s : Seat) (t : Tree) (i : ℕ) → is_sequence t ≡ true → i + 1 < count (children (part t 0)) → is_idle (child_or_absent (children (part t 0)) i) ≡ true → nat_le 3 (count (children (part t 0))) ≡ true → Applied Gives Rests (Expr s) t (sequence (without (children (part t 0)) i)) true
+idle_applied s t i is h e k = let row = idle_row t i is h e k in let w : Tree = sequence (without (children (part t 0)) i) in moves_once Gives (Expr s) t w (record { row = inr (inr (inl row)); lighter = lighter (Expr s) t w (inr (inr (inl row))) })
+
+alone_row : (s : Seat) (t : Tree) → is_sequence t ≡ true → is_left s (children (part t 0)) ≡ true → Row21Alone s t (child_or_absent (children (part t 0)) 1)
+alone_row s t is e = go (children (part t 0)) refl e
+  where
+    go : (ts : Trees) → children (part t 0) ≡ ts → is_left s ts ≡ true → Row21Alone s t (child_or_absent (children (part t 0)) 1)
+    go (a ▸ (b ▸ none)) h e =
+        let (seated, rest) = and_parts (takes_alone s) (is_idle a && suits s b) e in
+        let (idle, stays) = and_parts (is_idle a) (suits s b) rest in
+        let (free, others) = and_parts (is_effect_free a) (leaves_nothing a && weighs a) idle in
+        let (dropped, heavy) = and_parts (leaves_nothing a) (weighs a) others in
+        record { idle = a; last = b; effect_free = free; dropped = dropped; heavy = heavy; seated = seated; stays = stays; shape = sequence_is t is ∙ ap sequence h; written = ap (λ us. child_or_absent us 1) h }
+    go none h e = absurd (true≢false (sym e))
+    go (a ▸ none) h e = absurd (true≢false (sym e))
+    go (a ▸ (b ▸ (c ▸ ts))) h e = let two = eqb-true (count (a ▸ (b ▸ (c ▸ ts)))) 2 (and_parts (nat_eq (count (a ▸ (b ▸ (c ▸ ts)))) 2) (takes_alone s && (is_idle a && suits s b)) e).0 in absurd (omega (arith, two))
+
+pub alone_applied : (s : Seat) (t : Tree) → is_sequence t ≡ true → is_left s (children (part t 0)) ≡ true → Applied Gives Rests (Expr s) t (child_or_absent (children (part t 0)) 1) true
+alone_applied s t is e = let row = alone_row s t is e in let w : Tree = child_or_absent (children (part t 0)) 1 in moves_once Gives (Expr s) t w (record { row = inr (inr (inr row)); lighter = lighter (Expr s) t w (inr (inr (inr row))) })
+
+found_idle : (before : Trees) (a q : Tree) (qs : Trees) → is_idle a ≡ true → idle_before_last (append before (a ▸ (q ▸ qs))) ≡ true
+found_idle none a q qs e = ap (λ b. b || idle_before_last (q ▸ qs)) e
+found_idle (u ▸ none) a q qs e = or_true (is_idle u) (idle_before_last (a ▸ (q ▸ qs))) (found_idle none a q qs e)
+found_idle (u ▸ (v ▸ vs)) a q qs e = or_true (is_idle u) (idle_before_last (v ▸ append vs (a ▸ (q ▸ qs)))) (found_idle (v ▸ vs) a q qs e)
+
+count_with_idle : (before : Trees) (a q : Tree) (qs : Trees) → count (append before (a ▸ (q ▸ qs))) ≡ suc (count (append before (q ▸ qs)))
+count_with_idle none a q qs = refl
+count_with_idle (u ▸ us) a q qs = ap suc (count_with_idle us a q qs)
+
+loses_idle : (s : Seat) (before : Trees) (a q : Tree) (qs : Trees) → is_idle a ≡ true → nat_le 2 (count (append before (q ▸ qs))) ≡ true → loses_part s (sequence (append before (a ▸ (q ▸ qs)))) ≡ true
+loses_idle s before a q qs e h =
+    let ts : Trees = append before (a ▸ (q ▸ qs)) in
+    ap (λ b. if b then idle_before_last ts else is_left s ts) (le-leb 3 (count ts) (omega (arith, count_with_idle before a q qs, leb-true 2 (count (append before (q ▸ qs))) h)))
+    ∙ found_idle before a q qs e
+
+idle_parts : (a : Tree) → is_effect_free a ≡ true → leaves_nothing a ≡ true → weighs a ≡ true → is_idle a ≡ true
+idle_parts a e f g = both_true (is_effect_free a) (leaves_nothing a && weighs a) e (both_true (leaves_nothing a) (weighs a) f g)
+
+pub rests : (s : Seat) (t : Tree) → is_lifted s t ≡ false → is_nested t ≡ false → loses_part s t ≡ false → Rests (Expr s) t
+rests s t h k l w (inl r) = true≢false (sym (lifts s r.operation r.first r.others r.last r.seated) ∙ sym (ap (is_lifted s) r.shape) ∙ h)
+rests s t h k l w (inr (inl r)) = true≢false (sym (found r.before (sequence (r.first ▸ (r.second ▸ r.others))) r.after refl) ∙ sym (ap is_nested r.shape) ∙ k)
+rests s t h k l w (inr (inr (inl r))) = true≢false (sym (loses_idle s r.before r.idle r.next r.after (idle_parts r.idle r.effect_free r.dropped r.heavy) r.several) ∙ sym (ap (loses_part s) r.shape) ∙ l)
+rests s t h k l w (inr (inr (inr r))) = true≢false (sym (both_true (takes_alone s) (is_idle r.idle && suits s r.last) r.seated (both_true (is_idle r.idle) (suits s r.last) (idle_parts r.idle r.effect_free r.dropped r.heavy) r.stays)) ∙ sym (ap (loses_part s) r.shape) ∙ l)
+
+-- what is no sequence loses no part
+pub not_losing : (s : Seat) (t : Tree) → is_sequence t ≡ false → loses_part s t ≡ false
+not_losing s t e = ap (λ b. b && (if nat_le 3 (count (children (part t 0))) then idle_before_last (children (part t 0)) else is_left s (children (part t 0)))) e
+
+pub no_idle : (s : Seat) (t : Tree) → is_sequence t ≡ true → nat_le 3 (count (children (part t 0))) ≡ true → idle_before_last (children (part t 0)) ≡ false → loses_part s t ≡ false
+no_idle s t is k e =
+    ap (λ b. b && (if nat_le 3 (count (children (part t 0))) then idle_before_last (children (part t 0)) else is_left s (children (part t 0)))) is
+    ∙ ap (λ b. if b then idle_before_last (children (part t 0)) else is_left s (children (part t 0))) k
+    ∙ e
+
+pub not_left : (s : Seat) (t : Tree) → is_sequence t ≡ true → nat_le 3 (count (children (part t 0))) ≡ false → is_left s (children (part t 0)) ≡ false → loses_part s t ≡ false
+not_left s t is k e =
+    ap (λ b. b && (if nat_le 3 (count (children (part t 0))) then idle_before_last (children (part t 0)) else is_left s (children (part t 0)))) is
+    ∙ ap (λ b. if b then idle_before_last (children (part t 0)) else is_left s (children (part t 0))) k
+    ∙ e
+
+-- ---- a look for a part that has no effect
+
+pub idle_stops : (ts : Trees) (i : ℕ) → i + 1 < count ts → is_idle (child_or_absent ts i) ≡ true → idle_before_last (rest_children i ts) ≡ idle_before_last ts → true ≡ idle_before_last ts
+idle_stops ts i h e inv =
+    sym (ap (λ b. b || idle_before_last (child_or_absent ts (suc i) ▸ rest_children (suc (suc i)) ts)) e)
+    ∙ sym (ap idle_before_last (next_child ts i (omega (arith, h)) ∙ ap (λ us. child_or_absent ts i ▸ us) (next_child ts (suc i) (omega (arith, h)))))
+    ∙ inv
+
+pub idle_goes_on : (ts : Trees) (i : ℕ) → i + 1 < count ts → is_idle (child_or_absent ts i) ≡ false → idle_before_last (rest_children i ts) ≡ idle_before_last ts → idle_before_last (rest_children (i + 1) ts) ≡ idle_before_last ts
+idle_goes_on ts i h e inv =
+    let next : i + 1 ≡ suc i = omega arith in
+    let second = next_child ts (suc i) (omega (arith, h)) in
+    ap (λ k. idle_before_last (rest_children k ts)) next
+    ∙ ap idle_before_last second
+    ∙ sym (ap (λ b. b || idle_before_last (child_or_absent ts (suc i) ▸ rest_children (suc (suc i)) ts)) e)
+    ∙ sym (ap idle_before_last (next_child ts i (omega (arith, h)) ∙ ap (λ us. child_or_absent ts i ▸ us) second))
+    ∙ inv
+
+pub idle_ends : (ts : Trees) (i : ℕ) → count ts ≤ i + 1 → idle_before_last (rest_children i ts) ≡ idle_before_last ts → false ≡ idle_before_last ts
+idle_ends ts i h inv = sym (few (rest_children i ts) (at_most ts i h)) ∙ inv
+  where
+    few : (us : Trees) → count us ≤ 1 → idle_before_last us ≡ false
+    few none k = refl
+    few (u ▸ none) k = refl
+    few (u ▸ (v ▸ vs)) k = absurd (omega (arith, k))
+
+    at_most : (ts : Trees) (i : ℕ) → count ts ≤ i + 1 → count (rest_children i ts) ≤ 1
+    at_most none i h = omega arith
+    at_most (t ▸ ts) zero h = omega (arith, h)
+    at_most (t ▸ ts) (suc i) h = at_most ts i (omega (arith, h))
 
 pub not_nested : (t : Tree) → is_sequence t ≡ false → is_nested t ≡ false
 not_nested t e = ap (λ b. b && any_of is_several (children (part t 0))) e

@@ -1,12 +1,14 @@
--- The rewrites 20 and 21: `(a, b) && c` becomes `a, b && c`, and `a, (b, c)` becomes `a, b, c`.
-use Rattle.std.specs.Prelude.{ℕ, Bool, true, false, ◌&&◌, ◌||◌, is_some}
+-- The rewrites 20 and 21: `(a, b) && c` becomes `a, b && c`, `a, (b, c)` becomes `a, b, c`, and `a(), 1, b()` becomes `a(), b()`.
+use Rattle.std.specs.Prelude.{ℕ, Bool, true, false, ◌&&◌, ◌||◌, nat_eq, nat_le, is_some, if◌then◌else◌}
 use Rattle.mini_model.specs.declared.place.Position.{Position}
 use Rattle.mini_model.specs.declared.seat.Seat.{Seat}
-use Rattle.mini_model.specs.Tree.{Tree, Trees, none, ◌▸◌, absent, children, first_or_absent}
+use Rattle.mini_model.specs.Tree.{Tree, Trees, none, ◌▸◌, absent, children, count, child_or_absent, first_or_absent}
 use Rattle.mini_model.specs.Paths.{append}
 use Rattle.mini_node.specs.Children.{part, like, first_children, rest_children, with_inserted, without}
 use Rattle.mini_node.specs.Kinds.{logical_operator, is_conditional, is_negation, is_sequence, sequence}
-use Rattle.mini_rows.specs.Sequences.{is_open_seat, SequenceRow, SequenceContracts}
+use Rattle.mini_terms.specs.Folds.{is_effect_free}
+use Rattle.mini_terms.specs.Parts.{suits, leaves_nothing, weighs}
+use Rattle.mini_rows.specs.Sequences.{is_open_seat, takes_alone, SequenceRow, SequenceContracts}
 
 -- two or more
 abbrev pub has_several : Trees → Bool
@@ -65,7 +67,26 @@ is_nested t = is_sequence t && any_of is_several (children (part t 0))
 abbrev pub spread_at : ℕ → Trees → Trees
 spread_at i ts = append (append (first_children i ts) (children (part (first_or_absent (rest_children i ts)) 0))) (without (rest_children i ts) 0)
 
--- ---- both
+-- ---- 21, of parts that have no effect
+
+abbrev pub is_idle : Tree → Bool
+is_idle t = is_effect_free t && (leaves_nothing t && weighs t)
+
+-- one of them is such, and not the last
+abbrev pub idle_before_last : Trees → Bool
+idle_before_last none = false
+idle_before_last (t ▸ none) = false
+idle_before_last (t ▸ (u ▸ us)) = is_idle t || idle_before_last (u ▸ us)
+
+-- of two the last one may stand alone
+abbrev pub is_left : Seat → Trees → Bool
+is_left s ts = nat_eq (count ts) 2 && (takes_alone s && (is_idle (child_or_absent ts 0) && suits s (child_or_absent ts 1)))
+
+-- a part of a sequence goes
+abbrev pub loses_part : Seat → Tree → Bool
+loses_part s t = is_sequence t && (if nat_le 3 (count (children (part t 0))) then idle_before_last (children (part t 0)) else is_left s (children (part t 0)))
+
+-- ---- all
 
 -- what the rule makes
 abbrev pub Gives : Position → Tree → Tree → Type 0

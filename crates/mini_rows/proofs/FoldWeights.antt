@@ -134,7 +134,7 @@ marks_at_most true false = omega arith
 marks_at_most false true = omega arith
 marks_at_most false false = omega arith
 
-no_inner : (h : Shape) (b : Bool) → is_plain_part_by h b ≡ true → is_inner h ≡ false
+pub no_inner : (h : Shape) (b : Bool) → is_plain_part_by h b ≡ true → is_inner h ≡ false
 no_inner shape.InnerExpression b e = absurd (true≢false (sym e))
 no_inner h b e = refl
 

@@ -127,6 +127,7 @@ pub mod DeMorganLawful
 pub mod NegationMeaning
 pub mod NegationKept
 pub mod NegationLawful
+pub mod SequenceIdle
 pub mod SequenceMeaning
 pub mod SequenceWeights
 pub mod SequenceLawful

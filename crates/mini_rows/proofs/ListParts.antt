@@ -15,7 +15,7 @@ use Rattle.mini_node.specs.Walks.{append_none}
 use Rattle.mini_rows.specs.Lists.{of_parts, sequence}
 
 -- the parts in a row, of which the last gives the value
-in_row : (e : Environment) → Tree → Trees → (w : Want) → State → Completion (Says w)
+unfoldable pub in_row : (e : Environment) → Tree → Trees → (w : Want) → State → Completion (Says w)
 in_row e p none w s = means e p (As w) tt s
 in_row e p (q ▸ qs) w s = either (means e p (As Unused) tt s) (λ u z. in_row e q qs w z) (λ x z. stop x z)
 
@@ -44,7 +44,7 @@ joined_is e p ps q qs w s =
 
 -- ---- a sequence in a sequence
 
-sequence_in_row : (e : Environment) (p : Tree) (ps : Trees) (w : Want) (s : State) → means e (sequence (p ▸ ps)) (As w) tt s ≡ in_row e p ps w s
+pub sequence_in_row : (e : Environment) (p : Tree) (ps : Trees) (w : Want) (s : State) → means e (sequence (p ▸ ps)) (As w) tt s ≡ in_row e p ps w s
 unfolding means meaning step in_row
 sequence_in_row e p ps w s = simp runs (parts_run e (naming shape.Listed (Parts w) [] 0 (summaries (p ▸ ps))) p ps w s)
 

@@ -1,7 +1,7 @@
 -- What a row on sequences writes keeps all that a program has to keep: it is built anew of the same parts.
 use Rattle.std.proofs.Common.{◌≡◌, ◌≤◌, Bool, true, false, [], ◌∷◌, refl, sym, ap, subst, ◌∙◌, inl, inr, true≢false, arith}
 use Rattle.std.specs.Prelude.{◌&&◌, None, nat_le}
-use Rattle.std.proofs.lemmas.Bool.{and_parts}
+use Rattle.std.proofs.lemmas.Bool.{and_parts, leb-true}
 use Rattle.mini_model.specs.declared.place.Position.{Position}
 use Rattle.mini_model.specs.declared.place.Position.TheVariants.{Expr}
 use Rattle.mini_model.specs.declared.seat.Seat.{Seat}
@@ -19,11 +19,13 @@ use Rattle.mini_node.specs.Walks.{append_none}
 use Rattle.mini_rows.specs.Arranged.{KeptAt}
 use Rattle.mini_rows.specs.Sketches.{Unary, Logical, Conditional, Sequence, Parts, Sketch, part, under, list, end, ◌▹◌, no_items, item, items}
 use Rattle.mini_rows.specs.Lists.{sequence}
-use Rattle.mini_rows.specs.Sequences.{Operation, Decides, Chooses, Negates, over, Row21, SequenceRow, SequenceContracts}
+use Rattle.mini_rows.specs.Sequences.{Operation, Decides, Chooses, Negates, over, Row21, Row21Idle, Row21Alone, SequenceRow, SequenceContracts}
 use Rattle.mini_model.specs.declared.operator.UnaryOperator.TheVariants.{LogicalNot}
-use Rattle.mini_rows.proofs.ArrangedExpressions.{expressions_arranged}
+use Rattle.mini_terms.specs.Parts.{suits}
+use Rattle.mini_rows.proofs.ArrangedExpressions.{expressions_arranged, expressions_arranged_freely}
 use Rattle.mini_rows.proofs.ArrangedLawful.{kept_is_lawful}
-use Rattle.mini_rows.proofs.FoldLawful.{operands, expression_slot}
+use Rattle.mini_rows.proofs.FoldLawful.{operands, expression_slot, vanishes, first_dropped, no_number}
+use Rattle.mini_rows.proofs.FoldWeights.{not_a_number}
 use Rattle.mini_rows.proofs.ListShapes.{AllFit, sequence_fits, parts_fit, of_parts_fits, append_fits, both_fit, first_fits, more_fit}
 use Rattle.mini_rows.proofs.SequenceMeaning.{several, sequences_same}
 
@@ -48,9 +50,27 @@ spread_kept q n w r =
     (r.shape ∙ ap (λ us. sequence (append r.before (sequence (r.first ▸ (r.second ▸ us)) ▸ r.after))) (sym (append_none r.others)) ∙ ap (λ us. sequence (append r.before (sequence (r.first ▸ (r.second ▸ append r.others none)) ▸ us))) (sym (append_none r.after)))
     (r.written ∙ ap (λ us. sequence (append r.before (r.first ▸ (r.second ▸ append r.others us)))) (sym (append_none r.after)))
 
+-- a part goes
+idle_kept : (q : Seat) (n w : Tree) → Row21Idle n w → KeptAt (Expr q) n w
+idle_kept q n w r =
+    let ps : Parts = record { trees = r.idle ▸ r.next ▸ none; lists = r.before ∷ r.after ∷ [] } in
+    expressions_arranged_freely first_dropped ps (tt, tt, (vanishes r.idle r.dropped, tt))
+    (under Sequence (list (items 0 (item (part 0) (item (part 1) (items 1 no_items)))) ▹ end))
+    (under Sequence (list (items 0 (item (part 1) (items 1 no_items))) ▹ end))
+    refl q n w
+    (r.shape ∙ ap (λ us. sequence (append r.before (r.idle ▸ (r.next ▸ us)))) (sym (append_none r.after)))
+    (r.written ∙ ap (λ us. sequence (append r.before (r.next ▸ us))) (sym (append_none r.after)))
+
+alone_kept : (q : Seat) (n w : Tree) → Row21Alone q n w → KeptAt (Expr q) n w
+alone_kept q n w r =
+    expressions_arranged_freely first_dropped (record { trees = r.idle ▸ r.last ▸ none; lists = [] }) (tt, tt, (vanishes r.idle r.dropped, tt))
+    (under Sequence (list (item (part 0) (item (part 1) no_items)) ▹ end)) (part 1) refl q n w r.shape r.written
+
 kept : (p : Position) (n w : Tree) → SequenceRow p n w → KeptAt p n w
 kept (Expr q) n w (inl r) = lifted_kept r.operation r.first r.others r.last q n w r.shape r.written
-kept (Expr q) n w (inr r) = spread_kept q n w r
+kept (Expr q) n w (inr (inl r)) = spread_kept q n w r
+kept (Expr q) n w (inr (inr (inl r))) = idle_kept q n w r
+kept (Expr q) n w (inr (inr (inr r))) = alone_kept q n w r
 kept p n w r = absurd r
 
 places : (p : Position) (n w : Tree) → SequenceRow p n w → is_rewritten_place p ≡ true
@@ -127,18 +147,37 @@ module _ (strict : Bool) where
       sequence_fits strict (append before (a ▸ (b ▸ append ps after))) (two_at_least before a b (append ps after))
       (append_fits strict expression before (a ▸ (b ▸ append ps after)) firsts (append_fits strict expression (a ▸ (b ▸ ps)) after (parts_fit strict a (b ▸ ps) inner) lasts))
 
+  idle_fits : (before : Trees) (a q : Tree) (qs : Trees) → nat_le 2 (count (append before (q ▸ qs))) ≡ true → Fits (sequence (append before (a ▸ (q ▸ qs)))) → Fits (sequence (append before (q ▸ qs)))
+  idle_fits before a q qs h e =
+      let (firsts, others) = both_fit strict expression before (a ▸ (q ▸ qs)) (items_fit (append before (a ▸ (q ▸ qs))) e) in
+      let (idle, lasts) = first_fits strict expression a (q ▸ qs) others in
+      sequence_fits strict (append before (q ▸ qs)) (leb-true 2 (count (append before (q ▸ qs))) h) (append_fits strict expression before (q ▸ qs) firsts lasts)
+
+  last_of_two : (a q : Tree) → Fits (sequence (a ▸ (q ▸ none))) → Fits q
+  last_of_two a q e =
+      let (idle, lasts) = first_fits strict expression a (q ▸ none) (items_fit (a ▸ (q ▸ none)) e) in
+      (first_fits strict expression q none lasts).0
+
 row_fits : (p : Position) (n w : Tree) → SequenceRow p n w → (strict : Bool) (s : Slot) → fits strict s n ≡ true → fits strict s w ≡ true
 row_fits (Expr q) n w (inl r) strict s e =
     let (takes, fit) = lifted_fits strict s r.operation r.first r.others r.last (subst (λ t. fits strict s t ≡ true) r.shape e) in
     subst (λ t. fits strict s t ≡ true) (sym r.written) (expression_taken strict s (sequence (r.first ▸ append r.others (over r.operation r.last ▸ none))) takes fit)
-row_fits (Expr q) n w (inr r) strict s e =
+row_fits (Expr q) n w (inr (inl r)) strict s e =
     let (takes, fit) = of_sequence strict s (append r.before (sequence (r.first ▸ (r.second ▸ r.others)) ▸ r.after)) (subst (λ t. fits strict s t ≡ true) r.shape e) in
     subst (λ t. fits strict s t ≡ true) (sym r.written) (expression_taken strict s (sequence (append r.before (r.first ▸ (r.second ▸ append r.others r.after)))) takes (spread_fits strict r.before r.first r.second r.others r.after fit))
+row_fits (Expr q) n w (inr (inr (inl r))) strict s e =
+    let (takes, fit) = of_sequence strict s (append r.before (r.idle ▸ (r.next ▸ r.after))) (subst (λ t. fits strict s t ≡ true) r.shape e) in
+    subst (λ t. fits strict s t ≡ true) (sym r.written) (expression_taken strict s (sequence (append r.before (r.next ▸ r.after))) takes (idle_fits strict r.before r.idle r.next r.after r.several fit))
+row_fits (Expr q) n w (inr (inr (inr r))) strict s e =
+    let (takes, fit) = of_sequence strict s (r.idle ▸ (r.last ▸ none)) (subst (λ t. fits strict s t ≡ true) r.shape e) in
+    subst (λ t. fits strict s t ≡ true) (sym r.written) (expression_taken strict s r.last takes (last_of_two strict r.idle r.last fit))
 row_fits p n w r strict s e = absurd r
 
 row_slot : (p : Position) (n w : Tree) → SequenceRow p n w → (strict : Bool) (s : Slot) → fits strict s n ≡ true → is_body_slot p s ≡ true
 row_slot (Expr q) n w (inl r) strict s e = expression_slot (Expr q) s (lifted_fits strict s r.operation r.first r.others r.last (subst (λ t. fits strict s t ≡ true) r.shape e)).0
-row_slot (Expr q) n w (inr r) strict s e = expression_slot (Expr q) s (of_sequence strict s (append r.before (sequence (r.first ▸ (r.second ▸ r.others)) ▸ r.after)) (subst (λ t. fits strict s t ≡ true) r.shape e)).0
+row_slot (Expr q) n w (inr (inl r)) strict s e = expression_slot (Expr q) s (of_sequence strict s (append r.before (sequence (r.first ▸ (r.second ▸ r.others)) ▸ r.after)) (subst (λ t. fits strict s t ≡ true) r.shape e)).0
+row_slot (Expr q) n w (inr (inr (inl r))) strict s e = expression_slot (Expr q) s (of_sequence strict s (append r.before (r.idle ▸ (r.next ▸ r.after))) (subst (λ t. fits strict s t ≡ true) r.shape e)).0
+row_slot (Expr q) n w (inr (inr (inr r))) strict s e = expression_slot (Expr q) s (of_sequence strict s (r.idle ▸ (r.last ▸ none)) (subst (λ t. fits strict s t ≡ true) r.shape e)).0
 row_slot p n w r strict s e = absurd r
 
 -- ---- what a parent asks of them
@@ -179,9 +218,21 @@ over_asked p Negates a ts = record {
   plain = refl;
 }
 
+alone_asked : (q : Seat) (ts : Trees) (t : Tree) → suits q t ≡ true → AskedAlike (Expr q) (sequence ts) t
+alone_asked q ts t h = record {
+  absent = λ e. absurd (true≢false (sym e));
+  body = λ e. absurd (true≢false (sym e));
+  optional = λ e. absurd (true≢false (sym e));
+  number = λ asks e. no_number t (not_a_number q t asks h);
+  spelled = λ s e. absurd (cc e);
+  plain = refl;
+}
+
 row_asked : (p : Position) (n w : Tree) → SequenceRow p n w → AskedAlike p n w
 row_asked (Expr q) n w (inl r) = subst (λ t. AskedAlike (Expr q) t w) (sym r.shape) (subst (AskedAlike (Expr q) (over r.operation (sequence (r.first ▸ append r.others (r.last ▸ none))))) (sym r.written) (over_asked (Expr q) r.operation (sequence (r.first ▸ append r.others (r.last ▸ none))) (r.first ▸ append r.others (over r.operation r.last ▸ none))))
-row_asked (Expr q) n w (inr r) = subst (λ t. AskedAlike (Expr q) t w) (sym r.shape) (subst (AskedAlike (Expr q) (sequence (append r.before (sequence (r.first ▸ (r.second ▸ r.others)) ▸ r.after)))) (sym r.written) (sequence_asked (Expr q) (append r.before (sequence (r.first ▸ (r.second ▸ r.others)) ▸ r.after)) (append r.before (r.first ▸ (r.second ▸ append r.others r.after)))))
+row_asked (Expr q) n w (inr (inl r)) = subst (λ t. AskedAlike (Expr q) t w) (sym r.shape) (subst (AskedAlike (Expr q) (sequence (append r.before (sequence (r.first ▸ (r.second ▸ r.others)) ▸ r.after)))) (sym r.written) (sequence_asked (Expr q) (append r.before (sequence (r.first ▸ (r.second ▸ r.others)) ▸ r.after)) (append r.before (r.first ▸ (r.second ▸ append r.others r.after)))))
+row_asked (Expr q) n w (inr (inr (inl r))) = subst (λ t. AskedAlike (Expr q) t w) (sym r.shape) (subst (AskedAlike (Expr q) (sequence (append r.before (r.idle ▸ (r.next ▸ r.after))))) (sym r.written) (sequence_asked (Expr q) (append r.before (r.idle ▸ (r.next ▸ r.after))) (append r.before (r.next ▸ r.after))))
+row_asked (Expr q) n w (inr (inr (inr r))) = subst (λ t. AskedAlike (Expr q) t w) (sym r.shape) (subst (AskedAlike (Expr q) (sequence (r.idle ▸ (r.last ▸ none)))) (sym r.written) (alone_asked q (r.idle ▸ (r.last ▸ none)) r.last r.stays))
 row_asked p n w r = absurd r
 
 pub sequences_lawful : Lawful SequenceContracts

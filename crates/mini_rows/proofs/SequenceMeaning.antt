@@ -1,6 +1,6 @@
 -- What a row on sequences writes means the same.
-use Rattle.std.proofs.Common.{◌≡◌, true, refl, sym, ap, ◌∙◌, inl, inr}
-use Rattle.std.specs.Prelude.{not}
+use Rattle.std.proofs.Common.{◌≡◌, Bool, true, false, refl, sym, ap, subst, ◌∙◌, inl, inr}
+use Rattle.std.specs.Prelude.{not, ◌&&◌, ◌||◌}
 use Rattle.mini_model.specs.declared.place.Position.{Position}
 use Rattle.mini_model.specs.declared.place.Position.TheVariants.{Expr}
 use Rattle.mini_model.specs.declared.seat.Seat.{Seat}
@@ -15,12 +15,14 @@ use Rattle.mini_laws.specs.Rows.{SameAt}
 use Rattle.mini_laws.specs.Rewritten.{MeansSame}
 use Rattle.mini_laws.specs.Targets.{assigns}
 use Rattle.mini_laws.proofs.Runs.{either_cong, either_assoc}
-use Rattle.mini_terms.specs.Reading.{stands, by_value}
+use Rattle.mini_terms.specs.Reading.{stands, by_value, is_item, is_unguarded}
 use Rattle.mini_terms.proofs.Opened.{negation_opened}
-use Rattle.mini_terms.proofs.Reading.{read_by_value}
+use Rattle.mini_terms.proofs.Reading.{read_by_value, same_in_seat}
 use Rattle.mini_rows.specs.Lists.{of_parts, sequence}
-use Rattle.mini_rows.specs.Sequences.{Operation, Decides, Chooses, Negates, over, SequenceRow, SequenceContracts}
+use Rattle.mini_rows.specs.Sequences.{Operation, Decides, Chooses, Negates, over, Row20, Row21, Row21Idle, Row21Alone, SequenceRow, SequenceContracts}
 use Rattle.mini_rows.proofs.ChoiceRuns.{value, conditional_value, logical_value}
+use Rattle.mini_rows.proofs.FoldMeaning.{plain_of, value_of, plain_read}
+use Rattle.mini_rows.proofs.SequenceIdle.{idle_same, alone_same}
 use Rattle.mini_rows.proofs.ListParts.{joined_is, spread_is}
 use Rattle.mini_rows.proofs.SpellAlike.{SameTree}
 use Rattle.mini_rows.proofs.SpellMeaning.{tree_same, same_by}
@@ -71,16 +73,41 @@ spread_same before a b ps after = same_value _ _ refl refl refl (λ e s. spread_
 
 -- ---- all
 
-expression_same : (s : Seat) (n w : Tree) → SequenceRow (Expr s) n w → SameTree n w
-expression_same s n w (inl r) = same_by n w _ _ r.shape r.written (lifted_same r.operation r.first r.others r.last)
-expression_same s n w (inr r) = same_by n w _ _ r.shape r.written (spread_same r.before r.first r.second r.others r.after)
+lifted_row : (n w : Tree) (s : Seat) → Row20 s n w → SameTree n w
+lifted_row n w s r = same_by n w _ _ r.shape r.written (lifted_same r.operation r.first r.others r.last)
+
+spread_row : (n w : Tree) → Row21 n w → SameTree n w
+spread_row n w r = same_by n w _ _ r.shape r.written (spread_same r.before r.first r.second r.others r.after)
+
+-- a sequence stands by its value
+or_right : (b c : Bool) → c ≡ true → b || c ≡ true
+or_right true c e = refl
+or_right false c e = e
+
+same_here : (s : Seat) (n w t u : Tree) → n ≡ t → w ≡ u → SameAt (Expr s) t u → SameAt (Expr s) n w
+same_here s n w t u e f h = subst (λ x. SameAt (Expr s) x w) (sym e) (subst (SameAt (Expr s) t) (sym f) h)
+
+idle_row : (s : Seat) (n w : Tree) → Row21Idle n w → SameAt (Expr s) n w
+idle_row s n w r =
+    let whole : Tree = sequence (append r.before (r.idle ▸ (r.next ▸ r.after))) in
+    let rest : Tree = sequence (append r.before (r.next ▸ r.after)) in
+    same_here s n w whole rest r.shape r.written (same_in_seat s whole rest refl (or_right (is_unguarded s.guard && is_item rest) true refl) (idle_same r.before r.idle r.next r.after r.effect_free))
+
+alone_row : (s : Seat) (n w : Tree) → Row21Alone s n w → SameAt (Expr s) n w
+alone_row s n w r = same_here s n w _ _ r.shape r.written (same_in_seat s (sequence (r.idle ▸ (r.last ▸ none))) r.last refl (value_of s r.last r.stays) (alone_same r.idle r.last r.effect_free))
 
 means_same : (p : Position) (n w : Tree) → SequenceRow p n w → SameAt p n w
-means_same (Expr s) n w r = tree_same s n w (expression_same s n w r)
+means_same (Expr s) n w (inl r) = tree_same s n w (lifted_row n w s r)
+means_same (Expr s) n w (inr (inl r)) = tree_same s n w (spread_row n w r)
+means_same (Expr s) n w (inr (inr (inl r))) = idle_row s n w r
+means_same (Expr s) n w (inr (inr (inr r))) = alone_row s n w r
 means_same p n w r = absurd r
 
 reads : (p : Position) (n w : Tree) → SequenceRow p n w → summary n ≡ summary w
-reads (Expr s) n w r = (expression_same s n w r).read
+reads (Expr s) n w (inl r) = (lifted_row n w s r).read
+reads (Expr s) n w (inr (inl r)) = (spread_row n w r).read
+reads (Expr s) n w (inr (inr (inl r))) = ap summary r.shape ∙ sym (ap summary r.written)
+reads (Expr s) n w (inr (inr (inr r))) = ap summary r.shape ∙ sym (plain_read r.last (plain_of s r.last r.stays)) ∙ sym (ap summary r.written)
 reads p n w r = absurd r
 
 pub sequences_same : MeansSame SequenceContracts

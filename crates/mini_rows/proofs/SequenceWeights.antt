@@ -1,5 +1,5 @@
 -- What a row on sequences writes weighs less wherever the expression stands.
-use Rattle.std.proofs.Common.{◌≡◌, ℕ, ◌+◌, ◌*◌, ◌<◌, ◌≤◌, Bool, true, false, List, refl, sym, ap, ◌∙◌, inl, inr, true≢false, arith}
+use Rattle.std.proofs.Common.{◌≡◌, ℕ, ◌+◌, ◌*◌, ◌<◌, ◌≤◌, Bool, true, false, List, refl, sym, ap, subst, ◌∙◌, ◌⊎◌, inl, inr, true≢false, ltb-true, ltb-false, arith}
 use Rattle.std.specs.Prelude.{◌&&◌, ◌||◌, not, nat_eq, nat_lt, if◌then◌else◌}
 use Rattle.std.proofs.lemmas.Bool.{and_parts, eqb-true}
 use Rattle.mini_model.specs.declared.operator.BinaryOperator.TheVariants as binary_operator
@@ -7,18 +7,24 @@ use Rattle.mini_model.specs.declared.operator.LogicalOperator.{LogicalOperator}
 use Rattle.mini_model.specs.declared.operator.LogicalOperator.TheVariants.{Or, And, Coalesce}
 use Rattle.mini_model.specs.declared.place.Position.{Position}
 use Rattle.mini_model.specs.declared.place.Position.TheVariants.{Expr}
+use Rattle.mini_model.specs.declared.seat.Mix.{Mix}
+use Rattle.mini_model.specs.declared.seat.Mix.TheVariants as mix
 use Rattle.mini_model.specs.declared.seat.Seat.{Seat}
 use Rattle.mini_model.specs.declared.shape.Shape.{Shape}
 use Rattle.mini_model.specs.declared.shape.Shape.TheVariants as shape
-use Rattle.mini_model.specs.Tree.{Tree, Trees, none, ◌▸◌, count, listed}
+use Rattle.mini_model.specs.Tree.{Tree, Trees, node, none, ◌▸◌, count, listed}
 use Rattle.mini_model.specs.Paths.{append}
 use Rattle.mini_model.specs.Position.{left_operand_seat, right_operand_seat, conditional_test_seat, branch_seat, passed_part_seat, not_operand_seat}
-use Rattle.mini_model.specs.Weight.{Outline, outline, outlines, weight, place_weight, is_parenthesized}
-use Rattle.mini_laws.specs.Weights.{Lightens}
-use Rattle.mini_laws.proofs.Seats.{placed}
+use Rattle.mini_model.specs.Weight.{Outline, outline, outlines, weight, place_weight, level_of, mixes, is_chain, is_call, is_parenthesized, is_awkward}
+use Rattle.mini_laws.specs.Weights.{Lightens, counts_items}
+use Rattle.mini_laws.proofs.Seats.{placed, placed_node}
+use Rattle.mini_terms.specs.Parts.{weighs}
+use Rattle.mini_terms.specs.Reading.{first_of, is_plain_part, are_plain_parts}
 use Rattle.mini_rows.specs.Lists.{sequence}
-use Rattle.mini_rows.specs.Sequences.{Operation, Decides, Chooses, Negates, over, is_open_seat, SequenceRow, SequenceContracts, SequencesLighter}
+use Rattle.mini_rows.specs.Sequences.{Operation, Decides, Chooses, Negates, over, is_open_seat, is_unmixed, takes_alone, Row21Alone, SequenceRow, SequenceContracts, SequencesLighter}
 use Rattle.mini_rows.proofs.ListWeights.{parts_total, parts_weight, sequence_weighs}
+use Rattle.mini_rows.proofs.FoldMeaning.{plain_of}
+use Rattle.mini_rows.proofs.FoldWeights.{two, no_inner, there, no_choice}
 use Rattle.mini_rows.proofs.SpellWeights.{falls_by}
 
 -- ---- 20
@@ -42,6 +48,10 @@ open_marks s h os =
 pair_of : (b : Bool) → (if b then 4 else 0) ≤ 4
 pair_of true = omega arith
 pair_of false = omega arith
+
+mark_at_most : (b : Bool) → (if b then 1 else 0) ≤ 1
+mark_at_most true = omega arith
+mark_at_most false = omega arith
 
 -- an expression as the first operand gets parentheses at most, more than it has as a part of a sequence
 
@@ -140,11 +150,80 @@ spread_falls s before a b ps after =
     let rest = all_append ps after in
     omega (arith, nested, flat, inner, one, other, rest)
 
+-- ---- 21, of parts without effect: a comma goes, and the part
+
+idle_falls : (s : Seat) (before : Trees) (a q : Tree) (qs : Trees) → weight (Expr s) (sequence (append before (q ▸ qs))) < weight (Expr s) (sequence (append before (a ▸ (q ▸ qs))))
+idle_falls s before a q qs =
+    let whole = list_weighs s before a (q ▸ qs) in
+    let rest = list_weighs s before q qs in
+    let one = all_append before (a ▸ (q ▸ qs)) in
+    let other = all_append before (q ▸ qs) in
+    omega (arith, whole, rest, one, other)
+
+not_mixed : (h : Shape) (m : Mix) → is_unmixed m ≡ true → mixes h m ≡ false
+not_mixed (shape.LogicalExpression o) mix.None e = refl
+not_mixed (shape.LogicalExpression o) m e = absurd (true≢false (sym e))
+not_mixed h m e = refl
+
+pairs_by : (p b m x y c d : Bool) → (b ≡ false → p ≡ false) → (b ≡ false → m ≡ false) → (b ≡ false → x ≡ false) → (b ≡ false → y ≡ false) → (if p || (m || ((x && c) || (y && d))) then 4 else 0) ≤ (if b || (false || ((x && false) || (y && false))) then 4 else 0)
+pairs_by p true m x y c d f g h k = pair_of (p || (m || ((x && c) || (y && d))))
+pairs_by true false m x y c d f g h k = absurd (true≢false (f refl))
+pairs_by false false true x y c d f g h k = absurd (true≢false (g refl))
+pairs_by false false false true y c d f g h k = absurd (true≢false (h refl))
+pairs_by false false false false true c d f g h k = absurd (true≢false (k refl))
+pairs_by false false false false false c d f g h k = omega arith
+
+or_rest : (b c : Bool) → b || c ≡ true → b ≡ false → c ≡ true
+or_rest true c e f = absurd (true≢false f)
+or_rest false c e f = e
+
+not_true : (b : Bool) → not b ≡ true → b ≡ false
+not_true false e = refl
+not_true true e = absurd (true≢false (sym e))
+
+-- the one part that is left has parentheses only where the sequence has them
+module _ (s : Seat) (t : takes_alone s ≡ true) where
+  bare : nat_lt 0 s.level ≡ false → not s.access && (not s.new_callee && is_unmixed s.mix) ≡ true
+  bare e = or_rest (nat_lt 0 s.level) (not s.access && (not s.new_callee && is_unmixed s.mix)) t e
+
+  no_access : nat_lt 0 s.level ≡ false → s.access ≡ false
+  no_access e = not_true s.access (and_parts (not s.access) (not s.new_callee && is_unmixed s.mix) (bare e)).0
+
+  no_callee : nat_lt 0 s.level ≡ false → s.new_callee ≡ false
+  no_callee e = not_true s.new_callee (and_parts (not s.new_callee) (is_unmixed s.mix) (and_parts (not s.access) (not s.new_callee && is_unmixed s.mix) (bare e)).1).0
+
+  no_mix : nat_lt 0 s.level ≡ false → is_unmixed s.mix ≡ true
+  no_mix e = (and_parts (not s.new_callee) (is_unmixed s.mix) (and_parts (not s.access) (not s.new_callee && is_unmixed s.mix) (bare e)).1).1
+
+  no_level : (k : ℕ) → nat_lt 0 s.level ≡ false → nat_lt k s.level ≡ false
+  no_level k e = go (nat_lt k s.level) refl
+    where
+      go : (b : Bool) → nat_lt k s.level ≡ b → b ≡ false
+      go false f = refl
+      go true f = absurd (omega (arith, ltb-true k s.level f, ltb-false 0 s.level e))
+
+  alone_marks : (h : Shape) (os : List Outline) → place_weight (Expr s) h os ≤ place_weight (Expr passed_part_seat) h os + (place_weight (Expr s) shape.SequenceExpression os + 1)
+  alone_marks h os =
+      let pairs = pairs_by (nat_lt (level_of h) s.level) (nat_lt 0 s.level) (mixes h s.mix) s.access s.new_callee (is_chain h) (is_call h) (no_level (level_of h)) (λ e. not_mixed h s.mix (no_mix e)) no_access no_callee in
+      omega (arith, pairs, mark_at_most (is_awkward s h os))
+
+  alone_moved : (q : Tree) → is_plain_part q ≡ true → (os : List Outline) → weight (Expr s) q ≤ weight (Expr passed_part_seat) q + (place_weight (Expr s) shape.SequenceExpression os + 1)
+  alone_moved (node h xs n ts) e os = placed_node (place_weight (Expr s) shape.SequenceExpression os + 1) s passed_part_seat h (no_inner h (first_of (are_plain_parts ts)) e) xs n ts (alone_marks h (outlines ts))
+
+  alone_falls : (a q : Tree) → weighs a ≡ true → is_plain_part q ≡ true → weight (Expr s) q + 2 ≤ weight (Expr s) (sequence (a ▸ (q ▸ none)))
+  alone_falls a q h e =
+      let whole = sequence_weighs s a (q ▸ none) in
+      let heavy = two passed_part_seat a h in
+      let here = alone_moved q e (outlines (listed (a ▸ (q ▸ none)) ▸ none)) in
+      omega (arith, whole, heavy, here)
+
 -- ---- all
 
 pub lighter : SequencesLighter
 lighter (Expr s) n w (inl r) = falls_by (Expr s) n w _ _ r.shape r.written (lifted_falls s r.seated r.operation r.first r.others r.last)
-lighter (Expr s) n w (inr r) = falls_by (Expr s) n w _ _ r.shape r.written (spread_falls s r.before r.first r.second r.others r.after)
+lighter (Expr s) n w (inr (inl r)) = falls_by (Expr s) n w _ _ r.shape r.written (spread_falls s r.before r.first r.second r.others r.after)
+lighter (Expr s) n w (inr (inr (inl r))) = falls_by (Expr s) n w _ _ r.shape r.written (idle_falls s r.before r.idle r.next r.after)
+lighter (Expr s) n w (inr (inr (inr r))) = let falls = alone_falls s r.seated r.idle r.last r.heavy (plain_of s r.last r.stays) in falls_by (Expr s) n w _ _ r.shape r.written (omega (arith, falls))
 lighter p n w r = absurd r
 
 over_outline : (r : Operation) (a : Tree) (ts : Trees) → outline (over r a) ≡ outline (sequence ts)
@@ -152,16 +231,39 @@ over_outline (Decides o b) a ts = refl
 over_outline (Chooses b c) a ts = refl
 over_outline Negates a ts = refl
 
-row_outline : (p : Position) (n w : Tree) → SequenceRow p n w → outline n ≡ outline w
-row_outline (Expr s) n w (inl r) = ap outline r.shape ∙ over_outline r.operation (sequence (r.first ▸ append r.others (r.last ▸ none))) (r.first ▸ append r.others (over r.operation r.last ▸ none)) ∙ sym (ap outline r.written)
-row_outline (Expr s) n w (inr r) = ap outline r.shape ∙ sym (ap outline r.written)
-row_outline p n w r = absurd r
+-- what a parent's weight reads of them: a number 0 alone weighs less by 2 at least
+record ReadLightly (p : Position) (n w : Tree) : Type 0 where
+  absent : (outline n).absent ≡ (outline w).absent
+  is_zero : ((outline n).is_zero ≡ (outline w).is_zero) ⊎ (weight p w + 2 ≤ weight p n)
+  chooses : (outline n).chooses ≡ (outline w).chooses
+
+whole_alike : (p : Position) (n w : Tree) → outline n ≡ outline w → ReadLightly p n w
+whole_alike p n w e = record { absent = ap (λ o. o.absent) e; is_zero = inl (ap (λ o. o.is_zero) e); chooses = ap (λ o. o.chooses) e }
+
+alone_alike : (s : Seat) (n w : Tree) → Row21Alone s n w → ReadLightly (Expr s) n w
+alone_alike s n w r =
+    let plain = plain_of s r.last r.stays in record {
+      absent = ap (λ t. (outline t).absent) r.shape ∙ sym (ap (λ t. (outline t).absent) r.written ∙ there r.last plain);
+      is_zero = inr (subst (λ t. weight (Expr s) t + 2 ≤ weight (Expr s) n) (sym r.written) (subst (λ t. weight (Expr s) r.last + 2 ≤ weight (Expr s) t) (sym r.shape) (alone_falls s r.seated r.idle r.last r.heavy plain)));
+      chooses = ap (λ t. (outline t).chooses) r.shape ∙ sym (ap (λ t. (outline t).chooses) r.written ∙ no_choice r.last plain);
+    }
+
+read_lightly : (p : Position) (n w : Tree) → SequenceRow p n w → ReadLightly p n w
+read_lightly (Expr s) n w (inl r) = whole_alike (Expr s) n w (ap outline r.shape ∙ over_outline r.operation (sequence (r.first ▸ append r.others (r.last ▸ none))) (r.first ▸ append r.others (over r.operation r.last ▸ none)) ∙ sym (ap outline r.written))
+read_lightly (Expr s) n w (inr (inl r)) = whole_alike (Expr s) n w (ap outline r.shape ∙ sym (ap outline r.written))
+read_lightly (Expr s) n w (inr (inr (inl r))) = whole_alike (Expr s) n w (ap outline r.shape ∙ sym (ap outline r.written))
+read_lightly (Expr s) n w (inr (inr (inr r))) = alone_alike s n w r
+read_lightly p n w r = absurd r
+
+no_items : (p : Position) (n w : Tree) → SequenceRow p n w → counts_items p ≡ true → (outline n).items ≡ (outline w).items
+no_items (Expr s) n w r e = absurd (true≢false (sym e))
+no_items p n w r e = absurd r
 
 pub lightens : Lightens SequenceContracts
 lightens = record {
   lighter = λ p n w c. c.lighter;
-  absent = λ p n w c a. ap (λ o. o.absent) (row_outline p n w c.row);
-  items = λ p n w c a. ap (λ o. o.items) (row_outline p n w c.row);
-  is_zero = λ p n w c a. inl (ap (λ o. o.is_zero) (row_outline p n w c.row));
-  chooses = λ p n w c a. inl (λ h. sym (ap (λ o. o.chooses) (row_outline p n w c.row)) ∙ h);
+  absent = λ p n w c a. (read_lightly p n w c.row).absent;
+  items = λ p n w c a. no_items p n w c.row a;
+  is_zero = λ p n w c a. (read_lightly p n w c.row).is_zero;
+  chooses = λ p n w c a. inl (λ h. sym (read_lightly p n w c.row).chooses ∙ h);
 }

@@ -1,13 +1,17 @@
 -- Rows on sequences, as equations: each is a shape and what is written in its place, with the JavaScript before and after. No order of
 -- rewriting is meant.
-use Rattle.std.specs.Prelude.{◌≡◌, ◌<◌, ◌⊎◌, ◌&&◌, Bool, true, not, nat_eq}
+use Rattle.std.specs.Prelude.{◌≡◌, ◌<◌, ◌⊎◌, ◌&&◌, ◌||◌, Bool, true, false, not, nat_eq, nat_le, nat_lt}
 use Rattle.mini_model.specs.declared.operator.LogicalOperator.{LogicalOperator}
 use Rattle.mini_model.specs.declared.place.Position.{Position}
 use Rattle.mini_model.specs.declared.place.Position.TheVariants.{Expr}
 use Rattle.mini_model.specs.declared.seat.Seat.{Seat}
-use Rattle.mini_model.specs.Tree.{Tree, Trees, none, ◌▸◌, negation, logical, conditional}
+use Rattle.mini_model.specs.declared.seat.Mix.{Mix}
+use Rattle.mini_model.specs.declared.seat.Mix.TheVariants as mix
+use Rattle.mini_model.specs.Tree.{Tree, Trees, none, ◌▸◌, count, negation, logical, conditional}
 use Rattle.mini_model.specs.Paths.{append}
 use Rattle.mini_model.specs.Weight.{weight}
+use Rattle.mini_terms.specs.Folds.{is_effect_free}
+use Rattle.mini_terms.specs.Parts.{suits, leaves_nothing, weighs}
 use Rattle.mini_rows.specs.Lists.{sequence}
 
 -- ---- terms
@@ -27,6 +31,14 @@ over Negates a = negation a
 -- lifted out of it again
 abbrev pub is_open_seat : Seat → Bool
 is_open_seat s = nat_eq s.level 0 && not s.lifted
+
+abbrev pub is_unmixed : Mix → Bool
+is_unmixed mix.None = true
+is_unmixed m = false
+
+-- an expression has parentheses there only where a sequence has them too
+abbrev pub takes_alone : Seat → Bool
+takes_alone s = nat_lt 0 s.level || (not s.access && (not s.new_callee && is_unmixed s.mix))
 
 -- ---- rows
 
@@ -50,9 +62,34 @@ pub record Row21 (n w : Tree) : Type 0 where
   pub shape : n ≡ sequence (append before (sequence (first ▸ (second ▸ others)) ▸ after))
   pub written : w ≡ sequence (append before (first ▸ (second ▸ append others after)))
 
+-- 21, of a part that has no effect: `a(), 1, b()` becomes `a(), b()`
+pub record Row21Idle (n w : Tree) : Type 0 where
+  pub before : Trees
+  pub idle : Tree
+  pub next : Tree
+  pub after : Trees
+  pub effect_free : is_effect_free idle ≡ true
+  pub dropped : leaves_nothing idle ≡ true
+  pub heavy : weighs idle ≡ true
+  pub several : nat_le 2 (count (append before (next ▸ after))) ≡ true
+  pub shape : n ≡ sequence (append before (idle ▸ (next ▸ after)))
+  pub written : w ≡ sequence (append before (next ▸ after))
+
+-- and where one part is left: `1, a()` becomes `a()`
+pub record Row21Alone (s : Seat) (n w : Tree) : Type 0 where
+  pub idle : Tree
+  pub last : Tree
+  pub effect_free : is_effect_free idle ≡ true
+  pub dropped : leaves_nothing idle ≡ true
+  pub heavy : weighs idle ≡ true
+  pub seated : takes_alone s ≡ true
+  pub stays : suits s last ≡ true
+  pub shape : n ≡ sequence (idle ▸ (last ▸ none))
+  pub written : w ≡ last
+
 -- a row on sequences reads n as w at this place
 abbrev pub SequenceRow : Position → Tree → Tree → Type 0
-SequenceRow (Expr s) n w = Row20 s n w ⊎ Row21 n w
+SequenceRow (Expr s) n w = Row20 s n w ⊎ (Row21 n w ⊎ (Row21Idle n w ⊎ Row21Alone s n w))
 SequenceRow _ n w = ⊥
 
 -- what it writes, where it weighs less

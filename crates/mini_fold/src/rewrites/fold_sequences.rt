@@ -1,20 +1,22 @@
 //! Rows 20 and 21: a sequence is lifted out of the first operand of a logical expression, a conditional or a `!`, and spread in a
-//! sequence. `(a, b) && c` becomes `a, b && c`, and `a, (b, c)` becomes `a, b, c`. What is written is lighter in every place.
+//! sequence; parts that have no effect go, but the last. `(a, b) && c` becomes `a, b && c`, `a, (b, c)` becomes `a, b, c`, and
+//! `a(), 1, b()` becomes `a(), b()`. What is written is lighter in every place.
 
-ghost use Rattle.std.specs.Prelude.{◌≡◌, ◌<◌, true, false, is_some, IfOk, IfSome};
+ghost use Rattle.std.specs.Prelude.{◌≡◌, ◌+◌, ◌<◌, true, false, nat_le, is_some, IfOk, IfSome};
 ghost use Rattle.mini_model.specs.Tree.{children, count, child_or_absent};
-ghost use Rattle.mini_node.specs.Children.{part};
-ghost use Rattle.mini_node.specs.Kinds.{sequence as sequence_of};
-ghost use Rattle.mini_rows.specs.Sequences.{is_open_seat as is_it_open_seat};
+ghost use Rattle.mini_node.specs.Children.{part, without};
+ghost use Rattle.mini_node.specs.Kinds.{sequence as sequence_of, is_sequence as is_it_sequence};
+ghost use Rattle.mini_rows.specs.Sequences.{is_open_seat as is_it_open_seat, is_unmixed as is_it_unmixed, takes_alone as takes_it_alone};
 ghost use Rattle.mini_tree.specs.Rule.{Applied};
-ghost use Rattle.mini_fold.specs.FoldSequences.{has_several as has_it_several, is_several as is_it_several, is_operation as is_it_operation, is_lifted as is_it_lifted, last_of, but_last, lifted, any_of, spread_at, Gives, Rests};
+ghost use Rattle.mini_fold.specs.FoldSequences.{has_several as has_it_several, is_several as is_it_several, is_operation as is_it_operation, is_lifted as is_it_lifted, last_of, but_last, lifted, any_of, spread_at, is_nested as is_it_nested, is_idle as is_it_idle, idle_before_last, is_left as is_it_left, Gives, Rests};
 ghost use Rattle.mini_fold.specs.Lighter.{sequences_lighter};
 
-use mini_model::{OutOfMemory, Position, Seat};
+use mini_model::{Mix, OutOfMemory, Position, Seat};
 use mini_node::{
-    Node, Nodes, absent, is_conditional, is_negation, is_sequence, logical_operator, one, sequence,
-    take_first, taken,
+    Node, Nodes, absent, discard, is_conditional, is_negation, is_sequence, logical_operator, one,
+    sequence, take_first, taken, two,
 };
+use mini_terms::{has_no_effect, leaves_nothing, suits, weighs};
 use mini_tree::{Context, Rule};
 use std::alloc::Global;
 
@@ -107,7 +109,118 @@ fn spread_sequence(alloc: Global, node: Node, at: usize) -> Result<Node, OutOfMe
     sequence(alloc, before)
 }
 
-// A sequence in a sequence is spread. The answer says whether one was.
+// Whether it has no effect, and may go.
+fn is_idle(node: &Node) -> bool
+    ensures { result ≡ is_it_idle node.now }
+{
+    has_no_effect(node) && leaves_nothing(node) && weighs(node)
+}
+
+// The place of the first such part but the last.
+fn idle_at(nodes: &Nodes) -> Option<usize>
+    ensures found { IfSome result (λ at. at + 1 < count nodes.now) }
+    ensures read { IfSome result (λ at. is_it_idle (child_or_absent nodes.now at) ≡ true) }
+    ensures any { is_some result ≡ idle_before_last nodes.now }
+{
+    for at in 0..nodes.len().saturating_sub(1) {
+        if is_idle(nodes.child(at)) {
+            return Some(at);
+        }
+    }
+    None
+}
+
+fn without_part(alloc: Global, node: Node, at: usize) -> Result<Node, OutOfMemory>
+    requires { at < count (children (part node 0)) }
+    ensures { IfOk result (λ w. w ≡ sequence_of (without (children (part node 0)) at)) }
+{
+    let mut parts = one(node).into_children();
+    let idle = parts.remove(at);
+    discard(idle);
+    sequence(alloc, parts)
+}
+
+// `a(), b()` of `a(), 1, b()`
+fn drop_part(alloc: Global, node: &mut Node, seat: Seat) -> Result<bool, OutOfMemory>
+    requires parts { count (children node.old) ≡ 1 }
+    requires kind { is_it_sequence node.old ≡ true }
+    requires several { nat_le 3 (count (children (part node.old 0))) ≡ true }
+    requires lifted { is_it_lifted seat node.old ≡ false }
+    requires nested { is_it_nested node.old ≡ false }
+    ensures { IfOk result (λ changed. Applied Gives Rests (Position.Expr seat) node.old node.new changed) }
+{
+    match idle_at(node.child(0).children()) {
+        Some(at) => {
+            *node = without_part(alloc, taken(alloc, node), at)?;
+            Ok(true)
+        }
+        None => Ok(false),
+    }
+}
+
+// Whether an expression has parentheses here only where a sequence has them too.
+fn takes_alone(seat: Seat) -> bool
+    ensures { result ≡ takes_it_alone seat }
+{
+    seat.level > 0 || !seat.access && !seat.new_callee && is_unmixed(seat.mix)
+}
+
+fn is_unmixed(mix: Mix) -> bool
+    ensures { result ≡ is_it_unmixed mix }
+{
+    match mix {
+        Mix::None => true,
+        _ => false,
+    }
+}
+
+// Whether of two parts the last one may stand alone.
+fn is_left(seat: Seat, parts: &Nodes) -> bool
+    ensures { result ≡ is_it_left seat parts.now }
+{
+    parts.len() == 2 && takes_alone(seat) && is_idle(parts.child(0)) && suits(seat, parts.child(1))
+}
+
+fn last_of_two(node: Node) -> Node
+    ensures { result ≡ child_or_absent (children (part node 0)) 1 }
+{
+    let (first, last) = two(one(node));
+    discard(first);
+    last
+}
+
+// `a()` of `1, a()`
+fn leave_last(alloc: Global, node: &mut Node, seat: Seat) -> bool
+    requires parts { count (children node.old) ≡ 1 }
+    requires kind { is_it_sequence node.old ≡ true }
+    requires few { nat_le 3 (count (children (part node.old 0))) ≡ false }
+    requires lifted { is_it_lifted seat node.old ≡ false }
+    requires nested { is_it_nested node.old ≡ false }
+    ensures { Applied Gives Rests (Position.Expr seat) node.old node.new result }
+{
+    if !is_left(seat, node.child(0).children()) {
+        return false;
+    }
+    *node = last_of_two(taken(alloc, node));
+    true
+}
+
+// A part that has no effect goes. The answer says whether one did.
+fn drop_idle(alloc: Global, node: &mut Node, seat: Seat) -> Result<bool, OutOfMemory>
+    requires parts { count (children node.old) ≡ 1 }
+    requires kind { is_it_sequence node.old ≡ true }
+    requires lifted { is_it_lifted seat node.old ≡ false }
+    requires nested { is_it_nested node.old ≡ false }
+    ensures { IfOk result (λ changed. Applied Gives Rests (Position.Expr seat) node.old node.new changed) }
+{
+    if node.child(0).children().len() >= 3 {
+        drop_part(alloc, node, seat)
+    } else {
+        Ok(leave_last(alloc, node, seat))
+    }
+}
+
+// A sequence in a sequence is spread, and parts that have no effect go. The answer says whether something was done.
 fn spread(alloc: Global, node: &mut Node, seat: Seat) -> Result<bool, OutOfMemory>
     requires { is_it_lifted seat node.old ≡ false }
     ensures { IfOk result (λ changed. Applied Gives Rests (Position.Expr seat) node.old node.new changed) }
@@ -120,12 +233,12 @@ fn spread(alloc: Global, node: &mut Node, seat: Seat) -> Result<bool, OutOfMemor
             *node = spread_sequence(alloc, taken(alloc, node), at)?;
             Ok(true)
         }
-        None => Ok(false),
+        None => drop_idle(alloc, node, seat),
     }
 }
 
-/// A sequence is lifted out of the first operand of an expression, or spread in a sequence. The answer says whether it was; the
-/// only error is that memory runs out, and then the expression is fit only to be dropped.
+/// A sequence is lifted out of the first operand of an expression, or spread in a sequence, or a part of one that has no effect goes.
+/// The answer says whether something was done; the only error is that memory runs out, and then the expression is fit only to be dropped.
 pub fn fold_sequence_expression(
     alloc: Global,
     node: &mut Node,
