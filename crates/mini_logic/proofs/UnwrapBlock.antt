@@ -1,10 +1,8 @@
--- The rewrite is that of row 79, and always lighter.
-use Rattle.std.proofs.Common.{◌≡◌, ℕ, zero, Bool, true, false, [], refl, sym, ap, subst, ◌∙◌, inl, inr}
-use Rattle.std.specs.Prelude.{◌&&◌, not, Option, Some, None, is_some, unwrap_or, option_map, if◌then◌else◌}
+-- The rewrite is that of row 79.
+use Rattle.std.proofs.Common.{◌≡◌, ℕ, zero, Bool, true, false, [], refl, sym, ap, subst, ◌∙◌}
+use Rattle.std.specs.Prelude.{◌&&◌, not, Some, None, if◌then◌else◌}
 use Rattle.std.proofs.lemmas.Bool.{and_parts, false≢true}
 use Rattle.std.proofs.lemmas.Option.{none-some}
-use Rattle.mini_model.specs.declared.place.Position.TheVariants.{Stmt}
-use Rattle.mini_model.specs.declared.seat.StmtSeat.{StmtSeat}
 use Rattle.mini_model.specs.declared.shape.Shape.TheVariants as shape
 use Rattle.mini_model.specs.Tree.{Tree, Trees, node, none, ◌▸◌, children, if_else}
 use Rattle.mini_node.specs.Children.{part}
@@ -12,11 +10,8 @@ use Rattle.mini_node.specs.Kinds.{is_block, is_if_statement}
 use Rattle.mini_node.specs.Made.{block_is, if_statement_is}
 use Rattle.mini_rows.specs.Lists.{block, is_unscoped}
 use Rattle.mini_rows.specs.Branches.{has_else, Surrounding, Consequent, Alternate, WhileBody, DoBody, ForBody, InBody, OfBody, around, keeps_block, Row79}
-use Rattle.mini_rows.proofs.BranchWeights.{branch_lighter}
-use Rattle.mini_tree.specs.Rule.{Applied}
-use Rattle.mini_tree.proofs.Reaching.{moves_once}
 use Rattle.mini_logic.specs.Negating.{has_one}
-use Rattle.mini_logic.specs.UnwrapBlock.{first_statement, holds_one, holds_bare, some_if, body_place, held_at, branch_place, place, unwrapped_at, written, Gives, Rests}
+use Rattle.mini_logic.specs.UnwrapBlock.{first_statement, holds_one, holds_bare, some_if, body_place, held_at, branch_place, place, unwrapped_at}
 
 -- ---- what a test says
 
@@ -30,7 +25,7 @@ held t e =
     let (one, unscoped) = and_parts (has_one (children (part t 0))) (is_unscoped (first_statement t)) rest in
     (block_is t is ∙ ap block (only_one (children (part t 0)) one), unscoped)
 
-some_then : (b : Bool) (j i : ℕ) → some_if b j ≡ Some i → (b ≡ true) × (j ≡ i)
+pub some_then : (b : Bool) (j i : ℕ) → some_if b j ≡ Some i → (b ≡ true) × (j ≡ i)
 some_then true j i e = (refl, cc e)
 some_then false j i e = absurd (cc e)
 
@@ -61,7 +56,7 @@ loop_row (node shape.ForInStatement [] zero (x ▸ (y ▸ (b ▸ none)))) i e = 
 loop_row (node shape.ForOfStatement [] zero (x ▸ (y ▸ (b ▸ none)))) i e = let (one, at) = some_then (holds_one b) 2 i e in subst (λ j. Row79 (around (OfBody x y) b) (unwrapped_at (around (OfBody x y) b) j)) at (unwrapped (OfBody x y) b one refl)
 loop_row t i e = absurd (none-some i e)
 
-row_at : (t : Tree) (i : ℕ) → place t ≡ Some i → Row79 t (unwrapped_at t i)
+pub row_at : (t : Tree) (i : ℕ) → place t ≡ Some i → Row79 t (unwrapped_at t i)
 row_at t i e = go (is_if_statement t) refl e
   where
     go : (d : Bool) → is_if_statement t ≡ d → (if d then branch_place t else held_at t (body_place t)) ≡ Some i → Row79 t (unwrapped_at t i)
@@ -72,7 +67,7 @@ row_at t i e = go (is_if_statement t) refl e
 
 -- ---- where nothing is written the row doesn't read it
 
-never : (b : Bool) (i : ℕ) → b ≡ true → some_if b i ≡ None → ⊥
+pub never : (b : Bool) (i : ℕ) → b ≡ true → some_if b i ≡ None → ⊥
 never true i h e = cc e
 never false i h e = cc h
 
@@ -94,12 +89,5 @@ no_place (ForBody x y z) c h k e = never (is_unscoped c) 3 h e
 no_place (InBody x y) c h k e = never (is_unscoped c) 2 h e
 no_place (OfBody x y) c h k e = never (is_unscoped c) 2 h e
 
-misses : (t w : Tree) → place t ≡ None → Row79 t w → ⊥
+pub misses : (t w : Tree) → place t ≡ None → Row79 t w → ⊥
 misses t w e r = no_place r.place r.statement r.unscoped r.bare (sym (ap place r.shape) ∙ e)
-
-pub applied : (q : StmtSeat) (t u : Tree) (b : Bool) → u ≡ unwrap_or (written t) t → b ≡ is_some (written t) → Applied Gives Rests (Stmt q) t u b
-applied q t u b e f = subst (λ v. Applied Gives Rests (Stmt q) t v b) (sym e) (subst (Applied Gives Rests (Stmt q) t (unwrap_or (written t) t)) (sym f) (go (place t) refl))
-  where
-    go : (o : Option ℕ) → place t ≡ o → Applied Gives Rests (Stmt q) t (unwrap_or (option_map (unwrapped_at t) o) t) (is_some (option_map (unwrapped_at t) o))
-    go None h = (refl, λ w r. misses t w h r)
-    go (Some i) h = let is = row_at t i h in moves_once Gives (Stmt q) t (unwrapped_at t i) (is, branch_lighter (Stmt q) t (unwrapped_at t i) (inr (inl is)))

@@ -3,6 +3,8 @@ pub mod MinimizeUnaryExpression
 pub mod MinimizeConditionalExpression
 pub mod MinimizeIfStatement
 pub mod UnwrapBlock
+pub mod LastContinue
+pub mod MinimizeBody
 pub mod Joined
 pub mod Lighter
 pub mod MinimizeExpressionInBooleanContext

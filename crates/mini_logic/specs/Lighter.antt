@@ -19,7 +19,7 @@ use Rattle.mini_tree.specs.Wider.{step_of}
 use Rattle.mini_logic.specs.MinimizeUnaryExpression as unary
 use Rattle.mini_logic.specs.MinimizeConditionalExpression as conditional
 use Rattle.mini_logic.specs.MinimizeIfStatement as «if»
-use Rattle.mini_logic.specs.UnwrapBlock as unwrap
+use Rattle.mini_logic.specs.MinimizeBody as body
 use Rattle.mini_logic.specs.DeMorganForVoidExpr as de_morgan
 use Rattle.mini_logic.specs.MinimizeExpressionInBooleanContext as booleans
 use Rattle.mini_logic.specs.MinimizeNegation as negation
@@ -43,9 +43,9 @@ if_contracts (Stmt q) t u (inr (inl r), l) = inr (inl (record { row = inr (inr r
 if_contracts (Stmt q) t u (inr (inr r), l) = inr (inr (record { row = r; lighter = l }))
 if_contracts p t u r = absurd r
 
-pub unwrap_contracts : (p : Position) (t u : Tree) → unwrap.Gives p t u → AnyContracts p t u
-unwrap_contracts (Stmt q) t u r = inr (inl (record { row = inr (inl r.0); lighter = r.1 }))
-unwrap_contracts p t u r = absurd r
+pub body_contracts : (p : Position) (t u : Tree) → body.Gives p t u → AnyContracts p t u
+body_contracts (Stmt q) t u r = inr (inl (record { row = inr (inl r.0); lighter = r.1 }))
+body_contracts p t u r = absurd r
 
 pub unary_lighter : IsLighter unary.Gives
 unary_lighter p t u s = step_lighter p t u (step_of unary.Gives Contracts unary_contracts p t u s)
@@ -70,8 +70,8 @@ conditional_lighter = rows_lighter conditional.Gives conditional_contracts
 pub if_lighter : IsLighter «if».Gives
 if_lighter = rows_lighter «if».Gives if_contracts
 
-pub unwrap_lighter : IsLighter unwrap.Gives
-unwrap_lighter = rows_lighter unwrap.Gives unwrap_contracts
+pub body_lighter : IsLighter body.Gives
+body_lighter = rows_lighter body.Gives body_contracts
 
 pub booleans_lighter : IsLighter booleans.Gives
 booleans_lighter = any_step_lighter booleans.Gives boolean_weights.lightens

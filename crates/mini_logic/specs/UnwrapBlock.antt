@@ -1,15 +1,12 @@
 -- 79 of branches and bodies, `unwrap_block`: `if (a) { b(); } else { c(); }` becomes `if (a) b(); else c();`, a branch at a time,
 -- and `while (a) { b(); }` becomes `while (a) b();`.
-use Rattle.std.specs.Prelude.{◌<◌, ℕ, Bool, ◌&&◌, not, Option, Some, None, option_map, if◌then◌else◌}
-use Rattle.mini_model.specs.declared.place.Position.{Position}
-use Rattle.mini_model.specs.declared.place.Position.TheVariants.{Stmt}
+use Rattle.std.specs.Prelude.{ℕ, Bool, ◌&&◌, not, Option, Some, None, option_map, if◌then◌else◌}
 use Rattle.mini_model.specs.declared.shape.Shape.{Shape}
 use Rattle.mini_model.specs.declared.shape.Shape.TheVariants as shape
 use Rattle.mini_model.specs.Tree.{Tree, shape_of, children}
-use Rattle.mini_model.specs.Weight.{weight}
 use Rattle.mini_node.specs.Children.{part, is_bare, like, with_child}
 use Rattle.mini_node.specs.Kinds.{is_block, is_if_statement}
-use Rattle.mini_rows.specs.Branches.{has_else, Row79}
+use Rattle.mini_rows.specs.Branches.{has_else}
 use Rattle.mini_rows.specs.Lists.{is_unscoped}
 use Rattle.mini_logic.specs.Negating.{has_one}
 
@@ -59,13 +56,3 @@ unwrapped_at t i = like t (with_child (children t) i (first_statement (part t i)
 
 abbrev pub written : Tree → Option Tree
 written t = option_map (unwrapped_at t) (place t)
-
--- what the rule makes
-abbrev pub Gives : Position → Tree → Tree → Type 0
-Gives (Stmt q) n w = Row79 n w × (weight (Stmt q) w < weight (Stmt q) n)
-Gives _ n w = ⊥
-
--- the row reads it as nothing
-abbrev pub Rests : Position → Tree → Type 0
-Rests (Stmt q) n = (w : Tree) → Row79 n w → ⊥
-Rests _ n = Unit {0}

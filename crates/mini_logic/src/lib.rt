@@ -18,6 +18,7 @@ pub use laws::{
 pub use mini_node::{is_same_tree as expr_eq, is_same_tree as stmt_eq};
 pub use nots::{minimize_not, try_negate_expression};
 pub use rewrites::de_morgan_for_void_expr::{MinimizeVoid, de_morgan_for_void_expr};
+pub use rewrites::minimize_body::{MinimizeBodies, minimize_body};
 pub use rewrites::minimize_conditional_expression::{
     MinimizeConditional, minimize_conditional_expression,
 };
@@ -27,7 +28,8 @@ pub use rewrites::minimize_expression_in_boolean_context::{
 pub use rewrites::minimize_if_statement::{MinimizeIf, try_minimize_if};
 pub use rewrites::minimize_negation::{MinimizeNegations, minimize_negation};
 pub use rewrites::minimize_unary_expression::{MinimizeUnary, minimize_unary};
-pub use rewrites::unwrap_block::{UnwrapBlocks, unwrap_block};
+pub use rewrites::remove_last_continue::remove_last_continue;
+pub use rewrites::unwrap_block::unwrap_block;
 pub use sequences::{
     has_negated_result, last_expression_in_sequence, pop_expression_from_sequence,
 };

@@ -17,7 +17,7 @@ use Rattle.mini_rows.specs.Arrows.{ArrowRow}
 use Rattle.mini_rows.specs.Redex.{Row, Contracts, Rewrites, IsSettled, HasNoRedex}
 use Rattle.mini_rows.proofs.AllRows.{all_loose}
 use Rattle.mini_logic.specs.Joined as logic_law
-use Rattle.mini_logic.specs.UnwrapBlock as blocks
+use Rattle.mini_logic.specs.MinimizeBody as bodies
 use Rattle.mini_logic.proofs.Joined as logic
 use Rattle.mini_syntax.specs.SubstituteReturnStatement as returns
 use Rattle.mini_peephole.specs.Faithful.{switches}
@@ -47,9 +47,9 @@ first_row p n w r = r
 module _ (o : CompressOptions) (q : Tree) where
   -- each rule makes what a row contracts
 
-  blocks_contract : (p : Position) (t u : Tree) → blocks.Gives p t u → Contracts (switches o) p t u
-  blocks_contract (Stmt s) t u r = record { row = of_branches (switches o) (Stmt s) t u (inr (inl r.0)); lighter = r.1 }
-  blocks_contract p t u r = absurd r
+  bodies_contract : (p : Position) (t u : Tree) → bodies.Gives p t u → Contracts (switches o) p t u
+  bodies_contract (Stmt s) t u r = record { row = of_branches (switches o) (Stmt s) t u (inr (inl r.0)); lighter = r.1 }
+  bodies_contract p t u r = absurd r
 
   returns_contract : (p : Position) (t u : Tree) → returns.Gives p t u → Contracts (switches o) p t u
   returns_contract (Stmt s) t u r = record { row = of_branches (switches o) (Stmt s) t u (inl r.0); lighter = r.1 }
@@ -57,7 +57,7 @@ module _ (o : CompressOptions) (q : Tree) where
 
   pub gives_contract : (p : Position) (t u : Tree) → Gives o q p t u → Contracts (switches o) p t u
   gives_contract p t u (inl r) = let c = logic.gives_contract p t u r in record { row = logic_row (switches o) p t u c.row; lighter = c.lighter }
-  gives_contract p t u (inr (inl r)) = blocks_contract p t u r
+  gives_contract p t u (inr (inl r)) = bodies_contract p t u r
   gives_contract p t u (inr (inr (inl r))) = returns_contract p t u r
   gives_contract p t u (inr (inr (inr (inl c)))) = record { row = inr (inl c.row); lighter = c.lighter }
   gives_contract p t u (inr (inr (inr (inr (inl c))))) = record { row = inr (inr (inr (inl c.row))); lighter = c.lighter }

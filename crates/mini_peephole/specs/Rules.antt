@@ -8,7 +8,7 @@ use Rattle.mini_logic.specs.Joined as logic
 use Rattle.mini_logic.specs.DeMorganForVoidExpr as de_morgan
 use Rattle.mini_logic.specs.MinimizeNegation as negation
 use Rattle.mini_logic.specs.MinimizeExpressionInBooleanContext as booleans
-use Rattle.mini_logic.specs.UnwrapBlock as blocks
+use Rattle.mini_logic.specs.MinimizeBody as bodies
 use Rattle.mini_choices.specs.Choices as choices
 use Rattle.mini_fold.specs.FoldKnown as folding
 use Rattle.mini_fold.specs.FoldConstants as constants
@@ -30,10 +30,10 @@ use Rattle.mini_unused.specs.SubstituteCatchClause as catches
 
 -- of those that keep each name
 abbrev pub Gives : CompressOptions → Tree → Position → Tree → Tree → Type 0
-Gives o q = Either logic.Gives (Either blocks.Gives (Either returns.Gives (Either spellings.Gives (Either (lists.Gives o q) (Either keys.Gives (Either choices.Gives (Either DeclarationContracts (Either folding.Gives (Either arrows.Gives (Either constants.Gives (Either held.Gives (Either booleans.Gives (Either de_morgan.Gives (Either sequences.Gives (Either operands.Gives negation.Gives)))))))))))))))
+Gives o q = Either logic.Gives (Either bodies.Gives (Either returns.Gives (Either spellings.Gives (Either (lists.Gives o q) (Either keys.Gives (Either choices.Gives (Either DeclarationContracts (Either folding.Gives (Either arrows.Gives (Either constants.Gives (Either held.Gives (Either booleans.Gives (Either de_morgan.Gives (Either sequences.Gives (Either operands.Gives negation.Gives)))))))))))))))
 
 abbrev pub Rests : CompressOptions → Tree → Position → Tree → Type 0
-Rests o q = Both logic.Rests (Both blocks.Rests (Both returns.Rests (Both spellings.Rests (Both (lists.RestsUnder o q) (Both keys.Rests (Both choices.Rests (Both declarations.Rests (Both folding.Rests (Both arrows.Rests (Both constants.Rests (Both held.Rests (Both booleans.Rests (Both de_morgan.Rests (Both sequences.Rests (Both operands.Rests negation.Rests)))))))))))))))
+Rests o q = Both logic.Rests (Both bodies.Rests (Both returns.Rests (Both spellings.Rests (Both (lists.RestsUnder o q) (Both keys.Rests (Both choices.Rests (Both declarations.Rests (Both folding.Rests (Both arrows.Rests (Both constants.Rests (Both held.Rests (Both booleans.Rests (Both de_morgan.Rests (Both sequences.Rests (Both operands.Rests negation.Rests)))))))))))))))
 
 -- and of those besides that drop names that nothing mentions
 abbrev pub AllGives : CompressOptions → Tree → Position → Tree → Tree → Type 0

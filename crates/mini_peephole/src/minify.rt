@@ -19,8 +19,8 @@ use mini_context::{TraverseCtx, resolve};
 use mini_estree::{MinifyError, Numbered, read_program};
 use mini_fold::{FoldConstants, FoldKnown, FoldOperands, FoldSequences};
 use mini_logic::{
-    MinimizeConditional, MinimizeIf, MinimizeInBooleanContext, MinimizeNegations, MinimizeUnary,
-    MinimizeVoid, UnwrapBlocks,
+    MinimizeBodies, MinimizeConditional, MinimizeIf, MinimizeInBooleanContext, MinimizeNegations,
+    MinimizeUnary, MinimizeVoid,
 };
 use mini_stmt::MinimizeStatements;
 use mini_syntax::{
@@ -96,7 +96,7 @@ type Spellings = Then<
     >,
 >;
 
-const KEEPING_RULES: Then<Logic, Then<UnwrapBlocks, Spellings>> = Then {
+const KEEPING_RULES: Then<Logic, Then<MinimizeBodies, Spellings>> = Then {
     first: Then {
         first: MinimizeUnary,
         second: Then {
@@ -105,7 +105,7 @@ const KEEPING_RULES: Then<Logic, Then<UnwrapBlocks, Spellings>> = Then {
         },
     },
     second: Then {
-        first: UnwrapBlocks,
+        first: MinimizeBodies,
         second: Then {
             first: SubstituteReturns,
             second: Then {
@@ -153,7 +153,7 @@ const KEEPING_RULES: Then<Logic, Then<UnwrapBlocks, Spellings>> = Then {
 };
 
 // These keep each name; after them come the rules of names that nothing mentions.
-type Keeping = Then<Logic, Then<UnwrapBlocks, Spellings>>;
+type Keeping = Then<Logic, Then<MinimizeBodies, Spellings>>;
 
 type Dropping = Then<RemoveUnusedDeclarations, Then<RemoveUnusedNames, SubstituteCatches>>;
 

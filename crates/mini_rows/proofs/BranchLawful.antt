@@ -10,10 +10,11 @@ use Rattle.mini_model.specs.declared.place.Position.TheVariants.{Stmt}
 use Rattle.mini_model.specs.declared.seat.StmtSeat.{StmtSeat}
 use Rattle.mini_model.specs.declared.shape.Shape.{Shape}
 use Rattle.mini_model.specs.declared.shape.Shape.TheVariants as shape
-use Rattle.mini_model.specs.Tree.{Tree, Trees, node, none, ◌▸◌, shape_of, is_absent, absent, expression_statement, if_else, if_alone, logical}
+use Rattle.mini_model.specs.Paths.{append}
+use Rattle.mini_model.specs.Tree.{Tree, Trees, node, none, ◌▸◌, shape_of, is_absent, absent, empty_statement, expression_statement, if_else, if_alone, logical}
 use Rattle.mini_model.specs.Position.{if_test_seat}
 use Rattle.mini_model.specs.Terms.{not_of}
-use Rattle.mini_accept.specs.WellShaped.{Class, a_statement, a_key, a_private_or_key, an_inner_key, a_loop_left, an_expression, an_init, Slot, one, one_or_absent, many, many_or_holes, many_and_rest, many_or_holes_and_rest, quasis, refused, filling, fits, is_function_body, spelling, spelling_by, has_optional, has_optional_by, is_not_positive_number}
+use Rattle.mini_accept.specs.WellShaped.{Class, a_statement, a_key, a_private_or_key, an_inner_key, a_loop_left, an_expression, an_init, Slot, one, one_or_absent, many, many_or_holes, many_and_rest, many_or_holes_and_rest, quasis, refused, each, filling, fits, fill, is_function_body, spelling, spelling_by, has_optional, has_optional_by, is_not_positive_number}
 use Rattle.mini_kept.specs.KeepsFrames.{is_in_body, is_body_slot}
 use Rattle.mini_kept.specs.KeepsNames.{is_rewritten_place}
 use Rattle.mini_kept.specs.KeepsShapes.{is_default, AskedAlike}
@@ -27,15 +28,17 @@ use Rattle.mini_rows.specs.Arranged.{KeptAt, Vanishes}
 use Rattle.mini_rows.specs.Lists.{block, return_statement, is_unscoped}
 use Rattle.mini_rows.specs.Sketches.{AbsentPart, Return, part, under, end, ◌▹◌}
 use Rattle.mini_rows.specs.Spellings.{IsUndefined}
-use Rattle.mini_rows.specs.Branches.{IsEmpty, IsIdleVoid, Row60, Row79, has_else, is_other_branch, as_consequent, Surrounding, Consequent, Alternate, WhileBody, DoBody, ForBody, InBody, OfBody, around, conjunct_seat, Row82Empty, after, with_not, without_not, Row82Ends, Row83, BranchRow, BranchContracts}
+use Rattle.mini_rows.specs.Branches.{IsEmpty, IsIdleVoid, Row60, has_else, is_other_branch, as_consequent, Surrounding, Consequent, Alternate, WhileBody, DoBody, ForBody, InBody, OfBody, around, conjunct_seat, is_loop, bare_continue, Row82Empty, after, with_not, without_not, Row82Ends, Row83, BodyRow, BranchRow, BranchContracts}
 use Rattle.mini_rows.proofs.ArrangedLawful.{kept_is_lawful}
 use Rattle.mini_rows.proofs.ArrangedStatements.{statements_arranged}
 use Rattle.mini_rows.proofs.BranchInside.{Inside, unwrapped_inside, wrapped_inside}
 use Rattle.mini_rows.proofs.BranchAround.{is_plain, Core, Said, core_kept, around_core, around_said, around_plain}
+use Rattle.mini_rows.proofs.BodyEnds.{continue_idle, emptied, shortened}
 use Rattle.mini_rows.proofs.BranchEnds.{ending_written, ends_kept}
 use Rattle.mini_rows.proofs.BranchParts.{Value, core_then, said_then, value_itself, said_itself, value_not, said_not, empty_is_idle, turned_core, turned_said, chosen_core, chosen_said, tested_core, tested_said, nested_core, nested_said}
 use Rattle.mini_rows.proofs.BranchSame.{branches_same}
 use Rattle.mini_rows.proofs.FoldLawful.{vanishes, first_dropped}
+use Rattle.mini_rows.proofs.ListShapes.{both_fit}
 
 else_unscoped : (c : Tree) → has_else c ≡ true → is_unscoped c ≡ true
 else_unscoped (node shape.IfStatement xs n ts) h = refl
@@ -336,6 +339,21 @@ return_kept q n w r = statements_arranged first_dropped (record { trees = r.argu
 row_79 : (k : Surrounding) (c : Tree) → is_unscoped c ≡ true → Kind (around k (block (c ▸ none))) (around k c)
 row_79 k c h = around_kind k (block (c ▸ none)) c (unwrapped_inside c h) (λ strict. block_fit strict c) (λ strict e. last_fit strict c (unscoped_there c h) (block_fit strict c e))
 
+-- a block, and one without its last statement
+shorter_fit : (strict : Bool) (ts : Trees) (j : Tree) → fits strict statement (block (append ts (j ▸ none))) ≡ true → fits strict statement (block ts) ≡ true
+shorter_fit strict ts j e = both (fill strict (each statement) ts) true (both_fit strict statement ts (j ▸ none) (left (fill strict (each statement) (append ts (j ▸ none))) true e)).0 refl
+
+row_78_block : (k : Surrounding) (ts : Trees) → Kind (around k (block (append ts (bare_continue ▸ none)))) (around k (block ts))
+row_78_block k ts = around_kind k (block (append ts (bare_continue ▸ none))) (block ts) (shortened bare_continue continue_idle ts) (λ strict. shorter_fit strict ts bare_continue) (λ strict. shorter_fit strict ts bare_continue)
+
+row_78_whole : (k : Surrounding) → Kind (around k bare_continue) (around k empty_statement)
+row_78_whole k = around_kind k bare_continue empty_statement (emptied bare_continue continue_idle) (λ strict e. refl) (λ strict e. refl)
+
+body_kind : (n w : Tree) → BodyRow n w → Kind n w
+body_kind n w (inl r) = kind_along n _ w _ r.shape r.written (row_79 r.place r.statement r.unscoped)
+body_kind n w (inr (inl r)) = kind_along n _ w _ r.shape r.written (row_78_block r.place r.before)
+body_kind n w (inr (inr r)) = kind_along n _ w _ r.shape r.written (row_78_whole r.place)
+
 row_83_block : (a c u : Tree) → has_else c ≡ true → Kind (if_else a c u) (if_else a (block (c ▸ none)) u)
 row_83_block a c u h = record {
   read = refl;
@@ -441,8 +459,8 @@ row_82 : (n w : Tree) → Row82Empty n w → Kind n w
 row_82 n w (inl r) = kind_along n _ w _ r.shape r.written (row_82_or r.a r.empty r.b r.is_empty)
 row_82 n w (inr r) = kind_along n _ w _ r.shape r.written (row_82_and r.a r.empty r.b r.is_empty)
 
-row_kind : (n w : Tree) → Row79 n w ⊎ (Row82Empty n w ⊎ Row83 n w) → Kind n w
-row_kind n w (inl r) = kind_along n _ w _ r.shape r.written (row_79 r.place r.statement r.unscoped)
+row_kind : (n w : Tree) → BodyRow n w ⊎ (Row82Empty n w ⊎ Row83 n w) → Kind n w
+row_kind n w (inl r) = body_kind n w r
 row_kind n w (inr (inl r)) = row_82 n w r
 row_kind n w (inr (inr r)) = row_83 n w r
 

@@ -1,5 +1,5 @@
--- Loops over bodies that do the same where no label stands before them.
-use Rattle.std.proofs.Common.{◌≡◌, ℕ, zero, suc, Bool, true, false, [], ◌∷◌, Option, Some, None, refl, sym, ap, ◌∙◌}
+-- Loops over bodies that do the same where they end a turn.
+use Rattle.std.proofs.Common.{◌≡◌, ℕ, zero, suc, Bool, true, false, [], ◌∷◌, Option, Some, None, refl, sym, ap, ◌∙◌, true≢false}
 use Rattle.mini_model.specs.declared.kind.VariableDeclarationKind.TheVariants.{Var, Let, Const}
 use Rattle.mini_model.specs.Tree.{Tree, none, ◌▸◌}
 use Rattle.mini_laws.specs.Value.{Value, choose, is_nullish}
@@ -17,15 +17,15 @@ use Rattle.mini_laws.proofs.Stretching.{run_attempt}
 use Rattle.mini_laws.proofs.Tailing.{finished, finish_none, tail_same}
 use Rattle.mini_laws.specs.Tails.{ends_in}
 use Rattle.mini_rows.specs.Lists.{block, is_unscoped}
-use Rattle.mini_rows.specs.Branches.{Surrounding, Consequent, Alternate, WhileBody, DoBody, ForBody, InBody, OfBody, around}
+use Rattle.mini_rows.specs.Branches.{Surrounding, Consequent, Alternate, WhileBody, DoBody, ForBody, InBody, OfBody, around, is_loop}
 use Rattle.mini_rows.proofs.BranchMeaning.{SameStatement, equal_statement, one_unwrapped, row_79_consequent, row_79_alternate}
 
--- statements that do the same where no label stands before them
-pub record SameBare (c d : Tree) : Type 0 where
-  pub by : (e : Environment) (t : Option Tail) (s : State) → means e c (Stat t) [] s ≡ means e d (Stat t) [] s
+-- statements that do the same as the body of a loop
+pub record SameTurn (c d : Tree) : Type 0 where
+  pub by : (e : Environment) (s : State) → means e c (Stat (Some LoopTail)) [] s ≡ means e d (Stat (Some LoopTail)) [] s
 
-pub bare_unwrapped : (c : Tree) → is_unscoped c ≡ true → SameBare (block (c ▸ none)) c
-bare_unwrapped c u = record { by = λ e t s. tail_same e (block (c ▸ none)) t [] s ∙ ap (λ x. either x (λ u z. ok tt z) (ends_in t)) (one_unwrapped e c u s) ∙ sym (tail_same e c t [] s) }
+unwrapped_turn : (c : Tree) → is_unscoped c ≡ true → SameTurn (block (c ▸ none)) c
+unwrapped_turn c u = record { by = λ e s. tail_same e (block (c ▸ none)) (Some LoopTail) [] s ∙ ap (λ x. either x (λ u z. ok tt z) (ends_in (Some LoopTail))) (one_unwrapped e c u s) ∙ sym (tail_same e c (Some LoopTail) [] s) }
 
 -- ---- commands that do the same over two families of children
 
@@ -91,7 +91,7 @@ module _ (e : Environment) (names : Naming) (q : ℕ → Demand) (K L : Kids q) 
 
 -- ---- each loop
 
-module _ (e : Environment) (c d : Tree) (same : SameBare c d) (r : LabelSet) (names : Naming) where
+module _ (e : Environment) (c d : Tree) (same : SameTurn c d) (r : LabelSet) (names : Naming) where
   module _ (test : Tree) where
     abbrev W : Tree → Kids (first_demand (As Test) (Stat (Some LoopTail)))
     W x i r z = meaning e (test ▸ (x ▸ none)) i (first_demand (As Test) (Stat (Some LoopTail)) i) r z
@@ -100,7 +100,7 @@ module _ (e : Environment) (c d : Tree) (same : SameBare c d) (r : LabelSet) (na
     unfolding meaning
     while_alike = loop_alike e names (first_demand (As Test) (Stat (Some LoopTail))) (W c) (W d) (kid 0 tt (then (λ b. choose b (kid 1 [] (after_body r)) (ret false)))) (kid_alike e names (first_demand (As Test) (Stat (Some LoopTail))) (W c) (W d) 0 tt (then (λ b. choose b (kid 1 [] (after_body r)) (ret false))) (λ z. refl)
         (then_alike e names (first_demand (As Test) (Stat (Some LoopTail))) (W c) (W d) (λ b. choose b (kid 1 [] (after_body r)) (ret false)) (λ b. choose_alike e names (first_demand (As Test) (Stat (Some LoopTail))) (W c) (W d) b (kid 1 [] (after_body r)) (ret false)
-        (kid_alike e names (first_demand (As Test) (Stat (Some LoopTail))) (W c) (W d) 1 [] (after_body r) (λ z. same.by e (Some LoopTail) z) (after_alike e names (first_demand (As Test) (Stat (Some LoopTail))) (W c) (W d) r)) (λ z. refl))))
+        (kid_alike e names (first_demand (As Test) (Stat (Some LoopTail))) (W c) (W d) 1 [] (after_body r) (λ z. same.by e z) (after_alike e names (first_demand (As Test) (Stat (Some LoopTail))) (W c) (W d) r)) (λ z. refl))))
 
     abbrev D : Tree → Kids do_demand
     D x i r z = meaning e (x ▸ (test ▸ none)) i (do_demand i) r z
@@ -110,7 +110,7 @@ module _ (e : Environment) (c d : Tree) (same : SameBare c d) (r : LabelSet) (na
 
     do_alike : Alike e names do_demand (D c) (D d) (do_step r)
     unfolding meaning
-    do_alike = loop_alike e names do_demand (D c) (D d) (kid 0 [] do_turn) (kid_alike e names do_demand (D c) (D d) 0 [] do_turn (λ z. same.by e (Some LoopTail) z)
+    do_alike = loop_alike e names do_demand (D c) (D d) (kid 0 [] do_turn) (kid_alike e names do_demand (D c) (D d) 0 [] do_turn (λ z. same.by e z)
         (λ x. bind_alike e names do_demand (D c) (D d) (after_body r x) (λ b. choose b (kid 1 tt (then ret)) (ret false)) (after_alike e names do_demand (D c) (D d) r x)
         (λ b. choose_alike e names do_demand (D c) (D d) b (kid 1 tt (then ret)) (ret false) (λ z. refl) (λ z. refl))))
 
@@ -134,7 +134,7 @@ module _ (e : Environment) (c d : Tree) (same : SameBare c d) (r : LabelSet) (na
     for_alike = copied_alike e names (for_demand k) (F c) (F d) k (loop (for_turn k no_test r)) (loop_alike e names (for_demand k) (F c) (F d) (for_turn k no_test r)
         (bind_alike e names (for_demand k) (F c) (F d) (for_test k no_test) body_turn (test_same no_test)
         (λ b. choose_alike e names (for_demand k) (F c) (F d) b (kid 3 [] (λ x. bind (after_body r x) update_turn)) (ret false)
-        (kid_alike e names (for_demand k) (F c) (F d) 3 [] (λ x. bind (after_body r x) update_turn) (λ z. same.by e (Some LoopTail) z)
+        (kid_alike e names (for_demand k) (F c) (F d) 3 [] (λ x. bind (after_body r x) update_turn) (λ z. same.by e z)
         (λ x. bind_alike e names (for_demand k) (F c) (F d) (after_body r x) update_turn (after_alike e names (for_demand k) (F c) (F d) r x)
         (λ b. choose_alike e names (for_demand k) (F c) (F d) b (copied k (kid 2 tt (then (λ u. ret true)))) (ret false) (copied_alike e names (for_demand k) (F c) (F d) k (kid 2 tt (then (λ u. ret true))) (λ z. refl)) (λ z. refl))))
         (λ z. refl))))
@@ -147,7 +147,7 @@ module _ (e : Environment) (c d : Tree) (same : SameBare c d) (r : LabelSet) (na
 
 -- `for..in` and `for..of`
 
-module _ (e : Environment) (c d : Tree) (same : SameBare c d) (r : LabelSet) (left right : Tree) (k : Option Declared) (names : Naming) where
+module _ (e : Environment) (c d : Tree) (same : SameTurn c d) (r : LabelSet) (left right : Tree) (k : Option Declared) (names : Naming) where
   abbrev I : Tree → Kids (each_demand k)
   I x i r z = meaning e (left ▸ (right ▸ (x ▸ none))) i (each_demand k i) r z
 
@@ -159,7 +159,7 @@ module _ (e : Environment) (c d : Tree) (same : SameBare c d) (r : LabelSet) (le
 
   turn_body : Same (kid 2 [] (after_body r))
   unfolding meaning
-  turn_body = kid_alike e names (each_demand k) (I c) (I d) 2 [] (after_body r) (λ z. same.by e (Some LoopTail) z) (after_alike e names (each_demand k) (I c) (I d) r)
+  turn_body = kid_alike e names (each_demand k) (I c) (I d) 2 [] (after_body r) (λ z. same.by e z) (after_alike e names (each_demand k) (I c) (I d) r)
 
   next_same : (iterator : Value) (go : Value → Command (each_demand k) Bool) → ((v : Value) → Same (go v)) → Same (next_of iterator go)
   next_same iterator go h = binds (emit NextOf (Item iterator ∷ [])) (on_next go) (λ z. refl) (each_option h)
@@ -194,7 +194,7 @@ module _ (e : Environment) (c d : Tree) (same : SameBare c d) (r : LabelSet) (le
     unfolding meaning
     for_of_same = scoped_alike e names (each_demand k) (I c) (I d) (kid 1 tt (then (values_of k r))) (λ z. either_cong (means e right (As Val) tt z) _ _ _ _ (λ v y. of_same v y) (λ x y. refl))
 
-give_same : (e : Environment) (c d : Tree) (same : SameBare c d) (r : LabelSet) (left right : Tree) (k : Option Declared) (names : Naming) (v : Value) → Same e c d same r left right k names (give_left k v)
+give_same : (e : Environment) (c d : Tree) (same : SameTurn c d) (r : LabelSet) (left right : Tree) (k : Option Declared) (names : Naming) (v : Value) → Same e c d same r left right k names (give_left k v)
 unfolding meaning
 give_same e c d same r left right (Some (Variables k)) names v = λ z. refl
 give_same e c d same r left right (Some AClass) names v = λ z. refl
@@ -206,7 +206,7 @@ N = record { own = []; written = []; bound = []; number = 0; scope = []; functio
 abbrev FN : Tree → Naming
 FN init = record { own = []; written = []; bound = []; number = 0; scope = (summary init).lets; functions = [] }
 
-module _ (c d : Tree) (same : SameBare c d) (e : Environment) (r : LabelSet) (s : State) where
+module _ (c d : Tree) (same : SameTurn c d) (e : Environment) (r : LabelSet) (s : State) where
   while_does : (test : Tree) → means e (around (WhileBody test) c) (Stat None) r s ≡ means e (around (WhileBody test) d) (Stat None) r s
   unfolding means step
   while_does test =
@@ -242,13 +242,20 @@ module _ (c d : Tree) (same : SameBare c d) (e : Environment) (r : LabelSet) (s 
       ∙ for_of_same e c d same r left right (summary left).facts.declared (FN left) (give_same e c d same r left right (summary left).facts.declared (FN left)) s
       ∙ sym (finished e (FN left) (each_demand (summary left).facts.declared) (I e c d same r left right (summary left).facts.declared (FN left) d) None (for_of_step (summary left).facts.declared r) s ∙ finish_none _)
 
+-- ---- any of them
+
+pub loop_same : (k : Surrounding) (c d : Tree) → is_loop k ≡ true → SameTurn c d → SameStatement (around k c) (around k d)
+loop_same (Consequent a u) c d h same = absurd (true≢false (sym h))
+loop_same (Alternate a s) c d h same = absurd (true≢false (sym h))
+loop_same (WhileBody a) c d h same = equal_statement _ _ (λ e r s. while_does c d same e r s a) refl
+loop_same (DoBody a) c d h same = equal_statement _ _ (λ e r s. do_does c d same e r s a) refl
+loop_same (ForBody init test update) c d h same = equal_statement _ _ (λ e r s. for_does c d same e r s init test update) refl
+loop_same (InBody left right) c d h same = equal_statement _ _ (λ e r s. in_does c d same e r s left right) refl
+loop_same (OfBody left right) c d h same = equal_statement _ _ (λ e r s. of_does c d same e r s left right) refl
+
 -- ---- 79, of branches and of bodies
 
 pub row_79 : (k : Surrounding) (c : Tree) → is_unscoped c ≡ true → SameStatement (around k (block (c ▸ none))) (around k c)
 row_79 (Consequent a u) c f = row_79_consequent a c u f
 row_79 (Alternate a u) c f = row_79_alternate a c u f
-row_79 (WhileBody a) c f = equal_statement _ _ (λ e r s. while_does (block (c ▸ none)) c (bare_unwrapped c f) e r s a) refl
-row_79 (DoBody a) c f = equal_statement _ _ (λ e r s. do_does (block (c ▸ none)) c (bare_unwrapped c f) e r s a) refl
-row_79 (ForBody init test update) c f = equal_statement _ _ (λ e r s. for_does (block (c ▸ none)) c (bare_unwrapped c f) e r s init test update) refl
-row_79 (InBody left right) c f = equal_statement _ _ (λ e r s. in_does (block (c ▸ none)) c (bare_unwrapped c f) e r s left right) refl
-row_79 (OfBody left right) c f = equal_statement _ _ (λ e r s. of_does (block (c ▸ none)) c (bare_unwrapped c f) e r s left right) refl
+row_79 k c f = loop_same k (block (c ▸ none)) c refl (unwrapped_turn c f)

@@ -21,10 +21,11 @@ use Rattle.mini_terms.proofs.Dropping.{known_same}
 use Rattle.mini_terms.proofs.Reading.{same_in_seat}
 use Rattle.mini_rows.specs.Lists.{return_statement}
 use Rattle.mini_rows.specs.Spellings.{void_zero, IsUndefined}
-use Rattle.mini_rows.specs.Branches.{conjunct_seat, IsIdleVoid, Row60, Row82Empty, Row83, IfRow, BranchRow, BranchContracts}
+use Rattle.mini_rows.specs.Branches.{conjunct_seat, IsIdleVoid, Row60, Row82Empty, Row83, IfRow, BodyRow, BranchRow, BranchContracts}
 use Rattle.mini_rows.proofs.BranchMeaning.{SameStatement, statement_same, replaced, row_60, row_82_empty_or, row_82_empty_and, row_83_alone, row_83_else, row_83_nested, row_83_block}
 use Rattle.mini_rows.proofs.BranchEnds.{ends_same}
 use Rattle.mini_rows.proofs.BranchLoops.{row_79}
+use Rattle.mini_rows.proofs.BodyTails.{row_78_block, row_78_whole}
 use Rattle.mini_rows.proofs.BooleanMeaning.{then_same}
 
 -- 60: `void a` means `void 0` where a has no effect
@@ -84,15 +85,20 @@ if_same n w (inl r) = empty_same n w r
 if_same n w (inr (inl r)) = row_83 n w r
 if_same n w (inr (inr r)) = ends_same n w r
 
+body_same : (n w : Tree) → BodyRow n w → SameStatement n w
+body_same n w (inl r) = replaced n _ w _ r.shape r.written (row_79 r.place r.statement r.unscoped)
+body_same n w (inr (inl r)) = replaced n _ w _ r.shape r.written (row_78_block r.place r.before r.loop)
+body_same n w (inr (inr r)) = replaced n _ w _ r.shape r.written (row_78_whole r.place r.loop)
+
 row_same : (p : Position) (n w : Tree) → BranchRow p n w → SameAt p n w
 row_same (Stmt q) n w (inl r) = return_same q n w r
-row_same (Stmt q) n w (inr (inl r)) = statement_same n w (replaced n _ w _ r.shape r.written (row_79 r.place r.statement r.unscoped)) q
+row_same (Stmt q) n w (inr (inl r)) = statement_same n w (body_same n w r) q
 row_same (Stmt q) n w (inr (inr r)) = statement_same n w (if_same n w r) q
 row_same p n w r = absurd r
 
 row_reads : (p : Position) (n w : Tree) → BranchRow p n w → summary n ≡ summary w
 row_reads (Stmt q) n w (inl r) = ap summary r.shape ∙ sym (ap summary r.written)
-row_reads (Stmt q) n w (inr (inl r)) = (replaced n _ w _ r.shape r.written (row_79 r.place r.statement r.unscoped)).read
+row_reads (Stmt q) n w (inr (inl r)) = (body_same n w r).read
 row_reads (Stmt q) n w (inr (inr r)) = (if_same n w r).read
 row_reads p n w r = absurd r
 

@@ -10,7 +10,8 @@ use Rattle.mini_model.specs.declared.seat.Seat.{Seat}
 use Rattle.mini_model.specs.declared.seat.StmtSeat.{StmtSeat}
 use Rattle.mini_model.specs.declared.seat.StmtSeat.TheVariants as stmt_seat
 use Rattle.mini_model.specs.declared.shape.Shape.TheVariants as shape
-use Rattle.mini_model.specs.Tree.{Tree, Trees, node, none, ◌▸◌, is_absent, absent, expression_statement, if_else, if_alone, negation, logical, unary}
+use Rattle.mini_model.specs.Tree.{Tree, Trees, node, none, ◌▸◌, is_absent, absent, listed, empty_statement, expression_statement, if_else, if_alone, negation, logical, unary}
+use Rattle.mini_model.specs.Paths.{append}
 use Rattle.mini_model.specs.Position.{whole_seat, if_test_seat, statement_expression_seat, left_operand_seat, right_operand_seat, not_operand_seat}
 use Rattle.mini_model.specs.Weight.{outline, outlines, nth_is_absent, first_chooses, bare_weight, is_parenthesized, weight}
 use Rattle.mini_model.specs.Terms.{neg, not_of}
@@ -18,8 +19,9 @@ use Rattle.mini_laws.specs.Weights.{Lightens}
 use Rattle.mini_laws.proofs.Seats.{placed, moved}
 use Rattle.mini_rows.specs.Lists.{block, return_statement, is_unscoped}
 use Rattle.mini_rows.specs.Spellings.{IsUndefined}
-use Rattle.mini_rows.specs.Branches.{IsEmpty, IsIdleVoid, has_else, is_other_branch, as_consequent, Surrounding, Consequent, Alternate, WhileBody, DoBody, ForBody, InBody, OfBody, around, keeps_block, conjunct_seat, Row82Empty, Row82Ends, Row83, BranchRow, BranchContracts, BranchLighter}
+use Rattle.mini_rows.specs.Branches.{IsEmpty, IsIdleVoid, has_else, is_other_branch, as_consequent, Surrounding, Consequent, Alternate, WhileBody, DoBody, ForBody, InBody, OfBody, around, keeps_block, conjunct_seat, Row82Empty, Row82Ends, Row83, is_loop, bare_continue, BodyRow, BranchRow, BranchContracts, BranchLighter}
 use Rattle.mini_rows.proofs.BranchEnds.{ends_lighter, ends_fall}
+use Rattle.mini_rows.proofs.ListWeights.{total, total_append, list_is}
 
 -- this much, where it is not so
 abbrev unless : Bool → ℕ → ℕ
@@ -167,6 +169,30 @@ row_79 q (ForBody init test update) c h e = let after = body_is_list c h in omeg
 row_79 q (InBody left right) c h e = let after = body_is_list c h in omega (arith, after)
 row_79 q (OfBody left right) c h e = let after = body_is_list c h in omega (arith, after)
 
+-- ---- 78
+
+block_is : (ts : Trees) → weight (Stmt stmt_seat.Body) (block ts) ≡ total ts + 4
+block_is ts = let list = list_is ts in omega (arith, list)
+
+shorter : (ts : Trees) → weight (Stmt stmt_seat.Body) (block ts) + 16 ≡ weight (Stmt stmt_seat.Body) (block (append ts (bare_continue ▸ none)))
+shorter ts = let before = block_is (append ts (bare_continue ▸ none)) in let after = block_is ts in let sum = total_append ts (bare_continue ▸ none) in omega (arith, before, after, sum)
+
+-- a lighter body makes the loop lighter
+body_falls : (q : StmtSeat) (k : Surrounding) (c d : Tree) → is_loop k ≡ true → weight (Stmt stmt_seat.Body) d < weight (Stmt stmt_seat.Body) c → weight (Stmt q) (around k d) < weight (Stmt q) (around k c)
+body_falls q (Consequent a u) c d h less = absurd (true≢false (sym h))
+body_falls q (Alternate a s) c d h less = absurd (true≢false (sym h))
+body_falls q (WhileBody a) c d h less = omega (arith, less)
+body_falls q (DoBody a) c d h less = omega (arith, less)
+body_falls q (ForBody init test update) c d h less = omega (arith, less)
+body_falls q (InBody left right) c d h less = omega (arith, less)
+body_falls q (OfBody left right) c d h less = omega (arith, less)
+
+row_78_block : (q : StmtSeat) (k : Surrounding) (ts : Trees) → is_loop k ≡ true → weight (Stmt q) (around k (block ts)) < weight (Stmt q) (around k (block (append ts (bare_continue ▸ none))))
+row_78_block q k ts h = let less = shorter ts in body_falls q k (block (append ts (bare_continue ▸ none))) (block ts) h (omega (arith, less))
+
+row_78_whole : (q : StmtSeat) (k : Surrounding) → is_loop k ≡ true → weight (Stmt q) (around k empty_statement) < weight (Stmt q) (around k bare_continue)
+row_78_whole q k h = body_falls q k bare_continue empty_statement h (omega arith)
+
 -- ---- 82 and 83
 
 empty_heavy : (c : Tree) → IsEmpty c → 2 ≤ weight (Stmt stmt_seat.Consequent) c
@@ -219,9 +245,14 @@ row_83 q n w (inr (inl r)) = omega (arith, row_83_else q r.a r.empty r.u r.is_em
 row_83 q n w (inr (inr (inl r))) = omega (arith, row_83_nested q r.a r.b r.s, ap (weight (Stmt q)) r.shape, ap (weight (Stmt q)) r.written)
 row_83 q n w (inr (inr (inr r))) = omega (arith, row_83_block q r.a r.c r.u r.chooses, ap (weight (Stmt q)) r.shape, ap (weight (Stmt q)) r.written)
 
+body_row : (q : StmtSeat) (n w : Tree) → BodyRow n w → weight (Stmt q) w < weight (Stmt q) n
+body_row q n w (inl r) = omega (arith, row_79 q r.place r.statement r.unscoped r.bare, ap (weight (Stmt q)) r.shape, ap (weight (Stmt q)) r.written)
+body_row q n w (inr (inl r)) = omega (arith, row_78_block q r.place r.before r.loop, ap (weight (Stmt q)) r.shape, ap (weight (Stmt q)) r.written)
+body_row q n w (inr (inr r)) = omega (arith, row_78_whole q r.place r.loop, ap (weight (Stmt q)) r.shape, ap (weight (Stmt q)) r.written)
+
 row_lighter : (q : StmtSeat) (n w : Tree) → BranchRow (Stmt q) n w → weight (Stmt q) w < weight (Stmt q) n
 row_lighter q n w (inl r) = omega (arith, row_60 q r.argument r.undefined, ap (weight (Stmt q)) r.shape, ap (weight (Stmt q)) r.written)
-row_lighter q n w (inr (inl r)) = omega (arith, row_79 q r.place r.statement r.unscoped r.bare, ap (weight (Stmt q)) r.shape, ap (weight (Stmt q)) r.written)
+row_lighter q n w (inr (inl r)) = body_row q n w r
 row_lighter q n w (inr (inr (inl r))) = let falls = empty_row q n w r in omega (arith, falls)
 row_lighter q n w (inr (inr (inr (inl r)))) = row_83 q n w r
 row_lighter q n w (inr (inr (inr (inr r)))) = let falls = ends_lighter q n w r in omega (arith, falls)
@@ -241,14 +272,25 @@ record Outlined (p : Position) (n w : Tree) : Type 0 where
 outlined : (p : Position) (n n' w w' : Tree) → n ≡ n' → w ≡ w' → Outlined p n' w' → Outlined p n w
 outlined p n n' w w' e f o = subst (λ x. Outlined p x w) (sym e) (subst (λ y. Outlined p n' y) (sym f) o)
 
+-- a loop is read alike whatever its body is
+loop_outlined : (q : StmtSeat) (k : Surrounding) (c d : Tree) → is_loop k ≡ true → Outlined (Stmt q) (around k c) (around k d)
+loop_outlined q (Consequent a u) c d h = absurd (true≢false (sym h))
+loop_outlined q (Alternate a s) c d h = absurd (true≢false (sym h))
+loop_outlined q (WhileBody a) c d h = record { absent = refl; items = refl; is_zero = refl; chooses = inl (λ e. e) }
+loop_outlined q (DoBody a) c d h = record { absent = refl; items = refl; is_zero = refl; chooses = inl (λ e. e) }
+loop_outlined q (ForBody init test update) c d h = record { absent = refl; items = refl; is_zero = refl; chooses = inl (λ e. e) }
+loop_outlined q (InBody left right) c d h = record { absent = refl; items = refl; is_zero = refl; chooses = inl (λ e. e) }
+loop_outlined q (OfBody left right) c d h = record { absent = refl; items = refl; is_zero = refl; chooses = inl (λ e. e) }
+
 row_79_outlined : (q : StmtSeat) (k : Surrounding) (c : Tree) → is_unscoped c ≡ true → Outlined (Stmt q) (around k (block (c ▸ none))) (around k c)
 row_79_outlined q (Consequent a u) c h = record { absent = refl; items = refl; is_zero = refl; chooses = inl (λ e. e) }
 row_79_outlined q (Alternate a s) c h = record { absent = refl; items = refl; is_zero = refl; chooses = inl (λ e. ap not (absent_is c ∙ scoped_present c h)) }
-row_79_outlined q (WhileBody a) c h = record { absent = refl; items = refl; is_zero = refl; chooses = inl (λ e. e) }
-row_79_outlined q (DoBody a) c h = record { absent = refl; items = refl; is_zero = refl; chooses = inl (λ e. e) }
-row_79_outlined q (ForBody init test update) c h = record { absent = refl; items = refl; is_zero = refl; chooses = inl (λ e. e) }
-row_79_outlined q (InBody left right) c h = record { absent = refl; items = refl; is_zero = refl; chooses = inl (λ e. e) }
-row_79_outlined q (OfBody left right) c h = record { absent = refl; items = refl; is_zero = refl; chooses = inl (λ e. e) }
+row_79_outlined q k c h = loop_outlined q k (block (c ▸ none)) c refl
+
+body_outlined : (q : StmtSeat) (n w : Tree) → BodyRow n w → Outlined (Stmt q) n w
+body_outlined q n w (inl r) = outlined (Stmt q) n _ w _ r.shape r.written (row_79_outlined q r.place r.statement r.unscoped)
+body_outlined q n w (inr (inl r)) = outlined (Stmt q) n _ w _ r.shape r.written (loop_outlined q r.place (block (append r.before (bare_continue ▸ none))) (block r.before) r.loop)
+body_outlined q n w (inr (inr r)) = outlined (Stmt q) n _ w _ r.shape r.written (loop_outlined q r.place bare_continue empty_statement r.loop)
 
 row_83_outlined : (q : StmtSeat) (n w : Tree) → Row83 n w → Outlined (Stmt q) n w
 row_83_outlined q n w (inl r) = outlined (Stmt q) n _ w _ r.shape r.written (record { absent = refl; items = refl; is_zero = refl; chooses = inl (λ e. e) })
@@ -266,7 +308,7 @@ ends_outlined q n w (inr r) = outlined (Stmt q) n _ w _ r.shape r.written (recor
 
 row_outlined : (q : StmtSeat) (n w : Tree) → BranchRow (Stmt q) n w → Outlined (Stmt q) n w
 row_outlined q n w (inl r) = outlined (Stmt q) n _ w _ r.shape r.written (record { absent = refl; items = refl; is_zero = refl; chooses = inl (λ e. e) })
-row_outlined q n w (inr (inl r)) = outlined (Stmt q) n _ w _ r.shape r.written (row_79_outlined q r.place r.statement r.unscoped)
+row_outlined q n w (inr (inl r)) = body_outlined q n w r
 row_outlined q n w (inr (inr (inl r))) = empty_outlined q n w r
 row_outlined q n w (inr (inr (inr (inl r)))) = row_83_outlined q n w r
 row_outlined q n w (inr (inr (inr (inr r)))) = ends_outlined q n w r

@@ -144,3 +144,5 @@ pub mod NameWeights
 pub mod NameLawful
 pub mod CatchWeights
 pub mod CatchLawful
+pub mod BodyTails
+pub mod BodyEnds

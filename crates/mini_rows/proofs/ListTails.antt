@@ -193,7 +193,7 @@ body_end_equal o n w r = record { by = λ e d f z s. go e d f z s }
 pub body_end_same : (o : Switches) (n w : Tree) → AtEnd (EndRow o bare_return) n w → SameAt BodyList n w
 body_end_same o n w r = equal_same BodyList n w (body_end_equal o n w r)
 
-ends_read : (pre a b : Trees) → ReadSame a b → summary (listed (append pre a)) ≡ summary (listed (append pre b))
+pub ends_read : (pre a b : Trees) → ReadSame a b → summary (listed (append pre a)) ≡ summary (listed (append pre b))
 ends_read pre a b r =
     ap (λ t. summary (listed (append pre t))) (sym (append_none a))
     ∙ read_alike (append pre (append a none)) (append pre (append b none)) (read_in_list pre a b none r)

@@ -48,7 +48,7 @@ body_is ts = let items = total_body (count ts) ts in omega (arith, items)
 pub body_weighs : (ts : Trees) → weight BodyList (listed ts) ≡ weight StatementList (listed ts)
 body_weighs ts = let one = body_is ts in let other = list_is ts in omega (arith, one, other)
 
-total_append : (a b : Trees) → total (append a b) ≡ total a + total b
+pub total_append : (a b : Trees) → total (append a b) ≡ total a + total b
 total_append none b = omega arith
 total_append (t ▸ a) b = let rest = total_append a b in omega (arith, rest)
 

@@ -102,6 +102,33 @@ pub record Row79 (n w : Tree) : Type 0 where
   pub shape : n ≡ around place (block (statement ▸ none))
   pub written : w ≡ around place statement
 
+-- ---- 78, of loops
+
+-- `continue;`
+abbrev pub bare_continue : Tree
+bare_continue = node shape.ContinueStatement [] 0 (absent ▸ none)
+
+-- the body of a loop
+abbrev pub is_loop : Surrounding → Bool
+is_loop (Consequent a u) = false
+is_loop (Alternate a s) = false
+is_loop k = true
+
+-- `while (a) { b(); continue; }` becomes `while (a) { b(); }`: where the body ends the loop goes on by itself
+pub record Row78Block (n w : Tree) : Type 0 where
+  pub place : Surrounding
+  pub before : Trees
+  pub loop : is_loop place ≡ true
+  pub shape : n ≡ around place (block (append before (bare_continue ▸ none)))
+  pub written : w ≡ around place (block before)
+
+-- `while (a) continue;` becomes `while (a);`
+pub record Row78Whole (n w : Tree) : Type 0 where
+  pub place : Surrounding
+  pub loop : is_loop place ≡ true
+  pub shape : n ≡ around place bare_continue
+  pub written : w ≡ around place empty_statement
+
 -- ---- 82, with an empty consequent
 
 -- `if (a); else b;` becomes `a || b;`
@@ -216,9 +243,16 @@ Row83 n w = Row83Alone n w ⊎ (Row83Else n w ⊎ (Row83Nested n w ⊎ Row83Bloc
 abbrev pub IfRow : Tree → Tree → Type 0
 IfRow n w = Row82Empty n w ⊎ (Row83 n w ⊎ Row82Ends n w)
 
+abbrev pub Row78 : Tree → Tree → Type 0
+Row78 n w = Row78Block n w ⊎ Row78Whole n w
+
+-- those of branches and bodies
+abbrev pub BodyRow : Tree → Tree → Type 0
+BodyRow n w = Row79 n w ⊎ Row78 n w
+
 -- a row reads n as w at this place
 abbrev pub BranchRow : Position → Tree → Tree → Type 0
-BranchRow (Stmt q) n w = Row60 n w ⊎ (Row79 n w ⊎ IfRow n w)
+BranchRow (Stmt q) n w = Row60 n w ⊎ (BodyRow n w ⊎ IfRow n w)
 BranchRow _ n w = ⊥
 
 -- what a row writes, where it weighs less

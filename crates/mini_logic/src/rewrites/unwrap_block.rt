@@ -4,15 +4,12 @@
 ghost use Rattle.std.specs.Prelude.{◌≡◌, ◌<◌, true, is_some, unwrap_or, IfSome, OnOk, IfOk};
 ghost use Rattle.mini_model.specs.Tree.{children, count};
 ghost use Rattle.mini_node.specs.Children.{part, is_bare as is_it_bare};
-ghost use Rattle.mini_logic.specs.UnwrapBlock.{holds_one as it_holds_one, holds_bare as it_holds_bare, some_if, body_place as body_place_of, held_at as held_at_place, branch_place as branch_place_of, place as place_of, unwrapped_at as unwrapped_at_place, written, Gives, Rests};
-ghost use Rattle.mini_logic.specs.Lighter.{unwrap_lighter};
-ghost use Rattle.mini_tree.specs.Rule.{Applied};
+ghost use Rattle.mini_logic.specs.UnwrapBlock.{holds_one as it_holds_one, holds_bare as it_holds_bare, some_if, body_place as body_place_of, held_at as held_at_place, branch_place as branch_place_of, place as place_of, unwrapped_at as unwrapped_at_place, written};
 
 use crate::statements::{has_else, is_unscoped};
 use crate::terms::has_one;
-use mini_model::{OutOfMemory, Position, Shape};
+use mini_model::{OutOfMemory, Shape};
 use mini_node::{Node, discard, is_block, is_if_statement, one, taken};
-use mini_tree::{Context, Rule};
 use std::alloc::Global;
 
 // `{ a; }`, of a statement that isn't scoped
@@ -41,8 +38,8 @@ fn place_of_bare(node: &Node, arity: usize, at: usize) -> Option<usize>
     if node.is_bare(arity) { Some(at) } else { None }
 }
 
-// The place of the body of a loop.
-fn body_place(node: &Node) -> Option<usize>
+/// The place of the body of a loop.
+pub fn body_place(node: &Node) -> Option<usize>
     ensures value { result ≡ body_place_of node.now }
     ensures within { IfSome result (λ at. at < count (children node.now)) }
 {
@@ -124,30 +121,5 @@ pub fn unwrap_block(alloc: Global, node: &mut Node) -> Result<bool, OutOfMemory>
             Ok(true)
         }
         None => Ok(false),
-    }
-}
-
-/// Row 79 as a rule: of each statement.
-pub struct UnwrapBlocks;
-
-impl<C: Context> Rule<C> for UnwrapBlocks {
-    ghost gives = { λ o q. Gives };
-
-    ghost rests = { λ o q. Rests };
-
-    ghost lighter = { λ o q. unwrap_lighter };
-
-    #[tactic(auto, using(crate::proofs::UnwrapBlock::applied))]
-    fn apply(
-        &self,
-        alloc: Global,
-        node: &mut Node,
-        place: Position,
-        context: &mut C,
-    ) -> Result<bool, OutOfMemory> {
-        match place {
-            Position::Stmt(_) => Ok(unwrap_block(alloc, node)?),
-            _ => Ok(false),
-        }
     }
 }

@@ -1,0 +1,10 @@
+use Rattle.std.proofs.Common.{◌-◌, ◌∙◌, sym, ap, arith}
+use Rattle.mini_logic.specs.LastContinue.{goes_on}
+use Rattle.mini_logic.proofs.LastContinue.{none_goes_on, last_at}
+use Rattle.mini_logic.proofs.rewrites.remove_last_continue.goes_on_last.Goals as goal
+
+pub returns-then-count-eq0 : goal.returns-then-count-eq0
+returns-then-count-eq0 c = sym (none_goes_on c.args.statements.now (sym c.len-count.ensures ∙ c.if-count-eq0.true))
+
+pub returns : goal.returns
+returns c = c.goes_on.ensures ∙ ap goes_on (c.child.ensures.value ∙ last_at c.args.statements.now (c.len-count.result - 1) (grind (arith, c.len-count.ensures, c.if-count-eq0.false)))

@@ -1,0 +1,27 @@
+-- Branches and bodies of loops, `minimize_bodies`: 79, and where it does nothing 78 of loops.
+use Rattle.std.specs.Prelude.{◌<◌, Option, Some, None}
+use Rattle.mini_model.specs.declared.place.Position.{Position}
+use Rattle.mini_model.specs.declared.place.Position.TheVariants.{Stmt}
+use Rattle.mini_model.specs.Tree.{Tree}
+use Rattle.mini_model.specs.Weight.{weight}
+use Rattle.mini_rows.specs.Branches.{BodyRow}
+use Rattle.mini_logic.specs.LastContinue as last_continue
+use Rattle.mini_logic.specs.UnwrapBlock as unwrap_block
+
+-- the first of two, where it is there
+abbrev pub first_of : Option Tree → Option Tree → Option Tree
+first_of (Some t) o = Some t
+first_of None o = o
+
+abbrev pub written : Tree → Option Tree
+written t = first_of (unwrap_block.written t) (last_continue.written t)
+
+-- what the rule makes
+abbrev pub Gives : Position → Tree → Tree → Type 0
+Gives (Stmt q) n w = BodyRow n w × (weight (Stmt q) w < weight (Stmt q) n)
+Gives _ n w = ⊥
+
+-- no row reads it as anything
+abbrev pub Rests : Position → Tree → Type 0
+Rests (Stmt q) n = (w : Tree) → BodyRow n w → ⊥
+Rests _ n = Unit {0}
