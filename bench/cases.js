@@ -433,6 +433,11 @@ becomes("branches that change places", "if (a, !b) c(); else d();", "a, b ? d() 
 
 becomes("what is chosen is read by another rewrite", "function F(a, f) { return a == null ? f(2) : f(a); }", "function F(a, f) { return f(a ?? 2); }", { kept: 2, symbols: 3, passes: 3 });
 
+// ---- what is no reference under `delete`
+
+becomes("a test that is known then", "if (delete a()) b();", "a(), b();", { passes: 3 });
+becomes("what is left of a test", "delete (!0 && a.b);", "a.b, !0;", { passes: 3 });
+
 // ---- names that nothing mentions go, and their symbols
 
 becomes("a let of a block", "{ let x = a(); b(); }", "a(), b();", { symbols: [] });
