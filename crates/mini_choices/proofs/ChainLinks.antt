@@ -1,22 +1,61 @@
 -- What is written for an optional chain by what stands before its `?.` is what a row says, and what a row reads is written.
-use Rattle.std.proofs.Common.{◌≡◌, zero, Bool, true, false, [], Option, Some, None, refl, sym, ap, subst, ◌∙◌, inl, inr, true≢false}
-use Rattle.std.specs.Prelude.{◌&&◌, not, is_some, if◌then◌else◌}
+use Rattle.std.proofs.Common.{◌≡◌, ◌⊎◌, zero, Bool, true, false, List, [], ◌∷◌, Option, Some, None, refl, sym, ap, subst, ◌∙◌, inl, inr, true≢false}
+use Rattle.std.specs.Prelude.{◌&&◌, ◌||◌, not, is_some, if◌then◌else◌}
 use Rattle.std.proofs.lemmas.Bool.{and_parts, false≢true}
 use Rattle.mini_model.specs.declared.place.Position.TheVariants.{Expr}
 use Rattle.mini_model.specs.declared.seat.Seat.{Seat}
 use Rattle.mini_model.specs.declared.shape.Shape.TheVariants as shape
-use Rattle.mini_model.specs.Tree.{Tree, node, none, ◌▸◌, children, shape_of}
+use Rattle.mini_model.specs.Tree.{Tree, Trees, node, none, ◌▸◌, children, child_or_absent, shape_of}
 use Rattle.mini_node.specs.Children.{part, is_bare}
 use Rattle.mini_node.specs.Kinds.{is_listed}
 use Rattle.mini_node.specs.Made.{listed_is}
 use Rattle.mini_terms.specs.Parts.{is_link}
 use Rattle.mini_terms.specs.Reading.{is_unguarded, is_plain_part, stands}
 use Rattle.mini_rows.specs.Chains.{is_calm, are_calm, Link, a_member, a_computed, a_call, call, linked, is_calm_link, chain}
-use Rattle.mini_rows.specs.ChainLinks.{is_there, Row64, Row11, ChainRow}
+use Rattle.mini_rows.specs.ChainLinks.{is_there, Marked, marked, links_over, are_calm_over, has_mark, chain_if, Row64, Row11, ChainRow}
 use Rattle.mini_rows.specs.Choices.{ChoiceContracts}
 use Rattle.mini_rows.proofs.ChainLinkLawful.{chains_fall}
-use Rattle.mini_choices.specs.FoldChainExpr.{is_chain, ends_none, is_opened, link_shape, relinked, holds_link, is_value, joins, closes, joined, closed, closed_written, written}
-use Rattle.mini_choices.proofs.Trials.{not_true, both_true, tried, first_true, later_true}
+use Rattle.mini_choices.specs.FoldChainExpr.{is_chain, ends_none, is_step, is_marked, link_shape, relinked, holds_link, is_value, folds_here, here, with_mark, outcome, outcome_in, folded, folded_in, wrapped, is_read, written}
+use Rattle.mini_choices.proofs.Trials.{not_true, both_true, some_is}
+
+-- ---- links, one after another
+
+module _ (d : Bool) where
+  first_out : (ts : Trees) → outcome_in d ts ≡ outcome d (child_or_absent ts 0)
+  first_out none = refl
+  first_out (t ▸ ts) = refl
+
+  pub none_out : (t : Tree) → is_step t ≡ false → outcome d t ≡ None
+  none_out (node h xs n ts) e = ap (λ b. if b then (if folds_here d (node h xs n ts) then Some (holds_link (child_or_absent ts 0)) else with_mark (is_marked h) (outcome_in d ts)) else None) e
+
+  pub here_out : (t : Tree) → is_step t ≡ true → folds_here d t ≡ true → outcome d t ≡ Some (holds_link (part t 0))
+  here_out (node h xs n ts) e f =
+      ap (λ b. if b then (if folds_here d (node h xs n ts) then Some (holds_link (child_or_absent ts 0)) else with_mark (is_marked h) (outcome_in d ts)) else None) e
+      ∙ ap (λ b. if b then Some (holds_link (child_or_absent ts 0)) else with_mark (is_marked h) (outcome_in d ts)) f
+
+  pub below_out : (t : Tree) → is_step t ≡ true → folds_here d t ≡ false → outcome d t ≡ with_mark (is_marked (shape_of t)) (outcome d (part t 0))
+  below_out (node h xs n ts) e f =
+      ap (λ b. if b then (if folds_here d (node h xs n ts) then Some (holds_link (child_or_absent ts 0)) else with_mark (is_marked h) (outcome_in d ts)) else None) e
+      ∙ ap (λ b. if b then Some (holds_link (child_or_absent ts 0)) else with_mark (is_marked h) (outcome_in d ts)) f
+      ∙ ap (with_mark (is_marked h)) (first_out ts)
+
+  first_folds : (ts : Trees) → folded_in d ts ≡ folded d (child_or_absent ts 0)
+  first_folds none = refl
+  first_folds (t ▸ ts) = refl
+
+  pub none_folds : (t : Tree) → is_step t ≡ false → folded d t ≡ t
+  none_folds (node h xs n ts) e = ap (λ b. if b then (if folds_here d (node h xs n ts) then here (node h xs n ts) else relinked (link_shape (is_marked h) h) (folded_in d ts) (child_or_absent ts 1)) else node h xs n ts) e
+
+  pub here_folds : (t : Tree) → is_step t ≡ true → folds_here d t ≡ true → folded d t ≡ here t
+  here_folds (node h xs n ts) e f =
+      ap (λ b. if b then (if folds_here d (node h xs n ts) then here (node h xs n ts) else relinked (link_shape (is_marked h) h) (folded_in d ts) (child_or_absent ts 1)) else node h xs n ts) e
+      ∙ ap (λ b. if b then here (node h xs n ts) else relinked (link_shape (is_marked h) h) (folded_in d ts) (child_or_absent ts 1)) f
+
+  pub below_folds : (t : Tree) → is_step t ≡ true → folds_here d t ≡ false → folded d t ≡ relinked (link_shape (is_marked (shape_of t)) (shape_of t)) (folded d (part t 0)) (part t 1)
+  below_folds (node h xs n ts) e f =
+      ap (λ b. if b then (if folds_here d (node h xs n ts) then here (node h xs n ts) else relinked (link_shape (is_marked h) h) (folded_in d ts) (child_or_absent ts 1)) else node h xs n ts) e
+      ∙ ap (λ b. if b then here (node h xs n ts) else relinked (link_shape (is_marked h) h) (folded_in d ts) (child_or_absent ts 1)) f
+      ∙ ap (λ u. relinked (link_shape (is_marked h) h) u (child_or_absent ts 1)) (first_folds ts)
 
 -- ---- links
 
@@ -24,119 +63,285 @@ pub chain_is : (t : Tree) → is_chain t ≡ true → t ≡ chain (part t 0)
 chain_is (node shape.ChainExpression [] zero (a ▸ none)) e = refl
 chain_is t e = absurd (cc e)
 
--- an optional link, and the same link over another node, optional or not
-record Opened (t : Tree) : Type 0 where
+-- a link, and the same link over another node, optional or not
+record Stepped (t : Tree) : Type 0 where
   link : Link
   calm : is_calm_link link ≡ true
-  is : t ≡ linked true link (part t 0)
+  is : t ≡ linked (is_marked (shape_of t)) link (part t 0)
   over : (o : Bool) (a : Tree) → relinked (link_shape o (shape_of t)) a (part t 1) ≡ linked o link a
 
-opened_by : (t : Tree) → is_bare t 2 ≡ true → ends_none (shape_of t) (part t 1) ≡ true → Opened t
-opened_by (node (shape.StaticMemberExpression true) [] zero (a ▸ k ▸ none)) b e = record { link = a_member k; calm = e; is = refl; over = λ o u. refl }
-opened_by (node (shape.StaticMemberExpression true) xs n ts) b e = absurd (false≢true b)
-opened_by (node (shape.ComputedMemberExpression true) [] zero (a ▸ k ▸ none)) b e = record { link = a_computed k; calm = e; is = refl; over = λ o u. refl }
-opened_by (node (shape.ComputedMemberExpression true) xs n ts) b e = absurd (false≢true b)
-opened_by (node (shape.CallExpression true) [] zero (a ▸ k ▸ none)) b e =
+stepped_by : (t : Tree) → is_bare t 2 ≡ true → ends_none (shape_of t) (part t 1) ≡ true → Stepped t
+stepped_by (node (shape.StaticMemberExpression m) [] zero (a ▸ k ▸ none)) b e = record { link = a_member k; calm = e; is = refl; over = λ o u. refl }
+stepped_by (node (shape.StaticMemberExpression m) xs n ts) b e = absurd (false≢true b)
+stepped_by (node (shape.ComputedMemberExpression m) [] zero (a ▸ k ▸ none)) b e = record { link = a_computed k; calm = e; is = refl; over = λ o u. refl }
+stepped_by (node (shape.ComputedMemberExpression m) xs n ts) b e = absurd (false≢true b)
+stepped_by (node (shape.CallExpression m) [] zero (a ▸ k ▸ none)) b e =
     let (items, calm) = and_parts (is_listed k) (are_calm (children k)) e in
     let is = listed_is k items in
-    record { link = a_call (children k); calm = calm; is = ap (relinked (shape.CallExpression true) a) is; over = λ o u. ap (relinked (shape.CallExpression o) u) is }
-opened_by (node (shape.CallExpression true) xs n ts) b e = absurd (false≢true b)
-opened_by t b e = absurd (false≢true e)
+    record { link = a_call (children k); calm = calm; is = ap (relinked (shape.CallExpression m) a) is; over = λ o u. ap (relinked (shape.CallExpression o) u) is }
+stepped_by (node (shape.CallExpression m) xs n ts) b e = absurd (false≢true b)
+stepped_by t b e = absurd (false≢true e)
 
-opened_is : (t : Tree) → is_opened t ≡ true → Opened t
-opened_is t e = let (bare, ends) = and_parts (is_bare t 2) (ends_none (shape_of t) (part t 1)) e in opened_by t bare ends
+stepped_is : (t : Tree) → is_step t ≡ true → Stepped t
+stepped_is t e = let (bare, ends) = and_parts (is_bare t 2) (ends_none (shape_of t) (part t 1)) e in stepped_by t bare ends
 
-opened_passes : (l : Link) (t : Tree) → is_calm_link l ≡ true → is_opened (linked true l t) ≡ true
-opened_passes (a_member k) t e = e
-opened_passes (a_computed k) t e = e
-opened_passes (a_call ts) t e = e
+-- ---- what is written
+
+-- under links, one over a chain
+record Joined (d : Bool) (t : Tree) (stays : Bool) : Type 0 where
+  others : List Marked
+  link : Link
+  inner : Tree
+  held : is_link (shape_of inner) ≡ true
+  calm : is_calm_link link ≡ true
+  calm_others : are_calm_over others ≡ true
+  is : t ≡ links_over others (linked true link (chain inner))
+  makes : folded d t ≡ links_over others (linked true link inner)
+  keeps : stays ≡ true
+
+-- or over a value
+record Closed (d : Bool) (t : Tree) (stays : Bool) : Type 0 where
+  others : List Marked
+  link : Link
+  base : Tree
+  known : is_value base ≡ true
+  calm : is_calm_link link ≡ true
+  calm_others : are_calm_over others ≡ true
+  closes : d ≡ true
+  is : t ≡ links_over others (linked true link base)
+  makes : folded d t ≡ links_over others (linked false link base)
+  keeps : stays ≡ has_mark others
+
+abbrev Folds : Bool → Tree → Bool → Type 0
+Folds d t stays = Joined d t stays ⊎ Closed d t stays
+
+module _ (d : Bool) (t : Tree) (p : Stepped t) (e : is_step t ≡ true) where
+  abbrev base : Tree
+  base = part t 0
+
+  -- the link itself
+  joined_here : (f : folds_here d t ≡ true) → is_marked (shape_of t) ≡ true → holds_link base ≡ true → Joined d t (holds_link base)
+  joined_here f m h =
+      let (held, kind) = and_parts (is_chain base) (is_link (shape_of (part base 0))) h in
+      record {
+        others = [];
+        link = p.link;
+        inner = part base 0;
+        held = kind;
+        calm = p.calm;
+        calm_others = refl;
+        is = p.is ∙ ap (λ o. linked o p.link base) m ∙ ap (linked true p.link) (chain_is base held);
+        makes = here_folds d t e f ∙ ap (λ b. relinked (link_shape b (shape_of t)) (if b then part base 0 else base) (part t 1)) h ∙ p.over true (part base 0);
+        keeps = h;
+      }
+
+  closed_here : (f : folds_here d t ≡ true) → is_marked (shape_of t) ≡ true → holds_link base ≡ false → d ≡ true → is_value base ≡ true → Closed d t (holds_link base)
+  closed_here f m h c v = record {
+    others = [];
+    link = p.link;
+    base = base;
+    known = v;
+    calm = p.calm;
+    calm_others = refl;
+    closes = c;
+    is = p.is ∙ ap (λ o. linked o p.link base) m;
+    makes = here_folds d t e f ∙ ap (λ b. relinked (link_shape b (shape_of t)) (if b then part base 0 else base) (part t 1)) h ∙ p.over false base;
+    keeps = h;
+  }
+
+  here_is : folds_here d t ≡ true → Folds d t (holds_link base)
+  here_is f =
+      let (m, g) = and_parts (is_marked (shape_of t)) (holds_link base || (d && is_value base)) f in
+      go m (holds_link base) refl g
+    where
+      go : is_marked (shape_of t) ≡ true → (b : Bool) → holds_link base ≡ b → b || (d && is_value base) ≡ true → Folds d t (holds_link base)
+      go m true h g = inl (joined_here f m h)
+      go m false h g = let (c, v) = and_parts d (is_value base) g in inr (closed_here f m h c v)
+
+  -- or one below
+  module _ (f : folds_here d t ≡ false) where
+    abbrev outer : Marked
+    outer = marked (is_marked (shape_of t)) p.link
+
+    made_over : (u : Tree) → folded d base ≡ u → folded d t ≡ linked (is_marked (shape_of t)) p.link u
+    made_over u h = below_folds d t e f ∙ ap (λ v. relinked (link_shape (is_marked (shape_of t)) (shape_of t)) v (part t 1)) h ∙ p.over (is_marked (shape_of t)) u
+
+    below_is : (stays : Bool) → Folds d base stays → Folds d t (is_marked (shape_of t) || stays)
+    below_is stays (inl j) = inl (record {
+      others = outer ∷ j.others;
+      link = j.link;
+      inner = j.inner;
+      held = j.held;
+      calm = j.calm;
+      calm_others = both_true (is_calm_link p.link) (are_calm_over j.others) p.calm j.calm_others;
+      is = p.is ∙ ap (linked (is_marked (shape_of t)) p.link) j.is;
+      makes = made_over (links_over j.others (linked true j.link j.inner)) j.makes;
+      keeps = ap (λ b. is_marked (shape_of t) || b) j.keeps ∙ or_true (is_marked (shape_of t));
+    })
+      where
+        or_true : (b : Bool) → b || true ≡ true
+        or_true true = refl
+        or_true false = refl
+    below_is stays (inr c) = inr (record {
+      others = outer ∷ c.others;
+      link = c.link;
+      base = c.base;
+      known = c.known;
+      calm = c.calm;
+      calm_others = both_true (is_calm_link p.link) (are_calm_over c.others) p.calm c.calm_others;
+      closes = c.closes;
+      is = p.is ∙ ap (linked (is_marked (shape_of t)) p.link) c.is;
+      makes = made_over (links_over c.others (linked false c.link c.base)) c.makes;
+      keeps = ap (λ b. is_marked (shape_of t) || b) c.keeps;
+    })
+
+by_step : (d : Bool) (t : Tree) → ((stays : Bool) → outcome d (part t 0) ≡ Some stays → Folds d (part t 0) stays) → (stays : Bool) → outcome d t ≡ Some stays → Folds d t stays
+by_step d t below stays e = go (is_step t) refl
+  where
+    over : is_step t ≡ true → folds_here d t ≡ false → (o : Option Bool) → outcome d (part t 0) ≡ o → with_mark (is_marked (shape_of t)) o ≡ Some stays → Folds d t stays
+    over p f (Some k) h g = subst (Folds d t) (some_is _ _ g) (below_is d t (stepped_is t p) p f k (below k h))
+    over p f None h g = absurd (cc g)
+
+    of : is_step t ≡ true → (b : Bool) → folds_here d t ≡ b → Folds d t stays
+    of p true f = subst (Folds d t) (some_is _ _ (sym (here_out d t p f) ∙ e)) (here_is d t (stepped_is t p) p f)
+    of p false f = over p f (outcome d (part t 0)) refl (sym (below_out d t p f) ∙ e)
+
+    go : (b : Bool) → is_step t ≡ b → Folds d t stays
+    go true p = of p (folds_here d t) refl
+    go false p = absurd (cc (sym (none_out d t p) ∙ e))
+
+mutual
+  folds_of : (d : Bool) (t : Tree) (stays : Bool) → outcome d t ≡ Some stays → Folds d t stays
+  folds_of d (node h xs n ts) stays e = by_step d (node h xs n ts) (folds_in d ts) stays e
+
+  folds_in : (d : Bool) (ts : Trees) (stays : Bool) → outcome d (child_or_absent ts 0) ≡ Some stays → Folds d (child_or_absent ts 0) stays
+  folds_in d none stays e = absurd (cc e)
+  folds_in d (t ▸ ts) stays e = folds_of d t stays e
+
+module _ (s : Seat) (n : Tree) where
+  abbrev links : Tree
+  links = part n 0
+
+  abbrev may : Bool
+  may = not s.new_callee
+
+  of_joined : (stays : Bool) → is_chain n ≡ true → is_unguarded s.guard ≡ true → Joined may links stays → Row64 s n (chain_if stays (folded may links))
+  of_joined stays c g j = record {
+    others = j.others;
+    link = j.link;
+    inner = j.inner;
+    held = j.held;
+    calm = j.calm;
+    calm_others = j.calm_others;
+    unguarded = g;
+    shape = chain_is n c ∙ ap chain j.is;
+    written = ap (λ b. chain_if b (folded may links)) j.keeps ∙ ap chain j.makes;
+  }
+
+  of_closed : (stays : Bool) → is_chain n ≡ true → is_unguarded s.guard ≡ true → Closed may links stays → Row11 s n (chain_if stays (folded may links))
+  of_closed stays c g j =
+      let (known, h1) = and_parts (is_there j.base) (is_plain_part j.base && (stands j.base && is_calm j.base)) j.known in
+      let (plain, h2) = and_parts (is_plain_part j.base) (stands j.base && is_calm j.base) h1 in
+      let (value, calm) = and_parts (stands j.base) (is_calm j.base) h2 in
+      record {
+        others = j.others;
+        link = j.link;
+        base = j.base;
+        known = known;
+        plain = plain;
+        value = value;
+        calm_base = calm;
+        calm = j.calm;
+        calm_others = j.calm_others;
+        unguarded = g;
+        called = not_true s.new_callee j.closes;
+        shape = chain_is n c ∙ ap chain j.is;
+        written = ap (λ b. chain_if b (folded may links)) j.keeps ∙ ap (chain_if (has_mark j.others)) j.makes;
+      }
+
+  contracts : (w : Tree) → ChainRow s n w → ChoiceContracts (Expr s) n w
+  contracts w r = record { row = inr (inr (inr (inr (inr r)))); lighter = chains_fall s n w r }
+
+  row_of : (stays : Bool) → is_read s n ≡ true → Folds may links stays → ChainRow s n (chain_if stays (folded may links))
+  row_of stays h f = let (c, g) = and_parts (is_chain n) (is_unguarded s.guard) h in kind c g f
+    where
+      kind : is_chain n ≡ true → is_unguarded s.guard ≡ true → Folds may links stays → ChainRow s n (chain_if stays (folded may links))
+      kind c g (inl j) = inl (of_joined stays c g j)
+      kind c g (inr j) = inr (of_closed stays c g j)
+
+pub folded_row : (s : Seat) (n w : Tree) → written s n ≡ Some w → ChoiceContracts (Expr s) n w
+folded_row s n w e = go (is_read s n) refl e
+  where
+    of : is_read s n ≡ true → (o : Option Bool) → outcome (may s n) (links s n) ≡ o → wrapped o (folded (may s n) (links s n)) ≡ Some w → ChoiceContracts (Expr s) n w
+    of h (Some stays) f g = subst (ChoiceContracts (Expr s) n) (some_is _ w g) (contracts s n (chain_if stays (folded (may s n) (links s n))) (row_of s n stays h (folds_of (may s n) (links s n) stays f)))
+    of h None f g = absurd (cc g)
+
+    go : (b : Bool) → is_read s n ≡ b → (if b then wrapped (outcome (may s n) (links s n)) (folded (may s n) (links s n)) else None) ≡ Some w → ChoiceContracts (Expr s) n w
+    go true h g = of h (outcome (may s n) (links s n)) refl g
+    go false h g = absurd (cc g)
+
+-- ---- and what a row reads is written
+
+step_passes : (o : Bool) (l : Link) (t : Tree) → is_calm_link l ≡ true → is_step (linked o l t) ≡ true
+step_passes o (a_member k) t e = e
+step_passes o (a_computed k) t e = e
+step_passes o (a_call ts) t e = e
 
 first_of_link : (o : Bool) (l : Link) (t : Tree) → part (linked o l t) 0 ≡ t
 first_of_link o (a_member k) t = refl
 first_of_link o (a_computed k) t = refl
 first_of_link o (a_call ts) t = refl
 
--- ---- what is written
+mark_of_link : (o : Bool) (l : Link) (t : Tree) → is_marked (shape_of (linked o l t)) ≡ o
+mark_of_link o (a_member k) t = refl
+mark_of_link o (a_computed k) t = refl
+mark_of_link o (a_call ts) t = refl
 
-module _ (s : Seat) (n : Tree) where
-  abbrev link : Tree
-  link = part n 0
+module _ (d : Bool) where
+  there_here : (l : Link) (t : Tree) → is_calm_link l ≡ true → holds_link t || (d && is_value t) ≡ true → is_some (outcome d (linked true l t)) ≡ true
+  there_here l t c h =
+      ap is_some (here_out d (linked true l t) (step_passes true l t c)
+      (both_true (is_marked (shape_of (linked true l t))) _ (mark_of_link true l t) (ap (λ u. holds_link u || (d && is_value u)) (first_of_link true l t) ∙ h)))
 
-  abbrev base : Tree
-  base = part link 0
+  there_below : (o : Bool) (l : Link) (t : Tree) → is_calm_link l ≡ true → is_some (outcome d t) ≡ true → is_some (outcome d (linked o l t)) ≡ true
+  there_below o l t c h = go (folds_here d (linked o l t)) refl
+    where
+      stays_there : (m : Bool) (k : Option Bool) → is_some k ≡ true → is_some (with_mark m k) ≡ true
+      stays_there m (Some b) e = refl
+      stays_there m None e = e
 
-  of_joined : is_chain n ≡ true → is_unguarded s.guard ≡ true → Opened link → holds_link base ≡ true → Row64 s n (joined n)
-  of_joined c g o h =
-      let (held, kind) = and_parts (is_chain base) (is_link (shape_of (part base 0))) h in
-      record {
-        link = o.link;
-        inner = part base 0;
-        held = kind;
-        calm = o.calm;
-        unguarded = g;
-        shape = chain_is n c ∙ ap chain (o.is ∙ ap (linked true o.link) (chain_is base held));
-        written = ap chain (o.over true (part base 0));
-      }
+      go : (b : Bool) → folds_here d (linked o l t) ≡ b → is_some (outcome d (linked o l t)) ≡ true
+      go true f = ap is_some (here_out d (linked o l t) (step_passes o l t c) f)
+      go false f =
+          ap is_some (below_out d (linked o l t) (step_passes o l t c) f)
+          ∙ stays_there (is_marked (shape_of (linked o l t))) (outcome d (part (linked o l t) 0)) (ap (λ u. is_some (outcome d u)) (first_of_link o l t) ∙ h)
 
-  of_closed : is_chain n ≡ true → is_unguarded s.guard ≡ true → not s.new_callee ≡ true → Opened link → is_value base ≡ true → Row11 s n (closed n)
-  of_closed c g d o h =
-      let (known, h1) = and_parts (is_there base) (is_plain_part base && (stands base && is_calm base)) h in
-      let (plain, h2) = and_parts (is_plain_part base) (stands base && is_calm base) h1 in
-      let (value, calm) = and_parts (stands base) (is_calm base) h2 in
-      record {
-        link = o.link;
-        base = base;
-        known = known;
-        plain = plain;
-        value = value;
-        calm_base = calm;
-        calm = o.calm;
-        unguarded = g;
-        called = not_true s.new_callee d;
-        shape = chain_is n c ∙ ap chain o.is;
-        written = o.over false base;
-      }
+  there_over : (ms : List Marked) (t : Tree) → are_calm_over ms ≡ true → is_some (outcome d t) ≡ true → is_some (outcome d (links_over ms t)) ≡ true
+  there_over [] t c h = h
+  there_over (marked o l ∷ ms) t c h =
+      let (one, rest) = and_parts (is_calm_link l) (are_calm_over ms) c in
+      there_below o l (links_over ms t) one (there_over ms t rest h)
 
-  contracts : (w : Tree) → ChainRow s n w → ChoiceContracts (Expr s) n w
-  contracts w r = record { row = inr (inr (inr (inr (inr r)))); lighter = chains_fall s n w r }
-
-  joined_row : joins s n ≡ true → ChoiceContracts (Expr s) n (joined n)
-  joined_row h =
-      let (c, h1) = and_parts (is_chain n) (is_unguarded s.guard && (is_opened link && holds_link base)) h in
-      let (g, h2) = and_parts (is_unguarded s.guard) (is_opened link && holds_link base) h1 in
-      let (o, held) = and_parts (is_opened link) (holds_link base) h2 in
-      contracts (joined n) (inl (of_joined c g (opened_is link o) held))
-
-  closed_row : closes s n ≡ true → ChoiceContracts (Expr s) n (closed n)
-  closed_row h =
-      let (c, h1) = and_parts (is_chain n) (is_unguarded s.guard && (not s.new_callee && (is_opened link && is_value base))) h in
-      let (g, h2) = and_parts (is_unguarded s.guard) (not s.new_callee && (is_opened link && is_value base)) h1 in
-      let (d, h3) = and_parts (not s.new_callee) (is_opened link && is_value base) h2 in
-      let (o, there) = and_parts (is_opened link) (is_value base) h3 in
-      contracts (closed n) (inr (of_closed c g d (opened_is link o) there))
-
-pub folded_row : (s : Seat) (n w : Tree) → written s n ≡ Some w → ChoiceContracts (Expr s) n w
-folded_row s n w e = tried s n w (joins s n) (joined n) (closed_written s n) (joined_row s n) (tried s n w (closes s n) (closed n) None (closed_row s n) (λ e. absurd (cc e))) e
-
--- ---- and what a row reads is written
-
-opened_over : (l : Link) (t : Tree) (P : Tree → Bool) → is_calm_link l ≡ true → P t ≡ true → is_opened (linked true l t) && P (part (linked true l t) 0) ≡ true
-opened_over l t P c p = both_true (is_opened (linked true l t)) (P (part (linked true l t) 0)) (opened_passes l t c) (ap P (first_of_link true l t) ∙ p)
-
-joined_passes : (s : Seat) (n w : Tree) → Row64 s n w → is_some (written s n) ≡ true
-joined_passes s n w r =
-    let t : Tree = chain (linked true r.link (chain r.inner)) in
-    ap (λ x. is_some (written s x)) r.shape
-    ∙ first_true (joins s t) (joined t) (closed_written s t) (both_true (is_unguarded s.guard) _ r.unguarded (opened_over r.link (chain r.inner) holds_link r.calm r.held))
-
-closed_passes : (s : Seat) (n w : Tree) → Row11 s n w → is_some (written s n) ≡ true
-closed_passes s n w r =
-    let t : Tree = chain (linked true r.link r.base) in
-    let there : is_value r.base ≡ true = both_true (is_there r.base) _ r.known (both_true (is_plain_part r.base) _ r.plain (both_true (stands r.base) (is_calm r.base) r.value r.calm_base)) in
-    ap (λ x. is_some (written s x)) r.shape
-    ∙ later_true (joins s t) (joined t) (closed_written s t)
-    (first_true (closes s t) (closed t) None (both_true (is_unguarded s.guard) _ r.unguarded (both_true (not s.new_callee) _ (ap not r.called) (opened_over r.link r.base is_value r.calm there))))
+is_written : (s : Seat) (c : Tree) → is_unguarded s.guard ≡ true → is_some (outcome (not s.new_callee) c) ≡ true → is_some (written s (chain c)) ≡ true
+is_written s c g h = ap (λ b. is_some (if b then wrapped (outcome (not s.new_callee) c) (folded (not s.new_callee) c) else None)) g ∙ go (outcome (not s.new_callee) c) h
+  where
+    go : (o : Option Bool) → is_some o ≡ true → is_some (wrapped o (folded (not s.new_callee) c)) ≡ true
+    go (Some stays) e = refl
+    go None e = e
 
 pub folded_passes : (s : Seat) (n w : Tree) → ChainRow s n w → is_some (written s n) ≡ true
-folded_passes s n w (inl r) = joined_passes s n w r
-folded_passes s n w (inr r) = closed_passes s n w r
+folded_passes s n w (inl r) =
+    let d = not s.new_callee in
+    ap (λ x. is_some (written s x)) r.shape
+    ∙ is_written s (links_over r.others (linked true r.link (chain r.inner))) r.unguarded
+    (there_over d r.others (linked true r.link (chain r.inner)) r.calm_others (there_here d r.link (chain r.inner) r.calm (ap (λ b. b || (d && is_value (chain r.inner))) r.held)))
+folded_passes s n w (inr r) =
+    let d = not s.new_callee in
+    let there : is_value r.base ≡ true = both_true (is_there r.base) _ r.known (both_true (is_plain_part r.base) _ r.plain (both_true (stands r.base) (is_calm r.base) r.value r.calm_base)) in
+    ap (λ x. is_some (written s x)) r.shape
+    ∙ is_written s (links_over r.others (linked true r.link r.base)) r.unguarded
+    (there_over d r.others (linked true r.link r.base) r.calm_others (there_here d r.link r.base r.calm (or_last (holds_link r.base) (both_true d (is_value r.base) (ap not r.called) there))))
+  where
+    or_last : (b : Bool) {c : Bool} → c ≡ true → b || c ≡ true
+    or_last true e = refl
+    or_last false e = e

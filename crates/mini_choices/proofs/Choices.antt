@@ -389,12 +389,12 @@ chain_there s n h =
 folded_there : (s : Seat) (n : Tree) → is_some (folded.written s n) ≡ true → is_some (written s n) ≡ true
 folded_there s n h = ap (λ t. is_some (written s t)) (chain_is n (chains n h)) ∙ sym (ap (λ t. is_some (folded.written s t)) (chain_is n (chains n h))) ∙ h
   where
-    first_of_both : (b c d : Bool) (x y : Tree) → is_some (if b && c then Some x else (if b && d then Some y else None)) ≡ true → b ≡ true
-    first_of_both true c d x y e = refl
-    first_of_both false c d x y e = e
+    first_of_two : (b c : Bool) (x : Option Tree) → is_some (if b && c then x else None) ≡ true → b ≡ true
+    first_of_two true c x e = refl
+    first_of_two false c x e = e
 
     chains : (t : Tree) → is_some (folded.written s t) ≡ true → folded.is_chain t ≡ true
-    chains t e = first_of_both (folded.is_chain t) _ _ (folded.joined t) (folded.closed t) e
+    chains t e = first_of_two (folded.is_chain t) _ (folded.wrapped (folded.outcome (not s.new_callee) (part t 0)) (folded.folded (not s.new_callee) (part t 0))) e
 
 in_comparisons : (t : Tree) → is_some (first_of (nullish.written t) (object_test.written t)) ≡ true → is_some (first_of (rotate.written t) (first_of (decide.written t) (first_of (nullish.written t) (object_test.written t)))) ≡ true
 in_comparisons t h = second_there (rotate.written t) (first_of (decide.written t) (first_of (nullish.written t) (object_test.written t))) (second_there (decide.written t) (first_of (nullish.written t) (object_test.written t)) h)

@@ -14,7 +14,7 @@ use Rattle.mini_rows.proofs.Arranging.{often_each}
 
 -- ---- sketches, of links from the last one on, each with the part at the next index
 
-abbrev link_sketch : Bool → ℕ → Link → Sketch → Sketch
+abbrev pub link_sketch : Bool → ℕ → Link → Sketch → Sketch
 link_sketch o i (a_member k) t = under (StaticMember o) (t ▹ part i ▹ end)
 link_sketch o i (a_computed k) t = under (ComputedMember o) (t ▹ part i ▹ end)
 link_sketch o i (a_call ts) t = under (Call o) (t ▹ list (items i no_items) ▹ end)
@@ -23,12 +23,12 @@ abbrev pub sketch : Bool → ℕ → Link → List Link → Sketch
 sketch o i l [] = link_sketch o i l (part 0)
 sketch o i l (m ∷ ls) = link_sketch false i l (sketch o (suc i) m ls)
 
-abbrev tree_of : Link → Tree
+abbrev pub tree_of : Link → Tree
 tree_of (a_member k) = k
 tree_of (a_computed k) = k
 tree_of (a_call ts) = absent
 
-abbrev list_of : Link → Trees
+abbrev pub list_of : Link → Trees
 list_of (a_call ts) = ts
 list_of l = none
 
@@ -57,7 +57,7 @@ append_none : (ts : Trees) → append ts none ≡ ts
 append_none none = refl
 append_none (t ▸ ts) = ap (λ us. t ▸ us) (append_none ts)
 
-filled_link : (ps : Parts) (o : Bool) (i : ℕ) (l : Link) (t : Sketch) (u : Tree) → filled ps t ≡ u → child_or_absent ps.trees i ≡ tree_of l → list_at ps.lists i ≡ list_of l → filled ps (link_sketch o i l t) ≡ linked o l u
+pub filled_link : (ps : Parts) (o : Bool) (i : ℕ) (l : Link) (t : Sketch) (u : Tree) → filled ps t ≡ u → child_or_absent ps.trees i ≡ tree_of l → list_at ps.lists i ≡ list_of l → filled ps (link_sketch o i l t) ≡ linked o l u
 filled_link ps o i (a_member k) t u e f g = λ j. static_member o (e j) (f j)
 filled_link ps o i (a_computed k) t u e f g = λ j. computed_member o (e j) (f j)
 filled_link ps o i (a_call ts) t u e f g = λ j. call o (e j) ((ap (λ us. append us none) g ∙ append_none ts) j)
@@ -68,7 +68,7 @@ filled_sketch ps o x e i l (m ∷ ls) h = filled_link ps false i l (sketch o (su
 
 -- ---- their parts, in order
 
-abbrev hole : ℕ → Link → Hole
+abbrev pub hole : ℕ → Link → Hole
 hole i (a_member k) = Part i AsWord
 hole i (a_computed k) = Part i AsValue
 hole i (a_call ts) = Stretch i AsValue
@@ -77,7 +77,7 @@ abbrev holes : ℕ → Link → List Link → List Hole
 holes i l [] = hole i l ∷ []
 holes i l (m ∷ ls) = holes (suc i) m ls ++ (hole i l ∷ [])
 
-link_holes : (o : Bool) (i : ℕ) (l : Link) (t : Sketch) (hs : List Hole) → parts_of AsValue t ≡ hs → parts_of AsValue (link_sketch o i l t) ≡ hs ++ (hole i l ∷ [])
+pub link_holes : (o : Bool) (i : ℕ) (l : Link) (t : Sketch) (hs : List Hole) → parts_of AsValue t ≡ hs → parts_of AsValue (link_sketch o i l t) ≡ hs ++ (hole i l ∷ [])
 link_holes o i (a_member k) t hs e = ap (λ gs. gs ++ (Part i AsWord ∷ [])) e
 link_holes o i (a_computed k) t hs e = ap (λ gs. gs ++ (Part i AsValue ∷ [])) e
 link_holes o i (a_call ts) t hs e = ap (λ gs. gs ++ (Stretch i AsValue ∷ [])) e
@@ -97,7 +97,7 @@ same_itself (Part i c) = both (nat_eq i i) (nat_eq (asked_number c) (asked_numbe
 same_itself (Stretch i c) = both (nat_eq i i) (nat_eq (asked_number c) (asked_number c)) (eq-eqb i i refl) (eq-eqb (asked_number c) (asked_number c) refl)
 same_itself (Leaps l) = same_leap l
 
-often_itself : (hs : List Hole) → has_as_often hs hs ≡ true
+pub often_itself : (hs : List Hole) → has_as_often hs hs ≡ true
 often_itself [] = refl
 often_itself (h ∷ hs) = subst (λ b. (b || stands_in hs h) && has_as_often (if b then hs else h ∷ without hs h) hs ≡ true) (sym (same_itself h)) (often_itself hs)
 
@@ -227,7 +227,7 @@ module _ (l : Link) (ls : List Link) where
 
 -- ---- where they stand
 
-stands_link : (f : Free) (o : Bool) (i : ℕ) (l : Link) (t : Sketch) → stands_well f AsValue t ≡ true → stands_well f AsValue (link_sketch o i l t) ≡ true
+pub stands_link : (f : Free) (o : Bool) (i : ℕ) (l : Link) (t : Sketch) → stands_well f AsValue t ≡ true → stands_well f AsValue (link_sketch o i l t) ≡ true
 stands_link f o i (a_member k) t e = both (stands_well f AsValue t) true e refl
 stands_link f o i (a_computed k) t e = both (stands_well f AsValue t) true e refl
 stands_link f o i (a_call ts) t e = both (stands_well f AsValue t) true e refl

@@ -1,5 +1,5 @@
 -- What the rows of optional chains write means the same.
-use Rattle.std.proofs.Common.{◌≡◌, ℕ, Bool, true, false, [], refl, sym, ap, subst, ◌∙◌, inl, inr, true≢false}
+use Rattle.std.proofs.Common.{◌≡◌, ℕ, Bool, true, false, List, [], ◌∷◌, refl, sym, ap, subst, ◌∙◌, inl, inr, true≢false}
 use Rattle.std.specs.Prelude.{not, ◌&&◌, ◌||◌}
 use Rattle.std.proofs.lemmas.Bool.{and_parts}
 use Rattle.mini_model.specs.declared.place.Position.TheVariants.{Expr}
@@ -32,10 +32,10 @@ use Rattle.mini_terms.proofs.Frame.{gives_map}
 use Rattle.mini_terms.proofs.KindTable.{kind_sound}
 use Rattle.mini_terms.proofs.Reading.{read_by_value, same_item}
 use Rattle.mini_rows.specs.Chains.{is_calm, is_calm_link, Link, a_member, a_computed, a_call, linked, chain}
-use Rattle.mini_rows.specs.ChainLinks.{is_there, Row64, Row11, ChainRow}
+use Rattle.mini_rows.specs.ChainLinks.{is_there, Marked, marked, links_over, are_calm_over, has_mark, chain_if, Row64, Row11, ChainRow}
 use Rattle.mini_rows.proofs.FoldMeaning.{plain_read}
 use Rattle.mini_rows.proofs.ChainCalm.{Calm, calm_next}
-use Rattle.mini_rows.proofs.ChainRuns.{called, next, value, linked_value, chain_of, value_is, chain_value, chain_calm, link_calm, value_calm, same_first}
+use Rattle.mini_rows.proofs.ChainRuns.{called, next, value, linked_value, linked_called, chain_of, value_is, called_is, chain_value, chain_calm, link_calm, value_calm, same_first}
 
 -- ---- a chain where no reference is asked
 
@@ -71,7 +71,7 @@ unfolding means meaning step
 called_chain e t s = refl
 
 -- what goes on after a chain, and ends where that is undefined, goes on after what the chain holds
-after_chain : (e : Environment) (t : Tree) (x : Completion Value) (f : Value → State → Completion Value) → ((z : State) → f Undefined z ≡ stop Short z) → next (chain_of e t x) f ≡ next x f
+after_chain : {B : Type 0} (e : Environment) (t : Tree) (x : Completion Value) (f : Value → State → Completion B) → ((z : State) → f Undefined z ≡ stop Short z) → next (chain_of e t x) f ≡ next x f
 unfolding either
 after_chain e t (ok v z) f h = refl
 after_chain e t (stop Short z) f h = h z
@@ -87,17 +87,29 @@ after_called e t (stop y z) f h = refl
 after_called e t (halt y z) f h = refl
 after_called e t out f h = refl
 
-link_joined : (e : Environment) (l : Link) (t : Tree) (v : Completion Value) (f : Completion Called) → linked_value e true l (chain_of e t v) (chain_called e t f) ≡ linked_value e true l v f
-link_joined e (a_member k) t v f = after_chain e t v _ (λ z. refl)
-link_joined e (a_computed k) t v f = after_chain e t v _ (λ z. refl)
-link_joined e (a_call ts) t v f = after_called e t f _ (λ z. refl)
+abbrev plainly_called : Completion Value → Completion Called
+plainly_called x = next x (λ v z. ok (plain_call v) z)
 
-joined_value : (e : Environment) (l : Link) (t : Tree) (s : State) → value e (linked true l (chain t)) s ≡ value e (linked true l t) s
-joined_value e l t s =
-    value_is e true l (chain t) s
-    ∙ (λ i. linked_value e true l (chain_value e t s i) (called_chain e t s i))
-    ∙ link_joined e l t (value e t s) (called e t s)
-    ∙ sym (value_is e true l t s)
+-- both do the same, as a value and as what is called
+abbrev Alike : Environment → State → Tree → Tree → Type 0
+Alike e s t u = (value e t s ≡ value e u s) × (called e t s ≡ called e u s)
+
+link_joined : (e : Environment) (l : Link) (t : Tree) (v : Completion Value) (f : Completion Called) → (linked_value e true l (chain_of e t v) (chain_called e t f) ≡ linked_value e true l v f) × (linked_called e true l (chain_of e t v) (chain_called e t f) ≡ linked_called e true l v f)
+link_joined e (a_member k) t v f = (after_chain e t v _ (λ z. refl), after_chain e t v _ (λ z. refl))
+link_joined e (a_computed k) t v f = (after_chain e t v _ (λ z. refl), after_chain e t v _ (λ z. refl))
+link_joined e (a_call ts) t v f = let whole = after_called e t f _ (λ z. refl) in (whole, ap plainly_called whole)
+
+joined_alike : (e : Environment) (s : State) (l : Link) (t : Tree) → Alike e s (linked true l (chain t)) (linked true l t)
+joined_alike e s l t =
+    let same = link_joined e l t (value e t s) (called e t s) in
+    (value_is e true l (chain t) s ∙ (λ i. linked_value e true l (chain_value e t s i) (called_chain e t s i)) ∙ same.0 ∙ sym (value_is e true l t s), called_is e true l (chain t) s ∙ (λ i. linked_called e true l (chain_value e t s i) (called_chain e t s i)) ∙ same.1 ∙ sym (called_is e true l t s))
+
+-- so do links over them
+over_alike : (e : Environment) (s : State) (ms : List Marked) (t u : Tree) → Alike e s t u → Alike e s (links_over ms t) (links_over ms u)
+over_alike e s [] t u h = h
+over_alike e s (marked o l ∷ ms) t u h =
+    let r = over_alike e s ms t u h in
+    (value_is e o l (links_over ms t) s ∙ (λ i. linked_value e o l (r.0 i) (r.1 i)) ∙ sym (value_is e o l (links_over ms u) s), called_is e o l (links_over ms t) s ∙ (λ i. linked_called e o l (r.0 i) (r.1 i)) ∙ sym (called_is e o l (links_over ms u) s))
 
 chain_alike : (e : Environment) (t u : Tree) (x : Completion Value) → chain_of e t x ≡ chain_of e u x
 unfolding either
@@ -107,17 +119,15 @@ chain_alike e t u (stop y z) = refl
 chain_alike e t u (halt y z) = refl
 chain_alike e t u out = refl
 
-joined_chain : (e : Environment) (l : Link) (t : Tree) (s : State) → value e (chain (linked true l (chain t))) s ≡ value e (chain (linked true l t)) s
-joined_chain e l t s =
-    chain_value e (linked true l (chain t)) s
-    ∙ ap (chain_of e (linked true l (chain t))) (joined_value e l t s)
-    ∙ chain_alike e (linked true l (chain t)) (linked true l t) (value e (linked true l t) s)
-    ∙ sym (chain_value e (linked true l t) s)
+chains_alike : (e : Environment) (s : State) (t u : Tree) → Alike e s t u → value e (chain t) s ≡ value e (chain u) s
+chains_alike e s t u h = chain_value e t s ∙ ap (chain_of e t) h.0 ∙ chain_alike e t u (value e u s) ∙ sym (chain_value e u s)
 
 joined_same : (s : Seat) (n w : Tree) → Row64 s n w → SameAt (Expr s) n w
 joined_same s n w r =
-    subst (λ t. SameAt (Expr s) t w) (sym r.shape) (subst (SameAt (Expr s) (chain (linked true r.link (chain r.inner)))) (sym r.written)
-    (chain_in_seat s (linked true r.link (chain r.inner)) (chain (linked true r.link r.inner)) r.unguarded refl (λ e z. joined_chain e r.link r.inner z)))
+    let t : Tree = links_over r.others (linked true r.link (chain r.inner)) in
+    let u : Tree = links_over r.others (linked true r.link r.inner) in
+    subst (λ t. SameAt (Expr s) t w) (sym r.shape) (subst (SameAt (Expr s) (chain t)) (sym r.written)
+    (chain_in_seat s t (chain u) r.unguarded refl (λ e z. chains_alike e z t u (over_alike e z r.others (linked true r.link (chain r.inner)) (linked true r.link r.inner) (joined_alike e z r.link r.inner)))))
 
 -- ---- 11
 
@@ -137,57 +147,89 @@ Present v = is_nullish v ≡ false
 present : (e : Environment) (x : Tree) → is_there x ≡ true → (s : State) → Gives Present (value e x s)
 present e x h s = let (known, there) = and_parts (is_known (kind x)) (not (is_nullish_kind (kind x))) h in gives_map (OfKind (kind x)) Present (λ v p. present_by (kind x) v known there p) (value e x s) (kind_sound x e s)
 
-abbrev plainly_called : Completion Value → Completion Called
-plainly_called x = next x (λ v z. ok (plain_call v) z)
-
 -- what is called is the value
 base_called : (e : Environment) (x : Tree) → stands x ≡ true → (s : State) → called e x s ≡ plainly_called (value e x s)
 unfolding by_value
 base_called e x h s = read_by_value x h e Callee tt s
 
-closed_by : (e : Environment) (l : Link) (x : Completion Value) → Gives Present x → linked_value e true l x (plainly_called x) ≡ linked_value e false l x (plainly_called x)
+closed_by : (e : Environment) (l : Link) (x : Completion Value) → Gives Present x → (linked_value e true l x (plainly_called x) ≡ linked_value e false l x (plainly_called x)) × (linked_called e true l x (plainly_called x) ≡ linked_called e false l x (plainly_called x))
 unfolding either Gives
-closed_by e l (ok v z) p = (same_first e z v (plain_call v) p p refl l).0
-closed_by e (a_member k) (stop y z) p = refl
-closed_by e (a_computed k) (stop y z) p = refl
-closed_by e (a_call ts) (stop y z) p = refl
-closed_by e (a_member k) (halt y z) p = refl
-closed_by e (a_computed k) (halt y z) p = refl
-closed_by e (a_call ts) (halt y z) p = refl
-closed_by e (a_member k) out p = refl
-closed_by e (a_computed k) out p = refl
-closed_by e (a_call ts) out p = refl
+closed_by e l (ok v z) p = same_first e z v (plain_call v) p p refl l
+closed_by e (a_member k) (stop y z) p = (refl, refl)
+closed_by e (a_computed k) (stop y z) p = (refl, refl)
+closed_by e (a_call ts) (stop y z) p = (refl, refl)
+closed_by e (a_member k) (halt y z) p = (refl, refl)
+closed_by e (a_computed k) (halt y z) p = (refl, refl)
+closed_by e (a_call ts) (halt y z) p = (refl, refl)
+closed_by e (a_member k) out p = (refl, refl)
+closed_by e (a_computed k) out p = (refl, refl)
+closed_by e (a_call ts) out p = (refl, refl)
 
-module _ (e : Environment) (l : Link) (x : Tree) (there : is_there x ≡ true) (reads : stands x ≡ true) (calm_base : is_calm x ≡ true) (calm : is_calm_link l ≡ true) (s : State) where
-  over_base : (o : Bool) → value e (linked o l x) s ≡ linked_value e o l (value e x s) (plainly_called (value e x s))
-  over_base o = value_is e o l x s ∙ ap (linked_value e o l (value e x s)) (base_called e x reads s)
+-- neither ends a chain
+abbrev CalmBoth : Environment → State → Tree → Type 0
+CalmBoth e s t = Calm (value e t s) × Calm (called e t s)
 
-  closed_value : value e (linked true l x) s ≡ value e (linked false l x) s
-  closed_value = over_base true ∙ closed_by e l (value e x s) (present e x there s) ∙ sym (over_base false)
+link_calmly : (e : Environment) (s : State) (l : Link) (t : Tree) → is_calm_link l ≡ true → CalmBoth e s t → CalmBoth e s (linked false l t)
+link_calmly e s l t p c = let b = link_calm e l p (value e t s) (called e t s) c.0 c.1 in (subst Calm (sym (value_is e false l t s)) b.0, subst Calm (sym (called_is e false l t s)) b.1)
 
-  base_calm : Calm (value e x s)
-  base_calm = value_calm e x calm_base s
+over_calmly : (e : Environment) (s : State) (ms : List Marked) (t : Tree) → has_mark ms ≡ false → are_calm_over ms ≡ true → CalmBoth e s t → CalmBoth e s (links_over ms t)
+over_calmly e s [] t h p c = c
+over_calmly e s (marked true l ∷ ms) t h p c = absurd (true≢false h)
+over_calmly e s (marked false l ∷ ms) t h p c = let (here, rest) = and_parts (is_calm_link l) (are_calm_over ms) p in link_calmly e s l (links_over ms t) here (over_calmly e s ms t h rest c)
 
-  closed_calm : Calm (value e (linked false l x) s)
-  closed_calm = subst Calm (sym (over_base false)) (link_calm e l calm (value e x s) (plainly_called (value e x s)) base_calm (calm_next (value e x s) (λ v z. ok (plain_call v) z) base_calm (λ v z. tt))).0
+module _ (e : Environment) (l : Link) (x : Tree) (reads : stands x ≡ true) (s : State) where
+  closed_alike : is_there x ≡ true → Alike e s (linked true l x) (linked false l x)
+  closed_alike there =
+      let same = closed_by e l (value e x s) (present e x there s) in
+      (value_is e true l x s ∙ ap (linked_value e true l (value e x s)) (base_called e x reads s) ∙ same.0 ∙ sym (value_is e false l x s ∙ ap (linked_value e false l (value e x s)) (base_called e x reads s)), called_is e true l x s ∙ ap (linked_called e true l (value e x s)) (base_called e x reads s) ∙ same.1 ∙ sym (called_is e false l x s ∙ ap (linked_called e false l (value e x s)) (base_called e x reads s)))
 
-  closed_chain : value e (chain (linked true l x)) s ≡ value e (linked false l x) s
-  closed_chain = chain_value e (linked true l x) s ∙ ap (chain_of e (linked true l x)) closed_value ∙ chain_calm e (linked true l x) (value e (linked false l x) s) closed_calm
+  base_calm : is_calm x ≡ true → CalmBoth e s x
+  base_calm p = let c = value_calm e x p s in (c, subst Calm (sym (base_called e x reads s)) (calm_next (value e x s) (λ v z. ok (plain_call v) z) c (λ v z. tt)))
 
 link_item : (o : Bool) (l : Link) (t : Tree) → is_item (linked o l t) ≡ true
 link_item o (a_member k) t = refl
 link_item o (a_computed k) t = refl
 link_item o (a_call ts) t = refl
 
-pub link_plain : (l : Link) (t : Tree) → is_plain_part t ≡ true → is_plain_part (linked false l t) ≡ true
+over_item : (b : Bool) (ms : List Marked) (o : Bool) (l : Link) (t : Tree) → is_item (chain_if b (links_over ms (linked o l t))) ≡ true
+over_item true ms o l t = refl
+over_item false [] o l t = link_item o l t
+over_item false (marked p m ∷ ms) o l t = link_item p m (links_over ms (linked o l t))
+
+link_plain : (l : Link) (t : Tree) → is_plain_part t ≡ true → is_plain_part (linked false l t) ≡ true
 link_plain (a_member k) t e = e
 link_plain (a_computed k) t e = e
 link_plain (a_call ts) t e = e
 
-closed_same : (s : Seat) (n w : Tree) → Row11 s n w → SameAt (Expr s) n w
-closed_same s n w r =
-    subst (λ t. SameAt (Expr s) t w) (sym r.shape) (subst (SameAt (Expr s) (chain (linked true r.link r.base))) (sym r.written)
-    (chain_in_seat s (linked true r.link r.base) (linked false r.link r.base) r.unguarded (link_item false r.link r.base) (λ e z. closed_chain e r.link r.base r.known r.value r.calm_base r.calm z)))
+over_plain : (ms : List Marked) (t : Tree) → has_mark ms ≡ false → is_plain_part t ≡ true → is_plain_part (links_over ms t) ≡ true
+over_plain [] t h e = e
+over_plain (marked true l ∷ ms) t h e = absurd (true≢false h)
+over_plain (marked false l ∷ ms) t h e = link_plain l (links_over ms t) (over_plain ms t h e)
+
+module _ (s : Seat) (n w : Tree) (r : Row11 s n w) where
+  abbrev before : Tree
+  before = links_over r.others (linked true r.link r.base)
+
+  abbrev after : Tree
+  after = links_over r.others (linked false r.link r.base)
+
+  alike : (e : Environment) (z : State) → Alike e z before after
+  alike e z = over_alike e z r.others (linked true r.link r.base) (linked false r.link r.base) (closed_alike e r.link r.base r.value z r.known)
+
+  closed_value : (b : Bool) → has_mark r.others ≡ b → (e : Environment) (z : State) → value e (chain before) z ≡ value e (chain_if b after) z
+  closed_value true h e z = chains_alike e z before after (alike e z)
+  closed_value false h e z =
+      let calm = over_calmly e z r.others (linked false r.link r.base) h r.calm_others (link_calmly e z r.link r.base r.calm (base_calm e r.link r.base r.value z r.calm_base)) in
+      chain_value e before z ∙ ap (chain_of e before) (alike e z).0 ∙ chain_calm e before (value e after z) calm.0
+
+  closed_same : SameAt (Expr s) n w
+  closed_same =
+      subst (λ t. SameAt (Expr s) t w) (sym r.shape) (subst (SameAt (Expr s) (chain before)) (sym r.written)
+      (chain_in_seat s before (chain_if (has_mark r.others) after) r.unguarded (over_item (has_mark r.others) r.others false r.link r.base) (closed_value (has_mark r.others) refl)))
+
+  closed_read : (b : Bool) → has_mark r.others ≡ b → summary (chain before) ≡ summary (chain_if b after)
+  closed_read true h = refl
+  closed_read false h = sym (plain_read after (over_plain r.others (linked false r.link r.base) h (link_plain r.link r.base r.plain)))
 
 -- ---- all
 
@@ -197,4 +239,4 @@ chains_same s n w (inr r) = closed_same s n w r
 
 pub chains_read : (s : Seat) (n w : Tree) → ChainRow s n w → summary n ≡ summary w
 chains_read s n w (inl r) = ap summary r.shape ∙ sym (ap summary r.written)
-chains_read s n w (inr r) = ap summary r.shape ∙ sym (ap summary r.written ∙ plain_read (linked false r.link r.base) (link_plain r.link r.base r.plain))
+chains_read s n w (inr r) = ap summary r.shape ∙ closed_read s n w r (has_mark r.others) refl ∙ sym (ap summary r.written)

@@ -1,6 +1,6 @@
 -- The rows of optional chains by what stands before their `?.`: a chain of its own, or a value that is known not to end it
 -- (ECMA-262, "Optional Chains").
-use Rattle.std.specs.Prelude.{◌≡◌, ◌⊎◌, Bool, true, false, not, ◌&&◌}
+use Rattle.std.specs.Prelude.{◌≡◌, ◌⊎◌, Bool, true, false, not, ◌&&◌, ◌||◌, List, [], ◌∷◌}
 use Rattle.mini_model.specs.declared.seat.Seat.{Seat}
 use Rattle.mini_model.specs.Tree.{Tree, shape_of}
 use Rattle.mini_terms.specs.Folds.{is_known}
@@ -13,19 +13,49 @@ use Rattle.mini_rows.specs.Chains.{is_calm, Link, linked, is_calm_link, chain}
 abbrev pub is_there : Tree → Bool
 is_there t = is_known (kind t) && not (is_nullish_kind (kind t))
 
--- 64: `(a?.b)?.c` becomes `a?.b?.c`, since the outer `?.` ends where the inner one does
+-- ---- links, optional or not
+
+pub data Marked : Type 0 where
+  marked : Bool → Link → Marked
+
+-- links over what stands before them, the last one first
+abbrev pub links_over : List Marked → Tree → Tree
+links_over [] t = t
+links_over (marked o l ∷ ms) t = linked o l (links_over ms t)
+
+-- of none a part ends a chain
+abbrev pub are_calm_over : List Marked → Bool
+are_calm_over [] = true
+are_calm_over (marked o l ∷ ms) = is_calm_link l && are_calm_over ms
+
+-- one of them is optional
+abbrev pub has_mark : List Marked → Bool
+has_mark [] = false
+has_mark (marked o l ∷ ms) = o || has_mark ms
+
+-- a chain as long as a link is optional
+abbrev pub chain_if : Bool → Tree → Tree
+chain_if true t = chain t
+chain_if false t = t
+
+-- ---- rows
+
+-- 64: `(a?.b)?.c` becomes `a?.b?.c`, since the outer `?.` ends where the inner one does; whatever links stand outside of it
 pub record Row64 (s : Seat) (n w : Tree) : Type 0 where
+  pub others : List Marked
   pub link : Link
   pub inner : Tree
   pub held : is_link (shape_of inner) ≡ true
   pub calm : is_calm_link link ≡ true
+  pub calm_others : are_calm_over others ≡ true
   pub unguarded : is_unguarded s.guard ≡ true
-  pub shape : n ≡ chain (linked true link (chain inner))
-  pub written : w ≡ chain (linked true link inner)
+  pub shape : n ≡ chain (links_over others (linked true link (chain inner)))
+  pub written : w ≡ chain (links_over others (linked true link inner))
 
--- 11: `[1]?.length` becomes `[1].length`, and `(() => {})?.()` becomes `(() => {})()`: what stands before `?.` is no undefined and no null.
--- A call keeps its chain as the callee of `new`, where it would have parentheses too
+-- 11: `[1]?.length` becomes `[1].length`, and `(() => {})?.().a?.b` becomes `(() => {})().a?.b`: what stands before the first `?.` is no
+-- undefined and no null. The chain goes with the last `?.`, but as the callee of `new`, where a call would have parentheses too
 pub record Row11 (s : Seat) (n w : Tree) : Type 0 where
+  pub others : List Marked
   pub link : Link
   pub base : Tree
   pub known : is_there base ≡ true
@@ -33,10 +63,11 @@ pub record Row11 (s : Seat) (n w : Tree) : Type 0 where
   pub value : stands base ≡ true
   pub calm_base : is_calm base ≡ true
   pub calm : is_calm_link link ≡ true
+  pub calm_others : are_calm_over others ≡ true
   pub unguarded : is_unguarded s.guard ≡ true
   pub called : s.new_callee ≡ false
-  pub shape : n ≡ chain (linked true link base)
-  pub written : w ≡ linked false link base
+  pub shape : n ≡ chain (links_over others (linked true link base))
+  pub written : w ≡ chain_if (has_mark others) (links_over others (linked false link base))
 
 abbrev pub ChainRow : Seat → Tree → Tree → Type 0
 ChainRow s n w = Row64 s n w ⊎ Row11 s n w

@@ -1,13 +1,12 @@
-//! Rows 64 and 11, of optional chains by what stands before their `?.`: `(a?.b)?.c` becomes `a?.b?.c`, and `[1]?.length` becomes
+//! Rows 64 and 11, of optional chains by what stands before a `?.` of theirs: `(a?.b)?.c` becomes `a?.b?.c`, and `[1]?.length` becomes
 //! `[1].length`. Both are lighter in every seat.
 
 ghost use Rattle.std.specs.Prelude.{◌≡◌, [], true, is_some, unwrap_or, OnOk, IfOk};
 ghost use Rattle.mini_model.specs.Tree.{children, count, node as tree, none, ◌▸◌, shape_of};
 ghost use Rattle.mini_node.specs.Children.{part};
 ghost use Rattle.mini_terms.specs.Parts.{is_link as is_link_shape};
-ghost use Rattle.mini_rows.specs.Chains.{chain as chain_of};
-ghost use Rattle.mini_rows.specs.ChainLinks.{is_there as is_it_there};
-ghost use Rattle.mini_choices.specs.FoldChainExpr.{is_chain as is_it_chain, ends_none as ends_it_none, is_opened as is_it_opened, link_shape as shape_of_link, relinked as relinked_of, holds_link as holds_it_link, is_value as is_it_value, joins as it_joins, closes as it_closes, joined as joined_of, closed as closed_of, written};
+ghost use Rattle.mini_rows.specs.ChainLinks.{is_there as is_it_there, chain_if};
+ghost use Rattle.mini_choices.specs.FoldChainExpr.{is_chain as is_it_chain, ends_none as ends_it_none, is_step as is_it_step, is_marked as is_it_marked, link_shape as shape_of_link, relinked as relinked_of, holds_link as holds_it_link, is_value as is_it_value, folds_here as folds_it_here, here, outcome as outcome_of, folded as folded_of, is_read as is_it_read, written};
 
 use crate::rewrites::inject_optional_chaining::{are_calm, is_calm, is_unguarded, is_word};
 use mini_model::{LogicalOperator, OutOfMemory, Seat, Shape};
@@ -25,24 +24,36 @@ fn is_chain(node: &Node) -> bool
     }
 }
 
-// Of an optional link with this key or these arguments, whether they end no chain.
+// Of a link with this key or these arguments, whether they end no chain.
 fn ends_none(shape: &Shape, key: &Node) -> bool
     ensures { result ≡ ends_it_none shape.now key.now }
 {
     match shape {
-        Shape::StaticMemberExpression(true) => is_word(key),
-        Shape::ComputedMemberExpression(true) => is_calm(key),
-        Shape::CallExpression(true) => is_listed(key) && are_calm(key.children()),
+        Shape::StaticMemberExpression(_) => is_word(key),
+        Shape::ComputedMemberExpression(_) => is_calm(key),
+        Shape::CallExpression(_) => is_listed(key) && are_calm(key.children()),
         _ => false,
     }
 }
 
-// `a?.k`, `a?.[k]` or `a?.(b, c)`, whose key or arguments end no chain.
-fn is_opened(node: &Node) -> bool
-    ensures kind { result ≡ is_it_opened node.now }
+// `a.k`, `a[k]` or `a(b, c)`, optional or not, whose key or arguments end no chain.
+fn is_step(node: &Node) -> bool
+    ensures kind { result ≡ is_it_step node.now }
     ensures parts { result ≡ true → count (children node.now) ≡ 2 }
 {
     node.is_bare(2) && ends_none(node.shape(), node.child(1))
+}
+
+// An optional link.
+fn is_marked(node: &Node) -> bool
+    ensures { result ≡ is_it_marked (shape_of node.now) }
+{
+    match node.shape() {
+        Shape::StaticMemberExpression(is_optional) => *is_optional,
+        Shape::ComputedMemberExpression(is_optional) => *is_optional,
+        Shape::CallExpression(is_optional) => *is_optional,
+        _ => false,
+    }
 }
 
 // A member or a call.
@@ -60,7 +71,8 @@ fn is_link(node: &Node) -> bool
 
 // A chain of one.
 fn holds_link(node: &Node) -> bool
-    ensures { result ≡ holds_it_link node.now }
+    ensures kind { result ≡ holds_it_link node.now }
+    ensures parts { result ≡ true → count (children node.now) ≡ 1 }
 {
     is_chain(node) && is_link(node.child(0))
 }
@@ -79,25 +91,29 @@ fn is_value(node: &Node) -> bool
     is_there(node) && is_plain_part(node) && stands(node) && is_calm(node)
 }
 
-// `(a?.b)?.c`
-fn joins(node: &Node, seat: Seat) -> bool
-    ensures { result ≡ it_joins seat node.now }
+// An optional link over a chain, or, where its mark may go, over a value that is there.
+fn folds_here(may_close: bool, node: &Node) -> bool
+    requires { count (children node.now) ≡ 2 }
+    ensures { result ≡ folds_it_here may_close node.now }
 {
-    is_chain(node)
-        && is_unguarded(seat)
-        && is_opened(node.child(0))
-        && holds_link(node.child(0).child(0))
+    is_marked(node) && (holds_link(node.child(0)) || (may_close && is_value(node.child(0))))
 }
 
-// `[1]?.length`
-fn closes(node: &Node, seat: Seat) -> bool
-    ensures { result ≡ it_closes seat node.now }
+// The outermost such link among links, if there is one: whether a link in the chain stays optional.
+#[tactic(auto, using(crate::proofs::ChainLinks::none_out, crate::proofs::ChainLinks::here_out, crate::proofs::ChainLinks::below_out))]
+fn outcome(may_close: bool, node: &Node) -> Option<bool>
+    ensures { result ≡ outcome_of may_close node.now }
 {
-    is_chain(node)
-        && is_unguarded(seat)
-        && !seat.new_callee
-        && is_opened(node.child(0))
-        && is_value(node.child(0).child(0))
+    if !is_step(node) {
+        return None;
+    }
+    if folds_here(may_close, node) {
+        return Some(holds_link(node.child(0)));
+    }
+    match outcome(may_close, node.child(0)) {
+        Some(stays) => Some(is_marked(node) || stays),
+        None => None,
+    }
 }
 
 // The shape of a link, optional or not.
@@ -118,40 +134,73 @@ fn relinked(alloc: Global, shape: Shape, before: Node, key: Node) -> Result<Node
     Ok(Node::new(shape, of_two(alloc, before, key)?))
 }
 
-// `a?.b?.c`
-fn joined(alloc: Global, node: Node) -> Result<Node, OutOfMemory>
-    ensures { IfOk result (λ w. w ≡ joined_of node) }
+// Over a chain it stays optional, and the chain goes; over a value its mark goes.
+fn folded_here(alloc: Global, node: Node) -> Result<Node, OutOfMemory>
+    requires { count (children node) ≡ 2 }
+    ensures { IfOk result (λ w. w ≡ here node) }
 {
-    let link = one(node);
-    let shape = link_shape(true, &link);
-    let (before, key) = two(link);
-    let links = relinked(alloc, shape, one(before), key)?;
-    Ok(Node::new(Shape::ChainExpression, of_one(alloc, links)?))
+    let stays = holds_link(node.child(0));
+    let shape = link_shape(stays, &node);
+    let (before, key) = two(node);
+    if stays {
+        relinked(alloc, shape, one(before), key)
+    } else {
+        relinked(alloc, shape, before, key)
+    }
 }
 
-// `[1].length`
-fn closed(alloc: Global, node: Node) -> Result<Node, OutOfMemory>
-    ensures { IfOk result (λ w. w ≡ closed_of node) }
+// The links with it folded.
+#[tactic(auto, using(crate::proofs::ChainLinks::none_folds, crate::proofs::ChainLinks::here_folds, crate::proofs::ChainLinks::below_folds))]
+fn folded(alloc: Global, may_close: bool, node: Node) -> Result<Node, OutOfMemory>
+    ensures { IfOk result (λ w. w ≡ folded_of may_close node) }
 {
-    let link = one(node);
-    let shape = link_shape(false, &link);
-    let (before, key) = two(link);
-    relinked(alloc, shape, before, key)
+    if !is_step(&node) {
+        return Ok(node);
+    }
+    if folds_here(may_close, &node) {
+        return folded_here(alloc, node);
+    }
+    let shape = link_shape(is_marked(&node), &node);
+    let (before, key) = two(node);
+    let other = folded(alloc, may_close, before)?;
+    relinked(alloc, shape, other, key)
+}
+
+// A chain of these links, as long as one is optional.
+fn wrapped(alloc: Global, stays: bool, links: Node) -> Result<Node, OutOfMemory>
+    ensures { IfOk result (λ w. w ≡ chain_if stays links) }
+{
+    if stays {
+        return Ok(Node::new(Shape::ChainExpression, of_one(alloc, links)?));
+    }
+    Ok(links)
+}
+
+// A chain in a seat that asks no reference.
+fn is_read(node: &Node, seat: Seat) -> bool
+    ensures kind { result ≡ is_it_read seat node.now }
+    ensures parts { result ≡ true → count (children node.now) ≡ 1 }
+{
+    is_chain(node) && is_unguarded(seat)
 }
 
 /// `(a?.b)?.c` becomes `a?.b?.c`, and `[1]?.length` becomes `[1].length`, where what stands before `?.` is known to be neither undefined
-/// nor null. The answer says whether it did; the only error is that memory runs out, and then the expression is fit only to be dropped.
+/// nor null; whatever links stand outside. The answer says whether it did; the only error is that memory runs out, and then the
+/// expression is fit only to be dropped.
 pub fn fold_chain_expr(alloc: Global, node: &mut Node, seat: Seat) -> Result<bool, OutOfMemory>
     ensures tree { OnOk result (node.new ≡ unwrap_or (written seat node.old) node.old) }
     ensures said { IfOk result (λ changed. changed ≡ is_some (written seat node.old)) }
 {
-    let made = if joins(node, seat) {
-        joined(alloc, taken(alloc, node))?
-    } else if closes(node, seat) {
-        closed(alloc, taken(alloc, node))?
-    } else {
+    if !is_read(node, seat) {
         return Ok(false);
-    };
-    *node = made;
-    Ok(true)
+    }
+    let may_close = !seat.new_callee;
+    match outcome(may_close, node.child(0)) {
+        Some(stays) => {
+            let links = folded(alloc, may_close, one(taken(alloc, node)))?;
+            *node = wrapped(alloc, stays, links)?;
+            Ok(true)
+        }
+        None => Ok(false),
+    }
 }
