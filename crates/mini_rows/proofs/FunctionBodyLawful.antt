@@ -1,5 +1,5 @@
 -- What the rows of names that nothing mentions write of a function is loosely lawful, wherever it stands, and so is what all of them write.
-use Rattle.std.specs.Prelude.{ℕ, zero, suc, ◌≡◌, ◌⊎◌, refl, ◌&&◌, Bool, true, false, List, [], ◌∷◌, ◌++◌, Contains, Option, Some, None}
+use Rattle.std.specs.Prelude.{ℕ, zero, suc, ◌≡◌, ◌⊎◌, refl, ◌&&◌, Bool, true, false, List, [], ◌∷◌, ◌++◌, Option, Some, None}
 use Rattle.std.proofs.Common.{ap, ◌∙◌, sym, subst, inl, inr, true≢false}
 use Rattle.std.proofs.lemmas.Bool.{and_parts}
 use Rattle.mini_model.specs.declared.name.Name.{Name}
@@ -9,7 +9,7 @@ use Rattle.mini_model.specs.declared.shape.Shape.{Shape}
 use Rattle.mini_model.specs.declared.shape.Shape.TheVariants as shape
 use Rattle.mini_model.specs.Tree.{Tree, Trees, none, ◌▸◌, listed, shape_of}
 use Rattle.mini_model.specs.Paths.{append}
-use Rattle.mini_accept.specs.WellShaped.{Depth, in_module, in_body, nested, Class, a_statement, a_loop_left, a_method, a_function_body, an_arrow_body, a_default_export, a_key, a_private_or_key, an_inner_key, Slot, one, one_or_absent, these, each, filling_by, slots_of, statement_slots, has_names, has_its_number, has_plain_fields, has_its_parts, is_whole, is_strict_in, class_of, filling, fits, fill}
+use Rattle.mini_accept.specs.WellShaped.{Depth, in_module, in_body, nested, Class, a_statement, a_loop_left, a_method, a_function_body, an_arrow_body, a_default_export, a_key, a_private_or_key, an_inner_key, Slot, one, one_or_absent, these, each, filling_by, slots_of, statement_slots, has_its_number, has_plain_fields, has_its_parts, is_whole, is_strict_in, class_of, filling, fits, fill}
 use Rattle.mini_laws.specs.Value.{Declared, VariableSet, nothing}
 use Rattle.mini_laws.specs.State.{State, Environment}
 use Rattle.mini_laws.specs.Demand.{Demand, As, Callee, OfType, Deleted, AnEntry, Stat, Request}

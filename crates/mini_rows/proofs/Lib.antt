@@ -109,7 +109,7 @@ pub mod SingleUse
 pub mod SingleWeights
 pub mod SingleMeaning
 pub mod SingleFits
-pub mod SingleKept
+pub mod DeclaredKept
 pub mod Surrogates
 pub mod ConstantMeaning
 pub mod ConstantWeights

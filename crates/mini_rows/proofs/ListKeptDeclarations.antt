@@ -133,7 +133,7 @@ over k t = node (shape.VariableDeclaration k) [] 0 (t ▸ none)
 
 -- its names are those of its declarators: lexical ones or hoisted ones
 
-abbrev is_var : VariableDeclarationKind → Bool
+abbrev pub is_var : VariableDeclarationKind → Bool
 is_var Var = true
 is_var k = false
 

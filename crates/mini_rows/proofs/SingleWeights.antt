@@ -1,6 +1,8 @@
 -- What a tree weighs with another in the place of what it reads first.
 use Rattle.std.proofs.Common.{◌≡◌, ℕ, suc, ◌+◌, ◌≤◌, Bool, true, false, [], ◌∷◌, List, Option, Some, None, refl, sym, ap, ◌∙◌, subst, true≢false, arith}
 use Rattle.std.specs.Prelude.{is_none, if◌then◌else◌}
+use Rattle.mini_model.specs.declared.kind.VariableDeclarationKind.{VariableDeclarationKind}
+use Rattle.mini_model.specs.declared.kind.VariableDeclarationKind.TheVariants.{Var, Let, Const}
 use Rattle.mini_model.specs.declared.name.Name.{Name}
 use Rattle.mini_model.specs.declared.name.SymbolId.{SymbolId}
 use Rattle.mini_model.specs.declared.place.Position.{Position}
@@ -17,7 +19,7 @@ use Rattle.mini_terms.specs.Reading.{is_plain_part}
 use Rattle.mini_rows.specs.Declarations.{binding, declarator}
 use Rattle.mini_rows.specs.Lists.{block}
 use Rattle.mini_rows.specs.Sketches.{shape_by, Asked, AsWholeItem, AsValue, AsValues, asked_below}
-use Rattle.mini_rows.specs.Unused.{resolved, lexical_among, lexical_left, put_first, reads_first}
+use Rattle.mini_rows.specs.Unused.{resolved, declared_among, declared_left, put_first, reads_first}
 use Rattle.mini_rows.proofs.BooleanWeights.{moved}
 use Rattle.mini_rows.proofs.ListWeights.{total, in_list, comma_list, declarators_append}
 use Rattle.mini_rows.proofs.SingleUse.{Lead, Not, Beside, Deciding, Choosing, Passing, Called, Member, Keyed, Listing, Doing, Giving, Raising, Testing, head_of, Step, led, is_end, Stands, Well, statement}
@@ -123,13 +125,11 @@ commas_more : (t : Tree) (first : Trees) (d : Tree) → commas_weight (outlines 
 commas_more t none d = refl
 commas_more t (c ▸ first) d = let rest = commas_more c first d in omega (arith, rest)
 
-left_falls : (c : Bool) (x : Name) (first : Trees) (init : Tree) → total (lexical_left c first ▸ none) + (weight (Expr argument_seat) init + 4) ≤ total (lexical_among c x first init ▸ none)
-left_falls true x none init = omega arith
-left_falls false x none init = omega arith
-left_falls true x (t ▸ first) init =
-    let d = declarator (binding x) init in
-    omega (arith, commas_more t first d, comma_list (t ▸ first), comma_list (append (t ▸ first) (d ▸ none)), declarators_append (t ▸ first) (d ▸ none))
-left_falls false x (t ▸ first) init =
+left_falls : (K : VariableDeclarationKind) (x : Name) (first : Trees) (init : Tree) → total (declared_left K first ▸ none) + (weight (Expr argument_seat) init + 4) ≤ total (declared_among K x first init none ▸ none)
+left_falls Var x none init = omega arith
+left_falls Let x none init = omega arith
+left_falls Const x none init = omega arith
+left_falls K x (t ▸ first) init =
     let d = declarator (binding x) init in
     omega (arith, commas_more t first d, comma_list (t ▸ first), comma_list (append (t ▸ first) (d ▸ none)), declarators_append (t ▸ first) (d ▸ none))
 
@@ -140,12 +140,12 @@ no_choice none after d e v w = refl
 no_choice (t ▸ none) after d e v w = refl
 no_choice (t ▸ (u ▸ before)) after d e v w = refl
 
-pub single_falls : (q : StmtSeat) (before : Trees) (c : Bool) (first : Trees) (s : List ℕ) (k : ℕ) (init head : Tree) (after : Trees) → is_plain_part init ≡ true → reads_first (resolved s k) head ≡ true → weight (Stmt q) (block (append before (lexical_left c first ▸ (put_first init head ▸ after)))) + 1 ≤ weight (Stmt q) (block (append before (lexical_among c (resolved s k) first init ▸ (head ▸ after))))
-single_falls q before c first s k init head after f e =
+pub single_falls : (q : StmtSeat) (before : Trees) (K : VariableDeclarationKind) (first : Trees) (s : List ℕ) (k : ℕ) (init head : Tree) (after : Trees) → is_plain_part init ≡ true → reads_first (resolved s k) head ≡ true → weight (Stmt q) (block (append before (declared_left K first ▸ (put_first init head ▸ after)))) + 1 ≤ weight (Stmt q) (block (append before (declared_among K (resolved s k) first init none ▸ (head ▸ after))))
+single_falls q before K first s k init head after f e =
     let x = resolved s k in
-    let d = lexical_among c x first init in
-    let left = lexical_left c first in
-    let one = left_falls c x first init in
+    let d = declared_among K x first init none in
+    let left = declared_left K first in
+    let one = left_falls K x first init in
     let other = head_falls s k head e stmt_seat.List init f in
     let less : total (left ▸ (put_first init head ▸ none)) + 1 ≤ total (d ▸ (head ▸ none)) = omega (arith, one, other) in
     let falls = in_list before (d ▸ (head ▸ none)) (left ▸ (put_first init head ▸ none)) after 1 less in

@@ -3,7 +3,7 @@ use Rattle.std.specs.Prelude.{ℕ, ◌≡◌, ◌⊎◌, refl, Bool, true, false
 use Rattle.std.proofs.Common.{ap, ◌∙◌, sym, subst, inl, inr, true≢false, arith}
 use Rattle.std.proofs.lemmas.Bool.{and_parts, le-leb}
 use Rattle.std.proofs.lemmas.List.{append-nil}
-use Rattle.mini_model.specs.declared.kind.VariableDeclarationKind.TheVariants.{Let}
+use Rattle.mini_model.specs.declared.kind.VariableDeclarationKind.{VariableDeclarationKind}
 use Rattle.mini_model.specs.declared.name.Name.{Name}
 use Rattle.mini_model.specs.declared.place.Position.{Position}
 use Rattle.mini_model.specs.declared.place.Position.TheVariants.{Stmt}
@@ -53,12 +53,12 @@ use Rattle.mini_terms.specs.Reading.{is_plain_part}
 use Rattle.mini_rows.specs.Arranged.{Vanishes}
 use Rattle.mini_rows.specs.Lists.{block, declares_nothing, declaration}
 use Rattle.mini_rows.specs.Declarations.{binding, declarator}
-use Rattle.mini_rows.specs.Unused.{resolved, let_one, any_names, is_idle, may_move, reads_first, BlockRow, let_among, lexical_kind, lexical_among, lexical_left, left_over, put_first}
+use Rattle.mini_rows.specs.Unused.{resolved, declared_one, any_names, is_idle, may_move, reads_first, BlockRow, declared_among, declared_left, put_first}
 use Rattle.mini_rows.proofs.ArrangedBodies.{quiet}
 use Rattle.mini_rows.proofs.FoldLawful.{vanishes}
 use Rattle.mini_rows.proofs.ListShapes.{declaration_anywhere, append_fits, both_fit, first_fits, more_fit}
-use Rattle.mini_rows.proofs.UnusedKept.{LeavesThere, leaves_alone, list_fixed, list_frames, list_bodies, list_declares, block_kept, block_less, block_keeps, value_leaves, idle_leaves}
-use Rattle.mini_rows.proofs.SingleKept.{single_leaves}
+use Rattle.mini_rows.proofs.UnusedKept.{LeavesThere, NamesThere, list_fixed, list_frames, list_bodies, list_declares, block_kept, block_less, block_keeps}
+use Rattle.mini_rows.proofs.DeclaredKept.{value_leaves, value_names, idle_leaves, idle_names, single_leaves, single_names}
 use Rattle.mini_rows.proofs.SingleFits.{put_fits}
 use Rattle.mini_rows.proofs.UnusedMeaning.{movable, row_72, row_72_idle, row_71}
 use Rattle.mini_rows.proofs.UnusedNames.{all_unmentioned, all_other}
@@ -131,51 +131,47 @@ pub empty_fits : (strict : Bool) → fits strict item empty_statement ≡ true
 empty_fits true = refl
 empty_fits false = refl
 
-pub value_fits : (strict : Bool) (x : Name) (init : Tree) → declares_nothing init ≡ true → fits strict item (let_one x init) ≡ true → fits strict item (expression_statement init) ≡ true
-value_fits strict x init d e =
+pub value_fits : (strict : Bool) (k : VariableDeclarationKind) (x : Name) (init : Tree) → declares_nothing init ≡ true → fits strict item (declared_one k x init) ≡ true → fits strict item (expression_statement init) ≡ true
+value_fits strict k x init d e =
     let ds : Trees = declarator (binding x) init ▸ none in
-    let all : (fill strict (each (one a_declarator)) ds && true) ≡ true = sym (declaration_anywhere strict nested Let ds) ∙ e in
+    let all : (fill strict (each (one a_declarator)) ds && true) ≡ true = sym (declaration_anywhere strict nested k ds) ∙ e in
     let (one_fits, rest) = first_fits strict (one a_declarator) (declarator (binding x) init) none (left (fill strict (each (one a_declarator)) ds) true all) in
     let (id, value) = and_parts (fits strict (one a_pattern) (binding x)) (fits strict (one_or_absent an_expression) init && true) one_fits in
     an_expression_fits strict init (there strict init d (left (fits strict (one_or_absent an_expression) init) true value))
 
-among_fits : (strict : Bool) (x : Name) (first last : Trees) (init : Tree) → nat_le 1 (count (append first last)) ≡ true → fits strict item (let_among x first init last) ≡ true → fits strict item (declaration Let (append first last)) ≡ true
-among_fits strict x first last init some e =
+among_fits : (strict : Bool) (k : VariableDeclarationKind) (x : Name) (first last : Trees) (init : Tree) → nat_le 1 (count (append first last)) ≡ true → fits strict item (declared_among k x first init last) ≡ true → fits strict item (declaration k (append first last)) ≡ true
+among_fits strict k x first last init some e =
     let ds = append first (declarator (binding x) init ▸ last) in
-    let all = (and_parts (nat_le 1 (count ds)) (fill strict (each (one a_declarator)) ds && true) (sym (declaration_anywhere strict nested Let ds) ∙ e)).1 in
+    let all = (and_parts (nat_le 1 (count ds)) (fill strict (each (one a_declarator)) ds && true) (sym (declaration_anywhere strict nested k ds) ∙ e)).1 in
     let (f, g) = both_fit strict (one a_declarator) first (declarator (binding x) init ▸ last) (left (fill strict (each (one a_declarator)) ds) true all) in
     let others = append_fits strict (one a_declarator) first last f (first_fits strict (one a_declarator) (declarator (binding x) init) last g).1 in
-    declaration_anywhere strict nested Let (append first last)
+    declaration_anywhere strict nested k (append first last)
     ∙ both (nat_le 1 (count (append first last))) (fill strict (each (one a_declarator)) (append first last) && true) some (both (fill strict (each (one a_declarator)) (append first last)) true others refl)
 
-pub left_fits : (strict : Bool) (x : Name) (first : Trees) (init : Tree) (last : Trees) → fits strict item (let_among x first init last) ≡ true → fits strict item (left_over (append first last)) ≡ true
-left_fits strict x none init none e = empty_fits strict
-left_fits strict x none init (t ▸ last) e = among_fits strict x none (t ▸ last) init (le-leb 1 (count (t ▸ last)) (omega arith)) e
-left_fits strict x (t ▸ first) init last e = among_fits strict x (t ▸ first) last init (le-leb 1 (count (t ▸ append first last)) (omega arith)) e
-
-none_after : (ts : Trees) → append ts none ≡ ts
-none_after none = refl
-none_after (t ▸ ts) = ap (λ us. t ▸ us) (none_after ts)
+pub left_fits : (strict : Bool) (k : VariableDeclarationKind) (x : Name) (first : Trees) (init : Tree) (last : Trees) → fits strict item (declared_among k x first init last) ≡ true → fits strict item (declared_left k (append first last)) ≡ true
+left_fits strict k x none init none e = empty_fits strict
+left_fits strict k x none init (t ▸ last) e = among_fits strict k x none (t ▸ last) init (le-leb 1 (count (t ▸ last)) (omega arith)) e
+left_fits strict k x (t ▸ first) init last e = among_fits strict k x (t ▸ first) last init (le-leb 1 (count (t ▸ append first last)) (omega arith)) e
 
 plain_there : (strict : Bool) (t : Tree) → is_plain_part t ≡ true → fits strict (one_or_absent an_expression) t ≡ true → fits strict (one an_expression) t ≡ true
 plain_there strict (node shape.Absent xs n ts) d e = absurd (true≢false (sym d))
 plain_there strict (node h xs n ts) d e = e
 
-lexical_fits : (strict : Bool) (c : Bool) (first : Trees) → fill strict (each (one a_declarator)) first ≡ true → fits strict item (lexical_left c first) ≡ true
-lexical_fits strict c none e = empty_fits strict
-lexical_fits strict c (t ▸ first) e =
-    declaration_anywhere strict nested (lexical_kind c) (t ▸ first)
+first_left_fits : (strict : Bool) (k : VariableDeclarationKind) (first : Trees) → fill strict (each (one a_declarator)) first ≡ true → fits strict item (declared_left k first) ≡ true
+first_left_fits strict k none e = empty_fits strict
+first_left_fits strict k (t ▸ first) e =
+    declaration_anywhere strict nested k (t ▸ first)
     ∙ both (nat_le 1 (count (t ▸ first))) (fill strict (each (one a_declarator)) (t ▸ first) && true) (le-leb 1 (count (t ▸ first)) (omega arith)) (both (fill strict (each (one a_declarator)) (t ▸ first)) true e refl)
 
-pub single_fits : (strict : Bool) (c : Bool) (x : Name) (first : Trees) (init head : Tree) → may_move init ≡ true → reads_first x head ≡ true → fits strict item (lexical_among c x first init) ≡ true → fits strict item head ≡ true → (fits strict item (lexical_left c first) ≡ true) × (fits strict item (put_first init head) ≡ true)
-single_fits strict c x first init head m r e f =
+pub single_fits : (strict : Bool) (k : VariableDeclarationKind) (x : Name) (first : Trees) (init head : Tree) → may_move init ≡ true → reads_first x head ≡ true → fits strict item (declared_among k x first init none) ≡ true → fits strict item head ≡ true → (fits strict item (declared_left k first) ≡ true) × (fits strict item (put_first init head) ≡ true)
+single_fits strict k x first init head m r e f =
     let ds : Trees = append first (declarator (binding x) init ▸ none) in
-    let all = (and_parts (nat_le 1 (count ds)) (fill strict (each (one a_declarator)) ds && true) (sym (declaration_anywhere strict nested (lexical_kind c) ds) ∙ e)).1 in
+    let all = (and_parts (nat_le 1 (count ds)) (fill strict (each (one a_declarator)) ds && true) (sym (declaration_anywhere strict nested k ds) ∙ e)).1 in
     let (g, h) = both_fit strict (one a_declarator) first (declarator (binding x) init ▸ none) (left (fill strict (each (one a_declarator)) ds) true all) in
     let (one_fits, rest) = first_fits strict (one a_declarator) (declarator (binding x) init) none h in
     let (id, value) = and_parts (fits strict (one a_pattern) (binding x)) (fits strict (one_or_absent an_expression) init && true) one_fits in
     let moves = plain_there strict init (movable init m) (left (fits strict (one_or_absent an_expression) init) true value) in
-    (lexical_fits strict c first g, put_fits strict x head r init moves f)
+    (first_left_fits strict k first g, put_fits strict x head r init moves f)
 
 -- ---- a name that is dropped
 
@@ -193,7 +189,7 @@ record Dropped (q : StmtSeat) (k : ℕ) (n w : Tree) : Type 0 where
   drops : (K : Shape → Bool) → Drops K k (Stmt q) n w
   declared_there : (x : Name) → Contains (declared w) x → Contains (declared n) x
 
-module _ (q : StmtSeat) (s : List ℕ) (k : ℕ) (before after d w : Trees) (l : LeavesThere (resolved s k) d w) (earlier : any_names (resolved s k) before ≡ false) (later : any_names (resolved s k) after ≡ false) where
+module _ (q : StmtSeat) (s : List ℕ) (k : ℕ) (before after d w : Trees) (l : LeavesThere (resolved s k) d w) (n : NamesThere (resolved s k) d w) (earlier : any_names (resolved s k) before ≡ false) (later : any_names (resolved s k) after ≡ false) where
   abbrev x : Name
   x = resolved s k
 
@@ -225,10 +221,10 @@ module _ (q : StmtSeat) (s : List ℕ) (k : ℕ) (before after d w : Trees) (l :
       let p = all_other x Lexical after later in
       let m = gone (record { name = x; hoists = false }) before after w (all_unmentioned x k refl before earlier) l.unmentioned (all_unmentioned x k refl after later) in
       record {
-        keeps = in_order (Stmt q) (block first_list) (block second_list) (block_keeps x before after d w l o p m q);
+        keeps = in_order (Stmt q) (block first_list) (block second_list) (block_keeps x before after d w l n o p m q);
         drops = λ K. record {
-          kept = block_kept x before after d w l o p;
-          less = block_less x before after d w l o p k refl;
+          kept = block_kept x before after d w l n o p;
+          less = block_less x before after d w l n o p k refl;
           same = same;
           fixed = block_fixed;
           frames = λ strict c g f. kept_shown (gone_from K (alone (Declared k))) no_key (frames None (block first_list)) (frames None (block second_list)) block_frames;
@@ -264,20 +260,22 @@ row_dropped : (q : StmtSeat) (n w : Tree) → BlockRow n w → (k : ℕ) × Drop
 row_dropped q n w (inl r) =
     let x = resolved r.spelling r.symbol in (
       r.symbol,
-      moved q r.symbol n w _ _ r.shape r.written (dropped q r.spelling r.symbol r.before r.after (let_one x r.init ▸ none) (expression_statement r.init ▸ none) (leaves_alone x (let_one x r.init) (expression_statement r.init) (value_leaves x r.init r.symbol refl r.unused.initial)) r.unused.earlier r.unused.later
-          (λ e z. in_tails e q (alone (Declared r.symbol)) _ _ (row_72 e r.symbol z _ _ (record { before = r.before; spelling = r.spelling; symbol = r.symbol; init = r.init; after = r.after; present = r.present; unused = r.unused; shape = refl; written = refl }) refl))),
+      moved q r.symbol n w _ _ r.shape r.written (dropped q r.spelling r.symbol r.before r.after (declared_one r.kind x r.init ▸ none) (expression_statement r.init ▸ none) (value_leaves r.kind x r.symbol refl r.init r.unused.initial) (value_names r.kind x r.symbol refl r.init r.unused.initial r.lexical) r.unused.earlier r.unused.later
+          (λ e z. in_tails e q (alone (Declared r.symbol)) _ _ (row_72 e r.symbol z _ _ (record { before = r.before; kind = r.kind; spelling = r.spelling; symbol = r.symbol; init = r.init; after = r.after; lexical = r.lexical; present = r.present; unused = r.unused; shape = refl; written = refl }) refl))),
     )
 row_dropped q n w (inr (inl r)) =
-    let x = resolved r.spelling r.symbol in (
+    let x = resolved r.spelling r.symbol in
+    let v = idle_vanishes r.init r.idle in (
       r.symbol,
-      moved q r.symbol n w _ _ r.shape r.written (dropped q r.spelling r.symbol r.before r.after (let_among x r.first r.init r.last ▸ none) (left_over (append r.first r.last) ▸ none) (leaves_alone x (let_among x r.first r.init r.last) (left_over (append r.first r.last)) (idle_leaves x r.symbol refl r.first r.init r.last (idle_vanishes r.init r.idle) r.unused.declared_earlier r.unused.declared_later)) r.unused.earlier r.unused.later
-          (λ e z. in_tails e q (alone (Declared r.symbol)) _ _ (row_72_idle e r.symbol z _ _ (record { before = r.before; first = r.first; spelling = r.spelling; symbol = r.symbol; init = r.init; last = r.last; after = r.after; idle = r.idle; unused = r.unused; shape = refl; written = refl }) refl))),
+      moved q r.symbol n w _ _ r.shape r.written (dropped q r.spelling r.symbol r.before r.after (declared_among r.kind x r.first r.init r.last ▸ none) (declared_left r.kind (append r.first r.last) ▸ none) (idle_leaves r.kind x r.symbol refl r.first r.init r.last v r.unused.declared_earlier r.unused.declared_later) (idle_names r.kind x r.symbol refl r.first r.init r.last v r.unused.declared_earlier r.unused.declared_later r.lexical) r.unused.earlier r.unused.later
+          (λ e z. in_tails e q (alone (Declared r.symbol)) _ _ (row_72_idle e r.symbol z _ _ (record { before = r.before; kind = r.kind; first = r.first; spelling = r.spelling; symbol = r.symbol; init = r.init; last = r.last; after = r.after; lexical = r.lexical; idle = r.idle; unused = r.unused; shape = refl; written = refl }) refl))),
     )
 row_dropped q n w (inr (inr r)) =
-    let x = resolved r.spelling r.symbol in (
+    let x = resolved r.spelling r.symbol in
+    let plain = movable r.init r.moves in (
       r.symbol,
-      moved q r.symbol n w _ _ r.shape r.written (dropped q r.spelling r.symbol r.before r.after (lexical_among r.is_constant x r.first r.init ▸ (r.head ▸ none)) (lexical_left r.is_constant r.first ▸ (put_first r.init r.head ▸ none)) (single_leaves r.is_constant x r.symbol refl r.first r.init r.head (movable r.init r.moves) r.once r.initial r.declared_earlier) r.earlier r.later
-          (λ e z. in_tails e q (alone (Declared r.symbol)) _ _ (row_71 e r.symbol z _ _ (record { before = r.before; is_constant = r.is_constant; first = r.first; spelling = r.spelling; symbol = r.symbol; init = r.init; head = r.head; after = r.after; moves = r.moves; once = r.once; earlier = r.earlier; declared_earlier = r.declared_earlier; initial = r.initial; later = r.later; unseen = r.unseen; shape = refl; written = refl }) refl))),
+      moved q r.symbol n w _ _ r.shape r.written (dropped q r.spelling r.symbol r.before r.after (declared_among r.kind x r.first r.init none ▸ (r.head ▸ none)) (declared_left r.kind r.first ▸ (put_first r.init r.head ▸ none)) (single_leaves r.kind x r.symbol refl r.first r.init r.head plain r.once r.initial r.declared_earlier) (single_names r.kind x r.symbol refl r.first r.init r.head plain r.once r.initial r.declared_earlier r.lexical) r.earlier r.later
+          (λ e z. in_tails e q (alone (Declared r.symbol)) _ _ (row_71 e r.symbol z _ _ (record { before = r.before; kind = r.kind; first = r.first; spelling = r.spelling; symbol = r.symbol; init = r.init; head = r.head; after = r.after; lexical = r.lexical; moves = r.moves; once = r.once; earlier = r.earlier; declared_earlier = r.declared_earlier; initial = r.initial; later = r.later; unseen = r.unseen; shape = refl; written = refl }) refl))),
     )
 
 record Blocks (n w : Tree) : Type 0 where
@@ -289,23 +287,23 @@ record Blocks (n w : Tree) : Type 0 where
 
 row_blocks : (q : StmtSeat) (n w : Tree) → BlockRow n w → Blocks n w
 row_blocks q n w (inl r) =
-    let d = let_one (resolved r.spelling r.symbol) r.init in
-    record { first = append r.before (d ▸ r.after); second = append r.before (expression_statement r.init ▸ r.after); before = r.shape; after = r.written; fitting = λ strict. one_item strict r.before r.after d (expression_statement r.init) (value_fits strict (resolved r.spelling r.symbol) r.init r.present) }
+    let d = declared_one r.kind (resolved r.spelling r.symbol) r.init in
+    record { first = append r.before (d ▸ r.after); second = append r.before (expression_statement r.init ▸ r.after); before = r.shape; after = r.written; fitting = λ strict. one_item strict r.before r.after d (expression_statement r.init) (value_fits strict r.kind (resolved r.spelling r.symbol) r.init r.present) }
 row_blocks q n w (inr (inl r)) =
     let x = resolved r.spelling r.symbol in
-    let d = let_among x r.first r.init r.last in
-    let left = left_over (append r.first r.last) in
-    record { first = append r.before (d ▸ r.after); second = append r.before (left ▸ r.after); before = r.shape; after = r.written; fitting = λ strict. one_item strict r.before r.after d left (left_fits strict x r.first r.init r.last) }
+    let d = declared_among r.kind x r.first r.init r.last in
+    let left = declared_left r.kind (append r.first r.last) in
+    record { first = append r.before (d ▸ r.after); second = append r.before (left ▸ r.after); before = r.shape; after = r.written; fitting = λ strict. one_item strict r.before r.after d left (left_fits strict r.kind x r.first r.init r.last) }
 row_blocks q n w (inr (inr r)) =
     let x = resolved r.spelling r.symbol in
-    let d = lexical_among r.is_constant x r.first r.init in
-    let left = lexical_left r.is_constant r.first in
+    let d = declared_among r.kind x r.first r.init none in
+    let left = declared_left r.kind r.first in
     record {
       first = append r.before (d ▸ (r.head ▸ r.after));
       second = append r.before (left ▸ (put_first r.init r.head ▸ r.after));
       before = r.shape;
       after = r.written;
-      fitting = λ strict. two_items strict r.before r.after d r.head left (put_first r.init r.head) (λ f g. single_fits strict r.is_constant x r.first r.init r.head r.moves r.once f g);
+      fitting = λ strict. two_items strict r.before r.after d r.head left (put_first r.init r.head) (λ f g. single_fits strict r.kind x r.first r.init r.head r.moves r.once f g);
     }
 
 -- of two blocks, whatever is told by their shape

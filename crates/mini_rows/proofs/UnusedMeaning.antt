@@ -1,22 +1,24 @@
 -- A block without a name that nothing mentions means the same, but for what that variable holds afterwards.
-use Rattle.std.specs.Prelude.{◌&&◌, ◌||◌, not, Bool, Option}
+use Rattle.std.specs.Prelude.{◌⊎◌, ◌&&◌, ◌||◌, not, Bool, Option}
 use Rattle.std.proofs.lemmas.Bool.{eq-eqb, eqb-true, and_parts}
 use Rattle.std.proofs.lemmas.List.{append-nil}
-use Rattle.std.proofs.Common.{◌≡◌, ℕ, true, false, List, [], ◌∷◌, ◌++◌, None, Some, refl, sym, ap, ◌∙◌, subst, subst₂, true≢false, append_assoc}
-use Rattle.mini_model.specs.declared.kind.VariableDeclarationKind.TheVariants.{Let, Const}
+use Rattle.std.proofs.Common.{◌≡◌, ℕ, true, false, List, [], ◌∷◌, ◌++◌, None, Some, refl, sym, ap, ◌∙◌, subst, subst₂, inl, inr, true≢false, append_assoc}
+use Rattle.mini_model.specs.declared.kind.VariableDeclarationKind.{VariableDeclarationKind}
+use Rattle.mini_model.specs.declared.kind.VariableDeclarationKind.TheVariants.{Var, Let, Const}
 use Rattle.mini_model.specs.declared.name.Name.{Name}
 use Rattle.mini_model.specs.declared.name.SymbolId.{SymbolId}
 use Rattle.mini_model.specs.declared.operator.UnaryOperator.TheVariants.{LogicalNot}
 use Rattle.mini_model.specs.declared.shape.Shape.TheVariants as shape
 use Rattle.mini_model.specs.Tree.{Tree, Trees, node, none, ◌▸◌, absent, listed, shape_of, identifier, empty_statement, expression_statement}
 use Rattle.mini_model.specs.Paths.{append}
-use Rattle.mini_laws.specs.Value.{Value, Undefined, Variable, Declared, VariableSet, Holds, choose, variable_eq, is_in, nothing}
-use Rattle.mini_laws.specs.State.{State, Completion, ok, stop, halt, out, either, Environment, with_vars}
+use Rattle.mini_laws.specs.Value.{Value, Undefined, Variable, Declared, VariableSet, Slot, Holds, Missing, Uninitialised, choose, variable_eq, is_in, nothing}
+use Rattle.mini_laws.specs.State.{State, Completion, ok, stop, halt, out, either, Writable, Environment, with_vars}
 use Rattle.mini_laws.specs.Demand.{Val, Unused, Tail, FunctionTail, As, Stat, Declares, Binds}
-use Rattle.mini_laws.specs.Command.{set_var, run, note, act, at_variable}
+use Rattle.mini_laws.specs.Command.{set_var, run, note, act, at_variable, write_slot}
 use Rattle.mini_laws.specs.State.{FreshOf}
-use Rattle.mini_laws.specs.Naming.{summary, summaries, facts_all, lets_all, functions_all, function_facts, texts_all, naming}
-use Rattle.mini_laws.specs.Asking.{first_demand}
+use Rattle.mini_laws.specs.Naming.{summary, summaries, facts_all, lets_all, functions_all, function_facts, texts_all, naming, is_lexical}
+use Rattle.mini_laws.specs.Asking.{demand, first_demand}
+use Rattle.mini_laws.specs.Replies.{by_fixity}
 use Rattle.mini_laws.specs.Declarations.{declares_by}
 use Rattle.mini_laws.specs.Skeleton.{hidden_all}
 use Rattle.mini_laws.specs.Path.{here, inside}
@@ -42,7 +44,7 @@ use Rattle.mini_terms.proofs.Dropping.{does_nothing, weak}
 use Rattle.mini_rows.specs.Lists.{block, declaration, declares_nothing}
 use Rattle.mini_rows.specs.Declarations.{binding, declarator}
 use Rattle.mini_rows.specs.Sketches.{shape_by, AsWholeItem}
-use Rattle.mini_rows.specs.Unused.{resolved, names, any_names, let_among, let_one, is_idle, left_over, lexical_kind, lexical_among, lexical_left, is_definition, may_move, put_first, reads_first, statements, Row72, Row72Idle, Row71}
+use Rattle.mini_rows.specs.Unused.{resolved, names, any_names, declared_among, declared_one, is_idle, declared_left, is_definition, may_move, put_first, reads_first, statements, Row72, Row72Idle, Row71}
 use Rattle.mini_rows.proofs.FoldMeaning.{plain_read}
 use Rattle.mini_rows.proofs.SingleUse.{Lead, Doing, Giving, Raising, Testing, head_of, Step, led, is_end, Stands, Well, statement, unnamed}
 use Rattle.mini_rows.proofs.SingleMeaning.{first_goes}
@@ -70,6 +72,26 @@ all_join : (D : VariableSet) (a b : Trees) → AllAvoid D a → AllAvoid D b →
 all_join D none b p q = q
 all_join D (t ▸ a) b p q = (p.0, all_join D a b p.1 q)
 
+-- the later variables lack one of the earlier, or they are the same
+abbrev OneLess : ℕ → List Variable → List Variable → Type 0
+OneLess k xs ys = ((first : List Variable) × (last : List Variable) × (xs ≡ first ++ Declared k ∷ last) × (ys ≡ first ++ last)) ⊎ (xs ≡ ys)
+
+-- what a write does to what the variable holds
+abbrev writes : Variable → Value → Slot → State → Completion (Unit {0})
+writes x v o s = either (write_slot x v o s) (λ u z. ok tt z) (λ y z. stop y z)
+
+written : (x : Variable) (w v : Value) (s : State) → writes x v (Holds w) s ≡ ok tt (with_vars s (set_var s.vars x (Holds v)))
+unfolding write_slot either
+written x w v s = refl
+
+missing : (x : Variable) (v : Value) (s : State) → writes x v Missing s ≡ out
+unfolding write_slot either
+missing x v s = refl
+
+unset : (x : Variable) (v : Value) (s : State) → writes x v Uninitialised s ≡ out
+unfolding write_slot either
+unset x v s = refl
+
 module _ (e : Environment) (spelling : List ℕ) (k : ℕ) (z : Unseen (alone (Declared k)) e) where
   abbrev D : VariableSet
   D = alone (Declared k)
@@ -91,22 +113,45 @@ module _ (e : Environment) (spelling : List ℕ) (k : ℕ) (z : Unseen (alone (D
   abbrev after : Value → State → State
   after v s = with_vars s (set_var s.vars (Declared k) (Holds v))
 
-  binds : (v : Value) (s : State) → means e (binding x) (Binds true) v s ≡ ok tt (after v s)
+  -- a lexical name is initialised by a value, and a `var` that may be written and holds one is written (ECMA-262, "PutValue")
+  lexical_binds : (v : Value) (s : State) → means e (binding x) (Binds true) v s ≡ ok tt (after v s)
   unfolding means meaning step either act at_variable
-  binds v s = ap (λ b. let t = choose b (note e FreshOf None [] (Some (Declared k)) s) s in ok tt (with_vars t (set_var t.vars (Declared k) (Holds v)))) unshared
+  lexical_binds v s = ap (λ b. let t = choose b (note e FreshOf None [] (Some (Declared k)) s) s in ok tt (with_vars t (set_var t.vars (Declared k) (Holds v)))) unshared
 
-  initialised : (v : Tree) → (summary v).facts.absent ≡ false → (s : State) → means e (declarator (binding x) v) (Declares true) tt s ≡ either (means e v (As Val) tt s) (λ a z. means e (binding x) (Binds true) a z) (λ x z. stop x z)
+  var_writes : e.fixed (Declared k) ≡ Writable → (v : Value) (s : State) → means e (binding x) (Binds false) v s ≡ writes (Declared k) v (s.vars (Declared k)) s
+  unfolding means meaning step either act at_variable
+  var_writes h v s =
+      ap (λ f. run {q = demand shape.BindingIdentifier [] (Binds false)} e (naming shape.BindingIdentifier (Binds false) (Declared k ∷ []) 0 []) (λ i r z. meaning e none i (demand shape.BindingIdentifier [] (Binds false) i) r z) (by_fixity v f) s) h
+
+  var_binds : e.fixed (Declared k) ≡ Writable → (v : Value) (s : State) → (means e (binding x) (Binds false) v s ≡ ok tt (after v s)) ⊎ (means e (binding x) (Binds false) v s ≡ out)
+  var_binds h v s = by (s.vars (Declared k)) refl
+    where
+      wrote : (o : Slot) → s.vars (Declared k) ≡ o → means e (binding x) (Binds false) v s ≡ writes (Declared k) v o s
+      wrote o q = var_writes h v s ∙ ap (λ o. writes (Declared k) v o s) q
+
+      by : (o : Slot) → s.vars (Declared k) ≡ o → (means e (binding x) (Binds false) v s ≡ ok tt (after v s)) ⊎ (means e (binding x) (Binds false) v s ≡ out)
+      by (Holds w) q = inl (wrote (Holds w) q ∙ written (Declared k) w v s)
+      by Missing q = inr (wrote Missing q ∙ missing (Declared k) v s)
+      by Uninitialised q = inr (wrote Uninitialised q ∙ unset (Declared k) v s)
+
+  binds : (l : Bool) → (l ≡ false → e.fixed (Declared k) ≡ Writable) → (v : Value) (s : State) → (means e (binding x) (Binds l) v s ≡ ok tt (after v s)) ⊎ (means e (binding x) (Binds l) v s ≡ out)
+  binds true p v s = inl (lexical_binds v s)
+  binds false p v s = var_binds (p refl) v s
+
+  initialised : (l : Bool) (v : Tree) → (summary v).facts.absent ≡ false → (s : State) → means e (declarator (binding x) v) (Declares l) tt s ≡ either (means e v (As Val) tt s) (λ a z. means e (binding x) (Binds l) a z) (λ x z. stop x z)
   unfolding means meaning step
-  initialised v h s =
-      ap (λ b. run {q = first_demand (Binds true) (As Val)} e (naming shape.VariableDeclarator (Declares true) [] 0 (summaries (binding x ▸ (v ▸ none)))) (λ i r z. meaning e (binding x ▸ (v ▸ none)) i (first_demand (Binds true) (As Val) i) r z) (declares_by true b) s) h
-      ∙ either_cong (means e v (As Val) tt s) _ _ _ _ (λ a z. either_eta (means e (binding x) (Binds true) a z)) (λ x z. refl)
+  initialised l v h s =
+      ap (λ b. run {q = first_demand (Binds l) (As Val)} e (naming shape.VariableDeclarator (Declares l) [] 0 (summaries (binding x ▸ (v ▸ none)))) (λ i r z. meaning e (binding x ▸ (v ▸ none)) i (first_demand (Binds l) (As Val) i) r z) (declares_by l b) s) h
+      ∙ either_cong (means e v (As Val) tt s) _ _ _ _ (λ a z. either_eta (means e (binding x) (Binds l) a z)) (λ x z. refl)
 
   bare : (s : State) → means e (declarator (binding x) absent) (Declares true) tt s ≡ means e (binding x) (Binds true) Undefined s
   unfolding means meaning step
   bare s = either_eta (means e (binding x) (Binds true) Undefined s)
 
-  let_is : (init : Tree) (s : State) → means e (let_one x init) (Stat None) [] s ≡ means e (declarator (binding x) init) (Declares true) tt s
-  let_is init s = declaration_is e Let (declarator (binding x) init ▸ none) [] s ∙ declare_more e (declarator (binding x) init) none true s ∙ either_cong (means e (declarator (binding x) init) (Declares true) tt s) _ _ _ _ (λ u y. declare_none e true y) (λ y r. refl) ∙ either_eta (means e (declarator (binding x) init) (Declares true) tt s)
+  -- a `var` keeps its value
+  bare_var : (s : State) → means e (declarator (binding x) absent) (Declares false) tt s ≡ ok tt s
+  unfolding means meaning step
+  bare_var s = refl
 
   agrees : (v : Value) (s : State) → Agree D (after v s) s
   agrees v s = record { vars = λ y d. ap (λ c. choose c (Holds v) (s.vars y)) d; self = refl; answers = refl; turns = refl; events = refl }
@@ -124,16 +169,17 @@ module _ (e : Environment) (spelling : List ℕ) (k : ℕ) (z : Unseen (alone (D
   goes (halt y s) = (refl, itself s)
   goes out = tt
 
-  let_goes : (init : Tree) → (summary init).facts.absent ≡ false → (s : State) → Go (means e (let_one x init) (Stat None) [] s) (means e (expression_statement init) (Stat None) [] s)
-  let_goes init h s =
-      subst₂ Go
-      (sym (let_is init s ∙ initialised init h s ∙ either_cong (means e init (As Val) tt s) _ _ _ _ (λ v z. binds v z) (λ y z. refl)))
-      (sym (expression_is e init [] s ∙ coherent init Unused e s))
-      (goes (means e init (As Val) tt s))
-
-  bare_goes : (s : State) → Go (means e (let_one x absent) (Stat None) [] s) (means e empty_statement (Stat None) [] s)
-  unfolding Goes
-  bare_goes s = subst₂ Go (sym (let_is absent s ∙ bare s ∙ binds Undefined s)) (sym (empty_is e [] s)) (refl, agrees Undefined s)
+  -- where a run is outside the model nothing is asked
+  without_out : (c : Completion Value) (f g : Value → State → Completion (Unit {0})) (y : Completion (Unit {0})) → ((v : Value) (s : State) → (f v s ≡ g v s) ⊎ (f v s ≡ out)) → Go (either c g (λ y z. stop y z)) y → Go (either c f (λ y z. stop y z)) y
+  unfolding either
+  without_out (ok v s) f g y h go = by (h v s)
+    where
+      by : (f v s ≡ g v s) ⊎ (f v s ≡ out) → Go (f v s) y
+      by (inl q) = subst (λ a. Go a y) (sym q) go
+      by (inr q) = subst (λ a. Go a y) (sym q) (weak D y)
+  without_out (stop x s) f g y h go = go
+  without_out (halt x s) f g y h go = go
+  without_out out f g y h go = go
 
   one_same : (d w : Tree) → ((s : State) → Go (means e d (Stat None) [] s) (means e w (Stat None) [] s)) → Same e D nothing (Stat None) (listed (d ▸ none)) (listed (w ▸ none))
   one_same d w g = record { by = λ r s i. subst₂ Go (sym (listed_is e (d ▸ none) r s ∙ exec_one e d s)) (sym (listed_is e (w ▸ none) r s ∙ exec_one e w s)) (g s) }
@@ -141,27 +187,6 @@ module _ (e : Environment) (spelling : List ℕ) (k : ℕ) (z : Unseen (alone (D
   -- as a list
   abbrev SameAlone : Tree → Tree → Type 0
   SameAlone d w = Same e D nothing (Stat None) (listed (d ▸ none)) (listed (w ▸ none))
-
-  pub value_same : (init : Tree) → declares_nothing init ≡ true → SameAlone (let_one x init) (expression_statement init)
-  value_same init h = one_same (let_one x init) (expression_statement init) (let_goes init (there init h))
-
-  idle_same : (init : Tree) → is_idle init ≡ true → SameAlone (let_one x init) empty_statement
-  idle_same init h = by (is_absent_part init) refl
-    where
-      by : (b : Bool) → is_absent_part init ≡ b → SameAlone (let_one x init) empty_statement
-      by true a = subst (λ t. SameAlone (let_one x t) empty_statement) (sym (absent_is init a)) (one_same (let_one x absent) empty_statement bare_goes)
-      by false a =
-          let (present, quiet) = and_parts (declares_nothing init) (is_effect_free init && leaves_nothing init) (sym (ap (λ b. b || (declares_nothing init && (is_effect_free init && leaves_nothing init))) a) ∙ h) in
-          let (free, dropped) = and_parts (is_effect_free init) (leaves_nothing init) quiet in
-          transitive e D nothing (Stat None) (listed (let_one x init ▸ none)) (listed (expression_statement init ▸ none)) (listed (empty_statement ▸ none)) (value_same init present)
-          (one_same (expression_statement init) empty_statement (λ s. (does_nothing init free e D nothing None).by [] s (no_init s)))
-
-  -- ---- among other declarators
-
-  idle_ends : (init : Tree) → is_idle init ≡ true → (s : State) → Go (means e (let_one x init) (Stat None) [] s) (ok tt s)
-  idle_ends init h s =
-      let alone_is = λ (t : Tree). listed_is e (t ▸ none) [] s ∙ exec_one e t s in
-      subst₂ Go (alone_is (let_one x init)) (alone_is empty_statement ∙ empty_is e [] s) ((idle_same init h).by [] s (no_init s))
 
   abbrev Then : Completion (Unit {0}) → (State → Completion (Unit {0})) → Completion (Unit {0})
   Then c f = either c (λ u z. f z) (λ y z. stop y z)
@@ -180,23 +205,74 @@ module _ (e : Environment) (spelling : List ℕ) (k : ℕ) (z : Unseen (alone (D
   both_go (halt y z) f g h = (refl, itself z)
   both_go out f g h = tt
 
-  module _ (first last : Trees) (init : Tree) (h : is_idle init ≡ true) (a : AllAvoid D last) where
-    abbrev these : Trees → State → Completion (Unit {0})
-    these ds z = means e (declaration Let ds) (Stat None) [] z
+  bare_one : (l : Bool) (s : State) → Go (means e (declarator (binding x) absent) (Declares l) tt s) (ok tt s)
+  unfolding Goes
+  bare_one true s = subst (λ c. Go c (ok tt s)) (sym (bare s ∙ lexical_binds Undefined s)) (refl, agrees Undefined s)
+  bare_one false s = subst (λ c. Go c (ok tt s)) (sym (bare_var s)) (refl, itself s)
 
-    last_go : (s : State) → Go (these (declarator (binding x) init ▸ last) s) (these last s)
-    last_go s = subst (λ c. Go c (these last s)) (sym (declarations_join e Let (declarator (binding x) init ▸ none) last s)) (then_go (means e (let_one x init) (Stat None) [] s) s (these last) (idle_ends init h s) (λ z g. insensitive e D apart (declaration Let last) (tt, ((tt, a), tt)) (Stat None) [] z s g))
+  -- of a kind of declaration: a `var` is one that may be written
+  module _ (K : VariableDeclarationKind) (permit : is_lexical K ≡ false → e.fixed (Declared k) ≡ Writable) where
+    declared_is : (init : Tree) (s : State) → means e (declared_one K x init) (Stat None) [] s ≡ means e (declarator (binding x) init) (Declares (is_lexical K)) tt s
+    declared_is init s =
+        declaration_is e K (declarator (binding x) init ▸ none) [] s ∙ declare_more e (declarator (binding x) init) none (is_lexical K) s
+        ∙ either_cong (means e (declarator (binding x) init) (Declares (is_lexical K)) tt s) _ _ _ _ (λ u y. declare_none e (is_lexical K) y) (λ y r. refl) ∙ either_eta (means e (declarator (binding x) init) (Declares (is_lexical K)) tt s)
 
-    among_go : (s : State) → Go (these (append first (declarator (binding x) init ▸ last)) s) (these (append first last) s)
-    among_go s = subst₂ Go (sym (declarations_join e Let first (declarator (binding x) init ▸ last) s)) (sym (declarations_join e Let first last s)) (both_go (these first s) (these (declarator (binding x) init ▸ last)) (these last) last_go)
+    -- what goes on after it
+    declared_then : (init : Tree) → (summary init).facts.absent ≡ false → (f : State → Completion (Unit {0})) (s : State) (y : Completion (Unit {0})) → Go (either (means e init (As Val) tt s) (λ v z. f (after v z)) (λ y z. stop y z)) y → Go (Then (means e (declared_one K x init) (Stat None) [] s) f) y
+    unfolding either
+    declared_then init h f s y go =
+        subst (λ c. Go c y) (sym (ap (λ c. Then c f) (declared_is init s ∙ initialised (is_lexical K) init h s) ∙ either_assoc (means e init (As Val) tt s) _ _ _ _))
+        (without_out (means e init (As Val) tt s) (λ v z. Then (means e (binding x) (Binds (is_lexical K)) v z) f) (λ v z. f (after v z)) y (λ v z. by v z (binds (is_lexical K) permit v z)) go)
+      where
+        by : (v : Value) (z : State) → (means e (binding x) (Binds (is_lexical K)) v z ≡ ok tt (after v z)) ⊎ (means e (binding x) (Binds (is_lexical K)) v z ≡ out) → (Then (means e (binding x) (Binds (is_lexical K)) v z) f ≡ f (after v z)) ⊎ (Then (means e (binding x) (Binds (is_lexical K)) v z) f ≡ out)
+        by v z (inl q) = inl (ap (λ c. Then c f) q)
+        by v z (inr q) = inr (ap (λ c. Then c f) q)
 
-    among_same : SameAlone (let_among x first init last) (declaration Let (append first last))
-    among_same = one_same (let_among x first init last) (declaration Let (append first last)) among_go
+    value_goes : (init : Tree) → (summary init).facts.absent ≡ false → (s : State) → Go (means e (declared_one K x init) (Stat None) [] s) (means e (expression_statement init) (Stat None) [] s)
+    value_goes init h s =
+        subst₂ Go (either_eta (means e (declared_one K x init) (Stat None) [] s)) (sym (expression_is e init [] s ∙ coherent init Unused e s)) (declared_then init h (λ z. ok tt z) s (told Unused (means e init (As Val) tt s)) (goes (means e init (As Val) tt s)))
 
-  pub left_same : (first last : Trees) (init : Tree) → is_idle init ≡ true → AllAvoid D last → SameAlone (let_among x first init last) (left_over (append first last))
-  left_same none none init h a = idle_same init h
-  left_same none (t ▸ last) init h a = among_same none (t ▸ last) init h a
-  left_same (t ▸ first) last init h a = among_same (t ▸ first) last init h a
+    bare_goes : (s : State) → Go (means e (declared_one K x absent) (Stat None) [] s) (means e empty_statement (Stat None) [] s)
+    bare_goes s = subst₂ Go (sym (declared_is absent s)) (sym (empty_is e [] s)) (bare_one (is_lexical K) s)
+
+    pub value_same : (init : Tree) → declares_nothing init ≡ true → SameAlone (declared_one K x init) (expression_statement init)
+    value_same init h = one_same (declared_one K x init) (expression_statement init) (value_goes init (there init h))
+
+    idle_same : (init : Tree) → is_idle init ≡ true → SameAlone (declared_one K x init) empty_statement
+    idle_same init h = by (is_absent_part init) refl
+      where
+        by : (b : Bool) → is_absent_part init ≡ b → SameAlone (declared_one K x init) empty_statement
+        by true a = subst (λ t. SameAlone (declared_one K x t) empty_statement) (sym (absent_is init a)) (one_same (declared_one K x absent) empty_statement bare_goes)
+        by false a =
+            let (present, quiet) = and_parts (declares_nothing init) (is_effect_free init && leaves_nothing init) (sym (ap (λ b. b || (declares_nothing init && (is_effect_free init && leaves_nothing init))) a) ∙ h) in
+            let (free, dropped) = and_parts (is_effect_free init) (leaves_nothing init) quiet in
+            transitive e D nothing (Stat None) (listed (declared_one K x init ▸ none)) (listed (expression_statement init ▸ none)) (listed (empty_statement ▸ none)) (value_same init present)
+            (one_same (expression_statement init) empty_statement (λ s. (does_nothing init free e D nothing None).by [] s (no_init s)))
+
+    -- ---- among other declarators
+
+    idle_ends : (init : Tree) → is_idle init ≡ true → (s : State) → Go (means e (declared_one K x init) (Stat None) [] s) (ok tt s)
+    idle_ends init h s =
+        let alone_is = λ (t : Tree). listed_is e (t ▸ none) [] s ∙ exec_one e t s in
+        subst₂ Go (alone_is (declared_one K x init)) (alone_is empty_statement ∙ empty_is e [] s) ((idle_same init h).by [] s (no_init s))
+
+    module _ (first last : Trees) (init : Tree) (h : is_idle init ≡ true) (a : AllAvoid D last) where
+      abbrev these : Trees → State → Completion (Unit {0})
+      these ds z = means e (declaration K ds) (Stat None) [] z
+
+      last_go : (s : State) → Go (these (declarator (binding x) init ▸ last) s) (these last s)
+      last_go s = subst (λ c. Go c (these last s)) (sym (declarations_join e K (declarator (binding x) init ▸ none) last s)) (then_go (means e (declared_one K x init) (Stat None) [] s) s (these last) (idle_ends init h s) (λ z g. insensitive e D apart (declaration K last) (tt, ((tt, a), tt)) (Stat None) [] z s g))
+
+      among_go : (s : State) → Go (these (append first (declarator (binding x) init ▸ last)) s) (these (append first last) s)
+      among_go s = subst₂ Go (sym (declarations_join e K first (declarator (binding x) init ▸ last) s)) (sym (declarations_join e K first last s)) (both_go (these first s) (these (declarator (binding x) init ▸ last)) (these last) last_go)
+
+      among_same : SameAlone (declared_among K x first init last) (declaration K (append first last))
+      among_same = one_same (declared_among K x first init last) (declaration K (append first last)) among_go
+
+    pub left_same : (first last : Trees) (init : Tree) → is_idle init ≡ true → AllAvoid D last → SameAlone (declared_among K x first init last) (declared_left K (append first last))
+    left_same none none init h a = idle_same init h
+    left_same none (t ▸ last) init h a = among_same none (t ▸ last) init h a
+    left_same (t ▸ first) last init h a = among_same (t ▸ first) last init h a
 
   -- ---- the list, and the block
 
@@ -242,39 +318,41 @@ module _ (e : Environment) (spelling : List ℕ) (k : ℕ) (z : Unseen (alone (D
       let first_lets = lets_all (summaries before) in
       lets_append before (append ts after) ∙ ap (λ l. first_lets ++ l) (lets_append ts after) ∙ ap (λ l. first_lets ++ (l ++ rest)) f ∙ ap (λ l. first_lets ++ l) (append_assoc xs ys rest) ∙ sym (append_assoc first_lets xs (ys ++ rest))
 
-  module _ (before after d w : Trees) (xs ys : List Variable) (f : lets_all (summaries d) ≡ xs ++ Declared k ∷ ys) (g : lets_all (summaries w) ≡ xs ++ ys) where
-    lets_alike : (y : Variable) → D y ≡ false → is_in y (lets_all (summaries (append before (append d after)))) ≡ is_in y (lets_all (summaries (append before (append w after))))
-    lets_alike y h = ap (is_in y) (lets_around before after d xs (Declared k ∷ ys) f) ∙ one_less y (lets_all (summaries before) ++ xs) (ys ++ lets_all (summaries after)) h ∙ sym (ap (is_in y) (lets_around before after w xs ys g))
+  module _ (before after d w : Trees) where
+    abbrev around : Trees → List Variable
+    around ts = lets_all (summaries (append before (append ts after)))
 
-    shared_alike : only e.shared (lets_all (summaries (append before (append d after)))) ≡ only e.shared (lets_all (summaries (append before (append w after))))
-    shared_alike = ap (only e.shared) (lets_around before after d xs (Declared k ∷ ys) f) ∙ one_less_shared (lets_all (summaries before) ++ xs) (ys ++ lets_all (summaries after)) ∙ sym (ap (only e.shared) (lets_around before after w xs ys g))
+    lets_alike : OneLess k (lets_all (summaries d)) (lets_all (summaries w)) → (y : Variable) → D y ≡ false → is_in y (around d) ≡ is_in y (around w)
+    lets_alike (inl (xs, ys, f, g)) y h =
+        ap (is_in y) (lets_around before after d xs (Declared k ∷ ys) f) ∙ one_less y (lets_all (summaries before) ++ xs) (ys ++ lets_all (summaries after)) h ∙ sym (ap (is_in y) (lets_around before after w xs ys g))
+    lets_alike (inr f) y h = ap (is_in y) (lets_around before after d [] (lets_all (summaries d)) refl ∙ ap (λ l. (lets_all (summaries before) ++ []) ++ (l ++ lets_all (summaries after))) f ∙ sym (lets_around before after w [] (lets_all (summaries w)) refl))
+
+    shared_alike : OneLess k (lets_all (summaries d)) (lets_all (summaries w)) → only e.shared (around d) ≡ only e.shared (around w)
+    shared_alike (inl (xs, ys, f, g)) =
+        ap (only e.shared) (lets_around before after d xs (Declared k ∷ ys) f) ∙ one_less_shared (lets_all (summaries before) ++ xs) (ys ++ lets_all (summaries after)) ∙ sym (ap (only e.shared) (lets_around before after w xs ys g))
+    shared_alike (inr f) = ap (only e.shared) (lets_around before after d [] (lets_all (summaries d)) refl ∙ ap (λ l. (lets_all (summaries before) ++ []) ++ (l ++ lets_all (summaries after))) f ∙ sym (lets_around before after w [] (lets_all (summaries w)) refl))
 
 -- what is read of a declaration, and of what is written for it
 pub record ReadAs (k : ℕ) (d w : Tree) : Type 0 where
-  pub first : List Variable
-  pub last : List Variable
-  pub lets : (summary d).lets ≡ first ++ Declared k ∷ last
-  pub left : (summary w).lets ≡ first ++ last
+  pub lets : OneLess k (summary d).lets (summary w).lets
   pub functions : (summary d).functions ≡ (summary w).functions
   pub facts : (summary d).facts.functions ≡ (summary w).facts.functions
   pub texts : (summary d).facts.texts ≡ (summary w).facts.texts
 
 -- and of some neighbours
 pub record ReadThere (k : ℕ) (d w : Trees) : Type 0 where
-  pub first : List Variable
-  pub last : List Variable
-  pub lets : lets_all (summaries d) ≡ first ++ Declared k ∷ last
-  pub left : lets_all (summaries w) ≡ first ++ last
+  pub lets : OneLess k (lets_all (summaries d)) (lets_all (summaries w))
   pub functions : functions_all (summaries d) ≡ functions_all (summaries w)
   pub facts : function_facts (facts_all (summaries d)) ≡ function_facts (facts_all (summaries w))
   pub texts : texts_all (facts_all (summaries d)) ≡ texts_all (facts_all (summaries w))
 
+alone_less : (k : ℕ) (xs ys : List Variable) → OneLess k xs ys → OneLess k (xs ++ []) (ys ++ [])
+alone_less k xs ys (inl (first, last, f, g)) = inl (first, last, append-nil xs ∙ f, append-nil ys ∙ g)
+alone_less k xs ys (inr f) = inr (ap (λ l. l ++ []) f)
+
 pub read_alone : (k : ℕ) (d w : Tree) → ReadAs k d w → ReadThere k (d ▸ none) (w ▸ none)
 read_alone k d w r = record {
-  first = r.first;
-  last = r.last;
-  lets = append-nil (summary d).lets ∙ r.lets;
-  left = append-nil (summary w).lets ∙ r.left;
+  lets = alone_less k (summary d).lets (summary w).lets r.lets;
   functions = ap (λ l. l ++ []) r.functions;
   facts = ap (λ l. l ++ []) r.facts;
   texts = ap (λ l. l ++ []) r.texts;
@@ -299,8 +377,8 @@ module _ (e : Environment) (spelling : List ℕ) (k : ℕ) (z : Unseen (alone (D
       functions = (facts_around d ∙ ap (λ l. function_facts (facts_all (summaries before)) ++ (l ++ function_facts (facts_all (summaries after)))) r.facts ∙ sym (facts_around w)) j;
       texts = (texts_around d ∙ ap (λ l. texts_all (facts_all (summaries before)) ++ (l ++ texts_all (facts_all (summaries after)))) r.texts ∙ sym (texts_around w)) j;
     };
-    lets = lets_alike e spelling k z before after d w r.first r.last r.lets r.left;
-    shared_lets = shared_alike e spelling k z before after d w r.first r.last r.lets r.left;
+    lets = lets_alike e spelling k z before after d w r.lets;
+    shared_lets = shared_alike e spelling k z before after d w r.lets;
     name = refl;
     functions = functions_around d ∙ ap (λ l. functions_all (summaries before) ++ (l ++ functions_all (summaries after))) r.functions ∙ sym (functions_around w);
   }
@@ -324,21 +402,47 @@ module _ (e : Environment) (spelling : List ℕ) (k : ℕ) (z : Unseen (alone (D
 
 -- ---- the rows
 
-pub let_read : (spelling : List ℕ) (k : ℕ) (init w : Tree) → summary w ≡ summary empty_statement → ReadAs k (let_one (resolved spelling k) init) w
-let_read spelling k init w h = record { first = []; last = []; lets = refl; left = ap (λ i. i.lets) h; functions = sym (ap (λ i. i.functions) h); facts = sym (ap (λ i. i.facts.functions) h); texts = sym (ap (λ i. i.facts.texts) h) }
+declared_lets : (K : VariableDeclarationKind) (k : ℕ) (ds : Trees) (first last ys : List Variable) → lets_all (summaries ds) ≡ first ++ Declared k ∷ last → ys ≡ choose (is_lexical K) (first ++ last) [] → OneLess k (summary (declaration K ds)).lets ys
+declared_lets Let k ds first last ys f g = inl (first, last, f, g)
+declared_lets Const k ds first last ys f g = inl (first, last, f, g)
+declared_lets Var k ds first last ys f g = inr (sym g)
 
-among_read : (spelling : List ℕ) (k : ℕ) (first last : Trees) (init : Tree) → ReadAs k (let_among (resolved spelling k) first init last) (declaration Let (append first last))
-among_read spelling k first last init = record { first = lets_all (summaries first); last = lets_all (summaries last); lets = lets_append first (declarator (binding (resolved spelling k)) init ▸ last); left = lets_append first last; functions = refl; facts = refl; texts = refl }
+abbrev no_variables : List Variable
+no_variables = []
 
-pub idle_read : (spelling : List ℕ) (k : ℕ) (first last : Trees) (init : Tree) → ReadAs k (let_among (resolved spelling k) first init last) (left_over (append first last))
-idle_read spelling k none none init = let_read spelling k init empty_statement refl
-idle_read spelling k none (t ▸ last) init = among_read spelling k none (t ▸ last) init
-idle_read spelling k (t ▸ first) last init = among_read spelling k (t ▸ first) last init
+no_lets : (l : Bool) → no_variables ≡ choose l no_variables no_variables
+no_lets true = refl
+no_lets false = refl
 
-pub left_avoids : (D : VariableSet) (first last : Trees) → AllAvoid D first → AllAvoid D last → Avoids D (left_over (append first last))
-left_avoids D none none a b = (tt, tt)
-left_avoids D none (t ▸ last) a b = (tt, ((tt, b), tt))
-left_avoids D (t ▸ first) last a b = (tt, ((tt, all_join D (t ▸ first) last a b), tt))
+pub one_read : (K : VariableDeclarationKind) (spelling : List ℕ) (k : ℕ) (init w : Tree) → summary w ≡ summary empty_statement → ReadAs k (declared_one K (resolved spelling k) init) w
+one_read K spelling k init w h = record {
+  lets = declared_lets K k (declarator (binding (resolved spelling k)) init ▸ none) [] [] (summary w).lets refl (ap (λ i. i.lets) h ∙ no_lets (is_lexical K));
+  functions = sym (ap (λ i. i.functions) h);
+  facts = sym (ap (λ i. i.facts.functions) h);
+  texts = sym (ap (λ i. i.facts.texts) h);
+}
+
+among_read : (K : VariableDeclarationKind) (spelling : List ℕ) (k : ℕ) (first last : Trees) (init : Tree) → ReadAs k (declared_among K (resolved spelling k) first init last) (declaration K (append first last))
+among_read K spelling k first last init = record {
+  lets = declared_lets K k (append first (declarator (binding (resolved spelling k)) init ▸ last)) (lets_all (summaries first)) (lets_all (summaries last)) (summary (declaration K (append first last))).lets (lets_append first (declarator (binding (resolved spelling k)) init ▸ last)) (ap (λ l. choose (is_lexical K) l []) (lets_append first last));
+  functions = refl;
+  facts = refl;
+  texts = refl;
+}
+
+pub idle_read : (K : VariableDeclarationKind) (spelling : List ℕ) (k : ℕ) (first last : Trees) (init : Tree) → ReadAs k (declared_among K (resolved spelling k) first init last) (declared_left K (append first last))
+idle_read K spelling k none none init = one_read K spelling k init empty_statement refl
+idle_read K spelling k none (t ▸ last) init = among_read K spelling k none (t ▸ last) init
+idle_read K spelling k (t ▸ first) last init = among_read K spelling k (t ▸ first) last init
+
+pub left_avoids : (D : VariableSet) (K : VariableDeclarationKind) (first last : Trees) → AllAvoid D first → AllAvoid D last → Avoids D (declared_left K (append first last))
+left_avoids D K none none a b = (tt, tt)
+left_avoids D K none (t ▸ last) a b = (tt, ((tt, b), tt))
+left_avoids D K (t ▸ first) last a b = (tt, ((tt, all_join D (t ▸ first) last a b), tt))
+
+-- a lexical name is not written
+pub never_written : (K : VariableDeclarationKind) (e : Environment) (k : ℕ) → is_lexical K ≡ true → is_lexical K ≡ false → e.fixed (Declared k) ≡ Writable
+never_written K e k l f = absurd (true≢false (sym l ∙ f))
 
 -- the block means the same in each tail
 pub row_72 : (e : Environment) (k : ℕ) → Unseen (alone (Declared k)) e → (n w : Tree) (r : Row72 n w) → k ≡ r.symbol → (t : Option Tail) → Same e (alone (Declared k)) nothing (Stat t) n w
@@ -346,7 +450,7 @@ row_72 e k z n w r h t =
     let x = resolved r.spelling r.symbol in
     let u : Unseen (alone (Declared r.symbol)) e = subst (λ j. Unseen (alone (Declared j)) e) h z in
     let D = alone (Declared r.symbol) in
-    let same = block_same e r.spelling r.symbol u r.before r.after (let_one x r.init ▸ none) (expression_statement r.init ▸ none) (read_alone r.symbol (let_one x r.init) (expression_statement r.init) (let_read r.spelling r.symbol r.init (expression_statement r.init) refl)) (all_avoided x r.symbol refl r.before r.unused.earlier) ((tt, (avoided x r.symbol refl r.init r.unused.initial, tt)), tt) (all_avoided x r.symbol refl r.after r.unused.later) (value_same e r.spelling r.symbol u r.init r.present) t in
+    let same = block_same e r.spelling r.symbol u r.before r.after (declared_one r.kind x r.init ▸ none) (expression_statement r.init ▸ none) (read_alone r.symbol (declared_one r.kind x r.init) (expression_statement r.init) (one_read r.kind r.spelling r.symbol r.init (expression_statement r.init) refl)) (all_avoided x r.symbol refl r.before r.unused.earlier) ((tt, (avoided x r.symbol refl r.init r.unused.initial, tt)), tt) (all_avoided x r.symbol refl r.after r.unused.later) (value_same e r.spelling r.symbol u r.kind (never_written r.kind e r.symbol r.lexical) r.init r.present) t in
     subst (λ j. Same e (alone (Declared j)) nothing (Stat t) n w) (sym h) (subst₂ (Same e D nothing (Stat t)) (sym r.shape) (sym r.written) same)
 
 pub row_72_idle : (e : Environment) (k : ℕ) → Unseen (alone (Declared k)) e → (n w : Tree) (r : Row72Idle n w) → k ≡ r.symbol → (t : Option Tail) → Same e (alone (Declared k)) nothing (Stat t) n w
@@ -355,7 +459,7 @@ row_72_idle e k z n w r h t =
     let u : Unseen (alone (Declared r.symbol)) e = subst (λ j. Unseen (alone (Declared j)) e) h z in
     let D = alone (Declared r.symbol) in
     let beside = all_avoided x r.symbol refl r.last r.unused.declared_later in
-    let same = block_same e r.spelling r.symbol u r.before r.after (let_among x r.first r.init r.last ▸ none) (left_over (append r.first r.last) ▸ none) (read_alone r.symbol (let_among x r.first r.init r.last) (left_over (append r.first r.last)) (idle_read r.spelling r.symbol r.first r.last r.init)) (all_avoided x r.symbol refl r.before r.unused.earlier) (left_avoids D r.first r.last (all_avoided x r.symbol refl r.first r.unused.declared_earlier) beside, tt) (all_avoided x r.symbol refl r.after r.unused.later) (left_same e r.spelling r.symbol u r.first r.last r.init r.idle beside) t in
+    let same = block_same e r.spelling r.symbol u r.before r.after (declared_among r.kind x r.first r.init r.last ▸ none) (declared_left r.kind (append r.first r.last) ▸ none) (read_alone r.symbol (declared_among r.kind x r.first r.init r.last) (declared_left r.kind (append r.first r.last)) (idle_read r.kind r.spelling r.symbol r.first r.last r.init)) (all_avoided x r.symbol refl r.before r.unused.earlier) (left_avoids D r.kind r.first r.last (all_avoided x r.symbol refl r.first r.unused.declared_earlier) beside, tt) (all_avoided x r.symbol refl r.after r.unused.later) (left_same e r.spelling r.symbol u r.kind (never_written r.kind e r.symbol r.lexical) r.first r.last r.init r.idle beside) t in
     subst (λ j. Same e (alone (Declared j)) nothing (Stat t) n w) (sym h) (subst₂ (Same e D nothing (Stat t)) (sym r.shape) (sym r.written) same)
 
 -- ---- a name that is read once
@@ -378,29 +482,27 @@ head_read x head e init =
       ap (λ u. summary (put_first init u)) t.is ∙ stated t.lead true (t.stands true) (put_first init t.inner ▸ t.rest),
     )
 
-left_read : (c : Bool) (first : Trees) → (summary (lexical_left c first)).lets ≡ lets_all (summaries first)
-left_read c none = refl
-left_read true (t ▸ first) = refl
-left_read false (t ▸ first) = refl
+left_read : (K : VariableDeclarationKind) (first : Trees) → (summary (declared_left K first)).lets ≡ choose (is_lexical K) (lets_all (summaries first)) []
+left_read K none = no_lets (is_lexical K)
+left_read K (t ▸ first) = refl
 
-left_plain : (c : Bool) (first : Trees) → ((summary (lexical_left c first)).functions ≡ []) × ((summary (lexical_left c first)).facts.functions ≡ []) × ((summary (lexical_left c first)).facts.texts ≡ [])
-left_plain c none = (refl, refl, refl)
-left_plain c (t ▸ first) = (refl, refl, refl)
+left_plain : (K : VariableDeclarationKind) (first : Trees) → ((summary (declared_left K first)).functions ≡ []) × ((summary (declared_left K first)).facts.functions ≡ []) × ((summary (declared_left K first)).facts.texts ≡ [])
+left_plain K none = (refl, refl, refl)
+left_plain K (t ▸ first) = (refl, refl, refl)
 
-among_lets : (c : Bool) (x : Name) (first : Trees) (init : Tree) → (summary (lexical_among c x first init)).lets ≡ lets_all (summaries (append first (declarator (binding x) init ▸ none)))
-among_lets true x first init = refl
-among_lets false x first init = refl
+-- with a statement that declares nothing
+less_beside : (k : ℕ) (xs ys zs ws : List Variable) → OneLess k xs ys → zs ≡ [] → ws ≡ [] → OneLess k (xs ++ (zs ++ [])) (ys ++ (ws ++ []))
+less_beside k xs ys zs ws (inl (first, last, f, g)) a b = inl (first, last, ap (λ l. xs ++ (l ++ [])) a ∙ append-nil xs ∙ f, ap (λ l. ys ++ (l ++ [])) b ∙ append-nil ys ∙ g)
+less_beside k xs ys zs ws (inr f) a b = inr (λ i. f i ++ ((a ∙ sym b) i ++ []))
 
-pub single_read : (spelling : List ℕ) (k : ℕ) (c : Bool) (first : Trees) (init head w : Tree) → summary head ≡ summary empty_statement → summary w ≡ summary empty_statement → ReadThere k (lexical_among c (resolved spelling k) first init ▸ (head ▸ none)) (lexical_left c first ▸ (w ▸ none))
-single_read spelling k c first init head w h g =
-    let d = lexical_among c (resolved spelling k) first init in
-    let left = lexical_left c first in
-    let nothing_left = left_plain c first in
+pub single_read : (spelling : List ℕ) (k : ℕ) (K : VariableDeclarationKind) (first : Trees) (init head w : Tree) → summary head ≡ summary empty_statement → summary w ≡ summary empty_statement → ReadThere k (declared_among K (resolved spelling k) first init none ▸ (head ▸ none)) (declared_left K first ▸ (w ▸ none))
+single_read spelling k K first init head w h g =
+    let x = resolved spelling k in
+    let d = declared_among K x first init none in
+    let left = declared_left K first in
+    let nothing_left = left_plain K first in
     record {
-      first = lets_all (summaries first);
-      last = [];
-      lets = ap (λ i. (summary d).lets ++ (i.lets ++ [])) h ∙ append-nil (summary d).lets ∙ among_lets c (resolved spelling k) first init ∙ lets_append first (declarator (binding (resolved spelling k)) init ▸ none);
-      left = ap (λ i. (summary left).lets ++ (i.lets ++ [])) g ∙ append-nil (summary left).lets ∙ left_read c first ∙ sym (append-nil (lets_all (summaries first)));
+      lets = less_beside k (summary d).lets (summary left).lets (summary head).lets (summary w).lets (declared_lets K k (append first (declarator (binding x) init ▸ none)) (lets_all (summaries first)) [] (summary left).lets (lets_append first (declarator (binding x) init ▸ none)) (left_read K first ∙ ap (λ l. choose (is_lexical K) l []) (sym (append-nil (lets_all (summaries first)))))) (ap (λ i. i.lets) h) (ap (λ i. i.lets) g);
       functions = ap (λ i. i.functions ++ []) h ∙ sym (ap (λ i. (summary left).functions ++ (i.functions ++ [])) g ∙ ap (λ l. l ++ []) nothing_left.0);
       facts = ap (λ i. i.facts.functions ++ []) h ∙ sym (ap (λ i. (summary left).facts.functions ++ (i.facts.functions ++ [])) g ∙ ap (λ l. l ++ []) nothing_left.1);
       texts = ap (λ i. i.facts.texts ++ []) h ∙ sym (ap (λ i. (summary left).facts.texts ++ (i.facts.texts ++ [])) g ∙ ap (λ l. l ++ []) nothing_left.2);
@@ -411,11 +513,11 @@ same_symbol : (k : ℕ) (y : Option SymbolId) → is_same (Some (record { 0 = k 
 same_symbol k (Some y) e = ap (λ m. Some (record { 0 = m })) (sym (eqb-true k y.0 e))
 same_symbol k None e = absurd (true≢false (sym e))
 
-pub left_over_avoids : (D : VariableSet) (c : Bool) (first : Trees) → AllAvoid D first → Avoids D (lexical_left c first)
-left_over_avoids D c none a = (tt, tt)
-left_over_avoids D c (t ▸ first) a = (tt, ((tt, a), tt))
+pub first_avoids : (D : VariableSet) (K : VariableDeclarationKind) (first : Trees) → AllAvoid D first → Avoids D (declared_left K first)
+first_avoids D K none a = (tt, tt)
+first_avoids D K (t ▸ first) a = (tt, ((tt, a), tt))
 
-module _ (e : Environment) (spelling : List ℕ) (k : ℕ) (z : Unseen (alone (Declared k)) e) (first : Trees) (init head : Tree) (moves : may_move init ≡ true) (once : reads_first (resolved spelling k) head ≡ true) where
+module _ (e : Environment) (spelling : List ℕ) (k : ℕ) (z : Unseen (alone (Declared k)) e) (first : Trees) (init head : Tree) (moves : may_move init ≡ true) (once : reads_first (resolved spelling k) head ≡ true) (K : VariableDeclarationKind) (permit : is_lexical K ≡ false → e.fixed (Declared k) ≡ Writable) where
   abbrev single_name : Name
   single_name = resolved spelling k
 
@@ -441,45 +543,29 @@ module _ (e : Environment) (spelling : List ℕ) (k : ℕ) (z : Unseen (alone (D
       subst₂ (λ h w. Run (either (means e init (As Val) tt s) (λ v t. means e h (Stat None) [] (with_vars t (set_var t.vars (Declared k) (Holds v)))) (λ y t. stop y t)) (means e w (Stat None) [] s)) (sym there) (sym put)
       (first_goes e k z single_name refl reading.spelling init plain_init AsWholeItem steps (t.stands (is_end t.path.steps), subst (λ c. Well c t.path.steps) (sym (t.below AsWholeItem)) t.path.well) (t.free, t.path.spared) (Stat None) tt [] s)
 
-  let_run : (s : State) → means e (let_one single_name init) (Stat None) [] s ≡ either (means e init (As Val) tt s) (λ v t. ok tt (with_vars t (set_var t.vars (Declared k) (Holds v)))) (λ y t. stop y t)
-  let_run s = let_is e spelling k z init s ∙ initialised e spelling k z init (ap (λ i. i.facts.absent) (sym plain_init)) s ∙ either_cong (means e init (As Val) tt s) _ _ _ _ (λ v t. binds e spelling k z v t) (λ y t. refl)
-
-  let_then : (s : State) → either (means e (let_one single_name init) (Stat None) [] s) (λ u t. means e head (Stat None) [] t) (λ y t. stop y t) ≡ either (means e init (As Val) tt s) (λ v t. means e head (Stat None) [] (with_vars t (set_var t.vars (Declared k) (Holds v)))) (λ y t. stop y t)
-  unfolding either
-  let_then s = ap (λ c. either c (λ u t. means e head (Stat None) [] t) (λ y t. stop y t)) (let_run s) ∙ either_assoc (means e init (As Val) tt s) _ _ _ _
+  -- what stands before the declarator, and the declarator alone
 
   abbrev others : Trees → State → Completion (Unit {0})
-  others ds s = means e (left_over ds) (Stat None) [] s
+  others ds s = means e (declared_left K ds) (Stat None) [] s
 
-  both_parts : (first : Trees) (s : State) → means e (let_among single_name first init none) (Stat None) [] s ≡ either (others first s) (λ u t. means e (let_one single_name init) (Stat None) [] t) (λ y t. stop y t)
+  both_parts : (first : Trees) (s : State) → means e (declared_among K single_name first init none) (Stat None) [] s ≡ either (others first s) (λ u t. means e (declared_one K single_name init) (Stat None) [] t) (λ y t. stop y t)
   unfolding either
-  both_parts none s = sym (ap (λ c. either c (λ u t. means e (let_one single_name init) (Stat None) [] t) (λ y t. stop y t)) (empty_is e [] s))
-  both_parts (t ▸ first) s = declarations_join e Let (t ▸ first) (declarator (binding single_name) init ▸ none) s
+  both_parts none s = sym (ap (λ c. either c (λ u t. means e (declared_one K single_name init) (Stat None) [] t) (λ y t. stop y t)) (empty_is e [] s))
+  both_parts (t ▸ first) s = declarations_join e K (t ▸ first) (declarator (binding single_name) init ▸ none) s
 
-  pair_goes : (s : State) → Run (either (means e (let_among single_name first init none) (Stat None) [] s) (λ u t. means e head (Stat None) [] t) (λ y t. stop y t)) (either (others first s) (λ u t. means e (put_first init head) (Stat None) [] t) (λ y t. stop y t))
-  pair_goes s =
+  abbrev head_then : Completion (Unit {0}) → Completion (Unit {0})
+  head_then c = either c (λ u t. means e head (Stat None) [] t) (λ y t. stop y t)
+
+  single_goes : (s : State) → Run (head_then (means e (declared_among K single_name first init none) (Stat None) [] s)) (either (others first s) (λ u t. means e (put_first init head) (Stat None) [] t) (λ y t. stop y t))
+  single_goes s =
       subst (λ c. Run c (either (others first s) (λ u t. means e (put_first init head) (Stat None) [] t) (λ y t. stop y t)))
-      (sym (ap (λ c. either c (λ u t. means e head (Stat None) [] t) (λ y t. stop y t)) (both_parts first s) ∙ either_assoc (others first s) _ _ _ _ ∙ either_cong (others first s) _ _ _ _ (λ u t. let_then t) (λ y t. either_stop y t _ _)))
-      (both_go e spelling k z (others first s) _ _ head_goes)
+      (sym (ap head_then (both_parts first s) ∙ either_assoc (others first s) _ _ _ _ ∙ either_cong (others first s) _ _ _ _ (λ u t. refl) (λ y t. either_stop y t _ _)))
+      (both_go e spelling k z (others first s) (λ t. head_then (means e (declared_one K single_name init) (Stat None) [] t)) (λ t. means e (put_first init head) (Stat None) [] t)
+      (λ t. declared_then e spelling k z K permit init (ap (λ i. i.facts.absent) (sym plain_init)) (λ t. means e head (Stat None) [] t) t (means e (put_first init head) (Stat None) [] t) (head_goes t)))
 
-  -- a `const` does what a `let` does
-
-  as_let : (c : Bool) (ds : Trees) (s : State) → means e (declaration (lexical_kind c) ds) (Stat None) [] s ≡ means e (declaration Let ds) (Stat None) [] s
-  as_let true ds s = declaration_is e Const ds [] s ∙ sym (declaration_is e Let ds [] s)
-  as_let false ds s = refl
-
-  left_as_let : (c : Bool) (ds : Trees) (s : State) → means e (lexical_left c ds) (Stat None) [] s ≡ others ds s
-  left_as_let c none s = refl
-  left_as_let c (t ▸ ds) s = as_let c (t ▸ ds) s
-
-  single_goes : (c : Bool) (s : State) → Run (either (means e (lexical_among c single_name first init) (Stat None) [] s) (λ u t. means e head (Stat None) [] t) (λ y t. stop y t)) (either (means e (lexical_left c first) (Stat None) [] s) (λ u t. means e (put_first init head) (Stat None) [] t) (λ y t. stop y t))
-  single_goes c s =
-      subst₂ (λ a b. Run (either a (λ u t. means e head (Stat None) [] t) (λ y t. stop y t)) (either b (λ u t. means e (put_first init head) (Stat None) [] t) (λ y t. stop y t)))
-      (sym (as_let c (append first (declarator (binding single_name) init ▸ none)) s)) (sym (left_as_let c first s)) (pair_goes s)
-
-  pub single_same : (c : Bool) → Same e single_set nothing (Stat None) (listed (lexical_among c single_name first init ▸ (head ▸ none))) (listed (lexical_left c first ▸ (put_first init head ▸ none)))
-  single_same c = record {
-    by = λ r s i. subst₂ Run (sym (listed_is e (lexical_among c single_name first init ▸ (head ▸ none)) r s ∙ exec_two e (lexical_among c single_name first init) head s)) (sym (listed_is e (lexical_left c first ▸ (put_first init head ▸ none)) r s ∙ exec_two e (lexical_left c first) (put_first init head) s)) (single_goes c s);
+  pub single_same : Same e single_set nothing (Stat None) (listed (declared_among K single_name first init none ▸ (head ▸ none))) (listed (declared_left K first ▸ (put_first init head ▸ none)))
+  single_same = record {
+    by = λ r s i. subst₂ Run (sym (listed_is e (declared_among K single_name first init none ▸ (head ▸ none)) r s ∙ exec_two e (declared_among K single_name first init none) head s)) (sym (listed_is e (declared_left K first ▸ (put_first init head ▸ none)) r s ∙ exec_two e (declared_left K first) (put_first init head) s)) (single_goes s);
   }
 
 pub head_unnamed : (x : Name) (head : Tree) → reads_first x head ≡ true → (init : Tree) → names x init ≡ false → names x (put_first init head) ≡ false
@@ -493,6 +579,6 @@ row_71 e k z n w r h t =
     let u : Unseen (alone (Declared r.symbol)) e = subst (λ j. Unseen (alone (Declared j)) e) h z in
     let D = alone (Declared r.symbol) in
     let (read, put) = head_read x r.head r.once r.init in
-    let same = block_same e r.spelling r.symbol u r.before r.after (lexical_among r.is_constant x r.first r.init ▸ (r.head ▸ none)) (lexical_left r.is_constant r.first ▸ (put_first r.init r.head ▸ none)) (single_read r.spelling r.symbol r.is_constant r.first r.init r.head (put_first r.init r.head) read put) (all_avoided x r.symbol refl r.before r.earlier)
-    (left_over_avoids D r.is_constant r.first (all_avoided x r.symbol refl r.first r.declared_earlier), (avoided x r.symbol refl (put_first r.init r.head) (head_unnamed x r.head r.once r.init r.initial), tt)) (all_avoided x r.symbol refl r.after r.later) (single_same e r.spelling r.symbol u r.first r.init r.head r.moves r.once r.is_constant) t in
+    let same = block_same e r.spelling r.symbol u r.before r.after (declared_among r.kind x r.first r.init none ▸ (r.head ▸ none)) (declared_left r.kind r.first ▸ (put_first r.init r.head ▸ none)) (single_read r.spelling r.symbol r.kind r.first r.init r.head (put_first r.init r.head) read put) (all_avoided x r.symbol refl r.before r.earlier)
+    (first_avoids D r.kind r.first (all_avoided x r.symbol refl r.first r.declared_earlier), (avoided x r.symbol refl (put_first r.init r.head) (head_unnamed x r.head r.once r.init r.initial), tt)) (all_avoided x r.symbol refl r.after r.later) (single_same e r.spelling r.symbol u r.first r.init r.head r.moves r.once r.kind (never_written r.kind e r.symbol r.lexical)) t in
     subst (λ j. Same e (alone (Declared j)) nothing (Stat t) n w) (sym h) (subst₂ (Same e D nothing (Stat t)) (sym r.shape) (sym r.written) same)

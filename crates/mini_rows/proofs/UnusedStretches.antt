@@ -1,15 +1,16 @@
 -- What the rows of blocks do to the statements that stand after the first child of a list: the parameters of an arrow function, with
 -- its statements after them, are read as such a list.
+use Rattle.mini_model.specs.declared.name.Name.{Name}
 use Rattle.std.specs.Prelude.{ℕ, ◌≡◌, refl, Bool, true, false, List, [], None}
 use Rattle.std.proofs.Common.{ap, ◌∙◌, sym, inl, inr, true≢false}
 use Rattle.mini_model.specs.declared.kind.VariableDeclarationKind.{VariableDeclarationKind}
-use Rattle.mini_model.specs.declared.kind.VariableDeclarationKind.TheVariants.{Let}
 use Rattle.mini_model.specs.Tree.{Tree, Trees, node, none, ◌▸◌, listed, shape_of, children, child_or_absent, empty_statement, expression_statement}
 use Rattle.mini_model.specs.Paths.{append}
 use Rattle.mini_accept.specs.WellShaped.{in_body, nested, a_statement, Slot, one, each, fits, fill}
 use Rattle.mini_laws.specs.Value.{Declared, nothing}
 use Rattle.mini_laws.specs.State.{Environment}
 use Rattle.mini_laws.specs.Demand.{Stat}
+use Rattle.mini_laws.specs.Naming.{is_lexical}
 use Rattle.mini_laws.specs.Same.{Same}
 use Rattle.mini_laws.specs.Substitution.{alone}
 use Rattle.mini_laws.specs.Congruence.{AllAvoid}
@@ -18,13 +19,13 @@ use Rattle.mini_node.specs.Kinds.{is_listed_shape}
 use Rattle.mini_rows.specs.Lists.{block, declares_nothing, declaration}
 use Rattle.mini_rows.specs.Declarations.{binding, declarator}
 use Rattle.mini_rows.specs.Sketches.{shape_by, AsWholeItem}
-use Rattle.mini_rows.specs.Unused.{resolved, names, any_names, let_one, let_among, left_over, is_idle, may_move, reads_first, put_first, lexical_kind, lexical_among, lexical_left, BlockRow}
+use Rattle.mini_rows.specs.Unused.{resolved, names, any_names, declared_one, declared_among, declared_left, is_idle, may_move, reads_first, put_first, BlockRow}
 use Rattle.mini_rows.proofs.ListShapes.{declaration_anywhere, first_fits, more_fit}
 use Rattle.mini_rows.proofs.SingleUse.{Lead, Doing, Giving, Raising, Testing, head_of, Stands, statement}
-use Rattle.mini_rows.proofs.SingleKept.{single_leaves, single_declares}
-use Rattle.mini_rows.proofs.UnusedKept.{LeavesThere, DeclaresThere, leaves_alone, value_leaves, value_declares, idle_leaves, idle_declares}
+use Rattle.mini_rows.proofs.DeclaredKept.{value_leaves, value_declares, idle_leaves, idle_declares, single_leaves, single_declares}
+use Rattle.mini_rows.proofs.UnusedKept.{LeavesThere, DeclaresThere}
 use Rattle.mini_rows.proofs.UnusedLawful.{item, value_fits, left_fits, single_fits, idle_vanishes}
-use Rattle.mini_rows.proofs.UnusedMeaning.{ReadThere, read_alone, value_same, left_same, single_same, let_read, idle_read, left_avoids, single_read, head_read, head_unnamed, left_over_avoids, movable}
+use Rattle.mini_rows.proofs.UnusedMeaning.{ReadThere, read_alone, value_same, left_same, single_same, one_read, idle_read, left_avoids, single_read, head_read, head_unnamed, first_avoids, never_written, movable}
 use Rattle.mini_rows.proofs.UnusedNames.{or_parts, avoided, all_avoided}
 
 -- a statement of a function's body
@@ -108,9 +109,9 @@ expression_in_body : (strict : Bool) (t : Tree) → fits strict body_item (expre
 expression_in_body true t = refl
 expression_in_body false t = refl
 
-left_in_body : (strict : Bool) (c : Bool) (ds : Trees) → fits strict body_item (lexical_left c ds) ≡ fits strict item (lexical_left c ds)
-left_in_body strict c none = empty_in_body strict
-left_in_body strict c (t ▸ ds) = declaration_in_body strict (lexical_kind c) (t ▸ ds)
+left_in_body : (strict : Bool) (k : VariableDeclarationKind) (ds : Trees) → fits strict body_item (declared_left k ds) ≡ fits strict item (declared_left k ds)
+left_in_body strict k none = empty_in_body strict
+left_in_body strict k (t ▸ ds) = declaration_in_body strict k (t ▸ ds)
 
 led_in_body : (l : Lead) → Stands AsWholeItem l true → (strict : Bool) (ts : Trees) → fits strict body_item (node (shape_by (head_of l)) [] 0 ts) ≡ fits strict item (node (shape_by (head_of l)) [] 0 ts)
 led_in_body Doing s true ts = refl
@@ -128,67 +129,68 @@ one_fits strict d w f a b h = let (one_there, rest) = first_fits strict body_ite
 
 -- ---- the rows
 
-of_72 : (s : List ℕ) (k : ℕ) (init : Tree) → declares_nothing init ≡ true → names (resolved s k) init ≡ false → Loses s k (let_one (resolved s k) init ▸ none) (expression_statement init ▸ none)
-of_72 s k init present initial =
-    let x = resolved s k in
-    let d = let_one x init in
-    let w = expression_statement init in
-    record {
-      leaves = leaves_alone x d w (value_leaves x init k refl initial);
-      declares = value_declares x k refl init initial;
-      read = read_alone k d w (let_read s k init w refl);
-      same = λ e u. value_same e s k u init present;
-      avoids = ((tt, (avoided x k refl init initial, tt)), tt);
-      fits = λ strict. one_fits strict d w (value_fits strict x init present) (declaration_in_body strict Let (declarator (binding x) init ▸ none)) (expression_in_body strict init);
-    }
+module _ (K : VariableDeclarationKind) (lexical : is_lexical K ≡ true) (s : List ℕ) (k : ℕ) where
+  abbrev x : Name
+  x = resolved s k
 
-of_72_idle : (s : List ℕ) (k : ℕ) (first : Trees) (init : Tree) (last : Trees) → is_idle init ≡ true → any_names (resolved s k) first ≡ false → any_names (resolved s k) last ≡ false → Loses s k (let_among (resolved s k) first init last ▸ none) (left_over (append first last) ▸ none)
-of_72_idle s k first init last idle earlier later =
-    let x = resolved s k in
-    let d = let_among x first init last in
-    let w = left_over (append first last) in
-    let beside = all_avoided x k refl last later in
-    record {
-      leaves = leaves_alone x d w (idle_leaves x k refl first init last (idle_vanishes init idle) earlier later);
-      declares = idle_declares x k refl first init last (idle_vanishes init idle) earlier later;
-      read = read_alone k d w (idle_read s k first last init);
-      same = λ e u. left_same e s k u first last init idle beside;
-      avoids = (left_avoids (alone (Declared k)) first last (all_avoided x k refl first earlier) beside, tt);
-      fits = λ strict. one_fits strict d w (left_fits strict x first init last) (declaration_in_body strict Let (append first (declarator (binding x) init ▸ last))) (left_in_body strict false (append first last));
-    }
+  of_72 : (init : Tree) → declares_nothing init ≡ true → names x init ≡ false → Loses s k (declared_one K x init ▸ none) (expression_statement init ▸ none)
+  of_72 init present initial =
+      let d = declared_one K x init in
+      let w = expression_statement init in
+      record {
+        leaves = value_leaves K x k refl init initial;
+        declares = value_declares K x k refl init initial;
+        read = read_alone k d w (one_read K s k init w refl);
+        same = λ e u. value_same e s k u K (never_written K e k lexical) init present;
+        avoids = ((tt, (avoided x k refl init initial, tt)), tt);
+        fits = λ strict. one_fits strict d w (value_fits strict K x init present) (declaration_in_body strict K (declarator (binding x) init ▸ none)) (expression_in_body strict init);
+      }
 
-of_71 : (s : List ℕ) (k : ℕ) (c : Bool) (first : Trees) (init head : Tree) → may_move init ≡ true → reads_first (resolved s k) head ≡ true → names (resolved s k) init ≡ false → any_names (resolved s k) first ≡ false
-    → Loses s k (lexical_among c (resolved s k) first init ▸ (head ▸ none)) (lexical_left c first ▸ (put_first init head ▸ none))
-of_71 s k c first init head moves once initial earlier =
-    let x = resolved s k in
-    let d = lexical_among c x first init in
-    let left = lexical_left c first in
-    let put = put_first init head in
-    let t = statement x head once in
-    let (read, read_put) = head_read x head once init in
-    let head_in_body = λ (strict : Bool). ap (fits strict body_item) t.is ∙ led_in_body t.lead (t.stands true) strict (t.inner ▸ t.rest) ∙ sym (ap (fits strict item) t.is) in
-    let put_in_body = λ (strict : Bool). ap (λ u. fits strict body_item (put_first init u)) t.is ∙ led_in_body t.lead (t.stands true) strict (put_first init t.inner ▸ t.rest) ∙ sym (ap (λ u. fits strict item (put_first init u)) t.is) in
-    record {
-      leaves = single_leaves c x k refl first init head (movable init moves) once initial earlier;
-      declares = single_declares c x k refl first init head (movable init moves) once initial earlier;
-      read = single_read s k c first init head put read read_put;
-      same = λ e u. single_same e s k u first init head moves once c;
-      avoids = (left_over_avoids (alone (Declared k)) c first (all_avoided x k refl first earlier), (avoided x k refl put (head_unnamed x head once init initial), tt));
-      fits = λ strict h.
-          let (f, g) = first_fits strict body_item d (head ▸ none) h in
-          let (i, rest) = first_fits strict body_item head none g in
-          let (v, w) = single_fits strict c x first init head moves once (sym (declaration_in_body strict (lexical_kind c) (append first (declarator (binding x) init ▸ none))) ∙ f) (sym (head_in_body strict) ∙ i) in
-          more_fit strict body_item left (put ▸ none) (left_in_body strict c first ∙ v) (more_fit strict body_item put none (put_in_body strict ∙ w) rest);
-    }
+  of_72_idle : (first : Trees) (init : Tree) (last : Trees) → is_idle init ≡ true → any_names x first ≡ false → any_names x last ≡ false → Loses s k (declared_among K x first init last ▸ none) (declared_left K (append first last) ▸ none)
+  of_72_idle first init last idle earlier later =
+      let d = declared_among K x first init last in
+      let w = declared_left K (append first last) in
+      let beside = all_avoided x k refl last later in
+      record {
+        leaves = idle_leaves K x k refl first init last (idle_vanishes init idle) earlier later;
+        declares = idle_declares K x k refl first init last (idle_vanishes init idle) earlier later;
+        read = read_alone k d w (idle_read K s k first last init);
+        same = λ e u. left_same e s k u K (never_written K e k lexical) first last init idle beside;
+        avoids = (left_avoids (alone (Declared k)) K first last (all_avoided x k refl first earlier) beside, tt);
+        fits = λ strict. one_fits strict d w (left_fits strict K x first init last) (declaration_in_body strict K (append first (declarator (binding x) init ▸ last))) (left_in_body strict K (append first last));
+      }
+
+  of_71 : (first : Trees) (init head : Tree) → may_move init ≡ true → reads_first x head ≡ true → names x init ≡ false → any_names x first ≡ false → Loses s k (declared_among K x first init none ▸ (head ▸ none)) (declared_left K first ▸ (put_first init head ▸ none))
+  of_71 first init head moves once initial earlier =
+      let d = declared_among K x first init none in
+      let left = declared_left K first in
+      let put = put_first init head in
+      let t = statement x head once in
+      let (read, read_put) = head_read x head once init in
+      let head_in_body = λ (strict : Bool). ap (fits strict body_item) t.is ∙ led_in_body t.lead (t.stands true) strict (t.inner ▸ t.rest) ∙ sym (ap (fits strict item) t.is) in
+      let put_in_body = λ (strict : Bool). ap (λ u. fits strict body_item (put_first init u)) t.is ∙ led_in_body t.lead (t.stands true) strict (put_first init t.inner ▸ t.rest) ∙ sym (ap (λ u. fits strict item (put_first init u)) t.is) in
+      record {
+        leaves = single_leaves K x k refl first init head (movable init moves) once initial earlier;
+        declares = single_declares K x k refl first init head (movable init moves) once initial earlier;
+        read = single_read s k K first init head put read read_put;
+        same = λ e u. single_same e s k u first init head moves once K (never_written K e k lexical);
+        avoids = (first_avoids (alone (Declared k)) K first (all_avoided x k refl first earlier), (avoided x k refl put (head_unnamed x head once init initial), tt));
+        fits = λ strict h.
+            let (f, g) = first_fits strict body_item d (head ▸ none) h in
+            let (i, rest) = first_fits strict body_item head none g in
+            let (v, w) = single_fits strict K x first init head moves once (sym (declaration_in_body strict K (append first (declarator (binding x) init ▸ none))) ∙ f) (sym (head_in_body strict) ∙ i) in
+            more_fit strict body_item left (put ▸ none) (left_in_body strict K first ∙ v) (more_fit strict body_item put none (put_in_body strict ∙ w) rest);
+      }
 
 pub row_stretch : (p : Tree) (earlier_list later_list : Trees) → is_listed_shape (shape_of p) ≡ true → BlockRow (block (p ▸ earlier_list)) (block (p ▸ later_list)) → Stretch p earlier_list later_list
 row_stretch p a b e (inl r) =
     let x = resolved r.spelling r.symbol in
-    stretch p a b e r.spelling r.symbol r.before r.after (let_one x r.init) none (expression_statement r.init ▸ none) refl (of_72 r.spelling r.symbol r.init r.present r.unused.initial) r.unused.earlier r.unused.later (ap list_of r.shape) (ap list_of r.written)
+    stretch p a b e r.spelling r.symbol r.before r.after (declared_one r.kind x r.init) none (expression_statement r.init ▸ none) refl (of_72 r.kind r.lexical r.spelling r.symbol r.init r.present r.unused.initial) r.unused.earlier r.unused.later (ap list_of r.shape) (ap list_of r.written)
 row_stretch p a b e (inr (inl r)) =
     let x = resolved r.spelling r.symbol in
-    stretch p a b e r.spelling r.symbol r.before r.after (let_among x r.first r.init r.last) none (left_over (append r.first r.last) ▸ none) refl (of_72_idle r.spelling r.symbol r.first r.init r.last r.idle r.unused.declared_earlier r.unused.declared_later) r.unused.earlier r.unused.later (ap list_of r.shape) (ap list_of r.written)
+    stretch p a b e r.spelling r.symbol r.before r.after (declared_among r.kind x r.first r.init r.last) none (declared_left r.kind (append r.first r.last) ▸ none) refl (of_72_idle r.kind r.lexical r.spelling r.symbol r.first r.init r.last r.idle r.unused.declared_earlier r.unused.declared_later) r.unused.earlier r.unused.later (ap list_of r.shape)
+    (ap list_of r.written)
 row_stretch p a b e (inr (inr r)) =
     let x = resolved r.spelling r.symbol in
-    stretch p a b e r.spelling r.symbol r.before r.after (lexical_among r.is_constant x r.first r.init) (r.head ▸ none) (lexical_left r.is_constant r.first ▸ (put_first r.init r.head ▸ none)) refl (of_71 r.spelling r.symbol r.is_constant r.first r.init r.head r.moves r.once r.initial r.declared_earlier) r.earlier r.later (ap list_of r.shape)
+    stretch p a b e r.spelling r.symbol r.before r.after (declared_among r.kind x r.first r.init none) (r.head ▸ none) (declared_left r.kind r.first ▸ (put_first r.init r.head ▸ none)) refl (of_71 r.kind r.lexical r.spelling r.symbol r.first r.init r.head r.moves r.once r.initial r.declared_earlier) r.earlier r.later (ap list_of r.shape)
     (ap list_of r.written)

@@ -2,14 +2,15 @@
 use Rattle.std.proofs.Common.{◌≡◌, ℕ, ◌+◌, ◌<◌, ◌≤◌, List, refl, sym, ap, ◌∙◌, inl, inr, arith}
 use Rattle.std.specs.Prelude.{not}
 use Rattle.std.proofs.lemmas.Bool.{and_parts}
-use Rattle.mini_model.specs.declared.kind.VariableDeclarationKind.TheVariants.{Let}
+use Rattle.mini_model.specs.declared.kind.VariableDeclarationKind.{VariableDeclarationKind}
+use Rattle.mini_model.specs.declared.kind.VariableDeclarationKind.TheVariants.{Var, Let, Const}
 use Rattle.mini_model.specs.declared.name.Name.{Name}
 use Rattle.mini_model.specs.declared.place.Position.{Position}
 use Rattle.mini_model.specs.declared.place.Position.TheVariants.{Expr, Stmt, Method, Elsewhere}
 use Rattle.mini_model.specs.declared.seat.Seat.{Seat}
 use Rattle.mini_model.specs.declared.seat.StmtSeat.{StmtSeat}
 use Rattle.mini_model.specs.declared.seat.StmtSeat.TheVariants as stmt_seat
-use Rattle.mini_model.specs.Tree.{Tree, Trees, none, ◌▸◌, listed, shape_of, expression_statement}
+use Rattle.mini_model.specs.Tree.{Tree, Trees, none, ◌▸◌, listed, shape_of, empty_statement, expression_statement}
 use Rattle.mini_model.specs.Paths.{append}
 use Rattle.mini_model.specs.Position.{argument_seat, statement_expression_seat}
 use Rattle.mini_model.specs.Weight.{commas_weight, outline, outlines, one_chooses, braces_weight, weight}
@@ -17,13 +18,15 @@ use Rattle.mini_laws.specs.Weights.{Lightens}
 use Rattle.mini_laws.proofs.Seats.{moved}
 use Rattle.mini_rows.specs.Declarations.{binding, declarator}
 use Rattle.mini_rows.specs.Lists.{block, declaration}
-use Rattle.mini_rows.specs.Unused.{resolved, let_among, let_one, left_over, is_definition, BlockRow, ArrowBodyRow, FunctionBodyRow, UnusedRow, UnusedContracts, UnusedLighter}
+use Rattle.mini_rows.specs.Unused.{resolved, declared_among, declared_one, declared_left, is_definition, BlockRow, ArrowBodyRow, FunctionBodyRow, UnusedRow, UnusedContracts, UnusedLighter}
 use Rattle.mini_terms.specs.Reading.{is_plain_part}
 use Rattle.mini_rows.proofs.SingleWeights.{single_falls}
 use Rattle.mini_rows.proofs.ListWeights.{total, list_is, body_is, in_list, comma_list, declarators_append}
 
-value_falls : (s : List ℕ) (k : ℕ) (init : Tree) → total (expression_statement init ▸ none) + 1 ≤ total (let_one (resolved s k) init ▸ none)
-value_falls s k init = let seat = moved statement_expression_seat argument_seat refl init in omega (arith, seat)
+value_falls : (K : VariableDeclarationKind) (s : List ℕ) (k : ℕ) (init : Tree) → total (expression_statement init ▸ none) + 1 ≤ total (declared_one K (resolved s k) init ▸ none)
+value_falls Let s k init = let seat = moved statement_expression_seat argument_seat refl init in omega (arith, seat)
+value_falls Const s k init = let seat = moved statement_expression_seat argument_seat refl init in omega (arith, seat)
+value_falls Var s k init = let seat = moved statement_expression_seat argument_seat refl init in omega (arith, seat)
 
 -- one declarator less weighs no more commas
 commas_fall : (first last : Trees) (d : Tree) → commas_weight (outlines (append first last)) ≤ commas_weight (outlines (append first (d ▸ last)))
@@ -33,20 +36,25 @@ commas_fall (t ▸ none) none d = omega arith
 commas_fall (t ▸ none) (u ▸ last) d = omega arith
 commas_fall (t ▸ (c ▸ first)) last d = let rest = commas_fall (c ▸ first) last d in omega (arith, rest)
 
-among_falls : (x : Name) (first last : Trees) (init : Tree) → total (declaration Let (append first last) ▸ none) + 1 ≤ total (let_among x first init last ▸ none)
-among_falls x first last init =
+among_falls : (K : VariableDeclarationKind) (x : Name) (first last : Trees) (init : Tree) → total (declaration K (append first last) ▸ none) + 1 ≤ total (declared_among K x first init last ▸ none)
+among_falls K x first last init =
     let d = declarator (binding x) init in
     omega (arith, commas_fall first last d, comma_list (append first last), comma_list (append first (d ▸ last)), declarators_append first last, declarators_append first (d ▸ last))
 
-idle_falls : (x : Name) (first last : Trees) (init : Tree) → total (left_over (append first last) ▸ none) + 1 ≤ total (let_among x first init last ▸ none)
-idle_falls x none none init = omega arith
-idle_falls x none (t ▸ last) init = among_falls x none (t ▸ last) init
-idle_falls x (t ▸ first) last init = among_falls x (t ▸ first) last init
+alone_falls : (K : VariableDeclarationKind) (x : Name) (init : Tree) → total (empty_statement ▸ none) + 1 ≤ total (declared_one K x init ▸ none)
+alone_falls Let x init = omega arith
+alone_falls Const x init = omega arith
+alone_falls Var x init = omega arith
 
-same_chooses : (x : Name) (first last : Trees) (init : Tree) → (outline (let_among x first init last)).chooses ≡ (outline (left_over (append first last))).chooses
-same_chooses x none none init = refl
-same_chooses x none (t ▸ last) init = refl
-same_chooses x (t ▸ first) last init = refl
+idle_falls : (K : VariableDeclarationKind) (x : Name) (first last : Trees) (init : Tree) → total (declared_left K (append first last) ▸ none) + 1 ≤ total (declared_among K x first init last ▸ none)
+idle_falls K x none none init = alone_falls K x init
+idle_falls K x none (t ▸ last) init = among_falls K x none (t ▸ last) init
+idle_falls K x (t ▸ first) last init = among_falls K x (t ▸ first) last init
+
+same_chooses : (K : VariableDeclarationKind) (x : Name) (first last : Trees) (init : Tree) → (outline (declared_among K x first init last)).chooses ≡ (outline (declared_left K (append first last))).chooses
+same_chooses K x none none init = refl
+same_chooses K x none (t ▸ last) init = refl
+same_chooses K x (t ▸ first) last init = refl
 
 -- whether a block holds one `if` with `else` alone
 same_choice : (before after : Trees) (d w : Tree) → (outline d).chooses ≡ (outline w).chooses → one_chooses (outlines (append before (d ▸ after))) ≡ one_chooses (outlines (append before (w ▸ after)))
@@ -63,14 +71,14 @@ block_falls q before after d w h less =
 
 block_lighter : (q : StmtSeat) (n w : Tree) → BlockRow n w → weight (Stmt q) w < weight (Stmt q) n
 block_lighter q n w (inl r) =
-    let falls = block_falls q r.before r.after (let_one (resolved r.spelling r.symbol) r.init) (expression_statement r.init) refl (value_falls r.spelling r.symbol r.init) in
+    let falls = block_falls q r.before r.after (declared_one r.kind (resolved r.spelling r.symbol) r.init) (expression_statement r.init) refl (value_falls r.kind r.spelling r.symbol r.init) in
     omega (arith, falls, ap (weight (Stmt q)) r.shape, ap (weight (Stmt q)) r.written)
 block_lighter q n w (inr (inl r)) =
-    let falls = block_falls q r.before r.after (let_among (resolved r.spelling r.symbol) r.first r.init r.last) (left_over (append r.first r.last)) (same_chooses (resolved r.spelling r.symbol) r.first r.last r.init) (idle_falls (resolved r.spelling r.symbol) r.first r.last r.init) in
+    let falls = block_falls q r.before r.after (declared_among r.kind (resolved r.spelling r.symbol) r.first r.init r.last) (declared_left r.kind (append r.first r.last)) (same_chooses r.kind (resolved r.spelling r.symbol) r.first r.last r.init) (idle_falls r.kind (resolved r.spelling r.symbol) r.first r.last r.init) in
     omega (arith, falls, ap (weight (Stmt q)) r.shape, ap (weight (Stmt q)) r.written)
 block_lighter q n w (inr (inr r)) =
     let plain = (and_parts (is_plain_part r.init) (not (is_definition (shape_of r.init))) r.moves).0 in
-    let falls = single_falls q r.before r.is_constant r.first r.spelling r.symbol r.init r.head r.after plain r.once in
+    let falls = single_falls q r.before r.kind r.first r.spelling r.symbol r.init r.head r.after plain r.once in
     omega (arith, falls, ap (weight (Stmt q)) r.shape, ap (weight (Stmt q)) r.written)
 
 -- a function's body by the block that what stands before it and its statements would be

@@ -1,7 +1,6 @@
 -- Rows of names that nothing mentions: each is a shape and what is written in its place, with the JavaScript before and after.
 use Rattle.std.specs.Prelude.{◌≡◌, ◌<◌, ◌⊎◌, ◌||◌, ◌&&◌, not, ℕ, Bool, true, false, List, [], ◌∷◌}
 use Rattle.mini_model.specs.declared.kind.VariableDeclarationKind.{VariableDeclarationKind}
-use Rattle.mini_model.specs.declared.kind.VariableDeclarationKind.TheVariants.{Let, Const}
 use Rattle.mini_model.specs.declared.name.Name.{Name}
 use Rattle.mini_model.specs.declared.operator.UnaryOperator.TheVariants.{LogicalNot}
 use Rattle.mini_model.specs.declared.place.Position.{Position}
@@ -11,6 +10,7 @@ use Rattle.mini_model.specs.declared.shape.Shape.TheVariants as shape
 use Rattle.mini_model.specs.Tree.{Tree, Trees, node, none, ◌▸◌, listed, shape_of, empty_statement, expression_statement}
 use Rattle.mini_model.specs.Paths.{append}
 use Rattle.mini_model.specs.Weight.{same_text, weight}
+use Rattle.mini_laws.specs.Naming.{is_lexical}
 use Rattle.mini_laws.specs.ScopeList.{has_eval}
 use Rattle.mini_laws.specs.Symbols.{is_same}
 use Rattle.mini_kept.specs.Loosely.{LawfulLoosely}
@@ -38,66 +38,62 @@ abbrev mutual
   any_names x (t ▸ ts) = names x t || any_names x ts
 
 -- `let a, x = r, b;`, where x stands among other declarators
-abbrev pub let_among : Name → Trees → Tree → Trees → Tree
-let_among x first init last = declaration Let (append first (declarator (binding x) init ▸ last))
+abbrev pub declared_among : VariableDeclarationKind → Name → Trees → Tree → Trees → Tree
+declared_among k x first init last = declaration k (append first (declarator (binding x) init ▸ last))
 
 -- `let x = r;`, or `let x;`
-abbrev pub let_one : Name → Tree → Tree
-let_one x init = let_among x none init none
+abbrev pub declared_one : VariableDeclarationKind → Name → Tree → Tree
+declared_one k x init = declared_among k x none init none
 
--- In a block a name that a `let` declares, and that is mentioned nowhere else in it: nothing else in the block has its spelling
--- either, and no direct eval, which would see it, stands there
-pub record Alone (x : Name) (before first : Trees) (init : Tree) (last after : Trees) : Type 0 where
+-- In a block a name that a `let` or a `const` declares, and that is mentioned nowhere else in it: nothing else in the block has its
+-- spelling either, and no direct eval, which would see it, stands there
+pub record Alone (k : VariableDeclarationKind) (x : Name) (before first : Trees) (init : Tree) (last after : Trees) : Type 0 where
   pub earlier : any_names x before ≡ false
   pub declared_earlier : any_names x first ≡ false
   pub initial : names x init ≡ false
   pub declared_later : any_names x last ≡ false
   pub later : any_names x after ≡ false
-  pub unseen : has_eval (block (append before (let_among x first init last ▸ after))) ≡ false
+  pub unseen : has_eval (block (append before (declared_among k x first init last ▸ after))) ≡ false
 
 -- 72: `{ let x = a(); b(); }` becomes `{ a(); b(); }`
 pub record Row72 (n w : Tree) : Type 0 where
   pub before : Trees
+  pub kind : VariableDeclarationKind
   pub spelling : List ℕ
   pub symbol : ℕ
   pub init : Tree
   pub after : Trees
+  pub lexical : is_lexical kind ≡ true
   -- an expression stands there
   pub present : declares_nothing init ≡ true
-  pub unused : Alone (resolved spelling symbol) before none init none after
-  pub shape : n ≡ block (append before (let_one (resolved spelling symbol) init ▸ after))
+  pub unused : Alone kind (resolved spelling symbol) before none init none after
+  pub shape : n ≡ block (append before (declared_one kind (resolved spelling symbol) init ▸ after))
   pub written : w ≡ block (append before (expression_statement init ▸ after))
 
 -- an initializer that nothing misses: none, or an expression that has no effect and leaves nothing behind
 abbrev pub is_idle : Tree → Bool
 is_idle init = is_absent_part init || (declares_nothing init && (is_effect_free init && leaves_nothing init))
 
--- `let` or `const`
-abbrev pub lexical_kind : Bool → VariableDeclarationKind
-lexical_kind true = Const
-lexical_kind false = Let
-
 -- what is left of such a declaration: `let y = b();`, or `;` where no declarator is
-abbrev pub lexical_left : Bool → Trees → Tree
-lexical_left is_constant none = empty_statement
-lexical_left is_constant (d ▸ ds) = declaration (lexical_kind is_constant) (d ▸ ds)
+abbrev pub declared_left : VariableDeclarationKind → Trees → Tree
+declared_left k none = empty_statement
+declared_left k (d ▸ ds) = declaration k (d ▸ ds)
 
-abbrev pub left_over : Trees → Tree
-left_over ds = lexical_left false ds
-
--- `{ let x, y = b(); c(y); }` becomes `{ let y = b(); c(y); }`, and `{ let x; b(); }` and `{ let x = 1; b(); }` become `{ ; b(); }`
+-- `{ let x, y = b(); c(y); }` becomes `{ let y = b(); c(y); }`, and `{ let x; b(); }` and `{ const x = 1; b(); }` become `{ ; b(); }`
 pub record Row72Idle (n w : Tree) : Type 0 where
   pub before : Trees
+  pub kind : VariableDeclarationKind
   pub first : Trees
   pub spelling : List ℕ
   pub symbol : ℕ
   pub init : Tree
   pub last : Trees
   pub after : Trees
+  pub lexical : is_lexical kind ≡ true
   pub idle : is_idle init ≡ true
-  pub unused : Alone (resolved spelling symbol) before first init last after
-  pub shape : n ≡ block (append before (let_among (resolved spelling symbol) first init last ▸ after))
-  pub written : w ≡ block (append before (left_over (append first last) ▸ after))
+  pub unused : Alone kind (resolved spelling symbol) before first init last after
+  pub shape : n ≡ block (append before (declared_among kind (resolved spelling symbol) first init last ▸ after))
+  pub written : w ≡ block (append before (declared_left kind (append first last) ▸ after))
 
 -- ---- a name that is read once, and that is the first thing that happens
 
@@ -163,29 +159,26 @@ is_definition h = false
 abbrev pub may_move : Tree → Bool
 may_move t = is_plain_part t && not (is_definition (shape_of t))
 
--- `let a, x = r;` or `const a, x = r;`
-abbrev pub lexical_among : Bool → Name → Trees → Tree → Tree
-lexical_among is_constant x first init = declaration (lexical_kind is_constant) (append first (declarator (binding x) init ▸ none))
-
 -- 71: `{ let a, x = b(); return x + c; }` becomes `{ let a; return b() + c; }`, and `{ const x = b(); return x; }` `{ ; return b(); }`
 pub record Row71 (n w : Tree) : Type 0 where
   pub before : Trees
-  pub is_constant : Bool
+  pub kind : VariableDeclarationKind
   pub first : Trees
   pub spelling : List ℕ
   pub symbol : ℕ
   pub init : Tree
   pub head : Tree
   pub after : Trees
+  pub lexical : is_lexical kind ≡ true
   pub moves : may_move init ≡ true
   pub once : reads_first (resolved spelling symbol) head ≡ true
   pub earlier : any_names (resolved spelling symbol) before ≡ false
   pub declared_earlier : any_names (resolved spelling symbol) first ≡ false
   pub initial : names (resolved spelling symbol) init ≡ false
   pub later : any_names (resolved spelling symbol) after ≡ false
-  pub unseen : has_eval (block (append before (lexical_among is_constant (resolved spelling symbol) first init ▸ (head ▸ after)))) ≡ false
-  pub shape : n ≡ block (append before (lexical_among is_constant (resolved spelling symbol) first init ▸ (head ▸ after)))
-  pub written : w ≡ block (append before (lexical_left is_constant first ▸ (put_first init head ▸ after)))
+  pub unseen : has_eval (block (append before (declared_among kind (resolved spelling symbol) first init none ▸ (head ▸ after)))) ≡ false
+  pub shape : n ≡ block (append before (declared_among kind (resolved spelling symbol) first init none ▸ (head ▸ after)))
+  pub written : w ≡ block (append before (declared_left kind first ▸ (put_first init head ▸ after)))
 
 -- one of them reads a block
 abbrev pub BlockRow : Tree → Tree → Type 0

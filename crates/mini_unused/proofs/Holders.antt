@@ -18,8 +18,8 @@ use Rattle.mini_rows.specs.Lists.{block}
 use Rattle.mini_rows.specs.Unused.{names, any_names, may_move, statements, arrow_with, ArrowBodyRow, function_with, FunctionBodyRow, BlockRow, UnusedRow, UnusedContracts}
 use Rattle.mini_rows.proofs.UnusedWeights.{unused_lighter}
 use Rattle.mini_tree.proofs.Reaching.{moves_once}
-use Rattle.mini_unused.specs.RemoveUnusedDeclaration.{declares_name, is_let, may_go, is_alone, list_at, is_unused, UnusedAt, is_arrow_shape, are_statements, are_no_names, has_statements, is_function_shape, is_function, Applied, AppliedInFunction}
-use Rattle.mini_unused.specs.SubstituteSingleUse.{is_lexical, last_place, is_declared_over, reads_next, is_read_once, is_single, SingleAt, NameGone, ReadGone, Removed}
+use Rattle.mini_unused.specs.RemoveUnusedDeclaration.{declares_name, is_lexical, may_go, is_alone, list_at, is_unused, UnusedAt, is_arrow_shape, are_statements, are_no_names, has_statements, is_function_shape, is_function, Applied, AppliedInFunction}
+use Rattle.mini_unused.specs.SubstituteSingleUse.{last_place, is_declared_over, reads_next, is_read_once, is_single, SingleAt, NameGone, ReadGone, Removed}
 use Rattle.mini_unused.proofs.Unused.{no_outside, part_twice, row_at, no_row, no_block, all_used, seen_by_eval}
 use Rattle.mini_unused.proofs.SingleUses.{row_there, none_single}
 
@@ -112,7 +112,7 @@ module _ (outside : Tree) (front ts : Trees) (mentions : (x : Name) → names x 
   unused_there : (i j : ℕ) → is_unused outside ts i j ≡ is_unused no_outside behind (suc i) j
   unused_there i j =
       let l = list_at ts i in
-      ap (λ b. is_let (child_or_absent ts i) && (declares_name (part l j) && (may_go (part (part l j) 1) l && b))) (alone_there (names_of (part (part l j) 0)) (part (part l j) 1) (children l) j i)
+      ap (λ b. is_lexical (child_or_absent ts i) && (declares_name (part l j) && (may_go (part (part l j) 1) l && b))) (alone_there (names_of (part (part l j) 0)) (part (part l j) 1) (children l) j i)
 
   read_there : (xs : List Name) (init : Tree) (ds : Trees) (j i : ℕ) → is_read_once xs outside init ds j ts i ≡ is_read_once xs no_outside init ds j behind (suc i)
   read_there [] init ds j i = refl

@@ -2,7 +2,7 @@
 use Rattle.std.proofs.Common.{◌≡◌, ℕ, zero, suc, ◌+◌, ◌<◌, Bool, true, false, [], ◌∷◌, refl, sym, ap, ◌∙◌, subst, true≢false, add-one, arith}
 use Rattle.std.specs.Prelude.{not, ◌&&◌, ◌||◌, if◌then◌else◌}
 use Rattle.std.proofs.lemmas.Bool.{and_parts}
-use Rattle.mini_model.specs.declared.kind.VariableDeclarationKind.TheVariants.{Let, Const}
+use Rattle.mini_model.specs.declared.kind.VariableDeclarationKind.{VariableDeclarationKind}
 use Rattle.mini_model.specs.declared.name.Name.{Name}
 use Rattle.mini_model.specs.declared.shape.Shape.TheVariants as shape
 use Rattle.mini_model.specs.Tree.{Tree, Trees, node, none, ◌▸◌, listed, shape_of, children, count, node_count, child_or_absent, empty_statement}
@@ -14,10 +14,10 @@ use Rattle.mini_node.specs.Made.{block_is}
 use Rattle.mini_node.specs.Walks.{next_child}
 use Rattle.mini_rows.specs.Lists.{block, declaration}
 use Rattle.mini_rows.specs.Declarations.{binding, declarator}
-use Rattle.mini_rows.specs.Unused.{resolved, lexical_kind, lexical_among, lexical_left, names, any_names, leads, is_childless, reads, is_first, put_first, is_head_shape, reads_first, may_move, Row71}
-use Rattle.mini_unused.specs.RemoveUnusedDeclaration.{declares_name, list_at}
-use Rattle.mini_unused.specs.SubstituteSingleUse.{may_begin, is_head, is_lexical, last_place, is_declared_over, is_mentioned_around, reads_next, is_read_once, is_single_declarator, is_single, declaration_left, list_single}
-use Rattle.mini_unused.proofs.Unused.{no_outside, parts_of, there_child, there_first, and_both, Declares, declares, without_is}
+use Rattle.mini_rows.specs.Unused.{resolved, declared_among, declared_left, names, any_names, leads, is_childless, reads, is_first, put_first, is_head_shape, reads_first, may_move, Row71}
+use Rattle.mini_unused.specs.RemoveUnusedDeclaration.{declares_name, is_lexical, list_at}
+use Rattle.mini_unused.specs.SubstituteSingleUse.{may_begin, is_head, last_place, is_declared_over, is_mentioned_around, reads_next, is_read_once, is_single_declarator, is_single, declaration_left, list_single}
+use Rattle.mini_unused.proofs.Unused.{no_outside, parts_of, there_child, there_first, and_both, Declares, declares, a_lexical, lexical_is, left_is}
 
 -- ---- the first part
 
@@ -121,26 +121,6 @@ none_after : (ts : Trees) → append ts none ≡ ts
 none_after none = refl
 none_after (t ▸ ts) = ap (λ us. t ▸ us) (none_after ts)
 
--- ---- a `let` or a `const`
-
-a_lexical : (t : Tree) → is_lexical t ≡ true → (c : Bool) × (t ≡ declaration (lexical_kind c) (children (part t 0)))
-a_lexical (node (shape.VariableDeclaration Let) [] zero (node shape.Listed [] zero ds ▸ none)) e = (false, refl)
-a_lexical (node (shape.VariableDeclaration Const) [] zero (node shape.Listed [] zero ds ▸ none)) e = (true, refl)
-a_lexical (node (shape.VariableDeclaration Let) [] zero (u ▸ none)) e = absurd (true≢false (sym e))
-a_lexical (node (shape.VariableDeclaration Const) [] zero (u ▸ none)) e = absurd (true≢false (sym e))
-a_lexical t e = absurd (true≢false (sym e))
-
-lexical_is : (c : Bool) (ds : Trees) → is_lexical (declaration (lexical_kind c) ds) ≡ true
-lexical_is true ds = refl
-lexical_is false ds = refl
-
-lexical_left_is : (c : Bool) (ds : Trees) (j : ℕ) → j < count ds → (if is_bare (listed ds) 1 then empty_statement else declaration (lexical_kind c) (without ds j)) ≡ lexical_left c (append (first_children j ds) (rest_children (suc j) ds))
-lexical_left_is c none j h = absurd (omega (arith, h))
-lexical_left_is c (t ▸ none) zero h = refl
-lexical_left_is c (t ▸ none) (suc j) h = absurd (omega (arith, h))
-lexical_left_is c (t ▸ (u ▸ ds)) zero h = refl
-lexical_left_is c (t ▸ (u ▸ ds)) (suc j) h = ap (λ us. declaration (lexical_kind c) (t ▸ us)) (without_is (u ▸ ds) j)
-
 -- ---- two neighbours
 
 pub next_part : (t : Tree) (i : ℕ) (x : Tree) → part (with_part t i x) (suc i) ≡ part t (suc i)
@@ -236,11 +216,11 @@ module _ (t : Tree) (i : ℕ) (b : is_block t ≡ true) (next : suc i < count (c
       let (f, r) = and_parts (may_move init) once_there q in
       (a, c, f, r)
 
-  abbrev kind : Bool
+  abbrev kind : VariableDeclarationKind
   kind = (a_lexical statement tests.0).0
 
-  let_there : statement ≡ declaration (lexical_kind kind) ds
-  let_there = (a_lexical statement tests.0).1
+  let_there : statement ≡ declaration kind ds
+  let_there = (a_lexical statement tests.0).1.1
 
   abbrev one : Declares d
   one = declares d tests.1
@@ -254,23 +234,24 @@ module _ (t : Tree) (i : ℕ) (b : is_block t ≡ true) (next : suc i < count (c
   last_within : j < count ds
   last_within = let same = last_is ds some in omega (arith, same)
 
-  statement_is : statement ≡ lexical_among kind x first init
-  statement_is = let_there ∙ ap (declaration (lexical_kind kind)) (parts_of ds j last_within ∙ ap (λ us. append first (d ▸ us)) (last_rest ds) ∙ ap (λ y. append first (y ▸ none)) one.is)
+  statement_is : statement ≡ declared_among kind x first init none
+  statement_is = let_there ∙ ap (declaration kind) (parts_of ds j last_within ∙ ap (λ us. append first (d ▸ us)) (last_rest ds) ∙ ap (λ y. append first (y ▸ none)) one.is)
 
-  block_there : t ≡ block (append before (lexical_among kind x first init ▸ (head ▸ after)))
+  block_there : t ≡ block (append before (declared_among kind x first init none ▸ (head ▸ after)))
   block_there = block_is t b ∙ ap block (parts_of ts i (let within = next in omega (arith, within)) ∙ ap (λ us. append before (statement ▸ us)) (next_child ts (suc i) next) ∙ ap (λ y. append before (y ▸ (head ▸ after))) statement_is)
 
-  left_there : declaration_left statement j ≡ lexical_left kind first
-  left_there = ap (λ y. declaration_left y j) let_there ∙ lexical_left_is kind ds j last_within ∙ ap (λ us. lexical_left kind (append first us)) (last_rest ds) ∙ ap (lexical_left kind) (none_after first)
+  left_there : declaration_left statement j ≡ declared_left kind first
+  left_there = ap (λ y. declaration_left y j) let_there ∙ left_is kind ds j last_within ∙ ap (λ us. declared_left kind (append first us)) (last_rest ds) ∙ ap (declared_left kind) (none_after first)
 
-  written_there : (u : Tree) → u ≡ block_single t i j → u ≡ block (append before (lexical_left kind first ▸ (put_first init head ▸ after)))
+  written_there : (u : Tree) → u ≡ block_single t i j → u ≡ block (append before (declared_left kind first ▸ (put_first init head ▸ after)))
   written_there u f =
       f ∙ ap (λ y. block_single y i j) (block_is t b) ∙ ap block (with_two ts i (declaration_left statement j) (put_first init head) next) ∙ ap (λ y. block (append before (y ▸ (put_first init head ▸ after)))) left_there
 
   pub row_there : (u : Tree) → u ≡ block_single t i j → Row71 t u
   row_there u f = record {
     before = before;
-    is_constant = kind;
+    kind = kind;
+    lexical = (a_lexical statement tests.0).1.0;
     first = first;
     spelling = one.spelling;
     symbol = one.symbol;
@@ -301,7 +282,7 @@ module _ (t w : Tree) (r : Row71 t w) where
   declarators = append r.first (declared ▸ none)
 
   abbrev stated : Tree
-  stated = declaration (lexical_kind r.is_constant) declarators
+  stated = declaration r.kind declarators
 
   abbrev statements : Trees
   statements = append r.before (stated ▸ (r.head ▸ r.after))
@@ -321,7 +302,7 @@ module _ (t w : Tree) (r : Row71 t w) where
       let i = count r.before in
       ap (λ v. is_single no_outside (children (part v 0)) i) r.shape
       ∙ ap (λ c. is_lexical c && is_single_declarator (part c 0) (last_place (children (part c 0))) no_outside statements i) (there_child r.before stated (r.head ▸ r.after))
-      ∙ ap (λ b. b && is_single_declarator (part stated 0) (last_place (children (part stated 0))) no_outside statements i) (lexical_is r.is_constant declarators)
+      ∙ ap (λ b. b && is_single_declarator (part stated 0) (last_place (children (part stated 0))) no_outside statements i) (lexical_is r.kind r.lexical declarators)
       ∙ ap (λ j. is_single_declarator (part stated 0) j no_outside statements i) (last_there r.first declared)
       ∙ ap (λ c. declares_name c && (may_move (part c 1) && is_read_once (names_of (part c 0)) no_outside (part c 1) declarators (count r.first) statements i)) (there_child r.first declared none)
       ∙ and_both (may_move r.init) (is_read_once (named ∷ []) no_outside r.init declarators (count r.first) statements i) r.moves once_is

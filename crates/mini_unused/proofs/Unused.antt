@@ -2,7 +2,8 @@
 use Rattle.std.proofs.Common.{◌≡◌, ℕ, zero, suc, ◌<◌, ◌≤◌, Bool, true, false, List, [], ◌∷◌, refl, sym, ap, ◌∙◌, subst, inl, inr, true≢false, arith}
 use Rattle.std.specs.Prelude.{not, ◌⊎◌, ◌&&◌, ◌||◌, Option, Some, None, is_some, if◌then◌else◌}
 use Rattle.std.proofs.lemmas.Bool.{and_parts}
-use Rattle.mini_model.specs.declared.kind.VariableDeclarationKind.TheVariants.{Let}
+use Rattle.mini_model.specs.declared.kind.VariableDeclarationKind.{VariableDeclarationKind}
+use Rattle.mini_model.specs.declared.kind.VariableDeclarationKind.TheVariants.{Var, Let, Const}
 use Rattle.mini_model.specs.declared.name.Name.{Name}
 use Rattle.mini_model.specs.declared.name.SymbolId.{SymbolId}
 use Rattle.mini_model.specs.declared.place.Position.{Position}
@@ -12,14 +13,15 @@ use Rattle.mini_model.specs.declared.seat.StmtSeat.{StmtSeat}
 use Rattle.mini_model.specs.declared.shape.Shape.TheVariants as shape
 use Rattle.mini_model.specs.Tree.{Tree, Trees, node, none, ◌▸◌, absent, listed, shape_of, children, count, child_or_absent, empty_statement, expression_statement}
 use Rattle.mini_model.specs.Paths.{append}
+use Rattle.mini_laws.specs.Naming as kinds
 use Rattle.mini_laws.specs.ScopeList.{has_eval}
 use Rattle.mini_node.specs.Children.{names_of, part, with_child, with_part, without, is_bare, first_children, rest_children}
 use Rattle.mini_node.specs.Kinds.{is_block}
 use Rattle.mini_node.specs.Made.{block_is}
 use Rattle.mini_rows.specs.Lists.{block, declaration, declares_nothing}
 use Rattle.mini_rows.specs.Declarations.{binding, declarator}
-use Rattle.mini_rows.specs.Unused.{resolved, let_among, left_over, names, any_names, is_idle, Alone, Row72, Row72Idle, Row71, BlockRow}
-use Rattle.mini_unused.specs.RemoveUnusedDeclaration.{is_resolved_binding, is_declarator_shape, declares_name, is_let, may_go, is_alone, is_unused_declarator, list_at, is_unused, UnusedIn, UnusedOf, UnusedAt, let_left, statement_left, list_left, Applied}
+use Rattle.mini_rows.specs.Unused.{resolved, declared_among, declared_left, names, any_names, is_idle, Alone, Row72, Row72Idle, Row71, BlockRow}
+use Rattle.mini_unused.specs.RemoveUnusedDeclaration.{is_resolved_binding, is_declarator_shape, declares_name, is_lexical, may_go, is_alone, is_unused_declarator, list_at, is_unused, UnusedIn, UnusedOf, UnusedAt, let_left, statement_left, list_left, Applied}
 
 -- ---- children
 
@@ -102,10 +104,18 @@ declarator_is : (d : Tree) → is_declarator_shape (shape_of d) && is_bare d 2 �
 declarator_is (node shape.VariableDeclarator [] zero (a ▸ (b ▸ none))) e = refl
 declarator_is d e = absurd (true≢false (sym e))
 
-a_let : (t : Tree) → is_let t ≡ true → t ≡ declaration Let (children (part t 0))
-a_let (node (shape.VariableDeclaration Let) [] zero (node shape.Listed [] zero ds ▸ none)) e = refl
-a_let (node (shape.VariableDeclaration Let) [] zero (u ▸ none)) e = absurd (true≢false (sym e))
-a_let t e = absurd (true≢false (sym e))
+-- of which kind it is
+pub a_lexical : (t : Tree) → is_lexical t ≡ true → (k : VariableDeclarationKind) × ((kinds.is_lexical k ≡ true) × (t ≡ declaration k (children (part t 0))))
+a_lexical (node (shape.VariableDeclaration Let) [] zero (node shape.Listed [] zero ds ▸ none)) e = (Let, (refl, refl))
+a_lexical (node (shape.VariableDeclaration Const) [] zero (node shape.Listed [] zero ds ▸ none)) e = (Const, (refl, refl))
+a_lexical (node (shape.VariableDeclaration Let) [] zero (u ▸ none)) e = absurd (true≢false (sym e))
+a_lexical (node (shape.VariableDeclaration Const) [] zero (u ▸ none)) e = absurd (true≢false (sym e))
+a_lexical t e = absurd (true≢false (sym e))
+
+pub lexical_is : (k : VariableDeclarationKind) → kinds.is_lexical k ≡ true → (ds : Trees) → is_lexical (declaration k ds) ≡ true
+lexical_is Let e ds = refl
+lexical_is Const e ds = refl
+lexical_is Var e ds = absurd (true≢false (sym e))
 
 pub record Declares (d : Tree) : Type 0 where
   pub spelling : List ℕ
@@ -148,12 +158,12 @@ without_is (t ▸ none) zero = refl
 without_is (t ▸ (u ▸ ds)) zero = refl
 without_is (t ▸ ds) (suc j) = ap (λ us. t ▸ us) (without_is ds j)
 
-left_is : (ds : Trees) (j : ℕ) → j < count ds → (if is_bare (listed ds) 1 then empty_statement else declaration Let (without ds j)) ≡ left_over (append (first_children j ds) (rest_children (suc j) ds))
-left_is none j h = absurd (omega (arith, h))
-left_is (t ▸ none) zero h = refl
-left_is (t ▸ none) (suc j) h = absurd (omega (arith, h))
-left_is (t ▸ (c ▸ ds)) zero h = refl
-left_is (t ▸ (c ▸ ds)) (suc j) h = ap (λ us. declaration Let (t ▸ us)) (without_is (c ▸ ds) j)
+pub left_is : (k : VariableDeclarationKind) (ds : Trees) (j : ℕ) → j < count ds → (if is_bare (listed ds) 1 then empty_statement else declaration k (without ds j)) ≡ declared_left k (append (first_children j ds) (rest_children (suc j) ds))
+left_is k none j h = absurd (omega (arith, h))
+left_is k (t ▸ none) zero h = refl
+left_is k (t ▸ none) (suc j) h = absurd (omega (arith, h))
+left_is k (t ▸ (c ▸ ds)) zero h = refl
+left_is k (t ▸ (c ▸ ds)) (suc j) h = ap (λ us. declaration k (t ▸ us)) (without_is (c ▸ ds) j)
 
 only_one : (ds : Trees) (j : ℕ) → is_bare (listed ds) 1 ≡ true → j < count ds → (none ≡ first_children j ds) × (none ≡ rest_children (suc j) ds)
 only_one none j e h = absurd (omega (arith, h))
@@ -198,15 +208,18 @@ module _ (t : Tree) (i j : ℕ) (b : is_block t ≡ true) (h : i < count (childr
   abbrev alone_there : Bool
   alone_there = is_alone (names_of (part d 0)) no_outside init ds j ts i
 
-  tests : (is_let statement ≡ true) × (declares_name d ≡ true) × (may_go init (part statement 0) ≡ true) × (alone_there ≡ true)
+  tests : (is_lexical statement ≡ true) × (declares_name d ≡ true) × (may_go init (part statement 0) ≡ true) × (alone_there ≡ true)
   tests =
-      let (a, p) = and_parts (is_let statement) (declares_name d && (may_go init (part statement 0) && alone_there)) e in
+      let (a, p) = and_parts (is_lexical statement) (declares_name d && (may_go init (part statement 0) && alone_there)) e in
       let (c, q) = and_parts (declares_name d) (may_go init (part statement 0) && alone_there) p in
       let (f, r) = and_parts (may_go init (part statement 0)) alone_there q in
       (a, c, f, r)
 
-  let_there : statement ≡ declaration Let ds
-  let_there = a_let statement tests.0
+  abbrev kind : VariableDeclarationKind
+  kind = (a_lexical statement tests.0).0
+
+  let_there : statement ≡ declaration kind ds
+  let_there = (a_lexical statement tests.0).1.1
 
   abbrev one : Declares d
   one = declares d tests.1
@@ -217,13 +230,13 @@ module _ (t : Tree) (i j : ℕ) (b : is_block t ≡ true) (h : i < count (childr
   nothing_else : Quiet x init ds j ts i
   nothing_else = quiet x init ds j ts i (sym (ap (λ y. is_alone (names_of (part y 0)) no_outside init ds j ts i) one.is) ∙ tests.3)
 
-  statement_is : statement ≡ let_among x first init last
-  statement_is = let_there ∙ ap (declaration Let) (parts_of ds j g ∙ ap (λ y. append first (y ▸ last)) one.is)
+  statement_is : statement ≡ declared_among kind x first init last
+  statement_is = let_there ∙ ap (declaration kind) (parts_of ds j g ∙ ap (λ y. append first (y ▸ last)) one.is)
 
-  block_there : t ≡ block (append before (let_among x first init last ▸ after))
+  block_there : t ≡ block (append before (declared_among kind x first init last ▸ after))
   block_there = block_is t b ∙ ap block (parts_of ts i h ∙ ap (λ y. append before (y ▸ after)) statement_is)
 
-  unused : Alone x before first init last after
+  unused : Alone kind x before first init last after
   unused = record { earlier = nothing_else.earlier; declared_earlier = nothing_else.declared_earlier; initial = nothing_else.initial; declared_later = nothing_else.declared_later; later = nothing_else.later; unseen = sym (ap has_eval block_there) ∙ v }
 
   list_is : part statement 0 ≡ listed ds
@@ -232,8 +245,8 @@ module _ (t : Tree) (i j : ℕ) (b : is_block t ≡ true) (h : i < count (childr
   abbrev left_by : Bool → Tree
   left_by c = if c then (if is_bare (part statement 0) 1 then empty_statement else let_left statement j) else expression_statement init
 
-  left_idle : is_idle init ≡ true → statement_left statement j ≡ left_over (append first last)
-  left_idle c = ap left_by c ∙ ap (λ y. if is_bare (part y 0) 1 then empty_statement else let_left y j) let_there ∙ left_is ds j g
+  left_idle : is_idle init ≡ true → statement_left statement j ≡ declared_left kind (append first last)
+  left_idle c = ap left_by c ∙ ap (λ y. if is_bare (part y 0) 1 then empty_statement else let_left y j) let_there ∙ left_is kind ds j g
 
   left_value : is_idle init ≡ false → statement_left statement j ≡ expression_statement init
   left_value c = ap left_by c
@@ -248,12 +261,14 @@ module _ (t : Tree) (i j : ℕ) (b : is_block t ≡ true) (h : i < count (childr
       by true c =
           inr (inl (record {
             before = before;
+            kind = kind;
             first = first;
             spelling = one.spelling;
             symbol = one.symbol;
             init = init;
             last = last;
             after = after;
+            lexical = (a_lexical statement tests.0).1.0;
             idle = c;
             unused = unused;
             shape = block_there;
@@ -264,13 +279,15 @@ module _ (t : Tree) (i j : ℕ) (b : is_block t ≡ true) (h : i < count (childr
           let (no_first, no_last) = only_one ds j single g in
           inl (record {
             before = before;
+            kind = kind;
             spelling = one.spelling;
             symbol = one.symbol;
             init = init;
             after = after;
+            lexical = (a_lexical statement tests.0).1.0;
             present = present;
-            unused = subst (λ us. Alone x before us init none after) (sym no_first) (subst (λ us. Alone x before first init us after) (sym no_last) unused);
-            shape = block_there ∙ sym (λ k. block (append before (let_among x (no_first k) init (no_last k) ▸ after)));
+            unused = subst (λ us. Alone kind x before us init none after) (sym no_first) (subst (λ us. Alone kind x before first init us after) (sym no_last) unused);
+            shape = block_there ∙ sym (λ k. block (append before (declared_among kind x (no_first k) init (no_last k) ▸ after)));
             written = written t u i j b h f ∙ ap (λ y. block (append before (y ▸ after))) (left_value c);
           })
 
@@ -279,25 +296,27 @@ module _ (t : Tree) (i j : ℕ) (b : is_block t ≡ true) (h : i < count (childr
 -- a block that a row reads
 pub record Read (t : Tree) : Type 0 where
   before : Trees
+  kind : VariableDeclarationKind
   first : Trees
   spelling : List ℕ
   symbol : ℕ
   init : Tree
   last : Trees
   after : Trees
+  lexical : kinds.is_lexical kind ≡ true
   goes : may_go init (listed (append first (declarator (binding (resolved spelling symbol)) init ▸ last))) ≡ true
-  unused : Alone (resolved spelling symbol) before first init last after
-  shape : t ≡ block (append before (let_among (resolved spelling symbol) first init last ▸ after))
+  unused : Alone kind (resolved spelling symbol) before first init last after
+  shape : t ≡ block (append before (declared_among kind (resolved spelling symbol) first init last ▸ after))
 
 pub or_true : (b : Bool) → (b || true) ≡ true
 or_true true = refl
 or_true false = refl
 
 dropped : (t w : Tree) → Row72 t w → Read t
-dropped t w r = record { before = r.before; first = none; spelling = r.spelling; symbol = r.symbol; init = r.init; last = none; after = r.after; goes = ap (λ b. is_idle r.init || b) r.present ∙ or_true (is_idle r.init); unused = r.unused; shape = r.shape }
+dropped t w r = record { before = r.before; kind = r.kind; lexical = r.lexical; first = none; spelling = r.spelling; symbol = r.symbol; init = r.init; last = none; after = r.after; goes = ap (λ b. is_idle r.init || b) r.present ∙ or_true (is_idle r.init); unused = r.unused; shape = r.shape }
 
 dropped_idle : (t w : Tree) → Row72Idle t w → Read t
-dropped_idle t w r = record { before = r.before; first = r.first; spelling = r.spelling; symbol = r.symbol; init = r.init; last = r.last; after = r.after; goes = ap (λ b. b || (is_bare (listed (append r.first (declarator (binding (resolved r.spelling r.symbol)) r.init ▸ r.last))) 1 && declares_nothing r.init)) r.idle; unused = r.unused; shape = r.shape }
+dropped_idle t w r = record { before = r.before; kind = r.kind; lexical = r.lexical; first = r.first; spelling = r.spelling; symbol = r.symbol; init = r.init; last = r.last; after = r.after; goes = ap (λ b. b || (is_bare (listed (append r.first (declarator (binding (resolved r.spelling r.symbol)) r.init ▸ r.last))) 1 && declares_nothing r.init)) r.idle; unused = r.unused; shape = r.shape }
 
 module _ (t : Tree) (r : Read t) where
   abbrev named_there : Name
@@ -310,7 +329,7 @@ module _ (t : Tree) (r : Read t) where
   declarators_there = append r.first (declarator_there ▸ r.last)
 
   abbrev statement_there : Tree
-  statement_there = declaration Let declarators_there
+  statement_there = declaration r.kind declarators_there
 
   abbrev statements_there : Trees
   statements_there = append r.before (statement_there ▸ r.after)
@@ -332,7 +351,8 @@ module _ (t : Tree) (r : Read t) where
       let ds = declarators_there in
       let j = count r.first in
       ap (λ v. is_unused no_outside (children (part v 0)) i j) r.shape
-      ∙ ap (λ c. is_let c && is_unused_declarator (part c 0) j no_outside ts i) (there_child r.before statement_there r.after)
+      ∙ ap (λ c. is_lexical c && is_unused_declarator (part c 0) j no_outside ts i) (there_child r.before statement_there r.after)
+      ∙ ap (λ b. b && is_unused_declarator (part statement_there 0) j no_outside ts i) (lexical_is r.kind r.lexical ds)
       ∙ ap (λ c. declares_name c && (may_go (part c 1) (listed ds) && is_alone (names_of (part c 0)) no_outside (part c 1) ds j ts i)) (there_child r.first declarator_there r.last)
       ∙ and_both (may_go r.init (listed ds)) (is_alone (named_there ∷ []) no_outside r.init ds j ts i) r.goes alone_is
 
@@ -389,9 +409,9 @@ module _ (P : ℕ → Type 0) where
 
 -- of one statement
 
-pub none_of : (o : Tree) (ts : Trees) (i : ℕ) → is_let (child_or_absent ts i) ≡ false → UnusedOf o ts i None
+pub none_of : (o : Tree) (ts : Trees) (i : ℕ) → is_lexical (child_or_absent ts i) ≡ false → UnusedOf o ts i None
 none_of o ts i e j h = ap (λ b. b && is_unused_declarator (list_at ts i) j o ts i) e
 
-pub of_list : (o : Tree) (ts : Trees) (i : ℕ) (f : Option ℕ) → is_let (child_or_absent ts i) ≡ true → 0 < count (children (child_or_absent ts i)) → UnusedIn (list_at ts i) o ts i f → UnusedOf o ts i f
-of_list o ts i (Some j) e h u = (h, u.0, and_both (is_let (child_or_absent ts i)) (is_unused_declarator (list_at ts i) j o ts i) e u.1)
+pub of_list : (o : Tree) (ts : Trees) (i : ℕ) (f : Option ℕ) → is_lexical (child_or_absent ts i) ≡ true → 0 < count (children (child_or_absent ts i)) → UnusedIn (list_at ts i) o ts i f → UnusedOf o ts i f
+of_list o ts i (Some j) e h u = (h, u.0, and_both (is_lexical (child_or_absent ts i)) (is_unused_declarator (list_at ts i) j o ts i) e u.1)
 of_list o ts i None e h u = λ j g. ap (λ b. b && is_unused_declarator (list_at ts i) j o ts i) e ∙ u j g

@@ -1,7 +1,7 @@
 -- 72, `remove_unused_declaration`: `{ let x = a(); b(); }` becomes `{ a(); b(); }`, `{ let x = 1; b(); }` becomes `{ ; b(); }`, and
 -- `{ let x, y = b(); c(y); }` becomes `{ let y = b(); c(y); }`; so do the statements of a function.
 use Rattle.std.specs.Prelude.{◌≡◌, ◌<◌, ℕ, suc, nat_eq, Bool, true, false, not, ◌&&◌, ◌||◌, List, [], ◌∷◌, Option, Some, None, is_some, if◌then◌else◌}
-use Rattle.mini_model.specs.declared.kind.VariableDeclarationKind.TheVariants.{Let}
+use Rattle.mini_model.specs.declared.kind.VariableDeclarationKind.TheVariants.{Let, Const}
 use Rattle.mini_model.specs.declared.name.Name.{Name}
 use Rattle.mini_model.specs.declared.place.Position.{Position}
 use Rattle.mini_model.specs.declared.shape.Shape.{Shape}
@@ -23,9 +23,10 @@ abbrev pub is_declarator_shape : Shape → Bool
 is_declarator_shape shape.VariableDeclarator = true
 is_declarator_shape _ = false
 
-abbrev pub is_let_shape : Shape → Bool
-is_let_shape (shape.VariableDeclaration Let) = true
-is_let_shape _ = false
+abbrev pub is_lexical_shape : Shape → Bool
+is_lexical_shape (shape.VariableDeclaration Let) = true
+is_lexical_shape (shape.VariableDeclaration Const) = true
+is_lexical_shape _ = false
 
 -- a name that is declared, with its symbol
 abbrev pub has_symbol : List Name → Bool
@@ -39,9 +40,9 @@ is_resolved_binding t = is_binding_shape (shape_of t) && (is_named_leaf t && has
 abbrev pub declares_name : Tree → Bool
 declares_name d = is_declarator_shape (shape_of d) && (is_bare d 2 && is_resolved_binding (part d 0))
 
--- a `let`, whose declarators are those of its list
-abbrev pub is_let : Tree → Bool
-is_let t = is_let_shape (shape_of t) && (is_bare t 1 && is_listed (part t 0))
+-- a `let` or a `const`, whose declarators are those of its list
+abbrev pub is_lexical : Tree → Bool
+is_lexical t = is_lexical_shape (shape_of t) && (is_bare t 1 && is_listed (part t 0))
 
 -- of a declarator that goes nothing misses the initializer, or it is the only one of the list and leaves an expression
 abbrev pub may_go : Tree → Tree → Bool
@@ -54,7 +55,7 @@ is_alone [] o init ds j ts i = false
 is_alone (x ∷ xs) o init ds j ts i =
     not (names x o) && (not (names x init) && (not (any_names x (rest_children (suc j) ds)) && (not (any_names x (rest_children (suc i) ts)) && (not (any_names x (first_children j ds)) && not (any_names x (first_children i ts))))))
 
--- the declarator at the place in the list of a `let`, which is a statement at its place, has a name that nothing else mentions
+-- the declarator at the place in the list of a declaration, which is a statement at its place, has a name that nothing else mentions
 abbrev pub is_unused_declarator : Tree → ℕ → Tree → Trees → ℕ → Bool
 is_unused_declarator l j o ts i = declares_name (part l j) && (may_go (part (part l j) 1) l && is_alone (names_of (part (part l j) 0)) o (part (part l j) 1) (children l) j ts i)
 
@@ -62,9 +63,9 @@ is_unused_declarator l j o ts i = declares_name (part l j) && (may_go (part (par
 abbrev pub list_at : Trees → ℕ → Tree
 list_at ts i = part (child_or_absent ts i) 0
 
--- such a declarator of a `let`
+-- such a declarator of a `let` or a `const`
 abbrev pub is_unused : Tree → Trees → ℕ → ℕ → Bool
-is_unused o ts i j = is_let (child_or_absent ts i) && is_unused_declarator (list_at ts i) j o ts i
+is_unused o ts i j = is_lexical (child_or_absent ts i) && is_unused_declarator (list_at ts i) j o ts i
 
 -- the place of one in a list, or there is none
 abbrev pub UnusedIn : Tree → Tree → Trees → ℕ → Option ℕ → Type 0

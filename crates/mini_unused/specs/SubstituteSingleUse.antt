@@ -1,7 +1,6 @@
 -- 71, `substitute_single_use`: `{ let x = a(); return x + b; }` becomes `{ ; return a() + b; }`, and `{ const a = b(), x = c(); return x; }`
 -- becomes `{ const a = b(); return c(); }`.
 use Rattle.std.specs.Prelude.{◌≡◌, ◌<◌, ◌^◌, ◌⊎◌, ℕ, suc, Bool, true, false, not, ◌&&◌, ◌||◌, List, [], ◌∷◌, Option, Some, None, if◌then◌else◌}
-use Rattle.mini_model.specs.declared.kind.VariableDeclarationKind.TheVariants.{Let, Const}
 use Rattle.mini_model.specs.declared.name.Name.{Name}
 use Rattle.mini_model.specs.declared.shape.Shape.{Shape}
 use Rattle.mini_model.specs.declared.shape.Shape.TheVariants as shape
@@ -10,7 +9,7 @@ use Rattle.mini_laws.specs.ScopeList.{has_eval}
 use Rattle.mini_node.specs.Children.{names_of, part, with_part, is_bare, is_nameless, first_children, rest_children}
 use Rattle.mini_node.specs.Kinds.{is_listed}
 use Rattle.mini_rows.specs.Unused.{names, any_names, leads, is_childless, is_head_shape, may_move, reads_first, put_first}
-use Rattle.mini_unused.specs.RemoveUnusedDeclaration.{declares_name, list_at, let_left, list_left, UnusedAt}
+use Rattle.mini_unused.specs.RemoveUnusedDeclaration.{declares_name, is_lexical, list_at, let_left, list_left, UnusedAt}
 
 -- a node without a name and a number, which evaluates its first part before all else
 abbrev pub may_begin : Bool → Tree → Bool
@@ -19,15 +18,6 @@ may_begin in_list t = leads in_list (shape_of t) (is_childless (part t 0)) && is
 -- a statement that does
 abbrev pub is_head : Tree → Bool
 is_head t = is_head_shape (shape_of t) && is_nameless t
-
--- a `let` or a `const`, whose declarators are those of its list
-abbrev pub is_lexical_shape : Shape → Bool
-is_lexical_shape (shape.VariableDeclaration Let) = true
-is_lexical_shape (shape.VariableDeclaration Const) = true
-is_lexical_shape _ = false
-
-abbrev pub is_lexical : Tree → Bool
-is_lexical t = is_lexical_shape (shape_of t) && (is_bare t 1 && is_listed (part t 0))
 
 -- the place of the last of some declarators
 abbrev pub last_place : Trees → ℕ

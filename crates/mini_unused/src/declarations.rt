@@ -11,7 +11,7 @@ ghost use Rattle.mini_node.specs.Children.{names, part, with_part};
 ghost use Rattle.mini_rows.specs.Unused.{is_idle as is_it_idle, UnusedContracts};
 ghost use Rattle.mini_unused.specs.Lighter.{unused_is_lighter};
 ghost use Rattle.mini_unused.specs.RemoveUnusedDeclaration as row;
-ghost use Rattle.mini_unused.specs.RemoveUnusedDeclaration.{declares_name as it_declares_name, is_let as it_is_let, let_left, UnusedIn, UnusedOf, UnusedAt, Applied, AppliedInFunction, Rests};
+ghost use Rattle.mini_unused.specs.RemoveUnusedDeclaration.{declares_name as it_declares_name, is_lexical as it_is_lexical, let_left, UnusedIn, UnusedOf, UnusedAt, Applied, AppliedInFunction, Rests};
 ghost use Rattle.mini_unused.specs.SubstituteSingleUse.{Removed};
 
 use crate::declares::declares_nothing;
@@ -56,16 +56,16 @@ pub fn declares_name(node: &Node) -> bool
         && is_resolved_binding(node.child(0))
 }
 
-// A `let`, with its list of declarators.
-fn is_let(node: &Node) -> bool
-    ensures kind { result ≡ it_is_let node.now }
+/// A `let` or a `const`, with its list of declarators.
+pub fn is_lexical(node: &Node) -> bool
+    ensures kind { result ≡ it_is_lexical node.now }
     ensures list { result ≡ true → count (children node.now) ≡ 1 }
 {
-    matches!(
+    let has_shape = matches!(
         node.shape(),
-        Shape::VariableDeclaration(VariableDeclarationKind::Let)
-    ) && node.is_bare(1)
-        && is_listed(node.child(0))
+        Shape::VariableDeclaration(VariableDeclarationKind::Let | VariableDeclarationKind::Const)
+    );
+    has_shape && node.is_bare(1) && is_listed(node.child(0))
 }
 
 // An initializer that nothing misses: none, or an expression that has no effect and leaves nothing behind.
@@ -154,14 +154,14 @@ fn unused_in(list: &Node, outside: &Node, statements: &Nodes, at: usize) -> Opti
     None
 }
 
-// Of the statement, where it is a `let`.
+// Of the statement, where it is a `let` or a `const`.
 fn unused_of(outside: &Node, statements: &Nodes, at: usize) -> Option<usize>
     requires statement { at < count statements.now }
     requires fits { at + 1 < 2 ^ 64 }
     ensures { UnusedOf outside.now statements.now at result }
 {
     let statement = statements.child(at);
-    if !is_let(statement) {
+    if !is_lexical(statement) {
         return None;
     }
     unused_in(statement.child(0), outside, statements, at)

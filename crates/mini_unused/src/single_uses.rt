@@ -12,11 +12,11 @@ ghost use Rattle.mini_unused.specs.RemoveUnusedDeclaration.{list_at, UnusedAt};
 ghost use Rattle.mini_unused.specs.SubstituteSingleUse as row;
 ghost use Rattle.mini_unused.specs.SubstituteSingleUse.{declaration_left, SingleAt, Removed};
 
-use crate::declarations::{declares_name, put_child, take_child, take_declarator};
+use crate::declarations::{declares_name, is_lexical, put_child, take_child, take_declarator};
 use crate::evals::either_has_eval;
 use crate::mentions::{is_mentioned, is_mentioned_before, is_mentioned_from, is_same_symbol};
-use mini_model::{Name, Shape, UnaryOperator, VariableDeclarationKind};
-use mini_node::{Node, Nodes, discard, empty_statement, is_identifier, is_listed, two};
+use mini_model::{Name, Shape, UnaryOperator};
+use mini_node::{Node, Nodes, discard, empty_statement, is_identifier, two};
 use mini_terms::is_plain_part;
 use std::alloc::Global;
 
@@ -225,18 +225,6 @@ fn is_single_declarator(
             statements,
             at,
         )
-}
-
-// A `let` or a `const`, with its list of declarators.
-fn is_lexical(node: &Node) -> bool
-    ensures kind { result ≡ row.is_lexical node.now }
-    ensures list { result ≡ true → count (children node.now) ≡ 1 }
-{
-    let has_shape = matches!(
-        node.shape(),
-        Shape::VariableDeclaration(VariableDeclarationKind::Let | VariableDeclarationKind::Const)
-    );
-    has_shape && node.is_bare(1) && is_listed(node.child(0))
 }
 
 // The statement is a `let` or a `const`, whose last declarator is such a one.
