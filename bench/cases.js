@@ -515,6 +515,17 @@ becomes("a test in a function", "function f() { let x = a(); if (x) return b; c(
 becomes("one read by another in a function", "function f() { let x = a(); let y = x.b(); return y.c; }", "function f() { return a().b().c; }", { kept: 2, symbols: [0], passes: 3 });
 becomes("one in a function that a frame of a script shows", "let x = a(); function f(y) { let z = y(); return z.b(x); }", "let x = a(); function f(y) { return y().b(x); }", { kept: 2, symbols: [0, 1, 2], passes: 3 });
 
+// ---- constants that nothing mentions go, too
+
+becomes("a constant of a block", "{ const x = a(); b(); }", "a(), b();", { symbols: [] });
+becomes("one whose initializer nothing misses", "{ const x = 1; b(); }", "b();", { symbols: [] });
+becomes("one of several constants", "{ const x = 1, y = b(); c(y, y); }", "{ const y = b(); c(y, y); }", { symbols: [1] });
+becomes("a constant whose initializer may throw", "{ const x = y; b(); }", "y, b();", { symbols: [] });
+becomes("one of a consequent of nothing else", "if (a) { const b = 1; } else { while (c); }", "if (!a) while (c);", { symbols: [] });
+becomes("a constant of a function", "function f() { const x = a(); b(); }", "function f() { a(), b(); }", { kept: 2, symbols: [0], passes: 3 });
+becomes("a constant of an arrow function", "f(() => { const x = a(); b(); });", "f(() => { a(), b(); });", { kept: 2, symbols: [], passes: 3 });
+becomes("one of several of a method", "f({ m() { const x = 1, y = a(); b(y, y); } });", "f({ m() { const y = a(); b(y, y); } });", { kept: 2, symbols: [1] });
+
 // ---- so do the names of function and class expressions, and of what is caught
 
 becomes("a function", "f(function g() { return 1; });", "f(function () { return 1; });", { kept: 2, symbols: [] });
