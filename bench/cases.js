@@ -369,7 +369,7 @@ becomes(
   let count = 0;
   export class Box { constructor(v) { this.v = v; } get() { return this.v === undefined ? null : this.v; } }
   export function add({ a, b = 1 }) { return count += 1, a ? a + b : b; }
-  export function* ids(n) { var i; for (i = 0; i < n; i++) yield i; }`,
+  export function* ids(n) { for (var i = 0; i < n; i++) yield i; }`,
   { kept: 8, symbols: 11, passes: 4 },
 );
 

@@ -26,6 +26,8 @@ pub mod ListStatements
 pub mod ListHeads
 pub mod ListBegun
 pub mod ListKeptBegun
+pub mod ListEach
+pub mod ListKeptEach
 pub mod ListLoops
 pub mod ListEnds
 pub mod ListTails

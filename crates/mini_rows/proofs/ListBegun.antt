@@ -48,12 +48,12 @@ module _ (e : Environment) (spelling target : List ℕ) (k : ℕ) where
   abbrev takes : Value → State → Completion (Unit {0})
   takes v s = means e id (Binds false) v s
 
-  put_is : (v : Value) (s : State) → means e (identifier (resolved target k)) Target (Put AName v) s ≡ takes v s
+  pub put_is : (v : Value) (s : State) → means e (identifier (resolved target k)) Target (Put AName v) s ≡ takes v s
   unfolding means meaning step
   put_is v s =
       spelled_alike e (naming shape.Identifier Target (variables (resolved target k ∷ [])) 0 []) (λ i. Stat None) (λ i. Stat None) (λ i r z. meaning e none i (Stat None) r z) (λ i r z. meaning e none i (Stat None) r z) v (same_text target (codes "eval")) s
 
-  prepared : (s : State) → means e (identifier (resolved target k)) Target Prepare s ≡ ok AName s
+  pub prepared : (s : State) → means e (identifier (resolved target k)) Target Prepare s ≡ ok AName s
   unfolding means meaning step
   prepared s = refl
 
@@ -93,7 +93,7 @@ bare_one e (node shape.VariableDeclarator xs n (a ▸ (b ▸ (c ▸ ts)))) h s =
     absurd (omega (arith, two))
 bare_one e d h s = absurd (true≢false (sym h))
 
-bare_all : (e : Environment) (ds : Trees) → are_bare_declarators ds ≡ true → (s : State) → declare e ds false s ≡ ok tt s
+pub bare_all : (e : Environment) (ds : Trees) → are_bare_declarators ds ≡ true → (s : State) → declare e ds false s ≡ ok tt s
 bare_all e none h s = declare_none e false s
 bare_all e (d ▸ ds) h s =
     let (x, y) = and_parts (is_bare_declarator d) (are_bare_declarators ds) h in

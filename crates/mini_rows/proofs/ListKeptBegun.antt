@@ -157,7 +157,7 @@ or_nothing : (b : Bool) → (b || false) ≡ b
 or_nothing true = refl
 or_nothing false = refl
 
-stricter_alone : (f : Fixed) → stricter f Writable ≡ f
+pub stricter_alone : (f : Fixed) → stricter f Writable ≡ f
 stricter_alone Writable = refl
 stricter_alone KeepsOld = refl
 stricter_alone Constant = refl

@@ -13,13 +13,14 @@ use Rattle.mini_kept.specs.Placed.{fits_place}
 use Rattle.mini_kept.proofs.Placed.{listed_body_slot}
 use Rattle.mini_rows.specs.Switches.{Switches}
 use Rattle.mini_rows.specs.Arranged.{KeptAt}
-use Rattle.mini_rows.specs.Lists.{Head, Return, Throw, If, Switch, For, Row67, SequencesRow, LoopRow, JoinRow, StretchRow, InList, ListRow, ListContracts, NeighbourRow, EndRow, bare_return}
+use Rattle.mini_rows.specs.Lists.{Head, Return, Throw, If, Switch, For, Row67, SequencesRow, LoopRow, JoinRow, StretchRow, InList, ListRow, ListContracts, NeighbourRow, EndRow, bare_return, EachIn, EachOf}
 use Rattle.mini_rows.specs.ListLaws.{opens_scope, PlainRow}
 use Rattle.mini_rows.proofs.ArrangedLawful.{kept_is_lawful}
 use Rattle.mini_rows.proofs.ListEndsKept.{end_kept, end_fits}
 use Rattle.mini_rows.proofs.ListWeights.{end_in_list}
 use Rattle.mini_rows.proofs.ListKept.{plain_lists_kept, guards_kept, row_77_kept}
 use Rattle.mini_rows.proofs.ListKeptBegun.{begun_kept}
+use Rattle.mini_rows.proofs.ListKeptEach.{each_kept}
 use Rattle.mini_rows.proofs.ListKeptDeclarations.{declarations_kept}
 use Rattle.mini_rows.proofs.ListKeptHeads.{absent_for_kept, for_kept, switch_kept}
 use Rattle.mini_rows.proofs.ListKeptVars.{free_kept, init_kept}
@@ -67,7 +68,9 @@ module _ (o : Switches) (n w : Tree) (r : InList (NeighbourRow o) n w) where
 
   neighbours_kept : NeighbourRow o r.read r.put → KeptAt StatementList n w
   neighbours_kept (inl m) = row_kept m
-  neighbours_kept (inr (inr m)) = begun_kept r.before r.after n w r.read r.put m r.shape r.written
+  neighbours_kept (inr (inr (inr (inl m)))) = each_kept EachOf r.before r.after n w r.read r.put m r.shape r.written
+  neighbours_kept (inr (inr (inr (inr m)))) = each_kept EachIn r.before r.after n w r.read r.put m.1 r.shape r.written
+  neighbours_kept (inr (inr (inl m))) = begun_kept r.before r.after n w r.read r.put m r.shape r.written
   neighbours_kept (inr (inl (s, inl m))) = guards_kept n w (record { before = r.before; read = r.read; put = r.put; after = r.after; row = m; shape = r.shape; written = r.written })
   neighbours_kept (inr (inl (s, inr m))) = subst (λ t. KeptAt StatementList t w) (sym r.shape) (subst (KeptAt StatementList (listed (append r.before (append r.read r.after)))) (sym r.written) (row_77_kept r.before r.after r.read r.put m))
 

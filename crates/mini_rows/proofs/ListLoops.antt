@@ -24,21 +24,21 @@ use Rattle.mini_rows.proofs.ListHeads.{nothing_by, for_names, for_kids, for_rest
 -- ---- commands that do the same over two families of children
 
 module _ (e : Environment) (names : Naming) (q p : ℕ → Demand) (K : Kids q) (L : Kids p) where
-  abbrev Alike : {A : Type 0} → Command q A → Command p A → Type 0
+  abbrev pub Alike : {A : Type 0} → Command q A → Command p A → Type 0
   Alike c d = (z : State) → run {q = q} e names K c z ≡ run {q = p} e names L d z
 
-  bind_alike : {A B : Type 0} (c : Command q A) (d : Command p A) (f : A → Command q B) (g : A → Command p B) → Alike c d → ((a : A) → Alike (f a) (g a)) → Alike (bind c f) (bind d g)
+  pub bind_alike : {A B : Type 0} (c : Command q A) (d : Command p A) (f : A → Command q B) (g : A → Command p B) → Alike c d → ((a : A) → Alike (f a) (g a)) → Alike (bind c f) (bind d g)
   bind_alike c d f g h k z =
       run_bind e names c f K z
       ∙ ap (λ x. either x (λ a z. run {q = q} e names K (f a) z) (λ x z. stop x z)) (h z)
       ∙ either_cong (run {q = p} e names L d z) _ _ _ _ (λ a y. k a y) (λ x y. refl)
       ∙ sym (run_bind e names d g L z)
 
-  choose_alike : {A : Type 0} (b : Bool) (c c' : Command q A) (d d' : Command p A) → Alike c d → Alike c' d' → Alike (choose b c c') (choose b d d')
+  pub choose_alike : {A : Type 0} (b : Bool) (c c' : Command q A) (d d' : Command p A) → Alike c d → Alike c' d' → Alike (choose b c c') (choose b d d')
   choose_alike true c c' d d' h k = h
   choose_alike false c c' d d' h k = k
 
-  after_alike : (labels : LabelSet) (x : Ends (Unit {0})) → Alike (after_body labels x) (after_body labels x)
+  pub after_alike : (labels : LabelSet) (x : Ends (Unit {0})) → Alike (after_body labels x) (after_body labels x)
   after_alike labels (done u) z = refl
   after_alike labels (ended (Broken None)) z = refl
   after_alike labels (ended (Continued None)) z = refl
@@ -52,10 +52,10 @@ module _ (e : Environment) (names : Naming) (q p : ℕ → Demand) (K : Kids q) 
   repeat_alike zero c d h z = refl
   repeat_alike (suc n) c d h z = bind_alike c d (λ b. choose b (repeat n c) (ret tt)) (λ b. choose b (repeat n d) (ret tt)) h (λ b. choose_alike b (repeat n c) (ret tt) (repeat n d) (ret tt) (repeat_alike n c d h) (λ z. refl)) z
 
-  loop_alike : (c : Command q Bool) (d : Command p Bool) → Alike c d → Alike (loop c) (loop d)
+  pub loop_alike : (c : Command q Bool) (d : Command p Bool) → Alike c d → Alike (loop c) (loop d)
   loop_alike c d h z = either_cong (act e names fuel z) _ _ _ _ (λ n y. repeat_alike (suc n) (op turn (then (λ u. c))) (op turn (then (λ u. d))) (λ x. either_cong (act e names turn x) _ _ _ _ (λ u w. h w) (λ s w. refl)) y) (λ x y. refl)
 
-  attempt_alike : {A B : Type 0} (c : Command q A) (d : Command p A) (f : Ends A → Command q B) (g : Ends A → Command p B) → Alike c d → ((x : Ends A) → Alike (f x) (g x)) → Alike (attempt c f) (attempt d g)
+  pub attempt_alike : {A B : Type 0} (c : Command q A) (d : Command p A) (f : Ends A → Command q B) (g : Ends A → Command p B) → Alike c d → ((x : Ends A) → Alike (f x) (g x)) → Alike (attempt c f) (attempt d g)
   attempt_alike c d f g h k z =
       run_attempt e names c f K z
       ∙ ap (λ x. either x (λ a y. run {q = q} e names K (f (done a)) y) (λ x y. run {q = q} e names K (f (ended x)) y)) (h z)
@@ -66,7 +66,7 @@ module _ (e : Environment) (names : Naming) (q p : ℕ → Demand) (K : Kids q) 
   as_ended_alike (done a) z = refl
   as_ended_alike (ended x) z = refl
 
-  scoped_alike : {A : Type 0} (c : Command q A) (d : Command p A) → Alike c d → Alike (scoped c) (scoped d)
+  pub scoped_alike : {A : Type 0} (c : Command q A) (d : Command p A) → Alike c d → Alike (scoped c) (scoped d)
   scoped_alike c d h z = either_cong (act e names hide z) _ _ _ _ (λ u y. attempt_alike c d (λ x. op hide (then (λ u. as_ended x))) (λ x. op hide (then (λ u. as_ended x))) h (λ x w. either_cong (act e names hide w) _ _ _ _ (λ u v. as_ended_alike x v) (λ x v. refl)) y) (λ x y. refl)
 
 -- ---- `for`

@@ -20,7 +20,7 @@ use Rattle.mini_laws.proofs.Runs.{either_cong, either_assoc, either_eta, either_
 use Rattle.mini_laws.proofs.Truth.{coherent}
 use Rattle.mini_laws.proofs.Rows.{Equal, equal_same}
 use Rattle.mini_rows.specs.Switches.{Switches}
-use Rattle.mini_rows.specs.Lists.{declares_nothing, is_one_part_shape, are_parts, of_parts, block, return_statement, throw_statement, switch, for_loop, for_in, declaration, or_void, Head, Return, Throw, If, Switch, For, with_head, Row66Empty, Row66Joined, Row67, Row67Absent, Row67In, Row68, Row68Free, Row68Init, Row73, Row73Bare, Row76, Row79, SequencesRow, LoopRow, JoinRow, StretchRow, InList, ListRow, Row74, NeighbourRow, Saying, AsStatement, AsReturn, AsThrow, says, Row77, is_unscoped, sequence, resolved, assigned, Statement, Heading, Beginning, Alone, Init, Before, begun, begun_without, begins_well, Row70}
+use Rattle.mini_rows.specs.Lists.{declares_nothing, is_one_part_shape, are_parts, of_parts, block, return_statement, throw_statement, switch, for_loop, for_in, declaration, or_void, Head, Return, Throw, If, Switch, For, with_head, Row66Empty, Row66Joined, Row67, Row67Absent, Row67In, Row68, Row68Free, Row68Init, Row73, Row73Bare, Row76, Row79, SequencesRow, LoopRow, JoinRow, StretchRow, InList, ListRow, Row74, NeighbourRow, Saying, AsStatement, AsReturn, AsThrow, says, Row77, is_unscoped, sequence, resolved, assigned, Statement, Heading, Beginning, Alone, Init, Before, begun, begun_without, begins_well, Row70, Each, EachIn, EachOf, Row69}
 use Rattle.mini_rows.specs.ListLaws.{ListsMeanSame}
 use Rattle.mini_rows.proofs.ListStretches.{ReadSame, SameStretch, exec_one, exec_two, listed_is, in_list, list_does, list_reads, replaced, read_in_list}
 use Rattle.mini_rows.proofs.ListParts.{joined_is}
@@ -28,6 +28,7 @@ use Rattle.mini_rows.proofs.ListStatements.{expression_is, if_is, absent_is, emp
 use Rattle.mini_rows.proofs.ListHeads.{Nothing, nothing_by, switch_rest, switch_plain, for_rest, for_is, for_absent_is}
 use Rattle.mini_rows.proofs.ListLoops.{for_var_is, in_rest, in_is, left_lets}
 use Rattle.mini_rows.proofs.ListBegun.{without_value, with_value, assignment_enters}
+use Rattle.mini_rows.proofs.ListEach.{each_enters}
 use Rattle.mini_rows.proofs.BodyLists.{body_same}
 use Rattle.mini_rows.proofs.ListTails.{body_end_same, end_reads}
 use Rattle.mini_rows.proofs.ListEnds.{never_goes, ended_tree}
@@ -332,11 +333,17 @@ row_70 a b r =
     stretch_after : (t : Tree) (x y : Trees) → SameStretch x y → SameStretch (t ▸ x) (t ▸ y)
     stretch_after t x y h = subst (λ z. SameStretch (t ▸ z) (t ▸ y)) (with_none x) (subst (λ z. SameStretch (t ▸ append x none) (t ▸ z)) (with_none y) (in_list (t ▸ none) x y none h))
 
+-- `var a; for (a of b) c`
+row_69 : (k : Each) (a b : Trees) → Row69 k a b → SameStretch a b
+row_69 k a b r = replaced a _ b _ r.shape r.written (each_enters k r.spelling r.target r.symbol r.right r.body)
+
 neighbours_same : (o : Switches) (a b : Trees) → NeighbourRow o a b → SameStretch a b
 neighbours_same o a b (inl r) = stretch_same o a b r
 neighbours_same o a b (inr (inl (s, inl r))) = row_74 a b r
 neighbours_same o a b (inr (inl (s, inr r))) = row_77 a b r
-neighbours_same o a b (inr (inr r)) = row_70 a b r
+neighbours_same o a b (inr (inr (inl r))) = row_70 a b r
+neighbours_same o a b (inr (inr (inr (inl r)))) = row_69 EachOf a b r
+neighbours_same o a b (inr (inr (inr (inr r)))) = row_69 EachIn a b r.1
 
 -- in a list
 list_same : (o : Switches) (n w : Tree) (r : InList (NeighbourRow o) n w) → SameStretch (append r.before (append r.read r.after)) (append r.before (append r.put r.after))

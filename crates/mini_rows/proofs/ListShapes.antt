@@ -16,7 +16,7 @@ use Rattle.mini_kept.proofs.Bools.{left, right, both}
 use Rattle.mini_kept.proofs.Expressions.{expression_taken, two_fit}
 use Rattle.mini_kept.proofs.Placed.{statements_slot}
 use Rattle.mini_rows.specs.Switches.{Switches}
-use Rattle.mini_rows.specs.Lists.{block, sequence, return_statement, throw_statement, switch, for_loop, declaration, or_void, void_zero, of_parts, is_one_part, are_parts, is_unscoped, are_unscoped, Head as ListHead, Return, Throw, If, Switch, For, with_head, for_in, SequencesRow, LoopRow, JoinRow, StretchRow, InList, NeighbourRow, says, resolved, binding, declarator, assigned, declares_nothing, Statement, Heading, Beginning, Alone, Init, Before, begun, begun_without, begins_well}
+use Rattle.mini_rows.specs.Lists.{block, sequence, return_statement, throw_statement, switch, for_loop, declaration, or_void, void_zero, of_parts, is_one_part, are_parts, is_unscoped, are_unscoped, Head as ListHead, Return, Throw, If, Switch, For, with_head, for_in, SequencesRow, LoopRow, JoinRow, StretchRow, InList, NeighbourRow, says, resolved, binding, declarator, assigned, declares_nothing, Statement, Heading, Beginning, Alone, Init, Before, begun, begun_without, begins_well, Each, EachIn, EachOf, each_loop, bare_var}
 
 abbrev pub expression : Slot
 expression = one an_expression
@@ -398,6 +398,18 @@ module _ (strict : Bool) where
       let (a, left) = begun_leaves b y value d k g in
       more_fit (statement d) (declaration Var new) (begun_without b) (declaration_anywhere strict d Var new ∙ values_fit ds x es value h (sym (declaration_anywhere strict d Var old) ∙ f) (of_assigned y value a)) left
 
+  -- a `var` in the head of a loop
+
+  each_fit : (k : Each) (x y : Name) (right body : Tree) → Fitting (bare_var x ▸ (each_loop k (identifier y) right body ▸ none)) (each_loop k (bare_var x) right body ▸ none)
+  each_fit EachIn x y right body d e =
+      let (f, g) = two_of d (bare_var x) (for_in (identifier y) right body) e in
+      let (a, b) = and_parts (fits strict (one (a_loop_left true)) (identifier y)) (fits strict expression right && (fits strict (statement nested) body && true)) g in
+      just d (for_in (bare_var x) right body) (both (fits strict (one (a_loop_left true)) (bare_var x)) (fits strict expression right && (fits strict (statement nested) body && true)) (sym (declaration_anywhere strict d Var (declarator (binding x) absent ▸ none)) ∙ f) b)
+  each_fit EachOf x y right body d e =
+      let (f, g) = two_of d (bare_var x) (each_loop EachOf (identifier y) right body) e in
+      let (a, b) = and_parts (fits strict (one (a_loop_left false)) (identifier y)) (fits strict expression right && (fits strict (statement nested) body && true)) g in
+      just d (each_loop EachOf (bare_var x) right body) (both (fits strict (one (a_loop_left false)) (bare_var x)) (fits strict expression right && (fits strict (statement nested) body && true)) (sym (declaration_anywhere strict d Var (declarator (binding x) absent ▸ none)) ∙ f) b)
+
   -- whichever row it is
 
   sequences_fit : (a b : Trees) → SequencesRow a b → Fitting a b
@@ -426,7 +438,9 @@ module _ (strict : Bool) where
 
   pub neighbours_fit : (o : Switches) (a b : Trees) → NeighbourRow o a b → Fitting a b
   neighbours_fit o a b (inl r) = stretch_fits o a b r
-  neighbours_fit o a b (inr (inr r)) = like r.shape r.written (begun_fit r.ds (resolved r.spelling r.symbol) (resolved r.target r.symbol) r.es r.value r.beginning r.plain r.parts)
+  neighbours_fit o a b (inr (inr (inr (inl r)))) = like r.shape r.written (each_fit EachOf (resolved r.spelling r.symbol) (resolved r.target r.symbol) r.right r.body)
+  neighbours_fit o a b (inr (inr (inr (inr r)))) = like r.1.shape r.1.written (each_fit EachIn (resolved r.1.spelling r.1.symbol) (resolved r.1.target r.1.symbol) r.1.right r.1.body)
+  neighbours_fit o a b (inr (inr (inl r))) = like r.shape r.written (begun_fit r.ds (resolved r.spelling r.symbol) (resolved r.target r.symbol) r.es r.value r.beginning r.plain r.parts)
   neighbours_fit o a b (inr (inl (s, inl r))) = like r.shape r.written (guards_fit r.left r.right r.s r.u)
   neighbours_fit o a b (inr (inl (s, inr r))) = like r.shape r.written (λ d e. just d r.first (two_of d r.first (says r.saying r.e) e).0)
 

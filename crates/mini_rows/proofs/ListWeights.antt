@@ -6,6 +6,7 @@ use Rattle.std.specs.Fmt.{signed_decimal}
 use Rattle.std.proofs.lemmas.Fmt.{decimal_digit}
 use Rattle.mini_model.specs.declared.kind.VariableDeclarationKind.{VariableDeclarationKind}
 use Rattle.mini_model.specs.declared.kind.VariableDeclarationKind.TheVariants.{Var, Let, Const}
+use Rattle.mini_model.specs.declared.name.Name.{Name}
 use Rattle.mini_model.specs.declared.operator.BinaryOperator.TheVariants as binary
 use Rattle.mini_model.specs.declared.operator.LogicalOperator.TheVariants.{Or, And, Coalesce}
 use Rattle.mini_model.specs.declared.place.Position.{Position}
@@ -14,7 +15,7 @@ use Rattle.mini_model.specs.declared.seat.Seat.{Seat}
 use Rattle.mini_model.specs.declared.seat.StmtSeat.TheVariants as stmt_seat
 use Rattle.mini_model.specs.declared.shape.Shape.{Shape}
 use Rattle.mini_model.specs.declared.shape.Shape.TheVariants as shape
-use Rattle.mini_model.specs.Tree.{Tree, Trees, node, none, ◌▸◌, count, shape_of, absent, listed, expression_statement, if_else, if_alone}
+use Rattle.mini_model.specs.Tree.{Tree, Trees, node, none, ◌▸◌, count, shape_of, absent, listed, identifier, expression_statement, if_else, if_alone}
 use Rattle.mini_model.specs.Paths.{append}
 use Rattle.mini_model.specs.Position.{seat_of_level, argument_seat, statement_expression_seat, if_test_seat, conditional_test_seat, whole_seat, not_operand_seat, left_operand_seat, right_operand_seat, branch_seat, passed_part_seat, part_seat, item_position}
 use Rattle.mini_model.specs.Weight.{Outline, outline, outlines, one_chooses, is_parenthesized, commas_weight, declaring_weight, place_weight, weight, weights}
@@ -22,7 +23,7 @@ use Rattle.mini_laws.specs.Weights.{counts_items}
 use Rattle.mini_laws.proofs.Seats.{is_inner, placed, placed_node, moved}
 use Rattle.mini_node.specs.Walks.{append_none}
 use Rattle.mini_rows.specs.Switches.{Switches}
-use Rattle.mini_rows.specs.Lists.{of_parts, is_one_part_shape, declares_nothing, are_parts, sequence, or_void, return_statement, throw_statement, is_unscoped, Head, Return, Throw, If, Switch, For, with_head, Row66Empty, Row66Joined, Row67, Row67Absent, Row67In, Row68, Row68Free, Row68Init, Row73, Row73Bare, Row76, Row79, SequencesRow, LoopRow, JoinRow, StretchRow, InList, ListRow, ListsLighter, Row74, Row75, Row78, block, alternate_of, bare_return, AtEnd, EndRow, NeighbourRow, Saying, AsStatement, AsReturn, AsThrow, says, Row77, declaration, resolved, binding, declarator, assigned, Holder, Statement, Heading, holding, Beginning, Alone, Init, Before, begun, begun_without, Row70}
+use Rattle.mini_rows.specs.Lists.{of_parts, is_one_part_shape, declares_nothing, are_parts, sequence, or_void, return_statement, throw_statement, is_unscoped, Head, Return, Throw, If, Switch, For, with_head, Row66Empty, Row66Joined, Row67, Row67Absent, Row67In, Row68, Row68Free, Row68Init, Row73, Row73Bare, Row76, Row79, SequencesRow, LoopRow, JoinRow, StretchRow, InList, ListRow, ListsLighter, Row74, Row75, Row78, block, alternate_of, bare_return, AtEnd, EndRow, NeighbourRow, Saying, AsStatement, AsReturn, AsThrow, says, Row77, declaration, resolved, binding, declarator, assigned, Holder, Statement, Heading, holding, Beginning, Alone, Init, Before, begun, begun_without, Row70, Each, EachIn, EachOf, each_loop, bare_var, Row69}
 use Rattle.mini_rows.specs.ListLaws.{ListsLighten}
 
 -- the statements of a list, wherever in it they stand
@@ -387,6 +388,15 @@ row_70 a b r =
     let rises = declared_rises r.ds r.spelling r.symbol r.es r.value in
     replaced a _ b _ r.shape r.written (record { lighter = omega (arith, begins, rises); chosen = inl refl; some = λ e. omega (arith, e) })
 
+-- `var a; for (a of b) c`
+
+each_falls : (k : Each) (x y : Name) (right body : Tree) → total (each_loop k (bare_var x) right body ▸ none) < total (bare_var x ▸ (each_loop k (identifier y) right body ▸ none))
+each_falls EachIn x y right body = omega arith
+each_falls EachOf x y right body = omega arith
+
+row_69 : (k : Each) (a b : Trees) → Row69 k a b → Falls a b
+row_69 k a b r = replaced a _ b _ r.shape r.written (record { lighter = each_falls k (resolved r.spelling r.symbol) (resolved r.target r.symbol) r.right r.body; chosen = inl refl; some = λ e. omega (arith, e) })
+
 sequences_fall : (a b : Trees) → SequencesRow a b → Falls a b
 sequences_fall a b (inl r) = row_66_joined a b r
 sequences_fall a b (inr (inl r)) = row_73_return a b r
@@ -415,7 +425,9 @@ neighbours_fall : (o : Switches) (a b : Trees) → NeighbourRow o a b → Falls 
 neighbours_fall o a b (inl r) = stretch_falls o a b r
 neighbours_fall o a b (inr (inl (s, inl r))) = row_74 a b r
 neighbours_fall o a b (inr (inl (s, inr r))) = row_77 a b r
-neighbours_fall o a b (inr (inr r)) = row_70 a b r
+neighbours_fall o a b (inr (inr (inl r))) = row_70 a b r
+neighbours_fall o a b (inr (inr (inr (inl r)))) = row_69 EachOf a b r
+neighbours_fall o a b (inr (inr (inr (inr r)))) = row_69 EachIn a b r.1
 
 -- in a list
 

@@ -443,6 +443,29 @@ pub record Row70 (a b : Trees) : Type 0 where
   pub shape : a ≡ declaration Var (append ds (declarator (binding (resolved spelling symbol)) absent ▸ es)) ▸ (begun beginning (assigned (resolved target symbol) value) ▸ none)
   pub written : b ≡ declaration Var (append ds (declarator (binding (resolved spelling symbol)) value ▸ es)) ▸ begun_without beginning
 
+-- `for (left in right) body` and `for (left of right) body`
+pub data Each : Type 0 where
+  EachIn : Each
+  EachOf : Each
+
+abbrev pub each_loop : Each → Tree → Tree → Tree → Tree
+each_loop EachIn left right body = for_in left right body
+each_loop EachOf left right body = node shape.ForOfStatement [] 0 (left ▸ (right ▸ (body ▸ none)))
+
+-- `var x`
+abbrev pub bare_var : Name → Tree
+bare_var x = declaration Var (declarator (binding x) absent ▸ none)
+
+-- 69: `var a; for (a of b) c` becomes `for (var a of b) c`, and so with `in`
+pub record Row69 (k : Each) (a b : Trees) : Type 0 where
+  pub spelling : List ℕ
+  pub symbol : ℕ
+  pub target : List ℕ
+  pub right : Tree
+  pub body : Tree
+  pub shape : a ≡ bare_var (resolved spelling symbol) ▸ (each_loop k (identifier (resolved target symbol)) right body ▸ none)
+  pub written : b ≡ each_loop k (bare_var (resolved spelling symbol)) right body ▸ none
+
 -- Rows at the end of a list after which a jump would go where the list does: a function's body, after which it returns
 
 -- 78: the last jump goes
@@ -501,9 +524,13 @@ StretchRow o a b = Row66Empty a b ⊎ (Row79 a b ⊎ (JoinRow o a b ⊎ ((o.sequ
 abbrev pub GuardsRow : Switches → Trees → Trees → Type 0
 GuardsRow o a b = (o.sequences ≡ true) × (Row74 a b ⊎ Row77 a b)
 
+-- those on a `var` and a statement that writes its name first
+abbrev pub EntersRow : Switches → Trees → Trees → Type 0
+EntersRow o a b = Row70 a b ⊎ (Row69 EachOf a b ⊎ ((o.sequences ≡ true) × Row69 EachIn a b))
+
 -- all of them
 abbrev pub NeighbourRow : Switches → Trees → Trees → Type 0
-NeighbourRow o a b = StretchRow o a b ⊎ (GuardsRow o a b ⊎ Row70 a b)
+NeighbourRow o a b = StretchRow o a b ⊎ (GuardsRow o a b ⊎ EntersRow o a b)
 
 -- some neighbours in a list, and others in their place
 pub record InList (R : Trees → Trees → Type 0) (n w : Tree) : Type 0 where

@@ -17,17 +17,17 @@ use Rattle.mini_node.specs.Lends.{with_children}
 use Rattle.mini_node.specs.Kinds.{is_absent_part, is_identifier, is_named_leaf, is_listed, is_sequence, is_expression_statement, same_symbol, same_names}
 use Rattle.mini_node.specs.Made.{listed_is, absent_is, sequence_is, expression_statement_is, identifier_is}
 use Rattle.mini_node.specs.Walks.{from_first, next_child, no_rest, append_one, append_none}
-use Rattle.mini_rows.specs.Lists.{of_parts, are_parts, sequence, for_loop, declaration, declares_nothing, resolved, binding, declarator, assigned, is_declarator_shape, is_bare_declarator, are_bare_declarators, Head, Return, Throw, If, Switch, For, with_head, Holder, Statement, Heading, holding, Beginning, Alone, Init, Before, begun, begun_without, begins_well, Row70, NeighbourRow, InList}
-use Rattle.mini_stmt.specs.JoinHeads.{is_for, has_head}
+use Rattle.mini_rows.specs.Lists.{of_parts, are_parts, sequence, for_loop, declaration, declares_nothing, resolved, binding, declarator, assigned, is_declarator_shape, is_bare_declarator, are_bare_declarators, Head, Return, Throw, If, Switch, For, with_head, Holder, Statement, Heading, holding, Beginning, Alone, Init, Before, begun, begun_without, begins_well, Row70, Each, EachIn, EachOf, each_loop, bare_var, Row69, EntersRow, InList}
+use Rattle.mini_stmt.specs.JoinHeads.{is_for, is_for_in, has_head}
 use Rattle.mini_stmt.specs.JoinVars.{declares}
 use Rattle.mini_stmt.specs.JoinGuards.{last_after, JoinsOthers}
 use Rattle.mini_rows.specs.Switches.{Switches}
 use Rattle.mini_stmt.specs.MinimizeStatements.{Changes, Moves, is_quiet, reversed, StretchRests, MinimizesList}
 use Rattle.mini_stmt.specs.MinimizeStatements as list
 use Rattle.mini_stmt.specs.JoinGuards as guards
-use Rattle.mini_stmt.specs.JoinAssignments.{is_assign_shape, assigns_name, is_binding_shape, declares_bare, takes_name, TakesAt, leaves_parts, holds_sequence, holds_alone, beginning_of, assigns_first, may_enter, enters, EntersAt, other_parts, left_alone, left_of, with_value, Entered, enters_first, are_entered, enters_last, EntersLast, PutEntered, AllEntered, Rests, JoinsAssignments}
+use Rattle.mini_stmt.specs.JoinAssignments.{is_assign_shape, assigns_name, is_binding_shape, declares_bare, takes_name, TakesAt, leaves_parts, holds_sequence, holds_alone, beginning_of, assigns_first, may_enter, enters, EntersAt, other_parts, left_alone, left_of, with_value, Entered, is_for_of, takes_head, declares_one, heads, joins_var, heads_last, enters_first, are_entered, enters_last, EntersLast, PutEntered, AllEntered, Rests, JoinsAssignments}
 use Rattle.mini_stmt.proofs.Parts.{not_true, below}
-use Rattle.mini_stmt.proofs.Follows.{Headed, head_by, for_is, with_other, declares_is}
+use Rattle.mini_stmt.proofs.Follows.{head_by, for_is, for_in_is, with_other, declares_is}
 use Rattle.mini_stmt.proofs.Guards.{last_pushed, last_is, apart_rests, all_rest}
 use Rattle.mini_stmt.proofs.Quiet.{quiet_rests}
 use Rattle.mini_stmt.proofs.Stepping.{neighbours_in, steps_on, changes_on}
@@ -308,51 +308,127 @@ row_enters a b r =
           (ap (λ v. takes_name (part v 0) (children (part old 0))) told.first ∙ name_taken r.spelling r.target r.symbol r.ds r.es r.bare);
     }
 
+-- ---- a `var` that goes into the head of a loop
+
+for_of_is : (t : Tree) → is_for_of t ≡ true → t ≡ each_loop EachOf (part t 0) (part t 1) (part t 2)
+for_of_is (node shape.ForOfStatement [] zero (a ▸ (b ▸ (c ▸ none)))) e = refl
+for_of_is t e = absurd (cc e)
+
+-- its one declarator
+one_declarator : (x : Tree) (ds : Trees) → declares_one x ds ≡ true → (d : Tree) × ((ds ≡ d ▸ none) × (declares_bare d x ≡ true))
+one_declarator x (d ▸ none) e = (d, (refl, e))
+one_declarator x none e = absurd (true≢false (sym e))
+one_declarator x (d ▸ (c ▸ ds)) e = absurd (true≢false (sym e))
+
+each_row : (k : Each) (t u : Tree) → declares Var t ≡ true → u ≡ each_loop k (part u 0) (part u 1) (part u 2) → is_identifier (part u 0) ≡ true → declares_one (part u 0) (children (part t 0)) ≡ true → Row69 k (t ▸ (u ▸ none)) (with_part u 0 t ▸ none)
+each_row k t u e is i f =
+    let (d, (one, declared)) = one_declarator (part u 0) (children (part t 0)) f in
+    let bound = bound_by d (part u 0) i declared in
+    let var : t ≡ bare_var (resolved bound.name.spelling bound.symbol) = declares_is Var t e ∙ ap (declaration Var) (one ∙ ap (λ x. x ▸ none) bound.is) in
+    record {
+      spelling = bound.name.spelling;
+      symbol = bound.symbol;
+      target = bound.target.spelling;
+      right = part u 1;
+      body = part u 2;
+      shape = λ j. var j ▸ ((is ∙ ap (λ x. each_loop k x (part u 1) (part u 2)) bound.target_is) j ▸ none);
+      written = ap (λ v. v ▸ none) (over k is ∙ ap (λ x. each_loop k x (part u 1) (part u 2)) var);
+    }
+  where
+    over : (c : Each) → u ≡ each_loop c (part u 0) (part u 1) (part u 2) → with_part u 0 t ≡ each_loop c t (part u 1) (part u 2)
+    over EachIn s = ap (λ v. with_part v 0 t) s
+    over EachOf s = ap (λ v. with_part v 0 t) s
+
+heads_row : (o : Switches) (t u : Tree) → heads o t u ≡ true → EntersRow o (t ▸ (u ▸ none)) (with_part u 0 t ▸ none)
+heads_row o t u e =
+    let (var, r) = and_parts (declares Var t) (takes_head o u && (is_identifier (part u 0) && declares_one (part u 0) (children (part t 0)))) e in
+    let (takes, q) = and_parts (takes_head o u) (is_identifier (part u 0) && declares_one (part u 0) (children (part t 0))) r in
+    let (name, one) = and_parts (is_identifier (part u 0)) (declares_one (part u 0) (children (part t 0))) q in
+    ⊎_elim (λ h. inr (inl (each_row EachOf t u var (for_of_is u h) name one)))
+    (λ h. let (s, loop) = and_parts o.sequences (is_for_in u) h in inr (inr (s, each_row EachIn t u var (for_in_is u loop) name one))) (or_cases (is_for_of u) (o.sequences && is_for_in u) takes)
+
+-- two that are joined
+record Joined (o : Switches) (a : Trees) : Type 0 where
+  first : Tree
+  next : Tree
+  is : a ≡ first ▸ (next ▸ none)
+  met : joins_var o first next ≡ true
+
+loop_taken : (o : Switches) (k : Each) (left right body : Tree) → (k ≡ EachIn → o.sequences ≡ true) → takes_head o (each_loop k left right body) ≡ true
+loop_taken o EachIn left right body h = ap (λ b. b && true) (h refl)
+loop_taken o EachOf left right body h = refl
+
+loop_first : (k : Each) (left right body : Tree) → part (each_loop k left right body) 0 ≡ left
+loop_first EachIn left right body = refl
+loop_first EachOf left right body = refl
+
+row_heads : (o : Switches) (k : Each) (a b : Trees) → (k ≡ EachIn → o.sequences ≡ true) → Row69 k a b → Joined o a
+row_heads o k a b s r =
+    let var = bare_var (resolved r.spelling r.symbol) in
+    let x = identifier (resolved r.target r.symbol) in
+    let u = each_loop k x r.right r.body in
+    record {
+      first = var;
+      next = u;
+      is = r.shape;
+      met =
+          ap (λ b. enters var u || b)
+          (both (takes_head o u) (is_identifier (part u 0) && declares_one (part u 0) (children (part var 0))) (loop_taken o k x r.right r.body s)
+          (ap (λ y. is_identifier y && declares_one y (children (part var 0))) (loop_first k x r.right r.body) ∙ ap (λ b. b && true) (eq-eqb r.symbol r.symbol refl)))
+          ∙ or_true (enters var u);
+    }
+
+row_joins : (o : Switches) (a b : Trees) → EntersRow o a b → Joined o a
+row_joins o a b (inl r) = let p = row_enters a b r in record { first = p.first; next = p.next; is = p.is; met = ap (λ b. b || heads o p.first p.next) p.met }
+row_joins o a b (inr (inl r)) = row_heads o EachOf a b (λ e. absurd (cc e)) r
+row_joins o a b (inr (inr r)) = row_heads o EachIn a b (λ e. r.0) r.1
+
 -- ---- a list
 
-enter_before : (t u : Tree) (after : Trees) (ts : Trees) → are_entered (append ts (t ▸ (u ▸ after))) ≡ true → enters t u ≡ false
-enter_before t u after none e = not_true (enters t u) (and_parts (not (enters t u)) (are_entered (u ▸ after)) e).0
-enter_before t u after (c ▸ ts) e = enter_before t u after ts (and_parts (not (enters_first (c ▸ append ts (t ▸ (u ▸ after))))) (are_entered (append ts (t ▸ (u ▸ after)))) e).1
+module _ (o : Switches) where
+  enter_before : (t u : Tree) (after : Trees) (ts : Trees) → are_entered o (append ts (t ▸ (u ▸ after))) ≡ true → joins_var o t u ≡ false
+  enter_before t u after none e = not_true (joins_var o t u) (and_parts (not (joins_var o t u)) (are_entered o (u ▸ after)) e).0
+  enter_before t u after (c ▸ ts) e = enter_before t u after ts (and_parts (not (enters_first o (c ▸ append ts (t ▸ (u ▸ after))))) (are_entered o (append ts (t ▸ (u ▸ after)))) e).1
 
-entered_rest : (ts : Trees) → are_entered ts ≡ true → (w : Tree) → InList Row70 (listed ts) w → ⊥
-entered_rest ts e w r =
-    let m = row_enters r.read r.put r.row in
-    let is : ts ≡ append r.before (m.first ▸ (m.next ▸ r.after)) = ap children r.shape ∙ ap (λ a. append r.before (append a r.after)) m.is in
-    true≢false (sym m.met ∙ enter_before m.first m.next r.after r.before (sym (ap are_entered is) ∙ e))
+  entered_rest : (ts : Trees) → are_entered o ts ≡ true → (w : Tree) → InList (EntersRow o) (listed ts) w → ⊥
+  entered_rest ts e w r =
+      let m = row_joins o r.read r.put r.row in
+      let is : ts ≡ append r.before (m.first ▸ (m.next ▸ r.after)) = ap children r.shape ∙ ap (λ a. append r.before (append a r.after)) m.is in
+      true≢false (sym m.met ∙ enter_before m.first m.next r.after r.before (sym (ap (are_entered o) is) ∙ e))
 
-pub entered_rests : (ts : Trees) → are_entered ts ≡ true → (p : Position) → Rests p (listed ts)
-entered_rests ts e StatementList w r = entered_rest ts e w r
-entered_rests ts e p w r = absurd r
+pub entered_rests : (o : Switches) (ts : Trees) → are_entered o ts ≡ true → (p : Position) → Rests o p (listed ts)
+entered_rests o ts e StatementList w r = entered_rest o ts e w r
+entered_rests o ts e p w r = absurd r
 
 -- ---- as the list goes on
 
-pub entered_stops : (ts : Trees) (i : ℕ) → i < count ts → enters_first (rest_children i ts) ≡ true → are_entered (rest_children i ts) ≡ are_entered ts → false ≡ are_entered ts
-entered_stops ts i h e inv =
+pub entered_stops : (o : Switches) (ts : Trees) (i : ℕ) → i < count ts → enters_first o (rest_children i ts) ≡ true → are_entered o (rest_children i ts) ≡ are_entered o ts → false ≡ are_entered o ts
+entered_stops o ts i h e inv =
     let next = next_child ts i h in
-    let here : enters_first (child_or_absent ts i ▸ rest_children (suc i) ts) ≡ true = sym (ap enters_first next) ∙ e in
-    sym (ap (λ b. not b && are_entered (rest_children (suc i) ts)) here) ∙ sym (ap are_entered next) ∙ inv
+    let here : enters_first o (child_or_absent ts i ▸ rest_children (suc i) ts) ≡ true = sym (ap (enters_first o) next) ∙ e in
+    sym (ap (λ b. not b && are_entered o (rest_children (suc i) ts)) here) ∙ sym (ap (are_entered o) next) ∙ inv
 
-pub entered_goes_on : (ts : Trees) (i : ℕ) → i < count ts → enters_first (rest_children i ts) ≡ false → are_entered (rest_children i ts) ≡ are_entered ts → are_entered (rest_children (i + 1) ts) ≡ are_entered ts
-entered_goes_on ts i h e inv =
+pub entered_goes_on : (o : Switches) (ts : Trees) (i : ℕ) → i < count ts → enters_first o (rest_children i ts) ≡ false → are_entered o (rest_children i ts) ≡ are_entered o ts → are_entered o (rest_children (i + 1) ts) ≡ are_entered o ts
+entered_goes_on o ts i h e inv =
     let next = next_child ts i h in
     let other : i + 1 ≡ suc i = omega arith in
-    let here : enters_first (child_or_absent ts i ▸ rest_children (suc i) ts) ≡ false = sym (ap enters_first next) ∙ e in
-    ap (λ k. are_entered (rest_children k ts)) other ∙ sym (ap (λ b. not b && are_entered (rest_children (suc i) ts)) here) ∙ sym (ap are_entered next) ∙ inv
+    let here : enters_first o (child_or_absent ts i ▸ rest_children (suc i) ts) ≡ false = sym (ap (enters_first o) next) ∙ e in
+    ap (λ k. are_entered o (rest_children k ts)) other ∙ sym (ap (λ b. not b && are_entered o (rest_children (suc i) ts)) here) ∙ sym (ap (are_entered o) next) ∙ inv
 
-pub entered_ends : (ts : Trees) (i : ℕ) → count ts ≤ i → are_entered (rest_children i ts) ≡ are_entered ts → true ≡ are_entered ts
-entered_ends ts i h inv = sym (ap are_entered (no_rest ts i h)) ∙ inv
+pub entered_ends : (o : Switches) (ts : Trees) (i : ℕ) → count ts ≤ i → are_entered o (rest_children i ts) ≡ are_entered o ts → true ≡ are_entered o ts
+entered_ends o ts i h inv = sym (ap (are_entered o) (no_rest ts i h)) ∙ inv
 
-pub entered_start : (ts : Trees) → are_entered (rest_children 0 ts) ≡ are_entered ts
-entered_start ts = ap are_entered (from_first ts)
+pub entered_start : (o : Switches) (ts : Trees) → are_entered o (rest_children 0 ts) ≡ are_entered o ts
+entered_start o ts = ap (are_entered o) (from_first ts)
 
 -- one of them and the next one
-pub two_there : (ts : Trees) (i : ℕ) → i + 1 < count ts → enters_first (rest_children i ts) ≡ enters (child_or_absent ts i) (child_or_absent ts (i + 1))
-two_there ts i h =
+pub two_there : (o : Switches) (ts : Trees) (i : ℕ) → i + 1 < count ts → enters_first o (rest_children i ts) ≡ joins_var o (child_or_absent ts i) (child_or_absent ts (i + 1))
+two_there o ts i h =
     let other : i + 1 ≡ suc i = omega arith in
-    ap enters_first (next_child ts i (omega (arith, h)) ∙ ap (λ r. child_or_absent ts i ▸ r) (next_child ts (suc i) (omega (arith, h)))) ∙ ap (λ k. enters (child_or_absent ts i) (child_or_absent ts k)) (sym other)
+    ap (enters_first o) (next_child ts i (omega (arith, h)) ∙ ap (λ r. child_or_absent ts i ▸ r) (next_child ts (suc i) (omega (arith, h)))) ∙ ap (λ k. joins_var o (child_or_absent ts i) (child_or_absent ts k)) (sym other)
 
-pub one_there : (ts : Trees) (i : ℕ) → i < count ts → count ts ≤ i + 1 → enters_first (rest_children i ts) ≡ false
-one_there ts i h k = ap enters_first (next_child ts i h ∙ ap (λ r. child_or_absent ts i ▸ r) (no_rest ts (suc i) (omega (arith, k))))
+pub one_there : (o : Switches) (ts : Trees) (i : ℕ) → i < count ts → count ts ≤ i + 1 → enters_first o (rest_children i ts) ≡ false
+one_there o ts i h k = ap (enters_first o) (next_child ts i h ∙ ap (λ r. child_or_absent ts i ▸ r) (no_rest ts (suc i) (omega (arith, k))))
 
 -- a place tells
 place_tells : (x : Tree) (ts : Trees) (i : ℕ) → TakesAt x ts (Some i) → takes_name x ts ≡ true
@@ -428,22 +504,56 @@ last_enters ts u i None e m = ap (λ t. enters t u) (last_is absent ts i e) ∙ 
 pub last_there : (before init : Trees) (last t : Tree) (i : ℕ) → EntersLast before t (Some i) → before ≡ append init (last ▸ none) → EntersAt last t (Some i)
 last_there before init last t i m e = subst (λ x. EntersAt x t (Some i)) (ap (last_after absent) e ∙ last_pushed absent init last) m.1
 
-push_entered : (t : Tree) (ts : Trees) (x : Tree) → enters (last_after t ts) x ≡ false → are_entered (t ▸ ts) ≡ true → are_entered (t ▸ append ts (x ▸ none)) ≡ true
-push_entered t none x e h = ap (λ b. not b && true) e
-push_entered t (u ▸ ts) x e h =
-    let (here, rest) = and_parts (not (enters t u)) (are_entered (u ▸ ts)) h in
-    ap (λ b. b && are_entered (u ▸ append ts (x ▸ none))) here ∙ push_entered u ts x e rest
+module _ (o : Switches) where
+  push_entered : (t : Tree) (ts : Trees) (x : Tree) → joins_var o (last_after t ts) x ≡ false → are_entered o (t ▸ ts) ≡ true → are_entered o (t ▸ append ts (x ▸ none)) ≡ true
+  push_entered t none x e h = ap (λ b. not b && true) e
+  push_entered t (u ▸ ts) x e h =
+      let (here, rest) = and_parts (not (joins_var o t u)) (are_entered o (u ▸ ts)) h in
+      ap (λ b. b && are_entered o (u ▸ append ts (x ▸ none))) here ∙ push_entered u ts x e rest
 
-entered_push : (ts : Trees) (x : Tree) → enters_last ts x ≡ false → are_entered ts ≡ true → are_entered (append ts (x ▸ none)) ≡ true
-entered_push none x e h = refl
-entered_push (t ▸ ts) x e h = push_entered t ts x e h
+  entered_push : (ts : Trees) (x : Tree) → enters_last ts x ≡ false → heads_last o ts x ≡ false → are_entered o ts ≡ true → are_entered o (append ts (x ▸ none)) ≡ true
+  entered_push none x e f h = refl
+  entered_push (t ▸ ts) x e f h = push_entered t ts x (ap (λ b. b || heads o (last_after t ts) x) e ∙ f) h
 
-pub put_apart : (before : Trees) (t : Tree) (rest after : Trees) → EntersLast before t None → after ≡ append before (t ▸ none) → PutEntered before t rest after rest false
-put_apart before t rest after e f = record {
-  changes = λ o. ap (λ x. append x (reversed rest)) f ∙ append_one before t (reversed rest);
-  entered = λ c h. ap are_entered f ∙ entered_push before t e h;
-  smaller = let own = below t in omega (arith, own);
-}
+  pub put_apart : (before : Trees) (t : Tree) (after : Trees) → enters_last before t ≡ false → heads_last o before t ≡ false → after ≡ append before (t ▸ none) → (rest : Trees) → PutEntered o before t rest after rest false
+  put_apart before t after e h f rest = record {
+    changes = ap (λ x. append x (reversed rest)) f ∙ append_one before t (reversed rest);
+    entered = λ c k. ap (are_entered o) f ∙ entered_push before t e h k;
+    smaller = let own = below t in omega (arith, own);
+  }
+
+  some_last : (ts : Trees) (u : Tree) → heads_last o ts u ≡ true → 0 < count ts
+  some_last none u e = absurd (true≢false (sym e))
+  some_last (t ▸ ts) u e = omega arith
+
+  pub last_some : (ts : Trees) (u : Tree) → heads_last o ts u ≡ true → 0 < count ts
+  last_some = some_last
+
+  pub put_headed : (before init : Trees) (last t made : Tree) (after : Trees) → heads_last o before t ≡ true → before ≡ append init (last ▸ none) → made ≡ with_part t 0 last → after ≡ append init (made ▸ none) → (rest : Trees) → PutEntered o before t rest after rest true
+  put_headed before init last t made after e f g h rest =
+      let is = ap (last_after absent) f ∙ last_pushed absent init last in
+      let row = heads_row o last t (sym (ap (λ l. heads o l t) is) ∙ e) in
+      let put = h ∙ ap (λ x. append init (x ▸ none)) g in
+      record {
+        changes =
+            subst (λ x. Changes o x (append after (reversed rest)) true) (sym (ap (λ x. append x (t ▸ reversed rest)) f ∙ append_one init last (t ▸ reversed rest)))
+            (subst (λ x. Changes o (append init (last ▸ (t ▸ reversed rest))) x true) (sym (ap (λ x. append x (reversed rest)) put ∙ append_one init (with_part t 0 last) (reversed rest)))
+            (steps_on o (append init (last ▸ (t ▸ reversed rest))) (append init (with_part t 0 last ▸ reversed rest)) (neighbours_in o init (last ▸ (t ▸ none)) (with_part t 0 last ▸ none) (reversed rest) (inr (inr row)))));
+        entered = λ c. absurd (true≢false c);
+        smaller = let own = below t in omega (arith, own);
+      }
+
+-- the last one, and no last one
+
+pub heads_there : (o : Switches) (ts : Trees) (u : Tree) (i : ℕ) → count ts ≡ i + 1 → heads o (child_or_absent ts i) u ≡ heads_last o ts u
+heads_there o ts u i e = ap (λ t. heads o t u) (sym (last_is absent ts i e))
+
+pub no_heads : (o : Switches) (ts : Trees) (u : Tree) → count ts ≡ 0 → heads_last o ts u ≡ false
+no_heads o none u e = refl
+no_heads o (t ▸ ts) u e = absurd (omega (arith, e))
+
+pub either_tells : (o : Switches) (t u : Tree) (p : Option ℕ) → EntersAt t u p → (a b : Bool) → a ≡ is_some p → b ≡ heads o t u → a || b ≡ joins_var o t u
+either_tells o t u p m a b e f = (λ i. tells t u p m a e i || f i)
 
 -- what is left is smaller
 
@@ -471,50 +581,50 @@ left_smaller t u made left r =
     let rest = ap (λ ts. node_counts (without ts 0)) r.written in
     omega (arith, small, next, rest)
 
-pub put_entered : (before init : Trees) (last t declared : Tree) (left rest after others : Trees) → before ≡ append init (last ▸ none) → Entered last t declared left → after ≡ append init (declared ▸ none) → reversed others ≡ append left (reversed rest) → node_counts others ≡ node_counts rest + node_counts left → PutEntered before t rest after others true
-put_entered before init last t declared left rest after others e r f g h = record {
-  changes = λ o.
+pub put_entered : (o : Switches) (before init : Trees) (last t declared : Tree) (left rest after others : Trees) → before ≡ append init (last ▸ none) → Entered last t declared left → after ≡ append init (declared ▸ none) → reversed others ≡ append left (reversed rest) → node_counts others ≡ node_counts rest + node_counts left → PutEntered o before t rest after others true
+put_entered o before init last t declared left rest after others e r f g h = record {
+  changes =
       subst (λ x. Changes o x (append after (reversed others)) true) (sym (ap (λ x. append x (t ▸ reversed rest)) e ∙ append_one init last (t ▸ reversed rest)))
       (subst (λ x. Changes o (append init (last ▸ (t ▸ reversed rest))) x true) (sym (ap (λ x. append x (reversed others)) f ∙ append_one init declared (reversed others) ∙ ap (λ x. append init (declared ▸ x)) g))
-      (steps_on o (append init (last ▸ (t ▸ reversed rest))) (append init (declared ▸ append left (reversed rest))) (neighbours_in o init (last ▸ (t ▸ none)) (declared ▸ left) (reversed rest) (inr (inr r)))));
+      (steps_on o (append init (last ▸ (t ▸ reversed rest))) (append init (declared ▸ append left (reversed rest))) (neighbours_in o init (last ▸ (t ▸ none)) (declared ▸ left) (reversed rest) (inr (inr (inl r))))));
   entered = λ c. absurd (true≢false c);
   smaller = let small = left_smaller last t declared left r in omega (arith, small, h);
 }
 
 -- ---- the node
 
-list_entered : (ts us : Trees) (b : Bool) → AllEntered ts us b → JoinsAssignments (listed ts) (listed us) b
-list_entered ts us true m = λ o. m.changes o
-list_entered ts us false m = λ o. let same = m.changes o in (ap listed same, entered_rests ts (sym (ap are_entered same) ∙ m.entered refl) StatementList)
+list_entered : (o : Switches) (ts us : Trees) (b : Bool) → AllEntered o ts us b → JoinsAssignments o (listed ts) (listed us) b
+list_entered o ts us true m = m.changes
+list_entered o ts us false m = let same = m.changes in (ap listed same, entered_rests o ts (sym (ap (are_entered o) same) ∙ m.entered refl) StatementList)
 
-pub node_entered : (t : Tree) (us : Trees) (r : Result Bool OutOfMemory) → is_listed t ≡ true → IfOk r (λ b. AllEntered (children t) us b) → IfOk r (λ b. JoinsAssignments t (with_children t us) b)
-node_entered t us (Err e) l m = m
-node_entered t us (Ok b) l m =
+pub node_entered : (o : Switches) (t : Tree) (us : Trees) (r : Result Bool OutOfMemory) → is_listed t ≡ true → IfOk r (λ b. AllEntered o (children t) us b) → IfOk r (λ b. JoinsAssignments o t (with_children t us) b)
+node_entered o t us (Err e) l m = m
+node_entered o t us (Ok b) l m =
     let is = listed_is t l in
-    subst (λ x. JoinsAssignments x (with_children t us) b) (sym is) (subst (λ x. JoinsAssignments (listed (children t)) x b) (sym (ap (λ x. with_children x us) is)) (list_entered (children t) us b m))
+    subst (λ x. JoinsAssignments o x (with_children t us) b) (sym is) (subst (λ x. JoinsAssignments o (listed (children t)) x b) (sym (ap (λ x. with_children x us) is)) (list_entered o (children t) us b m))
 
-pub not_entered : (t : Tree) → is_listed t ≡ true → are_entered (children t) ≡ true → JoinsAssignments t t false
-not_entered t l e = λ o. (refl, subst (Rests StatementList) (sym (listed_is t l)) (entered_rests (children t) e StatementList))
+pub not_entered : (o : Switches) (t : Tree) → is_listed t ≡ true → are_entered o (children t) ≡ true → JoinsAssignments o t t false
+not_entered o t l e = (refl, subst (Rests o StatementList) (sym (listed_is t l)) (entered_rests o (children t) e StatementList))
 
-pub no_list : (t : Tree) → is_listed t ≡ false → JoinsAssignments t t false
-no_list t l = λ o. (refl, λ w r. absurd (true≢false (sym (ap is_listed r.shape) ∙ l)))
+pub no_list : (o : Switches) (t : Tree) → is_listed t ≡ false → JoinsAssignments o t t false
+no_list o t l = (refl, λ w r. absurd (true≢false (sym (ap is_listed r.shape) ∙ l)))
 
 -- and then the other rows
-pub assignments_first : (o : Switches) (t u : Tree) (b : Bool) → b ≡ true → JoinsAssignments t u b → MinimizesList o t u true
-assignments_first o t u b e m = subst (λ c. JoinsAssignments t u c) e m o
+pub assignments_first : (o : Switches) (t u : Tree) (b : Bool) → b ≡ true → JoinsAssignments o t u b → MinimizesList o t u true
+assignments_first o t u b e m = subst (λ c. JoinsAssignments o t u c) e m
 
-others_then : (o : Switches) (t u v : Tree) (a b : Bool) → a ≡ false → JoinsAssignments t u a → JoinsOthers o u v b → MinimizesList o t v b
-others_then o t u v a true e m n = let k = subst (λ c. JoinsAssignments t u c) e m o in subst (λ x. Moves o x v) k.0 n
+others_then : (o : Switches) (t u v : Tree) (a b : Bool) → a ≡ false → JoinsAssignments o t u a → JoinsOthers o u v b → MinimizesList o t v b
+others_then o t u v a true e m n = let k = subst (λ c. JoinsAssignments o t u c) e m in subst (λ x. Moves o x v) k.0 n
 others_then o t u v a false e m n =
-    let k = subst (λ c. JoinsAssignments t u c) e m o in
+    let k = subst (λ c. JoinsAssignments o t u c) e m in
     (n.0 ∙ k.0, all_rest o t (subst (StretchRests o StatementList) k.0 n.1.0) (subst (guards.Rests o StatementList) k.0 n.1.1) k.1)
 
-pub others_after : (o : Switches) (t u v : Tree) (a : Bool) (r : Result Bool OutOfMemory) → a ≡ false → JoinsAssignments t u a → IfOk r (λ b. JoinsOthers o u v b) → IfOk r (λ b. MinimizesList o t v b)
+pub others_after : (o : Switches) (t u v : Tree) (a : Bool) (r : Result Bool OutOfMemory) → a ≡ false → JoinsAssignments o t u a → IfOk r (λ b. JoinsOthers o u v b) → IfOk r (λ b. MinimizesList o t v b)
 others_after o t u v a (Err e) f m n = n
 others_after o t u v a (Ok b) f m n = others_then o t u v a b f m n
 
-pub list_no_row : (o : Switches) (t : Trees) → is_quiet o t ≡ true → guards.is_apart o t ≡ true → are_entered t ≡ true → list.Rests o StatementList (listed t)
-list_no_row o t q e k = all_rest o (listed t) (quiet_rests o t q StatementList) (apart_rests o t e StatementList) (entered_rests t k StatementList)
+pub list_no_row : (o : Switches) (t : Trees) → is_quiet o t ≡ true → guards.is_apart o t ≡ true → are_entered o t ≡ true → list.Rests o StatementList (listed t)
+list_no_row o t q e k = all_rest o (listed t) (quiet_rests o t q StatementList) (apart_rests o t e StatementList) (entered_rests o t k StatementList)
 
 -- ---- by the parts of a list
 
@@ -614,3 +724,12 @@ pub value_made : (t : Tree) (i : ℕ) (value whole d : Tree) (ds taken given : T
 value_made t i value whole d ds taken made a b e f g =
     let is = b ∙ ap children a in
     ap (declaration Var) (g ∙ ap (λ ts. with_child ts i (with_part d 1 value)) f ∙ child_twice ds i absent (with_part d 1 value) ∙ ap (λ x. with_child ds i (with_part x 1 value)) e ∙ ap (λ ts. with_child ts i (with_part (child_or_absent ts i) 1 value)) is)
+
+-- whatever stands after it
+pub put_with : (o : Switches) (before after : Trees) (t : Tree) (rest : Trees) (r : Result Bool OutOfMemory) → IfOk r (λ b. (others : Trees) → PutEntered o before t others after others b) → IfOk r (PutEntered o before t rest after rest)
+put_with o before after t rest (Err e) m = m
+put_with o before after t rest (Ok b) m = m rest
+
+-- a declaration has a list
+pub list_there : (t : Tree) → declares Var t ≡ true → 0 < count (children t)
+list_there t e = let is = ap (λ x. count (children x)) (declares_is Var t e) in omega (arith, is)

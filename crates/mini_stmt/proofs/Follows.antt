@@ -75,7 +75,7 @@ pub for_is : (t : Tree) → is_for t ≡ true → t ≡ for_loop (part t 0) (par
 for_is (node shape.ForStatement [] zero (a ▸ (b ▸ (c ▸ (d ▸ none))))) e = refl
 for_is t e = absurd (false≢true e)
 
-for_in_is : (t : Tree) → is_for_in t ≡ true → t ≡ for_in (part t 0) (part t 1) (part t 2)
+pub for_in_is : (t : Tree) → is_for_in t ≡ true → t ≡ for_in (part t 0) (part t 1) (part t 2)
 for_in_is (node shape.ForInStatement [] zero (a ▸ (b ▸ (c ▸ none)))) e = refl
 for_in_is t e = absurd (cc e)
 

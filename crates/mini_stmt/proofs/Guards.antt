@@ -16,7 +16,7 @@ use Rattle.mini_node.specs.Walks.{from_first, next_child, no_rest, append_one}
 use Rattle.mini_node.proofs.Equality.{tree_same, tree_itself}
 use Rattle.mini_model.specs.declared.memory.OutOfMemory.{OutOfMemory}
 use Rattle.mini_rows.specs.Switches.{Switches}
-use Rattle.mini_rows.specs.Lists.{is_terminated, is_shallow, Row74, StretchRow, GuardsRow, NeighbourRow, InList, Row70, Saying, AsStatement, AsReturn, AsThrow, says, Row77}
+use Rattle.mini_rows.specs.Lists.{is_terminated, is_shallow, Row74, StretchRow, GuardsRow, NeighbourRow, InList, EntersRow, Saying, AsStatement, AsReturn, AsThrow, says, Row77}
 use Rattle.mini_stmt.specs.MinimizeStatements as list
 use Rattle.mini_stmt.specs.MinimizeStatements.{Changes, is_quiet, StretchRests, JoinsStatements}
 use Rattle.mini_stmt.specs.JoinGuards.{are_guards, both_guards, may_go, ends_before, meets, met, meet_first, are_apart, is_apart, last_after, meets_last, PutJoined, Joined, Rests, JoinsGuards, JoinsOthers}
@@ -119,12 +119,12 @@ apart_rests o ts e StatementList w r = guards_rest o ts e w r
 apart_rests o ts e p w r = absurd r
 
 -- a row is of the one kind or the other
-either_row : (o : Switches) (n w : Tree) (r : InList (NeighbourRow o) n w) → (InList (StretchRow o) n w → ⊥) → (InList (GuardsRow o) n w → ⊥) → (InList Row70 n w → ⊥) → NeighbourRow o r.read r.put → ⊥
+either_row : (o : Switches) (n w : Tree) (r : InList (NeighbourRow o) n w) → (InList (StretchRow o) n w → ⊥) → (InList (GuardsRow o) n w → ⊥) → (InList (EntersRow o) n w → ⊥) → NeighbourRow o r.read r.put → ⊥
 either_row o n w r f g h (inl m) = f (record { before = r.before; read = r.read; put = r.put; after = r.after; row = m; shape = r.shape; written = r.written })
 either_row o n w r f g h (inr (inl m)) = g (record { before = r.before; read = r.read; put = r.put; after = r.after; row = m; shape = r.shape; written = r.written })
 either_row o n w r f g h (inr (inr m)) = h (record { before = r.before; read = r.read; put = r.put; after = r.after; row = m; shape = r.shape; written = r.written })
 
-pub all_rest : (o : Switches) (n : Tree) → StretchRests o StatementList n → Rests o StatementList n → assignments.Rests StatementList n → list.Rests o StatementList n
+pub all_rest : (o : Switches) (n : Tree) → StretchRests o StatementList n → Rests o StatementList n → assignments.Rests o StatementList n → list.Rests o StatementList n
 all_rest o n f g h w r = either_row o n w r (f w) (g w) (h w) r.row
 
 -- ---- as the list goes on

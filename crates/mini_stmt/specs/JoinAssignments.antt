@@ -1,4 +1,5 @@
--- 70: `var a, c; a = b;` becomes `var a = b, c;`, and so where the assignment begins a sequence or the head of a `for`.
+-- 70: `var a, c; a = b;` becomes `var a = b, c;`, and so where the assignment begins a sequence or the head of a `for`. 69:
+-- `var a; for (a of b) c` becomes `for (var a of b) c`.
 use Rattle.std.specs.Prelude.{◌≡◌, ◌<◌, ◌+◌, ℕ, suc, Bool, true, false, not, ◌&&◌, ◌||◌, Option, Some, None, if◌then◌else◌}
 use Rattle.mini_model.specs.declared.kind.VariableDeclarationKind.TheVariants.{Var}
 use Rattle.mini_model.specs.declared.operator.AssignmentOperator.TheVariants.{Assign}
@@ -12,8 +13,8 @@ use Rattle.mini_node.specs.Children.{part, with_part, with_child, is_bare, names
 use Rattle.mini_node.specs.Kinds.{is_absent_part, is_identifier, is_named_leaf, is_sequence, is_expression_statement, same_names}
 use Rattle.mini_tree.specs.Rule as rule
 use Rattle.mini_rows.specs.Switches.{Switches}
-use Rattle.mini_rows.specs.Lists.{of_parts, are_parts, declaration, declares_nothing, is_declarator_shape, are_bare_declarators, Row70, InList, ListContracts}
-use Rattle.mini_stmt.specs.JoinHeads.{is_for, has_head}
+use Rattle.mini_rows.specs.Lists.{of_parts, are_parts, declaration, declares_nothing, is_declarator_shape, are_bare_declarators, Row70, EntersRow, InList, ListContracts}
+use Rattle.mini_stmt.specs.JoinHeads.{is_for, is_for_in, has_head}
 use Rattle.mini_stmt.specs.JoinVars.{declares}
 use Rattle.mini_stmt.specs.JoinGuards.{last_after}
 use Rattle.mini_stmt.specs.MinimizeStatements.{Changes, reversed}
@@ -99,15 +100,44 @@ with_value t i v = declaration Var (with_child (children (part t 0)) i (with_par
 abbrev pub Entered : Tree → Tree → Tree → Trees → Type 0
 Entered t u made left = Row70 (t ▸ (u ▸ none)) (made ▸ left)
 
+-- `for (a of b) c`
+abbrev pub is_for_of_shape : Shape → Bool
+is_for_of_shape shape.ForOfStatement = true
+is_for_of_shape _ = false
+
+abbrev pub is_for_of : Tree → Bool
+is_for_of t = is_for_of_shape (shape_of t) && is_bare t 3
+
+-- a loop that takes a `var` into its head: with `in` where sequences are made
+abbrev pub takes_head : Switches → Tree → Bool
+takes_head o u = is_for_of u || (o.sequences && is_for_in u)
+
+-- one declarator, without an initializer, of the name that is assigned to
+abbrev pub declares_one : Tree → Trees → Bool
+declares_one x (d ▸ none) = declares_bare d x
+declares_one x _ = false
+
+-- the loop u assigns to the name of the declaration t
+abbrev pub assigns_its_name : Switches → Tree → Tree → Bool
+assigns_its_name o t u = takes_head o u && (is_identifier (part u 0) && declares_one (part u 0) (children (part t 0)))
+
+-- the `var` t goes into the head of the loop u
+abbrev pub heads : Switches → Tree → Tree → Bool
+heads o t u = declares Var t && assigns_its_name o t u
+
+-- either of them
+abbrev pub joins_var : Switches → Tree → Tree → Bool
+joins_var o t u = enters t u || heads o t u
+
 -- the first two of them
-abbrev pub enters_first : Trees → Bool
-enters_first (t ▸ (u ▸ ts)) = enters t u
-enters_first _ = false
+abbrev pub enters_first : Switches → Trees → Bool
+enters_first o (t ▸ (u ▸ ts)) = joins_var o t u
+enters_first o _ = false
 
 -- no two neighbours
-abbrev pub are_entered : Trees → Bool
-are_entered none = true
-are_entered (t ▸ ts) = not (enters_first (t ▸ ts)) && are_entered ts
+abbrev pub are_entered : Switches → Trees → Bool
+are_entered o none = true
+are_entered o (t ▸ ts) = not (enters_first o (t ▸ ts)) && are_entered o ts
 
 -- into the last of them
 abbrev pub enters_last : Trees → Tree → Bool
@@ -117,25 +147,28 @@ abbrev pub EntersLast : Trees → Tree → Option ℕ → Type 0
 EntersLast ts u (Some i) = (0 < count ts) × EntersAt (last_after absent ts) u (Some i)
 EntersLast ts u None = enters_last ts u ≡ false
 
+abbrev pub heads_last : Switches → Trees → Tree → Bool
+heads_last o ts u = heads o (last_after absent ts) u
+
 -- a statement is put after the others, which others follow, the nearest of them last
-pub record PutEntered (before : Trees) (t : Tree) (rest after others : Trees) (changed : Bool) : Type 0 where
-  pub changes : (o : Switches) → Changes o (append before (t ▸ reversed rest)) (append after (reversed others)) changed
-  pub entered : changed ≡ false → are_entered before ≡ true → are_entered after ≡ true
+pub record PutEntered (o : Switches) (before : Trees) (t : Tree) (rest after others : Trees) (changed : Bool) : Type 0 where
+  pub changes : Changes o (append before (t ▸ reversed rest)) (append after (reversed others)) changed
+  pub entered : changed ≡ false → are_entered o before ≡ true → are_entered o after ≡ true
   pub smaller : node_counts others < node_counts rest + node_count t
 
 -- a list changes, or there is nothing to do in it
-pub record AllEntered (t u : Trees) (changed : Bool) : Type 0 where
-  pub changes : (o : Switches) → Changes o t u changed
-  pub entered : changed ≡ false → are_entered u ≡ true
+pub record AllEntered (o : Switches) (t u : Trees) (changed : Bool) : Type 0 where
+  pub changes : Changes o t u changed
+  pub entered : changed ≡ false → are_entered o u ≡ true
 
 -- no such row reads the list
-abbrev pub InAssignments : Position → Tree → Tree → Type 0
-InAssignments StatementList n w = InList Row70 n w
-InAssignments _ n w = ⊥
+abbrev pub InAssignments : Switches → Position → Tree → Tree → Type 0
+InAssignments o StatementList n w = InList (EntersRow o) n w
+InAssignments o _ n w = ⊥
 
-abbrev pub Rests : Position → Tree → Type 0
-Rests p t = (w : Tree) → InAssignments p t w → ⊥
+abbrev pub Rests : Switches → Position → Tree → Type 0
+Rests o p t = (w : Tree) → InAssignments o p t w → ⊥
 
 -- the node of a list
-abbrev pub JoinsAssignments : Tree → Tree → Bool → Type 0
-JoinsAssignments t u changed = (o : Switches) → rule.Applied (ListContracts o) Rests StatementList t u changed
+abbrev pub JoinsAssignments : Switches → Tree → Tree → Bool → Type 0
+JoinsAssignments o t u changed = rule.Applied (ListContracts o) (Rests o) StatementList t u changed

@@ -90,4 +90,4 @@ MinimizesBody o t u changed = rule.Applied (ListContracts o) (Rests o) BodyList 
 -- no row at all reads a list that is quiet, and in which no two neighbours are guards to join and no assignment goes into a `var`
 -- before it; nor one of a function's body, if its end isn't read
 abbrev pub QuietRests : Type 0
-QuietRests = (o : Switches) (t : Trees) → is_quiet o t ≡ true → is_apart o t ≡ true → are_entered t ≡ true → (p : Position) → (p ≡ BodyList → is_ended o t ≡ true) → Rests o p (listed t)
+QuietRests = (o : Switches) (t : Trees) → is_quiet o t ≡ true → is_apart o t ≡ true → are_entered o t ≡ true → (p : Position) → (p ≡ BodyList → is_ended o t ≡ true) → Rests o p (listed t)

@@ -302,7 +302,7 @@ pub fn minimize_statements(
 ) -> Result<bool, OutOfMemory>
     ensures { IfOk result (λ changed. MinimizesList (switches_of options) node.old node.new changed) }
 {
-    if join_assignments(alloc, node)? {
+    if join_assignments(alloc, options, node)? {
         return Ok(true);
     }
     join_others(alloc, options, node)

@@ -1,13 +1,17 @@
-//! 70: `var a, c; a = b;` becomes `var a = b, c;`, and `var a; return a = b, c;` becomes `var a = b; return c;`.
+//! 70: `var a, c; a = b;` becomes `var a = b, c;`, and `var a; return a = b, c;` becomes `var a = b; return c;`. 69:
+//! `var a; for (a of b) c` becomes `for (var a of b) c`.
 
-ghost use Rattle.std.specs.Prelude.{◌≡◌, ◌<◌, ◌&&◌, true, Some, IfOk};
-ghost use Rattle.mini_model.specs.Tree.{none, ◌▸◌, child_or_absent, children, count};
+ghost use Rattle.std.specs.Prelude.{◌≡◌, ◌<◌, true, false, Some, IfOk};
+ghost use Rattle.mini_model.specs.Tree.{Trees, none, ◌▸◌, child_or_absent, children, count};
 ghost use Rattle.mini_node.specs.Children.{part, with_part, rest_children, without};
 ghost use Rattle.mini_rows.specs.Lists as list;
 ghost use Rattle.mini_stmt.specs.JoinAssignments as row;
+ghost use Rattle.mini_stmt.specs.MinimizeStatements.{switches_of};
 ghost use Rattle.mini_stmt.specs.JoinAssignments.{AllEntered, Entered, EntersAt, EntersLast, JoinsAssignments, PutEntered, TakesAt};
 
-use crate::rewrites::join_heads::{has_head, is_for, lacks_initializer, over_child, take_child};
+use crate::rewrites::join_heads::{
+    has_head, is_for, is_for_in, lacks_initializer, over_child, take_child,
+};
 use crate::rewrites::join_vars::declares;
 use crate::statements::{put_reversed, take_last};
 use crate::terms::{declares_nothing, is_one_part};
@@ -16,6 +20,7 @@ use mini_node::{
     Node, Nodes, discard, is_absent_part, is_expression_statement, is_identifier, is_listed,
     is_same_symbol, is_sequence, listed, of_one, one, sequence, two,
 };
+use mini_tree::CompressOptions;
 use std::alloc::Global;
 use std::mem;
 
@@ -229,24 +234,80 @@ fn enter(alloc: Global, first: Node, next: Node, at: usize) -> Result<(Node, Nod
     Ok((declared, left))
 }
 
-// Whether the assignment that begins the one after a place goes into the one there.
-fn enters_next(list: &Nodes, at: usize) -> bool
+// `for (a of b) c`
+fn is_for_of(node: &Node) -> bool
+    ensures kind { result ≡ row.is_for_of node.now }
+    ensures parts { result ≡ true → count (children node.now) ≡ 3 }
+{
+    matches!(node.shape(), Shape::ForOfStatement) && node.is_bare(3)
+}
+
+// Whether the loop takes a `var` into its head.
+fn takes_head(options: CompressOptions, node: &Node) -> bool
+    ensures kind { result ≡ row.takes_head (switches_of options) node.now }
+    ensures parts { result ≡ true → 0 < count (children node.now) }
+{
+    is_for_of(node) || (options.sequences && is_for_in(node))
+}
+
+// Whether there is one declarator, without an initializer, of the name that is assigned to.
+fn declares_one(target: &Node, declarators: &Nodes) -> bool
+    ensures { result ≡ row.declares_one target.now declarators.now }
+{
+    declarators.len() == 1 && declares_bare(declarators.child(0), target)
+}
+
+// Whether the loop assigns to the name of the declaration.
+fn assigns_its_name(options: CompressOptions, declaration: &Node, node: &Node) -> bool
+    requires { 0 < count (children declaration.now) }
+    ensures kind { result ≡ row.assigns_its_name (switches_of options) declaration.now node.now }
+    ensures parts { result ≡ true → 0 < count (children node.now) }
+{
+    takes_head(options, node)
+        && is_identifier(node.child(0))
+        && declares_one(node.child(0), declaration.child(0).children())
+}
+
+// Whether the first, a `var`, goes into the head of the second.
+fn heads(options: CompressOptions, first: &Node, next: &Node) -> bool
+    ensures kind { result ≡ row.heads (switches_of options) first.now next.now }
+    ensures parts { result ≡ true → 0 < count (children next.now) }
+{
+    declares(first, VariableDeclarationKind::Var) && assigns_its_name(options, first, next)
+}
+
+// Whether an assignment that begins the second goes into the first.
+fn enters(first: &Node, next: &Node) -> bool
+    ensures { result ≡ row.enters first.now next.now }
+{
+    enters_at(first, next).is_some()
+}
+
+// Either of them.
+fn joins_var(options: CompressOptions, first: &Node, next: &Node) -> bool
+    ensures { result ≡ row.joins_var (switches_of options) first.now next.now }
+{
+    enters(first, next) || heads(options, first, next)
+}
+
+// Whether the one after a place is joined to the one there.
+fn enters_next(options: CompressOptions, list: &Nodes, at: usize) -> bool
     requires { at < count list.now }
-    ensures { result ≡ row.enters_first (rest_children at list.now) }
+    ensures { result ≡ row.enters_first (switches_of options) (rest_children at list.now) }
 {
     let last = list.len() - 1;
     if at == last {
         return false;
     }
-    enters_at(list.child(at), list.child(at + 1)).is_some()
+    joins_var(options, list.child(at), list.child(at + 1))
 }
 
-// Whether no assignment goes into what is before it.
-fn are_entered(list: &Nodes) -> bool
-    ensures { result ≡ row.are_entered list.now }
+// Whether nothing is joined to a `var` before it.
+fn are_entered(options: CompressOptions, list: &Nodes) -> bool
+    ensures { result ≡ row.are_entered (switches_of options) list.now }
 {
     for at in 0..list.len() {
-        if enters_next(list, at) {
+        if enters_next(options, list, at) {
             return false;
         }
     }
@@ -264,21 +325,49 @@ fn enters_last(before: &Nodes, statement: &Node) -> Option<usize>
     enters_at(before.child(count - 1), statement)
 }
 
+// Whether the last of the others goes into the head of the statement.
+fn heads_last(options: CompressOptions, before: &Nodes, statement: &Node) -> bool
+    ensures kind { result ≡ row.heads_last (switches_of options) before.now statement.now }
+    ensures parts { result ≡ true → 0 < count (children statement.now) }
+{
+    let count = before.len();
+    if count == 0 {
+        return false;
+    }
+    heads(options, before.child(count - 1), statement)
+}
+
+// Puts the statement after the others, of which the last may go into its head.
+fn put_headed(
+    options: CompressOptions,
+    before: &mut Nodes,
+    statement: Node,
+) -> Result<bool, OutOfMemory>
+    requires { row.enters_last before.old statement ≡ false }
+    ensures { IfOk result (λ changed. (rest : Trees) → PutEntered (switches_of options) before.old statement rest before.new rest changed) }
+{
+    if !heads_last(options, before, &statement) {
+        before.push(statement)?;
+        return Ok(false);
+    }
+    let last = take_last(before);
+    before.push(over_child(statement, 0, last))?;
+    Ok(true)
+}
+
 // Puts the statement after the others; where it begins with an assignment that goes into the last of them, what is left of
 // it is put back. The answer says whether one did.
 fn put_entered(
     alloc: Global,
+    options: CompressOptions,
     before: &mut Nodes,
     rest: &mut Nodes,
     statement: Node,
 ) -> Result<bool, OutOfMemory>
-    ensures { IfOk result (PutEntered before.old statement rest.old before.new rest.new) }
+    ensures { IfOk result (PutEntered (switches_of options) before.old statement rest.old before.new rest.new) }
 {
     match enters_last(before, &statement) {
-        None => {
-            before.push(statement)?;
-            Ok(false)
-        }
+        None => put_headed(options, before, statement),
         Some(at) => {
             let last = take_last(before);
             let (declared, left) = enter(alloc, last, statement, at)?;
@@ -290,27 +379,32 @@ fn put_entered(
 }
 
 // Does all statements, from the first to the last.
-fn enter_all(alloc: Global, list: &mut Nodes) -> Result<bool, OutOfMemory>
-    ensures { IfOk result (AllEntered list.old list.new) }
+fn enter_all(alloc: Global, options: CompressOptions, list: &mut Nodes) -> Result<bool, OutOfMemory>
+    ensures { IfOk result (AllEntered (switches_of options) list.old list.new) }
 {
     let whole = mem::replace(list, Nodes::new(alloc));
     let mut rest = Nodes::new(alloc);
     put_reversed(&mut rest, whole)?;
     let mut changed = false;
     'statements: while let Some(statement) = rest.pop() {
-        let entered = put_entered(alloc, list, &mut rest, statement)?;
+        let entered = put_entered(alloc, options, list, &mut rest, statement)?;
         changed = changed | entered;
     }
     Ok(changed)
 }
 
-/// Each assignment that begins the statement after a `var` as an initializer in it. The answer says whether there was one; the
-/// only error is that memory runs out, and then the list is fit only to be dropped.
-pub fn join_assignments(alloc: Global, node: &mut Node) -> Result<bool, OutOfMemory>
-    ensures { IfOk result (JoinsAssignments node.old node.new) }
+/// Each assignment that begins the statement after a `var` as an initializer in it, and each `var` in the head of the loop after
+/// it that assigns to its name. The answer says whether there was one; the only error is that memory runs out, and then the list
+/// is fit only to be dropped.
+pub fn join_assignments(
+    alloc: Global,
+    options: CompressOptions,
+    node: &mut Node,
+) -> Result<bool, OutOfMemory>
+    ensures { IfOk result (JoinsAssignments (switches_of options) node.old node.new) }
 {
-    if !is_listed(node) || are_entered(node.children()) {
+    if !is_listed(node) || are_entered(options, node.children()) {
         return Ok(false);
     }
-    enter_all(alloc, node.children_mut())
+    enter_all(alloc, options, node.children_mut())
 }

@@ -29,8 +29,8 @@ pub fn is_for(node: &Node) -> bool
     matches!(node.shape(), Shape::ForStatement) && node.is_bare(4)
 }
 
-// `for (a in b) c`
-fn is_for_in(node: &Node) -> bool
+/// `for (a in b) c`
+pub fn is_for_in(node: &Node) -> bool
     ensures kind { result ≡ row.is_for_in node.now }
     ensures parts { result ≡ true → count (children node.now) ≡ 3 }
 {
