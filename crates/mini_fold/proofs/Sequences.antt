@@ -2,6 +2,7 @@
 use Rattle.std.proofs.Common.{◌≡◌, ℕ, zero, suc, ◌<◌, ◌≤◌, Bool, true, false, Option, Some, None, refl, sym, ap, ◌∙◌, inl, inr, true≢false, arith}
 use Rattle.std.specs.Prelude.{◌+◌, ◌&&◌, ◌||◌, nat_eq, nat_le, is_some, if◌then◌else◌}
 use Rattle.std.proofs.lemmas.Bool.{and_parts, le-leb, leb-true, eqb-true}
+use Rattle.mini_model.specs.declared.operator.BinaryOperator.{BinaryOperator}
 use Rattle.mini_model.specs.declared.operator.LogicalOperator.{LogicalOperator}
 use Rattle.mini_model.specs.declared.place.Position.{Position}
 use Rattle.mini_model.specs.declared.place.Position.TheVariants.{Expr}
@@ -9,12 +10,12 @@ use Rattle.mini_model.specs.declared.seat.Seat.{Seat}
 use Rattle.mini_model.specs.Tree.{Tree, Trees, none, ◌▸◌, count, children, child_or_absent, first_or_absent}
 use Rattle.mini_model.specs.Paths.{append}
 use Rattle.mini_node.specs.Children.{part, first_children, rest_children, without}
-use Rattle.mini_node.specs.Kinds.{logical_operator, is_conditional, is_negation, is_sequence, sequence}
-use Rattle.mini_node.specs.Made.{logical_is, conditional_is, negation_is, sequence_is}
+use Rattle.mini_node.specs.Kinds.{logical_operator, binary_operator, is_conditional, is_negation, is_sequence, sequence}
+use Rattle.mini_node.specs.Made.{binary_is, logical_is, conditional_is, negation_is, sequence_is}
 use Rattle.mini_node.specs.Walks.{from_first, next_child, no_rest}
 use Rattle.mini_terms.specs.Folds.{is_effect_free}
 use Rattle.mini_terms.specs.Parts.{suits, leaves_nothing, weighs}
-use Rattle.mini_rows.specs.Sequences.{Operation, Decides, Chooses, Negates, over, is_open_seat, takes_alone, Row20, Row21, Row21Idle, Row21Alone, SequenceRow}
+use Rattle.mini_rows.specs.Sequences.{Operation, Decides, Chooses, Negates, Operates, over, is_open_seat, takes_alone, Row20, Row21, Row21Idle, Row21Alone, SequenceRow}
 use Rattle.mini_rows.proofs.SequenceWeights.{lighter}
 use Rattle.mini_tree.specs.Rule.{Applied}
 use Rattle.mini_tree.proofs.Reaching.{moves_once}
@@ -60,13 +61,14 @@ record Operated (t : Tree) : Type 0 where
   other : (q : Tree) → with_first t q ≡ over operation q
 
 operated : (t : Tree) → is_operation t ≡ true → Operated t
-operated t e = go (logical_operator t) (is_conditional t) (is_negation t) refl refl refl e
+operated t e = go (logical_operator t) (is_conditional t) (is_negation t) (binary_operator t) refl refl refl refl e
   where
-    go : (o : Option LogicalOperator) (c d : Bool) → logical_operator t ≡ o → is_conditional t ≡ c → is_negation t ≡ d → is_some o || (c || d) ≡ true → Operated t
-    go (Some o) c d h k l e = record { operation = Decides o (part t 1); is = logical_is t o h; other = λ q. ap (λ u. with_first u q) (logical_is t o h) }
-    go None true d h k l e = record { operation = Chooses (part t 1) (part t 2); is = conditional_is t k; other = λ q. ap (λ u. with_first u q) (conditional_is t k) }
-    go None false true h k l e = record { operation = Negates; is = negation_is t l; other = λ q. ap (λ u. with_first u q) (negation_is t l) }
-    go None false false h k l e = absurd (true≢false (sym e))
+    go : (o : Option LogicalOperator) (c d : Bool) (b : Option BinaryOperator) → logical_operator t ≡ o → is_conditional t ≡ c → is_negation t ≡ d → binary_operator t ≡ b → is_some o || (c || (d || is_some b)) ≡ true → Operated t
+    go (Some o) c d b h k l m e = record { operation = Decides o (part t 1); is = logical_is t o h; other = λ q. ap (λ u. with_first u q) (logical_is t o h) }
+    go None true d b h k l m e = record { operation = Chooses (part t 1) (part t 2); is = conditional_is t k; other = λ q. ap (λ u. with_first u q) (conditional_is t k) }
+    go None false true b h k l m e = record { operation = Negates; is = negation_is t l; other = λ q. ap (λ u. with_first u q) (negation_is t l) }
+    go None false false (Some o) h k l m e = record { operation = Operates o (part t 1); is = binary_is t o m; other = λ q. ap (λ u. with_first u q) (binary_is t o m) }
+    go None false false None h k l m e = absurd (true≢false (sym e))
 
 lifted_row : (s : Seat) (t : Tree) → is_lifted s t ≡ true → Row20 s t (lifted t)
 lifted_row s t e =
@@ -140,6 +142,7 @@ lifts : (s : Seat) (r : Operation) (p : Tree) (ps : Trees) (l : Tree) → is_ope
 lifts s (Decides o b) p ps l h = both_true (is_open_seat s) (has_several (p ▸ append ps (l ▸ none))) h (several p ps l)
 lifts s (Chooses b c) p ps l h = both_true (is_open_seat s) (has_several (p ▸ append ps (l ▸ none))) h (several p ps l)
 lifts s Negates p ps l h = both_true (is_open_seat s) (has_several (p ▸ append ps (l ▸ none))) h (several p ps l)
+lifts s (Operates o b) p ps l h = both_true (is_open_seat s) (has_several (p ▸ append ps (l ▸ none))) h (several p ps l)
 
 or_true : (b c : Bool) → c ≡ true → b || c ≡ true
 or_true true c e = refl

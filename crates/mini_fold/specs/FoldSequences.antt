@@ -5,7 +5,7 @@ use Rattle.mini_model.specs.declared.seat.Seat.{Seat}
 use Rattle.mini_model.specs.Tree.{Tree, Trees, none, ◌▸◌, absent, children, count, child_or_absent, first_or_absent}
 use Rattle.mini_model.specs.Paths.{append}
 use Rattle.mini_node.specs.Children.{part, like, first_children, rest_children, with_inserted, without}
-use Rattle.mini_node.specs.Kinds.{logical_operator, is_conditional, is_negation, is_sequence, sequence}
+use Rattle.mini_node.specs.Kinds.{logical_operator, binary_operator, is_conditional, is_negation, is_sequence, sequence}
 use Rattle.mini_terms.specs.Folds.{is_effect_free}
 use Rattle.mini_terms.specs.Parts.{suits, leaves_nothing, weighs}
 use Rattle.mini_rows.specs.Sequences.{is_open_seat, takes_alone, SequenceRow, SequenceContracts}
@@ -34,7 +34,7 @@ but_last (t ▸ (u ▸ us)) = t ▸ but_last (u ▸ us)
 
 -- a node that evaluates its first operand before all else of it
 abbrev pub is_operation : Tree → Bool
-is_operation t = is_some (logical_operator t) || (is_conditional t || is_negation t)
+is_operation t = is_some (logical_operator t) || (is_conditional t || (is_negation t || is_some (binary_operator t)))
 
 -- such a node over a sequence, which is to be lifted out here
 abbrev pub is_lifted : Seat → Tree → Bool

@@ -1,6 +1,6 @@
 -- What conditionals, logical expressions and assignments of names do, by the values of their parts.
-use Rattle.std.proofs.Common.{◌≡◌, ℕ, Bool, true, false, [], ◌∷◌, refl, sym, ap, subst, ◌∙◌, inl, inr}
-use Rattle.std.specs.Prelude.{◌⊎◌, not, Some, None}
+use Rattle.std.proofs.Common.{◌≡◌, ℕ, Bool, true, false, List, [], ◌∷◌, Option, refl, sym, ap, subst, ◌∙◌, inl, inr}
+use Rattle.std.specs.Prelude.{◌⊎◌, ◌&&◌, not, Some, None}
 use Rattle.mini_model.specs.declared.name.Name.{Name}
 use Rattle.mini_model.specs.declared.operator.AssignmentOperator.{AssignmentOperator}
 use Rattle.mini_model.specs.declared.operator.AssignmentOperator.TheVariants as assigning
@@ -11,15 +11,15 @@ use Rattle.mini_model.specs.declared.operator.LogicalOperator.TheVariants.{Or, A
 use Rattle.mini_model.specs.declared.shape.Shape.TheVariants as shape
 use Rattle.mini_model.specs.Tree.{Tree, none, ◌▸◌, listed, identifier, logical, conditional, null_literal}
 use Rattle.mini_laws.specs.Value.{Value, Undefined, Null, Boolean, Variable, Slot, Holds, Missing, Uninitialised, choose, truth, is_nullish, variable_of, variables}
-use Rattle.mini_laws.specs.State.{Hint, ForNumber, Coerce, Item, State, Completion, ok, stop, out, either, Environment}
+use Rattle.mini_laws.specs.State.{Hint, ForNumber, ForDefault, Coerce, InOf, InstanceOf, Label, Entry, Item, State, Completion, ok, stop, out, either, Environment}
 use Rattle.mini_laws.specs.Demand.{Val, Test, Unused, Demand, As, Parts, Callee, OfType, Deleted, Target, AnEntry, Stat, AName, AValue, Fetch, Put, Reference, Request, Reply, plain_call}
 use Rattle.mini_laws.specs.Command.{read, Naming, Command, ret, kid, then, bind, emit, is_object, Kids, read_slot, at_variable, act, run}
 use Rattle.mini_laws.specs.Naming.{NameKind, UndefinedName, NumberName, summary, summaries, naming, kind_of}
 use Rattle.mini_laws.specs.Asking.{first_demand, logical_demand}
-use Rattle.mini_laws.specs.Replies.{reply, passed, raise, of_made, primitive, numeric, hint_of, is_of_primitives, operate}
-use Rattle.mini_laws.specs.Conversion.{Made, makes, raises, outside, to_number}
-use Rattle.mini_laws.specs.Operators.{of_numbers, of_primitives}
-use Rattle.mini_laws.specs.Expressions.{get_identifier, binary_step, operate_by, logical_step, conditional_step, sequence_step}
+use Rattle.mini_laws.specs.Replies.{reply, passed, raise, loosely, of_option, of_made, primitive, numeric, hint_of, is_of_primitives, operate}
+use Rattle.mini_laws.specs.Conversion.{Made, makes, raises, outside, to_number, key_value}
+use Rattle.mini_laws.specs.Operators.{of_numbers, of_primitives, loosely_equal}
+use Rattle.mini_laws.specs.Expressions.{get_identifier, asks_object, binary_step, operate_by, logical_step, conditional_step, sequence_step}
 use Rattle.mini_laws.specs.Targets.{assigns, AssignDemand, put_target, assignment_step}
 use Rattle.mini_laws.specs.Step.{step, means, meaning}
 use Rattle.mini_laws.specs.Truth.{told}
@@ -190,7 +190,7 @@ module _ (e : Environment) (m n : Naming) (σ τ : ℕ → Demand) (K : Kids σ)
       ∙ either_cong (run {q = τ} e n L d z) _ _ _ _ (λ a y. k a y) (λ x y. refl)
       ∙ sym (run_bind e n d g L z)
 
-  choose_free : {A : Type 0} (b : Bool) (c c' : Command σ A) (d d' : Command τ A) → Free c d → Free c' d' → Free (choose b c c') (choose b d d')
+  pub choose_free : {A : Type 0} (b : Bool) (c c' : Command σ A) (d d' : Command τ A) → Free c d → Free c' d' → Free (choose b c c') (choose b d d')
   choose_free true c c' d d' h k = h
   choose_free false c c' d d' h k = k
 
@@ -215,6 +215,39 @@ module _ (e : Environment) (m n : Naming) (σ τ : ℕ → Demand) (K : Kids σ)
       choose_free (is_of_primitives o) _ _ _ _
       (bind_free (primitive (hint_of o) a) (primitive (hint_of o) a) _ _ (primitive_free (hint_of o) a) (λ x. bind_free (primitive (hint_of o) b) (primitive (hint_of o) b) _ _ (primitive_free (hint_of o) b) (λ y. made_free (of_primitives o x y))))
       (bind_free (numeric a) (numeric a) _ _ (numeric_free a) (λ x. bind_free (numeric b) (numeric b) _ _ (numeric_free b) (λ y. made_free (of_numbers o x y))))
+
+module _ (e : Environment) (m n : Naming) (K L : Kids (λ i. As Val)) where
+  abbrev FreeOf : {A : Type 0} → Command (λ i. As Val) A → Type 0
+  FreeOf c = (z : State) → run {q = λ i. As Val} e m K c z ≡ run {q = λ i. As Val} e n L c z
+
+  option_free : (o : Option Bool) → FreeOf (of_option o)
+  option_free (Some b) z = refl
+  option_free None z = refl
+
+  loosely_free : (v u : Value) → FreeOf (loosely v u)
+  loosely_free v u =
+      choose_free e m n (λ i. As Val) (λ i. As Val) K L (is_nullish v) _ _ _ _ (λ z. refl)
+      (choose_free e m n (λ i. As Val) (λ i. As Val) K L (is_nullish u) _ _ _ _ (λ z. refl)
+      (choose_free e m n (λ i. As Val) (λ i. As Val) K L (is_object v && is_object u) _ _ _ _ (λ z. refl)
+      (bind_free e m n (λ i. As Val) (λ i. As Val) K L (primitive ForDefault v) (primitive ForDefault v) _ _ (primitive_free e m n (λ i. As Val) (λ i. As Val) K L ForDefault v)
+      (λ x. bind_free e m n (λ i. As Val) (λ i. As Val) K L (primitive ForDefault u) (primitive ForDefault u) _ _ (primitive_free e m n (λ i. As Val) (λ i. As Val) K L ForDefault u) (λ y. option_free (loosely_equal x y))))))
+
+  asked_free : (u : Value) (c : Command (λ i. As Val) Bool) → FreeOf c → FreeOf (asks_object u c)
+  asked_free u c h = choose_free e m n (λ i. As Val) (λ i. As Val) K L (is_object u) _ _ _ _ (bind_free e m n (λ i. As Val) (λ i. As Val) K L c c (λ b. ret (Boolean b)) (λ b. ret (Boolean b)) h (λ b z. refl)) (λ z. raise_free e m n (λ i. As Val) (λ i. As Val) K L z)
+
+  emitted_free : (l : Label) (es : List Entry) → FreeOf (emit l es)
+  unfolding act
+  emitted_free l es z = refl
+
+  -- any operator does the same in any node
+  pub operate_by_free : (o : BinaryOperator) (v u : Value) → FreeOf (operate_by o v u)
+  operate_by_free binary_operator.Equality v u = bind_free e m n (λ i. As Val) (λ i. As Val) K L (loosely v u) (loosely v u) (λ c. ret (Boolean c)) (λ c. ret (Boolean c)) (loosely_free v u) (λ c z. refl)
+  operate_by_free binary_operator.Inequality v u = bind_free e m n (λ i. As Val) (λ i. As Val) K L (loosely v u) (loosely v u) (λ c. ret (Boolean (not c))) (λ c. ret (Boolean (not c))) (loosely_free v u) (λ c z. refl)
+  operate_by_free binary_operator.StrictEquality v u = λ z. refl
+  operate_by_free binary_operator.StrictInequality v u = λ z. refl
+  operate_by_free binary_operator.In v u = asked_free u (emit InOf (Item (key_value v) ∷ Item u ∷ [])) (emitted_free InOf (Item (key_value v) ∷ Item u ∷ []))
+  operate_by_free binary_operator.Instanceof v u = asked_free u (emit InstanceOf (Item v ∷ Item u ∷ [])) (emitted_free InstanceOf (Item v ∷ Item u ∷ []))
+  operate_by_free o v u = operate_free e m n (λ i. As Val) (λ i. As Val) K L o v u
 
 -- ---- what an operator of numbers makes of the old value
 

@@ -17,13 +17,14 @@ use Rattle.mini_kept.proofs.Bools.{left, both}
 use Rattle.mini_kept.proofs.Expressions.{refused_here, expression, TakesExpressionIn, TakesExpression, expression_taken, of_negation, of_conditional, two_fit, three_fit}
 use Rattle.mini_node.specs.Walks.{append_none}
 use Rattle.mini_rows.specs.Arranged.{KeptAt}
-use Rattle.mini_rows.specs.Sketches.{Unary, Logical, Conditional, Sequence, Parts, Sketch, part, under, list, end, ◌▹◌, no_items, item, items}
+use Rattle.mini_rows.specs.Sketches.{Unary, Binary, Logical, Conditional, Sequence, Parts, Sketch, part, under, list, end, ◌▹◌, no_items, item, items}
 use Rattle.mini_rows.specs.Lists.{sequence}
-use Rattle.mini_rows.specs.Sequences.{Operation, Decides, Chooses, Negates, over, Row21, Row21Idle, Row21Alone, SequenceRow, SequenceContracts}
+use Rattle.mini_rows.specs.Sequences.{Operation, Decides, Chooses, Negates, Operates, over, Row21, Row21Idle, Row21Alone, SequenceRow, SequenceContracts}
 use Rattle.mini_model.specs.declared.operator.UnaryOperator.TheVariants.{LogicalNot}
 use Rattle.mini_terms.specs.Parts.{suits}
 use Rattle.mini_rows.proofs.ArrangedExpressions.{expressions_arranged, expressions_arranged_freely}
 use Rattle.mini_rows.proofs.ArrangedLawful.{kept_is_lawful}
+use Rattle.mini_rows.proofs.ConstantLawful.{binary_at}
 use Rattle.mini_rows.proofs.FoldLawful.{operands, expression_slot, vanishes, first_dropped, no_number}
 use Rattle.mini_rows.proofs.FoldWeights.{not_a_number}
 use Rattle.mini_rows.proofs.ListShapes.{AllFit, sequence_fits, parts_fit, of_parts_fits, append_fits, both_fit, first_fits, more_fit}
@@ -39,6 +40,7 @@ lifted_kept : (r : Operation) (p : Tree) (ps : Trees) (l : Tree) (q : Seat) (n w
 lifted_kept (Decides o b) p ps l q n w e f = expressions_arranged (record { trees = p ▸ l ▸ b ▸ none; lists = ps ∷ [] }) (under (Logical o) (in_order (part 1) ▹ part 2 ▹ end)) (in_order (under (Logical o) (part 1 ▹ part 2 ▹ end))) refl q n w e f
 lifted_kept (Chooses b c) p ps l q n w e f = expressions_arranged (record { trees = p ▸ l ▸ b ▸ c ▸ none; lists = ps ∷ [] }) (under Conditional (in_order (part 1) ▹ part 2 ▹ part 3 ▹ end)) (in_order (under Conditional (part 1 ▹ part 2 ▹ part 3 ▹ end))) refl q n w e f
 lifted_kept Negates p ps l q n w e f = expressions_arranged (record { trees = p ▸ l ▸ none; lists = ps ∷ [] }) (under (Unary LogicalNot) (in_order (part 1) ▹ end)) (in_order (under (Unary LogicalNot) (part 1 ▹ end))) refl q n w e f
+lifted_kept (Operates o b) p ps l q n w e f = expressions_arranged (record { trees = p ▸ l ▸ b ▸ none; lists = ps ∷ [] }) (under (Binary o) (in_order (part 1) ▹ part 2 ▹ end)) (in_order (under (Binary o) (part 1 ▹ part 2 ▹ end))) refl q n w e f
 
 spread_kept : (q : Seat) (n w : Tree) → Row21 n w → KeptAt (Expr q) n w
 spread_kept q n w r =
@@ -135,6 +137,9 @@ module _ (strict : Bool) where
   lifted_fits s Negates p ps l e =
       let (takes, first) = of_negation strict s (sequence (p ▸ append ps (l ▸ none))) e in
       (takes, last_fits p ps l first (over Negates l) (λ f. both (fits strict expression l) true f refl))
+  lifted_fits s (Operates o b) p ps l e =
+      let (takes, (first, second)) = binary_at strict o (sequence (p ▸ append ps (l ▸ none))) b s e in
+      (takes, last_fits p ps l first (over (Operates o b) l) (λ f. two_fit strict l b f second))
 
   items_fit : (ts : Trees) → Fits (sequence ts) → AllFit strict expression ts
   items_fit ts e = left (fill strict (each expression) ts) true (and_parts (nat_le 2 (count ts)) (fill strict (each expression) ts && true) e).1
@@ -210,6 +215,14 @@ over_asked p (Chooses b c) a ts = record {
   plain = refl;
 }
 over_asked p Negates a ts = record {
+  absent = λ e. absurd (true≢false (sym e));
+  body = λ e. absurd (true≢false (sym e));
+  optional = λ e. absurd (true≢false (sym e));
+  number = λ asks e. refl;
+  spelled = λ s e. absurd (cc e);
+  plain = refl;
+}
+over_asked p (Operates o b) a ts = record {
   absent = λ e. absurd (true≢false (sym e));
   body = λ e. absurd (true≢false (sym e));
   optional = λ e. absurd (true≢false (sym e));

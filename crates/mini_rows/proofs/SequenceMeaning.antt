@@ -9,6 +9,8 @@ use Rattle.mini_model.specs.Paths.{append}
 use Rattle.mini_laws.specs.Value.{Value, Boolean, choose, truth}
 use Rattle.mini_laws.specs.State.{State, Completion, ok, stop, either, Environment}
 use Rattle.mini_laws.specs.Demand.{Val, Unused, As}
+use Rattle.mini_laws.specs.Command.{run}
+use Rattle.mini_laws.specs.Expressions.{operate_by}
 use Rattle.mini_laws.specs.Naming.{summary}
 use Rattle.mini_laws.specs.Step.{means}
 use Rattle.mini_laws.specs.Rows.{SameAt}
@@ -19,8 +21,8 @@ use Rattle.mini_terms.specs.Reading.{stands, by_value, is_item, is_unguarded}
 use Rattle.mini_terms.proofs.Opened.{negation_opened}
 use Rattle.mini_terms.proofs.Reading.{read_by_value, same_in_seat}
 use Rattle.mini_rows.specs.Lists.{of_parts, sequence}
-use Rattle.mini_rows.specs.Sequences.{Operation, Decides, Chooses, Negates, over, Row20, Row21, Row21Idle, Row21Alone, SequenceRow, SequenceContracts}
-use Rattle.mini_rows.proofs.ChoiceRuns.{value, conditional_value, logical_value}
+use Rattle.mini_rows.specs.Sequences.{Operation, Decides, Chooses, Negates, Operates, over, Row20, Row21, Row21Idle, Row21Alone, SequenceRow, SequenceContracts}
+use Rattle.mini_rows.proofs.ChoiceRuns.{value, conditional_value, logical_value, binary_value, binary_names, sides, operate_by_free}
 use Rattle.mini_rows.proofs.FoldMeaning.{plain_of, value_of, plain_read}
 use Rattle.mini_rows.proofs.SequenceIdle.{idle_same, alone_same}
 use Rattle.mini_rows.proofs.ListParts.{joined_is, spread_is}
@@ -38,11 +40,15 @@ abbrev follows : Environment → Operation → Value → State → Completion Va
 follows e (Decides o b) v z = choose (assigns o v) (value e b z) (ok v z)
 follows e (Chooses b c) v z = choose (truth v) (value e b z) (value e c z)
 follows e Negates v z = ok (Boolean (not (truth v))) z
+follows e (Operates o b) v z = either (value e b z) (λ u y. run {q = λ i. As Val} e (binary_names o b b) (sides e b b) (operate_by o v u) y) (λ x y. stop x y)
 
 over_value : (e : Environment) (r : Operation) (a : Tree) (s : State) → value e (over r a) s ≡ either (value e a s) (λ v z. follows e r v z) (λ x z. stop x z)
 over_value e (Decides o b) a s = logical_value e o a b s
 over_value e (Chooses b c) a s = conditional_value e a b c s
 over_value e Negates a s = negation_opened e a s
+over_value e (Operates o b) a s =
+    binary_value e o a b s
+    ∙ either_cong (value e a s) _ _ _ _ (λ v z. either_cong (value e b z) _ _ _ _ (λ u y. operate_by_free e (binary_names o a b) (binary_names o b b) (sides e a b) (sides e b b) o v u y) (λ x y. refl)) (λ x z. refl)
 
 pub several : (p : Tree) (ps : Trees) (q : Tree) → of_parts p (append ps (q ▸ none)) ≡ sequence (p ▸ append ps (q ▸ none))
 several p none q = refl
@@ -65,6 +71,7 @@ pub lifted_same : (r : Operation) (p : Tree) (ps : Trees) (q : Tree) → SameTre
 lifted_same (Decides o b) p ps q = same_value _ _ refl refl refl (lifted_value (Decides o b) p ps q)
 lifted_same (Chooses b c) p ps q = same_value _ _ refl refl refl (lifted_value (Chooses b c) p ps q)
 lifted_same Negates p ps q = same_value _ _ refl refl refl (lifted_value Negates p ps q)
+lifted_same (Operates o b) p ps q = same_value _ _ refl refl refl (lifted_value (Operates o b) p ps q)
 
 -- ---- 21
 

@@ -1,8 +1,10 @@
 -- What a row on sequences writes weighs less wherever the expression stands.
 use Rattle.std.proofs.Common.{◌≡◌, ℕ, ◌+◌, ◌*◌, ◌<◌, ◌≤◌, Bool, true, false, List, refl, sym, ap, subst, ◌∙◌, ◌⊎◌, inl, inr, true≢false, ltb-true, ltb-false, arith}
-use Rattle.std.specs.Prelude.{◌&&◌, ◌||◌, not, nat_eq, nat_lt, if◌then◌else◌}
+use Rattle.std.specs.Prelude.{◌&&◌, ◌||◌, not, nat_eq, nat_lt, if◌then◌else◌, pos, negsuc}
 use Rattle.std.proofs.lemmas.Bool.{and_parts, eqb-true}
+use Rattle.mini_model.specs.declared.operator.BinaryOperator.{BinaryOperator}
 use Rattle.mini_model.specs.declared.operator.BinaryOperator.TheVariants as binary_operator
+use Rattle.mini_model.specs.declared.operator.UnaryOperator.TheVariants.{Void}
 use Rattle.mini_model.specs.declared.operator.LogicalOperator.{LogicalOperator}
 use Rattle.mini_model.specs.declared.operator.LogicalOperator.TheVariants.{Or, And, Coalesce}
 use Rattle.mini_model.specs.declared.place.Position.{Position}
@@ -14,14 +16,14 @@ use Rattle.mini_model.specs.declared.shape.Shape.{Shape}
 use Rattle.mini_model.specs.declared.shape.Shape.TheVariants as shape
 use Rattle.mini_model.specs.Tree.{Tree, Trees, node, none, ◌▸◌, count, listed}
 use Rattle.mini_model.specs.Paths.{append}
-use Rattle.mini_model.specs.Position.{left_operand_seat, right_operand_seat, conditional_test_seat, branch_seat, passed_part_seat, not_operand_seat}
-use Rattle.mini_model.specs.Weight.{Outline, outline, outlines, weight, place_weight, level_of, mixes, is_chain, is_call, is_parenthesized, is_awkward}
+use Rattle.mini_model.specs.Position.{seat_of_level, left_level, binary_operand_seat, left_operand_seat, right_operand_seat, conditional_test_seat, branch_seat, passed_part_seat, not_operand_seat}
+use Rattle.mini_model.specs.Weight.{Outline, outline, outlines, weight, place_weight, nth_items, first_is_zero, level_of, mixes, is_chain, is_call, is_parenthesized, is_awkward}
 use Rattle.mini_laws.specs.Weights.{Lightens, counts_items}
 use Rattle.mini_laws.proofs.Seats.{placed, placed_node}
 use Rattle.mini_terms.specs.Parts.{weighs}
 use Rattle.mini_terms.specs.Reading.{first_of, is_plain_part, are_plain_parts}
 use Rattle.mini_rows.specs.Lists.{sequence}
-use Rattle.mini_rows.specs.Sequences.{Operation, Decides, Chooses, Negates, over, is_open_seat, is_unmixed, takes_alone, Row21Alone, SequenceRow, SequenceContracts, SequencesLighter}
+use Rattle.mini_rows.specs.Sequences.{Operation, Decides, Chooses, Negates, Operates, over, is_open_seat, is_unmixed, takes_alone, Row21Alone, SequenceRow, SequenceContracts, SequencesLighter}
 use Rattle.mini_rows.proofs.ListWeights.{parts_total, parts_weight, sequence_weighs}
 use Rattle.mini_rows.proofs.FoldMeaning.{plain_of}
 use Rattle.mini_rows.proofs.FoldWeights.{two, no_inner, there, no_choice}
@@ -71,6 +73,52 @@ not_marks : (h : Shape) (os : List Outline) → place_weight (Expr not_operand_s
 not_marks shape.SequenceExpression os = omega arith
 not_marks h os = omega (arith, pair_of (is_parenthesized h not_operand_seat))
 
+-- of an operator of values: what writes a value out has a mark on the left of an equality, and no parentheses there
+
+abbrev lifted_seat : ℕ → Bool → Seat
+lifted_seat l equality = record (seat_of_level l) { lifted = true; eq_left = equality }
+
+plain_marks : (l : ℕ) (h : Shape) (os : List Outline) → place_weight (Expr (lifted_seat l false)) h os ≤ place_weight (Expr passed_part_seat) h os + 4
+plain_marks l shape.SequenceExpression os = omega (arith, pair_of (is_parenthesized shape.SequenceExpression (lifted_seat l false)))
+plain_marks l h os = omega (arith, pair_of (is_parenthesized h (lifted_seat l false)))
+
+equality_marks : (h : Shape) (os : List Outline) → place_weight (Expr (lifted_seat 8 true)) h os ≤ place_weight (Expr passed_part_seat) h os + 4
+equality_marks shape.SequenceExpression os = omega arith
+equality_marks (shape.NumericLiteral (pos n)) os = omega arith
+equality_marks (shape.NumericLiteral (negsuc n)) os = omega arith
+equality_marks (shape.StringLiteral t) os = omega arith
+equality_marks (shape.BooleanLiteral b) os = omega arith
+equality_marks shape.NullLiteral os = omega arith
+equality_marks (shape.BigIntLiteral n) os = omega arith
+equality_marks shape.TemplateLiteral os = omega (arith, mark_at_most (nat_eq (nth_items os 1) 0 || false))
+equality_marks (shape.UnaryExpression Void) os = omega (arith, mark_at_most (first_is_zero os || false))
+equality_marks h os = omega (arith, pair_of (is_parenthesized h (lifted_seat 8 true)))
+
+operand_marks : (o : BinaryOperator) (h : Shape) (os : List Outline) → place_weight (Expr (binary_operand_seat o 0)) h os ≤ place_weight (Expr passed_part_seat) h os + 4
+operand_marks binary_operator.Equality h os = equality_marks h os
+operand_marks binary_operator.Inequality h os = equality_marks h os
+operand_marks binary_operator.StrictEquality h os = equality_marks h os
+operand_marks binary_operator.StrictInequality h os = equality_marks h os
+operand_marks binary_operator.Exponential h os = plain_marks 15 h os
+operand_marks o h os = plain_marks (left_level o) h os
+
+no_higher : (o : BinaryOperator) → nat_lt 16 (binary_operand_seat o 0).level ≡ false
+no_higher binary_operator.Exponential = refl
+no_higher o = refl
+
+operand_moved : (o : BinaryOperator) (t : Tree) → weight (Expr (binary_operand_seat o 0)) t ≤ weight (Expr passed_part_seat) t + 4
+operand_moved o t = placed 4 (binary_operand_seat o 0) passed_part_seat (no_higher o) (operand_marks o) t
+
+sequence_marks : (o : BinaryOperator) (os : List Outline) → place_weight (Expr (binary_operand_seat o 0)) shape.SequenceExpression os ≡ 5
+sequence_marks binary_operator.Equality os = refl
+sequence_marks binary_operator.Exponential os = refl
+sequence_marks o os = refl
+
+operator_marks : (o : BinaryOperator) (os : List Outline) → place_weight (Expr passed_part_seat) (shape.BinaryExpression o) os ≡ 0
+operator_marks binary_operator.Equality os = refl
+operator_marks binary_operator.Exponential os = refl
+operator_marks o os = refl
+
 left_moved : (o : LogicalOperator) (s : Seat) (t : Tree) → weight (Expr (left_operand_seat o s)) t ≤ weight (Expr passed_part_seat) t + 4
 left_moved Or s t = placed 4 (left_operand_seat Or s) passed_part_seat refl (left_marks Or s) t
 left_moved And s t = placed 4 (left_operand_seat And s) passed_part_seat refl (left_marks And s) t
@@ -115,6 +163,12 @@ node_falls s Negates p ps q =
     let inner = sequence_weighs not_operand_seat p (append ps (q ▸ none)) in
     let first = placed 4 not_operand_seat passed_part_seat refl not_marks q in
     omega (arith, inner, first)
+node_falls s (Operates o b) p ps q =
+    let inner = sequence_weighs (binary_operand_seat o 0) p (append ps (q ▸ none)) in
+    let marks = sequence_marks o (outlines (listed (p ▸ append ps (q ▸ none)) ▸ none)) in
+    let own = operator_marks o (outlines (q ▸ b ▸ none)) in
+    let first = operand_moved o q in
+    omega (arith, inner, marks, own, first)
 
 -- the parts of a list, and a comma for each
 
@@ -230,6 +284,7 @@ over_outline : (r : Operation) (a : Tree) (ts : Trees) → outline (over r a) �
 over_outline (Decides o b) a ts = refl
 over_outline (Chooses b c) a ts = refl
 over_outline Negates a ts = refl
+over_outline (Operates o b) a ts = refl
 
 -- what a parent's weight reads of them: a number 0 alone weighs less by 2 at least
 record ReadLightly (p : Position) (n w : Tree) : Type 0 where

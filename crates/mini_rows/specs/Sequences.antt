@@ -1,6 +1,7 @@
 -- Rows on sequences, as equations: each is a shape and what is written in its place, with the JavaScript before and after. No order of
 -- rewriting is meant.
 use Rattle.std.specs.Prelude.{◌≡◌, ◌<◌, ◌⊎◌, ◌&&◌, ◌||◌, Bool, true, false, not, nat_eq, nat_le, nat_lt}
+use Rattle.mini_model.specs.declared.operator.BinaryOperator.{BinaryOperator}
 use Rattle.mini_model.specs.declared.operator.LogicalOperator.{LogicalOperator}
 use Rattle.mini_model.specs.declared.place.Position.{Position}
 use Rattle.mini_model.specs.declared.place.Position.TheVariants.{Expr}
@@ -13,19 +14,22 @@ use Rattle.mini_model.specs.Weight.{weight}
 use Rattle.mini_terms.specs.Folds.{is_effect_free}
 use Rattle.mini_terms.specs.Parts.{suits, leaves_nothing, weighs}
 use Rattle.mini_rows.specs.Lists.{sequence}
+use Rattle.mini_rows.specs.Spellings.{binary}
 
 -- ---- terms
 
--- a node that evaluates its first operand before all else of it, over that operand: `a && b`, `a ? b : c`, `!a`
+-- a node that evaluates its first operand before all else of it, over that operand: `a && b`, `a ? b : c`, `!a`, `a + b`
 pub data Operation : Type 0 where
   Decides : LogicalOperator → Tree → Operation
   Chooses : Tree → Tree → Operation
   Negates : Operation
+  Operates : BinaryOperator → Tree → Operation
 
 abbrev pub over : Operation → Tree → Tree
 over (Decides o b) a = logical o a b
 over (Chooses b c) a = conditional a b c
 over Negates a = negation a
+over (Operates o b) a = binary o a b
 
 -- a sequence stands there without parentheses, as the expression of a statement, a `return` or a test does, and is not to be
 -- lifted out of it again
@@ -42,7 +46,8 @@ takes_alone s = nat_lt 0 s.level || (not s.access && (not s.new_callee && is_unm
 
 -- ---- rows
 
--- 20: `(a, b) && c` becomes `a, b && c`, `(a, b) ? c : d` becomes `a, b ? c : d`, and `!(a, b)` becomes `a, !b`
+-- 20: `(a, b) && c` becomes `a, b && c`, `(a, b) ? c : d` becomes `a, b ? c : d`, `!(a, b)` becomes `a, !b`, and `(a, b) + c` becomes
+-- `a, b + c`
 pub record Row20 (s : Seat) (n w : Tree) : Type 0 where
   pub operation : Operation
   pub first : Tree

@@ -1,4 +1,4 @@
-//! Rows 20 and 21: a sequence is lifted out of the first operand of a logical expression, a conditional or a `!`, and spread in a
+//! Rows 20 and 21: a sequence is lifted out of the first operand of a logical expression, a conditional, a `!` or an operator, and spread in a
 //! sequence; parts that have no effect go, but the last. `(a, b) && c` becomes `a, b && c`, `a, (b, c)` becomes `a, b, c`, and
 //! `a(), 1, b()` becomes `a(), b()`. What is written is lighter in every place.
 
@@ -13,8 +13,8 @@ ghost use Rattle.mini_fold.specs.Lighter.{sequences_lighter};
 
 use mini_model::{Mix, OutOfMemory, Position, Seat};
 use mini_node::{
-    Node, Nodes, absent, discard, is_conditional, is_negation, is_sequence, logical_operator, one,
-    sequence, take_first, taken, two,
+    Node, Nodes, absent, binary_operator, discard, is_conditional, is_negation, is_sequence,
+    logical_operator, one, sequence, take_first, taken, two,
 };
 use mini_terms::{has_no_effect, leaves_nothing, suits, weighs};
 use mini_tree::{Context, Rule};
@@ -47,7 +47,10 @@ fn is_operation(node: &Node) -> bool
     ensures kind { result ≡ is_it_operation node.now }
     ensures parts { result ≡ true → 0 < count (children node.now) }
 {
-    logical_operator(node).is_some() || is_conditional(node) || is_negation(node)
+    logical_operator(node).is_some()
+        || is_conditional(node)
+        || is_negation(node)
+        || binary_operator(node).is_some()
 }
 
 // Whether it stands over a sequence that is to be lifted out.
