@@ -438,6 +438,22 @@ becomes("what is chosen is read by another rewrite", "function F(a, f) { return 
 becomes("a test that is known then", "if (delete a()) b();", "a(), b();", { passes: 3 });
 becomes("what is left of a test", "delete (!0 && a.b);", "a.b, !0;", { passes: 3 });
 
+// ---- a `for` whose body begins by leaving the loop, and then has one statement less
+
+becomes("what leaves a loop goes into its test", "for (;;) { if (a()) break; b(); c(); }", "for (; !a();) b(), c();", { passes: 3 });
+becomes("beside the test", "for (; a(); b()) { if (c()) break; d(); }", "for (; a() && !c(); b()) d();", { passes: 3 });
+becomes("where it goes on", "for (; a();) { if (b()) { c(); } else break; d(); }", "for (; a() && b();) c(), d();", { passes: 3 });
+becomes("with an else and more", "for (;;) { if (a()) break; else b(); c(); }", "for (; !a();) b(), c();", { passes: 3 });
+becomes("a comparison", "for (;;) { if (a() == b) break; c(); }", "for (; a() != b;) c();", { passes: 3 });
+becomes("a negation", "for (;;) { if (!a()) break; b(); }", "for (; a();) b();", { passes: 3 });
+becomes("De Morgan in the test", "for (;;) { if (a() || !b()) break; c(); }", "for (; !a() && b();) c();", { passes: 3 });
+becomes("a choice in the test", "for (; a();) { if (b() || c()) break; d(); }", "for (; a() && !(b() || c());) d();", { passes: 3 });
+becomes("one after another in the test", "for (;;) { if (a()) break; if (b()) break; c(); }", "for (; !a() && !b();) c();", { passes: 3 });
+becomes("with a name of its own", "for (let x = 0; ; x++) { if (a(x)) break; b(() => x); }", "for (let x = 0; !a(x); x++) b(() => x);", { kept: 2, symbols: 1, passes: 3 });
+becomes("what leaves a loop within", "for (;;) { if (a()) break; while (b()) { if (c()) break; d(); e(); } }", "for (; !a();) while (b()) { if (c()) break; d(), e(); }", { passes: 3 });
+becomes("with a continue", "for (;;) { if (a()) break; if (b()) continue; c(); }", "for (; !a();) { if (b()) continue; c(); }", { passes: 3 });
+becomes("of a loop with a label", "l: for (;;) { if (a()) break; b(); }", "l: for (; !a();) b();", { passes: 3 });
+
 // ---- names that nothing mentions go, and their symbols
 
 becomes("a let of a block", "{ let x = a(); b(); }", "a(), b();", { symbols: [] });

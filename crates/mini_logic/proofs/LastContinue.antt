@@ -12,7 +12,7 @@ use Rattle.mini_node.specs.Made.{absent_is, block_is}
 use Rattle.mini_rows.specs.Lists.{block}
 use Rattle.mini_rows.specs.Branches.{Surrounding, Consequent, Alternate, WhileBody, DoBody, ForBody, InBody, OfBody, around, is_loop, bare_continue, Row78}
 use Rattle.mini_logic.specs.UnwrapBlock.{body_place}
-use Rattle.mini_logic.specs.LastContinue.{goes_on, last_of, before_last, ends_going, is_idle_end, left_of, idle_at, place, left_at}
+use Rattle.mini_logic.specs.LastContinue.{goes_on, last_of, before_last, ends_going, is_idle_end, idle_at, place, left_at}
 use Rattle.mini_logic.proofs.UnwrapBlock.{some_then, never}
 
 -- ---- the last statement

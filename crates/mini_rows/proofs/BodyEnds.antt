@@ -1,9 +1,8 @@
 -- A block has the same in it without a last statement that declares nothing and holds nothing.
-use Rattle.std.specs.Prelude.{ℕ, suc, ◌≡◌, refl, ◌||◌, Bool, true, false, List, [], ◌∷◌, ◌++◌, Contains, None}
+use Rattle.std.specs.Prelude.{ℕ, suc, ◌≡◌, refl, ◌||◌, Bool, false, List, [], ◌∷◌, ◌++◌, Contains, None}
 use Rattle.std.proofs.Common.{ap, ◌∙◌, sym, subst, arith}
-use Rattle.mini_model.specs.Tree.{Tree, Trees, node, none, ◌▸◌, listed, empty_statement}
+use Rattle.mini_model.specs.Tree.{Tree, Trees, none, ◌▸◌, absent, listed, empty_statement}
 use Rattle.mini_model.specs.Paths.{append}
-use Rattle.mini_model.specs.declared.name.Name.{Name}
 use Rattle.mini_model.specs.declared.shape.Shape.TheVariants as shape
 use Rattle.mini_laws.specs.declared.names.Use.{Use}
 use Rattle.mini_laws.specs.declared.names.Use.TheVariants.{Read, Alone}
@@ -34,6 +33,7 @@ use Rattle.mini_kept.proofs.Fixed.{of_children}
 use Rattle.mini_kept.proofs.FrameLists.{same_frames}
 use Rattle.mini_rows.specs.Lists.{block}
 use Rattle.mini_rows.specs.Branches.{bare_continue}
+use Rattle.mini_rows.specs.Loops.{bare_break}
 use Rattle.mini_rows.proofs.BranchInside.{quiet, Inside}
 
 -- ---- what nothing is in
@@ -59,6 +59,28 @@ no_names declared.Hoisted = refl
 pub continue_idle : Idle bare_continue
 unfolding names_of body_names declarations body_declarations has_inner declared_in numbers_of scopes_by
 continue_idle = record { names = no_names; body = refl; as_body = λ b p. refl; inner = refl; symbols = λ u. refl; numbers = refl; bodies = λ a. refl; frames = λ k. refl; fixed = λ z. refl; declared = refl }
+
+-- and so is `break;`, and what is absent
+
+no_broken_names : (d : Declared) → names_of d bare_break ≡ []
+unfolding names_of
+no_broken_names declared.Bound = refl
+no_broken_names declared.Lexical = refl
+no_broken_names declared.Hoisted = refl
+
+pub break_idle : Idle bare_break
+unfolding names_of body_names declarations body_declarations has_inner declared_in numbers_of scopes_by
+break_idle = record { names = no_broken_names; body = refl; as_body = λ b p. refl; inner = refl; symbols = λ u. refl; numbers = refl; bodies = λ a. refl; frames = λ k. refl; fixed = λ z. refl; declared = refl }
+
+no_absent_names : (d : Declared) → names_of d absent ≡ []
+unfolding names_of
+no_absent_names declared.Bound = refl
+no_absent_names declared.Lexical = refl
+no_absent_names declared.Hoisted = refl
+
+pub absent_idle : Idle absent
+unfolding names_of body_names declarations body_declarations has_inner declared_in numbers_of scopes_by
+absent_idle = record { names = no_absent_names; body = refl; as_body = λ b p. refl; inner = refl; symbols = λ u. refl; numbers = refl; bodies = λ a. refl; frames = λ k. refl; fixed = λ z. refl; declared = refl }
 
 -- ---- `;` in its place
 

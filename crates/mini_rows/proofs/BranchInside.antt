@@ -130,7 +130,7 @@ same_opened h e u v ts = ap (λ o. at_or_empty (scopes_by o ts)) ((open_shape h 
 same_uses : (h : Shape) → is_unscoped_shape h ≡ true → (u v : Use) → use_of h u ≡ use_of h v
 same_uses h e u v = λ k i. (open_shape h e).uses u v i k
 
-same_symbols : (c : Tree) → is_unscoped c ≡ true → (u v : Use) → declared_in u c ≡ declared_in v c
+pub same_symbols : (c : Tree) → is_unscoped c ≡ true → (u v : Use) → declared_in u c ≡ declared_in v c
 unfolding declared_in
 same_symbols (node h xs n ts) e u v = λ k. declared_from (same_opened h e u v ts k) (same_uses h e u v k) 0 ts
 
@@ -149,7 +149,7 @@ names_scoped : (env : Environment) (xs : List Name) → NamesScoped Alone env xs
 names_scoped env [] = refl
 names_scoped env (x ∷ xs) = λ k. (x.symbol ≡ symbol_is x.spelling env k) × names_scoped env xs k
 
-same_scoped : (c : Tree) → is_unscoped c ≡ true → (env : Environment) → Scoped Alone env c ≡ Scoped Read env c
+pub same_scoped : (c : Tree) → is_unscoped c ≡ true → (env : Environment) → Scoped Alone env c ≡ Scoped Read env c
 unfolding Scoped
 same_scoped (node h xs n ts) e env = λ k. names_scoped env xs k × AllScoped (same_opened h e Alone Read ts k) (same_uses h e Alone Read k) 0 env ts
 
@@ -216,7 +216,7 @@ hoisted_free ys (x ∷ xs) =
     ∙ ap (λ ds. clashing ds (own_declarations false [] xs)) (sym (own_both false ys (x ∷ [])))
     ∙ hoisted_free (ys ++ x ∷ []) xs
 
-as_hoisted : (c : Tree) → is_unscoped c ≡ true → as_body false c ≡ own_declarations false [] (names_of declared.Hoisted c)
+pub as_hoisted : (c : Tree) → is_unscoped c ≡ true → as_body false c ≡ own_declarations false [] (names_of declared.Hoisted c)
 as_hoisted (node h xs n ts) e =
     ap (λ b. if b then all_as_body false ts else as_statement false (node h xs n ts)) (open_shape h e).holds
     ∙ ap (λ ns. own_declarations true [] ns ++ own_declarations false [] (names_of declared.Hoisted (node h xs n ts))) (no_lexical (node h xs n ts) e)

@@ -28,7 +28,7 @@ use Rattle.mini_rows.specs.Arranged.{KeptAt, Vanishes}
 use Rattle.mini_rows.specs.Lists.{block, return_statement, is_unscoped}
 use Rattle.mini_rows.specs.Sketches.{AbsentPart, Return, part, under, end, ◌▹◌}
 use Rattle.mini_rows.specs.Spellings.{IsUndefined}
-use Rattle.mini_rows.specs.Branches.{IsEmpty, IsIdleVoid, Row60, has_else, is_other_branch, as_consequent, Surrounding, Consequent, Alternate, WhileBody, DoBody, ForBody, InBody, OfBody, around, conjunct_seat, is_loop, bare_continue, Row82Empty, after, with_not, without_not, Row82Ends, Row83, BodyRow, BranchRow, BranchContracts}
+use Rattle.mini_rows.specs.Branches.{IsEmpty, IsIdleVoid, Row60, has_else, is_other_branch, as_consequent, Surrounding, Consequent, Alternate, WhileBody, DoBody, ForBody, InBody, OfBody, around, conjunct_seat, bare_continue, Row82Empty, after, with_not, without_not, Row82Ends, Row83, BodyRow, BranchRow, BranchContracts}
 use Rattle.mini_rows.proofs.ArrangedLawful.{kept_is_lawful}
 use Rattle.mini_rows.proofs.ArrangedStatements.{statements_arranged}
 use Rattle.mini_rows.proofs.BranchInside.{Inside, unwrapped_inside, wrapped_inside}
@@ -39,6 +39,7 @@ use Rattle.mini_rows.proofs.BranchParts.{Value, core_then, said_then, value_itse
 use Rattle.mini_rows.proofs.BranchSame.{branches_same}
 use Rattle.mini_rows.proofs.FoldLawful.{vanishes, first_dropped}
 use Rattle.mini_rows.proofs.ListShapes.{both_fit}
+use Rattle.mini_rows.proofs.LoopKept.{row_84_fits, row_84_core, row_84_said}
 
 else_unscoped : (c : Tree) → has_else c ≡ true → is_unscoped c ≡ true
 else_unscoped (node shape.IfStatement xs n ts) h = refl
@@ -351,8 +352,17 @@ row_78_whole k = around_kind k bare_continue empty_statement (emptied bare_conti
 
 body_kind : (n w : Tree) → BodyRow n w → Kind n w
 body_kind n w (inl r) = kind_along n _ w _ r.shape r.written (row_79 r.place r.statement r.unscoped)
-body_kind n w (inr (inl r)) = kind_along n _ w _ r.shape r.written (row_78_block r.place r.before)
-body_kind n w (inr (inr r)) = kind_along n _ w _ r.shape r.written (row_78_whole r.place)
+body_kind n w (inr (inl (inl r))) = kind_along n _ w _ r.shape r.written (row_78_block r.place r.before)
+body_kind n w (inr (inl (inr r))) = kind_along n _ w _ r.shape r.written (row_78_whole r.place)
+body_kind n w (inr (inr r)) =
+    kind_along n _ w _ r.shape r.written (record {
+      read = refl;
+      before = refl;
+      after = refl;
+      fitting = row_84_fits r.init r.update r.x r.test r.leading r.leaving r.asked r.tested r.loose r.unscoped;
+      core = row_84_core r.init r.update r.x r.test r.leading r.leaving r.asked r.tested r.loose r.unscoped;
+      said = row_84_said r.init r.update r.x r.test r.leading r.leaving r.asked r.tested r.loose r.unscoped;
+    })
 
 row_83_block : (a c u : Tree) → has_else c ≡ true → Kind (if_else a c u) (if_else a (block (c ▸ none)) u)
 row_83_block a c u h = record {

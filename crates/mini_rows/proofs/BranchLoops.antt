@@ -4,7 +4,7 @@ use Rattle.mini_model.specs.declared.kind.VariableDeclarationKind.TheVariants.{V
 use Rattle.mini_model.specs.Tree.{Tree, none, ◌▸◌}
 use Rattle.mini_laws.specs.Value.{Value, choose, is_nullish}
 use Rattle.mini_laws.specs.State.{NextOf, KeysOf, IteratorOf, Item, State, Thrown, Returned, Broken, Continued, Short, ok, stop, Ends, done, ended, either, Environment}
-use Rattle.mini_laws.specs.Demand.{Val, Test, Unused, LoopTail, Demand, Tail, As, Stat, LabelSet, Request, Reply}
+use Rattle.mini_laws.specs.Demand.{Val, Test, Unused, LoopTail, Demand, As, Stat, LabelSet, Request, Reply}
 use Rattle.mini_laws.specs.Command.{Naming, hide, Command, ret, fails, op, kid, copy, turn, fuel, then, attempt, bind, repeat, loop, emit, Kids, act, run}
 use Rattle.mini_laws.specs.Naming.{Declared, Variables, AClass, summary}
 use Rattle.mini_laws.specs.Asking.{first_demand, do_demand, for_demand, each_demand}

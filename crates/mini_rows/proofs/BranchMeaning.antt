@@ -70,7 +70,7 @@ else_unscoped c h = absurd (cc h)
 
 -- ---- tests
 
-and_test : (e : Environment) (a b : Tree) (s : State) → means e (logical And a b) (As Test) tt s ≡ either (means e a (As Test) tt s) (λ t z. choose t (means e b (As Test) tt z) (ok false z)) (λ x z. stop x z)
+pub and_test : (e : Environment) (a b : Tree) (s : State) → means e (logical And a b) (As Test) tt s ≡ either (means e a (As Test) tt s) (λ t z. choose t (means e b (As Test) tt z) (ok false z)) (λ x z. stop x z)
 unfolding means meaning step
 and_test e a b s = either_cong (means e a (As Test) tt s) _ _ _ _ (each_bool _ (λ z. either_eta (means e b (As Test) tt z)) (λ z. refl)) (λ x z. refl)
 

@@ -1,6 +1,7 @@
 -- What each row writes means the same.
-use Rattle.std.specs.Prelude.{◌⊎◌, true}
+use Rattle.std.specs.Prelude.{◌⊎◌, true, not}
 use Rattle.std.proofs.Common.{◌≡◌, [], refl, sym, ap, subst, ◌∙◌, inl, inr}
+use Rattle.std.proofs.lemmas.Bool.{and_parts}
 use Rattle.mini_model.specs.declared.operator.UnaryOperator.TheVariants.{Void}
 use Rattle.mini_model.specs.declared.place.Position.{Position}
 use Rattle.mini_model.specs.declared.place.Position.TheVariants.{Expr, Stmt}
@@ -20,12 +21,14 @@ use Rattle.mini_terms.specs.Reading.{is_read_by_value}
 use Rattle.mini_terms.proofs.Dropping.{known_same}
 use Rattle.mini_terms.proofs.Reading.{same_in_seat}
 use Rattle.mini_rows.specs.Lists.{return_statement}
+use Rattle.mini_rows.specs.Loops.{may_leap, is_there}
 use Rattle.mini_rows.specs.Spellings.{void_zero, IsUndefined}
 use Rattle.mini_rows.specs.Branches.{conjunct_seat, IsIdleVoid, Row60, Row82Empty, Row83, IfRow, BodyRow, BranchRow, BranchContracts}
 use Rattle.mini_rows.proofs.BranchMeaning.{SameStatement, statement_same, replaced, row_60, row_82_empty_or, row_82_empty_and, row_83_alone, row_83_else, row_83_nested, row_83_block}
 use Rattle.mini_rows.proofs.BranchEnds.{ends_same}
 use Rattle.mini_rows.proofs.BranchLoops.{row_79}
 use Rattle.mini_rows.proofs.BodyTails.{row_78_block, row_78_whole}
+use Rattle.mini_rows.proofs.LoopTests.{row_84}
 use Rattle.mini_rows.proofs.BooleanMeaning.{then_same}
 
 -- 60: `void a` means `void 0` where a has no effect
@@ -87,8 +90,9 @@ if_same n w (inr (inr r)) = ends_same n w r
 
 body_same : (n w : Tree) → BodyRow n w → SameStatement n w
 body_same n w (inl r) = replaced n _ w _ r.shape r.written (row_79 r.place r.statement r.unscoped)
-body_same n w (inr (inl r)) = replaced n _ w _ r.shape r.written (row_78_block r.place r.before r.loop)
-body_same n w (inr (inr r)) = replaced n _ w _ r.shape r.written (row_78_whole r.place r.loop)
+body_same n w (inr (inl (inl r))) = replaced n _ w _ r.shape r.written (row_78_block r.place r.before r.loop)
+body_same n w (inr (inl (inr r))) = replaced n _ w _ r.shape r.written (row_78_whole r.place r.loop)
+body_same n w (inr (inr r)) = replaced n _ w _ r.shape r.written (row_84 r.init r.update r.x r.test r.leading r.leaving (and_parts (is_there r.x) (not (may_leap r.x)) r.asked).0 r.tested r.unscoped r.loose)
 
 row_same : (p : Position) (n w : Tree) → BranchRow p n w → SameAt p n w
 row_same (Stmt q) n w (inl r) = return_same q n w r

@@ -10,7 +10,7 @@ use Rattle.mini_model.specs.declared.seat.Seat.{Seat}
 use Rattle.mini_model.specs.declared.seat.StmtSeat.{StmtSeat}
 use Rattle.mini_model.specs.declared.seat.StmtSeat.TheVariants as stmt_seat
 use Rattle.mini_model.specs.declared.shape.Shape.TheVariants as shape
-use Rattle.mini_model.specs.Tree.{Tree, Trees, node, none, ◌▸◌, is_absent, absent, listed, empty_statement, expression_statement, if_else, if_alone, negation, logical, unary}
+use Rattle.mini_model.specs.Tree.{Tree, Trees, node, none, ◌▸◌, is_absent, absent, empty_statement, expression_statement, if_else, if_alone, negation, logical, unary}
 use Rattle.mini_model.specs.Paths.{append}
 use Rattle.mini_model.specs.Position.{whole_seat, if_test_seat, statement_expression_seat, left_operand_seat, right_operand_seat, not_operand_seat}
 use Rattle.mini_model.specs.Weight.{outline, outlines, nth_is_absent, first_chooses, bare_weight, is_parenthesized, weight}
@@ -22,6 +22,7 @@ use Rattle.mini_rows.specs.Spellings.{IsUndefined}
 use Rattle.mini_rows.specs.Branches.{IsEmpty, IsIdleVoid, has_else, is_other_branch, as_consequent, Surrounding, Consequent, Alternate, WhileBody, DoBody, ForBody, InBody, OfBody, around, keeps_block, conjunct_seat, Row82Empty, Row82Ends, Row83, is_loop, bare_continue, BodyRow, BranchRow, BranchContracts, BranchLighter}
 use Rattle.mini_rows.proofs.BranchEnds.{ends_lighter, ends_fall}
 use Rattle.mini_rows.proofs.ListWeights.{total, total_append, list_is}
+use Rattle.mini_rows.proofs.LoopWeights.{row_84}
 
 -- this much, where it is not so
 abbrev unless : Bool → ℕ → ℕ
@@ -247,8 +248,9 @@ row_83 q n w (inr (inr (inr r))) = omega (arith, row_83_block q r.a r.c r.u r.ch
 
 body_row : (q : StmtSeat) (n w : Tree) → BodyRow n w → weight (Stmt q) w < weight (Stmt q) n
 body_row q n w (inl r) = omega (arith, row_79 q r.place r.statement r.unscoped r.bare, ap (weight (Stmt q)) r.shape, ap (weight (Stmt q)) r.written)
-body_row q n w (inr (inl r)) = omega (arith, row_78_block q r.place r.before r.loop, ap (weight (Stmt q)) r.shape, ap (weight (Stmt q)) r.written)
-body_row q n w (inr (inr r)) = omega (arith, row_78_whole q r.place r.loop, ap (weight (Stmt q)) r.shape, ap (weight (Stmt q)) r.written)
+body_row q n w (inr (inl (inl r))) = omega (arith, row_78_block q r.place r.before r.loop, ap (weight (Stmt q)) r.shape, ap (weight (Stmt q)) r.written)
+body_row q n w (inr (inl (inr r))) = omega (arith, row_78_whole q r.place r.loop, ap (weight (Stmt q)) r.shape, ap (weight (Stmt q)) r.written)
+body_row q n w (inr (inr r)) = omega (arith, row_84 q r.init r.update r.x r.test r.leading r.leaving r.loose, ap (weight (Stmt q)) r.shape, ap (weight (Stmt q)) r.written)
 
 row_lighter : (q : StmtSeat) (n w : Tree) → BranchRow (Stmt q) n w → weight (Stmt q) w < weight (Stmt q) n
 row_lighter q n w (inl r) = omega (arith, row_60 q r.argument r.undefined, ap (weight (Stmt q)) r.shape, ap (weight (Stmt q)) r.written)
@@ -289,8 +291,9 @@ row_79_outlined q k c h = loop_outlined q k (block (c ▸ none)) c refl
 
 body_outlined : (q : StmtSeat) (n w : Tree) → BodyRow n w → Outlined (Stmt q) n w
 body_outlined q n w (inl r) = outlined (Stmt q) n _ w _ r.shape r.written (row_79_outlined q r.place r.statement r.unscoped)
-body_outlined q n w (inr (inl r)) = outlined (Stmt q) n _ w _ r.shape r.written (loop_outlined q r.place (block (append r.before (bare_continue ▸ none))) (block r.before) r.loop)
-body_outlined q n w (inr (inr r)) = outlined (Stmt q) n _ w _ r.shape r.written (loop_outlined q r.place bare_continue empty_statement r.loop)
+body_outlined q n w (inr (inl (inl r))) = outlined (Stmt q) n _ w _ r.shape r.written (loop_outlined q r.place (block (append r.before (bare_continue ▸ none))) (block r.before) r.loop)
+body_outlined q n w (inr (inl (inr r))) = outlined (Stmt q) n _ w _ r.shape r.written (loop_outlined q r.place bare_continue empty_statement r.loop)
+body_outlined q n w (inr (inr r)) = outlined (Stmt q) n _ w _ r.shape r.written (record { absent = refl; items = refl; is_zero = refl; chooses = inl (λ e. e) })
 
 row_83_outlined : (q : StmtSeat) (n w : Tree) → Row83 n w → Outlined (Stmt q) n w
 row_83_outlined q n w (inl r) = outlined (Stmt q) n _ w _ r.shape r.written (record { absent = refl; items = refl; is_zero = refl; chooses = inl (λ e. e) })

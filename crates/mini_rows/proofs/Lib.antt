@@ -83,6 +83,7 @@ pub mod AllRows
 pub mod ListEndsKept
 pub mod ListLawful
 pub mod ChoiceRuns
+pub mod CalmCommands
 pub mod ChainCalm
 pub mod ChainRuns
 pub mod ChainLinkMeaning
@@ -148,3 +149,9 @@ pub mod CatchWeights
 pub mod CatchLawful
 pub mod BodyTails
 pub mod BodyEnds
+pub mod JumpFree
+pub mod LoopTests
+pub mod LoopWeights
+pub mod LoopLeaps
+pub mod LoopSplits
+pub mod LoopKept

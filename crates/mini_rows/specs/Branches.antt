@@ -16,6 +16,7 @@ use Rattle.mini_model.specs.Terms.{not_of, has_negated_result}
 use Rattle.mini_terms.specs.Folds.{is_effect_free}
 use Rattle.mini_terms.specs.Parts.{leaves_nothing}
 use Rattle.mini_rows.specs.Lists.{block, return_statement, is_unscoped, sequence}
+use Rattle.mini_rows.specs.Loops.{Row84}
 use Rattle.mini_rows.specs.Spellings.{IsUndefined}
 
 -- ---- terms
@@ -248,7 +249,7 @@ Row78 n w = Row78Block n w ⊎ Row78Whole n w
 
 -- those of branches and bodies
 abbrev pub BodyRow : Tree → Tree → Type 0
-BodyRow n w = Row79 n w ⊎ Row78 n w
+BodyRow n w = Row79 n w ⊎ (Row78 n w ⊎ Row84 n w)
 
 -- a row reads n as w at this place
 abbrev pub BranchRow : Position → Tree → Tree → Type 0

@@ -5,6 +5,7 @@ pub mod KeyHolders
 pub mod Lists
 pub mod Declarations
 pub mod ListLaws
+pub mod Loops
 pub mod Branches
 pub mod Turns
 pub mod Arrows

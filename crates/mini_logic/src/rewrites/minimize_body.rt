@@ -1,10 +1,11 @@
-//! Branches of `if` and bodies of loops as a rule: 79, and where it does nothing 78 of loops.
+//! Branches of `if` and bodies of loops as a rule: 79, and where it does nothing 78 of loops, and then 84.
 
 ghost use Rattle.std.specs.Prelude.{◌≡◌, is_some, unwrap_or, IfOk, OnOk};
 ghost use Rattle.mini_logic.specs.Lighter.{body_lighter};
-ghost use Rattle.mini_logic.specs.MinimizeBody.{written, Gives, Rests};
+ghost use Rattle.mini_logic.specs.MinimizeBody.{loop_written, written, Gives, Rests};
 ghost use Rattle.mini_tree.specs.Rule.{Applied};
 
+use crate::rewrites::minimize_for_statement::minimize_for_statement;
 use crate::rewrites::remove_last_continue::remove_last_continue;
 use crate::rewrites::unwrap_block::unwrap_block;
 use mini_model::{OutOfMemory, Position};
@@ -12,9 +13,22 @@ use mini_node::Node;
 use mini_tree::{Context, Rule};
 use std::alloc::Global;
 
-/// A block of one statement that isn't scoped becomes that statement, and the last `continue;` of a loop goes. The answer says
-/// whether one of them was done; the only error is that memory runs out, and then the statement is fit only to be dropped.
-#[tactic(auto, using(crate::proofs::MinimizeBody::first_there, crate::proofs::MinimizeBody::first_said, crate::proofs::MinimizeBody::second_there, crate::proofs::MinimizeBody::second_said))]
+// 78 of loops, and where it does nothing 84.
+#[tactic(auto, using(crate::proofs::MinimizeBody::first_there, crate::proofs::MinimizeBody::first_said, crate::proofs::MinimizeBody::loop_there, crate::proofs::MinimizeBody::loop_said))]
+fn minimize_loop(alloc: Global, node: &mut Node) -> Result<bool, OutOfMemory>
+    ensures tree { OnOk result (node.new ≡ unwrap_or (loop_written node.old) node.old) }
+    ensures said { IfOk result (λ changed. changed ≡ is_some (loop_written node.old)) }
+{
+    if remove_last_continue(alloc, node)? {
+        return Ok(true);
+    }
+    minimize_for_statement(alloc, node)
+}
+
+/// A block of one statement that isn't scoped becomes that statement, the last `continue;` of a loop goes, and what leaves a
+/// `for` first goes into its test. The answer says whether one of them was done; the only error is that memory runs out, and then
+/// the statement is fit only to be dropped.
+#[tactic(auto, using(crate::proofs::MinimizeBody::first_there, crate::proofs::MinimizeBody::first_said, crate::proofs::MinimizeBody::body_there, crate::proofs::MinimizeBody::body_said))]
 pub fn minimize_body(alloc: Global, node: &mut Node) -> Result<bool, OutOfMemory>
     ensures tree { OnOk result (node.new ≡ unwrap_or (written node.old) node.old) }
     ensures said { IfOk result (λ changed. changed ≡ is_some (written node.old)) }
@@ -22,7 +36,7 @@ pub fn minimize_body(alloc: Global, node: &mut Node) -> Result<bool, OutOfMemory
     if unwrap_block(alloc, node)? {
         return Ok(true);
     }
-    remove_last_continue(alloc, node)
+    minimize_loop(alloc, node)
 }
 
 /// The rows of branches and bodies as a rule: of each statement.
