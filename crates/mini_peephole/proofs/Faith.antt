@@ -6,7 +6,7 @@ use Rattle.serde_json.specs.View.{view}
 use Rattle.mini_model.specs.declared.place.Position.{Position}
 use Rattle.mini_model.specs.declared.place.Position.TheVariants.{Elsewhere}
 use Rattle.mini_model.specs.Tree.{Tree, Trees, node}
-use Rattle.mini_model.specs.Weight.{weight, program_weight}
+use Rattle.mini_model.specs.Weight.{weight, program_weight, capped}
 use Rattle.mini_model.specs.Rewriting.{Everywhere, EverywhereIn, Step, StepIn, here, inside, first, later, Reaches, done, more}
 use Rattle.mini_laws.specs.Resolved.{resolved_program}
 use Rattle.mini_scope.specs.Pointers.{early_fault}
@@ -118,3 +118,21 @@ module _ (d : Data) (o : CompressOptions) (m : Minified) (t : Tree) (read : Acce
 
   pub passes_bounded : PassesBounded d o m
   passes_bounded = record { settled = λ v w a b s. bounded v w a b; unsettled = λ s. (r.passes.stopped s).0; enough = enough; fixed = fixed }
+
+  -- ---- what both weigh
+
+  plain_number : (n k : ℕ) → n ≡ capped k → k < 2 ^ 32 → n ≡ k
+  plain_number n k e h = omega (arith, e)
+
+  pub weighs : weight Elsewhere t < 2 ^ 32 → (n : ℕ) → n ≡ capped (program_weight (resolved_program t)) → (v : Tree) → Accepts d v → n ≡ program_weight (earlier v)
+  weighs light n e v a =
+      let less = resolved_lighter t start.unresolved in
+      plain_number n (program_weight (resolved_program t)) e (omega (arith, less, light)) ∙ sym (input_weight v a)
+
+  pub weighs_after : weight Elsewhere t < 2 ^ 32 → (n : ℕ) → n ≡ capped (program_weight r.output) → (w : Tree) → Accepts (view m.program) w → n ≡ program_weight (faith.later m w)
+  weighs_after light n e w b =
+      let less = resolved_lighter t start.unresolved in
+      let some = r.passes.some_pass in
+      let fell = r.passes.lighter in
+      let y = ap (weight Elsewhere) (ap (faith.later m) (one_tree (view m.program) w again.0 b written) ∙ any.later_is (AllGives o) (AllRests o) o m t r.output again.0 made) in
+      plain_number n (program_weight r.output) e (omega (arith, some, fell, less, light)) ∙ sym y

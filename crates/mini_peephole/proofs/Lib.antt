@@ -1,14 +1,15 @@
-pub mod Gathered
-pub mod Refused
-pub mod Repeats
-pub mod Written
-pub mod Heaviest
-pub mod AnyPasses
-pub mod Faith
-pub mod Floats
 mod Chains
 mod Rules
-pub mod Answered
 pub mod AnswerFloats
+pub mod Answered
+pub mod AnyPasses
 pub mod Due
+pub mod Faith
+pub mod Finished
+pub mod Floats
+pub mod Gathered
+pub mod Heaviest
+pub mod Refused
+pub mod Repeats
 pub mod Told
+pub mod Written

@@ -1,20 +1,23 @@
 -- What a run answers, and when.
-use Rattle.std.specs.Prelude.{◌≡◌, ℕ, ◌<◌, ◌≤◌, ◌⊎◌, true, List, [], ◌∷◌, ◌++◌, length, codes, map, Option, Some, None, Ok, string_bytes, IsUtf8}
+use Rattle.std.specs.Prelude.{◌≡◌, ℕ, ◌<◌, ◌≤◌, ◌⊎◌, true, List, [], ◌∷◌, ◌++◌, length, codes, map, Bool, false, decimal, if◌then◌else◌, Option, Some, None, Ok, IfSome, string_bytes, IsUtf8}
 use Rattle.std.specs.Io.KnownBytes.{Appends, Consumes, IsAtEnd}
 use Rattle.serde_json.specs.Data.{Data, Members, unsigned, number, boolean, array, object, no_members, member}
 use Rattle.serde_json.specs.View.{view, items_of}
 use Rattle.serde_json.specs.Written.{compact_text}
 use Rattle.serde_json.specs.Read.{read}
 use Rattle.mini_model.specs.Tree.{Tree}
+use Rattle.mini_model.specs.Weight.{program_weight}
 use Rattle.mini_tree.specs.declared.options.CompressOptions.{CompressOptions}
-use Rattle.mini_accept.specs.Accept.{program_at}
+use Rattle.mini_accept.specs.Accept.{program_at, Accepts}
 use Rattle.mini_scope.specs.Pointers.{early_fault}
 use Rattle.mini_model.specs.Faults.{Fault, fault_of, name_of_defect}
-use Rattle.mini_peephole.specs.Faithful.{Faithful, PassesBounded}
+use Rattle.mini_peephole.specs.Faithful.{earlier, later, Faithful, PassesBounded}
 use Rattle.mini_peephole.specs.Minified.{IsMinified, HasDefect}
 use Rattle.mini_peephole.specs.declared.minify.Minified.{Minified}
 use Rattle.mini_run.specs.Causes.{Rose, GrewWithin}
-use Rattle.mini_run.specs.Words.{NameOptions, GoodWords}
+use Rattle.mini_run.specs.Generated.{generated_data}
+use Rattle.mini_run.specs.Words.{NameOrders, GoodWords}
+use Rattle.mini_run.specs.declared.choice.Orders.{Orders}
 use Rattle.mini_peephole.specs.declared.running.Outcome.{Outcome}
 use Rattle.mini_peephole.specs.declared.running.Outcome.TheVariants.{Answer, Unread, Faulty, NoRoom}
 use Rattle.mini_peephole.specs.declared.running.Status.{Status}
@@ -49,6 +52,15 @@ answer_data m = object (member (codes "kept") (numbers_data m.kept) (member (cod
 abbrev pub answer_text : Minified → List ℕ
 answer_text m = line_of (answer_data m)
 
+-- what is told of a script that was generated: how many statements it has, what it weighed before and after, how many passes were
+-- made, and whether nothing was left to rewrite
+abbrev pub truth_text : Bool → List ℕ
+truth_text b = if b then codes "true" else codes "false"
+
+unfoldable pub weights_text : ℕ → ℕ → ℕ → ℕ → Bool → List ℕ
+weights_text n before after passes settled =
+    codes "statements=" ++ (decimal n ++ (codes " weight=" ++ (decimal before ++ (codes ".." ++ (decimal after ++ (codes " passes=" ++ (decimal passes ++ (codes " settled=" ++ (truth_text settled ++ 10 ∷ [])))))))))
+
 -- what is told of a fault
 unfoldable pub note_text : Fault → List ℕ
 note_text f = codes "refused: " ++ (name_of_defect f.defect ++ (codes " at " ++ (f.at ++ 10 ∷ [])))
@@ -64,6 +76,14 @@ pub record HasAnswer (o : CompressOptions) (input : List ℕ) (m : Minified) : T
   pub passes : PassesBounded value o m
   pub minified : IsMinified value o m
 
+-- of a value this is an answer that is faithful and was made by rewrites, and its program and the answer's weigh this
+pub record IsWeighed (d : Data) (o : CompressOptions) (m : Minified) (before after : ℕ) : Type 0 where
+  pub faithful : Faithful d o m
+  pub passes : PassesBounded d o m
+  pub minified : IsMinified d o m
+  pub before_is : (t : Tree) → Accepts d t → before ≡ program_weight (earlier t)
+  pub after_is : (u : Tree) → Accepts (view m.program) u → after ≡ program_weight (later m u)
+
 -- the bytes are JSON, of a value that has this defect
 pub record HasFault (o : CompressOptions) (input : List ℕ) (f : Fault) : Type 0 where
   pub value : Data
@@ -76,6 +96,13 @@ IsOutcome o input NoRoom = Unit {0}
 IsOutcome o input Unread = IsNotJson input
 IsOutcome o input (Faulty e) = (f : Fault) × HasFault o input f × (fault_of e ≡ Some f)
 IsOutcome o input (Answer s) = (m : Minified) × HasAnswer o input m × (string_bytes s ≡ answer_text m)
+
+-- what the script of n statements comes to
+abbrev pub IsOutcomeOf : CompressOptions → ℕ → Outcome → Type 0
+IsOutcomeOf o n NoRoom = Unit {0}
+IsOutcomeOf o n Unread = ⊥
+IsOutcomeOf o n (Faulty e) = (f : Fault) × HasDefect (generated_data n) o f × (fault_of e ≡ Some f)
+IsOutcomeOf o n (Answer s) = (m : Minified) × (before : ℕ) × (after : ℕ) × IsWeighed (generated_data n) o m before after × (string_bytes s ≡ weights_text n before after m.passes m.settled)
 
 -- what a source or a sink told, and how often it had failed, before a call and after it
 pub record Change : Type 0 where
@@ -105,6 +132,16 @@ pub record GaveMore (source : Change) (input : List ℕ) : Type 0 where
   pub bytes : Consumes source.before source.after input
   pub long : 16777216 < length input
 
+-- what came of an outcome: what it has was written, or told
+abbrev pub IsFinished : Outcome → Status → Change → Change → Type 0
+IsFinished NoRoom OutOfMemory sink notes = IsUntouched sink × IsUntouched notes
+IsFinished Unread NotJson sink notes = IsUntouched sink × IsUntouched notes
+IsFinished (Faulty e) Refused sink notes = IfSome (fault_of e) (λ f. IsTold notes (note_text f)) × IsUntouched sink
+IsFinished (Faulty e) OutOfMemory sink notes = IsUntouched sink × IsUntouched notes
+IsFinished (Answer s) Done sink notes = Appends sink.before sink.after (string_bytes s) × IsUntouched notes
+IsFinished (Answer s) WriteFault sink notes = GrewWithin sink.before sink.after (string_bytes s) × Rose sink.faults_before sink.faults_after × IsUntouched notes
+IsFinished _ _ sink notes = ⊥
+
 -- what a status says of a whole input, read under these options, and of what was written
 abbrev pub IsDelivered : Status → CompressOptions → List ℕ → Change → Change → Type 0
 IsDelivered Done o input sink notes = (m : Minified) × HasAnswer o input m × Appends sink.before sink.after (answer_text m) × IsUntouched notes
@@ -116,26 +153,52 @@ IsDelivered BadWords o input sink notes = ⊥
 IsDelivered ReadFault o input sink notes = ⊥
 IsDelivered TooLong o input sink notes = ⊥
 
+-- what a status says of the script of n statements, under these options, and of what was written
+abbrev pub IsDeliveredOf : Status → CompressOptions → ℕ → Change → Change → Type 0
+IsDeliveredOf Done o n sink notes = (m : Minified) × (before : ℕ) × (after : ℕ) × IsWeighed (generated_data n) o m before after × Appends sink.before sink.after (weights_text n before after m.passes m.settled) × IsUntouched notes
+IsDeliveredOf WriteFault o n sink notes = (m : Minified) × (before : ℕ) × (after : ℕ) × IsWeighed (generated_data n) o m before after × GrewWithin sink.before sink.after (weights_text n before after m.passes m.settled) × Rose sink.faults_before sink.faults_after × IsUntouched notes
+IsDeliveredOf Refused o n sink notes = (f : Fault) × HasDefect (generated_data n) o f × IsTold notes (note_text f) × IsUntouched sink
+IsDeliveredOf OutOfMemory o n sink notes = IsUntouched sink × IsUntouched notes
+IsDeliveredOf s o n sink notes = ⊥
+
+-- what the words order: to read a program, or to generate one of n statements
+abbrev pub to_read : CompressOptions → Orders
+to_read o = record { options = o; generate = None }
+
+abbrev pub to_generate : CompressOptions → ℕ → Orders
+to_generate o n = record { options = o; generate = Some n }
+
 -- all was read, under the options that the words name, and the status tells what came of it
+abbrev pub IsDueOfRead : Status → List (List ℕ) → Change → Change → Change → Type 0
+IsDueOfRead s words source sink notes = (o : CompressOptions) × NameOrders words (to_read o) × (input : List ℕ) × Gave source input × IsDelivered s o input sink notes
+
+-- nothing was read, and the status tells what came of the script
+abbrev pub IsDueOfScript : Status → List (List ℕ) → Change → Change → Change → Type 0
+IsDueOfScript s words source sink notes = (o : CompressOptions) × (n : ℕ) × NameOrders words (to_generate o n) × IsUntouched source × IsDeliveredOf s o n sink notes
+
 abbrev pub IsDueOfAll : Status → List (List ℕ) → Change → Change → Change → Type 0
-IsDueOfAll s words source sink notes = (o : CompressOptions) × NameOptions words o × (input : List ℕ) × Gave source input × IsDelivered s o input sink notes
+IsDueOfAll s words source sink notes = IsDueOfRead s words source sink notes ⊎ IsDueOfScript s words source sink notes
+
+-- the words are good, and order to read
+abbrev pub AskToRead : List (List ℕ) → Type 0
+AskToRead words = (o : CompressOptions) × NameOrders words (to_read o)
 
 -- what a status says of a run
 abbrev pub IsDue : Status → List (List ℕ) → Change → Change → Change → Type 0
 IsDue BadWords words source sink notes = (GoodWords words → ⊥) × IsUntouched source × IsUntouched sink × IsUntouched notes
-IsDue ReadFault words source sink notes = GoodWords words × Rose source.faults_before source.faults_after × IsUntouched sink × IsUntouched notes
-IsDue TooLong words source sink notes = GoodWords words × ((input : List ℕ) × GaveMore source input) × IsUntouched sink × IsUntouched notes
+IsDue ReadFault words source sink notes = AskToRead words × Rose source.faults_before source.faults_after × IsUntouched sink × IsUntouched notes
+IsDue TooLong words source sink notes = AskToRead words × ((input : List ℕ) × GaveMore source input) × IsUntouched sink × IsUntouched notes
 IsDue OutOfMemory words source sink notes = GoodWords words × IsUntouched sink × IsUntouched notes
 IsDue Done words source sink notes = IsDueOfAll Done words source sink notes
 IsDue WriteFault words source sink notes = IsDueOfAll WriteFault words source sink notes
-IsDue NotJson words source sink notes = IsDueOfAll NotJson words source sink notes
+IsDue NotJson words source sink notes = IsDueOfRead NotJson words source sink notes
 IsDue Refused words source sink notes = IsDueOfAll Refused words source sink notes
 
 -- The words are good; the source tells its bytes, which aren't too many; and they are JSON of a program that is read
 -- under the options that the words name, and has no early error.
 pub record IsValidInput (words : List (List ℕ)) (before : Option (List ℕ)) : Type 0 where
   pub options : CompressOptions
-  pub name : NameOptions words options
+  pub name : NameOrders words (to_read options)
   pub input : List ℕ
   pub there : before ≡ Some input
   pub short : length input ≤ 16777216
@@ -145,6 +208,16 @@ pub record IsValidInput (words : List (List ℕ)) (before : Option (List ℕ)) :
   pub program : Tree
   pub numbers : ℕ
   pub accepted : program_at options.max_depth value ≡ Ok (program, numbers)
+  pub free : early_fault program ≡ None
+
+-- The words are good and order the script of n statements, which is read under their options and has no early error.
+pub record IsValidScript (words : List (List ℕ)) : Type 0 where
+  pub options : CompressOptions
+  pub statements : ℕ
+  pub name : NameOrders words (to_generate options statements)
+  pub program : Tree
+  pub numbers : ℕ
+  pub accepted : program_at options.max_depth (generated_data statements) ≡ Ok (program, numbers)
   pub free : early_fault program ≡ None
 
 -- the answer was written, unless memory ran out, or the source or the sink failed, as their counts of faults show

@@ -17,7 +17,9 @@ use Rattle.mini_estree.specs.Reads.{fault_told}
 use Rattle.mini_tree.specs.Passes.{MakesPasses}
 use Rattle.mini_kept.specs.Carried.{numbers, symbol_numbers}
 use Rattle.mini_peephole.specs.Rules.{AllGives, AllRests}
+use Rattle.mini_model.specs.Weight.{capped, program_weight}
 use Rattle.mini_peephole.specs.declared.minify.Minified.{Minified}
+use Rattle.mini_peephole.specs.declared.minify.Weighed.{Weighed}
 
 -- passes of a rule, which over a program may make G of a tree and has nothing to do where D is, lead from the tree to the one
 -- that was written; the answer has the numbers of its nodes, the program's first, and those of the symbols that its scopes
@@ -37,6 +39,12 @@ IsRewriting input o m = IsWritten (AllGives o) (AllRests o) input o.passes m
 pub record IsAnswer (input : Tree) (o : CompressOptions) (m : Minified) : Type 0 where
   pub free : early_fault input ≡ None
   pub rewriting : IsRewriting (resolved_program input) o m
+
+-- and both weigh this, up to the greatest number that is told
+pub record IsWeighedAnswer (input : Tree) (o : CompressOptions) (w : Weighed) : Type 0 where
+  pub answer : IsAnswer input o w.minified
+  pub before : w.before ≡ capped (program_weight (resolved_program input))
+  pub after : w.after ≡ capped (program_weight answer.rewriting.output)
 
 -- the value is accepted with a tree for which this is the answer
 pub record IsMinified (d : Data) (o : CompressOptions) (m : Minified) : Type 0 where

@@ -11,7 +11,8 @@ ghost use Rattle.mini_laws.specs.declared.names.Use.TheVariants as variant;
 ghost use Rattle.mini_scope.specs.Pointers.{early_fault};
 ghost use Rattle.mini_model.specs.Faults.{fault_of};
 ghost use Rattle.mini_peephole.specs.Faithful.{Faithful, PassesBounded};
-ghost use Rattle.mini_peephole.specs.Minified.{IsAnswer, IsMinified, IsRewriting, IsRefusal};
+ghost use Rattle.mini_peephole.specs.Answer.{IsWeighed};
+ghost use Rattle.mini_peephole.specs.Minified.{IsAnswer, IsWeighedAnswer, IsMinified, IsRewriting, IsRefusal};
 
 use crate::named::{numbers_of, symbols_of};
 use mini_choices::MinimizeChoices;
@@ -28,7 +29,8 @@ use mini_syntax::{
     SubstituteReturns, SubstituteSpellings,
 };
 use mini_tree::{
-    CompressOptions, Numbers, OutOfMemory, Passes, Program, Then, discard, run_passes,
+    CompressOptions, Numbers, OutOfMemory, Passes, Position, Program, Then, discard, run_passes,
+    weight,
 };
 use mini_unused::{RemoveUnusedDeclarations, RemoveUnusedNames, SubstituteCatches};
 use mini_writer::write_program;
@@ -48,6 +50,14 @@ pub struct Minified {
     pub passes: u32,
     /// Whether the last pass found nothing to rewrite.
     pub settled: bool,
+}
+
+// An answer, and what its program weighed before and after.
+#[derive(Drop)]
+pub struct Weighed {
+    pub minified: Minified,
+    pub before: u64,
+    pub after: u64,
 }
 
 // The rules, in the order in which a node is tried with them: of logic, of blocks as branches and bodies, of spellings, of
@@ -177,6 +187,7 @@ fn rewritten(
 ) -> Result<Minified, OutOfMemory>
     requires { Knows context.old options.now tree.old }
     ensures ok { IfOk result (λ m. IsRewriting tree.old options.now m) }
+    ensures made { IfOk result (λ m. (r : IsRewriting tree.old options.now m) × (r.output ≡ tree.new)) }
     ensures plain { IfOk result (λ m. has_float (view m.program) ≡ false) }
 {
     let Passes { passes, settled } = run_passes(&RULES, alloc, tree, options.passes, context)?;
@@ -270,4 +281,61 @@ pub fn minify_value(
     drop(program);
     let read = made?;
     minify_read(alloc, read, options)
+}
+
+// The answer for a tree as it was read, with what it weighs before and after.
+fn weighed_answer(
+    alloc: Global,
+    tree: &mut Program,
+    options: &CompressOptions,
+) -> Result<Weighed, MinifyError>
+    requires symbols { symbols variant.Read tree.old < 2 ^ 32 }
+    requires references { length (references variant.Read tree.old) + 1 < 2 ^ 32 }
+    ensures ok { IfOk result (λ w. IsWeighedAnswer tree.old options.now w) }
+    ensures refused { IfErr result (λ e. IfSome (fault_of e) (λ f. early_fault tree.old ≡ Some f)) }
+{
+    let resolved = resolve(alloc, tree)?;
+    let before = weight(tree, Position::Elsewhere);
+    let mut context = TraverseCtx::new(resolved, *options);
+    let minified = rewritten(alloc, tree, options, &mut context)?;
+    let after = weight(tree, Position::Elsewhere);
+    Ok(Weighed {
+        minified,
+        before,
+        after,
+    })
+}
+
+// The same for a program as it was read, which is let go.
+fn weigh_read(
+    alloc: Global,
+    read: Numbered,
+    options: &CompressOptions,
+) -> Result<Weighed, MinifyError>
+    requires symbols { symbols variant.Read read.root < 2 ^ 32 }
+    requires references { length (references variant.Read read.root) + 1 < 2 ^ 32 }
+    ensures ok { IfOk result (λ w. IsWeighedAnswer read.root options.now w) }
+    ensures refused { IfErr result (λ e. IfSome (fault_of e) (λ f. early_fault read.root ≡ Some f)) }
+{
+    let Numbered { mut root, .. } = read;
+    let made = weighed_answer(alloc, &mut root, options);
+    discard(root);
+    made
+}
+
+/// The answer for a value that is given away, and what its program weighs before and after.
+#[tactic(auto, using(crate::proofs::Refused::refused_by_table))]
+pub fn weigh_value(
+    alloc: Global,
+    program: Value,
+    options: &CompressOptions,
+) -> Result<Weighed, MinifyError>
+    requires { Fits (view program) }
+    ensures weighed { IfOk result (λ w. IsWeighed (view program) options.now w.minified w.before w.after) }
+    ensures refused { IfErr result (λ e. IsRefusal (view program) options.now e) }
+{
+    let made = read_program(alloc, &program, options.max_depth);
+    drop(program);
+    let read = made?;
+    weigh_read(alloc, read, options)
 }

@@ -1,16 +1,17 @@
 // From the bytes in to the bytes out.
 
-ghost use Rattle.std.specs.Prelude.{◌≡◌, ◌<◌, ◌≤◌, ℕ, List, length, IfSome, IfOk, OnOk, IsErrOf, string_bytes, false};
-ghost use Rattle.mini_peephole.specs.Answer.{code_of, line_of, numbers_data, told_members, answer_text, answer_data, note_text, IsOutcome, IsDelivered, IsDue, IsTold, Gave, GaveMore, IsValidInput, IsAnswered};
+ghost use Rattle.std.specs.Prelude.{◌≡◌, ◌<◌, ◌≤◌, ◌⊎◌, ℕ, List, length, IfSome, IfOk, OnOk, IsErrOf, string_bytes, false};
+ghost use Rattle.mini_peephole.specs.Answer.{code_of, line_of, numbers_data, told_members, answer_text, answer_data, note_text, weights_text, IsOutcome, IsOutcomeOf, IsFinished, IsDelivered, IsDeliveredOf, IsDue, to_read, IsTold, Gave, GaveMore, IsValidInput, IsValidScript, IsAnswered};
 ghost use Rattle.mini_run.specs.Causes.{Rose};
+ghost use Rattle.mini_run.specs.Words.{NameOrders};
 ghost use Rattle.serde_json.specs.Data.{put as with_member};
 ghost use Rattle.serde_json.specs.View.{view, members_view};
 ghost use Rattle.serde_json.specs.Written.{has_float};
 ghost use Rattle.mini_model.specs.Faults.{fault_of};
 
-use crate::minify::{Minified, minify_value};
+use crate::minify::{Minified, Weighed, minify_value, weigh_value};
 use mini_estree::MinifyError;
-use mini_run::{Sink, Source, Steps, Stopped, Words, read_all, read_options, write_all};
+use mini_run::{Sink, Source, Steps, Stopped, Words, generate, read_all, read_orders, write_all};
 use mini_tree::{CompressOptions, Numbers};
 use serde_json::{Map, Value, put};
 use std::alloc::{AllocError, Global};
@@ -189,19 +190,13 @@ fn tell<E: Sink>(notes: &mut E, line: &[u8])
     }
 }
 
-fn deliver<K: Sink, E: Sink>(
-    alloc: Global,
-    input: Vec<u8>,
-    options: &CompressOptions,
-    sink: &mut K,
-    notes: &mut E,
-) -> Status
-    requires { length input.items ≤ 16777216 }
-    ensures { IsDelivered result options.now input.items
+// Writes what came out, or tells why nothing did.
+fn finish<K: Sink, E: Sink>(alloc: Global, outcome: Outcome, sink: &mut K, notes: &mut E) -> Status
+    ensures { IsFinished outcome result
         (record { before = K.written sink.old; after = K.written sink.new; faults_before = K.faults sink.old; faults_after = K.faults sink.new })
         (record { before = E.written notes.old; after = E.written notes.new; faults_before = E.faults notes.old; faults_after = E.faults notes.new }) }
 {
-    match settle(alloc, input, options) {
+    match outcome {
         Outcome::NoRoom => Status::OutOfMemory,
         Outcome::Unread => Status::NotJson,
         Outcome::Faulty(error) => match note(alloc, &error) {
@@ -216,6 +211,72 @@ fn deliver<K: Sink, E: Sink>(
             Err(_) => Status::WriteFault,
         },
     }
+}
+
+fn deliver<K: Sink, E: Sink>(
+    alloc: Global,
+    input: Vec<u8>,
+    options: &CompressOptions,
+    sink: &mut K,
+    notes: &mut E,
+) -> Status
+    requires { length input.items ≤ 16777216 }
+    ensures { IsDelivered result options.now input.items
+        (record { before = K.written sink.old; after = K.written sink.new; faults_before = K.faults sink.old; faults_after = K.faults sink.new })
+        (record { before = E.written notes.old; after = E.written notes.new; faults_before = E.faults notes.old; faults_after = E.faults notes.new }) }
+{
+    let outcome = settle(alloc, input, options);
+    finish(alloc, outcome, sink, notes)
+}
+
+#[tactic(auto, unfolding(crate::specs::Answer::weights_text))]
+fn weights_line(alloc: Global, n: u32, weighed: &Weighed) -> Result<String, AllocError>
+    ensures { IfOk result (λ text. string_bytes text ≡ weights_text n weighed.now.before weighed.now.after weighed.now.minified.passes weighed.now.minified.settled) }
+{
+    let before = weighed.before;
+    let after = weighed.after;
+    let passes = weighed.minified.passes;
+    let settled = weighed.minified.settled;
+    format!(in alloc; "statements={n} weight={before}..{after} passes={passes} settled={settled}\n")
+}
+
+// What the script of n statements comes to.
+fn settle_script(alloc: Global, n: u32, options: &CompressOptions) -> Outcome
+    requires { n ≤ 2000 }
+    ensures { IsOutcomeOf options.now n result }
+{
+    let value = match generate(alloc, n) {
+        Ok(value) => value,
+        Err(_) => return Outcome::NoRoom,
+    };
+    match weigh_value(alloc, value, options) {
+        Ok(weighed) => match weights_line(alloc, n, &weighed) {
+            Ok(text) => Outcome::Answer(text),
+            Err(_) => Outcome::NoRoom,
+        },
+        Err(error) => {
+            if error.is_memory() {
+                return Outcome::NoRoom;
+            }
+            Outcome::Faulty(error)
+        }
+    }
+}
+
+fn deliver_script<K: Sink, E: Sink>(
+    alloc: Global,
+    n: u32,
+    options: &CompressOptions,
+    sink: &mut K,
+    notes: &mut E,
+) -> Status
+    requires { n ≤ 2000 }
+    ensures { IsDeliveredOf result options.now n
+        (record { before = K.written sink.old; after = K.written sink.new; faults_before = K.faults sink.old; faults_after = K.faults sink.new })
+        (record { before = E.written notes.old; after = E.written notes.new; faults_before = E.faults notes.old; faults_after = E.faults notes.new }) }
+{
+    let outcome = settle_script(alloc, n, options);
+    finish(alloc, outcome, sink, notes)
 }
 
 // Reads all, with a count of steps of its own.
@@ -239,7 +300,29 @@ fn read_input<S: Source, L: Ledger>(
     read_all(alloc, source, &mut steps)
 }
 
-/// Reads the words and all that the source gives, minifies it, and writes the answer, or tells why there is none.
+// Reads all that the source gives, and writes the answer, or tells why there is none.
+fn run_read<S: Source, K: Sink, E: Sink>(
+    alloc: Global,
+    options: &CompressOptions,
+    source: &mut S,
+    sink: &mut K,
+    notes: &mut E,
+) -> Status
+    ensures { (words : List (List ℕ)) → NameOrders words (to_read options.now) → IsDue result words
+        (record { before = S.left source.old; after = S.left source.new; faults_before = S.faults source.old; faults_after = S.faults source.new })
+        (record { before = K.written sink.old; after = K.written sink.new; faults_before = K.faults sink.old; faults_after = K.faults sink.new })
+        (record { before = E.written notes.old; after = E.written notes.new; faults_before = E.faults notes.old; faults_after = E.faults notes.new }) }
+{
+    match read_input::<S, Brand>(alloc, source, Blank::new(1)) {
+        Ok(input) => deliver(alloc, input, options, sink, notes),
+        Err(Stopped::Memory) => Status::OutOfMemory,
+        Err(Stopped::Fault) => Status::ReadFault,
+        Err(Stopped::TooLong) => Status::TooLong,
+    }
+}
+
+/// Reads the words and all that the source gives, minifies it, and writes the answer, or tells why there is none. Where the words
+/// order a script of some statements, that is minified in place of what is read, and what it weighs before and after is written.
 pub fn run<S: Source, K: Sink, E: Sink>(
     alloc: Global,
     words: &Words,
@@ -251,17 +334,15 @@ pub fn run<S: Source, K: Sink, E: Sink>(
         (record { before = S.left source.old; after = S.left source.new; faults_before = S.faults source.old; faults_after = S.faults source.new })
         (record { before = K.written sink.old; after = K.written sink.new; faults_before = K.faults sink.old; faults_after = K.faults sink.new })
         (record { before = E.written notes.old; after = E.written notes.new; faults_before = E.faults notes.old; faults_after = E.faults notes.new }) }
-    ensures answered { IsValidInput words.now (S.left source.old)
+    ensures answered { (IsValidInput words.now (S.left source.old) ⊎ IsValidScript words.now)
         → IsAnswered result (S.faults source.old) (S.faults source.new) (K.faults sink.old) (K.faults sink.new) }
 {
-    let options = match read_options(words) {
-        Some(options) => options,
+    let orders = match read_orders(words) {
+        Some(orders) => orders,
         None => return Status::BadWords,
     };
-    match read_input::<S, Brand>(alloc, source, Blank::new(1)) {
-        Ok(input) => deliver(alloc, input, &options, sink, notes),
-        Err(Stopped::Memory) => Status::OutOfMemory,
-        Err(Stopped::Fault) => Status::ReadFault,
-        Err(Stopped::TooLong) => Status::TooLong,
+    match orders.generate {
+        None => run_read(alloc, &orders.options, source, sink, notes),
+        Some(n) => deliver_script(alloc, n, &orders.options, sink, notes),
     }
 }

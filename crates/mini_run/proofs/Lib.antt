@@ -1,6 +1,8 @@
+pub mod AnyOrder
+pub mod Filled
 pub mod Known
 pub mod Moves
 pub mod Named
-pub mod Orders
 pub mod Reading
+pub mod Sizes
 pub mod Spelled

@@ -1,9 +1,12 @@
 -- Words name one choice of options, in any order of theirs.
-use Rattle.std.proofs.Common.{◌≡◌, ℕ, List, [], ◌∷◌, map, get_or, drop, refl, sym, ap, ap₂, ◌∙◌}
+use Rattle.std.proofs.Common.{◌≡◌, ℕ, ◌≤◌, List, [], ◌∷◌, map, get_or, drop, Bool, true, false, refl, sym, ap, ap₂, subst, ◌∙◌}
+use Rattle.std.specs.Prelude.{Option, Some, None, ◌==◌, IfSome, if◌then◌else◌}
+use Rattle.mini_run.specs.declared.choice.Choice.TheVariants as choice
 use Rattle.std.specs.List.{AllByRecursion}
 use Rattle.mini_tree.specs.declared.options.CompressOptions.{CompressOptions}
 use Rattle.mini_run.specs.declared.choice.Choice.{Choice}
-use Rattle.mini_run.specs.Words.{spelling, chosen, IsAllowed, NameOptions, GoodWords}
+use Rattle.mini_run.specs.declared.choice.Orders.{Orders}
+use Rattle.mini_run.specs.Words.{spelling, chosen, ordered, IsAllowed, NameOptions, NameOrders, GoodWords, option_of, number_of, named}
 use Rattle.mini_run.proofs.Spelled.{spelling_tells}
 
 pub good_of : (words : List (List ℕ)) (o : CompressOptions) → NameOptions words o → GoodWords words
@@ -17,3 +20,29 @@ choices_one (c ∷ cs) (d ∷ ds) all all' same = ap₂ ◌∷◌ (spelling_tell
 
 pub names_one : (words : List (List ℕ)) (o o' : CompressOptions) → NameOptions words o → NameOptions words o' → o ≡ o'
 names_one words o o' (cs, s, is) (ds, s', is') = is ∙ ap chosen (choices_one cs ds s.allowed s'.allowed (sym s.spelled ∙ s'.spelled)) ∙ sym is'
+
+pub orders_one : (words : List (List ℕ)) (r r' : Orders) → NameOrders words r → NameOrders words r' → r ≡ r'
+orders_one words r r' (cs, s, is) (ds, s', is') = is ∙ ap ordered (choices_one cs ds s.allowed s'.allowed (sym s.spelled ∙ s'.spelled)) ∙ sym is'
+
+pub options_named : (words : List (List ℕ)) (r : Orders) → NameOrders words r → NameOptions words r.options
+options_named words r (cs, s, is) = (cs, s, ap (λ r. r.options) is)
+
+-- ---- no more statements are asked for than may be
+
+small_choice : (c : Choice) → IsAllowed c → (option_of c == 8) ≡ true → number_of c ≤ 2000
+small_choice (choice.Generate n) small e = small
+small_choice c small e = absurd (cc e)
+
+one_named : (b : Bool) (c : Choice) (o : Option ℕ) → (b ≡ true → number_of c ≤ 2000) → IfSome o (λ n. n ≤ 2000) → IfSome (if b then Some (number_of c) else o) (λ n. n ≤ 2000)
+one_named true c o small rest = small refl
+one_named false c o small rest = rest
+
+few_named : (cs : List Choice) → AllByRecursion IsAllowed cs → IfSome (named 8 cs) (λ n. n ≤ 2000)
+few_named [] all = tt
+few_named (c ∷ cs) all = one_named (option_of c == 8) c (named 8 cs) (small_choice c all.0) (few_named cs all.1)
+
+pub few_ordered : (words : List (List ℕ)) (r : Orders) → NameOrders words r → IfSome r.generate (λ n. n ≤ 2000)
+few_ordered words r (cs, s, is) = subst (λ r. IfSome r.generate (λ n. n ≤ 2000)) (sym is) (few_named cs s.allowed)
+
+pub good_orders : (words : List (List ℕ)) (r : Orders) → NameOrders words r → GoodWords words
+good_orders words r (cs, s, is) = (cs, s)

@@ -1,3 +1,4 @@
 pub mod Causes
+pub mod Generated
 pub mod Memory
 pub mod Words

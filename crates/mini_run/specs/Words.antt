@@ -5,7 +5,8 @@ use Rattle.std.specs.Fmt.{decimal}
 use Rattle.mini_tree.specs.Options.{default_options}
 use Rattle.mini_tree.specs.declared.options.CompressOptions.{CompressOptions}
 use Rattle.mini_run.specs.declared.choice.Choice.{Choice}
-use Rattle.mini_run.specs.declared.choice.Choice.TheVariants.{NoSequences, NoJoinVars, KeepFunctionNames, KeepClassNames, PureCoercion, KnownCalls, Passes, MaxDepth}
+use Rattle.mini_run.specs.declared.choice.Choice.TheVariants.{NoSequences, NoJoinVars, KeepFunctionNames, KeepClassNames, PureCoercion, KnownCalls, Passes, MaxDepth, Generate}
+use Rattle.mini_run.specs.declared.choice.Orders.{Orders}
 
 -- how a choice is spelled: a number is decimal, without a sign, and without a zero in front
 abbrev pub spelling : Choice → List ℕ
@@ -17,16 +18,19 @@ spelling PureCoercion = codes "--pure-coercion"
 spelling KnownCalls = codes "--known-calls"
 spelling (Passes n) = codes "--passes=" ++ decimal n
 spelling (MaxDepth n) = codes "--max-depth=" ++ decimal n
+spelling (Generate n) = codes "--generate=" ++ decimal n
 
 -- the numbers that may stand
 abbrev pub IsAllowed : Choice → Type 0
 IsAllowed (Passes n) = n < 2 ^ 32
 IsAllowed (MaxDepth n) = (1 ≤ n) × (n ≤ 1000)
+IsAllowed (Generate n) = n ≤ 2000
 IsAllowed _ = Unit {0}
 
 abbrev pub HasNumber : Choice → Type 0
 HasNumber (Passes n) = Unit {0}
 HasNumber (MaxDepth n) = Unit {0}
+HasNumber (Generate n) = Unit {0}
 HasNumber _ = ⊥
 
 -- which option is chosen, whatever its number
@@ -39,11 +43,13 @@ option_of PureCoercion = 4
 option_of KnownCalls = 5
 option_of (Passes n) = 6
 option_of (MaxDepth n) = 7
+option_of (Generate n) = 8
 
 -- the number that is chosen; 0 for an option without one
 abbrev pub number_of : Choice → ℕ
 number_of (Passes n) = n
 number_of (MaxDepth n) = n
+number_of (Generate n) = n
 number_of _ = 0
 
 -- the number that is chosen for an option, where it is chosen
@@ -71,6 +77,10 @@ chosen cs = record {
   known_calls = is_some (named (option_of KnownCalls) cs);
 }
 
+-- and how many statements are generated in place of what is read, where that is chosen
+abbrev pub ordered : List Choice → Orders
+ordered cs = record { options = chosen cs; generate = named (option_of (Generate 0)) cs }
+
 -- each word spells a choice that may stand, and no option is chosen twice
 pub record Spell (words : List (List ℕ)) (cs : List Choice) : Type 0 where
   pub spelled : words ≡ map spelling cs
@@ -80,6 +90,10 @@ pub record Spell (words : List (List ℕ)) (cs : List Choice) : Type 0 where
 -- the words are good, and name these options
 abbrev pub NameOptions : List (List ℕ) → CompressOptions → Type 0
 NameOptions words o = (cs : List Choice) × Spell words cs × (o ≡ chosen cs)
+
+-- and order this
+abbrev pub NameOrders : List (List ℕ) → Orders → Type 0
+NameOrders words r = (cs : List Choice) × Spell words cs × (r ≡ ordered cs)
 
 abbrev pub GoodWords : List (List ℕ) → Type 0
 GoodWords words = (cs : List Choice) × Spell words cs

@@ -2,7 +2,7 @@
 
 ghost use Rattle.std.specs.Prelude.{◌≡◌, ◌≢◌, ◌<◌, ◌≤◌, ◌^◌, ◌++◌, ℕ, List, None, get_or, codes, MatchOption};
 ghost use Rattle.std.specs.Fmt.{decimal};
-ghost use Rattle.mini_run.specs.Words.{spelling, option_of, number_of, named, chosen, IsAllowed, HasNumber, GoodWords, NameOptions};
+ghost use Rattle.mini_run.specs.Words.{spelling, option_of, number_of, named, chosen, ordered, IsAllowed, HasNumber, GoodWords, NameOptions, NameOrders};
 ghost use Rattle.mini_run.specs.declared.choice.Choice.{Choice};
 
 use crate::words::Words;
@@ -27,6 +27,17 @@ pub enum Choice {
     Passes(u32),
     /// `--max-depth=N`
     MaxDepth(u32),
+    /// `--generate=N`
+    Generate(u32),
+}
+
+/// What good words ask for.
+#[derive(Clone, Copy)]
+pub struct Orders {
+    /// The options of the minifier.
+    pub options: CompressOptions,
+    /// How many statements are generated in place of what is read, where that is asked for.
+    pub generate: Option<u32>,
 }
 
 impl Choice {
@@ -43,6 +54,7 @@ impl Choice {
             Choice::KnownCalls => 5,
             Choice::Passes(_) => 6,
             Choice::MaxDepth(_) => 7,
+            Choice::Generate(_) => 8,
         }
     }
 
@@ -59,6 +71,7 @@ impl Choice {
             Choice::KnownCalls => 0,
             Choice::Passes(number) => *number,
             Choice::MaxDepth(number) => *number,
+            Choice::Generate(number) => *number,
         }
     }
 }
@@ -101,6 +114,16 @@ fn read_depth(word: &str) -> Option<u32>
     }
 }
 
+// How many statements the word names.
+fn read_count(word: &str) -> Option<u32>
+    ensures { MatchOption result ((n : ℕ) → n ≤ 2000 → word.now ≢ codes "--generate=" ++ decimal n) (λ n. (n ≤ 2000) × (word.now ≡ codes "--generate=" ++ decimal n)) }
+{
+    match number_after(word, "--generate=")? {
+        count @ 0..=2_000 => Some(count),
+        _ => None,
+    }
+}
+
 // What a word with a number chooses.
 fn read_numbered(word: &str) -> Option<Choice>
     ensures { MatchOption result ((c : Choice) → IsAllowed c → HasNumber c → word.now ≢ spelling c) (λ c. IsAllowed c × (word.now ≡ spelling c)) }
@@ -109,7 +132,10 @@ fn read_numbered(word: &str) -> Option<Choice>
         Some(passes) => Some(Choice::Passes(passes)),
         None => match read_depth(word) {
             Some(depth) => Some(Choice::MaxDepth(depth)),
-            None => None,
+            None => match read_count(word) {
+                Some(count) => Some(Choice::Generate(count)),
+                None => None,
+            },
         },
     }
 }
@@ -130,8 +156,8 @@ pub fn read_choice(word: &str) -> Option<Choice>
 }
 
 // The options, by the number that was chosen for each; None for one that wasn't chosen.
-fn options_of(slots: &[Option<u32>; 8]) -> CompressOptions
-    ensures { (cs : List Choice) → ((k : ℕ) → k < 8 → get_or slots.now k None ≡ named k cs) → result ≡ chosen cs }
+fn options_of(slots: &[Option<u32>; 9]) -> CompressOptions
+    ensures { (cs : List Choice) → ((k : ℕ) → k < 9 → get_or slots.now k None ≡ named k cs) → result ≡ chosen cs }
 {
     let defaults = CompressOptions::new();
     CompressOptions {
@@ -148,11 +174,20 @@ fn options_of(slots: &[Option<u32>; 8]) -> CompressOptions
     }
 }
 
-/// The options that the words name, without memory; None exactly where the words are not good.
-pub fn read_options(words: &Words) -> Option<CompressOptions>
-    ensures { MatchOption result (GoodWords words.now → ⊥) (NameOptions words.now) }
+fn orders_of(slots: &[Option<u32>; 9]) -> Orders
+    ensures { (cs : List Choice) → ((k : ℕ) → k < 9 → get_or slots.now k None ≡ named k cs) → result ≡ ordered cs }
 {
-    let mut slots: [Option<u32>; 8] = [None; 8];
+    Orders {
+        options: options_of(slots),
+        generate: slots[8],
+    }
+}
+
+/// What the words ask for, without memory; None exactly where the words are not good.
+pub fn read_orders(words: &Words) -> Option<Orders>
+    ensures { MatchOption result (GoodWords words.now → ⊥) (NameOrders words.now) }
+{
+    let mut slots: [Option<u32>; 9] = [None; 9];
     'words: for word in words.as_slice() {
         let choice = read_choice(word.as_str())?;
         let option = choice.option();
@@ -161,5 +196,16 @@ pub fn read_options(words: &Words) -> Option<CompressOptions>
         }
         slots[option] = Some(choice.number());
     }
-    Some(options_of(&slots))
+    Some(orders_of(&slots))
+}
+
+/// The options that the words name, without memory; None exactly where the words are not good.
+#[tactic(auto, using(crate::proofs::Named::options_named))]
+pub fn read_options(words: &Words) -> Option<CompressOptions>
+    ensures { MatchOption result (GoodWords words.now → ⊥) (NameOptions words.now) }
+{
+    match read_orders(words) {
+        Some(orders) => Some(orders.options),
+        None => None,
+    }
 }

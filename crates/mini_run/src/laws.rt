@@ -2,16 +2,19 @@
 ghost use Rattle.std.specs.Prelude.{◌≡◌, ◌∷◌, ◌++◌, ℕ, List};
 ghost use Rattle.mini_tree.specs.declared.options.CompressOptions.{CompressOptions};
 ghost use Rattle.mini_run.specs.declared.choice.Choice.{Choice};
-ghost use Rattle.mini_run.specs.Words.{spelling, option_of, IsAllowed, NameOptions, GoodWords};
+ghost use Rattle.mini_run.specs.declared.choice.Orders.{Orders};
+ghost use Rattle.mini_run.specs.Words.{spelling, option_of, IsAllowed, NameOptions, NameOrders, GoodWords};
 
-/// Good words name one choice of options.
+/// Good words name one choice of options, and order one thing.
 pub fn words_name_one_choice()
-    ensures { (words : List (List ℕ)) (o o' : CompressOptions) → NameOptions words o → NameOptions words o' → o ≡ o' }
+    ensures orders { (words : List (List ℕ)) (r r' : Orders) → NameOrders words r → NameOrders words r' → r ≡ r' }
+    ensures options { (words : List (List ℕ)) (o o' : CompressOptions) → NameOptions words o → NameOptions words o' → o ≡ o' }
 {}
 
-/// Words may stand in any order: where two neighbours change places, the same options are named.
+/// Words may stand in any order: where two neighbours change places, the same is ordered, and the same options are named.
 pub fn words_stand_in_any_order()
-    ensures { (xs ys : List (List ℕ)) (v w : List ℕ) (o : CompressOptions) → NameOptions (xs ++ v ∷ w ∷ ys) o → NameOptions (xs ++ w ∷ v ∷ ys) o }
+    ensures orders { (xs ys : List (List ℕ)) (v w : List ℕ) (r : Orders) → NameOrders (xs ++ v ∷ w ∷ ys) r → NameOrders (xs ++ w ∷ v ∷ ys) r }
+    ensures options { (xs ys : List (List ℕ)) (v w : List ℕ) (o : CompressOptions) → NameOptions (xs ++ v ∷ w ∷ ys) o → NameOptions (xs ++ w ∷ v ∷ ys) o }
 {}
 
 /// Words that name an option twice, with the same number or another, are not good.

@@ -4,6 +4,7 @@
 
 mod adapters;
 mod choice;
+mod generated;
 mod laws;
 mod memory;
 mod outside;
@@ -11,7 +12,8 @@ mod steps;
 mod words;
 
 pub use adapters::{StdSink, StdSource};
-pub use choice::{Choice, read_choice, read_options};
+pub use choice::{Choice, Orders, read_choice, read_options, read_orders};
+pub use generated::{generate, generated_fit};
 pub use laws::{no_option_stands_twice, words_name_one_choice, words_stand_in_any_order};
 pub use memory::{MemSink, MemSource};
 pub use outside::{Failed, LIMIT, Sink, Source, Stopped, read_all, write_all};

@@ -20,7 +20,7 @@ use Rattle.mini_writer.proofs.Lexed.{costs, tokens_cost}
 -- ---- the values and the bytes of texts
 
 abbrev mutual
-  size : Data → ℕ
+  pub size : Data → ℕ
   size null = 1
   size (boolean b) = 1
   size (number n) = 1
@@ -28,11 +28,11 @@ abbrev mutual
   size (array ds) = 1 + items_size ds
   size (object ms) = 1 + members_size ms
 
-  items_size : Items → ℕ
+  pub items_size : Items → ℕ
   items_size no_items = 0
   items_size (item d ds) = size d + items_size ds
 
-  members_size : Members → ℕ
+  pub members_size : Members → ℕ
   members_size no_members = 0
   members_size (member k d ms) = length k + size d + members_size ms
 
@@ -269,7 +269,7 @@ units_count (b ∷ bs) = omega (arith, near_count (continuation_len b) (lead_bit
 -- ---- both counts
 
 mutual
-  values_counted : (d : Data) → values_in d ≤ size d
+  pub values_counted : (d : Data) → values_in d ≤ size d
   values_counted null = omega arith
   values_counted (boolean b) = omega arith
   values_counted (number n) = omega arith
@@ -286,7 +286,7 @@ mutual
   members_counted (member k d ms) = omega (arith, values_counted d, members_counted ms)
 
 mutual
-  units_counted : (d : Data) → units_in d ≤ size d
+  pub units_counted : (d : Data) → units_in d ≤ size d
   units_counted null = omega arith
   units_counted (boolean b) = omega arith
   units_counted (number n) = omega arith

@@ -1,4 +1,4 @@
-use Rattle.mini_run.proofs.Orders.{twice_is_bad}
+use Rattle.mini_run.proofs.AnyOrder.{twice_is_bad}
 use Rattle.mini_run.proofs.laws.no_option_stands_twice.Goals as goal
 
 pub returns : goal.returns

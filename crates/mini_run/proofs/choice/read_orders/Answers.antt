@@ -4,10 +4,10 @@ use Rattle.std.proofs.lemmas.Grind.{common_steps}
 use Rattle.std.proofs.lemmas.List.{length-map, length-set}
 use Rattle.mini_run.specs.Words.{spelling, option_of}
 use Rattle.mini_run.proofs.Reading.{start, next, unread, twice, at_item, split_item, take_item}
-use Rattle.mini_run.proofs.choice.read_options.Goals as goal
+use Rattle.mini_run.proofs.choice.read_orders.Goals as goal
 
 pub words-init : goal.words-init
-words-init c = record { read = start; eight = refl }
+words-init c = record { read = start; nine = refl }
 
 pub returns-in_err-choice : goal.returns-in_err-choice
 returns-in_err-choice c =
@@ -40,6 +40,6 @@ words-preserved c =
     let free : get_or c.words.slots (option_of choice) None ≡ None = (let e = c.is_some.ensures in let t = c.if-is_some.false in let o = c.option-option.ensures in grind (arith, common_steps)) in
     record {
       read = rw (take_item string_bytes items i c.word-item.result c.word-item.is c.words-test.true, c.option-option.ensures, c.number.ensures)
-          (next (take i words) c.words.slots (string_bytes c.word-item.result) choice c.words.invariant.read c.in_ok-choice.ensures.0 is c.words.invariant.eight free);
-      eight = length-set c.words.slots _ _ ∙ c.words.invariant.eight;
+          (next (take i words) c.words.slots (string_bytes c.word-item.result) choice c.words.invariant.read c.in_ok-choice.ensures.0 is c.words.invariant.nine free);
+      nine = length-set c.words.slots _ _ ∙ c.words.invariant.nine;
     }

@@ -7,7 +7,8 @@ use Rattle.std.proofs.lemmas.Bool.Decides.{eqb_tells}
 use Rattle.std.proofs.lemmas.List.{map-append}
 use Rattle.mini_tree.specs.declared.options.CompressOptions.{CompressOptions}
 use Rattle.mini_run.specs.declared.choice.Choice.{Choice}
-use Rattle.mini_run.specs.Words.{spelling, option_of, number_of, named, chosen, IsAllowed, IsOnce, Spell, NameOptions, GoodWords}
+use Rattle.mini_run.specs.declared.choice.Orders.{Orders}
+use Rattle.mini_run.specs.Words.{spelling, option_of, number_of, named, chosen, ordered, IsAllowed, IsOnce, Spell, NameOptions, NameOrders, GoodWords}
 use Rattle.mini_run.proofs.Spelled.{spelling_tells}
 use Rattle.mini_run.proofs.Reading.{skip, still_named}
 
@@ -73,13 +74,13 @@ module _ (c d : Choice) (es : List Choice) where
   allowed-swapped [] all = (all.1.0, (all.0, all.1.1))
   allowed-swapped (b ∷ bs) all = (all.0, allowed-swapped bs all.1)
 
-  chosen-swapped : (apart : option_of c ≢ option_of d) (bs : List Choice) → chosen (bs ++ c ∷ d ∷ es) ≡ chosen (bs ++ d ∷ c ∷ es)
-  chosen-swapped apart bs = rw (named-swapped apart 0 bs, named-swapped apart 1 bs, named-swapped apart 2 bs, named-swapped apart 3 bs, named-swapped apart 4 bs, named-swapped apart 5 bs, named-swapped apart 6 bs, named-swapped apart 7 bs) refl
+  ordered-swapped : (apart : option_of c ≢ option_of d) (bs : List Choice) → ordered (bs ++ c ∷ d ∷ es) ≡ ordered (bs ++ d ∷ c ∷ es)
+  ordered-swapped apart bs = rw (named-swapped apart 0 bs, named-swapped apart 1 bs, named-swapped apart 2 bs, named-swapped apart 3 bs, named-swapped apart 4 bs, named-swapped apart 5 bs, named-swapped apart 6 bs, named-swapped apart 7 bs, named-swapped apart 8 bs) refl
 
-  swapped : (bs : List Choice) (words words' : List (List ℕ)) (o : CompressOptions) → words' ≡ map spelling (bs ++ d ∷ c ∷ es) → Spell words (bs ++ c ∷ d ∷ es) → o ≡ chosen (bs ++ c ∷ d ∷ es) → NameOptions words' o
-  swapped bs words words' o spelled s is =
+  swapped : (bs : List Choice) (words words' : List (List ℕ)) (r : Orders) → words' ≡ map spelling (bs ++ d ∷ c ∷ es) → Spell words (bs ++ c ∷ d ∷ es) → r ≡ ordered (bs ++ c ∷ d ∷ es) → NameOrders words' r
+  swapped bs words words' r spelled s is =
       let apart = apart_of bs s.once in
-      (bs ++ d ∷ c ∷ es, record { spelled = spelled; allowed = allowed-swapped bs s.allowed; once = once-swapped apart bs s.once }, is ∙ chosen-swapped apart bs)
+      (bs ++ d ∷ c ∷ es, record { spelled = spelled; allowed = allowed-swapped bs s.allowed; once = once-swapped apart bs s.once }, is ∙ ordered-swapped apart bs)
 
 none_spelled : (cs : List Choice) → [] ≡ map spelling cs → cs ≡ []
 none_spelled [] same = refl
@@ -88,12 +89,17 @@ none_spelled (c ∷ cs) same = absurd (cc same)
 spelled-swapped : (xs ys : List (List ℕ)) (v w : List ℕ) (c d : Choice) (bs es : List Choice) → xs ≡ map spelling bs → v ≡ spelling c → w ≡ spelling d → ys ≡ map spelling es → xs ++ w ∷ v ∷ ys ≡ map spelling (bs ++ d ∷ c ∷ es)
 spelled-swapped xs ys v w c d bs es first here there rest = rw (first, here, there, rest) (sym (map-append spelling bs (d ∷ c ∷ es)))
 
-pub any_order : (xs ys : List (List ℕ)) (v w : List ℕ) (o : CompressOptions) → NameOptions (xs ++ v ∷ w ∷ ys) o → NameOptions (xs ++ w ∷ v ∷ ys) o
-any_order xs ys v w o (ds, s, is) =
+pub orders_in_any_order : (xs ys : List (List ℕ)) (v w : List ℕ) (r : Orders) → NameOrders (xs ++ v ∷ w ∷ ys) r → NameOrders (xs ++ w ∷ v ∷ ys) r
+orders_in_any_order xs ys v w r (ds, s, is) =
     let one = split xs (w ∷ ys) v ds s.spelled in
     let two = split [] ys w one.behind one.rest in
     let front : two.before ≡ [] = none_spelled two.before two.first in
     let whole : ds ≡ one.before ++ one.here ∷ two.here ∷ two.behind = one.is ∙ ap (λ l. one.before ++ one.here ∷ l) (two.is ∙ ap (λ bs. bs ++ two.here ∷ two.behind) front) in
-    swapped one.here two.here two.behind one.before (xs ++ v ∷ w ∷ ys) (xs ++ w ∷ v ∷ ys) o
+    swapped one.here two.here two.behind one.before (xs ++ v ∷ w ∷ ys) (xs ++ w ∷ v ∷ ys) r
     (spelled-swapped xs ys v w one.here two.here one.before two.behind one.first one.word two.word two.rest)
-    (subst (λ l. Spell (xs ++ v ∷ w ∷ ys) l) whole s) (subst (λ l. o ≡ chosen l) whole is)
+    (subst (λ l. Spell (xs ++ v ∷ w ∷ ys) l) whole s) (subst (λ l. r ≡ ordered l) whole is)
+
+pub any_order : (xs ys : List (List ℕ)) (v w : List ℕ) (o : CompressOptions) → NameOptions (xs ++ v ∷ w ∷ ys) o → NameOptions (xs ++ w ∷ v ∷ ys) o
+any_order xs ys v w o (ds, s, is) =
+    let (es, s', same) = orders_in_any_order xs ys v w (ordered ds) (ds, s, refl) in
+    (es, s', is ∙ ap (λ r. r.options) same)
