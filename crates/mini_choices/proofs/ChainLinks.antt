@@ -1,22 +1,27 @@
 -- What is written for an optional chain by what stands before its `?.` is what a row says, and what a row reads is written.
-use Rattle.std.proofs.Common.{◌≡◌, ◌⊎◌, zero, Bool, true, false, List, [], ◌∷◌, Option, Some, None, refl, sym, ap, subst, ◌∙◌, inl, inr, true≢false}
+use Rattle.std.proofs.Common.{◌≡◌, ◌⊎◌, zero, Bool, true, false, List, [], ◌∷◌, Option, Some, None, refl, sym, ap, subst, ◌∙◌, inl, inr, true≢false, ltb-true, arith, ◌<◌, ◌^◌}
 use Rattle.std.specs.Prelude.{◌&&◌, ◌||◌, not, is_some, if◌then◌else◌}
 use Rattle.std.proofs.lemmas.Bool.{and_parts, false≢true}
 use Rattle.mini_model.specs.declared.place.Position.TheVariants.{Expr}
 use Rattle.mini_model.specs.declared.seat.Seat.{Seat}
 use Rattle.mini_model.specs.declared.shape.Shape.TheVariants as shape
+use Rattle.mini_model.specs.Weight.{weight}
 use Rattle.mini_model.specs.Tree.{Tree, Trees, node, none, ◌▸◌, children, child_or_absent, shape_of}
 use Rattle.mini_node.specs.Children.{part, is_bare}
-use Rattle.mini_node.specs.Kinds.{is_listed}
-use Rattle.mini_node.specs.Made.{listed_is}
-use Rattle.mini_terms.specs.Parts.{is_link}
+use Rattle.mini_node.specs.Kinds.{is_listed, is_null}
+use Rattle.mini_node.specs.Made.{listed_is, null_is}
+use Rattle.mini_terms.specs.Parts.{is_link, leaves_nothing}
 use Rattle.mini_terms.specs.Reading.{is_unguarded, is_plain_part, stands}
 use Rattle.mini_rows.specs.Chains.{is_calm, are_calm, Link, a_member, a_computed, a_call, call, linked, is_calm_link, chain}
-use Rattle.mini_rows.specs.ChainLinks.{is_there, Marked, marked, links_over, are_calm_over, has_mark, chain_if, Row64, Row11, ChainRow}
+use Rattle.mini_rows.specs.ChainLinks.{is_there, Marked, marked, links_over, are_calm_over, has_mark, chain_if, nothing, Row64, Row11, Row10, ChainRow}
 use Rattle.mini_rows.specs.Choices.{ChoiceContracts}
 use Rattle.mini_rows.proofs.ChainLinkLawful.{chains_fall}
-use Rattle.mini_choices.specs.FoldChainExpr.{is_chain, ends_none, is_step, is_marked, link_shape, relinked, holds_link, is_value, folds_here, here, with_mark, outcome, outcome_in, folded, folded_in, wrapped, is_read, written}
-use Rattle.mini_choices.proofs.Trials.{not_true, both_true, some_is}
+use Rattle.mini_rows.specs.Spellings.{void_zero}
+use Rattle.mini_choices.specs.Forms.{is_void_zero}
+use Rattle.mini_choices.specs.MinimizeConditionalBranches.{is_lighter}
+use Rattle.mini_choices.specs.FoldChainExpr.{is_chain, ends_none, is_step, is_marked, link_shape, relinked, holds_link, is_value, folds_here, here, with_mark, outcome, outcome_in, folded, folded_in, wrapped, is_read, folded_written, is_nothing, ends_at_once, ends_in, may_end, written}
+use Rattle.mini_choices.proofs.FormsAre.{either_true, void_zero_is}
+use Rattle.mini_choices.proofs.Trials.{not_true, both_true, some_is, tried, first_true, later_true, lighter_test}
 
 -- ---- links, one after another
 
@@ -260,7 +265,7 @@ module _ (s : Seat) (n : Tree) where
       }
 
   contracts : (w : Tree) → ChainRow s n w → ChoiceContracts (Expr s) n w
-  contracts w r = record { row = inr (inr (inr (inr (inr r)))); lighter = chains_fall s n w r }
+  contracts w r = record { row = inr (inr (inr (inr (inr (inl r))))); lighter = chains_fall s n w r }
 
   row_of : (stays : Bool) → is_read s n ≡ true → Folds may links stays → ChainRow s n (chain_if stays (folded may links))
   row_of stays h f = let (c, g) = and_parts (is_chain n) (is_unguarded s.guard) h in kind c g f
@@ -269,8 +274,8 @@ module _ (s : Seat) (n : Tree) where
       kind c g (inl j) = inl (of_joined stays c g j)
       kind c g (inr j) = inr (of_closed stays c g j)
 
-pub folded_row : (s : Seat) (n w : Tree) → written s n ≡ Some w → ChoiceContracts (Expr s) n w
-folded_row s n w e = go (is_read s n) refl e
+links_row : (s : Seat) (n w : Tree) → folded_written s n ≡ Some w → ChoiceContracts (Expr s) n w
+links_row s n w e = go (is_read s n) refl e
   where
     of : is_read s n ≡ true → (o : Option Bool) → outcome (may s n) (links s n) ≡ o → wrapped o (folded (may s n) (links s n)) ≡ Some w → ChoiceContracts (Expr s) n w
     of h (Some stays) f g = subst (ChoiceContracts (Expr s) n) (some_is _ w g) (contracts s n (chain_if stays (folded (may s n) (links s n))) (row_of s n stays h (folds_of (may s n) (links s n) stays f)))
@@ -322,26 +327,156 @@ module _ (d : Bool) where
       let (one, rest) = and_parts (is_calm_link l) (are_calm_over ms) c in
       there_below o l (links_over ms t) one (there_over ms t rest h)
 
-is_written : (s : Seat) (c : Tree) → is_unguarded s.guard ≡ true → is_some (outcome (not s.new_callee) c) ≡ true → is_some (written s (chain c)) ≡ true
+is_written : (s : Seat) (c : Tree) → is_unguarded s.guard ≡ true → is_some (outcome (not s.new_callee) c) ≡ true → is_some (folded_written s (chain c)) ≡ true
 is_written s c g h = ap (λ b. is_some (if b then wrapped (outcome (not s.new_callee) c) (folded (not s.new_callee) c) else None)) g ∙ go (outcome (not s.new_callee) c) h
   where
     go : (o : Option Bool) → is_some o ≡ true → is_some (wrapped o (folded (not s.new_callee) c)) ≡ true
     go (Some stays) e = refl
     go None e = e
 
-pub folded_passes : (s : Seat) (n w : Tree) → ChainRow s n w → is_some (written s n) ≡ true
-folded_passes s n w (inl r) =
+links_pass : (s : Seat) (n w : Tree) → ChainRow s n w → is_some (folded_written s n) ≡ true
+links_pass s n w (inl r) =
     let d = not s.new_callee in
-    ap (λ x. is_some (written s x)) r.shape
+    ap (λ x. is_some (folded_written s x)) r.shape
     ∙ is_written s (links_over r.others (linked true r.link (chain r.inner))) r.unguarded
     (there_over d r.others (linked true r.link (chain r.inner)) r.calm_others (there_here d r.link (chain r.inner) r.calm (ap (λ b. b || (d && is_value (chain r.inner))) r.held)))
-folded_passes s n w (inr r) =
+links_pass s n w (inr r) =
     let d = not s.new_callee in
     let there : is_value r.base ≡ true = both_true (is_there r.base) _ r.known (both_true (is_plain_part r.base) _ r.plain (both_true (stands r.base) (is_calm r.base) r.value r.calm_base)) in
-    ap (λ x. is_some (written s x)) r.shape
+    ap (λ x. is_some (folded_written s x)) r.shape
     ∙ is_written s (links_over r.others (linked true r.link r.base)) r.unguarded
     (there_over d r.others (linked true r.link r.base) r.calm_others (there_here d r.link r.base r.calm (or_last (holds_link r.base) (both_true d (is_value r.base) (ap not r.called) there))))
   where
     or_last : (b : Bool) {c : Bool} → c ≡ true → b || c ≡ true
     or_last true e = refl
     or_last false e = e
+
+-- ---- a chain over null or undefined
+
+ends_first : (ts : Trees) → ends_in ts ≡ ends_at_once (child_or_absent ts 0)
+ends_first none = refl
+ends_first (t ▸ ts) = refl
+
+pub none_ends : (t : Tree) → is_step t ≡ false → ends_at_once t ≡ false
+none_ends (node h xs n ts) e = ap (λ b. b && ((is_marked h && is_nothing (child_or_absent ts 0)) || ends_in ts)) e
+
+pub below_ends : (t : Tree) → is_step t ≡ true → ends_at_once t ≡ ((is_marked (shape_of t) && is_nothing (part t 0)) || ends_at_once (part t 0))
+below_ends (node h xs n ts) e =
+    ap (λ b. b && ((is_marked h && is_nothing (child_or_absent ts 0)) || ends_in ts)) e
+    ∙ ap (λ b. (is_marked h && is_nothing (child_or_absent ts 0)) || b) (ends_first ts)
+
+record Nothing (t : Tree) : Type 0 where
+  is_null : Bool
+  is : t ≡ nothing is_null
+
+nothing_is : (t : Tree) → is_nothing t ≡ true → Nothing t
+nothing_is t e = go (either_true (is_null t) (is_void_zero t) e)
+  where
+    go : (is_null t ≡ true) ⊎ (is_void_zero t ≡ true) → Nothing t
+    go (inl h) = record { is_null = true; is = null_is t h }
+    go (inr h) = record { is_null = false; is = void_zero_is t h }
+
+nothing_passes : (b : Bool) → is_nothing (nothing b) ≡ true
+nothing_passes true = refl
+nothing_passes false = refl
+
+-- under links, one over that
+record Ended (t : Tree) : Type 0 where
+  others : List Marked
+  link : Link
+  is_null : Bool
+  calm : is_calm_link link ≡ true
+  calm_others : are_calm_over others ≡ true
+  is : t ≡ links_over others (linked true link (nothing is_null))
+
+ended_here : (t : Tree) → Stepped t → is_marked (shape_of t) ≡ true → Nothing (part t 0) → Ended t
+ended_here t p m o = record {
+  others = [];
+  link = p.link;
+  is_null = o.is_null;
+  calm = p.calm;
+  calm_others = refl;
+  is = p.is ∙ ap (λ b. linked b p.link (part t 0)) m ∙ ap (linked true p.link) o.is;
+}
+
+ended_below : (t : Tree) → Stepped t → Ended (part t 0) → Ended t
+ended_below t p b = record {
+  others = marked (is_marked (shape_of t)) p.link ∷ b.others;
+  link = b.link;
+  is_null = b.is_null;
+  calm = b.calm;
+  calm_others = both_true (is_calm_link p.link) (are_calm_over b.others) p.calm b.calm_others;
+  is = p.is ∙ ap (linked (is_marked (shape_of t)) p.link) b.is;
+}
+
+ended_by : (t : Tree) → (ends_at_once (part t 0) ≡ true → Ended (part t 0)) → ends_at_once t ≡ true → Ended t
+ended_by t below e = go (is_step t) refl
+  where
+    of : is_step t ≡ true → ((is_marked (shape_of t) && is_nothing (part t 0)) ≡ true) ⊎ (ends_at_once (part t 0) ≡ true) → Ended t
+    of p (inl h) = let (m, o) = and_parts (is_marked (shape_of t)) (is_nothing (part t 0)) h in ended_here t (stepped_is t p) m (nothing_is (part t 0) o)
+    of p (inr h) = ended_below t (stepped_is t p) (below h)
+
+    go : (b : Bool) → is_step t ≡ b → Ended t
+    go true p = of p (either_true (is_marked (shape_of t) && is_nothing (part t 0)) (ends_at_once (part t 0)) (sym (below_ends t p) ∙ e))
+    go false p = absurd (true≢false (sym e ∙ none_ends t p))
+
+mutual
+  ended_of : (t : Tree) → ends_at_once t ≡ true → Ended t
+  ended_of (node h xs n ts) e = ended_by (node h xs n ts) (ended_in ts) e
+
+  ended_in : (ts : Trees) → ends_at_once (child_or_absent ts 0) ≡ true → Ended (child_or_absent ts 0)
+  ended_in none e = absurd (true≢false (sym e))
+  ended_in (t ▸ ts) e = ended_of t e
+
+module _ (s : Seat) (n : Tree) where
+  end_row : may_end s n && is_lighter s void_zero n ≡ true → ChoiceContracts (Expr s) n void_zero
+  end_row h =
+      let (may, less) = and_parts (may_end s n) (is_lighter s void_zero n) h in
+      let (read, rest) = and_parts (is_read s n) (ends_at_once (part n 0) && leaves_nothing (part n 0)) may in
+      let (c, g) = and_parts (is_chain n) (is_unguarded s.guard) read in
+      let (ends, goes) = and_parts (ends_at_once (part n 0)) (leaves_nothing (part n 0)) rest in
+      let o = ended_of (part n 0) ends in
+      let row : Row10 s n void_zero = record {
+        others = o.others;
+        link = o.link;
+        is_null = o.is_null;
+        calm = o.calm;
+        calm_others = o.calm_others;
+        unguarded = g;
+        dropped = subst (λ t. leaves_nothing t ≡ true) o.is goes;
+        shape = chain_is n c ∙ ap chain o.is;
+        written = refl;
+      } in
+      record { row = inr (inr (inr (inr (inr (inr row))))); lighter = omega (arith, ltb-true _ _ less) }
+
+pub folded_row : (s : Seat) (n w : Tree) → written s n ≡ Some w → ChoiceContracts (Expr s) n w
+folded_row s n w e = tried s n w (may_end s n && is_lighter s void_zero n) void_zero (folded_written s n) (end_row s n) (links_row s n w) e
+
+pub folded_passes : (s : Seat) (n w : Tree) → ChainRow s n w → is_some (written s n) ≡ true
+folded_passes s n w r = later_true (may_end s n && is_lighter s void_zero n) void_zero (folded_written s n) (links_pass s n w r)
+
+ends_passes : (ms : List Marked) (l : Link) (b : Bool) → is_calm_link l ≡ true → are_calm_over ms ≡ true → ends_at_once (links_over ms (linked true l (nothing b))) ≡ true
+ends_passes [] l b c d =
+    let t = linked true l (nothing b) in
+    below_ends t (step_passes true l (nothing b) c)
+    ∙ ap (λ x. x || ends_at_once (part t 0)) (both_true (is_marked (shape_of t)) (is_nothing (part t 0)) (mark_of_link true l (nothing b)) (ap is_nothing (first_of_link true l (nothing b)) ∙ nothing_passes b))
+ends_passes (marked o m ∷ ms) l b c d =
+    let (here, rest) = and_parts (is_calm_link m) (are_calm_over ms) d in
+    let below = links_over ms (linked true l (nothing b)) in
+    let t = linked o m below in
+    below_ends t (step_passes o m below here)
+    ∙ or_last (is_marked (shape_of t) && is_nothing (part t 0)) (ap ends_at_once (first_of_link o m below) ∙ ends_passes ms l b c rest)
+  where
+    or_last : (b : Bool) {c : Bool} → c ≡ true → b || c ≡ true
+    or_last true e = refl
+    or_last false e = e
+
+pub end_passes : (s : Seat) (n w : Tree) → Row10 s n w → weight (Expr s) n < 2 ^ 64 → weight (Expr s) w < weight (Expr s) n → is_some (written s n) ≡ true
+end_passes s n w r small less =
+    let c : Tree = links_over r.others (linked true r.link (nothing r.is_null)) in
+    let same = ap (weight (Expr s)) r.shape in
+    let made = ap (weight (Expr s)) r.written in
+    ap (λ t. is_some (written s t)) r.shape
+    ∙ first_true (may_end s (chain c) && is_lighter s void_zero (chain c)) void_zero (folded_written s (chain c))
+    (both_true (may_end s (chain c)) (is_lighter s void_zero (chain c)) (both_true (is_unguarded s.guard) _ r.unguarded (both_true (ends_at_once c) (leaves_nothing c) (ends_passes r.others r.link r.is_null r.calm r.calm_others) r.dropped))
+    (lighter_test s void_zero (chain c) (omega (arith, small, same)) (omega (arith, less, same, made))))

@@ -37,7 +37,10 @@ use Rattle.mini_choices.specs.MinimizeConditionalBranches as branches
 use Rattle.mini_choices.specs.MinimizeHeldBranches as held
 use Rattle.mini_choices.specs.InjectOptionalChaining as chains
 use Rattle.mini_choices.specs.FoldChainExpr as folded
-use Rattle.mini_choices.proofs.ChainLinks.{chain_is, folded_row, folded_passes}
+use Rattle.mini_terms.specs.Reading.{is_unguarded}
+use Rattle.mini_terms.specs.Parts.{leaves_nothing}
+use Rattle.mini_rows.specs.Spellings.{void_zero}
+use Rattle.mini_choices.proofs.ChainLinks.{end_passes, chain_is, folded_row, folded_passes}
 use Rattle.mini_choices.proofs.OptionalChains.{chain_row, chain_passes}
 use Rattle.mini_choices.proofs.Trials.{some_is, not_true, both_true, tried, first_true, later_true, first_there, second_there, lighter_test}
 use Rattle.mini_choices.specs.SubstituteRotateLogicalExpression.{leftmost}
@@ -389,12 +392,12 @@ chain_there s n h =
 folded_there : (s : Seat) (n : Tree) → is_some (folded.written s n) ≡ true → is_some (written s n) ≡ true
 folded_there s n h = ap (λ t. is_some (written s t)) (chain_is n (chains n h)) ∙ sym (ap (λ t. is_some (folded.written s t)) (chain_is n (chains n h))) ∙ h
   where
-    first_of_two : (b c : Bool) (x : Option Tree) → is_some (if b && c then x else None) ≡ true → b ≡ true
-    first_of_two true c x e = refl
-    first_of_two false c x e = e
+    first_of_three : (b g c d : Bool) (x y : Option Tree) → is_some (if ((b && g) && c) && d then x else (if b && g then y else None)) ≡ true → b ≡ true
+    first_of_three true g c d x y e = refl
+    first_of_three false g c d x y e = e
 
     chains : (t : Tree) → is_some (folded.written s t) ≡ true → folded.is_chain t ≡ true
-    chains t e = first_of_two (folded.is_chain t) _ (folded.wrapped (folded.outcome (not s.new_callee) (part t 0)) (folded.folded (not s.new_callee) (part t 0))) e
+    chains t e = first_of_three (folded.is_chain t) (is_unguarded s.guard) (folded.ends_at_once (part t 0) && leaves_nothing (part t 0)) (branches.is_lighter s void_zero t) (Some void_zero) (folded.wrapped (folded.outcome (not s.new_callee) (part t 0)) (folded.folded (not s.new_callee) (part t 0))) e
 
 in_comparisons : (t : Tree) → is_some (first_of (nullish.written t) (object_test.written t)) ≡ true → is_some (first_of (rotate.written t) (first_of (decide.written t) (first_of (nullish.written t) (object_test.written t)))) ≡ true
 in_comparisons t h = second_there (rotate.written t) (first_of (decide.written t) (first_of (nullish.written t) (object_test.written t))) (second_there (decide.written t) (first_of (nullish.written t) (object_test.written t)) h)
@@ -448,7 +451,8 @@ passes s n w (inl r) small less = sure_passes s n w r
 passes s n w (inr (inl r)) small less = own_passes s n w r small less
 passes s n w (inr (inr (inl r))) small less = held_there s n (held_passes s n w small less r)
 passes s n w (inr (inr (inr (inl r)))) small less = chain_there s n (chain_passes s n w r)
-passes s n w (inr (inr (inr (inr (inr r))))) small less = folded_there s n (folded_passes s n w r)
+passes s n w (inr (inr (inr (inr (inr (inl r)))))) small less = folded_there s n (folded_passes s n w r)
+passes s n w (inr (inr (inr (inr (inr (inr r)))))) small less = folded_there s n (end_passes s n w r small less)
 passes s n w (inr (inr (inr (inr (inl r))))) small less =
     let t : Tree = conditional r.a (call false (identifier r.name) (r.p ▸ r.others)) (call false (identifier r.name) (r.q ▸ r.others)) in
     ap (λ t. is_some (written s t)) r.shape ∙ in_branches s t (by_called s t (called_passes n w r))

@@ -1,16 +1,19 @@
--- 64, `substitute_chain_expression`, and 11, `fold_chain_expr`: `(a?.b)?.c` becomes `a?.b?.c`, and `[1]?.length` becomes `[1].length`,
--- whatever links stand outside.
+-- 64, `substitute_chain_expression`, and 10 and 11, `fold_chain_expr`: `(a?.b)?.c` becomes `a?.b?.c`, `null?.a` becomes `void 0`, and
+-- `[1]?.length` becomes `[1].length`, whatever links stand outside.
 use Rattle.std.specs.Prelude.{Bool, true, false, not, ◌&&◌, ◌||◌, [], Option, Some, None, if◌then◌else◌}
 use Rattle.mini_model.specs.declared.seat.Seat.{Seat}
 use Rattle.mini_model.specs.declared.shape.Shape.{Shape}
 use Rattle.mini_model.specs.declared.shape.Shape.TheVariants as shape
 use Rattle.mini_model.specs.Tree.{Tree, Trees, node, none, ◌▸◌, absent, children, child_or_absent, shape_of}
 use Rattle.mini_node.specs.Children.{part, is_bare}
-use Rattle.mini_node.specs.Kinds.{is_listed}
-use Rattle.mini_terms.specs.Parts.{is_link}
+use Rattle.mini_node.specs.Kinds.{is_listed, is_null}
+use Rattle.mini_terms.specs.Parts.{is_link, leaves_nothing}
 use Rattle.mini_terms.specs.Reading.{is_unguarded, is_plain_part, stands}
+use Rattle.mini_rows.specs.Spellings.{void_zero}
 use Rattle.mini_rows.specs.Chains.{is_word_shape, is_calm, are_calm}
 use Rattle.mini_rows.specs.ChainLinks.{is_there, chain_if}
+use Rattle.mini_choices.specs.Forms.{is_void_zero}
+use Rattle.mini_choices.specs.MinimizeConditionalBranches.{is_lighter}
 
 abbrev pub is_chain_shape : Shape → Bool
 is_chain_shape shape.ChainExpression = true
@@ -94,5 +97,27 @@ wrapped None w = None
 abbrev pub is_read : Seat → Tree → Bool
 is_read s t = is_chain t && is_unguarded s.guard
 
+abbrev pub folded_written : Seat → Tree → Option Tree
+folded_written s t = if is_read s t then wrapped (outcome (not s.new_callee) (part t 0)) (folded (not s.new_callee) (part t 0)) else None
+
+-- ---- a chain over null or undefined
+
+-- `null` or `void 0`
+abbrev pub is_nothing : Tree → Bool
+is_nothing t = is_null t || is_void_zero t
+
+-- one of the links is optional over that
+abbrev mutual
+  pub ends_at_once : Tree → Bool
+  ends_at_once (node h xs n ts) = is_step (node h xs n ts) && ((is_marked h && is_nothing (child_or_absent ts 0)) || ends_in ts)
+
+  pub ends_in : Trees → Bool
+  ends_in none = false
+  ends_in (t ▸ ts) = ends_at_once t
+
+-- of a chain that ends at once, nothing is left behind
+abbrev pub may_end : Seat → Tree → Bool
+may_end s t = is_read s t && (ends_at_once (part t 0) && leaves_nothing (part t 0))
+
 abbrev pub written : Seat → Tree → Option Tree
-written s t = if is_read s t then wrapped (outcome (not s.new_callee) (part t 0)) (folded (not s.new_callee) (part t 0)) else None
+written s t = if may_end s t && is_lighter s void_zero t then Some void_zero else folded_written s t

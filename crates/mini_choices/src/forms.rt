@@ -20,8 +20,8 @@ fn is_zero(node: &Node) -> bool
     }
 }
 
-// `void 0`
-fn is_void_zero(node: &Node) -> bool
+/// `void 0`
+pub fn is_void_zero(node: &Node) -> bool
     ensures { result ≡ is_it_void_zero node.now }
 {
     match unary_operator(node) {

@@ -222,7 +222,7 @@ chains_kept q n w = along q n w (KeptAt (Expr q)) (λ r. joined_kept q r.others 
 -- ---- where they stand
 
 module _ (strict : Bool) (t : Tree) where
-  abbrev Inside : Type 0
+  abbrev pub Inside : Type 0
   Inside = (has_optional t ≡ true) × (fits strict (one a_chain) t ≡ true)
 
   nowhere : (s : Bool) (d : Depth) → filling s (one (a_statement d)) shape.ChainExpression ≡ refused
@@ -252,7 +252,7 @@ module _ (strict : Bool) (t : Tree) where
   chain_in (an_inner_key false) e = absurd (refused_here strict (one (an_inner_key false)) shape.ChainExpression [] 0 (t ▸ none) refl e)
   chain_in c e = absurd (refused_here strict (one c) shape.ChainExpression [] 0 (t ▸ none) refl e)
 
-  chain_at : (s : Slot) → fits strict s (chain t) ≡ true → TakesExpression s × Inside
+  pub chain_at : (s : Slot) → fits strict s (chain t) ≡ true → TakesExpression s × Inside
   chain_at (one c) e = chain_in c e
   chain_at (one_or_absent c) e = chain_in c e
   chain_at s e = absurd (refused_here strict s shape.ChainExpression [] 0 (t ▸ none) refl e)
@@ -401,7 +401,7 @@ over_number true ms o l t = refl
 over_number false [] o l t = link_number o l t
 over_number false (marked p m ∷ ms) o l t = link_number p m (links_over ms (linked o l t))
 
-chain_asked : (q : Seat) (t u : Tree) → is_not_positive_number u ≡ true → AskedAlike (Expr q) (chain t) u
+pub chain_asked : (q : Seat) (t u : Tree) → is_not_positive_number u ≡ true → AskedAlike (Expr q) (chain t) u
 chain_asked q t u e = record {
   absent = λ e. absurd (false≢true e);
   body = λ e. absurd (false≢true e);

@@ -53,7 +53,7 @@ module _ (s : Seat) (t w : Tree) (free : is_unguarded s.guard ≡ true) (i : is_
   by_demand Deleted f = absurd (guarded s.guard guard.Delete free f.2 refl)
   by_demand q f = record { by = λ r z j. weak D (means e w q r z) }
 
-chain_in_seat : (s : Seat) (t w : Tree) → is_unguarded s.guard ≡ true → is_item w ≡ true → ((e : Environment) (z : State) → value e (chain t) z ≡ value e w z) → SameAt (Expr s) (chain t) w
+pub chain_in_seat : (s : Seat) (t w : Tree) → is_unguarded s.guard ≡ true → is_item w ≡ true → ((e : Environment) (z : State) → value e (chain t) z ≡ value e w z) → SameAt (Expr s) (chain t) w
 chain_in_seat s t w free i h = record { by = λ e D X q f. by_demand s t w free i same e D X q f }
   where
     same : SameWanted (chain t) w
@@ -87,7 +87,7 @@ after_called e t (stop y z) f h = refl
 after_called e t (halt y z) f h = refl
 after_called e t out f h = refl
 
-abbrev plainly_called : Completion Value → Completion Called
+abbrev pub plainly_called : Completion Value → Completion Called
 plainly_called x = next x (λ v z. ok (plain_call v) z)
 
 -- both do the same, as a value and as what is called
@@ -148,7 +148,7 @@ present : (e : Environment) (x : Tree) → is_there x ≡ true → (s : State) �
 present e x h s = let (known, there) = and_parts (is_known (kind x)) (not (is_nullish_kind (kind x))) h in gives_map (OfKind (kind x)) Present (λ v p. present_by (kind x) v known there p) (value e x s) (kind_sound x e s)
 
 -- what is called is the value
-base_called : (e : Environment) (x : Tree) → stands x ≡ true → (s : State) → called e x s ≡ plainly_called (value e x s)
+pub base_called : (e : Environment) (x : Tree) → stands x ≡ true → (s : State) → called e x s ≡ plainly_called (value e x s)
 unfolding by_value
 base_called e x h s = read_by_value x h e Callee tt s
 

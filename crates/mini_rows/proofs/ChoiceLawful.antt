@@ -34,6 +34,7 @@ use Rattle.mini_rows.specs.Sketches.{Unary, Binary, Logical, Conditional, Assign
 use Rattle.mini_rows.specs.Spellings.{IsUndefined, void_zero, assignment}
 use Rattle.mini_rows.specs.Choices.{assign, deciding, strictly, loosely, joining, AreNullish, Row37, Row37After, asks_object, null_compared, held, ended, Row57, Row57Null, Row39, Row38, Row35, Row45, ChoiceRow, ChoiceContracts, Row46Equal, Row46Unequal, Row41Or, Row41And, Row42And, Row42Or, Row43Or, Row43And, Row43AndThen, Row43OrThen, Row49, LighterRow, OwnRow, HeldRow}
 use Rattle.mini_rows.proofs.ChainLinkLawful.{chains_kept}
+use Rattle.mini_rows.proofs.ChainEndKept.{end_kept}
 use Rattle.mini_rows.proofs.ArrangedExpressions.{expressions_arranged, expressions_arranged_freely}
 use Rattle.mini_rows.proofs.ArrangedLawful.{kept_is_lawful}
 use Rattle.mini_rows.proofs.ChainLawful.{chain_row_kept}
@@ -299,7 +300,8 @@ expression_kept q n w (inr (inl r)) = own_kept q n w r
 expression_kept q n w (inr (inr (inl r))) = held_kept q n w r
 expression_kept q n w (inr (inr (inr (inl r)))) = chain_row_kept q n w r (undefined_vanishes r.missing r.undefined)
 expression_kept q n w (inr (inr (inr (inr (inl r))))) = calls_kept q n w r
-expression_kept q n w (inr (inr (inr (inr (inr r))))) = chains_kept q n w r
+expression_kept q n w (inr (inr (inr (inr (inr (inl r)))))) = chains_kept q n w r
+expression_kept q n w (inr (inr (inr (inr (inr (inr r)))))) = end_kept q n w r
 
 kept : (p : Position) (n w : Tree) → ChoiceRow p n w → KeptAt p n w
 kept (Expr q) n w r = expression_kept q n w r

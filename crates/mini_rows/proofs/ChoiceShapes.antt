@@ -20,6 +20,7 @@ use Rattle.mini_kept.proofs.Expressions.{expression, ThreeFit, of_conditional, T
 use Rattle.mini_rows.specs.Spellings.{binary, assignment}
 use Rattle.mini_rows.specs.Choices.{assign, joined, strictly, loosely, joining, asks_object, null_compared, held, ended, deciding, ChoiceRow, pair, Row44, LighterRow, OwnRow, HeldRow}
 use Rattle.mini_rows.proofs.ChainLinkLawful.{chains_fit, chains_asked, chains_slot}
+use Rattle.mini_rows.proofs.ChainEnds.{end_fits, end_asked, end_slot}
 use Rattle.mini_rows.proofs.ChainLawful.{chain_row_fits, chain_row_asked, chain_row_slot}
 use Rattle.mini_rows.proofs.ChoiceCalls.{calls_fit}
 use Rattle.mini_rows.proofs.SpellShapes.{Form, a_binary, an_assignment, a_logical, a_conditional, shaped, Kind, Alone, Linked, Ending, Assigned, Nowhere, kind_of, kind_in, filled, fits_is, Formed, formed_asked, formed_slot}
@@ -280,7 +281,8 @@ row_fits (Expr q) n w (inr (inl r)) strict s e = own_fits strict s n w r e
 row_fits (Expr q) n w (inr (inr (inl r))) strict s e = held_fits strict s n w r e
 row_fits (Expr q) n w (inr (inr (inr (inl r)))) strict s e = chain_row_fits q n w r strict s e
 row_fits (Expr q) n w (inr (inr (inr (inr (inl r))))) strict s e = called_fits strict s n w r e
-row_fits (Expr q) n w (inr (inr (inr (inr (inr r))))) strict s e = chains_fit q n w r strict s e
+row_fits (Expr q) n w (inr (inr (inr (inr (inr (inl r)))))) strict s e = chains_fit q n w r strict s e
+row_fits (Expr q) n w (inr (inr (inr (inr (inr (inr r)))))) strict s e = end_fits q n w r strict s e
 row_fits p n w r strict s e = absurd r
 
 pub row_asked : (p : Position) (n w : Tree) → ChoiceRow p n w → AskedAlike p n w
@@ -289,7 +291,8 @@ row_asked (Expr q) n w (inr (inl r)) = choosing_asked (Expr q) n w (own_choosing
 row_asked (Expr q) n w (inr (inr (inl r))) = choosing_asked (Expr q) n w (held_choosing n w r)
 row_asked (Expr q) n w (inr (inr (inr (inl r)))) = chain_row_asked q n w r
 row_asked (Expr q) n w (inr (inr (inr (inr (inl r))))) = choosing_asked (Expr q) n w (called_choosing n w r)
-row_asked (Expr q) n w (inr (inr (inr (inr (inr r))))) = chains_asked q n w r
+row_asked (Expr q) n w (inr (inr (inr (inr (inr (inl r)))))) = chains_asked q n w r
+row_asked (Expr q) n w (inr (inr (inr (inr (inr (inr r)))))) = end_asked q n w r
 row_asked p n w r = absurd r
 
 pub row_slot : (p : Position) (n w : Tree) → ChoiceRow p n w → (strict : Bool) (s : Slot) → fits strict s n ≡ true → is_body_slot p s ≡ true
@@ -298,5 +301,6 @@ row_slot (Expr q) n w (inr (inl r)) = formed_slot (Expr q) n n (chosen_formed n 
 row_slot (Expr q) n w (inr (inr (inl r))) = formed_slot (Expr q) n n (chosen_formed n w (held_choosing n w r))
 row_slot (Expr q) n w (inr (inr (inr (inl r)))) = chain_row_slot q n w r
 row_slot (Expr q) n w (inr (inr (inr (inr (inl r))))) = formed_slot (Expr q) n n (chosen_formed n w (called_choosing n w r))
-row_slot (Expr q) n w (inr (inr (inr (inr (inr r))))) = chains_slot q n w r
+row_slot (Expr q) n w (inr (inr (inr (inr (inr (inl r)))))) = chains_slot q n w r
+row_slot (Expr q) n w (inr (inr (inr (inr (inr (inr r)))))) = end_slot q n w r
 row_slot p n w r = absurd r

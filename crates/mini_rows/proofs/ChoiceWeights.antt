@@ -23,6 +23,7 @@ use Rattle.mini_rows.specs.Spellings.{binary, assignment}
 use Rattle.mini_rows.specs.Choices.{asks_object, null_compared, held, ended, assign, is_same_operator, is_grouped, joined, strictly, loosely, joining, AreNullish, deciding, computing, LighterRow, OwnRow, HeldRow, ChoiceRow, ChoiceContracts, ChoicesLighter}
 use Rattle.mini_rows.specs.Chains.{spine, chain, if_nullish}
 use Rattle.mini_rows.proofs.ChainLinkLawful.{chains_outline}
+use Rattle.mini_rows.proofs.ChainEnds.{end_outline}
 use Rattle.mini_rows.proofs.SpellWeights.{falls_by}
 
 -- what a place adds to a node that is neither awkward nor mixed
@@ -344,7 +345,8 @@ outline_by_row (Expr s) n w (inl r) = lighter_outline s n w r
 outline_by_row (Expr s) n w (inr (inl r)) = own_outline n w r
 outline_by_row (Expr s) n w (inr (inr (inl r))) = held_outline n w r
 outline_by_row (Expr s) n w (inr (inr (inr (inr (inl r))))) = ap outline r.shape ∙ sym (ap outline r.written)
-outline_by_row (Expr s) n w (inr (inr (inr (inr (inr r))))) = chains_outline s n w r
+outline_by_row (Expr s) n w (inr (inr (inr (inr (inr (inl r)))))) = chains_outline s n w r
+outline_by_row (Expr s) n w (inr (inr (inr (inr (inr (inr r)))))) = end_outline s n w r
 outline_by_row (Expr s) n w (inr (inr (inr (inl r)))) = chain_outline r.equal r.name r.missing (spine false (identifier r.name) r.last r.others) (spine true (identifier r.name) r.last r.others) n w r.shape r.written
 outline_by_row p n w r = absurd r
 

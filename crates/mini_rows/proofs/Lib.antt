@@ -90,6 +90,8 @@ pub mod ChainLinkMeaning
 mod ChainHoles
 pub mod ChainLawful
 pub mod ChainLinkLawful
+mod ChainEnds
+mod ChainEndKept
 mod ChoiceItems
 mod ChoiceFree
 pub mod ChoiceWeights

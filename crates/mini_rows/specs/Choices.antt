@@ -21,7 +21,7 @@ use Rattle.mini_terms.specs.Reading.{is_item}
 use Rattle.mini_rows.specs.Lists.{sequence}
 use Rattle.mini_rows.specs.Spellings.{IsUndefined, binary, text, assignment}
 use Rattle.mini_rows.specs.Chains.{Row46Chain}
-use Rattle.mini_rows.specs.ChainLinks.{ChainRow}
+use Rattle.mini_rows.specs.ChainLinks.{ChainRow, Row10}
 
 -- Reading definitions
 
@@ -323,7 +323,7 @@ HeldRow n w = Row42And n w ⊎ (Row42Or n w ⊎ (Row43Or n w ⊎ (Row43And n w �
 
 -- a row of choices reads n as w at this place
 abbrev pub ChoiceRow : Position → Tree → Tree → Type 0
-ChoiceRow (Expr s) n w = LighterRow s n w ⊎ (OwnRow n w ⊎ (HeldRow n w ⊎ (Row46Chain s n w ⊎ (Row44 n w ⊎ ChainRow s n w))))
+ChoiceRow (Expr s) n w = LighterRow s n w ⊎ (OwnRow n w ⊎ (HeldRow n w ⊎ (Row46Chain s n w ⊎ (Row44 n w ⊎ (ChainRow s n w ⊎ Row10 s n w)))))
 ChoiceRow _ n w = ⊥
 
 -- what it writes, where it weighs less

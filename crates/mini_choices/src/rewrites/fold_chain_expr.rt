@@ -1,17 +1,22 @@
-//! Rows 64 and 11, of optional chains by what stands before a `?.` of theirs: `(a?.b)?.c` becomes `a?.b?.c`, and `[1]?.length` becomes
-//! `[1].length`. Both are lighter in every seat.
+//! Rows 10, 11 and 64, of optional chains by what stands before a `?.` of theirs: `(a?.b)?.c` becomes `a?.b?.c`, and `[1]?.length`
+//! becomes `[1].length`, which is lighter in every seat; `null?.a` becomes `void 0`, where that is lighter.
 
 ghost use Rattle.std.specs.Prelude.{◌≡◌, [], true, is_some, unwrap_or, OnOk, IfOk};
 ghost use Rattle.mini_model.specs.Tree.{children, count, node as tree, none, ◌▸◌, shape_of};
 ghost use Rattle.mini_node.specs.Children.{part};
 ghost use Rattle.mini_terms.specs.Parts.{is_link as is_link_shape};
 ghost use Rattle.mini_rows.specs.ChainLinks.{is_there as is_it_there, chain_if};
-ghost use Rattle.mini_choices.specs.FoldChainExpr.{is_chain as is_it_chain, ends_none as ends_it_none, is_step as is_it_step, is_marked as is_it_marked, link_shape as shape_of_link, relinked as relinked_of, holds_link as holds_it_link, is_value as is_it_value, folds_here as folds_it_here, here, outcome as outcome_of, folded as folded_of, is_read as is_it_read, written};
+ghost use Rattle.mini_rows.specs.Spellings.{void_zero as void_zero_of};
+ghost use Rattle.mini_choices.specs.FoldChainExpr.{is_chain as is_it_chain, ends_none as ends_it_none, is_step as is_it_step, is_marked as is_it_marked, link_shape as shape_of_link, relinked as relinked_of, holds_link as holds_it_link, is_value as is_it_value, folds_here as folds_it_here, here, outcome as outcome_of, folded as folded_of, is_read as is_it_read, folded_written, is_nothing as is_it_nothing, ends_at_once as ends_it_at_once, may_end as may_it_end, written};
 
+use crate::forms::is_void_zero;
 use crate::rewrites::inject_optional_chaining::{are_calm, is_calm, is_unguarded, is_word};
-use mini_model::{LogicalOperator, OutOfMemory, Seat, Shape};
-use mini_node::{Node, is_listed, of_one, of_two, one, taken, two};
-use mini_terms::{is_plain_part, stands, stops};
+use mini_model::{LogicalOperator, OutOfMemory, Seat, Shape, UnaryOperator};
+use mini_node::{
+    Node, is_listed, is_null, numeric_literal, of_one, of_two, one, taken, two, unary,
+};
+use mini_terms::{is_plain_part, leaves_nothing, stands, stops};
+use mini_tree::expr_weight;
 use std::alloc::Global;
 
 fn is_chain(node: &Node) -> bool
@@ -184,12 +189,10 @@ fn is_read(node: &Node, seat: Seat) -> bool
     is_chain(node) && is_unguarded(seat)
 }
 
-/// `(a?.b)?.c` becomes `a?.b?.c`, and `[1]?.length` becomes `[1].length`, where what stands before `?.` is known to be neither undefined
-/// nor null; whatever links stand outside. The answer says whether it did; the only error is that memory runs out, and then the
-/// expression is fit only to be dropped.
-pub fn fold_chain_expr(alloc: Global, node: &mut Node, seat: Seat) -> Result<bool, OutOfMemory>
-    ensures tree { OnOk result (node.new ≡ unwrap_or (written seat node.old) node.old) }
-    ensures said { IfOk result (λ changed. changed ≡ is_some (written seat node.old)) }
+// `(a?.b)?.c` becomes `a?.b?.c`, and `[1]?.length` becomes `[1].length`.
+fn fold_links(alloc: Global, node: &mut Node, seat: Seat) -> Result<bool, OutOfMemory>
+    ensures tree { OnOk result (node.new ≡ unwrap_or (folded_written seat node.old) node.old) }
+    ensures said { IfOk result (λ changed. changed ≡ is_some (folded_written seat node.old)) }
 {
     if !is_read(node, seat) {
         return Ok(false);
@@ -203,4 +206,53 @@ pub fn fold_chain_expr(alloc: Global, node: &mut Node, seat: Seat) -> Result<boo
         }
         None => Ok(false),
     }
+}
+
+// `null` or `void 0`
+fn is_nothing(node: &Node) -> bool
+    ensures { result ≡ is_it_nothing node.now }
+{
+    is_null(node) || is_void_zero(node)
+}
+
+// One of the links is optional over that.
+#[tactic(auto, using(crate::proofs::ChainLinks::none_ends, crate::proofs::ChainLinks::below_ends))]
+fn ends_at_once(node: &Node) -> bool
+    ensures { result ≡ ends_it_at_once node.now }
+{
+    if !is_step(node) {
+        return false;
+    }
+    let before = node.child(0);
+    (is_marked(node) && is_nothing(before)) || ends_at_once(before)
+}
+
+// Of a chain that ends at once, nothing is left behind.
+fn may_end(node: &Node, seat: Seat) -> bool
+    ensures { result ≡ may_it_end seat node.now }
+{
+    is_read(node, seat) && ends_at_once(node.child(0)) && leaves_nothing(node.child(0))
+}
+
+fn void_zero(alloc: Global) -> Result<Node, OutOfMemory>
+    ensures { IfOk result (λ w. w ≡ void_zero_of) }
+{
+    unary(alloc, UnaryOperator::Void, numeric_literal(alloc, 0))
+}
+
+/// `(a?.b)?.c` becomes `a?.b?.c`; `[1]?.length` becomes `[1].length`, where what stands before `?.` is known to be neither undefined nor
+/// null; and `null?.a` becomes `void 0`, where that is lighter; whatever links stand outside. The answer says whether it did; the only
+/// error is that memory runs out, and then the expression is fit only to be dropped.
+pub fn fold_chain_expr(alloc: Global, node: &mut Node, seat: Seat) -> Result<bool, OutOfMemory>
+    ensures tree { OnOk result (node.new ≡ unwrap_or (written seat node.old) node.old) }
+    ensures said { IfOk result (λ changed. changed ≡ is_some (written seat node.old)) }
+{
+    if may_end(node, seat) {
+        let made = void_zero(alloc)?;
+        if expr_weight(&made, seat) < expr_weight(node, seat) {
+            *node = made;
+            return Ok(true);
+        }
+    }
+    fold_links(alloc, node, seat)
 }
