@@ -28,6 +28,7 @@ pub mod ListBegun
 pub mod ListKeptBegun
 pub mod ListEach
 pub mod ListKeptEach
+pub mod ListKeptLeaps
 pub mod ListLoops
 pub mod ListEnds
 pub mod ListTails

@@ -555,7 +555,7 @@ module _ (ds : Trees) (x y : Name) (es : Trees) (value : Tree) (b : Beginning) w
   stretched_one : ((strict : Bool) (k : Depth) → fill strict (each (one (a_statement k))) read ≡ true → LeftValue b) → Stretched read put
   stretched_one values = record {
     named = λ strict k f. names_one (values strict k f);
-    calm = ((refl, refl), left_calm b);
+    calm = λ strict k f. ((refl, refl), left_calm b);
     inner = λ c. freely Any (InnerIf c) (inner_local c) (λ s e d. inner_seat s e d c) (inner_given ds x es value c);
     inner_back = λ c. backward (InnerIf c) (inner_local c) (λ s e d. inner_seat s e d c) (inner_target c) (inner_taken ds x es value c);
     fixed = λ z k. freely Any (FixedBy z k) (fixed_local z k) (λ s e d. fixed_seat s e d z k) (fixed_given ds x es value z k);

@@ -391,7 +391,7 @@ module _ (k : VariableDeclarationKind) where
     pub stretched_one : Stretched two one
     stretched_one = record {
       named = λ strict d e. names_one;
-      calm = ((refl, refl), tt);
+      calm = λ strict k f. ((refl, refl), tt);
       inner = λ x. one_of Any (InnerIf x) (InnerIf x) (inner_local x) (λ ts. subst (λ c. (c || x) ≡ x) (inner_is (listed ts))) (λ ts. subst (λ c. (c || x) ≡ x) (sym (inner_is (listed ts))));
       inner_back = λ x. two_of Any (InnerIf x) (InnerIf x) (inner_local x) (λ ts. subst (λ c. (c || x) ≡ x) (inner_is (listed ts))) (λ ts. subst (λ c. (c || x) ≡ x) (sym (inner_is (listed ts))));
       fixed = fixed_one;

@@ -199,7 +199,7 @@ module _ (x y : Name) (right body : Tree) where
     stretched_one : Stretched two one
     stretched_one = record {
       named = λ strict d f. named;
-      calm = (each_calm k, tt);
+      calm = λ strict d f. (each_calm k, tt);
       inner = λ b a. (ap (λ c. c || b) (inner_same k) ∙ a.1.0, tt);
       inner_back = λ b a. (ap (λ c. c || b) no_inner, (ap (λ c. c || b) (sym (inner_same k)) ∙ a.0, tt));
       fixed = λ z m a. (subst (λ f. rank f ≤ m) (sym (fixed_same k z)) a.1.0, tt);

@@ -431,7 +431,7 @@ module _ (s : Seat) (e d j : Tree) (joins : Joins e d j) where
     stretched_one : Stretched two one_there
     stretched_one = record {
       named = λ strict k f. let (x, y) = values strict k f in names_one x y;
-      calm = (seated_calm s j, tt);
+      calm = λ strict k f. (seated_calm s j, tt);
       inner = λ b. one_of Any (InnerIf b) (inner_local b) ((any_inner (rest s) || b) ≡ b) (inner_down b s d) (inner_up b s j);
       inner_back = λ b. two_of (InnerIf b) (inner_local b) ((any_inner (rest s) || b) ≡ b) (inner_down b s j) (inner_up b s d);
       fixed = λ x k. one_of Any (FixedBy x k) (fixed_local x k) (rank (fixed_by_any (rest s) x) ≤ k) (fixed_down x k s d) (fixed_up x k s j);

@@ -317,7 +317,7 @@ module _ (l w : Tree) where
       stretched_one : Stretched two one_there
       stretched_one = record {
         named = λ strict k f. let (x, y) = values strict k f in names_one (plain strict k f) x y;
-        calm = ((refl, refl), tt);
+        calm = λ strict k f. ((refl, refl), tt);
         inner = λ b. one_of Any (InnerIf b) (inner_local b) (InnerBeside b) (inner_down b d) (inner_up b j);
         inner_back = λ b. two_of (InnerIf b) (inner_local b) (InnerBeside b) (inner_down b j) (inner_up b d);
         fixed = λ x k. one_of Any (FixedBy x k) (fixed_local x k) (FixedBeside x k) (fixed_down x k d) (fixed_up x k j);

@@ -136,7 +136,7 @@ pub record NamesStretched (a b : Trees) : Type 0 where
 
 pub record Stretched (a b : Trees) : Type 0 where
   pub named : (strict : Bool) (d : Depth) → fill strict (each (one (a_statement d))) a ≡ true → NamesStretched a b
-  pub calm : All Valued AsWholeItem b
+  pub calm : (strict : Bool) (d : Depth) → fill strict (each (one (a_statement d))) a ≡ true → All Valued AsWholeItem b
   pub inner : (x : Bool) → All (InnerIf x) AsWholeItem a → All (InnerIf x) AsWholeItem b
   pub inner_back : (x : Bool) → All (InnerIf x) AsWholeItem b → All (InnerIf x) AsWholeItem a
   pub fixed : (x : Variable) (k : ℕ) → All (FixedBy x k) AsWholeItem a → All (FixedBy x k) AsWholeItem b
@@ -156,7 +156,7 @@ both_fit strict s (t ▸ a) b e =
     let (z, w) = both_fit strict s a b y in
     (ap (λ c. c && fill strict (each s) a) x ∙ z, w)
 
-all_calm : (strict : Bool) (d : Depth) (ts : Trees) → fill strict (each (one (a_statement d))) ts ≡ true → All Valued AsWholeItem ts
+pub all_calm : (strict : Bool) (d : Depth) (ts : Trees) → fill strict (each (one (a_statement d))) ts ≡ true → All Valued AsWholeItem ts
 all_calm strict d none e = tt
 all_calm strict d (t ▸ ts) e =
     let (x, y) = and_parts (fits strict (one (a_statement d)) t) (fill strict (each (one (a_statement d))) ts) e in
@@ -232,7 +232,7 @@ module _ (before after a b : Trees) (k : Stretched a b) where
   put_calm : (strict : Bool) (d : Depth) → fill strict (each (one (a_statement d))) (append before (append a after)) ≡ true → All Valued AsWholeItem (append before (append b after))
   put_calm strict d e =
       let (x, y) = both_fit strict (one (a_statement d)) before (append a after) e in
-      both_all Any Valued AsWholeItem before (append b after) (all_calm strict d before x) (both_all Any Valued AsWholeItem b after k.calm (all_calm strict d after (both_fit strict (one (a_statement d)) a after y).1))
+      both_all Any Valued AsWholeItem before (append b after) (all_calm strict d before x) (both_all Any Valued AsWholeItem b after (k.calm strict d (both_fit strict (one (a_statement d)) a after y).0) (all_calm strict d after (both_fit strict (one (a_statement d)) a after y).1))
 
   whole_bodies : (r : Around) (strict : Bool) (d : Depth) → fill strict (each (one (a_statement d))) (append before (append a after)) ≡ true → BodiesKept (bodies r n) (bodies r w)
   whole_bodies r strict d e =

@@ -185,7 +185,7 @@ module _ (u v w : Tree) (ds : Trees) (d j : Tree) (m : Merges ds d j) where
   stretched_one : Stretched two one
   stretched_one = record {
     named = λ strict k f. names_one;
-    calm = (seated_calm s j, tt);
+    calm = λ strict k f. (seated_calm s j, tt);
     inner = λ x a. let (y, r) = inner_down x s d a.1.0 in (inner_up x s j (m.inner x a.0 y) r, tt);
     inner_back = λ x a. let (y, r) = inner_down x s j a.0 in let (p, q) = m.inner_back x y in (p, (inner_up x s d q r, tt));
     fixed = λ x k a. let (y, r) = fixed_down x k s d a.1.0 in (fixed_up x k s j (m.fixed x k a.0 y) r, tt);

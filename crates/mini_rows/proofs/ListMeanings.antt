@@ -20,7 +20,7 @@ use Rattle.mini_laws.proofs.Runs.{either_cong, either_assoc, either_eta, either_
 use Rattle.mini_laws.proofs.Truth.{coherent}
 use Rattle.mini_laws.proofs.Rows.{Equal, equal_same}
 use Rattle.mini_rows.specs.Switches.{Switches}
-use Rattle.mini_rows.specs.Lists.{declares_nothing, is_one_part_shape, are_parts, of_parts, block, return_statement, throw_statement, switch, for_loop, for_in, declaration, or_void, Head, Return, Throw, If, Switch, For, with_head, Row66Empty, Row66Joined, Row67, Row67Absent, Row67In, Row68, Row68Free, Row68Init, Row73, Row73Bare, Row76, Row79, SequencesRow, LoopRow, JoinRow, StretchRow, InList, ListRow, Row74, NeighbourRow, Saying, AsStatement, AsReturn, AsThrow, says, Row77, is_unscoped, sequence, resolved, assigned, Statement, Heading, Beginning, Alone, Init, Before, begun, begun_without, begins_well, Row70, Each, EachIn, EachOf, Row69}
+use Rattle.mini_rows.specs.Lists.{declares_nothing, is_one_part_shape, are_parts, of_parts, block, return_statement, throw_statement, switch, for_loop, for_in, declaration, or_void, Head, Return, Throw, If, Switch, For, with_head, Row66Empty, Row66Joined, Row67, Row67Absent, Row67In, Row68, Row68Free, Row68Init, Row73, Row73Bare, Row76, Row79, SequencesRow, LoopRow, JoinRow, StretchRow, InList, ListRow, Row74, NeighbourRow, Saying, AsStatement, AsReturn, AsThrow, says, Row77, Leap, Breaks, Continues, leap, Row77Leap, is_unscoped, sequence, resolved, assigned, Statement, Heading, Beginning, Alone, Init, Before, begun, begun_without, begins_well, Row70, Each, EachIn, EachOf, Row69}
 use Rattle.mini_rows.specs.ListLaws.{ListsMeanSame}
 use Rattle.mini_rows.proofs.ListStretches.{ReadSame, SameStretch, exec_one, exec_two, listed_is, in_list, list_does, list_reads, replaced, read_in_list}
 use Rattle.mini_rows.proofs.ListParts.{joined_is}
@@ -277,6 +277,16 @@ row_77 a b r = replaced a _ b _ r.shape r.written (record {
   read = read_in_list (r.first ▸ none) (says r.saying r.e ▸ none) none none (one_unscoped (says r.saying r.e) (says_unscoped r.saying r.e));
 })
 
+leap_unscoped : (l : Leap) → is_unscoped (leap l) ≡ true
+leap_unscoped Breaks = refl
+leap_unscoped Continues = refl
+
+row_77_leap : (a b : Trees) → Row77Leap a b → SameStretch a b
+row_77_leap a b r = replaced a _ b _ r.shape r.written (record {
+  by = λ e s. exec_two e r.first (leap r.leaping) s ∙ never_goes (means e r.first (Stat None) [] s) (ended_tree e r.first r.terminated [] s) _ ∙ sym (exec_one e r.first s);
+  read = read_in_list (r.first ▸ none) (leap r.leaping ▸ none) none none (one_unscoped (leap r.leaping) (leap_unscoped r.leaping));
+})
+
 -- `var a; a = b;`
 
 then_same : (a b c : Trees) → SameStretch a b → SameStretch b c → SameStretch a c
@@ -340,7 +350,8 @@ row_69 k a b r = replaced a _ b _ r.shape r.written (each_enters k r.spelling r.
 neighbours_same : (o : Switches) (a b : Trees) → NeighbourRow o a b → SameStretch a b
 neighbours_same o a b (inl r) = stretch_same o a b r
 neighbours_same o a b (inr (inl (s, inl r))) = row_74 a b r
-neighbours_same o a b (inr (inl (s, inr r))) = row_77 a b r
+neighbours_same o a b (inr (inl (s, inr (inl r)))) = row_77 a b r
+neighbours_same o a b (inr (inl (s, inr (inr r)))) = row_77_leap a b r
 neighbours_same o a b (inr (inr (inl r))) = row_70 a b r
 neighbours_same o a b (inr (inr (inr (inl r)))) = row_69 EachOf a b r
 neighbours_same o a b (inr (inr (inr (inr r)))) = row_69 EachIn a b r.1

@@ -16,7 +16,7 @@ use Rattle.mini_kept.proofs.Bools.{left, right, both}
 use Rattle.mini_kept.proofs.Expressions.{expression_taken, two_fit}
 use Rattle.mini_kept.proofs.Placed.{statements_slot}
 use Rattle.mini_rows.specs.Switches.{Switches}
-use Rattle.mini_rows.specs.Lists.{block, sequence, return_statement, throw_statement, switch, for_loop, declaration, or_void, void_zero, of_parts, is_one_part, are_parts, is_unscoped, are_unscoped, Head as ListHead, Return, Throw, If, Switch, For, with_head, for_in, SequencesRow, LoopRow, JoinRow, StretchRow, InList, NeighbourRow, says, resolved, binding, declarator, assigned, declares_nothing, Statement, Heading, Beginning, Alone, Init, Before, begun, begun_without, begins_well, Each, EachIn, EachOf, each_loop, bare_var}
+use Rattle.mini_rows.specs.Lists.{block, sequence, return_statement, throw_statement, switch, for_loop, declaration, or_void, void_zero, of_parts, is_one_part, are_parts, is_unscoped, are_unscoped, Head as ListHead, Return, Throw, If, Switch, For, with_head, for_in, SequencesRow, LoopRow, JoinRow, StretchRow, InList, NeighbourRow, says, leap, resolved, binding, declarator, assigned, declares_nothing, Statement, Heading, Beginning, Alone, Init, Before, begun, begun_without, begins_well, Each, EachIn, EachOf, each_loop, bare_var}
 
 abbrev pub expression : Slot
 expression = one an_expression
@@ -442,7 +442,8 @@ module _ (strict : Bool) where
   neighbours_fit o a b (inr (inr (inr (inr r)))) = like r.1.shape r.1.written (each_fit EachIn (resolved r.1.spelling r.1.symbol) (resolved r.1.target r.1.symbol) r.1.right r.1.body)
   neighbours_fit o a b (inr (inr (inl r))) = like r.shape r.written (begun_fit r.ds (resolved r.spelling r.symbol) (resolved r.target r.symbol) r.es r.value r.beginning r.plain r.parts)
   neighbours_fit o a b (inr (inl (s, inl r))) = like r.shape r.written (guards_fit r.left r.right r.s r.u)
-  neighbours_fit o a b (inr (inl (s, inr r))) = like r.shape r.written (λ d e. just d r.first (two_of d r.first (says r.saying r.e) e).0)
+  neighbours_fit o a b (inr (inl (s, inr (inl r)))) = like r.shape r.written (λ d e. just d r.first (two_of d r.first (says r.saying r.e) e).0)
+  neighbours_fit o a b (inr (inl (s, inr (inr r)))) = like r.shape r.written (λ d e. just d r.first (two_of d r.first (leap r.leaping) e).0)
 
 -- a list, with the stretch in it
 pub list_fits : (o : Switches) (n w : Tree) → InList (NeighbourRow o) n w → (strict : Bool) (s : Slot) → fits_place StatementList s ≡ true → fits strict s n ≡ true → fits strict s w ≡ true

@@ -23,7 +23,7 @@ use Rattle.mini_laws.specs.Weights.{counts_items}
 use Rattle.mini_laws.proofs.Seats.{is_inner, placed, placed_node, moved}
 use Rattle.mini_node.specs.Walks.{append_none}
 use Rattle.mini_rows.specs.Switches.{Switches}
-use Rattle.mini_rows.specs.Lists.{of_parts, is_one_part_shape, declares_nothing, are_parts, sequence, or_void, return_statement, throw_statement, is_unscoped, Head, Return, Throw, If, Switch, For, with_head, Row66Empty, Row66Joined, Row67, Row67Absent, Row67In, Row68, Row68Free, Row68Init, Row73, Row73Bare, Row76, Row79, SequencesRow, LoopRow, JoinRow, StretchRow, InList, ListRow, ListsLighter, Row74, Row75, Row78, block, alternate_of, bare_return, AtEnd, EndRow, NeighbourRow, Saying, AsStatement, AsReturn, AsThrow, says, Row77, declaration, resolved, binding, declarator, assigned, Holder, Statement, Heading, holding, Beginning, Alone, Init, Before, begun, begun_without, Row70, Each, EachIn, EachOf, each_loop, bare_var, Row69}
+use Rattle.mini_rows.specs.Lists.{of_parts, is_one_part_shape, declares_nothing, are_parts, sequence, or_void, return_statement, throw_statement, is_unscoped, Head, Return, Throw, If, Switch, For, with_head, Row66Empty, Row66Joined, Row67, Row67Absent, Row67In, Row68, Row68Free, Row68Init, Row73, Row73Bare, Row76, Row79, SequencesRow, LoopRow, JoinRow, StretchRow, InList, ListRow, ListsLighter, Row74, Row75, Row78, block, alternate_of, bare_return, AtEnd, EndRow, NeighbourRow, Saying, AsStatement, AsReturn, AsThrow, says, Row77, Leap, Breaks, Continues, leap, Row77Leap, declaration, resolved, binding, declarator, assigned, Holder, Statement, Heading, holding, Beginning, Alone, Init, Before, begun, begun_without, Row70, Each, EachIn, EachOf, each_loop, bare_var, Row69}
 use Rattle.mini_rows.specs.ListLaws.{ListsLighten}
 
 -- the statements of a list, wherever in it they stand
@@ -311,6 +311,13 @@ says_weighs AsThrow e = omega arith
 row_77 : (a b : Trees) → Row77 a b → Falls a b
 row_77 a b r = let more = says_weighs r.saying r.e in replaced a _ b _ r.shape r.written (record { lighter = omega (arith, more); chosen = inl refl; some = λ e. omega (arith, e) })
 
+leap_weighs : (l : Leap) → 0 < weight (Stmt stmt_seat.List) (leap l)
+leap_weighs Breaks = omega arith
+leap_weighs Continues = omega arith
+
+row_77_leap : (a b : Trees) → Row77Leap a b → Falls a b
+row_77_leap a b r = let more = leap_weighs r.leaping in replaced a _ b _ r.shape r.written (record { lighter = omega (arith, more); chosen = inl refl; some = λ e. omega (arith, e) })
+
 -- `var a; a = b;`
 
 -- what is left of a sequence weighs no more alone
@@ -424,7 +431,8 @@ stretch_falls o a b (inr (inr (inr r))) = sequences_fall a b r.1
 neighbours_fall : (o : Switches) (a b : Trees) → NeighbourRow o a b → Falls a b
 neighbours_fall o a b (inl r) = stretch_falls o a b r
 neighbours_fall o a b (inr (inl (s, inl r))) = row_74 a b r
-neighbours_fall o a b (inr (inl (s, inr r))) = row_77 a b r
+neighbours_fall o a b (inr (inl (s, inr (inl r)))) = row_77 a b r
+neighbours_fall o a b (inr (inl (s, inr (inr r)))) = row_77_leap a b r
 neighbours_fall o a b (inr (inr (inl r))) = row_70 a b r
 neighbours_fall o a b (inr (inr (inr (inl r)))) = row_69 EachOf a b r
 neighbours_fall o a b (inr (inr (inr (inr r)))) = row_69 EachIn a b r.1

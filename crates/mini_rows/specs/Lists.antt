@@ -385,6 +385,23 @@ pub record Row77 (a b : Trees) : Type 0 where
   pub shape : a ≡ first ▸ (says saying e ▸ none)
   pub written : b ≡ first ▸ none
 
+-- `break;` and `continue;`
+pub data Leap : Type 0 where
+  Breaks : Leap
+  Continues : Leap
+
+abbrev pub leap : Leap → Tree
+leap Breaks = node shape.BreakStatement [] 0 (absent ▸ none)
+leap Continues = node shape.ContinueStatement [] 0 (absent ▸ none)
+
+-- 77: `return a; break;` becomes `return a;`, and so with `continue;`
+pub record Row77Leap (a b : Trees) : Type 0 where
+  pub first : Tree
+  pub leaping : Leap
+  pub terminated : is_terminated first ≡ true
+  pub shape : a ≡ first ▸ (leap leaping ▸ none)
+  pub written : b ≡ first ▸ none
+
 -- a declarator without an initializer
 abbrev pub is_declarator_shape : Shape → Bool
 is_declarator_shape shape.VariableDeclarator = true
@@ -522,7 +539,7 @@ StretchRow o a b = Row66Empty a b ⊎ (Row79 a b ⊎ (JoinRow o a b ⊎ ((o.sequ
 
 -- those on a jump and what follows: on an `if` that ends in one and the next one that has its branch, and on what never runs
 abbrev pub GuardsRow : Switches → Trees → Trees → Type 0
-GuardsRow o a b = (o.sequences ≡ true) × (Row74 a b ⊎ Row77 a b)
+GuardsRow o a b = (o.sequences ≡ true) × (Row74 a b ⊎ (Row77 a b ⊎ Row77Leap a b))
 
 -- those on a `var` and a statement that writes its name first
 abbrev pub EntersRow : Switches → Trees → Trees → Type 0

@@ -1,25 +1,26 @@
 -- 74: an `if` that ends in a jump, and the next one that has its branch. 77: what never runs.
 use Rattle.std.proofs.Common.{◌≡◌, ℕ, zero, suc, ◌+◌, ◌<◌, ◌≤◌, Bool, true, false, refl, sym, ap, ◌∙◌, subst, inl, inr, true≢false, arith}
-use Rattle.std.specs.Prelude.{◌⊎◌, not, ◌&&◌, ◌||◌, if◌then◌else◌, Result, Ok, Err, IfOk}
+use Rattle.std.specs.Prelude.{◌⊎◌, not, ◌&&◌, ◌||◌, if◌then◌else◌, [], Result, Ok, Err, IfOk}
 use Rattle.std.proofs.lemmas.Bool.{and_parts, false≢true}
 use Rattle.mini_model.specs.declared.place.Position.{Position}
 use Rattle.mini_model.specs.declared.place.Position.TheVariants.{StatementList}
-use Rattle.mini_model.specs.Tree.{Tree, Trees, none, ◌▸◌, count, child_or_absent, absent, listed, children, if_else, if_alone}
+use Rattle.mini_model.specs.declared.shape.Shape.TheVariants as shape
+use Rattle.mini_model.specs.Tree.{Tree, Trees, node, none, ◌▸◌, count, shape_of, child_or_absent, absent, listed, children, if_else, if_alone}
 use Rattle.mini_model.specs.Paths.{append}
-use Rattle.mini_node.specs.Children.{part, rest_children}
+use Rattle.mini_node.specs.Children.{part, is_bare, rest_children}
 use Rattle.mini_node.specs.Equal.{same_tree}
 use Rattle.mini_node.specs.Lends.{with_children}
-use Rattle.mini_node.specs.Kinds.{is_listed, is_expression_statement, is_if_alone, is_if_statement, is_return_statement, is_throw_statement}
-use Rattle.mini_node.specs.Made.{listed_is, expression_statement_is, if_alone_is, if_statement_is, return_statement_is, throw_statement_is}
+use Rattle.mini_node.specs.Kinds.{is_listed, is_absent_part, is_expression_statement, is_if_alone, is_if_statement, is_return_statement, is_throw_statement}
+use Rattle.mini_node.specs.Made.{listed_is, absent_is, expression_statement_is, if_alone_is, if_statement_is, return_statement_is, throw_statement_is}
 use Rattle.mini_terms.specs.Parts.{leaves_nothing}
 use Rattle.mini_node.specs.Walks.{from_first, next_child, no_rest, append_one}
 use Rattle.mini_node.proofs.Equality.{tree_same, tree_itself}
 use Rattle.mini_model.specs.declared.memory.OutOfMemory.{OutOfMemory}
 use Rattle.mini_rows.specs.Switches.{Switches}
-use Rattle.mini_rows.specs.Lists.{is_terminated, is_shallow, Row74, StretchRow, GuardsRow, NeighbourRow, InList, EntersRow, Saying, AsStatement, AsReturn, AsThrow, says, Row77}
+use Rattle.mini_rows.specs.Lists.{is_terminated, is_shallow, Row74, StretchRow, GuardsRow, NeighbourRow, InList, EntersRow, Saying, AsStatement, AsReturn, AsThrow, says, Row77, Leap, Breaks, Continues, leap, Row77Leap}
 use Rattle.mini_stmt.specs.MinimizeStatements as list
 use Rattle.mini_stmt.specs.MinimizeStatements.{Changes, is_quiet, StretchRests, JoinsStatements}
-use Rattle.mini_stmt.specs.JoinGuards.{are_guards, both_guards, may_go, ends_before, meets, met, meet_first, are_apart, is_apart, last_after, meets_last, PutJoined, Joined, Rests, JoinsGuards, JoinsOthers}
+use Rattle.mini_stmt.specs.JoinGuards.{are_guards, both_guards, is_leap_shape, leaps, is_idle, may_go, ends_before, meets, met, meet_first, are_apart, is_apart, last_after, meets_last, PutJoined, Joined, Rests, JoinsGuards, JoinsOthers}
 use Rattle.mini_stmt.specs.JoinAssignments as assignments
 use Rattle.mini_stmt.proofs.Parts.{not_true}
 use Rattle.mini_stmt.proofs.Quiet.{quiet_rests}
@@ -65,18 +66,51 @@ says_for u e = by (is_expression_statement u) refl (is_return_statement u) refl
     by false f true g = record { saying = AsReturn; is = return_statement_is u g }
     by false f false g = record { saying = AsThrow; is = throw_statement_is u (sym (ap (λ b. b || (is_return_statement u || is_throw_statement u)) f ∙ ap (λ b. b || is_throw_statement u) g) ∙ e) }
 
-gone_row : (t u : Tree) → ends_before t u ≡ true → Row77 (t ▸ (u ▸ none)) (t ▸ none)
-gone_row t u e =
-    let (ends, x) = and_parts (is_terminated t) (may_go u) e in
+-- the rows that drop the second
+Gone : Trees → Trees → Type 0
+Gone a b = Row77 a b ⊎ Row77Leap a b
+
+idle_row : (t u : Tree) → is_terminated t ≡ true → is_idle u ≡ true → Row77 (t ▸ (u ▸ none)) (t ▸ none)
+idle_row t u ends x =
     let (kind, free) = and_parts (is_expression_statement u || (is_return_statement u || is_throw_statement u)) (leaves_nothing (part u 0)) x in
     let said = says_for u kind in
     record { first = t; saying = said.saying; e = part u 0; terminated = ends; dropped = free; shape = ap (λ v. t ▸ (v ▸ none)) said.is; written = refl }
 
-pub meets_row : (t u : Tree) → meets t u ≡ true → Row74 (t ▸ (u ▸ none)) (met t u ▸ none) ⊎ Row77 (t ▸ (u ▸ none)) (met t u ▸ none)
+-- which jump it is
+record Leaps (u : Tree) : Type 0 where
+  leaping : Leap
+  is : u ≡ leap leaping
+
+leaps_by : (u : Tree) → is_leap_shape (shape_of u) && is_bare u 1 ≡ true → is_absent_part (part u 0) ≡ true → Leaps u
+leaps_by (node shape.BreakStatement [] zero (a ▸ none)) e f = record { leaping = Breaks; is = ap (λ x. node shape.BreakStatement [] 0 (x ▸ none)) (absent_is a f) }
+leaps_by (node shape.ContinueStatement [] zero (a ▸ none)) e f = record { leaping = Continues; is = ap (λ x. node shape.ContinueStatement [] 0 (x ▸ none)) (absent_is a f) }
+leaps_by u e f = absurd (false≢true e)
+
+both_true : (a b : Bool) → a ≡ true → b ≡ true → a && b ≡ true
+both_true true b e f = f
+both_true false b e f = absurd (false≢true e)
+
+leap_row : (t u : Tree) → is_terminated t ≡ true → leaps u ≡ true → Row77Leap (t ▸ (u ▸ none)) (t ▸ none)
+leap_row t u ends x =
+    let (shape, r) = and_parts (is_leap_shape (shape_of u)) (is_bare u 1 && is_absent_part (part u 0)) x in
+    let (bare, gone) = and_parts (is_bare u 1) (is_absent_part (part u 0)) r in
+    let l = leaps_by u (both_true (is_leap_shape (shape_of u)) (is_bare u 1) shape bare) gone in
+    record { first = t; leaping = l.leaping; terminated = ends; shape = ap (λ v. t ▸ (v ▸ none)) l.is; written = refl }
+
+gone_row : (t u : Tree) → ends_before t u ≡ true → Gone (t ▸ (u ▸ none)) (t ▸ none)
+unfolding Gone
+gone_row t u e = let (ends, x) = and_parts (is_terminated t) (may_go u) e in by (is_idle u) refl ends x
+  where
+    by : (b : Bool) → is_idle u ≡ b → is_terminated t ≡ true → b || leaps u ≡ true → Row77 (t ▸ (u ▸ none)) (t ▸ none) ⊎ Row77Leap (t ▸ (u ▸ none)) (t ▸ none)
+    by true f ends x = inl (idle_row t u ends f)
+    by false f ends x = inr (leap_row t u ends x)
+
+pub meets_row : (t u : Tree) → meets t u ≡ true → Row74 (t ▸ (u ▸ none)) (met t u ▸ none) ⊎ (Row77 (t ▸ (u ▸ none)) (met t u ▸ none) ⊎ Row77Leap (t ▸ (u ▸ none)) (met t u ▸ none))
+unfolding Gone
 meets_row t u e = by (ends_before t u) refl
   where
-    by : (b : Bool) → ends_before t u ≡ b → Row74 (t ▸ (u ▸ none)) (met t u ▸ none) ⊎ Row77 (t ▸ (u ▸ none)) (met t u ▸ none)
-    by true f = inr (subst (λ v. Row77 (t ▸ (u ▸ none)) (v ▸ none)) (sym (ap (λ b. if b then t else both_guards t u) f)) (gone_row t u f))
+    by : (b : Bool) → ends_before t u ≡ b → Row74 (t ▸ (u ▸ none)) (met t u ▸ none) ⊎ (Row77 (t ▸ (u ▸ none)) (met t u ▸ none) ⊎ Row77Leap (t ▸ (u ▸ none)) (met t u ▸ none))
+    by true f = inr (subst (λ v. Gone (t ▸ (u ▸ none)) (v ▸ none)) (sym (ap (λ b. if b then t else both_guards t u) f)) (gone_row t u f))
     by false f = inl (subst (λ v. Row74 (t ▸ (u ▸ none)) (v ▸ none)) (sym (ap (λ b. if b then t else both_guards t u) f)) (guards_row t u (sym (ap (λ b. b || are_guards t u) f) ∙ e)))
 
 always : (b : Bool) → b || true ≡ true
@@ -90,16 +124,24 @@ guards_meet left right s u e f =
     ∙ always (ends_before (if_alone left s) (if_else right s u))
 
 says_go : (k : Saying) (e : Tree) → leaves_nothing e ≡ true → may_go (says k e) ≡ true
-says_go AsStatement e h = h
-says_go AsReturn e h = h
-says_go AsThrow e h = h
+says_go AsStatement e h = ap (λ b. b || leaps (says AsStatement e)) h
+says_go AsReturn e h = ap (λ b. b || leaps (says AsReturn e)) h
+says_go AsThrow e h = ap (λ b. b || leaps (says AsThrow e)) h
+
+leap_goes : (l : Leap) → may_go (leap l) ≡ true
+leap_goes Breaks = refl
+leap_goes Continues = refl
+
+leap_meets : (t : Tree) (l : Leap) → is_terminated t ≡ true → meets t (leap l) ≡ true
+leap_meets t l f = ap (λ b. b || are_guards t (leap l)) (ap (λ b. b && may_go (leap l)) f ∙ leap_goes l)
 
 gone_meets : (t : Tree) (k : Saying) (e : Tree) → is_terminated t ≡ true → leaves_nothing e ≡ true → meets t (says k e) ≡ true
 gone_meets t k e f h = ap (λ b. b || are_guards t (says k e)) (ap (λ b. b && may_go (says k e)) f ∙ says_go k e h)
 
-row_meets : (a b : Trees) → (r : Row74 a b ⊎ Row77 a b) → Pair a
+row_meets : (a b : Trees) → (r : Row74 a b ⊎ (Row77 a b ⊎ Row77Leap a b)) → Pair a
 row_meets a b (inl r) = record { first = if_alone r.left r.s; next = if_else r.right r.s r.u; is = r.shape; meet = guards_meet r.left r.right r.s r.u r.terminated r.shallow }
-row_meets a b (inr r) = record { first = r.first; next = says r.saying r.e; is = r.shape; meet = gone_meets r.first r.saying r.e r.terminated r.dropped }
+row_meets a b (inr (inr r)) = record { first = r.first; next = leap r.leaping; is = r.shape; meet = leap_meets r.first r.leaping r.terminated }
+row_meets a b (inr (inl r)) = record { first = r.first; next = says r.saying r.e; is = r.shape; meet = gone_meets r.first r.saying r.e r.terminated r.dropped }
 
 -- ---- a list
 

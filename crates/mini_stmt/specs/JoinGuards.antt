@@ -3,11 +3,13 @@ use Rattle.std.specs.Prelude.{◌≡◌, Bool, true, false, not, ◌&&◌, ◌||
 use Rattle.mini_model.specs.declared.operator.LogicalOperator.TheVariants.{Or}
 use Rattle.mini_model.specs.declared.place.Position.{Position}
 use Rattle.mini_model.specs.declared.place.Position.TheVariants.{StatementList}
-use Rattle.mini_model.specs.Tree.{Tree, Trees, none, ◌▸◌, absent, listed, if_else, logical}
+use Rattle.mini_model.specs.declared.shape.Shape.{Shape}
+use Rattle.mini_model.specs.declared.shape.Shape.TheVariants as shape
+use Rattle.mini_model.specs.Tree.{Tree, Trees, none, ◌▸◌, shape_of, absent, listed, if_else, logical}
 use Rattle.mini_model.specs.Paths.{append}
-use Rattle.mini_node.specs.Children.{part}
+use Rattle.mini_node.specs.Children.{part, is_bare}
 use Rattle.mini_node.specs.Equal.{same_tree}
-use Rattle.mini_node.specs.Kinds.{is_expression_statement, is_if_alone, is_if_statement, is_return_statement, is_throw_statement}
+use Rattle.mini_node.specs.Kinds.{is_absent_part, is_expression_statement, is_if_alone, is_if_statement, is_return_statement, is_throw_statement}
 use Rattle.mini_terms.specs.Parts.{leaves_nothing}
 use Rattle.mini_tree.specs.Rule as rule
 use Rattle.mini_rows.specs.Switches.{Switches}
@@ -19,9 +21,22 @@ use Rattle.mini_stmt.specs.MinimizeStatements as list
 abbrev pub are_guards : Tree → Tree → Bool
 are_guards t u = is_if_alone t && (is_terminated (part t 1) && (is_if_statement u && (same_tree (part t 1) (part u 1) && is_shallow 64 (part t 0))))
 
+-- `break;` or `continue;`
+abbrev pub is_leap_shape : Shape → Bool
+is_leap_shape shape.BreakStatement = true
+is_leap_shape shape.ContinueStatement = true
+is_leap_shape _ = false
+
+abbrev pub leaps : Tree → Bool
+leaps u = is_leap_shape (shape_of u) && (is_bare u 1 && is_absent_part (part u 0))
+
 -- `a;`, `return a;` or `throw a;`, which leaves nothing behind when it goes
+abbrev pub is_idle : Tree → Bool
+is_idle u = (is_expression_statement u || (is_return_statement u || is_throw_statement u)) && leaves_nothing (part u 0)
+
+-- either of them
 abbrev pub may_go : Tree → Bool
-may_go u = (is_expression_statement u || (is_return_statement u || is_throw_statement u)) && leaves_nothing (part u 0)
+may_go u = is_idle u || leaps u
 
 -- a statement that ends in a jump, and one that never runs
 abbrev pub ends_before : Tree → Tree → Bool

@@ -9,10 +9,11 @@ ghost use Rattle.mini_stmt.specs.MinimizeStatements.{switches_of};
 
 use crate::statements::{put_reversed, take_last};
 use crate::terms::{is_shallow, is_terminated};
-use mini_model::{LogicalOperator, OutOfMemory};
+use mini_model::{LogicalOperator, OutOfMemory, Shape};
 use mini_node::{
-    Node, Nodes, discard, if_statement, is_expression_statement, is_if_alone, is_if_statement,
-    is_listed, is_return_statement, is_same_tree, is_throw_statement, logical, one, three,
+    Node, Nodes, discard, if_statement, is_absent_part, is_expression_statement, is_if_alone,
+    is_if_statement, is_listed, is_return_statement, is_same_tree, is_throw_statement, logical,
+    one, three,
 };
 use mini_terms::leaves_nothing;
 use mini_tree::CompressOptions;
@@ -39,9 +40,27 @@ fn both_guards(alloc: Global, first: Node, next: Node) -> Result<Node, OutOfMemo
     if_statement(alloc, test, consequent, alternate)
 }
 
-// Whether it is `a;`, `return a;` or `throw a;`, and leaves nothing behind when it goes.
+// `break;` or `continue;`
+fn leaps(node: &Node) -> bool
+    ensures { result ≡ row.leaps node.now }
+{
+    matches!(
+        node.shape(),
+        Shape::BreakStatement | Shape::ContinueStatement
+    ) && node.is_bare(1)
+        && is_absent_part(node.child(0))
+}
+
+// Either of them.
 fn may_go(node: &Node) -> bool
     ensures { result ≡ row.may_go node.now }
+{
+    is_idle(node) || leaps(node)
+}
+
+// Whether it is `a;`, `return a;` or `throw a;`, and leaves nothing behind when it goes.
+fn is_idle(node: &Node) -> bool
+    ensures { result ≡ row.is_idle node.now }
 {
     (is_expression_statement(node) || is_return_statement(node) || is_throw_statement(node))
         && leaves_nothing(node.child(0))
