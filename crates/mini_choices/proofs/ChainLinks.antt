@@ -12,7 +12,7 @@ use Rattle.mini_node.specs.Kinds.{is_listed, is_null}
 use Rattle.mini_node.specs.Made.{listed_is, null_is}
 use Rattle.mini_terms.specs.Parts.{is_link, leaves_nothing}
 use Rattle.mini_terms.specs.Reading.{is_unguarded, is_plain_part, stands}
-use Rattle.mini_rows.specs.Chains.{is_calm, are_calm, Link, a_member, a_computed, a_call, call, linked, is_calm_link, chain}
+use Rattle.mini_rows.specs.Chains.{is_calm, are_calm, Link, a_member, a_computed, a_call, linked, is_calm_link, chain}
 use Rattle.mini_rows.specs.ChainLinks.{is_there, Marked, marked, links_over, are_calm_over, has_mark, chain_if, nothing, Row64, Row11, Row10, ChainRow}
 use Rattle.mini_rows.specs.Choices.{ChoiceContracts}
 use Rattle.mini_rows.proofs.ChainLinkLawful.{chains_fall}

@@ -1,5 +1,5 @@
 -- What is written for an optional chain over null or undefined keeps all that a program has to keep.
-use Rattle.std.proofs.Common.{◌≡◌, [], refl}
+use Rattle.std.proofs.Common.{[], refl}
 use Rattle.std.specs.Prelude.{pos}
 use Rattle.mini_model.specs.declared.operator.UnaryOperator.TheVariants.{Void}
 use Rattle.mini_model.specs.declared.place.Position.TheVariants.{Expr}

@@ -2,12 +2,12 @@
 use Rattle.std.proofs.Common.{◌≡◌, Bool, true, false, List, [], ◌∷◌, refl, sym, ap, subst, ◌∙◌}
 use Rattle.mini_model.specs.declared.place.Position.TheVariants.{Expr}
 use Rattle.mini_model.specs.declared.seat.Seat.{Seat}
-use Rattle.mini_model.specs.Tree.{Tree, none, ◌▸◌, shape_of}
+use Rattle.mini_model.specs.Tree.{Tree}
 use Rattle.mini_model.specs.Weight.{outline}
 use Rattle.mini_accept.specs.WellShaped.{Slot, fits}
 use Rattle.mini_laws.specs.Value.{Value, Undefined, Null}
 use Rattle.mini_laws.specs.State.{State, Completion, Short, ok, stop, either, Environment}
-use Rattle.mini_laws.specs.Demand.{Val, As, Called, plain_call}
+use Rattle.mini_laws.specs.Demand.{plain_call}
 use Rattle.mini_laws.specs.Naming.{summary}
 use Rattle.mini_laws.specs.Rows.{SameAt}
 use Rattle.mini_kept.specs.KeepsShapes.{AskedAlike}

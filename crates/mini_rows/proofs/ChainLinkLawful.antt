@@ -5,7 +5,6 @@ use Rattle.std.proofs.lemmas.Bool.{and_parts, false≢true}
 use Rattle.std.proofs.lemmas.List.{append-nil}
 use Rattle.mini_model.specs.declared.place.Position.TheVariants.{Expr}
 use Rattle.mini_model.specs.declared.seat.Seat.{Seat}
-use Rattle.mini_model.specs.declared.shape.Shape.{Shape}
 use Rattle.mini_model.specs.declared.shape.Shape.TheVariants as shape
 use Rattle.mini_model.specs.Tree.{Tree, Trees, node, none, ◌▸◌, listed, shape_of, child_or_absent}
 use Rattle.mini_model.specs.Position.{callee_seat, object_seat, chained_seat}
@@ -16,8 +15,6 @@ use Rattle.mini_kept.specs.KeepsFrames.{is_body_slot}
 use Rattle.mini_kept.proofs.Bools.{both}
 use Rattle.mini_kept.proofs.Expressions.{refused_here, TakesExpressionIn, TakesExpression, expression, expression_taken}
 use Rattle.mini_kept.proofs.FrameRows.{expression_slot}
-use Rattle.mini_terms.specs.Folds.{is_known}
-use Rattle.mini_terms.specs.Kind.{is_nullish_kind, kind}
 use Rattle.mini_terms.specs.Parts.{is_link}
 use Rattle.mini_rows.specs.Arranged.{KeptAt}
 use Rattle.mini_rows.specs.Sketches.{still, rearranges_expression, Chain, Sketch, part, under, end, ◌▹◌, Parts, list_at, filled, AsValue, Hole, Part, Stretch, Leaps, parts_of, stands_in, has_as_often, has_each, all_settled, stays, staying, is_rearranged, stands_well, is_expression}

@@ -1,6 +1,6 @@
 -- What the rows of optional chains write means the same.
-use Rattle.std.proofs.Common.{◌≡◌, ℕ, Bool, true, false, List, [], ◌∷◌, refl, sym, ap, subst, ◌∙◌, inl, inr, true≢false}
-use Rattle.std.specs.Prelude.{not, ◌&&◌, ◌||◌}
+use Rattle.std.proofs.Common.{◌≡◌, Bool, true, false, List, [], ◌∷◌, refl, sym, ap, subst, ◌∙◌, inl, inr, true≢false}
+use Rattle.std.specs.Prelude.{not}
 use Rattle.std.proofs.lemmas.Bool.{and_parts}
 use Rattle.mini_model.specs.declared.place.Position.TheVariants.{Expr}
 use Rattle.mini_model.specs.declared.seat.Guard.{Guard}
@@ -8,14 +8,14 @@ use Rattle.mini_model.specs.declared.seat.Guard.TheVariants as guard
 use Rattle.mini_model.specs.declared.seat.Seat.{Seat}
 use Rattle.mini_model.specs.declared.shape.Shape.TheVariants as shape
 use Rattle.mini_model.specs.Tree.{Tree, none, ◌▸◌}
-use Rattle.mini_laws.specs.Value.{Value, Undefined, Null, Boolean, Number, String, Symbol, Object, VariableSet, is_nullish}
-use Rattle.mini_laws.specs.State.{State, Stop, Thrown, Returned, Broken, Continued, Short, Completion, ok, stop, halt, out, ended, either, Environment}
-use Rattle.mini_laws.specs.Demand.{Want, Val, Demand, As, Callee, OfType, Deleted, AnEntry, Called, Request, plain_call}
+use Rattle.mini_laws.specs.Value.{Value, Undefined, Boolean, Number, String, Object, VariableSet, is_nullish}
+use Rattle.mini_laws.specs.State.{State, Short, Completion, ok, stop, halt, out, ended, either, Environment}
+use Rattle.mini_laws.specs.Demand.{Val, Demand, As, Callee, OfType, Deleted, AnEntry, Called, plain_call}
 use Rattle.mini_laws.specs.Command.{run}
 use Rattle.mini_laws.specs.Expressions.{chain_end}
 use Rattle.mini_laws.specs.Fits.{Fits}
 use Rattle.mini_laws.specs.Naming.{naming, summary, summaries}
-use Rattle.mini_laws.specs.Same.{Same, Goes, Agree}
+use Rattle.mini_laws.specs.Same.{Same}
 use Rattle.mini_laws.specs.Step.{step, means, meaning}
 use Rattle.mini_laws.specs.Rows.{SameAt}
 use Rattle.mini_laws.specs.Truth.{told}

@@ -1,14 +1,14 @@
 -- A template without expressions, and its text: they mean the same, and what is written keeps all that a program has to keep.
-use Rattle.std.proofs.Common.{◌≡◌, ℕ, ◌*◌, ◌+◌, ◌<◌, ◌≤◌, Bool, true, false, List, [], ◌∷◌, Option, Some, None, refl, sym, ap, subst, ◌∙◌, arith}
-use Rattle.std.specs.Prelude.{◌&&◌, length, nat_le, if◌then◌else◌}
+use Rattle.std.proofs.Common.{◌≡◌, ℕ, ◌<◌, Bool, true, false, List, [], Some, None, refl, sym, ap, ◌∙◌, arith}
+use Rattle.std.specs.Prelude.{◌&&◌, length, nat_le}
 use Rattle.std.proofs.lemmas.Bool.{and_parts, false≢true, leb-true}
 use Rattle.mini_model.specs.Templates.{cooked as cooked_of}
 use Rattle.mini_model.specs.declared.place.Position.TheVariants.{Expr}
 use Rattle.mini_model.specs.declared.seat.Seat.{Seat}
 use Rattle.mini_model.specs.declared.shape.Shape.TheVariants as shape
 use Rattle.mini_model.specs.Tree.{Tree, Trees, none, ◌▸◌, leaf, listed}
-use Rattle.mini_model.specs.Weight.{outlines, weight, is_parenthesized, is_awkward}
-use Rattle.mini_accept.specs.WellShaped.{untagged, Depth, in_module, in_body, nested, Class, a_statement, an_init, an_arrow_body, an_expression, a_link, an_argument, a_key, a_private_or_key, an_inner_key, a_default_export, a_tagged_template, Slot, one, one_or_absent, many, quasis, filling, refused, is_paired, is_same_flag, is_text_of_cooked, fits}
+use Rattle.mini_model.specs.Weight.{weight}
+use Rattle.mini_accept.specs.WellShaped.{untagged, Depth, in_module, in_body, nested, Class, a_statement, an_init, an_arrow_body, an_expression, a_link, an_argument, a_key, a_private_or_key, an_inner_key, a_default_export, a_tagged_template, Slot, one, one_or_absent, quasis, filling, refused, is_paired, is_same_flag, is_text_of_cooked, fits}
 use Rattle.mini_laws.specs.declared.names.Use.{Use}
 use Rattle.mini_laws.specs.DeclaredNames.{has_inner}
 use Rattle.mini_laws.specs.Resolved.{Environment as Names}
@@ -22,11 +22,11 @@ use Rattle.mini_laws.specs.State.{State, either, Environment}
 use Rattle.mini_laws.specs.Step.{step, means, meaning}
 use Rattle.mini_kept.specs.Carried.{numbers}
 use Rattle.mini_kept.specs.Frames.{frames}
-use Rattle.mini_kept.specs.KeepsNames.{Keeps, unplaced, count_of}
+use Rattle.mini_kept.specs.KeepsNames.{unplaced, count_of}
 use Rattle.mini_kept.specs.KeepsShapes.{AskedAlike}
 use Rattle.mini_kept.specs.Placed.{fits_seat, fits_place}
 use Rattle.mini_kept.proofs.Bools.{left}
-use Rattle.mini_kept.proofs.Expressions.{refused_here, TakesExpressionIn, TakesExpression, expression, expression_taken}
+use Rattle.mini_kept.proofs.Expressions.{refused_here, TakesExpressionIn, TakesExpression, expression_taken}
 use Rattle.mini_kept.proofs.FrameLists.{same_frames}
 use Rattle.mini_kept.proofs.InOrder.{in_order}
 use Rattle.mini_kept.proofs.Quiet.{no_names, no_body_names, no_body_declarations, no_loop}
