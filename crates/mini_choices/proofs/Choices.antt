@@ -187,11 +187,11 @@ chosen_row s n k =
 
 -- ---- 46
 
-equal_operator : (o : Option BinaryOperator) → branches.is_equal_in o ≡ true → o ≡ Some Equality
+pub equal_operator : (o : Option BinaryOperator) → branches.is_equal_in o ≡ true → o ≡ Some Equality
 equal_operator (Some Equality) e = refl
 equal_operator o e = absurd (true≢false (sym e))
 
-unequal_operator : (o : Option BinaryOperator) → branches.is_unequal_in o ≡ true → o ≡ Some Inequality
+pub unequal_operator : (o : Option BinaryOperator) → branches.is_unequal_in o ≡ true → o ≡ Some Inequality
 unequal_operator (Some Inequality) e = refl
 unequal_operator o e = absurd (true≢false (sym e))
 

@@ -10,3 +10,6 @@ pub mod ChainLinks
 pub mod NullishComparison
 pub mod ObjectTest
 pub mod Choices
+pub mod CombinedLogicalAssignment
+pub mod AssignedComparison
+pub mod Writes

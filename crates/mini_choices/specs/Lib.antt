@@ -7,6 +7,9 @@ pub mod MinimizeLogicalExpression
 pub mod MinimizeNullishComparison
 pub mod MinimizeObjectTest
 pub mod MinimizeNormalAssignmentToCombinedAssignment
+pub mod MinimizeNormalAssignmentToCombinedLogicalAssignment
+pub mod MinimizeAssignedComparison
+pub mod Writes
 pub mod MinimizeConditionalBranches
 pub mod MinimizeHeldBranches
 pub mod InjectOptionalChaining

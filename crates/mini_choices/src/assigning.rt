@@ -6,7 +6,9 @@ ghost use Rattle.mini_model.specs.Tree.{children, count};
 ghost use Rattle.mini_node.specs.Children.{names};
 ghost use Rattle.mini_node.specs.Kinds.{assignment_operator as its_operator};
 ghost use Rattle.mini_choices.specs.Assigning.{assigns_name as it_assigns_name, is_same_operator as is_it_same_operator, is_operator, is_same_name as is_it_same_name, is_declared_in as is_it_declared_in, is_declared as is_it_declared};
+ghost use Rattle.mini_choices.specs.MinimizeNormalAssignmentToCombinedLogicalAssignment.{marked, may_write_in, writes_name as it_writes_name};
 
+use mini_context::Scopes;
 use mini_model::{AssignmentOperator, Name};
 use mini_node::{Node, assignment_operator, is_identifier, is_same_tree};
 
@@ -65,4 +67,25 @@ pub fn is_declared(node: &Node) -> bool
     ensures { result ≡ is_it_declared node.now }
 {
     is_declared_in(node.name())
+}
+
+/// Whether a scope declares the name, and it can be written.
+fn may_write(name: &Option<Name>, scopes: &Scopes) -> bool
+    ensures { result ≡ may_write_in (marked scopes.now) (names name.now) }
+{
+    match name {
+        Some(name) => match name.symbol {
+            Some(symbol) => scopes.is_mentioned_writable(symbol),
+            None => false,
+        },
+        None => false,
+    }
+}
+
+/// `x = b`, where x can be written
+pub fn writes_name(node: &Node, scopes: &Scopes) -> bool
+    ensures kind { result ≡ it_writes_name (marked scopes.now) node.now }
+    ensures parts { result ≡ true → count (children node.now) ≡ 2 }
+{
+    assigns_name(node) && may_write(node.child(0).name(), scopes)
 }

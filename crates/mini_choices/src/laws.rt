@@ -1,6 +1,7 @@
 //! What the rule makes, and the rows.
 
 ghost use Rattle.mini_choices.specs.Choices.{WrittenIsRow, UnwrittenRests};
+ghost use Rattle.mini_choices.specs.Writes.{WritesAreRows, UnwrittenRest};
 ghost use Rattle.mini_choices.specs.JoinWithLeftAssociativeOp.{JoinedSame, JoinedToTheLeft};
 
 /// What the rewrites of conditionals, logical expressions and assignments write is what a row says, and lighter; where they
@@ -15,4 +16,11 @@ pub fn choices_are_rows()
 pub fn left_joins_mean_the_same()
     ensures same { JoinedSame }
     ensures left { JoinedToTheLeft }
+{}
+
+/// What the rewrites of names that can be written write is what a row says, and lighter; where they write nothing no row reads the
+/// expression.
+pub fn writes_are_rows()
+    ensures written { WritesAreRows }
+    ensures unwritten { UnwrittenRest }
 {}

@@ -1,5 +1,5 @@
 //! Rewrites of choices: what conditionals, logical expressions and assignments have in common is written once. One rule for the
-//! walk, and the law that joins it to the rows.
+//! walk, and one that asks the context which names can be written, and the laws that join them to the rows.
 #![tactic(auto)]
 
 mod assigning;
@@ -11,13 +11,17 @@ mod rewrites;
 mod weights;
 
 pub use joining::join_with_left_associative_op;
-pub use laws::{choices_are_rows, left_joins_mean_the_same};
+pub use laws::{choices_are_rows, left_joins_mean_the_same, writes_are_rows};
 pub use rewrites::inject_optional_chaining::inject_optional_chaining;
+pub use rewrites::minimize_assigned_comparison::minimize_assigned_comparison;
 pub use rewrites::minimize_choices::MinimizeChoices;
 pub use rewrites::minimize_conditional_branches::minimize_conditional_branches;
 pub use rewrites::minimize_held_branches::minimize_held_branches;
 pub use rewrites::minimize_logical_expression::minimize_logical_expression;
 pub use rewrites::minimize_normal_assignment_to_combined_assignment::minimize_normal_assignment_to_combined_assignment;
+pub use rewrites::minimize_normal_assignment_to_combined_logical_assignment::{
+    MinimizeWrites, minimize_normal_assignment_to_combined_logical_assignment,
+};
 pub use rewrites::minimize_nullish_comparison::minimize_nullish_comparison;
 pub use rewrites::minimize_object_test::minimize_object_test;
 pub use rewrites::substitute_rotate_logical_expression::substitute_rotate_logical_expression;

@@ -1,10 +1,12 @@
 pub mod fold_chain_expr;
 pub mod inject_optional_chaining;
+pub mod minimize_assigned_comparison;
 pub mod minimize_choices;
 pub mod minimize_conditional_branches;
 pub mod minimize_held_branches;
 pub mod minimize_logical_expression;
 pub mod minimize_normal_assignment_to_combined_assignment;
+pub mod minimize_normal_assignment_to_combined_logical_assignment;
 pub mod minimize_nullish_comparison;
 pub mod minimize_object_test;
 pub mod substitute_rotate_logical_expression;

@@ -19,3 +19,4 @@ pub mod Known
 mod Values
 mod Foreigns
 mod Uses
+mod Holding

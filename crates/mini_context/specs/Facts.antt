@@ -17,13 +17,14 @@ use Rattle.mini_laws.specs.Foreign.{imported_names, is_declared_in, is_read_earl
 use Rattle.mini_context.specs.Outside.{is_mentioned_outside}
 use Rattle.mini_context.specs.Tables.{mark_at, named}
 use Rattle.mini_context.specs.Visits.{is_writing}
+use Rattle.mini_context.specs.Holders.{Writables}
 
 -- by symbol: how often it is read, and written; whether it can't be written; whether it was one of a script's top names when the
 -- program was resolved; its scope; whether it is a top name; whether a direct eval can see it; whether a module imports or exports
 -- it, or imports it; whether it is a parameter that an `arguments` reaches; whether a pattern binds it; whether it is lexical, and
 -- directly in a `switch`; whether it is a parameter of `catch`, and whether it is a `var` under one of its name; where it is
 -- mentioned, where a reference writes it, and where a `var` does; in which bodies it is bound, and which
--- read it before its declaration has ended; the functions whose parameters bind it. By scope: whether its code
+-- read it before its declaration has ended; the functions whose parameters bind it; whether it is mentioned and can be written. By scope: whether its code
 -- is strict; whether a direct eval stands in it. By body: whether `this` is an event in it; whether it has an `arguments`; the functions in whose parameters it stands
 pub record Facts : Type 0 where
   pub reads : List ℕ
@@ -47,6 +48,7 @@ pub record Facts : Type 0 where
   pub homes : List (List ℕ)
   pub early : List (List ℕ)
   pub functions : List (List ℕ)
+  pub writable : List Bool
   pub strict : List Bool
   pub evals : List Bool
   pub this_events : List Bool
@@ -55,7 +57,7 @@ pub record Facts : Type 0 where
 
 -- what a look at a program found, beside a script's top names when it was resolved
 abbrev pub facts_of : Look → List Bool → Facts
-facts_of b tops = record { reads = b.counts.reads.items; writes = b.counts.writes.items; fixed = b.tables.fixed.items; tops = tops; owners = b.scopes.owners.items; now_top = b.tops.items; seen = b.scopes.seen.items; exchanged = b.tables.exchanged.items; imported = b.tables.imported.items; reached = b.tables.reached.items; patterns = b.tables.patterns.items; lexical = b.tables.lexical.items; switched = b.tables.switched.items; params = b.tables.params.items; caught = b.tables.caught.items; mentioned = b.tables.mentioned.items; written = b.tables.written.items; given = b.given.items; homes = b.tables.homes.items; early = b.moments.early.items; functions = b.tables.enclosing.by_symbol.items; strict = b.scopes.strict.items; evals = b.scopes.evals.items; this_events = b.tables.this_events.items; arguments = b.tables.arguments.items; enclosed = b.tables.enclosing.by_number.items }
+facts_of b tops = record { reads = b.counts.reads.items; writes = b.counts.writes.items; fixed = b.tables.fixed.items; tops = tops; owners = b.scopes.owners.items; now_top = b.tops.items; seen = b.scopes.seen.items; exchanged = b.tables.exchanged.items; imported = b.tables.imported.items; reached = b.tables.reached.items; patterns = b.tables.patterns.items; lexical = b.tables.lexical.items; switched = b.tables.switched.items; params = b.tables.params.items; caught = b.tables.caught.items; mentioned = b.tables.mentioned.items; written = b.tables.written.items; given = b.given.items; homes = b.tables.homes.items; early = b.moments.early.items; functions = b.tables.enclosing.by_symbol.items; writable = b.writable.items; strict = b.scopes.strict.items; evals = b.scopes.evals.items; this_events = b.tables.this_events.items; arguments = b.tables.arguments.items; enclosed = b.tables.enclosing.by_number.items }
 
 -- of so many symbols they say what is shared, and what is foreign, in a tree
 pub record Looked (f : Facts) (n : ℕ) (t : Tree) : Type 0 where
@@ -86,6 +88,8 @@ pub record Told (f : Facts) (n : ℕ) (t : Tree) : Type 0 where
   pub evals_told : f.evals ≡ map (λ r. r.evals) (scopes_of t)
   pub this_told : (b : ℕ) → mark_at f.this_events b ≡ this_has_event t b
   pub arguments_told : (b : ℕ) → mark_at f.arguments b ≡ has_arguments t b
+  -- of any symbol
+  pub writable_told : Writables t f.writable
   pub looked : Looked f n t
 
 -- they are those of a tree that was just resolved

@@ -25,6 +25,7 @@ mod standing;
 mod steps;
 mod strictness;
 mod survey;
+mod writable;
 
 pub use context::{Parent, TraverseCtx};
 pub use count::{Counts, Tally, fresh_counts, tally_node};

@@ -24,6 +24,7 @@ use crate::params::is_around;
 use crate::standing::{at_top, first_reading};
 use crate::steps::Steps;
 use crate::survey::{Tables, empty_tables, open_tables, survey_node};
+use crate::writable::mark_writable;
 use mini_laws::Use;
 use mini_model::{OutOfMemory, Shape, SymbolId};
 use mini_node::Node;
@@ -54,6 +55,8 @@ pub struct Look {
     pub moments: Moments,
     /// A script's top names.
     pub tops: Vec<bool>,
+    /// The names that are mentioned and can be written.
+    pub writable: Vec<bool>,
 }
 
 /// What is known of the names of a program. A contract sees it as lists, by symbol, by scope and by body. Scopes have the
@@ -164,6 +167,7 @@ fn no_look(alloc: Global) -> Look {
         given: Vec::new(alloc),
         moments: empty_moments(alloc),
         tops: Vec::new(alloc),
+        writable: Vec::new(alloc),
     }
 }
 
@@ -176,6 +180,7 @@ fn look_at(look: &mut Look, alloc: Global, program: &Node, symbols: u32) -> Resu
     survey_program(alloc, &mut look.tables, program, symbols)?;
     list_program(alloc, &mut look.scopes, &mut look.given, program, symbols)?;
     pass_program(alloc, &mut look.moments, program, symbols)?;
+    mark_writable(alloc, &mut look.writable, program)?;
     mark_tops(alloc, &mut look.tops, program, symbols)
 }
 
@@ -225,6 +230,14 @@ impl Scopes {
         ensures { result ≡ not (mark_at self.now.fixed symbol.0) }
     {
         !is_marked(self.look.tables.fixed.as_slice(), symbol.0)
+    }
+
+    /// Whether the program that was looked at last mentions the symbol, and lets it be written. Of a symbol that it doesn't mention
+    /// nothing is told.
+    pub fn is_mentioned_writable(&self, symbol: SymbolId) -> bool
+        ensures { result ≡ mark_at self.now.writable symbol.0 }
+    {
+        is_marked(self.look.writable.as_slice(), symbol.0)
     }
 
     /// Whether the symbol was one of a script's top names when the program was resolved.

@@ -163,7 +163,7 @@ fn reach(marks: &mut Vec<bool>, at: usize) -> Result<(), OutOfMemory>
 }
 
 /// Marks a number where something holds of it; the table grows where it must.
-fn mark_number(marks: &mut Vec<bool>, number: u32, holds: bool) -> Result<(), OutOfMemory>
+pub fn mark_number(marks: &mut Vec<bool>, number: u32, holds: bool) -> Result<(), OutOfMemory>
     ensures { OnOk result ((k : ℕ) → mark_at marks.new.items k ≡ (mark_at marks.old.items k || (nat_eq number k && holds))) }
 {
     if holds {

@@ -31,7 +31,7 @@ use Rattle.mini_kept.specs.Placed.{fits_place}
 use Rattle.mini_kept.specs.Standing.{is_asked_whole, Stands}
 use Rattle.mini_kept.specs.Lifted.{is_piece}
 use Rattle.mini_kept.specs.KeepsBodies.{KeepsBodies}
-use Rattle.mini_kept.specs.Without.{Unseen, BodiesWithout, KeepsBodiesWithout, StepKeepsWithout}
+use Rattle.mini_kept.specs.Without.{Permits, BodiesWith, KeepsBodiesWith, StepKeepsWith}
 use Rattle.mini_kept.specs.BodyLaws.{StepKeepsBodies, ReachesKeepsBodies}
 use Rattle.mini_kept.proofs.BodyLists.{kept_itself as bodies_themselves, kept_on as bodies_on}
 use Rattle.mini_kept.proofs.WithoutLists.{each_of, kept_itself, from_kept, to_kept}
@@ -98,17 +98,17 @@ some_slot strict s r t (inr e) = (strict, r, e)
 -- ---- steps
 
 -- the bodies in a tree that fills a slot are those in another, and so are those of some children
-record Keeps (D : VariableSet) (p : Position) (t u : Tree) : Type 0 where
-  kept : (strict : Bool) (s : Slot) → fits_place p s ≡ true → fits strict s t ≡ true → (a : Around) → Stands s p a → BodiesWithout D (bodies a t) (bodies a u)
+record Keeps (W D : VariableSet) (p : Position) (t u : Tree) : Type 0 where
+  kept : (strict : Bool) (s : Slot) → fits_place p s ≡ true → fits strict s t ≡ true → (a : Around) → Stands s p a → BodiesWith W D (bodies a t) (bodies a u)
 
-record AllKeep (D : VariableSet) (π : ℕ → Position) (ts us : Trees) : Type 0 where
-  kept : (strict : Bool) (g : Filling) → Placed π g → fill strict g ts ≡ true → (α : ℕ → Around) (i : ℕ) → ChildrenStand π α i g → BodiesWithout D (bodies_from α i ts) (bodies_from α i us)
+record AllKeep (W D : VariableSet) (π : ℕ → Position) (ts us : Trees) : Type 0 where
+  kept : (strict : Bool) (g : Filling) → Placed π g → fill strict g ts ≡ true → (α : ℕ → Around) (i : ℕ) → ChildrenStand π α i g → BodiesWith W D (bodies_from α i ts) (bodies_from α i us)
 
-first_kept : (D : VariableSet) (α : ℕ → Around) (i : ℕ) (t u : Tree) (ts : Trees) → BodiesWithout D (bodies (α i) t) (bodies (α i) u) → BodiesWithout D (bodies_from α i (t ▸ ts)) (bodies_from α i (u ▸ ts))
-first_kept D α i t u ts k = each_of D (bodies (α i) t) (bodies_from α (suc i) ts) (bodies (α i) u) (bodies_from α (suc i) ts) k (kept_itself D (bodies_from α (suc i) ts))
+first_kept : (W D : VariableSet) (α : ℕ → Around) (i : ℕ) (t u : Tree) (ts : Trees) → BodiesWith W D (bodies (α i) t) (bodies (α i) u) → BodiesWith W D (bodies_from α i (t ▸ ts)) (bodies_from α i (u ▸ ts))
+first_kept W D α i t u ts k = each_of W D (bodies (α i) t) (bodies_from α (suc i) ts) (bodies (α i) u) (bodies_from α (suc i) ts) k (kept_itself W D (bodies_from α (suc i) ts))
 
-others_kept : (D : VariableSet) (α : ℕ → Around) (i : ℕ) (t : Tree) (ts us : Trees) → BodiesWithout D (bodies_from α (suc i) ts) (bodies_from α (suc i) us) → BodiesWithout D (bodies_from α i (t ▸ ts)) (bodies_from α i (t ▸ us))
-others_kept D α i t ts us k = each_of D (bodies (α i) t) (bodies_from α (suc i) ts) (bodies (α i) t) (bodies_from α (suc i) us) (kept_itself D (bodies (α i) t)) k
+others_kept : (W D : VariableSet) (α : ℕ → Around) (i : ℕ) (t : Tree) (ts us : Trees) → BodiesWith W D (bodies_from α (suc i) ts) (bodies_from α (suc i) us) → BodiesWith W D (bodies_from α i (t ▸ ts)) (bodies_from α i (t ▸ us))
+others_kept W D α i t ts us k = each_of W D (bodies (α i) t) (bodies_from α (suc i) ts) (bodies (α i) t) (bodies_from α (suc i) us) (kept_itself W D (bodies (α i) t)) k
 
 -- a part of what mentions no such variable
 child_avoids : (D : VariableSet) (ts : Trees) → AllAvoid D ts → (i : ℕ) → Avoids D (child_or_absent ts i)
@@ -116,7 +116,7 @@ child_avoids D none v i = (tt, tt)
 child_avoids D (t ▸ ts) v zero = v.0
 child_avoids D (t ▸ ts) v (suc i) = child_avoids D ts v.1 i
 
-module _ (R : Position → Tree → Tree → Type 0) (D : VariableSet) (l : KeepsBodiesWithout D R) where
+module _ (R : Position → Tree → Tree → Type 0) (W D : VariableSet) (l : KeepsBodiesWith W D R) where
   -- no step is made in the text of a template
   no_step : {p : Position} {t u : Tree} (g : Tagging) (last : Bool) → Step R p t u → is_quasi g last t ≡ true → ⊥
   no_step g last (here p (node h xs n ts) u r) e = cc (sym (piece_by g last h xs n ts e).0 ∙ no_piece g last h (l.pieces p (node h xs n ts) u r))
@@ -171,10 +171,10 @@ module _ (R : Position → Tree → Tree → Type 0) (D : VariableSet) (l : Keep
   moved strict (pieces g) (first π t u ts st) e i = absurd (no_steps g (first π t u ts st) e)
   moved strict (pieces g) (later π t ts us st) e i = absurd (no_steps g (later π t ts us st) e)
 
-  stepped_body : (p : Position) (t u : Tree) → Step R p t u → Avoids D u → (k : BodyKind) → Fits p (body_demand k) → (e : Environment) → Unseen D e → (X : VariableSet) → SameBody e k X t u
-  stepped_body p t u s v k f e z X = body_same e D X z.shared k t u (weaker e D D nothing X (within_refl D) (no_within X) (body_demand k) t u (step_keeps R e D z.shared (l.means e z) p t u s v (body_demand k) f))
+  stepped_body : (p : Position) (t u : Tree) → Step R p t u → Avoids D u → (k : BodyKind) → Fits p (body_demand k) → (e : Environment) → Permits W D e → (X : VariableSet) → SameBody e k X t u
+  stepped_body p t u s v k f e z X = body_same e D X z.unseen.shared k t u (weaker e D D nothing X (within_refl D) (no_within X) (body_demand k) t u (step_keeps R e D z.unseen.shared (l.means e z) p t u s v (body_demand k) f))
 
-  moved_body : (p : Position) (t u : Tree) → Moved p t u → Avoids D u → (k : BodyKind) → Fits p (body_demand k) → (e : Environment) → Unseen D e → (X : VariableSet) → SameBody e k X t u
+  moved_body : (p : Position) (t u : Tree) → Moved p t u → Avoids D u → (k : BodyKind) → Fits p (body_demand k) → (e : Environment) → Permits W D e → (X : VariableSet) → SameBody e k X t u
   moved_body p t u (inl q) v k f e z X = subst (SameBody e k X t) q (body_reflexive e k X t)
   moved_body p t u (inr (s, b, q, y)) v k f e z X = stepped_body p t u s v k f e z X
 
@@ -195,7 +195,7 @@ module _ (R : Position → Tree → Tree → Type 0) (D : VariableSet) (l : Keep
 
   -- the body of the node itself
   own_kept : (a : Around) (p : Position) (h : Shape) (xs : List Name) (n : ℕ) (ts us : Trees) → StepIn R (child_position h p (count ts)) ts us → ((i : ℕ) → Moved (child_position h p (count ts) i) (child_or_absent ts i) (child_or_absent us i)) → (h ≡ shape.InnerExpression → is_asked_whole p ≡ true) → Avoids D (node h xs n us)
-      → BodiesWithout D (body_of a h n (node h xs n ts) ts) (body_of a h n (node h xs n us) us)
+      → BodiesWith W D (body_of a h n (node h xs n ts) ts) (body_of a h n (node h xs n us) us)
   own_kept a p (shape.Program m ds) xs n ts us st mv w v =
       (inl (record { number = refl; kind = inl refl; strict = refl; asks_this = refl; same = λ e z X. as_runs e Program X _ _ (stepped_body Elsewhere _ _ (inside Elsewhere (shape.Program m ds) xs n ts us st) v Program tt e z X) }), tt)
   own_kept a p (shape.Function d g ds) xs n ts us st mv w v =
@@ -206,7 +206,7 @@ module _ (R : Position → Tree → Tree → Type 0) (D : VariableSet) (l : Keep
       (inl (record { number = refl; kind = inl refl; strict = refl; asks_this = refl; same = λ e z X. as_runs e FunctionStatements X _ _ (stepped_body Elsewhere _ _ (inside Elsewhere shape.StaticBlock xs n ts us st) v FunctionStatements tt e z X) }), tt)
   own_kept a p shape.InnerExpression xs n ts us st mv w v = inner a.is_assigned
     where
-      inner : (b : Bool) → BodiesWithout D (record { number = n; kind = choose b InnerTarget InnerValue; root = node shape.InnerExpression xs n ts; strict = a.strict; asks_this = a.asks_this } ∷ []) (record { number = n; kind = choose b InnerTarget InnerValue; root = node shape.InnerExpression xs n us; strict = a.strict; asks_this = a.asks_this } ∷ [])
+      inner : (b : Bool) → BodiesWith W D (record { number = n; kind = choose b InnerTarget InnerValue; root = node shape.InnerExpression xs n ts; strict = a.strict; asks_this = a.asks_this } ∷ []) (record { number = n; kind = choose b InnerTarget InnerValue; root = node shape.InnerExpression xs n us; strict = a.strict; asks_this = a.asks_this } ∷ [])
       inner true = (inl (record { number = refl; kind = inl refl; strict = refl; asks_this = refl; same = λ e z X. as_runs e InnerTarget X _ _ (stepped_body p _ _ (inside p shape.InnerExpression xs n ts us st) v InnerTarget (target_fits p (w refl)) e z X) }), tt)
       inner false = (inl (record { number = refl; kind = inl refl; strict = refl; asks_this = refl; same = λ e z X. as_runs e InnerValue X _ _ (stepped_body p _ _ (inside p shape.InnerExpression xs n ts us st) v InnerValue (value_fits p (w refl)) e z X) }), tt)
   own_kept a p h xs n ts us st mv w v = tt
@@ -217,23 +217,23 @@ module _ (R : Position → Tree → Tree → Type 0) (D : VariableSet) (l : Keep
   abbrev around_by : Around → Shape → Bool → ℕ → Around
   around_by a h x i = record { strict = fixity.is_strict_in a.strict h; asks_this = asks_below a h i; extends = x; constructs = constructs_below a h i; is_assigned = is_assigned_below a h i }
 
-  same_around : (a : Around) (h : Shape) {π : ℕ → Position} (ts us : Trees) → StepIn R π ts us → BodiesWithout D (bodies_from (below a h ts) 0 ts) (bodies_from (below a h ts) 0 us) → BodiesWithout D (bodies_from (below a h ts) 0 ts) (bodies_from (below a h us) 0 us)
-  same_around a h ts us st k = subst (λ x. BodiesWithout D (bodies_from (below a h ts) 0 ts) (bodies_from (around_by a h x) 0 us)) (extends_read a h st) k
+  same_around : (a : Around) (h : Shape) {π : ℕ → Position} (ts us : Trees) → StepIn R π ts us → BodiesWith W D (bodies_from (below a h ts) 0 ts) (bodies_from (below a h ts) 0 us) → BodiesWith W D (bodies_from (below a h ts) 0 ts) (bodies_from (below a h us) 0 us)
+  same_around a h ts us st k = subst (λ x. BodiesWith W D (bodies_from (below a h ts) 0 ts) (bodies_from (around_by a h x) 0 us)) (extends_read a h st) k
 
   -- of the same node over other children
-  inside_kept : (p : Position) (h : Shape) (xs : List Name) (n : ℕ) (ts us : Trees) → StepIn R (child_position h p (count ts)) ts us → Avoids D (node h xs n us) → AllKeep D (child_position h p (count ts)) ts us → Keeps D p (node h xs n ts) (node h xs n us)
+  inside_kept : (p : Position) (h : Shape) (xs : List Name) (n : ℕ) (ts us : Trees) → StepIn R (child_position h p (count ts)) ts us → Avoids D (node h xs n us) → AllKeep W D (child_position h p (count ts)) ts us → Keeps W D p (node h xs n ts) (node h xs n us)
   inside_kept p h xs n ts us st v k = record {
     kept = λ strict s q e a z.
-        each_of D (body_of a h n (node h xs n ts) ts) (bodies_from (below a h ts) 0 ts) (body_of a h n (node h xs n us) us) (bodies_from (below a h us) 0 us)
+        each_of W D (body_of a h n (node h xs n ts) ts) (bodies_from (below a h ts) 0 ts) (body_of a h n (node h xs n us) us) (bodies_from (below a h us) 0 us)
         (own_kept a p h xs n ts us st (moved (is_strict_in strict h) (filling strict s h) st (parts_fill strict s h xs n ts e)) (λ q. inner_stands strict s h xs n ts q e p z.whole) v)
         (same_around a h ts us st (k.kept (is_strict_in strict h) (filling strict s h) (placed_below strict s h p (count ts) q) (parts_fill strict s h xs n ts e) (below a h ts) 0 (children_stand strict s h p (count ts) a ts z)));
   }
 
-  item_kept : (p : Position) (t u : Tree) → Keeps D p t u → (strict : Bool) (s r : Slot) → fits_place p s ≡ true → fits_place p r ≡ true → (a : Around) → Stands s p a → Stands r p a → (fits strict s t ≡ true) ⊎ (fits strict r t ≡ true) → BodiesWithout D (bodies a t) (bodies a u)
+  item_kept : (p : Position) (t u : Tree) → Keeps W D p t u → (strict : Bool) (s r : Slot) → fits_place p s ≡ true → fits_place p r ≡ true → (a : Around) → Stands s p a → Stands r p a → (fits strict s t ≡ true) ⊎ (fits strict r t ≡ true) → BodiesWith W D (bodies a t) (bodies a u)
   item_kept p t u k strict s r v w a x y (inl e) = k.kept strict s v e a x
   item_kept p t u k strict s r v w a x y (inr e) = k.kept strict r w e a y
 
-  first_child : (π : ℕ → Position) (t u : Tree) (ts : Trees) → StepIn R π (t ▸ ts) (u ▸ ts) → Keeps D (π 0) t u → (strict : Bool) (g : Filling) → Placed π g → fill strict g (t ▸ ts) ≡ true → (α : ℕ → Around) (i : ℕ) → ChildrenStand π α i g → BodiesWithout D (bodies (α i) t) (bodies (α i) u)
+  first_child : (π : ℕ → Position) (t u : Tree) (ts : Trees) → StepIn R π (t ▸ ts) (u ▸ ts) → Keeps W D (π 0) t u → (strict : Bool) (g : Filling) → Placed π g → fill strict g (t ▸ ts) ≡ true → (α : ℕ → Around) (i : ℕ) → ChildrenStand π α i g → BodiesWith W D (bodies (α i) t) (bodies (α i) u)
   first_child π t u ts st k strict refused v e α i c = absurd (cc e)
   first_child π t u ts st k strict (these []) v e α i c = absurd (cc e)
   first_child π t u ts st k strict (these (s ∷ ss)) v e α i c = k.kept strict s v.0 (left (fits strict s t) (fill strict (these ss) ts) e) (α i) c.0
@@ -243,7 +243,7 @@ module _ (R : Position → Tree → Tree → Type 0) (D : VariableSet) (l : Keep
       item_kept (π 0) t u k strict s r (v 0).0 (v 0).1 (α i) (c 0 i).0 (c 0 i).1 (one_of strict s r (is_last ts) t parts)
   first_child π t u ts st k strict (pieces g) v e α i c = absurd (no_steps g st e)
 
-  other_children : (π : ℕ → Position) (t : Tree) (ts us : Trees) → StepIn R π (t ▸ ts) (t ▸ us) → AllKeep D (λ j. π (suc j)) ts us → (strict : Bool) (g : Filling) → Placed π g → fill strict g (t ▸ ts) ≡ true → (α : ℕ → Around) (i : ℕ) → ChildrenStand π α i g → BodiesWithout D (bodies_from α (suc i) ts) (bodies_from α (suc i) us)
+  other_children : (π : ℕ → Position) (t : Tree) (ts us : Trees) → StepIn R π (t ▸ ts) (t ▸ us) → AllKeep W D (λ j. π (suc j)) ts us → (strict : Bool) (g : Filling) → Placed π g → fill strict g (t ▸ ts) ≡ true → (α : ℕ → Around) (i : ℕ) → ChildrenStand π α i g → BodiesWith W D (bodies_from α (suc i) ts) (bodies_from α (suc i) us)
   other_children π t ts us st k strict refused v e α i c = absurd (cc e)
   other_children π t ts us st k strict (these []) v e α i c = absurd (cc e)
   other_children π t ts us st k strict (these (s ∷ ss)) v e α i c = k.kept strict (these ss) v.1 (right (fits strict s t) (fill strict (these ss) ts) e) α (suc i) c.1
@@ -253,18 +253,18 @@ module _ (R : Position → Tree → Tree → Type 0) (D : VariableSet) (l : Keep
   other_children π t ts us st k strict (pieces g) v e α i c = absurd (no_steps g st e)
 
   mutual
-    step_kept : {p : Position} {t u : Tree} → Step R p t u → Avoids D u → Keeps D p t u
+    step_kept : {p : Position} {t u : Tree} → Step R p t u → Avoids D u → Keeps W D p t u
     step_kept (here p t u r) v = record { kept = λ strict s q e a z. l.bodies p t u r strict s q e a z }
     step_kept (inside p h xs n ts us st) v = inside_kept p h xs n ts us st v (steps_kept st v.1)
 
-    steps_kept : {π : ℕ → Position} {ts us : Trees} → StepIn R π ts us → AllAvoid D us → AllKeep D π ts us
-    steps_kept (first π t u ts st) av = record { kept = λ strict g v e α i c. first_kept D α i t u ts (first_child π t u ts (first π t u ts st) (step_kept st av.0) strict g v e α i c) }
-    steps_kept (later π t ts us st) av = record { kept = λ strict g v e α i c. others_kept D α i t ts us (other_children π t ts us (later π t ts us st) (steps_kept st av.1) strict g v e α i c) }
+    steps_kept : {π : ℕ → Position} {ts us : Trees} → StepIn R π ts us → AllAvoid D us → AllKeep W D π ts us
+    steps_kept (first π t u ts st) av = record { kept = λ strict g v e α i c. first_kept W D α i t u ts (first_child π t u ts (first π t u ts st) (step_kept st av.0) strict g v e α i c) }
+    steps_kept (later π t ts us st) av = record { kept = λ strict g v e α i c. others_kept W D α i t ts us (other_children π t ts us (later π t ts us st) (steps_kept st av.1) strict g v e α i c) }
 
-pub step_without : (R : Position → Tree → Tree → Type 0) (D : VariableSet) → StepKeepsWithout D R
-step_without R D l p t u st v strict s k e a z = (step_kept R D l st v).kept strict s k e a z
+pub step_with : (R : Position → Tree → Tree → Type 0) (W D : VariableSet) → StepKeepsWith W D R
+step_with R W D l p t u st v strict s k e a z = (step_kept R W D l st v).kept strict s k e a z
 
--- ---- where no variable is gone
+-- ---- where no variable is gone, whichever can be written
 
 meaning_of : (R : Position → Tree → Tree → Type 0) → MeansSame R → (e : Environment) → KeepsMeaning R e nothing
 meaning_of R m e = record {
@@ -272,7 +272,7 @@ meaning_of R m e = record {
   reads = λ p n w c. subst (ReadAlike nothing e (summary n)) (m.reads p n w c) (alike_self nothing e (summary n));
 }
 
-pub without_nothing : (R : Position → Tree → Tree → Type 0) → KeepsBodies R → KeepsBodiesWithout nothing R
+pub without_nothing : (R : Position → Tree → Tree → Type 0) → KeepsBodies R → KeepsBodiesWith nothing nothing R
 without_nothing R l = record {
   means = λ e z. meaning_of R l.means e;
   reads = l.means.reads;
@@ -282,7 +282,7 @@ without_nothing R l = record {
 }
 
 pub step_keeps_bodies : (R : Position → Tree → Tree → Type 0) → StepKeepsBodies R
-step_keeps_bodies R l p t u st strict s k e a z = to_kept (bodies a t) (bodies a u) (step_without R nothing (without_nothing R l) p t u st (avoids_nothing u) strict s k e a z)
+step_keeps_bodies R l p t u st strict s k e a z = to_kept (bodies a t) (bodies a u) (step_with R nothing nothing (without_nothing R l) p t u st (avoids_nothing u) strict s k e a z)
 
 -- ---- any number of steps
 

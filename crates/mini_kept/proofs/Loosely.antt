@@ -21,28 +21,25 @@ use Rattle.mini_laws.specs.Bodies.{outermost, bodies, bodies_in}
 use Rattle.mini_laws.proofs.Congruent.{avoids_nothing}
 use Rattle.mini_laws.proofs.Dead.{alike_self}
 use Rattle.mini_kept.specs.Lifted.{KeepsNames, ProgramKeeps}
-use Rattle.mini_kept.specs.Loosely.{symbol, Stays, Drops, LawfulLoosely, undeclared, ProgramIsKeptLoosely, LawfulIsLoose, LooseJoin, LooseNarrowed}
-use Rattle.mini_kept.specs.Without.{BodiesWithout, KeepsBodiesWithout}
-use Rattle.mini_kept.proofs.BodySteps.{step_without, whole_stands}
+use Rattle.mini_kept.specs.Loosely.{symbol, SameWith, StaysWith, Drops, LawfulWith, undeclared, ProgramIsKeptLoosely, LawfulIsLoose, LooseWider, LooseJoin, LooseNarrowed}
+use Rattle.mini_kept.specs.Without.{BodiesWith, KeepsBodiesWith}
+use Rattle.mini_kept.proofs.BodySteps.{step_with, whole_stands}
 use Rattle.mini_kept.proofs.Declared.{reaches_declared}
 use Rattle.mini_laws.specs.Fixity.{fixed_by, written_in}
 use Rattle.mini_kept.proofs.Fixed.{step_fixed}
 use Rattle.mini_kept.specs.Frames.{frames, frames_in}
 use Rattle.mini_kept.specs.KeepsFrames.{KeepsPlaces, KeepsFramesBut}
 use Rattle.mini_kept.specs.Fixities.{KeepsFixitiesBut}
-use Rattle.mini_kept.specs.ShownFrames.{KeyGiven, no_key, none_gone, gone_from, FramesShown}
+use Rattle.mini_kept.specs.ShownFrames.{KeyGivenWith, KeyGiven, no_key, none_gone, gone_from, FramesShown}
 use Rattle.mini_kept.proofs.FrameSteps.{places_of, step_frames_but}
 use Rattle.mini_kept.proofs.ShownFrames.{all_frames_more, frames_more, gone_more, kept_shown, shown_on, shown_themselves, given_seldom, given_before}
 use Rattle.mini_kept.proofs.Gone.{step_less, avoids}
 use Rattle.mini_kept.proofs.Lawful.{reaches_root, keyless_program}
 use Rattle.mini_kept.proofs.Steps.{any_step_fits}
 use Rattle.mini_kept.proofs.Whole.{any_reaches_keep}
-use Rattle.mini_kept.proofs.WithoutLists.{Part, all_more, from_kept, kept_itself, kept_on}
+use Rattle.mini_kept.proofs.WithoutLists.{Part, permits_part, nothing_part, part_itself, all_more, from_kept, kept_itself, kept_on}
 
 -- ---- variables that are gone
-
-nothing_gone : (D : VariableSet) → Part nothing D
-nothing_gone D x h = absurd (true≢false (sym h))
 
 one_gone : (k : ℕ) (u : Tree) → times (symbol k) (declared_symbols u) ≡ 0 → Part (alone (Declared k)) (undeclared u)
 one_gone k u e (Declared m) h = eq-eqb (times (symbol m) (declared_symbols u)) 0 (sym (ap (λ n. times (symbol n) (declared_symbols u)) (eqb-true k m h)) ∙ e)
@@ -57,7 +54,7 @@ still_gone t u w (Global s) h = absurd (true≢false (sym h))
 
 -- ---- steps
 
-module _ (R : Position → Tree → Tree → Type 0) (K : Shape → Bool) (l : LawfulLoosely K R) where
+module _ (R : Position → Tree → Tree → Type 0) (K : Shape → Bool) (W : VariableSet) (l : LawfulWith K W R) where
   names : KeepsNames R
   names = l.places.names
 
@@ -66,7 +63,7 @@ module _ (R : Position → Tree → Tree → Type 0) (K : Shape → Bool) (l : L
 
   -- those that stay, and those that drop a symbol
   abbrev Staying : Position → Tree → Tree → Type 0
-  Staying p n w = R p n w × Stays p n w
+  Staying p n w = R p n w × StaysWith W p n w
 
   abbrev Dropping : ℕ → Position → Tree → Tree → Type 0
   Dropping k p n w = R p n w × Drops K k p n w
@@ -75,7 +72,7 @@ module _ (R : Position → Tree → Tree → Type 0) (K : Shape → Bool) (l : L
     told : {p : Position} {t u : Tree} → Step R p t u → Step Staying p t u ⊎ ((k : ℕ) × Step (Dropping k) p t u)
     told (here p n w r) = by (l.instances p n w r)
       where
-        by : Stays p n w ⊎ ((k : ℕ) × Drops K k p n w) → Step Staying p n w ⊎ ((k : ℕ) × Step (Dropping k) p n w)
+        by : StaysWith W p n w ⊎ ((k : ℕ) × Drops K k p n w) → Step Staying p n w ⊎ ((k : ℕ) × Step (Dropping k) p n w)
         by (inl d) = inl (here p n w (r, d))
         by (inr d) = inr (d.0, here p n w (r, d.1))
     told (inside p h xs n ts us s) = by (all_told s)
@@ -99,22 +96,22 @@ module _ (R : Position → Tree → Tree → Type 0) (K : Shape → Bool) (l : L
   read_alike : (e : Environment) (D : VariableSet) (n w : Tree) → summary n ≡ summary w → ReadAlike D e (summary n) (summary w)
   read_alike e D n w q = subst (ReadAlike D e (summary n)) q (alike_self D e (summary n))
 
-  staying : KeepsBodiesWithout nothing Staying
+  staying : KeepsBodiesWith W nothing Staying
   staying = record {
-    means = λ e z. record { same = λ p n w r q f. r.1.same.by e nothing nothing q f; reads = λ p n w r. read_alike e nothing n w (l.reads p n w r.0) };
+    means = λ e z. record { same = λ p n w r q f. r.1.same.by e z q f; reads = λ p n w r. read_alike e nothing n w (l.reads p n w r.0) };
     reads = λ p n w r. l.reads p n w r.0;
     pieces = λ p n w r. names.pieces p n w r.0;
     kind = λ p n w r. l.kind p n w r.0;
-    bodies = λ p n w r strict s q e a z. from_kept nothing (bodies a n) (bodies a w) (r.1.bodies strict s q e a z);
+    bodies = λ p n w r strict s q e a z. all_more nothing W nothing nothing (nothing_part W) (part_itself nothing) (bodies a n) (bodies a w) (from_kept nothing (bodies a n) (bodies a w) (r.1.bodies strict s q e a z));
   }
 
-  dropping : (k : ℕ) → KeepsBodiesWithout (alone (Declared k)) (Dropping k)
+  dropping : (k : ℕ) → KeepsBodiesWith W (alone (Declared k)) (Dropping k)
   dropping k = record {
-    means = λ e z. record { same = λ p n w r q f. r.1.same e z q f; reads = λ p n w r. read_alike e (alone (Declared k)) n w (l.reads p n w r.0) };
+    means = λ e z. record { same = λ p n w r q f. r.1.same e z.unseen q f; reads = λ p n w r. read_alike e (alone (Declared k)) n w (l.reads p n w r.0) };
     reads = λ p n w r. l.reads p n w r.0;
     pieces = λ p n w r. names.pieces p n w r.0;
     kind = λ p n w r. l.kind p n w r.0;
-    bodies = λ p n w r strict s q e a z. r.1.bodies strict s q e a z;
+    bodies = λ p n w r strict s q e a z. all_more nothing W (alone (Declared k)) (alone (Declared k)) (nothing_part W) (part_itself (alone (Declared k))) (bodies a n) (bodies a w) (r.1.bodies strict s q e a z);
   }
 
   -- a dropped symbol was declared once, and is declared no more
@@ -124,17 +121,17 @@ module _ (R : Position → Tree → Tree → Type 0) (K : Shape → Bool) (l : L
       let once : times (symbol k) (declared_symbols t) ≤ 1 = d (symbol k) in
       omega (arith, less, once)
 
-  step_bodies : (t u : Tree) → Step R Elsewhere t u → IsWellShaped t → Scoped Read [] u → Distinct (declared_symbols t) → BodiesWithout (undeclared u) (bodies_in t) (bodies_in u)
+  step_bodies : (t u : Tree) → Step R Elsewhere t u → IsWellShaped t → Scoped Read [] u → Distinct (declared_symbols t) → BodiesWith W (undeclared u) (bodies_in t) (bodies_in u)
   step_bodies t u s e v d = by (told s)
     where
-      by : Step Staying Elsewhere t u ⊎ ((k : ℕ) × Step (Dropping k) Elsewhere t u) → BodiesWithout (undeclared u) (bodies_in t) (bodies_in u)
-      by (inl x) = all_more nothing (undeclared u) (nothing_gone (undeclared u)) (bodies_in t) (bodies_in u) (step_without Staying nothing staying Elsewhere t u x (avoids_nothing u) false (one a_program) refl e outermost whole_stands)
+      by : Step Staying Elsewhere t u ⊎ ((k : ℕ) × Step (Dropping k) Elsewhere t u) → BodiesWith W (undeclared u) (bodies_in t) (bodies_in u)
+      by (inl x) = all_more W W nothing (undeclared u) (part_itself W) (nothing_part (undeclared u)) (bodies_in t) (bodies_in u) (step_with Staying W nothing staying Elsewhere t u x (avoids_nothing u) false (one a_program) refl e outermost whole_stands)
       by (inr (k, x)) =
           let none = dropped k t u x d in
-          all_more (alone (Declared k)) (undeclared u) (one_gone k u none) (bodies_in t) (bodies_in u) (step_without (Dropping k) (alone (Declared k)) (dropping k) Elsewhere t u x (avoids k Read [] u v refl none) false (one a_program) refl e outermost whole_stands)
+          all_more W W (alone (Declared k)) (undeclared u) (part_itself W) (one_gone k u none) (bodies_in t) (bodies_in u) (step_with (Dropping k) W (alone (Declared k)) (dropping k) Elsewhere t u x (avoids k Read [] u v refl none) false (one a_program) refl e outermost whole_stands)
 
-  reaches_bodies : (p : Position) (t u : Tree) → Reaches R p t u → p ≡ Elsewhere → IsWellShaped t → Scoped Read [] t → Distinct (declared_symbols t) → BodiesWithout (undeclared u) (bodies_in t) (bodies_in u)
-  reaches_bodies _ _ _ (done p t) q e v d = kept_itself (undeclared t) (bodies_in t)
+  reaches_bodies : (p : Position) (t u : Tree) → Reaches R p t u → p ≡ Elsewhere → IsWellShaped t → Scoped Read [] t → Distinct (declared_symbols t) → BodiesWith W (undeclared u) (bodies_in t) (bodies_in u)
+  reaches_bodies _ _ _ (done p t) q e v d = kept_itself W (undeclared t) (bodies_in t)
   reaches_bodies _ _ _ (more p t u w s r) q e v d =
       let st : Step R Elsewhere t u = subst (λ x. Step R x t u) q s in
       let rest : Reaches R Elsewhere u w = subst (λ x. Reaches R x u w) q r in
@@ -142,7 +139,7 @@ module _ (R : Position → Tree → Tree → Type 0) (K : Shape → Bool) (l : L
       let others : ProgramKeeps u w = any_reaches_keep R names l.shapes u w rest in
       let f = program_fits t u st e in
       let scoped = one_step.scoped e v in
-      kept_on (undeclared w) (bodies_in t) (bodies_in u) (bodies_in w) (all_more (undeclared u) (undeclared w) (still_gone u w (others.symbols f scoped)) (bodies_in t) (bodies_in u) (step_bodies t u st e scoped d)) (reaches_bodies p u w r q f scoped (one_step.distinct e v d))
+      kept_on W (undeclared w) (bodies_in t) (bodies_in u) (bodies_in w) (all_more W W (undeclared u) (undeclared w) (part_itself W) (still_gone u w (others.symbols f scoped)) (bodies_in t) (bodies_in u) (step_bodies t u st e scoped d)) (reaches_bodies p u w r q f scoped (one_step.distinct e v d))
 
   -- ---- frames
 
@@ -168,14 +165,14 @@ module _ (R : Position → Tree → Tree → Type 0) (K : Shape → Bool) (l : L
       G = KeyGiven nothing (bodies_in t)
 
       by : Step Staying Elsewhere t u ⊎ ((k : ℕ) × Step (Dropping k) Elsewhere t u) → FramesShown (gone_from K (undeclared u)) G (frames_in t) (frames_in u)
-      by (inl x) = all_frames_more (gone_from K nothing) (gone_from K (undeclared u)) G G (gone_more K nothing (undeclared u) (nothing_gone (undeclared u))) (λ n s g. g) (frames_in t) (frames_in u) (step_frames_but (gone_from K nothing) Staying staying_frames t u x e)
+      by (inl x) = all_frames_more (gone_from K nothing) (gone_from K (undeclared u)) G G (gone_more K nothing (undeclared u) (nothing_part (undeclared u))) (λ n s g. g) (frames_in t) (frames_in u) (step_frames_but (gone_from K nothing) Staying staying_frames t u x e)
       by (inr (k, x)) =
           all_frames_more (gone_from K (alone (Declared k))) (gone_from K (undeclared u)) G G (gone_more K (alone (Declared k)) (undeclared u) (one_gone k u (dropped k t u x d))) (λ n s g. g) (frames_in t) (frames_in u)
           (step_frames_but (gone_from K (alone (Declared k))) (Dropping k) (dropping_frames k) t u x e)
 
   -- a key that only gives a property does so before, too, where nobody else sees what is gone
-  reaches_frames : (p : Position) (t u : Tree) → Reaches R p t u → p ≡ Elsewhere → IsWellShaped t → Scoped Read [] t → Distinct (declared_symbols t) → FramesShown (gone_from K (undeclared u)) (KeyGiven (undeclared u) (bodies_in t)) (frames_in t) (frames_in u)
-  reaches_frames _ _ _ (done p t) q e v d = shown_themselves (gone_from K (undeclared t)) (KeyGiven (undeclared t) (bodies_in t)) (frames_in t)
+  reaches_frames : (p : Position) (t u : Tree) → Reaches R p t u → p ≡ Elsewhere → IsWellShaped t → Scoped Read [] t → Distinct (declared_symbols t) → FramesShown (gone_from K (undeclared u)) (KeyGivenWith W (undeclared u) (bodies_in t)) (frames_in t) (frames_in u)
+  reaches_frames _ _ _ (done p t) q e v d = shown_themselves (gone_from K (undeclared t)) (KeyGivenWith W (undeclared t) (bodies_in t)) (frames_in t)
   reaches_frames _ _ _ (more p t u w s r) q e v d =
       let st : Step R Elsewhere t u = subst (λ x. Step R x t u) q s in
       let rest : Reaches R Elsewhere u w = subst (λ x. Reaches R x u w) q r in
@@ -184,11 +181,11 @@ module _ (R : Position → Tree → Tree → Type 0) (K : Shape → Bool) (l : L
       let f = program_fits t u st e in
       let scoped = one_step.scoped e v in
       let gone = still_gone u w (others.symbols f scoped) in
-      let kept = all_more (undeclared u) (undeclared w) gone (bodies_in t) (bodies_in u) (step_bodies t u st e scoped d) in
+      let kept = all_more W W (undeclared u) (undeclared w) (part_itself W) gone (bodies_in t) (bodies_in u) (step_bodies t u st e scoped d) in
       let M = gone_from K (undeclared w) in
-      shown_on M (KeyGiven (undeclared w) (bodies_in t)) (frames_in t) (frames_in u) (frames_in w)
-      (all_frames_more (gone_from K (undeclared u)) M (KeyGiven nothing (bodies_in t)) (KeyGiven (undeclared w) (bodies_in t)) (gone_more K (undeclared u) (undeclared w) gone) (given_seldom (undeclared w) (bodies_in t)) (frames_in t) (frames_in u) (step_frames t u st e d))
-      (frames_more M (KeyGiven (undeclared w) (bodies_in u)) (KeyGiven (undeclared w) (bodies_in t)) (given_before (undeclared w) (bodies_in t) (bodies_in u) kept) (frames_in u) (frames_in w) (reaches_frames p u w r q f scoped (one_step.distinct e v d)))
+      shown_on M (KeyGivenWith W (undeclared w) (bodies_in t)) (frames_in t) (frames_in u) (frames_in w)
+      (all_frames_more (gone_from K (undeclared u)) M (KeyGiven nothing (bodies_in t)) (KeyGivenWith W (undeclared w) (bodies_in t)) (gone_more K (undeclared u) (undeclared w) gone) (given_seldom W (undeclared w) (bodies_in t)) (frames_in t) (frames_in u) (step_frames t u st e d))
+      (frames_more M (KeyGivenWith W (undeclared w) (bodies_in u)) (KeyGivenWith W (undeclared w) (bodies_in t)) (given_before W (undeclared w) (bodies_in t) (bodies_in u) kept) (frames_in u) (frames_in w) (reaches_frames p u w r q f scoped (one_step.distinct e v d)))
 
   -- ---- what a write of a variable does that is still declared
 
@@ -224,7 +221,7 @@ module _ (R : Position → Tree → Tree → Type 0) (K : Shape → Bool) (l : L
       let still = not_part (undeclared u) (undeclared w) (still_gone u w (others.symbols f scoped)) x h in
       step_fixities t u st d x still ∙ reaches_fixities p u w r q f scoped (one_step.distinct e v d) x h
 
-  pub loosely_keeps : (t u : Tree) → Reaches R Elsewhere t u → IsWellShaped t → ProgramIsKeptLoosely K t u
+  pub loosely_keeps : (t u : Tree) → Reaches R Elsewhere t u → IsWellShaped t → ProgramIsKeptLoosely K W t u
   loosely_keeps t u r e = record {
     names = any_reaches_keep R names l.shapes t u r;
     bodies = reaches_bodies Elsewhere t u r refl e;
@@ -238,14 +235,31 @@ module _ (R : Position → Tree → Tree → Type 0) (K : Shape → Bool) (l : L
 
 module _ (R : Position → Tree → Tree → Type 0) where
   pub lawful_is_loose : LawfulIsLoose R
-  lawful_is_loose K l = record {
+  lawful_is_loose K W l = record {
     shapes = l.shapes;
     places = places_of R l.frames;
     reads = l.bodies.means.reads;
     kind = l.bodies.kind;
     declared = l.declared;
-    instances = λ p n w r. inl (record { same = l.bodies.means.same p n w r; fixed = l.fixed p n w r; frames = l.frames.frames p n w r; bodies = λ strict s q e a z. l.bodies.bodies p n w r strict s q e a z });
+    instances = λ p n w r. inl (record { same = record { by = λ e z. (l.bodies.means.same p n w r).by e nothing nothing }; fixed = l.fixed p n w r; frames = l.frames.frames p n w r; bodies = λ strict s q e a z. l.bodies.bodies p n w r strict s q e a z });
   }
+
+  stays_wider : (V W : VariableSet) → Part V W → (p : Position) (n w : Tree) → StaysWith V p n w → StaysWith W p n w
+  stays_wider V W f p n w d = record { same = record { by = λ e z. d.same.by e (permits_part V W nothing nothing f (part_itself nothing) e z) }; fixed = d.fixed; frames = d.frames; bodies = d.bodies }
+
+  pub loose_wider : LooseWider R
+  loose_wider K V W f l = record {
+    shapes = l.shapes;
+    places = l.places;
+    reads = l.reads;
+    kind = l.kind;
+    declared = l.declared;
+    instances = λ p n w r. by p n w (l.instances p n w r);
+  }
+    where
+      by : (p : Position) (n w : Tree) → StaysWith V p n w ⊎ ((k : ℕ) × Drops K k p n w) → StaysWith W p n w ⊎ ((k : ℕ) × Drops K k p n w)
+      by p n w (inl d) = inl (stays_wider V W f p n w d)
+      by p n w (inr d) = inr d
 
 module _ (R S : Position → Tree → Tree → Type 0) where
   one_or_other : {X : Position → Tree → Tree → Type 0} → ((p : Position) (n w : Tree) → R p n w → X p n w) → ((p : Position) (n w : Tree) → S p n w → X p n w) → (p : Position) (n w : Tree) → R p n w ⊎ S p n w → X p n w
@@ -257,7 +271,7 @@ module _ (R S : Position → Tree → Tree → Type 0) where
   either_row p n w f g (inr s) = g s
 
   pub loose_join : LooseJoin R S
-  loose_join K l m = record {
+  loose_join K W l m = record {
     shapes = record { fitting = one_or_other l.shapes.fitting m.shapes.fitting; asked = one_or_other l.shapes.asked m.shapes.asked };
     places = record {
       names = record { places = one_or_other l.places.names.places m.places.names.places; pieces = one_or_other l.places.names.pieces m.places.names.pieces; keeps = one_or_other l.places.names.keeps m.places.names.keeps };
@@ -276,7 +290,7 @@ module _ (R S : Position → Tree → Tree → Type 0) where
   narrowed f g p n w r = g p n w (f p n w r)
 
   pub loose_narrowed : LooseNarrowed R S
-  loose_narrowed K f l = record {
+  loose_narrowed K W f l = record {
     shapes = record { fitting = narrowed f l.shapes.fitting; asked = narrowed f l.shapes.asked };
     places = record {
       names = record { places = narrowed f l.places.names.places; pieces = narrowed f l.places.names.pieces; keeps = narrowed f l.places.names.keeps };

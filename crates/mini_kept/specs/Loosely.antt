@@ -1,5 +1,5 @@
--- A relation of rewriting that keeps all that a program has to keep but names that nothing mentions, and what any number of its
--- steps keep.
+-- A relation of rewriting that keeps all that a program has to keep but names that nothing mentions, where some variables can be
+-- written, and what any number of its steps keep.
 use Rattle.std.specs.Prelude.{ℕ, ◌≡◌, ◌+◌, ◌≤◌, ◌⊎◌, nat_eq, Bool, true, false, Contains, [], Option, None, Some}
 use Rattle.mini_model.specs.declared.name.Name.{Name}
 use Rattle.mini_model.specs.declared.name.SymbolId.{SymbolId}
@@ -21,13 +21,12 @@ use Rattle.mini_laws.specs.Naming.{summary}
 use Rattle.mini_laws.specs.Fits.{Fits}
 use Rattle.mini_laws.specs.Fixity.{fixed_by, fixed_in}
 use Rattle.mini_laws.specs.Same.{Same}
-use Rattle.mini_laws.specs.Rows.{SameAt}
 use Rattle.mini_laws.specs.Substitution.{alone}
 use Rattle.mini_laws.specs.Bodies.{Around, bodies, bodies_in, arrow_kind}
 use Rattle.mini_kept.specs.AlikeBodies.{BodiesKept}
 use Rattle.mini_kept.specs.Declaring.{declared}
 use Rattle.mini_kept.specs.Frames.{frames, frames_in, FramesKept}
-use Rattle.mini_kept.specs.ShownFrames.{KeyGiven, no_key, none_gone, gone_from, FramesShown}
+use Rattle.mini_kept.specs.ShownFrames.{KeyGivenWith, KeyGiven, no_key, none_gone, gone_from, FramesShown}
 use Rattle.mini_kept.specs.Kept.{over}
 use Rattle.mini_kept.specs.KeepsFrames.{KeepsPlaces}
 use Rattle.mini_kept.specs.KeepsShapes.{KeepsShapes}
@@ -35,18 +34,25 @@ use Rattle.mini_kept.specs.Lawful.{Lawful}
 use Rattle.mini_kept.specs.Lifted.{ProgramKeeps}
 use Rattle.mini_kept.specs.Placed.{fits_place}
 use Rattle.mini_kept.specs.Standing.{Stands}
-use Rattle.mini_kept.specs.Without.{Unseen, BodiesWithout}
+use Rattle.mini_kept.specs.Without.{Unseen, Permits, BodiesWith, BodiesWithout}
 
 abbrev pub symbol : ℕ → Option SymbolId
 symbol k = Some (record { 0 = k })
 
--- one node in the place of another that means the same everywhere, with its bodies and frames, and what a write of each variable
--- does
-pub record Stays (p : Position) (n w : Tree) : Type 0 where
-  pub same : SameAt p n w
+-- the same wherever it stands, in any environment in which the variables W can be written
+pub record SameWith (W : VariableSet) (p : Position) (n w : Tree) : Type 0 where
+  pub by : (e : Environment) → Permits W nothing e → (q : Demand) → Fits p q → Same e nothing nothing q n w
+
+-- one node in the place of another that means the same there, with its bodies and frames, and what a write of each variable does
+pub record StaysWith (W : VariableSet) (p : Position) (n w : Tree) : Type 0 where
+  pub same : SameWith W p n w
   pub fixed : (x : Variable) → fixed_by n x ≡ fixed_by w x
   pub frames : (strict : Bool) (s : Slot) → fits_place p s ≡ true → fits strict s n ≡ true → (a : Around) → FramesShown none_gone (KeyGiven nothing (bodies a n)) (frames None n) (frames None w)
   pub bodies : (strict : Bool) (s : Slot) → fits_place p s ≡ true → fits strict s n ≡ true → (a : Around) → Stands s p a → BodiesKept (bodies a n) (bodies a w)
+
+-- whichever variables can be written
+abbrev pub Stays : Position → Tree → Tree → Type 0
+Stays = StaysWith nothing
 
 -- One without a name that a scope in the other declares: the names that are seen around it are those, in order, and the
 -- symbol is declared in it once less. Where nobody else sees that variable it means the same but for what the variable
@@ -62,14 +68,18 @@ pub record Drops (K : Shape → Bool) (k : ℕ) (p : Position) (n w : Tree) : Ty
   pub bodies : (strict : Bool) (s : Slot) → fits_place p s ≡ true → fits strict s n ≡ true → (a : Around) → Stands s p a → BodiesWithout (alone (Declared k)) (bodies a n) (bodies a w)
 
 -- It keeps shapes, names and places, a parent reads alike what it writes, and that declares no other name; each instance
--- stays, or drops one name. K says which functions and classes may lose their own name
-pub record LawfulLoosely (K : Shape → Bool) (R : Position → Tree → Tree → Type 0) : Type 0 where
+-- stays, where the variables W can be written, or drops one name. K says which functions and classes may lose their own name
+pub record LawfulWith (K : Shape → Bool) (W : VariableSet) (R : Position → Tree → Tree → Type 0) : Type 0 where
   pub shapes : KeepsShapes R
   pub places : KeepsPlaces R
   pub reads : (p : Position) (n w : Tree) → R p n w → summary n ≡ summary w
   pub kind : (p : Position) (n w : Tree) → R p n w → (strict : Bool) (s : Slot) → fits strict s n ≡ true → arrow_kind (shape_of n) ≡ arrow_kind (shape_of w)
   pub declared : (p : Position) (n w : Tree) → R p n w → (x : Name) → Contains (declared w) x → Contains (declared n) x
-  pub instances : (p : Position) (n w : Tree) → R p n w → Stays p n w ⊎ ((k : ℕ) × Drops K k p n w)
+  pub instances : (p : Position) (n w : Tree) → R p n w → StaysWith W p n w ⊎ ((k : ℕ) × Drops K k p n w)
+
+-- whichever variables can be written
+abbrev pub LawfulLoosely : (Shape → Bool) → (Position → Tree → Tree → Type 0) → Type 0
+LawfulLoosely K R = LawfulWith K nothing R
 
 -- the variables whose symbol a program doesn't declare
 abbrev pub undeclared : Tree → VariableSet
@@ -77,26 +87,31 @@ undeclared u (Declared k) = nat_eq (times (symbol k) (declared_symbols u)) 0
 undeclared u (Global s) = false
 
 -- what any number of steps keep of a program whose names are resolved: each body runs as before where nobody else sees a
--- variable that the later program doesn't declare; what a write of each variable that it does declare does stays
-pub record ProgramIsKeptLoosely (K : Shape → Bool) (t u : Tree) : Type 0 where
+-- variable that the later program doesn't declare, and those of W can be written; what a write of each variable that it does declare
+-- does stays
+pub record ProgramIsKeptLoosely (K : Shape → Bool) (W : VariableSet) (t u : Tree) : Type 0 where
   pub names : ProgramKeeps t u
-  pub bodies : Scoped Read [] t → Distinct (declared_symbols t) → BodiesWithout (undeclared u) (bodies_in t) (bodies_in u)
-  pub frames : Scoped Read [] t → Distinct (declared_symbols t) → FramesShown (gone_from K (undeclared u)) (KeyGiven (undeclared u) (bodies_in t)) (frames_in t) (frames_in u)
+  pub bodies : Scoped Read [] t → Distinct (declared_symbols t) → BodiesWith W (undeclared u) (bodies_in t) (bodies_in u)
+  pub frames : Scoped Read [] t → Distinct (declared_symbols t) → FramesShown (gone_from K (undeclared u)) (KeyGivenWith W (undeclared u) (bodies_in t)) (frames_in t) (frames_in u)
   pub fixities : Scoped Read [] t → Distinct (declared_symbols t) → (strict : Bool) (x : Variable) → undeclared u x ≡ false → fixed_in strict t x ≡ fixed_in strict u x
   pub declared : (x : Name) → Contains (declared u) x → Contains (declared t) x
   pub root : u ≡ over t (children u)
 
 abbrev pub LooselyKeeps : (Position → Tree → Tree → Type 0) → Type 0
-LooselyKeeps R = (K : Shape → Bool) → LawfulLoosely K R → (t u : Tree) → Reaches R Elsewhere t u → IsWellShaped t → ProgramIsKeptLoosely K t u
+LooselyKeeps R = (K : Shape → Bool) (W : VariableSet) → LawfulWith K W R → (t u : Tree) → Reaches R Elsewhere t u → IsWellShaped t → ProgramIsKeptLoosely K W t u
 
--- what is lawful is so loosely
+-- what is lawful is so loosely, whichever variables can be written
 abbrev pub LawfulIsLoose : (Position → Tree → Tree → Type 0) → Type 0
-LawfulIsLoose R = (K : Shape → Bool) → Lawful R → LawfulLoosely K R
+LawfulIsLoose R = (K : Shape → Bool) (W : VariableSet) → Lawful R → LawfulWith K W R
+
+-- what is lawful where some variables can be written is so where more can
+abbrev pub LooseWider : (Position → Tree → Tree → Type 0) → Type 0
+LooseWider R = (K : Shape → Bool) (V W : VariableSet) → ((x : Variable) → V x ≡ true → W x ≡ true) → LawfulWith K V R → LawfulWith K W R
 
 -- two loosely lawful relations make one
 abbrev pub LooseJoin : (Position → Tree → Tree → Type 0) → (Position → Tree → Tree → Type 0) → Type 0
-LooseJoin R S = (K : Shape → Bool) → LawfulLoosely K R → LawfulLoosely K S → LawfulLoosely K (λ p t u. R p t u ⊎ S p t u)
+LooseJoin R S = (K : Shape → Bool) (W : VariableSet) → LawfulWith K W R → LawfulWith K W S → LawfulWith K W (λ p t u. R p t u ⊎ S p t u)
 
 -- and so is what makes no more than a loosely lawful one
 abbrev pub LooseNarrowed : (Position → Tree → Tree → Type 0) → (Position → Tree → Tree → Type 0) → Type 0
-LooseNarrowed R S = (K : Shape → Bool) → ((p : Position) (t u : Tree) → R p t u → S p t u) → LawfulLoosely K S → LawfulLoosely K R
+LooseNarrowed R S = (K : Shape → Bool) (W : VariableSet) → ((p : Position) (t u : Tree) → R p t u → S p t u) → LawfulWith K W S → LawfulWith K W R

@@ -6,7 +6,7 @@
 ghost use Rattle.mini_kept.specs.Kept.{EachBelowKept, EachKept, ReachesWellShaped, StepFits};
 ghost use Rattle.mini_kept.specs.KeepsShapes.{AnyStepFits, AnyReachesWellShaped};
 ghost use Rattle.mini_kept.specs.Lawful.{LawfulKeeps, LawfulJoin, LawfulNarrowed, RowsAreLawful};
-ghost use Rattle.mini_kept.specs.Loosely.{LooselyKeeps, LawfulIsLoose, LooseJoin, LooseNarrowed};
+ghost use Rattle.mini_kept.specs.Loosely.{LooselyKeeps, LawfulIsLoose, LooseJoin, LooseNarrowed, LooseWider};
 ghost use Rattle.mini_kept.specs.Swaps.{BranchesSwapped, NegationLeft};
 ghost use Rattle.mini_kept.specs.Lifted.{RowsKeepNames, ReachesKeepsNames};
 ghost use Rattle.mini_kept.specs.NameLaws.{ResolvedRenumbered, NumbersCarried, ProgramCarried};
@@ -123,16 +123,19 @@ pub fn lawful_rules_narrowed<R: Rewrites, S: Rewrites>()
 {}
 
 /// Any number of steps of a loosely lawful relation keep all of a program that is well shaped, but names that nothing mentions:
-/// each body of it runs as before where nobody else sees a variable that the later program doesn't declare.
+/// each body of it runs as before where nobody else sees a variable that the later program doesn't declare, and those can be written
+/// for which the relation is lawful. What is lawful is so, whichever can.
 pub fn loose_rewriting_keeps<R: Rewrites>()
     ensures keeps { LooselyKeeps R.gives }
     ensures lawful { LawfulIsLoose R.gives }
 {}
 
-/// What one loosely lawful relation makes, or another, is loosely lawful, and what makes no more than one is.
+/// What one loosely lawful relation makes, or another, is loosely lawful, what makes no more than one is, and what is so where some
+/// variables can be written is so where more can.
 pub fn loose_rules_join<R: Rewrites, S: Rewrites>()
     ensures joined { LooseJoin R.gives S.gives }
     ensures narrowed { LooseNarrowed R.gives S.gives }
+    ensures wider { LooseWider R.gives }
 {}
 
 /// What the rows make is lawful.

@@ -27,9 +27,10 @@ use Rattle.mini_accept.specs.WellShaped.{IsWellShaped}
 use Rattle.mini_kept.specs.Carried.{numbers, symbol_numbers, carried}
 use Rattle.mini_kept.specs.Declaring.{declared}
 use Rattle.mini_kept.specs.Frames.{frames_in}
-use Rattle.mini_kept.specs.ShownFrames.{KeyGiven, gone_from, FramesShown}
-use Rattle.mini_kept.specs.Loosely.{symbol, LawfulLoosely, undeclared, ProgramIsKeptLoosely}
-use Rattle.mini_kept.specs.Without.{Unseen, AlikeWithout}
+use Rattle.mini_kept.specs.ShownFrames.{KeyGivenWith, gone_from, FramesShown}
+use Rattle.mini_context.specs.Writable.{writable_by, writable_in}
+use Rattle.mini_kept.specs.Loosely.{symbol, LawfulWith, undeclared, ProgramIsKeptLoosely}
+use Rattle.mini_kept.specs.Without.{Unseen, AlikeWith}
 use Rattle.mini_kept.proofs.Gone.{avoids}
 use Rattle.mini_kept.proofs.Loosely.{loosely_keeps}
 use Rattle.mini_kept.proofs.ReadBack.{IsRead, IsReadBack, read_back}
@@ -47,7 +48,7 @@ use Rattle.mini_rows.specs.Switches.{let_go}
 use Rattle.mini_peephole.specs.Faithful as faith
 use Rattle.mini_peephole.specs.Faithful.{earlier, switches, symbols_of, HasNoRepeat, BeginsWithProgram, AreNamed, IsSameBody, BodiesAreSame, IsFaithfulWith, FaithfulWith}
 use Rattle.mini_peephole.specs.declared.minify.Minified.{Minified}
-use Rattle.mini_peephole.proofs.Chains.{Any, any_lawful, any_reach}
+use Rattle.mini_peephole.proofs.Chains.{Any, any_lawful, any_reach, open_in}
 use Rattle.mini_peephole.proofs.Repeats.{no_repeat}
 use Rattle.mini_peephole.proofs.Written.{is_read, free_of, read_again}
 
@@ -74,7 +75,7 @@ unseen u v c = record { shared = shown; foreign = changed }
     changed (Global s) h = absurd (true≢false (sym h))
 
 module _ (K : Shape → Bool) where
-  same_body : (t u : Tree) → ProgramIsKeptLoosely K t u → Scoped Read [] t → Distinct (declared_symbols t) → Scoped Read [] u → (b c : Body) → Contains (bodies_in u) c → AlikeWithout (undeclared u) b c → IsSameBody t u b c
+  same_body : (t u : Tree) → ProgramIsKeptLoosely K (writable_by t) t u → Scoped Read [] t → Distinct (declared_symbols t) → Scoped Read [] u → (b c : Body) → Contains (bodies_in u) c → AlikeWith (writable_by t) (undeclared u) b c → IsSameBody t u b c
   same_body t u kept vt d v b c there a =
       let e = environment_with t (shared_by u c) (foreign_to u c) b in
       let f = environment_with u (shared_by u c) (foreign_to u c) c in
@@ -88,13 +89,13 @@ module _ (K : Shape → Bool) where
         same = record {
           by = λ vars this answers turns i.
               let again = refixed e f.fixed (undeclared u) (λ x h. (λ k. fixed_in (a.strict k) t x) ∙ kept.fixities vt d c.strict x h) c.kind c.root root vars this answers turns ∙ (λ k. Run (modes k) c.kind c.root vars this answers turns) in
-              subst (λ r. (Run e b.kind b.root vars this answers turns ≡ None) ⊎ (Run e b.kind b.root vars this answers turns ≡ r)) again ((a.same e (record { shared = seen.shared; foreign = seen.foreign }) X).by vars this answers turns i);
+              subst (λ r. (Run e b.kind b.root vars this answers turns ≡ None) ⊎ (Run e b.kind b.root vars this answers turns ≡ r)) again ((a.same e (record { unseen = record { shared = seen.shared; foreign = seen.foreign }; writable = λ x h. open_in b.strict t x h }) X).by vars this answers turns i);
         };
       }
 
-  bodies_same : (t u : Tree) → ProgramIsKeptLoosely K t u → IsWellShaped t → Scoped Read [] t → Distinct (declared_symbols t) → BodiesAreSame t u
+  bodies_same : (t u : Tree) → ProgramIsKeptLoosely K (writable_by t) t u → IsWellShaped t → Scoped Read [] t → Distinct (declared_symbols t) → BodiesAreSame t u
   bodies_same t u kept e v d c there =
-      let (b, stands, alike) = kept_stands (undeclared u) (bodies_in t) (bodies_in u) (kept.bodies v d) c there in
+      let (b, stands, alike) = kept_stands (writable_by t) (undeclared u) (bodies_in t) (bodies_in u) (kept.bodies v d) c there in
       (b, stands, same_body t u kept v d (kept.names.scoped e v) b c there alike)
 
 -- ---- the whole
@@ -106,7 +107,7 @@ pub record Made (G : Tree → Position → Tree → Tree → Type 0) (D : Tree �
   pub symbols : m.symbols ≡ symbol_numbers (declared_symbols v)
   pub back : IsReadBack t v u
   pub shaped : IsWellShaped (resolved_program t)
-  pub rewritten : ProgramIsKeptLoosely (let_go (switches o)) (resolved_program t) v
+  pub rewritten : ProgramIsKeptLoosely (let_go (switches o)) (writable_by (resolved_program t)) (resolved_program t) v
 
 named : (m : Minified) (t v u : Tree) → IsReadBack t v u → m.kept ≡ 0 ∷ numbers v → m.symbols ≡ symbol_numbers (declared_symbols v) → AreNamed m.kept m.symbols t u
 named m t v u r kept symbols = record {
@@ -134,7 +135,7 @@ module _ (G : Tree → Position → Tree → Tree → Type 0) (D : Tree → Posi
         jumps = made.back.jumps (free_of t free).1;
         named = named m t v u made.back made.kept made.symbols;
         spelled = λ x c. kept.declared x (subst (λ w. Contains (declared w) x) whole c);
-        frames = subst (λ w. FramesShown (gone_from (let_go (switches o)) (undeclared w)) (KeyGiven (undeclared w) (bodies_in (resolved_program t))) (frames_in (resolved_program t)) (frames_in w)) (sym whole) (kept.frames (scoped Read [] 0 t) (resolved_distinct t));
+        frames = subst (λ w. FramesShown (gone_from (let_go (switches o)) (undeclared w)) (KeyGivenWith (writable_by (resolved_program t)) (undeclared w) (bodies_in (resolved_program t))) (frames_in (resolved_program t)) (frames_in w)) (sym whole) (kept.frames (scoped Read [] 0 t) (resolved_distinct t));
         bodies = subst (BodiesAreSame (resolved_program t)) (sym whole) (bodies_same (let_go (switches o)) (resolved_program t) v kept made.shaped (scoped Read [] 0 t) (resolved_distinct t));
         weight = subst (λ w. program_weight w ≤ program_weight (resolved_program t)) (sym whole) (omega (arith, some, less));
         some_pass = some;
@@ -143,15 +144,18 @@ module _ (G : Tree → Position → Tree → Tree → Type 0) (D : Tree → Posi
         unsettled = λ e. let (same, fell) = made.passes.stopped e in subst (λ w. program_weight w + max o.passes 1 ≤ program_weight (resolved_program t)) (sym whole) (omega (arith, same, fell));
       }
 
-  module _ (o : CompressOptions) (l : (q : Tree) → LawfulLoosely (let_go (switches o)) (G q)) (d : Data) (m : Minified) (t : Tree) (read : Accepts d t) (r : IsWritten G D (resolved_program t) o.passes m) where
+  module _ (o : CompressOptions) (l : (q : Tree) → LawfulWith (let_go (switches o)) (writable_in q) (G q)) (d : Data) (m : Minified) (t : Tree) (read : Accepts d t) (r : IsWritten G D (resolved_program t) o.passes m) where
     pub start : IsRead t read.1
     start = is_read d read.0 read.1 t read.2
 
     shaped : IsWellShaped (resolved_program t)
     shaped = shaped_resolved t start.shaped
 
-    kept : ProgramIsKeptLoosely (let_go (switches o)) (resolved_program t) r.output
-    kept = loosely_keeps (Any G) (let_go (switches o)) (any_lawful G (let_go (switches o)) l) (resolved_program t) r.output (any_reach G r.passes.reached) shaped
+    kept : ProgramIsKeptLoosely (let_go (switches o)) (writable_by (resolved_program t)) (resolved_program t) r.output
+    kept =
+        let K = let_go (switches o) in
+        let v = resolved_program t in
+        loosely_keeps (Any G K l v) K (writable_by v) (any_lawful G K l v) v r.output (any_reach G K l v shaped (scoped Read [] 0 t) (resolved_distinct t) r.passes.reached refl) shaped
 
     pub again : (u : Tree) × Accepts (program_data r.output) u × (text u ≡ text r.output)
     again = read_again r.output (kept.names.shaped shaped)

@@ -1,44 +1,118 @@
 -- Passes one after another, each over the program as it began, as steps of one relation.
-use Rattle.std.proofs.Common.{ℕ, Bool}
-use Rattle.mini_model.specs.Tree.{Tree}
+use Rattle.std.proofs.Common.{◌≡◌, ℕ, Bool, true, false, [], refl, ap, sym, subst, ◌∙◌, true≢false}
+use Rattle.std.specs.Prelude.{◌||◌, List, ◌∷◌, nat_eq}
+use Rattle.std.proofs.lemmas.Bool.{and_parts, eqb-true, eq-eqb}
+use Rattle.mini_model.specs.Tree.{Tree, Trees, node, none, ◌▸◌}
 use Rattle.mini_model.specs.declared.place.Position.{Position}
 use Rattle.mini_model.specs.declared.place.Position.TheVariants.{Elsewhere}
 use Rattle.mini_model.specs.declared.shape.Shape.{Shape}
 use Rattle.mini_model.specs.Rewriting.{Reaches, done}
+use Rattle.mini_accept.specs.WellShaped.{IsWellShaped}
+use Rattle.mini_laws.specs.declared.names.Use.TheVariants.{Read}
+use Rattle.mini_laws.specs.Congruence.{NoneIn, Avoids, AllAvoid}
+use Rattle.mini_laws.specs.Fixity.{fixed_in, written_in}
+use Rattle.mini_laws.specs.Scoped.{Scoped}
+use Rattle.mini_laws.specs.State.{Fixed, Writable, Constant, KeepsOld}
+use Rattle.mini_laws.specs.Substitution.{alone}
+use Rattle.mini_laws.specs.Symbols.{declared_symbols, times, Distinct}
+use Rattle.mini_laws.specs.Value.{Variable, Declared, Global, VariableSet, variable_eq, variables, is_in, choose}
 use Rattle.mini_tree.specs.Passes.{PassesReach, no_pass, one_more}
 use Rattle.mini_tree.specs.Wider.{reaches_of}
 use Rattle.mini_tree.proofs.Reaching.{reaches_trans}
-use Rattle.mini_kept.specs.Loosely.{LawfulLoosely}
+use Rattle.mini_context.specs.Writable.{is_open, writable_by, writable_in, mentions, any_mentions}
+use Rattle.mini_kept.specs.Loosely.{symbol, LawfulWith, undeclared, ProgramIsKeptLoosely}
+use Rattle.mini_kept.proofs.Gone.{avoids}
+use Rattle.mini_kept.proofs.Loosely.{loosely_keeps, loose_wider}
+use Rattle.mini_kept.proofs.WithoutLists.{Part}
 
-module _ (G : Tree → Position → Tree → Tree → Type 0) where
-  -- what is made of a tree over some program
+-- ---- what a program that has its names' symbols mentions it declares
+
+module _ (k : ℕ) where
+  other : (y : Variable) → variable_eq (Declared k) y ≡ false → variable_eq y (Declared k) ≡ false
+  other (Global s) e = refl
+  other (Declared m) e = by (nat_eq m k) refl
+    where
+      by : (b : Bool) → nat_eq m k ≡ b → nat_eq m k ≡ false
+      by true q = absurd (true≢false (sym (eq-eqb k m (sym (eqb-true m k q))) ∙ e))
+      by false q = q
+
+  none_in : (ys : List Variable) → NoneIn (alone (Declared k)) ys → is_in (Declared k) ys ≡ false
+  none_in [] a = refl
+  none_in (y ∷ ys) a = ap (λ b. choose b true (is_in (Declared k) ys)) (other y a.0) ∙ none_in ys a.1
+
+  mutual
+    unmentioned : (t : Tree) → Avoids (alone (Declared k)) t → mentions t (Declared k) ≡ false
+    unmentioned (node h xs n ts) a = ap (λ b. b || any_mentions ts (Declared k)) (none_in (variables xs) a.0) ∙ all_unmentioned ts a.1
+
+    all_unmentioned : (ts : Trees) → AllAvoid (alone (Declared k)) ts → any_mentions ts (Declared k) ≡ false
+    all_unmentioned none a = refl
+    all_unmentioned (t ▸ ts) a = ap (λ b. b || any_mentions ts (Declared k)) (unmentioned t a.0) ∙ all_unmentioned ts a.1
+
+mentioned_is_declared : (u : Tree) → Scoped Read [] u → (k : ℕ) → mentions u (Declared k) ≡ true → undeclared u (Declared k) ≡ false
+mentioned_is_declared u v k m = by (nat_eq (times (symbol k) (declared_symbols u)) 0) refl
+  where
+    by : (b : Bool) → nat_eq (times (symbol k) (declared_symbols u)) 0 ≡ b → nat_eq (times (symbol k) (declared_symbols u)) 0 ≡ false
+    by true q = absurd (true≢false (sym m ∙ unmentioned k u (avoids k Read [] u v refl (eqb-true (times (symbol k) (declared_symbols u)) 0 q))))
+    by false q = q
+
+-- ---- what a program lets be written can be in all of its code
+
+pub open_is : (f : Fixed) → is_open f ≡ true → f ≡ Writable
+open_is Writable e = refl
+open_is Constant e = absurd (true≢false (sym e))
+open_is KeepsOld e = absurd (true≢false (sym e))
+
+open_written : (strict : Bool) → written_in strict Writable ≡ Writable
+open_written true = refl
+open_written false = refl
+
+pub open_in : (strict : Bool) (t : Tree) (x : Variable) → writable_by t x ≡ true → fixed_in strict t x ≡ Writable
+open_in strict t x e = ap (written_in strict) (open_is _ e) ∙ open_written strict
+
+module _ (G : Tree → Position → Tree → Tree → Type 0) (K : Shape → Bool) (l : (q : Tree) → LawfulWith K (writable_in q) (G q)) (t : Tree) where
+  -- what is made of a tree over some program in which nothing can be written that the first forbids to write
   abbrev pub Any : Position → Tree → Tree → Type 0
-  Any p n w = (q : Tree) × G q p n w
+  Any p n w = (q : Tree) × Part (writable_in q) (writable_by t) × G q p n w
 
-  -- what is made over every program is made in the passes together
-  pub within_reach : (S : Position → Tree → Tree → Type 0) → ((q : Tree) (p : Position) (n w : Tree) → G q p n w → S p n w) → {k : ℕ} {t u : Tree} → PassesReach G k t u → Reaches S Elsewhere t u
-  within_reach S f (no_pass t) = done Elsewhere t
-  within_reach S f (one_more k t u v s r) = reaches_trans S (within_reach S f s) (reaches_of (G u) S (f u) Elsewhere u v r)
-
-  pub any_reach : {k : ℕ} {t u : Tree} → PassesReach G k t u → Reaches Any Elsewhere t u
-  any_reach s = within_reach Any (λ q p n w r. (q, r)) s
+  at_first : (q : Tree) → Part (writable_in q) (writable_by t) → LawfulWith K (writable_by t) (G q)
+  at_first q f = loose_wider (G q) K (writable_in q) (writable_by t) f (l q)
 
   each : {X : Position → Tree → Tree → Type 0} → ((q : Tree) (p : Position) (n w : Tree) → G q p n w → X p n w) → (p : Position) (n w : Tree) → Any p n w → X p n w
-  each f p n w r = f r.0 p n w r.1
+  each f p n w r = f r.0 p n w r.2
 
   -- what is lawful over every program is lawful over all together
-  pub any_lawful : (K : Shape → Bool) → ((q : Tree) → LawfulLoosely K (G q)) → LawfulLoosely K Any
-  any_lawful K l = record {
+  pub any_lawful : LawfulWith K (writable_by t) Any
+  any_lawful = record {
     shapes = record { fitting = each (λ q. (l q).shapes.fitting); asked = each (λ q. (l q).shapes.asked) };
     places = record {
       names = record { places = each (λ q. (l q).places.names.places); pieces = each (λ q. (l q).places.names.pieces); keeps = each (λ q. (l q).places.names.keeps) };
       slots = each (λ q. (l q).places.slots);
       ports = each (λ q. (l q).places.ports);
-      listed = λ p n w e r. (l r.0).places.listed p n w e r.1;
+      listed = λ p n w e r. (l r.0).places.listed p n w e r.2;
       exported = each (λ q. (l q).places.exported);
     };
     reads = each (λ q. (l q).reads);
     kind = each (λ q. (l q).kind);
     declared = each (λ q. (l q).declared);
-    instances = each (λ q. (l q).instances);
+    instances = λ p n w r. (at_first r.0 r.1).instances p n w r.2;
   }
+
+  module _ (shaped : IsWellShaped t) (scoped : Scoped Read [] t) (distinct : Distinct (declared_symbols t)) where
+    -- what can be written in a later program can be in the first
+    writable_still : (u : Tree) → Reaches Any Elsewhere t u → Part (writable_in u) (writable_by t)
+    writable_still u r = by
+      where
+        kept : ProgramIsKeptLoosely K (writable_by t) t u
+        kept = loosely_keeps Any K (writable_by t) any_lawful t u r shaped
+
+        by : Part (writable_in u) (writable_by t)
+        by (Declared k) h =
+            let (m, f) = and_parts (mentions u (Declared k)) (writable_by u (Declared k)) h in
+            ap is_open (kept.fixities scoped distinct false (Declared k) (mentioned_is_declared u (kept.names.scoped shaped scoped) k m)) ∙ f
+        by (Global s) h = absurd (true≢false (sym h))
+
+    pub any_reach : {k : ℕ} {s u : Tree} → PassesReach G k s u → s ≡ t → Reaches Any Elsewhere t u
+    any_reach (no_pass s) e = subst (Reaches Any Elsewhere t) (sym e) (done Elsewhere t)
+    any_reach (one_more k s u v r others) e =
+        let before = any_reach r e in
+        reaches_trans Any before (reaches_of (G u) Any (λ p n w g. (u, writable_still u before, g)) Elsewhere u v others)

@@ -9,8 +9,12 @@ use Rattle.mini_model.specs.Tree.{Tree, Trees, node}
 use Rattle.mini_model.specs.Weight.{weight, program_weight, capped}
 use Rattle.mini_model.specs.Rewriting.{Everywhere, EverywhereIn, Step, StepIn, here, inside, first, later, Reaches, done, more}
 use Rattle.mini_laws.specs.Resolved.{resolved_program}
+use Rattle.mini_laws.specs.Value.{VariableSet}
+use Rattle.mini_context.specs.Writable.{writable_in}
 use Rattle.mini_scope.specs.Pointers.{early_fault}
 use Rattle.mini_tree.specs.declared.options.CompressOptions.{CompressOptions}
+use Rattle.mini_tree.specs.Passes.{PassesReach, no_pass, one_more}
+use Rattle.mini_tree.specs.Wider.{reaches_of}
 use Rattle.mini_accept.specs.Accept.{Accepts}
 use Rattle.mini_accept.proofs.Depths.{one_tree}
 use Rattle.mini_kept.proofs.InPreorder.{preorder_same}
@@ -23,30 +27,37 @@ use Rattle.mini_peephole.specs.AnyPasses.{NothingLeft}
 use Rattle.mini_peephole.specs.Minified.{IsRewriting}
 use Rattle.mini_peephole.specs.Rules.{AllGives, AllRests}
 use Rattle.mini_peephole.specs.Faithful as faith
-use Rattle.mini_peephole.specs.Faithful.{earlier, switches, IsFaithfulWith, IsFaithful, Faithful, PassesBounded}
+use Rattle.mini_peephole.specs.Faithful.{earlier, switches, IsFaithfulWith, IsRewritten, IsFaithful, Faithful, PassesBounded}
 use Rattle.mini_peephole.specs.declared.minify.Minified.{Minified}
 use Rattle.mini_peephole.proofs.AnyPasses as any
-use Rattle.mini_peephole.proofs.Chains.{within_reach}
 use Rattle.mini_peephole.proofs.Heaviest.{resolved_lighter}
 use Rattle.mini_peephole.proofs.Rules.{all_contract, gives_lawful, rests_everywhere}
 
 -- ---- a program without a redex has no rewrite
 
-module _ (o : Switches) where
+module _ (o : Switches) (W : VariableSet) where
   mutual
-    no_step : {p : Position} {t u : Tree} → Step (Rewrites o) p t u → HasNoRedex o p t → ⊥
+    no_step : {p : Position} {t u : Tree} → Step (Rewrites o W) p t u → HasNoRedex o W p t → ⊥
     no_step (here p (node h xs n ts) w c) f = f.0 (record { to = w; contracts = c })
     no_step (inside p h xs n ts us st) f = no_step_in st f.1
 
-    no_step_in : {π : ℕ → Position} {ts us : Trees} → StepIn (Rewrites o) π ts us → EverywhereIn (IsSettled o) π ts → ⊥
+    no_step_in : {π : ℕ → Position} {ts us : Trees} → StepIn (Rewrites o W) π ts us → EverywhereIn (IsSettled o W) π ts → ⊥
     no_step_in (first π t u ts st) f = no_step st f.0
     no_step_in (later π t ts us st) f = no_step_in st f.1
 
-  stays : {p : Position} {t u : Tree} → Reaches (Rewrites o) p t u → HasNoRedex o p t → u ≡ t
+  stays : {p : Position} {t u : Tree} → Reaches (Rewrites o W) p t u → HasNoRedex o W p t → u ≡ t
   stays (done p t) f = refl
   stays (more p t w u st r) f = absurd (no_step st f)
 
 -- ---- the rules
+
+-- so passes over it leave it, one after another
+no_pass_moves : (o : CompressOptions) (t : Tree) → IsRewritten o t → {k : ℕ} {s u : Tree} → PassesReach (AllGives o) k s u → s ≡ t → u ≡ t
+no_pass_moves o t f (no_pass s) e = e
+no_pass_moves o t f (one_more k s u v r others) e =
+    let before = no_pass_moves o t f r e in
+    let over : Reaches (AllGives o t) Elsewhere t v = subst (λ w. Reaches (AllGives o w) Elsewhere w v) before others in
+    stays (switches o) (writable_in t) (reaches_of (AllGives o t) (Rewrites (switches o) (writable_in t)) (all_contract o t) Elsewhere t v over) f
 
 -- where the rules have nothing to do, nothing is left to rewrite
 no_redex : (o : CompressOptions) (m : Minified) (t u : Tree) → weight Elsewhere (resolved_program t) < 2 ^ 32 → IsFaithfulWith (NothingLeft (AllRests o)) o m t u → IsFaithful o m t u
@@ -102,10 +113,10 @@ module _ (d : Data) (o : CompressOptions) (m : Minified) (t : Tree) (read : Acce
   enough : (v : Tree) → Accepts d v → program_weight (earlier v) < max o.passes 1 → m.settled ≡ true
   enough v a h = settles m.settled (λ s. let (same, fell) = r.passes.stopped s in let x = input_weight v a in omega (arith, same, fell, x, h))
 
-  fixed : (v : Tree) → Accepts d v → HasNoRedex (switches o) Elsewhere (earlier v) → Accepts (view m.program) v × (m.passes ≡ 1) × (m.settled ≡ true)
+  fixed : (v : Tree) → Accepts d v → IsRewritten o (earlier v) → Accepts (view m.program) v × (m.passes ≡ 1) × (m.settled ≡ true)
   fixed v a f =
       let one = one_tree d v t a read in
-      let same : r.output ≡ resolved_program t = stays (switches o) (within_reach (AllGives o) (Rewrites (switches o)) (all_contract o) r.passes.reached) (subst (λ w. HasNoRedex (switches o) Elsewhere (resolved_program w)) one f) in
+      let same : r.output ≡ resolved_program t = no_pass_moves o (resolved_program t) (subst (λ w. IsRewritten o (resolved_program w)) one f) r.passes.reached refl in
       let w = ap (weight Elsewhere) same in
       let some = r.passes.some_pass in
       let h = r.passes.lighter in

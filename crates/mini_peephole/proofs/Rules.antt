@@ -8,7 +8,8 @@ use Rattle.mini_model.specs.Weight.{weight, weights}
 use Rattle.mini_model.specs.Redex as first
 use Rattle.mini_model.specs.Rewriting.{Everywhere, EverywhereIn}
 use Rattle.mini_tree.specs.declared.options.CompressOptions.{CompressOptions}
-use Rattle.mini_kept.specs.Loosely.{LawfulLoosely}
+use Rattle.mini_context.specs.Writable.{writable_in}
+use Rattle.mini_kept.specs.Loosely.{LawfulWith}
 use Rattle.mini_kept.proofs.Loosely.{loose_narrowed}
 use Rattle.mini_rows.specs.Switches.{Switches, let_go}
 use Rattle.mini_rows.specs.Branches.{BranchRow}
@@ -74,12 +75,12 @@ module _ (o : CompressOptions) (q : Tree) where
   gives_contract p t u (inr (inr (inr (inr (inr (inr (inr (inr (inr (inr (inr (inr (inr (inr (inr (inl c)))))))))))))))) = record { row = inr (inr (inr (inr (inr (inr (inr (inr (inr (inr (inr (inr (inr (inr (inr (inl c.row))))))))))))))); lighter = c.lighter }
   gives_contract p t u (inr (inr (inr (inr (inr (inr (inr (inr (inr (inr (inr (inr (inr (inr (inr (inr c)))))))))))))))) = record { row = inr (inr (inr (inr (inr (inr (inr (inr (inr (inr (inr (inr (inr (inr (inr (inr c.row))))))))))))))); lighter = c.lighter }
 
-  pub all_contract : (p : Position) (t u : Tree) → AllGives o q p t u → Rewrites (switches o) p t u
+  pub all_contract : (p : Position) (t u : Tree) → AllGives o q p t u → Rewrites (switches o) (writable_in q) p t u
   all_contract p t u (inl r) = inl (gives_contract p t u r)
   all_contract p t u (inr c) = inr c
 
-  pub gives_lawful : LawfulLoosely (let_go (switches o)) (AllGives o q)
-  gives_lawful = loose_narrowed (AllGives o q) (Rewrites (switches o)) (let_go (switches o)) all_contract (all_loose (switches o))
+  pub gives_lawful : LawfulWith (let_go (switches o)) (writable_in q) (AllGives o q)
+  gives_lawful = loose_narrowed (AllGives o q) (Rewrites (switches o) (writable_in q)) (let_go (switches o)) (writable_in q) all_contract (all_loose (switches o) (writable_in q))
 
   -- where all have nothing to do, nothing is to be rewritten, as far as the weight fits 64 bits
 
@@ -120,19 +121,20 @@ module _ (o : CompressOptions) (q : Tree) where
   settled p t u small r (inr (inr (inr (inr (inr (inr (inr (inr (inr (inr (inr (inr (inr (inr (inr (inl row)))))))))))))))) less = r.1.1.1.1.1.1.1.1.1.1.1.1.1.1.1.0 u row
   settled p t u small r (inr (inr (inr (inr (inr (inr (inr (inr (inr (inr (inr (inr (inr (inr (inr (inr row)))))))))))))))) less = r.1.1.1.1.1.1.1.1.1.1.1.1.1.1.1.1 small u (record { row = row; lighter = less })
 
-  all_settled : (p : Position) (t u : Tree) → weight p t < 2 ^ 64 → AllRests o q p t → Rewrites (switches o) p t u → ⊥
+  all_settled : (p : Position) (t u : Tree) → weight p t < 2 ^ 64 → AllRests o q p t → Rewrites (switches o) (writable_in q) p t u → ⊥
   all_settled p t u small r (inl c) = settled p t u small r.0 c.row c.lighter
   all_settled p t u small r (inr (inl c)) = r.1.0 u c.row
   all_settled p t u small r (inr (inr (inl c))) = r.1.1.0 u c.row
-  all_settled p t u small r (inr (inr (inr c))) = r.1.1.1 u c.row
+  all_settled p t u small r (inr (inr (inr (inl c)))) = r.1.1.1.0 u c.row
+  all_settled p t u small r (inr (inr (inr (inr c)))) = r.1.1.1.1 u c.row
 
-  rests_settle : (p : Position) (t : Tree) → weight p t < 2 ^ 64 → AllRests o q p t → IsSettled (switches o) p t
+  rests_settle : (p : Position) (t : Tree) → weight p t < 2 ^ 64 → AllRests o q p t → IsSettled (switches o) (writable_in q) p t
   rests_settle p t small r x = all_settled p t x.to small r x.contracts
 
   mutual
-    pub rests_everywhere : (p : Position) (t : Tree) → weight p t < 2 ^ 64 → Everywhere (AllRests o q) p t → HasNoRedex (switches o) p t
+    pub rests_everywhere : (p : Position) (t : Tree) → weight p t < 2 ^ 64 → Everywhere (AllRests o q) p t → HasNoRedex (switches o) (writable_in q) p t
     rests_everywhere p (node h xs n ts) small r = (rests_settle p (node h xs n ts) small r.0, rest_in (child_position h p (count ts)) ts (omega (arith, small)) r.1)
 
-    rest_in : (π : ℕ → Position) (ts : Trees) → weights π ts < 2 ^ 64 → EverywhereIn (AllRests o q) π ts → EverywhereIn (IsSettled (switches o)) π ts
+    rest_in : (π : ℕ → Position) (ts : Trees) → weights π ts < 2 ^ 64 → EverywhereIn (AllRests o q) π ts → EverywhereIn (IsSettled (switches o) (writable_in q)) π ts
     rest_in π none small r = tt
     rest_in π (t ▸ ts) small r = (rests_everywhere (π zero) t (omega (arith, small)) r.0, rest_in (λ i. π (suc i)) ts (omega (arith, small)) r.1)

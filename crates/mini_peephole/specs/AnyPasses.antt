@@ -9,21 +9,22 @@ use Rattle.mini_laws.specs.Resolved.{resolved_program}
 use Rattle.mini_accept.specs.Accept.{Accepts}
 use Rattle.mini_scope.specs.Pointers.{early_fault}
 use Rattle.mini_tree.specs.declared.options.CompressOptions.{CompressOptions}
-use Rattle.mini_kept.specs.Loosely.{LawfulLoosely}
+use Rattle.mini_context.specs.Writable.{writable_in}
+use Rattle.mini_kept.specs.Loosely.{LawfulWith}
 use Rattle.mini_rows.specs.Switches.{let_go}
 use Rattle.mini_peephole.specs.Faithful.{switches, FaithfulWith}
 use Rattle.mini_peephole.specs.Minified.{IsWritten}
 use Rattle.mini_peephole.specs.declared.minify.Minified.{Minified}
 
 -- What a rule makes is lawful, and may drop names that nothing mentions, under any options and over any program at which its
--- context has looked: those of functions and classes where the options let them go. What is lawful without dropping any is so
--- (`LawfulIsLoose`, mini_kept).
+-- context has looked: those of functions and classes where the options let them go. It may rest on it that the variables can be written
+-- that this program mentions and lets be written. What is lawful without either is so (`LawfulIsLoose`, mini_kept).
 --
--- `LawfulLoosely` asks this wherever a node may stand, in any tree. What rests on numbers of names, as on there being one read of a
+-- `LawfulWith` asks this wherever a node may stand, in any tree. What rests on numbers of names, as on there being one read of a
 -- variable in the program, is lawful only in what steps make of that program: for such a rule the law has to be weakened to the
 -- nodes of a tree that steps of the same pass reach from it, the program being well shaped and its names scoped.
 abbrev pub LawfulFor : (CompressOptions → Tree → Position → Tree → Tree → Type 0) → Type 0
-LawfulFor G = (o : CompressOptions) (q : Tree) → LawfulLoosely (let_go (switches o)) (G o q)
+LawfulFor G = (o : CompressOptions) (q : Tree) → LawfulWith (let_go (switches o)) (writable_in q) (G o q)
 
 -- where the passes settled the rule has nothing left to do in the last program, by what is known of that program itself
 abbrev pub NothingLeft : (Tree → Position → Tree → Type 0) → Tree → Type 0

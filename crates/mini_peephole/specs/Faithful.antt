@@ -21,11 +21,12 @@ use Rattle.mini_kept.specs.AlikeBodies.{KindKept}
 use Rattle.mini_laws.specs.Bodies.{Body, bodies_in}
 use Rattle.mini_tree.specs.declared.options.CompressOptions.{CompressOptions}
 use Rattle.mini_accept.specs.Accept.{Accepts}
+use Rattle.mini_context.specs.Writable.{writable_by, writable_in}
 use Rattle.mini_kept.specs.Carried.{numbers, carried}
 use Rattle.mini_kept.specs.Declaring.{declared}
 use Rattle.mini_kept.specs.Frames.{frames_in}
 use Rattle.mini_kept.specs.Loosely.{undeclared}
-use Rattle.mini_kept.specs.ShownFrames.{KeyGiven, gone_from, FramesShown}
+use Rattle.mini_kept.specs.ShownFrames.{KeyGivenWith, gone_from, FramesShown}
 use Rattle.mini_rows.specs.Switches.{Switches, let_go}
 use Rattle.mini_rows.specs.Redex.{HasNoRedex}
 use Rattle.mini_peephole.specs.Environments.{shared_by, foreign_to, initialised_for, environment_with}
@@ -101,9 +102,10 @@ pub record IsFaithfulWith (Rests : Tree → Type 0) (o : CompressOptions) (m : M
   -- each name that it declares is one that the input declares, and spelled as there
   pub spelled : (x : Name) → Contains (declared (later m u)) x → Contains (declared (earlier t)) x
   -- what stands outside bodies is kept: each of its nodes with a number has the frame that the one had which it was, but for the
-  -- brackets of keys which give one property and do nothing else, and for the name of a function or a class expression that the later
+  -- brackets of keys which give one property and do nothing else, where the variables can be written that the earlier program lets be
+  -- written, and for the name of a function or a class expression that the later
   -- program doesn't declare, so that nothing in it refers to that, where the options let it go
-  pub frames : FramesShown (gone_from (let_go (switches o)) (undeclared (later m u))) (KeyGiven (undeclared (later m u)) (bodies_in (earlier t))) (frames_in (earlier t)) (frames_in (later m u))
+  pub frames : FramesShown (gone_from (let_go (switches o)) (undeclared (later m u))) (KeyGivenWith (writable_by (earlier t)) (undeclared (later m u)) (bodies_in (earlier t))) (frames_in (earlier t)) (frames_in (later m u))
   -- each body does what the one does that it was
   pub bodies : BodiesAreSame (earlier t) (later m u)
   -- it is no heavier
@@ -122,12 +124,16 @@ pub record FaithfulWith (Rests : Tree → Type 0) (d : Data) (o : CompressOption
   pub answered : Accepts (view m.program) output
   pub faithful : IsFaithfulWith Rests o m input output
 
--- of rewrites: nothing is left to rewrite
+-- nothing is left to rewrite in a program, with the variables that it mentions and lets be written
+abbrev pub IsRewritten : CompressOptions → Tree → Type 0
+IsRewritten o u = HasNoRedex (switches o) (writable_in u) Elsewhere u
+
+-- of rewrites
 abbrev pub IsFaithful : CompressOptions → Minified → Tree → Tree → Type 0
-IsFaithful o = IsFaithfulWith (HasNoRedex (switches o) Elsewhere) o
+IsFaithful o = IsFaithfulWith (IsRewritten o) o
 
 abbrev pub Faithful : Data → CompressOptions → Minified → Type 0
-Faithful d o = FaithfulWith (HasNoRedex (switches o) Elsewhere) d o
+Faithful d o = FaithfulWith (IsRewritten o) d o
 
 -- bounds on the passes, which tell more than Faithful does
 pub record PassesBounded (d : Data) (o : CompressOptions) (m : Minified) : Type 0 where
@@ -137,4 +143,4 @@ pub record PassesBounded (d : Data) (o : CompressOptions) (m : Minified) : Type 
   -- a bound above the program's weight always settles
   pub enough : (t : Tree) → Accepts d t → program_weight (earlier t) < pass_bound o → m.settled ≡ true
   -- a program without a redex stays as it is, after one pass
-  pub fixed : (t : Tree) → Accepts d t → HasNoRedex (switches o) Elsewhere (earlier t) → Accepts (view m.program) t × (m.passes ≡ 1) × (m.settled ≡ true)
+  pub fixed : (t : Tree) → Accepts d t → IsRewritten o (earlier t) → Accepts (view m.program) t × (m.passes ≡ 1) × (m.settled ≡ true)

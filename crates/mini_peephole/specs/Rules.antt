@@ -10,6 +10,7 @@ use Rattle.mini_logic.specs.MinimizeNegation as negation
 use Rattle.mini_logic.specs.MinimizeExpressionInBooleanContext as booleans
 use Rattle.mini_logic.specs.MinimizeBody as bodies
 use Rattle.mini_choices.specs.Choices as choices
+use Rattle.mini_choices.specs.MinimizeNormalAssignmentToCombinedLogicalAssignment as writes
 use Rattle.mini_fold.specs.FoldKnown as folding
 use Rattle.mini_fold.specs.FoldConstants as constants
 use Rattle.mini_fold.specs.FoldSequences as sequences
@@ -35,9 +36,9 @@ Gives o q = Either logic.Gives (Either bodies.Gives (Either returns.Gives (Eithe
 abbrev pub Rests : CompressOptions → Tree → Position → Tree → Type 0
 Rests o q = Both logic.Rests (Both bodies.Rests (Both returns.Rests (Both spellings.Rests (Both (lists.RestsUnder o q) (Both keys.Rests (Both choices.Rests (Both declarations.Rests (Both folding.Rests (Both arrows.Rests (Both constants.Rests (Both held.Rests (Both booleans.Rests (Both de_morgan.Rests (Both sequences.Rests (Both operands.Rests negation.Rests)))))))))))))))
 
--- and of those besides that drop names that nothing mentions
+-- and of those besides that drop names that nothing mentions, or write names that can be written
 abbrev pub AllGives : CompressOptions → Tree → Position → Tree → Tree → Type 0
-AllGives o q = Either (Gives o q) (Either UnusedContracts (Either (names.Gives o q) CatchContracts))
+AllGives o q = Either (Gives o q) (Either UnusedContracts (Either (names.Gives o q) (Either CatchContracts (writes.Gives o q))))
 
 abbrev pub AllRests : CompressOptions → Tree → Position → Tree → Type 0
-AllRests o q = Both (Rests o q) (Both unused.Rests (Both (names.RestsUnder o q) catches.Rests))
+AllRests o q = Both (Rests o q) (Both unused.Rests (Both (names.RestsUnder o q) (Both catches.Rests (writes.Rests q))))

@@ -15,7 +15,7 @@ ghost use Rattle.mini_peephole.specs.Answer.{IsWeighed};
 ghost use Rattle.mini_peephole.specs.Minified.{IsAnswer, IsWeighedAnswer, IsMinified, IsRewriting, IsRefusal};
 
 use crate::named::{numbers_of, symbols_of};
-use mini_choices::MinimizeChoices;
+use mini_choices::{MinimizeChoices, MinimizeWrites};
 use mini_context::{TraverseCtx, resolve};
 use mini_estree::{MinifyError, Numbered, read_program};
 use mini_fold::{FoldConstants, FoldKnown, FoldOperands, FoldSequences};
@@ -162,18 +162,24 @@ const KEEPING_RULES: Then<Logic, Then<MinimizeBodies, Spellings>> = Then {
     },
 };
 
-// These keep each name; after them come the rules of names that nothing mentions.
+// These keep each name; after them come the rules of names that nothing mentions, and of names that can be written.
 type Keeping = Then<Logic, Then<MinimizeBodies, Spellings>>;
 
-type Dropping = Then<RemoveUnusedDeclarations, Then<RemoveUnusedNames, SubstituteCatches>>;
+type Naming = Then<
+    RemoveUnusedDeclarations,
+    Then<RemoveUnusedNames, Then<SubstituteCatches, MinimizeWrites>>,
+>;
 
-const RULES: Then<Keeping, Dropping> = Then {
+const RULES: Then<Keeping, Naming> = Then {
     first: KEEPING_RULES,
     second: Then {
         first: RemoveUnusedDeclarations,
         second: Then {
             first: RemoveUnusedNames,
-            second: SubstituteCatches,
+            second: Then {
+                first: SubstituteCatches,
+                second: MinimizeWrites,
+            },
         },
     },
 };

@@ -4,10 +4,12 @@ use Rattle.mini_model.specs.declared.place.Position.{Position}
 use Rattle.mini_model.specs.Tree.{Tree}
 use Rattle.mini_model.specs.Weight.{weight}
 use Rattle.mini_model.specs.Redex as first
+use Rattle.mini_laws.specs.Value.{VariableSet, nothing}
 use Rattle.mini_kept.specs.Lawful.{Lawful}
-use Rattle.mini_kept.specs.Loosely.{LawfulLoosely}
+use Rattle.mini_kept.specs.Loosely.{LawfulWith, LawfulLoosely}
 use Rattle.mini_kept.proofs.Lawful.{lawful_join, lawful_narrowed, rows_are_lawful}
-use Rattle.mini_kept.proofs.Loosely.{lawful_is_loose, loose_join}
+use Rattle.mini_kept.proofs.Loosely.{lawful_is_loose, loose_join, loose_wider}
+use Rattle.mini_kept.proofs.WithoutLists.{nothing_part}
 use Rattle.mini_rows.specs.Switches.{Switches, let_go}
 use Rattle.mini_rows.specs.Spellings.{SpellingContracts}
 use Rattle.mini_rows.specs.Branches.{BranchContracts}
@@ -28,6 +30,7 @@ use Rattle.mini_rows.specs.KeyHolders.{HeldKeyContracts}
 use Rattle.mini_rows.specs.Unused.{UnusedContracts}
 use Rattle.mini_rows.specs.Names.{NameContracts}
 use Rattle.mini_rows.specs.Catches.{CatchContracts}
+use Rattle.mini_rows.specs.Writes.{WriteContracts}
 use Rattle.mini_rows.specs.Redex.{Row, Contracts, Rewrites}
 use Rattle.mini_rows.proofs.SpellKeyLawful as keys
 use Rattle.mini_rows.proofs.FoldLawful.{foldings_lawful}
@@ -47,6 +50,7 @@ use Rattle.mini_rows.proofs.ConstantLawful.{constants_lawful}
 use Rattle.mini_rows.proofs.KeysJoined.{held_keys_lawful}
 use Rattle.mini_rows.proofs.CatchLawful.{catches_lawful}
 use Rattle.mini_rows.proofs.NameLawful.{names_lawful}
+use Rattle.mini_rows.proofs.WriteLawful.{writes_lawful}
 use Rattle.mini_rows.proofs.FunctionBodyLawful.{unused_loose}
 
 module _ (o : Switches) where
@@ -128,12 +132,23 @@ module _ (o : Switches) where
   pub all_lawful : Lawful (Contracts o)
   all_lawful = lawful_narrowed (Contracts o) Families by_family families_lawful
 
-  abbrev Dropping : Position → Tree → Tree → Type 0
-  Dropping p n w = NameContracts o p n w ⊎ CatchContracts p n w
+  module _ (W : VariableSet) where
+    abbrev Named : Position → Tree → Tree → Type 0
+    Named p n w = CatchContracts p n w ⊎ WriteContracts W p n w
 
-  abbrev Going : Position → Tree → Tree → Type 0
-  Going p n w = UnusedContracts p n w ⊎ Dropping p n w
+    abbrev Dropping : Position → Tree → Tree → Type 0
+    Dropping p n w = NameContracts o p n w ⊎ Named p n w
 
-  -- with those of names that nothing mentions
-  pub all_loose : LawfulLoosely (let_go o) (Rewrites o)
-  all_loose = loose_join (Contracts o) Going (let_go o) (lawful_is_loose (Contracts o) (let_go o) all_lawful) (loose_join UnusedContracts Dropping (let_go o) (unused_loose (let_go o)) (loose_join (NameContracts o) CatchContracts (let_go o) (names_lawful o) (catches_lawful (let_go o))))
+    abbrev Going : Position → Tree → Tree → Type 0
+    Going p n w = UnusedContracts p n w ⊎ Dropping p n w
+
+    wider : (R : Position → Tree → Tree → Type 0) → LawfulLoosely (let_go o) R → LawfulWith (let_go o) W R
+    wider R l = loose_wider R (let_go o) nothing W (nothing_part W) l
+
+    -- with those of names that nothing mentions, and of names that can be written
+    pub all_loose : LawfulWith (let_go o) W (Rewrites o W)
+    all_loose =
+        loose_join (Contracts o) Going (let_go o) W (lawful_is_loose (Contracts o) (let_go o) W all_lawful)
+        (loose_join UnusedContracts Dropping (let_go o) W (wider UnusedContracts (unused_loose (let_go o)))
+        (loose_join (NameContracts o) Named (let_go o) W (wider (NameContracts o) (names_lawful o))
+        (loose_join CatchContracts (WriteContracts W) (let_go o) W (wider CatchContracts (catches_lawful (let_go o))) (writes_lawful (let_go o) W))))

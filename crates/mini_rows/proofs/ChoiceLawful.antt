@@ -85,7 +85,7 @@ retarget_keeps c x b q n m =
       block = λ k l p. absurd (cc k);
     }
 
-retargeted : (c : AssignmentOperator) (x : Name) (b : Tree) (q : Seat) (n : Tree) → KeptAt (Expr q) n (assign x b) → KeptAt (Expr q) n (assignment c (identifier x) b)
+pub retargeted : (c : AssignmentOperator) (x : Name) (b : Tree) (q : Seat) (n : Tree) → KeptAt (Expr q) n (assign x b) → KeptAt (Expr q) n (assignment c (identifier x) b)
 retargeted c x b q n k = record {
   keeps = λ strict s o e. retarget_keeps c x b q n (k.keeps strict s o e);
   piece = k.piece;
@@ -100,18 +100,18 @@ retargeted c x b q n k = record {
 }
 
 -- a name that is read leaves nothing behind
-name_vanishes : (x : Name) → Vanishes (identifier x)
+pub name_vanishes : (x : Name) → Vanishes (identifier x)
 unfolding has_inner
 name_vanishes x = record { inner = refl; fixed = λ y. refl }
 
-abbrev first_dropped : Free
+abbrev pub first_dropped : Free
 first_dropped = record { moved = []; lists_moved = []; dropped = 0 ∷ [] }
 
 -- an assignment to the part 0 of this
-abbrev assigns_part : AssignmentOperator → Sketch → Sketch
+abbrev pub assigns_part : AssignmentOperator → Sketch → Sketch
 assigns_part o s = under (Assignment o) (part 0 ▹ s ▹ end)
 
-abbrev assigns_first : Sketch → Sketch
+abbrev pub assigns_first : Sketch → Sketch
 assigns_first s = assigns_part Assign s
 
 -- ---- rows

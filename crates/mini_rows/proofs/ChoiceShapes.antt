@@ -89,15 +89,15 @@ module _ (strict : Bool) where
   abbrev Fits : Tree → Type 0
   Fits t = fits strict expression t ≡ true
 
-  of_two : (a b : Tree) → (fits strict expression a && (fits strict expression b && true)) ≡ true → Fits a × Fits b
+  pub of_two : (a b : Tree) → (fits strict expression a && (fits strict expression b && true)) ≡ true → Fits a × Fits b
   of_two a b e = let (x, y) = and_parts (fits strict expression a) (fits strict expression b && true) e in (x, left (fits strict expression b) true y)
 
   -- a name may stand as a target wherever it may be read
-  assignment_fits : (c : AssignmentOperator) (x : Name) (b : Tree) → Fits (identifier x) → Fits b → Fits (assignment c (identifier x) b)
+  pub assignment_fits : (c : AssignmentOperator) (x : Name) (b : Tree) → Fits (identifier x) → Fits b → Fits (assignment c (identifier x) b)
   assignment_fits Assign x b e f = both (fits strict (one a_target) (identifier x)) (fits strict expression b && true) e (both (fits strict expression b) true f refl)
   assignment_fits c x b e f = both (fits strict (one a_simple_target) (identifier x)) (fits strict expression b && true) e (both (fits strict expression b) true f refl)
 
-  of_assignment : (c : AssignmentOperator) (x : Name) (b : Tree) → Fits (assignment c (identifier x) b) → Fits (identifier x) × Fits b
+  pub of_assignment : (c : AssignmentOperator) (x : Name) (b : Tree) → Fits (assignment c (identifier x) b) → Fits (identifier x) × Fits b
   of_assignment Assign x b e = let (y, z) = and_parts (fits strict (one a_target) (identifier x)) (fits strict expression b && true) e in (y, left (fits strict expression b) true z)
   of_assignment c x b e = let (y, z) = and_parts (fits strict (one a_simple_target) (identifier x)) (fits strict expression b && true) e in (y, left (fits strict expression b) true z)
 

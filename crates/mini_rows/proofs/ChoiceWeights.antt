@@ -45,7 +45,7 @@ pair_of false = omega arith
 assignment_marks : (s : Seat) (c : AssignmentOperator) (os : List Outline) → place_weight (Expr s) (shape.AssignmentExpression c) os ≤ 4
 assignment_marks s c os = let plain = no_awkward s.eq_left s.cond_test s.lifted in omega (arith, plain, pair_of (is_parenthesized (shape.AssignmentExpression c) s))
 
-same_marks : (s : Seat) (c d : AssignmentOperator) (os ps : List Outline) → place_weight (Expr s) (shape.AssignmentExpression c) os ≡ place_weight (Expr s) (shape.AssignmentExpression d) ps
+pub same_marks : (s : Seat) (c d : AssignmentOperator) (os ps : List Outline) → place_weight (Expr s) (shape.AssignmentExpression c) os ≡ place_weight (Expr s) (shape.AssignmentExpression d) ps
 same_marks s c d os ps = refl
 
 pub name_heavy : (x : Name) → 2 ≤ name_weight x
@@ -144,7 +144,7 @@ argument_marks r e h os = omega arith
 abbrev Falls : Seat → BinaryOperator → Name → Tree → AssignmentOperator → Type 0
 Falls s o x b c = weight (Expr s) (assignment c (identifier x) b) < weight (Expr s) (assign x (binary o (identifier x) b))
 
-right_falls : (r : Seat) → nat_lt 0 r.level ≡ true → (b : Tree) → weight (Expr argument_seat) b ≤ weight (Expr r) b + 0
+pub right_falls : (r : Seat) → nat_lt 0 r.level ≡ true → (b : Tree) → weight (Expr argument_seat) b ≤ weight (Expr r) b + 0
 right_falls r e b = placed 0 argument_seat r refl (argument_marks r e) b
 
 computing_falls : (o : BinaryOperator) (c : AssignmentOperator) → computing o ≡ Some c → (s : Seat) (x : Name) (b : Tree) → Falls s o x b c
@@ -188,10 +188,10 @@ right_marks : (b : Bool) → (if b then 4 else 0) + (if false || (false || false
 right_marks true = omega arith
 right_marks false = omega arith
 
-coalesced_falls : (s : Seat) (b : Tree) → weight (Expr (right_operand_seat Coalesce s)) b ≤ weight (Expr (branch_seat s)) b + 4
+pub coalesced_falls : (s : Seat) (b : Tree) → weight (Expr (right_operand_seat Coalesce s)) b ≤ weight (Expr (branch_seat s)) b + 4
 coalesced_falls s b = placed 4 (right_operand_seat Coalesce s) (branch_seat s) refl (λ h os. omega (arith, right_marks (is_parenthesized h (right_operand_seat Coalesce s)))) b
 
-coalesce_at_most : (s : Seat) (os : List Outline) → place_weight (Expr s) (shape.LogicalExpression Coalesce) os ≤ 4
+pub coalesce_at_most : (s : Seat) (os : List Outline) → place_weight (Expr s) (shape.LogicalExpression Coalesce) os ≤ 4
 coalesce_at_most s os = let plain = no_awkward s.eq_left s.cond_test s.lifted in omega (arith, plain, pair_of (is_parenthesized (shape.LogicalExpression Coalesce) s))
 
 equal_falls : (s : Seat) (x : Name) (b : Tree) → weight (Expr s) (logical Coalesce (identifier x) b) < weight (Expr s) (conditional (binary binary_operator.Equality (identifier x) null_literal) b (identifier x))

@@ -184,7 +184,7 @@ module _ (p : Position) (d g : Bool) (ds : List (List ℕ)) (number : ℕ) (name
 
   these_bodies : (e : Around) → BodiesWithout D (bodies e this) (bodies e that)
   these_bodies e =
-      without.each_of D (own e first_list) (bodies_after e first_list) (own e second_list) (bodies_after e second_list) (inl (record { number = refl; kind = inl refl; strict = refl; asks_this = refl; same = statements_run (listed (name ▸ ps)) a b t }), tt)
+      without.each_of nothing D (own e first_list) (bodies_after e first_list) (own e second_list) (bodies_after e second_list) (inl (record { number = refl; kind = inl refl; strict = refl; asks_this = refl; same = λ e z. statements_run (listed (name ▸ ps)) a b t e z.unseen }), tt)
       (from_kept D (bodies_after e first_list) (bodies_after e second_list) (function_bodies (listed ps) x t.before t.after t.d t.w t.loses.leaves t.loses.declares outside t.earlier t.later d g ds number name (around e 0) (around e 1) (around e 2)))
 
   abbrev own_frame : List Frame
@@ -339,5 +339,5 @@ either_holder p n w c = by p c.row
 
 pub unused_loose : UnusedAreLawful
 unused_loose K =
-    loose_narrowed UnusedContracts OfUnused K either_holder
-    (loose_join OfBlock (λ p n w. OfArrow p n w ⊎ OfFunction p n w) K (blocks_loose K) (loose_join OfArrow OfFunction K (arrows_loose K) (functions_loose K)))
+    loose_narrowed UnusedContracts OfUnused K nothing either_holder
+    (loose_join OfBlock (λ p n w. OfArrow p n w ⊎ OfFunction p n w) K nothing (blocks_loose K) (loose_join OfArrow OfFunction K nothing (arrows_loose K) (functions_loose K)))

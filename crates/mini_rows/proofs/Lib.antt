@@ -158,3 +158,6 @@ pub mod LoopWeights
 pub mod LoopLeaps
 pub mod LoopSplits
 pub mod LoopKept
+pub mod WriteMeaning
+pub mod WriteWeights
+pub mod WriteLawful

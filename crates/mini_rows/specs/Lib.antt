@@ -26,3 +26,4 @@ pub mod Operators
 pub mod Operands
 pub mod Names
 pub mod Catches
+pub mod Writes

@@ -6,8 +6,9 @@ use Rattle.mini_model.specs.Tree.{Tree}
 use Rattle.mini_model.specs.Weight.{weight}
 use Rattle.mini_model.specs.Redex as first
 use Rattle.mini_model.specs.Rewriting.{Everywhere}
+use Rattle.mini_laws.specs.Value.{VariableSet}
 use Rattle.mini_kept.specs.Lawful.{Lawful}
-use Rattle.mini_kept.specs.Loosely.{LawfulLoosely}
+use Rattle.mini_kept.specs.Loosely.{LawfulWith}
 use Rattle.mini_rows.specs.Switches.{Switches, let_go}
 use Rattle.mini_rows.specs.Spellings.{SpellingRow}
 use Rattle.mini_rows.specs.Branches.{BranchRow}
@@ -27,6 +28,7 @@ use Rattle.mini_rows.specs.Operands.{OperandRow}
 use Rattle.mini_rows.specs.Unused.{UnusedContracts}
 use Rattle.mini_rows.specs.Names.{NameContracts}
 use Rattle.mini_rows.specs.Catches.{CatchContracts}
+use Rattle.mini_rows.specs.Writes.{WriteContracts}
 use Rattle.mini_rows.specs.Negations.{NegationRow}
 
 -- a row reads n as w at this place: one of negations and of `if` over expressions, of spellings, of branches and bodies of
@@ -40,27 +42,27 @@ pub record Contracts (o : Switches) (p : Position) (n w : Tree) : Type 0 where
   pub row : Row o p n w
   pub lighter : weight p w < weight p n
 
--- or what one of a name that nothing mentions writes, which goes
-abbrev pub Rewrites : Switches → Position → Tree → Tree → Type 0
-Rewrites o p n w = Contracts o p n w ⊎ (UnusedContracts p n w ⊎ (NameContracts o p n w ⊎ CatchContracts p n w))
+-- or what one of a name that nothing mentions writes, which goes, or one of a name that can be written. W has those variables
+abbrev pub Rewrites : Switches → VariableSet → Position → Tree → Tree → Type 0
+Rewrites o W p n w = Contracts o p n w ⊎ (UnusedContracts p n w ⊎ (NameContracts o p n w ⊎ (CatchContracts p n w ⊎ WriteContracts W p n w)))
 
 -- a redex in its place
-pub record Redex (o : Switches) (p : Position) (n : Tree) : Type 0 where
+pub record Redex (o : Switches) (W : VariableSet) (p : Position) (n : Tree) : Type 0 where
   pub to : Tree
-  pub contracts : Rewrites o p n to
+  pub contracts : Rewrites o W p n to
 
 -- there is nothing to rewrite at the node in its place
-abbrev pub IsSettled : Switches → Position → Tree → Type 0
-IsSettled o p n = Redex o p n → ⊥
+abbrev pub IsSettled : Switches → VariableSet → Position → Tree → Type 0
+IsSettled o W p n = Redex o W p n → ⊥
 
 -- no node of the tree is a redex in its place
-abbrev pub HasNoRedex : Switches → Position → Tree → Type 0
-HasNoRedex o p n = Everywhere (IsSettled o) p n
+abbrev pub HasNoRedex : Switches → VariableSet → Position → Tree → Type 0
+HasNoRedex o W p n = Everywhere (IsSettled o W) p n
 
 -- what the rows make is lawful, whatever the options
 abbrev pub RowsAreLawful : Type 0
 RowsAreLawful = (o : Switches) → Lawful (Contracts o)
 
--- and loosely, where names go that nothing mentions
+-- and loosely, where names go that nothing mentions, and those variables can be written
 abbrev pub RowsAreLoose : Type 0
-RowsAreLoose = (o : Switches) → LawfulLoosely (let_go o) (Rewrites o)
+RowsAreLoose = (o : Switches) (W : VariableSet) → LawfulWith (let_go o) W (Rewrites o W)

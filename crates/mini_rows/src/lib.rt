@@ -21,6 +21,7 @@ mod sequences;
 mod spellings;
 mod turns;
 mod unused;
+mod writes;
 
 pub use booleans::{booleans_are_lawful, booleans_are_lighter, booleans_mean_the_same};
 pub use branches::{branches_are_lawful, branches_lighten, branches_same};
@@ -36,3 +37,4 @@ pub use operands::{operands_are_lawful, operands_are_lighter, operands_mean_the_
 pub use redexes::rows_are_lawful;
 pub use sequences::{sequences_are_lawful, sequences_are_lighter, sequences_mean_the_same};
 pub use unused::{unused_are_lawful, unused_lighten};
+pub use writes::{writes_are_lawful, writes_lighten};

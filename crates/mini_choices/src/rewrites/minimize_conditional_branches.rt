@@ -79,8 +79,8 @@ fn assigned(alloc: Global, node: Node) -> Result<Node, OutOfMemory>
     assignment(alloc, operator, target, value)
 }
 
-// `a == b`
-fn is_equal(node: &Node) -> bool
+/// `a == b`
+pub fn is_equal(node: &Node) -> bool
     ensures kind { result ≡ is_equal_in (its_operator node.now) }
     ensures parts { result ≡ true → count (children node.now) ≡ 2 }
 {
@@ -90,8 +90,8 @@ fn is_equal(node: &Node) -> bool
     }
 }
 
-// `a != b`
-fn is_unequal(node: &Node) -> bool
+/// `a != b`
+pub fn is_unequal(node: &Node) -> bool
     ensures kind { result ≡ is_unequal_in (its_operator node.now) }
     ensures parts { result ≡ true → count (children node.now) ≡ 2 }
 {

@@ -10,8 +10,8 @@ use mini_model::{AssignmentOperator, LogicalOperator, OutOfMemory};
 use mini_node::{Node, assignment, discard, logical_operator, taken, two};
 use std::alloc::Global;
 
-// The operator of the assignment that a logical operator decides on.
-fn deciding(operator: LogicalOperator) -> AssignmentOperator
+/// The operator of the assignment that a logical operator decides on.
+pub fn deciding(operator: LogicalOperator) -> AssignmentOperator
     ensures { result ≡ deciding_of operator }
 {
     match operator {

@@ -20,6 +20,7 @@ returns c =
       evals_told = listed.evals;
       this_told = found.this_told;
       arguments_told = found.arguments_told;
+      writable_told = c.in_ok-mark_writable.ensures;
       looked = record {
         tops_told = from_blank n _ _ _ refl marked;
         seen_told = from_blank n (seen_by_eval t) _ c.list_program.new.scopes.seen.items refl listed.seen;
