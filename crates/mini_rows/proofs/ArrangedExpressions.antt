@@ -24,7 +24,7 @@ use Rattle.mini_kept.proofs.Bools.{left}
 use Rattle.mini_kept.proofs.Expressions.{refused_here}
 use Rattle.mini_kept.proofs.InOrder.{in_order}
 use Rattle.mini_kept.proofs.Quiet.{is_quiet, IsQuiet, no_names, no_body_names, no_body_declarations, no_loop, same_symbols as same_symbols_of}
-use Rattle.mini_rows.specs.Sketches.{still, rearranges_expression, Head, AList, Empty, OfExpression, Throw, Return, If, Block, shape_by, Sketch, part, under, list, Sketches, Parts, filled, all_filled, AsValue, parts_of, Free, is_rearranged, is_expression_head, stands_well, is_expression}
+use Rattle.mini_rows.specs.Sketches.{still, rearranges_expression, Head, AList, Piece, Empty, OfExpression, Throw, Return, If, Block, shape_by, Sketch, part, under, list, Sketches, Parts, filled, all_filled, AsValue, parts_of, Free, is_rearranged, is_expression_head, is_piece_head, stands_well, is_expression}
 use Rattle.mini_rows.specs.Arranged.{KeptAt, AreFree, ExpressionsArranged}
 use Rattle.mini_rows.proofs.Arranging.{Any, Each}
 use Rattle.mini_rows.proofs.ArrangedBodies.{quiet}
@@ -55,9 +55,14 @@ undeclared (shape.Class true) e = absurd (cc e)
 undeclared (shape.Class false) e = refl
 undeclared h e = refl
 
-pub no_piece : (h : Head) → is_piece (shape_by h) ≡ false
-no_piece AList = refl
-no_piece h = refl
+pub no_piece : (h : Head) → is_piece_head h ≡ false → is_piece (shape_by h) ≡ false
+no_piece AList e = refl
+no_piece (Piece is_tail raw cooked) e = absurd (cc e)
+no_piece h e = refl
+
+expression_no_piece : (h : Head) → is_expression_head h ≡ true → is_piece_head h ≡ false
+expression_no_piece (Piece is_tail raw cooked) e = absurd (cc e)
+expression_no_piece h e = refl
 
 -- an expression is no statement, and no method
 pub no_statement : (strict : Bool) (d : Depth) (h : Head) → is_expression_head h ≡ true → statement_slots strict d (shape_by h) ≡ None
@@ -194,7 +199,7 @@ module _ (f : Free) (ps : Parts) (u : AreFree ps f) (h : Head) (ss : Sketches) (
   pub expression_kept : (q : Seat) → KeptAt (Expr q) n w
   expression_kept q = record {
     keeps = λ strict s o k. in_order (Expr q) n w (expression_keeps q strict s k);
-    piece = no_piece h;
+    piece = no_piece h (expression_no_piece h e);
     kind = λ strict s k. kind_of_value (shape_of n) n_value ∙ sym (kind_of_value (shape_of w) (w_value strict s k));
     bodies = λ strict s o k a st. bodies_kept a (st.function (method_slot strict s k)) (w_value strict s k);
     ports = λ strict d k. absurd (no_port strict d k);

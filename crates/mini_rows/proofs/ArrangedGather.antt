@@ -9,7 +9,7 @@ use Rattle.mini_model.specs.Tree.{Tree, Trees, node, none, ◌▸◌, listed, sh
 use Rattle.mini_model.specs.Paths.{append}
 use Rattle.mini_kept.proofs.Bools.{left, right}
 use Rattle.mini_rows.specs.Lists.{is_unscoped, are_unscoped}
-use Rattle.mini_rows.specs.Sketches.{Head, AbsentPart, AList, Call, New, StaticMember, Property, Assignment, Empty, OfExpression, Throw, Return, If, Block, shape_by, Sketch, part, under, list, Sketches, end, ◌▹◌, Items, no_items, item, items, Parts, list_at, filled, all_filled, items_filled, Asked, AsWhole, AsWholeList, AsWholeItem, AsValue, AsValues, AsWord, AsTarget, AsUpdated, AsBranch, AsItems, AsItem, item_asked, target_asked, asked_below, Leap, leaps, Hole, Part, Stretch, Leaps, leap_holes, parts_of, parts_from, parts_in, is_same_hole, Free, is_among, settled_as, all_settled, is_expression_head, is_statement_head, is_absent_head, is_member_head, is_word_head, stands_as, is_list_asked, stands_well, all_stand_well, items_stand_well, are_loose, is_declaring, is_declaring_hole, statements, are_same_holes, is_branch_hole, has_branch_twice}
+use Rattle.mini_rows.specs.Sketches.{Head, AbsentPart, AList, Call, New, StaticMember, Property, Assignment, Empty, OfExpression, Throw, Return, If, Block, shape_by, Sketch, part, under, list, Sketches, end, ◌▹◌, Items, no_items, item, items, Parts, list_at, filled, all_filled, items_filled, Asked, AsWhole, AsWholeList, AsWholeItem, AsValue, AsValues, AsWord, AsHeld, AsTarget, AsUpdated, AsBranch, AsItems, AsItem, item_asked, target_asked, asked_below, Leap, leaps, Hole, Part, Stretch, Leaps, leap_holes, parts_of, parts_from, parts_in, is_same_hole, Free, is_among, settled_as, all_settled, is_expression_head, is_statement_head, is_absent_head, is_member_head, is_word_head, is_piece_head, stands_as, is_list_asked, stands_well, all_stand_well, items_stand_well, are_loose, is_declaring, is_declaring_hole, statements, are_same_holes, is_branch_hole, has_branch_twice}
 use Rattle.mini_rows.specs.Arranged.{AreFree}
 use Rattle.mini_rows.proofs.Arranging.{Any, Below, Each, first_each, second_each, same_hole}
 use Rattle.mini_rows.proofs.ArrangedValues.{is_value, is_calm, Valued}
@@ -241,9 +241,16 @@ module _ (A : Type 0) (L B H : Tree → List A) (k : Fold A L B H) where
   word_head Block e = absurd (cc e)
   word_head h e = refl
 
+  piece_head : (h : Head) → is_piece_head h ≡ true → is_quiet_head h ≡ true
+  piece_head AList e = absurd (cc e)
+  piece_head If e = absurd (cc e)
+  piece_head Block e = absurd (cc e)
+  piece_head h e = refl
+
   gives_head : (h : Head) (c : Asked) (ts : Trees) → stands_as c h ≡ true → Below Valued (asked_below h c) 0 ts → Gives c (node (shape_by h) [] 0 ts) ≡ gives_below (asked_below h c) 0 ts
   gives_head h AsValue ts e v = sym (silent (asked_below h AsValue) (value_silent h AsValue (expression_head h e)) 0 ts)
   gives_head h AsWord ts e v = sym (silent (asked_below h AsWord) (value_silent h AsWord (word_head h e)) 0 ts)
+  gives_head h AsHeld ts e v = sym (silent (asked_below h AsHeld) (value_silent h AsHeld (piece_head h e)) 0 ts)
   gives_head h AsTarget ts e v = sym (silent (asked_below h AsTarget) (value_silent h AsTarget (member_head h e)) 0 ts)
   gives_head h AsUpdated ts e v = sym (silent (asked_below h AsUpdated) (value_silent h AsUpdated (member_head h e)) 0 ts)
   gives_head h AsBranch ts e v = branch_head h ts e v
@@ -256,6 +263,7 @@ module _ (A : Type 0) (L B H : Tree → List A) (k : Fold A L B H) where
   gives_list AsWholeList ts e = k.whole ts
   gives_list AsItems ts e = k.hoisted ts
   gives_list AsValues ts e = sym (concat_nothing ts)
+  gives_list AsHeld ts e = sym (concat_nothing ts)
   gives_list c ts e = absurd (cc e)
 
   -- ---- trees

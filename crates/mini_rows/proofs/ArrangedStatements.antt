@@ -31,7 +31,7 @@ use Rattle.mini_kept.proofs.Expressions.{refused_here}
 use Rattle.mini_kept.proofs.InOrder.{in_order}
 use Rattle.mini_kept.proofs.Placed.{statements_slot}
 use Rattle.mini_kept.proofs.Unplaced.{as_body, body_same}
-use Rattle.mini_rows.specs.Sketches.{Head, AList, shape_by, Sketch, part, under, list, Sketches, Items, no_items, item, items, Parts, list_at, filled, all_filled, items_filled, Asked, AsWhole, AsWholeList, AsWholeItem, use_by, parts_of, parts_in, Free, is_rearranged, all_settled, is_statement_head, asked_below, stands_well, all_stand_well, items_stand_well, are_loose, statements, are_same_holes, keeps_statements}
+use Rattle.mini_rows.specs.Sketches.{Head, AList, Piece, is_piece_head, shape_by, Sketch, part, under, list, Sketches, Items, no_items, item, items, Parts, list_at, filled, all_filled, items_filled, Asked, AsWhole, AsWholeList, AsWholeItem, use_by, parts_of, parts_in, Free, is_rearranged, all_settled, is_statement_head, asked_below, stands_well, all_stand_well, items_stand_well, are_loose, statements, are_same_holes, keeps_statements}
 use Rattle.mini_rows.specs.Arranged.{KeptAt, AreFree, StatementsArranged, ListsArranged}
 use Rattle.mini_rows.proofs.Arranging.{All, Any, Each, first_each, second_each}
 use Rattle.mini_rows.proofs.ArrangedBodies.{quiet}
@@ -124,6 +124,10 @@ pub not_list : (h : Head) → is_statement_head h ≡ true → is_no_list h ≡ 
 not_list AList e = absurd (cc e)
 not_list h e = refl
 
+statement_no_piece : (h : Head) → is_statement_head h ≡ true → is_piece_head h ≡ false
+statement_no_piece (Piece is_tail raw cooked) e = absurd (cc e)
+statement_no_piece h e = refl
+
 pub kind_of_head : (h : Head) → arrow_kind (shape_by h) ≡ ArrowExpression
 kind_of_head AList = refl
 kind_of_head h = refl
@@ -161,7 +165,7 @@ module _ (f : Free) (ps : Parts) (u : AreFree ps f) (h g : Head) (ss rs : Sketch
       let y = parts_kept f ps u AsWhole (Stmt q) refl (under h ss) (under g rs) sn sr z in
       record {
         keeps = λ strict s o k. in_order (Stmt q) (filled ps (under h ss)) (filled ps (under g rs)) (statement_keeps strict s k);
-        piece = no_piece h;
+        piece = no_piece h (statement_no_piece h n_head);
         kind = λ strict s k. kind_of_head h ∙ sym (kind_of_head g);
         bodies = λ strict s o k a st. statement_bodies a (st.function (method_slot ps h ss strict s k));
         ports = λ strict d k m. (no_port m h, no_port m g);

@@ -1,19 +1,19 @@
 -- Which parts of a tree are expressions: those that stand where plain heads take one.
 use Rattle.std.specs.Prelude.{ℕ, suc, ◌≡◌, refl, ◌&&◌, ◌||◌, not, pos, negsuc, Bool, true, false, List, [], ◌∷◌, ◌++◌, Option, Some, None}
-use Rattle.std.proofs.Common.{ap, ◌∙◌, sym, inl, inr, ◌⊎◌}
+use Rattle.std.proofs.Common.{ap, ◌∙◌, sym, subst, inl, inr, ◌⊎◌}
 use Rattle.std.proofs.lemmas.Bool.{and_parts}
 use Rattle.mini_model.specs.declared.name.Name.{Name}
 use Rattle.mini_model.specs.declared.operator.AssignmentOperator.TheVariants.{Assign}
 use Rattle.mini_model.specs.declared.shape.Shape.{Shape}
 use Rattle.mini_model.specs.declared.shape.Shape.TheVariants as shape
 use Rattle.mini_model.specs.Tree.{Tree, Trees, node, none, ◌▸◌, shape_of, child_or_absent}
-use Rattle.mini_accept.specs.WellShaped.{Depth, in_module, in_body, nested, Class, a_statement, a_word, a_key, a_private_or_key, an_inner_key, an_expression, a_link, a_chain, an_argument, an_object_property, Slot, one, one_or_absent, many, many_or_holes, many_and_rest, many_or_holes_and_rest, quasis, is_text, none_if, statement_slots, word_slots, slots_of, Filling, refused, these, each, each_or_last, pieces, filling_by, filling, class_of, has_names, has_its_number, has_plain_fields, has_its_parts, is_whole, is_strict_in, is_last, fits, fill}
+use Rattle.mini_accept.specs.WellShaped.{Depth, in_module, in_body, nested, Class, a_statement, a_word, a_key, a_private_or_key, an_inner_key, an_expression, a_link, a_chain, an_argument, an_object_property, Slot, one, one_or_absent, many, many_or_holes, many_and_rest, many_or_holes_and_rest, quasis, Tagging, untagged, tagged, is_text, none_if, statement_slots, word_slots, slots_of, Filling, refused, these, each, each_or_last, pieces, filling_by, filling, class_of, has_names, has_its_number, has_plain_fields, has_its_parts, is_whole, is_strict_in, is_last, is_quasi, are_quasis, fits, fill}
 use Rattle.mini_model.specs.Paths.{append}
 use Rattle.mini_laws.specs.DeclaredNames.{own_names}
 use Rattle.mini_kept.proofs.Bools.{left, right}
 use Rattle.mini_kept.proofs.Expressions.{refused_here}
 use Rattle.mini_kept.proofs.Quiet.{is_quiet}
-use Rattle.mini_rows.specs.Sketches.{Head, AbsentPart, AList, Number, PropertyName, Call, StaticMember, ComputedMember, Yield, Assignment, shape_by, Sketch, part, under, list, Sketches, end, ◌▹◌, Items, no_items, item, items, Parts, list_at, filled, all_filled, items_filled, Asked, AsWhole, AsWholeList, AsWholeItem, AsValue, AsValues, AsWord, AsTarget, AsUpdated, AsBranch, AsItems, AsItem, asked_below, item_asked, is_statement_asked, Leap, leaps, Hole, leap_holes, parts_of, parts_from, parts_in}
+use Rattle.mini_rows.specs.Sketches.{Head, AbsentPart, AList, Number, PropertyName, Call, StaticMember, ComputedMember, Yield, Assignment, shape_by, Sketch, part, under, list, Sketches, end, ◌▹◌, Items, no_items, item, items, Parts, list_at, filled, all_filled, items_filled, Asked, AsWhole, AsWholeList, AsWholeItem, AsValue, AsValues, AsWord, AsHeld, AsTarget, AsUpdated, AsBranch, AsItems, AsItem, asked_below, item_asked, is_statement_asked, Leap, leaps, Hole, leap_holes, parts_of, parts_from, parts_in}
 use Rattle.mini_rows.proofs.Arranging.{All, Any, Each, both_each}
 
 abbrev pub is_no_inner : Shape → Bool
@@ -36,6 +36,7 @@ are_statement_slots (many (a_statement d)) = true
 are_statement_slots s = false
 
 abbrev pub suits : Asked → Slot → Bool
+suits AsHeld s = true
 suits c (quasis g) = false
 suits AsValue (one an_expression) = true
 suits AsValue (one a_link) = true
@@ -241,7 +242,7 @@ Suits cs i refused = Unit {0}
 Suits cs i (these ss) = slots_suit cs i ss ≡ true
 Suits cs i (each s) = (j : ℕ) → suits (cs j) s ≡ true
 Suits cs i (each_or_last s l) = (j : ℕ) → (suits (cs j) s ≡ true) × (suits (cs j) l ≡ true)
-Suits cs i (pieces g) = ⊥
+Suits cs i (pieces g) = (j : ℕ) → cs j ≡ AsHeld
 
 of_option : (cs : ℕ → Asked) (o : Option (List Slot)) → option_suits cs o ≡ true → Suits cs 0 (filling_by o)
 of_option cs None e = tt
@@ -261,6 +262,7 @@ item_suits k AsWholeList e = absurd (cc e)
 item_suits (a_statement d) AsItems e = refl
 item_suits k AsItems e = absurd (cc e)
 item_suits k AsWord e = refl
+item_suits k AsHeld e = refl
 item_suits k AsTarget e = refl
 item_suits k AsUpdated e = refl
 item_suits k c e = absurd (cc e)
@@ -269,21 +271,28 @@ hole_suits : (k : Class) (c : Asked) → suits c (many_or_holes k) ≡ true → 
 hole_suits an_argument AsValues e = refl
 hole_suits k AsValues e = absurd (cc e)
 hole_suits k AsWord e = refl
+hole_suits k AsHeld e = refl
 hole_suits k AsTarget e = refl
 hole_suits k AsUpdated e = refl
 hole_suits k c e = absurd (cc e)
 
 rest_suits : (k r : Class) (c : Asked) → suits c (many_and_rest k r) ≡ true → (suits (item_asked c) (one k) ≡ true) × (suits (item_asked c) (one r) ≡ true)
 rest_suits k r AsWord e = (refl, refl)
+rest_suits k r AsHeld e = (refl, refl)
 rest_suits k r AsTarget e = (refl, refl)
 rest_suits k r AsUpdated e = (refl, refl)
 rest_suits k r c e = absurd (cc e)
 
 holes_suit : (k r : Class) (c : Asked) → suits c (many_or_holes_and_rest k r) ≡ true → (suits (item_asked c) (one_or_absent k) ≡ true) × (suits (item_asked c) (one r) ≡ true)
 holes_suit k r AsWord e = (refl, refl)
+holes_suit k r AsHeld e = (refl, refl)
 holes_suit k r AsTarget e = (refl, refl)
 holes_suit k r AsUpdated e = (refl, refl)
 holes_suit k r c e = absurd (cc e)
+
+pieces_suit : (g : Tagging) (c : Asked) → suits c (quasis g) ≡ true → item_asked c ≡ AsHeld
+pieces_suit g AsHeld e = refl
+pieces_suit g c e = absurd (cc e)
 
 filling_suits : (strict : Bool) (s : Slot) (h : Head) (c : Asked) → (is_no_list h || suits c s) ≡ true → Suits (asked_below h c) 0 (filling strict s (shape_by h))
 filling_suits strict (one k) h c e = of_option (asked_below h c) (slots_of strict k (shape_by h)) (class_suits strict k h c)
@@ -297,7 +306,7 @@ filling_suits strict (many_and_rest k r) AList c e = λ j. rest_suits k r c e
 filling_suits strict (many_and_rest k r) h c e = tt
 filling_suits strict (many_or_holes_and_rest k r) AList c e = λ j. holes_suit k r c e
 filling_suits strict (many_or_holes_and_rest k r) h c e = tt
-filling_suits strict (quasis g) AList c e = absurd (cc e)
+filling_suits strict (quasis g) AList c e = λ j. pieces_suit g c e
 filling_suits strict (quasis g) h c e = tt
 
 -- a list holds any number of items
@@ -367,6 +376,43 @@ valued strict AsWholeItem s t e f = calmly strict s t (statement_suits_slot AsWh
 valued strict AsItem s t e f = calmly strict s t (statement_suits_slot AsItem s refl e) f
 valued strict c s t e f = tt
 
+-- ---- pieces of a template's text
+
+module _ (g : Tagging) where
+  abbrev IsPiece : Tree → Type 0
+  IsPiece t = (is_quasi g true t ≡ true) ⊎ (is_quasi g false t ≡ true)
+
+  abbrev ArePieces : Trees → Type 0
+  ArePieces none = Unit {0}
+  ArePieces (t ▸ ts) = IsPiece t × ArePieces ts
+
+  quasis_are : (ts : Trees) → are_quasis g ts ≡ true → ArePieces ts
+  quasis_are none e = absurd (cc e)
+  quasis_are (t ▸ none) e = (inl e, tt)
+  quasis_are (t ▸ (u ▸ ts)) e =
+      let (x, y) = and_parts (is_quasi g false t) (are_quasis g (u ▸ ts)) e in
+      (inr x, quasis_are (u ▸ ts) y)
+
+  filled_are : (strict : Bool) (ts : Trees) → fill strict (pieces g) ts ≡ true → ArePieces ts
+  filled_are strict none e = absurd (cc e)
+  filled_are strict (t ▸ ts) e = quasis_are (t ▸ ts) e
+
+  more_pieces : (ts us : Trees) → ArePieces (append ts us) → ArePieces us
+  more_pieces none us p = p
+  more_pieces (t ▸ ts) us p = more_pieces ts us p.1
+
+no_children : (g : Tagging) (last : Bool) (h : Shape) (t : Tree) (ts : Trees) → is_quasi g last (node h [] 0 (t ▸ ts)) ≡ true → ⊥
+no_children g last h t ts e = cc e
+
+no_listed_piece : (g : Tagging) (last : Bool) (ts : Trees) → is_quasi g last (node shape.Listed [] 0 ts) ≡ true → ⊥
+no_listed_piece untagged last none e = cc e
+no_listed_piece tagged last none e = cc e
+no_listed_piece g last (t ▸ ts) e = no_children g last shape.Listed t ts e
+
+held_all : (ts : Trees) → All Valued AsHeld ts
+held_all none = tt
+held_all (t ▸ ts) = (tt, held_all ts)
+
 or_true : (b : Bool) → (b || true) ≡ true
 or_true true = refl
 or_true false = refl
@@ -381,21 +427,46 @@ module _ (ps : Parts) where
   with_leaps [] hs a = a
   with_leaps (l ∷ ls) hs a = (tt, with_leaps ls hs a)
 
-  stretch_valued : (strict : Bool) (c : Asked) (g : Filling) → Suits (λ j. c) 0 g → ((ss : List Slot) → g ≡ these ss → ⊥) → (ts us : Trees) → fill strict g (append ts us) ≡ true → All Valued c ts × (fill strict g us ≡ true)
-  stretch_valued strict c refused k n none us f = (tt, f)
-  stretch_valued strict c refused k n (t ▸ ts) us f = absurd (cc f)
-  stretch_valued strict c (these ss) k n ts us f = absurd (n ss refl)
-  stretch_valued strict c (each s) k n none us f = (tt, f)
-  stretch_valued strict c (each s) k n (t ▸ ts) us f =
+  -- a piece has no parts
+  piece_valued : (g : Tagging) (last : Bool) (s : Sketch) → is_quasi g last (filled ps s) ≡ true → Each Any Valued ps (parts_of AsHeld s)
+  piece_valued g last (part i) e = (tt, tt)
+  piece_valued g last (under h end) e = with_leaps (leaps h) [] tt
+  piece_valued g last (under h (s ▹ ss)) e = absurd (no_children g last (shape_by h) (filled ps s) (all_filled ps ss) e)
+  piece_valued g last (list is) e = absurd (no_listed_piece g last (items_filled ps is) e)
+
+  either_piece : (g : Tagging) (s : Sketch) → IsPiece g (filled ps s) → Each Any Valued ps (parts_of AsHeld s)
+  either_piece g s (inl e) = piece_valued g true s e
+  either_piece g s (inr e) = piece_valued g false s e
+
+  pieces_valued : (g : Tagging) (is : Items) → ArePieces g (items_filled ps is) → Each Any Valued ps (parts_in AsHeld is)
+  pieces_valued g no_items p = tt
+  pieces_valued g (item s is) p = both_each Any Valued ps (parts_of AsHeld s) (parts_in AsHeld is) (either_piece g s p.0) (pieces_valued g is p.1)
+  pieces_valued g (items i is) p = (held_all (list_at ps.lists i), pieces_valued g is (more_pieces g (list_at ps.lists i) (items_filled ps is) p))
+
+  pieces_from : (g : Tagging) (cs : ℕ → Asked) → ((j : ℕ) → cs j ≡ AsHeld) → (i : ℕ) (ss : Sketches) → ArePieces g (all_filled ps ss) → Each Any Valued ps (parts_from cs i ss)
+  pieces_from g cs k i end p = tt
+  pieces_from g cs k i (s ▹ ss) p =
+      both_each Any Valued ps (parts_of (cs i) s) (parts_from cs (suc i) ss) (subst (λ c. Each Any Valued ps (parts_of c s)) (sym (k i)) (either_piece g s p.0)) (pieces_from g cs k (suc i) ss p.1)
+
+  abbrev is_no_pieces : Filling → Bool
+  is_no_pieces (pieces g) = false
+  is_no_pieces g = true
+
+  stretch_valued : (strict : Bool) (c : Asked) (g : Filling) → is_no_pieces g ≡ true → Suits (λ j. c) 0 g → ((ss : List Slot) → g ≡ these ss → ⊥) → (ts us : Trees) → fill strict g (append ts us) ≡ true → All Valued c ts × (fill strict g us ≡ true)
+  stretch_valued strict c refused o k n none us f = (tt, f)
+  stretch_valued strict c refused o k n (t ▸ ts) us f = absurd (cc f)
+  stretch_valued strict c (these ss) o k n ts us f = absurd (n ss refl)
+  stretch_valued strict c (each s) o k n none us f = (tt, f)
+  stretch_valued strict c (each s) o k n (t ▸ ts) us f =
       let (x, y) = and_parts (fits strict s t) (fill strict (each s) (append ts us)) f in
-      let (a, b) = stretch_valued strict c (each s) k n ts us y in
+      let (a, b) = stretch_valued strict c (each s) o k n ts us y in
       ((valued strict c s t (k 0) x, a), b)
-  stretch_valued strict c (each_or_last s l) k n none us f = (tt, f)
-  stretch_valued strict c (each_or_last s l) k n (t ▸ ts) us f =
+  stretch_valued strict c (each_or_last s l) o k n none us f = (tt, f)
+  stretch_valued strict c (each_or_last s l) o k n (t ▸ ts) us f =
       let (x, y) = and_parts (fits strict s t || (is_last (append ts us) && fits strict l t)) (fill strict (each_or_last s l) (append ts us)) f in
-      let (a, b) = stretch_valued strict c (each_or_last s l) k n ts us y in
+      let (a, b) = stretch_valued strict c (each_or_last s l) o k n ts us y in
       ((elim (either_fits (fits strict s t) (is_last (append ts us)) (fits strict l t) x) [ inl w ↦ valued strict c s t (k 0).0 w | inr w ↦ valued strict c l t (k 0).1 w ], a), b)
-  stretch_valued strict c (pieces g) k n ts us f = absurd k
+  stretch_valued strict c (pieces g) o k n ts us f = absurd (cc o)
 
   mutual
     pub sketch_valued : (strict : Bool) (c : Asked) (s : Slot) (r : Sketch) → suits c s ≡ true → fits strict s (filled ps r) ≡ true → Each Any Valued ps (parts_of c r)
@@ -423,13 +494,21 @@ module _ (ps : Parts) where
         both_each Any Valued ps (parts_of (cs i) s) (parts_from cs (suc i) ss)
         (elim (either_fits (fits strict x (filled ps s)) (is_last (all_filled ps ss)) (fits strict l (filled ps s)) a) [ inl w ↦ sketch_valued strict (cs i) x s (k i).0 w | inr w ↦ sketch_valued strict (cs i) l s (k i).1 w ])
         (sketches_valued strict cs (suc i) (each_or_last x l) k ss b)
-    sketches_valued strict cs i (pieces g) k (s ▹ ss) f = absurd k
+    sketches_valued strict cs i (pieces g) k (s ▹ ss) f = pieces_from g cs k i (s ▹ ss) (filled_are g strict (filled ps s ▸ all_filled ps ss) f)
 
     items_valued : (strict : Bool) (c : Asked) (g : Filling) → Suits (λ j. c) 0 g → ((xs : List Slot) → g ≡ these xs → ⊥) → (is : Items) → fill strict g (items_filled ps is) ≡ true → Each Any Valued ps (parts_in c is)
+    items_valued strict c (pieces g) k n is f = subst (λ d. Each Any Valued ps (parts_in d is)) (sym (k 0)) (pieces_valued g is (filled_are g strict (items_filled ps is) f))
     items_valued strict c g k n no_items f = tt
-    items_valued strict c g k n (items i is) f =
-        let (a, b) = stretch_valued strict c g k n (list_at ps.lists i) (items_filled ps is) f in
-        (a, items_valued strict c g k n is b)
+    items_valued strict c refused k n (items i is) f =
+        let (a, b) = stretch_valued strict c refused refl k n (list_at ps.lists i) (items_filled ps is) f in
+        (a, items_valued strict c refused k n is b)
+    items_valued strict c (these xs) k n (items i is) f = absurd (n xs refl)
+    items_valued strict c (each x) k n (items i is) f =
+        let (a, b) = stretch_valued strict c (each x) refl k n (list_at ps.lists i) (items_filled ps is) f in
+        (a, items_valued strict c (each x) k n is b)
+    items_valued strict c (each_or_last x l) k n (items i is) f =
+        let (a, b) = stretch_valued strict c (each_or_last x l) refl k n (list_at ps.lists i) (items_filled ps is) f in
+        (a, items_valued strict c (each_or_last x l) k n is b)
     items_valued strict c refused k n (item s is) f = absurd (cc f)
     items_valued strict c (these xs) k n (item s is) f = absurd (n xs refl)
     items_valued strict c (each x) k n (item s is) f =
@@ -440,7 +519,6 @@ module _ (ps : Parts) where
         both_each Any Valued ps (parts_of c s) (parts_in c is)
         (elim (either_fits (fits strict x (filled ps s)) (is_last (items_filled ps is)) (fits strict l (filled ps s)) a) [ inl w ↦ sketch_valued strict c x s (k 0).0 w | inr w ↦ sketch_valued strict c l s (k 0).1 w ])
         (items_valued strict c (each_or_last x l) k n is b)
-    items_valued strict c (pieces g) k n (item s is) f = absurd k
 
   -- below a head, in any slot
   pub head_valued : (strict : Bool) (c : Asked) (s : Slot) (h : Head) (ss : Sketches) → is_no_list h ≡ true → fits strict s (filled ps (under h ss)) ≡ true → Each Any Valued ps (parts_of c (under h ss))

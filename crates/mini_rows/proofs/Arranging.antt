@@ -8,7 +8,7 @@ use Rattle.mini_laws.specs.declared.names.Declared.TheVariants as declared
 use Rattle.mini_laws.specs.DeclaredNames.{names_of}
 use Rattle.mini_laws.specs.Early.{clashing, scope_declarations}
 use Rattle.mini_kept.proofs.Bools.{both}
-use Rattle.mini_rows.specs.Sketches.{Head, AList, Block, shape_by, Sketch, part, under, list, Sketches, end, ◌▹◌, Items, no_items, item, items, Parts, list_at, filled, all_filled, items_filled, Asked, AsWhole, AsWholeList, AsWholeItem, AsValue, AsValues, AsWord, AsTarget, AsUpdated, AsBranch, AsItems, AsItem, item_asked, asked_below, Leap, Returning, Yielding, leaps, Hole, Part, Stretch, Leaps, leap_holes, parts_of, parts_from, parts_in, asked_number, is_same_leap, is_same_hole, stands_in, without, has_as_often, has_each}
+use Rattle.mini_rows.specs.Sketches.{Head, AList, Block, shape_by, Sketch, part, under, list, Sketches, end, ◌▹◌, Items, no_items, item, items, Parts, list_at, filled, all_filled, items_filled, Asked, AsWhole, AsWholeList, AsWholeItem, AsValue, AsValues, AsWord, AsHeld, AsTarget, AsUpdated, AsBranch, AsItems, AsItem, item_asked, asked_below, Leap, Returning, Yielding, leaps, Hole, Part, Stretch, Leaps, leap_holes, parts_of, parts_from, parts_in, asked_number, is_same_leap, is_same_hole, stands_in, without, has_as_often, has_each}
 
 -- ---- the same part
 
@@ -23,7 +23,8 @@ asked_by (suc (suc (suc (suc (suc (suc zero)))))) = AsBranch
 asked_by (suc (suc (suc (suc (suc (suc (suc zero))))))) = AsItems
 asked_by (suc (suc (suc (suc (suc (suc (suc (suc zero)))))))) = AsItem
 asked_by (suc (suc (suc (suc (suc (suc (suc (suc (suc zero))))))))) = AsTarget
-asked_by (suc (suc (suc (suc (suc (suc (suc (suc (suc (suc n)))))))))) = AsUpdated
+asked_by (suc (suc (suc (suc (suc (suc (suc (suc (suc (suc zero)))))))))) = AsUpdated
+asked_by (suc (suc (suc (suc (suc (suc (suc (suc (suc (suc (suc n))))))))))) = AsHeld
 
 asked_again : (c : Asked) → asked_by (asked_number c) ≡ c
 unfolding asked_by

@@ -126,7 +126,7 @@ over_written unary_operator.LogicalNot (Some u) v e = boolean_written _ v e
     boolean_written b v e = subst (λ x. is_written x ≡ true) {x = Boolean b} {y = v} (cc e) refl
 over_written o c v e = nothing e
 
-literal_written : (strict : Bool) (t : Tree) (v : Value) → literal_value t ≡ Some v → fits strict expression t ≡ true → is_written v ≡ true
+pub literal_written : (strict : Bool) (t : Tree) (v : Value) → literal_value t ≡ Some v → fits strict expression t ≡ true → is_written v ≡ true
 literal_written strict t v e f = go (its_unary_operator t) e
   where
     go : (o : Option UnaryOperator) → literal_by o t ≡ Some v → is_written v ≡ true
@@ -139,7 +139,7 @@ safe_is : (n : ℤ) → conversion.is_safe n ≡ true → is_safe n ≡ true
 safe_is (pos n) e = le-leb n max_safe_integer (omega (arith, ltb-true n 9_007_199_254_740_992 e))
 safe_is (negsuc n) e = le-leb (suc n) max_safe_integer (omega (arith, ltb-true (suc n) 9_007_199_254_740_992 e))
 
-abbrev Written : Value → Type 0
+abbrev pub Written : Value → Type 0
 Written v = is_written v ≡ true
 
 written_by : (u v : Value) → Some u ≡ Some v → Written u → Written v
@@ -249,11 +249,11 @@ unfolding utf16_chars
 boolean_paired true = refl
 boolean_paired false = refl
 
-abbrev Paired : Made (List ℕ) → Type 0
+abbrev pub Paired : Made (List ℕ) → Type 0
 Paired (makes s) = is_paired s ≡ true
 Paired r = Unit {0}
 
-text_paired : (u : Value) → Written u → Paired (to_text u)
+pub text_paired : (u : Value) → Written u → Paired (to_text u)
 unfolding utf16_chars
 text_paired Undefined h = refl
 text_paired Null h = refl

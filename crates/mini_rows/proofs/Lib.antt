@@ -146,6 +146,11 @@ pub mod OperandWeights
 pub mod OperandForms
 pub mod BitNumbers
 pub mod OperandLawful
+mod TemplateRuns
+pub mod TemplateMeaning
+pub mod TemplateWeights
+mod TemplatePieces
+pub mod TemplateLawful
 pub mod NameWeights
 pub mod NameLawful
 pub mod CatchWeights

@@ -8,17 +8,17 @@ use Rattle.std.proofs.lemmas.Bool.{and_parts, leb-true, lt-ltb}
 use Rattle.mini_model.specs.Texts.{are_units}
 use Rattle.mini_accept.specs.WellShaped.{is_paired}
 
-abbrev missing : Option ℕ → Bool
+abbrev pub missing : Option ℕ → Bool
 missing o = not (is_some o)
 
 abbrev lone : Bool → ℕ → Option ℕ
 lone b u = if b then None else Some u
 
-none_missing : (b c : Bool) → b || c ≡ false → (b ≡ false) × (c ≡ false)
+pub none_missing : (b c : Bool) → b || c ≡ false → (b ≡ false) × (c ≡ false)
 none_missing false c e = (refl, e)
 none_missing true c e = absurd (true≢false e)
 
-or_false : (b c : Bool) → b ≡ false → c ≡ false → b || c ≡ false
+pub or_false : (b c : Bool) → b ≡ false → c ≡ false → b || c ≡ false
 or_false false c e f = f
 or_false true c e f = absurd (true≢false e)
 
@@ -42,15 +42,15 @@ missing_of false u = refl
 not_high : (u : ℕ) → missing (lone_unit_char u) ≡ false → is_high_surrogate u ≡ false
 not_high u e = no_high (nat_le 0xD800 u) (nat_lt u 0xE000) (nat_lt u 0xDC00) (below u) (sym (missing_of (nat_le 0xD800 u && nat_lt u 0xE000) u) ∙ e)
 
-abbrev chars_by : Bool → ℕ → ℕ → List ℕ → List (Option ℕ)
+abbrev pub chars_by : Bool → ℕ → ℕ → List ℕ → List (Option ℕ)
 chars_by pair u v us = if pair then Some (surrogate_pair_char u v) ∷ utf16_chars us else lone_unit_char u ∷ utf16_chars (v ∷ us)
 
-unpaired_by : (pair : Bool) (u v : ℕ) (us : List ℕ) → list_any missing (chars_by pair u v us) ≡ (if pair then list_any missing (utf16_chars us) else missing (lone_unit_char u) || list_any missing (utf16_chars (v ∷ us)))
+pub unpaired_by : (pair : Bool) (u v : ℕ) (us : List ℕ) → list_any missing (chars_by pair u v us) ≡ (if pair then list_any missing (utf16_chars us) else missing (lone_unit_char u) || list_any missing (utf16_chars (v ∷ us)))
 unpaired_by true u v us = refl
 unpaired_by false u v us = refl
 
 -- after a unit that is no surrogate the rest is read by itself
-unit_first : (u : ℕ) (us : List ℕ) → missing (lone_unit_char u) ≡ false → list_any missing (utf16_chars us) ≡ false → list_any missing (utf16_chars (u ∷ us)) ≡ false
+pub unit_first : (u : ℕ) (us : List ℕ) → missing (lone_unit_char u) ≡ false → list_any missing (utf16_chars us) ≡ false → list_any missing (utf16_chars (u ∷ us)) ≡ false
 unfolding utf16_chars
 unit_first u [] e f = or_false (missing (lone_unit_char u)) false e refl
 unit_first u (v ∷ us) e f =
@@ -77,7 +77,7 @@ units_joined (u ∷ us) t e f = let (first, rest) = and_parts (nat_lt u 0x1_0000
     both true c e f = f
     both false c e f = e
 
-not_true : (b : Bool) → not b ≡ true → b ≡ false
+pub not_true : (b : Bool) → not b ≡ true → b ≡ false
 not_true false e = refl
 not_true true e = absurd (true≢false (sym e))
 
@@ -93,18 +93,18 @@ is_paired_joined s t e f =
 
 -- ---- texts of digits
 
-missing_small : (u : ℕ) → u < 0xD800 → missing (lone_unit_char u) ≡ false
+pub missing_small : (u : ℕ) → u < 0xD800 → missing (lone_unit_char u) ≡ false
 missing_small u h = missing_of (nat_le 0xD800 u && nat_lt u 0xE000) u ∙ go (nat_le 0xD800 u) refl
   where
     go : (b : Bool) → nat_le 0xD800 u ≡ b → missing (lone (b && nat_lt u 0xE000) 0) ≡ false
     go false e = refl
     go true e = absurd (omega (arith, h, leb-true 0xD800 u e))
 
-unit_small : (u : ℕ) → u < 0xD800 → nat_lt u 0x1_0000 ≡ true
+pub unit_small : (u : ℕ) → u < 0xD800 → nat_lt u 0x1_0000 ≡ true
 unit_small u h = lt-ltb u 0x1_0000 (omega (arith, h))
 
 -- a unit below the surrogates
-small_first : (u : ℕ) (us : List ℕ) → u < 0xD800 → is_paired us ≡ true → is_paired (u ∷ us) ≡ true
+pub small_first : (u : ℕ) (us : List ℕ) → u < 0xD800 → is_paired us ≡ true → is_paired (u ∷ us) ≡ true
 small_first u us h e =
     let (units, paired) = and_parts (are_units us) (not (has_unpaired_surrogate us)) e in
     both_true (are_units (u ∷ us)) (not (has_unpaired_surrogate (u ∷ us))) (both_true (nat_lt u 0x1_0000) (are_units us) (unit_small u h) units) (ap not (unit_first u us (missing_small u h) (not_true _ paired)))

@@ -24,6 +24,7 @@ pub mod Negations
 pub mod Sequences
 pub mod Operators
 pub mod Operands
+pub mod Templates
 pub mod Names
 pub mod Catches
 pub mod Writes

@@ -1,6 +1,6 @@
 -- Trees that are built of parts under plain heads. A plain head has no names and no number of its own, opens no scope, holds
 -- no body or frame of its own, and gives each child the targets and surroundings that it has.
-use Rattle.std.specs.Prelude.{ℕ, zero, suc, ℤ, Bool, true, false, ◌&&◌, ◌||◌, not, nat_eq, List, [], ◌∷◌, ◌++◌, if◌then◌else◌}
+use Rattle.std.specs.Prelude.{ℕ, zero, suc, ℤ, Bool, true, false, ◌&&◌, ◌||◌, not, nat_eq, List, [], ◌∷◌, ◌++◌, Some, if◌then◌else◌}
 use Rattle.mini_model.specs.declared.operator.AssignmentOperator.{AssignmentOperator}
 use Rattle.mini_model.specs.declared.operator.AssignmentOperator.TheVariants.{Assign}
 use Rattle.mini_model.specs.declared.kind.PropertyKind.TheVariants.{Init}
@@ -40,6 +40,9 @@ pub data Head : Type 0 where
   -- a property that is no method and no accessor: whether it is shorthand, and whether its key stands in brackets
   Property : Bool → Bool → Head
   Yield : Bool → Head
+  Template : Head
+  -- a piece of a template's text: whether it is the last, the raw text and the cooked one
+  Piece : Bool → List ℕ → List ℕ → Head
   Assignment : AssignmentOperator → Head
   Update : UpdateOperator → Bool → Head
   Empty : Head
@@ -73,6 +76,8 @@ shape_by Array = shape.ArrayExpression
 shape_by Object = shape.ObjectExpression
 shape_by (Property is_shorthand is_computed) = shape.ObjectProperty Init false is_shorthand is_computed
 shape_by (Yield is_delegate) = shape.YieldExpression is_delegate
+shape_by Template = shape.TemplateLiteral
+shape_by (Piece is_tail raw cooked) = shape.TemplateElement is_tail raw (Some cooked)
 shape_by (Assignment o) = shape.AssignmentExpression o
 shape_by (Update o is_prefix) = shape.UpdateExpression o is_prefix
 shape_by Empty = shape.EmptyStatement
@@ -126,7 +131,8 @@ abbrev mutual
   items_filled ps (items i is) = append (list_at ps.lists i) (items_filled ps is)
 
 -- ---- how a part stands: as the whole statement or list, or as a statement of that list; as an expression or a list of them;
--- as a property's name; as what is assigned to, or updated; as a branch; as a statement of a block, or their list
+-- as a property's name; as what a template holds, pieces of text or parts; as what is assigned to, or updated; as a branch; as a statement
+-- of a block, or their list
 
 pub data Asked : Type 0 where
   AsWhole : Asked
@@ -135,6 +141,7 @@ pub data Asked : Type 0 where
   AsValue : Asked
   AsValues : Asked
   AsWord : Asked
+  AsHeld : Asked
   AsTarget : Asked
   AsUpdated : Asked
   AsBranch : Asked
@@ -160,6 +167,7 @@ asked_below (Property is_shorthand is_computed) c zero = AsWord
 asked_below (Call is_optional) c (suc i) = AsValues
 asked_below New c (suc i) = AsValues
 asked_below (StaticMember is_optional) c (suc i) = AsWord
+asked_below Template c i = AsHeld
 asked_below (Assignment o) c zero = target_asked o
 asked_below (Update o is_prefix) c i = AsUpdated
 asked_below If c (suc i) = AsBranch
@@ -224,6 +232,7 @@ asked_number AsItems = 7
 asked_number AsItem = 8
 asked_number AsTarget = 9
 asked_number AsUpdated = 10
+asked_number AsHeld = 11
 
 abbrev pub is_same_leap : Leap → Leap → Bool
 is_same_leap Returning Returning = true
@@ -310,6 +319,7 @@ abbrev pub is_expression_head : Head → Bool
 is_expression_head AbsentPart = false
 is_expression_head AList = false
 is_expression_head (PropertyName s) = false
+is_expression_head (Piece is_tail raw cooked) = false
 is_expression_head Empty = false
 is_expression_head OfExpression = false
 is_expression_head Throw = false
@@ -337,6 +347,10 @@ is_word_head (String s) = true
 is_word_head (Number n) = true
 is_word_head h = false
 
+abbrev pub is_piece_head : Head → Bool
+is_piece_head (Piece is_tail raw cooked) = true
+is_piece_head h = false
+
 abbrev pub is_member_head : Head → Bool
 is_member_head (StaticMember is_optional) = true
 is_member_head (ComputedMember is_optional) = true
@@ -345,6 +359,7 @@ is_member_head h = false
 abbrev pub stands_as : Asked → Head → Bool
 stands_as AsValue h = is_expression_head h || is_absent_head h
 stands_as AsWord h = is_word_head h
+stands_as AsHeld h = is_piece_head h
 stands_as AsTarget h = is_member_head h
 stands_as AsUpdated h = is_member_head h
 stands_as AsWhole h = is_statement_head h
@@ -356,6 +371,7 @@ stands_as c h = false
 abbrev pub is_list_asked : Asked → Bool
 is_list_asked AsWholeList = true
 is_list_asked AsValues = true
+is_list_asked AsHeld = true
 is_list_asked AsItems = true
 is_list_asked c = false
 

@@ -1,0 +1,74 @@
+-- Rows on templates, as equations: each is a shape and what is written in its place, with the JavaScript before and after. No order of
+-- rewriting is meant.
+use Rattle.std.specs.Prelude.{◌≡◌, ◌<◌, ℕ, Bool, true, List, [], ◌∷◌, ◌++◌, length, Option, Some}
+use Rattle.mini_model.specs.declared.place.Position.{Position}
+use Rattle.mini_model.specs.declared.place.Position.TheVariants.{Expr}
+use Rattle.mini_model.specs.declared.shape.Shape.TheVariants as shape
+use Rattle.mini_model.specs.Joined.{joined}
+use Rattle.mini_model.specs.Paths.{append}
+use Rattle.mini_model.specs.Templates.{escaped}
+use Rattle.mini_model.specs.Tree.{Tree, Trees, node, none, ◌▸◌, leaf, listed, count}
+use Rattle.mini_model.specs.Weight.{weight}
+use Rattle.mini_terms.specs.Calculated.{literal_value}
+use Rattle.mini_terms.specs.Const.{text_of}
+use Rattle.mini_terms.specs.Parts.{leaves_nothing}
+
+-- ---- terms
+
+-- a piece of a template's text: whether it is the last, the raw text, and what that cooks to
+pub record Piece : Type 0 where
+  pub is_tail : Bool
+  pub raw : List ℕ
+  pub cooked : List ℕ
+
+abbrev pub piece : Piece → Tree
+piece p = leaf (shape.TemplateElement p.is_tail p.raw (Some p.cooked))
+
+abbrev pub pieces : List Piece → Trees
+pieces [] = none
+pieces (p ∷ ps) = piece p ▸ pieces ps
+
+-- a template of these pieces of text, with the parts between them
+abbrev pub template : Trees → Trees → Tree
+template texts parts = node shape.TemplateLiteral [] 0 (listed texts ▸ (listed parts ▸ none))
+
+-- two pieces as one
+abbrev pub pair : Piece → Piece → Piece
+pair p q = record { is_tail = q.is_tail; raw = joined (p.raw ∷ (q.raw ∷ [])); cooked = p.cooked ++ q.cooked }
+
+-- the piece that spells a text
+abbrev pub spelled : List ℕ → Piece
+spelled text = record { is_tail = true; raw = escaped text; cooked = text }
+
+-- the text of the value that an expression writes out
+abbrev pub told : Tree → Option (List ℕ)
+told t = text_of (literal_value t)
+
+-- ---- rows
+
+-- 18: `` `a${1}b${c}` `` becomes `` `a1b${c}` ``, and `` `${"x"}` `` becomes `` `x` ``: a part that writes a value out goes into the text
+pub record Row18 (n w : Tree) : Type 0 where
+  pub before : List Piece
+  pub first : Piece
+  pub second : Piece
+  pub after : List Piece
+  pub earlier : Trees
+  pub part : Tree
+  pub later : Trees
+  pub text : List ℕ
+  pub starts : length before ≡ count earlier
+  pub ends : length after ≡ count later
+  pub known : told part ≡ Some text
+  pub dropped : leaves_nothing part ≡ true
+  pub shape : n ≡ template (append (pieces before) (piece first ▸ (piece second ▸ pieces after))) (append earlier (part ▸ later))
+  pub written : w ≡ template (append (pieces before) (piece (pair (pair first (spelled text)) second) ▸ pieces after)) (append earlier later)
+
+-- a row on templates reads n as w at this place
+abbrev pub TemplateRow : Position → Tree → Tree → Type 0
+TemplateRow (Expr s) n w = Row18 n w
+TemplateRow _ n w = ⊥
+
+-- what it writes, where it weighs less
+pub record TemplateContracts (p : Position) (n w : Tree) : Type 0 where
+  pub row : TemplateRow p n w
+  pub lighter : weight p w < weight p n
