@@ -5,3 +5,4 @@ pub mod Sequences
 pub mod Operators
 pub mod Operands
 pub mod Mixed
+pub mod Templates

@@ -5,4 +5,5 @@ pub mod FoldConstants
 pub mod FoldSequences
 pub mod FoldOperators
 pub mod FoldOperands
+pub mod FoldTemplates
 pub mod Lighter

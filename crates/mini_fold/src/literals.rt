@@ -250,8 +250,10 @@ fn calculated_texts(
     }
 }
 
-// ECMA-262, "ToString"
-fn to_text(alloc: Global, value: ConstantValue) -> Result<Text, OutOfMemory>
+/// The text of a value (ECMA-262, "ToString").
+///
+/// The only error is that memory runs out.
+pub fn to_text(alloc: Global, value: ConstantValue) -> Result<Text, OutOfMemory>
     ensures { IfOk result (λ text. makes text ≡ text_of (value_of value)) }
 {
     match value {

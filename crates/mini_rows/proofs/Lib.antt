@@ -146,7 +146,7 @@ pub mod OperandWeights
 pub mod OperandForms
 pub mod BitNumbers
 pub mod OperandLawful
-mod TemplateRuns
+pub mod TemplateRuns
 pub mod TemplateMeaning
 pub mod TemplateWeights
 mod TemplatePieces

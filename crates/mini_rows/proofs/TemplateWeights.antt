@@ -94,6 +94,18 @@ inlined_weighs s n w r =
     let has_parts = own_more s (count (append r.earlier r.later)) in
     omega (arith, heavy, other, read, put, has_parts)
 
+-- what is read weighs more than its part by this at least
+pub inlined_heavy : (s : Seat) (n w : Tree) (r : Row18 n w) → weight (Expr whole_seat) r.part + 10 ≤ weight (Expr s) n
+inlined_heavy s n w r =
+    let whole = ap (weight (Expr s)) r.shape ∙ template_weighs s r.before (r.first ∷ (r.second ∷ r.after)) (append r.earlier (r.part ▸ r.later)) in
+    let parts = parts_append r.earlier (r.part ▸ r.later) in
+    let counts = count_append r.earlier (r.part ▸ r.later) in
+    let fewer = count_append r.earlier r.later in
+    let many : count (append r.earlier (r.part ▸ r.later)) ≡ suc (count (append r.earlier r.later)) = omega (arith, counts, fewer) in
+    let heavy = whole ∙ ap (λ k. own s k + (raws r.before + raws (r.first ∷ (r.second ∷ r.after)) + parts_weight (append r.earlier (r.part ▸ r.later)))) many in
+    let has_parts = own_more s (count (append r.earlier r.later)) in
+    omega (arith, heavy, parts, has_parts)
+
 row_outline : (p : Position) (n w : Tree) → TemplateRow p n w → outline n ≡ outline w
 row_outline (Expr s) n w r = ap outline r.shape ∙ sym (ap outline r.written)
 row_outline p n w r = absurd r

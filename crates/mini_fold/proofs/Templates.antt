@@ -1,0 +1,388 @@
+-- What goes into the text of a template is what a row says, and where nothing does no row makes it lighter.
+use Rattle.std.proofs.Common.{◌≡◌, ℕ, zero, suc, ◌<◌, ◌≤◌, ◌^◌, Bool, true, false, List, [], ◌∷◌, length, Option, Some, None, refl, sym, ap, subst, ◌∙◌, true≢false, ltb-true, arith}
+use Rattle.std.specs.Prelude.{◌+◌, ◌-◌, ◌*◌, ◌&&◌, ◌||◌, nat_eq, nat_le, nat_lt, is_some, IfSome, if◌then◌else◌}
+use Rattle.std.proofs.lemmas.Bool.{and_parts, le-leb, leb-true, lt-ltb, eqb-true, eq-eqb, false≢true}
+use Rattle.mini_model.specs.declared.place.Position.{Position}
+use Rattle.mini_model.specs.declared.place.Position.TheVariants.{Expr}
+use Rattle.mini_model.specs.declared.seat.Seat.{Seat}
+use Rattle.mini_model.specs.declared.shape.Shape.TheVariants as shape
+use Rattle.mini_model.specs.Paths.{append}
+use Rattle.mini_model.specs.Position.{whole_seat}
+use Rattle.mini_model.specs.Tree.{Tree, Trees, node, none, ◌▸◌, count, shape_of, children, child_or_absent, first_or_absent}
+use Rattle.mini_model.specs.Weight.{weight, capped}
+use Rattle.mini_node.specs.Children.{part, rest_children, without}
+use Rattle.mini_node.specs.Walks.{from_first, next_child, no_rest}
+use Rattle.mini_laws.specs.Conversion.{makes, to_text}
+use Rattle.mini_laws.specs.Value.{Value}
+use Rattle.mini_terms.specs.Calculated.{literal_value}
+use Rattle.mini_terms.specs.Const.{made, text_of}
+use Rattle.mini_terms.specs.Parts.{leaves_nothing}
+use Rattle.mini_rows.specs.Templates.{Piece, piece, pieces, template, pair, spelled, told as told_in, Row18, TemplateRow, TemplateContracts}
+use Rattle.mini_rows.proofs.TemplateRuns.{count_append}
+use Rattle.mini_rows.proofs.TemplateWeights as weights
+use Rattle.mini_tree.specs.Rule.{Applied, Moves}
+use Rattle.mini_tree.proofs.Reaching.{moves_once}
+use Rattle.mini_fold.specs.FoldTemplates.{is_piece, piece_in, raw_in, are_pieces, is_template, texts_of, parts_of, is_whole, spare, growth, pays, joined_at, is_sewn, sewn_by, sewn, sewn_at, any_sewn, sewn_texts, inlined, Gives, Rests}
+
+both_true : (b c : Bool) → b ≡ true → c ≡ true → b && c ≡ true
+both_true true c e f = f
+both_true false c e f = e
+
+nothing : {A : Type 0} {a : A} {B : Type 0} → None ≡ Some a → B
+nothing e = cc e
+
+-- ---- what is told of a part
+
+pub told_by : (t : Tree) (v : Value) (s : List ℕ) → Some v ≡ literal_value t → makes s ≡ to_text v → Some s ≡ told_in t
+told_by t v s e f = ap made f ∙ ap text_of e
+
+pub told_none : (t : Tree) → None ≡ literal_value t → None ≡ told_in t
+told_none t e = ap text_of e
+
+-- ---- pieces and templates
+
+piece_is : (t : Tree) → is_piece t ≡ true → t ≡ piece (piece_in t)
+piece_is (node (shape.TemplateElement is_tail raw (Some cooked)) [] zero none) e = refl
+piece_is (node (shape.TemplateElement is_tail raw None) xs n ts) e = absurd (false≢true e)
+piece_is t e = absurd (false≢true e)
+
+abbrev list_of : Trees → List Piece
+list_of none = []
+list_of (t ▸ ts) = piece_in t ∷ list_of ts
+
+pieces_are : (ts : Trees) → are_pieces ts ≡ true → ts ≡ pieces (list_of ts)
+pieces_are none e = refl
+pieces_are (t ▸ ts) e =
+    let (first, rest) = and_parts (is_piece t) (are_pieces ts) e in
+    λ i. piece_is t first i ▸ pieces_are ts rest i
+
+list_count : (ts : Trees) → length (list_of ts) ≡ count ts
+list_count none = refl
+list_count (t ▸ ts) = ap suc (list_count ts)
+
+template_is : (t : Tree) → is_template t ≡ true → t ≡ template (texts_of t) (parts_of t)
+template_is (node shape.TemplateLiteral [] zero (node shape.Listed [] zero ps ▸ (node shape.Listed [] zero ts ▸ none))) e = refl
+template_is (node shape.TemplateLiteral [] zero (node shape.Listed [] zero ps ▸ (u ▸ none))) e = absurd (false≢true e)
+template_is (node shape.TemplateLiteral [] zero (u ▸ (v ▸ none))) e = absurd (false≢true e)
+template_is t e = absurd (false≢true e)
+
+same_truth : (b c : Bool) → (b ≡ true → c ≡ true) → (c ≡ true → b ≡ true) → b ≡ c
+same_truth true c f g = sym (f refl)
+same_truth false true f g = g refl
+same_truth false false f g = refl
+
+pub one_more : (a b : ℕ) → (nat_lt b a && nat_eq (a - b) 1) ≡ nat_eq a (b + 1)
+one_more a b = same_truth (nat_lt b a && nat_eq (a - b) 1) (nat_eq a (b + 1)) there back
+  where
+    there : nat_lt b a && nat_eq (a - b) 1 ≡ true → nat_eq a (b + 1) ≡ true
+    there e =
+        let (less, one) = and_parts (nat_lt b a) (nat_eq (a - b) 1) e in
+        let below = ltb-true b a less in
+        let gap = eqb-true (a - b) 1 one in
+        eq-eqb a (b + 1) (omega (arith, below, gap))
+
+    back : nat_eq a (b + 1) ≡ true → nat_lt b a && nat_eq (a - b) 1 ≡ true
+    back e =
+        let same = eqb-true a (b + 1) e in
+        both_true (nat_lt b a) (nat_eq (a - b) 1) (lt-ltb b a (omega (arith, same))) (eq-eqb (a - b) 1 (omega (arith, same)))
+
+-- ---- a look for a part that goes
+
+module _ (spared : ℕ) where
+  no_parts : (ts : Trees) → any_sewn spared ts none ≡ false
+  no_parts none = refl
+  no_parts (t ▸ ts) = refl
+
+  next_sewn : (texts parts : Trees) (i : ℕ) → count texts ≡ count parts + 1 → i < count parts → any_sewn spared (rest_children i texts) (rest_children i parts) ≡ (is_some (sewn_at spared texts parts i) || any_sewn spared (rest_children (i + 1) texts) (rest_children (i + 1) parts))
+  next_sewn texts parts i h k =
+      let here : i < count texts = omega (arith, h, k) in
+      let next : suc i < count texts = omega (arith, h, k) in
+      let more : suc i ≡ i + 1 = omega arith in
+      (λ j. any_sewn spared (next_child texts i here j) (next_child parts i k j))
+      ∙ ap (λ x. is_some (sewn spared (child_or_absent texts i) (child_or_absent parts i) (first_or_absent x)) || any_sewn spared (rest_children (suc i) texts) (rest_children (suc i) parts)) (next_child texts (suc i) next)
+      ∙ ap (λ m. is_some (sewn spared (child_or_absent texts i) (child_or_absent parts i) (child_or_absent texts m)) || any_sewn spared (rest_children m texts) (rest_children m parts)) more
+
+  pub stops : (texts parts : Trees) (i : ℕ) (m : Tree) → count texts ≡ count parts + 1 → i < count parts → Some m ≡ sewn_at spared texts parts i → any_sewn spared (rest_children i texts) (rest_children i parts) ≡ any_sewn spared texts parts → true ≡ any_sewn spared texts parts
+  stops texts parts i m h k e inv = ap (λ o. is_some o || any_sewn spared (rest_children (i + 1) texts) (rest_children (i + 1) parts)) e ∙ sym (next_sewn texts parts i h k) ∙ inv
+
+  pub goes_on : (texts parts : Trees) (i : ℕ) → count texts ≡ count parts + 1 → i < count parts → None ≡ sewn_at spared texts parts i → any_sewn spared (rest_children i texts) (rest_children i parts) ≡ any_sewn spared texts parts → any_sewn spared (rest_children (i + 1) texts) (rest_children (i + 1) parts) ≡ any_sewn spared texts parts
+  goes_on texts parts i h k e inv = ap (λ o. is_some o || any_sewn spared (rest_children (i + 1) texts) (rest_children (i + 1) parts)) e ∙ sym (next_sewn texts parts i h k) ∙ inv
+
+  pub ends : (texts parts : Trees) (i : ℕ) → count parts ≤ i → any_sewn spared (rest_children i texts) (rest_children i parts) ≡ any_sewn spared texts parts → false ≡ any_sewn spared texts parts
+  ends texts parts i h inv = sym (no_parts (rest_children i texts)) ∙ ap (any_sewn spared (rest_children i texts)) (sym (no_rest parts i h)) ∙ inv
+
+  pub begins : (texts parts : Trees) → any_sewn spared (rest_children 0 texts) (rest_children 0 parts) ≡ any_sewn spared texts parts
+  begins texts parts = λ j. any_sewn spared (from_first texts j) (from_first parts j)
+
+-- ---- a look at all pieces
+
+pub piece_missing : (ts : Trees) (i : ℕ) → i < count ts → false ≡ is_piece (child_or_absent ts i) → are_pieces (rest_children i ts) ≡ are_pieces ts → false ≡ are_pieces ts
+piece_missing ts i h e inv = ap (λ b. b && are_pieces (rest_children (suc i) ts)) e ∙ sym (ap are_pieces (next_child ts i h)) ∙ inv
+
+pub piece_there : (ts : Trees) (i : ℕ) → i < count ts → true ≡ is_piece (child_or_absent ts i) → are_pieces (rest_children i ts) ≡ are_pieces ts → are_pieces (rest_children (i + 1) ts) ≡ are_pieces ts
+piece_there ts i h e inv =
+    let next : i + 1 ≡ suc i = omega arith in
+    ap (λ k. are_pieces (rest_children k ts)) next ∙ ap (λ b. b && are_pieces (rest_children (suc i) ts)) e ∙ sym (ap are_pieces (next_child ts i h)) ∙ inv
+
+pub all_there : (ts : Trees) (i : ℕ) → count ts ≤ i → are_pieces (rest_children i ts) ≡ are_pieces ts → true ≡ are_pieces ts
+all_there ts i h inv = sym (ap are_pieces (no_rest ts i h)) ∙ inv
+
+pub pieces_begin : (ts : Trees) → are_pieces (rest_children 0 ts) ≡ are_pieces ts
+pieces_begin ts = ap are_pieces (from_first ts)
+
+-- where one is taken out of more, another stands there
+pub room_left : (ts : Trees) (i : ℕ) → i + 1 < count ts → i < count (without ts i)
+room_left none i h = absurd (omega (arith, h))
+room_left (t ▸ ts) zero h = omega (arith, h)
+room_left (t ▸ ts) (suc i) h = let rest = room_left ts i (omega (arith, h)) in omega (arith, rest)
+
+-- ---- a template round one of its parts
+
+record Split (texts parts : Trees) (i : ℕ) : Type 0 where
+  before : List Piece
+  after : List Piece
+  earlier : Trees
+  later : Trees
+  starts : length before ≡ count earlier
+  stops : length after ≡ count later
+  texts_are : texts ≡ append (pieces before) (piece (piece_in (child_or_absent texts i)) ▸ (piece (piece_in (child_or_absent texts (suc i))) ▸ pieces after))
+  parts_are : parts ≡ append earlier (child_or_absent parts i ▸ later)
+  put : (m : Tree) → sewn_texts i m texts ≡ append (pieces before) (m ▸ pieces after)
+  left : without parts i ≡ append earlier later
+
+split_more : (a t : Tree) (texts parts : Trees) (i : ℕ) → is_piece a ≡ true → Split texts parts i → Split (a ▸ texts) (t ▸ parts) (suc i)
+split_more a t texts parts i first r = record {
+  before = piece_in a ∷ r.before;
+  after = r.after;
+  earlier = t ▸ r.earlier;
+  later = r.later;
+  starts = let rest = r.starts in omega (arith, rest);
+  stops = r.stops;
+  texts_are = λ i. piece_is a first i ▸ r.texts_are i;
+  parts_are = ap (λ us. t ▸ us) r.parts_are;
+  put = λ m. λ i. piece_is a first i ▸ r.put m i;
+  left = ap (λ us. t ▸ us) r.left;
+}
+
+split : (texts parts : Trees) (i : ℕ) → count texts ≡ count parts + 1 → are_pieces texts ≡ true → i < count parts → Split texts parts i
+split none parts i h e k = absurd (omega (arith, h))
+split (a ▸ texts) none i h e k = absurd (omega (arith, k))
+split (a ▸ none) (t ▸ parts) i h e k = absurd (omega (arith, h))
+split (a ▸ (b ▸ texts)) (t ▸ parts) zero h e k =
+    let (first, rest) = and_parts (is_piece a) (are_pieces (b ▸ texts)) e in
+    let (second, others) = and_parts (is_piece b) (are_pieces texts) rest in
+    let counts = list_count texts in
+    let same = pieces_are texts others in record {
+      before = [];
+      after = list_of texts;
+      earlier = none;
+      later = parts;
+      starts = refl;
+      stops = omega (arith, h, counts);
+      texts_are = λ i. piece_is a first i ▸ (piece_is b second i ▸ same i);
+      parts_are = refl;
+      put = λ m. ap (λ us. m ▸ us) same;
+      left = refl;
+    }
+split (a ▸ texts) (t ▸ parts) (suc i) h e k =
+    let (first, rest) = and_parts (is_piece a) (are_pieces texts) e in
+    split_more a t texts parts i first (split texts parts i (omega (arith, h)) rest (omega (arith, k)))
+
+-- ---- weights
+
+spare_is : (s : Seat) (k : ℕ) → spare s (suc k) ≡ weights.spare s k
+spare_is s k = go (nat_eq (suc k) 1) (nat_eq k 0) s.eq_left refl refl
+  where
+    go : (b c left : Bool) → nat_eq (suc k) 1 ≡ b → nat_eq k 0 ≡ c → (if b then (if left then 2 else 1) else 0) ≡ (if c then 1 else 0) + (if (left && c) || false then 1 else 0)
+    go true true true e f = refl
+    go true true false e f = refl
+    go true false left e f = let one = eqb-true (suc k) 1 e in absurd (true≢false (sym (eq-eqb k 0 (omega (arith, one))) ∙ f))
+    go false true left e f = let none = eqb-true k 0 f in absurd (true≢false (sym (eq-eqb (suc k) 1 (omega (arith, none))) ∙ e))
+    go false false true e f = refl
+    go false false false e f = refl
+
+spare_small : (s : Seat) (n : ℕ) → spare s n ≤ 2
+spare_small s n = go (nat_eq n 1) s.eq_left
+  where
+    go : (b left : Bool) → (if b then (if left then 2 else 1) else 0) ≤ 2
+    go true true = omega arith
+    go true false = omega arith
+    go false left = omega arith
+
+paid : (spared grown w : ℕ) → spared ≤ 2 → pays spared grown (capped w) ≡ true → 2 * grown + spared < 6 + w
+paid spared grown w small e =
+    let least = leb-true grown (capped (capped w + (5 - spared)) - grown) e in
+    omega (arith, small, least)
+
+pays_for : (spared grown w : ℕ) → spared ≤ 2 → w + 10 < 2 ^ 64 → 2 * grown + spared < 6 + w → pays spared grown (capped w) ≡ true
+pays_for spared grown w small fits e = le-leb grown (capped (capped w + (5 - spared)) - grown) (omega (arith, small, fits, e))
+
+-- ---- what a row says
+
+module _ (s : Seat) (n w : Tree) (r : Row18 n w) where
+  abbrev made_raw : List ℕ
+  made_raw = (pair (pair r.first (spelled r.text)) r.second).raw
+
+  abbrev grown : ℕ
+  grown = growth (length made_raw) (length r.first.raw) (length r.second.raw)
+
+  abbrev others : ℕ
+  others = count (append r.earlier r.later)
+
+  parts_counted : count (append r.earlier (r.part ▸ r.later)) ≡ suc others
+  parts_counted = let one = count_append r.earlier (r.part ▸ r.later) in let other = count_append r.earlier r.later in omega (arith, one, other)
+
+  falls : pays (spare s (suc others)) grown (capped (weight (Expr whole_seat) r.part)) ≡ true → weight (Expr s) w < weight (Expr s) n
+  falls e =
+      let whole = weights.inlined_weighs s n w r in
+      let same = spare_is s others in
+      let less = paid (spare s (suc others)) grown (weight (Expr whole_seat) r.part) (spare_small s (suc others)) e in
+      omega (arith, whole, same, less)
+
+  pays_here : weight (Expr s) n < 2 ^ 64 → weight (Expr s) w < weight (Expr s) n → pays (spare s (suc others)) grown (capped (weight (Expr whole_seat) r.part)) ≡ true
+  pays_here small less =
+      let whole = weights.inlined_weighs s n w r in
+      let same = spare_is s others in
+      let few = spare_small s (suc others) in
+      let heavy = weights.inlined_heavy s n w r in
+      pays_for (spare s (suc others)) grown (weight (Expr whole_seat) r.part) few (omega (arith, small, heavy)) (omega (arith, whole, same, less, few))
+
+-- ---- what goes
+
+sewn_with : (spared : ℕ) (a t b m : Tree) → Some m ≡ sewn spared a t b → (text : List ℕ) × ((told_in t ≡ Some text) × ((is_sewn spared a t (joined_at a text b).raw b ≡ true) × (m ≡ piece (joined_at a text b))))
+sewn_with spared a t b m e = go (told_in t) refl e
+  where
+    by : (text : List ℕ) (c : Bool) → told_in t ≡ Some text → is_sewn spared a t (joined_at a text b).raw b ≡ c → Some m ≡ (if c then Some (piece (joined_at a text b)) else None) → (text : List ℕ) × ((told_in t ≡ Some text) × ((is_sewn spared a t (joined_at a text b).raw b ≡ true) × (m ≡ piece (joined_at a text b))))
+    by text true k h e = let same : m ≡ piece (joined_at a text b) = cc e in (text, (k, (h, same)))
+    by text false k h e = nothing (sym e)
+
+    go : (o : Option (List ℕ)) → told_in t ≡ o → Some m ≡ sewn_by spared a t o b → (text : List ℕ) × ((told_in t ≡ Some text) × ((is_sewn spared a t (joined_at a text b).raw b ≡ true) × (m ≡ piece (joined_at a text b))))
+    go (Some text) k e = by text (is_sewn spared a t (joined_at a text b).raw b) k refl e
+    go None k e = nothing (sym e)
+
+module _ (s : Seat) (t : Tree) (i : ℕ) (m : Tree) (is : is_whole t ≡ true) (k : i < count (parts_of t)) (e : Some m ≡ sewn_at (spare s (count (parts_of t))) (texts_of t) (parts_of t) i) where
+  abbrev a : Tree
+  a = child_or_absent (texts_of t) i
+
+  abbrev b : Tree
+  b = child_or_absent (texts_of t) (suc i)
+
+  abbrev part_here : Tree
+  part_here = child_or_absent (parts_of t) i
+
+  inlined_contracts : TemplateContracts (Expr s) t (inlined i m t)
+  inlined_contracts =
+      let (kind, rest) = and_parts (is_template t) (nat_eq (count (texts_of t)) (count (parts_of t) + 1) && are_pieces (texts_of t)) is in
+      let (counts, all) = and_parts (nat_eq (count (texts_of t)) (count (parts_of t) + 1)) (are_pieces (texts_of t)) rest in
+      let next : i + 1 ≡ suc i = omega arith in
+      let found : Some m ≡ sewn (spare s (count (parts_of t))) a part_here b = e ∙ ap (λ j. sewn (spare s (count (parts_of t))) a part_here (child_or_absent (texts_of t) j)) next in
+      let (text, (known, (goes, same))) = sewn_with (spare s (count (parts_of t))) a part_here b m found in
+      let (dropped, less) = and_parts (leaves_nothing part_here) (pays (spare s (count (parts_of t))) (growth (length (joined_at a text b).raw) (length (raw_in (shape_of a))) (length (raw_in (shape_of b)))) (capped (weight (Expr whole_seat) part_here))) goes in
+      let r : Split (texts_of t) (parts_of t) i = split (texts_of t) (parts_of t) i (eqb-true (count (texts_of t)) (count (parts_of t) + 1) counts) all k in
+      let row : Row18 t (inlined i m t) = record {
+        before = r.before;
+        first = piece_in a;
+        second = piece_in b;
+        after = r.after;
+        earlier = r.earlier;
+        part = part_here;
+        later = r.later;
+        text = text;
+        starts = r.starts;
+        ends = r.stops;
+        known = known;
+        dropped = dropped;
+        shape = template_is t kind ∙ (λ j. template (r.texts_are j) (r.parts_are j));
+        written = (λ j. template (r.put m j) (r.left j)) ∙ ap (λ x. template (append (pieces r.before) (x ▸ pieces r.after)) (append r.earlier r.later)) same;
+      } in
+      let many : count (parts_of t) ≡ suc (others s t (inlined i m t) row) = ap count r.parts_are ∙ parts_counted s t (inlined i m t) row in
+      record { row = row; lighter = falls s t (inlined i m t) row (sym (ap (λ c. pays (spare s c) (growth (length (joined_at a text b).raw) (length (raw_in (shape_of a))) (length (raw_in (shape_of b)))) (capped (weight (Expr whole_seat) part_here))) many) ∙ less) }
+
+  pub inlined_moves : Moves Gives (Expr s) t (inlined i m t)
+  inlined_moves = moves_once Gives (Expr s) t (inlined i m t) inlined_contracts
+
+-- ---- where no row makes it lighter
+
+or_true : (b c : Bool) → c ≡ true → b || c ≡ true
+or_true true c e = refl
+or_true false c e = e
+
+sewn_there : (spared : ℕ) (a t b : Tree) (text : List ℕ) → told_in t ≡ Some text → is_sewn spared a t (joined_at a text b).raw b ≡ true → is_some (sewn spared a t b) ≡ true
+sewn_there spared a t b text k e = ap (λ o. is_some (sewn_by spared a t o b)) k ∙ ap (λ c. is_some (if c then Some (piece (joined_at a text b)) else None)) e
+
+any_found : (spared : ℕ) (before : List Piece) (p q : Piece) (after : List Piece) (earlier : Trees) (t : Tree) (later : Trees) → length before ≡ count earlier → is_some (sewn spared (piece p) t (piece q)) ≡ true → any_sewn spared (append (pieces before) (piece p ▸ (piece q ▸ pieces after))) (append earlier (t ▸ later)) ≡ true
+any_found spared [] p q after none t later h e = ap (λ b. b || any_sewn spared (piece q ▸ pieces after) later) e
+any_found spared (b ∷ before) p q after (u ▸ earlier) t later h e = or_true _ (any_sewn spared (append (pieces before) (piece p ▸ (piece q ▸ pieces after))) (append earlier (t ▸ later))) (any_found spared before p q after earlier t later (omega (arith, h)) e)
+any_found spared [] p q after (u ▸ earlier) t later h e = absurd (omega (arith, h))
+any_found spared (b ∷ before) p q after none t later h e = absurd (omega (arith, h))
+
+all_pieces : (ps : List Piece) → are_pieces (pieces ps) ≡ true
+all_pieces [] = refl
+all_pieces (p ∷ ps) = all_pieces ps
+
+pieces_before : (ps : List Piece) (ts : Trees) → are_pieces ts ≡ true → are_pieces (append (pieces ps) ts) ≡ true
+pieces_before [] ts e = e
+pieces_before (p ∷ ps) ts e = pieces_before ps ts e
+
+pieces_count : (ps : List Piece) → count (pieces ps) ≡ length ps
+pieces_count [] = refl
+pieces_count (p ∷ ps) = ap suc (pieces_count ps)
+
+module _ (s : Seat) (t w : Tree) (c : TemplateContracts (Expr s) t w) where
+  abbrev r : Row18 t w
+  r = c.row
+
+  abbrev texts : Trees
+  texts = append (pieces r.before) (piece r.first ▸ (piece r.second ▸ pieces r.after))
+
+  abbrev parts : Trees
+  parts = append r.earlier (r.part ▸ r.later)
+
+  row_whole : is_whole t ≡ true
+  row_whole =
+      let many = count_append (pieces r.before) (piece r.first ▸ (piece r.second ▸ pieces r.after)) in
+      let few = count_append r.earlier (r.part ▸ r.later) in
+      let before = pieces_count r.before in
+      let after = pieces_count r.after in
+      let starts = r.starts in
+      let ends = r.ends in
+      ap is_whole r.shape ∙ both_true (nat_eq (count texts) (count parts + 1)) (are_pieces texts) (eq-eqb (count texts) (count parts + 1) (omega (arith, many, few, before, after, starts, ends))) (pieces_before r.before (piece r.first ▸ (piece r.second ▸ pieces r.after)) (all_pieces r.after))
+
+  row_sewn : weight (Expr s) t < 2 ^ 64 → any_sewn (spare s (count (parts_of t))) (texts_of t) (parts_of t) ≡ true
+  row_sewn small =
+      let pays = pays_here s t w r small c.lighter in
+      ap (λ x. any_sewn (spare s (count (parts_of x))) (texts_of x) (parts_of x)) r.shape
+      ∙ ap (λ k. any_sewn (spare s k) texts parts) (parts_counted s t w r)
+      ∙ any_found (spare s (suc (others s t w r))) r.before r.first r.second r.after r.earlier r.part r.later r.starts
+      (sewn_there (spare s (suc (others s t w r))) (piece r.first) r.part (piece r.second) r.text r.known (both_true (leaves_nothing r.part) _ r.dropped pays))
+
+pub rests : (s : Seat) (t : Tree) → is_whole t ≡ true → false ≡ any_sewn (spare s (count (parts_of t))) (texts_of t) (parts_of t) → Rests (Expr s) t
+rests s t is e small w c = true≢false (sym (row_sewn s t w c small) ∙ sym e)
+
+pub no_whole : (s : Seat) (t : Tree) → is_whole t ≡ false → Rests (Expr s) t
+no_whole s t e small w c = true≢false (sym (row_whole s t w c) ∙ e)
+
+-- elsewhere there is nothing to do
+pub elsewhere : (p : Position) (t w : Tree) → ((s : Seat) → p ≡ Expr s → ⊥) → weight p t < 2 ^ 64 → TemplateContracts p t w → ⊥
+elsewhere (Expr s) t w h small c = h s refl
+elsewhere p t w h small c = absurd c.row
+
+-- ---- where the code stands
+
+pub whole_counts : (t : Tree) → is_whole t ≡ true → count (texts_of t) ≡ count (parts_of t) + 1
+whole_counts t e =
+    let (kind, rest) = and_parts (is_template t) (nat_eq (count (texts_of t)) (count (parts_of t) + 1) && are_pieces (texts_of t)) e in
+    eqb-true (count (texts_of t)) (count (parts_of t) + 1) (and_parts (nat_eq (count (texts_of t)) (count (parts_of t) + 1)) (are_pieces (texts_of t)) rest).0
+
+pub found_in : {A : Type 0} (P : A → Type 0) (o : Option A) (x : A) → o ≡ Some x → IfSome o P → P x
+found_in P o x e h = subst (λ y. IfSome y P) e h
+
+module _ (s : Seat) (t : Tree) (is : is_whole t ≡ true) (spared : ℕ) (us vs : Trees) (f : spared ≡ spare s (count (parts_of t))) (g : us ≡ texts_of t) (h : vs ≡ parts_of t) where
+  same_look : (k : ℕ → Trees → Trees → Bool) → k spared us vs ≡ k (spare s (count (parts_of t))) (texts_of t) (parts_of t)
+  same_look k = λ j. k (f j) (g j) (h j)
+
+  pub moved : (i : ℕ) (m : Tree) → i < count vs → Some m ≡ sewn_at spared us vs i → Moves Gives (Expr s) t (inlined i m t)
+  moved i m k e = inlined_moves s t i m is (subst (λ ws. i < count ws) h k) (e ∙ (λ j. sewn_at (f j) (g j) (h j) i))
+
+  pub at_rest : {A : Type 0} (o : Option A) → o ≡ None → is_some o ≡ any_sewn spared us vs → Rests (Expr s) t
+  at_rest o e k = rests s t is (sym (ap is_some e) ∙ k ∙ same_look any_sewn)
