@@ -15,6 +15,7 @@ use Rattle.mini_fold.specs.FoldKnown as folding
 use Rattle.mini_fold.specs.FoldConstants as constants
 use Rattle.mini_fold.specs.FoldSequences as sequences
 use Rattle.mini_fold.specs.FoldOperands as operands
+use Rattle.mini_fold.specs.FoldTemplates as templates
 use Rattle.mini_syntax.specs.Spelled as spellings
 use Rattle.mini_syntax.specs.SubstituteArrowExpression as arrows
 use Rattle.mini_syntax.specs.SubstituteObjectProperty as keys
@@ -31,10 +32,10 @@ use Rattle.mini_unused.specs.SubstituteCatchClause as catches
 
 -- of those that keep each name
 abbrev pub Gives : CompressOptions → Tree → Position → Tree → Tree → Type 0
-Gives o q = Either logic.Gives (Either bodies.Gives (Either returns.Gives (Either spellings.Gives (Either (lists.Gives o q) (Either keys.Gives (Either choices.Gives (Either DeclarationContracts (Either folding.Gives (Either arrows.Gives (Either constants.Gives (Either held.Gives (Either booleans.Gives (Either de_morgan.Gives (Either sequences.Gives (Either operands.Gives negation.Gives)))))))))))))))
+Gives o q = Either logic.Gives (Either bodies.Gives (Either returns.Gives (Either spellings.Gives (Either (lists.Gives o q) (Either keys.Gives (Either choices.Gives (Either DeclarationContracts (Either folding.Gives (Either arrows.Gives (Either constants.Gives (Either held.Gives (Either booleans.Gives (Either de_morgan.Gives (Either sequences.Gives (Either operands.Gives (Either negation.Gives templates.Gives))))))))))))))))
 
 abbrev pub Rests : CompressOptions → Tree → Position → Tree → Type 0
-Rests o q = Both logic.Rests (Both bodies.Rests (Both returns.Rests (Both spellings.Rests (Both (lists.RestsUnder o q) (Both keys.Rests (Both choices.Rests (Both declarations.Rests (Both folding.Rests (Both arrows.Rests (Both constants.Rests (Both held.Rests (Both booleans.Rests (Both de_morgan.Rests (Both sequences.Rests (Both operands.Rests negation.Rests)))))))))))))))
+Rests o q = Both logic.Rests (Both bodies.Rests (Both returns.Rests (Both spellings.Rests (Both (lists.RestsUnder o q) (Both keys.Rests (Both choices.Rests (Both declarations.Rests (Both folding.Rests (Both arrows.Rests (Both constants.Rests (Both held.Rests (Both booleans.Rests (Both de_morgan.Rests (Both sequences.Rests (Both operands.Rests (Both negation.Rests templates.Rests))))))))))))))))
 
 -- and of those besides that drop names that nothing mentions, or write names that can be written
 abbrev pub AllGives : CompressOptions → Tree → Position → Tree → Tree → Type 0

@@ -18,7 +18,7 @@ use crate::named::{numbers_of, symbols_of};
 use mini_choices::{MinimizeChoices, MinimizeWrites};
 use mini_context::{TraverseCtx, resolve};
 use mini_estree::{MinifyError, Numbered, read_program};
-use mini_fold::{FoldConstants, FoldKnown, FoldOperands, FoldSequences};
+use mini_fold::{FoldConstants, FoldKnown, FoldOperands, FoldSequences, FoldTemplates};
 use mini_logic::{
     MinimizeBodies, MinimizeConditional, MinimizeIf, MinimizeInBooleanContext, MinimizeNegations,
     MinimizeUnary, MinimizeVoid,
@@ -91,7 +91,10 @@ type Spellings = Then<
                                                 MinimizeVoid,
                                                 Then<
                                                     FoldSequences,
-                                                    Then<FoldOperands, MinimizeNegations>,
+                                                    Then<
+                                                        FoldOperands,
+                                                        Then<MinimizeNegations, FoldTemplates>,
+                                                    >,
                                                 >,
                                             >,
                                         >,
@@ -144,7 +147,10 @@ const KEEPING_RULES: Then<Logic, Then<MinimizeBodies, Spellings>> = Then {
                                                             first: FoldSequences,
                                                             second: Then {
                                                                 first: FoldOperands,
-                                                                second: MinimizeNegations,
+                                                                second: Then {
+                                                                    first: MinimizeNegations,
+                                                                    second: FoldTemplates,
+                                                                },
                                                             },
                                                         },
                                                     },
