@@ -32,7 +32,7 @@ both_true false c e f = e
 
 -- ---- the last of some
 
-last_append : (ts : Trees) (t : Tree) → last_of (append ts (t ▸ none)) ≡ t
+pub last_append : (ts : Trees) (t : Tree) → last_of (append ts (t ▸ none)) ≡ t
 last_append none t = refl
 last_append (u ▸ none) t = refl
 last_append (u ▸ (v ▸ vs)) t = last_append (v ▸ vs) t

@@ -1,28 +1,34 @@
 -- What goes into the text of a template is what a row says, and where nothing does no row makes it lighter.
-use Rattle.std.proofs.Common.{◌≡◌, ℕ, zero, suc, ◌<◌, ◌≤◌, ◌^◌, Bool, true, false, List, [], ◌∷◌, length, Option, Some, None, refl, sym, ap, subst, ◌∙◌, true≢false, ltb-true, arith}
-use Rattle.std.specs.Prelude.{◌+◌, ◌-◌, ◌*◌, ◌&&◌, ◌||◌, nat_eq, nat_le, nat_lt, is_some, IfSome, if◌then◌else◌}
+use Rattle.std.proofs.Common.{◌≡◌, ℕ, zero, suc, ◌<◌, ◌≤◌, ◌^◌, Bool, true, false, List, [], ◌∷◌, length, Option, Some, None, inl, inr, refl, sym, ap, subst, ◌∙◌, true≢false, ltb-true, arith}
+use Rattle.std.specs.Prelude.{◌+◌, ◌-◌, ◌*◌, ◌&&◌, ◌||◌, nat_eq, nat_le, nat_lt, is_some, unwrap_or, IfSome, if◌then◌else◌}
 use Rattle.std.proofs.lemmas.Bool.{and_parts, le-leb, leb-true, lt-ltb, eqb-true, eq-eqb, false≢true}
+use Rattle.mini_model.specs.declared.operator.BinaryOperator.TheVariants.{Addition}
 use Rattle.mini_model.specs.declared.place.Position.{Position}
 use Rattle.mini_model.specs.declared.place.Position.TheVariants.{Expr}
 use Rattle.mini_model.specs.declared.seat.Seat.{Seat}
 use Rattle.mini_model.specs.declared.shape.Shape.TheVariants as shape
 use Rattle.mini_model.specs.Paths.{append}
-use Rattle.mini_model.specs.Position.{whole_seat}
+use Rattle.mini_model.specs.Position.{whole_seat, binary_operand_seat}
 use Rattle.mini_model.specs.Tree.{Tree, Trees, node, none, ◌▸◌, count, shape_of, children, child_or_absent, first_or_absent}
 use Rattle.mini_model.specs.Weight.{weight, capped}
-use Rattle.mini_node.specs.Children.{part, rest_children, without}
-use Rattle.mini_node.specs.Walks.{from_first, next_child, no_rest}
+use Rattle.mini_node.specs.Children.{part, rest_children, with_inserted, without}
+use Rattle.mini_node.specs.Kinds.{binary_operator}
+use Rattle.mini_node.specs.Made.{binary_is}
+use Rattle.mini_node.specs.Walks.{from_first, next_child, no_rest, append_one}
 use Rattle.mini_laws.specs.Conversion.{makes, to_text}
 use Rattle.mini_laws.specs.Value.{Value}
 use Rattle.mini_terms.specs.Calculated.{literal_value}
 use Rattle.mini_terms.specs.Const.{made, text_of}
 use Rattle.mini_terms.specs.Parts.{leaves_nothing}
-use Rattle.mini_rows.specs.Templates.{Piece, piece, pieces, template, pair, spelled, told as told_in, Row18, TemplateRow, TemplateContracts}
+use Rattle.mini_rows.specs.Spellings.{binary}
+use Rattle.mini_rows.specs.Templates.{Piece, piece, pieces, template, pair, spelled, told as told_in, Row18, Row5Both, Row5After, Row5Before, TemplateRow, TemplateContracts}
 use Rattle.mini_rows.proofs.TemplateRuns.{count_append}
 use Rattle.mini_rows.proofs.TemplateWeights as weights
 use Rattle.mini_tree.specs.Rule.{Applied, Moves}
 use Rattle.mini_tree.proofs.Reaching.{moves_once}
-use Rattle.mini_fold.specs.FoldTemplates.{is_piece, piece_in, raw_in, are_pieces, is_template, texts_of, parts_of, is_whole, spare, growth, pays, joined_at, is_sewn, sewn_by, sewn, sewn_at, any_sewn, sewn_texts, inlined, Gives, Rests}
+use Rattle.mini_fold.specs.FoldSequences.{last_of, but_last}
+use Rattle.mini_fold.specs.FoldTemplates.{is_piece, piece_in, raw_in, are_pieces, is_template, texts_of, parts_of, is_whole, spare, growth, pays, hole, joined_at, is_sewn, sewn_by, sewn, sewn_at, any_sewn, sewn_texts, inlined, mark, plus_sign, paired, both_written, is_added, tail_by, tail_piece, with_tail, head_by, head_piece, with_head, made_by, sum_by, sum_written, Gives, Rests, PartsRest}
+use Rattle.mini_fold.proofs.Sequences.{last_append}
 
 both_true : (b c : Bool) → b ≡ true → c ≡ true → b && c ≡ true
 both_true true c e f = f
@@ -209,13 +215,13 @@ spare_small s n = go (nat_eq n 1) s.eq_left
     go true false = omega arith
     go false left = omega arith
 
-paid : (spared grown w : ℕ) → spared ≤ 2 → pays spared grown (capped w) ≡ true → 2 * grown + spared < 6 + w
-paid spared grown w small e =
-    let least = leb-true grown (capped (capped w + (5 - spared)) - grown) e in
-    omega (arith, small, least)
+paid : (besides grown w : ℕ) → pays besides grown (capped w) ≡ true → 2 * grown ≤ w + besides
+paid besides grown w e =
+    let least = leb-true grown (capped (capped w + besides) - grown) e in
+    omega (arith, least)
 
-pays_for : (spared grown w : ℕ) → spared ≤ 2 → w + 10 < 2 ^ 64 → 2 * grown + spared < 6 + w → pays spared grown (capped w) ≡ true
-pays_for spared grown w small fits e = le-leb grown (capped (capped w + (5 - spared)) - grown) (omega (arith, small, fits, e))
+pays_for : (besides grown w : ℕ) → w + besides < 2 ^ 64 → 2 * grown ≤ w + besides → pays besides grown (capped w) ≡ true
+pays_for besides grown w fits e = le-leb grown (capped (capped w + besides) - grown) (omega (arith, fits, e))
 
 -- ---- what a row says
 
@@ -232,20 +238,24 @@ module _ (s : Seat) (n w : Tree) (r : Row18 n w) where
   parts_counted : count (append r.earlier (r.part ▸ r.later)) ≡ suc others
   parts_counted = let one = count_append r.earlier (r.part ▸ r.later) in let other = count_append r.earlier r.later in omega (arith, one, other)
 
-  falls : pays (spare s (suc others)) grown (capped (weight (Expr whole_seat) r.part)) ≡ true → weight (Expr s) w < weight (Expr s) n
+  falls : pays (hole (spare s (suc others))) grown (capped (weight (Expr whole_seat) r.part)) ≡ true → weight (Expr s) w < weight (Expr s) n
   falls e =
       let whole = weights.inlined_weighs s n w r in
       let same = spare_is s others in
-      let less = paid (spare s (suc others)) grown (weight (Expr whole_seat) r.part) (spare_small s (suc others)) e in
-      omega (arith, whole, same, less)
+      let less = paid (hole (spare s (suc others))) grown (weight (Expr whole_seat) r.part) e in
+      let few = spare_small s (suc others) in
+      omega (arith, whole, same, less, few)
 
-  pays_here : weight (Expr s) n < 2 ^ 64 → weight (Expr s) w < weight (Expr s) n → pays (spare s (suc others)) grown (capped (weight (Expr whole_seat) r.part)) ≡ true
+  falls_at : (k : ℕ) → k ≡ suc others → pays (hole (spare s k)) grown (capped (weight (Expr whole_seat) r.part)) ≡ true → weight (Expr s) w < weight (Expr s) n
+  falls_at k h e = falls (subst (λ j. pays (hole (spare s j)) grown (capped (weight (Expr whole_seat) r.part)) ≡ true) h e)
+
+  pays_here : weight (Expr s) n < 2 ^ 64 → weight (Expr s) w < weight (Expr s) n → pays (hole (spare s (suc others))) grown (capped (weight (Expr whole_seat) r.part)) ≡ true
   pays_here small less =
       let whole = weights.inlined_weighs s n w r in
       let same = spare_is s others in
       let few = spare_small s (suc others) in
       let heavy = weights.inlined_heavy s n w r in
-      pays_for (spare s (suc others)) grown (weight (Expr whole_seat) r.part) few (omega (arith, small, heavy)) (omega (arith, whole, same, less, few))
+      pays_for (hole (spare s (suc others))) grown (weight (Expr whole_seat) r.part) (omega (arith, small, heavy)) (omega (arith, whole, same, less, few))
 
 -- ---- what goes
 
@@ -277,7 +287,7 @@ module _ (s : Seat) (t : Tree) (i : ℕ) (m : Tree) (is : is_whole t ≡ true) (
       let next : i + 1 ≡ suc i = omega arith in
       let found : Some m ≡ sewn (spare s (count (parts_of t))) a part_here b = e ∙ ap (λ j. sewn (spare s (count (parts_of t))) a part_here (child_or_absent (texts_of t) j)) next in
       let (text, (known, (goes, same))) = sewn_with (spare s (count (parts_of t))) a part_here b m found in
-      let (dropped, less) = and_parts (leaves_nothing part_here) (pays (spare s (count (parts_of t))) (growth (length (joined_at a text b).raw) (length (raw_in (shape_of a))) (length (raw_in (shape_of b)))) (capped (weight (Expr whole_seat) part_here))) goes in
+      let (dropped, less) = and_parts (leaves_nothing part_here) (pays (hole (spare s (count (parts_of t)))) (growth (length (joined_at a text b).raw) (length (raw_in (shape_of a))) (length (raw_in (shape_of b)))) (capped (weight (Expr whole_seat) part_here))) goes in
       let r : Split (texts_of t) (parts_of t) i = split (texts_of t) (parts_of t) i (eqb-true (count (texts_of t)) (count (parts_of t) + 1) counts) all k in
       let row : Row18 t (inlined i m t) = record {
         before = r.before;
@@ -296,7 +306,7 @@ module _ (s : Seat) (t : Tree) (i : ℕ) (m : Tree) (is : is_whole t ≡ true) (
         written = (λ j. template (r.put m j) (r.left j)) ∙ ap (λ x. template (append (pieces r.before) (x ▸ pieces r.after)) (append r.earlier r.later)) same;
       } in
       let many : count (parts_of t) ≡ suc (others s t (inlined i m t) row) = ap count r.parts_are ∙ parts_counted s t (inlined i m t) row in
-      record { row = row; lighter = falls s t (inlined i m t) row (sym (ap (λ c. pays (spare s c) (growth (length (joined_at a text b).raw) (length (raw_in (shape_of a))) (length (raw_in (shape_of b)))) (capped (weight (Expr whole_seat) part_here))) many) ∙ less) }
+      record { row = inl row; lighter = falls_at s t (inlined i m t) row (count (parts_of t)) many less }
 
   pub inlined_moves : Moves Gives (Expr s) t (inlined i m t)
   inlined_moves = moves_once Gives (Expr s) t (inlined i m t) inlined_contracts
@@ -320,7 +330,7 @@ all_pieces : (ps : List Piece) → are_pieces (pieces ps) ≡ true
 all_pieces [] = refl
 all_pieces (p ∷ ps) = all_pieces ps
 
-pieces_before : (ps : List Piece) (ts : Trees) → are_pieces ts ≡ true → are_pieces (append (pieces ps) ts) ≡ true
+pub pieces_before : (ps : List Piece) (ts : Trees) → are_pieces ts ≡ true → are_pieces (append (pieces ps) ts) ≡ true
 pieces_before [] ts e = e
 pieces_before (p ∷ ps) ts e = pieces_before ps ts e
 
@@ -328,10 +338,15 @@ pieces_count : (ps : List Piece) → count (pieces ps) ≡ length ps
 pieces_count [] = refl
 pieces_count (p ∷ ps) = ap suc (pieces_count ps)
 
-module _ (s : Seat) (t w : Tree) (c : TemplateContracts (Expr s) t w) where
-  abbrev r : Row18 t w
-  r = c.row
+module _ (ps qs : List Piece) (ts : Trees) where
+  whole_is : length ps + length qs ≡ count ts + 1 → is_whole (template (append (pieces ps) (pieces qs)) ts) ≡ true
+  whole_is h =
+      let many = count_append (pieces ps) (pieces qs) in
+      let front = pieces_count ps in
+      let back = pieces_count qs in
+      both_true (nat_eq (count (append (pieces ps) (pieces qs))) (count ts + 1)) (are_pieces (append (pieces ps) (pieces qs))) (eq-eqb (count (append (pieces ps) (pieces qs))) (count ts + 1) (omega (arith, h, many, front, back))) (pieces_before ps (pieces qs) (all_pieces qs))
 
+module _ (s : Seat) (t w : Tree) (r : Row18 t w) where
   abbrev texts : Trees
   texts = append (pieces r.before) (piece r.first ▸ (piece r.second ▸ pieces r.after))
 
@@ -340,27 +355,24 @@ module _ (s : Seat) (t w : Tree) (c : TemplateContracts (Expr s) t w) where
 
   row_whole : is_whole t ≡ true
   row_whole =
-      let many = count_append (pieces r.before) (piece r.first ▸ (piece r.second ▸ pieces r.after)) in
       let few = count_append r.earlier (r.part ▸ r.later) in
-      let before = pieces_count r.before in
-      let after = pieces_count r.after in
       let starts = r.starts in
       let ends = r.ends in
-      ap is_whole r.shape ∙ both_true (nat_eq (count texts) (count parts + 1)) (are_pieces texts) (eq-eqb (count texts) (count parts + 1) (omega (arith, many, few, before, after, starts, ends))) (pieces_before r.before (piece r.first ▸ (piece r.second ▸ pieces r.after)) (all_pieces r.after))
+      ap is_whole r.shape ∙ whole_is r.before (r.first ∷ (r.second ∷ r.after)) parts (omega (arith, few, starts, ends))
 
-  row_sewn : weight (Expr s) t < 2 ^ 64 → any_sewn (spare s (count (parts_of t))) (texts_of t) (parts_of t) ≡ true
-  row_sewn small =
-      let pays = pays_here s t w r small c.lighter in
+  row_sewn : weight (Expr s) t < 2 ^ 64 → weight (Expr s) w < weight (Expr s) t → any_sewn (spare s (count (parts_of t))) (texts_of t) (parts_of t) ≡ true
+  row_sewn small less =
+      let pays = pays_here s t w r small less in
       ap (λ x. any_sewn (spare s (count (parts_of x))) (texts_of x) (parts_of x)) r.shape
       ∙ ap (λ k. any_sewn (spare s k) texts parts) (parts_counted s t w r)
       ∙ any_found (spare s (suc (others s t w r))) r.before r.first r.second r.after r.earlier r.part r.later r.starts
       (sewn_there (spare s (suc (others s t w r))) (piece r.first) r.part (piece r.second) r.text r.known (both_true (leaves_nothing r.part) _ r.dropped pays))
 
-pub rests : (s : Seat) (t : Tree) → is_whole t ≡ true → false ≡ any_sewn (spare s (count (parts_of t))) (texts_of t) (parts_of t) → Rests (Expr s) t
-rests s t is e small w c = true≢false (sym (row_sewn s t w c small) ∙ sym e)
+pub rests : (s : Seat) (t : Tree) → is_whole t ≡ true → false ≡ any_sewn (spare s (count (parts_of t))) (texts_of t) (parts_of t) → PartsRest (Expr s) t
+rests s t is e small w r less = true≢false (sym (row_sewn s t w r small less) ∙ sym e)
 
-pub no_whole : (s : Seat) (t : Tree) → is_whole t ≡ false → Rests (Expr s) t
-no_whole s t e small w c = true≢false (sym (row_whole s t w c) ∙ e)
+pub no_whole : (s : Seat) (t : Tree) → is_whole t ≡ false → PartsRest (Expr s) t
+no_whole s t e small w r less = true≢false (sym (row_whole s t w r) ∙ e)
 
 -- elsewhere there is nothing to do
 pub elsewhere : (p : Position) (t w : Tree) → ((s : Seat) → p ≡ Expr s → ⊥) → weight p t < 2 ^ 64 → TemplateContracts p t w → ⊥
@@ -384,5 +396,273 @@ module _ (s : Seat) (t : Tree) (is : is_whole t ≡ true) (spared : ℕ) (us vs 
   pub moved : (i : ℕ) (m : Tree) → i < count vs → Some m ≡ sewn_at spared us vs i → Moves Gives (Expr s) t (inlined i m t)
   moved i m k e = inlined_moves s t i m is (subst (λ ws. i < count ws) h k) (e ∙ (λ j. sewn_at (f j) (g j) (h j) i))
 
-  pub at_rest : {A : Type 0} (o : Option A) → o ≡ None → is_some o ≡ any_sewn spared us vs → Rests (Expr s) t
+  pub at_rest : {A : Type 0} (o : Option A) → o ≡ None → is_some o ≡ any_sewn spared us vs → PartsRest (Expr s) t
   at_rest o e k = rests s t is (sym (ap is_some e) ∙ k ∙ same_look any_sewn)
+
+-- ---- 5: the ends of a template's text
+
+pub has_text : (t : Tree) → is_whole t ≡ true → 0 < count (texts_of t)
+has_text t e = let counts = whole_counts t e in omega (arith, counts)
+
+whole_pieces : (t : Tree) → is_whole t ≡ true → are_pieces (texts_of t) ≡ true
+whole_pieces t e =
+    let (kind, rest) = and_parts (is_template t) (nat_eq (count (texts_of t)) (count (parts_of t) + 1) && are_pieces (texts_of t)) e in
+    (and_parts (nat_eq (count (texts_of t)) (count (parts_of t) + 1)) (are_pieces (texts_of t)) rest).1
+
+whole_template : (t : Tree) → is_whole t ≡ true → t ≡ template (texts_of t) (parts_of t)
+whole_template t e = template_is t (and_parts (is_template t) (nat_eq (count (texts_of t)) (count (parts_of t) + 1) && are_pieces (texts_of t)) e).0
+
+pub last_there : (ts : Trees) (i : ℕ) → i + 1 ≡ count ts → child_or_absent ts i ≡ last_of ts
+last_there none i h = absurd (omega (arith, h))
+last_there (t ▸ none) zero h = refl
+last_there (t ▸ none) (suc i) h = absurd (omega (arith, h))
+last_there (t ▸ (u ▸ us)) zero h = absurd (omega (arith, h))
+last_there (t ▸ (u ▸ us)) (suc i) h = last_there (u ▸ us) i (omega (arith, h))
+
+pub first_there : (ts : Trees) → 0 < count ts → child_or_absent ts 0 ≡ first_or_absent ts
+first_there none h = absurd (omega (arith, h))
+first_there (t ▸ ts) h = refl
+
+pub inserted_first : (ts : Trees) (x : Tree) → with_inserted ts 0 x ≡ x ▸ ts
+inserted_first none x = refl
+inserted_first (t ▸ ts) x = refl
+
+last_split : (ts : Trees) → are_pieces ts ≡ true → 0 < count ts → ts ≡ append (pieces (list_of (but_last ts))) (piece (piece_in (last_of ts)) ▸ none)
+last_split none e h = absurd (omega (arith, h))
+last_split (t ▸ none) e h = ap (λ x. x ▸ none) (piece_is t (and_parts (is_piece t) true e).0)
+last_split (t ▸ (u ▸ us)) e h = let (first, rest) = and_parts (is_piece t) (are_pieces (u ▸ us)) e in λ i. piece_is t first i ▸ last_split (u ▸ us) rest (omega arith) i
+
+but_last_is : (ts : Trees) → are_pieces ts ≡ true → but_last ts ≡ pieces (list_of (but_last ts))
+but_last_is none e = refl
+but_last_is (t ▸ none) e = refl
+but_last_is (t ▸ (u ▸ us)) e = let (first, rest) = and_parts (is_piece t) (are_pieces (u ▸ us)) e in λ i. piece_is t first i ▸ but_last_is (u ▸ us) rest i
+
+but_last_count : (ts : Trees) → 0 < count ts → length (list_of (but_last ts)) + 1 ≡ count ts
+but_last_count none h = absurd (omega (arith, h))
+but_last_count (t ▸ none) h = omega arith
+but_last_count (t ▸ (u ▸ us)) h = let rest = but_last_count (u ▸ us) (omega arith) in omega (arith, rest)
+
+first_split : (ts : Trees) → are_pieces ts ≡ true → 0 < count ts → ts ≡ piece (piece_in (first_or_absent ts)) ▸ pieces (list_of (without ts 0))
+first_split none e h = absurd (omega (arith, h))
+first_split (t ▸ ts) e h = let (first, rest) = and_parts (is_piece t) (are_pieces ts) e in λ i. piece_is t first i ▸ pieces_are ts rest i
+
+rest_is : (ts : Trees) → are_pieces ts ≡ true → without ts 0 ≡ pieces (list_of (without ts 0))
+rest_is none e = refl
+rest_is (t ▸ ts) e = pieces_are ts (and_parts (is_piece t) (are_pieces ts) e).1
+
+rest_count : (ts : Trees) → 0 < count ts → length (list_of (without ts 0)) + 1 ≡ count ts
+rest_count none h = absurd (omega (arith, h))
+rest_count (t ▸ ts) h = let same = list_count ts in omega (arith, same)
+
+abbrev one_if : Bool → ℕ
+one_if b = if b then 1 else 0
+
+mark_is : (s : Seat) (n : ℕ) → mark s n ≡ weights.mark s.eq_left n
+mark_is s n = go s.eq_left (nat_eq n 0)
+  where
+    go : (b c : Bool) → one_if (b && c) ≡ one_if ((b && c) || false)
+    go true true = refl
+    go true false = refl
+    go false c = refl
+
+mark_small : (s : Seat) (n : ℕ) → mark s n ≤ 1
+mark_small s n = go (s.eq_left && nat_eq n 0)
+  where
+    go : (b : Bool) → (if b then 1 else 0) ≤ 1
+    go true = omega arith
+    go false = omega arith
+
+-- ---- 5: what is written
+
+both_contracts : (s : Seat) (n a b : Tree) → n ≡ binary Addition a b → is_whole a ≡ true → is_whole b ≡ true → TemplateContracts (Expr s) n (both_written a b)
+both_contracts s n a b e f g =
+    let left = last_split (texts_of a) (whole_pieces a f) (has_text a f) in
+    let right = first_split (texts_of b) (whole_pieces b g) (has_text b g) in
+    let front = but_last_count (texts_of a) (has_text a f) in
+    let back = rest_count (texts_of b) (has_text b g) in
+    let one = whole_counts a f in
+    let other = whole_counts b g in
+    let before : List Piece = list_of (but_last (texts_of a)) in
+    let after : List Piece = list_of (without (texts_of b) 0) in
+    let row : Row5Both n (both_written a b) = record {
+      before = before;
+      last = piece_in (last_of (texts_of a));
+      earlier = parts_of a;
+      first = piece_in (first_or_absent (texts_of b));
+      after = after;
+      later = parts_of b;
+      starts = omega (arith, front, one);
+      ends = omega (arith, back, other);
+      shape = e ∙ (λ i. binary Addition (whole_template a f i) (whole_template b g i)) ∙ (λ i. binary Addition (template (left i) (parts_of a)) (template (right i) (parts_of b)));
+      written = ap (λ us. template us (append (parts_of a) (parts_of b))) ((λ i. append (append (but_last_is (texts_of a) (whole_pieces a f) i) (paired (last_of (texts_of a)) (first_or_absent (texts_of b)) ▸ none)) (rest_is (texts_of b) (whole_pieces b g) i)) ∙ append_one (pieces before) (paired (last_of (texts_of a)) (first_or_absent (texts_of b))) (pieces after));
+    } in
+    record { row = inr (inl row); lighter = weights.both_falls s n (both_written a b) row }
+
+-- a piece that is made of two where that is lighter
+made_where : (c : Bool) (x m : Tree) → Some m ≡ (if c then Some x else None) → (c ≡ true) × (m ≡ x)
+made_where true x m e = (refl, cc e)
+made_where false x m e = nothing (sym e)
+
+module _ (s : Seat) (n a t m : Tree) (e : n ≡ binary Addition a t) (f : is_whole a ≡ true) where
+  tail_contracts : (text : List ℕ) → told_in t ≡ Some text → Some m ≡ tail_by s (count (parts_of a)) (last_of (texts_of a)) t (Some text) → TemplateContracts (Expr s) n (with_tail a m)
+  tail_contracts text known k =
+      let end : Tree = last_of (texts_of a) in
+      let (goes, same) = made_where (is_added s (binary_operand_seat Addition 1) (count (parts_of a)) t (pair (piece_in end) (spelled text)).raw end) (piece (pair (piece_in end) (spelled text))) m k in
+      let (dropped, less) = and_parts (leaves_nothing t) (pays (plus_sign s (count (parts_of a))) (growth (length (pair (piece_in end) (spelled text)).raw) (length (raw_in (shape_of end))) 0) (capped (weight (Expr (binary_operand_seat Addition 1)) t))) goes in
+      let left = last_split (texts_of a) (whole_pieces a f) (has_text a f) in
+      let front = but_last_count (texts_of a) (has_text a f) in
+      let counts = whole_counts a f in
+      let before : List Piece = list_of (but_last (texts_of a)) in
+      let row : Row5After n (with_tail a m) = record {
+        before = before;
+        last = piece_in end;
+        earlier = parts_of a;
+        tail = t;
+        text = text;
+        starts = omega (arith, front, counts);
+        known = known;
+        dropped = dropped;
+        shape = e ∙ (λ i. binary Addition (whole_template a f i) t) ∙ (λ i. binary Addition (template (left i) (parts_of a)) t);
+        written = (λ i. template (append (but_last_is (texts_of a) (whole_pieces a f) i) (same i ▸ none)) (parts_of a));
+      } in
+      let whole = weights.after_weighs s n (with_tail a m) row in
+      let gain = paid (plus_sign s (count (parts_of a))) (growth (length (pair (piece_in end) (spelled text)).raw) (length (raw_in (shape_of end))) 0) (weight (Expr (binary_operand_seat Addition 1)) t) less in
+      let marks = mark_is s (count (parts_of a)) in
+      let small = mark_small s (count (parts_of a)) in
+      record { row = inr (inr (inl row)); lighter = omega (arith, whole, gain, marks, small) }
+
+  by_tail : (o : Option (List ℕ)) → told_in t ≡ o → Some m ≡ tail_by s (count (parts_of a)) (last_of (texts_of a)) t o → TemplateContracts (Expr s) n (with_tail a m)
+  by_tail (Some text) h k = tail_contracts text h k
+  by_tail None h k = nothing (sym k)
+
+module _ (s : Seat) (n t b m : Tree) (e : n ≡ binary Addition t b) (f : is_whole b ≡ true) where
+  head_contracts : (text : List ℕ) → told_in t ≡ Some text → Some m ≡ head_by s (count (parts_of b)) t (first_or_absent (texts_of b)) (Some text) → TemplateContracts (Expr s) n (with_head b m)
+  head_contracts text known k =
+      let end : Tree = first_or_absent (texts_of b) in
+      let (goes, same) = made_where (is_added s (binary_operand_seat Addition 0) (count (parts_of b)) t (pair (spelled text) (piece_in end)).raw end) (piece (pair (spelled text) (piece_in end))) m k in
+      let (dropped, less) = and_parts (leaves_nothing t) (pays (plus_sign s (count (parts_of b))) (growth (length (pair (spelled text) (piece_in end)).raw) (length (raw_in (shape_of end))) 0) (capped (weight (Expr (binary_operand_seat Addition 0)) t))) goes in
+      let right = first_split (texts_of b) (whole_pieces b f) (has_text b f) in
+      let back = rest_count (texts_of b) (has_text b f) in
+      let counts = whole_counts b f in
+      let row : Row5Before n (with_head b m) = record {
+        head = t;
+        text = text;
+        first = piece_in end;
+        after = list_of (without (texts_of b) 0);
+        later = parts_of b;
+        ends = omega (arith, back, counts);
+        known = known;
+        dropped = dropped;
+        shape = e ∙ (λ i. binary Addition t (whole_template b f i)) ∙ (λ i. binary Addition t (template (right i) (parts_of b)));
+        written = (λ i. template (same i ▸ rest_is (texts_of b) (whole_pieces b f) i) (parts_of b));
+      } in
+      let whole = weights.before_weighs s n (with_head b m) row in
+      let gain = paid (plus_sign s (count (parts_of b))) (growth (length (pair (spelled text) (piece_in end)).raw) (length (raw_in (shape_of end))) 0) (weight (Expr (binary_operand_seat Addition 0)) t) less in
+      let marks = mark_is s (count (parts_of b)) in
+      let small = mark_small s (count (parts_of b)) in
+      record { row = inr (inr (inr row)); lighter = omega (arith, whole, gain, marks, small) }
+
+  by_head : (o : Option (List ℕ)) → told_in t ≡ o → Some m ≡ head_by s (count (parts_of b)) t (first_or_absent (texts_of b)) o → TemplateContracts (Expr s) n (with_head b m)
+  by_head (Some text) h k = head_contracts text h k
+  by_head None h k = nothing (sym k)
+
+made_from : (f : Tree → Tree) (o : Option Tree) (w : Tree) → made_by f o ≡ Some w → (m : Tree) × ((Some m ≡ o) × (w ≡ f m))
+made_from f (Some m) w e = (m, (refl, cc (sym e)))
+made_from f None w e = nothing e
+
+sum_contracts : (s : Seat) (n a b w : Tree) → n ≡ binary Addition a b → sum_written s a b ≡ Some w → TemplateContracts (Expr s) n w
+sum_contracts s n a b w e k = go (is_whole a) (is_whole b) refl refl k
+  where
+    go : (c d : Bool) → is_whole a ≡ c → is_whole b ≡ d → sum_by c d s a b ≡ Some w → TemplateContracts (Expr s) n w
+    go true true f g k = let same : both_written a b ≡ w = cc k in subst (TemplateContracts (Expr s) n) same (both_contracts s n a b e f g)
+    go true false f g k =
+        let (m, (found, same)) = made_from (with_tail a) (tail_piece s (count (parts_of a)) (last_of (texts_of a)) b) w k in
+        subst (TemplateContracts (Expr s) n) (sym same) (by_tail s n a b m e f (told_in b) refl found)
+    go false true f g k =
+        let (m, (found, same)) = made_from (with_head b) (head_piece s (count (parts_of b)) a (first_or_absent (texts_of b))) w k in
+        subst (TemplateContracts (Expr s) n) (sym same) (by_head s n a b m e g (told_in a) refl found)
+    go false false f g k = nothing k
+
+-- ---- 5: where nothing is written
+
+no_template : (t : Tree) (m : List ℕ) → told_in t ≡ Some m → is_whole t ≡ false
+no_template (node shape.TemplateLiteral xs n ts) m k = nothing k
+no_template (node h xs n ts) m k = refl
+
+some_made : (f : Tree → Tree) (c : Bool) (x : Tree) → c ≡ true → made_by f (if c then Some x else None) ≡ None → ⊥
+some_made f true x e k = nothing (sym k)
+some_made f false x e k = true≢false (sym e)
+
+both_rest : (s : Seat) (n w : Tree) → Row5Both n w → sum_written s (part n 0) (part n 1) ≡ None → ⊥
+both_rest s n w r k =
+    let a : Tree = template (append (pieces r.before) (piece r.last ▸ none)) r.earlier in
+    let b : Tree = template (piece r.first ▸ pieces r.after) r.later in
+    let starts = r.starts in
+    let ends = r.ends in
+    let f : is_whole a ≡ true = whole_is r.before (r.last ∷ []) r.earlier (omega (arith, starts)) in
+    let g : is_whole b ≡ true = whole_is [] (r.first ∷ r.after) r.later (omega (arith, ends)) in
+    nothing (sym (sym (λ i. sum_by (f i) (g i) s a b) ∙ sym (ap (λ x. sum_written s (part x 0) (part x 1)) r.shape) ∙ k))
+
+after_rest : (s : Seat) (n w : Tree) → Row5After n w → weight (Expr s) n < 2 ^ 64 → weight (Expr s) w < weight (Expr s) n → sum_written s (part n 0) (part n 1) ≡ None → ⊥
+after_rest s n w r small less k =
+    let a : Tree = template (append (pieces r.before) (piece r.last ▸ none)) r.earlier in
+    let starts = r.starts in
+    let f : is_whole a ≡ true = whole_is r.before (r.last ∷ []) r.earlier (omega (arith, starts)) in
+    let g = no_template r.tail r.text r.known in
+    let joined : Piece = pair r.last (spelled r.text) in
+    let whole = weights.after_weighs s n w r in
+    let heavy = weights.after_heavy s n w r in
+    let marks = mark_is s (count r.earlier) in
+    let few = mark_small s (count r.earlier) in
+    let gain = pays_for (plus_sign s (count r.earlier)) (growth (length joined.raw) (length r.last.raw) 0) (weight (Expr (binary_operand_seat Addition 1)) r.tail) (omega (arith, small, heavy)) (omega (arith, whole, less, marks, few)) in
+    some_made (with_tail a) (is_added s (binary_operand_seat Addition 1) (count r.earlier) r.tail joined.raw (piece r.last)) (piece joined) (both_true (leaves_nothing r.tail) _ r.dropped gain)
+    (ap (λ o. made_by (with_tail a) (tail_by s (count r.earlier) (piece r.last) r.tail o)) (sym r.known)
+    ∙ ap (λ x. made_by (with_tail a) (tail_piece s (count r.earlier) x r.tail)) (sym (last_append (pieces r.before) (piece r.last)))
+    ∙ sym (λ i. sum_by (f i) (g i) s a r.tail)
+    ∙ sym (ap (λ x. sum_written s (part x 0) (part x 1)) r.shape) ∙ k)
+
+before_rest : (s : Seat) (n w : Tree) → Row5Before n w → weight (Expr s) n < 2 ^ 64 → weight (Expr s) w < weight (Expr s) n → sum_written s (part n 0) (part n 1) ≡ None → ⊥
+before_rest s n w r small less k =
+    let b : Tree = template (piece r.first ▸ pieces r.after) r.later in
+    let ends = r.ends in
+    let f = no_template r.head r.text r.known in
+    let g : is_whole b ≡ true = whole_is [] (r.first ∷ r.after) r.later (omega (arith, ends)) in
+    let joined : Piece = pair (spelled r.text) r.first in
+    let whole = weights.before_weighs s n w r in
+    let heavy = weights.before_heavy s n w r in
+    let marks = mark_is s (count r.later) in
+    let few = mark_small s (count r.later) in
+    let gain = pays_for (plus_sign s (count r.later)) (growth (length joined.raw) (length r.first.raw) 0) (weight (Expr (binary_operand_seat Addition 0)) r.head) (omega (arith, small, heavy)) (omega (arith, whole, less, marks, few)) in
+    some_made (with_head b) (is_added s (binary_operand_seat Addition 0) (count r.later) r.head joined.raw (piece r.first)) (piece joined) (both_true (leaves_nothing r.head) _ r.dropped gain)
+    (ap (λ o. made_by (with_head b) (head_by s (count r.later) r.head (piece r.first) o)) (sym r.known)
+    ∙ sym (λ i. sum_by (f i) (g i) s r.head b)
+    ∙ sym (ap (λ x. sum_written s (part x 0) (part x 1)) r.shape) ∙ k)
+
+sum_rests : (s : Seat) (n : Tree) → binary_operator n ≡ Some Addition → sum_written s (part n 0) (part n 1) ≡ None → Rests (Expr s) n
+sum_rests s n h k small w c = go c.row
+  where
+    go : TemplateRow (Expr s) n w → ⊥
+    go (inl r) = nothing (sym (ap binary_operator r.shape) ∙ h)
+    go (inr (inl r)) = both_rest s n w r k
+    go (inr (inr (inl r))) = after_rest s n w r small c.lighter k
+    go (inr (inr (inr r))) = before_rest s n w r small c.lighter k
+
+pub sum_applied : (s : Seat) (t u : Tree) (b : Bool) → binary_operator t ≡ Some Addition → u ≡ unwrap_or (sum_written s (part t 0) (part t 1)) t → b ≡ is_some (sum_written s (part t 0) (part t 1)) → Applied Gives Rests (Expr s) t u b
+sum_applied s t u b h e f = subst (λ v. Applied Gives Rests (Expr s) t v b) (sym e) (subst (Applied Gives Rests (Expr s) t (unwrap_or (sum_written s (part t 0) (part t 1)) t)) (sym f) (go (sum_written s (part t 0) (part t 1)) refl))
+  where
+    go : (o : Option Tree) → sum_written s (part t 0) (part t 1) ≡ o → Applied Gives Rests (Expr s) t (unwrap_or o t) (is_some o)
+    go None k = (refl, sum_rests s t h k)
+    go (Some w) k = moves_once Gives (Expr s) t w (sum_contracts s t (part t 0) (part t 1) w (binary_is t Addition h) k)
+
+others_rest : (s : Seat) (t : Tree) → (binary_operator t ≡ Some Addition → ⊥) → PartsRest (Expr s) t → Rests (Expr s) t
+others_rest s t h k small w c = go c.row
+  where
+    go : TemplateRow (Expr s) t w → ⊥
+    go (inl r) = k small w r c.lighter
+    go (inr (inl r)) = h (ap binary_operator r.shape)
+    go (inr (inr (inl r))) = h (ap binary_operator r.shape)
+    go (inr (inr (inr r))) = h (ap binary_operator r.shape)
+
+pub others_applied : (s : Seat) (t u : Tree) (b : Bool) → (binary_operator t ≡ Some Addition → ⊥) → Applied Gives PartsRest (Expr s) t u b → Applied Gives Rests (Expr s) t u b
+others_applied s t u true h a = a
+others_applied s t u false h a = (a.0, others_rest s t h a.1)

@@ -1,17 +1,20 @@
--- The rewrite 18: `` `a${1}b${c}` `` becomes `` `a1b${c}` ``.
-use Rattle.std.specs.Prelude.{ℕ, suc, ◌+◌, ◌-◌, ◌*◌, ◌<◌, ◌^◌, Bool, true, false, ◌&&◌, ◌||◌, nat_eq, nat_le, List, [], length, Option, Some, None, is_some, if◌then◌else◌}
+-- The rewrites 18 and 5: `` `a${1}b${c}` `` becomes `` `a1b${c}` ``, and `` `a${b}` + `c${d}` `` `` `a${b}c${d}` ``.
+use Rattle.std.specs.Prelude.{ℕ, suc, ◌+◌, ◌-◌, ◌*◌, ◌<◌, ◌^◌, Bool, true, false, ◌&&◌, ◌||◌, nat_eq, nat_le, nat_lt, List, [], length, Option, Some, None, is_some, if◌then◌else◌}
+use Rattle.mini_model.specs.declared.operator.BinaryOperator.TheVariants.{Addition}
 use Rattle.mini_model.specs.declared.place.Position.{Position}
 use Rattle.mini_model.specs.declared.seat.Seat.{Seat}
 use Rattle.mini_model.specs.declared.place.Position.TheVariants.{Expr}
 use Rattle.mini_model.specs.declared.shape.Shape.{Shape}
 use Rattle.mini_model.specs.declared.shape.Shape.TheVariants as shape
-use Rattle.mini_model.specs.Position.{whole_seat}
+use Rattle.mini_model.specs.Paths.{append}
+use Rattle.mini_model.specs.Position.{whole_seat, binary_operand_seat}
 use Rattle.mini_model.specs.Tree.{Tree, Trees, none, ◌▸◌, count, shape_of, children, child_or_absent, first_or_absent}
 use Rattle.mini_model.specs.Weight.{weight, capped}
 use Rattle.mini_node.specs.Children.{part, is_bare, with_child, without}
 use Rattle.mini_node.specs.Kinds.{is_listed}
 use Rattle.mini_terms.specs.Parts.{leaves_nothing}
-use Rattle.mini_rows.specs.Templates.{Piece, piece, template, pair, spelled, told, TemplateContracts}
+use Rattle.mini_fold.specs.FoldSequences.{last_of, but_last}
+use Rattle.mini_rows.specs.Templates.{Piece, piece, template, pair, spelled, told, Row18, TemplateContracts}
 
 -- ---- pieces of text
 
@@ -72,16 +75,20 @@ spare s n = if nat_eq n 1 then (if s.eq_left then 2 else 1) else 0
 abbrev pub growth : ℕ → ℕ → ℕ → ℕ
 growth joined first second = joined - first - second
 
--- `${}` weighs 6, so twice the growth and what is spared is less than that and what the part weighs
+-- twice the growth is at most what goes: what the part weighs, and this much besides
 abbrev pub pays : ℕ → ℕ → ℕ → Bool
-pays spared grown w = nat_le grown (capped (w + (5 - spared)) - grown)
+pays besides grown w = nat_le grown (capped (w + besides) - grown)
+
+-- `${}` weighs 6, of which what is spared stays, and 1 is to be gained
+abbrev pub hole : ℕ → ℕ
+hole spared = 5 - spared
 
 abbrev pub joined_at : Tree → List ℕ → Tree → Piece
 joined_at a text b = pair (pair (piece_in a) (spelled text)) (piece_in b)
 
 -- a part goes, for which this raw text comes
 abbrev pub is_sewn : ℕ → Tree → Tree → List ℕ → Tree → Bool
-is_sewn spared a t raw b = leaves_nothing t && pays spared (growth (length raw) (length (raw_in (shape_of a))) (length (raw_in (shape_of b)))) (capped (weight (Expr whole_seat) t))
+is_sewn spared a t raw b = leaves_nothing t && pays (hole spared) (growth (length raw) (length (raw_in (shape_of a))) (length (raw_in (shape_of b)))) (capped (weight (Expr whole_seat) t))
 
 abbrev pub sewn_by : ℕ → Tree → Tree → Option (List ℕ) → Tree → Option Tree
 sewn_by spared a t (Some text) b = if is_sewn spared a t (joined_at a text b).raw b then Some (piece (joined_at a text b)) else None
@@ -106,9 +113,81 @@ sewn_texts i joined texts = with_child (without texts i) i joined
 abbrev pub inlined : ℕ → Tree → Tree → Tree
 inlined i joined t = template (sewn_texts i joined (texts_of t)) (without (parts_of t) i)
 
+-- ---- 5
+
+-- the parentheses round a sum that a template has not
+abbrev pub bonus : Seat → ℕ
+bonus s = if nat_lt 11 s.level && nat_le s.level 16 then 4 else 0
+
+-- the mark of a template without parts on the left of an equality
+abbrev pub mark : Seat → ℕ → ℕ
+mark s n = if s.eq_left && nat_eq n 0 then 1 else 0
+
+-- `+` weighs 2, of which 1 is to be gained
+abbrev pub plus_sign : Seat → ℕ → ℕ
+plus_sign s n = 1 + bonus s - mark s n
+
+abbrev pub paired : Tree → Tree → Tree
+paired a b = piece (pair (piece_in a) (piece_in b))
+
+abbrev pub both_written : Tree → Tree → Tree
+both_written a b =
+    template (append (append (but_last (texts_of a)) (paired (last_of (texts_of a)) (first_or_absent (texts_of b)) ▸ none)) (without (texts_of b) 0)) (append (parts_of a) (parts_of b))
+
+abbrev pub is_added : Seat → Seat → ℕ → Tree → List ℕ → Tree → Bool
+is_added s at n t raw a = leaves_nothing t && pays (plus_sign s n) (growth (length raw) (length (raw_in (shape_of a))) 0) (capped (weight (Expr at) t))
+
+-- the last piece of a template with the text of what is added to it
+abbrev pub tail_by : Seat → ℕ → Tree → Tree → Option (List ℕ) → Option Tree
+tail_by s n end t (Some text) = if is_added s (binary_operand_seat Addition 1) n t (pair (piece_in end) (spelled text)).raw end then Some (piece (pair (piece_in end) (spelled text))) else None
+tail_by s n end t None = None
+
+abbrev pub tail_piece : Seat → ℕ → Tree → Tree → Option Tree
+tail_piece s n end t = tail_by s n end t (told t)
+
+abbrev pub with_tail : Tree → Tree → Tree
+with_tail a joined = template (append (but_last (texts_of a)) (joined ▸ none)) (parts_of a)
+
+-- the first piece of a template with the text of what it is added to
+abbrev pub head_by : Seat → ℕ → Tree → Tree → Option (List ℕ) → Option Tree
+head_by s n t end (Some text) = if is_added s (binary_operand_seat Addition 0) n t (pair (spelled text) (piece_in end)).raw end then Some (piece (pair (spelled text) (piece_in end))) else None
+head_by s n t end None = None
+
+abbrev pub head_piece : Seat → ℕ → Tree → Tree → Option Tree
+head_piece s n t end = head_by s n t end (told t)
+
+abbrev pub with_head : Tree → Tree → Tree
+with_head b joined = template (joined ▸ without (texts_of b) 0) (parts_of b)
+
+abbrev pub made_by : (Tree → Tree) → Option Tree → Option Tree
+made_by f (Some joined) = Some (f joined)
+made_by f None = None
+
+abbrev pub tail_written : Seat → Tree → Tree → Option Tree
+tail_written s a b = made_by (with_tail a) (tail_piece s (count (parts_of a)) (last_of (texts_of a)) b)
+
+abbrev pub head_written : Seat → Tree → Tree → Option Tree
+head_written s a b = made_by (with_head b) (head_piece s (count (parts_of b)) a (first_or_absent (texts_of b)))
+
+-- what is written for a sum of these
+abbrev pub sum_by : Bool → Bool → Seat → Tree → Tree → Option Tree
+sum_by true true s a b = Some (both_written a b)
+sum_by true false s a b = tail_written s a b
+sum_by false true s a b = head_written s a b
+sum_by false false s a b = None
+
+abbrev pub sum_written : Seat → Tree → Tree → Option Tree
+sum_written s a b = sum_by (is_whole a) (is_whole b) s a b
+
+-- ---- all
+
 -- what the rule makes
 abbrev pub Gives : Position → Tree → Tree → Type 0
 Gives = TemplateContracts
+
+-- no part of it goes in a lighter way, as far as the weight fits 64 bits
+abbrev pub PartsRest : Position → Tree → Type 0
+PartsRest p n = weight p n < 2 ^ 64 → (w : Tree) → Row18 n w → weight p w < weight p n → ⊥
 
 -- nothing that a row writes is lighter, as far as the weight fits 64 bits
 abbrev pub Rests : Position → Tree → Type 0

@@ -17,6 +17,6 @@ pub use rewrites::fold_known::{
 };
 pub use rewrites::fold_operands::{FoldOperands, fold_operands};
 pub use rewrites::fold_sequences::{FoldSequences, fold_sequence_expression};
-pub use rewrites::fold_templates::{FoldTemplates, inline_template_literal};
+pub use rewrites::fold_templates::{FoldTemplates, fold_templates, inline_template_literal};
 pub use rewrites::minimize_binary::minimize_binary;
 pub use values::{ConstantValue, value_to_expr};

@@ -3,6 +3,7 @@ use Rattle.std.proofs.Common.{◌≡◌, ℕ, suc, ◌+◌, Bool, true, false, L
 use Rattle.std.specs.Prelude.{◌&&◌, nat_eq}
 use Rattle.std.proofs.lemmas.Bool.{and_parts, eqb-true, eq-eqb}
 use Rattle.mini_model.specs.declared.name.Name.{Name}
+use Rattle.mini_model.specs.declared.operator.BinaryOperator.TheVariants.{Addition}
 use Rattle.mini_model.specs.declared.place.Position.{Position}
 use Rattle.mini_model.specs.declared.place.Position.TheVariants.{Expr}
 use Rattle.mini_model.specs.declared.seat.Seat.{Seat}
@@ -24,11 +25,12 @@ use Rattle.mini_node.specs.Walks.{append_none}
 use Rattle.mini_terms.specs.Calculated.{literal_value}
 use Rattle.mini_terms.specs.Const.{made}
 use Rattle.mini_rows.specs.Arranged.{KeptAt}
-use Rattle.mini_rows.specs.Sketches.{Template, Piece as PieceHead, Parts, Sketch, part, under, list, Items, end, ◌▹◌, no_items, item, items}
-use Rattle.mini_rows.specs.Templates.{Piece, piece, pieces, template, pair, spelled, told, Row18, TemplateRow, TemplateContracts}
-use Rattle.mini_rows.proofs.ArrangedExpressions.{expressions_arranged_freely}
+use Rattle.mini_rows.specs.Sketches.{Binary, Template, Piece as PieceHead, Parts, Sketch, part, under, list, Items, end, ◌▹◌, no_items, item, items}
+use Rattle.mini_rows.specs.Spellings.{binary}
+use Rattle.mini_rows.specs.Templates.{Piece, piece, pieces, template, pair, spelled, told, Row18, Row5Both, Row5After, Row5Before, TemplateRow, TemplateContracts}
+use Rattle.mini_rows.proofs.ArrangedExpressions.{expressions_arranged, expressions_arranged_freely}
 use Rattle.mini_rows.proofs.ArrangedLawful.{kept_is_lawful}
-use Rattle.mini_rows.proofs.ConstantLawful.{Paired, literal_written, text_paired}
+use Rattle.mini_rows.proofs.ConstantLawful.{Paired, literal_written, text_paired, binary_at}
 use Rattle.mini_rows.proofs.FoldLawful.{vanishes, first_dropped, expression_slot}
 use Rattle.mini_rows.proofs.ListShapes.{AllFit, append_fits, both_fit, first_fits}
 use Rattle.mini_rows.proofs.TemplateMeaning.{nothing, Told, told_is, templates_same}
@@ -54,8 +56,44 @@ inlined_kept q n w r =
     (r.shape ∙ (λ i. template (append (pieces r.before) (piece r.first ▸ (piece r.second ▸ sym (append_none (pieces r.after)) i))) (append r.earlier (r.part ▸ sym (append_none r.later) i))))
     (r.written ∙ (λ i. template (append (pieces r.before) (piece joined ▸ sym (append_none (pieces r.after)) i)) (append r.earlier (sym (append_none r.later) i))))
 
+both_kept : (q : Seat) (n w : Tree) → Row5Both n w → KeptAt (Expr q) n w
+both_kept q n w r =
+    let joined : Piece = pair r.last r.first in
+    let ps : Parts = record { trees = none; lists = pieces r.before ∷ (pieces r.after ∷ (r.earlier ∷ (r.later ∷ []))) } in
+    expressions_arranged ps
+    (under (Binary Addition) (a_template (items 0 (item (a_piece r.last) no_items)) (items 2 no_items) ▹ a_template (item (a_piece r.first) (items 1 no_items)) (items 3 no_items) ▹ end))
+    (a_template (items 0 (item (a_piece joined) (items 1 no_items))) (items 2 (items 3 no_items)))
+    refl q n w
+    (r.shape ∙ (λ i. binary Addition (template (append (pieces r.before) (piece r.last ▸ none)) (sym (append_none r.earlier) i)) (template (piece r.first ▸ sym (append_none (pieces r.after)) i) (sym (append_none r.later) i))))
+    (r.written ∙ (λ i. template (append (pieces r.before) (piece joined ▸ sym (append_none (pieces r.after)) i)) (append r.earlier (sym (append_none r.later) i))))
+
+after_kept : (q : Seat) (n w : Tree) → Row5After n w → KeptAt (Expr q) n w
+after_kept q n w r =
+    let joined : Piece = pair r.last (spelled r.text) in
+    let ps : Parts = record { trees = r.tail ▸ none; lists = pieces r.before ∷ (r.earlier ∷ []) } in
+    expressions_arranged_freely first_dropped ps (tt, tt, (vanishes r.tail r.dropped, tt))
+    (under (Binary Addition) (a_template (items 0 (item (a_piece r.last) no_items)) (items 1 no_items) ▹ part 0 ▹ end))
+    (a_template (items 0 (item (a_piece joined) no_items)) (items 1 no_items))
+    refl q n w
+    (r.shape ∙ (λ i. binary Addition (template (append (pieces r.before) (piece r.last ▸ none)) (sym (append_none r.earlier) i)) r.tail))
+    (r.written ∙ (λ i. template (append (pieces r.before) (piece joined ▸ none)) (sym (append_none r.earlier) i)))
+
+before_kept : (q : Seat) (n w : Tree) → Row5Before n w → KeptAt (Expr q) n w
+before_kept q n w r =
+    let joined : Piece = pair (spelled r.text) r.first in
+    let ps : Parts = record { trees = r.head ▸ none; lists = pieces r.after ∷ (r.later ∷ []) } in
+    expressions_arranged_freely first_dropped ps (tt, tt, (vanishes r.head r.dropped, tt))
+    (under (Binary Addition) (part 0 ▹ a_template (item (a_piece r.first) (items 0 no_items)) (items 1 no_items) ▹ end))
+    (a_template (item (a_piece joined) (items 0 no_items)) (items 1 no_items))
+    refl q n w
+    (r.shape ∙ (λ i. binary Addition r.head (template (piece r.first ▸ sym (append_none (pieces r.after)) i) (sym (append_none r.later) i))))
+    (r.written ∙ (λ i. template (piece joined ▸ sym (append_none (pieces r.after)) i) (sym (append_none r.later) i)))
+
 kept : (p : Position) (n w : Tree) → TemplateRow p n w → KeptAt p n w
-kept (Expr q) n w r = inlined_kept q n w r
+kept (Expr q) n w (inl r) = inlined_kept q n w r
+kept (Expr q) n w (inr (inl r)) = both_kept q n w r
+kept (Expr q) n w (inr (inr (inl r))) = after_kept q n w r
+kept (Expr q) n w (inr (inr (inr r))) = before_kept q n w r
 kept p n w r = absurd r
 
 places : (p : Position) (n w : Tree) → TemplateRow p n w → is_rewritten_place p ≡ true
@@ -150,9 +188,9 @@ module _ (strict : Bool) where
       go raises p h = nothing h
       go outside p h = nothing h
 
-  joined_stands : (p q r : Piece) → (Whole p → Whole q → Whole r) → r.is_tail ≡ q.is_tail → (last : Bool) → is_quasi untagged false (piece p) ≡ true → is_quasi untagged last (piece q) ≡ true → is_quasi untagged last (piece r) ≡ true
-  joined_stands p q r f t last x y =
-      let v = piece_stands false p x in
+  joined_stands : (b : Bool) (p q r : Piece) → (Whole p → Whole q → Whole r) → r.is_tail ≡ q.is_tail → (last : Bool) → is_quasi untagged b (piece p) ≡ true → is_quasi untagged last (piece q) ≡ true → is_quasi untagged last (piece r) ≡ true
+  joined_stands b p q r f t last x y =
+      let v = piece_stands b p x in
       let w = piece_stands last q y in
       stands_piece last r (record { tail = ap (λ b. is_same_flag b last) t ∙ w.tail; whole = f v.whole w.whole })
 
@@ -164,11 +202,11 @@ module _ (strict : Bool) where
   fewer_quasis : (before : List Piece) (p q r : Piece) (after : Trees) → (Whole p → Whole q → Whole r) → r.is_tail ≡ q.is_tail → are_quasis untagged (append (pieces before) (piece p ▸ (piece q ▸ after))) ≡ true → are_quasis untagged (append (pieces before) (piece r ▸ after)) ≡ true
   fewer_quasis [] p q r none f t e =
       let (first, second) = and_parts (is_quasi untagged false (piece p)) (is_quasi untagged true (piece q)) e in
-      joined_stands p q r f t true first second
+      joined_stands false p q r f t true first second
   fewer_quasis [] p q r (a ▸ after) f t e =
       let (first, rest) = and_parts (is_quasi untagged false (piece p)) (is_quasi untagged false (piece q) && are_quasis untagged (a ▸ after)) e in
       let (second, others) = and_parts (is_quasi untagged false (piece q)) (are_quasis untagged (a ▸ after)) rest in
-      both (is_quasi untagged false (piece r)) (are_quasis untagged (a ▸ after)) (joined_stands p q r f t false first second) others
+      both (is_quasi untagged false (piece r)) (are_quasis untagged (a ▸ after)) (joined_stands false p q r f t false first second) others
   fewer_quasis (b ∷ bs) p q r after f t e =
       let (first, rest) = and_parts (is_quasi untagged false (piece b)) (are_quasis untagged (append (pieces bs) (piece p ▸ (piece q ▸ after)))) (sym (quasis_more (piece b) bs (piece p) (piece q ▸ after)) ∙ e) in
       quasis_more (piece b) bs (piece r) after ∙ both (is_quasi untagged false (piece b)) (are_quasis untagged (append (pieces bs) (piece r ▸ after))) first (fewer_quasis bs p q r after f t rest)
@@ -205,10 +243,71 @@ module _ (strict : Bool) where
         go (inl (takes, fit)) = (takes, inlined_fits fit)
         go (inr inner) = absurd (no_tag inner)
 
+  -- a template is added to another
+  more_quasis : (before : List Piece) (p q r : Piece) (after : Trees) → (Whole p → Whole q → Whole r) → r.is_tail ≡ q.is_tail → are_quasis untagged (append (pieces before) (piece p ▸ none)) ≡ true → are_quasis untagged (piece q ▸ after) ≡ true → are_quasis untagged (append (pieces before) (piece r ▸ after)) ≡ true
+  more_quasis [] p q r none f t e k = joined_stands true p q r f t true e k
+  more_quasis [] p q r (a ▸ after) f t e k =
+      let (second, others) = and_parts (is_quasi untagged false (piece q)) (are_quasis untagged (a ▸ after)) k in
+      both (is_quasi untagged false (piece r)) (are_quasis untagged (a ▸ after)) (joined_stands true p q r f t false e second) others
+  more_quasis (b ∷ bs) p q r after f t e k =
+      let (first, rest) = and_parts (is_quasi untagged false (piece b)) (are_quasis untagged (append (pieces bs) (piece p ▸ none))) (sym (quasis_more (piece b) bs (piece p) none) ∙ e) in
+      quasis_more (piece b) bs (piece r) after ∙ both (is_quasi untagged false (piece b)) (are_quasis untagged (append (pieces bs) (piece r ▸ after))) first (more_quasis bs p q r after f t rest k)
+
+  -- another piece in the place of one
+  other_quasi : (before : List Piece) (p r : Piece) (after : Trees) → ((last : Bool) → is_quasi untagged last (piece p) ≡ true → is_quasi untagged last (piece r) ≡ true) → are_quasis untagged (append (pieces before) (piece p ▸ after)) ≡ true → are_quasis untagged (append (pieces before) (piece r ▸ after)) ≡ true
+  other_quasi [] p r none f e = f true e
+  other_quasi [] p r (a ▸ after) f e =
+      let (first, rest) = and_parts (is_quasi untagged false (piece p)) (are_quasis untagged (a ▸ after)) e in
+      both (is_quasi untagged false (piece r)) (are_quasis untagged (a ▸ after)) (f false first) rest
+  other_quasi (b ∷ bs) p r after f e =
+      let (first, rest) = and_parts (is_quasi untagged false (piece b)) (are_quasis untagged (append (pieces bs) (piece p ▸ after))) (sym (quasis_more (piece b) bs (piece p) after) ∙ e) in
+      quasis_more (piece b) bs (piece r) after ∙ both (is_quasi untagged false (piece b)) (are_quasis untagged (append (pieces bs) (piece r ▸ after))) first (other_quasi bs p r after f rest)
+
+  spelled_stands : (m : List ℕ) → is_paired m ≡ true → is_quasi untagged true (piece (spelled m)) ≡ true
+  spelled_stands m e = stands_piece true (spelled m) (record { tail = refl; whole = spelled_whole m e })
+
+  both_fits : (before : List Piece) (p : Piece) (earlier : Trees) (q : Piece) (after : List Piece) (later : Trees) → Fits (template (append (pieces before) (piece p ▸ none)) earlier) → Fits (template (piece q ▸ pieces after) later) → Fits (template (append (pieces before) (piece (pair p q) ▸ pieces after)) (append earlier later))
+  both_fits before p earlier q after later e k =
+      let front = template_made (append (pieces before) (piece p ▸ none)) earlier e in
+      let other = template_made (piece q ▸ pieces after) later k in
+      let counts = front.counts in
+      let more = other.counts in
+      let left = count_append (pieces before) (piece p ▸ none) in
+      let whole = count_append (pieces before) (piece (pair p q) ▸ pieces after) in
+      let parts = count_append earlier later in
+      made_template (append (pieces before) (piece (pair p q) ▸ pieces after)) (append earlier later)
+      (record { counts = omega (arith, counts, more, left, whole, parts); texts = more_quasis before p q (pair p q) (pieces after) (pair_whole p q) refl front.texts other.texts; parts = append_fits strict expression earlier later front.parts other.parts })
+
+  after_fits : (before : List Piece) (p : Piece) (earlier : Trees) (t : Tree) (m : List ℕ) → told t ≡ Some m → Fits (template (append (pieces before) (piece p ▸ none)) earlier) → Fits t → Fits (template (append (pieces before) (piece (pair p (spelled m)) ▸ none)) earlier)
+  after_fits before p earlier t m k e f =
+      let front = template_made (append (pieces before) (piece p ▸ none)) earlier e in
+      let text = told_paired t m k f in
+      let counts = front.counts in
+      let left = count_append (pieces before) (piece p ▸ none) in
+      let whole = count_append (pieces before) (piece (pair p (spelled m)) ▸ none) in
+      made_template (append (pieces before) (piece (pair p (spelled m)) ▸ none)) earlier
+      (record { counts = omega (arith, counts, left, whole); texts = more_quasis before p (spelled m) (pair p (spelled m)) none (pair_whole p (spelled m)) refl front.texts (spelled_stands m text); parts = front.parts })
+
+  before_fits : (t : Tree) (m : List ℕ) → told t ≡ Some m → (q : Piece) (after : List Piece) (later : Trees) → Fits t → Fits (template (piece q ▸ pieces after) later) → Fits (template (piece (pair (spelled m) q) ▸ pieces after) later)
+  before_fits t m k q after later f e =
+      let other = template_made (piece q ▸ pieces after) later e in
+      let text = told_paired t m k f in
+      made_template (piece (pair (spelled m) q) ▸ pieces after) later
+      (record { counts = other.counts; texts = other_quasi [] q (pair (spelled m) q) (pieces after) (λ last x. joined_stands true (spelled m) q (pair (spelled m) q) (pair_whole (spelled m) q) refl last (spelled_stands m text) x) other.texts; parts = other.parts })
+
   stood : (p : Position) (n w : Tree) → TemplateRow p n w → (s : Slot) → fits strict s n ≡ true → TakesExpression s × Fits w
-  stood (Expr q) n w r s e =
+  stood (Expr q) n w (inl r) s e =
       let (takes, fit) = inlined_stands r.before r.first r.second r.after r.earlier r.part r.later r.text r.known s (subst (λ t. fits strict s t ≡ true) r.shape e) in
       (takes, subst Fits (sym r.written) fit)
+  stood (Expr q) n w (inr (inl r)) s e =
+      let (takes, (left_fits, right_fits)) = binary_at strict Addition (template (append (pieces r.before) (piece r.last ▸ none)) r.earlier) (template (piece r.first ▸ pieces r.after) r.later) s (subst (λ t. fits strict s t ≡ true) r.shape e) in
+      (takes, subst Fits (sym r.written) (both_fits r.before r.last r.earlier r.first r.after r.later left_fits right_fits))
+  stood (Expr q) n w (inr (inr (inl r))) s e =
+      let (takes, (left_fits, right_fits)) = binary_at strict Addition (template (append (pieces r.before) (piece r.last ▸ none)) r.earlier) r.tail s (subst (λ t. fits strict s t ≡ true) r.shape e) in
+      (takes, subst Fits (sym r.written) (after_fits r.before r.last r.earlier r.tail r.text r.known left_fits right_fits))
+  stood (Expr q) n w (inr (inr (inr r))) s e =
+      let (takes, (left_fits, right_fits)) = binary_at strict Addition r.head (template (piece r.first ▸ pieces r.after) r.later) s (subst (λ t. fits strict s t ≡ true) r.shape e) in
+      (takes, subst Fits (sym r.written) (before_fits r.head r.text r.known r.first r.after r.later left_fits right_fits))
   stood p n w r s e = absurd r
 
 row_fits : (p : Position) (n w : Tree) → TemplateRow p n w → (strict : Bool) (s : Slot) → fits strict s n ≡ true → fits strict s w ≡ true
@@ -229,8 +328,24 @@ template_asked p ps ts qs us = record {
   plain = refl;
 }
 
+sum_asked : (p : Position) (a b : Tree) (qs us : Trees) → AskedAlike p (binary Addition a b) (template qs us)
+sum_asked p a b qs us = record {
+  absent = λ e. absurd (true≢false (sym e));
+  body = λ e. absurd (true≢false (sym e));
+  optional = λ e. absurd (true≢false (sym e));
+  number = λ asks e. refl;
+  spelled = λ s e. absurd (cc e);
+  plain = refl;
+}
+
+asked_as : (p : Position) (n w : Tree) (t u : Tree) → n ≡ t → w ≡ u → AskedAlike p t u → AskedAlike p n w
+asked_as p n w t u e f a = subst (λ x. AskedAlike p x w) (sym e) (subst (AskedAlike p t) (sym f) a)
+
 row_asked : (p : Position) (n w : Tree) → TemplateRow p n w → AskedAlike p n w
-row_asked (Expr q) n w r = subst (λ t. AskedAlike (Expr q) t w) (sym r.shape) (subst (AskedAlike (Expr q) (template (append (pieces r.before) (piece r.first ▸ (piece r.second ▸ pieces r.after))) (append r.earlier (r.part ▸ r.later)))) (sym r.written) (template_asked (Expr q) _ _ _ _))
+row_asked (Expr q) n w (inl r) = asked_as (Expr q) n w _ _ r.shape r.written (template_asked (Expr q) _ _ _ _)
+row_asked (Expr q) n w (inr (inl r)) = asked_as (Expr q) n w _ _ r.shape r.written (sum_asked (Expr q) _ _ _ _)
+row_asked (Expr q) n w (inr (inr (inl r))) = asked_as (Expr q) n w _ _ r.shape r.written (sum_asked (Expr q) _ _ _ _)
+row_asked (Expr q) n w (inr (inr (inr r))) = asked_as (Expr q) n w _ _ r.shape r.written (sum_asked (Expr q) _ _ _ _)
 row_asked p n w r = absurd r
 
 pub templates_lawful : Lawful TemplateContracts

@@ -1,7 +1,8 @@
 -- What a row on templates writes means the same.
-use Rattle.std.proofs.Common.{◌≡◌, ℕ, suc, ◌+◌, arith, List, [], ◌∷◌, ◌++◌, Option, Some, None, length, append_assoc, append-nil, refl, sym, ap, subst, ◌∙◌}
+use Rattle.std.proofs.Common.{◌≡◌, ℕ, zero, suc, inl, inr, ◌+◌, arith, List, [], ◌∷◌, ◌++◌, Option, Some, None, length, append_assoc, append-nil, refl, sym, ap, subst, ◌∙◌}
 use Rattle.std.specs.Prelude.{not}
 use Rattle.mini_model.specs.declared.name.Name.{Name}
+use Rattle.mini_model.specs.declared.operator.BinaryOperator.TheVariants.{Addition}
 use Rattle.mini_model.specs.declared.operator.UnaryOperator.{UnaryOperator}
 use Rattle.mini_model.specs.declared.operator.UnaryOperator.TheVariants as unary_operator
 use Rattle.mini_model.specs.declared.place.Position.{Position}
@@ -16,7 +17,10 @@ use Rattle.mini_node.specs.Kinds.{unary_operator as its_unary_operator}
 use Rattle.mini_node.specs.Made.{unary_is}
 use Rattle.mini_laws.specs.Value.{Value, Undefined, Null, Boolean, Number, String, Symbol, Object, truth}
 use Rattle.mini_laws.specs.State.{State, Completion, ok, stop, either, Environment}
+use Rattle.mini_laws.specs.Command.{run}
 use Rattle.mini_laws.specs.Conversion.{to_text}
+use Rattle.mini_laws.specs.Demand.{Val, As}
+use Rattle.mini_laws.specs.Expressions.{operate_by}
 use Rattle.mini_laws.specs.Naming.{summary}
 use Rattle.mini_laws.specs.Step.{step, means, meaning}
 use Rattle.mini_laws.specs.Rows.{SameAt}
@@ -24,12 +28,14 @@ use Rattle.mini_laws.specs.Rewritten.{MeansSame}
 use Rattle.mini_terms.specs.Calculated.{leaf_value, over_leaf, literal_by, literal_value}
 use Rattle.mini_terms.specs.Const.{made, text_of}
 use Rattle.mini_terms.proofs.Opened.{negation_opened}
-use Rattle.mini_rows.specs.Templates.{Piece, piece, pieces, template, pair, spelled, told, Row18, TemplateRow, TemplateContracts}
-use Rattle.mini_rows.proofs.ChoiceRuns.{value}
+use Rattle.mini_node.specs.Walks.{append_none}
+use Rattle.mini_rows.specs.Spellings.{binary}
+use Rattle.mini_rows.specs.Templates.{Piece, piece, pieces, template, pair, spelled, told, Row18, Row5Both, Row5After, Row5Before, TemplateRow, TemplateContracts}
+use Rattle.mini_rows.proofs.ChoiceRuns.{value, sides, binary_names, binary_value}
 use Rattle.mini_rows.proofs.SequenceMeaning.{same_value}
 use Rattle.mini_rows.proofs.SpellAlike.{SameTree}
 use Rattle.mini_rows.proofs.SpellMeaning.{tree_same, same_by}
-use Rattle.mini_rows.proofs.TemplateRuns.{next, next_cong, next_assoc, next_ok, text_made, between, more, put_before, text_before, cookeds, count_append, template_value, in_a_row}
+use Rattle.mini_rows.proofs.TemplateRuns.{next, next_cong, next_assoc, next_ok, text_made, between, more, put_before, text_before, nothing_between, cookeds, count_append, template_value, in_a_row}
 
 pub nothing : {A : Type 0} {a : A} {B : Type 0} → None ≡ Some a → B
 nothing e = cc e
@@ -97,6 +103,10 @@ told_is p t k = go (literal_value p) refl k
     go (Some v) h k = record { its_value = v; is = h; reads = k }
     go None h k = nothing k
 
+-- what `+` does with two values
+abbrev ends_with : Environment → Tree → Tree → Value → Value → State → Completion Value
+ends_with e a b v u y = run {q = λ i. As Val} e (binary_names Addition a b) (sides e a b) (operate_by Addition v u) y
+
 -- ---- 18
 
 module _ (e : Environment) where
@@ -148,14 +158,98 @@ module _ (e : Environment) where
 inlined_same : (n w : Tree) → Row18 n w → SameTree n w
 inlined_same n w r = same_by n w _ _ r.shape r.written (same_value _ _ refl refl refl (λ e s. inlined_value e r.before r.first r.second r.after r.earlier r.part r.later r.text r.known r.starts r.ends s))
 
+-- ---- 5
+
+module _ (e : Environment) where
+  -- what `+` does with a text and what writes a value out
+  with_tail : (a b : Tree) (x : List ℕ) (v : Value) (t : List ℕ) → made (to_text v) ≡ Some t → (z : State) → ends_with e a b (String x) v z ≡ ok (String (x ++ t)) z
+  with_tail a b x Undefined t k z = ap (λ o. ok (String (x ++ text_in o)) z) k
+  with_tail a b x Null t k z = ap (λ o. ok (String (x ++ text_in o)) z) k
+  with_tail a b x (Boolean c) t k z = ap (λ o. ok (String (x ++ text_in o)) z) k
+  with_tail a b x (Number n) t k z = ap (λ o. ok (String (x ++ text_in o)) z) k
+  with_tail a b x (String s) t k z = ap (λ o. ok (String (x ++ text_in o)) z) k
+  with_tail a b x (Symbol n) t k z = nothing k
+  with_tail a b x (Object n f) t k z = nothing k
+
+  with_head : (a b : Tree) (v : Value) (t x : List ℕ) → made (to_text v) ≡ Some t → (z : State) → ends_with e a b v (String x) z ≡ ok (String (t ++ x)) z
+  with_head a b Undefined t x k z = ap (λ o. ok (String (text_in o ++ x)) z) k
+  with_head a b Null t x k z = ap (λ o. ok (String (text_in o ++ x)) z) k
+  with_head a b (Boolean c) t x k z = ap (λ o. ok (String (text_in o ++ x)) z) k
+  with_head a b (Number n) t x k z = ap (λ o. ok (String (text_in o ++ x)) z) k
+  with_head a b (String s) t x k z = ap (λ o. ok (String (text_in o ++ x)) z) k
+  with_head a b (Symbol n) t x k z = nothing k
+  with_head a b (Object n f) t x k z = nothing k
+
+  abbrev as_string : Completion (List ℕ) → Completion Value
+  as_string y = next y (λ x z. ok (String x) z)
+
+  after_string : {A : Type 0} (y : Completion (List ℕ)) (f : Value → State → Completion A) → next (as_string y) f ≡ next y (λ x z. f (String x) z)
+  after_string y f = next_assoc y (λ x z. ok (String x) z) f ∙ next_cong y _ _ (λ x z. next_ok (String x) z f)
+
+  -- of two texts in a row
+  both_strings : (y : Completion (List ℕ)) (g : State → Completion (List ℕ)) → as_string (next y (λ x z. put_before e x (g z))) ≡ next y (λ x z. next (g z) (λ r u. ok (String (x ++ r)) u))
+  both_strings y g = next_assoc y _ _ ∙ next_cong y _ _ (λ x z. next_assoc (g z) _ _ ∙ next_cong (g z) _ _ (λ r u. next_ok (x ++ r) u _))
+
+  joined_value : (before : List Piece) (p : Piece) (earlier : Trees) (q : Piece) (after : List Piece) (later : Trees) → length before ≡ count earlier → length after ≡ count later → (s : State) → value e (binary Addition (template (append (pieces before) (piece p ▸ none)) earlier) (template (piece q ▸ pieces after) later)) s ≡ value e (template (append (pieces before) (piece (pair p q) ▸ pieces after)) (append earlier later)) s
+  joined_value before p earlier q after later h k s =
+      let a : Tree = template (append (pieces before) (piece p ▸ none)) earlier in
+      let b : Tree = template (piece q ▸ pieces after) later in
+      let left : length before + suc zero ≡ suc (count earlier) = omega (arith, h) in
+      let right : zero + suc (length after) ≡ suc (count later) = omega (arith, k) in
+      let whole : length before + suc (length after) ≡ suc (count (append earlier later)) = let counts = count_append earlier later in omega (arith, h, k, counts) in
+      binary_value e Addition a b s
+      ∙ ap (λ c. next c (λ v z. next (value e b z) (λ u y. ends_with e a b v u y))) (template_value e before (p ∷ []) earlier left s)
+      ∙ after_string (between e (cookeds before ++ (p.cooked ∷ [])) earlier s) _
+      ∙ next_cong (between e (cookeds before ++ (p.cooked ∷ [])) earlier s) _ _ (λ x z. ap (λ c. next c (λ u y. ends_with e a b (String x) u y)) (template_value e [] (q ∷ after) later right z) ∙ after_string (between e (q.cooked ∷ cookeds after) later z) _)
+      ∙ sym (template_value e before (pair p q ∷ after) (append earlier later) whole s
+      ∙ ap as_string (in_a_row e p.cooked q.cooked (cookeds after) later before earlier h s)
+      ∙ both_strings (between e (cookeds before ++ (p.cooked ∷ [])) earlier s) (λ z. between e (q.cooked ∷ cookeds after) later z))
+
+  tail_value : (before : List Piece) (p : Piece) (earlier : Trees) (t : Tree) (m : List ℕ) → told t ≡ Some m → length before ≡ count earlier → (s : State) → value e (binary Addition (template (append (pieces before) (piece p ▸ none)) earlier) t) s ≡ value e (template (append (pieces before) (piece (pair p (spelled m)) ▸ none)) earlier) s
+  tail_value before p earlier t m k h s =
+      let a : Tree = template (append (pieces before) (piece p ▸ none)) earlier in
+      let is : Told t m = told_is t m k in
+      let left : length before + suc zero ≡ suc (count earlier) = omega (arith, h) in
+      binary_value e Addition a t s
+      ∙ ap (λ c. next c (λ v z. next (value e t z) (λ u y. ends_with e a t v u y))) (template_value e before (p ∷ []) earlier left s)
+      ∙ after_string (between e (cookeds before ++ (p.cooked ∷ [])) earlier s) _
+      ∙ next_cong (between e (cookeds before ++ (p.cooked ∷ [])) earlier s) _ _ (λ x z. ap (λ c. next c (λ u y. ends_with e a t (String x) u y)) (literal_done e t is.its_value is.is z) ∙ next_ok is.its_value z _ ∙ with_tail a t x is.its_value m is.reads z)
+      ∙ sym (template_value e before (pair p (spelled m) ∷ []) earlier left s
+      ∙ ap (λ ts. as_string (between e (cookeds before ++ ((p.cooked ++ m) ∷ [])) ts s)) (sym (append_none earlier))
+      ∙ ap as_string (in_a_row e p.cooked m [] none before earlier h s)
+      ∙ both_strings (between e (cookeds before ++ (p.cooked ∷ [])) earlier s) (λ z. between e (m ∷ []) none z)
+      ∙ next_cong (between e (cookeds before ++ (p.cooked ∷ [])) earlier s) _ _ (λ x z. ap (λ c. next c (λ r u. ok (String (x ++ r)) u)) (nothing_between e (m ∷ []) z) ∙ next_ok m z _))
+
+  head_value : (t : Tree) (m : List ℕ) → told t ≡ Some m → (q : Piece) (after : List Piece) (later : Trees) → length after ≡ count later → (s : State) → value e (binary Addition t (template (piece q ▸ pieces after) later)) s ≡ value e (template (piece (pair (spelled m) q) ▸ pieces after) later) s
+  head_value t m k q after later h s =
+      let b : Tree = template (piece q ▸ pieces after) later in
+      let is : Told t m = told_is t m k in
+      let right : zero + suc (length after) ≡ suc (count later) = omega (arith, h) in
+      binary_value e Addition t b s
+      ∙ ap (λ c. next c (λ v z. next (value e b z) (λ u y. ends_with e t b v u y))) (literal_done e t is.its_value is.is s)
+      ∙ next_ok is.its_value s _
+      ∙ ap (λ c. next c (λ u y. ends_with e t b is.its_value u y)) (template_value e [] (q ∷ after) later right s)
+      ∙ after_string (between e (q.cooked ∷ cookeds after) later s) _
+      ∙ next_cong (between e (q.cooked ∷ cookeds after) later s) _ _ (λ x z. with_head t b is.its_value m x is.reads z)
+      ∙ sym (template_value e [] (pair (spelled m) q ∷ after) later right s
+      ∙ ap as_string (text_before e m q.cooked (cookeds after) later s)
+      ∙ next_assoc (between e (q.cooked ∷ cookeds after) later s) _ _
+      ∙ next_cong (between e (q.cooked ∷ cookeds after) later s) _ _ (λ r u. next_ok (m ++ r) u _))
+
 -- ---- all
 
+expression_same : (s : Seat) (n w : Tree) → TemplateRow (Expr s) n w → SameTree n w
+expression_same s n w (inl r) = inlined_same n w r
+expression_same s n w (inr (inl r)) = same_by n w _ _ r.shape r.written (same_value _ _ refl refl refl (λ e s. joined_value e r.before r.last r.earlier r.first r.after r.later r.starts r.ends s))
+expression_same s n w (inr (inr (inl r))) = same_by n w _ _ r.shape r.written (same_value _ _ refl refl refl (λ e s. tail_value e r.before r.last r.earlier r.tail r.text r.known r.starts s))
+expression_same s n w (inr (inr (inr r))) = same_by n w _ _ r.shape r.written (same_value _ _ refl refl refl (λ e s. head_value e r.head r.text r.known r.first r.after r.later r.ends s))
+
 means_same : (p : Position) (n w : Tree) → TemplateRow p n w → SameAt p n w
-means_same (Expr s) n w r = tree_same s n w (inlined_same n w r)
+means_same (Expr s) n w r = tree_same s n w (expression_same s n w r)
 means_same p n w r = absurd r
 
 reads : (p : Position) (n w : Tree) → TemplateRow p n w → summary n ≡ summary w
-reads (Expr s) n w r = (inlined_same n w r).read
+reads (Expr s) n w r = (expression_same s n w r).read
 reads p n w r = absurd r
 
 pub templates_same : MeansSame TemplateContracts

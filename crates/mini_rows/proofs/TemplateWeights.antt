@@ -1,17 +1,25 @@
 -- What a row on templates writes, where it is lighter, makes the whole lighter; and how much less it weighs.
-use Rattle.std.proofs.Common.{◌≡◌, ℕ, suc, ◌+◌, ◌*◌, ◌<◌, ◌≤◌, Bool, true, false, List, [], ◌∷◌, length, refl, sym, ap, subst, ◌∙◌, inl, arith}
-use Rattle.std.specs.Prelude.{◌&&◌, ◌||◌, nat_eq, if◌then◌else◌}
+use Rattle.std.proofs.Common.{◌≡◌, ℕ, zero, suc, ◌+◌, ◌-◌, ◌*◌, ◌<◌, ◌≤◌, ◌==◌, Bool, true, false, List, [], ◌∷◌, ◌++◌, length, take, codes, cond, length-append, refl, sym, ap, ◌∙◌, inl, inr, true≢false, ltb-true, ltb-false, arith}
+use Rattle.std.proofs.lemmas.List.{length-take}
+use Rattle.std.proofs.lemmas.Bool.{leb-true, le-leb, eq-eqb}
+use Rattle.std.specs.Prelude.{◌&&◌, ◌||◌, nat_eq, nat_le, nat_lt, if◌then◌else◌}
 use Rattle.std.proofs.Math.Dec.{eqb-suc-zero}
+use Rattle.mini_model.specs.declared.operator.BinaryOperator.TheVariants.{Addition}
 use Rattle.mini_model.specs.declared.place.Position.{Position}
 use Rattle.mini_model.specs.declared.place.Position.TheVariants.{Expr, TemplateList, Elsewhere}
 use Rattle.mini_model.specs.declared.seat.Seat.{Seat}
 use Rattle.mini_model.specs.declared.shape.Shape.TheVariants as shape
 use Rattle.mini_model.specs.Paths.{append}
-use Rattle.mini_model.specs.Position.{whole_seat}
+use Rattle.mini_model.specs.Joined.{Ending, Backslash, Null, Dollar, Other, ending_of, readied, joined}
+use Rattle.mini_model.specs.Position.{whole_seat, binary_operand_seat}
+use Rattle.mini_model.specs.Templates.{is_digit}
 use Rattle.mini_model.specs.Tree.{Tree, Trees, none, ◌▸◌, count, listed}
-use Rattle.mini_model.specs.Weight.{outline, outlines, weight, weights, place_weight, parentheses, template_weight, flagged}
+use Rattle.mini_model.specs.Weight.{Outline, outline, outlines, weight, weights, place_weight, parentheses, template_weight, flagged}
 use Rattle.mini_laws.specs.Weights.{Lightens}
-use Rattle.mini_rows.specs.Templates.{Piece, piece, pieces, template, pair, spelled, Row18, TemplateRow, TemplateContracts}
+use Rattle.mini_rows.specs.Templates.{Piece, piece, pieces, template, pair, spelled, Row18, Row5Both, Row5After, Row5Before, TemplateRow, TemplateContracts}
+use Rattle.mini_model.proofs.Ends.{null_front}
+use Rattle.mini_rows.specs.Spellings.{binary}
+use Rattle.mini_rows.proofs.TemplatePieces.{joined_is}
 use Rattle.mini_rows.proofs.TemplateRuns.{count_append}
 
 -- the pieces, and the parts
@@ -106,8 +114,163 @@ inlined_heavy s n w r =
     let has_parts = own_more s (count (append r.earlier r.later)) in
     omega (arith, heavy, parts, has_parts)
 
+-- ---- 5
+
+-- `+` over two operands
+place_of_sum : (s : Seat) (os : List Outline) → place_weight (Expr s) (shape.BinaryExpression Addition) os ≡ parentheses (shape.BinaryExpression Addition) s
+place_of_sum s os = ap (λ b. parentheses (shape.BinaryExpression Addition) s + (if (s.eq_left && false) || b then 1 else 0)) (ap (λ b. b || (s.lifted && false)) (never s.cond_test) ∙ never s.lifted) ∙ go (s.eq_left && false) (never s.eq_left)
+  where
+    go : (b : Bool) → b ≡ false → parentheses (shape.BinaryExpression Addition) s + (if b || false then 1 else 0) ≡ parentheses (shape.BinaryExpression Addition) s
+    go true e = absurd (true≢false e)
+    go false e = omega arith
+
+abbrev pub left_seat : Seat
+left_seat = binary_operand_seat Addition 0
+
+abbrev pub right_seat : Seat
+right_seat = binary_operand_seat Addition 1
+
+sum_weighs : (s : Seat) (a b : Tree) → weight (Expr s) (binary Addition a b) ≡ parentheses (shape.BinaryExpression Addition) s + 2 + weight (Expr left_seat) a + weight (Expr right_seat) b
+sum_weighs s a b = let place = place_of_sum s (outlines (a ▸ (b ▸ none))) in omega (arith, place)
+
+own_left : (k : ℕ) → own left_seat k ≡ template_weight k
+own_left k = omega arith
+
+own_right : (k : ℕ) → own right_seat k ≡ template_weight k
+own_right k = omega arith
+
+-- the parentheses round a sum that a template has not
+abbrev pub bonus : Seat → ℕ
+bonus s = if nat_lt 11 s.level && nat_le s.level 16 then 4 else 0
+
+closed : (a b c : Bool) → (a || (false || ((b && false) || (c && false)))) ≡ a
+closed true b c = refl
+closed false b c = ap (λ d. d || (c && false)) (never b) ∙ never c
+
+sum_parentheses : (s : Seat) → parentheses (shape.BinaryExpression Addition) s ≡ parentheses shape.TemplateLiteral s + bonus s
+sum_parentheses s =
+    ap (λ b. if b then 4 else 0) (closed (nat_lt 11 s.level) s.access s.new_callee) ∙ go (nat_lt 11 s.level) (nat_lt 16 s.level) (nat_le s.level 16) refl refl refl
+    ∙ sym (ap (λ b. (if b then 4 else 0) + bonus s) (closed (nat_lt 16 s.level) s.access s.new_callee))
+  where
+    go : (b c d : Bool) → nat_lt 11 s.level ≡ b → nat_lt 16 s.level ≡ c → nat_le s.level 16 ≡ d → (if b then 4 else 0) ≡ (if c then 4 else 0) + (if b && d then 4 else 0)
+    go true true true e f g = let above = ltb-true 16 s.level f in let below = leb-true s.level 16 g in absurd (omega (arith, above, below))
+    go true true false e f g = refl
+    go true false true e f g = refl
+    go true false false e f g = let below = ltb-false 16 s.level f in absurd (true≢false (sym (le-leb s.level 16 (omega (arith, below))) ∙ g))
+    go false true d e f g = let above = ltb-true 16 s.level f in let below = ltb-false 11 s.level e in absurd (omega (arith, above, below))
+    go false false d e f g = refl
+
+-- what two raw texts get when they are joined
+picked_short : (n : ℕ) (b : Bool) (s t : List ℕ) → length s ≤ n → length t ≤ n → length (cond b s t) ≤ n
+picked_short n true s t h k = h
+picked_short n false s t h k = k
+
+readied_short : (ending : Ending) (raw : List ℕ) (u : ℕ) → ending_of raw ≡ ending → length (readied ending raw u) ≤ length raw + 2
+readied_short Null raw u e =
+    let (front, (is, unclosed)) = null_front raw e in
+    let some = ap length is ∙ length-append front (48 ∷ []) in
+    let sum = length-append (take (length raw - 1) raw) (codes "x00") in
+    let short = length-take (length raw - 1) raw in
+    picked_short (length raw + 2) (is_digit u) (take (length raw - 1) raw ++ codes "x00") raw (omega (arith, some, sum, short)) (omega arith)
+readied_short Dollar raw u e =
+    let sum = length-append raw (92 ∷ []) in
+    picked_short (length raw + 2) (u == 123) (raw ++ 92 ∷ []) raw (omega (arith, sum)) (omega arith)
+readied_short Backslash raw u e = omega arith
+readied_short Other raw u e = omega arith
+
+pub joined_short : (a b : List ℕ) → length (joined (a ∷ (b ∷ []))) ≤ length a + length b + 2
+joined_short a [] = let same = ap length (joined_is a []) in omega (arith, same)
+joined_short a (u ∷ us) =
+    let same = ap length (joined_is a (u ∷ us)) in
+    let sum = length-append (readied (ending_of a) a u) (u ∷ us) in
+    let short = readied_short (ending_of a) a u refl in
+    omega (arith, same, sum, short)
+
+mark_small : (b : Bool) (n : ℕ) → mark b n ≤ flagged (nat_eq n 0) 1
+mark_small b n = go b (nat_eq n 0)
+  where
+    go : (b c : Bool) → (if (b && c) || false then 1 else 0) ≤ (if c then 1 else 0)
+    go true true = omega arith
+    go true false = omega arith
+    go false true = omega arith
+    go false false = omega arith
+
+-- one without parts, of two that have none
+flag_small : (b : Bool) → flagged b 1 ≤ 1
+flag_small true = omega arith
+flag_small false = omega arith
+
+suc_plus : (k l : ℕ) → suc k + l ≡ suc (k + l)
+suc_plus k l = omega arith
+
+plus_zero : (l : ℕ) → zero + l ≡ l
+plus_zero l = omega arith
+
+flag_sum : (k l : ℕ) → 2 * flagged (nat_eq (k + l) 0) 1 ≤ flagged (nat_eq k 0) 1 + flagged (nat_eq l 0) 1
+flag_sum zero l =
+    let same = ap (λ k. flagged (nat_eq k 0) 1) (plus_zero l) in
+    let one = ap (λ b. flagged b 1) (eq-eqb zero 0 refl) in
+    let small = flag_small (nat_eq l 0) in
+    omega (arith, same, one, small)
+flag_sum (suc k) l = let same = ap (λ j. flagged (nat_eq j 0) 1) (suc_plus k l) in let some = ap (λ b. flagged b 1) (eqb-suc-zero (k + l)) in omega (arith, same, some)
+
+pub both_falls : (s : Seat) (n w : Tree) → Row5Both n w → weight (Expr s) w < weight (Expr s) n
+both_falls s n w r =
+    let whole = ap (weight (Expr s)) r.shape ∙ sum_weighs s (template (append (pieces r.before) (piece r.last ▸ none)) r.earlier) (template (piece r.first ▸ pieces r.after) r.later) in
+    let one = template_weighs left_seat r.before (r.last ∷ []) r.earlier in
+    let own_one = own_left (count r.earlier) in
+    let other = template_weighs right_seat [] (r.first ∷ r.after) r.later in
+    let own_other = own_right (count r.later) in
+    let put = ap (weight (Expr s)) r.written ∙ template_weighs s r.before (pair r.last r.first ∷ r.after) (append r.earlier r.later) in
+    let counts = ap (own s) (count_append r.earlier r.later) in
+    let parts = parts_append r.earlier r.later in
+    let short = joined_short r.last.raw r.first.raw in
+    let parens = sum_parentheses s in
+    let flags = flag_sum (count r.earlier) (count r.later) in
+    let marks = mark_small s.eq_left (count r.earlier + count r.later) in
+    omega (arith, whole, one, own_one, other, own_other, put, counts, parts, short, parens, flags, marks)
+
+pub after_weighs : (s : Seat) (n w : Tree) (r : Row5After n w) → weight (Expr s) w + (2 + bonus s + 2 * length r.last.raw + weight (Expr right_seat) r.tail) ≡ weight (Expr s) n + (2 * length (pair r.last (spelled r.text)).raw + mark s.eq_left (count r.earlier))
+after_weighs s n w r =
+    let whole = ap (weight (Expr s)) r.shape ∙ sum_weighs s (template (append (pieces r.before) (piece r.last ▸ none)) r.earlier) r.tail in
+    let one = template_weighs left_seat r.before (r.last ∷ []) r.earlier in
+    let own_one = own_left (count r.earlier) in
+    let put = ap (weight (Expr s)) r.written ∙ template_weighs s r.before (pair r.last (spelled r.text) ∷ []) r.earlier in
+    let parens = sum_parentheses s in
+    omega (arith, whole, one, own_one, put, parens)
+
+pub before_weighs : (s : Seat) (n w : Tree) (r : Row5Before n w) → weight (Expr s) w + (2 + bonus s + 2 * length r.first.raw + weight (Expr left_seat) r.head) ≡ weight (Expr s) n + (2 * length (pair (spelled r.text) r.first).raw + mark s.eq_left (count r.later))
+before_weighs s n w r =
+    let whole = ap (weight (Expr s)) r.shape ∙ sum_weighs s r.head (template (piece r.first ▸ pieces r.after) r.later) in
+    let other = template_weighs right_seat [] (r.first ∷ r.after) r.later in
+    let own_other = own_right (count r.later) in
+    let put = ap (weight (Expr s)) r.written ∙ template_weighs s [] (pair (spelled r.text) r.first ∷ r.after) r.later in
+    let parens = sum_parentheses s in
+    omega (arith, whole, other, own_other, put, parens)
+
+pub after_heavy : (s : Seat) (n w : Tree) (r : Row5After n w) → weight (Expr right_seat) r.tail + bonus s + 6 ≤ weight (Expr s) n
+after_heavy s n w r =
+    let whole = ap (weight (Expr s)) r.shape ∙ sum_weighs s (template (append (pieces r.before) (piece r.last ▸ none)) r.earlier) r.tail in
+    let one = template_weighs left_seat r.before (r.last ∷ []) r.earlier in
+    let own_one = own_left (count r.earlier) in
+    let parens = sum_parentheses s in
+    omega (arith, whole, one, own_one, parens)
+
+pub before_heavy : (s : Seat) (n w : Tree) (r : Row5Before n w) → weight (Expr left_seat) r.head + bonus s + 6 ≤ weight (Expr s) n
+before_heavy s n w r =
+    let whole = ap (weight (Expr s)) r.shape ∙ sum_weighs s r.head (template (piece r.first ▸ pieces r.after) r.later) in
+    let other = template_weighs right_seat [] (r.first ∷ r.after) r.later in
+    let own_other = own_right (count r.later) in
+    let parens = sum_parentheses s in
+    omega (arith, whole, other, own_other, parens)
+
+-- ---- all
+
 row_outline : (p : Position) (n w : Tree) → TemplateRow p n w → outline n ≡ outline w
-row_outline (Expr s) n w r = ap outline r.shape ∙ sym (ap outline r.written)
+row_outline (Expr s) n w (inl r) = ap outline r.shape ∙ sym (ap outline r.written)
+row_outline (Expr s) n w (inr (inl r)) = ap outline r.shape ∙ sym (ap outline r.written)
+row_outline (Expr s) n w (inr (inr (inl r))) = ap outline r.shape ∙ sym (ap outline r.written)
+row_outline (Expr s) n w (inr (inr (inr r))) = ap outline r.shape ∙ sym (ap outline r.written)
 row_outline p n w r = absurd r
 
 pub lightens : Lightens TemplateContracts

@@ -1,6 +1,7 @@
 -- Rows on templates, as equations: each is a shape and what is written in its place, with the JavaScript before and after. No order of
 -- rewriting is meant.
-use Rattle.std.specs.Prelude.{◌≡◌, ◌<◌, ℕ, Bool, true, List, [], ◌∷◌, ◌++◌, length, Option, Some}
+use Rattle.std.specs.Prelude.{◌≡◌, ◌<◌, ◌⊎◌, ℕ, Bool, true, List, [], ◌∷◌, ◌++◌, length, Option, Some}
+use Rattle.mini_model.specs.declared.operator.BinaryOperator.TheVariants.{Addition}
 use Rattle.mini_model.specs.declared.place.Position.{Position}
 use Rattle.mini_model.specs.declared.place.Position.TheVariants.{Expr}
 use Rattle.mini_model.specs.declared.shape.Shape.TheVariants as shape
@@ -12,6 +13,7 @@ use Rattle.mini_model.specs.Weight.{weight}
 use Rattle.mini_terms.specs.Calculated.{literal_value}
 use Rattle.mini_terms.specs.Const.{text_of}
 use Rattle.mini_terms.specs.Parts.{leaves_nothing}
+use Rattle.mini_rows.specs.Spellings.{binary}
 
 -- ---- terms
 
@@ -63,9 +65,48 @@ pub record Row18 (n w : Tree) : Type 0 where
   pub shape : n ≡ template (append (pieces before) (piece first ▸ (piece second ▸ pieces after))) (append earlier (part ▸ later))
   pub written : w ≡ template (append (pieces before) (piece (pair (pair first (spelled text)) second) ▸ pieces after)) (append earlier later)
 
+-- 5: `` `a${b}` + `c${d}` `` becomes `` `a${b}c${d}` ``
+pub record Row5Both (n w : Tree) : Type 0 where
+  pub before : List Piece
+  pub last : Piece
+  pub earlier : Trees
+  pub first : Piece
+  pub after : List Piece
+  pub later : Trees
+  pub starts : length before ≡ count earlier
+  pub ends : length after ≡ count later
+  pub shape : n ≡ binary Addition (template (append (pieces before) (piece last ▸ none)) earlier) (template (piece first ▸ pieces after) later)
+  pub written : w ≡ template (append (pieces before) (piece (pair last first) ▸ pieces after)) (append earlier later)
+
+-- 5: `` `a${b}` + "c" `` becomes `` `a${b}c` ``: what writes a value out is added to a template
+pub record Row5After (n w : Tree) : Type 0 where
+  pub before : List Piece
+  pub last : Piece
+  pub earlier : Trees
+  pub tail : Tree
+  pub text : List ℕ
+  pub starts : length before ≡ count earlier
+  pub known : told tail ≡ Some text
+  pub dropped : leaves_nothing tail ≡ true
+  pub shape : n ≡ binary Addition (template (append (pieces before) (piece last ▸ none)) earlier) tail
+  pub written : w ≡ template (append (pieces before) (piece (pair last (spelled text)) ▸ none)) earlier
+
+-- 5: `` "a" + `b${c}` `` becomes `` `ab${c}` ``: a template is added to it
+pub record Row5Before (n w : Tree) : Type 0 where
+  pub head : Tree
+  pub text : List ℕ
+  pub first : Piece
+  pub after : List Piece
+  pub later : Trees
+  pub ends : length after ≡ count later
+  pub known : told head ≡ Some text
+  pub dropped : leaves_nothing head ≡ true
+  pub shape : n ≡ binary Addition head (template (piece first ▸ pieces after) later)
+  pub written : w ≡ template (piece (pair (spelled text) first) ▸ pieces after) later
+
 -- a row on templates reads n as w at this place
 abbrev pub TemplateRow : Position → Tree → Tree → Type 0
-TemplateRow (Expr s) n w = Row18 n w
+TemplateRow (Expr s) n w = Row18 n w ⊎ (Row5Both n w ⊎ (Row5After n w ⊎ Row5Before n w))
 TemplateRow _ n w = ⊥
 
 -- what it writes, where it weighs less

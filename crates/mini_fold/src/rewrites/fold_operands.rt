@@ -107,7 +107,8 @@ fn is_text(seat: Seat, stays: &Node, goes: &Node) -> bool
     is_empty_text(goes) && is_string_kind(kind_of(stays)) && suits(seat, stays)
 }
 
-fn last(node: Node) -> Node
+/// The second child, without the first.
+pub fn last(node: Node) -> Node
     ensures { result ≡ part node 1 }
 {
     let (left, right) = two(node);

@@ -60,9 +60,9 @@ fn is_lifted(node: &Node, seat: Seat) -> bool
     is_open_seat(seat) && is_operation(node) && is_several(node.child(0))
 }
 
-// Takes the last node out; of none, an absent part.
+/// Takes the last node out; of none, an absent part.
 #[tactic(auto, using(crate::proofs::Sequences::last_is, crate::proofs::Sequences::others_are))]
-fn take_last(alloc: Global, nodes: &mut Nodes) -> Node
+pub fn take_last(alloc: Global, nodes: &mut Nodes) -> Node
     ensures value { result ≡ last_of nodes.old }
     ensures rest { nodes.new ≡ but_last nodes.old }
 {

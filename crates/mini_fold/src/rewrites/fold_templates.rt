@@ -1,21 +1,28 @@
-//! Row 18: a part of a template whose value is written out goes into the text: `` `a${1}b${c}` `` becomes `` `a1b${c}` ``, where that is
-//! lighter.
+//! Rows 18 and 5: a part of a template whose value is written out goes into the text: `` `a${1}b${c}` `` becomes `` `a1b${c}` ``; a sum of
+//! templates is one, as `` `a${b}` + `c${d}` `` becomes `` `a${b}c${d}` ``, and `` `a${b}` + "c" `` becomes `` `a${b}c` ``. What is written is
+//! lighter in its seat.
 
-ghost use Rattle.std.specs.Prelude.{◌≡◌, ◌<◌, ◌+◌, nat_eq, true, [], ◌∷◌, Some, is_some, IfOk, IfSome};
+ghost use Rattle.std.specs.Prelude.{◌≡◌, ◌<◌, ◌+◌, nat_eq, true, [], ◌∷◌, Some, is_some, unwrap_or, OnOk, IfOk, IfSome};
 ghost use Rattle.mini_model.specs.Joined.{joined};
-ghost use Rattle.mini_model.specs.Tree.{children, count, shape_of};
+ghost use Rattle.mini_model.specs.Tree.{children, count, first_or_absent, shape_of};
 ghost use Rattle.mini_rows.specs.Templates as row;
 ghost use Rattle.mini_tree.specs.Rule.{Applied};
 ghost use Rattle.mini_fold.specs.FoldTemplates as template;
-ghost use Rattle.mini_fold.specs.FoldTemplates.{Gives, Rests};
+ghost use Rattle.mini_fold.specs.FoldSequences.{last_of};
+ghost use Rattle.mini_fold.specs.FoldTemplates.{Gives, Rests, PartsRest};
+ghost use Rattle.mini_node.specs.Children.{part};
 ghost use Rattle.mini_fold.specs.Lighter.{templates_lighter};
 
 use crate::literals::{copied, literal_value, text_of_both, to_text};
+use crate::rewrites::fold_operands::last;
+use crate::rewrites::fold_sequences::take_last;
 use mini_model::{
-    BoxedText, OutOfMemory, Position, Seat, Shape, Text, TextList, concat_template_literal_raw,
-    escape_string_for_template_literal,
+    BinaryOperator, BoxedText, OutOfMemory, Position, Seat, Shape, Text, TextList,
+    concat_template_literal_raw, escape_string_for_template_literal,
 };
-use mini_node::{Node, Nodes, discard, is_listed, listed, of_two, taken, two};
+use mini_node::{
+    Node, Nodes, binary_operator, discard, is_listed, listed, of_two, one, take_first, taken, two,
+};
 use mini_terms::leaves_nothing;
 use mini_tree::{Context, Rule, expr_weight, seats};
 use std::alloc::Global;
@@ -89,9 +96,11 @@ fn has_one_more(texts: &Nodes, parts: &Nodes) -> bool
 }
 
 // Whether it is a template with pieces of text round each part.
+#[tactic(auto, using(crate::proofs::Templates::has_text))]
 fn is_whole(node: &Node) -> bool
     ensures kind { result ≡ template.is_whole node.now }
     ensures parts { result ≡ true → count (children node.now) ≡ 2 }
+    ensures texts { result ≡ true → 0 < count (template.texts_of node.now) }
 {
     is_template(node)
         && has_one_more(node.child(0).children(), node.child(1).children())
@@ -109,14 +118,18 @@ fn spare(seat: Seat, count: usize) -> u64
     }
 }
 
-// Whether the text grows by less than what goes.
-fn pays(spared: u64, grown: u64, weight: u64) -> bool
-    ensures { result ≡ template.pays spared grown weight }
+// Whether twice the growth of a text is at most what goes for it.
+fn pays(besides: u64, grown: u64, weight: u64) -> bool
+    ensures { result ≡ template.pays besides grown weight }
 {
-    grown
-        <= weight
-            .saturating_add(5_u64.saturating_sub(spared))
-            .saturating_sub(grown)
+    grown <= weight.saturating_add(besides).saturating_sub(grown)
+}
+
+// What goes with `${}`.
+fn hole(spared: u64) -> u64
+    ensures { result ≡ template.hole spared }
+{
+    5_u64.saturating_sub(spared)
 }
 
 fn growth(joined: usize, first: usize, second: usize) -> usize
@@ -177,7 +190,7 @@ fn is_sewn(spared: u64, first: &Node, part: &Node, raw_text: &Text, second: &Nod
 {
     leaves_nothing(part)
         && pays(
-            spared,
+            hole(spared),
             growth(raw_text.len(), raw(first).len(), raw(second).len()) as u64,
             expr_weight(part, seats::whole()),
         )
@@ -263,7 +276,7 @@ pub fn inline_template_literal(
     node: &mut Node,
     seat: Seat,
 ) -> Result<bool, OutOfMemory>
-    ensures { IfOk result (λ changed. Applied Gives Rests (Position.Expr seat) node.old node.new changed) }
+    ensures { IfOk result (λ changed. Applied Gives PartsRest (Position.Expr seat) node.old node.new changed) }
 {
     if !is_whole(node) {
         return Ok(false);
@@ -284,7 +297,262 @@ pub fn inline_template_literal(
     }
 }
 
-/// Row 18 as a rule: of each expression.
+// The parentheses round a sum that a template has not.
+fn bonus(seat: Seat) -> u64
+    ensures { result ≡ template.bonus seat }
+{
+    if seat.level > 11 && seat.level <= 16 {
+        4
+    } else {
+        0
+    }
+}
+
+// The mark of a template without parts on the left of an equality.
+fn mark(seat: Seat, count: usize) -> u64
+    ensures { result ≡ template.mark seat count }
+{
+    if seat.eq_left && count == 0 { 1 } else { 0 }
+}
+
+// What goes with `+`.
+fn plus_sign(seat: Seat, count: usize) -> u64
+    ensures { result ≡ template.plus_sign seat count }
+{
+    (1 + bonus(seat)).saturating_sub(mark(seat, count))
+}
+
+// Two pieces as one.
+fn paired(alloc: Global, first: &Node, second: &Node) -> Result<Node, OutOfMemory>
+    ensures { IfOk result (λ p. p ≡ template.paired first.now second.now) }
+{
+    let joined = joined_raw(
+        alloc,
+        copied(alloc, raw(first))?,
+        copied(alloc, raw(second))?,
+    )?;
+    let text = text_of_both(alloc, cooked(first), copied(alloc, cooked(second))?)?;
+    piece(alloc, is_tail(second), joined, text)
+}
+
+// `` `a${b}c${d}` `` of `` `a${b}` `` and `` `c${d}` ``
+fn both_joined(alloc: Global, left: Node, right: Node) -> Result<Node, OutOfMemory>
+    ensures { IfOk result (λ w. w ≡ template.both_written left right) }
+{
+    let (texts, parts) = two(left);
+    let (more_texts, more_parts) = two(right);
+    let mut texts = texts.into_children();
+    let mut more_texts = more_texts.into_children();
+    let mut parts = parts.into_children();
+    let mut more_parts = more_parts.into_children();
+    let last = take_last(alloc, &mut texts);
+    let first = take_first(&mut more_texts);
+    texts.push(paired(alloc, &last, &first)?)?;
+    texts.append(&mut more_texts)?;
+    parts.append(&mut more_parts)?;
+    template_literal(alloc, texts, parts)
+}
+
+// Whether what is added goes, for which this raw text comes.
+fn is_added(seat: Seat, at: Seat, count: usize, part: &Node, raw_text: &Text, end: &Node) -> bool
+    ensures { result ≡ template.is_added seat at count part.now raw_text.now end.now }
+{
+    leaves_nothing(part)
+        && pays(
+            plus_sign(seat, count),
+            growth(raw_text.len(), raw(end).len(), 0) as u64,
+            expr_weight(part, at),
+        )
+}
+
+// The last piece of a template with the text of what is added to it, where that is lighter.
+fn tail_joined(
+    alloc: Global,
+    seat: Seat,
+    count: usize,
+    last: &Node,
+    tail: &Node,
+) -> Result<Option<Node>, OutOfMemory>
+    ensures { IfOk result (λ m. m ≡ template.tail_piece seat count last.now tail.now) }
+{
+    let Some(text) = told(alloc, tail)? else {
+        return Ok(None);
+    };
+    let spelled = escape_string_for_template_literal(alloc, &text)?;
+    let raw_text = joined_raw(alloc, copied(alloc, raw(last))?, spelled)?;
+    if !is_added(
+        seat,
+        seats::binary_right_operand(BinaryOperator::Addition),
+        count,
+        tail,
+        &raw_text,
+        last,
+    ) {
+        return Ok(None);
+    }
+    let text = text_of_both(alloc, cooked(last), text)?;
+    Ok(Some(piece(alloc, true, raw_text, text)?))
+}
+
+// The first piece of a template with the text of what it is added to, where that is lighter.
+fn head_joined(
+    alloc: Global,
+    seat: Seat,
+    count: usize,
+    head: &Node,
+    first: &Node,
+) -> Result<Option<Node>, OutOfMemory>
+    ensures { IfOk result (λ m. m ≡ template.head_piece seat count head.now first.now) }
+{
+    let Some(text) = told(alloc, head)? else {
+        return Ok(None);
+    };
+    let spelled = escape_string_for_template_literal(alloc, &text)?;
+    let raw_text = joined_raw(alloc, spelled, copied(alloc, raw(first))?)?;
+    if !is_added(
+        seat,
+        seats::binary_left_operand(BinaryOperator::Addition),
+        count,
+        head,
+        &raw_text,
+        first,
+    ) {
+        return Ok(None);
+    }
+    let text = text_of_both(alloc, text.as_slice(), copied(alloc, cooked(first))?)?;
+    Ok(Some(piece(alloc, is_tail(first), raw_text, text)?))
+}
+
+// `` `a${b}c` `` of `` `a${b}` + "c" ``, with this piece in the place of the last one.
+fn with_tail(alloc: Global, left: Node, joined: Node) -> Result<Node, OutOfMemory>
+    ensures { IfOk result (λ w. w ≡ template.with_tail left joined) }
+{
+    let (texts, parts) = two(left);
+    let mut texts = texts.into_children();
+    discard(take_last(alloc, &mut texts));
+    texts.push(joined)?;
+    template_literal(alloc, texts, parts.into_children())
+}
+
+// `` `ab${c}` `` of `` "a" + `b${c}` ``, with this piece in the place of the first one.
+#[tactic(auto, using(crate::proofs::Templates::inserted_first))]
+fn with_head(alloc: Global, right: Node, joined: Node) -> Result<Node, OutOfMemory>
+    ensures { IfOk result (λ w. w ≡ template.with_head right joined) }
+{
+    let (texts, parts) = two(right);
+    let mut texts = texts.into_children();
+    discard(take_first(&mut texts));
+    texts.insert(0, joined)?;
+    template_literal(alloc, texts, parts.into_children())
+}
+
+// How many parts a template has.
+fn parts_count(node: &Node) -> usize
+    requires { count (children node.now) ≡ 2 }
+    ensures { result ≡ count (template.parts_of node.now) }
+{
+    node.child(1).children().len()
+}
+
+// The last piece of a template's text.
+#[tactic(auto, using(crate::proofs::Templates::last_there))]
+fn last_text(node: &Node) -> &Node
+    requires parts { count (children node.now) ≡ 2 }
+    requires texts { 0 < count (template.texts_of node.now) }
+    ensures { result.now ≡ last_of (template.texts_of node.now) }
+{
+    let texts = node.child(0).children();
+    texts.child(texts.len() - 1)
+}
+
+// The first one.
+#[tactic(auto, using(crate::proofs::Templates::first_there))]
+fn first_text(node: &Node) -> &Node
+    requires parts { count (children node.now) ≡ 2 }
+    requires texts { 0 < count (template.texts_of node.now) }
+    ensures { result.now ≡ first_or_absent (template.texts_of node.now) }
+{
+    node.child(0).children().child(0)
+}
+
+// `` `a${b}c` `` of `` `a${b}` + "c" ``
+fn fold_tail(alloc: Global, node: &mut Node, seat: Seat) -> Result<bool, OutOfMemory>
+    requires sides { count (children node.old) ≡ 2 }
+    requires parts { count (children (part node.old 0)) ≡ 2 }
+    requires texts { 0 < count (template.texts_of (part node.old 0)) }
+    ensures tree { OnOk result (node.new ≡ unwrap_or (template.tail_written seat (part node.old 0) (part node.old 1)) node.old) }
+    ensures said { IfOk result (λ changed. changed ≡ is_some (template.tail_written seat (part node.old 0) (part node.old 1))) }
+{
+    let left = node.child(0);
+    let made = tail_joined(
+        alloc,
+        seat,
+        parts_count(left),
+        last_text(left),
+        node.child(1),
+    )?;
+    let Some(joined) = made else {
+        return Ok(false);
+    };
+    *node = with_tail(alloc, one(taken(alloc, node)), joined)?;
+    Ok(true)
+}
+
+// `` `ab${c}` `` of `` "a" + `b${c}` ``
+fn fold_head(alloc: Global, node: &mut Node, seat: Seat) -> Result<bool, OutOfMemory>
+    requires sides { count (children node.old) ≡ 2 }
+    requires parts { count (children (part node.old 1)) ≡ 2 }
+    requires texts { 0 < count (template.texts_of (part node.old 1)) }
+    ensures tree { OnOk result (node.new ≡ unwrap_or (template.head_written seat (part node.old 0) (part node.old 1)) node.old) }
+    ensures said { IfOk result (λ changed. changed ≡ is_some (template.head_written seat (part node.old 0) (part node.old 1))) }
+{
+    let right = node.child(1);
+    let made = head_joined(
+        alloc,
+        seat,
+        parts_count(right),
+        node.child(0),
+        first_text(right),
+    )?;
+    let Some(joined) = made else {
+        return Ok(false);
+    };
+    *node = with_head(alloc, last(taken(alloc, node)), joined)?;
+    Ok(true)
+}
+
+// A sum of a template and another, or what writes a value out, becomes one template.
+fn fold_sum(alloc: Global, node: &mut Node, seat: Seat) -> Result<bool, OutOfMemory>
+    requires { count (children node.old) ≡ 2 }
+    ensures tree { OnOk result (node.new ≡ unwrap_or (template.sum_written seat (part node.old 0) (part node.old 1)) node.old) }
+    ensures said { IfOk result (λ changed. changed ≡ is_some (template.sum_written seat (part node.old 0) (part node.old 1))) }
+{
+    match (is_whole(node.child(0)), is_whole(node.child(1))) {
+        (true, true) => {
+            let (left, right) = two(taken(alloc, node));
+            *node = both_joined(alloc, left, right)?;
+            Ok(true)
+        }
+        (true, false) => fold_tail(alloc, node, seat),
+        (false, true) => fold_head(alloc, node, seat),
+        (false, false) => Ok(false),
+    }
+}
+
+/// A part of a template whose value is written out goes into the text, and a sum of a template and another, or of a template and what
+/// writes a value out, becomes one template, where that is lighter. The answer says whether something did; the only error is that memory
+/// runs out, and then the expression is fit only to be dropped.
+#[tactic(auto, using(crate::proofs::Templates::sum_applied, crate::proofs::Templates::others_applied))]
+pub fn fold_templates(alloc: Global, node: &mut Node, seat: Seat) -> Result<bool, OutOfMemory>
+    ensures { IfOk result (λ changed. Applied Gives Rests (Position.Expr seat) node.old node.new changed) }
+{
+    match binary_operator(node) {
+        Some(BinaryOperator::Addition) => Ok(fold_sum(alloc, node, seat)?),
+        _ => Ok(inline_template_literal(alloc, node, seat)?),
+    }
+}
+
+/// Rows 5 and 18 as a rule: of each expression.
 pub struct FoldTemplates;
 
 impl<C: Context> Rule<C> for FoldTemplates {
@@ -303,7 +571,7 @@ impl<C: Context> Rule<C> for FoldTemplates {
         context: &mut C,
     ) -> Result<bool, OutOfMemory> {
         match place {
-            Position::Expr(seat) => Ok(inline_template_literal(alloc, node, seat)?),
+            Position::Expr(seat) => Ok(fold_templates(alloc, node, seat)?),
             _ => Ok(false),
         }
     }
