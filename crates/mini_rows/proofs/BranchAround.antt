@@ -61,6 +61,8 @@ is_plain shape.DoWhileStatement = true
 is_plain shape.ForStatement = true
 is_plain shape.ForInStatement = true
 is_plain shape.ForOfStatement = true
+is_plain shape.SwitchStatement = true
+is_plain shape.BlockStatement = true
 is_plain _ = false
 
 plain_shape : (h : Shape) → is_plain h ≡ true → Plain h
@@ -72,6 +74,8 @@ plain_shape shape.DoWhileStatement e = record { piece = refl; kind = refl; port 
 plain_shape shape.ForStatement e = record { piece = refl; kind = refl; port = λ m. refl; declaration = refl; holds = refl; function = refl; labeled = refl }
 plain_shape shape.ForInStatement e = record { piece = refl; kind = refl; port = λ m. refl; declaration = refl; holds = refl; function = refl; labeled = refl }
 plain_shape shape.ForOfStatement e = record { piece = refl; kind = refl; port = λ m. refl; declaration = refl; holds = refl; function = refl; labeled = refl }
+plain_shape shape.SwitchStatement e = record { piece = refl; kind = refl; port = λ m. refl; declaration = refl; holds = refl; function = refl; labeled = refl }
+plain_shape shape.BlockStatement e = record { piece = refl; kind = refl; port = λ m. refl; declaration = refl; holds = refl; function = refl; labeled = refl }
 plain_shape h e = absurd (cc e)
 
 -- ---- what else is kept of one statement for another

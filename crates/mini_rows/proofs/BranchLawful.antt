@@ -3,6 +3,7 @@ use Rattle.std.specs.Prelude.{ℕ, ◌≡◌, ◌⊎◌, refl, ◌&&◌, Bool, t
 use Rattle.std.proofs.Common.{◌∙◌, sym, subst, inl, inr}
 use Rattle.std.proofs.lemmas.Bool.{and_parts}
 use Rattle.mini_model.specs.declared.name.Name.{Name}
+use Rattle.mini_model.specs.declared.operator.BinaryOperator.TheVariants.{StrictEquality}
 use Rattle.mini_model.specs.declared.operator.LogicalOperator.{LogicalOperator}
 use Rattle.mini_model.specs.declared.operator.LogicalOperator.TheVariants.{Or, And}
 use Rattle.mini_model.specs.declared.place.Position.{Position}
@@ -11,10 +12,10 @@ use Rattle.mini_model.specs.declared.seat.StmtSeat.{StmtSeat}
 use Rattle.mini_model.specs.declared.shape.Shape.{Shape}
 use Rattle.mini_model.specs.declared.shape.Shape.TheVariants as shape
 use Rattle.mini_model.specs.Paths.{append}
-use Rattle.mini_model.specs.Tree.{Tree, Trees, node, none, ◌▸◌, shape_of, is_absent, absent, empty_statement, expression_statement, if_else, if_alone, logical}
+use Rattle.mini_model.specs.Tree.{Tree, Trees, node, none, ◌▸◌, shape_of, is_absent, absent, listed, empty_statement, expression_statement, if_else, if_alone, logical}
 use Rattle.mini_model.specs.Position.{if_test_seat}
 use Rattle.mini_model.specs.Terms.{not_of}
-use Rattle.mini_accept.specs.WellShaped.{Class, a_statement, a_key, a_private_or_key, an_inner_key, a_loop_left, an_expression, an_init, Slot, one, one_or_absent, many, many_or_holes, many_and_rest, many_or_holes_and_rest, quasis, refused, each, filling, fits, fill, is_function_body, spelling, spelling_by, has_optional, has_optional_by, is_not_positive_number}
+use Rattle.mini_accept.specs.WellShaped.{nested, Class, a_case, a_statement, a_key, a_private_or_key, an_inner_key, a_loop_left, an_expression, an_init, Slot, one, one_or_absent, many, many_or_holes, many_and_rest, many_or_holes_and_rest, quasis, refused, each, filling, fits, fill, is_function_body, spelling, spelling_by, has_optional, has_optional_by, is_not_positive_number}
 use Rattle.mini_kept.specs.KeepsFrames.{is_in_body, is_body_slot}
 use Rattle.mini_kept.specs.KeepsNames.{is_rewritten_place}
 use Rattle.mini_kept.specs.KeepsShapes.{is_default, AskedAlike}
@@ -25,9 +26,10 @@ use Rattle.mini_kept.proofs.Quiet.{expression_is_quiet}
 use Rattle.mini_kept.proofs.Rows.{statement, last_statement, TakesStatementIn, TakesStatement, IfFits, of_if, of_statement, of_last_statement}
 use Rattle.mini_terms.specs.Parts.{leaves_nothing}
 use Rattle.mini_rows.specs.Arranged.{KeptAt, Vanishes}
-use Rattle.mini_rows.specs.Lists.{block, return_statement, is_unscoped}
+use Rattle.mini_rows.specs.Lists.{block, return_statement, is_unscoped, are_unscoped}
 use Rattle.mini_rows.specs.Sketches.{AbsentPart, Return, part, under, end, ◌▹◌}
-use Rattle.mini_rows.specs.Spellings.{IsUndefined}
+use Rattle.mini_rows.specs.Spellings.{IsUndefined, PlainForm, a_number, a_text, a_boolean, a_null, a_big_int, a_template, a_void, plain, binary}
+use Rattle.mini_rows.specs.Cases.{switch_case, one_case, ended, breaks_out, SwitchRow}
 use Rattle.mini_rows.specs.Branches.{IsEmpty, IsIdleVoid, Row60, has_else, is_other_branch, as_consequent, Surrounding, Consequent, Alternate, WhileBody, DoBody, ForBody, InBody, OfBody, around, conjunct_seat, bare_continue, Row82Empty, after, with_not, without_not, Row82Ends, Row83, BodyRow, BranchRow, BranchContracts}
 use Rattle.mini_rows.proofs.ArrangedLawful.{kept_is_lawful}
 use Rattle.mini_rows.proofs.ArrangedStatements.{statements_arranged}
@@ -37,6 +39,7 @@ use Rattle.mini_rows.proofs.BodyEnds.{continue_idle, emptied, shortened}
 use Rattle.mini_rows.proofs.BranchEnds.{ending_written, ends_kept}
 use Rattle.mini_rows.proofs.BranchParts.{Value, core_then, said_then, value_itself, said_itself, value_not, said_not, empty_is_idle, turned_core, turned_said, chosen_core, chosen_said, tested_core, tested_said, nested_core, nested_said}
 use Rattle.mini_rows.proofs.BranchSame.{branches_same}
+use Rattle.mini_rows.proofs.CaseKept.{case_is_kept, case_says, default_is_kept, default_says}
 use Rattle.mini_rows.proofs.FoldLawful.{vanishes, first_dropped}
 use Rattle.mini_rows.proofs.ListShapes.{both_fit}
 use Rattle.mini_rows.proofs.LoopKept.{row_84_fits, row_84_core, row_84_said}
@@ -96,6 +99,13 @@ in_forof strict (a_private_or_key true) xs n ts e = absurd (refused_here strict 
 in_forof strict (an_inner_key true) xs n ts e = absurd (refused_here strict (one (an_inner_key true)) shape.ForOfStatement xs n ts refl e)
 in_forof strict k xs n ts e = absurd (refused_here strict (one k) shape.ForOfStatement xs n ts refl e)
 
+in_switch : (strict : Bool) (k : Class) (xs : List Name) (n : ℕ) (ts : Trees) → fits strict (one k) (node shape.SwitchStatement xs n ts) ≡ true → TakesStatementIn k
+in_switch strict (a_statement d) xs n ts e = tt
+in_switch strict (a_key true) xs n ts e = absurd (refused_here strict (one (a_key true)) shape.SwitchStatement xs n ts refl e)
+in_switch strict (a_private_or_key true) xs n ts e = absurd (refused_here strict (one (a_private_or_key true)) shape.SwitchStatement xs n ts refl e)
+in_switch strict (an_inner_key true) xs n ts e = absurd (refused_here strict (one (an_inner_key true)) shape.SwitchStatement xs n ts refl e)
+in_switch strict k xs n ts e = absurd (refused_here strict (one k) shape.SwitchStatement xs n ts refl e)
+
 -- a statement that a row reads
 abbrev pub is_read : Shape → Bool
 is_read shape.ReturnStatement = true
@@ -105,6 +115,7 @@ is_read shape.DoWhileStatement = true
 is_read shape.ForStatement = true
 is_read shape.ForInStatement = true
 is_read shape.ForOfStatement = true
+is_read shape.SwitchStatement = true
 is_read _ = false
 
 taken_in : (strict : Bool) (k : Class) (t : Tree) → is_read (shape_of t) ≡ true → fits strict (one k) t ≡ true → TakesStatementIn k
@@ -115,6 +126,7 @@ taken_in strict k (node shape.DoWhileStatement xs n ts) r e = in_dowhile strict 
 taken_in strict k (node shape.ForStatement xs n ts) r e = in_for strict k xs n ts e
 taken_in strict k (node shape.ForInStatement xs n ts) r e = in_forin strict k xs n ts e
 taken_in strict k (node shape.ForOfStatement xs n ts) r e = in_forof strict k xs n ts e
+taken_in strict k (node shape.SwitchStatement xs n ts) r e = in_switch strict k xs n ts e
 taken_in strict k t r e = absurd (cc r)
 
 -- it fills the slot of one that may be absent as it fills that of one
@@ -126,6 +138,7 @@ one_of strict k (node shape.DoWhileStatement xs n ts) r e = e
 one_of strict k (node shape.ForStatement xs n ts) r e = e
 one_of strict k (node shape.ForInStatement xs n ts) r e = e
 one_of strict k (node shape.ForOfStatement xs n ts) r e = e
+one_of strict k (node shape.SwitchStatement xs n ts) r e = e
 one_of strict k t r e = absurd (cc r)
 
 -- and no other
@@ -171,6 +184,8 @@ alike_in strict (a_statement d) (node shape.DoWhileStatement xs n ts) r k = refl
 alike_in strict (a_statement d) (node shape.ForStatement xs n ts) r k = refl
 alike_in strict (a_statement d) (node shape.ForInStatement xs n ts) r k = refl
 alike_in strict (a_statement d) (node shape.ForOfStatement xs n ts) r k = refl
+alike_in strict (a_statement d) (node shape.SwitchStatement xs n ts) r k = refl
+alike_in strict (a_statement d) (node shape.BlockStatement xs n ts) r k = refl
 alike_in strict (a_statement d) t r k = absurd (cc r)
 alike_in strict c t r k = absurd k
 
@@ -183,6 +198,8 @@ one_alike strict k (node shape.DoWhileStatement xs n ts) r = refl
 one_alike strict k (node shape.ForStatement xs n ts) r = refl
 one_alike strict k (node shape.ForInStatement xs n ts) r = refl
 one_alike strict k (node shape.ForOfStatement xs n ts) r = refl
+one_alike strict k (node shape.SwitchStatement xs n ts) r = refl
+one_alike strict k (node shape.BlockStatement xs n ts) r = refl
 one_alike strict k t r = absurd (cc r)
 
 alike : (strict : Bool) (s : Slot) (t : Tree) → is_plain (shape_of t) ≡ true → TakesStatement s → fits strict s t ≡ fits strict statement t
@@ -469,6 +486,62 @@ row_82 : (n w : Tree) → Row82Empty n w → Kind n w
 row_82 n w (inl r) = kind_along n _ w _ r.shape r.written (row_82_or r.a r.empty r.b r.is_empty)
 row_82 n w (inr r) = kind_along n _ w _ r.shape r.written (row_82_and r.a r.empty r.b r.is_empty)
 
+-- a `switch` of one case
+
+-- the parts of it
+module _ (strict : Bool) (d t : Tree) (ts : Trees) where
+  abbrev OneCase : Type 0
+  OneCase = (fits strict expression d ≡ true) × (fits strict (one_or_absent an_expression) t ≡ true) × (fill strict (each statement) ts ≡ true)
+
+  one_case_fits : fits strict statement (one_case d t ts) ≡ true → OneCase
+  one_case_fits e =
+      let (discriminant, cases) = and_parts (fits strict expression d) (fits strict (many a_case) (listed (switch_case t ts ▸ none)) && true) e in
+      let case = left (fits strict (one a_case) (switch_case t ts)) true (left (fits strict (many a_case) (listed (switch_case t ts ▸ none))) true cases) in
+      let (test, body) = and_parts (fits strict (one_or_absent an_expression) t) (fits strict (many (a_statement nested)) (listed ts) && true) case in
+      (discriminant, test, left (fits strict (many (a_statement nested)) (listed ts)) true body)
+
+fill_ended : (strict : Bool) (b : Bool) (ss : Trees) → fill strict (each statement) (ended b ss) ≡ true → fill strict (each statement) ss ≡ true
+fill_ended strict false ss e = e
+fill_ended strict true none e = refl
+fill_ended strict true (t ▸ ss) e = later_and (fits strict statement t) _ _ (fill_ended strict true ss) e
+
+plain_fits : (strict : Bool) (f : PlainForm) → fits strict (one_or_absent an_expression) (plain f) ≡ true → fits strict expression (plain f) ≡ true
+plain_fits strict (a_number n) e = e
+plain_fits strict (a_text s) e = e
+plain_fits strict (a_boolean b) e = e
+plain_fits strict a_null e = e
+plain_fits strict (a_big_int n) e = e
+plain_fits strict (a_template l raw s) e = e
+plain_fits strict a_void e = e
+
+row_80_case : (d : Tree) (f : PlainForm) (b : Bool) (ss : Trees) → are_unscoped ss ≡ true → breaks_out (listed ss) ≡ false → Kind (one_case d (plain f) (ended b ss)) (if_alone (binary StrictEquality d (plain f)) (block ss))
+row_80_case d f b ss u s = record {
+  read = refl;
+  before = refl;
+  after = refl;
+  fitting = λ strict e.
+      let (discriminant, test, body) = one_case_fits strict d (plain f) (ended b ss) e in
+      both (fits strict expression (binary StrictEquality d (plain f))) (fits strict statement (block ss) && true) (two_fit strict d (plain f) discriminant (plain_fits strict f test)) (both (fits strict statement (block ss)) true (both (fill strict (each statement) ss) true (fill_ended strict b ss body) refl) refl);
+  core = λ strict e. case_is_kept d b ss u s f (expression_is_quiet strict d (one_case_fits strict d (plain f) (ended b ss) e).0);
+  said = case_says d b ss u s f;
+}
+
+row_80_default : (d : Tree) (b : Bool) (ss : Trees) → are_unscoped ss ≡ true → breaks_out (listed ss) ≡ false → Kind (one_case d absent (ended b ss)) (block (expression_statement d ▸ ss))
+row_80_default d b ss u s = record {
+  read = refl;
+  before = refl;
+  after = refl;
+  fitting = λ strict e.
+      let (discriminant, test, body) = one_case_fits strict d absent (ended b ss) e in
+      both (fits strict statement (expression_statement d) && fill strict (each statement) ss) true (both (fits strict statement (expression_statement d)) (fill strict (each statement) ss) (both (fits strict expression d) true discriminant refl) (fill_ended strict b ss body)) refl;
+  core = λ strict e. default_is_kept d b ss u s (expression_is_quiet strict d (one_case_fits strict d absent (ended b ss) e).0);
+  said = default_says d b ss u s;
+}
+
+row_80 : (n w : Tree) → SwitchRow n w → Kind n w
+row_80 n w (inl r) = kind_along n _ w _ r.shape r.written (row_80_case r.discriminant r.test r.is_ended r.statements r.unscoped r.stays)
+row_80 n w (inr r) = kind_along n _ w _ r.shape r.written (row_80_default r.discriminant r.is_ended r.statements r.unscoped r.stays)
+
 row_kind : (n w : Tree) → BodyRow n w ⊎ (Row82Empty n w ⊎ Row83 n w) → Kind n w
 row_kind n w (inl r) = body_kind n w r
 row_kind n w (inr (inl r)) = row_82 n w r
@@ -507,7 +580,8 @@ ends_stood n w (inr r) = let c = after r.first r.others r.last in
 -- ---- all
 
 statement_row : (p : Position) (n w : Tree) → BranchRow p n w → Stood n w
-statement_row (Stmt q) n w (inl r) = subst (λ x. Stood x w) (sym r.shape) (subst (λ y. Stood (return_statement r.argument) y) (sym r.written) (returned r.argument))
+statement_row (Stmt q) n w (inl (inr r)) = kind_stood n w (row_80 n w r)
+statement_row (Stmt q) n w (inl (inl r)) = subst (λ x. Stood x w) (sym r.shape) (subst (λ y. Stood (return_statement r.argument) y) (sym r.written) (returned r.argument))
 statement_row (Stmt q) n w (inr (inl r)) = kind_stood n w (row_kind n w (inl r))
 statement_row (Stmt q) n w (inr (inr (inl r))) = kind_stood n w (row_kind n w (inr (inl r)))
 statement_row (Stmt q) n w (inr (inr (inr (inl r)))) = kind_stood n w (row_kind n w (inr (inr r)))
@@ -519,7 +593,8 @@ row_place (Stmt q) n w r = refl
 row_place p n w r = absurd r
 
 row_kept : (p : Position) (n w : Tree) → BranchRow p n w → KeptAt p n w
-row_kept (Stmt q) n w (inl r) = return_kept q n w r
+row_kept (Stmt q) n w (inl (inr r)) = kind_kept q n w (row_80 n w r)
+row_kept (Stmt q) n w (inl (inl r)) = return_kept q n w r
 row_kept (Stmt q) n w (inr (inl r)) = kind_kept q n w (row_kind n w (inl r))
 row_kept (Stmt q) n w (inr (inr (inl r))) = kind_kept q n w (row_kind n w (inr (inl r)))
 row_kept (Stmt q) n w (inr (inr (inr (inl r)))) = kind_kept q n w (row_kind n w (inr (inr r)))

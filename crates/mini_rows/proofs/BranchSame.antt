@@ -30,6 +30,7 @@ use Rattle.mini_rows.proofs.BranchLoops.{row_79}
 use Rattle.mini_rows.proofs.BodyTails.{row_78_block, row_78_whole}
 use Rattle.mini_rows.proofs.LoopTests.{row_84}
 use Rattle.mini_rows.proofs.BooleanMeaning.{then_same}
+use Rattle.mini_rows.proofs.CaseMeaning.{switch_same}
 
 -- 60: `void a` means `void 0` where a has no effect
 
@@ -95,13 +96,15 @@ body_same n w (inr (inl (inr r))) = replaced n _ w _ r.shape r.written (row_78_w
 body_same n w (inr (inr r)) = replaced n _ w _ r.shape r.written (row_84 r.init r.update r.x r.test r.leading r.leaving (and_parts (is_there r.x) (not (may_leap r.x)) r.asked).0 r.tested r.unscoped r.loose)
 
 row_same : (p : Position) (n w : Tree) → BranchRow p n w → SameAt p n w
-row_same (Stmt q) n w (inl r) = return_same q n w r
+row_same (Stmt q) n w (inl (inl r)) = return_same q n w r
+row_same (Stmt q) n w (inl (inr r)) = statement_same n w (switch_same n w r) q
 row_same (Stmt q) n w (inr (inl r)) = statement_same n w (body_same n w r) q
 row_same (Stmt q) n w (inr (inr r)) = statement_same n w (if_same n w r) q
 row_same p n w r = absurd r
 
 row_reads : (p : Position) (n w : Tree) → BranchRow p n w → summary n ≡ summary w
-row_reads (Stmt q) n w (inl r) = ap summary r.shape ∙ sym (ap summary r.written)
+row_reads (Stmt q) n w (inl (inl r)) = ap summary r.shape ∙ sym (ap summary r.written)
+row_reads (Stmt q) n w (inl (inr r)) = (switch_same n w r).read
 row_reads (Stmt q) n w (inr (inl r)) = (body_same n w r).read
 row_reads (Stmt q) n w (inr (inr r)) = (if_same n w r).read
 row_reads p n w r = absurd r

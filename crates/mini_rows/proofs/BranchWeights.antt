@@ -23,6 +23,8 @@ use Rattle.mini_rows.specs.Branches.{IsEmpty, IsIdleVoid, has_else, is_other_bra
 use Rattle.mini_rows.proofs.BranchEnds.{ends_lighter, ends_fall}
 use Rattle.mini_rows.proofs.ListWeights.{total, total_append, list_is}
 use Rattle.mini_rows.proofs.LoopWeights.{row_84}
+use Rattle.mini_rows.specs.Cases.{SwitchRow}
+use Rattle.mini_rows.proofs.CaseWeights.{switch_lighter}
 
 -- this much, where it is not so
 abbrev unless : Bool → ℕ → ℕ
@@ -253,7 +255,8 @@ body_row q n w (inr (inl (inr r))) = omega (arith, row_78_whole q r.place r.loop
 body_row q n w (inr (inr r)) = omega (arith, row_84 q r.init r.update r.x r.test r.leading r.leaving r.loose, ap (weight (Stmt q)) r.shape, ap (weight (Stmt q)) r.written)
 
 row_lighter : (q : StmtSeat) (n w : Tree) → BranchRow (Stmt q) n w → weight (Stmt q) w < weight (Stmt q) n
-row_lighter q n w (inl r) = omega (arith, row_60 q r.argument r.undefined, ap (weight (Stmt q)) r.shape, ap (weight (Stmt q)) r.written)
+row_lighter q n w (inl (inr r)) = switch_lighter q n w r
+row_lighter q n w (inl (inl r)) = omega (arith, row_60 q r.argument r.undefined, ap (weight (Stmt q)) r.shape, ap (weight (Stmt q)) r.written)
 row_lighter q n w (inr (inl r)) = body_row q n w r
 row_lighter q n w (inr (inr (inl r))) = let falls = empty_row q n w r in omega (arith, falls)
 row_lighter q n w (inr (inr (inr (inl r)))) = row_83 q n w r
@@ -309,8 +312,13 @@ ends_outlined : (q : StmtSeat) (n w : Tree) → Row82Ends n w → Outlined (Stmt
 ends_outlined q n w (inl r) = outlined (Stmt q) n _ w _ r.shape r.written (record { absent = refl; items = refl; is_zero = refl; chooses = inl (λ e. e) })
 ends_outlined q n w (inr r) = outlined (Stmt q) n _ w _ r.shape r.written (record { absent = refl; items = refl; is_zero = refl; chooses = inr (ends_fall q n w r) })
 
+switch_outlined : (q : StmtSeat) (n w : Tree) → SwitchRow n w → Outlined (Stmt q) n w
+switch_outlined q n w (inl r) = outlined (Stmt q) n _ w _ r.shape r.written (record { absent = refl; items = refl; is_zero = refl; chooses = inl (λ e. e) })
+switch_outlined q n w (inr r) = outlined (Stmt q) n _ w _ r.shape r.written (record { absent = refl; items = refl; is_zero = refl; chooses = inl (λ e. e) })
+
 row_outlined : (q : StmtSeat) (n w : Tree) → BranchRow (Stmt q) n w → Outlined (Stmt q) n w
-row_outlined q n w (inl r) = outlined (Stmt q) n _ w _ r.shape r.written (record { absent = refl; items = refl; is_zero = refl; chooses = inl (λ e. e) })
+row_outlined q n w (inl (inr r)) = switch_outlined q n w r
+row_outlined q n w (inl (inl r)) = outlined (Stmt q) n _ w _ r.shape r.written (record { absent = refl; items = refl; is_zero = refl; chooses = inl (λ e. e) })
 row_outlined q n w (inr (inl r)) = body_outlined q n w r
 row_outlined q n w (inr (inr (inl r))) = empty_outlined q n w r
 row_outlined q n w (inr (inr (inr (inl r)))) = row_83_outlined q n w r

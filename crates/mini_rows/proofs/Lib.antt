@@ -166,3 +166,7 @@ pub mod LoopKept
 pub mod WriteMeaning
 pub mod WriteWeights
 pub mod WriteLawful
+pub mod UnbrokenRuns
+pub mod CaseMeaning
+pub mod CaseWeights
+pub mod CaseKept

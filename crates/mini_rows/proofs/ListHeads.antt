@@ -58,7 +58,7 @@ pub scoped_is : (e : Environment) (names : Naming) {q : ℕ → Demand} {A : Typ
 unfolding either act
 scoped_is e names c K s = run_attempt e names c (λ x. op hide (then (λ u. as_ended x))) K (leave names s) ∙ either_cong (run e names K c (leave names s)) _ _ _ _ (λ a z. refl) (λ x z. refl)
 
-leave_nothing : (names : Naming) → names.scope ≡ [] → (s : State) → leave names s ≡ s
+pub leave_nothing : (names : Naming) → names.scope ≡ [] → (s : State) → leave names s ≡ s
 leave_nothing names h s = ap (λ l. with_vars s (hide_all l s.vars)) h
 
 pub leaving_nothing : {A : Type 0} (names : Naming) → names.scope ≡ [] → (x : Completion A) → leaving names x ≡ x
@@ -66,7 +66,7 @@ leaving_nothing names h x = either_cong x _ _ _ _ (λ a z. ap (λ y. ok a y) (le
 
 -- ---- `switch`
 
-unbroke : Stop → State → Completion (Unit {0})
+unfoldable pub unbroke : Stop → State → Completion (Unit {0})
 unbroke (Broken None) z = ok tt z
 unbroke x z = stop x z
 
@@ -75,20 +75,20 @@ unfolding unbroke
 unbroken_is e names q K (Broken None) z = refl
 unbroken_is e names q K x z = refl
 
-abbrev no_kids : Kids (λ i. Stat None)
+abbrev pub no_kids : Kids (λ i. Stat None)
 no_kids i r s = out
 
-abbrev switch_names : List Variable → List Hoisted → Tree → Naming
+abbrev pub switch_names : List Variable → List Hoisted → Tree → Naming
 switch_names l hs cases = record { own = []; written = []; bound = []; number = 0; scope = (l ++ lets_all (summaries (cases ▸ none))) ++ function_names (hs ++ functions_all (summaries (cases ▸ none))); functions = hs ++ functions_all (summaries (cases ▸ none)) }
 
-pub switch_rest : Environment → List Variable → List Hoisted → List FunctionFact → Tree → Value → State → Completion (Unit {0})
+unfoldable pub switch_rest : Environment → List Variable → List Hoisted → List FunctionFact → Tree → Value → State → Completion (Unit {0})
 switch_rest e l hs fs cases v z = leaving (switch_names l hs cases) (either (run {q = λ i. Stat None} e (switch_names l hs cases) no_kids (create_functions true (fs ++ function_facts (facts (cases ▸ none))) 0) (leave (switch_names l hs cases) z)) (λ u y. either (means e cases Cases v y) (λ u x. ok tt x) (λ x w. unbroke x w)) (λ x y. stop x y))
 
 module _ (e : Environment) (d : Tree) (cases : Tree) where
   abbrev switch_kids : Kids (first_demand (As Val) Cases)
   switch_kids i r z = meaning e (d ▸ (cases ▸ none)) i (first_demand (As Val) Cases i) r z
 
-  switch_is : (r : LabelSet) (s : State) → means e (switch d cases) (Stat None) r s ≡ either (means e d (As Val) tt s) (λ v z. switch_rest e (summary d).lets (summary d).functions (summary d).facts.functions cases v z) (λ x z. stop x z)
+  pub switch_is : (r : LabelSet) (s : State) → means e (switch d cases) (Stat None) r s ≡ either (means e d (As Val) tt s) (λ v z. switch_rest e (summary d).lets (summary d).functions (summary d).facts.functions cases v z) (λ x z. stop x z)
   unfolding means meaning step switch_rest
   switch_is r s =
       finished e (naming shape.SwitchStatement (Stat None) [] 0 (summaries (d ▸ (cases ▸ none)))) (first_demand (As Val) Cases) switch_kids None (switch_step (facts (d ▸ (cases ▸ none)))) s ∙ finish_none _

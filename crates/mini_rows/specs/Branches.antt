@@ -1,4 +1,4 @@
--- Rows of `if`, of blocks as branches and as bodies of loops, and of `return` without a value: each is a shape and what is
+-- Rows of `if`, of blocks as branches and as bodies of loops, of a `switch` of one case, and of `return` without a value: each is a shape and what is
 -- written in its place, with the JavaScript before and after.
 use Rattle.std.specs.Prelude.{◌≡◌, ◌⊎◌, ◌<◌, Bool, true, false, not, [], if◌then◌else◌}
 use Rattle.mini_model.specs.declared.operator.LogicalOperator.TheVariants.{Or, And}
@@ -18,6 +18,7 @@ use Rattle.mini_terms.specs.Parts.{leaves_nothing}
 use Rattle.mini_rows.specs.Lists.{block, return_statement, is_unscoped, sequence}
 use Rattle.mini_rows.specs.Loops.{Row84}
 use Rattle.mini_rows.specs.Spellings.{IsUndefined}
+use Rattle.mini_rows.specs.Cases.{SwitchRow}
 
 -- ---- terms
 
@@ -251,9 +252,13 @@ Row78 n w = Row78Block n w ⊎ Row78Whole n w
 abbrev pub BodyRow : Tree → Tree → Type 0
 BodyRow n w = Row79 n w ⊎ (Row78 n w ⊎ Row84 n w)
 
+-- of `return` without a value, and of a `switch` of one case
+abbrev pub StatementRow : Tree → Tree → Type 0
+StatementRow n w = Row60 n w ⊎ SwitchRow n w
+
 -- a row reads n as w at this place
 abbrev pub BranchRow : Position → Tree → Tree → Type 0
-BranchRow (Stmt q) n w = Row60 n w ⊎ (BodyRow n w ⊎ IfRow n w)
+BranchRow (Stmt q) n w = StatementRow n w ⊎ (BodyRow n w ⊎ IfRow n w)
 BranchRow _ n w = ⊥
 
 -- what a row writes, where it weighs less

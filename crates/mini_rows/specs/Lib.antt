@@ -28,3 +28,4 @@ pub mod Templates
 pub mod Names
 pub mod Catches
 pub mod Writes
+pub mod Cases

@@ -4,6 +4,7 @@ ghost use Rattle.mini_laws.specs.Rewritten.{MeansSame};
 ghost use Rattle.mini_laws.specs.Weights.{Lightens};
 ghost use Rattle.mini_kept.specs.Lawful.{Lawful};
 ghost use Rattle.mini_rows.specs.Branches.{BranchContracts, BranchLighter};
+ghost use Rattle.mini_rows.specs.Cases.{NeverBreaksOut};
 
 /// What each row writes means the same in every demand that fits its place, and is read alike.
 pub fn branches_same()
@@ -20,4 +21,9 @@ pub fn branches_lighten()
 /// What each row writes keeps all that a program has to keep.
 pub fn branches_are_lawful()
     ensures { Lawful BranchContracts }
+{}
+
+/// No run of a tree ends with a `break` without a label where none stands in it but in loops, in cases and in functions.
+pub fn never_breaks_out()
+    ensures { NeverBreaksOut }
 {}
