@@ -95,7 +95,7 @@ cooked_is (node (shape.TemplateElement l raw (Some s)) [] zero none) e = (l, (ra
 cooked_is (node (shape.TemplateElement l raw None) xs n ts) e = absurd (cc e)
 cooked_is t e = absurd (cc e)
 
-one_item : (t : Tree) → is_list_of 1 t ≡ true → t ≡ listed (part t 0 ▸ none)
+pub one_item : (t : Tree) → is_list_of 1 t ≡ true → t ≡ listed (part t 0 ▸ none)
 one_item (node shape.Listed [] zero (a ▸ none)) e = refl
 one_item t e = absurd (cc e)
 

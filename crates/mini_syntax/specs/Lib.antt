@@ -8,6 +8,7 @@ pub mod SubstituteTypeofUndefined
 pub mod SubstituteTemplateLiteral
 pub mod SubstituteYieldExpression
 pub mod SubstituteReturnStatement
+pub mod MinimizeSwitchStatements
 pub mod SubstituteObjectProperty
 pub mod SubstituteBindingProperty
 pub mod SubstitutePropertyKey

@@ -7,6 +7,9 @@ mod rewrites;
 
 pub use laws::{keys_are_rows, property_keys_are_rows, returns_are_rows, spellings_are_rows};
 pub use rewrites::convert_to_dotted_properties::convert_to_dotted_properties;
+pub use rewrites::minimize_switch_statements::{
+    MinimizeSwitches, can_switch_case_be_inlined, minimize_switch_statement,
+};
 pub use rewrites::substitute_arrow_expression::{SubstituteArrows, substitute_arrow_expression};
 pub use rewrites::substitute_binding_property::substitute_binding_property;
 pub use rewrites::substitute_boolean::substitute_boolean;

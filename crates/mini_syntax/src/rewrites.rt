@@ -1,4 +1,5 @@
 pub mod convert_to_dotted_properties;
+pub mod minimize_switch_statements;
 pub mod substitute_arrow_expression;
 pub mod substitute_binding_property;
 pub mod substitute_boolean;
