@@ -21,6 +21,7 @@ use Rattle.mini_logic.specs.Joined as logic_law
 use Rattle.mini_logic.specs.MinimizeBody as bodies
 use Rattle.mini_logic.proofs.Joined as logic
 use Rattle.mini_syntax.specs.SubstituteReturnStatement as returns
+use Rattle.mini_syntax.specs.MinimizeSwitchStatements as switch
 use Rattle.mini_peephole.specs.Faithful.{switches}
 use Rattle.mini_peephole.specs.Rules.{Gives, Rests, AllGives, AllRests}
 
@@ -52,8 +53,12 @@ module _ (o : CompressOptions) (q : Tree) where
   bodies_contract (Stmt s) t u r = record { row = of_branches (switches o) (Stmt s) t u (inr (inl r.0)); lighter = r.1 }
   bodies_contract p t u r = absurd r
 
+  switches_contract : (p : Position) (t u : Tree) → switch.Gives p t u → Contracts (switches o) p t u
+  switches_contract (Stmt s) t u r = record { row = of_branches (switches o) (Stmt s) t u (inl (inr r.0)); lighter = r.1 }
+  switches_contract p t u r = absurd r
+
   returns_contract : (p : Position) (t u : Tree) → returns.Gives p t u → Contracts (switches o) p t u
-  returns_contract (Stmt s) t u r = record { row = of_branches (switches o) (Stmt s) t u (inl r.0); lighter = r.1 }
+  returns_contract (Stmt s) t u r = record { row = of_branches (switches o) (Stmt s) t u (inl (inl r.0)); lighter = r.1 }
   returns_contract p t u r = absurd r
 
   pub gives_contract : (p : Position) (t u : Tree) → Gives o q p t u → Contracts (switches o) p t u
@@ -74,7 +79,8 @@ module _ (o : CompressOptions) (q : Tree) where
   gives_contract p t u (inr (inr (inr (inr (inr (inr (inr (inr (inr (inr (inr (inr (inr (inr (inl c))))))))))))))) = record { row = inr (inr (inr (inr (inr (inr (inr (inr (inr (inr (inr (inr (inr (inr (inl c.row)))))))))))))); lighter = c.lighter }
   gives_contract p t u (inr (inr (inr (inr (inr (inr (inr (inr (inr (inr (inr (inr (inr (inr (inr (inl c)))))))))))))))) = record { row = inr (inr (inr (inr (inr (inr (inr (inr (inr (inr (inr (inr (inr (inr (inr (inl c.row))))))))))))))); lighter = c.lighter }
   gives_contract p t u (inr (inr (inr (inr (inr (inr (inr (inr (inr (inr (inr (inr (inr (inr (inr (inr (inl c))))))))))))))))) = record { row = inr (inr (inr (inr (inr (inr (inr (inr (inr (inr (inr (inr (inr (inr (inr (inr (inl c.row)))))))))))))))); lighter = c.lighter }
-  gives_contract p t u (inr (inr (inr (inr (inr (inr (inr (inr (inr (inr (inr (inr (inr (inr (inr (inr (inr c))))))))))))))))) = record { row = inr (inr (inr (inr (inr (inr (inr (inr (inr (inr (inr (inr (inr (inr (inr (inr (inr c.row)))))))))))))))); lighter = c.lighter }
+  gives_contract p t u (inr (inr (inr (inr (inr (inr (inr (inr (inr (inr (inr (inr (inr (inr (inr (inr (inr (inl c)))))))))))))))))) = record { row = inr (inr (inr (inr (inr (inr (inr (inr (inr (inr (inr (inr (inr (inr (inr (inr (inr c.row)))))))))))))))); lighter = c.lighter }
+  gives_contract p t u (inr (inr (inr (inr (inr (inr (inr (inr (inr (inr (inr (inr (inr (inr (inr (inr (inr (inr c)))))))))))))))))) = switches_contract p t u c
 
   pub all_contract : (p : Position) (t u : Tree) → AllGives o q p t u → Rewrites (switches o) (writable_in q) p t u
   all_contract p t u (inl r) = inl (gives_contract p t u r)
@@ -89,7 +95,8 @@ module _ (o : CompressOptions) (q : Tree) where
   logic_settled p t u small r row less = logic.rests_settle p t small r u (record { row = row; lighter = less })
 
   branch_settled : (p : Position) (t u : Tree) → weight p t < 2 ^ 64 → Rests o q p t → BranchRow p t u → weight p u < weight p t → ⊥
-  branch_settled (Stmt s) t u small r (inl row) less = r.1.1.0 u row
+  branch_settled (Stmt s) t u small r (inl (inl row)) less = r.1.1.0 u row
+  branch_settled (Stmt s) t u small r (inl (inr row)) less = r.1.1.1.1.1.1.1.1.1.1.1.1.1.1.1.1.1.1 u row
   branch_settled (Stmt s) t u small r (inr (inl row)) less = r.1.0 u row
   branch_settled (Stmt s) t u small r (inr (inr row)) less = logic_settled (Stmt s) t u small r.0 (inr (inl row)) less
   branch_settled p t u small r row less = absurd row
@@ -121,7 +128,7 @@ module _ (o : CompressOptions) (q : Tree) where
   settled p t u small r (inr (inr (inr (inr (inr (inr (inr (inr (inr (inr (inr (inr (inr (inr (inl row))))))))))))))) less = r.1.1.1.1.1.1.1.1.1.1.1.1.1.1.0 u row
   settled p t u small r (inr (inr (inr (inr (inr (inr (inr (inr (inr (inr (inr (inr (inr (inr (inr (inl row)))))))))))))))) less = r.1.1.1.1.1.1.1.1.1.1.1.1.1.1.1.0 u row
   settled p t u small r (inr (inr (inr (inr (inr (inr (inr (inr (inr (inr (inr (inr (inr (inr (inr (inr (inl row))))))))))))))))) less = r.1.1.1.1.1.1.1.1.1.1.1.1.1.1.1.1.0 small u (record { row = row; lighter = less })
-  settled p t u small r (inr (inr (inr (inr (inr (inr (inr (inr (inr (inr (inr (inr (inr (inr (inr (inr (inr row))))))))))))))))) less = r.1.1.1.1.1.1.1.1.1.1.1.1.1.1.1.1.1 small u (record { row = row; lighter = less })
+  settled p t u small r (inr (inr (inr (inr (inr (inr (inr (inr (inr (inr (inr (inr (inr (inr (inr (inr (inr row))))))))))))))))) less = r.1.1.1.1.1.1.1.1.1.1.1.1.1.1.1.1.1.0 small u (record { row = row; lighter = less })
 
   all_settled : (p : Position) (t u : Tree) → weight p t < 2 ^ 64 → AllRests o q p t → Rewrites (switches o) (writable_in q) p t u → ⊥
   all_settled p t u small r (inl c) = settled p t u small r.0 c.row c.lighter

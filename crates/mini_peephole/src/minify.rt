@@ -25,8 +25,8 @@ use mini_logic::{
 };
 use mini_stmt::MinimizeStatements;
 use mini_syntax::{
-    SubstituteArrows, SubstituteDeclarations, SubstituteKeys, SubstitutePropertyKeys,
-    SubstituteReturns, SubstituteSpellings,
+    MinimizeSwitches, SubstituteArrows, SubstituteDeclarations, SubstituteKeys,
+    SubstitutePropertyKeys, SubstituteReturns, SubstituteSpellings,
 };
 use mini_tree::{
     CompressOptions, Numbers, OutOfMemory, Passes, Position, Program, Then, discard, run_passes,
@@ -93,7 +93,10 @@ type Spellings = Then<
                                                     FoldSequences,
                                                     Then<
                                                         FoldOperands,
-                                                        Then<MinimizeNegations, FoldTemplates>,
+                                                        Then<
+                                                            MinimizeNegations,
+                                                            Then<FoldTemplates, MinimizeSwitches>,
+                                                        >,
                                                     >,
                                                 >,
                                             >,
@@ -149,7 +152,10 @@ const KEEPING_RULES: Then<Logic, Then<MinimizeBodies, Spellings>> = Then {
                                                                 first: FoldOperands,
                                                                 second: Then {
                                                                     first: MinimizeNegations,
-                                                                    second: FoldTemplates,
+                                                                    second: Then {
+                                                                        first: FoldTemplates,
+                                                                        second: MinimizeSwitches,
+                                                                    },
                                                                 },
                                                             },
                                                         },

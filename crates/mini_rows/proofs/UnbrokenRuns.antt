@@ -528,7 +528,7 @@ tame_list fs d r = tt
 tame_name : (q : ℕ → Demand) (d : Demand) (r : Request d) → Tame {q = q} every (binding_name d r)
 unfolding Tame
 tame_name q (Binds true) v = ((λ u. tt), (λ x n. n))
-tame_name q (Binds false) v = ((λ u. tt), (λ x n. n))
+tame_name q (Binds false) v = tame_put_own q every v
 tame_name q d r = tt
 
 tame_pattern : (q : ℕ → Demand) (d : Demand) (r : Request d) → Tame {q = q} every (binding_pattern d r)

@@ -25,7 +25,7 @@ mod unused;
 mod writes;
 
 pub use booleans::{booleans_are_lawful, booleans_are_lighter, booleans_mean_the_same};
-pub use branches::{branches_are_lawful, branches_lighten, branches_same};
+pub use branches::{branches_are_lawful, branches_lighten, branches_same, never_breaks_out};
 pub use catches::{catches_are_lawful, catches_lighten};
 pub use choices::{choices_are_lawful, choices_are_lighter, choices_mean_the_same};
 pub use constants::{constants_are_lawful, constants_lighten, constants_mean_the_same};

@@ -84,4 +84,4 @@ applied q t u b e f = subst (λ v. Applied Gives Rests (Stmt q) t v b) (sym e) (
   where
     go : (o : Option Tree) → written t ≡ o → Applied Gives Rests (Stmt q) t (unwrap_or o t) (is_some o)
     go None h = (refl, unwritten_rests q t h)
-    go (Some w) h = let row = written_is_row t w h in moves_once Gives (Stmt q) t w (row, branch_lighter (Stmt q) t w (inl row))
+    go (Some w) h = let row = written_is_row t w h in moves_once Gives (Stmt q) t w (row, branch_lighter (Stmt q) t w (inl (inl row)))

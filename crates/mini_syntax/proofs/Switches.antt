@@ -283,4 +283,4 @@ applied q t u b e f = subst (λ v. Applied Gives Rests (Stmt q) t v b) (sym e) (
   where
     go : (c : Bool) → inlines t ≡ c → Applied Gives Rests (Stmt q) t (unwrap_or (if c then Some (inlined t) else None) t) (is_some (if c then Some (inlined t) else None))
     go false h = (refl, λ w r. never t w h r)
-    go true h = let is = row_of t h in moves_once Gives (Stmt q) t (inlined t) (is, branch_lighter (Stmt q) t (inlined t) (inr (inl (inr is))))
+    go true h = let is = row_of t h in moves_once Gives (Stmt q) t (inlined t) (is, branch_lighter (Stmt q) t (inlined t) (inl (inr is)))

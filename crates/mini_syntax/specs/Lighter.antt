@@ -26,14 +26,14 @@ pub keys_lighter : IsLighter keyed.Gives
 keys_lighter = any_step_lighter keyed.Gives keys.lightens
 
 pub return_contracts : returning.GivesContracts
-return_contracts (Stmt q) n w r = record { row = inl r.0; lighter = r.1 }
+return_contracts (Stmt q) n w r = record { row = inl (inl r.0); lighter = r.1 }
 return_contracts p n w r = absurd r
 
 pub returns_lighter : IsLighter returning.Gives
 returns_lighter p t u s = any_step_lighter BranchContracts branches_lighten p t u (step_of returning.Gives BranchContracts return_contracts p t u s)
 
 pub switch_contracts : switching.GivesContracts
-switch_contracts (Stmt q) n w r = record { row = inr (inl (inr r.0)); lighter = r.1 }
+switch_contracts (Stmt q) n w r = record { row = inl (inr r.0); lighter = r.1 }
 switch_contracts p n w r = absurd r
 
 pub switches_lighter : IsLighter switching.Gives
