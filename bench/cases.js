@@ -433,6 +433,10 @@ becomes("branches that change places", "if (a, !b) c(); else d();", "a, b ? d() 
 
 becomes("what is chosen is read by another rewrite", "function F(a, f) { return a == null ? f(2) : f(a); }", "function F(a, f) { return f(a ?? 2); }", { kept: 2, symbols: 3, passes: 3 });
 
+// ---- a switch of one case
+
+becomes("a case that is known to be taken", "switch (1) { case 1: b(); }", "b();", { passes: 3 });
+
 // ---- what is no reference under `delete`
 
 becomes("a test that is known then", "if (delete a()) b();", "a(), b();", { passes: 3 });
