@@ -279,7 +279,7 @@ becomes("a template", "x = `a${!b ? 1 : 2}c${function () { if (d) e(); }}`;", "x
 becomes("a template with a tag, and malformed text", "(!a ? b : c)`d${!e ? 1 : 2}\\u`;", "(a ? c : b)`d${e ? 2 : 1}\\u`;", { kept: 4 });
 becomes("regular expressions", "if (!/a+/g.test(b)) c(/d/);", "/a+/g.test(b) || c(/d/);", { kept: 3 });
 becomes("import() and import.meta change places", 'if (import.meta.a) import("b"); x = !y ? import(z) : import.meta;', 'import.meta.a && import("b"), x = y ? import.meta : import(z);', { kept: [0, 1, 2, 3, 6, 4, 5] });
-becomes("chains", "if (a?.b) c?.(); if (!d?.[e].f) g?.h(i?.j); x = (!k?.l)?.m;", "a?.b && c?.(), d?.[e].f || g?.h(i?.j), x = (!k?.l)?.m;");
+becomes("chains", "if (a?.b) c?.(); if (!d?.[e].f) g?.h(i?.j); x = (!k?.l)?.m;", "a?.b && c?.(), d?.[e].f || g?.h(i?.j), x = (!k?.l).m;");
 becomes(
   "new, spreads and sequences",
   "new (!a ? B : C)(...!d ? e : f); g(!h ? 1 : 2, ...i), !!(j, k) || l(); !!(m, n) && o();",
@@ -294,7 +294,7 @@ becomes(
   z = s == t != u === v !== w; a < b <= c > d >= e; f in g instanceof h;
   if (!i) j ||= k &&= l ??= m;
   n += o -= p *= q /= r %= s **= t <<= u >>= v >>>= w &= x ^= y |= z;`,
-  `x = +a - -b * c ** d % !e / ~f, typeof g, void 0, delete h.i, j++, --k,
+  `x = +a - -b * c ** d % !e / ~f, delete h.i, j++, --k,
   y = (l | m ^ n & o) << p >> q >>> r,
   z = s == t != u === v !== w, a < b <= c > d >= e, f in g instanceof h,
   i || (j ||= k &&= l ??= m),
