@@ -18,7 +18,7 @@ use Rattle.mini_kept.specs.SameNames.{is_among, SameNames}
 use Rattle.mini_kept.proofs.Statements.{same_both}
 use Rattle.mini_kept.proofs.Below.{all_bound, first_bound}
 use Rattle.mini_kept.specs.Standing.{is_method_slot}
-use Rattle.mini_kept.specs.Frames.{Showing, Whole, Named, Hidden, showing, part, parts, keyed, is_declaration, declaration, shown, shown_from, own, is_port, ports, outline, globals, property_below, Frame, frame_of, frames, frames_from, frames_in, FramesKept}
+use Rattle.mini_kept.specs.Frames.{Showing, Whole, Named, Hidden, showing, in_full, part, parts, keyed, is_declaration, declaration, shown, shown_from, own, is_port, ports, outline, globals, property_below, Frame, frame_of, frames, frames_from, frames_in, FramesKept}
 use Rattle.mini_kept.specs.KeepsFrames.{is_body_slot, IsShownAlike, NoPort, NoDeclaration, function_over, KeepsFunction, KeepsFrames, KeepsPlaces, KeepsFramesBut}
 use Rattle.mini_kept.specs.ShownFrames.{KeyGiven, Shows, AllShow, Gone, none_gone, FramesShown}
 use Rattle.mini_kept.specs.KeepsBodies.{KeepsBodies}
@@ -326,7 +326,7 @@ module _ (M : Gone) (R : Position → Tree → Tree → Type 0) (l : KeepsPlaces
   module _ (p : Position) (h : Shape) (xs : List Name) (ts us : Trees) (all : AllKeep M (child_position h p (count ts)) ts us) (a : Around) where
     part_inside : (n : ℕ) (strict : Bool) (s : Slot) → fits_place p s ≡ true → fits strict s (node h xs n ts) ≡ true → is_part_slot s ≡ true → Shows (In a (node h xs n ts)) (part (node h xs n ts)) (part (node h xs n us))
     part_inside zero strict s v e q =
-        over_shown (In a (node h xs 0 ts)) h xs 0 (keyed h (parts ts)) (keyed h (parts us)) (keyed_shown (In a (node h xs 0 ts)) h (parts ts) (parts us)
+        over_shown (In a (node h xs 0 ts)) (in_full h) xs 0 (keyed h (parts ts)) (keyed h (parts us)) (keyed_shown (In a (node h xs 0 ts)) h (parts ts) (parts us)
         (node_more a h xs 0 ts (parts ts) (parts us) (all.of_parts (below a h ts) 0 (is_strict_in strict h) (filling strict s h) (placed_below strict s h p (count ts) v) (children_fill strict s h xs 0 ts e) 0 (part_right strict s h q (number_fits strict s h xs 0 ts e)))))
     part_inside (suc n) strict s v e q = shows_itself (In a (node h xs (suc n) ts)) (node h xs (suc n) none)
 

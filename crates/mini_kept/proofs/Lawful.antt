@@ -58,6 +58,7 @@ module _ (R : Position → Tree → Tree → Type 0) (l : KeepsNames R) where
 pub keyless_program : (t : Tree) → IsWellShaped t → has_key (shape_of t) ≡ false
 keyless_program (node (shape.BindingProperty s c) xs n ts) e = absurd (refused_here false (one a_program) (shape.BindingProperty s c) xs n ts refl e)
 keyless_program (node (shape.AssignmentTargetPropertyProperty c) xs n ts) e = absurd (refused_here false (one a_program) (shape.AssignmentTargetPropertyProperty c) xs n ts refl e)
+keyless_program (node shape.AssignmentTargetPropertyIdentifier xs n ts) e = absurd (refused_here false (one a_program) shape.AssignmentTargetPropertyIdentifier xs n ts refl e)
 keyless_program (node (shape.MethodDefinition k c s) xs n ts) e = absurd (refused_here false (one a_program) (shape.MethodDefinition k c s) xs n ts refl e)
 keyless_program (node (shape.PropertyDefinition c s) xs n ts) e = absurd (refused_here false (one a_program) (shape.PropertyDefinition c s) xs n ts refl e)
 keyless_program (node h xs n ts) e = refl

@@ -41,6 +41,7 @@ constructor_is (node h xs n ts) = refl
 constructor_plain : (h : Shape) → constructor_by (unbracketed h) ≡ constructor_by h
 constructor_plain (shape.BindingProperty s c) = refl
 constructor_plain (shape.AssignmentTargetPropertyProperty c) = refl
+constructor_plain shape.AssignmentTargetPropertyIdentifier = refl
 constructor_plain (shape.MethodDefinition k c s) = refl
 constructor_plain (shape.PropertyDefinition c s) = refl
 constructor_plain h = refl
@@ -57,6 +58,7 @@ positive_is (node h xs n ts) = refl
 positive_plain : (h : Shape) → positive_by (unbracketed h) ≡ positive_by h
 positive_plain (shape.BindingProperty s c) = refl
 positive_plain (shape.AssignmentTargetPropertyProperty c) = refl
+positive_plain shape.AssignmentTargetPropertyIdentifier = refl
 positive_plain (shape.MethodDefinition k c s) = refl
 positive_plain (shape.PropertyDefinition c s) = refl
 positive_plain h = refl

@@ -120,6 +120,7 @@ module _ (G : Keys) where
   key_bare : (h : Shape) (xs : List Name) (n : ℕ) (ts us : Trees) → has_key h ≡ true → ShowsBare G h (unbracketed h) ts us → Shows G (property_key (node h xs n ts)) (property_key (node (unbracketed h) xs n us))
   key_bare (shape.BindingProperty s c) xs n ts us e b = (refl, refl, inr b)
   key_bare (shape.AssignmentTargetPropertyProperty c) xs n ts us e b = (refl, refl, inr b)
+  key_bare shape.AssignmentTargetPropertyIdentifier xs n ts us e b = (refl, refl, inr b)
   key_bare (shape.MethodDefinition k c s) xs n ts us e b = (refl, refl, inr b)
   key_bare (shape.PropertyDefinition c s) xs n ts us e b = (refl, refl, inr b)
   key_bare h xs n ts us e b = absurd (false≢true e)
@@ -175,6 +176,7 @@ module _ (G H : Keys) (more : (n : ℕ) (s : List ℕ) → G n s → H n s) wher
 no_keyed_name : (h : Shape) → has_key h ≡ true → is_named_expression h ≡ true → ⊥
 no_keyed_name (shape.BindingProperty s c) k e = false≢true e
 no_keyed_name (shape.AssignmentTargetPropertyProperty c) k e = false≢true e
+no_keyed_name shape.AssignmentTargetPropertyIdentifier k e = false≢true e
 no_keyed_name (shape.MethodDefinition l c s) k e = false≢true e
 no_keyed_name (shape.PropertyDefinition c s) k e = false≢true e
 no_keyed_name h k e = false≢true k
@@ -182,6 +184,7 @@ no_keyed_name h k e = false≢true k
 no_bare_name : (h : Shape) → has_key h ≡ true → is_named_expression (unbracketed h) ≡ true → ⊥
 no_bare_name (shape.BindingProperty s c) k e = false≢true e
 no_bare_name (shape.AssignmentTargetPropertyProperty c) k e = false≢true e
+no_bare_name shape.AssignmentTargetPropertyIdentifier k e = false≢true e
 no_bare_name (shape.MethodDefinition l c s) k e = false≢true e
 no_bare_name (shape.PropertyDefinition c s) k e = false≢true e
 no_bare_name h k e = false≢true k

@@ -142,6 +142,14 @@ nested : frames None (numbered 1 shape.ArrayAssignmentTarget (listed (numbered 2
     ∷ inner_framed 3 ∷ inner_framed 4 ∷ []
 nested = refl
 
+-- `({ x, y = 1 } = ..)`: a shorthand as what it is short for
+shorthands : frames None (numbered 1 shape.ObjectAssignmentTarget (listed (two shape.AssignmentTargetPropertyIdentifier (label (codes "x")) (global (codes "x"))
+    ▸ two shape.AssignmentTargetPropertyIdentifier (label (codes "y")) (two shape.AssignmentPattern (global (codes "y")) (inner 2 (number 1))) ▸ none) ▸ none)) ≡
+    framed 1 (numbered 1 shape.ObjectAssignmentTarget (listed (two (shape.AssignmentTargetPropertyProperty false) (text (codes "x")) (global (codes "x"))
+    ▸ two (shape.AssignmentTargetPropertyProperty false) (text (codes "y")) (two shape.AssignmentPattern (global (codes "y")) (inner_left 2)) ▸ none) ▸ none))
+    ∷ inner_framed 2 ∷ []
+shorthands = refl
+
 -- a script, `var a; { var b; let c; } f(); for (var d of o) ; function g() {}`: the names that `var` declares, and the
 -- functions, stand in its frame
 script_names : frames_in (script (declaration Var (bound 0) absent ▸ block (declaration Var (bound 1) absent ▸ declaration Let (bound 2) absent ▸ none) ▸ does (called (global (codes "f")))

@@ -1,5 +1,6 @@
 -- What of a program stands in no body: the frame of each node that has a number. A function's has its kind, its directives,
--- its name and its parameters, and a carried node's all but the bodies in it; of a key it has the property that the key names. In both a node that has a number stands for
+-- its name and its parameters, and a carried node's all but the bodies in it; of a key it has the property that the key names, and of a shorthand
+-- that is assigned to what it is short for. In both a node that has a number stands for
 -- all that is in it, since it has a frame of its own. A program's has its imports and exports, and of a script the names
 -- that it gives the global object.
 use Rattle.std.specs.Prelude.{ℕ, zero, suc, Bool, true, false, not, List, [], ◌∷◌, ◌++◌, Contains, Option, Some, None, if◌then◌else◌}
@@ -36,19 +37,21 @@ property_key (node (shape.IdentifierName s) xs n ts) = node (shape.StringLiteral
 property_key (node (shape.NumericLiteral k) xs n ts) = node (shape.StringLiteral (signed_decimal k)) xs n ts
 property_key t = t
 
--- what has a key as its first child: a property of a pattern or of what is assigned to, a method or a field. One in brackets is
+-- what has a key as its first child: a property of a pattern or of what is assigned to (a shorthand too), a method or a field. One in brackets is
 -- an inner expression
 abbrev pub has_key : Shape → Bool
 has_key (shape.BindingProperty is_shorthand is_computed) = true
 has_key (shape.AssignmentTargetPropertyProperty is_computed) = true
+has_key shape.AssignmentTargetPropertyIdentifier = true
 has_key (shape.MethodDefinition k is_computed is_static) = true
 has_key (shape.PropertyDefinition is_computed is_static) = true
 has_key h = false
 
--- what has a key, without brackets
+-- what has a key, without brackets; and what is assigned to written in full, `x: x` for `x`
 abbrev pub unbracketed : Shape → Shape
 unbracketed (shape.BindingProperty is_shorthand is_computed) = shape.BindingProperty is_shorthand false
 unbracketed (shape.AssignmentTargetPropertyProperty is_computed) = shape.AssignmentTargetPropertyProperty false
+unbracketed shape.AssignmentTargetPropertyIdentifier = shape.AssignmentTargetPropertyProperty false
 unbracketed (shape.MethodDefinition k is_computed is_static) = shape.MethodDefinition k false is_static
 unbracketed (shape.PropertyDefinition is_computed is_static) = shape.PropertyDefinition false is_static
 unbracketed h = h
@@ -60,10 +63,16 @@ first_as_key (t ▸ ts) = property_key t ▸ ts
 abbrev pub keyed : Shape → Trees → Trees
 keyed h ts = if has_key h then first_as_key ts else ts
 
+-- a property that is assigned to as it is in full: `x` stands for `x: x`, and `x = d` for `x: x = d` (ECMA-262, "Runtime Semantics:
+-- PropertyDestructuringAssignmentEvaluation")
+abbrev pub in_full : Shape → Shape
+in_full shape.AssignmentTargetPropertyIdentifier = shape.AssignmentTargetPropertyProperty false
+in_full h = h
+
 -- a tree down to the nodes that have a number
 abbrev mutual
   pub part : Tree → Tree
-  part (node h xs zero ts) = node h xs 0 (keyed h (parts ts))
+  part (node h xs zero ts) = node (in_full h) xs 0 (keyed h (parts ts))
   part (node h xs (suc n) ts) = node h xs (suc n) none
 
   pub parts : Trees → Trees

@@ -34,7 +34,7 @@ use Rattle.mini_laws.specs.Bodies.{Around, Body, below, body_of, bodies, bodies_
 use Rattle.mini_kept.specs.AlikeBodies.{BodiesKept}
 use Rattle.mini_kept.specs.Carried.{numbers, all_numbers, with_number}
 use Rattle.mini_kept.specs.Declaring.{declared, declared_all, declared_by}
-use Rattle.mini_kept.specs.Frames.{Whole, showing, part, parts, keyed, shown_from, outline as outline_of, globals, property_below, frame_of, frames, frames_from}
+use Rattle.mini_kept.specs.Frames.{Whole, showing, in_full, part, parts, keyed, shown_from, outline as outline_of, globals, property_below, frame_of, frames, frames_from}
 use Rattle.mini_kept.specs.KeepsNames.{count_of}
 use Rattle.mini_kept.specs.Lifted.{is_piece}
 use Rattle.mini_kept.specs.SameNames.{is_among}
@@ -489,7 +489,7 @@ module _ (h : Shape) (o : Holds h) (xs : List Name) (n : ℕ) (before after : Tr
   shows a = let inner = below a h ts (place t u k after 0 before) in shows_more (Given inner t) (Given a earlier) (gives a) (part t) (part u) (k.part inner)
 
   part_of : (m : ℕ) (a : Around) → (G : ℕ → List ℕ → Type 0) → Shows G (part t) (part u) → Shows G (part (node h xs m ts)) (part (node h xs m us))
-  part_of zero a G s = over_shown G h xs 0 (keyed h (parts ts)) (keyed h (parts us)) (keyed_shown G h (parts ts) (parts us) (all_parts t u k after G s before))
+  part_of zero a G s = over_shown G (in_full h) xs 0 (keyed h (parts ts)) (keyed h (parts us)) (keyed_shown G h (parts ts) (parts us) (all_parts t u k after G s before))
   part_of (suc m) a G s = shows_itself G (node h xs (suc m) none)
 
   frames_of : (a : Around) → FramesShown none_gone (Given a earlier) (frames None earlier) (frames None later)

@@ -19,7 +19,7 @@ use Rattle.mini_rows.proofs.SpellShapes.{safe_is}
 
 -- ---- where what has a key stands
 
-abbrev holder_class : Holder → Class
+abbrev pub holder_class : Holder → Class
 holder_class a_binding = a_pattern_property
 holder_class a_target = a_target_property
 holder_class (a_method kind is_static) = a_class_member
@@ -34,7 +34,7 @@ nowhere false in_body a_binding = refl
 nowhere false nested a_binding = refl
 nowhere strict d h = refl
 
-Refused : Bool → Class → Holder → Type 0
+unfoldable pub Refused : Bool → Class → Holder → Type 0
 Refused strict c h = filling strict (one c) (holder_shape h) ≡ refused
 
 key_refused : (strict b : Bool) (h : Holder) → Refused strict (a_key b) h
@@ -55,7 +55,7 @@ inner_refused strict true a_binding = refl
 inner_refused strict false a_binding = refl
 inner_refused strict b h = refl
 
-class_of_holder : (strict : Bool) (c : Class) (h : Holder) → (c ≡ holder_class h) ⊎ Refused strict c h
+pub class_of_holder : (strict : Bool) (c : Class) (h : Holder) → (c ≡ holder_class h) ⊎ Refused strict c h
 unfolding Refused
 class_of_holder strict a_pattern_property a_binding = inl refl
 class_of_holder strict a_target_property a_target = inl refl
@@ -153,7 +153,7 @@ pub record Stands (strict : Bool) (t : Slot) (h : Holder) (s : Spelling) (v : Tr
 Filled : Bool → Slot → Holder → Spelling → Tree → Type 0
 Filled strict t h s v = fits strict t (holding h (quoted s) v) ≡ true
 
-refused_absent : (strict : Bool) (c : Class) (h : Holder) → Refused strict c h → filling strict (one_or_absent c) (holder_shape h) ≡ refused
+pub refused_absent : (strict : Bool) (c : Class) (h : Holder) → Refused strict c h → filling strict (one_or_absent c) (holder_shape h) ≡ refused
 unfolding Refused
 refused_absent strict c a_binding q = q
 refused_absent strict c a_target q = q

@@ -18,6 +18,7 @@ pub mod BareKeyShapes
 pub mod BareKeyLawful
 pub mod DeclaredKeyParts
 pub mod DeclaredKeyLawful
+pub mod ShorthandLawful
 pub mod KeysJoined
 pub mod BodyLists
 pub mod ListStretches

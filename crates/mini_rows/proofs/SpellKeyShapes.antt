@@ -49,7 +49,7 @@ name_fits strict s n e = ap (λ a. ((a && is_identifier_name s) && true) && true
 pub number_fits : (strict : Bool) (n : ℕ) (s : List ℕ) → is_safe (pos n) ≡ true → KeyFits strict (text s) (numeral (pos n))
 number_fits strict n s h e = ap (λ a. (a && true) && true) h
 
-is_itself : (s : List ℕ) → is_text s s ≡ true
+pub is_itself : (s : List ℕ) → is_text s s ≡ true
 is_itself [] = refl
 is_itself (c ∷ s) = ap (λ b. b && is_text s s) (eq-eqb c c refl) ∙ is_itself s
 

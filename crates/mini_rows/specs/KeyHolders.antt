@@ -1,5 +1,6 @@
 -- Rows on the keys of patterns and of classes, as equations. The node is what has the key: a property of a pattern, a method or a
--- field. Its key names the same property before and after (ECMA-262, "Runtime Semantics: Evaluation" of LiteralPropertyName).
+-- field. Its key names the same property before and after (ECMA-262, "Runtime Semantics: Evaluation" of LiteralPropertyName). A property
+-- that is assigned to may become the shorthand that stands for it.
 use Rattle.std.specs.Prelude.{◌≡◌, ◌<◌, ◌⊎◌, ◌&&◌, ◌||◌, not, ℕ, suc, Bool, true, false, List, [], codes, pos, if◌then◌else◌}
 use Rattle.std.specs.Fmt.{signed_decimal}
 use Rattle.mini_model.specs.Texts.{is_identifier_name}
@@ -11,7 +12,7 @@ use Rattle.mini_model.specs.declared.shape.Shape.{Shape}
 use Rattle.mini_model.specs.declared.shape.Shape.TheVariants as shape
 use Rattle.mini_model.specs.Paths.{append}
 use Rattle.mini_model.specs.declared.name.Name.{Name}
-use Rattle.mini_model.specs.Tree.{Tree, Trees, node, none, ◌▸◌}
+use Rattle.mini_model.specs.Tree.{Tree, Trees, node, none, ◌▸◌, identifier}
 use Rattle.mini_model.specs.Weight.{same_text, weight}
 use Rattle.mini_rows.specs.Spellings.{numeral, text, key}
 
@@ -154,6 +155,33 @@ pub record Row52Declared (n w : Tree) : Type 0 where
   pub bares : Bares pattern bared
   pub shape : n ≡ node (declaring_shape is_catch) [] 0 (pattern ▸ rest ▸ none)
   pub written : w ≡ node (declaring_shape is_catch) [] 0 (bared ▸ rest ▸ none)
+
+-- ---- a key that is the name assigned to
+
+-- what a property is assigned to: a name, with a default or without, as `x` and `x = d`
+pub data Assigned : Type 0 where
+  alone : Assigned
+  with_default : Tree → Assigned
+
+abbrev pub assigned_to : Name → Assigned → Tree
+assigned_to x alone = identifier x
+assigned_to x (with_default d) = node shape.AssignmentPattern [] 0 (identifier x ▸ d ▸ none)
+
+-- `x: x` and `x: x = d`, and as a shorthand
+abbrev pub doubled : Name → Assigned → Tree
+doubled x a = node (shape.AssignmentTargetPropertyProperty false) [] 0 (key x.spelling ▸ assigned_to x a ▸ none)
+
+abbrev pub shortened : Name → Assigned → Tree
+shortened x a = node shape.AssignmentTargetPropertyIdentifier [] 0 (key x.spelling ▸ assigned_to x a ▸ none)
+
+-- 53: `({ x: x } = o)` becomes `({ x } = o)`, and `({ x: x = d } = o)` becomes `({ x = d } = o)`. Both resolve x, read the property of that name and
+-- put its value, or that of d, which gets the same name (ECMA-262, "Runtime Semantics: PropertyDestructuringAssignmentEvaluation" and
+-- "Runtime Semantics: KeyedDestructuringAssignmentEvaluation")
+pub record Row53 (n w : Tree) : Type 0 where
+  pub name : Name
+  pub value : Assigned
+  pub shape : n ≡ doubled name value
+  pub written : w ≡ shortened name value
 
 -- a row on such a key reads n as w at this place
 abbrev pub HeldKeyRow : Position → Tree → Tree → Type 0
