@@ -387,6 +387,7 @@ bare('({ ["1"]: a, ["a-b"]: c, [d]: e } = b);', '({ 1: a, "a-b": c, [d]: e } = b
 bare('({ ["__proto__"]: a, [2]: c = () => 1 } = b);', "({ __proto__: a, 2: c = () => 1 } = b);", [0, 1, 4, 5]);
 bare('[{ ["x"]: a.b, [1]: [c] = d }] = e;', "[{ x: a.b, 1: [c] = d }] = e;", [0, 1, 2, 4, 6, 7]);
 bare('for ({ ["x"]: a } of b) f(a);', "for ({ x: a } of b) f(a);", [0, 1]);
+bare('({ ["x"]: x, ["y"]: y = 1, [z]: z } = o);', "({ x, y = 1, [z]: z } = o);", [0, 1, 4, 5]);
 bare('class A { ["m"]() { f(); } static [1]() { g(); } get ["x"]() { return 1; } }', "class A { m() { f(); } static 1() { g(); } get x() { return 1; } }", [0, 1, 3, 5, 7], 2);
 bare('f(class { ["x"]() { g(); } "#x" = 1; #x = 2; });', 'f(class { x() { g(); } "#x" = 1; #x = 2; });', [0, 1, 3, 4, 5]);
 bare('f(class { ["x"] = 1; static ["y"]; ["a" + "b"] = 2; });', "f(class { x = 1; static y; ab = 2; });", [0, 1, 3, 6]);

@@ -15,16 +15,20 @@ use Rattle.mini_rows.proofs.HeldKeyLawful.{held_lawful}
 use Rattle.mini_rows.proofs.BareKeyMeaning.{BareRow, bare_lighter, bare_outline_kept}
 use Rattle.mini_rows.proofs.BareKeyLawful.{bare_lawful}
 use Rattle.mini_rows.proofs.DeclaredKeyLawful.{DeclaredRow, declared_key_lighter, declared_key_outline, declared_key_lawful}
+use Rattle.mini_rows.proofs.ShorthandLawful.{ShorthandRow, shorthand_lighter, shorthand_outline_kept, shorthand_lawful}
 
-abbrev WithoutBrackets : Position → Tree → Tree → Type 0
-WithoutBrackets p n w = BareRow p n w ⊎ DeclaredRow p n w
+abbrev LaterRow : Position → Tree → Tree → Type 0
+LaterRow p n w = DeclaredRow p n w ⊎ ShorthandRow p n w
 
-either : (p : Position) (n w : Tree) → HeldKeyRow p n w → HeldRow p n w ⊎ WithoutBrackets p n w
+abbrev OtherRow : Position → Tree → Tree → Type 0
+OtherRow p n w = BareRow p n w ⊎ LaterRow p n w
+
+either : (p : Position) (n w : Tree) → HeldKeyRow p n w → HeldRow p n w ⊎ OtherRow p n w
 either Elsewhere n w r = r
 either p n w r = absurd r
 
 pub held_keys_lawful : Lawful HeldKeyContracts
-held_keys_lawful = lawful_narrowed HeldKeyContracts (λ p n w. HeldRow p n w ⊎ WithoutBrackets p n w) (λ p n w c. either p n w c.row) (lawful_join HeldRow WithoutBrackets held_lawful (lawful_join BareRow DeclaredRow bare_lawful declared_key_lawful))
+held_keys_lawful = lawful_narrowed HeldKeyContracts (λ p n w. HeldRow p n w ⊎ OtherRow p n w) (λ p n w c. either p n w c.row) (lawful_join HeldRow OtherRow held_lawful (lawful_join BareRow LaterRow bare_lawful (lawful_join DeclaredRow ShorthandRow declared_key_lawful shorthand_lawful)))
 
 pub held_keys_same : MeansSame HeldKeyContracts
 held_keys_same = held_keys_lawful.bodies.means
@@ -32,18 +36,20 @@ held_keys_same = held_keys_lawful.bodies.means
 pub held_keys_lighter : HeldKeysLighter
 held_keys_lighter p n w r = by (either p n w r)
   where
-    by : HeldRow p n w ⊎ WithoutBrackets p n w → weight p w < weight p n
+    by : HeldRow p n w ⊎ OtherRow p n w → weight p w < weight p n
     by (inl x) = held_lighter p n w x
     by (inr (inl x)) = bare_lighter p n w x
-    by (inr (inr x)) = declared_key_lighter p n w x
+    by (inr (inr (inl x))) = declared_key_lighter p n w x
+    by (inr (inr (inr x))) = shorthand_lighter p n w x
 
 same_outline : (p : Position) (n w : Tree) → HeldKeyRow p n w → outline n ≡ outline w
 same_outline p n w r = by (either p n w r)
   where
-    by : HeldRow p n w ⊎ WithoutBrackets p n w → outline n ≡ outline w
+    by : HeldRow p n w ⊎ OtherRow p n w → outline n ≡ outline w
     by (inl x) = outline_kept p n w x
     by (inr (inl x)) = bare_outline_kept p n w x
-    by (inr (inr x)) = declared_key_outline p n w x
+    by (inr (inr (inl x))) = declared_key_outline p n w x
+    by (inr (inr (inr x))) = shorthand_outline_kept p n w x
 
 pub held_keys_lighten : Lightens HeldKeyContracts
 held_keys_lighten = record {

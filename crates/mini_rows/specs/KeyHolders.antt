@@ -185,7 +185,7 @@ pub record Row53 (n w : Tree) : Type 0 where
 
 -- a row on such a key reads n as w at this place
 abbrev pub HeldKeyRow : Position → Tree → Tree → Type 0
-HeldKeyRow Elsewhere n w = Row52Held n w ⊎ (Row52Bare n w ⊎ Row52Declared n w)
+HeldKeyRow Elsewhere n w = Row52Held n w ⊎ (Row52Bare n w ⊎ (Row52Declared n w ⊎ Row53 n w))
 HeldKeyRow _ n w = ⊥
 
 -- what it writes, where it weighs less

@@ -126,7 +126,7 @@ literal_key_is plain k e = absurd (false≢true e)
 in_plain : (plain p : Bool) → plain && p ≡ false → plain ≡ true → p ≡ false
 in_plain plain p e h = ap (λ b. b && p) (sym h) ∙ e
 
-key_is : (k : Tree) (s : List ℕ) → key_name k ≡ Some s → k ≡ key s
+pub key_is : (k : Tree) (s : List ℕ) → key_name k ≡ Some s → k ≡ key s
 key_is (node (shape.IdentifierName r) [] zero none) s e = ap key (some_is r s e)
 key_is k s e = absurd (cc e)
 
@@ -236,7 +236,7 @@ stays t e =
     let doubled : is_doubled t ≡ false = sym (ap is_doubled spelled) ∙ third in
     record { brackets = brackets; spelling = spelling; doubled = doubled; same = ap shortened spelled ∙ ap (λ b. if b then property true false (part t 0) (part t 1) else t) doubled }
 
-same_text_refl : (s : List ℕ) → same_text s s ≡ true
+pub same_text_refl : (s : List ℕ) → same_text s s ≡ true
 same_text_refl [] = refl
 same_text_refl (c ∷ s) = ap (λ b. b && same_text s s) (eq-eqb c c refl) ∙ same_text_refl s
 

@@ -15,10 +15,11 @@ use Rattle.mini_node.specs.Kinds.{string}
 use Rattle.mini_node.specs.Lends.{with_children}
 use Rattle.mini_node.specs.Made.{string_is}
 use Rattle.mini_rows.specs.Spellings.{numeral, text}
-use Rattle.mini_rows.specs.KeyHolders.{Holder, a_binding, a_target, a_method, a_field, holding, Spelling, of_name, of_whole, IsSpelling, quoted, unquoted, Row52Held, Member, of_target, of_method, of_field, member_shape, in_brackets, PlainKey, a_word, a_count, plain_key, IsPlainKey, loses_brackets, Row52Bare, Row52Declared, HeldKeyRow}
+use Rattle.mini_rows.specs.KeyHolders.{Holder, a_binding, a_target, a_method, a_field, holding, Spelling, of_name, of_whole, IsSpelling, quoted, unquoted, Row52Held, Member, of_target, of_method, of_field, member_shape, in_brackets, PlainKey, a_word, a_count, plain_key, IsPlainKey, loses_brackets, Row52Bare, Row52Declared, Row53, HeldKeyRow}
 use Rattle.mini_rows.proofs.KeysJoined.{held_keys_lighter}
 use Rattle.mini_tree.specs.Rule.{Applied}
 use Rattle.mini_tree.proofs.Reaching.{moves_once}
+use Rattle.mini_syntax.specs.CompressAssignmentTargetProperty.{is_doubled, shorthand, compressed}
 use Rattle.mini_syntax.specs.ConvertToDottedProperties as dotted
 use Rattle.mini_syntax.specs.ConvertToDottedProperties.{is_name_text, as_name}
 use Rattle.mini_syntax.specs.SubstituteObjectProperty.{is_literal_key, whole_of}
@@ -26,7 +27,8 @@ use Rattle.mini_syntax.specs.Forms.{is_inner, bracketed_key}
 use Rattle.mini_syntax.specs.SubstituteBindingProperty.{declares_brackets, declared_bare}
 use Rattle.mini_syntax.proofs.InnerKeys.{inner_is, literal_is}
 use Rattle.mini_syntax.proofs.BindingKeys.{declared_row, declared_reads, declared_stays}
-use Rattle.mini_syntax.specs.SubstitutePropertyKey.{is_holder, names_key, key_number, respelled_by, respelled, respells, with_key, spelled, is_spelled, is_bracketed, keeps, drops_brackets, bare_shape, bare, held_written, is_held_written, written, is_written, Gives, Rests, WrittenIsRow, UnwrittenRests}
+use Rattle.mini_syntax.proofs.ShorthandTargets.{doubled_row, doubled_reads, compressed_stays}
+use Rattle.mini_syntax.specs.SubstitutePropertyKey.{is_holder, names_key, key_number, respelled_by, respelled, respells, with_key, spelled, is_spelled, is_bracketed, keeps, drops_brackets, bare_shape, bare, held_written, is_held_written, key_written, is_key_written, written, is_written, Gives, Rests, WrittenIsRow, UnwrittenRests}
 
 -- ---- what the tests say
 
@@ -159,22 +161,39 @@ held_row n e = go (drops_brackets n) refl e
     go true d h = inr (inl (subst (Row52Bare n) (sym (ap (λ b. if b then bare n else spelled n) d)) (bare_row n d)))
     go false d h = inl (subst (Row52Held n) (sym (ap (λ b. if b then bare n else spelled n) d)) (spelled_row n h))
 
-pub written_is_row : WrittenIsRow
-written_is_row n e = go (declares_brackets n) refl e
+key_row : (n : Tree) → is_key_written n ≡ true → HeldKeyRow Elsewhere n (key_written n)
+key_row n e = go (declares_brackets n) refl e
   where
-    go : (b : Bool) → declares_brackets n ≡ b → b || is_held_written n ≡ true → HeldKeyRow Elsewhere n (written n)
-    go true d h = inr (inr (subst (Row52Declared n) (sym (ap (λ b. if b then declared_bare n else held_written n) d)) (declared_row n d)))
+    go : (b : Bool) → declares_brackets n ≡ b → b || is_held_written n ≡ true → HeldKeyRow Elsewhere n (key_written n)
+    go true d h = inr (inr (inl (subst (Row52Declared n) (sym (ap (λ b. if b then declared_bare n else held_written n) d)) (declared_row n d))))
     go false d h = subst (HeldKeyRow Elsewhere n) (sym (ap (λ b. if b then declared_bare n else held_written n) d)) (held_row n h)
 
+pub written_is_row : WrittenIsRow
+written_is_row n e = go (is_doubled n) refl e
+  where
+    go : (b : Bool) → is_doubled n ≡ b → b || is_key_written n ≡ true → HeldKeyRow Elsewhere n (written n)
+    go true d h = inr (inr (inr (subst (Row53 n) (sym (ap (λ b. if b then (if b then shorthand n else n) else key_written n) d)) (doubled_row n d))))
+    go false d h = subst (HeldKeyRow Elsewhere n) (sym (ap (λ b. if b then compressed n else key_written n) d)) (key_row n h)
+
 -- what is made where no pattern loses brackets, and where one does
-pub held_instead : (t u v : Tree) → false ≡ declares_brackets t → u ≡ declared_bare t → v ≡ held_written u → v ≡ written t
+pub held_instead : (t u v : Tree) → false ≡ declares_brackets t → u ≡ declared_bare t → v ≡ held_written u → v ≡ key_written t
 held_instead t u v d e f = f ∙ ap held_written (e ∙ declared_stays t (sym d)) ∙ sym (ap (λ b. if b then declared_bare t else held_written t) (sym d))
 
-pub held_said : (t u : Tree) (b : Bool) → false ≡ declares_brackets t → u ≡ declared_bare t → b ≡ is_held_written u → b ≡ is_written t
+pub held_said : (t u : Tree) (b : Bool) → false ≡ declares_brackets t → u ≡ declared_bare t → b ≡ is_held_written u → b ≡ is_key_written t
 held_said t u b d e f = f ∙ ap is_held_written (e ∙ declared_stays t (sym d)) ∙ sym (ap (λ c. c || is_held_written t) (sym d))
 
-pub bared_instead : (t u : Tree) → true ≡ declares_brackets t → u ≡ declared_bare t → u ≡ written t
+pub bared_instead : (t u : Tree) → true ≡ declares_brackets t → u ≡ declared_bare t → u ≡ key_written t
 bared_instead t u d e = e ∙ sym (ap (λ b. if b then declared_bare t else held_written t) (sym d))
+
+-- what is made where no shorthand is, and where one is
+pub key_instead : (t u v : Tree) → false ≡ is_doubled t → u ≡ compressed t → v ≡ key_written u → v ≡ written t
+key_instead t u v d e f = f ∙ ap key_written (e ∙ compressed_stays t (sym d)) ∙ sym (ap (λ b. if b then compressed t else key_written t) (sym d))
+
+pub key_said : (t u : Tree) (b : Bool) → false ≡ is_doubled t → u ≡ compressed t → b ≡ is_key_written u → b ≡ is_written t
+key_said t u b d e f = f ∙ ap is_key_written (e ∙ compressed_stays t (sym d)) ∙ sym (ap (λ c. c || is_key_written t) (sym d))
+
+pub doubled_instead : (t u : Tree) → true ≡ is_doubled t → u ≡ compressed t → u ≡ written t
+doubled_instead t u d e = e ∙ sym (ap (λ b. if b then compressed t else key_written t) (sym d))
 
 -- ---- what stays
 
@@ -202,10 +221,14 @@ bare_reads n w r = ap drops_brackets r.shape ∙ dropped r.member r.number r.key
 later_said : (a b : Bool) → b ≡ true → a || b ≡ true
 later_said a b e = ap (λ c. a || c) e ∙ or_true a
 
+key_read : (n : Tree) → is_key_written n ≡ true → is_written n ≡ true
+key_read n e = later_said (is_doubled n) (is_key_written n) e
+
 reads : (p : Position) (n w : Tree) → HeldKeyRow p n w → is_written n ≡ true
-reads Elsewhere n w (inl r) = later_said (declares_brackets n) (is_held_written n) (later_said (drops_brackets n) (is_spelled n) (held_reads n w r))
-reads Elsewhere n w (inr (inl r)) = later_said (declares_brackets n) (is_held_written n) (ap (λ b. b || is_spelled n) (bare_reads n w r))
-reads Elsewhere n w (inr (inr r)) = ap (λ b. b || is_held_written n) (declared_reads n w r)
+reads Elsewhere n w (inl r) = key_read n (later_said (declares_brackets n) (is_held_written n) (later_said (drops_brackets n) (is_spelled n) (held_reads n w r)))
+reads Elsewhere n w (inr (inl r)) = key_read n (later_said (declares_brackets n) (is_held_written n) (ap (λ b. b || is_spelled n) (bare_reads n w r)))
+reads Elsewhere n w (inr (inr (inl r))) = key_read n (ap (λ b. b || is_held_written n) (declared_reads n w r))
+reads Elsewhere n w (inr (inr (inr r))) = ap (λ b. b || is_key_written n) (doubled_reads n w r)
 reads p n w r = absurd r
 
 rests : (p : Position) (n : Tree) → is_written n ≡ false → Rests p n
@@ -227,9 +250,10 @@ neither false b e = (refl, e)
 
 pub unwritten_rests : UnwrittenRests
 unwritten_rests p n e =
-    let (declared, held) = neither (declares_brackets n) (is_held_written n) e in
+    let (short, key) = neither (is_doubled n) (is_key_written n) e in
+    let (declared, held) = neither (declares_brackets n) (is_held_written n) key in
     let (d, s) = neither (drops_brackets n) (is_spelled n) held in
-    (ap (λ b. if b then declared_bare n else held_written n) declared ∙ ap (λ b. if b then bare n else spelled n) d ∙ unspelled n s, rests p n e)
+    (ap (λ b. if b then compressed n else key_written n) short ∙ ap (λ b. if b then declared_bare n else held_written n) declared ∙ ap (λ b. if b then bare n else spelled n) d ∙ unspelled n s, rests p n e)
 
 -- ---- the rule
 

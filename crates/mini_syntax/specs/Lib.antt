@@ -11,6 +11,7 @@ pub mod SubstituteReturnStatement
 pub mod MinimizeSwitchStatements
 pub mod SubstituteObjectProperty
 pub mod SubstituteBindingProperty
+pub mod CompressAssignmentTargetProperty
 pub mod SubstitutePropertyKey
 pub mod SubstituteVariableDeclaration
 pub mod Spelled

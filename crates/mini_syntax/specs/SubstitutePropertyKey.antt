@@ -1,5 +1,6 @@
 -- 52 of patterns and classes, `substitute_property_key`: of a property of a pattern, a method or a field a text becomes the name or
--- the number that it writes; and a text or a whole number in brackets loses them, but of a parameter.
+-- the number that it writes; and a text or a whole number in brackets loses them, but of a parameter. With 53, of a key that is the name
+-- assigned to.
 use Rattle.std.specs.Prelude.{◌≡◌, Bool, true, false, not, ◌&&◌, ◌||◌, [], Option, Some, None, is_some, if◌then◌else◌, ℤ}
 use Rattle.mini_model.specs.declared.place.Position.{Position}
 use Rattle.mini_model.specs.declared.place.Position.TheVariants.{Elsewhere}
@@ -10,6 +11,7 @@ use Rattle.mini_node.specs.Children.{part, is_bare}
 use Rattle.mini_node.specs.Kinds.{string}
 use Rattle.mini_rows.specs.Spellings.{numeral}
 use Rattle.mini_rows.specs.KeyHolders.{stays_in_brackets, HeldKeyRow, HeldKeyContracts}
+use Rattle.mini_syntax.specs.CompressAssignmentTargetProperty.{is_doubled, compressed}
 use Rattle.mini_syntax.specs.ConvertToDottedProperties.{is_name_text, number_of_text, as_name}
 use Rattle.mini_syntax.specs.Forms.{is_inner, bracketed_key}
 use Rattle.mini_syntax.specs.SubstituteBindingProperty.{declares_brackets, declared_bare}
@@ -120,11 +122,19 @@ is_held_written t = drops_brackets t || is_spelled t
 
 -- Of all, among them what declares a pattern
 
+abbrev pub key_written : Tree → Tree
+key_written t = if declares_brackets t then declared_bare t else held_written t
+
+abbrev pub is_key_written : Tree → Bool
+is_key_written t = declares_brackets t || is_held_written t
+
+-- and of a key that is the name assigned to
+
 abbrev pub written : Tree → Tree
-written t = if declares_brackets t then declared_bare t else held_written t
+written t = if is_doubled t then compressed t else key_written t
 
 abbrev pub is_written : Tree → Bool
-is_written t = declares_brackets t || is_held_written t
+is_written t = is_doubled t || is_key_written t
 
 -- what the rule makes
 abbrev pub Gives : Position → Tree → Tree → Type 0

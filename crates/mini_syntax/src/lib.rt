@@ -6,6 +6,7 @@ mod laws;
 mod rewrites;
 
 pub use laws::{keys_are_rows, property_keys_are_rows, returns_are_rows, spellings_are_rows};
+pub use rewrites::compress_assignment_target_property::compress_assignment_target_property;
 pub use rewrites::convert_to_dotted_properties::convert_to_dotted_properties;
 pub use rewrites::minimize_switch_statements::{
     MinimizeSwitches, can_switch_case_be_inlined, minimize_switch_statement,

@@ -1,3 +1,4 @@
+pub mod compress_assignment_target_property;
 pub mod convert_to_dotted_properties;
 pub mod minimize_switch_statements;
 pub mod substitute_arrow_expression;

@@ -1,5 +1,6 @@
 //! Row 52 of patterns and classes: of a property of a pattern, a method or a field a text becomes the name or the number that it
-//! writes, and a text or a whole number in brackets loses them, but of a parameter. It is lighter in every place.
+//! writes, and a text or a whole number in brackets loses them, but of a parameter. It is lighter in every place. The rule over it has row
+//! 53 too.
 
 ghost use Rattle.std.specs.Prelude.{◌≡◌, true, IfOk, OnOk};
 ghost use Rattle.mini_model.specs.Tree.{children, count, shape_of};
@@ -9,9 +10,10 @@ ghost use Rattle.mini_tree.specs.Rule.{Applied};
 ghost use Rattle.mini_syntax.specs.Lighter.{held_keys_lighter};
 ghost use Rattle.mini_syntax.specs.declared.rewrites.substitute_property_key.ClassPropertyKeyParentType.TheVariants.{MethodDefinition, PropertyDefinition};
 ghost use Rattle.mini_syntax.specs.SubstitutePropertyKey as row;
-ghost use Rattle.mini_syntax.specs.SubstitutePropertyKey.{spelled, is_spelled, written, is_written, Gives, Rests};
+ghost use Rattle.mini_syntax.specs.SubstitutePropertyKey.{spelled, is_spelled, key_written, is_key_written, written, is_written, Gives, Rests};
 
 use crate::forms::is_inner;
+use crate::rewrites::compress_assignment_target_property::compress_assignment_target_property;
 use crate::rewrites::convert_to_dotted_properties::{as_name, is_name};
 use crate::rewrites::substitute_binding_property::substitute_binding_property;
 use crate::rewrites::substitute_object_property::{is_literal_key, property, whole_of};
@@ -250,8 +252,8 @@ pub fn substitute_held_key(alloc: Global, node: &mut Node) -> Result<bool, OutOf
 /// is that memory runs out.
 #[tactic(auto, using(crate::proofs::PropertyKeys::held_instead, crate::proofs::PropertyKeys::held_said, crate::proofs::PropertyKeys::bared_instead))]
 pub fn substitute_key(alloc: Global, node: &mut Node) -> Result<bool, OutOfMemory>
-    ensures tree { OnOk result (node.new ≡ written node.old) }
-    ensures said { IfOk result (λ changed. changed ≡ is_written node.old) }
+    ensures tree { OnOk result (node.new ≡ key_written node.old) }
+    ensures said { IfOk result (λ changed. changed ≡ is_key_written node.old) }
 {
     if substitute_binding_property(alloc, node)? {
         return Ok(true);
@@ -260,7 +262,20 @@ pub fn substitute_key(alloc: Global, node: &mut Node) -> Result<bool, OutOfMemor
     Ok(changed)
 }
 
-/// The row on keys of patterns and classes as a rule: of each property of a pattern, each method, each field and what declares a
+// A property that is assigned to becomes the shorthand, or a key is spelled otherwise. The answer says whether anything changed.
+#[tactic(auto, using(crate::proofs::PropertyKeys::key_instead, crate::proofs::PropertyKeys::key_said, crate::proofs::PropertyKeys::doubled_instead))]
+fn rewrite_key(alloc: Global, node: &mut Node) -> Result<bool, OutOfMemory>
+    ensures tree { OnOk result (node.new ≡ written node.old) }
+    ensures said { IfOk result (λ changed. changed ≡ is_written node.old) }
+{
+    if compress_assignment_target_property(alloc, node)? {
+        return Ok(true);
+    }
+    let changed = substitute_key(alloc, node)?;
+    Ok(changed)
+}
+
+/// The rows on keys of patterns and classes as a rule: of each property of a pattern, each method, each field and what declares a
 /// pattern.
 pub struct SubstitutePropertyKeys;
 
@@ -280,7 +295,7 @@ impl<C: Context> Rule<C> for SubstitutePropertyKeys {
         context: &mut C,
     ) -> Result<bool, OutOfMemory> {
         match place {
-            Position::Elsewhere => Ok(substitute_key(alloc, node)?),
+            Position::Elsewhere => Ok(rewrite_key(alloc, node)?),
             _ => Ok(false),
         }
     }
