@@ -8,20 +8,22 @@ use Rattle.mini_model.specs.declared.place.Position.TheVariants.{Expr, Stmt}
 use Rattle.mini_model.specs.declared.seat.Seat.{Seat}
 use Rattle.mini_model.specs.declared.seat.StmtSeat.{StmtSeat}
 use Rattle.mini_model.specs.declared.shape.Shape.TheVariants as shape
-use Rattle.mini_model.specs.Tree.{Tree, node, logical, empty_statement}
+use Rattle.mini_model.specs.Tree.{Tree, node, logical, conditional, empty_statement}
 use Rattle.mini_node.specs.Children.{part}
-use Rattle.mini_node.specs.Kinds.{binary_operator, logical_operator, is_expression_statement}
-use Rattle.mini_node.specs.Made.{binary_is, logical_is, expression_statement_is}
+use Rattle.mini_node.specs.Equal.{same_tree}
+use Rattle.mini_node.specs.Kinds.{binary_operator, logical_operator, is_conditional, is_expression_statement}
+use Rattle.mini_node.specs.Made.{binary_is, logical_is, conditional_is, expression_statement_is}
+use Rattle.mini_node.proofs.Equality.{tree_same, tree_itself}
 use Rattle.mini_terms.specs.Folds.{is_effect_free, has_one_kind, goes_on, stops}
 use Rattle.mini_terms.specs.Parts.{suits, leaves_nothing, weighs}
-use Rattle.mini_rows.specs.Folding.{names_exports, loosened, Row12, Row13, Row22, Row28, FoldingRow}
+use Rattle.mini_rows.specs.Folding.{names_exports, loosened, Row12, Row13, Row22, Row28, Row49Idle, FoldingRow}
 use Rattle.mini_rows.specs.Spellings.{binary}
 use Rattle.mini_rows.proofs.FoldWeights.{lighter}
 use Rattle.mini_tree.specs.Rule.{Applied}
 use Rattle.mini_tree.proofs.Reaching.{moves_once}
 use Rattle.mini_fold.specs.MinimizeBinary.{loosened_by, with_operator, written_by}
 use Rattle.mini_fold.specs.MinimizeBinary as equality
-use Rattle.mini_fold.specs.FoldKnown.{is_passed, is_stopped, side, logical_written, folded, written, does_nothing, statement_written, Gives, Rests, WrittenIsRow, StatementIsRow, UnwrittenRests, StatementRests}
+use Rattle.mini_fold.specs.FoldKnown.{is_passed, is_stopped, side, logical_written, folded, is_idle_test, chooses_nothing, branch_written, written, does_nothing, statement_written, Gives, Rests, WrittenIsRow, StatementIsRow, UnwrittenRests, StatementRests}
 
 not_true : (b : Bool) → not b ≡ true → b ≡ false
 not_true false e = refl
@@ -102,11 +104,41 @@ equality_never (Some q) true p t h k e = cc e
 equality_never (Some q) false p t h k e = cc k
 equality_never None c p t h k e = cc h
 
--- both
+-- conditionals
+
+idle_row : (s : Seat) (n : Tree) → chooses_nothing s n ≡ true → Row49Idle s n (part n 1)
+idle_row s n h =
+    let (is, idle) = and_parts (is_conditional n) (is_idle_test s (part n 0) (part n 1) (part n 2)) h in
+    let (alike, known) = and_parts (same_tree (part n 1) (part n 2)) (is_effect_free (part n 0) && (leaves_nothing (part n 0) && (weighs (part n 0) && suits s (part n 1)))) idle in
+    let (free, others) = and_parts (is_effect_free (part n 0)) (leaves_nothing (part n 0) && (weighs (part n 0) && suits s (part n 1))) known in
+    let (dropped, last) = and_parts (leaves_nothing (part n 0)) (weighs (part n 0) && suits s (part n 1)) others in
+    let (heavy, stays) = and_parts (weighs (part n 0)) (suits s (part n 1)) last in
+    record { test = part n 0; branch = part n 1; effect_free = free; dropped = dropped; heavy = heavy; stays = stays; shape = conditional_is n is ∙ ap (conditional (part n 0) (part n 1)) (sym (tree_same (part n 1) (part n 2) alike)); written = refl }
+
+branch_is_row : (s : Seat) (n w : Tree) → branch_written s n ≡ Some w → Row49Idle s n w
+branch_is_row s n w e = go (chooses_nothing s n) refl e
+  where
+    go : (c : Bool) → chooses_nothing s n ≡ c → (if c then Some (part n 1) else None) ≡ Some w → Row49Idle s n w
+    go true h e = let is : part n 1 ≡ w = cc e in subst (Row49Idle s n) is (idle_row s n h)
+    go false h e = absurd (cc e)
+
+idle_chooses : (s : Seat) (a b : Tree) → is_effect_free a ≡ true → leaves_nothing a ≡ true → weighs a ≡ true → suits s b ≡ true → chooses_nothing s (conditional a b b) ≡ true
+idle_chooses s a b f g h k = all_true (same_tree b b) _ (tree_itself b) (all_true (is_effect_free a) _ f (all_true (leaves_nothing a) _ g (all_true (weighs a) (suits s b) h k)))
+  where
+    all_true : (c d : Bool) → c ≡ true → d ≡ true → c && d ≡ true
+    all_true true d e f = f
+    all_true false d e f = e
+
+never_unwritten : (c : Bool) (t : Tree) → c ≡ true → (if c then Some t else None) ≡ None → ⊥
+never_unwritten true t h e = cc e
+never_unwritten false t h e = cc h
+
+-- all
 
 row_of : (s : Seat) (n w : Tree) → written s n ≡ Some w → FoldingRow (Expr s) n w
 row_of s (node (shape.LogicalExpression o) xs m ts) w e = folded_is_row s (node (shape.LogicalExpression o) xs m ts) w e
-row_of s (node (shape.BinaryExpression o) xs m ts) w e = inr (inr (equality_is_row (node (shape.BinaryExpression o) xs m ts) w e))
+row_of s (node (shape.BinaryExpression o) xs m ts) w e = inr (inr (inl (equality_is_row (node (shape.BinaryExpression o) xs m ts) w e)))
+row_of s (node shape.ConditionalExpression xs m ts) w e = inr (inr (inr (branch_is_row s (node shape.ConditionalExpression xs m ts) w e)))
 row_of s (node h xs m ts) w e = absurd (cc e)
 
 pub written_is_row : WrittenIsRow
@@ -117,7 +149,8 @@ unwritten s n m e h = sym (ap (written s) e) ∙ h
 
 pub unwritten_rests : UnwrittenRests
 unwritten_rests s n e w (inl r) = unpassed (is_passed s r.operator r.left r.right) (is_stopped s r.operator r.left r.right) r.left r.right (passes s r.operator r.left r.right r.known r.effect_free r.dropped r.heavy r.stays) (unwritten s n (logical r.operator r.left r.right) r.shape e)
-unwritten_rests s n e w (inr (inr r)) = equality_never (loosened r.operator) (has_one_kind r.left r.right) r.loose (binary r.operator r.left r.right) r.loosens r.alike (unwritten s n (binary r.operator r.left r.right) r.shape e)
+unwritten_rests s n e w (inr (inr (inr r))) = never_unwritten (chooses_nothing s (conditional r.test r.branch r.branch)) r.branch (idle_chooses s r.test r.branch r.effect_free r.dropped r.heavy r.stays) (unwritten s n (conditional r.test r.branch r.branch) r.shape e)
+unwritten_rests s n e w (inr (inr (inl r))) = equality_never (loosened r.operator) (has_one_kind r.left r.right) r.loose (binary r.operator r.left r.right) r.loosens r.alike (unwritten s n (binary r.operator r.left r.right) r.shape e)
 unwritten_rests s n e w (inr (inl r)) = unstopped (is_passed s r.operator r.left r.right) (is_stopped s r.operator r.left r.right) r.left r.right (stopped s r.operator r.left r.right r.known r.nameless r.dropped r.heavy r.stays) (unwritten s n (logical r.operator r.left r.right) r.shape e)
 
 -- statements

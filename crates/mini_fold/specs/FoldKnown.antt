@@ -1,5 +1,5 @@
--- The rewrites on what is known of an expression from its text: 12, 13 and 15 of logical expressions, 28 of equalities, and 22 of
--- expression statements.
+-- The rewrites on what is known of an expression from its text: 12, 13 and 15 of logical expressions, 28 of equalities, 49 of
+-- conditionals whose test is effect-free, and 22 of expression statements.
 use Rattle.std.specs.Prelude.{◌≡◌, Bool, not, ◌&&◌, Option, Some, None, if◌then◌else◌}
 use Rattle.mini_model.specs.declared.operator.LogicalOperator.{LogicalOperator}
 use Rattle.mini_model.specs.declared.place.Position.{Position}
@@ -10,7 +10,8 @@ use Rattle.mini_model.specs.declared.shape.Shape.{Shape}
 use Rattle.mini_model.specs.declared.shape.Shape.TheVariants as shape
 use Rattle.mini_model.specs.Tree.{Tree, shape_of, empty_statement}
 use Rattle.mini_node.specs.Children.{part}
-use Rattle.mini_node.specs.Kinds.{logical_operator, is_expression_statement}
+use Rattle.mini_node.specs.Equal.{same_tree}
+use Rattle.mini_node.specs.Kinds.{logical_operator, is_conditional, is_expression_statement}
 use Rattle.mini_terms.specs.Folds.{is_effect_free, goes_on, stops}
 use Rattle.mini_terms.specs.Parts.{suits, leaves_nothing, weighs}
 use Rattle.mini_rows.specs.Folding.{names_exports, FoldingRow, FoldingContracts}
@@ -35,9 +36,21 @@ logical_written s None a b = None
 abbrev pub folded : Seat → Tree → Option Tree
 folded s t = logical_written s (logical_operator t) (part t 0) (part t 1)
 
+-- the test goes: it is effect-free, and both branches are the same
+abbrev pub is_idle_test : Seat → Tree → Tree → Tree → Bool
+is_idle_test s a b c = same_tree b c && (is_effect_free a && (leaves_nothing a && (weighs a && suits s b)))
+
+abbrev pub chooses_nothing : Seat → Tree → Bool
+chooses_nothing s t = is_conditional t && is_idle_test s (part t 0) (part t 1) (part t 2)
+
+-- what is written for a conditional
+abbrev pub branch_written : Seat → Tree → Option Tree
+branch_written s t = if chooses_nothing s t then Some (part t 1) else None
+
 abbrev pub written_by : Shape → Seat → Tree → Option Tree
 written_by (shape.LogicalExpression o) s t = folded s t
 written_by (shape.BinaryExpression o) s t = equality.written t
+written_by shape.ConditionalExpression s t = branch_written s t
 written_by _ s t = None
 
 -- what is written for an expression

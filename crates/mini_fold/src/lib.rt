@@ -13,7 +13,7 @@ pub use laws::{constants_are_rows, folds_are_rows};
 pub use literals::{evaluate_value, is_true, literal_value};
 pub use rewrites::fold_constants::{FoldConstants, fold_constant};
 pub use rewrites::fold_known::{
-    FoldKnown, fold_expression, fold_logical_expression, remove_unused_expression,
+    FoldKnown, fold_conditional, fold_expression, fold_logical_expression, remove_unused_expression,
 };
 pub use rewrites::fold_operands::{FoldOperands, fold_operands};
 pub use rewrites::fold_sequences::{FoldSequences, fold_sequence_expression};

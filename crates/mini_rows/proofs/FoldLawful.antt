@@ -11,7 +11,7 @@ use Rattle.mini_model.specs.declared.seat.Seat.{Seat}
 use Rattle.mini_model.specs.declared.seat.StmtSeat.{StmtSeat}
 use Rattle.mini_model.specs.declared.shape.Shape.{Shape}
 use Rattle.mini_model.specs.declared.shape.Shape.TheVariants as shape
-use Rattle.mini_model.specs.Tree.{Tree, Trees, node, none, ◌▸◌, logical, expression_statement, empty_statement}
+use Rattle.mini_model.specs.Tree.{Tree, Trees, node, none, ◌▸◌, logical, conditional, expression_statement, empty_statement}
 use Rattle.mini_accept.specs.WellShaped.{Class, a_statement, an_init, an_arrow_body, an_expression, a_link, an_argument, a_key, a_private_or_key, an_inner_key, a_default_export, Slot, one, one_or_absent, fits, is_not_positive_number}
 use Rattle.mini_laws.specs.DeclaredNames.{is_inner, has_inner, any_inner}
 use Rattle.mini_laws.specs.Value.{Variable, choose, is_in}
@@ -23,12 +23,12 @@ use Rattle.mini_kept.specs.KeepsShapes.{AskedAlike}
 use Rattle.mini_kept.specs.KeepsFrames.{is_in_body, is_body_slot}
 use Rattle.mini_kept.specs.Lawful.{Lawful}
 use Rattle.mini_kept.proofs.Bools.{left}
-use Rattle.mini_kept.proofs.Expressions.{refused_here, expression, TakesExpressionIn, TakesExpression, expression_taken}
+use Rattle.mini_kept.proofs.Expressions.{refused_here, expression, of_conditional, TakesExpressionIn, TakesExpression, expression_taken}
 use Rattle.mini_kept.proofs.Rows.{TakesStatementIn, TakesStatement}
 use Rattle.mini_terms.specs.Parts.{is_number, suits, leaves_nothing_by, leaves_nothing, leave_nothing}
 use Rattle.mini_rows.specs.Arranged.{KeptAt, Vanishes}
-use Rattle.mini_rows.specs.Sketches.{Empty, OfExpression, Logical, Binary, part, under, end, ◌▹◌, Free}
-use Rattle.mini_rows.specs.Folding.{Row12, Row13, Row22, Row28, FoldingRow, FoldingContracts}
+use Rattle.mini_rows.specs.Sketches.{Empty, OfExpression, Logical, Binary, Conditional, part, under, end, ◌▹◌, Free}
+use Rattle.mini_rows.specs.Folding.{Row12, Row13, Row22, Row28, Row49Idle, FoldingRow, FoldingContracts}
 use Rattle.mini_rows.specs.Spellings.{binary}
 use Rattle.mini_rows.proofs.ArrangedExpressions.{expressions_arranged, expressions_arranged_freely}
 use Rattle.mini_rows.proofs.ArrangedLawful.{kept_is_lawful}
@@ -103,13 +103,17 @@ stopped_kept q n w r = expressions_arranged_freely first_dropped (record { trees
 loosened_kept : (q : Seat) (n w : Tree) → Row28 n w → KeptAt (Expr q) n w
 loosened_kept q n w r = expressions_arranged (record { trees = r.left ▸ r.right ▸ none; lists = [] }) (under (Binary r.operator) (part 0 ▹ part 1 ▹ end)) (under (Binary r.loose) (part 0 ▹ part 1 ▹ end)) refl q n w r.shape r.written
 
+branch_kept : (q : Seat) (n w : Tree) → Row49Idle q n w → KeptAt (Expr q) n w
+branch_kept q n w r = expressions_arranged_freely first_dropped (record { trees = r.test ▸ r.branch ▸ none; lists = [] }) (tt, tt, (vanishes r.test r.dropped, tt)) (under Conditional (part 0 ▹ part 1 ▹ part 1 ▹ end)) (part 1) refl q n w r.shape r.written
+
 statement_kept : (q : StmtSeat) (n w : Tree) → Row22 n w → KeptAt (Stmt q) n w
 statement_kept q n w r = statements_arranged first_dropped (record { trees = r.expression ▸ none; lists = [] }) (tt, tt, (vanishes r.expression r.dropped, tt)) (under OfExpression (part 0 ▹ end)) (under Empty end) refl q n w r.shape r.written
 
 kept : (p : Position) (n w : Tree) → FoldingRow p n w → KeptAt p n w
 kept (Expr q) n w (inl r) = passed_kept q n w r
 kept (Expr q) n w (inr (inl r)) = stopped_kept q n w r
-kept (Expr q) n w (inr (inr r)) = loosened_kept q n w r
+kept (Expr q) n w (inr (inr (inl r))) = loosened_kept q n w r
+kept (Expr q) n w (inr (inr (inr r))) = branch_kept q n w r
 kept (Stmt q) n w r = statement_kept q n w r
 kept p n w r = absurd r
 
@@ -164,7 +168,8 @@ loosened_formed n w r = record { first = a_binary r.operator; second = a_binary 
 
 row_fits : (p : Position) (n w : Tree) → FoldingRow p n w → (strict : Bool) (s : Slot) → fits strict s n ≡ true → fits strict s w ≡ true
 row_fits (Expr q) n w (inl r) strict s e = let (takes, first, second) = operands strict s r.operator r.left r.right (subst (λ t. fits strict s t ≡ true) r.shape e) in subst (λ t. fits strict s t ≡ true) (sym r.written) (expression_taken strict s r.right takes second)
-row_fits (Expr q) n w (inr (inr r)) strict s e = loosened_fits n w r strict s e
+row_fits (Expr q) n w (inr (inr (inl r))) strict s e = loosened_fits n w r strict s e
+row_fits (Expr q) n w (inr (inr (inr r))) strict s e = let (takes, (test, branch, again)) = of_conditional strict s r.test r.branch r.branch (subst (λ t. fits strict s t ≡ true) r.shape e) in subst (λ t. fits strict s t ≡ true) (sym r.written) (expression_taken strict s r.branch takes branch)
 row_fits (Expr q) n w (inr (inl r)) strict s e = let (takes, first, second) = operands strict s r.operator r.left r.right (subst (λ t. fits strict s t ≡ true) r.shape e) in subst (λ t. fits strict s t ≡ true) (sym r.written) (expression_taken strict s r.left takes first)
 row_fits (Stmt q) n w r strict s e = subst (λ t. fits strict s t ≡ true) (sym r.written) (empty_taken strict s (statement_taken strict s r.expression (subst (λ t. fits strict s t ≡ true) r.shape e)))
 row_fits p n w r strict s e = absurd r
@@ -195,7 +200,8 @@ statement_slot p s t = absurd t
 
 row_slot : (p : Position) (n w : Tree) → FoldingRow p n w → (strict : Bool) (s : Slot) → fits strict s n ≡ true → is_body_slot p s ≡ true
 row_slot (Expr q) n w (inl r) strict s e = expression_slot (Expr q) s (operands strict s r.operator r.left r.right (subst (λ t. fits strict s t ≡ true) r.shape e)).0
-row_slot (Expr q) n w (inr (inr r)) strict s e = formed_slot (Expr q) n w (loosened_formed n w r) strict s e
+row_slot (Expr q) n w (inr (inr (inl r))) strict s e = formed_slot (Expr q) n w (loosened_formed n w r) strict s e
+row_slot (Expr q) n w (inr (inr (inr r))) strict s e = expression_slot (Expr q) s (of_conditional strict s r.test r.branch r.branch (subst (λ t. fits strict s t ≡ true) r.shape e)).0
 row_slot (Expr q) n w (inr (inl r)) strict s e = expression_slot (Expr q) s (operands strict s r.operator r.left r.right (subst (λ t. fits strict s t ≡ true) r.shape e)).0
 row_slot (Stmt q) n w r strict s e = statement_slot (Stmt q) s (statement_taken strict s r.expression (subst (λ t. fits strict s t ≡ true) r.shape e))
 row_slot p n w r strict s e = absurd r
@@ -216,6 +222,16 @@ logical_asked q o a b t h = record {
   plain = refl;
 }
 
+conditional_asked : (q : Seat) (a b : Tree) → suits q b ≡ true → AskedAlike (Expr q) (conditional a b b) b
+conditional_asked q a b h = record {
+  absent = λ e. absurd (true≢false (sym e));
+  body = λ e. absurd (true≢false (sym e));
+  optional = λ e. absurd (true≢false (sym e));
+  number = λ asks e. no_number b (not_a_number q b asks h);
+  spelled = λ s e. absurd (cc e);
+  plain = refl;
+}
+
 statement_asked : (q : StmtSeat) (a : Tree) → AskedAlike (Stmt q) (expression_statement a) empty_statement
 statement_asked q a = record {
   absent = λ e. absurd (true≢false (sym e));
@@ -228,7 +244,8 @@ statement_asked q a = record {
 
 row_asked : (p : Position) (n w : Tree) → FoldingRow p n w → AskedAlike p n w
 row_asked (Expr q) n w (inl r) = subst (λ t. AskedAlike (Expr q) t w) (sym r.shape) (subst (AskedAlike (Expr q) (logical r.operator r.left r.right)) (sym r.written) (logical_asked q r.operator r.left r.right r.right r.stays))
-row_asked (Expr q) n w (inr (inr r)) = formed_asked (Expr q) n w (loosened_formed n w r)
+row_asked (Expr q) n w (inr (inr (inl r))) = formed_asked (Expr q) n w (loosened_formed n w r)
+row_asked (Expr q) n w (inr (inr (inr r))) = subst (λ t. AskedAlike (Expr q) t w) (sym r.shape) (subst (AskedAlike (Expr q) (conditional r.test r.branch r.branch)) (sym r.written) (conditional_asked q r.test r.branch r.stays))
 row_asked (Expr q) n w (inr (inl r)) = subst (λ t. AskedAlike (Expr q) t w) (sym r.shape) (subst (AskedAlike (Expr q) (logical r.operator r.left r.right)) (sym r.written) (logical_asked q r.operator r.left r.right r.left r.stays))
 row_asked (Stmt q) n w r = subst (λ t. AskedAlike (Stmt q) t w) (sym r.shape) (subst (AskedAlike (Stmt q) (expression_statement r.expression)) (sym r.written) (statement_asked q r.expression))
 row_asked p n w r = absurd r

@@ -9,7 +9,7 @@ use Rattle.mini_model.specs.declared.place.Position.TheVariants.{Expr, Stmt}
 use Rattle.mini_model.specs.declared.seat.Seat.{Seat}
 use Rattle.mini_model.specs.declared.seat.StmtSeat.{StmtSeat}
 use Rattle.mini_model.specs.declared.shape.Shape.TheVariants as shape
-use Rattle.mini_model.specs.Tree.{Tree, node, none, ◌▸◌, logical, expression_statement, empty_statement}
+use Rattle.mini_model.specs.Tree.{Tree, node, none, ◌▸◌, logical, conditional, expression_statement, empty_statement}
 use Rattle.mini_laws.specs.Value.{VariableSet}
 use Rattle.mini_laws.specs.State.{Environment}
 use Rattle.mini_laws.specs.Demand.{Demand, Stat}
@@ -23,8 +23,9 @@ use Rattle.mini_terms.specs.Folds.{is_effect_free}
 use Rattle.mini_terms.specs.Parts.{is_number, takes_numbers, suits}
 use Rattle.mini_terms.proofs.Reading.{same_in_seat}
 use Rattle.mini_terms.proofs.Dropping.{goes_on_same, stops_same, does_nothing}
-use Rattle.mini_rows.specs.Folding.{Row12, Row13, Row28, FoldingRow, FoldingContracts}
+use Rattle.mini_rows.specs.Folding.{Row12, Row13, Row28, Row49Idle, FoldingRow, FoldingContracts}
 use Rattle.mini_rows.specs.Spellings.{binary}
+use Rattle.mini_rows.proofs.FoldBranches.{branch_same}
 use Rattle.mini_rows.proofs.FoldEqualities.{equality_same}
 use Rattle.mini_rows.proofs.SpellAlike.{SameTree}
 use Rattle.mini_rows.proofs.SpellMeaning.{tree_same, same_by}
@@ -108,6 +109,14 @@ loosened_alike n w r = same_by n w (binary r.operator r.left r.right) (binary r.
 loosened_same : (s : Seat) (n w : Tree) → Row28 n w → SameAt (Expr s) n w
 loosened_same s n w r = tree_same s n w (loosened_alike n w r)
 
+branch_here : (s : Seat) (n w : Tree) → Row49Idle s n w → SameAt (Expr s) n w
+branch_here s n w r =
+    subst (λ t. SameAt (Expr s) t w) (sym r.shape) (subst (SameAt (Expr s) (conditional r.test r.branch r.branch)) (sym r.written)
+    (same_in_seat s (conditional r.test r.branch r.branch) r.branch refl (value_of s r.branch r.stays) (branch_same r.test r.branch r.effect_free)))
+
+branch_read : (s : Seat) (n w : Tree) → Row49Idle s n w → summary n ≡ summary w
+branch_read s n w r = ap summary r.shape ∙ sym (ap summary r.written ∙ plain_read r.branch (plain_of s r.branch r.stays))
+
 module _ (q : StmtSeat) (a : Tree) (h : is_effect_free a ≡ true) where
   nothing_by : (e : Environment) (D X : VariableSet) (d : Demand) → Fits (Stmt q) d → Same e D X d (expression_statement a) empty_statement
   nothing_by e D X (Stat t) f = does_nothing a h e D X t
@@ -119,14 +128,16 @@ module _ (q : StmtSeat) (a : Tree) (h : is_effect_free a ≡ true) where
 row_same : (p : Position) (n w : Tree) → FoldingRow p n w → SameAt p n w
 row_same (Expr s) n w (inl r) = passed_same s n w r
 row_same (Expr s) n w (inr (inl r)) = stopped_same s n w r
-row_same (Expr s) n w (inr (inr r)) = loosened_same s n w r
+row_same (Expr s) n w (inr (inr (inl r))) = loosened_same s n w r
+row_same (Expr s) n w (inr (inr (inr r))) = branch_here s n w r
 row_same (Stmt q) n w r = subst (λ t. SameAt (Stmt q) t w) (sym r.shape) (subst (SameAt (Stmt q) (expression_statement r.expression)) (sym r.written) (nothing_same q r.expression r.effect_free))
 row_same p n w r = absurd r
 
 row_read : (p : Position) (n w : Tree) → FoldingRow p n w → summary n ≡ summary w
 row_read (Expr s) n w (inl r) = passed_read s n w r
 row_read (Expr s) n w (inr (inl r)) = ap summary r.shape ∙ logical_read r.operator r.left r.right r.left (plain_of s r.left r.stays) ∙ sym (ap summary r.written)
-row_read (Expr s) n w (inr (inr r)) = (loosened_alike n w r).read
+row_read (Expr s) n w (inr (inr (inl r))) = (loosened_alike n w r).read
+row_read (Expr s) n w (inr (inr (inr r))) = branch_read s n w r
 row_read (Stmt q) n w r = ap summary r.shape ∙ sym (ap summary r.written)
 row_read p n w r = absurd r
 

@@ -17,8 +17,8 @@ use Rattle.mini_model.specs.declared.seat.Seat.{Seat}
 use Rattle.mini_model.specs.declared.seat.StmtSeat.{StmtSeat}
 use Rattle.mini_model.specs.declared.shape.Shape.{Shape}
 use Rattle.mini_model.specs.declared.shape.Shape.TheVariants as shape
-use Rattle.mini_model.specs.Tree.{Tree, Trees, node, ◌▸◌, logical, expression_statement, empty_statement}
-use Rattle.mini_model.specs.Position.{left_operand_seat, right_operand_seat}
+use Rattle.mini_model.specs.Tree.{Tree, Trees, node, ◌▸◌, logical, conditional, expression_statement, empty_statement}
+use Rattle.mini_model.specs.Position.{left_operand_seat, right_operand_seat, conditional_test_seat, branch_seat}
 use Rattle.mini_model.specs.Weight.{outline, outlines, weight, is_parenthesized, is_awkward, mixes, unary_operator_weight, binary_operator_weight, assignment_operator_weight}
 use Rattle.mini_laws.specs.Weights.{Lightens, counts_items}
 use Rattle.mini_laws.proofs.Seats.{is_inner, placed_node}
@@ -151,6 +151,10 @@ left_falls Or s a b h e = let heavy = two (right_operand_seat Or s) b h in let h
 left_falls And s a b h e = let heavy = two (right_operand_seat And s) b h in let here = moved s (left_operand_seat And s) a e in omega (arith, heavy, here)
 left_falls Coalesce s a b h e = let heavy = two (right_operand_seat Coalesce s) b h in let here = moved s (left_operand_seat Coalesce s) a e in omega (arith, heavy, here)
 
+-- 49: the test goes, and a branch
+branch_falls : (s : Seat) (a b : Tree) → weighs a ≡ true → is_plain_part b ≡ true → weight (Expr s) b < weight (Expr s) (conditional a b b)
+branch_falls s a b h e = let heavy = two conditional_test_seat a h in let here = moved s (branch_seat s) b e in omega (arith, heavy, here)
+
 -- 28: a `=` goes
 
 loosened_falls : (o p : BinaryOperator) → loosened o ≡ Some p → (s : Seat) (a b : Tree) → weight (Expr s) (binary p a b) < weight (Expr s) (binary o a b)
@@ -209,13 +213,25 @@ left_zero : (o : LogicalOperator) (s : Seat) (a b : Tree) → weighs b ≡ true 
 left_zero o s (node (shape.NumericLiteral (pos zero)) xs n ts) b h = inr (left_zero_falls o s b xs n ts h)
 left_zero o s (node h xs n ts) b k = inl refl
 
+branch_zero_falls : (s : Seat) (a : Tree) (xs : List Name) (n : ℕ) (ts : Trees) → weighs a ≡ true → weight (Expr s) (zero_literal xs n ts) + 2 ≤ weight (Expr s) (conditional a (zero_literal xs n ts) (zero_literal xs n ts))
+branch_zero_falls s a xs n ts h =
+    let heavy = two conditional_test_seat a h in
+    let branch = two (branch_seat s) (zero_literal xs n ts) refl in
+    let here = moved s (branch_seat s) (zero_literal xs n ts) refl in
+    omega (arith, heavy, branch, here)
+
+branch_zero : (s : Seat) (a b : Tree) → weighs a ≡ true → ZeroOr (Expr s) (conditional a b b) b
+branch_zero s a (node (shape.NumericLiteral (pos zero)) xs n ts) h = inr (branch_zero_falls s a xs n ts h)
+branch_zero s a (node h xs n ts) k = inl refl
+
 statement_falls : (q : StmtSeat) (a : Tree) → weight (Stmt q) empty_statement < weight (Stmt q) (expression_statement a)
 statement_falls q a = omega arith
 
 pub lighter : FoldingsLighter
 lighter (Expr s) n w (inl r) = falls_by (Expr s) n w _ _ r.shape r.written (right_falls r.operator s r.left r.right r.heavy (plain_of s r.right r.stays))
 lighter (Expr s) n w (inr (inl r)) = falls_by (Expr s) n w _ _ r.shape r.written (left_falls r.operator s r.left r.right r.heavy (plain_of s r.left r.stays))
-lighter (Expr s) n w (inr (inr r)) = falls_by (Expr s) n w _ _ r.shape r.written (loosened_falls r.operator r.loose r.loosens s r.left r.right)
+lighter (Expr s) n w (inr (inr (inl r))) = falls_by (Expr s) n w _ _ r.shape r.written (loosened_falls r.operator r.loose r.loosens s r.left r.right)
+lighter (Expr s) n w (inr (inr (inr r))) = falls_by (Expr s) n w _ _ r.shape r.written (branch_falls s r.test r.branch r.heavy (plain_of s r.branch r.stays))
 lighter (Stmt q) n w r = falls_by (Stmt q) n w _ _ r.shape r.written (statement_falls q r.expression)
 lighter p n w r = absurd r
 
@@ -241,14 +257,16 @@ not_a_number s t b h = go (takes_numbers s) (is_number t) b (number_of s t h)
 kept_absent : (p : Position) (n w : Tree) → FoldingRow p n w → (outline n).absent ≡ (outline w).absent
 kept_absent (Expr s) n w (inl r) = ap (λ t. (outline t).absent) r.shape ∙ sym (ap (λ t. (outline t).absent) r.written ∙ there r.right (plain_of s r.right r.stays))
 kept_absent (Expr s) n w (inr (inl r)) = ap (λ t. (outline t).absent) r.shape ∙ sym (ap (λ t. (outline t).absent) r.written ∙ there r.left (plain_of s r.left r.stays))
-kept_absent (Expr s) n w (inr (inr r)) = ap (λ t. (outline t).absent) r.shape ∙ sym (ap (λ t. (outline t).absent) r.written)
+kept_absent (Expr s) n w (inr (inr (inl r))) = ap (λ t. (outline t).absent) r.shape ∙ sym (ap (λ t. (outline t).absent) r.written)
+kept_absent (Expr s) n w (inr (inr (inr r))) = ap (λ t. (outline t).absent) r.shape ∙ sym (ap (λ t. (outline t).absent) r.written ∙ there r.branch (plain_of s r.branch r.stays))
 kept_absent (Stmt q) n w r = ap (λ t. (outline t).absent) r.shape ∙ sym (ap (λ t. (outline t).absent) r.written)
 kept_absent p n w r = absurd r
 
 kept_choice : (p : Position) (n w : Tree) → FoldingRow p n w → (outline n).chooses ≡ (outline w).chooses
 kept_choice (Expr s) n w (inl r) = ap (λ t. (outline t).chooses) r.shape ∙ sym (ap (λ t. (outline t).chooses) r.written ∙ no_choice r.right (plain_of s r.right r.stays))
 kept_choice (Expr s) n w (inr (inl r)) = ap (λ t. (outline t).chooses) r.shape ∙ sym (ap (λ t. (outline t).chooses) r.written ∙ no_choice r.left (plain_of s r.left r.stays))
-kept_choice (Expr s) n w (inr (inr r)) = ap (λ t. (outline t).chooses) r.shape ∙ sym (ap (λ t. (outline t).chooses) r.written)
+kept_choice (Expr s) n w (inr (inr (inl r))) = ap (λ t. (outline t).chooses) r.shape ∙ sym (ap (λ t. (outline t).chooses) r.written)
+kept_choice (Expr s) n w (inr (inr (inr r))) = ap (λ t. (outline t).chooses) r.shape ∙ sym (ap (λ t. (outline t).chooses) r.written ∙ no_choice r.branch (plain_of s r.branch r.stays))
 kept_choice (Stmt q) n w r = ap (λ t. (outline t).chooses) r.shape ∙ sym (ap (λ t. (outline t).chooses) r.written)
 kept_choice p n w r = absurd r
 
@@ -258,7 +276,8 @@ zero_by p n w a b e f h = subst (λ t. ZeroOr p t w) (sym e) (subst (ZeroOr p a)
 kept_zero : (p : Position) (n w : Tree) → FoldingRow p n w → ZeroOr p n w
 kept_zero (Expr s) n w (inl r) = zero_by (Expr s) n w _ _ r.shape r.written (right_zero r.operator s r.left r.right r.heavy)
 kept_zero (Expr s) n w (inr (inl r)) = zero_by (Expr s) n w _ _ r.shape r.written (left_zero r.operator s r.left r.right r.heavy)
-kept_zero (Expr s) n w (inr (inr r)) = inl (ap (λ t. (outline t).is_zero) r.shape ∙ sym (ap (λ t. (outline t).is_zero) r.written))
+kept_zero (Expr s) n w (inr (inr (inr r))) = zero_by (Expr s) n w _ _ r.shape r.written (branch_zero s r.test r.branch r.heavy)
+kept_zero (Expr s) n w (inr (inr (inl r))) = inl (ap (λ t. (outline t).is_zero) r.shape ∙ sym (ap (λ t. (outline t).is_zero) r.written))
 kept_zero (Stmt q) n w r = inl (ap (λ t. (outline t).is_zero) r.shape ∙ sym (ap (λ t. (outline t).is_zero) r.written))
 kept_zero p n w r = absurd r
 

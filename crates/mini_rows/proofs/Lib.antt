@@ -103,6 +103,7 @@ pub mod ChoiceShapes
 mod ChoiceSpines
 pub mod ChoiceLawful
 pub mod FoldEqualities
+mod FoldBranches
 pub mod FoldMeaning
 pub mod FoldWeights
 pub mod FoldLawful

@@ -13,7 +13,7 @@ use Rattle.mini_model.specs.declared.operator.LogicalOperator.{LogicalOperator}
 use Rattle.mini_model.specs.declared.place.Position.{Position}
 use Rattle.mini_model.specs.declared.place.Position.TheVariants.{Expr, Stmt}
 use Rattle.mini_model.specs.declared.seat.Seat.{Seat}
-use Rattle.mini_model.specs.Tree.{Tree, shape_of, logical, expression_statement, empty_statement}
+use Rattle.mini_model.specs.Tree.{Tree, shape_of, logical, conditional, expression_statement, empty_statement}
 use Rattle.mini_model.specs.Weight.{same_text, weight}
 use Rattle.mini_node.specs.Children.{names_of, part}
 use Rattle.mini_node.specs.Kinds.{assignment_operator, is_identifier, is_static_member, is_computed_member}
@@ -93,6 +93,17 @@ pub record Row28 (n w : Tree) : Type 0 where
   pub shape : n ≡ binary operator left right
   pub written : w ≡ binary loose left right
 
+-- 49, where the test is effect-free: `a ? b : b` becomes `b`
+pub record Row49Idle (s : Seat) (n w : Tree) : Type 0 where
+  pub test : Tree
+  pub branch : Tree
+  pub effect_free : is_effect_free test ≡ true
+  pub dropped : leaves_nothing test ≡ true
+  pub heavy : weighs test ≡ true
+  pub stays : suits s branch ≡ true
+  pub shape : n ≡ conditional test branch branch
+  pub written : w ≡ branch
+
 -- 22: an effect-free expression statement becomes empty, `void 0;` becomes `;`
 pub record Row22 (n w : Tree) : Type 0 where
   pub expression : Tree
@@ -103,7 +114,7 @@ pub record Row22 (n w : Tree) : Type 0 where
 
 -- a row on what is known reads n as w at this place
 abbrev pub FoldingRow : Position → Tree → Tree → Type 0
-FoldingRow (Expr s) n w = Row13 s n w ⊎ (Row12 s n w ⊎ Row28 n w)
+FoldingRow (Expr s) n w = Row13 s n w ⊎ (Row12 s n w ⊎ (Row28 n w ⊎ Row49Idle s n w))
 FoldingRow (Stmt q) n w = Row22 n w
 FoldingRow _ n w = ⊥
 

@@ -1,18 +1,19 @@
-//! Rows 12, 13, 15, 22 and 28: what is known of a part from its text goes. `!0 && b` becomes `b`, `0 && b` becomes `0`, the
-//! statement `void 0;` becomes `;`, and `typeof a === "string"` becomes `typeof a == "string"`. What is written is lighter in every
-//! place.
+//! Rows 12, 13, 15, 22 and 28, and 49 of an effect-free test: what is known of a part from its text goes. `!0 && b` becomes `b`,
+//! `0 && b` becomes `0`, `!a ? b : b` becomes `b`, the statement `void 0;` becomes `;`, and `typeof a === "string"` becomes
+//! `typeof a == "string"`. What is written is lighter in every place.
 
 ghost use Rattle.std.specs.Prelude.{◌≡◌, is_some, unwrap_or, OnOk, IfOk};
 ghost use Rattle.mini_tree.specs.Rule.{Applied};
 ghost use Rattle.mini_node.specs.Children.{part};
 ghost use Rattle.mini_fold.specs.Lighter.{folds_lighter};
-ghost use Rattle.mini_fold.specs.FoldKnown.{is_passed as passes_left, is_stopped as stops_right, written, folded, does_nothing as does_it_nothing, statement_written, Gives, Rests};
+ghost use Rattle.mini_fold.specs.FoldKnown.{is_passed as passes_left, is_stopped as stops_right, is_idle_test as has_idle_test, chooses_nothing as chooses_it_nothing, branch_written, written, folded, does_nothing as does_it_nothing, statement_written, Gives, Rests};
 
 use crate::exports::names_exports;
 use crate::rewrites::minimize_binary::minimize_binary;
 use mini_model::{LogicalOperator, OutOfMemory, Position, Seat, Shape};
 use mini_node::{
-    Node, discard, empty_statement, is_expression_statement, logical_operator, one, taken, two,
+    Node, discard, empty_statement, is_conditional, is_expression_statement, is_same_tree,
+    logical_operator, one, taken, two,
 };
 use mini_terms::{goes_on, has_no_effect, leaves_nothing, stops, suits, weighs};
 use mini_tree::{Context, Rule};
@@ -40,12 +41,12 @@ fn is_stopped(seat: Seat, operator: LogicalOperator, left: &Node, right: &Node) 
         && suits(seat, left)
 }
 
-fn right_of(node: Node) -> Node
+fn second_of(node: Node) -> Node
     ensures { result ≡ part node 1 }
 {
-    let (left, right) = two(node);
-    discard(left);
-    right
+    let (first, second) = two(node);
+    discard(first);
+    second
 }
 
 /// A logical expression one of whose sides is known to go becomes the other one. The answer says whether it did.
@@ -57,7 +58,7 @@ pub fn fold_logical_expression(alloc: Global, node: &mut Node, seat: Seat) -> bo
         return false;
     };
     if is_passed(seat, operator, node.child(0), node.child(1)) {
-        *node = right_of(taken(alloc, node));
+        *node = second_of(taken(alloc, node));
         return true;
     }
     if is_stopped(seat, operator, node.child(0), node.child(1)) {
@@ -67,7 +68,39 @@ pub fn fold_logical_expression(alloc: Global, node: &mut Node, seat: Seat) -> bo
     false
 }
 
-/// What is known of a logical expression or of the sides of an equality is folded. The answer says whether something was.
+// Whether the test is effect-free, and both branches are the same.
+fn is_idle_test(seat: Seat, test: &Node, consequent: &Node, alternate: &Node) -> bool
+    ensures { result ≡ has_idle_test seat test.now consequent.now alternate.now }
+{
+    is_same_tree(consequent, alternate)
+        && has_no_effect(test)
+        && leaves_nothing(test)
+        && weighs(test)
+        && suits(seat, consequent)
+}
+
+// Whether a conditional has such a test.
+fn chooses_nothing(node: &Node, seat: Seat) -> bool
+    ensures { result ≡ chooses_it_nothing seat node.now }
+{
+    is_conditional(node) && is_idle_test(seat, node.child(0), node.child(1), node.child(2))
+}
+
+/// A conditional with an effect-free test and two equal branches becomes its branch: `!a ? b : b` becomes `b`. The answer says
+/// whether it did.
+pub fn fold_conditional(alloc: Global, node: &mut Node, seat: Seat) -> bool
+    ensures tree { node.new ≡ unwrap_or (branch_written seat node.old) node.old }
+    ensures said { result ≡ is_some (branch_written seat node.old) }
+{
+    if !chooses_nothing(node, seat) {
+        return false;
+    }
+    *node = second_of(taken(alloc, node));
+    true
+}
+
+/// What is known of a logical expression, of the sides of an equality or of a conditional is folded. The answer says whether
+/// something was.
 pub fn fold_expression(alloc: Global, node: &mut Node, seat: Seat) -> bool
     ensures tree { node.new ≡ unwrap_or (written seat node.old) node.old }
     ensures said { result ≡ is_some (written seat node.old) }
@@ -75,6 +108,7 @@ pub fn fold_expression(alloc: Global, node: &mut Node, seat: Seat) -> bool
     match node.shape() {
         Shape::LogicalExpression(_) => fold_logical_expression(alloc, node, seat),
         Shape::BinaryExpression(_) => minimize_binary(alloc, node),
+        Shape::ConditionalExpression => fold_conditional(alloc, node, seat),
         _ => false,
     }
 }
@@ -97,7 +131,7 @@ pub fn remove_unused_expression(alloc: Global, node: &mut Node) -> bool
     true
 }
 
-/// Rows 12, 13, 15, 22 and 28 as a rule: of each expression and each statement.
+/// Rows 12, 13, 15, 22 and 28, and 49 of an effect-free test, as a rule: of each expression and each statement.
 pub struct FoldKnown;
 
 impl<C: Context> Rule<C> for FoldKnown {
