@@ -1,25 +1,27 @@
 -- What is lifted out or spread is what a row says, and where nothing is no row reads the expression.
 use Rattle.std.proofs.Common.{◌≡◌, ℕ, zero, suc, ◌<◌, ◌≤◌, Bool, true, false, Option, Some, None, refl, sym, ap, ◌∙◌, inl, inr, true≢false, arith}
-use Rattle.std.specs.Prelude.{◌+◌, ◌&&◌, ◌||◌, nat_eq, nat_le, is_some, if◌then◌else◌}
+use Rattle.std.specs.Prelude.{◌+◌, not, ◌&&◌, ◌||◌, nat_eq, nat_le, is_some, if◌then◌else◌}
 use Rattle.std.proofs.lemmas.Bool.{and_parts, le-leb, leb-true, eqb-true}
 use Rattle.mini_model.specs.declared.operator.BinaryOperator.{BinaryOperator}
 use Rattle.mini_model.specs.declared.operator.LogicalOperator.{LogicalOperator}
+use Rattle.mini_model.specs.declared.operator.UnaryOperator.{UnaryOperator}
+use Rattle.mini_model.specs.declared.operator.UnaryOperator.TheVariants.{UnaryPlus, UnaryNegation, BitwiseNot}
 use Rattle.mini_model.specs.declared.place.Position.{Position}
 use Rattle.mini_model.specs.declared.place.Position.TheVariants.{Expr}
 use Rattle.mini_model.specs.declared.seat.Seat.{Seat}
 use Rattle.mini_model.specs.Tree.{Tree, Trees, none, ◌▸◌, count, children, child_or_absent, first_or_absent}
 use Rattle.mini_model.specs.Paths.{append}
 use Rattle.mini_node.specs.Children.{part, first_children, rest_children, without}
-use Rattle.mini_node.specs.Kinds.{logical_operator, binary_operator, is_conditional, is_negation, is_sequence, sequence}
-use Rattle.mini_node.specs.Made.{binary_is, logical_is, conditional_is, negation_is, sequence_is}
+use Rattle.mini_node.specs.Kinds.{logical_operator, binary_operator, unary_operator, is_conditional, is_negation, is_sequence, sequence}
+use Rattle.mini_node.specs.Made.{unary_is, binary_is, logical_is, conditional_is, negation_is, sequence_is}
 use Rattle.mini_node.specs.Walks.{from_first, next_child, no_rest}
 use Rattle.mini_terms.specs.Folds.{is_effect_free}
-use Rattle.mini_terms.specs.Parts.{suits, leaves_nothing, weighs}
-use Rattle.mini_rows.specs.Sequences.{Operation, Decides, Chooses, Negates, Operates, over, is_open_seat, takes_alone, Row20, Row21, Row21Idle, Row21Alone, SequenceRow}
+use Rattle.mini_terms.specs.Parts.{is_number, suits, leaves_nothing, weighs}
+use Rattle.mini_rows.specs.Sequences.{Plus, Minus, Complement, Operation, Decides, Chooses, Negates, Operates, Converts, over, takes_last, is_open_seat, takes_alone, Row20, Row21, Row21Idle, Row21Alone, SequenceRow}
 use Rattle.mini_rows.proofs.SequenceWeights.{lighter}
 use Rattle.mini_tree.specs.Rule.{Applied}
 use Rattle.mini_tree.proofs.Reaching.{moves_once}
-use Rattle.mini_fold.specs.FoldSequences.{has_several, is_several, last_of, but_last, is_operation, is_lifted, with_first, parts_of_first, lifted, any_of, is_nested, spread_at, is_idle, idle_before_last, is_left, loses_part, Gives, Rests}
+use Rattle.mini_fold.specs.FoldSequences.{has_several, is_several, last_of, but_last, converts, is_minus, is_operation, takes_last_of, gives_parts, is_lifted, with_first, parts_of_first, lifted, any_of, is_nested, spread_at, is_idle, idle_before_last, is_left, loses_part, Gives, Rests}
 
 pub several_by_count : (ts : Trees) → nat_le 2 (count ts) ≡ has_several ts
 several_by_count none = refl
@@ -52,43 +54,63 @@ ended : (t : Tree) (ts : Trees) → t ▸ ts ≡ append (but_last (t ▸ ts)) (l
 ended t none = refl
 ended t (u ▸ us) = ap (λ vs. t ▸ vs) (ended u us)
 
+pub some_of_several : (ts : Trees) → has_several ts ≡ true → 0 < count ts
+some_of_several none e = absurd (true≢false (sym e))
+some_of_several (t ▸ ts) e = omega arith
+
+pub ends_in : (ts : Trees) (i : ℕ) → i + 1 ≡ count ts → is_number (child_or_absent ts i) ≡ is_number (last_of ts)
+ends_in none i e = absurd (omega (arith, e))
+ends_in (t ▸ none) zero e = refl
+ends_in (t ▸ none) (suc i) e = absurd (omega (arith, e))
+ends_in (t ▸ (u ▸ us)) zero e = absurd (omega (arith, e))
+ends_in (t ▸ (u ▸ us)) (suc i) e = ends_in (u ▸ us) i (omega (arith, e))
+
 -- ---- 20
 
--- a node over its first operand, and over any other
+-- a node over its first operand, and over any other; it takes what is no number behind a `-`
 record Operated (t : Tree) : Type 0 where
   operation : Operation
   is : t ≡ over operation (part t 0)
   other : (q : Tree) → with_first t q ≡ over operation q
+  takes : (q : Tree) → not (is_minus (unary_operator t)) || not (is_number q) ≡ true → takes_last operation q ≡ true
+
+converted : (t : Tree) (o : Option UnaryOperator) → unary_operator t ≡ o → converts o ≡ true → Operated t
+converted t (Some UnaryPlus) h e = record { operation = Converts Plus; is = unary_is t UnaryPlus h; other = λ q. ap (λ u. with_first u q) (unary_is t UnaryPlus h); takes = λ q k. refl }
+converted t (Some UnaryNegation) h e = record { operation = Converts Minus; is = unary_is t UnaryNegation h; other = λ q. ap (λ u. with_first u q) (unary_is t UnaryNegation h); takes = λ q k. sym (ap (λ o. not (is_minus o) || not (is_number q)) h) ∙ k }
+converted t (Some BitwiseNot) h e = record { operation = Converts Complement; is = unary_is t BitwiseNot h; other = λ q. ap (λ u. with_first u q) (unary_is t BitwiseNot h); takes = λ q k. refl }
+converted t o h e = absurd (true≢false (sym e))
 
 operated : (t : Tree) → is_operation t ≡ true → Operated t
 operated t e = go (logical_operator t) (is_conditional t) (is_negation t) (binary_operator t) refl refl refl refl e
   where
-    go : (o : Option LogicalOperator) (c d : Bool) (b : Option BinaryOperator) → logical_operator t ≡ o → is_conditional t ≡ c → is_negation t ≡ d → binary_operator t ≡ b → is_some o || (c || (d || is_some b)) ≡ true → Operated t
-    go (Some o) c d b h k l m e = record { operation = Decides o (part t 1); is = logical_is t o h; other = λ q. ap (λ u. with_first u q) (logical_is t o h) }
-    go None true d b h k l m e = record { operation = Chooses (part t 1) (part t 2); is = conditional_is t k; other = λ q. ap (λ u. with_first u q) (conditional_is t k) }
-    go None false true b h k l m e = record { operation = Negates; is = negation_is t l; other = λ q. ap (λ u. with_first u q) (negation_is t l) }
-    go None false false (Some o) h k l m e = record { operation = Operates o (part t 1); is = binary_is t o m; other = λ q. ap (λ u. with_first u q) (binary_is t o m) }
-    go None false false None h k l m e = absurd (true≢false (sym e))
+    go : (o : Option LogicalOperator) (c d : Bool) (b : Option BinaryOperator) → logical_operator t ≡ o → is_conditional t ≡ c → is_negation t ≡ d → binary_operator t ≡ b → is_some o || (c || (d || (is_some b || converts (unary_operator t)))) ≡ true → Operated t
+    go (Some o) c d b h k l m e = record { operation = Decides o (part t 1); is = logical_is t o h; other = λ q. ap (λ u. with_first u q) (logical_is t o h); takes = λ q k. refl }
+    go None true d b h k l m e = record { operation = Chooses (part t 1) (part t 2); is = conditional_is t k; other = λ q. ap (λ u. with_first u q) (conditional_is t k); takes = λ q k. refl }
+    go None false true b h k l m e = record { operation = Negates; is = negation_is t l; other = λ q. ap (λ u. with_first u q) (negation_is t l); takes = λ q k. refl }
+    go None false false (Some o) h k l m e = record { operation = Operates o (part t 1); is = binary_is t o m; other = λ q. ap (λ u. with_first u q) (binary_is t o m); takes = λ q k. refl }
+    go None false false None h k l m e = converted t (unary_operator t) refl e
 
 lifted_row : (s : Seat) (t : Tree) → is_lifted s t ≡ true → Row20 s t (lifted t)
 lifted_row s t e =
-    let (seated, rest) = and_parts (is_open_seat s) (is_operation t && is_several (part t 0)) e in
-    let (operates, nested) = and_parts (is_operation t) (is_several (part t 0)) rest in
-    let (is, several) = and_parts (is_sequence (part t 0)) (has_several (parts_of_first t)) nested in
-    go (operated t operates) seated is (parts_of_first t) refl several
+    let (seated, rest) = and_parts (is_open_seat s) (is_operation t && gives_parts t (part t 0)) e in
+    let (operates, nested) = and_parts (is_operation t) (gives_parts t (part t 0)) rest in
+    let (is, parts) = and_parts (is_sequence (part t 0)) (has_several (parts_of_first t) && takes_last_of t (parts_of_first t)) nested in
+    let (several, takes) = and_parts (has_several (parts_of_first t)) (takes_last_of t (parts_of_first t)) parts in
+    go (operated t operates) seated is (parts_of_first t) refl several takes
   where
-    go : Operated t → is_open_seat s ≡ true → is_sequence (part t 0) ≡ true → (ts : Trees) → parts_of_first t ≡ ts → has_several ts ≡ true → Row20 s t (lifted t)
-    go o seated is (a ▸ (b ▸ us)) f h = record {
+    go : Operated t → is_open_seat s ≡ true → is_sequence (part t 0) ≡ true → (ts : Trees) → parts_of_first t ≡ ts → has_several ts ≡ true → takes_last_of t (parts_of_first t) ≡ true → Row20 s t (lifted t)
+    go o seated is (a ▸ (b ▸ us)) f h k = record {
       operation = o.operation;
       first = a;
       others = but_last (b ▸ us);
       last = last_of (b ▸ us);
       seated = seated;
+      takes = o.takes (last_of (b ▸ us)) (sym (ap (takes_last_of t) f) ∙ k);
       shape = o.is ∙ ap (over o.operation) (sequence_is (part t 0) is ∙ ap sequence (f ∙ ap (λ vs. a ▸ vs) (ended b us)));
       written = ap (λ vs. sequence (append (but_last vs) (with_first t (last_of vs) ▸ none))) f ∙ ap (λ u. sequence (a ▸ append (but_last (b ▸ us)) (u ▸ none))) (o.other (last_of (b ▸ us)));
     }
-    go o seated is none f h = absurd (true≢false (sym h))
-    go o seated is (a ▸ none) f h = absurd (true≢false (sym h))
+    go o seated is none f h k = absurd (true≢false (sym h))
+    go o seated is (a ▸ none) f h k = absurd (true≢false (sym h))
 
 pub lifted_applied : (s : Seat) (t : Tree) → is_lifted s t ≡ true → Applied Gives Rests (Expr s) t (lifted t) true
 lifted_applied s t e = let row = lifted_row s t e in moves_once Gives (Expr s) t (lifted t) (record { row = inl row; lighter = lighter (Expr s) t (lifted t) (inl row) })
@@ -138,11 +160,17 @@ several : (p : Tree) (ps : Trees) (l : Tree) → has_several (p ▸ append ps (l
 several p none l = refl
 several p (c ▸ ps) l = refl
 
-lifts : (s : Seat) (r : Operation) (p : Tree) (ps : Trees) (l : Tree) → is_open_seat s ≡ true → is_lifted s (over r (sequence (p ▸ append ps (l ▸ none)))) ≡ true
-lifts s (Decides o b) p ps l h = both_true (is_open_seat s) (has_several (p ▸ append ps (l ▸ none))) h (several p ps l)
-lifts s (Chooses b c) p ps l h = both_true (is_open_seat s) (has_several (p ▸ append ps (l ▸ none))) h (several p ps l)
-lifts s Negates p ps l h = both_true (is_open_seat s) (has_several (p ▸ append ps (l ▸ none))) h (several p ps l)
-lifts s (Operates o b) p ps l h = both_true (is_open_seat s) (has_several (p ▸ append ps (l ▸ none))) h (several p ps l)
+opened : (s : Seat) (p : Tree) (ps : Trees) (l : Tree) (takes : Bool) → is_open_seat s ≡ true → takes ≡ true → is_open_seat s && (has_several (p ▸ append ps (l ▸ none)) && takes) ≡ true
+opened s p ps l takes h k = both_true (is_open_seat s) (has_several (p ▸ append ps (l ▸ none)) && takes) h (both_true (has_several (p ▸ append ps (l ▸ none))) takes (several p ps l) k)
+
+lifts : (s : Seat) (r : Operation) (p : Tree) (ps : Trees) (l : Tree) → is_open_seat s ≡ true → takes_last r l ≡ true → is_lifted s (over r (sequence (p ▸ append ps (l ▸ none)))) ≡ true
+lifts s (Decides o b) p ps l h k = opened s p ps l true h refl
+lifts s (Chooses b c) p ps l h k = opened s p ps l true h refl
+lifts s Negates p ps l h k = opened s p ps l true h refl
+lifts s (Operates o b) p ps l h k = opened s p ps l true h refl
+lifts s (Converts Plus) p ps l h k = opened s p ps l true h refl
+lifts s (Converts Minus) p ps l h k = opened s p ps l (not (is_number (last_of (append (p ▸ ps) (l ▸ none))))) h (ap (λ t. not (is_number t)) (last_append (p ▸ ps) l) ∙ k)
+lifts s (Converts Complement) p ps l h k = opened s p ps l true h refl
 
 or_true : (b c : Bool) → c ≡ true → b || c ≡ true
 or_true true c e = refl
@@ -225,7 +253,7 @@ idle_parts : (a : Tree) → is_effect_free a ≡ true → leaves_nothing a ≡ t
 idle_parts a e f g = both_true (is_effect_free a) (leaves_nothing a && weighs a) e (both_true (leaves_nothing a) (weighs a) f g)
 
 pub rests : (s : Seat) (t : Tree) → is_lifted s t ≡ false → is_nested t ≡ false → loses_part s t ≡ false → Rests (Expr s) t
-rests s t h k l w (inl r) = true≢false (sym (lifts s r.operation r.first r.others r.last r.seated) ∙ sym (ap (is_lifted s) r.shape) ∙ h)
+rests s t h k l w (inl r) = true≢false (sym (lifts s r.operation r.first r.others r.last r.seated r.takes) ∙ sym (ap (is_lifted s) r.shape) ∙ h)
 rests s t h k l w (inr (inl r)) = true≢false (sym (found r.before (sequence (r.first ▸ (r.second ▸ r.others))) r.after refl) ∙ sym (ap is_nested r.shape) ∙ k)
 rests s t h k l w (inr (inr (inl r))) = true≢false (sym (loses_idle s r.before r.idle r.next r.after (idle_parts r.idle r.effect_free r.dropped r.heavy) r.several) ∙ sym (ap (loses_part s) r.shape) ∙ l)
 rests s t h k l w (inr (inr (inr r))) = true≢false (sym (both_true (takes_alone s) (is_idle r.idle && suits s r.last) r.seated (both_true (is_idle r.idle) (suits s r.last) (idle_parts r.idle r.effect_free r.dropped r.heavy) r.stays)) ∙ sym (ap (loses_part s) r.shape) ∙ l)

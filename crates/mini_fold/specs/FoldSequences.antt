@@ -1,13 +1,16 @@
--- The rewrites 20 and 21: `(a, b) && c` becomes `a, b && c`, `a, (b, c)` becomes `a, b, c`, and `a(), 1, b()` becomes `a(), b()`.
-use Rattle.std.specs.Prelude.{ℕ, Bool, true, false, ◌&&◌, ◌||◌, nat_eq, nat_le, is_some, if◌then◌else◌}
+-- The rewrites 20 and 21: `(a, b) && c` becomes `a, b && c`, `-(a, b)` becomes `a, -b`, `a, (b, c)` becomes `a, b, c`, and `a(), 1, b()`
+-- becomes `a(), b()`.
+use Rattle.std.specs.Prelude.{ℕ, Bool, true, false, not, ◌&&◌, ◌||◌, nat_eq, nat_le, Option, Some, is_some, if◌then◌else◌}
+use Rattle.mini_model.specs.declared.operator.UnaryOperator.{UnaryOperator}
+use Rattle.mini_model.specs.declared.operator.UnaryOperator.TheVariants.{UnaryPlus, UnaryNegation, BitwiseNot}
 use Rattle.mini_model.specs.declared.place.Position.{Position}
 use Rattle.mini_model.specs.declared.seat.Seat.{Seat}
 use Rattle.mini_model.specs.Tree.{Tree, Trees, none, ◌▸◌, absent, children, count, child_or_absent, first_or_absent}
 use Rattle.mini_model.specs.Paths.{append}
 use Rattle.mini_node.specs.Children.{part, like, first_children, rest_children, with_inserted, without}
-use Rattle.mini_node.specs.Kinds.{logical_operator, binary_operator, is_conditional, is_negation, is_sequence, sequence}
+use Rattle.mini_node.specs.Kinds.{logical_operator, binary_operator, unary_operator, is_conditional, is_negation, is_sequence, sequence}
 use Rattle.mini_terms.specs.Folds.{is_effect_free}
-use Rattle.mini_terms.specs.Parts.{suits, leaves_nothing, weighs}
+use Rattle.mini_terms.specs.Parts.{is_number, suits, leaves_nothing, weighs}
 use Rattle.mini_rows.specs.Sequences.{is_open_seat, takes_alone, SequenceRow, SequenceContracts}
 
 -- two or more
@@ -32,13 +35,32 @@ but_last none = none
 but_last (t ▸ none) = none
 but_last (t ▸ (u ▸ us)) = t ▸ but_last (u ▸ us)
 
+-- the operators that make a number of their operand
+abbrev pub converts : Option UnaryOperator → Bool
+converts (Some UnaryPlus) = true
+converts (Some UnaryNegation) = true
+converts (Some BitwiseNot) = true
+converts o = false
+
+abbrev pub is_minus : Option UnaryOperator → Bool
+is_minus (Some UnaryNegation) = true
+is_minus o = false
+
 -- a node that evaluates its first operand before all else of it
 abbrev pub is_operation : Tree → Bool
-is_operation t = is_some (logical_operator t) || (is_conditional t || (is_negation t || is_some (binary_operator t)))
+is_operation t = is_some (logical_operator t) || (is_conditional t || (is_negation t || (is_some (binary_operator t) || converts (unary_operator t))))
+
+-- the last of these may stand behind the operator of the node: no number behind a `-`
+abbrev pub takes_last_of : Tree → Trees → Bool
+takes_last_of t ts = not (is_minus (unary_operator t)) || not (is_number (last_of ts))
+
+-- the operand is a sequence whose last part may stand there
+abbrev pub gives_parts : Tree → Tree → Bool
+gives_parts t operand = is_sequence operand && (has_several (children (part operand 0)) && takes_last_of t (children (part operand 0)))
 
 -- such a node over a sequence, which is to be lifted out here
 abbrev pub is_lifted : Seat → Tree → Bool
-is_lifted s t = is_open_seat s && (is_operation t && is_several (part t 0))
+is_lifted s t = is_open_seat s && (is_operation t && gives_parts t (part t 0))
 
 -- the node over another first operand
 abbrev pub with_first : Tree → Tree → Tree

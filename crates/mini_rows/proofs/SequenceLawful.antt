@@ -1,14 +1,14 @@
 -- What a row on sequences writes keeps all that a program has to keep: it is built anew of the same parts.
 use Rattle.std.proofs.Common.{◌≡◌, ◌≤◌, Bool, true, false, [], ◌∷◌, refl, sym, ap, subst, ◌∙◌, inl, inr, true≢false, arith}
-use Rattle.std.specs.Prelude.{◌&&◌, None, nat_le}
+use Rattle.std.specs.Prelude.{◌&&◌, not, None, nat_le}
 use Rattle.std.proofs.lemmas.Bool.{and_parts, leb-true}
 use Rattle.mini_model.specs.declared.place.Position.{Position}
 use Rattle.mini_model.specs.declared.place.Position.TheVariants.{Expr}
 use Rattle.mini_model.specs.declared.seat.Seat.{Seat}
 use Rattle.mini_model.specs.declared.shape.Shape.TheVariants as shape
-use Rattle.mini_model.specs.Tree.{Tree, Trees, none, ◌▸◌, count, listed}
+use Rattle.mini_model.specs.Tree.{Tree, Trees, none, ◌▸◌, count, unary, listed}
 use Rattle.mini_model.specs.Paths.{append}
-use Rattle.mini_accept.specs.WellShaped.{Depth, in_module, in_body, nested, Class, a_statement, an_init, an_arrow_body, an_expression, a_link, an_argument, a_key, a_private_or_key, an_inner_key, a_default_export, Slot, one, one_or_absent, statement_slots, filling_by, each, fits, fill}
+use Rattle.mini_accept.specs.WellShaped.{Depth, in_module, in_body, nested, Class, a_statement, an_init, an_arrow_body, an_expression, a_link, an_argument, a_key, a_private_or_key, an_inner_key, a_default_export, Slot, one, one_or_absent, statement_slots, filling_by, each, fits, fill, is_not_positive_number}
 use Rattle.mini_kept.specs.KeepsNames.{is_rewritten_place}
 use Rattle.mini_kept.specs.KeepsShapes.{AskedAlike}
 use Rattle.mini_kept.specs.KeepsFrames.{is_body_slot}
@@ -19,12 +19,12 @@ use Rattle.mini_node.specs.Walks.{append_none}
 use Rattle.mini_rows.specs.Arranged.{KeptAt}
 use Rattle.mini_rows.specs.Sketches.{Unary, Binary, Logical, Conditional, Sequence, Parts, Sketch, part, under, list, end, ◌▹◌, no_items, item, items}
 use Rattle.mini_rows.specs.Lists.{sequence}
-use Rattle.mini_rows.specs.Sequences.{Operation, Decides, Chooses, Negates, Operates, over, Row21, Row21Idle, Row21Alone, SequenceRow, SequenceContracts}
-use Rattle.mini_model.specs.declared.operator.UnaryOperator.TheVariants.{LogicalNot}
-use Rattle.mini_terms.specs.Parts.{suits}
+use Rattle.mini_rows.specs.Sequences.{Conversion, Plus, Minus, Complement, conversion_operator, Operation, Decides, Chooses, Negates, Operates, Converts, over, takes_last, Row21, Row21Idle, Row21Alone, SequenceRow, SequenceContracts}
+use Rattle.mini_model.specs.declared.operator.UnaryOperator.TheVariants.{LogicalNot, UnaryPlus, UnaryNegation, BitwiseNot}
+use Rattle.mini_terms.specs.Parts.{is_number, suits}
 use Rattle.mini_rows.proofs.ArrangedExpressions.{expressions_arranged, expressions_arranged_freely}
 use Rattle.mini_rows.proofs.ArrangedLawful.{kept_is_lawful}
-use Rattle.mini_rows.proofs.ConstantLawful.{binary_at}
+use Rattle.mini_rows.proofs.ConstantLawful.{unary_at, binary_at}
 use Rattle.mini_rows.proofs.FoldLawful.{operands, expression_slot, vanishes, first_dropped, no_number}
 use Rattle.mini_rows.proofs.FoldWeights.{not_a_number}
 use Rattle.mini_rows.proofs.ListShapes.{AllFit, sequence_fits, parts_fit, of_parts_fits, append_fits, both_fit, first_fits, more_fit}
@@ -41,6 +41,9 @@ lifted_kept (Decides o b) p ps l q n w e f = expressions_arranged (record { tree
 lifted_kept (Chooses b c) p ps l q n w e f = expressions_arranged (record { trees = p ▸ l ▸ b ▸ c ▸ none; lists = ps ∷ [] }) (under Conditional (in_order (part 1) ▹ part 2 ▹ part 3 ▹ end)) (in_order (under Conditional (part 1 ▹ part 2 ▹ part 3 ▹ end))) refl q n w e f
 lifted_kept Negates p ps l q n w e f = expressions_arranged (record { trees = p ▸ l ▸ none; lists = ps ∷ [] }) (under (Unary LogicalNot) (in_order (part 1) ▹ end)) (in_order (under (Unary LogicalNot) (part 1 ▹ end))) refl q n w e f
 lifted_kept (Operates o b) p ps l q n w e f = expressions_arranged (record { trees = p ▸ l ▸ b ▸ none; lists = ps ∷ [] }) (under (Binary o) (in_order (part 1) ▹ part 2 ▹ end)) (in_order (under (Binary o) (part 1 ▹ part 2 ▹ end))) refl q n w e f
+lifted_kept (Converts Plus) p ps l q n w e f = expressions_arranged (record { trees = p ▸ l ▸ none; lists = ps ∷ [] }) (under (Unary UnaryPlus) (in_order (part 1) ▹ end)) (in_order (under (Unary UnaryPlus) (part 1 ▹ end))) refl q n w e f
+lifted_kept (Converts Minus) p ps l q n w e f = expressions_arranged (record { trees = p ▸ l ▸ none; lists = ps ∷ [] }) (under (Unary UnaryNegation) (in_order (part 1) ▹ end)) (in_order (under (Unary UnaryNegation) (part 1 ▹ end))) refl q n w e f
+lifted_kept (Converts Complement) p ps l q n w e f = expressions_arranged (record { trees = p ▸ l ▸ none; lists = ps ∷ [] }) (under (Unary BitwiseNot) (in_order (part 1) ▹ end)) (in_order (under (Unary BitwiseNot) (part 1 ▹ end))) refl q n w e f
 
 spread_kept : (q : Seat) (n w : Tree) → Row21 n w → KeptAt (Expr q) n w
 spread_kept q n w r =
@@ -115,6 +118,10 @@ two_at_least : (before : Trees) (a b : Tree) (ts : Trees) → 2 ≤ count (appen
 two_at_least none a b ts = omega arith
 two_at_least (p ▸ ps) a b ts = let rest = two_at_least ps a b ts in omega (arith, rest)
 
+not_true : (b : Bool) → not b ≡ true → b ≡ false
+not_true false e = refl
+not_true true e = absurd (true≢false (sym e))
+
 module _ (strict : Bool) where
   abbrev Fits : Tree → Type 0
   Fits t = fits strict expression t ≡ true
@@ -127,17 +134,25 @@ module _ (strict : Bool) where
       let last = f (first_fits strict expression l none lasts).0 in
       subst Fits (several p ps m) (of_parts_fits strict p (append ps (m ▸ none)) (append_fits strict expression (p ▸ ps) (m ▸ none) firsts (more_fit strict expression m none last refl)))
 
-  lifted_fits : (s : Slot) (r : Operation) (p : Tree) (ps : Trees) (l : Tree) → fits strict s (over r (sequence (p ▸ append ps (l ▸ none)))) ≡ true → TakesExpression s × Fits (sequence (p ▸ append ps (over r l ▸ none)))
-  lifted_fits s (Decides o b) p ps l e =
+  converted_fits : (c : Conversion) (l : Tree) → takes_last (Converts c) l ≡ true → Fits l → Fits (unary (conversion_operator c) l)
+  converted_fits Plus l h f = both (fits strict expression l) true f refl
+  converted_fits Minus l h f = both (is_not_positive_number l) (fits strict expression l && true) (no_number l (not_true (is_number l) h)) (both (fits strict expression l) true f refl)
+  converted_fits Complement l h f = both (fits strict expression l) true f refl
+
+  lifted_fits : (s : Slot) (r : Operation) (p : Tree) (ps : Trees) (l : Tree) → takes_last r l ≡ true → fits strict s (over r (sequence (p ▸ append ps (l ▸ none)))) ≡ true → TakesExpression s × Fits (sequence (p ▸ append ps (over r l ▸ none)))
+  lifted_fits s (Decides o b) p ps l h e =
       let (takes, first, second) = operands strict s o (sequence (p ▸ append ps (l ▸ none))) b e in
       (takes, last_fits p ps l first (over (Decides o b) l) (λ f. two_fit strict l b f second))
-  lifted_fits s (Chooses b c) p ps l e =
+  lifted_fits s (Chooses b c) p ps l h e =
       let (takes, (first, second, third)) = of_conditional strict s (sequence (p ▸ append ps (l ▸ none))) b c e in
       (takes, last_fits p ps l first (over (Chooses b c) l) (λ f. three_fit strict l b c f second third))
-  lifted_fits s Negates p ps l e =
+  lifted_fits s Negates p ps l h e =
       let (takes, first) = of_negation strict s (sequence (p ▸ append ps (l ▸ none))) e in
       (takes, last_fits p ps l first (over Negates l) (λ f. both (fits strict expression l) true f refl))
-  lifted_fits s (Operates o b) p ps l e =
+  lifted_fits s (Converts c) p ps l h e =
+      let (takes, first) = unary_at strict (conversion_operator c) (sequence (p ▸ append ps (l ▸ none))) s e in
+      (takes, last_fits p ps l first (over (Converts c) l) (λ f. converted_fits c l h f))
+  lifted_fits s (Operates o b) p ps l h e =
       let (takes, (first, second)) = binary_at strict o (sequence (p ▸ append ps (l ▸ none))) b s e in
       (takes, last_fits p ps l first (over (Operates o b) l) (λ f. two_fit strict l b f second))
 
@@ -165,7 +180,7 @@ module _ (strict : Bool) where
 
 row_fits : (p : Position) (n w : Tree) → SequenceRow p n w → (strict : Bool) (s : Slot) → fits strict s n ≡ true → fits strict s w ≡ true
 row_fits (Expr q) n w (inl r) strict s e =
-    let (takes, fit) = lifted_fits strict s r.operation r.first r.others r.last (subst (λ t. fits strict s t ≡ true) r.shape e) in
+    let (takes, fit) = lifted_fits strict s r.operation r.first r.others r.last r.takes (subst (λ t. fits strict s t ≡ true) r.shape e) in
     subst (λ t. fits strict s t ≡ true) (sym r.written) (expression_taken strict s (sequence (r.first ▸ append r.others (over r.operation r.last ▸ none))) takes fit)
 row_fits (Expr q) n w (inr (inl r)) strict s e =
     let (takes, fit) = of_sequence strict s (append r.before (sequence (r.first ▸ (r.second ▸ r.others)) ▸ r.after)) (subst (λ t. fits strict s t ≡ true) r.shape e) in
@@ -179,7 +194,7 @@ row_fits (Expr q) n w (inr (inr (inr r))) strict s e =
 row_fits p n w r strict s e = absurd r
 
 row_slot : (p : Position) (n w : Tree) → SequenceRow p n w → (strict : Bool) (s : Slot) → fits strict s n ≡ true → is_body_slot p s ≡ true
-row_slot (Expr q) n w (inl r) strict s e = expression_slot (Expr q) s (lifted_fits strict s r.operation r.first r.others r.last (subst (λ t. fits strict s t ≡ true) r.shape e)).0
+row_slot (Expr q) n w (inl r) strict s e = expression_slot (Expr q) s (lifted_fits strict s r.operation r.first r.others r.last r.takes (subst (λ t. fits strict s t ≡ true) r.shape e)).0
 row_slot (Expr q) n w (inr (inl r)) strict s e = expression_slot (Expr q) s (of_sequence strict s (append r.before (sequence (r.first ▸ (r.second ▸ r.others)) ▸ r.after)) (subst (λ t. fits strict s t ≡ true) r.shape e)).0
 row_slot (Expr q) n w (inr (inr (inl r))) strict s e = expression_slot (Expr q) s (of_sequence strict s (append r.before (r.idle ▸ (r.next ▸ r.after))) (subst (λ t. fits strict s t ≡ true) r.shape e)).0
 row_slot (Expr q) n w (inr (inr (inr r))) strict s e = expression_slot (Expr q) s (of_sequence strict s (r.idle ▸ (r.last ▸ none)) (subst (λ t. fits strict s t ≡ true) r.shape e)).0
@@ -215,6 +230,14 @@ over_asked p (Chooses b c) a ts = record {
   plain = refl;
 }
 over_asked p Negates a ts = record {
+  absent = λ e. absurd (true≢false (sym e));
+  body = λ e. absurd (true≢false (sym e));
+  optional = λ e. absurd (true≢false (sym e));
+  number = λ asks e. refl;
+  spelled = λ s e. absurd (cc e);
+  plain = refl;
+}
+over_asked p (Converts c) a ts = record {
   absent = λ e. absurd (true≢false (sym e));
   body = λ e. absurd (true≢false (sym e));
   optional = λ e. absurd (true≢false (sym e));

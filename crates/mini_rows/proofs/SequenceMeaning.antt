@@ -1,28 +1,32 @@
 -- What a row on sequences writes means the same.
-use Rattle.std.proofs.Common.{◌≡◌, Bool, true, false, refl, sym, ap, subst, ◌∙◌, inl, inr}
+use Rattle.std.proofs.Common.{◌≡◌, Bool, true, false, [], refl, sym, ap, subst, ◌∙◌, inl, inr}
 use Rattle.std.specs.Prelude.{not, ◌&&◌, ◌||◌}
+use Rattle.mini_model.specs.declared.operator.UnaryOperator.{UnaryOperator}
 use Rattle.mini_model.specs.declared.place.Position.{Position}
 use Rattle.mini_model.specs.declared.place.Position.TheVariants.{Expr}
 use Rattle.mini_model.specs.declared.seat.Seat.{Seat}
-use Rattle.mini_model.specs.Tree.{Tree, Trees, none, ◌▸◌}
+use Rattle.mini_model.specs.declared.shape.Shape.TheVariants as shape
+use Rattle.mini_model.specs.Tree.{Tree, Trees, none, ◌▸◌, unary, absent}
 use Rattle.mini_model.specs.Paths.{append}
 use Rattle.mini_laws.specs.Value.{Value, Boolean, choose, truth}
 use Rattle.mini_laws.specs.State.{State, Completion, ok, stop, either, Environment}
 use Rattle.mini_laws.specs.Demand.{Val, Unused, As}
-use Rattle.mini_laws.specs.Command.{run}
+use Rattle.mini_laws.specs.Command.{Naming, Command, bind, Kids, run}
 use Rattle.mini_laws.specs.Expressions.{operate_by}
-use Rattle.mini_laws.specs.Naming.{summary}
-use Rattle.mini_laws.specs.Step.{means}
+use Rattle.mini_laws.specs.Naming.{summary, summaries, naming}
+use Rattle.mini_laws.specs.Operators.{of_number}
+use Rattle.mini_laws.specs.Replies.{reply, of_made, numeric}
+use Rattle.mini_laws.specs.Step.{step, means, meaning}
 use Rattle.mini_laws.specs.Rows.{SameAt}
 use Rattle.mini_laws.specs.Rewritten.{MeansSame}
 use Rattle.mini_laws.specs.Targets.{assigns}
-use Rattle.mini_laws.proofs.Runs.{either_cong, either_assoc}
+use Rattle.mini_laws.proofs.Runs.{either_cong, either_assoc, either_eta, run_bind}
 use Rattle.mini_terms.specs.Reading.{stands, by_value, is_item, is_unguarded}
 use Rattle.mini_terms.proofs.Opened.{negation_opened}
 use Rattle.mini_terms.proofs.Reading.{read_by_value, same_in_seat}
 use Rattle.mini_rows.specs.Lists.{of_parts, sequence}
-use Rattle.mini_rows.specs.Sequences.{Operation, Decides, Chooses, Negates, Operates, over, Row20, Row21, Row21Idle, Row21Alone, SequenceRow, SequenceContracts}
-use Rattle.mini_rows.proofs.ChoiceRuns.{value, conditional_value, logical_value, binary_value, binary_names, sides, operate_by_free}
+use Rattle.mini_rows.specs.Sequences.{Conversion, Plus, Minus, Complement, conversion_operator, Operation, Decides, Chooses, Negates, Operates, Converts, over, Row20, Row21, Row21Idle, Row21Alone, SequenceRow, SequenceContracts}
+use Rattle.mini_rows.proofs.ChoiceRuns.{value, conditional_value, logical_value, binary_value, binary_names, sides, bind_free, made_free, numeric_free, operate_by_free}
 use Rattle.mini_rows.proofs.FoldMeaning.{plain_of, value_of, plain_read}
 use Rattle.mini_rows.proofs.SequenceIdle.{idle_same, alone_same}
 use Rattle.mini_rows.proofs.ListParts.{joined_is, spread_is}
@@ -35,17 +39,49 @@ same_value n w p q r h = record { by = λ e d x s. read_by_value n p e d x s ∙
 
 -- ---- 20
 
+-- `+`, `-` and `~` do the same in any node
+
+abbrev unary_names : UnaryOperator → Tree → Naming
+unary_names o a = naming (shape.UnaryExpression o) (As Val) [] 0 (summaries (a ▸ none))
+
+abbrev operand : Environment → Tree → Kids (λ i. As Val)
+operand e a i r z = meaning e (a ▸ none) i (As Val) r z
+
+abbrev converted : UnaryOperator → Value → Command (λ i. As Val) Value
+converted o v = bind (numeric v) (λ n. of_made (of_number o n))
+
+-- what one does with the value of its operand, which is this one
+abbrev converts : Environment → UnaryOperator → Tree → Value → State → Completion Value
+converts e o a v z = run {q = λ i. As Val} e (unary_names o a) (operand e a) (converted o v) z
+
+converts_alike : (e : Environment) (o : UnaryOperator) (a b : Tree) (v : Value) (z : State) → converts e o a v z ≡ converts e o b v z
+converts_alike e o a b v z =
+    bind_free e (unary_names o a) (unary_names o b) (λ i. As Val) (λ i. As Val) (operand e a) (operand e b) (numeric v) (numeric v) (λ n. of_made (of_number o n)) (λ n. of_made (of_number o n))
+    (numeric_free e (unary_names o a) (unary_names o b) (λ i. As Val) (λ i. As Val) (operand e a) (operand e b) v)
+    (λ n. made_free e (unary_names o a) (unary_names o b) (λ i. As Val) (λ i. As Val) (operand e a) (operand e b) (of_number o n)) z
+
+replied : (e : Environment) (o : UnaryOperator) (a : Tree) (v : Value) (z : State) → run {q = λ i. As Val} e (unary_names o a) (operand e a) (bind (converted o v) (reply (As Val) tt)) z ≡ converts e o absent v z
+replied e o a v z = run_bind e (unary_names o a) (converted o v) (reply (As Val) tt) (operand e a) z ∙ either_eta (converts e o a v z) ∙ converts_alike e o a absent v z
+
+conversion_value : (e : Environment) (c : Conversion) (a : Tree) (s : State) → value e (unary (conversion_operator c) a) s ≡ either (value e a s) (λ v z. converts e (conversion_operator c) absent v z) (λ x z. stop x z)
+unfolding means meaning step
+conversion_value e Plus a s = either_cong (value e a s) _ _ _ _ (λ v z. replied e (conversion_operator Plus) a v z) (λ x z. refl)
+conversion_value e Minus a s = either_cong (value e a s) _ _ _ _ (λ v z. replied e (conversion_operator Minus) a v z) (λ x z. refl)
+conversion_value e Complement a s = either_cong (value e a s) _ _ _ _ (λ v z. replied e (conversion_operator Complement) a v z) (λ x z. refl)
+
 -- what a node does after the value of its first operand
 abbrev follows : Environment → Operation → Value → State → Completion Value
 follows e (Decides o b) v z = choose (assigns o v) (value e b z) (ok v z)
 follows e (Chooses b c) v z = choose (truth v) (value e b z) (value e c z)
 follows e Negates v z = ok (Boolean (not (truth v))) z
 follows e (Operates o b) v z = either (value e b z) (λ u y. run {q = λ i. As Val} e (binary_names o b b) (sides e b b) (operate_by o v u) y) (λ x y. stop x y)
+follows e (Converts c) v z = converts e (conversion_operator c) absent v z
 
 over_value : (e : Environment) (r : Operation) (a : Tree) (s : State) → value e (over r a) s ≡ either (value e a s) (λ v z. follows e r v z) (λ x z. stop x z)
 over_value e (Decides o b) a s = logical_value e o a b s
 over_value e (Chooses b c) a s = conditional_value e a b c s
 over_value e Negates a s = negation_opened e a s
+over_value e (Converts c) a s = conversion_value e c a s
 over_value e (Operates o b) a s =
     binary_value e o a b s
     ∙ either_cong (value e a s) _ _ _ _ (λ v z. either_cong (value e b z) _ _ _ _ (λ u y. operate_by_free e (binary_names o a b) (binary_names o b b) (sides e a b) (sides e b b) o v u y) (λ x y. refl)) (λ x z. refl)
@@ -72,6 +108,9 @@ lifted_same (Decides o b) p ps q = same_value _ _ refl refl refl (lifted_value (
 lifted_same (Chooses b c) p ps q = same_value _ _ refl refl refl (lifted_value (Chooses b c) p ps q)
 lifted_same Negates p ps q = same_value _ _ refl refl refl (lifted_value Negates p ps q)
 lifted_same (Operates o b) p ps q = same_value _ _ refl refl refl (lifted_value (Operates o b) p ps q)
+lifted_same (Converts Plus) p ps q = same_value _ _ refl refl refl (lifted_value (Converts Plus) p ps q)
+lifted_same (Converts Minus) p ps q = same_value _ _ refl refl refl (lifted_value (Converts Minus) p ps q)
+lifted_same (Converts Complement) p ps q = same_value _ _ refl refl refl (lifted_value (Converts Complement) p ps q)
 
 -- ---- 21
 

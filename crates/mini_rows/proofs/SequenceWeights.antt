@@ -4,7 +4,7 @@ use Rattle.std.specs.Prelude.{◌&&◌, ◌||◌, not, nat_eq, nat_lt, if◌then
 use Rattle.std.proofs.lemmas.Bool.{and_parts, eqb-true}
 use Rattle.mini_model.specs.declared.operator.BinaryOperator.{BinaryOperator}
 use Rattle.mini_model.specs.declared.operator.BinaryOperator.TheVariants as binary_operator
-use Rattle.mini_model.specs.declared.operator.UnaryOperator.TheVariants.{Void}
+use Rattle.mini_model.specs.declared.operator.UnaryOperator.TheVariants.{UnaryPlus, UnaryNegation, BitwiseNot, Void}
 use Rattle.mini_model.specs.declared.operator.LogicalOperator.{LogicalOperator}
 use Rattle.mini_model.specs.declared.operator.LogicalOperator.TheVariants.{Or, And, Coalesce}
 use Rattle.mini_model.specs.declared.place.Position.{Position}
@@ -16,14 +16,14 @@ use Rattle.mini_model.specs.declared.shape.Shape.{Shape}
 use Rattle.mini_model.specs.declared.shape.Shape.TheVariants as shape
 use Rattle.mini_model.specs.Tree.{Tree, Trees, node, none, ◌▸◌, count, listed}
 use Rattle.mini_model.specs.Paths.{append}
-use Rattle.mini_model.specs.Position.{seat_of_level, left_level, binary_operand_seat, left_operand_seat, right_operand_seat, conditional_test_seat, branch_seat, passed_part_seat, not_operand_seat}
+use Rattle.mini_model.specs.Position.{seat_of_level, left_level, unary_level, unary_operand_seat, binary_operand_seat, left_operand_seat, right_operand_seat, conditional_test_seat, branch_seat, passed_part_seat, not_operand_seat}
 use Rattle.mini_model.specs.Weight.{Outline, outline, outlines, weight, place_weight, nth_items, first_is_zero, level_of, mixes, is_chain, is_call, is_parenthesized, is_awkward}
 use Rattle.mini_laws.specs.Weights.{Lightens, counts_items}
 use Rattle.mini_laws.proofs.Seats.{placed, placed_node}
 use Rattle.mini_terms.specs.Parts.{weighs}
 use Rattle.mini_terms.specs.Reading.{first_of, is_plain_part, are_plain_parts}
 use Rattle.mini_rows.specs.Lists.{sequence}
-use Rattle.mini_rows.specs.Sequences.{Operation, Decides, Chooses, Negates, Operates, over, is_open_seat, is_unmixed, takes_alone, Row21Alone, SequenceRow, SequenceContracts, SequencesLighter}
+use Rattle.mini_rows.specs.Sequences.{Conversion, Plus, Minus, Complement, conversion_operator, Operation, Decides, Chooses, Negates, Operates, Converts, over, is_open_seat, is_unmixed, takes_alone, Row21Alone, SequenceRow, SequenceContracts, SequencesLighter}
 use Rattle.mini_rows.proofs.ListWeights.{parts_total, parts_weight, sequence_weighs}
 use Rattle.mini_rows.proofs.FoldMeaning.{plain_of}
 use Rattle.mini_rows.proofs.FoldWeights.{two, no_inner, there, no_choice}
@@ -119,6 +119,16 @@ operator_marks binary_operator.Equality os = refl
 operator_marks binary_operator.Exponential os = refl
 operator_marks o os = refl
 
+-- what a `-` stands before weighs as behind any other
+
+abbrev conversion_seat : Conversion → Seat
+conversion_seat c = unary_operand_seat (conversion_operator c)
+
+conversion_moved : (c : Conversion) (t : Tree) → weight (Expr (conversion_seat c)) t ≤ weight (Expr passed_part_seat) t + 4
+conversion_moved Plus t = placed 4 (conversion_seat Plus) passed_part_seat refl (plain_marks unary_level) t
+conversion_moved Minus t = placed 4 (conversion_seat Minus) passed_part_seat refl (plain_marks unary_level) t
+conversion_moved Complement t = placed 4 (conversion_seat Complement) passed_part_seat refl (plain_marks unary_level) t
+
 left_moved : (o : LogicalOperator) (s : Seat) (t : Tree) → weight (Expr (left_operand_seat o s)) t ≤ weight (Expr passed_part_seat) t + 4
 left_moved Or s t = placed 4 (left_operand_seat Or s) passed_part_seat refl (left_marks Or s) t
 left_moved And s t = placed 4 (left_operand_seat And s) passed_part_seat refl (left_marks And s) t
@@ -169,6 +179,18 @@ node_falls s (Operates o b) p ps q =
     let own = operator_marks o (outlines (q ▸ b ▸ none)) in
     let first = operand_moved o q in
     omega (arith, inner, marks, own, first)
+node_falls s (Converts Plus) p ps q =
+    let inner = sequence_weighs (unary_operand_seat UnaryPlus) p (append ps (q ▸ none)) in
+    let first = conversion_moved Plus q in
+    omega (arith, inner, first)
+node_falls s (Converts Minus) p ps q =
+    let inner = sequence_weighs (unary_operand_seat UnaryNegation) p (append ps (q ▸ none)) in
+    let first = conversion_moved Minus q in
+    omega (arith, inner, first)
+node_falls s (Converts Complement) p ps q =
+    let inner = sequence_weighs (unary_operand_seat BitwiseNot) p (append ps (q ▸ none)) in
+    let first = conversion_moved Complement q in
+    omega (arith, inner, first)
 
 -- the parts of a list, and a comma for each
 
@@ -285,6 +307,7 @@ over_outline (Decides o b) a ts = refl
 over_outline (Chooses b c) a ts = refl
 over_outline Negates a ts = refl
 over_outline (Operates o b) a ts = refl
+over_outline (Converts c) a ts = refl
 
 -- what a parent's weight reads of them: a number 0 alone weighs less by 2 at least
 record ReadLightly (p : Position) (n w : Tree) : Type 0 where

@@ -3,33 +3,53 @@
 use Rattle.std.specs.Prelude.{◌≡◌, ◌<◌, ◌⊎◌, ◌&&◌, ◌||◌, Bool, true, false, not, nat_eq, nat_le, nat_lt}
 use Rattle.mini_model.specs.declared.operator.BinaryOperator.{BinaryOperator}
 use Rattle.mini_model.specs.declared.operator.LogicalOperator.{LogicalOperator}
+use Rattle.mini_model.specs.declared.operator.UnaryOperator.{UnaryOperator}
+use Rattle.mini_model.specs.declared.operator.UnaryOperator.TheVariants.{UnaryPlus, UnaryNegation, BitwiseNot}
 use Rattle.mini_model.specs.declared.place.Position.{Position}
 use Rattle.mini_model.specs.declared.place.Position.TheVariants.{Expr}
 use Rattle.mini_model.specs.declared.seat.Seat.{Seat}
 use Rattle.mini_model.specs.declared.seat.Mix.{Mix}
 use Rattle.mini_model.specs.declared.seat.Mix.TheVariants as mix
-use Rattle.mini_model.specs.Tree.{Tree, Trees, none, ◌▸◌, count, negation, logical, conditional}
+use Rattle.mini_model.specs.Tree.{Tree, Trees, none, ◌▸◌, count, unary, negation, logical, conditional}
 use Rattle.mini_model.specs.Paths.{append}
 use Rattle.mini_model.specs.Weight.{weight}
 use Rattle.mini_terms.specs.Folds.{is_effect_free}
-use Rattle.mini_terms.specs.Parts.{suits, leaves_nothing, weighs}
+use Rattle.mini_terms.specs.Parts.{is_number, suits, leaves_nothing, weighs}
 use Rattle.mini_rows.specs.Lists.{sequence}
 use Rattle.mini_rows.specs.Spellings.{binary}
 
 -- ---- terms
 
--- a node that evaluates its first operand before all else of it, over that operand: `a && b`, `a ? b : c`, `!a`, `a + b`
+-- the operators that make a number of their operand: `+a`, `-a` and `~a`
+pub data Conversion : Type 0 where
+  Plus : Conversion
+  Minus : Conversion
+  Complement : Conversion
+
+abbrev pub conversion_operator : Conversion → UnaryOperator
+conversion_operator Plus = UnaryPlus
+conversion_operator Minus = UnaryNegation
+conversion_operator Complement = BitwiseNot
+
+-- a node that evaluates its first operand before all else of it, over that operand: `a && b`, `a ? b : c`, `!a`, `a + b`, `-a`
 pub data Operation : Type 0 where
   Decides : LogicalOperator → Tree → Operation
   Chooses : Tree → Tree → Operation
   Negates : Operation
   Operates : BinaryOperator → Tree → Operation
+  Converts : Conversion → Operation
 
 abbrev pub over : Operation → Tree → Tree
 over (Decides o b) a = logical o a b
 over (Chooses b c) a = conditional a b c
 over Negates a = negation a
 over (Operates o b) a = binary o a b
+over (Converts c) a = unary (conversion_operator c) a
+
+-- no number comes to stand behind a `-`, which would be one with it
+abbrev pub takes_last : Operation → Tree → Bool
+takes_last (Converts Minus) q = not (is_number q)
+takes_last r q = true
 
 -- a sequence stands there without parentheses, as the expression of a statement, a `return` or a test does, and is not to be
 -- lifted out of it again
@@ -46,14 +66,15 @@ takes_alone s = nat_lt 0 s.level || (not s.access && (not s.new_callee && is_unm
 
 -- ---- rows
 
--- 20: `(a, b) && c` becomes `a, b && c`, `(a, b) ? c : d` becomes `a, b ? c : d`, `!(a, b)` becomes `a, !b`, and `(a, b) + c` becomes
--- `a, b + c`
+-- 20: `(a, b) && c` becomes `a, b && c`, `(a, b) ? c : d` becomes `a, b ? c : d`, `!(a, b)` becomes `a, !b`, `(a, b) + c` becomes
+-- `a, b + c`, and `-(a, b)` becomes `a, -b`
 pub record Row20 (s : Seat) (n w : Tree) : Type 0 where
   pub operation : Operation
   pub first : Tree
   pub others : Trees
   pub last : Tree
   pub seated : is_open_seat s ≡ true
+  pub takes : takes_last operation last ≡ true
   pub shape : n ≡ over operation (sequence (first ▸ append others (last ▸ none)))
   pub written : w ≡ sequence (first ▸ append others (over operation last ▸ none))
 

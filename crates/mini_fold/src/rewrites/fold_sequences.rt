@@ -1,20 +1,21 @@
-//! Rows 20 and 21: a sequence is lifted out of the first operand of a logical expression, a conditional, a `!` or an operator, and spread in a
-//! sequence; parts that have no effect go, but the last. `(a, b) && c` becomes `a, b && c`, `a, (b, c)` becomes `a, b, c`, and
-//! `a(), 1, b()` becomes `a(), b()`. What is written is lighter in every place.
+//! Rows 20 and 21: a sequence is lifted out of the first operand of a logical expression, a conditional, a `!`, `+`, `-` or `~`, or an operator
+//! of two, and spread in a sequence; parts that have no effect go, but the last. `(a, b) && c` becomes `a, b && c`, `-(a, b)` becomes
+//! `a, -b`, `a, (b, c)` becomes `a, b, c`, and `a(), 1, b()` becomes `a(), b()`. What is written is lighter in every place.
 
-ghost use Rattle.std.specs.Prelude.{◌≡◌, ◌+◌, ◌<◌, true, false, nat_le, is_some, IfOk, IfSome};
+ghost use Rattle.std.specs.Prelude.{◌≡◌, ◌+◌, ◌<◌, ◌&&◌, true, false, nat_le, is_some, IfOk, IfSome};
 ghost use Rattle.mini_model.specs.Tree.{children, count, child_or_absent};
 ghost use Rattle.mini_node.specs.Children.{part, without};
-ghost use Rattle.mini_node.specs.Kinds.{sequence as sequence_of, is_sequence as is_it_sequence};
+ghost use Rattle.mini_node.specs.Kinds.{sequence as sequence_of, is_sequence as is_it_sequence, unary_operator as unary_operator_of};
+ghost use Rattle.mini_terms.specs.Parts.{is_number as is_it_number};
 ghost use Rattle.mini_rows.specs.Sequences.{is_open_seat as is_it_open_seat, is_unmixed as is_it_unmixed, takes_alone as takes_it_alone};
 ghost use Rattle.mini_tree.specs.Rule.{Applied};
-ghost use Rattle.mini_fold.specs.FoldSequences.{has_several as has_it_several, is_several as is_it_several, is_operation as is_it_operation, is_lifted as is_it_lifted, last_of, but_last, lifted, any_of, spread_at, is_nested as is_it_nested, is_idle as is_it_idle, idle_before_last, is_left as is_it_left, Gives, Rests};
+ghost use Rattle.mini_fold.specs.FoldSequences.{has_several as has_it_several, is_several as is_it_several, converts as converts_by, is_minus as is_it_minus, is_operation as is_it_operation, takes_last_of, gives_parts as it_gives_parts, is_lifted as is_it_lifted, last_of, but_last, lifted, any_of, spread_at, is_nested as is_it_nested, is_idle as is_it_idle, idle_before_last, is_left as is_it_left, Gives, Rests};
 ghost use Rattle.mini_fold.specs.Lighter.{sequences_lighter};
 
-use mini_model::{Mix, OutOfMemory, Position, Seat};
+use mini_model::{Mix, OutOfMemory, Position, Seat, Shape, UnaryOperator};
 use mini_node::{
     Node, Nodes, absent, binary_operator, discard, is_conditional, is_negation, is_sequence,
-    logical_operator, one, sequence, take_first, taken, two,
+    logical_operator, one, sequence, take_first, taken, two, unary_operator,
 };
 use mini_terms::{has_no_effect, leaves_nothing, suits, weighs};
 use mini_tree::{Context, Rule};
@@ -42,6 +43,29 @@ fn is_several(node: &Node) -> bool
     is_sequence(node) && has_several(node.child(0).children())
 }
 
+// Whether this operator makes a number of its operand.
+fn is_conversion(operator: Option<UnaryOperator>) -> bool
+    ensures { result ≡ converts_by operator }
+{
+    match operator {
+        Some(UnaryOperator::UnaryPlus) => true,
+        Some(UnaryOperator::UnaryNegation) => true,
+        Some(UnaryOperator::BitwiseNot) => true,
+        _ => false,
+    }
+}
+
+// Whether it makes a number of its operand.
+fn converts(node: &Node) -> bool
+    ensures kind { result ≡ converts_by (unary_operator_of node.now) }
+    ensures parts { result ≡ true → 0 < count (children node.now) }
+{
+    match unary_operator(node) {
+        Some(operator) => is_conversion(Some(operator)),
+        None => false,
+    }
+}
+
 // Whether it evaluates its first operand before all else of it.
 fn is_operation(node: &Node) -> bool
     ensures kind { result ≡ is_it_operation node.now }
@@ -51,13 +75,56 @@ fn is_operation(node: &Node) -> bool
         || is_conditional(node)
         || is_negation(node)
         || binary_operator(node).is_some()
+        || converts(node)
+}
+
+fn is_minus(operator: Option<UnaryOperator>) -> bool
+    ensures { result ≡ is_it_minus operator }
+{
+    match operator {
+        Some(UnaryOperator::UnaryNegation) => true,
+        _ => false,
+    }
+}
+
+fn is_number(node: &Node) -> bool
+    ensures { result ≡ is_it_number node.now }
+{
+    matches!(node.shape(), Shape::NumericLiteral(_))
+}
+
+// Whether the last one is a number.
+#[tactic(auto, using(crate::proofs::Sequences::ends_in))]
+fn ends_in_number(nodes: &Nodes) -> bool
+    requires { 0 < count nodes.now }
+    ensures { result ≡ is_it_number (last_of nodes.now) }
+{
+    is_number(nodes.child(nodes.len() - 1))
+}
+
+// Whether the last of these may stand behind the operator of the node: no number behind a `-`.
+fn takes_last(node: &Node, parts: &Nodes) -> bool
+    requires { 0 < count parts.now }
+    ensures { result ≡ takes_last_of node.now parts.now }
+{
+    !is_minus(unary_operator(node)) || !ends_in_number(parts)
+}
+
+// Whether the operand is a sequence whose last part may stand behind the operator of the node.
+#[tactic(auto, using(crate::proofs::Sequences::some_of_several))]
+fn gives_parts(node: &Node, operand: &Node) -> bool
+    ensures { result ≡ it_gives_parts node.now operand.now }
+{
+    is_sequence(operand)
+        && has_several(operand.child(0).children())
+        && takes_last(node, operand.child(0).children())
 }
 
 // Whether it stands over a sequence that is to be lifted out.
 fn is_lifted(node: &Node, seat: Seat) -> bool
     ensures { result ≡ is_it_lifted seat node.now }
 {
-    is_open_seat(seat) && is_operation(node) && is_several(node.child(0))
+    is_open_seat(seat) && is_operation(node) && gives_parts(node, node.child(0))
 }
 
 /// Takes the last node out; of none, an absent part.
@@ -72,7 +139,7 @@ pub fn take_last(alloc: Global, nodes: &mut Nodes) -> Node
     }
 }
 
-// `a, b && c` of `(a, b) && c`
+// `a, b && c` of `(a, b) && c`, and `a, -b` of `-(a, b)`
 fn lift_sequence(alloc: Global, node: Node) -> Result<Node, OutOfMemory>
     ensures { IfOk result (λ w. w ≡ lifted node) }
 {
