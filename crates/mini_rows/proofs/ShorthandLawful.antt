@@ -7,7 +7,7 @@ use Rattle.mini_model.specs.declared.name.Name.{Name}
 use Rattle.mini_model.specs.declared.place.Position.{Position}
 use Rattle.mini_model.specs.declared.place.Position.TheVariants.{Elsewhere}
 use Rattle.mini_model.specs.declared.shape.Shape.TheVariants as shape
-use Rattle.mini_model.specs.Tree.{Tree, node, none, ◌▸◌, shape_of}
+use Rattle.mini_model.specs.Tree.{Tree, none, ◌▸◌, shape_of}
 use Rattle.mini_model.specs.Weight.{outline, weight}
 use Rattle.mini_accept.specs.WellShaped.{Class, a_target_property, a_target_element, an_inner_key, Slot, one, one_or_absent, fits}
 use Rattle.mini_laws.specs.declared.names.Declared.{Declared}

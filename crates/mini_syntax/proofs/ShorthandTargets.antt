@@ -1,6 +1,6 @@
 -- The rewrite of a key that is the name assigned to is that of the row, which reads no other property.
 use Rattle.std.proofs.Common.{◌≡◌, ℕ, zero, Bool, true, false, List, [], Option, Some, None, refl, sym, ap, ◌∙◌}
-use Rattle.std.specs.Prelude.{◌&&◌, if◌then◌else◌}
+use Rattle.std.specs.Prelude.{if◌then◌else◌}
 use Rattle.std.proofs.lemmas.Bool.{and_parts, false≢true}
 use Rattle.mini_model.specs.declared.name.Name.{Name}
 use Rattle.mini_model.specs.declared.shape.Shape.TheVariants as shape
