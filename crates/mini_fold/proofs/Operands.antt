@@ -120,7 +120,7 @@ empty_text t e = go (string t) refl e
     go (Some []) h k = string_is t [] h
     go c h k = absurd (true≢false (sym k))
 
-string_kind : (k : Kind) → is_string_kind k ≡ true → k ≡ IsString
+pub string_kind : (k : Kind) → is_string_kind k ≡ true → k ≡ IsString
 string_kind IsString e = refl
 string_kind k e = absurd (true≢false (sym e))
 

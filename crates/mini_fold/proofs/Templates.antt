@@ -2,6 +2,7 @@
 use Rattle.std.proofs.Common.{◌≡◌, ℕ, zero, suc, ◌<◌, ◌≤◌, ◌^◌, Bool, true, false, List, [], ◌∷◌, length, Option, Some, None, inl, inr, refl, sym, ap, subst, ◌∙◌, true≢false, ltb-true, arith}
 use Rattle.std.specs.Prelude.{◌+◌, ◌-◌, ◌*◌, ◌&&◌, ◌||◌, nat_eq, nat_le, nat_lt, is_some, unwrap_or, IfSome, if◌then◌else◌}
 use Rattle.std.proofs.lemmas.Bool.{and_parts, le-leb, leb-true, lt-ltb, eqb-true, eq-eqb, false≢true}
+use Rattle.mini_model.specs.declared.operator.BinaryOperator.{BinaryOperator}
 use Rattle.mini_model.specs.declared.operator.BinaryOperator.TheVariants.{Addition}
 use Rattle.mini_model.specs.declared.place.Position.{Position}
 use Rattle.mini_model.specs.declared.place.Position.TheVariants.{Expr}
@@ -19,15 +20,19 @@ use Rattle.mini_laws.specs.Conversion.{makes, to_text}
 use Rattle.mini_laws.specs.Value.{Value}
 use Rattle.mini_terms.specs.Calculated.{literal_value}
 use Rattle.mini_terms.specs.Const.{made, text_of}
+use Rattle.mini_terms.specs.Folds.{is_effect_free}
+use Rattle.mini_terms.specs.Kind.{is_primitive, kind as kind_of}
 use Rattle.mini_terms.specs.Parts.{leaves_nothing}
 use Rattle.mini_rows.specs.Spellings.{binary}
-use Rattle.mini_rows.specs.Templates.{Piece, piece, pieces, template, pair, spelled, told as told_in, Row18, Row5Both, Row5After, Row5Before, TemplateRow, TemplateContracts}
+use Rattle.mini_rows.specs.Templates.{Piece, piece, pieces, template, pair, spelled, told as told_in, Row18, Row5Both, Row5After, Row5Before, Row5, Row6, TemplateRow, TemplateContracts}
 use Rattle.mini_rows.proofs.TemplateRuns.{count_append}
 use Rattle.mini_rows.proofs.TemplateWeights as weights
 use Rattle.mini_tree.specs.Rule.{Applied, Moves}
 use Rattle.mini_tree.proofs.Reaching.{moves_once}
+use Rattle.mini_fold.specs.FoldOperands.{is_string_kind}
 use Rattle.mini_fold.specs.FoldSequences.{last_of, but_last}
-use Rattle.mini_fold.specs.FoldTemplates.{is_piece, piece_in, raw_in, are_pieces, is_template, texts_of, parts_of, is_whole, spare, growth, pays, hole, joined_at, is_sewn, sewn_by, sewn, sewn_at, any_sewn, sewn_texts, inlined, mark, plus_sign, paired, both_written, is_added, tail_by, tail_piece, with_tail, head_by, head_piece, with_head, made_by, sum_by, sum_written, Gives, Rests, PartsRest}
+use Rattle.mini_fold.specs.FoldTemplates.{is_piece, piece_in, raw_in, are_pieces, is_template, texts_of, parts_of, is_whole, spare, growth, pays, hole, joined_at, is_sewn, sewn_by, sewn, sewn_at, any_sewn, sewn_texts, inlined, mark, plus_sign, paired, both_written, is_added, tail_by, tail_piece, with_tail, besides, head_seat, head_by, head_piece, with_head, made_by, sum_by, sum_written, may_join, is_settled, behind_written, rejoined, nested_written, added_by, added_written, Gives, Rests, PartsRest}
+use Rattle.mini_fold.proofs.Operands.{string_kind}
 use Rattle.mini_fold.proofs.Sequences.{last_append}
 
 both_true : (b c : Bool) → b ≡ true → c ≡ true → b && c ≡ true
@@ -472,10 +477,136 @@ mark_small s n = go (s.eq_left && nat_eq n 0)
     go true = omega arith
     go false = omega arith
 
+-- ---- 5: what is gained
+
+-- by a sum in a seat, or by the operands behind another one
+abbrev Gained : Option Seat → Tree → Tree → Type 0
+Gained (Some s) n w = weight (Expr s) w < weight (Expr s) n
+Gained None n w = weight (Expr weights.right_seat) w < 2 + weight (Expr weights.right_seat) (part n 0) + weight (Expr weights.right_seat) (part n 1)
+
+abbrev Fits : Option Seat → Tree → Type 0
+Fits (Some s) n = weight (Expr s) n < 2 ^ 64
+Fits None n = 2 + weight (Expr weights.right_seat) (part n 0) + weight (Expr weights.right_seat) (part n 1) < 2 ^ 64
+
+both_gains_behind : (n w : Tree) → Row5Both n w → weight (Expr weights.right_seat) w < 2 + weight (Expr weights.right_seat) (part n 0) + weight (Expr weights.right_seat) (part n 1)
+both_gains_behind n w r =
+    let own = weights.both_gains n w r in
+    let one : weight (Expr weights.right_seat) (part n 0) ≡ weight (Expr weights.right_seat) (template (append (pieces r.before) (piece r.last ▸ none)) r.earlier) = ap (λ x. weight (Expr weights.right_seat) (part x 0)) r.shape in
+    let other : weight (Expr weights.right_seat) (part n 1) ≡ weight (Expr weights.right_seat) (template (piece r.first ▸ pieces r.after) r.later) = ap (λ x. weight (Expr weights.right_seat) (part x 1)) r.shape in
+    omega (arith, own, one, other)
+
+both_gains : (o : Option Seat) (n w : Tree) → Row5Both n w → Gained o n w
+both_gains (Some s) n w r = weights.both_falls s n w r
+both_gains None n w r = both_gains_behind n w r
+
+module _ (n w : Tree) (r : Row5After n w) where
+  abbrev tail_grown : ℕ
+  tail_grown = growth (length (pair r.last (spelled r.text)).raw) (length r.last.raw) 0
+
+  abbrev tail_weight : ℕ
+  tail_weight = weight (Expr weights.right_seat) r.tail
+
+  tail_head : weight (Expr weights.right_seat) (part n 0) ≡ weight (Expr weights.right_seat) (template (append (pieces r.before) (piece r.last ▸ none)) r.earlier)
+  tail_head = ap (λ x. weight (Expr weights.right_seat) (part x 0)) r.shape
+
+  tail_tail : weight (Expr weights.right_seat) (part n 1) ≡ weight (Expr weights.right_seat) r.tail
+  tail_tail = ap (λ x. weight (Expr weights.right_seat) (part x 1)) r.shape
+
+  tail_gains_in : (s : Seat) → pays (plus_sign s (count r.earlier)) tail_grown (capped tail_weight) ≡ true → weight (Expr s) w < weight (Expr s) n
+  tail_gains_in s e =
+      let whole = weights.after_weighs s n w r in
+      let gain = paid (plus_sign s (count r.earlier)) tail_grown tail_weight e in
+      let marks = mark_is s (count r.earlier) in
+      let small = mark_small s (count r.earlier) in
+      omega (arith, whole, gain, marks, small)
+
+  tail_gains_behind : pays 1 tail_grown (capped tail_weight) ≡ true → weight (Expr weights.right_seat) w < 2 + weight (Expr weights.right_seat) (part n 0) + weight (Expr weights.right_seat) (part n 1)
+  tail_gains_behind e =
+      let own = weights.after_gains n w r in
+      let gain = paid 1 tail_grown tail_weight e in
+      let one = tail_head in
+      let other = tail_tail in
+      omega (arith, own, gain, one, other)
+
+  tail_gains : (o : Option Seat) → pays (besides o (count r.earlier)) tail_grown (capped tail_weight) ≡ true → Gained o n w
+  tail_gains (Some s) e = tail_gains_in s e
+  tail_gains None e = tail_gains_behind e
+
+  tail_pays_in : (s : Seat) → weight (Expr s) n < 2 ^ 64 → weight (Expr s) w < weight (Expr s) n → pays (plus_sign s (count r.earlier)) tail_grown (capped tail_weight) ≡ true
+  tail_pays_in s small less =
+      let whole = weights.after_weighs s n w r in
+      let heavy = weights.after_heavy s n w r in
+      let marks = mark_is s (count r.earlier) in
+      let few = mark_small s (count r.earlier) in
+      pays_for (plus_sign s (count r.earlier)) tail_grown tail_weight (omega (arith, small, heavy)) (omega (arith, whole, less, marks, few))
+
+  tail_pays_behind : 2 + weight (Expr weights.right_seat) (part n 0) + weight (Expr weights.right_seat) (part n 1) < 2 ^ 64 → weight (Expr weights.right_seat) w < 2 + weight (Expr weights.right_seat) (part n 0) + weight (Expr weights.right_seat) (part n 1) → pays 1 tail_grown (capped tail_weight) ≡ true
+  tail_pays_behind small less =
+      let own = weights.after_gains n w r in
+      let one = tail_head in
+      let other = tail_tail in
+      pays_for 1 tail_grown tail_weight (omega (arith, small, other)) (omega (arith, own, less, one, other))
+
+  tail_pays : (o : Option Seat) → Fits o n → Gained o n w → pays (besides o (count r.earlier)) tail_grown (capped tail_weight) ≡ true
+  tail_pays (Some s) small less = tail_pays_in s small less
+  tail_pays None small less = tail_pays_behind small less
+
+module _ (n w : Tree) (r : Row5Before n w) where
+  abbrev head_grown : ℕ
+  head_grown = growth (length (pair (spelled r.text) r.first).raw) (length r.first.raw) 0
+
+  head_head : weight (Expr weights.right_seat) (part n 0) ≡ weight (Expr weights.right_seat) r.head
+  head_head = ap (λ x. weight (Expr weights.right_seat) (part x 0)) r.shape
+
+  head_tail : weight (Expr weights.right_seat) (part n 1) ≡ weight (Expr weights.right_seat) (template (piece r.first ▸ pieces r.after) r.later)
+  head_tail = ap (λ x. weight (Expr weights.right_seat) (part x 1)) r.shape
+
+  head_gains_in : (s : Seat) → pays (plus_sign s (count r.later)) head_grown (capped (weight (Expr weights.left_seat) r.head)) ≡ true → weight (Expr s) w < weight (Expr s) n
+  head_gains_in s e =
+      let whole = weights.before_weighs s n w r in
+      let gain = paid (plus_sign s (count r.later)) head_grown (weight (Expr weights.left_seat) r.head) e in
+      let marks = mark_is s (count r.later) in
+      let small = mark_small s (count r.later) in
+      omega (arith, whole, gain, marks, small)
+
+  head_gains_behind : pays 1 head_grown (capped (weight (Expr weights.right_seat) r.head)) ≡ true → weight (Expr weights.right_seat) w < 2 + weight (Expr weights.right_seat) (part n 0) + weight (Expr weights.right_seat) (part n 1)
+  head_gains_behind e =
+      let own = weights.before_gains n w r in
+      let gain = paid 1 head_grown (weight (Expr weights.right_seat) r.head) e in
+      let one = head_head in
+      let other = head_tail in
+      omega (arith, own, gain, one, other)
+
+  head_gains : (o : Option Seat) → pays (besides o (count r.later)) head_grown (capped (weight (Expr (head_seat o)) r.head)) ≡ true → Gained o n w
+  head_gains (Some s) e = head_gains_in s e
+  head_gains None e = head_gains_behind e
+
+  head_pays_in : (s : Seat) → weight (Expr s) n < 2 ^ 64 → weight (Expr s) w < weight (Expr s) n → pays (plus_sign s (count r.later)) head_grown (capped (weight (Expr weights.left_seat) r.head)) ≡ true
+  head_pays_in s small less =
+      let whole = weights.before_weighs s n w r in
+      let heavy = weights.before_heavy s n w r in
+      let marks = mark_is s (count r.later) in
+      let few = mark_small s (count r.later) in
+      pays_for (plus_sign s (count r.later)) head_grown (weight (Expr weights.left_seat) r.head) (omega (arith, small, heavy)) (omega (arith, whole, less, marks, few))
+
+  head_pays_behind : 2 + weight (Expr weights.right_seat) (part n 0) + weight (Expr weights.right_seat) (part n 1) < 2 ^ 64 → weight (Expr weights.right_seat) w < 2 + weight (Expr weights.right_seat) (part n 0) + weight (Expr weights.right_seat) (part n 1) → pays 1 head_grown (capped (weight (Expr weights.right_seat) r.head)) ≡ true
+  head_pays_behind small less =
+      let own = weights.before_gains n w r in
+      let one = head_head in
+      let other = head_tail in
+      pays_for 1 head_grown (weight (Expr weights.right_seat) r.head) (omega (arith, small, one)) (omega (arith, own, less, one, other))
+
+  head_pays : (o : Option Seat) → Fits o n → Gained o n w → pays (besides o (count r.later)) head_grown (capped (weight (Expr (head_seat o)) r.head)) ≡ true
+  head_pays (Some s) small less = head_pays_in s small less
+  head_pays None small less = head_pays_behind small less
+
 -- ---- 5: what is written
 
-both_contracts : (s : Seat) (n a b : Tree) → n ≡ binary Addition a b → is_whole a ≡ true → is_whole b ≡ true → TemplateContracts (Expr s) n (both_written a b)
-both_contracts s n a b e f g =
+abbrev Falls : Option Seat → Tree → Tree → Type 0
+Falls o n w = Row5 n w × Gained o n w
+
+both_fall : (o : Option Seat) (n a b : Tree) → n ≡ binary Addition a b → is_whole a ≡ true → is_whole b ≡ true → Falls o n (both_written a b)
+both_fall o n a b e f g =
     let left = last_split (texts_of a) (whole_pieces a f) (has_text a f) in
     let right = first_split (texts_of b) (whole_pieces b g) (has_text b g) in
     let front = but_last_count (texts_of a) (has_text a f) in
@@ -496,19 +627,19 @@ both_contracts s n a b e f g =
       shape = e ∙ (λ i. binary Addition (whole_template a f i) (whole_template b g i)) ∙ (λ i. binary Addition (template (left i) (parts_of a)) (template (right i) (parts_of b)));
       written = ap (λ us. template us (append (parts_of a) (parts_of b))) ((λ i. append (append (but_last_is (texts_of a) (whole_pieces a f) i) (paired (last_of (texts_of a)) (first_or_absent (texts_of b)) ▸ none)) (rest_is (texts_of b) (whole_pieces b g) i)) ∙ append_one (pieces before) (paired (last_of (texts_of a)) (first_or_absent (texts_of b))) (pieces after));
     } in
-    record { row = inr (inl row); lighter = weights.both_falls s n (both_written a b) row }
+    (inl row, both_gains o n (both_written a b) row)
 
 -- a piece that is made of two where that is lighter
 made_where : (c : Bool) (x m : Tree) → Some m ≡ (if c then Some x else None) → (c ≡ true) × (m ≡ x)
 made_where true x m e = (refl, cc e)
 made_where false x m e = nothing (sym e)
 
-module _ (s : Seat) (n a t m : Tree) (e : n ≡ binary Addition a t) (f : is_whole a ≡ true) where
-  tail_contracts : (text : List ℕ) → told_in t ≡ Some text → Some m ≡ tail_by s (count (parts_of a)) (last_of (texts_of a)) t (Some text) → TemplateContracts (Expr s) n (with_tail a m)
-  tail_contracts text known k =
+module _ (o : Option Seat) (n a t m : Tree) (e : n ≡ binary Addition a t) (f : is_whole a ≡ true) where
+  tail_falls : (text : List ℕ) → told_in t ≡ Some text → Some m ≡ tail_by o (count (parts_of a)) (last_of (texts_of a)) t (Some text) → Falls o n (with_tail a m)
+  tail_falls text known k =
       let end : Tree = last_of (texts_of a) in
-      let (goes, same) = made_where (is_added s (binary_operand_seat Addition 1) (count (parts_of a)) t (pair (piece_in end) (spelled text)).raw end) (piece (pair (piece_in end) (spelled text))) m k in
-      let (dropped, less) = and_parts (leaves_nothing t) (pays (plus_sign s (count (parts_of a))) (growth (length (pair (piece_in end) (spelled text)).raw) (length (raw_in (shape_of end))) 0) (capped (weight (Expr (binary_operand_seat Addition 1)) t))) goes in
+      let (goes, same) = made_where (is_added o (binary_operand_seat Addition 1) (count (parts_of a)) t (pair (piece_in end) (spelled text)).raw end) (piece (pair (piece_in end) (spelled text))) m k in
+      let (dropped, less) = and_parts (leaves_nothing t) (pays (besides o (count (parts_of a))) (growth (length (pair (piece_in end) (spelled text)).raw) (length (raw_in (shape_of end))) 0) (capped (weight (Expr (binary_operand_seat Addition 1)) t))) goes in
       let left = last_split (texts_of a) (whole_pieces a f) (has_text a f) in
       let front = but_last_count (texts_of a) (has_text a f) in
       let counts = whole_counts a f in
@@ -525,22 +656,18 @@ module _ (s : Seat) (n a t m : Tree) (e : n ≡ binary Addition a t) (f : is_who
         shape = e ∙ (λ i. binary Addition (whole_template a f i) t) ∙ (λ i. binary Addition (template (left i) (parts_of a)) t);
         written = (λ i. template (append (but_last_is (texts_of a) (whole_pieces a f) i) (same i ▸ none)) (parts_of a));
       } in
-      let whole = weights.after_weighs s n (with_tail a m) row in
-      let gain = paid (plus_sign s (count (parts_of a))) (growth (length (pair (piece_in end) (spelled text)).raw) (length (raw_in (shape_of end))) 0) (weight (Expr (binary_operand_seat Addition 1)) t) less in
-      let marks = mark_is s (count (parts_of a)) in
-      let small = mark_small s (count (parts_of a)) in
-      record { row = inr (inr (inl row)); lighter = omega (arith, whole, gain, marks, small) }
+      (inr (inl row), tail_gains n (with_tail a m) row o less)
 
-  by_tail : (o : Option (List ℕ)) → told_in t ≡ o → Some m ≡ tail_by s (count (parts_of a)) (last_of (texts_of a)) t o → TemplateContracts (Expr s) n (with_tail a m)
-  by_tail (Some text) h k = tail_contracts text h k
+  by_tail : (v : Option (List ℕ)) → told_in t ≡ v → Some m ≡ tail_by o (count (parts_of a)) (last_of (texts_of a)) t v → Falls o n (with_tail a m)
+  by_tail (Some text) h k = tail_falls text h k
   by_tail None h k = nothing (sym k)
 
-module _ (s : Seat) (n t b m : Tree) (e : n ≡ binary Addition t b) (f : is_whole b ≡ true) where
-  head_contracts : (text : List ℕ) → told_in t ≡ Some text → Some m ≡ head_by s (count (parts_of b)) t (first_or_absent (texts_of b)) (Some text) → TemplateContracts (Expr s) n (with_head b m)
-  head_contracts text known k =
+module _ (o : Option Seat) (n t b m : Tree) (e : n ≡ binary Addition t b) (f : is_whole b ≡ true) where
+  head_falls : (text : List ℕ) → told_in t ≡ Some text → Some m ≡ head_by o (count (parts_of b)) t (first_or_absent (texts_of b)) (Some text) → Falls o n (with_head b m)
+  head_falls text known k =
       let end : Tree = first_or_absent (texts_of b) in
-      let (goes, same) = made_where (is_added s (binary_operand_seat Addition 0) (count (parts_of b)) t (pair (spelled text) (piece_in end)).raw end) (piece (pair (spelled text) (piece_in end))) m k in
-      let (dropped, less) = and_parts (leaves_nothing t) (pays (plus_sign s (count (parts_of b))) (growth (length (pair (spelled text) (piece_in end)).raw) (length (raw_in (shape_of end))) 0) (capped (weight (Expr (binary_operand_seat Addition 0)) t))) goes in
+      let (goes, same) = made_where (is_added o (head_seat o) (count (parts_of b)) t (pair (spelled text) (piece_in end)).raw end) (piece (pair (spelled text) (piece_in end))) m k in
+      let (dropped, less) = and_parts (leaves_nothing t) (pays (besides o (count (parts_of b))) (growth (length (pair (spelled text) (piece_in end)).raw) (length (raw_in (shape_of end))) 0) (capped (weight (Expr (head_seat o)) t))) goes in
       let right = first_split (texts_of b) (whole_pieces b f) (has_text b f) in
       let back = rest_count (texts_of b) (has_text b f) in
       let counts = whole_counts b f in
@@ -556,32 +683,68 @@ module _ (s : Seat) (n t b m : Tree) (e : n ≡ binary Addition t b) (f : is_who
         shape = e ∙ (λ i. binary Addition t (whole_template b f i)) ∙ (λ i. binary Addition t (template (right i) (parts_of b)));
         written = (λ i. template (same i ▸ rest_is (texts_of b) (whole_pieces b f) i) (parts_of b));
       } in
-      let whole = weights.before_weighs s n (with_head b m) row in
-      let gain = paid (plus_sign s (count (parts_of b))) (growth (length (pair (spelled text) (piece_in end)).raw) (length (raw_in (shape_of end))) 0) (weight (Expr (binary_operand_seat Addition 0)) t) less in
-      let marks = mark_is s (count (parts_of b)) in
-      let small = mark_small s (count (parts_of b)) in
-      record { row = inr (inr (inr row)); lighter = omega (arith, whole, gain, marks, small) }
+      (inr (inr row), head_gains n (with_head b m) row o less)
 
-  by_head : (o : Option (List ℕ)) → told_in t ≡ o → Some m ≡ head_by s (count (parts_of b)) t (first_or_absent (texts_of b)) o → TemplateContracts (Expr s) n (with_head b m)
-  by_head (Some text) h k = head_contracts text h k
+  by_head : (v : Option (List ℕ)) → told_in t ≡ v → Some m ≡ head_by o (count (parts_of b)) t (first_or_absent (texts_of b)) v → Falls o n (with_head b m)
+  by_head (Some text) h k = head_falls text h k
   by_head None h k = nothing (sym k)
 
 made_from : (f : Tree → Tree) (o : Option Tree) (w : Tree) → made_by f o ≡ Some w → (m : Tree) × ((Some m ≡ o) × (w ≡ f m))
 made_from f (Some m) w e = (m, (refl, cc (sym e)))
 made_from f None w e = nothing e
 
-sum_contracts : (s : Seat) (n a b w : Tree) → n ≡ binary Addition a b → sum_written s a b ≡ Some w → TemplateContracts (Expr s) n w
-sum_contracts s n a b w e k = go (is_whole a) (is_whole b) refl refl k
+sum_falls : (o : Option Seat) (n a b w : Tree) → n ≡ binary Addition a b → sum_written o a b ≡ Some w → Falls o n w
+sum_falls o n a b w e k = go (is_whole a) (is_whole b) refl refl k
   where
-    go : (c d : Bool) → is_whole a ≡ c → is_whole b ≡ d → sum_by c d s a b ≡ Some w → TemplateContracts (Expr s) n w
-    go true true f g k = let same : both_written a b ≡ w = cc k in subst (TemplateContracts (Expr s) n) same (both_contracts s n a b e f g)
+    go : (c d : Bool) → is_whole a ≡ c → is_whole b ≡ d → sum_by c d o a b ≡ Some w → Falls o n w
+    go true true f g k = let same : both_written a b ≡ w = cc k in subst (Falls o n) same (both_fall o n a b e f g)
     go true false f g k =
-        let (m, (found, same)) = made_from (with_tail a) (tail_piece s (count (parts_of a)) (last_of (texts_of a)) b) w k in
-        subst (TemplateContracts (Expr s) n) (sym same) (by_tail s n a b m e f (told_in b) refl found)
+        let (m, (found, same)) = made_from (with_tail a) (tail_piece o (count (parts_of a)) (last_of (texts_of a)) b) w k in
+        subst (Falls o n) (sym same) (by_tail o n a b m e f (told_in b) refl found)
     go false true f g k =
-        let (m, (found, same)) = made_from (with_head b) (head_piece s (count (parts_of b)) a (first_or_absent (texts_of b))) w k in
-        subst (TemplateContracts (Expr s) n) (sym same) (by_head s n a b m e g (told_in a) refl found)
+        let (m, (found, same)) = made_from (with_head b) (head_piece o (count (parts_of b)) a (first_or_absent (texts_of b))) w k in
+        subst (Falls o n) (sym same) (by_head o n a b m e g (told_in a) refl found)
     go false false f g k = nothing k
+
+sum_contracts : (s : Seat) (n a b w : Tree) → n ≡ binary Addition a b → sum_written (Some s) a b ≡ Some w → TemplateContracts (Expr s) n w
+sum_contracts s n a b w e k = let (row, less) = sum_falls (Some s) n a b w e k in record { row = inr (inl row); lighter = less }
+
+-- ---- 6: what is written
+
+nested_lighter : (s : Seat) (n w : Tree) (r : Row6 n w) → weight (Expr weights.right_seat) r.joined < 2 + weight (Expr weights.right_seat) r.inner + weight (Expr weights.right_seat) r.tail → weight (Expr s) w < weight (Expr s) n
+nested_lighter s n w r gain = let whole = weights.nested_falls s n w r in omega (arith, whole, gain)
+
+nested_contracts : (s : Seat) (n a t u w : Tree) → n ≡ binary Addition (binary Addition a t) u → nested_written a t u ≡ Some w → TemplateContracts (Expr s) n w
+nested_contracts s n a t u w e k = by (is_settled a t u) refl k
+  where
+    by : (c : Bool) → is_settled a t u ≡ c → (if c then behind_written a t u else None) ≡ Some w → TemplateContracts (Expr s) n w
+    by true h k =
+        let (m, (found, same)) = made_from (binary Addition a) (sum_written None t u) w k in
+        let (sum, gain) = sum_falls None (binary Addition t u) t u m refl (sym found) in
+        let (joins, settled) = and_parts (may_join t u) (is_primitive (kind_of a) || is_some (told_in u)) h in
+        let (one, plain) = and_parts (is_whole t || is_whole u) (is_string_kind (kind_of t) && is_effect_free u) joins in
+        let (text, free) = and_parts (is_string_kind (kind_of t)) (is_effect_free u) plain in
+        let row : Row6 n w = record {
+          left = a;
+          inner = t;
+          tail = u;
+          joined = m;
+          known = string_kind (kind_of t) text;
+          effect_free = free;
+          settled = settled;
+          sum = sum;
+          shape = e;
+          written = same;
+        } in
+        record { row = inr (inr row); lighter = nested_lighter s n w row gain }
+    by false h k = nothing k
+
+added_contracts : (s : Seat) (n a b w : Tree) → n ≡ binary Addition a b → added_written s a b ≡ Some w → TemplateContracts (Expr s) n w
+added_contracts s n a b w e k = go (binary_operator a) refl k
+  where
+    go : (o : Option BinaryOperator) → binary_operator a ≡ o → added_by o s a b ≡ Some w → TemplateContracts (Expr s) n w
+    go (Some Addition) h k = nested_contracts s n (part a 0) (part a 1) b w (e ∙ ap (λ x. binary Addition x b) (binary_is a Addition h)) k
+    go o h k = sum_contracts s n a b w e k
 
 -- ---- 5: where nothing is written
 
@@ -593,76 +756,161 @@ some_made : (f : Tree → Tree) (c : Bool) (x : Tree) → c ≡ true → made_by
 some_made f true x e k = nothing (sym k)
 some_made f false x e k = true≢false (sym e)
 
-both_rest : (s : Seat) (n w : Tree) → Row5Both n w → sum_written s (part n 0) (part n 1) ≡ None → ⊥
-both_rest s n w r k =
+both_rest : (o : Option Seat) (n w : Tree) → Row5Both n w → sum_written o (part n 0) (part n 1) ≡ None → ⊥
+both_rest o n w r k =
     let a : Tree = template (append (pieces r.before) (piece r.last ▸ none)) r.earlier in
     let b : Tree = template (piece r.first ▸ pieces r.after) r.later in
     let starts = r.starts in
     let ends = r.ends in
     let f : is_whole a ≡ true = whole_is r.before (r.last ∷ []) r.earlier (omega (arith, starts)) in
     let g : is_whole b ≡ true = whole_is [] (r.first ∷ r.after) r.later (omega (arith, ends)) in
-    nothing (sym (sym (λ i. sum_by (f i) (g i) s a b) ∙ sym (ap (λ x. sum_written s (part x 0) (part x 1)) r.shape) ∙ k))
+    nothing (sym (sym (λ i. sum_by (f i) (g i) o a b) ∙ sym (ap (λ x. sum_written o (part x 0) (part x 1)) r.shape) ∙ k))
 
-after_rest : (s : Seat) (n w : Tree) → Row5After n w → weight (Expr s) n < 2 ^ 64 → weight (Expr s) w < weight (Expr s) n → sum_written s (part n 0) (part n 1) ≡ None → ⊥
-after_rest s n w r small less k =
+after_rest : (o : Option Seat) (n w : Tree) → Row5After n w → Fits o n → Gained o n w → sum_written o (part n 0) (part n 1) ≡ None → ⊥
+after_rest o n w r small less k =
     let a : Tree = template (append (pieces r.before) (piece r.last ▸ none)) r.earlier in
     let starts = r.starts in
     let f : is_whole a ≡ true = whole_is r.before (r.last ∷ []) r.earlier (omega (arith, starts)) in
     let g = no_template r.tail r.text r.known in
     let joined : Piece = pair r.last (spelled r.text) in
-    let whole = weights.after_weighs s n w r in
-    let heavy = weights.after_heavy s n w r in
-    let marks = mark_is s (count r.earlier) in
-    let few = mark_small s (count r.earlier) in
-    let gain = pays_for (plus_sign s (count r.earlier)) (growth (length joined.raw) (length r.last.raw) 0) (weight (Expr (binary_operand_seat Addition 1)) r.tail) (omega (arith, small, heavy)) (omega (arith, whole, less, marks, few)) in
-    some_made (with_tail a) (is_added s (binary_operand_seat Addition 1) (count r.earlier) r.tail joined.raw (piece r.last)) (piece joined) (both_true (leaves_nothing r.tail) _ r.dropped gain)
-    (ap (λ o. made_by (with_tail a) (tail_by s (count r.earlier) (piece r.last) r.tail o)) (sym r.known)
-    ∙ ap (λ x. made_by (with_tail a) (tail_piece s (count r.earlier) x r.tail)) (sym (last_append (pieces r.before) (piece r.last)))
-    ∙ sym (λ i. sum_by (f i) (g i) s a r.tail)
-    ∙ sym (ap (λ x. sum_written s (part x 0) (part x 1)) r.shape) ∙ k)
+    let gain = tail_pays n w r o small less in
+    some_made (with_tail a) (is_added o (binary_operand_seat Addition 1) (count r.earlier) r.tail joined.raw (piece r.last)) (piece joined) (both_true (leaves_nothing r.tail) _ r.dropped gain)
+    (ap (λ v. made_by (with_tail a) (tail_by o (count r.earlier) (piece r.last) r.tail v)) (sym r.known)
+    ∙ ap (λ x. made_by (with_tail a) (tail_piece o (count r.earlier) x r.tail)) (sym (last_append (pieces r.before) (piece r.last)))
+    ∙ sym (λ i. sum_by (f i) (g i) o a r.tail)
+    ∙ sym (ap (λ x. sum_written o (part x 0) (part x 1)) r.shape) ∙ k)
 
-before_rest : (s : Seat) (n w : Tree) → Row5Before n w → weight (Expr s) n < 2 ^ 64 → weight (Expr s) w < weight (Expr s) n → sum_written s (part n 0) (part n 1) ≡ None → ⊥
-before_rest s n w r small less k =
+before_rest : (o : Option Seat) (n w : Tree) → Row5Before n w → Fits o n → Gained o n w → sum_written o (part n 0) (part n 1) ≡ None → ⊥
+before_rest o n w r small less k =
     let b : Tree = template (piece r.first ▸ pieces r.after) r.later in
     let ends = r.ends in
     let f = no_template r.head r.text r.known in
     let g : is_whole b ≡ true = whole_is [] (r.first ∷ r.after) r.later (omega (arith, ends)) in
     let joined : Piece = pair (spelled r.text) r.first in
-    let whole = weights.before_weighs s n w r in
-    let heavy = weights.before_heavy s n w r in
-    let marks = mark_is s (count r.later) in
-    let few = mark_small s (count r.later) in
-    let gain = pays_for (plus_sign s (count r.later)) (growth (length joined.raw) (length r.first.raw) 0) (weight (Expr (binary_operand_seat Addition 0)) r.head) (omega (arith, small, heavy)) (omega (arith, whole, less, marks, few)) in
-    some_made (with_head b) (is_added s (binary_operand_seat Addition 0) (count r.later) r.head joined.raw (piece r.first)) (piece joined) (both_true (leaves_nothing r.head) _ r.dropped gain)
-    (ap (λ o. made_by (with_head b) (head_by s (count r.later) r.head (piece r.first) o)) (sym r.known)
-    ∙ sym (λ i. sum_by (f i) (g i) s r.head b)
-    ∙ sym (ap (λ x. sum_written s (part x 0) (part x 1)) r.shape) ∙ k)
+    let gain = head_pays n w r o small less in
+    some_made (with_head b) (is_added o (head_seat o) (count r.later) r.head joined.raw (piece r.first)) (piece joined) (both_true (leaves_nothing r.head) _ r.dropped gain)
+    (ap (λ v. made_by (with_head b) (head_by o (count r.later) r.head (piece r.first) v)) (sym r.known)
+    ∙ sym (λ i. sum_by (f i) (g i) o r.head b)
+    ∙ sym (ap (λ x. sum_written o (part x 0) (part x 1)) r.shape) ∙ k)
 
-sum_rests : (s : Seat) (n : Tree) → binary_operator n ≡ Some Addition → sum_written s (part n 0) (part n 1) ≡ None → Rests (Expr s) n
+sum_rest : (o : Option Seat) (n w : Tree) → Row5 n w → Fits o n → Gained o n w → sum_written o (part n 0) (part n 1) ≡ None → ⊥
+sum_rest o n w (inl r) small less k = both_rest o n w r k
+sum_rest o n w (inr (inl r)) small less k = after_rest o n w r small less k
+sum_rest o n w (inr (inr r)) small less k = before_rest o n w r small less k
+
+-- ---- 6: where nothing is written
+
+-- what writes a value out is no sum
+no_sum : (t : Tree) (m : List ℕ) → told_in t ≡ Some m → binary_operator t ≡ Some Addition → ⊥
+no_sum t m k h = nothing (sym (ap told_in (binary_is t Addition h)) ∙ k)
+
+first_is_no_sum : (n w : Tree) → Row5 n w → binary_operator (part n 0) ≡ Some Addition → ⊥
+first_is_no_sum n w (inl r) h = nothing (sym (ap (λ x. binary_operator (part x 0)) r.shape) ∙ h)
+first_is_no_sum n w (inr (inl r)) h = nothing (sym (ap (λ x. binary_operator (part x 0)) r.shape) ∙ h)
+first_is_no_sum n w (inr (inr r)) h = no_sum r.head r.text r.known (sym (ap (λ x. binary_operator (part x 0)) r.shape) ∙ h)
+
+plainly : (o : Option BinaryOperator) (s : Seat) (a b : Tree) → (o ≡ Some Addition → ⊥) → sum_written (Some s) a b ≡ added_by o s a b
+plainly (Some Addition) s a b h = absurd (h refl)
+plainly o s a b h = refl
+
+none_made : (f : Tree → Tree) (o : Option Tree) → made_by f o ≡ None → o ≡ None
+none_made f None e = refl
+none_made f (Some x) e = nothing (sym e)
+
+none_settled : (c : Bool) (o : Option Tree) → c ≡ true → (if c then o else None) ≡ None → o ≡ None
+none_settled true o h k = k
+none_settled false o h k = absurd (true≢false (sym h))
+
+or_first : (b c : Bool) → b ≡ true → b || c ≡ true
+or_first true c e = refl
+or_first false c e = absurd (true≢false (sym e))
+
+-- one of the operands is a template
+one_whole : (n w : Tree) → Row5 n w → is_whole (part n 0) || is_whole (part n 1) ≡ true
+one_whole n w (inl r) =
+    let starts = r.starts in
+    or_first (is_whole (part n 0)) (is_whole (part n 1)) (ap (λ x. is_whole (part x 0)) r.shape ∙ whole_is r.before (r.last ∷ []) r.earlier (omega (arith, starts)))
+one_whole n w (inr (inl r)) =
+    let starts = r.starts in
+    or_first (is_whole (part n 0)) (is_whole (part n 1)) (ap (λ x. is_whole (part x 0)) r.shape ∙ whole_is r.before (r.last ∷ []) r.earlier (omega (arith, starts)))
+one_whole n w (inr (inr r)) =
+    let ends = r.ends in
+    or_true (is_whole (part n 0)) (is_whole (part n 1)) (ap (λ x. is_whole (part x 1)) r.shape ∙ whole_is [] (r.first ∷ r.after) r.later (omega (arith, ends)))
+
+row_settled : (n w : Tree) (r : Row6 n w) → is_settled r.left r.inner r.tail ≡ true
+row_settled n w r =
+    let plain = both_true (is_string_kind (kind_of r.inner)) (is_effect_free r.tail) (ap is_string_kind r.known) r.effect_free in
+    let joins = both_true (is_whole r.inner || is_whole r.tail) (is_string_kind (kind_of r.inner) && is_effect_free r.tail) (one_whole (binary Addition r.inner r.tail) r.joined r.sum) plain in
+    both_true (may_join r.inner r.tail) (is_primitive (kind_of r.left) || is_some (told_in r.tail)) joins r.settled
+
+nested_rest : (s : Seat) (n w : Tree) → Row6 n w → weight (Expr s) n < 2 ^ 64 → weight (Expr s) w < weight (Expr s) n → added_written s (part n 0) (part n 1) ≡ None → ⊥
+nested_rest s n w r small less k =
+    let whole = weights.nested_falls s n w r in
+    let heavy = ap (weight (Expr s)) r.shape ∙ weights.nested_weighs s r.left r.inner r.tail in
+    let fits : 2 + weight (Expr weights.right_seat) r.inner + weight (Expr weights.right_seat) r.tail < 2 ^ 64 = omega (arith, small, heavy) in
+    let gained : weight (Expr weights.right_seat) r.joined < 2 + weight (Expr weights.right_seat) r.inner + weight (Expr weights.right_seat) r.tail = omega (arith, whole, less) in
+    let still : nested_written r.left r.inner r.tail ≡ None = sym (ap (λ x. added_written s (part x 0) (part x 1)) r.shape) ∙ k in
+    let unmade = none_made (binary Addition r.left) (sum_written None r.inner r.tail) (none_settled (is_settled r.left r.inner r.tail) (behind_written r.left r.inner r.tail) (row_settled n w r) still) in
+    sum_rest None (binary Addition r.inner r.tail) r.joined r.sum fits gained unmade
+
+sum_rests : (s : Seat) (n : Tree) → binary_operator n ≡ Some Addition → added_written s (part n 0) (part n 1) ≡ None → Rests (Expr s) n
 sum_rests s n h k small w c = go c.row
   where
     go : TemplateRow (Expr s) n w → ⊥
     go (inl r) = nothing (sym (ap binary_operator r.shape) ∙ h)
-    go (inr (inl r)) = both_rest s n w r k
-    go (inr (inr (inl r))) = after_rest s n w r small c.lighter k
-    go (inr (inr (inr r))) = before_rest s n w r small c.lighter k
+    go (inr (inl r)) = sum_rest (Some s) n w r small c.lighter (plainly (binary_operator (part n 0)) s (part n 0) (part n 1) (first_is_no_sum n w r) ∙ k)
+    go (inr (inr r)) = nested_rest s n w r small c.lighter k
 
-pub sum_applied : (s : Seat) (t u : Tree) (b : Bool) → binary_operator t ≡ Some Addition → u ≡ unwrap_or (sum_written s (part t 0) (part t 1)) t → b ≡ is_some (sum_written s (part t 0) (part t 1)) → Applied Gives Rests (Expr s) t u b
-sum_applied s t u b h e f = subst (λ v. Applied Gives Rests (Expr s) t v b) (sym e) (subst (Applied Gives Rests (Expr s) t (unwrap_or (sum_written s (part t 0) (part t 1)) t)) (sym f) (go (sum_written s (part t 0) (part t 1)) refl))
+pub sum_applied : (s : Seat) (t u : Tree) (b : Bool) → binary_operator t ≡ Some Addition → u ≡ unwrap_or (added_written s (part t 0) (part t 1)) t → b ≡ is_some (added_written s (part t 0) (part t 1)) → Applied Gives Rests (Expr s) t u b
+sum_applied s t u b h e f = subst (λ v. Applied Gives Rests (Expr s) t v b) (sym e) (subst (Applied Gives Rests (Expr s) t (unwrap_or (added_written s (part t 0) (part t 1)) t)) (sym f) (go (added_written s (part t 0) (part t 1)) refl))
   where
-    go : (o : Option Tree) → sum_written s (part t 0) (part t 1) ≡ o → Applied Gives Rests (Expr s) t (unwrap_or o t) (is_some o)
+    go : (o : Option Tree) → added_written s (part t 0) (part t 1) ≡ o → Applied Gives Rests (Expr s) t (unwrap_or o t) (is_some o)
     go None k = (refl, sum_rests s t h k)
-    go (Some w) k = moves_once Gives (Expr s) t w (sum_contracts s t (part t 0) (part t 1) w (binary_is t Addition h) k)
+    go (Some w) k = moves_once Gives (Expr s) t w (added_contracts s t (part t 0) (part t 1) w (binary_is t Addition h) k)
+
+row5_sum : (n w : Tree) → Row5 n w → binary_operator n ≡ Some Addition
+row5_sum n w (inl r) = ap binary_operator r.shape
+row5_sum n w (inr (inl r)) = ap binary_operator r.shape
+row5_sum n w (inr (inr r)) = ap binary_operator r.shape
 
 others_rest : (s : Seat) (t : Tree) → (binary_operator t ≡ Some Addition → ⊥) → PartsRest (Expr s) t → Rests (Expr s) t
 others_rest s t h k small w c = go c.row
   where
     go : TemplateRow (Expr s) t w → ⊥
     go (inl r) = k small w r c.lighter
-    go (inr (inl r)) = h (ap binary_operator r.shape)
-    go (inr (inr (inl r))) = h (ap binary_operator r.shape)
-    go (inr (inr (inr r))) = h (ap binary_operator r.shape)
+    go (inr (inl r)) = h (row5_sum t w r)
+    go (inr (inr r)) = h (ap binary_operator r.shape)
 
 pub others_applied : (s : Seat) (t u : Tree) (b : Bool) → (binary_operator t ≡ Some Addition → ⊥) → Applied Gives PartsRest (Expr s) t u b → Applied Gives Rests (Expr s) t u b
 others_applied s t u true h a = a
 others_applied s t u false h a = (a.0, others_rest s t h a.1)
+
+-- ---- 6: where the code stands
+
+pub two_operands : (t : Tree) (o : BinaryOperator) → binary_operator t ≡ Some o → count (children t) ≡ 2
+two_operands t o e = ap (λ x. count (children x)) (binary_is t o e)
+
+nested_is : (n : Tree) → binary_operator n ≡ Some Addition → binary_operator (part n 0) ≡ Some Addition → n ≡ binary Addition (binary Addition (part (part n 0) 0) (part (part n 0) 1)) (part n 1)
+nested_is n e f = binary_is n Addition e ∙ ap (λ x. binary Addition x (part n 1)) (binary_is (part n 0) Addition f)
+
+rejoined_is : (n a t u s : Tree) (b : Bool) (o : Option Tree) → n ≡ binary Addition (binary Addition a t) u → s ≡ unwrap_or o (binary Addition t u) → b ≡ is_some o → rejoined b a s ≡ unwrap_or (made_by (binary Addition a) o) n
+rejoined_is n a t u s true (Some m) e f g = ap (binary Addition a) f
+rejoined_is n a t u s false None e f g = ap (λ x. rejoined false a x) f ∙ sym e
+rejoined_is n a t u s true None e f g = absurd (true≢false g)
+rejoined_is n a t u s false (Some m) e f g = absurd (true≢false (sym g))
+
+pub behind_tree : (n s : Tree) (b : Bool) → binary_operator n ≡ Some Addition → binary_operator (part n 0) ≡ Some Addition → s ≡ unwrap_or (sum_written None (part (part n 0) 1) (part n 1)) (binary Addition (part (part n 0) 1) (part n 1)) → b ≡ is_some (sum_written None (part (part n 0) 1) (part n 1)) → rejoined b (part (part n 0) 0) s ≡ unwrap_or (behind_written (part (part n 0) 0) (part (part n 0) 1) (part n 1)) n
+behind_tree n s b e f g h = rejoined_is n (part (part n 0) 0) (part (part n 0) 1) (part n 1) s b (sum_written None (part (part n 0) 1) (part n 1)) (nested_is n e f) g h
+
+pub behind_said : (a t u : Tree) (b : Bool) → b ≡ is_some (sum_written None t u) → b ≡ is_some (behind_written a t u)
+behind_said a t u b e = e ∙ same (sum_written None t u)
+  where
+    same : (o : Option Tree) → is_some o ≡ is_some (made_by (binary Addition a) o)
+    same (Some m) = refl
+    same None = refl
+
+pub plain_tree : (s : Seat) (a b n w : Tree) → (binary_operator a ≡ Some Addition → ⊥) → w ≡ unwrap_or (sum_written (Some s) a b) n → w ≡ unwrap_or (added_written s a b) n
+plain_tree s a b n w h e = e ∙ ap (λ o. unwrap_or o n) (plainly (binary_operator a) s a b h)
+
+pub plain_said : (s : Seat) (a b : Tree) (c : Bool) → (binary_operator a ≡ Some Addition → ⊥) → c ≡ is_some (sum_written (Some s) a b) → c ≡ is_some (added_written s a b)
+plain_said s a b c h e = e ∙ ap is_some (plainly (binary_operator a) s a b h)

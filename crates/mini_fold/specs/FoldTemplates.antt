@@ -1,5 +1,7 @@
--- The rewrites 18 and 5: `` `a${1}b${c}` `` becomes `` `a1b${c}` ``, and `` `a${b}` + `c${d}` `` `` `a${b}c${d}` ``.
+-- The rewrites 18, 5 and 6: `` `a${1}b${c}` `` becomes `` `a1b${c}` ``, `` `a${b}` + `c${d}` `` `` `a${b}c${d}` ``, and
+-- `` a + `x${b}` + `y` `` `` a + `x${b}y` ``.
 use Rattle.std.specs.Prelude.{ℕ, suc, ◌+◌, ◌-◌, ◌*◌, ◌<◌, ◌^◌, Bool, true, false, ◌&&◌, ◌||◌, nat_eq, nat_le, nat_lt, List, [], length, Option, Some, None, is_some, if◌then◌else◌}
+use Rattle.mini_model.specs.declared.operator.BinaryOperator.{BinaryOperator}
 use Rattle.mini_model.specs.declared.operator.BinaryOperator.TheVariants.{Addition}
 use Rattle.mini_model.specs.declared.place.Position.{Position}
 use Rattle.mini_model.specs.declared.seat.Seat.{Seat}
@@ -11,9 +13,13 @@ use Rattle.mini_model.specs.Position.{whole_seat, binary_operand_seat}
 use Rattle.mini_model.specs.Tree.{Tree, Trees, none, ◌▸◌, count, shape_of, children, child_or_absent, first_or_absent}
 use Rattle.mini_model.specs.Weight.{weight, capped}
 use Rattle.mini_node.specs.Children.{part, is_bare, with_child, without}
-use Rattle.mini_node.specs.Kinds.{is_listed}
+use Rattle.mini_node.specs.Kinds.{is_listed, binary_operator}
+use Rattle.mini_terms.specs.Folds.{is_effect_free}
+use Rattle.mini_terms.specs.Kind.{is_primitive, kind}
 use Rattle.mini_terms.specs.Parts.{leaves_nothing}
+use Rattle.mini_fold.specs.FoldOperands.{is_string_kind}
 use Rattle.mini_fold.specs.FoldSequences.{last_of, but_last}
+use Rattle.mini_rows.specs.Spellings.{binary}
 use Rattle.mini_rows.specs.Templates.{Piece, piece, template, pair, spelled, told, Row18, TemplateContracts}
 
 -- ---- pieces of text
@@ -134,27 +140,37 @@ abbrev pub both_written : Tree → Tree → Tree
 both_written a b =
     template (append (append (but_last (texts_of a)) (paired (last_of (texts_of a)) (first_or_absent (texts_of b)) ▸ none)) (without (texts_of b) 0)) (append (parts_of a) (parts_of b))
 
-abbrev pub is_added : Seat → Seat → ℕ → Tree → List ℕ → Tree → Bool
-is_added s at n t raw a = leaves_nothing t && pays (plus_sign s n) (growth (length raw) (length (raw_in (shape_of a))) 0) (capped (weight (Expr at) t))
+-- of a sum in a seat, or of the operands behind another one, where a `+` goes
+abbrev pub besides : Option Seat → ℕ → ℕ
+besides (Some s) n = plus_sign s n
+besides None n = 1
+
+-- where the first operand stands
+abbrev pub head_seat : Option Seat → Seat
+head_seat (Some s) = binary_operand_seat Addition 0
+head_seat None = binary_operand_seat Addition 1
+
+abbrev pub is_added : Option Seat → Seat → ℕ → Tree → List ℕ → Tree → Bool
+is_added o at n t raw a = leaves_nothing t && pays (besides o n) (growth (length raw) (length (raw_in (shape_of a))) 0) (capped (weight (Expr at) t))
 
 -- the last piece of a template with the text of what is added to it
-abbrev pub tail_by : Seat → ℕ → Tree → Tree → Option (List ℕ) → Option Tree
-tail_by s n end t (Some text) = if is_added s (binary_operand_seat Addition 1) n t (pair (piece_in end) (spelled text)).raw end then Some (piece (pair (piece_in end) (spelled text))) else None
-tail_by s n end t None = None
+abbrev pub tail_by : Option Seat → ℕ → Tree → Tree → Option (List ℕ) → Option Tree
+tail_by o n end t (Some text) = if is_added o (binary_operand_seat Addition 1) n t (pair (piece_in end) (spelled text)).raw end then Some (piece (pair (piece_in end) (spelled text))) else None
+tail_by o n end t None = None
 
-abbrev pub tail_piece : Seat → ℕ → Tree → Tree → Option Tree
-tail_piece s n end t = tail_by s n end t (told t)
+abbrev pub tail_piece : Option Seat → ℕ → Tree → Tree → Option Tree
+tail_piece o n end t = tail_by o n end t (told t)
 
 abbrev pub with_tail : Tree → Tree → Tree
 with_tail a joined = template (append (but_last (texts_of a)) (joined ▸ none)) (parts_of a)
 
 -- the first piece of a template with the text of what it is added to
-abbrev pub head_by : Seat → ℕ → Tree → Tree → Option (List ℕ) → Option Tree
-head_by s n t end (Some text) = if is_added s (binary_operand_seat Addition 0) n t (pair (spelled text) (piece_in end)).raw end then Some (piece (pair (spelled text) (piece_in end))) else None
-head_by s n t end None = None
+abbrev pub head_by : Option Seat → ℕ → Tree → Tree → Option (List ℕ) → Option Tree
+head_by o n t end (Some text) = if is_added o (head_seat o) n t (pair (spelled text) (piece_in end)).raw end then Some (piece (pair (spelled text) (piece_in end))) else None
+head_by o n t end None = None
 
-abbrev pub head_piece : Seat → ℕ → Tree → Tree → Option Tree
-head_piece s n t end = head_by s n t end (told t)
+abbrev pub head_piece : Option Seat → ℕ → Tree → Tree → Option Tree
+head_piece o n t end = head_by o n t end (told t)
 
 abbrev pub with_head : Tree → Tree → Tree
 with_head b joined = template (joined ▸ without (texts_of b) 0) (parts_of b)
@@ -163,21 +179,49 @@ abbrev pub made_by : (Tree → Tree) → Option Tree → Option Tree
 made_by f (Some joined) = Some (f joined)
 made_by f None = None
 
-abbrev pub tail_written : Seat → Tree → Tree → Option Tree
-tail_written s a b = made_by (with_tail a) (tail_piece s (count (parts_of a)) (last_of (texts_of a)) b)
+abbrev pub tail_written : Option Seat → Tree → Tree → Option Tree
+tail_written o a b = made_by (with_tail a) (tail_piece o (count (parts_of a)) (last_of (texts_of a)) b)
 
-abbrev pub head_written : Seat → Tree → Tree → Option Tree
-head_written s a b = made_by (with_head b) (head_piece s (count (parts_of b)) a (first_or_absent (texts_of b)))
+abbrev pub head_written : Option Seat → Tree → Tree → Option Tree
+head_written o a b = made_by (with_head b) (head_piece o (count (parts_of b)) a (first_or_absent (texts_of b)))
 
 -- what is written for a sum of these
-abbrev pub sum_by : Bool → Bool → Seat → Tree → Tree → Option Tree
-sum_by true true s a b = Some (both_written a b)
-sum_by true false s a b = tail_written s a b
-sum_by false true s a b = head_written s a b
-sum_by false false s a b = None
+abbrev pub sum_by : Bool → Bool → Option Seat → Tree → Tree → Option Tree
+sum_by true true o a b = Some (both_written a b)
+sum_by true false o a b = tail_written o a b
+sum_by false true o a b = head_written o a b
+sum_by false false o a b = None
 
-abbrev pub sum_written : Seat → Tree → Tree → Option Tree
-sum_written s a b = sum_by (is_whole a) (is_whole b) s a b
+abbrev pub sum_written : Option Seat → Tree → Tree → Option Tree
+sum_written o a b = sum_by (is_whole a) (is_whole b) o a b
+
+-- ---- 6
+
+-- whether `t + u` of `a + t + u` may be one template: the sum of a and t is a text, and a may be converted after u is evaluated
+abbrev pub may_join : Tree → Tree → Bool
+may_join t u = (is_whole t || is_whole u) && (is_string_kind (kind t) && is_effect_free u)
+
+abbrev pub is_settled : Tree → Tree → Tree → Bool
+is_settled a t u = may_join t u && (is_primitive (kind a) || is_some (told u))
+
+abbrev pub behind_written : Tree → Tree → Tree → Option Tree
+behind_written a t u = made_by (binary Addition a) (sum_written None t u)
+
+-- `a + s`, where s is one template, and else `(a + t) + u` again of the sum s of t and u
+abbrev pub rejoined : Bool → Tree → Tree → Tree
+rejoined true a s = binary Addition a s
+rejoined false a s = binary Addition (binary Addition a (part s 0)) (part s 1)
+
+abbrev pub nested_written : Tree → Tree → Tree → Option Tree
+nested_written a t u = if is_settled a t u then behind_written a t u else None
+
+-- of a sum whose first operand is this
+abbrev pub added_by : Option BinaryOperator → Seat → Tree → Tree → Option Tree
+added_by (Some Addition) s a b = nested_written (part a 0) (part a 1) b
+added_by o s a b = sum_written (Some s) a b
+
+abbrev pub added_written : Seat → Tree → Tree → Option Tree
+added_written s a b = added_by (binary_operator a) s a b
 
 -- ---- all
 

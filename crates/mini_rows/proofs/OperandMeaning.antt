@@ -287,7 +287,7 @@ module _ (e : Environment) (m n : Naming) (K L : Kids (λ i. As Val)) (s t : Lis
       ∙ made_later (to_text x) z
       ∙ sym (ap (λ c. run {q = λ i. As Val} e n L (of_made c) z) (with_text x (s ++ t)))
 
-  added_twice : (v : Value) (z : State) → either (run {q = λ i. As Val} e m K (operate_by Addition v (String s)) z) then_text (λ x y. stop x y) ≡ run {q = λ i. As Val} e n L (operate_by Addition v (String (s ++ t))) z
+  pub added_twice : (v : Value) (z : State) → either (run {q = λ i. As Val} e m K (operate_by Addition v (String s)) z) then_text (λ x y. stop x y) ≡ run {q = λ i. As Val} e n L (operate_by Addition v (String (s ++ t))) z
   added_twice v z =
       ap (λ c. either c then_text (λ x y. stop x y)) (run_bind e m (primitive ForDefault v) (λ x. of_made (of_primitives Addition x (String s))) K z)
       ∙ either_assoc (run {q = λ i. As Val} e m K (primitive ForDefault v) z) _ _ _ _

@@ -17,17 +17,18 @@ use Rattle.mini_kept.specs.KeepsShapes.{AskedAlike}
 use Rattle.mini_kept.specs.KeepsFrames.{is_body_slot}
 use Rattle.mini_kept.specs.Lawful.{Lawful}
 use Rattle.mini_kept.proofs.Bools.{left, both}
-use Rattle.mini_kept.proofs.Expressions.{refused_here, expression, TakesExpressionIn, TakesExpression, expression_taken}
+use Rattle.mini_kept.proofs.Expressions.{refused_here, expression, TakesExpressionIn, TakesExpression, expression_taken, two_fit}
 use Rattle.mini_laws.specs.Conversion.{makes, raises, outside, to_text}
 use Rattle.mini_laws.specs.Conversion as conversion
 use Rattle.mini_laws.specs.Value.{Value}
+use Rattle.mini_node.specs.Children.{part as its_part}
 use Rattle.mini_node.specs.Walks.{append_none}
 use Rattle.mini_terms.specs.Calculated.{literal_value}
 use Rattle.mini_terms.specs.Const.{made}
 use Rattle.mini_rows.specs.Arranged.{KeptAt}
 use Rattle.mini_rows.specs.Sketches.{Binary, Template, Piece as PieceHead, Parts, Sketch, part, under, list, Items, end, ◌▹◌, no_items, item, items}
 use Rattle.mini_rows.specs.Spellings.{binary}
-use Rattle.mini_rows.specs.Templates.{Piece, piece, pieces, template, pair, spelled, told, Row18, Row5Both, Row5After, Row5Before, TemplateRow, TemplateContracts}
+use Rattle.mini_rows.specs.Templates.{Piece, piece, pieces, template, pair, spelled, told, Row18, Row5Both, Row5After, Row5Before, Row5, Row6, TemplateRow, TemplateContracts}
 use Rattle.mini_rows.proofs.ArrangedExpressions.{expressions_arranged, expressions_arranged_freely}
 use Rattle.mini_rows.proofs.ArrangedLawful.{kept_is_lawful}
 use Rattle.mini_rows.proofs.ConstantLawful.{Paired, literal_written, text_paired, binary_at}
@@ -89,11 +90,45 @@ before_kept q n w r =
     (r.shape ∙ (λ i. binary Addition r.head (template (piece r.first ▸ sym (append_none (pieces r.after)) i) (sym (append_none r.later) i))))
     (r.written ∙ (λ i. template (piece joined ▸ sym (append_none (pieces r.after)) i) (sym (append_none r.later) i)))
 
+sum_kept : (q : Seat) (n w : Tree) → Row5 n w → KeptAt (Expr q) n w
+sum_kept q n w (inl r) = both_kept q n w r
+sum_kept q n w (inr (inl r)) = after_kept q n w r
+sum_kept q n w (inr (inr r)) = before_kept q n w r
+
+-- 6: the same of the operands of another sum
+nested_by : (q : Seat) (n w a t u v : Tree) → n ≡ binary Addition (binary Addition a t) u → w ≡ binary Addition a v → Row5 (binary Addition t u) v → KeptAt (Expr q) n w
+nested_by q n w a t u v e f (inl r) =
+    let joined : Piece = pair r.last r.first in
+    let ps : Parts = record { trees = a ▸ none; lists = pieces r.before ∷ (pieces r.after ∷ (r.earlier ∷ (r.later ∷ []))) } in
+    expressions_arranged ps
+    (under (Binary Addition) (under (Binary Addition) (part 0 ▹ a_template (items 0 (item (a_piece r.last) no_items)) (items 2 no_items) ▹ end) ▹ a_template (item (a_piece r.first) (items 1 no_items)) (items 3 no_items) ▹ end))
+    (under (Binary Addition) (part 0 ▹ a_template (items 0 (item (a_piece joined) (items 1 no_items))) (items 2 (items 3 no_items)) ▹ end))
+    refl q n w
+    (e ∙ ap (λ x. binary Addition (binary Addition a (its_part x 0)) (its_part x 1)) r.shape ∙ (λ i. binary Addition (binary Addition a (template (append (pieces r.before) (piece r.last ▸ none)) (sym (append_none r.earlier) i))) (template (piece r.first ▸ sym (append_none (pieces r.after)) i) (sym (append_none r.later) i))))
+    (f ∙ ap (binary Addition a) r.written ∙ (λ i. binary Addition a (template (append (pieces r.before) (piece joined ▸ sym (append_none (pieces r.after)) i)) (append r.earlier (sym (append_none r.later) i)))))
+nested_by q n w a t u v e f (inr (inl r)) =
+    let joined : Piece = pair r.last (spelled r.text) in
+    let ps : Parts = record { trees = r.tail ▸ (a ▸ none); lists = pieces r.before ∷ (r.earlier ∷ []) } in
+    expressions_arranged_freely first_dropped ps (tt, tt, (vanishes r.tail r.dropped, tt))
+    (under (Binary Addition) (under (Binary Addition) (part 1 ▹ a_template (items 0 (item (a_piece r.last) no_items)) (items 1 no_items) ▹ end) ▹ part 0 ▹ end))
+    (under (Binary Addition) (part 1 ▹ a_template (items 0 (item (a_piece joined) no_items)) (items 1 no_items) ▹ end))
+    refl q n w
+    (e ∙ ap (λ x. binary Addition (binary Addition a (its_part x 0)) (its_part x 1)) r.shape ∙ (λ i. binary Addition (binary Addition a (template (append (pieces r.before) (piece r.last ▸ none)) (sym (append_none r.earlier) i))) r.tail))
+    (f ∙ ap (binary Addition a) r.written ∙ (λ i. binary Addition a (template (append (pieces r.before) (piece joined ▸ none)) (sym (append_none r.earlier) i))))
+nested_by q n w a t u v e f (inr (inr r)) =
+    let joined : Piece = pair (spelled r.text) r.first in
+    let ps : Parts = record { trees = r.head ▸ (a ▸ none); lists = pieces r.after ∷ (r.later ∷ []) } in
+    expressions_arranged_freely first_dropped ps (tt, tt, (vanishes r.head r.dropped, tt))
+    (under (Binary Addition) (under (Binary Addition) (part 1 ▹ part 0 ▹ end) ▹ a_template (item (a_piece r.first) (items 0 no_items)) (items 1 no_items) ▹ end))
+    (under (Binary Addition) (part 1 ▹ a_template (item (a_piece joined) (items 0 no_items)) (items 1 no_items) ▹ end))
+    refl q n w
+    (e ∙ ap (λ x. binary Addition (binary Addition a (its_part x 0)) (its_part x 1)) r.shape ∙ (λ i. binary Addition (binary Addition a r.head) (template (piece r.first ▸ sym (append_none (pieces r.after)) i) (sym (append_none r.later) i))))
+    (f ∙ ap (binary Addition a) r.written ∙ (λ i. binary Addition a (template (piece joined ▸ sym (append_none (pieces r.after)) i) (sym (append_none r.later) i))))
+
 kept : (p : Position) (n w : Tree) → TemplateRow p n w → KeptAt p n w
 kept (Expr q) n w (inl r) = inlined_kept q n w r
-kept (Expr q) n w (inr (inl r)) = both_kept q n w r
-kept (Expr q) n w (inr (inr (inl r))) = after_kept q n w r
-kept (Expr q) n w (inr (inr (inr r))) = before_kept q n w r
+kept (Expr q) n w (inr (inl r)) = sum_kept q n w r
+kept (Expr q) n w (inr (inr r)) = nested_by q n w r.left r.inner r.tail r.joined r.shape r.written r.sum
 kept p n w r = absurd r
 
 places : (p : Position) (n w : Tree) → TemplateRow p n w → is_rewritten_place p ≡ true
@@ -295,19 +330,27 @@ module _ (strict : Bool) where
       made_template (piece (pair (spelled m) q) ▸ pieces after) later
       (record { counts = other.counts; texts = other_quasi [] q (pair (spelled m) q) (pieces after) (λ last x. joined_stands true (spelled m) q (pair (spelled m) q) (pair_whole (spelled m) q) refl last (spelled_stands m text) x) other.texts; parts = other.parts })
 
+  sum_stood : (n w : Tree) → Row5 n w → (s : Slot) → fits strict s n ≡ true → TakesExpression s × Fits w
+  sum_stood n w (inl r) s e =
+      let (takes, (left_fits, right_fits)) = binary_at strict Addition (template (append (pieces r.before) (piece r.last ▸ none)) r.earlier) (template (piece r.first ▸ pieces r.after) r.later) s (subst (λ t. fits strict s t ≡ true) r.shape e) in
+      (takes, subst Fits (sym r.written) (both_fits r.before r.last r.earlier r.first r.after r.later left_fits right_fits))
+  sum_stood n w (inr (inl r)) s e =
+      let (takes, (left_fits, right_fits)) = binary_at strict Addition (template (append (pieces r.before) (piece r.last ▸ none)) r.earlier) r.tail s (subst (λ t. fits strict s t ≡ true) r.shape e) in
+      (takes, subst Fits (sym r.written) (after_fits r.before r.last r.earlier r.tail r.text r.known left_fits right_fits))
+  sum_stood n w (inr (inr r)) s e =
+      let (takes, (left_fits, right_fits)) = binary_at strict Addition r.head (template (piece r.first ▸ pieces r.after) r.later) s (subst (λ t. fits strict s t ≡ true) r.shape e) in
+      (takes, subst Fits (sym r.written) (before_fits r.head r.text r.known r.first r.after r.later left_fits right_fits))
+
   stood : (p : Position) (n w : Tree) → TemplateRow p n w → (s : Slot) → fits strict s n ≡ true → TakesExpression s × Fits w
   stood (Expr q) n w (inl r) s e =
       let (takes, fit) = inlined_stands r.before r.first r.second r.after r.earlier r.part r.later r.text r.known s (subst (λ t. fits strict s t ≡ true) r.shape e) in
       (takes, subst Fits (sym r.written) fit)
-  stood (Expr q) n w (inr (inl r)) s e =
-      let (takes, (left_fits, right_fits)) = binary_at strict Addition (template (append (pieces r.before) (piece r.last ▸ none)) r.earlier) (template (piece r.first ▸ pieces r.after) r.later) s (subst (λ t. fits strict s t ≡ true) r.shape e) in
-      (takes, subst Fits (sym r.written) (both_fits r.before r.last r.earlier r.first r.after r.later left_fits right_fits))
-  stood (Expr q) n w (inr (inr (inl r))) s e =
-      let (takes, (left_fits, right_fits)) = binary_at strict Addition (template (append (pieces r.before) (piece r.last ▸ none)) r.earlier) r.tail s (subst (λ t. fits strict s t ≡ true) r.shape e) in
-      (takes, subst Fits (sym r.written) (after_fits r.before r.last r.earlier r.tail r.text r.known left_fits right_fits))
-  stood (Expr q) n w (inr (inr (inr r))) s e =
-      let (takes, (left_fits, right_fits)) = binary_at strict Addition r.head (template (piece r.first ▸ pieces r.after) r.later) s (subst (λ t. fits strict s t ≡ true) r.shape e) in
-      (takes, subst Fits (sym r.written) (before_fits r.head r.text r.known r.first r.after r.later left_fits right_fits))
+  stood (Expr q) n w (inr (inl r)) s e = sum_stood n w r s e
+  stood (Expr q) n w (inr (inr r)) s e =
+      let (takes, (sum_fits, last_fits)) = binary_at strict Addition (binary Addition r.left r.inner) r.tail s (subst (λ t. fits strict s t ≡ true) r.shape e) in
+      let (within, (first_fit, inner_fits)) = binary_at strict Addition r.left r.inner expression sum_fits in
+      let (again, joined_fits) = sum_stood (binary Addition r.inner r.tail) r.joined r.sum expression (two_fit strict r.inner r.tail inner_fits last_fits) in
+      (takes, subst Fits (sym r.written) (two_fit strict r.left r.joined first_fit joined_fits))
   stood p n w r s e = absurd r
 
 row_fits : (p : Position) (n w : Tree) → TemplateRow p n w → (strict : Bool) (s : Slot) → fits strict s n ≡ true → fits strict s w ≡ true
@@ -341,11 +384,22 @@ sum_asked p a b qs us = record {
 asked_as : (p : Position) (n w : Tree) (t u : Tree) → n ≡ t → w ≡ u → AskedAlike p t u → AskedAlike p n w
 asked_as p n w t u e f a = subst (λ x. AskedAlike p x w) (sym e) (subst (AskedAlike p t) (sym f) a)
 
+nested_asked : (p : Position) (a b c d : Tree) → AskedAlike p (binary Addition a b) (binary Addition c d)
+nested_asked p a b c d = record {
+  absent = λ e. absurd (true≢false (sym e));
+  body = λ e. absurd (true≢false (sym e));
+  optional = λ e. absurd (true≢false (sym e));
+  number = λ asks e. refl;
+  spelled = λ s e. absurd (cc e);
+  plain = refl;
+}
+
 row_asked : (p : Position) (n w : Tree) → TemplateRow p n w → AskedAlike p n w
 row_asked (Expr q) n w (inl r) = asked_as (Expr q) n w _ _ r.shape r.written (template_asked (Expr q) _ _ _ _)
-row_asked (Expr q) n w (inr (inl r)) = asked_as (Expr q) n w _ _ r.shape r.written (sum_asked (Expr q) _ _ _ _)
-row_asked (Expr q) n w (inr (inr (inl r))) = asked_as (Expr q) n w _ _ r.shape r.written (sum_asked (Expr q) _ _ _ _)
-row_asked (Expr q) n w (inr (inr (inr r))) = asked_as (Expr q) n w _ _ r.shape r.written (sum_asked (Expr q) _ _ _ _)
+row_asked (Expr q) n w (inr (inl (inl r))) = asked_as (Expr q) n w _ _ r.shape r.written (sum_asked (Expr q) _ _ _ _)
+row_asked (Expr q) n w (inr (inl (inr (inl r)))) = asked_as (Expr q) n w _ _ r.shape r.written (sum_asked (Expr q) _ _ _ _)
+row_asked (Expr q) n w (inr (inl (inr (inr r)))) = asked_as (Expr q) n w _ _ r.shape r.written (sum_asked (Expr q) _ _ _ _)
+row_asked (Expr q) n w (inr (inr r)) = asked_as (Expr q) n w _ _ r.shape r.written (nested_asked (Expr q) _ _ _ _)
 row_asked p n w r = absurd r
 
 pub templates_lawful : Lawful TemplateContracts

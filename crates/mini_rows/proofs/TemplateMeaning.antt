@@ -1,6 +1,7 @@
 -- What a row on templates writes means the same.
-use Rattle.std.proofs.Common.{◌≡◌, ℕ, zero, suc, inl, inr, ◌+◌, arith, List, [], ◌∷◌, ◌++◌, Option, Some, None, length, append_assoc, append-nil, refl, sym, ap, subst, ◌∙◌}
-use Rattle.std.specs.Prelude.{not}
+use Rattle.std.proofs.Common.{◌≡◌, ℕ, zero, suc, inl, inr, true≢false, ◌+◌, arith, List, [], ◌∷◌, ◌++◌, Option, Some, None, length, append_assoc, append-nil, refl, sym, ap, subst, ◌∙◌}
+use Rattle.std.specs.Prelude.{not, ◌||◌, Bool, true, false, is_some, codes}
+use Rattle.std.specs.Fmt.{signed_decimal}
 use Rattle.mini_model.specs.declared.name.Name.{Name}
 use Rattle.mini_model.specs.declared.operator.BinaryOperator.TheVariants.{Addition}
 use Rattle.mini_model.specs.declared.operator.UnaryOperator.{UnaryOperator}
@@ -18,20 +19,28 @@ use Rattle.mini_node.specs.Made.{unary_is}
 use Rattle.mini_laws.specs.Value.{Value, Undefined, Null, Boolean, Number, String, Symbol, Object, truth}
 use Rattle.mini_laws.specs.State.{State, Completion, ok, stop, either, Environment}
 use Rattle.mini_laws.specs.Command.{run}
-use Rattle.mini_laws.specs.Conversion.{to_text}
+use Rattle.mini_laws.specs.Conversion.{to_text, text_of_boolean}
 use Rattle.mini_laws.specs.Demand.{Val, As}
 use Rattle.mini_laws.specs.Expressions.{operate_by}
 use Rattle.mini_laws.specs.Naming.{summary}
 use Rattle.mini_laws.specs.Step.{step, means, meaning}
 use Rattle.mini_laws.specs.Rows.{SameAt}
 use Rattle.mini_laws.specs.Rewritten.{MeansSame}
+use Rattle.mini_terms.specs.declared.kinds.Kind.{Kind}
+use Rattle.mini_terms.specs.declared.kinds.Kind.TheVariants.{Undefined as IsUndefined, Null as IsNull, Boolean as IsBoolean, Number as IsNumber, String as IsString}
+use Rattle.mini_terms.specs.Kind.{is_primitive, kind, OfKind}
+use Rattle.mini_terms.specs.Reading.{stands}
+use Rattle.mini_terms.specs.Sound.{Gives}
+use Rattle.mini_terms.proofs.Dropping.{after_cong}
+use Rattle.mini_terms.proofs.KindTable.{kind_sound}
 use Rattle.mini_terms.specs.Calculated.{leaf_value, over_leaf, literal_by, literal_value}
 use Rattle.mini_terms.specs.Const.{made, text_of}
 use Rattle.mini_terms.proofs.Opened.{negation_opened}
 use Rattle.mini_node.specs.Walks.{append_none}
 use Rattle.mini_rows.specs.Spellings.{binary}
-use Rattle.mini_rows.specs.Templates.{Piece, piece, pieces, template, pair, spelled, told, Row18, Row5Both, Row5After, Row5Before, TemplateRow, TemplateContracts}
+use Rattle.mini_rows.specs.Templates.{Piece, piece, pieces, template, pair, spelled, told, Row18, Row5, Row6, TemplateRow, TemplateContracts}
 use Rattle.mini_rows.proofs.ChoiceRuns.{value, sides, binary_names, binary_value}
+use Rattle.mini_rows.proofs.OperandMeaning.{added_twice}
 use Rattle.mini_rows.proofs.SequenceMeaning.{same_value}
 use Rattle.mini_rows.proofs.SpellAlike.{SameTree}
 use Rattle.mini_rows.proofs.SpellMeaning.{tree_same, same_by}
@@ -236,13 +245,123 @@ module _ (e : Environment) where
       ∙ next_assoc (between e (q.cooked ∷ cookeds after) later s) _ _
       ∙ next_cong (between e (q.cooked ∷ cookeds after) later s) _ _ (λ r u. next_ok (m ++ r) u _))
 
+  sum_value : (n w : Tree) → Row5 n w → (s : State) → value e n s ≡ value e w s
+  sum_value n w (inl r) s = ap (λ t. value e t s) r.shape ∙ joined_value r.before r.last r.earlier r.first r.after r.later r.starts r.ends s ∙ sym (ap (λ t. value e t s) r.written)
+  sum_value n w (inr (inl r)) s = ap (λ t. value e t s) r.shape ∙ tail_value r.before r.last r.earlier r.tail r.text r.known r.starts s ∙ sym (ap (λ t. value e t s) r.written)
+  sum_value n w (inr (inr r)) s = ap (λ t. value e t s) r.shape ∙ head_value r.head r.text r.known r.first r.after r.later r.ends s ∙ sym (ap (λ t. value e t s) r.written)
+
+  -- ---- 6
+
+  -- the text of a value that is primitive
+  primitive_text : (k : Kind) (v : Value) → is_primitive k ≡ true → OfKind k v → (t : List ℕ) × (made (to_text v) ≡ Some t)
+  primitive_text IsUndefined Undefined h p = (codes "undefined", refl)
+  primitive_text IsNull Null h p = (codes "null", refl)
+  primitive_text IsBoolean (Boolean b) h p = (text_of_boolean b, refl)
+  primitive_text IsNumber (Number n) h p = (signed_decimal n, refl)
+  primitive_text IsString (String s) h p = (s, refl)
+  primitive_text IsUndefined v h p = absurd p
+  primitive_text IsNull v h p = absurd p
+  primitive_text IsBoolean v h p = absurd p
+  primitive_text IsNumber v h p = absurd p
+  primitive_text IsString v h p = absurd p
+  primitive_text k v h p = absurd (true≢false (sym h))
+
+  module _ (a t u w : Tree) (known : kind t ≡ IsString) (h : (s : State) → value e (binary Addition t u) s ≡ value e w s) where
+    -- what follows the value of the first operand
+    abbrev First : Value → State → Completion Value
+    First v z = next (next (value e t z) (λ x y. ends_with e a t v x y)) (λ p y. next (value e u y) (λ q k. ends_with e (binary Addition a t) u p q k))
+
+    abbrev Second : Value → State → Completion Value
+    Second v z = next (next (value e t z) (λ x y. next (value e u y) (λ q k. ends_with e t u x q k))) (λ r l. ends_with e a w v r l)
+
+    opened : (s : State) → value e (binary Addition (binary Addition a t) u) s ≡ next (value e a s) First
+    opened s =
+        binary_value e Addition (binary Addition a t) u s
+        ∙ ap (λ c. next c (λ p y. next (value e u y) (λ q k. ends_with e (binary Addition a t) u p q k))) (binary_value e Addition a t s)
+        ∙ next_assoc (value e a s) _ _
+
+    written_opened : (s : State) → value e (binary Addition a w) s ≡ next (value e a s) Second
+    written_opened s =
+        binary_value e Addition a w s
+        ∙ next_cong (value e a s) _ _ (λ v z. ap (λ c. next c (λ r l. ends_with e a w v r l)) (sym (h z) ∙ binary_value e Addition t u z))
+
+    -- by the text of the inner operand
+    by_text : (v : Value) → ((x : List ℕ) (y : State) → next (ends_with e a t v (String x) y) (λ p y. next (value e u y) (λ q k. ends_with e (binary Addition a t) u p q k)) ≡ next (next (value e u y) (λ q k. ends_with e t u (String x) q k)) (λ r l. ends_with e a w v r l)) → (z : State) → First v z ≡ Second v z
+    by_text v f z =
+        next_assoc (value e t z) _ _
+        ∙ after_cong (OfKind IsString) (value e t z) _ _ (subst (λ j. Gives (OfKind j) (value e t z)) known (kind_sound t e z)) (λ x p y. of_string x p y)
+        ∙ sym (next_assoc (value e t z) _ _)
+      where
+        of_string : (x : Value) → OfKind IsString x → (y : State) → next (ends_with e a t v x y) (λ p y. next (value e u y) (λ q k. ends_with e (binary Addition a t) u p q k)) ≡ next (next (value e u y) (λ q k. ends_with e t u x q k)) (λ r l. ends_with e a w v r l)
+        of_string (String x) p y = f x y
+        of_string x p y = absurd p
+
+    -- the last operand writes a value out
+    constant_last : (m : List ℕ) → told u ≡ Some m → (s : State) → value e (binary Addition (binary Addition a t) u) s ≡ value e (binary Addition a w) s
+    constant_last m k s = opened s ∙ next_cong (value e a s) _ _ (λ v z. by_text v (twice v) z) ∙ sym (written_opened s)
+      where
+        is : Told u m
+        is = told_is u m k
+
+        twice : (v : Value) (x : List ℕ) (y : State) → next (ends_with e a t v (String x) y) (λ p y. next (value e u y) (λ q k. ends_with e (binary Addition a t) u p q k)) ≡ next (next (value e u y) (λ q k. ends_with e t u (String x) q k)) (λ r l. ends_with e a w v r l)
+        twice v x y =
+            next_cong (ends_with e a t v (String x) y) _ (λ p y. ends_with e (binary Addition a t) u p (Told.its_value is) y) (λ p y. ap (λ c. next c (λ q k. ends_with e (binary Addition a t) u p q k)) (literal_done e u is.its_value is.is y) ∙ next_ok is.its_value y _)
+            ∙ added_twice e (binary_names Addition a t) (binary_names Addition a w) (sides e a t) (sides e a w) x m (λ p y. ends_with e (binary Addition a t) u p is.its_value y) (λ r y. with_tail (binary Addition a t) u r is.its_value m is.reads y) v y
+            ∙ sym (ap (λ c. next (next c (λ q k. ends_with e t u (String x) q k)) (λ r l. ends_with e a w v r l)) (literal_done e u is.its_value is.is y)
+            ∙ ap (λ c. next c (λ r l. ends_with e a w v r l)) (next_ok is.its_value y _ ∙ with_tail t u x is.its_value m is.reads y)
+            ∙ next_ok (String (x ++ m)) y _)
+
+    -- the first operand is primitive
+    primitive_first : is_primitive (kind a) ≡ true → kind u ≡ IsString → (s : State) → value e (binary Addition (binary Addition a t) u) s ≡ value e (binary Addition a w) s
+    primitive_first k l s = opened s ∙ after_cong (OfKind (kind a)) (value e a s) First Second (kind_sound a e s) (λ v p z. by_text v (in_order v p) z) ∙ sym (written_opened s)
+      where
+        in_order : (v : Value) → OfKind (kind a) v → (x : List ℕ) (y : State) → next (ends_with e a t v (String x) y) (λ p y. next (value e u y) (λ q k. ends_with e (binary Addition a t) u p q k)) ≡ next (next (value e u y) (λ q k. ends_with e t u (String x) q k)) (λ r l. ends_with e a w v r l)
+        in_order v p x y =
+            let (tv, reads) = primitive_text (kind a) v k p in
+            ap (λ c. next c (λ p y. next (value e u y) (λ q k. ends_with e (binary Addition a t) u p q k))) (with_head a t v tv x reads y)
+            ∙ next_ok (String (tv ++ x)) y _
+            ∙ after_cong (OfKind IsString) (value e u y) _ _ (subst (λ j. Gives (OfKind j) (value e u y)) l (kind_sound u e y)) (λ q o z. last_string tv reads q o z)
+            ∙ sym (next_assoc (value e u y) _ _)
+          where
+            last_string : (tv : List ℕ) → made (to_text v) ≡ Some tv → (q : Value) → OfKind IsString q → (z : State) → ends_with e (binary Addition a t) u (String (tv ++ x)) q z ≡ next (ends_with e t u (String x) q z) (λ r l. ends_with e a w v r l)
+            last_string tv reads (String q) o z =
+                with_tail (binary Addition a t) u (tv ++ x) (String q) q refl z
+                ∙ ap (λ o. ok (String o) z) (append_assoc tv x q)
+                ∙ sym (with_head a w v tv (x ++ q) reads z)
+                ∙ sym (ap (λ c. next c (λ r l. ends_with e a w v r l)) (with_tail t u x (String q) q refl z) ∙ next_ok (String (x ++ q)) z _)
+            last_string tv reads q o z = absurd o
+
+  -- a last operand that writes no value out is a template
+  no_constant : (t u w : Tree) → Row5 (binary Addition t u) w → told u ≡ None → kind u ≡ IsString
+  no_constant t u w (inl r) k = ap (λ x. kind (part x 1)) r.shape
+  no_constant t u w (inr (inl r)) k = nothing (sym k ∙ ap (λ x. told (part x 1)) r.shape ∙ r.known)
+  no_constant t u w (inr (inr r)) k = ap (λ x. kind (part x 1)) r.shape
+
+  nested_value : (n w : Tree) → Row6 n w → (s : State) → value e n s ≡ value e w s
+  nested_value n w r s = ap (λ t. value e t s) r.shape ∙ go (told r.tail) refl r.settled ∙ sym (ap (λ t. value e t s) r.written)
+    where
+      same : (z : State) → value e (binary Addition r.inner r.tail) z ≡ value e r.joined z
+      same = sum_value (binary Addition r.inner r.tail) r.joined r.sum
+
+      plain : (b : Bool) → (b || false) ≡ true → b ≡ true
+      plain true e = refl
+      plain false e = e
+
+      go : (o : Option (List ℕ)) → told r.tail ≡ o → (is_primitive (kind r.left) || is_some o) ≡ true → value e (binary Addition (binary Addition r.left r.inner) r.tail) s ≡ value e (binary Addition r.left r.joined) s
+      go (Some m) k h = constant_last r.left r.inner r.tail r.joined r.known same m k s
+      go None k h = primitive_first r.left r.inner r.tail r.joined r.known same (plain (is_primitive (kind r.left)) h) (no_constant r.inner r.tail r.joined r.sum k) s
+
 -- ---- all
+
+sum_same : (n w : Tree) → Row5 n w → SameTree n w
+sum_same n w (inl r) = same_by n w _ _ r.shape r.written (same_value _ _ refl refl refl (λ e s. joined_value e r.before r.last r.earlier r.first r.after r.later r.starts r.ends s))
+sum_same n w (inr (inl r)) = same_by n w _ _ r.shape r.written (same_value _ _ refl refl refl (λ e s. tail_value e r.before r.last r.earlier r.tail r.text r.known r.starts s))
+sum_same n w (inr (inr r)) = same_by n w _ _ r.shape r.written (same_value _ _ refl refl refl (λ e s. head_value e r.head r.text r.known r.first r.after r.later r.ends s))
 
 expression_same : (s : Seat) (n w : Tree) → TemplateRow (Expr s) n w → SameTree n w
 expression_same s n w (inl r) = inlined_same n w r
-expression_same s n w (inr (inl r)) = same_by n w _ _ r.shape r.written (same_value _ _ refl refl refl (λ e s. joined_value e r.before r.last r.earlier r.first r.after r.later r.starts r.ends s))
-expression_same s n w (inr (inr (inl r))) = same_by n w _ _ r.shape r.written (same_value _ _ refl refl refl (λ e s. tail_value e r.before r.last r.earlier r.tail r.text r.known r.starts s))
-expression_same s n w (inr (inr (inr r))) = same_by n w _ _ r.shape r.written (same_value _ _ refl refl refl (λ e s. head_value e r.head r.text r.known r.first r.after r.later r.ends s))
+expression_same s n w (inr (inl r)) = sum_same n w r
+expression_same s n w (inr (inr r)) = same_value n w (ap stands r.shape) (ap stands r.written) (ap summary r.shape ∙ sym (ap summary r.written)) (λ e s. nested_value e n w r s)
 
 means_same : (p : Position) (n w : Tree) → TemplateRow p n w → SameAt p n w
 means_same (Expr s) n w r = tree_same s n w (expression_same s n w r)

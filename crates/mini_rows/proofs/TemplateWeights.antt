@@ -16,7 +16,7 @@ use Rattle.mini_model.specs.Templates.{is_digit}
 use Rattle.mini_model.specs.Tree.{Tree, Trees, none, ◌▸◌, count, listed}
 use Rattle.mini_model.specs.Weight.{Outline, outline, outlines, weight, weights, place_weight, parentheses, template_weight, flagged}
 use Rattle.mini_laws.specs.Weights.{Lightens}
-use Rattle.mini_rows.specs.Templates.{Piece, piece, pieces, template, pair, spelled, Row18, Row5Both, Row5After, Row5Before, TemplateRow, TemplateContracts}
+use Rattle.mini_rows.specs.Templates.{Piece, piece, pieces, template, pair, spelled, Row18, Row5Both, Row5After, Row5Before, Row5, Row6, TemplateRow, TemplateContracts}
 use Rattle.mini_model.proofs.Ends.{null_front}
 use Rattle.mini_rows.specs.Spellings.{binary}
 use Rattle.mini_rows.proofs.TemplatePieces.{joined_is}
@@ -264,13 +264,58 @@ before_heavy s n w r =
     let parens = sum_parentheses s in
     omega (arith, whole, other, own_other, parens)
 
+-- ---- 6
+
+pub nested_weighs : (s : Seat) (a t u : Tree) → weight (Expr s) (binary Addition (binary Addition a t) u) ≡ parentheses (shape.BinaryExpression Addition) s + 4 + weight (Expr left_seat) a + weight (Expr right_seat) t + weight (Expr right_seat) u
+nested_weighs s a t u =
+    let outer = sum_weighs s (binary Addition a t) u in
+    let within = sum_weighs left_seat a t in
+    omega (arith, outer, within)
+
+-- the sum falls by 2, and by what its operands weigh more than the template that is made of them
+pub nested_falls : (s : Seat) (n w : Tree) (r : Row6 n w) → weight (Expr s) w + (2 + weight (Expr right_seat) r.inner + weight (Expr right_seat) r.tail) ≡ weight (Expr s) n + weight (Expr right_seat) r.joined
+nested_falls s n w r =
+    let whole = ap (weight (Expr s)) r.shape ∙ nested_weighs s r.left r.inner r.tail in
+    let put = ap (weight (Expr s)) r.written ∙ sum_weighs s r.left r.joined in
+    omega (arith, whole, put)
+
+pub both_gains : (n w : Tree) (r : Row5Both n w) → weight (Expr right_seat) w < 2 + weight (Expr right_seat) (template (append (pieces r.before) (piece r.last ▸ none)) r.earlier) + weight (Expr right_seat) (template (piece r.first ▸ pieces r.after) r.later)
+both_gains n w r =
+    let one = template_weighs right_seat r.before (r.last ∷ []) r.earlier in
+    let own_one = own_right (count r.earlier) in
+    let other = template_weighs right_seat [] (r.first ∷ r.after) r.later in
+    let own_other = own_right (count r.later) in
+    let put = ap (weight (Expr right_seat)) r.written ∙ template_weighs right_seat r.before (pair r.last r.first ∷ r.after) (append r.earlier r.later) in
+    let own_put = own_right (count (append r.earlier r.later)) in
+    let counts = ap template_weight (count_append r.earlier r.later) in
+    let parts = parts_append r.earlier r.later in
+    let short = joined_short r.last.raw r.first.raw in
+    let flags = flag_sum (count r.earlier) (count r.later) in
+    omega (arith, one, own_one, other, own_other, put, own_put, counts, parts, short, flags)
+
+pub after_gains : (n w : Tree) (r : Row5After n w) → weight (Expr right_seat) w + 2 * length r.last.raw ≡ weight (Expr right_seat) (template (append (pieces r.before) (piece r.last ▸ none)) r.earlier) + 2 * length (pair r.last (spelled r.text)).raw
+after_gains n w r =
+    let one = template_weighs right_seat r.before (r.last ∷ []) r.earlier in
+    let put = ap (weight (Expr right_seat)) r.written ∙ template_weighs right_seat r.before (pair r.last (spelled r.text) ∷ []) r.earlier in
+    omega (arith, one, put)
+
+pub before_gains : (n w : Tree) (r : Row5Before n w) → weight (Expr right_seat) w + 2 * length r.first.raw ≡ weight (Expr right_seat) (template (piece r.first ▸ pieces r.after) r.later) + 2 * length (pair (spelled r.text) r.first).raw
+before_gains n w r =
+    let other = template_weighs right_seat [] (r.first ∷ r.after) r.later in
+    let put = ap (weight (Expr right_seat)) r.written ∙ template_weighs right_seat [] (pair (spelled r.text) r.first ∷ r.after) r.later in
+    omega (arith, other, put)
+
 -- ---- all
+
+sum_outline : (n w : Tree) → Row5 n w → outline n ≡ outline w
+sum_outline n w (inl r) = ap outline r.shape ∙ sym (ap outline r.written)
+sum_outline n w (inr (inl r)) = ap outline r.shape ∙ sym (ap outline r.written)
+sum_outline n w (inr (inr r)) = ap outline r.shape ∙ sym (ap outline r.written)
 
 row_outline : (p : Position) (n w : Tree) → TemplateRow p n w → outline n ≡ outline w
 row_outline (Expr s) n w (inl r) = ap outline r.shape ∙ sym (ap outline r.written)
-row_outline (Expr s) n w (inr (inl r)) = ap outline r.shape ∙ sym (ap outline r.written)
-row_outline (Expr s) n w (inr (inr (inl r))) = ap outline r.shape ∙ sym (ap outline r.written)
-row_outline (Expr s) n w (inr (inr (inr r))) = ap outline r.shape ∙ sym (ap outline r.written)
+row_outline (Expr s) n w (inr (inl r)) = sum_outline n w r
+row_outline (Expr s) n w (inr (inr r)) = ap outline r.shape ∙ sym (ap outline r.written)
 row_outline p n w r = absurd r
 
 pub lightens : Lightens TemplateContracts

@@ -1,6 +1,6 @@
 -- Rows on templates, as equations: each is a shape and what is written in its place, with the JavaScript before and after. No order of
 -- rewriting is meant.
-use Rattle.std.specs.Prelude.{◌≡◌, ◌<◌, ◌⊎◌, ℕ, Bool, true, List, [], ◌∷◌, ◌++◌, length, Option, Some}
+use Rattle.std.specs.Prelude.{◌≡◌, ◌<◌, ◌⊎◌, ◌||◌, ℕ, Bool, true, is_some, List, [], ◌∷◌, ◌++◌, length, Option, Some}
 use Rattle.mini_model.specs.declared.operator.BinaryOperator.TheVariants.{Addition}
 use Rattle.mini_model.specs.declared.place.Position.{Position}
 use Rattle.mini_model.specs.declared.place.Position.TheVariants.{Expr}
@@ -12,6 +12,9 @@ use Rattle.mini_model.specs.Tree.{Tree, Trees, node, none, ◌▸◌, leaf, list
 use Rattle.mini_model.specs.Weight.{weight}
 use Rattle.mini_terms.specs.Calculated.{literal_value}
 use Rattle.mini_terms.specs.Const.{text_of}
+use Rattle.mini_terms.specs.declared.kinds.Kind.TheVariants.{String as IsString}
+use Rattle.mini_terms.specs.Folds.{is_effect_free}
+use Rattle.mini_terms.specs.Kind.{is_primitive, kind}
 use Rattle.mini_terms.specs.Parts.{leaves_nothing}
 use Rattle.mini_rows.specs.Spellings.{binary}
 
@@ -104,9 +107,27 @@ pub record Row5Before (n w : Tree) : Type 0 where
   pub shape : n ≡ binary Addition head (template (piece first ▸ pieces after) later)
   pub written : w ≡ template (piece (pair (spelled text) first) ▸ pieces after) later
 
+-- 5
+abbrev pub Row5 : Tree → Tree → Type 0
+Row5 n w = Row5Both n w ⊎ (Row5After n w ⊎ Row5Before n w)
+
+-- 6: `` a + `x${b}` + `y` `` becomes `` a + `x${b}y` ``. The sum of a and a text is a text, so a is converted once, before or after the
+-- last operand is evaluated: that is one thing where a is primitive, or the last operand writes a value out
+pub record Row6 (n w : Tree) : Type 0 where
+  pub left : Tree
+  pub inner : Tree
+  pub tail : Tree
+  pub joined : Tree
+  pub known : kind inner ≡ IsString
+  pub effect_free : is_effect_free tail ≡ true
+  pub settled : (is_primitive (kind left) || is_some (told tail)) ≡ true
+  pub sum : Row5 (binary Addition inner tail) joined
+  pub shape : n ≡ binary Addition (binary Addition left inner) tail
+  pub written : w ≡ binary Addition left joined
+
 -- a row on templates reads n as w at this place
 abbrev pub TemplateRow : Position → Tree → Tree → Type 0
-TemplateRow (Expr s) n w = Row18 n w ⊎ (Row5Both n w ⊎ (Row5After n w ⊎ Row5Before n w))
+TemplateRow (Expr s) n w = Row18 n w ⊎ (Row5 n w ⊎ Row6 n w)
 TemplateRow _ n w = ⊥
 
 -- what it writes, where it weighs less

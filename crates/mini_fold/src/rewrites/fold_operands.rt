@@ -88,7 +88,8 @@ fn is_empty_text(node: &Node) -> bool
     }
 }
 
-fn is_string_kind(kind: Kind) -> bool
+/// Whether values of this kind are texts.
+pub fn is_string_kind(kind: Kind) -> bool
     ensures { result ≡ operand.is_string_kind kind }
 {
     matches!(kind, Kind::String)

@@ -1,8 +1,8 @@
-//! Rows 18 and 5: a part of a template whose value is written out goes into the text: `` `a${1}b${c}` `` becomes `` `a1b${c}` ``; a sum of
-//! templates is one, as `` `a${b}` + `c${d}` `` becomes `` `a${b}c${d}` ``, and `` `a${b}` + "c" `` becomes `` `a${b}c` ``. What is written is
-//! lighter in its seat.
+//! Rows 18, 5 and 6: a part of a template whose value is written out goes into the text: `` `a${1}b${c}` `` becomes `` `a1b${c}` ``; a sum of
+//! templates is one, as `` `a${b}` + `c${d}` `` becomes `` `a${b}c${d}` ``, and `` `a${b}` + "c" `` becomes `` `a${b}c` ``; so are they behind
+//! another operand, as `` a + `x${b}` + "y" `` becomes `` a + `x${b}y` ``. What is written is lighter in its seat.
 
-ghost use Rattle.std.specs.Prelude.{◌≡◌, ◌<◌, ◌+◌, nat_eq, true, [], ◌∷◌, Some, is_some, unwrap_or, OnOk, IfOk, IfSome};
+ghost use Rattle.std.specs.Prelude.{◌≡◌, ◌<◌, ◌+◌, nat_eq, true, false, [], ◌∷◌, Some, is_some, unwrap_or, OnOk, IfOk, IfSome};
 ghost use Rattle.mini_model.specs.Joined.{joined};
 ghost use Rattle.mini_model.specs.Tree.{children, count, first_or_absent, shape_of};
 ghost use Rattle.mini_rows.specs.Templates as row;
@@ -10,20 +10,23 @@ ghost use Rattle.mini_tree.specs.Rule.{Applied};
 ghost use Rattle.mini_fold.specs.FoldTemplates as template;
 ghost use Rattle.mini_fold.specs.FoldSequences.{last_of};
 ghost use Rattle.mini_fold.specs.FoldTemplates.{Gives, Rests, PartsRest};
+ghost use Rattle.mini_model.specs.declared.operator.BinaryOperator.TheVariants.{Addition};
 ghost use Rattle.mini_node.specs.Children.{part};
+ghost use Rattle.mini_node.specs.Kinds.{binary_operator as its_binary_operator};
 ghost use Rattle.mini_fold.specs.Lighter.{templates_lighter};
 
 use crate::literals::{copied, literal_value, text_of_both, to_text};
-use crate::rewrites::fold_operands::last;
+use crate::rewrites::fold_operands::{is_string_kind, last};
 use crate::rewrites::fold_sequences::take_last;
 use mini_model::{
     BinaryOperator, BoxedText, OutOfMemory, Position, Seat, Shape, Text, TextList,
     concat_template_literal_raw, escape_string_for_template_literal,
 };
 use mini_node::{
-    Node, Nodes, binary_operator, discard, is_listed, listed, of_two, one, take_first, taken, two,
+    Node, Nodes, binary, binary_operator, discard, is_listed, listed, of_two, one, take_first,
+    taken, two,
 };
-use mini_terms::leaves_nothing;
+use mini_terms::{has_no_effect, is_primitive, kind_of, leaves_nothing};
 use mini_tree::{Context, Rule, expr_weight, seats};
 use std::alloc::Global;
 
@@ -322,6 +325,26 @@ fn plus_sign(seat: Seat, count: usize) -> u64
     (1 + bonus(seat)).saturating_sub(mark(seat, count))
 }
 
+// What goes of a sum in a seat, or of the operands behind another one, where a `+` goes.
+fn besides(seat: Option<Seat>, count: usize) -> u64
+    ensures { result ≡ template.besides seat count }
+{
+    match seat {
+        Some(seat) => plus_sign(seat, count),
+        None => 1,
+    }
+}
+
+// Where the first operand stands.
+fn head_seat(seat: Option<Seat>) -> Seat
+    ensures { result ≡ template.head_seat seat }
+{
+    match seat {
+        Some(_) => seats::binary_left_operand(BinaryOperator::Addition),
+        None => seats::binary_right_operand(BinaryOperator::Addition),
+    }
+}
+
 // Two pieces as one.
 fn paired(alloc: Global, first: &Node, second: &Node) -> Result<Node, OutOfMemory>
     ensures { IfOk result (λ p. p ≡ template.paired first.now second.now) }
@@ -354,12 +377,19 @@ fn both_joined(alloc: Global, left: Node, right: Node) -> Result<Node, OutOfMemo
 }
 
 // Whether what is added goes, for which this raw text comes.
-fn is_added(seat: Seat, at: Seat, count: usize, part: &Node, raw_text: &Text, end: &Node) -> bool
+fn is_added(
+    seat: Option<Seat>,
+    at: Seat,
+    count: usize,
+    part: &Node,
+    raw_text: &Text,
+    end: &Node,
+) -> bool
     ensures { result ≡ template.is_added seat at count part.now raw_text.now end.now }
 {
     leaves_nothing(part)
         && pays(
-            plus_sign(seat, count),
+            besides(seat, count),
             growth(raw_text.len(), raw(end).len(), 0) as u64,
             expr_weight(part, at),
         )
@@ -368,7 +398,7 @@ fn is_added(seat: Seat, at: Seat, count: usize, part: &Node, raw_text: &Text, en
 // The last piece of a template with the text of what is added to it, where that is lighter.
 fn tail_joined(
     alloc: Global,
-    seat: Seat,
+    seat: Option<Seat>,
     count: usize,
     last: &Node,
     tail: &Node,
@@ -397,7 +427,7 @@ fn tail_joined(
 // The first piece of a template with the text of what it is added to, where that is lighter.
 fn head_joined(
     alloc: Global,
-    seat: Seat,
+    seat: Option<Seat>,
     count: usize,
     head: &Node,
     first: &Node,
@@ -409,14 +439,7 @@ fn head_joined(
     };
     let spelled = escape_string_for_template_literal(alloc, &text)?;
     let raw_text = joined_raw(alloc, spelled, copied(alloc, raw(first))?)?;
-    if !is_added(
-        seat,
-        seats::binary_left_operand(BinaryOperator::Addition),
-        count,
-        head,
-        &raw_text,
-        first,
-    ) {
+    if !is_added(seat, head_seat(seat), count, head, &raw_text, first) {
         return Ok(None);
     }
     let text = text_of_both(alloc, text.as_slice(), copied(alloc, cooked(first))?)?;
@@ -476,7 +499,7 @@ fn first_text(node: &Node) -> &Node
 }
 
 // `` `a${b}c` `` of `` `a${b}` + "c" ``
-fn fold_tail(alloc: Global, node: &mut Node, seat: Seat) -> Result<bool, OutOfMemory>
+fn fold_tail(alloc: Global, node: &mut Node, seat: Option<Seat>) -> Result<bool, OutOfMemory>
     requires sides { count (children node.old) ≡ 2 }
     requires parts { count (children (part node.old 0)) ≡ 2 }
     requires texts { 0 < count (template.texts_of (part node.old 0)) }
@@ -499,7 +522,7 @@ fn fold_tail(alloc: Global, node: &mut Node, seat: Seat) -> Result<bool, OutOfMe
 }
 
 // `` `ab${c}` `` of `` "a" + `b${c}` ``
-fn fold_head(alloc: Global, node: &mut Node, seat: Seat) -> Result<bool, OutOfMemory>
+fn fold_head(alloc: Global, node: &mut Node, seat: Option<Seat>) -> Result<bool, OutOfMemory>
     requires sides { count (children node.old) ≡ 2 }
     requires parts { count (children (part node.old 1)) ≡ 2 }
     requires texts { 0 < count (template.texts_of (part node.old 1)) }
@@ -522,7 +545,7 @@ fn fold_head(alloc: Global, node: &mut Node, seat: Seat) -> Result<bool, OutOfMe
 }
 
 // A sum of a template and another, or what writes a value out, becomes one template.
-fn fold_sum(alloc: Global, node: &mut Node, seat: Seat) -> Result<bool, OutOfMemory>
+fn fold_pair(alloc: Global, node: &mut Node, seat: Option<Seat>) -> Result<bool, OutOfMemory>
     requires { count (children node.old) ≡ 2 }
     ensures tree { OnOk result (node.new ≡ unwrap_or (template.sum_written seat (part node.old 0) (part node.old 1)) node.old) }
     ensures said { IfOk result (λ changed. changed ≡ is_some (template.sum_written seat (part node.old 0) (part node.old 1))) }
@@ -539,9 +562,96 @@ fn fold_sum(alloc: Global, node: &mut Node, seat: Seat) -> Result<bool, OutOfMem
     }
 }
 
+// Whether the operands behind another one may become one template, as far as they tell.
+fn may_join(inner: &Node, tail: &Node) -> bool
+    ensures { result ≡ template.may_join inner.now tail.now }
+{
+    (is_whole(inner) || is_whole(tail)) && is_string_kind(kind_of(inner)) && has_no_effect(tail)
+}
+
+// Whether they may behind this one, which is converted after the last of them is evaluated.
+fn is_settled(alloc: Global, first: &Node, inner: &Node, tail: &Node) -> Result<bool, OutOfMemory>
+    ensures { IfOk result (λ b. b ≡ template.is_settled first.now inner.now tail.now) }
+{
+    if !may_join(inner, tail) {
+        return Ok(false);
+    }
+    if is_primitive(kind_of(first)) {
+        return Ok(true);
+    }
+    Ok(told(alloc, tail)?.is_some())
+}
+
+// `(a + b) + c` of a and `b + c`
+fn leftmost(alloc: Global, first: Node, sum: Node) -> Result<Node, OutOfMemory>
+    ensures { IfOk result (λ made. made ≡ template.rejoined false first sum) }
+{
+    let (second, third) = two(sum);
+    let left = binary(alloc, BinaryOperator::Addition, first, second)?;
+    binary(alloc, BinaryOperator::Addition, left, third)
+}
+
+// `a + s`, where s is one template, and else `(a + b) + c` of a and `b + c`.
+fn rejoined(alloc: Global, is_one: bool, first: Node, sum: Node) -> Result<Node, OutOfMemory>
+    ensures { IfOk result (λ made. made ≡ template.rejoined is_one first sum) }
+{
+    if is_one {
+        binary(alloc, BinaryOperator::Addition, first, sum)
+    } else {
+        leftmost(alloc, first, sum)
+    }
+}
+
+// `` a + `x${b}y` `` of `` a + `x${b}` + `y` ``
+#[tactic(auto, using(crate::proofs::Templates::behind_tree, crate::proofs::Templates::behind_said))]
+fn fold_behind(alloc: Global, node: &mut Node) -> Result<bool, OutOfMemory>
+    requires outer { its_binary_operator node.old ≡ Some Addition }
+    requires within { its_binary_operator (part node.old 0) ≡ Some Addition }
+    ensures tree { OnOk result (node.new ≡ unwrap_or (template.behind_written (part (part node.old 0) 0) (part (part node.old 0) 1) (part node.old 1)) node.old) }
+    ensures said { IfOk result (λ changed. changed ≡ is_some (template.behind_written (part (part node.old 0) 0) (part (part node.old 0) 1) (part node.old 1))) }
+{
+    let (left, tail) = two(taken(alloc, node));
+    let (first, inner) = two(left);
+    let mut sum = binary(alloc, BinaryOperator::Addition, inner, tail)?;
+    let changed = fold_pair(alloc, &mut sum, None)?;
+    *node = rejoined(alloc, changed, first, sum)?;
+    Ok(changed)
+}
+
+// The operands behind another one become one template, where they may.
+fn fold_nested(alloc: Global, node: &mut Node) -> Result<bool, OutOfMemory>
+    requires outer { its_binary_operator node.old ≡ Some Addition }
+    requires within { its_binary_operator (part node.old 0) ≡ Some Addition }
+    requires sides { count (children node.old) ≡ 2 }
+    requires operands { count (children (part node.old 0)) ≡ 2 }
+    ensures tree { OnOk result (node.new ≡ unwrap_or (template.nested_written (part (part node.old 0) 0) (part (part node.old 0) 1) (part node.old 1)) node.old) }
+    ensures said { IfOk result (λ changed. changed ≡ is_some (template.nested_written (part (part node.old 0) 0) (part (part node.old 0) 1) (part node.old 1))) }
+{
+    let left = node.child(0);
+    if is_settled(alloc, left.child(0), left.child(1), node.child(1))? {
+        fold_behind(alloc, node)
+    } else {
+        Ok(false)
+    }
+}
+
+// A sum with a template in it.
+#[tactic(auto, using(crate::proofs::Templates::two_operands, crate::proofs::Templates::plain_tree, crate::proofs::Templates::plain_said))]
+fn fold_sum(alloc: Global, node: &mut Node, seat: Seat) -> Result<bool, OutOfMemory>
+    requires outer { its_binary_operator node.old ≡ Some Addition }
+    requires sides { count (children node.old) ≡ 2 }
+    ensures tree { OnOk result (node.new ≡ unwrap_or (template.added_written seat (part node.old 0) (part node.old 1)) node.old) }
+    ensures said { IfOk result (λ changed. changed ≡ is_some (template.added_written seat (part node.old 0) (part node.old 1))) }
+{
+    match binary_operator(node.child(0)) {
+        Some(BinaryOperator::Addition) => fold_nested(alloc, node),
+        _ => Ok(fold_pair(alloc, node, Some(seat))?),
+    }
+}
+
 /// A part of a template whose value is written out goes into the text, and a sum of a template and another, or of a template and what
-/// writes a value out, becomes one template, where that is lighter. The answer says whether something did; the only error is that memory
-/// runs out, and then the expression is fit only to be dropped.
+/// writes a value out, becomes one template, also behind another operand, where that is lighter. The answer says whether something did;
+/// the only error is that memory runs out, and then the expression is fit only to be dropped.
 #[tactic(auto, using(crate::proofs::Templates::sum_applied, crate::proofs::Templates::others_applied))]
 pub fn fold_templates(alloc: Global, node: &mut Node, seat: Seat) -> Result<bool, OutOfMemory>
     ensures { IfOk result (λ changed. Applied Gives Rests (Position.Expr seat) node.old node.new changed) }
@@ -552,7 +662,7 @@ pub fn fold_templates(alloc: Global, node: &mut Node, seat: Seat) -> Result<bool
     }
 }
 
-/// Rows 5 and 18 as a rule: of each expression.
+/// Rows 5, 6 and 18 as a rule: of each expression.
 pub struct FoldTemplates;
 
 impl<C: Context> Rule<C> for FoldTemplates {
