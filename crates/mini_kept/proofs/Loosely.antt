@@ -21,7 +21,7 @@ use Rattle.mini_laws.specs.Bodies.{outermost, bodies, bodies_in}
 use Rattle.mini_laws.proofs.Congruent.{avoids_nothing}
 use Rattle.mini_laws.proofs.Dead.{alike_self}
 use Rattle.mini_kept.specs.Lifted.{KeepsNames, ProgramKeeps}
-use Rattle.mini_kept.specs.Loosely.{symbol, SameWith, StaysWith, Drops, LawfulWith, undeclared, ProgramIsKeptLoosely, LawfulIsLoose, LooseWider, LooseJoin, LooseNarrowed}
+use Rattle.mini_kept.specs.Loosely.{symbol, SameWith, StaysWith, DropsWith, LawfulWith, undeclared, ProgramIsKeptLoosely, LawfulIsLoose, LooseWider, LooseJoin, LooseNarrowed}
 use Rattle.mini_kept.specs.Without.{BodiesWith, KeepsBodiesWith}
 use Rattle.mini_kept.proofs.BodySteps.{step_with, whole_stands}
 use Rattle.mini_kept.proofs.Declared.{reaches_declared}
@@ -66,13 +66,13 @@ module _ (R : Position → Tree → Tree → Type 0) (K : Shape → Bool) (W : V
   Staying p n w = R p n w × StaysWith W p n w
 
   abbrev Dropping : ℕ → Position → Tree → Tree → Type 0
-  Dropping k p n w = R p n w × Drops K k p n w
+  Dropping k p n w = R p n w × DropsWith K W k p n w
 
   mutual
     told : {p : Position} {t u : Tree} → Step R p t u → Step Staying p t u ⊎ ((k : ℕ) × Step (Dropping k) p t u)
     told (here p n w r) = by (l.instances p n w r)
       where
-        by : StaysWith W p n w ⊎ ((k : ℕ) × Drops K k p n w) → Step Staying p n w ⊎ ((k : ℕ) × Step (Dropping k) p n w)
+        by : StaysWith W p n w ⊎ ((k : ℕ) × DropsWith K W k p n w) → Step Staying p n w ⊎ ((k : ℕ) × Step (Dropping k) p n w)
         by (inl d) = inl (here p n w (r, d))
         by (inr d) = inr (d.0, here p n w (r, d.1))
     told (inside p h xs n ts us s) = by (all_told s)
@@ -107,11 +107,11 @@ module _ (R : Position → Tree → Tree → Type 0) (K : Shape → Bool) (W : V
 
   dropping : (k : ℕ) → KeepsBodiesWith W (alone (Declared k)) (Dropping k)
   dropping k = record {
-    means = λ e z. record { same = λ p n w r q f. r.1.same e z.unseen q f; reads = λ p n w r. read_alike e (alone (Declared k)) n w (l.reads p n w r.0) };
+    means = λ e z. record { same = λ p n w r q f. r.1.same e z q f; reads = λ p n w r. read_alike e (alone (Declared k)) n w (l.reads p n w r.0) };
     reads = λ p n w r. l.reads p n w r.0;
     pieces = λ p n w r. names.pieces p n w r.0;
     kind = λ p n w r. l.kind p n w r.0;
-    bodies = λ p n w r strict s q e a z. all_more nothing W (alone (Declared k)) (alone (Declared k)) (nothing_part W) (part_itself (alone (Declared k))) (bodies a n) (bodies a w) (r.1.bodies strict s q e a z);
+    bodies = λ p n w r. r.1.bodies;
   }
 
   -- a dropped symbol was declared once, and is declared no more
@@ -247,6 +247,18 @@ module _ (R : Position → Tree → Tree → Type 0) where
   stays_wider : (V W : VariableSet) → Part V W → (p : Position) (n w : Tree) → StaysWith V p n w → StaysWith W p n w
   stays_wider V W f p n w d = record { same = record { by = λ e z. d.same.by e (permits_part V W nothing nothing f (part_itself nothing) e z) }; fixed = d.fixed; frames = d.frames; bodies = d.bodies }
 
+  drops_wider : (K : Shape → Bool) (V W : VariableSet) → Part V W → (k : ℕ) (p : Position) (n w : Tree) → DropsWith K V k p n w → DropsWith K W k p n w
+  drops_wider K V W f k p n w d =
+      let D = alone (Declared k) in
+      record {
+        kept = d.kept;
+        less = d.less;
+        same = λ e z. d.same e (permits_part V W D D f (part_itself D) e z);
+        fixed = d.fixed;
+        frames = d.frames;
+        bodies = λ strict s q e a z. all_more V W D D f (part_itself D) (bodies a n) (bodies a w) (d.bodies strict s q e a z);
+      }
+
   pub loose_wider : LooseWider R
   loose_wider K V W f l = record {
     shapes = l.shapes;
@@ -257,9 +269,9 @@ module _ (R : Position → Tree → Tree → Type 0) where
     instances = λ p n w r. by p n w (l.instances p n w r);
   }
     where
-      by : (p : Position) (n w : Tree) → StaysWith V p n w ⊎ ((k : ℕ) × Drops K k p n w) → StaysWith W p n w ⊎ ((k : ℕ) × Drops K k p n w)
+      by : (p : Position) (n w : Tree) → StaysWith V p n w ⊎ ((k : ℕ) × DropsWith K V k p n w) → StaysWith W p n w ⊎ ((k : ℕ) × DropsWith K W k p n w)
       by p n w (inl d) = inl (stays_wider V W f p n w d)
-      by p n w (inr d) = inr d
+      by p n w (inr d) = inr (d.0, drops_wider K V W f d.0 p n w d.1)
 
 module _ (R S : Position → Tree → Tree → Type 0) where
   one_or_other : {X : Position → Tree → Tree → Type 0} → ((p : Position) (n w : Tree) → R p n w → X p n w) → ((p : Position) (n w : Tree) → S p n w → X p n w) → (p : Position) (n w : Tree) → R p n w ⊎ S p n w → X p n w

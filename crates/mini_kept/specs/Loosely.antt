@@ -34,7 +34,7 @@ use Rattle.mini_kept.specs.Lawful.{Lawful}
 use Rattle.mini_kept.specs.Lifted.{ProgramKeeps}
 use Rattle.mini_kept.specs.Placed.{fits_place}
 use Rattle.mini_kept.specs.Standing.{Stands}
-use Rattle.mini_kept.specs.Without.{Unseen, Permits, BodiesWith, BodiesWithout}
+use Rattle.mini_kept.specs.Without.{Permits, BodiesWith}
 
 abbrev pub symbol : ℕ → Option SymbolId
 symbol k = Some (record { 0 = k })
@@ -57,25 +57,30 @@ Stays = StaysWith nothing
 -- One without a name that a scope in the other declares: the names that are seen around it are those, in order, and the
 -- symbol is declared in it once less. Where nobody else sees that variable it means the same but for what the variable
 -- holds afterwards, and it has the bodies, and the frames but for that name, where it is the own one of a function or class that
--- K lets lose it. What a write of any other variable does stays. That nothing in the later program mentions the symbol follows, where
--- each name of the program has the symbol that the scopes around it give and no symbol is declared twice
-pub record Drops (K : Shape → Bool) (k : ℕ) (p : Position) (n w : Tree) : Type 0 where
+-- K lets lose it, where the variables W can be written. What a write of any other variable does stays. That nothing in the later
+-- program mentions the symbol follows, where each name of the program has the symbol that the scopes around it give and no symbol
+-- is declared twice
+pub record DropsWith (K : Shape → Bool) (W : VariableSet) (k : ℕ) (p : Position) (n w : Tree) : Type 0 where
   pub kept : Kept n w
   pub less : (v : Use) → times (symbol k) (declared_in v w) + 1 ≤ times (symbol k) (declared_in v n)
-  pub same : (e : Environment) → Unseen (alone (Declared k)) e → (q : Demand) → Fits p q → Same e (alone (Declared k)) nothing q n w
+  pub same : (e : Environment) → Permits W (alone (Declared k)) e → (q : Demand) → Fits p q → Same e (alone (Declared k)) nothing q n w
   pub fixed : (x : Variable) → alone (Declared k) x ≡ false → fixed_by n x ≡ fixed_by w x
   pub frames : (strict : Bool) (s : Slot) → fits_place p s ≡ true → fits strict s n ≡ true → FramesShown (gone_from K (alone (Declared k))) no_key (frames None n) (frames None w)
-  pub bodies : (strict : Bool) (s : Slot) → fits_place p s ≡ true → fits strict s n ≡ true → (a : Around) → Stands s p a → BodiesWithout (alone (Declared k)) (bodies a n) (bodies a w)
+  pub bodies : (strict : Bool) (s : Slot) → fits_place p s ≡ true → fits strict s n ≡ true → (a : Around) → Stands s p a → BodiesWith W (alone (Declared k)) (bodies a n) (bodies a w)
+
+-- whichever variables can be written
+abbrev pub Drops : (Shape → Bool) → ℕ → Position → Tree → Tree → Type 0
+Drops K = DropsWith K nothing
 
 -- It keeps shapes, names and places, a parent reads alike what it writes, and that declares no other name; each instance
--- stays, where the variables W can be written, or drops one name. K says which functions and classes may lose their own name
+-- stays or drops one name, where the variables W can be written. K says which functions and classes may lose their own name
 pub record LawfulWith (K : Shape → Bool) (W : VariableSet) (R : Position → Tree → Tree → Type 0) : Type 0 where
   pub shapes : KeepsShapes R
   pub places : KeepsPlaces R
   pub reads : (p : Position) (n w : Tree) → R p n w → summary n ≡ summary w
   pub kind : (p : Position) (n w : Tree) → R p n w → (strict : Bool) (s : Slot) → fits strict s n ≡ true → arrow_kind (shape_of n) ≡ arrow_kind (shape_of w)
   pub declared : (p : Position) (n w : Tree) → R p n w → (x : Name) → Contains (declared w) x → Contains (declared n) x
-  pub instances : (p : Position) (n w : Tree) → R p n w → StaysWith W p n w ⊎ ((k : ℕ) × Drops K k p n w)
+  pub instances : (p : Position) (n w : Tree) → R p n w → StaysWith W p n w ⊎ ((k : ℕ) × DropsWith K W k p n w)
 
 -- whichever variables can be written
 abbrev pub LawfulLoosely : (Shape → Bool) → (Position → Tree → Tree → Type 0) → Type 0

@@ -146,7 +146,7 @@ module _ (o : Switches) where
     Dropping p n w = NameContracts o p n w ⊎ Named p n w
 
     abbrev Going : Position → Tree → Tree → Type 0
-    Going p n w = UnusedContracts p n w ⊎ Dropping p n w
+    Going p n w = UnusedContracts W p n w ⊎ Dropping p n w
 
     wider : (R : Position → Tree → Tree → Type 0) → LawfulLoosely (let_go o) R → LawfulWith (let_go o) W R
     wider R l = loose_wider R (let_go o) nothing W (nothing_part W) l
@@ -155,6 +155,6 @@ module _ (o : Switches) where
     pub all_loose : LawfulWith (let_go o) W (Rewrites o W)
     all_loose =
         loose_join (Contracts o) Going (let_go o) W (lawful_is_loose (Contracts o) (let_go o) W all_lawful)
-        (loose_join UnusedContracts Dropping (let_go o) W (wider UnusedContracts (unused_loose (let_go o)))
+        (loose_join (UnusedContracts W) Dropping (let_go o) W (unused_loose (let_go o) W)
         (loose_join (NameContracts o) Named (let_go o) W (wider (NameContracts o) (names_lawful o))
         (loose_join CatchContracts (WriteContracts W) (let_go o) W (wider CatchContracts (catches_lawful (let_go o))) (writes_lawful (let_go o) W))))

@@ -31,10 +31,10 @@ use Rattle.mini_kept.specs.KeepsLoosely.{KeepsLoosely}
 use Rattle.mini_kept.specs.KeepsNames.{Keeps, is_rewritten_place}
 use Rattle.mini_kept.specs.KeepsShapes.{AskedAlike}
 use Rattle.mini_kept.specs.Lifted.{is_piece, KeepsRoot}
-use Rattle.mini_kept.specs.Loosely.{Stays, Drops, LawfulLoosely}
+use Rattle.mini_kept.specs.Loosely.{StaysWith, DropsWith, LawfulWith}
 use Rattle.mini_kept.specs.Placed.{fits_place, is_statement_list}
 use Rattle.mini_kept.specs.ShownFrames.{no_key, gone_from}
-use Rattle.mini_kept.specs.Without.{Unseen, BodiesWithout}
+use Rattle.mini_kept.specs.Without.{Permits, BodiesWith}
 use Rattle.mini_kept.proofs.Bools.{left, both}
 use Rattle.mini_kept.proofs.Expressions.{TakesExpressionIn, TakesExpression, refused_here}
 use Rattle.mini_kept.proofs.FrameLists as frame_list
@@ -123,7 +123,7 @@ module _ (ds : List (List ℕ)) (k : ℕ) (ps a b : Trees) (h : (strict : Bool) 
   in_slot strict (one_or_absent c) e = let (takes, f) = arrow_in strict c e in (takes, f)
   in_slot strict s e = absurd (refused_here strict s (shape.ArrowFunctionExpression ds) [] k (listed ps ▸ (statements a ▸ none)) refl e)
 
-pub list_fits : (p : Tree) (a b : Trees) → Stretch p a b → (strict : Bool) → fill strict (each body_item) a ≡ true → fill strict (each body_item) b ≡ true
+pub list_fits : {W : VariableSet} (p : Tree) (a b : Trees) → Stretch W p a b → (strict : Bool) → fill strict (each body_item) a ≡ true → fill strict (each body_item) b ≡ true
 list_fits p a b t strict e =
     let (x, y) = both_fit strict body_item t.before (append t.d t.after) (sym (ap (fill strict (each body_item)) t.read_is) ∙ e) in
     let (z, v) = both_fit strict body_item t.d t.after y in
@@ -131,14 +131,14 @@ list_fits p a b t strict e =
 
 -- ---- an instance
 
-pub record Instance (p : Position) (n w : Tree) : Type 0 where
+pub record Instance (W : VariableSet) (p : Position) (n w : Tree) : Type 0 where
   pub symbol : ℕ
   pub keeps : KeepsLoosely p n w
-  pub drops : (K : Shape → Bool) → Drops K symbol p n w
+  pub drops : (K : Shape → Bool) → DropsWith K W symbol p n w
   pub declared_there : (y : Name) → Contains (declared w) y → Contains (declared n) y
 
 -- the statements, behind what stands before them
-module _ (p : Tree) (a b : Trees) (t : Stretch p a b) where
+module _ (W : VariableSet) (p : Tree) (a b : Trees) (t : Stretch W p a b) where
   abbrev gone : VariableSet
   gone = alone (Declared t.symbol)
 
@@ -153,14 +153,14 @@ module _ (p : Tree) (a b : Trees) (t : Stretch p a b) where
       let x = resolved t.spelling t.symbol in
       all_append (record { name = x; hoists = false }) t.before (append t.w t.after) (all_unmentioned x t.symbol refl t.before t.earlier) (all_append (record { name = x; hoists = false }) t.w t.after t.loses.leaves.unmentioned (all_unmentioned x t.symbol refl t.after t.later))
 
-  pub statements_run : (e : Environment) → Unseen gone e → (X : VariableSet) → RunsAs e FunctionStatements FunctionStatements X (statements statements_before) (statements statements_after)
+  pub statements_run : (e : Environment) → Permits W gone e → (X : VariableSet) → RunsAs e FunctionStatements FunctionStatements X (statements statements_before) (statements statements_after)
   statements_run e u X =
       let x = resolved t.spelling t.symbol in
-      let same = statements_same e t.spelling t.symbol u t.before t.after t.d t.w t.loses.read (all_avoided x t.symbol refl t.before t.earlier) t.loses.avoids (all_avoided x t.symbol refl t.after t.later) (t.loses.same e u) in
-      let whole = body_same e gone X u.shared FunctionStatements (statements statements_before) (statements statements_after) (weaker e gone gone nothing X (within_refl gone) (no_within X) (Stat None) (statements statements_before) (statements statements_after) same) in
+      let same = statements_same e t.spelling t.symbol u.unseen t.before t.after t.d t.w t.loses.read (all_avoided x t.symbol refl t.before t.earlier) t.loses.avoids (all_avoided x t.symbol refl t.after t.later) (t.loses.same e u) in
+      let whole = body_same e gone X u.unseen.shared FunctionStatements (statements statements_before) (statements statements_after) (weaker e gone gone nothing X (within_refl gone) (no_within X) (Stat None) (statements statements_before) (statements statements_after) same) in
       record { by = whole.by }
 
-module _ (s : Seat) (ds : List (List ℕ)) (number : ℕ) (ps a b : Trees) (t : Stretch (listed ps) a b) where
+module _ (W : VariableSet) (s : Seat) (ds : List (List ℕ)) (number : ℕ) (ps a b : Trees) (t : Stretch W (listed ps) a b) where
   abbrev x : Name
   x = resolved t.spelling t.symbol
 
@@ -180,7 +180,7 @@ module _ (s : Seat) (ds : List (List ℕ)) (number : ℕ) (ps a b : Trees) (t : 
   that = arrow_with ds number ps second_list
 
   keeps : Keeps (Expr s) this that
-  keeps = arrow_keeps (listed ps) x t.before t.after t.d t.w t.loses.leaves t.loses.declares t.outside t.earlier t.later ds number (none_mention (listed ps) a b t) s
+  keeps = arrow_keeps (listed ps) x t.before t.after t.d t.w t.loses.leaves t.loses.declares t.outside t.earlier t.later ds number (none_mention W (listed ps) a b t) s
 
   abbrev own : Around → Trees → List Body
   own a ts = body_of a (shape.ArrowFunctionExpression ds) number (arrow_with ds number ps ts) (listed ps ▸ (statements ts ▸ none))
@@ -191,10 +191,10 @@ module _ (s : Seat) (ds : List (List ℕ)) (number : ℕ) (ps a b : Trees) (t : 
   abbrev bodies_after : Around → Trees → List Body
   bodies_after a ts = bodies (around a 0) (listed ps) ++ ((bodies (quiet (around a 1)) (listed ts) ++ []) ++ [])
 
-  arrow_bodies : (e : Around) → BodiesWithout D (bodies e this) (bodies e that)
+  arrow_bodies : (e : Around) → BodiesWith W D (bodies e this) (bodies e that)
   arrow_bodies e =
-      without.each_of nothing D (own e first_list) (bodies_after e first_list) (own e second_list) (bodies_after e second_list) (inl (record { number = refl; kind = inl refl; strict = refl; asks_this = refl; same = λ e z. statements_run (listed ps) a b t e z.unseen }), tt)
-      (from_kept D (bodies_after e first_list) (bodies_after e second_list) (bodies_behind (listed ps) x t.before t.after t.d t.w t.loses.leaves t.loses.declares t.outside t.earlier t.later (around e 0) (around e 1)))
+      without.each_of W D (own e first_list) (bodies_after e first_list) (own e second_list) (bodies_after e second_list) (inl (record { number = refl; kind = inl refl; strict = refl; asks_this = refl; same = statements_run W (listed ps) a b t }), tt)
+      (without.all_more nothing W D D (without.nothing_part W) (without.part_itself D) (bodies_after e first_list) (bodies_after e second_list) (from_kept D (bodies_after e first_list) (bodies_after e second_list) (bodies_behind (listed ps) x t.before t.after t.d t.w t.loses.leaves t.loses.declares t.outside t.earlier t.later (around e 0) (around e 1))))
 
   abbrev own_frame : List Frame
   own_frame = frame_of None (shape.ArrowFunctionExpression ds) number (outline (shape.ArrowFunctionExpression ds) [] number (listed ps ▸ (statements first_list ▸ none))) (globals (shape.ArrowFunctionExpression ds) (listed ps ▸ (statements first_list ▸ none)))
@@ -205,7 +205,7 @@ module _ (s : Seat) (ds : List (List ℕ)) (number : ℕ) (ps a b : Trees) (t : 
   arrow_frames : FramesKept (frames None this) (frames None that)
   arrow_frames = frame_list.each_of own_frame (frames_after first_list) own_frame (frames_after second_list) (λ f c. c) (frames_behind (listed ps) x t.before t.after t.d t.w t.loses.leaves t.loses.declares t.outside t.earlier t.later)
 
-  dropped : (K : Shape → Bool) → Drops K t.symbol (Expr s) this that
+  dropped : (K : Shape → Bool) → DropsWith K W t.symbol (Expr s) this that
   dropped K = record {
     kept = keeps.kept;
     less = arrow_less (listed ps) x t.before t.after t.d t.w t.loses.leaves t.loses.declares t.outside t.earlier t.later ds number t.symbol refl;
@@ -215,7 +215,7 @@ module _ (s : Seat) (ds : List (List ℕ)) (number : ℕ) (ps a b : Trees) (t : 
     bodies = λ strict c g f a z. arrow_bodies a;
   }
 
-  stretched : Instance (Expr s) this that
+  stretched : Instance W (Expr s) this that
   stretched = record {
     symbol = t.symbol;
     keeps = in_order (Expr s) this that keeps;
@@ -223,55 +223,55 @@ module _ (s : Seat) (ds : List (List ℕ)) (number : ℕ) (ps a b : Trees) (t : 
     declared_there = arrow_declares (listed ps) x t.before t.after t.d t.w t.loses.leaves t.loses.declares t.outside t.earlier t.later ds number;
   }
 
-instance : (s : Seat) (n w : Tree) → ArrowBodyRow n w → Instance (Expr s) n w
-instance s n w r =
-    let t = row_stretch (listed r.parameters) r.before r.after refl r.row in
+instance : (W : VariableSet) (s : Seat) (n w : Tree) → ArrowBodyRow W n w → Instance W (Expr s) n w
+instance W s n w r =
+    let t = row_stretch W (listed r.parameters) r.before r.after refl r.row in
     let first = r.shape ∙ ap (arrow_with r.directives r.number r.parameters) t.read_is in
     let second = r.written ∙ ap (arrow_with r.directives r.number r.parameters) t.written_is in
-    subst (λ v. Instance (Expr s) v w) (sym first)
-    (subst (Instance (Expr s) (arrow_with r.directives r.number r.parameters (append t.before (append t.d t.after)))) (sym second) (stretched s r.directives r.number r.parameters r.before r.after t))
+    subst (λ v. Instance W (Expr s) v w) (sym first)
+    (subst (Instance W (Expr s) (arrow_with r.directives r.number r.parameters (append t.before (append t.d t.after)))) (sym second) (stretched W s r.directives r.number r.parameters r.before r.after t))
 
 -- ---- all
 
 -- of an expression
-abbrev pub OfArrow : Position → Tree → Tree → Type 0
-OfArrow (Expr s) n w = ArrowBodyRow n w
-OfArrow p n w = ⊥
+abbrev pub OfArrow : VariableSet → Position → Tree → Tree → Type 0
+OfArrow W (Expr s) n w = ArrowBodyRow W n w
+OfArrow W p n w = ⊥
 
 -- whatever is told by the shape
-shaped : (P : Tree → Tree → Type 0) → ((ds : List (List ℕ)) (k : ℕ) (ps a b : Trees) → P (arrow_with ds k ps a) (arrow_with ds k ps b)) → (n w : Tree) → ArrowBodyRow n w → P n w
+shaped : {W : VariableSet} (P : Tree → Tree → Type 0) → ((ds : List (List ℕ)) (k : ℕ) (ps a b : Trees) → P (arrow_with ds k ps a) (arrow_with ds k ps b)) → (n w : Tree) → ArrowBodyRow W n w → P n w
 shaped P f n w r = subst (λ v. P v w) (sym r.shape) (subst (P (arrow_with r.directives r.number r.parameters r.before)) (sym r.written) (f r.directives r.number r.parameters r.before r.after))
 
-stands : (n w : Tree) → ArrowBodyRow n w → (strict : Bool) (s : Slot) → fits strict s n ≡ true → TakesExpression s × (fits strict s w ≡ true)
-stands n w r strict s e =
-    let t = row_stretch (listed r.parameters) r.before r.after refl r.row in
+stands : (W : VariableSet) (n w : Tree) → ArrowBodyRow W n w → (strict : Bool) (s : Slot) → fits strict s n ≡ true → TakesExpression s × (fits strict s w ≡ true)
+stands W n w r strict s e =
+    let t = row_stretch W (listed r.parameters) r.before r.after refl r.row in
     let (takes, f) = in_slot r.directives r.number r.parameters r.before r.after (list_fits (listed r.parameters) r.before r.after t) strict s (sym (ap (fits strict s) r.shape) ∙ e) in
     (takes, ap (fits strict s) r.written ∙ f)
 
 -- whichever place it is
-at_arrow : (P : Position → Tree → Tree → Type 0) → ((s : Seat) (n w : Tree) → ArrowBodyRow n w → P (Expr s) n w) → (p : Position) (n w : Tree) → OfArrow p n w → P p n w
+at_arrow : {W : VariableSet} (P : Position → Tree → Tree → Type 0) → ((s : Seat) (n w : Tree) → ArrowBodyRow W n w → P (Expr s) n w) → (p : Position) (n w : Tree) → OfArrow W p n w → P p n w
 at_arrow P f (Expr s) n w r = f s n w r
 at_arrow P f p n w r = absurd r
 
-pub arrows_loose : (K : Shape → Bool) → LawfulLoosely K OfArrow
-arrows_loose K = record {
+pub arrows_loose : (K : Shape → Bool) (W : VariableSet) → LawfulWith K W (OfArrow W)
+arrows_loose K W = record {
   shapes = record {
-    fitting = at_arrow (λ p n w. (strict : Bool) (s : Slot) → fits_place p s ≡ true → fits strict s n ≡ true → fits strict s w ≡ true) (λ q n w r strict s z e. (stands n w r strict s e).1);
+    fitting = at_arrow (λ p n w. (strict : Bool) (s : Slot) → fits_place p s ≡ true → fits strict s n ≡ true → fits strict s w ≡ true) (λ q n w r strict s z e. (stands W n w r strict s e).1);
     asked = at_arrow AskedAlike (λ q. shaped (AskedAlike (Expr q)) (λ ds k ps a b. record { absent = λ g. absurd (true≢false (sym g)); body = λ g. absurd (true≢false (sym g)); optional = λ g. absurd (true≢false (sym g)); number = λ g h. refl; spelled = λ r g. absurd (cc g); plain = refl }));
   };
   places = record {
     names = record {
       places = at_arrow (λ p n w. (is_rewritten_place p ≡ true) ⊎ KeepsRoot p n w) (λ q n w r. inl refl);
       pieces = at_arrow (λ p n w. is_piece (shape_of n) ≡ false) (λ q. shaped (λ n w. is_piece (shape_of n) ≡ false) (λ ds k ps a b. refl));
-      keeps = at_arrow (λ p n w. (strict : Bool) (s : Slot) → fits_place p s ≡ true → fits strict s n ≡ true → KeepsLoosely p n w) (λ q n w r strict s z e. (instance q n w r).keeps);
+      keeps = at_arrow (λ p n w. (strict : Bool) (s : Slot) → fits_place p s ≡ true → fits strict s n ≡ true → KeepsLoosely p n w) (λ q n w r strict s z e. (instance W q n w r).keeps);
     };
-    slots = at_arrow (λ p n w. (strict : Bool) (s : Slot) → fits_place p s ≡ true → fits strict s n ≡ true → ((is_body_slot p s ≡ true) ⊎ IsShownAlike s n w) ⊎ KeepsFunction n w) (λ q n w r strict s z e. inl (inl (expression_slot (Expr q) s (stands n w r strict s e).0)));
-    ports = at_arrow (λ p n w. (strict : Bool) (d : Depth) → fits strict (one (a_statement d)) n ≡ true → (m : Bool) → NoPort m n w ⊎ KeepsFunction n w) (λ q n w r strict d e. absurd (stands n w r strict (one (a_statement d)) e).0);
+    slots = at_arrow (λ p n w. (strict : Bool) (s : Slot) → fits_place p s ≡ true → fits strict s n ≡ true → ((is_body_slot p s ≡ true) ⊎ IsShownAlike s n w) ⊎ KeepsFunction n w) (λ q n w r strict s z e. inl (inl (expression_slot (Expr q) s (stands W n w r strict s e).0)));
+    ports = at_arrow (λ p n w. (strict : Bool) (d : Depth) → fits strict (one (a_statement d)) n ≡ true → (m : Bool) → NoPort m n w ⊎ KeepsFunction n w) (λ q n w r strict d e. absurd (stands W n w r strict (one (a_statement d)) e).0);
     listed = λ p n w e c. absurd (at_arrow (λ p n w. is_statement_list p ≡ true → ⊥) (λ q n w r e. cc e) p n w c e);
     exported = at_arrow (λ p n w. (strict : Bool) → fits strict (one a_default_export) n ≡ true → NoDeclaration n w ⊎ KeepsFunction n w) (λ q n w r strict e. inl (shaped NoDeclaration (λ ds k ps a b. (refl, refl)) n w r));
   };
   reads = at_arrow (λ p n w. summary n ≡ summary w) (λ q. shaped (λ n w. summary n ≡ summary w) (λ ds k ps a b. refl));
   kind = at_arrow (λ p n w. (strict : Bool) (s : Slot) → fits strict s n ≡ true → arrow_kind (shape_of n) ≡ arrow_kind (shape_of w)) (λ q n w r strict s e. shaped (λ n w. arrow_kind (shape_of n) ≡ arrow_kind (shape_of w)) (λ ds k ps a b. refl) n w r);
-  declared = at_arrow (λ p n w. (y : Name) → Contains (declared w) y → Contains (declared n) y) (λ q n w r. (instance q n w r).declared_there);
-  instances = at_arrow (λ p n w. Stays p n w ⊎ ((k : ℕ) × Drops K k p n w)) (λ q n w r. let i = instance q n w r in inr (i.symbol, i.drops K));
+  declared = at_arrow (λ p n w. (y : Name) → Contains (declared w) y → Contains (declared n) y) (λ q n w r. (instance W q n w r).declared_there);
+  instances = at_arrow (λ p n w. StaysWith W p n w ⊎ ((k : ℕ) × DropsWith K W k p n w)) (λ q n w r. let i = instance W q n w r in inr (i.symbol, i.drops K));
 }

@@ -293,7 +293,7 @@ dropped K n w r =
     along (Drops K k Elsewhere) n w r (record {
       kept = handler_kept x b;
       less = one_less x b k refl;
-      same = λ e z q f. handler_same e r.spelling k z b (avoided x k refl b r.unmentioned) q;
+      same = λ e z q f. handler_same e r.spelling k z.unseen b (avoided x k refl b r.unmentioned) q;
       fixed = λ y f. fixed_same x b y;
       frames = λ strict c g f. shown_themselves (gone_from K (alone (Symbol k))) no_key (frames None (handler (binding x) b));
       bodies = λ strict c g f a z. from_kept (alone (Symbol k)) _ _ (kept_itself (bodies a (handler (binding x) b)));

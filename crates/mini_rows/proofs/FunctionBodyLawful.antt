@@ -25,19 +25,19 @@ use Rattle.mini_kept.specs.KeepsFrames.{KeepsFunction}
 use Rattle.mini_kept.specs.KeepsNames.{Keeps, is_rewritten_place}
 use Rattle.mini_kept.specs.KeepsShapes.{AskedAlike}
 use Rattle.mini_kept.specs.Lifted.{is_piece, is_rooted_place, KeepsRoot}
-use Rattle.mini_kept.specs.Loosely.{Drops, LawfulLoosely}
+use Rattle.mini_kept.specs.Loosely.{DropsWith, LawfulWith}
 use Rattle.mini_kept.specs.Placed.{is_statement_list}
 use Rattle.mini_kept.specs.ShownFrames.{no_key, gone_from}
-use Rattle.mini_kept.specs.Without.{BodiesWithout}
+use Rattle.mini_kept.specs.Without.{BodiesWith}
 use Rattle.mini_kept.proofs.Bools.{left, both}
 use Rattle.mini_kept.proofs.Expressions.{refused_here}
 use Rattle.mini_kept.proofs.FrameLists as frame_list
 use Rattle.mini_kept.proofs.FrameSteps.{its_number}
 use Rattle.mini_kept.proofs.InOrder.{in_order}
-use Rattle.mini_kept.proofs.Loosely.{loose_join, loose_narrowed}
+use Rattle.mini_kept.proofs.Loosely.{loose_join, loose_narrowed, loose_wider}
 use Rattle.mini_kept.proofs.ShownFrames.{kept_shown}
 use Rattle.mini_kept.proofs.WithoutLists as without
-use Rattle.mini_kept.proofs.WithoutLists.{from_kept}
+use Rattle.mini_kept.proofs.WithoutLists.{nothing_part, from_kept}
 use Rattle.mini_rows.specs.Unused.{resolved, names, any_names, statements, function_with, FunctionBodyRow, UnusedRow, UnusedContracts, UnusedAreLawful}
 use Rattle.mini_rows.proofs.ArrangedBodies.{quiet}
 use Rattle.mini_rows.proofs.ArrowBodyLawful.{Instance, list_fits, none_mention, statements_run, OfArrow, arrows_loose}
@@ -148,7 +148,7 @@ numbered d g ds (suc n) name ps a strict s e = (n, refl)
 
 -- ---- an instance
 
-module _ (p : Position) (d g : Bool) (ds : List (List ℕ)) (number : ℕ) (name : Tree) (ps a b : Trees) (t : Stretch (listed (name ▸ ps)) a b) where
+module _ (W : VariableSet) (p : Position) (d g : Bool) (ds : List (List ℕ)) (number : ℕ) (name : Tree) (ps a b : Trees) (t : Stretch W (listed (name ▸ ps)) a b) where
   abbrev x : Name
   x = resolved t.spelling t.symbol
 
@@ -171,7 +171,7 @@ module _ (p : Position) (d g : Bool) (ds : List (List ℕ)) (number : ℕ) (name
   outside = (or_parts (names x name) (any_names x ps) t.outside).1
 
   keeps : Keeps p this that
-  keeps = function_keeps (listed ps) x t.before t.after t.d t.w t.loses.leaves t.loses.declares outside t.earlier t.later d g ds number name (none_mention (listed (name ▸ ps)) a b t) p
+  keeps = function_keeps (listed ps) x t.before t.after t.d t.w t.loses.leaves t.loses.declares outside t.earlier t.later d g ds number name (none_mention W (listed (name ▸ ps)) a b t) p
 
   abbrev own : Around → Trees → List Body
   own e ts = body_of e (shape.Function d g ds) number (function_with d g ds number name ps ts) (name ▸ (listed ps ▸ (statements ts ▸ none)))
@@ -182,10 +182,10 @@ module _ (p : Position) (d g : Bool) (ds : List (List ℕ)) (number : ℕ) (name
   abbrev bodies_after : Around → Trees → List Body
   bodies_after e ts = bodies (around e 0) name ++ (bodies (around e 1) (listed ps) ++ ((bodies (quiet (around e 2)) (listed ts) ++ []) ++ []))
 
-  these_bodies : (e : Around) → BodiesWithout D (bodies e this) (bodies e that)
+  these_bodies : (e : Around) → BodiesWith W D (bodies e this) (bodies e that)
   these_bodies e =
-      without.each_of nothing D (own e first_list) (bodies_after e first_list) (own e second_list) (bodies_after e second_list) (inl (record { number = refl; kind = inl refl; strict = refl; asks_this = refl; same = λ e z. statements_run (listed (name ▸ ps)) a b t e z.unseen }), tt)
-      (from_kept D (bodies_after e first_list) (bodies_after e second_list) (function_bodies (listed ps) x t.before t.after t.d t.w t.loses.leaves t.loses.declares outside t.earlier t.later d g ds number name (around e 0) (around e 1) (around e 2)))
+      without.each_of W D (own e first_list) (bodies_after e first_list) (own e second_list) (bodies_after e second_list) (inl (record { number = refl; kind = inl refl; strict = refl; asks_this = refl; same = statements_run W (listed (name ▸ ps)) a b t }), tt)
+      (without.all_more nothing W D D (without.nothing_part W) (without.part_itself D) (bodies_after e first_list) (bodies_after e second_list) (from_kept D (bodies_after e first_list) (bodies_after e second_list) (function_bodies (listed ps) x t.before t.after t.d t.w t.loses.leaves t.loses.declares outside t.earlier t.later d g ds number name (around e 0) (around e 1) (around e 2))))
 
   abbrev own_frame : List Frame
   own_frame = frame_of None (shape.Function d g ds) number (outline (shape.Function d g ds) [] number (name ▸ (listed ps ▸ (statements first_list ▸ none)))) (globals (shape.Function d g ds) (name ▸ (listed ps ▸ (statements first_list ▸ none))))
@@ -196,7 +196,7 @@ module _ (p : Position) (d g : Bool) (ds : List (List ℕ)) (number : ℕ) (name
   these_frames : FramesKept (frames None this) (frames None that)
   these_frames = frame_list.each_of own_frame (frames_after first_list) own_frame (frames_after second_list) (λ f c. c) (function_frames (listed ps) x t.before t.after t.d t.w t.loses.leaves t.loses.declares outside t.earlier t.later d g ds number name)
 
-  dropped : (K : Shape → Bool) → Drops K t.symbol p this that
+  dropped : (K : Shape → Bool) → DropsWith K W t.symbol p this that
   dropped K = record {
     kept = keeps.kept;
     less = function_less (listed ps) x t.before t.after t.d t.w t.loses.leaves t.loses.declares outside t.earlier t.later d g ds number name t.symbol refl;
@@ -206,7 +206,7 @@ module _ (p : Position) (d g : Bool) (ds : List (List ℕ)) (number : ℕ) (name
     bodies = λ strict c z f e s. these_bodies e;
   }
 
-  stretched : Instance p this that
+  stretched : Instance W p this that
   stretched = record {
     symbol = t.symbol;
     keeps = in_order p this that keeps;
@@ -220,19 +220,19 @@ module _ (p : Position) (d g : Bool) (ds : List (List ℕ)) (number : ℕ) (name
 
 -- of a row
 
-module _ (n w : Tree) (r : FunctionBodyRow n w) where
+module _ (W : VariableSet) (n w : Tree) (r : FunctionBodyRow W n w) where
   abbrev with_statements : Trees → Tree
   with_statements = function_with r.is_declared r.is_generator r.directives r.number r.name r.parameters
 
-  there : Stretch (listed (r.name ▸ r.parameters)) r.before r.after
-  there = row_stretch (listed (r.name ▸ r.parameters)) r.before r.after refl r.row
+  there : Stretch W (listed (r.name ▸ r.parameters)) r.before r.after
+  there = row_stretch W (listed (r.name ▸ r.parameters)) r.before r.after refl r.row
 
-  instance : (p : Position) → Instance p n w
+  instance : (p : Position) → Instance W p n w
   instance p =
       let first = r.shape ∙ ap with_statements there.read_is in
       let second = r.written ∙ ap with_statements there.written_is in
-      subst (λ v. Instance p v w) (sym first)
-      (subst (Instance p (with_statements (append there.before (append there.d there.after)))) (sym second) (stretched p r.is_declared r.is_generator r.directives r.number r.name r.parameters r.before r.after there))
+      subst (λ v. Instance W p v w) (sym first)
+      (subst (Instance W p (with_statements (append there.before (append there.d there.after)))) (sym second) (stretched W p r.is_declared r.is_generator r.directives r.number r.name r.parameters r.before r.after there))
 
   row_fits : (strict : Bool) (s : Slot) → fits strict s n ≡ true → fits strict s w ≡ true
   row_fits strict s e =
@@ -242,7 +242,7 @@ module _ (n w : Tree) (r : FunctionBodyRow n w) where
   frames_there : FramesKept (frames None (statements r.before)) (frames None (statements r.after))
   frames_there =
       subst (λ ts. FramesKept (frames None (statements ts)) (frames None (statements r.after))) (sym there.read_is)
-      (subst (λ ts. FramesKept (frames None (statements (append there.before (append there.d there.after)))) (frames None (statements ts))) (sym there.written_is) (body_frames Elsewhere r.is_declared r.is_generator r.directives r.number r.name r.parameters r.before r.after there))
+      (subst (λ ts. FramesKept (frames None (statements (append there.before (append there.d there.after)))) (frames None (statements ts))) (sym there.written_is) (body_frames W Elsewhere r.is_declared r.is_generator r.directives r.number r.name r.parameters r.before r.after there))
 
   keeps_function : (strict : Bool) (s : Slot) → fits strict s n ≡ true → KeepsFunction n w
   keeps_function strict s e =
@@ -275,8 +275,8 @@ is_function_place Method = true
 is_function_place Elsewhere = true
 is_function_place p = false
 
-abbrev OfFunction : Position → Tree → Tree → Type 0
-OfFunction p n w = (is_function_place p ≡ true) × FunctionBodyRow n w
+abbrev OfFunction : VariableSet → Position → Tree → Tree → Type 0
+OfFunction W p n w = (is_function_place p ≡ true) × FunctionBodyRow W n w
 
 rooted : (p : Position) → is_function_place p ≡ true → (is_rewritten_place p ≡ true) ⊎ (is_rooted_place p ≡ true)
 rooted (Stmt q) z = inl refl
@@ -285,50 +285,50 @@ rooted Method z = inr refl
 rooted Elsewhere z = inr refl
 rooted p z = absurd (cc z)
 
-function_placed : (p : Position) (n w : Tree) → OfFunction p n w → (is_rewritten_place p ≡ true) ⊎ KeepsRoot p n w
-function_placed p n w (z, r) = by (rooted p z)
+function_placed : (W : VariableSet) (p : Position) (n w : Tree) → OfFunction W p n w → (is_rewritten_place p ≡ true) ⊎ KeepsRoot p n w
+function_placed W p n w (z, r) = by (rooted p z)
   where
     by : (is_rewritten_place p ≡ true) ⊎ (is_rooted_place p ≡ true) → (is_rewritten_place p ≡ true) ⊎ KeepsRoot p n w
     by (inl e) = inl e
-    by (inr e) = inr (shaped n w r (KeepsRoot p) (record { place = e; shape = refl; names = refl; number = refl; counted = refl; second = refl }))
+    by (inr e) = inr (shaped W n w r (KeepsRoot p) (record { place = e; shape = refl; names = refl; number = refl; counted = refl; second = refl }))
 
 no_list : (p : Position) → is_function_place p ≡ true → is_statement_list p ≡ true → ⊥
 no_list StatementList z e = cc z
 no_list BodyList z e = cc z
 no_list p z e = cc e
 
-functions_loose : (K : Shape → Bool) → LawfulLoosely K OfFunction
-functions_loose K = record {
+functions_loose : (K : Shape → Bool) (W : VariableSet) → LawfulWith K W (OfFunction W)
+functions_loose K W = record {
   shapes = record {
-    fitting = λ p n w c strict s f e. row_fits n w c.1 strict s e;
-    asked = λ p n w c. shaped n w c.1 (AskedAlike p) (record { absent = λ g. absurd (true≢false (sym g)); body = λ g. absurd (true≢false (sym g)); optional = λ g. absurd (true≢false (sym g)); number = λ g h. refl; spelled = λ o g. absurd (cc g); plain = refl });
+    fitting = λ p n w c strict s f e. row_fits W n w c.1 strict s e;
+    asked = λ p n w c. shaped W n w c.1 (AskedAlike p) (record { absent = λ g. absurd (true≢false (sym g)); body = λ g. absurd (true≢false (sym g)); optional = λ g. absurd (true≢false (sym g)); number = λ g h. refl; spelled = λ o g. absurd (cc g); plain = refl });
   };
   places = record {
     names = record {
-      places = function_placed;
+      places = function_placed W;
       pieces = λ p n w c. ap (λ t. is_piece (shape_of t)) c.1.shape;
-      keeps = λ p n w c strict s f e. (instance n w c.1 p).keeps;
+      keeps = λ p n w c strict s f e. (instance W n w c.1 p).keeps;
     };
-    slots = λ p n w c strict s f e. inr (keeps_function n w c.1 strict s e);
-    ports = λ p n w c strict d e m. inr (keeps_function n w c.1 strict (one (a_statement d)) e);
+    slots = λ p n w c strict s f e. inr (keeps_function W n w c.1 strict s e);
+    ports = λ p n w c strict d e m. inr (keeps_function W n w c.1 strict (one (a_statement d)) e);
     listed = λ p n w e c. absurd (no_list p c.0 e);
-    exported = λ p n w c strict e. inr (keeps_function n w c.1 strict (one a_default_export) e);
+    exported = λ p n w c strict e. inr (keeps_function W n w c.1 strict (one a_default_export) e);
   };
-  reads = λ p n w c. shaped n w c.1 (λ t v. summary t ≡ summary v) refl;
-  kind = λ p n w c strict s e. shaped n w c.1 (λ t v. arrow_kind (shape_of t) ≡ arrow_kind (shape_of v)) refl;
-  declared = λ p n w c. (instance n w c.1 p).declared_there;
-  instances = λ p n w c. let i = instance n w c.1 p in inr (i.symbol, i.drops K);
+  reads = λ p n w c. shaped W n w c.1 (λ t v. summary t ≡ summary v) refl;
+  kind = λ p n w c strict s e. shaped W n w c.1 (λ t v. arrow_kind (shape_of t) ≡ arrow_kind (shape_of v)) refl;
+  declared = λ p n w c. (instance W n w c.1 p).declared_there;
+  instances = λ p n w c. let i = instance W n w c.1 p in inr (i.symbol, i.drops K);
 }
 
 -- ---- all of them
 
-abbrev OfUnused : Position → Tree → Tree → Type 0
-OfUnused p n w = OfBlock p n w ⊎ (OfArrow p n w ⊎ OfFunction p n w)
+abbrev OfUnused : VariableSet → Position → Tree → Tree → Type 0
+OfUnused W p n w = OfBlock p n w ⊎ (OfArrow W p n w ⊎ OfFunction W p n w)
 
-either_holder : (p : Position) (n w : Tree) → UnusedContracts p n w → OfUnused p n w
-either_holder p n w c = by p c.row
+either_holder : (W : VariableSet) (p : Position) (n w : Tree) → UnusedContracts W p n w → OfUnused W p n w
+either_holder W p n w c = by p c.row
   where
-    by : (p : Position) → UnusedRow p n w → OfUnused p n w
+    by : (p : Position) → UnusedRow W p n w → OfUnused W p n w
     by (Stmt q) (inl r) = inl r
     by (Stmt q) (inr r) = inr (inr (refl, r))
     by (Expr s) (inl r) = inr (inl r)
@@ -338,6 +338,6 @@ either_holder p n w c = by p c.row
     by p r = absurd r
 
 pub unused_loose : UnusedAreLawful
-unused_loose K =
-    loose_narrowed UnusedContracts OfUnused K nothing either_holder
-    (loose_join OfBlock (λ p n w. OfArrow p n w ⊎ OfFunction p n w) K nothing (blocks_loose K) (loose_join OfArrow OfFunction K nothing (arrows_loose K) (functions_loose K)))
+unused_loose K W =
+    loose_narrowed (UnusedContracts W) (OfUnused W) K W (either_holder W)
+    (loose_join OfBlock (λ p n w. OfArrow W p n w ⊎ OfFunction W p n w) K W (loose_wider OfBlock K nothing W (nothing_part W) (blocks_loose K)) (loose_join (OfArrow W) (OfFunction W) K W (arrows_loose K W) (functions_loose K W)))

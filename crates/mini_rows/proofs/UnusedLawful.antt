@@ -60,7 +60,7 @@ use Rattle.mini_rows.proofs.ListShapes.{declaration_anywhere, append_fits, both_
 use Rattle.mini_rows.proofs.UnusedKept.{LeavesThere, NamesThere, list_fixed, list_frames, list_bodies, list_declares, block_kept, block_less, block_keeps}
 use Rattle.mini_rows.proofs.DeclaredKept.{value_leaves, value_names, idle_leaves, idle_names, single_leaves, single_names}
 use Rattle.mini_rows.proofs.SingleFits.{put_fits}
-use Rattle.mini_rows.proofs.UnusedMeaning.{movable, row_72, row_72_idle, row_71}
+use Rattle.mini_rows.proofs.UnusedMeaning.{movable, lexical_alone, row_72, row_72_idle, row_71}
 use Rattle.mini_rows.proofs.UnusedNames.{all_unmentioned, all_other}
 
 -- ---- where a block may stand
@@ -225,7 +225,7 @@ module _ (q : StmtSeat) (s : List ℕ) (k : ℕ) (before after d w : Trees) (l :
         drops = λ K. record {
           kept = block_kept x before after d w l n o p;
           less = block_less x before after d w l n o p k refl;
-          same = same;
+          same = λ e u. same e u.unseen;
           fixed = block_fixed;
           frames = λ strict c g f. kept_shown (gone_from K (alone (Declared k))) no_key (frames None (block first_list)) (frames None (block second_list)) block_frames;
           bodies = λ strict c g f a z. from_kept (alone (Declared k)) (bodies a (block first_list)) (bodies a (block second_list)) (block_bodies a);
@@ -256,26 +256,26 @@ idle_vanishes init h = by (is_absent_part init) refl
         let quiet = (and_parts (declares_nothing init) (is_effect_free init && leaves_nothing init) (sym (ap (λ b. b || (declares_nothing init && (is_effect_free init && leaves_nothing init))) a) ∙ h)).1 in
         vanishes init (and_parts (is_effect_free init) (leaves_nothing init) quiet).1
 
-row_dropped : (q : StmtSeat) (n w : Tree) → BlockRow n w → (k : ℕ) × Dropped q k n w
+row_dropped : (q : StmtSeat) (n w : Tree) → BlockRow nothing n w → (k : ℕ) × Dropped q k n w
 row_dropped q n w (inl r) =
     let x = resolved r.spelling r.symbol in (
       r.symbol,
-      moved q r.symbol n w _ _ r.shape r.written (dropped q r.spelling r.symbol r.before r.after (declared_one r.kind x r.init ▸ none) (expression_statement r.init ▸ none) (value_leaves r.kind x r.symbol refl r.init r.unused.initial) (value_names r.kind x r.symbol refl r.init r.unused.initial r.lexical) r.unused.earlier r.unused.later
-          (λ e z. in_tails e q (alone (Declared r.symbol)) _ _ (row_72 e r.symbol z _ _ (record { before = r.before; kind = r.kind; spelling = r.spelling; symbol = r.symbol; init = r.init; after = r.after; lexical = r.lexical; present = r.present; unused = r.unused; shape = refl; written = refl }) refl))),
+      moved q r.symbol n w _ _ r.shape r.written (dropped q r.spelling r.symbol r.before r.after (declared_one r.kind x r.init ▸ none) (expression_statement r.init ▸ none) (value_leaves r.kind x r.symbol refl r.init r.unused.initial) (value_names r.kind x r.symbol refl r.init r.unused.initial (lexical_alone r.kind r.goes)) r.unused.earlier r.unused.later
+          (λ e z. in_tails e q (alone (Declared r.symbol)) _ _ (row_72 e r.symbol z _ _ (record { before = r.before; kind = r.kind; spelling = r.spelling; symbol = r.symbol; init = r.init; after = r.after; goes = r.goes; present = r.present; unused = r.unused; shape = refl; written = refl }) refl))),
     )
 row_dropped q n w (inr (inl r)) =
     let x = resolved r.spelling r.symbol in
     let v = idle_vanishes r.init r.idle in (
       r.symbol,
-      moved q r.symbol n w _ _ r.shape r.written (dropped q r.spelling r.symbol r.before r.after (declared_among r.kind x r.first r.init r.last ▸ none) (declared_left r.kind (append r.first r.last) ▸ none) (idle_leaves r.kind x r.symbol refl r.first r.init r.last v r.unused.declared_earlier r.unused.declared_later) (idle_names r.kind x r.symbol refl r.first r.init r.last v r.unused.declared_earlier r.unused.declared_later r.lexical) r.unused.earlier r.unused.later
-          (λ e z. in_tails e q (alone (Declared r.symbol)) _ _ (row_72_idle e r.symbol z _ _ (record { before = r.before; kind = r.kind; first = r.first; spelling = r.spelling; symbol = r.symbol; init = r.init; last = r.last; after = r.after; lexical = r.lexical; idle = r.idle; unused = r.unused; shape = refl; written = refl }) refl))),
+      moved q r.symbol n w _ _ r.shape r.written (dropped q r.spelling r.symbol r.before r.after (declared_among r.kind x r.first r.init r.last ▸ none) (declared_left r.kind (append r.first r.last) ▸ none) (idle_leaves r.kind x r.symbol refl r.first r.init r.last v r.unused.declared_earlier r.unused.declared_later) (idle_names r.kind x r.symbol refl r.first r.init r.last v r.unused.declared_earlier r.unused.declared_later (lexical_alone r.kind r.goes)) r.unused.earlier r.unused.later
+          (λ e z. in_tails e q (alone (Declared r.symbol)) _ _ (row_72_idle e r.symbol z _ _ (record { before = r.before; kind = r.kind; first = r.first; spelling = r.spelling; symbol = r.symbol; init = r.init; last = r.last; after = r.after; goes = r.goes; idle = r.idle; unused = r.unused; shape = refl; written = refl }) refl))),
     )
 row_dropped q n w (inr (inr r)) =
     let x = resolved r.spelling r.symbol in
     let plain = movable r.init r.moves in (
       r.symbol,
-      moved q r.symbol n w _ _ r.shape r.written (dropped q r.spelling r.symbol r.before r.after (declared_among r.kind x r.first r.init none ▸ (r.head ▸ none)) (declared_left r.kind r.first ▸ (put_first r.init r.head ▸ none)) (single_leaves r.kind x r.symbol refl r.first r.init r.head plain r.once r.initial r.declared_earlier) (single_names r.kind x r.symbol refl r.first r.init r.head plain r.once r.initial r.declared_earlier r.lexical) r.earlier r.later
-          (λ e z. in_tails e q (alone (Declared r.symbol)) _ _ (row_71 e r.symbol z _ _ (record { before = r.before; kind = r.kind; first = r.first; spelling = r.spelling; symbol = r.symbol; init = r.init; head = r.head; after = r.after; lexical = r.lexical; moves = r.moves; once = r.once; earlier = r.earlier; declared_earlier = r.declared_earlier; initial = r.initial; later = r.later; unseen = r.unseen; shape = refl; written = refl }) refl))),
+      moved q r.symbol n w _ _ r.shape r.written (dropped q r.spelling r.symbol r.before r.after (declared_among r.kind x r.first r.init none ▸ (r.head ▸ none)) (declared_left r.kind r.first ▸ (put_first r.init r.head ▸ none)) (single_leaves r.kind x r.symbol refl r.first r.init r.head plain r.once r.initial r.declared_earlier) (single_names r.kind x r.symbol refl r.first r.init r.head plain r.once r.initial r.declared_earlier (lexical_alone r.kind r.goes)) r.earlier r.later
+          (λ e z. in_tails e q (alone (Declared r.symbol)) _ _ (row_71 e r.symbol z _ _ (record { before = r.before; kind = r.kind; first = r.first; spelling = r.spelling; symbol = r.symbol; init = r.init; head = r.head; after = r.after; goes = r.goes; moves = r.moves; once = r.once; earlier = r.earlier; declared_earlier = r.declared_earlier; initial = r.initial; later = r.later; unseen = r.unseen; shape = refl; written = refl }) refl))),
     )
 
 record Blocks (n w : Tree) : Type 0 where
@@ -285,7 +285,7 @@ record Blocks (n w : Tree) : Type 0 where
   after : w ≡ block second
   fitting : (strict : Bool) → fill strict (each item) first ≡ true → fill strict (each item) second ≡ true
 
-row_blocks : (q : StmtSeat) (n w : Tree) → BlockRow n w → Blocks n w
+row_blocks : (q : StmtSeat) (n w : Tree) → BlockRow nothing n w → Blocks n w
 row_blocks q n w (inl r) =
     let d = declared_one r.kind (resolved r.spelling r.symbol) r.init in
     record { first = append r.before (d ▸ r.after); second = append r.before (expression_statement r.init ▸ r.after); before = r.shape; after = r.written; fitting = λ strict. one_item strict r.before r.after d (expression_statement r.init) (value_fits strict r.kind (resolved r.spelling r.symbol) r.init r.present) }
@@ -313,7 +313,7 @@ shaped n w P f b = subst (λ t. P t w) (sym b.before) (subst (P (block b.first))
 blocks_asked : (p : Position) (first_list second_list : Trees) → AskedAlike p (block first_list) (block second_list)
 blocks_asked p first_list second_list = record { absent = λ g. absurd (true≢false (sym g)); body = λ g. absurd (true≢false (sym g)); optional = λ g. absurd (true≢false (sym g)); number = λ g h. refl; spelled = λ r g. absurd (cc g); plain = refl }
 
-in_place : (q : StmtSeat) (n w : Tree) → BlockRow n w → (strict : Bool) (s : Slot) → fits strict s n ≡ true → (fits strict s w ≡ true) × (is_body_slot (Stmt q) s ≡ true)
+in_place : (q : StmtSeat) (n w : Tree) → BlockRow nothing n w → (strict : Bool) (s : Slot) → fits strict s n ≡ true → (fits strict s w ≡ true) × (is_body_slot (Stmt q) s ≡ true)
 in_place q n w r strict s e =
     let b = row_blocks q n w r in
     let (f, g) = in_slot b.first b.second b.fitting strict (Stmt q) s (sym (ap (fits strict s) b.before) ∙ e) in
@@ -321,11 +321,11 @@ in_place q n w r strict s e =
 
 -- of a statement
 abbrev pub OfBlock : Position → Tree → Tree → Type 0
-OfBlock (Stmt q) n w = BlockRow n w
+OfBlock (Stmt q) n w = BlockRow nothing n w
 OfBlock p n w = ⊥
 
 -- whichever place it is
-at_statement : (P : Position → Tree → Tree → Type 0) → ((q : StmtSeat) (n w : Tree) → BlockRow n w → P (Stmt q) n w) → (p : Position) (n w : Tree) → OfBlock p n w → P p n w
+at_statement : (P : Position → Tree → Tree → Type 0) → ((q : StmtSeat) (n w : Tree) → BlockRow nothing n w → P (Stmt q) n w) → (p : Position) (n w : Tree) → OfBlock p n w → P p n w
 at_statement P f (Stmt q) n w c = f q n w c
 at_statement P f p n w c = absurd c
 

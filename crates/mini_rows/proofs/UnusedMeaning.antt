@@ -34,7 +34,7 @@ use Rattle.mini_laws.proofs.Congruent.{congruent_same, insensitive, transitive, 
 use Rattle.mini_laws.proofs.Runs.{either_cong, either_eta, either_assoc, either_stop}
 use Rattle.mini_laws.proofs.Simulation.{within_refl}
 use Rattle.mini_laws.proofs.Truth.{coherent}
-use Rattle.mini_kept.specs.Without.{Unseen}
+use Rattle.mini_kept.specs.Without.{Unseen, Permits}
 use Rattle.mini_node.specs.Kinds.{is_absent_part}
 use Rattle.mini_node.specs.Made.{absent_is}
 use Rattle.mini_terms.specs.Folds.{is_effect_free}
@@ -44,7 +44,7 @@ use Rattle.mini_terms.proofs.Dropping.{does_nothing, weak}
 use Rattle.mini_rows.specs.Lists.{block, declaration, declares_nothing}
 use Rattle.mini_rows.specs.Declarations.{binding, declarator}
 use Rattle.mini_rows.specs.Sketches.{shape_by, AsWholeItem}
-use Rattle.mini_rows.specs.Unused.{resolved, names, any_names, declared_among, declared_one, is_idle, declared_left, is_definition, may_move, put_first, reads_first, statements, Row72, Row72Idle, Row71}
+use Rattle.mini_rows.specs.Unused.{resolved, names, any_names, declared_among, declared_one, is_idle, declared_left, is_definition, may_move, put_first, reads_first, statements, lets_go, Row72, Row72Idle, Row71}
 use Rattle.mini_rows.proofs.FoldMeaning.{plain_read}
 use Rattle.mini_rows.proofs.SingleUse.{Lead, Doing, Giving, Raising, Testing, head_of, Step, led, is_end, Stands, Well, statement, unnamed}
 use Rattle.mini_rows.proofs.SingleMeaning.{first_goes}
@@ -440,26 +440,35 @@ left_avoids D K none none a b = (tt, tt)
 left_avoids D K none (t ▸ last) a b = (tt, ((tt, b), tt))
 left_avoids D K (t ▸ first) last a b = (tt, ((tt, all_join D (t ▸ first) last a b), tt))
 
+-- where no `var` goes
+pub lexical_alone : (K : VariableDeclarationKind) → (is_lexical K || false) ≡ true → is_lexical K ≡ true
+lexical_alone Var h = absurd (true≢false (sym h))
+lexical_alone K h = refl
+
+-- a `var` that goes writes
+pub may_write : (W : VariableSet) (K : VariableDeclarationKind) (e : Environment) (k : ℕ) → lets_go W K k ≡ true → Permits W (alone (Declared k)) e → is_lexical K ≡ false → e.fixed (Declared k) ≡ Writable
+may_write W K e k h u f = u.writable (Declared k) (sym (ap (λ b. b || W (Declared k)) f) ∙ h)
+
 -- a lexical name is not written
 pub never_written : (K : VariableDeclarationKind) (e : Environment) (k : ℕ) → is_lexical K ≡ true → is_lexical K ≡ false → e.fixed (Declared k) ≡ Writable
 never_written K e k l f = absurd (true≢false (sym l ∙ f))
 
 -- the block means the same in each tail
-pub row_72 : (e : Environment) (k : ℕ) → Unseen (alone (Declared k)) e → (n w : Tree) (r : Row72 n w) → k ≡ r.symbol → (t : Option Tail) → Same e (alone (Declared k)) nothing (Stat t) n w
+pub row_72 : (e : Environment) (k : ℕ) → Unseen (alone (Declared k)) e → (n w : Tree) (r : Row72 nothing n w) → k ≡ r.symbol → (t : Option Tail) → Same e (alone (Declared k)) nothing (Stat t) n w
 row_72 e k z n w r h t =
     let x = resolved r.spelling r.symbol in
     let u : Unseen (alone (Declared r.symbol)) e = subst (λ j. Unseen (alone (Declared j)) e) h z in
     let D = alone (Declared r.symbol) in
-    let same = block_same e r.spelling r.symbol u r.before r.after (declared_one r.kind x r.init ▸ none) (expression_statement r.init ▸ none) (read_alone r.symbol (declared_one r.kind x r.init) (expression_statement r.init) (one_read r.kind r.spelling r.symbol r.init (expression_statement r.init) refl)) (all_avoided x r.symbol refl r.before r.unused.earlier) ((tt, (avoided x r.symbol refl r.init r.unused.initial, tt)), tt) (all_avoided x r.symbol refl r.after r.unused.later) (value_same e r.spelling r.symbol u r.kind (never_written r.kind e r.symbol r.lexical) r.init r.present) t in
+    let same = block_same e r.spelling r.symbol u r.before r.after (declared_one r.kind x r.init ▸ none) (expression_statement r.init ▸ none) (read_alone r.symbol (declared_one r.kind x r.init) (expression_statement r.init) (one_read r.kind r.spelling r.symbol r.init (expression_statement r.init) refl)) (all_avoided x r.symbol refl r.before r.unused.earlier) ((tt, (avoided x r.symbol refl r.init r.unused.initial, tt)), tt) (all_avoided x r.symbol refl r.after r.unused.later) (value_same e r.spelling r.symbol u r.kind (never_written r.kind e r.symbol (lexical_alone r.kind r.goes)) r.init r.present) t in
     subst (λ j. Same e (alone (Declared j)) nothing (Stat t) n w) (sym h) (subst₂ (Same e D nothing (Stat t)) (sym r.shape) (sym r.written) same)
 
-pub row_72_idle : (e : Environment) (k : ℕ) → Unseen (alone (Declared k)) e → (n w : Tree) (r : Row72Idle n w) → k ≡ r.symbol → (t : Option Tail) → Same e (alone (Declared k)) nothing (Stat t) n w
+pub row_72_idle : (e : Environment) (k : ℕ) → Unseen (alone (Declared k)) e → (n w : Tree) (r : Row72Idle nothing n w) → k ≡ r.symbol → (t : Option Tail) → Same e (alone (Declared k)) nothing (Stat t) n w
 row_72_idle e k z n w r h t =
     let x = resolved r.spelling r.symbol in
     let u : Unseen (alone (Declared r.symbol)) e = subst (λ j. Unseen (alone (Declared j)) e) h z in
     let D = alone (Declared r.symbol) in
     let beside = all_avoided x r.symbol refl r.last r.unused.declared_later in
-    let same = block_same e r.spelling r.symbol u r.before r.after (declared_among r.kind x r.first r.init r.last ▸ none) (declared_left r.kind (append r.first r.last) ▸ none) (read_alone r.symbol (declared_among r.kind x r.first r.init r.last) (declared_left r.kind (append r.first r.last)) (idle_read r.kind r.spelling r.symbol r.first r.last r.init)) (all_avoided x r.symbol refl r.before r.unused.earlier) (left_avoids D r.kind r.first r.last (all_avoided x r.symbol refl r.first r.unused.declared_earlier) beside, tt) (all_avoided x r.symbol refl r.after r.unused.later) (left_same e r.spelling r.symbol u r.kind (never_written r.kind e r.symbol r.lexical) r.first r.last r.init r.idle beside) t in
+    let same = block_same e r.spelling r.symbol u r.before r.after (declared_among r.kind x r.first r.init r.last ▸ none) (declared_left r.kind (append r.first r.last) ▸ none) (read_alone r.symbol (declared_among r.kind x r.first r.init r.last) (declared_left r.kind (append r.first r.last)) (idle_read r.kind r.spelling r.symbol r.first r.last r.init)) (all_avoided x r.symbol refl r.before r.unused.earlier) (left_avoids D r.kind r.first r.last (all_avoided x r.symbol refl r.first r.unused.declared_earlier) beside, tt) (all_avoided x r.symbol refl r.after r.unused.later) (left_same e r.spelling r.symbol u r.kind (never_written r.kind e r.symbol (lexical_alone r.kind r.goes)) r.first r.last r.init r.idle beside) t in
     subst (λ j. Same e (alone (Declared j)) nothing (Stat t) n w) (sym h) (subst₂ (Same e D nothing (Stat t)) (sym r.shape) (sym r.written) same)
 
 -- ---- a name that is read once
@@ -573,12 +582,12 @@ head_unnamed x head e init f =
     let t = statement x head e in
     ap (λ u. names x (put_first init u)) t.is ∙ ap (λ u. names x u || any_names x t.rest) (t.path.puts init) ∙ ap (λ b. b || any_names x t.rest) (unnamed x t.path.steps t.path.spared init f) ∙ t.free
 
-pub row_71 : (e : Environment) (k : ℕ) → Unseen (alone (Declared k)) e → (n w : Tree) (r : Row71 n w) → k ≡ r.symbol → (t : Option Tail) → Same e (alone (Declared k)) nothing (Stat t) n w
+pub row_71 : (e : Environment) (k : ℕ) → Unseen (alone (Declared k)) e → (n w : Tree) (r : Row71 nothing n w) → k ≡ r.symbol → (t : Option Tail) → Same e (alone (Declared k)) nothing (Stat t) n w
 row_71 e k z n w r h t =
     let x = resolved r.spelling r.symbol in
     let u : Unseen (alone (Declared r.symbol)) e = subst (λ j. Unseen (alone (Declared j)) e) h z in
     let D = alone (Declared r.symbol) in
     let (read, put) = head_read x r.head r.once r.init in
     let same = block_same e r.spelling r.symbol u r.before r.after (declared_among r.kind x r.first r.init none ▸ (r.head ▸ none)) (declared_left r.kind r.first ▸ (put_first r.init r.head ▸ none)) (single_read r.spelling r.symbol r.kind r.first r.init r.head (put_first r.init r.head) read put) (all_avoided x r.symbol refl r.before r.earlier)
-    (first_avoids D r.kind r.first (all_avoided x r.symbol refl r.first r.declared_earlier), (avoided x r.symbol refl (put_first r.init r.head) (head_unnamed x r.head r.once r.init r.initial), tt)) (all_avoided x r.symbol refl r.after r.later) (single_same e r.spelling r.symbol u r.first r.init r.head r.moves r.once r.kind (never_written r.kind e r.symbol r.lexical)) t in
+    (first_avoids D r.kind r.first (all_avoided x r.symbol refl r.first r.declared_earlier), (avoided x r.symbol refl (put_first r.init r.head) (head_unnamed x r.head r.once r.init r.initial), tt)) (all_avoided x r.symbol refl r.after r.later) (single_same e r.spelling r.symbol u r.first r.init r.head r.moves r.once r.kind (never_written r.kind e r.symbol (lexical_alone r.kind r.goes))) t in
     subst (λ j. Same e (alone (Declared j)) nothing (Stat t) n w) (sym h) (subst₂ (Same e D nothing (Stat t)) (sym r.shape) (sym r.written) same)

@@ -7,25 +7,24 @@ use Rattle.mini_model.specs.declared.kind.VariableDeclarationKind.{VariableDecla
 use Rattle.mini_model.specs.Tree.{Tree, Trees, node, none, ◌▸◌, listed, shape_of, children, child_or_absent, empty_statement, expression_statement}
 use Rattle.mini_model.specs.Paths.{append}
 use Rattle.mini_accept.specs.WellShaped.{in_body, nested, a_statement, Slot, one, each, fits, fill}
-use Rattle.mini_laws.specs.Value.{Declared, nothing}
+use Rattle.mini_laws.specs.Value.{Declared, VariableSet, nothing}
 use Rattle.mini_laws.specs.State.{Environment}
 use Rattle.mini_laws.specs.Demand.{Stat}
-use Rattle.mini_laws.specs.Naming.{is_lexical}
 use Rattle.mini_laws.specs.Same.{Same}
 use Rattle.mini_laws.specs.Substitution.{alone}
 use Rattle.mini_laws.specs.Congruence.{AllAvoid}
-use Rattle.mini_kept.specs.Without.{Unseen}
+use Rattle.mini_kept.specs.Without.{Permits}
 use Rattle.mini_node.specs.Kinds.{is_listed_shape}
 use Rattle.mini_rows.specs.Lists.{block, declares_nothing, declaration}
 use Rattle.mini_rows.specs.Declarations.{binding, declarator}
 use Rattle.mini_rows.specs.Sketches.{shape_by, AsWholeItem}
-use Rattle.mini_rows.specs.Unused.{resolved, names, any_names, declared_one, declared_among, declared_left, is_idle, may_move, reads_first, put_first, BlockRow}
+use Rattle.mini_rows.specs.Unused.{resolved, names, any_names, declared_one, declared_among, declared_left, is_idle, may_move, reads_first, put_first, lets_go, BlockRow}
 use Rattle.mini_rows.proofs.ListShapes.{declaration_anywhere, first_fits, more_fit}
 use Rattle.mini_rows.proofs.SingleUse.{Lead, Doing, Giving, Raising, Testing, head_of, Stands, statement}
 use Rattle.mini_rows.proofs.DeclaredKept.{value_leaves, value_declares, idle_leaves, idle_declares, single_leaves, single_declares}
 use Rattle.mini_rows.proofs.UnusedKept.{LeavesThere, DeclaresThere}
 use Rattle.mini_rows.proofs.UnusedLawful.{item, value_fits, left_fits, single_fits, idle_vanishes}
-use Rattle.mini_rows.proofs.UnusedMeaning.{ReadThere, read_alone, value_same, left_same, single_same, one_read, idle_read, left_avoids, single_read, head_read, head_unnamed, first_avoids, never_written, movable}
+use Rattle.mini_rows.proofs.UnusedMeaning.{ReadThere, read_alone, value_same, left_same, single_same, one_read, idle_read, left_avoids, single_read, head_read, head_unnamed, first_avoids, may_write, movable}
 use Rattle.mini_rows.proofs.UnusedNames.{or_parts, avoided, all_avoided}
 
 -- a statement of a function's body
@@ -34,23 +33,23 @@ body_item = one (a_statement in_body)
 
 -- ---- what is known of some statements that lose a name, and of those that are written for them
 
-pub record Loses (spelling : List ℕ) (symbol : ℕ) (d w : Trees) : Type 0 where
+pub record Loses (W : VariableSet) (spelling : List ℕ) (symbol : ℕ) (d w : Trees) : Type 0 where
   pub leaves : LeavesThere (resolved spelling symbol) d w
   pub declares : DeclaresThere (resolved spelling symbol) d w
   pub read : ReadThere symbol d w
-  pub same : (e : Environment) → Unseen (alone (Declared symbol)) e → Same e (alone (Declared symbol)) nothing (Stat None) (listed d) (listed w)
+  pub same : (e : Environment) → Permits W (alone (Declared symbol)) e → Same e (alone (Declared symbol)) nothing (Stat None) (listed d) (listed w)
   pub avoids : AllAvoid (alone (Declared symbol)) w
   pub fits : (strict : Bool) → fill strict (each body_item) d ≡ true → fill strict (each body_item) w ≡ true
 
 -- of a list, behind what its first child mentions
-pub record Stretch (p : Tree) (earlier_list later_list : Trees) : Type 0 where
+pub record Stretch (W : VariableSet) (p : Tree) (earlier_list later_list : Trees) : Type 0 where
   pub spelling : List ℕ
   pub symbol : ℕ
   pub before : Trees
   pub after : Trees
   pub d : Trees
   pub w : Trees
-  pub loses : Loses spelling symbol d w
+  pub loses : Loses W spelling symbol d w
   pub outside : names (resolved spelling symbol) p ≡ false
   pub earlier : any_names (resolved spelling symbol) before ≡ false
   pub later : any_names (resolved spelling symbol) after ≡ false
@@ -75,9 +74,9 @@ split : (p : Tree) (ts before : Trees) (d : Tree) (rest : Trees) → is_listed_s
 split p ts none d rest e f g = absurd (true≢false (sym e ∙ ap (λ us. is_listed_shape (shape_of (child_or_absent us 0))) g ∙ f))
 split p ts (b ▸ left) d rest e f g = record { left = left; front = ap (λ t. t ▸ left) (sym (ap (λ us. child_or_absent us 0) g)); is = ap behind g }
 
-module _ (p : Tree) (earlier_list later_list : Trees) (listed_there : is_listed_shape (shape_of p) ≡ true) where
-  stretch : (s : List ℕ) (k : ℕ) (before after : Trees) (d : Tree) (ds w : Trees) → is_listed_shape (shape_of d) ≡ false → Loses s k (d ▸ ds) w → any_names (resolved s k) before ≡ false → any_names (resolved s k) after ≡ false
-      → p ▸ earlier_list ≡ append before (d ▸ append ds after) → p ▸ later_list ≡ append before (append w after) → Stretch p earlier_list later_list
+module _ (W : VariableSet) (p : Tree) (earlier_list later_list : Trees) (listed_there : is_listed_shape (shape_of p) ≡ true) where
+  stretch : (s : List ℕ) (k : ℕ) (before after : Trees) (d : Tree) (ds w : Trees) → is_listed_shape (shape_of d) ≡ false → Loses W s k (d ▸ ds) w → any_names (resolved s k) before ≡ false → any_names (resolved s k) after ≡ false
+      → p ▸ earlier_list ≡ append before (d ▸ append ds after) → p ▸ later_list ≡ append before (append w after) → Stretch W p earlier_list later_list
   stretch s k before after d ds w f l earlier later a b =
       let t = split p earlier_list before d (append ds after) listed_there f a in
       let (outside, left) = or_parts (names (resolved s k) p) (any_names (resolved s k) t.left) (sym (ap (any_names (resolved s k)) t.front) ∙ earlier) in
@@ -129,11 +128,11 @@ one_fits strict d w f a b h = let (one_there, rest) = first_fits strict body_ite
 
 -- ---- the rows
 
-module _ (K : VariableDeclarationKind) (lexical : is_lexical K ≡ true) (s : List ℕ) (k : ℕ) where
+module _ (W : VariableSet) (K : VariableDeclarationKind) (s : List ℕ) (k : ℕ) (goes : lets_go W K k ≡ true) where
   abbrev x : Name
   x = resolved s k
 
-  of_72 : (init : Tree) → declares_nothing init ≡ true → names x init ≡ false → Loses s k (declared_one K x init ▸ none) (expression_statement init ▸ none)
+  of_72 : (init : Tree) → declares_nothing init ≡ true → names x init ≡ false → Loses W s k (declared_one K x init ▸ none) (expression_statement init ▸ none)
   of_72 init present initial =
       let d = declared_one K x init in
       let w = expression_statement init in
@@ -141,12 +140,12 @@ module _ (K : VariableDeclarationKind) (lexical : is_lexical K ≡ true) (s : Li
         leaves = value_leaves K x k refl init initial;
         declares = value_declares K x k refl init initial;
         read = read_alone k d w (one_read K s k init w refl);
-        same = λ e u. value_same e s k u K (never_written K e k lexical) init present;
+        same = λ e u. value_same e s k u.unseen K (may_write W K e k goes u) init present;
         avoids = ((tt, (avoided x k refl init initial, tt)), tt);
         fits = λ strict. one_fits strict d w (value_fits strict K x init present) (declaration_in_body strict K (declarator (binding x) init ▸ none)) (expression_in_body strict init);
       }
 
-  of_72_idle : (first : Trees) (init : Tree) (last : Trees) → is_idle init ≡ true → any_names x first ≡ false → any_names x last ≡ false → Loses s k (declared_among K x first init last ▸ none) (declared_left K (append first last) ▸ none)
+  of_72_idle : (first : Trees) (init : Tree) (last : Trees) → is_idle init ≡ true → any_names x first ≡ false → any_names x last ≡ false → Loses W s k (declared_among K x first init last ▸ none) (declared_left K (append first last) ▸ none)
   of_72_idle first init last idle earlier later =
       let d = declared_among K x first init last in
       let w = declared_left K (append first last) in
@@ -155,12 +154,12 @@ module _ (K : VariableDeclarationKind) (lexical : is_lexical K ≡ true) (s : Li
         leaves = idle_leaves K x k refl first init last (idle_vanishes init idle) earlier later;
         declares = idle_declares K x k refl first init last (idle_vanishes init idle) earlier later;
         read = read_alone k d w (idle_read K s k first last init);
-        same = λ e u. left_same e s k u K (never_written K e k lexical) first last init idle beside;
+        same = λ e u. left_same e s k u.unseen K (may_write W K e k goes u) first last init idle beside;
         avoids = (left_avoids (alone (Declared k)) K first last (all_avoided x k refl first earlier) beside, tt);
         fits = λ strict. one_fits strict d w (left_fits strict K x first init last) (declaration_in_body strict K (append first (declarator (binding x) init ▸ last))) (left_in_body strict K (append first last));
       }
 
-  of_71 : (first : Trees) (init head : Tree) → may_move init ≡ true → reads_first x head ≡ true → names x init ≡ false → any_names x first ≡ false → Loses s k (declared_among K x first init none ▸ (head ▸ none)) (declared_left K first ▸ (put_first init head ▸ none))
+  of_71 : (first : Trees) (init head : Tree) → may_move init ≡ true → reads_first x head ≡ true → names x init ≡ false → any_names x first ≡ false → Loses W s k (declared_among K x first init none ▸ (head ▸ none)) (declared_left K first ▸ (put_first init head ▸ none))
   of_71 first init head moves once initial earlier =
       let d = declared_among K x first init none in
       let left = declared_left K first in
@@ -173,7 +172,7 @@ module _ (K : VariableDeclarationKind) (lexical : is_lexical K ≡ true) (s : Li
         leaves = single_leaves K x k refl first init head (movable init moves) once initial earlier;
         declares = single_declares K x k refl first init head (movable init moves) once initial earlier;
         read = single_read s k K first init head put read read_put;
-        same = λ e u. single_same e s k u first init head moves once K (never_written K e k lexical);
+        same = λ e u. single_same e s k u.unseen first init head moves once K (may_write W K e k goes u);
         avoids = (first_avoids (alone (Declared k)) K first (all_avoided x k refl first earlier), (avoided x k refl put (head_unnamed x head once init initial), tt));
         fits = λ strict h.
             let (f, g) = first_fits strict body_item d (head ▸ none) h in
@@ -182,15 +181,15 @@ module _ (K : VariableDeclarationKind) (lexical : is_lexical K ≡ true) (s : Li
             more_fit strict body_item left (put ▸ none) (left_in_body strict K first ∙ v) (more_fit strict body_item put none (put_in_body strict ∙ w) rest);
       }
 
-pub row_stretch : (p : Tree) (earlier_list later_list : Trees) → is_listed_shape (shape_of p) ≡ true → BlockRow (block (p ▸ earlier_list)) (block (p ▸ later_list)) → Stretch p earlier_list later_list
-row_stretch p a b e (inl r) =
+pub row_stretch : (W : VariableSet) (p : Tree) (earlier_list later_list : Trees) → is_listed_shape (shape_of p) ≡ true → BlockRow W (block (p ▸ earlier_list)) (block (p ▸ later_list)) → Stretch W p earlier_list later_list
+row_stretch W p a b e (inl r) =
     let x = resolved r.spelling r.symbol in
-    stretch p a b e r.spelling r.symbol r.before r.after (declared_one r.kind x r.init) none (expression_statement r.init ▸ none) refl (of_72 r.kind r.lexical r.spelling r.symbol r.init r.present r.unused.initial) r.unused.earlier r.unused.later (ap list_of r.shape) (ap list_of r.written)
-row_stretch p a b e (inr (inl r)) =
+    stretch W p a b e r.spelling r.symbol r.before r.after (declared_one r.kind x r.init) none (expression_statement r.init ▸ none) refl (of_72 W r.kind r.spelling r.symbol r.goes r.init r.present r.unused.initial) r.unused.earlier r.unused.later (ap list_of r.shape) (ap list_of r.written)
+row_stretch W p a b e (inr (inl r)) =
     let x = resolved r.spelling r.symbol in
-    stretch p a b e r.spelling r.symbol r.before r.after (declared_among r.kind x r.first r.init r.last) none (declared_left r.kind (append r.first r.last) ▸ none) refl (of_72_idle r.kind r.lexical r.spelling r.symbol r.first r.init r.last r.idle r.unused.declared_earlier r.unused.declared_later) r.unused.earlier r.unused.later (ap list_of r.shape)
+    stretch W p a b e r.spelling r.symbol r.before r.after (declared_among r.kind x r.first r.init r.last) none (declared_left r.kind (append r.first r.last) ▸ none) refl (of_72_idle W r.kind r.spelling r.symbol r.goes r.first r.init r.last r.idle r.unused.declared_earlier r.unused.declared_later) r.unused.earlier r.unused.later (ap list_of r.shape)
     (ap list_of r.written)
-row_stretch p a b e (inr (inr r)) =
+row_stretch W p a b e (inr (inr r)) =
     let x = resolved r.spelling r.symbol in
-    stretch p a b e r.spelling r.symbol r.before r.after (declared_among r.kind x r.first r.init none) (r.head ▸ none) (declared_left r.kind r.first ▸ (put_first r.init r.head ▸ none)) refl (of_71 r.kind r.lexical r.spelling r.symbol r.first r.init r.head r.moves r.once r.initial r.declared_earlier) r.earlier r.later (ap list_of r.shape)
+    stretch W p a b e r.spelling r.symbol r.before r.after (declared_among r.kind x r.first r.init none) (r.head ▸ none) (declared_left r.kind r.first ▸ (put_first r.init r.head ▸ none)) refl (of_71 W r.kind r.spelling r.symbol r.goes r.first r.init r.head r.moves r.once r.initial r.declared_earlier) r.earlier r.later (ap list_of r.shape)
     (ap list_of r.written)

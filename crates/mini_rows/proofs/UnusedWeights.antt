@@ -14,11 +14,11 @@ use Rattle.mini_model.specs.Tree.{Tree, Trees, none, ◌▸◌, listed, shape_of
 use Rattle.mini_model.specs.Paths.{append}
 use Rattle.mini_model.specs.Position.{argument_seat, statement_expression_seat}
 use Rattle.mini_model.specs.Weight.{commas_weight, outline, outlines, one_chooses, braces_weight, weight}
-use Rattle.mini_laws.specs.Weights.{Lightens}
+use Rattle.mini_laws.specs.Value.{VariableSet}
 use Rattle.mini_laws.proofs.Seats.{moved}
 use Rattle.mini_rows.specs.Declarations.{binding, declarator}
 use Rattle.mini_rows.specs.Lists.{block, declaration}
-use Rattle.mini_rows.specs.Unused.{resolved, declared_among, declared_one, declared_left, is_definition, BlockRow, ArrowBodyRow, FunctionBodyRow, UnusedRow, UnusedContracts, UnusedLighter}
+use Rattle.mini_rows.specs.Unused.{resolved, declared_among, declared_one, declared_left, is_definition, BlockRow, ArrowBodyRow, FunctionBodyRow, UnusedRow, UnusedLighten, UnusedLighter}
 use Rattle.mini_terms.specs.Reading.{is_plain_part}
 use Rattle.mini_rows.proofs.SingleWeights.{single_falls}
 use Rattle.mini_rows.proofs.ListWeights.{total, list_is, body_is, in_list, comma_list, declarators_append}
@@ -69,7 +69,7 @@ block_falls q before after d w h less =
     let braces = ap (braces_weight q) (same_choice before after d w h) in
     omega (arith, falls, braces)
 
-block_lighter : (q : StmtSeat) (n w : Tree) → BlockRow n w → weight (Stmt q) w < weight (Stmt q) n
+block_lighter : {W : VariableSet} (q : StmtSeat) (n w : Tree) → BlockRow W n w → weight (Stmt q) w < weight (Stmt q) n
 block_lighter q n w (inl r) =
     let falls = block_falls q r.before r.after (declared_one r.kind (resolved r.spelling r.symbol) r.init) (expression_statement r.init) refl (value_falls r.kind r.spelling r.symbol r.init) in
     omega (arith, falls, ap (weight (Stmt q)) r.shape, ap (weight (Stmt q)) r.written)
@@ -82,7 +82,7 @@ block_lighter q n w (inr (inr r)) =
     omega (arith, falls, ap (weight (Stmt q)) r.shape, ap (weight (Stmt q)) r.written)
 
 -- a function's body by the block that what stands before it and its statements would be
-arrow_lighter : (s : Seat) (n w : Tree) → ArrowBodyRow n w → weight (Expr s) w < weight (Expr s) n
+arrow_lighter : {W : VariableSet} (s : Seat) (n w : Tree) → ArrowBodyRow W n w → weight (Expr s) w < weight (Expr s) n
 arrow_lighter s n w r =
     let less = block_lighter stmt_seat.List (block (listed r.parameters ▸ r.before)) (block (listed r.parameters ▸ r.after)) r.row in
     omega (
@@ -96,42 +96,42 @@ arrow_lighter s n w r =
       ap (weight (Expr s)) r.written,
     )
 
-function_lighter : (p : Position) (n w : Tree) → FunctionBodyRow n w → weight p w < weight p n
+function_lighter : {W : VariableSet} (p : Position) (n w : Tree) → FunctionBodyRow W n w → weight p w < weight p n
 function_lighter p n w r =
     let front = listed (r.name ▸ r.parameters) in
     let less = block_lighter stmt_seat.List (block (front ▸ r.before)) (block (front ▸ r.after)) r.row in
     omega (arith, less, list_is (front ▸ r.before), list_is (front ▸ r.after), body_is r.before, body_is r.after, ap (weight p) r.shape, ap (weight p) r.written)
 
 pub unused_lighter : UnusedLighter
-unused_lighter (Stmt q) n w (inl r) = block_lighter q n w r
-unused_lighter (Stmt q) n w (inr r) = function_lighter (Stmt q) n w r
-unused_lighter (Expr s) n w (inl r) = arrow_lighter s n w r
-unused_lighter (Expr s) n w (inr r) = function_lighter (Expr s) n w r
-unused_lighter Method n w r = function_lighter Method n w r
-unused_lighter Elsewhere n w r = function_lighter Elsewhere n w r
-unused_lighter p n w r = absurd r
+unused_lighter W (Stmt q) n w (inl r) = block_lighter q n w r
+unused_lighter W (Stmt q) n w (inr r) = function_lighter (Stmt q) n w r
+unused_lighter W (Expr s) n w (inl r) = arrow_lighter s n w r
+unused_lighter W (Expr s) n w (inr r) = function_lighter (Expr s) n w r
+unused_lighter W Method n w r = function_lighter Method n w r
+unused_lighter W Elsewhere n w r = function_lighter Elsewhere n w r
+unused_lighter W p n w r = absurd r
 
 -- ---- what a parent reads of them
 
-function_outline : (n w : Tree) → FunctionBodyRow n w → outline n ≡ outline w
+function_outline : {W : VariableSet} (n w : Tree) → FunctionBodyRow W n w → outline n ≡ outline w
 function_outline n w r = ap outline r.shape ∙ sym (ap outline r.written)
 
-same_outline : (p : Position) (n w : Tree) → UnusedRow p n w → outline n ≡ outline w
-same_outline (Stmt q) n w (inl (inl r)) = ap outline r.shape ∙ sym (ap outline r.written)
-same_outline (Stmt q) n w (inl (inr (inl r))) = ap outline r.shape ∙ sym (ap outline r.written)
-same_outline (Stmt q) n w (inl (inr (inr r))) = ap outline r.shape ∙ sym (ap outline r.written)
-same_outline (Stmt q) n w (inr r) = function_outline n w r
-same_outline (Expr s) n w (inl r) = ap outline r.shape ∙ sym (ap outline r.written)
-same_outline (Expr s) n w (inr r) = function_outline n w r
-same_outline Method n w r = function_outline n w r
-same_outline Elsewhere n w r = function_outline n w r
-same_outline p n w r = absurd r
+same_outline : (W : VariableSet) (p : Position) (n w : Tree) → UnusedRow W p n w → outline n ≡ outline w
+same_outline W (Stmt q) n w (inl (inl r)) = ap outline r.shape ∙ sym (ap outline r.written)
+same_outline W (Stmt q) n w (inl (inr (inl r))) = ap outline r.shape ∙ sym (ap outline r.written)
+same_outline W (Stmt q) n w (inl (inr (inr r))) = ap outline r.shape ∙ sym (ap outline r.written)
+same_outline W (Stmt q) n w (inr r) = function_outline n w r
+same_outline W (Expr s) n w (inl r) = ap outline r.shape ∙ sym (ap outline r.written)
+same_outline W (Expr s) n w (inr r) = function_outline n w r
+same_outline W Method n w r = function_outline n w r
+same_outline W Elsewhere n w r = function_outline n w r
+same_outline W p n w r = absurd r
 
-pub unused_lighten : Lightens UnusedContracts
-unused_lighten = record {
+pub unused_lighten : UnusedLighten
+unused_lighten W = record {
   lighter = λ p n w c. c.lighter;
-  absent = λ p n w c e. ap (λ o. o.absent) (same_outline p n w c.row);
-  items = λ p n w c e. ap (λ o. o.items) (same_outline p n w c.row);
-  is_zero = λ p n w c e. inl (ap (λ o. o.is_zero) (same_outline p n w c.row));
-  chooses = λ p n w c e. inl (λ h. sym (ap (λ o. o.chooses) (same_outline p n w c.row)) ∙ h);
+  absent = λ p n w c e. ap (λ o. o.absent) (same_outline W p n w c.row);
+  items = λ p n w c e. ap (λ o. o.items) (same_outline W p n w c.row);
+  is_zero = λ p n w c e. inl (ap (λ o. o.is_zero) (same_outline W p n w c.row));
+  chooses = λ p n w c e. inl (λ h. sym (ap (λ o. o.chooses) (same_outline W p n w c.row)) ∙ h);
 }

@@ -46,7 +46,7 @@ pub record Contracts (o : Switches) (p : Position) (n w : Tree) : Type 0 where
 
 -- or what one of a name that nothing mentions writes, which goes, or one of a name that can be written. W has those variables
 abbrev pub Rewrites : Switches → VariableSet → Position → Tree → Tree → Type 0
-Rewrites o W p n w = Contracts o p n w ⊎ (UnusedContracts p n w ⊎ (NameContracts o p n w ⊎ (CatchContracts p n w ⊎ WriteContracts W p n w)))
+Rewrites o W p n w = Contracts o p n w ⊎ (UnusedContracts W p n w ⊎ (NameContracts o p n w ⊎ (CatchContracts p n w ⊎ WriteContracts W p n w)))
 
 -- a redex in its place
 pub record Redex (o : Switches) (W : VariableSet) (p : Position) (n : Tree) : Type 0 where

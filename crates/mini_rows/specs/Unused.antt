@@ -1,4 +1,5 @@
--- Rows of names that nothing mentions: each is a shape and what is written in its place, with the JavaScript before and after.
+-- Rows of names that nothing mentions: each is a shape and what is written in its place, with the JavaScript before and after. W has
+-- the variables that the program mentions and that can be written in it.
 use Rattle.std.specs.Prelude.{◌≡◌, ◌<◌, ◌⊎◌, ◌||◌, ◌&&◌, not, ℕ, Bool, true, false, List, [], ◌∷◌}
 use Rattle.mini_model.specs.declared.kind.VariableDeclarationKind.{VariableDeclarationKind}
 use Rattle.mini_model.specs.declared.name.Name.{Name}
@@ -13,7 +14,9 @@ use Rattle.mini_model.specs.Weight.{same_text, weight}
 use Rattle.mini_laws.specs.Naming.{is_lexical}
 use Rattle.mini_laws.specs.ScopeList.{has_eval}
 use Rattle.mini_laws.specs.Symbols.{is_same}
-use Rattle.mini_kept.specs.Loosely.{LawfulLoosely}
+use Rattle.mini_laws.specs.Value.{Declared, VariableSet, nothing}
+use Rattle.mini_laws.specs.Weights.{Lightens}
+use Rattle.mini_kept.specs.Loosely.{LawfulWith}
 use Rattle.mini_node.specs.Children.{names_of, is_nameless}
 use Rattle.mini_node.specs.Kinds.{is_absent_part, is_listed_shape, is_sequence_shape, is_identifier}
 use Rattle.mini_terms.specs.Folds.{is_effect_free}
@@ -55,15 +58,20 @@ pub record Alone (k : VariableDeclarationKind) (x : Name) (before first : Trees)
   pub later : any_names x after ≡ false
   pub unseen : has_eval (block (append before (declared_among k x first init last ▸ after))) ≡ false
 
+-- the declaration of a `let` or a `const` initialises it; that of a `var` writes it, which writes where it can be written
+-- (ECMA-262, "PutValue")
+abbrev pub lets_go : VariableSet → VariableDeclarationKind → ℕ → Bool
+lets_go W kind k = is_lexical kind || W (Declared k)
+
 -- 72: `{ let x = a(); b(); }` becomes `{ a(); b(); }`
-pub record Row72 (n w : Tree) : Type 0 where
+pub record Row72 (W : VariableSet) (n w : Tree) : Type 0 where
   pub before : Trees
   pub kind : VariableDeclarationKind
   pub spelling : List ℕ
   pub symbol : ℕ
   pub init : Tree
   pub after : Trees
-  pub lexical : is_lexical kind ≡ true
+  pub goes : lets_go W kind symbol ≡ true
   -- an expression stands there
   pub present : declares_nothing init ≡ true
   pub unused : Alone kind (resolved spelling symbol) before none init none after
@@ -80,7 +88,7 @@ declared_left k none = empty_statement
 declared_left k (d ▸ ds) = declaration k (d ▸ ds)
 
 -- `{ let x, y = b(); c(y); }` becomes `{ let y = b(); c(y); }`, and `{ let x; b(); }` and `{ const x = 1; b(); }` become `{ ; b(); }`
-pub record Row72Idle (n w : Tree) : Type 0 where
+pub record Row72Idle (W : VariableSet) (n w : Tree) : Type 0 where
   pub before : Trees
   pub kind : VariableDeclarationKind
   pub first : Trees
@@ -89,7 +97,7 @@ pub record Row72Idle (n w : Tree) : Type 0 where
   pub init : Tree
   pub last : Trees
   pub after : Trees
-  pub lexical : is_lexical kind ≡ true
+  pub goes : lets_go W kind symbol ≡ true
   pub idle : is_idle init ≡ true
   pub unused : Alone kind (resolved spelling symbol) before first init last after
   pub shape : n ≡ block (append before (declared_among kind (resolved spelling symbol) first init last ▸ after))
@@ -160,7 +168,7 @@ abbrev pub may_move : Tree → Bool
 may_move t = is_plain_part t && not (is_definition (shape_of t))
 
 -- 71: `{ let a, x = b(); return x + c; }` becomes `{ let a; return b() + c; }`, and `{ const x = b(); return x; }` `{ ; return b(); }`
-pub record Row71 (n w : Tree) : Type 0 where
+pub record Row71 (W : VariableSet) (n w : Tree) : Type 0 where
   pub before : Trees
   pub kind : VariableDeclarationKind
   pub first : Trees
@@ -169,7 +177,7 @@ pub record Row71 (n w : Tree) : Type 0 where
   pub init : Tree
   pub head : Tree
   pub after : Trees
-  pub lexical : is_lexical kind ≡ true
+  pub goes : lets_go W kind symbol ≡ true
   pub moves : may_move init ≡ true
   pub once : reads_first (resolved spelling symbol) head ≡ true
   pub earlier : any_names (resolved spelling symbol) before ≡ false
@@ -181,8 +189,8 @@ pub record Row71 (n w : Tree) : Type 0 where
   pub written : w ≡ block (append before (declared_left kind first ▸ (put_first init head ▸ after)))
 
 -- one of them reads a block
-abbrev pub BlockRow : Tree → Tree → Type 0
-BlockRow n w = Row72 n w ⊎ (Row72Idle n w ⊎ Row71 n w)
+abbrev pub BlockRow : VariableSet → Tree → Tree → Type 0
+BlockRow W n w = Row72 W n w ⊎ (Row72Idle W n w ⊎ Row71 W n w)
 
 -- ---- in the body of an arrow function
 
@@ -196,13 +204,13 @@ arrow_with directives n parameters ts = node (shape.ArrowFunctionExpression dire
 
 -- 71 and 72 in its body: `(a) => { let x = b(); return x + a; }` becomes `(a) => { ; return b() + a; }`. Its parameters are read like
 -- what stands before the declaration in a block
-pub record ArrowBodyRow (n w : Tree) : Type 0 where
+pub record ArrowBodyRow (W : VariableSet) (n w : Tree) : Type 0 where
   pub directives : List (List ℕ)
   pub number : ℕ
   pub parameters : Trees
   pub before : Trees
   pub after : Trees
-  pub row : BlockRow (block (listed parameters ▸ before)) (block (listed parameters ▸ after))
+  pub row : BlockRow W (block (listed parameters ▸ before)) (block (listed parameters ▸ after))
   pub shape : n ≡ arrow_with directives number parameters before
   pub written : w ≡ arrow_with directives number parameters after
 
@@ -214,7 +222,7 @@ function_with is_declared is_generator directives n name parameters ts = node (s
 
 -- 71 and 72 in its body: `function f(a) { let x = b(); return x + a; }` becomes `function f(a) { ; return b() + a; }`. Its name and its
 -- parameters are read like what stands before the declaration in a block
-pub record FunctionBodyRow (n w : Tree) : Type 0 where
+pub record FunctionBodyRow (W : VariableSet) (n w : Tree) : Type 0 where
   pub is_declared : Bool
   pub is_generator : Bool
   pub directives : List (List ℕ)
@@ -223,27 +231,31 @@ pub record FunctionBodyRow (n w : Tree) : Type 0 where
   pub parameters : Trees
   pub before : Trees
   pub after : Trees
-  pub row : BlockRow (block (listed (name ▸ parameters) ▸ before)) (block (listed (name ▸ parameters) ▸ after))
+  pub row : BlockRow W (block (listed (name ▸ parameters) ▸ before)) (block (listed (name ▸ parameters) ▸ after))
   pub shape : n ≡ function_with is_declared is_generator directives number name parameters before
   pub written : w ≡ function_with is_declared is_generator directives number name parameters after
 
--- a row reads n as w at this place: a function may be a statement, an expression, the value of a method, or exported
-abbrev pub UnusedRow : Position → Tree → Tree → Type 0
-UnusedRow (Stmt q) n w = BlockRow n w ⊎ FunctionBodyRow n w
-UnusedRow (Expr s) n w = ArrowBodyRow n w ⊎ FunctionBodyRow n w
-UnusedRow Method n w = FunctionBodyRow n w
-UnusedRow Elsewhere n w = FunctionBodyRow n w
-UnusedRow _ n w = ⊥
+-- a row reads n as w at this place: a function may be a statement, an expression, the value of a method, or exported. A block that is
+-- no body keeps each `var`: its name is seen around it
+abbrev pub UnusedRow : VariableSet → Position → Tree → Tree → Type 0
+UnusedRow W (Stmt q) n w = BlockRow nothing n w ⊎ FunctionBodyRow W n w
+UnusedRow W (Expr s) n w = ArrowBodyRow W n w ⊎ FunctionBodyRow W n w
+UnusedRow W Method n w = FunctionBodyRow W n w
+UnusedRow W Elsewhere n w = FunctionBodyRow W n w
+UnusedRow W _ n w = ⊥
 
 -- what it writes, where it weighs less
-pub record UnusedContracts (p : Position) (n w : Tree) : Type 0 where
-  pub row : UnusedRow p n w
+pub record UnusedContracts (W : VariableSet) (p : Position) (n w : Tree) : Type 0 where
+  pub row : UnusedRow W p n w
   pub lighter : weight p w < weight p n
 
 -- which is everywhere
 abbrev pub UnusedLighter : Type 0
-UnusedLighter = (p : Position) (n w : Tree) → UnusedRow p n w → weight p w < weight p n
+UnusedLighter = (W : VariableSet) (p : Position) (n w : Tree) → UnusedRow W p n w → weight p w < weight p n
 
--- it drops a name that nothing mentions, whichever functions and classes may lose their own
+abbrev pub UnusedLighten : Type 0
+UnusedLighten = (W : VariableSet) → Lightens (UnusedContracts W)
+
+-- it drops a name that nothing mentions, where those variables can be written, whichever functions and classes may lose their own
 abbrev pub UnusedAreLawful : Type 0
-UnusedAreLawful = (K : Shape → Bool) → LawfulLoosely K UnusedContracts
+UnusedAreLawful = (K : Shape → Bool) (W : VariableSet) → LawfulWith K W (UnusedContracts W)

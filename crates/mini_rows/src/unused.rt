@@ -1,10 +1,9 @@
 //! The rows of names that nothing mentions.
 
-ghost use Rattle.mini_laws.specs.Weights.{Lightens};
-ghost use Rattle.mini_rows.specs.Unused.{UnusedAreLawful, UnusedContracts, UnusedLighter};
+ghost use Rattle.mini_rows.specs.Unused.{UnusedAreLawful, UnusedLighten, UnusedLighter};
 
 /// What each row writes keeps all that a program has to keep, but a name that nothing mentions: it means the same where nobody
-/// else sees that variable.
+/// else sees that variable, and those can be written for which it acts.
 pub fn unused_are_lawful()
     ensures { UnusedAreLawful }
 {}
@@ -13,5 +12,5 @@ pub fn unused_are_lawful()
 /// whole lighter.
 pub fn unused_lighten()
     ensures lighter { UnusedLighter }
-    ensures anywhere { Lightens UnusedContracts }
+    ensures anywhere { UnusedLighten }
 {}

@@ -11,14 +11,20 @@ use Rattle.mini_model.specs.declared.seat.StmtSeat.{StmtSeat}
 use Rattle.mini_model.specs.declared.shape.Shape.TheVariants as shape
 use Rattle.mini_model.specs.Tree.{Tree, Trees, node, none, ◌▸◌, absent, listed, shape_of, children, count, child_or_absent}
 use Rattle.mini_laws.specs.ScopeList.{has_eval, any_has_eval}
+use Rattle.mini_laws.specs.Value.{Variable, VariableSet, Declared, Global, nothing}
 use Rattle.mini_node.specs.Children.{names_of, number_of, part, with_part, first_children, rest_children}
 use Rattle.mini_node.specs.Kinds.{is_block, is_listed}
 use Rattle.mini_node.specs.Made.{block_is, listed_is}
 use Rattle.mini_rows.specs.Lists.{block}
 use Rattle.mini_rows.specs.Unused.{names, any_names, may_move, statements, arrow_with, ArrowBodyRow, function_with, FunctionBodyRow, BlockRow, UnusedRow, UnusedContracts}
 use Rattle.mini_rows.proofs.UnusedWeights.{unused_lighter}
+use Rattle.mini_tree.specs.declared.options.CompressOptions.{CompressOptions}
+use Rattle.mini_tree.specs.Rule as rule
 use Rattle.mini_tree.proofs.Reaching.{moves_once}
-use Rattle.mini_unused.specs.RemoveUnusedDeclaration.{declares_name, is_lexical, may_go, is_alone, list_at, is_unused, UnusedAt, is_arrow_shape, are_statements, are_no_names, has_statements, is_function_shape, is_function, Applied, AppliedInFunction}
+use Rattle.mini_context.specs.declared.context.TraverseCtx.{TraverseCtx}
+use Rattle.mini_context.specs.Known.{Knows}
+use Rattle.mini_context.specs.Writable.{writable_in}
+use Rattle.mini_unused.specs.RemoveUnusedDeclaration.{declares_name, declares_list, is_free_at, may_lose, may_go, open_in, is_alone, list_at, is_unused, UnusedAt, is_arrow_shape, are_statements, are_no_names, has_statements, is_function_shape, is_function, marked, Applied, AppliedInFunction, Gives, Rests}
 use Rattle.mini_unused.specs.SubstituteSingleUse.{last_place, is_declared_over, reads_next, is_read_once, is_single, SingleAt, NameGone, ReadGone, Removed}
 use Rattle.mini_unused.proofs.Unused.{no_outside, part_twice, row_at, no_row, no_block, all_used, seen_by_eval}
 use Rattle.mini_unused.proofs.SingleUses.{row_there, none_single}
@@ -39,44 +45,44 @@ block_seen ts = or_none (any_has_eval ts)
 abbrev held : Tree → Tree
 held m = node shape.BlockStatement [] 0 (m ▸ none)
 
-removed_row : (ts : Trees) (m : Tree) → Removed no_outside (listed ts) m true → BlockRow (block ts) (held m)
-removed_row ts m r = by r.1
+removed_row : (W : VariableSet) (ts : Trees) (m : Tree) → Removed W no_outside (listed ts) m true → BlockRow W (block ts) (held m)
+removed_row W ts m r = by r.1
   where
-    by : NameGone no_outside (listed ts) m ⊎ ReadGone no_outside (listed ts) m → BlockRow (block ts) (held m)
-    by (inl g) = row_at (block ts) g.at g.which refl g.unused.0 g.unused.1.1 g.unused.1.2 (block_seen ts ∙ r.0) (held m) (ap held g.left)
-    by (inr g) = inr (inr (row_there (block ts) g.at refl g.next g.declares g.single (block_seen ts ∙ r.0) (held m) (ap held g.left)))
+    by : NameGone W no_outside (listed ts) m ⊎ ReadGone W no_outside (listed ts) m → BlockRow W (block ts) (held m)
+    by (inl g) = row_at (block ts) g.at g.which refl g.unused.0 g.unused.1.1 W g.unused.1.2 (block_seen ts ∙ r.0) (held m) (ap held g.left)
+    by (inr g) = inr (inr (row_there (block ts) g.at refl g.next g.declares W g.single (block_seen ts ∙ r.0) (held m) (ap held g.left)))
 
-rests : (ts : Trees) (m : Tree) → Removed no_outside (listed ts) m false → (w : Tree) → BlockRow (block ts) w → ⊥
-rests ts m r = by r.1
+rests : (W : VariableSet) (ts : Trees) (m : Tree) → Removed W no_outside (listed ts) m false → (w : Tree) → BlockRow W (block ts) w → ⊥
+rests W ts m r = by r.1
   where
-    by : ((has_eval no_outside || has_eval (listed ts)) ≡ true) ⊎ (UnusedAt no_outside ts None × SingleAt no_outside ts None) → (w : Tree) → BlockRow (block ts) w → ⊥
-    by (inl e) = seen_by_eval (block ts) (block_seen ts ∙ e)
-    by (inr u) = no_row (block ts) (all_used (block ts) u.0) (none_single (block ts) u.1)
+    by : ((has_eval no_outside || has_eval (listed ts)) ≡ true) ⊎ (UnusedAt W no_outside ts None × SingleAt W no_outside ts None) → (w : Tree) → BlockRow W (block ts) w → ⊥
+    by (inl e) = seen_by_eval W (block ts) (block_seen ts ∙ e)
+    by (inr u) = no_row W (block ts) (all_used W (block ts) u.0) (none_single W (block ts) u.1)
 
-applied_by : (p : Position) (t u : Tree) → UnusedRow p t u → Applied p t u true
-applied_by p t u r = moves_once UnusedContracts p t u (record { row = r; lighter = unused_lighter p t u r })
+applied_by : (W : VariableSet) (p : Position) (t u : Tree) → UnusedRow W p t u → Applied W p t u true
+applied_by W p t u r = moves_once (UnusedContracts W) p t u (record { row = r; lighter = unused_lighter W p t u r })
 
 -- no other holder
-no_function : (t : Tree) → is_function t ≡ false → (w : Tree) → FunctionBodyRow t w → ⊥
-no_function t e w r = true≢false (sym (ap is_function r.shape) ∙ e)
+no_function : (W : VariableSet) (t : Tree) → is_function t ≡ false → (w : Tree) → FunctionBodyRow W t w → ⊥
+no_function W t e w r = true≢false (sym (ap is_function r.shape) ∙ e)
 
-no_arrow : (t : Tree) → has_statements t ≡ false → (w : Tree) → ArrowBodyRow t w → ⊥
-no_arrow t e w r = true≢false (sym (ap has_statements r.shape) ∙ e)
+no_arrow : (W : VariableSet) (t : Tree) → has_statements t ≡ false → (w : Tree) → ArrowBodyRow W t w → ⊥
+no_arrow W t e w r = true≢false (sym (ap has_statements r.shape) ∙ e)
 
-block_applied : (ts : Trees) (m : Tree) (c : Bool) → Removed no_outside (listed ts) m c → (q : StmtSeat) → Applied (Stmt q) (block ts) (held m) c
-block_applied ts m true r q = applied_by (Stmt q) (block ts) (held m) (inl (removed_row ts m r))
-block_applied ts m false r q = (ap held r.0, by)
+block_applied : (W : VariableSet) (ts : Trees) (m : Tree) (c : Bool) → Removed nothing no_outside (listed ts) m c → (q : StmtSeat) → Applied W (Stmt q) (block ts) (held m) c
+block_applied W ts m true r q = applied_by W (Stmt q) (block ts) (held m) (inl (removed_row nothing ts m r))
+block_applied W ts m false r q = (ap held r.0, by)
   where
-    by : (w : Tree) → UnusedRow (Stmt q) (block ts) w → ⊥
-    by w (inl b) = rests ts m r w b
-    by w (inr f) = no_function (block ts) refl w f
+    by : (w : Tree) → UnusedRow W (Stmt q) (block ts) w → ⊥
+    by w (inl b) = rests nothing ts m r w b
+    by w (inr f) = no_function W (block ts) refl w f
 
-pub of_block : (t m : Tree) (c : Bool) → is_block t ≡ true → Removed (with_part t 0 absent) (part t 0) m c → (u : Tree) → u ≡ with_part t 0 m → (q : StmtSeat) → Applied (Stmt q) t u c
-of_block t m c b r u f q =
+pub of_block : (W : VariableSet) (t m : Tree) (c : Bool) → is_block t ≡ true → Removed (open_in (with_part t 0 absent) W) (with_part t 0 absent) (part t 0) m c → (u : Tree) → u ≡ with_part t 0 m → (q : StmtSeat) → Applied W (Stmt q) t u c
+of_block W t m c b r u f q =
     let is = block_is t b in
     let ts = children (part t 0) in
-    let there = subst (λ v. Removed (with_part v 0 absent) (part v 0) m c) is r in
-    subst (λ v. Applied (Stmt q) v u c) (sym is) (subst (λ v. Applied (Stmt q) (block ts) v c) (sym (f ∙ ap (λ v. with_part v 0 m) is)) (block_applied ts m c there q))
+    let there = subst (λ v. Removed (open_in (with_part v 0 absent) W) (with_part v 0 absent) (part v 0) m c) is r in
+    subst (λ v. Applied W (Stmt q) v u c) (sym is) (subst (λ v. Applied W (Stmt q) (block ts) v c) (sym (f ∙ ap (λ v. with_part v 0 m) is)) (block_applied W ts m c there q))
 
 -- ---- a function: what its statements stand behind is read before them
 
@@ -94,7 +100,7 @@ read_pulled false r q f c = refl
 read_pulled true r q f c = sym (ap (λ v. r && v) (and_false (not q)) ∙ and_false r)
 
 -- what is outside of the statements, and as a list before them
-module _ (outside : Tree) (front ts : Trees) (mentions : (x : Name) → names x outside ≡ any_names x front) (evals : has_eval outside ≡ any_has_eval front) where
+module _ (W : VariableSet) (outside : Tree) (front ts : Trees) (mentions : (x : Name) → names x outside ≡ any_names x front) (evals : has_eval outside ≡ any_has_eval front) where
   -- as a block
   abbrev behind : Trees
   behind = listed front ▸ ts
@@ -109,10 +115,10 @@ module _ (outside : Tree) (front ts : Trees) (mentions : (x : Name) → names x 
       let f = any_names x (first_children i ts) in
       ap (λ p. not p && (not a && (not b && (not c && (not d && not f))))) (mentions x) ∙ alone_pulled (any_names x front) a b c d f
 
-  unused_there : (i j : ℕ) → is_unused outside ts i j ≡ is_unused no_outside behind (suc i) j
+  unused_there : (i j : ℕ) → is_unused W outside ts i j ≡ is_unused W no_outside behind (suc i) j
   unused_there i j =
       let l = list_at ts i in
-      ap (λ b. is_lexical (child_or_absent ts i) && (declares_name (part l j) && (may_go (part (part l j) 1) l && b))) (alone_there (names_of (part (part l j) 0)) (part (part l j) 1) (children l) j i)
+      ap (λ b. declares_list (child_or_absent ts i) && (declares_name (part l j) && (may_lose (is_free_at ts i) W (names_of (part (part l j) 0)) && (may_go (part (part l j) 1) l && b)))) (alone_there (names_of (part (part l j) 0)) (part (part l j) 1) (children l) j i)
 
   read_there : (xs : List Name) (init : Tree) (ds : Trees) (j i : ℕ) → is_read_once xs outside init ds j ts i ≡ is_read_once xs no_outside init ds j behind (suc i)
   read_there [] init ds j i = refl
@@ -123,21 +129,21 @@ module _ (outside : Tree) (front ts : Trees) (mentions : (x : Name) → names x 
       let c = any_names x (rest_children (suc (suc i)) ts) in
       ap (λ p. not p && (r && (not q && not (f || c)))) (mentions x) ∙ read_pulled (any_names x front) r q f c
 
-  single_there : (i : ℕ) → is_single outside ts i ≡ is_single no_outside behind (suc i)
+  single_there : (i : ℕ) → is_single W outside ts i ≡ is_single W no_outside behind (suc i)
   single_there i =
       let l = list_at ts i in
       let j = last_place (children l) in
-      ap (λ b. is_lexical (child_or_absent ts i) && (declares_name (part l j) && (may_move (part (part l j) 1) && b))) (read_there (names_of (part (part l j) 0)) (part (part l j) 1) (children l) j i)
+      ap (λ b. declares_list (child_or_absent ts i) && (declares_name (part l j) && (may_lose (is_free_at ts i) W (names_of (part (part l j) 0)) && (may_move (part (part l j) 1) && b)))) (read_there (names_of (part (part l j) 0)) (part (part l j) 1) (children l) j i)
 
   seen_there : (has_eval no_outside || has_eval (listed behind)) ≡ (has_eval outside || has_eval (listed ts))
   unfolding has_eval
   seen_there = ap (λ b. b || any_has_eval ts) (sym evals)
 
-  none_unused : UnusedAt outside ts None → UnusedAt no_outside behind None
+  none_unused : UnusedAt W outside ts None → UnusedAt W no_outside behind None
   none_unused u zero h = λ j g. refl
   none_unused u (suc i) h = λ j g. sym (unused_there i j) ∙ u i (omega (arith, h)) j g
 
-  none_read : SingleAt outside ts None → SingleAt no_outside behind None
+  none_read : SingleAt W outside ts None → SingleAt W no_outside behind None
   none_read u zero h = refl
   none_read u (suc i) h = sym (single_there i) ∙ u i (omega (arith, h))
 
@@ -145,10 +151,10 @@ module _ (outside : Tree) (front ts : Trees) (mentions : (x : Name) → names x 
   abbrev left : Tree → Tree
   left m = listed (listed front ▸ children m)
 
-  removed_there : (m : Tree) (c : Bool) → Removed outside (listed ts) m c → Removed no_outside (listed behind) (left m) c × (m ≡ listed (children m))
+  removed_there : (m : Tree) (c : Bool) → Removed W outside (listed ts) m c → Removed W no_outside (listed behind) (left m) c × (m ≡ listed (children m))
   removed_there m true r = by r.1
     where
-      by : NameGone outside (listed ts) m ⊎ ReadGone outside (listed ts) m → Removed no_outside (listed behind) (left m) true × (m ≡ listed (children m))
+      by : NameGone W outside (listed ts) m ⊎ ReadGone W outside (listed ts) m → Removed W no_outside (listed behind) (left m) true × (m ≡ listed (children m))
       by (inl g) = (
         (
           seen_there ∙ r.0,
@@ -165,22 +171,22 @@ module _ (outside : Tree) (front ts : Trees) (mentions : (x : Name) → names x 
       )
   removed_there m false r = ((ap left r.0, by r.1), r.0 ∙ sym (ap (λ l. listed (children l)) r.0))
     where
-      by : ((has_eval outside || has_eval (listed ts)) ≡ true) ⊎ (UnusedAt outside ts None × SingleAt outside ts None) → ((has_eval no_outside || has_eval (listed behind)) ≡ true) ⊎ (UnusedAt no_outside behind None × SingleAt no_outside behind None)
+      by : ((has_eval outside || has_eval (listed ts)) ≡ true) ⊎ (UnusedAt W outside ts None × SingleAt W outside ts None) → ((has_eval no_outside || has_eval (listed behind)) ≡ true) ⊎ (UnusedAt W no_outside behind None × SingleAt W no_outside behind None)
       by (inl e) = inl (seen_there ∙ e)
       by (inr u) = inr (none_unused u.0, none_read u.1)
 
-  row_behind : (m : Tree) → Removed outside (listed ts) m true → BlockRow (block behind) (block (listed front ▸ children m))
-  row_behind m r = removed_row behind (left m) (removed_there m true r).0
+  row_behind : (m : Tree) → Removed W outside (listed ts) m true → BlockRow W (block behind) (block (listed front ▸ children m))
+  row_behind m r = removed_row W behind (left m) (removed_there m true r).0
 
-  none_behind : (m : Tree) → Removed outside (listed ts) m false → (us : Trees) → us ≡ behind → (w : Tree) → BlockRow (block us) w → ⊥
-  none_behind m r us e w row = rests behind (left m) (removed_there m false r).0 w (subst (λ v. BlockRow (block v) w) e row)
+  none_behind : (m : Tree) → Removed W outside (listed ts) m false → (us : Trees) → us ≡ behind → (w : Tree) → BlockRow W (block us) w → ⊥
+  none_behind m r us e w row = rests W behind (left m) (removed_there m false r).0 w (subst (λ v. BlockRow W (block v) w) e row)
 
-  list_is : (m : Tree) (c : Bool) → Removed outside (listed ts) m c → m ≡ listed (children m)
+  list_is : (m : Tree) (c : Bool) → Removed W outside (listed ts) m c → m ≡ listed (children m)
   list_is m c r = (removed_there m c r).1
 
 -- ---- an arrow function: its parameters stand before its statements
 
-module _ (directives : List (List ℕ)) (number : ℕ) (ps ts : Trees) where
+module _ (W : VariableSet) (directives : List (List ℕ)) (number : ℕ) (ps ts : Trees) where
   abbrev outside_arrow : Tree
   outside_arrow = node (shape.ArrowFunctionExpression directives) [] number (listed ps ▸ (absent ▸ none))
 
@@ -195,27 +201,27 @@ module _ (directives : List (List ℕ)) (number : ℕ) (ps ts : Trees) where
   abbrev over : Tree → Tree
   over m = node (shape.ArrowFunctionExpression directives) [] number (listed ps ▸ (node shape.FunctionBody [] 0 (m ▸ none) ▸ none))
 
-  arrow_over : (m : Tree) → Removed outside_arrow (listed ts) m true → ArrowBodyRow (arrow_with directives number ps ts) (over m)
+  arrow_over : (m : Tree) → Removed W outside_arrow (listed ts) m true → ArrowBodyRow W (arrow_with directives number ps ts) (over m)
   arrow_over m r =
-      record { directives = directives; number = number; parameters = ps; before = ts; after = children m; row = row_behind outside_arrow ps ts arrow_mentions arrow_evals m r; shape = refl; written = ap over (list_is outside_arrow ps ts arrow_mentions arrow_evals m true r) }
+      record { directives = directives; number = number; parameters = ps; before = ts; after = children m; row = row_behind W outside_arrow ps ts arrow_mentions arrow_evals m r; shape = refl; written = ap over (list_is W outside_arrow ps ts arrow_mentions arrow_evals m true r) }
 
-  arrow_rests : (m : Tree) → Removed outside_arrow (listed ts) m false → (w : Tree) → ArrowBodyRow (arrow_with directives number ps ts) w → ⊥
+  arrow_rests : (m : Tree) → Removed W outside_arrow (listed ts) m false → (w : Tree) → ArrowBodyRow W (arrow_with directives number ps ts) w → ⊥
   arrow_rests m r w row =
       let parameters : listed row.parameters ≡ listed ps = sym (ap (λ t. part t 0) row.shape) in
       let before : row.before ≡ ts = sym (ap (λ t. children (part (part t 1) 0)) row.shape) in
-      none_behind outside_arrow ps ts arrow_mentions arrow_evals m r (listed row.parameters ▸ row.before) (λ k. parameters k ▸ before k) (block (listed row.parameters ▸ row.after)) row.row
+      none_behind W outside_arrow ps ts arrow_mentions arrow_evals m r (listed row.parameters ▸ row.before) (λ k. parameters k ▸ before k) (block (listed row.parameters ▸ row.after)) row.row
 
-  arrow_applied : (m : Tree) (c : Bool) → Removed outside_arrow (listed ts) m c → (s : Seat) → Applied (Expr s) (arrow_with directives number ps ts) (over m) c
-  arrow_applied m true r s = applied_by (Expr s) (arrow_with directives number ps ts) (over m) (inl (arrow_over m r))
+  arrow_applied : (m : Tree) (c : Bool) → Removed W outside_arrow (listed ts) m c → (s : Seat) → Applied W (Expr s) (arrow_with directives number ps ts) (over m) c
+  arrow_applied m true r s = applied_by W (Expr s) (arrow_with directives number ps ts) (over m) (inl (arrow_over m r))
   arrow_applied m false r s = (ap over r.0, by)
     where
-      by : (w : Tree) → UnusedRow (Expr s) (arrow_with directives number ps ts) w → ⊥
+      by : (w : Tree) → UnusedRow W (Expr s) (arrow_with directives number ps ts) w → ⊥
       by w (inl a) = arrow_rests m r w a
-      by w (inr f) = no_function (arrow_with directives number ps ts) refl w f
+      by w (inr f) = no_function W (arrow_with directives number ps ts) refl w f
 
 -- ---- any other function: its name and its parameters do
 
-module _ (d g : Bool) (directives : List (List ℕ)) (number : ℕ) (name : Tree) (ps ts : Trees) where
+module _ (W : VariableSet) (d g : Bool) (directives : List (List ℕ)) (number : ℕ) (name : Tree) (ps ts : Trees) where
   abbrev outside_function : Tree
   outside_function = node (shape.Function d g directives) [] number (name ▸ (listed ps ▸ (absent ▸ none)))
 
@@ -229,7 +235,7 @@ module _ (d g : Bool) (directives : List (List ℕ)) (number : ℕ) (name : Tree
   abbrev function_with_list : Tree → Tree
   function_with_list m = node (shape.Function d g directives) [] number (name ▸ (listed ps ▸ (node shape.FunctionBody [] 0 (m ▸ none) ▸ none)))
 
-  function_over : (m : Tree) → Removed outside_function (listed ts) m true → FunctionBodyRow (function_with d g directives number name ps ts) (function_with_list m)
+  function_over : (m : Tree) → Removed W outside_function (listed ts) m true → FunctionBodyRow W (function_with d g directives number name ps ts) (function_with_list m)
   function_over m r = record {
     is_declared = d;
     is_generator = g;
@@ -239,19 +245,19 @@ module _ (d g : Bool) (directives : List (List ℕ)) (number : ℕ) (name : Tree
     parameters = ps;
     before = ts;
     after = children m;
-    row = row_behind outside_function (name ▸ ps) ts function_mentions function_evals m r;
+    row = row_behind W outside_function (name ▸ ps) ts function_mentions function_evals m r;
     shape = refl;
-    written = ap function_with_list (list_is outside_function (name ▸ ps) ts function_mentions function_evals m true r);
+    written = ap function_with_list (list_is W outside_function (name ▸ ps) ts function_mentions function_evals m true r);
   }
 
-  function_rests : (m : Tree) → Removed outside_function (listed ts) m false → (w : Tree) → FunctionBodyRow (function_with d g directives number name ps ts) w → ⊥
+  function_rests : (m : Tree) → Removed W outside_function (listed ts) m false → (w : Tree) → FunctionBodyRow W (function_with d g directives number name ps ts) w → ⊥
   function_rests m r w row =
       let named : row.name ≡ name = sym (ap (λ t. part t 0) row.shape) in
       let parameters : row.parameters ≡ ps = sym (ap (λ t. children (part t 1)) row.shape) in
       let before : row.before ≡ ts = sym (ap (λ t. children (part (part t 2) 0)) row.shape) in
-      none_behind outside_function (name ▸ ps) ts function_mentions function_evals m r (listed (row.name ▸ row.parameters) ▸ row.before) (λ k. listed (named k ▸ parameters k) ▸ before k) (block (listed (row.name ▸ row.parameters) ▸ row.after)) row.row
+      none_behind W outside_function (name ▸ ps) ts function_mentions function_evals m r (listed (row.name ▸ row.parameters) ▸ row.before) (λ k. listed (named k ▸ parameters k) ▸ before k) (block (listed (row.name ▸ row.parameters) ▸ row.after)) row.row
 
-  function_applied : (m : Tree) (c : Bool) → Removed outside_function (listed ts) m c → AppliedInFunction (function_with d g directives number name ps ts) (function_with_list m) c
+  function_applied : (m : Tree) (c : Bool) → Removed W outside_function (listed ts) m c → AppliedInFunction W (function_with d g directives number name ps ts) (function_with_list m) c
   function_applied m true r = function_over m r
   function_applied m false r = (ap function_with_list r.0, function_rests m r)
 
@@ -279,15 +285,15 @@ arrow_is t e =
     let (directives, is) = arrow_parts t a b c in
     (directives, is ∙ (λ k. node (shape.ArrowFunctionExpression directives) [] (number_of t) (listed_is (part t 0) d k ▸ (body_is (part t 1) f k ▸ none))))
 
-pub of_arrow : (t m : Tree) (c : Bool) → has_statements t ≡ true → Removed (with_part t 1 absent) (part (part t 1) 0) m c → (u : Tree) → u ≡ with_part t 1 (with_part (part t 1) 0 m) → (s : Seat) → Applied (Expr s) t u c
-of_arrow t m c h r u f s =
+pub of_arrow : (W : VariableSet) (t m : Tree) (c : Bool) → has_statements t ≡ true → Removed (open_in (with_part t 1 absent) W) (with_part t 1 absent) (part (part t 1) 0) m c → (u : Tree) → u ≡ with_part t 1 (with_part (part t 1) 0 m) → (s : Seat) → Applied W (Expr s) t u c
+of_arrow W t m c h r u f s =
     let (directives, is) = arrow_is t h in
     let n = number_of t in
     let ps = children (part t 0) in
     let ts = children (part (part t 1) 0) in
-    let there = subst (λ v. Removed (with_part v 1 absent) (part (part v 1) 0) m c) is r in
-    subst (λ v. Applied (Expr s) v u c) (sym is)
-    (subst (λ v. Applied (Expr s) (arrow_with directives n ps ts) v c) (sym (f ∙ ap (λ v. with_part v 1 (with_part (part v 1) 0 m)) is)) (arrow_applied directives n ps ts m c there s))
+    let there = subst (λ v. Removed (open_in (with_part v 1 absent) W) (with_part v 1 absent) (part (part v 1) 0) m c) is r in
+    subst (λ v. Applied W (Expr s) v u c) (sym is)
+    (subst (λ v. Applied W (Expr s) (arrow_with directives n ps ts) v c) (sym (f ∙ ap (λ v. with_part v 1 (with_part (part v 1) 0 m)) is)) (arrow_applied W directives n ps ts m c there s))
 
 function_parts : (t : Tree) → is_function_shape (shape_of t) ≡ true → are_no_names (names_of t) ≡ true → nat_eq (count (children t)) 3 ≡ true → (d : Bool) × (g : Bool) × (directives : List (List ℕ)) × (t ≡ node (shape.Function d g directives) [] (number_of t) (part t 0 ▸ (part t 1 ▸ (part t 2 ▸ none))))
 function_parts (node (shape.Function d g directives) (x ∷ xs) n ts) e f h = absurd (true≢false (sym f))
@@ -307,45 +313,58 @@ function_is t e =
     let (d, g, directives, is) = function_parts t a b c in
     (d, g, directives, is ∙ (λ k. node (shape.Function d g directives) [] (number_of t) (part t 0 ▸ (listed_is (part t 1) l k ▸ (body_is (part t 2) f k ▸ none)))))
 
-pub of_function : (t m : Tree) (c : Bool) → is_function t ≡ true → Removed (with_part t 2 absent) (part (part t 2) 0) m c → (u : Tree) → u ≡ with_part t 2 (with_part (part t 2) 0 m) → AppliedInFunction t u c
-of_function t m c h r u f =
+pub of_function : (W : VariableSet) (t m : Tree) (c : Bool) → is_function t ≡ true → Removed (open_in (with_part t 2 absent) W) (with_part t 2 absent) (part (part t 2) 0) m c → (u : Tree) → u ≡ with_part t 2 (with_part (part t 2) 0 m) → AppliedInFunction W t u c
+of_function W t m c h r u f =
     let (d, g, directives, is) = function_is t h in
     let n = number_of t in
     let name = part t 0 in
     let ps = children (part t 1) in
     let ts = children (part (part t 2) 0) in
-    let there = subst (λ v. Removed (with_part v 2 absent) (part (part v 2) 0) m c) is r in
-    subst (λ v. AppliedInFunction v u c) (sym is)
-    (subst (λ v. AppliedInFunction (function_with d g directives n name ps ts) v c) (sym (f ∙ ap (λ v. with_part v 2 (with_part (part v 2) 0 m)) is)) (function_applied d g directives n name ps ts m c there))
+    let there = subst (λ v. Removed (open_in (with_part v 2 absent) W) (with_part v 2 absent) (part (part v 2) 0) m c) is r in
+    subst (λ v. AppliedInFunction W v u c) (sym is)
+    (subst (λ v. AppliedInFunction W (function_with d g directives n name ps ts) v c) (sym (f ∙ ap (λ v. with_part v 2 (with_part (part v 2) 0 m)) is)) (function_applied W d g directives n name ps ts m c there))
 
-pub stays : (t : Tree) → is_function t ≡ false → AppliedInFunction t t false
-stays t e = (refl, no_function t e)
+pub stays : (W : VariableSet) (t : Tree) → is_function t ≡ false → AppliedInFunction W t t false
+stays W t e = (refl, no_function W t e)
 
 -- ---- where a function stands
 
-pub as_statement : (t u : Tree) (c : Bool) → is_block t ≡ false → AppliedInFunction t u c → (q : StmtSeat) → Applied (Stmt q) t u c
-as_statement t u true e r q = applied_by (Stmt q) t u (inr r)
-as_statement t u false e r q = (r.0, by)
+pub as_statement : (W : VariableSet) (t u : Tree) (c : Bool) → is_block t ≡ false → AppliedInFunction W t u c → (q : StmtSeat) → Applied W (Stmt q) t u c
+as_statement W t u true e r q = applied_by W (Stmt q) t u (inr r)
+as_statement W t u false e r q = (r.0, by)
   where
-    by : (w : Tree) → UnusedRow (Stmt q) t w → ⊥
-    by w (inl b) = no_block t e w b
+    by : (w : Tree) → UnusedRow W (Stmt q) t w → ⊥
+    by w (inl b) = no_block nothing t e w b
     by w (inr f) = r.1 w f
 
-pub as_expression : (t u : Tree) (c : Bool) → has_statements t ≡ false → AppliedInFunction t u c → (s : Seat) → Applied (Expr s) t u c
-as_expression t u true e r s = applied_by (Expr s) t u (inr r)
-as_expression t u false e r s = (r.0, by)
+pub as_expression : (W : VariableSet) (t u : Tree) (c : Bool) → has_statements t ≡ false → AppliedInFunction W t u c → (s : Seat) → Applied W (Expr s) t u c
+as_expression W t u true e r s = applied_by W (Expr s) t u (inr r)
+as_expression W t u false e r s = (r.0, by)
   where
-    by : (w : Tree) → UnusedRow (Expr s) t w → ⊥
-    by w (inl a) = no_arrow t e w a
+    by : (w : Tree) → UnusedRow W (Expr s) t w → ⊥
+    by w (inl a) = no_arrow W t e w a
     by w (inr f) = r.1 w f
 
-pub as_method : (t u : Tree) (c : Bool) → AppliedInFunction t u c → Applied Method t u c
-as_method t u true r = applied_by Method t u r
-as_method t u false r = r
+pub as_method : (W : VariableSet) (t u : Tree) (c : Bool) → AppliedInFunction W t u c → Applied W Method t u c
+as_method W t u true r = applied_by W Method t u r
+as_method W t u false r = r
 
-pub as_exported : (t u : Tree) (c : Bool) → AppliedInFunction t u c → Applied Elsewhere t u c
-as_exported t u true r = applied_by Elsewhere t u r
-as_exported t u false r = r
+pub as_exported : (W : VariableSet) (t u : Tree) (c : Bool) → AppliedInFunction W t u c → Applied W Elsewhere t u c
+as_exported W t u true r = applied_by W Elsewhere t u r
+as_exported W t u false r = r
+
+-- ---- the context
+
+-- its tables tell what can be written in the program that it knows
+told : (c : TraverseCtx) (o : CompressOptions) (q : Tree) → Knows c o q → marked c.scopes ≡ writable_in q
+told c o q k = λ j x. by x j
+  where
+    by : (x : Variable) → marked c.scopes x ≡ writable_in q x
+    by (Declared s) = k.refreshed.told.writable_told s
+    by (Global s) = refl
+
+pub known : (c : TraverseCtx) (p : Position) (t u : Tree) (b : Bool) → Applied (marked c.scopes) p t u b → (o : CompressOptions) (q : Tree) → Knows c o q → rule.Applied (Gives o q) (Rests q) p t u b
+known c p t u b r o q k = subst (λ W. Applied W p t u b) (told c o q k) r
 
 -- ---- where memory does not run out
 

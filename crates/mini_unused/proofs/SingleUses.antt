@@ -7,17 +7,19 @@ use Rattle.mini_model.specs.declared.name.Name.{Name}
 use Rattle.mini_model.specs.declared.shape.Shape.TheVariants as shape
 use Rattle.mini_model.specs.Tree.{Tree, Trees, node, none, ◌▸◌, listed, shape_of, children, count, node_count, child_or_absent, empty_statement}
 use Rattle.mini_model.specs.Paths.{append}
+use Rattle.mini_laws.specs.Naming as kinds
 use Rattle.mini_laws.specs.ScopeList.{has_eval}
+use Rattle.mini_laws.specs.Value.{VariableSet}
 use Rattle.mini_node.specs.Children.{names_of, part, with_child, with_part, without, is_bare, is_nameless, first_children, rest_children}
 use Rattle.mini_node.specs.Kinds.{is_block, is_sequence_shape}
 use Rattle.mini_node.specs.Made.{block_is}
 use Rattle.mini_node.specs.Walks.{next_child}
 use Rattle.mini_rows.specs.Lists.{block, declaration}
 use Rattle.mini_rows.specs.Declarations.{binding, declarator}
-use Rattle.mini_rows.specs.Unused.{resolved, declared_among, declared_left, names, any_names, leads, is_childless, reads, is_first, put_first, is_head_shape, reads_first, may_move, Row71}
-use Rattle.mini_unused.specs.RemoveUnusedDeclaration.{declares_name, is_lexical, list_at}
+use Rattle.mini_rows.specs.Unused.{resolved, declared_among, declared_left, names, any_names, leads, is_childless, reads, is_first, put_first, is_head_shape, reads_first, may_move, lets_go, Row71}
+use Rattle.mini_unused.specs.RemoveUnusedDeclaration.{declares_name, is_lexical_shape, declares_list, may_lose, is_free_at, list_at}
 use Rattle.mini_unused.specs.SubstituteSingleUse.{may_begin, is_head, last_place, is_declared_over, is_mentioned_around, reads_next, is_read_once, is_single_declarator, is_single, declaration_left, list_single}
-use Rattle.mini_unused.proofs.Unused.{no_outside, parts_of, there_child, there_first, and_both, Declares, declares, a_lexical, lexical_is, left_is}
+use Rattle.mini_unused.proofs.Unused.{no_outside, parts_of, there_child, there_first, and_both, Declares, declares, a_declaration, left_is}
 
 -- ---- the first part
 
@@ -95,17 +97,19 @@ last_is none h = absurd (omega (arith, h))
 last_is (t ▸ none) h = refl
 last_is (t ▸ (u ▸ ts)) h = let rest = last_is (u ▸ ts) (omega arith) in omega (arith, rest)
 
-pub no_declarator : (l o : Tree) (ts : Trees) (i j : ℕ) → count (children l) ≡ 0 → is_single_declarator l j o ts i ≡ false
-no_declarator (node h xs n none) o ts i j e = refl
-no_declarator (node h xs n (t ▸ us)) o ts i j e = absurd (omega (arith, e))
+pub no_declarator : (free : Bool) (W : VariableSet) (l o : Tree) (ts : Trees) (i j : ℕ) → count (children l) ≡ 0 → is_single_declarator free W l j o ts i ≡ false
+no_declarator free W (node h xs n none) o ts i j e = refl
+no_declarator free W (node h xs n (t ▸ us)) o ts i j e = absurd (omega (arith, e))
 
 pub read_next : (x : Name) (ts : Trees) (i : ℕ) → reads_first x (child_or_absent ts (i + 1)) ≡ reads_next x ts i
 read_next x ts i = ap (λ k. reads_first x (child_or_absent ts k)) (add-one i)
 
-pub single_by : (o : Tree) (ts : Trees) (i : ℕ) (statement l : Tree) (n : ℕ) (r : Bool) → statement ≡ child_or_absent ts i → is_lexical statement ≡ true → l ≡ part statement 0 → n ≡ last_place (children l) → r ≡ is_single_declarator l n o ts i → r ≡ is_single o ts i
-single_by o ts i statement l n r s e f g h =
+pub single_by : (W : VariableSet) (o : Tree) (ts : Trees) (i : ℕ) (statement l : Tree) (n : ℕ) (free r : Bool) → statement ≡ child_or_absent ts i → declares_list statement ≡ true → l ≡ part statement 0 → n ≡ last_place (children l) → free ≡ is_lexical_shape (shape_of statement) → r ≡ is_single_declarator free W l n o ts i → r ≡ is_single W o ts i
+single_by W o ts i statement l n free r s e f g z h =
     let there : l ≡ list_at ts i = f ∙ ap (λ t. part t 0) s in
-    h ∙ (λ k. is_single_declarator (there k) ((g ∙ ap (λ t. last_place (children t)) there) k) o ts i) ∙ sym (ap (λ b. b && is_single_declarator (list_at ts i) (last_place (children (list_at ts i))) o ts i) (ap is_lexical (sym s) ∙ e))
+    let is_free : free ≡ is_free_at ts i = z ∙ ap (λ t. is_lexical_shape (shape_of t)) s in
+    h ∙ (λ k. is_single_declarator (is_free k) W (there k) ((g ∙ ap (λ t. last_place (children t)) there) k) o ts i)
+    ∙ sym (ap (λ b. b && is_single_declarator (is_free_at ts i) W (list_at ts i) (last_place (children (list_at ts i))) o ts i) (ap declares_list (sym s) ∙ e))
 
 last_rest : (ts : Trees) → rest_children (suc (last_place ts)) ts ≡ none
 last_rest none = refl
@@ -175,7 +179,7 @@ read_once x init ds j ts i e =
 abbrev pub block_single : Tree → ℕ → ℕ → Tree
 block_single t i j = with_part t 0 (list_single (part t 0) i j)
 
-module _ (t : Tree) (i : ℕ) (b : is_block t ≡ true) (next : suc i < count (children (part t 0))) (some : 0 < count (children (list_at (children (part t 0)) i))) (single : is_single no_outside (children (part t 0)) i ≡ true) (v : has_eval t ≡ false) where
+module _ (t : Tree) (i : ℕ) (b : is_block t ≡ true) (next : suc i < count (children (part t 0))) (some : 0 < count (children (list_at (children (part t 0)) i))) (W : VariableSet) (single : is_single W no_outside (children (part t 0)) i ≡ true) (v : has_eval t ≡ false) where
   abbrev ts : Trees
   ts = children (part t 0)
 
@@ -209,24 +213,31 @@ module _ (t : Tree) (i : ℕ) (b : is_block t ≡ true) (next : suc i < count (c
   abbrev once_there : Bool
   once_there = is_read_once (names_of (part d 0)) no_outside init ds j ts i
 
-  tests : (is_lexical statement ≡ true) × (declares_name d ≡ true) × (may_move init ≡ true) × (once_there ≡ true)
+  abbrev lost : Bool
+  lost = may_lose (is_free_at ts i) W (names_of (part d 0))
+
+  tests : (declares_list statement ≡ true) × (declares_name d ≡ true) × (may_move init ≡ true) × (once_there ≡ true) × (lost ≡ true)
   tests =
-      let (a, p) = and_parts (is_lexical statement) (declares_name d && (may_move init && once_there)) single in
-      let (c, q) = and_parts (declares_name d) (may_move init && once_there) p in
-      let (f, r) = and_parts (may_move init) once_there q in
-      (a, c, f, r)
+      let (a, p) = and_parts (declares_list statement) (declares_name d && (lost && (may_move init && once_there))) single in
+      let (c, q) = and_parts (declares_name d) (lost && (may_move init && once_there)) p in
+      let (l, m) = and_parts lost (may_move init && once_there) q in
+      let (f, r) = and_parts (may_move init) once_there m in
+      (a, c, f, r, l)
 
   abbrev kind : VariableDeclarationKind
-  kind = (a_lexical statement tests.0).0
+  kind = (a_declaration statement tests.0).0
 
   let_there : statement ≡ declaration kind ds
-  let_there = (a_lexical statement tests.0).1.1
+  let_there = (a_declaration statement tests.0).1
 
   abbrev one : Declares d
   one = declares d tests.1
 
   abbrev x : Name
   x = resolved one.spelling one.symbol
+
+  goes : lets_go W kind one.symbol ≡ true
+  goes = sym (λ k. may_lose (is_lexical_shape (shape_of (let_there k))) W (names_of (part (one.is k) 0))) ∙ tests.4
 
   reading : Once x init ds j ts i
   reading = read_once x init ds j ts i (sym (ap (λ y. is_read_once (names_of (part y 0)) no_outside init ds j ts i) one.is) ∙ tests.3)
@@ -247,11 +258,11 @@ module _ (t : Tree) (i : ℕ) (b : is_block t ≡ true) (next : suc i < count (c
   written_there u f =
       f ∙ ap (λ y. block_single y i j) (block_is t b) ∙ ap block (with_two ts i (declaration_left statement j) (put_first init head) next) ∙ ap (λ y. block (append before (y ▸ (put_first init head ▸ after)))) left_there
 
-  pub row_there : (u : Tree) → u ≡ block_single t i j → Row71 t u
+  pub row_there : (u : Tree) → u ≡ block_single t i j → Row71 W t u
   row_there u f = record {
     before = before;
     kind = kind;
-    lexical = (a_lexical statement tests.0).1.0;
+    goes = goes;
     first = first;
     spelling = one.spelling;
     symbol = one.symbol;
@@ -271,7 +282,7 @@ module _ (t : Tree) (i : ℕ) (b : is_block t ≡ true) (next : suc i < count (c
 
 -- ---- where nothing is written no row reads it
 
-module _ (t w : Tree) (r : Row71 t w) where
+module _ (W : VariableSet) (t w : Tree) (r : Row71 W t w) where
   abbrev named : Name
   named = resolved r.spelling r.symbol
 
@@ -297,18 +308,17 @@ module _ (t w : Tree) (r : Row71 t w) where
       let rest_ts = ap (any_names y) (rest_there r.before stated r.head r.after) ∙ r.later in
       λ k. all (head_there k) (r.initial k) (first_ds k) (first_ts k) (rest_ts k)
 
-  single_there : is_single no_outside (children (part t 0)) (count r.before) ≡ true
+  single_there : is_single W no_outside (children (part t 0)) (count r.before) ≡ true
   single_there =
       let i = count r.before in
-      ap (λ v. is_single no_outside (children (part v 0)) i) r.shape
-      ∙ ap (λ c. is_lexical c && is_single_declarator (part c 0) (last_place (children (part c 0))) no_outside statements i) (there_child r.before stated (r.head ▸ r.after))
-      ∙ ap (λ b. b && is_single_declarator (part stated 0) (last_place (children (part stated 0))) no_outside statements i) (lexical_is r.kind r.lexical declarators)
-      ∙ ap (λ j. is_single_declarator (part stated 0) j no_outside statements i) (last_there r.first declared)
-      ∙ ap (λ c. declares_name c && (may_move (part c 1) && is_read_once (names_of (part c 0)) no_outside (part c 1) declarators (count r.first) statements i)) (there_child r.first declared none)
-      ∙ and_both (may_move r.init) (is_read_once (named ∷ []) no_outside r.init declarators (count r.first) statements i) r.moves once_is
+      ap (λ v. is_single W no_outside (children (part v 0)) i) r.shape
+      ∙ ap (λ c. declares_list c && is_single_declarator (is_lexical_shape (shape_of c)) W (part c 0) (last_place (children (part c 0))) no_outside statements i) (there_child r.before stated (r.head ▸ r.after))
+      ∙ ap (λ j. is_single_declarator (kinds.is_lexical r.kind) W (part stated 0) j no_outside statements i) (last_there r.first declared)
+      ∙ ap (λ c. declares_name c && (may_lose (kinds.is_lexical r.kind) W (names_of (part c 0)) && (may_move (part c 1) && is_read_once (names_of (part c 0)) no_outside (part c 1) declarators (count r.first) statements i))) (there_child r.first declared none)
+      ∙ and_both (lets_go W r.kind r.symbol) (may_move r.init && is_read_once (named ∷ []) no_outside r.init declarators (count r.first) statements i) r.goes (and_both (may_move r.init) (is_read_once (named ∷ []) no_outside r.init declarators (count r.first) statements i) r.moves once_is)
 
   single_within : suc (count r.before) < count (children (part t 0))
   single_within = subst (λ v. suc (count r.before) < count (children (part v 0))) (sym r.shape) (within_there r.before stated r.head r.after)
 
-pub none_single : (t : Tree) → ((i : ℕ) → suc i < count (children (part t 0)) → is_single no_outside (children (part t 0)) i ≡ false) → (w : Tree) → Row71 t w → ⊥
-none_single t f w r = true≢false (sym (single_there t w r) ∙ f (count r.before) (single_within t w r))
+pub none_single : (W : VariableSet) (t : Tree) → ((i : ℕ) → suc i < count (children (part t 0)) → is_single W no_outside (children (part t 0)) i ≡ false) → (w : Tree) → Row71 W t w → ⊥
+none_single W t f w r = true≢false (sym (single_there W t w r) ∙ f (count r.before) (single_within W t w r))

@@ -15,13 +15,14 @@ use Rattle.mini_model.specs.Tree.{Tree, Trees, node, none, ◌▸◌, absent, li
 use Rattle.mini_model.specs.Paths.{append}
 use Rattle.mini_laws.specs.Naming as kinds
 use Rattle.mini_laws.specs.ScopeList.{has_eval}
+use Rattle.mini_laws.specs.Value.{VariableSet}
 use Rattle.mini_node.specs.Children.{names_of, part, with_child, with_part, without, is_bare, first_children, rest_children}
 use Rattle.mini_node.specs.Kinds.{is_block}
 use Rattle.mini_node.specs.Made.{block_is}
 use Rattle.mini_rows.specs.Lists.{block, declaration, declares_nothing}
 use Rattle.mini_rows.specs.Declarations.{binding, declarator}
-use Rattle.mini_rows.specs.Unused.{resolved, declared_among, declared_left, names, any_names, is_idle, Alone, Row72, Row72Idle, Row71, BlockRow}
-use Rattle.mini_unused.specs.RemoveUnusedDeclaration.{is_resolved_binding, is_declarator_shape, declares_name, is_lexical, may_go, is_alone, is_unused_declarator, list_at, is_unused, UnusedIn, UnusedOf, UnusedAt, let_left, statement_left, list_left, Applied}
+use Rattle.mini_rows.specs.Unused.{resolved, declared_among, declared_left, names, any_names, is_idle, lets_go, Alone, Row72, Row72Idle, Row71, BlockRow}
+use Rattle.mini_unused.specs.RemoveUnusedDeclaration.{is_resolved_binding, is_declarator_shape, declares_name, is_lexical_shape, declares_list, is_block_shape, open_in, may_write, may_write_in, may_lose, is_free_at, may_go, is_alone, is_unused_declarator, list_at, is_unused, UnusedIn, UnusedOf, UnusedAt, let_left, statement_left, list_left, Applied}
 
 -- ---- children
 
@@ -82,6 +83,10 @@ block_left t i j = with_part t 0 (list_left (part t 0) i j)
 
 -- ---- what the tests say
 
+and_none : (a : Bool) → (a && false) ≡ false
+and_none true = refl
+and_none false = refl
+
 pub and_both : (a b : Bool) → a ≡ true → b ≡ true → a && b ≡ true
 and_both a b e f = ap (λ x. x && b) e ∙ f
 
@@ -105,17 +110,20 @@ declarator_is (node shape.VariableDeclarator [] zero (a ▸ (b ▸ none))) e = r
 declarator_is d e = absurd (true≢false (sym e))
 
 -- of which kind it is
-pub a_lexical : (t : Tree) → is_lexical t ≡ true → (k : VariableDeclarationKind) × ((kinds.is_lexical k ≡ true) × (t ≡ declaration k (children (part t 0))))
-a_lexical (node (shape.VariableDeclaration Let) [] zero (node shape.Listed [] zero ds ▸ none)) e = (Let, (refl, refl))
-a_lexical (node (shape.VariableDeclaration Const) [] zero (node shape.Listed [] zero ds ▸ none)) e = (Const, (refl, refl))
-a_lexical (node (shape.VariableDeclaration Let) [] zero (u ▸ none)) e = absurd (true≢false (sym e))
-a_lexical (node (shape.VariableDeclaration Const) [] zero (u ▸ none)) e = absurd (true≢false (sym e))
-a_lexical t e = absurd (true≢false (sym e))
+pub a_declaration : (t : Tree) → declares_list t ≡ true → (k : VariableDeclarationKind) × (t ≡ declaration k (children (part t 0)))
+a_declaration (node (shape.VariableDeclaration k) [] zero (node shape.Listed [] zero ds ▸ none)) e = (k, refl)
+a_declaration (node (shape.VariableDeclaration k) [] zero (u ▸ none)) e = absurd (true≢false (sym e))
+a_declaration t e = absurd (true≢false (sym e))
 
-pub lexical_is : (k : VariableDeclarationKind) → kinds.is_lexical k ≡ true → (ds : Trees) → is_lexical (declaration k ds) ≡ true
-lexical_is Let e ds = refl
-lexical_is Const e ds = refl
-lexical_is Var e ds = absurd (true≢false (sym e))
+-- a name by where it stands
+pub open_name : (W : VariableSet) (o : Tree) (xs : List Name) → may_write_in (open_in o W) xs ≡ (not (is_block_shape (shape_of o)) && may_write_in W xs)
+open_name W o [] = sym (and_none (not (is_block_shape (shape_of o))))
+open_name W o (x ∷ []) = by x.symbol
+  where
+    by : (k : Option SymbolId) → may_write (open_in o W) k ≡ (not (is_block_shape (shape_of o)) && may_write W k)
+    by (Some k) = refl
+    by None = sym (and_none (not (is_block_shape (shape_of o))))
+open_name W o (x ∷ (y ∷ ys)) = sym (and_none (not (is_block_shape (shape_of o))))
 
 pub record Declares (d : Tree) : Type 0 where
   pub spelling : List ℕ
@@ -177,7 +185,7 @@ written t u i j b h f =
     f ∙ ap (λ v. block_left v i j) (block_is t b) ∙ ap block (with_parts ts i (statement_left (child_or_absent ts i) j) h)
 
 -- a block in which such a declarator stands
-module _ (t : Tree) (i j : ℕ) (b : is_block t ≡ true) (h : i < count (children (part t 0))) (g : j < count (children (list_at (children (part t 0)) i))) (e : is_unused no_outside (children (part t 0)) i j ≡ true) (v : has_eval t ≡ false) where
+module _ (t : Tree) (i j : ℕ) (b : is_block t ≡ true) (h : i < count (children (part t 0))) (g : j < count (children (list_at (children (part t 0)) i))) (W : VariableSet) (e : is_unused W no_outside (children (part t 0)) i j ≡ true) (v : has_eval t ≡ false) where
   abbrev ts : Trees
   ts = children (part t 0)
 
@@ -208,24 +216,31 @@ module _ (t : Tree) (i j : ℕ) (b : is_block t ≡ true) (h : i < count (childr
   abbrev alone_there : Bool
   alone_there = is_alone (names_of (part d 0)) no_outside init ds j ts i
 
-  tests : (is_lexical statement ≡ true) × (declares_name d ≡ true) × (may_go init (part statement 0) ≡ true) × (alone_there ≡ true)
+  abbrev lost : Bool
+  lost = may_lose (is_free_at ts i) W (names_of (part d 0))
+
+  tests : (declares_list statement ≡ true) × (declares_name d ≡ true) × (may_go init (part statement 0) ≡ true) × (alone_there ≡ true) × (lost ≡ true)
   tests =
-      let (a, p) = and_parts (is_lexical statement) (declares_name d && (may_go init (part statement 0) && alone_there)) e in
-      let (c, q) = and_parts (declares_name d) (may_go init (part statement 0) && alone_there) p in
-      let (f, r) = and_parts (may_go init (part statement 0)) alone_there q in
-      (a, c, f, r)
+      let (a, p) = and_parts (declares_list statement) (declares_name d && (lost && (may_go init (part statement 0) && alone_there))) e in
+      let (c, q) = and_parts (declares_name d) (lost && (may_go init (part statement 0) && alone_there)) p in
+      let (l, m) = and_parts lost (may_go init (part statement 0) && alone_there) q in
+      let (f, r) = and_parts (may_go init (part statement 0)) alone_there m in
+      (a, c, f, r, l)
 
   abbrev kind : VariableDeclarationKind
-  kind = (a_lexical statement tests.0).0
+  kind = (a_declaration statement tests.0).0
 
   let_there : statement ≡ declaration kind ds
-  let_there = (a_lexical statement tests.0).1.1
+  let_there = (a_declaration statement tests.0).1
 
   abbrev one : Declares d
   one = declares d tests.1
 
   abbrev x : Name
   x = resolved one.spelling one.symbol
+
+  goes : lets_go W kind one.symbol ≡ true
+  goes = sym (λ k. may_lose (is_lexical_shape (shape_of (let_there k))) W (names_of (part (one.is k) 0))) ∙ tests.4
 
   nothing_else : Quiet x init ds j ts i
   nothing_else = quiet x init ds j ts i (sym (ap (λ y. is_alone (names_of (part y 0)) no_outside init ds j ts i) one.is) ∙ tests.3)
@@ -254,10 +269,10 @@ module _ (t : Tree) (i j : ℕ) (b : is_block t ≡ true) (h : i < count (childr
   value : is_idle init ≡ false → (is_bare (listed ds) 1 ≡ true) × (declares_nothing init ≡ true)
   value c = let (p, q) = and_parts (is_bare (part statement 0) 1) (declares_nothing init) (sym (ap (λ a. a || (is_bare (part statement 0) 1 && declares_nothing init)) c) ∙ tests.2) in (sym (ap (λ l. is_bare l 1) list_is) ∙ p, q)
 
-  pub row_at : (u : Tree) → u ≡ block_left t i j → BlockRow t u
+  pub row_at : (u : Tree) → u ≡ block_left t i j → BlockRow W t u
   row_at u f = by (is_idle init) refl
     where
-      by : (a : Bool) → is_idle init ≡ a → BlockRow t u
+      by : (a : Bool) → is_idle init ≡ a → BlockRow W t u
       by true c =
           inr (inl (record {
             before = before;
@@ -268,7 +283,7 @@ module _ (t : Tree) (i j : ℕ) (b : is_block t ≡ true) (h : i < count (childr
             init = init;
             last = last;
             after = after;
-            lexical = (a_lexical statement tests.0).1.0;
+            goes = goes;
             idle = c;
             unused = unused;
             shape = block_there;
@@ -284,7 +299,7 @@ module _ (t : Tree) (i j : ℕ) (b : is_block t ≡ true) (h : i < count (childr
             symbol = one.symbol;
             init = init;
             after = after;
-            lexical = (a_lexical statement tests.0).1.0;
+            goes = goes;
             present = present;
             unused = subst (λ us. Alone kind x before us init none after) (sym no_first) (subst (λ us. Alone kind x before first init us after) (sym no_last) unused);
             shape = block_there ∙ sym (λ k. block (append before (declared_among kind x (no_first k) init (no_last k) ▸ after)));
@@ -294,7 +309,7 @@ module _ (t : Tree) (i j : ℕ) (b : is_block t ≡ true) (h : i < count (childr
 -- ---- where nothing is written no row reads it
 
 -- a block that a row reads
-pub record Read (t : Tree) : Type 0 where
+pub record Read (W : VariableSet) (t : Tree) : Type 0 where
   before : Trees
   kind : VariableDeclarationKind
   first : Trees
@@ -303,7 +318,7 @@ pub record Read (t : Tree) : Type 0 where
   init : Tree
   last : Trees
   after : Trees
-  lexical : kinds.is_lexical kind ≡ true
+  lost : lets_go W kind symbol ≡ true
   goes : may_go init (listed (append first (declarator (binding (resolved spelling symbol)) init ▸ last))) ≡ true
   unused : Alone kind (resolved spelling symbol) before first init last after
   shape : t ≡ block (append before (declared_among kind (resolved spelling symbol) first init last ▸ after))
@@ -312,13 +327,13 @@ pub or_true : (b : Bool) → (b || true) ≡ true
 or_true true = refl
 or_true false = refl
 
-dropped : (t w : Tree) → Row72 t w → Read t
-dropped t w r = record { before = r.before; kind = r.kind; lexical = r.lexical; first = none; spelling = r.spelling; symbol = r.symbol; init = r.init; last = none; after = r.after; goes = ap (λ b. is_idle r.init || b) r.present ∙ or_true (is_idle r.init); unused = r.unused; shape = r.shape }
+dropped : (W : VariableSet) (t w : Tree) → Row72 W t w → Read W t
+dropped W t w r = record { before = r.before; kind = r.kind; lost = r.goes; first = none; spelling = r.spelling; symbol = r.symbol; init = r.init; last = none; after = r.after; goes = ap (λ b. is_idle r.init || b) r.present ∙ or_true (is_idle r.init); unused = r.unused; shape = r.shape }
 
-dropped_idle : (t w : Tree) → Row72Idle t w → Read t
-dropped_idle t w r = record { before = r.before; kind = r.kind; lexical = r.lexical; first = r.first; spelling = r.spelling; symbol = r.symbol; init = r.init; last = r.last; after = r.after; goes = ap (λ b. b || (is_bare (listed (append r.first (declarator (binding (resolved r.spelling r.symbol)) r.init ▸ r.last))) 1 && declares_nothing r.init)) r.idle; unused = r.unused; shape = r.shape }
+dropped_idle : (W : VariableSet) (t w : Tree) → Row72Idle W t w → Read W t
+dropped_idle W t w r = record { before = r.before; kind = r.kind; lost = r.goes; first = r.first; spelling = r.spelling; symbol = r.symbol; init = r.init; last = r.last; after = r.after; goes = ap (λ b. b || (is_bare (listed (append r.first (declarator (binding (resolved r.spelling r.symbol)) r.init ▸ r.last))) 1 && declares_nothing r.init)) r.idle; unused = r.unused; shape = r.shape }
 
-module _ (t : Tree) (r : Read t) where
+module _ (W : VariableSet) (t : Tree) (r : Read W t) where
   abbrev named_there : Name
   named_there = resolved r.spelling r.symbol
 
@@ -344,17 +359,16 @@ module _ (t : Tree) (r : Read t) where
       let first_ts = ap (any_names y) (there_first r.before statement_there r.after) ∙ r.unused.earlier in
       λ k. all (r.unused.initial k) (rest_ds k) (rest_ts k) (first_ds k) (first_ts k)
 
-  unused_there : is_unused no_outside (children (part t 0)) (count r.before) (count r.first) ≡ true
+  unused_there : is_unused W no_outside (children (part t 0)) (count r.before) (count r.first) ≡ true
   unused_there =
       let ts = statements_there in
       let i = count r.before in
       let ds = declarators_there in
       let j = count r.first in
-      ap (λ v. is_unused no_outside (children (part v 0)) i j) r.shape
-      ∙ ap (λ c. is_lexical c && is_unused_declarator (part c 0) j no_outside ts i) (there_child r.before statement_there r.after)
-      ∙ ap (λ b. b && is_unused_declarator (part statement_there 0) j no_outside ts i) (lexical_is r.kind r.lexical ds)
-      ∙ ap (λ c. declares_name c && (may_go (part c 1) (listed ds) && is_alone (names_of (part c 0)) no_outside (part c 1) ds j ts i)) (there_child r.first declarator_there r.last)
-      ∙ and_both (may_go r.init (listed ds)) (is_alone (named_there ∷ []) no_outside r.init ds j ts i) r.goes alone_is
+      ap (λ v. is_unused W no_outside (children (part v 0)) i j) r.shape
+      ∙ ap (λ c. declares_list c && is_unused_declarator (is_lexical_shape (shape_of c)) W (part c 0) j no_outside ts i) (there_child r.before statement_there r.after)
+      ∙ ap (λ c. declares_name c && (may_lose (kinds.is_lexical r.kind) W (names_of (part c 0)) && (may_go (part c 1) (listed ds) && is_alone (names_of (part c 0)) no_outside (part c 1) ds j ts i))) (there_child r.first declarator_there r.last)
+      ∙ and_both (lets_go W r.kind r.symbol) (may_go r.init (listed ds) && is_alone (named_there ∷ []) no_outside r.init ds j ts i) r.lost (and_both (may_go r.init (listed ds)) (is_alone (named_there ∷ []) no_outside r.init ds j ts i) r.goes alone_is)
 
   statement_within : count r.before < count (children (part t 0))
   statement_within = subst (λ v. count r.before < count (children (part v 0))) (sym r.shape) (there_within r.before statement_there r.after)
@@ -364,26 +378,26 @@ module _ (t : Tree) (r : Read t) where
       subst (λ v. count r.first < count (children (list_at (children (part v 0)) (count r.before)))) (sym r.shape)
       (subst (λ c. count r.first < count (children (part c 0))) (sym (there_child r.before statement_there r.after)) (there_within r.first declarator_there r.last))
 
-pub no_row : (t : Tree) → (Read t → ⊥) → ((w : Tree) → Row71 t w → ⊥) → (w : Tree) → BlockRow t w → ⊥
-no_row t f g w (inl r) = f (dropped t w r)
-no_row t f g w (inr (inl r)) = f (dropped_idle t w r)
-no_row t f g w (inr (inr r)) = g w r
+pub no_row : (W : VariableSet) (t : Tree) → (Read W t → ⊥) → ((w : Tree) → Row71 W t w → ⊥) → (w : Tree) → BlockRow W t w → ⊥
+no_row W t f g w (inl r) = f (dropped W t w r)
+no_row W t f g w (inr (inl r)) = f (dropped_idle W t w r)
+no_row W t f g w (inr (inr r)) = g w r
 
-pub no_block : (t : Tree) → is_block t ≡ false → (w : Tree) → BlockRow t w → ⊥
-no_block t e = no_row t (λ r. true≢false (sym (ap is_block r.shape) ∙ e)) (λ w r. true≢false (sym (ap is_block r.shape) ∙ e))
+pub no_block : (W : VariableSet) (t : Tree) → is_block t ≡ false → (w : Tree) → BlockRow W t w → ⊥
+no_block W t e = no_row W t (λ r. true≢false (sym (ap is_block r.shape) ∙ e)) (λ w r. true≢false (sym (ap is_block r.shape) ∙ e))
 
-pub all_used : (t : Tree) → UnusedAt no_outside (children (part t 0)) None → Read t → ⊥
-all_used t f r = true≢false (sym (unused_there t r) ∙ f (count r.before) (statement_within t r) (count r.first) (declarator_within t r))
+pub all_used : (W : VariableSet) (t : Tree) → UnusedAt W no_outside (children (part t 0)) None → Read W t → ⊥
+all_used W t f r = true≢false (sym (unused_there W t r) ∙ f (count r.before) (statement_within W t r) (count r.first) (declarator_within W t r))
 
-pub seen_by_eval : (t : Tree) → has_eval t ≡ true → (w : Tree) → BlockRow t w → ⊥
-seen_by_eval t e = no_row t (λ r. true≢false (sym e ∙ ap has_eval r.shape ∙ r.unused.unseen)) (λ w r. true≢false (sym e ∙ ap has_eval r.shape ∙ r.unseen))
+pub seen_by_eval : (W : VariableSet) (t : Tree) → has_eval t ≡ true → (w : Tree) → BlockRow W t w → ⊥
+seen_by_eval W t e = no_row W t (λ r. true≢false (sym e ∙ ap has_eval r.shape ∙ r.unused.unseen)) (λ w r. true≢false (sym e ∙ ap has_eval r.shape ∙ r.unseen))
 
-pub elsewhere : (p : Position) (t : Tree) → ((q : StmtSeat) → p ≡ Stmt q → ⊥) → ((s : Seat) → p ≡ Expr s → ⊥) → (p ≡ Method → ⊥) → (p ≡ Elsewhere → ⊥) → Applied p t t false
-elsewhere (Stmt q) t f g h i = absurd (f q refl)
-elsewhere (Expr s) t f g h i = absurd (g s refl)
-elsewhere Method t f g h i = absurd (h refl)
-elsewhere Elsewhere t f g h i = absurd (i refl)
-elsewhere p t f g h i = (refl, λ w r. absurd r)
+pub elsewhere : (W : VariableSet) (p : Position) (t : Tree) → ((q : StmtSeat) → p ≡ Stmt q → ⊥) → ((s : Seat) → p ≡ Expr s → ⊥) → (p ≡ Method → ⊥) → (p ≡ Elsewhere → ⊥) → Applied W p t t false
+elsewhere W (Stmt q) t f g h i = absurd (f q refl)
+elsewhere W (Expr s) t f g h i = absurd (g s refl)
+elsewhere W Method t f g h i = absurd (h refl)
+elsewhere W Elsewhere t f g h i = absurd (i refl)
+elsewhere W p t f g h i = (refl, λ w r. absurd r)
 
 -- ---- the first one
 
@@ -409,9 +423,9 @@ module _ (P : ℕ → Type 0) where
 
 -- of one statement
 
-pub none_of : (o : Tree) (ts : Trees) (i : ℕ) → is_lexical (child_or_absent ts i) ≡ false → UnusedOf o ts i None
-none_of o ts i e j h = ap (λ b. b && is_unused_declarator (list_at ts i) j o ts i) e
+pub none_of : (W : VariableSet) (o : Tree) (ts : Trees) (i : ℕ) → declares_list (child_or_absent ts i) ≡ false → UnusedOf W o ts i None
+none_of W o ts i e j h = ap (λ b. b && is_unused_declarator (is_free_at ts i) W (list_at ts i) j o ts i) e
 
-pub of_list : (o : Tree) (ts : Trees) (i : ℕ) (f : Option ℕ) → is_lexical (child_or_absent ts i) ≡ true → 0 < count (children (child_or_absent ts i)) → UnusedIn (list_at ts i) o ts i f → UnusedOf o ts i f
-of_list o ts i (Some j) e h u = (h, u.0, and_both (is_lexical (child_or_absent ts i)) (is_unused_declarator (list_at ts i) j o ts i) e u.1)
-of_list o ts i None e h u = λ j g. ap (λ b. b && is_unused_declarator (list_at ts i) j o ts i) e ∙ u j g
+pub of_list : (W : VariableSet) (o : Tree) (ts : Trees) (i : ℕ) (f : Option ℕ) → declares_list (child_or_absent ts i) ≡ true → 0 < count (children (child_or_absent ts i)) → UnusedIn (is_free_at ts i) W (list_at ts i) o ts i f → UnusedOf W o ts i f
+of_list W o ts i (Some j) e h u = (h, u.0, and_both (declares_list (child_or_absent ts i)) (is_unused_declarator (is_free_at ts i) W (list_at ts i) j o ts i) e u.1)
+of_list W o ts i None e h u = λ j g. ap (λ b. b && is_unused_declarator (is_free_at ts i) W (list_at ts i) j o ts i) e ∙ u j g

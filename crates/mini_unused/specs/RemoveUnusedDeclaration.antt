@@ -1,17 +1,23 @@
 -- 72, `remove_unused_declaration`: `{ let x = a(); b(); }` becomes `{ a(); b(); }`, `{ let x = 1; b(); }` becomes `{ ; b(); }`, and
--- `{ let x, y = b(); c(y); }` becomes `{ let y = b(); c(y); }`; so do the statements of a function.
+-- `{ let x, y = b(); c(y); }` becomes `{ let y = b(); c(y); }`; so do the statements of a function, and there each `var`, too.
 use Rattle.std.specs.Prelude.{◌≡◌, ◌<◌, ℕ, suc, nat_eq, Bool, true, false, not, ◌&&◌, ◌||◌, List, [], ◌∷◌, Option, Some, None, is_some, if◌then◌else◌}
-use Rattle.mini_model.specs.declared.kind.VariableDeclarationKind.TheVariants.{Let, Const}
 use Rattle.mini_model.specs.declared.name.Name.{Name}
+use Rattle.mini_model.specs.declared.name.SymbolId.{SymbolId}
 use Rattle.mini_model.specs.declared.place.Position.{Position}
 use Rattle.mini_model.specs.declared.shape.Shape.{Shape}
 use Rattle.mini_model.specs.declared.shape.Shape.TheVariants as shape
 use Rattle.mini_model.specs.Tree.{Tree, Trees, shape_of, count, child_or_absent, empty_statement, expression_statement, children}
+use Rattle.mini_laws.specs.Naming.{is_lexical}
+use Rattle.mini_laws.specs.Value.{Declared, Global, VariableSet}
 use Rattle.mini_node.specs.Children.{names_of, like, part, with_part, without, is_bare, first_children, rest_children}
 use Rattle.mini_node.specs.Kinds.{is_listed, is_named_leaf}
 use Rattle.mini_rows.specs.Lists.{declares_nothing}
 use Rattle.mini_rows.specs.Unused.{names, any_names, is_idle, FunctionBodyRow, UnusedRow, UnusedContracts}
+use Rattle.mini_tree.specs.declared.options.CompressOptions.{CompressOptions}
 use Rattle.mini_tree.specs.Rule as rule
+use Rattle.mini_context.specs.Facts.{Facts}
+use Rattle.mini_context.specs.Tables.{mark_at}
+use Rattle.mini_context.specs.Writable.{writable_in}
 
 -- shapes
 
@@ -23,9 +29,12 @@ abbrev pub is_declarator_shape : Shape → Bool
 is_declarator_shape shape.VariableDeclarator = true
 is_declarator_shape _ = false
 
+abbrev pub is_variables_shape : Shape → Bool
+is_variables_shape (shape.VariableDeclaration k) = true
+is_variables_shape _ = false
+
 abbrev pub is_lexical_shape : Shape → Bool
-is_lexical_shape (shape.VariableDeclaration Let) = true
-is_lexical_shape (shape.VariableDeclaration Const) = true
+is_lexical_shape (shape.VariableDeclaration k) = is_lexical k
 is_lexical_shape _ = false
 
 -- a name that is declared, with its symbol
@@ -40,9 +49,34 @@ is_resolved_binding t = is_binding_shape (shape_of t) && (is_named_leaf t && has
 abbrev pub declares_name : Tree → Bool
 declares_name d = is_declarator_shape (shape_of d) && (is_bare d 2 && is_resolved_binding (part d 0))
 
--- a `let` or a `const`, whose declarators are those of its list
-abbrev pub is_lexical : Tree → Bool
-is_lexical t = is_lexical_shape (shape_of t) && (is_bare t 1 && is_listed (part t 0))
+-- a declaration of variables, whose declarators are those of its list
+abbrev pub declares_list : Tree → Bool
+declares_list t = is_variables_shape (shape_of t) && (is_bare t 1 && is_listed (part t 0))
+
+-- the variables that a table marks, by symbol
+abbrev pub marked : Facts → VariableSet
+marked f (Declared k) = mark_at f.writable k
+marked f (Global s) = false
+
+abbrev pub is_block_shape : Shape → Bool
+is_block_shape shape.BlockStatement = true
+is_block_shape _ = false
+
+-- those of them whose `var` may go from statements with what stands outside of them: of a block that is no body, none
+abbrev pub open_in : Tree → VariableSet → VariableSet
+open_in o W x = not (is_block_shape (shape_of o)) && W x
+
+abbrev pub may_write : VariableSet → Option SymbolId → Bool
+may_write W (Some s) = W (Declared s.0)
+may_write W None = false
+
+abbrev pub may_write_in : VariableSet → List Name → Bool
+may_write_in W (x ∷ []) = may_write W x.symbol
+may_write_in W xs = false
+
+-- a name that a `let` or a `const` declares, or one of these
+abbrev pub may_lose : Bool → VariableSet → List Name → Bool
+may_lose free W xs = free || may_write_in W xs
 
 -- of a declarator that goes nothing misses the initializer, or it is the only one of the list and leaves an expression
 abbrev pub may_go : Tree → Tree → Bool
@@ -55,32 +89,37 @@ is_alone [] o init ds j ts i = false
 is_alone (x ∷ xs) o init ds j ts i =
     not (names x o) && (not (names x init) && (not (any_names x (rest_children (suc j) ds)) && (not (any_names x (rest_children (suc i) ts)) && (not (any_names x (first_children j ds)) && not (any_names x (first_children i ts))))))
 
--- the declarator at the place in the list of a declaration, which is a statement at its place, has a name that nothing else mentions
-abbrev pub is_unused_declarator : Tree → ℕ → Tree → Trees → ℕ → Bool
-is_unused_declarator l j o ts i = declares_name (part l j) && (may_go (part (part l j) 1) l && is_alone (names_of (part (part l j) 0)) o (part (part l j) 1) (children l) j ts i)
+-- the declarator at the place in the list of a declaration, which is a statement at its place, has a name that nothing else mentions,
+-- which is free to go, or one of these variables
+abbrev pub is_unused_declarator : Bool → VariableSet → Tree → ℕ → Tree → Trees → ℕ → Bool
+is_unused_declarator free W l j o ts i = declares_name (part l j) && (may_lose free W (names_of (part (part l j) 0)) && (may_go (part (part l j) 1) l && is_alone (names_of (part (part l j) 0)) o (part (part l j) 1) (children l) j ts i))
 
 -- of the statement at the place the list of its declarators
 abbrev pub list_at : Trees → ℕ → Tree
 list_at ts i = part (child_or_absent ts i) 0
 
--- such a declarator of a `let` or a `const`
-abbrev pub is_unused : Tree → Trees → ℕ → ℕ → Bool
-is_unused o ts i j = is_lexical (child_or_absent ts i) && is_unused_declarator (list_at ts i) j o ts i
+-- whether it is a `let` or a `const`
+abbrev pub is_free_at : Trees → ℕ → Bool
+is_free_at ts i = is_lexical_shape (shape_of (child_or_absent ts i))
+
+-- it has such a declarator at the other place
+abbrev pub is_unused : VariableSet → Tree → Trees → ℕ → ℕ → Bool
+is_unused W o ts i j = declares_list (child_or_absent ts i) && is_unused_declarator (is_free_at ts i) W (list_at ts i) j o ts i
 
 -- the place of one in a list, or there is none
-abbrev pub UnusedIn : Tree → Tree → Trees → ℕ → Option ℕ → Type 0
-UnusedIn l o ts i (Some j) = (j < count (children l)) × (is_unused_declarator l j o ts i ≡ true)
-UnusedIn l o ts i None = (j : ℕ) → j < count (children l) → is_unused_declarator l j o ts i ≡ false
+abbrev pub UnusedIn : Bool → VariableSet → Tree → Tree → Trees → ℕ → Option ℕ → Type 0
+UnusedIn free W l o ts i (Some j) = (j < count (children l)) × (is_unused_declarator free W l j o ts i ≡ true)
+UnusedIn free W l o ts i None = (j : ℕ) → j < count (children l) → is_unused_declarator free W l j o ts i ≡ false
 
 -- of one statement
-abbrev pub UnusedOf : Tree → Trees → ℕ → Option ℕ → Type 0
-UnusedOf o ts i (Some j) = (0 < count (children (child_or_absent ts i))) × (j < count (children (list_at ts i))) × (is_unused o ts i j ≡ true)
-UnusedOf o ts i None = (j : ℕ) → j < count (children (list_at ts i)) → is_unused o ts i j ≡ false
+abbrev pub UnusedOf : VariableSet → Tree → Trees → ℕ → Option ℕ → Type 0
+UnusedOf W o ts i (Some j) = (0 < count (children (child_or_absent ts i))) × (j < count (children (list_at ts i))) × (is_unused W o ts i j ≡ true)
+UnusedOf W o ts i None = (j : ℕ) → j < count (children (list_at ts i)) → is_unused W o ts i j ≡ false
 
 -- of all
-abbrev pub UnusedAt : Tree → Trees → Option (ℕ × ℕ) → Type 0
-UnusedAt o ts (Some p) = (p.0 < count ts) × UnusedOf o ts p.0 (Some p.1)
-UnusedAt o ts None = (i : ℕ) → i < count ts → UnusedOf o ts i None
+abbrev pub UnusedAt : VariableSet → Tree → Trees → Option (ℕ × ℕ) → Type 0
+UnusedAt W o ts (Some p) = (p.0 < count ts) × UnusedOf W o ts p.0 (Some p.1)
+UnusedAt W o ts None = (i : ℕ) → i < count ts → UnusedOf W o ts i None
 
 -- the declaration without the declarator at the place
 abbrev pub let_left : Tree → ℕ → Tree
@@ -121,15 +160,22 @@ is_function_shape _ = false
 abbrev pub is_function : Tree → Bool
 is_function t = is_function_shape (shape_of t) && (are_no_names (names_of t) && (nat_eq (count (children t)) 3 && (is_listed (part t 1) && are_statements (part t 2))))
 
--- no row reads it as anything
-abbrev pub Rests : Position → Tree → Type 0
-Rests p n = (w : Tree) → UnusedRow p n w → ⊥
+-- no row of these variables reads it as anything
+abbrev pub RestsOver : VariableSet → Position → Tree → Type 0
+RestsOver W p n = (w : Tree) → UnusedRow W p n w → ⊥
 
 -- one call of the rule
-abbrev pub Applied : Position → Tree → Tree → Bool → Type 0
-Applied = rule.Applied UnusedContracts Rests
+abbrev pub Applied : VariableSet → Position → Tree → Tree → Bool → Type 0
+Applied W = rule.Applied (UnusedContracts W) (RestsOver W)
 
 -- one call of it for a function, wherever that stands
-abbrev pub AppliedInFunction : Tree → Tree → Bool → Type 0
-AppliedInFunction t u true = FunctionBodyRow t u
-AppliedInFunction t u false = (u ≡ t) × ((w : Tree) → FunctionBodyRow t w → ⊥)
+abbrev pub AppliedInFunction : VariableSet → Tree → Tree → Bool → Type 0
+AppliedInFunction W t u true = FunctionBodyRow W t u
+AppliedInFunction W t u false = (u ≡ t) × ((w : Tree) → FunctionBodyRow W t w → ⊥)
+
+-- over a program the rule makes what a row says of the variables that can be written in it, and rests where none does
+abbrev pub Gives : CompressOptions → Tree → Position → Tree → Tree → Type 0
+Gives o q = UnusedContracts (writable_in q)
+
+abbrev pub Rests : Tree → Position → Tree → Type 0
+Rests q = RestsOver (writable_in q)

@@ -1,15 +1,16 @@
 -- 71, `substitute_single_use`: `{ let x = a(); return x + b; }` becomes `{ ; return a() + b; }`, and `{ const a = b(), x = c(); return x; }`
--- becomes `{ const a = b(); return c(); }`.
+-- becomes `{ const a = b(); return c(); }`; so do the statements of a function, and there each `var`, too.
 use Rattle.std.specs.Prelude.{◌≡◌, ◌<◌, ◌^◌, ◌⊎◌, ℕ, suc, Bool, true, false, not, ◌&&◌, ◌||◌, List, [], ◌∷◌, Option, Some, None, if◌then◌else◌}
 use Rattle.mini_model.specs.declared.name.Name.{Name}
 use Rattle.mini_model.specs.declared.shape.Shape.{Shape}
 use Rattle.mini_model.specs.declared.shape.Shape.TheVariants as shape
 use Rattle.mini_model.specs.Tree.{Tree, Trees, none, ◌▸◌, count, child_or_absent, empty_statement, shape_of, children}
 use Rattle.mini_laws.specs.ScopeList.{has_eval}
+use Rattle.mini_laws.specs.Value.{VariableSet}
 use Rattle.mini_node.specs.Children.{names_of, part, with_part, is_bare, is_nameless, first_children, rest_children}
 use Rattle.mini_node.specs.Kinds.{is_listed}
 use Rattle.mini_rows.specs.Unused.{names, any_names, leads, is_childless, is_head_shape, may_move, reads_first, put_first}
-use Rattle.mini_unused.specs.RemoveUnusedDeclaration.{declares_name, is_lexical, list_at, let_left, list_left, UnusedAt}
+use Rattle.mini_unused.specs.RemoveUnusedDeclaration.{declares_name, declares_list, may_lose, is_free_at, list_at, let_left, list_left, UnusedAt}
 
 -- a node without a name and a number, which evaluates its first part before all else
 abbrev pub may_begin : Bool → Tree → Bool
@@ -42,18 +43,18 @@ abbrev pub is_read_once : List Name → Tree → Tree → Trees → ℕ → Tree
 is_read_once [] o init ds j ts i = false
 is_read_once (x ∷ xs) o init ds j ts i = not (names x o) && (reads_next x ts i && (not (is_declared_over x init ds j) && not (is_mentioned_around x ts i)))
 
--- so is the name of the declarator at the place, whose initializer may move
-abbrev pub is_single_declarator : Tree → ℕ → Tree → Trees → ℕ → Bool
-is_single_declarator l j o ts i = declares_name (part l j) && (may_move (part (part l j) 1) && is_read_once (names_of (part (part l j) 0)) o (part (part l j) 1) (children l) j ts i)
+-- so is the name of the declarator at the place, whose initializer may move, and which is free to go, or one of these variables
+abbrev pub is_single_declarator : Bool → VariableSet → Tree → ℕ → Tree → Trees → ℕ → Bool
+is_single_declarator free W l j o ts i = declares_name (part l j) && (may_lose free W (names_of (part (part l j) 0)) && (may_move (part (part l j) 1) && is_read_once (names_of (part (part l j) 0)) o (part (part l j) 1) (children l) j ts i))
 
--- the statement at the place is a `let` or a `const`, whose last declarator is such a one
-abbrev pub is_single : Tree → Trees → ℕ → Bool
-is_single o ts i = is_lexical (child_or_absent ts i) && is_single_declarator (list_at ts i) (last_place (children (list_at ts i))) o ts i
+-- the statement at the place is a declaration, whose last declarator is such a one
+abbrev pub is_single : VariableSet → Tree → Trees → ℕ → Bool
+is_single W o ts i = declares_list (child_or_absent ts i) && is_single_declarator (is_free_at ts i) W (list_at ts i) (last_place (children (list_at ts i))) o ts i
 
 -- the place of such a statement, or there is none
-abbrev pub SingleAt : Tree → Trees → Option ℕ → Type 0
-SingleAt o ts (Some i) = (suc i < count ts) × (suc i < 2 ^ 64) × (0 < count (children (child_or_absent ts i))) × (0 < count (children (list_at ts i))) × (is_single o ts i ≡ true)
-SingleAt o ts None = (i : ℕ) → suc i < count ts → is_single o ts i ≡ false
+abbrev pub SingleAt : VariableSet → Tree → Trees → Option ℕ → Type 0
+SingleAt W o ts (Some i) = (suc i < count ts) × (suc i < 2 ^ 64) × (0 < count (children (child_or_absent ts i))) × (0 < count (children (list_at ts i))) × (is_single W o ts i ≡ true)
+SingleAt W o ts None = (i : ℕ) → suc i < count ts → is_single W o ts i ≡ false
 
 -- the declaration without the declarator at the place: `;` where it is the only one
 abbrev pub declaration_left : Tree → ℕ → Tree
@@ -70,21 +71,21 @@ list_single l i j = with_part (with_part l i (declaration_left (part l i) j)) (s
 -- ---- one call, of a list of statements and what is outside of them
 
 -- a name that nothing mentions is gone
-pub record NameGone (o l m : Tree) : Type 0 where
+pub record NameGone (W : VariableSet) (o l m : Tree) : Type 0 where
   pub at : ℕ
   pub which : ℕ
-  pub unused : UnusedAt o (children l) (Some (at, which))
+  pub unused : UnusedAt W o (children l) (Some (at, which))
   pub left : m ≡ list_left l at which
 
 -- one that was read once is gone
-pub record ReadGone (o l m : Tree) : Type 0 where
+pub record ReadGone (W : VariableSet) (o l m : Tree) : Type 0 where
   pub at : ℕ
   pub next : suc at < count (children l)
   pub declares : 0 < count (children (list_at (children l) at))
-  pub single : is_single o (children l) at ≡ true
+  pub single : is_single W o (children l) at ≡ true
   pub left : m ≡ list_single l at (last_place (children (list_at (children l) at)))
 
 -- or there is none, or a direct eval sees it
-abbrev pub Removed : Tree → Tree → Tree → Bool → Type 0
-Removed o l m true = ((has_eval o || has_eval l) ≡ false) × (NameGone o l m ⊎ ReadGone o l m)
-Removed o l m false = (m ≡ l) × (((has_eval o || has_eval l) ≡ true) ⊎ (UnusedAt o (children l) None × SingleAt o (children l) None))
+abbrev pub Removed : VariableSet → Tree → Tree → Tree → Bool → Type 0
+Removed W o l m true = ((has_eval o || has_eval l) ≡ false) × (NameGone W o l m ⊎ ReadGone W o l m)
+Removed W o l m false = (m ≡ l) × (((has_eval o || has_eval l) ≡ true) ⊎ (UnusedAt W o (children l) None × SingleAt W o (children l) None))

@@ -1,30 +1,32 @@
 //! Row 72: `{ let x = a(); b(); }` becomes `{ a(); b(); }`, and `{ let x = 1, y = b(); c(y); }` becomes `{ let y = b(); c(y); }`,
 //! where nothing else in the block has x's spelling or its symbol and no direct eval stands there. So do the statements of a function,
-//! wherever it stands. It is lighter in every place.
+//! wherever it stands, and there each `var`, too, whose name can be written. It is lighter in every place.
 
 ghost use Rattle.std.specs.Prelude.{◌≡◌, ◌+◌, ◌<◌, ◌^◌, true, IfOk, OnOk};
 ghost use Rattle.mini_model.specs.declared.place.Position.TheVariants.{Expr, Stmt};
 ghost use Rattle.mini_model.specs.declared.seat.Seat.{Seat};
 ghost use Rattle.mini_model.specs.declared.seat.StmtSeat.{StmtSeat};
-ghost use Rattle.mini_model.specs.Tree.{absent, children, count};
+ghost use Rattle.mini_laws.specs.Naming.{is_lexical as is_it_lexical};
+ghost use Rattle.mini_model.specs.Tree.{absent, children, count, shape_of};
 ghost use Rattle.mini_node.specs.Children.{names, part, with_part};
-ghost use Rattle.mini_rows.specs.Unused.{is_idle as is_it_idle, UnusedContracts};
+ghost use Rattle.mini_rows.specs.Unused.{is_idle as is_it_idle};
 ghost use Rattle.mini_unused.specs.Lighter.{unused_is_lighter};
 ghost use Rattle.mini_unused.specs.RemoveUnusedDeclaration as row;
-ghost use Rattle.mini_unused.specs.RemoveUnusedDeclaration.{declares_name as it_declares_name, is_lexical as it_is_lexical, let_left, UnusedIn, UnusedOf, UnusedAt, Applied, AppliedInFunction, Rests};
+ghost use Rattle.mini_unused.specs.RemoveUnusedDeclaration.{declares_name as it_declares_name, declares_list as it_declares_list, is_lexical_shape, is_free_at, let_left, marked, open_in, UnusedIn, UnusedOf, UnusedAt, Applied, AppliedInFunction, Gives, Rests};
 ghost use Rattle.mini_unused.specs.SubstituteSingleUse.{Removed};
 
 use crate::declares::declares_nothing;
 use crate::evals::either_has_eval;
 use crate::mentions::{is_mentioned, is_mentioned_before, is_mentioned_from};
 use crate::single_uses::substitute_single_use;
+use mini_context::{Scopes, TraverseCtx};
 use mini_model::{Name, OutOfMemory, Position, Shape, VariableDeclarationKind};
 use mini_node::{
     Node, Nodes, discard, empty_statement, expression_statement, is_absent_part, is_block,
     is_listed, two,
 };
 use mini_terms::{has_no_effect, leaves_nothing};
-use mini_tree::{Context, Rule};
+use mini_tree::Rule;
 use std::alloc::Global;
 
 // A name with a symbol.
@@ -56,16 +58,61 @@ pub fn declares_name(node: &Node) -> bool
         && is_resolved_binding(node.child(0))
 }
 
-/// A `let` or a `const`, with its list of declarators.
-pub fn is_lexical(node: &Node) -> bool
-    ensures kind { result ≡ it_is_lexical node.now }
+/// A declaration of variables, with its list of declarators.
+pub fn declares_list(node: &Node) -> bool
+    ensures kind { result ≡ it_declares_list node.now }
     ensures list { result ≡ true → count (children node.now) ≡ 1 }
 {
-    let has_shape = matches!(
-        node.shape(),
-        Shape::VariableDeclaration(VariableDeclarationKind::Let | VariableDeclarationKind::Const)
-    );
-    has_shape && node.is_bare(1) && is_listed(node.child(0))
+    matches!(node.shape(), Shape::VariableDeclaration(_))
+        && node.is_bare(1)
+        && is_listed(node.child(0))
+}
+
+fn is_lexical_kind(kind: VariableDeclarationKind) -> bool
+    ensures { result ≡ is_it_lexical kind }
+{
+    match kind {
+        VariableDeclarationKind::Var => false,
+        VariableDeclarationKind::Let | VariableDeclarationKind::Const => true,
+    }
+}
+
+/// A `let` or a `const`.
+pub fn is_lexical(shape: &Shape) -> bool
+    ensures { result ≡ is_lexical_shape shape.now }
+{
+    match shape {
+        Shape::VariableDeclaration(kind) => is_lexical_kind(*kind),
+        _ => false,
+    }
+}
+
+// What stands outside of a block's statements is a block.
+fn is_block_shape(shape: &Shape) -> bool
+    ensures { result ≡ row.is_block_shape shape.now }
+{
+    matches!(shape, Shape::BlockStatement)
+}
+
+// A name that a scope declares, and that can be written.
+fn may_write(name: &Option<Name>, scopes: &Scopes) -> bool
+    ensures { result ≡ row.may_write_in (marked scopes.now) (names name.now) }
+{
+    match name {
+        Some(name) => match name.symbol {
+            Some(symbol) => scopes.is_mentioned_writable(symbol),
+            None => false,
+        },
+        None => false,
+    }
+}
+
+/// A name that a `let` or a `const` declares, or, in a function's statements, one that can be written.
+#[tactic(auto, using(crate::proofs::Unused::open_name))]
+pub fn may_lose(is_free: bool, name: &Option<Name>, outside: &Node, scopes: &Scopes) -> bool
+    ensures { result ≡ row.may_lose is_free (open_in outside.now (marked scopes.now)) (names name.now) }
+{
+    is_free || !is_block_shape(outside.shape()) && may_write(name, scopes)
 }
 
 // An initializer that nothing misses: none, or an expression that has no effect and leaves nothing behind.
@@ -114,20 +161,23 @@ fn is_alone(
 
 // Whether nothing else mentions the name of the declarator, and it may go.
 fn is_unused_declarator(
+    is_free: bool,
     list: &Node,
     which: usize,
     outside: &Node,
     statements: &Nodes,
     at: usize,
+    scopes: &Scopes,
 ) -> bool
     requires declarator { which < count (children list.now) }
     requires statement { at < count statements.now }
     requires fits { which + 1 < 2 ^ 64 }
     requires fits_too { at + 1 < 2 ^ 64 }
-    ensures { result ≡ row.is_unused_declarator list.now which outside.now statements.now at }
+    ensures { result ≡ row.is_unused_declarator is_free (open_in outside.now (marked scopes.now)) list.now which outside.now statements.now at }
 {
     let declarator = list.child(which);
     declares_name(declarator)
+        && may_lose(is_free, declarator.child(0).name(), outside, scopes)
         && may_go(declarator.child(1), list)
         && is_alone(
             declarator.child(0).name(),
@@ -141,38 +191,46 @@ fn is_unused_declarator(
 }
 
 // The first declarator of the list that is.
-fn unused_in(list: &Node, outside: &Node, statements: &Nodes, at: usize) -> Option<usize>
+fn unused_in(
+    is_free: bool,
+    list: &Node,
+    outside: &Node,
+    statements: &Nodes,
+    at: usize,
+    scopes: &Scopes,
+) -> Option<usize>
     requires statement { at < count statements.now }
     requires fits { at + 1 < 2 ^ 64 }
-    ensures { UnusedIn list.now outside.now statements.now at result }
+    ensures { UnusedIn is_free (open_in outside.now (marked scopes.now)) list.now outside.now statements.now at result }
 {
     for which in 0..list.children().len() {
-        if is_unused_declarator(list, which, outside, statements, at) {
+        if is_unused_declarator(is_free, list, which, outside, statements, at, scopes) {
             return Some(which);
         }
     }
     None
 }
 
-// Of the statement, where it is a `let` or a `const`.
-fn unused_of(outside: &Node, statements: &Nodes, at: usize) -> Option<usize>
+// Of the statement, where it is a declaration.
+fn unused_of(outside: &Node, statements: &Nodes, at: usize, scopes: &Scopes) -> Option<usize>
     requires statement { at < count statements.now }
     requires fits { at + 1 < 2 ^ 64 }
-    ensures { UnusedOf outside.now statements.now at result }
+    ensures { UnusedOf (open_in outside.now (marked scopes.now)) outside.now statements.now at result }
 {
     let statement = statements.child(at);
-    if !is_lexical(statement) {
+    if !declares_list(statement) {
         return None;
     }
-    unused_in(statement.child(0), outside, statements, at)
+    let is_free = is_lexical(statement.shape());
+    unused_in(is_free, statement.child(0), outside, statements, at, scopes)
 }
 
 // The first statement that has one, and the declarator's place in it.
-fn unused_at(outside: &Node, statements: &Nodes) -> Option<(usize, usize)>
-    ensures { UnusedAt outside.now statements.now result }
+fn unused_at(outside: &Node, statements: &Nodes, scopes: &Scopes) -> Option<(usize, usize)>
+    ensures { UnusedAt (open_in outside.now (marked scopes.now)) outside.now statements.now result }
 {
     for at in 0..statements.len() {
-        if let Some(which) = unused_of(outside, statements, at) {
+        if let Some(which) = unused_of(outside, statements, at, scopes) {
             return Some((at, which));
         }
     }
@@ -247,10 +305,15 @@ fn drop_in_list(alloc: Global, list: &mut Node, at: usize, which: usize) -> Resu
 
 // Of a list of statements, with what stands outside of them, a name that nothing else mentions goes, or one that is read once. The
 // answer says whether one did.
-fn remove_in_list(alloc: Global, outside: &Node, list: &mut Node) -> Result<bool, OutOfMemory>
-    ensures { IfOk result (λ changed. Removed outside.now list.old list.new changed) }
+fn remove_in_list(
+    alloc: Global,
+    outside: &Node,
+    list: &mut Node,
+    scopes: &Scopes,
+) -> Result<bool, OutOfMemory>
+    ensures { IfOk result (λ changed. Removed (open_in outside.now (marked scopes.now)) outside.now list.old list.new changed) }
 {
-    match unused_at(outside, list.children()) {
+    match unused_at(outside, list.children(), scopes) {
         Some((at, which)) => {
             if either_has_eval(outside, list) {
                 return Ok(false);
@@ -258,7 +321,7 @@ fn remove_in_list(alloc: Global, outside: &Node, list: &mut Node) -> Result<bool
             drop_in_list(alloc, list, at, which)?;
             Ok(true)
         }
-        None => Ok(substitute_single_use(alloc, outside, list)),
+        None => Ok(substitute_single_use(alloc, outside, list, scopes)),
     }
 }
 
@@ -266,14 +329,18 @@ fn remove_in_list(alloc: Global, outside: &Node, list: &mut Node) -> Result<bool
 /// where nothing mentions x, and so do the statements of a function that is declared. The answer says whether one did; the only error
 /// is that memory runs out.
 #[tactic(auto, using(crate::proofs::Unused::same_parts, crate::proofs::Unused::part_twice))]
-pub fn remove_unused_declaration(alloc: Global, node: &mut Node) -> Result<bool, OutOfMemory>
-    ensures { IfOk result (λ changed. (q : StmtSeat) → Applied (Stmt q) node.old node.new changed) }
+pub fn remove_unused_declaration(
+    alloc: Global,
+    node: &mut Node,
+    scopes: &Scopes,
+) -> Result<bool, OutOfMemory>
+    ensures { IfOk result (λ changed. (q : StmtSeat) → Applied (marked scopes.now) (Stmt q) node.old node.new changed) }
 {
     if !is_block(node) {
-        return remove_unused_in_function(alloc, node);
+        return remove_unused_in_function(alloc, node, scopes);
     }
     let mut list = take_child(node, 0);
-    let changed = remove_in_list(alloc, node, &mut list);
+    let changed = remove_in_list(alloc, node, &mut list, scopes);
     put_child(node, 0, list);
     changed
 }
@@ -311,15 +378,19 @@ fn has_statements(node: &Node) -> bool
 /// So do the statements of an arrow function, whose parameters don't mention x either, and those of any other function that stands as an
 /// expression.
 #[tactic(auto, using(crate::proofs::Unused::same_parts, crate::proofs::Unused::part_twice))]
-pub fn remove_unused_in_arrow(alloc: Global, node: &mut Node) -> Result<bool, OutOfMemory>
-    ensures { IfOk result (λ changed. (s : Seat) → Applied (Expr s) node.old node.new changed) }
+pub fn remove_unused_in_arrow(
+    alloc: Global,
+    node: &mut Node,
+    scopes: &Scopes,
+) -> Result<bool, OutOfMemory>
+    ensures { IfOk result (λ changed. (s : Seat) → Applied (marked scopes.now) (Expr s) node.old node.new changed) }
 {
     if !has_statements(node) {
-        return remove_unused_in_function(alloc, node);
+        return remove_unused_in_function(alloc, node, scopes);
     }
     let mut body = take_child(node, 1);
     let mut list = take_child(&mut body, 0);
-    let changed = remove_in_list(alloc, node, &mut list);
+    let changed = remove_in_list(alloc, node, &mut list, scopes);
     put_child(&mut body, 0, list);
     put_child(node, 1, body);
     changed
@@ -341,29 +412,34 @@ fn is_function(node: &Node) -> bool
 /// Of a function that is no arrow function, as `function f(a) { let x = b(); return x + a; }`, whose own name and whose parameters don't
 /// mention x either, wherever it stands. The answer says whether a name went; the only error is that memory runs out.
 #[tactic(auto, using(crate::proofs::Unused::same_parts, crate::proofs::Unused::part_twice))]
-pub fn remove_unused_in_function(alloc: Global, node: &mut Node) -> Result<bool, OutOfMemory>
-    ensures { IfOk result (λ changed. AppliedInFunction node.old node.new changed) }
+pub fn remove_unused_in_function(
+    alloc: Global,
+    node: &mut Node,
+    scopes: &Scopes,
+) -> Result<bool, OutOfMemory>
+    ensures { IfOk result (λ changed. AppliedInFunction (marked scopes.now) node.old node.new changed) }
 {
     if !is_function(node) {
         return Ok(false);
     }
     let mut body = take_child(node, 2);
     let mut list = take_child(&mut body, 0);
-    let changed = remove_in_list(alloc, node, &mut list);
+    let changed = remove_in_list(alloc, node, &mut list, scopes);
     put_child(&mut body, 0, list);
     put_child(node, 2, body);
     changed
 }
 
-/// Rows 71 and 72 as a rule: of each block, and of each function with statements.
+/// Rows 71 and 72 as a rule: of each block, and of each function with statements. Its context says which names the program that it knows
+/// lets be written.
 pub struct RemoveUnusedDeclarations;
 
-impl<C: Context> Rule<C> for RemoveUnusedDeclarations {
-    ghost gives = { λ o q. UnusedContracts };
+impl Rule<TraverseCtx> for RemoveUnusedDeclarations {
+    ghost gives = { Gives };
 
-    ghost rests = { λ o q. Rests };
+    ghost rests = { λ o q. Rests q };
 
-    ghost lighter = { λ o q. unused_is_lighter };
+    ghost lighter = { λ o q. unused_is_lighter q };
 
     #[tactic(auto, using(crate::proofs::Unused::elsewhere))]
     fn apply(
@@ -371,13 +447,13 @@ impl<C: Context> Rule<C> for RemoveUnusedDeclarations {
         alloc: Global,
         node: &mut Node,
         place: Position,
-        _context: &mut C,
+        context: &mut TraverseCtx,
     ) -> Result<bool, OutOfMemory> {
         match place {
-            Position::Stmt(_) => Ok(remove_unused_declaration(alloc, node)?),
-            Position::Expr(_) => Ok(remove_unused_in_arrow(alloc, node)?),
-            Position::Method => Ok(remove_unused_in_function(alloc, node)?),
-            Position::Elsewhere => Ok(remove_unused_in_function(alloc, node)?),
+            Position::Stmt(_) => Ok(remove_unused_declaration(alloc, node, &context.scopes)?),
+            Position::Expr(_) => Ok(remove_unused_in_arrow(alloc, node, &context.scopes)?),
+            Position::Method => Ok(remove_unused_in_function(alloc, node, &context.scopes)?),
+            Position::Elsewhere => Ok(remove_unused_in_function(alloc, node, &context.scopes)?),
             _ => Ok(false),
         }
     }

@@ -8,13 +8,16 @@ ghost use Rattle.mini_node.specs.Children.{names, part, with_part};
 ghost use Rattle.mini_node.specs.Kinds.{is_sequence_shape as is_it_sequence_shape};
 ghost use Rattle.mini_rows.specs.Unused as reading;
 ghost use Rattle.mini_rows.specs.Unused.{put_first as it_put_first};
-ghost use Rattle.mini_unused.specs.RemoveUnusedDeclaration.{list_at, UnusedAt};
+ghost use Rattle.mini_unused.specs.RemoveUnusedDeclaration.{list_at, marked, open_in, UnusedAt};
 ghost use Rattle.mini_unused.specs.SubstituteSingleUse as row;
 ghost use Rattle.mini_unused.specs.SubstituteSingleUse.{declaration_left, SingleAt, Removed};
 
-use crate::declarations::{declares_name, is_lexical, put_child, take_child, take_declarator};
+use crate::declarations::{
+    declares_list, declares_name, is_lexical, may_lose, put_child, take_child, take_declarator,
+};
 use crate::evals::either_has_eval;
 use crate::mentions::{is_mentioned, is_mentioned_before, is_mentioned_from, is_same_symbol};
+use mini_context::Scopes;
 use mini_model::{Name, Shape, UnaryOperator};
 use mini_node::{Node, Nodes, discard, empty_statement, is_identifier, two};
 use mini_terms::is_plain_part;
@@ -202,19 +205,22 @@ fn is_read_once(
 }
 
 fn is_single_declarator(
+    is_free: bool,
     list: &Node,
     which: usize,
     outside: &Node,
     statements: &Nodes,
     at: usize,
+    scopes: &Scopes,
 ) -> bool
     requires declarator { which < count (children list.now) }
     requires next { at + 1 < count statements.now }
     requires fits { at + 2 < 2 ^ 64 }
-    ensures { result ≡ row.is_single_declarator list.now which outside.now statements.now at }
+    ensures { result ≡ row.is_single_declarator is_free (open_in outside.now (marked scopes.now)) list.now which outside.now statements.now at }
 {
     let declarator = list.child(which);
     declares_name(declarator)
+        && may_lose(is_free, declarator.child(0).name(), outside, scopes)
         && may_move(declarator.child(1))
         && is_read_once(
             declarator.child(0).name(),
@@ -227,17 +233,17 @@ fn is_single_declarator(
         )
 }
 
-// The statement is a `let` or a `const`, whose last declarator is such a one.
+// The statement is a declaration, whose last declarator is such a one.
 #[tactic(auto, using(crate::proofs::SingleUses::no_declarator, crate::proofs::SingleUses::last_is))]
-fn is_single(outside: &Node, statements: &Nodes, at: usize) -> bool
+fn is_single(outside: &Node, statements: &Nodes, at: usize, scopes: &Scopes) -> bool
     requires next { at + 1 < count statements.now }
     requires fits { at + 2 < 2 ^ 64 }
-    ensures single { result ≡ row.is_single outside.now statements.now at }
+    ensures single { result ≡ row.is_single (open_in outside.now (marked scopes.now)) outside.now statements.now at }
     ensures list { result ≡ true → 0 < count (children (child_or_absent statements.now at)) }
     ensures declarators { result ≡ true → 0 < count (children (list_at statements.now at)) }
 {
     let statement = statements.child(at);
-    if !is_lexical(statement) {
+    if !declares_list(statement) {
         return false;
     }
     let list = statement.child(0);
@@ -245,19 +251,20 @@ fn is_single(outside: &Node, statements: &Nodes, at: usize) -> bool
     if count == 0 {
         return false;
     }
-    is_single_declarator(list, count - 1, outside, statements, at)
+    let is_free = is_lexical(statement.shape());
+    is_single_declarator(is_free, list, count - 1, outside, statements, at, scopes)
 }
 
 // The first such statement.
-fn single_at(outside: &Node, statements: &Nodes) -> Option<usize>
-    ensures { SingleAt outside.now statements.now result }
+fn single_at(outside: &Node, statements: &Nodes, scopes: &Scopes) -> Option<usize>
+    ensures { SingleAt (open_in outside.now (marked scopes.now)) outside.now statements.now result }
 {
     let count = statements.len();
     if count == 0 {
         return None;
     }
     for at in 0..count - 1 {
-        if is_single(outside, statements, at) {
+        if is_single(outside, statements, at, scopes) {
             return Some(at);
         }
     }
@@ -344,11 +351,16 @@ fn last_declarator(list: &Node, at: usize) -> usize
 
 /// Of a list of statements in which no name is unused, with what stands outside of them, `let x = a(); return x + b;` becomes
 /// `; return a() + b;`, and `let a, x = b(); return x;` becomes `let a; return b();`. The answer says whether one did.
-pub fn substitute_single_use(alloc: Global, outside: &Node, list: &mut Node) -> bool
-    requires { UnusedAt outside.now (children list.old) None }
-    ensures { Removed outside.now list.old list.new result }
+pub fn substitute_single_use(
+    alloc: Global,
+    outside: &Node,
+    list: &mut Node,
+    scopes: &Scopes,
+) -> bool
+    requires { UnusedAt (open_in outside.now (marked scopes.now)) outside.now (children list.old) None }
+    ensures { Removed (open_in outside.now (marked scopes.now)) outside.now list.old list.new result }
 {
-    match single_at(outside, list.children()) {
+    match single_at(outside, list.children(), scopes) {
         Some(at) => {
             if either_has_eval(outside, list) {
                 return false;
