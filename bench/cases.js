@@ -116,8 +116,8 @@ becomes("functions that change places", "x = !a ? function (b) { return b; } : c
 becomes("three that do", "x = !a ? !b ? (c => c) : (d => d) : (e => e);", "x = a ? e => e : b ? d => d : c => c;", { kept: [0, 3, 2, 1], symbols: [2, 1, 0] });
 becomes(
   "with the scopes in them",
-  "x = !a ? function () { let b; { let c; e(c); } } : function () { var d; };",
-  "x = a ? function () { var d; } : function () { { let c; e(c); } };",
+  "x = !a ? function () { let b; { let c; e(c); } } : function () { var d; e(d); };",
+  "x = a ? function () { var d; e(d); } : function () { { let c; e(c); } };",
   { kept: [0, 2, 1], symbols: [2, 1], passes: 3 },
 );
 becomes(
@@ -546,6 +546,40 @@ becomes("one of a consequent of nothing else", "if (a) { const b = 1; } else { w
 becomes("a constant of a function", "function f() { const x = a(); b(); }", "function f() { a(), b(); }", { kept: 2, symbols: [0], passes: 3 });
 becomes("a constant of an arrow function", "f(() => { const x = a(); b(); });", "f(() => { a(), b(); });", { kept: 2, symbols: [], passes: 3 });
 becomes("one of several of a method", "f({ m() { const x = 1, y = a(); b(y, y); } });", "f({ m() { const y = a(); b(y, y); } });", { kept: 2, symbols: [1] });
+
+// ---- a var of a function goes, too: its name can be written, and is seen nowhere around the function
+
+becomes("a var of a function", "function f() { var x = a(); b(); }", "function f() { a(), b(); }", { kept: 2, symbols: [0], passes: 3 });
+becomes("one without an initializer", "function f() { var x; b(); }", "function f() { b(); }", { kept: 2, symbols: [0], passes: 3 });
+becomes("one whose initializer nothing misses", "function f() { var x = 1; b(); }", "function f() { b(); }", { kept: 2, symbols: [0], passes: 3 });
+becomes("one of several", "function f() { var x, y = b(); c(y, y); }", "function f() { var y = b(); c(y, y); }", { kept: 2, symbols: [0, 2] });
+becomes("two of a declaration", "function f() { var x, y; a(); }", "function f() { a(); }", { kept: 2, symbols: [0], passes: 3 });
+becomes("one of a function expression", "f(function () { var x = a(); b(); });", "f(function () { a(), b(); });", { kept: 2, symbols: [], passes: 3 });
+becomes("one of an arrow function", "f(() => { var x = a(); b(); });", "f(() => { a(), b(); });", { kept: 2, symbols: [], passes: 3 });
+becomes("one beside a parameter", "f(function (y) { var x; y(); });", "f(function (y) { y(); });", { kept: 2, symbols: 1, passes: 3 });
+becomes("one of a generator", "f(function* () { var x = 1; yield a(); });", "f(function* () { yield a(); });", { kept: 2, symbols: [], passes: 3 });
+becomes("one of a method", "f({ m() { var x = a(); b(); } });", "f({ m() { a(), b(); } });", { kept: 2, symbols: [], passes: 3 });
+becomes("one of a constructor", "f(class { constructor() { var x; a(); } });", "f(class { constructor() { a(); } });", { kept: 3, symbols: [], passes: 3 });
+becomes("one of a function that is exported", "export function f() { var x = a(); b(); }", "export function f() { a(), b(); }", { kept: 2, symbols: [0], passes: 3 });
+becomes("one of a default export", "export default function () { var x = a(); b(); }", "export default function () { a(), b(); }", { kept: 2, symbols: [], passes: 3 });
+becomes("one behind a directive", 'function f() { "use strict"; var x = a(); b(); }', 'function f() { "use strict"; a(), b(); }', { kept: 2, symbols: [0], passes: 3 });
+becomes("one behind a jump", "function g() { return a; var b; }", "function g() { return a; }", { kept: 2, symbols: [0], passes: 3 });
+becomes("one of a block that a list takes in", "function f() { { var x = a(); b(); } }", "function f() { a(), b(); }", { kept: 2, symbols: [0], passes: 3 });
+becomes("one beside a name of its spelling around the function", "var x = a(); f(function () { var x = b(); c(); }, x);", "var x = a(); f(function () { b(), c(); }, x);", { kept: 2, symbols: [0], passes: 3 });
+becomes("one beside a let of an inner function that goes first", "function f() { var x = a(); return function () { let x = b(); return x.c; }; }", "function f() { return a(), function () { return b().c; }; }", { kept: 3, symbols: [0], passes: 3 });
+becomes("one that is only assigned to where it is declared", "function f() { var x; x = a(); b(); }", "function f() { a(), b(); }", { kept: 2, symbols: [0], passes: 3 });
+becomes("one named arguments", "function f() { var arguments = a(); b(); }", "function f() { a(), b(); }", { kept: 2, symbols: [0], passes: 3 });
+becomes("a var that a function returns", "function f() { var x = a(); return x.b; }", "function f() { return a().b; }", { kept: 2, symbols: [0], passes: 3 });
+becomes("one that is a number", "f(() => { var a = 1; return a; });", "f(() => 1);", { kept: 2, symbols: [], passes: 3 });
+becomes("one of an arrow function with a parameter", "f((y) => { var x = y(); return x[y]; });", "f((y) => y()[y]);", { kept: 2, symbols: 1, passes: 3 });
+becomes("one that is assigned to first", "function f() { var x; x = a(); return x.b; }", "function f() { return a().b; }", { kept: 2, symbols: [0], passes: 3 });
+becomes("the last of several", "function f() { var y = 1, x = b(); x.c(y, y); }", "function f() { var y = 1; b().c(y, y); }", { kept: 2, symbols: [0, 1] });
+becomes("one read by another", "function f() { var x = a(); var y = x.b(); return y.c; }", "function f() { return a().b().c; }", { kept: 2, symbols: [0], passes: 3 });
+becomes("one that is thrown", "function* f() { var x = a(); throw x; }", "function* f() { throw a(); }", { kept: 2, symbols: [0], passes: 3 });
+becomes("one as a test", "function f() { var x = a(); if (x) return b; c(); }", "function f() { if (a()) return b; c(); }", { kept: 2, symbols: [0], passes: 3 });
+becomes("one of a static method", "f(class { static m() { var x = a(); return x || b; } });", "f(class { static m() { return a() || b; } });", { kept: 3, symbols: [], passes: 3 });
+becomes("one in a function that a script shows", "var x = a(); function f(y) { var z = y(); return z.b(x); }", "var x = a(); function f(y) { return y().b(x); }", { kept: 2, symbols: [0, 1, 2], passes: 3 });
+becomes("a var of a getter", "f({ get m() { var x = a(); return x ? b : c; } });", "f({ get m() { return a() ? b : c; } });", { kept: 2, symbols: [], passes: 3 });
 
 // ---- so do the names of function and class expressions, and of what is caught
 
