@@ -1,7 +1,7 @@
 -- Commands over the children of a node, and what they do. A command names no variable but by its place in the node's
 -- naming, so that the command of a node is the same whatever its variables are.
 use Rattle.std.specs.Prelude.{ℕ, zero, suc, Bool, true, false, List, [], ◌∷◌, Option, Some, None}
-use Rattle.mini_laws.specs.Value.{Value, Undefined, Boolean, Object, Variable, Slot, Holds, Missing, Uninitialised, choose, variable_eq, is_in, nth}
+use Rattle.mini_laws.specs.Value.{Value, Undefined, Boolean, Object, Variable, Declared, Global, Slot, Holds, Missing, Uninitialised, choose, variable_eq, is_in, nth}
 use Rattle.mini_laws.specs.State.{Label, Coerce, DeleteOf, NewOf, InOf, InstanceOf, ArrayOf, ObjectOf, Create, NodeOf, PlaceOf, BindOf, ThisOf, IteratorOf, KeysOf, NextOf, YieldOf, RaiseTypeError, FreshOf, ABoolean, AnObject, InChain, Entry, Item, Given, Normal, Throws, Finished, Returning, Shortens, Answer, State, Stop, Thrown, Returned, Short, NoAnswers, NoTurns, Completion, ok, stop, halt, out, Ends, done, ended, either, Fixed, Environment, with_vars, seen, news_of}
 use Rattle.mini_laws.specs.Demand.{Demand, Request, Reply}
 
@@ -235,6 +235,11 @@ read_any (Holds v) s = ok v s
 read_any Missing s = ok Undefined s
 read_any Uninitialised s = out
 
+-- and of any name: a declared one is never absent
+abbrev pub read_type : Variable → Slot → State → Completion Value
+read_type (Declared n) v s = read_slot v s
+read_type (Global t) v s = read_any v s
+
 -- ECMA-262, "SetMutableBinding"
 unfoldable pub write_slot : Variable → Value → Slot → State → Completion (Unit {0})
 write_slot x v (Holds w) s = ok tt (with_vars s (set_var s.vars x (Holds v)))
@@ -256,7 +261,7 @@ take_turn (suc n) s = ok tt (record s { turns = n })
 
 unfoldable pub act : Environment → Naming → (o : Op) → State → Completion (Gets o)
 act e names (read i) s = at_variable (nth names.own i) (λ x. read_slot (s.vars x) s)
-act e names (read_typeof i) s = at_variable (nth names.own i) (λ x. read_any (s.vars x) s)
+act e names (read_typeof i) s = at_variable (nth names.own i) (λ x. read_type x (s.vars x) s)
 act e names (fixity i) s = at_variable (nth names.written i) (λ x. ok (e.fixed x) s)
 act e names (write i v) s = at_variable (nth names.written i) (λ x. write_slot x v (s.vars x) s)
 act e names (init i v) s = at_variable (nth names.written i) (λ x. ok tt (start e true x v s))

@@ -1,5 +1,6 @@
 -- Commands that end abruptly in some ways alone, which throws and returns are among: those of expressions, where their children do.
 use Rattle.std.proofs.Common.{◌≡◌, ℕ, zero, suc, Bool, true, false, List, [], ◌∷◌, refl, sym, subst, true≢false}
+use Rattle.mini_laws.proofs.Runs.{type_reads}
 use Rattle.std.specs.Prelude.{not, ◌&&◌, Option, Some, None, length}
 use Rattle.mini_model.specs.declared.operator.BinaryOperator.{BinaryOperator}
 use Rattle.mini_model.specs.declared.operator.BinaryOperator.TheVariants as binary
@@ -15,7 +16,7 @@ use Rattle.mini_laws.specs.Conversion.{Made, makes, raises, outside, to_number, 
 use Rattle.mini_laws.specs.Operators.{strictly_equal, loosely_equal, of_numbers, of_number, of_primitives, safe_number}
 use Rattle.mini_laws.specs.State.{Hint, ForDefault, ForNumber, ForString, Carries, Anything, ABoolean, AnObject, InChain, Label, GetOf, SetOf, DeleteOf, CallOf, DirectEval, NewOf, Coerce, InOf, InstanceOf, ArrayOf, ObjectOf, Create, NodeOf, PlaceOf, BindOf, ThisOf, IteratorOf, KeysOf, NextOf, YieldOf, Entry, Item, Given, Normal, Throws, Finished, Returning, Shortens, Answer, State, Stop, Thrown, Returned, Short, Completion, ok, stop, halt, out, done, ended, either, Fixed, Writable, Constant, KeepsOld, Environment, news_of}
 use Rattle.mini_laws.specs.Demand.{Want, Val, Test, Unused, Demand, As, Callee, OfType, Deleted, Target, AnEntry, Items, Parts, Texts, Stat, Binds, Catches, Reference, AMember, AFetched, AValue, Prepare, Fetch, Put, Called, Request, Reply, Says}
-use Rattle.mini_laws.specs.Command.{Naming, Op, read, read_typeof, fixity, write, init, init_function, hide, copy, event, bind_names, self, turn, fuel, Gets, Command, ret, fails, stuck, op, kid, then, bind, shift, emit, emit_mine, Heard, hears, breaks, nonsense, is_object, hear_value, hear, heard, answered, bound_if, answered_binds, note, read_slot, read_any, write_slot, at_variable, this_of, take_turn, act, Kids, run}
+use Rattle.mini_laws.specs.Command.{Naming, Op, read, read_typeof, fixity, write, init, init_function, hide, copy, event, bind_names, self, turn, fuel, Gets, Command, ret, fails, stuck, op, kid, then, bind, shift, emit, emit_mine, Heard, hears, breaks, nonsense, is_object, hear_value, hear, heard, answered, bound_if, answered_binds, note, read_slot, read_any, read_type, write_slot, at_variable, this_of, take_turn, act, Kids, run}
 use Rattle.mini_laws.specs.Naming.{NameKind, PlainName, EvalName, UndefinedName, NumberName, Facts, first_facts}
 use Rattle.mini_laws.specs.Asking.{pass, chained, parts_demand}
 use Rattle.mini_laws.specs.Replies.{reply, valued, passed, passing, raise, of_made, of_option, primitive, hint_of, numeric, is_of_primitives, operate, loosely, or_event, get_member, put_member, by_fixity, put_own}
@@ -150,6 +151,9 @@ module _ (P : Stop → Type 0) (thrown : (v : Value) → P (Thrown v)) (returned
   any_calm Missing s = tt
   any_calm Uninitialised s = tt
 
+  type_calm : (x : Variable) (v : Slot) (s : State) → Calm (read_type x v s)
+  type_calm x v s = type_reads (λ a b. Calm a) x v v s s (slot_calm v s) (any_calm v s)
+
   write_calm : (x : Variable) (v : Value) (k : Slot) (s : State) → Calm (write_slot x v k s)
   unfolding write_slot
   write_calm x v (Holds w) s = tt
@@ -179,7 +183,7 @@ module _ (P : Stop → Type 0) (thrown : (v : Value) → P (Thrown v)) (returned
   act_calm : (e : Environment) (names : Naming) (o : Op) (s : State) → FirmOp o → Calm (act e names o s)
   unfolding act
   act_calm e names (read i) s p = at_calm _ _ (λ x. slot_calm (s.vars x) s)
-  act_calm e names (read_typeof i) s p = at_calm _ _ (λ x. any_calm (s.vars x) s)
+  act_calm e names (read_typeof i) s p = at_calm _ _ (λ x. type_calm x (s.vars x) s)
   act_calm e names (fixity i) s p = at_calm _ _ (λ x. tt)
   act_calm e names (write i v) s p = at_calm _ _ (λ x. write_calm x v (s.vars x) s)
   act_calm e names (init i v) s p = at_calm _ _ (λ x. tt)

@@ -18,10 +18,10 @@ use Rattle.mini_model.specs.Tree.{Tree, Trees, none, ◌▸◌, identifier, unar
 use Rattle.mini_model.specs.declared.place.Position.{Position}
 use Rattle.mini_model.specs.declared.place.Position.TheVariants.{Expr}
 use Rattle.mini_laws.specs.Operators.{strictly_equal, type_text}
-use Rattle.mini_laws.specs.Value.{Value, Undefined, Null, Boolean, Number, String, Symbol, Object, Variable, Slot, Holds, Missing, Uninitialised, choose, truth, is_nullish, variable_of}
+use Rattle.mini_laws.specs.Value.{Value, Undefined, Null, Boolean, Number, String, Symbol, Object, Variable, Declared, Global, Slot, Holds, Missing, Uninitialised, choose, truth, is_nullish, variable_of}
 use Rattle.mini_laws.specs.State.{State, Completion, ok, stop, out, either, Environment}
 use Rattle.mini_laws.specs.Demand.{Val, Demand, As, OfType, Stat}
-use Rattle.mini_laws.specs.Command.{ret, bind, Kids, read_slot, read_any, at_variable, act, run}
+use Rattle.mini_laws.specs.Command.{ret, bind, Kids, read_slot, read_any, read_type, at_variable, act, run}
 use Rattle.mini_laws.specs.Naming.{NameKind, UndefinedName, NumberName, summary, naming, kind_of}
 use Rattle.mini_laws.specs.Expressions.{get_identifier, type_identifier, operate_by}
 use Rattle.mini_laws.specs.Step.{step, means, meaning}
@@ -369,17 +369,18 @@ both_same a b =
 abbrev Typed : Completion Value → Completion Value → State → Type 0
 Typed y t s = ((y ≡ out) × ((t ≡ out) ⊎ (t ≡ ok Undefined s))) ⊎ (t ≡ y)
 
-slot_typed : (k : Slot) (s : State) → Typed (read_slot k s) (read_any k s) s
+slot_typed : (y : Variable) (k : Slot) (s : State) → Typed (read_slot k s) (read_type y k s) s
 unfolding read_slot read_any
-slot_typed (Holds v) s = inr refl
-slot_typed Missing s = inl (refl, inr refl)
-slot_typed Uninitialised s = inl (refl, inl refl)
+slot_typed (Declared n) k s = inr refl
+slot_typed (Global t) (Holds v) s = inr refl
+slot_typed (Global t) Missing s = inl (refl, inr refl)
+slot_typed (Global t) Uninitialised s = inl (refl, inl refl)
 
 kind_typed : (e : Environment) (y : Variable) (K L : Kids (λ i. Stat None)) (k : NameKind) (s : State) → Typed (run {q = λ i. Stat None} e (naming shape.Identifier (As Val) (y ∷ []) 0 []) K (bind (get_identifier k) (λ v. ret v)) s) (run {q = λ i. Stat None} e (naming shape.Identifier OfType (y ∷ []) 0 []) L (bind (type_identifier k) ret) s) s
 unfolding act at_variable
 kind_typed e y K L UndefinedName s = inr refl
 kind_typed e y K L NumberName s = inl (refl, inl refl)
-kind_typed e y K L k s = subst₂ (λ a b. Typed a b s) (sym (either_eta (read_slot (s.vars y) s))) (sym (either_eta (read_any (s.vars y) s))) (slot_typed (s.vars y) s)
+kind_typed e y K L k s = subst₂ (λ a b. Typed a b s) (sym (either_eta (read_slot (s.vars y) s))) (sym (either_eta (read_type y (s.vars y) s))) (slot_typed y (s.vars y) s)
 
 typed : (e : Environment) (x : Name) (s : State) → Typed (value e (identifier x) s) (means e (identifier x) OfType tt s) s
 unfolding means step

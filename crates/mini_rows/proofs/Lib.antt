@@ -1,6 +1,7 @@
 pub mod SpellAlike
 pub mod SpellSymmetry
 pub mod TemplateTexts
+pub mod TypeofMeaning
 pub mod SpellMeaning
 pub mod SpellWeights
 pub mod SpellShapes

@@ -34,8 +34,8 @@ use Rattle.mini_rows.proofs.FoldMeaning.{plain_of}
 use Rattle.mini_rows.proofs.FoldWeights.{two, moved, there, no_choice}
 use Rattle.mini_rows.proofs.OperandForms.{Tail, of_text, of_number, tail_form, Bits, inverted, masked, differing, joined, bits_form, bits_plain, Int32, inverts, operates, int32_form, int32_plain}
 use Rattle.mini_rows.proofs.BitNumbers.{same_is}
-use Rattle.mini_rows.proofs.OperatorWeights.{zero_mark, pair_at_most, pairs, inside, rest_of, operator_lighter, operator_outline}
-use Rattle.mini_rows.proofs.SpellWeights.{falls_by}
+use Rattle.mini_rows.proofs.OperatorWeights.{zero_mark, pair_at_most, pairs, rest_of, operator_lighter, operator_outline}
+use Rattle.mini_rows.proofs.SpellWeights.{falls_by, inside}
 
 -- 14: an operand and its operator go
 

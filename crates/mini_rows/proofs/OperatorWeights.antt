@@ -14,7 +14,7 @@ use Rattle.mini_model.specs.declared.shape.Shape.{Shape}
 use Rattle.mini_model.specs.declared.shape.Shape.TheVariants as shape
 use Rattle.mini_model.specs.Tree.{Tree, none, ◌▸◌, listed, unary, identifier}
 use Rattle.mini_model.specs.Position.{is_equality, unary_operand_seat, binary_operand_seat, passed_part_seat}
-use Rattle.mini_model.specs.Weight.{Outline, outline, outlines, weight, place_weight, level_of, is_parenthesized, is_awkward, mixes, is_chain, is_call}
+use Rattle.mini_model.specs.Weight.{Outline, outline, outlines, weight, place_weight, is_parenthesized, is_awkward, mixes, is_chain, is_call}
 use Rattle.mini_laws.proofs.Seats.{placed}
 use Rattle.mini_terms.specs.Folds.{is_effect_free}
 use Rattle.mini_terms.specs.Parts.{leaves_nothing}
@@ -23,7 +23,7 @@ use Rattle.mini_rows.specs.Choices.{pair}
 use Rattle.mini_rows.specs.Operators.{deleted, says_equal, makes_numbers, is_bitwise, with_number, is_short, OperatorRow}
 use Rattle.mini_rows.specs.Spellings.{binary, negated_digit, numeral}
 use Rattle.mini_rows.proofs.ListWeights.{sequence_weighs}
-use Rattle.mini_rows.proofs.SpellWeights.{falls_by}
+use Rattle.mini_rows.proofs.SpellWeights.{falls_by, inside}
 
 -- ---- marks and parentheses
 
@@ -52,17 +52,6 @@ pairs k l h m r = go (nat_lt l m) (nat_lt k m) r refl refl
     go false true false p q = omega arith
     go false false r p q = omega arith
     go true false r p q = absurd (omega (arith, h, ltb-true _ _ p, ltb-false _ _ q))
-
--- an operand in the seat of an operator that binds no tighter
-pub inside : (l m : ℕ) → l ≤ m → (h : Shape) (r : Bool) → (if nat_lt (level_of h) l || r then 4 else 0) ≤ (if nat_lt (level_of h) m || r then 4 else 0)
-inside l m k h r = go (nat_lt (level_of h) l) (nat_lt (level_of h) m) r refl refl
-  where
-    go : (b c r : Bool) → nat_lt (level_of h) l ≡ b → nat_lt (level_of h) m ≡ c → (if b || r then 4 else 0) ≤ (if c || r then 4 else 0)
-    go true true r p q = omega arith
-    go false true true p q = omega arith
-    go false true false p q = omega arith
-    go false false r p q = omega arith
-    go true false r p q = absurd (omega (arith, k, ltb-true _ _ p, ltb-false _ _ q))
 
 -- what else asks for parentheses, of an expression that is no logical one, and in a seat of an operand
 abbrev pub rest_of : Seat → Bool

@@ -14,7 +14,7 @@ use Rattle.mini_kept.specs.Lawful.{Lawful}
 use Rattle.mini_laws.specs.DeclaredNames.{has_inner}
 use Rattle.mini_rows.specs.Arranged.{KeptAt, Vanishes}
 use Rattle.mini_rows.specs.Sketches.{AbsentPart, Null, BooleanValue, Number, String, PropertyName, Unary, Binary, StaticMember, ComputedMember, Yield, Assignment, Update, Sketch, part, under, end, ◌▹◌, Free, still, rearranges_expression}
-use Rattle.mini_rows.specs.Spellings.{boolean, assignment, update, template, plain, negated_digit, IsUndefined, Row33, Row33Name, Row33Number, Row33Assigned, Row33Updated, Row58Left, Row58Right, Row54, Row60Yield, ordered, typeof_name, Row55, SpellingRow, SpellingContracts}
+use Rattle.mini_rows.specs.Spellings.{boolean, assignment, update, template, plain, negated_digit, IsUndefined, Row33, Row33Name, Row33Number, Row33Assigned, Row33Updated, Row58Left, Row58Right, Row54, Row60Yield, ordered, strict_operator, typeof_name, Row55, Row55Value, SpellingRow, SpellingContracts}
 use Rattle.mini_rows.proofs.ArrangedExpressions.{expressions_arranged, expressions_arranged_freely}
 use Rattle.mini_rows.proofs.ArrangedLawful.{kept_is_lawful}
 use Rattle.mini_rows.proofs.SpellMeaning.{spellings_same}
@@ -97,6 +97,9 @@ yield_kept q n w r = expressions_arranged (record { trees = none; lists = [] }) 
 typeof_kept : (q : Seat) (n w : Tree) → Row55 n w → KeptAt (Expr q) n w
 typeof_kept q n w r = expressions_arranged (record { trees = typeof_name r.name ▸ none; lists = [] }) (under (Binary r.operator) (part 0 ▹ under (String (codes "undefined")) end ▹ end)) (under (Binary (ordered r.operator)) (part 0 ▹ under (String (codes "u")) end ▹ end)) refl q n w r.shape r.written
 
+value_kept : (q : Seat) (n w : Tree) → Row55Value n w → KeptAt (Expr q) n w
+value_kept q n w r = expressions_arranged (record { trees = r.operand ▸ none; lists = [] }) (under (Binary r.operator) (under (Unary unary_operator.Typeof) (part 0 ▹ end) ▹ under (String (codes "undefined")) end ▹ end)) (under (Binary (strict_operator r.operator)) (part 0 ▹ under (Unary unary_operator.Void) (under (Number (pos 0)) end ▹ end) ▹ end)) refl q n w r.shape r.written
+
 -- all
 
 expression_kept : (q : Seat) (n w : Tree) → SpellingRow (Expr q) n w → KeptAt (Expr q) n w
@@ -110,7 +113,8 @@ expression_kept q n w (inr (inr (inr (inr (inr (inl r)))))) = right_kept q n w r
 expression_kept q n w (inr (inr (inr (inr (inr (inr (inl r))))))) = swap_kept q n w r
 expression_kept q n w (inr (inr (inr (inr (inr (inr (inr (inl r)))))))) = yield_kept q n w r
 expression_kept q n w (inr (inr (inr (inr (inr (inr (inr (inr (inl r))))))))) = typeof_kept q n w r
-expression_kept q n w (inr (inr (inr (inr (inr (inr (inr (inr (inr r))))))))) = subst (λ t. KeptAt (Expr q) t w) (sym r.shape) (subst (KeptAt (Expr q) (template r.is_tail r.raw r.content)) (sym r.written) (text_kept r.is_tail r.raw r.content q))
+expression_kept q n w (inr (inr (inr (inr (inr (inr (inr (inr (inr (inl r)))))))))) = subst (λ t. KeptAt (Expr q) t w) (sym r.shape) (subst (KeptAt (Expr q) (template r.is_tail r.raw r.content)) (sym r.written) (text_kept r.is_tail r.raw r.content q))
+expression_kept q n w (inr (inr (inr (inr (inr (inr (inr (inr (inr (inr r)))))))))) = value_kept q n w r
 
 kept : (p : Position) (n w : Tree) → SpellingRow p n w → KeptAt p n w
 kept (Expr q) n w r = expression_kept q n w r

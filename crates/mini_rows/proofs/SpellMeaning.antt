@@ -31,6 +31,7 @@ use Rattle.mini_rows.specs.Spellings.{numeral, text, key, boolean, big_int, temp
 use Rattle.mini_rows.proofs.SpellAlike.{SameTree, Alike, bind_alike, choose_alike, valued_alike, run_kids, first_same}
 use Rattle.mini_rows.proofs.SpellSymmetry.{strictly_sym, loosely_sym}
 use Rattle.mini_rows.proofs.TemplateTexts.{text_same}
+use Rattle.mini_rows.proofs.TypeofMeaning.{typed_same}
 
 pub tree_same : (s : Seat) (n w : Tree) → SameTree n w → SameAt (Expr s) n w
 tree_same s n w h = equal_same (Expr s) n w (record { by = λ e q f r z. h.by e q r z })
@@ -458,7 +459,8 @@ expression_same s n w (inr (inr (inr (inr (inr (inl r)))))) = tree_same s n w (s
 expression_same s n w (inr (inr (inr (inr (inr (inr (inl r))))))) = subst (λ x. SameAt (Expr s) x w) (sym r.shape) (subst (λ x. SameAt (Expr s) (binary r.operator (plain r.left) r.right) x) (sym r.written) (swapped_same r.operator r.equality r.left r.right s))
 expression_same s n w (inr (inr (inr (inr (inr (inr (inr (inl r)))))))) = tree_same s n w (same_by n w _ _ r.shape r.written yield_same)
 expression_same s n w (inr (inr (inr (inr (inr (inr (inr (inr (inl r))))))))) = tree_same s n w (same_by n w _ _ r.shape r.written (ordered_same r.operator r.equality (identifier (unresolved r.name))))
-expression_same s n w (inr (inr (inr (inr (inr (inr (inr (inr (inr r))))))))) = tree_same s n w (same_by n w _ _ r.shape r.written (text_same r.is_tail r.raw r.content))
+expression_same s n w (inr (inr (inr (inr (inr (inr (inr (inr (inr (inl r)))))))))) = tree_same s n w (same_by n w _ _ r.shape r.written (text_same r.is_tail r.raw r.content))
+expression_same s n w (inr (inr (inr (inr (inr (inr (inr (inr (inr (inr r)))))))))) = tree_same s n w (same_by n w _ _ r.shape r.written (typed_same r.operator r.equality r.operand r.value))
 
 -- a parent reads no more of an expression than these nodes tell of themselves
 row_reads : (s : Seat) (n w : Tree) → SpellingRow (Expr s) n w → summary n ≡ summary w
@@ -471,7 +473,8 @@ row_reads s n w (inr (inr (inr (inr (inr (inl r)))))) = ap summary r.shape ∙ s
 row_reads s n w (inr (inr (inr (inr (inr (inr (inl r))))))) = ap summary r.shape ∙ sym (ap summary r.written)
 row_reads s n w (inr (inr (inr (inr (inr (inr (inr (inl r)))))))) = ap summary r.shape ∙ sym (ap summary r.written)
 row_reads s n w (inr (inr (inr (inr (inr (inr (inr (inr (inl r))))))))) = ap summary r.shape ∙ sym (ap summary r.written)
-row_reads s n w (inr (inr (inr (inr (inr (inr (inr (inr (inr r))))))))) = ap summary r.shape ∙ sym (ap summary r.written)
+row_reads s n w (inr (inr (inr (inr (inr (inr (inr (inr (inr (inl r)))))))))) = ap summary r.shape ∙ sym (ap summary r.written)
+row_reads s n w (inr (inr (inr (inr (inr (inr (inr (inr (inr (inr r)))))))))) = ap summary r.shape ∙ sym (ap summary r.written)
 
 means_same : (p : Position) (n w : Tree) → SpellingRow p n w → SameAt p n w
 means_same (Expr s) n w r = expression_same s n w r

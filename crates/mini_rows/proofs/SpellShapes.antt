@@ -11,20 +11,20 @@ use Rattle.mini_model.specs.declared.operator.AssignmentOperator.TheVariants.{As
 use Rattle.mini_model.specs.declared.operator.BinaryOperator.{BinaryOperator}
 use Rattle.mini_model.specs.declared.operator.LogicalOperator.{LogicalOperator}
 use Rattle.mini_model.specs.declared.operator.UpdateOperator.{UpdateOperator}
-use Rattle.mini_model.specs.declared.operator.UnaryOperator.TheVariants.{LogicalNot}
+use Rattle.mini_model.specs.declared.operator.UnaryOperator.TheVariants.{LogicalNot, Typeof}
 use Rattle.mini_model.specs.declared.place.Position.{Position}
 use Rattle.mini_model.specs.declared.place.Position.TheVariants.{Expr}
 use Rattle.mini_model.specs.declared.seat.Seat.{Seat}
 use Rattle.mini_model.specs.declared.shape.Shape.{Shape}
 use Rattle.mini_model.specs.declared.shape.Shape.TheVariants as shape
-use Rattle.mini_model.specs.Tree.{Tree, Trees, node, none, ◌▸◌, absent, null_literal, is_absent, shape_of}
+use Rattle.mini_model.specs.Tree.{Tree, Trees, node, none, ◌▸◌, absent, null_literal, unary, is_absent, shape_of}
 use Rattle.mini_accept.specs.WellShaped.{Depth, in_module, in_body, nested, Class, a_statement, an_init, a_loop_left, an_arrow_body, an_expression, a_link, a_chain, an_argument, a_key, a_private_or_key, an_inner_key, a_target, a_simple_target, a_member_target, a_default_export, a_label, Slot, one, one_or_absent, is_safe, is_function_body, spelling, has_optional, is_not_positive_number, expression_slots, unchained_slots, member_slots, none_if, in_depth, is_chained, is_sloppy_function, slots_of, is_whole, is_strict_in, filling, filling_by, class_of, fits, fill}
 use Rattle.mini_kept.specs.KeepsFrames.{is_in_body, is_body_slot}
 use Rattle.mini_kept.specs.KeepsShapes.{is_default, AskedAlike}
 use Rattle.mini_kept.specs.Placed.{fits_place}
 use Rattle.mini_kept.proofs.FrameRows.{expression_slot}
 use Rattle.mini_rows.proofs.TemplateTexts.{template_at, text_fits, text_asked}
-use Rattle.mini_rows.specs.Spellings.{numeral, text, key, boolean, binary, assignment, update, computed_member, static_member, yields, void_zero, negated_digit, plain, Row33, ordered, typeof_name, template, Row19, SpellingRow}
+use Rattle.mini_rows.specs.Spellings.{numeral, text, key, boolean, binary, assignment, update, computed_member, static_member, yields, void_zero, negated_digit, plain, Row33, ordered, strict_operator, typeof_name, template, Row19, SpellingRow}
 
 -- ---- the nodes that rows on spellings read and write
 
@@ -175,16 +175,19 @@ both_sides true true e f = refl
 both_sides true false e f = absurd (cc f)
 both_sides false b e f = absurd (cc e)
 
+operators_stand : (strict : Bool) (o p : BinaryOperator) (a b c d : Tree) → (fits strict expression a ≡ true → fits strict expression b ≡ true → (fits strict expression c ≡ true) × (fits strict expression d ≡ true)) → Stands strict (a_binary o) (a ▸ b ▸ none) (a_binary p) (c ▸ d ▸ none)
+operators_stand strict o p a b c d f Alone e =
+    let (x, y) = sides (fits strict expression a) (fits strict expression b) e in
+    both_sides (fits strict expression c) (fits strict expression d) (f x y).0 (f x y).1
+operators_stand strict o p a b c d f Linked e =
+    let (x, y) = sides (fits strict expression a) (fits strict expression b) e in
+    both_sides (fits strict expression c) (fits strict expression d) (f x y).0 (f x y).1
+operators_stand strict o p a b c d f Ending e = absurd (cc e)
+operators_stand strict o p a b c d f Assigned e = absurd (cc e)
+operators_stand strict o p a b c d f Nowhere e = absurd (cc e)
+
 binary_stands : (strict : Bool) (o : BinaryOperator) (a b c d : Tree) → (fits strict expression a ≡ true → fits strict expression b ≡ true → (fits strict expression c ≡ true) × (fits strict expression d ≡ true)) → Stands strict (a_binary o) (a ▸ b ▸ none) (a_binary o) (c ▸ d ▸ none)
-binary_stands strict o a b c d f Alone e =
-    let (x, y) = sides (fits strict expression a) (fits strict expression b) e in
-    both_sides (fits strict expression c) (fits strict expression d) (f x y).0 (f x y).1
-binary_stands strict o a b c d f Linked e =
-    let (x, y) = sides (fits strict expression a) (fits strict expression b) e in
-    both_sides (fits strict expression c) (fits strict expression d) (f x y).0 (f x y).1
-binary_stands strict o a b c d f Ending e = absurd (cc e)
-binary_stands strict o a b c d f Assigned e = absurd (cc e)
-binary_stands strict o a b c d f Nowhere e = absurd (cc e)
+binary_stands strict o a b c d f = operators_stand strict o o a b c d f
 
 -- 55
 u_fits : (strict : Bool) → fits strict expression (text (codes "u")) ≡ true
@@ -197,6 +200,13 @@ typeof_stands strict o p a s r f Linked e = both_sides (fits strict expression a
 typeof_stands strict o p a s r f Ending e = absurd (cc e)
 typeof_stands strict o p a s r f Assigned e = absurd (cc e)
 typeof_stands strict o p a s r f Nowhere e = absurd (cc e)
+
+typed_fits : (strict : Bool) (a : Tree) → fits strict expression (unary Typeof a) ≡ true → fits strict expression a ≡ true
+typed_fits strict a e = by (fits strict expression a) e
+  where
+    by : (b : Bool) → (b && true) ≡ true → b ≡ true
+    by true e = refl
+    by false e = e
 
 -- 33
 
@@ -318,7 +328,8 @@ expression_fits q n w (inr (inr (inr (inr (inr (inl r)))))) = anywhere q n w (by
 expression_fits q n w (inr (inr (inr (inr (inr (inr (inl r))))))) = anywhere q n w (by_shape n w (binary r.operator (plain r.left) r.right) (binary r.operator r.right (plain r.left)) r.shape r.written (λ strict s. stands strict (a_binary r.operator) (a_binary r.operator) (plain r.left ▸ r.right ▸ none) (r.right ▸ plain r.left ▸ none) (binary_stands strict r.operator (plain r.left) r.right r.right (plain r.left) (λ x y. (y, x))) s))
 expression_fits q n w (inr (inr (inr (inr (inr (inr (inr (inl r)))))))) = anywhere q n w (by_shape n w (yields void_zero) (yields absent) r.shape r.written (λ strict s. stands strict a_yield a_yield (void_zero ▸ none) (absent ▸ none) (yield_stands strict) s))
 expression_fits q n w (inr (inr (inr (inr (inr (inr (inr (inr (inl r))))))))) = anywhere q n w (by_shape n w (binary r.operator (typeof_name r.name) (text (codes "undefined"))) (binary (ordered r.operator) (typeof_name r.name) (text (codes "u"))) r.shape r.written (λ strict s. stands strict (a_binary r.operator) (a_binary (ordered r.operator)) (typeof_name r.name ▸ text (codes "undefined") ▸ none) (typeof_name r.name ▸ text (codes "u") ▸ none) (typeof_stands strict r.operator (ordered r.operator) (typeof_name r.name) (codes "undefined") (codes "u") (u_fits strict)) s))
-expression_fits q n w (inr (inr (inr (inr (inr (inr (inr (inr (inr r))))))))) = λ strict s v e. subst (λ t. fits strict s t ≡ true) (sym r.written) (text_fits r.is_tail r.raw r.content strict q s v (subst (λ t. fits strict s t ≡ true) r.shape e))
+expression_fits q n w (inr (inr (inr (inr (inr (inr (inr (inr (inr (inl r)))))))))) = λ strict s v e. subst (λ t. fits strict s t ≡ true) (sym r.written) (text_fits r.is_tail r.raw r.content strict q s v (subst (λ t. fits strict s t ≡ true) r.shape e))
+expression_fits q n w (inr (inr (inr (inr (inr (inr (inr (inr (inr (inr r)))))))))) = anywhere q n w (by_shape n w (binary r.operator (unary Typeof r.operand) (text (codes "undefined"))) (binary (strict_operator r.operator) r.operand void_zero) r.shape r.written (λ strict s. stands strict (a_binary r.operator) (a_binary (strict_operator r.operator)) (unary Typeof r.operand ▸ text (codes "undefined") ▸ none) (r.operand ▸ void_zero ▸ none) (operators_stand strict r.operator (strict_operator r.operator) (unary Typeof r.operand) (text (codes "undefined")) r.operand void_zero (λ x y. (typed_fits strict r.operand x, refl))) s))
 
 -- ---- what a parent asks
 
@@ -380,7 +391,8 @@ row_formed q n w (inr (inr (inr (inr (inr (inl r)))))) = inl (record { first = a
 row_formed q n w (inr (inr (inr (inr (inr (inr (inl r))))))) = inl (record { first = a_binary r.operator; second = a_binary r.operator; parts = plain r.left ▸ r.right ▸ none; others = r.right ▸ plain r.left ▸ none; read = r.shape; made = r.written; optional = λ x. absurd (cc x) })
 row_formed q n w (inr (inr (inr (inr (inr (inr (inr (inl r)))))))) = inl (record { first = a_yield; second = a_yield; parts = void_zero ▸ none; others = absent ▸ none; read = r.shape; made = r.written; optional = λ x. absurd (cc x) })
 row_formed q n w (inr (inr (inr (inr (inr (inr (inr (inr (inl r))))))))) = inl (record { first = a_binary r.operator; second = a_binary (ordered r.operator); parts = typeof_name r.name ▸ text (codes "undefined") ▸ none; others = typeof_name r.name ▸ text (codes "u") ▸ none; read = r.shape; made = r.written; optional = λ x. absurd (cc x) })
-row_formed q n w (inr (inr (inr (inr (inr (inr (inr (inr (inr r))))))))) = inr r
+row_formed q n w (inr (inr (inr (inr (inr (inr (inr (inr (inr (inl r)))))))))) = inr r
+row_formed q n w (inr (inr (inr (inr (inr (inr (inr (inr (inr (inr r)))))))))) = inl (record { first = a_binary r.operator; second = a_binary (strict_operator r.operator); parts = unary Typeof r.operand ▸ text (codes "undefined") ▸ none; others = r.operand ▸ void_zero ▸ none; read = r.shape; made = r.written; optional = λ x. absurd (cc x) })
 
 -- ---- where they stand is in a body
 

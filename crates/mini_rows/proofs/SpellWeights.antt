@@ -1,26 +1,27 @@
 -- What each row on a spelling writes weighs less wherever the expression stands.
 use Rattle.std.proofs.Common.{◌≡◌, ℕ, ◌+◌, ◌<◌, ◌≤◌, ◌*◌, Bool, true, false, List, [], refl, sym, ap, subst, ◌∙◌, inl, inr, true≢false, arith}
-use Rattle.std.specs.Prelude.{if◌then◌else◌, codes, ℤ, pos, negsuc, length}
+use Rattle.std.specs.Prelude.{if◌then◌else◌, ◌&&◌, ◌||◌, nat_lt, codes, ℤ, pos, negsuc, length}
 use Rattle.std.specs.Fmt.{signed_decimal}
 use Rattle.std.proofs.lemmas.Fmt.{decimal_digit}
+use borrow.Author.Tests.{ltb-true, ltb-false}
 use Rattle.mini_model.specs.declared.operator.BinaryOperator.{BinaryOperator}
 use Rattle.mini_model.specs.declared.operator.BinaryOperator.TheVariants.{Equality, Inequality, StrictEquality, StrictInequality}
 use Rattle.mini_model.specs.declared.operator.BinaryOperator.TheVariants as binary_operator
 use Rattle.mini_model.specs.declared.operator.AssignmentOperator.{AssignmentOperator}
 use Rattle.mini_model.specs.declared.operator.UpdateOperator.{UpdateOperator}
-use Rattle.mini_model.specs.declared.operator.UnaryOperator.TheVariants.{LogicalNot}
+use Rattle.mini_model.specs.declared.operator.UnaryOperator.TheVariants.{LogicalNot, Typeof}
 use Rattle.mini_model.specs.declared.operator.LogicalOperator.TheVariants.{Or, And, Coalesce}
 use Rattle.mini_model.specs.declared.seat.Seat.{Seat}
 use Rattle.mini_model.specs.declared.shape.Shape.{Shape}
 use Rattle.mini_model.specs.declared.shape.Shape.TheVariants as shape
-use Rattle.mini_model.specs.Tree.{Tree, node, none, ◌▸◌, absent, null_literal}
+use Rattle.mini_model.specs.Tree.{Tree, node, none, ◌▸◌, absent, null_literal, unary}
 use Rattle.mini_model.specs.declared.place.Position.{Position}
 use Rattle.mini_model.specs.declared.place.Position.TheVariants.{Expr, Target}
-use Rattle.mini_model.specs.Position.{is_equality, seat_of_level, binary_operand_seat, whole_seat}
-use Rattle.mini_model.specs.Weight.{Outline, outline, outlines, weight, place_weight, parentheses, is_parenthesized, awkward_weight, is_awkward, binary_operator_weight}
+use Rattle.mini_model.specs.Position.{is_equality, seat_of_level, binary_operand_seat, unary_operand_seat, whole_seat}
+use Rattle.mini_model.specs.Weight.{Outline, outline, outlines, weight, place_weight, parentheses, is_parenthesized, awkward_weight, is_awkward, binary_operator_weight, mixes, is_chain, is_call, level_of}
 use Rattle.mini_laws.specs.Weights.{Lightens, counts_items}
 use Rattle.mini_laws.proofs.Seats.{placed}
-use Rattle.mini_rows.specs.Spellings.{numeral, text, key, binary, assignment, update, computed_member, static_member, yields, void_zero, IsUndefined, IsLoose, PlainForm, a_number, a_text, a_boolean, a_null, a_big_int, a_template, a_void, plain, boolean, negated_digit, is_awkward_left, is_inner, Row33, ordered, typeof_name, SpellingRow, SpellingContracts, SpellingsLighter}
+use Rattle.mini_rows.specs.Spellings.{numeral, text, key, binary, assignment, update, computed_member, static_member, yields, void_zero, IsUndefined, IsLoose, PlainForm, a_number, a_text, a_boolean, a_null, a_big_int, a_template, a_void, plain, boolean, negated_digit, is_awkward_left, is_inner, Row33, ordered, strict_operator, typeof_name, SpellingRow, SpellingContracts, SpellingsLighter}
 use Rattle.mini_rows.proofs.TemplateTexts.{text_falls}
 
 -- what a place adds is a pair of parentheses at most, and 1 where a form is awkward there
@@ -203,6 +204,53 @@ typeof_falls StrictEquality e s x = omega (arith, marks s (shape.BinaryExpressio
 typeof_falls StrictInequality e s x = omega (arith, marks s (shape.BinaryExpression binary_operator.LessThan) (outlines (typeof_name x ▸ text (codes "u") ▸ none)))
 typeof_falls o e s x = absurd (true≢false (sym e))
 
+-- an operand in the seat of an operator that binds no tighter
+pub inside : (l m : ℕ) → l ≤ m → (h : Shape) (r : Bool) → (if nat_lt (level_of h) l || r then 4 else 0) ≤ (if nat_lt (level_of h) m || r then 4 else 0)
+inside l m k h r = go (nat_lt (level_of h) l) (nat_lt (level_of h) m) r refl refl
+  where
+    go : (b c r : Bool) → nat_lt (level_of h) l ≡ b → nat_lt (level_of h) m ≡ c → (if b || r then 4 else 0) ≤ (if c || r then 4 else 0)
+    go true true r p q = omega arith
+    go false true true p q = omega arith
+    go false true false p q = omega arith
+    go false false r p q = omega arith
+    go true false r p q = absurd (omega (arith, k, ltb-true _ _ p, ltb-false _ _ q))
+
+mark_at_most : (b : Bool) → (if b then 1 else 0) ≤ 1
+mark_at_most true = omega arith
+mark_at_most false = omega arith
+
+-- the operand of `typeof` weighs less on the left of an equality but for a mark
+typed_marks : (h : Shape) (os : List Outline) → place_weight (Expr left) h os ≤ place_weight (Expr (unary_operand_seat Typeof)) h os + 1
+typed_marks h os = omega (arith, inside 8 14 (omega arith) h (mixes h left.mix || ((left.access && is_chain h) || (left.new_callee && is_call h))), mark_at_most (is_awkward left h os))
+
+operand_falls : (a : Tree) → weight (Expr left) a ≤ weight (Expr (unary_operand_seat Typeof)) a + 1
+operand_falls a = placed 1 left (unary_operand_seat Typeof) refl typed_marks a
+
+strict_equality : (o : BinaryOperator) → is_equality o ≡ true → is_equality (strict_operator o) ≡ true
+strict_equality Equality e = refl
+strict_equality Inequality e = refl
+strict_equality StrictEquality e = refl
+strict_equality StrictInequality e = refl
+strict_equality o e = absurd (true≢false (sym e))
+
+strict_own : (o : BinaryOperator) → is_equality o ≡ true → (s : Seat) → binary_own (strict_operator o) s ≤ binary_own o s + 2
+strict_own Equality e s = omega arith
+strict_own Inequality e s = omega arith
+strict_own StrictEquality e s = omega arith
+strict_own StrictInequality e s = omega arith
+strict_own o e s = absurd (true≢false (sym e))
+
+void_weighs : weight (Expr right) void_zero ≡ 12
+void_weighs =
+    let digit : length (signed_decimal (pos 0)) ≡ 1 = ap length (decimal_digit 0 (omega arith)) in
+    omega (arith, digit)
+
+value_falls : (o : BinaryOperator) → is_equality o ≡ true → (s : Seat) (a : Tree) → weight (Expr s) (binary (strict_operator o) a void_zero) < weight (Expr s) (binary o (unary Typeof a) (text (codes "undefined")))
+value_falls o e s a =
+    let before = equality_weighs o e s (unary Typeof a) (text (codes "undefined")) in
+    let after = equality_weighs (strict_operator o) (strict_equality o e) s a void_zero in
+    omega (arith, before, after, strict_own o e s, operand_falls a, void_weighs)
+
 -- 60
 
 yield_marks : (s : Seat) (a b : Tree) → place_weight (Expr s) (shape.YieldExpression false) (outlines (a ▸ none)) ≡ place_weight (Expr s) (shape.YieldExpression false) (outlines (b ▸ none))
@@ -223,7 +271,8 @@ expression_falls s n w (inr (inr (inr (inr (inr (inl r)))))) = falls_by (Expr s)
 expression_falls s n w (inr (inr (inr (inr (inr (inr (inl r))))))) = falls_by (Expr s) n w _ _ r.shape r.written (swap_falls r.operator r.equality s r.left r.right r.ready r.outer)
 expression_falls s n w (inr (inr (inr (inr (inr (inr (inr (inl r)))))))) = falls_by (Expr s) n w _ _ r.shape r.written (yield_falls s)
 expression_falls s n w (inr (inr (inr (inr (inr (inr (inr (inr (inl r))))))))) = falls_by (Expr s) n w _ _ r.shape r.written (typeof_falls r.operator r.equality s r.name)
-expression_falls s n w (inr (inr (inr (inr (inr (inr (inr (inr (inr r))))))))) = falls_by (Expr s) n w _ _ r.shape r.written (text_falls s r.is_tail r.raw r.content r.shorter)
+expression_falls s n w (inr (inr (inr (inr (inr (inr (inr (inr (inr (inl r)))))))))) = falls_by (Expr s) n w _ _ r.shape r.written (text_falls s r.is_tail r.raw r.content r.shorter)
+expression_falls s n w (inr (inr (inr (inr (inr (inr (inr (inr (inr (inr r)))))))))) = falls_by (Expr s) n w _ _ r.shape r.written (value_falls r.operator r.equality s r.operand)
 
 pub lighter : SpellingsLighter
 lighter (Expr s) n w r = expression_falls s n w r
@@ -251,7 +300,8 @@ outline_by_row f p n w r = ap f (kept p n w r)
     kept (Expr s) n w (inr (inr (inr (inr (inr (inr (inl r))))))) = ap outline r.shape ∙ sym (ap outline r.written)
     kept (Expr s) n w (inr (inr (inr (inr (inr (inr (inr (inl r)))))))) = ap outline r.shape ∙ sym (ap outline r.written)
     kept (Expr s) n w (inr (inr (inr (inr (inr (inr (inr (inr (inl r))))))))) = ap outline r.shape ∙ sym (ap outline r.written)
-    kept (Expr s) n w (inr (inr (inr (inr (inr (inr (inr (inr (inr r))))))))) = ap outline r.shape ∙ sym (ap outline r.written)
+    kept (Expr s) n w (inr (inr (inr (inr (inr (inr (inr (inr (inr (inl r)))))))))) = ap outline r.shape ∙ sym (ap outline r.written)
+    kept (Expr s) n w (inr (inr (inr (inr (inr (inr (inr (inr (inr (inr r)))))))))) = ap outline r.shape ∙ sym (ap outline r.written)
     kept p n w r = absurd r
 
 no_items : (p : Position) (n w : Tree) → SpellingRow p n w → counts_items p ≡ true → (outline n).items ≡ (outline w).items

@@ -1,6 +1,7 @@
 -- A tree in which no `break` without a label ends what is around it never ends with one.
 use Rattle.std.specs.Prelude.{ℕ, zero, suc, Bool, true, false, not, ◌||◌, ◌&&◌, List, [], ◌∷◌, length, Option, Some, None}
 use Rattle.std.proofs.Common.{◌+◌, ◌≡◌, refl, sym, subst, arith, true≢false}
+use Rattle.mini_laws.proofs.Runs.{type_reads}
 use Rattle.mini_model.specs.declared.kind.VariableDeclarationKind.{VariableDeclarationKind}
 use Rattle.mini_model.specs.declared.kind.VariableDeclarationKind.TheVariants.{Let}
 use Rattle.mini_model.specs.declared.kind.PropertyKind.{PropertyKind}
@@ -23,7 +24,7 @@ use Rattle.mini_laws.specs.Operators.{loosely_equal, of_numbers, of_primitives, 
 use Rattle.mini_laws.specs.State as state
 use Rattle.mini_laws.specs.State.{Label, Given, Normal, Throws, Finished, Returning, Shortens, Hint, ForString, ForNumber, ForDefault, Carries, Answer, Entry, Item, State, Stop, Thrown, Returned, Broken, Continued, Short, Completion, ok, stop, halt, out, Ends, done, ended, either, Environment}
 use Rattle.mini_laws.specs.Demand.{Want, Val, Test, Unused, Tail, LoopTail, FunctionTail, Demand, As, Callee, OfType, Deleted, Target, AnEntry, Items, Parts, Texts, Stat, Declares, Binds, ClassValue, Cases, ACase, Catches, AskTest, AskBody, LabelSet, Reference, AMember, AFetched, AValue, Prepare, Fetch, Put, Called, Request, Reply, Says}
-use Rattle.mini_laws.specs.Command.{Naming, Op, read, read_typeof, fixity, write, init, init_function, hide, copy, event, bind_names, self, turn, fuel, Gets, Command, ret, fails, stuck, op, kid, then, attempt, bind, shift, repeat, loop, emit, emit_mine, is_object, act, Kids, run, Heard, hears, breaks, nonsense, hear, hear_value, only_object, only_primitive, only_boolean, boolean_value, heard, answered, bound_if, answered_binds, read_slot, read_any, write_slot, at_variable, this_of, take_turn}
+use Rattle.mini_laws.specs.Command.{Naming, Op, read, read_typeof, fixity, write, init, init_function, hide, copy, event, bind_names, self, turn, fuel, Gets, Command, ret, fails, stuck, op, kid, then, attempt, bind, shift, repeat, loop, emit, emit_mine, is_object, act, Kids, run, Heard, hears, breaks, nonsense, hear, hear_value, only_object, only_primitive, only_boolean, boolean_value, heard, answered, bound_if, answered_binds, read_slot, read_any, read_type, write_slot, at_variable, this_of, take_turn}
 use Rattle.mini_laws.specs.Naming.{NameKind, PlainName, EvalName, UndefinedName, NumberName, Declared, Variables, AClass, FunctionFact, Named, NamedDefault, BareDefault, Facts, function_facts, first_facts, nth_absent, texts_all, kinds, summaries, facts, naming}
 use Rattle.mini_laws.specs.Asking.{pass, first_demand, parts_demand, tail_demand, do_demand, for_demand, demand, chained}
 use Rattle.mini_laws.specs.Replies as reply
@@ -971,6 +972,9 @@ module _ (e : Environment) (names : Naming) where
   unbroken_read_any Missing s = tt
   unbroken_read_any Uninitialised s = tt
 
+  unbroken_type : (x : Variable) (v : Slot) (s : State) → Unbroken (read_type x v s)
+  unbroken_type x v s = type_reads (λ a b. Unbroken a) x v v s s (unbroken_read v s) (unbroken_read_any v s)
+
   unbroken_write : (x : Variable) (v : Value) (o : Slot) (s : State) → Unbroken (write_slot x v o s)
   unfolding write_slot
   unbroken_write x v (Holds w) s = tt
@@ -990,7 +994,7 @@ module _ (e : Environment) (names : Naming) where
   unbroken_act : (o : Op) (s : State) → Unbroken (act e names o s)
   unfolding act
   unbroken_act (read i) s = unbroken_at (nth names.own i) _ (λ x. unbroken_read (s.vars x) s)
-  unbroken_act (read_typeof i) s = unbroken_at (nth names.own i) _ (λ x. unbroken_read_any (s.vars x) s)
+  unbroken_act (read_typeof i) s = unbroken_at (nth names.own i) _ (λ x. unbroken_type x (s.vars x) s)
   unbroken_act (fixity i) s = unbroken_at (nth names.written i) _ (λ x. tt)
   unbroken_act (write i v) s = unbroken_at (nth names.written i) _ (λ x. unbroken_write x v (s.vars x) s)
   unbroken_act (init i v) s = unbroken_at (nth names.written i) _ (λ x. tt)

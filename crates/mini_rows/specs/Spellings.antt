@@ -6,7 +6,7 @@ use Rattle.mini_model.specs.Texts.{is_identifier_name}
 use Rattle.mini_model.specs.Numerals.{IsSafe}
 use Rattle.mini_model.specs.declared.operator.AssignmentOperator.{AssignmentOperator}
 use Rattle.mini_model.specs.declared.operator.BinaryOperator.{BinaryOperator}
-use Rattle.mini_model.specs.declared.operator.BinaryOperator.TheVariants.{Equality, Inequality, StrictEquality, LessThan, GreaterThan}
+use Rattle.mini_model.specs.declared.operator.BinaryOperator.TheVariants.{Equality, Inequality, StrictEquality, StrictInequality, LessThan, GreaterThan}
 use Rattle.mini_model.specs.declared.operator.UnaryOperator.TheVariants.{Typeof, Void}
 use Rattle.mini_model.specs.declared.operator.UpdateOperator.{UpdateOperator}
 use Rattle.mini_model.specs.declared.shape.Shape.TheVariants as shape
@@ -15,6 +15,7 @@ use Rattle.mini_model.specs.declared.place.Position.{Position}
 use Rattle.mini_model.specs.declared.place.Position.TheVariants.{Expr}
 use Rattle.mini_model.specs.Position.{is_equality, binary_operand_seat}
 use Rattle.mini_model.specs.Weight.{outlines, is_awkward, weight}
+use Rattle.mini_terms.specs.Reading.{is_typed_by_value}
 
 -- Reading definitions: one function a node
 
@@ -208,6 +209,22 @@ pub record Row55 (n w : Tree) : Type 0 where
   pub shape : n ≡ binary operator (typeof_name name) (text (codes "undefined"))
   pub written : w ≡ binary (ordered operator) (typeof_name name) (text (codes "u"))
 
+-- of an equality, the strict one that says as much
+abbrev pub strict_operator : BinaryOperator → BinaryOperator
+strict_operator Equality = StrictEquality
+strict_operator StrictEquality = StrictEquality
+strict_operator o = StrictInequality
+
+-- 55, of what `typeof` reads by its value, as a declared name, a member or a call: `typeof a == "undefined"` becomes `a === void 0`, and
+-- of an inequality `a !== void 0`
+pub record Row55Value (n w : Tree) : Type 0 where
+  pub operator : BinaryOperator
+  pub operand : Tree
+  pub equality : is_equality operator ≡ true
+  pub value : is_typed_by_value operand ≡ true
+  pub shape : n ≡ binary operator (unary Typeof operand) (text (codes "undefined"))
+  pub written : w ≡ binary (strict_operator operator) operand void_zero
+
 -- 19: a template without expressions becomes its text, as abc in backticks becomes `"abc"`. What is written in it is no shorter than the
 -- text, as in any program
 pub record Row19 (n w : Tree) : Type 0 where
@@ -220,7 +237,7 @@ pub record Row19 (n w : Tree) : Type 0 where
 
 -- a row on a spelling reads n as w at this place
 abbrev pub SpellingRow : Position → Tree → Tree → Type 0
-SpellingRow (Expr s) n w = Row65 n w ⊎ (Row33 n w ⊎ (Row33Assigned n w ⊎ (Row33Updated n w ⊎ (Row58Left n w ⊎ (Row58Right n w ⊎ (Row54 n w ⊎ (Row60Yield n w ⊎ (Row55 n w ⊎ Row19 n w))))))))
+SpellingRow (Expr s) n w = Row65 n w ⊎ (Row33 n w ⊎ (Row33Assigned n w ⊎ (Row33Updated n w ⊎ (Row58Left n w ⊎ (Row58Right n w ⊎ (Row54 n w ⊎ (Row60Yield n w ⊎ (Row55 n w ⊎ (Row19 n w ⊎ Row55Value n w)))))))))
 SpellingRow _ n w = ⊥
 
 -- what it writes, where it weighs less

@@ -22,7 +22,7 @@ use Rattle.mini_model.specs.Position.{is_equality}
 use Rattle.mini_node.specs.Children.{part}
 use Rattle.mini_node.specs.Kinds.{boolean as boolean_of, string, unary_operator, binary_operator, assignment_operator}
 use Rattle.mini_node.specs.Made.{boolean_is, string_is, unary_is, binary_is, assignment_is}
-use Rattle.mini_rows.specs.Spellings.{numeral, text, template, Row19, key, boolean, binary, assignment, update, computed_member, static_member, yields, void_zero, negated_digit, IsLoose, plain, Row65, Row33, Row33Assigned, Row33Updated, Row58Left, Row58Right, Row54, Row60Yield, ordered, typeof_name, Row55, SpellingRow}
+use Rattle.mini_rows.specs.Spellings.{numeral, text, template, Row19, key, boolean, binary, assignment, update, computed_member, static_member, yields, void_zero, negated_digit, IsLoose, plain, Row65, Row33, Row33Assigned, Row33Updated, Row58Left, Row58Right, Row54, Row60Yield, ordered, strict_operator, typeof_name, Row55, Row55Value, SpellingRow}
 use Rattle.mini_syntax.specs.Forms.{first_of, is_undefined, is_plain, is_text_template}
 use Rattle.mini_syntax.specs.SubstituteBoolean as substituted
 use Rattle.mini_syntax.specs.ConvertToDottedProperties as dotted
@@ -31,6 +31,9 @@ use Rattle.mini_syntax.specs.SubstituteLooseEqualsUndefined as loose
 use Rattle.mini_syntax.specs.SubstituteSwapBinaryExpressions as swap
 use Rattle.mini_syntax.specs.SubstituteTemplateLiteral as templates
 use Rattle.mini_syntax.specs.SubstituteTypeofUndefined as typeof
+use Rattle.mini_syntax.specs.SubstituteTypeofValue as by_value
+use Rattle.mini_syntax.specs.SubstituteTypeofValue.{is_typeof, is_undefined_text}
+use Rattle.mini_terms.specs.Reading.{is_typed_by_value}
 use Rattle.mini_syntax.specs.SubstituteYieldExpression as yielding
 use Rattle.mini_syntax.specs.Spelled as law
 use Rattle.mini_syntax.specs.Spelled.{equality_written, written}
@@ -219,42 +222,95 @@ unresolved_is (node shape.Identifier (x ∷ []) zero none) e = (x.spelling, ap (
 unresolved_is t e = absurd (cc e)
 
 typeof_name_is : (t : Tree) → typeof.is_typeof_name t ≡ true → (s : List ℕ) × (t ≡ typeof_name s)
-typeof_name_is t e = let (over, operand) = and_parts (typeof.is_typeof (unary_operator t)) (typeof.is_unresolved (part t 0)) e in go (unary_operator t) refl over (unresolved_is (part t 0) operand)
+typeof_name_is t e = let (over, operand) = and_parts (is_typeof (unary_operator t)) (typeof.is_unresolved (part t 0)) e in go (unary_operator t) refl over (unresolved_is (part t 0) operand)
   where
-    go : (o : Option UnaryOperator) → unary_operator t ≡ o → typeof.is_typeof o ≡ true → (s : List ℕ) × (part t 0 ≡ identifier (unresolved s)) → (s : List ℕ) × (t ≡ typeof_name s)
+    go : (o : Option UnaryOperator) → unary_operator t ≡ o → is_typeof o ≡ true → (s : List ℕ) × (part t 0 ≡ identifier (unresolved s)) → (s : List ℕ) × (t ≡ typeof_name s)
     go (Some Typeof) h v (s, is) = (s, unary_is t Typeof h ∙ ap (unary Typeof) is)
     go (Some o) h v z = absurd (cc v)
     go None h v z = absurd (cc v)
 
-undefined_text_is : (t : Tree) (o : Option (List ℕ)) → string t ≡ o → typeof.is_undefined_text o ≡ true → t ≡ text (codes "undefined")
+undefined_text_is : (t : Tree) (o : Option (List ℕ)) → string t ≡ o → is_undefined_text o ≡ true → t ≡ text (codes "undefined")
 undefined_text_is t (Some s) h e = string_is t s h ∙ ap text (same_texts s (codes "undefined") e)
 undefined_text_is t None h e = absurd (cc e)
 
-typeof_row : (t w : Tree) → typeof.written t ≡ Some w → Row55 t w
-typeof_row t w e = go (binary_operator t) refl (typeof.is_typeof_name (part t 0) && typeof.is_undefined_text (string (part t 1))) refl e
+-- `typeof` of what it reads by its value
+typeof_value_is : (t : Tree) → by_value.is_typeof_value t ≡ true → (t ≡ unary Typeof (part t 0)) × (is_typed_by_value (part t 0) ≡ true)
+typeof_value_is t e = let (over, operand) = and_parts (is_typeof (unary_operator t)) (is_typed_by_value (part t 0)) e in go (unary_operator t) refl over operand
   where
-    by : (o : BinaryOperator) → binary_operator t ≡ Some o → (typeof.is_typeof_name (part t 0) && typeof.is_undefined_text (string (part t 1))) ≡ true → (c : Bool) → is_equality o ≡ c → typeof.written_by (if c then Some (ordered o) else None) (part t 0) ≡ Some w → Row55 t w
+    go : (o : Option UnaryOperator) → unary_operator t ≡ o → is_typeof o ≡ true → is_typed_by_value (part t 0) ≡ true → (t ≡ unary Typeof (part t 0)) × (is_typed_by_value (part t 0) ≡ true)
+    go (Some Typeof) h v k = (unary_is t Typeof h, k)
+    go (Some o) h v k = absurd (cc v)
+    go None h v k = absurd (cc v)
+
+value_row : (t w : Tree) → by_value.written t ≡ Some w → Row55Value t w
+value_row t w e = go (binary_operator t) refl (by_value.is_typeof_value (part t 0) && is_undefined_text (string (part t 1))) refl e
+  where
+    by : (o : BinaryOperator) → binary_operator t ≡ Some o → (by_value.is_typeof_value (part t 0) && is_undefined_text (string (part t 1))) ≡ true → (c : Bool) → is_equality o ≡ c → by_value.written_by (if c then Some (strict_operator o) else None) (part (part t 0) 0) ≡ Some w → Row55Value t w
     by o h f true k e =
-        let (typed, name) = and_parts (typeof.is_typeof_name (part t 0)) (typeof.is_undefined_text (string (part t 1))) f in
+        let (typed, name) = and_parts (by_value.is_typeof_value (part t 0)) (is_undefined_text (string (part t 1))) f in
+        let x = typeof_value_is (part t 0) typed in
+        record {
+          operator = o;
+          operand = part (part t 0) 0;
+          equality = k;
+          value = x.1;
+          shape = binary_is t o h ∙ ap (λ a. binary o a (part t 1)) x.0 ∙ ap (binary o (unary Typeof (part (part t 0) 0))) (undefined_text_is (part t 1) (string (part t 1)) refl name);
+          written = sym (some_is (binary (strict_operator o) (part (part t 0) 0) void_zero) w e);
+        }
+    by o h f false k e = absurd (cc e)
+
+    go : (x : Option BinaryOperator) → binary_operator t ≡ x → (b : Bool) → (by_value.is_typeof_value (part t 0) && is_undefined_text (string (part t 1))) ≡ b → by_value.written_by (by_value.strict_in x b) (part (part t 0) 0) ≡ Some w → Row55Value t w
+    go (Some o) h true f e = by o h f (is_equality o) refl e
+    go (Some o) h false f e = absurd (cc e)
+    go None h b f e = absurd (cc e)
+
+order_row : (t w : Tree) (o : BinaryOperator) → typeof.order t ≡ Some o → binary o (part t 0) (text (codes "u")) ≡ w → Row55 t w
+order_row t w p e made = go (binary_operator t) refl (typeof.is_typeof_name (part t 0) && is_undefined_text (string (part t 1))) refl e
+  where
+    by : (o : BinaryOperator) → binary_operator t ≡ Some o → (typeof.is_typeof_name (part t 0) && is_undefined_text (string (part t 1))) ≡ true → (c : Bool) → is_equality o ≡ c → (if c then Some (ordered o) else None) ≡ Some p → Row55 t w
+    by o h f true k e =
+        let (typed, name) = and_parts (typeof.is_typeof_name (part t 0)) (is_undefined_text (string (part t 1))) f in
         let x = typeof_name_is (part t 0) typed in
         record {
           operator = o;
           name = x.0;
           equality = k;
           shape = binary_is t o h ∙ ap (λ a. binary o a (part t 1)) x.1 ∙ ap (binary o (typeof_name x.0)) (undefined_text_is (part t 1) (string (part t 1)) refl name);
-          written = sym (some_is (binary (ordered o) (part t 0) (text (codes "u"))) w e) ∙ ap (λ a. binary (ordered o) a (text (codes "u"))) x.1;
+          written = sym made ∙ ap (λ q. binary q (part t 0) (text (codes "u"))) (sym (some_is (ordered o) p e)) ∙ ap (λ a. binary (ordered o) a (text (codes "u"))) x.1;
         }
     by o h f false k e = absurd (cc e)
 
-    go : (x : Option BinaryOperator) → binary_operator t ≡ x → (b : Bool) → (typeof.is_typeof_name (part t 0) && typeof.is_undefined_text (string (part t 1))) ≡ b → typeof.written_by (typeof.order_in x b) (part t 0) ≡ Some w → Row55 t w
+    go : (x : Option BinaryOperator) → binary_operator t ≡ x → (b : Bool) → (typeof.is_typeof_name (part t 0) && is_undefined_text (string (part t 1))) ≡ b → typeof.order_in x b ≡ Some p → Row55 t w
     go (Some o) h true f e = by o h f (is_equality o) refl e
     go (Some o) h false f e = absurd (cc e)
     go None h b f e = absurd (cc e)
 
+typeof_row : (t w : Tree) → typeof.written t ≡ Some w → Row55 t w ⊎ Row55Value t w
+typeof_row t w e = go (typeof.order t) refl e
+  where
+    go : (x : Option BinaryOperator) → typeof.order t ≡ x → typeof.written_by x (part t 0) (by_value.written t) ≡ Some w → Row55 t w ⊎ Row55Value t w
+    go (Some o) h e = inl (order_row t w o h (some_is (binary o (part t 0) (text (codes "u"))) w e))
+    go None h e = inr (value_row t w e)
+
 typeof_misses : (t w : Tree) → Row55 t w → typeof.written t ≡ None → ⊥
 typeof_misses t w r e =
-    let step : typeof.written (binary r.operator (typeof_name r.name) (text (codes "undefined"))) ≡ Some (binary (ordered r.operator) (typeof_name r.name) (text (codes "u"))) = ap (λ c. typeof.written_by (if c then Some (ordered r.operator) else None) (typeof_name r.name)) r.equality in
+    let long : Tree = binary r.operator (typeof_name r.name) (text (codes "undefined")) in
+    let step : typeof.written long ≡ Some (binary (ordered r.operator) (typeof_name r.name) (text (codes "u"))) = ap (λ c. typeof.written_by (if c then Some (ordered r.operator) else None) (typeof_name r.name) (by_value.written long)) r.equality in
     absurd (cc (sym step ∙ sym (ap typeof.written r.shape) ∙ e))
+
+-- where nothing is written, nothing is written of what is read by its value
+no_value : (t : Tree) → typeof.written t ≡ None → by_value.written t ≡ None
+no_value t e = go (typeof.order t) e
+  where
+    go : (x : Option BinaryOperator) → typeof.written_by x (part t 0) (by_value.written t) ≡ None → by_value.written t ≡ None
+    go (Some o) e = absurd (cc e)
+    go None e = e
+
+value_misses : (t w : Tree) → Row55Value t w → typeof.written t ≡ None → ⊥
+value_misses t w r e =
+    let long : Tree = binary r.operator (unary Typeof r.operand) (text (codes "undefined")) in
+    let step : by_value.written long ≡ Some (binary (strict_operator r.operator) r.operand void_zero) = ap (λ b. by_value.written_by (by_value.strict_in (Some r.operator) (b && true)) r.operand) r.value ∙ ap (λ c. by_value.written_by (if c then Some (strict_operator r.operator) else None) r.operand) r.equality in
+    absurd (cc (sym step ∙ sym (ap by_value.written r.shape) ∙ no_value t e))
 
 -- 60
 
@@ -306,8 +362,12 @@ of_equality : (s : Seat) (n w : Tree) → (loose.written n ≡ Some w) ⊎ (swap
 of_equality s n w (inl e) = of_loose s n w (loose_row n w e)
 of_equality s n w (inr e) = inr (inr (inr (inr (inr (inr (inl (swap_row n w e)))))))
 
+of_typeof : (s : Seat) (n w : Tree) → Row55 n w ⊎ Row55Value n w → SpellingRow (Expr s) n w
+of_typeof s n w (inl r) = inr (inr (inr (inr (inr (inr (inr (inr (inl r))))))))
+of_typeof s n w (inr r) = inr (inr (inr (inr (inr (inr (inr (inr (inr (inr r)))))))))
+
 of_binary : (s : Seat) (n w : Tree) → (typeof.written n ≡ Some w) ⊎ (equality_written n ≡ Some w) → SpellingRow (Expr s) n w
-of_binary s n w (inl e) = inr (inr (inr (inr (inr (inr (inr (inr (inl (typeof_row n w e)))))))))
+of_binary s n w (inl e) = of_typeof s n w (typeof_row n w e)
 of_binary s n w (inr e) = of_equality s n w (first_is (loose.written n) (swap.written n) w e)
 
 pub written_is_row : law.WrittenIsRow
@@ -317,7 +377,7 @@ written_is_row s (node (shape.AssignmentExpression o) xs n ts) w e = inr (inr (i
 written_is_row s (node (shape.UpdateExpression o l) xs n ts) w e = inr (inr (inr (inl (updated_follows (node (shape.UpdateExpression o l) xs n ts) w e))))
 written_is_row s (node (shape.BinaryExpression o) xs n ts) w e = of_binary s (node (shape.BinaryExpression o) xs n ts) w (first_is (typeof.written (node (shape.BinaryExpression o) xs n ts)) (equality_written (node (shape.BinaryExpression o) xs n ts)) w e)
 written_is_row s (node (shape.YieldExpression d) xs n ts) w e = inr (inr (inr (inr (inr (inr (inr (inl (yield_row (node (shape.YieldExpression d) xs n ts) w e))))))))
-written_is_row s (node shape.TemplateLiteral xs n ts) w e = inr (inr (inr (inr (inr (inr (inr (inr (inr (template_row (node shape.TemplateLiteral xs n ts) w e)))))))))
+written_is_row s (node shape.TemplateLiteral xs n ts) w e = inr (inr (inr (inr (inr (inr (inr (inr (inr (inl (template_row (node shape.TemplateLiteral xs n ts) w e))))))))))
 written_is_row s (node h xs n ts) w e = absurd (cc e)
 
 -- what is written for a node whose form is told
@@ -363,7 +423,10 @@ unwritten_rests s n e w (inr (inr (inr (inr (inr (inr (inr (inl r)))))))) = absu
 unwritten_rests s n e w (inr (inr (inr (inr (inr (inr (inr (inr (inl r))))))))) =
     let long : Tree = binary r.operator (typeof_name r.name) (text (codes "undefined")) in
     typeof_misses long w (subst (λ x. Row55 x w) r.shape r) (none_first (typeof.written long) (equality_written long) (unwritten n long r.shape e)).0
-unwritten_rests s n e w (inr (inr (inr (inr (inr (inr (inr (inr (inr r))))))))) = template_misses r.is_tail r.raw r.content r.shorter (unwritten n (template r.is_tail r.raw r.content) r.shape e)
+unwritten_rests s n e w (inr (inr (inr (inr (inr (inr (inr (inr (inr (inl r)))))))))) = template_misses r.is_tail r.raw r.content r.shorter (unwritten n (template r.is_tail r.raw r.content) r.shape e)
+unwritten_rests s n e w (inr (inr (inr (inr (inr (inr (inr (inr (inr (inr r)))))))))) =
+    let long : Tree = binary r.operator (unary Typeof r.operand) (text (codes "undefined")) in
+    value_misses long w (subst (λ x. Row55Value x w) r.shape r) (none_first (typeof.written long) (equality_written long) (unwritten n long r.shape e)).0
 
 pub rests_settle : law.RestsSettle
 rests_settle p n w r c = r w c.row

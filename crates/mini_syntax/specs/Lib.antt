@@ -4,6 +4,7 @@ pub mod SubstituteBoolean
 pub mod ConvertToDottedProperties
 pub mod SubstituteLooseEqualsUndefined
 pub mod SubstituteSwapBinaryExpressions
+pub mod SubstituteTypeofValue
 pub mod SubstituteTypeofUndefined
 pub mod SubstituteTemplateLiteral
 pub mod SubstituteYieldExpression

@@ -12,5 +12,6 @@ pub mod substitute_spellings;
 pub mod substitute_swap_binary_expressions;
 pub mod substitute_template_literal;
 pub mod substitute_typeof_undefined;
+pub mod substitute_typeof_value;
 pub mod substitute_variable_declaration;
 pub mod substitute_yield_expression;

@@ -15,7 +15,7 @@ use Rattle.mini_laws.specs.Conversion.{Made, makes, raises, outside, to_number, 
 use Rattle.mini_laws.specs.Operators.{of_primitives, of_numbers, loosely_equal, of_number}
 use Rattle.mini_laws.specs.State.{Hint, ForNumber, ForDefault, ForString, done, Completion, ok, stop, halt, out, either, State, Stop, Environment}
 use Rattle.mini_laws.specs.Demand.{Want, Val, Test, Demand, As, OfType, Parts, Texts, Request, Reply}
-use Rattle.mini_laws.specs.Command.{Naming, Op, read, read_typeof, self, Gets, Command, ret, fails, stuck, op, kid, bind, shift, Kids, act, run, at_variable, read_slot, read_any, this_of, is_object}
+use Rattle.mini_laws.specs.Command.{Naming, Op, read, read_typeof, self, Gets, Command, ret, fails, stuck, op, kid, bind, shift, Kids, act, run, at_variable, read_slot, read_any, read_type, this_of, is_object}
 use Rattle.mini_laws.specs.Naming.{NameKind, PlainName, EvalName, UndefinedName, NumberName, kinds, facts, summaries, naming}
 use Rattle.mini_laws.specs.Asking.{demand, sequence_demand, operand_demand}
 use Rattle.mini_laws.specs.Replies.{reply, valued, passed, passing, primitive, numeric, of_made, of_option, is_of_primitives, operate, hint_of, loosely}
@@ -24,6 +24,7 @@ use Rattle.mini_laws.specs.Targets.{identifier_step}
 use Rattle.mini_laws.specs.Lists.{parts, sequence, template_texts}
 use Rattle.mini_laws.specs.Step.{step, means, meaning}
 use Rattle.mini_laws.specs.Truth.{told}
+use Rattle.mini_laws.proofs.Runs.{type_reads}
 use Rattle.mini_laws.proofs.Truth.{coherent}
 use Rattle.mini_terms.specs.Kind.{Kind, is_primitive, is_nullish_kind, IsUndefined, IsNull, nth_kind, kind, each_kind, OfKind}
 use Rattle.mini_terms.specs.Effects.{ef, each_ef, ef_unary, ef_operands, nth_true, all_true, all_primitive, primitive_items, each_primitive, is_identifier, each_identifier}
@@ -75,6 +76,9 @@ module _ (e : Environment) (names : Naming) where
   any_quiet Missing s = refl
   any_quiet Uninitialised s = tt
 
+  type_quiet : (x : Variable) (v : Slot) (s : State) → Quiet s (read_type x v s)
+  type_quiet x v s = type_reads (λ a b. Quiet s a) x v v s s (slot_quiet v s) (any_quiet v s)
+
   at_quiet : {A : Type 0} (x : Option Variable) (f : Variable → Completion A) (s : State) → ((y : Variable) → Quiet s (f y)) → Quiet s (at_variable x f)
   unfolding Quiet at_variable
   at_quiet (Some x) f s h = h x
@@ -88,7 +92,7 @@ module _ (e : Environment) (names : Naming) where
   act_quiet : (asked : Bool) → (asked ≡ false → e.asks_this ≡ false) → (o : Op) (s : State) → Reads asked o → Quiet s (act e names o s)
   unfolding act
   act_quiet asked f (read i) s h = at_quiet (nth names.own i) _ s (λ y. slot_quiet (s.vars y) s)
-  act_quiet asked f (read_typeof i) s h = at_quiet (nth names.own i) _ s (λ y. any_quiet (s.vars y) s)
+  act_quiet asked f (read_typeof i) s h = at_quiet (nth names.own i) _ s (λ y. type_quiet y (s.vars y) s)
   act_quiet asked f self s h = this_quiet e.asks_this s (f h)
   act_quiet asked f o s h = absurd h
 

@@ -1,22 +1,23 @@
 -- Expressions that are read by their value alone.
-use Rattle.std.specs.Prelude.{◌&&◌, ◌||◌}
+use Rattle.std.specs.Prelude.{◌&&◌, ◌||◌, not, is_none}
 use Rattle.mini_model.specs.declared.place.Position.TheVariants.{Expr}
 use Rattle.mini_model.specs.declared.seat.Guard.{Guard}
 use Rattle.mini_model.specs.declared.seat.Guard.TheVariants as guard
 use Rattle.mini_model.specs.declared.seat.Seat.{Seat}
-use Rattle.std.proofs.Common.{◌≡◌, ℕ, Bool, true, false, List, [], None, refl, sym, ap, ◌∙◌, subst, true≢false}
+use Rattle.std.proofs.Common.{◌≡◌, ℕ, Bool, true, false, List, [], ◌∷◌, Option, Some, None, refl, sym, ap, ◌∙◌, subst, true≢false}
 use Rattle.mini_model.specs.declared.name.Name.{Name}
+use Rattle.mini_model.specs.declared.name.SymbolId.{SymbolId}
 use Rattle.mini_model.specs.declared.shape.Shape.{Shape}
 use Rattle.mini_model.specs.declared.shape.Shape.TheVariants as shape
 use Rattle.mini_model.specs.Tree.{Tree, Trees, node}
-use Rattle.mini_laws.specs.Value.{Value, Null, Boolean, Number, String, VariableSet, variables}
+use Rattle.mini_laws.specs.Value.{Value, Null, Boolean, Number, String, Declared, VariableSet, variables}
 use Rattle.mini_laws.specs.State.{Anything, ABoolean, AnObject, NodeOf, Create, Item, Short, done, ended, State, Completion, ok, stop, halt, out, either, Environment}
 use Rattle.mini_laws.specs.Demand.{Want, Val, Test, Demand, As, Callee, OfType, Target, AnEntry, Deleted, Items, Parts, Texts, Stat, Binds, AValue, Request, Reply, Says, says, plain_call}
-use Rattle.mini_laws.specs.Command.{Naming, Command, ret, op, self, then, bind, emit_mine, Kids, run}
-use Rattle.mini_laws.specs.Naming.{kinds, first_facts, texts_all, summaries, facts, naming}
+use Rattle.mini_laws.specs.Command.{Naming, Command, ret, op, self, then, bind, emit_mine, Kids, act, at_variable, run}
+use Rattle.mini_laws.specs.Naming.{NameKind, PlainName, EvalName, UndefinedName, NumberName, kind_declared, kinds, first_facts, texts_all, summaries, facts, naming}
 use Rattle.mini_laws.specs.Asking.{pass, first_demand, logical_demand, operand_demand}
 use Rattle.mini_laws.specs.Replies.{reply, valued, passed, passing}
-use Rattle.mini_laws.specs.Expressions.{chain_value, chain_end, unary_step, binary_step, logical_step, conditional_step, sequence_step, call_step, new_step, array_step, object_step, template_step, yield_step, first_kind, get_identifier, member_step, got}
+use Rattle.mini_laws.specs.Expressions.{chain_value, chain_end, unary_step, binary_step, logical_step, conditional_step, sequence_step, call_step, new_step, array_step, object_step, template_step, yield_step, first_kind, get_identifier, type_identifier, member_step, got}
 use Rattle.mini_laws.specs.Targets.{assignment_step, update_step, chained_carries}
 use Rattle.mini_laws.specs.Step.{step, means, meaning}
 use Rattle.mini_laws.specs.Same.{Goes, Agree, Same}
@@ -26,7 +27,7 @@ use Rattle.mini_terms.proofs.Made.{and_left, and_right}
 use Rattle.mini_laws.proofs.Runs.{either_eta, run_bind}
 use Rattle.mini_laws.specs.Rows.{SameAt}
 use Rattle.mini_laws.specs.Fits.{Fits}
-use Rattle.mini_terms.specs.Reading.{stands_by, stands, is_item, is_item_by, by_value, is_unguarded, SameWanted, ReadByValue, SameByValue, SameItem, SameInSeat}
+use Rattle.mini_terms.specs.Reading.{stands_by, stands, is_item, is_item_by, by_value, is_unguarded, is_typed_by, SameWanted, ReadByValue, SameByValue, SameItem, TypedByValue, SameInSeat}
 
 module _ (e : Environment) (names : Naming) where
   -- a value that is replied
@@ -158,6 +159,67 @@ item_read (node h xs n ts) p e s = item_reads e h p xs n ts s
 
 pub same_item : SameItem
 same_item e D X n w p q h = record { by = λ r s i. subst (λ x. Near D x (means e w AnEntry tt s)) (sym (item_read n p e s)) (subst (λ y. Near D (by_value AnEntry tt (means e n (As Val) tt s)) y) (sym (item_read w q e s)) (near_by D AnEntry tt (means e n (As Val) tt s) (means e w (As Val) tt s) (h.by tt s i))) }
+
+-- under `typeof`
+
+module _ (e : Environment) (i : SymbolId) (n : ℕ) (ts : Trees) (s : State) where
+  abbrev of_type : NameKind → Completion Value
+  of_type k = run {q = λ j. Stat None} e (naming shape.Identifier OfType (Declared i.0 ∷ []) n (summaries ts)) (λ j r z. meaning e ts j (Stat None) r z) (bind (type_identifier k) ret) s
+
+  abbrev of_value : NameKind → Completion Value
+  of_value k = run {q = λ j. Stat None} e (naming shape.Identifier (As Val) (Declared i.0 ∷ []) n (summaries ts)) (λ j r z. meaning e ts j (Stat None) r z) (valued (As Val) tt (get_identifier k)) s
+
+  kind_typed : (k : NameKind) → of_type k ≡ of_value k
+  unfolding act at_variable
+  kind_typed PlainName = refl
+  kind_typed EvalName = refl
+  kind_typed UndefinedName = refl
+  kind_typed NumberName = refl
+
+  abbrev called : List ℕ → Tree
+  called x = node shape.Identifier (record { spelling = x; symbol = Some i } ∷ []) n ts
+
+  name_typed : (x : List ℕ) → means e (called x) OfType tt s ≡ means e (called x) (As Val) tt s
+  unfolding means step
+  name_typed x = kind_typed (kind_declared x)
+
+-- a chain that ends in its midst is undefined there too
+chain_typed : (e : Environment) (names : Naming) (K : Kids (λ i. As Val)) (x : Completion Value)
+    → either x (λ v z. run {q = λ i. As Val} e names K (bind (chain_value (done v)) (reply OfType tt)) z) (λ y z. run {q = λ i. As Val} e names K (bind (chain_value (ended y)) (reply OfType tt)) z)
+    ≡ either x (λ v z. run {q = λ i. As Val} e names K (chain_end (As Val) tt (done v)) z) (λ y z. run {q = λ i. As Val} e names K (chain_end (As Val) tt (ended y)) z)
+unfolding either
+chain_typed e names K (ok v s) = refl
+chain_typed e names K (stop Short s) = refl
+chain_typed e names K (stop y s) = refl
+chain_typed e names K (halt y s) = refl
+chain_typed e names K out = refl
+
+declared_typed : (e : Environment) (x : Name) → not (is_none x.symbol) ≡ true → (n : ℕ) (ts : Trees) (s : State) → means e (node shape.Identifier (x ∷ []) n ts) OfType tt s ≡ means e (node shape.Identifier (x ∷ []) n ts) (As Val) tt s
+declared_typed e x h n ts s = go x.symbol h
+  where
+    go : (o : Option SymbolId) → not (is_none o) ≡ true → means e (node shape.Identifier (record { spelling = x.spelling; symbol = o } ∷ []) n ts) OfType tt s ≡ means e (node shape.Identifier (record { spelling = x.spelling; symbol = o } ∷ []) n ts) (As Val) tt s
+    go (Some i) h = name_typed e i n ts s x.spelling
+    go None h = absurd (true≢false (sym h))
+
+module _ (e : Environment) where
+  type_reads : (h : Shape) (xs : List Name) → is_typed_by h xs ≡ true → (n : ℕ) (ts : Trees) (s : State) → means e (node h xs n ts) OfType tt s ≡ means e (node h xs n ts) (As Val) tt s
+  unfolding means step by_value either
+  type_reads shape.Identifier (x ∷ []) p n ts s = declared_typed e x p n ts s
+  type_reads shape.Identifier [] p n ts s = absurd (true≢false (sym p))
+  type_reads shape.Identifier (x ∷ y ∷ xs) p n ts s = absurd (true≢false (sym p))
+  type_reads (shape.StaticMemberExpression b) xs p n ts s = reply_reads e (named e (shape.StaticMemberExpression b) xs n ts) (λ i. As Val) (bind (member_step b) got) OfType tt (of_kids e (λ i. As Val) ts) s
+  type_reads (shape.ComputedMemberExpression b) xs p n ts s = reply_reads e (named e (shape.ComputedMemberExpression b) xs n ts) (λ i. As Val) (bind (member_step b) got) OfType tt (of_kids e (λ i. As Val) ts) s
+  type_reads (shape.PrivateFieldExpression b) xs p n ts s = reply_reads e (named e (shape.PrivateFieldExpression b) xs n ts) (λ i. Stat None) (emit_mine (NodeOf (chained_carries b (first_facts (facts ts)).shortens)) []) OfType tt (of_kids e (λ i. Stat None) ts) s
+  type_reads shape.SuperStaticMemberExpression xs p n ts s = reply_reads e (named e shape.SuperStaticMemberExpression xs n ts) (λ i. Stat None) (emit_mine (NodeOf Anything) []) OfType tt (of_kids e (λ i. Stat None) ts) s
+  type_reads shape.SuperComputedMemberExpression xs p n ts s = reply_reads e (named e shape.SuperComputedMemberExpression xs n ts) (λ i. Stat None) (emit_mine (NodeOf Anything) []) OfType tt (of_kids e (λ i. Stat None) ts) s
+  type_reads (shape.Function false g ds) xs p n ts s = reply_reads e (named e (shape.Function false g ds) xs n ts) (λ i. Stat None) (emit_mine Create []) OfType tt (of_kids e (λ i. Stat None) ts) s
+  type_reads (shape.Class false) xs p n ts s = reply_reads e (named e (shape.Class false) xs n ts) (λ i. Binds true) (emit_mine (NodeOf AnObject) []) OfType tt (of_kids e (λ i. Binds true) ts) s
+  type_reads (shape.BigIntLiteral m) xs p n ts s = refl
+  type_reads shape.ChainExpression xs p n ts s = chain_typed e (named e shape.ChainExpression xs n ts) (of_kids e (λ i. As Val) ts) (meaning e ts 0 (As Val) tt s)
+  type_reads h xs p n ts s = node_reads e h p xs n ts OfType tt s
+
+pub typed_by_value : TypedByValue
+typed_by_value (node h xs n ts) p e s = type_reads e h xs p n ts s
 
 -- in a seat
 

@@ -1,5 +1,6 @@
 -- Expressions that are read by their value alone, whatever is asked of them.
-use Rattle.std.specs.Prelude.{◌≡◌, Bool, true, false, not, ◌&&◌, ◌||◌, List, [], ◌∷◌}
+use Rattle.std.specs.Prelude.{◌≡◌, Bool, true, false, not, ◌&&◌, ◌||◌, List, [], ◌∷◌, is_none}
+use Rattle.mini_model.specs.declared.name.Name.{Name}
 use Rattle.mini_model.specs.declared.operator.UnaryOperator.TheVariants.{LogicalNot}
 use Rattle.mini_model.specs.declared.place.Position.TheVariants.{Expr}
 use Rattle.mini_model.specs.declared.seat.Guard.{Guard}
@@ -7,7 +8,8 @@ use Rattle.mini_model.specs.declared.seat.Guard.TheVariants as guard
 use Rattle.mini_model.specs.declared.seat.Seat.{Seat}
 use Rattle.mini_model.specs.declared.shape.Shape.{Shape}
 use Rattle.mini_model.specs.declared.shape.Shape.TheVariants as shape
-use Rattle.mini_model.specs.Tree.{Tree, Trees, node, none, ◌▸◌}
+use Rattle.mini_model.specs.Tree.{Tree, Trees, node, none, ◌▸◌, shape_of}
+use Rattle.mini_node.specs.Children.{names_of}
 use Rattle.mini_laws.specs.Value.{Value, VariableSet}
 use Rattle.mini_laws.specs.State.{Item, State, Completion, ok, stop, out, either, Environment}
 use Rattle.mini_laws.specs.Demand.{Want, Val, Demand, As, Callee, OfType, Deleted, AnEntry, AValue, Request, Reply, plain_call}
@@ -84,6 +86,22 @@ is_item (node h xs n ts) = is_item_by h
 -- what is the same by its value is the same as an item
 abbrev pub SameItem : Type 0
 SameItem = (e : Environment) (D X : VariableSet) (n w : Tree) → is_item n ≡ true → is_item w ≡ true → Same e D X (As Val) n w → Same e D X AnEntry n w
+
+-- a name that a scope declares
+abbrev pub is_declared : List Name → Bool
+is_declared (x ∷ []) = not (is_none x.symbol)
+is_declared _ = false
+
+-- an expression that `typeof` reads by its value: of names those that a scope declares, since another may be absent
+abbrev pub is_typed_by : Shape → List Name → Bool
+is_typed_by shape.Identifier xs = is_declared xs
+is_typed_by h xs = is_item_by h
+
+abbrev pub is_typed_by_value : Tree → Bool
+is_typed_by_value t = is_typed_by (shape_of t) (names_of t)
+
+abbrev pub TypedByValue : Type 0
+TypedByValue = (n : Tree) → is_typed_by_value n ≡ true → (e : Environment) (s : State) → means e n OfType tt s ≡ means e n (As Val) tt s
 
 -- Expressions of which a parent reads no more than that they are there
 

@@ -20,4 +20,4 @@ pub use laws::{
     const_is_sound, effect_free_is_sound, kind_is_sound, lit_is_sound, truth_is_sound,
     values_are_read, what_is_known_goes,
 };
-pub use parts::{is_item, is_plain_part, leaves_nothing, stands, suits, weighs};
+pub use parts::{is_item, is_plain_part, is_typed_by_value, leaves_nothing, stands, suits, weighs};

@@ -63,6 +63,27 @@ pub fn is_item(node: &Node) -> bool
     }
 }
 
+// Whether a name is one that a scope declares.
+fn is_declared(name: &Option<Name>) -> bool
+    ensures { result ≡ term.is_declared (names name.now) }
+{
+    match name {
+        Some(name) => name.symbol.is_some(),
+        None => false,
+    }
+}
+
+/// Whether `typeof` reads an expression by its value: of names those that a scope declares, since another may be absent (ECMA-262,
+/// "The typeof Operator").
+pub fn is_typed_by_value(node: &Node) -> bool
+    ensures { result ≡ term.is_typed_by_value node.now }
+{
+    match node.shape() {
+        Shape::Identifier => is_declared(node.name()),
+        _ => is_item(node),
+    }
+}
+
 // Whether the first child is read no further.
 #[cycle(plain)]
 #[tactic(auto, using(crate::proofs::Children::first_plain, crate::proofs::Children::no_plain))]

@@ -1,19 +1,18 @@
 //! Row 55: `typeof x == "undefined"` becomes `typeof x > "u"`, of a name that no scope declares, and of an inequality `typeof x < "u"`.
-//! It is lighter in every seat.
+//! It is lighter in every seat. What is no such name is another row's.
 
 ghost use Rattle.std.specs.Prelude.{◌≡◌, codes, is_some, unwrap_or, OnOk, IfOk, IfSome};
 ghost use Rattle.mini_model.specs.Tree.{children, count};
 ghost use Rattle.mini_node.specs.Children.{names, part};
-ghost use Rattle.mini_node.specs.Kinds.{binary as binary_of, string as text_of};
+ghost use Rattle.mini_node.specs.Kinds.{binary as binary_of};
 ghost use Rattle.mini_rows.specs.Spellings.{text as literal};
 ghost use Rattle.mini_syntax.specs.SubstituteTypeofUndefined as row;
 ghost use Rattle.mini_syntax.specs.SubstituteTypeofUndefined.{written};
 
-use crate::forms::UNDEFINED;
+use crate::rewrites::substitute_typeof_value::{is_undefined_text, substitute_typeof_value};
 use mini_model::{BinaryOperator, Name, OutOfMemory, Text, UnaryOperator};
 use mini_node::{
-    Node, binary, binary_operator, is_identifier, one, string, string_literal, taken,
-    unary_operator,
+    Node, binary, binary_operator, is_identifier, one, string_literal, taken, unary_operator,
 };
 use std::alloc::Global;
 
@@ -43,15 +42,6 @@ fn is_typeof_name(node: &Node) -> bool
     match unary_operator(node) {
         Some(UnaryOperator::Typeof) => is_unresolved(node.child(0)),
         _ => false,
-    }
-}
-
-fn is_undefined_text(node: &Node) -> bool
-    ensures { result ≡ row.is_undefined_text (text_of node.now) }
-{
-    match string(node) {
-        Some(text) => text.as_slice() == UNDEFINED.as_slice(),
-        None => false,
     }
 }
 
@@ -99,7 +89,8 @@ fn compared(alloc: Global, operator: BinaryOperator, node: Node) -> Result<Node,
     binary(alloc, operator, one(node), letter(alloc)?)
 }
 
-/// `typeof x == "undefined"` becomes `typeof x > "u"`, of a name that no scope declares and any of the four equalities. The answer says
+/// `typeof x == "undefined"` becomes `typeof x > "u"`, of a name that no scope declares and any of the four equalities; of what `typeof`
+/// reads by its value it becomes `x === void 0`. The answer says
 /// whether it did; the only error is that memory runs out, and then the expression is fit only to be dropped.
 pub fn substitute_typeof_undefined(alloc: Global, node: &mut Node) -> Result<bool, OutOfMemory>
     ensures tree { OnOk result (node.new ≡ unwrap_or (written node.old) node.old) }
@@ -110,6 +101,6 @@ pub fn substitute_typeof_undefined(alloc: Global, node: &mut Node) -> Result<boo
             *node = compared(alloc, operator, taken(alloc, node))?;
             Ok(true)
         }
-        None => Ok(false),
+        None => substitute_typeof_value(alloc, node),
     }
 }
