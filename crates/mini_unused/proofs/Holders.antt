@@ -16,16 +16,16 @@ use Rattle.mini_node.specs.Children.{names_of, number_of, part, with_part, first
 use Rattle.mini_node.specs.Kinds.{is_block, is_listed}
 use Rattle.mini_node.specs.Made.{block_is, listed_is}
 use Rattle.mini_rows.specs.Lists.{block}
-use Rattle.mini_rows.specs.Unused.{names, any_names, may_move, statements, arrow_with, ArrowBodyRow, function_with, FunctionBodyRow, BlockRow, UnusedRow, UnusedContracts}
-use Rattle.mini_rows.proofs.UnusedWeights.{unused_lighter}
+use Rattle.mini_rows.specs.Unused.{names, any_names, may_move, statements, arrow_with, ArrowBodyRow, function_with, FunctionBodyRow, BlockRow, UnusedRow}
 use Rattle.mini_tree.specs.declared.options.CompressOptions.{CompressOptions}
 use Rattle.mini_tree.specs.Rule as rule
-use Rattle.mini_tree.proofs.Reaching.{moves_once}
 use Rattle.mini_context.specs.declared.context.TraverseCtx.{TraverseCtx}
 use Rattle.mini_context.specs.Known.{Knows}
 use Rattle.mini_context.specs.Writable.{writable_in}
 use Rattle.mini_unused.specs.RemoveUnusedDeclaration.{declares_name, declares_list, is_free_at, may_lose, may_go, open_in, is_alone, list_at, is_unused, UnusedAt, is_arrow_shape, are_statements, are_no_names, has_statements, is_function_shape, is_function, marked, Applied, AppliedInFunction, Gives, Rests}
-use Rattle.mini_unused.specs.SubstituteSingleUse.{last_place, is_declared_over, reads_next, is_read_once, is_single, SingleAt, NameGone, ReadGone, Removed}
+use Rattle.mini_unused.specs.SubstituteSingleUse.{last_place, is_declared_over, reads_next, is_read_once, is_single, SingleAt, NameGone, ReadGone, Gone, Removed}
+use Rattle.mini_unused.specs.Chains.{Several}
+use Rattle.mini_unused.proofs.Chains.{several_over, several_moves}
 use Rattle.mini_unused.proofs.Unused.{no_outside, part_twice, row_at, no_row, no_block, all_used, seen_by_eval}
 use Rattle.mini_unused.proofs.SingleUses.{row_there, none_single}
 
@@ -45,12 +45,12 @@ block_seen ts = or_none (any_has_eval ts)
 abbrev held : Tree → Tree
 held m = node shape.BlockStatement [] 0 (m ▸ none)
 
-removed_row : (W : VariableSet) (ts : Trees) (m : Tree) → Removed W no_outside (listed ts) m true → BlockRow W (block ts) (held m)
-removed_row W ts m r = by r.1
+gone_row : (W : VariableSet) (ts : Trees) (m : Tree) → Gone W no_outside (listed ts) m → BlockRow W (block ts) (held m)
+gone_row W ts m r = by r.name
   where
     by : NameGone W no_outside (listed ts) m ⊎ ReadGone W no_outside (listed ts) m → BlockRow W (block ts) (held m)
-    by (inl g) = row_at (block ts) g.at g.which refl g.unused.0 g.unused.1.1 W g.unused.1.2 (block_seen ts ∙ r.0) (held m) (ap held g.left)
-    by (inr g) = inr (inr (row_there (block ts) g.at refl g.next g.declares W g.single (block_seen ts ∙ r.0) (held m) (ap held g.left)))
+    by (inl g) = row_at (block ts) g.at g.which refl g.unused.0 g.unused.1.1 W g.unused.1.2 (block_seen ts ∙ r.unseen) (held m) (ap held g.left)
+    by (inr g) = inr (inr (row_there (block ts) g.at refl g.next g.declares W g.single (block_seen ts ∙ r.unseen) (held m) (ap held g.left)))
 
 rests : (W : VariableSet) (ts : Trees) (m : Tree) → Removed W no_outside (listed ts) m false → (w : Tree) → BlockRow W (block ts) w → ⊥
 rests W ts m r = by r.1
@@ -59,8 +59,25 @@ rests W ts m r = by r.1
     by (inl e) = seen_by_eval W (block ts) (block_seen ts ∙ e)
     by (inr u) = no_row W (block ts) (all_used W (block ts) u.0) (none_single W (block ts) u.1)
 
-applied_by : (W : VariableSet) (p : Position) (t u : Tree) → UnusedRow W p t u → Applied W p t u true
-applied_by W p t u r = moves_once (UnusedContracts W) p t u (record { row = r; lighter = unused_lighter W p t u r })
+-- what is left of a list is one
+left_listed : (W : VariableSet) (o : Tree) (ts : Trees) (m : Tree) → Gone W o (listed ts) m → m ≡ listed (children m)
+left_listed W o ts m r = by r.name
+  where
+    by : NameGone W o (listed ts) m ⊎ ReadGone W o (listed ts) m → m ≡ listed (children m)
+    by (inl g) = g.left ∙ sym (ap (λ l. listed (children l)) g.left)
+    by (inr g) = g.left ∙ sym (ap (λ l. listed (children l)) g.left)
+
+abbrev is_list : Tree → Type 0
+is_list l = l ≡ listed (children l)
+
+-- names that go from a list one after another go so from what holds it
+several_in : (W : VariableSet) (o : Tree) (S : Tree → Tree → Type 0) (over : Tree → Tree) → ((ts : Trees) (m : Tree) → Gone W o (listed ts) m → S (over (listed ts)) (over m)) → (ts : Trees) (m : Tree) → Several (Gone W o) (listed ts) m → Several S (over (listed ts)) (over m)
+several_in W o S over on ts m = several_over (Gone W o) S is_list over by (listed ts) m refl
+  where
+    by : (t u : Tree) → is_list t → Gone W o t u → S (over t) (over u) × is_list u
+    by t u i r =
+        let there = subst (λ v. Gone W o v u) i r in
+        (subst (λ v. S (over v) (over u)) (sym i) (on (children t) u there), left_listed W o (children t) u there)
 
 -- no other holder
 no_function : (W : VariableSet) (t : Tree) → is_function t ≡ false → (w : Tree) → FunctionBodyRow W t w → ⊥
@@ -70,7 +87,7 @@ no_arrow : (W : VariableSet) (t : Tree) → has_statements t ≡ false → (w : 
 no_arrow W t e w r = true≢false (sym (ap has_statements r.shape) ∙ e)
 
 block_applied : (W : VariableSet) (ts : Trees) (m : Tree) (c : Bool) → Removed nothing no_outside (listed ts) m c → (q : StmtSeat) → Applied W (Stmt q) (block ts) (held m) c
-block_applied W ts m true r q = applied_by W (Stmt q) (block ts) (held m) (inl (removed_row nothing ts m r))
+block_applied W ts m true r q = several_moves W (Stmt q) (BlockRow nothing) (λ t u b. inl b) (block ts) (held m) (several_in nothing no_outside (BlockRow nothing) held (gone_row nothing) ts m r)
 block_applied W ts m false r q = (ap held r.0, by)
   where
     by : (w : Tree) → UnusedRow W (Stmt q) (block ts) w → ⊥
@@ -151,42 +168,29 @@ module _ (W : VariableSet) (outside : Tree) (front ts : Trees) (mentions : (x : 
   abbrev left : Tree → Tree
   left m = listed (listed front ▸ children m)
 
-  removed_there : (m : Tree) (c : Bool) → Removed W outside (listed ts) m c → Removed W no_outside (listed behind) (left m) c × (m ≡ listed (children m))
-  removed_there m true r = by r.1
+  gone_there : (m : Tree) → Gone W outside (listed ts) m → Gone W no_outside (listed behind) (left m)
+  gone_there m r = record { unseen = seen_there ∙ r.unseen; name = by r.name }
     where
-      by : NameGone W outside (listed ts) m ⊎ ReadGone W outside (listed ts) m → Removed W no_outside (listed behind) (left m) true × (m ≡ listed (children m))
-      by (inl g) = (
-        (
-          seen_there ∙ r.0,
-          inl (record { at = suc g.at; which = g.which; unused = (next_within g.at (count ts) g.unused.0, (g.unused.1.0, g.unused.1.1, sym (unused_there g.at g.which) ∙ g.unused.1.2)); left = ap left g.left }),
-        ),
-        g.left ∙ sym (ap (λ l. listed (children l)) g.left),
-      )
-      by (inr g) = (
-        (
-          seen_there ∙ r.0,
-          inr (record { at = suc g.at; next = next_within (suc g.at) (count ts) g.next; declares = g.declares; single = sym (single_there g.at) ∙ g.single; left = ap left g.left }),
-        ),
-        g.left ∙ sym (ap (λ l. listed (children l)) g.left),
-      )
-  removed_there m false r = ((ap left r.0, by r.1), r.0 ∙ sym (ap (λ l. listed (children l)) r.0))
+      by : NameGone W outside (listed ts) m ⊎ ReadGone W outside (listed ts) m → NameGone W no_outside (listed behind) (left m) ⊎ ReadGone W no_outside (listed behind) (left m)
+      by (inl g) = inl (record { at = suc g.at; which = g.which; unused = (next_within g.at (count ts) g.unused.0, (g.unused.1.0, g.unused.1.1, sym (unused_there g.at g.which) ∙ g.unused.1.2)); left = ap left g.left })
+      by (inr g) = inr (record { at = suc g.at; next = next_within (suc g.at) (count ts) g.next; declares = g.declares; single = sym (single_there g.at) ∙ g.single; left = ap left g.left })
+
+  stays_there : (m : Tree) → Removed W outside (listed ts) m false → Removed W no_outside (listed behind) (left m) false
+  stays_there m r = (ap left r.0, by r.1)
     where
       by : ((has_eval outside || has_eval (listed ts)) ≡ true) ⊎ (UnusedAt W outside ts None × SingleAt W outside ts None) → ((has_eval no_outside || has_eval (listed behind)) ≡ true) ⊎ (UnusedAt W no_outside behind None × SingleAt W no_outside behind None)
       by (inl e) = inl (seen_there ∙ e)
       by (inr u) = inr (none_unused u.0, none_read u.1)
 
-  row_behind : (m : Tree) → Removed W outside (listed ts) m true → BlockRow W (block behind) (block (listed front ▸ children m))
-  row_behind m r = removed_row W behind (left m) (removed_there m true r).0
+  row_behind : (m : Tree) → Gone W outside (listed ts) m → BlockRow W (block behind) (block (listed front ▸ children m))
+  row_behind m r = gone_row W behind (left m) (gone_there m r)
 
   none_behind : (m : Tree) → Removed W outside (listed ts) m false → (us : Trees) → us ≡ behind → (w : Tree) → BlockRow W (block us) w → ⊥
-  none_behind m r us e w row = rests W behind (left m) (removed_there m false r).0 w (subst (λ v. BlockRow W (block v) w) e row)
-
-  list_is : (m : Tree) (c : Bool) → Removed W outside (listed ts) m c → m ≡ listed (children m)
-  list_is m c r = (removed_there m c r).1
+  none_behind m r us e w row = rests W behind (left m) (stays_there m r) w (subst (λ v. BlockRow W (block v) w) e row)
 
 -- ---- an arrow function: its parameters stand before its statements
 
-module _ (W : VariableSet) (directives : List (List ℕ)) (number : ℕ) (ps ts : Trees) where
+module _ (W : VariableSet) (directives : List (List ℕ)) (number : ℕ) (ps : Trees) where
   abbrev outside_arrow : Tree
   outside_arrow = node (shape.ArrowFunctionExpression directives) [] number (listed ps ▸ (absent ▸ none))
 
@@ -201,27 +205,27 @@ module _ (W : VariableSet) (directives : List (List ℕ)) (number : ℕ) (ps ts 
   abbrev over : Tree → Tree
   over m = node (shape.ArrowFunctionExpression directives) [] number (listed ps ▸ (node shape.FunctionBody [] 0 (m ▸ none) ▸ none))
 
-  arrow_over : (m : Tree) → Removed W outside_arrow (listed ts) m true → ArrowBodyRow W (arrow_with directives number ps ts) (over m)
-  arrow_over m r =
-      record { directives = directives; number = number; parameters = ps; before = ts; after = children m; row = row_behind W outside_arrow ps ts arrow_mentions arrow_evals m r; shape = refl; written = ap over (list_is W outside_arrow ps ts arrow_mentions arrow_evals m true r) }
+  arrow_over : (ts : Trees) (m : Tree) → Gone W outside_arrow (listed ts) m → ArrowBodyRow W (over (listed ts)) (over m)
+  arrow_over ts m r =
+      record { directives = directives; number = number; parameters = ps; before = ts; after = children m; row = row_behind W outside_arrow ps ts arrow_mentions arrow_evals m r; shape = refl; written = ap over (left_listed W outside_arrow ts m r) }
 
-  arrow_rests : (m : Tree) → Removed W outside_arrow (listed ts) m false → (w : Tree) → ArrowBodyRow W (arrow_with directives number ps ts) w → ⊥
-  arrow_rests m r w row =
+  arrow_rests : (ts : Trees) (m : Tree) → Removed W outside_arrow (listed ts) m false → (w : Tree) → ArrowBodyRow W (arrow_with directives number ps ts) w → ⊥
+  arrow_rests ts m r w row =
       let parameters : listed row.parameters ≡ listed ps = sym (ap (λ t. part t 0) row.shape) in
       let before : row.before ≡ ts = sym (ap (λ t. children (part (part t 1) 0)) row.shape) in
       none_behind W outside_arrow ps ts arrow_mentions arrow_evals m r (listed row.parameters ▸ row.before) (λ k. parameters k ▸ before k) (block (listed row.parameters ▸ row.after)) row.row
 
-  arrow_applied : (m : Tree) (c : Bool) → Removed W outside_arrow (listed ts) m c → (s : Seat) → Applied W (Expr s) (arrow_with directives number ps ts) (over m) c
-  arrow_applied m true r s = applied_by W (Expr s) (arrow_with directives number ps ts) (over m) (inl (arrow_over m r))
-  arrow_applied m false r s = (ap over r.0, by)
+  arrow_applied : (ts : Trees) (m : Tree) (c : Bool) → Removed W outside_arrow (listed ts) m c → (s : Seat) → Applied W (Expr s) (arrow_with directives number ps ts) (over m) c
+  arrow_applied ts m true r s = several_moves W (Expr s) (ArrowBodyRow W) (λ t u a. inl a) (arrow_with directives number ps ts) (over m) (several_in W outside_arrow (ArrowBodyRow W) over arrow_over ts m r)
+  arrow_applied ts m false r s = (ap over r.0, by)
     where
       by : (w : Tree) → UnusedRow W (Expr s) (arrow_with directives number ps ts) w → ⊥
-      by w (inl a) = arrow_rests m r w a
+      by w (inl a) = arrow_rests ts m r w a
       by w (inr f) = no_function W (arrow_with directives number ps ts) refl w f
 
 -- ---- any other function: its name and its parameters do
 
-module _ (W : VariableSet) (d g : Bool) (directives : List (List ℕ)) (number : ℕ) (name : Tree) (ps ts : Trees) where
+module _ (W : VariableSet) (d g : Bool) (directives : List (List ℕ)) (number : ℕ) (name : Tree) (ps : Trees) where
   abbrev outside_function : Tree
   outside_function = node (shape.Function d g directives) [] number (name ▸ (listed ps ▸ (absent ▸ none)))
 
@@ -235,8 +239,8 @@ module _ (W : VariableSet) (d g : Bool) (directives : List (List ℕ)) (number :
   abbrev function_with_list : Tree → Tree
   function_with_list m = node (shape.Function d g directives) [] number (name ▸ (listed ps ▸ (node shape.FunctionBody [] 0 (m ▸ none) ▸ none)))
 
-  function_over : (m : Tree) → Removed W outside_function (listed ts) m true → FunctionBodyRow W (function_with d g directives number name ps ts) (function_with_list m)
-  function_over m r = record {
+  function_over : (ts : Trees) (m : Tree) → Gone W outside_function (listed ts) m → FunctionBodyRow W (function_with_list (listed ts)) (function_with_list m)
+  function_over ts m r = record {
     is_declared = d;
     is_generator = g;
     directives = directives;
@@ -247,19 +251,19 @@ module _ (W : VariableSet) (d g : Bool) (directives : List (List ℕ)) (number :
     after = children m;
     row = row_behind W outside_function (name ▸ ps) ts function_mentions function_evals m r;
     shape = refl;
-    written = ap function_with_list (list_is W outside_function (name ▸ ps) ts function_mentions function_evals m true r);
+    written = ap function_with_list (left_listed W outside_function ts m r);
   }
 
-  function_rests : (m : Tree) → Removed W outside_function (listed ts) m false → (w : Tree) → FunctionBodyRow W (function_with d g directives number name ps ts) w → ⊥
-  function_rests m r w row =
+  function_rests : (ts : Trees) (m : Tree) → Removed W outside_function (listed ts) m false → (w : Tree) → FunctionBodyRow W (function_with d g directives number name ps ts) w → ⊥
+  function_rests ts m r w row =
       let named : row.name ≡ name = sym (ap (λ t. part t 0) row.shape) in
       let parameters : row.parameters ≡ ps = sym (ap (λ t. children (part t 1)) row.shape) in
       let before : row.before ≡ ts = sym (ap (λ t. children (part (part t 2) 0)) row.shape) in
       none_behind W outside_function (name ▸ ps) ts function_mentions function_evals m r (listed (row.name ▸ row.parameters) ▸ row.before) (λ k. listed (named k ▸ parameters k) ▸ before k) (block (listed (row.name ▸ row.parameters) ▸ row.after)) row.row
 
-  function_applied : (m : Tree) (c : Bool) → Removed W outside_function (listed ts) m c → AppliedInFunction W (function_with d g directives number name ps ts) (function_with_list m) c
-  function_applied m true r = function_over m r
-  function_applied m false r = (ap function_with_list r.0, function_rests m r)
+  function_applied : (ts : Trees) (m : Tree) (c : Bool) → Removed W outside_function (listed ts) m c → AppliedInFunction W (function_with d g directives number name ps ts) (function_with_list m) c
+  function_applied ts m true r = several_in W outside_function (FunctionBodyRow W) function_with_list function_over ts m r
+  function_applied ts m false r = (ap function_with_list r.0, function_rests ts m r)
 
 -- ---- what has such statements
 
@@ -330,7 +334,7 @@ stays W t e = (refl, no_function W t e)
 -- ---- where a function stands
 
 pub as_statement : (W : VariableSet) (t u : Tree) (c : Bool) → is_block t ≡ false → AppliedInFunction W t u c → (q : StmtSeat) → Applied W (Stmt q) t u c
-as_statement W t u true e r q = applied_by W (Stmt q) t u (inr r)
+as_statement W t u true e r q = several_moves W (Stmt q) (FunctionBodyRow W) (λ t u f. inr f) t u r
 as_statement W t u false e r q = (r.0, by)
   where
     by : (w : Tree) → UnusedRow W (Stmt q) t w → ⊥
@@ -338,7 +342,7 @@ as_statement W t u false e r q = (r.0, by)
     by w (inr f) = r.1 w f
 
 pub as_expression : (W : VariableSet) (t u : Tree) (c : Bool) → has_statements t ≡ false → AppliedInFunction W t u c → (s : Seat) → Applied W (Expr s) t u c
-as_expression W t u true e r s = applied_by W (Expr s) t u (inr r)
+as_expression W t u true e r s = several_moves W (Expr s) (FunctionBodyRow W) (λ t u f. inr f) t u r
 as_expression W t u false e r s = (r.0, by)
   where
     by : (w : Tree) → UnusedRow W (Expr s) t w → ⊥
@@ -346,11 +350,11 @@ as_expression W t u false e r s = (r.0, by)
     by w (inr f) = r.1 w f
 
 pub as_method : (W : VariableSet) (t u : Tree) (c : Bool) → AppliedInFunction W t u c → Applied W Method t u c
-as_method W t u true r = applied_by W Method t u r
+as_method W t u true r = several_moves W Method (FunctionBodyRow W) (λ t u f. f) t u r
 as_method W t u false r = r
 
 pub as_exported : (W : VariableSet) (t u : Tree) (c : Bool) → AppliedInFunction W t u c → Applied W Elsewhere t u c
-as_exported W t u true r = applied_by W Elsewhere t u r
+as_exported W t u true r = several_moves W Elsewhere (FunctionBodyRow W) (λ t u f. f) t u r
 as_exported W t u false r = r
 
 -- ---- the context

@@ -3,6 +3,9 @@ pub mod Evaluating
 pub mod Standing
 pub mod Unused
 pub mod SingleUses
+pub mod Uneval
+pub mod Chains
+pub mod Swept
 pub mod Holders
 pub mod Nameless
 pub mod Catching

@@ -1,3 +1,4 @@
+pub mod Chains
 pub mod RemoveUnusedDeclaration
 pub mod Lighter
 pub mod SubstituteSingleUse

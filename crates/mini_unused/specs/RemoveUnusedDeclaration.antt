@@ -18,6 +18,7 @@ use Rattle.mini_tree.specs.Rule as rule
 use Rattle.mini_context.specs.Facts.{Facts}
 use Rattle.mini_context.specs.Tables.{mark_at}
 use Rattle.mini_context.specs.Writable.{writable_in}
+use Rattle.mini_unused.specs.Chains.{Several}
 
 -- shapes
 
@@ -170,7 +171,7 @@ Applied W = rule.Applied (UnusedContracts W) (RestsOver W)
 
 -- one call of it for a function, wherever that stands
 abbrev pub AppliedInFunction : VariableSet → Tree → Tree → Bool → Type 0
-AppliedInFunction W t u true = FunctionBodyRow W t u
+AppliedInFunction W t u true = Several (FunctionBodyRow W) t u
 AppliedInFunction W t u false = (u ≡ t) × ((w : Tree) → FunctionBodyRow W t w → ⊥)
 
 -- over a program the rule makes what a row says of the variables that can be written in it, and rests where none does

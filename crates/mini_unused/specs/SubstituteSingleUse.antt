@@ -10,6 +10,7 @@ use Rattle.mini_laws.specs.Value.{VariableSet}
 use Rattle.mini_node.specs.Children.{names_of, part, with_part, is_bare, is_nameless, first_children, rest_children}
 use Rattle.mini_node.specs.Kinds.{is_listed}
 use Rattle.mini_rows.specs.Unused.{names, any_names, leads, is_childless, is_head_shape, may_move, reads_first, put_first}
+use Rattle.mini_unused.specs.Chains.{Chain, Several}
 use Rattle.mini_unused.specs.RemoveUnusedDeclaration.{declares_name, declares_list, may_lose, is_free_at, list_at, let_left, list_left, UnusedAt}
 
 -- a node without a name and a number, which evaluates its first part before all else
@@ -85,7 +86,24 @@ pub record ReadGone (W : VariableSet) (o l m : Tree) : Type 0 where
   pub single : is_single W o (children l) at ≡ true
   pub left : m ≡ list_single l at (last_place (children (list_at (children l) at)))
 
--- or there is none, or a direct eval sees it
+-- of one of them, which no direct eval sees
+pub record Gone (W : VariableSet) (o l m : Tree) : Type 0 where
+  pub unseen : (has_eval o || has_eval l) ≡ false
+  pub name : NameGone W o l m ⊎ ReadGone W o l m
+
+-- some names are gone, one after another; or there is none, or a direct eval sees it
 abbrev pub Removed : VariableSet → Tree → Tree → Tree → Bool → Type 0
-Removed W o l m true = ((has_eval o || has_eval l) ≡ false) × (NameGone W o l m ⊎ ReadGone W o l m)
+Removed W o l m true = Several (Gone W o) l m
 Removed W o l m false = (m ≡ l) × (((has_eval o || has_eval l) ≡ true) ⊎ (UnusedAt W o (children l) None × SingleAt W o (children l) None))
+
+-- ---- names that go one after another, as many as there are
+
+-- a list without a direct eval, and with none in what is outside of it
+pub record Calm (o l : Tree) : Type 0 where
+  pub is_list : is_listed l ≡ true
+  pub unseen : (has_eval o || has_eval l) ≡ false
+
+-- it has lost some names
+pub record Swept (W : VariableSet) (o l m : Tree) : Type 0 where
+  pub gone : Chain (Gone W o) l m
+  pub calm : Calm o m

@@ -9,6 +9,7 @@ ghost use Rattle.mini_model.specs.declared.seat.StmtSeat.{StmtSeat};
 ghost use Rattle.mini_laws.specs.Naming.{is_lexical as is_it_lexical};
 ghost use Rattle.mini_model.specs.Tree.{absent, children, count, shape_of};
 ghost use Rattle.mini_node.specs.Children.{names, part, with_part};
+ghost use Rattle.mini_node.specs.Kinds.{is_listed as is_it_listed};
 ghost use Rattle.mini_rows.specs.Unused.{is_idle as is_it_idle};
 ghost use Rattle.mini_unused.specs.Lighter.{unused_is_lighter};
 ghost use Rattle.mini_unused.specs.RemoveUnusedDeclaration as row;
@@ -18,7 +19,8 @@ ghost use Rattle.mini_unused.specs.SubstituteSingleUse.{Removed};
 use crate::declares::declares_nothing;
 use crate::evals::either_has_eval;
 use crate::mentions::{is_mentioned, is_mentioned_before, is_mentioned_from};
-use crate::single_uses::substitute_single_use;
+use crate::single_uses::substitute_single_uses;
+use crate::sweeping::sweep;
 use mini_context::{Scopes, TraverseCtx};
 use mini_model::{Name, OutOfMemory, Position, Shape, VariableDeclarationKind};
 use mini_node::{
@@ -159,8 +161,8 @@ fn is_alone(
     }
 }
 
-// Whether nothing else mentions the name of the declarator, and it may go.
-fn is_unused_declarator(
+/// Whether nothing else mentions the name of the declarator, and it may go.
+pub fn is_unused_declarator(
     is_free: bool,
     list: &Node,
     which: usize,
@@ -289,9 +291,14 @@ fn statement_left(alloc: Global, mut declaration: Node, which: usize) -> Result<
     Ok(declaration)
 }
 
-// Of a list, the statement at the index loses the declarator.
+/// Of a list, the statement at the index loses the declarator.
 #[tactic(auto, using(crate::proofs::Unused::same_parts, crate::proofs::Unused::part_twice))]
-fn drop_in_list(alloc: Global, list: &mut Node, at: usize, which: usize) -> Result<(), OutOfMemory>
+pub fn drop_in_list(
+    alloc: Global,
+    list: &mut Node,
+    at: usize,
+    which: usize,
+) -> Result<(), OutOfMemory>
     requires statement { at < count (children list.old) }
     requires declarators { 0 < count (children (part list.old at)) }
     requires declarator { which < count (children (part (part list.old at) 0)) }
@@ -303,14 +310,15 @@ fn drop_in_list(alloc: Global, list: &mut Node, at: usize, which: usize) -> Resu
     Ok(())
 }
 
-// Of a list of statements, with what stands outside of them, a name that nothing else mentions goes, or one that is read once. The
-// answer says whether one did.
+// Of a list of statements, with what stands outside of them, each name goes that nothing else mentions, or that is read once, from the
+// first of them on. The answer says whether one did.
 fn remove_in_list(
     alloc: Global,
     outside: &Node,
     list: &mut Node,
     scopes: &Scopes,
 ) -> Result<bool, OutOfMemory>
+    requires { is_it_listed list.old ≡ true }
     ensures { IfOk result (λ changed. Removed (open_in outside.now (marked scopes.now)) outside.now list.old list.new changed) }
 {
     match unused_at(outside, list.children(), scopes) {
@@ -319,9 +327,10 @@ fn remove_in_list(
                 return Ok(false);
             }
             drop_in_list(alloc, list, at, which)?;
+            sweep(alloc, outside, list, at, scopes)?;
             Ok(true)
         }
-        None => Ok(substitute_single_use(alloc, outside, list, scopes)),
+        None => substitute_single_uses(alloc, outside, list, scopes),
     }
 }
 

@@ -8,6 +8,7 @@ mod evals;
 mod mentions;
 mod names;
 mod single_uses;
+mod sweeping;
 
 pub use catches::{SubstituteCatches, substitute_catch_clause};
 pub use declarations::{

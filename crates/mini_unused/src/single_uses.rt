@@ -2,10 +2,10 @@
 //! `{ let a; return b(); }`, where the statement evaluates x before all else and nothing else in the block has its spelling or its
 //! symbol, and no direct eval stands there.
 
-ghost use Rattle.std.specs.Prelude.{◌≡◌, ◌+◌, ◌<◌, ◌^◌, true, None, if◌then◌else◌};
+ghost use Rattle.std.specs.Prelude.{◌≡◌, ◌+◌, ◌<◌, ◌^◌, true, None, IfOk, if◌then◌else◌};
 ghost use Rattle.mini_model.specs.Tree.{child_or_absent, children, count, empty_statement};
 ghost use Rattle.mini_node.specs.Children.{names, part, with_part};
-ghost use Rattle.mini_node.specs.Kinds.{is_sequence_shape as is_it_sequence_shape};
+ghost use Rattle.mini_node.specs.Kinds.{is_listed as is_it_listed, is_sequence_shape as is_it_sequence_shape};
 ghost use Rattle.mini_rows.specs.Unused as reading;
 ghost use Rattle.mini_rows.specs.Unused.{put_first as it_put_first};
 ghost use Rattle.mini_unused.specs.RemoveUnusedDeclaration.{list_at, marked, open_in, UnusedAt};
@@ -17,8 +17,9 @@ use crate::declarations::{
 };
 use crate::evals::either_has_eval;
 use crate::mentions::{is_mentioned, is_mentioned_before, is_mentioned_from, is_same_symbol};
+use crate::sweeping::sweep;
 use mini_context::Scopes;
-use mini_model::{Name, Shape, UnaryOperator};
+use mini_model::{Name, OutOfMemory, Shape, UnaryOperator};
 use mini_node::{Node, Nodes, discard, empty_statement, is_identifier, two};
 use mini_terms::is_plain_part;
 use std::alloc::Global;
@@ -233,9 +234,9 @@ fn is_single_declarator(
         )
 }
 
-// The statement is a declaration, whose last declarator is such a one.
+/// The statement is a declaration, whose last declarator is such a one.
 #[tactic(auto, using(crate::proofs::SingleUses::no_declarator, crate::proofs::SingleUses::last_is))]
-fn is_single(outside: &Node, statements: &Nodes, at: usize, scopes: &Scopes) -> bool
+pub fn is_single(outside: &Node, statements: &Nodes, at: usize, scopes: &Scopes) -> bool
     requires next { at + 1 < count statements.now }
     requires fits { at + 2 < 2 ^ 64 }
     ensures single { result ≡ row.is_single (open_in outside.now (marked scopes.now)) outside.now statements.now at }
@@ -324,9 +325,9 @@ fn put_in(list: &mut Node, at: usize, value: Node)
     put_child(list, at, put_first(value, head));
 }
 
-// Of a list.
+/// Of a list.
 #[tactic(auto, using(crate::proofs::Unused::same_parts, crate::proofs::SingleUses::next_part))]
-fn substitute_in_list(alloc: Global, list: &mut Node, at: usize, which: usize)
+pub fn substitute_in_list(alloc: Global, list: &mut Node, at: usize, which: usize)
     requires next { at + 1 < count (children list.old) }
     requires fits { at + 1 < 2 ^ 64 }
     requires declarators { 0 < count (children (part list.old at)) }
@@ -337,9 +338,9 @@ fn substitute_in_list(alloc: Global, list: &mut Node, at: usize, which: usize)
     put_in(list, at + 1, init);
 }
 
-// The place of the last declarator of a declaration in a list.
+/// The place of the last declarator of a declaration in a list.
 #[tactic(auto, using(crate::proofs::SingleUses::last_is))]
-fn last_declarator(list: &Node, at: usize) -> usize
+pub fn last_declarator(list: &Node, at: usize) -> usize
     requires statement { at < count (children list.now) }
     requires declarators { 0 < count (children (part list.now at)) }
     requires some { 0 < count (children (part (part list.now at) 0)) }
@@ -350,25 +351,28 @@ fn last_declarator(list: &Node, at: usize) -> usize
 }
 
 /// Of a list of statements in which no name is unused, with what stands outside of them, `let x = a(); return x + b;` becomes
-/// `; return a() + b;`, and `let a, x = b(); return x;` becomes `let a; return b();`. The answer says whether one did.
-pub fn substitute_single_use(
+/// `; return a() + b;`, and `let a, x = b(); return x;` becomes `let a; return b();`, as often as there is one. The answer says whether
+/// there was; the only error is that memory runs out.
+pub fn substitute_single_uses(
     alloc: Global,
     outside: &Node,
     list: &mut Node,
     scopes: &Scopes,
-) -> bool
-    requires { UnusedAt (open_in outside.now (marked scopes.now)) outside.now (children list.old) None }
-    ensures { Removed (open_in outside.now (marked scopes.now)) outside.now list.old list.new result }
+) -> Result<bool, OutOfMemory>
+    requires list { is_it_listed list.old ≡ true }
+    requires used { UnusedAt (open_in outside.now (marked scopes.now)) outside.now (children list.old) None }
+    ensures { IfOk result (λ changed. Removed (open_in outside.now (marked scopes.now)) outside.now list.old list.new changed) }
 {
     match single_at(outside, list.children(), scopes) {
         Some(at) => {
             if either_has_eval(outside, list) {
-                return false;
+                return Ok(false);
             }
             let which = last_declarator(list, at);
             substitute_in_list(alloc, list, at, which);
-            true
+            sweep(alloc, outside, list, at, scopes)?;
+            Ok(true)
         }
-        None => false,
+        None => Ok(false),
     }
 }

@@ -1,10 +1,17 @@
-use Rattle.std.proofs.Common.{sym, subst, inl}
-use Rattle.std.specs.Prelude.{Some}
-use Rattle.mini_unused.specs.RemoveUnusedDeclaration.{marked, open_in, UnusedAt}
+use Rattle.std.proofs.Common.{sym}
+use Rattle.mini_unused.specs.RemoveUnusedDeclaration.{marked, open_in}
+use Rattle.mini_unused.proofs.Swept.{name_gone, some_gone}
+use Rattle.mini_unused.proofs.Uneval.{still_calm}
 use Rattle.mini_unused.proofs.declarations.remove_in_list.Goals as goal
 
-pub returns-in_ok-drop_in_list-in-Some : goal.returns-in_ok-drop_in_list-in-Some
-returns-in_ok-drop_in_list-in-Some c = (
-  sym c.if-either_has_eval.ensures,
-  inl (record { at = c.in-Some.at; which = c.in-Some.which; unused = subst (λ ts. UnusedAt (open_in c.args.outside.now (marked c.args.scopes.now)) c.args.outside.now ts (Some (c.in-Some.at, c.in-Some.which))) c.children.ensures c.in-Some.ensures; left = c.in_ok-drop_in_list-in-Some.ensures }),
-)
+pub sweep-requires : goal.sweep-requires
+sweep-requires c =
+    let W = open_in c.args.outside.now (marked c.args.scopes.now) in
+    let first = name_gone W c.args.outside.now c.args.list.now c.drop_in_list.new.list c.children.result.now c.in-Some.at c.in-Some.which c.children.ensures c.in-Some.ensures (sym c.if-either_has_eval.ensures) c.in_ok-drop_in_list-in-Some.ensures in
+    still_calm W c.args.outside.now c.args.list.now c.drop_in_list.new.list (record { is_list = c.requires; unseen = sym c.if-either_has_eval.ensures }) first
+
+pub returns-in_ok-sweep-in-Some : goal.returns-in_ok-sweep-in-Some
+returns-in_ok-sweep-in-Some c =
+    let W = open_in c.args.outside.now (marked c.args.scopes.now) in
+    let first = name_gone W c.args.outside.now c.args.list.now c.drop_in_list.new.list c.children.result.now c.in-Some.at c.in-Some.which c.children.ensures c.in-Some.ensures (sym c.if-either_has_eval.ensures) c.in_ok-drop_in_list-in-Some.ensures in
+    some_gone W c.args.outside.now c.args.list.now c.drop_in_list.new.list c.sweep.new.list first c.in_ok-sweep-in-Some.ensures

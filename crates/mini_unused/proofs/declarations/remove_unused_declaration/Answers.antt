@@ -1,10 +1,15 @@
-use Rattle.std.proofs.Common.{sym, subst₂}
+use Rattle.std.proofs.Common.{◌≡◌, ◌∙◌, true, ap, sym, subst₂}
+use Rattle.mini_node.specs.Kinds.{is_listed}
 use Rattle.mini_model.specs.declared.place.Position.TheVariants.{Stmt}
 use Rattle.mini_model.specs.declared.seat.StmtSeat.{StmtSeat}
 use Rattle.mini_unused.specs.RemoveUnusedDeclaration.{marked, open_in, Applied, AppliedInFunction}
 use Rattle.mini_unused.specs.SubstituteSingleUse.{Removed}
+use Rattle.mini_unused.proofs.Swept.{in_block}
 use Rattle.mini_unused.proofs.Holders.{of_block, as_statement, where_ok, put_back}
 use Rattle.mini_unused.proofs.declarations.remove_unused_declaration.Goals as goal
+
+pub remove_in_list-changed-requires : goal.remove_in_list-changed-requires
+remove_in_list-changed-requires c = ap is_listed c.take_child-list.ensures.child ∙ in_block c.args.node.now (sym c.if-not-is_block.ensures.kind)
 
 pub returns : goal.returns
 returns c =

@@ -5,8 +5,13 @@ use Rattle.mini_model.specs.Tree.{absent}
 use Rattle.mini_node.specs.Children.{part, with_part}
 use Rattle.mini_unused.specs.RemoveUnusedDeclaration.{marked, open_in, Applied, AppliedInFunction}
 use Rattle.mini_unused.specs.SubstituteSingleUse.{Removed}
+use Rattle.mini_node.specs.Kinds.{is_listed}
+use Rattle.mini_unused.proofs.Swept.{in_arrow}
 use Rattle.mini_unused.proofs.Holders.{of_arrow, as_expression, where_ok, put_back}
 use Rattle.mini_unused.proofs.declarations.remove_unused_in_arrow.Goals as goal
+
+pub remove_in_list-changed-requires : goal.remove_in_list-changed-requires
+remove_in_list-changed-requires c = ap is_listed (c.take_child-list.ensures.child ∙ ap (λ b. part b 0) c.take_child-body.ensures.child) ∙ in_arrow c.args.node.now (sym c.if-not-has_statements.ensures.kind)
 
 pub returns : goal.returns
 returns c =

@@ -1,0 +1,46 @@
+-- Steps of a relation as steps of another, and as steps of a rule.
+use Rattle.std.proofs.Common.{◌≡◌, inl, inr}
+use Rattle.mini_model.specs.declared.place.Position.{Position}
+use Rattle.mini_model.specs.Tree.{Tree}
+use Rattle.mini_model.specs.Rewriting.{Reaches, here, done, more}
+use Rattle.mini_laws.specs.Value.{VariableSet}
+use Rattle.mini_rows.specs.Unused.{UnusedRow, UnusedContracts}
+use Rattle.mini_rows.proofs.UnusedWeights.{unused_lighter}
+use Rattle.mini_tree.specs.Rule.{Moves}
+use Rattle.mini_tree.proofs.Reaching.{reaches_trans}
+use Rattle.mini_unused.specs.Chains.{Chain, still, further, Several}
+
+pub chain_joined : (R : Tree → Tree → Type 0) (t u v : Tree) → Chain R t u → Chain R u v → Chain R t v
+chain_joined R t _ _ c (still u) = c
+chain_joined R t _ _ c (further u w v d r) = further t w v (chain_joined R t u w c d) r
+
+pub chain_once : (R : Tree → Tree → Type 0) (t u : Tree) → R t u → Chain R t u
+chain_once R t u r = further t t u (still t) r
+
+-- ---- under a function on trees, where something holds of each tree
+
+module _ (R S : Tree → Tree → Type 0) (I : Tree → Type 0) (over : Tree → Tree) (on : (t u : Tree) → I t → R t u → S (over t) (over u) × I u) where
+  pub chain_over : (t u : Tree) → I t → Chain R t u → Chain S (over t) (over u) × I u
+  chain_over _ _ i (still t) = (still (over t), i)
+  chain_over _ _ i (further t v u c r) =
+      let (d, j) = chain_over t v i c in
+      let (s, k) = on v u j r in
+      (further (over t) (over v) (over u) d s, k)
+
+  pub several_over : (t u : Tree) → I t → Several R t u → Several S (over t) (over u)
+  several_over t u i m =
+      let (s, j) = on t m.next i m.first in
+      record { next = over m.next; first = s; others = (chain_over m.next u j m.others).0 }
+
+-- ---- as steps of the rule
+
+module _ (W : VariableSet) (p : Position) (R : Tree → Tree → Type 0) (read : (t u : Tree) → R t u → UnusedRow W p t u) where
+  written : (t u : Tree) → R t u → UnusedContracts W p t u
+  written t u r = record { row = read t u r; lighter = unused_lighter W p t u (read t u r) }
+
+  reached : (t u : Tree) → Chain R t u → Reaches (UnusedContracts W) p t u
+  reached _ _ (still t) = done p t
+  reached _ _ (further t v u c r) = reaches_trans (UnusedContracts W) (reached t v c) (more p v u u (here p v u (written v u r)) (done p u))
+
+  pub several_moves : (t u : Tree) → Several R t u → Moves (UnusedContracts W) p t u
+  several_moves t u m = record { next = m.next; step = here p t m.next (written t m.next m.first); others = reached m.next u m.others }
