@@ -18,7 +18,7 @@ use Rattle.mini_tree.specs.Rule.{Applied}
 use Rattle.mini_tree.proofs.Reaching.{moves_once}
 use Rattle.mini_context.specs.declared.context.TraverseCtx.{TraverseCtx}
 use Rattle.mini_context.specs.Known.{Knows}
-use Rattle.mini_context.specs.Writable.{writable_in}
+use Rattle.mini_laws.specs.Writable.{writable_in}
 use Rattle.mini_choices.specs.MinimizeAssignedComparison as compare
 use Rattle.mini_choices.specs.MinimizeNormalAssignmentToCombinedLogicalAssignment.{marked, RestsOver, Rests, Gives}
 use Rattle.mini_choices.specs.Writes.{written_by, written, WritesAreRows, UnwrittenRest}

@@ -5,7 +5,7 @@ use Rattle.mini_rows.specs.Writes.{WriteContracts}
 use Rattle.mini_rows.proofs.ChoiceWeights as choice_weights
 use Rattle.mini_rows.proofs.WriteWeights as write_weights
 use Rattle.mini_tree.specs.Rule.{IsLighter}
-use Rattle.mini_context.specs.Writable.{writable_in}
+use Rattle.mini_laws.specs.Writable.{writable_in}
 use Rattle.mini_choices.specs.Choices as choices
 
 pub choices_lighter : IsLighter choices.Gives

@@ -14,7 +14,7 @@ use Rattle.mini_rows.specs.Writes.{WriteRow, WriteContracts}
 use Rattle.mini_tree.specs.declared.options.CompressOptions.{CompressOptions}
 use Rattle.mini_context.specs.Facts.{Facts}
 use Rattle.mini_context.specs.Tables.{mark_at}
-use Rattle.mini_context.specs.Writable.{writable_in}
+use Rattle.mini_laws.specs.Writable.{writable_in}
 use Rattle.mini_choices.specs.Assigning.{assigns_name, is_same_name}
 
 -- the variables that a table marks, by symbol

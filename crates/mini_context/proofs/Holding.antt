@@ -21,7 +21,7 @@ use Rattle.mini_context.specs.declared.writable.ClassPlace.{ClassPlace}
 use Rattle.mini_context.specs.declared.writable.ClassPlace.TheVariants as class
 use Rattle.mini_context.specs.declared.writable.Holder.{Holder}
 use Rattle.mini_context.specs.Tables.{mark_at}
-use Rattle.mini_context.specs.Writable.{is_open, mentions, any_mentions, writable_in}
+use Rattle.mini_laws.specs.Writable.{is_open, mentions, any_mentions, writable_in}
 use Rattle.mini_context.proofs.Gathering.{Adds, Gathers}
 use Rattle.mini_context.proofs.Marking.{or_false, or_assoc}
 

@@ -14,7 +14,7 @@ use Rattle.mini_context.specs.declared.writable.Holder.TheVariants as holder
 use Rattle.mini_context.specs.declared.writable.ClassPlace.{ClassPlace}
 use Rattle.mini_context.specs.declared.writable.ClassPlace.TheVariants as class
 use Rattle.mini_context.specs.Tables.{mark_at}
-use Rattle.mini_context.specs.Writable.{writable_in}
+use Rattle.mini_laws.specs.Writable.{writable_in}
 
 -- ---- by shape
 

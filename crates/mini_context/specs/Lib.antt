@@ -13,5 +13,4 @@ pub mod Lists
 pub mod Early
 pub mod Enclosing
 pub mod Examples
-pub mod Writable
 pub mod Holders

@@ -1,6 +1,6 @@
 -- What the slot of a node tells of its place, the slot of each of its children tells of the child's.
-use Rattle.std.specs.Prelude.{ℕ, zero, suc, ◌≡◌, refl, ◌⊎◌, ◌||◌, ◌&&◌, not, Bool, true, false, List, [], ◌∷◌, Option, Some, None}
-use Rattle.std.proofs.Common.{ap, ◌∙◌, sym, subst, inl, inr}
+use Rattle.std.specs.Prelude.{ℕ, zero, suc, ◌+◌, ◌≡◌, refl, ◌⊎◌, ◌||◌, ◌&&◌, not, Bool, true, false, List, [], ◌∷◌, Option, Some, None}
+use Rattle.std.proofs.Common.{ap, ◌∙◌, sym, subst, inl, inr, arith}
 use Rattle.std.proofs.lemmas.Bool.{false≢true}
 use Rattle.mini_model.specs.declared.kind.MethodDefinitionKind.{MethodDefinitionKind}
 use Rattle.mini_model.specs.declared.kind.MethodDefinitionKind.TheVariants as method
@@ -9,16 +9,16 @@ use Rattle.mini_model.specs.declared.name.Name.{Name}
 use Rattle.mini_model.specs.declared.operator.LogicalOperator.{LogicalOperator}
 use Rattle.mini_model.specs.declared.operator.UnaryOperator.{UnaryOperator}
 use Rattle.mini_model.specs.declared.place.Position.{Position}
-use Rattle.mini_model.specs.declared.place.Position.TheVariants.{StatementList, BodyList, SequenceList}
+use Rattle.mini_model.specs.declared.place.Position.TheVariants.{Expr, StatementList, BodyList, ArgumentList, SequenceList, TemplateList}
 use Rattle.mini_model.specs.declared.shape.Shape.{Shape}
 use Rattle.mini_model.specs.declared.shape.Shape.TheVariants as shape
 use Rattle.mini_model.specs.Tree.{Trees, node}
 use Rattle.mini_model.specs.Position.{child_position, item_position, key_position}
 use Rattle.mini_accept.specs.WellShaped.{Depth, in_module, in_body, nested, Class, a_statement, a_class_member, a_method, an_expression, a_member_target, an_inner, an_inner_argument, a_key, a_private_or_key, an_inner_key, an_element_target, a_target_element, Slot, one, one_or_absent, many, many_or_holes, many_and_rest, many_or_holes_and_rest, quasis, Filling, refused, these, each, each_or_last, pieces, filling, filling_by, statement_slots, slots_of, fits}
-use Rattle.mini_laws.specs.Bodies.{Around, constructs_below, below}
+use Rattle.mini_laws.specs.Bodies.{Around, constructs_below, is_assigned_below, below}
 use Rattle.mini_kept.proofs.Bools.{left, right, or_second}
 use Rattle.mini_kept.proofs.Expressions.{refused_here}
-use Rattle.mini_kept.specs.Standing.{takes_inner, is_asked_whole, are_asked_whole, stands_whole, Stands}
+use Rattle.mini_kept.specs.Standing.{takes_inner, is_asked_whole, are_asked_whole, stands_whole, is_unseated, Stands}
 
 -- ---- shapes whose children are asked whole, and those that have no list that isn't
 
@@ -273,6 +273,36 @@ ChildrenStand π α i (each s) = (j k : ℕ) → Stands s (π j) (α k)
 ChildrenStand π α i (each_or_last s r) = (j k : ℕ) → Stands s (π j) (α k) × Stands r (π j) (α k)
 ChildrenStand π α i (pieces g) = Unit {0}
 
+-- what a pattern assigns to stands where no expression does
+
+item_unseated : (p : Position) (m i : ℕ) → is_unseated p ≡ true → is_unseated (item_position p m i) ≡ true
+item_unseated (Expr s) m i e = absurd (false≢true e)
+item_unseated ArgumentList m i e = absurd (false≢true e)
+item_unseated (SequenceList s) m i e = absurd (false≢true e)
+item_unseated TemplateList m i e = absurd (false≢true e)
+item_unseated p m i e = refl
+
+assigned_below : (a : Around) (h : Shape) (p : Position) (m i : ℕ) → (a.is_assigned ≡ true → is_unseated p ≡ true) → is_assigned_below a h i ≡ true → is_unseated (child_position h p m i) ≡ true
+assigned_below a shape.ObjectAssignmentTarget p m i f e = refl
+assigned_below a shape.ArrayAssignmentTarget p m i f e = refl
+assigned_below a shape.Listed p m i f e = item_unseated p m i (f e)
+assigned_below a shape.RestElement p m i f e = refl
+assigned_below a shape.AssignmentPattern p m zero f e = refl
+assigned_below a (shape.AssignmentTargetPropertyProperty is_computed) p m (suc i) f e = refl
+assigned_below a h p m i f e = absurd (false≢true e)
+
+abbrev Unseats : (ℕ → Position) → (ℕ → Around) → ℕ → Type 0
+Unseats π α i = (j : ℕ) → (α (i + j)).is_assigned ≡ true → is_unseated (π j) ≡ true
+
+unseats_first : (π : ℕ → Position) (α : ℕ → Around) (i : ℕ) → Unseats π α i → (α i).is_assigned ≡ true → is_unseated (π 0) ≡ true
+unseats_first π α i u = let same : i + 0 ≡ i = omega arith in subst (λ k. (α k).is_assigned ≡ true → is_unseated (π 0) ≡ true) same (u 0)
+
+unseats_later : (π : ℕ → Position) (α : ℕ → Around) (i : ℕ) → Unseats π α i → Unseats (λ j. π (suc j)) α (suc i)
+unseats_later π α i u = λ j. let same : i + suc j ≡ suc i + j = omega arith in subst (λ k. (α k).is_assigned ≡ true → is_unseated (π (suc j)) ≡ true) same (u (suc j))
+
+unseats_all : (π : ℕ → Position) (α : ℕ → Around) → ((i : ℕ) → (α i).is_assigned ≡ true → is_unseated (π i) ≡ true) → Unseats π α 0
+unseats_all π α u = λ j. let same : j ≡ 0 + j = omega arith in subst (λ k. (α k).is_assigned ≡ true → is_unseated (π j) ≡ true) same (u j)
+
 turned : (o b c : Bool) → (not o || b) ≡ true → (o || c) ≡ true → (c || b) ≡ true
 turned true true false e f = refl
 turned true false false e f = absurd (false≢true e)
@@ -288,14 +318,16 @@ slot_whole o l (many_and_rest c rest) p f g e = turned l (are_asked_whole p) (no
 slot_whole o l (many_or_holes_and_rest c rest) p f g e = turned l (are_asked_whole p) (not (takes_inner c || takes_inner rest)) g e
 slot_whole o l (quasis g') p f g e = refl
 
-slots_stand : (π : ℕ → Position) (α : ℕ → Around) (o l : Bool) → ((i : ℕ) → (not o || is_asked_whole (π i)) ≡ true) → ((i : ℕ) → (not l || are_asked_whole (π i)) ≡ true) → ((i : ℕ) → (α i).constructs ≡ false) → (i : ℕ) (ss : List Slot) → are_right o l ss ≡ true → SlotsStand π α i ss
-slots_stand π α o l f g k i [] e = tt
-slots_stand π α o l f g k i (s ∷ ss) e =
-    (record { whole = slot_whole o l s (π 0) (f 0) (g 0) (left (is_right o l s) (are_right o l ss) e); function = λ q. k i }, slots_stand (λ j. π (suc j)) α o l (λ j. f (suc j)) (λ j. g (suc j)) k (suc i) ss (right (is_right o l s) (are_right o l ss) e))
+slots_stand : (π : ℕ → Position) (α : ℕ → Around) (o l : Bool) → ((i : ℕ) → (not o || is_asked_whole (π i)) ≡ true) → ((i : ℕ) → (not l || are_asked_whole (π i)) ≡ true) → ((i : ℕ) → (α i).constructs ≡ false) → (i : ℕ) → Unseats π α i → (ss : List Slot) → are_right o l ss ≡ true → SlotsStand π α i ss
+slots_stand π α o l f g k i u [] e = tt
+slots_stand π α o l f g k i u (s ∷ ss) e = (
+  record { whole = slot_whole o l s (π 0) (f 0) (g 0) (left (is_right o l s) (are_right o l ss) e); assigned = unseats_first π α i u; function = λ q. k i },
+  slots_stand (λ j. π (suc j)) α o l (λ j. f (suc j)) (λ j. g (suc j)) k (suc i) (unseats_later π α i u) ss (right (is_right o l s) (are_right o l ss) e),
+)
 
-filled_stand : (π : ℕ → Position) (α : ℕ → Around) (o l : Bool) → ((i : ℕ) → (not o || is_asked_whole (π i)) ≡ true) → ((i : ℕ) → (not l || are_asked_whole (π i)) ≡ true) → ((i : ℕ) → (α i).constructs ≡ false) → (slots : Option (List Slot)) → right_by o l slots ≡ true → ChildrenStand π α 0 (filling_by slots)
-filled_stand π α o l f g k None e = tt
-filled_stand π α o l f g k (Some ss) e = slots_stand π α o l f g k 0 ss e
+filled_stand : (π : ℕ → Position) (α : ℕ → Around) (o l : Bool) → ((i : ℕ) → (not o || is_asked_whole (π i)) ≡ true) → ((i : ℕ) → (not l || are_asked_whole (π i)) ≡ true) → ((i : ℕ) → (α i).constructs ≡ false) → Unseats π α 0 → (slots : Option (List Slot)) → right_by o l slots ≡ true → ChildrenStand π α 0 (filling_by slots)
+filled_stand π α o l f g k u None e = tt
+filled_stand π α o l f g k u (Some ss) e = slots_stand π α o l f g k 0 u ss e
 
 -- ---- an inner expression
 
@@ -336,7 +368,7 @@ inner_stands strict s h xs n ts q e p z = by (inner_filling strict s p z)
 below_inner : (a : Around) (ts : Trees) (strict : Bool) (s : Slot) (p : Position) (m : ℕ) → (filling strict s shape.InnerExpression ≡ refused) ⊎ Inner strict s p → ChildrenStand (child_position shape.InnerExpression p m) (below a shape.InnerExpression ts) 0 (filling strict s shape.InnerExpression)
 below_inner a ts strict s p m (inl f) = subst (ChildrenStand (child_position shape.InnerExpression p m) (below a shape.InnerExpression ts) 0) (sym f) tt
 below_inner a ts strict s p m (inr i) =
-    subst (ChildrenStand (child_position shape.InnerExpression p m) (below a shape.InnerExpression ts) 0) (sym i.1.1) (record { whole = also (not (takes_inner i.1.0)) (is_asked_whole p) i.0; function = λ q. refl }, tt)
+    subst (ChildrenStand (child_position shape.InnerExpression p m) (below a shape.InnerExpression ts) 0) (sym i.1.1) (record { whole = also (not (takes_inner i.1.0)) (is_asked_whole p) i.0; assigned = λ q. absurd (false≢true q); function = λ q. refl }, tt)
   where
     also : (b c : Bool) → c ≡ true → (b || c) ≡ true
     also true c e = refl
@@ -379,16 +411,20 @@ key_constructs a k computed b = refl
 below_method : (a : Around) (ts : Trees) (strict : Bool) (s : Slot) (k : MethodDefinitionKind) (computed b : Bool) (p : Position) (m : ℕ) → AMethod strict s k computed b → ChildrenStand (child_position (shape.MethodDefinition k computed b) p m) (below a (shape.MethodDefinition k computed b) ts) 0 (filling strict s (shape.MethodDefinition k computed b))
 below_method a ts strict s k computed b p m (inl f) = subst (ChildrenStand (child_position (shape.MethodDefinition k computed b) p m) (below a (shape.MethodDefinition k computed b) ts) 0) (sym f) tt
 below_method a ts strict s k computed b p m (inr f) =
-    subst (ChildrenStand (child_position (shape.MethodDefinition k computed b) p m) (below a (shape.MethodDefinition k computed b) ts) 0) (sym f)
-    (record { whole = key_whole computed p; function = λ q. key_constructs a k computed b }, (record { whole = refl; function = λ q. absurd (cc q) }, tt))
+    subst (ChildrenStand (child_position (shape.MethodDefinition k computed b) p m) (below a (shape.MethodDefinition k computed b) ts) 0) (sym f) (
+      record { whole = key_whole computed p; assigned = λ q. absurd (false≢true q); function = λ q. key_constructs a k computed b },
+      (record { whole = refl; assigned = λ q. absurd (false≢true q); function = λ q. absurd (cc q) }, tt),
+    )
 
 -- ---- any node
 
-one_stands : (a : Around) (ts : Trees) (strict : Bool) (c : Class) (h : Shape) (p : Position) (m : ℕ) → is_checked strict c h ≡ ((asks_whole h && lists_whole h) || right_by (asks_whole h) (lists_whole h) (slots_of strict c h)) → ((i : ℕ) → constructs_below a h i ≡ false) → ChildrenStand (child_position h p m) (below a h ts) 0 (filling_by (slots_of strict c h))
-one_stands a ts strict c h p m q k = filled_stand (child_position h p m) (below a h ts) (asks_whole h) (lists_whole h) (asked_whole h p m) (listed_whole h p m) k (slots_of strict c h) (right_by_both (asks_whole h) (lists_whole h) (slots_of strict c h) (sym q ∙ checked strict c h))
+one_stands : (a : Around) (ts : Trees) (strict : Bool) (c : Class) (h : Shape) (p : Position) (m : ℕ) → is_checked strict c h ≡ ((asks_whole h && lists_whole h) || right_by (asks_whole h) (lists_whole h) (slots_of strict c h)) → ((i : ℕ) → constructs_below a h i ≡ false) → (a.is_assigned ≡ true → is_unseated p ≡ true) → ChildrenStand (child_position h p m) (below a h ts) 0 (filling_by (slots_of strict c h))
+one_stands a ts strict c h p m q k u =
+    filled_stand (child_position h p m) (below a h ts) (asks_whole h) (lists_whole h) (asked_whole h p m) (listed_whole h p m) k
+    (unseats_all (child_position h p m) (below a h ts) (λ i. assigned_below a h p m i u)) (slots_of strict c h) (right_by_both (asks_whole h) (lists_whole h) (slots_of strict c h) (sym q ∙ checked strict c h))
 
-item_stands : (p : Position) (c : Class) (b : Bool) (a : Around) (m j k : ℕ) (ts : Trees) → (takes_inner c ≡ true → b ≡ true) → (not b || are_asked_whole p) ≡ true → Stands (one c) (item_position p m j) (below a shape.Listed ts k)
-item_stands p c b a m j k ts f z = record { whole = by (takes_inner c) (are_asked_whole p) f z (λ e. items_whole p m j e); function = λ q. refl }
+item_stands : (p : Position) (c : Class) (b : Bool) (a : Around) (m j k : ℕ) (ts : Trees) → (takes_inner c ≡ true → b ≡ true) → (not b || are_asked_whole p) ≡ true → (a.is_assigned ≡ true → is_unseated p ≡ true) → Stands (one c) (item_position p m j) (below a shape.Listed ts k)
+item_stands p c b a m j k ts f z u = record { whole = by (takes_inner c) (are_asked_whole p) f z (λ e. items_whole p m j e); assigned = λ q. item_unseated p m j (u q); function = λ q. refl }
   where
     by : (t w : Bool) → (t ≡ true → b ≡ true) → (not b || w) ≡ true → (w ≡ true → is_asked_whole (item_position p m j) ≡ true) → (not t || is_asked_whole (item_position p m j)) ≡ true
     by false w f z g = refl
@@ -399,21 +435,21 @@ first_takes true b e = refl
 first_takes false b e = absurd (false≢true e)
 
 hole_stands : (s : Class) (p : Position) (a : Around) → Stands (one s) p a → a.constructs ≡ false → Stands (one_or_absent s) p a
-hole_stands s p a z k = record { whole = z.whole; function = λ q. k }
+hole_stands s p a z k = record { whole = z.whole; assigned = z.assigned; function = λ q. k }
 
 pub children_stand : (strict : Bool) (s : Slot) (h : Shape) (p : Position) (m : ℕ) (a : Around) (ts : Trees) → Stands s p a → ChildrenStand (child_position h p m) (below a h ts) 0 (filling strict s h)
 children_stand strict (one c) (shape.MethodDefinition k computed b) p m a ts z = below_method a ts strict (one c) k computed b p m (method_filling strict (one c) k computed b)
 children_stand strict (one c) shape.InnerExpression p m a ts z = below_inner a ts strict (one c) p m (inner_filling strict (one c) p z.whole)
-children_stand strict (one c) h p m a ts z = one_stands a ts strict c h p m refl (λ i. refl)
+children_stand strict (one c) h p m a ts z = one_stands a ts strict c h p m refl (λ i. refl) z.assigned
 children_stand strict (one_or_absent c) shape.Absent p m a ts z = tt
 children_stand strict (one_or_absent c) (shape.MethodDefinition k computed b) p m a ts z = below_method a ts strict (one_or_absent c) k computed b p m (method_filling strict (one_or_absent c) k computed b)
 children_stand strict (one_or_absent c) shape.InnerExpression p m a ts z = below_inner a ts strict (one_or_absent c) p m (inner_filling strict (one_or_absent c) p z.whole)
-children_stand strict (one_or_absent c) h p m a ts z = one_stands a ts strict c h p m refl (λ i. refl)
-children_stand strict (many c) shape.Listed p m a ts z = λ j k. item_stands p c (takes_inner c) a m j k ts (λ e. e) z.whole
-children_stand strict (many_or_holes c) shape.Listed p m a ts z = λ j k. hole_stands c (item_position p m j) (below a shape.Listed ts k) (item_stands p c (takes_inner c) a m j k ts (λ e. e) z.whole) refl
+children_stand strict (one_or_absent c) h p m a ts z = one_stands a ts strict c h p m refl (λ i. refl) z.assigned
+children_stand strict (many c) shape.Listed p m a ts z = λ j k. item_stands p c (takes_inner c) a m j k ts (λ e. e) z.whole z.assigned
+children_stand strict (many_or_holes c) shape.Listed p m a ts z = λ j k. hole_stands c (item_position p m j) (below a shape.Listed ts k) (item_stands p c (takes_inner c) a m j k ts (λ e. e) z.whole z.assigned) refl
 children_stand strict (many_and_rest c rest) shape.Listed p m a ts z = λ j k.
-    (item_stands p c (takes_inner c || takes_inner rest) a m j k ts (first_takes (takes_inner c) (takes_inner rest)) z.whole, item_stands p rest (takes_inner c || takes_inner rest) a m j k ts (or_second (takes_inner c) (takes_inner rest)) z.whole)
+    (item_stands p c (takes_inner c || takes_inner rest) a m j k ts (first_takes (takes_inner c) (takes_inner rest)) z.whole z.assigned, item_stands p rest (takes_inner c || takes_inner rest) a m j k ts (or_second (takes_inner c) (takes_inner rest)) z.whole z.assigned)
 children_stand strict (many_or_holes_and_rest c rest) shape.Listed p m a ts z = λ j k.
-    (hole_stands c (item_position p m j) (below a shape.Listed ts k) (item_stands p c (takes_inner c || takes_inner rest) a m j k ts (first_takes (takes_inner c) (takes_inner rest)) z.whole) refl, item_stands p rest (takes_inner c || takes_inner rest) a m j k ts (or_second (takes_inner c) (takes_inner rest)) z.whole)
+    (hole_stands c (item_position p m j) (below a shape.Listed ts k) (item_stands p c (takes_inner c || takes_inner rest) a m j k ts (first_takes (takes_inner c) (takes_inner rest)) z.whole z.assigned) refl, item_stands p rest (takes_inner c || takes_inner rest) a m j k ts (or_second (takes_inner c) (takes_inner rest)) z.whole z.assigned)
 children_stand strict (quasis g) shape.Listed p m a ts z = tt
 children_stand strict s h p m a ts z = tt

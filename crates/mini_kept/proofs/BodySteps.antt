@@ -28,7 +28,7 @@ use Rattle.mini_laws.proofs.Congruent.{body_reflexive, body_same, weaker, no_wit
 use Rattle.mini_kept.proofs.Bools.{left, right}
 use Rattle.mini_kept.specs.AlikeBodies.{RunsAs, BodiesKept}
 use Rattle.mini_kept.specs.Placed.{fits_place}
-use Rattle.mini_kept.specs.Standing.{is_asked_whole, Stands}
+use Rattle.mini_kept.specs.Standing.{is_asked_whole, is_unseated, Stands}
 use Rattle.mini_kept.specs.Lifted.{is_piece}
 use Rattle.mini_kept.specs.KeepsBodies.{KeepsBodies}
 use Rattle.mini_kept.specs.Without.{Permits, BodiesWith, KeepsBodiesWith, StepKeepsWith}
@@ -55,15 +55,15 @@ value_fits (SequenceList s) e = absurd (cc e)
 value_fits TemplateList e = absurd (cc e)
 value_fits p e = tt
 
-target_fits : (p : Position) → is_asked_whole p ≡ true → Fits p Target
-target_fits (Expr s) e = plain_seat s s.boolean s.unused refl refl e
-target_fits (Stmt q) e = absurd (cc e)
-target_fits StatementList e = absurd (cc e)
-target_fits BodyList e = absurd (cc e)
-target_fits ArgumentList e = absurd (cc e)
-target_fits (SequenceList s) e = absurd (cc e)
-target_fits TemplateList e = absurd (cc e)
-target_fits p e = tt
+target_fits : (p : Position) → is_asked_whole p ≡ true → is_unseated p ≡ true → Fits p Target
+target_fits (Expr s) e u = absurd (cc u)
+target_fits (Stmt q) e u = absurd (cc e)
+target_fits StatementList e u = absurd (cc e)
+target_fits BodyList e u = absurd (cc e)
+target_fits ArgumentList e u = absurd (cc e)
+target_fits (SequenceList s) e u = absurd (cc e)
+target_fits TemplateList e u = absurd (cc e)
+target_fits p e u = tt
 
 -- ---- the text of a template
 
@@ -194,22 +194,22 @@ module _ (R : Position → Tree → Tree → Type 0) (W D : VariableSet) (l : Ke
   as_runs e k X n w s = record { by = s.by }
 
   -- the body of the node itself
-  own_kept : (a : Around) (p : Position) (h : Shape) (xs : List Name) (n : ℕ) (ts us : Trees) → StepIn R (child_position h p (count ts)) ts us → ((i : ℕ) → Moved (child_position h p (count ts) i) (child_or_absent ts i) (child_or_absent us i)) → (h ≡ shape.InnerExpression → is_asked_whole p ≡ true) → Avoids D (node h xs n us)
+  own_kept : (a : Around) (p : Position) (h : Shape) (xs : List Name) (n : ℕ) (ts us : Trees) → StepIn R (child_position h p (count ts)) ts us → ((i : ℕ) → Moved (child_position h p (count ts) i) (child_or_absent ts i) (child_or_absent us i)) → (h ≡ shape.InnerExpression → is_asked_whole p ≡ true) → (a.is_assigned ≡ true → is_unseated p ≡ true) → Avoids D (node h xs n us)
       → BodiesWith W D (body_of a h n (node h xs n ts) ts) (body_of a h n (node h xs n us) us)
-  own_kept a p (shape.Program m ds) xs n ts us st mv w v =
+  own_kept a p (shape.Program m ds) xs n ts us st mv w y v =
       (inl (record { number = refl; kind = inl refl; strict = refl; asks_this = refl; same = λ e z X. as_runs e Program X _ _ (stepped_body Elsewhere _ _ (inside Elsewhere (shape.Program m ds) xs n ts us st) v Program tt e z X) }), tt)
-  own_kept a p (shape.Function d g ds) xs n ts us st mv w v =
+  own_kept a p (shape.Function d g ds) xs n ts us st mv w y v =
       (inl (record { number = refl; kind = inl refl; strict = refl; asks_this = refl; same = λ e z X. as_runs e FunctionStatements X _ _ (moved_body Elsewhere _ _ (mv 2) (child_avoids D us v.1 2) FunctionStatements tt e z X) }), tt)
-  own_kept a p (shape.ArrowFunctionExpression ds) xs n ts us st mv w v =
+  own_kept a p (shape.ArrowFunctionExpression ds) xs n ts us st mv w y v =
       (inl (record { number = refl; kind = inl (moved_kind (mv 1)); strict = refl; asks_this = refl; same = λ e z X. subst (λ l. RunsAs e (arrow_kind (shape_of (child_or_absent ts 1))) l X (child_or_absent ts 1) (child_or_absent us 1)) (moved_kind (mv 1)) (as_runs e (arrow_kind (shape_of (child_or_absent ts 1))) X _ _ (moved_body (Expr argument_seat) _ _ (mv 1) (child_avoids D us v.1 1) (arrow_kind (shape_of (child_or_absent ts 1))) (arrow_fits (shape_of (child_or_absent ts 1)) argument_seat refl refl) e z X)) }), tt)
-  own_kept a p shape.StaticBlock xs n ts us st mv w v =
+  own_kept a p shape.StaticBlock xs n ts us st mv w y v =
       (inl (record { number = refl; kind = inl refl; strict = refl; asks_this = refl; same = λ e z X. as_runs e FunctionStatements X _ _ (stepped_body Elsewhere _ _ (inside Elsewhere shape.StaticBlock xs n ts us st) v FunctionStatements tt e z X) }), tt)
-  own_kept a p shape.InnerExpression xs n ts us st mv w v = inner a.is_assigned
+  own_kept a p shape.InnerExpression xs n ts us st mv w y v = inner a.is_assigned refl
     where
-      inner : (b : Bool) → BodiesWith W D (record { number = n; kind = choose b InnerTarget InnerValue; root = node shape.InnerExpression xs n ts; strict = a.strict; asks_this = a.asks_this } ∷ []) (record { number = n; kind = choose b InnerTarget InnerValue; root = node shape.InnerExpression xs n us; strict = a.strict; asks_this = a.asks_this } ∷ [])
-      inner true = (inl (record { number = refl; kind = inl refl; strict = refl; asks_this = refl; same = λ e z X. as_runs e InnerTarget X _ _ (stepped_body p _ _ (inside p shape.InnerExpression xs n ts us st) v InnerTarget (target_fits p (w refl)) e z X) }), tt)
-      inner false = (inl (record { number = refl; kind = inl refl; strict = refl; asks_this = refl; same = λ e z X. as_runs e InnerValue X _ _ (stepped_body p _ _ (inside p shape.InnerExpression xs n ts us st) v InnerValue (value_fits p (w refl)) e z X) }), tt)
-  own_kept a p h xs n ts us st mv w v = tt
+      inner : (b : Bool) → a.is_assigned ≡ b → BodiesWith W D (record { number = n; kind = choose b InnerTarget InnerValue; root = node shape.InnerExpression xs n ts; strict = a.strict; asks_this = a.asks_this } ∷ []) (record { number = n; kind = choose b InnerTarget InnerValue; root = node shape.InnerExpression xs n us; strict = a.strict; asks_this = a.asks_this } ∷ [])
+      inner true k = (inl (record { number = refl; kind = inl refl; strict = refl; asks_this = refl; same = λ e z X. as_runs e InnerTarget X _ _ (stepped_body p _ _ (inside p shape.InnerExpression xs n ts us st) v InnerTarget (target_fits p (w refl) (y k)) e z X) }), tt)
+      inner false k = (inl (record { number = refl; kind = inl refl; strict = refl; asks_this = refl; same = λ e z X. as_runs e InnerValue X _ _ (stepped_body p _ _ (inside p shape.InnerExpression xs n ts us st) v InnerValue (value_fits p (w refl)) e z X) }), tt)
+  own_kept a p h xs n ts us st mv w y v = tt
 
   parts_fill : (strict : Bool) (s : Slot) (h : Shape) (xs : List Name) (n : ℕ) (ts : Trees) → fits strict s (node h xs n ts) ≡ true → fill (is_strict_in strict h) (filling strict s h) ts ≡ true
   parts_fill strict s h xs n ts e = right (is_whole (class_of s) h xs n ts) (fill (is_strict_in strict h) (filling strict s h) ts) e
@@ -225,7 +225,7 @@ module _ (R : Position → Tree → Tree → Type 0) (W D : VariableSet) (l : Ke
   inside_kept p h xs n ts us st v k = record {
     kept = λ strict s q e a z.
         each_of W D (body_of a h n (node h xs n ts) ts) (bodies_from (below a h ts) 0 ts) (body_of a h n (node h xs n us) us) (bodies_from (below a h us) 0 us)
-        (own_kept a p h xs n ts us st (moved (is_strict_in strict h) (filling strict s h) st (parts_fill strict s h xs n ts e)) (λ q. inner_stands strict s h xs n ts q e p z.whole) v)
+        (own_kept a p h xs n ts us st (moved (is_strict_in strict h) (filling strict s h) st (parts_fill strict s h xs n ts e)) (λ q. inner_stands strict s h xs n ts q e p z.whole) z.assigned v)
         (same_around a h ts us st (k.kept (is_strict_in strict h) (filling strict s h) (placed_below strict s h p (count ts) q) (parts_fill strict s h xs n ts e) (below a h ts) 0 (children_stand strict s h p (count ts) a ts z)));
   }
 
@@ -287,7 +287,7 @@ step_keeps_bodies R l p t u st strict s k e a z = to_kept (bodies a t) (bodies a
 -- ---- any number of steps
 
 pub whole_stands : Stands (one a_program) Elsewhere outermost
-whole_stands = record { whole = refl; function = λ q. refl }
+whole_stands = record { whole = refl; assigned = λ q. refl; function = λ q. refl }
 
 module _ (R : Position → Tree → Tree → Type 0) (l : KeepsBodies R) where
   reaches_bodies : (holds : Tree → Bool) → ((t : Tree) → holds t ≡ true → IsWellShaped t) → ((t u : Tree) → Step R Elsewhere t u → holds t ≡ true → holds u ≡ true) → (p : Position) (t u : Tree) → Reaches R p t u → p ≡ Elsewhere → holds t ≡ true → BodiesKept (bodies_in t) (bodies_in u)

@@ -4,6 +4,7 @@ use Rattle.std.specs.Prelude.{Bool, true, false, ◌&&◌, ◌||◌, not, nat_eq
 use Rattle.mini_model.specs.declared.place.Position.{Position}
 use Rattle.mini_model.specs.declared.place.Position.TheVariants.{Expr, StatementList, BodyList, ArgumentList, SequenceList, TemplateList}
 use Rattle.mini_model.specs.declared.seat.Seat.{Seat}
+use Rattle.mini_model.specs.Position.{primary_level}
 use Rattle.mini_accept.specs.WellShaped.{Class, a_statement, an_init, an_arrow_body, an_expression, a_link, a_chain, an_argument, an_inner_argument, an_inner, a_key, a_private_or_key, an_inner_key, a_default_export, Slot, one, one_or_absent, many, many_or_holes, many_and_rest, many_or_holes_and_rest}
 
 -- where a list of statements stands
@@ -28,14 +29,14 @@ is_expression_class (an_inner_key is_computed) = is_computed
 is_expression_class a_default_export = true
 is_expression_class c = false
 
--- the call or the member that a chain holds stands in a seat of the loosest level, whose value is asked
+-- the call or the member that a chain holds stands in a seat of the tightest level, and is no object
 abbrev pub is_chain_class : Class → Bool
 is_chain_class a_chain = true
 is_chain_class (an_inner c) = is_chain_class c
 is_chain_class c = false
 
 abbrev pub is_chain_seat : Seat → Bool
-is_chain_seat q = nat_eq q.level 0 && (not q.boolean && not q.unused)
+is_chain_seat q = nat_eq q.level primary_level && (not q.access && (not q.boolean && not q.unused))
 
 abbrev pub fits_seat : Seat → Class → Bool
 fits_seat q c = is_expression_class c || (is_chain_class c && is_chain_seat q)

@@ -1,5 +1,5 @@
--- What the slot of a node tells of its place: that an inner expression there is asked for its value or as a target, and that
--- a function there is no constructor's unless it is a method's value.
+-- What the slot of a node tells of its place: that an inner expression there is asked for its value or as a target, as which it
+-- stands where no expression does, and that a function there is no constructor's unless it is a method's value.
 use Rattle.std.specs.Prelude.{◌≡◌, Bool, true, false, ◌&&◌, ◌||◌, not}
 use Rattle.mini_model.specs.declared.place.Position.{Position}
 use Rattle.mini_model.specs.declared.place.Position.TheVariants.{Expr, Stmt, StatementList, BodyList, ArgumentList, SequenceList, TemplateList}
@@ -43,6 +43,14 @@ stands_whole (many_and_rest c rest) p = not (takes_inner c || takes_inner rest) 
 stands_whole (many_or_holes_and_rest c rest) p = not (takes_inner c || takes_inner rest) || are_asked_whole p
 stands_whole (quasis g) p = true
 
+-- no expression stands there, and none is an item of a list there: so stands what a pattern assigns to
+abbrev pub is_unseated : Position → Bool
+is_unseated (Expr s) = false
+is_unseated ArgumentList = false
+is_unseated (SequenceList s) = false
+is_unseated TemplateList = false
+is_unseated p = true
+
 abbrev pub is_method_slot : Slot → Bool
 is_method_slot (one a_method) = true
 is_method_slot s = false
@@ -50,4 +58,5 @@ is_method_slot s = false
 -- of a node that fills a slot, at a place, with this around it
 pub record Stands (s : Slot) (p : Position) (a : Around) : Type 0 where
   pub whole : stands_whole s p ≡ true
+  pub assigned : a.is_assigned ≡ true → is_unseated p ≡ true
   pub function : is_method_slot s ≡ false → a.constructs ≡ false

@@ -152,6 +152,7 @@ fits_for d (suc (suc (suc i))) = tt
 pub passed_fits : (p : Position) (q : Demand) → Fits p q → Fits (Expr (seat_at p)) (As (pass q))
 passed_fits (Expr s) (As w) f = f
 passed_fits (Expr s) (Stat t) f = unused_fits s f
+passed_fits (Expr s) Target f = absurd f
 passed_fits (Expr s) q f = no_marks Val s f.0 f.1
 passed_fits p q f = unmarked_fits 0 (pass q)
 

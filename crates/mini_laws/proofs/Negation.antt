@@ -15,7 +15,7 @@ use Rattle.mini_model.specs.Position.{is_equality, operand_seat}
 use Rattle.mini_model.specs.Terms.{is_boolean, unwrapped, opposite, turned_equality, neg, neg_each}
 use Rattle.mini_laws.specs.Value.{Value, Boolean, truth, variables}
 use Rattle.mini_laws.specs.State.{Item, State, Completion, ok, stop, out, either, Environment}
-use Rattle.mini_laws.specs.Demand.{Want, Val, Test, Unused, Tail, Demand, As, Callee, OfType, AnEntry, Stat, AValue, Request, Reply, Says, says, plain_call, Deleted}
+use Rattle.mini_laws.specs.Demand.{Want, Val, Test, Unused, Tail, Demand, As, Callee, OfType, AnEntry, Stat, AValue, Request, Reply, Says, says, plain_call, Deleted, Target}
 use Rattle.mini_laws.specs.Command.{Naming, Command, ret, bind, Kids, run}
 use Rattle.mini_laws.specs.Naming.{summaries, naming}
 use Rattle.mini_laws.specs.Asking.{and_or_demand, logical_demand, first_demand}
@@ -165,6 +165,7 @@ module _ (e : Environment) where
   boolean_off : (s : Seat) (q : Demand) → NotAs q → Fits (Expr s) q → s.boolean ≡ false
   boolean_off s (As w) o f = absurd o
   boolean_off s (Stat t) o f = f
+  boolean_off s Target o f = absurd f
   boolean_off s q o f = f.0
 
   unwraps_given : (xs : List Name) (n : ℕ) (a : Tree) (s : Seat) → (s.boolean ≡ true) ⊎ (is_boolean a ≡ true) → (q : Demand) → NotAs q → s.boolean ≡ false → (r : Request q) (z : State) → means e (negation (node (shape.UnaryExpression LogicalNot) xs n (a ▸ none))) q r z ≡ means e a q r z
@@ -232,6 +233,7 @@ module _ (e : Environment) where
     turns ih (As Test) f r z = not_as Test _ z ∙ sym (turn xs n ts us Test Test refl (ih 0 Test (operand Test f 0)) (ih 1 Test (operand Test f 1)) z)
     turns ih (As Unused) f r z = not_as Unused _ z ∙ sym (turn xs n ts us Unused Test refl (ih 0 Test (operand Unused f 0)) (ih 1 Unused (operand Unused f 1)) z)
     turns ih (Stat t) f r z = not_given (Stat t) tt r _ z ∙ left_out t r _ _ ∙ sym (logical_given (Stat t) tt r p xs n us z)
+    turns ih Target f r z = absurd f
     turns ih q f r z =
         not_given q tt r _ z
         ∙ ap (given q r) (sym (turn xs n ts us Val Val refl (ih 0 Val (operand Val (unmarked_as s f.0 f.1) 0)) (ih 1 Val (operand Val (unmarked_as s f.0 f.1) 1)) z))

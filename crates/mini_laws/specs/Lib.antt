@@ -6,6 +6,7 @@ pub mod Demand
 pub mod Command
 pub mod Naming
 pub mod Fixity
+pub mod Writable
 pub mod Asking
 pub mod Replies
 pub mod Expressions

@@ -177,9 +177,9 @@ super_class_seat = seat_of_level primary_level
 abbrev pub yield_argument_seat : Seat
 yield_argument_seat = record (seat_of_level 1) { lifted = true }
 
--- the call or the member of a chain, which gives the reference that its seat asks for
+-- the call or the member of a chain, which never has parentheses, and gives the reference that its seat asks for
 abbrev pub chained_seat : Seat → Seat
-chained_seat s = record (seat_of_level 0) { guard = s.guard }
+chained_seat s = record (seat_of_level primary_level) { guard = s.guard }
 
 -- Places of children
 

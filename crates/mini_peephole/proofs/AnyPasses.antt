@@ -28,7 +28,7 @@ use Rattle.mini_kept.specs.Carried.{numbers, symbol_numbers, carried}
 use Rattle.mini_kept.specs.Declaring.{declared}
 use Rattle.mini_kept.specs.Frames.{frames_in}
 use Rattle.mini_kept.specs.ShownFrames.{KeyGivenWith, gone_from, FramesShown}
-use Rattle.mini_context.specs.Writable.{writable_by, writable_in}
+use Rattle.mini_laws.specs.Writable.{writable_by, writable_in}
 use Rattle.mini_kept.specs.Loosely.{symbol, LawfulWith, undeclared, ProgramIsKeptLoosely}
 use Rattle.mini_kept.specs.Without.{Unseen, AlikeWith}
 use Rattle.mini_kept.proofs.Gone.{avoids}

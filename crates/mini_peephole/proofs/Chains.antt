@@ -19,7 +19,7 @@ use Rattle.mini_laws.specs.Value.{Variable, Declared, Global, VariableSet, varia
 use Rattle.mini_tree.specs.Passes.{PassesReach, no_pass, one_more}
 use Rattle.mini_tree.specs.Wider.{reaches_of}
 use Rattle.mini_tree.proofs.Reaching.{reaches_trans}
-use Rattle.mini_context.specs.Writable.{is_open, writable_by, writable_in, mentions, any_mentions}
+use Rattle.mini_laws.specs.Writable.{is_open, writable_by, writable_in, mentions, any_mentions}
 use Rattle.mini_kept.specs.Loosely.{symbol, LawfulWith, undeclared, ProgramIsKeptLoosely}
 use Rattle.mini_kept.proofs.Gone.{avoids}
 use Rattle.mini_kept.proofs.Loosely.{loosely_keeps, loose_wider}

@@ -8,7 +8,7 @@ use Rattle.mini_model.specs.Weight.{weight, weights}
 use Rattle.mini_model.specs.Redex as first
 use Rattle.mini_model.specs.Rewriting.{Everywhere, EverywhereIn}
 use Rattle.mini_tree.specs.declared.options.CompressOptions.{CompressOptions}
-use Rattle.mini_context.specs.Writable.{writable_in}
+use Rattle.mini_laws.specs.Writable.{writable_in}
 use Rattle.mini_kept.specs.Loosely.{LawfulWith}
 use Rattle.mini_kept.proofs.Loosely.{loose_narrowed}
 use Rattle.mini_rows.specs.Switches.{Switches, let_go}

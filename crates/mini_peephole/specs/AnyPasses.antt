@@ -9,7 +9,7 @@ use Rattle.mini_laws.specs.Resolved.{resolved_program}
 use Rattle.mini_accept.specs.Accept.{Accepts}
 use Rattle.mini_scope.specs.Pointers.{early_fault}
 use Rattle.mini_tree.specs.declared.options.CompressOptions.{CompressOptions}
-use Rattle.mini_context.specs.Writable.{writable_in}
+use Rattle.mini_laws.specs.Writable.{writable_in}
 use Rattle.mini_kept.specs.Loosely.{LawfulWith}
 use Rattle.mini_rows.specs.Switches.{let_go}
 use Rattle.mini_peephole.specs.Faithful.{switches, FaithfulWith}

@@ -21,7 +21,7 @@ use Rattle.mini_kept.specs.AlikeBodies.{KindKept}
 use Rattle.mini_laws.specs.Bodies.{Body, bodies_in}
 use Rattle.mini_tree.specs.declared.options.CompressOptions.{CompressOptions}
 use Rattle.mini_accept.specs.Accept.{Accepts}
-use Rattle.mini_context.specs.Writable.{writable_by, writable_in}
+use Rattle.mini_laws.specs.Writable.{writable_by, writable_in}
 use Rattle.mini_kept.specs.Carried.{numbers, carried}
 use Rattle.mini_kept.specs.Declaring.{declared}
 use Rattle.mini_kept.specs.Frames.{frames_in}

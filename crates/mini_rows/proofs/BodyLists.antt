@@ -32,7 +32,7 @@ same_whole (many_or_holes_and_rest c rest) e = e
 same_whole (quasis g) e = e
 
 same_stands : (s : Slot) (a : Around) → Stands s BodyList a → Stands s StatementList a
-same_stands s a st = record { whole = same_whole s st.whole; function = st.function }
+same_stands s a st = record { whole = same_whole s st.whole; assigned = λ e. refl; function = st.function }
 
 -- its names
 loosely : (n w : Tree) → KeepsLoosely StatementList n w → KeepsLoosely BodyList n w

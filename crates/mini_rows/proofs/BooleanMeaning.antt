@@ -18,7 +18,7 @@ use Rattle.mini_model.specs.Terms.{is_boolean, unwrapped, turned_equality, neg, 
 use Rattle.mini_model.specs.Weight.{weight}
 use Rattle.mini_laws.specs.Value.{VariableSet}
 use Rattle.mini_laws.specs.State.{State, either, Environment}
-use Rattle.mini_laws.specs.Demand.{Val, Test, Demand, As, Stat}
+use Rattle.mini_laws.specs.Demand.{Val, Test, Demand, As, Target, Stat}
 use Rattle.mini_laws.specs.Naming.{summary}
 use Rattle.mini_laws.specs.Fits.{Fits}
 use Rattle.mini_laws.specs.Same.{Same}
@@ -45,6 +45,7 @@ module _ (s : Seat) (n w : Tree) (b : s.boolean ≡ true) (h : (e : Environment)
   by_truth : (e : Environment) (D X : VariableSet) (q : Demand) → Fits (Expr s) q → Same e D X q n w
   by_truth e D X (As u) f = subst (λ v. Same e D X (As v) n w) (sym (f.0 b)) (h e D X)
   by_truth e D X (Stat t) f = absurd (true≢false (sym b ∙ f))
+  by_truth e D X Target f = absurd f
   by_truth e D X q f = absurd (true≢false (sym b ∙ f.0))
 
   asked_truth : SameAt (Expr s) n w

@@ -21,7 +21,7 @@ use Rattle.mini_tree.specs.declared.options.CompressOptions.{CompressOptions}
 use Rattle.mini_tree.specs.Rule as rule
 use Rattle.mini_context.specs.declared.context.TraverseCtx.{TraverseCtx}
 use Rattle.mini_context.specs.Known.{Knows}
-use Rattle.mini_context.specs.Writable.{writable_in}
+use Rattle.mini_laws.specs.Writable.{writable_in}
 use Rattle.mini_unused.specs.RemoveUnusedDeclaration.{declares_name, declares_list, is_free_at, may_lose, may_go, open_in, is_alone, list_at, is_unused, UnusedAt, is_arrow_shape, are_statements, are_no_names, has_statements, is_function_shape, is_function, marked, Applied, AppliedInFunction, Gives, Rests}
 use Rattle.mini_unused.specs.SubstituteSingleUse.{last_place, is_declared_over, reads_next, is_read_once, is_single, SingleAt, NameGone, ReadGone, Gone, Removed}
 use Rattle.mini_unused.specs.Chains.{Several}

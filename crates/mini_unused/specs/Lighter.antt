@@ -9,7 +9,7 @@ use Rattle.mini_rows.proofs.CatchWeights.{catches_lighten}
 use Rattle.mini_rows.proofs.NameWeights.{names_lighten}
 use Rattle.mini_rows.proofs.UnusedWeights.{unused_lighten}
 use Rattle.mini_tree.specs.Rule.{IsLighter}
-use Rattle.mini_context.specs.Writable.{writable_in}
+use Rattle.mini_laws.specs.Writable.{writable_in}
 
 pub unused_is_lighter : (q : Tree) → IsLighter (UnusedContracts (writable_in q))
 unused_is_lighter q = any_step_lighter (UnusedContracts (writable_in q)) (unused_lighten (writable_in q))

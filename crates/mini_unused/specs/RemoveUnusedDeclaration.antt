@@ -17,7 +17,7 @@ use Rattle.mini_tree.specs.declared.options.CompressOptions.{CompressOptions}
 use Rattle.mini_tree.specs.Rule as rule
 use Rattle.mini_context.specs.Facts.{Facts}
 use Rattle.mini_context.specs.Tables.{mark_at}
-use Rattle.mini_context.specs.Writable.{writable_in}
+use Rattle.mini_laws.specs.Writable.{writable_in}
 use Rattle.mini_unused.specs.Chains.{Several}
 
 -- shapes
