@@ -1,4 +1,5 @@
 pub mod KnownSides
+pub mod Deep
 pub mod Constants
 pub mod Arithmetic
 pub mod Sequences

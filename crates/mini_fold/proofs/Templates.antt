@@ -18,7 +18,7 @@ use Rattle.mini_node.specs.Made.{binary_is}
 use Rattle.mini_node.specs.Walks.{from_first, next_child, no_rest, append_one}
 use Rattle.mini_laws.specs.Conversion.{makes, to_text}
 use Rattle.mini_laws.specs.Value.{Value}
-use Rattle.mini_terms.specs.Calculated.{literal_value}
+use Rattle.mini_terms.specs.Calculated.{operand_value}
 use Rattle.mini_terms.specs.Const.{made, text_of}
 use Rattle.mini_terms.specs.Folds.{is_effect_free}
 use Rattle.mini_terms.specs.Kind.{is_primitive, kind as kind_of}
@@ -44,10 +44,10 @@ nothing e = cc e
 
 -- ---- what is told of a part
 
-pub told_by : (t : Tree) (v : Value) (s : List ℕ) → Some v ≡ literal_value t → makes s ≡ to_text v → Some s ≡ told_in t
+pub told_by : (t : Tree) (v : Value) (s : List ℕ) → Some v ≡ operand_value t → makes s ≡ to_text v → Some s ≡ told_in t
 told_by t v s e f = ap made f ∙ ap text_of e
 
-pub told_none : (t : Tree) → None ≡ literal_value t → None ≡ told_in t
+pub told_none : (t : Tree) → None ≡ operand_value t → None ≡ told_in t
 told_none t e = ap text_of e
 
 -- ---- pieces and templates

@@ -10,7 +10,7 @@ mod rewrites;
 mod values;
 
 pub use laws::{constants_are_rows, folds_are_rows};
-pub use literals::{evaluate_value, is_true, literal_value};
+pub use literals::{evaluate_value, is_true, operand_value};
 pub use rewrites::fold_constants::{FoldConstants, fold_constant};
 pub use rewrites::fold_known::{
     FoldKnown, fold_conditional, fold_expression, fold_logical_expression, remove_unused_expression,

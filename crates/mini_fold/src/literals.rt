@@ -1,4 +1,4 @@
-//! The value of an operator over literals.
+//! The value of operators over literals.
 
 ghost use Rattle.std.specs.Prelude.{◌≡◌, ◌++◌, Some, IfOk};
 ghost use Rattle.mini_model.specs.Tree.{shape_of};
@@ -31,6 +31,9 @@ const BOOLEAN: [u16; 7] = [98, 111, 111, 108, 101, 97, 110];
 const NUMBER: [u16; 6] = [110, 117, 109, 98, 101, 114];
 
 const STRING: [u16; 6] = [115, 116, 114, 105, 110, 103];
+
+// How many operators are looked through, one within another.
+const OPERAND_DEPTH: u32 = 8;
 
 /// The text with these units.
 pub fn copied(alloc: Global, units: &[u16]) -> Result<Text, OutOfMemory>
@@ -70,17 +73,6 @@ fn leaf_value(alloc: Global, node: &Node) -> Result<Option<ConstantValue>, OutOf
     }
 }
 
-// Of `void` or `!` over a literal.
-fn over_leaf(operator: UnaryOperator, operand: ConstantValue) -> Option<ConstantValue>
-    ensures { value_in result ≡ term.over_leaf operator (Some (value_of operand)) }
-{
-    match operator {
-        UnaryOperator::Void => Some(ConstantValue::Undefined),
-        UnaryOperator::LogicalNot => Some(ConstantValue::Boolean(!is_true(&operand))),
-        _ => None,
-    }
-}
-
 /// Whether a value counts as true (ECMA-262, "ToBoolean").
 pub fn is_true(value: &ConstantValue) -> bool
     ensures { result ≡ truth (value_of value.now) }
@@ -98,32 +90,6 @@ fn is_other_than_zero(number: i64) -> bool
     ensures { result ≡ truth (Number number) }
 {
     number != 0
-}
-
-// Of an operator over a literal.
-fn value_over(
-    alloc: Global,
-    operator: UnaryOperator,
-    operand: &Node,
-) -> Result<Option<ConstantValue>, OutOfMemory>
-    ensures { IfOk result (λ v. value_in v ≡ term.over_leaf operator (term.leaf_value (shape_of operand.now))) }
-{
-    match leaf_value(alloc, operand)? {
-        Some(found) => Ok(over_leaf(operator, found)),
-        None => Ok(None),
-    }
-}
-
-/// The value that a literal writes out; None of any other expression.
-///
-/// The only error is that memory runs out.
-pub fn literal_value(alloc: Global, node: &Node) -> Result<Option<ConstantValue>, OutOfMemory>
-    ensures { IfOk result (λ v. value_in v ≡ term.literal_value node.now) }
-{
-    match unary_operator(node) {
-        Some(operator) => value_over(alloc, operator, node.child(0)),
-        None => leaf_value(alloc, node),
-    }
 }
 
 // ECMA-262, "The typeof Operator"
@@ -324,58 +290,104 @@ fn calculated_binary(
     }
 }
 
+#[cycle(operands)]
 fn unary_value(
     alloc: Global,
     operator: UnaryOperator,
     operand: &Node,
+    depth: u32,
 ) -> Result<Option<ConstantValue>, OutOfMemory>
-    ensures { IfOk result (λ v. value_in v ≡ term.unary_value operator (term.literal_value operand.now)) }
+    ensures { IfOk result (λ v. value_in v ≡ term.unary_value operator (term.value_within depth operand.now)) }
 {
-    match literal_value(alloc, operand)? {
+    match value_within(alloc, operand, depth)? {
         Some(found) => calculated_unary(alloc, operator, &found),
         None => Ok(None),
     }
 }
 
+#[cycle(operands)]
 fn binary_with(
     alloc: Global,
     operator: BinaryOperator,
     left: ConstantValue,
     right: &Node,
+    depth: u32,
 ) -> Result<Option<ConstantValue>, OutOfMemory>
-    ensures { IfOk result (λ v. value_in v ≡ term.binary_value operator (Some (value_of left)) (term.literal_value right.now)) }
+    ensures { IfOk result (λ v. value_in v ≡ term.binary_value operator (Some (value_of left)) (term.value_within depth right.now)) }
 {
-    match literal_value(alloc, right)? {
+    match value_within(alloc, right, depth)? {
         Some(found) => calculated_binary(alloc, operator, left, found),
         None => Ok(None),
     }
 }
 
+#[cycle(operands)]
 fn binary_value(
     alloc: Global,
     operator: BinaryOperator,
     left: &Node,
     right: &Node,
+    depth: u32,
 ) -> Result<Option<ConstantValue>, OutOfMemory>
-    ensures { IfOk result (λ v. value_in v ≡ term.binary_value operator (term.literal_value left.now) (term.literal_value right.now)) }
+    ensures { IfOk result (λ v. value_in v ≡ term.binary_value operator (term.value_within depth left.now) (term.value_within depth right.now)) }
 {
-    match literal_value(alloc, left)? {
-        Some(found) => binary_with(alloc, operator, found, right),
+    match value_within(alloc, left, depth)? {
+        Some(found) => binary_with(alloc, operator, found, right, depth),
         None => Ok(None),
     }
 }
 
-/// The constant of an operator over literals, as far as it is calculated; None of any other expression.
+// Of an operator over operands in which so many operators lie one within another.
+#[cycle(operands)]
+fn calculated_over(
+    alloc: Global,
+    node: &Node,
+    depth: u32,
+) -> Result<Option<ConstantValue>, OutOfMemory>
+    ensures { IfOk result (λ v. value_in v ≡ term.calculated_over (term.value_within depth) node.now) }
+{
+    if let Some(operator) = unary_operator(node) {
+        return unary_value(alloc, operator, node.child(0), depth);
+    }
+    if let Some(operator) = binary_operator(node) {
+        return binary_value(alloc, operator, node.child(0), node.child(1), depth);
+    }
+    Ok(None)
+}
+
+// Of a literal, or of operators over literals, of which so many lie one within another.
+#[cycle(operands)]
+#[tactic(auto, using(crate::proofs::Deep::at_zero, crate::proofs::Deep::calculated_first, crate::proofs::Deep::leaf_then))]
+fn value_within(
+    alloc: Global,
+    node: &Node,
+    depth: u32,
+) -> Result<Option<ConstantValue>, OutOfMemory>
+    ensures { IfOk result (λ v. value_in v ≡ term.value_within depth node.now) }
+{
+    if depth == 0 {
+        return leaf_value(alloc, node);
+    }
+    match calculated_over(alloc, node, depth - 1)? {
+        Some(value) => Ok(Some(value)),
+        None => leaf_value(alloc, node),
+    }
+}
+
+/// The value of an operand, as far as it is calculated.
+///
+/// The only error is that memory runs out.
+pub fn operand_value(alloc: Global, node: &Node) -> Result<Option<ConstantValue>, OutOfMemory>
+    ensures { IfOk result (λ v. value_in v ≡ term.operand_value node.now) }
+{
+    value_within(alloc, node, OPERAND_DEPTH)
+}
+
+/// The constant of an operator over constants, as far as it is calculated; None of any other expression.
 ///
 /// The only error is that memory runs out.
 pub fn evaluate_value(alloc: Global, node: &Node) -> Result<Option<ConstantValue>, OutOfMemory>
     ensures { IfOk result (λ v. value_in v ≡ term.calculated node.now) }
 {
-    if let Some(operator) = unary_operator(node) {
-        return unary_value(alloc, operator, node.child(0));
-    }
-    if let Some(operator) = binary_operator(node) {
-        return binary_value(alloc, operator, node.child(0), node.child(1));
-    }
-    Ok(None)
+    calculated_over(alloc, node, OPERAND_DEPTH)
 }

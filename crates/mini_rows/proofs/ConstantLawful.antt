@@ -29,10 +29,10 @@ use Rattle.mini_kept.specs.KeepsShapes.{AskedAlike, is_default}
 use Rattle.mini_kept.specs.Lawful.{Lawful}
 use Rattle.mini_kept.proofs.Expressions.{refused_here, expression, TakesExpressionIn, TakesExpression, expression_taken}
 use Rattle.mini_terms.specs.Const.{made}
-use Rattle.mini_terms.specs.Calculated.{leaf_value, over_leaf, literal_by, literal_value, as_number, over_number, calculated_unary, calculated_numbers, calculated_texts, added, calculated_binary, unary_value, binary_value, calculated}
+use Rattle.mini_terms.specs.Calculated.{leaf_value, as_number, over_number, calculated_unary, calculated_numbers, calculated_texts, added, calculated_binary, unary_value, binary_value, operand_depth, operand_value, calculated}
 use Rattle.mini_terms.specs.Parts.{leaves_nothing}
 use Rattle.mini_terms.specs.Plain.{lit, void_zero}
-use Rattle.mini_terms.proofs.Calculated.{Form, of_unary, of_binary, form}
+use Rattle.mini_terms.proofs.Calculated.{Form, of_unary, of_binary, form, within}
 use Rattle.mini_rows.specs.Arranged.{KeptAt, Vanishes}
 use Rattle.mini_rows.specs.Sketches.{Null as NullHead, Number as NumberHead, String as StringHead, Unary, Binary, part as hole, under, end, ◌▹◌, Free}
 use Rattle.mini_rows.specs.Constants.{RowConstant, ConstantRow, ConstantContracts}
@@ -75,9 +75,9 @@ operands_go : (o : BinaryOperator) (a b : Tree) → leaves_nothing (binary o a b
 operands_go o a b e = let (first, rest) = and_parts (leaves_nothing a) (leaves_nothing b && true) e in (vanishes a first, vanishes b (and_parts (leaves_nothing b) true rest).0)
 
 constant_kept : (q : Seat) (n w : Tree) → RowConstant q n w → KeptAt (Expr q) n w
-constant_kept q n w r = go (form n r.value r.known)
+constant_kept q n w r = go (form operand_value n r.value r.known)
   where
-    go : Form n r.value → KeptAt (Expr q) n w
+    go : Form operand_value n r.value → KeptAt (Expr q) n w
     go (of_unary o is e) = unary_kept q n w o (part n 0) is (operand_goes o (part n 0) (subst (λ x. leaves_nothing x ≡ true) is r.dropped)) r.value r.literal
     go (of_binary o is e) =
         let (first, second) = operands_go o (part n 0) (part n 1) (subst (λ x. leaves_nothing x ≡ true) is r.dropped) in
@@ -117,21 +117,6 @@ leaf_written h v e f = nothing e
 
 shape_written : (strict : Bool) (a : Tree) (v : Value) → leaf_value (shape_of a) ≡ Some v → fits strict expression a ≡ true → is_written v ≡ true
 shape_written strict (node h xs n ts) v e f = leaf_written h v e (plain_fields strict expression h xs n ts f)
-
-over_written : (o : UnaryOperator) (c : Option Value) (v : Value) → over_leaf o c ≡ Some v → is_written v ≡ true
-over_written unary_operator.Void (Some u) v e = subst (λ x. is_written x ≡ true) {x = Undefined} {y = v} (cc e) refl
-over_written unary_operator.LogicalNot (Some u) v e = boolean_written _ v e
-  where
-    boolean_written : (b : Bool) (v : Value) → Some (Boolean b) ≡ Some v → is_written v ≡ true
-    boolean_written b v e = subst (λ x. is_written x ≡ true) {x = Boolean b} {y = v} (cc e) refl
-over_written o c v e = nothing e
-
-pub literal_written : (strict : Bool) (t : Tree) (v : Value) → literal_value t ≡ Some v → fits strict expression t ≡ true → is_written v ≡ true
-literal_written strict t v e f = go (its_unary_operator t) e
-  where
-    go : (o : Option UnaryOperator) → literal_by o t ≡ Some v → is_written v ≡ true
-    go (Some o) e = over_written o (leaf_value (shape_of (part t 0))) v e
-    go None e = shape_written strict t v e f
 
 -- numbers
 
@@ -404,21 +389,34 @@ module _ (strict : Bool) (o : BinaryOperator) (a b : Tree) where
 
 -- ---- what is written for them
 
-by_operand : (o : UnaryOperator) (v : Value) (c : Option Value) → unary_value o c ≡ Some v → Written v
-by_operand o v (Some u) e = unary_written o u v e
-by_operand o v None e = nothing e
+module _ (strict : Bool) where
+  -- the literal of its value may stand in a program, where the expression does
+  abbrev WrittenOf : Tree → Value → Type 0
+  WrittenOf t v = fits strict expression t ≡ true → Written v
 
-by_operands : (strict : Bool) (o : BinaryOperator) (a b : Tree) (v : Value) (c d : Option Value) → literal_value a ≡ c → literal_value b ≡ d → binary_value o c d ≡ Some v → fits strict expression a ≡ true → fits strict expression b ≡ true → Written v
-by_operands strict o a b v (Some x) (Some y) h k e f g = binary_written o x y v e (literal_written strict a x h f) (literal_written strict b y k g)
-by_operands strict o a b v (Some x) None h k e f g = nothing e
-by_operands strict o a b v None d h k e f g = nothing e
+  by_operand : (o : UnaryOperator) (v : Value) (c : Option Value) → ((u : Value) → c ≡ Some u → Written u) → unary_value o c ≡ Some v → Written v
+  by_operand o v (Some u) h e = unary_written o u v e
+  by_operand o v None h e = nothing e
 
-value_at : (strict : Bool) (s : Slot) (n : Tree) (v : Value) → calculated n ≡ Some v → fits strict s n ≡ true → TakesExpression s × Written v
-value_at strict s n v k f = go (form n v k)
-  where
-    go : Form n v → TakesExpression s × Written v
-    go (of_unary o is e) = let (takes, fit) = unary_at strict o (part n 0) s (subst (λ x. fits strict s x ≡ true) is f) in (takes, by_operand o v (literal_value (part n 0)) e)
-    go (of_binary o is e) = let (takes, (first, second)) = binary_at strict o (part n 0) (part n 1) s (subst (λ x. fits strict s x ≡ true) is f) in (takes, by_operands strict o (part n 0) (part n 1) v (literal_value (part n 0)) (literal_value (part n 1)) refl refl e first second)
+  by_operands : (o : BinaryOperator) (v : Value) (c d : Option Value) → ((u : Value) → c ≡ Some u → Written u) → ((u : Value) → d ≡ Some u → Written u) → binary_value o c d ≡ Some v → Written v
+  by_operands o v (Some x) (Some y) h k e = binary_written o x y v e (h x refl) (k y refl)
+  by_operands o v (Some x) None h k e = nothing e
+  by_operands o v None d h k e = nothing e
+
+  -- where an operator stands, and what is written for it
+  operated_at : (s : Slot) (f : Tree → Option Value) → ((a : Tree) (u : Value) → f a ≡ Some u → WrittenOf a u) → (t : Tree) (v : Value) → Form f t v → fits strict s t ≡ true → TakesExpression s × Written v
+  operated_at s f h t v (of_unary o is e) k =
+      let (takes, fit) = unary_at strict o (part t 0) s (subst (λ x. fits strict s x ≡ true) is k) in
+      (takes, by_operand o v (f (part t 0)) (λ u g. h (part t 0) u g fit) e)
+  operated_at s f h t v (of_binary o is e) k =
+      let (takes, (first, second)) = binary_at strict o (part t 0) (part t 1) s (subst (λ x. fits strict s x ≡ true) is k) in
+      (takes, by_operands o v (f (part t 0)) (f (part t 1)) (λ u g. h (part t 0) u g first) (λ u g. h (part t 1) u g second) e)
+
+  pub operand_written : (t : Tree) (v : Value) → operand_value t ≡ Some v → WrittenOf t v
+  operand_written t v e = within WrittenOf (shape_written strict) (λ f h t v r k. (operated_at expression f h t v r k).1) operand_depth t v e
+
+  value_at : (s : Slot) (n : Tree) (v : Value) → calculated n ≡ Some v → fits strict s n ≡ true → TakesExpression s × Written v
+  value_at s n v e = operated_at s operand_value operand_written n v (form operand_value n v e)
 
 abbrev Fits : Bool → Tree → Type 0
 Fits strict t = fits strict expression t ≡ true
@@ -446,9 +444,9 @@ row_slot p n w r strict s e = absurd r
 -- ---- what a parent asks of them
 
 constant_asked : (q : Seat) (n w : Tree) → RowConstant q n w → AskedAlike (Expr q) n w
-constant_asked q n w r = go (form n r.value r.known)
+constant_asked q n w r = go (form operand_value n r.value r.known)
   where
-    go : Form n r.value → AskedAlike (Expr q) n w
+    go : Form operand_value n r.value → AskedAlike (Expr q) n w
     go (of_unary o is e) = record {
       absent = λ e. absurd (true≢false (sym e ∙ ap is_absent is));
       body = λ e. absurd (true≢false (sym e ∙ ap is_function_body is));

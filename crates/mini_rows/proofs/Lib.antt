@@ -120,6 +120,7 @@ pub mod SingleMeaning
 pub mod SingleFits
 pub mod DeclaredKept
 pub mod Surrogates
+pub mod ConstantRuns
 pub mod ConstantMeaning
 pub mod ConstantWeights
 pub mod ConstantLawful

@@ -23,7 +23,7 @@ use Rattle.mini_laws.specs.Conversion as conversion
 use Rattle.mini_laws.specs.Value.{Value}
 use Rattle.mini_node.specs.Children.{part as its_part}
 use Rattle.mini_node.specs.Walks.{append_none}
-use Rattle.mini_terms.specs.Calculated.{literal_value}
+use Rattle.mini_terms.specs.Calculated.{operand_value}
 use Rattle.mini_terms.specs.Const.{made}
 use Rattle.mini_rows.specs.Arranged.{KeptAt}
 use Rattle.mini_rows.specs.Sketches.{Binary, Template, Piece as PieceHead, Parts, Sketch, part, under, list, Items, end, ◌▹◌, no_items, item, items}
@@ -31,7 +31,7 @@ use Rattle.mini_rows.specs.Spellings.{binary}
 use Rattle.mini_rows.specs.Templates.{Piece, piece, pieces, template, pair, spelled, told, Row18, Row5Both, Row5After, Row5Before, Row5, Row6, TemplateRow, TemplateContracts}
 use Rattle.mini_rows.proofs.ArrangedExpressions.{expressions_arranged, expressions_arranged_freely}
 use Rattle.mini_rows.proofs.ArrangedLawful.{kept_is_lawful}
-use Rattle.mini_rows.proofs.ConstantLawful.{Paired, literal_written, text_paired, binary_at}
+use Rattle.mini_rows.proofs.ConstantLawful.{Paired, operand_written, text_paired, binary_at}
 use Rattle.mini_rows.proofs.FoldLawful.{vanishes, first_dropped, expression_slot}
 use Rattle.mini_rows.proofs.ListShapes.{AllFit, append_fits, both_fit, first_fits}
 use Rattle.mini_rows.proofs.TemplateMeaning.{nothing, Told, told_is, templates_same}
@@ -216,7 +216,7 @@ module _ (strict : Bool) where
   told_paired : (t : Tree) (m : List ℕ) → told t ≡ Some m → Fits t → is_paired m ≡ true
   told_paired t m k e =
       let is : Told t m = told_is t m k in
-      go (to_text is.its_value) (text_paired is.its_value (literal_written strict t is.its_value is.is e)) is.reads
+      go (to_text is.its_value) (text_paired is.its_value (operand_written strict t is.its_value is.is e)) is.reads
     where
       go : (x : conversion.Made (List ℕ)) → Paired x → made x ≡ Some m → is_paired m ≡ true
       go (makes s) p h = let same : s ≡ m = cc h in subst (λ r. is_paired r ≡ true) same p

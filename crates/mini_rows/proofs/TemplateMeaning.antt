@@ -33,12 +33,13 @@ use Rattle.mini_terms.specs.Reading.{stands}
 use Rattle.mini_terms.specs.Sound.{Gives}
 use Rattle.mini_terms.proofs.Dropping.{after_cong}
 use Rattle.mini_terms.proofs.KindTable.{kind_sound}
-use Rattle.mini_terms.specs.Calculated.{leaf_value, over_leaf, literal_by, literal_value}
+use Rattle.mini_terms.specs.Calculated.{operand_value}
 use Rattle.mini_terms.specs.Const.{made, text_of}
 use Rattle.mini_terms.proofs.Opened.{negation_opened}
 use Rattle.mini_node.specs.Walks.{append_none}
 use Rattle.mini_rows.specs.Spellings.{binary}
 use Rattle.mini_rows.specs.Templates.{Piece, piece, pieces, template, pair, spelled, told, Row18, Row5, Row6, TemplateRow, TemplateContracts}
+use Rattle.mini_rows.proofs.ConstantRuns.{operand_done}
 use Rattle.mini_rows.proofs.ChoiceRuns.{value, sides, binary_names, binary_value}
 use Rattle.mini_rows.proofs.OperandMeaning.{added_twice}
 use Rattle.mini_rows.proofs.SequenceMeaning.{same_value}
@@ -49,41 +50,7 @@ use Rattle.mini_rows.proofs.TemplateRuns.{next, next_cong, next_assoc, next_ok, 
 pub nothing : {A : Type 0} {a : A} {B : Type 0} → None ≡ Some a → B
 nothing e = cc e
 
--- ---- the value that a literal writes out
-
-leaf_done : (e : Environment) (h : Shape) (xs : List Name) (n : ℕ) (ts : Trees) (v : Value) → leaf_value h ≡ Some v → (s : State) → value e (node h xs n ts) s ≡ ok v s
-unfolding means step
-leaf_done e (shape.NumericLiteral m) xs n ts v k s = let same : Number m ≡ v = cc k in ap (λ u. ok u s) same
-leaf_done e (shape.StringLiteral t) xs n ts v k s = let same : String t ≡ v = cc k in ap (λ u. ok u s) same
-leaf_done e (shape.BooleanLiteral b) xs n ts v k s = let same : Boolean b ≡ v = cc k in ap (λ u. ok u s) same
-leaf_done e shape.NullLiteral xs n ts v k s = let same : Null ≡ v = cc k in ap (λ u. ok u s) same
-leaf_done e h xs n ts v k s = nothing k
-
-shape_done : (e : Environment) (t : Tree) (v : Value) → leaf_value (shape_of t) ≡ Some v → (s : State) → value e t s ≡ ok v s
-shape_done e (node h xs n ts) v k s = leaf_done e h xs n ts v k s
-
--- what `void` and `!` do with the value of their operand
-after_void : (e : Environment) (a : Tree) (u : Value) (s : State) → value e a s ≡ ok u s → value e (unary unary_operator.Void a) s ≡ ok Undefined s
-unfolding means meaning step either
-after_void e a u s h = ap (λ c. either c (λ v z. ok Undefined z) (λ x z. stop x z)) h
-
-abbrev value_in : Option Value → Value
-value_in (Some w) = w
-value_in None = Undefined
-
-over_done : (e : Environment) (o : UnaryOperator) (a : Tree) (v : Value) (c : Option Value) → leaf_value (shape_of a) ≡ c → over_leaf o c ≡ Some v → (s : State) → value e (unary o a) s ≡ ok v s
-over_done e unary_operator.Void a v (Some u) k f s = let same : Undefined ≡ v = cc f in after_void e a u s (shape_done e a u k s) ∙ ap (λ w. ok w s) same
-over_done e unary_operator.LogicalNot a v (Some u) k f s = negation_opened e a s ∙ ap (λ c. next c (λ w z. ok (Boolean (not (truth w))) z)) (shape_done e a u k s) ∙ next_ok u s _ ∙ ap (λ o. ok (value_in o) s) f
-over_done e o a v c k f s = nothing f
-
-pub literal_done : (e : Environment) (t : Tree) (v : Value) → literal_value t ≡ Some v → (s : State) → value e t s ≡ ok v s
-literal_done e t v k s = go (its_unary_operator t) refl k
-  where
-    go : (o : Option UnaryOperator) → its_unary_operator t ≡ o → literal_by o t ≡ Some v → value e t s ≡ ok v s
-    go (Some o) h k = ap (λ u. value e u s) (unary_is t o h) ∙ over_done e o (part t 0) v (leaf_value (shape_of (part t 0))) refl k s
-    go None h k = shape_done e t v k s
-
--- and its text
+-- ---- the text of what is calculated
 
 abbrev text_in : Option (List ℕ) → List ℕ
 text_in (Some t) = t
@@ -99,16 +66,16 @@ text_done e (String s) t k z = ap (λ o. ok (text_in o) z) k
 text_done e (Symbol n) t k z = nothing k
 text_done e (Object n f) t k z = nothing k
 
--- an expression that writes out a value of this text
+-- an expression whose value has this text
 pub record Told (p : Tree) (t : List ℕ) : Type 0 where
   pub its_value : Value
-  pub is : literal_value p ≡ Some its_value
+  pub is : operand_value p ≡ Some its_value
   pub reads : made (to_text its_value) ≡ Some t
 
 pub told_is : (p : Tree) (t : List ℕ) → told p ≡ Some t → Told p t
-told_is p t k = go (literal_value p) refl k
+told_is p t k = go (operand_value p) refl k
   where
-    go : (o : Option Value) → literal_value p ≡ o → text_of o ≡ Some t → Told p t
+    go : (o : Option Value) → operand_value p ≡ o → text_of o ≡ Some t → Told p t
     go (Some v) h k = record { its_value = v; is = h; reads = k }
     go None h k = nothing k
 
@@ -124,7 +91,7 @@ module _ (e : Environment) where
   part_spelled p m k q cs ts s =
       let t : Told p m = told_is p m k in
       more e [] (q ∷ cs) p ts s
-      ∙ ap (λ c. next c (λ v z. next (text_made e v z) (λ x y. next (between e (q ∷ cs) ts y) (λ r u. ok (x ++ r) u)))) (literal_done e p t.its_value t.is s)
+      ∙ ap (λ c. next c (λ v z. next (text_made e v z) (λ x y. next (between e (q ∷ cs) ts y) (λ r u. ok (x ++ r) u)))) (operand_done e p t.its_value t.is s)
       ∙ next_ok t.its_value s _
       ∙ ap (λ c. next c (λ x y. next (between e (q ∷ cs) ts y) (λ r u. ok (x ++ r) u))) (text_done e t.its_value m t.reads s)
       ∙ next_ok m s _
@@ -222,7 +189,7 @@ module _ (e : Environment) where
       binary_value e Addition a t s
       ∙ ap (λ c. next c (λ v z. next (value e t z) (λ u y. ends_with e a t v u y))) (template_value e before (p ∷ []) earlier left s)
       ∙ after_string (between e (cookeds before ++ (p.cooked ∷ [])) earlier s) _
-      ∙ next_cong (between e (cookeds before ++ (p.cooked ∷ [])) earlier s) _ _ (λ x z. ap (λ c. next c (λ u y. ends_with e a t (String x) u y)) (literal_done e t is.its_value is.is z) ∙ next_ok is.its_value z _ ∙ with_tail a t x is.its_value m is.reads z)
+      ∙ next_cong (between e (cookeds before ++ (p.cooked ∷ [])) earlier s) _ _ (λ x z. ap (λ c. next c (λ u y. ends_with e a t (String x) u y)) (operand_done e t is.its_value is.is z) ∙ next_ok is.its_value z _ ∙ with_tail a t x is.its_value m is.reads z)
       ∙ sym (template_value e before (pair p (spelled m) ∷ []) earlier left s
       ∙ ap (λ ts. as_string (between e (cookeds before ++ ((p.cooked ++ m) ∷ [])) ts s)) (sym (append_none earlier))
       ∙ ap as_string (in_a_row e p.cooked m [] none before earlier h s)
@@ -235,7 +202,7 @@ module _ (e : Environment) where
       let is : Told t m = told_is t m k in
       let right : zero + suc (length after) ≡ suc (count later) = omega (arith, h) in
       binary_value e Addition t b s
-      ∙ ap (λ c. next c (λ v z. next (value e b z) (λ u y. ends_with e t b v u y))) (literal_done e t is.its_value is.is s)
+      ∙ ap (λ c. next c (λ v z. next (value e b z) (λ u y. ends_with e t b v u y))) (operand_done e t is.its_value is.is s)
       ∙ next_ok is.its_value s _
       ∙ ap (λ c. next c (λ u y. ends_with e t b is.its_value u y)) (template_value e [] (q ∷ after) later right s)
       ∙ after_string (between e (q.cooked ∷ cookeds after) later s) _
@@ -305,9 +272,9 @@ module _ (e : Environment) where
 
         twice : (v : Value) (x : List ℕ) (y : State) → next (ends_with e a t v (String x) y) (λ p y. next (value e u y) (λ q k. ends_with e (binary Addition a t) u p q k)) ≡ next (next (value e u y) (λ q k. ends_with e t u (String x) q k)) (λ r l. ends_with e a w v r l)
         twice v x y =
-            next_cong (ends_with e a t v (String x) y) _ (λ p y. ends_with e (binary Addition a t) u p (Told.its_value is) y) (λ p y. ap (λ c. next c (λ q k. ends_with e (binary Addition a t) u p q k)) (literal_done e u is.its_value is.is y) ∙ next_ok is.its_value y _)
+            next_cong (ends_with e a t v (String x) y) _ (λ p y. ends_with e (binary Addition a t) u p (Told.its_value is) y) (λ p y. ap (λ c. next c (λ q k. ends_with e (binary Addition a t) u p q k)) (operand_done e u is.its_value is.is y) ∙ next_ok is.its_value y _)
             ∙ added_twice e (binary_names Addition a t) (binary_names Addition a w) (sides e a t) (sides e a w) x m (λ p y. ends_with e (binary Addition a t) u p is.its_value y) (λ r y. with_tail (binary Addition a t) u r is.its_value m is.reads y) v y
-            ∙ sym (ap (λ c. next (next c (λ q k. ends_with e t u (String x) q k)) (λ r l. ends_with e a w v r l)) (literal_done e u is.its_value is.is y)
+            ∙ sym (ap (λ c. next (next c (λ q k. ends_with e t u (String x) q k)) (λ r l. ends_with e a w v r l)) (operand_done e u is.its_value is.is y)
             ∙ ap (λ c. next c (λ r l. ends_with e a w v r l)) (next_ok is.its_value y _ ∙ with_tail t u x is.its_value m is.reads y)
             ∙ next_ok (String (x ++ m)) y _)
 

@@ -10,7 +10,7 @@ use Rattle.mini_model.specs.Paths.{append}
 use Rattle.mini_model.specs.Templates.{escaped}
 use Rattle.mini_model.specs.Tree.{Tree, Trees, node, none, ◌▸◌, leaf, listed, count}
 use Rattle.mini_model.specs.Weight.{weight}
-use Rattle.mini_terms.specs.Calculated.{literal_value}
+use Rattle.mini_terms.specs.Calculated.{operand_value}
 use Rattle.mini_terms.specs.Const.{text_of}
 use Rattle.mini_terms.specs.declared.kinds.Kind.TheVariants.{String as IsString}
 use Rattle.mini_terms.specs.Folds.{is_effect_free}
@@ -45,9 +45,9 @@ pair p q = record { is_tail = q.is_tail; raw = joined (p.raw ∷ (q.raw ∷ []))
 abbrev pub spelled : List ℕ → Piece
 spelled text = record { is_tail = true; raw = escaped text; cooked = text }
 
--- the text of the value that an expression writes out
+-- the text of an expression's value, where it is calculated
 abbrev pub told : Tree → Option (List ℕ)
-told t = text_of (literal_value t)
+told t = text_of (operand_value t)
 
 -- ---- rows
 

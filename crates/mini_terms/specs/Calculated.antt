@@ -1,5 +1,5 @@
--- The constant of an operator over literals, as far as it is calculated.
-use Rattle.std.specs.Prelude.{◌≡◌, ℕ, ℤ, pos, true, false, not, List, ◌++◌, Option, Some, None}
+-- The constant of an operator over constants, as far as it is calculated.
+use Rattle.std.specs.Prelude.{◌≡◌, ℕ, ℤ, zero, suc, pos, true, false, not, List, ◌++◌, Option, Some, None}
 use Rattle.mini_model.specs.declared.operator.BinaryOperator.{BinaryOperator}
 use Rattle.mini_model.specs.declared.operator.BinaryOperator.TheVariants as binary
 use Rattle.mini_model.specs.declared.operator.UnaryOperator.{UnaryOperator}
@@ -25,20 +25,6 @@ leaf_value (shape.StringLiteral s) = Some (String s)
 leaf_value (shape.BooleanLiteral b) = Some (Boolean b)
 leaf_value shape.NullLiteral = Some Null
 leaf_value h = None
-
--- `!0`, `!1` and `void 0` write out a value too
-abbrev pub over_leaf : UnaryOperator → Option Value → Option Value
-over_leaf unary.Void (Some v) = Some Undefined
-over_leaf unary.LogicalNot (Some v) = Some (Boolean (not (truth v)))
-over_leaf o c = None
-
-abbrev pub literal_by : Option UnaryOperator → Tree → Option Value
-literal_by (Some o) t = over_leaf o (leaf_value (shape_of (part t 0)))
-literal_by None t = leaf_value (shape_of t)
-
--- the value that a literal writes out
-abbrev pub literal_value : Tree → Option Value
-literal_value t = literal_by (unary_operator t) t
 
 -- Operators
 
@@ -108,14 +94,35 @@ abbrev pub binary_value : BinaryOperator → Option Value → Option Value → O
 binary_value o (Some v) (Some u) = calculated_binary o v u
 binary_value o c d = None
 
-abbrev pub calculated_by : Option UnaryOperator → Option BinaryOperator → Tree → Option Value
-calculated_by (Some o) p t = unary_value o (literal_value (part t 0))
-calculated_by None (Some o) t = binary_value o (literal_value (part t 0)) (literal_value (part t 1))
-calculated_by None None t = None
+-- by the values of its operands
+abbrev pub calculated_by : (Tree → Option Value) → Option UnaryOperator → Option BinaryOperator → Tree → Option Value
+calculated_by f (Some o) p t = unary_value o (f (part t 0))
+calculated_by f None (Some o) t = binary_value o (f (part t 0)) (f (part t 1))
+calculated_by f None None t = None
 
--- the constant of an expression, as far as it is calculated
+abbrev pub calculated_over : (Tree → Option Value) → Tree → Option Value
+calculated_over f t = calculated_by f (unary_operator t) (binary_operator t) t
+
+abbrev pub or_leaf : Option Value → Tree → Option Value
+or_leaf (Some v) t = Some v
+or_leaf None t = leaf_value (shape_of t)
+
+-- the value of a literal, or of operators over literals, of which at most so many lie one within another
+abbrev pub value_within : ℕ → Tree → Option Value
+value_within zero t = leaf_value (shape_of t)
+value_within (suc k) t = or_leaf (calculated_over (value_within k) t) t
+
+-- No further is looked into an operand. What is left of a constant weighs no more than its literal, so of a number there are hardly
+-- as many.
+abbrev pub operand_depth : ℕ
+operand_depth = 8
+
+abbrev pub operand_value : Tree → Option Value
+operand_value t = value_within operand_depth t
+
+-- the constant of an expression, as far as it is calculated: `(1 << 20) - 1` is 1048575
 abbrev pub calculated : Tree → Option Value
-calculated t = calculated_by (unary_operator t) (binary_operator t) t
+calculated t = calculated_over operand_value t
 
 -- it is the constant of an effect-free expression
 abbrev pub CalculatedIsConst : Type 0

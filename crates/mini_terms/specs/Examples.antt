@@ -15,6 +15,7 @@ use Rattle.mini_terms.specs.Effects.{ef}
 use Rattle.mini_terms.specs.Const.{const}
 use Rattle.mini_terms.specs.Truth.{truth_of}
 use Rattle.mini_terms.specs.Evident.{evident_truth}
+use Rattle.mini_terms.specs.Calculated.{calculated}
 use Rattle.mini_terms.specs.Plain.{lit, plain, void_zero}
 
 -- Kind
@@ -255,6 +256,28 @@ lit_minus = refl
 
 lit_text : lit (String (codes "a")) ≡ Some (text (codes "a"))
 lit_text = refl
+
+-- What is calculated
+
+-- `(1 << 20) - 1`, `!(1 << 20)`, `typeof -(1 << 20)`
+calculated_mask : calculated (binary binary.Subtraction (binary binary.ShiftLeft (number 1) (number 20)) (number 1)) ≡ Some (Number (pos 1_048_575))
+calculated_mask = refl
+
+calculated_not : calculated (negation (binary binary.ShiftLeft (number 1) (number 20))) ≡ Some (Boolean false)
+calculated_not = refl
+
+calculated_type : calculated (tree.unary unary.Typeof (tree.unary unary.UnaryNegation (binary binary.ShiftLeft (number 1) (number 20)))) ≡ Some (String (codes "number"))
+calculated_type = refl
+
+-- `(1 / 3) - 1`, `(1 << x) - 1`, and a literal, which is no operator's
+calculated_third : calculated (binary binary.Subtraction (binary binary.Division (number 1) (number 3)) (number 1)) ≡ None
+calculated_third = refl
+
+calculated_open : calculated (binary binary.Subtraction (binary binary.ShiftLeft (number 1) (local 0)) (number 1)) ≡ None
+calculated_open = refl
+
+calculated_literal : calculated (number 1) ≡ None
+calculated_literal = refl
 
 -- Plain
 

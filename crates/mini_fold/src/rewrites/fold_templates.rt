@@ -15,7 +15,7 @@ ghost use Rattle.mini_node.specs.Children.{part};
 ghost use Rattle.mini_node.specs.Kinds.{binary_operator as its_binary_operator};
 ghost use Rattle.mini_fold.specs.Lighter.{templates_lighter};
 
-use crate::literals::{copied, literal_value, text_of_both, to_text};
+use crate::literals::{copied, operand_value, text_of_both, to_text};
 use crate::rewrites::fold_operands::{is_string_kind, last};
 use crate::rewrites::fold_sequences::take_last;
 use mini_model::{
@@ -141,12 +141,12 @@ fn growth(joined: usize, first: usize, second: usize) -> usize
     joined.saturating_sub(first).saturating_sub(second)
 }
 
-// The text of the value that an expression writes out.
+// The text of an expression's value, where it is calculated.
 #[tactic(auto, using(crate::proofs::Templates::told_by, crate::proofs::Templates::told_none))]
 fn told(alloc: Global, node: &Node) -> Result<Option<Text>, OutOfMemory>
     ensures { IfOk result (λ t. t ≡ row.told node.now) }
 {
-    match literal_value(alloc, node)? {
+    match operand_value(alloc, node)? {
         Some(value) => Ok(Some(to_text(alloc, value)?)),
         None => Ok(None),
     }
