@@ -1,5 +1,5 @@
 -- The value of an operand, by how many operators are looked through.
-use Rattle.std.proofs.Common.{◌≡◌, ℕ, zero, suc, ◌∙◌, Option, Some, None, refl, sym, ap, arith, zero≢suc}
+use Rattle.std.proofs.Common.{◌≡◌, ℕ, zero, suc, ◌∙◌, Option, Some, None, refl, sym, ap, arith}
 use Rattle.std.specs.Prelude.{◌-◌, ◌<◌}
 use Rattle.mini_model.specs.Tree.{Tree, shape_of}
 use Rattle.mini_laws.specs.Value.{Value}

@@ -31,7 +31,7 @@ use Rattle.mini_tree.specs.Rule.{Applied, Moves}
 use Rattle.mini_tree.proofs.Reaching.{moves_once}
 use Rattle.mini_fold.specs.FoldOperands.{is_string_kind}
 use Rattle.mini_fold.specs.FoldSequences.{last_of, but_last}
-use Rattle.mini_fold.specs.FoldTemplates.{is_piece, piece_in, raw_in, are_pieces, is_template, texts_of, parts_of, is_whole, spare, growth, pays, hole, joined_at, is_sewn, sewn_by, sewn, sewn_at, any_sewn, sewn_texts, inlined, mark, plus_sign, paired, both_written, is_added, tail_by, tail_piece, with_tail, besides, head_seat, head_by, head_piece, with_head, made_by, sum_by, sum_written, may_join, is_settled, behind_written, rejoined, nested_written, added_by, added_written, Gives, Rests, PartsRest}
+use Rattle.mini_fold.specs.FoldTemplates.{is_piece, piece_in, raw_in, are_pieces, is_template, texts_of, parts_of, is_whole, spare, growth, pays, hole, joined_at, is_sewn, sewn_by, sewn, sewn_at, any_sewn, sewn_texts, inlined, mark, plus_sign, paired, both_written, is_added, tail_by, tail_piece, with_tail, besides, head_seat, head_by, head_piece, with_head, made_by, sum_by, sum_written, may_join, is_settled, behind_written, rejoined, nested_written, added_by, added_written, Gives, Rests, PartsRest, first_written, behind_or_whole}
 use Rattle.mini_fold.proofs.Operands.{string_kind}
 use Rattle.mini_fold.proofs.Sequences.{last_append}
 
@@ -743,7 +743,11 @@ added_contracts : (s : Seat) (n a b w : Tree) → n ≡ binary Addition a b → 
 added_contracts s n a b w e k = go (binary_operator a) refl k
   where
     go : (o : Option BinaryOperator) → binary_operator a ≡ o → added_by o s a b ≡ Some w → TemplateContracts (Expr s) n w
-    go (Some Addition) h k = nested_contracts s n (part a 0) (part a 1) b w (e ∙ ap (λ x. binary Addition x b) (binary_is a Addition h)) k
+    go (Some Addition) h k = either (nested_written (part a 0) (part a 1) b) refl k
+      where
+        either : (o : Option Tree) → nested_written (part a 0) (part a 1) b ≡ o → first_written o (sum_written (Some s) a b) ≡ Some w → TemplateContracts (Expr s) n w
+        either (Some m) f k = nested_contracts s n (part a 0) (part a 1) b w (e ∙ ap (λ x. binary Addition x b) (binary_is a Addition h)) (f ∙ k)
+        either None f k = sum_contracts s n a b w e k
     go o h k = sum_contracts s n a b w e k
 
 -- ---- 5: where nothing is written
@@ -800,14 +804,18 @@ sum_rest o n w (inr (inr r)) small less k = before_rest o n w r small less k
 
 -- ---- 6: where nothing is written
 
--- what writes a value out is no sum
-no_sum : (t : Tree) (m : List ℕ) → told_in t ≡ Some m → binary_operator t ≡ Some Addition → ⊥
-no_sum t m k h = nothing (sym (ap told_in (binary_is t Addition h)) ∙ k)
+-- where neither what stands behind the first operand is one nor all of it
+none_first : (o p : Option Tree) → first_written o p ≡ None → o ≡ None
+none_first None p e = refl
+none_first (Some w) p e = nothing (sym e)
 
-first_is_no_sum : (n w : Tree) → Row5 n w → binary_operator (part n 0) ≡ Some Addition → ⊥
-first_is_no_sum n w (inl r) h = nothing (sym (ap (λ x. binary_operator (part x 0)) r.shape) ∙ h)
-first_is_no_sum n w (inr (inl r)) h = nothing (sym (ap (λ x. binary_operator (part x 0)) r.shape) ∙ h)
-first_is_no_sum n w (inr (inr r)) h = no_sum r.head r.text r.known (sym (ap (λ x. binary_operator (part x 0)) r.shape) ∙ h)
+none_second : (o p : Option Tree) → first_written o p ≡ None → p ≡ None
+none_second None p e = e
+none_second (Some w) p e = nothing (sym e)
+
+sum_unwritten : (o : Option BinaryOperator) (s : Seat) (a b : Tree) → added_by o s a b ≡ None → sum_written (Some s) a b ≡ None
+sum_unwritten (Some Addition) s a b e = none_second (nested_written (part a 0) (part a 1) b) (sum_written (Some s) a b) e
+sum_unwritten o s a b e = e
 
 plainly : (o : Option BinaryOperator) (s : Seat) (a b : Tree) → (o ≡ Some Addition → ⊥) → sum_written (Some s) a b ≡ added_by o s a b
 plainly (Some Addition) s a b h = absurd (h refl)
@@ -849,7 +857,7 @@ nested_rest s n w r small less k =
     let heavy = ap (weight (Expr s)) r.shape ∙ weights.nested_weighs s r.left r.inner r.tail in
     let fits : 2 + weight (Expr weights.right_seat) r.inner + weight (Expr weights.right_seat) r.tail < 2 ^ 64 = omega (arith, small, heavy) in
     let gained : weight (Expr weights.right_seat) r.joined < 2 + weight (Expr weights.right_seat) r.inner + weight (Expr weights.right_seat) r.tail = omega (arith, whole, less) in
-    let still : nested_written r.left r.inner r.tail ≡ None = sym (ap (λ x. added_written s (part x 0) (part x 1)) r.shape) ∙ k in
+    let still : nested_written r.left r.inner r.tail ≡ None = none_first (nested_written r.left r.inner r.tail) (sum_written (Some s) (binary Addition r.left r.inner) r.tail) (sym (ap (λ x. added_written s (part x 0) (part x 1)) r.shape) ∙ k) in
     let unmade = none_made (binary Addition r.left) (sum_written None r.inner r.tail) (none_settled (is_settled r.left r.inner r.tail) (behind_written r.left r.inner r.tail) (row_settled n w r) still) in
     sum_rest None (binary Addition r.inner r.tail) r.joined r.sum fits gained unmade
 
@@ -858,7 +866,7 @@ sum_rests s n h k small w c = go c.row
   where
     go : TemplateRow (Expr s) n w → ⊥
     go (inl r) = nothing (sym (ap binary_operator r.shape) ∙ h)
-    go (inr (inl r)) = sum_rest (Some s) n w r small c.lighter (plainly (binary_operator (part n 0)) s (part n 0) (part n 1) (first_is_no_sum n w r) ∙ k)
+    go (inr (inl r)) = sum_rest (Some s) n w r small c.lighter (sum_unwritten (binary_operator (part n 0)) s (part n 0) (part n 1) k)
     go (inr (inr r)) = nested_rest s n w r small c.lighter k
 
 pub sum_applied : (s : Seat) (t u : Tree) (b : Bool) → binary_operator t ≡ Some Addition → u ≡ unwrap_or (added_written s (part t 0) (part t 1)) t → b ≡ is_some (added_written s (part t 0) (part t 1)) → Applied Gives Rests (Expr s) t u b
@@ -908,6 +916,26 @@ behind_said a t u b e = e ∙ same (sum_written None t u)
     same : (o : Option Tree) → is_some o ≡ is_some (made_by (binary Addition a) o)
     same (Some m) = refl
     same None = refl
+
+pub behind_tree_first : (n u : Tree) (o p : Option Tree) → u ≡ unwrap_or o n → true ≡ is_some o → u ≡ unwrap_or (first_written o p) n
+behind_tree_first n u (Some w) p e f = e
+behind_tree_first n u None p e f = absurd (true≢false f)
+
+pub behind_said_first : (o p : Option Tree) → true ≡ is_some o → true ≡ is_some (first_written o p)
+behind_said_first (Some w) p f = refl
+behind_said_first None p f = absurd (true≢false f)
+
+pub same_operands : (n m : Tree) (o : Option Tree) → m ≡ unwrap_or o n → false ≡ is_some o → count (children n) ≡ 2 → count (children m) ≡ 2
+same_operands n m None e f h = ap (λ x. count (children x)) e ∙ h
+same_operands n m (Some w) e f h = absurd (true≢false (sym f))
+
+pub whole_tree : (s : Seat) (n m u : Tree) (o : Option Tree) → m ≡ unwrap_or o n → false ≡ is_some o → u ≡ unwrap_or (sum_written (Some s) (part m 0) (part m 1)) m → u ≡ unwrap_or (first_written o (sum_written (Some s) (part n 0) (part n 1))) n
+whole_tree s n m u None e f g = g ∙ ap (λ x. unwrap_or (sum_written (Some s) (part x 0) (part x 1)) x) e
+whole_tree s n m u (Some w) e f g = absurd (true≢false (sym f))
+
+pub whole_said : (s : Seat) (n m : Tree) (c : Bool) (o : Option Tree) → m ≡ unwrap_or o n → false ≡ is_some o → c ≡ is_some (sum_written (Some s) (part m 0) (part m 1)) → c ≡ is_some (first_written o (sum_written (Some s) (part n 0) (part n 1)))
+whole_said s n m c None e f g = g ∙ ap (λ x. is_some (sum_written (Some s) (part x 0) (part x 1))) e
+whole_said s n m c (Some w) e f g = absurd (true≢false (sym f))
 
 pub plain_tree : (s : Seat) (a b n w : Tree) → (binary_operator a ≡ Some Addition → ⊥) → w ≡ unwrap_or (sum_written (Some s) a b) n → w ≡ unwrap_or (added_written s a b) n
 plain_tree s a b n w h e = e ∙ ap (λ o. unwrap_or o n) (plainly (binary_operator a) s a b h)

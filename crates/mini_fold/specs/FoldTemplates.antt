@@ -215,9 +215,17 @@ rejoined false a s = binary Addition (binary Addition a (part s 0)) (part s 1)
 abbrev pub nested_written : Tree → Tree → Tree → Option Tree
 nested_written a t u = if is_settled a t u then behind_written a t u else None
 
+abbrev pub first_written : Option Tree → Option Tree → Option Tree
+first_written (Some w) o = Some w
+first_written None o = o
+
+-- of a sum whose first operand is a sum: what stands behind that one's first operand, or else all of it
+abbrev pub behind_or_whole : Seat → Tree → Tree → Option Tree
+behind_or_whole s a b = first_written (nested_written (part a 0) (part a 1) b) (sum_written (Some s) a b)
+
 -- of a sum whose first operand is this
 abbrev pub added_by : Option BinaryOperator → Seat → Tree → Tree → Option Tree
-added_by (Some Addition) s a b = nested_written (part a 0) (part a 1) b
+added_by (Some Addition) s a b = behind_or_whole s a b
 added_by o s a b = sum_written (Some s) a b
 
 abbrev pub added_written : Seat → Tree → Tree → Option Tree

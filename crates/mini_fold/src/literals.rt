@@ -357,7 +357,7 @@ fn calculated_over(
 
 // Of a literal, or of operators over literals, of which so many lie one within another.
 #[cycle(operands)]
-#[tactic(auto, using(crate::proofs::Deep::at_zero, crate::proofs::Deep::calculated_first, crate::proofs::Deep::leaf_then))]
+#[tactic(auto, using(crate::proofs::Deep::at_zero, crate::proofs::Deep::leaf_then))]
 fn value_within(
     alloc: Global,
     node: &Node,

@@ -635,6 +635,23 @@ fn fold_nested(alloc: Global, node: &mut Node) -> Result<bool, OutOfMemory>
     }
 }
 
+// A sum whose first operand is a sum: what stands behind that one's first operand, or else all of it.
+#[tactic(auto, using(crate::proofs::Templates::behind_tree_first, crate::proofs::Templates::behind_said_first, crate::proofs::Templates::same_operands, crate::proofs::Templates::whole_said))]
+fn fold_sum_of_sum(alloc: Global, node: &mut Node, seat: Seat) -> Result<bool, OutOfMemory>
+    requires outer { its_binary_operator node.old ≡ Some Addition }
+    requires within { its_binary_operator (part node.old 0) ≡ Some Addition }
+    requires sides { count (children node.old) ≡ 2 }
+    requires operands { count (children (part node.old 0)) ≡ 2 }
+    ensures tree { OnOk result (node.new ≡ unwrap_or (template.behind_or_whole seat (part node.old 0) (part node.old 1)) node.old) }
+    ensures said { IfOk result (λ changed. changed ≡ is_some (template.behind_or_whole seat (part node.old 0) (part node.old 1))) }
+{
+    if fold_nested(alloc, node)? {
+        Ok(true)
+    } else {
+        fold_pair(alloc, node, Some(seat))
+    }
+}
+
 // A sum with a template in it.
 #[tactic(auto, using(crate::proofs::Templates::two_operands, crate::proofs::Templates::plain_tree, crate::proofs::Templates::plain_said))]
 fn fold_sum(alloc: Global, node: &mut Node, seat: Seat) -> Result<bool, OutOfMemory>
@@ -644,7 +661,7 @@ fn fold_sum(alloc: Global, node: &mut Node, seat: Seat) -> Result<bool, OutOfMem
     ensures said { IfOk result (λ changed. changed ≡ is_some (template.added_written seat (part node.old 0) (part node.old 1))) }
 {
     match binary_operator(node.child(0)) {
-        Some(BinaryOperator::Addition) => fold_nested(alloc, node),
+        Some(BinaryOperator::Addition) => fold_sum_of_sum(alloc, node, seat),
         _ => Ok(fold_pair(alloc, node, Some(seat))?),
     }
 }
