@@ -79,8 +79,9 @@ module _ (o : CompressOptions) (q : Tree) where
   gives_contract p t u (inr (inr (inr (inr (inr (inr (inr (inr (inr (inr (inr (inr (inr (inr (inl c))))))))))))))) = record { row = inr (inr (inr (inr (inr (inr (inr (inr (inr (inr (inr (inr (inr (inr (inl c.row)))))))))))))); lighter = c.lighter }
   gives_contract p t u (inr (inr (inr (inr (inr (inr (inr (inr (inr (inr (inr (inr (inr (inr (inr (inl c)))))))))))))))) = record { row = inr (inr (inr (inr (inr (inr (inr (inr (inr (inr (inr (inr (inr (inr (inr (inl c.row))))))))))))))); lighter = c.lighter }
   gives_contract p t u (inr (inr (inr (inr (inr (inr (inr (inr (inr (inr (inr (inr (inr (inr (inr (inr (inl c))))))))))))))))) = record { row = inr (inr (inr (inr (inr (inr (inr (inr (inr (inr (inr (inr (inr (inr (inr (inr (inl c.row)))))))))))))))); lighter = c.lighter }
-  gives_contract p t u (inr (inr (inr (inr (inr (inr (inr (inr (inr (inr (inr (inr (inr (inr (inr (inr (inr (inl c)))))))))))))))))) = record { row = inr (inr (inr (inr (inr (inr (inr (inr (inr (inr (inr (inr (inr (inr (inr (inr (inr c.row)))))))))))))))); lighter = c.lighter }
-  gives_contract p t u (inr (inr (inr (inr (inr (inr (inr (inr (inr (inr (inr (inr (inr (inr (inr (inr (inr (inr c)))))))))))))))))) = switches_contract p t u c
+  gives_contract p t u (inr (inr (inr (inr (inr (inr (inr (inr (inr (inr (inr (inr (inr (inr (inr (inr (inr (inl c)))))))))))))))))) = record { row = inr (inr (inr (inr (inr (inr (inr (inr (inr (inr (inr (inr (inr (inr (inr (inr (inr (inl c.row))))))))))))))))); lighter = c.lighter }
+  gives_contract p t u (inr (inr (inr (inr (inr (inr (inr (inr (inr (inr (inr (inr (inr (inr (inr (inr (inr (inr (inl c))))))))))))))))))) = switches_contract p t u c
+  gives_contract p t u (inr (inr (inr (inr (inr (inr (inr (inr (inr (inr (inr (inr (inr (inr (inr (inr (inr (inr (inr c))))))))))))))))))) = record { row = inr (inr (inr (inr (inr (inr (inr (inr (inr (inr (inr (inr (inr (inr (inr (inr (inr (inr c.row))))))))))))))))); lighter = c.lighter }
 
   pub all_contract : (p : Position) (t u : Tree) → AllGives o q p t u → Rewrites (switches o) (writable_in q) p t u
   all_contract p t u (inl r) = inl (gives_contract p t u r)
@@ -96,7 +97,7 @@ module _ (o : CompressOptions) (q : Tree) where
 
   branch_settled : (p : Position) (t u : Tree) → weight p t < 2 ^ 64 → Rests o q p t → BranchRow p t u → weight p u < weight p t → ⊥
   branch_settled (Stmt s) t u small r (inl (inl row)) less = r.1.1.0 u row
-  branch_settled (Stmt s) t u small r (inl (inr row)) less = r.1.1.1.1.1.1.1.1.1.1.1.1.1.1.1.1.1.1 u row
+  branch_settled (Stmt s) t u small r (inl (inr row)) less = r.1.1.1.1.1.1.1.1.1.1.1.1.1.1.1.1.1.1.0 u row
   branch_settled (Stmt s) t u small r (inr (inl row)) less = r.1.0 u row
   branch_settled (Stmt s) t u small r (inr (inr row)) less = logic_settled (Stmt s) t u small r.0 (inr (inl row)) less
   branch_settled p t u small r row less = absurd row
@@ -128,7 +129,8 @@ module _ (o : CompressOptions) (q : Tree) where
   settled p t u small r (inr (inr (inr (inr (inr (inr (inr (inr (inr (inr (inr (inr (inr (inr (inl row))))))))))))))) less = r.1.1.1.1.1.1.1.1.1.1.1.1.1.1.0 u row
   settled p t u small r (inr (inr (inr (inr (inr (inr (inr (inr (inr (inr (inr (inr (inr (inr (inr (inl row)))))))))))))))) less = r.1.1.1.1.1.1.1.1.1.1.1.1.1.1.1.0 u row
   settled p t u small r (inr (inr (inr (inr (inr (inr (inr (inr (inr (inr (inr (inr (inr (inr (inr (inr (inl row))))))))))))))))) less = r.1.1.1.1.1.1.1.1.1.1.1.1.1.1.1.1.0 small u (record { row = row; lighter = less })
-  settled p t u small r (inr (inr (inr (inr (inr (inr (inr (inr (inr (inr (inr (inr (inr (inr (inr (inr (inr row))))))))))))))))) less = r.1.1.1.1.1.1.1.1.1.1.1.1.1.1.1.1.1.0 small u (record { row = row; lighter = less })
+  settled p t u small r (inr (inr (inr (inr (inr (inr (inr (inr (inr (inr (inr (inr (inr (inr (inr (inr (inr (inl row)))))))))))))))))) less = r.1.1.1.1.1.1.1.1.1.1.1.1.1.1.1.1.1.0 small u (record { row = row; lighter = less })
+  settled p t u small r (inr (inr (inr (inr (inr (inr (inr (inr (inr (inr (inr (inr (inr (inr (inr (inr (inr (inr row)))))))))))))))))) less = r.1.1.1.1.1.1.1.1.1.1.1.1.1.1.1.1.1.1.1 u row
 
   all_settled : (p : Position) (t u : Tree) → weight p t < 2 ^ 64 → AllRests o q p t → Rewrites (switches o) (writable_in q) p t u → ⊥
   all_settled p t u small r (inl c) = settled p t u small r.0 c.row c.lighter

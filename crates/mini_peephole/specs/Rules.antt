@@ -26,16 +26,17 @@ use Rattle.mini_syntax.specs.SubstituteVariableDeclaration as declarations
 use Rattle.mini_rows.specs.Declarations.{DeclarationContracts}
 use Rattle.mini_rows.specs.Catches.{CatchContracts}
 use Rattle.mini_stmt.specs.MinimizeStatements as lists
+use Rattle.mini_stmt.specs.TurnLoopGuards as loop_guards
 use Rattle.mini_unused.specs.RemoveUnusedDeclaration as unused
 use Rattle.mini_unused.specs.RemoveUnusedName as names
 use Rattle.mini_unused.specs.SubstituteCatchClause as catches
 
 -- of those that keep each name
 abbrev pub Gives : CompressOptions → Tree → Position → Tree → Tree → Type 0
-Gives o q = Either logic.Gives (Either bodies.Gives (Either returns.Gives (Either spellings.Gives (Either (lists.Gives o q) (Either keys.Gives (Either choices.Gives (Either DeclarationContracts (Either folding.Gives (Either arrows.Gives (Either constants.Gives (Either held.Gives (Either booleans.Gives (Either de_morgan.Gives (Either sequences.Gives (Either operands.Gives (Either negation.Gives (Either templates.Gives switches.Gives)))))))))))))))))
+Gives o q = Either logic.Gives (Either bodies.Gives (Either returns.Gives (Either spellings.Gives (Either (lists.Gives o q) (Either keys.Gives (Either choices.Gives (Either DeclarationContracts (Either folding.Gives (Either arrows.Gives (Either constants.Gives (Either held.Gives (Either booleans.Gives (Either de_morgan.Gives (Either sequences.Gives (Either operands.Gives (Either negation.Gives (Either templates.Gives (Either switches.Gives (loop_guards.GivesLoops o q)))))))))))))))))))
 
 abbrev pub Rests : CompressOptions → Tree → Position → Tree → Type 0
-Rests o q = Both logic.Rests (Both bodies.Rests (Both returns.Rests (Both spellings.Rests (Both (lists.RestsUnder o q) (Both keys.Rests (Both choices.Rests (Both declarations.Rests (Both folding.Rests (Both arrows.Rests (Both constants.Rests (Both held.Rests (Both booleans.Rests (Both de_morgan.Rests (Both sequences.Rests (Both operands.Rests (Both negation.Rests (Both templates.Rests switches.Rests)))))))))))))))))
+Rests o q = Both logic.Rests (Both bodies.Rests (Both returns.Rests (Both spellings.Rests (Both (lists.RestsUnder o q) (Both keys.Rests (Both choices.Rests (Both declarations.Rests (Both folding.Rests (Both arrows.Rests (Both constants.Rests (Both held.Rests (Both booleans.Rests (Both de_morgan.Rests (Both sequences.Rests (Both operands.Rests (Both negation.Rests (Both templates.Rests (Both switches.Rests (loop_guards.LoopsRest o q)))))))))))))))))))
 
 -- and of those besides that drop names that nothing mentions, or write names that can be written
 abbrev pub AllGives : CompressOptions → Tree → Position → Tree → Tree → Type 0

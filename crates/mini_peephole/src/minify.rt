@@ -23,7 +23,7 @@ use mini_logic::{
     MinimizeBodies, MinimizeConditional, MinimizeIf, MinimizeInBooleanContext, MinimizeNegations,
     MinimizeUnary, MinimizeVoid,
 };
-use mini_stmt::MinimizeStatements;
+use mini_stmt::{MinimizeStatements, TurnLoopGuards};
 use mini_syntax::{
     MinimizeSwitches, SubstituteArrows, SubstituteDeclarations, SubstituteKeys,
     SubstitutePropertyKeys, SubstituteReturns, SubstituteSpellings,
@@ -95,7 +95,13 @@ type Spellings = Then<
                                                         FoldOperands,
                                                         Then<
                                                             MinimizeNegations,
-                                                            Then<FoldTemplates, MinimizeSwitches>,
+                                                            Then<
+                                                                FoldTemplates,
+                                                                Then<
+                                                                    MinimizeSwitches,
+                                                                    TurnLoopGuards,
+                                                                >,
+                                                            >,
                                                         >,
                                                     >,
                                                 >,
@@ -154,7 +160,10 @@ const KEEPING_RULES: Then<Logic, Then<MinimizeBodies, Spellings>> = Then {
                                                                     first: MinimizeNegations,
                                                                     second: Then {
                                                                         first: FoldTemplates,
-                                                                        second: MinimizeSwitches,
+                                                                        second: Then {
+                                                                            first: MinimizeSwitches,
+                                                                            second: TurnLoopGuards,
+                                                                        },
                                                                     },
                                                                 },
                                                             },

@@ -25,6 +25,7 @@ use Rattle.mini_rows.specs.Sequences.{SequenceContracts}
 use Rattle.mini_rows.specs.Operands.{OperandContracts}
 use Rattle.mini_rows.specs.Negations.{NegationContracts}
 use Rattle.mini_rows.specs.Templates.{TemplateContracts}
+use Rattle.mini_rows.specs.LoopGuards.{LoopGuardContracts}
 use Rattle.mini_rows.specs.Booleans.{BooleanContracts}
 use Rattle.mini_rows.specs.Constants.{ConstantContracts}
 use Rattle.mini_rows.specs.KeyHolders.{HeldKeyContracts}
@@ -47,6 +48,7 @@ use Rattle.mini_rows.proofs.SequenceLawful.{sequences_lawful}
 use Rattle.mini_rows.proofs.OperandLawful.{operands_lawful}
 use Rattle.mini_rows.proofs.NegationLawful.{negations_lawful}
 use Rattle.mini_rows.proofs.TemplateLawful.{templates_lawful}
+use Rattle.mini_rows.proofs.LoopGuardsKept.{loop_guards_lawful}
 use Rattle.mini_rows.proofs.BooleanLawful.{booleans_lawful}
 use Rattle.mini_rows.proofs.ConstantLawful.{constants_lawful}
 use Rattle.mini_rows.proofs.KeysJoined.{held_keys_lawful}
@@ -58,8 +60,11 @@ use Rattle.mini_rows.proofs.FunctionBodyLawful.{unused_loose}
 module _ (o : Switches) where
   -- by family
 
+  abbrev Pieces : Position → Tree → Tree → Type 0
+  Pieces p n w = TemplateContracts p n w ⊎ LoopGuardContracts o p n w
+
   abbrev Texts : Position → Tree → Tree → Type 0
-  Texts p n w = NegationContracts p n w ⊎ TemplateContracts p n w
+  Texts p n w = NegationContracts p n w ⊎ Pieces p n w
 
   abbrev Answers : Position → Tree → Tree → Type 0
   Answers p n w = OperandContracts p n w ⊎ Texts p n w
@@ -110,7 +115,7 @@ module _ (o : Switches) where
   Families p n w = first.Contracts p n w ⊎ Others p n w
 
   families_lawful : Lawful Families
-  families_lawful = lawful_join first.Contracts Others rows_are_lawful (lawful_join SpellingContracts Late spellings.lawful (lawful_join BranchContracts Last branches_lawful (lawful_join (ListContracts o) Latest (lists_lawful o) (lawful_join KeyContracts Final keys.lawful (lawful_join ChoiceContracts Known choices.lawful (lawful_join DeclarationContracts End declarations_lawful (lawful_join FoldingContracts Functions foldings_lawful (lawful_join TurnContracts Ends turns_lawful (lawful_join ArrowContracts Newest arrows_lawful (lawful_join ConstantContracts Truths constants_lawful (lawful_join HeldKeyContracts Voids held_keys_lawful (lawful_join BooleanContracts Orders booleans_lawful (lawful_join DeMorganContracts Parted de_morgan_lawful (lawful_join SequenceContracts Answers sequences_lawful (lawful_join OperandContracts Texts operands_lawful (lawful_join NegationContracts TemplateContracts negations_lawful templates_lawful))))))))))))))))
+  families_lawful = lawful_join first.Contracts Others rows_are_lawful (lawful_join SpellingContracts Late spellings.lawful (lawful_join BranchContracts Last branches_lawful (lawful_join (ListContracts o) Latest (lists_lawful o) (lawful_join KeyContracts Final keys.lawful (lawful_join ChoiceContracts Known choices.lawful (lawful_join DeclarationContracts End declarations_lawful (lawful_join FoldingContracts Functions foldings_lawful (lawful_join TurnContracts Ends turns_lawful (lawful_join ArrowContracts Newest arrows_lawful (lawful_join ConstantContracts Truths constants_lawful (lawful_join HeldKeyContracts Voids held_keys_lawful (lawful_join BooleanContracts Orders booleans_lawful (lawful_join DeMorganContracts Parted de_morgan_lawful (lawful_join SequenceContracts Answers sequences_lawful (lawful_join OperandContracts Texts operands_lawful (lawful_join NegationContracts Pieces negations_lawful (lawful_join TemplateContracts (LoopGuardContracts o) templates_lawful (loop_guards_lawful o))))))))))))))))))
 
   by_row : (p : Position) (n w : Tree) → Row o p n w → weight p w < weight p n → Families p n w
   by_row p n w (inl r) l = inl (record { row = r; lighter = l })
@@ -130,7 +135,8 @@ module _ (o : Switches) where
   by_row p n w (inr (inr (inr (inr (inr (inr (inr (inr (inr (inr (inr (inr (inr (inr (inl r))))))))))))))) l = inr (inr (inr (inr (inr (inr (inr (inr (inr (inr (inr (inr (inr (inr (inl (record { row = r; lighter = l })))))))))))))))
   by_row p n w (inr (inr (inr (inr (inr (inr (inr (inr (inr (inr (inr (inr (inr (inr (inr (inl r)))))))))))))))) l = inr (inr (inr (inr (inr (inr (inr (inr (inr (inr (inr (inr (inr (inr (inr (inl (record { row = r; lighter = l }))))))))))))))))
   by_row p n w (inr (inr (inr (inr (inr (inr (inr (inr (inr (inr (inr (inr (inr (inr (inr (inr (inl r))))))))))))))))) l = inr (inr (inr (inr (inr (inr (inr (inr (inr (inr (inr (inr (inr (inr (inr (inr (inl (record { row = r; lighter = l })))))))))))))))))
-  by_row p n w (inr (inr (inr (inr (inr (inr (inr (inr (inr (inr (inr (inr (inr (inr (inr (inr (inr r))))))))))))))))) l = inr (inr (inr (inr (inr (inr (inr (inr (inr (inr (inr (inr (inr (inr (inr (inr (inr (record { row = r; lighter = l })))))))))))))))))
+  by_row p n w (inr (inr (inr (inr (inr (inr (inr (inr (inr (inr (inr (inr (inr (inr (inr (inr (inr (inl r)))))))))))))))))) l = inr (inr (inr (inr (inr (inr (inr (inr (inr (inr (inr (inr (inr (inr (inr (inr (inr (inl (record { row = r; lighter = l }))))))))))))))))))
+  by_row p n w (inr (inr (inr (inr (inr (inr (inr (inr (inr (inr (inr (inr (inr (inr (inr (inr (inr (inr r)))))))))))))))))) l = inr (inr (inr (inr (inr (inr (inr (inr (inr (inr (inr (inr (inr (inr (inr (inr (inr (inr (record { row = r; lighter = l }))))))))))))))))))
 
   pub by_family : (p : Position) (n w : Tree) → Contracts o p n w → Families p n w
   by_family p n w c = by_row p n w c.row c.lighter

@@ -16,7 +16,7 @@ ended no_items k = items k no_items
 ended (item s is) k = item s (ended is k)
 ended (items i is) k = items i (ended is k)
 
-append_none : (ts : Trees) → append ts none ≡ ts
+pub append_none : (ts : Trees) → append ts none ≡ ts
 append_none none = refl
 append_none (t ▸ ts) = ap (λ r. t ▸ r) (append_none ts)
 

@@ -88,7 +88,7 @@ module _ (f : Free) (ps : Parts) (u : AreFree ps f) (c : Asked) (p : Position) (
     same_names declared.Lexical = gathered Name (names_of declared.Lexical) (λ t. []) lexical_fold
     same_names declared.Hoisted = gathered Name (names_of declared.Hoisted) (names_of declared.Hoisted) hoisted_fold
 
-    names_kept : is_loop w ≡ is_loop n → Keeps p n w
+    pub names_kept : is_loop w ≡ is_loop n → Keeps p n w
     names_kept l = record {
       kept = record {
         names = same_names;

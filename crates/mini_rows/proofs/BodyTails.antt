@@ -50,7 +50,7 @@ module _ (e : Environment) (t : Option Tail) where
 
 -- ---- statements at the end of a turn
 
-ends_turn : (before a b : Trees) → SameEnd LoopTail a b → SameTurn (block (append before a)) (block (append before b))
+pub ends_turn : (before a b : Trees) → SameEnd LoopTail a b → SameTurn (block (append before a)) (block (append before b))
 ends_turn before a b same = record { by = λ e s. blocks_alike e (Some LoopTail) (append before a) (append before b) (ends_read before a b same.read) (λ z. end_does LoopTail before a b same e [] z) [] s }
 
 append_none : (ts : Trees) → append ts none ≡ ts

@@ -99,7 +99,7 @@ pub record Said (n w : Tree) : Type 0 where
   pub fixed : (z : Variable) → fixed_by n z ≡ fixed_by w z
   pub declared : Among (declared_names n) (declared_names w)
 
-as_its_names : (b : Bool) (t : Tree) → is_plain (shape_of t) ≡ true → as_body b t ≡ own_declarations (not (b && false)) [] (names_of declared.Lexical t) ++ own_declarations false [] (names_of declared.Hoisted t)
+pub as_its_names : (b : Bool) (t : Tree) → is_plain (shape_of t) ≡ true → as_body b t ≡ own_declarations (not (b && false)) [] (names_of declared.Lexical t) ++ own_declarations false [] (names_of declared.Hoisted t)
 as_its_names b (node h xs n ts) e =
     ap (λ c. if c then all_as_body b ts else as_statement b (node h xs n ts)) (plain_shape h e).holds
     ∙ ap (λ c. own_declarations (not (b && c)) [] (names_of declared.Lexical (node h xs n ts)) ++ own_declarations false [] (names_of declared.Hoisted (node h xs n ts))) (plain_shape h e).function
@@ -135,16 +135,16 @@ core_kept q n w e f core said = record {
 -- ---- one list in place of another, first or later
 
 module _ (k : ℕ) where
-  first_count : (xs ys zs : List ℕ) → count_of k ys ≤ count_of k xs → count_of k (ys ++ zs) ≤ count_of k (xs ++ zs)
+  pub first_count : (xs ys zs : List ℕ) → count_of k ys ≤ count_of k xs → count_of k (ys ++ zs) ≤ count_of k (xs ++ zs)
   first_count xs ys zs h = omega (arith, h, both_counts k xs zs, both_counts k ys zs)
 
-  later_count : (zs xs ys : List ℕ) → count_of k ys ≤ count_of k xs → count_of k (zs ++ ys) ≤ count_of k (zs ++ xs)
+  pub later_count : (zs xs ys : List ℕ) → count_of k ys ≤ count_of k xs → count_of k (zs ++ ys) ≤ count_of k (zs ++ xs)
   later_count zs xs ys h = omega (arith, h, both_counts k zs xs, both_counts k zs ys)
 
-first_empty : (xs ys zs : List Path) → (xs ≡ [] → ys ≡ []) → xs ++ zs ≡ [] → ys ++ zs ≡ []
+pub first_empty : (xs ys zs : List Path) → (xs ≡ [] → ys ≡ []) → xs ++ zs ≡ [] → ys ++ zs ≡ []
 first_empty xs ys zs h e = let (x, z) = empty_both xs zs e in both_empty ys zs (h x) z
 
-later_empty : (zs xs ys : List Path) → (xs ≡ [] → ys ≡ []) → zs ++ xs ≡ [] → zs ++ ys ≡ []
+pub later_empty : (zs xs ys : List Path) → (xs ≡ [] → ys ≡ []) → zs ++ xs ≡ [] → zs ++ ys ≡ []
 later_empty zs xs ys h e = let (z, x) = empty_both zs xs e in both_empty zs ys z (h x)
 
 pub first_among : (xs ys zs : List Name) → Among xs ys → Among (xs ++ zs) (ys ++ zs)
@@ -274,6 +274,10 @@ module _ (x y : Tree) (i : Inside x y) where
   around_frames (InBody a b) = after a _ _ (after b _ _ frame_at)
   around_frames (OfBody a b) = after a _ _ (after b _ _ frame_at)
 
+  pub around_core : (k : Surrounding) → Core (around k x) (around k y)
+  around_core k = record { kept = around_kept k; scoped = around_scoped k; numbers = around_numbers k; once = around_once k; targets = around_targets k; loop = around_loop k; bodies = around_bodies k; frames = around_frames k }
+
+module _ (x y : Tree) (i : Said x y) where
   around_fixed : (k : Surrounding) (z : Variable) → fixed_by (around k x) z ≡ fixed_by (around k y) z
   around_fixed (Consequent a u) z = ap (λ f. stricter (choose (is_in z (summary a).lets) Writable Writable) (stricter (fixed_by a z) (stricter f (stricter (fixed_by u z) Writable)))) (i.fixed z)
   around_fixed (Alternate a s) z = ap (λ f. stricter (choose (is_in z (summary a).lets) Writable Writable) (stricter (fixed_by a z) (stricter (fixed_by s z) (stricter f Writable)))) (i.fixed z)
@@ -294,11 +298,11 @@ module _ (x y : Tree) (i : Inside x y) where
   around_declared (InBody a b) = later_among (declared_names a) _ _ (later_among (declared_names b) _ _ (first_among (declared_names x) (declared_names y) [] i.declared))
   around_declared (OfBody a b) = later_among (declared_names a) _ _ (later_among (declared_names b) _ _ (first_among (declared_names x) (declared_names y) [] i.declared))
 
-  pub around_core : (k : Surrounding) → Core (around k x) (around k y)
-  around_core k = record { kept = around_kept k; scoped = around_scoped k; numbers = around_numbers k; once = around_once k; targets = around_targets k; loop = around_loop k; bodies = around_bodies k; frames = around_frames k }
+  pub around_says : (k : Surrounding) → Said (around k x) (around k y)
+  around_says k = record { fixed = around_fixed k; declared = around_declared k }
 
-  pub around_said : (k : Surrounding) → Said (around k x) (around k y)
-  around_said k = record { fixed = around_fixed k; declared = around_declared k }
+pub around_said : (x y : Tree) → Inside x y → (k : Surrounding) → Said (around k x) (around k y)
+around_said x y i k = around_says x y (record { fixed = i.fixed; declared = i.declared }) k
 
 pub around_plain : (k : Surrounding) (x : Tree) → is_plain (shape_of (around k x)) ≡ true
 around_plain (Consequent a u) x = refl

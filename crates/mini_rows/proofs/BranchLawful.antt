@@ -25,6 +25,7 @@ use Rattle.mini_kept.proofs.Expressions.{expression, refused_here, not_of_fits, 
 use Rattle.mini_kept.proofs.Quiet.{expression_is_quiet}
 use Rattle.mini_kept.proofs.Rows.{statement, last_statement, TakesStatementIn, TakesStatement, IfFits, of_if, of_statement, of_last_statement}
 use Rattle.mini_terms.specs.Parts.{leaves_nothing}
+use Rattle.mini_laws.specs.Rewritten.{MeansSame}
 use Rattle.mini_rows.specs.Arranged.{KeptAt, Vanishes}
 use Rattle.mini_rows.specs.Lists.{block, return_statement, is_unscoped, are_unscoped}
 use Rattle.mini_rows.specs.Sketches.{AbsentPart, Return, part, under, end, ◌▹◌}
@@ -301,7 +302,7 @@ later_and : (a b c : Bool) → (b ≡ true → c ≡ true) → (a && b) ≡ true
 later_and a b c f e = let (x, y) = and_parts a b e in both a c x (f y)
 
 module _ (strict : Bool) (x y : Tree) (f : fits strict statement x ≡ true → fits strict statement y ≡ true) (g : fits strict last_statement x ≡ true → fits strict last_statement y ≡ true) where
-  around_fits : (k : Surrounding) → fits strict statement (around k x) ≡ true → fits strict statement (around k y) ≡ true
+  pub around_fits : (k : Surrounding) → fits strict statement (around k x) ≡ true → fits strict statement (around k y) ≡ true
   around_fits (Consequent a u) e = later_and (fits strict expression a) _ _ (first_and (fits strict statement x) (fits strict statement y) (fits strict last_statement u && true) f) e
   around_fits (Alternate a s) e = later_and (fits strict expression a) _ _ (later_and (fits strict statement s) _ _ (first_and (fits strict last_statement x) (fits strict last_statement y) true g)) e
   around_fits (WhileBody a) e = later_and (fits strict expression a) _ _ (first_and (fits strict statement x) (fits strict statement y) true f) e
@@ -311,7 +312,7 @@ module _ (strict : Bool) (x y : Tree) (f : fits strict statement x ≡ true → 
   around_fits (InBody a b) e = later_and (fits strict (one (a_loop_left true)) a) _ _ (later_and (fits strict expression b) _ _ (first_and (fits strict statement x) (fits strict statement y) true f)) e
   around_fits (OfBody a b) e = later_and (fits strict (one (a_loop_left false)) a) _ _ (later_and (fits strict expression b) _ _ (first_and (fits strict statement x) (fits strict statement y) true f)) e
 
-around_read : (k : Surrounding) (x : Tree) → is_read (shape_of (around k x)) ≡ true
+pub around_read : (k : Surrounding) (x : Tree) → is_read (shape_of (around k x)) ≡ true
 around_read (Consequent a u) x = refl
 around_read (Alternate a s) x = refl
 around_read (WhileBody a) x = refl
@@ -336,10 +337,10 @@ pub record Kind (n w : Tree) : Type 0 where
   pub core : (strict : Bool) → fits strict statement n ≡ true → Core n w
   pub said : Said n w
 
-kind_along : (n n' w w' : Tree) → n ≡ n' → w ≡ w' → Kind n' w' → Kind n w
+pub kind_along : (n n' w w' : Tree) → n ≡ n' → w ≡ w' → Kind n' w' → Kind n w
 kind_along n n' w w' e f k = subst (λ x. Kind x w) (sym e) (subst (λ y. Kind n' y) (sym f) k)
 
-around_kind : (k : Surrounding) (x y : Tree) → Inside x y → ((strict : Bool) → fits strict statement x ≡ true → fits strict statement y ≡ true) → ((strict : Bool) → fits strict last_statement x ≡ true → fits strict last_statement y ≡ true) → Kind (around k x) (around k y)
+pub around_kind : (k : Surrounding) (x y : Tree) → Inside x y → ((strict : Bool) → fits strict statement x ≡ true → fits strict statement y ≡ true) → ((strict : Bool) → fits strict last_statement x ≡ true → fits strict last_statement y ≡ true) → Kind (around k x) (around k y)
 around_kind k x y i f g = record { read = around_read k x; before = around_plain k x; after = around_plain k y; fitting = λ strict. around_fits strict x y (f strict) (g strict) k; core = λ strict e. around_core x y i k; said = around_said x y i k }
 
 returned : (v : Tree) → Stood (return_statement v) (return_statement absent)
@@ -600,6 +601,34 @@ row_kept (Stmt q) n w (inr (inr (inl r))) = kind_kept q n w (row_kind n w (inr (
 row_kept (Stmt q) n w (inr (inr (inr (inl r)))) = kind_kept q n w (row_kind n w (inr (inr r)))
 row_kept (Stmt q) n w (inr (inr (inr (inr r)))) = ends_kept q n w r
 row_kept p n w r = absurd r
+
+-- of statements a relation is lawful that means the same and of which each instance is kept so
+abbrev pub IsKind : Position → Tree → Tree → Type 0
+IsKind (Stmt q) n w = Kind n w
+IsKind p n w = ⊥
+
+stood_at : (p : Position) (n w : Tree) → IsKind p n w → Stood n w
+stood_at (Stmt q) n w k = kind_stood n w k
+stood_at p n w k = absurd k
+
+placed_at : (p : Position) (n w : Tree) → IsKind p n w → is_rewritten_place p ≡ true
+placed_at (Stmt q) n w k = refl
+placed_at p n w k = absurd k
+
+kept_at : (p : Position) (n w : Tree) → IsKind p n w → KeptAt p n w
+kept_at (Stmt q) n w k = kind_kept q n w k
+kept_at p n w k = absurd k
+
+pub kinds_lawful : (R : Position → Tree → Tree → Type 0) → MeansSame R → ((p : Position) (n w : Tree) → R p n w → IsKind p n w) → Lawful R
+kinds_lawful R same kind =
+    kept_is_lawful R same
+    (record {
+      fitting = λ p n w c strict s f e. let k = stood_at p n w (kind p n w c) in fits_there strict s n w k.read k.before k.after (k.fitting strict) e;
+      asked = λ p n w c. let k = stood_at p n w (kind p n w c) in plain_asked p n w k.before k.after;
+    })
+    (λ p n w c. placed_at p n w (kind p n w c))
+    (λ p n w c strict s f e. body_slot p s (taken strict s n (stood_at p n w (kind p n w c)).read e))
+    (λ p n w c. kept_at p n w (kind p n w c))
 
 pub branches_lawful : Lawful BranchContracts
 branches_lawful =

@@ -174,14 +174,14 @@ row_79 q (OfBody left right) c h e = let after = body_is_list c h in omega (arit
 
 -- ---- 78
 
-block_is : (ts : Trees) → weight (Stmt stmt_seat.Body) (block ts) ≡ total ts + 4
+pub block_is : (ts : Trees) → weight (Stmt stmt_seat.Body) (block ts) ≡ total ts + 4
 block_is ts = let list = list_is ts in omega (arith, list)
 
 shorter : (ts : Trees) → weight (Stmt stmt_seat.Body) (block ts) + 16 ≡ weight (Stmt stmt_seat.Body) (block (append ts (bare_continue ▸ none)))
 shorter ts = let before = block_is (append ts (bare_continue ▸ none)) in let after = block_is ts in let sum = total_append ts (bare_continue ▸ none) in omega (arith, before, after, sum)
 
 -- a lighter body makes the loop lighter
-body_falls : (q : StmtSeat) (k : Surrounding) (c d : Tree) → is_loop k ≡ true → weight (Stmt stmt_seat.Body) d < weight (Stmt stmt_seat.Body) c → weight (Stmt q) (around k d) < weight (Stmt q) (around k c)
+pub body_falls : (q : StmtSeat) (k : Surrounding) (c d : Tree) → is_loop k ≡ true → weight (Stmt stmt_seat.Body) d < weight (Stmt stmt_seat.Body) c → weight (Stmt q) (around k d) < weight (Stmt q) (around k c)
 body_falls q (Consequent a u) c d h less = absurd (true≢false (sym h))
 body_falls q (Alternate a s) c d h less = absurd (true≢false (sym h))
 body_falls q (WhileBody a) c d h less = omega (arith, less)
@@ -268,17 +268,17 @@ branch_lighter p n w r = absurd r
 
 -- what a parent reads: a row leaves an `if` with `else` one, or is lighter by more than the braces of a block
 
-record Outlined (p : Position) (n w : Tree) : Type 0 where
-  absent : (outline n).absent ≡ (outline w).absent
-  items : (outline n).items ≡ (outline w).items
-  is_zero : (outline n).is_zero ≡ (outline w).is_zero
-  chooses : ((outline n).chooses ≡ true → (outline w).chooses ≡ true) ⊎ (weight p w + 5 ≤ weight p n)
+pub record Outlined (p : Position) (n w : Tree) : Type 0 where
+  pub absent : (outline n).absent ≡ (outline w).absent
+  pub items : (outline n).items ≡ (outline w).items
+  pub is_zero : (outline n).is_zero ≡ (outline w).is_zero
+  pub chooses : ((outline n).chooses ≡ true → (outline w).chooses ≡ true) ⊎ (weight p w + 5 ≤ weight p n)
 
-outlined : (p : Position) (n n' w w' : Tree) → n ≡ n' → w ≡ w' → Outlined p n' w' → Outlined p n w
+pub outlined : (p : Position) (n n' w w' : Tree) → n ≡ n' → w ≡ w' → Outlined p n' w' → Outlined p n w
 outlined p n n' w w' e f o = subst (λ x. Outlined p x w) (sym e) (subst (λ y. Outlined p n' y) (sym f) o)
 
 -- a loop is read alike whatever its body is
-loop_outlined : (q : StmtSeat) (k : Surrounding) (c d : Tree) → is_loop k ≡ true → Outlined (Stmt q) (around k c) (around k d)
+pub loop_outlined : (q : StmtSeat) (k : Surrounding) (c d : Tree) → is_loop k ≡ true → Outlined (Stmt q) (around k c) (around k d)
 loop_outlined q (Consequent a u) c d h = absurd (true≢false (sym h))
 loop_outlined q (Alternate a s) c d h = absurd (true≢false (sym h))
 loop_outlined q (WhileBody a) c d h = record { absent = refl; items = refl; is_zero = refl; chooses = inl (λ e. e) }

@@ -174,3 +174,7 @@ pub mod UnbrokenRuns
 pub mod CaseMeaning
 pub mod CaseWeights
 pub mod CaseKept
+pub mod BlockItems
+pub mod LoopGuards
+pub mod LoopGuardsKept
+pub mod LoopGuardWeights

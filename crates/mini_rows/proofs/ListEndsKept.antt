@@ -111,33 +111,33 @@ module _ (strict : Bool) where
       let (f, g) = first_fits strict (statement d) t ts e in
       more_fit strict (statement nested) t ts (deeper d t x f) (all_deeper d ts y g)
 
-  block_fits : (ts : Trees) → AllFit strict (statement nested) ts → Fits strict (statement nested) (block ts)
+  pub block_fits : (ts : Trees) → AllFit strict (statement nested) ts → Fits strict (statement nested) (block ts)
   block_fits ts e = both (fill strict (each (statement nested)) ts) true e refl
 
   not_fits : (a : Tree) → Fits strict expression a → Fits strict expression (negation a)
   not_fits a e = both (fits strict expression a) true e refl
 
-  row_75_fits : (test : Tree) (rest : Trees) → are_unscoped rest ≡ true → Fitting strict (if_alone test bare_return ▸ rest) (if_alone (negation test) (block rest) ▸ none)
-  row_75_fits test rest u d e =
-      let (x, y) = first_fits strict (statement d) (if_alone test bare_return) rest e in
-      let (a, b, c) = of_if strict d test bare_return absent x in
+  pub row_75_fits : (jump test : Tree) (rest : Trees) → are_unscoped rest ≡ true → Fitting strict (if_alone test jump ▸ rest) (if_alone (negation test) (block rest) ▸ none)
+  row_75_fits jump test rest u d e =
+      let (x, y) = first_fits strict (statement d) (if_alone test jump) rest e in
+      let (a, b, c) = of_if strict d test jump absent x in
       more_fit strict (statement d) (if_alone (negation test) (block rest)) none (if_fits strict d (negation test) (block rest) absent (not_fits test a, block_fits rest (all_deeper d rest u y), refl)) refl
 
   alternate_fits : (ts : Trees) → AllFit strict (statement nested) ts → fits strict (one_or_absent (a_statement nested)) (alternate_of ts) ≡ true
   alternate_fits none e = refl
   alternate_fits (t ▸ ts) e = block_fits (t ▸ ts) e
 
-  row_75_block_fits : (test : Tree) (body rest : Trees) → are_unscoped rest ≡ true → Fitting strict (if_alone test (block (append body (bare_return ▸ none))) ▸ rest) (if_else test (block body) (alternate_of rest) ▸ none)
-  row_75_block_fits test body rest u d e =
-      let (x, y) = first_fits strict (statement d) (if_alone test (block (append body (bare_return ▸ none)))) rest e in
-      let (a, b, c) = of_if strict d test (block (append body (bare_return ▸ none))) absent x in
-      let (f, g) = both_fit strict (statement nested) body (bare_return ▸ none) (of_block strict nested (append body (bare_return ▸ none)) b) in
+  pub row_75_block_fits : (jump test : Tree) (body rest : Trees) → are_unscoped rest ≡ true → Fitting strict (if_alone test (block (append body (jump ▸ none))) ▸ rest) (if_else test (block body) (alternate_of rest) ▸ none)
+  row_75_block_fits jump test body rest u d e =
+      let (x, y) = first_fits strict (statement d) (if_alone test (block (append body (jump ▸ none)))) rest e in
+      let (a, b, c) = of_if strict d test (block (append body (jump ▸ none))) absent x in
+      let (f, g) = both_fit strict (statement nested) body (jump ▸ none) (of_block strict nested (append body (jump ▸ none)) b) in
       more_fit strict (statement d) (if_else test (block body) (alternate_of rest)) none (if_fits strict d test (block body) (alternate_of rest) (a, block_fits body f, alternate_fits rest (all_deeper d rest u y))) refl
 
   row_fits : (o : Switches) (a b : Trees) → EndRow o bare_return a b → Fitting strict a b
   row_fits o a b (inl r) d e = subst (AllFit strict (statement d)) (sym r.written) refl
-  row_fits o a b (inr (s, inl r)) d e = subst (AllFit strict (statement d)) (sym r.written) (row_75_fits r.test r.rest r.unscoped d (subst (AllFit strict (statement d)) r.shape e))
-  row_fits o a b (inr (s, inr r)) d e = subst (AllFit strict (statement d)) (sym r.written) (row_75_block_fits r.test r.body r.rest r.unscoped d (subst (AllFit strict (statement d)) r.shape e))
+  row_fits o a b (inr (s, inl r)) d e = subst (AllFit strict (statement d)) (sym r.written) (row_75_fits bare_return r.test r.rest r.unscoped d (subst (AllFit strict (statement d)) r.shape e))
+  row_fits o a b (inr (s, inr r)) d e = subst (AllFit strict (statement d)) (sym r.written) (row_75_block_fits bare_return r.test r.body r.rest r.unscoped d (subst (AllFit strict (statement d)) r.shape e))
 
 pub end_fits : (o : Switches) (n w : Tree) → AtEnd (EndRow o bare_return) n w → (strict : Bool) (s : Slot) → fits_place StatementList s ≡ true → fits strict s n ≡ true → fits strict s w ≡ true
 end_fits o n w r strict s k e =

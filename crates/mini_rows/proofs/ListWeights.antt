@@ -480,7 +480,7 @@ end_in_list R n w r = record {
 row_78 : (a b : Trees) → Row78 bare_return a b → Falls a b
 row_78 a b r = replaced a _ b _ r.shape r.written (record { lighter = omega arith; chosen = inl refl; some = λ e. omega (arith, e) })
 
-block_falls : (ts : Trees) → weight (Stmt stmt_seat.Consequent) (block ts) ≤ total ts + 4
+pub block_falls : (ts : Trees) → weight (Stmt stmt_seat.Consequent) (block ts) ≤ total ts + 4
 block_falls ts = let items = list_is ts in let least = braces_weigh (one_chooses (outlines ts)) in omega (arith, items, least)
   where
     braces_weigh : (b : Bool) → (if b then 0 else 4) ≤ 4
@@ -513,7 +513,7 @@ leaving_weighs ts =
     let braces = ap braces_weight (ends_plain ts) in
     omega (arith, items, both, braces)
 
-alternate_weighs : (ts : Trees) → weight (Stmt stmt_seat.Body) (alternate_of ts) ≤ total ts + 4
+pub alternate_weighs : (ts : Trees) → weight (Stmt stmt_seat.Body) (alternate_of ts) ≤ total ts + 4
 alternate_weighs none = omega arith
 alternate_weighs (t ▸ ts) = let items = list_is (t ▸ ts) in omega (arith, items)
 

@@ -29,3 +29,4 @@ pub mod Names
 pub mod Catches
 pub mod Writes
 pub mod Cases
+pub mod LoopGuards

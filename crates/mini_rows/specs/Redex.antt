@@ -31,13 +31,14 @@ use Rattle.mini_rows.specs.Catches.{CatchContracts}
 use Rattle.mini_rows.specs.Writes.{WriteContracts}
 use Rattle.mini_rows.specs.Negations.{NegationRow}
 use Rattle.mini_rows.specs.Templates.{TemplateRow}
+use Rattle.mini_rows.specs.LoopGuards.{LoopGuardRow}
 
 -- a row reads n as w at this place: one of negations and of `if` over expressions, of spellings, of branches and bodies of
 -- loops, of lists of statements, of the keys of object literals, of choices, of declarations, of what is known, of tests that
 -- are turned, of arrow functions, of constants, of the keys of patterns and classes, of booleans, of De Morgan's laws, of sequences, of operands whose value is known, of negations that reach into the
--- operand, or of templates
+-- operand, of templates, or of guards in the bodies of loops
 abbrev pub Row : Switches → Position → Tree → Tree → Type 0
-Row o p n w = first.Row p n w ⊎ (SpellingRow p n w ⊎ (BranchRow p n w ⊎ (ListRow o p n w ⊎ (KeyRow p n w ⊎ (ChoiceRow p n w ⊎ (DeclarationRow p n w ⊎ (FoldingRow p n w ⊎ (TurnRow p n w ⊎ (ArrowRow p n w ⊎ (ConstantRow p n w ⊎ (HeldKeyRow p n w ⊎ (BooleanRow p n w ⊎ (DeMorganRow p n w ⊎ (SequenceRow p n w ⊎ (OperandRow p n w ⊎ (NegationRow p n w ⊎ TemplateRow p n w))))))))))))))))
+Row o p n w = first.Row p n w ⊎ (SpellingRow p n w ⊎ (BranchRow p n w ⊎ (ListRow o p n w ⊎ (KeyRow p n w ⊎ (ChoiceRow p n w ⊎ (DeclarationRow p n w ⊎ (FoldingRow p n w ⊎ (TurnRow p n w ⊎ (ArrowRow p n w ⊎ (ConstantRow p n w ⊎ (HeldKeyRow p n w ⊎ (BooleanRow p n w ⊎ (DeMorganRow p n w ⊎ (SequenceRow p n w ⊎ (OperandRow p n w ⊎ (NegationRow p n w ⊎ (TemplateRow p n w ⊎ LoopGuardRow o p n w)))))))))))))))))
 
 -- what a row writes, where it weighs less
 pub record Contracts (o : Switches) (p : Position) (n w : Tree) : Type 0 where

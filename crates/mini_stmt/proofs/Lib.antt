@@ -5,3 +5,4 @@ pub mod Stepping
 pub mod Guards
 pub mod Assignments
 pub mod Bodies
+pub mod LoopGuards

@@ -10,4 +10,5 @@ pub mod Lighter
 pub mod JoinGuards
 pub mod JoinAssignments
 pub mod MinimizeBody
+pub mod TurnLoopGuards
 pub mod Terminated

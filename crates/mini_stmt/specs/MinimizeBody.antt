@@ -3,12 +3,15 @@
 use Rattle.std.specs.Prelude.{◌≡◌, ◌⊎◌, ◌<◌, ℕ, suc, Bool, true, false, not, ◌&&◌, ◌||◌, Option, Some, None}
 use Rattle.mini_model.specs.declared.place.Position.{Position}
 use Rattle.mini_model.specs.declared.place.Position.TheVariants.{BodyList}
-use Rattle.mini_model.specs.Tree.{Tree, Trees, none, ◌▸◌, count, child_or_absent, absent, listed}
+use Rattle.mini_model.specs.declared.shape.Shape.{Shape}
+use Rattle.mini_model.specs.declared.shape.Shape.TheVariants as shape
+use Rattle.mini_model.specs.Tree.{Tree, Trees, none, ◌▸◌, count, child_or_absent, absent, listed, shape_of}
 use Rattle.mini_model.specs.Paths.{append}
-use Rattle.mini_node.specs.Children.{part, first_children, rest_children}
-use Rattle.mini_node.specs.Kinds.{is_if_alone, is_block}
+use Rattle.mini_node.specs.Children.{part, is_bare, first_children, rest_children}
+use Rattle.mini_node.specs.Kinds.{is_if_alone, is_block, is_absent_part}
 use Rattle.mini_tree.specs.Rule as rule
 use Rattle.mini_rows.specs.Switches.{Switches}
+use Rattle.mini_rows.specs.Branches.{bare_continue}
 use Rattle.mini_rows.specs.Lists.{are_unscoped, are_shallow, bare_return, Row75, Row75Block, AtEnd, EndRow, ListContracts}
 use Rattle.mini_stmt.specs.JoinGuards.{last_after, is_apart}
 use Rattle.mini_stmt.specs.JoinAssignments.{are_entered}
@@ -16,47 +19,64 @@ use Rattle.mini_stmt.specs.JoinJumps.{returns_nothing}
 use Rattle.mini_stmt.specs.MinimizeStatements.{is_quiet, Rests}
 use Rattle.mini_stmt.specs.SpreadBlock.{body_of}
 
--- `if (a) return;`
-abbrev pub leaves : Tree → Bool
-leaves t = is_if_alone t && returns_nothing (part t 1)
+-- the jump at the end of a function's body, `return;`, and that of a loop's, `continue;`
+abbrev pub jump_at : Bool → Tree
+jump_at true = bare_continue
+jump_at false = bare_return
 
--- the last statement is `return;`
-abbrev pub ends_bare : Trees → Bool
-ends_bare ts = returns_nothing (last_after absent ts)
+abbrev pub is_continue_shape : Shape → Bool
+is_continue_shape shape.ContinueStatement = true
+is_continue_shape _ = false
+
+abbrev pub goes_on : Tree → Bool
+goes_on t = is_continue_shape (shape_of t) && (is_bare t 1 && is_absent_part (part t 0))
+
+-- it is this jump, of a loop's body or of a function's
+abbrev pub is_jump : Bool → Tree → Bool
+is_jump true t = goes_on t
+is_jump false t = returns_nothing t
+
+-- `if (a) return;`, and in a loop `if (a) continue;`
+abbrev pub leaves : Bool → Tree → Bool
+leaves x t = is_if_alone t && is_jump x (part t 1)
+
+-- the last statement is the jump
+abbrev pub ends_bare : Bool → Trees → Bool
+ends_bare x ts = is_jump x (last_after absent ts)
 
 -- `if (a) { b; return; }`, where b declares nothing in the block
-abbrev pub leaves_by_block : Tree → Bool
-leaves_by_block t = is_if_alone t && (is_block (part t 1) && (ends_bare (body_of (part t 1)) && are_unscoped (body_of (part t 1))))
+abbrev pub leaves_by_block : Bool → Tree → Bool
+leaves_by_block x t = is_if_alone t && (is_block (part t 1) && (ends_bare x (body_of (part t 1)) && are_unscoped (body_of (part t 1))))
 
-abbrev pub is_guard : Tree → Bool
-is_guard t = leaves t || leaves_by_block t
+abbrev pub is_guard : Bool → Tree → Bool
+is_guard x t = leaves x t || leaves_by_block x t
 
 -- what follows may go into a block
 abbrev pub may_nest : Trees → Bool
 may_nest ts = are_unscoped ts && are_shallow 64 ts
 
 -- a guard after which all may
-abbrev pub leaves_early : Trees → Bool
-leaves_early none = false
-leaves_early (t ▸ ts) = (is_guard t && may_nest ts) || leaves_early ts
+abbrev pub leaves_early : Bool → Trees → Bool
+leaves_early x none = false
+leaves_early x (t ▸ ts) = (is_guard x t && may_nest ts) || leaves_early x ts
 
 -- no row reads what the list ends with
 abbrev pub is_ended : Switches → Trees → Bool
-is_ended o ts = not (ends_bare ts) && (not o.sequences || not (leaves_early ts))
+is_ended o ts = not (ends_bare false ts) && (not o.sequences || not (leaves_early false ts))
 
 -- the place of such a guard, or there is none
-abbrev pub EarlyAt : Trees → Option ℕ → Type 0
-EarlyAt ts (Some i) = (i < count ts) × (is_guard (child_or_absent ts i) ≡ true) × (may_nest (rest_children (suc i) ts) ≡ true)
-EarlyAt ts None = leaves_early ts ≡ false
+abbrev pub EarlyAt : Bool → Trees → Option ℕ → Type 0
+EarlyAt x ts (Some i) = (i < count ts) × (is_guard x (child_or_absent ts i) ≡ true) × (may_nest (rest_children (suc i) ts) ≡ true)
+EarlyAt x ts None = leaves_early x ts ≡ false
 
 -- a guard and what follows, and what is written for both
-abbrev pub Turned : Tree → Trees → Tree → Type 0
-Turned t ts made = Row75 bare_return (t ▸ ts) (made ▸ none) ⊎ Row75Block bare_return (t ▸ ts) (made ▸ none)
+abbrev pub Turned : Bool → Tree → Trees → Tree → Type 0
+Turned x t ts made = Row75 (jump_at x) (t ▸ ts) (made ▸ none) ⊎ Row75Block (jump_at x) (t ▸ ts) (made ▸ none)
 
 -- the guard at a place, with all that follows
-pub record TurnedAt (ts : Trees) (i : ℕ) (us : Trees) : Type 0 where
+pub record TurnedAt (x : Bool) (ts : Trees) (i : ℕ) (us : Trees) : Type 0 where
   pub made : Tree
-  pub row : Turned (child_or_absent ts i) (rest_children (suc i) ts) made
+  pub row : Turned x (child_or_absent ts i) (rest_children (suc i) ts) made
   pub is : us ≡ append (first_children i ts) (made ▸ none)
 
 -- steps at the end of a body's list, and at least one
@@ -67,13 +87,13 @@ Turns o ts us false = us ≡ ts
 -- all guards are turned, or there is none to turn
 pub record AllTurned (ts us : Trees) (changed : Bool) : Type 0 where
   pub changes : (o : Switches) → o.sequences ≡ true → Turns o ts us changed
-  pub rests : leaves_early us ≡ false
+  pub rests : leaves_early false us ≡ false
 
--- the last statement, which is `return;`, is gone
-pub record DropsLast (ts us : Trees) : Type 0 where
+-- the last statement, which is the jump, is gone
+pub record DropsLast (x : Bool) (ts us : Trees) : Type 0 where
   pub last : Tree
   pub is : ts ≡ append us (last ▸ none)
-  pub bare : returns_nothing last ≡ true
+  pub bare : is_jump x last ≡ true
 
 -- no row reads its end
 abbrev pub EndRests : Switches → Tree → Type 0

@@ -7,3 +7,4 @@ pub mod join_vars;
 pub mod minimize_body;
 pub mod split_if;
 pub mod spread_block;
+pub mod turn_loop_guards;

@@ -11,58 +11,78 @@ use crate::rewrites::join_jumps::returns_nothing;
 use crate::rewrites::spread_block::body_of;
 use crate::statements::{minimize_statements, take_last};
 use crate::terms::{are_shallow, are_unscoped, statement_cares_about_scope};
-use mini_model::OutOfMemory;
+use mini_model::{OutOfMemory, Shape};
 use mini_node::{
-    Node, Nodes, absent, block, discard, if_statement, is_block, is_if_alone, is_listed, negation,
-    three,
+    Node, Nodes, absent, block, discard, if_statement, is_absent_part, is_block, is_if_alone,
+    is_listed, negation, three,
 };
 use mini_tree::CompressOptions;
 use std::alloc::Global;
 
-// `if (a) return;`
-fn leaves(node: &Node) -> bool
-    ensures { result ≡ row.leaves node.now }
+// `continue;`
+fn goes_on(node: &Node) -> bool
+    ensures { result ≡ row.goes_on node.now }
 {
-    is_if_alone(node) && returns_nothing(node.child(1))
+    matches!(node.shape(), Shape::ContinueStatement)
+        && node.is_bare(1)
+        && is_absent_part(node.child(0))
 }
 
-// Whether the last statement is `return;`.
-fn ends_bare(list: &Nodes) -> bool
-    ensures { result ≡ row.ends_bare list.now }
+// The jump at the end of a loop's body, `continue;`, or of a function's, `return;`.
+fn is_jump(in_loop: bool, node: &Node) -> bool
+    ensures { result ≡ row.is_jump in_loop node.now }
+{
+    if in_loop {
+        goes_on(node)
+    } else {
+        returns_nothing(node)
+    }
+}
+
+// `if (a) return;`, and in a loop `if (a) continue;`
+fn leaves(in_loop: bool, node: &Node) -> bool
+    ensures { result ≡ row.leaves in_loop node.now }
+{
+    is_if_alone(node) && is_jump(in_loop, node.child(1))
+}
+
+// Whether the last statement is the jump.
+fn ends_bare(in_loop: bool, list: &Nodes) -> bool
+    ensures { result ≡ row.ends_bare in_loop list.now }
 {
     let count = list.len();
     if count == 0 {
         return false;
     }
-    returns_nothing(list.child(count - 1))
+    is_jump(in_loop, list.child(count - 1))
 }
 
 // `if (a) { b; return; }`
-fn leaves_by_block(node: &Node) -> bool
-    ensures { result ≡ row.leaves_by_block node.now }
+fn leaves_by_block(in_loop: bool, node: &Node) -> bool
+    ensures { result ≡ row.leaves_by_block in_loop node.now }
 {
     is_if_alone(node)
         && is_block(node.child(1))
-        && ends_bare(node.child(1).child(0).children())
+        && ends_bare(in_loop, node.child(1).child(0).children())
         && are_unscoped(node.child(1).child(0).children())
 }
 
 // Either of them.
-fn is_guard(node: &Node) -> bool
-    ensures { result ≡ row.is_guard node.now }
+fn is_guard(in_loop: bool, node: &Node) -> bool
+    ensures { result ≡ row.is_guard in_loop node.now }
 {
-    leaves(node) || leaves_by_block(node)
+    leaves(in_loop, node) || leaves_by_block(in_loop, node)
 }
 
 // The last guard, if what follows it may go into a block.
-fn early_at(list: &Nodes) -> Option<usize>
-    ensures { EarlyAt list.now result }
+pub(crate) fn early_at(in_loop: bool, list: &Nodes) -> Option<usize>
+    ensures { EarlyAt in_loop list.now result }
 {
     let count = list.len();
     for back in 0..count {
         let at = count - 1 - back;
         let node = list.child(at);
-        if is_guard(node) {
+        if is_guard(in_loop, node) {
             return if are_shallow(list, at + 1, 64) {
                 Some(at)
             } else {
@@ -77,10 +97,10 @@ fn early_at(list: &Nodes) -> Option<usize>
 }
 
 // `if (!a) { b; c; }`
-fn turned_bare(alloc: Global, guard: Node, rest: Nodes) -> Result<Node, OutOfMemory>
-    requires guard { row.leaves guard ≡ true }
+fn turned_bare(alloc: Global, in_loop: bool, guard: Node, rest: Nodes) -> Result<Node, OutOfMemory>
+    requires guard { row.leaves in_loop guard ≡ true }
     requires rest { row.may_nest rest ≡ true }
-    ensures { IfOk result (Turned guard rest) }
+    ensures { IfOk result (Turned in_loop guard rest) }
 {
     let (test, jump, alternate) = three(guard);
     discard(jump);
@@ -101,48 +121,53 @@ fn alternate_of(alloc: Global, rest: Nodes) -> Result<Node, OutOfMemory>
 }
 
 // `if (a) { b; } else { c; }`
-fn turned_block(alloc: Global, guard: Node, rest: Nodes) -> Result<Node, OutOfMemory>
-    requires guard { row.leaves_by_block guard ≡ true }
+fn turned_block(alloc: Global, in_loop: bool, guard: Node, rest: Nodes) -> Result<Node, OutOfMemory>
+    requires guard { row.leaves_by_block in_loop guard ≡ true }
     requires rest { row.may_nest rest ≡ true }
-    ensures { IfOk result (Turned guard rest) }
+    ensures { IfOk result (Turned in_loop guard rest) }
 {
     let (test, consequent, nothing) = three(guard);
     discard(nothing);
     let mut body = body_of(consequent);
-    drop_last(&mut body);
+    drop_last(in_loop, &mut body);
     let kept = block(alloc, body)?;
     let alternate = alternate_of(alloc, rest)?;
     if_statement(alloc, test, kept, alternate)
 }
 
 // Either of them.
-fn turned(alloc: Global, guard: Node, rest: Nodes) -> Result<Node, OutOfMemory>
-    requires guard { row.is_guard guard ≡ true }
+fn turned(alloc: Global, in_loop: bool, guard: Node, rest: Nodes) -> Result<Node, OutOfMemory>
+    requires guard { row.is_guard in_loop guard ≡ true }
     requires rest { row.may_nest rest ≡ true }
-    ensures { IfOk result (Turned guard rest) }
+    ensures { IfOk result (Turned in_loop guard rest) }
 {
-    if leaves(&guard) {
-        return turned_bare(alloc, guard, rest);
+    if leaves(in_loop, &guard) {
+        return turned_bare(alloc, in_loop, guard, rest);
     }
-    turned_block(alloc, guard, rest)
+    turned_block(alloc, in_loop, guard, rest)
 }
 
 // The guard at a place takes in what follows.
-fn turn_at(alloc: Global, list: &mut Nodes, at: usize) -> Result<(), OutOfMemory>
-    requires { EarlyAt list.old (Some at) }
-    ensures { OnOk result (TurnedAt list.old at list.new) }
+pub(crate) fn turn_at(
+    alloc: Global,
+    in_loop: bool,
+    list: &mut Nodes,
+    at: usize,
+) -> Result<(), OutOfMemory>
+    requires { EarlyAt in_loop list.old (Some at) }
+    ensures { OnOk result (TurnedAt in_loop list.old at list.new) }
 {
     let mut rest = list.split_off(at)?;
     let guard = rest.remove(0);
-    let made = turned(alloc, guard, rest)?;
+    let made = turned(alloc, in_loop, guard, rest)?;
     list.push(made)?;
     Ok(())
 }
 
 // The last statement goes.
-fn drop_last(list: &mut Nodes)
-    requires { row.ends_bare list.old ≡ true }
-    ensures { row.DropsLast list.old list.new }
+fn drop_last(in_loop: bool, list: &mut Nodes)
+    requires { row.ends_bare in_loop list.old ≡ true }
+    ensures { row.DropsLast in_loop list.old list.new }
 {
     let last = take_last(list);
     discard(last);
@@ -153,8 +178,8 @@ fn turn_guards(alloc: Global, list: &mut Nodes) -> Result<bool, OutOfMemory>
     ensures { IfOk result (λ changed. AllTurned list.old list.new changed) }
 {
     let mut changed = false;
-    'turning: while let Some(at) = early_at(list) {
-        turn_at(alloc, list, at)?;
+    'turning: while let Some(at) = early_at(false, list) {
+        turn_at(alloc, false, list, at)?;
         changed = true;
     }
     Ok(changed)
@@ -167,8 +192,8 @@ fn end_body(alloc: Global, options: CompressOptions, node: &mut Node) -> Result<
     if !is_listed(node) {
         return Ok(false);
     }
-    if ends_bare(node.children()) {
-        drop_last(node.children_mut());
+    if ends_bare(false, node.children()) {
+        drop_last(false, node.children_mut());
         return Ok(true);
     }
     if !options.sequences {
