@@ -26,14 +26,14 @@ use Rattle.mini_terms.specs.Reading.{is_unguarded, is_plain_part, stands}
 use Rattle.mini_rows.specs.Choices.{loosely}
 use Rattle.mini_rows.specs.Operands.{beside, told_by, tail_text, is_bits, is_int32, keeps_bits, has_room, zero_told, Row14, Row7, Row4, Row27, Row31, Row32, OperandRow}
 use Rattle.mini_rows.specs.Booleans.{digit, plus}
-use Rattle.mini_rows.specs.Operators.{deleted, with_number, Row8, Row16, Row17, Row56Left, Row56Right, OperatorRow}
+use Rattle.mini_rows.specs.Operators.{is_bitwise, deleted, with_number, Row8, Row16, Row17, Row56Left, Row56Right, OperatorRow}
 use Rattle.mini_rows.specs.Spellings.{negated_digit, numeral, text}
 use Rattle.mini_rows.proofs.OperandWeights.{lighter}
 use Rattle.mini_tree.specs.Rule.{Applied}
 use Rattle.mini_tree.proofs.Reaching.{moves_once}
 use Rattle.mini_fold.specs.FoldOperators.{operator_written}
 use Rattle.mini_fold.proofs.Operators.{operator_or, delete_row, same_there, never_there, left_there, right_there, later, masks_there}
-use Rattle.mini_fold.specs.FoldOperands.{is_redundant, logical_written, is_empty, is_string_kind, is_text, text_written, sum_text_by, joined_texts, with_text, joined_written, or_else, sum_written, is_zero, tests_bits, keeps_beside, kept_written, whole_written, negated_truth, truth_in, is_boolean_kind, is_told, right_written, left_written, either_written, equal_written, operands_written, binary_written, written_by, written, Gives, Rests}
+use Rattle.mini_fold.specs.FoldOperands.{is_redundant, logical_written, is_empty, is_string_kind, is_text, text_written, sum_text_by, joined_texts, with_text, joined_written, or_else, sum_written, is_zero, tests_bits, keeps_beside, kept_written, bits_written, whole_written, wholes_written, negated_truth, truth_in, is_boolean_kind, is_told, right_written, left_written, either_written, equal_written, operands_written, binary_written, written_by, written, Gives, Rests}
 
 or_true : (b : Bool) → b || true ≡ true
 or_true true = refl
@@ -319,37 +319,63 @@ beside_passes s false c false a = later Inequality (binary Inequality (negated_d
 
 -- ---- 31 and 32
 
-kept_row : (s : Seat) (n w : Tree) (o : BinaryOperator) (a k : Tree) → n ≡ binary o a k → kept_written s o a k ≡ Some w → Row31 s n w
-kept_row s n w o a k is e = go (number k) refl e
+kept_row : (s : Seat) (n w : Tree) (o : BinaryOperator) (r : Bool) → r || is_bitwise o ≡ true → (a k : Tree) → n ≡ beside o r a k → kept_written s o a k ≡ Some w → Row31 s n w
+kept_row s n w o r sided a k is e = go (number k) refl e
   where
     made : (x : ℤ) → number k ≡ Some x → (b : Bool) → keeps_bits o x && has_room o s ≡ b → (if b then Some (binary BitwiseOr a (digit false)) else None) ≡ Some w → Row31 s n w
     made x h true j f =
         let (known, seated) = and_parts (keeps_bits o x) (has_room o s) j in
-        record { operator = o; operand = a; number = x; known = known; seated = seated; shape = is ∙ ap (binary o a) (number_is k x h); written = sym (some_is (binary BitwiseOr a (digit false)) w f) }
+        record { operator = o; on_right = r; operand = a; number = x; known = known; sided = sided; seated = seated; shape = is ∙ ap (beside o r a) (number_is k x h); written = sym (some_is (binary BitwiseOr a (digit false)) w f) }
     made x h false j f = nothing f
 
     go : (c : Option ℤ) → number k ≡ c → (if keeps_beside o c && has_room o s then Some (binary BitwiseOr a (digit false)) else None) ≡ Some w → Row31 s n w
     go (Some x) h f = made x h (keeps_bits o x && has_room o s) refl f
     go None h f = nothing f
 
-whole_row : (n w a k : Tree) → n ≡ binary BitwiseOr a k → whole_written a k ≡ Some w → Row32 n w
-whole_row n w a k is e = go (is_zero (number k) && is_int32 a) refl e
+either_is : (c d : Option Tree) (w : Tree) → or_else c d ≡ Some w → (c ≡ Some w) ⊎ (d ≡ Some w)
+either_is (Some t) d w e = inl e
+either_is None d w e = inr e
+
+bits_row : (s : Seat) (n w : Tree) (o : BinaryOperator) → is_bitwise o ≡ true → (a b : Tree) → n ≡ binary o a b → bits_written s o a b ≡ Some w → Row31 s n w
+bits_row s n w o h a b is e = go (either_is (kept_written s o a b) (kept_written s o b a) w e)
+  where
+    go : (kept_written s o a b ≡ Some w) ⊎ (kept_written s o b a ≡ Some w) → Row31 s n w
+    go (inl f) = kept_row s n w o true refl a b is f
+    go (inr f) = kept_row s n w o false h b a is f
+
+whole_row : (n w : Tree) (r : Bool) (a k : Tree) → n ≡ beside BitwiseOr r a k → whole_written a k ≡ Some w → Row32 n w
+whole_row n w r a k is e = go (is_zero (number k) && is_int32 a) refl e
   where
     go : (b : Bool) → is_zero (number k) && is_int32 a ≡ b → (if b then Some a else None) ≡ Some w → Row32 n w
     go true j f =
         let (nought, known) = and_parts (is_zero (number k)) (is_int32 a) j in
-        record { operand = a; known = known; shape = is ∙ ap (binary BitwiseOr a) (zero_is k nought); written = sym (some_is a w f) }
+        record { on_right = r; operand = a; known = known; shape = is ∙ ap (beside BitwiseOr r a) (zero_is k nought); written = sym (some_is a w f) }
     go false j f = nothing f
 
-kept_passes : (s : Seat) (o : BinaryOperator) (x : ℤ) → keeps_bits o x ≡ true → has_room o s ≡ true → (a : Tree) → is_some (written s (binary o a (numeral x))) ≡ true
-kept_passes s ShiftLeft x e h a = later ShiftLeft (binary ShiftLeft a (numeral x)) (kept_written s ShiftLeft a (numeral x)) (there (keeps_bits ShiftLeft x && has_room ShiftLeft s) _ (both_true (keeps_bits ShiftLeft x) (has_room ShiftLeft s) e h))
-kept_passes s ShiftRight x e h a = later ShiftRight (binary ShiftRight a (numeral x)) (kept_written s ShiftRight a (numeral x)) (there (keeps_bits ShiftRight x && has_room ShiftRight s) _ (both_true (keeps_bits ShiftRight x) (has_room ShiftRight s) e h))
-kept_passes s BitwiseXor x e h a = later BitwiseXor (binary BitwiseXor a (numeral x)) (kept_written s BitwiseXor a (numeral x)) (there (keeps_bits BitwiseXor x && has_room BitwiseXor s) _ (both_true (keeps_bits BitwiseXor x) (has_room BitwiseXor s) e h))
-kept_passes s BitwiseAnd x e h a = later BitwiseAnd (binary BitwiseAnd a (numeral x)) (kept_written s BitwiseAnd a (numeral x)) (there (keeps_bits BitwiseAnd x && has_room BitwiseAnd s) _ (both_true (keeps_bits BitwiseAnd x) (has_room BitwiseAnd s) e h))
-kept_passes s o x e h a = absurd (true≢false (sym e))
+wholes_row : (n w a b : Tree) → n ≡ binary BitwiseOr a b → wholes_written a b ≡ Some w → Row32 n w
+wholes_row n w a b is e = go (either_is (whole_written a b) (whole_written b a) w e)
+  where
+    go : (whole_written a b ≡ Some w) ⊎ (whole_written b a ≡ Some w) → Row32 n w
+    go (inl f) = whole_row n w true a b is f
+    go (inr f) = whole_row n w false b a is f
 
-whole_passes : (s : Seat) (a : Tree) → is_int32 a ≡ true → is_some (written s (binary BitwiseOr a (digit false))) ≡ true
-whole_passes s a e = later BitwiseOr (binary BitwiseOr a (digit false)) (whole_written a (digit false)) (there (is_int32 a) a e)
+kept_there : (s : Seat) (o : BinaryOperator) (x : ℤ) → keeps_bits o x ≡ true → has_room o s ≡ true → (a : Tree) → is_some (kept_written s o a (numeral x)) ≡ true
+kept_there s o x e h a = there (keeps_bits o x && has_room o s) (binary BitwiseOr a (digit false)) (both_true (keeps_bits o x) (has_room o s) e h)
+
+kept_passes : (s : Seat) (o : BinaryOperator) (r : Bool) (x : ℤ) → keeps_bits o x ≡ true → r || is_bitwise o ≡ true → has_room o s ≡ true → (a : Tree) → is_some (written s (beside o r a (numeral x))) ≡ true
+kept_passes s ShiftLeft true x e t h a = later ShiftLeft (binary ShiftLeft a (numeral x)) (kept_written s ShiftLeft a (numeral x)) (kept_there s ShiftLeft x e h a)
+kept_passes s ShiftRight true x e t h a = later ShiftRight (binary ShiftRight a (numeral x)) (kept_written s ShiftRight a (numeral x)) (kept_there s ShiftRight x e h a)
+kept_passes s BitwiseXor true x e t h a = later BitwiseXor (binary BitwiseXor a (numeral x)) (bits_written s BitwiseXor a (numeral x)) (or_else_there (kept_written s BitwiseXor a (numeral x)) (kept_written s BitwiseXor (numeral x) a) (kept_there s BitwiseXor x e h a))
+kept_passes s BitwiseAnd true x e t h a = later BitwiseAnd (binary BitwiseAnd a (numeral x)) (bits_written s BitwiseAnd a (numeral x)) (or_else_there (kept_written s BitwiseAnd a (numeral x)) (kept_written s BitwiseAnd (numeral x) a) (kept_there s BitwiseAnd x e h a))
+kept_passes s BitwiseXor false x e t h a = later BitwiseXor (binary BitwiseXor (numeral x) a) (bits_written s BitwiseXor (numeral x) a) (or_else_other (kept_written s BitwiseXor (numeral x) a) (kept_written s BitwiseXor a (numeral x)) (kept_there s BitwiseXor x e h a))
+kept_passes s BitwiseAnd false x e t h a = later BitwiseAnd (binary BitwiseAnd (numeral x) a) (bits_written s BitwiseAnd (numeral x) a) (or_else_other (kept_written s BitwiseAnd (numeral x) a) (kept_written s BitwiseAnd a (numeral x)) (kept_there s BitwiseAnd x e h a))
+kept_passes s BitwiseOr r x e t h a = absurd (true≢false (sym e))
+kept_passes s o false x e t h a = absurd (true≢false (sym t))
+kept_passes s o true x e t h a = absurd (true≢false (sym e))
+
+whole_passes : (s : Seat) (r : Bool) (a : Tree) → is_int32 a ≡ true → is_some (written s (beside BitwiseOr r a (digit false))) ≡ true
+whole_passes s true a e = later BitwiseOr (binary BitwiseOr a (digit false)) (wholes_written a (digit false)) (or_else_there (whole_written a (digit false)) (whole_written (digit false) a) (there (is_int32 a) a e))
+whole_passes s false a e = later BitwiseOr (binary BitwiseOr (digit false) a) (wholes_written (digit false) a) (or_else_other (whole_written (digit false) a) (whole_written a (digit false)) (there (is_int32 a) a e))
 
 -- ---- all
 
@@ -357,11 +383,11 @@ operands_row : (s : Seat) (n w : Tree) (o : BinaryOperator) → n ≡ binary o (
 operands_row s n w Addition is e = sum_row s n w (part n 0) (part n 1) is e
 operands_row s n w Equality is e = equal_row s n w true (part n 0) (part n 1) is e
 operands_row s n w Inequality is e = equal_row s n w false (part n 0) (part n 1) is e
-operands_row s n w BitwiseOr is e = inr (inr (inr (inr (inr (inr (inr (inl (whole_row n w (part n 0) (part n 1) is e))))))))
-operands_row s n w BitwiseAnd is e = inr (inr (inr (inr (inr (inr (inl (kept_row s n w BitwiseAnd (part n 0) (part n 1) is e)))))))
-operands_row s n w BitwiseXor is e = inr (inr (inr (inr (inr (inr (inl (kept_row s n w BitwiseXor (part n 0) (part n 1) is e)))))))
-operands_row s n w ShiftLeft is e = inr (inr (inr (inr (inr (inr (inl (kept_row s n w ShiftLeft (part n 0) (part n 1) is e)))))))
-operands_row s n w ShiftRight is e = inr (inr (inr (inr (inr (inr (inl (kept_row s n w ShiftRight (part n 0) (part n 1) is e)))))))
+operands_row s n w BitwiseOr is e = inr (inr (inr (inr (inr (inr (inr (inl (wholes_row n w (part n 0) (part n 1) is e))))))))
+operands_row s n w BitwiseAnd is e = inr (inr (inr (inr (inr (inr (inl (bits_row s n w BitwiseAnd refl (part n 0) (part n 1) is e)))))))
+operands_row s n w BitwiseXor is e = inr (inr (inr (inr (inr (inr (inl (bits_row s n w BitwiseXor refl (part n 0) (part n 1) is e)))))))
+operands_row s n w ShiftLeft is e = inr (inr (inr (inr (inr (inr (inl (kept_row s n w ShiftLeft true refl (part n 0) (part n 1) is e)))))))
+operands_row s n w ShiftRight is e = inr (inr (inr (inr (inr (inr (inl (kept_row s n w ShiftRight true refl (part n 0) (part n 1) is e)))))))
 operands_row s n w o is e = nothing e
 
 -- of operators
@@ -399,8 +425,8 @@ passes s n w (inr (inr (inl r))) = ap (λ t. is_some (written s t)) r.shape ∙ 
 passes s n w (inr (inr (inr (inl r)))) = ap (λ t. is_some (written s t)) r.shape ∙ beside_passes s r.equal r.truth r.on_right r.operand
 passes s n w (inr (inr (inr (inr (inl r))))) = joined_passes s n w r
 passes s n w (inr (inr (inr (inr (inr (inl r)))))) = ap (λ t. is_some (written s t)) r.shape ∙ zero_passes_as s r.equal r.operand r.known
-passes s n w (inr (inr (inr (inr (inr (inr (inl r))))))) = ap (λ t. is_some (written s t)) r.shape ∙ kept_passes s r.operator r.number r.known r.seated r.operand
-passes s n w (inr (inr (inr (inr (inr (inr (inr (inl r)))))))) = ap (λ t. is_some (written s t)) r.shape ∙ whole_passes s r.operand r.known
+passes s n w (inr (inr (inr (inr (inr (inr (inl r))))))) = ap (λ t. is_some (written s t)) r.shape ∙ kept_passes s r.operator r.on_right r.number r.known r.sided r.seated r.operand
+passes s n w (inr (inr (inr (inr (inr (inr (inr (inl r)))))))) = ap (λ t. is_some (written s t)) r.shape ∙ whole_passes s r.on_right r.operand r.known
 passes s n w (inr (inr (inr (inr (inr (inr (inr (inr (inl r))))))))) = ap (λ t. is_some (written s t)) r.shape ∙ there (stands r.operand) (deleted r.operand) r.value
 passes s n w (inr (inr (inr (inr (inr (inr (inr (inr (inr r))))))))) = operator_passes s n w r
 

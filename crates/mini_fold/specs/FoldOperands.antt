@@ -134,9 +134,17 @@ keeps_beside o None = false
 abbrev pub kept_written : Seat → BinaryOperator → Tree → Tree → Option Tree
 kept_written s o a k = if keeps_beside o (number k) && has_room o s then Some (binary BitwiseOr a (digit false)) else None
 
+-- the same with the number on either side
+abbrev pub bits_written : Seat → BinaryOperator → Tree → Tree → Option Tree
+bits_written s o a b = or_else (kept_written s o a b) (kept_written s o b a)
+
 -- `a << 1` of `a << 1 | 0`
 abbrev pub whole_written : Tree → Tree → Option Tree
 whole_written a k = if is_zero (number k) && is_int32 a then Some a else None
+
+-- and of `0 | a << 1`
+abbrev pub wholes_written : Tree → Tree → Option Tree
+wholes_written a b = or_else (whole_written a b) (whole_written b a)
 
 -- ---- all
 
@@ -144,9 +152,9 @@ abbrev pub operands_written : Seat → BinaryOperator → Tree → Option Tree
 operands_written s Addition t = sum_written s (part t 0) (part t 1)
 operands_written s Equality t = equal_written s true (part t 0) (part t 1)
 operands_written s Inequality t = equal_written s false (part t 0) (part t 1)
-operands_written s BitwiseOr t = whole_written (part t 0) (part t 1)
-operands_written s BitwiseAnd t = kept_written s BitwiseAnd (part t 0) (part t 1)
-operands_written s BitwiseXor t = kept_written s BitwiseXor (part t 0) (part t 1)
+operands_written s BitwiseOr t = wholes_written (part t 0) (part t 1)
+operands_written s BitwiseAnd t = bits_written s BitwiseAnd (part t 0) (part t 1)
+operands_written s BitwiseXor t = bits_written s BitwiseXor (part t 0) (part t 1)
 operands_written s ShiftLeft t = kept_written s ShiftLeft (part t 0) (part t 1)
 operands_written s ShiftRight t = kept_written s ShiftRight (part t 0) (part t 1)
 operands_written s o t = None

@@ -18,7 +18,7 @@ use std::alloc::Global;
 // The units of these words.
 const UNDEFINED: [u16; 9] = [117, 110, 100, 101, 102, 105, 110, 101, 100];
 
-const NULL: [u16; 4] = [110, 117, 108, 108];
+pub const NULL: [u16; 4] = [110, 117, 108, 108];
 
 const TRUE: [u16; 4] = [116, 114, 117, 101];
 

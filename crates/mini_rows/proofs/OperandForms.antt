@@ -1,15 +1,16 @@
 -- What is told of an operand by its operator or its literal.
 use Rattle.std.proofs.Common.{◌≡◌, Bool, false, ℕ, ℤ, true, List, Option, Some, None, refl, sym, ap, ◌∙◌, true≢false}
+use Rattle.std.specs.Prelude.{codes}
 use Rattle.std.specs.Fmt.{signed_decimal}
 use Rattle.std.proofs.lemmas.Bool.{and_parts}
 use Rattle.mini_model.specs.declared.operator.BinaryOperator.{BinaryOperator}
 use Rattle.mini_model.specs.declared.operator.BinaryOperator.TheVariants as binary_operator
 use Rattle.mini_model.specs.declared.operator.UnaryOperator.{UnaryOperator}
 use Rattle.mini_model.specs.declared.operator.UnaryOperator.TheVariants as unary_operator
-use Rattle.mini_model.specs.Tree.{Tree, unary}
+use Rattle.mini_model.specs.Tree.{Tree, unary, null_literal}
 use Rattle.mini_node.specs.Children.{part}
-use Rattle.mini_node.specs.Kinds.{unary_operator as its_unary_operator, binary_operator as its_binary_operator, number, string}
-use Rattle.mini_node.specs.Made.{unary_is, binary_is, number_is, string_is}
+use Rattle.mini_node.specs.Kinds.{unary_operator as its_unary_operator, binary_operator as its_binary_operator, number, string, is_null}
+use Rattle.mini_node.specs.Made.{unary_is, binary_is, number_is, string_is, null_is}
 use Rattle.mini_terms.specs.declared.kinds.Kind.{Kind}
 use Rattle.mini_terms.specs.declared.kinds.Kind.TheVariants.{Number as IsNumber}
 use Rattle.mini_terms.specs.Kind.{is_number, kind}
@@ -17,19 +18,21 @@ use Rattle.mini_terms.specs.Reading.{is_plain_part}
 use Rattle.mini_rows.specs.Operands.{tail_by, tail_text, makes_bits, is_bits, makes_int32, is_int32}
 use Rattle.mini_rows.specs.Spellings.{binary, numeral, text}
 
--- a text, or a number
+-- a text, a number or `null`
 
 pub data Tail (k : Tree) (t : List ℕ) : Type 0 where
   of_text : k ≡ text t → Tail k t
   of_number : (n : ℤ) → k ≡ numeral n → signed_decimal n ≡ t → Tail k t
+  of_null : k ≡ null_literal → codes "null" ≡ t → Tail k t
 
 pub tail_form : (k : Tree) (t : List ℕ) → tail_text k ≡ Some t → Tail k t
-tail_form k t e = go (string k) (number k) refl refl e
+tail_form k t e = go (string k) (number k) (is_null k) refl refl refl e
   where
-    go : (c : Option (List ℕ)) (d : Option ℤ) → string k ≡ c → number k ≡ d → tail_by c d ≡ Some t → Tail k t
-    go (Some r) d h g e = let same : r ≡ t = cc e in of_text (string_is k r h ∙ ap text same)
-    go None (Some n) h g e = let same : signed_decimal n ≡ t = cc e in of_number n (number_is k n g) same
-    go None None h g e = cc e
+    go : (c : Option (List ℕ)) (d : Option ℤ) (b : Bool) → string k ≡ c → number k ≡ d → is_null k ≡ b → tail_by c d b ≡ Some t → Tail k t
+    go (Some r) d b h g j e = let same : r ≡ t = cc e in of_text (string_is k r h ∙ ap text same)
+    go None (Some n) b h g j e = let same : signed_decimal n ≡ t = cc e in of_number n (number_is k n g) same
+    go None None true h g j e = let same : codes "null" ≡ t = cc e in of_null (null_is k j) same
+    go None None false h g j e = cc e
 
 -- whole bits
 

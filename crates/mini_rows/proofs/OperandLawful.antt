@@ -1,6 +1,7 @@
 -- What a row on operands whose value is known writes keeps all that a program has to keep: it is built anew of the same parts.
-use Rattle.std.proofs.Common.{◌≡◌, ℕ, Bool, true, false, List, [], ◌++◌, refl, sym, ap, ◌∙◌, subst, inl, inr, true≢false}
-use Rattle.std.specs.Prelude.{◌&&◌, pos}
+use Rattle.std.proofs.Common.{◌≡◌, ℕ, ℤ, Bool, true, false, List, [], ◌++◌, refl, sym, ap, ◌∙◌, subst, inl, inr, true≢false}
+use Rattle.std.specs.Prelude.{◌&&◌, codes, pos}
+use Rattle.std.specs.Char.Utf16.{utf16_chars}
 use Rattle.mini_model.specs.declared.operator.BinaryOperator.{BinaryOperator}
 use Rattle.mini_model.specs.declared.operator.BinaryOperator.TheVariants.{Addition, BitwiseOr}
 use Rattle.mini_model.specs.declared.operator.UnaryOperator.TheVariants.{LogicalNot, BitwiseNot}
@@ -23,17 +24,21 @@ use Rattle.mini_rows.specs.Arranged.{KeptAt}
 use Rattle.mini_rows.specs.Booleans.{digit}
 use Rattle.mini_rows.specs.Choices.{loosely}
 use Rattle.mini_rows.specs.Operands.{beside, told_by, zero_told, Row14, OperandRow, OperandContracts}
-use Rattle.mini_rows.specs.Sketches.{Number, String, Unary, Binary, Logical, Sketch, part, under, end, ◌▹◌}
+use Rattle.mini_rows.specs.Sketches.{Null, Number, String, Unary, Binary, Logical, Sketch, part, under, end, ◌▹◌}
 use Rattle.mini_rows.specs.Spellings.{binary, negated_digit, numeral, text}
 use Rattle.mini_rows.proofs.ArrangedExpressions.{expressions_arranged, expressions_arranged_freely}
 use Rattle.mini_rows.proofs.ArrangedLawful.{kept_is_lawful}
 use Rattle.mini_rows.proofs.ConstantLawful.{plain_fields, binary_at}
 use Rattle.mini_rows.proofs.FoldLawful.{vanishes, first_dropped, operands, expression_slot, no_number}
 use Rattle.mini_rows.proofs.FoldWeights.{not_a_number}
-use Rattle.mini_rows.proofs.OperandForms.{Tail, of_text, of_number, tail_form, Int32, inverts, operates, int32_form}
+use Rattle.mini_rows.proofs.OperandForms.{Tail, of_text, of_number, of_null, tail_form, Int32, inverts, operates, int32_form}
 use Rattle.mini_rows.proofs.OperandMeaning.{operands_same}
 use Rattle.mini_rows.proofs.OperatorLawful.{operator_kept, operator_stood, operator_asked}
 use Rattle.mini_rows.proofs.Surrogates.{is_paired_joined, numeral_paired}
+
+null_paired : is_paired (codes "null") ≡ true
+unfolding utf16_chars
+null_paired = refl
 
 -- ---- the same parts
 
@@ -62,6 +67,14 @@ told_kept false false a q n w e f = expressions_arranged (record { trees = a ▸
 told_kept true false a q n w e f = expressions_arranged (record { trees = a ▸ none; lists = [] }) (of_two (loosely true) true (a_boolean false)) (under (Unary LogicalNot) (part 0 ▹ end)) refl q n w e f
 told_kept false true a q n w e f = expressions_arranged (record { trees = a ▸ none; lists = [] }) (of_two (loosely false) true (a_boolean true)) (under (Unary LogicalNot) (part 0 ▹ end)) refl q n w e f
 
+kept_bits_kept : (o : BinaryOperator) (b : Bool) (x : ℤ) (a : Tree) (q : Seat) (n w : Tree) → n ≡ beside o b a (numeral x) → w ≡ binary BitwiseOr a (digit false) → KeptAt (Expr q) n w
+kept_bits_kept o true x a q n w e f = expressions_arranged (record { trees = a ▸ none; lists = [] }) (of_two o true (under (Number x) end)) (of_two BitwiseOr true (a_digit false)) refl q n w e f
+kept_bits_kept o false x a q n w e f = expressions_arranged (record { trees = a ▸ none; lists = [] }) (of_two o false (under (Number x) end)) (of_two BitwiseOr true (a_digit false)) refl q n w e f
+
+whole_kept : (b : Bool) (a : Tree) (q : Seat) (n w : Tree) → n ≡ beside BitwiseOr b a (digit false) → w ≡ a → KeptAt (Expr q) n w
+whole_kept true a q n w e f = expressions_arranged (record { trees = a ▸ none; lists = [] }) (of_two BitwiseOr true (a_digit false)) (part 0) refl q n w e f
+whole_kept false a q n w e f = expressions_arranged (record { trees = a ▸ none; lists = [] }) (of_two BitwiseOr false (a_digit false)) (part 0) refl q n w e f
+
 counted_kept : (o : BinaryOperator) (b c : Bool) (a : Tree) (q : Seat) (n w : Tree) → n ≡ beside o b a (negated_digit c) → w ≡ beside o b a (digit c) → KeptAt (Expr q) n w
 counted_kept o true true a q n w e f = expressions_arranged (record { trees = a ▸ none; lists = [] }) (of_two o true (a_boolean true)) (of_two o true (a_digit true)) refl q n w e f
 counted_kept o true false a q n w e f = expressions_arranged (record { trees = a ▸ none; lists = [] }) (of_two o true (a_boolean false)) (of_two o true (a_digit false)) refl q n w e f
@@ -71,6 +84,7 @@ counted_kept o false false a q n w e f = expressions_arranged (record { trees = 
 joined_kept : (a : Tree) (s : List ℕ) (k : Tree) (t : List ℕ) → Tail k t → (q : Seat) (n w : Tree) → n ≡ binary Addition (binary Addition a (text s)) k → w ≡ binary Addition a (text (s ++ t)) → KeptAt (Expr q) n w
 joined_kept a s k t (of_text is) q n w e f = expressions_arranged (record { trees = a ▸ none; lists = [] }) (under (Binary Addition) (under (Binary Addition) (part 0 ▹ under (String s) end ▹ end) ▹ under (String t) end ▹ end)) (under (Binary Addition) (part 0 ▹ under (String (s ++ t)) end ▹ end)) refl q n w (e ∙ ap (binary Addition (binary Addition a (text s))) is) f
 joined_kept a s k t (of_number m is same) q n w e f = expressions_arranged (record { trees = a ▸ none; lists = [] }) (under (Binary Addition) (under (Binary Addition) (part 0 ▹ under (String s) end ▹ end) ▹ under (Number m) end ▹ end)) (under (Binary Addition) (part 0 ▹ under (String (s ++ t)) end ▹ end)) refl q n w (e ∙ ap (binary Addition (binary Addition a (text s))) is) f
+joined_kept a s k t (of_null is same) q n w e f = expressions_arranged (record { trees = a ▸ none; lists = [] }) (under (Binary Addition) (under (Binary Addition) (part 0 ▹ under (String s) end ▹ end) ▹ under Null end ▹ end)) (under (Binary Addition) (part 0 ▹ under (String (s ++ t)) end ▹ end)) refl q n w (e ∙ ap (binary Addition (binary Addition a (text s))) is) f
 
 zero_kept : (equal : Bool) (a : Tree) (q : Seat) (n w : Tree) → n ≡ binary (loosely equal) a (digit false) → w ≡ zero_told equal a → KeptAt (Expr q) n w
 zero_kept true a q n w e f = expressions_arranged (record { trees = a ▸ none; lists = [] }) (of_two (loosely true) true (a_digit false)) (under (Unary LogicalNot) (part 0 ▹ end)) refl q n w e f
@@ -83,8 +97,8 @@ kept (Expr q) n w (inr (inr (inl r))) = told_kept r.equal r.truth r.operand q n 
 kept (Expr q) n w (inr (inr (inr (inl r)))) = counted_kept (loosely r.equal) r.on_right r.truth r.operand q n w r.shape r.written
 kept (Expr q) n w (inr (inr (inr (inr (inl r))))) = joined_kept r.left r.before r.tail r.after (tail_form r.tail r.after r.known) q n w r.shape r.written
 kept (Expr q) n w (inr (inr (inr (inr (inr (inl r)))))) = zero_kept r.equal r.operand q n w r.shape r.written
-kept (Expr q) n w (inr (inr (inr (inr (inr (inr (inl r))))))) = expressions_arranged (record { trees = r.operand ▸ none; lists = [] }) (of_two r.operator true (under (Number r.number) end)) (of_two BitwiseOr true (a_digit false)) refl q n w r.shape r.written
-kept (Expr q) n w (inr (inr (inr (inr (inr (inr (inr (inl r)))))))) = expressions_arranged (record { trees = r.operand ▸ none; lists = [] }) (of_two BitwiseOr true (a_digit false)) (part 0) refl q n w r.shape r.written
+kept (Expr q) n w (inr (inr (inr (inr (inr (inr (inl r))))))) = kept_bits_kept r.operator r.on_right r.number r.operand q n w r.shape r.written
+kept (Expr q) n w (inr (inr (inr (inr (inr (inr (inr (inl r)))))))) = whole_kept r.on_right r.operand q n w r.shape r.written
 kept (Expr q) n w (inr (inr (inr (inr (inr (inr (inr (inr r)))))))) = operator_kept q n w r
 kept p n w r = absurd r
 
@@ -123,6 +137,7 @@ module _ (strict : Bool) (s : Slot) where
   tail_paired : (k : Tree) (t : List ℕ) → Tail k t → Fits k → is_paired t ≡ true
   tail_paired k t (of_text is) e = text_paired t (subst Fits is e)
   tail_paired k t (of_number m is same) e = subst (λ r. is_paired r ≡ true) same (numeral_paired m)
+  tail_paired k t (of_null is same) e = subst (λ r. is_paired r ≡ true) same null_paired
 
   zero_fits : (equal : Bool) (a : Tree) → Fits a → Fits (zero_told equal a)
   zero_fits true a e = told_fits false a e
@@ -148,10 +163,10 @@ module _ (strict : Bool) (s : Slot) where
       let (within, (left, before)) = binary_at strict Addition r.left (text r.before) expression sum in
       (takes, subst Fits (sym r.written) (two_fit strict r.left (text (r.before ++ r.after)) left (text_fits (r.before ++ r.after) (is_paired_joined r.before r.after (text_paired r.before before) (tail_paired r.tail r.after (tail_form r.tail r.after r.known) tail)))))
   stood (Expr q) n w (inr (inr (inr (inr (inr (inr (inl r))))))) e =
-      let (takes, fit) = beside_at r.operator true r.operand (numeral r.number) (subst (λ t. fits strict s t ≡ true) r.shape e) in
+      let (takes, fit) = beside_at r.operator r.on_right r.operand (numeral r.number) (subst (λ t. fits strict s t ≡ true) r.shape e) in
       (takes, subst Fits (sym r.written) (beside_fits BitwiseOr true r.operand (digit false) fit (digit_fits false)))
   stood (Expr q) n w (inr (inr (inr (inr (inr (inr (inr (inl r)))))))) e =
-      let (takes, fit) = beside_at BitwiseOr true r.operand (digit false) (subst (λ t. fits strict s t ≡ true) r.shape e) in
+      let (takes, fit) = beside_at BitwiseOr r.on_right r.operand (digit false) (subst (λ t. fits strict s t ≡ true) r.shape e) in
       (takes, subst Fits (sym r.written) fit)
   stood (Expr q) n w (inr (inr (inr (inr (inr (inl r)))))) e =
       let (takes, fit) = beside_at (loosely r.equal) true r.operand (digit false) (subst (λ t. fits strict s t ≡ true) r.shape e) in
@@ -255,6 +270,18 @@ int32_asked : (q : Seat) (t k : Tree) → Int32 t → AskedAlike (Expr q) (binar
 int32_asked q t k (inverts is) = subst (AskedAlike (Expr q) (binary BitwiseOr t k)) (sym is) (inverse_asked q t k (its_part t 0))
 int32_asked q t k (operates o h is) = subst (AskedAlike (Expr q) (binary BitwiseOr t k)) (sym is) (joined_asked q BitwiseOr o t k (its_part t 0) (its_part t 1))
 
+int32_left_asked : (q : Seat) (t k : Tree) → Int32 t → AskedAlike (Expr q) (binary BitwiseOr k t) t
+int32_left_asked q t k (inverts is) = subst (AskedAlike (Expr q) (binary BitwiseOr k t)) (sym is) (inverse_asked q k t (its_part t 0))
+int32_left_asked q t k (operates o h is) = subst (AskedAlike (Expr q) (binary BitwiseOr k t)) (sym is) (joined_asked q BitwiseOr o k t (its_part t 0) (its_part t 1))
+
+whole_asked : (q : Seat) (b : Bool) (t : Tree) → Int32 t → AskedAlike (Expr q) (beside BitwiseOr b t (digit false)) t
+whole_asked q true t h = int32_asked q t (digit false) h
+whole_asked q false t h = int32_left_asked q t (digit false) h
+
+bits_asked : (q : Seat) (o : BinaryOperator) (b : Bool) (a k : Tree) → AskedAlike (Expr q) (beside o b a k) (binary BitwiseOr a (digit false))
+bits_asked q o true a k = joined_asked q o BitwiseOr a k a (digit false)
+bits_asked q o false a k = joined_asked q o BitwiseOr k a a (digit false)
+
 asked_by : (q : Seat) (n w a b : Tree) → n ≡ a → w ≡ b → AskedAlike (Expr q) a b → AskedAlike (Expr q) n w
 asked_by q n w a b e f h = subst (λ t. AskedAlike (Expr q) t w) (sym e) (subst (AskedAlike (Expr q) a) (sym f) h)
 
@@ -264,8 +291,8 @@ row_asked (Expr q) n w (inr (inl r)) = asked_by q n w _ _ r.shape r.written (bes
 row_asked (Expr q) n w (inr (inr (inl r))) = asked_by q n w _ _ r.shape r.written (beside_asked q (loosely r.equal) true r.operand (negated_digit r.truth) (told_by (same_boolean r.equal r.truth) r.operand) r.stays)
 row_asked (Expr q) n w (inr (inr (inr (inl r)))) = asked_by q n w _ _ r.shape r.written (both_asked q (loosely r.equal) r.on_right r.operand (negated_digit r.truth) (digit r.truth))
 row_asked (Expr q) n w (inr (inr (inr (inr (inl r))))) = asked_by q n w _ _ r.shape r.written (joined_asked q Addition Addition (binary Addition r.left (text r.before)) r.tail r.left (text (r.before ++ r.after)))
-row_asked (Expr q) n w (inr (inr (inr (inr (inr (inr (inl r))))))) = asked_by q n w _ _ r.shape r.written (joined_asked q r.operator BitwiseOr r.operand (numeral r.number) r.operand (digit false))
-row_asked (Expr q) n w (inr (inr (inr (inr (inr (inr (inr (inl r)))))))) = asked_by q n w _ _ r.shape r.written (int32_asked q r.operand (digit false) (int32_form r.operand r.known))
+row_asked (Expr q) n w (inr (inr (inr (inr (inr (inr (inl r))))))) = asked_by q n w _ _ r.shape r.written (bits_asked q r.operator r.on_right r.operand (numeral r.number))
+row_asked (Expr q) n w (inr (inr (inr (inr (inr (inr (inr (inl r)))))))) = asked_by q n w _ _ r.shape r.written (whole_asked q r.on_right r.operand (int32_form r.operand r.known))
 row_asked (Expr q) n w (inr (inr (inr (inr (inr (inl r)))))) = asked_by q n w _ _ r.shape r.written (zero_asked q (loosely r.equal) r.equal r.operand (digit false))
 row_asked (Expr q) n w (inr (inr (inr (inr (inr (inr (inr (inr r)))))))) = operator_asked q n w r
 row_asked p n w r = absurd r

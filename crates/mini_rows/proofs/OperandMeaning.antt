@@ -1,6 +1,6 @@
 -- What a row on operands whose value is known writes means the same.
 use Rattle.std.proofs.Common.{◌≡◌, ℕ, ℤ, suc, Bool, true, false, List, [], ◌∷◌, ◌++◌, Option, Some, None, append_assoc, refl, sym, ap, subst, ◌∙◌, inl, inr, true≢false}
-use Rattle.std.specs.Prelude.{not, pos, negsuc, nat_eq, ◌-◌}
+use Rattle.std.specs.Prelude.{not, ◌||◌, codes, pos, negsuc, nat_eq, ◌-◌}
 use Rattle.std.specs.Fmt.{signed_decimal}
 use Rattle.std.proofs.lemmas.List.{append-nil}
 use Rattle.mini_model.specs.declared.operator.BinaryOperator.{BinaryOperator}
@@ -10,7 +10,7 @@ use Rattle.mini_model.specs.declared.place.Position.{Position}
 use Rattle.mini_model.specs.declared.place.Position.TheVariants.{Expr}
 use Rattle.mini_model.specs.declared.seat.Seat.{Seat}
 use Rattle.mini_model.specs.declared.shape.Shape.TheVariants as shape
-use Rattle.mini_model.specs.Tree.{Tree, none, ◌▸◌, unary, logical, negation}
+use Rattle.mini_model.specs.Tree.{Tree, none, ◌▸◌, unary, logical, negation, null_literal}
 use Rattle.mini_model.specs.Position.{right_operand_seat, child_position}
 use Rattle.mini_node.specs.Children.{part}
 use Rattle.mini_model.specs.Rewriting.{Step, here, inside, first, later}
@@ -47,13 +47,14 @@ use Rattle.mini_rows.specs.Operands.{beside, told_by, is_bits, keeps_bits, zero_
 use Rattle.mini_rows.specs.Spellings.{binary, negated_digit, numeral, text}
 use Rattle.mini_rows.proofs.BooleanMeaning.{then_same}
 use Rattle.mini_rows.proofs.ChoiceMeaning.{rotated_same}
-use Rattle.mini_rows.proofs.ChoiceRuns.{value, binary_value, binary_names, sides, raise_free, primitive_free, bind_free, numeric_free, made_free}
+use Rattle.mini_rows.proofs.ChoiceRuns.{value, null_value, binary_value, binary_names, sides, raise_free, primitive_free, bind_free, numeric_free, made_free}
 use Rattle.mini_rows.proofs.BitNumbers.{whole, IsWhole, keeps_is, signed_whole, operated_whole}
 use Rattle.mini_rows.proofs.ConversionRuns.{after_boolean}
 use Rattle.mini_rows.proofs.FoldMeaning.{plain_of, value_of, plain_read, passed_same, passed_read}
 use Rattle.mini_rows.proofs.OperandForms.{Tail, of_text, tail_form, bits_number, bits_plain, is_int32_operator, Int32, inverts, operates, int32_form, int32_plain}
 use Rattle.mini_rows.proofs.OperandForms as form
-use Rattle.mini_rows.proofs.OperatorMeaning.{operator_same, operator_read}
+use Rattle.mini_rows.specs.Operators.{is_bitwise}
+use Rattle.mini_rows.proofs.OperatorMeaning.{operator_same, operator_read, turned_alike}
 use Rattle.mini_rows.proofs.SpellAlike.{SameTree, Alike, bind_alike, choose_alike}
 use Rattle.mini_rows.proofs.SequenceMeaning.{same_value}
 use Rattle.mini_rows.proofs.SpellMeaning.{tree_same, same_by}
@@ -328,6 +329,10 @@ tail_value a s k t (form.of_number m is same) e z =
     ap (λ x. value e (binary Addition (sum_of a s) x) z) is
     ∙ joined_value e a s (signed_decimal m) (numeral m) (Number m) (number_value m e) (λ r y. refl) z
     ∙ ap (λ r. value e (sum_of a (s ++ r)) z) same
+tail_value a s k t (form.of_null is same) e z =
+    ap (λ x. value e (binary Addition (sum_of a s) x) z) is
+    ∙ joined_value e a s (codes "null") null_literal Null (null_value e) (λ r y. refl) z
+    ∙ ap (λ r. value e (sum_of a (s ++ r)) z) same
 
 joined_alike : (a : Tree) (s : List ℕ) (k : Tree) (t : List ℕ) → Tail k t → SameTree (binary Addition (sum_of a s) k) (sum_of a (s ++ t))
 joined_alike a s k t h = same_value _ _ refl refl refl (λ e z. tail_value a s k t h e z)
@@ -489,6 +494,19 @@ int32_stands t (operates o h is) = ap stands is
 int32_alike : (t : Tree) → Int32 t → SameTree (binary BitwiseOr t (digit false)) t
 int32_alike t h = same_value _ _ refl (int32_stands t h) (sym (plain_read t (int32_plain t h))) (int32_value t h)
 
+-- ---- 31 and 32 with the number on the left
+
+same_after : (n m w : Tree) → SameTree n m → SameTree m w → SameTree n w
+same_after n m w h k = record { by = λ e q r s. h.by e q r s ∙ k.by e q r s; read = h.read ∙ k.read }
+
+kept_beside : (o : BinaryOperator) (b : Bool) → b || is_bitwise o ≡ true → (x : ℤ) → keeps_bits o x ≡ true → (a : Tree) → SameTree (beside o b a (numeral x)) (binary BitwiseOr a (digit false))
+kept_beside o true t x h a = kept_alike o x h a
+kept_beside o false t x h a = same_after (binary o (numeral x) a) (binary o a (numeral x)) (binary BitwiseOr a (digit false)) (turned_alike o t a x) (kept_alike o x h a)
+
+int32_beside : (b : Bool) (t : Tree) → Int32 t → SameTree (beside BitwiseOr b t (digit false)) t
+int32_beside true t h = int32_alike t h
+int32_beside false t h = same_after (binary BitwiseOr (digit false) t) (binary BitwiseOr t (digit false)) t (turned_alike BitwiseOr refl t (pos 0)) (int32_alike t h)
+
 -- ---- all
 
 row_same : (p : Position) (n w : Tree) → OperandRow p n w → SameAt p n w
@@ -498,8 +516,8 @@ row_same (Expr s) n w (inr (inr (inl r))) = equal_same s n w r
 row_same (Expr s) n w (inr (inr (inr (inl r)))) = tree_same s n w (same_by n w _ _ r.shape r.written (counted_alike r.equal r.truth r.on_right r.operand))
 row_same (Expr s) n w (inr (inr (inr (inr (inl r))))) = tree_same s n w (same_by n w _ _ r.shape r.written (joined_alike r.left r.before r.tail r.after (tail_form r.tail r.after r.known)))
 row_same (Expr s) n w (inr (inr (inr (inr (inr (inl r)))))) = tree_same s n w (same_by n w _ _ r.shape r.written (zero_alike r.equal r.operand r.known))
-row_same (Expr s) n w (inr (inr (inr (inr (inr (inr (inl r))))))) = tree_same s n w (same_by n w _ _ r.shape r.written (kept_alike r.operator r.number r.known r.operand))
-row_same (Expr s) n w (inr (inr (inr (inr (inr (inr (inr (inl r)))))))) = tree_same s n w (same_by n w _ _ r.shape r.written (int32_alike r.operand (int32_form r.operand r.known)))
+row_same (Expr s) n w (inr (inr (inr (inr (inr (inr (inl r))))))) = tree_same s n w (same_by n w _ _ r.shape r.written (kept_beside r.operator r.on_right r.sided r.number r.known r.operand))
+row_same (Expr s) n w (inr (inr (inr (inr (inr (inr (inr (inl r)))))))) = tree_same s n w (same_by n w _ _ r.shape r.written (int32_beside r.on_right r.operand (int32_form r.operand r.known)))
 row_same (Expr s) n w (inr (inr (inr (inr (inr (inr (inr (inr r)))))))) = operator_same s n w r
 row_same p n w r = absurd r
 
@@ -514,8 +532,8 @@ row_read (Expr s) n w (inr (inr (inl r))) = let t : Tree = told_by (same_boolean
 row_read (Expr s) n w (inr (inr (inr (inl r)))) = ap summary r.shape ∙ (counted_alike r.equal r.truth r.on_right r.operand).read ∙ sym (ap summary r.written)
 row_read (Expr s) n w (inr (inr (inr (inr (inl r))))) = ap summary r.shape ∙ (joined_alike r.left r.before r.tail r.after (tail_form r.tail r.after r.known)).read ∙ sym (ap summary r.written)
 row_read (Expr s) n w (inr (inr (inr (inr (inr (inl r)))))) = ap summary r.shape ∙ (zero_alike r.equal r.operand r.known).read ∙ sym (ap summary r.written)
-row_read (Expr s) n w (inr (inr (inr (inr (inr (inr (inl r))))))) = ap summary r.shape ∙ (kept_alike r.operator r.number r.known r.operand).read ∙ sym (ap summary r.written)
-row_read (Expr s) n w (inr (inr (inr (inr (inr (inr (inr (inl r)))))))) = ap summary r.shape ∙ (int32_alike r.operand (int32_form r.operand r.known)).read ∙ sym (ap summary r.written)
+row_read (Expr s) n w (inr (inr (inr (inr (inr (inr (inl r))))))) = ap summary r.shape ∙ (kept_beside r.operator r.on_right r.sided r.number r.known r.operand).read ∙ sym (ap summary r.written)
+row_read (Expr s) n w (inr (inr (inr (inr (inr (inr (inr (inl r)))))))) = ap summary r.shape ∙ (int32_beside r.on_right r.operand (int32_form r.operand r.known)).read ∙ sym (ap summary r.written)
 row_read (Expr s) n w (inr (inr (inr (inr (inr (inr (inr (inr r)))))))) = operator_read s n w r
 row_read p n w r = absurd r
 

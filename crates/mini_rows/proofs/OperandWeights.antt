@@ -16,8 +16,8 @@ use Rattle.mini_model.specs.declared.seat.Seat.{Seat}
 use Rattle.mini_model.specs.declared.shape.Shape.{Shape}
 use Rattle.mini_model.specs.declared.shape.Shape.TheVariants as shape
 use Rattle.mini_model.specs.Tree.{Tree, node, none, ◌▸◌, logical, negation}
-use Rattle.mini_model.specs.Position.{left_operand_seat, right_operand_seat, binary_operand_seat, not_operand_seat, is_and_or}
-use Rattle.mini_model.specs.Weight.{Outline, outline, outlines, weight, mixes, is_chain, is_call, place_weight}
+use Rattle.mini_model.specs.Position.{left_operand_seat, right_operand_seat, binary_operand_seat, seat_of_level, not_operand_seat, is_and_or}
+use Rattle.mini_model.specs.Weight.{Outline, outline, outlines, weight, mixes, is_awkward, is_chain, is_call, place_weight}
 use Rattle.mini_laws.specs.Operators.{same_boolean}
 use Rattle.mini_laws.specs.Weights.{Lightens, counts_items}
 use Rattle.mini_laws.proofs.Seats.{placed}
@@ -27,15 +27,16 @@ use Rattle.mini_terms.specs.Parts.{weighs}
 use Rattle.mini_terms.specs.Reading.{is_plain_part}
 use Rattle.mini_rows.specs.Booleans.{digit}
 use Rattle.mini_rows.specs.Choices.{loosely}
+use Rattle.mini_rows.specs.Operators.{is_bitwise}
 use Rattle.mini_rows.specs.Operands.{beside, told_by, keeps_bits, has_room, zero_told, OperandRow, OperandContracts, OperandsLighter}
 use Rattle.mini_rows.specs.Spellings.{binary, negated_digit, numeral, text}
 use Rattle.mini_rows.proofs.BooleanWeights.{digit_falls}
 use Rattle.mini_rows.proofs.FoldMeaning.{plain_of}
 use Rattle.mini_rows.proofs.FoldWeights.{two, moved, there, no_choice}
-use Rattle.mini_rows.proofs.OperandForms.{Tail, of_text, of_number, tail_form, Bits, inverted, masked, differing, joined, bits_form, bits_plain, Int32, inverts, operates, int32_form, int32_plain}
+use Rattle.mini_rows.proofs.OperandForms.{Tail, of_text, of_number, of_null, tail_form, Bits, inverted, masked, differing, joined, bits_form, bits_plain, Int32, inverts, operates, int32_form, int32_plain}
 use Rattle.mini_rows.proofs.BitNumbers.{same_is}
 use Rattle.mini_rows.proofs.OperatorWeights.{zero_mark, pair_at_most, pairs, rest_of, operator_lighter, operator_outline}
-use Rattle.mini_rows.proofs.SpellWeights.{falls_by, inside}
+use Rattle.mini_rows.proofs.SpellWeights.{falls_by, inside, mark_at_most}
 
 -- 14: an operand and its operator go
 
@@ -98,11 +99,12 @@ counted_falls true c false s a = omega (arith, digit_falls (binary_operand_seat 
 counted_falls false c true s a = omega (arith, digit_falls (binary_operand_seat Inequality 1) c)
 counted_falls false c false s a = omega (arith, digit_falls (binary_operand_seat Inequality 0) c)
 
--- 4: an operator goes, and the quotes of a text, if it is one
+-- 4: an operator goes, and the quotes of a text, if it is one; `null` weighs as much as its text
 
 joined_falls : (seat : Seat) (a : Tree) (s : List ℕ) (k : Tree) (t : List ℕ) → Tail k t → weight (Expr seat) (binary Addition a (text (s ++ t))) < weight (Expr seat) (binary Addition (binary Addition a (text s)) k)
 joined_falls seat a s k t (of_text is) = subst (λ x. weight (Expr seat) (binary Addition a (text (s ++ t))) < weight (Expr seat) (binary Addition (binary Addition a (text s)) x)) (sym is) (omega (arith, length-append s t))
 joined_falls seat a s k t (of_number m is same) = subst (λ x. weight (Expr seat) (binary Addition a (text (s ++ t))) < weight (Expr seat) (binary Addition (binary Addition a (text s)) x)) (sym is) (omega (arith, length-append s t, ap length same))
+joined_falls seat a s k t (of_null is same) = subst (λ x. weight (Expr seat) (binary Addition a (text (s ++ t))) < weight (Expr seat) (binary Addition (binary Addition a (text s)) x)) (sym is) (omega (arith, length-append s t, ap length same))
 
 -- 27: what is looked at has parentheses on the left of an equality where it has them under a `!`
 
@@ -169,6 +171,26 @@ kept_falls BitwiseXor x e s h a = subst (λ y. weight (Expr s) (binary BitwiseOr
 kept_falls BitwiseAnd x e s h a = subst (λ y. weight (Expr s) (binary BitwiseOr a (digit false)) < weight (Expr s) (binary BitwiseAnd a (numeral y))) (sym (same_is x 4_294_967_295 e)) (omega (arith, left_moved BitwiseAnd x e a, pair_at_most (nat_lt 5 s.level || rest_of s), zero_mark s.eq_left s.cond_test s.lifted, nought_text, mask_text))
 kept_falls o x e s h a = absurd (true≢false (sym e))
 
+-- with the number on the left: what stands on the right is no list of expressions without parentheses, and has a mark besides on the left
+right_marks : (k : ℕ) → 5 ≤ k → (h : Shape) (os : List Outline) → place_weight (Expr or_seat) h os ≤ place_weight (Expr (seat_of_level k)) h os + 1
+right_marks k l h os = omega (arith, inside 5 k l h (rest_inside h), mark_at_most (is_awkward or_seat h os))
+
+right_moved : (o : BinaryOperator) (x : ℤ) → keeps_bits o x ≡ true → is_bitwise o ≡ true → (a : Tree) → weight (Expr or_seat) a ≤ weight (Expr (binary_operand_seat o 1)) a + 1
+right_moved BitwiseXor x e t a = placed 1 or_seat (binary_operand_seat BitwiseXor 1) refl (right_marks 7 (omega arith)) a
+right_moved BitwiseAnd x e t a = placed 1 or_seat (binary_operand_seat BitwiseAnd 1) refl (right_marks 8 (omega arith)) a
+right_moved BitwiseOr x e t a = absurd (true≢false (sym e))
+right_moved o x e t a = absurd (true≢false (sym t))
+
+turned_falls : (o : BinaryOperator) (x : ℤ) → keeps_bits o x ≡ true → is_bitwise o ≡ true → (s : Seat) → has_room o s ≡ true → (a : Tree) → weight (Expr s) (binary BitwiseOr a (digit false)) < weight (Expr s) (binary o (numeral x) a)
+turned_falls BitwiseXor x e t s h a = subst (λ y. weight (Expr s) (binary BitwiseOr a (digit false)) < weight (Expr s) (binary BitwiseXor (numeral y) a)) (sym (same_is x 0 e)) (omega (arith, right_moved BitwiseXor x e t a, room 6 s h (rest_of s), zero_mark s.eq_left s.cond_test s.lifted))
+turned_falls BitwiseAnd x e t s h a = subst (λ y. weight (Expr s) (binary BitwiseOr a (digit false)) < weight (Expr s) (binary BitwiseAnd (numeral y) a)) (sym (same_is x 4_294_967_295 e)) (omega (arith, right_moved BitwiseAnd x e t a, pair_at_most (nat_lt 5 s.level || rest_of s), zero_mark s.eq_left s.cond_test s.lifted, nought_text, mask_text))
+turned_falls BitwiseOr x e t s h a = absurd (true≢false (sym e))
+turned_falls o x e t s h a = absurd (true≢false (sym t))
+
+beside_falls : (o : BinaryOperator) (b : Bool) (x : ℤ) → keeps_bits o x ≡ true → b || is_bitwise o ≡ true → (s : Seat) → has_room o s ≡ true → (a : Tree) → weight (Expr s) (binary BitwiseOr a (digit false)) < weight (Expr s) (beside o b a (numeral x))
+beside_falls o true x e t s h a = kept_falls o x e s h a
+beside_falls o false x e t s h a = turned_falls o x e t s h a
+
 -- 32: what stays has parentheses only where `|` has
 
 int32_falls : (s : Seat) (t : Tree) → Int32 t → weight (Expr s) t < weight (Expr s) (binary BitwiseOr t (digit false))
@@ -180,6 +202,19 @@ int32_falls s t (operates ShiftLeft h is) = subst (λ x. weight (Expr s) x < wei
 int32_falls s t (operates ShiftRight h is) = subst (λ x. weight (Expr s) x < weight (Expr s) (binary BitwiseOr x (digit false))) (sym is) (omega (arith, pairs 5 10 (omega arith) s.level (rest_of s), zero_mark s.eq_left s.cond_test s.lifted))
 int32_falls s t (operates o h is) = absurd (true≢false (sym h))
 
+int32_left_falls : (s : Seat) (t : Tree) → Int32 t → weight (Expr s) t < weight (Expr s) (binary BitwiseOr (digit false) t)
+int32_left_falls s t (inverts is) = subst (λ x. weight (Expr s) x < weight (Expr s) (binary BitwiseOr (digit false) x)) (sym is) (omega (arith, pairs 5 14 (omega arith) s.level (rest_of s), zero_mark s.eq_left s.cond_test s.lifted))
+int32_left_falls s t (operates BitwiseAnd h is) = subst (λ x. weight (Expr s) x < weight (Expr s) (binary BitwiseOr (digit false) x)) (sym is) (omega (arith, pairs 5 7 (omega arith) s.level (rest_of s), zero_mark s.eq_left s.cond_test s.lifted))
+int32_left_falls s t (operates BitwiseXor h is) = subst (λ x. weight (Expr s) x < weight (Expr s) (binary BitwiseOr (digit false) x)) (sym is) (omega (arith, pairs 5 6 (omega arith) s.level (rest_of s), zero_mark s.eq_left s.cond_test s.lifted))
+int32_left_falls s t (operates BitwiseOr h is) = subst (λ x. weight (Expr s) x < weight (Expr s) (binary BitwiseOr (digit false) x)) (sym is) (omega (arith, zero_mark s.eq_left s.cond_test s.lifted))
+int32_left_falls s t (operates ShiftLeft h is) = subst (λ x. weight (Expr s) x < weight (Expr s) (binary BitwiseOr (digit false) x)) (sym is) (omega (arith, pairs 5 10 (omega arith) s.level (rest_of s), zero_mark s.eq_left s.cond_test s.lifted))
+int32_left_falls s t (operates ShiftRight h is) = subst (λ x. weight (Expr s) x < weight (Expr s) (binary BitwiseOr (digit false) x)) (sym is) (omega (arith, pairs 5 10 (omega arith) s.level (rest_of s), zero_mark s.eq_left s.cond_test s.lifted))
+int32_left_falls s t (operates o h is) = absurd (true≢false (sym h))
+
+whole_falls : (b : Bool) (s : Seat) (t : Tree) → Int32 t → weight (Expr s) t < weight (Expr s) (beside BitwiseOr b t (digit false))
+whole_falls true s t h = int32_falls s t h
+whole_falls false s t h = int32_left_falls s t h
+
 -- ---- all
 
 pub lighter : OperandsLighter
@@ -189,8 +224,8 @@ lighter (Expr s) n w (inr (inr (inl r))) = falls_by (Expr s) n w _ _ r.shape r.w
 lighter (Expr s) n w (inr (inr (inr (inl r)))) = falls_by (Expr s) n w _ _ r.shape r.written (counted_falls r.equal r.truth r.on_right s r.operand)
 lighter (Expr s) n w (inr (inr (inr (inr (inl r))))) = falls_by (Expr s) n w _ _ r.shape r.written (joined_falls s r.left r.before r.tail r.after (tail_form r.tail r.after r.known))
 lighter (Expr s) n w (inr (inr (inr (inr (inr (inl r)))))) = falls_by (Expr s) n w _ _ r.shape r.written (zero_falls r.equal s r.operand (bits_form r.operand r.known))
-lighter (Expr s) n w (inr (inr (inr (inr (inr (inr (inl r))))))) = falls_by (Expr s) n w _ _ r.shape r.written (kept_falls r.operator r.number r.known s r.seated r.operand)
-lighter (Expr s) n w (inr (inr (inr (inr (inr (inr (inr (inl r)))))))) = falls_by (Expr s) n w _ _ r.shape r.written (int32_falls s r.operand (int32_form r.operand r.known))
+lighter (Expr s) n w (inr (inr (inr (inr (inr (inr (inl r))))))) = falls_by (Expr s) n w _ _ r.shape r.written (beside_falls r.operator r.on_right r.number r.known r.sided s r.seated r.operand)
+lighter (Expr s) n w (inr (inr (inr (inr (inr (inr (inr (inl r)))))))) = falls_by (Expr s) n w _ _ r.shape r.written (whole_falls r.on_right s r.operand (int32_form r.operand r.known))
 lighter (Expr s) n w (inr (inr (inr (inr (inr (inr (inr (inr r)))))))) = operator_lighter s n w r
 lighter p n w r = absurd r
 
@@ -260,8 +295,8 @@ alike (Expr s) n w (inr (inr (inl r))) = let t : Tree = told_by (same_boolean r.
 alike (Expr s) n w (inr (inr (inr (inl r)))) = whole_alike n w (ap outline r.shape ∙ beside_outline (loosely r.equal) r.on_right r.operand (negated_digit r.truth) (digit r.truth) ∙ sym (ap outline r.written))
 alike (Expr s) n w (inr (inr (inr (inr (inl r))))) = whole_alike n w (ap outline r.shape ∙ sym (ap outline r.written))
 alike (Expr s) n w (inr (inr (inr (inr (inr (inl r)))))) = left_alike n w (loosely r.equal) true r.operand (digit false) (zero_told r.equal r.operand) r.shape r.written (zero_plain r.equal r.operand (bits_plain r.operand r.known)) (zero_is_none r.equal r.operand)
-alike (Expr s) n w (inr (inr (inr (inr (inr (inr (inl r))))))) = left_alike n w r.operator true r.operand (numeral r.number) (binary BitwiseOr r.operand (digit false)) r.shape r.written refl refl
-alike (Expr s) n w (inr (inr (inr (inr (inr (inr (inr (inl r)))))))) = let form = int32_form r.operand r.known in left_alike n w BitwiseOr true r.operand (digit false) r.operand r.shape r.written (int32_plain r.operand form) (int32_no_zero r.operand form)
+alike (Expr s) n w (inr (inr (inr (inr (inr (inr (inl r))))))) = left_alike n w r.operator r.on_right r.operand (numeral r.number) (binary BitwiseOr r.operand (digit false)) r.shape r.written refl refl
+alike (Expr s) n w (inr (inr (inr (inr (inr (inr (inr (inl r)))))))) = let form = int32_form r.operand r.known in left_alike n w BitwiseOr r.on_right r.operand (digit false) r.operand r.shape r.written (int32_plain r.operand form) (int32_no_zero r.operand form)
 alike (Expr s) n w (inr (inr (inr (inr (inr (inr (inr (inr r)))))))) = whole_alike n w (operator_outline s n w r)
 alike p n w r = absurd r
 

@@ -32,7 +32,7 @@ use Rattle.mini_laws.proofs.Runs.{either_cong, either_assoc, either_eta, either_
 use Rattle.mini_laws.proofs.Truth.{coherent}
 use Rattle.mini_kept.proofs.SameScopes.{same_texts, text_itself}
 use Rattle.mini_terms.specs.declared.kinds.Kind.{Kind}
-use Rattle.mini_terms.specs.declared.kinds.Kind.TheVariants.{Undefined as IsUndefined, Null as IsNull, Boolean as IsBoolean, Number as IsNumber}
+use Rattle.mini_terms.specs.declared.kinds.Kind.TheVariants.{Undefined as IsUndefined, Null as IsNull, Boolean as IsBoolean, Number as IsNumber, BigInt as IsBigInt}
 use Rattle.mini_terms.specs.Calculated.{calculated_numbers}
 use Rattle.mini_terms.specs.Folds.{is_effect_free}
 use Rattle.mini_terms.specs.Kind.{kind, OfKind}
@@ -254,6 +254,7 @@ other_apart IsBoolean (Boolean b) h p = tt
 other_apart IsBoolean v h p = absurd p
 other_apart IsNumber (Number n) h p = tt
 other_apart IsNumber v h p = absurd p
+other_apart IsBigInt v h p = absurd p
 other_apart k v h p = absurd (true≢false (sym h))
 
 not_true : (b : Bool) → not b ≡ true → b ≡ false
@@ -539,6 +540,10 @@ module _ (e : Environment) (o : BinaryOperator) (h : is_bitwise o ≡ true) (a :
         ∙ either_assoc (value e a s) _ _ _ _
         ∙ either_cong (value e a s) _ (λ v z. over_number r v z) _ (λ x z. stop x z) value_again (λ x z. either_stop x z _ _)
         ∙ sym (right_opened r s)
+
+-- an operator of bits doesn't ask on which side the number stands
+pub turned_alike : (o : BinaryOperator) → is_bitwise o ≡ true → (a : Tree) (c : ℤ) → SameTree (binary o (numeral c) a) (binary o a (numeral c))
+turned_alike o h a c = same_value _ _ refl refl refl (λ e s. opened e o h a c c false c s ∙ sym (opened e o h a c c true c s))
 
 masked_alike : (o : BinaryOperator) → is_bitwise o ≡ true → (b : Bool) (a : Tree) (c d r : ℤ) → calculated_numbers o c d ≡ Some (Number r) → SameTree (binary o (with_number o b a c) (numeral d)) (binary o a (numeral r))
 masked_alike o h b a c d r k = same_value _ _ refl refl refl (λ e s. masked_value e o h a d r b c k s)

@@ -215,7 +215,7 @@ inside l m k h r = go (nat_lt (level_of h) l) (nat_lt (level_of h) m) r refl ref
     go false false r p q = omega arith
     go true false r p q = absurd (omega (arith, k, ltb-true _ _ p, ltb-false _ _ q))
 
-mark_at_most : (b : Bool) → (if b then 1 else 0) ≤ 1
+pub mark_at_most : (b : Bool) → (if b then 1 else 0) ≤ 1
 mark_at_most true = omega arith
 mark_at_most false = omega arith
 

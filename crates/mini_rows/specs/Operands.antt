@@ -1,6 +1,6 @@
 -- Rows on operands whose value is known, as equations: each is a shape and what is written in its place, with the JavaScript before and
 -- after. No order of rewriting is meant.
-use Rattle.std.specs.Prelude.{◌≡◌, ℕ, ℤ, pos, ◌<◌, nat_le, nat_lt, ◌⊎◌, ◌&&◌, ◌||◌, Bool, true, false, List, [], ◌++◌, Option, Some, None}
+use Rattle.std.specs.Prelude.{◌≡◌, ℕ, ℤ, pos, ◌<◌, nat_le, nat_lt, ◌⊎◌, ◌&&◌, ◌||◌, Bool, true, false, List, [], ◌++◌, Option, Some, None, codes}
 use Rattle.std.specs.Fmt.{signed_decimal}
 use Rattle.mini_model.specs.declared.operator.BinaryOperator.{BinaryOperator}
 use Rattle.mini_model.specs.declared.operator.BinaryOperator.TheVariants.{Addition, BitwiseAnd, BitwiseXor, BitwiseOr, ShiftLeft, ShiftRight}
@@ -13,7 +13,7 @@ use Rattle.mini_model.specs.declared.seat.Seat.{Seat}
 use Rattle.mini_model.specs.Tree.{Tree, logical, negation}
 use Rattle.mini_model.specs.Position.{is_and_or, right_operand_seat}
 use Rattle.mini_model.specs.Weight.{weight}
-use Rattle.mini_node.specs.Kinds.{unary_operator, binary_operator, number, string}
+use Rattle.mini_node.specs.Kinds.{unary_operator, binary_operator, number, string, is_null}
 use Rattle.mini_laws.specs.Operators.{same_boolean, same_number}
 use Rattle.mini_terms.specs.declared.kinds.Kind.TheVariants.{Boolean as IsBoolean, String as IsString}
 use Rattle.mini_terms.specs.Folds.{is_effect_free, goes_on}
@@ -21,7 +21,7 @@ use Rattle.mini_terms.specs.Kind.{is_number, kind}
 use Rattle.mini_terms.specs.Parts.{suits, leaves_nothing, weighs}
 use Rattle.mini_rows.specs.Booleans.{digit}
 use Rattle.mini_rows.specs.Choices.{loosely}
-use Rattle.mini_rows.specs.Operators.{OperatorRow}
+use Rattle.mini_rows.specs.Operators.{is_bitwise, OperatorRow}
 use Rattle.mini_rows.specs.Spellings.{binary, negated_digit, numeral, text}
 
 -- ---- terms
@@ -37,13 +37,14 @@ told_by true b = b
 told_by false b = negation b
 
 -- the text that `+` makes of a literal beside a text
-abbrev pub tail_by : Option (List ℕ) → Option ℤ → Option (List ℕ)
-tail_by (Some t) n = Some t
-tail_by None (Some n) = Some (signed_decimal n)
-tail_by None None = None
+abbrev pub tail_by : Option (List ℕ) → Option ℤ → Bool → Option (List ℕ)
+tail_by (Some t) n b = Some t
+tail_by None (Some n) b = Some (signed_decimal n)
+tail_by None None true = Some (codes "null")
+tail_by None None false = None
 
 abbrev pub tail_text : Tree → Option (List ℕ)
-tail_text k = tail_by (string k) (number k)
+tail_text k = tail_by (string k) (number k) (is_null k)
 
 -- Int32, but for shifts: `~`, and `&`, `^` and `|` where one side is known to be a number
 abbrev pub makes_bits : Option UnaryOperator → Option BinaryOperator → Bool
@@ -130,7 +131,7 @@ pub record Row30 (n w : Tree) : Type 0 where
   pub shape : n ≡ beside (loosely equal) on_right operand (negated_digit truth)
   pub written : w ≡ beside (loosely equal) on_right operand (digit truth)
 
--- 4: `a + "s" + "t"` becomes `a + "st"`, and `a + "s" + 1` becomes `a + "s1"`
+-- 4: `a + "s" + "t"` becomes `a + "st"`, `a + "s" + 1` becomes `a + "s1"`, and `a + "s" + null` becomes `a + "snull"`
 pub record Row4 (n w : Tree) : Type 0 where
   pub left : Tree
   pub before : List ℕ
@@ -148,21 +149,24 @@ pub record Row27 (n w : Tree) : Type 0 where
   pub shape : n ≡ binary (loosely equal) operand (digit false)
   pub written : w ≡ zero_told equal operand
 
--- 31: `a << 0`, `a >> 0`, `a ^ 0` and `a & 4294967295` become `a | 0`
+-- 31: `a << 0`, `a >> 0`, `a ^ 0` and `a & 4294967295` become `a | 0`, and so do `0 ^ a` and `4294967295 & a`
 pub record Row31 (s : Seat) (n w : Tree) : Type 0 where
   pub operator : BinaryOperator
+  pub on_right : Bool
   pub operand : Tree
   pub number : ℤ
   pub known : keeps_bits operator number ≡ true
+  pub sided : on_right || is_bitwise operator ≡ true
   pub seated : has_room operator s ≡ true
-  pub shape : n ≡ binary operator operand (numeral number)
+  pub shape : n ≡ beside operator on_right operand (numeral number)
   pub written : w ≡ binary BitwiseOr operand (digit false)
 
--- 32: `a << 1 | 0` becomes `a << 1`, where that is a number of 32 bits
+-- 32: `a << 1 | 0` and `0 | a << 1` become `a << 1`, where that is a number of 32 bits
 pub record Row32 (n w : Tree) : Type 0 where
+  pub on_right : Bool
   pub operand : Tree
   pub known : is_int32 operand ≡ true
-  pub shape : n ≡ binary BitwiseOr operand (digit false)
+  pub shape : n ≡ beside BitwiseOr on_right operand (digit false)
   pub written : w ≡ operand
 
 -- a row on operands, or on operators, reads n as w at this place

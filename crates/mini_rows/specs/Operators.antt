@@ -14,7 +14,7 @@ use Rattle.mini_node.specs.Kinds.{string}
 use Rattle.mini_laws.specs.Value.{Number}
 use Rattle.mini_terms.specs.Calculated.{calculated_numbers}
 use Rattle.mini_terms.specs.declared.kinds.Kind.{Kind}
-use Rattle.mini_terms.specs.declared.kinds.Kind.TheVariants.{Undefined as IsUndefined, Null as IsNull, Boolean as IsBoolean, Number as IsNumber}
+use Rattle.mini_terms.specs.declared.kinds.Kind.TheVariants.{Undefined as IsUndefined, Null as IsNull, Boolean as IsBoolean, Number as IsNumber, BigInt as IsBigInt}
 use Rattle.mini_terms.specs.Folds.{is_effect_free}
 use Rattle.mini_terms.specs.Kind.{kind}
 use Rattle.mini_terms.specs.Parts.{leaves_nothing}
@@ -46,6 +46,7 @@ is_other_kind IsUndefined = true
 is_other_kind IsNull = true
 is_other_kind IsBoolean = true
 is_other_kind IsNumber = true
+is_other_kind IsBigInt = true
 is_other_kind k = false
 
 -- no text that `typeof` gives equals it: by the text that it writes out, if it does

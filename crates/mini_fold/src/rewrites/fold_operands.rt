@@ -19,7 +19,7 @@ ghost use Rattle.mini_fold.specs.FoldOperands as operand;
 ghost use Rattle.mini_fold.specs.FoldOperands.{Gives, Rests};
 ghost use Rattle.mini_fold.specs.Lighter.{operands_lighter};
 
-use crate::literals::{copied, text_of_both};
+use crate::literals::{NULL, copied, text_of_both};
 use crate::numbers::is_same;
 use crate::rewrites::fold_operators::{
     drops_left, drops_right, fold_delete, holds_bitwise, masked, negated_digit, told_by_types,
@@ -29,8 +29,9 @@ use mini_model::{
     decimal,
 };
 use mini_node::{
-    Node, binary, binary_operator, discard, is_logical, is_negation, logical, logical_operator,
-    negation, number, numeric_literal, one, string, string_literal, taken, two, unary_operator,
+    Node, binary, binary_operator, discard, is_logical, is_negation, is_null, logical,
+    logical_operator, negation, number, numeric_literal, one, string, string_literal, taken, two,
+    unary_operator,
 };
 use mini_terms::{
     Kind, goes_on, has_no_effect, is_plain_part, kind_of, leaves_nothing, suits, weighs,
@@ -144,7 +145,7 @@ fn sum_text(node: &Node) -> Option<&Text>
     }
 }
 
-// The text that `+` makes of a text or a number.
+// The text that `+` makes of a text, a number or `null`.
 fn tail_text(alloc: Global, node: &Node) -> Result<Option<Text>, OutOfMemory>
     ensures { IfOk result (λ t. t ≡ tail_of node.now) }
 {
@@ -153,6 +154,7 @@ fn tail_text(alloc: Global, node: &Node) -> Result<Option<Text>, OutOfMemory>
     }
     match number(node) {
         Some(number) => Ok(Some(decimal(alloc, number)?)),
+        None if is_null(node) => Ok(Some(copied(alloc, &NULL)?)),
         None => Ok(None),
     }
 }
@@ -440,6 +442,38 @@ fn fold_kept(
     Ok(false)
 }
 
+// The same with the number on either side: `a | 0` of `0 ^ a`
+fn fold_bits(
+    alloc: Global,
+    node: &mut Node,
+    seat: Seat,
+    operator: BinaryOperator,
+) -> Result<bool, OutOfMemory>
+    requires { count (children node.old) ≡ 2 }
+    ensures tree { OnOk result (node.new ≡ unwrap_or (operand.bits_written seat operator (part node.old 0) (part node.old 1)) node.old) }
+    ensures said { IfOk result (λ changed. changed ≡ is_some (operand.bits_written seat operator (part node.old 0) (part node.old 1))) }
+{
+    if keeps_beside(operator, number(node.child(1))) && has_room(operator, seat) {
+        *node = binary(
+            alloc,
+            BinaryOperator::BitwiseOr,
+            one(taken(alloc, node)),
+            digit(alloc, false),
+        )?;
+        return Ok(true);
+    }
+    if keeps_beside(operator, number(node.child(0))) && has_room(operator, seat) {
+        *node = binary(
+            alloc,
+            BinaryOperator::BitwiseOr,
+            last(taken(alloc, node)),
+            digit(alloc, false),
+        )?;
+        return Ok(true);
+    }
+    Ok(false)
+}
+
 fn makes_int32(unary: Option<UnaryOperator>, binary: Option<BinaryOperator>) -> bool
     ensures { result ≡ do_they_make_int32 unary binary }
 {
@@ -457,14 +491,18 @@ fn is_int32(node: &Node) -> bool
     makes_int32(unary_operator(node), binary_operator(node)) && is_number_kind(kind_of(node))
 }
 
-// `a << 1` of `a << 1 | 0`
+// `a << 1` of `a << 1 | 0`, and of `0 | a << 1`
 fn fold_whole(alloc: Global, node: &mut Node) -> bool
     requires { count (children node.old) ≡ 2 }
-    ensures tree { node.new ≡ unwrap_or (operand.whole_written (part node.old 0) (part node.old 1)) node.old }
-    ensures said { result ≡ is_some (operand.whole_written (part node.old 0) (part node.old 1)) }
+    ensures tree { node.new ≡ unwrap_or (operand.wholes_written (part node.old 0) (part node.old 1)) node.old }
+    ensures said { result ≡ is_some (operand.wholes_written (part node.old 0) (part node.old 1)) }
 {
     if is_zero(number(node.child(1))) && is_int32(node.child(0)) {
         *node = one(taken(alloc, node));
+        return true;
+    }
+    if is_zero(number(node.child(0))) && is_int32(node.child(1)) {
+        *node = last(taken(alloc, node));
         return true;
     }
     false
@@ -486,8 +524,8 @@ fn fold_sides(
         BinaryOperator::Equality => fold_equality(alloc, node, seat, true),
         BinaryOperator::Inequality => fold_equality(alloc, node, seat, false),
         BinaryOperator::BitwiseOr => Ok(fold_whole(alloc, node)),
-        BinaryOperator::BitwiseAnd => fold_kept(alloc, node, seat, BinaryOperator::BitwiseAnd),
-        BinaryOperator::BitwiseXor => fold_kept(alloc, node, seat, BinaryOperator::BitwiseXor),
+        BinaryOperator::BitwiseAnd => fold_bits(alloc, node, seat, BinaryOperator::BitwiseAnd),
+        BinaryOperator::BitwiseXor => fold_bits(alloc, node, seat, BinaryOperator::BitwiseXor),
         BinaryOperator::ShiftLeft => fold_kept(alloc, node, seat, BinaryOperator::ShiftLeft),
         BinaryOperator::ShiftRight => fold_kept(alloc, node, seat, BinaryOperator::ShiftRight),
         _ => Ok(false),

@@ -125,7 +125,7 @@ fn is_other_kind(kind: Kind) -> bool
 {
     matches!(
         kind,
-        Kind::Undefined | Kind::Null | Kind::Boolean | Kind::Number
+        Kind::Undefined | Kind::Null | Kind::Boolean | Kind::Number | Kind::BigInt
     )
 }
 
