@@ -112,9 +112,10 @@ alone_pulled false a b c d f = refl
 alone_pulled true a b c d f =
     sym (ap (λ v. not a && (not b && (not c && v))) (and_false (not d)) ∙ ap (λ v. not a && (not b && v)) (and_false (not c)) ∙ ap (λ v. not a && v) (and_false (not b)) ∙ and_false (not a))
 
-read_pulled : (p r q f c : Bool) → (not p && (r && (not q && not (f || c)))) ≡ (r && (not q && not ((p || f) || c)))
+read_pulled : (p r q f c : Bool) → (not p && (r && (not q && not (c || f)))) ≡ (r && (not q && not (c || (p || f))))
 read_pulled false r q f c = refl
-read_pulled true r q f c = sym (ap (λ v. r && v) (and_false (not q)) ∙ and_false r)
+read_pulled true r q f true = sym (ap (λ v. r && v) (and_false (not q)) ∙ and_false r)
+read_pulled true r q f false = sym (ap (λ v. r && v) (and_false (not q)) ∙ and_false r)
 
 -- what is outside of the statements, and as a list before them
 module _ (W : VariableSet) (outside : Tree) (front ts : Trees) (mentions : (x : Name) → names x outside ≡ any_names x front) (evals : has_eval outside ≡ any_has_eval front) where
@@ -144,7 +145,7 @@ module _ (W : VariableSet) (outside : Tree) (front ts : Trees) (mentions : (x : 
       let q = is_declared_over x init ds j in
       let f = any_names x (first_children i ts) in
       let c = any_names x (rest_children (suc (suc i)) ts) in
-      ap (λ p. not p && (r && (not q && not (f || c)))) (mentions x) ∙ read_pulled (any_names x front) r q f c
+      ap (λ p. not p && (r && (not q && not (c || f)))) (mentions x) ∙ read_pulled (any_names x front) r q f c
 
   single_there : (i : ℕ) → is_single W outside ts i ≡ is_single W no_outside behind (suc i)
   single_there i =

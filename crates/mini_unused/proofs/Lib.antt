@@ -4,6 +4,7 @@ pub mod Standing
 pub mod Unused
 pub mod SingleUses
 pub mod Uneval
+pub mod Rare
 pub mod Chains
 pub mod Swept
 pub mod Holders

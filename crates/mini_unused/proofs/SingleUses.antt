@@ -173,7 +173,7 @@ read_once x init ds j ts i e =
     let (p, q) = and_parts a (not (is_declared_over x init ds j) && not (is_mentioned_around x ts i)) e in
     let (r, s) = and_parts (not (is_declared_over x init ds j)) (not (is_mentioned_around x ts i)) q in
     let (t, u) = neither (names x init) (any_names x (first_children j ds)) r in
-    let (v, w) = neither (any_names x (first_children i ts)) (any_names x (rest_children (suc (suc i)) ts)) s in
+    let (w, v) = neither (any_names x (rest_children (suc (suc i)) ts)) (any_names x (first_children i ts)) s in
     record { once = p; initial = t; declared_earlier = u; earlier = v; later = w }
 
 abbrev pub block_single : Tree → ℕ → ℕ → Tree
@@ -306,7 +306,7 @@ module _ (W : VariableSet) (t w : Tree) (r : Row71 W t w) where
       let first_ds = ap (any_names y) (there_first r.first declared none) ∙ r.declared_earlier in
       let first_ts = ap (any_names y) (there_first r.before stated (r.head ▸ r.after)) ∙ r.earlier in
       let rest_ts = ap (any_names y) (rest_there r.before stated r.head r.after) ∙ r.later in
-      λ k. all (head_there k) (r.initial k) (first_ds k) (first_ts k) (rest_ts k)
+      λ k. all (head_there k) (r.initial k) (first_ds k) (rest_ts k) (first_ts k)
 
   single_there : is_single W no_outside (children (part t 0)) (count r.before) ≡ true
   single_there =

@@ -1,29 +1,80 @@
 -- Names that go from a list one after another.
-use Rattle.std.proofs.Common.{◌≡◌, ℕ, suc, ◌<◌, Bool, true, false, sym, ap, ◌∙◌, subst, inl, inr}
+use Rattle.std.proofs.Common.{◌≡◌, ℕ, suc, ◌+◌, ◌<◌, Bool, true, false, [], ◌∷◌, sym, ap, ◌∙◌, subst, inl, inr, arith}
 use Rattle.std.specs.Prelude.{◌&&◌, ◌||◌, nat_eq, Some, Result, Ok, Err, OnOk}
 use Rattle.std.proofs.lemmas.Bool.{and_parts}
-use Rattle.mini_model.specs.Tree.{Tree, Trees, shape_of, children, count, child_or_absent}
+use Rattle.mini_model.specs.Tree.{Tree, Trees, listed, shape_of, children, count, child_or_absent}
 use Rattle.mini_laws.specs.ScopeList.{has_eval}
 use Rattle.mini_laws.specs.Value.{VariableSet}
 use Rattle.mini_node.specs.Children.{names_of, part, is_bare}
 use Rattle.mini_node.specs.Kinds.{is_block, is_block_shape, is_listed}
+use Rattle.mini_rows.specs.Unused.{resolved, may_move}
 use Rattle.mini_unused.specs.Chains.{Chain, still, Several}
-use Rattle.mini_unused.specs.RemoveUnusedDeclaration.{declares_list, is_lexical_shape, is_free_at, is_unused_declarator, list_at, list_left, UnusedOf, UnusedAt, are_statements, are_no_names, is_body_shape, is_arrow_shape, has_statements, is_function_shape, is_function}
-use Rattle.mini_unused.specs.SubstituteSingleUse.{last_place, list_single, SingleAt, Gone, Calm, Swept}
+use Rattle.mini_unused.specs.RemoveUnusedDeclaration.{declares_name, may_lose, may_go, is_alone, declares_list, is_lexical_shape, is_free_at, is_unused_declarator, list_at, list_left, UnusedOf, UnusedAt, are_statements, are_no_names, is_body_shape, is_arrow_shape, has_statements, is_function_shape, is_function}
+use Rattle.mini_unused.specs.SubstituteSingleUse.{is_read_once, is_single_declarator, is_single, last_place, list_single, SingleAt, Gone}
+use Rattle.mini_unused.specs.Sweep.{may_go_at, may_move_at, Calm, Swept}
+use Rattle.mini_unused.specs.Tallies.{Tallied, AreRare, AreRead}
+use Rattle.mini_unused.specs.declared.tallies.Tallies.{Tallies}
 use Rattle.mini_unused.proofs.Chains.{chain_joined, chain_once}
-use Rattle.mini_unused.proofs.Unused.{and_both}
-use Rattle.mini_unused.proofs.Uneval.{still_calm}
+use Rattle.mini_unused.proofs.Unused.{and_both, Declares, declares}
+use Rattle.mini_unused.proofs.SingleUses.{last_is, single_by}
+use Rattle.mini_unused.proofs.Uneval.{still_unseen}
+use Rattle.mini_unused.proofs.Rare.{still_tallied, rare_alone, rare_read}
 
--- the declarator that the tests find
-pub unused_there : (W : VariableSet) (o : Tree) (ts : Trees) (i j : ℕ) (statement l : Tree) (free r : Bool) → statement ≡ child_or_absent ts i → declares_list statement ≡ true → 0 < count (children statement) → l ≡ part statement 0 → j < count (children l) → free ≡ is_lexical_shape (shape_of statement) → r ≡ is_unused_declarator free W l j o ts i → r ≡ true → UnusedOf W o ts i (Some j)
-unused_there W o ts i j statement l free r s d h f g z e t =
+-- ---- the declarator that the tests find
+
+three_and_one : (a b c d : Bool) → (a && (b && c)) ≡ true → d ≡ true → (a && (b && (c && d))) ≡ true
+three_and_one a b c d e f =
+    let (x, y) = and_parts a (b && c) e in
+    let (z, v) = and_parts b c y in
+    and_both a (b && (c && d)) x (and_both b (c && d) z (and_both c d v f))
+
+pub unused_there : (W : VariableSet) (o : Tree) (ts : Trees) (i j : ℕ) (statement l : Tree) (free : Bool) → statement ≡ child_or_absent ts i → declares_list statement ≡ true → 0 < count (children statement) → l ≡ part statement 0 → j < count (children l) → free ≡ is_lexical_shape (shape_of statement)
+    → may_go_at free W l j ≡ true → is_alone (names_of (part (part l j) 0)) o (part (part l j) 1) (children l) j ts i ≡ true → UnusedOf W o ts i (Some j)
+unused_there W o ts i j statement l free s d h f g z e t =
     let there : l ≡ list_at ts i = f ∙ ap (λ u. part u 0) s in
-    let is_free : free ≡ is_free_at ts i = z ∙ ap (λ u. is_lexical_shape (shape_of u)) s in (
+    let is_free : free ≡ is_free_at ts i = z ∙ ap (λ u. is_lexical_shape (shape_of u)) s in
+    let unused : is_unused_declarator free W l j o ts i ≡ true = three_and_one (declares_name (part l j)) (may_lose free W (names_of (part (part l j) 0))) (may_go (part (part l j) 1) l) (is_alone (names_of (part (part l j) 0)) o (part (part l j) 1) (children l) j ts i) e t in (
       subst (λ u. 0 < count (children u)) s h,
       subst (λ u. j < count (children u)) there g,
-      and_both (declares_list (child_or_absent ts i)) (is_unused_declarator (is_free_at ts i) W (list_at ts i) j o ts i) (sym (ap declares_list s) ∙ d)
-          (sym (λ k. is_unused_declarator (is_free k) W (there k) j o ts i) ∙ sym e ∙ t),
+      and_both (declares_list (child_or_absent ts i)) (is_unused_declarator (is_free_at ts i) W (list_at ts i) j o ts i) (sym (ap declares_list s) ∙ d) (sym (λ k. is_unused_declarator (is_free k) W (there k) j o ts i) ∙ unused),
     )
+
+pub single_there : (W : VariableSet) (o : Tree) (ts : Trees) (i j : ℕ) (statement l : Tree) (free : Bool) → statement ≡ child_or_absent ts i → declares_list statement ≡ true → l ≡ part statement 0 → j + 1 ≡ count (children l) → free ≡ is_lexical_shape (shape_of statement)
+    → may_move_at free W l j ≡ true → is_read_once (names_of (part (part l j) 0)) o (part (part l j) 1) (children l) j ts i ≡ true → is_single W o ts i ≡ true
+single_there W o ts i j statement l free s d f g z e t =
+    let single : is_single_declarator free W l j o ts i ≡ true = three_and_one (declares_name (part l j)) (may_lose free W (names_of (part (part l j) 0))) (may_move (part (part l j) 1)) (is_read_once (names_of (part (part l j) 0)) o (part (part l j) 1) (children l) j ts i) e t in
+    let last : j ≡ last_place (children l) = omega (arith, g, last_is (children l) (omega (arith, g))) in
+    sym (single_by W o ts i statement l j free true s d f last z (sym single))
+
+pub some_declarator : (ts : Trees) (i j : ℕ) (statement l : Tree) → statement ≡ child_or_absent ts i → l ≡ part statement 0 → j + 1 ≡ count (children l) → 0 < count (children (list_at ts i))
+some_declarator ts i j statement l s f g = subst (λ u. 0 < count (children u)) (f ∙ ap (λ u. part u 0) s) (omega (arith, g))
+
+-- the tables tell that nothing else mentions its name
+
+named_is : (d : Tree) (one : Declares d) → names_of (part d 0) ≡ resolved one.spelling one.symbol ∷ []
+named_is d one = ap (λ u. names_of (part u 0)) one.is
+
+module _ (T : Tallies) (o : Tree) (ts : Trees) (i j : ℕ) (h : i < count ts) (d : declares_list (child_or_absent ts i) ≡ true) (told : Tallied T o (listed ts)) where
+  alone_in : j < count (children (list_at ts i)) → (one : Declares (part (list_at ts i) j)) → AreRare T (names_of (part (part (list_at ts i) j) 0)) 1 → is_alone (names_of (part (part (list_at ts i) j) 0)) o (part (part (list_at ts i) j) 1) (children (list_at ts i)) j ts i ≡ true
+  alone_in g one r =
+      let named = named_is (part (list_at ts i) j) one in
+      subst (λ xs. is_alone xs o (part (part (list_at ts i) j) 1) (children (list_at ts i)) j ts i ≡ true) (sym named) (rare_alone T o ts i j h d g one told (subst (λ xs. AreRare T xs 1) named r))
+
+  pub alone_there : (l : Tree) → l ≡ list_at ts i → j < count (children l) → declares_name (part l j) ≡ true → AreRare T (names_of (part (part l j) 0)) 1 → is_alone (names_of (part (part l j) 0)) o (part (part l j) 1) (children l) j ts i ≡ true
+  alone_there l e =
+      subst (λ u. j < count (children u) → declares_name (part u j) ≡ true → AreRare T (names_of (part (part u j) 0)) 1 → is_alone (names_of (part (part u j) 0)) o (part (part u j) 1) (children u) j ts i ≡ true) (sym e)
+      (λ g n r. alone_in g (declares (part (list_at ts i) j) n) r)
+
+  read_in : suc i < count ts → j < count (children (list_at ts i)) → (one : Declares (part (list_at ts i) j)) → AreRead T (names_of (part (part (list_at ts i) j) 0)) (child_or_absent ts (suc i)) → is_read_once (names_of (part (part (list_at ts i) j) 0)) o (part (part (list_at ts i) j) 1) (children (list_at ts i)) j ts i ≡ true
+  read_in next g one r =
+      let named = named_is (part (list_at ts i) j) one in
+      let rare = subst (λ xs. AreRead T xs (child_or_absent ts (suc i))) named r in
+      subst (λ xs. is_read_once xs o (part (part (list_at ts i) j) 1) (children (list_at ts i)) j ts i ≡ true) (sym named) (rare_read T o ts i j h d g one told next rare.1 rare.2 rare.0)
+
+  pub read_there : suc i < count ts → (l : Tree) → l ≡ list_at ts i → j < count (children l) → declares_name (part l j) ≡ true → AreRead T (names_of (part (part l j) 0)) (child_or_absent ts (suc i)) → is_read_once (names_of (part (part l j) 0)) o (part (part l j) 1) (children l) j ts i ≡ true
+  read_there next l e =
+      subst (λ u. j < count (children u) → declares_name (part u j) ≡ true → AreRead T (names_of (part (part u j) 0)) (child_or_absent ts (suc i)) → is_read_once (names_of (part (part u j) 0)) o (part (part u j) 1) (children u) j ts i ≡ true) (sym e)
+      (λ g n r. read_in next g (declares (part (list_at ts i) j) n) r)
 
 -- ---- a list that has lost a name
 
@@ -37,17 +88,19 @@ read_gone W o l m ts at last e u v g f =
 
 -- ---- a list that has lost some names
 
-pub swept_none : (W : VariableSet) (o l : Tree) → Calm o l → Swept W o l l
-swept_none W o l c = record { gone = still l; calm = c }
+pub swept_none : (W : VariableSet) (T : Tallies) (o l : Tree) → Calm T o l → Swept W T o l l
+swept_none W T o l c = record { gone = still l; calm = c }
 
-pub swept_one : (W : VariableSet) (o l m : Tree) → Calm o l → Gone W o l m → Swept W o l m
-swept_one W o l m c g = record { gone = chain_once (Gone W o) l m g; calm = still_calm W o l m c g }
+pub swept_one : (W : VariableSet) (T : Tallies) (o l m : Tree) → Calm T o l → Gone W o l m → Swept W T o l m
+swept_one W T o l m c g =
+    let there = still_unseen W o l m (record { is_list = c.is_list; unseen = c.unseen }) g in
+    record { gone = chain_once (Gone W o) l m g; calm = record { is_list = there.is_list; unseen = there.unseen; tallied = still_tallied T W o l m g c.tallied } }
 
-pub swept_on : (W : VariableSet) (o l k m : Tree) → Swept W o l k → Swept W o k m → Swept W o l m
-swept_on W o l k m s t = record { gone = chain_joined (Gone W o) l k m s.gone t.gone; calm = t.calm }
+pub swept_on : (W : VariableSet) (T : Tallies) (o l k m : Tree) → Swept W T o l k → Swept W T o k m → Swept W T o l m
+swept_on W T o l k m s t = record { gone = chain_joined (Gone W o) l k m s.gone t.gone; calm = t.calm }
 
-pub some_gone : (W : VariableSet) (o l k m : Tree) → Gone W o l k → Swept W o k m → Several (Gone W o) l m
-some_gone W o l k m g s = record { next = k; first = g; others = s.gone }
+pub some_gone : (W : VariableSet) (o l k m : Tree) → Gone W o l k → Chain (Gone W o) k m → Several (Gone W o) l m
+some_gone W o l k m g s = record { next = k; first = g; others = s }
 
 pub on_ok : {A E : Type 0} (r : Result A E) (P Q : Type 0) → (P → Q) → OnOk r P → OnOk r Q
 on_ok (Ok a) P Q f p = f p

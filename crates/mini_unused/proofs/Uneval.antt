@@ -14,7 +14,7 @@ use Rattle.mini_node.specs.Kinds.{is_listed, is_sequence_shape}
 use Rattle.mini_rows.specs.Lists.{declaration}
 use Rattle.mini_rows.specs.Unused.{is_idle, any_names, names, begins, leads, is_childless, is_first, put_first, is_head_shape, reads_first, may_move}
 use Rattle.mini_unused.specs.RemoveUnusedDeclaration.{declares_list, declares_name, may_lose, is_free_at, is_unused_declarator, list_at, statement_left, let_left, list_left}
-use Rattle.mini_unused.specs.SubstituteSingleUse.{declaration_left, initializer, last_place, reads_next, is_declared_over, is_mentioned_around, is_read_once, is_single_declarator, list_single, NameGone, ReadGone, Gone, Calm}
+use Rattle.mini_unused.specs.SubstituteSingleUse.{declaration_left, initializer, last_place, reads_next, is_declared_over, is_mentioned_around, is_read_once, is_single_declarator, list_single, NameGone, ReadGone, Gone}
 use Rattle.mini_unused.proofs.Unused.{a_declaration, not_true}
 
 pub neither : (a b : Bool) → (a || b) ≡ false → (a ≡ false) × (b ≡ false)
@@ -150,13 +150,18 @@ list_with : (l : Tree) (i : ℕ) (x : Tree) → is_listed l ≡ true → has_eva
 list_with (node shape.Listed [] zero ts) i x e f g = (of_list (with_child ts i x) (with_one ts i x (below (listed ts) f) g), refl)
 list_with l i x e f g = absurd (true≢false (sym e))
 
-calm_with : (o l : Tree) (i : ℕ) (x : Tree) → Calm o l → has_eval x ≡ false → Calm o (with_part l i x)
-calm_with o l i x c f =
+-- a list without a direct eval, and with none in what is outside of it
+pub record Unseen (o l : Tree) : Type 0 where
+  pub is_list : is_listed l ≡ true
+  pub unseen : (has_eval o || has_eval l) ≡ false
+
+unseen_with : (o l : Tree) (i : ℕ) (x : Tree) → Unseen o l → has_eval x ≡ false → Unseen o (with_part l i x)
+unseen_with o l i x c f =
     let (a, b) = neither (has_eval o) (has_eval l) c.unseen in
     let (d, e) = list_with l i x c.is_list b f in
     record { is_list = e; unseen = both_not (has_eval o) (has_eval (with_part l i x)) a d }
 
-in_list : (o l : Tree) (i : ℕ) → Calm o l → has_eval (part l i) ≡ false
+in_list : (o l : Tree) (i : ℕ) → Unseen o l → has_eval (part l i) ≡ false
 in_list o l i c = part_of l i (neither (has_eval o) (has_eval l) c.unseen).1
 
 once_reads : (xs : List Name) (o init : Tree) (ds : Trees) (j : ℕ) (ts : Trees) (i : ℕ) → is_read_once xs o init ds j ts i ≡ true → (x : Name) × (reads_first x (child_or_absent ts (suc i)) ≡ true)
@@ -165,13 +170,13 @@ once_reads (x ∷ xs) o init ds j ts i e =
     let (a, p) = and_parts (not (names x o)) (reads_next x ts i && (not (is_declared_over x init ds j) && not (is_mentioned_around x ts i))) e in
     (x, (and_parts (reads_next x ts i) (not (is_declared_over x init ds j) && not (is_mentioned_around x ts i)) p).0)
 
-module _ (W : VariableSet) (o l m : Tree) (c : Calm o l) where
-  name_gone : NameGone W o l m → Calm o m
+module _ (W : VariableSet) (o l m : Tree) (c : Unseen o l) where
+  name_gone : NameGone W o l m → Unseen o m
   name_gone g =
       let declares = (and_parts (declares_list (child_or_absent (children l) g.at)) (is_unused_declarator (is_free_at (children l) g.at) W (list_at (children l) g.at) g.which o (children l) g.at) g.unused.1.2).0 in
-      subst (Calm o) (sym g.left) (calm_with o l g.at (statement_left (part l g.at) g.which) c (statement_without (part l g.at) g.which declares (in_list o l g.at c)))
+      subst (Unseen o) (sym g.left) (unseen_with o l g.at (statement_left (part l g.at) g.which) c (statement_without (part l g.at) g.which declares (in_list o l g.at c)))
 
-  read_gone : ReadGone W o l m → Calm o m
+  read_gone : ReadGone W o l m → Unseen o m
   read_gone g =
       let ts = children l in
       let ds = list_at ts g.at in
@@ -187,9 +192,9 @@ module _ (W : VariableSet) (o l m : Tree) (c : Calm o l) where
       let (x, reads) = once_reads (names_of (part d 0)) o init (children ds) j ts g.at f in
       let there = in_list o l g.at c in
       let value : has_eval init ≡ false = part_of d 1 (part_of ds j (part_of (part l g.at) 0 there)) in
-      let left = calm_with o l g.at (declaration_left (part l g.at) j) c (declaration_without (part l g.at) j declares there) in
+      let left = unseen_with o l g.at (declaration_left (part l g.at) j) c (declaration_without (part l g.at) j declares there) in
       let head = put_in_head x init (part l (suc g.at)) reads value (in_list o l (suc g.at) c) in
-      subst (Calm o) (sym g.left) (calm_with o (with_part l g.at (declaration_left (part l g.at) j)) (suc g.at) (put_first init (part l (suc g.at))) left head)
+      subst (Unseen o) (sym g.left) (unseen_with o (with_part l g.at (declaration_left (part l g.at) j)) (suc g.at) (put_first init (part l (suc g.at))) left head)
 
-  pub still_calm : Gone W o l m → Calm o m
-  still_calm g = elim g.name [ inl n ↦ name_gone n | inr r ↦ read_gone r ]
+  pub still_unseen : Gone W o l m → Unseen o m
+  still_unseen g = elim g.name [ inl n ↦ name_gone n | inr r ↦ read_gone r ]

@@ -4,3 +4,5 @@ pub mod Lighter
 pub mod SubstituteSingleUse
 pub mod RemoveUnusedName
 pub mod SubstituteCatchClause
+pub mod Tallies
+pub mod Sweep

@@ -10,7 +10,7 @@ use Rattle.mini_laws.specs.Value.{VariableSet}
 use Rattle.mini_node.specs.Children.{names_of, part, with_part, is_bare, is_nameless, first_children, rest_children}
 use Rattle.mini_node.specs.Kinds.{is_listed}
 use Rattle.mini_rows.specs.Unused.{names, any_names, leads, is_childless, is_head_shape, may_move, reads_first, put_first}
-use Rattle.mini_unused.specs.Chains.{Chain, Several}
+use Rattle.mini_unused.specs.Chains.{Several}
 use Rattle.mini_unused.specs.RemoveUnusedDeclaration.{declares_name, declares_list, may_lose, is_free_at, list_at, let_left, list_left, UnusedAt}
 
 -- a node without a name and a number, which evaluates its first part before all else
@@ -31,9 +31,9 @@ last_place (t ▸ (u ▸ ts)) = suc (last_place (u ▸ ts))
 abbrev pub is_declared_over : Name → Tree → Trees → ℕ → Bool
 is_declared_over x init ds j = names x init || any_names x (first_children j ds)
 
--- or before the statement at the place, or after the next
+-- or after the statement that follows the one at the place, or before that one
 abbrev pub is_mentioned_around : Name → Trees → ℕ → Bool
-is_mentioned_around x ts i = any_names x (first_children i ts) || any_names x (rest_children (suc (suc i)) ts)
+is_mentioned_around x ts i = any_names x (rest_children (suc (suc i)) ts) || any_names x (first_children i ts)
 
 -- the next statement reads it first
 abbrev pub reads_next : Name → Trees → ℕ → Bool
@@ -95,15 +95,3 @@ pub record Gone (W : VariableSet) (o l m : Tree) : Type 0 where
 abbrev pub Removed : VariableSet → Tree → Tree → Tree → Bool → Type 0
 Removed W o l m true = Several (Gone W o) l m
 Removed W o l m false = (m ≡ l) × (((has_eval o || has_eval l) ≡ true) ⊎ (UnusedAt W o (children l) None × SingleAt W o (children l) None))
-
--- ---- names that go one after another, as many as there are
-
--- a list without a direct eval, and with none in what is outside of it
-pub record Calm (o l : Tree) : Type 0 where
-  pub is_list : is_listed l ≡ true
-  pub unseen : (has_eval o || has_eval l) ≡ false
-
--- it has lost some names
-pub record Swept (W : VariableSet) (o l m : Tree) : Type 0 where
-  pub gone : Chain (Gone W o) l m
-  pub calm : Calm o m

@@ -124,16 +124,16 @@ fn is_idle(init: &Node) -> bool
     is_absent_part(init) || declares_nothing(init) && has_no_effect(init) && leaves_nothing(init)
 }
 
-// Of a declarator that goes nothing misses the initializer, or it is the only one of the list and leaves an expression.
-fn may_go(init: &Node, list: &Node) -> bool
+/// Of a declarator that goes nothing misses the initializer, or it is the only one of the list and leaves an expression.
+pub fn may_go(init: &Node, list: &Node) -> bool
     ensures { result ≡ row.may_go init.now list.now }
 {
     is_idle(init) || list.is_bare(1) && declares_nothing(init)
 }
 
-// Whether the name stands neither outside of the statements, nor in its initializer, nor in the other declarators, nor in the other
-// statements. What follows is looked at first: a name that is used mostly is soon.
-fn is_alone(
+/// Whether the name stands neither outside of the statements, nor in its initializer, nor in the other declarators, nor in the other
+/// statements. What follows is looked at first: a name that is used mostly is soon.
+pub fn is_alone(
     name: &Option<Name>,
     outside: &Node,
     init: &Node,
@@ -161,8 +161,8 @@ fn is_alone(
     }
 }
 
-/// Whether nothing else mentions the name of the declarator, and it may go.
-pub fn is_unused_declarator(
+// Whether nothing else mentions the name of the declarator, and it may go.
+fn is_unused_declarator(
     is_free: bool,
     list: &Node,
     which: usize,

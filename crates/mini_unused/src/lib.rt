@@ -9,6 +9,7 @@ mod mentions;
 mod names;
 mod single_uses;
 mod sweeping;
+mod tallies;
 
 pub use catches::{SubstituteCatches, substitute_catch_clause};
 pub use declarations::{

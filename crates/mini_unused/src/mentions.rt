@@ -10,7 +10,7 @@ ghost use Rattle.mini_rows.specs.Unused.{any_names, is_like_one, names};
 use mini_model::{Name, SymbolId, Text};
 use mini_node::{Node, Nodes};
 
-fn is_same_text(left: &Text, right: &Text) -> bool
+pub fn is_same_text(left: &Text, right: &Text) -> bool
     ensures { result ≡ same_text left.now right.now }
 {
     left.as_slice() == right.as_slice()

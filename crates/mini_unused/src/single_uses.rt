@@ -146,7 +146,8 @@ fn is_definition(shape: &Shape) -> bool
     )
 }
 
-fn may_move(node: &Node) -> bool
+/// What may stand where the variable is read.
+pub fn may_move(node: &Node) -> bool
     ensures { result ≡ reading.may_move node.now }
 {
     is_plain_part(node) && !is_definition(node.shape())
@@ -160,18 +161,18 @@ fn is_declared_over(name: &Name, init: &Node, declarators: &Nodes, which: usize)
     is_mentioned(name, init) || is_mentioned_before(name, declarators, which)
 }
 
-// Whether it stands before the declaration, or after the next statement.
+// Whether it stands after the next statement, where it mostly does if anywhere, or before the declaration.
 fn is_mentioned_around(name: &Name, statements: &Nodes, at: usize) -> bool
     requires next { at + 1 < count statements.now }
     requires fits { at + 2 < 2 ^ 64 }
     ensures { result ≡ row.is_mentioned_around name.now statements.now at }
 {
-    is_mentioned_before(name, statements, at) || is_mentioned_from(name, statements, at + 2)
+    is_mentioned_from(name, statements, at + 2) || is_mentioned_before(name, statements, at)
 }
 
-// Whether the statement after the place reads it first.
+/// Whether the statement after the place reads it first.
 #[tactic(auto, using(crate::proofs::SingleUses::read_next))]
-fn reads_next(name: &Name, statements: &Nodes, at: usize) -> bool
+pub fn reads_next(name: &Name, statements: &Nodes, at: usize) -> bool
     requires next { at + 1 < count statements.now }
     requires fits { at + 1 < 2 ^ 64 }
     ensures { result ≡ row.reads_next name.now statements.now at }
@@ -179,8 +180,8 @@ fn reads_next(name: &Name, statements: &Nodes, at: usize) -> bool
     reads_first(name, statements.child(at + 1))
 }
 
-// The next statement reads the name first, and nothing else mentions it.
-fn is_read_once(
+/// The next statement reads the name first, and nothing else mentions it.
+pub fn is_read_once(
     name: &Option<Name>,
     outside: &Node,
     init: &Node,
@@ -234,9 +235,9 @@ fn is_single_declarator(
         )
 }
 
-/// The statement is a declaration, whose last declarator is such a one.
+// The statement is a declaration, whose last declarator is such a one.
 #[tactic(auto, using(crate::proofs::SingleUses::no_declarator, crate::proofs::SingleUses::last_is))]
-pub fn is_single(outside: &Node, statements: &Nodes, at: usize, scopes: &Scopes) -> bool
+fn is_single(outside: &Node, statements: &Nodes, at: usize, scopes: &Scopes) -> bool
     requires next { at + 1 < count statements.now }
     requires fits { at + 2 < 2 ^ 64 }
     ensures single { result ≡ row.is_single (open_in outside.now (marked scopes.now)) outside.now statements.now at }

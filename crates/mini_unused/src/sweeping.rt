@@ -1,17 +1,76 @@
 //! Where one name has gone from a list of statements, the others are looked for from there on: each declarator once, so that no look
 //! begins anew.
 
-ghost use Rattle.std.specs.Prelude.{◌≡◌, ◌+◌, ◌<◌, ◌^◌, true, Some, OnOk};
-ghost use Rattle.mini_model.specs.Tree.{children, count};
-ghost use Rattle.mini_unused.specs.RemoveUnusedDeclaration.{marked, open_in, UnusedOf};
-ghost use Rattle.mini_unused.specs.SubstituteSingleUse.{Calm, Swept};
+//! Where one name has gone from a list of statements, the others are looked for from there on: each declarator once, so that no look
+//! begins anew.
 
-use crate::declarations::{declares_list, drop_in_list, is_lexical, is_unused_declarator};
-use crate::single_uses::{is_single, last_declarator, substitute_in_list};
+ghost use Rattle.std.specs.Prelude.{◌≡◌, ◌+◌, ◌<◌, ◌^◌, ◌||◌, true, false, Some, OnOk};
+ghost use Rattle.mini_model.specs.Tree.{child_or_absent, children, count, listed};
+ghost use Rattle.mini_laws.specs.ScopeList.{has_eval};
+ghost use Rattle.mini_node.specs.Children.{names_of as names, part};
+ghost use Rattle.mini_node.specs.Kinds.{is_listed as is_it_listed};
+ghost use Rattle.mini_unused.specs.Chains.{Chain};
+ghost use Rattle.mini_unused.specs.RemoveUnusedDeclaration.{declares_list as it_declares_list, is_alone as is_it_alone, list_at, marked, open_in, UnusedOf};
+ghost use Rattle.mini_unused.specs.SubstituteSingleUse.{is_read_once as is_it_read_once, is_single as is_it_single, Gone};
+ghost use Rattle.mini_unused.specs.Sweep.{may_go_at, may_move_at, Calm, Swept};
+ghost use Rattle.mini_unused.specs.Tallies.{Tallied};
+
+use crate::declarations::{
+    declares_list, declares_name, drop_in_list, is_alone, is_lexical, may_go, may_lose,
+};
+use crate::single_uses::{is_read_once, last_declarator, may_move, reads_next, substitute_in_list};
+use crate::tallies::{Tallies, has_rare_name, is_rarely_read, tally_list};
 use mini_context::Scopes;
 use mini_model::OutOfMemory;
 use mini_node::{Node, Nodes};
 use std::alloc::Global;
+
+// The declarator has a name that may go, and so may its initializer.
+fn may_go_there(is_free: bool, list: &Node, which: usize, outside: &Node, scopes: &Scopes) -> bool
+    requires { which < count (children list.now) }
+    ensures { result ≡ may_go_at is_free (open_in outside.now (marked scopes.now)) list.now which }
+{
+    let declarator = list.child(which);
+    declares_name(declarator)
+        && may_lose(is_free, declarator.child(0).name(), outside, scopes)
+        && may_go(declarator.child(1), list)
+}
+
+// Nothing else mentions its name, as the tables tell, or a look through the list.
+fn is_alone_there(
+    outside: &Node,
+    statements: &Nodes,
+    at: usize,
+    list: &Node,
+    which: usize,
+    tallies: &Tallies,
+) -> bool
+    requires statement { at < count statements.now }
+    requires fits { at + 1 < 2 ^ 64 }
+    requires fits_too { which + 1 < 2 ^ 64 }
+    requires declares { it_declares_list (child_or_absent statements.now at) ≡ true }
+    requires list { list.now ≡ list_at statements.now at }
+    requires declarator { which < count (children list.now) }
+    requires tallied { Tallied tallies.now outside.now (listed statements.now) }
+    ensures { result ≡ true → is_it_alone (names (part (part list.now which) 0)) outside.now (part (part list.now which) 1) (children list.now) which statements.now at ≡ true }
+{
+    let declarator = list.child(which);
+    if !declares_name(declarator) {
+        return false;
+    }
+    if has_rare_name(tallies, declarator.child(0).name(), 1) {
+        return true;
+    }
+    is_alone(
+        declarator.child(0).name(),
+        outside,
+        declarator.child(1),
+        list.children(),
+        which,
+        statements,
+        at,
+    )
+}
 
 // Of the statement at the place, where it is a declaration, the declarator at the other has a name that nothing else mentions.
 fn is_unused_there(
@@ -20,9 +79,11 @@ fn is_unused_there(
     at: usize,
     which: usize,
     scopes: &Scopes,
+    tallies: &Tallies,
 ) -> bool
     requires statement { at < count statements.now }
     requires fits { at + 1 < 2 ^ 64 }
+    requires tallied { Tallied tallies.now outside.now (listed statements.now) }
     ensures { result ≡ true → UnusedOf (open_in outside.now (marked scopes.now)) outside.now statements.now at (Some which) }
 {
     let statement = statements.child(at);
@@ -33,8 +94,19 @@ fn is_unused_there(
     if which >= list.children().len() {
         return false;
     }
-    let is_free = is_lexical(statement.shape());
-    is_unused_declarator(is_free, list, which, outside, statements, at, scopes)
+    if !may_go_there(is_lexical(statement.shape()), list, which, outside, scopes) {
+        return false;
+    }
+    is_alone_there(outside, statements, at, list, which, tallies)
+}
+
+// A statement comes after the place.
+fn has_next(list: &Node, at: usize) -> bool
+    requires { at + 1 < 2 ^ 64 }
+    ensures next { result ≡ true → at + 1 < count (children list.now) }
+    ensures fits { result ≡ true → at + 2 < 2 ^ 64 }
+{
+    at + 1 < list.children().len()
 }
 
 // How many declarators the statement at the place has.
@@ -49,14 +121,81 @@ fn declarators_at(list: &Node, at: usize) -> usize {
     statement.child(0).children().len()
 }
 
-// It has so many, and a statement comes after it.
-fn is_last_there(list: &Node, at: usize, which: usize) -> bool
-    requires fits { at + 1 < 2 ^ 64 }
-    requires fits_too { which + 1 < 2 ^ 64 }
-    ensures next { result ≡ true → at + 1 < count (children list.now) }
-    ensures fits { result ≡ true → at + 2 < 2 ^ 64 }
+// The declarator has a name that may go, and its initializer may move.
+fn may_move_there(is_free: bool, list: &Node, which: usize, outside: &Node, scopes: &Scopes) -> bool
+    requires { which < count (children list.now) }
+    ensures { result ≡ may_move_at is_free (open_in outside.now (marked scopes.now)) list.now which }
 {
-    at + 1 < list.children().len() && which + 1 == declarators_at(list, at)
+    let declarator = list.child(which);
+    declares_name(declarator)
+        && may_lose(is_free, declarator.child(0).name(), outside, scopes)
+        && may_move(declarator.child(1))
+}
+
+// The next statement reads the name first, and nothing else mentions it, as the tables tell, or a look through the list.
+fn is_read_there(
+    outside: &Node,
+    statements: &Nodes,
+    at: usize,
+    list: &Node,
+    which: usize,
+    tallies: &Tallies,
+) -> bool
+    requires next { at + 1 < count statements.now }
+    requires fits { at + 2 < 2 ^ 64 }
+    requires declares { it_declares_list (child_or_absent statements.now at) ≡ true }
+    requires list { list.now ≡ list_at statements.now at }
+    requires declarator { which + 1 ≡ count (children list.now) }
+    requires tallied { Tallied tallies.now outside.now (listed statements.now) }
+    ensures { result ≡ true → is_it_read_once (names (part (part list.now which) 0)) outside.now (part (part list.now which) 1) (children list.now) which statements.now at ≡ true }
+{
+    let declarator = list.child(which);
+    if !declares_name(declarator) {
+        return false;
+    }
+    if is_rarely_read(tallies, declarator.child(0).name(), statements, at) {
+        return true;
+    }
+    is_read_once(
+        declarator.child(0).name(),
+        outside,
+        declarator.child(1),
+        list.children(),
+        which,
+        statements,
+        at,
+    )
+}
+
+// Of the statement at the place, where it is a declaration, the declarator at the other is the last one, and such a one.
+fn is_single_there(
+    outside: &Node,
+    statements: &Nodes,
+    at: usize,
+    which: usize,
+    scopes: &Scopes,
+    tallies: &Tallies,
+) -> bool
+    requires next { at + 1 < count statements.now }
+    requires fits { at + 2 < 2 ^ 64 }
+    requires fits_too { which + 1 < 2 ^ 64 }
+    requires tallied { Tallied tallies.now outside.now (listed statements.now) }
+    ensures single { result ≡ true → is_it_single (open_in outside.now (marked scopes.now)) outside.now statements.now at ≡ true }
+    ensures declarators { result ≡ true → 0 < count (children (list_at statements.now at)) }
+    ensures list { result ≡ true → 0 < count (children (child_or_absent statements.now at)) }
+{
+    let statement = statements.child(at);
+    if !declares_list(statement) {
+        return false;
+    }
+    let list = statement.child(0);
+    if which + 1 != list.children().len() {
+        return false;
+    }
+    if !may_move_there(is_lexical(statement.shape()), list, which, outside, scopes) {
+        return false;
+    }
+    is_read_there(outside, statements, at, list, which, tallies)
 }
 
 // The last declarator of the statement goes where the next statement reads its name first and nothing else mentions it.
@@ -67,16 +206,17 @@ fn sweep_single(
     at: usize,
     which: usize,
     scopes: &Scopes,
+    tallies: &Tallies,
 )
     requires fits { at + 1 < 2 ^ 64 }
     requires fits_too { which + 1 < 2 ^ 64 }
-    requires calm { Calm outside.now list.old }
-    ensures { Swept (open_in outside.now (marked scopes.now)) outside.now list.old list.new }
+    requires calm { Calm tallies.now outside.now list.old }
+    ensures { Swept (open_in outside.now (marked scopes.now)) tallies.now outside.now list.old list.new }
 {
-    if !is_last_there(list, at, which) {
+    if !has_next(list, at) {
         return;
     }
-    if !is_single(outside, list.children(), at, scopes) {
+    if !is_single_there(outside, list.children(), at, which, scopes, tallies) {
         return;
     }
     let last = last_declarator(list, at);
@@ -91,44 +231,79 @@ fn sweep_declarator(
     at: usize,
     which: usize,
     scopes: &Scopes,
+    tallies: &Tallies,
 ) -> Result<(), OutOfMemory>
     requires fits { at + 1 < 2 ^ 64 }
     requires fits_too { which + 1 < 2 ^ 64 }
-    requires calm { Calm outside.now list.old }
-    ensures { OnOk result (Swept (open_in outside.now (marked scopes.now)) outside.now list.old list.new) }
+    requires calm { Calm tallies.now outside.now list.old }
+    ensures { OnOk result (Swept (open_in outside.now (marked scopes.now)) tallies.now outside.now list.old list.new) }
 {
     if at >= list.children().len() {
         return Ok(());
     }
-    if is_unused_there(outside, list.children(), at, which, scopes) {
+    if is_unused_there(outside, list.children(), at, which, scopes, tallies) {
         return drop_in_list(alloc, list, at, which);
     }
-    sweep_single(alloc, outside, list, at, which, scopes);
+    sweep_single(alloc, outside, list, at, which, scopes, tallies);
     Ok(())
 }
 
 // The declarators of a statement, the last one first.
-#[tactic(auto, using(crate::proofs::Swept::swept_none, crate::proofs::Swept::swept_on))]
 fn sweep_statement(
     alloc: Global,
     outside: &Node,
     list: &mut Node,
     at: usize,
     scopes: &Scopes,
+    tallies: &Tallies,
 ) -> Result<(), OutOfMemory>
     requires fits { at + 1 < 2 ^ 64 }
-    requires calm { Calm outside.now list.old }
-    ensures { OnOk result (Swept (open_in outside.now (marked scopes.now)) outside.now list.old list.new) }
+    requires calm { Calm tallies.now outside.now list.old }
+    ensures { OnOk result (Swept (open_in outside.now (marked scopes.now)) tallies.now outside.now list.old list.new) }
 {
     let count = declarators_at(list, at);
     for passed in 0..count {
-        sweep_declarator(alloc, outside, list, at, count - 1 - passed, scopes)?;
+        sweep_declarator(
+            alloc,
+            outside,
+            list,
+            at,
+            count - 1 - passed,
+            scopes,
+            tallies,
+        )?;
+    }
+    Ok(())
+}
+
+// How many declarators the statements have from a place on, up to a number past which it doesn't matter.
+fn count_declarators(list: &Node, from: usize) -> usize {
+    let mut declarators: usize = 0;
+    for at in from..list.children().len() {
+        declarators = declarators.saturating_add(declarators_at(list, at));
+    }
+    declarators
+}
+
+// From a place on, with the tables.
+fn sweep_from(
+    alloc: Global,
+    outside: &Node,
+    list: &mut Node,
+    from: usize,
+    scopes: &Scopes,
+    tallies: &Tallies,
+) -> Result<(), OutOfMemory>
+    requires { Calm tallies.now outside.now list.old }
+    ensures { OnOk result (Swept (open_in outside.now (marked scopes.now)) tallies.now outside.now list.old list.new) }
+{
+    for at in from..list.children().len() {
+        sweep_statement(alloc, outside, list, at, scopes, tallies)?;
     }
     Ok(())
 }
 
 /// Of a list of statements, from a place on, each name goes that nothing else mentions, or that is read once.
-#[tactic(auto, using(crate::proofs::Swept::swept_none, crate::proofs::Swept::swept_on))]
 pub fn sweep(
     alloc: Global,
     outside: &Node,
@@ -136,11 +311,10 @@ pub fn sweep(
     from: usize,
     scopes: &Scopes,
 ) -> Result<(), OutOfMemory>
-    requires { Calm outside.now list.old }
-    ensures { OnOk result (Swept (open_in outside.now (marked scopes.now)) outside.now list.old list.new) }
+    requires list { is_it_listed list.old ≡ true }
+    requires unseen { (has_eval outside.now || has_eval list.old) ≡ false }
+    ensures { OnOk result (Chain (Gone (open_in outside.now (marked scopes.now)) outside.now) list.old list.new) }
 {
-    for at in from..list.children().len() {
-        sweep_statement(alloc, outside, list, at, scopes)?;
-    }
-    Ok(())
+    let tallies = tally_list(alloc, outside, list, count_declarators(list, from))?;
+    sweep_from(alloc, outside, list, from, scopes, &tallies)
 }

@@ -1,6 +1,0 @@
-use Rattle.mini_unused.specs.RemoveUnusedDeclaration.{marked, open_in}
-use Rattle.mini_unused.specs.SubstituteSingleUse.{Swept}
-use Rattle.mini_unused.proofs.sweeping.sweep.Given as goal
-
-abbrev pub invariant-loop-at : goal.invariant-loop-at
-invariant-loop-at l = Swept (open_in l.fn.outside (marked l.fn.scopes)) l.fn.outside l.fn.list l.list

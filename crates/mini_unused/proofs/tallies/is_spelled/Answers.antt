@@ -1,0 +1,8 @@
+use Rattle.std.proofs.Common.{◌≤◌, ◌∙◌, false, sym, subst}
+use Rattle.mini_node.specs.Children.{names}
+use Rattle.mini_unused.specs.Tallies.{bucket, own_tally}
+use Rattle.mini_unused.proofs.Rare.{text_counted}
+use Rattle.mini_unused.proofs.tallies.is_spelled.Goals as goal
+
+pub returns-in-Some : goal.returns-in-Some
+returns-in-Some c = λ e r. subst (λ o. 1 ≤ own_tally (bucket false r) (bucket false r c.args.name.now) (names o)) (sym c.in-Some.is) (text_counted r c.args.name.now c.in-Some.other (sym c.is_same_text.ensures ∙ e))
