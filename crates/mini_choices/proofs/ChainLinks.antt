@@ -11,7 +11,7 @@ use Rattle.mini_node.specs.Children.{part, is_bare}
 use Rattle.mini_node.specs.Kinds.{is_listed, is_null}
 use Rattle.mini_node.specs.Made.{listed_is, null_is}
 use Rattle.mini_terms.specs.Parts.{is_link, leaves_nothing}
-use Rattle.mini_terms.specs.Reading.{is_unguarded, is_plain_part, stands}
+use Rattle.mini_terms.specs.Reading.{is_plain_part, stands}
 use Rattle.mini_rows.specs.Chains.{is_calm, are_calm, Link, a_member, a_computed, a_call, linked, is_calm_link, chain}
 use Rattle.mini_rows.specs.ChainLinks.{is_there, Marked, marked, links_over, are_calm_over, has_mark, chain_if, nothing, Row64, Row11, Row10, ChainRow}
 use Rattle.mini_rows.specs.Choices.{ChoiceContracts}
@@ -19,7 +19,7 @@ use Rattle.mini_rows.proofs.ChainLinkLawful.{chains_fall}
 use Rattle.mini_rows.specs.Spellings.{void_zero}
 use Rattle.mini_choices.specs.Forms.{is_void_zero}
 use Rattle.mini_choices.specs.MinimizeConditionalBranches.{is_lighter}
-use Rattle.mini_choices.specs.FoldChainExpr.{is_chain, ends_none, is_step, is_marked, link_shape, relinked, holds_link, is_value, folds_here, here, with_mark, outcome, outcome_in, folded, folded_in, wrapped, is_read, folded_written, is_nothing, ends_at_once, ends_in, may_end, written}
+use Rattle.mini_choices.specs.FoldChainExpr.{is_chain, ends_none, is_step, is_marked, link_shape, relinked, holds_link, is_value, folds_here, here, with_mark, outcome, outcome_in, folded, folded_in, wrapped, folded_written, is_nothing, ends_at_once, ends_in, may_end, written}
 use Rattle.mini_choices.proofs.FormsAre.{either_true, void_zero_is}
 use Rattle.mini_choices.proofs.Trials.{not_true, both_true, some_is, tried, first_true, later_true, lighter_test}
 
@@ -230,21 +230,20 @@ module _ (s : Seat) (n : Tree) where
   abbrev may : Bool
   may = not s.new_callee
 
-  of_joined : (stays : Bool) → is_chain n ≡ true → is_unguarded s.guard ≡ true → Joined may links stays → Row64 s n (chain_if stays (folded may links))
-  of_joined stays c g j = record {
+  of_joined : (stays : Bool) → is_chain n ≡ true → Joined may links stays → Row64 n (chain_if stays (folded may links))
+  of_joined stays c j = record {
     others = j.others;
     link = j.link;
     inner = j.inner;
     held = j.held;
     calm = j.calm;
     calm_others = j.calm_others;
-    unguarded = g;
     shape = chain_is n c ∙ ap chain j.is;
     written = ap (λ b. chain_if b (folded may links)) j.keeps ∙ ap chain j.makes;
   }
 
-  of_closed : (stays : Bool) → is_chain n ≡ true → is_unguarded s.guard ≡ true → Closed may links stays → Row11 s n (chain_if stays (folded may links))
-  of_closed stays c g j =
+  of_closed : (stays : Bool) → is_chain n ≡ true → Closed may links stays → Row11 s n (chain_if stays (folded may links))
+  of_closed stays c j =
       let (known, h1) = and_parts (is_there j.base) (is_plain_part j.base && (stands j.base && is_calm j.base)) j.known in
       let (plain, h2) = and_parts (is_plain_part j.base) (stands j.base && is_calm j.base) h1 in
       let (value, calm) = and_parts (stands j.base) (is_calm j.base) h2 in
@@ -258,7 +257,6 @@ module _ (s : Seat) (n : Tree) where
         calm_base = calm;
         calm = j.calm;
         calm_others = j.calm_others;
-        unguarded = g;
         called = not_true s.new_callee j.closes;
         shape = chain_is n c ∙ ap chain j.is;
         written = ap (λ b. chain_if b (folded may links)) j.keeps ∙ ap (chain_if (has_mark j.others)) j.makes;
@@ -267,21 +265,18 @@ module _ (s : Seat) (n : Tree) where
   contracts : (w : Tree) → ChainRow s n w → ChoiceContracts (Expr s) n w
   contracts w r = record { row = inr (inr (inr (inr (inr (inl r))))); lighter = chains_fall s n w r }
 
-  row_of : (stays : Bool) → is_read s n ≡ true → Folds may links stays → ChainRow s n (chain_if stays (folded may links))
-  row_of stays h f = let (c, g) = and_parts (is_chain n) (is_unguarded s.guard) h in kind c g f
-    where
-      kind : is_chain n ≡ true → is_unguarded s.guard ≡ true → Folds may links stays → ChainRow s n (chain_if stays (folded may links))
-      kind c g (inl j) = inl (of_joined stays c g j)
-      kind c g (inr j) = inr (of_closed stays c g j)
+  row_of : (stays : Bool) → is_chain n ≡ true → Folds may links stays → ChainRow s n (chain_if stays (folded may links))
+  row_of stays c (inl j) = inl (of_joined stays c j)
+  row_of stays c (inr j) = inr (of_closed stays c j)
 
 links_row : (s : Seat) (n w : Tree) → folded_written s n ≡ Some w → ChoiceContracts (Expr s) n w
-links_row s n w e = go (is_read s n) refl e
+links_row s n w e = go (is_chain n) refl e
   where
-    of : is_read s n ≡ true → (o : Option Bool) → outcome (may s n) (links s n) ≡ o → wrapped o (folded (may s n) (links s n)) ≡ Some w → ChoiceContracts (Expr s) n w
+    of : is_chain n ≡ true → (o : Option Bool) → outcome (may s n) (links s n) ≡ o → wrapped o (folded (may s n) (links s n)) ≡ Some w → ChoiceContracts (Expr s) n w
     of h (Some stays) f g = subst (ChoiceContracts (Expr s) n) (some_is _ w g) (contracts s n (chain_if stays (folded (may s n) (links s n))) (row_of s n stays h (folds_of (may s n) (links s n) stays f)))
     of h None f g = absurd (cc g)
 
-    go : (b : Bool) → is_read s n ≡ b → (if b then wrapped (outcome (may s n) (links s n)) (folded (may s n) (links s n)) else None) ≡ Some w → ChoiceContracts (Expr s) n w
+    go : (b : Bool) → is_chain n ≡ b → (if b then wrapped (outcome (may s n) (links s n)) (folded (may s n) (links s n)) else None) ≡ Some w → ChoiceContracts (Expr s) n w
     go true h g = of h (outcome (may s n) (links s n)) refl g
     go false h g = absurd (cc g)
 
@@ -327,8 +322,8 @@ module _ (d : Bool) where
       let (one, rest) = and_parts (is_calm_link l) (are_calm_over ms) c in
       there_below o l (links_over ms t) one (there_over ms t rest h)
 
-is_written : (s : Seat) (c : Tree) → is_unguarded s.guard ≡ true → is_some (outcome (not s.new_callee) c) ≡ true → is_some (folded_written s (chain c)) ≡ true
-is_written s c g h = ap (λ b. is_some (if b then wrapped (outcome (not s.new_callee) c) (folded (not s.new_callee) c) else None)) g ∙ go (outcome (not s.new_callee) c) h
+is_written : (s : Seat) (c : Tree) → is_some (outcome (not s.new_callee) c) ≡ true → is_some (folded_written s (chain c)) ≡ true
+is_written s c h = go (outcome (not s.new_callee) c) h
   where
     go : (o : Option Bool) → is_some o ≡ true → is_some (wrapped o (folded (not s.new_callee) c)) ≡ true
     go (Some stays) e = refl
@@ -338,13 +333,13 @@ links_pass : (s : Seat) (n w : Tree) → ChainRow s n w → is_some (folded_writ
 links_pass s n w (inl r) =
     let d = not s.new_callee in
     ap (λ x. is_some (folded_written s x)) r.shape
-    ∙ is_written s (links_over r.others (linked true r.link (chain r.inner))) r.unguarded
+    ∙ is_written s (links_over r.others (linked true r.link (chain r.inner)))
     (there_over d r.others (linked true r.link (chain r.inner)) r.calm_others (there_here d r.link (chain r.inner) r.calm (ap (λ b. b || (d && is_value (chain r.inner))) r.held)))
 links_pass s n w (inr r) =
     let d = not s.new_callee in
     let there : is_value r.base ≡ true = both_true (is_there r.base) _ r.known (both_true (is_plain_part r.base) _ r.plain (both_true (stands r.base) (is_calm r.base) r.value r.calm_base)) in
     ap (λ x. is_some (folded_written s x)) r.shape
-    ∙ is_written s (links_over r.others (linked true r.link r.base)) r.unguarded
+    ∙ is_written s (links_over r.others (linked true r.link r.base))
     (there_over d r.others (linked true r.link r.base) r.calm_others (there_here d r.link r.base r.calm (or_last (holds_link r.base) (both_true d (is_value r.base) (ap not r.called) there))))
   where
     or_last : (b : Bool) {c : Bool} → c ≡ true → b || c ≡ true
@@ -429,20 +424,18 @@ mutual
   ended_in (t ▸ ts) e = ended_of t e
 
 module _ (s : Seat) (n : Tree) where
-  end_row : may_end s n && is_lighter s void_zero n ≡ true → ChoiceContracts (Expr s) n void_zero
+  end_row : may_end n && is_lighter s void_zero n ≡ true → ChoiceContracts (Expr s) n void_zero
   end_row h =
-      let (may, less) = and_parts (may_end s n) (is_lighter s void_zero n) h in
-      let (read, rest) = and_parts (is_read s n) (ends_at_once (part n 0) && leaves_nothing (part n 0)) may in
-      let (c, g) = and_parts (is_chain n) (is_unguarded s.guard) read in
+      let (may, less) = and_parts (may_end n) (is_lighter s void_zero n) h in
+      let (c, rest) = and_parts (is_chain n) (ends_at_once (part n 0) && leaves_nothing (part n 0)) may in
       let (ends, goes) = and_parts (ends_at_once (part n 0)) (leaves_nothing (part n 0)) rest in
       let o = ended_of (part n 0) ends in
-      let row : Row10 s n void_zero = record {
+      let row : Row10 n void_zero = record {
         others = o.others;
         link = o.link;
         is_null = o.is_null;
         calm = o.calm;
         calm_others = o.calm_others;
-        unguarded = g;
         dropped = subst (λ t. leaves_nothing t ≡ true) o.is goes;
         shape = chain_is n c ∙ ap chain o.is;
         written = refl;
@@ -450,10 +443,10 @@ module _ (s : Seat) (n : Tree) where
       record { row = inr (inr (inr (inr (inr (inr row))))); lighter = omega (arith, ltb-true _ _ less) }
 
 pub folded_row : (s : Seat) (n w : Tree) → written s n ≡ Some w → ChoiceContracts (Expr s) n w
-folded_row s n w e = tried s n w (may_end s n && is_lighter s void_zero n) void_zero (folded_written s n) (end_row s n) (links_row s n w) e
+folded_row s n w e = tried s n w (may_end n && is_lighter s void_zero n) void_zero (folded_written s n) (end_row s n) (links_row s n w) e
 
 pub folded_passes : (s : Seat) (n w : Tree) → ChainRow s n w → is_some (written s n) ≡ true
-folded_passes s n w r = later_true (may_end s n && is_lighter s void_zero n) void_zero (folded_written s n) (links_pass s n w r)
+folded_passes s n w r = later_true (may_end n && is_lighter s void_zero n) void_zero (folded_written s n) (links_pass s n w r)
 
 ends_passes : (ms : List Marked) (l : Link) (b : Bool) → is_calm_link l ≡ true → are_calm_over ms ≡ true → ends_at_once (links_over ms (linked true l (nothing b))) ≡ true
 ends_passes [] l b c d =
@@ -471,12 +464,12 @@ ends_passes (marked o m ∷ ms) l b c d =
     or_last true e = refl
     or_last false e = e
 
-pub end_passes : (s : Seat) (n w : Tree) → Row10 s n w → weight (Expr s) n < 2 ^ 64 → weight (Expr s) w < weight (Expr s) n → is_some (written s n) ≡ true
+pub end_passes : (s : Seat) (n w : Tree) → Row10 n w → weight (Expr s) n < 2 ^ 64 → weight (Expr s) w < weight (Expr s) n → is_some (written s n) ≡ true
 end_passes s n w r small less =
     let c : Tree = links_over r.others (linked true r.link (nothing r.is_null)) in
     let same = ap (weight (Expr s)) r.shape in
     let made = ap (weight (Expr s)) r.written in
     ap (λ t. is_some (written s t)) r.shape
-    ∙ first_true (may_end s (chain c) && is_lighter s void_zero (chain c)) void_zero (folded_written s (chain c))
-    (both_true (may_end s (chain c)) (is_lighter s void_zero (chain c)) (both_true (is_unguarded s.guard) _ r.unguarded (both_true (ends_at_once c) (leaves_nothing c) (ends_passes r.others r.link r.is_null r.calm r.calm_others) r.dropped))
+    ∙ first_true (may_end (chain c) && is_lighter s void_zero (chain c)) void_zero (folded_written s (chain c))
+    (both_true (may_end (chain c)) (is_lighter s void_zero (chain c)) (both_true (ends_at_once c) (leaves_nothing c) (ends_passes r.others r.link r.is_null r.calm r.calm_others) r.dropped)
     (lighter_test s void_zero (chain c) (omega (arith, small, same)) (omega (arith, less, same, made))))

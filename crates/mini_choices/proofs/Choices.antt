@@ -22,7 +22,6 @@ use Rattle.mini_node.specs.Kinds.{binary, assignment, is_logical, is_conditional
 use Rattle.mini_node.specs.Made.{assignment_is, logical_is, binary_is, conditional_is, null_is}
 use Rattle.mini_node.proofs.Equality.{tree_itself}
 use Rattle.mini_terms.specs.Folds.{is_effect_free}
-use Rattle.mini_rows.specs.Chains.{chain}
 use Rattle.mini_rows.specs.Choices.{assign, is_grouped, joined, strictly, joining, asks_object, null_compared, ended, deciding, computing, may_choose, Row39, Row38, Row35, Row45, Row46Equal, Row46Unequal, Row44, LighterRow, OwnRow, ChoiceRow, ChoiceContracts}
 use Rattle.mini_rows.proofs.ChoiceCalls.{calls_lighter}
 use Rattle.mini_rows.proofs.ChoiceWeights as choice_weights
@@ -37,7 +36,6 @@ use Rattle.mini_choices.specs.MinimizeConditionalBranches as branches
 use Rattle.mini_choices.specs.MinimizeHeldBranches as held
 use Rattle.mini_choices.specs.InjectOptionalChaining as chains
 use Rattle.mini_choices.specs.FoldChainExpr as folded
-use Rattle.mini_terms.specs.Reading.{is_unguarded}
 use Rattle.mini_terms.specs.Parts.{leaves_nothing}
 use Rattle.mini_rows.specs.Spellings.{void_zero}
 use Rattle.mini_choices.proofs.ChainLinks.{end_passes, chain_is, folded_row, folded_passes}
@@ -387,17 +385,17 @@ chain_there s n h =
     first_of_both false c d x y e = e
 
     chooses : (t : Tree) → is_some (chains.written s t) ≡ true → is_conditional t ≡ true
-    chooses t e = first_of_both (is_conditional t) _ _ (chain (chains.optional_over (part t 2))) (chain (chains.optional_over (part t 1))) e
+    chooses t e = first_of_both (is_conditional t) _ _ (chains.chained t (part t 2)) (chains.chained t (part t 1)) e
 
 folded_there : (s : Seat) (n : Tree) → is_some (folded.written s n) ≡ true → is_some (written s n) ≡ true
 folded_there s n h = ap (λ t. is_some (written s t)) (chain_is n (chains n h)) ∙ sym (ap (λ t. is_some (folded.written s t)) (chain_is n (chains n h))) ∙ h
   where
-    first_of_three : (b g c d : Bool) (x y : Option Tree) → is_some (if ((b && g) && c) && d then x else (if b && g then y else None)) ≡ true → b ≡ true
-    first_of_three true g c d x y e = refl
-    first_of_three false g c d x y e = e
+    first_of_two : (b c d : Bool) (x y : Option Tree) → is_some (if (b && c) && d then x else (if b then y else None)) ≡ true → b ≡ true
+    first_of_two true c d x y e = refl
+    first_of_two false c d x y e = e
 
     chains : (t : Tree) → is_some (folded.written s t) ≡ true → folded.is_chain t ≡ true
-    chains t e = first_of_three (folded.is_chain t) (is_unguarded s.guard) (folded.ends_at_once (part t 0) && leaves_nothing (part t 0)) (branches.is_lighter s void_zero t) (Some void_zero) (folded.wrapped (folded.outcome (not s.new_callee) (part t 0)) (folded.folded (not s.new_callee) (part t 0))) e
+    chains t e = first_of_two (folded.is_chain t) (folded.ends_at_once (part t 0) && leaves_nothing (part t 0)) (branches.is_lighter s void_zero t) (Some void_zero) (folded.wrapped (folded.outcome (not s.new_callee) (part t 0)) (folded.folded (not s.new_callee) (part t 0))) e
 
 in_comparisons : (t : Tree) → is_some (first_of (nullish.written t) (object_test.written t)) ≡ true → is_some (first_of (rotate.written t) (first_of (decide.written t) (first_of (nullish.written t) (object_test.written t)))) ≡ true
 in_comparisons t h = second_there (rotate.written t) (first_of (decide.written t) (first_of (nullish.written t) (object_test.written t))) (second_there (decide.written t) (first_of (nullish.written t) (object_test.written t)) h)

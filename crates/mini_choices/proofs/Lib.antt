@@ -12,4 +12,6 @@ pub mod ObjectTest
 pub mod Choices
 pub mod CombinedLogicalAssignment
 pub mod AssignedComparison
+pub mod AssignedNullishComparison
+pub mod AssignedChains
 pub mod Writes

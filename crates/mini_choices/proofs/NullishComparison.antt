@@ -22,7 +22,7 @@ use Rattle.mini_choices.proofs.Spines.{logical_kind_is}
 use Rattle.mini_choices.proofs.Trials.{some_is, both_true, first_true}
 use Rattle.mini_choices.proofs.FormsAre.{nullish_is, nullish_passes}
 
-strict_is : (equal : Bool) (t : Tree) → nullish.is_strict equal t ≡ true → t ≡ binary (strictly equal) (part t 0) (part t 1)
+pub strict_is : (equal : Bool) (t : Tree) → nullish.is_strict equal t ≡ true → t ≡ binary (strictly equal) (part t 0) (part t 1)
 strict_is equal t e = go equal (binary_operator t) refl e
   where
     go : (equal : Bool) (o : Option BinaryOperator) → binary_operator t ≡ o → nullish.is_strict_in o equal ≡ true → t ≡ binary (strictly equal) (part t 0) (part t 1)
@@ -31,7 +31,7 @@ strict_is equal t e = go equal (binary_operator t) refl e
     go true o h e = absurd (false≢true e)
     go false o h e = absurd (false≢true e)
 
-joins_is : (n : Tree) (equal : Bool) → nullish.joins_in (logical_operator n) ≡ Some equal → n ≡ logical (joining equal) (part n 0) (part n 1)
+pub joins_is : (n : Tree) (equal : Bool) → nullish.joins_in (logical_operator n) ≡ Some equal → n ≡ logical (joining equal) (part n 0) (part n 1)
 joins_is n equal e = go equal (logical_operator n) refl e
   where
     go : (equal : Bool) (o : Option LogicalOperator) → logical_operator n ≡ o → nullish.joins_in o ≡ Some equal → n ≡ logical (joining equal) (part n 0) (part n 1)
@@ -91,7 +91,7 @@ after_row n equal h e =
       second = part (part n 1) 1;
       nullish = both.nullish_both;
       shape = joins_is n equal h ∙ (λ i. logical (joining equal) ((logical_kind_is (joining equal) left kind ∙ ap (logical (joining equal) (part left 0)) both.one) i) (both.other i));
-      written = ap (λ x. logical (joining equal) (part left 0) (binary (loosely equal) x null_literal)) both.second;
+      written = ap (λ x. logical (joining equal) (part left 0) (binary (loosely equal) x null_literal)) both.first;
     }
 
 module _ (R : Tree → Tree → Type 0) (alone : (n w : Tree) → Row37 n w → R n w) (behind : (n w : Tree) → Row37After n w → R n w) (n w : Tree) where

@@ -7,7 +7,6 @@ use Rattle.mini_model.specs.declared.operator.BinaryOperator.{BinaryOperator}
 use Rattle.mini_model.specs.declared.operator.BinaryOperator.TheVariants.{Equality, Inequality}
 use Rattle.mini_model.specs.declared.place.Position.TheVariants.{Expr}
 use Rattle.mini_model.specs.declared.seat.Seat.{Seat}
-use Rattle.mini_model.specs.declared.shape.Shape.TheVariants as shape
 use Rattle.mini_model.specs.Tree.{Tree, Trees, node, none, ◌▸◌, children, child_or_absent, count, node_count, node_counts, shape_of, identifier, conditional, null_literal}
 use Rattle.mini_model.specs.Weight.{same_text}
 use Rattle.mini_node.specs.Children.{part, names_of, number_of, rest_children}
@@ -16,14 +15,13 @@ use Rattle.mini_node.specs.Kinds.{binary, is_conditional, is_identifier, is_null
 use Rattle.mini_node.specs.Made.{static_member_is, computed_member_is, call_expression_is, identifier_is, conditional_is, binary_is, null_is}
 use Rattle.mini_node.specs.Walks.{next_child, no_rest}
 use Rattle.mini_node.proofs.Equality.{tree_same, tree_itself}
-use Rattle.mini_terms.specs.Reading.{is_unguarded}
 use Rattle.mini_rows.specs.Choices.{ChoiceContracts}
-use Rattle.mini_rows.specs.Chains.{is_closed_shape, is_open_shape, is_word_shape, is_calm, are_calm, Link, a_member, a_computed, a_call, linked, spine, is_calm_link, are_calm_links, chain, if_nullish, Row46Chain}
+use Rattle.mini_rows.specs.Chains.{reads_value, is_closed_shape, is_open_shape, is_word_shape, is_calm, are_calm, Link, a_member, a_computed, a_call, linked, spine, is_calm_link, are_calm_links, chain, if_nullish, Row46Chain}
 use Rattle.mini_rows.proofs.ChainLawful.{chain_row_lighter}
 use Rattle.mini_choices.specs.Assigning.{is_declared}
 use Rattle.mini_choices.specs.Forms.{is_undefined}
 use Rattle.mini_choices.specs.MinimizeConditionalBranches.{is_equal_in, is_unequal_in}
-use Rattle.mini_choices.specs.InjectOptionalChaining.{is_link, is_spine, is_over, opened, with_first, optional_over, optional_in, is_eval, asks_name, reads_name, is_read_last, is_read_first, first_written, written}
+use Rattle.mini_choices.specs.InjectOptionalChaining.{is_link, is_spine, is_over, opened, with_first, optional_over, optional_in, chained, is_eval, asks_name, reads_name, is_read_last, is_read_first, first_written, written}
 use Rattle.mini_choices.proofs.Trials.{not_true, both_true, tried, first_true, later_true}
 use Rattle.mini_choices.proofs.FormsAre.{either_true, undefined_is, undefined_passes}
 
@@ -56,23 +54,26 @@ spine_below x (node h xs n ts) e = ap (λ b. b && is_over x ts) e ∙ over_first
 pub spine_there : (x t : Tree) → is_link t ≡ false → is_spine x t ≡ false
 spine_there x (node h xs n ts) e = ap (λ b. b && is_over x ts) e
 
-optional_first : (ts : Trees) → optional_in ts ≡ optional_over (child_or_absent ts 0)
-optional_first none = refl
-optional_first (t ▸ ts) = refl
+optional_first : (u : Tree) (ts : Trees) → optional_in u ts ≡ optional_over u (child_or_absent ts 0)
+optional_first u none = refl
+optional_first u (t ▸ ts) = refl
 
-pub over_name : (t : Tree) → is_link t ≡ true → is_identifier (part t 0) ≡ true → optional_over t ≡ node (opened (shape_of t)) (names_of t) (number_of t) (with_first (children t) (part t 0))
-over_name (node h xs n ts) e f =
-    ap (λ b. if b then (if is_identifier (child_or_absent ts 0) then node (opened h) xs n (with_first ts (child_or_absent ts 0)) else node h xs n (with_first ts (optional_in ts))) else node h xs n ts) e
-    ∙ ap (λ b. if b then node (opened h) xs n (with_first ts (child_or_absent ts 0)) else node h xs n (with_first ts (optional_in ts))) f
+abbrev over_first_child : Tree → Trees → (Trees → Tree) → (Trees → Tree) → Bool → Tree
+over_first_child u ts opens goes b = if b then opens (with_first ts u) else goes (with_first ts (optional_in u ts))
 
-pub over_link : (t : Tree) → is_link t ≡ true → is_identifier (part t 0) ≡ false → optional_over t ≡ node (shape_of t) (names_of t) (number_of t) (with_first (children t) (optional_over (part t 0)))
-over_link (node h xs n ts) e f =
-    ap (λ b. if b then (if is_identifier (child_or_absent ts 0) then node (opened h) xs n (with_first ts (child_or_absent ts 0)) else node h xs n (with_first ts (optional_in ts))) else node h xs n ts) e
-    ∙ ap (λ b. if b then node (opened h) xs n (with_first ts (child_or_absent ts 0)) else node h xs n (with_first ts (optional_in ts))) f
-    ∙ ap (λ t. node h xs n (with_first ts t)) (optional_first ts)
+pub over_name : (u t : Tree) → is_link t ≡ true → is_identifier (part t 0) ≡ true → optional_over u t ≡ node (opened (shape_of t)) (names_of t) (number_of t) (with_first (children t) u)
+over_name u (node h xs n ts) e f =
+    ap (λ b. if b then over_first_child u ts (node (opened h) xs n) (node h xs n) (is_identifier (child_or_absent ts 0)) else node h xs n ts) e
+    ∙ ap (over_first_child u ts (node (opened h) xs n) (node h xs n)) f
 
-pub over_other : (t : Tree) → is_link t ≡ false → optional_over t ≡ t
-over_other (node h xs n ts) e = ap (λ b. if b then (if is_identifier (child_or_absent ts 0) then node (opened h) xs n (with_first ts (child_or_absent ts 0)) else node h xs n (with_first ts (optional_in ts))) else node h xs n ts) e
+pub over_link : (u t : Tree) → is_link t ≡ true → is_identifier (part t 0) ≡ false → optional_over u t ≡ node (shape_of t) (names_of t) (number_of t) (with_first (children t) (optional_over u (part t 0)))
+over_link u (node h xs n ts) e f =
+    ap (λ b. if b then over_first_child u ts (node (opened h) xs n) (node h xs n) (is_identifier (child_or_absent ts 0)) else node h xs n ts) e
+    ∙ ap (over_first_child u ts (node (opened h) xs n) (node h xs n)) f
+    ∙ ap (λ t. node h xs n (with_first ts t)) (optional_first u ts)
+
+pub over_other : (u t : Tree) → is_link t ≡ false → optional_over u t ≡ t
+over_other u (node h xs n ts) e = ap (λ b. if b then over_first_child u ts (node (opened h) xs n) (node h xs n) (is_identifier (child_or_absent ts 0)) else node h xs n ts) e
 
 -- ---- what is read of the name is a spine
 
@@ -105,23 +106,23 @@ link_passes (a_member k) t p = or_first (is_word_shape (shape_of k)) (false || f
 link_passes (a_computed k) t p = or_false (is_calm k) p
 link_passes (a_call ts) t p = p
 
--- a link is optional over the name
-linked_over_name : (l : Link) (t : Tree) → is_calm_link l ≡ true → is_identifier t ≡ true → optional_over (linked false l t) ≡ linked true l t
-linked_over_name (a_member k) t p e = over_name (linked false (a_member k) t) (link_passes (a_member k) t p) e
-linked_over_name (a_computed k) t p e = over_name (linked false (a_computed k) t) (link_passes (a_computed k) t p) e
-linked_over_name (a_call ts) t p e = over_name (linked false (a_call ts) t) (link_passes (a_call ts) t p) e
+-- a link is optional over the name, and stands over this
+linked_over_name : (u : Tree) (l : Link) (t : Tree) → is_calm_link l ≡ true → is_identifier t ≡ true → optional_over u (linked false l t) ≡ linked true l u
+linked_over_name u (a_member k) t p e = over_name u (linked false (a_member k) t) (link_passes (a_member k) t p) e
+linked_over_name u (a_computed k) t p e = over_name u (linked false (a_computed k) t) (link_passes (a_computed k) t p) e
+linked_over_name u (a_call ts) t p e = over_name u (linked false (a_call ts) t) (link_passes (a_call ts) t p) e
 
-linked_over_link : (l : Link) (t : Tree) → is_calm_link l ≡ true → is_identifier t ≡ false → optional_over (linked false l t) ≡ linked false l (optional_over t)
-linked_over_link (a_member k) t p e = over_link (linked false (a_member k) t) (link_passes (a_member k) t p) e
-linked_over_link (a_computed k) t p e = over_link (linked false (a_computed k) t) (link_passes (a_computed k) t p) e
-linked_over_link (a_call ts) t p e = over_link (linked false (a_call ts) t) (link_passes (a_call ts) t p) e
+linked_over_link : (u : Tree) (l : Link) (t : Tree) → is_calm_link l ≡ true → is_identifier t ≡ false → optional_over u (linked false l t) ≡ linked false l (optional_over u t)
+linked_over_link u (a_member k) t p e = over_link u (linked false (a_member k) t) (link_passes (a_member k) t p) e
+linked_over_link u (a_computed k) t p e = over_link u (linked false (a_computed k) t) (link_passes (a_computed k) t p) e
+linked_over_link u (a_call ts) t p e = over_link u (linked false (a_call ts) t) (link_passes (a_call ts) t p) e
 
-record SpineOf (x t : Tree) : Type 0 where
-  last : Link
-  others : List Link
-  calm : are_calm_links last others ≡ true
-  is : t ≡ spine false x last others
-  over : optional_over t ≡ spine true x last others
+pub record SpineOf (x t : Tree) : Type 0 where
+  pub last : Link
+  pub others : List Link
+  pub calm : are_calm_links last others ≡ true
+  pub is : t ≡ spine false x last others
+  pub over : (u : Tree) → optional_over u t ≡ spine true u last others
 
 over_one : (x t : Tree) (l : LinkOf t) → is_identifier (part t 0) ≡ true → same_tree (part t 0) x ≡ true → SpineOf x t
 over_one x t l i e =
@@ -131,7 +132,7 @@ over_one x t l i e =
       others = [];
       calm = l.calm;
       is = l.is ∙ ap (linked false l.link) same;
-      over = ap optional_over l.is ∙ linked_over_name l.link (part t 0) l.calm i ∙ ap (linked true l.link) same;
+      over = λ u. ap (optional_over u) l.is ∙ linked_over_name u l.link (part t 0) l.calm i;
     }
 
 over_more : (x t : Tree) (l : LinkOf t) → is_identifier (part t 0) ≡ false → SpineOf x (part t 0) → SpineOf x t
@@ -140,7 +141,7 @@ over_more x t l i below = record {
   others = below.last ∷ below.others;
   calm = both_true (is_calm_link l.link) (are_calm_links below.last below.others) l.calm below.calm;
   is = l.is ∙ ap (linked false l.link) below.is;
-  over = ap optional_over l.is ∙ linked_over_link l.link (part t 0) l.calm i ∙ ap (linked false l.link) below.over;
+  over = λ u. ap (optional_over u) l.is ∙ linked_over_link u l.link (part t 0) l.calm i ∙ ap (linked false l.link) (below.over u);
 }
 
 by_link : (x t : Tree) → (is_spine x (part t 0) ≡ true → SpineOf x (part t 0)) → is_spine x t ≡ true → SpineOf x t
@@ -155,7 +156,7 @@ by_link x t below e = go (is_link t) refl
     go false h = absurd (true≢false (sym e ∙ spine_there x t h))
 
 mutual
-  spine_of : (x t : Tree) → is_spine x t ≡ true → SpineOf x t
+  pub spine_of : (x t : Tree) → is_spine x t ≡ true → SpineOf x t
   spine_of x (node h xs n ts) e = by_link x (node h xs n ts) (spine_in x ts) e
 
   spine_in : (x : Tree) (ts : Trees) → is_spine x (child_or_absent ts 0) ≡ true → SpineOf x (child_or_absent ts 0)
@@ -181,7 +182,7 @@ first_of_link (a_call ts) t = refl
 spine_by : (x t : Tree) (l : Link) → is_calm_link l ≡ true → (if is_identifier t then same_tree t x else is_spine x t) ≡ true → is_spine x (linked false l t) ≡ true
 spine_by x t l p e = spine_below x (linked false l t) (link_passes l t p) ∙ ap (λ u. if is_identifier u then same_tree u x else is_spine x u) (first_of_link l t) ∙ e
 
-spine_passes : (x : Name) (l : Link) (ls : List Link) → are_calm_links l ls ≡ true → is_spine (identifier x) (spine false (identifier x) l ls) ≡ true
+pub spine_passes : (x : Name) (l : Link) (ls : List Link) → are_calm_links l ls ≡ true → is_spine (identifier x) (spine false (identifier x) l ls) ≡ true
 spine_passes x l [] p = spine_by (identifier x) (identifier x) l p (tree_itself (identifier x))
 spine_passes x l (m ∷ ls) p =
     let (here, rest) = and_parts (is_calm_link l) (are_calm_links m ls) p in
@@ -190,14 +191,14 @@ spine_passes x l (m ∷ ls) p =
 
 -- ---- what is written is what the row says
 
-equal_is : (t : Tree) → is_equal_in (binary_operator t) ≡ true → t ≡ binary Equality (part t 0) (part t 1)
+pub equal_is : (t : Tree) → is_equal_in (binary_operator t) ≡ true → t ≡ binary Equality (part t 0) (part t 1)
 equal_is t e = go (binary_operator t) refl e
   where
     go : (o : Option BinaryOperator) → binary_operator t ≡ o → is_equal_in o ≡ true → t ≡ binary Equality (part t 0) (part t 1)
     go (Some Equality) h e = binary_is t Equality h
     go o h e = absurd (cc e)
 
-unequal_is : (t : Tree) → is_unequal_in (binary_operator t) ≡ true → t ≡ binary Inequality (part t 0) (part t 1)
+pub unequal_is : (t : Tree) → is_unequal_in (binary_operator t) ≡ true → t ≡ binary Inequality (part t 0) (part t 1)
 unequal_is t e = go (binary_operator t) refl e
   where
     go : (o : Option BinaryOperator) → binary_operator t ≡ o → is_unequal_in o ≡ true → t ≡ binary Inequality (part t 0) (part t 1)
@@ -227,10 +228,10 @@ asked_is t e =
     }
 
 module _ (s : Seat) (n : Tree) where
-  chained : (equal : Bool) (test missing read : Tree) → is_unguarded s.guard ≡ true → (a : Asked test) → is_undefined missing ≡ true → is_spine (part test 0) read ≡ true → n ≡ if_nullish equal a.name missing read → ChoiceContracts (Expr s) n (chain (optional_over read))
-  chained equal test missing read g a u e is =
+  chains : (equal : Bool) (test missing read : Tree) → reads_value s.guard ≡ true → (a : Asked test) → is_undefined missing ≡ true → is_spine (part test 0) read ≡ true → n ≡ if_nullish equal a.name missing read → ChoiceContracts (Expr s) n (chain (optional_over (part test 0) read))
+  chains equal test missing read g a u e is =
       let sp = spine_of (identifier a.name) read (subst (λ x. is_spine x read ≡ true) a.named e) in
-      let row : Row46Chain s n (chain (optional_over read)) = record {
+      let row : Row46Chain s n (chain (optional_over (part test 0) read)) = record {
         equal = equal;
         name = a.name;
         missing = missing;
@@ -240,38 +241,38 @@ module _ (s : Seat) (n : Tree) where
         indirect = a.indirect;
         undefined = undefined_is missing u;
         calm = sp.calm;
-        unguarded = g;
+        valued = g;
         shape = is ∙ ap (if_nullish equal a.name missing) sp.is;
-        written = ap chain sp.over;
+        written = ap chain (ap (λ u. optional_over u read) a.named ∙ sp.over (identifier a.name));
       } in
-      record { row = inr (inr (inr (inl row))); lighter = chain_row_lighter s n (chain (optional_over read)) row }
+      record { row = inr (inr (inr (inl row))); lighter = chain_row_lighter s n (chain (optional_over (part test 0) read)) row }
 
-  last_row : is_read_last s n ≡ true → ChoiceContracts (Expr s) n (chain (optional_over (part n 2)))
+  last_row : is_read_last s n ≡ true → ChoiceContracts (Expr s) n (chained n (part n 2))
   last_row h =
-      let (chooses, h1) = and_parts (is_conditional n) (is_unguarded s.guard && (is_equal_in (binary_operator (part n 0)) && reads_name (part n 0) (part n 1) (part n 2))) h in
-      let (guard, h2) = and_parts (is_unguarded s.guard) (is_equal_in (binary_operator (part n 0)) && reads_name (part n 0) (part n 1) (part n 2)) h1 in
+      let (chooses, h1) = and_parts (is_conditional n) (reads_value s.guard && (is_equal_in (binary_operator (part n 0)) && reads_name (part n 0) (part n 1) (part n 2))) h in
+      let (guard, h2) = and_parts (reads_value s.guard) (is_equal_in (binary_operator (part n 0)) && reads_name (part n 0) (part n 1) (part n 2)) h1 in
       let (compares, h3) = and_parts (is_equal_in (binary_operator (part n 0))) (reads_name (part n 0) (part n 1) (part n 2)) h2 in
       let (asks, h4) = and_parts (asks_name (part n 0)) (is_undefined (part n 1) && is_spine (part (part n 0) 0) (part n 2)) h3 in
       let (undefined, spined) = and_parts (is_undefined (part n 1)) (is_spine (part (part n 0) 0) (part n 2)) h4 in
       let a = asked_is (part n 0) asks in
       let test : part n 0 ≡ binary Equality (identifier a.name) null_literal = equal_is (part n 0) compares ∙ (λ i. binary Equality (a.named i) (a.null i)) in
-      chained true (part n 0) (part n 1) (part n 2) guard a undefined spined (conditional_is n chooses ∙ ap (λ t. conditional t (part n 1) (part n 2)) test)
+      chains true (part n 0) (part n 1) (part n 2) guard a undefined spined (conditional_is n chooses ∙ ap (λ t. conditional t (part n 1) (part n 2)) test)
 
-  first_row : is_read_first s n ≡ true → ChoiceContracts (Expr s) n (chain (optional_over (part n 1)))
+  first_row : is_read_first s n ≡ true → ChoiceContracts (Expr s) n (chained n (part n 1))
   first_row h =
-      let (chooses, h1) = and_parts (is_conditional n) (is_unguarded s.guard && (is_unequal_in (binary_operator (part n 0)) && reads_name (part n 0) (part n 2) (part n 1))) h in
-      let (guard, h2) = and_parts (is_unguarded s.guard) (is_unequal_in (binary_operator (part n 0)) && reads_name (part n 0) (part n 2) (part n 1)) h1 in
+      let (chooses, h1) = and_parts (is_conditional n) (reads_value s.guard && (is_unequal_in (binary_operator (part n 0)) && reads_name (part n 0) (part n 2) (part n 1))) h in
+      let (guard, h2) = and_parts (reads_value s.guard) (is_unequal_in (binary_operator (part n 0)) && reads_name (part n 0) (part n 2) (part n 1)) h1 in
       let (compares, h3) = and_parts (is_unequal_in (binary_operator (part n 0))) (reads_name (part n 0) (part n 2) (part n 1)) h2 in
       let (asks, h4) = and_parts (asks_name (part n 0)) (is_undefined (part n 2) && is_spine (part (part n 0) 0) (part n 1)) h3 in
       let (undefined, spined) = and_parts (is_undefined (part n 2)) (is_spine (part (part n 0) 0) (part n 1)) h4 in
       let a = asked_is (part n 0) asks in
       let test : part n 0 ≡ binary Inequality (identifier a.name) null_literal = unequal_is (part n 0) compares ∙ (λ i. binary Inequality (a.named i) (a.null i)) in
-      chained false (part n 0) (part n 2) (part n 1) guard a undefined spined (conditional_is n chooses ∙ ap (λ t. conditional t (part n 1) (part n 2)) test)
+      chains false (part n 0) (part n 2) (part n 1) guard a undefined spined (conditional_is n chooses ∙ ap (λ t. conditional t (part n 1) (part n 2)) test)
 
 pub chain_row : (s : Seat) (n w : Tree) → written s n ≡ Some w → ChoiceContracts (Expr s) n w
 chain_row s n w e =
-    tried s n w (is_read_last s n) (chain (optional_over (part n 2))) (first_written s n) (last_row s n)
-    (tried s n w (is_read_first s n) (chain (optional_over (part n 1))) None (first_row s n) (λ e. absurd (cc e))) e
+    tried s n w (is_read_last s n) (chained n (part n 2)) (first_written s n) (last_row s n)
+    (tried s n w (is_read_first s n) (chained n (part n 1)) None (first_row s n) (λ e. absurd (cc e))) e
 
 -- ---- and what the row reads is written
 
@@ -291,10 +292,10 @@ module _ (s : Seat) (n w : Tree) (r : Row46Chain s n w) where
   passes_by : (equal : Bool) → is_some (written s (if_nullish equal r.name r.missing read)) ≡ true
   passes_by true =
       let t : Tree = if_nullish true r.name r.missing read in
-      first_true (is_read_last s t) (chain (optional_over read)) (first_written s t) (both_true (is_unguarded s.guard) _ r.unguarded reads)
+      first_true (is_read_last s t) (chained t read) (first_written s t) (both_true (reads_value s.guard) _ r.valued reads)
   passes_by false =
       let t : Tree = if_nullish false r.name r.missing read in
-      later_true (is_read_last s t) (chain (optional_over r.missing)) (first_written s t) (first_true (is_read_first s t) (chain (optional_over read)) None (both_true (is_unguarded s.guard) _ r.unguarded reads))
+      later_true (is_read_last s t) (chained t r.missing) (first_written s t) (first_true (is_read_first s t) (chained t read) None (both_true (reads_value s.guard) _ r.valued reads))
 
   pub chain_passes : is_some (written s n) ≡ true
   chain_passes = ap (λ t. is_some (written s t)) r.shape ∙ passes_by r.equal

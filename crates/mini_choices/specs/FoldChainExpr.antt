@@ -8,7 +8,7 @@ use Rattle.mini_model.specs.Tree.{Tree, Trees, node, none, ◌▸◌, absent, ch
 use Rattle.mini_node.specs.Children.{part, is_bare}
 use Rattle.mini_node.specs.Kinds.{is_listed, is_null}
 use Rattle.mini_terms.specs.Parts.{is_link, leaves_nothing}
-use Rattle.mini_terms.specs.Reading.{is_unguarded, is_plain_part, stands}
+use Rattle.mini_terms.specs.Reading.{is_plain_part, stands}
 use Rattle.mini_rows.specs.Spellings.{void_zero}
 use Rattle.mini_rows.specs.Chains.{is_word_shape, is_calm, are_calm}
 use Rattle.mini_rows.specs.ChainLinks.{is_there, chain_if}
@@ -93,12 +93,8 @@ abbrev pub wrapped : Option Bool → Tree → Option Tree
 wrapped (Some stays) w = Some (chain_if stays w)
 wrapped None w = None
 
--- a chain in a seat that asks no reference
-abbrev pub is_read : Seat → Tree → Bool
-is_read s t = is_chain t && is_unguarded s.guard
-
 abbrev pub folded_written : Seat → Tree → Option Tree
-folded_written s t = if is_read s t then wrapped (outcome (not s.new_callee) (part t 0)) (folded (not s.new_callee) (part t 0)) else None
+folded_written s t = if is_chain t then wrapped (outcome (not s.new_callee) (part t 0)) (folded (not s.new_callee) (part t 0)) else None
 
 -- ---- a chain over null or undefined
 
@@ -116,8 +112,8 @@ abbrev mutual
   ends_in (t ▸ ts) = ends_at_once t
 
 -- of a chain that ends at once, nothing is left behind
-abbrev pub may_end : Seat → Tree → Bool
-may_end s t = is_read s t && (ends_at_once (part t 0) && leaves_nothing (part t 0))
+abbrev pub may_end : Tree → Bool
+may_end t = is_chain t && (ends_at_once (part t 0) && leaves_nothing (part t 0))
 
 abbrev pub written : Seat → Tree → Option Tree
-written s t = if may_end s t && is_lighter s void_zero t then Some void_zero else folded_written s t
+written s t = if may_end t && is_lighter s void_zero t then Some void_zero else folded_written s t

@@ -10,8 +10,7 @@ use Rattle.mini_model.specs.Weight.{same_text}
 use Rattle.mini_node.specs.Children.{part, names_of, without, with_inserted}
 use Rattle.mini_node.specs.Equal.{same_tree}
 use Rattle.mini_node.specs.Kinds.{is_conditional, is_identifier, is_null, is_static_member, is_computed_member, is_call_expression, binary_operator}
-use Rattle.mini_terms.specs.Reading.{is_unguarded}
-use Rattle.mini_rows.specs.Chains.{is_word_shape, is_calm, are_calm, chain}
+use Rattle.mini_rows.specs.Chains.{reads_value, is_word_shape, is_calm, are_calm, chain}
 use Rattle.mini_choices.specs.Assigning.{is_declared}
 use Rattle.mini_choices.specs.Forms.{is_undefined}
 use Rattle.mini_choices.specs.MinimizeConditionalBranches.{is_equal_in, is_unequal_in}
@@ -40,14 +39,18 @@ opened h = h
 abbrev pub with_first : Trees → Tree → Trees
 with_first ts t = with_inserted (without ts 0) 0 t
 
--- the first of the links, over the name, is optional
+-- the first of the links, over the name, is optional, and stands over this
 abbrev mutual
-  pub optional_over : Tree → Tree
-  optional_over (node h xs n ts) = if is_link (node h xs n ts) then (if is_identifier (child_or_absent ts 0) then node (opened h) xs n (with_first ts (child_or_absent ts 0)) else node h xs n (with_first ts (optional_in ts))) else node h xs n ts
+  pub optional_over : Tree → Tree → Tree
+  optional_over u (node h xs n ts) = if is_link (node h xs n ts) then (if is_identifier (child_or_absent ts 0) then node (opened h) xs n (with_first ts u) else node h xs n (with_first ts (optional_in u ts))) else node h xs n ts
 
-  pub optional_in : Trees → Tree
-  optional_in none = absent
-  optional_in (t ▸ ts) = optional_over t
+  pub optional_in : Tree → Trees → Tree
+  optional_in u none = absent
+  optional_in u (t ▸ ts) = optional_over u t
+
+-- the chain of this branch, over what the test compares
+abbrev pub chained : Tree → Tree → Tree
+chained t branch = chain (optional_over (part (part t 0) 0) branch)
 
 abbrev pub is_eval : List Name → Bool
 is_eval (x ∷ []) = same_text x.spelling (codes "eval")
@@ -63,14 +66,14 @@ reads_name test missing read = asks_name test && (is_undefined missing && is_spi
 
 -- `x == null ? void 0 : x.m`
 abbrev pub is_read_last : Seat → Tree → Bool
-is_read_last s t = is_conditional t && (is_unguarded s.guard && (is_equal_in (binary_operator (part t 0)) && reads_name (part t 0) (part t 1) (part t 2)))
+is_read_last s t = is_conditional t && (reads_value s.guard && (is_equal_in (binary_operator (part t 0)) && reads_name (part t 0) (part t 1) (part t 2)))
 
 -- `x != null ? x.m : void 0`
 abbrev pub is_read_first : Seat → Tree → Bool
-is_read_first s t = is_conditional t && (is_unguarded s.guard && (is_unequal_in (binary_operator (part t 0)) && reads_name (part t 0) (part t 2) (part t 1)))
+is_read_first s t = is_conditional t && (reads_value s.guard && (is_unequal_in (binary_operator (part t 0)) && reads_name (part t 0) (part t 2) (part t 1)))
 
 abbrev pub first_written : Seat → Tree → Option Tree
-first_written s t = if is_read_first s t then Some (chain (optional_over (part t 1))) else None
+first_written s t = if is_read_first s t then Some (chained t (part t 1)) else None
 
 abbrev pub written : Seat → Tree → Option Tree
-written s t = if is_read_last s t then Some (chain (optional_over (part t 2))) else first_written s t
+written s t = if is_read_last s t then Some (chained t (part t 2)) else first_written s t

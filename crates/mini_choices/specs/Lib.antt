@@ -9,10 +9,12 @@ pub mod MinimizeObjectTest
 pub mod MinimizeNormalAssignmentToCombinedAssignment
 pub mod MinimizeNormalAssignmentToCombinedLogicalAssignment
 pub mod MinimizeAssignedComparison
-pub mod Writes
+pub mod MinimizeAssignedNullishComparison
 pub mod MinimizeConditionalBranches
 pub mod MinimizeHeldBranches
 pub mod InjectOptionalChaining
+pub mod InjectAssignedChaining
 pub mod FoldChainExpr
 pub mod Choices
+pub mod Writes
 pub mod Lighter

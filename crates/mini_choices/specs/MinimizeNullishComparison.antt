@@ -39,7 +39,7 @@ abbrev pub loose : Bool → Tree → Tree
 loose equal comparison = binary (loosely equal) (part comparison 0) null_literal
 
 abbrev pub after : Bool → Tree → Tree
-after equal t = logical (joining equal) (part (part t 0) 0) (loose equal (part t 1))
+after equal t = logical (joining equal) (part (part t 0) 0) (loose equal (part (part t 0) 1))
 
 abbrev pub after_written : Bool → Tree → Option Tree
 after_written equal t = if compares_after equal t then Some (after equal t) else None

@@ -7,23 +7,30 @@ use Rattle.mini_model.specs.declared.shape.Shape.TheVariants as shape
 use Rattle.mini_model.specs.Tree.{Tree, shape_of}
 use Rattle.mini_laws.specs.Value.{VariableSet}
 use Rattle.mini_rows.specs.Writes.{WriteContracts}
+use Rattle.mini_choices.specs.Choices.{first_of}
+use Rattle.mini_choices.specs.InjectAssignedChaining as chains
 use Rattle.mini_choices.specs.MinimizeAssignedComparison as compare
+use Rattle.mini_choices.specs.MinimizeAssignedNullishComparison as nullish
 use Rattle.mini_choices.specs.MinimizeNormalAssignmentToCombinedLogicalAssignment as combine
 use Rattle.mini_choices.specs.MinimizeNormalAssignmentToCombinedLogicalAssignment.{RestsOver}
 
-abbrev pub written_by : Shape → VariableSet → Tree → Option Tree
-written_by (shape.AssignmentExpression o) W t = combine.written W t
-written_by shape.ConditionalExpression W t = compare.written W t
-written_by h W t = None
+abbrev pub conditional_written : VariableSet → Seat → Tree → Option Tree
+conditional_written W s t = first_of (compare.written W t) (chains.written W s t)
 
--- what is written for an expression where a row reads it, of these variables
-abbrev pub written : VariableSet → Tree → Option Tree
-written W t = written_by (shape_of t) W t
+abbrev pub written_by : Shape → VariableSet → Seat → Tree → Option Tree
+written_by (shape.AssignmentExpression o) W s t = combine.written W t
+written_by (shape.LogicalExpression o) W s t = nullish.written W t
+written_by shape.ConditionalExpression W s t = conditional_written W s t
+written_by h W s t = None
+
+-- what is written for an expression in its seat where a row reads it, of these variables
+abbrev pub written : VariableSet → Seat → Tree → Option Tree
+written W s t = written_by (shape_of t) W s t
 
 -- what is written is what a row says, and lighter
 abbrev pub WritesAreRows : Type 0
-WritesAreRows = (W : VariableSet) (s : Seat) (n w : Tree) → written W n ≡ Some w → WriteContracts W (Expr s) n w
+WritesAreRows = (W : VariableSet) (s : Seat) (n w : Tree) → written W s n ≡ Some w → WriteContracts W (Expr s) n w
 
 -- and where nothing is written the rule rests
 abbrev pub UnwrittenRest : Type 0
-UnwrittenRest = (W : VariableSet) (s : Seat) (n : Tree) → written W n ≡ None → RestsOver W (Expr s) n
+UnwrittenRest = (W : VariableSet) (s : Seat) (n : Tree) → written W s n ≡ None → RestsOver W (Expr s) n

@@ -1,6 +1,8 @@
 pub mod fold_chain_expr;
+pub mod inject_assigned_chaining;
 pub mod inject_optional_chaining;
 pub mod minimize_assigned_comparison;
+pub mod minimize_assigned_nullish_comparison;
 pub mod minimize_choices;
 pub mod minimize_conditional_branches;
 pub mod minimize_held_branches;

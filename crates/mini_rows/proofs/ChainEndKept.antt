@@ -12,5 +12,5 @@ use Rattle.mini_rows.proofs.ArrangedExpressions.{expressions_arranged_freely}
 use Rattle.mini_rows.proofs.FoldLawful.{vanishes, first_dropped}
 use Rattle.mini_rows.proofs.ChainEnds.{held}
 
-pub end_kept : (q : Seat) (n w : Tree) → Row10 q n w → KeptAt (Expr q) n w
-end_kept q n w r = expressions_arranged_freely first_dropped (record { trees = held q n w r ▸ none; lists = [] }) (tt, tt, (vanishes (held q n w r) r.dropped, tt)) (under Chain (part 0 ▹ end)) (under (Unary Void) (under (Number (pos 0)) end ▹ end)) refl q n w r.shape r.written
+pub end_kept : (q : Seat) (n w : Tree) → Row10 n w → KeptAt (Expr q) n w
+end_kept q n w r = expressions_arranged_freely first_dropped (record { trees = held n w r ▸ none; lists = [] }) (tt, tt, (vanishes (held n w r) r.dropped, tt)) (under Chain (part 0 ▹ end)) (under (Unary Void) (under (Number (pos 0)) end ▹ end)) refl q n w r.shape r.written

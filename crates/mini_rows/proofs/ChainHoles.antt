@@ -7,7 +7,7 @@ use Rattle.mini_model.specs.declared.operator.BinaryOperator.TheVariants as bina
 use Rattle.mini_model.specs.Tree.{Tree, Trees, none, ◌▸◌, absent, child_or_absent}
 use Rattle.mini_model.specs.Paths.{append}
 use Rattle.mini_kept.proofs.Bools.{both}
-use Rattle.mini_rows.specs.Sketches.{Binary, Null, Conditional, Call, StaticMember, ComputedMember, Chain, Sketch, part, under, list, end, ◌▹◌, no_items, items, Parts, list_at, filled, AsValue, AsWord, Hole, Part, Stretch, Leaps, Leap, Returning, Yielding, parts_of, asked_number, is_same_leap, is_same_hole, stands_in, without, has_as_often, has_each, Free, all_settled, stays, staying, is_rearranged, stands_well, rearranges_expression}
+use Rattle.mini_rows.specs.Sketches.{Binary, Null, Conditional, Call, StaticMember, ComputedMember, Chain, Sketch, part, under, list, end, ◌▹◌, no_items, items, Parts, list_at, filled, AsValue, AsWord, Asked, Hole, Part, Stretch, Leaps, Leap, Returning, Yielding, parts_of, asked_number, is_same_leap, is_same_hole, stands_in, without, has_as_often, has_each, Free, all_settled, stays, staying, is_rearranged, stands_well, rearranges_expression}
 use Rattle.mini_rows.specs.Chains.{Link, a_member, a_computed, a_call, call, linked, spine}
 use Rattle.mini_rows.specs.Spellings.{static_member, computed_member}
 use Rattle.mini_rows.proofs.Arranging.{often_each}
@@ -19,9 +19,14 @@ link_sketch o i (a_member k) t = under (StaticMember o) (t ▹ part i ▹ end)
 link_sketch o i (a_computed k) t = under (ComputedMember o) (t ▹ part i ▹ end)
 link_sketch o i (a_call ts) t = under (Call o) (t ▹ list (items i no_items) ▹ end)
 
+-- over what stands before them
+abbrev pub sketch_of : Sketch → Bool → ℕ → Link → List Link → Sketch
+sketch_of b o i l [] = link_sketch o i l b
+sketch_of b o i l (m ∷ ls) = link_sketch false i l (sketch_of b o (suc i) m ls)
+
+-- which is the part 0
 abbrev pub sketch : Bool → ℕ → Link → List Link → Sketch
-sketch o i l [] = link_sketch o i l (part 0)
-sketch o i l (m ∷ ls) = link_sketch false i l (sketch o (suc i) m ls)
+sketch o i l ls = sketch_of (part 0) o i l ls
 
 abbrev pub tree_of : Link → Tree
 tree_of (a_member k) = k
@@ -62,9 +67,12 @@ filled_link ps o i (a_member k) t u e f g = λ j. static_member o (e j) (f j)
 filled_link ps o i (a_computed k) t u e f g = λ j. computed_member o (e j) (f j)
 filled_link ps o i (a_call ts) t u e f g = λ j. call o (e j) ((ap (λ us. append us none) g ∙ append_none ts) j)
 
+pub filled_of : (ps : Parts) (b : Sketch) (o : Bool) (x : Tree) → filled ps b ≡ x → (i : ℕ) (l : Link) (ls : List Link) → Stand ps.trees ps.lists i l ls → filled ps (sketch_of b o i l ls) ≡ spine o x l ls
+filled_of ps b o x e i l [] h = filled_link ps o i l b x e h.0 h.1
+filled_of ps b o x e i l (m ∷ ls) h = filled_link ps false i l (sketch_of b o (suc i) m ls) (spine o x m ls) (filled_of ps b o x e (suc i) m ls h.1) h.0.0 h.0.1
+
 pub filled_sketch : (ps : Parts) (o : Bool) (x : Tree) → child_or_absent ps.trees 0 ≡ x → (i : ℕ) (l : Link) (ls : List Link) → Stand ps.trees ps.lists i l ls → filled ps (sketch o i l ls) ≡ spine o x l ls
-filled_sketch ps o x e i l [] h = filled_link ps o i l (part 0) x e h.0 h.1
-filled_sketch ps o x e i l (m ∷ ls) h = filled_link ps false i l (sketch o (suc i) m ls) (spine o x m ls) (filled_sketch ps o x e (suc i) m ls h.1) h.0.0 h.0.1
+filled_sketch ps o x e = filled_of ps (part 0) o x e
 
 -- ---- their parts, in order
 
@@ -73,7 +81,7 @@ hole i (a_member k) = Part i AsWord
 hole i (a_computed k) = Part i AsValue
 hole i (a_call ts) = Stretch i AsValue
 
-abbrev holes : ℕ → Link → List Link → List Hole
+abbrev pub holes : ℕ → Link → List Link → List Hole
 holes i l [] = hole i l ∷ []
 holes i l (m ∷ ls) = holes (suc i) m ls ++ (hole i l ∷ [])
 
@@ -82,7 +90,7 @@ link_holes o i (a_member k) t hs e = ap (λ gs. gs ++ (Part i AsWord ∷ [])) e
 link_holes o i (a_computed k) t hs e = ap (λ gs. gs ++ (Part i AsValue ∷ [])) e
 link_holes o i (a_call ts) t hs e = ap (λ gs. gs ++ (Stretch i AsValue ∷ [])) e
 
-sketch_holes : (o : Bool) (i : ℕ) (l : Link) (ls : List Link) → parts_of AsValue (sketch o i l ls) ≡ Part 0 AsValue ∷ holes i l ls
+pub sketch_holes : (o : Bool) (i : ℕ) (l : Link) (ls : List Link) → parts_of AsValue (sketch o i l ls) ≡ Part 0 AsValue ∷ holes i l ls
 sketch_holes o i l [] = link_holes o i l (part 0) (Part 0 AsValue ∷ []) refl
 sketch_holes o i l (m ∷ ls) = link_holes false i l (sketch o (suc i) m ls) (Part 0 AsValue ∷ holes (suc i) m ls) (sketch_holes o (suc i) m ls)
 
@@ -102,7 +110,7 @@ often_itself [] = refl
 often_itself (h ∷ hs) = subst (λ b. (b || stands_in hs h) && has_as_often (if b then hs else h ∷ without hs h) hs ≡ true) (sym (same_itself h)) (often_itself hs)
 
 -- no hole of these is this one
-abbrev Apart : Hole → List Hole → Type 0
+abbrev pub Apart : Hole → List Hole → Type 0
 Apart g [] = Unit {0}
 Apart g (h ∷ hs) = (is_same_hole g h ≡ false) × Apart g hs
 
@@ -111,7 +119,7 @@ apart_both g [] ks a b = b
 apart_both g (h ∷ hs) ks a b = (a.0, apart_both g hs ks a.1 b)
 
 -- so it may stand before what has them
-skipped : (g : Hole) (gs hs : List Hole) → Apart g hs → has_as_often gs hs ≡ true → has_as_often (g ∷ gs) hs ≡ true
+pub skipped : (g : Hole) (gs hs : List Hole) → Apart g hs → has_as_often gs hs ≡ true → has_as_often (g ∷ gs) hs ≡ true
 skipped g gs [] a e = refl
 skipped g gs (h ∷ hs) a e =
     let (first, rest) = and_parts (stands_in gs h) (has_as_often (without gs h) hs) e in
@@ -134,65 +142,61 @@ without_more (g ∷ gs) ks h e = go (is_same_hole g h) (without_more gs ks h) e
     go true more e = refl
     go false more e = ap (λ hs. g ∷ hs) (more e)
 
-often_more : (gs ks hs : List Hole) → has_as_often gs hs ≡ true → has_as_often (gs ++ ks) hs ≡ true
+pub often_more : (gs ks hs : List Hole) → has_as_often gs hs ≡ true → has_as_often (gs ++ ks) hs ≡ true
 often_more gs ks [] e = refl
 often_more gs ks (h ∷ hs) e =
     let (first, rest) = and_parts (stands_in gs h) (has_as_often (without gs h) hs) e in
     both (stands_in (gs ++ ks) h) (has_as_often (without (gs ++ ks) h) hs) (stands_more gs ks h first)
     (subst (λ us. has_as_often us hs ≡ true) (sym (without_more gs ks h first)) (often_more (without gs h) ks hs rest))
 
--- the links have no part 0
-no_part : (i : ℕ) (c d : ℕ) → 1 ≤ i → nat_eq 0 i && nat_eq c d ≡ false
-no_part i c d h = ap (λ b. b && nat_eq c d) (ne_eqb 0 i (λ e. omega (arith, h, e)))
+-- the links have no part before their own
+no_part : (k i : ℕ) (c d : ℕ) → suc k ≤ i → nat_eq k i && nat_eq c d ≡ false
+no_part k i c d h = ap (λ b. b && nat_eq c d) (ne_eqb k i (λ e. omega (arith, h, e)))
 
-apart_hole : (i : ℕ) (l : Link) → 1 ≤ i → is_same_hole (Part 0 AsValue) (hole i l) ≡ false
-apart_hole i (a_member k) h = no_part i (asked_number AsValue) (asked_number AsWord) h
-apart_hole i (a_computed k) h = no_part i (asked_number AsValue) (asked_number AsValue) h
-apart_hole i (a_call ts) h = refl
+apart_hole : (k i : ℕ) (c : Asked) (l : Link) → suc k ≤ i → is_same_hole (Part k c) (hole i l) ≡ false
+apart_hole k i c (a_member t) h = no_part k i (asked_number c) (asked_number AsWord) h
+apart_hole k i c (a_computed t) h = no_part k i (asked_number c) (asked_number AsValue) h
+apart_hole k i c (a_call ts) h = refl
 
-first_apart : (i : ℕ) → 1 ≤ i → (l : Link) (ls : List Link) → Apart (Part 0 AsValue) (holes i l ls)
-first_apart i h l [] = (apart_hole i l h, tt)
-first_apart i h l (m ∷ ls) = apart_both (Part 0 AsValue) (holes (suc i) m ls) (hole i l ∷ []) (first_apart (suc i) (omega arith) m ls) (apart_hole i l h, tt)
+pub apart_from : (k i : ℕ) (c : Asked) → suc k ≤ i → (l : Link) (ls : List Link) → Apart (Part k c) (holes i l ls)
+apart_from k i c h l [] = (apart_hole k i c l h, tt)
+apart_from k i c h l (m ∷ ls) = apart_both (Part k c) (holes (suc i) m ls) (hole i l ∷ []) (apart_from k (suc i) c (omega (arith, h)) m ls) (apart_hole k i c l h, tt)
 
--- nor a part 1
-no_second : (i : ℕ) (c d : ℕ) → 2 ≤ i → nat_eq 1 i && nat_eq c d ≡ false
-no_second i c d h = ap (λ b. b && nat_eq c d) (ne_eqb 1 i (λ e. omega (arith, h, e)))
+-- ---- some parts are dropped
 
-apart_second : (i : ℕ) (l : Link) → 2 ≤ i → is_same_hole (Part 1 AsValue) (hole i l) ≡ false
-apart_second i (a_member k) h = no_second i (asked_number AsValue) (asked_number AsWord) h
-apart_second i (a_computed k) h = no_second i (asked_number AsValue) (asked_number AsValue) h
-apart_second i (a_call ts) h = refl
-
-second_apart : (i : ℕ) → 2 ≤ i → (l : Link) (ls : List Link) → Apart (Part 1 AsValue) (holes i l ls)
-second_apart i h l [] = (apart_second i l h, tt)
-second_apart i h l (m ∷ ls) = apart_both (Part 1 AsValue) (holes (suc i) m ls) (hole i l ∷ []) (second_apart (suc i) (omega arith) m ls) (apart_second i l h, tt)
-
--- ---- the second part is dropped
+abbrev pub dropping : List ℕ → Free
+dropping ds = record { moved = []; lists_moved = []; dropped = ds }
 
 abbrev pub second_dropped : Free
-second_dropped = record { moved = []; lists_moved = []; dropped = 1 ∷ [] }
+second_dropped = dropping (1 ∷ [])
 
-settled_same : (hs : List Hole) → all_settled second_dropped hs ≡ hs
-settled_same [] = refl
-settled_same (Part i c ∷ hs) = ap (λ gs. Part i c ∷ gs) (settled_same hs)
-settled_same (Stretch i c ∷ hs) = ap (λ gs. Stretch i c ∷ gs) (settled_same hs)
-settled_same (Leaps l ∷ hs) = ap (λ gs. Leaps l ∷ gs) (settled_same hs)
+module _ (ds : List ℕ) where
+  settled_same : (hs : List Hole) → all_settled (dropping ds) hs ≡ hs
+  settled_same [] = refl
+  settled_same (Part i c ∷ hs) = ap (λ gs. Part i c ∷ gs) (settled_same hs)
+  settled_same (Stretch i c ∷ hs) = ap (λ gs. Stretch i c ∷ gs) (settled_same hs)
+  settled_same (Leaps l ∷ hs) = ap (λ gs. Leaps l ∷ gs) (settled_same hs)
 
-staying_each : (gs hs : List Hole) → has_each gs hs ≡ true → has_each gs (staying second_dropped hs) ≡ true
-staying_each gs [] e = refl
-staying_each gs (h ∷ hs) e = let (first, rest) = and_parts (stands_in gs h) (has_each gs hs) e in go (stays second_dropped h) first (staying_each gs hs rest)
-  where
-    go : (b : Bool) → stands_in gs h ≡ true → has_each gs (staying second_dropped hs) ≡ true → has_each gs (if b then h ∷ staying second_dropped hs else staying second_dropped hs) ≡ true
-    go true first rest = both (stands_in gs h) (has_each gs (staying second_dropped hs)) first rest
-    go false first rest = rest
+  pub staying_each : (gs hs : List Hole) → has_each gs hs ≡ true → has_each gs (staying (dropping ds) hs) ≡ true
+  staying_each gs [] e = refl
+  staying_each gs (h ∷ hs) e = let (first, rest) = and_parts (stands_in gs h) (has_each gs hs) e in go (stays (dropping ds) h) first (staying_each gs hs rest)
+    where
+      go : (b : Bool) → stands_in gs h ≡ true → has_each gs (staying (dropping ds) hs) ≡ true → has_each gs (if b then h ∷ staying (dropping ds) hs else staying (dropping ds) hs) ≡ true
+      go true first rest = both (stands_in gs h) (has_each gs (staying (dropping ds) hs)) first rest
+      go false first rest = rest
 
-staying_more : (hs ks : List Hole) → staying second_dropped (hs ++ ks) ≡ staying second_dropped hs ++ staying second_dropped ks
-staying_more [] ks = refl
-staying_more (h ∷ hs) ks = go (stays second_dropped h) (staying_more hs ks)
-  where
-    go : (b : Bool) → staying second_dropped (hs ++ ks) ≡ staying second_dropped hs ++ staying second_dropped ks → (if b then h ∷ staying second_dropped (hs ++ ks) else staying second_dropped (hs ++ ks)) ≡ (if b then h ∷ staying second_dropped hs else staying second_dropped hs) ++ staying second_dropped ks
-    go true rest = ap (λ gs. h ∷ gs) rest
-    go false rest = rest
+  pub staying_more : (hs ks : List Hole) → staying (dropping ds) (hs ++ ks) ≡ staying (dropping ds) hs ++ staying (dropping ds) ks
+  staying_more [] ks = refl
+  staying_more (h ∷ hs) ks = go (stays (dropping ds) h) (staying_more hs ks)
+    where
+      go : (b : Bool) → staying (dropping ds) (hs ++ ks) ≡ staying (dropping ds) hs ++ staying (dropping ds) ks → (if b then h ∷ staying (dropping ds) (hs ++ ks) else staying (dropping ds) (hs ++ ks)) ≡ (if b then h ∷ staying (dropping ds) hs else staying (dropping ds) hs) ++ staying (dropping ds) ks
+      go true rest = ap (λ gs. h ∷ gs) rest
+      go false rest = rest
+
+  pub rearranged_as : (ks gs : List Hole) → has_as_often ks gs ≡ true → has_each gs (staying (dropping ds) ks) ≡ true → is_rearranged (dropping ds) ks gs ≡ true
+  rearranged_as ks gs e f =
+      (λ j. has_as_often (settled_same ks j) (settled_same gs j) && has_each (settled_same gs j) (staying (dropping ds) (settled_same ks j)))
+      ∙ both (has_as_often ks gs) (has_each gs (staying (dropping ds) ks)) e f
 
 -- the name, its test, and what is missing, before the links or after them
 abbrev before : List Hole → List Hole
@@ -211,19 +215,14 @@ module _ (l : Link) (ls : List Link) where
   each_itself : has_each gs gs ≡ true
   each_itself = often_each gs gs (often_itself gs)
 
-  rearranged_as : (ks : List Hole) → has_as_often ks gs ≡ true → has_each gs (staying second_dropped ks) ≡ true → is_rearranged second_dropped ks gs ≡ true
-  rearranged_as ks e f =
-      (λ j. has_as_often (settled_same ks j) (settled_same gs j) && has_each (settled_same gs j) (staying second_dropped (settled_same ks j)))
-      ∙ both (has_as_often ks gs) (has_each gs (staying second_dropped ks)) e f
-
   rearranged_before : is_rearranged second_dropped (before hs) gs ≡ true
   rearranged_before =
-      rearranged_as (before hs) (skipped (Part 1 AsValue) gs hs (second_apart 2 (omega arith) l ls) (skipped (Part 0 AsValue) hs hs (first_apart 2 (omega arith) l ls) (often_itself hs))) (staying_each gs gs each_itself)
+      rearranged_as (1 ∷ []) (before hs) gs (skipped (Part 1 AsValue) gs hs (apart_from 1 2 AsValue (omega arith) l ls) (skipped (Part 0 AsValue) hs hs (apart_from 0 2 AsValue (omega arith) l ls) (often_itself hs))) (staying_each (1 ∷ []) gs gs each_itself)
 
   rearranged_after : is_rearranged second_dropped (after hs) gs ≡ true
   rearranged_after =
-      rearranged_as (after hs) (skipped (Part 0 AsValue) (hs ++ (Part 1 AsValue ∷ [])) hs (first_apart 2 (omega arith) l ls) (often_more hs (Part 1 AsValue ∷ []) hs (often_itself hs)))
-      (subst (λ ks. has_each gs (Part 0 AsValue ∷ ks) ≡ true) (sym (staying_more hs (Part 1 AsValue ∷ []) ∙ append-nil (staying second_dropped hs))) (staying_each gs gs each_itself))
+      rearranged_as (1 ∷ []) (after hs) gs (skipped (Part 0 AsValue) (hs ++ (Part 1 AsValue ∷ [])) hs (apart_from 0 2 AsValue (omega arith) l ls) (often_more hs (Part 1 AsValue ∷ []) hs (often_itself hs)))
+      (subst (λ ks. has_each gs (Part 0 AsValue ∷ ks) ≡ true) (sym (staying_more (1 ∷ []) hs (Part 1 AsValue ∷ []) ∙ append-nil (staying second_dropped hs))) (staying_each (1 ∷ []) gs gs each_itself))
 
 -- ---- where they stand
 
@@ -232,9 +231,12 @@ stands_link f o i (a_member k) t e = both (stands_well f AsValue t) true e refl
 stands_link f o i (a_computed k) t e = both (stands_well f AsValue t) true e refl
 stands_link f o i (a_call ts) t e = both (stands_well f AsValue t) true e refl
 
+pub stands_of : (f : Free) (b : Sketch) → stands_well f AsValue b ≡ true → (o : Bool) (i : ℕ) (l : Link) (ls : List Link) → stands_well f AsValue (sketch_of b o i l ls) ≡ true
+stands_of f b e o i l [] = stands_link f o i l b e
+stands_of f b e o i l (m ∷ ls) = stands_link f false i l (sketch_of b o (suc i) m ls) (stands_of f b e o (suc i) m ls)
+
 stands_sketch : (f : Free) (o : Bool) (i : ℕ) (l : Link) (ls : List Link) → stands_well f AsValue (sketch o i l ls) ≡ true
-stands_sketch f o i l [] = stands_link f o i l (part 0) refl
-stands_sketch f o i l (m ∷ ls) = stands_link f false i l (sketch o (suc i) m ls) (stands_sketch f o (suc i) m ls)
+stands_sketch f = stands_of f (part 0) refl
 
 -- ---- the conditional, and the chain
 

@@ -1,6 +1,6 @@
 -- What is written for a conditional that asks whether a name is null or undefined means the same, and keeps all that a program has to keep.
 use Rattle.std.proofs.Common.{◌≡◌, ◌+◌, ◌<◌, ◌≤◌, Bool, true, false, List, [], ◌∷◌, refl, sym, ap, subst, ◌∙◌, true≢false, arith}
-use Rattle.std.specs.Prelude.{◌&&◌, ◌||◌, is_none, codes, if◌then◌else◌}
+use Rattle.std.specs.Prelude.{◌&&◌, is_none, codes, if◌then◌else◌}
 use Rattle.std.proofs.lemmas.Bool.{and_parts}
 use Rattle.mini_model.specs.declared.name.Name.{Name}
 use Rattle.mini_model.specs.declared.operator.BinaryOperator.TheVariants as binary_operator
@@ -11,33 +11,30 @@ use Rattle.mini_model.specs.Tree.{Tree, none, ◌▸◌, listed, identifier, nul
 use Rattle.mini_model.specs.Position.{branch_seat, callee_seat, object_seat, chained_seat}
 use Rattle.mini_model.specs.Weight.{same_text, outlines, weight, is_parenthesized, is_awkward}
 use Rattle.mini_accept.specs.WellShaped.{a_link, a_chain, an_argument, a_label, Slot, one, many, fits, has_optional}
-use Rattle.mini_laws.specs.Demand.{As}
 use Rattle.mini_laws.specs.Expressions.{is_eval}
 use Rattle.mini_laws.specs.Naming.{EvalName, PlainName, kind_of, kind_unresolved, kind_declared, summary}
 use Rattle.mini_laws.specs.Rows.{SameAt}
-use Rattle.mini_laws.proofs.Rows.{by_equality}
-use Rattle.mini_laws.proofs.Truth.{coherent}
-use Rattle.mini_laws.specs.Truth.{told}
 use Rattle.mini_kept.specs.KeepsShapes.{AskedAlike}
 use Rattle.mini_kept.specs.KeepsFrames.{is_body_slot}
 use Rattle.mini_kept.proofs.Bools.{both}
 use Rattle.mini_kept.proofs.Expressions.{expression, TakesExpression, expression_taken, of_conditional}
 use Rattle.mini_kept.proofs.FrameRows.{expression_slot}
-use Rattle.mini_terms.specs.Reading.{stands}
-use Rattle.mini_terms.proofs.Reading.{same_in_seat}
+use Rattle.mini_terms.specs.Reading.{is_item}
 use Rattle.mini_rows.specs.Arranged.{KeptAt, Vanishes}
 use Rattle.mini_rows.specs.Sketches.{Parts, filled}
 use Rattle.mini_rows.specs.Spellings.{binary}
 use Rattle.mini_rows.specs.Chains.{Link, a_member, a_computed, a_call, linked, spine, chain, if_nullish, Row46Chain}
 use Rattle.mini_rows.proofs.ArrangedExpressions.{expressions_arranged_freely}
 use Rattle.mini_rows.proofs.ChainHoles.{sketch, trees_of, lists_of, behind, themselves, Stand, filled_sketch, second_dropped, asked_before, asked_after, chained, before_rearranged, after_rearranged}
+use Rattle.mini_rows.proofs.ChainReferences.{chain_for_value}
 use Rattle.mini_rows.proofs.ChainRuns.{chain_same}
+use Rattle.mini_rows.proofs.ChoiceRuns.{Tells, conditional_tells}
 use Rattle.mini_rows.proofs.SpellWeights.{falls_by}
 
 -- ---- it means the same
 
 -- a name that is declared and isn't `eval` is no direct call
-plain_name : (x : Name) → is_none x.symbol ≡ false → same_text x.spelling (codes "eval") ≡ false → is_eval (kind_of x) ≡ false
+pub plain_name : (x : Name) → is_none x.symbol ≡ false → same_text x.spelling (codes "eval") ≡ false → is_eval (kind_of x) ≡ false
 plain_name x d h = ap (λ b. is_eval (if b then kind_unresolved x.spelling else kind_declared x.spelling)) d ∙ ap (λ b. is_eval (if b then EvalName else PlainName)) h
 
 pub chain_row_same : (s : Seat) (n w : Tree) → Row46Chain s n w → SameAt (Expr s) n w
@@ -46,12 +43,15 @@ chain_row_same s n w r =
     let t : Tree = if_nullish r.equal r.name r.missing (spine false x r.last r.others) in
     let u : Tree = chain (spine true x r.last r.others) in
     subst (λ t. SameAt (Expr s) t w) (sym r.shape) (subst (SameAt (Expr s) t) (sym r.written)
-    (same_in_seat s t u (stands_there r.equal r.name r.missing (spine false x r.last r.others)) (ap (λ b. b && true || false) r.unguarded)
-    (λ e D X q. by_equality e D X (As q) t u (λ v z. coherent t q e z ∙ ap (told q) (chain_same r.equal r.name r.missing r.last r.others (plain_name r.name r.declared r.indirect) r.undefined r.calm e z) ∙ sym (coherent u q e z)))))
+    (record { by = λ e D X q f. chain_for_value e D X s r.valued t (spine true x r.last r.others) (item_there r.equal r.name r.missing (spine false x r.last r.others)) (if_tells r.equal r.name r.missing (spine false x r.last r.others)) (λ z. chain_same r.equal r.name r.missing r.last r.others (plain_name r.name r.declared r.indirect) r.undefined r.calm e z) q f }))
   where
-    stands_there : (equal : Bool) (x : Name) (a b : Tree) → stands (if_nullish equal x a b) ≡ true
-    stands_there true x a b = refl
-    stands_there false x a b = refl
+    item_there : (equal : Bool) (x : Name) (a b : Tree) → is_item (if_nullish equal x a b) ≡ true
+    item_there true x a b = refl
+    item_there false x a b = refl
+
+    if_tells : (equal : Bool) (x : Name) (a b : Tree) → Tells (if_nullish equal x a b)
+    if_tells true x a b = conditional_tells (binary binary_operator.Equality (identifier x) null_literal) a b
+    if_tells false x a b = conditional_tells (binary binary_operator.Inequality (identifier x) null_literal) b a
 
 if_read : (equal : Bool) (x : Name) (a b u : Tree) → summary (if_nullish equal x a b) ≡ summary (chain u)
 if_read true x a b u = refl
@@ -66,11 +66,11 @@ module _ (strict : Bool) where
   abbrev Fits : Tree → Type 0
   Fits t = fits strict expression t ≡ true
 
-  abbrev Links : Tree → Type 0
+  abbrev pub Links : Tree → Type 0
   Links t = fits strict (one a_link) t ≡ true
 
   -- over another link, which may be optional
-  link_fits : (o : Bool) (l : Link) (t u : Tree) → Fits (linked false l t) → (Fits t → Links u) → Links (linked o l u)
+  pub link_fits : (o : Bool) (l : Link) (t u : Tree) → Fits (linked false l t) → (Fits t → Links u) → Links (linked o l u)
   link_fits o (a_member k) t u e f = let (here, rest) = and_parts (fits strict expression t) (fits strict (one a_label) k && true) e in both (fits strict (one a_link) u) (fits strict (one a_label) k && true) (f here) rest
   link_fits o (a_computed k) t u e f = let (here, rest) = and_parts (fits strict expression t) (fits strict expression k && true) e in both (fits strict (one a_link) u) (fits strict expression k && true) (f here) rest
   link_fits o (a_call ts) t u e f = let (here, rest) = and_parts (fits strict expression t) (fits strict (many an_argument) (listed ts) && true) e in both (fits strict (one a_link) u) (fits strict (many an_argument) (listed ts) && true) (f here) rest
@@ -84,7 +84,7 @@ module _ (strict : Bool) where
   ends_chain o (a_computed k) t e = e
   ends_chain o (a_call ts) t e = e
 
-  spine_ends : (x : Tree) (l : Link) (ls : List Link) → Links (spine true x l ls) → fits strict (one a_chain) (spine true x l ls) ≡ true
+  pub spine_ends : (x : Tree) (l : Link) (ls : List Link) → Links (spine true x l ls) → fits strict (one a_chain) (spine true x l ls) ≡ true
   spine_ends x l [] e = ends_chain true l x e
   spine_ends x l (m ∷ ls) e = ends_chain false l (spine true x m ls) e
 
@@ -93,7 +93,7 @@ link_optional (a_member k) t = refl
 link_optional (a_computed k) t = refl
 link_optional (a_call ts) t = refl
 
-spine_optional : (x : Tree) (l : Link) (ls : List Link) → has_optional (spine true x l ls) ≡ true
+pub spine_optional : (x : Tree) (l : Link) (ls : List Link) → has_optional (spine true x l ls) ≡ true
 spine_optional x l [] = link_optional l x
 spine_optional x (a_member k) (m ∷ ls) = spine_optional x m ls
 spine_optional x (a_computed k) (m ∷ ls) = spine_optional x m ls
@@ -179,7 +179,7 @@ link_moved s o (a_member k) t = omega arith
 link_moved s o (a_computed k) t = omega arith
 link_moved s o (a_call ts) t = omega arith
 
-spine_moved : (s : Seat) (o : Bool) (x : Tree) (l : Link) (ls : List Link) → weight (Expr (chained_seat s)) (spine o x l ls) ≤ weight (Expr (branch_seat s)) (spine o x l ls)
+pub spine_moved : (s : Seat) (o : Bool) (x : Tree) (l : Link) (ls : List Link) → weight (Expr (chained_seat s)) (spine o x l ls) ≤ weight (Expr (branch_seat s)) (spine o x l ls)
 spine_moved s o x l [] = link_moved s o l x
 spine_moved s o x l (m ∷ ls) = link_moved s false l (spine o x m ls)
 
@@ -191,7 +191,7 @@ one_at_most : (b : Bool) → (if b then 1 else 0) ≤ 1
 one_at_most true = omega arith
 one_at_most false = omega arith
 
-chain_light : (s : Seat) (t : Tree) → weight (Expr s) (chain t) ≤ weight (Expr (chained_seat s)) t + 5
+pub chain_light : (s : Seat) (t : Tree) → weight (Expr s) (chain t) ≤ weight (Expr (chained_seat s)) t + 5
 chain_light s t = omega (arith, four_at_most (is_parenthesized shape.ChainExpression s), one_at_most (is_awkward s shape.ChainExpression (outlines (t ▸ none))))
 
 asked_heavy : (s : Seat) (equal : Bool) (x : Name) (a b : Tree) → weight (Expr (branch_seat s)) b + 12 ≤ weight (Expr s) (if_nullish equal x a b)

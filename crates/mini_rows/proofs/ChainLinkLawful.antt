@@ -203,13 +203,13 @@ closed_kept : (q : Seat) (ms : List Marked) (l : Link) (t : Tree) (b : Bool) →
 closed_kept q ms l t b = links_kept q ms l t (λ j. link_sketch true j l (part 0)) (λ j. link_sketch false j l (part 0)) (closed_turned l) b (linked true l t) (linked false l t) (link_filled t ms l true (part 0) t refl) (link_filled t ms l false (part 0) t refl)
 
 module _ (q : Seat) (n w : Tree) where
-  abbrev Row64Of : (Tree → Tree → Type 0) → Row64 q n w → Type 0
+  abbrev Row64Of : (Tree → Tree → Type 0) → Row64 n w → Type 0
   Row64Of P r = P (chain (links_over r.others (linked true r.link (chain r.inner)))) (chain (links_over r.others (linked true r.link r.inner)))
 
   abbrev Row11Of : (Tree → Tree → Type 0) → Row11 q n w → Type 0
   Row11Of P r = P (chain (links_over r.others (linked true r.link r.base))) (chain_if (has_mark r.others) (links_over r.others (linked false r.link r.base)))
 
-  along : (P : Tree → Tree → Type 0) → ((r : Row64 q n w) → Row64Of P r) → ((r : Row11 q n w) → Row11Of P r) → ChainRow q n w → P n w
+  along : (P : Tree → Tree → Type 0) → ((r : Row64 n w) → Row64Of P r) → ((r : Row11 q n w) → Row11Of P r) → ChainRow q n w → P n w
   along P f g (inl r) = subst (λ t. P t w) (sym r.shape) (subst (P (chain (links_over r.others (linked true r.link (chain r.inner))))) (sym r.written) (f r))
   along P f g (inr r) = subst (λ t. P t w) (sym r.shape) (subst (P (chain (links_over r.others (linked true r.link r.base)))) (sym r.written) (g r))
 

@@ -3,17 +3,15 @@ use Rattle.std.proofs.Common.{◌≡◌, Bool, true, false, List, [], ◌∷◌,
 use Rattle.std.specs.Prelude.{not}
 use Rattle.std.proofs.lemmas.Bool.{and_parts}
 use Rattle.mini_model.specs.declared.place.Position.TheVariants.{Expr}
-use Rattle.mini_model.specs.declared.seat.Guard.{Guard}
-use Rattle.mini_model.specs.declared.seat.Guard.TheVariants as guard
 use Rattle.mini_model.specs.declared.seat.Seat.{Seat}
 use Rattle.mini_model.specs.declared.shape.Shape.TheVariants as shape
 use Rattle.mini_model.specs.Tree.{Tree, none, ◌▸◌}
 use Rattle.mini_laws.specs.Value.{Value, Undefined, Boolean, Number, String, Object, VariableSet, is_nullish}
 use Rattle.mini_laws.specs.State.{State, Short, Completion, ok, stop, halt, out, ended, either, Environment}
-use Rattle.mini_laws.specs.Demand.{Val, Demand, As, Callee, OfType, Deleted, AnEntry, Called, plain_call}
+use Rattle.mini_laws.specs.Demand.{Want, Val, Demand, As, Callee, OfType, Deleted, AnEntry, AMember, AValue, Called, plain_call}
 use Rattle.mini_laws.specs.Command.{run}
+use Rattle.mini_laws.specs.Conversion.{key_value}
 use Rattle.mini_laws.specs.Expressions.{chain_end}
-use Rattle.mini_laws.specs.Fits.{Fits}
 use Rattle.mini_laws.specs.Naming.{naming, summary, summaries}
 use Rattle.mini_laws.specs.Same.{Same}
 use Rattle.mini_laws.specs.Step.{step, means, meaning}
@@ -25,7 +23,7 @@ use Rattle.mini_terms.specs.Folds.{is_known}
 use Rattle.mini_terms.specs.declared.kinds.Kind.{Kind}
 use Rattle.mini_terms.specs.declared.kinds.Kind.TheVariants.{Undefined as IsUndefined, Null as IsNull, Boolean as IsBoolean, Number as IsNumber, String as IsString, Object as IsObject, Undetermined}
 use Rattle.mini_terms.specs.Kind.{is_nullish_kind, kind, OfKind}
-use Rattle.mini_terms.specs.Reading.{is_unguarded, is_item, is_plain_part, stands, by_value, SameWanted}
+use Rattle.mini_terms.specs.Reading.{is_item, is_plain_part, stands, by_value}
 use Rattle.mini_terms.specs.Sound.{Gives}
 use Rattle.mini_terms.proofs.Dropping.{weak}
 use Rattle.mini_terms.proofs.Frame.{gives_map}
@@ -35,38 +33,43 @@ use Rattle.mini_rows.specs.Chains.{is_calm, is_calm_link, Link, a_member, a_comp
 use Rattle.mini_rows.specs.ChainLinks.{is_there, Marked, marked, links_over, are_calm_over, has_mark, chain_if, Row64, Row11, ChainRow}
 use Rattle.mini_rows.proofs.FoldMeaning.{plain_read}
 use Rattle.mini_rows.proofs.ChainCalm.{Calm, calm_next}
-use Rattle.mini_rows.proofs.ChainRuns.{called, next, value, linked_value, linked_called, chain_of, value_is, called_is, chain_value, chain_calm, link_calm, value_calm, same_first}
+use Rattle.mini_rows.proofs.ChainReferences.{deleted, linked_deleted, deleted_is, deleted_calm, ends_as, calmly, chain_called, chain_deleted, chain_typed, link_typed}
+use Rattle.mini_rows.proofs.ChainRuns.{called, next, ends_if, value, linked_value, linked_called, chain_of, value_is, called_is, chain_value, chain_calm, link_calm, value_calm, same_first}
 
--- ---- a chain where no reference is asked
+-- ---- a chain in a seat
 
-guarded : (g h : Guard) → is_unguarded g ≡ true → g ≡ h → is_unguarded h ≡ false → ⊥
-guarded g h u e f = true≢false (sym u ∙ ap is_unguarded e ∙ f)
+-- the same as a value, as what is called, and under `delete`; and `typeof` asks it for its value
+pub record AsChain (t w : Tree) : Type 0 where
+  pub valued : (e : Environment) (z : State) → value e (chain t) z ≡ value e w z
+  pub as_callee : (e : Environment) (z : State) → called e (chain t) z ≡ called e w z
+  pub as_deleted : (e : Environment) (z : State) → deleted e (chain t) z ≡ deleted e w z
+  pub typed : (e : Environment) (z : State) → means e w OfType tt z ≡ value e w z
 
--- what is the same by its value is the same there
-module _ (s : Seat) (t w : Tree) (free : is_unguarded s.guard ≡ true) (i : is_item w ≡ true) (h : SameWanted (chain t) w) (e : Environment) (D X : VariableSet) where
-  by_demand : (q : Demand) → Fits (Expr s) q → Same e D X q (chain t) w
+-- so it is the same there
+module _ (t w : Tree) (i : is_item w ≡ true) (h : AsChain t w) (e : Environment) (D X : VariableSet) where
+  by_want : (u : Want) → Same e D X (As u) (chain t) w
+  by_want u = by_equality e D X (As u) (chain t) w (λ v z. coherent (chain t) u e z ∙ ap (told u) (h.valued e z) ∙ sym (coherent w u e z))
+
+  by_demand : (q : Demand) → Same e D X q (chain t) w
   unfolding means step
-  by_demand (As u) f = h e D X u
-  by_demand AnEntry f = same_item e D X (chain t) w refl i (h e D X Val)
-  by_demand Callee f = absurd (guarded s.guard guard.Callee free f.2 refl)
-  by_demand OfType f = absurd (guarded s.guard guard.Typeof free f.2 refl)
-  by_demand Deleted f = absurd (guarded s.guard guard.Delete free f.2 refl)
-  by_demand q f = record { by = λ r z j. weak D (means e w q r z) }
+  by_demand (As u) = by_want u
+  by_demand AnEntry = same_item e D X (chain t) w refl i (by_want Val)
+  by_demand Callee = by_equality e D X Callee (chain t) w (λ v z. h.as_callee e z)
+  by_demand OfType = by_equality e D X OfType (chain t) w (λ v z. chain_typed e t z ∙ h.valued e z ∙ sym (h.typed e z))
+  by_demand Deleted = by_equality e D X Deleted (chain t) w (λ v z. h.as_deleted e z)
+  by_demand q = record { by = λ r z j. weak D (means e w q r z) }
 
-pub chain_in_seat : (s : Seat) (t w : Tree) → is_unguarded s.guard ≡ true → is_item w ≡ true → ((e : Environment) (z : State) → value e (chain t) z ≡ value e w z) → SameAt (Expr s) (chain t) w
-chain_in_seat s t w free i h = record { by = λ e D X q f. by_demand s t w free i same e D X q f }
-  where
-    same : SameWanted (chain t) w
-    same e D X q = by_equality e D X (As q) (chain t) w (λ v z. coherent (chain t) q e z ∙ ap (told q) (h e z) ∙ sym (coherent w q e z))
+pub chain_in_seat : (s : Seat) (t w : Tree) → is_item w ≡ true → AsChain t w → SameAt (Expr s) (chain t) w
+chain_in_seat s t w i h = record { by = λ e D X q f. by_demand t w i h e D X q }
 
 -- ---- 64
 
 -- a chain that ends in its midst is undefined, and so is what is called then
 
-abbrev chain_called : Environment → Tree → Completion Called → Completion Called
-chain_called e t x = either x (λ f z. ok f z) (λ y z. run {q = λ i. Callee} e (naming shape.ChainExpression Callee [] 0 (summaries (t ▸ none))) (λ i r z. meaning e (t ▸ none) i Callee r z) (chain_end Callee tt (ended y)) z)
+abbrev chain_called_of : Environment → Tree → Completion Called → Completion Called
+chain_called_of e t x = either x (λ f z. ok f z) (λ y z. run {q = λ i. Callee} e (naming shape.ChainExpression Callee [] 0 (summaries (t ▸ none))) (λ i r z. meaning e (t ▸ none) i Callee r z) (chain_end Callee tt (ended y)) z)
 
-called_chain : (e : Environment) (t : Tree) (s : State) → called e (chain t) s ≡ chain_called e t (called e t s)
+called_chain : (e : Environment) (t : Tree) (s : State) → called e (chain t) s ≡ chain_called_of e t (called e t s)
 unfolding means meaning step
 called_chain e t s = refl
 
@@ -79,7 +82,7 @@ after_chain e t (stop y z) f h = refl
 after_chain e t (halt y z) f h = refl
 after_chain e t out f h = refl
 
-after_called : (e : Environment) (t : Tree) (x : Completion Called) (f : Called → State → Completion Value) → ((z : State) → f (plain_call Undefined) z ≡ stop Short z) → next (chain_called e t x) f ≡ next x f
+after_called : (e : Environment) (t : Tree) (x : Completion Called) (f : Called → State → Completion Value) → ((z : State) → f (plain_call Undefined) z ≡ stop Short z) → next (chain_called_of e t x) f ≡ next x f
 unfolding either
 after_called e t (ok v z) f h = refl
 after_called e t (stop Short z) f h = h z
@@ -94,7 +97,7 @@ plainly_called x = next x (λ v z. ok (plain_call v) z)
 abbrev Alike : Environment → State → Tree → Tree → Type 0
 Alike e s t u = (value e t s ≡ value e u s) × (called e t s ≡ called e u s)
 
-link_joined : (e : Environment) (l : Link) (t : Tree) (v : Completion Value) (f : Completion Called) → (linked_value e true l (chain_of e t v) (chain_called e t f) ≡ linked_value e true l v f) × (linked_called e true l (chain_of e t v) (chain_called e t f) ≡ linked_called e true l v f)
+link_joined : (e : Environment) (l : Link) (t : Tree) (v : Completion Value) (f : Completion Called) → (linked_value e true l (chain_of e t v) (chain_called_of e t f) ≡ linked_value e true l v f) × (linked_called e true l (chain_of e t v) (chain_called_of e t f) ≡ linked_called e true l v f)
 link_joined e (a_member k) t v f = (after_chain e t v _ (λ z. refl), after_chain e t v _ (λ z. refl))
 link_joined e (a_computed k) t v f = (after_chain e t v _ (λ z. refl), after_chain e t v _ (λ z. refl))
 link_joined e (a_call ts) t v f = let whole = after_called e t f _ (λ z. refl) in (whole, ap plainly_called whole)
@@ -122,12 +125,42 @@ chain_alike e t u out = refl
 chains_alike : (e : Environment) (s : State) (t u : Tree) → Alike e s t u → value e (chain t) s ≡ value e (chain u) s
 chains_alike e s t u h = chain_value e t s ∙ ap (chain_of e t) h.0 ∙ chain_alike e t u (value e u s) ∙ sym (chain_value e u s)
 
-joined_same : (s : Seat) (n w : Tree) → Row64 s n w → SameAt (Expr s) n w
+-- what is called, and under `delete`
+
+joined_deleted : (e : Environment) (s : State) (l : Link) (t : Tree) → deleted e (linked true l (chain t)) s ≡ deleted e (linked true l t) s
+joined_deleted e s l t =
+    deleted_is e true l (chain t) s
+    ∙ (λ i. linked_deleted e true l (chain_value e t s i) (called_chain e t s i))
+    ∙ by l (value e t s) (called e t s)
+    ∙ sym (deleted_is e true l t s)
+  where
+    by : (l : Link) (v : Completion Value) (f : Completion Called) → linked_deleted e true l (chain_of e t v) (chain_called_of e t f) ≡ linked_deleted e true l v f
+    by (a_member k) v f = after_chain e t v _ (λ z. refl)
+    by (a_computed k) v f = after_chain e t v _ (λ z. refl)
+    by (a_call ts) v f = ap (λ x. next x (λ v z. ok (AValue v) z)) (after_called e t f _ (λ z. refl))
+
+over_deleted : (e : Environment) (s : State) (ms : List Marked) (t u : Tree) → Alike e s t u → deleted e t s ≡ deleted e u s → deleted e (links_over ms t) s ≡ deleted e (links_over ms u) s
+over_deleted e s [] t u h d = d
+over_deleted e s (marked o l ∷ ms) t u h d =
+    let r = over_alike e s ms t u h in
+    deleted_is e o l (links_over ms t) s ∙ (λ i. linked_deleted e o l (r.0 i) (r.1 i)) ∙ sym (deleted_is e o l (links_over ms u) s)
+
+-- so a chain of one is that of the other
+chain_as : (t u : Tree) → ((e : Environment) (s : State) → Alike e s t u) → ((e : Environment) (s : State) → deleted e t s ≡ deleted e u s) → AsChain t (chain u)
+chain_as t u h d = record {
+  valued = λ e z. chains_alike e z t u (h e z);
+  as_callee = λ e z. chain_called e t z ∙ ap (ends_as (plain_call Undefined)) (h e z).1 ∙ sym (chain_called e u z);
+  as_deleted = λ e z. chain_deleted e t z ∙ ap (ends_as (AValue Undefined)) (d e z) ∙ sym (chain_deleted e u z);
+  typed = λ e z. chain_typed e u z;
+}
+
+joined_same : (s : Seat) (n w : Tree) → Row64 n w → SameAt (Expr s) n w
 joined_same s n w r =
-    let t : Tree = links_over r.others (linked true r.link (chain r.inner)) in
-    let u : Tree = links_over r.others (linked true r.link r.inner) in
-    subst (λ t. SameAt (Expr s) t w) (sym r.shape) (subst (SameAt (Expr s) (chain t)) (sym r.written)
-    (chain_in_seat s t (chain u) r.unguarded refl (λ e z. chains_alike e z t u (over_alike e z r.others (linked true r.link (chain r.inner)) (linked true r.link r.inner) (joined_alike e z r.link r.inner)))))
+    let a : Tree = linked true r.link (chain r.inner) in
+    let b : Tree = linked true r.link r.inner in
+    subst (λ t. SameAt (Expr s) t w) (sym r.shape) (subst (SameAt (Expr s) (chain (links_over r.others a))) (sym r.written)
+    (chain_in_seat s (links_over r.others a) (chain (links_over r.others b)) refl
+    (chain_as (links_over r.others a) (links_over r.others b) (λ e z. over_alike e z r.others a b (joined_alike e z r.link r.inner)) (λ e z. over_deleted e z r.others a b (joined_alike e z r.link r.inner) (joined_deleted e z r.link r.inner)))))
 
 -- ---- 11
 
@@ -186,6 +219,33 @@ module _ (e : Environment) (l : Link) (x : Tree) (reads : stands x ≡ true) (s 
   base_calm : is_calm x ≡ true → CalmBoth e s x
   base_calm p = let c = value_calm e x p s in (c, subst Calm (sym (base_called e x reads s)) (calm_next (value e x s) (λ v z. ok (plain_call v) z) c (λ v z. tt)))
 
+-- under `delete`
+
+present_deleted : (e : Environment) (l : Link) (x : Completion Value) → Gives Present x → linked_deleted e true l x (plainly_called x) ≡ linked_deleted e false l x (plainly_called x)
+unfolding either Gives
+present_deleted e (a_member k) (ok v z) p = ap (λ b. ends_if b z (next (value e k z) (λ u y. ok (AMember v (key_value u)) y))) p
+present_deleted e (a_computed k) (ok v z) p = ap (λ b. ends_if b z (next (value e k z) (λ u y. ok (AMember v (key_value u)) y))) p
+present_deleted e (a_call ts) x p = ap (λ x. next x (λ v z. ok (AValue v) z)) (closed_by e (a_call ts) x p).0
+present_deleted e (a_member k) x p = refl
+present_deleted e (a_computed k) x p = refl
+
+closed_deleted : (e : Environment) (l : Link) (x : Tree) → stands x ≡ true → is_there x ≡ true → (s : State) → deleted e (linked true l x) s ≡ deleted e (linked false l x) s
+closed_deleted e l x reads there s =
+    deleted_is e true l x s
+    ∙ ap (linked_deleted e true l (value e x s)) (base_called e x reads s)
+    ∙ present_deleted e l (value e x s) (present e x there s)
+    ∙ sym (deleted_is e false l x s ∙ ap (linked_deleted e false l (value e x s)) (base_called e x reads s))
+
+-- it ends no chain either
+over_deleted_calmly : (e : Environment) (s : State) (ms : List Marked) (l : Link) (t : Tree) → has_mark ms ≡ false → are_calm_over ms ≡ true → is_calm_link l ≡ true → CalmBoth e s t → Calm (deleted e (links_over ms (linked false l t)) s)
+over_deleted_calmly e s [] l t h p q c = subst Calm (sym (deleted_is e false l t s)) (deleted_calm e l q (value e t s) (called e t s) c.0 c.1)
+over_deleted_calmly e s (marked true m ∷ ms) l t h p q c = absurd (true≢false h)
+over_deleted_calmly e s (marked false m ∷ ms) l t h p q c =
+    let (here, rest) = and_parts (is_calm_link m) (are_calm_over ms) p in
+    let below : Tree = links_over ms (linked false l t) in
+    let calm = over_calmly e s ms (linked false l t) h rest (link_calmly e s l t q c) in
+    subst Calm (sym (deleted_is e false m below s)) (deleted_calm e m here (value e below s) (called e below s) calm.0 calm.1)
+
 link_item : (o : Bool) (l : Link) (t : Tree) → is_item (linked o l t) ≡ true
 link_item o (a_member k) t = refl
 link_item o (a_computed k) t = refl
@@ -216,16 +276,32 @@ module _ (s : Seat) (n w : Tree) (r : Row11 s n w) where
   alike : (e : Environment) (z : State) → Alike e z before after
   alike e z = over_alike e z r.others (linked true r.link r.base) (linked false r.link r.base) (closed_alike e r.link r.base r.value z r.known)
 
-  closed_value : (b : Bool) → has_mark r.others ≡ b → (e : Environment) (z : State) → value e (chain before) z ≡ value e (chain_if b after) z
-  closed_value true h e z = chains_alike e z before after (alike e z)
-  closed_value false h e z =
-      let calm = over_calmly e z r.others (linked false r.link r.base) h r.calm_others (link_calmly e z r.link r.base r.calm (base_calm e r.link r.base r.value z r.calm_base)) in
-      chain_value e before z ∙ ap (chain_of e before) (alike e z).0 ∙ chain_calm e before (value e after z) calm.0
+  alike_deleted : (e : Environment) (z : State) → deleted e before z ≡ deleted e after z
+  alike_deleted e z = over_deleted e z r.others (linked true r.link r.base) (linked false r.link r.base) (closed_alike e r.link r.base r.value z r.known) (closed_deleted e r.link r.base r.value r.known z)
+
+  over_typed : (ms : List Marked) (e : Environment) (z : State) → means e (links_over ms (linked false r.link r.base)) OfType tt z ≡ value e (links_over ms (linked false r.link r.base)) z
+  over_typed [] e z = link_typed e false r.link r.base z
+  over_typed (marked o l ∷ ms) e z = link_typed e o l (links_over ms (linked false r.link r.base)) z
+
+  calm_after : has_mark r.others ≡ false → (e : Environment) (z : State) → CalmBoth e z after
+  calm_after h e z = over_calmly e z r.others (linked false r.link r.base) h r.calm_others (link_calmly e z r.link r.base r.calm (base_calm e r.link r.base r.value z r.calm_base))
+
+  calm_deleted : has_mark r.others ≡ false → (e : Environment) (z : State) → Calm (deleted e after z)
+  calm_deleted h e z = over_deleted_calmly e z r.others r.link r.base h r.calm_others r.calm (base_calm e r.link r.base r.value z r.calm_base)
+
+  closed_as : (b : Bool) → has_mark r.others ≡ b → AsChain before (chain_if b after)
+  closed_as true h = chain_as before after alike alike_deleted
+  closed_as false h = record {
+    valued = λ e z. chain_value e before z ∙ ap (chain_of e before) (alike e z).0 ∙ chain_calm e before (value e after z) (calm_after h e z).0;
+    as_callee = λ e z. chain_called e before z ∙ ap (ends_as (plain_call Undefined)) (alike e z).1 ∙ calmly (plain_call Undefined) (called e after z) (calm_after h e z).1;
+    as_deleted = λ e z. chain_deleted e before z ∙ ap (ends_as (AValue Undefined)) (alike_deleted e z) ∙ calmly (AValue Undefined) (deleted e after z) (calm_deleted h e z);
+    typed = over_typed r.others;
+  }
 
   closed_same : SameAt (Expr s) n w
   closed_same =
       subst (λ t. SameAt (Expr s) t w) (sym r.shape) (subst (SameAt (Expr s) (chain before)) (sym r.written)
-      (chain_in_seat s before (chain_if (has_mark r.others) after) r.unguarded (over_item (has_mark r.others) r.others false r.link r.base) (closed_value (has_mark r.others) refl)))
+      (chain_in_seat s before (chain_if (has_mark r.others) after) (over_item (has_mark r.others) r.others false r.link r.base) (closed_as (has_mark r.others) refl)))
 
   closed_read : (b : Bool) → has_mark r.others ≡ b → summary (chain before) ≡ summary (chain_if b after)
   closed_read true h = refl

@@ -165,7 +165,7 @@ module _ (e : Environment) where
   word_by (shape.IdentifierName w) p xs n ts s = tt
   word_by h p xs n ts s = absurd (true≢false (sym p))
 
-  word_calm : (t : Tree) → is_word_shape (shape_of t) ≡ true → (s : State) → Calm (value e t s)
+  pub word_calm : (t : Tree) → is_word_shape (shape_of t) ≡ true → (s : State) → Calm (value e t s)
   word_calm (node h xs n ts) p s = word_by h p xs n ts s
 
   pub value_calm : (t : Tree) → is_calm t ≡ true → (s : State) → Calm (value e t s)
@@ -192,6 +192,13 @@ module _ (e : Environment) where
       ∙ (λ i. next (items e ts s) (λ vs y. run {q = λ i. As Val} e no_names no_kids (bind (choose (d i && false) (emit DirectEval (Item f.value ∷ vs)) (emit CallOf (Item f.value ∷ Item f.this_value ∷ vs))) (reply (As Val) tt)) y))
       ∙ sym (λ i. next (items e ts s) (λ vs y. run {q = λ i. As Val} e no_names no_kids (bind (choose (d i && true) (emit DirectEval (Item f.value ∷ vs)) (emit CallOf (Item f.value ∷ Item f.this_value ∷ vs))) (reply (As Val) tt)) y)) in
       (whole, ap (λ x. next x (λ v z. ok (plain_call v) z)) whole)
+
+  -- over null or undefined one that is optional ends the chain
+  pub short_first : (s : State) (v : Value) (f : Called) → is_nullish v ≡ true → is_nullish f.value ≡ true → (l : Link) → (linked_value e true l (ok v s) (ok f s) ≡ stop Short s) × (linked_called e true l (ok v s) (ok f s) ≡ stop Short s)
+  unfolding either
+  short_first s v f p q (a_member k) = (ap (λ b. ends_if b s (next (value e k s) (λ u y. gets e v (key_value u) y))) p, ap (λ b. ends_if b s (next (value e k s) (λ u y. gets_called e v (key_value u) y))) p)
+  short_first s v f p q (a_computed k) = (ap (λ b. ends_if b s (next (value e k s) (λ u y. gets e v (key_value u) y))) p, ap (λ b. ends_if b s (next (value e k s) (λ u y. gets_called e v (key_value u) y))) p)
+  short_first s v f p q (a_call ts) = (ap (λ b. ends_if b s (next (items e ts s) (λ vs y. calls e true f vs y))) q, ap (λ b. next (ends_if b s (next (items e ts s) (λ vs y. calls e true f vs y))) (λ v z. ok (plain_call v) z)) q)
 
   -- ---- over the name
 
@@ -226,14 +233,8 @@ module _ (e : Environment) where
     short_link (a_computed k) = (refl, refl)
     short_link (a_call ts) = (refl, refl)
 
-    short_first : (v : Value) (f : Called) → is_nullish v ≡ true → is_nullish f.value ≡ true → (l : Link) → (linked_value e true l (ok v s) (ok f s) ≡ stop Short s) × (linked_called e true l (ok v s) (ok f s) ≡ stop Short s)
-    unfolding either
-    short_first v f p q (a_member k) = (ap (λ b. ends_if b s (next (value e k s) (λ u y. gets e v (key_value u) y))) p, ap (λ b. ends_if b s (next (value e k s) (λ u y. gets_called e v (key_value u) y))) p)
-    short_first v f p q (a_computed k) = (ap (λ b. ends_if b s (next (value e k s) (λ u y. gets e v (key_value u) y))) p, ap (λ b. ends_if b s (next (value e k s) (λ u y. gets_called e v (key_value u) y))) p)
-    short_first v f p q (a_call ts) = (ap (λ b. ends_if b s (next (items e ts s) (λ vs y. calls e true f vs y))) q, ap (λ b. next (ends_if b s (next (items e ts s) (λ vs y. calls e true f vs y))) (λ v z. ok (plain_call v) z)) q)
-
     short_spine : (v : Value) (f : Called) → is_nullish v ≡ true → is_nullish f.value ≡ true → value e X s ≡ ok v s → called e X s ≡ ok f s → (l : Link) (ls : List Link) → (value e (over true l ls) s ≡ stop Short s) × (called e (over true l ls) s ≡ stop Short s)
-    short_spine v f p q g h l [] = let a = above true l X (ok v s) (ok f s) g h in let b = short_first v f p q l in (a.0 ∙ b.0, a.1 ∙ b.1)
+    short_spine v f p q g h l [] = let a = above true l X (ok v s) (ok f s) g h in let b = short_first s v f p q l in (a.0 ∙ b.0, a.1 ∙ b.1)
     short_spine v f p q g h l (m ∷ ls) = let r = short_spine v f p q g h m ls in let a = above false l (over true m ls) (stop Short s) (stop Short s) r.0 r.1 in let b = short_link l in (a.0 ∙ b.0, a.1 ∙ b.1)
 
     -- anything else
@@ -282,20 +283,20 @@ chain_calm e t (stop y s) c = chain_ends e _ _ y s c
 chain_calm e t (halt y s) c = refl
 chain_calm e t out c = refl
 
-chain_short : (e : Environment) (t : Tree) (s : State) → chain_of e t (stop Short s) ≡ ok Undefined s
+pub chain_short : (e : Environment) (t : Tree) (s : State) → chain_of e t (stop Short s) ≡ ok Undefined s
 unfolding either
 chain_short e t s = refl
 
 -- ---- the conditional
 
-after_boolean : (x : Completion Value) (f : Value → Bool) (g : Value → State → Completion Value) → next (next x (λ v z. ok (Boolean (f v)) z)) g ≡ next x (λ v z. g (Boolean (f v)) z)
+pub after_boolean : (x : Completion Value) (f : Value → Bool) (g : Value → State → Completion Value) → next (next x (λ v z. ok (Boolean (f v)) z)) g ≡ next x (λ v z. g (Boolean (f v)) z)
 unfolding either
 after_boolean (ok v s) f g = refl
 after_boolean (stop y s) f g = refl
 after_boolean (halt y s) f g = refl
 after_boolean out f g = refl
 
-turned : {A : Type 0} (b : Bool) (x y : A) → choose (not b) y x ≡ choose b x y
+pub turned : {A : Type 0} (b : Bool) (x y : A) → choose (not b) y x ≡ choose b x y
 turned true x y = refl
 turned false x y = refl
 

@@ -198,11 +198,11 @@ void_vanishes : Vanishes void_zero
 unfolding has_inner
 void_vanishes = record { inner = refl; fixed = λ y. refl }
 
-undefined_vanishes : (v : Tree) → IsUndefined v → Vanishes v
+pub undefined_vanishes : (v : Tree) → IsUndefined v → Vanishes v
 undefined_vanishes v (inl h) = subst Vanishes (sym h) (name_vanishes (unresolved (codes "undefined")))
 undefined_vanishes v (inr h) = subst Vanishes (sym h) void_vanishes
 
-nullish_vanish : (a b : Tree) → AreNullish a b → Vanishes a × Vanishes b
+pub nullish_vanish : (a b : Tree) → AreNullish a b → Vanishes a × Vanishes b
 nullish_vanish a b (inl h) = (subst Vanishes (sym h.0) null_vanishes, undefined_vanishes b h.1)
 nullish_vanish a b (inr h) = (undefined_vanishes a h.0, subst Vanishes (sym h.1) null_vanishes)
 

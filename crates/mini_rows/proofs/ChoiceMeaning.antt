@@ -88,7 +88,7 @@ computing_same n w r =
 -- 37
 
 -- what a strict comparison of a name says of its value
-abbrev told_strictly : Bool → Value → Value → Bool
+abbrev pub told_strictly : Bool → Value → Value → Bool
 told_strictly true v u = strictly_equal v u
 told_strictly false v u = not (strictly_equal v u)
 
@@ -98,7 +98,7 @@ strict_value e true x f u h s = strict_told e StrictEquality x f u (λ v. strict
 strict_value e false x f u h s = strict_told e StrictInequality x f u (λ v. not (strictly_equal v u)) (λ v z. refl) h s
 
 -- what a comparison with null loosely says of it
-abbrev told_loosely : Bool → Value → Bool
+abbrev pub told_loosely : Bool → Value → Bool
 told_loosely true v = is_nullish v
 told_loosely false v = not (is_nullish v)
 
@@ -107,7 +107,7 @@ loose_value e true x s = equal_null e x s
 loose_value e false x s = unequal_null e x s
 
 -- both together say it
-null_first : (equal : Bool) (v : Value) (z : State) → choose (assigns (joining equal) (Boolean (told_strictly equal v Null))) (ok (Boolean (told_strictly equal v Undefined)) z) (ok (Boolean (told_strictly equal v Null)) z) ≡ ok (Boolean (told_loosely equal v)) z
+pub null_first : (equal : Bool) (v : Value) (z : State) → choose (assigns (joining equal) (Boolean (told_strictly equal v Null))) (ok (Boolean (told_strictly equal v Undefined)) z) (ok (Boolean (told_strictly equal v Null)) z) ≡ ok (Boolean (told_loosely equal v)) z
 null_first true Undefined z = refl
 null_first true Null z = refl
 null_first true v z = refl
@@ -115,7 +115,7 @@ null_first false Undefined z = refl
 null_first false Null z = refl
 null_first false v z = refl
 
-null_last : (equal : Bool) (v : Value) (z : State) → choose (assigns (joining equal) (Boolean (told_strictly equal v Undefined))) (ok (Boolean (told_strictly equal v Null)) z) (ok (Boolean (told_strictly equal v Undefined)) z) ≡ ok (Boolean (told_loosely equal v)) z
+pub null_last : (equal : Bool) (v : Value) (z : State) → choose (assigns (joining equal) (Boolean (told_strictly equal v Undefined))) (ok (Boolean (told_strictly equal v Null)) z) (ok (Boolean (told_strictly equal v Undefined)) z) ≡ ok (Boolean (told_loosely equal v)) z
 null_last true Undefined z = refl
 null_last true Null z = refl
 null_last true v z = refl
@@ -152,7 +152,7 @@ nullish_same n w r =
     (λ e s. compared_value e r.equal r.name r.first r.second r.nullish s))
 
 -- what stands on the right may stand there by its value alone
-right_value : (o : LogicalOperator) (a b c : Tree) (e : Environment) → ((s : State) → value e b s ≡ value e c s) → (s : State) → value e (logical o a b) s ≡ value e (logical o a c) s
+pub right_value : (o : LogicalOperator) (a b c : Tree) (e : Environment) → ((s : State) → value e b s ≡ value e c s) → (s : State) → value e (logical o a b) s ≡ value e (logical o a c) s
 right_value o a b c e h s = logical_value e o a b s ∙ either_cong (value e a s) _ _ _ _ (λ v z. ap (λ y. choose (assigns o v) y (ok v z)) (h z)) (λ x z. refl) ∙ sym (logical_value e o a c s)
 
 nullish_after_same : (n w : Tree) → Row37After n w → SameTree n w

@@ -89,6 +89,7 @@ pub mod ChoiceRuns
 pub mod CalmCommands
 pub mod ChainCalm
 pub mod ChainRuns
+pub mod ChainReferences
 pub mod ChainLinkMeaning
 mod ChainHoles
 pub mod ChainLawful
@@ -168,6 +169,8 @@ pub mod LoopLeaps
 pub mod LoopSplits
 pub mod LoopKept
 pub mod WriteMeaning
+pub mod WriteNullish
+pub mod WriteChains
 pub mod WriteWeights
 pub mod WriteLawful
 pub mod UnbrokenRuns

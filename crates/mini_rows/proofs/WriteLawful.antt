@@ -9,10 +9,11 @@ use Rattle.mini_model.specs.declared.operator.LogicalOperator.TheVariants.{Coale
 use Rattle.mini_model.specs.declared.place.Position.{Position}
 use Rattle.mini_model.specs.declared.place.Position.TheVariants.{Expr}
 use Rattle.mini_model.specs.declared.seat.Seat.{Seat}
-use Rattle.mini_model.specs.declared.shape.Shape.{Shape}
 use Rattle.mini_model.specs.Tree.{Tree, none, ◌▸◌, identifier, logical, null_literal}
 use Rattle.mini_accept.specs.WellShaped.{Slot, fits}
+use Rattle.mini_laws.specs.Naming.{summary}
 use Rattle.mini_laws.specs.Value.{VariableSet}
+use Rattle.mini_kept.specs.Loosely.{SameWith}
 use Rattle.mini_kept.specs.KeepsFrames.{is_body_slot}
 use Rattle.mini_kept.specs.KeepsNames.{is_rewritten_place}
 use Rattle.mini_kept.specs.KeepsShapes.{AskedAlike}
@@ -23,12 +24,14 @@ use Rattle.mini_rows.specs.Choices.{assign, deciding}
 use Rattle.mini_rows.specs.Sketches.{Sketch, Binary, Conditional, Logical, Null, part, under, end, ◌▹◌}
 use Rattle.mini_rows.specs.Spellings.{assignment, binary}
 use Rattle.mini_rows.specs.Unused.{resolved}
-use Rattle.mini_rows.specs.Writes.{Row34, if_null, Row46Assigned, WriteRow, WriteContracts, WritesAreLawful}
+use Rattle.mini_rows.specs.Writes.{Row34, if_null, Row46Assigned, WriteRow, WritesAreLawful}
 use Rattle.mini_rows.proofs.ArrangedExpressions.{expressions_arranged_freely}
 use Rattle.mini_rows.proofs.ChoiceLawful.{retargeted, name_vanishes, first_dropped, assigns_first, assigns_part}
 use Rattle.mini_rows.proofs.ChoiceShapes.{choice_taken, of_two, assignment_fits, of_assignment}
 use Rattle.mini_rows.proofs.SpellShapes.{a_conditional, a_logical, an_assignment, Formed, formed_asked, formed_slot}
-use Rattle.mini_rows.proofs.WriteMeaning.{writes_same, writes_read}
+use Rattle.mini_rows.proofs.WriteChains.{chained_same, chained_read, chained_fits, chained_slot, chained_asked, chained_kept}
+use Rattle.mini_rows.proofs.WriteMeaning.{assigned_same, combined_same, if_null_read}
+use Rattle.mini_rows.proofs.WriteNullish.{nullish_same, nullish_read, nullish_fits, nullish_formed, nullish_kept}
 
 -- ---- 34
 
@@ -99,9 +102,25 @@ assigned_formed W n w r = by r.equal r.shape
 
 -- ---- all
 
+writes_same : (W : VariableSet) (p : Position) (n w : Tree) → WriteRow W p n w → SameWith W p n w
+writes_same W (Expr s) n w (inl r) = record { by = λ e z q f. combined_same W n w r e z.writable q }
+writes_same W (Expr s) n w (inr (inl r)) = record { by = λ e z q f. assigned_same W n w r e z.writable q }
+writes_same W (Expr s) n w (inr (inr (inl r))) = record { by = λ e z q f. nullish_same W n w r e z.writable q }
+writes_same W (Expr s) n w (inr (inr (inr r))) = record { by = λ e z q f. chained_same W s n w r e z.writable q f }
+writes_same W p n w r = absurd r
+
+writes_read : (W : VariableSet) (p : Position) (n w : Tree) → WriteRow W p n w → summary n ≡ summary w
+writes_read W (Expr s) n w (inl r) = ap summary r.shape ∙ sym (ap summary r.written)
+writes_read W (Expr s) n w (inr (inl r)) = let x : Name = resolved r.spelling r.symbol in ap summary r.shape ∙ if_null_read r.equal (assign x r.a) r.b (identifier x) (assign x r.a) r.b ∙ sym (ap summary r.written)
+writes_read W (Expr s) n w (inr (inr (inl r))) = nullish_read W n w r
+writes_read W (Expr s) n w (inr (inr (inr r))) = chained_read W s n w r
+writes_read W p n w r = absurd r
+
 kept : (W : VariableSet) (p : Position) (n w : Tree) → WriteRow W p n w → KeptAt p n w
 kept W (Expr q) n w (inl r) = combined_kept W q n w r
-kept W (Expr q) n w (inr r) = assigned_kept W q n w r
+kept W (Expr q) n w (inr (inl r)) = assigned_kept W q n w r
+kept W (Expr q) n w (inr (inr (inl r))) = nullish_kept W q n w r
+kept W (Expr q) n w (inr (inr (inr r))) = chained_kept W q n w r
 kept W p n w r = absurd r
 
 places : (W : VariableSet) (p : Position) (n w : Tree) → WriteRow W p n w → is_rewritten_place p ≡ true
@@ -110,17 +129,23 @@ places W p n w r = absurd r
 
 row_fits : (W : VariableSet) (p : Position) (n w : Tree) → WriteRow W p n w → (strict : Bool) (s : Slot) → fits strict s n ≡ true → fits strict s w ≡ true
 row_fits W (Expr q) n w (inl r) strict s e = combined_fits W n w r strict s e
-row_fits W (Expr q) n w (inr r) strict s e = assigned_fits W n w r strict s e
+row_fits W (Expr q) n w (inr (inl r)) strict s e = assigned_fits W n w r strict s e
+row_fits W (Expr q) n w (inr (inr (inl r))) strict s e = nullish_fits W n w r strict s e
+row_fits W (Expr q) n w (inr (inr (inr r))) strict s e = chained_fits W q n w r strict s e
 row_fits W p n w r strict s e = absurd r
 
 row_asked : (W : VariableSet) (p : Position) (n w : Tree) → WriteRow W p n w → AskedAlike p n w
 row_asked W (Expr q) n w (inl r) = formed_asked (Expr q) n w (combined_formed W n w r)
-row_asked W (Expr q) n w (inr r) = formed_asked (Expr q) n w (assigned_formed W n w r)
+row_asked W (Expr q) n w (inr (inl r)) = formed_asked (Expr q) n w (assigned_formed W n w r)
+row_asked W (Expr q) n w (inr (inr (inl r))) = formed_asked (Expr q) n w (nullish_formed W n w r)
+row_asked W (Expr q) n w (inr (inr (inr r))) = chained_asked W q n w r
 row_asked W p n w r = absurd r
 
 row_slot : (W : VariableSet) (p : Position) (n w : Tree) → WriteRow W p n w → (strict : Bool) (s : Slot) → fits strict s n ≡ true → is_body_slot p s ≡ true
 row_slot W (Expr q) n w (inl r) = formed_slot (Expr q) n w (combined_formed W n w r)
-row_slot W (Expr q) n w (inr r) = formed_slot (Expr q) n w (assigned_formed W n w r)
+row_slot W (Expr q) n w (inr (inl r)) = formed_slot (Expr q) n w (assigned_formed W n w r)
+row_slot W (Expr q) n w (inr (inr (inl r))) = formed_slot (Expr q) n w (nullish_formed W n w r)
+row_slot W (Expr q) n w (inr (inr (inr r))) = chained_slot W q n w r
 row_slot W p n w r = absurd r
 
 pub writes_lawful : WritesAreLawful

@@ -1,5 +1,5 @@
 -- What each row of names that can be written writes means the same where they can.
-use Rattle.std.proofs.Common.{◌≡◌, ℕ, List, [], ◌∷◌, Bool, true, false, refl, sym, ap, subst, ◌∙◌, inl, inr, true≢false}
+use Rattle.std.proofs.Common.{◌≡◌, ℕ, List, [], ◌∷◌, Bool, true, false, refl, sym, ap, subst, ◌∙◌, true≢false}
 use Rattle.std.specs.Prelude.{codes, nat_eq, not, if◌then◌else◌, None}
 use Rattle.std.proofs.lemmas.Bool.{eqb-true, eq-eqb}
 use Rattle.mini_model.specs.declared.name.Name.{Name}
@@ -8,14 +8,12 @@ use Rattle.mini_model.specs.declared.operator.BinaryOperator.{BinaryOperator}
 use Rattle.mini_model.specs.declared.operator.BinaryOperator.TheVariants.{Equality, Inequality}
 use Rattle.mini_model.specs.declared.operator.LogicalOperator.{LogicalOperator}
 use Rattle.mini_model.specs.declared.operator.LogicalOperator.TheVariants.{Coalesce}
-use Rattle.mini_model.specs.declared.place.Position.{Position}
-use Rattle.mini_model.specs.declared.place.Position.TheVariants.{Expr}
 use Rattle.mini_model.specs.declared.shape.Shape.TheVariants as shape
-use Rattle.mini_model.specs.Tree.{Tree, none, ◌▸◌, identifier, logical, conditional, null_literal}
+use Rattle.mini_model.specs.Tree.{Tree, none, identifier, logical, conditional, null_literal}
 use Rattle.mini_model.specs.Weight.{same_text}
-use Rattle.mini_laws.specs.Value.{Value, Null, Boolean, Variable, VariableSet, Declared, Global, Slot, Holds, Missing, Uninitialised, choose, truth, is_nullish, variable_eq, nothing}
+use Rattle.mini_laws.specs.Value.{Value, Null, Boolean, Variable, VariableSet, Declared, Global, Slot, Holds, Missing, Uninitialised, choose, truth, is_nullish, nothing}
 use Rattle.mini_laws.specs.State.{State, Completion, ok, stop, halt, out, either, Environment, Writable, with_vars}
-use Rattle.mini_laws.specs.Demand.{Demand, Stat, Target, As, Val, Request}
+use Rattle.mini_laws.specs.Demand.{Demand, Stat, Target, As, Val}
 use Rattle.mini_laws.specs.Command.{Naming, Kids, ret, bind, set_var, read_slot, write_slot, at_variable, act, run}
 use Rattle.mini_laws.specs.Naming.{NameKind, PlainName, EvalName, UndefinedName, NumberName, kind_declared, kind_of, naming, summary}
 use Rattle.mini_laws.specs.Expressions.{get_identifier, operate_by}
@@ -25,11 +23,10 @@ use Rattle.mini_laws.specs.Targets.{assigns, put_identifier}
 use Rattle.mini_laws.specs.Step.{step, means, meaning}
 use Rattle.mini_laws.proofs.Rows.{by_equality}
 use Rattle.mini_laws.proofs.Runs.{either_assoc, either_cong, either_eta, either_ok, either_stop, runs}
-use Rattle.mini_kept.specs.Loosely.{SameWith}
 use Rattle.mini_rows.specs.Choices.{assign, deciding}
 use Rattle.mini_rows.specs.Spellings.{assignment, binary}
 use Rattle.mini_rows.specs.Unused.{resolved}
-use Rattle.mini_rows.specs.Writes.{Row34, if_null, Row46Assigned, WriteRow}
+use Rattle.mini_rows.specs.Writes.{Row34, if_null, Row46Assigned}
 use Rattle.mini_rows.proofs.ChoiceRuns.{value, put, puts, asked, Tells, assign_value, assignment_tells, conditional_value, conditional_tells, logical_value, logical_tells, deciding_value, by_reading, null_value, binary_value, binary_names, sides}
 
 -- ---- what a comparison with null says of any expression
@@ -48,10 +45,10 @@ beside_null e o a f h s =
     ∙ h v z)
     (λ x z. refl)
 
-equal_null : (e : Environment) (a : Tree) (s : State) → value e (binary Equality a null_literal) s ≡ either (value e a s) (λ v z. ok (Boolean (is_nullish v)) z) (λ x z. stop x z)
+pub equal_null : (e : Environment) (a : Tree) (s : State) → value e (binary Equality a null_literal) s ≡ either (value e a s) (λ v z. ok (Boolean (is_nullish v)) z) (λ x z. stop x z)
 equal_null e a = beside_null e Equality a (λ b. b) (λ v z. compared e (binary_names Equality a null_literal) (sides e a null_literal) (is_nullish v) (λ b. b) z)
 
-unequal_null : (e : Environment) (a : Tree) (s : State) → value e (binary Inequality a null_literal) s ≡ either (value e a s) (λ v z. ok (Boolean (not (is_nullish v))) z) (λ x z. stop x z)
+pub unequal_null : (e : Environment) (a : Tree) (s : State) → value e (binary Inequality a null_literal) s ≡ either (value e a s) (λ v z. ok (Boolean (not (is_nullish v))) z) (λ x z. stop x z)
 unequal_null e a = beside_null e Inequality a not (λ v z. compared e (binary_names Inequality a null_literal) (sides e a null_literal) (is_nullish v) not z)
 
 -- ---- names that a scope declares
@@ -144,7 +141,7 @@ module _ (e : Environment) (spelling : List ℕ) (k : ℕ) where
     -- ---- 46
 
     -- where an assignment ends with a value, the name holds it
-    abbrev Wrote : Completion Value → Type 0
+    abbrev pub Wrote : Completion Value → Type 0
     Wrote (ok v z) = z.vars (Declared k) ≡ Holds v
     Wrote y = Unit {0}
 
@@ -154,21 +151,21 @@ module _ (e : Environment) (spelling : List ℕ) (k : ℕ) where
     by_slot Missing v z = tt
     by_slot Uninitialised v z = tt
 
-    wrote : (y : Completion Value) → Wrote (puts e x y)
+    pub wrote : (y : Completion Value) → Wrote (puts e x y)
     unfolding either
     wrote (ok v z) = subst (λ c. Wrote (either c (λ u j. ok v j) (λ x j. stop x j))) (sym (put_value v z)) (by_slot (z.vars (Declared k)) v z)
     wrote (stop c z) = tt
     wrote (halt c z) = tt
     wrote out = tt
 
-    by_writing : (y : Completion Value) → Wrote y → (f g : Value → State → Completion Value) → ((v : Value) (z : State) → z.vars (Declared k) ≡ Holds v → f v z ≡ g v z) → either y f (λ x z. stop x z) ≡ either y g (λ x z. stop x z)
+    pub by_writing : (y : Completion Value) → Wrote y → (f g : Value → State → Completion Value) → ((v : Value) (z : State) → z.vars (Declared k) ≡ Holds v → f v z ≡ g v z) → either y f (λ x z. stop x z) ≡ either y g (λ x z. stop x z)
     unfolding either
     by_writing (ok v z) w f g h = h v z w
     by_writing (stop c z) w f g h = refl
     by_writing (halt c z) w f g h = refl
     by_writing out w f g h = refl
 
-    held_value : (v : Value) (z : State) → z.vars (Declared k) ≡ Holds v → value e (identifier x) z ≡ ok v z
+    pub held_value : (v : Value) (z : State) → z.vars (Declared k) ≡ Holds v → value e (identifier x) z ≡ ok v z
     unfolding read_slot
     held_value v z h = read_value z ∙ ap (λ c. read_slot c z) h
 
@@ -191,15 +188,15 @@ module _ (e : Environment) (spelling : List ℕ) (k : ℕ) where
     asked_value true a b s = assigned_value a b (binary Equality (assign x a) null_literal) b (identifier x) (λ g. g) (equal_null e (assign x a)) (λ v z. otherwise b (is_nullish v) v z) s
     asked_value false a b s = assigned_value a b (binary Inequality (assign x a) null_literal) (identifier x) b not (unequal_null e (assign x a)) (λ v z. turned b (is_nullish v) v z) s
 
-if_null_tells : (equal : Bool) (t b y : Tree) → Tells (if_null equal t b y)
+pub if_null_tells : (equal : Bool) (t b y : Tree) → Tells (if_null equal t b y)
 if_null_tells true t b y = conditional_tells (binary Equality t null_literal) b y
 if_null_tells false t b y = conditional_tells (binary Inequality t null_literal) y b
 
 -- what has the same value there is the same
-same_there : (e : Environment) (n w : Tree) → Tells n → Tells w → ((s : State) → value e n s ≡ value e w s) → (q : Demand) → Same e nothing nothing q n w
+pub same_there : (e : Environment) (n w : Tree) → Tells n → Tells w → ((s : State) → value e n s ≡ value e w s) → (q : Demand) → Same e nothing nothing q n w
 same_there e n w t u h q = by_equality e nothing nothing q n w (λ r s. t.by e q r s ∙ ap (asked q r) (h s) ∙ sym (u.by e q r s))
 
-combined_same : (W : VariableSet) (n w : Tree) (r : Row34 W n w) (e : Environment) → ((y : Variable) → W y ≡ true → e.fixed y ≡ Writable) → (q : Demand) → Same e nothing nothing q n w
+pub combined_same : (W : VariableSet) (n w : Tree) (r : Row34 W n w) (e : Environment) → ((y : Variable) → W y ≡ true → e.fixed y ≡ Writable) → (q : Demand) → Same e nothing nothing q n w
 combined_same W n w r e z q =
     let x : Name = resolved r.spelling r.symbol in
     subst (λ t. Same e nothing nothing q t w) (sym r.shape)
@@ -207,7 +204,7 @@ combined_same W n w r e z q =
     (same_there e (assign x (logical r.operator (identifier x) r.b)) (assignment (deciding r.operator) (identifier x) r.b) (assignment_tells Assign (identifier x) (logical r.operator (identifier x) r.b)) (assignment_tells (deciding r.operator) (identifier x) r.b)
     (combined_value e r.spelling r.symbol (z (Declared r.symbol) r.writable) r.operator r.b) q))
 
-assigned_same : (W : VariableSet) (n w : Tree) (r : Row46Assigned W n w) (e : Environment) → ((y : Variable) → W y ≡ true → e.fixed y ≡ Writable) → (q : Demand) → Same e nothing nothing q n w
+pub assigned_same : (W : VariableSet) (n w : Tree) (r : Row46Assigned W n w) (e : Environment) → ((y : Variable) → W y ≡ true → e.fixed y ≡ Writable) → (q : Demand) → Same e nothing nothing q n w
 assigned_same W n w r e z q =
     let x : Name = resolved r.spelling r.symbol in
     let before : Tree = if_null r.equal (assign x r.a) r.b (identifier x) in
@@ -216,16 +213,6 @@ assigned_same W n w r e z q =
     (same_there e before (logical Coalesce (assign x r.a) r.b) (if_null_tells r.equal (assign x r.a) r.b (identifier x)) (logical_tells Coalesce (assign x r.a) r.b)
     (asked_value e r.spelling r.symbol (z (Declared r.symbol) r.writable) r.equal r.a r.b) q))
 
-if_null_read : (equal : Bool) (t b y u v : Tree) → summary (if_null equal t b y) ≡ summary (logical Coalesce u v)
+pub if_null_read : (equal : Bool) (t b y u v : Tree) → summary (if_null equal t b y) ≡ summary (logical Coalesce u v)
 if_null_read true t b y u v = refl
 if_null_read false t b y u v = refl
-
-pub writes_same : (W : VariableSet) (p : Position) (n w : Tree) → WriteRow W p n w → SameWith W p n w
-writes_same W (Expr s) n w (inl r) = record { by = λ e z q f. combined_same W n w r e z.writable q }
-writes_same W (Expr s) n w (inr r) = record { by = λ e z q f. assigned_same W n w r e z.writable q }
-writes_same W p n w r = absurd r
-
-pub writes_read : (W : VariableSet) (p : Position) (n w : Tree) → WriteRow W p n w → summary n ≡ summary w
-writes_read W (Expr s) n w (inl r) = ap summary r.shape ∙ sym (ap summary r.written)
-writes_read W (Expr s) n w (inr r) = let x : Name = resolved r.spelling r.symbol in ap summary r.shape ∙ if_null_read r.equal (assign x r.a) r.b (identifier x) (assign x r.a) r.b ∙ sym (ap summary r.written)
-writes_read W p n w r = absurd r

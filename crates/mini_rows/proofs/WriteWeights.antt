@@ -17,6 +17,8 @@ use Rattle.mini_rows.specs.Unused.{resolved}
 use Rattle.mini_rows.specs.Writes.{if_null, WriteRow, WritesLighter, WritesLighten}
 use Rattle.mini_rows.proofs.ChoiceWeights.{name_heavy, right_falls, same_marks, coalesced_falls, coalesce_at_most}
 use Rattle.mini_rows.proofs.SpellWeights.{falls_by}
+use Rattle.mini_rows.proofs.WriteChains.{chained_falls, chained_outline}
+use Rattle.mini_rows.proofs.WriteNullish.{nullish_falls, nullish_outline}
 
 -- 34: the name goes, and what stood on the right of it stands where parentheses are needed seldomer
 combined_falls : (o : LogicalOperator) (s : Seat) (x : Name) (b : Tree) → weight (Expr s) (assignment (deciding o) (identifier x) b) < weight (Expr s) (assign x (logical o (identifier x) b))
@@ -34,14 +36,18 @@ if_null_outline true t b y u v = refl
 if_null_outline false t b y u v = refl
 
 pub writes_lighter : WritesLighter
-writes_lighter W (Expr s) n w (inr r) = falls_by (Expr s) n w _ _ r.shape r.written (assigned_falls r.equal s (resolved r.spelling r.symbol) r.a r.b)
+writes_lighter W (Expr s) n w (inr (inl r)) = falls_by (Expr s) n w _ _ r.shape r.written (assigned_falls r.equal s (resolved r.spelling r.symbol) r.a r.b)
+writes_lighter W (Expr s) n w (inr (inr (inl r))) = let x : Name = resolved r.spelling r.symbol in falls_by (Expr s) n w _ _ r.shape r.written (nullish_falls s r.equal r.before (assign x r.a) (identifier x) r.first r.second r.nullish)
+writes_lighter W (Expr s) n w (inr (inr (inr r))) = falls_by (Expr s) n w _ _ r.shape r.written (chained_falls (resolved r.spelling r.symbol) r.a s r.equal r.missing r.last r.others)
 writes_lighter W (Expr s) n w (inl r) = falls_by (Expr s) n w _ _ r.shape r.written (combined_falls r.operator s (resolved r.spelling r.symbol) r.b)
 writes_lighter W p n w r = absurd r
 
 -- a parent's weight reads of both no more than that they are there
 outline_by_row : (W : VariableSet) (p : Position) (n w : Tree) → WriteRow W p n w → outline n ≡ outline w
 outline_by_row W (Expr s) n w (inl r) = ap outline r.shape ∙ sym (ap outline r.written)
-outline_by_row W (Expr s) n w (inr r) = let x : Name = resolved r.spelling r.symbol in ap outline r.shape ∙ if_null_outline r.equal (assign x r.a) r.b (identifier x) (assign x r.a) r.b ∙ sym (ap outline r.written)
+outline_by_row W (Expr s) n w (inr (inr (inl r))) = nullish_outline W n w r
+outline_by_row W (Expr s) n w (inr (inr (inr r))) = chained_outline W s n w r
+outline_by_row W (Expr s) n w (inr (inl r)) = let x : Name = resolved r.spelling r.symbol in ap outline r.shape ∙ if_null_outline r.equal (assign x r.a) r.b (identifier x) (assign x r.a) r.b ∙ sym (ap outline r.written)
 outline_by_row W p n w r = absurd r
 
 pub writes_lighten : WritesLighten

@@ -6,7 +6,7 @@ use Rattle.mini_model.specs.Tree.{Tree, shape_of, null_literal}
 use Rattle.mini_terms.specs.Folds.{is_known}
 use Rattle.mini_terms.specs.Kind.{is_nullish_kind, kind}
 use Rattle.mini_terms.specs.Parts.{is_link, leaves_nothing}
-use Rattle.mini_terms.specs.Reading.{is_unguarded, is_plain_part, stands}
+use Rattle.mini_terms.specs.Reading.{is_plain_part, stands}
 use Rattle.mini_rows.specs.Spellings.{void_zero}
 use Rattle.mini_rows.specs.Chains.{is_calm, Link, linked, is_calm_link, chain}
 
@@ -42,14 +42,13 @@ chain_if false t = t
 -- ---- rows
 
 -- 64: `(a?.b)?.c` becomes `a?.b?.c`, since the outer `?.` ends where the inner one does; whatever links stand outside of it
-pub record Row64 (s : Seat) (n w : Tree) : Type 0 where
+pub record Row64 (n w : Tree) : Type 0 where
   pub others : List Marked
   pub link : Link
   pub inner : Tree
   pub held : is_link (shape_of inner) ≡ true
   pub calm : is_calm_link link ≡ true
   pub calm_others : are_calm_over others ≡ true
-  pub unguarded : is_unguarded s.guard ≡ true
   pub shape : n ≡ chain (links_over others (linked true link (chain inner)))
   pub written : w ≡ chain (links_over others (linked true link inner))
 
@@ -65,7 +64,6 @@ pub record Row11 (s : Seat) (n w : Tree) : Type 0 where
   pub calm_base : is_calm base ≡ true
   pub calm : is_calm_link link ≡ true
   pub calm_others : are_calm_over others ≡ true
-  pub unguarded : is_unguarded s.guard ≡ true
   pub called : s.new_callee ≡ false
   pub shape : n ≡ chain (links_over others (linked true link base))
   pub written : w ≡ chain_if (has_mark others) (links_over others (linked false link base))
@@ -76,16 +74,15 @@ nothing true = null_literal
 nothing false = void_zero
 
 -- 10: `null?.a.b` becomes `void 0`, since the chain ends at its first `?.`; where what goes leaves nothing behind
-pub record Row10 (s : Seat) (n w : Tree) : Type 0 where
+pub record Row10 (n w : Tree) : Type 0 where
   pub others : List Marked
   pub link : Link
   pub is_null : Bool
   pub calm : is_calm_link link ≡ true
   pub calm_others : are_calm_over others ≡ true
-  pub unguarded : is_unguarded s.guard ≡ true
   pub dropped : leaves_nothing (links_over others (linked true link (nothing is_null))) ≡ true
   pub shape : n ≡ chain (links_over others (linked true link (nothing is_null)))
   pub written : w ≡ void_zero
 
 abbrev pub ChainRow : Seat → Tree → Tree → Type 0
-ChainRow s n w = Row64 s n w ⊎ Row11 s n w
+ChainRow s n w = Row64 n w ⊎ Row11 s n w

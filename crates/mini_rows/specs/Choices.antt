@@ -323,7 +323,7 @@ HeldRow n w = Row42And n w ⊎ (Row42Or n w ⊎ (Row43Or n w ⊎ (Row43And n w �
 
 -- a row of choices reads n as w at this place
 abbrev pub ChoiceRow : Position → Tree → Tree → Type 0
-ChoiceRow (Expr s) n w = LighterRow s n w ⊎ (OwnRow n w ⊎ (HeldRow n w ⊎ (Row46Chain s n w ⊎ (Row44 n w ⊎ (ChainRow s n w ⊎ Row10 s n w)))))
+ChoiceRow (Expr s) n w = LighterRow s n w ⊎ (OwnRow n w ⊎ (HeldRow n w ⊎ (Row46Chain s n w ⊎ (Row44 n w ⊎ (ChainRow s n w ⊎ Row10 n w)))))
 ChoiceRow _ n w = ⊥
 
 -- what it writes, where it weighs less

@@ -7,10 +7,10 @@ ghost use Rattle.mini_node.specs.Children.{part};
 ghost use Rattle.mini_terms.specs.Parts.{is_link as is_link_shape};
 ghost use Rattle.mini_rows.specs.ChainLinks.{is_there as is_it_there, chain_if};
 ghost use Rattle.mini_rows.specs.Spellings.{void_zero as void_zero_of};
-ghost use Rattle.mini_choices.specs.FoldChainExpr.{is_chain as is_it_chain, ends_none as ends_it_none, is_step as is_it_step, is_marked as is_it_marked, link_shape as shape_of_link, relinked as relinked_of, holds_link as holds_it_link, is_value as is_it_value, folds_here as folds_it_here, here, outcome as outcome_of, folded as folded_of, is_read as is_it_read, folded_written, is_nothing as is_it_nothing, ends_at_once as ends_it_at_once, may_end as may_it_end, written};
+ghost use Rattle.mini_choices.specs.FoldChainExpr.{is_chain as is_it_chain, ends_none as ends_it_none, is_step as is_it_step, is_marked as is_it_marked, link_shape as shape_of_link, relinked as relinked_of, holds_link as holds_it_link, is_value as is_it_value, folds_here as folds_it_here, here, outcome as outcome_of, folded as folded_of, folded_written, is_nothing as is_it_nothing, ends_at_once as ends_it_at_once, may_end as may_it_end, written};
 
 use crate::forms::is_void_zero;
-use crate::rewrites::inject_optional_chaining::{are_calm, is_calm, is_unguarded, is_word};
+use crate::rewrites::inject_optional_chaining::{are_calm, is_calm, is_word};
 use mini_model::{LogicalOperator, OutOfMemory, Seat, Shape, UnaryOperator};
 use mini_node::{
     Node, is_listed, is_null, numeric_literal, of_one, of_two, one, taken, two, unary,
@@ -181,20 +181,12 @@ fn wrapped(alloc: Global, stays: bool, links: Node) -> Result<Node, OutOfMemory>
     Ok(links)
 }
 
-// A chain in a seat that asks no reference.
-fn is_read(node: &Node, seat: Seat) -> bool
-    ensures kind { result ≡ is_it_read seat node.now }
-    ensures parts { result ≡ true → count (children node.now) ≡ 1 }
-{
-    is_chain(node) && is_unguarded(seat)
-}
-
 // `(a?.b)?.c` becomes `a?.b?.c`, and `[1]?.length` becomes `[1].length`.
 fn fold_links(alloc: Global, node: &mut Node, seat: Seat) -> Result<bool, OutOfMemory>
     ensures tree { OnOk result (node.new ≡ unwrap_or (folded_written seat node.old) node.old) }
     ensures said { IfOk result (λ changed. changed ≡ is_some (folded_written seat node.old)) }
 {
-    if !is_read(node, seat) {
+    if !is_chain(node) {
         return Ok(false);
     }
     let may_close = !seat.new_callee;
@@ -228,10 +220,10 @@ fn ends_at_once(node: &Node) -> bool
 }
 
 // Of a chain that ends at once, nothing is left behind.
-fn may_end(node: &Node, seat: Seat) -> bool
-    ensures { result ≡ may_it_end seat node.now }
+fn may_end(node: &Node) -> bool
+    ensures { result ≡ may_it_end node.now }
 {
-    is_read(node, seat) && ends_at_once(node.child(0)) && leaves_nothing(node.child(0))
+    is_chain(node) && ends_at_once(node.child(0)) && leaves_nothing(node.child(0))
 }
 
 fn void_zero(alloc: Global) -> Result<Node, OutOfMemory>
@@ -247,7 +239,7 @@ pub fn fold_chain_expr(alloc: Global, node: &mut Node, seat: Seat) -> Result<boo
     ensures tree { OnOk result (node.new ≡ unwrap_or (written seat node.old) node.old) }
     ensures said { IfOk result (λ changed. changed ≡ is_some (written seat node.old)) }
 {
-    if may_end(node, seat) {
+    if may_end(node) {
         let made = void_zero(alloc)?;
         if expr_weight(&made, seat) < expr_weight(node, seat) {
             *node = made;

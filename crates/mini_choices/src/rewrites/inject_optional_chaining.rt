@@ -5,17 +5,16 @@ ghost use Rattle.std.specs.Prelude.{◌≡◌, true, is_some, unwrap_or, OnOk, I
 ghost use Rattle.mini_model.specs.Tree.{children, count, shape_of};
 ghost use Rattle.mini_node.specs.Children.{names, part};
 ghost use Rattle.mini_node.specs.Kinds.{binary_operator as its_operator};
-ghost use Rattle.mini_terms.specs.Reading.{is_unguarded as is_it_unguarded};
-ghost use Rattle.mini_rows.specs.Chains.{is_closed_shape, is_open_shape, is_word_shape, is_calm as is_it_calm, are_calm as are_they_calm, chain as chain_of};
+ghost use Rattle.mini_rows.specs.Chains.{reads_value as its_value_is_read, is_closed_shape, is_open_shape, is_word_shape, is_calm as is_it_calm, are_calm as are_they_calm, chain as chain_of};
 ghost use Rattle.mini_choices.specs.MinimizeConditionalBranches.{is_equal_in, is_unequal_in};
-ghost use Rattle.mini_choices.specs.InjectOptionalChaining.{is_link as is_it_link, is_spine as is_it_spine, opened as opened_shape, optional_over as optional_over_it, is_eval as is_it_eval, asks_name as it_asks_name, reads_name as it_reads_name, is_read_last as is_it_read_last, is_read_first as is_it_read_first, written};
+ghost use Rattle.mini_choices.specs.InjectOptionalChaining.{is_link as is_it_link, is_spine as is_it_spine, opened as opened_shape, optional_over as optional_over_it, chained, is_eval as is_it_eval, asks_name as it_asks_name, reads_name as it_reads_name, is_read_last as is_it_read_last, is_read_first as is_it_read_first, written};
 
 use crate::assigning::is_declared;
 use crate::forms::is_undefined;
 use mini_model::{BinaryOperator, Guard, Name, OutOfMemory, Seat, Shape};
 use mini_node::{
     Node, Nodes, binary_operator, discard, is_call_expression, is_computed_member, is_conditional,
-    is_identifier, is_null, is_same_tree, is_static_member, of_one, taken, three,
+    is_identifier, is_null, is_same_tree, is_static_member, of_one, one, taken, three,
 };
 use std::alloc::Global;
 
@@ -125,9 +124,9 @@ fn is_link(node: &Node) -> bool
         || (is_call_expression(node) && are_calm(node.child(1).children()))
 }
 
-// Whether it is of links over this name.
+/// Whether it is of links over this name.
 #[tactic(auto, using(crate::proofs::OptionalChains::spine_below, crate::proofs::OptionalChains::spine_there))]
-fn is_spine(name: &Node, node: &Node) -> bool
+pub fn is_spine(name: &Node, node: &Node) -> bool
     ensures { result ≡ is_it_spine name.now node.now }
 {
     if !is_link(node) {
@@ -153,10 +152,10 @@ fn opened(shape: Shape) -> Shape
     }
 }
 
-// The links, of which the first, over the name, is optional.
+// The links, of which the first stands over this, in place of the name, and is optional.
 #[tactic(auto, using(crate::proofs::OptionalChains::over_name, crate::proofs::OptionalChains::over_link, crate::proofs::OptionalChains::over_other))]
-fn optional_over(alloc: Global, node: Node) -> Result<Node, OutOfMemory>
-    ensures { IfOk result (λ w. w ≡ optional_over_it node) }
+fn optional_over(alloc: Global, base: Node, node: Node) -> Result<Node, OutOfMemory>
+    ensures { IfOk result (λ w. w ≡ optional_over_it base node) }
 {
     if !is_link(&node) {
         return Ok(node);
@@ -164,15 +163,16 @@ fn optional_over(alloc: Global, node: Node) -> Result<Node, OutOfMemory>
     let (shape, name, number, mut children) = node.into_parts();
     let before = children.remove(0);
     if is_identifier(&before) {
-        children.insert(0, before)?;
+        children.insert(0, base)?;
         return Ok(Node::with(opened(shape), name, number, children));
     }
-    let other = optional_over(alloc, before)?;
+    let other = optional_over(alloc, base, before)?;
     children.insert(0, other)?;
     Ok(Node::with(shape, name, number, children))
 }
 
-fn is_eval(name: &Option<Name>) -> bool
+/// The name `eval`.
+pub fn is_eval(name: &Option<Name>) -> bool
     ensures { result ≡ is_it_eval (names name.now) }
 {
     match name {
@@ -201,15 +201,15 @@ fn reads_name(comparison: &Node, missing: &Node, read: &Node) -> bool
     asks_name(comparison) && is_undefined(missing) && is_spine(comparison.child(0), read)
 }
 
-/// Whether no reference is asked in the seat.
-pub fn is_unguarded(seat: Seat) -> bool
-    ensures { result ≡ is_it_unguarded seat.guard }
+/// Whether a chain is asked for its value in the seat: not as a callee or under `delete`.
+pub fn reads_value(seat: Seat) -> bool
+    ensures { result ≡ its_value_is_read seat.guard }
 {
-    matches!(seat.guard, Guard::None)
+    matches!(seat.guard, Guard::None | Guard::Typeof)
 }
 
-// `a == b`
-fn is_equal(node: &Node) -> bool
+/// `a == b`
+pub fn is_equal(node: &Node) -> bool
     ensures kind { result ≡ is_equal_in (its_operator node.now) }
     ensures parts { result ≡ true → count (children node.now) ≡ 2 }
 {
@@ -219,8 +219,8 @@ fn is_equal(node: &Node) -> bool
     }
 }
 
-// `a != b`
-fn is_unequal(node: &Node) -> bool
+/// `a != b`
+pub fn is_unequal(node: &Node) -> bool
     ensures kind { result ≡ is_unequal_in (its_operator node.now) }
     ensures parts { result ≡ true → count (children node.now) ≡ 2 }
 {
@@ -235,7 +235,7 @@ fn is_read_last(node: &Node, seat: Seat) -> bool
     ensures kind { result ≡ is_it_read_last seat node.now }
 {
     is_conditional(node)
-        && is_unguarded(seat)
+        && reads_value(seat)
         && is_equal(node.child(0))
         && reads_name(node.child(0), node.child(1), node.child(2))
 }
@@ -245,37 +245,35 @@ fn is_read_first(node: &Node, seat: Seat) -> bool
     ensures kind { result ≡ is_it_read_first seat node.now }
 {
     is_conditional(node)
-        && is_unguarded(seat)
+        && reads_value(seat)
         && is_unequal(node.child(0))
         && reads_name(node.child(0), node.child(2), node.child(1))
 }
 
-// A chain of these links.
-fn chain(alloc: Global, read: Node) -> Result<Node, OutOfMemory>
-    ensures { IfOk result (λ w. w ≡ chain_of (optional_over_it read)) }
+// A chain of these links over what a test compares.
+fn chain(alloc: Global, test: Node, read: Node) -> Result<Node, OutOfMemory>
+    ensures { IfOk result (λ w. w ≡ chain_of (optional_over_it (part test 0) read)) }
 {
-    let links = optional_over(alloc, read)?;
+    let links = optional_over(alloc, one(test), read)?;
     Ok(Node::new(Shape::ChainExpression, of_one(alloc, links)?))
 }
 
-// Of the alternate of a conditional.
-fn chain_of_last(alloc: Global, node: Node) -> Result<Node, OutOfMemory>
-    ensures { IfOk result (λ w. w ≡ chain_of (optional_over_it (part node 2))) }
+/// The chain of the alternate of a conditional, over what its test compares.
+pub fn chain_of_last(alloc: Global, node: Node) -> Result<Node, OutOfMemory>
+    ensures { IfOk result (λ w. w ≡ chained node (part node 2)) }
 {
     let (test, missing, read) = three(node);
-    discard(test);
     discard(missing);
-    chain(alloc, read)
+    chain(alloc, test, read)
 }
 
-// Of the consequent.
-fn chain_of_first(alloc: Global, node: Node) -> Result<Node, OutOfMemory>
-    ensures { IfOk result (λ w. w ≡ chain_of (optional_over_it (part node 1))) }
+/// That of the consequent.
+pub fn chain_of_first(alloc: Global, node: Node) -> Result<Node, OutOfMemory>
+    ensures { IfOk result (λ w. w ≡ chained node (part node 1)) }
 {
     let (test, read, missing) = three(node);
-    discard(test);
     discard(missing);
-    chain(alloc, read)
+    chain(alloc, test, read)
 }
 
 /// `x == null ? void 0 : x.m` becomes `x?.m`, and so do other members and calls over x, and `x != null ? x.m : void 0`; where a scope

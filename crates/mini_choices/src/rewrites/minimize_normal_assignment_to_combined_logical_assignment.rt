@@ -5,13 +5,15 @@ ghost use Rattle.std.specs.Prelude.{◌≡◌, is_some, unwrap_or, OnOk, IfOk};
 ghost use Rattle.mini_choices.specs.MinimizeNormalAssignmentToCombinedLogicalAssignment as row;
 ghost use Rattle.mini_choices.specs.MinimizeNormalAssignmentToCombinedLogicalAssignment.{marked, written, Gives, Rests};
 ghost use Rattle.mini_choices.specs.Lighter.{writes_lighter};
-ghost use Rattle.mini_choices.specs.Writes.{written as written_for};
+ghost use Rattle.mini_choices.specs.Writes.{conditional_written, written as written_for};
 
 use crate::assigning::{is_same_name, writes_name};
+use crate::rewrites::inject_assigned_chaining::inject_assigned_chaining;
 use crate::rewrites::minimize_assigned_comparison::minimize_assigned_comparison;
+use crate::rewrites::minimize_assigned_nullish_comparison::minimize_assigned_nullish_comparison;
 use crate::rewrites::minimize_logical_expression::deciding;
 use mini_context::{Scopes, TraverseCtx};
-use mini_model::{LogicalOperator, OutOfMemory, Position, Shape};
+use mini_model::{LogicalOperator, OutOfMemory, Position, Seat, Shape};
 use mini_node::{Node, assignment, discard, logical_operator, taken, two};
 use mini_tree::Rule;
 use std::alloc::Global;
@@ -58,16 +60,38 @@ pub fn minimize_normal_assignment_to_combined_logical_assignment(
     }
 }
 
-// What a row says of the expression, if one reads it.
-fn minimize_write(alloc: Global, node: &mut Node, scopes: &Scopes) -> Result<bool, OutOfMemory>
-    ensures tree { OnOk result (node.new ≡ unwrap_or (written_for (marked scopes.now) node.old) node.old) }
-    ensures said { IfOk result (λ changed. changed ≡ is_some (written_for (marked scopes.now) node.old)) }
+// Of a conditional.
+fn minimize_assigned_conditional(
+    alloc: Global,
+    node: &mut Node,
+    seat: Seat,
+    scopes: &Scopes,
+) -> Result<bool, OutOfMemory>
+    ensures tree { OnOk result (node.new ≡ unwrap_or (conditional_written (marked scopes.now) seat node.old) node.old) }
+    ensures said { IfOk result (λ changed. changed ≡ is_some (conditional_written (marked scopes.now) seat node.old)) }
+{
+    if minimize_assigned_comparison(alloc, node, scopes)? {
+        return Ok(true);
+    }
+    inject_assigned_chaining(alloc, node, seat, scopes)
+}
+
+// What a row says of the expression in its seat, if one reads it.
+fn minimize_write(
+    alloc: Global,
+    node: &mut Node,
+    seat: Seat,
+    scopes: &Scopes,
+) -> Result<bool, OutOfMemory>
+    ensures tree { OnOk result (node.new ≡ unwrap_or (written_for (marked scopes.now) seat node.old) node.old) }
+    ensures said { IfOk result (λ changed. changed ≡ is_some (written_for (marked scopes.now) seat node.old)) }
 {
     match node.shape() {
         Shape::AssignmentExpression(_) => {
             minimize_normal_assignment_to_combined_logical_assignment(alloc, node, scopes)
         }
-        Shape::ConditionalExpression => minimize_assigned_comparison(alloc, node, scopes),
+        Shape::LogicalExpression(_) => minimize_assigned_nullish_comparison(alloc, node, scopes),
+        Shape::ConditionalExpression => minimize_assigned_conditional(alloc, node, seat, scopes),
         _ => Ok(false),
     }
 }
@@ -92,7 +116,7 @@ impl Rule<TraverseCtx> for MinimizeWrites {
         context: &mut TraverseCtx,
     ) -> Result<bool, OutOfMemory> {
         match place {
-            Position::Expr(_) => Ok(minimize_write(alloc, node, &context.scopes)?),
+            Position::Expr(seat) => Ok(minimize_write(alloc, node, seat, &context.scopes)?),
             _ => Ok(false),
         }
     }

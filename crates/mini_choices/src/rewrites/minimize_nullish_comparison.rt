@@ -16,7 +16,8 @@ use mini_node::{
 };
 use std::alloc::Global;
 
-fn joining(equal: bool) -> LogicalOperator
+/// What joins equalities, or inequalities.
+pub fn joining(equal: bool) -> LogicalOperator
     ensures { result ≡ joining_of equal }
 {
     if equal {
@@ -36,8 +37,8 @@ fn loosely(equal: bool) -> BinaryOperator
     }
 }
 
-// Whether the operator joins equalities or inequalities.
-fn joins(node: &Node) -> Option<bool>
+/// Whether the operator joins equalities or inequalities.
+pub fn joins(node: &Node) -> Option<bool>
     ensures kind { result ≡ joins_in (its_operator node.now) }
     ensures parts { IfSome result (λ equal. count (children node.now) ≡ 2) }
 {
@@ -48,8 +49,8 @@ fn joins(node: &Node) -> Option<bool>
     }
 }
 
-// `===` of equalities, `!==` of inequalities
-fn is_strict(equal: bool, node: &Node) -> bool
+/// `===` of equalities, `!==` of inequalities
+pub fn is_strict(equal: bool, node: &Node) -> bool
     ensures kind { result ≡ is_it_strict equal node.now }
     ensures parts { result ≡ true → count (children node.now) ≡ 2 }
 {
@@ -86,8 +87,8 @@ fn loose(alloc: Global, equal: bool, comparison: Node) -> Result<Node, OutOfMemo
     binary(alloc, loosely(equal), one(comparison), null_literal(alloc))
 }
 
-// Of two comparisons.
-fn alone(alloc: Global, equal: bool, node: Node) -> Result<Node, OutOfMemory>
+/// What is written for two comparisons.
+pub fn alone(alloc: Global, equal: bool, node: Node) -> Result<Node, OutOfMemory>
     ensures { IfOk result (λ w. w ≡ loose_of equal (part node 0)) }
 {
     let (first, second) = two(node);
@@ -95,14 +96,14 @@ fn alone(alloc: Global, equal: bool, node: Node) -> Result<Node, OutOfMemory>
     loose(alloc, equal, first)
 }
 
-// Of two comparisons, the first behind an equal operator.
-fn after(alloc: Global, equal: bool, node: Node) -> Result<Node, OutOfMemory>
+/// What is written for two comparisons, the first behind an equal operator.
+pub fn after(alloc: Global, equal: bool, node: Node) -> Result<Node, OutOfMemory>
     ensures { IfOk result (λ w. w ≡ after_of equal node) }
 {
     let (left, second) = two(node);
+    discard(second);
     let (before, first) = two(left);
-    discard(first);
-    let made = loose(alloc, equal, second)?;
+    let made = loose(alloc, equal, first)?;
     logical(alloc, joining(equal), before, made)
 }
 

@@ -8,4 +8,4 @@ pub returns-in_ok-minimize_write-in-Expr-clause-applied : goal.returns-in_ok-min
 returns-in_ok-minimize_write-in-Expr-clause-applied c = λ o q k.
     let made = c.in_ok-minimize_write-in-Expr in
     subst (λ p. Applied (Gives o q) (Rests q) p c.args.node.now c.minimize_write.new.node made.field-0) (sym c.in-Expr.is)
-    (applied c.args.context.now c.in-Expr.field-0 c.args.node.now c.minimize_write.new.node made.field-0 made.ensures.tree made.ensures.said o q k)
+    (applied c.args.context.now c.in-Expr.seat c.args.node.now c.minimize_write.new.node made.field-0 made.ensures.tree made.ensures.said o q k)
