@@ -1,6 +1,6 @@
 -- What is written for an operand whose value is known is what a row says, and where nothing is no row reads the expression.
 use Rattle.std.proofs.Common.{◌≡◌, ℕ, zero, suc, Bool, true, false, List, [], Option, Some, None, refl, sym, ap, subst, ◌∙◌, inl, inr, true≢false}
-use Rattle.std.specs.Prelude.{◌⊎◌, ◌&&◌, ◌||◌, ◌++◌, ℤ, pos, is_some, unwrap_or, if◌then◌else◌}
+use Rattle.std.specs.Prelude.{◌⊎◌, ◌&&◌, ◌||◌, ◌++◌, not, ℤ, pos, is_some, unwrap_or, if◌then◌else◌}
 use Rattle.std.proofs.lemmas.Bool.{and_parts}
 use Rattle.mini_model.specs.declared.operator.BinaryOperator.{BinaryOperator}
 use Rattle.mini_model.specs.declared.operator.BinaryOperator.TheVariants.{Addition, Equality, Inequality, BitwiseAnd, BitwiseXor, BitwiseOr, ShiftLeft, ShiftRight}
@@ -24,7 +24,7 @@ use Rattle.mini_terms.specs.Kind.{kind}
 use Rattle.mini_terms.specs.Parts.{takes_numbers, suits, leaves_nothing, weighs}
 use Rattle.mini_terms.specs.Reading.{is_unguarded, is_plain_part, stands}
 use Rattle.mini_rows.specs.Choices.{loosely}
-use Rattle.mini_rows.specs.Operands.{beside, told_by, tail_text, is_bits, is_int32, keeps_bits, has_room, zero_told, Row14, Row7, Row4, Row27, Row31, Row32, OperandRow}
+use Rattle.mini_rows.specs.Operands.{beside, told_by, tail_text, is_bits, is_int32, is_shifted, keeps_bits, has_room, zero_told, Row14, Row7, Row4, Row27, Row27Asked, Row31, Row32, OperandRow}
 use Rattle.mini_rows.specs.Booleans.{digit, plus}
 use Rattle.mini_rows.specs.Operators.{is_bitwise, deleted, with_number, Row8, Row16, Row17, Row56Left, Row56Right, OperatorRow}
 use Rattle.mini_rows.specs.Spellings.{negated_digit, numeral, text}
@@ -33,7 +33,7 @@ use Rattle.mini_tree.specs.Rule.{Applied}
 use Rattle.mini_tree.proofs.Reaching.{moves_once}
 use Rattle.mini_fold.specs.FoldOperators.{operator_written}
 use Rattle.mini_fold.proofs.Operators.{operator_or, delete_row, same_there, never_there, left_there, right_there, later, masks_there}
-use Rattle.mini_fold.specs.FoldOperands.{is_redundant, logical_written, is_empty, is_string_kind, is_text, text_written, sum_text_by, joined_texts, with_text, joined_written, or_else, sum_written, is_zero, tests_bits, keeps_beside, kept_written, bits_written, whole_written, wholes_written, negated_truth, truth_in, is_boolean_kind, is_told, right_written, left_written, either_written, equal_written, operands_written, binary_written, written_by, written, Gives, Rests}
+use Rattle.mini_fold.specs.FoldOperands.{is_redundant, logical_written, is_empty, is_string_kind, is_text, text_written, sum_text_by, joined_texts, with_text, joined_written, or_else, sum_written, is_zero, tests_bits, tests_shift, keeps_beside, kept_written, bits_written, whole_written, wholes_written, negated_truth, truth_in, is_boolean_kind, is_told, right_written, left_written, either_written, equal_written, operands_written, binary_written, written_by, written, Gives, Rests}
 
 or_true : (b : Bool) → b || true ≡ true
 or_true true = refl
@@ -247,12 +247,31 @@ zero_row n equal a b is e =
     let (nought, bits) = and_parts (is_zero (number b)) (is_bits a) e in
     record { equal = equal; operand = a; known = bits; shape = is ∙ ap (binary (loosely equal) a) (zero_is b nought); written = refl }
 
+-- a shift beside 0
+shift_row : (s : Seat) (n : Tree) (equal : Bool) (a b : Tree) → n ≡ binary (loosely equal) a b → tests_shift s equal a b ≡ true → Row27Asked s n a
+shift_row s n equal a b is e =
+    let (nought, others) = and_parts (is_zero (number b)) (not equal && (s.boolean && is_shifted a)) e in
+    let (unequal, seated) = and_parts (not equal) (s.boolean && is_shifted a) others in
+    let (asked, known) = and_parts s.boolean (is_shifted a) seated in
+    record { operand = a; known = known; asked = asked; shape = is ∙ ap (λ c. binary (loosely c) a b) (not_true equal unequal) ∙ ap (binary (loosely false) a) (zero_is b nought); written = refl }
+  where
+    not_true : (c : Bool) → not c ≡ true → c ≡ false
+    not_true false h = refl
+    not_true true h = absurd (true≢false (sym h))
+
+there_or : (b : Bool) (t : Tree) (u : Option Tree) → b ≡ true → is_some (if b then Some t else u) ≡ true
+there_or true t u e = refl
+there_or false t u e = absurd (true≢false (sym e))
+
 tested : (b : Bool) (t : Tree) (u : Option Tree) → is_some u ≡ true → is_some (if b then Some t else u) ≡ true
 tested true t u e = refl
 tested false t u e = e
 
 zero_there : (equal : Bool) (a : Tree) → is_bits a ≡ true → (s : Seat) → is_some (equal_written s equal a (digit false)) ≡ true
-zero_there equal a e s = ap (λ b. is_some (if b then Some (zero_told equal a) else either_written s equal (truth_in (digit false)) a (digit false))) e
+zero_there equal a e s = ap (λ b. is_some (if b then Some (zero_told equal a) else (if tests_shift s equal a (digit false) then Some a else either_written s equal (truth_in (digit false)) a (digit false)))) e
+
+shift_passes : (s : Seat) (a : Tree) → is_shifted a ≡ true → s.boolean ≡ true → is_some (written s (binary (loosely false) a (digit false))) ≡ true
+shift_passes s a e h = later Inequality (binary Inequality a (digit false)) (equal_written s false a (digit false)) (tested (tests_bits a (digit false)) (zero_told false a) _ (there_or (tests_shift s false a (digit false)) a _ (both_true s.boolean (is_shifted a) h e)))
 
 zero_passes_as : (s : Seat) (equal : Bool) (a : Tree) → is_bits a ≡ true → is_some (written s (binary (loosely equal) a (digit false))) ≡ true
 zero_passes_as s true a e = later Equality (binary Equality a (digit false)) (equal_written s true a (digit false)) (zero_there true a e s)
@@ -297,9 +316,13 @@ others_row s n w equal a b is e = go (truth_in b) (truth_in a) refl refl e
 equal_row : (s : Seat) (n w : Tree) (equal : Bool) (a b : Tree) → n ≡ binary (loosely equal) a b → equal_written s equal a b ≡ Some w → Reads s n w
 equal_row s n w equal a b is e = go (tests_bits a b) refl e
   where
-    go : (c : Bool) → tests_bits a b ≡ c → (if c then Some (zero_told equal a) else either_written s equal (truth_in b) a b) ≡ Some w → Reads s n w
+    shift : (c : Bool) → tests_shift s equal a b ≡ c → (if c then Some a else either_written s equal (truth_in b) a b) ≡ Some w → Reads s n w
+    shift true h f = inr (inr (inr (inr (inr (inr (inr (inr (inr (subst (Row27Asked s n) (some_is a w f) (shift_row s n equal a b is h))))))))))
+    shift false h f = others_row s n w equal a b is f
+
+    go : (c : Bool) → tests_bits a b ≡ c → (if c then Some (zero_told equal a) else (if tests_shift s equal a b then Some a else either_written s equal (truth_in b) a b)) ≡ Some w → Reads s n w
     go true h f = inr (inr (inr (inr (inr (inl (subst (Row27 n) (some_is (zero_told equal a) w f) (zero_row n equal a b is h)))))))
-    go false h f = others_row s n w equal a b is f
+    go false h f = shift (tests_shift s equal a b) refl f
 
 right_passes : (s : Seat) (equal c : Bool) (a : Tree) → is_some (written s (binary (loosely equal) a (negated_digit c))) ≡ true
 right_passes s true true a = later Equality (binary Equality a (negated_digit true)) (equal_written s true a (negated_digit true)) refl
@@ -314,8 +337,8 @@ either_passes s equal false a None = refl
 
 beside_passes : (s : Seat) (equal c b : Bool) (a : Tree) → is_some (written s (beside (loosely equal) b a (negated_digit c))) ≡ true
 beside_passes s equal c true a = right_passes s equal c a
-beside_passes s true c false a = later Equality (binary Equality (negated_digit c) a) (equal_written s true (negated_digit c) a) (tested (tests_bits (negated_digit c) a) _ _ (either_passes s true c a (truth_in a)))
-beside_passes s false c false a = later Inequality (binary Inequality (negated_digit c) a) (equal_written s false (negated_digit c) a) (tested (tests_bits (negated_digit c) a) _ _ (either_passes s false c a (truth_in a)))
+beside_passes s true c false a = later Equality (binary Equality (negated_digit c) a) (equal_written s true (negated_digit c) a) (tested (tests_bits (negated_digit c) a) _ _ (tested (tests_shift s true (negated_digit c) a) _ _ (either_passes s true c a (truth_in a))))
+beside_passes s false c false a = later Inequality (binary Inequality (negated_digit c) a) (equal_written s false (negated_digit c) a) (tested (tests_bits (negated_digit c) a) _ _ (tested (tests_shift s false (negated_digit c) a) _ _ (either_passes s false c a (truth_in a))))
 
 -- ---- 31 and 32
 
@@ -392,7 +415,7 @@ operands_row s n w o is e = nothing e
 
 -- of operators
 of_operator : (s : Seat) (n w : Tree) → OperatorRow s n w → OperandRow (Expr s) n w
-of_operator s n w r = inr (inr (inr (inr (inr (inr (inr (inr r)))))))
+of_operator s n w r = inr (inr (inr (inr (inr (inr (inr (inr (inl r))))))))
 
 binary_row : (s : Seat) (n w : Tree) (o : Option BinaryOperator) → binary_operator n ≡ o → binary_written s o n ≡ Some w → OperandRow (Expr s) n w
 binary_row s n w None h e = nothing e
@@ -427,8 +450,9 @@ passes s n w (inr (inr (inr (inr (inl r))))) = joined_passes s n w r
 passes s n w (inr (inr (inr (inr (inr (inl r)))))) = ap (λ t. is_some (written s t)) r.shape ∙ zero_passes_as s r.equal r.operand r.known
 passes s n w (inr (inr (inr (inr (inr (inr (inl r))))))) = ap (λ t. is_some (written s t)) r.shape ∙ kept_passes s r.operator r.on_right r.number r.known r.sided r.seated r.operand
 passes s n w (inr (inr (inr (inr (inr (inr (inr (inl r)))))))) = ap (λ t. is_some (written s t)) r.shape ∙ whole_passes s r.on_right r.operand r.known
-passes s n w (inr (inr (inr (inr (inr (inr (inr (inr (inl r))))))))) = ap (λ t. is_some (written s t)) r.shape ∙ there (stands r.operand) (deleted r.operand) r.value
-passes s n w (inr (inr (inr (inr (inr (inr (inr (inr (inr r))))))))) = operator_passes s n w r
+passes s n w (inr (inr (inr (inr (inr (inr (inr (inr (inl (inl r)))))))))) = ap (λ t. is_some (written s t)) r.shape ∙ there (stands r.operand) (deleted r.operand) r.value
+passes s n w (inr (inr (inr (inr (inr (inr (inr (inr (inl (inr r)))))))))) = operator_passes s n w r
+passes s n w (inr (inr (inr (inr (inr (inr (inr (inr (inr r))))))))) = ap (λ t. is_some (written s t)) r.shape ∙ shift_passes s r.operand r.known r.asked
 
 unwritten_rests : (s : Seat) (n : Tree) → written s n ≡ None → Rests (Expr s) n
 unwritten_rests s n e w r = true≢false (sym (passes s n w r) ∙ ap is_some e)

@@ -48,7 +48,7 @@ module _ (s : Seat) (n w : Tree) (b : s.boolean ≡ true) (h : (e : Environment)
   by_truth e D X Target f = absurd f
   by_truth e D X q f = absurd (true≢false (sym b ∙ f.0))
 
-  asked_truth : SameAt (Expr s) n w
+  pub asked_truth : SameAt (Expr s) n w
   asked_truth = record { by = by_truth }
 
 pub then_same : (p : Position) (n m w : Tree) → SameAt p n m → SameAt p m w → SameAt p n w

@@ -15,7 +15,7 @@ use Rattle.mini_terms.specs.declared.kinds.Kind.{Kind}
 use Rattle.mini_terms.specs.declared.kinds.Kind.TheVariants.{Number as IsNumber}
 use Rattle.mini_terms.specs.Kind.{is_number, kind}
 use Rattle.mini_terms.specs.Reading.{is_plain_part}
-use Rattle.mini_rows.specs.Operands.{tail_by, tail_text, makes_bits, is_bits, makes_int32, is_int32}
+use Rattle.mini_rows.specs.Operands.{tail_by, tail_text, makes_bits, is_bits, makes_int32, is_int32, makes_shift, is_shifted}
 use Rattle.mini_rows.specs.Spellings.{binary, numeral, text}
 
 -- a text, a number or `null`
@@ -33,6 +33,21 @@ tail_form k t e = go (string k) (number k) (is_null k) refl refl refl e
     go None (Some n) b h g j e = let same : signed_decimal n ≡ t = cc e in of_number n (number_is k n g) same
     go None None true h g j e = let same : codes "null" ≡ t = cc e in of_null (null_is k j) same
     go None None false h g j e = cc e
+
+-- shifts
+
+pub data Shifted (t : Tree) : Type 0 where
+  shifts : (o : BinaryOperator) → makes_shift (Some o) ≡ true → t ≡ binary o (part t 0) (part t 1) → Shifted t
+
+shifted_by : (t : Tree) (o : Option BinaryOperator) → its_binary_operator t ≡ o → makes_shift o ≡ true → Shifted t
+shifted_by t (Some o) h e = shifts o e (binary_is t o h)
+shifted_by t None h e = absurd (true≢false (sym e))
+
+pub shifted_form : (t : Tree) → is_shifted t ≡ true → Shifted t
+shifted_form t e = shifted_by t (its_binary_operator t) refl (and_parts (makes_shift (its_binary_operator t)) (is_number (kind t)) e).0
+
+pub shifted_plain : (t : Tree) → Shifted t → is_plain_part t ≡ true
+shifted_plain t (shifts o h is) = ap is_plain_part is
 
 -- whole bits
 
@@ -58,6 +73,9 @@ number_by k e = absurd (true≢false (sym e))
 
 pub bits_number : (t : Tree) → is_bits t ≡ true → kind t ≡ IsNumber
 bits_number t e = number_by (kind t) (and_parts (makes_bits (its_unary_operator t) (its_binary_operator t)) (is_number (kind t)) e).1
+
+pub shifted_number : (t : Tree) → is_shifted t ≡ true → kind t ≡ IsNumber
+shifted_number t e = number_by (kind t) (and_parts (makes_shift (its_binary_operator t)) (is_number (kind t)) e).1
 
 pub bits_plain : (t : Tree) → is_bits t ≡ true → is_plain_part t ≡ true
 bits_plain t e = go (bits_form t e)

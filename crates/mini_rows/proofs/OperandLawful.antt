@@ -31,7 +31,7 @@ use Rattle.mini_rows.proofs.ArrangedLawful.{kept_is_lawful}
 use Rattle.mini_rows.proofs.ConstantLawful.{plain_fields, binary_at}
 use Rattle.mini_rows.proofs.FoldLawful.{vanishes, first_dropped, operands, expression_slot, no_number}
 use Rattle.mini_rows.proofs.FoldWeights.{not_a_number}
-use Rattle.mini_rows.proofs.OperandForms.{Tail, of_text, of_number, of_null, tail_form, Int32, inverts, operates, int32_form}
+use Rattle.mini_rows.proofs.OperandForms.{Shifted, shifts, shifted_form, Tail, of_text, of_number, of_null, tail_form, Int32, inverts, operates, int32_form}
 use Rattle.mini_rows.proofs.OperandMeaning.{operands_same}
 use Rattle.mini_rows.proofs.OperatorLawful.{operator_kept, operator_stood, operator_asked}
 use Rattle.mini_rows.proofs.Surrogates.{is_paired_joined, numeral_paired}
@@ -99,7 +99,8 @@ kept (Expr q) n w (inr (inr (inr (inr (inl r))))) = joined_kept r.left r.before 
 kept (Expr q) n w (inr (inr (inr (inr (inr (inl r)))))) = zero_kept r.equal r.operand q n w r.shape r.written
 kept (Expr q) n w (inr (inr (inr (inr (inr (inr (inl r))))))) = kept_bits_kept r.operator r.on_right r.number r.operand q n w r.shape r.written
 kept (Expr q) n w (inr (inr (inr (inr (inr (inr (inr (inl r)))))))) = whole_kept r.on_right r.operand q n w r.shape r.written
-kept (Expr q) n w (inr (inr (inr (inr (inr (inr (inr (inr r)))))))) = operator_kept q n w r
+kept (Expr q) n w (inr (inr (inr (inr (inr (inr (inr (inr (inl r))))))))) = operator_kept q n w r
+kept (Expr q) n w (inr (inr (inr (inr (inr (inr (inr (inr (inr r))))))))) = expressions_arranged (record { trees = r.operand ▸ none; lists = [] }) (of_two (loosely false) true (a_digit false)) (part 0) refl q n w r.shape r.written
 kept p n w r = absurd r
 
 places : (p : Position) (n w : Tree) → OperandRow p n w → is_rewritten_place p ≡ true
@@ -171,7 +172,10 @@ module _ (strict : Bool) (s : Slot) where
   stood (Expr q) n w (inr (inr (inr (inr (inr (inl r)))))) e =
       let (takes, fit) = beside_at (loosely r.equal) true r.operand (digit false) (subst (λ t. fits strict s t ≡ true) r.shape e) in
       (takes, subst Fits (sym r.written) (zero_fits r.equal r.operand fit))
-  stood (Expr q) n w (inr (inr (inr (inr (inr (inr (inr (inr r)))))))) e = operator_stood strict s q n w r e
+  stood (Expr q) n w (inr (inr (inr (inr (inr (inr (inr (inr (inl r))))))))) e = operator_stood strict s q n w r e
+  stood (Expr q) n w (inr (inr (inr (inr (inr (inr (inr (inr (inr r))))))))) e =
+      let (takes, fit) = beside_at (loosely false) true r.operand (digit false) (subst (λ t. fits strict s t ≡ true) r.shape e) in
+      (takes, subst Fits (sym r.written) fit)
   stood p n w r e = absurd r
 
 row_fits : (p : Position) (n w : Tree) → OperandRow p n w → (strict : Bool) (s : Slot) → fits strict s n ≡ true → fits strict s w ≡ true
@@ -282,6 +286,9 @@ bits_asked : (q : Seat) (o : BinaryOperator) (b : Bool) (a k : Tree) → AskedAl
 bits_asked q o true a k = joined_asked q o BitwiseOr a k a (digit false)
 bits_asked q o false a k = joined_asked q o BitwiseOr k a a (digit false)
 
+shifted_asked : (q : Seat) (t k : Tree) → Shifted t → AskedAlike (Expr q) (binary (loosely false) t k) t
+shifted_asked q t k (shifts o h is) = subst (AskedAlike (Expr q) (binary (loosely false) t k)) (sym is) (joined_asked q (loosely false) o t k (its_part t 0) (its_part t 1))
+
 asked_by : (q : Seat) (n w a b : Tree) → n ≡ a → w ≡ b → AskedAlike (Expr q) a b → AskedAlike (Expr q) n w
 asked_by q n w a b e f h = subst (λ t. AskedAlike (Expr q) t w) (sym e) (subst (AskedAlike (Expr q) a) (sym f) h)
 
@@ -294,7 +301,8 @@ row_asked (Expr q) n w (inr (inr (inr (inr (inl r))))) = asked_by q n w _ _ r.sh
 row_asked (Expr q) n w (inr (inr (inr (inr (inr (inr (inl r))))))) = asked_by q n w _ _ r.shape r.written (bits_asked q r.operator r.on_right r.operand (numeral r.number))
 row_asked (Expr q) n w (inr (inr (inr (inr (inr (inr (inr (inl r)))))))) = asked_by q n w _ _ r.shape r.written (whole_asked q r.on_right r.operand (int32_form r.operand r.known))
 row_asked (Expr q) n w (inr (inr (inr (inr (inr (inl r)))))) = asked_by q n w _ _ r.shape r.written (zero_asked q (loosely r.equal) r.equal r.operand (digit false))
-row_asked (Expr q) n w (inr (inr (inr (inr (inr (inr (inr (inr r)))))))) = operator_asked q n w r
+row_asked (Expr q) n w (inr (inr (inr (inr (inr (inr (inr (inr (inl r))))))))) = operator_asked q n w r
+row_asked (Expr q) n w (inr (inr (inr (inr (inr (inr (inr (inr (inr r))))))))) = asked_by q n w _ _ r.shape r.written (shifted_asked q r.operand (digit false) (shifted_form r.operand r.known))
 row_asked p n w r = absurd r
 
 pub operands_lawful : Lawful OperandContracts

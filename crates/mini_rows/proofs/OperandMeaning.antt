@@ -15,8 +15,8 @@ use Rattle.mini_model.specs.Position.{right_operand_seat, child_position}
 use Rattle.mini_node.specs.Children.{part}
 use Rattle.mini_model.specs.Rewriting.{Step, here, inside, first, later}
 use Rattle.mini_laws.specs.Value.{Value, Undefined, Null, Boolean, Number, String, Symbol, Object, truth}
-use Rattle.mini_laws.specs.State.{ForDefault, Coerce, Item, State, Completion, ok, stop, either, Environment}
-use Rattle.mini_laws.specs.Demand.{Val, As}
+use Rattle.mini_laws.specs.State.{ForDefault, Coerce, Item, State, Completion, ok, stop, halt, out, either, Environment}
+use Rattle.mini_laws.specs.Demand.{Val, Test, As}
 use Rattle.mini_laws.specs.Command.{is_object, Naming, Command, ret, bind, emit, Kids, run}
 use Rattle.mini_laws.specs.Naming.{summary, summaries, naming}
 use Rattle.mini_laws.specs.Conversion.{Made, makes, raises, outside, to_text}
@@ -45,13 +45,13 @@ use Rattle.mini_rows.specs.Choices.{loosely}
 use Rattle.mini_rows.specs.Folding.{Row13}
 use Rattle.mini_rows.specs.Operands.{beside, told_by, is_bits, keeps_bits, zero_told, Row14, Row7, Row29, OperandRow, OperandContracts}
 use Rattle.mini_rows.specs.Spellings.{binary, negated_digit, numeral, text}
-use Rattle.mini_rows.proofs.BooleanMeaning.{then_same}
+use Rattle.mini_rows.proofs.BooleanMeaning.{then_same, asked_truth}
 use Rattle.mini_rows.proofs.ChoiceMeaning.{rotated_same}
 use Rattle.mini_rows.proofs.ChoiceRuns.{value, null_value, binary_value, binary_names, sides, raise_free, primitive_free, bind_free, numeric_free, made_free}
 use Rattle.mini_rows.proofs.BitNumbers.{whole, IsWhole, keeps_is, signed_whole, operated_whole}
 use Rattle.mini_rows.proofs.ConversionRuns.{after_boolean}
 use Rattle.mini_rows.proofs.FoldMeaning.{plain_of, value_of, plain_read, passed_same, passed_read}
-use Rattle.mini_rows.proofs.OperandForms.{Tail, of_text, tail_form, bits_number, bits_plain, is_int32_operator, Int32, inverts, operates, int32_form, int32_plain}
+use Rattle.mini_rows.proofs.OperandForms.{Tail, of_text, tail_form, shifted_form, shifted_plain, shifted_number, bits_number, bits_plain, is_int32_operator, Int32, inverts, operates, int32_form, int32_plain}
 use Rattle.mini_rows.proofs.OperandForms as form
 use Rattle.mini_rows.specs.Operators.{is_bitwise}
 use Rattle.mini_rows.proofs.OperatorMeaning.{operator_same, operator_read, turned_alike}
@@ -494,6 +494,28 @@ int32_stands t (operates o h is) = ap stands is
 int32_alike : (t : Tree) → Int32 t → SameTree (binary BitwiseOr t (digit false)) t
 int32_alike t h = same_value _ _ refl (int32_stands t h) (sym (plain_read t (int32_plain t h))) (int32_value t h)
 
+-- ---- 27, of a shift of which only the truth is asked
+
+told_twice : (x : Completion Value) → told Test (either x (λ v z. ok (zero_of false v) z) (λ y z. stop y z)) ≡ told Test x
+unfolding told either
+told_twice (ok v z) = ap (λ b. ok b z) (twice (truth v))
+told_twice (stop y z) = refl
+told_twice (halt y z) = refl
+told_twice out = refl
+
+shift_truth : (a : Tree) → kind a ≡ IsNumber → (e : Environment) (s : State) → means e (binary (loosely false) a (digit false)) (As Test) tt s ≡ means e a (As Test) tt s
+shift_truth a k e s =
+    coherent (binary (loosely false) a (digit false)) Test e s
+    ∙ ap (told Test) (zero_value false a k e s ∙ sym (zero_told_value false a e s))
+    ∙ told_twice (value e a s)
+    ∙ sym (coherent a Test e s)
+
+shift_same : (s : Seat) (a : Tree) → kind a ≡ IsNumber → s.boolean ≡ true → SameAt (Expr s) (binary (loosely false) a (digit false)) a
+shift_same s a k b = asked_truth s (binary (loosely false) a (digit false)) a b (λ e D X. by_equality e D X (As Test) (binary (loosely false) a (digit false)) a (λ u z. shift_truth a k e z))
+
+same_by_shape : (s : Seat) (n w : Tree) {a b : Tree} → n ≡ a → w ≡ b → SameAt (Expr s) a b → SameAt (Expr s) n w
+same_by_shape s n w {a} {b} e f h = subst (λ t. SameAt (Expr s) t w) (sym e) (subst (SameAt (Expr s) a) (sym f) h)
+
 -- ---- 31 and 32 with the number on the left
 
 same_after : (n m w : Tree) → SameTree n m → SameTree m w → SameTree n w
@@ -518,7 +540,8 @@ row_same (Expr s) n w (inr (inr (inr (inr (inl r))))) = tree_same s n w (same_by
 row_same (Expr s) n w (inr (inr (inr (inr (inr (inl r)))))) = tree_same s n w (same_by n w _ _ r.shape r.written (zero_alike r.equal r.operand r.known))
 row_same (Expr s) n w (inr (inr (inr (inr (inr (inr (inl r))))))) = tree_same s n w (same_by n w _ _ r.shape r.written (kept_beside r.operator r.on_right r.sided r.number r.known r.operand))
 row_same (Expr s) n w (inr (inr (inr (inr (inr (inr (inr (inl r)))))))) = tree_same s n w (same_by n w _ _ r.shape r.written (int32_beside r.on_right r.operand (int32_form r.operand r.known)))
-row_same (Expr s) n w (inr (inr (inr (inr (inr (inr (inr (inr r)))))))) = operator_same s n w r
+row_same (Expr s) n w (inr (inr (inr (inr (inr (inr (inr (inr (inl r))))))))) = operator_same s n w r
+row_same (Expr s) n w (inr (inr (inr (inr (inr (inr (inr (inr (inr r))))))))) = same_by_shape s n w r.shape r.written (shift_same s r.operand (shifted_number r.operand r.known) r.asked)
 row_same p n w r = absurd r
 
 beside_read : (o : BinaryOperator) (b : Bool) (a k t : Tree) → is_plain_part t ≡ true → summary (beside o b a k) ≡ summary t
@@ -534,7 +557,8 @@ row_read (Expr s) n w (inr (inr (inr (inr (inl r))))) = ap summary r.shape ∙ (
 row_read (Expr s) n w (inr (inr (inr (inr (inr (inl r)))))) = ap summary r.shape ∙ (zero_alike r.equal r.operand r.known).read ∙ sym (ap summary r.written)
 row_read (Expr s) n w (inr (inr (inr (inr (inr (inr (inl r))))))) = ap summary r.shape ∙ (kept_beside r.operator r.on_right r.sided r.number r.known r.operand).read ∙ sym (ap summary r.written)
 row_read (Expr s) n w (inr (inr (inr (inr (inr (inr (inr (inl r)))))))) = ap summary r.shape ∙ (int32_beside r.on_right r.operand (int32_form r.operand r.known)).read ∙ sym (ap summary r.written)
-row_read (Expr s) n w (inr (inr (inr (inr (inr (inr (inr (inr r)))))))) = operator_read s n w r
+row_read (Expr s) n w (inr (inr (inr (inr (inr (inr (inr (inr (inl r))))))))) = operator_read s n w r
+row_read (Expr s) n w (inr (inr (inr (inr (inr (inr (inr (inr (inr r))))))))) = ap summary r.shape ∙ beside_read (loosely false) true r.operand (digit false) r.operand (shifted_plain r.operand (shifted_form r.operand r.known)) ∙ sym (ap summary r.written)
 row_read p n w r = absurd r
 
 pub operands_same : MeansSame OperandContracts

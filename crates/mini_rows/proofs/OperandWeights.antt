@@ -6,7 +6,7 @@ use Rattle.std.proofs.lemmas.Bool.{leb-true}
 use Rattle.std.proofs.lemmas.Fmt.{decimal_digit}
 use borrow.Author.Tests.{ltb-true, ltb-false}
 use Rattle.mini_model.specs.declared.operator.BinaryOperator.{BinaryOperator}
-use Rattle.mini_model.specs.declared.operator.BinaryOperator.TheVariants.{Addition, Equality, Inequality, BitwiseAnd, BitwiseXor, BitwiseOr, ShiftLeft, ShiftRight}
+use Rattle.mini_model.specs.declared.operator.BinaryOperator.TheVariants.{Addition, Equality, Inequality, BitwiseAnd, BitwiseXor, BitwiseOr, ShiftLeft, ShiftRight, ShiftRightZeroFill}
 use Rattle.mini_model.specs.declared.operator.LogicalOperator.{LogicalOperator}
 use Rattle.mini_model.specs.declared.operator.LogicalOperator.TheVariants.{Or, And, Coalesce}
 use Rattle.mini_model.specs.declared.operator.UnaryOperator.TheVariants.{LogicalNot}
@@ -33,7 +33,7 @@ use Rattle.mini_rows.specs.Spellings.{binary, negated_digit, numeral, text}
 use Rattle.mini_rows.proofs.BooleanWeights.{digit_falls}
 use Rattle.mini_rows.proofs.FoldMeaning.{plain_of}
 use Rattle.mini_rows.proofs.FoldWeights.{two, moved, there, no_choice}
-use Rattle.mini_rows.proofs.OperandForms.{Tail, of_text, of_number, of_null, tail_form, Bits, inverted, masked, differing, joined, bits_form, bits_plain, Int32, inverts, operates, int32_form, int32_plain}
+use Rattle.mini_rows.proofs.OperandForms.{Shifted, shifts, shifted_form, shifted_plain, Tail, of_text, of_number, of_null, tail_form, Bits, inverted, masked, differing, joined, bits_form, bits_plain, Int32, inverts, operates, int32_form, int32_plain}
 use Rattle.mini_rows.proofs.BitNumbers.{same_is}
 use Rattle.mini_rows.proofs.OperatorWeights.{zero_mark, pair_at_most, pairs, rest_of, operator_lighter, operator_outline}
 use Rattle.mini_rows.proofs.SpellWeights.{falls_by, inside, mark_at_most}
@@ -215,6 +215,14 @@ whole_falls : (b : Bool) (s : Seat) (t : Tree) → Int32 t → weight (Expr s) t
 whole_falls true s t h = int32_falls s t h
 whole_falls false s t h = int32_left_falls s t h
 
+-- 27: a shift has parentheses only where the equality has them
+
+shifted_falls : (s : Seat) (t : Tree) → Shifted t → weight (Expr s) t < weight (Expr s) (binary (loosely false) t (digit false))
+shifted_falls s t (shifts ShiftLeft h is) = subst (λ x. weight (Expr s) x < weight (Expr s) (binary (loosely false) x (digit false))) (sym is) (omega (arith, pairs 8 10 (omega arith) s.level (rest_of s), zero_mark s.eq_left s.cond_test s.lifted))
+shifted_falls s t (shifts ShiftRight h is) = subst (λ x. weight (Expr s) x < weight (Expr s) (binary (loosely false) x (digit false))) (sym is) (omega (arith, pairs 8 10 (omega arith) s.level (rest_of s), zero_mark s.eq_left s.cond_test s.lifted))
+shifted_falls s t (shifts ShiftRightZeroFill h is) = subst (λ x. weight (Expr s) x < weight (Expr s) (binary (loosely false) x (digit false))) (sym is) (omega (arith, pairs 8 10 (omega arith) s.level (rest_of s), zero_mark s.eq_left s.cond_test s.lifted))
+shifted_falls s t (shifts o h is) = absurd (true≢false (sym h))
+
 -- ---- all
 
 pub lighter : OperandsLighter
@@ -226,7 +234,8 @@ lighter (Expr s) n w (inr (inr (inr (inr (inl r))))) = falls_by (Expr s) n w _ _
 lighter (Expr s) n w (inr (inr (inr (inr (inr (inl r)))))) = falls_by (Expr s) n w _ _ r.shape r.written (zero_falls r.equal s r.operand (bits_form r.operand r.known))
 lighter (Expr s) n w (inr (inr (inr (inr (inr (inr (inl r))))))) = falls_by (Expr s) n w _ _ r.shape r.written (beside_falls r.operator r.on_right r.number r.known r.sided s r.seated r.operand)
 lighter (Expr s) n w (inr (inr (inr (inr (inr (inr (inr (inl r)))))))) = falls_by (Expr s) n w _ _ r.shape r.written (whole_falls r.on_right s r.operand (int32_form r.operand r.known))
-lighter (Expr s) n w (inr (inr (inr (inr (inr (inr (inr (inr r)))))))) = operator_lighter s n w r
+lighter (Expr s) n w (inr (inr (inr (inr (inr (inr (inr (inr (inl r))))))))) = operator_lighter s n w r
+lighter (Expr s) n w (inr (inr (inr (inr (inr (inr (inr (inr (inr r))))))))) = falls_by (Expr s) n w _ _ r.shape r.written (shifted_falls s r.operand (shifted_form r.operand r.known))
 lighter p n w r = absurd r
 
 -- what a parent's weight reads of them
@@ -288,6 +297,9 @@ int32_no_zero : (t : Tree) → Int32 t → (outline t).is_zero ≡ false
 int32_no_zero t (inverts is) = ap (λ x. (outline x).is_zero) is
 int32_no_zero t (operates o h is) = ap (λ x. (outline x).is_zero) is
 
+shifted_no_zero : (t : Tree) → Shifted t → (outline t).is_zero ≡ false
+shifted_no_zero t (shifts o h is) = ap (λ x. (outline x).is_zero) is
+
 alike : (p : Position) (n w : Tree) → OperandRow p n w → ReadAlike n w
 alike (Expr s) n w (inl r) = whole_alike n w (ap outline r.shape ∙ sym (ap outline r.written))
 alike (Expr s) n w (inr (inl r)) = left_alike n w Addition r.on_right r.operand (text []) r.operand r.shape r.written (plain_of s r.operand r.stays) (text_not_zero r.operand r.known)
@@ -297,7 +309,8 @@ alike (Expr s) n w (inr (inr (inr (inr (inl r))))) = whole_alike n w (ap outline
 alike (Expr s) n w (inr (inr (inr (inr (inr (inl r)))))) = left_alike n w (loosely r.equal) true r.operand (digit false) (zero_told r.equal r.operand) r.shape r.written (zero_plain r.equal r.operand (bits_plain r.operand r.known)) (zero_is_none r.equal r.operand)
 alike (Expr s) n w (inr (inr (inr (inr (inr (inr (inl r))))))) = left_alike n w r.operator r.on_right r.operand (numeral r.number) (binary BitwiseOr r.operand (digit false)) r.shape r.written refl refl
 alike (Expr s) n w (inr (inr (inr (inr (inr (inr (inr (inl r)))))))) = let form = int32_form r.operand r.known in left_alike n w BitwiseOr r.on_right r.operand (digit false) r.operand r.shape r.written (int32_plain r.operand form) (int32_no_zero r.operand form)
-alike (Expr s) n w (inr (inr (inr (inr (inr (inr (inr (inr r)))))))) = whole_alike n w (operator_outline s n w r)
+alike (Expr s) n w (inr (inr (inr (inr (inr (inr (inr (inr (inl r))))))))) = whole_alike n w (operator_outline s n w r)
+alike (Expr s) n w (inr (inr (inr (inr (inr (inr (inr (inr (inr r))))))))) = let form = shifted_form r.operand r.known in left_alike n w (loosely false) true r.operand (digit false) r.operand r.shape r.written (shifted_plain r.operand form) (shifted_no_zero r.operand form)
 alike p n w r = absurd r
 
 no_items : (p : Position) (n w : Tree) → OperandRow p n w → counts_items p ≡ true → (outline n).items ≡ (outline w).items

@@ -3,7 +3,7 @@
 use Rattle.std.specs.Prelude.{◌≡◌, ℕ, ℤ, pos, ◌<◌, nat_le, nat_lt, ◌⊎◌, ◌&&◌, ◌||◌, Bool, true, false, List, [], ◌++◌, Option, Some, None, codes}
 use Rattle.std.specs.Fmt.{signed_decimal}
 use Rattle.mini_model.specs.declared.operator.BinaryOperator.{BinaryOperator}
-use Rattle.mini_model.specs.declared.operator.BinaryOperator.TheVariants.{Addition, BitwiseAnd, BitwiseXor, BitwiseOr, ShiftLeft, ShiftRight}
+use Rattle.mini_model.specs.declared.operator.BinaryOperator.TheVariants.{Addition, BitwiseAnd, BitwiseXor, BitwiseOr, ShiftLeft, ShiftRight, ShiftRightZeroFill}
 use Rattle.mini_model.specs.declared.operator.LogicalOperator.{LogicalOperator}
 use Rattle.mini_model.specs.declared.operator.UnaryOperator.{UnaryOperator}
 use Rattle.mini_model.specs.declared.operator.UnaryOperator.TheVariants.{BitwiseNot}
@@ -65,6 +65,16 @@ makes_int32 u o = makes_bits u o
 
 abbrev pub is_int32 : Tree → Bool
 is_int32 t = makes_int32 (unary_operator t) (binary_operator t) && is_number (kind t)
+
+-- a shift of numbers, with a sign or without
+abbrev pub makes_shift : Option BinaryOperator → Bool
+makes_shift (Some ShiftLeft) = true
+makes_shift (Some ShiftRight) = true
+makes_shift (Some ShiftRightZeroFill) = true
+makes_shift o = false
+
+abbrev pub is_shifted : Tree → Bool
+is_shifted t = makes_shift (binary_operator t) && is_number (kind t)
 
 -- beside this number the operator gives what `| 0` does
 abbrev pub keeps_bits : BinaryOperator → ℤ → Bool
@@ -169,9 +179,17 @@ pub record Row32 (n w : Tree) : Type 0 where
   pub shape : n ≡ beside BitwiseOr on_right operand (digit false)
   pub written : w ≡ operand
 
+-- 27, of a shift of which only the truth is asked: `(a << 1) != 0` becomes `a << 1`
+pub record Row27Asked (s : Seat) (n w : Tree) : Type 0 where
+  pub operand : Tree
+  pub known : is_shifted operand ≡ true
+  pub asked : s.boolean ≡ true
+  pub shape : n ≡ binary (loosely false) operand (digit false)
+  pub written : w ≡ operand
+
 -- a row on operands, or on operators, reads n as w at this place
 abbrev pub OperandRow : Position → Tree → Tree → Type 0
-OperandRow (Expr s) n w = Row14 s n w ⊎ (Row7 s n w ⊎ (Row29 s n w ⊎ (Row30 n w ⊎ (Row4 n w ⊎ (Row27 n w ⊎ (Row31 s n w ⊎ (Row32 n w ⊎ OperatorRow s n w)))))))
+OperandRow (Expr s) n w = Row14 s n w ⊎ (Row7 s n w ⊎ (Row29 s n w ⊎ (Row30 n w ⊎ (Row4 n w ⊎ (Row27 n w ⊎ (Row31 s n w ⊎ (Row32 n w ⊎ (OperatorRow s n w ⊎ Row27Asked s n w))))))))
 OperandRow _ n w = ⊥
 
 -- what it writes, where it weighs less

@@ -1,5 +1,5 @@
 //! Rows 4, 7, 14, 27 and 29 to 32, and those of operators (2, 8, 16, 17 and 56): an operand whose value is known goes, or is written shorter. `a + "s" + "t"` becomes `a + "st"`,
-//! `typeof a + ""` becomes `typeof a`, `a || 0 || b` becomes `a || b`, `(a & 1) == 0` becomes `!(a & 1)`, `!a == !0` becomes `!a`, and
+//! `typeof a + ""` becomes `typeof a`, `a || 0 || b` becomes `a || b`, `(a & 1) == 0` becomes `!(a & 1)`, and `a << 1 != 0` `a << 1` in a test, `!a == !0` becomes `!a`, and
 //! `a == !0` becomes `a == 1`; `a << 0` becomes `a | 0`, and `a << 1 | 0` becomes `a << 1`. What is written is lighter in every place.
 
 ghost use Rattle.std.specs.Prelude.{◌≡◌, true, is_some, unwrap_or, option_copied, OnOk, IfOk};
@@ -11,7 +11,7 @@ ghost use Rattle.mini_laws.specs.Operators.{same_boolean as are_they_same};
 ghost use Rattle.mini_terms.specs.Parts.{suits as may_suit};
 ghost use Rattle.mini_rows.specs.Booleans.{digit as digit_of};
 ghost use Rattle.mini_rows.specs.Choices.{loosely as loose};
-ghost use Rattle.mini_rows.specs.Operands.{told_by, tail_text as tail_of, makes_bits as do_they_make_bits, is_bits as are_they_bits, makes_int32 as do_they_make_int32, is_int32 as is_it_int32, keeps_bits as does_it_keep_bits, has_room as has_it_room, zero_told as zero_told_of};
+ghost use Rattle.mini_rows.specs.Operands.{told_by, tail_text as tail_of, makes_bits as do_they_make_bits, is_bits as are_they_bits, makes_int32 as do_they_make_int32, is_int32 as is_it_int32, makes_shift as does_it_shift, is_shifted as is_it_shifted, keeps_bits as does_it_keep_bits, has_room as has_it_room, zero_told as zero_told_of};
 ghost use Rattle.mini_terms.specs.Kind.{is_number as is_number_of};
 ghost use Rattle.mini_tree.specs.Rule.{Applied};
 ghost use Rattle.mini_fold.specs.FoldOperators.{without_plus, masks_written, mask_written};
@@ -249,6 +249,31 @@ fn tests_bits(left: &Node, right: &Node) -> bool
     is_zero(number(right)) && is_bits(left)
 }
 
+fn makes_shift(binary: Option<BinaryOperator>) -> bool
+    ensures { result ≡ does_it_shift binary }
+{
+    match binary {
+        Some(BinaryOperator::ShiftLeft) => true,
+        Some(BinaryOperator::ShiftRight) => true,
+        Some(BinaryOperator::ShiftRightZeroFill) => true,
+        _ => false,
+    }
+}
+
+// Whether it is a shift of numbers.
+fn is_shifted(node: &Node) -> bool
+    ensures { result ≡ is_it_shifted node.now }
+{
+    makes_shift(binary_operator(node)) && is_number_kind(kind_of(node))
+}
+
+// Whether a shift is held against 0 where only the truth is asked: `if (a << 1 != 0)`
+fn tests_shift(seat: Seat, equal: bool, left: &Node, right: &Node) -> bool
+    ensures { result ≡ operand.tests_shift seat equal left.now right.now }
+{
+    is_zero(number(right)) && !equal && seat.boolean && is_shifted(left)
+}
+
 // `!a`, or `!!a`
 fn zero_told(alloc: Global, equal: bool, bits: Node) -> Result<Node, OutOfMemory>
     ensures { IfOk result (λ w. w ≡ zero_told_of equal bits) }
@@ -368,6 +393,10 @@ fn fold_equality(
 {
     if tests_bits(node.child(0), node.child(1)) {
         *node = zero_told(alloc, equal, one(taken(alloc, node)))?;
+        return Ok(true);
+    }
+    if tests_shift(seat, equal, node.child(0), node.child(1)) {
+        *node = one(taken(alloc, node));
         return Ok(true);
     }
     if let Some(truth) = truth_in(node.child(1)) {
