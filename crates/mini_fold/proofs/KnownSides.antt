@@ -1,6 +1,6 @@
 -- What is known makes what its rows say, and rests where no row reads the node.
 use Rattle.std.proofs.Common.{◌≡◌, Bool, true, false, refl, sym, ap, subst, ◌∙◌, inl, inr}
-use Rattle.std.specs.Prelude.{◌&&◌, not, Option, Some, None, is_some, unwrap_or, if◌then◌else◌}
+use Rattle.std.specs.Prelude.{◌&&◌, not, codes, Option, Some, None, is_some, unwrap_or, if◌then◌else◌}
 use Rattle.std.proofs.lemmas.Bool.{and_parts}
 use Rattle.mini_model.specs.declared.operator.BinaryOperator.{BinaryOperator}
 use Rattle.mini_model.specs.declared.operator.LogicalOperator.{LogicalOperator}
@@ -17,12 +17,13 @@ use Rattle.mini_node.proofs.Equality.{tree_same, tree_itself}
 use Rattle.mini_terms.specs.Folds.{is_effect_free, has_one_kind, goes_on, stops}
 use Rattle.mini_terms.specs.Parts.{suits, leaves_nothing, weighs}
 use Rattle.mini_rows.specs.Folding.{names_exports, loosened, Row12, Row13, Row22, Row28, Row49Idle, FoldingRow}
-use Rattle.mini_rows.specs.Spellings.{binary}
+use Rattle.mini_rows.specs.Spellings.{binary, static_member, text, key}
 use Rattle.mini_rows.proofs.FoldWeights.{lighter}
 use Rattle.mini_tree.specs.Rule.{Applied}
 use Rattle.mini_tree.proofs.Reaching.{moves_once}
 use Rattle.mini_fold.specs.MinimizeBinary.{loosened_by, with_operator, written_by}
 use Rattle.mini_fold.specs.MinimizeBinary as equality
+use Rattle.mini_fold.proofs.Lengths.{length_is_row, length_rests}
 use Rattle.mini_fold.specs.FoldKnown.{is_passed, is_stopped, side, logical_written, folded, is_idle_test, chooses_nothing, branch_written, written, does_nothing, statement_written, Gives, Rests, WrittenIsRow, StatementIsRow, UnwrittenRests, StatementRests}
 
 not_true : (b : Bool) → not b ≡ true → b ≡ false
@@ -138,7 +139,8 @@ never_unwritten false t h e = cc h
 row_of : (s : Seat) (n w : Tree) → written s n ≡ Some w → FoldingRow (Expr s) n w
 row_of s (node (shape.LogicalExpression o) xs m ts) w e = folded_is_row s (node (shape.LogicalExpression o) xs m ts) w e
 row_of s (node (shape.BinaryExpression o) xs m ts) w e = inr (inr (inl (equality_is_row (node (shape.BinaryExpression o) xs m ts) w e)))
-row_of s (node shape.ConditionalExpression xs m ts) w e = inr (inr (inr (branch_is_row s (node shape.ConditionalExpression xs m ts) w e)))
+row_of s (node shape.ConditionalExpression xs m ts) w e = inr (inr (inr (inl (branch_is_row s (node shape.ConditionalExpression xs m ts) w e))))
+row_of s (node (shape.StaticMemberExpression b) xs m ts) w e = inr (inr (inr (inr (length_is_row s (node (shape.StaticMemberExpression b) xs m ts) w e))))
 row_of s (node h xs m ts) w e = absurd (cc e)
 
 pub written_is_row : WrittenIsRow
@@ -149,7 +151,9 @@ unwritten s n m e h = sym (ap (written s) e) ∙ h
 
 pub unwritten_rests : UnwrittenRests
 unwritten_rests s n e w (inl r) = unpassed (is_passed s r.operator r.left r.right) (is_stopped s r.operator r.left r.right) r.left r.right (passes s r.operator r.left r.right r.known r.effect_free r.dropped r.heavy r.stays) (unwritten s n (logical r.operator r.left r.right) r.shape e)
-unwritten_rests s n e w (inr (inr (inr r))) = never_unwritten (chooses_nothing s (conditional r.test r.branch r.branch)) r.branch (idle_chooses s r.test r.branch r.effect_free r.dropped r.heavy r.stays) (unwritten s n (conditional r.test r.branch r.branch) r.shape e)
+unwritten_rests s n e w (inr (inr (inr (inr r)))) =
+    length_rests s (static_member false (text r.units) (key (codes "length"))) (unwritten s n (static_member false (text r.units) (key (codes "length"))) r.shape e) w (record { units = r.units; unguarded = r.unguarded; unsigned = r.unsigned; unchained = r.unchained; small = r.small; shape = refl; written = r.written })
+unwritten_rests s n e w (inr (inr (inr (inl r)))) = never_unwritten (chooses_nothing s (conditional r.test r.branch r.branch)) r.branch (idle_chooses s r.test r.branch r.effect_free r.dropped r.heavy r.stays) (unwritten s n (conditional r.test r.branch r.branch) r.shape e)
 unwritten_rests s n e w (inr (inr (inl r))) = equality_never (loosened r.operator) (has_one_kind r.left r.right) r.loose (binary r.operator r.left r.right) r.loosens r.alike (unwritten s n (binary r.operator r.left r.right) r.shape e)
 unwritten_rests s n e w (inr (inl r)) = unstopped (is_passed s r.operator r.left r.right) (is_stopped s r.operator r.left r.right) r.left r.right (stopped s r.operator r.left r.right r.known r.nameless r.dropped r.heavy r.stays) (unwritten s n (logical r.operator r.left r.right) r.shape e)
 

@@ -1,3 +1,4 @@
+pub mod Lengths
 pub mod KnownSides
 pub mod Deep
 pub mod Constants

@@ -1,5 +1,5 @@
 -- The rewrites on what is known of an expression from its text: 12, 13 and 15 of logical expressions, 28 of equalities, 49 of
--- conditionals whose test is effect-free, and 22 of expression statements.
+-- conditionals whose test is effect-free, 9 of the lengths of texts, and 22 of expression statements.
 use Rattle.std.specs.Prelude.{◌≡◌, Bool, not, ◌&&◌, Option, Some, None, if◌then◌else◌}
 use Rattle.mini_model.specs.declared.operator.LogicalOperator.{LogicalOperator}
 use Rattle.mini_model.specs.declared.place.Position.{Position}
@@ -15,6 +15,7 @@ use Rattle.mini_node.specs.Kinds.{logical_operator, is_conditional, is_expressio
 use Rattle.mini_terms.specs.Folds.{is_effect_free, goes_on, stops}
 use Rattle.mini_terms.specs.Parts.{suits, leaves_nothing, weighs}
 use Rattle.mini_rows.specs.Folding.{names_exports, FoldingRow, FoldingContracts}
+use Rattle.mini_fold.specs.FoldStaticMember as member
 use Rattle.mini_fold.specs.MinimizeBinary as equality
 
 -- the left side goes: it is effect-free, and the right one is evaluated after it
@@ -51,6 +52,7 @@ abbrev pub written_by : Shape → Seat → Tree → Option Tree
 written_by (shape.LogicalExpression o) s t = folded s t
 written_by (shape.BinaryExpression o) s t = equality.written t
 written_by shape.ConditionalExpression s t = branch_written s t
+written_by (shape.StaticMemberExpression is_optional) s t = member.written s t
 written_by _ s t = None
 
 -- what is written for an expression

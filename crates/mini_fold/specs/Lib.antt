@@ -1,4 +1,5 @@
 pub mod MinimizeBinary
+pub mod FoldStaticMember
 pub mod FoldKnown
 pub mod Values
 pub mod FoldConstants

@@ -22,6 +22,7 @@ use Rattle.mini_kept.specs.KeepsNames.{is_rewritten_place}
 use Rattle.mini_kept.specs.KeepsShapes.{AskedAlike}
 use Rattle.mini_kept.specs.KeepsFrames.{is_in_body, is_body_slot}
 use Rattle.mini_kept.specs.Lawful.{Lawful}
+use Rattle.mini_kept.specs.Placed.{fits_place}
 use Rattle.mini_kept.proofs.Bools.{left}
 use Rattle.mini_kept.proofs.Expressions.{refused_here, expression, of_conditional, TakesExpressionIn, TakesExpression, expression_taken}
 use Rattle.mini_kept.proofs.Rows.{TakesStatementIn, TakesStatement}
@@ -37,6 +38,7 @@ use Rattle.mini_rows.proofs.ChoiceShapes.{choice_taken}
 use Rattle.mini_rows.proofs.FoldMeaning.{foldings_same}
 use Rattle.mini_rows.proofs.FoldWeights.{not_a_number}
 use Rattle.mini_rows.proofs.SpellShapes.{a_logical, a_binary, Alone, Linked, Ending, Assigned, Nowhere, Stands, stands, FitsToo, by_shape, Formed, formed_asked, formed_slot}
+use Rattle.mini_rows.proofs.TextLength.{length_kept, length_taken, length_fits, length_asked}
 
 -- ---- what is dropped leaves nothing behind
 
@@ -113,7 +115,8 @@ kept : (p : Position) (n w : Tree) → FoldingRow p n w → KeptAt p n w
 kept (Expr q) n w (inl r) = passed_kept q n w r
 kept (Expr q) n w (inr (inl r)) = stopped_kept q n w r
 kept (Expr q) n w (inr (inr (inl r))) = loosened_kept q n w r
-kept (Expr q) n w (inr (inr (inr r))) = branch_kept q n w r
+kept (Expr q) n w (inr (inr (inr (inl r)))) = branch_kept q n w r
+kept (Expr q) n w (inr (inr (inr (inr r)))) = length_kept q n w r
 kept (Stmt q) n w r = statement_kept q n w r
 kept p n w r = absurd r
 
@@ -166,13 +169,14 @@ loosened_fits n w r = by_shape n w (binary r.operator r.left r.right) (binary r.
 loosened_formed : (n w : Tree) → Row28 n w → Formed n w
 loosened_formed n w r = record { first = a_binary r.operator; second = a_binary r.loose; parts = r.left ▸ r.right ▸ none; others = r.left ▸ r.right ▸ none; read = r.shape; made = r.written; optional = λ e. e }
 
-row_fits : (p : Position) (n w : Tree) → FoldingRow p n w → (strict : Bool) (s : Slot) → fits strict s n ≡ true → fits strict s w ≡ true
-row_fits (Expr q) n w (inl r) strict s e = let (takes, first, second) = operands strict s r.operator r.left r.right (subst (λ t. fits strict s t ≡ true) r.shape e) in subst (λ t. fits strict s t ≡ true) (sym r.written) (expression_taken strict s r.right takes second)
-row_fits (Expr q) n w (inr (inr (inl r))) strict s e = loosened_fits n w r strict s e
-row_fits (Expr q) n w (inr (inr (inr r))) strict s e = let (takes, (test, branch, again)) = of_conditional strict s r.test r.branch r.branch (subst (λ t. fits strict s t ≡ true) r.shape e) in subst (λ t. fits strict s t ≡ true) (sym r.written) (expression_taken strict s r.branch takes branch)
-row_fits (Expr q) n w (inr (inl r)) strict s e = let (takes, first, second) = operands strict s r.operator r.left r.right (subst (λ t. fits strict s t ≡ true) r.shape e) in subst (λ t. fits strict s t ≡ true) (sym r.written) (expression_taken strict s r.left takes first)
-row_fits (Stmt q) n w r strict s e = subst (λ t. fits strict s t ≡ true) (sym r.written) (empty_taken strict s (statement_taken strict s r.expression (subst (λ t. fits strict s t ≡ true) r.shape e)))
-row_fits p n w r strict s e = absurd r
+row_fits : (p : Position) (n w : Tree) → FoldingRow p n w → (strict : Bool) (s : Slot) → fits_place p s ≡ true → fits strict s n ≡ true → fits strict s w ≡ true
+row_fits (Expr q) n w (inl r) strict s k e = let (takes, first, second) = operands strict s r.operator r.left r.right (subst (λ t. fits strict s t ≡ true) r.shape e) in subst (λ t. fits strict s t ≡ true) (sym r.written) (expression_taken strict s r.right takes second)
+row_fits (Expr q) n w (inr (inr (inl r))) strict s k e = loosened_fits n w r strict s e
+row_fits (Expr q) n w (inr (inr (inr (inl r)))) strict s k e = let (takes, (test, branch, again)) = of_conditional strict s r.test r.branch r.branch (subst (λ t. fits strict s t ≡ true) r.shape e) in subst (λ t. fits strict s t ≡ true) (sym r.written) (expression_taken strict s r.branch takes branch)
+row_fits (Expr q) n w (inr (inr (inr (inr r)))) strict s k e = length_fits q n w r strict s k e
+row_fits (Expr q) n w (inr (inl r)) strict s k e = let (takes, first, second) = operands strict s r.operator r.left r.right (subst (λ t. fits strict s t ≡ true) r.shape e) in subst (λ t. fits strict s t ≡ true) (sym r.written) (expression_taken strict s r.left takes first)
+row_fits (Stmt q) n w r strict s k e = subst (λ t. fits strict s t ≡ true) (sym r.written) (empty_taken strict s (statement_taken strict s r.expression (subst (λ t. fits strict s t ≡ true) r.shape e)))
+row_fits p n w r strict s k e = absurd r
 
 expression_in_body : (k : Class) → TakesExpressionIn k → is_in_body k ≡ true
 expression_in_body an_expression t = refl
@@ -198,13 +202,14 @@ statement_slot p (one k) t = statement_in_body k t
 statement_slot p (one_or_absent k) t = statement_in_body k t
 statement_slot p s t = absurd t
 
-row_slot : (p : Position) (n w : Tree) → FoldingRow p n w → (strict : Bool) (s : Slot) → fits strict s n ≡ true → is_body_slot p s ≡ true
-row_slot (Expr q) n w (inl r) strict s e = expression_slot (Expr q) s (operands strict s r.operator r.left r.right (subst (λ t. fits strict s t ≡ true) r.shape e)).0
-row_slot (Expr q) n w (inr (inr (inl r))) strict s e = formed_slot (Expr q) n w (loosened_formed n w r) strict s e
-row_slot (Expr q) n w (inr (inr (inr r))) strict s e = expression_slot (Expr q) s (of_conditional strict s r.test r.branch r.branch (subst (λ t. fits strict s t ≡ true) r.shape e)).0
-row_slot (Expr q) n w (inr (inl r)) strict s e = expression_slot (Expr q) s (operands strict s r.operator r.left r.right (subst (λ t. fits strict s t ≡ true) r.shape e)).0
-row_slot (Stmt q) n w r strict s e = statement_slot (Stmt q) s (statement_taken strict s r.expression (subst (λ t. fits strict s t ≡ true) r.shape e))
-row_slot p n w r strict s e = absurd r
+row_slot : (p : Position) (n w : Tree) → FoldingRow p n w → (strict : Bool) (s : Slot) → fits_place p s ≡ true → fits strict s n ≡ true → is_body_slot p s ≡ true
+row_slot (Expr q) n w (inl r) strict s k e = expression_slot (Expr q) s (operands strict s r.operator r.left r.right (subst (λ t. fits strict s t ≡ true) r.shape e)).0
+row_slot (Expr q) n w (inr (inr (inl r))) strict s k e = formed_slot (Expr q) n w (loosened_formed n w r) strict s e
+row_slot (Expr q) n w (inr (inr (inr (inl r)))) strict s k e = expression_slot (Expr q) s (of_conditional strict s r.test r.branch r.branch (subst (λ t. fits strict s t ≡ true) r.shape e)).0
+row_slot (Expr q) n w (inr (inr (inr (inr r)))) strict s k e = expression_slot (Expr q) s (length_taken q n w r strict s k e)
+row_slot (Expr q) n w (inr (inl r)) strict s k e = expression_slot (Expr q) s (operands strict s r.operator r.left r.right (subst (λ t. fits strict s t ≡ true) r.shape e)).0
+row_slot (Stmt q) n w r strict s k e = statement_slot (Stmt q) s (statement_taken strict s r.expression (subst (λ t. fits strict s t ≡ true) r.shape e))
+row_slot p n w r strict s k e = absurd r
 
 -- ---- what a parent asks of them
 
@@ -245,7 +250,8 @@ statement_asked q a = record {
 row_asked : (p : Position) (n w : Tree) → FoldingRow p n w → AskedAlike p n w
 row_asked (Expr q) n w (inl r) = subst (λ t. AskedAlike (Expr q) t w) (sym r.shape) (subst (AskedAlike (Expr q) (logical r.operator r.left r.right)) (sym r.written) (logical_asked q r.operator r.left r.right r.right r.stays))
 row_asked (Expr q) n w (inr (inr (inl r))) = formed_asked (Expr q) n w (loosened_formed n w r)
-row_asked (Expr q) n w (inr (inr (inr r))) = subst (λ t. AskedAlike (Expr q) t w) (sym r.shape) (subst (AskedAlike (Expr q) (conditional r.test r.branch r.branch)) (sym r.written) (conditional_asked q r.test r.branch r.stays))
+row_asked (Expr q) n w (inr (inr (inr (inl r)))) = subst (λ t. AskedAlike (Expr q) t w) (sym r.shape) (subst (AskedAlike (Expr q) (conditional r.test r.branch r.branch)) (sym r.written) (conditional_asked q r.test r.branch r.stays))
+row_asked (Expr q) n w (inr (inr (inr (inr r)))) = length_asked q n w r
 row_asked (Expr q) n w (inr (inl r)) = subst (λ t. AskedAlike (Expr q) t w) (sym r.shape) (subst (AskedAlike (Expr q) (logical r.operator r.left r.right)) (sym r.written) (logical_asked q r.operator r.left r.right r.left r.stays))
 row_asked (Stmt q) n w r = subst (λ t. AskedAlike (Stmt q) t w) (sym r.shape) (subst (AskedAlike (Stmt q) (expression_statement r.expression)) (sym r.written) (statement_asked q r.expression))
 row_asked p n w r = absurd r
@@ -253,7 +259,7 @@ row_asked p n w r = absurd r
 pub foldings_lawful : Lawful FoldingContracts
 foldings_lawful =
     kept_is_lawful FoldingContracts foldings_same
-    (record { fitting = λ p n w c strict s k e. row_fits p n w c.row strict s e; asked = λ p n w c. row_asked p n w c.row })
+    (record { fitting = λ p n w c strict s k e. row_fits p n w c.row strict s k e; asked = λ p n w c. row_asked p n w c.row })
     (λ p n w c. places p n w c.row)
-    (λ p n w c strict s k e. row_slot p n w c.row strict s e)
+    (λ p n w c strict s k e. row_slot p n w c.row strict s k e)
     (λ p n w c. kept p n w c.row)

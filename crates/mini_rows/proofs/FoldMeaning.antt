@@ -29,6 +29,7 @@ use Rattle.mini_rows.proofs.FoldBranches.{branch_same}
 use Rattle.mini_rows.proofs.FoldEqualities.{equality_same}
 use Rattle.mini_rows.proofs.SpellAlike.{SameTree}
 use Rattle.mini_rows.proofs.SpellMeaning.{tree_same, same_by}
+use Rattle.mini_rows.proofs.TextLength.{length_same, length_read}
 
 -- what a part that stays has
 
@@ -129,7 +130,8 @@ row_same : (p : Position) (n w : Tree) → FoldingRow p n w → SameAt p n w
 row_same (Expr s) n w (inl r) = passed_same s n w r
 row_same (Expr s) n w (inr (inl r)) = stopped_same s n w r
 row_same (Expr s) n w (inr (inr (inl r))) = loosened_same s n w r
-row_same (Expr s) n w (inr (inr (inr r))) = branch_here s n w r
+row_same (Expr s) n w (inr (inr (inr (inl r)))) = branch_here s n w r
+row_same (Expr s) n w (inr (inr (inr (inr r)))) = length_same s n w r
 row_same (Stmt q) n w r = subst (λ t. SameAt (Stmt q) t w) (sym r.shape) (subst (SameAt (Stmt q) (expression_statement r.expression)) (sym r.written) (nothing_same q r.expression r.effect_free))
 row_same p n w r = absurd r
 
@@ -137,7 +139,8 @@ row_read : (p : Position) (n w : Tree) → FoldingRow p n w → summary n ≡ su
 row_read (Expr s) n w (inl r) = passed_read s n w r
 row_read (Expr s) n w (inr (inl r)) = ap summary r.shape ∙ logical_read r.operator r.left r.right r.left (plain_of s r.left r.stays) ∙ sym (ap summary r.written)
 row_read (Expr s) n w (inr (inr (inl r))) = (loosened_alike n w r).read
-row_read (Expr s) n w (inr (inr (inr r))) = branch_read s n w r
+row_read (Expr s) n w (inr (inr (inr (inl r)))) = branch_read s n w r
+row_read (Expr s) n w (inr (inr (inr (inr r)))) = length_read s n w r
 row_read (Stmt q) n w r = ap summary r.shape ∙ sym (ap summary r.written)
 row_read p n w r = absurd r
 

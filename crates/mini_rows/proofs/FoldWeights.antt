@@ -29,6 +29,7 @@ use Rattle.mini_rows.specs.Spellings.{binary}
 use Rattle.mini_rows.proofs.ChoiceWeights.{name_heavy}
 use Rattle.mini_rows.proofs.FoldMeaning.{plain_of, number_of}
 use Rattle.mini_rows.proofs.SpellWeights.{falls_by}
+use Rattle.mini_rows.proofs.TextLength.{length_falls}
 
 -- a text of digits is never empty
 
@@ -231,7 +232,8 @@ pub lighter : FoldingsLighter
 lighter (Expr s) n w (inl r) = falls_by (Expr s) n w _ _ r.shape r.written (right_falls r.operator s r.left r.right r.heavy (plain_of s r.right r.stays))
 lighter (Expr s) n w (inr (inl r)) = falls_by (Expr s) n w _ _ r.shape r.written (left_falls r.operator s r.left r.right r.heavy (plain_of s r.left r.stays))
 lighter (Expr s) n w (inr (inr (inl r))) = falls_by (Expr s) n w _ _ r.shape r.written (loosened_falls r.operator r.loose r.loosens s r.left r.right)
-lighter (Expr s) n w (inr (inr (inr r))) = falls_by (Expr s) n w _ _ r.shape r.written (branch_falls s r.test r.branch r.heavy (plain_of s r.branch r.stays))
+lighter (Expr s) n w (inr (inr (inr (inl r)))) = falls_by (Expr s) n w _ _ r.shape r.written (branch_falls s r.test r.branch r.heavy (plain_of s r.branch r.stays))
+lighter (Expr s) n w (inr (inr (inr (inr r)))) = falls_by (Expr s) n w _ _ r.shape r.written (let falls = length_falls s r.units r.small in omega (arith, falls))
 lighter (Stmt q) n w r = falls_by (Stmt q) n w _ _ r.shape r.written (statement_falls q r.expression)
 lighter p n w r = absurd r
 
@@ -258,7 +260,8 @@ kept_absent : (p : Position) (n w : Tree) → FoldingRow p n w → (outline n).a
 kept_absent (Expr s) n w (inl r) = ap (λ t. (outline t).absent) r.shape ∙ sym (ap (λ t. (outline t).absent) r.written ∙ there r.right (plain_of s r.right r.stays))
 kept_absent (Expr s) n w (inr (inl r)) = ap (λ t. (outline t).absent) r.shape ∙ sym (ap (λ t. (outline t).absent) r.written ∙ there r.left (plain_of s r.left r.stays))
 kept_absent (Expr s) n w (inr (inr (inl r))) = ap (λ t. (outline t).absent) r.shape ∙ sym (ap (λ t. (outline t).absent) r.written)
-kept_absent (Expr s) n w (inr (inr (inr r))) = ap (λ t. (outline t).absent) r.shape ∙ sym (ap (λ t. (outline t).absent) r.written ∙ there r.branch (plain_of s r.branch r.stays))
+kept_absent (Expr s) n w (inr (inr (inr (inr r)))) = ap (λ t. (outline t).absent) r.shape ∙ sym (ap (λ t. (outline t).absent) r.written)
+kept_absent (Expr s) n w (inr (inr (inr (inl r)))) = ap (λ t. (outline t).absent) r.shape ∙ sym (ap (λ t. (outline t).absent) r.written ∙ there r.branch (plain_of s r.branch r.stays))
 kept_absent (Stmt q) n w r = ap (λ t. (outline t).absent) r.shape ∙ sym (ap (λ t. (outline t).absent) r.written)
 kept_absent p n w r = absurd r
 
@@ -266,7 +269,8 @@ kept_choice : (p : Position) (n w : Tree) → FoldingRow p n w → (outline n).c
 kept_choice (Expr s) n w (inl r) = ap (λ t. (outline t).chooses) r.shape ∙ sym (ap (λ t. (outline t).chooses) r.written ∙ no_choice r.right (plain_of s r.right r.stays))
 kept_choice (Expr s) n w (inr (inl r)) = ap (λ t. (outline t).chooses) r.shape ∙ sym (ap (λ t. (outline t).chooses) r.written ∙ no_choice r.left (plain_of s r.left r.stays))
 kept_choice (Expr s) n w (inr (inr (inl r))) = ap (λ t. (outline t).chooses) r.shape ∙ sym (ap (λ t. (outline t).chooses) r.written)
-kept_choice (Expr s) n w (inr (inr (inr r))) = ap (λ t. (outline t).chooses) r.shape ∙ sym (ap (λ t. (outline t).chooses) r.written ∙ no_choice r.branch (plain_of s r.branch r.stays))
+kept_choice (Expr s) n w (inr (inr (inr (inr r)))) = ap (λ t. (outline t).chooses) r.shape ∙ sym (ap (λ t. (outline t).chooses) r.written)
+kept_choice (Expr s) n w (inr (inr (inr (inl r)))) = ap (λ t. (outline t).chooses) r.shape ∙ sym (ap (λ t. (outline t).chooses) r.written ∙ no_choice r.branch (plain_of s r.branch r.stays))
 kept_choice (Stmt q) n w r = ap (λ t. (outline t).chooses) r.shape ∙ sym (ap (λ t. (outline t).chooses) r.written)
 kept_choice p n w r = absurd r
 
@@ -276,7 +280,8 @@ zero_by p n w a b e f h = subst (λ t. ZeroOr p t w) (sym e) (subst (ZeroOr p a)
 kept_zero : (p : Position) (n w : Tree) → FoldingRow p n w → ZeroOr p n w
 kept_zero (Expr s) n w (inl r) = zero_by (Expr s) n w _ _ r.shape r.written (right_zero r.operator s r.left r.right r.heavy)
 kept_zero (Expr s) n w (inr (inl r)) = zero_by (Expr s) n w _ _ r.shape r.written (left_zero r.operator s r.left r.right r.heavy)
-kept_zero (Expr s) n w (inr (inr (inr r))) = zero_by (Expr s) n w _ _ r.shape r.written (branch_zero s r.test r.branch r.heavy)
+kept_zero (Expr s) n w (inr (inr (inr (inl r)))) = zero_by (Expr s) n w _ _ r.shape r.written (branch_zero s r.test r.branch r.heavy)
+kept_zero (Expr s) n w (inr (inr (inr (inr r)))) = zero_by (Expr s) n w _ _ r.shape r.written (inr (length_falls s r.units r.small))
 kept_zero (Expr s) n w (inr (inr (inl r))) = inl (ap (λ t. (outline t).is_zero) r.shape ∙ sym (ap (λ t. (outline t).is_zero) r.written))
 kept_zero (Stmt q) n w r = inl (ap (λ t. (outline t).is_zero) r.shape ∙ sym (ap (λ t. (outline t).is_zero) r.written))
 kept_zero p n w r = absurd r

@@ -2,6 +2,7 @@ pub mod SpellAlike
 pub mod SpellSymmetry
 pub mod TemplateTexts
 pub mod TypeofMeaning
+pub mod TextLength
 pub mod SpellMeaning
 pub mod SpellWeights
 pub mod SpellShapes

@@ -1,6 +1,6 @@
 -- Rows on what is known of an expression from its text, as equations: each is a shape and what is written in its place, with the
 -- JavaScript before and after. No order of rewriting is meant.
-use Rattle.std.specs.Prelude.{◌≡◌, ℕ, ◌<◌, ◌⊎◌, ◌&&◌, ◌||◌, Bool, true, false, List, [], ◌∷◌, codes, Option, Some, None}
+use Rattle.std.specs.Prelude.{◌≡◌, ℕ, pos, ◌<◌, ◌≤◌, ◌⊎◌, ◌&&◌, ◌||◌, Bool, true, false, List, [], ◌∷◌, length, codes, Option, Some, None}
 use Rattle.mini_model.specs.declared.name.Name.{Name}
 use Rattle.mini_model.specs.declared.operator.AssignmentOperator.{AssignmentOperator}
 use Rattle.mini_model.specs.declared.operator.AssignmentOperator.TheVariants.{Assign}
@@ -13,13 +13,16 @@ use Rattle.mini_model.specs.declared.operator.LogicalOperator.{LogicalOperator}
 use Rattle.mini_model.specs.declared.place.Position.{Position}
 use Rattle.mini_model.specs.declared.place.Position.TheVariants.{Expr, Stmt}
 use Rattle.mini_model.specs.declared.seat.Seat.{Seat}
+use Rattle.mini_model.specs.Numerals.{max_safe_integer}
 use Rattle.mini_model.specs.Tree.{Tree, shape_of, logical, conditional, expression_statement, empty_statement}
 use Rattle.mini_model.specs.Weight.{same_text, weight}
 use Rattle.mini_node.specs.Children.{names_of, part}
 use Rattle.mini_node.specs.Kinds.{assignment_operator, is_identifier, is_static_member, is_computed_member}
 use Rattle.mini_terms.specs.Folds.{is_effect_free, has_one_kind, goes_on, stops}
-use Rattle.mini_terms.specs.Parts.{suits, leaves_nothing, weighs}
-use Rattle.mini_rows.specs.Spellings.{binary}
+use Rattle.mini_kept.specs.Placed.{is_chain_seat}
+use Rattle.mini_terms.specs.Parts.{takes_numbers, suits, leaves_nothing, weighs}
+use Rattle.mini_terms.specs.Reading.{is_unguarded}
+use Rattle.mini_rows.specs.Spellings.{binary, static_member, text, key, numeral}
 
 -- 13, and 15 of `??`: where the left side is effect-free and known to let the right one be evaluated, `!0 && b`, `0 || b` and
 -- `null ?? b` become `b`
@@ -104,6 +107,17 @@ pub record Row49Idle (s : Seat) (n w : Tree) : Type 0 where
   pub shape : n ≡ conditional test branch branch
   pub written : w ≡ branch
 
+-- 9: `"abc".length` becomes `3`: how many UTF-16 units a text has (ECMA-262, "String Exotic Objects"). Where a reference is asked, as of
+-- what `delete` deletes, the member stays, and so it does under a `-`, which would be one with the number. What a chain holds is no number
+pub record Row9 (s : Seat) (n w : Tree) : Type 0 where
+  pub units : List ℕ
+  pub unguarded : is_unguarded s.guard ≡ true
+  pub unsigned : takes_numbers s ≡ true
+  pub unchained : is_chain_seat s ≡ false
+  pub small : length units ≤ max_safe_integer
+  pub shape : n ≡ static_member false (text units) (key (codes "length"))
+  pub written : w ≡ numeral (pos (length units))
+
 -- 22: an effect-free expression statement becomes empty, `void 0;` becomes `;`
 pub record Row22 (n w : Tree) : Type 0 where
   pub expression : Tree
@@ -114,7 +128,7 @@ pub record Row22 (n w : Tree) : Type 0 where
 
 -- a row on what is known reads n as w at this place
 abbrev pub FoldingRow : Position → Tree → Tree → Type 0
-FoldingRow (Expr s) n w = Row13 s n w ⊎ (Row12 s n w ⊎ (Row28 n w ⊎ Row49Idle s n w))
+FoldingRow (Expr s) n w = Row13 s n w ⊎ (Row12 s n w ⊎ (Row28 n w ⊎ (Row49Idle s n w ⊎ Row9 s n w)))
 FoldingRow (Stmt q) n w = Row22 n w
 FoldingRow _ n w = ⊥
 

@@ -1,6 +1,6 @@
-//! Rows 12, 13, 15, 22 and 28, and 49 of an effect-free test: what is known of a part from its text goes. `!0 && b` becomes `b`,
-//! `0 && b` becomes `0`, `!a ? b : b` becomes `b`, the statement `void 0;` becomes `;`, and `typeof a === "string"` becomes
-//! `typeof a == "string"`. What is written is lighter in every place.
+//! Rows 9, 12, 13, 15, 22 and 28, and 49 of an effect-free test: what is known of a part from its text goes. `!0 && b` becomes `b`,
+//! `0 && b` becomes `0`, `!a ? b : b` becomes `b`, `"abc".length` becomes `3`, the statement `void 0;` becomes `;`, and
+//! `typeof a === "string"` becomes `typeof a == "string"`. What is written is lighter in every place.
 
 ghost use Rattle.std.specs.Prelude.{◌≡◌, is_some, unwrap_or, OnOk, IfOk};
 ghost use Rattle.mini_tree.specs.Rule.{Applied};
@@ -9,6 +9,7 @@ ghost use Rattle.mini_fold.specs.Lighter.{folds_lighter};
 ghost use Rattle.mini_fold.specs.FoldKnown.{is_passed as passes_left, is_stopped as stops_right, is_idle_test as has_idle_test, chooses_nothing as chooses_it_nothing, branch_written, written, folded, does_nothing as does_it_nothing, statement_written, Gives, Rests};
 
 use crate::exports::names_exports;
+use crate::rewrites::fold_static_member::fold_static_member;
 use crate::rewrites::minimize_binary::minimize_binary;
 use mini_model::{LogicalOperator, OutOfMemory, Position, Seat, Shape};
 use mini_node::{
@@ -99,7 +100,7 @@ pub fn fold_conditional(alloc: Global, node: &mut Node, seat: Seat) -> bool
     true
 }
 
-/// What is known of a logical expression, of the sides of an equality or of a conditional is folded. The answer says whether
+/// What is known of a logical expression, of the sides of an equality, of a conditional or of a text's length is folded. The answer says whether
 /// something was.
 pub fn fold_expression(alloc: Global, node: &mut Node, seat: Seat) -> bool
     ensures tree { node.new ≡ unwrap_or (written seat node.old) node.old }
@@ -109,6 +110,7 @@ pub fn fold_expression(alloc: Global, node: &mut Node, seat: Seat) -> bool
         Shape::LogicalExpression(_) => fold_logical_expression(alloc, node, seat),
         Shape::BinaryExpression(_) => minimize_binary(alloc, node),
         Shape::ConditionalExpression => fold_conditional(alloc, node, seat),
+        Shape::StaticMemberExpression(_) => fold_static_member(alloc, node, seat),
         _ => false,
     }
 }
@@ -131,7 +133,7 @@ pub fn remove_unused_expression(alloc: Global, node: &mut Node) -> bool
     true
 }
 
-/// Rows 12, 13, 15, 22 and 28, and 49 of an effect-free test, as a rule: of each expression and each statement.
+/// Rows 9, 12, 13, 15, 22 and 28, and 49 of an effect-free test, as a rule: of each expression and each statement.
 pub struct FoldKnown;
 
 impl<C: Context> Rule<C> for FoldKnown {

@@ -1,0 +1,95 @@
+//! Row 9: the length of a text that is written out becomes its number. `"abc".length` becomes `3`; of any other value the member
+//! stays, and so it does where a reference is asked, as of `delete "abc".length`. What is written is lighter in every place.
+
+ghost use Rattle.std.specs.Prelude.{◌≡◌, is_some, unwrap_or, true};
+ghost use Rattle.mini_model.specs.Tree.{shape_of, children, count};
+ghost use Rattle.mini_kept.specs.Placed.{is_chain_seat as is_it_chain_seat};
+ghost use Rattle.mini_terms.specs.Parts as part;
+ghost use Rattle.mini_terms.specs.Reading as term;
+ghost use Rattle.mini_node.specs.Kinds as kind;
+ghost use Rattle.mini_fold.specs.FoldStaticMember.{names_length as names_it_length, is_length_key as is_it_length_key, takes_length as may_take_length, asks_length as asks_it_length, count_of as its_count, written};
+
+use mini_model::{Guard, Seat, Shape};
+use mini_node::{Node, is_static_member, numeric_literal, string};
+use std::alloc::Global;
+
+// The units of `length`.
+const LENGTH: [u16; 6] = [108, 101, 110, 103, 116, 104];
+
+// The greatest safe number (ECMA-262, Number.MAX_SAFE_INTEGER).
+const MAX_SAFE: usize = 9_007_199_254_740_991;
+
+fn names_length(shape: &Shape) -> bool
+    ensures { result ≡ names_it_length shape.now }
+{
+    match shape {
+        Shape::IdentifierName(text) => text.as_slice() == LENGTH.as_slice(),
+        _ => false,
+    }
+}
+
+fn is_length_key(node: &Node) -> bool
+    ensures { result ≡ is_it_length_key node.now }
+{
+    node.is_bare(0) && names_length(node.shape())
+}
+
+// Whether no reference is asked.
+fn is_unguarded(guard: Guard) -> bool
+    ensures { result ≡ term.is_unguarded guard }
+{
+    matches!(guard, Guard::None)
+}
+
+// Whether no `-` stands before it, or only the truth is asked.
+fn takes_numbers(seat: Seat) -> bool
+    ensures { result ≡ part.takes_numbers seat }
+{
+    seat.boolean || !seat.minus
+}
+
+// Whether what a chain holds may stand there.
+fn is_chain_seat(seat: Seat) -> bool
+    ensures { result ≡ is_it_chain_seat seat }
+{
+    seat.level == 16 && !seat.access && !seat.boolean && !seat.unused
+}
+
+fn takes_length(seat: Seat) -> bool
+    ensures { result ≡ may_take_length seat }
+{
+    is_unguarded(seat.guard) && takes_numbers(seat) && !is_chain_seat(seat)
+}
+
+// `a.length`, where a number may stand.
+fn asks_length(node: &Node, seat: Seat) -> bool
+    ensures kind { result ≡ asks_it_length seat node.now }
+    ensures parts { result ≡ true → count (children node.now) ≡ 2 }
+{
+    is_static_member(node) && is_length_key(node.child(1)) && takes_length(seat)
+}
+
+// The number of units of a text that is written out.
+fn count_of(alloc: Global, node: &Node) -> Option<Node>
+    ensures { result ≡ its_count (kind.string node.now) }
+{
+    match string(node) {
+        Some(text) if text.len() <= MAX_SAFE => Some(numeric_literal(alloc, text.len() as i64)),
+        _ => None,
+    }
+}
+
+/// The length of a text that is written out becomes its number: `"abc".length` becomes `3`. The answer says whether it did.
+pub fn fold_static_member(alloc: Global, node: &mut Node, seat: Seat) -> bool
+    ensures tree { node.new ≡ unwrap_or (written seat node.old) node.old }
+    ensures said { result ≡ is_some (written seat node.old) }
+{
+    if !asks_length(node, seat) {
+        return false;
+    }
+    let Some(number) = count_of(alloc, node.child(0)) else {
+        return false;
+    };
+    *node = number;
+    true
+}
