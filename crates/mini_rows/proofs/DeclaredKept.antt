@@ -69,94 +69,94 @@ none_there : {X : Type 0} (xs : List X) (y : X) → Contains [] y → Contains x
 none_there xs y (i, below, at) = absurd (omega (arith, below))
 
 -- none of two lists mentions it
-none_in : (x : Name) (first last : Trees) → any_names x first ≡ false → any_names x last ≡ false → any_names x (append first last) ≡ false
+pub none_in : (x : Name) (first last : Trees) → any_names x first ≡ false → any_names x last ≡ false → any_names x (append first last) ≡ false
 none_in x none last f g = g
 none_in x (t ▸ first) last f g = let (a, b) = or_parts (names x t) (any_names x first) f in ap (λ c. c || any_names x (append first last)) a ∙ none_in x first last b g
 
 -- ---- what is left of a declaration over its list: `;` where no declarator is
 
 module _ (K : VariableDeclarationKind) where
-  abbrev made : Trees → Tree
+  abbrev pub made : Trees → Tree
   made ts = over K (listed ts)
 
-  scoped_left : (env : Environment) (ts : Trees) → Scoped (used Read K) env (listed ts) → Scoped Read env (declared_left K ts)
+  pub scoped_left : (env : Environment) (ts : Trees) → Scoped (used Read K) env (listed ts) → Scoped Read env (declared_left K ts)
   unfolding Scoped scopes_by
   scoped_left env none q = (tt, tt)
   scoped_left env (t ▸ ts) q = scoped_up K env (listed (t ▸ ts)) q
 
-  symbols_down : (y : Option SymbolId) (ts : Trees) → times y (declared_in (used Read K) (listed ts)) ≤ times y (declared_in Read (made ts))
+  pub symbols_down : (y : Option SymbolId) (ts : Trees) → times y (declared_in (used Read K) (listed ts)) ≤ times y (declared_in Read (made ts))
   symbols_down y ts = omega (arith, symbols_are Read K y (listed ts))
 
-  symbols_left : (y : Option SymbolId) (ts : Trees) → times y (declared_in Read (declared_left K ts)) ≤ times y (declared_in (used Read K) (listed ts))
+  pub symbols_left : (y : Option SymbolId) (ts : Trees) → times y (declared_in Read (declared_left K ts)) ≤ times y (declared_in (used Read K) (listed ts))
   unfolding declared_in scopes_by
   symbols_left y none = omega arith
   symbols_left y (t ▸ ts) = let same = symbols_are Read K y (listed (t ▸ ts)) in let no_scope = ap (λ b. times y (symbols_in (scope_if b (listed (t ▸ ts))))) (read_opens K) in omega (arith, same, no_scope)
 
-  numbers_left : (n : ℕ) (ts : Trees) → count_of n (numbers (declared_left K ts)) ≤ count_of n (numbers (listed ts))
+  pub numbers_left : (n : ℕ) (ts : Trees) → count_of n (numbers (declared_left K ts)) ≤ count_of n (numbers (listed ts))
   unfolding numbers
   numbers_left n none = omega arith
   numbers_left n (t ▸ ts) = let same = ap (count_of n) (numbers_are K (listed (t ▸ ts))) in omega (arith, same)
 
-  inner_down : (b : Bool) (ts : Trees) → InnerIf b AsWholeItem (made ts) → InnerIf b AsWholeList (listed ts)
+  pub inner_down : (b : Bool) (ts : Trees) → InnerIf b AsWholeItem (made ts) → InnerIf b AsWholeList (listed ts)
   inner_down b ts q = sym (ap (λ c. c || b) (inner_is K (listed ts))) ∙ q
 
-  inner_left : (b : Bool) (ts : Trees) → InnerIf b AsWholeList (listed ts) → InnerIf b AsWholeItem (declared_left K ts)
+  pub inner_left : (b : Bool) (ts : Trees) → InnerIf b AsWholeList (listed ts) → InnerIf b AsWholeItem (declared_left K ts)
   unfolding has_inner
   inner_left b none q = refl
   inner_left b (t ▸ ts) q = ap (λ c. c || b) (inner_is K (listed (t ▸ ts))) ∙ q
 
-  inner_list : (b : Bool) (ts : Trees) → InnerIf b AsWholeItem (declared_left K ts) → InnerIf b AsWholeList (listed ts)
+  pub inner_list : (b : Bool) (ts : Trees) → InnerIf b AsWholeItem (declared_left K ts) → InnerIf b AsWholeList (listed ts)
   unfolding has_inner
   inner_list b none q = refl
   inner_list b (t ▸ ts) q = inner_down b (t ▸ ts) q
 
-  inner_up : (b : Bool) (ts : Trees) → InnerIf b AsWholeList (listed ts) → InnerIf b AsWholeItem (made ts)
+  pub inner_up : (b : Bool) (ts : Trees) → InnerIf b AsWholeList (listed ts) → InnerIf b AsWholeItem (made ts)
   inner_up b ts q = ap (λ c. c || b) (inner_is K (listed ts)) ∙ q
 
-  once_down : (ts : Trees) → Once AsWholeItem (made ts) → Once AsWholeList (listed ts)
+  pub once_down : (ts : Trees) → Once AsWholeItem (made ts) → Once AsWholeList (listed ts)
   once_down ts q = once_anywhere (0 ∷ []) [] (listed ts) (sym (once_is K (listed ts)) ∙ q)
 
-  once_left : (ts : Trees) → Once AsWholeList (listed ts) → Once AsWholeItem (declared_left K ts)
+  pub once_left : (ts : Trees) → Once AsWholeList (listed ts) → Once AsWholeItem (declared_left K ts)
   unfolding early_names scope_declarations
   once_left none q = refl
   once_left (t ▸ ts) q = once_is K (listed (t ▸ ts)) ∙ once_anywhere [] (0 ∷ []) (listed (t ▸ ts)) q
 
-  targets_down : (g : Targets) (ts : Trees) → Aimed g AsWholeItem (made ts) → Aimed g AsWholeList (listed ts)
+  pub targets_down : (g : Targets) (ts : Trees) → Aimed g AsWholeItem (made ts) → Aimed g AsWholeList (listed ts)
   targets_down g ts q = targets_anywhere g (0 ∷ []) [] (listed ts) (sym (jumps_are K g (listed ts)) ∙ q)
 
-  targets_left : (g : Targets) (ts : Trees) → Aimed g AsWholeList (listed ts) → Aimed g AsWholeItem (declared_left K ts)
+  pub targets_left : (g : Targets) (ts : Trees) → Aimed g AsWholeList (listed ts) → Aimed g AsWholeItem (declared_left K ts)
   unfolding early_jumps targets_of
   targets_left g none q = refl
   targets_left g (t ▸ ts) q = jumps_are K g (listed (t ▸ ts)) ∙ targets_anywhere g [] (0 ∷ []) (listed (t ▸ ts)) q
 
-  frames_left : (all : List Frame) (ts : Trees) → HasFrames all AsWholeList (listed ts) → HasFrames all AsWholeItem (declared_left K ts)
+  pub frames_left : (all : List Frame) (ts : Trees) → HasFrames all AsWholeList (listed ts) → HasFrames all AsWholeItem (declared_left K ts)
   frames_left all none q = none_there all
   frames_left all (t ▸ ts) q = subst (FramesKept all) (sym (frames_are K (listed (t ▸ ts)))) q
 
-  bodies_left : (all : List Body) (a : Around) (ts : Trees) → HasBodies all a AsWholeList (listed ts) → HasBodies all a AsWholeItem (declared_left K ts)
+  pub bodies_left : (all : List Body) (a : Around) (ts : Trees) → HasBodies all a AsWholeList (listed ts) → HasBodies all a AsWholeItem (declared_left K ts)
   bodies_left all a none q = tt
   bodies_left all a (t ▸ ts) q = subst (BodiesKept all) (sym (bodies_are K a (listed (t ▸ ts)))) q
 
-  declares_left : (all : List Name) (ts : Trees) → Declares all AsWholeList (listed ts) → Declares all AsWholeItem (declared_left K ts)
+  pub declares_left : (all : List Name) (ts : Trees) → Declares all AsWholeList (listed ts) → Declares all AsWholeItem (declared_left K ts)
   declares_left all none q = none_there all
   declares_left all (t ▸ ts) q = subst (Among all) (sym (declared_are K (listed (t ▸ ts)))) q
 
-  fixed_left : (y : Variable) (j : ℕ) (ts : Trees) → rank (own_fixed j K y ts) ≤ j → FixedBy y j AsWholeList (listed ts) → FixedBy y j AsWholeItem (declared_left K ts)
+  pub fixed_left : (y : Variable) (j : ℕ) (ts : Trees) → rank (own_fixed j K y ts) ≤ j → FixedBy y j AsWholeList (listed ts) → FixedBy y j AsWholeItem (declared_left K ts)
   fixed_left y j none p q = omega arith
   fixed_left y j (t ▸ ts) p q = fixed_up j K y (t ▸ ts) p q
 
-  fixed_list : (y : Variable) (j : ℕ) (ts : Trees) → FixedBy y j AsWholeItem (declared_left K ts) → (rank (own_fixed j K y ts) ≤ j) × FixedBy y j AsWholeList (listed ts)
+  pub fixed_list : (y : Variable) (j : ℕ) (ts : Trees) → FixedBy y j AsWholeItem (declared_left K ts) → (rank (own_fixed j K y ts) ≤ j) × FixedBy y j AsWholeList (listed ts)
   fixed_list y j none p = (omega arith, omega arith)
   fixed_list y j (t ▸ ts) p = fixed_down j K y (t ▸ ts) p
 
-  unmentioned_left : (x : Name) (k : ℕ) → x.symbol ≡ symbol k → (ts : Trees) → any_names x ts ≡ false → Unmentioned (record { name = x; hoists = false }) (declared_left K ts)
+  pub unmentioned_left : (x : Name) (k : ℕ) → x.symbol ≡ symbol k → (ts : Trees) → any_names x ts ≡ false → Unmentioned (record { name = x; hoists = false }) (declared_left K ts)
   unfolding Unmentioned
   unmentioned_left x k e none f = (tt, tt)
   unmentioned_left x k e (t ▸ ts) f = (tt, ((tt, all_unmentioned x k e (t ▸ ts) f), tt))
 
   -- names: in a block, of a lexical declaration, and in a function's body
 
-  lexical_names : is_lexical K ≡ true → (ts : Trees) → names_of declared.Lexical (made ts) ≡ all_names declared.Bound ts
+  pub lexical_names : is_lexical K ≡ true → (ts : Trees) → names_of declared.Lexical (made ts) ≡ all_names declared.Bound ts
   lexical_names l ts = names_are declared.Lexical K ts ∙ by K l (all_names declared.Bound ts)
     where
       by : (k : VariableDeclarationKind) → is_lexical k ≡ true → (xs : List Name) → names_if (declares_as declared.Lexical k) xs ≡ xs
@@ -164,12 +164,12 @@ module _ (K : VariableDeclarationKind) where
       by Const e xs = refl
       by Var e xs = absurd (true≢false (sym e))
 
-  lexical_names_left : is_lexical K ≡ true → (ts : Trees) → names_of declared.Lexical (declared_left K ts) ≡ all_names declared.Bound ts
+  pub lexical_names_left : is_lexical K ≡ true → (ts : Trees) → names_of declared.Lexical (declared_left K ts) ≡ all_names declared.Bound ts
   unfolding names_of
   lexical_names_left l none = refl
   lexical_names_left l (t ▸ ts) = lexical_names l (t ▸ ts)
 
-  hoists_nothing : is_lexical K ≡ true → (ts : Trees) → names_of declared.Hoisted (made ts) ≡ []
+  pub hoists_nothing : is_lexical K ≡ true → (ts : Trees) → names_of declared.Hoisted (made ts) ≡ []
   hoists_nothing l ts = names_are declared.Hoisted K ts ∙ by K l (all_names declared.Bound ts)
     where
       by : (k : VariableDeclarationKind) → is_lexical k ≡ true → (xs : List Name) → names_if (declares_as declared.Hoisted k) xs ≡ []
@@ -177,7 +177,7 @@ module _ (K : VariableDeclarationKind) where
       by Const e xs = refl
       by Var e xs = absurd (true≢false (sym e))
 
-  hoists_nothing_left : is_lexical K ≡ true → (ts : Trees) → names_of declared.Hoisted (declared_left K ts) ≡ []
+  pub hoists_nothing_left : is_lexical K ≡ true → (ts : Trees) → names_of declared.Hoisted (declared_left K ts) ≡ []
   unfolding names_of
   hoists_nothing_left l none = refl
   hoists_nothing_left l (t ▸ ts) = hoists_nothing l (t ▸ ts)
@@ -191,13 +191,13 @@ module _ (K : VariableDeclarationKind) where
   left_declares false none = refl
   left_declares o (t ▸ ts) = declarations_are o K (t ▸ ts)
 
-  body_names_left : (ts : Trees) → body_names (declared_left K ts) ≡ all_names declared.Bound ts
+  pub body_names_left : (ts : Trees) → body_names (declared_left K ts) ≡ all_names declared.Bound ts
   unfolding body_names names_of
   body_names_left none = refl
   body_names_left (t ▸ ts) = body_are K (t ▸ ts)
 
   -- one name less clashes no more
-  clash_less : (o : Bool) (x : Name) (first last : Trees) (init : Tree) → NoMoreClash (as_body o (declared_left K (append first last))) (as_body o (made (append first (declarator (binding x) init ▸ last))))
+  pub clash_less : (o : Bool) (x : Name) (first last : Trees) (init : Tree) → NoMoreClash (as_body o (declared_left K (append first last))) (as_body o (made (append first (declarator (binding x) init ▸ last))))
   unfolding names_of
   clash_less o x first last init =
       let f = all_names declared.Bound first in

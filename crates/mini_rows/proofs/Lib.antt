@@ -158,6 +158,8 @@ pub mod TemplateWeights
 mod TemplatePieces
 pub mod TemplateLawful
 pub mod NameWeights
+pub mod NextKept
+pub mod NextMeaning
 pub mod NameLawful
 pub mod CatchWeights
 pub mod CatchLawful

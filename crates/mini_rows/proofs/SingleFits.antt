@@ -9,8 +9,8 @@ use Rattle.mini_accept.specs.WellShaped.{nested, a_statement, an_expression, Slo
 use Rattle.mini_kept.proofs.Bools.{both}
 use Rattle.mini_kept.proofs.Expressions.{refused_here}
 use Rattle.mini_rows.specs.Sketches.{shape_by, Asked, AsWholeItem, AsValue, AsValues, asked_below}
-use Rattle.mini_rows.specs.Unused.{put_first, reads_first}
-use Rattle.mini_rows.proofs.SingleUse.{Lead, Not, Beside, Deciding, Choosing, Passing, Called, Member, Keyed, Listing, Doing, Giving, Raising, Testing, head_of, Step, led, is_end, Stands, Well, statement}
+use Rattle.mini_rows.specs.Unused.{is_first, put_first, reads_first}
+use Rattle.mini_rows.proofs.SingleUse.{Lead, Not, Beside, Deciding, Choosing, Passing, Called, Member, Keyed, Listing, Doing, Giving, Raising, Testing, head_of, Step, led, is_end, Stands, Well, path, statement}
 
 first_of : (a b c : Bool) → (a ≡ true → b ≡ true) → a && c ≡ true → b && c ≡ true
 first_of true b c f e = ap (λ d. d && c) (f refl) ∙ e
@@ -118,3 +118,10 @@ put_fits strict x head e r f g =
     let inner = λ (h : fits strict (one an_expression) t.inner ≡ true). ap (fits strict (one an_expression)) (p.puts r) ∙ put_value strict AsValue p.steps p.well (λ e. cc e) (identifier p.read) r f (sym (ap (fits strict (one an_expression)) p.is) ∙ h) in
     let inner_there = λ (h : fits strict (one_or_absent an_expression) t.inner ≡ true). or_absent strict (put_first r t.inner) (inner (ap (fits strict (one an_expression)) p.is ∙ there strict p.steps p.well p.read (sym (ap (fits strict (one_or_absent an_expression)) p.is) ∙ h))) in
     ap (λ u. fits strict (one (a_statement nested)) (put_first r u)) t.is ∙ stated t.lead (t.stands true) strict t.inner (put_first r t.inner) t.rest inner inner_there (sym (ap (fits strict (one (a_statement nested))) t.is) ∙ g)
+
+-- as what a declarator is initialised with
+pub put_initial : (strict : Bool) (x : Name) (value : Tree) → is_first x false value ≡ true → (r : Tree) → fits strict (one an_expression) r ≡ true → fits strict (one_or_absent an_expression) value ≡ true → fits strict (one_or_absent an_expression) (put_first r value) ≡ true
+put_initial strict x value e r f g =
+    let p = path x false value e in
+    let value_there = there strict p.steps p.well p.read (sym (ap (fits strict (one_or_absent an_expression)) p.is) ∙ g) in
+    or_absent strict (put_first r value) (ap (fits strict (one an_expression)) (p.puts r) ∙ put_value strict AsValue p.steps p.well (λ e. cc e) (identifier p.read) r f value_there)

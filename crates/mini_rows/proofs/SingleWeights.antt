@@ -6,23 +6,24 @@ use Rattle.mini_model.specs.declared.kind.VariableDeclarationKind.TheVariants.{V
 use Rattle.mini_model.specs.declared.name.Name.{Name}
 use Rattle.mini_model.specs.declared.name.SymbolId.{SymbolId}
 use Rattle.mini_model.specs.declared.place.Position.{Position}
-use Rattle.mini_model.specs.declared.place.Position.TheVariants.{Expr, Stmt, SequenceList}
+use Rattle.mini_model.specs.declared.place.Position.TheVariants.{Expr, Stmt, SequenceList, Elsewhere}
 use Rattle.mini_model.specs.declared.seat.Seat.{Seat}
 use Rattle.mini_model.specs.declared.seat.StmtSeat.{StmtSeat}
 use Rattle.mini_model.specs.declared.seat.StmtSeat.TheVariants as stmt_seat
-use Rattle.mini_model.specs.Tree.{Tree, Trees, none, ◌▸◌, count, identifier}
+use Rattle.mini_model.specs.declared.shape.Shape.TheVariants as shape
+use Rattle.mini_model.specs.Tree.{Tree, Trees, node, none, ◌▸◌, count, identifier}
 use Rattle.mini_model.specs.Paths.{append}
 use Rattle.mini_model.specs.Position.{argument_seat, child_position}
-use Rattle.mini_model.specs.Weight.{Outline, commas_weight, outline, outlines, one_chooses, braces_weight, own_weight, spelled_weight, weight}
+use Rattle.mini_model.specs.Weight.{Outline, plain_outline, commas_weight, outline, outlines, one_chooses, braces_weight, own_weight, spelled_weight, weight}
 use Rattle.mini_laws.specs.Symbols.{is_same}
 use Rattle.mini_terms.specs.Reading.{is_plain_part}
 use Rattle.mini_rows.specs.Declarations.{binding, declarator}
-use Rattle.mini_rows.specs.Lists.{block}
+use Rattle.mini_rows.specs.Lists.{block, declaration}
 use Rattle.mini_rows.specs.Sketches.{shape_by, Asked, AsWholeItem, AsValue, AsValues, asked_below}
-use Rattle.mini_rows.specs.Unused.{resolved, declared_among, declared_left, put_first, reads_first}
+use Rattle.mini_rows.specs.Unused.{resolved, declared_among, declared_left, is_first, put_first, reads_first}
 use Rattle.mini_rows.proofs.BooleanWeights.{moved}
 use Rattle.mini_rows.proofs.ListWeights.{total, in_list, comma_list, declarators_append}
-use Rattle.mini_rows.proofs.SingleUse.{Lead, Not, Beside, Deciding, Choosing, Passing, Called, Member, Keyed, Listing, Doing, Giving, Raising, Testing, head_of, Step, led, is_end, Stands, Well, statement}
+use Rattle.mini_rows.proofs.SingleUse.{Lead, Not, Beside, Deciding, Choosing, Passing, Called, Member, Keyed, Listing, Doing, Giving, Raising, Testing, head_of, Step, led, is_end, Stands, Well, path, statement}
 
 -- ---- where the steps stand
 
@@ -151,3 +152,54 @@ single_falls q before K first s k init head after f e =
     let falls = in_list before (d ▸ (head ▸ none)) (left ▸ (put_first init head ▸ none)) after 1 less in
     let braces = ap (braces_weight q) (no_choice before after d head left (put_first init head)) in
     omega (arith, falls, braces)
+
+-- ---- where the next declarator reads it
+
+led_stands : (ss : List Step) (t : Tree) → (outline t).absent ≡ false → (outline (led ss t)).absent ≡ false
+led_stands [] t e = e
+led_stands (s ∷ ss) t e = by s.lead
+  where
+    by : (l : Lead) → (outline (node (shape_by (head_of l)) [] 0 (led ss t ▸ s.rest))).absent ≡ false
+    by Listing = refl
+    by l = refl
+
+plain_stands : (t : Tree) → is_plain_part t ≡ true → (outline t).absent ≡ false
+plain_stands (node shape.Absent xs n ts) e = absurd (true≢false (sym e))
+plain_stands (node shape.Listed xs n ts) e = refl
+plain_stands (node shape.IfStatement xs n ts) e = refl
+plain_stands (node (shape.NumericLiteral m) xs n ts) e = refl
+plain_stands (node h xs n ts) e = refl
+
+-- the declarator with the initializer in it
+declarator_falls : (s : List ℕ) (k : ℕ) (y : Name) (value : Tree) → is_first (resolved s k) false value ≡ true → (r : Tree) → is_plain_part r ≡ true → weight Elsewhere (declarator (binding y) (put_first r value)) ≤ weight Elsewhere (declarator (binding y) value) + (weight (Expr argument_seat) r + 3)
+declarator_falls s k y value e r f =
+    let p = path (resolved s k) false value e in
+    let falls = led_falls AsValue p.steps p.well (Expr argument_seat) tt r f p.read (some_symbol k p.read.symbol p.same) in
+    let stands = ap (λ t. (outline t).absent) p.is ∙ led_stands p.steps (identifier p.read) refl in
+    let put_stands = ap (λ t. (outline t).absent) (p.puts r) ∙ led_stands p.steps r (plain_stands r f) in
+    let own = λ (t : Tree) (h : (outline t).absent ≡ false). ap (λ b. own_weight Elsewhere shape.VariableDeclarator [] (plain_outline ∷ (record (outline t) { absent = b } ∷ []))) h in
+    omega (arith, falls, own value stands, own (put_first r value) put_stands, ap (weight (Expr argument_seat)) p.is, ap (weight (Expr argument_seat)) (p.puts r))
+
+-- a comma less
+commas_less : (first : Trees) (d e f : Tree) (last : Trees) → commas_weight (outlines (append first (d ▸ (e ▸ last)))) ≡ commas_weight (outlines (append first (f ▸ last))) + 2
+commas_less none d e f none = refl
+commas_less none d e f (t ▸ last) = omega arith
+commas_less (t ▸ none) d e f none = refl
+commas_less (t ▸ none) d e f (u ▸ last) = omega arith
+commas_less (t ▸ (c ▸ first)) d e f last = let rest = commas_less (c ▸ first) d e f last in omega (arith, rest)
+
+pub next_falls : (K : VariableDeclarationKind) (s : List ℕ) (k : ℕ) (first : Trees) (init : Tree) (y : Name) (value : Tree) (last : Trees) → is_plain_part init ≡ true → is_first (resolved s k) false value ≡ true → total (declaration K (append first (declarator (binding y) (put_first init value) ▸ last)) ▸ none) + 1 ≤ total (declared_among K (resolved s k) first init (declarator (binding y) value ▸ last) ▸ none)
+next_falls K s k first init y value last f e =
+    let d = declarator (binding (resolved s k)) init in
+    let n = declarator (binding y) value in
+    let put = declarator (binding y) (put_first init value) in
+    let falls = declarator_falls s k y value e init f in
+    omega (
+      arith,
+      falls,
+      commas_less first d n put last,
+      comma_list (append first (d ▸ (n ▸ last))),
+      comma_list (append first (put ▸ last)),
+      declarators_append first (d ▸ (n ▸ last)),
+      declarators_append first (put ▸ last),
+    )

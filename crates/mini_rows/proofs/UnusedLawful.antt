@@ -53,14 +53,16 @@ use Rattle.mini_terms.specs.Reading.{is_plain_part}
 use Rattle.mini_rows.specs.Arranged.{Vanishes}
 use Rattle.mini_rows.specs.Lists.{block, declares_nothing, declaration}
 use Rattle.mini_rows.specs.Declarations.{binding, declarator}
-use Rattle.mini_rows.specs.Unused.{resolved, declared_one, any_names, is_idle, may_move, reads_first, BlockRow, declared_among, declared_left, put_first}
+use Rattle.mini_rows.specs.Unused.{resolved, declared_one, any_names, is_idle, may_move, is_first, reads_first, BlockRow, declared_among, declared_left, put_first}
 use Rattle.mini_rows.proofs.ArrangedBodies.{quiet}
 use Rattle.mini_rows.proofs.FoldLawful.{vanishes}
 use Rattle.mini_rows.proofs.ListShapes.{declaration_anywhere, append_fits, both_fit, first_fits, more_fit}
 use Rattle.mini_rows.proofs.UnusedKept.{LeavesThere, NamesThere, list_fixed, list_frames, list_bodies, list_declares, block_kept, block_less, block_keeps}
 use Rattle.mini_rows.proofs.DeclaredKept.{value_leaves, value_names, idle_leaves, idle_names, single_leaves, single_names}
-use Rattle.mini_rows.proofs.SingleFits.{put_fits}
+use Rattle.mini_rows.proofs.SingleFits.{put_fits, put_initial}
 use Rattle.mini_rows.proofs.UnusedMeaning.{movable, lexical_alone, row_72, row_72_idle, row_71}
+use Rattle.mini_rows.proofs.NextKept.{next_leaves, next_names}
+use Rattle.mini_rows.proofs.NextMeaning.{row_71_next}
 use Rattle.mini_rows.proofs.UnusedNames.{all_unmentioned, all_other}
 
 -- ---- where a block may stand
@@ -173,6 +175,26 @@ single_fits strict k x first init head m r e f =
     let moves = plain_there strict init (movable init m) (left (fits strict (one_or_absent an_expression) init) true value) in
     (first_left_fits strict k first g, put_fits strict x head r init moves f)
 
+pub next_fits : (strict : Bool) (k : VariableDeclarationKind) (x : Name) (first : Trees) (init : Tree) (y : Name) (value : Tree) (last : Trees) → may_move init ≡ true → is_first x false value ≡ true → fits strict item (declared_among k x first init (declarator (binding y) value ▸ last)) ≡ true → fits strict item (declaration k (append first (declarator (binding y) (put_first init value) ▸ last))) ≡ true
+next_fits strict k x first init y value last m once e =
+    let d = declarator (binding y) (put_first init value) in
+    let ds : Trees = append first (declarator (binding x) init ▸ (declarator (binding y) value ▸ last)) in
+    let all = (and_parts (nat_le 1 (count ds)) (fill strict (each (one a_declarator)) ds && true) (sym (declaration_anywhere strict nested k ds) ∙ e)).1 in
+    let (f, g) = both_fit strict (one a_declarator) first (declarator (binding x) init ▸ (declarator (binding y) value ▸ last)) (left (fill strict (each (one a_declarator)) ds) true all) in
+    let (one_fits, rest) = first_fits strict (one a_declarator) (declarator (binding x) init) (declarator (binding y) value ▸ last) g in
+    let (next_there, others) = first_fits strict (one a_declarator) (declarator (binding y) value) last rest in
+    let (id, initial) = and_parts (fits strict (one a_pattern) (binding x)) (fits strict (one_or_absent an_expression) init && true) one_fits in
+    let (bound, given) = and_parts (fits strict (one a_pattern) (binding y)) (fits strict (one_or_absent an_expression) value && true) next_there in
+    let moves = plain_there strict init (movable init m) (left (fits strict (one_or_absent an_expression) init) true initial) in
+    let put = put_initial strict x value once init moves (left (fits strict (one_or_absent an_expression) value) true given) in
+    let there_now = both (fits strict (one a_pattern) (binding y)) (fits strict (one_or_absent an_expression) (put_first init value) && true) bound (both (fits strict (one_or_absent an_expression) (put_first init value)) true put refl) in
+    let them = append_fits strict (one a_declarator) first (d ▸ last) f (more_fit strict (one a_declarator) d last there_now others) in
+    declaration_anywhere strict nested k (append first (d ▸ last)) ∙ both (nat_le 1 (count (append first (d ▸ last)))) (fill strict (each (one a_declarator)) (append first (d ▸ last)) && true) (some first) (both (fill strict (each (one a_declarator)) (append first (d ▸ last))) true them refl)
+  where
+    some : (first : Trees) → nat_le 1 (count (append first (declarator (binding y) (put_first init value) ▸ last))) ≡ true
+    some none = le-leb 1 (count (declarator (binding y) (put_first init value) ▸ last)) (omega arith)
+    some (t ▸ first) = le-leb 1 (count (t ▸ append first (declarator (binding y) (put_first init value) ▸ last))) (omega arith)
+
 -- ---- a name that is dropped
 
 all_join : (b : Binding) (ts us : Trees) → AllUnmentioned b ts → AllUnmentioned b us → AllUnmentioned b (append ts us)
@@ -270,12 +292,18 @@ row_dropped q n w (inr (inl r)) =
       moved q r.symbol n w _ _ r.shape r.written (dropped q r.spelling r.symbol r.before r.after (declared_among r.kind x r.first r.init r.last ▸ none) (declared_left r.kind (append r.first r.last) ▸ none) (idle_leaves r.kind x r.symbol refl r.first r.init r.last v r.unused.declared_earlier r.unused.declared_later) (idle_names r.kind x r.symbol refl r.first r.init r.last v r.unused.declared_earlier r.unused.declared_later (lexical_alone r.kind r.goes)) r.unused.earlier r.unused.later
           (λ e z. in_tails e q (alone (Declared r.symbol)) _ _ (row_72_idle e r.symbol z _ _ (record { before = r.before; kind = r.kind; first = r.first; spelling = r.spelling; symbol = r.symbol; init = r.init; last = r.last; after = r.after; goes = r.goes; idle = r.idle; unused = r.unused; shape = refl; written = refl }) refl))),
     )
-row_dropped q n w (inr (inr r)) =
+row_dropped q n w (inr (inr (inl r))) =
     let x = resolved r.spelling r.symbol in
     let plain = movable r.init r.moves in (
       r.symbol,
       moved q r.symbol n w _ _ r.shape r.written (dropped q r.spelling r.symbol r.before r.after (declared_among r.kind x r.first r.init none ▸ (r.head ▸ none)) (declared_left r.kind r.first ▸ (put_first r.init r.head ▸ none)) (single_leaves r.kind x r.symbol refl r.first r.init r.head plain r.once r.initial r.declared_earlier) (single_names r.kind x r.symbol refl r.first r.init r.head plain r.once r.initial r.declared_earlier (lexical_alone r.kind r.goes)) r.earlier r.later
           (λ e z. in_tails e q (alone (Declared r.symbol)) _ _ (row_71 e r.symbol z _ _ (record { before = r.before; kind = r.kind; first = r.first; spelling = r.spelling; symbol = r.symbol; init = r.init; head = r.head; after = r.after; goes = r.goes; moves = r.moves; once = r.once; earlier = r.earlier; declared_earlier = r.declared_earlier; initial = r.initial; later = r.later; unseen = r.unseen; shape = refl; written = refl }) refl))),
+    )
+row_dropped q n w (inr (inr (inr r))) =
+    let x = resolved r.spelling r.symbol in (
+      r.symbol,
+      moved q r.symbol n w _ _ r.shape r.written (dropped q r.spelling r.symbol r.before r.after (declared_among r.kind x r.first r.init (declarator (binding (resolved r.next_spelling r.next_symbol)) r.value ▸ r.last) ▸ none) (declaration r.kind (append r.first (declarator (binding (resolved r.next_spelling r.next_symbol)) (put_first r.init r.value) ▸ r.last)) ▸ none) (next_leaves r.kind x r.symbol refl r.first r.init (resolved r.next_spelling r.next_symbol) r.value r.last r.once r.declared_earlier r.initial r.other r.declared_later) (next_names r.kind x r.symbol refl r.first r.init (resolved r.next_spelling r.next_symbol) r.value r.last r.once r.declared_earlier r.initial r.other r.declared_later (lexical_alone r.kind r.goes)) r.earlier r.later
+          (λ e z. in_tails e q (alone (Declared r.symbol)) _ _ (row_71_next e r.symbol z _ _ (record { before = r.before; kind = r.kind; first = r.first; spelling = r.spelling; symbol = r.symbol; init = r.init; next_spelling = r.next_spelling; next_symbol = r.next_symbol; value = r.value; last = r.last; after = r.after; goes = r.goes; moves = r.moves; once = r.once; other = r.other; earlier = r.earlier; declared_earlier = r.declared_earlier; initial = r.initial; declared_later = r.declared_later; later = r.later; unseen = r.unseen; shape = refl; written = refl }) refl))),
     )
 
 record Blocks (n w : Tree) : Type 0 where
@@ -294,7 +322,7 @@ row_blocks q n w (inr (inl r)) =
     let d = declared_among r.kind x r.first r.init r.last in
     let left = declared_left r.kind (append r.first r.last) in
     record { first = append r.before (d ▸ r.after); second = append r.before (left ▸ r.after); before = r.shape; after = r.written; fitting = λ strict. one_item strict r.before r.after d left (left_fits strict r.kind x r.first r.init r.last) }
-row_blocks q n w (inr (inr r)) =
+row_blocks q n w (inr (inr (inl r))) =
     let x = resolved r.spelling r.symbol in
     let d = declared_among r.kind x r.first r.init none in
     let left = declared_left r.kind r.first in
@@ -305,6 +333,11 @@ row_blocks q n w (inr (inr r)) =
       after = r.written;
       fitting = λ strict. two_items strict r.before r.after d r.head left (put_first r.init r.head) (λ f g. single_fits strict r.kind x r.first r.init r.head r.moves r.once f g);
     }
+row_blocks q n w (inr (inr (inr r))) =
+    let x = resolved r.spelling r.symbol in
+    let d = declared_among r.kind x r.first r.init (declarator (binding (resolved r.next_spelling r.next_symbol)) r.value ▸ r.last) in
+    let left = declaration r.kind (append r.first (declarator (binding (resolved r.next_spelling r.next_symbol)) (put_first r.init r.value) ▸ r.last)) in
+    record { first = append r.before (d ▸ r.after); second = append r.before (left ▸ r.after); before = r.shape; after = r.written; fitting = λ strict. one_item strict r.before r.after d left (next_fits strict r.kind x r.first r.init (resolved r.next_spelling r.next_symbol) r.value r.last r.moves r.once) }
 
 -- of two blocks, whatever is told by their shape
 shaped : (n w : Tree) (P : Tree → Tree → Type 0) → ((first_list second_list : Trees) → P (block first_list) (block second_list)) → Blocks n w → P n w

@@ -181,7 +181,7 @@ module _ (e : Environment) (spelling : List ℕ) (k : ℕ) (z : Unseen (alone (D
   without_out (halt x s) f g y h go = go
   without_out out f g y h go = go
 
-  one_same : (d w : Tree) → ((s : State) → Go (means e d (Stat None) [] s) (means e w (Stat None) [] s)) → Same e D nothing (Stat None) (listed (d ▸ none)) (listed (w ▸ none))
+  pub one_same : (d w : Tree) → ((s : State) → Go (means e d (Stat None) [] s) (means e w (Stat None) [] s)) → Same e D nothing (Stat None) (listed (d ▸ none)) (listed (w ▸ none))
   one_same d w g = record { by = λ r s i. subst₂ Go (sym (listed_is e (d ▸ none) r s ∙ exec_one e d s)) (sym (listed_is e (w ▸ none) r s ∙ exec_one e w s)) (g s) }
 
   -- as a list
@@ -198,7 +198,7 @@ module _ (e : Environment) (spelling : List ℕ) (k : ℕ) (z : Unseen (alone (D
   then_go (halt y z) s f g h = absurd g
   then_go out s f g h = weak D (f s)
 
-  both_go : (c : Completion (Unit {0})) (f g : State → Completion (Unit {0})) → ((z : State) → Go (f z) (g z)) → Go (Then c f) (Then c g)
+  pub both_go : (c : Completion (Unit {0})) (f g : State → Completion (Unit {0})) → ((z : State) → Go (f z) (g z)) → Go (Then c f) (Then c g)
   unfolding Goes either
   both_go (ok u z) f g h = h z
   both_go (stop y z) f g h = (refl, itself z)
@@ -218,7 +218,7 @@ module _ (e : Environment) (spelling : List ℕ) (k : ℕ) (z : Unseen (alone (D
         ∙ either_cong (means e (declarator (binding x) init) (Declares (is_lexical K)) tt s) _ _ _ _ (λ u y. declare_none e (is_lexical K) y) (λ y r. refl) ∙ either_eta (means e (declarator (binding x) init) (Declares (is_lexical K)) tt s)
 
     -- what goes on after it
-    declared_then : (init : Tree) → (summary init).facts.absent ≡ false → (f : State → Completion (Unit {0})) (s : State) (y : Completion (Unit {0})) → Go (either (means e init (As Val) tt s) (λ v z. f (after v z)) (λ y z. stop y z)) y → Go (Then (means e (declared_one K x init) (Stat None) [] s) f) y
+    pub declared_then : (init : Tree) → (summary init).facts.absent ≡ false → (f : State → Completion (Unit {0})) (s : State) (y : Completion (Unit {0})) → Go (either (means e init (As Val) tt s) (λ v z. f (after v z)) (λ y z. stop y z)) y → Go (Then (means e (declared_one K x init) (Stat None) [] s) f) y
     unfolding either
     declared_then init h f s y go =
         subst (λ c. Go c y) (sym (ap (λ c. Then c f) (declared_is init s ∙ initialised (is_lexical K) init h s) ∙ either_assoc (means e init (As Val) tt s) _ _ _ _))
@@ -402,7 +402,7 @@ module _ (e : Environment) (spelling : List ℕ) (k : ℕ) (z : Unseen (alone (D
 
 -- ---- the rows
 
-declared_lets : (K : VariableDeclarationKind) (k : ℕ) (ds : Trees) (first last ys : List Variable) → lets_all (summaries ds) ≡ first ++ Declared k ∷ last → ys ≡ choose (is_lexical K) (first ++ last) [] → OneLess k (summary (declaration K ds)).lets ys
+pub declared_lets : (K : VariableDeclarationKind) (k : ℕ) (ds : Trees) (first last ys : List Variable) → lets_all (summaries ds) ≡ first ++ Declared k ∷ last → ys ≡ choose (is_lexical K) (first ++ last) [] → OneLess k (summary (declaration K ds)).lets ys
 declared_lets Let k ds first last ys f g = inl (first, last, f, g)
 declared_lets Const k ds first last ys f g = inl (first, last, f, g)
 declared_lets Var k ds first last ys f g = inr (sym g)
@@ -518,7 +518,7 @@ single_read spelling k K first init head w h g =
     }
 
 -- the name that is read has the symbol
-same_symbol : (k : ℕ) (y : Option SymbolId) → is_same (Some (record { 0 = k })) y ≡ true → y ≡ Some (record { 0 = k })
+pub same_symbol : (k : ℕ) (y : Option SymbolId) → is_same (Some (record { 0 = k })) y ≡ true → y ≡ Some (record { 0 = k })
 same_symbol k (Some y) e = ap (λ m. Some (record { 0 = m })) (sym (eqb-true k y.0 e))
 same_symbol k None e = absurd (true≢false (sym e))
 

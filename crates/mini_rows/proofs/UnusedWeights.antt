@@ -18,9 +18,9 @@ use Rattle.mini_laws.specs.Value.{VariableSet}
 use Rattle.mini_laws.proofs.Seats.{moved}
 use Rattle.mini_rows.specs.Declarations.{binding, declarator}
 use Rattle.mini_rows.specs.Lists.{block, declaration}
-use Rattle.mini_rows.specs.Unused.{resolved, declared_among, declared_one, declared_left, is_definition, BlockRow, ArrowBodyRow, FunctionBodyRow, UnusedRow, UnusedLighten, UnusedLighter}
+use Rattle.mini_rows.specs.Unused.{resolved, declared_among, declared_one, declared_left, put_first, is_definition, BlockRow, ArrowBodyRow, FunctionBodyRow, UnusedRow, UnusedLighten, UnusedLighter}
 use Rattle.mini_terms.specs.Reading.{is_plain_part}
-use Rattle.mini_rows.proofs.SingleWeights.{single_falls}
+use Rattle.mini_rows.proofs.SingleWeights.{single_falls, next_falls}
 use Rattle.mini_rows.proofs.ListWeights.{total, list_is, body_is, in_list, comma_list, declarators_append}
 
 value_falls : (K : VariableDeclarationKind) (s : List ℕ) (k : ℕ) (init : Tree) → total (expression_statement init ▸ none) + 1 ≤ total (declared_one K (resolved s k) init ▸ none)
@@ -76,9 +76,14 @@ block_lighter q n w (inl r) =
 block_lighter q n w (inr (inl r)) =
     let falls = block_falls q r.before r.after (declared_among r.kind (resolved r.spelling r.symbol) r.first r.init r.last) (declared_left r.kind (append r.first r.last)) (same_chooses r.kind (resolved r.spelling r.symbol) r.first r.last r.init) (idle_falls r.kind (resolved r.spelling r.symbol) r.first r.last r.init) in
     omega (arith, falls, ap (weight (Stmt q)) r.shape, ap (weight (Stmt q)) r.written)
-block_lighter q n w (inr (inr r)) =
+block_lighter q n w (inr (inr (inl r))) =
     let plain = (and_parts (is_plain_part r.init) (not (is_definition (shape_of r.init))) r.moves).0 in
     let falls = single_falls q r.before r.kind r.first r.spelling r.symbol r.init r.head r.after plain r.once in
+    omega (arith, falls, ap (weight (Stmt q)) r.shape, ap (weight (Stmt q)) r.written)
+block_lighter q n w (inr (inr (inr r))) =
+    let x = resolved r.spelling r.symbol in
+    let plain = (and_parts (is_plain_part r.init) (not (is_definition (shape_of r.init))) r.moves).0 in
+    let falls = block_falls q r.before r.after (declared_among r.kind x r.first r.init (declarator (binding (resolved r.next_spelling r.next_symbol)) r.value ▸ r.last)) (declaration r.kind (append r.first (declarator (binding (resolved r.next_spelling r.next_symbol)) (put_first r.init r.value) ▸ r.last))) refl (next_falls r.kind r.spelling r.symbol r.first r.init (resolved r.next_spelling r.next_symbol) r.value r.last plain r.once) in
     omega (arith, falls, ap (weight (Stmt q)) r.shape, ap (weight (Stmt q)) r.written)
 
 -- a function's body by the block that what stands before it and its statements would be
@@ -119,7 +124,8 @@ function_outline n w r = ap outline r.shape ∙ sym (ap outline r.written)
 same_outline : (W : VariableSet) (p : Position) (n w : Tree) → UnusedRow W p n w → outline n ≡ outline w
 same_outline W (Stmt q) n w (inl (inl r)) = ap outline r.shape ∙ sym (ap outline r.written)
 same_outline W (Stmt q) n w (inl (inr (inl r))) = ap outline r.shape ∙ sym (ap outline r.written)
-same_outline W (Stmt q) n w (inl (inr (inr r))) = ap outline r.shape ∙ sym (ap outline r.written)
+same_outline W (Stmt q) n w (inl (inr (inr (inl r)))) = ap outline r.shape ∙ sym (ap outline r.written)
+same_outline W (Stmt q) n w (inl (inr (inr (inr r)))) = ap outline r.shape ∙ sym (ap outline r.written)
 same_outline W (Stmt q) n w (inr r) = function_outline n w r
 same_outline W (Expr s) n w (inl r) = ap outline r.shape ∙ sym (ap outline r.written)
 same_outline W (Expr s) n w (inr r) = function_outline n w r

@@ -23,11 +23,13 @@ use Rattle.mini_context.specs.declared.context.TraverseCtx.{TraverseCtx}
 use Rattle.mini_context.specs.Known.{Knows}
 use Rattle.mini_laws.specs.Writable.{writable_in}
 use Rattle.mini_unused.specs.RemoveUnusedDeclaration.{declares_name, declares_list, is_free_at, may_lose, may_go, open_in, is_alone, list_at, is_unused, UnusedAt, is_arrow_shape, are_statements, are_no_names, has_statements, is_function_shape, is_function, marked, Applied, AppliedInFunction, Gives, Rests}
+use Rattle.mini_unused.specs.SubstituteNext.{reads_then, is_mentioned_beside, is_read_then, is_next, NextAt, NextGone}
 use Rattle.mini_unused.specs.SubstituteSingleUse.{last_place, is_declared_over, reads_next, is_read_once, is_single, SingleAt, NameGone, ReadGone, Gone, Removed}
 use Rattle.mini_unused.specs.Chains.{Several}
 use Rattle.mini_unused.proofs.Chains.{several_over, several_moves}
 use Rattle.mini_unused.proofs.Unused.{no_outside, part_twice, row_at, no_row, no_block, all_used, seen_by_eval}
 use Rattle.mini_unused.proofs.SingleUses.{row_there, none_single}
+use Rattle.mini_unused.proofs.NextUses.{next_row, none_next}
 
 -- ---- a block
 
@@ -48,24 +50,26 @@ held m = node shape.BlockStatement [] 0 (m ▸ none)
 gone_row : (W : VariableSet) (ts : Trees) (m : Tree) → Gone W no_outside (listed ts) m → BlockRow W (block ts) (held m)
 gone_row W ts m r = by r.name
   where
-    by : NameGone W no_outside (listed ts) m ⊎ ReadGone W no_outside (listed ts) m → BlockRow W (block ts) (held m)
+    by : NameGone W no_outside (listed ts) m ⊎ (ReadGone W no_outside (listed ts) m ⊎ NextGone W no_outside (listed ts) m) → BlockRow W (block ts) (held m)
     by (inl g) = row_at (block ts) g.at g.which refl g.unused.0 g.unused.1.1 W g.unused.1.2 (block_seen ts ∙ r.unseen) (held m) (ap held g.left)
-    by (inr g) = inr (inr (row_there (block ts) g.at refl g.next g.declares W g.single (block_seen ts ∙ r.unseen) (held m) (ap held g.left)))
+    by (inr (inl g)) = inr (inr (inl (row_there (block ts) g.at refl g.next g.declares W g.single (block_seen ts ∙ r.unseen) (held m) (ap held g.left))))
+    by (inr (inr g)) = inr (inr (inr (next_row (block ts) g.at g.which refl g.there.0 g.there.1.1 W g.there.1.2 (block_seen ts ∙ r.unseen) (held m) (ap held g.left))))
 
 rests : (W : VariableSet) (ts : Trees) (m : Tree) → Removed W no_outside (listed ts) m false → (w : Tree) → BlockRow W (block ts) w → ⊥
 rests W ts m r = by r.1
   where
-    by : ((has_eval no_outside || has_eval (listed ts)) ≡ true) ⊎ (UnusedAt W no_outside ts None × SingleAt W no_outside ts None) → (w : Tree) → BlockRow W (block ts) w → ⊥
+    by : ((has_eval no_outside || has_eval (listed ts)) ≡ true) ⊎ (UnusedAt W no_outside ts None × SingleAt W no_outside ts None × NextAt W no_outside ts None) → (w : Tree) → BlockRow W (block ts) w → ⊥
     by (inl e) = seen_by_eval W (block ts) (block_seen ts ∙ e)
-    by (inr u) = no_row W (block ts) (all_used W (block ts) u.0) (none_single W (block ts) u.1)
+    by (inr u) = no_row W (block ts) (all_used W (block ts) u.0) (none_single W (block ts) u.1) (none_next W (block ts) u.2)
 
 -- what is left of a list is one
 left_listed : (W : VariableSet) (o : Tree) (ts : Trees) (m : Tree) → Gone W o (listed ts) m → m ≡ listed (children m)
 left_listed W o ts m r = by r.name
   where
-    by : NameGone W o (listed ts) m ⊎ ReadGone W o (listed ts) m → m ≡ listed (children m)
+    by : NameGone W o (listed ts) m ⊎ (ReadGone W o (listed ts) m ⊎ NextGone W o (listed ts) m) → m ≡ listed (children m)
     by (inl g) = g.left ∙ sym (ap (λ l. listed (children l)) g.left)
-    by (inr g) = g.left ∙ sym (ap (λ l. listed (children l)) g.left)
+    by (inr (inl g)) = g.left ∙ sym (ap (λ l. listed (children l)) g.left)
+    by (inr (inr g)) = g.left ∙ sym (ap (λ l. listed (children l)) g.left)
 
 abbrev is_list : Tree → Type 0
 is_list l = l ≡ listed (children l)
@@ -117,6 +121,10 @@ read_pulled false r q f c = refl
 read_pulled true r q f true = sym (ap (λ v. r && v) (and_false (not q)) ∙ and_false r)
 read_pulled true r q f false = sym (ap (λ v. r && v) (and_false (not q)) ∙ and_false r)
 
+then_pulled : (p r m f c : Bool) → (r && (not m && (not p && not (f || c)))) ≡ (r && (not m && not ((p || f) || c)))
+then_pulled false r m f c = refl
+then_pulled true r m f c = refl
+
 -- what is outside of the statements, and as a list before them
 module _ (W : VariableSet) (outside : Tree) (front ts : Trees) (mentions : (x : Name) → names x outside ≡ any_names x front) (evals : has_eval outside ≡ any_has_eval front) where
   -- as a block
@@ -153,6 +161,22 @@ module _ (W : VariableSet) (outside : Tree) (front ts : Trees) (mentions : (x : 
       let j = last_place (children l) in
       ap (λ b. declares_list (child_or_absent ts i) && (declares_name (part l j) && (may_lose (is_free_at ts i) W (names_of (part (part l j) 0)) && (may_move (part (part l j) 1) && b)))) (read_there (names_of (part (part l j) 0)) (part (part l j) 1) (children l) j i)
 
+  then_there : (xs : List Name) (d e : Tree) (ds : Trees) (j i : ℕ) → is_read_then xs d e outside ds j ts i ≡ is_read_then xs d e no_outside ds j behind (suc i)
+  then_there [] d e ds j i = refl
+  then_there (x ∷ xs) d e ds j i =
+      let r = reads_then x e in
+      let m = is_mentioned_beside x d e ds j in
+      let f = any_names x (first_children i ts) in
+      let c = any_names x (rest_children (suc i) ts) in
+      ap (λ p. r && (not m && (not p && not (f || c)))) (mentions x) ∙ then_pulled (any_names x front) r m f c
+
+  next_there : (i j : ℕ) → is_next W outside ts i j ≡ is_next W no_outside behind (suc i) j
+  next_there i j =
+      let l = list_at ts i in
+      let d = part l j in
+      let e = part l (suc j) in
+      ap (λ b. declares_list (child_or_absent ts i) && (declares_name d && (declares_name e && (may_lose (is_free_at ts i) W (names_of (part d 0)) && (may_move (part d 1) && b))))) (then_there (names_of (part d 0)) d e (children l) j i)
+
   seen_there : (has_eval no_outside || has_eval (listed behind)) ≡ (has_eval outside || has_eval (listed ts))
   unfolding has_eval
   seen_there = ap (λ b. b || any_has_eval ts) (sym evals)
@@ -165,6 +189,10 @@ module _ (W : VariableSet) (outside : Tree) (front ts : Trees) (mentions : (x : 
   none_read u zero h = refl
   none_read u (suc i) h = sym (single_there i) ∙ u i (omega (arith, h))
 
+  none_by_next : NextAt W outside ts None → NextAt W no_outside behind None
+  none_by_next u zero h = λ j g. refl
+  none_by_next u (suc i) h = λ j g. sym (next_there i j) ∙ u i (omega (arith, h)) j g
+
   -- the list that is left, behind what stands before it
   abbrev left : Tree → Tree
   left m = listed (listed front ▸ children m)
@@ -172,16 +200,17 @@ module _ (W : VariableSet) (outside : Tree) (front ts : Trees) (mentions : (x : 
   gone_there : (m : Tree) → Gone W outside (listed ts) m → Gone W no_outside (listed behind) (left m)
   gone_there m r = record { unseen = seen_there ∙ r.unseen; name = by r.name }
     where
-      by : NameGone W outside (listed ts) m ⊎ ReadGone W outside (listed ts) m → NameGone W no_outside (listed behind) (left m) ⊎ ReadGone W no_outside (listed behind) (left m)
+      by : NameGone W outside (listed ts) m ⊎ (ReadGone W outside (listed ts) m ⊎ NextGone W outside (listed ts) m) → NameGone W no_outside (listed behind) (left m) ⊎ (ReadGone W no_outside (listed behind) (left m) ⊎ NextGone W no_outside (listed behind) (left m))
       by (inl g) = inl (record { at = suc g.at; which = g.which; unused = (next_within g.at (count ts) g.unused.0, (g.unused.1.0, g.unused.1.1, sym (unused_there g.at g.which) ∙ g.unused.1.2)); left = ap left g.left })
-      by (inr g) = inr (record { at = suc g.at; next = next_within (suc g.at) (count ts) g.next; declares = g.declares; single = sym (single_there g.at) ∙ g.single; left = ap left g.left })
+      by (inr (inl g)) = inr (inl (record { at = suc g.at; next = next_within (suc g.at) (count ts) g.next; declares = g.declares; single = sym (single_there g.at) ∙ g.single; left = ap left g.left }))
+      by (inr (inr g)) = inr (inr (record { at = suc g.at; which = g.which; there = (next_within g.at (count ts) g.there.0, (g.there.1.0, g.there.1.1, sym (next_there g.at g.which) ∙ g.there.1.2)); left = ap left g.left }))
 
   stays_there : (m : Tree) → Removed W outside (listed ts) m false → Removed W no_outside (listed behind) (left m) false
   stays_there m r = (ap left r.0, by r.1)
     where
-      by : ((has_eval outside || has_eval (listed ts)) ≡ true) ⊎ (UnusedAt W outside ts None × SingleAt W outside ts None) → ((has_eval no_outside || has_eval (listed behind)) ≡ true) ⊎ (UnusedAt W no_outside behind None × SingleAt W no_outside behind None)
+      by : ((has_eval outside || has_eval (listed ts)) ≡ true) ⊎ (UnusedAt W outside ts None × SingleAt W outside ts None × NextAt W outside ts None) → ((has_eval no_outside || has_eval (listed behind)) ≡ true) ⊎ (UnusedAt W no_outside behind None × SingleAt W no_outside behind None × NextAt W no_outside behind None)
       by (inl e) = inl (seen_there ∙ e)
-      by (inr u) = inr (none_unused u.0, none_read u.1)
+      by (inr u) = inr (none_unused u.0, none_read u.1, none_by_next u.2)
 
   row_behind : (m : Tree) → Gone W outside (listed ts) m → BlockRow W (block behind) (block (listed front ▸ children m))
   row_behind m r = gone_row W behind (left m) (gone_there m r)

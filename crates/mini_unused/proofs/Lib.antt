@@ -3,6 +3,7 @@ pub mod Evaluating
 pub mod Standing
 pub mod Unused
 pub mod SingleUses
+pub mod NextUses
 pub mod Uneval
 pub mod Rare
 pub mod Chains

@@ -19,6 +19,7 @@ use Rattle.mini_rows.specs.Declarations.{binding, declarator}
 use Rattle.mini_rows.specs.Unused.{resolved, is_like_one, names, any_names, is_idle, leads, is_childless, reads, is_first, put_first, is_head_shape, reads_first}
 use Rattle.mini_unused.specs.declared.tallies.Tallies.{Tallies}
 use Rattle.mini_unused.specs.RemoveUnusedDeclaration.{declares_name, declares_list, is_alone, list_at, let_left, statement_left, list_left}
+use Rattle.mini_unused.specs.SubstituteNext.{declarators_next, list_next, NextGone}
 use Rattle.mini_unused.specs.SubstituteSingleUse.{is_read_once, declaration_left, initializer, list_single, last_place, NameGone, ReadGone, Gone}
 use Rattle.mini_unused.specs.Tallies.{number_of, bucket, hash_of, one_if, own_tally, tally, tallies, Counted, Covers, Tallied, HasFew, IsRare}
 use Rattle.mini_unused.proofs.Unused.{parts_of, a_declaration, Declares, declares}
@@ -118,12 +119,36 @@ module _ (f : Name → ℕ) (b : ℕ) where
       let less = declaration_without (part l i) j in
       omega (arith, first, second, next, put, less)
 
+  declarators_fewer : (l : Tree) (j : ℕ) → tally f b (declarators_next l j) ≤ tally f b l
+  declarators_fewer l j =
+      let r = part (part l j) 1 in
+      let m = like l (without (children l) j) in
+      let n = part m j in
+      let v = part n 1 in
+      let whole = with_there m j (with_part n 1 (put_first r v)) in
+      let next = with_there n 1 (put_first r v) in
+      let put = put_there r v in
+      let others = without_one (children l) j in
+      let o = opened l in
+      let value = part_of (part l j) 1 in
+      omega (arith, whole, next, put, others, o, value)
+
+  list_next_fewer : (l : Tree) (i j : ℕ) → tally f b (list_next l i j) ≤ tally f b l
+  list_next_fewer l i j =
+      let t = part l i in
+      let ds = declarators_next (part t 0) j in
+      let whole = with_there l i (with_part t 0 ds) in
+      let one = with_there t 0 ds in
+      let less = declarators_fewer (part t 0) j in
+      omega (arith, whole, one, less)
+
   pub gone_fewer : (W : VariableSet) (o l n : Tree) → Gone W o l n → tally f b n ≤ tally f b l
   gone_fewer W o l n g = by g.name
     where
-      by : NameGone W o l n ⊎ ReadGone W o l n → tally f b n ≤ tally f b l
+      by : NameGone W o l n ⊎ (ReadGone W o l n ⊎ NextGone W o l n) → tally f b n ≤ tally f b l
       by (inl x) = let less = list_without l x.at x.which in let same = ap (tally f b) x.left in omega (arith, less, same)
-      by (inr x) = let less = list_moved l x.at (last_place (children (list_at (children l) x.at))) in let same = ap (tally f b) x.left in omega (arith, less, same)
+      by (inr (inr x)) = let less = list_next_fewer l x.at x.which in let same = ap (tally f b) x.left in omega (arith, less, same)
+      by (inr (inl x)) = let less = list_moved l x.at (last_place (children (list_at (children l) x.at))) in let same = ap (tally f b) x.left in omega (arith, less, same)
 
 pub still_covers : (by_symbol : Bool) (counts : List ℕ) (W : VariableSet) (o l n : Tree) → Gone W o l n → Covers by_symbol counts o l → Covers by_symbol counts o n
 still_covers by_symbol counts W o l n g c b h k =

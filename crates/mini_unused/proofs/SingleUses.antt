@@ -1,16 +1,15 @@
 -- A block in which a name is read once, right after its declaration.
 use Rattle.std.proofs.Common.{◌≡◌, ℕ, zero, suc, ◌+◌, ◌<◌, Bool, true, false, [], ◌∷◌, refl, sym, ap, ◌∙◌, subst, true≢false, add-one, arith}
-use Rattle.std.specs.Prelude.{not, ◌&&◌, ◌||◌, if◌then◌else◌}
+use Rattle.std.specs.Prelude.{not, ◌&&◌, ◌||◌}
 use Rattle.std.proofs.lemmas.Bool.{and_parts}
 use Rattle.mini_model.specs.declared.kind.VariableDeclarationKind.{VariableDeclarationKind}
 use Rattle.mini_model.specs.declared.name.Name.{Name}
-use Rattle.mini_model.specs.declared.shape.Shape.TheVariants as shape
-use Rattle.mini_model.specs.Tree.{Tree, Trees, node, none, ◌▸◌, listed, shape_of, children, count, node_count, child_or_absent, empty_statement}
+use Rattle.mini_model.specs.Tree.{Tree, Trees, node, none, ◌▸◌, shape_of, children, count, node_count, child_or_absent}
 use Rattle.mini_model.specs.Paths.{append}
 use Rattle.mini_laws.specs.Naming as kinds
 use Rattle.mini_laws.specs.ScopeList.{has_eval}
 use Rattle.mini_laws.specs.Value.{VariableSet}
-use Rattle.mini_node.specs.Children.{names_of, part, with_child, with_part, without, is_bare, is_nameless, first_children, rest_children}
+use Rattle.mini_node.specs.Children.{names_of, part, with_child, with_part, is_nameless, first_children, rest_children}
 use Rattle.mini_node.specs.Kinds.{is_block, is_sequence_shape}
 use Rattle.mini_node.specs.Made.{block_is}
 use Rattle.mini_node.specs.Walks.{next_child}
@@ -31,7 +30,7 @@ pub first_leaf : (x : Name) (b : Bool) (t : Tree) → count (children t) ≡ 0 �
 first_leaf x b (node h xs n none) e = refl
 first_leaf x b (node h xs n (t ▸ ts)) e = absurd (omega (arith, e))
 
-no_first : (ts : Trees) → rest_children 0 ts ≡ ts
+pub no_first : (ts : Trees) → rest_children 0 ts ≡ ts
 no_first none = refl
 no_first (t ▸ ts) = refl
 
@@ -141,15 +140,15 @@ with_two (t ▸ none) i x y h = absurd (omega (arith, h))
 with_two (t ▸ (u ▸ ts)) zero x y h = ap (λ us. x ▸ (y ▸ us)) (sym (no_first ts))
 with_two (t ▸ (u ▸ ts)) (suc i) x y h = ap (λ us. t ▸ us) (with_two (u ▸ ts) i x y (omega (arith, h)))
 
-next_there : (ts : Trees) (d e : Tree) (us : Trees) → child_or_absent (append ts (d ▸ (e ▸ us))) (suc (count ts)) ≡ e
+pub next_there : (ts : Trees) (d e : Tree) (us : Trees) → child_or_absent (append ts (d ▸ (e ▸ us))) (suc (count ts)) ≡ e
 next_there none d e us = refl
 next_there (t ▸ ts) d e us = next_there ts d e us
 
-rest_there : (ts : Trees) (d e : Tree) (us : Trees) → rest_children (suc (suc (count ts))) (append ts (d ▸ (e ▸ us))) ≡ us
+pub rest_there : (ts : Trees) (d e : Tree) (us : Trees) → rest_children (suc (suc (count ts))) (append ts (d ▸ (e ▸ us))) ≡ us
 rest_there none d e us = no_first us
 rest_there (t ▸ ts) d e us = rest_there ts d e us
 
-within_there : (ts : Trees) (d e : Tree) (us : Trees) → suc (count ts) < count (append ts (d ▸ (e ▸ us)))
+pub within_there : (ts : Trees) (d e : Tree) (us : Trees) → suc (count ts) < count (append ts (d ▸ (e ▸ us)))
 within_there none d e us = omega arith
 within_there (t ▸ ts) d e us = let within = within_there ts d e us in omega (arith, within)
 

@@ -10,6 +10,7 @@ use Rattle.mini_node.specs.Kinds.{is_block, is_block_shape, is_listed}
 use Rattle.mini_rows.specs.Unused.{resolved, may_move}
 use Rattle.mini_unused.specs.Chains.{Chain, still, Several}
 use Rattle.mini_unused.specs.RemoveUnusedDeclaration.{declares_name, may_lose, may_go, is_alone, declares_list, is_lexical_shape, is_free_at, is_unused_declarator, list_at, list_left, UnusedOf, UnusedAt, are_statements, are_no_names, is_body_shape, is_arrow_shape, has_statements, is_function_shape, is_function}
+use Rattle.mini_unused.specs.SubstituteNext.{is_read_by_next, list_next, NextOf, NextAt}
 use Rattle.mini_unused.specs.SubstituteSingleUse.{is_read_once, is_single_declarator, is_single, last_place, list_single, SingleAt, Gone}
 use Rattle.mini_unused.specs.Sweep.{may_go_at, may_move_at, Calm, Swept}
 use Rattle.mini_unused.specs.Tallies.{Tallied, AreRare, AreRead}
@@ -76,6 +77,15 @@ module _ (T : Tallies) (o : Tree) (ts : Trees) (i j : ℕ) (h : i < count ts) (d
       subst (λ u. j < count (children u) → declares_name (part u j) ≡ true → AreRead T (names_of (part (part u j) 0)) (child_or_absent ts (suc i)) → is_read_once (names_of (part (part u j) 0)) o (part (part u j) 1) (children u) j ts i ≡ true) (sym e)
       (λ g n r. read_in next g (declares (part (list_at ts i) j) n) r)
 
+pub next_there : (W : VariableSet) (o : Tree) (ts : Trees) (i j : ℕ) (statement l : Tree) (free r : Bool) → statement ≡ child_or_absent ts i → declares_list statement ≡ true → 0 < count (children statement) → l ≡ part statement 0 → suc j < count (children l) → free ≡ is_lexical_shape (shape_of statement) → r ≡ is_read_by_next free W l j o ts i → r ≡ true → NextOf W o ts i (Some j)
+next_there W o ts i j statement l free r s d h f g z e t =
+    let there : l ≡ list_at ts i = f ∙ ap (λ u. part u 0) s in
+    let is_free : free ≡ is_free_at ts i = z ∙ ap (λ u. is_lexical_shape (shape_of u)) s in (
+      subst (λ u. 0 < count (children u)) s h,
+      subst (λ u. suc j < count (children u)) there g,
+      and_both (declares_list (child_or_absent ts i)) (is_read_by_next (is_free_at ts i) W (list_at ts i) j o ts i) (sym (ap declares_list s) ∙ d) (sym (λ k. is_read_by_next (is_free k) W (there k) j o ts i) ∙ sym e ∙ t),
+    )
+
 -- ---- a list that has lost a name
 
 pub name_gone : (W : VariableSet) (o l m : Tree) (ts : Trees) (at which : ℕ) → ts ≡ children l → UnusedAt W o ts (Some (at, which)) → (has_eval o || has_eval l) ≡ false → m ≡ list_left l at which → Gone W o l m
@@ -84,7 +94,10 @@ name_gone W o l m ts at which e u v f = record { unseen = v; name = inl (record 
 pub read_gone : (W : VariableSet) (o l m : Tree) (ts : Trees) (at last : ℕ) → ts ≡ children l → SingleAt W o ts (Some at) → (has_eval o || has_eval l) ≡ false → last ≡ last_place (children (list_at (children l) at)) → m ≡ list_single l at last → Gone W o l m
 read_gone W o l m ts at last e u v g f =
     let single = subst (λ us. SingleAt W o us (Some at)) e u in
-    record { unseen = v; name = inr (record { at = at; next = single.0; declares = single.3; single = single.4; left = f ∙ ap (list_single l at) g }) }
+    record { unseen = v; name = inr (inl (record { at = at; next = single.0; declares = single.3; single = single.4; left = f ∙ ap (list_single l at) g })) }
+
+pub next_gone : (W : VariableSet) (o l m : Tree) (ts : Trees) (at which : ℕ) → ts ≡ children l → NextAt W o ts (Some (at, which)) → (has_eval o || has_eval l) ≡ false → m ≡ list_next l at which → Gone W o l m
+next_gone W o l m ts at which e u v f = record { unseen = v; name = inr (inr (record { at = at; which = which; there = subst (λ us. NextAt W o us (Some (at, which))) e u; left = f })) }
 
 -- ---- a list that has lost some names
 

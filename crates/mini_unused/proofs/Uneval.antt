@@ -14,8 +14,11 @@ use Rattle.mini_node.specs.Kinds.{is_listed, is_sequence_shape}
 use Rattle.mini_rows.specs.Lists.{declaration}
 use Rattle.mini_rows.specs.Unused.{is_idle, any_names, names, begins, leads, is_childless, is_first, put_first, is_head_shape, reads_first, may_move}
 use Rattle.mini_unused.specs.RemoveUnusedDeclaration.{declares_list, declares_name, may_lose, is_free_at, is_unused_declarator, list_at, statement_left, let_left, list_left}
+use Rattle.mini_rows.specs.Declarations.{declarator}
+use Rattle.mini_unused.specs.SubstituteNext.{is_mentioned_beside, is_mentioned_elsewhere, is_read_then, declarators_next, NextGone}
 use Rattle.mini_unused.specs.SubstituteSingleUse.{declaration_left, initializer, last_place, reads_next, is_declared_over, is_mentioned_around, is_read_once, is_single_declarator, list_single, NameGone, ReadGone, Gone}
-use Rattle.mini_unused.proofs.Unused.{a_declaration, not_true}
+use Rattle.mini_unused.proofs.NextUses.{found, next_child_left}
+use Rattle.mini_unused.proofs.Unused.{a_declaration, declares, not_true}
 
 pub neither : (a b : Bool) → (a || b) ≡ false → (a ≡ false) × (b ≡ false)
 neither true b e = absurd (true≢false e)
@@ -144,6 +147,27 @@ put_in_head x r (node h ys n (t ▸ ts)) f e g =
     let (a, c) = first_and_others t ts (below (node h ys n (t ▸ ts)) g) in
     over (node h ys n (put_first r t ▸ ts)) (heads h l (put_first r t ▸ ts)) (all_of (put_first r t) ts (put_there x false r t s e a) c)
 
+-- ---- a declaration whose declarator has another tree in what it reads first
+
+declarator_with : (d r : Tree) (x : Name) → declares_name d ≡ true → is_first x false (part d 1) ≡ true → has_eval r ≡ false → has_eval d ≡ false → has_eval (with_part d 1 (put_first r (part d 1))) ≡ false
+declarator_with d r x n f e g =
+    let is = (declares d n).is in
+    let id = part d 0 in
+    let put = put_first r (part d 1) in
+    let shaped : with_part d 1 put ≡ declarator id put = ap (λ t. with_part t 1 put) (is ∙ ap (λ t. declarator t (part d 1)) (sym (ap (λ t. part t 0) is))) in
+    ap has_eval shaped ∙ over (declarator id put) refl (all_of id (put ▸ none) (part_of d 0 g) (all_of put none (put_there x false r (part d 1) f e (part_of d 1 g)) nothing_there))
+
+next_without : (t : Tree) (j : ℕ) (x : Name) → declares_list t ≡ true → declares_name (part (part t 0) (suc j)) ≡ true → is_first x false (part (part (part t 0) (suc j)) 1) ≡ true → has_eval t ≡ false → has_eval (with_part t 0 (declarators_next (part t 0) j)) ≡ false
+next_without t j x d n f e =
+    let (k, is) = a_declaration t d in
+    let ds = children (part t 0) in
+    let init = part (part (part t 0) j) 1 in
+    let following = part (part t 0) (suc j) in
+    let list = below (part t 0) (part_of t 0 e) in
+    let put = λ (c : Tree). with_part c 1 (put_first init (part c 1)) in
+    let there = ap (λ c. has_eval (put c)) (next_child_left ds j) ∙ declarator_with following init x n f (part_of (part (part t 0) j) 1 (part_of (part t 0) j (part_of t 0 e))) (part_of (part t 0) (suc j) (part_of t 0 e)) in
+    ap (λ u. has_eval (with_part u 0 (declarators_next (part u 0) j))) is ∙ declared k (with_child (without ds j) j (put (child_or_absent (without ds j) j))) (with_one (without ds j) j (put (child_or_absent (without ds j) j)) (without_one ds j list) there)
+
 -- ---- a list
 
 list_with : (l : Tree) (i : ℕ) (x : Tree) → is_listed l ≡ true → has_eval l ≡ false → has_eval x ≡ false → (has_eval (with_part l i x) ≡ false) × (is_listed (with_part l i x) ≡ true)
@@ -169,6 +193,10 @@ once_reads [] o init ds j ts i e = absurd (true≢false (sym e))
 once_reads (x ∷ xs) o init ds j ts i e =
     let (a, p) = and_parts (not (names x o)) (reads_next x ts i && (not (is_declared_over x init ds j) && not (is_mentioned_around x ts i))) e in
     (x, (and_parts (reads_next x ts i) (not (is_declared_over x init ds j) && not (is_mentioned_around x ts i)) p).0)
+
+then_reads : (xs : List Name) (d e o : Tree) (ds : Trees) (j : ℕ) (ts : Trees) (i : ℕ) → is_read_then xs d e o ds j ts i ≡ true → (x : Name) × (is_first x false (part e 1) ≡ true)
+then_reads [] d e o ds j ts i h = absurd (true≢false (sym h))
+then_reads (x ∷ xs) d e o ds j ts i h = (x, (and_parts (is_first x false (part e 1)) (not (is_mentioned_beside x d e ds j) && (not (names x o) && not (is_mentioned_elsewhere x ts i))) h).0)
 
 module _ (W : VariableSet) (o l m : Tree) (c : Unseen o l) where
   name_gone : NameGone W o l m → Unseen o m
@@ -196,5 +224,16 @@ module _ (W : VariableSet) (o l m : Tree) (c : Unseen o l) where
       let head = put_in_head x init (part l (suc g.at)) reads value (in_list o l (suc g.at) c) in
       subst (Unseen o) (sym g.left) (unseen_with o (with_part l g.at (declaration_left (part l g.at) j)) (suc g.at) (put_first init (part l (suc g.at))) left head)
 
+  next_gone : NextGone W o l m → Unseen o m
+  next_gone g =
+      let t = found W o (children l) g.at g.which g.there.1.2 in
+      let (x, reads) = then_reads (names_of (part (part (list_at (children l) g.at) g.which) 0)) (part (list_at (children l) g.at) g.which) (part (list_at (children l) g.at) (suc g.which)) o (children (list_at (children l) g.at)) g.which (children l) g.at t.read in
+      subst (Unseen o) (sym g.left) (unseen_with o l g.at (with_part (part l g.at) 0 (declarators_next (part (part l g.at) 0) g.which)) c (next_without (part l g.at) g.which x t.declared t.next reads (in_list o l g.at c)))
+
   pub still_unseen : Gone W o l m → Unseen o m
-  still_unseen g = elim g.name [ inl n ↦ name_gone n | inr r ↦ read_gone r ]
+  still_unseen g = by g.name
+    where
+      by : NameGone W o l m ⊎ (ReadGone W o l m ⊎ NextGone W o l m) → Unseen o m
+      by (inl n) = name_gone n
+      by (inr (inl r)) = read_gone r
+      by (inr (inr s)) = next_gone s

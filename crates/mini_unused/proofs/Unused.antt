@@ -3,7 +3,6 @@ use Rattle.std.proofs.Common.{◌≡◌, ℕ, zero, suc, ◌<◌, ◌≤◌, Boo
 use Rattle.std.specs.Prelude.{not, ◌⊎◌, ◌&&◌, ◌||◌, Option, Some, None, is_some, if◌then◌else◌}
 use Rattle.std.proofs.lemmas.Bool.{and_parts}
 use Rattle.mini_model.specs.declared.kind.VariableDeclarationKind.{VariableDeclarationKind}
-use Rattle.mini_model.specs.declared.kind.VariableDeclarationKind.TheVariants.{Var, Let, Const}
 use Rattle.mini_model.specs.declared.name.Name.{Name}
 use Rattle.mini_model.specs.declared.name.SymbolId.{SymbolId}
 use Rattle.mini_model.specs.declared.place.Position.{Position}
@@ -21,7 +20,7 @@ use Rattle.mini_node.specs.Kinds.{is_block}
 use Rattle.mini_node.specs.Made.{block_is}
 use Rattle.mini_rows.specs.Lists.{block, declaration, declares_nothing}
 use Rattle.mini_rows.specs.Declarations.{binding, declarator}
-use Rattle.mini_rows.specs.Unused.{resolved, declared_among, declared_left, names, any_names, is_idle, lets_go, Alone, Row72, Row72Idle, Row71, BlockRow}
+use Rattle.mini_rows.specs.Unused.{resolved, declared_among, declared_left, names, any_names, is_idle, lets_go, Alone, Row72, Row72Idle, Row71, Row71Next, BlockRow}
 use Rattle.mini_unused.specs.RemoveUnusedDeclaration.{is_resolved_binding, is_declarator_shape, declares_name, is_lexical_shape, declares_list, is_block_shape, open_in, may_write, may_write_in, may_lose, is_free_at, may_go, is_alone, is_unused_declarator, list_at, is_unused, UnusedIn, UnusedOf, UnusedAt, let_left, statement_left, list_left, Applied}
 
 -- ---- children
@@ -48,7 +47,7 @@ parts_of (t ▸ none) zero h = refl
 parts_of (t ▸ (u ▸ ts)) zero h = refl
 parts_of (t ▸ ts) (suc i) h = ap (λ us. t ▸ us) (parts_of ts i (omega (arith, h)))
 
-with_parts : (ts : Trees) (i : ℕ) (x : Tree) → i < count ts → with_child ts i x ≡ append (first_children i ts) (x ▸ rest_children (suc i) ts)
+pub with_parts : (ts : Trees) (i : ℕ) (x : Tree) → i < count ts → with_child ts i x ≡ append (first_children i ts) (x ▸ rest_children (suc i) ts)
 with_parts none i x h = absurd (omega (arith, h))
 with_parts (t ▸ none) zero x h = refl
 with_parts (t ▸ (u ▸ ts)) zero x h = refl
@@ -378,19 +377,20 @@ module _ (W : VariableSet) (t : Tree) (r : Read W t) where
       subst (λ v. count r.first < count (children (list_at (children (part v 0)) (count r.before)))) (sym r.shape)
       (subst (λ c. count r.first < count (children (part c 0))) (sym (there_child r.before statement_there r.after)) (there_within r.first declarator_there r.last))
 
-pub no_row : (W : VariableSet) (t : Tree) → (Read W t → ⊥) → ((w : Tree) → Row71 W t w → ⊥) → (w : Tree) → BlockRow W t w → ⊥
-no_row W t f g w (inl r) = f (dropped W t w r)
-no_row W t f g w (inr (inl r)) = f (dropped_idle W t w r)
-no_row W t f g w (inr (inr r)) = g w r
+pub no_row : (W : VariableSet) (t : Tree) → (Read W t → ⊥) → ((w : Tree) → Row71 W t w → ⊥) → ((w : Tree) → Row71Next W t w → ⊥) → (w : Tree) → BlockRow W t w → ⊥
+no_row W t f g h w (inl r) = f (dropped W t w r)
+no_row W t f g h w (inr (inl r)) = f (dropped_idle W t w r)
+no_row W t f g h w (inr (inr (inl r))) = g w r
+no_row W t f g h w (inr (inr (inr r))) = h w r
 
 pub no_block : (W : VariableSet) (t : Tree) → is_block t ≡ false → (w : Tree) → BlockRow W t w → ⊥
-no_block W t e = no_row W t (λ r. true≢false (sym (ap is_block r.shape) ∙ e)) (λ w r. true≢false (sym (ap is_block r.shape) ∙ e))
+no_block W t e = no_row W t (λ r. true≢false (sym (ap is_block r.shape) ∙ e)) (λ w r. true≢false (sym (ap is_block r.shape) ∙ e)) (λ w r. true≢false (sym (ap is_block r.shape) ∙ e))
 
 pub all_used : (W : VariableSet) (t : Tree) → UnusedAt W no_outside (children (part t 0)) None → Read W t → ⊥
 all_used W t f r = true≢false (sym (unused_there W t r) ∙ f (count r.before) (statement_within W t r) (count r.first) (declarator_within W t r))
 
 pub seen_by_eval : (W : VariableSet) (t : Tree) → has_eval t ≡ true → (w : Tree) → BlockRow W t w → ⊥
-seen_by_eval W t e = no_row W t (λ r. true≢false (sym e ∙ ap has_eval r.shape ∙ r.unused.unseen)) (λ w r. true≢false (sym e ∙ ap has_eval r.shape ∙ r.unseen))
+seen_by_eval W t e = no_row W t (λ r. true≢false (sym e ∙ ap has_eval r.shape ∙ r.unused.unseen)) (λ w r. true≢false (sym e ∙ ap has_eval r.shape ∙ r.unseen)) (λ w r. true≢false (sym e ∙ ap has_eval r.shape ∙ r.unseen))
 
 pub elsewhere : (W : VariableSet) (p : Position) (t : Tree) → ((q : StmtSeat) → p ≡ Stmt q → ⊥) → ((s : Seat) → p ≡ Expr s → ⊥) → (p ≡ Method → ⊥) → (p ≡ Elsewhere → ⊥) → Applied W p t t false
 elsewhere W (Stmt q) t f g h i = absurd (f q refl)

@@ -1,6 +1,7 @@
 pub mod Chains
 pub mod RemoveUnusedDeclaration
 pub mod Lighter
+pub mod SubstituteNext
 pub mod SubstituteSingleUse
 pub mod RemoveUnusedName
 pub mod SubstituteCatchClause

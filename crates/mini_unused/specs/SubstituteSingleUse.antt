@@ -11,6 +11,7 @@ use Rattle.mini_node.specs.Children.{names_of, part, with_part, is_bare, is_name
 use Rattle.mini_node.specs.Kinds.{is_listed}
 use Rattle.mini_rows.specs.Unused.{names, any_names, leads, is_childless, is_head_shape, may_move, reads_first, put_first}
 use Rattle.mini_unused.specs.Chains.{Several}
+use Rattle.mini_unused.specs.SubstituteNext.{NextAt, NextGone}
 use Rattle.mini_unused.specs.RemoveUnusedDeclaration.{declares_name, declares_list, may_lose, is_free_at, list_at, let_left, list_left, UnusedAt}
 
 -- a node without a name and a number, which evaluates its first part before all else
@@ -89,9 +90,9 @@ pub record ReadGone (W : VariableSet) (o l m : Tree) : Type 0 where
 -- of one of them, which no direct eval sees
 pub record Gone (W : VariableSet) (o l m : Tree) : Type 0 where
   pub unseen : (has_eval o || has_eval l) ≡ false
-  pub name : NameGone W o l m ⊎ ReadGone W o l m
+  pub name : NameGone W o l m ⊎ (ReadGone W o l m ⊎ NextGone W o l m)
 
 -- some names are gone, one after another; or there is none, or a direct eval sees it
 abbrev pub Removed : VariableSet → Tree → Tree → Tree → Bool → Type 0
 Removed W o l m true = Several (Gone W o) l m
-Removed W o l m false = (m ≡ l) × (((has_eval o || has_eval l) ≡ true) ⊎ (UnusedAt W o (children l) None × SingleAt W o (children l) None))
+Removed W o l m false = (m ≡ l) × (((has_eval o || has_eval l) ≡ true) ⊎ (UnusedAt W o (children l) None × SingleAt W o (children l) None × NextAt W o (children l) None))

@@ -248,7 +248,7 @@ pub fn take_child(node: &mut Node, at: usize) -> Node
     node.children_mut().take(at)
 }
 
-// Puts the child at the index of the node.
+/// Puts the child at the index of the node.
 pub fn put_child(node: &mut Node, at: usize, child: Node)
     requires { at < count (children node.old) }
     ensures { node.new ≡ with_part node.old at child }

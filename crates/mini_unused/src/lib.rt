@@ -7,6 +7,7 @@ mod declares;
 mod evals;
 mod mentions;
 mod names;
+mod next_uses;
 mod single_uses;
 mod sweeping;
 mod tallies;

@@ -17,6 +17,7 @@ use crate::declarations::{
 };
 use crate::evals::either_has_eval;
 use crate::mentions::{is_mentioned, is_mentioned_before, is_mentioned_from, is_same_symbol};
+use crate::next_uses::substitute_next_uses;
 use crate::sweeping::sweep;
 use mini_context::Scopes;
 use mini_model::{Name, OutOfMemory, Shape, UnaryOperator};
@@ -88,9 +89,9 @@ fn is_sequence_shape(shape: &Shape) -> bool
     matches!(shape, Shape::SequenceExpression)
 }
 
-// An expression, or a list of parts, reads the variable before all else, and nothing else in it mentions the name.
+/// An expression, or a list of parts, reads the variable before all else, and nothing else in it mentions the name.
 #[tactic(auto, using(crate::proofs::SingleUses::first_leaf))]
-fn is_first(name: &Name, in_list: bool, node: &Node) -> bool
+pub fn is_first(name: &Name, in_list: bool, node: &Node) -> bool
     ensures { result ≡ reading.is_first name.now in_list node.now }
 {
     if node.children().len() == 0 {
@@ -146,7 +147,7 @@ fn is_definition(shape: &Shape) -> bool
     )
 }
 
-/// What may stand where the variable is read.
+/// What may move: no function and no class, which may get the variable's name.
 pub fn may_move(node: &Node) -> bool
     ensures { result ≡ reading.may_move node.now }
 {
@@ -273,9 +274,9 @@ fn single_at(outside: &Node, statements: &Nodes, scopes: &Scopes) -> Option<usiz
     None
 }
 
-// Another tree in the place of what is read first.
+/// Another tree in the place of what is read first.
 #[tactic(auto, using(crate::proofs::SingleUses::put_leaf, crate::proofs::SingleUses::put_step, crate::proofs::SingleUses::part_smaller, crate::proofs::Unused::same_parts, crate::proofs::Unused::part_twice))]
-fn put_first(value: Node, mut node: Node) -> Node
+pub fn put_first(value: Node, mut node: Node) -> Node
     ensures { result ≡ reading.put_first value node }
 {
     if node.children().len() == 0 {
@@ -374,6 +375,6 @@ pub fn substitute_single_uses(
             sweep(alloc, outside, list, at, scopes)?;
             Ok(true)
         }
-        None => Ok(false),
+        None => substitute_next_uses(alloc, outside, list, scopes),
     }
 }

@@ -18,6 +18,7 @@ ghost use Rattle.mini_unused.specs.Tallies.{Tallied};
 use crate::declarations::{
     declares_list, declares_name, drop_in_list, is_alone, is_lexical, may_go, may_lose,
 };
+use crate::next_uses::{is_next_there, substitute_next};
 use crate::single_uses::{is_read_once, last_declarator, may_move, reads_next, substitute_in_list};
 use crate::tallies::{Tallies, has_rare_name, is_rarely_read, tally_list};
 use mini_context::Scopes;
@@ -223,6 +224,29 @@ fn sweep_single(
     substitute_in_list(alloc, list, at, last);
 }
 
+// The declarator at the place goes where the next one reads its name first and nothing else mentions it.
+fn sweep_next(
+    outside: &Node,
+    list: &mut Node,
+    at: usize,
+    which: usize,
+    scopes: &Scopes,
+    tallies: &Tallies,
+)
+    requires fits { at + 1 < 2 ^ 64 }
+    requires fits_too { which + 1 < 2 ^ 64 }
+    requires calm { Calm tallies.now outside.now list.old }
+    ensures { Swept (open_in outside.now (marked scopes.now)) tallies.now outside.now list.old list.new }
+{
+    if at >= list.children().len() {
+        return;
+    }
+    if !is_next_there(outside, list.children(), at, which, scopes) {
+        return;
+    }
+    substitute_next(list, at, which);
+}
+
 // The declarator at the place goes where nothing else mentions its name, or where it is read once.
 fn sweep_declarator(
     alloc: Global,
@@ -245,6 +269,7 @@ fn sweep_declarator(
         return drop_in_list(alloc, list, at, which);
     }
     sweep_single(alloc, outside, list, at, which, scopes, tallies);
+    sweep_next(outside, list, at, which, scopes, tallies);
     Ok(())
 }
 

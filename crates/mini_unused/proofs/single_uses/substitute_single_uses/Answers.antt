@@ -1,4 +1,4 @@
-use Rattle.std.proofs.Common.{sym, subst, refl, inr}
+use Rattle.std.proofs.Common.{sym, subst}
 use Rattle.std.specs.Prelude.{None}
 use Rattle.mini_unused.specs.RemoveUnusedDeclaration.{marked, open_in}
 use Rattle.mini_unused.specs.SubstituteSingleUse.{SingleAt}
@@ -24,5 +24,5 @@ returns-in_ok-sweep-in-Some c =
     let first = read_gone W c.args.outside.now c.args.list.now c.substitute_in_list.new.list c.children.result.now c.in-Some.at c.last_declarator-which.result c.children.ensures c.in-Some.ensures (sym c.if-either_has_eval.ensures) c.last_declarator-which.ensures.place c.substitute_in_list.ensures in
     some_gone W c.args.outside.now c.args.list.now c.substitute_in_list.new.list c.sweep.new.list first c.in_ok-sweep-in-Some.ensures
 
-pub returns-in-None : goal.returns-in-None
-returns-in-None c = (refl, inr (c.requires.used, subst (λ ts. SingleAt (open_in c.args.outside.now (marked c.args.scopes.now)) c.args.outside.now ts None) c.children.ensures c.in-None.ensures))
+pub substitute_next_uses-requires-clause-singles : goal.substitute_next_uses-requires-clause-singles
+substitute_next_uses-requires-clause-singles c = subst (λ ts. SingleAt (open_in c.args.outside.now (marked c.args.scopes.now)) c.args.outside.now ts None) c.children.ensures c.in-None.ensures

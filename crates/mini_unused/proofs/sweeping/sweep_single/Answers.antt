@@ -1,4 +1,4 @@
-use Rattle.std.proofs.Common.{◌≡◌, ◌<◌, ◌∙◌, suc, true, ap, sym, subst, refl, inr, arith}
+use Rattle.std.proofs.Common.{◌≡◌, ◌<◌, ◌∙◌, suc, true, ap, sym, subst, refl, inl, inr, arith}
 use Rattle.mini_model.specs.Tree.{children, count}
 use Rattle.mini_unused.specs.RemoveUnusedDeclaration.{marked, open_in, list_at}
 use Rattle.mini_unused.specs.SubstituteSingleUse.{is_single, list_single}
@@ -21,4 +21,4 @@ returns c =
     let declares = subst (λ ts. 0 < count (children (list_at ts at))) c.children.ensures (c.if-not-is_single_there.ensures.declarators refl) in
     let single = subst (λ ts. is_single W c.args.outside.now ts at ≡ true) c.children.ensures (c.if-not-is_single_there.ensures.single refl) in
     swept_one W c.args.tallies.now c.args.outside.now l c.substitute_in_list.new.list c.requires.calm
-    (record { unseen = c.requires.calm.unseen; name = inr (record { at = at; next = next; declares = declares; single = single; left = c.substitute_in_list.ensures ∙ ap (list_single l at) c.last_declarator-last.ensures.place }) })
+    (record { unseen = c.requires.calm.unseen; name = inr (inl (record { at = at; next = next; declares = declares; single = single; left = c.substitute_in_list.ensures ∙ ap (list_single l at) c.last_declarator-last.ensures.place })) })

@@ -1,0 +1,301 @@
+//! Row 71 in one declaration: `{ let x = a(), y = x.b; c(y); }` becomes `{ let y = a().b; c(y); }`, where the next declarator, which
+//! declares a name, evaluates x before all else, nothing else in the block has its spelling or its symbol, and no direct eval stands
+//! there.
+
+ghost use Rattle.std.specs.Prelude.{◌≡◌, ◌+◌, ◌<◌, ◌^◌, true, None, Some, IfOk};
+ghost use Rattle.mini_model.specs.Tree.{children, count};
+ghost use Rattle.mini_node.specs.Children.{names, part, with_part};
+ghost use Rattle.mini_rows.specs.Unused.{put_first as it_put_first};
+ghost use Rattle.mini_node.specs.Kinds.{is_listed as is_it_listed};
+ghost use Rattle.mini_unused.specs.RemoveUnusedDeclaration.{declares_name as it_declares_name, marked, open_in, UnusedAt};
+ghost use Rattle.mini_unused.specs.SubstituteNext as row;
+ghost use Rattle.mini_unused.specs.SubstituteNext.{NextIn, NextOf, NextAt};
+ghost use Rattle.mini_unused.specs.SubstituteSingleUse.{Removed, SingleAt};
+
+use crate::declarations::{
+    declares_list, declares_name, is_lexical, may_lose, put_child, take_child,
+};
+use crate::evals::either_has_eval;
+use crate::mentions::{is_mentioned, is_mentioned_before, is_mentioned_from};
+use crate::single_uses::{is_first, may_move, put_first};
+use crate::sweeping::sweep;
+use mini_context::Scopes;
+use mini_model::{Name, OutOfMemory};
+use mini_node::{Node, Nodes, discard, two};
+use std::alloc::Global;
+
+// Whether the name stands in the initializer, in what the next declarator declares, or in another declarator.
+fn is_mentioned_beside(
+    name: &Name,
+    declarator: &Node,
+    next: &Node,
+    declarators: &Nodes,
+    which: usize,
+) -> bool
+    requires parts { 1 < count (children declarator.now) }
+    requires next_parts { 1 < count (children next.now) }
+    requires next { which + 1 < count declarators.now }
+    requires fits { which + 2 < 2 ^ 64 }
+    ensures { result ≡ row.is_mentioned_beside name.now declarator.now next.now declarators.now which }
+{
+    is_mentioned(name, declarator.child(1))
+        || is_mentioned(name, next.child(0))
+        || is_mentioned_before(name, declarators, which)
+        || is_mentioned_from(name, declarators, which + 2)
+}
+
+// Whether it stands in another statement.
+fn is_mentioned_elsewhere(name: &Name, statements: &Nodes, at: usize) -> bool
+    requires statement { at < count statements.now }
+    requires fits { at + 1 < 2 ^ 64 }
+    ensures { result ≡ row.is_mentioned_elsewhere name.now statements.now at }
+{
+    is_mentioned_before(name, statements, at) || is_mentioned_from(name, statements, at + 1)
+}
+
+// The next declarator reads the name first, and nothing else mentions it.
+fn is_read_then(
+    name: &Option<Name>,
+    declarator: &Node,
+    next: &Node,
+    outside: &Node,
+    declarators: &Nodes,
+    which: usize,
+    statements: &Nodes,
+    at: usize,
+) -> bool
+    requires parts { 1 < count (children declarator.now) }
+    requires next_parts { 1 < count (children next.now) }
+    requires next { which + 1 < count declarators.now }
+    requires statement { at < count statements.now }
+    requires fits { which + 2 < 2 ^ 64 }
+    requires fits_too { at + 1 < 2 ^ 64 }
+    ensures { result ≡ row.is_read_then (names name.now) declarator.now next.now outside.now declarators.now which statements.now at }
+{
+    match name {
+        Some(name) => {
+            is_first(name, false, next.child(1))
+                && !is_mentioned_beside(name, declarator, next, declarators, which)
+                && !is_mentioned(name, outside)
+                && !is_mentioned_elsewhere(name, statements, at)
+        }
+        None => false,
+    }
+}
+
+// Such a declarator, whose initializer may move.
+fn is_read_by(
+    is_free: bool,
+    declarator: &Node,
+    next: &Node,
+    outside: &Node,
+    declarators: &Nodes,
+    which: usize,
+    statements: &Nodes,
+    at: usize,
+    scopes: &Scopes,
+) -> bool
+    requires next { which + 1 < count declarators.now }
+    requires statement { at < count statements.now }
+    requires fits { which + 2 < 2 ^ 64 }
+    requires fits_too { at + 1 < 2 ^ 64 }
+    ensures { result ≡ row.is_read_by is_free (open_in outside.now (marked scopes.now)) declarator.now next.now outside.now declarators.now which statements.now at }
+{
+    declares_name(declarator)
+        && declares_name(next)
+        && may_lose(is_free, declarator.child(0).name(), outside, scopes)
+        && may_move(declarator.child(1))
+        && is_read_then(
+            declarator.child(0).name(),
+            declarator,
+            next,
+            outside,
+            declarators,
+            which,
+            statements,
+            at,
+        )
+}
+
+// Of a list the declarator at the place.
+#[tactic(auto, using(crate::proofs::NextUses::next_is))]
+fn is_read_by_next(
+    is_free: bool,
+    list: &Node,
+    which: usize,
+    outside: &Node,
+    statements: &Nodes,
+    at: usize,
+    scopes: &Scopes,
+) -> bool
+    requires next { which + 1 < count (children list.now) }
+    requires statement { at < count statements.now }
+    requires fits { which + 2 < 2 ^ 64 }
+    requires fits_too { at + 1 < 2 ^ 64 }
+    ensures { result ≡ row.is_read_by_next is_free (open_in outside.now (marked scopes.now)) list.now which outside.now statements.now at }
+{
+    let declarator = list.child(which);
+    let next = list.child(which + 1);
+    let declarators = list.children();
+    is_read_by(
+        is_free,
+        declarator,
+        next,
+        outside,
+        declarators,
+        which,
+        statements,
+        at,
+        scopes,
+    )
+}
+
+// The first of the list.
+
+fn next_in(
+    is_free: bool,
+    list: &Node,
+    outside: &Node,
+    statements: &Nodes,
+    at: usize,
+    scopes: &Scopes,
+) -> Option<usize>
+    requires statement { at < count statements.now }
+    requires fits { at + 1 < 2 ^ 64 }
+    ensures { NextIn is_free (open_in outside.now (marked scopes.now)) list.now outside.now statements.now at result }
+{
+    let count = list.children().len();
+    if count == 0 {
+        return None;
+    }
+    for which in 0..count - 1 {
+        if is_read_by_next(is_free, list, which, outside, statements, at, scopes) {
+            return Some(which);
+        }
+    }
+    None
+}
+
+// Of the statement, where it is a declaration.
+
+fn next_of(outside: &Node, statements: &Nodes, at: usize, scopes: &Scopes) -> Option<usize>
+    requires statement { at < count statements.now }
+    requires fits { at + 1 < 2 ^ 64 }
+    ensures { NextOf (open_in outside.now (marked scopes.now)) outside.now statements.now at result }
+{
+    let statement = statements.child(at);
+    if !declares_list(statement) {
+        return None;
+    }
+    let is_free = is_lexical(statement.shape());
+    next_in(is_free, statement.child(0), outside, statements, at, scopes)
+}
+
+/// The first declaration that has a name which its next declarator reads first, and which nothing else mentions, and the declarator's
+/// place in it.
+pub fn next_at(outside: &Node, statements: &Nodes, scopes: &Scopes) -> Option<(usize, usize)>
+    ensures { NextAt (open_in outside.now (marked scopes.now)) outside.now statements.now result }
+{
+    for at in 0..statements.len() {
+        if let Some(which) = next_of(outside, statements, at, scopes) {
+            return Some((at, which));
+        }
+    }
+    None
+}
+
+// In the declarator at the index a tree goes in the place of what its initializer reads first.
+#[tactic(auto, using(crate::proofs::Unused::same_parts, crate::proofs::Unused::part_twice))]
+fn put_initial(list: &mut Node, which: usize, value: Node)
+    requires declarator { which < count (children list.old) }
+    requires parts { 1 < count (children (part list.old which)) }
+    ensures { list.new ≡ row.with_initial list.old which value }
+{
+    let mut declarator = take_child(list, which);
+    let initial = take_child(&mut declarator, 1);
+    put_child(&mut declarator, 1, put_first(value, initial));
+    put_child(list, which, declarator);
+}
+
+// Of a list of declarators, the one at the index goes, and its initializer into the next.
+#[tactic(auto, using(crate::proofs::NextUses::within_left, crate::proofs::NextUses::parts_left))]
+fn substitute_in_declarators(list: &mut Node, which: usize)
+    requires next { which + 1 < count (children list.old) }
+    requires parts { count (children (part list.old which)) ≡ 2 }
+    requires next_parts { count (children (part list.old (which + 1))) ≡ 2 }
+    ensures { list.new ≡ row.declarators_next list.old which }
+{
+    let (binding, value) = two(list.children_mut().remove(which));
+    discard(binding);
+    put_initial(list, which, value);
+}
+
+/// Of a list of statements, `let x = a(), y = x.b;` becomes `let y = a().b;`.
+#[tactic(auto, using(crate::proofs::Unused::same_parts, crate::proofs::Unused::part_twice, crate::proofs::NextUses::two_parts))]
+pub fn substitute_next(list: &mut Node, at: usize, which: usize)
+    requires statement { at < count (children list.old) }
+    requires declarators { 0 < count (children (part list.old at)) }
+    requires next { which + 1 < count (children (part (part list.old at) 0)) }
+    requires declares { it_declares_name (part (part (part list.old at) 0) which) ≡ true }
+    requires next_declares { it_declares_name (part (part (part list.old at) 0) (which + 1)) ≡ true }
+    ensures { list.new ≡ row.list_next list.old at which }
+{
+    let mut declaration = take_child(list, at);
+    let mut declarators = take_child(&mut declaration, 0);
+    substitute_in_declarators(&mut declarators, which);
+    put_child(&mut declaration, 0, declarators);
+    put_child(list, at, declaration);
+}
+
+/// Of the statement at the place, where it is a declaration, the declarator at the other has a name that the next one reads first, and
+/// that nothing else mentions.
+pub fn is_next_there(
+    outside: &Node,
+    statements: &Nodes,
+    at: usize,
+    which: usize,
+    scopes: &Scopes,
+) -> bool
+    requires statement { at < count statements.now }
+    requires fits { at + 1 < 2 ^ 64 }
+    requires fits_too { which + 1 < 2 ^ 64 }
+    ensures { result ≡ true → NextOf (open_in outside.now (marked scopes.now)) outside.now statements.now at (Some which) }
+{
+    let statement = statements.child(at);
+    if !declares_list(statement) {
+        return false;
+    }
+    let list = statement.child(0);
+    if which + 1 >= list.children().len() {
+        return false;
+    }
+    let is_free = is_lexical(statement.shape());
+    is_read_by_next(is_free, list, which, outside, statements, at, scopes)
+}
+
+/// Of a list of statements in which no name is unused, and none that the next statement reads alone, with what stands outside of them,
+/// `let x = a(), y = x.b;` becomes `let y = a().b;`, as often as there is one. The answer says whether there was; the only error is that
+/// memory runs out.
+pub fn substitute_next_uses(
+    alloc: Global,
+    outside: &Node,
+    list: &mut Node,
+    scopes: &Scopes,
+) -> Result<bool, OutOfMemory>
+    requires list { is_it_listed list.old ≡ true }
+    requires used { UnusedAt (open_in outside.now (marked scopes.now)) outside.now (children list.old) None }
+    requires singles { SingleAt (open_in outside.now (marked scopes.now)) outside.now (children list.old) None }
+    ensures { IfOk result (λ changed. Removed (open_in outside.now (marked scopes.now)) outside.now list.old list.new changed) }
+{
+    match next_at(outside, list.children(), scopes) {
+        Some((at, which)) => {
+            if either_has_eval(outside, list) {
+                return Ok(false);
+            }
+            substitute_next(list, at, which);
+            sweep(alloc, outside, list, at, scopes)?;
+            Ok(true)
+        }
+        None => Ok(false),
+    }
+}
