@@ -45,13 +45,13 @@ module _ (all : List Body) (a : Around) where
   abbrev pub HasBodies : Asked → Tree → Type 0
   HasBodies c t = BodiesKept all (bodies (quiet a) t)
 
-  bodies_below : (cs : ℕ → Asked) (around : ℕ → Around) → ((j : ℕ) → around j ≡ quiet a) → (i : ℕ) (ts : Trees) → BodiesKept all (bodies_from around i ts) → Below HasBodies cs i ts
+  pub bodies_below : (cs : ℕ → Asked) (around : ℕ → Around) → ((j : ℕ) → around j ≡ quiet a) → (i : ℕ) (ts : Trees) → BodiesKept all (bodies_from around i ts) → Below HasBodies cs i ts
   bodies_below cs around z i none k = tt
   bodies_below cs around z i (t ▸ ts) k =
       let (x, y) = split_bodies all (bodies (around i) t) (bodies_from around (suc i) ts) k in
       (subst (λ r. BodiesKept all (bodies r t)) (z i) x, bodies_below cs around z (suc i) ts y)
 
-  below_bodies : (cs : ℕ → Asked) (around : ℕ → Around) → ((j : ℕ) → around j ≡ quiet a) → (i : ℕ) (ts : Trees) → Below HasBodies cs i ts → BodiesKept all (bodies_from around i ts)
+  pub below_bodies : (cs : ℕ → Asked) (around : ℕ → Around) → ((j : ℕ) → around j ≡ quiet a) → (i : ℕ) (ts : Trees) → Below HasBodies cs i ts → BodiesKept all (bodies_from around i ts)
   below_bodies cs around z i none k = tt
   below_bodies cs around z i (t ▸ ts) k =
       both_bodies all (bodies (around i) t) (bodies_from around (suc i) ts) (subst (λ r. BodiesKept all (bodies r t)) (sym (z i)) k.0) (below_bodies cs around z (suc i) ts k.1)
@@ -79,13 +79,13 @@ module _ (all : List Frame) where
   abbrev pub HasFrames : Asked → Tree → Type 0
   HasFrames c t = FramesKept all (frames None t)
 
-  frames_below : (cs : ℕ → Asked) (kind : ℕ → Option PropertyKind) → ((j : ℕ) → kind j ≡ None) → (i : ℕ) (ts : Trees) → FramesKept all (frames_from kind i ts) → Below HasFrames cs i ts
+  pub frames_below : (cs : ℕ → Asked) (kind : ℕ → Option PropertyKind) → ((j : ℕ) → kind j ≡ None) → (i : ℕ) (ts : Trees) → FramesKept all (frames_from kind i ts) → Below HasFrames cs i ts
   frames_below cs kind z i none k = tt
   frames_below cs kind z i (t ▸ ts) k =
       let (x, y) = split_frames all (frames (kind i) t) (frames_from kind (suc i) ts) k in
       (subst (λ r. FramesKept all (frames r t)) (z i) x, frames_below cs kind z (suc i) ts y)
 
-  below_frames : (cs : ℕ → Asked) (kind : ℕ → Option PropertyKind) → ((j : ℕ) → kind j ≡ None) → (i : ℕ) (ts : Trees) → Below HasFrames cs i ts → FramesKept all (frames_from kind i ts)
+  pub below_frames : (cs : ℕ → Asked) (kind : ℕ → Option PropertyKind) → ((j : ℕ) → kind j ≡ None) → (i : ℕ) (ts : Trees) → Below HasFrames cs i ts → FramesKept all (frames_from kind i ts)
   below_frames cs kind z i none k = λ f x. absurd (none_in x)
   below_frames cs kind z i (t ▸ ts) k =
       both_frames all (frames (kind i) t) (frames_from kind (suc i) ts) (subst (λ r. FramesKept all (frames r t)) (sym (z i)) k.0) (below_frames cs kind z (suc i) ts k.1)
@@ -119,13 +119,13 @@ module _ (all : List Name) where
       by (inl d) = k x d
       by (inr d) = l x d
 
-  declares_below : (cs : ℕ → Asked) (i : ℕ) (ts : Trees) → Among (declared_all ts) → Below Declares cs i ts
+  pub declares_below : (cs : ℕ → Asked) (i : ℕ) (ts : Trees) → Among (declared_all ts) → Below Declares cs i ts
   declares_below cs i none k = tt
   declares_below cs i (t ▸ ts) k =
       let (x, y) = split_names (declared t) (declared_all ts) k in
       (x, declares_below cs (suc i) ts y)
 
-  below_declares : (cs : ℕ → Asked) (i : ℕ) (ts : Trees) → Below Declares cs i ts → Among (declared_all ts)
+  pub below_declares : (cs : ℕ → Asked) (i : ℕ) (ts : Trees) → Below Declares cs i ts → Among (declared_all ts)
   below_declares cs i none k = λ x c. absurd (none_in c)
   below_declares cs i (t ▸ ts) k = both_names (declared t) (declared_all ts) k.0 (below_declares cs (suc i) ts k.1)
 
@@ -183,13 +183,13 @@ module _ (x : Variable) (k : ℕ) where
   both_rank Constant KeepsOld e d = e
   both_rank Constant Constant e d = e
 
-  fixed_below : (cs : ℕ → Asked) (i : ℕ) (ts : Trees) → rank (fixed_by_any ts x) ≤ k → Below FixedBy cs i ts
+  pub fixed_below : (cs : ℕ → Asked) (i : ℕ) (ts : Trees) → rank (fixed_by_any ts x) ≤ k → Below FixedBy cs i ts
   fixed_below cs i none e = tt
   fixed_below cs i (t ▸ ts) e =
       let (a, b) = split_rank (fixed_by t x) (fixed_by_any ts x) e in
       (a, fixed_below cs (suc i) ts b)
 
-  below_fixed : (cs : ℕ → Asked) (i : ℕ) (ts : Trees) → Below FixedBy cs i ts → rank (fixed_by_any ts x) ≤ k
+  pub below_fixed : (cs : ℕ → Asked) (i : ℕ) (ts : Trees) → Below FixedBy cs i ts → rank (fixed_by_any ts x) ≤ k
   below_fixed cs i none a = omega arith
   below_fixed cs i (t ▸ ts) a = both_rank (fixed_by t x) (fixed_by_any ts x) a.0 (below_fixed cs (suc i) ts a.1)
 

@@ -64,14 +64,14 @@ module _ (v : Use) (env : Environment) where
   abbrev pub ScopedAs : Asked → Tree → Type 0
   ScopedAs c t = Scoped (use_by v c) env t
 
-  scoped_below : (cs : ℕ → Asked) (scope : ℕ → List Binding) → ((j : ℕ) → scope j ≡ []) → (uses : ℕ → Use) → ((j : ℕ) → uses j ≡ use_by v (cs j)) → (i : ℕ) (e : Environment) → e ≡ env → (ts : Trees) → AllScoped scope uses i e ts → Below ScopedAs cs i ts
+  pub scoped_below : (cs : ℕ → Asked) (scope : ℕ → List Binding) → ((j : ℕ) → scope j ≡ []) → (uses : ℕ → Use) → ((j : ℕ) → uses j ≡ use_by v (cs j)) → (i : ℕ) (e : Environment) → e ≡ env → (ts : Trees) → AllScoped scope uses i e ts → Below ScopedAs cs i ts
   unfolding Scoped
   scoped_below cs scope z uses w i e q none a = tt
   scoped_below cs scope z uses w i e q (t ▸ ts) a =
       let same : e ++ scope i ≡ env = ap (λ r. e ++ r) (z i) ∙ append-nil e ∙ q in
       (subst (λ u. Scoped u env t) (w i) (subst (λ r. Scoped (uses i) r t) same a.0), scoped_below cs scope z uses w (suc i) (e ++ scope i) same ts a.1)
 
-  below_scoped : (cs : ℕ → Asked) (scope : ℕ → List Binding) → ((j : ℕ) → scope j ≡ []) → (uses : ℕ → Use) → ((j : ℕ) → uses j ≡ use_by v (cs j)) → (i : ℕ) (e : Environment) → e ≡ env → (ts : Trees) → Below ScopedAs cs i ts → AllScoped scope uses i e ts
+  pub below_scoped : (cs : ℕ → Asked) (scope : ℕ → List Binding) → ((j : ℕ) → scope j ≡ []) → (uses : ℕ → Use) → ((j : ℕ) → uses j ≡ use_by v (cs j)) → (i : ℕ) (e : Environment) → e ≡ env → (ts : Trees) → Below ScopedAs cs i ts → AllScoped scope uses i e ts
   unfolding Scoped
   below_scoped cs scope z uses w i e q none a = tt
   below_scoped cs scope z uses w i e q (t ▸ ts) a =
@@ -91,7 +91,7 @@ module _ (v : Use) (x : Option SymbolId) where
   abbrev pub symbol_times : Asked → Tree → ℕ
   symbol_times c t = times x (declared_in (use_by v c) t)
 
-  symbols_below : (cs : ℕ → Asked) (scope : ℕ → List Binding) → ((j : ℕ) → scope j ≡ []) → (uses : ℕ → Use) → ((j : ℕ) → uses j ≡ use_by v (cs j)) → (i : ℕ) (ts : Trees) → times x (declared_from scope uses i ts) ≡ sum_below symbol_times cs i ts
+  pub symbols_below : (cs : ℕ → Asked) (scope : ℕ → List Binding) → ((j : ℕ) → scope j ≡ []) → (uses : ℕ → Use) → ((j : ℕ) → uses j ≡ use_by v (cs j)) → (i : ℕ) (ts : Trees) → times x (declared_from scope uses i ts) ≡ sum_below symbol_times cs i ts
   unfolding declared_in
   symbols_below cs scope z uses w i none = refl
   symbols_below cs scope z uses w i (t ▸ ts) =
@@ -105,7 +105,7 @@ module _ (k : ℕ) where
   abbrev pub number_times : Asked → Tree → ℕ
   number_times c t = count_of k (numbers t)
 
-  numbers_below : (cs : ℕ → Asked) (i : ℕ) (ts : Trees) → count_of k (all_numbers ts) ≡ sum_below number_times cs i ts
+  pub numbers_below : (cs : ℕ → Asked) (i : ℕ) (ts : Trees) → count_of k (all_numbers ts) ≡ sum_below number_times cs i ts
   unfolding numbers
   numbers_below cs i none = refl
   numbers_below cs i (t ▸ ts) = omega (arith, both_counts k (numbers t) (all_numbers ts), numbers_below cs (suc i) ts)
@@ -136,14 +136,14 @@ module _ (b : Bool) where
   both_or true y e f = e
   both_or false y e f = f
 
-  inner_below : (cs : ℕ → Asked) (i : ℕ) (ts : Trees) → (any_inner ts || b) ≡ b → Below InnerIf cs i ts
+  pub inner_below : (cs : ℕ → Asked) (i : ℕ) (ts : Trees) → (any_inner ts || b) ≡ b → Below InnerIf cs i ts
   unfolding has_inner
   inner_below cs i none e = tt
   inner_below cs i (t ▸ ts) e =
       let (x, y) = or_both (has_inner t) (any_inner ts) e in
       (x, inner_below cs (suc i) ts y)
 
-  below_inner : (cs : ℕ → Asked) (i : ℕ) (ts : Trees) → Below InnerIf cs i ts → (any_inner ts || b) ≡ b
+  pub below_inner : (cs : ℕ → Asked) (i : ℕ) (ts : Trees) → Below InnerIf cs i ts → (any_inner ts || b) ≡ b
   unfolding has_inner
   below_inner cs i none a = refl
   below_inner cs i (t ▸ ts) a = both_or (has_inner t) (any_inner ts) a.0 (below_inner cs (suc i) ts a.1)
@@ -165,14 +165,14 @@ no_clash h ts p = refl
 abbrev pub Once : Asked → Tree → Type 0
 Once c t = early_names [] t ≡ []
 
-once_below : (cs : ℕ → Asked) (p : Path) (i : ℕ) (ts : Trees) → all_early_names p i ts ≡ [] → Below Once cs i ts
+pub once_below : (cs : ℕ → Asked) (p : Path) (i : ℕ) (ts : Trees) → all_early_names p i ts ≡ [] → Below Once cs i ts
 unfolding early_names
 once_below cs p i none e = tt
 once_below cs p i (t ▸ ts) e =
     let (x, y) = empty_both (early_names (p ++ i ∷ []) t) (all_early_names p (suc i) ts) e in
     (once_anywhere (p ++ i ∷ []) [] t x, once_below cs p (suc i) ts y)
 
-below_once : (cs : ℕ → Asked) (p : Path) (i : ℕ) (ts : Trees) → Below Once cs i ts → all_early_names p i ts ≡ []
+pub below_once : (cs : ℕ → Asked) (p : Path) (i : ℕ) (ts : Trees) → Below Once cs i ts → all_early_names p i ts ≡ []
 unfolding early_names
 below_once cs p i none a = refl
 below_once cs p i (t ▸ ts) a = both_empty (early_names (p ++ i ∷ []) t) (all_early_names p (suc i) ts) (once_anywhere [] (p ++ i ∷ []) t a.0) (below_once cs p (suc i) ts a.1)
@@ -215,14 +215,14 @@ module _ (g : Targets) where
   abbrev pub Aimed : Asked → Tree → Type 0
   Aimed c t = early_jumps g [] t ≡ []
 
-  aimed_below : (cs : ℕ → Asked) (targets : ℕ → Targets) → ((j : ℕ) → targets j ≡ g) → (p : Path) (i : ℕ) (ts : Trees) → all_early_jumps targets p i ts ≡ [] → Below Aimed cs i ts
+  pub aimed_below : (cs : ℕ → Asked) (targets : ℕ → Targets) → ((j : ℕ) → targets j ≡ g) → (p : Path) (i : ℕ) (ts : Trees) → all_early_jumps targets p i ts ≡ [] → Below Aimed cs i ts
   unfolding early_jumps
   aimed_below cs targets z p i none e = tt
   aimed_below cs targets z p i (t ▸ ts) e =
       let (x, y) = empty_both (early_jumps (targets i) (p ++ i ∷ []) t) (all_early_jumps targets p (suc i) ts) e in
       (targets_anywhere g (p ++ i ∷ []) [] t (subst (λ r. early_jumps r (p ++ i ∷ []) t ≡ []) (z i) x), aimed_below cs targets z p (suc i) ts y)
 
-  below_aimed : (cs : ℕ → Asked) (targets : ℕ → Targets) → ((j : ℕ) → targets j ≡ g) → (p : Path) (i : ℕ) (ts : Trees) → Below Aimed cs i ts → all_early_jumps targets p i ts ≡ []
+  pub below_aimed : (cs : ℕ → Asked) (targets : ℕ → Targets) → ((j : ℕ) → targets j ≡ g) → (p : Path) (i : ℕ) (ts : Trees) → Below Aimed cs i ts → all_early_jumps targets p i ts ≡ []
   unfolding early_jumps
   below_aimed cs targets z p i none a = refl
   below_aimed cs targets z p i (t ▸ ts) a =

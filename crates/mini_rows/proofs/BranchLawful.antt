@@ -22,16 +22,17 @@ use Rattle.mini_kept.specs.KeepsShapes.{is_default, AskedAlike}
 use Rattle.mini_kept.specs.Lawful.{Lawful}
 use Rattle.mini_kept.proofs.Bools.{left, both}
 use Rattle.mini_kept.proofs.Expressions.{expression, refused_here, not_of_fits, two_fit}
-use Rattle.mini_kept.proofs.Quiet.{expression_is_quiet}
+use Rattle.mini_kept.proofs.Quiet.{IsQuiet, expression_is_quiet}
 use Rattle.mini_kept.proofs.Rows.{statement, last_statement, TakesStatementIn, TakesStatement, IfFits, of_if, of_statement, of_last_statement}
 use Rattle.mini_terms.specs.Parts.{leaves_nothing}
 use Rattle.mini_laws.specs.Rewritten.{MeansSame}
 use Rattle.mini_rows.specs.Arranged.{KeptAt, Vanishes}
-use Rattle.mini_rows.specs.Lists.{block, return_statement, is_unscoped, are_unscoped}
+use Rattle.mini_rows.specs.Lists.{block, switch, return_statement, is_unscoped, are_unscoped}
 use Rattle.mini_rows.specs.Sketches.{AbsentPart, Return, part, under, end, ◌▹◌}
 use Rattle.mini_rows.specs.Spellings.{IsUndefined, PlainForm, a_number, a_text, a_boolean, a_null, a_big_int, a_template, a_void, plain, binary}
-use Rattle.mini_rows.specs.Cases.{switch_case, one_case, ended, breaks_out, SwitchRow}
-use Rattle.mini_rows.specs.Branches.{IsEmpty, IsIdleVoid, Row60, has_else, is_other_branch, as_consequent, Surrounding, Consequent, Alternate, WhileBody, DoBody, ForBody, InBody, OfBody, around, conjunct_seat, bare_continue, Row82Empty, after, with_not, without_not, Row82Ends, Row83, BodyRow, BranchRow, BranchContracts}
+use Rattle.mini_rows.specs.Cases.{switch_case, one_case, ended, breaks_out, OneCaseRow}
+use Rattle.mini_rows.specs.DeadCases.{known, Choices, no_choices, choice, cases_of, before_others, are_ended, running, DeadCaseRow}
+use Rattle.mini_rows.specs.Branches.{IsEmpty, IsIdleVoid, Row60, has_else, is_other_branch, as_consequent, Surrounding, Consequent, Alternate, WhileBody, DoBody, ForBody, InBody, OfBody, around, conjunct_seat, bare_continue, Row82Empty, after, with_not, without_not, Row82Ends, Row83, BodyRow, SwitchRow, BranchRow, BranchContracts}
 use Rattle.mini_rows.proofs.ArrangedLawful.{kept_is_lawful}
 use Rattle.mini_rows.proofs.ArrangedStatements.{statements_arranged}
 use Rattle.mini_rows.proofs.BranchInside.{Inside, unwrapped_inside, wrapped_inside}
@@ -41,6 +42,7 @@ use Rattle.mini_rows.proofs.BranchEnds.{ending_written, ends_kept}
 use Rattle.mini_rows.proofs.BranchParts.{Value, core_then, said_then, value_itself, said_itself, value_not, said_not, empty_is_idle, turned_core, turned_said, chosen_core, chosen_said, tested_core, tested_said, nested_core, nested_said}
 use Rattle.mini_rows.proofs.BranchSame.{branches_same}
 use Rattle.mini_rows.proofs.CaseKept.{case_is_kept, case_says, default_is_kept, default_says}
+use Rattle.mini_rows.proofs.DeadCaseKept.{AllQuiet, CasesKept, over_core, over_said, taken_kept, none_kept}
 use Rattle.mini_rows.proofs.FoldLawful.{vanishes, first_dropped}
 use Rattle.mini_rows.proofs.ListShapes.{both_fit}
 use Rattle.mini_rows.proofs.LoopKept.{row_84_fits, row_84_core, row_84_said}
@@ -539,9 +541,80 @@ row_80_default d b ss u s = record {
   said = default_says d b ss u s;
 }
 
-row_80 : (n w : Tree) → SwitchRow n w → Kind n w
+row_80 : (n w : Tree) → OneCaseRow n w → Kind n w
 row_80 n w (inl r) = kind_along n _ w _ r.shape r.written (row_80_case r.discriminant r.test r.is_ended r.statements r.unscoped r.stays)
 row_80 n w (inr r) = kind_along n _ w _ r.shape r.written (row_80_default r.discriminant r.is_ended r.statements r.unscoped r.stays)
+
+-- a `switch` over a value that is written out: its cases
+
+abbrev AllFit : Bool → Choices → Type 0
+AllFit strict no_choices = Unit {0}
+AllFit strict (choice t ss cs) = ((fits strict (one_or_absent an_expression) t ≡ true) × (fill strict (each statement) ss ≡ true)) × AllFit strict cs
+
+cases_fit : (strict : Bool) (cs : Choices) → fill strict (each (one a_case)) (cases_of cs) ≡ true → AllFit strict cs
+cases_fit strict no_choices e = tt
+cases_fit strict (choice t ss cs) e =
+    let (case, others) = and_parts (fits strict (one a_case) (switch_case t ss)) (fill strict (each (one a_case)) (cases_of cs)) e in
+    let (test, body) = and_parts (fits strict (one_or_absent an_expression) t) (fits strict (many (a_statement nested)) (listed ss) && true) case in
+    ((test, left (fits strict (many (a_statement nested)) (listed ss)) true body), cases_fit strict cs others)
+
+fit_cases : (strict : Bool) (cs : Choices) → AllFit strict cs → fill strict (each (one a_case)) (cases_of cs) ≡ true
+fit_cases strict no_choices a = refl
+fit_cases strict (choice t ss cs) ((test, body), a) =
+    both (fits strict (one a_case) (switch_case t ss)) (fill strict (each (one a_case)) (cases_of cs))
+    (both (fits strict (one_or_absent an_expression) t) (fits strict (many (a_statement nested)) (listed ss) && true) test (both (fits strict (many (a_statement nested)) (listed ss)) true body refl)) (fit_cases strict cs a)
+
+fit_later : (strict : Bool) (bs cs : Choices) → AllFit strict (before_others bs cs) → AllFit strict cs
+fit_later strict no_choices cs a = a
+fit_later strict (choice t ss bs) cs a = fit_later strict bs cs a.1
+
+fit_append : (strict : Bool) (a b : Trees) → fill strict (each statement) a ≡ true → fill strict (each statement) b ≡ true → fill strict (each statement) (append a b) ≡ true
+fit_append strict none b e f = f
+fit_append strict (t ▸ a) b e f = later_and (fits strict statement t) _ _ (λ g. fit_append strict a b g f) e
+
+fit_running : (strict : Bool) (ss : Trees) (cs : Choices) → fill strict (each statement) ss ≡ true → AllFit strict cs → fill strict (each statement) (running ss cs) ≡ true
+fit_running strict ss no_choices e a = e
+fit_running strict ss (choice t us cs) e a = go (are_ended ss) (fit_running strict us cs a.0.1 a.1)
+  where
+    go : (b : Bool) → fill strict (each statement) (running us cs) ≡ true → fill strict (each statement) (if b then ss else append ss (running us cs)) ≡ true
+    go true f = e
+    go false f = fit_append strict ss (running us cs) e f
+
+test_quiet : (strict : Bool) (t : Tree) → fits strict (one_or_absent an_expression) t ≡ true → IsQuiet t
+test_quiet strict (node shape.Absent xs n ts) e = refl
+test_quiet strict (node h xs n ts) e = expression_is_quiet strict (node h xs n ts) e
+
+all_quiet : (strict : Bool) (cs : Choices) → AllFit strict cs → AllQuiet cs
+all_quiet strict no_choices a = tt
+all_quiet strict (choice t ss cs) a = (test_quiet strict t a.0.0, all_quiet strict cs a.1)
+
+over_fits : (strict : Bool) (d : Tree) (cs : Choices) → fits strict statement (switch d (listed (cases_of cs))) ≡ true → (fits strict expression d ≡ true) × AllFit strict cs
+over_fits strict d cs e =
+    let (value, list) = and_parts (fits strict expression d) (fits strict (many a_case) (listed (cases_of cs)) && true) e in
+    (value, cases_fit strict cs (left (fits strict (many a_case) (listed (cases_of cs))) true list))
+
+fits_over : (strict : Bool) (d : Tree) (cs : Choices) → fits strict expression d ≡ true → AllFit strict cs → fits strict statement (switch d (listed (cases_of cs))) ≡ true
+fits_over strict d cs e a = both (fits strict expression d) (fits strict (many a_case) (listed (cases_of cs)) && true) e (both (fits strict (many a_case) (listed (cases_of cs))) true (fit_cases strict cs a) refl)
+
+over_kind : (d : Tree) (cs ds : Choices) → CasesKept cs ds → ((strict : Bool) → AllFit strict cs → AllFit strict ds) → Kind (switch d (listed (cases_of cs))) (switch d (listed (cases_of ds)))
+over_kind d cs ds k f = record {
+  read = refl;
+  before = refl;
+  after = refl;
+  fitting = λ strict e. let a = over_fits strict d cs e in fits_over strict d ds a.0 (f strict a.1);
+  core = λ strict e. over_core d cs ds k (all_quiet strict cs (over_fits strict d cs e).1);
+  said = over_said d cs ds k;
+}
+
+row_81 : (n w : Tree) → DeadCaseRow n w → Kind n w
+row_81 n w (inl r) = let cs = choice r.test r.statements r.after in
+    kind_along n _ w _ r.shape r.written (over_kind (known r.value) (before_others r.before cs) (choice r.test (running r.statements r.after) no_choices) (taken_kept r.before r.test r.statements r.after r.loose r.dropped r.rest_dropped)
+    (λ strict a. let b = fit_later strict r.before cs a in ((b.0.0, fit_running strict r.statements r.after b.0.1 b.1), tt)))
+row_81 n w (inr r) = kind_along n _ w _ r.shape r.written (over_kind (known r.value) (choice r.test r.statements r.after) (choice r.test none no_choices) (none_kept r.test r.statements r.after r.loose r.dropped) (λ strict a. ((a.0.0, refl), tt)))
+
+switch_kind : (n w : Tree) → SwitchRow n w → Kind n w
+switch_kind n w (inl r) = row_80 n w r
+switch_kind n w (inr r) = row_81 n w r
 
 row_kind : (n w : Tree) → BodyRow n w ⊎ (Row82Empty n w ⊎ Row83 n w) → Kind n w
 row_kind n w (inl r) = body_kind n w r
@@ -581,7 +654,7 @@ ends_stood n w (inr r) = let c = after r.first r.others r.last in
 -- ---- all
 
 statement_row : (p : Position) (n w : Tree) → BranchRow p n w → Stood n w
-statement_row (Stmt q) n w (inl (inr r)) = kind_stood n w (row_80 n w r)
+statement_row (Stmt q) n w (inl (inr r)) = kind_stood n w (switch_kind n w r)
 statement_row (Stmt q) n w (inl (inl r)) = subst (λ x. Stood x w) (sym r.shape) (subst (λ y. Stood (return_statement r.argument) y) (sym r.written) (returned r.argument))
 statement_row (Stmt q) n w (inr (inl r)) = kind_stood n w (row_kind n w (inl r))
 statement_row (Stmt q) n w (inr (inr (inl r))) = kind_stood n w (row_kind n w (inr (inl r)))
@@ -594,7 +667,7 @@ row_place (Stmt q) n w r = refl
 row_place p n w r = absurd r
 
 row_kept : (p : Position) (n w : Tree) → BranchRow p n w → KeptAt p n w
-row_kept (Stmt q) n w (inl (inr r)) = kind_kept q n w (row_80 n w r)
+row_kept (Stmt q) n w (inl (inr r)) = kind_kept q n w (switch_kind n w r)
 row_kept (Stmt q) n w (inl (inl r)) = return_kept q n w r
 row_kept (Stmt q) n w (inr (inl r)) = kind_kept q n w (row_kind n w (inl r))
 row_kept (Stmt q) n w (inr (inr (inl r))) = kind_kept q n w (row_kind n w (inr (inl r)))

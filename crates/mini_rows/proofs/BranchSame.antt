@@ -23,14 +23,15 @@ use Rattle.mini_terms.proofs.Reading.{same_in_seat}
 use Rattle.mini_rows.specs.Lists.{return_statement}
 use Rattle.mini_rows.specs.Loops.{may_leap, is_there}
 use Rattle.mini_rows.specs.Spellings.{void_zero, IsUndefined}
-use Rattle.mini_rows.specs.Branches.{conjunct_seat, IsIdleVoid, Row60, Row82Empty, Row83, IfRow, BodyRow, BranchRow, BranchContracts}
+use Rattle.mini_rows.specs.Branches.{conjunct_seat, IsIdleVoid, Row60, Row82Empty, Row83, IfRow, BodyRow, SwitchRow, BranchRow, BranchContracts}
 use Rattle.mini_rows.proofs.BranchMeaning.{SameStatement, statement_same, replaced, row_60, row_82_empty_or, row_82_empty_and, row_83_alone, row_83_else, row_83_nested, row_83_block}
 use Rattle.mini_rows.proofs.BranchEnds.{ends_same}
 use Rattle.mini_rows.proofs.BranchLoops.{row_79}
 use Rattle.mini_rows.proofs.BodyTails.{row_78_block, row_78_whole}
 use Rattle.mini_rows.proofs.LoopTests.{row_84}
 use Rattle.mini_rows.proofs.BooleanMeaning.{then_same}
-use Rattle.mini_rows.proofs.CaseMeaning.{switch_same}
+use Rattle.mini_rows.proofs.CaseMeaning.{one_case_same}
+use Rattle.mini_rows.proofs.DeadCaseMeaning.{dead_case_same}
 
 -- 60: `void a` means `void 0` where a has no effect
 
@@ -94,6 +95,10 @@ body_same n w (inl r) = replaced n _ w _ r.shape r.written (row_79 r.place r.sta
 body_same n w (inr (inl (inl r))) = replaced n _ w _ r.shape r.written (row_78_block r.place r.before r.loop)
 body_same n w (inr (inl (inr r))) = replaced n _ w _ r.shape r.written (row_78_whole r.place r.loop)
 body_same n w (inr (inr r)) = replaced n _ w _ r.shape r.written (row_84 r.init r.update r.x r.test r.leading r.leaving (and_parts (is_there r.x) (not (may_leap r.x)) r.asked).0 r.tested r.unscoped r.loose)
+
+switch_same : (n w : Tree) → SwitchRow n w → SameStatement n w
+switch_same n w (inl r) = one_case_same n w r
+switch_same n w (inr r) = dead_case_same n w r
 
 row_same : (p : Position) (n w : Tree) → BranchRow p n w → SameAt p n w
 row_same (Stmt q) n w (inl (inl r)) = return_same q n w r

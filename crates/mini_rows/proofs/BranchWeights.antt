@@ -19,12 +19,12 @@ use Rattle.mini_laws.specs.Weights.{Lightens}
 use Rattle.mini_laws.proofs.Seats.{placed, moved}
 use Rattle.mini_rows.specs.Lists.{block, return_statement, is_unscoped}
 use Rattle.mini_rows.specs.Spellings.{IsUndefined}
-use Rattle.mini_rows.specs.Branches.{IsEmpty, IsIdleVoid, has_else, is_other_branch, as_consequent, Surrounding, Consequent, Alternate, WhileBody, DoBody, ForBody, InBody, OfBody, around, keeps_block, conjunct_seat, Row82Empty, Row82Ends, Row83, is_loop, bare_continue, BodyRow, BranchRow, BranchContracts, BranchLighter}
+use Rattle.mini_rows.specs.Branches.{IsEmpty, IsIdleVoid, has_else, is_other_branch, as_consequent, Surrounding, Consequent, Alternate, WhileBody, DoBody, ForBody, InBody, OfBody, around, keeps_block, conjunct_seat, Row82Empty, Row82Ends, Row83, is_loop, bare_continue, BodyRow, SwitchRow, BranchRow, BranchContracts, BranchLighter}
 use Rattle.mini_rows.proofs.BranchEnds.{ends_lighter, ends_fall}
 use Rattle.mini_rows.proofs.ListWeights.{total, total_append, list_is}
 use Rattle.mini_rows.proofs.LoopWeights.{row_84}
-use Rattle.mini_rows.specs.Cases.{SwitchRow}
-use Rattle.mini_rows.proofs.CaseWeights.{switch_lighter}
+use Rattle.mini_rows.proofs.CaseWeights.{one_case_lighter}
+use Rattle.mini_rows.proofs.DeadCaseWeights.{dead_case_lighter}
 
 -- this much, where it is not so
 abbrev unless : Bool → ℕ → ℕ
@@ -254,6 +254,10 @@ body_row q n w (inr (inl (inl r))) = omega (arith, row_78_block q r.place r.befo
 body_row q n w (inr (inl (inr r))) = omega (arith, row_78_whole q r.place r.loop, ap (weight (Stmt q)) r.shape, ap (weight (Stmt q)) r.written)
 body_row q n w (inr (inr r)) = omega (arith, row_84 q r.init r.update r.x r.test r.leading r.leaving r.loose, ap (weight (Stmt q)) r.shape, ap (weight (Stmt q)) r.written)
 
+switch_lighter : (q : StmtSeat) (n w : Tree) → SwitchRow n w → weight (Stmt q) w < weight (Stmt q) n
+switch_lighter q n w (inl r) = one_case_lighter q n w r
+switch_lighter q n w (inr r) = dead_case_lighter q n w r
+
 row_lighter : (q : StmtSeat) (n w : Tree) → BranchRow (Stmt q) n w → weight (Stmt q) w < weight (Stmt q) n
 row_lighter q n w (inl (inr r)) = switch_lighter q n w r
 row_lighter q n w (inl (inl r)) = omega (arith, row_60 q r.argument r.undefined, ap (weight (Stmt q)) r.shape, ap (weight (Stmt q)) r.written)
@@ -313,8 +317,10 @@ ends_outlined q n w (inl r) = outlined (Stmt q) n _ w _ r.shape r.written (recor
 ends_outlined q n w (inr r) = outlined (Stmt q) n _ w _ r.shape r.written (record { absent = refl; items = refl; is_zero = refl; chooses = inr (ends_fall q n w r) })
 
 switch_outlined : (q : StmtSeat) (n w : Tree) → SwitchRow n w → Outlined (Stmt q) n w
-switch_outlined q n w (inl r) = outlined (Stmt q) n _ w _ r.shape r.written (record { absent = refl; items = refl; is_zero = refl; chooses = inl (λ e. e) })
-switch_outlined q n w (inr r) = outlined (Stmt q) n _ w _ r.shape r.written (record { absent = refl; items = refl; is_zero = refl; chooses = inl (λ e. e) })
+switch_outlined q n w (inl (inl r)) = outlined (Stmt q) n _ w _ r.shape r.written (record { absent = refl; items = refl; is_zero = refl; chooses = inl (λ e. e) })
+switch_outlined q n w (inl (inr r)) = outlined (Stmt q) n _ w _ r.shape r.written (record { absent = refl; items = refl; is_zero = refl; chooses = inl (λ e. e) })
+switch_outlined q n w (inr (inl r)) = outlined (Stmt q) n _ w _ r.shape r.written (record { absent = refl; items = refl; is_zero = refl; chooses = inl (λ e. e) })
+switch_outlined q n w (inr (inr r)) = outlined (Stmt q) n _ w _ r.shape r.written (record { absent = refl; items = refl; is_zero = refl; chooses = inl (λ e. e) })
 
 row_outlined : (q : StmtSeat) (n w : Tree) → BranchRow (Stmt q) n w → Outlined (Stmt q) n w
 row_outlined q n w (inl (inr r)) = switch_outlined q n w r

@@ -21,7 +21,7 @@ use Rattle.mini_laws.proofs.Stretching.{exec}
 use Rattle.mini_laws.proofs.Truth.{coherent}
 use Rattle.mini_rows.specs.Lists.{block, switch, is_unscoped, are_unscoped}
 use Rattle.mini_rows.specs.Spellings.{PlainForm, a_number, a_text, a_boolean, a_null, a_big_int, a_template, a_void, plain, binary}
-use Rattle.mini_rows.specs.Cases.{switch_case, one_case, bare_break, ended, breaks_out, Row80Case, Row80Default, SwitchRow}
+use Rattle.mini_rows.specs.Cases.{switch_case, one_case, bare_break, ended, breaks_out, Row80Case, Row80Default, OneCaseRow}
 use Rattle.mini_rows.proofs.BranchMeaning.{SameStatement, equal_statement, replaced}
 use Rattle.mini_rows.proofs.ListHeads.{Nothing, nothing_by, leave, leave_nothing, leaving_nothing, unbroke, switch_names, no_kids, switch_rest, switch_is}
 use Rattle.mini_rows.proofs.ListStatements.{expression_is, if_is, absent_is, read_nothing, block_is}
@@ -31,7 +31,7 @@ use Rattle.mini_rows.proofs.UnbrokenRuns.{NotBroken, Unbroken, never_broken}
 -- ---- ends
 
 -- what a `switch` makes of an end of its case
-abbrev caught : Completion (Unit {0}) → Completion (Unit {0})
+abbrev pub caught : Completion (Unit {0}) → Completion (Unit {0})
 caught x = either x (λ u z. ok tt z) (λ y z. unbroke y z)
 
 goes_on : (x : Stop) (z : State) → NotBroken x → unbroke x z ≡ stop x z
@@ -83,11 +83,11 @@ module _ (e : Environment) (ss : Trees) (stays : breaks_out (listed ss) ≡ fals
 -- ---- one case
 
 module _ (e : Environment) (t : Tree) (ts : Trees) where
-  case_body : (z : State) → means e (switch_case t ts) ACase AskBody z ≡ means e (listed ts) (Stat None) [] z
+  pub case_body : (z : State) → means e (switch_case t ts) ACase AskBody z ≡ means e (listed ts) (Stat None) [] z
   unfolding means meaning step
   case_body z = either_eta (means e (listed ts) (Stat None) [] z)
 
-  case_test : (summary t).facts.absent ≡ false → (z : State) → means e (switch_case t ts) ACase AskTest z ≡ either (means e t (As Val) tt z) (λ v z. ok (Some v) z) (λ x z. stop x z)
+  pub case_test : (summary t).facts.absent ≡ false → (z : State) → means e (switch_case t ts) ACase AskTest z ≡ either (means e t (As Val) tt z) (λ v z. ok (Some v) z) (λ x z. stop x z)
   unfolding means meaning step
   case_test h z = ap (λ b. either (means e t (As Val) tt z) (λ v z. ok (choose b None (Some v)) z) (λ x z. stop x z)) h
 
@@ -126,10 +126,10 @@ module _ (e : Environment) (t : Tree) (ts : Trees) where
 
 -- ---- a `switch` in which nothing is scoped
 
-record Idle (t : Tree) : Type 0 where
-  lets : (summary t).lets ≡ []
-  functions : (summary t).functions ≡ []
-  facts : (summary t).facts.functions ≡ []
+pub record Idle (t : Tree) : Type 0 where
+  pub lets : (summary t).lets ≡ []
+  pub functions : (summary t).functions ≡ []
+  pub facts : (summary t).facts.functions ≡ []
 
 idle_case : (t : Tree) (ts : Trees) → Idle t → ReadSame ts none → Idle (listed (switch_case t ts ▸ none))
 idle_case t ts i r = record {
@@ -153,7 +153,7 @@ module _ (e : Environment) (cases : Tree) (i : Idle cases) where
       ∙ either_ok tt (leave here z) _ _
       ∙ ap (λ y. caught (means e cases Cases v y)) (leave_nothing here unscoped z)
 
-  switch_caught : (d : Tree) → Nothing d → (r : LabelSet) (s : State) → means e (switch d cases) (Stat None) r s ≡ either (means e d (As Val) tt s) (λ v z. caught (means e cases Cases v z)) (λ x z. stop x z)
+  pub switch_caught : (d : Tree) → Nothing d → (r : LabelSet) (s : State) → means e (switch d cases) (Stat None) r s ≡ either (means e d (As Val) tt s) (λ v z. caught (means e cases Cases v z)) (λ x z. stop x z)
   switch_caught d u r s =
       switch_is e d cases r s
       ∙ ap (λ l. either (means e d (As Val) tt s) (λ v z. switch_rest e l (summary d).functions (summary d).facts.functions cases v z) (λ x z. stop x z)) u.lets
@@ -245,6 +245,6 @@ default_same n w r =
     replaced n _ w _ r.shape r.written
     (equal_statement _ _ (λ e ls s. default_means e r.discriminant (nothing_by r.discriminant r.value) r.statements r.is_ended r.unscoped r.stays ls s) refl)
 
-pub switch_same : (n w : Tree) → SwitchRow n w → SameStatement n w
-switch_same n w (inl r) = case_same n w r
-switch_same n w (inr r) = default_same n w r
+pub one_case_same : (n w : Tree) → OneCaseRow n w → SameStatement n w
+one_case_same n w (inl r) = case_same n w r
+one_case_same n w (inr r) = default_same n w r

@@ -11,7 +11,7 @@ use Rattle.mini_model.specs.Weight.{outline, outlines, first_chooses, braces_wei
 use Rattle.mini_laws.proofs.Seats.{moved}
 use Rattle.mini_rows.specs.Lists.{block}
 use Rattle.mini_rows.specs.Spellings.{PlainForm, a_number, a_text, a_boolean, a_null, a_big_int, a_template, a_void, plain, binary}
-use Rattle.mini_rows.specs.Cases.{one_case, ended, SwitchRow}
+use Rattle.mini_rows.specs.Cases.{one_case, ended, OneCaseRow}
 
 -- the statements of a list
 abbrev total : Trees → ℕ
@@ -58,6 +58,6 @@ default_lighter q d b ss =
     let braces = braces_light q (first_chooses (outlines (listed (expression_statement d ▸ ss) ▸ none))) in
     omega (arith, expression, all, braces)
 
-pub switch_lighter : (q : StmtSeat) (n w : Tree) → SwitchRow n w → weight (Stmt q) w < weight (Stmt q) n
-switch_lighter q n w (inl r) = omega (arith, case_lighter q r.discriminant r.test r.is_ended r.statements, ap (weight (Stmt q)) r.shape, ap (weight (Stmt q)) r.written)
-switch_lighter q n w (inr r) = omega (arith, default_lighter q r.discriminant r.is_ended r.statements, ap (weight (Stmt q)) r.shape, ap (weight (Stmt q)) r.written)
+pub one_case_lighter : (q : StmtSeat) (n w : Tree) → OneCaseRow n w → weight (Stmt q) w < weight (Stmt q) n
+one_case_lighter q n w (inl r) = omega (arith, case_lighter q r.discriminant r.test r.is_ended r.statements, ap (weight (Stmt q)) r.shape, ap (weight (Stmt q)) r.written)
+one_case_lighter q n w (inr r) = omega (arith, default_lighter q r.discriminant r.is_ended r.statements, ap (weight (Stmt q)) r.shape, ap (weight (Stmt q)) r.written)

@@ -178,9 +178,13 @@ pub mod WriteWeights
 pub mod WriteLawful
 pub mod UnbrokenRuns
 pub mod CaseMeaning
+pub mod DeadCaseMeaning
 pub mod CaseWeights
+pub mod DeadCaseWeights
 pub mod CaseKept
 pub mod BlockItems
 pub mod LoopGuards
 pub mod LoopGuardsKept
 pub mod LoopGuardWeights
+pub mod DeadCaseParts
+pub mod DeadCaseKept

@@ -1,4 +1,4 @@
--- Rows of `if`, of blocks as branches and as bodies of loops, of a `switch` of one case, and of `return` without a value: each is a shape and what is
+-- Rows of `if`, of blocks as branches and as bodies of loops, of a `switch`, and of `return` without a value: each is a shape and what is
 -- written in its place, with the JavaScript before and after.
 use Rattle.std.specs.Prelude.{◌≡◌, ◌⊎◌, ◌<◌, Bool, true, false, not, [], if◌then◌else◌}
 use Rattle.mini_model.specs.declared.operator.LogicalOperator.TheVariants.{Or, And}
@@ -18,7 +18,8 @@ use Rattle.mini_terms.specs.Parts.{leaves_nothing}
 use Rattle.mini_rows.specs.Lists.{block, return_statement, is_unscoped, sequence}
 use Rattle.mini_rows.specs.Loops.{Row84}
 use Rattle.mini_rows.specs.Spellings.{IsUndefined}
-use Rattle.mini_rows.specs.Cases.{SwitchRow}
+use Rattle.mini_rows.specs.Cases.{OneCaseRow}
+use Rattle.mini_rows.specs.DeadCases.{DeadCaseRow}
 
 -- ---- terms
 
@@ -252,7 +253,11 @@ Row78 n w = Row78Block n w ⊎ Row78Whole n w
 abbrev pub BodyRow : Tree → Tree → Type 0
 BodyRow n w = Row79 n w ⊎ (Row78 n w ⊎ Row84 n w)
 
--- of `return` without a value, and of a `switch` of one case
+-- of a `switch` of one case, and of one over a value that is written out
+abbrev pub SwitchRow : Tree → Tree → Type 0
+SwitchRow n w = OneCaseRow n w ⊎ DeadCaseRow n w
+
+-- of `return` without a value, and of a `switch`
 abbrev pub StatementRow : Tree → Tree → Type 0
 StatementRow n w = Row60 n w ⊎ SwitchRow n w
 

@@ -88,5 +88,5 @@ pub record Row80Default (n w : Tree) : Type 0 where
 
 -- ---- all
 
-abbrev pub SwitchRow : Tree → Tree → Type 0
-SwitchRow n w = Row80Case n w ⊎ Row80Default n w
+abbrev pub OneCaseRow : Tree → Tree → Type 0
+OneCaseRow n w = Row80Case n w ⊎ Row80Default n w

@@ -30,3 +30,4 @@ pub mod Catches
 pub mod Writes
 pub mod Cases
 pub mod LoopGuards
+pub mod DeadCases

@@ -1,16 +1,15 @@
 -- The rewrite is that of row 59, and always lighter.
 use Rattle.std.proofs.Common.{◌≡◌, ℕ, zero, suc, Bool, true, false, List, [], ◌∷◌, length, refl, sym, ap, subst, ◌∙◌, true≢false}
-use Rattle.std.specs.Prelude.{◌&&◌, ◌==◌, not, nat_eq, Option, Some, None, is_some, unwrap_or, if◌then◌else◌}
+use Rattle.std.specs.Prelude.{◌==◌, not, nat_eq, Option, Some, None, is_some, unwrap_or, if◌then◌else◌}
 use Rattle.std.proofs.lemmas.Bool.{and_parts}
 use Rattle.std.proofs.Math.Dec.{eqb-suc-zero, eqb-suc-suc}
 use Rattle.mini_model.specs.declared.place.Position.TheVariants.{Expr}
 use Rattle.mini_model.specs.declared.seat.Seat.{Seat}
 use Rattle.mini_model.specs.declared.shape.Shape.TheVariants as shape
 use Rattle.mini_model.specs.Tree.{Tree, Trees, node, none, ◌▸◌, listed, shape_of, count, is_absent}
-use Rattle.mini_node.specs.Children.{part, number_of, with_child}
+use Rattle.mini_node.specs.Children.{part, with_child}
 use Rattle.mini_node.specs.Kinds.{is_return_statement}
 use Rattle.mini_node.specs.Made.{return_statement_is}
-use Rattle.mini_rows.specs.Lists.{return_statement}
 use Rattle.mini_rows.specs.Arrows.{arrow, returning, Row59}
 use Rattle.mini_rows.proofs.ArrowWeights.{arrows_lighter}
 use Rattle.mini_tree.specs.Rule.{Applied}

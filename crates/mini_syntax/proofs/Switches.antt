@@ -1,11 +1,9 @@
 -- The rewrite of a `switch` of one case is that of the row 80, and always lighter.
-use Rattle.std.proofs.Common.{◌≡◌, ℕ, zero, suc, ◌+◌, ◌-◌, ◌<◌, ◌≤◌, Bool, true, false, [], Some, None, refl, sym, ap, subst, ◌∙◌, inl, inr, arith}
-use Rattle.std.specs.Prelude.{◌&&◌, ◌||◌, not, is_some, unwrap_or, if◌then◌else◌}
+use Rattle.std.proofs.Common.{◌≡◌, ℕ, zero, suc, ◌+◌, ◌-◌, ◌<◌, ◌≤◌, Bool, true, false, [], refl, sym, ap, ◌∙◌, inl, inr, arith}
+use Rattle.std.specs.Prelude.{◌&&◌, ◌||◌, not, if◌then◌else◌}
 use Rattle.std.proofs.lemmas.Bool.{and_parts, false≢true}
 use Rattle.mini_model.specs.declared.operator.BinaryOperator.TheVariants.{StrictEquality}
 use Rattle.mini_model.specs.declared.operator.UnaryOperator.TheVariants.{LogicalNot}
-use Rattle.mini_model.specs.declared.place.Position.TheVariants.{Stmt}
-use Rattle.mini_model.specs.declared.seat.StmtSeat.{StmtSeat}
 use Rattle.mini_model.specs.declared.shape.Shape.{Shape}
 use Rattle.mini_model.specs.declared.shape.Shape.TheVariants as shape
 use Rattle.mini_model.specs.Paths.{append}
@@ -14,14 +12,11 @@ use Rattle.mini_laws.specs.Early.{jump_of, label_by, label_in, turn_of}
 use Rattle.mini_node.specs.Children.{part, with_inserted, first_children, rest_children, without}
 use Rattle.mini_node.specs.Kinds.{is_absent_part, is_listed}
 use Rattle.mini_node.specs.Walks.{next_child, no_rest, all_first}
-use Rattle.mini_rows.specs.Cases.{switch_case, one_case, bare_break, ended, lets_out, is_bare, breaks_out, any_breaks_out, SwitchRow}
+use Rattle.mini_rows.specs.Cases.{switch_case, one_case, bare_break, ended, lets_out, is_bare, breaks_out, any_breaks_out, OneCaseRow}
 use Rattle.mini_rows.specs.Lists.{block, is_unscoped, are_unscoped, declares_nothing}
 use Rattle.mini_rows.specs.Spellings.{plain, binary}
-use Rattle.mini_rows.proofs.BranchWeights.{branch_lighter}
-use Rattle.mini_tree.specs.Rule.{Applied}
-use Rattle.mini_tree.proofs.Reaching.{moves_once}
 use Rattle.mini_syntax.specs.Forms.{is_plain}
-use Rattle.mini_syntax.specs.MinimizeSwitchStatements.{is_label_shape, has_label, is_bare_break, ends_in_break, unbroken_count, before_break, some_breaks, is_case, stay, can_be_inlined, holds_one_case, the_case, inlines, inlined, written, Gives, Rests}
+use Rattle.mini_syntax.specs.MinimizeSwitchStatements.{is_label_shape, has_label, is_bare_break, ends_in_break, unbroken_count, before_break, some_breaks, is_case, stay, can_be_inlined, holds_one_case, the_case, inlines, inlined}
 use Rattle.mini_syntax.proofs.FormsAre.{one_item, plain_is, plain_passes}
 
 -- ---- what the tests of the code say
@@ -137,11 +132,11 @@ all_there ts e = sym (ap (λ b. first_children (if b then count ts - 1 else coun
 
 -- ---- what the forms are
 
-listed_is : (t : Tree) → is_listed t ≡ true → t ≡ listed (children t)
+pub listed_is : (t : Tree) → is_listed t ≡ true → t ≡ listed (children t)
 listed_is (node shape.Listed [] zero ts) e = refl
 listed_is t e = absurd (false≢true e)
 
-case_is : (c : Tree) → is_case c ≡ true → c ≡ switch_case (part c 0) (children (part c 1))
+pub case_is : (c : Tree) → is_case c ≡ true → c ≡ switch_case (part c 0) (children (part c 1))
 case_is (node shape.SwitchCase [] zero (x ▸ (b ▸ none))) e = ap (λ y. node shape.SwitchCase [] 0 (x ▸ (y ▸ none))) (listed_is b e)
 case_is t e = absurd (false≢true e)
 
@@ -150,7 +145,7 @@ switch_is (node shape.SwitchStatement [] zero (d ▸ (cs ▸ none))) e f =
     ap (λ y. node shape.SwitchStatement [] 0 (d ▸ (y ▸ none))) (one_item cs e ∙ ap (λ c. listed (c ▸ none)) (case_is (part cs 0) f))
 switch_is t e f = absurd (false≢true e)
 
-absent_is : (x : Tree) → is_absent_part x ≡ true → x ≡ absent
+pub absent_is : (x : Tree) → is_absent_part x ≡ true → x ≡ absent
 absent_is (node shape.Absent [] zero none) e = refl
 absent_is t e = absurd (false≢true e)
 
@@ -232,7 +227,7 @@ module _ (t : Tree) (h : inlines t ≡ true) where
   abbrev chosen : Bool → Tree
   chosen b = if b then block (expression_statement (part t 0) ▸ before_break statements) else if_alone (binary StrictEquality (part t 0) test) (block (before_break statements))
 
-  row_of : SwitchRow t (inlined t)
+  pub row_of : OneCaseRow t (inlined t)
   row_of =
       let (one, rest) = and_parts (holds_one_case t) (declares_nothing (part t 0) && can_be_inlined (the_case t)) h in
       let (value, inlinable) = and_parts (declares_nothing (part t 0)) (can_be_inlined (the_case t)) rest in
@@ -242,7 +237,7 @@ module _ (t : Tree) (h : inlines t ≡ true) where
       let is = switch_is t one case ∙ ap (one_case (part t 0) test) (statements_are statements) in
       go (is_absent_part test) refl value (unscoped_first (unbroken_count statements) statements unscoped) (listed_breaks 0 (before_break statements) ∙ not_true (some_breaks (before_break statements)) calm) is written_out
     where
-      go : (b : Bool) → is_absent_part test ≡ b → declares_nothing (part t 0) ≡ true → are_unscoped (before_break statements) ≡ true → breaks_out (listed (before_break statements)) ≡ false → t ≡ one_case (part t 0) test (ended (ends_in_break statements) (before_break statements)) → (b || is_plain test) ≡ true → SwitchRow t (inlined t)
+      go : (b : Bool) → is_absent_part test ≡ b → declares_nothing (part t 0) ≡ true → are_unscoped (before_break statements) ≡ true → breaks_out (listed (before_break statements)) ≡ false → t ≡ one_case (part t 0) test (ended (ends_in_break statements) (before_break statements)) → (b || is_plain test) ≡ true → OneCaseRow t (inlined t)
       go true e value unscoped stays is f =
           inr (record { discriminant = part t 0; statements = before_break statements; is_ended = ends_in_break statements; value = value; unscoped = unscoped; stays = stays; shape = is ∙ ap (λ x. one_case (part t 0) x (ended (ends_in_break statements) (before_break statements))) (absent_is test e); written = ap chosen e })
       go false e value unscoped stays is f =
@@ -266,7 +261,7 @@ stays_so b ss u s =
     let calm = sym (listed_breaks 0 ss) ∙ s in
     both_true (are_unscoped (ended b ss)) (not (some_breaks (before_break (ended b ss)))) (unscoped_ended b ss u) (ap not (ap some_breaks (before_is b ss calm) ∙ calm))
 
-passes : (n w : Tree) → SwitchRow n w → inlines n ≡ true
+passes : (n w : Tree) → OneCaseRow n w → inlines n ≡ true
 passes n w (inl r) =
     ap inlines r.shape
     ∙ both_true (declares_nothing r.discriminant) (can_be_inlined (switch_case (plain r.test) (ended r.is_ended r.statements))) r.value
@@ -275,12 +270,5 @@ passes n w (inr r) =
     ap inlines r.shape
     ∙ both_true (declares_nothing r.discriminant) (can_be_inlined (switch_case absent (ended r.is_ended r.statements))) r.value (stays_so r.is_ended r.statements r.unscoped r.stays)
 
-never : (n w : Tree) → inlines n ≡ false → SwitchRow n w → ⊥
+pub never : (n w : Tree) → inlines n ≡ false → OneCaseRow n w → ⊥
 never n w e r = false≢true (sym e ∙ passes n w r)
-
-pub applied : (q : StmtSeat) (t u : Tree) (b : Bool) → u ≡ unwrap_or (written t) t → b ≡ is_some (written t) → Applied Gives Rests (Stmt q) t u b
-applied q t u b e f = subst (λ v. Applied Gives Rests (Stmt q) t v b) (sym e) (subst (Applied Gives Rests (Stmt q) t (unwrap_or (written t) t)) (sym f) (go (inlines t) refl))
-  where
-    go : (c : Bool) → inlines t ≡ c → Applied Gives Rests (Stmt q) t (unwrap_or (if c then Some (inlined t) else None) t) (is_some (if c then Some (inlined t) else None))
-    go false h = (refl, λ w r. never t w h r)
-    go true h = let is = row_of t h in moves_once Gives (Stmt q) t (inlined t) (is, branch_lighter (Stmt q) t (inlined t) (inl (inr is)))

@@ -10,8 +10,8 @@ use Rattle.mini_model.specs.Tree.{Tree, Trees, none, ◌▸◌, shape_of, childr
 use Rattle.mini_model.specs.Weight.{weight}
 use Rattle.mini_node.specs.Children.{part, is_bare, first_children}
 use Rattle.mini_node.specs.Kinds.{is_absent_part, is_listed}
-use Rattle.mini_rows.specs.Branches.{BranchContracts}
-use Rattle.mini_rows.specs.Cases.{breaks_out, SwitchRow}
+use Rattle.mini_rows.specs.Branches.{SwitchRow, BranchContracts}
+use Rattle.mini_rows.specs.Cases.{breaks_out}
 use Rattle.mini_rows.specs.Lists.{block, are_unscoped, declares_nothing}
 use Rattle.mini_rows.specs.Spellings.{binary}
 use Rattle.mini_syntax.specs.Forms.{is_list_of, is_plain}

@@ -12,10 +12,12 @@ ghost use Rattle.mini_rows.specs.Cases as case;
 ghost use Rattle.mini_rows.specs.Lists as list;
 ghost use Rattle.mini_syntax.specs.Lighter.{switches_lighter};
 ghost use Rattle.mini_syntax.specs.MinimizeSwitchStatements as row;
+ghost use Rattle.mini_syntax.specs.DropUnreachableSwitchCases.{either_written};
 ghost use Rattle.mini_syntax.specs.MinimizeSwitchStatements.{written, Gives, Rests};
 ghost use Rattle.mini_tree.specs.Rule.{Applied};
 
 use crate::forms::{is_list_of, is_plain};
+use crate::rewrites::drop_unreachable_switch_cases::drop_unreachable_switch_cases;
 use mini_model::{
     BinaryOperator, OutOfMemory, Position, Shape, UnaryOperator, VariableDeclarationKind,
 };
@@ -53,8 +55,8 @@ fn is_scoped(node: &Node) -> bool
     )
 }
 
-// Whether none of the statements does.
-fn are_unscoped(nodes: &Nodes) -> bool
+/// Whether none of the statements does.
+pub fn are_unscoped(nodes: &Nodes) -> bool
     ensures { result ≡ list.are_unscoped nodes.now }
 {
     for at in 0..nodes.len() {
@@ -65,9 +67,9 @@ fn are_unscoped(nodes: &Nodes) -> bool
     true
 }
 
-// Whether nothing is declared there, as by an expression.
+/// Whether nothing is declared there, as by an expression.
 #[tactic(auto, using(crate::proofs::Switches::operand_declares, crate::proofs::Switches::no_operand))]
-fn declares_nothing(node: &Node) -> bool
+pub fn declares_nothing(node: &Node) -> bool
     ensures { result ≡ list.declares_nothing node.now }
 {
     match node.shape() {
@@ -211,7 +213,8 @@ fn stay(nodes: &Nodes) -> bool
     are_unscoped(nodes) && !some_breaks(nodes, unbroken_count(nodes))
 }
 
-fn is_case(node: &Node) -> bool
+/// Whether the node is `case a: ..`, or `default: ..`.
+pub fn is_case(node: &Node) -> bool
     ensures kind { result ≡ row.is_case node.now }
     ensures parts { result ≡ true → count (children node.now) ≡ 2 }
 {
@@ -334,7 +337,18 @@ pub fn minimize_switch_statement(alloc: Global, node: &mut Node) -> Result<bool,
     Ok(true)
 }
 
-/// Row 80 as a rule: of each statement.
+// What either rewrite of a `switch` makes.
+fn minimize_switch(alloc: Global, node: &mut Node) -> Result<bool, OutOfMemory>
+    ensures tree { OnOk result (node.new ≡ unwrap_or (either_written node.old) node.old) }
+    ensures said { IfOk result (λ changed. changed ≡ is_some (either_written node.old)) }
+{
+    if minimize_switch_statement(alloc, node)? {
+        return Ok(true);
+    }
+    drop_unreachable_switch_cases(alloc, node)
+}
+
+/// Rows 80 and 81 as a rule: of each statement.
 pub struct MinimizeSwitches;
 
 impl<C: Context> Rule<C> for MinimizeSwitches {
@@ -344,7 +358,7 @@ impl<C: Context> Rule<C> for MinimizeSwitches {
 
     ghost lighter = { λ o q. switches_lighter };
 
-    #[tactic(auto, using(crate::proofs::Switches::applied))]
+    #[tactic(auto, using(crate::proofs::DeadCaseRows::applied))]
     fn apply(
         &self,
         alloc: Global,
@@ -353,7 +367,7 @@ impl<C: Context> Rule<C> for MinimizeSwitches {
         context: &mut C,
     ) -> Result<bool, OutOfMemory> {
         match place {
-            Position::Stmt(_) => Ok(minimize_switch_statement(alloc, node)?),
+            Position::Stmt(_) => Ok(minimize_switch(alloc, node)?),
             _ => Ok(false),
         }
     }

@@ -1,0 +1,329 @@
+-- What a `switch` over a value that is written out does, and what the rows write for it.
+use Rattle.std.proofs.Common.{◌≡◌, ℕ, suc, ◌+◌, Bool, true, false, [], ◌++◌, length, Option, Some, None, refl, sym, ap, subst, ◌∙◌, inl, inr, arith, true≢false}
+use Rattle.std.proofs.lemmas.Bool.{and_parts}
+use Rattle.std.specs.Prelude.{◌&&◌, ◌||◌, List, if◌then◌else◌}
+use Rattle.mini_model.specs.declared.shape.Shape.TheVariants as shape
+use Rattle.mini_model.specs.Tree.{Tree, Trees, node, none, ◌▸◌, absent, listed, is_absent}
+use Rattle.mini_model.specs.Paths.{append}
+use Rattle.mini_laws.specs.Value.{Value, Undefined, Null, Boolean, Number, String, choose}
+use Rattle.mini_laws.specs.State.{State, Completion, ok, stop, either, Environment}
+use Rattle.mini_laws.specs.Demand.{Val, As, Stat, Cases, ACase, AskTest, AskBody, LabelSet}
+use Rattle.mini_laws.specs.Command.{Naming, Command, ret, kid, then as next, bind, Kids, run}
+use Rattle.mini_laws.specs.Naming.{Facts, summary, summaries, facts, naming}
+use Rattle.mini_laws.specs.Lists.{is_case, test_cases, default_case, or_default, case_bodies, enter_case}
+use Rattle.mini_laws.specs.Step.{step, means, meaning}
+use Rattle.mini_laws.proofs.Runs.{either_cong, either_eta, either_ok}
+use Rattle.mini_laws.proofs.Stretching.{exec}
+use Rattle.mini_terms.specs.Parts.{leaves_nothing}
+use Rattle.mini_terms.proofs.Truths.{lit_sound}
+use Rattle.mini_rows.specs.Lists.{are_unscoped, declares_nothing}
+use Rattle.mini_rows.specs.Cases.{switch_case}
+use Rattle.mini_rows.specs.DeadCases.{Known, a_number, a_text, a_truth, a_null, undefined, known, value_of, Choices, no_choices, choice, cases_of, before_others, switch_over, are_loose, all_go, test_goes, cases_go, are_ended, running, rest_goes, AllMissed, AllPassed, Taken, DeadCaseRow}
+use Rattle.mini_rows.proofs.BranchMeaning.{SameStatement, equal_statement, replaced}
+use Rattle.mini_rows.proofs.CaseMeaning.{caught, Idle, case_body, case_test, switch_caught}
+use Rattle.mini_rows.proofs.ListEnds.{Never, never_goes, ended_tree}
+use Rattle.mini_rows.proofs.ListHeads.{nothing_by}
+use Rattle.mini_rows.proofs.ListStatements.{read_nothing}
+use Rattle.mini_rows.proofs.ListStretches.{exec_append, listed_is}
+
+-- ---- a value that is written out
+
+known_means : (e : Environment) (k : Known) (s : State) → means e (known k) (As Val) tt s ≡ ok (value_of k) s
+known_means e (a_number n) s = lit_sound (Number n) e s
+known_means e (a_text t) s = lit_sound (String t) e s
+known_means e (a_truth true) s = lit_sound (Boolean true) e s
+known_means e (a_truth false) s = lit_sound (Boolean false) e s
+known_means e a_null s = lit_sound Null e s
+known_means e undefined s = lit_sound Undefined e s
+
+known_there : (k : Known) → (summary (known k)).facts.absent ≡ false
+known_there (a_number n) = refl
+known_there (a_text t) = refl
+known_there (a_truth true) = refl
+known_there (a_truth false) = refl
+known_there a_null = refl
+known_there undefined = refl
+
+pub known_declares : (k : Known) → declares_nothing (known k) ≡ true
+known_declares (a_number n) = refl
+known_declares (a_text t) = refl
+known_declares (a_truth true) = refl
+known_declares (a_truth false) = refl
+known_declares a_null = refl
+known_declares undefined = refl
+
+-- ---- the cases of a list, from an index on
+
+size : Choices → ℕ
+size no_choices = 0
+size (choice t ss cs) = suc (size cs)
+
+skip : Choices → ℕ → ℕ
+skip no_choices i = i
+skip (choice t ss cs) i = skip cs (suc i)
+
+skip_is : (bs : Choices) (i : ℕ) → skip bs i ≡ size bs + i
+unfolding skip size
+skip_is no_choices i = omega arith
+skip_is (choice t ss bs) i = let rest = skip_is bs (suc i) in omega (arith, rest)
+
+module _ (e : Environment) (names : Naming) (K : Kids (λ i. ACase)) where
+  abbrev Runs : {A : Type 0} → Command (λ i. ACase) A → State → Completion A
+  Runs c z = run {q = λ i. ACase} e names K c z
+
+  abbrev Stands : ℕ → Choices → Type 0
+  Stands i no_choices = Unit {0}
+  Stands i (choice t ss cs) = (((z : State) → K i AskTest z ≡ means e (switch_case t ss) ACase AskTest z) × ((z : State) → K i AskBody z ≡ means e (switch_case t ss) ACase AskBody z)) × Stands (suc i) cs
+
+  test_is : (i : ℕ) (t : Tree) (ss : Trees) (l : Known) → t ≡ known l → ((z : State) → K i AskTest z ≡ means e (switch_case t ss) ACase AskTest z) → (z : State) → K i AskTest z ≡ ok (Some (value_of l)) z
+  test_is i t ss l is k z =
+      k z
+      ∙ case_test e t ss (ap (λ u. (summary u).facts.absent) is ∙ known_there l) z
+      ∙ ap (λ u. either (means e u (As Val) tt z) (λ v z. ok (Some v) z) (λ x z. stop x z)) is
+      ∙ ap (λ x. either x (λ v z. ok (Some v) z) (λ x z. stop x z)) (known_means e l z)
+      ∙ either_ok (value_of l) z _ _
+
+  module _ {A : Type 0} (v : Value) (f : Option ℕ → Command (λ i. ACase) A) where
+    abbrev Tests : List Facts → ℕ → State → Completion A
+    Tests fs i z = Runs (bind (test_cases v fs i) f) z
+
+    abbrev asked : Bool → List Facts → ℕ → State → Completion A
+    asked a fs i z = Runs (bind (choose a (test_cases v fs (suc i)) (kid i AskTest (next (λ w. choose (is_case v w) (ret (Some i)) (test_cases v fs (suc i)))))) f) z
+
+    told : (i : ℕ) (t : Tree) (ss : Trees) (cs : Choices) (l : Known) → t ≡ known l → ((z : State) → K i AskTest z ≡ means e (switch_case t ss) ACase AskTest z) → (b : Bool) → is_case v (Some (value_of l)) ≡ b → (z : State) → Tests (facts (cases_of (choice t ss cs))) i z ≡ Runs (bind (choose b (ret (Some i)) (test_cases v (facts (cases_of cs)) (suc i))) f) z
+    told i t ss cs l is k b h z =
+        ap (λ a. asked a (facts (cases_of cs)) i z) (ap (λ u. (summary u).facts.absent) is ∙ known_there l)
+        ∙ ap (λ x. either x (λ w z. Runs (bind (choose (is_case v w) (ret (Some i)) (test_cases v (facts (cases_of cs)) (suc i))) f) z) (λ x z. stop x z)) (test_is i t ss l is k z)
+        ∙ either_ok (Some (value_of l)) z _ _
+        ∙ ap (λ c. Runs (bind (choose c (ret (Some i)) (test_cases v (facts (cases_of cs)) (suc i))) f) z) h
+
+    skipped : (i : ℕ) (t : Tree) (ss : Trees) (cs : Choices) → t ≡ absent → (z : State) → Tests (facts (cases_of (choice t ss cs))) i z ≡ Tests (facts (cases_of cs)) (suc i) z
+    skipped i t ss cs is z = ap (λ u. asked (summary u).facts.absent (facts (cases_of cs)) i z) is
+
+  module _ {A : Type 0} (k : Known) (f : Option ℕ → Command (λ i. ACase) A) where
+    passed : (bs cs : Choices) (i : ℕ) → AllPassed k bs → Stands i (before_others bs cs) → (z : State) → Tests (value_of k) f (facts (cases_of (before_others bs cs))) i z ≡ Tests (value_of k) f (facts (cases_of cs)) (skip bs i) z
+    unfolding skip
+    passed no_choices cs i p s z = refl
+    passed (choice t ss bs) cs i (inl m, p) s z = told (value_of k) f i t ss (before_others bs cs) m.value m.is s.0.0 false m.other z ∙ passed bs cs (suc i) p s.1 z
+    passed (choice t ss bs) cs i (inr d, p) s z = skipped (value_of k) f i t ss (before_others bs cs) d z ∙ passed bs cs (suc i) p s.1 z
+
+    none_selected : (cs : Choices) (i : ℕ) → AllMissed k cs → Stands i cs → (z : State) → Tests (value_of k) f (facts (cases_of cs)) i z ≡ Runs (f None) z
+    none_selected no_choices i p s z = refl
+    none_selected (choice t ss cs) i (m, p) s z = told (value_of k) f i t ss cs m.value m.is s.0.0 false m.other z ∙ none_selected cs (suc i) p s.1 z
+
+  -- the statements from a case on
+  abbrev run_from : Choices → State → Completion (Unit {0})
+  run_from no_choices z = ok tt z
+  run_from (choice t ss cs) z = either (exec e ss None z) (λ u z. run_from cs z) (λ x z. stop x z)
+
+  bodies_run : (cs : Choices) (i : ℕ) → Stands i cs → (z : State) → Runs (case_bodies (length (facts (cases_of cs))) 0 i) z ≡ run_from cs z
+  bodies_run no_choices i s z = refl
+  bodies_run (choice t ss cs) i s z =
+      ap (λ x. either x (λ u z. Runs (case_bodies (length (facts (cases_of cs))) 0 (suc i)) z) (λ x z. stop x z)) (s.0.1 z ∙ case_body e t ss z ∙ listed_is e ss [] z)
+      ∙ either_cong (exec e ss None z) _ _ _ _ (λ u z. bodies_run cs (suc i) s.1 z) (λ x z. refl)
+
+  stands_later : (bs cs : Choices) (i : ℕ) → Stands i (before_others bs cs) → Stands (skip bs i) cs
+  unfolding skip
+  stands_later no_choices cs i s = s
+  stands_later (choice t ss bs) cs i s = stands_later bs cs (suc i) s.1
+
+  bodies_skip : (bs cs : Choices) (i : ℕ) → (z : State) → Runs (case_bodies (length (facts (cases_of (before_others bs cs)))) (size bs) i) z ≡ Runs (case_bodies (length (facts (cases_of cs))) 0 (skip bs i)) z
+  unfolding skip size
+  bodies_skip no_choices cs i z = refl
+  bodies_skip (choice t ss bs) cs i z = bodies_skip bs cs (suc i) z
+
+  entered : (bs cs : Choices) → Stands 0 (before_others bs cs) → (z : State) → Runs (enter_case (length (facts (cases_of (before_others bs cs)))) (Some (skip bs 0))) z ≡ run_from cs z
+  entered bs cs s z =
+      ap (λ n. Runs (case_bodies (length (facts (cases_of (before_others bs cs)))) n 0) z) (let h = skip_is bs 0 in omega (arith, h))
+      ∙ bodies_skip bs cs 0 z
+      ∙ bodies_run cs (skip bs 0) (stands_later bs cs 0 s) z
+
+stands_shift : (e : Environment) (names : Naming) (K : Kids (λ i. ACase)) (cs : Choices) (i : ℕ) → Stands e names (λ j r z. K (suc j) r z) i cs → Stands e names K (suc i) cs
+stands_shift e names K no_choices i s = tt
+stands_shift e names K (choice t ss cs) i s = (s.0, stands_shift e names K cs (suc i) s.1)
+
+abbrev kids_of : Environment → Choices → Kids (λ i. ACase)
+kids_of e cs = λ i r z. meaning e (cases_of cs) i ACase r z
+
+stands : (e : Environment) (names : Naming) (cs : Choices) → Stands e names (kids_of e cs) 0 cs
+unfolding meaning
+stands e names no_choices = tt
+stands e names (choice t ss cs) = ((λ z. refl, λ z. refl), stands_shift e names (kids_of e (choice t ss cs)) cs 0 (stands e names cs))
+
+-- ---- `default`
+
+default_none : (k : Known) (cs : Choices) (i : ℕ) → AllMissed k cs → default_case (facts (cases_of cs)) i ≡ None
+default_none k no_choices i p = refl
+default_none k (choice t ss cs) i (m, p) =
+    ap (λ a. choose a (Some i) (default_case (facts (cases_of cs)) (suc i))) (ap (λ u. (summary u).facts.absent) m.is ∙ known_there m.value)
+    ∙ default_none k cs (suc i) p
+
+default_there : (k : Known) (bs : Choices) (t : Tree) (ss : Trees) (cs : Choices) (i : ℕ) → t ≡ absent → AllMissed k bs → default_case (facts (cases_of (before_others bs (choice t ss cs)))) i ≡ Some (skip bs i)
+unfolding skip
+default_there k no_choices t ss cs i is p = ap (λ u. choose (summary u).facts.absent (Some i) (default_case (facts (cases_of cs)) (suc i))) is
+default_there k (choice u us bs) t ss cs i is (m, p) =
+    ap (λ a. choose a (Some i) (default_case (facts (cases_of (before_others bs (choice t ss cs)))) (suc i))) (ap (λ u. (summary u).facts.absent) m.is ∙ known_there m.value)
+    ∙ default_there k bs t ss cs (suc i) is p
+
+missed_passed : (k : Known) (cs : Choices) → AllMissed k cs → AllPassed k cs
+missed_passed k no_choices p = tt
+missed_passed k (choice t ss cs) (m, p) = (inl m, missed_passed k cs p)
+
+-- ---- which case is entered
+
+module _ (e : Environment) (k : Known) where
+  abbrev names_at : Choices → Naming
+  names_at cs = naming shape.Listed Cases [] 0 (summaries (cases_of cs))
+
+  abbrev found : Choices → Option ℕ → Command (λ i. ACase) (Unit {0})
+  found cs d = enter_case (length (facts (cases_of cs))) (or_default d (default_case (facts (cases_of cs)) 0))
+
+  cases_are : (cs : Choices) (z : State) → means e (listed (cases_of cs)) Cases (value_of k) z ≡ Tests e (names_at cs) (kids_of e cs) (value_of k) (found cs) (facts (cases_of cs)) 0 z
+  unfolding means step
+  cases_are cs z = refl
+
+  taken_runs : (bs : Choices) (t : Tree) (ss : Trees) (cs : Choices) → Taken k bs t cs → (z : State) → means e (listed (cases_of (before_others bs (choice t ss cs)))) Cases (value_of k) z ≡ run_from e (names_at no_choices) (kids_of e no_choices) (choice t ss cs) z
+  taken_runs bs t ss cs (inl h) z =
+      let all = before_others bs (choice t ss cs) in
+      let s = stands e (names_at all) all in
+      cases_are all z
+      ∙ passed e (names_at all) (kids_of e all) k (found all) bs (choice t ss cs) 0 h.passed s z
+      ∙ told e (names_at all) (kids_of e all) (value_of k) (found all) (skip bs 0) t ss cs h.value h.is (stands_later e (names_at all) (kids_of e all) bs (choice t ss cs) 0 s).0.0 true h.equal z
+      ∙ entered e (names_at all) (kids_of e all) bs (choice t ss cs) s z
+  taken_runs bs t ss cs (inr h) z =
+      let all = before_others bs (choice t ss cs) in
+      let s = stands e (names_at all) all in
+      let later = stands_later e (names_at all) (kids_of e all) bs (choice t ss cs) 0 s in
+      cases_are all z
+      ∙ passed e (names_at all) (kids_of e all) k (found all) bs (choice t ss cs) 0 (missed_passed k bs h.missed) s z
+      ∙ skipped e (names_at all) (kids_of e all) (value_of k) (found all) (skip bs 0) t ss cs h.is z
+      ∙ none_selected e (names_at all) (kids_of e all) k (found all) cs (suc (skip bs 0)) h.missed_later later.1 z
+      ∙ ap (λ d. run {q = λ i. ACase} e (names_at all) (kids_of e all) (enter_case (length (facts (cases_of all))) (or_default None d)) z) (default_there k bs t ss cs 0 h.is h.missed)
+      ∙ entered e (names_at all) (kids_of e all) bs (choice t ss cs) s z
+
+  none_runs : (cs : Choices) → AllMissed k cs → (z : State) → means e (listed (cases_of cs)) Cases (value_of k) z ≡ ok tt z
+  none_runs cs p z =
+      cases_are cs z
+      ∙ none_selected e (names_at cs) (kids_of e cs) k (found cs) cs 0 p (stands e (names_at cs) cs) z
+      ∙ ap (λ d. run {q = λ i. ACase} e (names_at cs) (kids_of e cs) (enter_case (length (facts (cases_of cs))) (or_default None d)) z) (default_none k cs 0 p)
+
+  abbrev from : Choices → State → Completion (Unit {0})
+  from cs z = run_from e (names_at no_choices) (kids_of e no_choices) cs z
+
+  -- its statements run, up to the first that end in a jump
+  runs_on : (t : Tree) (ss : Trees) (cs : Choices) (z : State) → from (choice t ss cs) z ≡ exec e (running ss cs) None z
+  runs_on t ss no_choices z = either_eta (exec e ss None z)
+  runs_on t ss (choice u us cs) z = go (are_ended ss) refl (λ y. runs_on u us cs y)
+    where
+      go : (b : Bool) → are_ended ss ≡ b → ((y : State) → from (choice u us cs) y ≡ exec e (running us cs) None y) → from (choice t ss (choice u us cs)) z ≡ exec e (if b then ss else append ss (running us cs)) None z
+      go true h f = never_goes (exec e ss None z) (subst Never (listed_is e ss [] z) (ended_tree e (listed ss) h [] z)) _
+      go false h f = either_cong (exec e ss None z) _ _ _ _ (λ v z. f z) (λ x z. refl) ∙ sym (exec_append e ss (running us cs) z)
+
+-- ---- the `switch` round the cases
+
+absent_idle : (t : Tree) → is_absent t ≡ true → Idle t
+absent_idle (node shape.Absent xs n ts) h = record { lets = refl; functions = refl; facts = refl }
+absent_idle t h = absurd (true≢false (sym h))
+
+idle_test : (t : Tree) → test_goes t ≡ true → Idle t
+idle_test t h = go (is_absent t) refl (and_parts (leaves_nothing t) (is_absent t || declares_nothing t) h).1
+  where
+    go : (b : Bool) → is_absent t ≡ b → (b || declares_nothing t) ≡ true → Idle t
+    go true a k = absent_idle t a
+    go false a k = let u = nothing_by t k in record { lets = u.lets; functions = u.functions; facts = u.facts }
+
+idle_known : (k : Known) → Idle (known k)
+idle_known k = let u = nothing_by (known k) (known_declares k) in record { lets = u.lets; functions = u.functions; facts = u.facts }
+
+abbrev AllIdle : Choices → Type 0
+AllIdle no_choices = Unit {0}
+AllIdle (choice t ss cs) = Idle t × AllIdle cs
+
+idle_cases : (cs : Choices) → AllIdle cs → are_loose cs ≡ true → Idle (listed (cases_of cs))
+idle_cases no_choices a h = record { lets = refl; functions = refl; facts = refl }
+idle_cases (choice t ss cs) (i, a) h =
+    let (own, others) = and_parts (are_unscoped ss) (are_loose cs) h in
+    let r = read_nothing ss own in
+    let rest = idle_cases cs a others in
+    record {
+      lets = (λ k. (i.lets k ++ (r.lets k ++ [])) ++ rest.lets k);
+      functions = (λ k. (i.functions k ++ (r.functions k ++ [])) ++ rest.functions k);
+      facts = (λ k. (i.facts k ++ (r.facts k ++ [])) ++ rest.facts k);
+    }
+
+idle_gone : (cs : Choices) → cases_go cs ≡ true → AllIdle cs
+idle_gone no_choices h = tt
+idle_gone (choice t ss cs) h =
+    let (test, more) = and_parts (test_goes t) (all_go ss && cases_go cs) h in
+    let (own, others) = and_parts (all_go ss) (cases_go cs) more in
+    (idle_test t test, idle_gone cs others)
+
+idle_rest : (ss : Trees) (cs : Choices) → rest_goes ss cs ≡ true → AllIdle cs
+idle_rest ss no_choices h = tt
+idle_rest ss (choice t us cs) h = go (are_ended ss) h (λ k. idle_rest us cs k)
+  where
+    go : (b : Bool) → (if b then cases_go (choice t us cs) else test_goes t && rest_goes us cs) ≡ true → (rest_goes us cs ≡ true → AllIdle cs) → AllIdle (choice t us cs)
+    go true h f = idle_gone (choice t us cs) h
+    go false h f = let (test, others) = and_parts (test_goes t) (rest_goes us cs) h in (idle_test t test, f others)
+
+idle_before : (bs cs : Choices) → AllIdle bs → AllIdle cs → AllIdle (before_others bs cs)
+idle_before no_choices cs a b = b
+idle_before (choice t ss bs) cs a b = (a.0, idle_before bs cs a.1 b)
+
+taken_idle : (k : Known) (bs : Choices) (t : Tree) (cs : Choices) → Taken k bs t cs → Idle t
+taken_idle k bs t cs (inl h) = subst Idle (sym h.is) (idle_known h.value)
+taken_idle k bs t cs (inr h) = subst Idle (sym h.is) (record { lets = refl; functions = refl; facts = refl })
+
+switch_does : (e : Environment) (k : Known) (cs : Choices) → Idle (listed (cases_of cs)) → (r : LabelSet) (s : State) → means e (switch_over k cs) (Stat None) r s ≡ caught (means e (listed (cases_of cs)) Cases (value_of k) s)
+switch_does e k cs i r s =
+    switch_caught e (listed (cases_of cs)) i (known k) (nothing_by (known k) (known_declares k)) r s
+    ∙ ap (λ x. either x (λ v z. caught (means e (listed (cases_of cs)) Cases v z)) (λ x z. stop x z)) (known_means e k s)
+    ∙ either_ok (value_of k) s _ _
+
+loose_later : (bs cs : Choices) → are_loose (before_others bs cs) ≡ true → are_loose cs ≡ true
+loose_later no_choices cs h = h
+loose_later (choice t ss bs) cs h = loose_later bs cs (and_parts (are_unscoped ss) (are_loose (before_others bs cs)) h).1
+
+unscoped_append : (a b : Trees) → are_unscoped a ≡ true → are_unscoped b ≡ true → are_unscoped (append a b) ≡ true
+unscoped_append none b h k = k
+unscoped_append (t ▸ a) b h k =
+    let (own, rest) = and_parts _ (are_unscoped a) h in
+    ap (λ c. c && are_unscoped (append a b)) own ∙ unscoped_append a b rest k
+
+pub running_loose : (t : Tree) (ss : Trees) (cs : Choices) → are_loose (choice t ss cs) ≡ true → are_unscoped (running ss cs) ≡ true
+running_loose t ss no_choices h = (and_parts (are_unscoped ss) true h).0
+running_loose t ss (choice u us cs) h =
+    let (own, others) = and_parts (are_unscoped ss) (are_loose (choice u us cs)) h in
+    go (are_ended ss) own (running_loose u us cs others)
+  where
+    go : (b : Bool) → are_unscoped ss ≡ true → are_unscoped (running us cs) ≡ true → are_unscoped (if b then ss else append ss (running us cs)) ≡ true
+    go true x y = x
+    go false x y = unscoped_append ss (running us cs) x y
+
+taken_alone : (k : Known) (bs : Choices) (t : Tree) (cs : Choices) → Taken k bs t cs → Taken k no_choices t no_choices
+taken_alone k bs t cs (inl h) = inl (record { value = h.value; is = h.is; equal = h.equal; passed = tt })
+taken_alone k bs t cs (inr h) = inr (record { is = h.is; missed = tt; missed_later = tt })
+
+pub later_loose : (bs : Choices) (t : Tree) (ss : Trees) (cs : Choices) → are_loose (before_others bs (choice t ss cs)) ≡ true → are_loose (choice t (running ss cs) no_choices) ≡ true
+later_loose bs t ss cs h = ap (λ c. c && true) (running_loose t ss cs (loose_later bs (choice t ss cs) h))
+
+taken_same : (k : Known) (bs : Choices) (t : Tree) (ss : Trees) (cs : Choices) → Taken k bs t cs → are_loose (before_others bs (choice t ss cs)) ≡ true → cases_go bs ≡ true → rest_goes ss cs ≡ true
+    → SameStatement (switch_over k (before_others bs (choice t ss cs))) (switch_over k (choice t (running ss cs) no_choices))
+taken_same k bs t ss cs h loose goes rest =
+    let i = taken_idle k bs t cs h in
+    equal_statement _ _ (λ e r s.
+    switch_does e k (before_others bs (choice t ss cs)) (idle_cases (before_others bs (choice t ss cs)) (idle_before bs (choice t ss cs) (idle_gone bs goes) (i, idle_rest ss cs rest)) loose) r s
+    ∙ ap caught (taken_runs e k bs t ss cs h s ∙ runs_on e k t ss cs s ∙ sym (taken_runs e k no_choices t (running ss cs) no_choices (taken_alone k bs t cs h) s ∙ runs_on e k t (running ss cs) no_choices s))
+    ∙ sym (switch_does e k (choice t (running ss cs) no_choices) (idle_cases (choice t (running ss cs) no_choices) (i, tt) (later_loose bs t ss cs loose)) r s)) refl
+
+none_same : (k : Known) (t : Tree) (ss : Trees) (cs : Choices) → AllMissed k (choice t ss cs) → are_loose (choice t ss cs) ≡ true → cases_go (choice t ss cs) ≡ true → SameStatement (switch_over k (choice t ss cs)) (switch_over k (choice t none no_choices))
+none_same k t ss cs h loose goes =
+    let i = idle_gone (choice t ss cs) goes in
+    equal_statement _ _ (λ e r s.
+    switch_does e k (choice t ss cs) (idle_cases (choice t ss cs) i loose) r s
+    ∙ ap caught (none_runs e k (choice t ss cs) h s ∙ sym (none_runs e k (choice t none no_choices) (h.0, tt) s))
+    ∙ sym (switch_does e k (choice t none no_choices) (idle_cases (choice t none no_choices) (i.0, tt) refl) r s)) refl
+
+pub dead_case_same : (n w : Tree) → DeadCaseRow n w → SameStatement n w
+dead_case_same n w (inl r) = replaced n _ w _ r.shape r.written (taken_same r.value r.before r.test r.statements r.after r.taken r.loose r.dropped r.rest_dropped)
+dead_case_same n w (inr r) = replaced n _ w _ r.shape r.written (none_same r.value r.test r.statements r.after r.missed r.loose r.dropped)

@@ -1,0 +1,201 @@
+-- What holds of the parts of some cases, sums over them and lists of what they have, where statements run on and cases go.
+use Rattle.std.specs.Prelude.{ℕ, ◌+◌, ◌≤◌, ◌≡◌, refl, ◌&&◌, ◌||◌, Bool, true, false, List, [], ◌++◌, if◌then◌else◌}
+use Rattle.std.proofs.Common.{ap, ◌∙◌, sym, arith, append_assoc}
+use Rattle.std.proofs.lemmas.Bool.{and_parts}
+use Rattle.mini_model.specs.Paths.{append}
+use Rattle.mini_model.specs.Tree.{Tree, Trees, none, ◌▸◌, listed, is_absent}
+use Rattle.mini_terms.specs.Parts.{leaves_nothing}
+use Rattle.mini_rows.specs.Cases.{switch_case}
+use Rattle.mini_rows.specs.DeadCases.{Choices, no_choices, choice, cases_of, before_others, are_loose, hoists_nothing, all_go, test_goes, cases_go, are_ended, running, rest_goes}
+use Rattle.mini_rows.specs.Lists.{is_unscoped, are_unscoped, declares_nothing}
+
+-- ---- what is said of parts that go
+
+pub test_left : (t : Tree) → test_goes t ≡ true → leaves_nothing t ≡ true
+test_left t h = (and_parts (leaves_nothing t) (is_absent t || declares_nothing t) h).0
+
+pub record CaseGoes (t : Tree) (ss : Trees) (cs : Choices) : Type 0 where
+  pub test : leaves_nothing t ≡ true
+  pub statements : all_go ss ≡ true
+  pub others : cases_go cs ≡ true
+
+pub case_goes : (t : Tree) (ss : Trees) (cs : Choices) → cases_go (choice t ss cs) ≡ true → CaseGoes t ss cs
+case_goes t ss cs h =
+    let (test, more) = and_parts (test_goes t) (all_go ss && cases_go cs) h in
+    let (statements, others) = and_parts (all_go ss) (cases_go cs) more in
+    record { test = test_left t test; statements = statements; others = others }
+
+-- ---- what holds of each
+
+module _ (Q : Tree → Type 0) where
+  abbrev pub AllQ : Trees → Type 0
+  AllQ none = Unit {0}
+  AllQ (t ▸ ts) = Q t × AllQ ts
+
+  abbrev pub EachQ : Choices → Type 0
+  EachQ no_choices = Unit {0}
+  EachQ (choice t ss cs) = (Q t × AllQ ss) × EachQ cs
+
+  -- it holds of a list, and of a case, where it does of what is below
+  pub record Parted : Type 0 where
+    pub list_down : (ts : Trees) → Q (listed ts) → AllQ ts
+    pub list_up : (ts : Trees) → AllQ ts → Q (listed ts)
+    pub case_down : (t : Tree) (ss : Trees) → Q (switch_case t ss) → Q t × Q (listed ss)
+    pub case_up : (t : Tree) (ss : Trees) → Q t → Q (listed ss) → Q (switch_case t ss)
+
+  module _ (p : Parted) where
+    each_down : (cs : Choices) → AllQ (cases_of cs) → EachQ cs
+    each_down no_choices a = tt
+    each_down (choice t ss cs) (c, a) = let (x, y) = p.case_down t ss c in ((x, p.list_down ss y), each_down cs a)
+
+    each_up : (cs : Choices) → EachQ cs → AllQ (cases_of cs)
+    each_up no_choices a = tt
+    each_up (choice t ss cs) ((x, y), a) = (p.case_up t ss x (p.list_up ss y), each_up cs a)
+
+    pub cases_down : (cs : Choices) → Q (listed (cases_of cs)) → EachQ cs
+    cases_down cs q = each_down cs (p.list_down (cases_of cs) q)
+
+    pub cases_up : (cs : Choices) → EachQ cs → Q (listed (cases_of cs))
+    cases_up cs a = p.list_up (cases_of cs) (each_up cs a)
+
+  -- what runs, and what stays of the cases
+
+  append_all : (a b : Trees) → AllQ a → AllQ b → AllQ (append a b)
+  append_all none b x y = y
+  append_all (t ▸ a) b x y = (x.0, append_all a b x.1 y)
+
+  first_all : (a b : Trees) → AllQ (append a b) → AllQ a
+  first_all none b x = tt
+  first_all (t ▸ a) b x = (x.0, first_all a b x.1)
+
+  second_all : (a b : Trees) → AllQ (append a b) → AllQ b
+  second_all none b x = x
+  second_all (t ▸ a) b x = second_all a b x.1
+
+  pub run_all : (ss : Trees) (cs : Choices) → AllQ ss → EachQ cs → AllQ (running ss cs)
+  run_all ss no_choices x y = x
+  run_all ss (choice t us cs) x y = go (are_ended ss) (run_all us cs y.0.1 y.1)
+    where
+      go : (b : Bool) → AllQ (running us cs) → AllQ (if b then ss else append ss (running us cs))
+      go true z = x
+      go false z = append_all ss (running us cs) x z
+
+  pub later_each : (bs cs : Choices) → EachQ (before_others bs cs) → EachQ cs
+  later_each no_choices cs x = x
+  later_each (choice t ss bs) cs x = later_each bs cs x.1
+
+  -- and back, where it holds of all that leaves nothing behind
+  module _ (free : (t : Tree) → leaves_nothing t ≡ true → Q t) where
+    pub gone_all : (ss : Trees) → all_go ss ≡ true → AllQ ss
+    gone_all none h = tt
+    gone_all (t ▸ ss) h =
+        let (own, rest) = and_parts (leaves_nothing t && hoists_nothing t) (all_go ss) h in
+        (free t (and_parts (leaves_nothing t) (hoists_nothing t) own).0, gone_all ss rest)
+
+    pub gone_each : (cs : Choices) → cases_go cs ≡ true → EachQ cs
+    gone_each no_choices h = tt
+    gone_each (choice t ss cs) h = let c = case_goes t ss cs h in ((free t c.test, gone_all ss c.statements), gone_each cs c.others)
+
+    pub run_back : (ss : Trees) (cs : Choices) → rest_goes ss cs ≡ true → AllQ (running ss cs) → AllQ ss × EachQ cs
+    run_back ss no_choices h x = (x, tt)
+    run_back ss (choice t us cs) h x = go (are_ended ss) h x (λ k y. run_back us cs k y)
+      where
+        go : (b : Bool) → (if b then cases_go (choice t us cs) else test_goes t && rest_goes us cs) ≡ true → AllQ (if b then ss else append ss (running us cs)) → (rest_goes us cs ≡ true → AllQ (running us cs) → AllQ us × EachQ cs) → AllQ ss × EachQ (choice t us cs)
+        go true h x f = (x, gone_each (choice t us cs) h)
+        go false h x f =
+            let (test, rest) = and_parts (test_goes t) (rest_goes us cs) h in
+            let (own, others) = f rest (second_all ss (running us cs) x) in
+            (first_all ss (running us cs) x, ((free t (test_left t test), own), others))
+
+    pub before_back : (bs cs : Choices) → cases_go bs ≡ true → EachQ cs → EachQ (before_others bs cs)
+    before_back no_choices cs h x = x
+    before_back (choice t ss bs) cs h x = let c = case_goes t ss bs h in ((free t c.test, gone_all ss c.statements), before_back bs cs c.others x)
+
+-- ---- sums
+
+module _ (m : Tree → ℕ) where
+  abbrev pub sum : Trees → ℕ
+  sum none = 0
+  sum (t ▸ ts) = m t + sum ts
+
+  abbrev pub each_sum : Choices → ℕ
+  each_sum no_choices = 0
+  each_sum (choice t ss cs) = m t + sum ss + each_sum cs
+
+  pub record Summing : Type 0 where
+    pub list : (ts : Trees) → m (listed ts) ≡ sum ts
+    pub case : (t : Tree) (ss : Trees) → m (switch_case t ss) ≡ m t + m (listed ss)
+
+  cases_each : Summing → (cs : Choices) → sum (cases_of cs) ≡ each_sum cs
+  cases_each p no_choices = refl
+  cases_each p (choice t ss cs) = omega (arith, p.case t ss, p.list ss, cases_each p cs)
+
+  pub cases_sum : Summing → (cs : Choices) → m (listed (cases_of cs)) ≡ each_sum cs
+  cases_sum p cs = p.list (cases_of cs) ∙ cases_each p cs
+
+  append_sum : (a b : Trees) → sum (append a b) ≡ sum a + sum b
+  append_sum none b = omega arith
+  append_sum (t ▸ a) b = let rest = append_sum a b in omega (arith, rest)
+
+  pub run_sum : (ss : Trees) (cs : Choices) → sum (running ss cs) ≤ sum ss + each_sum cs
+  run_sum ss no_choices = omega arith
+  run_sum ss (choice t us cs) = go (are_ended ss) (run_sum us cs)
+    where
+      go : (b : Bool) → sum (running us cs) ≤ sum us + each_sum cs → sum (if b then ss else append ss (running us cs)) ≤ sum ss + each_sum (choice t us cs)
+      go true e = omega arith
+      go false e = omega (arith, append_sum ss (running us cs), e)
+
+  pub later_sum : (bs cs : Choices) → each_sum cs ≤ each_sum (before_others bs cs)
+  later_sum no_choices cs = omega arith
+  later_sum (choice t ss bs) cs = let rest = later_sum bs cs in omega (arith, rest)
+
+-- ---- lists of what statements have
+
+module _ {A : Type 0} (F : Tree → List A) where
+  abbrev pub all_of : Trees → List A
+  all_of none = []
+  all_of (t ▸ ts) = F t ++ all_of ts
+
+  abbrev pub each_of : Choices → List A
+  each_of no_choices = []
+  each_of (choice t ss cs) = all_of ss ++ each_of cs
+
+  append_of : (a b : Trees) → all_of (append a b) ≡ all_of a ++ all_of b
+  append_of none b = refl
+  append_of (t ▸ a) b = ap (λ r. F t ++ r) (append_of a b) ∙ sym (append_assoc (F t) (all_of a) (all_of b))
+
+  -- statements that go have none of it
+  module _ (free : (t : Tree) → is_unscoped t ≡ true → hoists_nothing t ≡ true → F t ≡ []) where
+    pub gone_of : (ss : Trees) → are_unscoped ss ≡ true → all_go ss ≡ true → all_of ss ≡ []
+    gone_of none u h = refl
+    gone_of (t ▸ ss) u h =
+        let (own, rest) = and_parts (leaves_nothing t && hoists_nothing t) (all_go ss) h in
+        let (first, others) = and_parts (is_unscoped t) (are_unscoped ss) u in
+        λ k. free t first (and_parts (leaves_nothing t) (hoists_nothing t) own).1 k ++ gone_of ss others rest k
+
+    pub gone_each_of : (cs : Choices) → are_loose cs ≡ true → cases_go cs ≡ true → each_of cs ≡ []
+    gone_each_of no_choices u h = refl
+    gone_each_of (choice t ss cs) u h =
+        let c = case_goes t ss cs h in
+        let (first, others) = and_parts (are_unscoped ss) (are_loose cs) u in
+        λ k. gone_of ss first c.statements k ++ gone_each_of cs others c.others k
+
+    append_nothing : (xs ys : List A) → ys ≡ [] → xs ++ ys ≡ xs ++ []
+    append_nothing xs ys e = ap (λ r. xs ++ r) e
+
+    pub run_of : (ss : Trees) (cs : Choices) → are_loose cs ≡ true → rest_goes ss cs ≡ true → all_of (running ss cs) ++ [] ≡ all_of ss ++ each_of cs
+    run_of ss no_choices u h = refl
+    run_of ss (choice t us cs) u h = go (are_ended ss) h (λ k. run_of us cs (and_parts (are_unscoped us) (are_loose cs) u).1 k)
+      where
+        go : (b : Bool) → (if b then cases_go (choice t us cs) else test_goes t && rest_goes us cs) ≡ true → (rest_goes us cs ≡ true → all_of (running us cs) ++ [] ≡ all_of us ++ each_of cs) → all_of (if b then ss else append ss (running us cs)) ++ [] ≡ all_of ss ++ each_of (choice t us cs)
+        go true h f = sym (append_nothing (all_of ss) (each_of (choice t us cs)) (gone_each_of (choice t us cs) u h))
+        go false h f =
+            ap (λ r. r ++ []) (append_of ss (running us cs)) ∙ append_assoc (all_of ss) (all_of (running us cs)) []
+            ∙ ap (λ r. all_of ss ++ r) (f (and_parts (test_goes t) (rest_goes us cs) h).1)
+
+    pub before_of : (bs cs : Choices) → are_loose (before_others bs cs) ≡ true → cases_go bs ≡ true → each_of (before_others bs cs) ≡ each_of cs
+    before_of no_choices cs u h = refl
+    before_of (choice t ss bs) cs u h =
+        let c = case_goes t ss bs h in
+        let (first, others) = and_parts (are_unscoped ss) (are_loose (before_others bs cs)) u in
+        ap (λ r. r ++ each_of (before_others bs cs)) (gone_of ss first c.statements) ∙ before_of bs cs others c.others

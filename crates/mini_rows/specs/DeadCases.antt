@@ -1,0 +1,177 @@
+-- The rows of a `switch` over a value that is written out: of its cases one is left, which has the statements that run.
+use Rattle.std.specs.Prelude.{◌≡◌, ◌⊎◌, ◌&&◌, ◌||◌, not, ℤ, pos, ℕ, Bool, true, false, List, if◌then◌else◌}
+use Rattle.mini_model.specs.declared.shape.Shape.TheVariants as shape
+use Rattle.mini_model.specs.Paths.{append}
+use Rattle.mini_model.specs.Tree.{Tree, Trees, node, none, ◌▸◌, leaf, absent, listed, is_absent, negation}
+use Rattle.mini_laws.specs.Value.{Value, Undefined, Null, Boolean, Number, String}
+use Rattle.mini_laws.specs.Operators.{strictly_equal}
+use Rattle.mini_terms.specs.Parts.{leaves_nothing}
+use Rattle.mini_rows.specs.Cases.{switch_case}
+use Rattle.mini_rows.specs.Lists.{switch, void_zero, is_var_shape, are_unscoped, declares_nothing, any, are_terminated}
+use Rattle.mini_rows.specs.Loops.{is_body_shape}
+
+-- ---- values that are written out
+
+pub data Known : Type 0 where
+  a_number : ℤ → Known
+  a_text : List ℕ → Known
+  a_truth : Bool → Known
+  a_null : Known
+  undefined : Known
+
+-- `2`, `"a"`, `!0`, `null`, `void 0`: the lightest form of each value
+abbrev pub known : Known → Tree
+known (a_number n) = leaf (shape.NumericLiteral n)
+known (a_text s) = leaf (shape.StringLiteral s)
+known (a_truth true) = negation (leaf (shape.NumericLiteral (pos 0)))
+known (a_truth false) = negation (leaf (shape.NumericLiteral (pos 1)))
+known a_null = leaf shape.NullLiteral
+known undefined = void_zero
+
+abbrev pub value_of : Known → Value
+value_of (a_number n) = Number n
+value_of (a_text s) = String s
+value_of (a_truth b) = Boolean b
+value_of a_null = Null
+value_of undefined = Undefined
+
+-- the second is the case of the first (ECMA-262, "CaseClauseIsSelected")
+abbrev pub selects : Known → Known → Bool
+selects k l = strictly_equal (value_of k) (value_of l)
+
+-- ---- cases
+
+-- each a test, which is absent in `default`, and its statements
+pub data Choices : Type 0 where
+  no_choices : Choices
+  choice : Tree → Trees → Choices → Choices
+
+abbrev pub cases_of : Choices → Trees
+cases_of no_choices = none
+cases_of (choice test statements cs) = switch_case test statements ▸ cases_of cs
+
+-- these cases before others
+abbrev pub before_others : Choices → Choices → Choices
+before_others no_choices cs = cs
+before_others (choice test statements bs) cs = choice test statements (before_others bs cs)
+
+-- `switch (2) { .. }`
+abbrev pub switch_over : Known → Choices → Tree
+switch_over k cs = switch (known k) (listed (cases_of cs))
+
+-- nothing in them is a `let`, a `const`, a class or a function
+abbrev pub are_loose : Choices → Bool
+are_loose no_choices = true
+are_loose (choice test statements cs) = are_unscoped statements && are_loose cs
+
+-- ---- what may go
+
+-- no `var` stands in it, functions and static blocks aside
+abbrev mutual
+  pub hoists_nothing : Tree → Bool
+  hoists_nothing (node h xs n ts) = is_body_shape h || (not (is_var_shape h) && hoist_nothing ts)
+
+  pub hoist_nothing : Trees → Bool
+  hoist_nothing none = true
+  hoist_nothing (t ▸ ts) = hoists_nothing t && hoist_nothing ts
+
+-- statements of which nothing is left behind
+abbrev pub all_go : Trees → Bool
+all_go none = true
+all_go (t ▸ ts) = (leaves_nothing t && hoists_nothing t) && all_go ts
+
+-- a test of which nothing is
+abbrev pub test_goes : Tree → Bool
+test_goes t = leaves_nothing t && (is_absent t || declares_nothing t)
+
+abbrev pub cases_go : Choices → Bool
+cases_go no_choices = true
+cases_go (choice test statements cs) = test_goes test && (all_go statements && cases_go cs)
+
+-- ---- what runs
+
+-- one of the statements ends in a jump
+abbrev pub are_ended : Trees → Bool
+are_ended ts = any (are_terminated ts)
+
+-- the statements of a case and of those after it, up to the first that end in a jump
+abbrev pub running : Trees → Choices → Trees
+running statements no_choices = statements
+running statements (choice test others cs) = if are_ended statements then statements else append statements (running others cs)
+
+-- of those after it nothing is left behind but statements that run
+abbrev pub rest_goes : Trees → Choices → Bool
+rest_goes statements no_choices = true
+rest_goes statements (choice test others cs) = if are_ended statements then cases_go (choice test others cs) else test_goes test && rest_goes others cs
+
+-- ---- which case is taken
+
+-- a test that doesn't select its case
+pub record Missed (k : Known) (test : Tree) : Type 0 where
+  pub value : Known
+  pub is : test ≡ known value
+  pub other : selects k value ≡ false
+
+abbrev pub AllMissed : Known → Choices → Type 0
+AllMissed k no_choices = Unit {0}
+AllMissed k (choice test statements cs) = Missed k test × AllMissed k cs
+
+-- and `default` among such cases
+abbrev pub AllPassed : Known → Choices → Type 0
+AllPassed k no_choices = Unit {0}
+AllPassed k (choice test statements cs) = (Missed k test ⊎ (test ≡ absent)) × AllPassed k cs
+
+-- the first case whose test is the value
+pub record Selected (k : Known) (before : Choices) (test : Tree) : Type 0 where
+  pub value : Known
+  pub is : test ≡ known value
+  pub equal : selects k value ≡ true
+  pub passed : AllPassed k before
+
+-- and where there is none, `default`
+pub record Default (k : Known) (before : Choices) (test : Tree) (after : Choices) : Type 0 where
+  pub is : test ≡ absent
+  pub missed : AllMissed k before
+  pub missed_later : AllMissed k after
+
+abbrev pub Taken : Known → Choices → Tree → Choices → Type 0
+Taken k before test after = Selected k before test ⊎ Default k before test after
+
+-- there are others
+abbrev pub are_several : Choices → Choices → Bool
+are_several no_choices no_choices = false
+are_several before after = true
+
+-- ---- 81
+
+-- `switch (2) { case 1: a(); case 2: b(); case 3: c(); break; case d: e(); }` becomes `switch (2) { case 2: b(); c(); break; }`, and
+-- `switch (2) { case 1: a(); default: b(); case 3: c(); }` becomes `switch (2) { default: b(); c(); }`
+pub record Row81 (n w : Tree) : Type 0 where
+  pub value : Known
+  pub before : Choices
+  pub test : Tree
+  pub statements : Trees
+  pub after : Choices
+  pub taken : Taken value before test after
+  pub several : are_several before after ≡ true
+  pub loose : are_loose (before_others before (choice test statements after)) ≡ true
+  pub dropped : cases_go before ≡ true
+  pub rest_dropped : rest_goes statements after ≡ true
+  pub shape : n ≡ switch_over value (before_others before (choice test statements after))
+  pub written : w ≡ switch_over value (choice test (running statements after) no_choices)
+
+-- `switch (2) { case 1: a(); case 3: b(); }` becomes `switch (2) { case 1: }`
+pub record Row81None (n w : Tree) : Type 0 where
+  pub value : Known
+  pub test : Tree
+  pub statements : Trees
+  pub after : Choices
+  pub missed : AllMissed value (choice test statements after)
+  pub several : are_several no_choices after ≡ true
+  pub loose : are_loose (choice test statements after) ≡ true
+  pub dropped : cases_go (choice test statements after) ≡ true
+  pub shape : n ≡ switch_over value (choice test statements after)
+  pub written : w ≡ switch_over value (choice test none no_choices)
+
+abbrev pub DeadCaseRow : Tree → Tree → Type 0
+DeadCaseRow n w = Row81 n w ⊎ Row81None n w

@@ -1,0 +1,427 @@
+//! Row 81: of a `switch` over a value that is written out one case is left. `switch (2) { case 1: a(); case 2: b(); case 3: c(); }`
+//! becomes `switch (2) { case 2: b(); c(); }`, which is lighter in every place.
+
+ghost use Rattle.std.specs.Prelude.{◌≡◌, ◌≤◌, ◌<◌, ◌&&◌, ◌||◌, true, not, is_some, unwrap_or, OnOk, IfOk, IfSome};
+ghost use Rattle.mini_model.specs.Tree.{children, count, shape_of, is_absent as is_it_absent, node_count};
+ghost use Rattle.mini_node.specs.Children.{part, trees_of, first_children, rest_children};
+ghost use Rattle.mini_node.specs.Kinds.{number as number_in};
+ghost use Rattle.mini_rows.specs.Cases as case;
+ghost use Rattle.mini_rows.specs.DeadCases as dead;
+ghost use Rattle.mini_rows.specs.Lists as list;
+ghost use Rattle.mini_rows.specs.Loops as looping;
+ghost use Rattle.mini_syntax.specs.DropUnreachableSwitchCases as row;
+ghost use Rattle.mini_syntax.specs.DropUnreachableSwitchCases.{written, choices_of};
+
+use crate::ends::are_ended;
+use crate::forms::is_plain;
+use crate::rewrites::minimize_switch_statements::{are_unscoped, declares_nothing, is_case};
+use mini_model::{OutOfMemory, Shape, UnaryOperator, VariableDeclarationKind};
+use mini_node::{
+    Node, Nodes, discard, is_absent_part, is_listed, is_same_tree, listed, number, of_one, of_two,
+    taken, two, unary_operator,
+};
+use mini_terms::leaves_nothing;
+use std::alloc::Global;
+
+// `0` or `1`.
+fn is_digit(node: &Node) -> bool
+    ensures { result ≡ row.is_digit (number_in node.now) }
+{
+    match number(node) {
+        Some(value) => value == 0 || value == 1,
+        None => false,
+    }
+}
+
+// `!0` or `!1`.
+fn is_truth(node: &Node) -> bool
+    ensures { result ≡ row.is_truth node.now }
+{
+    match unary_operator(node) {
+        Some(UnaryOperator::LogicalNot) => is_digit(node.child(0)),
+        _ => false,
+    }
+}
+
+// A number, a text, `null`, `void 0`, `!0` or `!1`.
+fn is_known(node: &Node) -> bool
+    ensures { result ≡ row.is_known node.now }
+{
+    match node.shape() {
+        Shape::NumericLiteral(_)
+        | Shape::StringLiteral(_)
+        | Shape::NullLiteral
+        | Shape::UnaryExpression(_) => is_plain(node) || is_truth(node),
+        _ => false,
+    }
+}
+
+// A test that is `default`, or writes a value out.
+fn is_settled(test: &Node) -> bool
+    ensures { result ≡ row.is_settled test.now }
+{
+    is_absent_part(test) || is_known(test)
+}
+
+// Whether each of the nodes is a case.
+fn are_cases(nodes: &[Node]) -> bool
+    ensures { result ≡ row.are_cases (trees_of nodes.now) }
+{
+    match nodes {
+        [] => true,
+        [first, rest @ ..] => is_case(first) && are_cases(rest),
+    }
+}
+
+// Whether nothing in the cases is scoped.
+#[tactic(auto, using(crate::proofs::DeadCases::two_parts, crate::proofs::DeadCases::rest_cases))]
+fn are_loose(cases: &[Node]) -> bool
+    requires { row.are_cases (trees_of cases.now) ≡ true }
+    ensures { result ≡ dead.are_loose (choices_of (trees_of cases.now)) }
+{
+    match cases {
+        [] => true,
+        [first, rest @ ..] => are_unscoped(first.child(1).children()) && are_loose(rest),
+    }
+}
+
+// How many cases there are from the first on whose test is the value; 0 where none is, and None where a test before isn't known.
+#[tactic(auto, using(crate::proofs::DeadCases::two_parts, crate::proofs::DeadCases::rest_cases, crate::proofs::DeadCases::counted))]
+fn selected(value: &Node, cases: &[Node]) -> Option<usize>
+    requires { row.are_cases (trees_of cases.now) ≡ true }
+    ensures kind { result ≡ row.selected value.now (trees_of cases.now) }
+    ensures within { IfSome result (λ k. k ≤ count (trees_of cases.now)) }
+{
+    match cases {
+        [] => Some(0),
+        [first, rest @ ..] => if is_same_tree(value, first.child(0)) {
+            Some(cases.len())
+        } else if is_settled(first.child(0)) {
+            selected(value, rest)
+        } else {
+            None
+        },
+    }
+}
+
+// Whether `default` is among the cases.
+#[tactic(auto, using(crate::proofs::DeadCases::two_parts, crate::proofs::DeadCases::rest_cases))]
+fn any_default(cases: &[Node]) -> bool
+    requires { row.are_cases (trees_of cases.now) ≡ true }
+    ensures { result ≡ row.any_default (trees_of cases.now) }
+{
+    match cases {
+        [] => false,
+        [first, rest @ ..] => is_absent_part(first.child(0)) || any_default(rest),
+    }
+}
+
+// Whether two `default`s are.
+#[tactic(auto, using(crate::proofs::DeadCases::two_parts, crate::proofs::DeadCases::rest_cases))]
+fn two_defaults(cases: &[Node]) -> bool
+    requires { row.are_cases (trees_of cases.now) ≡ true }
+    ensures { result ≡ row.two_defaults (trees_of cases.now) }
+{
+    match cases {
+        [] => false,
+        [first, rest @ ..] => if is_absent_part(first.child(0)) {
+            any_default(rest)
+        } else {
+            two_defaults(rest)
+        },
+    }
+}
+
+// How many cases there are from the first `default` on; 0 where there is none.
+#[tactic(auto, using(crate::proofs::DeadCases::two_parts, crate::proofs::DeadCases::rest_cases, crate::proofs::DeadCases::counted))]
+fn default_left(cases: &[Node]) -> usize
+    requires { row.are_cases (trees_of cases.now) ≡ true }
+    ensures kind { result ≡ row.default_left (trees_of cases.now) }
+    ensures within { result ≤ count (trees_of cases.now) }
+{
+    match cases {
+        [] => 0,
+        [first, rest @ ..] => if is_absent_part(first.child(0)) {
+            cases.len()
+        } else {
+            default_left(rest)
+        },
+    }
+}
+
+// How many cases there are from the only `default` on; 0 where there is none, and None where there are two.
+fn only_default(cases: &[Node]) -> Option<usize>
+    requires { row.are_cases (trees_of cases.now) ≡ true }
+    ensures kind { result ≡ row.only_default (trees_of cases.now) }
+    ensures within { IfSome result (λ k. k ≤ count (trees_of cases.now)) }
+{
+    if two_defaults(cases) {
+        None
+    } else {
+        Some(default_left(cases))
+    }
+}
+
+// How many cases there are from the one on that is taken.
+fn entry(value: &Node, cases: &[Node]) -> Option<usize>
+    requires { row.are_cases (trees_of cases.now) ≡ true }
+    ensures kind { result ≡ row.entry value.now (trees_of cases.now) }
+    ensures within { IfSome result (λ k. k ≤ count (trees_of cases.now)) }
+{
+    match selected(value, cases) {
+        Some(0) => only_default(cases),
+        found => found,
+    }
+}
+
+// A function, or a static block.
+fn is_body(shape: &Shape) -> bool
+    ensures { result ≡ looping.is_body_shape shape.now }
+{
+    matches!(
+        shape,
+        Shape::Function(_, _, _) | Shape::ArrowFunctionExpression(_) | Shape::StaticBlock
+    )
+}
+
+fn is_var(shape: &Shape) -> bool
+    ensures { result ≡ list.is_var_shape shape.now }
+{
+    matches!(
+        shape,
+        Shape::VariableDeclaration(VariableDeclarationKind::Var)
+    )
+}
+
+// Whether no `var` stands in the node, functions and static blocks aside.
+#[cycle(hoisting)]
+#[tactic(auto, using(crate::proofs::DeadCases::hoists_by, crate::proofs::Switches::below))]
+fn hoists_nothing(node: &Node) -> bool
+    ensures { result ≡ dead.hoists_nothing node.now }
+{
+    is_body(node.shape()) || (!is_var(node.shape()) && hoist_nothing(node.children()))
+}
+
+#[cycle(hoisting)]
+fn hoist_nothing(nodes: &Nodes) -> bool
+    ensures { result ≡ dead.hoist_nothing nodes.now }
+{
+    for at in 0..nodes.len() {
+        if !hoists_nothing(nodes.child(at)) {
+            return false;
+        }
+    }
+    true
+}
+
+// Whether nothing is left behind of the statements.
+fn all_go(statements: &[Node]) -> bool
+    ensures { result ≡ dead.all_go (trees_of statements.now) }
+{
+    match statements {
+        [] => true,
+        [first, rest @ ..] => leaves_nothing(first) && hoists_nothing(first) && all_go(rest),
+    }
+}
+
+fn is_absent(node: &Node) -> bool
+    ensures { result ≡ is_it_absent node.now }
+{
+    matches!(node.shape(), Shape::Absent)
+}
+
+// Whether nothing is left behind of the test.
+fn test_goes(test: &Node) -> bool
+    ensures { result ≡ dead.test_goes test.now }
+{
+    leaves_nothing(test) && (is_absent(test) || declares_nothing(test))
+}
+
+// Whether nothing is left behind of the cases.
+#[tactic(auto, using(crate::proofs::DeadCases::two_parts, crate::proofs::DeadCases::rest_cases))]
+fn cases_go(cases: &[Node]) -> bool
+    requires { row.are_cases (trees_of cases.now) ≡ true }
+    ensures { result ≡ dead.cases_go (choices_of (trees_of cases.now)) }
+{
+    match cases {
+        [] => true,
+        [first, rest @ ..] => {
+            test_goes(first.child(0)) && all_go(first.child(1).parts()) && cases_go(rest)
+        }
+    }
+}
+
+// Whether nothing is left behind of the cases after some statements but statements that run after these.
+#[tactic(auto, using(crate::proofs::DeadCases::two_parts, crate::proofs::DeadCases::rest_cases))]
+fn rest_goes(statements: &Nodes, cases: &[Node]) -> bool
+    requires { row.are_cases (trees_of cases.now) ≡ true }
+    ensures { result ≡ dead.rest_goes statements.now (choices_of (trees_of cases.now)) }
+{
+    match cases {
+        [] => true,
+        [first, rest @ ..] => if are_ended(statements) {
+            cases_go(cases)
+        } else {
+            test_goes(first.child(0)) && rest_goes(first.child(1).children(), rest)
+        },
+    }
+}
+
+#[tactic(auto, using(crate::proofs::DeadCases::two_parts, crate::proofs::DeadCases::rest_cases))]
+fn later_go(cases: &[Node]) -> bool
+    requires { row.are_cases (trees_of cases.now) ≡ true }
+    ensures { result ≡ row.later_go (choices_of (trees_of cases.now)) }
+{
+    match cases {
+        [] => true,
+        [first, rest @ ..] => rest_goes(first.child(1).children(), rest),
+    }
+}
+
+// Whether nothing is left behind of the cases around the one at a place but statements that run after its own.
+#[tactic(auto, using(crate::proofs::DeadCases::first_window, crate::proofs::DeadCases::last_window, crate::proofs::DeadCases::first_cases, crate::proofs::DeadCases::last_cases))]
+fn others_go(cases: &Nodes, at: usize) -> bool
+    requires shaped { row.are_cases cases.now ≡ true }
+    requires within { at ≤ count cases.now }
+    ensures { result ≡ row.others_go at cases.now }
+{
+    cases_go(cases.window(0, at)) && later_go(cases.window(at, cases.len() - at))
+}
+
+// The place of the case that is left of some cases.
+fn place_in(value: &Node, cases: &Nodes) -> Option<usize>
+    requires { row.are_cases cases.now ≡ true }
+    ensures kind { result ≡ row.place_by cases.now (row.entry value.now cases.now) }
+    ensures within { IfSome result (λ at. at ≤ count cases.now) }
+{
+    match entry(value, cases.as_slice()) {
+        Some(left) => {
+            let at = cases.len() - left;
+            if others_go(cases, at) { Some(at) } else { None }
+        }
+        None => None,
+    }
+}
+
+// `switch (a) { .. }`
+fn holds_cases(node: &Node) -> bool
+    ensures kind { result ≡ row.holds_cases node.now }
+    ensures outer { result ≡ true → count (children node.now) ≡ 2 }
+{
+    match node.shape() {
+        Shape::SwitchStatement => node.is_bare(2) && is_listed(node.child(1)),
+        _ => false,
+    }
+}
+
+// A `switch` over a value, of two cases or more, in which nothing is scoped.
+fn is_read(node: &Node) -> bool
+    ensures kind { result ≡ row.is_read node.now }
+    ensures outer { result ≡ true → count (children node.now) ≡ 2 }
+    ensures inner { result ≡ true → row.are_cases (children (part node.now 1)) ≡ true }
+{
+    holds_cases(node)
+        && is_known(node.child(0))
+        && node.child(1).children().len() > 1
+        && are_cases(node.child(1).parts())
+        && are_loose(node.child(1).parts())
+}
+
+// The place of the case that is left, or how many there are where none is taken.
+fn place(node: &Node) -> Option<usize>
+    ensures kind { result ≡ row.place node.now }
+    ensures within { IfSome result (λ at. at ≤ count (children (part node.now 1))) }
+{
+    if !is_read(node) {
+        return None;
+    }
+    place_in(node.child(0), node.child(1).children())
+}
+
+// `case test: statements`
+fn case_of(alloc: Global, test: Node, statements: Nodes) -> Result<Node, OutOfMemory>
+    ensures { IfOk result (λ w. w ≡ case.switch_case test statements) }
+{
+    let parts = of_two(alloc, test, listed(statements))?;
+    Ok(Node::new(Shape::SwitchCase, parts))
+}
+
+// The statements that run: these, and those of the cases after them, up to the first list that ends in a jump.
+#[tactic(auto, using(crate::proofs::DeadCases::runs_alone, crate::proofs::DeadCases::runs_ended, crate::proofs::DeadCases::runs_on, crate::proofs::DeadCases::some_node))]
+fn running(mut statements: Nodes, mut cases: Nodes) -> Result<Nodes, OutOfMemory>
+    ensures { IfOk result (λ r. r ≡ dead.running statements (choices_of cases)) }
+{
+    if cases.is_empty() {
+        return Ok(statements);
+    }
+    if are_ended(&statements) {
+        return Ok(statements);
+    }
+    let (test, body) = two(cases.remove(0));
+    discard(test);
+    let mut others = running(body.into_children(), cases)?;
+    statements.append(&mut others)?;
+    Ok(statements)
+}
+
+// The first case, without its statements.
+#[tactic(auto, using(crate::proofs::DeadCases::emptied_is))]
+fn emptied(alloc: Global, mut cases: Nodes) -> Result<Node, OutOfMemory>
+    requires { 0 < count cases }
+    ensures { IfOk result (λ w. w ≡ row.left_at (count cases) cases) }
+{
+    let (test, body) = two(cases.remove(0));
+    discard(body);
+    case_of(alloc, test, Nodes::new(alloc))
+}
+
+// The case at a place, with the statements that run.
+#[tactic(auto, using(crate::proofs::DeadCases::entered_is, crate::proofs::DeadCases::rest_there))]
+fn entered(alloc: Global, mut cases: Nodes, at: usize) -> Result<Node, OutOfMemory>
+    requires { at < count cases }
+    ensures { IfOk result (λ w. w ≡ row.left_at at cases) }
+{
+    let mut later = cases.split_off(at)?;
+    let (test, body) = two(later.remove(0));
+    let statements = running(body.into_children(), later)?;
+    case_of(alloc, test, statements)
+}
+
+fn left_at(alloc: Global, cases: Nodes, at: usize) -> Result<Node, OutOfMemory>
+    requires some { 0 < count cases }
+    requires within { at ≤ count cases }
+    ensures { IfOk result (λ w. w ≡ row.left_at at cases) }
+{
+    if at < cases.len() {
+        entered(alloc, cases, at)
+    } else {
+        emptied(alloc, cases)
+    }
+}
+
+fn dropped_at(alloc: Global, node: Node, at: usize) -> Result<Node, OutOfMemory>
+    requires some { 0 < count (children (part node 1)) }
+    requires within { at ≤ count (children (part node 1)) }
+    ensures { IfOk result (λ w. w ≡ row.dropped_at node at) }
+{
+    let (discriminant, cases) = two(node);
+    let left = left_at(alloc, cases.into_children(), at)?;
+    let cases = of_one(alloc, left)?;
+    let parts = of_two(alloc, discriminant, listed(cases))?;
+    Ok(Node::new(Shape::SwitchStatement, parts))
+}
+
+/// Of a `switch` over a value that is written out one case is left, with the statements that run. The answer says whether others
+/// went; the only error is that memory runs out.
+pub fn drop_unreachable_switch_cases(alloc: Global, node: &mut Node) -> Result<bool, OutOfMemory>
+    ensures tree { OnOk result (node.new ≡ unwrap_or (written node.old) node.old) }
+    ensures said { IfOk result (λ changed. changed ≡ is_some (written node.old)) }
+{
+    match place(node) {
+        Some(at) => {
+            *node = dropped_at(alloc, taken(alloc, node), at)?;
+            Ok(true)
+        }
+        None => Ok(false),
+    }
+}
