@@ -11,16 +11,16 @@ use Rattle.mini_node.specs.Children.{part, is_bare}
 use Rattle.mini_node.specs.Kinds.{is_listed, is_null}
 use Rattle.mini_node.specs.Made.{listed_is, null_is}
 use Rattle.mini_terms.specs.Parts.{is_link, leaves_nothing}
-use Rattle.mini_terms.specs.Reading.{is_plain_part, stands}
+use Rattle.mini_terms.specs.Reading.{is_plain_part}
 use Rattle.mini_rows.specs.Chains.{is_calm, are_calm, Link, a_member, a_computed, a_call, linked, is_calm_link, chain}
-use Rattle.mini_rows.specs.ChainLinks.{is_there, Marked, marked, links_over, are_calm_over, has_mark, chain_if, nothing, Row64, Row11, Row10, ChainRow}
+use Rattle.mini_rows.specs.ChainLinks.{is_there, Marked, marked, links_over, is_lone, are_calm_over, has_mark, chain_if, IsNothing, Row64, Row11, Row10, ChainRow}
 use Rattle.mini_rows.specs.Choices.{ChoiceContracts}
 use Rattle.mini_rows.proofs.ChainLinkLawful.{chains_fall}
 use Rattle.mini_rows.specs.Spellings.{void_zero}
-use Rattle.mini_choices.specs.Forms.{is_void_zero}
+use Rattle.mini_choices.specs.Forms.{is_undefined}
 use Rattle.mini_choices.specs.MinimizeConditionalBranches.{is_lighter}
 use Rattle.mini_choices.specs.FoldChainExpr.{is_chain, ends_none, is_step, is_marked, link_shape, relinked, holds_link, is_value, folds_here, here, with_mark, outcome, outcome_in, folded, folded_in, wrapped, folded_written, is_nothing, ends_at_once, ends_in, may_end, written}
-use Rattle.mini_choices.proofs.FormsAre.{either_true, void_zero_is}
+use Rattle.mini_choices.proofs.FormsAre.{either_true, undefined_is, undefined_passes}
 use Rattle.mini_choices.proofs.Trials.{not_true, both_true, some_is, tried, first_true, later_true, lighter_test}
 
 -- ---- links, one after another
@@ -244,9 +244,9 @@ module _ (s : Seat) (n : Tree) where
 
   of_closed : (stays : Bool) → is_chain n ≡ true → Closed may links stays → Row11 s n (chain_if stays (folded may links))
   of_closed stays c j =
-      let (known, h1) = and_parts (is_there j.base) (is_plain_part j.base && (stands j.base && is_calm j.base)) j.known in
-      let (plain, h2) = and_parts (is_plain_part j.base) (stands j.base && is_calm j.base) h1 in
-      let (value, calm) = and_parts (stands j.base) (is_calm j.base) h2 in
+      let (known, h1) = and_parts (is_there j.base) (is_plain_part j.base && (is_lone j.base && is_calm j.base)) j.known in
+      let (plain, h2) = and_parts (is_plain_part j.base) (is_lone j.base && is_calm j.base) h1 in
+      let (value, calm) = and_parts (is_lone j.base) (is_calm j.base) h2 in
       record {
         others = j.others;
         link = j.link;
@@ -337,7 +337,7 @@ links_pass s n w (inl r) =
     (there_over d r.others (linked true r.link (chain r.inner)) r.calm_others (there_here d r.link (chain r.inner) r.calm (ap (λ b. b || (d && is_value (chain r.inner))) r.held)))
 links_pass s n w (inr r) =
     let d = not s.new_callee in
-    let there : is_value r.base ≡ true = both_true (is_there r.base) _ r.known (both_true (is_plain_part r.base) _ r.plain (both_true (stands r.base) (is_calm r.base) r.value r.calm_base)) in
+    let there : is_value r.base ≡ true = both_true (is_there r.base) _ r.known (both_true (is_plain_part r.base) _ r.plain (both_true (is_lone r.base) (is_calm r.base) r.value r.calm_base)) in
     ap (λ x. is_some (folded_written s x)) r.shape
     ∙ is_written s (links_over r.others (linked true r.link r.base))
     (there_over d r.others (linked true r.link r.base) r.calm_others (there_here d r.link r.base r.calm (or_last (holds_link r.base) (both_true d (is_value r.base) (ap not r.called) there))))
@@ -360,45 +360,48 @@ below_ends (node h xs n ts) e =
     ap (λ b. b && ((is_marked h && is_nothing (child_or_absent ts 0)) || ends_in ts)) e
     ∙ ap (λ b. (is_marked h && is_nothing (child_or_absent ts 0)) || b) (ends_first ts)
 
-record Nothing (t : Tree) : Type 0 where
-  is_null : Bool
-  is : t ≡ nothing is_null
-
-nothing_is : (t : Tree) → is_nothing t ≡ true → Nothing t
-nothing_is t e = go (either_true (is_null t) (is_void_zero t) e)
+nothing_is : (t : Tree) → is_nothing t ≡ true → IsNothing t
+nothing_is t e = go (either_true (is_null t) (is_undefined t) e)
   where
-    go : (is_null t ≡ true) ⊎ (is_void_zero t ≡ true) → Nothing t
-    go (inl h) = record { is_null = true; is = null_is t h }
-    go (inr h) = record { is_null = false; is = void_zero_is t h }
+    go : (is_null t ≡ true) ⊎ (is_undefined t ≡ true) → IsNothing t
+    go (inl h) = inl (null_is t h)
+    go (inr h) = inr (undefined_is t h)
 
-nothing_passes : (b : Bool) → is_nothing (nothing b) ≡ true
-nothing_passes true = refl
-nothing_passes false = refl
+nothing_passes : (t : Tree) → IsNothing t → is_nothing t ≡ true
+nothing_passes t (inl h) = ap is_nothing h
+nothing_passes t (inr h) = or_last (is_null t) (undefined_passes t h)
+  where
+    or_last : (b : Bool) {c : Bool} → c ≡ true → b || c ≡ true
+    or_last true e = refl
+    or_last false e = e
 
 -- under links, one over that
 record Ended (t : Tree) : Type 0 where
   others : List Marked
   link : Link
-  is_null : Bool
+  base : Tree
+  known : IsNothing base
   calm : is_calm_link link ≡ true
   calm_others : are_calm_over others ≡ true
-  is : t ≡ links_over others (linked true link (nothing is_null))
+  is : t ≡ links_over others (linked true link base)
 
-ended_here : (t : Tree) → Stepped t → is_marked (shape_of t) ≡ true → Nothing (part t 0) → Ended t
+ended_here : (t : Tree) → Stepped t → is_marked (shape_of t) ≡ true → IsNothing (part t 0) → Ended t
 ended_here t p m o = record {
   others = [];
   link = p.link;
-  is_null = o.is_null;
+  base = part t 0;
+  known = o;
   calm = p.calm;
   calm_others = refl;
-  is = p.is ∙ ap (λ b. linked b p.link (part t 0)) m ∙ ap (linked true p.link) o.is;
+  is = p.is ∙ ap (λ b. linked b p.link (part t 0)) m;
 }
 
 ended_below : (t : Tree) → Stepped t → Ended (part t 0) → Ended t
 ended_below t p b = record {
   others = marked (is_marked (shape_of t)) p.link ∷ b.others;
   link = b.link;
-  is_null = b.is_null;
+  base = b.base;
+  known = b.known;
   calm = b.calm;
   calm_others = both_true (is_calm_link p.link) (are_calm_over b.others) p.calm b.calm_others;
   is = p.is ∙ ap (linked (is_marked (shape_of t)) p.link) b.is;
@@ -433,7 +436,8 @@ module _ (s : Seat) (n : Tree) where
       let row : Row10 n void_zero = record {
         others = o.others;
         link = o.link;
-        is_null = o.is_null;
+        base = o.base;
+        known = o.known;
         calm = o.calm;
         calm_others = o.calm_others;
         dropped = subst (λ t. leaves_nothing t ≡ true) o.is goes;
@@ -448,17 +452,17 @@ folded_row s n w e = tried s n w (may_end n && is_lighter s void_zero n) void_ze
 pub folded_passes : (s : Seat) (n w : Tree) → ChainRow s n w → is_some (written s n) ≡ true
 folded_passes s n w r = later_true (may_end n && is_lighter s void_zero n) void_zero (folded_written s n) (links_pass s n w r)
 
-ends_passes : (ms : List Marked) (l : Link) (b : Bool) → is_calm_link l ≡ true → are_calm_over ms ≡ true → ends_at_once (links_over ms (linked true l (nothing b))) ≡ true
-ends_passes [] l b c d =
-    let t = linked true l (nothing b) in
-    below_ends t (step_passes true l (nothing b) c)
-    ∙ ap (λ x. x || ends_at_once (part t 0)) (both_true (is_marked (shape_of t)) (is_nothing (part t 0)) (mark_of_link true l (nothing b)) (ap is_nothing (first_of_link true l (nothing b)) ∙ nothing_passes b))
-ends_passes (marked o m ∷ ms) l b c d =
+ends_passes : (ms : List Marked) (l : Link) (x : Tree) → IsNothing x → is_calm_link l ≡ true → are_calm_over ms ≡ true → ends_at_once (links_over ms (linked true l x)) ≡ true
+ends_passes [] l x k c d =
+    let t = linked true l x in
+    below_ends t (step_passes true l x c)
+    ∙ ap (λ b. b || ends_at_once (part t 0)) (both_true (is_marked (shape_of t)) (is_nothing (part t 0)) (mark_of_link true l x) (ap is_nothing (first_of_link true l x) ∙ nothing_passes x k))
+ends_passes (marked o m ∷ ms) l x k c d =
     let (here, rest) = and_parts (is_calm_link m) (are_calm_over ms) d in
-    let below = links_over ms (linked true l (nothing b)) in
+    let below = links_over ms (linked true l x) in
     let t = linked o m below in
     below_ends t (step_passes o m below here)
-    ∙ or_last (is_marked (shape_of t) && is_nothing (part t 0)) (ap ends_at_once (first_of_link o m below) ∙ ends_passes ms l b c rest)
+    ∙ or_last (is_marked (shape_of t) && is_nothing (part t 0)) (ap ends_at_once (first_of_link o m below) ∙ ends_passes ms l x k c rest)
   where
     or_last : (b : Bool) {c : Bool} → c ≡ true → b || c ≡ true
     or_last true e = refl
@@ -466,10 +470,10 @@ ends_passes (marked o m ∷ ms) l b c d =
 
 pub end_passes : (s : Seat) (n w : Tree) → Row10 n w → weight (Expr s) n < 2 ^ 64 → weight (Expr s) w < weight (Expr s) n → is_some (written s n) ≡ true
 end_passes s n w r small less =
-    let c : Tree = links_over r.others (linked true r.link (nothing r.is_null)) in
+    let c : Tree = links_over r.others (linked true r.link r.base) in
     let same = ap (weight (Expr s)) r.shape in
     let made = ap (weight (Expr s)) r.written in
     ap (λ t. is_some (written s t)) r.shape
     ∙ first_true (may_end (chain c) && is_lighter s void_zero (chain c)) void_zero (folded_written s (chain c))
-    (both_true (may_end (chain c)) (is_lighter s void_zero (chain c)) (both_true (ends_at_once c) (leaves_nothing c) (ends_passes r.others r.link r.is_null r.calm r.calm_others) r.dropped)
+    (both_true (may_end (chain c)) (is_lighter s void_zero (chain c)) (both_true (ends_at_once c) (leaves_nothing c) (ends_passes r.others r.link r.base r.known r.calm r.calm_others) r.dropped)
     (lighter_test s void_zero (chain c) (omega (arith, small, same)) (omega (arith, less, same, made))))

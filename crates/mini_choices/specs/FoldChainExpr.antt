@@ -8,11 +8,11 @@ use Rattle.mini_model.specs.Tree.{Tree, Trees, node, none, ◌▸◌, absent, ch
 use Rattle.mini_node.specs.Children.{part, is_bare}
 use Rattle.mini_node.specs.Kinds.{is_listed, is_null}
 use Rattle.mini_terms.specs.Parts.{is_link, leaves_nothing}
-use Rattle.mini_terms.specs.Reading.{is_plain_part, stands}
+use Rattle.mini_terms.specs.Reading.{is_plain_part}
 use Rattle.mini_rows.specs.Spellings.{void_zero}
 use Rattle.mini_rows.specs.Chains.{is_word_shape, is_calm, are_calm}
-use Rattle.mini_rows.specs.ChainLinks.{is_there, chain_if}
-use Rattle.mini_choices.specs.Forms.{is_void_zero}
+use Rattle.mini_rows.specs.ChainLinks.{is_there, is_lone, chain_if}
+use Rattle.mini_choices.specs.Forms.{is_undefined}
 use Rattle.mini_choices.specs.MinimizeConditionalBranches.{is_lighter}
 
 abbrev pub is_chain_shape : Shape → Bool
@@ -55,9 +55,9 @@ relinked h a k = node h [] 0 (a ▸ k ▸ none)
 abbrev pub holds_link : Tree → Bool
 holds_link c = is_chain c && is_link (shape_of (part c 0))
 
--- a value that is there, which is read by its value alone
+-- a value that is there, and is called with no `this`
 abbrev pub is_value : Tree → Bool
-is_value x = is_there x && (is_plain_part x && (stands x && is_calm x))
+is_value x = is_there x && (is_plain_part x && (is_lone x && is_calm x))
 
 -- an optional link over a chain, or, where its mark may go, over a value that is there
 abbrev pub folds_here : Bool → Tree → Bool
@@ -98,9 +98,9 @@ folded_written s t = if is_chain t then wrapped (outcome (not s.new_callee) (par
 
 -- ---- a chain over null or undefined
 
--- `null` or `void 0`
+-- `null`, `void 0`, or `undefined`, which no scope declares
 abbrev pub is_nothing : Tree → Bool
-is_nothing t = is_null t || is_void_zero t
+is_nothing t = is_null t || is_undefined t
 
 -- one of the links is optional over that
 abbrev mutual

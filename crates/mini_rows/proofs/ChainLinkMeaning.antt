@@ -1,15 +1,18 @@
 -- What the rows of optional chains write means the same.
-use Rattle.std.proofs.Common.{◌≡◌, Bool, true, false, List, [], ◌∷◌, refl, sym, ap, subst, ◌∙◌, inl, inr, true≢false}
-use Rattle.std.specs.Prelude.{not}
+use Rattle.std.proofs.Common.{◌≡◌, ℕ, Bool, true, false, List, [], ◌∷◌, refl, sym, ap, subst, ◌∙◌, inl, inr, true≢false}
+use Rattle.std.specs.Prelude.{not, None}
 use Rattle.std.proofs.lemmas.Bool.{and_parts}
 use Rattle.mini_model.specs.declared.place.Position.TheVariants.{Expr}
 use Rattle.mini_model.specs.declared.seat.Seat.{Seat}
+use Rattle.mini_model.specs.declared.name.Name.{Name}
+use Rattle.mini_model.specs.declared.shape.Shape.{Shape}
 use Rattle.mini_model.specs.declared.shape.Shape.TheVariants as shape
-use Rattle.mini_model.specs.Tree.{Tree, none, ◌▸◌}
-use Rattle.mini_laws.specs.Value.{Value, Undefined, Boolean, Number, String, Object, VariableSet, is_nullish}
-use Rattle.mini_laws.specs.State.{State, Short, Completion, ok, stop, halt, out, ended, either, Environment}
-use Rattle.mini_laws.specs.Demand.{Want, Val, Demand, As, Callee, OfType, Deleted, AnEntry, AMember, AValue, Called, plain_call}
-use Rattle.mini_laws.specs.Command.{run}
+use Rattle.mini_model.specs.Tree.{Tree, Trees, node, none, ◌▸◌}
+use Rattle.mini_laws.specs.Value.{Value, Undefined, Boolean, Number, String, Object, VariableSet, variables, is_nullish}
+use Rattle.mini_laws.specs.State.{AnObject, NodeOf, Create, State, Short, Completion, ok, stop, halt, out, ended, either, Environment}
+use Rattle.mini_laws.specs.Demand.{Want, Val, Demand, As, Callee, OfType, Deleted, AnEntry, Stat, Binds, AMember, AValue, Called, plain_call}
+use Rattle.mini_laws.specs.Command.{Naming, Command, Kids, emit_mine, run}
+use Rattle.mini_laws.specs.Replies.{reply, valued}
 use Rattle.mini_laws.specs.Conversion.{key_value}
 use Rattle.mini_laws.specs.Expressions.{chain_end}
 use Rattle.mini_laws.specs.Naming.{naming, summary, summaries}
@@ -18,19 +21,20 @@ use Rattle.mini_laws.specs.Step.{step, means, meaning}
 use Rattle.mini_laws.specs.Rows.{SameAt}
 use Rattle.mini_laws.specs.Truth.{told}
 use Rattle.mini_laws.proofs.Rows.{by_equality}
+use Rattle.mini_laws.proofs.Runs.{either_eta, run_bind}
 use Rattle.mini_laws.proofs.Truth.{coherent}
 use Rattle.mini_terms.specs.Folds.{is_known}
 use Rattle.mini_terms.specs.declared.kinds.Kind.{Kind}
 use Rattle.mini_terms.specs.declared.kinds.Kind.TheVariants.{Undefined as IsUndefined, Null as IsNull, Boolean as IsBoolean, Number as IsNumber, String as IsString, Object as IsObject, Undetermined}
 use Rattle.mini_terms.specs.Kind.{is_nullish_kind, kind, OfKind}
-use Rattle.mini_terms.specs.Reading.{is_item, is_plain_part, stands, by_value}
+use Rattle.mini_terms.specs.Reading.{is_item, is_plain_part, by_value}
 use Rattle.mini_terms.specs.Sound.{Gives}
 use Rattle.mini_terms.proofs.Dropping.{weak}
 use Rattle.mini_terms.proofs.Frame.{gives_map}
 use Rattle.mini_terms.proofs.KindTable.{kind_sound}
 use Rattle.mini_terms.proofs.Reading.{read_by_value, same_item}
 use Rattle.mini_rows.specs.Chains.{is_calm, is_calm_link, Link, a_member, a_computed, a_call, linked, chain}
-use Rattle.mini_rows.specs.ChainLinks.{is_there, Marked, marked, links_over, are_calm_over, has_mark, chain_if, Row64, Row11, ChainRow}
+use Rattle.mini_rows.specs.ChainLinks.{is_there, is_lone_by, is_lone, Marked, marked, links_over, are_calm_over, has_mark, chain_if, Row64, Row11, ChainRow}
 use Rattle.mini_rows.proofs.FoldMeaning.{plain_read}
 use Rattle.mini_rows.proofs.ChainCalm.{Calm, calm_next}
 use Rattle.mini_rows.proofs.ChainReferences.{deleted, linked_deleted, deleted_is, deleted_calm, ends_as, calmly, chain_called, chain_deleted, chain_typed, link_typed}
@@ -181,9 +185,19 @@ present : (e : Environment) (x : Tree) → is_there x ≡ true → (s : State) �
 present e x h s = let (known, there) = and_parts (is_known (kind x)) (not (is_nullish_kind (kind x))) h in gives_map (OfKind (kind x)) Present (λ v p. present_by (kind x) v known there p) (value e x s) (kind_sound x e s)
 
 -- what is called is the value
-pub base_called : (e : Environment) (x : Tree) → stands x ≡ true → (s : State) → called e x s ≡ plainly_called (value e x s)
-unfolding by_value
-base_called e x h s = read_by_value x h e Callee tt s
+
+lone_reads : (e : Environment) (names : Naming) (σ : ℕ → Demand) (c : Command σ Value) (K : Kids σ) (s : State) → run e names K (valued Callee tt c) s ≡ plainly_called (run e names K (valued (As Val) tt c) s)
+lone_reads e names σ c K s = run_bind e names c (reply Callee tt) K s ∙ sym (ap plainly_called (run_bind e names c (reply (As Val) tt) K s ∙ either_eta (run e names K c s)))
+
+lone_called : (e : Environment) (h : Shape) → is_lone_by h ≡ true → (xs : List Name) (n : ℕ) (ts : Trees) (s : State) → called e (node h xs n ts) s ≡ plainly_called (value e (node h xs n ts) s)
+unfolding means step by_value either
+lone_called e (shape.Function false g ds) p xs n ts s = lone_reads e (naming (shape.Function false g ds) (As Val) (variables xs) n (summaries ts)) (λ i. Stat None) (emit_mine Create []) (λ i r z. meaning e ts i (Stat None) r z) s
+lone_called e (shape.Class false) p xs n ts s = lone_reads e (naming (shape.Class false) (As Val) (variables xs) n (summaries ts)) (λ i. Binds true) (emit_mine (NodeOf AnObject) []) (λ i r z. meaning e ts i (Binds true) r z) s
+lone_called e (shape.BigIntLiteral m) p xs n ts s = refl
+lone_called e h p xs n ts s = read_by_value (node h xs n ts) p e Callee tt s
+
+pub base_called : (e : Environment) (x : Tree) → is_lone x ≡ true → (s : State) → called e x s ≡ plainly_called (value e x s)
+base_called e (node h xs n ts) p s = lone_called e h p xs n ts s
 
 closed_by : (e : Environment) (l : Link) (x : Completion Value) → Gives Present x → (linked_value e true l x (plainly_called x) ≡ linked_value e false l x (plainly_called x)) × (linked_called e true l x (plainly_called x) ≡ linked_called e false l x (plainly_called x))
 unfolding either Gives
@@ -210,7 +224,7 @@ over_calmly e s [] t h p c = c
 over_calmly e s (marked true l ∷ ms) t h p c = absurd (true≢false h)
 over_calmly e s (marked false l ∷ ms) t h p c = let (here, rest) = and_parts (is_calm_link l) (are_calm_over ms) p in link_calmly e s l (links_over ms t) here (over_calmly e s ms t h rest c)
 
-module _ (e : Environment) (l : Link) (x : Tree) (reads : stands x ≡ true) (s : State) where
+module _ (e : Environment) (l : Link) (x : Tree) (reads : is_lone x ≡ true) (s : State) where
   closed_alike : is_there x ≡ true → Alike e s (linked true l x) (linked false l x)
   closed_alike there =
       let same = closed_by e l (value e x s) (present e x there s) in
@@ -229,7 +243,7 @@ present_deleted e (a_call ts) x p = ap (λ x. next x (λ v z. ok (AValue v) z)) 
 present_deleted e (a_member k) x p = refl
 present_deleted e (a_computed k) x p = refl
 
-closed_deleted : (e : Environment) (l : Link) (x : Tree) → stands x ≡ true → is_there x ≡ true → (s : State) → deleted e (linked true l x) s ≡ deleted e (linked false l x) s
+closed_deleted : (e : Environment) (l : Link) (x : Tree) → is_lone x ≡ true → is_there x ≡ true → (s : State) → deleted e (linked true l x) s ≡ deleted e (linked false l x) s
 closed_deleted e l x reads there s =
     deleted_is e true l x s
     ∙ ap (linked_deleted e true l (value e x s)) (base_called e x reads s)

@@ -2,17 +2,29 @@
 -- (ECMA-262, "Optional Chains").
 use Rattle.std.specs.Prelude.{◌≡◌, ◌⊎◌, Bool, true, false, not, ◌&&◌, ◌||◌, List, [], ◌∷◌}
 use Rattle.mini_model.specs.declared.seat.Seat.{Seat}
+use Rattle.mini_model.specs.declared.shape.Shape.{Shape}
+use Rattle.mini_model.specs.declared.shape.Shape.TheVariants as shape
 use Rattle.mini_model.specs.Tree.{Tree, shape_of, null_literal}
 use Rattle.mini_terms.specs.Folds.{is_known}
 use Rattle.mini_terms.specs.Kind.{is_nullish_kind, kind}
 use Rattle.mini_terms.specs.Parts.{is_link, leaves_nothing}
-use Rattle.mini_terms.specs.Reading.{is_plain_part, stands}
-use Rattle.mini_rows.specs.Spellings.{void_zero}
+use Rattle.mini_terms.specs.Reading.{is_plain_part, stands_by}
+use Rattle.mini_rows.specs.Spellings.{IsUndefined, void_zero}
 use Rattle.mini_rows.specs.Chains.{is_calm, Link, linked, is_calm_link, chain}
 
 -- each value of it is known to be neither undefined nor null
 abbrev pub is_there : Tree → Bool
 is_there t = is_known (kind t) && not (is_nullish_kind (kind t))
+
+-- where it is called its value is what is called, with no `this`: what is read by its value alone, a function, a class or a BigInt
+abbrev pub is_lone_by : Shape → Bool
+is_lone_by (shape.Function false is_generator directives) = true
+is_lone_by (shape.Class false) = true
+is_lone_by (shape.BigIntLiteral n) = true
+is_lone_by h = stands_by h
+
+abbrev pub is_lone : Tree → Bool
+is_lone t = is_lone_by (shape_of t)
 
 -- ---- links, optional or not
 
@@ -60,7 +72,7 @@ pub record Row11 (s : Seat) (n w : Tree) : Type 0 where
   pub base : Tree
   pub known : is_there base ≡ true
   pub plain : is_plain_part base ≡ true
-  pub value : stands base ≡ true
+  pub value : is_lone base ≡ true
   pub calm_base : is_calm base ≡ true
   pub calm : is_calm_link link ≡ true
   pub calm_others : are_calm_over others ≡ true
@@ -68,20 +80,20 @@ pub record Row11 (s : Seat) (n w : Tree) : Type 0 where
   pub shape : n ≡ chain (links_over others (linked true link base))
   pub written : w ≡ chain_if (has_mark others) (links_over others (linked false link base))
 
--- `null` or `void 0`
-abbrev pub nothing : Bool → Tree
-nothing true = null_literal
-nothing false = void_zero
+-- `null`, `void 0`, or `undefined`, which no scope declares
+abbrev pub IsNothing : Tree → Type 0
+IsNothing t = (t ≡ null_literal) ⊎ IsUndefined t
 
--- 10: `null?.a.b` becomes `void 0`, since the chain ends at its first `?.`; where what goes leaves nothing behind
+-- 10: `null?.a.b` and `undefined?.a` become `void 0`, since the chain ends at its first `?.`; where what goes leaves nothing behind
 pub record Row10 (n w : Tree) : Type 0 where
   pub others : List Marked
   pub link : Link
-  pub is_null : Bool
+  pub base : Tree
+  pub known : IsNothing base
   pub calm : is_calm_link link ≡ true
   pub calm_others : are_calm_over others ≡ true
-  pub dropped : leaves_nothing (links_over others (linked true link (nothing is_null))) ≡ true
-  pub shape : n ≡ chain (links_over others (linked true link (nothing is_null)))
+  pub dropped : leaves_nothing (links_over others (linked true link base)) ≡ true
+  pub shape : n ≡ chain (links_over others (linked true link base))
   pub written : w ≡ void_zero
 
 abbrev pub ChainRow : Seat → Tree → Tree → Type 0

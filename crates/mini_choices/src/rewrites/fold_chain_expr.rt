@@ -1,15 +1,15 @@
 //! Rows 10, 11 and 64, of optional chains by what stands before a `?.` of theirs: `(a?.b)?.c` becomes `a?.b?.c`, and `[1]?.length`
-//! becomes `[1].length`, which is lighter in every seat; `null?.a` becomes `void 0`, where that is lighter.
+//! becomes `[1].length`, which is lighter in every seat; `null?.a` and `undefined?.a` become `void 0`, where that is lighter.
 
 ghost use Rattle.std.specs.Prelude.{◌≡◌, [], true, is_some, unwrap_or, OnOk, IfOk};
 ghost use Rattle.mini_model.specs.Tree.{children, count, node as tree, none, ◌▸◌, shape_of};
 ghost use Rattle.mini_node.specs.Children.{part};
 ghost use Rattle.mini_terms.specs.Parts.{is_link as is_link_shape};
-ghost use Rattle.mini_rows.specs.ChainLinks.{is_there as is_it_there, chain_if};
+ghost use Rattle.mini_rows.specs.ChainLinks.{is_there as is_it_there, is_lone as is_it_lone, chain_if};
 ghost use Rattle.mini_rows.specs.Spellings.{void_zero as void_zero_of};
 ghost use Rattle.mini_choices.specs.FoldChainExpr.{is_chain as is_it_chain, ends_none as ends_it_none, is_step as is_it_step, is_marked as is_it_marked, link_shape as shape_of_link, relinked as relinked_of, holds_link as holds_it_link, is_value as is_it_value, folds_here as folds_it_here, here, outcome as outcome_of, folded as folded_of, folded_written, is_nothing as is_it_nothing, ends_at_once as ends_it_at_once, may_end as may_it_end, written};
 
-use crate::forms::is_void_zero;
+use crate::forms::is_undefined;
 use crate::rewrites::inject_optional_chaining::{are_calm, is_calm, is_word};
 use mini_model::{LogicalOperator, OutOfMemory, Seat, Shape, UnaryOperator};
 use mini_node::{
@@ -89,11 +89,21 @@ fn is_there(node: &Node) -> bool
     stops(LogicalOperator::Coalesce, node)
 }
 
-// A value that is there, which is read by its value alone.
+// What is called without a `this`: what is read by its value alone, a function, a class or a BigInt.
+fn is_lone(node: &Node) -> bool
+    ensures { result ≡ is_it_lone node.now }
+{
+    match node.shape() {
+        Shape::Function(false, _, _) | Shape::Class(false) | Shape::BigIntLiteral(_) => true,
+        _ => stands(node),
+    }
+}
+
+// A value that is there, and is called without a `this`.
 fn is_value(node: &Node) -> bool
     ensures { result ≡ is_it_value node.now }
 {
-    is_there(node) && is_plain_part(node) && stands(node) && is_calm(node)
+    is_there(node) && is_plain_part(node) && is_lone(node) && is_calm(node)
 }
 
 // An optional link over a chain, or, where its mark may go, over a value that is there.
@@ -200,11 +210,11 @@ fn fold_links(alloc: Global, node: &mut Node, seat: Seat) -> Result<bool, OutOfM
     }
 }
 
-// `null` or `void 0`
+// `null`, `void 0`, or `undefined`, which no scope declares.
 fn is_nothing(node: &Node) -> bool
     ensures { result ≡ is_it_nothing node.now }
 {
-    is_null(node) || is_void_zero(node)
+    is_null(node) || is_undefined(node)
 }
 
 // One of the links is optional over that.
