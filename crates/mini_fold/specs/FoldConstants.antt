@@ -1,4 +1,4 @@
--- The rewrites 1 and 3: a unary or binary expression over literals becomes the literal of its value, where that is lighter.
+-- The rewrites 1 and 3: a unary or binary expression over constants becomes the literal of its value, where that is lighter.
 use Rattle.std.specs.Prelude.{◌≡◌, ◌<◌, ◌-◌, ◌^◌, nat_le, Bool, ◌&&◌, Option, Some, None, if◌then◌else◌}
 use Rattle.mini_model.specs.declared.place.Position.{Position}
 use Rattle.mini_model.specs.declared.place.Position.TheVariants.{Expr}

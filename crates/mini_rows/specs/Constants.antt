@@ -22,8 +22,8 @@ gain_by h = 1
 abbrev pub least_gain : Tree → ℕ
 least_gain w = gain_by (shape_of w)
 
--- 1 and 3: a unary or binary expression over literals becomes the literal of its value. `60 * 60` becomes `3600`, `"a" + 1` becomes
--- `"a1"`, `1 << 10` becomes `1024`, and `!"a"` becomes `!1`
+-- 1 and 3: a unary or binary expression over constants becomes the literal of its value. `60 * 60` becomes `3600`, `"a" + 1` becomes
+-- `"a1"`, `(1 << 20) - 1` becomes `1048575`, and `!"a"` becomes `!1`
 pub record RowConstant (s : Seat) (n w : Tree) : Type 0 where
   pub value : Value
   pub known : calculated n ≡ Some value

@@ -51,7 +51,7 @@ told t = text_of (operand_value t)
 
 -- ---- rows
 
--- 18: `` `a${1}b${c}` `` becomes `` `a1b${c}` ``, and `` `${"x"}` `` becomes `` `x` ``: a part that writes a value out goes into the text
+-- 18: `` `a${1}b${c}` `` becomes `` `a1b${c}` ``, and `` `${"x"}` `` becomes `` `x` ``: a part whose value is calculated goes into the text
 pub record Row18 (n w : Tree) : Type 0 where
   pub before : List Piece
   pub first : Piece
@@ -81,7 +81,7 @@ pub record Row5Both (n w : Tree) : Type 0 where
   pub shape : n ≡ binary Addition (template (append (pieces before) (piece last ▸ none)) earlier) (template (piece first ▸ pieces after) later)
   pub written : w ≡ template (append (pieces before) (piece (pair last first) ▸ pieces after)) (append earlier later)
 
--- 5: `` `a${b}` + "c" `` becomes `` `a${b}c` ``: what writes a value out is added to a template
+-- 5: `` `a${b}` + "c" `` becomes `` `a${b}c` ``: what has a calculated value is added to a template
 pub record Row5After (n w : Tree) : Type 0 where
   pub before : List Piece
   pub last : Piece
@@ -112,7 +112,7 @@ abbrev pub Row5 : Tree → Tree → Type 0
 Row5 n w = Row5Both n w ⊎ (Row5After n w ⊎ Row5Before n w)
 
 -- 6: `` a + `x${b}` + `y` `` becomes `` a + `x${b}y` ``. The sum of a and a text is a text, so a is converted once, before or after the
--- last operand is evaluated: that is one thing where a is primitive, or the last operand writes a value out
+-- last operand is evaluated: that is one thing where a is primitive, or the value of the last operand is calculated
 pub record Row6 (n w : Tree) : Type 0 where
   pub left : Tree
   pub inner : Tree

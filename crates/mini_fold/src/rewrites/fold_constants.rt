@@ -1,4 +1,4 @@
-//! Rows 1 and 3: a unary or binary expression over literals becomes the literal of its value. `60 * 60` becomes `3600`, and
+//! Rows 1 and 3: a unary or binary expression over constants becomes the literal of its value. `60 * 60` becomes `3600`, and
 //! `"a" + 1` becomes `"a1"`, where that is lighter in the seat.
 
 ghost use Rattle.std.specs.Prelude.{◌≡◌, is_some, unwrap_or, OnOk, IfOk};
@@ -49,7 +49,7 @@ fn literal(alloc: Global, node: &Node) -> Result<Option<Node>, OutOfMemory>
     }
 }
 
-/// An expression over literals becomes the literal of its value, where that is lighter. The answer says whether it did; the only
+/// An operator over constants becomes the literal of its value, where that is lighter. The answer says whether it did; the only
 /// error is that memory runs out.
 pub fn fold_constant(alloc: Global, node: &mut Node, seat: Seat) -> Result<bool, OutOfMemory>
     ensures tree { OnOk result (node.new ≡ unwrap_or (written seat node.old) node.old) }

@@ -1,4 +1,4 @@
-//! Rows 18, 5 and 6: a part of a template whose value is written out goes into the text: `` `a${1}b${c}` `` becomes `` `a1b${c}` ``; a sum of
+//! Rows 18, 5 and 6: a part of a template whose value is calculated goes into the text: `` `a${1}b${c}` `` becomes `` `a1b${c}` ``; a sum of
 //! templates is one, as `` `a${b}` + `c${d}` `` becomes `` `a${b}c${d}` ``, and `` `a${b}` + "c" `` becomes `` `a${b}c` ``; so are they behind
 //! another operand, as `` a + `x${b}` + "y" `` becomes `` a + `x${b}y` ``. What is written is lighter in its seat.
 
@@ -272,7 +272,7 @@ fn inline_part(alloc: Global, node: Node, at: usize, joined: Node) -> Result<Nod
     template_literal(alloc, texts, parts)
 }
 
-/// A part of a template whose value is written out goes into the text, where that is lighter. The answer says whether one did; the only
+/// A part of a template whose value is calculated goes into the text, where that is lighter. The answer says whether one did; the only
 /// error is that memory runs out, and then the expression is fit only to be dropped.
 pub fn inline_template_literal(
     alloc: Global,
@@ -544,7 +544,7 @@ fn fold_head(alloc: Global, node: &mut Node, seat: Option<Seat>) -> Result<bool,
     Ok(true)
 }
 
-// A sum of a template and another, or what writes a value out, becomes one template.
+// A sum of a template and another, or what has a calculated value, becomes one template.
 fn fold_pair(alloc: Global, node: &mut Node, seat: Option<Seat>) -> Result<bool, OutOfMemory>
     requires { count (children node.old) ≡ 2 }
     ensures tree { OnOk result (node.new ≡ unwrap_or (template.sum_written seat (part node.old 0) (part node.old 1)) node.old) }
@@ -666,8 +666,8 @@ fn fold_sum(alloc: Global, node: &mut Node, seat: Seat) -> Result<bool, OutOfMem
     }
 }
 
-/// A part of a template whose value is written out goes into the text, and a sum of a template and another, or of a template and what
-/// writes a value out, becomes one template, also behind another operand, where that is lighter. The answer says whether something did;
+/// A part of a template whose value is calculated goes into the text, and a sum of a template and another, or of a template and what
+/// has a calculated value, becomes one template, also behind another operand, where that is lighter. The answer says whether something did;
 /// the only error is that memory runs out, and then the expression is fit only to be dropped.
 #[tactic(auto, using(crate::proofs::Templates::sum_applied, crate::proofs::Templates::others_applied))]
 pub fn fold_templates(alloc: Global, node: &mut Node, seat: Seat) -> Result<bool, OutOfMemory>
