@@ -444,7 +444,7 @@ module _ (s : Seat) (n : Tree) where
         shape = chain_is n c ∙ ap chain o.is;
         written = refl;
       } in
-      record { row = inr (inr (inr (inr (inr (inr row))))); lighter = omega (arith, ltb-true _ _ less) }
+      record { row = inr (inr (inr (inr (inr (inr (inl row)))))); lighter = omega (arith, ltb-true _ _ less) }
 
 pub folded_row : (s : Seat) (n w : Tree) → written s n ≡ Some w → ChoiceContracts (Expr s) n w
 folded_row s n w e = tried s n w (may_end n && is_lighter s void_zero n) void_zero (folded_written s n) (end_row s n) (links_row s n w) e

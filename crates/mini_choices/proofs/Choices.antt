@@ -22,7 +22,7 @@ use Rattle.mini_node.specs.Kinds.{binary, assignment, is_logical, is_conditional
 use Rattle.mini_node.specs.Made.{assignment_is, logical_is, binary_is, conditional_is, null_is}
 use Rattle.mini_node.proofs.Equality.{tree_itself}
 use Rattle.mini_terms.specs.Folds.{is_effect_free}
-use Rattle.mini_rows.specs.Choices.{assign, is_grouped, joined, strictly, joining, asks_object, null_compared, ended, deciding, computing, may_choose, Row39, Row38, Row35, Row45, Row46Equal, Row46Unequal, Row44, LighterRow, OwnRow, ChoiceRow, ChoiceContracts}
+use Rattle.mini_rows.specs.Choices.{assign, is_grouped, joined, strictly, joining, asks_object, null_compared, ended, deciding, computing, may_choose, Row39, Row38, Row35, Row45, Row46Equal, Row46Unequal, Row44, Row13Both, LighterRow, OwnRow, ChoiceRow, ChoiceContracts}
 use Rattle.mini_rows.proofs.ChoiceCalls.{calls_lighter}
 use Rattle.mini_rows.proofs.ChoiceWeights as choice_weights
 use Rattle.mini_tree.specs.Rule.{Applied}
@@ -38,6 +38,8 @@ use Rattle.mini_choices.specs.InjectOptionalChaining as chains
 use Rattle.mini_choices.specs.FoldChainExpr as folded
 use Rattle.mini_terms.specs.Parts.{leaves_nothing}
 use Rattle.mini_rows.specs.Spellings.{void_zero}
+use Rattle.mini_choices.specs.EvaluateBothSides as both
+use Rattle.mini_choices.proofs.BothSides.{both_row, both_passes}
 use Rattle.mini_choices.proofs.ChainLinks.{end_passes, chain_is, folded_row, folded_passes}
 use Rattle.mini_choices.proofs.OptionalChains.{chain_row, chain_passes}
 use Rattle.mini_choices.proofs.Trials.{some_is, not_true, both_true, tried, first_true, later_true, first_there, second_there, lighter_test}
@@ -50,7 +52,7 @@ use Rattle.mini_choices.proofs.ObjectTest.{object_row, object_passes, before_pas
 use Rattle.mini_choices.proofs.Spines.{logical_kind_is, spine_of, leftmost_joined}
 use Rattle.mini_choices.proofs.HeldBranches.{held_row, held_passes}
 use Rattle.mini_choices.proofs.Calls.{called_row, called_passes}
-use Rattle.mini_choices.specs.Choices.{first_of, written, Gives, Rests, WrittenIsRow, UnwrittenRests}
+use Rattle.mini_choices.specs.Choices.{first_of, operands_written, written, Gives, Rests, WrittenIsRow, UnwrittenRests}
 
 -- ---- 39
 
@@ -332,7 +334,7 @@ either_some (Some a) b w e = inl e
 either_some None b w e = inr e
 
 row_of : (s : Seat) (n w : Tree) → written s n ≡ Some w → ChoiceContracts (Expr s) n w
-row_of s (node (shape.LogicalExpression o) xs m ts) w e = sure s _ w (logical_row (either_some (rotate.written (node (shape.LogicalExpression o) xs m ts)) (first_of (decide.written (node (shape.LogicalExpression o) xs m ts)) (first_of (nullish.written (node (shape.LogicalExpression o) xs m ts)) (object_test.written (node (shape.LogicalExpression o) xs m ts)))) w e))
+row_of s (node (shape.LogicalExpression o) xs m ts) w e = side_row (either_some (both.written s (node (shape.LogicalExpression o) xs m ts)) (operands_written (node (shape.LogicalExpression o) xs m ts)) w e)
   where
     comparisons_row : (nullish.written (node (shape.LogicalExpression o) xs m ts) ≡ Some w) ⊎ (object_test.written (node (shape.LogicalExpression o) xs m ts) ≡ Some w) → LighterRow s (node (shape.LogicalExpression o) xs m ts) w
     comparisons_row (inl e) = comparison_row (LighterRow s) (λ n w r. inr (inr (inr (inr (inr (inr (inl r))))))) (λ n w r. inr (inr (inr (inr (inr (inr (inr (inl r)))))))) _ w e
@@ -345,6 +347,10 @@ row_of s (node (shape.LogicalExpression o) xs m ts) w e = sure s _ w (logical_ro
     logical_row : (rotate.written (node (shape.LogicalExpression o) xs m ts) ≡ Some w) ⊎ (first_of (decide.written (node (shape.LogicalExpression o) xs m ts)) (first_of (nullish.written (node (shape.LogicalExpression o) xs m ts)) (object_test.written (node (shape.LogicalExpression o) xs m ts))) ≡ Some w) → LighterRow s (node (shape.LogicalExpression o) xs m ts) w
     logical_row (inl e) = inl (rotated_row _ w e)
     logical_row (inr e) = others_row (either_some (decide.written (node (shape.LogicalExpression o) xs m ts)) (first_of (nullish.written (node (shape.LogicalExpression o) xs m ts)) (object_test.written (node (shape.LogicalExpression o) xs m ts))) w e)
+
+    side_row : (both.written s (node (shape.LogicalExpression o) xs m ts) ≡ Some w) ⊎ (operands_written (node (shape.LogicalExpression o) xs m ts) ≡ Some w) → ChoiceContracts (Expr s) (node (shape.LogicalExpression o) xs m ts) w
+    side_row (inl e) = both_row s _ w e
+    side_row (inr e) = sure s _ w (logical_row (either_some (rotate.written (node (shape.LogicalExpression o) xs m ts)) (first_of (decide.written (node (shape.LogicalExpression o) xs m ts)) (first_of (nullish.written (node (shape.LogicalExpression o) xs m ts)) (object_test.written (node (shape.LogicalExpression o) xs m ts)))) w e))
 row_of s (node (shape.AssignmentExpression o) xs m ts) w e = sure s _ w (inr (inr (inl (combined_row _ w e))))
 row_of s (node shape.ConditionalExpression xs m ts) w e = any_row (either_some (chains.written s (node shape.ConditionalExpression xs m ts)) (first_of (held.written s (node shape.ConditionalExpression xs m ts)) (branches.written s (node shape.ConditionalExpression xs m ts))) w e)
   where
@@ -406,29 +412,37 @@ by_nullish t h = in_comparisons t (first_there (nullish.written t) (object_test.
 by_object : (t : Tree) → is_some (object_test.written t) ≡ true → is_some (first_of (rotate.written t) (first_of (decide.written t) (first_of (nullish.written t) (object_test.written t)))) ≡ true
 by_object t h = in_comparisons t (second_there (nullish.written t) (object_test.written t) h)
 
+in_operands : (s : Seat) (t : Tree) → is_some (operands_written t) ≡ true → is_some (first_of (both.written s t) (operands_written t)) ≡ true
+in_operands s t h = second_there (both.written s t) (operands_written t) h
+
+both_there : (s : Seat) (n w : Tree) → Row13Both n w → is_some (both.written s n) ≡ true → is_some (written s n) ≡ true
+both_there s n w r h =
+    let t : Tree = logical r.operator r.left r.right in
+    ap (λ t. is_some (written s t)) r.shape ∙ first_there (both.written s t) (operands_written t) (sym (ap (λ t. is_some (both.written s t)) r.shape) ∙ h)
+
 sure_passes : (s : Seat) (n w : Tree) → LighterRow s n w → is_some (written s n) ≡ true
 sure_passes s n w (inl r) =
     let t : Tree = logical r.operator r.a (joined r.operator r.b (r.last ▸ r.others)) in
-    ap (λ t. is_some (written s t)) r.shape ∙ first_there (rotate.written t) (first_of (decide.written t) (first_of (nullish.written t) (object_test.written t))) (rotated_passes r.operator r.a r.b r.last r.others r.ungrouped)
+    ap (λ t. is_some (written s t)) r.shape ∙ in_operands s t (first_there (rotate.written t) (first_of (decide.written t) (first_of (nullish.written t) (object_test.written t))) (rotated_passes r.operator r.a r.b r.last r.others r.ungrouped))
 sure_passes s n w (inr (inl r)) =
     let t : Tree = logical r.operator (identifier r.name) (assign r.name r.b) in
-    ap (λ t. is_some (written s t)) r.shape ∙ first_there (decide.written t) (first_of (nullish.written t) (object_test.written t)) (ap is_some (decided_passes r.operator r.name r.b))
+    ap (λ t. is_some (written s t)) r.shape ∙ in_operands s t (first_there (decide.written t) (first_of (nullish.written t) (object_test.written t)) (ap is_some (decided_passes r.operator r.name r.b)))
 sure_passes s n w (inr (inr (inl r))) = ap (λ t. is_some (written s t)) r.shape ∙ ap is_some (combined_passes r.operator r.combined r.computes r.name r.b)
 sure_passes s n w (inr (inr (inr (inl r)))) = ap (λ t. is_some (written s t)) r.shape ∙ in_branches s (conditional (binary Equality (identifier r.name) null_literal) r.b (identifier r.name)) (by_equal s (conditional (binary Equality (identifier r.name) null_literal) r.b (identifier r.name)) (declared_passes r.name r.declared))
 sure_passes s n w (inr (inr (inr (inr (inl r))))) = ap (λ t. is_some (written s t)) r.shape ∙ in_branches s (conditional (binary Inequality (identifier r.name) null_literal) (identifier r.name) r.b) (by_unequal s (conditional (binary Inequality (identifier r.name) null_literal) (identifier r.name) r.b) (declared_passes r.name r.declared))
 sure_passes s n w (inr (inr (inr (inr (inr (inl r)))))) = ap (λ t. is_some (written s t)) r.shape ∙ in_branches s (conditional r.a (assignment r.operator (identifier r.name) r.b) (assignment r.operator (identifier r.name) r.c)) (by_assignment s (conditional r.a (assignment r.operator (identifier r.name) r.b) (assignment r.operator (identifier r.name) r.c)) (chosen_passes s r.seated r.operator r.a r.name r.b r.c r.chosen))
 sure_passes s n w (inr (inr (inr (inr (inr (inr (inl r))))))) =
     let t : Tree = logical (joining r.equal) (binary (strictly r.equal) (identifier r.name) r.first) (binary (strictly r.equal) (identifier r.name) r.second) in
-    ap (λ t. is_some (written s t)) r.shape ∙ by_nullish t (alone_passes r.equal r.name r.first r.second r.nullish)
+    ap (λ t. is_some (written s t)) r.shape ∙ in_operands s t (by_nullish t (alone_passes r.equal r.name r.first r.second r.nullish))
 sure_passes s n w (inr (inr (inr (inr (inr (inr (inr (inl r)))))))) =
     let t : Tree = logical (joining r.equal) (logical (joining r.equal) r.before (binary (strictly r.equal) (identifier r.name) r.first)) (binary (strictly r.equal) (identifier r.name) r.second) in
-    ap (λ t. is_some (written s t)) r.shape ∙ by_nullish t (after_passes r.equal r.before r.name r.first r.second r.nullish)
+    ap (λ t. is_some (written s t)) r.shape ∙ in_operands s t (by_nullish t (after_passes r.equal r.before r.name r.first r.second r.nullish))
 sure_passes s n w (inr (inr (inr (inr (inr (inr (inr (inr (inl r))))))))) =
     let t : Tree = logical (joining (not r.there)) (ended (joining (not r.there)) r.before (asks_object r.there r.name)) (null_compared r.strict (not r.there) r.name) in
-    ap (λ t. is_some (written s t)) r.shape ∙ by_object t (object_passes r.there r.strict r.before r.name r.declared)
+    ap (λ t. is_some (written s t)) r.shape ∙ in_operands s t (by_object t (object_passes r.there r.strict r.before r.name r.declared))
 sure_passes s n w (inr (inr (inr (inr (inr (inr (inr (inr (inr r))))))))) =
     let t : Tree = logical (joining (not r.there)) (ended (joining (not r.there)) r.before (null_compared r.strict (not r.there) r.name)) (asks_object r.there r.name) in
-    ap (λ t. is_some (written s t)) r.shape ∙ by_object t (before_passes r.there r.strict r.before r.name r.declared)
+    ap (λ t. is_some (written s t)) r.shape ∙ in_operands s t (by_object t (before_passes r.there r.strict r.before r.name r.declared))
 
 own_passes : (s : Seat) (n w : Tree) → OwnRow n w → weight (Expr s) n < 2 ^ 64 → weight (Expr s) w < weight (Expr s) n → is_some (written s n) ≡ true
 own_passes s n w (inl r) small less =
@@ -450,7 +464,8 @@ passes s n w (inr (inl r)) small less = own_passes s n w r small less
 passes s n w (inr (inr (inl r))) small less = held_there s n (held_passes s n w small less r)
 passes s n w (inr (inr (inr (inl r)))) small less = chain_there s n (chain_passes s n w r)
 passes s n w (inr (inr (inr (inr (inr (inl r)))))) small less = folded_there s n (folded_passes s n w r)
-passes s n w (inr (inr (inr (inr (inr (inr r)))))) small less = folded_there s n (end_passes s n w r small less)
+passes s n w (inr (inr (inr (inr (inr (inr (inl r))))))) small less = folded_there s n (end_passes s n w r small less)
+passes s n w (inr (inr (inr (inr (inr (inr (inr r))))))) small less = both_there s n w r (both_passes s n w r small less)
 passes s n w (inr (inr (inr (inr (inl r))))) small less =
     let t : Tree = conditional r.a (call false (identifier r.name) (r.p ▸ r.others)) (call false (identifier r.name) (r.q ▸ r.others)) in
     ap (λ t. is_some (written s t)) r.shape ∙ in_branches s t (by_called s t (called_passes n w r))

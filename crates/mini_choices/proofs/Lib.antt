@@ -4,6 +4,7 @@ pub mod FormsAre
 pub mod Spines
 pub mod LeftJoins
 pub mod HeldBranches
+pub mod BothSides
 pub mod Calls
 pub mod OptionalChains
 pub mod ChainLinks

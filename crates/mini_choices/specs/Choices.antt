@@ -15,6 +15,7 @@ use Rattle.mini_choices.specs.MinimizeObjectTest as object_test
 use Rattle.mini_choices.specs.MinimizeNormalAssignmentToCombinedAssignment as combine
 use Rattle.mini_choices.specs.MinimizeConditionalBranches as branches
 use Rattle.mini_choices.specs.MinimizeHeldBranches as held
+use Rattle.mini_choices.specs.EvaluateBothSides as both
 use Rattle.mini_choices.specs.InjectOptionalChaining as chains
 use Rattle.mini_choices.specs.FoldChainExpr as folded
 
@@ -23,8 +24,12 @@ abbrev pub first_of : Option Tree → Option Tree → Option Tree
 first_of (Some a) b = Some a
 first_of None b = b
 
+-- what is written for a logical expression wherever it stands
+abbrev pub operands_written : Tree → Option Tree
+operands_written t = first_of (rotate.written t) (first_of (decide.written t) (first_of (nullish.written t) (object_test.written t)))
+
 abbrev pub written_by : Shape → Seat → Tree → Option Tree
-written_by (shape.LogicalExpression o) s t = first_of (rotate.written t) (first_of (decide.written t) (first_of (nullish.written t) (object_test.written t)))
+written_by (shape.LogicalExpression o) s t = first_of (both.written s t) (operands_written t)
 written_by (shape.AssignmentExpression o) s t = combine.written t
 written_by shape.ConditionalExpression s t = first_of (chains.written s t) (first_of (held.written s t) (branches.written s t))
 written_by shape.ChainExpression s t = folded.written s t

@@ -12,6 +12,7 @@ pub mod MinimizeAssignedComparison
 pub mod MinimizeAssignedNullishComparison
 pub mod MinimizeConditionalBranches
 pub mod MinimizeHeldBranches
+pub mod EvaluateBothSides
 pub mod InjectOptionalChaining
 pub mod InjectAssignedChaining
 pub mod FoldChainExpr

@@ -12,6 +12,7 @@ mod weights;
 
 pub use joining::join_with_left_associative_op;
 pub use laws::{choices_are_rows, left_joins_mean_the_same, writes_are_rows};
+pub use rewrites::evaluate_both_sides::evaluate_both_sides;
 pub use rewrites::inject_optional_chaining::inject_optional_chaining;
 pub use rewrites::minimize_assigned_comparison::minimize_assigned_comparison;
 pub use rewrites::minimize_choices::MinimizeChoices;

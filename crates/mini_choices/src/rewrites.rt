@@ -1,3 +1,4 @@
+pub mod evaluate_both_sides;
 pub mod fold_chain_expr;
 pub mod inject_assigned_chaining;
 pub mod inject_optional_chaining;

@@ -8,7 +8,7 @@ use Rattle.mini_model.specs.declared.place.Position.TheVariants.{Expr, Stmt}
 use Rattle.mini_model.specs.declared.seat.Seat.{Seat}
 use Rattle.mini_model.specs.declared.seat.StmtSeat.{StmtSeat}
 use Rattle.mini_model.specs.declared.shape.Shape.TheVariants as shape
-use Rattle.mini_model.specs.Tree.{Tree, node, logical, conditional, empty_statement}
+use Rattle.mini_model.specs.Tree.{Tree, node, logical, conditional, expression_statement, empty_statement}
 use Rattle.mini_node.specs.Children.{part}
 use Rattle.mini_node.specs.Equal.{same_tree}
 use Rattle.mini_node.specs.Kinds.{binary_operator, logical_operator, is_conditional, is_expression_statement}
@@ -21,10 +21,14 @@ use Rattle.mini_rows.specs.Spellings.{binary, static_member, text, key}
 use Rattle.mini_rows.proofs.FoldWeights.{lighter}
 use Rattle.mini_tree.specs.Rule.{Applied}
 use Rattle.mini_tree.proofs.Reaching.{moves_once}
+use Rattle.mini_rows.specs.Lists.{for_loop}
+use Rattle.mini_rows.specs.Decrements.{subtracts}
+use Rattle.mini_rows.specs.ForParts.{ForPartRow}
+use Rattle.mini_fold.proofs.ForHeads.{for_row, for_rests}
 use Rattle.mini_fold.specs.MinimizeBinary.{loosened_by, with_operator, written_by}
 use Rattle.mini_fold.specs.MinimizeBinary as equality
 use Rattle.mini_fold.proofs.Lengths.{length_is_row, length_rests}
-use Rattle.mini_fold.specs.FoldKnown.{is_passed, is_stopped, side, logical_written, folded, is_idle_test, chooses_nothing, branch_written, written, does_nothing, statement_written, Gives, Rests, WrittenIsRow, StatementIsRow, UnwrittenRests, StatementRests}
+use Rattle.mini_fold.specs.FoldKnown.{is_passed, is_stopped, side, logical_written, folded, is_idle_test, chooses_nothing, branch_written, written, does_nothing, expression_written, statement_written, Gives, Rests, WrittenIsRow, StatementIsRow, UnwrittenRests, StatementRests}
 
 not_true : (b : Bool) → not b ≡ true → b ≡ false
 not_true false e = refl
@@ -159,8 +163,8 @@ unwritten_rests s n e w (inr (inl r)) = unstopped (is_passed s r.operator r.left
 
 -- statements
 
-pub statement_is_row : StatementIsRow
-statement_is_row q n w e = go (does_nothing n) refl e
+expression_row : (n w : Tree) → expression_written n ≡ Some w → Row22 n w
+expression_row n w e = go (does_nothing n) refl e
   where
     go : (c : Bool) → does_nothing n ≡ c → (if c then Some empty_statement else None) ≡ Some w → Row22 n w
     go true h e =
@@ -170,8 +174,13 @@ statement_is_row q n w e = go (does_nothing n) refl e
         record { expression = part n 0; effect_free = free; dropped = dropped; shape = expression_statement_is n is; written = sym same }
     go false h e = absurd (cc e)
 
-pub statement_rests : StatementRests
-statement_rests q n e w r = never (does_nothing n) (ap does_nothing r.shape ∙ both_true' (is_effect_free r.expression) (leaves_nothing r.expression) r.effect_free r.dropped) e
+pub statement_is_row : StatementIsRow
+statement_is_row q (node shape.ExpressionStatement xs m ts) w e = inl (expression_row (node shape.ExpressionStatement xs m ts) w e)
+statement_is_row q (node shape.ForStatement xs m ts) w e = inr (for_row (node shape.ForStatement xs m ts) w e)
+statement_is_row q (node h xs m ts) w e = absurd (cc e)
+
+expression_rests : (n w : Tree) → expression_written n ≡ None → Row22 n w → ⊥
+expression_rests n w e r = never (does_nothing n) (ap does_nothing r.shape ∙ both_true' (is_effect_free r.expression) (leaves_nothing r.expression) r.effect_free r.dropped) e
   where
     both_true' : (c d : Bool) → c ≡ true → d ≡ true → c && d ≡ true
     both_true' true d e f = f
@@ -180,6 +189,15 @@ statement_rests q n e w r = never (does_nothing n) (ap does_nothing r.shape ∙ 
     never : (c : Bool) → c ≡ true → (if c then Some empty_statement else None) ≡ None → ⊥
     never true h e = cc e
     never false h e = cc h
+
+statement_as : (n m : Tree) → n ≡ m → statement_written n ≡ None → statement_written m ≡ None
+statement_as n m e h = sym (ap statement_written e) ∙ h
+
+pub statement_rests : StatementRests
+statement_rests q n e w (inl r) = expression_rests (expression_statement r.expression) w (statement_as n (expression_statement r.expression) r.shape e) (subst (λ t. Row22 t w) r.shape r)
+statement_rests q n e w (inr (inl r)) = let t : Tree = for_loop r.init r.test r.update r.body in for_rests t w (statement_as n t r.shape e) (subst (λ t. ForPartRow t w) r.shape (inl r))
+statement_rests q n e w (inr (inr (inl r))) = let t : Tree = for_loop r.init r.test r.update r.body in for_rests t w (statement_as n t r.shape e) (subst (λ t. ForPartRow t w) r.shape (inr (inl r)))
+statement_rests q n e w (inr (inr (inr r))) = let t : Tree = for_loop r.init r.test (subtracts r.operator r.name) r.body in for_rests t w (statement_as n t r.shape e) (subst (λ t. ForPartRow t w) r.shape (inr (inr r)))
 
 -- the rule
 

@@ -1,4 +1,7 @@
 pub mod Lengths
+pub mod IdleHeads
+pub mod Counters
+pub mod ForHeads
 pub mod KnownSides
 pub mod Deep
 pub mod Constants

@@ -1,5 +1,7 @@
 pub mod MinimizeBinary
 pub mod FoldStaticMember
+pub mod RemoveIdleHead
+pub mod DecrementCounter
 pub mod FoldKnown
 pub mod Values
 pub mod FoldConstants

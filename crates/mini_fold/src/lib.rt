@@ -11,12 +11,15 @@ mod values;
 
 pub use laws::{constants_are_rows, folds_are_rows};
 pub use literals::{evaluate_value, is_true, operand_value};
+pub use rewrites::decrement_counter::decrement_counter;
 pub use rewrites::fold_constants::{FoldConstants, fold_constant};
 pub use rewrites::fold_known::{
-    FoldKnown, fold_conditional, fold_expression, fold_logical_expression, remove_unused_expression,
+    FoldKnown, fold_conditional, fold_expression, fold_for, fold_logical_expression,
+    fold_statement, remove_unused_expression,
 };
 pub use rewrites::fold_operands::{FoldOperands, fold_operands};
 pub use rewrites::fold_sequences::{FoldSequences, fold_sequence_expression};
 pub use rewrites::fold_templates::{FoldTemplates, fold_templates, inline_template_literal};
 pub use rewrites::minimize_binary::minimize_binary;
+pub use rewrites::remove_idle_head::{has_idle_head, remove_idle_head};
 pub use values::{ConstantValue, value_to_expr};

@@ -1,3 +1,4 @@
+pub mod decrement_counter;
 pub mod fold_constants;
 pub mod fold_known;
 pub mod fold_operands;
@@ -6,3 +7,4 @@ pub mod fold_sequences;
 pub mod fold_static_member;
 pub mod fold_templates;
 pub mod minimize_binary;
+pub mod remove_idle_head;

@@ -35,7 +35,7 @@ use Rattle.mini_rows.specs.Catches.{CatchContracts}
 use Rattle.mini_rows.specs.Writes.{WriteContracts}
 use Rattle.mini_rows.specs.Redex.{Row, Contracts, Rewrites}
 use Rattle.mini_rows.proofs.SpellKeyLawful as keys
-use Rattle.mini_rows.proofs.FoldLawful.{foldings_lawful}
+use Rattle.mini_rows.proofs.FoldRows.{foldings_lawful}
 use Rattle.mini_rows.proofs.SpellLawful as spellings
 use Rattle.mini_rows.proofs.BranchLawful.{branches_lawful}
 use Rattle.mini_rows.proofs.ListLawful.{lists_lawful}

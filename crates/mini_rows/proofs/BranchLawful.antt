@@ -43,7 +43,7 @@ use Rattle.mini_rows.proofs.BranchParts.{Value, core_then, said_then, value_itse
 use Rattle.mini_rows.proofs.BranchSame.{branches_same}
 use Rattle.mini_rows.proofs.CaseKept.{case_is_kept, case_says, default_is_kept, default_says}
 use Rattle.mini_rows.proofs.DeadCaseKept.{AllQuiet, CasesKept, over_core, over_said, taken_kept, none_kept}
-use Rattle.mini_rows.proofs.FoldLawful.{vanishes, first_dropped}
+use Rattle.mini_rows.proofs.Vanishing.{vanishes, first_dropped}
 use Rattle.mini_rows.proofs.ListShapes.{both_fit}
 use Rattle.mini_rows.proofs.LoopKept.{row_84_fits, row_84_core, row_84_said}
 

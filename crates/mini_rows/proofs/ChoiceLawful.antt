@@ -32,7 +32,7 @@ use Rattle.mini_kept.proofs.Quiet.{no_names, no_body_names, no_body_declarations
 use Rattle.mini_rows.specs.Arranged.{KeptAt, Vanishes}
 use Rattle.mini_rows.specs.Sketches.{Unary, Binary, Logical, Conditional, Assignment, Parts, Sketch, part, under, end, ◌▹◌, Free, Null, Sequence, list, no_items, item}
 use Rattle.mini_rows.specs.Spellings.{IsUndefined, void_zero, assignment}
-use Rattle.mini_rows.specs.Choices.{assign, deciding, strictly, loosely, joining, AreNullish, Row37, Row37After, asks_object, null_compared, held, ended, Row57, Row57Null, Row39, Row38, Row35, Row45, ChoiceRow, ChoiceContracts, Row46Equal, Row46Unequal, Row41Or, Row41And, Row42And, Row42Or, Row43Or, Row43And, Row43AndThen, Row43OrThen, Row49, LighterRow, OwnRow, HeldRow}
+use Rattle.mini_rows.specs.Choices.{assign, deciding, strictly, loosely, joining, AreNullish, Row37, Row37After, asks_object, null_compared, held, ended, Row57, Row57Null, Row39, Row38, Row35, Row45, ChoiceRow, ChoiceContracts, Row46Equal, Row46Unequal, Row41Or, Row41And, Row42And, Row42Or, Row43Or, Row43And, Row43AndThen, Row43OrThen, Row49, Row13Both, LighterRow, OwnRow, HeldRow}
 use Rattle.mini_rows.proofs.ChainLinkLawful.{chains_kept}
 use Rattle.mini_rows.proofs.ChainEndKept.{end_kept}
 use Rattle.mini_rows.proofs.ArrangedExpressions.{expressions_arranged, expressions_arranged_freely}
@@ -185,6 +185,9 @@ and_then_kept q n w r = expressions_arranged (record { trees = r.a ▸ r.b ▸ r
 or_then_kept : (q : Seat) (n w : Tree) → Row43OrThen n w → KeptAt (Expr q) n w
 or_then_kept q n w r = expressions_arranged (record { trees = r.a ▸ r.b ▸ r.c ▸ none; lists = [] }) (choice (part 0) (part 2) (in_order (part 1) (part 2))) (in_order (operands Or (part 0) (part 1)) (part 2)) refl q n w r.shape r.written
 
+both_sides_kept : (q : Seat) (n w : Tree) → Row13Both n w → KeptAt (Expr q) n w
+both_sides_kept q n w r = expressions_arranged (record { trees = r.left ▸ r.right ▸ none; lists = [] }) (operands r.operator (part 0) (part 1)) (in_order (part 0) (part 1)) refl q n w r.shape r.written
+
 both_kept : (q : Seat) (n w : Tree) → Row49 n w → KeptAt (Expr q) n w
 both_kept q n w r = expressions_arranged (record { trees = r.a ▸ r.b ▸ none; lists = [] }) (choice (part 0) (part 1) (part 1)) (in_order (part 0) (part 1)) refl q n w r.shape r.written
 
@@ -301,7 +304,8 @@ expression_kept q n w (inr (inr (inl r))) = held_kept q n w r
 expression_kept q n w (inr (inr (inr (inl r)))) = chain_row_kept q n w r (undefined_vanishes r.missing r.undefined)
 expression_kept q n w (inr (inr (inr (inr (inl r))))) = calls_kept q n w r
 expression_kept q n w (inr (inr (inr (inr (inr (inl r)))))) = chains_kept q n w r
-expression_kept q n w (inr (inr (inr (inr (inr (inr r)))))) = end_kept q n w r
+expression_kept q n w (inr (inr (inr (inr (inr (inr (inl r))))))) = end_kept q n w r
+expression_kept q n w (inr (inr (inr (inr (inr (inr (inr r))))))) = both_sides_kept q n w r
 
 kept : (p : Position) (n w : Tree) → ChoiceRow p n w → KeptAt p n w
 kept (Expr q) n w r = expression_kept q n w r

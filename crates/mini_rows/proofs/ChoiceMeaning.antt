@@ -35,6 +35,7 @@ use Rattle.mini_terms.proofs.Opened.{negation_opened}
 use Rattle.mini_rows.specs.Spellings.{binary, text, assignment}
 use Rattle.mini_rows.specs.Choices.{assign, pair, joined, strictly, loosely, joining, AreNullish, Row37, Row37After, deciding, computing, may_choose, Row45, Row35, Row46Equal, Row46Unequal, asks_object, null_compared, held, ended, Row57, Row57Null, LighterRow, OwnRow, HeldRow, ChoiceRow, ChoiceContracts}
 use Rattle.mini_rows.proofs.ChainLinkMeaning.{chains_same, chains_read}
+use Rattle.mini_rows.proofs.BothSides.{both_sides_same}
 use Rattle.mini_rows.proofs.ChainEnds.{end_same, end_read}
 use Rattle.mini_rows.proofs.ChainLawful.{chain_row_same, chain_row_read}
 use Rattle.mini_rows.proofs.ChainRuns.{next, no_names, no_kids}
@@ -621,7 +622,8 @@ means_same (Expr s) n w (inr (inr (inl r))) = tree_same s n w (held_same n w r)
 means_same (Expr s) n w (inr (inr (inr (inl r)))) = chain_row_same s n w r
 means_same (Expr s) n w (inr (inr (inr (inr (inl r))))) = tree_same s n w (calls_same n w r)
 means_same (Expr s) n w (inr (inr (inr (inr (inr (inl r)))))) = chains_same s n w r
-means_same (Expr s) n w (inr (inr (inr (inr (inr (inr r)))))) = end_same s n w r
+means_same (Expr s) n w (inr (inr (inr (inr (inr (inr (inl r))))))) = end_same s n w r
+means_same (Expr s) n w (inr (inr (inr (inr (inr (inr (inr r))))))) = tree_same s n w (both_sides_same n w r)
 means_same p n w r = absurd r
 
 reads : (p : Position) (n w : Tree) → ChoiceRow p n w → summary n ≡ summary w
@@ -631,7 +633,8 @@ reads (Expr s) n w (inr (inr (inl r))) = (held_same n w r).read
 reads (Expr s) n w (inr (inr (inr (inl r)))) = chain_row_read s n w r
 reads (Expr s) n w (inr (inr (inr (inr (inl r))))) = (calls_same n w r).read
 reads (Expr s) n w (inr (inr (inr (inr (inr (inl r)))))) = chains_read s n w r
-reads (Expr s) n w (inr (inr (inr (inr (inr (inr r)))))) = end_read s n w r
+reads (Expr s) n w (inr (inr (inr (inr (inr (inr (inl r))))))) = end_read s n w r
+reads (Expr s) n w (inr (inr (inr (inr (inr (inr (inr r))))))) = (both_sides_same n w r).read
 reads p n w r = absurd r
 
 pub choices_same : MeansSame ChoiceContracts

@@ -137,7 +137,7 @@ read_alike e m n σ τ K L UndefinedName h s = refl
 read_alike e m n σ τ K L NumberName h s = refl
 read_alike e m n σ τ K L k h s = ap (λ ys. either (act e (record m { own = ys }) (read 0) s) (λ v z. ok v z) (λ x z. stop x z)) h
 
-fetched : (e : Environment) (x : Name) (r : Reference) (s : State) → means e (identifier x) Target (Fetch r) s ≡ value e (identifier x) s
+pub fetched : (e : Environment) (x : Name) (r : Reference) (s : State) → means e (identifier x) Target (Fetch r) s ≡ value e (identifier x) s
 unfolding means step
 fetched e x r s = read_alike e (naming shape.Identifier Target (variables (x ∷ [])) 0 []) (naming shape.Identifier (As Val) (variables (x ∷ [])) 0 []) (λ i. Stat None) (λ i. Stat None) (λ i r z. meaning e none i (Stat None) r z) (λ i r z. meaning e none i (Stat None) r z) (kind_of x) refl s
 

@@ -18,7 +18,7 @@ use Rattle.mini_kept.specs.KeepsFrames.{is_body_slot}
 use Rattle.mini_kept.proofs.Bools.{left, both}
 use Rattle.mini_kept.proofs.Expressions.{expression, ThreeFit, of_conditional, TakesExpressionIn, TakesExpression, expression_taken, three_fit, two_fit}
 use Rattle.mini_rows.specs.Spellings.{binary, assignment}
-use Rattle.mini_rows.specs.Choices.{assign, joined, strictly, loosely, joining, asks_object, null_compared, held, ended, deciding, ChoiceRow, pair, Row44, LighterRow, OwnRow, HeldRow}
+use Rattle.mini_rows.specs.Choices.{assign, joined, strictly, loosely, joining, asks_object, null_compared, held, ended, deciding, ChoiceRow, pair, Row44, Row13Both, LighterRow, OwnRow, HeldRow}
 use Rattle.mini_rows.proofs.ChainLinkLawful.{chains_fit, chains_asked, chains_slot}
 use Rattle.mini_rows.proofs.ChainEnds.{end_fits, end_asked, end_slot}
 use Rattle.mini_rows.proofs.ChainLawful.{chain_row_fits, chain_row_asked, chain_row_slot}
@@ -194,6 +194,12 @@ module _ (strict : Bool) where
         let (first, second) = of_two (ended o r.before test) right fit in
         subst Here (sym r.written) (expression_taken strict s (logical o (ended o r.before (held r.there r.name)) right) here (two_fit strict (ended o r.before (held r.there r.name)) right (ended_fits o r.before test (held r.there r.name) (λ f. held_fits_there r.there r.name (name_there r.strict (not r.there) r.name f)) first) second))
 
+    both_sides_fit : (n w : Tree) → Row13Both n w → Here n → Here w
+    both_sides_fit n w r e =
+        let (here, fit) = choice_taken strict s (a_logical r.operator) (r.left ▸ r.right ▸ none) refl (subst Here r.shape e) in
+        let (first, last) = of_two r.left r.right fit in
+        subst Here (sym r.written) (expression_taken strict s (pair r.left r.right) here (pair_fits r.left r.right first last))
+
     -- what is written for a conditional fits where its parts do
     for_choice : (n w a b c : Tree) → n ≡ conditional a b c → (Fits a → Fits b → Fits c → Fits w) → Here n → Here w
     for_choice n w a b c h f e =
@@ -235,6 +241,20 @@ row_formed q n w (inr (inr (inr (inr (inr (inr (inl r))))))) = record { first = 
 row_formed q n w (inr (inr (inr (inr (inr (inr (inr (inl r)))))))) = record { first = a_logical (joining r.equal); second = a_logical (joining r.equal); parts = logical (joining r.equal) r.before (binary (strictly r.equal) (identifier r.name) r.first) ▸ binary (strictly r.equal) (identifier r.name) r.second ▸ none; others = r.before ▸ binary (loosely r.equal) (identifier r.name) null_literal ▸ none; read = r.shape; made = r.written; optional = λ x. absurd (cc x) }
 row_formed q n w (inr (inr (inr (inr (inr (inr (inr (inr (inl r))))))))) = record { first = a_logical (joining (not r.there)); second = a_logical (joining (not r.there)); parts = ended (joining (not r.there)) r.before (asks_object r.there r.name) ▸ null_compared r.strict (not r.there) r.name ▸ none; others = ended (joining (not r.there)) r.before (asks_object r.there r.name) ▸ held r.there r.name ▸ none; read = r.shape; made = r.written; optional = λ x. absurd (cc x) }
 row_formed q n w (inr (inr (inr (inr (inr (inr (inr (inr (inr r))))))))) = record { first = a_logical (joining (not r.there)); second = a_logical (joining (not r.there)); parts = ended (joining (not r.there)) r.before (null_compared r.strict (not r.there) r.name) ▸ asks_object r.there r.name ▸ none; others = ended (joining (not r.there)) r.before (held r.there r.name) ▸ asks_object r.there r.name ▸ none; read = r.shape; made = r.written; optional = λ x. absurd (cc x) }
+
+-- of a logical expression that becomes a sequence it asks nothing that the sequence hasn't
+both_sides_asked : (p : Position) (n w : Tree) → Row13Both n w → AskedAlike p n w
+both_sides_asked p n w r = record {
+  absent = λ e. absurd (cc (sym e ∙ ap is_absent r.shape));
+  body = λ e. absurd (cc (sym e ∙ ap is_function_body r.shape));
+  optional = λ e. absurd (cc (sym e ∙ ap has_optional r.shape));
+  number = λ e k. ap is_not_positive_number r.written;
+  spelled = λ s e. absurd (cc (sym e ∙ ap spelling r.shape));
+  plain = ap (λ t. is_default (shape_of t)) r.shape;
+}
+
+both_sides_formed : (n w : Tree) → Row13Both n w → Formed n n
+both_sides_formed n w r = record { first = a_logical r.operator; second = a_logical r.operator; parts = r.left ▸ r.right ▸ none; others = r.left ▸ r.right ▸ none; read = r.shape; made = r.shape; optional = λ e. e }
 
 -- of a conditional it asks nothing that another expression hasn't
 record Choosing (n w : Tree) : Type 0 where
@@ -282,7 +302,8 @@ row_fits (Expr q) n w (inr (inr (inl r))) strict s e = held_fits strict s n w r 
 row_fits (Expr q) n w (inr (inr (inr (inl r)))) strict s e = chain_row_fits q n w r strict s e
 row_fits (Expr q) n w (inr (inr (inr (inr (inl r))))) strict s e = called_fits strict s n w r e
 row_fits (Expr q) n w (inr (inr (inr (inr (inr (inl r)))))) strict s e = chains_fit q n w r strict s e
-row_fits (Expr q) n w (inr (inr (inr (inr (inr (inr r)))))) strict s e = end_fits q n w r strict s e
+row_fits (Expr q) n w (inr (inr (inr (inr (inr (inr (inl r))))))) strict s e = end_fits q n w r strict s e
+row_fits (Expr q) n w (inr (inr (inr (inr (inr (inr (inr r))))))) strict s e = both_sides_fit strict s n w r e
 row_fits p n w r strict s e = absurd r
 
 pub row_asked : (p : Position) (n w : Tree) → ChoiceRow p n w → AskedAlike p n w
@@ -292,7 +313,8 @@ row_asked (Expr q) n w (inr (inr (inl r))) = choosing_asked (Expr q) n w (held_c
 row_asked (Expr q) n w (inr (inr (inr (inl r)))) = chain_row_asked q n w r
 row_asked (Expr q) n w (inr (inr (inr (inr (inl r))))) = choosing_asked (Expr q) n w (called_choosing n w r)
 row_asked (Expr q) n w (inr (inr (inr (inr (inr (inl r)))))) = chains_asked q n w r
-row_asked (Expr q) n w (inr (inr (inr (inr (inr (inr r)))))) = end_asked q n w r
+row_asked (Expr q) n w (inr (inr (inr (inr (inr (inr (inl r))))))) = end_asked q n w r
+row_asked (Expr q) n w (inr (inr (inr (inr (inr (inr (inr r))))))) = both_sides_asked (Expr q) n w r
 row_asked p n w r = absurd r
 
 pub row_slot : (p : Position) (n w : Tree) → ChoiceRow p n w → (strict : Bool) (s : Slot) → fits strict s n ≡ true → is_body_slot p s ≡ true
@@ -302,5 +324,6 @@ row_slot (Expr q) n w (inr (inr (inl r))) = formed_slot (Expr q) n n (chosen_for
 row_slot (Expr q) n w (inr (inr (inr (inl r)))) = chain_row_slot q n w r
 row_slot (Expr q) n w (inr (inr (inr (inr (inl r))))) = formed_slot (Expr q) n n (chosen_formed n w (called_choosing n w r))
 row_slot (Expr q) n w (inr (inr (inr (inr (inr (inl r)))))) = chains_slot q n w r
-row_slot (Expr q) n w (inr (inr (inr (inr (inr (inr r)))))) = end_slot q n w r
+row_slot (Expr q) n w (inr (inr (inr (inr (inr (inr (inl r))))))) = end_slot q n w r
+row_slot (Expr q) n w (inr (inr (inr (inr (inr (inr (inr r))))))) = formed_slot (Expr q) n n (both_sides_formed n w r)
 row_slot p n w r = absurd r

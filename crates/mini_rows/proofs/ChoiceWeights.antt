@@ -346,7 +346,8 @@ outline_by_row (Expr s) n w (inr (inl r)) = own_outline n w r
 outline_by_row (Expr s) n w (inr (inr (inl r))) = held_outline n w r
 outline_by_row (Expr s) n w (inr (inr (inr (inr (inl r))))) = ap outline r.shape ∙ sym (ap outline r.written)
 outline_by_row (Expr s) n w (inr (inr (inr (inr (inr (inl r)))))) = chains_outline s n w r
-outline_by_row (Expr s) n w (inr (inr (inr (inr (inr (inr r)))))) = end_outline s n w r
+outline_by_row (Expr s) n w (inr (inr (inr (inr (inr (inr (inl r))))))) = end_outline s n w r
+outline_by_row (Expr s) n w (inr (inr (inr (inr (inr (inr (inr r))))))) = ap outline r.shape ∙ sym (ap outline r.written)
 outline_by_row (Expr s) n w (inr (inr (inr (inl r)))) = chain_outline r.equal r.name r.missing (spine false (identifier r.name) r.last r.others) (spine true (identifier r.name) r.last r.others) n w r.shape r.written
 outline_by_row p n w r = absurd r
 

@@ -1,4 +1,4 @@
--- What a row on what is known writes keeps all that a program has to keep.
+-- What each row on what is known writes keeps what a program has to keep.
 use Rattle.std.proofs.Common.{◌≡◌, Bool, true, false, [], ◌∷◌, refl, sym, ap, subst, ◌∙◌, inl, inr, true≢false}
 use Rattle.std.specs.Prelude.{◌&&◌, ◌||◌}
 use Rattle.std.proofs.lemmas.Bool.{and_parts}
@@ -11,7 +11,7 @@ use Rattle.mini_model.specs.declared.seat.Seat.{Seat}
 use Rattle.mini_model.specs.declared.seat.StmtSeat.{StmtSeat}
 use Rattle.mini_model.specs.declared.shape.Shape.{Shape}
 use Rattle.mini_model.specs.declared.shape.Shape.TheVariants as shape
-use Rattle.mini_model.specs.Tree.{Tree, Trees, node, none, ◌▸◌, logical, conditional, expression_statement, empty_statement}
+use Rattle.mini_model.specs.Tree.{Tree, Trees, node, none, ◌▸◌, shape_of, logical, conditional, expression_statement, empty_statement}
 use Rattle.mini_accept.specs.WellShaped.{Class, a_statement, an_init, an_arrow_body, an_expression, a_link, an_argument, a_key, a_private_or_key, an_inner_key, a_default_export, Slot, one, one_or_absent, fits, is_not_positive_number}
 use Rattle.mini_laws.specs.DeclaredNames.{is_inner, has_inner, any_inner}
 use Rattle.mini_laws.specs.Value.{Variable, choose, is_in}
@@ -29,101 +29,33 @@ use Rattle.mini_kept.proofs.Rows.{TakesStatementIn, TakesStatement}
 use Rattle.mini_terms.specs.Parts.{is_number, suits, leaves_nothing_by, leaves_nothing, leave_nothing}
 use Rattle.mini_rows.specs.Arranged.{KeptAt, Vanishes}
 use Rattle.mini_rows.specs.Sketches.{Empty, OfExpression, Logical, Binary, Conditional, part, under, end, ◌▹◌, Free}
+use Rattle.mini_rows.specs.ForParts.{ForPartRow}
 use Rattle.mini_rows.specs.Folding.{Row12, Row13, Row22, Row28, Row49Idle, FoldingRow, FoldingContracts}
 use Rattle.mini_rows.specs.Spellings.{binary}
 use Rattle.mini_rows.proofs.ArrangedExpressions.{expressions_arranged, expressions_arranged_freely}
 use Rattle.mini_rows.proofs.ArrangedLawful.{kept_is_lawful}
 use Rattle.mini_rows.proofs.ArrangedStatements.{statements_arranged}
 use Rattle.mini_rows.proofs.ChoiceShapes.{choice_taken}
-use Rattle.mini_rows.proofs.FoldMeaning.{foldings_same}
+pub use Rattle.mini_rows.proofs.Vanishing.{vanishes, first_dropped}
 use Rattle.mini_rows.proofs.FoldWeights.{not_a_number}
 use Rattle.mini_rows.proofs.SpellShapes.{a_logical, a_binary, Alone, Linked, Ending, Assigned, Nowhere, Stands, stands, FitsToo, by_shape, Formed, formed_asked, formed_slot}
-use Rattle.mini_rows.proofs.TextLength.{length_kept, length_taken, length_fits, length_asked}
-
--- ---- what is dropped leaves nothing behind
-
-or_none : (a b : Bool) → a ≡ false → b ≡ false → a || b ≡ false
-or_none false b e f = f
-or_none true b e f = absurd (true≢false e)
-
-not_inner : (h : Shape) → leaves_nothing_by h ≡ true → is_inner h ≡ false
-not_inner shape.InnerExpression e = absurd (true≢false (sym e))
-not_inner h e = refl
-
-mutual
-  unfolding has_inner
-
-  no_inner : (t : Tree) → leaves_nothing t ≡ true → has_inner t ≡ false
-  no_inner (node h xs n ts) e = let (own, rest) = and_parts (leaves_nothing_by h) (leave_nothing ts) e in or_none (is_inner h) (any_inner ts) (not_inner h own) (none_inner ts rest)
-
-  none_inner : (ts : Trees) → leave_nothing ts ≡ true → any_inner ts ≡ false
-  none_inner none e = refl
-  none_inner (t ▸ ts) e = let (first, rest) = and_parts (leaves_nothing t) (leave_nothing ts) e in or_none (has_inner t) (any_inner ts) (no_inner t first) (none_inner ts rest)
-
-written_freely : (h : Shape) → leaves_nothing_by h ≡ true → fixity_by h ≡ Writable
-written_freely (shape.VariableDeclaration Const) e = absurd (true≢false (sym e))
-written_freely (shape.VariableDeclaration k) e = refl
-written_freely (shape.Function false g ds) e = absurd (true≢false (sym e))
-written_freely (shape.Function true g ds) e = refl
-written_freely (shape.Class d) e = absurd (true≢false (sym e))
-written_freely shape.ImportSpecifier e = absurd (true≢false (sym e))
-written_freely shape.ImportDefaultSpecifier e = absurd (true≢false (sym e))
-written_freely shape.ImportNamespaceSpecifier e = absurd (true≢false (sym e))
-written_freely h e = refl
-
-either_writable : (b : Bool) (f : Fixed) → f ≡ Writable → choose b f Writable ≡ Writable
-either_writable true f e = e
-either_writable false f e = refl
-
-both_writable : (f g : Fixed) → f ≡ Writable → g ≡ Writable → stricter f g ≡ Writable
-both_writable f g e h = ap (λ x. stricter x g) e ∙ h
-
-mutual
-  not_fixed : (t : Tree) → leaves_nothing t ≡ true → (x : Variable) → fixed_by t x ≡ Writable
-  not_fixed (node h xs n ts) e x =
-      let (own, rest) = and_parts (leaves_nothing_by h) (leave_nothing ts) e in
-      both_writable (choose (is_in x (declared_by h (summaries ts))) (fixity_by h) Writable) (fixed_by_any ts x) (either_writable (is_in x (declared_by h (summaries ts))) (fixity_by h) (written_freely h own)) (none_fixed ts rest x)
-
-  none_fixed : (ts : Trees) → leave_nothing ts ≡ true → (x : Variable) → fixed_by_any ts x ≡ Writable
-  none_fixed none e x = refl
-  none_fixed (t ▸ ts) e x = let (first, rest) = and_parts (leaves_nothing t) (leave_nothing ts) e in both_writable (fixed_by t x) (fixed_by_any ts x) (not_fixed t first x) (none_fixed ts rest x)
-
-pub vanishes : (t : Tree) → leaves_nothing t ≡ true → Vanishes t
-vanishes t e = record { inner = no_inner t e; fixed = not_fixed t e }
 
 -- ---- the same parts
 
-abbrev pub first_dropped : Free
-first_dropped = record { moved = []; lists_moved = []; dropped = 0 ∷ [] }
-
-passed_kept : (q : Seat) (n w : Tree) → Row13 q n w → KeptAt (Expr q) n w
+pub passed_kept : (q : Seat) (n w : Tree) → Row13 q n w → KeptAt (Expr q) n w
 passed_kept q n w r = expressions_arranged_freely first_dropped (record { trees = r.left ▸ r.right ▸ none; lists = [] }) (tt, tt, (vanishes r.left r.dropped, tt)) (under (Logical r.operator) (part 0 ▹ part 1 ▹ end)) (part 1) refl q n w r.shape r.written
 
-stopped_kept : (q : Seat) (n w : Tree) → Row12 q n w → KeptAt (Expr q) n w
+pub stopped_kept : (q : Seat) (n w : Tree) → Row12 q n w → KeptAt (Expr q) n w
 stopped_kept q n w r = expressions_arranged_freely first_dropped (record { trees = r.right ▸ r.left ▸ none; lists = [] }) (tt, tt, (vanishes r.right r.dropped, tt)) (under (Logical r.operator) (part 1 ▹ part 0 ▹ end)) (part 1) refl q n w r.shape r.written
 
-loosened_kept : (q : Seat) (n w : Tree) → Row28 n w → KeptAt (Expr q) n w
+pub loosened_kept : (q : Seat) (n w : Tree) → Row28 n w → KeptAt (Expr q) n w
 loosened_kept q n w r = expressions_arranged (record { trees = r.left ▸ r.right ▸ none; lists = [] }) (under (Binary r.operator) (part 0 ▹ part 1 ▹ end)) (under (Binary r.loose) (part 0 ▹ part 1 ▹ end)) refl q n w r.shape r.written
 
-branch_kept : (q : Seat) (n w : Tree) → Row49Idle q n w → KeptAt (Expr q) n w
+pub branch_kept : (q : Seat) (n w : Tree) → Row49Idle q n w → KeptAt (Expr q) n w
 branch_kept q n w r = expressions_arranged_freely first_dropped (record { trees = r.test ▸ r.branch ▸ none; lists = [] }) (tt, tt, (vanishes r.test r.dropped, tt)) (under Conditional (part 0 ▹ part 1 ▹ part 1 ▹ end)) (part 1) refl q n w r.shape r.written
 
-statement_kept : (q : StmtSeat) (n w : Tree) → Row22 n w → KeptAt (Stmt q) n w
+pub statement_kept : (q : StmtSeat) (n w : Tree) → Row22 n w → KeptAt (Stmt q) n w
 statement_kept q n w r = statements_arranged first_dropped (record { trees = r.expression ▸ none; lists = [] }) (tt, tt, (vanishes r.expression r.dropped, tt)) (under OfExpression (part 0 ▹ end)) (under Empty end) refl q n w r.shape r.written
-
-kept : (p : Position) (n w : Tree) → FoldingRow p n w → KeptAt p n w
-kept (Expr q) n w (inl r) = passed_kept q n w r
-kept (Expr q) n w (inr (inl r)) = stopped_kept q n w r
-kept (Expr q) n w (inr (inr (inl r))) = loosened_kept q n w r
-kept (Expr q) n w (inr (inr (inr (inl r)))) = branch_kept q n w r
-kept (Expr q) n w (inr (inr (inr (inr r)))) = length_kept q n w r
-kept (Stmt q) n w r = statement_kept q n w r
-kept p n w r = absurd r
-
-places : (p : Position) (n w : Tree) → FoldingRow p n w → is_rewritten_place p ≡ true
-places (Expr q) n w r = refl
-places (Stmt q) n w r = refl
-places p n w r = absurd r
 
 -- ---- where they stand
 
@@ -144,7 +76,7 @@ empty_in : (strict : Bool) (k : Class) → TakesStatementIn k → fits strict (o
 empty_in strict (a_statement d) t = refl
 empty_in strict k t = absurd t
 
-empty_taken : (strict : Bool) (s : Slot) → TakesStatement s → fits strict s empty_statement ≡ true
+pub empty_taken : (strict : Bool) (s : Slot) → TakesStatement s → fits strict s empty_statement ≡ true
 empty_taken strict (one k) t = empty_in strict k t
 empty_taken strict (one_or_absent k) t = empty_in strict k t
 empty_taken strict s t = absurd t
@@ -163,20 +95,11 @@ loosened_stands strict o p a b Ending e = absurd (cc e)
 loosened_stands strict o p a b Assigned e = absurd (cc e)
 loosened_stands strict o p a b Nowhere e = absurd (cc e)
 
-loosened_fits : (n w : Tree) → Row28 n w → FitsToo n w
+pub loosened_fits : (n w : Tree) → Row28 n w → FitsToo n w
 loosened_fits n w r = by_shape n w (binary r.operator r.left r.right) (binary r.loose r.left r.right) r.shape r.written (λ strict s. stands strict (a_binary r.operator) (a_binary r.loose) (r.left ▸ r.right ▸ none) (r.left ▸ r.right ▸ none) (loosened_stands strict r.operator r.loose r.left r.right) s)
 
-loosened_formed : (n w : Tree) → Row28 n w → Formed n w
+pub loosened_formed : (n w : Tree) → Row28 n w → Formed n w
 loosened_formed n w r = record { first = a_binary r.operator; second = a_binary r.loose; parts = r.left ▸ r.right ▸ none; others = r.left ▸ r.right ▸ none; read = r.shape; made = r.written; optional = λ e. e }
-
-row_fits : (p : Position) (n w : Tree) → FoldingRow p n w → (strict : Bool) (s : Slot) → fits_place p s ≡ true → fits strict s n ≡ true → fits strict s w ≡ true
-row_fits (Expr q) n w (inl r) strict s k e = let (takes, first, second) = operands strict s r.operator r.left r.right (subst (λ t. fits strict s t ≡ true) r.shape e) in subst (λ t. fits strict s t ≡ true) (sym r.written) (expression_taken strict s r.right takes second)
-row_fits (Expr q) n w (inr (inr (inl r))) strict s k e = loosened_fits n w r strict s e
-row_fits (Expr q) n w (inr (inr (inr (inl r)))) strict s k e = let (takes, (test, branch, again)) = of_conditional strict s r.test r.branch r.branch (subst (λ t. fits strict s t ≡ true) r.shape e) in subst (λ t. fits strict s t ≡ true) (sym r.written) (expression_taken strict s r.branch takes branch)
-row_fits (Expr q) n w (inr (inr (inr (inr r)))) strict s k e = length_fits q n w r strict s k e
-row_fits (Expr q) n w (inr (inl r)) strict s k e = let (takes, first, second) = operands strict s r.operator r.left r.right (subst (λ t. fits strict s t ≡ true) r.shape e) in subst (λ t. fits strict s t ≡ true) (sym r.written) (expression_taken strict s r.left takes first)
-row_fits (Stmt q) n w r strict s k e = subst (λ t. fits strict s t ≡ true) (sym r.written) (empty_taken strict s (statement_taken strict s r.expression (subst (λ t. fits strict s t ≡ true) r.shape e)))
-row_fits p n w r strict s k e = absurd r
 
 expression_in_body : (k : Class) → TakesExpressionIn k → is_in_body k ≡ true
 expression_in_body an_expression t = refl
@@ -197,19 +120,10 @@ statement_in_body : (k : Class) → TakesStatementIn k → is_in_body k ≡ true
 statement_in_body (a_statement d) t = refl
 statement_in_body k t = absurd t
 
-statement_slot : (p : Position) (s : Slot) → TakesStatement s → is_body_slot p s ≡ true
+pub statement_slot : (p : Position) (s : Slot) → TakesStatement s → is_body_slot p s ≡ true
 statement_slot p (one k) t = statement_in_body k t
 statement_slot p (one_or_absent k) t = statement_in_body k t
 statement_slot p s t = absurd t
-
-row_slot : (p : Position) (n w : Tree) → FoldingRow p n w → (strict : Bool) (s : Slot) → fits_place p s ≡ true → fits strict s n ≡ true → is_body_slot p s ≡ true
-row_slot (Expr q) n w (inl r) strict s k e = expression_slot (Expr q) s (operands strict s r.operator r.left r.right (subst (λ t. fits strict s t ≡ true) r.shape e)).0
-row_slot (Expr q) n w (inr (inr (inl r))) strict s k e = formed_slot (Expr q) n w (loosened_formed n w r) strict s e
-row_slot (Expr q) n w (inr (inr (inr (inl r)))) strict s k e = expression_slot (Expr q) s (of_conditional strict s r.test r.branch r.branch (subst (λ t. fits strict s t ≡ true) r.shape e)).0
-row_slot (Expr q) n w (inr (inr (inr (inr r)))) strict s k e = expression_slot (Expr q) s (length_taken q n w r strict s k e)
-row_slot (Expr q) n w (inr (inl r)) strict s k e = expression_slot (Expr q) s (operands strict s r.operator r.left r.right (subst (λ t. fits strict s t ≡ true) r.shape e)).0
-row_slot (Stmt q) n w r strict s k e = statement_slot (Stmt q) s (statement_taken strict s r.expression (subst (λ t. fits strict s t ≡ true) r.shape e))
-row_slot p n w r strict s k e = absurd r
 
 -- ---- what a parent asks of them
 
@@ -217,7 +131,7 @@ pub no_number : (t : Tree) → is_number t ≡ false → is_not_positive_number 
 no_number (node (shape.NumericLiteral m) xs n ts) e = absurd (true≢false e)
 no_number (node h xs n ts) e = refl
 
-logical_asked : (q : Seat) (o : LogicalOperator) (a b t : Tree) → suits q t ≡ true → AskedAlike (Expr q) (logical o a b) t
+pub logical_asked : (q : Seat) (o : LogicalOperator) (a b t : Tree) → suits q t ≡ true → AskedAlike (Expr q) (logical o a b) t
 logical_asked q o a b t h = record {
   absent = λ e. absurd (true≢false (sym e));
   body = λ e. absurd (true≢false (sym e));
@@ -227,7 +141,7 @@ logical_asked q o a b t h = record {
   plain = refl;
 }
 
-conditional_asked : (q : Seat) (a b : Tree) → suits q b ≡ true → AskedAlike (Expr q) (conditional a b b) b
+pub conditional_asked : (q : Seat) (a b : Tree) → suits q b ≡ true → AskedAlike (Expr q) (conditional a b b) b
 conditional_asked q a b h = record {
   absent = λ e. absurd (true≢false (sym e));
   body = λ e. absurd (true≢false (sym e));
@@ -237,7 +151,7 @@ conditional_asked q a b h = record {
   plain = refl;
 }
 
-statement_asked : (q : StmtSeat) (a : Tree) → AskedAlike (Stmt q) (expression_statement a) empty_statement
+pub statement_asked : (q : StmtSeat) (a : Tree) → AskedAlike (Stmt q) (expression_statement a) empty_statement
 statement_asked q a = record {
   absent = λ e. absurd (true≢false (sym e));
   body = λ e. absurd (true≢false (sym e));
@@ -246,20 +160,3 @@ statement_asked q a = record {
   spelled = λ s e. absurd (cc e);
   plain = refl;
 }
-
-row_asked : (p : Position) (n w : Tree) → FoldingRow p n w → AskedAlike p n w
-row_asked (Expr q) n w (inl r) = subst (λ t. AskedAlike (Expr q) t w) (sym r.shape) (subst (AskedAlike (Expr q) (logical r.operator r.left r.right)) (sym r.written) (logical_asked q r.operator r.left r.right r.right r.stays))
-row_asked (Expr q) n w (inr (inr (inl r))) = formed_asked (Expr q) n w (loosened_formed n w r)
-row_asked (Expr q) n w (inr (inr (inr (inl r)))) = subst (λ t. AskedAlike (Expr q) t w) (sym r.shape) (subst (AskedAlike (Expr q) (conditional r.test r.branch r.branch)) (sym r.written) (conditional_asked q r.test r.branch r.stays))
-row_asked (Expr q) n w (inr (inr (inr (inr r)))) = length_asked q n w r
-row_asked (Expr q) n w (inr (inl r)) = subst (λ t. AskedAlike (Expr q) t w) (sym r.shape) (subst (AskedAlike (Expr q) (logical r.operator r.left r.right)) (sym r.written) (logical_asked q r.operator r.left r.right r.left r.stays))
-row_asked (Stmt q) n w r = subst (λ t. AskedAlike (Stmt q) t w) (sym r.shape) (subst (AskedAlike (Stmt q) (expression_statement r.expression)) (sym r.written) (statement_asked q r.expression))
-row_asked p n w r = absurd r
-
-pub foldings_lawful : Lawful FoldingContracts
-foldings_lawful =
-    kept_is_lawful FoldingContracts foldings_same
-    (record { fitting = λ p n w c strict s k e. row_fits p n w c.row strict s k e; asked = λ p n w c. row_asked p n w c.row })
-    (λ p n w c. places p n w c.row)
-    (λ p n w c strict s k e. row_slot p n w c.row strict s k e)
-    (λ p n w c. kept p n w c.row)

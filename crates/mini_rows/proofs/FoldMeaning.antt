@@ -27,6 +27,8 @@ use Rattle.mini_rows.specs.Folding.{Row12, Row13, Row28, Row49Idle, FoldingRow, 
 use Rattle.mini_rows.specs.Spellings.{binary}
 use Rattle.mini_rows.proofs.FoldBranches.{branch_same}
 use Rattle.mini_rows.proofs.FoldEqualities.{equality_same}
+use Rattle.mini_rows.proofs.ForPartMeaning.{parts_same, parts_read}
+pub use Rattle.mini_rows.proofs.PlainRead.{plain_read}
 use Rattle.mini_rows.proofs.SpellAlike.{SameTree}
 use Rattle.mini_rows.proofs.SpellMeaning.{tree_same, same_by}
 use Rattle.mini_rows.proofs.TextLength.{length_same, length_read}
@@ -41,50 +43,6 @@ value_of s t h = (and_parts (is_read_by_value s t) (takes_numbers s || not (is_n
 
 pub number_of : (s : Seat) (t : Tree) → suits s t ≡ true → takes_numbers s || not (is_number t) ≡ true
 number_of s t h = (and_parts (is_read_by_value s t) (takes_numbers s || not (is_number t)) (and_parts (is_plain_part t) (is_read_by_value s t && (takes_numbers s || not (is_number t))) h).1).1
-
--- a parent reads nothing of it
-
-abbrev plain_summary : Summary
-plain_summary = record { facts = no_facts; lets = []; name = None; functions = [] }
-
--- of a link of a chain a parent reads whether one below is optional
-abbrev link_summary : Bool → Summary
-link_summary b = record plain_summary { facts = record no_facts { shortens = b } }
-
-linked : (t : Tree) → summary t ≡ plain_summary → link_summary (summary t).facts.shortens ≡ plain_summary
-linked t e = ap (λ i. link_summary i.facts.shortens) e
-
-pub plain_read : (t : Tree) → is_plain_part t ≡ true → summary t ≡ plain_summary
-plain_read (node (shape.CallExpression true) xs n ts) e = absurd (true≢false (sym e))
-plain_read (node (shape.CallExpression false) xs n none) e = absurd (true≢false (sym e))
-plain_read (node (shape.CallExpression false) xs n (t ▸ ts)) e = linked t (plain_read t e)
-plain_read (node (shape.StaticMemberExpression true) xs n ts) e = absurd (true≢false (sym e))
-plain_read (node (shape.StaticMemberExpression false) xs n none) e = absurd (true≢false (sym e))
-plain_read (node (shape.StaticMemberExpression false) xs n (t ▸ ts)) e = linked t (plain_read t e)
-plain_read (node (shape.ComputedMemberExpression true) xs n ts) e = absurd (true≢false (sym e))
-plain_read (node (shape.ComputedMemberExpression false) xs n none) e = absurd (true≢false (sym e))
-plain_read (node (shape.ComputedMemberExpression false) xs n (t ▸ ts)) e = linked t (plain_read t e)
-plain_read (node (shape.PrivateFieldExpression b) xs n ts) e = absurd (true≢false (sym e))
-plain_read (node (shape.UnaryExpression LogicalNot) xs n none) e = absurd (true≢false (sym e))
-plain_read (node (shape.UnaryExpression LogicalNot) xs n (t ▸ ts)) e = plain_read t e
-plain_read (node shape.Absent xs n ts) e = absurd (true≢false (sym e))
-plain_read (node shape.InnerExpression xs n ts) e = absurd (true≢false (sym e))
-plain_read (node shape.Listed xs n ts) e = absurd (true≢false (sym e))
-plain_read (node (shape.Function true g ds) xs n ts) e = absurd (true≢false (sym e))
-plain_read (node (shape.Class true) xs n ts) e = absurd (true≢false (sym e))
-plain_read (node (shape.VariableDeclaration k) xs n ts) e = absurd (true≢false (sym e))
-plain_read (node shape.VariableDeclarator xs n ts) e = absurd (true≢false (sym e))
-plain_read (node shape.SwitchCase xs n ts) e = absurd (true≢false (sym e))
-plain_read (node shape.ExportNamedDeclaration xs n ts) e = absurd (true≢false (sym e))
-plain_read (node shape.ExportDefaultDeclaration xs n ts) e = absurd (true≢false (sym e))
-plain_read (node (shape.TemplateElement l raw cooked) xs n ts) e = absurd (true≢false (sym e))
-plain_read (node shape.BindingIdentifier xs n ts) e = absurd (true≢false (sym e))
-plain_read (node shape.ObjectPattern xs n ts) e = absurd (true≢false (sym e))
-plain_read (node shape.ArrayPattern xs n ts) e = absurd (true≢false (sym e))
-plain_read (node (shape.BindingProperty l c) xs n ts) e = absurd (true≢false (sym e))
-plain_read (node shape.RestElement xs n ts) e = absurd (true≢false (sym e))
-plain_read (node shape.AssignmentPattern xs n ts) e = absurd (true≢false (sym e))
-plain_read (node h xs n ts) e = refl
 
 pub logical_read : (o : LogicalOperator) (a b t : Tree) → is_plain_part t ≡ true → summary (logical o a b) ≡ summary t
 logical_read o a b t e = sym (plain_read t e)
@@ -132,7 +90,8 @@ row_same (Expr s) n w (inr (inl r)) = stopped_same s n w r
 row_same (Expr s) n w (inr (inr (inl r))) = loosened_same s n w r
 row_same (Expr s) n w (inr (inr (inr (inl r)))) = branch_here s n w r
 row_same (Expr s) n w (inr (inr (inr (inr r)))) = length_same s n w r
-row_same (Stmt q) n w r = subst (λ t. SameAt (Stmt q) t w) (sym r.shape) (subst (SameAt (Stmt q) (expression_statement r.expression)) (sym r.written) (nothing_same q r.expression r.effect_free))
+row_same (Stmt q) n w (inr r) = parts_same q n w r
+row_same (Stmt q) n w (inl r) = subst (λ t. SameAt (Stmt q) t w) (sym r.shape) (subst (SameAt (Stmt q) (expression_statement r.expression)) (sym r.written) (nothing_same q r.expression r.effect_free))
 row_same p n w r = absurd r
 
 row_read : (p : Position) (n w : Tree) → FoldingRow p n w → summary n ≡ summary w
@@ -141,7 +100,8 @@ row_read (Expr s) n w (inr (inl r)) = ap summary r.shape ∙ logical_read r.oper
 row_read (Expr s) n w (inr (inr (inl r))) = (loosened_alike n w r).read
 row_read (Expr s) n w (inr (inr (inr (inl r)))) = branch_read s n w r
 row_read (Expr s) n w (inr (inr (inr (inr r)))) = length_read s n w r
-row_read (Stmt q) n w r = ap summary r.shape ∙ sym (ap summary r.written)
+row_read (Stmt q) n w (inr r) = parts_read n w r
+row_read (Stmt q) n w (inl r) = ap summary r.shape ∙ sym (ap summary r.written)
 row_read p n w r = absurd r
 
 pub foldings_same : MeansSame FoldingContracts

@@ -18,7 +18,7 @@ use Rattle.mini_model.specs.declared.seat.StmtSeat.{StmtSeat}
 use Rattle.mini_model.specs.declared.shape.Shape.{Shape}
 use Rattle.mini_model.specs.declared.shape.Shape.TheVariants as shape
 use Rattle.mini_model.specs.Tree.{Tree, Trees, node, ◌▸◌, logical, conditional, expression_statement, empty_statement}
-use Rattle.mini_model.specs.Position.{left_operand_seat, right_operand_seat, conditional_test_seat, branch_seat}
+use Rattle.mini_model.specs.Position.{statement_expression_seat, left_operand_seat, right_operand_seat, conditional_test_seat, branch_seat}
 use Rattle.mini_model.specs.Weight.{outline, outlines, weight, is_parenthesized, is_awkward, mixes, unary_operator_weight, binary_operator_weight, assignment_operator_weight}
 use Rattle.mini_laws.specs.Weights.{Lightens, counts_items}
 use Rattle.mini_laws.proofs.Seats.{is_inner, placed_node}
@@ -27,6 +27,12 @@ use Rattle.mini_terms.specs.Parts.{is_number, takes_numbers, suits, weighs}
 use Rattle.mini_rows.specs.Folding.{loosened, FoldingRow, FoldingContracts, FoldingsLighter}
 use Rattle.mini_rows.specs.Spellings.{binary}
 use Rattle.mini_rows.proofs.ChoiceWeights.{name_heavy}
+use Rattle.mini_model.specs.declared.operator.UpdateOperator.{UpdateOperator}
+use Rattle.mini_model.specs.declared.operator.UpdateOperator.TheVariants.{Increment, Decrement}
+use Rattle.mini_rows.specs.Lists.{for_loop}
+use Rattle.mini_rows.specs.Decrements.{subtracts, steps}
+use Rattle.mini_rows.specs.ForParts.{ForPartRow}
+use Rattle.mini_rows.proofs.ForPartMeaning.{idle_is}
 use Rattle.mini_rows.proofs.FoldMeaning.{plain_of, number_of}
 use Rattle.mini_rows.proofs.SpellWeights.{falls_by}
 use Rattle.mini_rows.proofs.TextLength.{length_falls}
@@ -228,13 +234,30 @@ branch_zero s a (node h xs n ts) k = inl refl
 statement_falls : (q : StmtSeat) (a : Tree) → weight (Stmt q) empty_statement < weight (Stmt q) (expression_statement a)
 statement_falls q a = omega arith
 
+-- 36: an operator and a 1 go for another operator
+step_falls : (q : StmtSeat) (o : UpdateOperator) (x : Name) (i t b : Tree) → weight (Stmt q) (for_loop i t (steps o x) b) < weight (Stmt q) (for_loop i t (subtracts o x) b)
+step_falls q Decrement x i t b = let there = numeral_there (pos 1) in omega (arith, there)
+step_falls q Increment x i t b = let there = numeral_there (negsuc 0) in omega (arith, there)
+
+-- 22: a part of the head of a `for` goes
+part_falls : (q : StmtSeat) (n w : Tree) → ForPartRow n w → weight (Stmt q) w < weight (Stmt q) n
+part_falls q n w (inl r) = let heavy = two statement_expression_seat r.init (idle_is r.init r.idle).heavy in omega (arith, heavy, ap (weight (Stmt q)) r.shape, ap (weight (Stmt q)) r.written)
+part_falls q n w (inr (inr r)) = omega (arith, step_falls q r.operator r.name r.init r.test r.body, ap (weight (Stmt q)) r.shape, ap (weight (Stmt q)) r.written)
+part_falls q n w (inr (inl r)) = let heavy = two statement_expression_seat r.update (idle_is r.update r.idle).heavy in omega (arith, heavy, ap (weight (Stmt q)) r.shape, ap (weight (Stmt q)) r.written)
+
+part_outline : (n w : Tree) → ForPartRow n w → outline n ≡ outline w
+part_outline n w (inl r) = ap outline r.shape ∙ sym (ap outline r.written)
+part_outline n w (inr (inr r)) = ap outline r.shape ∙ sym (ap outline r.written)
+part_outline n w (inr (inl r)) = ap outline r.shape ∙ sym (ap outline r.written)
+
 pub lighter : FoldingsLighter
 lighter (Expr s) n w (inl r) = falls_by (Expr s) n w _ _ r.shape r.written (right_falls r.operator s r.left r.right r.heavy (plain_of s r.right r.stays))
 lighter (Expr s) n w (inr (inl r)) = falls_by (Expr s) n w _ _ r.shape r.written (left_falls r.operator s r.left r.right r.heavy (plain_of s r.left r.stays))
 lighter (Expr s) n w (inr (inr (inl r))) = falls_by (Expr s) n w _ _ r.shape r.written (loosened_falls r.operator r.loose r.loosens s r.left r.right)
 lighter (Expr s) n w (inr (inr (inr (inl r)))) = falls_by (Expr s) n w _ _ r.shape r.written (branch_falls s r.test r.branch r.heavy (plain_of s r.branch r.stays))
 lighter (Expr s) n w (inr (inr (inr (inr r)))) = falls_by (Expr s) n w _ _ r.shape r.written (let falls = length_falls s r.units r.small in omega (arith, falls))
-lighter (Stmt q) n w r = falls_by (Stmt q) n w _ _ r.shape r.written (statement_falls q r.expression)
+lighter (Stmt q) n w (inr r) = part_falls q n w r
+lighter (Stmt q) n w (inl r) = falls_by (Stmt q) n w _ _ r.shape r.written (statement_falls q r.expression)
 lighter p n w r = absurd r
 
 -- what a parent's weight reads of them
@@ -262,7 +285,8 @@ kept_absent (Expr s) n w (inr (inl r)) = ap (λ t. (outline t).absent) r.shape �
 kept_absent (Expr s) n w (inr (inr (inl r))) = ap (λ t. (outline t).absent) r.shape ∙ sym (ap (λ t. (outline t).absent) r.written)
 kept_absent (Expr s) n w (inr (inr (inr (inr r)))) = ap (λ t. (outline t).absent) r.shape ∙ sym (ap (λ t. (outline t).absent) r.written)
 kept_absent (Expr s) n w (inr (inr (inr (inl r)))) = ap (λ t. (outline t).absent) r.shape ∙ sym (ap (λ t. (outline t).absent) r.written ∙ there r.branch (plain_of s r.branch r.stays))
-kept_absent (Stmt q) n w r = ap (λ t. (outline t).absent) r.shape ∙ sym (ap (λ t. (outline t).absent) r.written)
+kept_absent (Stmt q) n w (inr r) = ap (λ o. o.absent) (part_outline n w r)
+kept_absent (Stmt q) n w (inl r) = ap (λ t. (outline t).absent) r.shape ∙ sym (ap (λ t. (outline t).absent) r.written)
 kept_absent p n w r = absurd r
 
 kept_choice : (p : Position) (n w : Tree) → FoldingRow p n w → (outline n).chooses ≡ (outline w).chooses
@@ -271,7 +295,8 @@ kept_choice (Expr s) n w (inr (inl r)) = ap (λ t. (outline t).chooses) r.shape 
 kept_choice (Expr s) n w (inr (inr (inl r))) = ap (λ t. (outline t).chooses) r.shape ∙ sym (ap (λ t. (outline t).chooses) r.written)
 kept_choice (Expr s) n w (inr (inr (inr (inr r)))) = ap (λ t. (outline t).chooses) r.shape ∙ sym (ap (λ t. (outline t).chooses) r.written)
 kept_choice (Expr s) n w (inr (inr (inr (inl r)))) = ap (λ t. (outline t).chooses) r.shape ∙ sym (ap (λ t. (outline t).chooses) r.written ∙ no_choice r.branch (plain_of s r.branch r.stays))
-kept_choice (Stmt q) n w r = ap (λ t. (outline t).chooses) r.shape ∙ sym (ap (λ t. (outline t).chooses) r.written)
+kept_choice (Stmt q) n w (inr r) = ap (λ o. o.chooses) (part_outline n w r)
+kept_choice (Stmt q) n w (inl r) = ap (λ t. (outline t).chooses) r.shape ∙ sym (ap (λ t. (outline t).chooses) r.written)
 kept_choice p n w r = absurd r
 
 zero_by : (p : Position) (n w a b : Tree) → n ≡ a → w ≡ b → ZeroOr p a b → ZeroOr p n w
@@ -283,7 +308,8 @@ kept_zero (Expr s) n w (inr (inl r)) = zero_by (Expr s) n w _ _ r.shape r.writte
 kept_zero (Expr s) n w (inr (inr (inr (inl r)))) = zero_by (Expr s) n w _ _ r.shape r.written (branch_zero s r.test r.branch r.heavy)
 kept_zero (Expr s) n w (inr (inr (inr (inr r)))) = zero_by (Expr s) n w _ _ r.shape r.written (inr (length_falls s r.units r.small))
 kept_zero (Expr s) n w (inr (inr (inl r))) = inl (ap (λ t. (outline t).is_zero) r.shape ∙ sym (ap (λ t. (outline t).is_zero) r.written))
-kept_zero (Stmt q) n w r = inl (ap (λ t. (outline t).is_zero) r.shape ∙ sym (ap (λ t. (outline t).is_zero) r.written))
+kept_zero (Stmt q) n w (inr r) = inl (ap (λ o. o.is_zero) (part_outline n w r))
+kept_zero (Stmt q) n w (inl r) = inl (ap (λ t. (outline t).is_zero) r.shape ∙ sym (ap (λ t. (outline t).is_zero) r.written))
 kept_zero p n w r = absurd r
 
 no_items : (p : Position) (n w : Tree) → FoldingRow p n w → counts_items p ≡ true → (outline n).items ≡ (outline w).items

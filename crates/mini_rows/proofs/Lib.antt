@@ -95,6 +95,15 @@ pub mod ChainLinkMeaning
 mod ChainHoles
 pub mod ChainLawful
 pub mod ChainLinkLawful
+mod BothSides
+mod Weaker
+mod PlainRead
+mod Vanishing
+mod DecrementMeaning
+mod DecrementKept
+mod ForRowKept
+mod ForPartMeaning
+mod ForPartKept
 mod ChainEnds
 mod ChainEndKept
 mod ChoiceItems
@@ -110,6 +119,7 @@ mod FoldBranches
 pub mod FoldMeaning
 pub mod FoldWeights
 pub mod FoldLawful
+mod FoldRows
 pub mod BooleanRuns
 mod ConversionRuns
 pub mod BooleanMeaning

@@ -16,7 +16,7 @@ use Rattle.mini_model.specs.declared.place.Position.{Position}
 use Rattle.mini_model.specs.declared.place.Position.TheVariants.{Expr}
 use Rattle.mini_model.specs.Position.{conditional_level}
 use Rattle.mini_model.specs.Weight.{weight}
-use Rattle.mini_terms.specs.Folds.{is_effect_free}
+use Rattle.mini_terms.specs.Folds.{is_effect_free, goes_on}
 use Rattle.mini_terms.specs.Reading.{is_item}
 use Rattle.mini_rows.specs.Lists.{sequence}
 use Rattle.mini_rows.specs.Spellings.{IsUndefined, binary, text, assignment}
@@ -309,6 +309,16 @@ pub record Row44 (n w : Tree) : Type 0 where
   pub shape : n ≡ conditional a (call false (identifier name) (p ▸ others)) (call false (identifier name) (q ▸ others))
   pub written : w ≡ call false (identifier name) (conditional a p q ▸ others)
 
+-- 13, and 15 of `??`: after a left side that lets the right one be evaluated, whatever it does besides, both are in order:
+-- `(x = []) && b` becomes `x = [], b`, and `void f() ?? b` becomes `void f(), b`
+pub record Row13Both (n w : Tree) : Type 0 where
+  pub operator : LogicalOperator
+  pub left : Tree
+  pub right : Tree
+  pub known : goes_on operator left ≡ true
+  pub shape : n ≡ logical operator left right
+  pub written : w ≡ pair left right
+
 -- rows of what is lighter in every seat
 abbrev pub LighterRow : Seat → Tree → Tree → Type 0
 LighterRow s n w = Row39 n w ⊎ (Row38 n w ⊎ (Row35 n w ⊎ (Row46Equal n w ⊎ (Row46Unequal n w ⊎ (Row45 s n w ⊎ (Row37 n w ⊎ (Row37After n w ⊎ (Row57 n w ⊎ Row57Null n w))))))))
@@ -323,7 +333,7 @@ HeldRow n w = Row42And n w ⊎ (Row42Or n w ⊎ (Row43Or n w ⊎ (Row43And n w �
 
 -- a row of choices reads n as w at this place
 abbrev pub ChoiceRow : Position → Tree → Tree → Type 0
-ChoiceRow (Expr s) n w = LighterRow s n w ⊎ (OwnRow n w ⊎ (HeldRow n w ⊎ (Row46Chain s n w ⊎ (Row44 n w ⊎ (ChainRow s n w ⊎ Row10 n w)))))
+ChoiceRow (Expr s) n w = LighterRow s n w ⊎ (OwnRow n w ⊎ (HeldRow n w ⊎ (Row46Chain s n w ⊎ (Row44 n w ⊎ (ChainRow s n w ⊎ (Row10 n w ⊎ Row13Both n w))))))
 ChoiceRow _ n w = ⊥
 
 -- what it writes, where it weighs less

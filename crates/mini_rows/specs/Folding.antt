@@ -22,6 +22,7 @@ use Rattle.mini_terms.specs.Folds.{is_effect_free, has_one_kind, goes_on, stops}
 use Rattle.mini_kept.specs.Placed.{is_chain_seat}
 use Rattle.mini_terms.specs.Parts.{takes_numbers, suits, leaves_nothing, weighs}
 use Rattle.mini_terms.specs.Reading.{is_unguarded}
+use Rattle.mini_rows.specs.ForParts.{ForPartRow}
 use Rattle.mini_rows.specs.Spellings.{binary, static_member, text, key, numeral}
 
 -- 13, and 15 of `??`: where the left side is effect-free and known to let the right one be evaluated, `!0 && b`, `0 || b` and
@@ -129,7 +130,7 @@ pub record Row22 (n w : Tree) : Type 0 where
 -- a row on what is known reads n as w at this place
 abbrev pub FoldingRow : Position → Tree → Tree → Type 0
 FoldingRow (Expr s) n w = Row13 s n w ⊎ (Row12 s n w ⊎ (Row28 n w ⊎ (Row49Idle s n w ⊎ Row9 s n w)))
-FoldingRow (Stmt q) n w = Row22 n w
+FoldingRow (Stmt q) n w = Row22 n w ⊎ ForPartRow n w
 FoldingRow _ n w = ⊥
 
 -- what it writes, where it weighs less

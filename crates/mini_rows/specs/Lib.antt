@@ -15,6 +15,8 @@ pub mod Redex
 pub mod Chains
 pub mod ChainLinks
 pub mod Choices
+pub mod Decrements
+pub mod ForParts
 pub mod Folding
 pub mod Booleans
 pub mod Unused

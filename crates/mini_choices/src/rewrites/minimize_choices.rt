@@ -2,8 +2,9 @@
 
 ghost use Rattle.std.specs.Prelude.{◌≡◌, is_some, unwrap_or, OnOk, IfOk};
 ghost use Rattle.mini_tree.specs.Rule.{Applied};
-ghost use Rattle.mini_choices.specs.Choices.{first_of, written, Gives, Rests};
+ghost use Rattle.mini_choices.specs.Choices.{first_of, operands_written, written, Gives, Rests};
 ghost use Rattle.mini_choices.specs.Lighter.{choices_lighter};
+ghost use Rattle.mini_choices.specs.EvaluateBothSides as both;
 ghost use Rattle.mini_choices.specs.InjectOptionalChaining as chains;
 ghost use Rattle.mini_choices.specs.MinimizeConditionalBranches as branches;
 ghost use Rattle.mini_choices.specs.MinimizeHeldBranches as held;
@@ -12,6 +13,7 @@ ghost use Rattle.mini_choices.specs.MinimizeNullishComparison as nullish;
 ghost use Rattle.mini_choices.specs.MinimizeObjectTest as object_test;
 ghost use Rattle.mini_choices.specs.SubstituteRotateLogicalExpression as rotate;
 
+use crate::rewrites::evaluate_both_sides::evaluate_both_sides;
 use crate::rewrites::fold_chain_expr::fold_chain_expr;
 use crate::rewrites::inject_optional_chaining::inject_optional_chaining;
 use crate::rewrites::minimize_conditional_branches::minimize_conditional_branches;
@@ -48,7 +50,7 @@ fn minimize_operands(alloc: Global, node: &mut Node) -> Result<bool, OutOfMemory
     minimize_comparisons(alloc, node)
 }
 
-// Of a logical expression.
+// Of a logical expression wherever it stands.
 fn minimize_logical(alloc: Global, node: &mut Node) -> Result<bool, OutOfMemory>
     ensures tree { OnOk result (node.new ≡ unwrap_or (first_of (rotate.written node.old) (first_of (decide.written node.old) (first_of (nullish.written node.old) (object_test.written node.old)))) node.old) }
     ensures said { IfOk result (λ changed. changed ≡ is_some (first_of (rotate.written node.old) (first_of (decide.written node.old) (first_of (nullish.written node.old) (object_test.written node.old))))) }
@@ -57,6 +59,17 @@ fn minimize_logical(alloc: Global, node: &mut Node) -> Result<bool, OutOfMemory>
         return Ok(true);
     }
     minimize_operands(alloc, node)
+}
+
+// Of a logical expression in its seat.
+fn minimize_sides(alloc: Global, node: &mut Node, seat: Seat) -> Result<bool, OutOfMemory>
+    ensures tree { OnOk result (node.new ≡ unwrap_or (first_of (both.written seat node.old) (operands_written node.old)) node.old) }
+    ensures said { IfOk result (λ changed. changed ≡ is_some (first_of (both.written seat node.old) (operands_written node.old))) }
+{
+    if evaluate_both_sides(alloc, node, seat)? {
+        return Ok(true);
+    }
+    minimize_logical(alloc, node)
 }
 
 // Of the branches of a conditional.
@@ -87,7 +100,7 @@ fn minimize_choice(alloc: Global, node: &mut Node, seat: Seat) -> Result<bool, O
     ensures said { IfOk result (λ changed. changed ≡ is_some (written seat node.old)) }
 {
     match node.shape() {
-        Shape::LogicalExpression(_) => minimize_logical(alloc, node),
+        Shape::LogicalExpression(_) => minimize_sides(alloc, node, seat),
         Shape::AssignmentExpression(_) => {
             minimize_normal_assignment_to_combined_assignment(alloc, node)
         }

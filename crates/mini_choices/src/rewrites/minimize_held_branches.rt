@@ -164,7 +164,8 @@ fn are_both_alike(node: &Node, seat: Seat) -> bool
         && pair_weight(node.child(0), node.child(1), seat) < expr_weight(node, seat)
 }
 
-fn pair(alloc: Global, first: Node, last: Node) -> Result<Node, OutOfMemory>
+/// `a, b`
+pub fn pair(alloc: Global, first: Node, last: Node) -> Result<Node, OutOfMemory>
     ensures { IfOk result (λ w. w ≡ pair_of first last) }
 {
     let parts = of_two(alloc, first, last)?;
