@@ -461,7 +461,7 @@ becomes("a choice in the test", "for (; a();) { if (b() || c()) break; d(); }", 
 becomes("one after another in the test", "for (;;) { if (a()) break; if (b()) break; c(); }", "for (; !a() && !b();) c();", { passes: 3 });
 becomes("with a name of its own", "for (let x = 0; ; x++) { if (a(x)) break; b(() => x); }", "for (let x = 0; !a(x); x++) b(() => x);", { kept: 2, symbols: 1, passes: 3 });
 becomes("what leaves a loop within", "for (;;) { if (a()) break; while (b()) { if (c()) break; d(); e(); } }", "for (; !a();) while (b()) { if (c()) break; d(), e(); }", { passes: 3 });
-becomes("with a continue", "for (;;) { if (a()) break; if (b()) continue; c(); }", "for (; !a();) { if (b()) continue; c(); }", { passes: 3 });
+becomes("with a continue", "for (;;) { if (a()) break; if (b()) continue; c(); }", "for (; !a();) b() || c();", { passes: 3 });
 becomes("of a loop with a label", "l: for (;;) { if (a()) break; b(); }", "l: for (; !a();) b();", { passes: 3 });
 
 // ---- names that nothing mentions go, and their symbols
