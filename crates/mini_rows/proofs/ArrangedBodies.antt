@@ -35,7 +35,7 @@ still_quiet : (a : Around) (h : Head) (ts : Trees) (i : ℕ) → below (quiet a)
 still_quiet a AList ts i = refl
 still_quiet a h ts i = refl
 
-split_bodies : (bs cs ds : List Body) → BodiesKept bs (cs ++ ds) → BodiesKept bs cs × BodiesKept bs ds
+pub split_bodies : (bs cs ds : List Body) → BodiesKept bs (cs ++ ds) → BodiesKept bs cs × BodiesKept bs ds
 split_bodies bs [] ds k = (tt, k)
 split_bodies bs (c ∷ cs) ds k =
     let (x, y) = split_bodies bs cs ds k.1 in
@@ -72,7 +72,7 @@ no_property : (h : Head) (i : ℕ) → property_below (shape_by h) i ≡ None
 no_property AList i = refl
 no_property h i = refl
 
-split_frames : (all fs gs : List Frame) → FramesKept all (fs ++ gs) → FramesKept all fs × FramesKept all gs
+pub split_frames : (all fs gs : List Frame) → FramesKept all (fs ++ gs) → FramesKept all fs × FramesKept all gs
 split_frames all fs gs k = (λ f x. k f (Contains-append_left fs gs f x), λ f x. k f (Contains-append_right fs gs f x))
 
 module _ (all : List Frame) where
@@ -109,10 +109,10 @@ module _ (all : List Name) where
   abbrev pub Declares : Asked → Tree → Type 0
   Declares c t = Among (declared t)
 
-  split_names : (xs ys : List Name) → Among (xs ++ ys) → Among xs × Among ys
+  pub split_names : (xs ys : List Name) → Among (xs ++ ys) → Among xs × Among ys
   split_names xs ys k = (λ x c. k x (Contains-append_left xs ys x c), λ x c. k x (Contains-append_right xs ys x c))
 
-  both_names : (xs ys : List Name) → Among xs → Among ys → Among (xs ++ ys)
+  pub both_names : (xs ys : List Name) → Among xs → Among ys → Among (xs ++ ys)
   both_names xs ys k l x c = by (Contains-append_cases xs ys x c)
     where
       by : Contains xs x ⊎ Contains ys x → Contains all x

@@ -124,7 +124,7 @@ module _ (b : Bool) where
   abbrev pub InnerIf : Asked → Tree → Type 0
   InnerIf c t = (has_inner t || b) ≡ b
 
-  or_both : (x y : Bool) → ((x || y) || b) ≡ b → ((x || b) ≡ b) × ((y || b) ≡ b)
+  pub or_both : (x y : Bool) → ((x || y) || b) ≡ b → ((x || b) ≡ b) × ((y || b) ≡ b)
   or_both true y e = (e, by y)
     where
       by : (y : Bool) → (y || b) ≡ b
@@ -132,7 +132,7 @@ module _ (b : Bool) where
       by false = refl
   or_both false y e = (refl, e)
 
-  both_or : (x y : Bool) → (x || b) ≡ b → (y || b) ≡ b → ((x || y) || b) ≡ b
+  pub both_or : (x y : Bool) → (x || b) ≡ b → (y || b) ≡ b → ((x || y) || b) ≡ b
   both_or true y e f = e
   both_or false y e f = f
 

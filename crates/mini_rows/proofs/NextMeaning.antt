@@ -157,19 +157,19 @@ next_read K spelling k first last init id value put = record {
 }
 
 -- nothing that is written mentions it
-pub next_avoids : (x : Name) (k : ℕ) → x.symbol ≡ symbol k → (K : VariableDeclarationKind) (first : Trees) (init : Tree) (y : Name) (value : Tree) (last : Trees) → is_first x false value ≡ true → any_names x first ≡ false → names x init ≡ false → names x (binding y) ≡ false → any_names x last ≡ false → Avoids (alone (Declared k)) (declaration K (append first (declarator (binding y) (put_first init value) ▸ last)))
-next_avoids x k e K first init y value last once f i o g = (tt, ((tt, all_avoided x k e (append first (declarator (binding y) (put_first init value) ▸ last)) (none_in x first (declarator (binding y) (put_first init value) ▸ last) f (next_unnamed x y value once init i o last g))), tt))
+pub next_avoids : (x : Name) (k : ℕ) → x.symbol ≡ symbol k → (K : VariableDeclarationKind) (first : Trees) (init id value : Tree) (last : Trees) → is_first x false value ≡ true → any_names x first ≡ false → names x init ≡ false → names x id ≡ false → any_names x last ≡ false → Avoids (alone (Declared k)) (declaration K (append first (declarator id (put_first init value) ▸ last)))
+next_avoids x k e K first init id value last once f i o g = (tt, ((tt, all_avoided x k e (append first (declarator id (put_first init value) ▸ last)) (none_in x first (declarator id (put_first init value) ▸ last) f (next_unnamed x id value once init i o last g))), tt))
 
 pub row_71_next : (e : Environment) (k : ℕ) → Unseen (alone (Declared k)) e → (n w : Tree) (r : Row71Next nothing n w) → k ≡ r.symbol → (t : Option Tail) → Same e (alone (Declared k)) nothing (Stat t) n w
 row_71_next e k z n w r h t =
     let x = resolved r.spelling r.symbol in
     let u : Unseen (alone (Declared r.symbol)) e = subst (λ j. Unseen (alone (Declared j)) e) h z in
     let D = alone (Declared r.symbol) in
-    let d = declared_among r.kind x r.first r.init (declarator (binding (resolved r.next_spelling r.next_symbol)) r.value ▸ r.last) in
-    let left = declaration r.kind (append r.first (declarator (binding (resolved r.next_spelling r.next_symbol)) (put_first r.init r.value) ▸ r.last)) in
+    let d = declared_among r.kind x r.first r.init (declarator r.binds r.value ▸ r.last) in
+    let left = declaration r.kind (append r.first (declarator r.binds (put_first r.init r.value) ▸ r.last)) in
     let first = all_avoided x r.symbol refl r.first r.declared_earlier in
     let last = all_avoided x r.symbol refl r.last r.declared_later in
-    let id = avoided x r.symbol refl (binding (resolved r.next_spelling r.next_symbol)) r.other in
-    let same = block_same e r.spelling r.symbol u r.before r.after (d ▸ none) (left ▸ none) (read_alone r.symbol d left (next_read r.kind r.spelling r.symbol r.first r.last r.init (binding (resolved r.next_spelling r.next_symbol)) r.value (put_first r.init r.value))) (all_avoided x r.symbol refl r.before r.earlier) (next_avoids x r.symbol refl r.kind r.first r.init (resolved r.next_spelling r.next_symbol) r.value r.last r.once r.declared_earlier r.initial r.other r.declared_later, tt) (all_avoided x r.symbol refl r.after r.later)
-    (next_same e r.spelling r.symbol u r.kind (never_written r.kind e r.symbol (lexical_alone r.kind r.goes)) r.init (binding (resolved r.next_spelling r.next_symbol)) r.value r.last r.moves r.once r.first id last) t in
+    let id = avoided x r.symbol refl r.binds r.other in
+    let same = block_same e r.spelling r.symbol u r.before r.after (d ▸ none) (left ▸ none) (read_alone r.symbol d left (next_read r.kind r.spelling r.symbol r.first r.last r.init r.binds r.value (put_first r.init r.value))) (all_avoided x r.symbol refl r.before r.earlier) (next_avoids x r.symbol refl r.kind r.first r.init r.binds r.value r.last r.once r.declared_earlier r.initial r.other r.declared_later, tt) (all_avoided x r.symbol refl r.after r.later)
+    (next_same e r.spelling r.symbol u r.kind (never_written r.kind e r.symbol (lexical_alone r.kind r.goes)) r.init r.binds r.value r.last r.moves r.once r.first id last) t in
     subst (λ j. Same e (alone (Declared j)) nothing (Stat t) n w) (sym h) (subst₂ (Same e D nothing (Stat t)) (sym r.shape) (sym r.written) same)

@@ -14,7 +14,7 @@ use Rattle.mini_model.specs.declared.shape.Shape.TheVariants as shape
 use Rattle.mini_model.specs.Tree.{Tree, Trees, node, none, ◌▸◌, count, identifier}
 use Rattle.mini_model.specs.Paths.{append}
 use Rattle.mini_model.specs.Position.{argument_seat, child_position}
-use Rattle.mini_model.specs.Weight.{Outline, plain_outline, commas_weight, outline, outlines, one_chooses, braces_weight, own_weight, spelled_weight, weight}
+use Rattle.mini_model.specs.Weight.{Outline, commas_weight, outline, outlines, one_chooses, braces_weight, own_weight, spelled_weight, weight}
 use Rattle.mini_laws.specs.Symbols.{is_same}
 use Rattle.mini_terms.specs.Reading.{is_plain_part}
 use Rattle.mini_rows.specs.Declarations.{binding, declarator}
@@ -171,13 +171,13 @@ plain_stands (node (shape.NumericLiteral m) xs n ts) e = refl
 plain_stands (node h xs n ts) e = refl
 
 -- the declarator with the initializer in it
-declarator_falls : (s : List ℕ) (k : ℕ) (y : Name) (value : Tree) → is_first (resolved s k) false value ≡ true → (r : Tree) → is_plain_part r ≡ true → weight Elsewhere (declarator (binding y) (put_first r value)) ≤ weight Elsewhere (declarator (binding y) value) + (weight (Expr argument_seat) r + 3)
-declarator_falls s k y value e r f =
+declarator_falls : (s : List ℕ) (k : ℕ) (binds value : Tree) → is_first (resolved s k) false value ≡ true → (r : Tree) → is_plain_part r ≡ true → weight Elsewhere (declarator binds (put_first r value)) ≤ weight Elsewhere (declarator binds value) + (weight (Expr argument_seat) r + 3)
+declarator_falls s k binds value e r f =
     let p = path (resolved s k) false value e in
     let falls = led_falls AsValue p.steps p.well (Expr argument_seat) tt r f p.read (some_symbol k p.read.symbol p.same) in
     let stands = ap (λ t. (outline t).absent) p.is ∙ led_stands p.steps (identifier p.read) refl in
     let put_stands = ap (λ t. (outline t).absent) (p.puts r) ∙ led_stands p.steps r (plain_stands r f) in
-    let own = λ (t : Tree) (h : (outline t).absent ≡ false). ap (λ b. own_weight Elsewhere shape.VariableDeclarator [] (plain_outline ∷ (record (outline t) { absent = b } ∷ []))) h in
+    let own = λ (t : Tree) (h : (outline t).absent ≡ false). ap (λ b. own_weight Elsewhere shape.VariableDeclarator [] (outline binds ∷ (record (outline t) { absent = b } ∷ []))) h in
     omega (arith, falls, own value stands, own (put_first r value) put_stands, ap (weight (Expr argument_seat)) p.is, ap (weight (Expr argument_seat)) (p.puts r))
 
 -- a comma less
@@ -188,12 +188,12 @@ commas_less (t ▸ none) d e f none = refl
 commas_less (t ▸ none) d e f (u ▸ last) = omega arith
 commas_less (t ▸ (c ▸ first)) d e f last = let rest = commas_less (c ▸ first) d e f last in omega (arith, rest)
 
-pub next_falls : (K : VariableDeclarationKind) (s : List ℕ) (k : ℕ) (first : Trees) (init : Tree) (y : Name) (value : Tree) (last : Trees) → is_plain_part init ≡ true → is_first (resolved s k) false value ≡ true → total (declaration K (append first (declarator (binding y) (put_first init value) ▸ last)) ▸ none) + 1 ≤ total (declared_among K (resolved s k) first init (declarator (binding y) value ▸ last) ▸ none)
-next_falls K s k first init y value last f e =
+pub next_falls : (K : VariableDeclarationKind) (s : List ℕ) (k : ℕ) (first : Trees) (init binds value : Tree) (last : Trees) → is_plain_part init ≡ true → is_first (resolved s k) false value ≡ true → total (declaration K (append first (declarator binds (put_first init value) ▸ last)) ▸ none) + 1 ≤ total (declared_among K (resolved s k) first init (declarator binds value ▸ last) ▸ none)
+next_falls K s k first init binds value last f e =
     let d = declarator (binding (resolved s k)) init in
-    let n = declarator (binding y) value in
-    let put = declarator (binding y) (put_first init value) in
-    let falls = declarator_falls s k y value e init f in
+    let n = declarator binds value in
+    let put = declarator binds (put_first init value) in
+    let falls = declarator_falls s k binds value e init f in
     omega (
       arith,
       falls,

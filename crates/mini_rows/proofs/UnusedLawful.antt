@@ -175,25 +175,25 @@ single_fits strict k x first init head m r e f =
     let moves = plain_there strict init (movable init m) (left (fits strict (one_or_absent an_expression) init) true value) in
     (first_left_fits strict k first g, put_fits strict x head r init moves f)
 
-pub next_fits : (strict : Bool) (k : VariableDeclarationKind) (x : Name) (first : Trees) (init : Tree) (y : Name) (value : Tree) (last : Trees) → may_move init ≡ true → is_first x false value ≡ true → fits strict item (declared_among k x first init (declarator (binding y) value ▸ last)) ≡ true → fits strict item (declaration k (append first (declarator (binding y) (put_first init value) ▸ last))) ≡ true
-next_fits strict k x first init y value last m once e =
-    let d = declarator (binding y) (put_first init value) in
-    let ds : Trees = append first (declarator (binding x) init ▸ (declarator (binding y) value ▸ last)) in
+pub next_fits : (strict : Bool) (k : VariableDeclarationKind) (x : Name) (first : Trees) (init binds value : Tree) (last : Trees) → may_move init ≡ true → is_first x false value ≡ true → fits strict item (declared_among k x first init (declarator binds value ▸ last)) ≡ true → fits strict item (declaration k (append first (declarator binds (put_first init value) ▸ last))) ≡ true
+next_fits strict k x first init binds value last m once e =
+    let d = declarator binds (put_first init value) in
+    let ds : Trees = append first (declarator (binding x) init ▸ (declarator binds value ▸ last)) in
     let all = (and_parts (nat_le 1 (count ds)) (fill strict (each (one a_declarator)) ds && true) (sym (declaration_anywhere strict nested k ds) ∙ e)).1 in
-    let (f, g) = both_fit strict (one a_declarator) first (declarator (binding x) init ▸ (declarator (binding y) value ▸ last)) (left (fill strict (each (one a_declarator)) ds) true all) in
-    let (one_fits, rest) = first_fits strict (one a_declarator) (declarator (binding x) init) (declarator (binding y) value ▸ last) g in
-    let (next_there, others) = first_fits strict (one a_declarator) (declarator (binding y) value) last rest in
+    let (f, g) = both_fit strict (one a_declarator) first (declarator (binding x) init ▸ (declarator binds value ▸ last)) (left (fill strict (each (one a_declarator)) ds) true all) in
+    let (one_fits, rest) = first_fits strict (one a_declarator) (declarator (binding x) init) (declarator binds value ▸ last) g in
+    let (next_there, others) = first_fits strict (one a_declarator) (declarator binds value) last rest in
     let (id, initial) = and_parts (fits strict (one a_pattern) (binding x)) (fits strict (one_or_absent an_expression) init && true) one_fits in
-    let (bound, given) = and_parts (fits strict (one a_pattern) (binding y)) (fits strict (one_or_absent an_expression) value && true) next_there in
+    let (bound, given) = and_parts (fits strict (one a_pattern) binds) (fits strict (one_or_absent an_expression) value && true) next_there in
     let moves = plain_there strict init (movable init m) (left (fits strict (one_or_absent an_expression) init) true initial) in
     let put = put_initial strict x value once init moves (left (fits strict (one_or_absent an_expression) value) true given) in
-    let there_now = both (fits strict (one a_pattern) (binding y)) (fits strict (one_or_absent an_expression) (put_first init value) && true) bound (both (fits strict (one_or_absent an_expression) (put_first init value)) true put refl) in
+    let there_now = both (fits strict (one a_pattern) binds) (fits strict (one_or_absent an_expression) (put_first init value) && true) bound (both (fits strict (one_or_absent an_expression) (put_first init value)) true put refl) in
     let them = append_fits strict (one a_declarator) first (d ▸ last) f (more_fit strict (one a_declarator) d last there_now others) in
     declaration_anywhere strict nested k (append first (d ▸ last)) ∙ both (nat_le 1 (count (append first (d ▸ last)))) (fill strict (each (one a_declarator)) (append first (d ▸ last)) && true) (some first) (both (fill strict (each (one a_declarator)) (append first (d ▸ last))) true them refl)
   where
-    some : (first : Trees) → nat_le 1 (count (append first (declarator (binding y) (put_first init value) ▸ last))) ≡ true
-    some none = le-leb 1 (count (declarator (binding y) (put_first init value) ▸ last)) (omega arith)
-    some (t ▸ first) = le-leb 1 (count (t ▸ append first (declarator (binding y) (put_first init value) ▸ last))) (omega arith)
+    some : (first : Trees) → nat_le 1 (count (append first (declarator binds (put_first init value) ▸ last))) ≡ true
+    some none = le-leb 1 (count (declarator binds (put_first init value) ▸ last)) (omega arith)
+    some (t ▸ first) = le-leb 1 (count (t ▸ append first (declarator binds (put_first init value) ▸ last))) (omega arith)
 
 -- ---- a name that is dropped
 
@@ -302,8 +302,8 @@ row_dropped q n w (inr (inr (inl r))) =
 row_dropped q n w (inr (inr (inr r))) =
     let x = resolved r.spelling r.symbol in (
       r.symbol,
-      moved q r.symbol n w _ _ r.shape r.written (dropped q r.spelling r.symbol r.before r.after (declared_among r.kind x r.first r.init (declarator (binding (resolved r.next_spelling r.next_symbol)) r.value ▸ r.last) ▸ none) (declaration r.kind (append r.first (declarator (binding (resolved r.next_spelling r.next_symbol)) (put_first r.init r.value) ▸ r.last)) ▸ none) (next_leaves r.kind x r.symbol refl r.first r.init (resolved r.next_spelling r.next_symbol) r.value r.last r.once r.declared_earlier r.initial r.other r.declared_later) (next_names r.kind x r.symbol refl r.first r.init (resolved r.next_spelling r.next_symbol) r.value r.last r.once r.declared_earlier r.initial r.other r.declared_later (lexical_alone r.kind r.goes)) r.earlier r.later
-          (λ e z. in_tails e q (alone (Declared r.symbol)) _ _ (row_71_next e r.symbol z _ _ (record { before = r.before; kind = r.kind; first = r.first; spelling = r.spelling; symbol = r.symbol; init = r.init; next_spelling = r.next_spelling; next_symbol = r.next_symbol; value = r.value; last = r.last; after = r.after; goes = r.goes; moves = r.moves; once = r.once; other = r.other; earlier = r.earlier; declared_earlier = r.declared_earlier; initial = r.initial; declared_later = r.declared_later; later = r.later; unseen = r.unseen; shape = refl; written = refl }) refl))),
+      moved q r.symbol n w _ _ r.shape r.written (dropped q r.spelling r.symbol r.before r.after (declared_among r.kind x r.first r.init (declarator r.binds r.value ▸ r.last) ▸ none) (declaration r.kind (append r.first (declarator r.binds (put_first r.init r.value) ▸ r.last)) ▸ none) (next_leaves r.kind x r.symbol refl r.first r.init r.binds r.value r.last r.once r.declared_earlier r.initial r.other r.declared_later) (next_names r.kind x r.symbol refl r.first r.init r.binds r.value r.last r.once r.declared_earlier r.initial r.other r.declared_later (lexical_alone r.kind r.goes)) r.earlier r.later
+          (λ e z. in_tails e q (alone (Declared r.symbol)) _ _ (row_71_next e r.symbol z _ _ (record { before = r.before; kind = r.kind; first = r.first; spelling = r.spelling; symbol = r.symbol; init = r.init; binds = r.binds; value = r.value; last = r.last; after = r.after; goes = r.goes; moves = r.moves; once = r.once; other = r.other; earlier = r.earlier; declared_earlier = r.declared_earlier; initial = r.initial; declared_later = r.declared_later; later = r.later; unseen = r.unseen; shape = refl; written = refl }) refl))),
     )
 
 record Blocks (n w : Tree) : Type 0 where
@@ -335,9 +335,9 @@ row_blocks q n w (inr (inr (inl r))) =
     }
 row_blocks q n w (inr (inr (inr r))) =
     let x = resolved r.spelling r.symbol in
-    let d = declared_among r.kind x r.first r.init (declarator (binding (resolved r.next_spelling r.next_symbol)) r.value ▸ r.last) in
-    let left = declaration r.kind (append r.first (declarator (binding (resolved r.next_spelling r.next_symbol)) (put_first r.init r.value) ▸ r.last)) in
-    record { first = append r.before (d ▸ r.after); second = append r.before (left ▸ r.after); before = r.shape; after = r.written; fitting = λ strict. one_item strict r.before r.after d left (next_fits strict r.kind x r.first r.init (resolved r.next_spelling r.next_symbol) r.value r.last r.moves r.once) }
+    let d = declared_among r.kind x r.first r.init (declarator r.binds r.value ▸ r.last) in
+    let left = declaration r.kind (append r.first (declarator r.binds (put_first r.init r.value) ▸ r.last)) in
+    record { first = append r.before (d ▸ r.after); second = append r.before (left ▸ r.after); before = r.shape; after = r.written; fitting = λ strict. one_item strict r.before r.after d left (next_fits strict r.kind x r.first r.init r.binds r.value r.last r.moves r.once) }
 
 -- of two blocks, whatever is told by their shape
 shaped : (n w : Tree) (P : Tree → Tree → Type 0) → ((first_list second_list : Trees) → P (block first_list) (block second_list)) → Blocks n w → P n w

@@ -183,18 +183,18 @@ module _ (W : VariableSet) (K : VariableDeclarationKind) (s : List ℕ) (k : ℕ
             more_fit strict body_item left (put ▸ none) (left_in_body strict K first ∙ v) (more_fit strict body_item put none (put_in_body strict ∙ w) rest);
       }
 
-  of_next : (first : Trees) (init : Tree) (y : Name) (value : Tree) (last : Trees) → may_move init ≡ true → is_first x false value ≡ true → names x (binding y) ≡ false → names x init ≡ false → any_names x first ≡ false → any_names x last ≡ false → Loses W s k (declared_among K x first init (declarator (binding y) value ▸ last) ▸ none) (declaration K (append first (declarator (binding y) (put_first init value) ▸ last)) ▸ none)
-  of_next first init y value last moves once other initial earlier later =
-      let d = declared_among K x first init (declarator (binding y) value ▸ last) in
-      let w = declaration K (append first (declarator (binding y) (put_first init value) ▸ last)) in
+  of_next : (first : Trees) (init binds value : Tree) (last : Trees) → may_move init ≡ true → is_first x false value ≡ true → names x binds ≡ false → names x init ≡ false → any_names x first ≡ false → any_names x last ≡ false → Loses W s k (declared_among K x first init (declarator binds value ▸ last) ▸ none) (declaration K (append first (declarator binds (put_first init value) ▸ last)) ▸ none)
+  of_next first init binds value last moves once other initial earlier later =
+      let d = declared_among K x first init (declarator binds value ▸ last) in
+      let w = declaration K (append first (declarator binds (put_first init value) ▸ last)) in
       let avoids_last = all_avoided x k refl last later in
       record {
-        leaves = next_leaves K x k refl first init y value last once earlier initial other later;
-        declares = next_declares K x k refl first init y value last once earlier initial other later;
-        read = read_alone k d w (next_read K s k first last init (binding y) value (put_first init value));
-        same = λ e u. next_same e s k u.unseen K (may_write W K e k goes u) init (binding y) value last moves once first (avoided x k refl (binding y) other) avoids_last;
-        avoids = (next_avoids x k refl K first init y value last once earlier initial other later, tt);
-        fits = λ strict. one_fits strict d w (next_fits strict K x first init y value last moves once) (declaration_in_body strict K (append first (declarator (binding x) init ▸ (declarator (binding y) value ▸ last)))) (declaration_in_body strict K (append first (declarator (binding y) (put_first init value) ▸ last)));
+        leaves = next_leaves K x k refl first init binds value last once earlier initial other later;
+        declares = next_declares K x k refl first init binds value last once earlier initial other later;
+        read = read_alone k d w (next_read K s k first last init binds value (put_first init value));
+        same = λ e u. next_same e s k u.unseen K (may_write W K e k goes u) init binds value last moves once first (avoided x k refl binds other) avoids_last;
+        avoids = (next_avoids x k refl K first init binds value last once earlier initial other later, tt);
+        fits = λ strict. one_fits strict d w (next_fits strict K x first init binds value last moves once) (declaration_in_body strict K (append first (declarator (binding x) init ▸ (declarator binds value ▸ last)))) (declaration_in_body strict K (append first (declarator binds (put_first init value) ▸ last)));
       }
 
 pub row_stretch : (W : VariableSet) (p : Tree) (earlier_list later_list : Trees) → is_listed_shape (shape_of p) ≡ true → BlockRow W (block (p ▸ earlier_list)) (block (p ▸ later_list)) → Stretch W p earlier_list later_list
@@ -211,5 +211,5 @@ row_stretch W p a b e (inr (inr (inl r))) =
     (ap list_of r.written)
 row_stretch W p a b e (inr (inr (inr r))) =
     let x = resolved r.spelling r.symbol in
-    stretch W p a b e r.spelling r.symbol r.before r.after (declared_among r.kind x r.first r.init (declarator (binding (resolved r.next_spelling r.next_symbol)) r.value ▸ r.last)) none (declaration r.kind (append r.first (declarator (binding (resolved r.next_spelling r.next_symbol)) (put_first r.init r.value) ▸ r.last)) ▸ none) refl (of_next W r.kind r.spelling r.symbol r.goes r.first r.init (resolved r.next_spelling r.next_symbol) r.value r.last r.moves r.once r.other r.initial r.declared_earlier r.declared_later) r.earlier r.later (ap list_of r.shape)
+    stretch W p a b e r.spelling r.symbol r.before r.after (declared_among r.kind x r.first r.init (declarator r.binds r.value ▸ r.last)) none (declaration r.kind (append r.first (declarator r.binds (put_first r.init r.value) ▸ r.last)) ▸ none) refl (of_next W r.kind r.spelling r.symbol r.goes r.first r.init r.binds r.value r.last r.moves r.once r.other r.initial r.declared_earlier r.declared_later) r.earlier r.later (ap list_of r.shape)
     (ap list_of r.written)

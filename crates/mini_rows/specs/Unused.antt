@@ -188,7 +188,7 @@ pub record Row71 (W : VariableSet) (n w : Tree) : Type 0 where
   pub shape : n ≡ block (append before (declared_among kind (resolved spelling symbol) first init none ▸ (head ▸ after)))
   pub written : w ≡ block (append before (declared_left kind first ▸ (put_first init head ▸ after)))
 
--- where the next declarator is of a name, and reads it first: `{ let a, x = b(), y = x.c; d(y); }` becomes `{ let a, y = b().c; d(y); }`
+-- where the next declarator reads it first: `{ let a, x = b(), y = x.c; d(y); }` becomes `{ let a, y = b().c; d(y); }`
 pub record Row71Next (W : VariableSet) (n w : Tree) : Type 0 where
   pub before : Trees
   pub kind : VariableDeclarationKind
@@ -196,23 +196,22 @@ pub record Row71Next (W : VariableSet) (n w : Tree) : Type 0 where
   pub spelling : List ℕ
   pub symbol : ℕ
   pub init : Tree
-  pub next_spelling : List ℕ
-  pub next_symbol : ℕ
+  pub binds : Tree
   pub value : Tree
   pub last : Trees
   pub after : Trees
   pub goes : lets_go W kind symbol ≡ true
   pub moves : may_move init ≡ true
   pub once : is_first (resolved spelling symbol) false value ≡ true
-  pub other : names (resolved spelling symbol) (binding (resolved next_spelling next_symbol)) ≡ false
+  pub other : names (resolved spelling symbol) binds ≡ false
   pub earlier : any_names (resolved spelling symbol) before ≡ false
   pub declared_earlier : any_names (resolved spelling symbol) first ≡ false
   pub initial : names (resolved spelling symbol) init ≡ false
   pub declared_later : any_names (resolved spelling symbol) last ≡ false
   pub later : any_names (resolved spelling symbol) after ≡ false
-  pub unseen : has_eval (block (append before (declared_among kind (resolved spelling symbol) first init (declarator (binding (resolved next_spelling next_symbol)) value ▸ last) ▸ after))) ≡ false
-  pub shape : n ≡ block (append before (declared_among kind (resolved spelling symbol) first init (declarator (binding (resolved next_spelling next_symbol)) value ▸ last) ▸ after))
-  pub written : w ≡ block (append before (declaration kind (append first (declarator (binding (resolved next_spelling next_symbol)) (put_first init value) ▸ last)) ▸ after))
+  pub unseen : has_eval (block (append before (declared_among kind (resolved spelling symbol) first init (declarator binds value ▸ last) ▸ after))) ≡ false
+  pub shape : n ≡ block (append before (declared_among kind (resolved spelling symbol) first init (declarator binds value ▸ last) ▸ after))
+  pub written : w ≡ block (append before (declaration kind (append first (declarator binds (put_first init value) ▸ last)) ▸ after))
 
 -- one of them reads a block
 abbrev pub BlockRow : VariableSet → Tree → Tree → Type 0

@@ -23,7 +23,7 @@ use Rattle.mini_context.specs.declared.context.TraverseCtx.{TraverseCtx}
 use Rattle.mini_context.specs.Known.{Knows}
 use Rattle.mini_laws.specs.Writable.{writable_in}
 use Rattle.mini_unused.specs.RemoveUnusedDeclaration.{declares_name, declares_list, is_free_at, may_lose, may_go, open_in, is_alone, list_at, is_unused, UnusedAt, is_arrow_shape, are_statements, are_no_names, has_statements, is_function_shape, is_function, marked, Applied, AppliedInFunction, Gives, Rests}
-use Rattle.mini_unused.specs.SubstituteNext.{reads_then, is_mentioned_beside, is_read_then, is_next, NextAt, NextGone}
+use Rattle.mini_unused.specs.SubstituteNext.{is_declarator, reads_then, is_mentioned_beside, is_read_then, is_next, NextAt, NextGone}
 use Rattle.mini_unused.specs.SubstituteSingleUse.{last_place, is_declared_over, reads_next, is_read_once, is_single, SingleAt, NameGone, ReadGone, Gone, Removed}
 use Rattle.mini_unused.specs.Chains.{Several}
 use Rattle.mini_unused.proofs.Chains.{several_over, several_moves}
@@ -175,7 +175,7 @@ module _ (W : VariableSet) (outside : Tree) (front ts : Trees) (mentions : (x : 
       let l = list_at ts i in
       let d = part l j in
       let e = part l (suc j) in
-      ap (λ b. declares_list (child_or_absent ts i) && (declares_name d && (declares_name e && (may_lose (is_free_at ts i) W (names_of (part d 0)) && (may_move (part d 1) && b))))) (then_there (names_of (part d 0)) d e (children l) j i)
+      ap (λ b. declares_list (child_or_absent ts i) && (declares_name d && (is_declarator e && (may_lose (is_free_at ts i) W (names_of (part d 0)) && (may_move (part d 1) && b))))) (then_there (names_of (part d 0)) d e (children l) j i)
 
   seen_there : (has_eval no_outside || has_eval (listed behind)) ≡ (has_eval outside || has_eval (listed ts))
   unfolding has_eval

@@ -17,14 +17,17 @@ use Rattle.mini_rows.specs.Lists.{block, declaration}
 use Rattle.mini_rows.specs.Declarations.{binding, declarator}
 use Rattle.mini_rows.specs.Unused.{resolved, declared_among, names, any_names, is_first, put_first, may_move, lets_go, Row71Next}
 use Rattle.mini_unused.specs.RemoveUnusedDeclaration.{declares_name, is_lexical_shape, declares_list, may_lose, is_free_at, list_at}
-use Rattle.mini_unused.specs.SubstituteNext.{is_mentioned_beside, is_mentioned_elsewhere, is_read_then, is_read_by, is_read_by_next, is_next, NextIn, NextOf, NextAt, declarators_next, list_next}
+use Rattle.mini_unused.specs.SubstituteNext.{is_declarator, is_mentioned_beside, is_mentioned_elsewhere, is_read_then, is_read_by, is_read_by_next, is_next, NextIn, NextOf, NextAt, declarators_next, list_next}
 use Rattle.mini_unused.proofs.SingleUses.{no_first, next_there as child_there, rest_there, within_there}
-use Rattle.mini_unused.proofs.Unused.{no_outside, parts_of, with_parts, there_child, there_first, there_rest, there_within, and_both, Declares, declares, a_declaration}
+use Rattle.mini_unused.proofs.Unused.{no_outside, parts_of, with_parts, there_child, there_first, there_rest, there_within, and_both, Declares, declares, declarator_is, a_declaration}
 
 -- ---- what is looked for
 
 pub two_parts : (d : Tree) → declares_name d ≡ true → count (children d) ≡ 2
 two_parts d e = ap (λ t. count (children t)) (declares d e).is
+
+pub declarator_parts : (d : Tree) → is_declarator d ≡ true → count (children d) ≡ 2
+declarator_parts d e = ap (λ t. count (children t)) (declarator_is d e)
 
 pub next_is : (free : Bool) (W : VariableSet) (l : Tree) (j : ℕ) (o : Tree) (ts : Trees) (i : ℕ) → is_read_by free W (part l j) (part l (j + 1)) o (children l) j ts i ≡ is_read_by_next free W l j o ts i
 next_is free W l j o ts i = ap (λ k. is_read_by free W (part l j) (part l k) o (children l) j ts i) (add-one j)
@@ -40,7 +43,7 @@ of_list W o ts i None e h u = λ j g. ap (λ b. b && is_read_by_next (is_free_at
 pub record Found (W : VariableSet) (o : Tree) (ts : Trees) (i j : ℕ) : Type 0 where
   pub declared : declares_list (child_or_absent ts i) ≡ true
   pub one : declares_name (part (list_at ts i) j) ≡ true
-  pub next : declares_name (part (list_at ts i) (suc j)) ≡ true
+  pub next : is_declarator (part (list_at ts i) (suc j)) ≡ true
   pub lost : may_lose (is_free_at ts i) W (names_of (part (part (list_at ts i) j) 0)) ≡ true
   pub moves : may_move (part (part (list_at ts i) j) 1) ≡ true
   pub read : is_read_then (names_of (part (part (list_at ts i) j) 0)) (part (list_at ts i) j) (part (list_at ts i) (suc j)) o (children (list_at ts i)) j ts i ≡ true
@@ -50,9 +53,9 @@ found W o ts i j e =
     let l = list_at ts i in
     let lost = may_lose (is_free_at ts i) W (names_of (part (part l j) 0)) in
     let read = is_read_then (names_of (part (part l j) 0)) (part l j) (part l (suc j)) o (children l) j ts i in
-    let (a, p) = and_parts (declares_list (child_or_absent ts i)) (declares_name (part l j) && (declares_name (part l (suc j)) && (lost && (may_move (part (part l j) 1) && read)))) e in
-    let (b, q) = and_parts (declares_name (part l j)) (declares_name (part l (suc j)) && (lost && (may_move (part (part l j) 1) && read))) p in
-    let (c, r) = and_parts (declares_name (part l (suc j))) (lost && (may_move (part (part l j) 1) && read)) q in
+    let (a, p) = and_parts (declares_list (child_or_absent ts i)) (declares_name (part l j) && (is_declarator (part l (suc j)) && (lost && (may_move (part (part l j) 1) && read)))) e in
+    let (b, q) = and_parts (declares_name (part l j)) (is_declarator (part l (suc j)) && (lost && (may_move (part (part l j) 1) && read))) p in
+    let (c, r) = and_parts (is_declarator (part l (suc j))) (lost && (may_move (part (part l j) 1) && read)) q in
     let (d, s) = and_parts lost (may_move (part (part l j) 1) && read) r in
     let (f, g) = and_parts (may_move (part (part l j) 1)) read s in
     record { declared = a; one = b; next = c; lost = d; moves = f; read = g }
@@ -60,8 +63,8 @@ found W o ts i j e =
 pub declares_there : (W : VariableSet) (o : Tree) (ts : Trees) (i j : ℕ) → NextOf W o ts i (Some j) → declares_name (part (list_at ts i) j) ≡ true
 declares_there W o ts i j n = (found W o ts i j n.2).one
 
-pub next_declares_there : (W : VariableSet) (o : Tree) (ts : Trees) (i j : ℕ) → NextOf W o ts i (Some j) → declares_name (part (list_at ts i) (j + 1)) ≡ true
-next_declares_there W o ts i j n = ap (λ k. declares_name (part (list_at ts i) k)) (add-one j) ∙ (found W o ts i j n.2).next
+pub next_declares_there : (W : VariableSet) (o : Tree) (ts : Trees) (i j : ℕ) → NextOf W o ts i (Some j) → is_declarator (part (list_at ts i) (j + 1)) ≡ true
+next_declares_there W o ts i j n = ap (λ k. is_declarator (part (list_at ts i) k)) (add-one j) ∙ (found W o ts i j n.2).next
 
 -- ---- a declarator less
 
@@ -164,14 +167,11 @@ module _ (t : Tree) (i j : ℕ) (b : is_block t ≡ true) (h : i < count (childr
   abbrev one : Declares d
   one = declares d tests.one
 
-  abbrev other : Declares n
-  other = declares n tests.next
+  other : n ≡ declarator (part n 0) value
+  other = declarator_is n tests.next
 
   abbrev x : Name
   x = resolved one.spelling one.symbol
-
-  abbrev y : Name
-  y = resolved other.spelling other.symbol
 
   goes : lets_go W kind one.symbol ≡ true
   goes = sym (λ k. may_lose (is_lexical_shape (shape_of (let_there k))) W (names_of (part (one.is k) 0))) ∙ tests.lost
@@ -179,16 +179,13 @@ module _ (t : Tree) (i j : ℕ) (b : is_block t ≡ true) (h : i < count (childr
   reading : Once x d n ds j ts i
   reading = read_once x d n ds j ts i (sym (ap (λ c. is_read_then (names_of (part c 0)) d n no_outside ds j ts i) one.is) ∙ tests.read)
 
-  other_name : names x (binding y) ≡ false
-  other_name = sym (ap (λ c. names x (part c 0)) other.is) ∙ reading.other
-
   within : j < count ds
   within = let next = g in omega (arith, next)
 
-  statement_is : statement ≡ declared_among kind x first init (declarator (binding y) value ▸ last)
-  statement_is = let_there ∙ ap (declaration kind) (parts_of ds j within ∙ ap (λ us. append first (d ▸ us)) (next_child ds (suc j) g)) ∙ (λ k. declaration kind (append first (one.is k ▸ (other.is k ▸ last))))
+  statement_is : statement ≡ declared_among kind x first init (declarator (part n 0) value ▸ last)
+  statement_is = let_there ∙ ap (declaration kind) (parts_of ds j within ∙ ap (λ us. append first (d ▸ us)) (next_child ds (suc j) g)) ∙ (λ k. declaration kind (append first (one.is k ▸ (other k ▸ last))))
 
-  block_there : t ≡ block (append before (declared_among kind x first init (declarator (binding y) value ▸ last) ▸ after))
+  block_there : t ≡ block (append before (declared_among kind x first init (declarator (part n 0) value ▸ last) ▸ after))
   block_there = block_is t b ∙ ap block (parts_of ts i h ∙ ap (λ c. append before (c ▸ after)) statement_is)
 
   -- the declaration that is left
@@ -198,10 +195,10 @@ module _ (t : Tree) (i j : ℕ) (b : is_block t ≡ true) (h : i < count (childr
   abbrev put : Tree → Tree
   put c = with_part c 1 (put_first init (part c 1))
 
-  statement_left_is : statement_left ≡ declaration kind (append first (declarator (binding y) (put_first init value) ▸ last))
-  statement_left_is = ap (λ c. with_part c 0 (declarators_next (part c 0) j)) let_there ∙ ap (declaration kind) (next_left ds j put g) ∙ ap (λ c. declaration kind (append first (with_part c 1 (put_first init (part c 1)) ▸ last))) other.is
+  statement_left_is : statement_left ≡ declaration kind (append first (declarator (part n 0) (put_first init value) ▸ last))
+  statement_left_is = ap (λ c. with_part c 0 (declarators_next (part c 0) j)) let_there ∙ ap (declaration kind) (next_left ds j put g) ∙ ap (λ c. declaration kind (append first (with_part c 1 (put_first init (part c 1)) ▸ last))) other
 
-  written_there : (u : Tree) → u ≡ block_next t i j → u ≡ block (append before (declaration kind (append first (declarator (binding y) (put_first init value) ▸ last)) ▸ after))
+  written_there : (u : Tree) → u ≡ block_next t i j → u ≡ block (append before (declaration kind (append first (declarator (part n 0) (put_first init value) ▸ last)) ▸ after))
   written_there u f = f ∙ ap (λ c. block_next c i j) (block_is t b) ∙ ap block (with_parts ts i statement_left h) ∙ ap (λ c. block (append before (c ▸ after))) statement_left_is
 
   pub next_row : (u : Tree) → u ≡ block_next t i j → Row71Next W t u
@@ -212,15 +209,14 @@ module _ (t : Tree) (i j : ℕ) (b : is_block t ≡ true) (h : i < count (childr
     spelling = one.spelling;
     symbol = one.symbol;
     init = init;
-    next_spelling = other.spelling;
-    next_symbol = other.symbol;
+    binds = part n 0;
     value = value;
     last = last;
     after = after;
     goes = goes;
     moves = tests.moves;
     once = reading.once;
-    other = other_name;
+    other = reading.other;
     earlier = reading.earlier;
     declared_earlier = reading.declared_earlier;
     initial = reading.initial;
@@ -241,7 +237,7 @@ module _ (W : VariableSet) (t w : Tree) (r : Row71Next W t w) where
   declared = declarator (binding named) r.init
 
   abbrev following : Tree
-  following = declarator (binding (resolved r.next_spelling r.next_symbol)) r.value
+  following = declarator r.binds r.value
 
   abbrev declarators : Trees
   declarators = append r.first (declared ▸ (following ▸ r.last))

@@ -1,11 +1,10 @@
 -- What tables of names tell of a list, and that they tell it of what is left of the list.
 use Rattle.std.proofs.Common.{◌≡◌, ℕ, zero, suc, ◌+◌, ◌%◌, ◌<◌, ◌≤◌, Bool, true, false, List, [], ◌∷◌, refl, sym, ap, ◌∙◌, subst, inl, inr, true≢false, arith}
-use Rattle.std.specs.Prelude.{not, ◌&&◌, ◌||◌, ◌⊎◌, nat_eq, length, replicate, slice_index, Option, Some, None, is_some, if◌then◌else◌}
+use Rattle.std.specs.Prelude.{not, ◌&&◌, ◌||◌, ◌⊎◌, nat_eq, length, replicate, Option, Some, None, if◌then◌else◌}
 use Rattle.std.proofs.lemmas.Bool.{and_parts, eqb-true, eq-eqb}
-use Rattle.mini_model.specs.declared.kind.VariableDeclarationKind.{VariableDeclarationKind}
 use Rattle.mini_model.specs.declared.name.Name.{Name}
 use Rattle.mini_model.specs.declared.name.SymbolId.{SymbolId}
-use Rattle.mini_model.specs.Tree.{Tree, Trees, node, none, ◌▸◌, absent, listed, shape_of, children, count, child_or_absent, empty_statement, expression_statement}
+use Rattle.mini_model.specs.Tree.{Tree, Trees, node, none, ◌▸◌, absent, listed, children, count, child_or_absent, empty_statement, expression_statement}
 use Rattle.mini_model.specs.Paths.{append}
 use Rattle.mini_model.specs.Weight.{same_text}
 use Rattle.mini_laws.specs.Symbols.{is_same}
@@ -15,11 +14,11 @@ use Rattle.mini_node.specs.Kinds.{is_identifier, is_sequence_shape}
 use Rattle.mini_node.specs.Walks.{next_child}
 use Rattle.mini_kept.proofs.SameScopes.{same_texts}
 use Rattle.mini_rows.specs.Lists.{declaration}
-use Rattle.mini_rows.specs.Declarations.{binding, declarator}
+use Rattle.mini_rows.specs.Declarations.{declarator}
 use Rattle.mini_rows.specs.Unused.{resolved, is_like_one, names, any_names, is_idle, leads, is_childless, reads, is_first, put_first, is_head_shape, reads_first}
 use Rattle.mini_unused.specs.declared.tallies.Tallies.{Tallies}
-use Rattle.mini_unused.specs.RemoveUnusedDeclaration.{declares_name, declares_list, is_alone, list_at, let_left, statement_left, list_left}
-use Rattle.mini_unused.specs.SubstituteNext.{declarators_next, list_next, NextGone}
+use Rattle.mini_unused.specs.RemoveUnusedDeclaration.{declares_list, is_alone, list_at, let_left, statement_left, list_left}
+use Rattle.mini_unused.specs.SubstituteNext.{is_read_then, declarators_next, list_next, NextGone}
 use Rattle.mini_unused.specs.SubstituteSingleUse.{is_read_once, declaration_left, initializer, list_single, last_place, NameGone, ReadGone, Gone}
 use Rattle.mini_unused.specs.Tallies.{number_of, bucket, hash_of, one_if, own_tally, tally, tallies, Counted, Covers, Tallied, HasFew, IsRare}
 use Rattle.mini_unused.proofs.Unused.{parts_of, a_declaration, Declares, declares}
@@ -343,6 +342,48 @@ module _ (T : Tallies) (o : Tree) (ts : Trees) (i j : ℕ) (h : i < count ts) (d
         let v = all_of (first_children i ts) a.3 b.3 in
         let w = all_of after a.4 b.4 in
         λ k. not (p k) && (reads k && (not (q k || u k) && not (w k || v k)))
+
+  -- ---- or the next declarator does
+
+  module _ (next : suc j < count ds) (other : part (list_at ts i) (suc j) ≡ declarator (part (part (list_at ts i) (suc j)) 0) (part (part (list_at ts i) (suc j)) 1)) (first : is_first x false (part (part (list_at ts i) (suc j)) 1) ≡ true) (spelled : 1 ≤ tally (bucket false r) (bucket false r x) (part (part (list_at ts i) (suc j)) 1)) where
+    abbrev following : Tree
+    following = part (list_at ts i) (suc j)
+
+    abbrev behind : Trees
+    behind = rest_children (suc (suc j)) ds
+
+    abbrev Beside : (Name → ℕ) → Type 0
+    Beside f = (tally f (f x) o ≡ 0) × (tally f (f x) init ≡ 0) × (tally f (f x) (part following 0) ≡ 0) × (tallies f (f x) (first_children j ds) ≡ 0) × (tallies f (f x) behind ≡ 0) × (tallies f (f x) (first_children i ts) ≡ 0) × (tallies f (f x) (rest_children (suc i) ts) ≡ 0)
+
+    beside : (f : Name → ℕ) → tally f (f x) o + tally f (f x) (listed ts) ≤ 2 → 1 ≤ tally f (f x) (part following 1) → Beside f
+    beside f e read =
+        let sum = whole_sum f (f x) o ts i j h d g one in
+        let own = own_one f x in
+        let rest = ap (tallies f (f x)) (next_child ds (suc j) next) in
+        let there = ap (tally f (f x)) other in (
+          omega (arith, e, read, sum, own, rest, there),
+          omega (arith, e, read, sum, own, rest, there),
+          omega (arith, e, read, sum, own, rest, there),
+          omega (arith, e, read, sum, own, rest, there),
+          omega (arith, e, read, sum, own, rest, there),
+          omega (arith, e, read, sum, own, rest, there),
+          omega (arith, e, read, sum, own, rest, there),
+        )
+
+    pub rare_next : IsRare T x 2 → is_read_then (x ∷ []) (part (list_at ts i) j) following o ds j ts i ≡ true
+    rare_next rare =
+        let a = beside (bucket true n) (within_few true T.by_symbol.items o (listed ts) x 2 (omega arith) told.symbols rare.symbols) (first_counted n x false (part following 1) first) in
+        let b = beside (bucket false r) (within_few false T.by_spelling.items o (listed ts) x 2 (omega arith) told.spellings rare.spellings) spelled in
+        let one_of = unmentioned x n r in
+        let all_of = all_unmentioned x n r in
+        let p = one_of o a.0 b.0 in
+        let q = one_of init a.1 b.1 in
+        let s = one_of (part following 0) a.2 b.2 in
+        let t = all_of (first_children j ds) a.3 b.3 in
+        let u = all_of behind a.4 b.4 in
+        let v = all_of (first_children i ts) a.5 b.5 in
+        let w = all_of (rest_children (suc i) ts) a.6 b.6 in
+        λ k. first k && (not (q k || (s k || (t k || u k))) && (not (p k) && not (v k || w k)))
 
 -- ---- a path of first parts
 

@@ -1,5 +1,5 @@
 -- Names that go from a list one after another.
-use Rattle.std.proofs.Common.{◌≡◌, ℕ, suc, ◌+◌, ◌<◌, Bool, true, false, [], ◌∷◌, sym, ap, ◌∙◌, subst, inl, inr, arith}
+use Rattle.std.proofs.Common.{◌≡◌, ℕ, suc, ◌+◌, ◌<◌, Bool, true, false, [], ◌∷◌, sym, ap, ◌∙◌, subst, inl, inr, add-one, arith}
 use Rattle.std.specs.Prelude.{◌&&◌, ◌||◌, nat_eq, Some, Result, Ok, Err, OnOk}
 use Rattle.std.proofs.lemmas.Bool.{and_parts}
 use Rattle.mini_model.specs.Tree.{Tree, Trees, listed, shape_of, children, count, child_or_absent}
@@ -10,16 +10,16 @@ use Rattle.mini_node.specs.Kinds.{is_block, is_block_shape, is_listed}
 use Rattle.mini_rows.specs.Unused.{resolved, may_move}
 use Rattle.mini_unused.specs.Chains.{Chain, still, Several}
 use Rattle.mini_unused.specs.RemoveUnusedDeclaration.{declares_name, may_lose, may_go, is_alone, declares_list, is_lexical_shape, is_free_at, is_unused_declarator, list_at, list_left, UnusedOf, UnusedAt, are_statements, are_no_names, is_body_shape, is_arrow_shape, has_statements, is_function_shape, is_function}
-use Rattle.mini_unused.specs.SubstituteNext.{is_read_by_next, list_next, NextOf, NextAt}
+use Rattle.mini_unused.specs.SubstituteNext.{is_declarator, is_read_then, is_read_by_next, list_next, NextOf, NextAt}
 use Rattle.mini_unused.specs.SubstituteSingleUse.{is_read_once, is_single_declarator, is_single, last_place, list_single, SingleAt, Gone}
 use Rattle.mini_unused.specs.Sweep.{may_go_at, may_move_at, Calm, Swept}
-use Rattle.mini_unused.specs.Tallies.{Tallied, AreRare, AreRead}
+use Rattle.mini_unused.specs.Tallies.{Tallied, AreRare, AreRead, AreReadIn}
 use Rattle.mini_unused.specs.declared.tallies.Tallies.{Tallies}
 use Rattle.mini_unused.proofs.Chains.{chain_joined, chain_once}
-use Rattle.mini_unused.proofs.Unused.{and_both, Declares, declares}
+use Rattle.mini_unused.proofs.Unused.{and_both, Declares, declares, declarator_is}
 use Rattle.mini_unused.proofs.SingleUses.{last_is, single_by}
 use Rattle.mini_unused.proofs.Uneval.{still_unseen}
-use Rattle.mini_unused.proofs.Rare.{still_tallied, rare_alone, rare_read}
+use Rattle.mini_unused.proofs.Rare.{still_tallied, rare_alone, rare_read, rare_next}
 
 -- ---- the declarator that the tests find
 
@@ -77,14 +77,40 @@ module _ (T : Tallies) (o : Tree) (ts : Trees) (i j : ℕ) (h : i < count ts) (d
       subst (λ u. j < count (children u) → declares_name (part u j) ≡ true → AreRead T (names_of (part (part u j) 0)) (child_or_absent ts (suc i)) → is_read_once (names_of (part (part u j) 0)) o (part (part u j) 1) (children u) j ts i ≡ true) (sym e)
       (λ g n r. read_in next g (declares (part (list_at ts i) j) n) r)
 
-pub next_there : (W : VariableSet) (o : Tree) (ts : Trees) (i j : ℕ) (statement l : Tree) (free r : Bool) → statement ≡ child_or_absent ts i → declares_list statement ≡ true → 0 < count (children statement) → l ≡ part statement 0 → suc j < count (children l) → free ≡ is_lexical_shape (shape_of statement) → r ≡ is_read_by_next free W l j o ts i → r ≡ true → NextOf W o ts i (Some j)
-next_there W o ts i j statement l free r s d h f g z e t =
+-- the next one reads it
+
+read_by_both : (a b c d e : Bool) → (a && (c && d)) ≡ true → b ≡ true → e ≡ true → (a && (b && (c && (d && e)))) ≡ true
+read_by_both a b c d e f g h =
+    let (x, y) = and_parts a (c && d) f in
+    let (z, v) = and_parts c d y in
+    and_both a (b && (c && (d && e))) x (and_both b (c && (d && e)) g (and_both c (d && e) z (and_both d e v h)))
+
+pub next_there : (W : VariableSet) (o : Tree) (ts : Trees) (i j : ℕ) (statement l : Tree) (free : Bool) → statement ≡ child_or_absent ts i → declares_list statement ≡ true → 0 < count (children statement) → l ≡ part statement 0 → j + 1 < count (children l) → free ≡ is_lexical_shape (shape_of statement)
+    → may_move_at free W l j ≡ true → is_declarator (part l (j + 1)) ≡ true → is_read_then (names_of (part (part l j) 0)) (part l j) (part l (j + 1)) o (children l) j ts i ≡ true → NextOf W o ts i (Some j)
+next_there W o ts i j statement l free s d h f g z e n t =
     let there : l ≡ list_at ts i = f ∙ ap (λ u. part u 0) s in
-    let is_free : free ≡ is_free_at ts i = z ∙ ap (λ u. is_lexical_shape (shape_of u)) s in (
+    let is_free : free ≡ is_free_at ts i = z ∙ ap (λ u. is_lexical_shape (shape_of u)) s in
+    let one = add-one j in
+    let read : is_read_by_next free W l j o ts i ≡ true =
+    read_by_both (declares_name (part l j)) (is_declarator (part l (suc j))) (may_lose free W (names_of (part (part l j) 0))) (may_move (part (part l j) 1)) (is_read_then (names_of (part (part l j) 0)) (part l j) (part l (suc j)) o (children l) j ts i) e
+    (sym (ap (λ k. is_declarator (part l k)) one) ∙ n) (sym (ap (λ k. is_read_then (names_of (part (part l j) 0)) (part l j) (part l k) o (children l) j ts i) one) ∙ t) in (
       subst (λ u. 0 < count (children u)) s h,
-      subst (λ u. suc j < count (children u)) there g,
-      and_both (declares_list (child_or_absent ts i)) (is_read_by_next (is_free_at ts i) W (list_at ts i) j o ts i) (sym (ap declares_list s) ∙ d) (sym (λ k. is_read_by_next (is_free k) W (there k) j o ts i) ∙ sym e ∙ t),
+      subst (λ u. suc j < count (children u)) there (omega (arith, g)),
+      and_both (declares_list (child_or_absent ts i)) (is_read_by_next (is_free_at ts i) W (list_at ts i) j o ts i) (sym (ap declares_list s) ∙ d) (sym (λ k. is_read_by_next (is_free k) W (there k) j o ts i) ∙ read),
     )
+
+module _ (T : Tallies) (o : Tree) (ts : Trees) (i j : ℕ) (h : i < count ts) (d : declares_list (child_or_absent ts i) ≡ true) (told : Tallied T o (listed ts)) where
+  next_in : suc j < count (children (list_at ts i)) → (one : Declares (part (list_at ts i) j)) → is_declarator (part (list_at ts i) (suc j)) ≡ true → AreReadIn T (names_of (part (part (list_at ts i) j) 0)) (part (part (list_at ts i) (suc j)) 1) → is_read_then (names_of (part (part (list_at ts i) j) 0)) (part (list_at ts i) j) (part (list_at ts i) (suc j)) o (children (list_at ts i)) j ts i ≡ true
+  next_in g one other r =
+      let named = named_is (part (list_at ts i) j) one in
+      let rare = subst (λ xs. AreReadIn T xs (part (part (list_at ts i) (suc j)) 1)) named r in
+      subst (λ xs. is_read_then xs (part (list_at ts i) j) (part (list_at ts i) (suc j)) o (children (list_at ts i)) j ts i ≡ true) (sym named) (rare_next T o ts i j h d (omega (arith, g)) one told g (declarator_is (part (list_at ts i) (suc j)) other) rare.1 rare.2 rare.0)
+
+  pub read_by_next : (l : Tree) → l ≡ list_at ts i → j + 1 < count (children l) → declares_name (part l j) ≡ true → is_declarator (part l (j + 1)) ≡ true → AreReadIn T (names_of (part (part l j) 0)) (part (part l (j + 1)) 1) → is_read_then (names_of (part (part l j) 0)) (part l j) (part l (j + 1)) o (children l) j ts i ≡ true
+  read_by_next l e =
+      subst (λ u. j + 1 < count (children u) → declares_name (part u j) ≡ true → is_declarator (part u (j + 1)) ≡ true → AreReadIn T (names_of (part (part u j) 0)) (part (part u (j + 1)) 1) → is_read_then (names_of (part (part u j) 0)) (part u j) (part u (j + 1)) o (children u) j ts i ≡ true) (sym e)
+      (subst (λ k. k < count (children (list_at ts i)) → declares_name (part (list_at ts i) j) ≡ true → is_declarator (part (list_at ts i) k) ≡ true → AreReadIn T (names_of (part (part (list_at ts i) j) 0)) (part (part (list_at ts i) k) 1) → is_read_then (names_of (part (part (list_at ts i) j) 0)) (part (list_at ts i) j) (part (list_at ts i) k) o (children (list_at ts i)) j ts i ≡ true) (sym (add-one j))
+      (λ g n m r. next_in g (declares (part (list_at ts i) j) n) m r))
 
 -- ---- a list that has lost a name
 

@@ -13,12 +13,12 @@ use Rattle.mini_node.specs.Children.{names_of, part, with_child, with_part, with
 use Rattle.mini_node.specs.Kinds.{is_listed, is_sequence_shape}
 use Rattle.mini_rows.specs.Lists.{declaration}
 use Rattle.mini_rows.specs.Unused.{is_idle, any_names, names, begins, leads, is_childless, is_first, put_first, is_head_shape, reads_first, may_move}
-use Rattle.mini_unused.specs.RemoveUnusedDeclaration.{declares_list, declares_name, may_lose, is_free_at, is_unused_declarator, list_at, statement_left, let_left, list_left}
+use Rattle.mini_unused.specs.RemoveUnusedDeclaration.{declares_list, declares_name, may_lose, is_free_at, is_unused_declarator, list_at, statement_left, let_left}
 use Rattle.mini_rows.specs.Declarations.{declarator}
-use Rattle.mini_unused.specs.SubstituteNext.{is_mentioned_beside, is_mentioned_elsewhere, is_read_then, declarators_next, NextGone}
-use Rattle.mini_unused.specs.SubstituteSingleUse.{declaration_left, initializer, last_place, reads_next, is_declared_over, is_mentioned_around, is_read_once, is_single_declarator, list_single, NameGone, ReadGone, Gone}
+use Rattle.mini_unused.specs.SubstituteNext.{is_declarator, is_mentioned_beside, is_mentioned_elsewhere, is_read_then, declarators_next, NextGone}
+use Rattle.mini_unused.specs.SubstituteSingleUse.{declaration_left, last_place, reads_next, is_declared_over, is_mentioned_around, is_read_once, NameGone, ReadGone, Gone}
 use Rattle.mini_unused.proofs.NextUses.{found, next_child_left}
-use Rattle.mini_unused.proofs.Unused.{a_declaration, declares, not_true}
+use Rattle.mini_unused.proofs.Unused.{a_declaration, declarator_is, not_true}
 
 pub neither : (a b : Bool) → (a || b) ≡ false → (a ≡ false) × (b ≡ false)
 neither true b e = absurd (true≢false e)
@@ -149,15 +149,15 @@ put_in_head x r (node h ys n (t ▸ ts)) f e g =
 
 -- ---- a declaration whose declarator has another tree in what it reads first
 
-declarator_with : (d r : Tree) (x : Name) → declares_name d ≡ true → is_first x false (part d 1) ≡ true → has_eval r ≡ false → has_eval d ≡ false → has_eval (with_part d 1 (put_first r (part d 1))) ≡ false
+declarator_with : (d r : Tree) (x : Name) → is_declarator d ≡ true → is_first x false (part d 1) ≡ true → has_eval r ≡ false → has_eval d ≡ false → has_eval (with_part d 1 (put_first r (part d 1))) ≡ false
 declarator_with d r x n f e g =
-    let is = (declares d n).is in
+    let is = declarator_is d n in
     let id = part d 0 in
     let put = put_first r (part d 1) in
     let shaped : with_part d 1 put ≡ declarator id put = ap (λ t. with_part t 1 put) (is ∙ ap (λ t. declarator t (part d 1)) (sym (ap (λ t. part t 0) is))) in
     ap has_eval shaped ∙ over (declarator id put) refl (all_of id (put ▸ none) (part_of d 0 g) (all_of put none (put_there x false r (part d 1) f e (part_of d 1 g)) nothing_there))
 
-next_without : (t : Tree) (j : ℕ) (x : Name) → declares_list t ≡ true → declares_name (part (part t 0) (suc j)) ≡ true → is_first x false (part (part (part t 0) (suc j)) 1) ≡ true → has_eval t ≡ false → has_eval (with_part t 0 (declarators_next (part t 0) j)) ≡ false
+next_without : (t : Tree) (j : ℕ) (x : Name) → declares_list t ≡ true → is_declarator (part (part t 0) (suc j)) ≡ true → is_first x false (part (part (part t 0) (suc j)) 1) ≡ true → has_eval t ≡ false → has_eval (with_part t 0 (declarators_next (part t 0) j)) ≡ false
 next_without t j x d n f e =
     let (k, is) = a_declaration t d in
     let ds = children (part t 0) in

@@ -104,7 +104,7 @@ pub binding_is : (t : Tree) → is_resolved_binding t ≡ true → (s : List ℕ
 binding_is (node shape.BindingIdentifier (x ∷ []) zero none) e = let (k, same) = named x.spelling x.symbol e in (x.spelling, k, ap binding same)
 binding_is t e = absurd (true≢false (sym e))
 
-declarator_is : (d : Tree) → is_declarator_shape (shape_of d) && is_bare d 2 ≡ true → d ≡ declarator (part d 0) (part d 1)
+pub declarator_is : (d : Tree) → is_declarator_shape (shape_of d) && is_bare d 2 ≡ true → d ≡ declarator (part d 0) (part d 1)
 declarator_is (node shape.VariableDeclarator [] zero (a ▸ (b ▸ none))) e = refl
 declarator_is d e = absurd (true≢false (sym e))
 

@@ -2,11 +2,15 @@
 -- statements of a function, and there each `var`, too.
 use Rattle.std.specs.Prelude.{◌≡◌, ◌<◌, ℕ, suc, Bool, true, false, not, ◌&&◌, ◌||◌, List, [], ◌∷◌, Option, Some, None}
 use Rattle.mini_model.specs.declared.name.Name.{Name}
-use Rattle.mini_model.specs.Tree.{Tree, Trees, count, child_or_absent, children}
+use Rattle.mini_model.specs.Tree.{Tree, Trees, shape_of, count, child_or_absent, children}
 use Rattle.mini_laws.specs.Value.{VariableSet}
-use Rattle.mini_node.specs.Children.{names_of, like, part, with_part, without, first_children, rest_children}
+use Rattle.mini_node.specs.Children.{names_of, like, part, with_part, without, is_bare, first_children, rest_children}
 use Rattle.mini_rows.specs.Unused.{names, any_names, is_first, may_move, put_first}
-use Rattle.mini_unused.specs.RemoveUnusedDeclaration.{declares_name, declares_list, may_lose, is_free_at, list_at}
+use Rattle.mini_unused.specs.RemoveUnusedDeclaration.{is_declarator_shape, declares_name, declares_list, may_lose, is_free_at, list_at}
+
+-- a declarator, of a name or of a pattern
+abbrev pub is_declarator : Tree → Bool
+is_declarator d = is_declarator_shape (shape_of d) && is_bare d 2
 
 -- the initializer of the next declarator reads it first
 abbrev pub reads_then : Name → Tree → Bool
@@ -25,10 +29,9 @@ abbrev pub is_read_then : List Name → Tree → Tree → Tree → Trees → ℕ
 is_read_then [] d e o ds j ts i = false
 is_read_then (x ∷ xs) d e o ds j ts i = reads_then x e && (not (is_mentioned_beside x d e ds j) && (not (names x o) && not (is_mentioned_elsewhere x ts i)))
 
--- so is the name of a declarator, whose initializer may move, and which is free to go, or one of these variables; and the next declares
--- a name, too
+-- so is the name of a declarator, whose initializer may move, and which is free to go, or one of these variables
 abbrev pub is_read_by : Bool → VariableSet → Tree → Tree → Tree → Trees → ℕ → Trees → ℕ → Bool
-is_read_by free W d e o ds j ts i = declares_name d && (declares_name e && (may_lose free W (names_of (part d 0)) && (may_move (part d 1) && is_read_then (names_of (part d 0)) d e o ds j ts i)))
+is_read_by free W d e o ds j ts i = declares_name d && (is_declarator e && (may_lose free W (names_of (part d 0)) && (may_move (part d 1) && is_read_then (names_of (part d 0)) d e o ds j ts i)))
 
 -- of a list the declarator at the place
 abbrev pub is_read_by_next : Bool → VariableSet → Tree → ℕ → Tree → Trees → ℕ → Bool

@@ -1,8 +1,8 @@
-//! Row 71 in one declaration: `{ let x = a(), y = x.b; c(y); }` becomes `{ let y = a().b; c(y); }`, where the next declarator, which
-//! declares a name, evaluates x before all else, nothing else in the block has its spelling or its symbol, and no direct eval stands
+//! Row 71 in one declaration: `{ let x = a(), y = x.b; c(y); }` becomes `{ let y = a().b; c(y); }`, where the next declarator
+//! evaluates x before all else, nothing else in the block has its spelling or its symbol, and no direct eval stands
 //! there.
 
-ghost use Rattle.std.specs.Prelude.{◌≡◌, ◌+◌, ◌<◌, ◌^◌, true, None, Some, IfOk};
+ghost use Rattle.std.specs.Prelude.{◌≡◌, ◌+◌, ◌<◌, ◌^◌, true, None, IfOk};
 ghost use Rattle.mini_model.specs.Tree.{children, count};
 ghost use Rattle.mini_node.specs.Children.{names, part, with_part};
 ghost use Rattle.mini_rows.specs.Unused.{put_first as it_put_first};
@@ -20,9 +20,17 @@ use crate::mentions::{is_mentioned, is_mentioned_before, is_mentioned_from};
 use crate::single_uses::{is_first, may_move, put_first};
 use crate::sweeping::sweep;
 use mini_context::Scopes;
-use mini_model::{Name, OutOfMemory};
+use mini_model::{Name, OutOfMemory, Shape};
 use mini_node::{Node, Nodes, discard, two};
 use std::alloc::Global;
+
+/// A declarator, of a name or of a pattern.
+pub fn is_declarator(node: &Node) -> bool
+    ensures kind { result ≡ row.is_declarator node.now }
+    ensures parts { result ≡ true → count (children node.now) ≡ 2 }
+{
+    matches!(node.shape(), Shape::VariableDeclarator) && node.is_bare(2)
+}
 
 // Whether the name stands in the initializer, in what the next declarator declares, or in another declarator.
 fn is_mentioned_beside(
@@ -53,8 +61,8 @@ fn is_mentioned_elsewhere(name: &Name, statements: &Nodes, at: usize) -> bool
     is_mentioned_before(name, statements, at) || is_mentioned_from(name, statements, at + 1)
 }
 
-// The next declarator reads the name first, and nothing else mentions it.
-fn is_read_then(
+/// The next declarator reads the name first, and nothing else mentions it.
+pub fn is_read_then(
     name: &Option<Name>,
     declarator: &Node,
     next: &Node,
@@ -102,7 +110,7 @@ fn is_read_by(
     ensures { result ≡ row.is_read_by is_free (open_in outside.now (marked scopes.now)) declarator.now next.now outside.now declarators.now which statements.now at }
 {
     declares_name(declarator)
-        && declares_name(next)
+        && is_declarator(next)
         && may_lose(is_free, declarator.child(0).name(), outside, scopes)
         && may_move(declarator.child(1))
         && is_read_then(
@@ -231,13 +239,13 @@ fn substitute_in_declarators(list: &mut Node, which: usize)
 }
 
 /// Of a list of statements, `let x = a(), y = x.b;` becomes `let y = a().b;`.
-#[tactic(auto, using(crate::proofs::Unused::same_parts, crate::proofs::Unused::part_twice, crate::proofs::NextUses::two_parts))]
+#[tactic(auto, using(crate::proofs::Unused::same_parts, crate::proofs::Unused::part_twice, crate::proofs::NextUses::two_parts, crate::proofs::NextUses::declarator_parts))]
 pub fn substitute_next(list: &mut Node, at: usize, which: usize)
     requires statement { at < count (children list.old) }
     requires declarators { 0 < count (children (part list.old at)) }
     requires next { which + 1 < count (children (part (part list.old at) 0)) }
     requires declares { it_declares_name (part (part (part list.old at) 0) which) ≡ true }
-    requires next_declares { it_declares_name (part (part (part list.old at) 0) (which + 1)) ≡ true }
+    requires next_declares { row.is_declarator (part (part (part list.old at) 0) (which + 1)) ≡ true }
     ensures { list.new ≡ row.list_next list.old at which }
 {
     let mut declaration = take_child(list, at);
@@ -245,32 +253,6 @@ pub fn substitute_next(list: &mut Node, at: usize, which: usize)
     substitute_in_declarators(&mut declarators, which);
     put_child(&mut declaration, 0, declarators);
     put_child(list, at, declaration);
-}
-
-/// Of the statement at the place, where it is a declaration, the declarator at the other has a name that the next one reads first, and
-/// that nothing else mentions.
-pub fn is_next_there(
-    outside: &Node,
-    statements: &Nodes,
-    at: usize,
-    which: usize,
-    scopes: &Scopes,
-) -> bool
-    requires statement { at < count statements.now }
-    requires fits { at + 1 < 2 ^ 64 }
-    requires fits_too { which + 1 < 2 ^ 64 }
-    ensures { result ≡ true → NextOf (open_in outside.now (marked scopes.now)) outside.now statements.now at (Some which) }
-{
-    let statement = statements.child(at);
-    if !declares_list(statement) {
-        return false;
-    }
-    let list = statement.child(0);
-    if which + 1 >= list.children().len() {
-        return false;
-    }
-    let is_free = is_lexical(statement.shape());
-    is_read_by_next(is_free, list, which, outside, statements, at, scopes)
 }
 
 /// Of a list of statements in which no name is unused, and none that the next statement reads alone, with what stands outside of them,

@@ -10,6 +10,7 @@ ghost use Rattle.mini_laws.specs.ScopeList.{has_eval};
 ghost use Rattle.mini_node.specs.Children.{names_of as names, part};
 ghost use Rattle.mini_node.specs.Kinds.{is_listed as is_it_listed};
 ghost use Rattle.mini_unused.specs.Chains.{Chain};
+ghost use Rattle.mini_unused.specs.SubstituteNext.{is_declarator as is_it_declarator, is_read_then as is_it_read_then, NextOf};
 ghost use Rattle.mini_unused.specs.RemoveUnusedDeclaration.{declares_list as it_declares_list, is_alone as is_it_alone, list_at, marked, open_in, UnusedOf};
 ghost use Rattle.mini_unused.specs.SubstituteSingleUse.{is_read_once as is_it_read_once, is_single as is_it_single, Gone};
 ghost use Rattle.mini_unused.specs.Sweep.{may_go_at, may_move_at, Calm, Swept};
@@ -18,9 +19,9 @@ ghost use Rattle.mini_unused.specs.Tallies.{Tallied};
 use crate::declarations::{
     declares_list, declares_name, drop_in_list, is_alone, is_lexical, may_go, may_lose,
 };
-use crate::next_uses::{is_next_there, substitute_next};
+use crate::next_uses::{is_declarator, is_read_then, substitute_next};
 use crate::single_uses::{is_read_once, last_declarator, may_move, reads_next, substitute_in_list};
-use crate::tallies::{Tallies, has_rare_name, is_rarely_read, tally_list};
+use crate::tallies::{Tallies, has_rare_name, is_rarely_read, is_rarely_read_in, tally_list};
 use mini_context::Scopes;
 use mini_model::OutOfMemory;
 use mini_node::{Node, Nodes};
@@ -224,6 +225,78 @@ fn sweep_single(
     substitute_in_list(alloc, list, at, last);
 }
 
+// The next declarator reads the name first, and nothing else mentions it, as the tables tell, or a look through the list.
+fn is_read_next(
+    outside: &Node,
+    statements: &Nodes,
+    at: usize,
+    list: &Node,
+    which: usize,
+    tallies: &Tallies,
+) -> bool
+    requires statement { at < count statements.now }
+    requires fits { at + 1 < 2 ^ 64 }
+    requires next { which + 1 < count (children list.now) }
+    requires fits_too { which + 2 < 2 ^ 64 }
+    requires declares { it_declares_list (child_or_absent statements.now at) ≡ true }
+    requires list { list.now ≡ list_at statements.now at }
+    requires tallied { Tallied tallies.now outside.now (listed statements.now) }
+    ensures next { result ≡ true → is_it_declarator (part list.now (which + 1)) ≡ true }
+    ensures read { result ≡ true → is_it_read_then (names (part (part list.now which) 0)) (part list.now which) (part list.now (which + 1)) outside.now (children list.now) which statements.now at ≡ true }
+{
+    let declarator = list.child(which);
+    if !declares_name(declarator) {
+        return false;
+    }
+    let next = list.child(which + 1);
+    if !is_declarator(next) {
+        return false;
+    }
+    if is_rarely_read_in(tallies, declarator.child(0).name(), next.child(1)) {
+        return true;
+    }
+    is_read_then(
+        declarator.child(0).name(),
+        declarator,
+        next,
+        outside,
+        list.children(),
+        which,
+        statements,
+        at,
+    )
+}
+
+// Of the statement at the place, where it is a declaration, the declarator at the other has a name that the next one reads first, and
+// that nothing else mentions.
+fn is_next_there(
+    outside: &Node,
+    statements: &Nodes,
+    at: usize,
+    which: usize,
+    scopes: &Scopes,
+    tallies: &Tallies,
+) -> bool
+    requires statement { at < count statements.now }
+    requires fits { at + 1 < 2 ^ 64 }
+    requires fits_too { which + 1 < 2 ^ 64 }
+    requires tallied { Tallied tallies.now outside.now (listed statements.now) }
+    ensures { result ≡ true → NextOf (open_in outside.now (marked scopes.now)) outside.now statements.now at (Some which) }
+{
+    let statement = statements.child(at);
+    if !declares_list(statement) {
+        return false;
+    }
+    let list = statement.child(0);
+    if which + 1 >= list.children().len() {
+        return false;
+    }
+    if !may_move_there(is_lexical(statement.shape()), list, which, outside, scopes) {
+        return false;
+    }
+    is_read_next(outside, statements, at, list, which, tallies)
+}
+
 // The declarator at the place goes where the next one reads its name first and nothing else mentions it.
 fn sweep_next(
     outside: &Node,
@@ -241,7 +314,7 @@ fn sweep_next(
     if at >= list.children().len() {
         return;
     }
-    if !is_next_there(outside, list.children(), at, which, scopes) {
+    if !is_next_there(outside, list.children(), at, which, scopes, tallies) {
         return;
     }
     substitute_next(list, at, which);

@@ -4,10 +4,10 @@
 ghost use Rattle.std.specs.Prelude.{◌≡◌, ◌≤◌, ◌<◌, ◌+◌, ◌^◌, ℕ, suc, nat_eq, true, false, length, replicate, IfOk};
 ghost use Rattle.mini_model.specs.Tree.{child_or_absent, count};
 ghost use Rattle.mini_node.specs.Children.{names};
-ghost use Rattle.mini_unused.specs.Tallies.{hash_of, number_of, bucket, one_if, own_tally, tally, tallies, Counted, Covers, Tallied, HasFew, IsRare, AreRare, AreRead};
+ghost use Rattle.mini_unused.specs.Tallies.{hash_of, number_of, bucket, one_if, own_tally, tally, tallies, Counted, Covers, Tallied, HasFew, IsRare, AreRare, AreRead, AreReadIn};
 
 use crate::mentions::is_same_text;
-use crate::single_uses::reads_next;
+use crate::single_uses::{is_first, reads_next};
 use mini_model::{Name, OutOfMemory, SymbolId, Text};
 use mini_node::{Node, Nodes};
 use std::alloc::Global;
@@ -166,6 +166,20 @@ pub fn is_rarely_read(tallies: &Tallies, name: &Option<Name>, statements: &Nodes
             is_rare(tallies, name, 2)
                 && reads_next(name, statements, at)
                 && is_spelled_first(name, statements.child(at + 1))
+        }
+        None => false,
+    }
+}
+
+/// An initializer reads a name first, and the two are the only ones in its buckets.
+pub fn is_rarely_read_in(tallies: &Tallies, name: &Option<Name>, value: &Node) -> bool
+    ensures { result ≡ true → AreReadIn tallies.now (names name.now) value.now }
+{
+    match name {
+        Some(name) => {
+            is_rare(tallies, name, 2)
+                && is_first(name, false, value)
+                && is_spelled_first(name, value)
         }
         None => false,
     }
