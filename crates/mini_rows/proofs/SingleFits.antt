@@ -10,7 +10,7 @@ use Rattle.mini_kept.proofs.Bools.{both}
 use Rattle.mini_kept.proofs.Expressions.{refused_here}
 use Rattle.mini_rows.specs.Sketches.{shape_by, Asked, AsWholeItem, AsValue, AsValues, asked_below}
 use Rattle.mini_rows.specs.Unused.{is_first, put_first, reads_first}
-use Rattle.mini_rows.proofs.SingleUse.{Lead, Not, Beside, Deciding, Choosing, Passing, Called, Member, Keyed, Listing, Doing, Giving, Raising, Testing, head_of, Step, led, is_end, Stands, Well, path, statement}
+use Rattle.mini_rows.proofs.SingleUse.{Lead, Not, Plus, Tilde, Beside, Deciding, Choosing, Passing, Called, Making, Member, Keyed, Listing, Doing, Giving, Raising, Testing, head_of, Step, led, is_end, Stands, Well, path, statement}
 
 first_of : (a b c : Bool) → (a ≡ true → b ≡ true) → a && c ≡ true → b && c ≡ true
 first_of true b c f e = ap (λ d. d && c) (f refl) ∙ e
@@ -39,6 +39,8 @@ module _ (strict : Bool) where
   value_step : (l : Lead) (b : Bool) → Stands AsValue l b → (t u : Tree) (ts : Trees) → (asked_below (head_of l) AsValue 0 ≡ AsValues → count (children t) ≡ count (children u)) → (Fits (asked_below (head_of l) AsValue 0) t → Fits (asked_below (head_of l) AsValue 0) u)
       → Fits AsValue (node (shape_by (head_of l)) [] 0 (t ▸ ts)) → Fits AsValue (node (shape_by (head_of l)) [] 0 (u ▸ ts))
   value_step Not b s t u ts c f e = first_of (fits strict (one an_expression) t) (fits strict (one an_expression) u) _ f e
+  value_step Plus b s t u ts c f e = first_of (fits strict (one an_expression) t) (fits strict (one an_expression) u) _ f e
+  value_step Tilde b s t u ts c f e = first_of (fits strict (one an_expression) t) (fits strict (one an_expression) u) _ f e
   value_step (Beside o) b s t u ts c f e = first_of (fits strict (one an_expression) t) (fits strict (one an_expression) u) _ f e
   value_step (Deciding o) b s t u ts c f e = first_of (fits strict (one an_expression) t) (fits strict (one an_expression) u) _ f e
   value_step Choosing b s t u ts c f e = first_of (fits strict (one an_expression) t) (fits strict (one an_expression) u) _ f e
@@ -46,6 +48,7 @@ module _ (strict : Bool) where
       let (x, y) = and_parts (nat_le 2 (count (children t))) (fits strict (many an_expression) t && fill strict (these []) ts) e in
       both (nat_le 2 (count (children u))) (fits strict (many an_expression) u && fill strict (these []) ts) (ap (nat_le 2) (sym (c refl)) ∙ x) (first_of (fits strict (many an_expression) t) (fits strict (many an_expression) u) (fill strict (these []) ts) f y)
   value_step Called b s t u ts c f e = first_of (fits strict (one an_expression) t) (fits strict (one an_expression) u) _ f e
+  value_step Making b s t u ts c f e = first_of (fits strict (one an_expression) t) (fits strict (one an_expression) u) _ f e
   value_step Member b s t u ts c f e = first_of (fits strict (one an_expression) t) (fits strict (one an_expression) u) _ f e
   value_step Keyed b s t u ts c f e = first_of (fits strict (one an_expression) t) (fits strict (one an_expression) u) _ f e
   value_step l b s t u ts c f e = absurd s
@@ -66,11 +69,14 @@ module _ (strict : Bool) where
     where
       below : (l : Lead) (b : Bool) → Stands AsValue l b → asked_below (head_of l) AsValue 0 ≡ AsWholeItem → ⊥
       below Not b s e = cc e
+      below Plus b s e = cc e
+      below Tilde b s e = cc e
       below (Beside o) b s e = cc e
       below (Deciding o) b s e = cc e
       below Choosing b s e = cc e
       below Passing b s e = cc e
       below Called b s e = cc e
+      below Making b s e = cc e
       below Member b s e = cc e
       below Keyed b s e = cc e
       below l b s e = absurd s
@@ -90,11 +96,14 @@ there strict (s ∷ ss) w y e = by s.lead w.0 e
   where
     by : (l : Lead) → Stands AsValue l (is_end ss) → fits strict (one_or_absent an_expression) (node (shape_by (head_of l)) [] 0 (led ss (identifier y) ▸ s.rest)) ≡ true → fits strict (one an_expression) (node (shape_by (head_of l)) [] 0 (led ss (identifier y) ▸ s.rest)) ≡ true
     by Not s e = e
+    by Plus s e = e
+    by Tilde s e = e
     by (Beside o) s e = e
     by (Deciding o) s e = e
     by Choosing s e = e
     by Passing s e = e
     by Called s e = e
+    by Making s e = e
     by Member s e = e
     by Keyed s e = e
     by l s e = absurd s

@@ -7,20 +7,22 @@ use Rattle.mini_model.specs.declared.operator.BinaryOperator.{BinaryOperator}
 use Rattle.mini_model.specs.declared.operator.BinaryOperator.TheVariants as binary
 use Rattle.mini_model.specs.declared.operator.LogicalOperator.{LogicalOperator}
 use Rattle.mini_model.specs.declared.operator.LogicalOperator.TheVariants.{Or, And, Coalesce}
+use Rattle.mini_model.specs.declared.operator.UnaryOperator.{UnaryOperator}
+use Rattle.mini_model.specs.declared.operator.UnaryOperator.TheVariants.{UnaryPlus, BitwiseNot}
 use Rattle.mini_model.specs.declared.shape.Shape.{Shape}
 use Rattle.mini_model.specs.declared.shape.Shape.TheVariants as shape
 use Rattle.mini_model.specs.Tree.{Tree, Trees, node, none, ◌▸◌, identifier}
 use Rattle.mini_model.specs.Weight.{same_text}
 use Rattle.mini_laws.specs.Value.{Value, Boolean, Declared, VariableSet, Slot, Holds, choose, truth, is_nullish, variable_eq}
 use Rattle.mini_laws.specs.Conversion.{Made, makes, raises, outside, to_number, known_member}
-use Rattle.mini_laws.specs.Operators.{strictly_equal, loosely_equal, of_numbers, of_primitives}
+use Rattle.mini_laws.specs.Operators.{of_number, strictly_equal, loosely_equal, of_numbers, of_primitives}
 use Rattle.mini_laws.specs.State.{Hint, ForDefault, ForNumber, GetOf, CallOf, DirectEval, Coerce, Entry, Item, Stop, State, Completion, ok, stop, halt, out, Ends, done, ended, either, Environment, with_vars}
 use Rattle.mini_laws.specs.Demand.{Want, Val, Test, Unused, Demand, As, Callee, Parts, Items, Stat, Reference, AMember, Called, Request, Reply, Says}
 use Rattle.mini_laws.specs.Command.{set_var, Command, ret, fails, stuck, op, kid, then, attempt, bind, shift, emit, Kids, act, Gets, run, read_slot, at_variable, is_object}
 use Rattle.mini_laws.specs.Naming.{EvalName, PlainName, Facts, Summary, summary, summaries, facts_all, naming}
 use Rattle.mini_laws.specs.Asking.{pass, demand, first_demand, parts_demand, logical_demand}
 use Rattle.mini_laws.specs.Replies.{reply, valued, passed, passing, merged, raise, of_made, of_option, primitive, hint_of, numeric, is_of_primitives, operate, loosely, or_event, get_member}
-use Rattle.mini_laws.specs.Expressions.{get_identifier, operate_by, binary_step, logical_step, conditional_step, sequence_step, not_step, call_event, call_step, member_step, got, called_member}
+use Rattle.mini_laws.specs.Expressions.{get_identifier, operate_by, binary_step, logical_step, conditional_step, sequence_step, not_step, number_step, call_event, call_step, new_step, member_step, got, called_member}
 use Rattle.mini_laws.specs.Lists.{parts}
 use Rattle.mini_laws.specs.Targets.{as_member}
 use Rattle.mini_laws.specs.Statements.{if_step, return_step, throw_step}
@@ -37,7 +39,7 @@ use Rattle.mini_laws.proofs.Truth.{coherent}
 use Rattle.mini_kept.specs.Without.{Unseen}
 use Rattle.mini_rows.specs.Sketches.{shape_by, Asked, AsWholeItem, AsValue, AsValues, asked_below}
 use Rattle.mini_rows.specs.Unused.{any_names, resolved}
-use Rattle.mini_rows.proofs.SingleUse.{Lead, Not, Beside, Deciding, Choosing, Passing, Called as CalledLead, Member, Keyed, Listing, Doing, Giving, Raising, Testing, head_of, Step, led, is_end, Stands, Well, Spared, summary_led}
+use Rattle.mini_rows.proofs.SingleUse.{Lead, Not, Plus, Tilde, Beside, Deciding, Choosing, Passing, Called as CalledLead, Making, Member, Keyed, Listing, Doing, Giving, Raising, Testing, head_of, Step, led, is_end, Stands, Well, Spared, summary_led}
 use Rattle.mini_rows.proofs.UnusedNames.{all_avoided}
 
 -- ---- a command that doesn't ask the first child any more
@@ -189,6 +191,9 @@ begins_passing σ q u r c b = absurd u
 abbrev one : (σ : ℕ → Demand) (A : Type 0) (r : Request (σ 0)) (f : Reply (σ 0) r → Command σ A) → ((a : Reply (σ 0) r) → Later (f a)) → Begins σ A (kid 0 r ((then) f))
 one σ A r f h = record { request = r; next = (then) f; is = refl; stops = λ y. refl; later = h }
 
+number_begins : (o : UnaryOperator) → Begins (λ i. As Val) Value (number_step o)
+number_begins o = one (λ i. As Val) Value tt _ (λ v. later_bind (numeric v) (λ n. of_made (of_number o n)) (numeric_later (λ i. As Val) v) (λ n. made_later (λ i. As Val) (of_number o n)))
+
 binary_begins : (o : BinaryOperator) → Begins (λ i. As Val) Value (binary_step o)
 binary_begins o = one (λ i. As Val) Value tt _ (λ v. (λ w. by_later (λ i. As Val) o v w, λ y. tt))
 
@@ -236,6 +241,8 @@ record Asks (c : Asked) (l : Lead) (fs : List Facts) (q : Demand) (r : Request q
 value_asks : (l : Lead) (b : Bool) → Stands AsValue l b → (fs : List Facts) (q : Demand) → Replies q → (r : Request q) → Asks AsValue l fs q r b
 unfolding step
 value_asks Not b s fs q u r = record { begins = begins_valued (λ i. As Test) q u r not_step (one (λ i. As Test) Value tt _ (λ v. tt)); below = tt }
+value_asks Plus b s fs q u r = record { begins = begins_valued (λ i. As Val) q u r (number_step UnaryPlus) (number_begins UnaryPlus); below = tt }
+value_asks Tilde b s fs q u r = record { begins = begins_valued (λ i. As Val) q u r (number_step BitwiseNot) (number_begins BitwiseNot); below = tt }
 value_asks (Beside o) b s fs q u r = record { begins = begins_valued (λ i. As Val) q u r (binary_step o) (binary_begins o); below = tt }
 value_asks (Deciding o) b s fs q u r = record { begins = begins_passing (logical_demand o (pass q)) q u r (logical_step o (pass q)) (logical_begins o (pass q)); below = left o (pass q) }
   where
@@ -250,6 +257,7 @@ value_asks (Deciding o) b s fs q u r = record { begins = begins_passing (logical
 value_asks Choosing b s fs q u r = record { begins = begins_passing (first_demand (As Test) (As (pass q))) q u r (conditional_step (pass q)) (conditional_begins (pass q)); below = tt }
 value_asks Passing b s fs q u r = record { begins = begins_passing (λ i. Parts (pass q)) q u r (sequence_step (pass q)) (one (λ i. Parts (pass q)) (Says (pass q)) tt _ (λ v. tt)); below = tt }
 value_asks CalledLead b s fs q u r = record { begins = begins_valued (first_demand Callee Items) q u r (call_step false) (one (first_demand Callee Items) Value tt _ (λ f. (λ vs. call_later (first_demand Callee Items) false f vs, λ y. tt))); below = s }
+value_asks Making b s fs q u r = record { begins = begins_valued (first_demand (As Val) Items) q u r new_step (one (first_demand (As Val) Items) Value tt _ (λ f. (λ vs. (λ v. tt, λ y. tt), λ y. tt))); below = tt }
 value_asks Member b s fs q u r = record { begins = as_member_begins q u r; below = tt }
 value_asks Keyed b s fs q u r = record { begins = as_member_begins q u r; below = tt }
 value_asks l b s fs q u r = absurd s

@@ -5,14 +5,14 @@ use Rattle.std.proofs.lemmas.Bool.{and_parts}
 use Rattle.mini_model.specs.declared.name.Name.{Name}
 use Rattle.mini_model.specs.declared.operator.BinaryOperator.{BinaryOperator}
 use Rattle.mini_model.specs.declared.operator.LogicalOperator.{LogicalOperator}
-use Rattle.mini_model.specs.declared.operator.UnaryOperator.TheVariants.{LogicalNot}
+use Rattle.mini_model.specs.declared.operator.UnaryOperator.TheVariants.{LogicalNot, UnaryPlus, BitwiseNot}
 use Rattle.mini_model.specs.declared.shape.Shape.{Shape}
 use Rattle.mini_model.specs.declared.shape.Shape.TheVariants as shape
 use Rattle.mini_model.specs.Tree.{Tree, Trees, node, none, ◌▸◌, identifier}
 use Rattle.mini_laws.specs.Naming.{summary, summaries, summary_of}
 use Rattle.mini_laws.specs.Symbols.{is_same}
 use Rattle.mini_node.specs.Kinds.{is_sequence_shape}
-use Rattle.mini_rows.specs.Sketches.{Head, AList, Unary, Binary, Logical, Conditional, Sequence, Call, StaticMember, ComputedMember, OfExpression, Throw, Return, If, shape_by, Asked, AsWholeItem, AsValue, AsValues, asked_below, Leap}
+use Rattle.mini_rows.specs.Sketches.{Head, AList, Unary, Binary, Logical, Conditional, Sequence, Call, New, StaticMember, ComputedMember, OfExpression, Throw, Return, If, shape_by, Asked, AsWholeItem, AsValue, AsValues, asked_below, Leap}
 use Rattle.mini_rows.specs.Unused.{names, any_names, leads, is_childless, reads, is_first, put_first, reads_first}
 use Rattle.mini_rows.proofs.Arranging.{Plain, Local, Summed}
 
@@ -20,11 +20,14 @@ use Rattle.mini_rows.proofs.Arranging.{Plain, Local, Summed}
 
 pub data Lead : Type 0 where
   Not : Lead
+  Plus : Lead
+  Tilde : Lead
   Beside : BinaryOperator → Lead
   Deciding : LogicalOperator → Lead
   Choosing : Lead
   Passing : Lead
   Called : Lead
+  Making : Lead
   Member : Lead
   Keyed : Lead
   -- the list of a sequence's parts
@@ -37,11 +40,14 @@ pub data Lead : Type 0 where
 
 abbrev pub head_of : Lead → Head
 head_of Not = Unary LogicalNot
+head_of Plus = Unary UnaryPlus
+head_of Tilde = Unary BitwiseNot
 head_of (Beside o) = Binary o
 head_of (Deciding o) = Logical o
 head_of Choosing = Conditional
 head_of Passing = Sequence
 head_of Called = Call false
+head_of Making = New
 head_of Member = StaticMember false
 head_of Keyed = ComputedMember false
 head_of Listing = AList
@@ -70,11 +76,14 @@ Stands AsWholeItem Raising at_end = Unit {0}
 Stands AsWholeItem Testing at_end = Unit {0}
 Stands AsValues Listing at_end = Unit {0}
 Stands AsValue Not at_end = Unit {0}
+Stands AsValue Plus at_end = Unit {0}
+Stands AsValue Tilde at_end = Unit {0}
 Stands AsValue (Beside o) at_end = Unit {0}
 Stands AsValue (Deciding o) at_end = Unit {0}
 Stands AsValue Choosing at_end = Unit {0}
 Stands AsValue Passing at_end = Unit {0}
 Stands AsValue Called at_end = at_end ≡ false
+Stands AsValue Making at_end = Unit {0}
 Stands AsValue Member at_end = Unit {0}
 Stands AsValue Keyed at_end = Unit {0}
 Stands c l at_end = ⊥
@@ -118,11 +127,14 @@ lead_by : (b c : Bool) (h : Shape) → leads b h c ≡ true → Leads b c h
 lead_by true c shape.Listed e = record { lead = Listing; is = refl; stands = tt; below = refl }
 lead_by true c h e = absurd (true≢false (sym e))
 lead_by false c (shape.UnaryExpression LogicalNot) e = record { lead = Not; is = refl; stands = tt; below = refl }
+lead_by false c (shape.UnaryExpression UnaryPlus) e = record { lead = Plus; is = refl; stands = tt; below = refl }
+lead_by false c (shape.UnaryExpression BitwiseNot) e = record { lead = Tilde; is = refl; stands = tt; below = refl }
 lead_by false c (shape.BinaryExpression o) e = record { lead = Beside o; is = refl; stands = tt; below = refl }
 lead_by false c (shape.LogicalExpression o) e = record { lead = Deciding o; is = refl; stands = tt; below = refl }
 lead_by false c shape.ConditionalExpression e = record { lead = Choosing; is = refl; stands = tt; below = refl }
 lead_by false c shape.SequenceExpression e = record { lead = Passing; is = refl; stands = tt; below = refl }
 lead_by false c (shape.CallExpression false) e = record { lead = Called; is = refl; stands = not_leaf c e; below = refl }
+lead_by false c shape.NewExpression e = record { lead = Making; is = refl; stands = tt; below = refl }
 lead_by false c (shape.StaticMemberExpression false) e = record { lead = Member; is = refl; stands = tt; below = refl }
 lead_by false c (shape.ComputedMemberExpression false) e = record { lead = Keyed; is = refl; stands = tt; below = refl }
 lead_by false c h e = absurd (true≢false (sym e))

@@ -23,7 +23,7 @@ use Rattle.mini_rows.specs.Sketches.{shape_by, Asked, AsWholeItem, AsValue, AsVa
 use Rattle.mini_rows.specs.Unused.{resolved, declared_among, declared_left, is_first, put_first, reads_first}
 use Rattle.mini_rows.proofs.BooleanWeights.{moved}
 use Rattle.mini_rows.proofs.ListWeights.{total, in_list, comma_list, declarators_append}
-use Rattle.mini_rows.proofs.SingleUse.{Lead, Not, Beside, Deciding, Choosing, Passing, Called, Member, Keyed, Listing, Doing, Giving, Raising, Testing, head_of, Step, led, is_end, Stands, Well, path, statement}
+use Rattle.mini_rows.proofs.SingleUse.{Lead, Not, Plus, Tilde, Beside, Deciding, Choosing, Passing, Called, Making, Member, Keyed, Listing, Doing, Giving, Raising, Testing, head_of, Step, led, is_end, Stands, Well, path, statement}
 
 -- ---- where the steps stand
 
@@ -42,11 +42,14 @@ placed_statement l b s p n = absurd s
 
 placed_value : (l : Lead) (b : Bool) → Stands AsValue l b → (p : Position) (n : ℕ) → Placed (asked_below (head_of l) AsValue 0) (child_position (shape_by (head_of l)) p n 0)
 placed_value Not b s p n = tt
+placed_value Plus b s p n = tt
+placed_value Tilde b s p n = tt
 placed_value (Beside o) b s p n = tt
 placed_value (Deciding o) b s p n = tt
 placed_value Choosing b s p n = tt
 placed_value Passing b s p n = tt
 placed_value Called b s p n = tt
+placed_value Making b s p n = tt
 placed_value Member b s p n = tt
 placed_value Keyed b s p n = tt
 placed_value l b s p n = absurd s
@@ -73,11 +76,14 @@ same_statement l b s q o k os = absurd s
 
 same_value : (l : Lead) (b : Bool) → Stands AsValue l b → (t : Seat) (o k : Outline) (os : List Outline) → own_weight (Expr t) (shape_by (head_of l)) [] (o ∷ os) ≡ own_weight (Expr t) (shape_by (head_of l)) [] (k ∷ os)
 same_value Not b s t o k os = refl
+same_value Plus b s t o k os = refl
+same_value Tilde b s t o k os = refl
 same_value (Beside p) b s t o k os = refl
 same_value (Deciding p) b s t o k os = refl
 same_value Choosing b s t o k os = refl
 same_value Passing b s t o k os = refl
 same_value Called b s t o k os = refl
+same_value Making b s t o k os = refl
 same_value Member b s t o k os = refl
 same_value Keyed b s t o k os = refl
 same_value l b s t o k os = absurd s

@@ -3,7 +3,7 @@
 use Rattle.std.specs.Prelude.{◌≡◌, ◌<◌, ◌⊎◌, ◌||◌, ◌&&◌, not, ℕ, Bool, true, false, List, [], ◌∷◌}
 use Rattle.mini_model.specs.declared.kind.VariableDeclarationKind.{VariableDeclarationKind}
 use Rattle.mini_model.specs.declared.name.Name.{Name}
-use Rattle.mini_model.specs.declared.operator.UnaryOperator.TheVariants.{LogicalNot}
+use Rattle.mini_model.specs.declared.operator.UnaryOperator.TheVariants.{LogicalNot, UnaryPlus, BitwiseNot}
 use Rattle.mini_model.specs.declared.place.Position.{Position}
 use Rattle.mini_model.specs.declared.place.Position.TheVariants.{Expr, Stmt, Method, Elsewhere}
 use Rattle.mini_model.specs.declared.shape.Shape.{Shape}
@@ -109,11 +109,14 @@ pub record Row72Idle (W : VariableSet) (n w : Tree) : Type 0 where
 -- of a member in its place the object would be `this`
 abbrev pub begins : Shape → Bool → Bool
 begins (shape.UnaryExpression LogicalNot) is_leaf = true
+begins (shape.UnaryExpression UnaryPlus) is_leaf = true
+begins (shape.UnaryExpression BitwiseNot) is_leaf = true
 begins (shape.BinaryExpression o) is_leaf = true
 begins (shape.LogicalExpression o) is_leaf = true
 begins shape.ConditionalExpression is_leaf = true
 begins shape.SequenceExpression is_leaf = true
 begins (shape.CallExpression false) is_leaf = not is_leaf
+begins shape.NewExpression is_leaf = true
 begins (shape.StaticMemberExpression false) is_leaf = true
 begins (shape.ComputedMemberExpression false) is_leaf = true
 begins h is_leaf = false

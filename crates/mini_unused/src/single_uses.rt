@@ -30,11 +30,14 @@ fn begins(shape: &Shape, is_leaf: bool) -> bool
     ensures { result ≡ reading.begins shape.now is_leaf }
 {
     match shape {
-        Shape::UnaryExpression(UnaryOperator::LogicalNot)
+        Shape::UnaryExpression(
+            UnaryOperator::LogicalNot | UnaryOperator::UnaryPlus | UnaryOperator::BitwiseNot,
+        )
         | Shape::BinaryExpression(_)
         | Shape::LogicalExpression(_)
         | Shape::ConditionalExpression
         | Shape::SequenceExpression
+        | Shape::NewExpression
         | Shape::StaticMemberExpression(false)
         | Shape::ComputedMemberExpression(false) => true,
         Shape::CallExpression(false) => !is_leaf,
