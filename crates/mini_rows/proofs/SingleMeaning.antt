@@ -22,7 +22,7 @@ use Rattle.mini_laws.specs.Command.{set_var, Command, ret, fails, stuck, op, kid
 use Rattle.mini_laws.specs.Naming.{EvalName, PlainName, Facts, Summary, summary, summaries, facts_all, naming}
 use Rattle.mini_laws.specs.Asking.{pass, demand, first_demand, parts_demand, logical_demand}
 use Rattle.mini_laws.specs.Replies.{reply, valued, passed, passing, merged, raise, of_made, of_option, primitive, hint_of, numeric, is_of_primitives, operate, loosely, or_event, get_member}
-use Rattle.mini_laws.specs.Expressions.{get_identifier, operate_by, binary_step, logical_step, conditional_step, sequence_step, not_step, number_step, call_event, call_step, new_step, member_step, got, called_member}
+use Rattle.mini_laws.specs.Expressions.{get_identifier, operate_by, binary_step, logical_step, conditional_step, sequence_step, not_step, number_step, call_event, call_step, new_step, yield_step, member_step, got, called_member}
 use Rattle.mini_laws.specs.Lists.{parts}
 use Rattle.mini_laws.specs.Targets.{as_member}
 use Rattle.mini_laws.specs.Statements.{if_step, return_step, throw_step}
@@ -39,7 +39,7 @@ use Rattle.mini_laws.proofs.Truth.{coherent}
 use Rattle.mini_kept.specs.Without.{Unseen}
 use Rattle.mini_rows.specs.Sketches.{shape_by, Asked, AsWholeItem, AsValue, AsValues, asked_below}
 use Rattle.mini_rows.specs.Unused.{any_names, resolved}
-use Rattle.mini_rows.proofs.SingleUse.{Lead, Not, Plus, Tilde, Beside, Deciding, Choosing, Passing, Called as CalledLead, Making, Member, Keyed, Listing, Doing, Giving, Raising, Testing, head_of, Step, led, is_end, Stands, Well, Spared, summary_led}
+use Rattle.mini_rows.proofs.SingleUse.{Lead, Not, Plus, Tilde, Beside, Deciding, Choosing, Passing, Called as CalledLead, Making, Waiting, Member, Keyed, Listing, Doing, Giving, Raising, Testing, head_of, Step, led, is_end, Stands, Well, Spared, summary_led}
 use Rattle.mini_rows.proofs.UnusedNames.{all_avoided}
 
 -- ---- a command that doesn't ask the first child any more
@@ -258,6 +258,7 @@ value_asks Choosing b s fs q u r = record { begins = begins_passing (first_deman
 value_asks Passing b s fs q u r = record { begins = begins_passing (λ i. Parts (pass q)) q u r (sequence_step (pass q)) (one (λ i. Parts (pass q)) (Says (pass q)) tt _ (λ v. tt)); below = tt }
 value_asks CalledLead b s fs q u r = record { begins = begins_valued (first_demand Callee Items) q u r (call_step false) (one (first_demand Callee Items) Value tt _ (λ f. (λ vs. call_later (first_demand Callee Items) false f vs, λ y. tt))); below = s }
 value_asks Making b s fs q u r = record { begins = begins_valued (first_demand (As Val) Items) q u r new_step (one (first_demand (As Val) Items) Value tt _ (λ f. (λ vs. (λ v. tt, λ y. tt), λ y. tt))); below = tt }
+value_asks (Waiting d) b s fs q u r = record { begins = begins_valued (λ i. As Val) q u r (yield_step d) (one (λ i. As Val) Value tt _ (λ v. (λ a. tt, λ y. tt))); below = tt }
 value_asks Member b s fs q u r = record { begins = as_member_begins q u r; below = tt }
 value_asks Keyed b s fs q u r = record { begins = as_member_begins q u r; below = tt }
 value_asks l b s fs q u r = absurd s

@@ -12,7 +12,7 @@ use Rattle.mini_model.specs.Tree.{Tree, Trees, node, none, ◌▸◌, identifier
 use Rattle.mini_laws.specs.Naming.{summary, summaries, summary_of}
 use Rattle.mini_laws.specs.Symbols.{is_same}
 use Rattle.mini_node.specs.Kinds.{is_sequence_shape}
-use Rattle.mini_rows.specs.Sketches.{Head, AList, Unary, Binary, Logical, Conditional, Sequence, Call, New, StaticMember, ComputedMember, OfExpression, Throw, Return, If, shape_by, Asked, AsWholeItem, AsValue, AsValues, asked_below, Leap}
+use Rattle.mini_rows.specs.Sketches.{Head, AList, Unary, Binary, Logical, Conditional, Sequence, Call, New, StaticMember, ComputedMember, Yield, OfExpression, Throw, Return, If, shape_by, Asked, AsWholeItem, AsValue, AsValues, asked_below, Leap}
 use Rattle.mini_rows.specs.Unused.{names, any_names, leads, is_childless, reads, is_first, put_first, reads_first}
 use Rattle.mini_rows.proofs.Arranging.{Plain, Local, Summed}
 
@@ -28,6 +28,7 @@ pub data Lead : Type 0 where
   Passing : Lead
   Called : Lead
   Making : Lead
+  Waiting : Bool → Lead
   Member : Lead
   Keyed : Lead
   -- the list of a sequence's parts
@@ -48,6 +49,7 @@ head_of Choosing = Conditional
 head_of Passing = Sequence
 head_of Called = Call false
 head_of Making = New
+head_of (Waiting d) = Yield d
 head_of Member = StaticMember false
 head_of Keyed = ComputedMember false
 head_of Listing = AList
@@ -84,6 +86,7 @@ Stands AsValue Choosing at_end = Unit {0}
 Stands AsValue Passing at_end = Unit {0}
 Stands AsValue Called at_end = at_end ≡ false
 Stands AsValue Making at_end = Unit {0}
+Stands AsValue (Waiting d) at_end = Unit {0}
 Stands AsValue Member at_end = Unit {0}
 Stands AsValue Keyed at_end = Unit {0}
 Stands c l at_end = ⊥
@@ -135,6 +138,7 @@ lead_by false c shape.ConditionalExpression e = record { lead = Choosing; is = r
 lead_by false c shape.SequenceExpression e = record { lead = Passing; is = refl; stands = tt; below = refl }
 lead_by false c (shape.CallExpression false) e = record { lead = Called; is = refl; stands = not_leaf c e; below = refl }
 lead_by false c shape.NewExpression e = record { lead = Making; is = refl; stands = tt; below = refl }
+lead_by false c (shape.YieldExpression d) e = record { lead = Waiting d; is = refl; stands = tt; below = refl }
 lead_by false c (shape.StaticMemberExpression false) e = record { lead = Member; is = refl; stands = tt; below = refl }
 lead_by false c (shape.ComputedMemberExpression false) e = record { lead = Keyed; is = refl; stands = tt; below = refl }
 lead_by false c h e = absurd (true≢false (sym e))

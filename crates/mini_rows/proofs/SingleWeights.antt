@@ -23,7 +23,7 @@ use Rattle.mini_rows.specs.Sketches.{shape_by, Asked, AsWholeItem, AsValue, AsVa
 use Rattle.mini_rows.specs.Unused.{resolved, declared_among, declared_left, is_first, put_first, reads_first}
 use Rattle.mini_rows.proofs.BooleanWeights.{moved}
 use Rattle.mini_rows.proofs.ListWeights.{total, in_list, comma_list, declarators_append}
-use Rattle.mini_rows.proofs.SingleUse.{Lead, Not, Plus, Tilde, Beside, Deciding, Choosing, Passing, Called, Making, Member, Keyed, Listing, Doing, Giving, Raising, Testing, head_of, Step, led, is_end, Stands, Well, path, statement}
+use Rattle.mini_rows.proofs.SingleUse.{Lead, Not, Plus, Tilde, Beside, Deciding, Choosing, Passing, Called, Making, Waiting, Member, Keyed, Listing, Doing, Giving, Raising, Testing, head_of, Step, led, is_end, Stands, Well, path, statement}
 
 -- ---- where the steps stand
 
@@ -50,6 +50,7 @@ placed_value Choosing b s p n = tt
 placed_value Passing b s p n = tt
 placed_value Called b s p n = tt
 placed_value Making b s p n = tt
+placed_value (Waiting d) b s p n = tt
 placed_value Member b s p n = tt
 placed_value Keyed b s p n = tt
 placed_value l b s p n = absurd s
@@ -84,6 +85,7 @@ same_value Choosing b s t o k os = refl
 same_value Passing b s t o k os = refl
 same_value Called b s t o k os = refl
 same_value Making b s t o k os = refl
+same_value (Waiting d) b s t o k os = refl
 same_value Member b s t o k os = refl
 same_value Keyed b s t o k os = refl
 same_value l b s t o k os = absurd s

@@ -117,6 +117,7 @@ begins shape.ConditionalExpression is_leaf = true
 begins shape.SequenceExpression is_leaf = true
 begins (shape.CallExpression false) is_leaf = not is_leaf
 begins shape.NewExpression is_leaf = true
+begins (shape.YieldExpression is_delegate) is_leaf = true
 begins (shape.StaticMemberExpression false) is_leaf = true
 begins (shape.ComputedMemberExpression false) is_leaf = true
 begins h is_leaf = false

@@ -38,6 +38,7 @@ fn begins(shape: &Shape, is_leaf: bool) -> bool
         | Shape::ConditionalExpression
         | Shape::SequenceExpression
         | Shape::NewExpression
+        | Shape::YieldExpression(_)
         | Shape::StaticMemberExpression(false)
         | Shape::ComputedMemberExpression(false) => true,
         Shape::CallExpression(false) => !is_leaf,
