@@ -347,6 +347,23 @@ program_filling strict (one c) m ds = program_in strict c m ds
 program_filling strict (one_or_absent c) m ds = program_in strict c m ds
 program_filling strict s m ds = inl refl
 
+-- it is no part of a frame
+
+program_part : (strict : Bool) (c : Class) (m : Bool) (ds : List (List ℕ)) → is_part c ≡ true → filling_by (slots_of strict c (shape.Program m ds)) ≡ refused
+program_part strict a_program m ds q = absurd (cc q)
+program_part strict (a_statement d) m ds q = absurd (cc q)
+program_part strict (a_key computed) m ds q = absurd (cc q)
+program_part strict (a_private_or_key true) m ds q = refl
+program_part strict (a_private_or_key false) m ds q = refl
+program_part strict (an_inner_key true) m ds q = refl
+program_part strict (an_inner_key false) m ds q = refl
+program_part strict c m ds q = refl
+
+pub program_apart : (strict : Bool) (s : Slot) (m : Bool) (ds : List (List ℕ)) → is_part_slot s ≡ true → filling strict s (shape.Program m ds) ≡ refused
+program_apart strict (one c) m ds q = program_part strict c m ds q
+program_apart strict (one_or_absent c) m ds q = program_part strict c m ds q
+program_apart strict s m ds q = refl
+
 -- ---- functions of an object literal
 
 abbrev is_property : Shape → Bool

@@ -1,5 +1,5 @@
 -- A step at any place of a tree keeps the frames in it.
-use Rattle.std.specs.Prelude.{ℕ, zero, suc, ◌≡◌, refl, ◌⊎◌, ◌||◌, ◌&&◌, Bool, true, false, List, [], ◌∷◌, ◌++◌, Option, None, if◌then◌else◌}
+use Rattle.std.specs.Prelude.{ℕ, zero, suc, ◌≡◌, refl, ◌⊎◌, ◌||◌, ◌&&◌, Bool, true, false, List, [], ◌∷◌, ◌++◌, Contains, Option, None, if◌then◌else◌}
 use Rattle.std.proofs.Common.{ap, ◌∙◌, sym, subst, inl, inr}
 use Rattle.mini_model.specs.declared.kind.PropertyKind.{PropertyKind}
 use Rattle.mini_model.specs.declared.name.Name.{Name}
@@ -19,7 +19,7 @@ use Rattle.mini_kept.proofs.Statements.{same_both}
 use Rattle.mini_kept.proofs.Below.{all_bound, first_bound}
 use Rattle.mini_kept.specs.Standing.{is_method_slot}
 use Rattle.mini_kept.specs.Frames.{Showing, Whole, Named, Hidden, showing, in_full, part, parts, keyed, is_declaration, declaration, shown, shown_from, own, is_port, ports, outline, globals, property_below, Frame, frame_of, frames, frames_from, frames_in, FramesKept}
-use Rattle.mini_kept.specs.KeepsFrames.{is_body_slot, IsShownAlike, NoPort, NoDeclaration, function_over, KeepsFunction, KeepsFrames, KeepsPlaces, KeepsFramesBut}
+use Rattle.mini_kept.specs.KeepsFrames.{is_body_slot, IsShownAlike, NoPort, NoDeclaration, function_over, KeepsFunction, module_over, KeepsModule, KeepsHolder, KeepsFrames, KeepsPlaces, KeepsFramesBut}
 use Rattle.mini_kept.specs.ShownFrames.{KeyGiven, Shows, AllShow, Gone, none_gone, FramesShown}
 use Rattle.mini_kept.specs.KeepsBodies.{KeepsBodies}
 use Rattle.mini_kept.specs.FrameLaws.{StepKeepsFrames, ReachesKeepsFrames}
@@ -34,7 +34,7 @@ use Rattle.std.proofs.lemmas.List.Elements.{Contains-append_left, Contains-appen
 use Rattle.mini_kept.specs.Placed.{fits_place}
 use Rattle.mini_kept.proofs.Placed.{Placed, placed_below, statements_place}
 use Rattle.mini_kept.proofs.ShownFrames.{shows_same, shows_itself, all_same, all_themselves, all_more, shows_more, frames_more, over_shown, keyed_shown, kept_shown, shown_themselves, shown_on, one_shown, each_shown, given_among, given_kept}
-use Rattle.mini_kept.proofs.FramePlaces.{Are, is_part_slot, is_declared_slot, shows_right, Plain, Outlined, own_right, part_right, plain_right, numbered_outline, port_outline, slot_apart, no_method, no_keyed_method, AProgram, program_filling}
+use Rattle.mini_kept.proofs.FramePlaces.{Are, is_part_slot, is_declared_slot, shows_right, Plain, Outlined, own_right, part_right, plain_right, numbered_outline, port_outline, slot_apart, no_method, no_keyed_method, AProgram, program_filling, program_apart}
 
 -- ---- the first of some children, and the others
 
@@ -207,21 +207,51 @@ module _ (t u : Tree) (k : KeepsFunction t u) where
       let own_frame = record { number = suc k.number; property = q; outline = own (over k.earlier); globals = is_among [] } ∷ [] in
       subst (λ v. FramesKept (frames q v) (frames q u)) (sym k.before) (subst (λ v. FramesKept (frames q (over k.earlier)) (frames q v)) (sym k.after) (each_of own_frame (within k.earlier) own_frame (within k.later) (λ f c. c) within_kept))
 
+-- ---- a module with other statements
+
+module _ (t u : Tree) (k : KeepsModule t u) where
+  abbrev program : Tree → Tree
+  program = module_over k.directives k.number
+
+  module_declared : declaration t ≡ declaration u
+  module_declared = ap declaration k.before ∙ sym (ap declaration k.after)
+
+  not_there : (strict : Bool) (s : Slot) → filling strict s (shape.Program true k.directives) ≡ refused → fits strict s t ≡ true → ⊥
+  not_there strict s f e = refused_here strict s (shape.Program true k.directives) [] k.number (k.earlier ▸ none) f (sym (ap (fits strict s) k.before) ∙ e)
+
+  -- its own frame, with these imports and exports
+  abbrev own_frame : Option PropertyKind → Trees → List Frame
+  own_frame q ps = record { number = k.number; property = q; outline = node (shape.Program true k.directives) [] k.number ps; globals = is_among [] } ∷ []
+
+  abbrev with_list : Option PropertyKind → Tree → List Frame
+  with_list q list = own_frame q (ports true (children list)) ++ (frames None list ++ [])
+
+  lists_kept : (q : Option PropertyKind) → FramesKept (with_list q k.earlier) (with_list q k.later)
+  lists_kept q =
+      each_of (own_frame q (ports true (children k.earlier))) (frames None k.earlier ++ []) (own_frame q (ports true (children k.later))) (frames None k.later ++ [])
+      (λ f c. subst (λ ps. Contains (own_frame q ps) f) (sym k.ported) c)
+      (each_of (frames None k.earlier) [] (frames None k.later) [] k.framed (λ f c. c))
+
+  pub module_frames : (q : Option PropertyKind) → FramesKept (frames q t) (frames q u)
+  module_frames q = subst (λ v. FramesKept (frames q v) (frames q u)) (sym k.before) (subst (λ v. FramesKept (frames q (program k.earlier)) (frames q v)) (sym k.after) (lists_kept q))
+
 module _ (M : Gone) (R : Position → Tree → Tree → Type 0) (l : KeepsPlaces R) (framed : (p : Position) (n w : Tree) → R p n w → (strict : Bool) (s : Slot) → fits_place p s ≡ true → fits strict s n ≡ true → (a : Around) → FramesShown M (KeyGiven nothing (bodies a n)) (frames None n) (frames None w)) where
   -- ---- the node that is replaced
 
   abbrev Standing : Position → Slot → Tree → Tree → Type 0
-  Standing p s t u = ((is_body_slot p s ≡ true) ⊎ IsShownAlike s t u) ⊎ KeepsFunction t u
+  Standing p s t u = ((is_body_slot p s ≡ true) ⊎ IsShownAlike s t u) ⊎ KeepsHolder t u
 
-  part_here : (p : Position) (s : Slot) (t u : Tree) → is_part_slot s ≡ true → Standing p s t u → (a : Around) → Shows (In a t) (part t) (part u)
-  part_here p s t u q (inl (inl b)) a = absurd (slot_apart p s q b)
-  part_here p s t u q (inl (inr k)) a = k.1 a
-  part_here p s t u q (inr k) a = shows_same (In a t) (part t) (part u) (function_part t u k)
+  part_here : (p : Position) (strict : Bool) (s : Slot) (t u : Tree) → fits strict s t ≡ true → is_part_slot s ≡ true → Standing p s t u → (a : Around) → Shows (In a t) (part t) (part u)
+  part_here p strict s t u e q (inl (inl b)) a = absurd (slot_apart p s q b)
+  part_here p strict s t u e q (inl (inr k)) a = k.1 a
+  part_here p strict s t u e q (inr (inl k)) a = shows_same (In a t) (part t) (part u) (function_part t u k)
+  part_here p strict s t u e q (inr (inr k)) a = absurd (not_there t u k strict s (program_apart strict s true k.directives q) e)
 
   exported_here : (p : Position) (t u : Tree) → Standing p (one_or_absent an_exported_declaration) t u → declaration t ≡ declaration u
   exported_here p t u (inl (inl b)) = absurd (cc b)
   exported_here p t u (inl (inr k)) = absurd (cc k.0)
-  exported_here p t u (inr k) = function_declared t u k
+  exported_here p t u (inr (inl k)) = function_declared t u k
+  exported_here p t u (inr (inr k)) = module_declared t u k
 
   default_here : (t u : Tree) → NoDeclaration t u ⊎ KeepsFunction t u → declaration t ≡ declaration u
   default_here t u (inl (x, y)) = undeclared t x ∙ sym (undeclared u y)
@@ -234,12 +264,14 @@ module _ (M : Gone) (R : Position → Tree → Tree → Type 0) (l : KeepsPlaces
   is_body : (p : Position) (strict : Bool) (d : Depth) (t u : Tree) → fits strict (many (a_statement d)) t ≡ true → Standing p (many (a_statement d)) t u → is_body_slot p (many (a_statement d)) ≡ true
   is_body p strict d t u e (inl (inl b)) = b
   is_body p strict d t u e (inl (inr k)) = absurd (cc k.0)
-  is_body p strict d t u e (inr k) = absurd (no_list_here t u k strict d e)
+  is_body p strict d t u e (inr (inl k)) = absurd (no_list_here t u k strict d e)
+  is_body p strict d t u e (inr (inr k)) = absurd (not_there t u k strict (many (a_statement d)) refl e)
 
   frames_here : (p : Position) (s : Slot) (t u : Tree) → Standing p s t u → (a : Around) → FramesShown M (In a t) (frames None t) (frames None u) → (k : Option PropertyKind) → (is_method_slot s ≡ false → k ≡ None) → FramesShown M (In a t) (frames k t) (frames k u)
   frames_here p s t u (inl (inl b)) a f k z = subst (λ k. FramesShown M (In a t) (frames k t) (frames k u)) (sym (z (no_method p s b))) f
   frames_here p s t u (inl (inr b)) a f k z = subst (λ k. FramesShown M (In a t) (frames k t) (frames k u)) (sym (z (no_keyed_method s b.0))) f
-  frames_here p s t u (inr b) a f k z = kept_shown M (In a t) (frames k t) (frames k u) (function_frames t u b k)
+  frames_here p s t u (inr (inl b)) a f k z = kept_shown M (In a t) (frames k t) (frames k u) (function_frames t u b k)
+  frames_here p s t u (inr (inr b)) a f k z = kept_shown M (In a t) (frames k t) (frames k u) (module_frames t u b k)
 
   declared_here : (p : Position) (t u : Tree) → R p t u → (strict : Bool) (s : Slot) → fits_place p s ≡ true → fits strict s t ≡ true → is_declared_slot s ≡ true → declaration t ≡ declaration u
   declared_here p t u r strict (one a_default_export) v e q = default_here t u (l.exported p t u r strict e)
@@ -251,7 +283,7 @@ module _ (M : Gone) (R : Position → Tree → Tree → Type 0) (l : KeepsPlaces
 
   here_kept : (p : Position) (t u : Tree) → R p t u → Keeps M p t u
   here_kept p t u r = record {
-    of_part = λ a strict s v e q. part_here p s t u q (l.slots p t u r strict s v e) a;
+    of_part = λ a strict s v e q. part_here p strict s t u e q (l.slots p t u r strict s v e) a;
     of_declared = declared_here p t u r;
     of_port = λ a strict d v e m ts. all_same (In a t) (ports m (t ▸ ts)) (ports m (u ▸ ts)) (port_here m t u ts (l.ports p t u r strict d e m));
     of_statements = λ a strict d v e m. all_same (In a t) (ports m (children t)) (ports m (children u)) (statements_here p t u r strict d v e m);

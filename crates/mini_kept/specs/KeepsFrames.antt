@@ -95,11 +95,31 @@ pub record KeepsFunction (n w : Tree) : Type 0 where
   pub after : w ≡ function_over is_declared is_generator directives (suc number) name parameters later
   pub framed : FramesKept (frames None earlier) (frames None later)
 
+-- a module over its list of statements
+abbrev pub module_over : List (List ℕ) → ℕ → Tree → Tree
+module_over directives n list = node (shape.Program true directives) [] n (list ▸ none)
+
+-- Another list of statements in a module, of which all else stays: its imports and exports are those that it had, and each frame in the
+-- list was there
+pub record KeepsModule (n w : Tree) : Type 0 where
+  pub directives : List (List ℕ)
+  pub number : ℕ
+  pub earlier : Tree
+  pub later : Tree
+  pub before : n ≡ module_over directives number earlier
+  pub after : w ≡ module_over directives number later
+  pub ported : ports_of true (children earlier) ≡ ports_of true (children later)
+  pub framed : FramesKept (frames None earlier) (frames None later)
+
+-- either
+abbrev pub KeepsHolder : Tree → Tree → Type 0
+KeepsHolder n w = KeepsFunction n w ⊎ KeepsModule n w
+
 -- All of this but frames: where it replaces what, and that imports, exports and functions stay. Besides it may give a function another
--- body, wherever that stands
+-- body, wherever that stands, and a module other statements
 pub record KeepsPlaces (R : Position → Tree → Tree → Type 0) : Type 0 where
   pub names : KeepsNames R
-  pub slots : (p : Position) (n w : Tree) → R p n w → (strict : Bool) (s : Slot) → fits_place p s ≡ true → fits strict s n ≡ true → ((is_body_slot p s ≡ true) ⊎ IsShownAlike s n w) ⊎ KeepsFunction n w
+  pub slots : (p : Position) (n w : Tree) → R p n w → (strict : Bool) (s : Slot) → fits_place p s ≡ true → fits strict s n ≡ true → ((is_body_slot p s ≡ true) ⊎ IsShownAlike s n w) ⊎ KeepsHolder n w
   pub ports : (p : Position) (n w : Tree) → R p n w → (strict : Bool) (d : Depth) → fits strict (one (a_statement d)) n ≡ true → (is_module : Bool) → NoPort is_module n w ⊎ KeepsFunction n w
   pub listed : (p : Position) (n w : Tree) → is_statement_list p ≡ true → R p n w → (strict : Bool) (d : Depth) → fits strict (many (a_statement d)) n ≡ true → (is_module : Bool) → ports_of is_module (children n) ≡ ports_of is_module (children w)
   pub exported : (p : Position) (n w : Tree) → R p n w → (strict : Bool) → fits strict (one a_default_export) n ≡ true → NoDeclaration n w ⊎ KeepsFunction n w

@@ -26,7 +26,7 @@ use Rattle.mini_laws.proofs.Simulation.{within_refl}
 use Rattle.mini_kept.specs.AlikeBodies.{RunsAs}
 use Rattle.mini_kept.specs.Declaring.{declared}
 use Rattle.mini_kept.specs.Frames.{outline, globals, frame_of, Frame, frames, FramesKept}
-use Rattle.mini_kept.specs.KeepsFrames.{is_body_slot, IsShownAlike, NoPort, NoDeclaration, KeepsFunction}
+use Rattle.mini_kept.specs.KeepsFrames.{is_body_slot, IsShownAlike, NoPort, NoDeclaration, KeepsFunction, KeepsHolder}
 use Rattle.mini_kept.specs.KeepsLoosely.{KeepsLoosely}
 use Rattle.mini_kept.specs.KeepsNames.{Keeps, is_rewritten_place}
 use Rattle.mini_kept.specs.KeepsShapes.{AskedAlike}
@@ -50,7 +50,7 @@ use Rattle.mini_rows.proofs.ListShapes.{append_fits, both_fit}
 use Rattle.mini_rows.proofs.UnusedKept.{all_append}
 use Rattle.mini_rows.proofs.UnusedMeaning.{statements_same}
 use Rattle.mini_rows.proofs.UnusedNames.{all_avoided, all_unmentioned}
-use Rattle.mini_rows.proofs.UnusedStretches.{body_item, Stretch, row_stretch}
+use Rattle.mini_rows.proofs.UnusedStretches.{item_in, body_item, Stretch, row_stretch}
 
 -- ---- it does the same
 
@@ -123,11 +123,11 @@ module _ (ds : List (List ℕ)) (k : ℕ) (ps a b : Trees) (h : (strict : Bool) 
   in_slot strict (one_or_absent c) e = let (takes, f) = arrow_in strict c e in (takes, f)
   in_slot strict s e = absurd (refused_here strict s (shape.ArrowFunctionExpression ds) [] k (listed ps ▸ (statements a ▸ none)) refl e)
 
-pub list_fits : {W : VariableSet} (p : Tree) (a b : Trees) → Stretch W p a b → (strict : Bool) → fill strict (each body_item) a ≡ true → fill strict (each body_item) b ≡ true
-list_fits p a b t strict e =
-    let (x, y) = both_fit strict body_item t.before (append t.d t.after) (sym (ap (fill strict (each body_item)) t.read_is) ∙ e) in
-    let (z, v) = both_fit strict body_item t.d t.after y in
-    ap (fill strict (each body_item)) t.written_is ∙ append_fits strict body_item t.before (append t.w t.after) x (append_fits strict body_item t.w t.after (t.loses.fits strict z) v)
+pub list_fits : {W : VariableSet} (p : Tree) (a b : Trees) → Stretch W p a b → (o : Depth) (strict : Bool) → fill strict (each (item_in o)) a ≡ true → fill strict (each (item_in o)) b ≡ true
+list_fits p a b t o strict e =
+    let (x, y) = both_fit strict (item_in o) t.before (append t.d t.after) (sym (ap (fill strict (each (item_in o))) t.read_is) ∙ e) in
+    let (z, v) = both_fit strict (item_in o) t.d t.after y in
+    ap (fill strict (each (item_in o))) t.written_is ∙ append_fits strict (item_in o) t.before (append t.w t.after) x (append_fits strict (item_in o) t.w t.after (t.loses.fits o strict z) v)
 
 -- ---- an instance
 
@@ -245,7 +245,7 @@ shaped P f n w r = subst (λ v. P v w) (sym r.shape) (subst (P (arrow_with r.dir
 stands : (W : VariableSet) (n w : Tree) → ArrowBodyRow W n w → (strict : Bool) (s : Slot) → fits strict s n ≡ true → TakesExpression s × (fits strict s w ≡ true)
 stands W n w r strict s e =
     let t = row_stretch W (listed r.parameters) r.before r.after refl r.row in
-    let (takes, f) = in_slot r.directives r.number r.parameters r.before r.after (list_fits (listed r.parameters) r.before r.after t) strict s (sym (ap (fits strict s) r.shape) ∙ e) in
+    let (takes, f) = in_slot r.directives r.number r.parameters r.before r.after (list_fits (listed r.parameters) r.before r.after t in_body) strict s (sym (ap (fits strict s) r.shape) ∙ e) in
     (takes, ap (fits strict s) r.written ∙ f)
 
 -- whichever place it is
@@ -265,7 +265,7 @@ arrows_loose K W = record {
       pieces = at_arrow (λ p n w. is_piece (shape_of n) ≡ false) (λ q. shaped (λ n w. is_piece (shape_of n) ≡ false) (λ ds k ps a b. refl));
       keeps = at_arrow (λ p n w. (strict : Bool) (s : Slot) → fits_place p s ≡ true → fits strict s n ≡ true → KeepsLoosely p n w) (λ q n w r strict s z e. (instance W q n w r).keeps);
     };
-    slots = at_arrow (λ p n w. (strict : Bool) (s : Slot) → fits_place p s ≡ true → fits strict s n ≡ true → ((is_body_slot p s ≡ true) ⊎ IsShownAlike s n w) ⊎ KeepsFunction n w) (λ q n w r strict s z e. inl (inl (expression_slot (Expr q) s (stands W n w r strict s e).0)));
+    slots = at_arrow (λ p n w. (strict : Bool) (s : Slot) → fits_place p s ≡ true → fits strict s n ≡ true → ((is_body_slot p s ≡ true) ⊎ IsShownAlike s n w) ⊎ KeepsHolder n w) (λ q n w r strict s z e. inl (inl (expression_slot (Expr q) s (stands W n w r strict s e).0)));
     ports = at_arrow (λ p n w. (strict : Bool) (d : Depth) → fits strict (one (a_statement d)) n ≡ true → (m : Bool) → NoPort m n w ⊎ KeepsFunction n w) (λ q n w r strict d e. absurd (stands W n w r strict (one (a_statement d)) e).0);
     listed = λ p n w e c. absurd (at_arrow (λ p n w. is_statement_list p ≡ true → ⊥) (λ q n w r e. cc e) p n w c e);
     exported = at_arrow (λ p n w. (strict : Bool) → fits strict (one a_default_export) n ≡ true → NoDeclaration n w ⊎ KeepsFunction n w) (λ q n w r strict e. inl (shaped NoDeclaration (λ ds k ps a b. (refl, refl)) n w r));

@@ -42,7 +42,7 @@ use Rattle.mini_laws.proofs.Drops.{all_dropped}
 use Rattle.mini_kept.specs.Carried.{numbers}
 use Rattle.mini_kept.specs.Declaring.{declared}
 use Rattle.mini_kept.specs.Frames.{is_declaration, is_port, frames}
-use Rattle.mini_kept.specs.KeepsFrames.{is_in_body, is_body_slot, IsShownAlike, NoPort, NoDeclaration, KeepsFunction}
+use Rattle.mini_kept.specs.KeepsFrames.{is_in_body, is_body_slot, IsShownAlike, NoPort, NoDeclaration, KeepsFunction, KeepsHolder}
 use Rattle.mini_kept.specs.KeepsLoosely.{KeepsLoosely}
 use Rattle.mini_kept.specs.KeepsNames.{Keeps, unplaced, is_rewritten_place, count_of}
 use Rattle.mini_kept.specs.KeepsShapes.{AskedAlike}
@@ -323,7 +323,7 @@ catches_lawful K = record {
       keeps = at_handler (λ p n w. (strict : Bool) (s : Slot) → fits_place p s ≡ true → fits strict s n ≡ true → KeepsLoosely p n w) (λ n w r strict s z e.
           along (KeepsLoosely Elsewhere) n w r (in_order Elsewhere _ _ (handler_keeps (resolved r.spelling r.symbol) r.body (unmentioned (resolved r.spelling r.symbol) r.symbol refl r.body r.unmentioned))));
     };
-    slots = at_handler (λ p n w. (strict : Bool) (s : Slot) → fits_place p s ≡ true → fits strict s n ≡ true → ((is_body_slot p s ≡ true) ⊎ IsShownAlike s n w) ⊎ KeepsFunction n w) (λ n w r strict s z e. inl (inl (stands n w r strict s e).0));
+    slots = at_handler (λ p n w. (strict : Bool) (s : Slot) → fits_place p s ≡ true → fits strict s n ≡ true → ((is_body_slot p s ≡ true) ⊎ IsShownAlike s n w) ⊎ KeepsHolder n w) (λ n w r strict s z e. inl (inl (stands n w r strict s e).0));
     ports = at_handler (λ p n w. (strict : Bool) (d : Depth) → fits strict (one (a_statement d)) n ≡ true → (m : Bool) → NoPort m n w ⊎ KeepsFunction n w) (λ n w r strict d e m. inl (ap (λ t. is_port m (shape_of t)) r.shape, ap (λ t. is_port m (shape_of t)) r.written));
     listed = λ p n w e c. absurd (at_handler (λ p n w. is_statement_list p ≡ true → ⊥) (λ n w r e. cc e) p n w c e);
     exported = at_handler (λ p n w. (strict : Bool) → fits strict (one a_default_export) n ≡ true → NoDeclaration n w ⊎ KeepsFunction n w) (λ n w r strict e. inl (ap (λ t. is_declaration (shape_of t)) r.shape, ap (λ t. is_declaration (shape_of t)) r.written));

@@ -356,7 +356,7 @@ module _ (K : VariableDeclarationKind) (x : Name) (k : ℕ) (e : x.symbol ≡ sy
     left = refl;
     others_first = tt;
     others_last = tt;
-    clash = no_more_both (as_body true (declared_one K x init)) (as_body true empty_statement) [] [] (clash_less K true x none none init) (no_more_same [] [] refl);
+    clash = λ o. no_more_both (as_body o (declared_one K x init)) (as_body o empty_statement) [] [] (clash_less K o x none none init) (no_more_same [] [] refl);
   }
 
 -- ---- or it goes with an initializer that nothing misses
@@ -447,7 +447,7 @@ module _ (K : VariableDeclarationKind) (x : Name) (k : ℕ) (e : x.symbol ≡ sy
     left = append-nil (body_names (declared_left K others)) ∙ body_names_left K others ∙ all_both declared.Bound first last;
     others_first = all_other x declared.Bound first f;
     others_last = all_other x declared.Bound last g;
-    clash = no_more_both (as_body true (declared_among K x first init last)) (as_body true (declared_left K others)) [] [] (clash_less K true x first last init) (no_more_same [] [] refl);
+    clash = λ o. no_more_both (as_body o (declared_among K x first init last)) (as_body o (declared_left K others)) [] [] (clash_less K o x first last init) (no_more_same [] [] refl);
   }
 
 -- ---- the statement
@@ -580,6 +580,10 @@ module _ (K : VariableDeclarationKind) (x : Name) (k : ℕ) (e : x.symbol ≡ sy
     clash = no_more_both (as_body false (declared_among K x first init none)) (as_body false (declared_left K first)) (as_body false head ++ []) (as_body false put ++ []) (first_less false) (no_more_same (as_body false head ++ []) (as_body false put ++ []) (ap (λ ds. unplaced (ds ++ [])) n.declares));
   }
 
+  same_there : (o : Bool) → as_body o put ≡ as_body o head
+  same_there true = n.declares_there
+  same_there false = n.declares
+
   there_declares : DeclaresThere x earlier later
   unfolding body_names names_of
   there_declares =
@@ -592,7 +596,7 @@ module _ (K : VariableDeclarationKind) (x : Name) (k : ℕ) (e : x.symbol ≡ sy
         left = (λ i. body_names_left K first i ++ ((n.left ∙ n.hoisted) i ++ [])) ∙ ap (λ ys. bound ++ ys) (append-nil hoists);
         others_first = all_other x declared.Bound first f;
         others_last = subst (Other x) n.hoisted (declared_other x declared.Hoisted put g);
-        clash = no_more_both (as_body true (declared_among K x first init none)) (as_body true (declared_left K first)) (as_body true head ++ []) (as_body true put ++ []) (first_less true) (no_more_same (as_body true head ++ []) (as_body true put ++ []) (ap (λ ds. unplaced (ds ++ [])) n.declares_there));
+        clash = λ o. no_more_both (as_body o (declared_among K x first init none)) (as_body o (declared_left K first)) (as_body o head ++ []) (as_body o put ++ []) (first_less o) (no_more_same (as_body o head ++ []) (as_body o put ++ []) (ap (λ ds. unplaced (ds ++ [])) (same_there o)));
       }
 
 -- the two as paths

@@ -77,14 +77,14 @@ unfolding body_names
 body_append none us = refl
 body_append (t ▸ ts) us = ap (λ ys. body_names t ++ ys) (body_append ts us) ∙ sym (append_assoc (body_names t) (all_body_names ts) (all_body_names us))
 
-declared_append : (ts us : Trees) → all_as_body true (append ts us) ≡ all_as_body true ts ++ all_as_body true us
-declared_append none us = refl
-declared_append (t ▸ ts) us = ap (λ ds. as_body true t ++ ds) (declared_append ts us) ∙ sym (append_assoc (as_body true t) (all_as_body true ts) (all_as_body true us))
+pub declared_append : (b : Bool) (ts us : Trees) → all_as_body b (append ts us) ≡ all_as_body b ts ++ all_as_body b us
+declared_append b none us = refl
+declared_append b (t ▸ ts) us = ap (λ ds. as_body b t ++ ds) (declared_append b ts us) ∙ sym (append_assoc (as_body b t) (all_as_body b ts) (all_as_body b us))
 
 -- what clashes no more, wherever it stands
-clash_there : (p : Path) (t u : Tree) → NoMoreClash (as_body true u) (as_body true t) → NoMoreClash (body_declarations true p u) (body_declarations true p t)
-clash_there p t u less s =
-    let is = λ (b : Bool) (v : Tree). sym (counted_unplaced b s (body_declarations true p v)) ∙ ap (counted b s) (body_is true p v) in
+pub clash_there : (o : Bool) (p : Path) (t u : Tree) → NoMoreClash (as_body o u) (as_body o t) → NoMoreClash (body_declarations o p u) (body_declarations o p t)
+clash_there o p t u less s =
+    let is = λ (b : Bool) (v : Tree). sym (counted_unplaced b s (body_declarations o p v)) ∙ ap (counted b s) (body_is o p v) in
     let lexical_t = is true t in
     let lexical_u = is true u in
     let fewer = less s in
@@ -109,7 +109,7 @@ two_lists : (fs gs : List Frame) → FramesKept fs gs → FramesKept ((fs ++ [])
 two_lists fs gs k = subst (λ hs. FramesKept hs ((gs ++ []) ++ [])) (sym (two_nils fs)) (subst (FramesKept fs) (sym (two_nils gs)) k)
 
 -- the symbol of the name itself
-own_symbol : (k : ℕ) → times (symbol k) (symbol k ∷ []) ≡ 1
+pub own_symbol : (k : ℕ) → times (symbol k) (symbol k ∷ []) ≡ 1
 own_symbol k = ap (λ b. (if b then 1 else 0) + 0) (eq-eqb k k refl)
 
 -- what a function declares around it doesn't depend on its body
@@ -131,7 +131,7 @@ module _ (params : Tree) (x : Name) (before after d w : Trees) (l : LeavesThere 
 
   -- ---- their scope
 
-  abbrev bind : Name → Binding
+  abbrev pub bind : Name → Binding
   bind y = record { name = y; hoists = true }
 
   abbrev scope_of : List Name → Environment
@@ -140,7 +140,7 @@ module _ (params : Tree) (x : Name) (before after d w : Trees) (l : LeavesThere 
   abbrev own_scope : Environment
   own_scope = body_scope [] (bound_names params)
 
-  abbrev scope : Trees → Environment
+  abbrev pub scope : Trees → Environment
   scope ts = body_scope (merged params) (body_names (statements ts))
 
   statement_names : (ts : Trees) (ys zs : List Name) → all_body_names ts ≡ ys ++ zs → body_names (statements (append before (append ts after))) ≡ (all_body_names before ++ ys) ++ (zs ++ all_body_names after)
@@ -178,7 +178,7 @@ module _ (params : Tree) (x : Name) (before after d w : Trees) (l : LeavesThere 
   without_it : scope B ≡ scope_of amid_there.first ++ scope_of amid_there.last
   without_it = ap (body_scope (merged params)) names_without ∙ ap scope_of amid_there.gone ∙ map-append bind amid_there.first amid_there.last
 
-  one_less : (y : Option SymbolId) → times y (symbols_in (scope A)) ≡ times y (x.symbol ∷ []) + times y (symbols_in (scope B))
+  pub one_less : (y : Option SymbolId) → times y (symbols_in (scope A)) ≡ times y (x.symbol ∷ []) + times y (symbols_in (scope B))
   one_less y =
       let f = scope_of amid_there.first in
       let g = scope_of amid_there.last in
@@ -194,7 +194,7 @@ module _ (params : Tree) (x : Name) (before after d w : Trees) (l : LeavesThere 
         times_both y (x.symbol ∷ []) (symbols_in g),
       )
 
-  statements_scoped : Unmentioned (bind x) (listed B) → (outer : Environment) → Scoped Read ((outer ++ scope A) ++ []) (listed A) → Scoped Read ((outer ++ scope B) ++ []) (listed B)
+  pub statements_scoped : Unmentioned (bind x) (listed B) → (outer : Environment) → Scoped Read ((outer ++ scope A) ++ []) (listed A) → Scoped Read ((outer ++ scope B) ++ []) (listed B)
   statements_scoped u outer s =
       let f = scope_of amid_there.first in
       let g = scope_of amid_there.last in
@@ -203,7 +203,7 @@ module _ (params : Tree) (x : Name) (before after d w : Trees) (l : LeavesThere 
       let left = dropped Read (outer ++ f) g (bind x) (listed B) moved u in
       subst (λ r. Scoped Read r (listed B)) (append_assoc outer f g ∙ ap (λ bs. outer ++ bs) (sym without_it) ∙ sym (append-nil (outer ++ scope B))) left
 
-  hoists_too : AllUnmentioned (record { name = x; hoists = false }) B → Unmentioned (bind x) (listed B)
+  pub hoists_too : AllUnmentioned (record { name = x; hoists = false }) B → Unmentioned (bind x) (listed B)
   unfolding Unmentioned
   hoists_too u = (tt, all_unmentioned_too (record { name = x; hoists = false }) (bind x) refl B u)
 
@@ -220,17 +220,17 @@ module _ (params : Tree) (x : Name) (before after d w : Trees) (l : LeavesThere 
   declares_less =
       let f = all_as_body true before in
       let g = all_as_body true after in
-      let both = λ (ts : Trees). append-nil (all_as_body true (append before (append ts after))) ∙ declared_append before (append ts after) ∙ ap (λ ds. f ++ ds) (declared_append ts after) in
+      let both = λ (ts : Trees). append-nil (all_as_body true (append before (append ts after))) ∙ declared_append true before (append ts after) ∙ ap (λ ds. f ++ ds) (declared_append true ts after) in
       subst (λ ds. NoMoreClash (as_body true (statements B)) ds) (sym (both d))
       (subst (λ ds. NoMoreClash ds (f ++ (all_as_body true d ++ g))) (sym (both w))
       (no_more_both f f (all_as_body true d ++ g) (all_as_body true w ++ g) (no_more_same f f refl)
-      (no_more_both (all_as_body true d) (all_as_body true w) g g m.clash (no_more_same g g refl))))
+      (no_more_both (all_as_body true d) (all_as_body true w) g g (m.clash true) (no_more_same g g refl))))
 
   -- they clash no more with what is declared before them
   clash_less : (own : List Declaration) (p : Path) → clashing [] (own ++ body_declarations true p (statements A)) ≡ [] → clashing [] (own ++ body_declarations true p (statements B)) ≡ []
   clash_less own p =
       still_free (own ++ body_declarations true p (statements A)) (own ++ body_declarations true p (statements B))
-      (no_more_both own own (body_declarations true p (statements A)) (body_declarations true p (statements B)) (no_more_same own own refl) (clash_there p (statements A) (statements B) declares_less))
+      (no_more_both own own (body_declarations true p (statements A)) (body_declarations true p (statements B)) (no_more_same own own refl) (clash_there true p (statements A) (statements B) declares_less))
 
   statements_once : (p : Path) → early_names p (statements A) ++ [] ≡ [] → early_names p (statements B) ++ [] ≡ []
   unfolding early_names scope_declarations

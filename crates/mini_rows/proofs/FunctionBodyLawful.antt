@@ -42,6 +42,7 @@ use Rattle.mini_rows.specs.Unused.{resolved, names, any_names, statements, funct
 use Rattle.mini_rows.proofs.ArrangedBodies.{quiet}
 use Rattle.mini_rows.proofs.ArrowBodyLawful.{Instance, list_fits, none_mention, statements_run, OfArrow, arrows_loose}
 use Rattle.mini_rows.proofs.FunctionBodyKept.{function_less, function_keeps, function_fixed, statements_frames, function_frames, function_bodies, function_declares}
+use Rattle.mini_rows.proofs.ModuleLawful.{OfModule, modules_loose}
 use Rattle.mini_rows.proofs.UnusedLawful.{OfBlock, blocks_loose}
 use Rattle.mini_rows.proofs.UnusedNames.{or_parts}
 use Rattle.mini_rows.proofs.UnusedStretches.{body_item, Stretch, row_stretch}
@@ -237,7 +238,7 @@ module _ (W : VariableSet) (n w : Tree) (r : FunctionBodyRow W n w) where
   row_fits : (strict : Bool) (s : Slot) → fits strict s n ≡ true → fits strict s w ≡ true
   row_fits strict s e =
       ap (fits strict s) r.written
-      ∙ function_fits r.is_declared r.is_generator r.directives r.number r.name r.parameters r.before r.after (list_fits (listed (r.name ▸ r.parameters)) r.before r.after there) strict s (sym (ap (fits strict s) r.shape) ∙ e)
+      ∙ function_fits r.is_declared r.is_generator r.directives r.number r.name r.parameters r.before r.after (list_fits (listed (r.name ▸ r.parameters)) r.before r.after there in_body) strict s (sym (ap (fits strict s) r.shape) ∙ e)
 
   frames_there : FramesKept (frames None (statements r.before)) (frames None (statements r.after))
   frames_there =
@@ -309,7 +310,7 @@ functions_loose K W = record {
       pieces = λ p n w c. ap (λ t. is_piece (shape_of t)) c.1.shape;
       keeps = λ p n w c strict s f e. (instance W n w c.1 p).keeps;
     };
-    slots = λ p n w c strict s f e. inr (keeps_function W n w c.1 strict s e);
+    slots = λ p n w c strict s f e. inr (inl (keeps_function W n w c.1 strict s e));
     ports = λ p n w c strict d e m. inr (keeps_function W n w c.1 strict (one (a_statement d)) e);
     listed = λ p n w e c. absurd (no_list p c.0 e);
     exported = λ p n w c strict e. inr (keeps_function W n w c.1 strict (one a_default_export) e);
@@ -322,22 +323,26 @@ functions_loose K W = record {
 
 -- ---- all of them
 
+abbrev OfBody : VariableSet → Position → Tree → Tree → Type 0
+OfBody W p n w = OfFunction W p n w ⊎ OfModule W p n w
+
 abbrev OfUnused : VariableSet → Position → Tree → Tree → Type 0
-OfUnused W p n w = OfBlock p n w ⊎ (OfArrow W p n w ⊎ OfFunction W p n w)
+OfUnused W p n w = OfBlock p n w ⊎ (OfArrow W p n w ⊎ OfBody W p n w)
 
 either_holder : (W : VariableSet) (p : Position) (n w : Tree) → UnusedContracts W p n w → OfUnused W p n w
 either_holder W p n w c = by p c.row
   where
     by : (p : Position) → UnusedRow W p n w → OfUnused W p n w
     by (Stmt q) (inl r) = inl r
-    by (Stmt q) (inr r) = inr (inr (refl, r))
+    by (Stmt q) (inr r) = inr (inr (inl (refl, r)))
     by (Expr s) (inl r) = inr (inl r)
-    by (Expr s) (inr r) = inr (inr (refl, r))
-    by Method r = inr (inr (refl, r))
-    by Elsewhere r = inr (inr (refl, r))
+    by (Expr s) (inr r) = inr (inr (inl (refl, r)))
+    by Method r = inr (inr (inl (refl, r)))
+    by Elsewhere (inl r) = inr (inr (inl (refl, r)))
+    by Elsewhere (inr r) = inr (inr (inr r))
     by p r = absurd r
 
 pub unused_loose : UnusedAreLawful
 unused_loose K W =
     loose_narrowed (UnusedContracts W) (OfUnused W) K W (either_holder W)
-    (loose_join OfBlock (λ p n w. OfArrow W p n w ⊎ OfFunction W p n w) K W (loose_wider OfBlock K nothing W (nothing_part W) (blocks_loose K)) (loose_join (OfArrow W) (OfFunction W) K W (arrows_loose K W) (functions_loose K W)))
+    (loose_join OfBlock (λ p n w. OfArrow W p n w ⊎ OfBody W p n w) K W (loose_wider OfBlock K nothing W (nothing_part W) (blocks_loose K)) (loose_join (OfArrow W) (OfBody W) K W (arrows_loose K W) (loose_join (OfFunction W) (OfModule W) K W (functions_loose K W) (modules_loose K W))))

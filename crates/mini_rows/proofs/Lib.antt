@@ -143,6 +143,8 @@ pub mod UnusedWeights
 pub mod UnusedStretches
 pub mod FunctionBodyKept
 pub mod ArrowBodyLawful
+pub mod ModuleKept
+pub mod ModuleLawful
 pub mod FunctionBodyLawful
 pub mod DeMorganMeaning
 pub mod DeMorganLawful

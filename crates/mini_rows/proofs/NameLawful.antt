@@ -42,7 +42,7 @@ use Rattle.mini_kept.specs.Without.{BodiesWithout}
 use Rattle.mini_kept.specs.Carried.{numbers}
 use Rattle.mini_kept.specs.Declaring.{declared}
 use Rattle.mini_kept.specs.Frames.{showing, shown_from, is_declaration, Frame, frames, frames_from, property_below}
-use Rattle.mini_kept.specs.KeepsFrames.{is_body_slot, IsShownAlike, NoPort, NoDeclaration, KeepsFunction}
+use Rattle.mini_kept.specs.KeepsFrames.{is_body_slot, IsShownAlike, NoPort, NoDeclaration, KeepsFunction, KeepsHolder}
 use Rattle.mini_kept.specs.KeepsLoosely.{KeepsLoosely}
 use Rattle.mini_kept.specs.KeepsNames.{Keeps, unplaced, is_rewritten_place, count_of}
 use Rattle.mini_kept.specs.KeepsShapes.{AskedAlike}
@@ -387,7 +387,7 @@ names_lawful o = record {
       keeps = at_expression o (λ p n w. (strict : Bool) (s : Slot) → fits_place p s ≡ true → fits strict s n ≡ true → KeepsLoosely p n w) (λ q n w r strict s z e.
           along o (KeepsLoosely (Expr q)) n w r (in_order (Expr q) _ _ (name_keeps q (resolved r.spelling r.symbol) r.what r.number (all_unmentioned (resolved r.spelling r.symbol) r.symbol refl (inside_of r.what) r.unmentioned))));
     };
-    slots = at_expression o (λ p n w. (strict : Bool) (s : Slot) → fits_place p s ≡ true → fits strict s n ≡ true → ((is_body_slot p s ≡ true) ⊎ IsShownAlike s n w) ⊎ KeepsFunction n w) (λ q n w r strict s z e. inl (inl (expression_slot (Expr q) s (stands o n w r strict s e).0)));
+    slots = at_expression o (λ p n w. (strict : Bool) (s : Slot) → fits_place p s ≡ true → fits strict s n ≡ true → ((is_body_slot p s ≡ true) ⊎ IsShownAlike s n w) ⊎ KeepsHolder n w) (λ q n w r strict s z e. inl (inl (expression_slot (Expr q) s (stands o n w r strict s e).0)));
     ports = at_expression o (λ p n w. (strict : Bool) (d : Depth) → fits strict (one (a_statement d)) n ≡ true → (m : Bool) → NoPort m n w ⊎ KeepsFunction n w) (λ q n w r strict d e. absurd (stands o n w r strict (one (a_statement d)) e).0);
     listed = λ p n w e c. absurd (at_expression o (λ p n w. is_statement_list p ≡ true → ⊥) (λ q n w r e. cc e) p n w c e);
     exported = at_expression o (λ p n w. (strict : Bool) → fits strict (one a_default_export) n ≡ true → NoDeclaration n w ⊎ KeepsFunction n w) (λ q n w r strict e. inl (instance o NoDeclaration undeclared n w r));

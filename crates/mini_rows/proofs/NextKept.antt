@@ -303,7 +303,7 @@ module _ (K : VariableDeclarationKind) (x : Name) (k : ℕ) (e : x.symbol ≡ sy
     left = append-nil (body_names (declared_left K left)) ∙ body_names_left K left ∙ bound_left;
     others_first = all_other x declared.Bound first f;
     others_last = others;
-    clash = clash true;
+    clash = clash;
   }
 
 -- ---- along a path

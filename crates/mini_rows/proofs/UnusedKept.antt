@@ -78,7 +78,7 @@ pub record NamesThere (x : Name) (d w : Trees) : Type 0 where
   pub hoists : all_names declared.Hoisted w ≡ all_names declared.Hoisted d
   pub clash : NoMoreClash (all_as_body false w) (all_as_body false d)
 
--- and in a function's body
+-- and in the body of a function or a module
 pub record DeclaresThere (x : Name) (d w : Trees) : Type 0 where
   pub first : List Name
   pub last : List Name
@@ -86,7 +86,7 @@ pub record DeclaresThere (x : Name) (d w : Trees) : Type 0 where
   pub left : all_body_names w ≡ first ++ last
   pub others_first : Other x first
   pub others_last : Other x last
-  pub clash : NoMoreClash (all_as_body true w) (all_as_body true d)
+  pub clash : (in_function : Bool) → NoMoreClash (all_as_body in_function w) (all_as_body in_function d)
 
 -- ---- the list
 

@@ -30,7 +30,7 @@ use Rattle.mini_laws.specs.Bodies.{Around, bodies, arrow_kind}
 use Rattle.mini_kept.specs.AlikeBodies.{BodiesKept}
 use Rattle.mini_kept.specs.Declaring.{declared}
 use Rattle.mini_kept.specs.Frames.{frames, FramesKept}
-use Rattle.mini_kept.specs.KeepsFrames.{is_in_body, is_body_slot, IsShownAlike, NoPort, NoDeclaration, KeepsFunction}
+use Rattle.mini_kept.specs.KeepsFrames.{is_in_body, is_body_slot, IsShownAlike, NoPort, NoDeclaration, KeepsFunction, KeepsHolder}
 use Rattle.mini_kept.specs.KeepsLoosely.{KeepsLoosely}
 use Rattle.mini_kept.specs.KeepsNames.{is_rewritten_place}
 use Rattle.mini_kept.specs.KeepsShapes.{AskedAlike}
@@ -374,7 +374,7 @@ blocks_loose K = record {
       pieces = at_statement (λ p n w. is_piece (shape_of n) ≡ false) (λ q n w r. ap (λ t. is_piece (shape_of t)) (row_blocks q n w r).before);
       keeps = at_statement (λ p n w. (strict : Bool) (s : Slot) → fits_place p s ≡ true → fits strict s n ≡ true → KeepsLoosely p n w) (λ q n w r strict s o e. (row_dropped q n w r).1.keeps);
     };
-    slots = at_statement (λ p n w. (strict : Bool) (s : Slot) → fits_place p s ≡ true → fits strict s n ≡ true → ((is_body_slot p s ≡ true) ⊎ IsShownAlike s n w) ⊎ KeepsFunction n w) (λ q n w r strict s o e. inl (inl (in_place q n w r strict s e).1));
+    slots = at_statement (λ p n w. (strict : Bool) (s : Slot) → fits_place p s ≡ true → fits strict s n ≡ true → ((is_body_slot p s ≡ true) ⊎ IsShownAlike s n w) ⊎ KeepsHolder n w) (λ q n w r strict s o e. inl (inl (in_place q n w r strict s e).1));
     ports = at_statement (λ p n w. (strict : Bool) (d : Depth) → fits strict (one (a_statement d)) n ≡ true → (m : Bool) → NoPort m n w ⊎ KeepsFunction n w) (λ q n w r strict d e m. inl (shaped n w (NoPort m) (λ first_list second_list. (refl, refl)) (row_blocks q n w r)));
     listed = λ p n w e c. absurd (at_statement (λ p n w. is_statement_list p ≡ true → ⊥) (λ q n w r e. cc e) p n w c e);
     exported = at_statement (λ p n w. (strict : Bool) → fits strict (one a_default_export) n ≡ true → NoDeclaration n w ⊎ KeepsFunction n w) (λ q n w r strict e. inl (shaped n w NoDeclaration (λ first_list second_list. (refl, refl)) (row_blocks q n w r)));

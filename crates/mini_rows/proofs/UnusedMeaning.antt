@@ -9,11 +9,11 @@ use Rattle.mini_model.specs.declared.name.Name.{Name}
 use Rattle.mini_model.specs.declared.name.SymbolId.{SymbolId}
 use Rattle.mini_model.specs.declared.operator.UnaryOperator.TheVariants.{LogicalNot}
 use Rattle.mini_model.specs.declared.shape.Shape.TheVariants as shape
-use Rattle.mini_model.specs.Tree.{Tree, Trees, node, none, ◌▸◌, absent, listed, shape_of, identifier, empty_statement, expression_statement}
+use Rattle.mini_model.specs.Tree.{Tree, Trees, node, none, ◌▸◌, absent, listed, shape_of, identifier, program, empty_statement, expression_statement}
 use Rattle.mini_model.specs.Paths.{append}
 use Rattle.mini_laws.specs.Value.{Value, Undefined, Variable, Declared, VariableSet, Slot, Holds, Missing, Uninitialised, choose, variable_eq, is_in, nothing}
 use Rattle.mini_laws.specs.State.{State, Completion, ok, stop, halt, out, either, Writable, Environment, with_vars}
-use Rattle.mini_laws.specs.Demand.{Val, Unused, Tail, FunctionTail, As, Stat, Declares, Binds}
+use Rattle.mini_laws.specs.Demand.{Val, Unused, Tail, FunctionTail, Demand, As, Stat, Declares, Binds}
 use Rattle.mini_laws.specs.Command.{set_var, run, note, act, at_variable, write_slot}
 use Rattle.mini_laws.specs.State.{FreshOf}
 use Rattle.mini_laws.specs.Naming.{summary, summaries, facts_all, lets_all, functions_all, function_facts, texts_all, naming, is_lexical}
@@ -399,6 +399,15 @@ module _ (e : Environment) (spelling : List ℕ) (k : ℕ) (z : Unseen (alone (D
       let same = list_same e spelling k z before after d w aa one (Some FunctionTail) in
       congruent_same e D z.shared (inside shape.FunctionBody [] 0 none here none) (listed (append before (append d after))) (listed (append before (append w after))) (tt, tt, tt, tt) (tt, all_join D before (append w after) ab (all_join D w after aw aa)) list_read nothing (Stat None) (no_off _)
       (weaker e D D nothing _ (within_refl D) (no_within _) (Stat (Some FunctionTail)) (listed (append before (append d after))) (listed (append before (append w after))) same)
+
+  -- and so does a module, whatever is asked of it
+  pub module_same : AllAvoid (alone (Declared k)) before → AllAvoid (alone (Declared k)) w → AllAvoid (alone (Declared k)) after → Same e (alone (Declared k)) nothing (Stat None) (listed d) (listed w)
+      → (directives : List (List ℕ)) (q : Demand) → Same e (alone (Declared k)) nothing q (program true directives (append before (append d after))) (program true directives (append before (append w after)))
+  module_same ab aw aa one directives q =
+      let D = alone (Declared k) in
+      let same = list_same e spelling k z before after d w aa one None in
+      congruent_same e D z.shared (inside (shape.Program true directives) [] 0 none here none) (listed (append before (append d after))) (listed (append before (append w after))) (tt, tt, tt, tt) (tt, all_join D before (append w after) ab (all_join D w after aw aa)) list_read nothing q (no_off _)
+      (weaker e D D nothing _ (within_refl D) (no_within _) (Stat None) (listed (append before (append d after))) (listed (append before (append w after))) same)
 
 -- ---- the rows
 

@@ -6,13 +6,14 @@ use Rattle.std.proofs.Common.{ap, ◌∙◌, sym, inl, inr, true≢false}
 use Rattle.mini_model.specs.declared.kind.VariableDeclarationKind.{VariableDeclarationKind}
 use Rattle.mini_model.specs.Tree.{Tree, Trees, node, none, ◌▸◌, listed, shape_of, children, child_or_absent, empty_statement, expression_statement}
 use Rattle.mini_model.specs.Paths.{append}
-use Rattle.mini_accept.specs.WellShaped.{in_body, nested, a_statement, Slot, one, each, fits, fill}
+use Rattle.mini_accept.specs.WellShaped.{Depth, in_body, nested, a_statement, Slot, one, each, fits, fill}
 use Rattle.mini_laws.specs.Value.{Declared, VariableSet, nothing}
 use Rattle.mini_laws.specs.State.{Environment}
 use Rattle.mini_laws.specs.Demand.{Stat}
 use Rattle.mini_laws.specs.Same.{Same}
 use Rattle.mini_laws.specs.Substitution.{alone}
 use Rattle.mini_laws.specs.Congruence.{AllAvoid}
+use Rattle.mini_kept.specs.Frames.{ports}
 use Rattle.mini_kept.specs.Without.{Permits}
 use Rattle.mini_node.specs.Kinds.{is_listed_shape}
 use Rattle.mini_rows.specs.Lists.{block, declares_nothing, declaration}
@@ -29,9 +30,12 @@ use Rattle.mini_rows.proofs.UnusedLawful.{item, value_fits, left_fits, single_fi
 use Rattle.mini_rows.proofs.UnusedMeaning.{ReadThere, read_alone, value_same, left_same, single_same, one_read, idle_read, left_avoids, single_read, head_read, head_unnamed, first_avoids, may_write, movable}
 use Rattle.mini_rows.proofs.UnusedNames.{or_parts, avoided, all_avoided}
 
--- a statement of a function's body
+-- a statement of a block, of a function's body, or of a module
+abbrev pub item_in : Depth → Slot
+item_in o = one (a_statement o)
+
 abbrev pub body_item : Slot
-body_item = one (a_statement in_body)
+body_item = item_in in_body
 
 -- ---- what is known of some statements that lose a name, and of those that are written for them
 
@@ -41,7 +45,9 @@ pub record Loses (W : VariableSet) (spelling : List ℕ) (symbol : ℕ) (d w : T
   pub read : ReadThere symbol d w
   pub same : (e : Environment) → Permits W (alone (Declared symbol)) e → Same e (alone (Declared symbol)) nothing (Stat None) (listed d) (listed w)
   pub avoids : AllAvoid (alone (Declared symbol)) w
-  pub fits : (strict : Bool) → fill strict (each body_item) d ≡ true → fill strict (each body_item) w ≡ true
+  pub fits : (o : Depth) (strict : Bool) → fill strict (each (item_in o)) d ≡ true → fill strict (each (item_in o)) w ≡ true
+  -- none of them is an import or an export
+  pub ported : (rest : Trees) → ports true (append d rest) ≡ ports true (append w rest)
 
 -- of a list, behind what its first child mentions
 pub record Stretch (W : VariableSet) (p : Tree) (earlier_list later_list : Trees) : Type 0 where
@@ -97,36 +103,40 @@ module _ (W : VariableSet) (p : Tree) (earlier_list later_list : Trees) (listed_
         written_is = ap behind (b ∙ ap (λ us. append us (append w after)) t.front);
       }
 
--- ---- what stands in a block may stand in a function's body
+-- ---- what stands in a block may stand in a function's body and in a module
 
-declaration_in_body : (strict : Bool) (k : VariableDeclarationKind) (ds : Trees) → fits strict body_item (declaration k ds) ≡ fits strict item (declaration k ds)
-declaration_in_body strict k ds = declaration_anywhere strict in_body k ds ∙ sym (declaration_anywhere strict nested k ds)
+declaration_in : (o : Depth) (strict : Bool) (k : VariableDeclarationKind) (ds : Trees) → fits strict (item_in o) (declaration k ds) ≡ fits strict item (declaration k ds)
+declaration_in o strict k ds = declaration_anywhere strict o k ds ∙ sym (declaration_anywhere strict nested k ds)
 
-empty_in_body : (strict : Bool) → fits strict body_item empty_statement ≡ fits strict item empty_statement
-empty_in_body true = refl
-empty_in_body false = refl
+expression_in : (o : Depth) (strict : Bool) (t : Tree) → fits strict (item_in o) (expression_statement t) ≡ fits strict item (expression_statement t)
+expression_in o strict t = refl
 
-expression_in_body : (strict : Bool) (t : Tree) → fits strict body_item (expression_statement t) ≡ fits strict item (expression_statement t)
-expression_in_body true t = refl
-expression_in_body false t = refl
+left_in : (o : Depth) (strict : Bool) (k : VariableDeclarationKind) (ds : Trees) → fits strict (item_in o) (declared_left k ds) ≡ fits strict item (declared_left k ds)
+left_in o strict k none = refl
+left_in o strict k (t ▸ ds) = declaration_in o strict k (t ▸ ds)
 
-left_in_body : (strict : Bool) (k : VariableDeclarationKind) (ds : Trees) → fits strict body_item (declared_left k ds) ≡ fits strict item (declared_left k ds)
-left_in_body strict k none = empty_in_body strict
-left_in_body strict k (t ▸ ds) = declaration_in_body strict k (t ▸ ds)
+led_in : (l : Lead) → Stands AsWholeItem l true → (o : Depth) (strict : Bool) (ts : Trees) → fits strict (item_in o) (node (shape_by (head_of l)) [] 0 ts) ≡ fits strict item (node (shape_by (head_of l)) [] 0 ts)
+led_in Doing s o strict ts = refl
+led_in Giving s o strict ts = refl
+led_in Raising s o strict ts = refl
+led_in Testing s o strict ts = refl
+led_in l s o strict ts = absurd s
 
-led_in_body : (l : Lead) → Stands AsWholeItem l true → (strict : Bool) (ts : Trees) → fits strict body_item (node (shape_by (head_of l)) [] 0 ts) ≡ fits strict item (node (shape_by (head_of l)) [] 0 ts)
-led_in_body Doing s true ts = refl
-led_in_body Doing s false ts = refl
-led_in_body Giving s true ts = refl
-led_in_body Giving s false ts = refl
-led_in_body Raising s true ts = refl
-led_in_body Raising s false ts = refl
-led_in_body Testing s true ts = refl
-led_in_body Testing s false ts = refl
-led_in_body l s strict ts = absurd s
+one_fits : (o : Depth) (strict : Bool) (d w : Tree) → (fits strict item d ≡ true → fits strict item w ≡ true) → fits strict (item_in o) d ≡ fits strict item d → fits strict (item_in o) w ≡ fits strict item w → fill strict (each (item_in o)) (d ▸ none) ≡ true → fill strict (each (item_in o)) (w ▸ none) ≡ true
+one_fits o strict d w f a b h = let (one_there, rest) = first_fits strict (item_in o) d none h in more_fit strict (item_in o) w none (b ∙ f (sym a ∙ one_there)) rest
 
-one_fits : (strict : Bool) (d w : Tree) → (fits strict item d ≡ true → fits strict item w ≡ true) → fits strict body_item d ≡ fits strict item d → fits strict body_item w ≡ fits strict item w → fill strict (each body_item) (d ▸ none) ≡ true → fill strict (each body_item) (w ▸ none) ≡ true
-one_fits strict d w f a b h = let (one_there, rest) = first_fits strict body_item d none h in more_fit strict body_item w none (b ∙ f (sym a ∙ one_there)) rest
+-- and is no import and no export
+
+left_ported : (k : VariableDeclarationKind) (ds rest : Trees) → ports true rest ≡ ports true (declared_left k ds ▸ rest)
+left_ported k none rest = refl
+left_ported k (t ▸ ds) rest = refl
+
+led_ported : (l : Lead) → Stands AsWholeItem l true → (ts rest : Trees) → ports true (node (shape_by (head_of l)) [] 0 ts ▸ rest) ≡ ports true rest
+led_ported Doing s ts rest = refl
+led_ported Giving s ts rest = refl
+led_ported Raising s ts rest = refl
+led_ported Testing s ts rest = refl
+led_ported l s ts rest = absurd s
 
 -- ---- the rows
 
@@ -144,7 +154,8 @@ module _ (W : VariableSet) (K : VariableDeclarationKind) (s : List ℕ) (k : ℕ
         read = read_alone k d w (one_read K s k init w refl);
         same = λ e u. value_same e s k u.unseen K (may_write W K e k goes u) init present;
         avoids = ((tt, (avoided x k refl init initial, tt)), tt);
-        fits = λ strict. one_fits strict d w (value_fits strict K x init present) (declaration_in_body strict K (declarator (binding x) init ▸ none)) (expression_in_body strict init);
+        fits = λ o strict. one_fits o strict d w (value_fits strict K x init present) (declaration_in o strict K (declarator (binding x) init ▸ none)) (expression_in o strict init);
+        ported = λ rest. refl;
       }
 
   of_72_idle : (first : Trees) (init : Tree) (last : Trees) → is_idle init ≡ true → any_names x first ≡ false → any_names x last ≡ false → Loses W s k (declared_among K x first init last ▸ none) (declared_left K (append first last) ▸ none)
@@ -158,7 +169,8 @@ module _ (W : VariableSet) (K : VariableDeclarationKind) (s : List ℕ) (k : ℕ
         read = read_alone k d w (idle_read K s k first last init);
         same = λ e u. left_same e s k u.unseen K (may_write W K e k goes u) first last init idle beside;
         avoids = (left_avoids (alone (Declared k)) K first last (all_avoided x k refl first earlier) beside, tt);
-        fits = λ strict. one_fits strict d w (left_fits strict K x first init last) (declaration_in_body strict K (append first (declarator (binding x) init ▸ last))) (left_in_body strict K (append first last));
+        fits = λ o strict. one_fits o strict d w (left_fits strict K x first init last) (declaration_in o strict K (append first (declarator (binding x) init ▸ last))) (left_in o strict K (append first last));
+        ported = left_ported K (append first last);
       }
 
   of_71 : (first : Trees) (init head : Tree) → may_move init ≡ true → reads_first x head ≡ true → names x init ≡ false → any_names x first ≡ false → Loses W s k (declared_among K x first init none ▸ (head ▸ none)) (declared_left K first ▸ (put_first init head ▸ none))
@@ -168,19 +180,22 @@ module _ (W : VariableSet) (K : VariableDeclarationKind) (s : List ℕ) (k : ℕ
       let put = put_first init head in
       let t = statement x head once in
       let (read, read_put) = head_read x head once init in
-      let head_in_body = λ (strict : Bool). ap (fits strict body_item) t.is ∙ led_in_body t.lead (t.stands true) strict (t.inner ▸ t.rest) ∙ sym (ap (fits strict item) t.is) in
-      let put_in_body = λ (strict : Bool). ap (λ u. fits strict body_item (put_first init u)) t.is ∙ led_in_body t.lead (t.stands true) strict (put_first init t.inner ▸ t.rest) ∙ sym (ap (λ u. fits strict item (put_first init u)) t.is) in
+      let head_in = λ (o : Depth) (strict : Bool). ap (fits strict (item_in o)) t.is ∙ led_in t.lead (t.stands true) o strict (t.inner ▸ t.rest) ∙ sym (ap (fits strict item) t.is) in
+      let put_in = λ (o : Depth) (strict : Bool). ap (λ u. fits strict (item_in o) (put_first init u)) t.is ∙ led_in t.lead (t.stands true) o strict (put_first init t.inner ▸ t.rest) ∙ sym (ap (λ u. fits strict item (put_first init u)) t.is) in
+      let head_ported = λ (rest : Trees). ap (λ u. ports true (u ▸ rest)) t.is ∙ led_ported t.lead (t.stands true) (t.inner ▸ t.rest) rest in
+      let put_ported = λ (rest : Trees). ap (λ u. ports true (put_first init u ▸ rest)) t.is ∙ led_ported t.lead (t.stands true) (put_first init t.inner ▸ t.rest) rest in
       record {
         leaves = single_leaves K x k refl first init head (movable init moves) once initial earlier;
         declares = single_declares K x k refl first init head (movable init moves) once initial earlier;
         read = single_read s k K first init head put read read_put;
         same = λ e u. single_same e s k u.unseen first init head moves once K (may_write W K e k goes u);
         avoids = (first_avoids (alone (Declared k)) K first (all_avoided x k refl first earlier), (avoided x k refl put (head_unnamed x head once init initial), tt));
-        fits = λ strict h.
-            let (f, g) = first_fits strict body_item d (head ▸ none) h in
-            let (i, rest) = first_fits strict body_item head none g in
-            let (v, w) = single_fits strict K x first init head moves once (sym (declaration_in_body strict K (append first (declarator (binding x) init ▸ none))) ∙ f) (sym (head_in_body strict) ∙ i) in
-            more_fit strict body_item left (put ▸ none) (left_in_body strict K first ∙ v) (more_fit strict body_item put none (put_in_body strict ∙ w) rest);
+        fits = λ o strict h.
+            let (f, g) = first_fits strict (item_in o) d (head ▸ none) h in
+            let (i, rest) = first_fits strict (item_in o) head none g in
+            let (v, w) = single_fits strict K x first init head moves once (sym (declaration_in o strict K (append first (declarator (binding x) init ▸ none))) ∙ f) (sym (head_in o strict) ∙ i) in
+            more_fit strict (item_in o) left (put ▸ none) (left_in o strict K first ∙ v) (more_fit strict (item_in o) put none (put_in o strict ∙ w) rest);
+        ported = λ rest. head_ported rest ∙ sym (put_ported rest) ∙ left_ported K first (put ▸ rest);
       }
 
   of_next : (first : Trees) (init binds value : Tree) (last : Trees) → may_move init ≡ true → is_first x false value ≡ true → names x binds ≡ false → names x init ≡ false → any_names x first ≡ false → any_names x last ≡ false → Loses W s k (declared_among K x first init (declarator binds value ▸ last) ▸ none) (declaration K (append first (declarator binds (put_first init value) ▸ last)) ▸ none)
@@ -194,7 +209,8 @@ module _ (W : VariableSet) (K : VariableDeclarationKind) (s : List ℕ) (k : ℕ
         read = read_alone k d w (next_read K s k first last init binds value (put_first init value));
         same = λ e u. next_same e s k u.unseen K (may_write W K e k goes u) init binds value last moves once first (avoided x k refl binds other) avoids_last;
         avoids = (next_avoids x k refl K first init binds value last once earlier initial other later, tt);
-        fits = λ strict. one_fits strict d w (next_fits strict K x first init binds value last moves once) (declaration_in_body strict K (append first (declarator (binding x) init ▸ (declarator binds value ▸ last)))) (declaration_in_body strict K (append first (declarator binds (put_first init value) ▸ last)));
+        fits = λ o strict. one_fits o strict d w (next_fits strict K x first init binds value last moves once) (declaration_in o strict K (append first (declarator (binding x) init ▸ (declarator binds value ▸ last)))) (declaration_in o strict K (append first (declarator binds (put_first init value) ▸ last)));
+        ported = λ rest. refl;
       }
 
 pub row_stretch : (W : VariableSet) (p : Tree) (earlier_list later_list : Trees) → is_listed_shape (shape_of p) ≡ true → BlockRow W (block (p ▸ earlier_list)) (block (p ▸ later_list)) → Stretch W p earlier_list later_list

@@ -8,7 +8,7 @@ use Rattle.mini_model.specs.declared.place.Position.{Position}
 use Rattle.mini_model.specs.declared.place.Position.TheVariants.{Expr, Stmt, Method, Elsewhere}
 use Rattle.mini_model.specs.declared.shape.Shape.{Shape}
 use Rattle.mini_model.specs.declared.shape.Shape.TheVariants as shape
-use Rattle.mini_model.specs.Tree.{Tree, Trees, node, none, ◌▸◌, listed, shape_of, empty_statement, expression_statement}
+use Rattle.mini_model.specs.Tree.{Tree, Trees, node, none, ◌▸◌, listed, shape_of, program, empty_statement, expression_statement}
 use Rattle.mini_model.specs.Paths.{append}
 use Rattle.mini_model.specs.Weight.{same_text, weight}
 use Rattle.mini_laws.specs.Naming.{is_lexical}
@@ -264,13 +264,26 @@ pub record FunctionBodyRow (W : VariableSet) (n w : Tree) : Type 0 where
   pub shape : n ≡ function_with is_declared is_generator directives number name parameters before
   pub written : w ≡ function_with is_declared is_generator directives number name parameters after
 
--- a row reads n as w at this place: a function may be a statement, an expression, the value of a method, or exported. A block that is
--- no body keeps each `var`: its name is seen around it
+-- ---- in a module
+
+-- 71 and 72 in a module: `import "a"; const x = f(); g();` becomes `import "a"; f(); g();`. Its statements are read like those of a
+-- function without parameters. `export { x }` mentions x, and what is exported where it is declared is no declaration of a list. What a
+-- script declares stays: other scripts see it
+pub record ModuleRow (W : VariableSet) (n w : Tree) : Type 0 where
+  pub directives : List (List ℕ)
+  pub before : Trees
+  pub after : Trees
+  pub row : BlockRow W (block (listed none ▸ before)) (block (listed none ▸ after))
+  pub shape : n ≡ program true directives before
+  pub written : w ≡ program true directives after
+
+-- a row reads n as w at this place: a function may be a statement, an expression, the value of a method, or exported, and a program stands
+-- nowhere else. A block that is no body keeps each `var`: its name is seen around it
 abbrev pub UnusedRow : VariableSet → Position → Tree → Tree → Type 0
 UnusedRow W (Stmt q) n w = BlockRow nothing n w ⊎ FunctionBodyRow W n w
 UnusedRow W (Expr s) n w = ArrowBodyRow W n w ⊎ FunctionBodyRow W n w
 UnusedRow W Method n w = FunctionBodyRow W n w
-UnusedRow W Elsewhere n w = FunctionBodyRow W n w
+UnusedRow W Elsewhere n w = FunctionBodyRow W n w ⊎ ModuleRow W n w
 UnusedRow W _ n w = ⊥
 
 -- what it writes, where it weighs less

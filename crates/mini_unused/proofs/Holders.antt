@@ -1,5 +1,5 @@
 -- What holds the statements of a list: a block, or a function, which is read like a block that begins with what stands before its
--- statements: its name and its parameters.
+-- statements: its name and its parameters. A module is read like a function without them.
 use Rattle.std.proofs.Common.{◌≡◌, ℕ, zero, suc, ◌<◌, Bool, true, false, List, [], ◌∷◌, refl, sym, ap, ◌∙◌, subst, inl, inr, true≢false, arith}
 use Rattle.std.specs.Prelude.{not, ◌⊎◌, ◌&&◌, ◌||◌, nat_eq, None, Result, Ok, Err, IfOk}
 use Rattle.std.proofs.lemmas.Bool.{and_parts, eqb-true}
@@ -9,20 +9,20 @@ use Rattle.mini_model.specs.declared.place.Position.TheVariants.{Expr, Stmt, Met
 use Rattle.mini_model.specs.declared.seat.Seat.{Seat}
 use Rattle.mini_model.specs.declared.seat.StmtSeat.{StmtSeat}
 use Rattle.mini_model.specs.declared.shape.Shape.TheVariants as shape
-use Rattle.mini_model.specs.Tree.{Tree, Trees, node, none, ◌▸◌, absent, listed, shape_of, children, count, child_or_absent}
+use Rattle.mini_model.specs.Tree.{Tree, Trees, node, none, ◌▸◌, absent, listed, program, shape_of, children, count, child_or_absent}
 use Rattle.mini_laws.specs.ScopeList.{has_eval, any_has_eval}
 use Rattle.mini_laws.specs.Value.{Variable, VariableSet, Declared, Global, nothing}
 use Rattle.mini_node.specs.Children.{names_of, number_of, part, with_part, first_children, rest_children}
 use Rattle.mini_node.specs.Kinds.{is_block, is_listed}
 use Rattle.mini_node.specs.Made.{block_is, listed_is}
 use Rattle.mini_rows.specs.Lists.{block}
-use Rattle.mini_rows.specs.Unused.{names, any_names, may_move, statements, arrow_with, ArrowBodyRow, function_with, FunctionBodyRow, BlockRow, UnusedRow}
+use Rattle.mini_rows.specs.Unused.{names, any_names, may_move, statements, arrow_with, ArrowBodyRow, function_with, FunctionBodyRow, ModuleRow, BlockRow, UnusedRow}
 use Rattle.mini_tree.specs.declared.options.CompressOptions.{CompressOptions}
 use Rattle.mini_tree.specs.Rule as rule
 use Rattle.mini_context.specs.declared.context.TraverseCtx.{TraverseCtx}
 use Rattle.mini_context.specs.Known.{Knows}
 use Rattle.mini_laws.specs.Writable.{writable_in}
-use Rattle.mini_unused.specs.RemoveUnusedDeclaration.{declares_name, declares_list, is_free_at, may_lose, may_go, open_in, is_alone, list_at, is_unused, UnusedAt, is_arrow_shape, are_statements, are_no_names, has_statements, is_function_shape, is_function, marked, Applied, AppliedInFunction, Gives, Rests}
+use Rattle.mini_unused.specs.RemoveUnusedDeclaration.{declares_name, declares_list, is_free_at, may_lose, may_go, open_in, is_alone, list_at, is_unused, UnusedAt, is_arrow_shape, are_statements, are_no_names, has_statements, is_function_shape, is_function, is_module, marked, Applied, AppliedInFunction, Gives, Rests}
 use Rattle.mini_unused.specs.SubstituteNext.{is_declarator, reads_then, is_mentioned_beside, is_read_then, is_next, NextAt, NextGone}
 use Rattle.mini_unused.specs.SubstituteSingleUse.{last_place, is_declared_over, reads_next, is_read_once, is_single, SingleAt, NameGone, ReadGone, Gone, Removed}
 use Rattle.mini_unused.specs.Chains.{Several}
@@ -295,6 +295,53 @@ module _ (W : VariableSet) (d g : Bool) (directives : List (List ℕ)) (number :
   function_applied ts m true r = several_in W outside_function (FunctionBodyRow W) function_with_list function_over ts m r
   function_applied ts m false r = (ap function_with_list r.0, function_rests ts m r)
 
+-- ---- a module: nothing stands before its statements
+
+no_module : (W : VariableSet) (t : Tree) → is_module t ≡ false → (w : Tree) → ModuleRow W t w → ⊥
+no_module W t e w r = true≢false (sym (ap is_module r.shape) ∙ e)
+
+module _ (W : VariableSet) (directives : List (List ℕ)) where
+  abbrev outside_module : Tree
+  outside_module = node (shape.Program true directives) [] 0 (absent ▸ none)
+
+  module_mentions : (x : Name) → names x outside_module ≡ any_names x none
+  module_mentions x = refl
+
+  module_evals : has_eval outside_module ≡ any_has_eval none
+  unfolding has_eval
+  module_evals = refl
+
+  abbrev with_list : Tree → Tree
+  with_list m = node (shape.Program true directives) [] 0 (m ▸ none)
+
+  module_over : (ts : Trees) (m : Tree) → Gone W outside_module (listed ts) m → ModuleRow W (with_list (listed ts)) (with_list m)
+  module_over ts m r = record { directives = directives; before = ts; after = children m; row = row_behind W outside_module none ts module_mentions module_evals m r; shape = refl; written = ap with_list (left_listed W outside_module ts m r) }
+
+  module_rests : (ts : Trees) (m : Tree) → Removed W outside_module (listed ts) m false → (w : Tree) → ModuleRow W (program true directives ts) w → ⊥
+  module_rests ts m r w row =
+      let before : row.before ≡ ts = sym (ap (λ t. children (part t 0)) row.shape) in
+      none_behind W outside_module none ts module_mentions module_evals m r (listed none ▸ row.before) (λ k. listed none ▸ before k) (block (listed none ▸ row.after)) row.row
+
+  module_applied : (ts : Trees) (m : Tree) (c : Bool) → Removed W outside_module (listed ts) m c → Applied W Elsewhere (program true directives ts) (with_list m) c
+  module_applied ts m true r = several_moves W Elsewhere (ModuleRow W) (λ t u a. inr a) (program true directives ts) (with_list m) (several_in W outside_module (ModuleRow W) with_list module_over ts m r)
+  module_applied ts m false r = (ap with_list r.0, by)
+    where
+      by : (w : Tree) → UnusedRow W Elsewhere (program true directives ts) w → ⊥
+      by w (inl f) = no_function W (program true directives ts) refl w f
+      by w (inr a) = module_rests ts m r w a
+
+module_is : (t : Tree) → is_module t ≡ true → (directives : List (List ℕ)) × (t ≡ program true directives (children (part t 0)))
+module_is (node (shape.Program true directives) [] zero (node shape.Listed [] zero ts ▸ none)) e = (directives, refl)
+module_is (node (shape.Program true directives) [] zero (u ▸ none)) e = absurd (true≢false (sym e))
+module_is t e = absurd (true≢false (sym e))
+
+pub of_module : (W : VariableSet) (t m : Tree) (c : Bool) → is_module t ≡ true → Removed (open_in (with_part t 0 absent) W) (with_part t 0 absent) (part t 0) m c → (u : Tree) → u ≡ with_part t 0 m → Applied W Elsewhere t u c
+of_module W t m c h r u f =
+    let (directives, is) = module_is t h in
+    let ts = children (part t 0) in
+    let there = subst (λ v. Removed (open_in (with_part v 0 absent) W) (with_part v 0 absent) (part v 0) m c) is r in
+    subst (λ v. Applied W Elsewhere v u c) (sym is) (subst (λ v. Applied W Elsewhere (program true directives ts) v c) (sym (f ∙ ap (λ v. with_part v 0 m) is)) (module_applied W directives ts m c there))
+
 -- ---- what has such statements
 
 body_is : (t : Tree) → are_statements t ≡ true → t ≡ statements (children (part t 0))
@@ -383,9 +430,13 @@ pub as_method : (W : VariableSet) (t u : Tree) (c : Bool) → AppliedInFunction 
 as_method W t u true r = several_moves W Method (FunctionBodyRow W) (λ t u f. f) t u r
 as_method W t u false r = r
 
-pub as_exported : (W : VariableSet) (t u : Tree) (c : Bool) → AppliedInFunction W t u c → Applied W Elsewhere t u c
-as_exported W t u true r = several_moves W Elsewhere (FunctionBodyRow W) (λ t u f. f) t u r
-as_exported W t u false r = r
+pub as_exported : (W : VariableSet) (t u : Tree) (c : Bool) → is_module t ≡ false → AppliedInFunction W t u c → Applied W Elsewhere t u c
+as_exported W t u true e r = several_moves W Elsewhere (FunctionBodyRow W) (λ t u f. inl f) t u r
+as_exported W t u false e r = (r.0, by)
+  where
+    by : (w : Tree) → UnusedRow W Elsewhere t w → ⊥
+    by w (inl f) = r.1 w f
+    by w (inr a) = no_module W t e w a
 
 -- ---- the context
 

@@ -1,5 +1,5 @@
 -- 72, `remove_unused_declaration`: `{ let x = a(); b(); }` becomes `{ a(); b(); }`, `{ let x = 1; b(); }` becomes `{ ; b(); }`, and
--- `{ let x, y = b(); c(y); }` becomes `{ let y = b(); c(y); }`; so do the statements of a function, and there each `var`, too.
+-- `{ let x, y = b(); c(y); }` becomes `{ let y = b(); c(y); }`; so do the statements of a function and of a module, and there each `var`, too.
 use Rattle.std.specs.Prelude.{◌≡◌, ◌<◌, ℕ, suc, nat_eq, Bool, true, false, not, ◌&&◌, ◌||◌, List, [], ◌∷◌, Option, Some, None, is_some, if◌then◌else◌}
 use Rattle.mini_model.specs.declared.name.Name.{Name}
 use Rattle.mini_model.specs.declared.name.SymbolId.{SymbolId}
@@ -160,6 +160,14 @@ is_function_shape _ = false
 
 abbrev pub is_function : Tree → Bool
 is_function t = is_function_shape (shape_of t) && (are_no_names (names_of t) && (nat_eq (count (children t)) 3 && (is_listed (part t 1) && are_statements (part t 2))))
+
+-- a module with its statements
+abbrev pub is_module_shape : Shape → Bool
+is_module_shape (shape.Program true directives) = true
+is_module_shape _ = false
+
+abbrev pub is_module : Tree → Bool
+is_module t = is_module_shape (shape_of t) && (is_bare t 1 && is_listed (part t 0))
 
 -- no row of these variables reads it as anything
 abbrev pub RestsOver : VariableSet → Position → Tree → Type 0

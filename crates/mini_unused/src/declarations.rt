@@ -1,9 +1,9 @@
 //! Row 72: `{ let x = a(); b(); }` becomes `{ a(); b(); }`, and `{ let x = 1, y = b(); c(y); }` becomes `{ let y = b(); c(y); }`,
 //! where nothing else in the block has x's spelling or its symbol and no direct eval stands there. So do the statements of a function,
-//! wherever it stands, and there each `var`, too, whose name can be written. It is lighter in every place.
+//! wherever it stands, and of a module, and there each `var`, too, whose name can be written. It is lighter in every place.
 
 ghost use Rattle.std.specs.Prelude.{◌≡◌, ◌+◌, ◌<◌, ◌^◌, true, IfOk, OnOk};
-ghost use Rattle.mini_model.specs.declared.place.Position.TheVariants.{Expr, Stmt};
+ghost use Rattle.mini_model.specs.declared.place.Position.TheVariants.{Expr, Stmt, Elsewhere};
 ghost use Rattle.mini_model.specs.declared.seat.Seat.{Seat};
 ghost use Rattle.mini_model.specs.declared.seat.StmtSeat.{StmtSeat};
 ghost use Rattle.mini_laws.specs.Naming.{is_lexical as is_it_lexical};
@@ -439,8 +439,35 @@ pub fn remove_unused_in_function(
     changed
 }
 
-/// Rows 71 and 72 as a rule: of each block, and of each function with statements. Its context says which names the program that it knows
-/// lets be written.
+// A module with its statements.
+fn is_module(node: &Node) -> bool
+    ensures kind { result ≡ row.is_module node.now }
+    ensures parts { result ≡ true → count (children node.now) ≡ 1 }
+{
+    matches!(node.shape(), Shape::Program(true, _)) && node.is_bare(1) && is_listed(node.child(0))
+}
+
+/// Of a module, as `import "a"; const x = f(); g();`, in which nothing else mentions x, and of a function that is exported. The answer
+/// says whether a name went; the only error is that memory runs out.
+#[tactic(auto, using(crate::proofs::Unused::same_parts, crate::proofs::Unused::part_twice))]
+pub fn remove_unused_in_module(
+    alloc: Global,
+    node: &mut Node,
+    scopes: &Scopes,
+) -> Result<bool, OutOfMemory>
+    ensures { IfOk result (λ changed. Applied (marked scopes.now) Elsewhere node.old node.new changed) }
+{
+    if !is_module(node) {
+        return remove_unused_in_function(alloc, node, scopes);
+    }
+    let mut list = take_child(node, 0);
+    let changed = remove_in_list(alloc, node, &mut list, scopes);
+    put_child(node, 0, list);
+    changed
+}
+
+/// Rows 71 and 72 as a rule: of each block, of each function with statements, and of a module. Its context says which names the program
+/// that it knows lets be written.
 pub struct RemoveUnusedDeclarations;
 
 impl Rule<TraverseCtx> for RemoveUnusedDeclarations {
@@ -462,7 +489,7 @@ impl Rule<TraverseCtx> for RemoveUnusedDeclarations {
             Position::Stmt(_) => Ok(remove_unused_declaration(alloc, node, &context.scopes)?),
             Position::Expr(_) => Ok(remove_unused_in_arrow(alloc, node, &context.scopes)?),
             Position::Method => Ok(remove_unused_in_function(alloc, node, &context.scopes)?),
-            Position::Elsewhere => Ok(remove_unused_in_function(alloc, node, &context.scopes)?),
+            Position::Elsewhere => Ok(remove_unused_in_module(alloc, node, &context.scopes)?),
             _ => Ok(false),
         }
     }

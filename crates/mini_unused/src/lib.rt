@@ -15,7 +15,7 @@ mod tallies;
 pub use catches::{SubstituteCatches, substitute_catch_clause};
 pub use declarations::{
     RemoveUnusedDeclarations, remove_unused_declaration, remove_unused_in_arrow,
-    remove_unused_in_function,
+    remove_unused_in_function, remove_unused_in_module,
 };
 pub use evals::has_eval;
 pub use mentions::{is_mentioned, is_mentioned_before, is_mentioned_from};
