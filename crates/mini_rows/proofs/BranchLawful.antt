@@ -275,10 +275,10 @@ plain_asked p n w e f = record {
 
 -- ---- a statement of a block
 
-block_fit : (strict : Bool) (c : Tree) → fits strict statement (block (c ▸ none)) ≡ true → fits strict statement c ≡ true
+pub block_fit : (strict : Bool) (c : Tree) → fits strict statement (block (c ▸ none)) ≡ true → fits strict statement c ≡ true
 block_fit strict c e = left (fits strict statement c) true (left (fits strict statement c && true) true e)
 
-in_block_fit : (strict : Bool) (c : Tree) → fits strict statement c ≡ true → fits strict statement (block (c ▸ none)) ≡ true
+pub in_block_fit : (strict : Bool) (c : Tree) → fits strict statement c ≡ true → fits strict statement (block (c ▸ none)) ≡ true
 in_block_fit strict c e = both (fits strict statement c && true) true (both (fits strict statement c) true e refl) refl
 
 pub last_fit : (strict : Bool) (c : Tree) → is_absent c ≡ false → fits strict statement c ≡ true → fits strict last_statement c ≡ true
@@ -289,7 +289,7 @@ pub one_fit : (strict : Bool) (c : Tree) → is_absent c ≡ false → fits stri
 one_fit strict (node shape.Absent xs n ts) h e = absurd (cc h)
 one_fit strict (node h xs n ts) k e = e
 
-unscoped_there : (c : Tree) → is_unscoped c ≡ true → is_absent c ≡ false
+pub unscoped_there : (c : Tree) → is_unscoped c ≡ true → is_absent c ≡ false
 unscoped_there (node shape.Absent xs n ts) h = absurd (cc h)
 unscoped_there (node g xs n ts) h = refl
 

@@ -73,7 +73,7 @@ never_heavier : (b : Bool) → (if b then 0 else 4) ≤ 4
 never_heavier true = omega arith
 never_heavier false = omega arith
 
-body_is_list : (c : Tree) → is_unscoped c ≡ true → weight (Stmt stmt_seat.Body) c ≡ weight (Stmt stmt_seat.List) c
+pub body_is_list : (c : Tree) → is_unscoped c ≡ true → weight (Stmt stmt_seat.Body) c ≡ weight (Stmt stmt_seat.List) c
 body_is_list (node shape.InnerExpression xs n ts) h = absurd (cc h)
 body_is_list (node g xs n ts) h = refl
 

@@ -14,9 +14,10 @@ use Rattle.mini_laws.proofs.Seats.{moved}
 use Rattle.mini_rows.specs.Switches.{Switches}
 use Rattle.mini_rows.specs.Lists.{block, alternate_of, Row75, Row75Block}
 use Rattle.mini_rows.specs.Branches.{Surrounding, around, is_loop, bare_continue}
-use Rattle.mini_rows.specs.LoopGuards.{TurnsGuard, Row75Loop, LoopGuardRow, LoopGuardContracts, LoopGuardsLighter}
+use Rattle.mini_rows.specs.LoopGuards.{TurnsGuard, LoopGuardRow, LoopGuardContracts, LoopGuardsLighter}
+use Rattle.mini_rows.proofs.LoopGuards.{guard_unscoped, made_unscoped}
 use Rattle.mini_rows.proofs.ListWeights.{total, total_append, list_is, block_falls, alternate_weighs}
-use Rattle.mini_rows.proofs.BranchWeights.{block_is, body_falls, Outlined, outlined, loop_outlined}
+use Rattle.mini_rows.proofs.BranchWeights.{body_is_list, block_is, body_falls, Outlined, outlined, loop_outlined}
 
 row_75 : (test : Tree) (rest : Trees) → total (if_alone (negation test) (block rest) ▸ none) < total (if_alone test bare_continue ▸ rest)
 row_75 test rest =
@@ -61,14 +62,25 @@ loop_falls q k before a b h r =
     let falls = turned_falls a b r in
     body_falls q k (block (append before a)) (block (append before b)) h (omega (arith, old, new, old_sum, new_sum, falls))
 
+whole_falls : (q : StmtSeat) (k : Surrounding) (g m : Tree) → is_loop k ≡ true → TurnsGuard (g ▸ none) (m ▸ none) → weight (Stmt q) (around k m) < weight (Stmt q) (around k g)
+whole_falls q k g m h r =
+    let old = body_is_list g (guard_unscoped g m r) in
+    let new = body_is_list m (made_unscoped g m r) in
+    let falls = turned_falls (g ▸ none) (m ▸ none) r in
+    body_falls q k g m h (omega (arith, old, new, falls))
+
 pub loop_guards_lighter : LoopGuardsLighter
-loop_guards_lighter o (Stmt q) n w (s, r) =
+loop_guards_lighter o (Stmt q) n w (s, inr r) =
+    let falls = whole_falls q r.place r.guard r.made r.loop r.row in
+    omega (arith, falls, ap (weight (Stmt q)) r.shape, ap (weight (Stmt q)) r.written)
+loop_guards_lighter o (Stmt q) n w (s, inl r) =
     let falls = loop_falls q r.place r.before r.read r.put r.loop r.row in
     omega (arith, falls, ap (weight (Stmt q)) r.shape, ap (weight (Stmt q)) r.written)
 loop_guards_lighter o p n w r = absurd r
 
 row_outlined : (o : Switches) (p : Position) (n w : Tree) → LoopGuardRow o p n w → Outlined p n w
-row_outlined o (Stmt q) n w (s, r) = outlined (Stmt q) n _ w _ r.shape r.written (loop_outlined q r.place (block (append r.before r.read)) (block (append r.before r.put)) r.loop)
+row_outlined o (Stmt q) n w (s, inr r) = outlined (Stmt q) n _ w _ r.shape r.written (loop_outlined q r.place r.guard r.made r.loop)
+row_outlined o (Stmt q) n w (s, inl r) = outlined (Stmt q) n _ w _ r.shape r.written (loop_outlined q r.place (block (append r.before r.read)) (block (append r.before r.put)) r.loop)
 row_outlined o p n w r = absurd r
 
 pub loop_guards_lighten : (o : Switches) → Lightens (LoopGuardContracts o)

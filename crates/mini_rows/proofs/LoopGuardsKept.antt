@@ -28,12 +28,12 @@ use Rattle.mini_rows.proofs.ArrangedTrees.{same_fixed, same_declared, same_frame
 use Rattle.mini_rows.proofs.ArrangedBetween.{append_none}
 use Rattle.mini_rows.proofs.BodyEnds.{continue_idle, emptied, shortened}
 use Rattle.mini_rows.proofs.BlockItems.{item_inside, InList, list_inside, inside_then}
-use Rattle.mini_rows.proofs.BranchInside.{Inside}
+use Rattle.mini_rows.proofs.BranchInside.{Inside, wrapped_inside, unwrapped_inside}
 use Rattle.mini_rows.proofs.BranchAround.{Said, first_among, around_core, around_said, around_says, around_plain}
-use Rattle.mini_rows.proofs.BranchLawful.{Kind, kind_along, around_fits, around_read, kinds_lawful, IsKind}
+use Rattle.mini_rows.proofs.BranchLawful.{Kind, kind_along, around_fits, around_read, block_fit, in_block_fit, last_fit, one_fit, unscoped_there, kinds_lawful, IsKind}
 use Rattle.mini_rows.proofs.ListEndsKept.{row_75_fits, row_75_block_fits, block_fits}
 use Rattle.mini_rows.proofs.ListShapes.{expression, statement, Fits, AllFit, first_fits, more_fit, append_fits, both_fit, of_if, if_fits, of_block}
-use Rattle.mini_rows.proofs.LoopGuards.{loop_guards_same}
+use Rattle.mini_rows.proofs.LoopGuards.{guard_unscoped, made_unscoped, loop_guards_same}
 
 -- ---- a block whose list is built anew
 
@@ -201,11 +201,34 @@ loop_kind k before a b h r =
       said = around_says x y t.said k;
     }
 
+-- ---- where the guard is the whole body
+
+whole_kind : (k : Surrounding) (g m : Tree) → is_loop k ≡ true → TurnsGuard (g ▸ none) (m ▸ none) → Kind (around k g) (around k m)
+whole_kind k g m h r =
+    let loose = guard_unscoped g m r in
+    let free = made_unscoped g m r in
+    let t = turned none (g ▸ none) (m ▸ none) r in
+    let wrapped = wrapped_inside g loose in
+    let bare = unwrapped_inside m free in
+    let fit : (strict : Bool) → fits strict (statement nested) g ≡ true → fits strict (statement nested) m ≡ true =
+    λ strict e. block_fit strict m (body_fits strict none (g ▸ none) (m ▸ none) r (in_block_fit strict g e)) in
+    record {
+      read = around_read k g;
+      before = around_plain k g;
+      after = around_plain k m;
+      fitting = λ strict. around_fits strict g m (fit strict) (λ e. last_fit strict m (unscoped_there m free) (fit strict (one_fit strict g (unscoped_there g loose) e))) k;
+      core = λ strict e.
+          around_core g m
+          (inside_then g (block (g ▸ none)) m wrapped (inside_then (block (g ▸ none)) (block (m ▸ none)) m (t.inside strict (in_block_fit strict g (in_loop strict k g h e))) bare)) k;
+      said = around_says g m (record { fixed = λ z. wrapped.fixed z ∙ t.said.fixed z ∙ bare.fixed z; declared = λ z c. wrapped.declared z (t.said.declared z (bare.declared z c)) }) k;
+    }
+
 guard_kind : (o : Switches) (p : Position) (n w : Tree) → LoopGuardContracts o p n w → IsKind p n w
 guard_kind o p n w c = go p n w c.row
   where
     go : (p : Position) (n w : Tree) → LoopGuardRow o p n w → IsKind p n w
-    go (Stmt q) n w (s, r) = kind_along n _ w _ r.shape r.written (loop_kind r.place r.before r.read r.put r.loop r.row)
+    go (Stmt q) n w (s, inl r) = kind_along n _ w _ r.shape r.written (loop_kind r.place r.before r.read r.put r.loop r.row)
+    go (Stmt q) n w (s, inr r) = kind_along n _ w _ r.shape r.written (whole_kind r.place r.guard r.made r.loop r.row)
     go p n w r = absurd r
 
 pub loop_guards_lawful : (o : Switches) → Lawful (LoopGuardContracts o)

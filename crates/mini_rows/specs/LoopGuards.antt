@@ -2,7 +2,7 @@
 use Rattle.std.specs.Prelude.{◌≡◌, ◌⊎◌, ◌<◌, true}
 use Rattle.mini_model.specs.declared.place.Position.{Position}
 use Rattle.mini_model.specs.declared.place.Position.TheVariants.{Stmt}
-use Rattle.mini_model.specs.Tree.{Tree, Trees}
+use Rattle.mini_model.specs.Tree.{Tree, Trees, none, ◌▸◌}
 use Rattle.mini_model.specs.Paths.{append}
 use Rattle.mini_model.specs.Weight.{weight}
 use Rattle.mini_rows.specs.Switches.{Switches}
@@ -27,9 +27,23 @@ pub record Row75Loop (n w : Tree) : Type 0 where
   pub shape : n ≡ around place (block (append before read))
   pub written : w ≡ around place (block (append before put))
 
+-- `while (a) if (b) { c(); continue; }` becomes `while (a) if (b) { c(); }`, where the guard is the whole body
+pub record Row75Whole (n w : Tree) : Type 0 where
+  pub place : Surrounding
+  pub guard : Tree
+  pub made : Tree
+  pub loop : is_loop place ≡ true
+  pub row : TurnsGuard (guard ▸ none) (made ▸ none)
+  pub shape : n ≡ around place guard
+  pub written : w ≡ around place made
+
+-- either of them
+abbrev pub TurnsRow : Tree → Tree → Type 0
+TurnsRow n w = Row75Loop n w ⊎ Row75Whole n w
+
 -- a row reads n as w at this place
 abbrev pub LoopGuardRow : Switches → Position → Tree → Tree → Type 0
-LoopGuardRow o (Stmt q) n w = (o.sequences ≡ true) × Row75Loop n w
+LoopGuardRow o (Stmt q) n w = (o.sequences ≡ true) × TurnsRow n w
 LoopGuardRow o p n w = ⊥
 
 -- what a row writes, where it weighs less

@@ -15,12 +15,13 @@ use Rattle.mini_node.specs.Made.{block_is}
 use Rattle.mini_tree.specs.Rule.{Applied}
 use Rattle.mini_tree.proofs.Reaching.{moves_once}
 use Rattle.mini_rows.specs.Switches.{Switches}
+use Rattle.mini_rows.specs.Lists.{are_shallow}
 use Rattle.mini_rows.specs.Branches.{Surrounding, Consequent, Alternate, WhileBody, DoBody, ForBody, InBody, OfBody, around, is_loop, bare_continue}
-use Rattle.mini_rows.specs.LoopGuards.{TurnsGuard, Row75Loop, LoopGuardRow, LoopGuardContracts}
+use Rattle.mini_rows.specs.LoopGuards.{TurnsGuard, TurnsRow, LoopGuardRow, LoopGuardContracts}
 use Rattle.mini_rows.proofs.LoopGuardWeights.{loop_guards_lighter}
-use Rattle.mini_stmt.specs.MinimizeBody.{leaves_early, EarlyAt, TurnedAt}
+use Rattle.mini_stmt.specs.MinimizeBody.{is_guard, may_nest, leaves_early, EarlyAt}
 use Rattle.mini_stmt.specs.SpreadBlock.{body_of}
-use Rattle.mini_stmt.specs.TurnLoopGuards.{some_if, body_place, TurnedIn, TurnsLoop}
+use Rattle.mini_stmt.specs.TurnLoopGuards.{body_place, TurnedIn, TurnedWhole, TurnsLoop}
 use Rattle.mini_stmt.proofs.Bodies.{nests, by_block, early_in, parts_there}
 
 -- ---- the body in its place
@@ -57,7 +58,7 @@ looped t i e = absurd (none-some i e)
 pub turned_loop : (t u : Tree) (i g : ℕ) → body_place t ≡ Some i → is_block (part t i) ≡ true → EarlyAt true (body_of (part t i)) (Some g) → TurnedIn t i g u → TurnsLoop t u true
 turned_loop t u i g e b early d =
     let l = looped t i e in
-    record {
+    inl (record {
       place = l.place;
       before = first_children g (body_of (part t i));
       read = child_or_absent (body_of (part t i)) g ▸ rest_children (suc g) (body_of (part t i));
@@ -66,7 +67,21 @@ turned_loop t u i g e b early d =
       row = d.turned.row;
       shape = l.is ∙ ap (around l.place) (block_is (part t i) b ∙ ap block (parts_there (body_of (part t i)) g early.0));
       written = d.is ∙ l.put (block d.list) ∙ ap (λ ts. around l.place (block ts)) d.turned.is;
-    }
+    })
+
+-- of a guard that is the whole body
+pub whole_loop : (t u : Tree) (i : ℕ) → body_place t ≡ Some i → TurnedWhole t i u → TurnsLoop t u true
+whole_loop t u i e d =
+    let l = looped t i e in
+    inr (record { place = l.place; guard = part t i; made = d.made; loop = l.loop; row = d.turned; shape = l.is; written = d.is ∙ l.put d.made })
+
+pub nothing_nests : may_nest none ≡ true
+unfolding are_shallow
+nothing_nests = refl
+
+-- what is made where the guard is taken out and another statement put back
+pub put_whole : (t u m : Tree) (i : ℕ) (us vs : Trees) → us ≡ with_child (children t) i absent → vs ≡ with_child us i m → u ≡ like t vs → u ≡ like t (with_child (children t) i m)
+put_whole t u m i us vs a b d = d ∙ ap (like t) (b ∙ ap (λ ws. with_child ws i m) a ∙ with_twice (children t) i absent m)
 
 pub turned_then : (t : Tree) (i g : ℕ) (r : Result Tree OutOfMemory) → IfOk r (TurnedIn t i g) → (u : Tree) → r ≡ Ok u → TurnedIn t i g u
 turned_then t i g r h u e = subst (λ x. IfOk x (TurnedIn t i g)) e h
@@ -94,9 +109,14 @@ found (ForBody x y z) c h = record { at = 3; place = refl; there = refl }
 found (InBody x y) c h = record { at = 2; place = refl; there = refl }
 found (OfBody x y) c h = record { at = 2; place = refl; there = refl }
 
--- of what the row reads
-found_in : (t w : Tree) (r : Row75Loop t w) → Found t (block (append r.before r.read))
-found_in t w r = subst (λ x. Found x (block (append r.before r.read))) (sym r.shape) (found r.place (block (append r.before r.read)) r.loop)
+-- of what a row reads
+abbrev body_of_row : (t w : Tree) → TurnsRow t w → Tree
+body_of_row t w (inl r) = block (append r.before r.read)
+body_of_row t w (inr r) = r.guard
+
+found_in : (t w : Tree) (r : TurnsRow t w) → Found t (body_of_row t w r)
+found_in t w (inl r) = subst (λ x. Found x (block (append r.before r.read))) (sym r.shape) (found r.place (block (append r.before r.read)) r.loop)
+found_in t w (inr r) = subst (λ x. Found x r.guard) (sym r.shape) (found r.place r.guard r.loop)
 
 pub no_loop : (t : Tree) → body_place t ≡ None → TurnsLoop t t false
 no_loop t e = (refl, λ w r. let f = found_in t w r in none-some f.at (sym e ∙ f.place))
@@ -105,14 +125,31 @@ same_place : (i j : ℕ) → Some i ≡ Some j → i ≡ j
 same_place i j e = cc e
 
 -- at the place of the body
-read_at : (t w : Tree) (i : ℕ) → body_place t ≡ Some i → (r : Row75Loop t w) → part t i ≡ block (append r.before r.read)
+read_at : (t w : Tree) (i : ℕ) → body_place t ≡ Some i → (r : TurnsRow t w) → part t i ≡ body_of_row t w r
 read_at t w i e r = let f = found_in t w r in ap (part t) (same_place i f.at (sym e ∙ f.place)) ∙ f.there
 
-pub no_block : (t : Tree) (i : ℕ) → body_place t ≡ Some i → is_block (part t i) ≡ false → TurnsLoop t t false
-no_block t i e b = (refl, λ w r. false≢true (sym b ∙ ap is_block (read_at t w i e r)))
+-- a guard is an `if`, and no block
+is_a_guard : (g m : Tree) → TurnsGuard (g ▸ none) (m ▸ none) → is_guard true g ≡ true
+is_a_guard g m (inl r) = ap (is_guard true) (ap (λ xs. child_or_absent xs 0) r.shape)
+is_a_guard g m (inr r) = ap (is_guard true) (ap (λ xs. child_or_absent xs 0) r.shape) ∙ by_block true r.test r.body r.loose
 
-pub no_guard : (t : Tree) (i : ℕ) → body_place t ≡ Some i → EarlyAt true (body_of (part t i)) None → TurnsLoop t t false
-no_guard t i e n = (refl, λ w r. true≢false (sym (reads_early r.before r.read r.put r.row) ∙ sym (ap (λ x. leaves_early true (body_of x)) (read_at t w i e r)) ∙ n))
+no_block_there : (g m : Tree) → TurnsGuard (g ▸ none) (m ▸ none) → is_block g ≡ false
+no_block_there g m (inl r) = ap is_block (ap (λ xs. child_or_absent xs 0) r.shape)
+no_block_there g m (inr r) = ap is_block (ap (λ xs. child_or_absent xs 0) r.shape)
+
+pub no_whole : (t : Tree) (i : ℕ) → body_place t ≡ Some i → is_block (part t i) ≡ false → is_guard true (part t i) ≡ false → TurnsLoop t t false
+no_whole t i e b n = (refl, λ w r. go w r)
+  where
+    go : (w : Tree) → TurnsRow t w → ⊥
+    go w (inl r) = false≢true (sym b ∙ ap is_block (read_at t w i e (inl r)))
+    go w (inr r) = false≢true (sym n ∙ ap (is_guard true) (read_at t w i e (inr r)) ∙ is_a_guard r.guard r.made r.row)
+
+pub no_guard : (t : Tree) (i : ℕ) → body_place t ≡ Some i → is_block (part t i) ≡ true → EarlyAt true (body_of (part t i)) None → TurnsLoop t t false
+no_guard t i e b n = (refl, λ w r. go w r)
+  where
+    go : (w : Tree) → TurnsRow t w → ⊥
+    go w (inl r) = true≢false (sym (reads_early r.before r.read r.put r.row) ∙ sym (ap (λ x. leaves_early true (body_of x)) (read_at t w i e (inl r))) ∙ n)
+    go w (inr r) = false≢true (sym (no_block_there r.guard r.made r.row) ∙ sym (ap is_block (read_at t w i e (inr r))) ∙ b)
 
 -- ---- the rule
 

@@ -1,15 +1,16 @@
 -- 75 of loops, `turn_loop_guard`: `while (a) { if (b) continue; c(); }` becomes `while (a) { if (!b) { c(); } }`, and
--- `while (a) { if (b) { c(); continue; } d(); }` becomes `while (a) { if (b) { c(); } else { d(); } }`.
+-- `while (a) { if (b) { c(); continue; } d(); }` becomes `while (a) { if (b) { c(); } else { d(); } }`; and `while (a) if (b) { c(); continue; }`
+-- becomes `while (a) if (b) { c(); }`.
 use Rattle.std.specs.Prelude.{◌≡◌, ℕ, Bool, true, false, Option, Some, None, if◌then◌else◌}
 use Rattle.mini_model.specs.declared.place.Position.{Position}
 use Rattle.mini_model.specs.declared.shape.Shape.{Shape}
 use Rattle.mini_model.specs.declared.shape.Shape.TheVariants as shape
-use Rattle.mini_model.specs.Tree.{Tree, Trees, shape_of, children}
+use Rattle.mini_model.specs.Tree.{Tree, Trees, none, shape_of, children}
 use Rattle.mini_node.specs.Children.{part, is_bare, like, with_child}
 use Rattle.mini_node.specs.Kinds.{block}
 use Rattle.mini_tree.specs.declared.options.CompressOptions.{CompressOptions}
-use Rattle.mini_rows.specs.LoopGuards.{Row75Loop, LoopGuardRow, LoopGuardContracts}
-use Rattle.mini_stmt.specs.MinimizeBody.{TurnedAt}
+use Rattle.mini_rows.specs.LoopGuards.{TurnsRow, LoopGuardRow, LoopGuardContracts}
+use Rattle.mini_stmt.specs.MinimizeBody.{Turned, TurnedAt}
 use Rattle.mini_stmt.specs.MinimizeStatements.{switches_of}
 use Rattle.mini_stmt.specs.SpreadBlock.{body_of}
 
@@ -34,10 +35,16 @@ pub record TurnedIn (t : Tree) (i g : ℕ) (u : Tree) : Type 0 where
   pub turned : TurnedAt true (body_of (part t i)) g list
   pub is : u ≡ like t (with_child (children t) i (block list))
 
+-- a guard that is the body there by itself
+pub record TurnedWhole (t : Tree) (i : ℕ) (u : Tree) : Type 0 where
+  pub made : Tree
+  pub turned : Turned true (part t i) none made
+  pub is : u ≡ like t (with_child (children t) i made)
+
 -- a row writes it, or reads nothing there
 abbrev pub TurnsLoop : Tree → Tree → Bool → Type 0
-TurnsLoop t u true = Row75Loop t u
-TurnsLoop t u false = (u ≡ t) × ((w : Tree) → Row75Loop t w → ⊥)
+TurnsLoop t u true = TurnsRow t u
+TurnsLoop t u false = (u ≡ t) × ((w : Tree) → TurnsRow t w → ⊥)
 
 -- what the rule makes
 abbrev pub GivesLoops : CompressOptions → Tree → Position → Tree → Tree → Type 0

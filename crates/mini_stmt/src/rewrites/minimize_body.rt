@@ -68,7 +68,7 @@ fn leaves_by_block(in_loop: bool, node: &Node) -> bool
 }
 
 // Either of them.
-fn is_guard(in_loop: bool, node: &Node) -> bool
+pub(crate) fn is_guard(in_loop: bool, node: &Node) -> bool
     ensures { result ≡ row.is_guard in_loop node.now }
 {
     leaves(in_loop, node) || leaves_by_block(in_loop, node)
@@ -136,7 +136,12 @@ fn turned_block(alloc: Global, in_loop: bool, guard: Node, rest: Nodes) -> Resul
 }
 
 // Either of them.
-fn turned(alloc: Global, in_loop: bool, guard: Node, rest: Nodes) -> Result<Node, OutOfMemory>
+pub(crate) fn turned(
+    alloc: Global,
+    in_loop: bool,
+    guard: Node,
+    rest: Nodes,
+) -> Result<Node, OutOfMemory>
     requires guard { row.is_guard in_loop guard ≡ true }
     requires rest { row.may_nest rest ≡ true }
     ensures { IfOk result (Turned in_loop guard rest) }

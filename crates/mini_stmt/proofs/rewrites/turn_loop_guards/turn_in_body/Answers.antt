@@ -18,4 +18,4 @@ returns-in_ok-node-in-Some c =
 pub returns-in-None : goal.returns-in-None
 returns-in-None c =
     let list = c.children.ensures ∙ ap children (c.child-3.ensures.value ∙ ap (λ x. part x 0) c.child-2.ensures.value) in
-    no_guard c.args.node.now c.args.at c.requires.place (subst (λ ts. EarlyAt true ts None) list c.in-None.ensures)
+    no_guard c.args.node.now c.args.at c.requires.place (sym (c.if-not-is_block.ensures.kind ∙ ap is_block c.child.ensures.value)) (subst (λ ts. EarlyAt true ts None) list c.in-None.ensures)
