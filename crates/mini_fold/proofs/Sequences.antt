@@ -1,7 +1,7 @@
 -- What is lifted out or spread is what a row says, and where nothing is no row reads the expression.
 use Rattle.std.proofs.Common.{◌≡◌, ℕ, zero, suc, ◌<◌, ◌≤◌, Bool, true, false, Option, Some, None, refl, sym, ap, ◌∙◌, inl, inr, true≢false, arith}
-use Rattle.std.specs.Prelude.{◌+◌, not, ◌&&◌, ◌||◌, nat_eq, nat_le, is_some, if◌then◌else◌}
-use Rattle.std.proofs.lemmas.Bool.{and_parts, le-leb, leb-true, eqb-true}
+use Rattle.std.specs.Prelude.{◌+◌, [], not, ◌&&◌, ◌||◌, nat_eq, nat_le, is_some, if◌then◌else◌}
+use Rattle.std.proofs.lemmas.Bool.{and_parts, false≢true, le-leb, leb-true, eqb-true}
 use Rattle.mini_model.specs.declared.operator.BinaryOperator.{BinaryOperator}
 use Rattle.mini_model.specs.declared.operator.LogicalOperator.{LogicalOperator}
 use Rattle.mini_model.specs.declared.operator.UnaryOperator.{UnaryOperator}
@@ -9,19 +9,20 @@ use Rattle.mini_model.specs.declared.operator.UnaryOperator.TheVariants.{UnaryPl
 use Rattle.mini_model.specs.declared.place.Position.{Position}
 use Rattle.mini_model.specs.declared.place.Position.TheVariants.{Expr}
 use Rattle.mini_model.specs.declared.seat.Seat.{Seat}
-use Rattle.mini_model.specs.Tree.{Tree, Trees, none, ◌▸◌, count, children, child_or_absent, first_or_absent}
+use Rattle.mini_model.specs.declared.shape.Shape.TheVariants as shape
+use Rattle.mini_model.specs.Tree.{Tree, Trees, node, none, ◌▸◌, count, children, child_or_absent, first_or_absent}
 use Rattle.mini_model.specs.Paths.{append}
 use Rattle.mini_node.specs.Children.{part, first_children, rest_children, without}
 use Rattle.mini_node.specs.Kinds.{logical_operator, binary_operator, unary_operator, is_conditional, is_negation, is_sequence, sequence}
 use Rattle.mini_node.specs.Made.{unary_is, binary_is, logical_is, conditional_is, negation_is, sequence_is}
 use Rattle.mini_node.specs.Walks.{from_first, next_child, no_rest}
 use Rattle.mini_terms.specs.Folds.{is_effect_free}
-use Rattle.mini_terms.specs.Parts.{is_number, suits, leaves_nothing, weighs}
-use Rattle.mini_rows.specs.Sequences.{Plus, Minus, Complement, Operation, Decides, Chooses, Negates, Operates, Converts, over, takes_last, is_open_seat, takes_alone, Row20, Row21, Row21Idle, Row21Alone, SequenceRow}
+use Rattle.mini_terms.specs.Parts.{is_number, leaves_nothing, weighs}
+use Rattle.mini_rows.specs.Sequences.{Plus, Minus, Complement, Operation, Decides, Chooses, Negates, Operates, Converts, Yields, over, takes_last, is_open_seat, takes_alone, stays_alone, Row20, Row21, Row21Idle, Row21Alone, SequenceRow}
 use Rattle.mini_rows.proofs.SequenceWeights.{lighter}
 use Rattle.mini_tree.specs.Rule.{Applied}
 use Rattle.mini_tree.proofs.Reaching.{moves_once}
-use Rattle.mini_fold.specs.FoldSequences.{has_several, is_several, last_of, but_last, converts, is_minus, is_operation, takes_last_of, gives_parts, is_lifted, with_first, parts_of_first, lifted, any_of, is_nested, spread_at, is_idle, idle_before_last, is_left, loses_part, Gives, Rests}
+use Rattle.mini_fold.specs.FoldSequences.{has_several, is_several, last_of, but_last, converts, is_minus, is_operation, takes_last_of, is_yield, gives_parts, is_lifted, with_first, parts_of_first, lifted, any_of, is_nested, spread_at, is_idle, idle_before_last, is_left, loses_part, Gives, Rests}
 
 pub several_by_count : (ts : Trees) → nat_le 2 (count ts) ≡ has_several ts
 several_by_count none = refl
@@ -80,15 +81,26 @@ converted t (Some UnaryNegation) h e = record { operation = Converts Minus; is =
 converted t (Some BitwiseNot) h e = record { operation = Converts Complement; is = unary_is t BitwiseNot h; other = λ q. ap (λ u. with_first u q) (unary_is t BitwiseNot h); takes = λ q k. refl }
 converted t o h e = absurd (true≢false (sym e))
 
+yield_operated : (t : Tree) → is_yield t ≡ true → Operated t
+yield_operated (node (shape.YieldExpression d) [] zero (a ▸ none)) e = record { operation = Yields d; is = refl; other = λ q. refl; takes = λ q k. refl }
+yield_operated t e = absurd (false≢true e)
+
+last_operated : (t : Tree) → converts (unary_operator t) || is_yield t ≡ true → Operated t
+last_operated t e = go (converts (unary_operator t)) refl e
+  where
+    go : (b : Bool) → converts (unary_operator t) ≡ b → b || is_yield t ≡ true → Operated t
+    go true h e = converted t (unary_operator t) refl h
+    go false h e = yield_operated t e
+
 operated : (t : Tree) → is_operation t ≡ true → Operated t
 operated t e = go (logical_operator t) (is_conditional t) (is_negation t) (binary_operator t) refl refl refl refl e
   where
-    go : (o : Option LogicalOperator) (c d : Bool) (b : Option BinaryOperator) → logical_operator t ≡ o → is_conditional t ≡ c → is_negation t ≡ d → binary_operator t ≡ b → is_some o || (c || (d || (is_some b || converts (unary_operator t)))) ≡ true → Operated t
+    go : (o : Option LogicalOperator) (c d : Bool) (b : Option BinaryOperator) → logical_operator t ≡ o → is_conditional t ≡ c → is_negation t ≡ d → binary_operator t ≡ b → is_some o || (c || (d || (is_some b || (converts (unary_operator t) || is_yield t)))) ≡ true → Operated t
     go (Some o) c d b h k l m e = record { operation = Decides o (part t 1); is = logical_is t o h; other = λ q. ap (λ u. with_first u q) (logical_is t o h); takes = λ q k. refl }
     go None true d b h k l m e = record { operation = Chooses (part t 1) (part t 2); is = conditional_is t k; other = λ q. ap (λ u. with_first u q) (conditional_is t k); takes = λ q k. refl }
     go None false true b h k l m e = record { operation = Negates; is = negation_is t l; other = λ q. ap (λ u. with_first u q) (negation_is t l); takes = λ q k. refl }
     go None false false (Some o) h k l m e = record { operation = Operates o (part t 1); is = binary_is t o m; other = λ q. ap (λ u. with_first u q) (binary_is t o m); takes = λ q k. refl }
-    go None false false None h k l m e = converted t (unary_operator t) refl e
+    go None false false None h k l m e = last_operated t e
 
 lifted_row : (s : Seat) (t : Tree) → is_lifted s t ≡ true → Row20 s t (lifted t)
 lifted_row s t e =
@@ -171,6 +183,7 @@ lifts s (Operates o b) p ps l h k = opened s p ps l true h refl
 lifts s (Converts Plus) p ps l h k = opened s p ps l true h refl
 lifts s (Converts Minus) p ps l h k = opened s p ps l (not (is_number (last_of (append (p ▸ ps) (l ▸ none))))) h (ap (λ t. not (is_number t)) (last_append (p ▸ ps) l) ∙ k)
 lifts s (Converts Complement) p ps l h k = opened s p ps l true h refl
+lifts s (Yields d) p ps l h k = opened s p ps l true h refl
 
 or_true : (b c : Bool) → c ≡ true → b || c ≡ true
 or_true true c e = refl
@@ -222,14 +235,14 @@ alone_row s t is e = go (children (part t 0)) refl e
   where
     go : (ts : Trees) → children (part t 0) ≡ ts → is_left s ts ≡ true → Row21Alone s t (child_or_absent (children (part t 0)) 1)
     go (a ▸ (b ▸ none)) h e =
-        let (seated, rest) = and_parts (takes_alone s) (is_idle a && suits s b) e in
-        let (idle, stays) = and_parts (is_idle a) (suits s b) rest in
+        let (seated, rest) = and_parts (takes_alone s) (is_idle a && stays_alone s b) e in
+        let (idle, stays) = and_parts (is_idle a) (stays_alone s b) rest in
         let (free, others) = and_parts (is_effect_free a) (leaves_nothing a && weighs a) idle in
         let (dropped, heavy) = and_parts (leaves_nothing a) (weighs a) others in
         record { idle = a; last = b; effect_free = free; dropped = dropped; heavy = heavy; seated = seated; stays = stays; shape = sequence_is t is ∙ ap sequence h; written = ap (λ us. child_or_absent us 1) h }
     go none h e = absurd (true≢false (sym e))
     go (a ▸ none) h e = absurd (true≢false (sym e))
-    go (a ▸ (b ▸ (c ▸ ts))) h e = let two = eqb-true (count (a ▸ (b ▸ (c ▸ ts)))) 2 (and_parts (nat_eq (count (a ▸ (b ▸ (c ▸ ts)))) 2) (takes_alone s && (is_idle a && suits s b)) e).0 in absurd (omega (arith, two))
+    go (a ▸ (b ▸ (c ▸ ts))) h e = let two = eqb-true (count (a ▸ (b ▸ (c ▸ ts)))) 2 (and_parts (nat_eq (count (a ▸ (b ▸ (c ▸ ts)))) 2) (takes_alone s && (is_idle a && stays_alone s b)) e).0 in absurd (omega (arith, two))
 
 pub alone_applied : (s : Seat) (t : Tree) → is_sequence t ≡ true → is_left s (children (part t 0)) ≡ true → Applied Gives Rests (Expr s) t (child_or_absent (children (part t 0)) 1) true
 alone_applied s t is e = let row = alone_row s t is e in let w : Tree = child_or_absent (children (part t 0)) 1 in moves_once Gives (Expr s) t w (record { row = inr (inr (inr row)); lighter = lighter (Expr s) t w (inr (inr (inr row))) })
@@ -256,7 +269,7 @@ pub rests : (s : Seat) (t : Tree) → is_lifted s t ≡ false → is_nested t �
 rests s t h k l w (inl r) = true≢false (sym (lifts s r.operation r.first r.others r.last r.seated r.takes) ∙ sym (ap (is_lifted s) r.shape) ∙ h)
 rests s t h k l w (inr (inl r)) = true≢false (sym (found r.before (sequence (r.first ▸ (r.second ▸ r.others))) r.after refl) ∙ sym (ap is_nested r.shape) ∙ k)
 rests s t h k l w (inr (inr (inl r))) = true≢false (sym (loses_idle s r.before r.idle r.next r.after (idle_parts r.idle r.effect_free r.dropped r.heavy) r.several) ∙ sym (ap (loses_part s) r.shape) ∙ l)
-rests s t h k l w (inr (inr (inr r))) = true≢false (sym (both_true (takes_alone s) (is_idle r.idle && suits s r.last) r.seated (both_true (is_idle r.idle) (suits s r.last) (idle_parts r.idle r.effect_free r.dropped r.heavy) r.stays)) ∙ sym (ap (loses_part s) r.shape) ∙ l)
+rests s t h k l w (inr (inr (inr r))) = true≢false (sym (both_true (takes_alone s) (is_idle r.idle && stays_alone s r.last) r.seated (both_true (is_idle r.idle) (stays_alone s r.last) (idle_parts r.idle r.effect_free r.dropped r.heavy) r.stays)) ∙ sym (ap (loses_part s) r.shape) ∙ l)
 
 -- what is no sequence loses no part
 pub not_losing : (s : Seat) (t : Tree) → is_sequence t ≡ false → loses_part s t ≡ false

@@ -5,13 +5,15 @@ use Rattle.mini_model.specs.declared.operator.UnaryOperator.{UnaryOperator}
 use Rattle.mini_model.specs.declared.operator.UnaryOperator.TheVariants.{UnaryPlus, UnaryNegation, BitwiseNot}
 use Rattle.mini_model.specs.declared.place.Position.{Position}
 use Rattle.mini_model.specs.declared.seat.Seat.{Seat}
-use Rattle.mini_model.specs.Tree.{Tree, Trees, none, ◌▸◌, absent, children, count, child_or_absent, first_or_absent}
+use Rattle.mini_model.specs.declared.shape.Shape.{Shape}
+use Rattle.mini_model.specs.declared.shape.Shape.TheVariants as shape
+use Rattle.mini_model.specs.Tree.{Tree, Trees, none, ◌▸◌, absent, shape_of, children, count, child_or_absent, first_or_absent}
 use Rattle.mini_model.specs.Paths.{append}
-use Rattle.mini_node.specs.Children.{part, like, first_children, rest_children, with_inserted, without}
+use Rattle.mini_node.specs.Children.{part, is_bare, like, first_children, rest_children, with_inserted, without}
 use Rattle.mini_node.specs.Kinds.{logical_operator, binary_operator, unary_operator, is_conditional, is_negation, is_sequence, sequence}
 use Rattle.mini_terms.specs.Folds.{is_effect_free}
-use Rattle.mini_terms.specs.Parts.{is_number, suits, leaves_nothing, weighs}
-use Rattle.mini_rows.specs.Sequences.{is_open_seat, takes_alone, SequenceRow, SequenceContracts}
+use Rattle.mini_terms.specs.Parts.{is_number, leaves_nothing, weighs}
+use Rattle.mini_rows.specs.Sequences.{is_open_seat, takes_alone, stays_alone, SequenceRow, SequenceContracts}
 
 -- two or more
 abbrev pub has_several : Trees → Bool
@@ -46,9 +48,17 @@ abbrev pub is_minus : Option UnaryOperator → Bool
 is_minus (Some UnaryNegation) = true
 is_minus o = false
 
+abbrev pub is_yield_shape : Shape → Bool
+is_yield_shape (shape.YieldExpression is_delegate) = true
+is_yield_shape h = false
+
+-- `yield a`, and `yield* a`
+abbrev pub is_yield : Tree → Bool
+is_yield t = is_yield_shape (shape_of t) && is_bare t 1
+
 -- a node that evaluates its first operand before all else of it
 abbrev pub is_operation : Tree → Bool
-is_operation t = is_some (logical_operator t) || (is_conditional t || (is_negation t || (is_some (binary_operator t) || converts (unary_operator t))))
+is_operation t = is_some (logical_operator t) || (is_conditional t || (is_negation t || (is_some (binary_operator t) || (converts (unary_operator t) || is_yield t))))
 
 -- the last of these may stand behind the operator of the node: no number behind a `-`
 abbrev pub takes_last_of : Tree → Trees → Bool
@@ -102,7 +112,7 @@ idle_before_last (t ▸ (u ▸ us)) = is_idle t || idle_before_last (u ▸ us)
 
 -- of two the last one may stand alone
 abbrev pub is_left : Seat → Trees → Bool
-is_left s ts = nat_eq (count ts) 2 && (takes_alone s && (is_idle (child_or_absent ts 0) && suits s (child_or_absent ts 1)))
+is_left s ts = nat_eq (count ts) 2 && (takes_alone s && (is_idle (child_or_absent ts 0) && stays_alone s (child_or_absent ts 1)))
 
 -- a part of a sequence goes
 abbrev pub loses_part : Seat → Tree → Bool

@@ -26,7 +26,7 @@ use Rattle.mini_logic.proofs.Weights.{weight_logical}
 abbrev seat_of : LogicalOperator → Seat
 seat_of o = left_operand_seat (turned o) statement_expression_seat
 
-abbrev made : LogicalOperator → Tree → Tree → Tree
+abbrev pub made : LogicalOperator → Tree → Tree → Tree
 made o a b = logical (turned o) (told_lightest (seat_of o) a) b
 
 some_is : {A : Type 0} (x y : A) → Some x ≡ Some y → x ≡ y
@@ -34,13 +34,13 @@ some_is x y e = cc e
 
 -- what is made is what the row says, as far as 64 bits go
 module _ (o : LogicalOperator) (a b : Tree) where
-  made_same : weight (Expr statement_expression_seat) (made o a b) < 18446744073709551615 → made o a b ≡ turned_logical o a b
+  pub made_same : weight (Expr statement_expression_seat) (made o a b) < 18446744073709551615 → made o a b ≡ turned_logical o a b
   made_same h = let whole = weight_logical (turned o) statement_expression_seat (told_lightest (seat_of o) a) b in ap (λ x. logical (turned o) x b) ((lightest_agrees (seat_of o) a).0 (omega (arith, h, whole)))
 
-  row_same : weight (Expr statement_expression_seat) (turned_logical o a b) < 18446744073709551615 → made o a b ≡ turned_logical o a b
+  pub row_same : weight (Expr statement_expression_seat) (turned_logical o a b) < 18446744073709551615 → made o a b ≡ turned_logical o a b
   row_same h = let whole = weight_logical (turned o) statement_expression_seat (lightest (seat_of o) a) b in ap (λ x. logical (turned o) x b) ((lightest_agrees (seat_of o) a).1 (omega (arith, h, whole)))
 
-not_so : (b : Bool) → not b ≡ true → b ≡ false
+pub not_so : (b : Bool) → not b ≡ true → b ≡ false
 not_so true e = absurd (cc e)
 not_so false e = refl
 
@@ -69,7 +69,7 @@ written_is_row q n w e = go (is_expression_statement n) refl e
     go true h e = subst (λ t. DeMorganContracts (Stmt q) t w) (sym (expression_statement_is n h)) (of (logical_operator (part n 0)) refl e)
     go false h e = absurd (cc e)
 
-asked : (o : LogicalOperator) (b : Tree) → is_and_or o ≡ true → is_logical o b ≡ false → is_and_or o && not (is_logical o b) ≡ true
+pub asked : (o : LogicalOperator) (b : Tree) → is_and_or o ≡ true → is_logical o b ≡ false → is_and_or o && not (is_logical o b) ≡ true
 asked o b h k = ap (λ z. z && not (is_logical o b)) h ∙ ap not k
 
 heavy_row : (o : LogicalOperator) (a b : Tree) → is_and_or o ≡ true → is_logical o b ≡ false → written (expression_statement (logical o a b)) ≡ None → nat_lt (capped (weight (Expr statement_expression_seat) (made o a b))) (capped (weight (Expr statement_expression_seat) (logical o a b))) ≡ false

@@ -13,6 +13,7 @@ pub mod MinimizeBody
 pub mod Joined
 pub mod MinimizeExpressionInBooleanContext
 pub mod DeMorganForVoidExpr
+pub mod DeMorganParts
 pub mod NegationsSame
 pub mod WholeForms
 pub mod MinimizeNegation

@@ -17,7 +17,9 @@ pub use laws::{
 };
 pub use mini_node::{is_same_tree as expr_eq, is_same_tree as stmt_eq};
 pub use nots::{minimize_not, try_negate_expression};
-pub use rewrites::de_morgan_for_void_expr::{MinimizeVoid, de_morgan_for_void_expr};
+pub use rewrites::de_morgan_for_void_expr::{
+    MinimizeVoid, de_morgan_for_part, de_morgan_for_void_expr,
+};
 pub use rewrites::minimize_body::{MinimizeBodies, minimize_body};
 pub use rewrites::minimize_conditional_expression::{
     MinimizeConditional, minimize_conditional_expression,

@@ -136,7 +136,7 @@ module _ (e : Environment) where
 abbrev pub named_call : Bool → Value → Called
 named_call direct v = record { value = v; this_value = Undefined; direct = direct }
 
-name_kind : (e : Environment) (m n : Naming) (σ τ : ℕ → Demand) (K : Kids σ) (L : Kids τ) (k : NameKind) → m.own ≡ n.own → (s : State) → run {q = σ} {A = Called} e m K (bind (get_identifier k) (λ v. ret (named_call (is_eval k) v))) s ≡ next (run {q = τ} e n L (bind (get_identifier k) (λ v. ret v)) s) (λ v z. ok (named_call (is_eval k) v) z)
+pub name_kind : (e : Environment) (m n : Naming) (σ τ : ℕ → Demand) (K : Kids σ) (L : Kids τ) (k : NameKind) → m.own ≡ n.own → (s : State) → run {q = σ} {A = Called} e m K (bind (get_identifier k) (λ v. ret (named_call (is_eval k) v))) s ≡ next (run {q = τ} e n L (bind (get_identifier k) (λ v. ret v)) s) (λ v z. ok (named_call (is_eval k) v) z)
 unfolding act either
 name_kind e m n σ τ K L UndefinedName h s = refl
 name_kind e m n σ τ K L NumberName h s = refl

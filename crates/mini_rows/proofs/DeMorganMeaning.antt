@@ -1,19 +1,22 @@
 -- What a row of De Morgan's laws writes means the same.
-use Rattle.std.proofs.Common.{◌≡◌, Bool, true, false, [], refl, sym, ap, ◌∙◌, subst, true≢false}
-use Rattle.std.specs.Prelude.{not, Option}
+use Rattle.std.proofs.Common.{◌≡◌, ℕ, zero, suc, ◌<◌, Bool, true, false, [], refl, sym, ap, ◌∙◌, subst, true≢false, arith}
+use Rattle.std.specs.Prelude.{not, nat_eq, Option, if◌then◌else◌}
+use Rattle.std.proofs.lemmas.Bool.{eqb-true}
 use Rattle.mini_model.specs.declared.operator.LogicalOperator.{LogicalOperator}
 use Rattle.mini_model.specs.declared.operator.LogicalOperator.TheVariants.{Or, And, Coalesce}
 use Rattle.mini_model.specs.declared.place.Position.{Position}
-use Rattle.mini_model.specs.declared.place.Position.TheVariants.{Expr, Stmt}
+use Rattle.mini_model.specs.declared.place.Position.TheVariants.{Expr, Stmt, SequenceList}
+use Rattle.mini_model.specs.declared.seat.Seat.{Seat}
 use Rattle.mini_model.specs.declared.seat.StmtSeat.{StmtSeat}
 use Rattle.mini_model.specs.declared.shape.Shape.TheVariants as shape
-use Rattle.mini_model.specs.Tree.{Tree, none, ◌▸◌, negation, logical, expression_statement}
-use Rattle.mini_model.specs.Position.{is_and_or, statement_expression_seat, left_operand_seat, child_position}
-use Rattle.mini_model.specs.Rewriting.{Step, here, inside, first}
+use Rattle.mini_model.specs.Paths.{append}
+use Rattle.mini_model.specs.Tree.{Tree, Trees, none, ◌▸◌, count, listed, negation, logical, expression_statement}
+use Rattle.mini_model.specs.Position.{is_and_or, statement_expression_seat, left_operand_seat, passed_part_seat, part_seat, branch_seat, child_position}
+use Rattle.mini_model.specs.Rewriting.{Step, StepIn, here, inside, first, later}
 use Rattle.mini_model.specs.Terms.{turned}
-use Rattle.mini_laws.specs.Value.{VariableSet, choose, truth}
-use Rattle.mini_laws.specs.State.{State, ok, either, Environment}
-use Rattle.mini_laws.specs.Demand.{Unused, Tail, Demand, As, Stat, LabelSet}
+use Rattle.mini_laws.specs.Value.{VariableSet, nothing, choose, truth}
+use Rattle.mini_laws.specs.State.{State, ok, stop, either, Environment}
+use Rattle.mini_laws.specs.Demand.{Want, Val, Unused, Tail, Demand, As, Stat, LabelSet}
 use Rattle.mini_laws.specs.Naming.{summary}
 use Rattle.mini_laws.specs.Fits.{Fits}
 use Rattle.mini_laws.specs.Same.{Same}
@@ -22,19 +25,30 @@ use Rattle.mini_laws.specs.Rows.{SameAt}
 use Rattle.mini_laws.specs.Rewritten.{MeansSame}
 use Rattle.mini_laws.proofs.Rewritten.{any_step_same}
 use Rattle.mini_laws.proofs.Rows.{by_equality}
-use Rattle.mini_laws.proofs.Runs.{tail_stop}
+use Rattle.mini_laws.proofs.Runs.{tail_stop, either_cong}
 use Rattle.mini_terms.proofs.Dropping.{after_cong}
 use Rattle.mini_terms.proofs.Frame.{gives_any}
 use Rattle.mini_terms.proofs.Opened.{and_opened, or_opened, statement_opened}
 use Rattle.mini_rows.specs.DeMorgan.{turned_logical, DeMorganRow, DeMorganContracts}
+use Rattle.mini_rows.specs.Lists.{sequence}
 use Rattle.mini_rows.specs.Negations.{lightest}
 use Rattle.mini_rows.proofs.BooleanMeaning.{then_same}
 use Rattle.mini_rows.proofs.NegationMeaning.{Stands, stands_means, left_stands, lightest_stands}
+use Rattle.mini_rows.proofs.ListParts.{in_row, sequence_in_row}
+use Rattle.mini_rows.proofs.SequenceMeaning.{same_value}
+use Rattle.mini_rows.proofs.SpellMeaning.{tree_same}
 use Rattle.mini_rows.proofs.BooleanRuns.{value, negated_and, negated_or}
 
 -- the left side under a `!`, and the other operator
 abbrev negated_logical : LogicalOperator → Tree → Tree → Tree
 negated_logical o a b = logical (turned o) (negation a) b
+
+unequal : (n m : ℕ) → n < m → nat_eq n m ≡ false
+unequal n m h = go (nat_eq n m) refl
+  where
+    go : (b : Bool) → nat_eq n m ≡ b → b ≡ false
+    go false f = refl
+    go true f = let same = eqb-true n m f in absurd (omega (arith, same, h))
 
 picked : {A : Type 0} (t : Bool) (x y : A) → choose t x y ≡ choose (not t) y x
 picked true x y = refl
@@ -75,12 +89,64 @@ module _ (q : StmtSeat) (o : LogicalOperator) (a b : Tree) (h : is_and_or o ≡ 
       (record { by = negated_by })
       (any_step_same Stands stands_means (Stmt q) (expression_statement (negated_logical o a b)) (expression_statement (turned_logical o a b)) inside_step)
 
+-- ---- a part of a sequence but the last
+
+module _ (o : LogicalOperator) (a b : Tree) (h : is_and_or o ≡ true) (next : Tree) (after : Trees) where
+  abbrev before_turned : Trees
+  before_turned = logical o a b ▸ (next ▸ after)
+
+  abbrev negated_part : Trees
+  negated_part = negated_logical o a b ▸ (next ▸ after)
+
+  abbrev turned_part : Trees
+  turned_part = turned_logical o a b ▸ (next ▸ after)
+
+  module _ (D : VariableSet) (e : Environment) where
+    first_alike : (w : Want) (s : State) → in_row e (logical o a b) (next ▸ after) w s ≡ in_row e (negated_logical o a b) (next ▸ after) w s
+    unfolding in_row
+    first_alike w s = ap (λ x. either x (λ u z. in_row e next after w z) (λ y z. stop y z)) (unused_alike D e o a b h s)
+
+    later_alike : (p : Tree) (ps : Trees) (w : Want) (s : State) → in_row e p (append ps before_turned) w s ≡ in_row e p (append ps negated_part) w s
+    unfolding in_row
+    later_alike p none w s = either_cong (means e p (As Unused) tt s) _ _ _ _ (λ u z. first_alike w z) (λ y z. refl)
+    later_alike p (q ▸ qs) w s = either_cong (means e p (As Unused) tt s) _ _ _ _ (λ u z. later_alike q qs w z) (λ y z. refl)
+
+    parts_alike : (before : Trees) (s : State) → means e (sequence (append before before_turned)) (As Val) tt s ≡ means e (sequence (append before negated_part)) (As Val) tt s
+    parts_alike none s = sequence_in_row e (logical o a b) (next ▸ after) Val s ∙ first_alike Val s ∙ sym (sequence_in_row e (negated_logical o a b) (next ▸ after) Val s)
+    parts_alike (p ▸ ps) s = sequence_in_row e p (append ps before_turned) Val s ∙ later_alike p ps Val s ∙ sym (sequence_in_row e p (append ps negated_part) Val s)
+
+  passed_step : (π : ℕ → Position) (ps : Trees) → Stands (π (count ps)) (negated_logical o a b) (turned_logical o a b) → StepIn Stands π (append ps negated_part) (append ps turned_part)
+  passed_step π none k = first π (negated_logical o a b) (turned_logical o a b) (next ▸ after) (here (π zero) (negated_logical o a b) (turned_logical o a b) k)
+  passed_step π (p ▸ ps) k = later π p (append ps negated_part) (append ps turned_part) (passed_step (λ i. π (suc i)) ps k)
+
+  more_behind : (ps : Trees) → suc (count ps) < count (append ps negated_part)
+  more_behind none = omega arith
+  more_behind (p ▸ ps) = let rest = more_behind ps in omega (arith, rest)
+
+  passed_seat : (s : Seat) (ps : Trees) → Expr passed_part_seat ≡ Expr (part_seat s (count (append ps negated_part)) (count ps))
+  passed_seat s ps = sym (ap (λ c. Expr (if c then branch_seat s else passed_part_seat)) (unequal (suc (count ps)) (count (append ps negated_part)) (more_behind ps)))
+
+  turned_stands : Stands (Expr passed_part_seat) (negated_logical o a b) (turned_logical o a b)
+  turned_stands = let left = left_operand_seat (turned o) statement_expression_seat in left_stands (turned o) passed_part_seat (negation a) (lightest left a) b (lightest_stands left a)
+
+  part_same : (s : Seat) (before : Trees) → SameAt (Expr s) (sequence (append before before_turned)) (sequence (append before turned_part))
+  part_same s before =
+      then_same (Expr s) (sequence (append before before_turned)) (sequence (append before negated_part)) (sequence (append before turned_part))
+      (tree_same s (sequence (append before before_turned)) (sequence (append before negated_part)) (same_value (sequence (append before before_turned)) (sequence (append before negated_part)) refl refl refl (λ e z. parts_alike nothing e before z)))
+      (any_step_same Stands stands_means (Expr s) (sequence (append before negated_part)) (sequence (append before turned_part))
+      (inside (Expr s) shape.SequenceExpression [] 0 (listed (append before negated_part) ▸ none) (listed (append before turned_part) ▸ none)
+      (first (child_position shape.SequenceExpression (Expr s) 1) (listed (append before negated_part)) (listed (append before turned_part)) none
+      (inside (SequenceList s) shape.Listed [] 0 (append before negated_part) (append before turned_part)
+      (passed_step (child_position shape.Listed (SequenceList s) (count (append before negated_part))) before (subst (λ x. Stands x (negated_logical o a b) (turned_logical o a b)) (passed_seat s before) turned_stands))))))
+
 row_same : (p : Position) (n w : Tree) → DeMorganRow p n w → SameAt p n w
 row_same (Stmt q) n w r = subst (λ t. SameAt (Stmt q) t w) (sym r.shape) (subst (SameAt (Stmt q) (expression_statement (logical r.operator r.a r.b))) (sym r.written) (turned_same q r.operator r.a r.b r.tells))
+row_same (Expr s) n w r = subst (λ t. SameAt (Expr s) t w) (sym r.shape) (subst (SameAt (Expr s) (sequence (append r.before (logical r.operator r.a r.b ▸ (r.next ▸ r.after))))) (sym r.written) (part_same r.operator r.a r.b r.tells r.next r.after s r.before))
 row_same p n w r = absurd r
 
 row_read : (p : Position) (n w : Tree) → DeMorganRow p n w → summary n ≡ summary w
 row_read (Stmt q) n w r = ap summary r.shape ∙ sym (ap summary r.written)
+row_read (Expr s) n w r = ap summary r.shape ∙ sym (ap summary r.written)
 row_read p n w r = absurd r
 
 pub de_morgan_same : MeansSame DeMorganContracts

@@ -152,6 +152,8 @@ pub mod NegationMeaning
 pub mod NegationKept
 pub mod NegationLawful
 pub mod SequenceIdle
+pub mod SequenceCalls
+pub mod SequenceYields
 pub mod SequenceMeaning
 pub mod SequenceWeights
 pub mod SequenceLawful

@@ -17,17 +17,18 @@ use Rattle.mini_kept.proofs.Bools.{left, both}
 use Rattle.mini_kept.proofs.Expressions.{refused_here, expression, TakesExpressionIn, TakesExpression, expression_taken, of_negation, of_conditional, two_fit, three_fit}
 use Rattle.mini_node.specs.Walks.{append_none}
 use Rattle.mini_rows.specs.Arranged.{KeptAt}
-use Rattle.mini_rows.specs.Sketches.{Unary, Binary, Logical, Conditional, Sequence, Parts, Sketch, part, under, list, end, ◌▹◌, no_items, item, items}
+use Rattle.mini_rows.specs.Sketches.{Unary, Binary, Logical, Conditional, Sequence, Yield, Parts, Sketch, part, under, list, end, ◌▹◌, no_items, item, items}
 use Rattle.mini_rows.specs.Lists.{sequence}
-use Rattle.mini_rows.specs.Sequences.{Conversion, Plus, Minus, Complement, conversion_operator, Operation, Decides, Chooses, Negates, Operates, Converts, over, takes_last, Row21, Row21Idle, Row21Alone, SequenceRow, SequenceContracts}
+use Rattle.mini_rows.specs.Sequences.{Conversion, Plus, Minus, Complement, conversion_operator, Operation, Decides, Chooses, Negates, Operates, Converts, Yields, over, takes_last, stays_alone, Row21, Row21Idle, Row21Alone, SequenceRow, SequenceContracts}
 use Rattle.mini_model.specs.declared.operator.UnaryOperator.TheVariants.{LogicalNot, UnaryPlus, UnaryNegation, BitwiseNot}
-use Rattle.mini_terms.specs.Parts.{is_number, suits}
+use Rattle.mini_terms.specs.Parts.{is_number}
 use Rattle.mini_rows.proofs.ArrangedExpressions.{expressions_arranged, expressions_arranged_freely}
 use Rattle.mini_rows.proofs.ArrangedLawful.{kept_is_lawful}
 use Rattle.mini_rows.proofs.ConstantLawful.{unary_at, binary_at}
 use Rattle.mini_rows.proofs.FoldLawful.{operands, expression_slot, vanishes, first_dropped, no_number}
-use Rattle.mini_rows.proofs.FoldWeights.{not_a_number}
 use Rattle.mini_rows.proofs.ListShapes.{AllFit, sequence_fits, parts_fit, of_parts_fits, append_fits, both_fit, first_fits, more_fit}
+use Rattle.mini_rows.proofs.SequenceCalls.{left_number}
+use Rattle.mini_rows.proofs.SequenceYields.{yield_at, yielded_fits}
 use Rattle.mini_rows.proofs.SequenceMeaning.{several, sequences_same}
 
 -- ---- the same parts
@@ -44,6 +45,7 @@ lifted_kept (Operates o b) p ps l q n w e f = expressions_arranged (record { tre
 lifted_kept (Converts Plus) p ps l q n w e f = expressions_arranged (record { trees = p ▸ l ▸ none; lists = ps ∷ [] }) (under (Unary UnaryPlus) (in_order (part 1) ▹ end)) (in_order (under (Unary UnaryPlus) (part 1 ▹ end))) refl q n w e f
 lifted_kept (Converts Minus) p ps l q n w e f = expressions_arranged (record { trees = p ▸ l ▸ none; lists = ps ∷ [] }) (under (Unary UnaryNegation) (in_order (part 1) ▹ end)) (in_order (under (Unary UnaryNegation) (part 1 ▹ end))) refl q n w e f
 lifted_kept (Converts Complement) p ps l q n w e f = expressions_arranged (record { trees = p ▸ l ▸ none; lists = ps ∷ [] }) (under (Unary BitwiseNot) (in_order (part 1) ▹ end)) (in_order (under (Unary BitwiseNot) (part 1 ▹ end))) refl q n w e f
+lifted_kept (Yields d) p ps l q n w e f = expressions_arranged (record { trees = p ▸ l ▸ none; lists = ps ∷ [] }) (under (Yield d) (in_order (part 1) ▹ end)) (in_order (under (Yield d) (part 1 ▹ end))) refl q n w e f
 
 spread_kept : (q : Seat) (n w : Tree) → Row21 n w → KeptAt (Expr q) n w
 spread_kept q n w r =
@@ -109,12 +111,12 @@ sequence_in strict (a_private_or_key true) ts e = absurd (refused_here strict (o
 sequence_in strict (an_inner_key true) ts e = absurd (refused_here strict (one (an_inner_key true)) shape.SequenceExpression [] 0 (listed ts ▸ none) refl e)
 sequence_in strict k ts e = absurd (refused_here strict (one k) shape.SequenceExpression [] 0 (listed ts ▸ none) refl e)
 
-of_sequence : (strict : Bool) (s : Slot) (ts : Trees) → fits strict s (sequence ts) ≡ true → TakesExpression s × (fits strict expression (sequence ts) ≡ true)
+pub of_sequence : (strict : Bool) (s : Slot) (ts : Trees) → fits strict s (sequence ts) ≡ true → TakesExpression s × (fits strict expression (sequence ts) ≡ true)
 of_sequence strict (one k) ts e = sequence_in strict k ts e
 of_sequence strict (one_or_absent k) ts e = sequence_in strict k ts e
 of_sequence strict s ts e = absurd (refused_here strict s shape.SequenceExpression [] 0 (listed ts ▸ none) refl e)
 
-two_at_least : (before : Trees) (a b : Tree) (ts : Trees) → 2 ≤ count (append before (a ▸ (b ▸ ts)))
+pub two_at_least : (before : Trees) (a b : Tree) (ts : Trees) → 2 ≤ count (append before (a ▸ (b ▸ ts)))
 two_at_least none a b ts = omega arith
 two_at_least (p ▸ ps) a b ts = let rest = two_at_least ps a b ts in omega (arith, rest)
 
@@ -155,8 +157,11 @@ module _ (strict : Bool) where
   lifted_fits s (Operates o b) p ps l h e =
       let (takes, (first, second)) = binary_at strict o (sequence (p ▸ append ps (l ▸ none))) b s e in
       (takes, last_fits p ps l first (over (Operates o b) l) (λ f. two_fit strict l b f second))
+  lifted_fits s (Yields d) p ps l h e =
+      let (takes, first) = yield_at strict d (p ▸ append ps (l ▸ none)) s e in
+      (takes, last_fits p ps l first (over (Yields d) l) (λ f. yielded_fits strict d l f))
 
-  items_fit : (ts : Trees) → Fits (sequence ts) → AllFit strict expression ts
+  pub items_fit : (ts : Trees) → Fits (sequence ts) → AllFit strict expression ts
   items_fit ts e = left (fill strict (each expression) ts) true (and_parts (nat_le 2 (count ts)) (fill strict (each expression) ts && true) e).1
 
   spread_fits : (before : Trees) (a b : Tree) (ps after : Trees) → Fits (sequence (append before (sequence (a ▸ (b ▸ ps)) ▸ after))) → Fits (sequence (append before (a ▸ (b ▸ append ps after))))
@@ -202,7 +207,7 @@ row_slot p n w r strict s e = absurd r
 
 -- ---- what a parent asks of them
 
-sequence_asked : (p : Position) (ts us : Trees) → AskedAlike p (sequence ts) (sequence us)
+pub sequence_asked : (p : Position) (ts us : Trees) → AskedAlike p (sequence ts) (sequence us)
 sequence_asked p ts us = record {
   absent = λ e. absurd (true≢false (sym e));
   body = λ e. absurd (true≢false (sym e));
@@ -245,6 +250,14 @@ over_asked p (Converts c) a ts = record {
   spelled = λ s e. absurd (cc e);
   plain = refl;
 }
+over_asked p (Yields d) a ts = record {
+  absent = λ e. absurd (true≢false (sym e));
+  body = λ e. absurd (true≢false (sym e));
+  optional = λ e. absurd (true≢false (sym e));
+  number = λ asks e. refl;
+  spelled = λ s e. absurd (cc e);
+  plain = refl;
+}
 over_asked p (Operates o b) a ts = record {
   absent = λ e. absurd (true≢false (sym e));
   body = λ e. absurd (true≢false (sym e));
@@ -254,12 +267,12 @@ over_asked p (Operates o b) a ts = record {
   plain = refl;
 }
 
-alone_asked : (q : Seat) (ts : Trees) (t : Tree) → suits q t ≡ true → AskedAlike (Expr q) (sequence ts) t
+alone_asked : (q : Seat) (ts : Trees) (t : Tree) → stays_alone q t ≡ true → AskedAlike (Expr q) (sequence ts) t
 alone_asked q ts t h = record {
   absent = λ e. absurd (true≢false (sym e));
   body = λ e. absurd (true≢false (sym e));
   optional = λ e. absurd (true≢false (sym e));
-  number = λ asks e. no_number t (not_a_number q t asks h);
+  number = λ asks e. no_number t (left_number q t h asks);
   spelled = λ s e. absurd (cc e);
   plain = refl;
 }

@@ -25,9 +25,11 @@ use Rattle.mini_terms.specs.Reading.{stands, by_value, is_item, is_unguarded}
 use Rattle.mini_terms.proofs.Opened.{negation_opened}
 use Rattle.mini_terms.proofs.Reading.{read_by_value, same_in_seat}
 use Rattle.mini_rows.specs.Lists.{of_parts, sequence}
-use Rattle.mini_rows.specs.Sequences.{Conversion, Plus, Minus, Complement, conversion_operator, Operation, Decides, Chooses, Negates, Operates, Converts, over, Row20, Row21, Row21Idle, Row21Alone, SequenceRow, SequenceContracts}
+use Rattle.mini_rows.specs.Sequences.{Conversion, Plus, Minus, Complement, conversion_operator, Operation, Decides, Chooses, Negates, Operates, Converts, Yields, over, Row20, Row21, Row21Idle, Row21Alone, SequenceRow, SequenceContracts}
 use Rattle.mini_rows.proofs.ChoiceRuns.{value, conditional_value, logical_value, binary_value, binary_names, sides, bind_free, made_free, numeric_free, operate_by_free}
-use Rattle.mini_rows.proofs.FoldMeaning.{plain_of, value_of, plain_read}
+use Rattle.mini_rows.proofs.PlainRead.{plain_read}
+use Rattle.mini_rows.proofs.SequenceCalls.{left_plain, left_same}
+use Rattle.mini_rows.proofs.SequenceYields.{yields_value, yield_value}
 use Rattle.mini_rows.proofs.SequenceIdle.{idle_same, alone_same}
 use Rattle.mini_rows.proofs.ListParts.{joined_is, spread_is}
 use Rattle.mini_rows.proofs.SpellAlike.{SameTree}
@@ -76,12 +78,14 @@ follows e (Chooses b c) v z = choose (truth v) (value e b z) (value e c z)
 follows e Negates v z = ok (Boolean (not (truth v))) z
 follows e (Operates o b) v z = either (value e b z) (λ u y. run {q = λ i. As Val} e (binary_names o b b) (sides e b b) (operate_by o v u) y) (λ x y. stop x y)
 follows e (Converts c) v z = converts e (conversion_operator c) absent v z
+follows e (Yields d) v z = yields_value e d v z
 
 over_value : (e : Environment) (r : Operation) (a : Tree) (s : State) → value e (over r a) s ≡ either (value e a s) (λ v z. follows e r v z) (λ x z. stop x z)
 over_value e (Decides o b) a s = logical_value e o a b s
 over_value e (Chooses b c) a s = conditional_value e a b c s
 over_value e Negates a s = negation_opened e a s
 over_value e (Converts c) a s = conversion_value e c a s
+over_value e (Yields d) a s = yield_value e d a s
 over_value e (Operates o b) a s =
     binary_value e o a b s
     ∙ either_cong (value e a s) _ _ _ _ (λ v z. either_cong (value e b z) _ _ _ _ (λ u y. operate_by_free e (binary_names o a b) (binary_names o b b) (sides e a b) (sides e b b) o v u y) (λ x y. refl)) (λ x z. refl)
@@ -111,6 +115,7 @@ lifted_same (Operates o b) p ps q = same_value _ _ refl refl refl (lifted_value 
 lifted_same (Converts Plus) p ps q = same_value _ _ refl refl refl (lifted_value (Converts Plus) p ps q)
 lifted_same (Converts Minus) p ps q = same_value _ _ refl refl refl (lifted_value (Converts Minus) p ps q)
 lifted_same (Converts Complement) p ps q = same_value _ _ refl refl refl (lifted_value (Converts Complement) p ps q)
+lifted_same (Yields d) p ps q = same_value _ _ refl refl refl (lifted_value (Yields d) p ps q)
 
 -- ---- 21
 
@@ -140,7 +145,7 @@ idle_row s n w r =
     same_here s n w whole rest r.shape r.written (same_in_seat s whole rest refl (or_right (is_unguarded s.guard && is_item rest) true refl) (idle_same r.before r.idle r.next r.after r.effect_free))
 
 alone_row : (s : Seat) (n w : Tree) → Row21Alone s n w → SameAt (Expr s) n w
-alone_row s n w r = same_here s n w _ _ r.shape r.written (same_in_seat s (sequence (r.idle ▸ (r.last ▸ none))) r.last refl (value_of s r.last r.stays) (alone_same r.idle r.last r.effect_free))
+alone_row s n w r = same_here s n w _ _ r.shape r.written (left_same s r.last r.stays (sequence (r.idle ▸ (r.last ▸ none))) refl refl (alone_same r.idle r.last r.effect_free))
 
 means_same : (p : Position) (n w : Tree) → SequenceRow p n w → SameAt p n w
 means_same (Expr s) n w (inl r) = tree_same s n w (lifted_row n w s r)
@@ -153,7 +158,7 @@ reads : (p : Position) (n w : Tree) → SequenceRow p n w → summary n ≡ summ
 reads (Expr s) n w (inl r) = (lifted_row n w s r).read
 reads (Expr s) n w (inr (inl r)) = (spread_row n w r).read
 reads (Expr s) n w (inr (inr (inl r))) = ap summary r.shape ∙ sym (ap summary r.written)
-reads (Expr s) n w (inr (inr (inr r))) = ap summary r.shape ∙ sym (plain_read r.last (plain_of s r.last r.stays)) ∙ sym (ap summary r.written)
+reads (Expr s) n w (inr (inr (inr r))) = ap summary r.shape ∙ sym (plain_read r.last (left_plain s r.last r.stays)) ∙ sym (ap summary r.written)
 reads p n w r = absurd r
 
 pub sequences_same : MeansSame SequenceContracts

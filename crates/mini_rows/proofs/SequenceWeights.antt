@@ -16,16 +16,16 @@ use Rattle.mini_model.specs.declared.shape.Shape.{Shape}
 use Rattle.mini_model.specs.declared.shape.Shape.TheVariants as shape
 use Rattle.mini_model.specs.Tree.{Tree, Trees, node, none, ◌▸◌, count, listed}
 use Rattle.mini_model.specs.Paths.{append}
-use Rattle.mini_model.specs.Position.{seat_of_level, left_level, unary_level, unary_operand_seat, binary_operand_seat, left_operand_seat, right_operand_seat, conditional_test_seat, branch_seat, passed_part_seat, not_operand_seat}
+use Rattle.mini_model.specs.Position.{seat_of_level, left_level, unary_level, unary_operand_seat, binary_operand_seat, left_operand_seat, right_operand_seat, conditional_test_seat, branch_seat, passed_part_seat, not_operand_seat, yield_argument_seat}
 use Rattle.mini_model.specs.Weight.{Outline, outline, outlines, weight, place_weight, nth_items, first_is_zero, level_of, mixes, is_chain, is_call, is_parenthesized, is_awkward}
 use Rattle.mini_laws.specs.Weights.{Lightens, counts_items}
 use Rattle.mini_laws.proofs.Seats.{placed, placed_node}
 use Rattle.mini_terms.specs.Parts.{weighs}
 use Rattle.mini_terms.specs.Reading.{first_of, is_plain_part, are_plain_parts}
 use Rattle.mini_rows.specs.Lists.{sequence}
-use Rattle.mini_rows.specs.Sequences.{Conversion, Plus, Minus, Complement, conversion_operator, Operation, Decides, Chooses, Negates, Operates, Converts, over, is_open_seat, is_unmixed, takes_alone, Row21Alone, SequenceRow, SequenceContracts, SequencesLighter}
+use Rattle.mini_rows.specs.Sequences.{Conversion, Plus, Minus, Complement, conversion_operator, Operation, Decides, Chooses, Negates, Operates, Converts, Yields, over, is_open_seat, is_unmixed, takes_alone, Row21Alone, SequenceRow, SequenceContracts, SequencesLighter}
 use Rattle.mini_rows.proofs.ListWeights.{parts_total, parts_weight, sequence_weighs}
-use Rattle.mini_rows.proofs.FoldMeaning.{plain_of}
+use Rattle.mini_rows.proofs.SequenceCalls.{left_plain}
 use Rattle.mini_rows.proofs.FoldWeights.{two, no_inner, there, no_choice}
 use Rattle.mini_rows.proofs.SpellWeights.{falls_by}
 
@@ -129,6 +129,9 @@ conversion_moved Plus t = placed 4 (conversion_seat Plus) passed_part_seat refl 
 conversion_moved Minus t = placed 4 (conversion_seat Minus) passed_part_seat refl (plain_marks unary_level) t
 conversion_moved Complement t = placed 4 (conversion_seat Complement) passed_part_seat refl (plain_marks unary_level) t
 
+yield_moved : (t : Tree) → weight (Expr yield_argument_seat) t ≤ weight (Expr passed_part_seat) t + 4
+yield_moved t = placed 4 yield_argument_seat passed_part_seat refl (plain_marks 1) t
+
 left_moved : (o : LogicalOperator) (s : Seat) (t : Tree) → weight (Expr (left_operand_seat o s)) t ≤ weight (Expr passed_part_seat) t + 4
 left_moved Or s t = placed 4 (left_operand_seat Or s) passed_part_seat refl (left_marks Or s) t
 left_moved And s t = placed 4 (left_operand_seat And s) passed_part_seat refl (left_marks And s) t
@@ -191,6 +194,10 @@ node_falls s (Converts Complement) p ps q =
     let inner = sequence_weighs (unary_operand_seat BitwiseNot) p (append ps (q ▸ none)) in
     let first = conversion_moved Complement q in
     omega (arith, inner, first)
+node_falls s (Yields d) p ps q =
+    let inner = sequence_weighs yield_argument_seat p (append ps (q ▸ none)) in
+    let first = yield_moved q in
+    omega (arith, inner, first)
 
 -- the parts of a list, and a comma for each
 
@@ -225,6 +232,22 @@ spread_falls s before a b ps after =
     let other = all_append before (a ▸ (b ▸ append ps after)) in
     let rest = all_append ps after in
     omega (arith, nested, flat, inner, one, other, rest)
+
+-- ---- a part in the place of another
+
+pub part_changes : (s : Seat) (before : Trees) (x y q : Tree) (qs : Trees) → weight (Expr s) (sequence (append before (x ▸ (q ▸ qs)))) + weight (Expr passed_part_seat) y ≡ weight (Expr s) (sequence (append before (y ▸ (q ▸ qs)))) + weight (Expr passed_part_seat) x
+part_changes s before x y q qs =
+    let one = list_weighs s before x (q ▸ qs) in
+    let other = list_weighs s before y (q ▸ qs) in
+    let some = all_append before (x ▸ (q ▸ qs)) in
+    let others = all_append before (y ▸ (q ▸ qs)) in
+    omega (arith, one, other, some, others)
+
+pub part_within : (s : Seat) (before : Trees) (x q : Tree) (qs : Trees) → weight (Expr passed_part_seat) x ≤ weight (Expr s) (sequence (append before (x ▸ (q ▸ qs))))
+part_within s before x q qs =
+    let whole = list_weighs s before x (q ▸ qs) in
+    let parts = all_append before (x ▸ (q ▸ qs)) in
+    omega (arith, whole, parts)
 
 -- ---- 21, of parts without effect: a comma goes, and the part
 
@@ -299,7 +322,7 @@ pub lighter : SequencesLighter
 lighter (Expr s) n w (inl r) = falls_by (Expr s) n w _ _ r.shape r.written (lifted_falls s r.seated r.operation r.first r.others r.last)
 lighter (Expr s) n w (inr (inl r)) = falls_by (Expr s) n w _ _ r.shape r.written (spread_falls s r.before r.first r.second r.others r.after)
 lighter (Expr s) n w (inr (inr (inl r))) = falls_by (Expr s) n w _ _ r.shape r.written (idle_falls s r.before r.idle r.next r.after)
-lighter (Expr s) n w (inr (inr (inr r))) = let falls = alone_falls s r.seated r.idle r.last r.heavy (plain_of s r.last r.stays) in falls_by (Expr s) n w _ _ r.shape r.written (omega (arith, falls))
+lighter (Expr s) n w (inr (inr (inr r))) = let falls = alone_falls s r.seated r.idle r.last r.heavy (left_plain s r.last r.stays) in falls_by (Expr s) n w _ _ r.shape r.written (omega (arith, falls))
 lighter p n w r = absurd r
 
 over_outline : (r : Operation) (a : Tree) (ts : Trees) → outline (over r a) ≡ outline (sequence ts)
@@ -308,6 +331,7 @@ over_outline (Chooses b c) a ts = refl
 over_outline Negates a ts = refl
 over_outline (Operates o b) a ts = refl
 over_outline (Converts c) a ts = refl
+over_outline (Yields d) a ts = refl
 
 -- what a parent's weight reads of them: a number 0 alone weighs less by 2 at least
 record ReadLightly (p : Position) (n w : Tree) : Type 0 where
@@ -320,7 +344,7 @@ whole_alike p n w e = record { absent = ap (λ o. o.absent) e; is_zero = inl (ap
 
 alone_alike : (s : Seat) (n w : Tree) → Row21Alone s n w → ReadLightly (Expr s) n w
 alone_alike s n w r =
-    let plain = plain_of s r.last r.stays in record {
+    let plain = left_plain s r.last r.stays in record {
       absent = ap (λ t. (outline t).absent) r.shape ∙ sym (ap (λ t. (outline t).absent) r.written ∙ there r.last plain);
       is_zero = inr (subst (λ t. weight (Expr s) t + 2 ≤ weight (Expr s) n) (sym r.written) (subst (λ t. weight (Expr s) r.last + 2 ≤ weight (Expr s) t) (sym r.shape) (alone_falls s r.seated r.idle r.last r.heavy plain)));
       chooses = ap (λ t. (outline t).chooses) r.shape ∙ sym (ap (λ t. (outline t).chooses) r.written ∙ no_choice r.last plain);

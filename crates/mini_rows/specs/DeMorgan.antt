@@ -1,14 +1,16 @@
--- Rows of expression statements, whose values nobody uses: each is a shape and what is written in its place, with the JavaScript
+-- Rows of expressions whose values nobody uses, of statements and of parts of sequences: each is a shape and what is written in its place, with the JavaScript
 -- before and after.
 use Rattle.std.specs.Prelude.{◌≡◌, ◌<◌, true, false}
 use Rattle.mini_model.specs.declared.operator.LogicalOperator.{LogicalOperator}
 use Rattle.mini_model.specs.declared.place.Position.{Position}
-use Rattle.mini_model.specs.declared.place.Position.TheVariants.{Stmt}
-use Rattle.mini_model.specs.Tree.{Tree, logical, expression_statement}
+use Rattle.mini_model.specs.declared.place.Position.TheVariants.{Expr, Stmt}
+use Rattle.mini_model.specs.Paths.{append}
+use Rattle.mini_model.specs.Tree.{Tree, Trees, ◌▸◌, logical, expression_statement}
 use Rattle.mini_model.specs.Position.{is_and_or, statement_expression_seat, left_operand_seat}
 use Rattle.mini_model.specs.Terms.{turned}
 use Rattle.mini_model.specs.Weight.{weight}
 use Rattle.mini_node.specs.Kinds.{is_logical}
+use Rattle.mini_rows.specs.Lists.{sequence}
 use Rattle.mini_rows.specs.Negations.{lightest}
 
 -- the left side negated under the other operator
@@ -26,9 +28,23 @@ pub record Row50 (n w : Tree) : Type 0 where
   pub shape : n ≡ expression_statement (logical operator a b)
   pub written : w ≡ expression_statement (turned_logical operator a b)
 
+-- 50, of a part of a sequence but the last: `a(), !b && c(), d()` becomes `a(), b || c(), d()`
+pub record Row50Part (n w : Tree) : Type 0 where
+  pub before : Trees
+  pub operator : LogicalOperator
+  pub a : Tree
+  pub b : Tree
+  pub next : Tree
+  pub after : Trees
+  pub tells : is_and_or operator ≡ true
+  pub apart : is_logical operator b ≡ false
+  pub shape : n ≡ sequence (append before (logical operator a b ▸ (next ▸ after)))
+  pub written : w ≡ sequence (append before (turned_logical operator a b ▸ (next ▸ after)))
+
 -- a row reads n as w at this place
 abbrev pub DeMorganRow : Position → Tree → Tree → Type 0
 DeMorganRow (Stmt q) n w = Row50 n w
+DeMorganRow (Expr s) n w = Row50Part n w
 DeMorganRow _ n w = ⊥
 
 -- what it writes, where it weighs less

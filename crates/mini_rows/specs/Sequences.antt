@@ -1,20 +1,25 @@
 -- Rows on sequences, as equations: each is a shape and what is written in its place, with the JavaScript before and after. No order of
 -- rewriting is meant.
-use Rattle.std.specs.Prelude.{◌≡◌, ◌<◌, ◌⊎◌, ◌&&◌, ◌||◌, Bool, true, false, not, nat_eq, nat_le, nat_lt}
+use Rattle.std.specs.Prelude.{◌≡◌, ◌<◌, ◌⊎◌, ◌&&◌, ◌||◌, Bool, true, false, not, nat_eq, nat_le, nat_lt, [], codes}
 use Rattle.mini_model.specs.declared.operator.BinaryOperator.{BinaryOperator}
 use Rattle.mini_model.specs.declared.operator.LogicalOperator.{LogicalOperator}
 use Rattle.mini_model.specs.declared.operator.UnaryOperator.{UnaryOperator}
 use Rattle.mini_model.specs.declared.operator.UnaryOperator.TheVariants.{UnaryPlus, UnaryNegation, BitwiseNot}
 use Rattle.mini_model.specs.declared.place.Position.{Position}
 use Rattle.mini_model.specs.declared.place.Position.TheVariants.{Expr}
+use Rattle.mini_model.specs.declared.seat.Guard.{Guard}
+use Rattle.mini_model.specs.declared.seat.Guard.TheVariants as guard
 use Rattle.mini_model.specs.declared.seat.Seat.{Seat}
 use Rattle.mini_model.specs.declared.seat.Mix.{Mix}
 use Rattle.mini_model.specs.declared.seat.Mix.TheVariants as mix
-use Rattle.mini_model.specs.Tree.{Tree, Trees, none, ◌▸◌, count, unary, negation, logical, conditional}
+use Rattle.mini_model.specs.declared.shape.Shape.TheVariants as shape
+use Rattle.mini_model.specs.Tree.{Tree, Trees, node, none, ◌▸◌, count, shape_of, unary, negation, logical, conditional}
 use Rattle.mini_model.specs.Paths.{append}
 use Rattle.mini_model.specs.Weight.{weight}
+use Rattle.mini_node.specs.Children.{names_of}
 use Rattle.mini_terms.specs.Folds.{is_effect_free}
 use Rattle.mini_terms.specs.Parts.{is_number, suits, leaves_nothing, weighs}
+use Rattle.mini_rows.specs.Decrements.{is_name, is_spelled}
 use Rattle.mini_rows.specs.Lists.{sequence}
 use Rattle.mini_rows.specs.Spellings.{binary}
 
@@ -31,13 +36,19 @@ conversion_operator Plus = UnaryPlus
 conversion_operator Minus = UnaryNegation
 conversion_operator Complement = BitwiseNot
 
--- a node that evaluates its first operand before all else of it, over that operand: `a && b`, `a ? b : c`, `!a`, `a + b`, `-a`
+-- `yield a`, and `yield* a`
+abbrev pub yielded : Bool → Tree → Tree
+yielded is_delegate a = node (shape.YieldExpression is_delegate) [] 0 (a ▸ none)
+
+-- a node that evaluates its first operand before all else of it, over that operand: `a && b`, `a ? b : c`, `!a`, `a + b`, `-a`,
+-- `yield a`
 pub data Operation : Type 0 where
   Decides : LogicalOperator → Tree → Operation
   Chooses : Tree → Tree → Operation
   Negates : Operation
   Operates : BinaryOperator → Tree → Operation
   Converts : Conversion → Operation
+  Yields : Bool → Operation
 
 abbrev pub over : Operation → Tree → Tree
 over (Decides o b) a = logical o a b
@@ -45,6 +56,7 @@ over (Chooses b c) a = conditional a b c
 over Negates a = negation a
 over (Operates o b) a = binary o a b
 over (Converts c) a = unary (conversion_operator c) a
+over (Yields is_delegate) a = yielded is_delegate a
 
 -- no number comes to stand behind a `-`, which would be one with it
 abbrev pub takes_last : Operation → Tree → Bool
@@ -64,10 +76,23 @@ is_unmixed m = false
 abbrev pub takes_alone : Seat → Bool
 takes_alone s = nat_lt 0 s.level || (not s.access && (not s.new_callee && is_unmixed s.mix))
 
+abbrev pub is_callee : Guard → Bool
+is_callee guard.Callee = true
+is_callee g = false
+
+-- a name that is called is given no `this` (ECMA-262, "Function Calls"), as what stands in parentheses; but a call of the name `eval` may
+-- be a direct eval
+abbrev pub is_called_plainly : Seat → Tree → Bool
+is_called_plainly s t = is_callee s.guard && (is_name (shape_of t) && not (is_spelled (names_of t) (codes "eval")))
+
+-- what is left of a sequence means there what the sequence did
+abbrev pub stays_alone : Seat → Tree → Bool
+stays_alone s t = suits s t || is_called_plainly s t
+
 -- ---- rows
 
 -- 20: `(a, b) && c` becomes `a, b && c`, `(a, b) ? c : d` becomes `a, b ? c : d`, `!(a, b)` becomes `a, !b`, `(a, b) + c` becomes
--- `a, b + c`, and `-(a, b)` becomes `a, -b`
+-- `a, b + c`, `-(a, b)` becomes `a, -b`, and `yield (a, b)` becomes `a, yield b`
 pub record Row20 (s : Seat) (n w : Tree) : Type 0 where
   pub operation : Operation
   pub first : Tree
@@ -101,7 +126,7 @@ pub record Row21Idle (n w : Tree) : Type 0 where
   pub shape : n ≡ sequence (append before (idle ▸ (next ▸ after)))
   pub written : w ≡ sequence (append before (next ▸ after))
 
--- and where one part is left: `1, a()` becomes `a()`
+-- and where one part is left: `1, a()` becomes `a()`, and `(0, a)()` becomes `a()`
 pub record Row21Alone (s : Seat) (n w : Tree) : Type 0 where
   pub idle : Tree
   pub last : Tree
@@ -109,7 +134,7 @@ pub record Row21Alone (s : Seat) (n w : Tree) : Type 0 where
   pub dropped : leaves_nothing idle ≡ true
   pub heavy : weighs idle ≡ true
   pub seated : takes_alone s ≡ true
-  pub stays : suits s last ≡ true
+  pub stays : stays_alone s last ≡ true
   pub shape : n ≡ sequence (idle ▸ (last ▸ none))
   pub written : w ≡ last
 

@@ -31,7 +31,8 @@ fn is_spelled(name: &Option<Name>, spelling: &Text) -> bool
     }
 }
 
-fn is_spelled_eval(name: &Option<Name>) -> bool
+/// Whether this name is `eval`.
+pub fn is_spelled_eval(name: &Option<Name>) -> bool
     ensures { result ≡ rows.is_spelled (names name.now) (codes "eval") }
 {
     match name {

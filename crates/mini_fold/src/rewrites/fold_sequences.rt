@@ -1,18 +1,19 @@
-//! Rows 20 and 21: a sequence is lifted out of the first operand of a logical expression, a conditional, a `!`, `+`, `-` or `~`, or an operator
-//! of two, and spread in a sequence; parts that have no effect go, but the last. `(a, b) && c` becomes `a, b && c`, `-(a, b)` becomes
-//! `a, -b`, `a, (b, c)` becomes `a, b, c`, and `a(), 1, b()` becomes `a(), b()`. What is written is lighter in every place.
+//! Rows 20 and 21: a sequence is lifted out of the first operand of a logical expression, a conditional, a `!`, `+`, `-` or `~`, an operator
+//! of two, or a `yield`, and spread in a sequence; parts that have no effect go, but the last. `(a, b) && c` becomes `a, b && c`, `-(a, b)` becomes
+//! `a, -b`, `a, (b, c)` becomes `a, b, c`, `a(), 1, b()` becomes `a(), b()`, and `(0, a)()` becomes `a()`. What is written is lighter in every place.
 
 ghost use Rattle.std.specs.Prelude.{◌≡◌, ◌+◌, ◌<◌, ◌&&◌, true, false, nat_le, is_some, IfOk, IfSome};
 ghost use Rattle.mini_model.specs.Tree.{children, count, child_or_absent};
 ghost use Rattle.mini_node.specs.Children.{part, without};
 ghost use Rattle.mini_node.specs.Kinds.{sequence as sequence_of, is_sequence as is_it_sequence, unary_operator as unary_operator_of};
 ghost use Rattle.mini_terms.specs.Parts.{is_number as is_it_number};
-ghost use Rattle.mini_rows.specs.Sequences.{is_open_seat as is_it_open_seat, is_unmixed as is_it_unmixed, takes_alone as takes_it_alone};
+ghost use Rattle.mini_rows.specs.Sequences.{is_open_seat as is_it_open_seat, is_unmixed as is_it_unmixed, takes_alone as takes_it_alone, is_callee as is_it_callee, is_called_plainly as is_it_called_plainly, stays_alone as stays_it_alone};
 ghost use Rattle.mini_tree.specs.Rule.{Applied};
-ghost use Rattle.mini_fold.specs.FoldSequences.{has_several as has_it_several, is_several as is_it_several, converts as converts_by, is_minus as is_it_minus, is_operation as is_it_operation, takes_last_of, gives_parts as it_gives_parts, is_lifted as is_it_lifted, last_of, but_last, lifted, any_of, spread_at, is_nested as is_it_nested, is_idle as is_it_idle, idle_before_last, is_left as is_it_left, Gives, Rests};
+ghost use Rattle.mini_fold.specs.FoldSequences.{has_several as has_it_several, is_several as is_it_several, converts as converts_by, is_minus as is_it_minus, is_yield as is_it_yield, is_operation as is_it_operation, takes_last_of, gives_parts as it_gives_parts, is_lifted as is_it_lifted, last_of, but_last, lifted, any_of, spread_at, is_nested as is_it_nested, is_idle as is_it_idle, idle_before_last, is_left as is_it_left, Gives, Rests};
 ghost use Rattle.mini_fold.specs.Lighter.{sequences_lighter};
 
-use mini_model::{Mix, OutOfMemory, Position, Seat, Shape, UnaryOperator};
+use crate::rewrites::decrement_counter::is_spelled_eval;
+use mini_model::{Guard, Mix, OutOfMemory, Position, Seat, Shape, UnaryOperator};
 use mini_node::{
     Node, Nodes, absent, binary_operator, discard, is_conditional, is_negation, is_sequence,
     logical_operator, one, sequence, take_first, taken, two, unary_operator,
@@ -66,6 +67,14 @@ fn converts(node: &Node) -> bool
     }
 }
 
+// `yield a`, and `yield* a`
+fn yields(node: &Node) -> bool
+    ensures kind { result ≡ is_it_yield node.now }
+    ensures parts { result ≡ true → count (children node.now) ≡ 1 }
+{
+    matches!(node.shape(), Shape::YieldExpression(_)) && node.is_bare(1)
+}
+
 // Whether it evaluates its first operand before all else of it.
 fn is_operation(node: &Node) -> bool
     ensures kind { result ≡ is_it_operation node.now }
@@ -76,6 +85,7 @@ fn is_operation(node: &Node) -> bool
         || is_negation(node)
         || binary_operator(node).is_some()
         || converts(node)
+        || yields(node)
 }
 
 fn is_minus(operator: Option<UnaryOperator>) -> bool
@@ -244,11 +254,36 @@ fn is_unmixed(mix: Mix) -> bool
     }
 }
 
+fn is_callee(guard: Guard) -> bool
+    ensures { result ≡ is_it_callee guard }
+{
+    matches!(guard, Guard::Callee)
+}
+
+// Whether it is a name that is called here, and not `eval`.
+fn is_called_plainly(seat: Seat, node: &Node) -> bool
+    ensures { result ≡ is_it_called_plainly seat node.now }
+{
+    is_callee(seat.guard)
+        && matches!(node.shape(), Shape::Identifier)
+        && !is_spelled_eval(node.name())
+}
+
+// Whether it means here what a sequence does of which it is left.
+fn stays_alone(seat: Seat, node: &Node) -> bool
+    ensures { result ≡ stays_it_alone seat node.now }
+{
+    suits(seat, node) || is_called_plainly(seat, node)
+}
+
 // Whether of two parts the last one may stand alone.
 fn is_left(seat: Seat, parts: &Nodes) -> bool
     ensures { result ≡ is_it_left seat parts.now }
 {
-    parts.len() == 2 && takes_alone(seat) && is_idle(parts.child(0)) && suits(seat, parts.child(1))
+    parts.len() == 2
+        && takes_alone(seat)
+        && is_idle(parts.child(0))
+        && stays_alone(seat, parts.child(1))
 }
 
 fn last_of_two(node: Node) -> Node
@@ -259,7 +294,7 @@ fn last_of_two(node: Node) -> Node
     last
 }
 
-// `a()` of `1, a()`
+// `a()` of `1, a()`, and `a()` of `(0, a)()`
 fn leave_last(alloc: Global, node: &mut Node, seat: Seat) -> bool
     requires parts { count (children node.old) ≡ 1 }
     requires kind { is_it_sequence node.old ≡ true }

@@ -1,24 +1,26 @@
-//! Row 50: `!a && b;` becomes `a || b;`, and `!a || b;` `a && b;`, where that is lighter.
+//! Row 50: `!a && b;` becomes `a || b;`, and `!a || b;` `a && b;`, where that is lighter; and so of a part of a sequence but the
+//! last: `a(), !b && c(), d()` becomes `a(), b || c(), d()`.
 
-ghost use Rattle.std.specs.Prelude.{◌≡◌, is_some, unwrap_or, OnOk, IfOk};
+ghost use Rattle.std.specs.Prelude.{◌≡◌, ◌+◌, ◌<◌, true, is_some, unwrap_or, OnOk, IfOk, IfSome};
 ghost use Rattle.mini_model.specs.declared.place.Position.TheVariants.{Expr};
 ghost use Rattle.mini_model.specs.Position.{left_operand_seat as left_seat, statement_expression_seat as statement_seat};
-ghost use Rattle.mini_model.specs.Tree.{children, count, expression_statement as expression_statement_of, logical as logical_of};
+ghost use Rattle.mini_model.specs.Tree.{children, count, child_or_absent, expression_statement as expression_statement_of, logical as logical_of};
 ghost use Rattle.mini_model.specs.Weight.{capped, weight as weight_at};
 ghost use Rattle.mini_model.specs.Terms.{turned as turned_operator};
 ghost use Rattle.mini_node.specs.Children.{part as part_of};
+ghost use Rattle.mini_node.specs.Kinds.{sequence as sequence_of};
 ghost use Rattle.mini_tree.specs.Rule.{Applied};
 ghost use Rattle.mini_logic.specs.Lighter.{de_morgan_lighter};
 ghost use Rattle.mini_logic.specs.MinimizeNegation.{told_lightest};
-ghost use Rattle.mini_logic.specs.DeMorganForVoidExpr.{turned_over as it_turned_over, turns as it_turns, written, Gives, Rests};
+ghost use Rattle.mini_logic.specs.DeMorganForVoidExpr.{turned_over as it_turned_over, turns as it_turns, written, is_turned as is_it_turned, turns_before_last, turned_part as it_turned_part, with_turned as it_with_turned, Gives, Rests};
 
 use crate::rewrites::minimize_expression_in_boolean_context::is_and_or;
 use crate::terms::own_weight;
 use crate::whole::{lightest_negation, lightest_negation_weight};
-use mini_model::{LogicalOperator, OutOfMemory, Position};
+use mini_model::{LogicalOperator, OutOfMemory, Position, Seat};
 use mini_node::{
-    Node, expression_statement, is_expression_statement, is_logical, logical, logical_operator,
-    one, taken, two,
+    Node, Nodes, discard, expression_statement, is_expression_statement, is_logical, is_sequence,
+    logical, logical_operator, one, sequence, taken, two,
 };
 use mini_tree::{Context, Rule, expr_weight, seats};
 use std::alloc::Global;
@@ -106,7 +108,72 @@ pub fn de_morgan_for_void_expr(alloc: Global, node: &mut Node) -> Result<bool, O
     Ok(true)
 }
 
-/// Row 50 as a rule: of each statement.
+// Whether it turns where nobody asks its value.
+fn is_turned(node: &Node) -> bool
+    ensures { result ≡ is_it_turned node.now }
+{
+    match logical_operator(node) {
+        Some(operator) => turns(operator, node),
+        None => false,
+    }
+}
+
+// The place of the first part that turns, but for the last.
+fn turned_at(nodes: &Nodes) -> Option<usize>
+    ensures found { IfSome result (λ at. at + 1 < count nodes.now) }
+    ensures read { IfSome result (λ at. is_it_turned (child_or_absent nodes.now at) ≡ true) }
+    ensures any { is_some result ≡ turns_before_last nodes.now }
+{
+    for at in 0..nodes.len().saturating_sub(1) {
+        if is_turned(nodes.child(at)) {
+            return Some(at);
+        }
+    }
+    None
+}
+
+// `b || c()` of `!b && c()`
+fn turned_part(alloc: Global, part: Node) -> Result<Node, OutOfMemory>
+    ensures { IfOk result (λ w. w ≡ it_turned_part part) }
+{
+    match logical_operator(&part) {
+        Some(operator) => turned_over(alloc, operator, part),
+        None => Ok(part),
+    }
+}
+
+// The sequence with the part at a place turned.
+#[tactic(auto, using(crate::proofs::DeMorganParts::put_twice))]
+fn with_turned(alloc: Global, node: Node, at: usize) -> Result<Node, OutOfMemory>
+    requires { at < count (children (part_of node 0)) }
+    ensures { IfOk result (λ w. w ≡ sequence_of (it_with_turned at (children (part_of node 0)))) }
+{
+    let mut parts = one(node).into_children();
+    let part = parts.take(at);
+    let turned = turned_part(alloc, part)?;
+    discard(parts.replace(at, turned));
+    sequence(alloc, parts)
+}
+
+/// `a(), !b && c(), d()` becomes `a(), b || c(), d()`, where that is lighter: the value of a part but the last is asked by nobody (ECMA-262,
+/// "Comma Operator"). The answer says whether one did; the only error is that memory runs out, and then the expression is fit only to be
+/// dropped.
+pub fn de_morgan_for_part(alloc: Global, node: &mut Node, seat: Seat) -> Result<bool, OutOfMemory>
+    ensures { IfOk result (λ changed. Applied Gives Rests (Position.Expr seat) node.old node.new changed) }
+{
+    if !is_sequence(node) {
+        return Ok(false);
+    }
+    match turned_at(node.child(0).children()) {
+        Some(at) => {
+            *node = with_turned(alloc, taken(alloc, node), at)?;
+            Ok(true)
+        }
+        None => Ok(false),
+    }
+}
+
+/// Row 50 as a rule: of each statement, and of each sequence.
 pub struct MinimizeVoid;
 
 impl<C: Context> Rule<C> for MinimizeVoid {
@@ -125,6 +192,7 @@ impl<C: Context> Rule<C> for MinimizeVoid {
     ) -> Result<bool, OutOfMemory> {
         match place {
             Position::Stmt(_) => Ok(de_morgan_for_void_expr(alloc, node)?),
+            Position::Expr(seat) => Ok(de_morgan_for_part(alloc, node, seat)?),
             _ => Ok(false),
         }
     }

@@ -1,0 +1,127 @@
+-- A name is called as the sequence that it was the last part of: without a `this`, and not as a direct eval.
+use Rattle.std.proofs.Common.{◌≡◌, ℕ, Bool, true, false, List, [], ◌∷◌, refl, sym, ap, subst, ◌∙◌, true≢false}
+use Rattle.std.specs.Prelude.{◌&&◌, ◌||◌, not, None, codes, is_none, if◌then◌else◌}
+use Rattle.std.proofs.lemmas.Bool.{and_parts}
+use Rattle.mini_model.specs.declared.name.Name.{Name}
+use Rattle.mini_model.specs.declared.place.Position.TheVariants.{Expr}
+use Rattle.mini_model.specs.declared.seat.Guard.{Guard}
+use Rattle.mini_model.specs.declared.seat.Guard.TheVariants as guard
+use Rattle.mini_model.specs.declared.seat.Seat.{Seat}
+use Rattle.mini_model.specs.declared.shape.Shape.TheVariants as shape
+use Rattle.mini_model.specs.Tree.{Tree, Trees, node, shape_of}
+use Rattle.mini_model.specs.Weight.{same_text}
+use Rattle.mini_node.specs.Children.{names_of}
+use Rattle.mini_laws.specs.Value.{Value, VariableSet, variables}
+use Rattle.mini_laws.specs.State.{State, Completion, ok, stop, halt, out, either, Environment}
+use Rattle.mini_laws.specs.Demand.{Val, Demand, As, Callee, OfType, Deleted, AnEntry, Stat, plain_call}
+use Rattle.mini_laws.specs.Expressions.{is_eval, first_kind}
+use Rattle.mini_laws.specs.Fits.{Fits}
+use Rattle.mini_laws.specs.Naming.{EvalName, PlainName, UndefinedName, NumberName, kinds, naming, summaries}
+use Rattle.mini_laws.specs.Rows.{SameAt}
+use Rattle.mini_laws.specs.Same.{Goes, Agree, Same}
+use Rattle.mini_laws.specs.Step.{step, means, meaning}
+use Rattle.mini_terms.specs.Parts.{is_number, takes_numbers, suits}
+use Rattle.mini_terms.specs.Reading.{is_item, is_plain_part, stands, by_value, SameWanted}
+use Rattle.mini_terms.proofs.Dropping.{weak}
+use Rattle.mini_terms.proofs.Reading.{read_by_value, same_item, same_in_seat}
+use Rattle.mini_rows.specs.Decrements.{is_name, is_spelled}
+use Rattle.mini_rows.specs.Sequences.{is_callee, is_called_plainly, stays_alone}
+use Rattle.mini_rows.proofs.ChainRuns.{next, called, value, named_call, name_kind}
+use Rattle.mini_rows.proofs.FoldMeaning.{plain_of, value_of}
+use Rattle.mini_rows.proofs.FoldWeights.{not_a_number}
+
+-- ---- a name that isn't `eval`
+
+not_true : (b : Bool) → not b ≡ true → b ≡ false
+not_true false e = refl
+not_true true e = absurd (true≢false (sym e))
+
+kind_plain : (resolved undefined nan infinity eval : Bool) → eval ≡ false → is_eval (if resolved then (if undefined then UndefinedName else (if nan then NumberName else (if infinity then NumberName else (if eval then EvalName else PlainName)))) else (if eval then EvalName else PlainName)) ≡ false
+kind_plain r u n i true e = absurd (true≢false e)
+kind_plain false u n i false e = refl
+kind_plain true true n i false e = refl
+kind_plain true false true i false e = refl
+kind_plain true false false true false e = refl
+kind_plain true false false false false e = refl
+
+plain_names : (xs : List Name) → is_spelled xs (codes "eval") ≡ false → is_eval (first_kind (kinds xs)) ≡ false
+plain_names [] e = refl
+plain_names (x ∷ xs) e = kind_plain (is_none x.symbol) (same_text x.spelling (codes "undefined")) (same_text x.spelling (codes "NaN")) (same_text x.spelling (codes "Infinity")) (same_text x.spelling (codes "eval")) e
+
+names_called : (e : Environment) (xs : List Name) (n : ℕ) (ts : Trees) (s : State) → is_spelled xs (codes "eval") ≡ false → called e (node shape.Identifier xs n ts) s ≡ next (value e (node shape.Identifier xs n ts) s) (λ v z. ok (plain_call v) z)
+unfolding means step
+names_called e xs n ts s h =
+    name_kind e (naming shape.Identifier Callee (variables xs) n (summaries ts)) (naming shape.Identifier (As Val) (variables xs) n (summaries ts)) (λ i. Stat None) (λ i. Stat None) (λ i r z. meaning e ts i (Stat None) r z) (λ i r z. meaning e ts i (Stat None) r z) (first_kind (kinds xs)) refl s
+    ∙ ap (λ b. next (value e (node shape.Identifier xs n ts) s) (λ v z. ok (named_call b v) z)) (plain_names xs h)
+
+-- a name of which that is known
+record PlainlyCalled (t : Tree) : Type 0 where
+  called_so : (e : Environment) (s : State) → called e t s ≡ next (value e t s) (λ v z. ok (plain_call v) z)
+  item : is_item t ≡ true
+  plain : is_plain_part t ≡ true
+  no_number : is_number t ≡ false
+
+named : (t : Tree) → is_name (shape_of t) && not (is_spelled (names_of t) (codes "eval")) ≡ true → PlainlyCalled t
+named (node shape.Identifier xs n ts) h = record { called_so = λ e s. names_called e xs n ts s (not_true (is_spelled xs (codes "eval")) h); item = refl; plain = refl; no_number = refl }
+named (node k xs n ts) h = absurd (true≢false (sym h))
+
+called_name : (s : Seat) (t : Tree) → is_called_plainly s t ≡ true → PlainlyCalled t
+called_name s t h = named t (and_parts (is_callee s.guard) (is_name (shape_of t) && not (is_spelled (names_of t) (codes "eval"))) h).1
+
+-- ---- in its seat
+
+abbrev Near : {A : Type 0} → VariableSet → Completion A → Completion A → Type 0
+Near D x y = Goes true (λ a. Agree D) (Agree D) (Agree D) x y
+
+called_near : (D : VariableSet) (x y : Completion Value) → Near D x y → Near D (next x (λ v z. ok (plain_call v) z)) (next y (λ v z. ok (plain_call v) z))
+unfolding Goes either
+called_near D (ok v s) (ok w t) g = (ap plain_call g.0, g.1)
+called_near D (stop u s) (stop w t) g = g
+called_near D (halt u s) (halt w t) g = g
+called_near D out y g = weak D (next y (λ v z. ok (plain_call v) z))
+called_near D x y g = absurd g
+
+no_other : (g h : Guard) → is_callee g ≡ true → g ≡ h → is_callee h ≡ false → ⊥
+no_other g h c e f = true≢false (sym c ∙ ap is_callee e ∙ f)
+
+called_by : (s : Seat) (n t : Tree) → stands n ≡ true → is_item n ≡ true → is_callee s.guard ≡ true → PlainlyCalled t → SameWanted n t → (e : Environment) (D X : VariableSet) (q : Demand) → Fits (Expr s) q → Same e D X q n t
+unfolding by_value
+called_by s n t p i c x h e D X (As u) f = h e D X u
+called_by s n t p i c x h e D X AnEntry f = same_item e D X n t i x.item (h e D X Val)
+called_by s n t p i c x h e D X Callee f = record { by = λ r z j. subst (λ y. Near D y (means e t Callee tt z)) (sym (read_by_value n p e Callee tt z)) (subst (Near D (next (value e n z) (λ v y. ok (plain_call v) y))) (sym (x.called_so e z)) (called_near D (value e n z) (value e t z) ((h e D X Val).by tt z j))) }
+called_by s n t p i c x h e D X OfType f = absurd (no_other s.guard guard.Typeof c f.2 refl)
+called_by s n t p i c x h e D X Deleted f = absurd (no_other s.guard guard.Delete c f.2 refl)
+called_by s n t p i c x h e D X q f = record { by = λ r z j. subst (λ y. Near D y (means e t q r z)) (sym (read_by_value n p e q r z)) (weak D (means e t q r z)) }
+
+-- ---- what is left of a sequence
+
+either_way : (b c : Bool) → b || c ≡ true → b ≡ false → c ≡ true
+either_way true c e f = absurd (true≢false f)
+either_way false c e f = e
+
+module _ (s : Seat) (t : Tree) (h : stays_alone s t ≡ true) where
+  as_name : suits s t ≡ false → is_called_plainly s t ≡ true
+  as_name f = either_way (suits s t) (is_called_plainly s t) h f
+
+  pub left_plain : is_plain_part t ≡ true
+  left_plain = go (suits s t) refl
+    where
+      go : (b : Bool) → suits s t ≡ b → is_plain_part t ≡ true
+      go true f = plain_of s t f
+      go false f = (called_name s t (as_name f)).plain
+
+  pub left_number : takes_numbers s ≡ false → is_number t ≡ false
+  left_number e = go (suits s t) refl
+    where
+      go : (b : Bool) → suits s t ≡ b → is_number t ≡ false
+      go true f = not_a_number s t e f
+      go false f = (called_name s t (as_name f)).no_number
+
+  pub left_same : (n : Tree) → stands n ≡ true → is_item n ≡ true → SameWanted n t → SameAt (Expr s) n t
+  left_same n p i same = go (suits s t) refl
+    where
+      go : (b : Bool) → suits s t ≡ b → SameAt (Expr s) n t
+      go true f = same_in_seat s n t p (value_of s t f) same
+      go false f =
+          let (called_here, name) = and_parts (is_callee s.guard) (is_name (shape_of t) && not (is_spelled (names_of t) (codes "eval"))) (as_name f) in
+          record { by = called_by s n t p i called_here (named t name) same }
