@@ -18,7 +18,9 @@ pub use rewrites::fold_known::{
     fold_statement, remove_unused_expression,
 };
 pub use rewrites::fold_operands::{FoldOperands, fold_operands};
+pub use rewrites::fold_operators::fold_delete;
 pub use rewrites::fold_sequences::{FoldSequences, fold_sequence_expression};
+pub use rewrites::fold_static_member::fold_static_member;
 pub use rewrites::fold_templates::{FoldTemplates, fold_templates, inline_template_literal};
 pub use rewrites::minimize_binary::minimize_binary;
 pub use rewrites::remove_idle_head::{has_idle_head, remove_idle_head};

@@ -27,7 +27,9 @@ pub use rewrites::substitute_property_key::{
 pub use rewrites::substitute_return_statement::{SubstituteReturns, substitute_return_statement};
 pub use rewrites::substitute_spellings::SubstituteSpellings;
 pub use rewrites::substitute_swap_binary_expressions::substitute_swap_binary_expressions;
+pub use rewrites::substitute_template_literal::substitute_template_literal;
 pub use rewrites::substitute_typeof_undefined::substitute_typeof_undefined;
+pub use rewrites::substitute_typeof_value::substitute_typeof_value;
 pub use rewrites::substitute_variable_declaration::{
     SubstituteDeclarations, substitute_variable_declaration,
 };

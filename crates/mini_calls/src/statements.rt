@@ -1,0 +1,56 @@
+//! Rewrites of lists of statements, and what they are made with.
+
+ghost use Rattle.mini_rows.specs.Lists as list;
+ghost use Rattle.mini_stmt.specs.MinimizeStatements.{MinimizesList, switches_of};
+ghost use Rattle.mini_stmt.specs.Terms as term;
+ghost use Rattle.mini_stmt.specs.TurnLoopGuards.{TurnsLoop};
+ghost use Rattle.std.specs.Prelude.{IfOk, not, ◌≡◌};
+
+use crate::PeepholeOptimizations;
+use mini_tree::{CompressOptions, Node, OutOfMemory};
+use std::alloc::Global;
+
+impl PeepholeOptimizations {
+    /// A list of statements without what the rows of lists read: empty statements go, blocks are spread, neighbours are
+    /// joined. The answer says whether it changed; the only error is that memory runs out, and then the list is fit only to be
+    /// dropped.
+    pub fn minimize_statements(
+        &self,
+        alloc: Global,
+        options: CompressOptions,
+        node: &mut Node,
+    ) -> Result<bool, OutOfMemory>
+        ensures { IfOk result (λ changed. MinimizesList (switches_of options) node.old node.new changed) }
+    {
+        mini_stmt::minimize_statements(alloc, options, node)
+    }
+
+    /// The last guard in the body of a loop that goes on with the next turn takes in what follows it, where that nests no deeper than 64, or nothing where it is the body:
+    /// where the body ends the loop goes on by itself (ECMA-262, "LoopContinues"). The answer says whether there was one; the only error
+    /// is that memory runs out, and then the statement is fit only to be dropped.
+    pub fn turn_loop_guard(&self, alloc: Global, node: &mut Node) -> Result<bool, OutOfMemory>
+        ensures { IfOk result (λ changed. TurnsLoop node.old node.new changed) }
+    {
+        mini_stmt::turn_loop_guard(alloc, node)
+    }
+
+    /// `a, b`, of which each may be a sequence: the parts of both, in order.
+    pub fn join_sequence(
+        &self,
+        alloc: Global,
+        first: Node,
+        second: Node,
+    ) -> Result<Node, OutOfMemory>
+        ensures { IfOk result (λ made. made ≡ term.joined first second) }
+    {
+        mini_stmt::join_sequence(alloc, first, second)
+    }
+
+    /// Whether the statement declares a name in the list round it that isn't hoisted through it: a `let`, a `const`, a class, a
+    /// function, an import or an export.
+    pub fn statement_cares_about_scope(&self, node: &Node) -> bool
+        ensures { result ≡ not (list.is_unscoped node.now) }
+    {
+        mini_stmt::statement_cares_about_scope(node)
+    }
+}

@@ -1,0 +1,71 @@
+//! Rewrites of names that nothing mentions, or that are read once.
+
+ghost use Rattle.mini_model.specs.declared.place.Position.TheVariants.{Elsewhere, Expr, Stmt};
+ghost use Rattle.mini_model.specs.declared.seat.Seat.{Seat};
+ghost use Rattle.mini_model.specs.declared.seat.StmtSeat.{StmtSeat};
+ghost use Rattle.mini_unused.specs.RemoveUnusedDeclaration.{Applied, AppliedInFunction, marked};
+ghost use Rattle.mini_unused.specs.RemoveUnusedName.{Applied as AppliedOfRemoveUnusedName, switches_of};
+ghost use Rattle.mini_unused.specs.SubstituteCatchClause.{Applied as AppliedOfSubstituteCatchClause};
+ghost use Rattle.std.specs.Prelude.{IfOk};
+
+use crate::PeepholeOptimizations;
+use mini_context::Scopes;
+use mini_tree::{CompressOptions, Node, OutOfMemory};
+use std::alloc::Global;
+
+impl PeepholeOptimizations {
+    /// Of a block, `let x = a();` becomes `a();`, `let x;` and `let x = 1;` become `;`, and `let x, y = b();` becomes `let y = b();`
+    /// where nothing mentions x, and so do the statements of a function that is declared. The answer says whether one did; the only error
+    /// is that memory runs out.
+    pub fn remove_unused_declaration(
+        &self,
+        alloc: Global,
+        node: &mut Node,
+        scopes: &Scopes,
+    ) -> Result<bool, OutOfMemory>
+        ensures { IfOk result (λ changed. (q : StmtSeat) → Applied (marked scopes.now) (Stmt q) node.old node.new changed) }
+    {
+        mini_unused::remove_unused_declaration(alloc, node, scopes)
+    }
+
+    /// So do the statements of an arrow function, whose parameters don't mention x either, and those of any other function that stands as an
+    /// expression.
+    pub fn remove_unused_in_arrow(
+        &self,
+        alloc: Global,
+        node: &mut Node,
+        scopes: &Scopes,
+    ) -> Result<bool, OutOfMemory>
+        ensures { IfOk result (λ changed. (s : Seat) → Applied (marked scopes.now) (Expr s) node.old node.new changed) }
+    {
+        mini_unused::remove_unused_in_arrow(alloc, node, scopes)
+    }
+
+    /// Of a function that is no arrow function, as `function f(a) { let x = b(); return x + a; }`, whose own name and whose parameters don't
+    /// mention x either, wherever it stands. The answer says whether a name went; the only error is that memory runs out.
+    pub fn remove_unused_in_function(
+        &self,
+        alloc: Global,
+        node: &mut Node,
+        scopes: &Scopes,
+    ) -> Result<bool, OutOfMemory>
+        ensures { IfOk result (λ changed. AppliedInFunction (marked scopes.now) node.old node.new changed) }
+    {
+        mini_unused::remove_unused_in_function(alloc, node, scopes)
+    }
+
+    /// A function or class expression loses its name where nothing in it mentions that and the options let it go. The answer says whether it
+    /// did.
+    pub fn remove_unused_name(&self, node: &mut Node, options: CompressOptions) -> bool
+        ensures { (s : Seat) → AppliedOfRemoveUnusedName (switches_of options) (Expr s) node.old node.new result }
+    {
+        mini_unused::remove_unused_name(node, options)
+    }
+
+    /// A `catch` loses the name of what it catches, where nothing in its body mentions that. The answer says whether it did.
+    pub fn substitute_catch_clause(&self, node: &mut Node) -> bool
+        ensures { AppliedOfSubstituteCatchClause Elsewhere node.old node.new result }
+    {
+        mini_unused::substitute_catch_clause(node)
+    }
+}
