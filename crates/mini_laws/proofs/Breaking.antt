@@ -170,7 +170,7 @@ module _ (e : Environment) where
     unfolding means step
     do_is b s = finished e (names b) do_demand (kids b) None (do_step labels) s ∙ finish_none _
 
-    do_same : (ts : Trees) (s : State) → means e (do_while (block (append ts (breaks ▸ none))) k) (Stat None) labels s ≡ means e (do_while (block ts) k) (Stat None) labels s
+    pub do_same : (ts : Trees) (s : State) → means e (do_while (block (append ts (breaks ▸ none))) k) (Stat None) labels s ≡ means e (do_while (block ts) k) (Stat None) labels s
     do_same ts s =
         do_is (block (append ts (breaks ▸ none))) s
         ∙ loop_alike (names (block ts)) (kids (block (append ts (breaks ▸ none)))) (kids (block ts)) (kid 0 [] turn_end) (turn_same ts) s

@@ -4,6 +4,7 @@ pub mod MinimizeConditionalExpression
 pub mod MinimizeIfStatement
 pub mod UnwrapBlock
 pub mod LastContinue
+pub mod LastBreak
 pub mod MinimizeForStatement
 pub mod MinimizeBody
 pub mod Joined

@@ -31,6 +31,7 @@ pub use rewrites::minimize_for_statement::minimize_for_statement;
 pub use rewrites::minimize_if_statement::{MinimizeIf, try_minimize_if};
 pub use rewrites::minimize_negation::{MinimizeNegations, minimize_negation};
 pub use rewrites::minimize_unary_expression::{MinimizeUnary, minimize_unary};
+pub use rewrites::remove_last_break::remove_last_break;
 pub use rewrites::remove_last_continue::remove_last_continue;
 pub use rewrites::unwrap_block::unwrap_block;
 pub use sequences::{

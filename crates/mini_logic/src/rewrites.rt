@@ -6,5 +6,6 @@ pub mod minimize_for_statement;
 pub mod minimize_if_statement;
 pub mod minimize_negation;
 pub mod minimize_unary_expression;
+pub mod remove_last_break;
 pub mod remove_last_continue;
 pub mod unwrap_block;

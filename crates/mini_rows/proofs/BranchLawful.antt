@@ -31,13 +31,14 @@ use Rattle.mini_rows.specs.Lists.{block, switch, return_statement, is_unscoped, 
 use Rattle.mini_rows.specs.Sketches.{AbsentPart, Return, part, under, end, ◌▹◌}
 use Rattle.mini_rows.specs.Spellings.{IsUndefined, PlainForm, a_number, a_text, a_boolean, a_null, a_big_int, a_template, a_void, plain, binary}
 use Rattle.mini_rows.specs.Cases.{switch_case, one_case, ended, breaks_out, OneCaseRow}
+use Rattle.mini_rows.specs.Loops.{bare_break}
 use Rattle.mini_rows.specs.DeadCases.{known, Choices, no_choices, choice, cases_of, before_others, are_ended, running, DeadCaseRow}
 use Rattle.mini_rows.specs.Branches.{IsEmpty, IsIdleVoid, Row60, has_else, is_other_branch, as_consequent, Surrounding, Consequent, Alternate, WhileBody, DoBody, ForBody, InBody, OfBody, around, conjunct_seat, bare_continue, Row82Empty, after, with_not, without_not, Row82Ends, Row83, BodyRow, SwitchRow, BranchRow, BranchContracts}
 use Rattle.mini_rows.proofs.ArrangedLawful.{kept_is_lawful}
 use Rattle.mini_rows.proofs.ArrangedStatements.{statements_arranged}
 use Rattle.mini_rows.proofs.BranchInside.{Inside, unwrapped_inside, wrapped_inside}
 use Rattle.mini_rows.proofs.BranchAround.{is_plain, Core, Said, core_kept, around_core, around_said, around_plain}
-use Rattle.mini_rows.proofs.BodyEnds.{continue_idle, emptied, shortened}
+use Rattle.mini_rows.proofs.BodyEnds.{continue_idle, break_idle, emptied, shortened}
 use Rattle.mini_rows.proofs.BranchEnds.{ending_written, ends_kept}
 use Rattle.mini_rows.proofs.BranchParts.{Value, core_then, said_then, value_itself, said_itself, value_not, said_not, empty_is_idle, turned_core, turned_said, chosen_core, chosen_said, tested_core, tested_said, nested_core, nested_said}
 use Rattle.mini_rows.proofs.BranchSame.{branches_same}
@@ -370,11 +371,19 @@ row_78_block k ts = around_kind k (block (append ts (bare_continue ▸ none))) (
 row_78_whole : (k : Surrounding) → Kind (around k bare_continue) (around k empty_statement)
 row_78_whole k = around_kind k bare_continue empty_statement (emptied bare_continue continue_idle) (λ strict e. refl) (λ strict e. refl)
 
+row_78_once : (test : Tree) (ts : Trees) → Kind (around (DoBody test) (block (append ts (bare_break ▸ none)))) (around (DoBody test) (block ts))
+row_78_once test ts = around_kind (DoBody test) (block (append ts (bare_break ▸ none))) (block ts) (shortened bare_break break_idle ts) (λ strict. shorter_fit strict ts bare_break) (λ strict. shorter_fit strict ts bare_break)
+
+row_78_never : (test : Tree) → Kind (around (DoBody test) bare_break) (around (DoBody test) empty_statement)
+row_78_never test = around_kind (DoBody test) bare_break empty_statement (emptied bare_break break_idle) (λ strict e. refl) (λ strict e. refl)
+
 body_kind : (n w : Tree) → BodyRow n w → Kind n w
 body_kind n w (inl r) = kind_along n _ w _ r.shape r.written (row_79 r.place r.statement r.unscoped)
 body_kind n w (inr (inl (inl r))) = kind_along n _ w _ r.shape r.written (row_78_block r.place r.before)
 body_kind n w (inr (inl (inr r))) = kind_along n _ w _ r.shape r.written (row_78_whole r.place)
-body_kind n w (inr (inr r)) =
+body_kind n w (inr (inr (inl (inl r)))) = kind_along n _ w _ r.shape r.written (row_78_once r.test r.before)
+body_kind n w (inr (inr (inl (inr r)))) = kind_along n _ w _ r.shape r.written (row_78_never r.test)
+body_kind n w (inr (inr (inr r))) =
     kind_along n _ w _ r.shape r.written (record {
       read = refl;
       before = refl;

@@ -28,6 +28,7 @@ use Rattle.mini_rows.proofs.BranchMeaning.{SameStatement, statement_same, replac
 use Rattle.mini_rows.proofs.BranchEnds.{ends_same}
 use Rattle.mini_rows.proofs.BranchLoops.{row_79}
 use Rattle.mini_rows.proofs.BodyTails.{row_78_block, row_78_whole}
+use Rattle.mini_rows.proofs.DoOnce.{row_78_once, row_78_never}
 use Rattle.mini_rows.proofs.LoopTests.{row_84}
 use Rattle.mini_rows.proofs.BooleanMeaning.{then_same}
 use Rattle.mini_rows.proofs.CaseMeaning.{one_case_same}
@@ -94,7 +95,9 @@ body_same : (n w : Tree) → BodyRow n w → SameStatement n w
 body_same n w (inl r) = replaced n _ w _ r.shape r.written (row_79 r.place r.statement r.unscoped)
 body_same n w (inr (inl (inl r))) = replaced n _ w _ r.shape r.written (row_78_block r.place r.before r.loop)
 body_same n w (inr (inl (inr r))) = replaced n _ w _ r.shape r.written (row_78_whole r.place r.loop)
-body_same n w (inr (inr r)) = replaced n _ w _ r.shape r.written (row_84 r.init r.update r.x r.test r.leading r.leaving (and_parts (is_there r.x) (not (may_leap r.x)) r.asked).0 r.tested r.unscoped r.loose)
+body_same n w (inr (inr (inl (inl r)))) = replaced n _ w _ r.shape r.written (row_78_once r.test r.before r.fails)
+body_same n w (inr (inr (inl (inr r)))) = replaced n _ w _ r.shape r.written (row_78_never r.test r.fails)
+body_same n w (inr (inr (inr r))) = replaced n _ w _ r.shape r.written (row_84 r.init r.update r.x r.test r.leading r.leaving (and_parts (is_there r.x) (not (may_leap r.x)) r.asked).0 r.tested r.unscoped r.loose)
 
 switch_same : (n w : Tree) → SwitchRow n w → SameStatement n w
 switch_same n w (inl r) = one_case_same n w r

@@ -20,6 +20,7 @@ use Rattle.mini_laws.proofs.Seats.{placed, moved}
 use Rattle.mini_rows.specs.Lists.{block, return_statement, is_unscoped}
 use Rattle.mini_rows.specs.Spellings.{IsUndefined}
 use Rattle.mini_rows.specs.Branches.{IsEmpty, IsIdleVoid, has_else, is_other_branch, as_consequent, Surrounding, Consequent, Alternate, WhileBody, DoBody, ForBody, InBody, OfBody, around, keeps_block, conjunct_seat, Row82Empty, Row82Ends, Row83, is_loop, bare_continue, BodyRow, SwitchRow, BranchRow, BranchContracts, BranchLighter}
+use Rattle.mini_rows.specs.Loops.{bare_break}
 use Rattle.mini_rows.proofs.BranchEnds.{ends_lighter, ends_fall}
 use Rattle.mini_rows.proofs.ListWeights.{total, total_append, list_is}
 use Rattle.mini_rows.proofs.LoopWeights.{row_84}
@@ -196,6 +197,16 @@ row_78_block q k ts h = let less = shorter ts in body_falls q k (block (append t
 row_78_whole : (q : StmtSeat) (k : Surrounding) → is_loop k ≡ true → weight (Stmt q) (around k empty_statement) < weight (Stmt q) (around k bare_continue)
 row_78_whole q k h = body_falls q k bare_continue empty_statement h (omega arith)
 
+row_78_once : (q : StmtSeat) (test : Tree) (ts : Trees) → weight (Stmt q) (around (DoBody test) (block ts)) < weight (Stmt q) (around (DoBody test) (block (append ts (bare_break ▸ none))))
+row_78_once q test ts =
+    let before = block_is (append ts (bare_break ▸ none)) in
+    let after = block_is ts in
+    let sum = total_append ts (bare_break ▸ none) in
+    body_falls q (DoBody test) (block (append ts (bare_break ▸ none))) (block ts) refl (omega (arith, before, after, sum))
+
+row_78_never : (q : StmtSeat) (test : Tree) → weight (Stmt q) (around (DoBody test) empty_statement) < weight (Stmt q) (around (DoBody test) bare_break)
+row_78_never q test = body_falls q (DoBody test) bare_break empty_statement refl (omega arith)
+
 -- ---- 82 and 83
 
 empty_heavy : (c : Tree) → IsEmpty c → 2 ≤ weight (Stmt stmt_seat.Consequent) c
@@ -252,7 +263,9 @@ body_row : (q : StmtSeat) (n w : Tree) → BodyRow n w → weight (Stmt q) w < w
 body_row q n w (inl r) = omega (arith, row_79 q r.place r.statement r.unscoped r.bare, ap (weight (Stmt q)) r.shape, ap (weight (Stmt q)) r.written)
 body_row q n w (inr (inl (inl r))) = omega (arith, row_78_block q r.place r.before r.loop, ap (weight (Stmt q)) r.shape, ap (weight (Stmt q)) r.written)
 body_row q n w (inr (inl (inr r))) = omega (arith, row_78_whole q r.place r.loop, ap (weight (Stmt q)) r.shape, ap (weight (Stmt q)) r.written)
-body_row q n w (inr (inr r)) = omega (arith, row_84 q r.init r.update r.x r.test r.leading r.leaving r.loose, ap (weight (Stmt q)) r.shape, ap (weight (Stmt q)) r.written)
+body_row q n w (inr (inr (inl (inl r)))) = omega (arith, row_78_once q r.test r.before, ap (weight (Stmt q)) r.shape, ap (weight (Stmt q)) r.written)
+body_row q n w (inr (inr (inl (inr r)))) = omega (arith, row_78_never q r.test, ap (weight (Stmt q)) r.shape, ap (weight (Stmt q)) r.written)
+body_row q n w (inr (inr (inr r))) = omega (arith, row_84 q r.init r.update r.x r.test r.leading r.leaving r.loose, ap (weight (Stmt q)) r.shape, ap (weight (Stmt q)) r.written)
 
 switch_lighter : (q : StmtSeat) (n w : Tree) → SwitchRow n w → weight (Stmt q) w < weight (Stmt q) n
 switch_lighter q n w (inl r) = one_case_lighter q n w r
@@ -300,7 +313,9 @@ body_outlined : (q : StmtSeat) (n w : Tree) → BodyRow n w → Outlined (Stmt q
 body_outlined q n w (inl r) = outlined (Stmt q) n _ w _ r.shape r.written (row_79_outlined q r.place r.statement r.unscoped)
 body_outlined q n w (inr (inl (inl r))) = outlined (Stmt q) n _ w _ r.shape r.written (loop_outlined q r.place (block (append r.before (bare_continue ▸ none))) (block r.before) r.loop)
 body_outlined q n w (inr (inl (inr r))) = outlined (Stmt q) n _ w _ r.shape r.written (loop_outlined q r.place bare_continue empty_statement r.loop)
-body_outlined q n w (inr (inr r)) = outlined (Stmt q) n _ w _ r.shape r.written (record { absent = refl; items = refl; is_zero = refl; chooses = inl (λ e. e) })
+body_outlined q n w (inr (inr (inl (inl r)))) = outlined (Stmt q) n _ w _ r.shape r.written (loop_outlined q (DoBody r.test) (block (append r.before (bare_break ▸ none))) (block r.before) refl)
+body_outlined q n w (inr (inr (inl (inr r)))) = outlined (Stmt q) n _ w _ r.shape r.written (loop_outlined q (DoBody r.test) bare_break empty_statement refl)
+body_outlined q n w (inr (inr (inr r))) = outlined (Stmt q) n _ w _ r.shape r.written (record { absent = refl; items = refl; is_zero = refl; chooses = inl (λ e. e) })
 
 row_83_outlined : (q : StmtSeat) (n w : Tree) → Row83 n w → Outlined (Stmt q) n w
 row_83_outlined q n w (inl r) = outlined (Stmt q) n _ w _ r.shape r.written (record { absent = refl; items = refl; is_zero = refl; chooses = inl (λ e. e) })

@@ -28,7 +28,7 @@ use Rattle.mini_rows.proofs.ListStretches.{exec_append, listed_is}
 
 -- ---- a value that is written out
 
-known_means : (e : Environment) (k : Known) (s : State) → means e (known k) (As Val) tt s ≡ ok (value_of k) s
+pub known_means : (e : Environment) (k : Known) (s : State) → means e (known k) (As Val) tt s ≡ ok (value_of k) s
 known_means e (a_number n) s = lit_sound (Number n) e s
 known_means e (a_text t) s = lit_sound (String t) e s
 known_means e (a_truth true) s = lit_sound (Boolean true) e s

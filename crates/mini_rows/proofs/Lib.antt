@@ -178,6 +178,7 @@ pub mod NameLawful
 pub mod CatchWeights
 pub mod CatchLawful
 pub mod BodyTails
+pub mod DoOnce
 pub mod BodyEnds
 pub mod JumpFree
 pub mod LoopTests

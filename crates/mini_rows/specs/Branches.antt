@@ -13,13 +13,14 @@ use Rattle.mini_model.specs.Tree.{Tree, Trees, node, none, ◌▸◌, shape_of, 
 use Rattle.mini_model.specs.Position.{if_test_seat, left_operand_seat, statement_expression_seat}
 use Rattle.mini_model.specs.Weight.{weight}
 use Rattle.mini_model.specs.Terms.{not_of, has_negated_result}
+use Rattle.mini_laws.specs.Value.{truth}
 use Rattle.mini_terms.specs.Folds.{is_effect_free}
 use Rattle.mini_terms.specs.Parts.{leaves_nothing}
 use Rattle.mini_rows.specs.Lists.{block, return_statement, is_unscoped, sequence}
-use Rattle.mini_rows.specs.Loops.{Row84}
+use Rattle.mini_rows.specs.Loops.{bare_break, Row84}
 use Rattle.mini_rows.specs.Spellings.{IsUndefined}
 use Rattle.mini_rows.specs.Cases.{OneCaseRow}
-use Rattle.mini_rows.specs.DeadCases.{DeadCaseRow}
+use Rattle.mini_rows.specs.DeadCases.{Known, known, value_of, DeadCaseRow}
 
 -- ---- terms
 
@@ -131,6 +132,29 @@ pub record Row78Whole (n w : Tree) : Type 0 where
   pub loop : is_loop place ≡ true
   pub shape : n ≡ around place bare_continue
   pub written : w ≡ around place empty_statement
+
+-- ---- 78, of a `do` that is run once
+
+-- a value that is written out and is false: `0`, `""`, `!1`, `null`, `void 0`
+pub record IsFalse (t : Tree) : Type 0 where
+  pub value : Known
+  pub fails : truth (value_of value) ≡ false
+  pub is : t ≡ known value
+
+-- `do { a(); break; } while (0);` becomes `do { a(); } while (0);`: behind its body the loop ends either way
+pub record Row78Once (n w : Tree) : Type 0 where
+  pub test : Tree
+  pub before : Trees
+  pub fails : IsFalse test
+  pub shape : n ≡ around (DoBody test) (block (append before (bare_break ▸ none)))
+  pub written : w ≡ around (DoBody test) (block before)
+
+-- `do break; while (0);` becomes `do ; while (0);`
+pub record Row78Never (n w : Tree) : Type 0 where
+  pub test : Tree
+  pub fails : IsFalse test
+  pub shape : n ≡ around (DoBody test) bare_break
+  pub written : w ≡ around (DoBody test) empty_statement
 
 -- ---- 82, with an empty consequent
 
@@ -249,9 +273,12 @@ IfRow n w = Row82Empty n w ⊎ (Row83 n w ⊎ Row82Ends n w)
 abbrev pub Row78 : Tree → Tree → Type 0
 Row78 n w = Row78Block n w ⊎ Row78Whole n w
 
+abbrev pub Row78Do : Tree → Tree → Type 0
+Row78Do n w = Row78Once n w ⊎ Row78Never n w
+
 -- those of branches and bodies
 abbrev pub BodyRow : Tree → Tree → Type 0
-BodyRow n w = Row79 n w ⊎ (Row78 n w ⊎ Row84 n w)
+BodyRow n w = Row79 n w ⊎ (Row78 n w ⊎ (Row78Do n w ⊎ Row84 n w))
 
 -- of a `switch` of one case, and of one over a value that is written out
 abbrev pub SwitchRow : Tree → Tree → Type 0

@@ -47,9 +47,9 @@ fn is_idle_end(node: &Node) -> bool
     goes_on(node) || ends_going(node)
 }
 
-// Those before the last one.
+/// Those before the last one.
 #[tactic(auto, using(crate::proofs::LastContinue::popped, crate::proofs::LastContinue::none_popped))]
-fn drop_last(statements: &mut Nodes)
+pub fn drop_last(statements: &mut Nodes)
     ensures { statements.new ≡ before_last statements.old }
 {
     if let Some(last) = statements.pop() {
