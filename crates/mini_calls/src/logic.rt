@@ -1,6 +1,6 @@
 //! Rewrites of logic: of negations, conditionals, tests, branches and bodies, and what they are made with.
 
-ghost use Rattle.mini_logic.specs.DeMorganForVoidExpr.{written as written_of_de_morgan_for_void_expr};
+ghost use Rattle.mini_logic.specs.DeMorganForVoidExpr.{Gives, Rests, written as written_of_de_morgan_for_void_expr};
 ghost use Rattle.mini_logic.specs.LastContinue.{written as written_of_last_continue};
 ghost use Rattle.mini_logic.specs.MinimizeBody.{written as written_of_minimize_body};
 ghost use Rattle.mini_logic.specs.MinimizeConditionalExpression.{written as written_of_minimize_conditional_expression};
@@ -11,10 +11,11 @@ ghost use Rattle.mini_logic.specs.MinimizeNegation.{negates, told, told_lightest
 ghost use Rattle.mini_logic.specs.MinimizeUnaryExpression.{minimized_unary, minimizes_unary};
 ghost use Rattle.mini_logic.specs.Sequences as end;
 ghost use Rattle.mini_logic.specs.UnwrapBlock.{written as written_of_unwrap_block};
+ghost use Rattle.mini_tree.specs.Rule.{Applied};
 ghost use Rattle.std.specs.Prelude.{IfOk, OnOk, if◌then◌else◌, is_some, unwrap_or, ◌≡◌};
 
 use crate::PeepholeOptimizations;
-use mini_tree::{Node, OutOfMemory, Seat};
+use mini_tree::{Node, OutOfMemory, Position, Seat};
 use std::alloc::Global;
 
 impl PeepholeOptimizations {
@@ -138,6 +139,20 @@ impl PeepholeOptimizations {
         ensures said { IfOk result (λ changed. changed ≡ is_some (written_of_de_morgan_for_void_expr node.old)) }
     {
         mini_logic::de_morgan_for_void_expr(alloc, node)
+    }
+
+    /// `a(), !b && c(), d()` becomes `a(), b || c(), d()`, where that is lighter: the value of a part but the last is asked by nobody (ECMA-262,
+    /// "Comma Operator"). The answer says whether one did; the only error is that memory runs out, and then the expression is fit only to be
+    /// dropped.
+    pub fn de_morgan_for_part(
+        &self,
+        alloc: Global,
+        node: &mut Node,
+        seat: Seat,
+    ) -> Result<bool, OutOfMemory>
+        ensures { IfOk result (λ changed. Applied Gives Rests (Position.Expr seat) node.old node.new changed) }
+    {
+        mini_logic::de_morgan_for_part(alloc, node, seat)
     }
 
     /// What `!e` is written as in this seat: the lightest of `!` over the expression, its negation and its whole negation, and the last where

@@ -54,6 +54,19 @@ impl PeepholeOptimizations {
         mini_unused::remove_unused_in_function(alloc, node, scopes)
     }
 
+    /// Of a module, as `import "a"; const x = f(); g();`, in which nothing else mentions x, and of a function that is exported. The answer
+    /// says whether a name went; the only error is that memory runs out.
+    pub fn remove_unused_in_module(
+        &self,
+        alloc: Global,
+        node: &mut Node,
+        scopes: &Scopes,
+    ) -> Result<bool, OutOfMemory>
+        ensures { IfOk result (λ changed. Applied (marked scopes.now) Elsewhere node.old node.new changed) }
+    {
+        mini_unused::remove_unused_in_module(alloc, node, scopes)
+    }
+
     /// A function or class expression loses its name where nothing in it mentions that and the options let it go. The answer says whether it
     /// did.
     pub fn remove_unused_name(&self, node: &mut Node, options: CompressOptions) -> bool
