@@ -22,7 +22,7 @@ use Rattle.mini_node.specs.Kinds.{binary, assignment, is_logical, is_conditional
 use Rattle.mini_node.specs.Made.{assignment_is, logical_is, binary_is, conditional_is, null_is}
 use Rattle.mini_node.proofs.Equality.{tree_itself}
 use Rattle.mini_terms.specs.Folds.{is_effect_free}
-use Rattle.mini_rows.specs.Choices.{assign, is_grouped, joined, strictly, joining, asks_object, null_compared, ended, deciding, computing, may_choose, Row39, Row38, Row35, Row45, Row46Equal, Row46Unequal, Row44, Row13Both, LighterRow, OwnRow, ChoiceRow, ChoiceContracts}
+use Rattle.mini_rows.specs.Choices.{assign, is_grouped, joined, strictly, joining, asks_object, null_compared, ended, deciding, may_choose, Row39, Row38, Row35, Row35Member, Row45, Row46Equal, Row46Unequal, Row44, Row13Both, LighterRow, OwnRow, ChoiceRow, ChoiceContracts}
 use Rattle.mini_rows.proofs.ChoiceCalls.{calls_lighter}
 use Rattle.mini_rows.proofs.ChoiceWeights as choice_weights
 use Rattle.mini_tree.specs.Rule.{Applied}
@@ -39,6 +39,7 @@ use Rattle.mini_choices.specs.FoldChainExpr as folded
 use Rattle.mini_terms.specs.Parts.{leaves_nothing}
 use Rattle.mini_rows.specs.Spellings.{void_zero}
 use Rattle.mini_choices.specs.EvaluateBothSides as both
+use Rattle.mini_choices.proofs.CombinedAssignment.{combined_row, combined_passes, combined_member_passes}
 use Rattle.mini_choices.proofs.BothSides.{both_row, both_passes}
 use Rattle.mini_choices.proofs.ChainLinks.{end_passes, chain_is, folded_row, folded_passes}
 use Rattle.mini_choices.proofs.OptionalChains.{chain_row, chain_passes}
@@ -116,39 +117,6 @@ decided_row n w e = go (logical_operator n) refl e
 
 decided_passes : (o : LogicalOperator) (x : Name) (b : Tree) → decide.written (logical o (identifier x) (assign x b)) ≡ Some (assignment (deciding o) (identifier x) b)
 decided_passes o x b = ap (λ g. decide.written_by (if g then Some o else None) (assign x b)) (tree_itself (identifier x))
-
--- ---- 35
-
-combined_row : (n w : Tree) → combine.written n ≡ Some w → Row35 n w
-combined_row n w e = by (assigns_name n && is_same_name (part n 0) (part (part n 1) 0)) refl e
-  where
-    made : (o : BinaryOperator) → assigns_name n ≡ true → OneName (part n 0) (part (part n 1) 0) → binary_operator (part n 1) ≡ Some o → (c : Option AssignmentOperator) → computing o ≡ c → combine.written_by c n ≡ Some w → Row35 n w
-    made o assigning one h (Some c) k e =
-        let right = part (part n 1) 1 in
-        record {
-          operator = o;
-          combined = c;
-          name = one.name;
-          b = right;
-          computes = k;
-          shape = assigns_is n assigning ∙ ap (λ t. assignment Assign t (part n 1)) one.first ∙ ap (assignment Assign (identifier one.name)) (binary_is (part n 1) o h ∙ ap (λ t. binary o t right) one.second);
-          written = sym (some_is (combine.combined c n) w e) ∙ ap (λ t. assignment c t right) one.first;
-        }
-    made o assigning one h None k e = absurd (cc e)
-
-    go : assigns_name n ≡ true → OneName (part n 0) (part (part n 1) 0) → (o : Option BinaryOperator) → binary_operator (part n 1) ≡ o → combine.written_by (combine.computing_in o) n ≡ Some w → Row35 n w
-    go assigning one (Some o) h e = made o assigning one h (computing o) refl e
-    go assigning one None h e = absurd (cc e)
-
-    by : (b : Bool) → assigns_name n && is_same_name (part n 0) (part (part n 1) 0) ≡ b → combine.written_by (if b then combine.computing_in (binary_operator (part n 1)) else None) n ≡ Some w → Row35 n w
-    by true k e =
-        let (assigning, same) = and_parts (assigns_name n) (is_same_name (part n 0) (part (part n 1) 0)) k in
-        go assigning (one_name (part n 0) (part (part n 1) 0) same) (binary_operator (part n 1)) refl e
-    by false k e = absurd (cc e)
-
-combined_passes : (o : BinaryOperator) (c : AssignmentOperator) → computing o ≡ Some c → (x : Name) (b : Tree) → combine.written (assign x (binary o (identifier x) b)) ≡ Some (assignment c (identifier x) b)
-combined_passes o c h x b =
-    ap (λ g. combine.written_by (if g then computing o else None) (assign x (binary o (identifier x) b))) (tree_itself (identifier x)) ∙ ap (λ m. combine.written_by m (assign x (binary o (identifier x) b))) h
 
 -- ---- 45
 
@@ -338,7 +306,7 @@ row_of s (node (shape.LogicalExpression o) xs m ts) w e = side_row (either_some 
   where
     comparisons_row : (nullish.written (node (shape.LogicalExpression o) xs m ts) ≡ Some w) ⊎ (object_test.written (node (shape.LogicalExpression o) xs m ts) ≡ Some w) → LighterRow s (node (shape.LogicalExpression o) xs m ts) w
     comparisons_row (inl e) = comparison_row (LighterRow s) (λ n w r. inr (inr (inr (inr (inr (inr (inl r))))))) (λ n w r. inr (inr (inr (inr (inr (inr (inr (inl r)))))))) _ w e
-    comparisons_row (inr e) = object_row (LighterRow s) (λ n w r. inr (inr (inr (inr (inr (inr (inr (inr (inl r))))))))) (λ n w r. inr (inr (inr (inr (inr (inr (inr (inr (inr r))))))))) _ w e
+    comparisons_row (inr e) = object_row (LighterRow s) (λ n w r. inr (inr (inr (inr (inr (inr (inr (inr (inl r))))))))) (λ n w r. inr (inr (inr (inr (inr (inr (inr (inr (inr (inl r)))))))))) _ w e
 
     others_row : (decide.written (node (shape.LogicalExpression o) xs m ts) ≡ Some w) ⊎ (first_of (nullish.written (node (shape.LogicalExpression o) xs m ts)) (object_test.written (node (shape.LogicalExpression o) xs m ts)) ≡ Some w) → LighterRow s (node (shape.LogicalExpression o) xs m ts) w
     others_row (inl e) = inr (inl (decided_row _ w e))
@@ -351,7 +319,11 @@ row_of s (node (shape.LogicalExpression o) xs m ts) w e = side_row (either_some 
     side_row : (both.written s (node (shape.LogicalExpression o) xs m ts) ≡ Some w) ⊎ (operands_written (node (shape.LogicalExpression o) xs m ts) ≡ Some w) → ChoiceContracts (Expr s) (node (shape.LogicalExpression o) xs m ts) w
     side_row (inl e) = both_row s _ w e
     side_row (inr e) = sure s _ w (logical_row (either_some (rotate.written (node (shape.LogicalExpression o) xs m ts)) (first_of (decide.written (node (shape.LogicalExpression o) xs m ts)) (first_of (nullish.written (node (shape.LogicalExpression o) xs m ts)) (object_test.written (node (shape.LogicalExpression o) xs m ts)))) w e))
-row_of s (node (shape.AssignmentExpression o) xs m ts) w e = sure s _ w (inr (inr (inl (combined_row _ w e))))
+row_of s (node (shape.AssignmentExpression o) xs m ts) w e = assigned_row (combined_row _ w e)
+  where
+    assigned_row : Row35 (node (shape.AssignmentExpression o) xs m ts) w ⊎ Row35Member (node (shape.AssignmentExpression o) xs m ts) w → ChoiceContracts (Expr s) (node (shape.AssignmentExpression o) xs m ts) w
+    assigned_row (inl r) = sure s _ w (inr (inr (inl r)))
+    assigned_row (inr r) = sure s _ w (inr (inr (inr (inr (inr (inr (inr (inr (inr (inr r))))))))))
 row_of s (node shape.ConditionalExpression xs m ts) w e = any_row (either_some (chains.written s (node shape.ConditionalExpression xs m ts)) (first_of (held.written s (node shape.ConditionalExpression xs m ts)) (branches.written s (node shape.ConditionalExpression xs m ts))) w e)
   where
     conditional_row : (held.written s (node shape.ConditionalExpression xs m ts) ≡ Some w) ⊎ (branches.written s (node shape.ConditionalExpression xs m ts) ≡ Some w) → ChoiceContracts (Expr s) (node shape.ConditionalExpression xs m ts) w
@@ -440,7 +412,8 @@ sure_passes s n w (inr (inr (inr (inr (inr (inr (inr (inl r)))))))) =
 sure_passes s n w (inr (inr (inr (inr (inr (inr (inr (inr (inl r))))))))) =
     let t : Tree = logical (joining (not r.there)) (ended (joining (not r.there)) r.before (asks_object r.there r.name)) (null_compared r.strict (not r.there) r.name) in
     ap (λ t. is_some (written s t)) r.shape ∙ in_operands s t (by_object t (object_passes r.there r.strict r.before r.name r.declared))
-sure_passes s n w (inr (inr (inr (inr (inr (inr (inr (inr (inr r))))))))) =
+sure_passes s n w (inr (inr (inr (inr (inr (inr (inr (inr (inr (inr r)))))))))) = ap (λ t. is_some (written s t)) r.shape ∙ ap is_some (combined_member_passes r.operator r.combined r.computes r.name r.declared r.key r.b)
+sure_passes s n w (inr (inr (inr (inr (inr (inr (inr (inr (inr (inl r)))))))))) =
     let t : Tree = logical (joining (not r.there)) (ended (joining (not r.there)) r.before (null_compared r.strict (not r.there) r.name)) (asks_object r.there r.name) in
     ap (λ t. is_some (written s t)) r.shape ∙ in_operands s t (by_object t (before_passes r.there r.strict r.before r.name r.declared))
 

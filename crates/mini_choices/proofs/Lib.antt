@@ -5,6 +5,7 @@ pub mod Spines
 pub mod LeftJoins
 pub mod HeldBranches
 pub mod BothSides
+pub mod CombinedAssignment
 pub mod Calls
 pub mod OptionalChains
 pub mod ChainLinks

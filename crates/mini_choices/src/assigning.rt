@@ -1,16 +1,19 @@
-//! Tests of assignments of names.
+//! Tests of assignments of names and of their members.
 
 ghost use Rattle.std.specs.Bool.{Decides};
 ghost use Rattle.std.specs.Prelude.{◌≡◌, true};
 ghost use Rattle.mini_model.specs.Tree.{children, count};
 ghost use Rattle.mini_node.specs.Children.{names};
 ghost use Rattle.mini_node.specs.Kinds.{assignment_operator as its_operator};
-ghost use Rattle.mini_choices.specs.Assigning.{assigns_name as it_assigns_name, is_same_operator as is_it_same_operator, is_operator, is_same_name as is_it_same_name, is_declared_in as is_it_declared_in, is_declared as is_it_declared};
+ghost use Rattle.mini_choices.specs.Assigning.{is_plain, is_property as is_it_property, is_written_key as is_it_written_key, has_written_key as has_it_written_key, is_member_of_name as is_it_member_of_name, is_same_target as is_it_same_target, assigns_name as it_assigns_name, is_same_operator as is_it_same_operator, is_operator, is_same_name as is_it_same_name, is_declared_in as is_it_declared_in, is_declared as is_it_declared};
 ghost use Rattle.mini_choices.specs.MinimizeNormalAssignmentToCombinedLogicalAssignment.{marked, may_write_in, writes_name as it_writes_name};
 
 use mini_context::Scopes;
-use mini_model::{AssignmentOperator, Name};
-use mini_node::{Node, assignment_operator, is_identifier, is_same_tree};
+use mini_model::{AssignmentOperator, Name, Shape};
+use mini_node::{
+    Node, assignment_operator, is_computed_member, is_identifier, is_same_tree, is_static_member,
+    number, string,
+};
 
 /// `x = b`
 pub fn assigns_name(node: &Node) -> bool
@@ -44,6 +47,51 @@ pub fn assigns_by(operator: AssignmentOperator, node: &Node) -> bool
         Some(other) => is_same_operator(operator, other),
         None => false,
     }
+}
+
+/// Whether it is an assignment by `=`.
+pub fn assigns_plainly(node: &Node) -> bool
+    ensures kind { result ≡ is_plain (its_operator node.now) }
+    ensures parts { result ≡ true → count (children node.now) ≡ 2 }
+{
+    matches!(assignment_operator(node), Some(AssignmentOperator::Assign))
+}
+
+// `.k`
+fn is_property(node: &Node) -> bool
+    ensures { result ≡ is_it_property node.now }
+{
+    matches!(node.shape(), Shape::IdentifierName(_)) && node.is_bare(0)
+}
+
+// `"a-b"` or `0`
+fn is_written_key(node: &Node) -> bool
+    ensures { result ≡ is_it_written_key node.now }
+{
+    string(node).is_some() || number(node).is_some()
+}
+
+// `x.k`, `x["a-b"]` or `x[0]`
+fn has_written_key(node: &Node) -> bool
+    ensures kind { result ≡ has_it_written_key node.now }
+    ensures parts { result ≡ true → count (children node.now) ≡ 2 }
+{
+    is_static_member(node) && is_property(node.child(1))
+        || is_computed_member(node) && is_written_key(node.child(1))
+}
+
+// The same where a scope declares x.
+fn is_member_of_name(node: &Node) -> bool
+    ensures { result ≡ is_it_member_of_name node.now }
+{
+    has_written_key(node) && is_identifier(node.child(0)) && is_declared(node.child(0))
+}
+
+/// Whether they are two names, or members of names with keys that are written out, and one.
+pub fn is_same_target(first: &Node, second: &Node) -> bool
+    ensures { result ≡ is_it_same_target first.now second.now }
+{
+    (is_identifier(first) || is_member_of_name(first)) && is_same_tree(first, second)
 }
 
 /// Whether they are two names, and one.

@@ -18,10 +18,11 @@ use Rattle.mini_laws.specs.declared.names.Use.{Use}
 use Rattle.mini_laws.specs.declared.names.Use.TheVariants.{Write, ReadWrite}
 use Rattle.mini_laws.specs.declared.names.Declared.TheVariants as declared
 use Rattle.mini_laws.specs.DeclaredNames.{names_of, body_names, has_inner}
-use Rattle.mini_laws.specs.Scopes.{opened}
+use Rattle.mini_laws.specs.Scopes as scopes
+use Rattle.mini_laws.specs.Scopes.{opened, use_of}
 use Rattle.mini_laws.specs.Resolved.{Environment, symbol_of, or_else, own_symbol}
 use Rattle.mini_laws.specs.Scoped.{Scoped}
-use Rattle.mini_laws.specs.Symbols.{declared as declared_in, times}
+use Rattle.mini_laws.specs.Symbols.{declared as declared_in, declared_from, times}
 use Rattle.mini_laws.specs.Early.{body_declarations, scope_declarations, early_names, early_jumps, targets_of}
 use Rattle.mini_kept.specs.Carried.{numbers}
 use Rattle.mini_kept.specs.KeepsLoosely.{KeepsLoosely}
@@ -32,7 +33,7 @@ use Rattle.mini_kept.proofs.Quiet.{no_names, no_body_names, no_body_declarations
 use Rattle.mini_rows.specs.Arranged.{KeptAt, Vanishes}
 use Rattle.mini_rows.specs.Sketches.{Unary, Binary, Logical, Conditional, Assignment, Parts, Sketch, part, under, end, ◌▹◌, Free, Null, Sequence, list, no_items, item}
 use Rattle.mini_rows.specs.Spellings.{IsUndefined, void_zero, assignment}
-use Rattle.mini_rows.specs.Choices.{assign, deciding, strictly, loosely, joining, AreNullish, Row37, Row37After, asks_object, null_compared, held, ended, Row57, Row57Null, Row39, Row38, Row35, Row45, ChoiceRow, ChoiceContracts, Row46Equal, Row46Unequal, Row41Or, Row41And, Row42And, Row42Or, Row43Or, Row43And, Row43AndThen, Row43OrThen, Row49, Row13Both, LighterRow, OwnRow, HeldRow}
+use Rattle.mini_rows.specs.Choices.{assign, deciding, strictly, loosely, joining, AreNullish, Row37, Row37After, asks_object, null_compared, held, ended, Row57, Row57Null, Key, Named, Spelled, Numbered, member_of, Row39, Row38, Row35, Row35Member, Row45, ChoiceRow, ChoiceContracts, Row46Equal, Row46Unequal, Row41Or, Row41And, Row42And, Row42Or, Row43Or, Row43And, Row43AndThen, Row43OrThen, Row49, Row13Both, LighterRow, OwnRow, HeldRow}
 use Rattle.mini_rows.proofs.ChainLinkLawful.{chains_kept}
 use Rattle.mini_rows.proofs.ChainEndKept.{end_kept}
 use Rattle.mini_rows.proofs.ArrangedExpressions.{expressions_arranged, expressions_arranged_freely}
@@ -53,29 +54,44 @@ name_scoped : (x : Name) (env : Environment) → Scoped Write env (identifier x)
 unfolding Scoped
 name_scoped x env a = ((a.0.0 ∙ symbol_either x.spelling env, tt), tt)
 
-retarget_scoped : (c : AssignmentOperator) (x : Name) (b : Tree) (v : Use) (env : Environment) → Scoped v env (assign x b) → Scoped v env (assignment c (identifier x) b)
-unfolding Scoped
-retarget_scoped Assign x b v env a = a
-retarget_scoped c x b v env a = (a.0, (name_scoped x (env ++ opened v (shape.AssignmentExpression Assign) (identifier x ▸ b ▸ none) 0) a.1.0, a.1.1))
+-- what is assigned to, and may be read besides: it declares the same, and its names have their symbols
+pub record Reads (t : Tree) : Type 0 where
+  pub declares : declared_in ReadWrite t ≡ declared_in Write t
+  pub scoped : (env : Environment) → Scoped Write env t → Scoped ReadWrite env t
 
-same_symbols : (c : AssignmentOperator) (x : Name) (b : Tree) (v : Use) → declared_in v (assignment c (identifier x) b) ≡ declared_in v (assign x b)
+name_reads : (x : Name) → Reads (identifier x)
 unfolding declared_in
-same_symbols Assign x b v = refl
-same_symbols c x b v = refl
+name_reads x = record { declares = refl; scoped = name_scoped x }
 
-retarget_keeps : (c : AssignmentOperator) (x : Name) (b : Tree) (q : Seat) (n : Tree) → KeepsLoosely (Expr q) n (assign x b) → KeepsLoosely (Expr q) n (assignment c (identifier x) b)
+member_reads : (x : Name) (k : Key) → Reads (member_of x k)
+unfolding declared_in Scoped
+member_reads x (Named s) = record { declares = refl; scoped = λ env a. a }
+member_reads x (Spelled s) = record { declares = refl; scoped = λ env a. a }
+member_reads x (Numbered n) = record { declares = refl; scoped = λ env a. a }
+
+retarget_scoped : (c : AssignmentOperator) (t b : Tree) → Reads t → (v : Use) (env : Environment) → Scoped v env (assignment Assign t b) → Scoped v env (assignment c t b)
+unfolding Scoped
+retarget_scoped Assign t b d v env a = a
+retarget_scoped c t b d v env a = (a.0, (d.scoped (env ++ opened v (shape.AssignmentExpression Assign) (t ▸ b ▸ none) 0) a.1.0, a.1.1))
+
+same_symbols : (c : AssignmentOperator) (t b : Tree) → Reads t → (v : Use) → declared_in v (assignment c t b) ≡ declared_in v (assignment Assign t b)
+unfolding declared_in scopes.scopes_by
+same_symbols Assign t b d v = refl
+same_symbols c t b d v = λ i. d.declares i ++ declared_from (λ j. []) (use_of (shape.AssignmentExpression Assign) v) 1 (b ▸ none)
+
+retarget_keeps : (c : AssignmentOperator) (t b : Tree) → Reads t → (q : Seat) (n : Tree) → KeepsLoosely (Expr q) n (assignment Assign t b) → KeepsLoosely (Expr q) n (assignment c t b)
 unfolding has_inner numbers early_names scope_declarations early_jumps targets_of
-retarget_keeps c x b q n m =
-    let w = assignment c (identifier x) b in
-    let w' = assign x b in
+retarget_keeps c t b d q n m =
+    let w = assignment c t b in
+    let w' = assignment Assign t b in
     record {
       bound = no_names declared.Bound w refl ∙ sym (no_names declared.Bound w' refl) ∙ m.bound;
       lexical = no_names declared.Lexical w refl ∙ sym (no_names declared.Lexical w' refl) ∙ m.lexical;
       hoisted = subst (λ xs. SameNames xs (names_of declared.Hoisted n)) (no_names declared.Hoisted w' refl ∙ sym (no_names declared.Hoisted w refl)) m.hoisted;
       body = λ v env k y. subst (λ xs. SameScope xs (body_names n)) (no_body_names w' refl ∙ sym (no_body_names w refl)) (m.body v env k y);
       inner = m.inner;
-      symbols = λ v env k y z. subst (λ ss. times z ss ≤ times z (declared_in v n)) (sym (same_symbols c x b v)) (m.symbols v env k y z);
-      scoped = λ v env k y. retarget_scoped c x b v env (m.scoped v env k y);
+      symbols = λ v env k y z. subst (λ ss. times z ss ≤ times z (declared_in v n)) (sym (same_symbols c t b d v)) (m.symbols v env k y z);
+      scoped = λ v env k y. retarget_scoped c t b d v env (m.scoped v env k y);
       numbers = m.numbers;
       declared_as_body = λ l p. subst (λ ds. NoMoreClash ds (body_declarations l p n)) (no_body_declarations l p w' refl ∙ sym (no_body_declarations l p w refl)) (m.declared_as_body l p);
       once = m.once;
@@ -85,9 +101,9 @@ retarget_keeps c x b q n m =
       block = λ k l p. absurd (cc k);
     }
 
-pub retargeted : (c : AssignmentOperator) (x : Name) (b : Tree) (q : Seat) (n : Tree) → KeptAt (Expr q) n (assign x b) → KeptAt (Expr q) n (assignment c (identifier x) b)
-retargeted c x b q n k = record {
-  keeps = λ strict s o e. retarget_keeps c x b q n (k.keeps strict s o e);
+pub retargeted_tree : (c : AssignmentOperator) (t b : Tree) → Reads t → (q : Seat) (n : Tree) → KeptAt (Expr q) n (assignment Assign t b) → KeptAt (Expr q) n (assignment c t b)
+retargeted_tree c t b d q n k = record {
+  keeps = λ strict s o e. retarget_keeps c t b d q n (k.keeps strict s o e);
   piece = k.piece;
   kind = k.kind;
   bodies = k.bodies;
@@ -99,10 +115,19 @@ retargeted c x b q n k = record {
   declared = k.declared;
 }
 
+pub retargeted : (c : AssignmentOperator) (x : Name) (b : Tree) (q : Seat) (n : Tree) → KeptAt (Expr q) n (assign x b) → KeptAt (Expr q) n (assignment c (identifier x) b)
+retargeted c x b = retargeted_tree c (identifier x) b (name_reads x)
+
 -- a name that is read leaves nothing behind
 pub name_vanishes : (x : Name) → Vanishes (identifier x)
 unfolding has_inner
 name_vanishes x = record { inner = refl; fixed = λ y. refl }
+
+member_vanishes : (x : Name) (k : Key) → Vanishes (member_of x k)
+unfolding has_inner
+member_vanishes x (Named s) = record { inner = refl; fixed = λ y. refl }
+member_vanishes x (Spelled s) = record { inner = refl; fixed = λ y. refl }
+member_vanishes x (Numbered n) = record { inner = refl; fixed = λ y. refl }
 
 abbrev pub first_dropped : Free
 first_dropped = record { moved = []; lists_moved = []; dropped = 0 ∷ [] }
@@ -134,6 +159,12 @@ computing_kept : (q : Seat) (n w : Tree) → Row35 n w → KeptAt (Expr q) n w
 computing_kept q n w r =
     subst (KeptAt (Expr q) n) (sym r.written)
     (retargeted r.combined r.name r.b q n (expressions_arranged_freely first_dropped (record { trees = identifier r.name ▸ r.b ▸ none; lists = [] }) (tt, tt, (name_vanishes r.name, tt)) (assigns_first (under (Binary r.operator) (part 0 ▹ part 1 ▹ end))) (assigns_first (part 1)) refl q n (assign r.name r.b) r.shape refl))
+
+computing_member_kept : (q : Seat) (n w : Tree) → Row35Member n w → KeptAt (Expr q) n w
+computing_member_kept q n w r =
+    let member : Tree = member_of r.name r.key in
+    subst (KeptAt (Expr q) n) (sym r.written)
+    (retargeted_tree r.combined member r.b (member_reads r.name r.key) q n (expressions_arranged_freely first_dropped (record { trees = member ▸ r.b ▸ none; lists = [] }) (tt, tt, (member_vanishes r.name r.key, tt)) (assigns_first (under (Binary r.operator) (part 0 ▹ part 1 ▹ end))) (assigns_first (part 1)) refl q n (assignment Assign member r.b) r.shape refl))
 
 chosen_kept : (q : Seat) (n w : Tree) → Row45 q n w → KeptAt (Expr q) n w
 chosen_kept q n w r = by r.operator r.shape r.written
@@ -282,7 +313,8 @@ lighter_kept q n w (inr (inr (inr (inr (inr (inl r)))))) = chosen_kept q n w r
 lighter_kept q n w (inr (inr (inr (inr (inr (inr (inl r))))))) = nullish_kept q n w r
 lighter_kept q n w (inr (inr (inr (inr (inr (inr (inr (inl r)))))))) = nullish_after_kept q n w r
 lighter_kept q n w (inr (inr (inr (inr (inr (inr (inr (inr (inl r))))))))) = type_kept q n w r
-lighter_kept q n w (inr (inr (inr (inr (inr (inr (inr (inr (inr r))))))))) = null_type_kept q n w r
+lighter_kept q n w (inr (inr (inr (inr (inr (inr (inr (inr (inr (inl r)))))))))) = null_type_kept q n w r
+lighter_kept q n w (inr (inr (inr (inr (inr (inr (inr (inr (inr (inr r)))))))))) = computing_member_kept q n w r
 
 own_kept : (q : Seat) (n w : Tree) → OwnRow n w → KeptAt (Expr q) n w
 own_kept q n w (inl r) = own_or_kept q n w r

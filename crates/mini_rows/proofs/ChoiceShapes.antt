@@ -18,7 +18,7 @@ use Rattle.mini_kept.specs.KeepsFrames.{is_body_slot}
 use Rattle.mini_kept.proofs.Bools.{left, both}
 use Rattle.mini_kept.proofs.Expressions.{expression, ThreeFit, of_conditional, TakesExpressionIn, TakesExpression, expression_taken, three_fit, two_fit}
 use Rattle.mini_rows.specs.Spellings.{binary, assignment}
-use Rattle.mini_rows.specs.Choices.{assign, joined, strictly, loosely, joining, asks_object, null_compared, held, ended, deciding, ChoiceRow, pair, Row44, Row13Both, LighterRow, OwnRow, HeldRow}
+use Rattle.mini_rows.specs.Choices.{Key, Named, Spelled, Numbered, member_of, assign, joined, strictly, loosely, joining, asks_object, null_compared, held, ended, deciding, ChoiceRow, pair, Row44, Row13Both, LighterRow, OwnRow, HeldRow}
 use Rattle.mini_rows.proofs.ChainLinkLawful.{chains_fit, chains_asked, chains_slot}
 use Rattle.mini_rows.proofs.ChainEnds.{end_fits, end_asked, end_slot}
 use Rattle.mini_rows.proofs.ChainLawful.{chain_row_fits, chain_row_asked, chain_row_slot}
@@ -100,6 +100,19 @@ module _ (strict : Bool) where
   pub of_assignment : (c : AssignmentOperator) (x : Name) (b : Tree) → Fits (assignment c (identifier x) b) → Fits (identifier x) × Fits b
   of_assignment Assign x b e = let (y, z) = and_parts (fits strict (one a_target) (identifier x)) (fits strict expression b && true) e in (y, left (fits strict expression b) true z)
   of_assignment c x b e = let (y, z) = and_parts (fits strict (one a_simple_target) (identifier x)) (fits strict expression b && true) e in (y, left (fits strict expression b) true z)
+
+  -- and so a member of a name
+  of_member_assignment : (x : Name) (k : Key) (b : Tree) → Fits (assignment Assign (member_of x k) b) → (fits strict (one a_target) (member_of x k) ≡ true) × Fits b
+  of_member_assignment x k b e = let (y, z) = and_parts (fits strict (one a_target) (member_of x k)) (fits strict expression b && true) e in (y, left (fits strict expression b) true z)
+
+  simply_assigned : (x : Name) (k : Key) → fits strict (one a_target) (member_of x k) ≡ true → fits strict (one a_simple_target) (member_of x k) ≡ true
+  simply_assigned x (Named s) e = e
+  simply_assigned x (Spelled s) e = e
+  simply_assigned x (Numbered n) e = e
+
+  member_assignment_fits : (c : AssignmentOperator) (x : Name) (k : Key) (b : Tree) → fits strict (one a_target) (member_of x k) ≡ true → Fits b → Fits (assignment c (member_of x k) b)
+  member_assignment_fits Assign x k b e f = both (fits strict (one a_target) (member_of x k)) (fits strict expression b && true) e (both (fits strict expression b) true f refl)
+  member_assignment_fits c x k b e f = both (fits strict (one a_simple_target) (member_of x k)) (fits strict expression b && true) (simply_assigned x k e) (both (fits strict expression b) true f refl)
 
   of_three : (a b c : Tree) → Fits (conditional a b c) → ThreeFit strict a b c
   of_three a b c e = (of_conditional strict expression a b c e).1
@@ -186,13 +199,18 @@ module _ (strict : Bool) where
         let (here, fit) = choice_taken strict s (a_logical o) (left ▸ right ▸ none) refl (subst Here r.shape e) in
         let (first, second) = of_two left right fit in
         subst Here (sym r.written) (expression_taken strict s (logical o left (held r.there r.name)) here (two_fit strict left (held r.there r.name) first (held_fits_there r.there r.name (name_there r.strict (not r.there) r.name second))))
-    lighter_fits q n w (inr (inr (inr (inr (inr (inr (inr (inr (inr r))))))))) e =
+    lighter_fits q n w (inr (inr (inr (inr (inr (inr (inr (inr (inr (inl r)))))))))) e =
         let o = joining (not r.there) in
         let test = null_compared r.strict (not r.there) r.name in
         let right = asks_object r.there r.name in
         let (here, fit) = choice_taken strict s (a_logical o) (ended o r.before test ▸ right ▸ none) refl (subst Here r.shape e) in
         let (first, second) = of_two (ended o r.before test) right fit in
         subst Here (sym r.written) (expression_taken strict s (logical o (ended o r.before (held r.there r.name)) right) here (two_fit strict (ended o r.before (held r.there r.name)) right (ended_fits o r.before test (held r.there r.name) (λ f. held_fits_there r.there r.name (name_there r.strict (not r.there) r.name f)) first) second))
+    lighter_fits q n w (inr (inr (inr (inr (inr (inr (inr (inr (inr (inr r)))))))))) e =
+        let member : Tree = member_of r.name r.key in
+        let (here, fit) = choice_taken strict s (an_assignment Assign) (member ▸ binary r.operator member r.b ▸ none) refl (subst Here r.shape e) in
+        let (first, rest) = of_member_assignment r.name r.key (binary r.operator member r.b) fit in
+        subst Here (sym r.written) (expression_taken strict s (assignment r.combined member r.b) here (member_assignment_fits r.combined r.name r.key r.b first (of_two member r.b rest).1))
 
     both_sides_fit : (n w : Tree) → Row13Both n w → Here n → Here w
     both_sides_fit n w r e =
@@ -240,7 +258,8 @@ row_formed q n w (inr (inr (inr (inr (inl r))))) = record { first = a_conditiona
 row_formed q n w (inr (inr (inr (inr (inr (inr (inl r))))))) = record { first = a_logical (joining r.equal); second = a_binary (loosely r.equal); parts = binary (strictly r.equal) (identifier r.name) r.first ▸ binary (strictly r.equal) (identifier r.name) r.second ▸ none; others = identifier r.name ▸ null_literal ▸ none; read = r.shape; made = r.written; optional = λ x. absurd (cc x) }
 row_formed q n w (inr (inr (inr (inr (inr (inr (inr (inl r)))))))) = record { first = a_logical (joining r.equal); second = a_logical (joining r.equal); parts = logical (joining r.equal) r.before (binary (strictly r.equal) (identifier r.name) r.first) ▸ binary (strictly r.equal) (identifier r.name) r.second ▸ none; others = r.before ▸ binary (loosely r.equal) (identifier r.name) null_literal ▸ none; read = r.shape; made = r.written; optional = λ x. absurd (cc x) }
 row_formed q n w (inr (inr (inr (inr (inr (inr (inr (inr (inl r))))))))) = record { first = a_logical (joining (not r.there)); second = a_logical (joining (not r.there)); parts = ended (joining (not r.there)) r.before (asks_object r.there r.name) ▸ null_compared r.strict (not r.there) r.name ▸ none; others = ended (joining (not r.there)) r.before (asks_object r.there r.name) ▸ held r.there r.name ▸ none; read = r.shape; made = r.written; optional = λ x. absurd (cc x) }
-row_formed q n w (inr (inr (inr (inr (inr (inr (inr (inr (inr r))))))))) = record { first = a_logical (joining (not r.there)); second = a_logical (joining (not r.there)); parts = ended (joining (not r.there)) r.before (null_compared r.strict (not r.there) r.name) ▸ asks_object r.there r.name ▸ none; others = ended (joining (not r.there)) r.before (held r.there r.name) ▸ asks_object r.there r.name ▸ none; read = r.shape; made = r.written; optional = λ x. absurd (cc x) }
+row_formed q n w (inr (inr (inr (inr (inr (inr (inr (inr (inr (inr r)))))))))) = record { first = an_assignment Assign; second = an_assignment r.combined; parts = member_of r.name r.key ▸ binary r.operator (member_of r.name r.key) r.b ▸ none; others = member_of r.name r.key ▸ r.b ▸ none; read = r.shape; made = r.written; optional = λ x. absurd (cc x) }
+row_formed q n w (inr (inr (inr (inr (inr (inr (inr (inr (inr (inl r)))))))))) = record { first = a_logical (joining (not r.there)); second = a_logical (joining (not r.there)); parts = ended (joining (not r.there)) r.before (null_compared r.strict (not r.there) r.name) ▸ asks_object r.there r.name ▸ none; others = ended (joining (not r.there)) r.before (held r.there r.name) ▸ asks_object r.there r.name ▸ none; read = r.shape; made = r.written; optional = λ x. absurd (cc x) }
 
 -- of a logical expression that becomes a sequence it asks nothing that the sequence hasn't
 both_sides_asked : (p : Position) (n w : Tree) → Row13Both n w → AskedAlike p n w

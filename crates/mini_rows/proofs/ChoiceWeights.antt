@@ -20,7 +20,7 @@ use Rattle.mini_model.specs.Weight.{Outline, outline, outlines, weight, place_we
 use Rattle.mini_laws.specs.Weights.{Lightens}
 use Rattle.mini_laws.proofs.Seats.{placed, placed_node}
 use Rattle.mini_rows.specs.Spellings.{binary, assignment}
-use Rattle.mini_rows.specs.Choices.{asks_object, null_compared, held, ended, assign, is_same_operator, is_grouped, joined, strictly, loosely, joining, AreNullish, deciding, computing, LighterRow, OwnRow, HeldRow, ChoiceRow, ChoiceContracts, ChoicesLighter}
+use Rattle.mini_rows.specs.Choices.{Key, Named, Spelled, Numbered, member_of, asks_object, null_compared, held, ended, assign, is_same_operator, is_grouped, joined, strictly, loosely, joining, AreNullish, deciding, computing, LighterRow, OwnRow, HeldRow, ChoiceRow, ChoiceContracts, ChoicesLighter}
 use Rattle.mini_rows.specs.Chains.{spine, chain, if_nullish}
 use Rattle.mini_rows.proofs.ChainLinkLawful.{chains_outline}
 use Rattle.mini_rows.proofs.ChainEnds.{end_outline}
@@ -161,6 +161,31 @@ computing_falls binary_operator.BitwiseAnd c h s x b = subst (Falls s binary_ope
 computing_falls binary_operator.BitwiseXor c h s x b = subst (Falls s binary_operator.BitwiseXor x b) {x = assigning.BitwiseXor} {y = c} (cc h) (omega (arith, right_falls (binary_operand_seat binary_operator.BitwiseXor 1) refl b, name_heavy x, same_marks s assigning.BitwiseXor assigning.Assign (outlines (identifier x ▸ b ▸ none)) (outlines (identifier x ▸ binary binary_operator.BitwiseXor (identifier x) b ▸ none))))
 computing_falls binary_operator.BitwiseOr c h s x b = subst (Falls s binary_operator.BitwiseOr x b) {x = assigning.BitwiseOr} {y = c} (cc h) (omega (arith, right_falls (binary_operand_seat binary_operator.BitwiseOr 1) refl b, name_heavy x, same_marks s assigning.BitwiseOr assigning.Assign (outlines (identifier x ▸ b ▸ none)) (outlines (identifier x ▸ binary binary_operator.BitwiseOr (identifier x) b ▸ none))))
 computing_falls o c h s x b = absurd (cc h)
+
+-- 35: a member of a name goes
+
+member_heavy : (s : Seat) (x : Name) (k : Key) → 1 ≤ weight (Expr s) (member_of x k)
+member_heavy s x (Named t) = omega arith
+member_heavy s x (Spelled t) = omega arith
+member_heavy s x (Numbered n) = omega arith
+
+abbrev MemberFalls : Seat → BinaryOperator → Name → Key → Tree → AssignmentOperator → Type 0
+MemberFalls s o x k b c = weight (Expr s) (assignment c (member_of x k) b) < weight (Expr s) (assignment assigning.Assign (member_of x k) (binary o (member_of x k) b))
+
+computing_member_falls : (o : BinaryOperator) (c : AssignmentOperator) → computing o ≡ Some c → (s : Seat) (x : Name) (k : Key) (b : Tree) → MemberFalls s o x k b c
+computing_member_falls binary_operator.Addition c h s x k b = subst (MemberFalls s binary_operator.Addition x k b) {x = assigning.Addition} {y = c} (cc h) (omega (arith, right_falls (binary_operand_seat binary_operator.Addition 1) refl b, member_heavy (binary_operand_seat binary_operator.Addition 0) x k, same_marks s assigning.Addition assigning.Assign (outlines (member_of x k ▸ b ▸ none)) (outlines (member_of x k ▸ binary binary_operator.Addition (member_of x k) b ▸ none))))
+computing_member_falls binary_operator.Subtraction c h s x k b = subst (MemberFalls s binary_operator.Subtraction x k b) {x = assigning.Subtraction} {y = c} (cc h) (omega (arith, right_falls (binary_operand_seat binary_operator.Subtraction 1) refl b, member_heavy (binary_operand_seat binary_operator.Subtraction 0) x k, same_marks s assigning.Subtraction assigning.Assign (outlines (member_of x k ▸ b ▸ none)) (outlines (member_of x k ▸ binary binary_operator.Subtraction (member_of x k) b ▸ none))))
+computing_member_falls binary_operator.Multiplication c h s x k b = subst (MemberFalls s binary_operator.Multiplication x k b) {x = assigning.Multiplication} {y = c} (cc h) (omega (arith, right_falls (binary_operand_seat binary_operator.Multiplication 1) refl b, member_heavy (binary_operand_seat binary_operator.Multiplication 0) x k, same_marks s assigning.Multiplication assigning.Assign (outlines (member_of x k ▸ b ▸ none)) (outlines (member_of x k ▸ binary binary_operator.Multiplication (member_of x k) b ▸ none))))
+computing_member_falls binary_operator.Division c h s x k b = subst (MemberFalls s binary_operator.Division x k b) {x = assigning.Division} {y = c} (cc h) (omega (arith, right_falls (binary_operand_seat binary_operator.Division 1) refl b, member_heavy (binary_operand_seat binary_operator.Division 0) x k, same_marks s assigning.Division assigning.Assign (outlines (member_of x k ▸ b ▸ none)) (outlines (member_of x k ▸ binary binary_operator.Division (member_of x k) b ▸ none))))
+computing_member_falls binary_operator.Remainder c h s x k b = subst (MemberFalls s binary_operator.Remainder x k b) {x = assigning.Remainder} {y = c} (cc h) (omega (arith, right_falls (binary_operand_seat binary_operator.Remainder 1) refl b, member_heavy (binary_operand_seat binary_operator.Remainder 0) x k, same_marks s assigning.Remainder assigning.Assign (outlines (member_of x k ▸ b ▸ none)) (outlines (member_of x k ▸ binary binary_operator.Remainder (member_of x k) b ▸ none))))
+computing_member_falls binary_operator.Exponential c h s x k b = subst (MemberFalls s binary_operator.Exponential x k b) {x = assigning.Exponential} {y = c} (cc h) (omega (arith, right_falls (binary_operand_seat binary_operator.Exponential 1) refl b, member_heavy (binary_operand_seat binary_operator.Exponential 0) x k, same_marks s assigning.Exponential assigning.Assign (outlines (member_of x k ▸ b ▸ none)) (outlines (member_of x k ▸ binary binary_operator.Exponential (member_of x k) b ▸ none))))
+computing_member_falls binary_operator.ShiftLeft c h s x k b = subst (MemberFalls s binary_operator.ShiftLeft x k b) {x = assigning.ShiftLeft} {y = c} (cc h) (omega (arith, right_falls (binary_operand_seat binary_operator.ShiftLeft 1) refl b, member_heavy (binary_operand_seat binary_operator.ShiftLeft 0) x k, same_marks s assigning.ShiftLeft assigning.Assign (outlines (member_of x k ▸ b ▸ none)) (outlines (member_of x k ▸ binary binary_operator.ShiftLeft (member_of x k) b ▸ none))))
+computing_member_falls binary_operator.ShiftRight c h s x k b = subst (MemberFalls s binary_operator.ShiftRight x k b) {x = assigning.ShiftRight} {y = c} (cc h) (omega (arith, right_falls (binary_operand_seat binary_operator.ShiftRight 1) refl b, member_heavy (binary_operand_seat binary_operator.ShiftRight 0) x k, same_marks s assigning.ShiftRight assigning.Assign (outlines (member_of x k ▸ b ▸ none)) (outlines (member_of x k ▸ binary binary_operator.ShiftRight (member_of x k) b ▸ none))))
+computing_member_falls binary_operator.ShiftRightZeroFill c h s x k b = subst (MemberFalls s binary_operator.ShiftRightZeroFill x k b) {x = assigning.ShiftRightZeroFill} {y = c} (cc h) (omega (arith, right_falls (binary_operand_seat binary_operator.ShiftRightZeroFill 1) refl b, member_heavy (binary_operand_seat binary_operator.ShiftRightZeroFill 0) x k, same_marks s assigning.ShiftRightZeroFill assigning.Assign (outlines (member_of x k ▸ b ▸ none)) (outlines (member_of x k ▸ binary binary_operator.ShiftRightZeroFill (member_of x k) b ▸ none))))
+computing_member_falls binary_operator.BitwiseAnd c h s x k b = subst (MemberFalls s binary_operator.BitwiseAnd x k b) {x = assigning.BitwiseAnd} {y = c} (cc h) (omega (arith, right_falls (binary_operand_seat binary_operator.BitwiseAnd 1) refl b, member_heavy (binary_operand_seat binary_operator.BitwiseAnd 0) x k, same_marks s assigning.BitwiseAnd assigning.Assign (outlines (member_of x k ▸ b ▸ none)) (outlines (member_of x k ▸ binary binary_operator.BitwiseAnd (member_of x k) b ▸ none))))
+computing_member_falls binary_operator.BitwiseXor c h s x k b = subst (MemberFalls s binary_operator.BitwiseXor x k b) {x = assigning.BitwiseXor} {y = c} (cc h) (omega (arith, right_falls (binary_operand_seat binary_operator.BitwiseXor 1) refl b, member_heavy (binary_operand_seat binary_operator.BitwiseXor 0) x k, same_marks s assigning.BitwiseXor assigning.Assign (outlines (member_of x k ▸ b ▸ none)) (outlines (member_of x k ▸ binary binary_operator.BitwiseXor (member_of x k) b ▸ none))))
+computing_member_falls binary_operator.BitwiseOr c h s x k b = subst (MemberFalls s binary_operator.BitwiseOr x k b) {x = assigning.BitwiseOr} {y = c} (cc h) (omega (arith, right_falls (binary_operand_seat binary_operator.BitwiseOr 1) refl b, member_heavy (binary_operand_seat binary_operator.BitwiseOr 0) x k, same_marks s assigning.BitwiseOr assigning.Assign (outlines (member_of x k ▸ b ▸ none)) (outlines (member_of x k ▸ binary binary_operator.BitwiseOr (member_of x k) b ▸ none))))
+computing_member_falls o c h s x k b = absurd (cc h)
 
 -- 45: a name and its `=` go
 
@@ -306,7 +331,8 @@ lighter s n w (inr (inr (inr (inr (inl r))))) = falls_by (Expr s) n w _ _ r.shap
 lighter s n w (inr (inr (inr (inr (inr (inr (inl r))))))) = falls_by (Expr s) n w _ _ r.shape r.written (compared_falls s r.equal r.name r.first r.second r.nullish)
 lighter s n w (inr (inr (inr (inr (inr (inr (inr (inl r)))))))) = falls_by (Expr s) n w _ _ r.shape r.written (compared_after_falls s r.equal r.before r.name r.first r.second r.nullish)
 lighter s n w (inr (inr (inr (inr (inr (inr (inr (inr (inl r))))))))) = falls_by (Expr s) n w _ _ r.shape r.written (type_falls s r.there r.strict r.before r.name)
-lighter s n w (inr (inr (inr (inr (inr (inr (inr (inr (inr r))))))))) = falls_by (Expr s) n w _ _ r.shape r.written (null_type_falls s r.there r.strict r.before r.name)
+lighter s n w (inr (inr (inr (inr (inr (inr (inr (inr (inr (inl r)))))))))) = falls_by (Expr s) n w _ _ r.shape r.written (null_type_falls s r.there r.strict r.before r.name)
+lighter s n w (inr (inr (inr (inr (inr (inr (inr (inr (inr (inr r)))))))))) = falls_by (Expr s) n w _ _ r.shape r.written (computing_member_falls r.operator r.combined r.computes s r.name r.key r.b)
 lighter s n w (inr (inr (inr (inr (inr (inl r)))))) = falls_by (Expr s) n w _ _ r.shape r.written (chosen_falls s r.seated r.operator r.a r.name r.b r.c)
 
 -- of none of these nodes a parent's weight reads more than that it is there
@@ -319,7 +345,8 @@ lighter_outline s n w (inr (inr (inr (inr (inl r))))) = ap outline r.shape ∙ s
 lighter_outline s n w (inr (inr (inr (inr (inr (inr (inl r))))))) = ap outline r.shape ∙ sym (ap outline r.written)
 lighter_outline s n w (inr (inr (inr (inr (inr (inr (inr (inl r)))))))) = ap outline r.shape ∙ sym (ap outline r.written)
 lighter_outline s n w (inr (inr (inr (inr (inr (inr (inr (inr (inl r))))))))) = ap outline r.shape ∙ sym (ap outline r.written)
-lighter_outline s n w (inr (inr (inr (inr (inr (inr (inr (inr (inr r))))))))) = ap outline r.shape ∙ sym (ap outline r.written)
+lighter_outline s n w (inr (inr (inr (inr (inr (inr (inr (inr (inr (inl r)))))))))) = ap outline r.shape ∙ sym (ap outline r.written)
+lighter_outline s n w (inr (inr (inr (inr (inr (inr (inr (inr (inr (inr r)))))))))) = ap outline r.shape ∙ sym (ap outline r.written)
 lighter_outline s n w (inr (inr (inr (inr (inr (inl r)))))) = ap outline r.shape ∙ sym (ap outline r.written)
 
 own_outline : (n w : Tree) → OwnRow n w → outline n ≡ outline w

@@ -111,6 +111,7 @@ mod ChoiceFree
 pub mod ChoiceWeights
 pub mod ChoiceCalls
 pub mod ChoiceMeaning
+pub mod ChoiceMembers
 pub mod ChoiceShapes
 mod ChoiceSpines
 pub mod ChoiceLawful

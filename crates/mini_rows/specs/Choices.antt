@@ -1,6 +1,6 @@
 -- Rows of conditionals, logical expressions and assignments that are written shorter of the same parts, as equations: each is a
 -- shape and what is written in its place. No order of rewriting is meant.
-use Rattle.std.specs.Prelude.{◌≡◌, ◌<◌, ◌⊎◌, ◌||◌, ◌&&◌, Bool, true, false, not, nat_eq, Option, Some, None, is_none, codes}
+use Rattle.std.specs.Prelude.{◌≡◌, ◌<◌, ◌⊎◌, ◌||◌, ◌&&◌, ℕ, ℤ, List, Bool, true, false, not, nat_eq, Option, Some, None, is_none, codes}
 use Rattle.mini_model.specs.declared.name.Name.{Name}
 use Rattle.mini_model.specs.declared.operator.AssignmentOperator.{AssignmentOperator}
 use Rattle.mini_model.specs.declared.operator.AssignmentOperator.TheVariants as assigning
@@ -11,11 +11,12 @@ use Rattle.mini_model.specs.declared.operator.LogicalOperator.TheVariants.{Or, A
 use Rattle.mini_model.specs.declared.operator.UnaryOperator.TheVariants.{Typeof}
 use Rattle.mini_model.specs.declared.seat.Seat.{Seat}
 use Rattle.mini_model.specs.declared.shape.Shape.TheVariants as shape
-use Rattle.mini_model.specs.Tree.{Tree, Trees, node, none, ◌▸◌, identifier, unary, negation, logical, conditional, null_literal, call}
+use Rattle.mini_model.specs.Tree.{Tree, Trees, node, leaf, none, ◌▸◌, identifier, unary, negation, logical, conditional, null_literal, call}
 use Rattle.mini_model.specs.declared.place.Position.{Position}
 use Rattle.mini_model.specs.declared.place.Position.TheVariants.{Expr}
 use Rattle.mini_model.specs.Position.{conditional_level}
 use Rattle.mini_model.specs.Weight.{weight}
+use Rattle.mini_node.specs.Kinds.{static_member, computed_member}
 use Rattle.mini_terms.specs.Folds.{is_effect_free, goes_on}
 use Rattle.mini_terms.specs.Reading.{is_item}
 use Rattle.mini_rows.specs.Lists.{sequence}
@@ -141,6 +142,31 @@ pub record Row35 (n w : Tree) : Type 0 where
   pub computes : computing operator ≡ Some combined
   pub shape : n ≡ assign name (binary operator (identifier name) b)
   pub written : w ≡ assignment combined (identifier name) b
+
+-- a key that is written out: `.k`, `["a-b"]` or `[0]`
+pub data Key : Type 0 where
+  Named : List ℕ → Key
+  Spelled : List ℕ → Key
+  Numbered : ℤ → Key
+
+-- `x.k`, `x["a-b"]` or `x[0]`
+abbrev pub member_of : Name → Key → Tree
+member_of x (Named s) = static_member (identifier x) (leaf (shape.IdentifierName s))
+member_of x (Spelled s) = computed_member (identifier x) (leaf (shape.StringLiteral s))
+member_of x (Numbered k) = computed_member (identifier x) (leaf (shape.NumericLiteral k))
+
+-- 35: `x.k = x.k + b` becomes `x.k += b`, where a scope declares x: nothing happens between the two reads of it (ECMA-262, "Assignment
+-- Operators": the target is evaluated first), and a key that is written out is converted without an effect
+pub record Row35Member (n w : Tree) : Type 0 where
+  pub operator : BinaryOperator
+  pub combined : AssignmentOperator
+  pub name : Name
+  pub key : Key
+  pub b : Tree
+  pub computes : computing operator ≡ Some combined
+  pub declared : is_none name.symbol ≡ false
+  pub shape : n ≡ assignment assigning.Assign (member_of name key) (binary operator (member_of name key) b)
+  pub written : w ≡ assignment combined (member_of name key) b
 
 -- whether a choice may come after the name is resolved, and, where the operator computes, read: told whether a scope declares the name, and
 -- whether the test has no effect
@@ -321,7 +347,7 @@ pub record Row13Both (n w : Tree) : Type 0 where
 
 -- rows of what is lighter in every seat
 abbrev pub LighterRow : Seat → Tree → Tree → Type 0
-LighterRow s n w = Row39 n w ⊎ (Row38 n w ⊎ (Row35 n w ⊎ (Row46Equal n w ⊎ (Row46Unequal n w ⊎ (Row45 s n w ⊎ (Row37 n w ⊎ (Row37After n w ⊎ (Row57 n w ⊎ Row57Null n w))))))))
+LighterRow s n w = Row39 n w ⊎ (Row38 n w ⊎ (Row35 n w ⊎ (Row46Equal n w ⊎ (Row46Unequal n w ⊎ (Row45 s n w ⊎ (Row37 n w ⊎ (Row37After n w ⊎ (Row57 n w ⊎ (Row57Null n w ⊎ Row35Member n w)))))))))
 
 -- of what may be heavier for its parentheses
 abbrev pub OwnRow : Tree → Tree → Type 0

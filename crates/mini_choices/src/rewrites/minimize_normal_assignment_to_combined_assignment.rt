@@ -1,10 +1,11 @@
-//! Row 35: `x = x + b` becomes `x += b`, and so of the other operators of numbers, which is lighter in every seat.
+//! Row 35: `x = x + b` becomes `x += b`, and `x.k = x.k + b` `x.k += b`, and so of the other operators of numbers, which is lighter
+//! in every seat.
 
 ghost use Rattle.std.specs.Prelude.{◌≡◌, is_some, unwrap_or, OnOk, IfOk};
 ghost use Rattle.mini_rows.specs.Choices.{computing as computing_of};
 ghost use Rattle.mini_choices.specs.MinimizeNormalAssignmentToCombinedAssignment.{computing_in as computing_in_it, combined_operator as its_combined_operator, combined as combined_of, written};
 
-use crate::assigning::{assigns_name, is_same_name};
+use crate::assigning::{assigns_plainly, is_same_target};
 use mini_model::{AssignmentOperator, BinaryOperator, OutOfMemory};
 use mini_node::{Node, assignment, binary_operator, discard, taken, two};
 use std::alloc::Global;
@@ -34,11 +35,11 @@ fn computing(operator: BinaryOperator) -> Option<AssignmentOperator>
 fn combined_operator(node: &Node) -> Option<AssignmentOperator>
     ensures { result ≡ its_combined_operator node.now }
 {
-    if !assigns_name(node) {
+    if !assigns_plainly(node) {
         return None;
     }
     match binary_operator(node.child(1)) {
-        Some(operator) if is_same_name(node.child(0), node.child(1).child(0)) => {
+        Some(operator) if is_same_target(node.child(0), node.child(1).child(0)) => {
             computing(operator)
         }
         _ => None,
@@ -55,7 +56,7 @@ fn combined(alloc: Global, operator: AssignmentOperator, node: Node) -> Result<N
     assignment(alloc, operator, target, right)
 }
 
-/// `x = x + b` becomes `x += b`, and so of the other operators of numbers. The answer says whether it did; the only error is that
+/// `x = x + b` becomes `x += b`, and `x.k = x.k + b` `x.k += b` where a scope declares x, and so of the other operators of numbers. The answer says whether it did; the only error is that
 /// memory runs out, and then the expression is fit only to be dropped.
 pub fn minimize_normal_assignment_to_combined_assignment(
     alloc: Global,
