@@ -94,14 +94,14 @@ two_nils : {X : Type 0} (xs : List X) → (xs ++ []) ++ [] ≡ xs
 two_nils xs = append-nil (xs ++ []) ∙ append-nil xs
 
 -- what stands behind others
-contained : {X : Type 0} (us bs cs : List X) → ((y : X) → Contains bs y → Contains cs y) → (y : X) → Contains (us ++ bs) y → Contains (us ++ cs) y
+pub contained : {X : Type 0} (us bs cs : List X) → ((y : X) → Contains bs y → Contains cs y) → (y : X) → Contains (us ++ bs) y → Contains (us ++ cs) y
 contained us bs cs f y c = by (Contains-append_cases us bs y c)
   where
     by : Contains us y ⊎ Contains bs y → Contains (us ++ cs) y
     by (inl z) = Contains-append_left us cs y z
     by (inr z) = Contains-append_right us cs y (f y z)
 
-with_fewer : (n k : ℕ) (xs ys : List ℕ) → count_of k ys ≤ count_of k xs → count_of k (with_number n ys) ≤ count_of k (with_number n xs)
+pub with_fewer : (n k : ℕ) (xs ys : List ℕ) → count_of k ys ≤ count_of k xs → count_of k (with_number n ys) ≤ count_of k (with_number n xs)
 with_fewer zero k xs ys e = e
 with_fewer (suc n) k xs ys e = omega (arith, e)
 

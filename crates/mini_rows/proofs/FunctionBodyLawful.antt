@@ -43,6 +43,7 @@ use Rattle.mini_rows.proofs.ArrangedBodies.{quiet}
 use Rattle.mini_rows.proofs.ArrowBodyLawful.{Instance, list_fits, none_mention, statements_run, OfArrow, arrows_loose}
 use Rattle.mini_rows.proofs.FunctionBodyKept.{function_less, function_keeps, function_fixed, statements_frames, function_frames, function_bodies, function_declares}
 use Rattle.mini_rows.proofs.ModuleLawful.{OfModule, modules_loose}
+use Rattle.mini_rows.proofs.StaticBlockLawful.{OfStaticBlock, static_blocks_loose}
 use Rattle.mini_rows.proofs.UnusedLawful.{OfBlock, blocks_loose}
 use Rattle.mini_rows.proofs.UnusedNames.{or_parts}
 use Rattle.mini_rows.proofs.UnusedStretches.{body_item, Stretch, row_stretch}
@@ -323,8 +324,12 @@ functions_loose K W = record {
 
 -- ---- all of them
 
+-- of what holds statements and no parameters
+abbrev OfList : VariableSet → Position → Tree → Tree → Type 0
+OfList W p n w = OfModule W p n w ⊎ OfStaticBlock W p n w
+
 abbrev OfBody : VariableSet → Position → Tree → Tree → Type 0
-OfBody W p n w = OfFunction W p n w ⊎ OfModule W p n w
+OfBody W p n w = OfFunction W p n w ⊎ OfList W p n w
 
 abbrev OfUnused : VariableSet → Position → Tree → Tree → Type 0
 OfUnused W p n w = OfBlock p n w ⊎ (OfArrow W p n w ⊎ OfBody W p n w)
@@ -339,10 +344,11 @@ either_holder W p n w c = by p c.row
     by (Expr s) (inr r) = inr (inr (inl (refl, r)))
     by Method r = inr (inr (inl (refl, r)))
     by Elsewhere (inl r) = inr (inr (inl (refl, r)))
-    by Elsewhere (inr r) = inr (inr (inr r))
+    by Elsewhere (inr (inl r)) = inr (inr (inr (inl r)))
+    by Elsewhere (inr (inr r)) = inr (inr (inr (inr r)))
     by p r = absurd r
 
 pub unused_loose : UnusedAreLawful
 unused_loose K W =
     loose_narrowed (UnusedContracts W) (OfUnused W) K W (either_holder W)
-    (loose_join OfBlock (λ p n w. OfArrow W p n w ⊎ OfBody W p n w) K W (loose_wider OfBlock K nothing W (nothing_part W) (blocks_loose K)) (loose_join (OfArrow W) (OfBody W) K W (arrows_loose K W) (loose_join (OfFunction W) (OfModule W) K W (functions_loose K W) (modules_loose K W))))
+    (loose_join OfBlock (λ p n w. OfArrow W p n w ⊎ OfBody W p n w) K W (loose_wider OfBlock K nothing W (nothing_part W) (blocks_loose K)) (loose_join (OfArrow W) (OfBody W) K W (arrows_loose K W) (loose_join (OfFunction W) (OfList W) K W (functions_loose K W) (loose_join (OfModule W) (OfStaticBlock W) K W (modules_loose K W) (static_blocks_loose K W)))))

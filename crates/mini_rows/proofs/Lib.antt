@@ -146,6 +146,8 @@ pub mod FunctionBodyKept
 pub mod ArrowBodyLawful
 pub mod ModuleKept
 pub mod ModuleLawful
+pub mod StaticBlockKept
+pub mod StaticBlockLawful
 pub mod FunctionBodyLawful
 pub mod DeMorganMeaning
 pub mod DeMorganLawful

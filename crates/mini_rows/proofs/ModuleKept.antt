@@ -49,17 +49,17 @@ module _ (x : Name) (before after d w : Trees) (l : LeavesThere x d w) (m : Decl
 
   -- ---- its scope is that of a function's body without parameters
 
-  abbrev own_scope : Trees → Environment
+  abbrev pub own_scope : Trees → Environment
   own_scope ts = body_scope [] (body_names (listed ts))
 
-  abbrev body : Trees → Environment
+  abbrev pub body : Trees → Environment
   body ts = scope (listed none) x before after d w l m refl earlier later ts
 
-  scope_is : (ts : Trees) → own_scope ts ≡ body ts
+  pub scope_is : (ts : Trees) → own_scope ts ≡ body ts
   unfolding body_names names_of has_inner
   scope_is ts = ap (body_scope []) (sym (append-nil (all_body_names ts)))
 
-  one_less_there : (y : Option SymbolId) → times y (symbols_in (own_scope A)) ≡ times y (x.symbol ∷ []) + times y (symbols_in (own_scope B))
+  pub one_less_there : (y : Option SymbolId) → times y (symbols_in (own_scope A)) ≡ times y (x.symbol ∷ []) + times y (symbols_in (own_scope B))
   one_less_there y =
       ap (λ s. times y (symbols_in s)) (scope_is A) ∙ one_less (listed none) x before after d w l m refl earlier later y
       ∙ ap (λ s. times y (x.symbol ∷ []) + times y (symbols_in s)) (sym (scope_is B))
@@ -135,7 +135,7 @@ module _ (x : Name) (before after d w : Trees) (l : LeavesThere x d w) (m : Decl
       (no_more_both f f (all_as_body o d ++ g) (all_as_body o w ++ g) (no_more_same f f refl)
       (no_more_both (all_as_body o d) (all_as_body o w) g g (m.clash o) (no_more_same g g refl))))
 
-  fewer : (o : Bool) (p : Path) → NoMoreClash (body_declarations o p (listed B)) (body_declarations o p (listed A))
+  pub fewer : (o : Bool) (p : Path) → NoMoreClash (body_declarations o p (listed B)) (body_declarations o p (listed A))
   fewer o p = clash_there o p (listed A) (listed B) (clash_less o)
 
   module_once : (r : Path) → early_names r (over A) ≡ [] → early_names r (over B) ≡ []

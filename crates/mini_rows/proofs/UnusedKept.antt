@@ -138,14 +138,14 @@ module _ (x : Name) (before after d w : Trees) (l : LeavesThere x d w) where
     names_both : (q : Declared) (ts : Trees) → all_names q (append before (append ts after)) ≡ all_names q before ++ (all_names q ts ++ all_names q after)
     names_both q ts = all_both q before (append ts after) ∙ ap (λ ys. all_names q before ++ ys) (all_both q ts after)
 
-    list_hoists : names_of declared.Hoisted (listed B) ≡ names_of declared.Hoisted (listed A)
+    pub list_hoists : names_of declared.Hoisted (listed B) ≡ names_of declared.Hoisted (listed A)
     unfolding names_of
     list_hoists = names_both declared.Hoisted w ∙ ap (λ ys. all_names declared.Hoisted before ++ (ys ++ all_names declared.Hoisted after)) n.hoists ∙ sym (names_both declared.Hoisted d)
 
-    abbrev lexical_first : List Name
+    abbrev pub lexical_first : List Name
     lexical_first = all_names declared.Lexical before ++ n.first
 
-    abbrev lexical_last : List Name
+    abbrev pub lexical_last : List Name
     lexical_last = n.last ++ all_names declared.Lexical after
 
     lexical_both : (ts : Trees) (xs ys : List Name) → all_names declared.Lexical ts ≡ xs ++ ys → names_of declared.Lexical (listed (append before (append ts after))) ≡ (all_names declared.Lexical before ++ xs) ++ (ys ++ all_names declared.Lexical after)
@@ -155,31 +155,31 @@ module _ (x : Name) (before after d w : Trees) (l : LeavesThere x d w) where
         let g = all_names declared.Lexical after in
         names_both declared.Lexical ts ∙ ap (λ zs. f ++ (zs ++ g)) e ∙ ap (λ zs. f ++ zs) (append_assoc xs ys g) ∙ sym (append_assoc f xs (ys ++ g))
 
-    lexical_with : names_of declared.Lexical (listed A) ≡ lexical_first ++ x ∷ lexical_last
+    pub lexical_with : names_of declared.Lexical (listed A) ≡ lexical_first ++ x ∷ lexical_last
     lexical_with = lexical_both d n.first (x ∷ n.last) n.names
 
-    lexical_without : names_of declared.Lexical (listed B) ≡ lexical_first ++ lexical_last
+    pub lexical_without : names_of declared.Lexical (listed B) ≡ lexical_first ++ lexical_last
     lexical_without = lexical_both w n.first n.last n.left
 
     module _ (o : Other x (all_names declared.Lexical before)) (p : Other x (all_names declared.Lexical after)) where
-      abbrev bind : Name → Binding
+      abbrev pub bind : Name → Binding
       bind y = record { name = y; hoists = false }
 
-      scopes : Amid x (with_names [] (names_of declared.Lexical (listed A))) (with_names [] (names_of declared.Lexical (listed B)))
+      pub scopes : Amid x (with_names [] (names_of declared.Lexical (listed A))) (with_names [] (names_of declared.Lexical (listed B)))
       scopes =
           subst (λ ys. Amid x (with_names [] ys) (with_names [] (names_of declared.Lexical (listed B)))) (sym lexical_with)
           (subst (λ ys. Amid x (with_names [] (lexical_first ++ x ∷ lexical_last)) (with_names [] ys)) (sym lexical_without) (amid x lexical_first lexical_last (other_both x (all_names declared.Lexical before) n.first o n.others_first) (other_both x n.last (all_names declared.Lexical after) n.others_last p)))
 
-      abbrev scope_of : List Name → Environment
+      abbrev pub scope_of : List Name → Environment
       scope_of ys = map bind ys
 
-      with_it : scope_of (with_names [] (names_of declared.Lexical (listed A))) ≡ scope_of scopes.first ++ bind x ∷ scope_of scopes.last
+      pub with_it : scope_of (with_names [] (names_of declared.Lexical (listed A))) ≡ scope_of scopes.first ++ bind x ∷ scope_of scopes.last
       with_it = ap scope_of scopes.there ∙ map-append bind scopes.first (x ∷ scopes.last)
 
-      without_it : scope_of (with_names [] (names_of declared.Lexical (listed B))) ≡ scope_of scopes.first ++ scope_of scopes.last
+      pub without_it : scope_of (with_names [] (names_of declared.Lexical (listed B))) ≡ scope_of scopes.first ++ scope_of scopes.last
       without_it = ap scope_of scopes.gone ∙ map-append bind scopes.first scopes.last
 
-      one_less : (y : Option SymbolId) → times y (symbols_in (scope_of (with_names [] (names_of declared.Lexical (listed A))))) ≡ times y (x.symbol ∷ []) + times y (symbols_in (scope_of (with_names [] (names_of declared.Lexical (listed B)))))
+      pub one_less : (y : Option SymbolId) → times y (symbols_in (scope_of (with_names [] (names_of declared.Lexical (listed A))))) ≡ times y (x.symbol ∷ []) + times y (symbols_in (scope_of (with_names [] (names_of declared.Lexical (listed B)))))
       one_less y =
           let f = scope_of scopes.first in
           let g = scope_of scopes.last in
@@ -254,7 +254,7 @@ module _ (x : Name) (before after d w : Trees) (l : LeavesThere x d w) where
       as_bodies none us = refl
       as_bodies (t ▸ ts) us = ap (λ ds. as_body false t ++ ds) (as_bodies ts us) ∙ sym (append_assoc (as_body false t) (all_as_body false ts) (all_as_body false us))
 
-      less_clash : NoMoreClash (as_body false (listed B)) (as_body false (listed A))
+      pub less_clash : NoMoreClash (as_body false (listed B)) (as_body false (listed A))
       less_clash =
           let f = all_as_body false before in
           let g = all_as_body false after in
@@ -264,7 +264,7 @@ module _ (x : Name) (before after d w : Trees) (l : LeavesThere x d w) where
           (no_more_both f f (all_as_body false d ++ g) (all_as_body false w ++ g) (no_more_same f f refl)
           (no_more_both (all_as_body false d) (all_as_body false w) g g n.clash (no_more_same g g refl))))
 
-      fewer : (p : Path) → NoMoreClash (body_declarations false p (listed B)) (body_declarations false p (listed A))
+      pub fewer : (p : Path) → NoMoreClash (body_declarations false p (listed B)) (body_declarations false p (listed A))
       fewer p s =
           let is = λ (b : Bool) (t : Tree). sym (counted_unplaced b s (body_declarations false p t)) ∙ ap (counted b s) (body_is false p t) in
           let lexical_a = is true (listed A) in

@@ -44,7 +44,7 @@ use Rattle.mini_terms.proofs.Dropping.{does_nothing, weak}
 use Rattle.mini_rows.specs.Lists.{block, declaration, declares_nothing}
 use Rattle.mini_rows.specs.Declarations.{binding, declarator}
 use Rattle.mini_rows.specs.Sketches.{shape_by, AsWholeItem}
-use Rattle.mini_rows.specs.Unused.{resolved, names, any_names, declared_among, declared_one, is_idle, declared_left, is_definition, may_move, put_first, reads_first, statements, lets_go, Row72, Row72Idle, Row71}
+use Rattle.mini_rows.specs.Unused.{resolved, names, any_names, declared_among, declared_one, is_idle, declared_left, is_definition, may_move, put_first, reads_first, statements, static_block, lets_go, Row72, Row72Idle, Row71}
 use Rattle.mini_rows.proofs.FoldMeaning.{plain_read}
 use Rattle.mini_rows.proofs.SingleUse.{Lead, Doing, Giving, Raising, Testing, head_of, Step, led, is_end, Stands, Well, statement, unnamed}
 use Rattle.mini_rows.proofs.SingleMeaning.{first_goes}
@@ -407,6 +407,15 @@ module _ (e : Environment) (spelling : List ℕ) (k : ℕ) (z : Unseen (alone (D
       let D = alone (Declared k) in
       let same = list_same e spelling k z before after d w aa one None in
       congruent_same e D z.shared (inside (shape.Program true directives) [] 0 none here none) (listed (append before (append d after))) (listed (append before (append w after))) (tt, tt, tt, tt) (tt, all_join D before (append w after) ab (all_join D w after aw aa)) list_read nothing q (no_off _)
+      (weaker e D D nothing _ (within_refl D) (no_within _) (Stat None) (listed (append before (append d after))) (listed (append before (append w after))) same)
+
+  -- and so does a static block
+  pub static_same : AllAvoid (alone (Declared k)) before → AllAvoid (alone (Declared k)) w → AllAvoid (alone (Declared k)) after → Same e (alone (Declared k)) nothing (Stat None) (listed d) (listed w)
+      → (n : ℕ) (q : Demand) → Same e (alone (Declared k)) nothing q (static_block n (append before (append d after))) (static_block n (append before (append w after)))
+  static_same ab aw aa one n q =
+      let D = alone (Declared k) in
+      let same = list_same e spelling k z before after d w aa one None in
+      congruent_same e D z.shared (inside shape.StaticBlock [] n none here none) (listed (append before (append d after))) (listed (append before (append w after))) (tt, tt, tt, tt) (tt, all_join D before (append w after) ab (all_join D w after aw aa)) list_read nothing q (no_off _)
       (weaker e D D nothing _ (within_refl D) (no_within _) (Stat None) (listed (append before (append d after))) (listed (append before (append w after))) same)
 
 -- ---- the rows

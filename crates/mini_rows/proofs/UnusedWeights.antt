@@ -18,7 +18,7 @@ use Rattle.mini_laws.specs.Value.{VariableSet}
 use Rattle.mini_laws.proofs.Seats.{moved}
 use Rattle.mini_rows.specs.Declarations.{binding, declarator}
 use Rattle.mini_rows.specs.Lists.{block, declaration}
-use Rattle.mini_rows.specs.Unused.{resolved, declared_among, declared_one, declared_left, put_first, is_definition, BlockRow, ArrowBodyRow, FunctionBodyRow, ModuleRow, UnusedRow, UnusedLighten, UnusedLighter}
+use Rattle.mini_rows.specs.Unused.{resolved, declared_among, declared_one, declared_left, put_first, is_definition, BlockRow, ArrowBodyRow, FunctionBodyRow, ModuleRow, StaticBlockRow, UnusedRow, UnusedLighten, UnusedLighter}
 use Rattle.mini_terms.specs.Reading.{is_plain_part}
 use Rattle.mini_rows.proofs.SingleWeights.{single_falls, next_falls}
 use Rattle.mini_rows.proofs.ListWeights.{total, list_is, body_is, in_list, comma_list, declarators_append}
@@ -113,6 +113,12 @@ module_lighter n w r =
     let less = block_lighter stmt_seat.List (block (front ▸ r.before)) (block (front ▸ r.after)) r.row in
     omega (arith, less, list_is (front ▸ r.before), list_is (front ▸ r.after), list_is r.before, list_is r.after, ap (weight Elsewhere) r.shape, ap (weight Elsewhere) r.written)
 
+static_lighter : {W : VariableSet} (n w : Tree) → StaticBlockRow W n w → weight Elsewhere w < weight Elsewhere n
+static_lighter n w r =
+    let front = listed none in
+    let less = block_lighter stmt_seat.List (block (front ▸ r.before)) (block (front ▸ r.after)) r.row in
+    omega (arith, less, list_is (front ▸ r.before), list_is (front ▸ r.after), list_is r.before, list_is r.after, ap (weight Elsewhere) r.shape, ap (weight Elsewhere) r.written)
+
 pub unused_lighter : UnusedLighter
 unused_lighter W (Stmt q) n w (inl r) = block_lighter q n w r
 unused_lighter W (Stmt q) n w (inr r) = function_lighter (Stmt q) n w r
@@ -120,7 +126,8 @@ unused_lighter W (Expr s) n w (inl r) = arrow_lighter s n w r
 unused_lighter W (Expr s) n w (inr r) = function_lighter (Expr s) n w r
 unused_lighter W Method n w r = function_lighter Method n w r
 unused_lighter W Elsewhere n w (inl r) = function_lighter Elsewhere n w r
-unused_lighter W Elsewhere n w (inr r) = module_lighter n w r
+unused_lighter W Elsewhere n w (inr (inl r)) = module_lighter n w r
+unused_lighter W Elsewhere n w (inr (inr r)) = static_lighter n w r
 unused_lighter W p n w r = absurd r
 
 -- ---- what a parent reads of them
@@ -138,7 +145,8 @@ same_outline W (Expr s) n w (inl r) = ap outline r.shape ∙ sym (ap outline r.w
 same_outline W (Expr s) n w (inr r) = function_outline n w r
 same_outline W Method n w r = function_outline n w r
 same_outline W Elsewhere n w (inl r) = function_outline n w r
-same_outline W Elsewhere n w (inr r) = ap outline r.shape ∙ sym (ap outline r.written)
+same_outline W Elsewhere n w (inr (inl r)) = ap outline r.shape ∙ sym (ap outline r.written)
+same_outline W Elsewhere n w (inr (inr r)) = ap outline r.shape ∙ sym (ap outline r.written)
 same_outline W p n w r = absurd r
 
 pub unused_lighten : UnusedLighten

@@ -277,13 +277,30 @@ pub record ModuleRow (W : VariableSet) (n w : Tree) : Type 0 where
   pub shape : n ≡ program true directives before
   pub written : w ≡ program true directives after
 
--- a row reads n as w at this place: a function may be a statement, an expression, the value of a method, or exported, and a program stands
--- nowhere else. A block that is no body keeps each `var`: its name is seen around it
+-- ---- in a static block
+
+-- `static { .. }`, with its number
+abbrev pub static_block : ℕ → Trees → Tree
+static_block n ts = node shape.StaticBlock [] n (listed ts ▸ none)
+
+-- 71 and 72 in a static block of a class: `class A { static { var x = f(); g(); } }` becomes `class A { static { f(); g(); } }`. Its
+-- statements are read like those of a function without parameters, since it is a body of its own, whose `var`s nothing around it sees
+-- (ECMA-262, "ClassStaticBlockDefinition")
+pub record StaticBlockRow (W : VariableSet) (n w : Tree) : Type 0 where
+  pub number : ℕ
+  pub before : Trees
+  pub after : Trees
+  pub row : BlockRow W (block (listed none ▸ before)) (block (listed none ▸ after))
+  pub shape : n ≡ static_block number before
+  pub written : w ≡ static_block number after
+
+-- a row reads n as w at this place: a function may be a statement, an expression, the value of a method, or exported, a program stands
+-- nowhere else, and a static block in a class. A block that is no body keeps each `var`: its name is seen around it
 abbrev pub UnusedRow : VariableSet → Position → Tree → Tree → Type 0
 UnusedRow W (Stmt q) n w = BlockRow nothing n w ⊎ FunctionBodyRow W n w
 UnusedRow W (Expr s) n w = ArrowBodyRow W n w ⊎ FunctionBodyRow W n w
 UnusedRow W Method n w = FunctionBodyRow W n w
-UnusedRow W Elsewhere n w = FunctionBodyRow W n w ⊎ ModuleRow W n w
+UnusedRow W Elsewhere n w = FunctionBodyRow W n w ⊎ (ModuleRow W n w ⊎ StaticBlockRow W n w)
 UnusedRow W _ n w = ⊥
 
 -- what it writes, where it weighs less

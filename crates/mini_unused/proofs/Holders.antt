@@ -1,5 +1,5 @@
 -- What holds the statements of a list: a block, or a function, which is read like a block that begins with what stands before its
--- statements: its name and its parameters. A module is read like a function without them.
+-- statements: its name and its parameters. A module and a static block are read like a function without them.
 use Rattle.std.proofs.Common.{◌≡◌, ℕ, zero, suc, ◌<◌, Bool, true, false, List, [], ◌∷◌, refl, sym, ap, ◌∙◌, subst, inl, inr, true≢false, arith}
 use Rattle.std.specs.Prelude.{not, ◌⊎◌, ◌&&◌, ◌||◌, nat_eq, None, Result, Ok, Err, IfOk}
 use Rattle.std.proofs.lemmas.Bool.{and_parts, eqb-true}
@@ -16,18 +16,19 @@ use Rattle.mini_node.specs.Children.{names_of, number_of, part, with_part, first
 use Rattle.mini_node.specs.Kinds.{is_block, is_listed}
 use Rattle.mini_node.specs.Made.{block_is, listed_is}
 use Rattle.mini_rows.specs.Lists.{block}
-use Rattle.mini_rows.specs.Unused.{names, any_names, may_move, statements, arrow_with, ArrowBodyRow, function_with, FunctionBodyRow, ModuleRow, BlockRow, UnusedRow}
+use Rattle.mini_rows.specs.Unused.{names, any_names, may_move, statements, arrow_with, ArrowBodyRow, function_with, FunctionBodyRow, ModuleRow, static_block, StaticBlockRow, BlockRow, UnusedRow}
 use Rattle.mini_tree.specs.declared.options.CompressOptions.{CompressOptions}
 use Rattle.mini_tree.specs.Rule as rule
 use Rattle.mini_context.specs.declared.context.TraverseCtx.{TraverseCtx}
 use Rattle.mini_context.specs.Known.{Knows}
 use Rattle.mini_laws.specs.Writable.{writable_in}
-use Rattle.mini_unused.specs.RemoveUnusedDeclaration.{declares_name, declares_list, is_free_at, may_lose, may_go, open_in, is_alone, list_at, is_unused, UnusedAt, is_arrow_shape, are_statements, are_no_names, has_statements, is_function_shape, is_function, is_module, marked, Applied, AppliedInFunction, Gives, Rests}
+use Rattle.mini_unused.specs.RemoveUnusedDeclaration.{declares_name, declares_list, is_free_at, may_lose, may_go, open_in, is_alone, list_at, is_unused, UnusedAt, is_arrow_shape, are_statements, are_no_names, has_statements, is_function_shape, is_function, is_module, is_static_block, holds_list, marked, Applied, AppliedInFunction, Gives, Rests}
 use Rattle.mini_unused.specs.SubstituteNext.{is_declarator, reads_then, is_mentioned_beside, is_read_then, is_next, NextAt, NextGone}
 use Rattle.mini_unused.specs.SubstituteSingleUse.{last_place, is_declared_over, reads_next, is_read_once, is_single, SingleAt, NameGone, ReadGone, Gone, Removed}
 use Rattle.mini_unused.specs.Chains.{Several}
 use Rattle.mini_unused.proofs.Chains.{several_over, several_moves}
 use Rattle.mini_unused.proofs.Unused.{no_outside, part_twice, row_at, no_row, no_block, all_used, seen_by_eval}
+use Rattle.mini_rows.proofs.UnusedNames.{or_parts}
 use Rattle.mini_unused.proofs.SingleUses.{row_there, none_single}
 use Rattle.mini_unused.proofs.NextUses.{next_row, none_next}
 
@@ -295,7 +296,10 @@ module _ (W : VariableSet) (d g : Bool) (directives : List (List ℕ)) (number :
   function_applied ts m true r = several_in W outside_function (FunctionBodyRow W) function_with_list function_over ts m r
   function_applied ts m false r = (ap function_with_list r.0, function_rests ts m r)
 
--- ---- a module: nothing stands before its statements
+-- ---- a module and a static block: nothing stands before their statements
+
+no_static : (W : VariableSet) (t : Tree) → is_static_block t ≡ false → (w : Tree) → StaticBlockRow W t w → ⊥
+no_static W t e w r = true≢false (sym (ap is_static_block r.shape) ∙ e)
 
 no_module : (W : VariableSet) (t : Tree) → is_module t ≡ false → (w : Tree) → ModuleRow W t w → ⊥
 no_module W t e w r = true≢false (sym (ap is_module r.shape) ∙ e)
@@ -323,24 +327,78 @@ module _ (W : VariableSet) (directives : List (List ℕ)) where
       none_behind W outside_module none ts module_mentions module_evals m r (listed none ▸ row.before) (λ k. listed none ▸ before k) (block (listed none ▸ row.after)) row.row
 
   module_applied : (ts : Trees) (m : Tree) (c : Bool) → Removed W outside_module (listed ts) m c → Applied W Elsewhere (program true directives ts) (with_list m) c
-  module_applied ts m true r = several_moves W Elsewhere (ModuleRow W) (λ t u a. inr a) (program true directives ts) (with_list m) (several_in W outside_module (ModuleRow W) with_list module_over ts m r)
+  module_applied ts m true r = several_moves W Elsewhere (ModuleRow W) (λ t u a. inr (inl a)) (program true directives ts) (with_list m) (several_in W outside_module (ModuleRow W) with_list module_over ts m r)
   module_applied ts m false r = (ap with_list r.0, by)
     where
       by : (w : Tree) → UnusedRow W Elsewhere (program true directives ts) w → ⊥
       by w (inl f) = no_function W (program true directives ts) refl w f
-      by w (inr a) = module_rests ts m r w a
+      by w (inr (inl a)) = module_rests ts m r w a
+      by w (inr (inr a)) = no_static W (program true directives ts) refl w a
 
 module_is : (t : Tree) → is_module t ≡ true → (directives : List (List ℕ)) × (t ≡ program true directives (children (part t 0)))
 module_is (node (shape.Program true directives) [] zero (node shape.Listed [] zero ts ▸ none)) e = (directives, refl)
 module_is (node (shape.Program true directives) [] zero (u ▸ none)) e = absurd (true≢false (sym e))
 module_is t e = absurd (true≢false (sym e))
 
-pub of_module : (W : VariableSet) (t m : Tree) (c : Bool) → is_module t ≡ true → Removed (open_in (with_part t 0 absent) W) (with_part t 0 absent) (part t 0) m c → (u : Tree) → u ≡ with_part t 0 m → Applied W Elsewhere t u c
+of_module : (W : VariableSet) (t m : Tree) (c : Bool) → is_module t ≡ true → Removed (open_in (with_part t 0 absent) W) (with_part t 0 absent) (part t 0) m c → (u : Tree) → u ≡ with_part t 0 m → Applied W Elsewhere t u c
 of_module W t m c h r u f =
     let (directives, is) = module_is t h in
     let ts = children (part t 0) in
     let there = subst (λ v. Removed (open_in (with_part v 0 absent) W) (with_part v 0 absent) (part v 0) m c) is r in
     subst (λ v. Applied W Elsewhere v u c) (sym is) (subst (λ v. Applied W Elsewhere (program true directives ts) v c) (sym (f ∙ ap (λ v. with_part v 0 m) is)) (module_applied W directives ts m c there))
+
+module _ (W : VariableSet) (number : ℕ) where
+  abbrev outside_static : Tree
+  outside_static = node shape.StaticBlock [] number (absent ▸ none)
+
+  static_mentions : (x : Name) → names x outside_static ≡ any_names x none
+  static_mentions x = refl
+
+  static_evals : has_eval outside_static ≡ any_has_eval none
+  unfolding has_eval
+  static_evals = refl
+
+  abbrev static_over : Tree → Tree
+  static_over m = node shape.StaticBlock [] number (m ▸ none)
+
+  static_gone : (ts : Trees) (m : Tree) → Gone W outside_static (listed ts) m → StaticBlockRow W (static_over (listed ts)) (static_over m)
+  static_gone ts m r = record { number = number; before = ts; after = children m; row = row_behind W outside_static none ts static_mentions static_evals m r; shape = refl; written = ap static_over (left_listed W outside_static ts m r) }
+
+  static_rests : (ts : Trees) (m : Tree) → Removed W outside_static (listed ts) m false → (w : Tree) → StaticBlockRow W (static_block number ts) w → ⊥
+  static_rests ts m r w row =
+      let before : row.before ≡ ts = sym (ap (λ t. children (part t 0)) row.shape) in
+      none_behind W outside_static none ts static_mentions static_evals m r (listed none ▸ row.before) (λ k. listed none ▸ before k) (block (listed none ▸ row.after)) row.row
+
+  static_applied : (ts : Trees) (m : Tree) (c : Bool) → Removed W outside_static (listed ts) m c → Applied W Elsewhere (static_block number ts) (static_over m) c
+  static_applied ts m true r = several_moves W Elsewhere (StaticBlockRow W) (λ t u a. inr (inr a)) (static_block number ts) (static_over m) (several_in W outside_static (StaticBlockRow W) static_over static_gone ts m r)
+  static_applied ts m false r = (ap static_over r.0, by)
+    where
+      by : (w : Tree) → UnusedRow W Elsewhere (static_block number ts) w → ⊥
+      by w (inl f) = no_function W (static_block number ts) refl w f
+      by w (inr (inl a)) = no_module W (static_block number ts) refl w a
+      by w (inr (inr a)) = static_rests ts m r w a
+
+static_is : (t : Tree) → is_static_block t ≡ true → t ≡ static_block (number_of t) (children (part t 0))
+static_is (node shape.StaticBlock [] n (node shape.Listed [] zero ts ▸ none)) e = refl
+static_is (node shape.StaticBlock [] n (u ▸ none)) e = absurd (true≢false (sym e))
+static_is (node shape.StaticBlock [] n (u ▸ (v ▸ ts))) e = let one = (and_parts (nat_eq (count (u ▸ (v ▸ ts))) 1) (is_listed u) e).0 in let same = eqb-true (count (u ▸ (v ▸ ts))) 1 one in absurd (omega (arith, same))
+static_is (node shape.StaticBlock [] n none) e = absurd (true≢false (sym e))
+static_is (node shape.StaticBlock (x ∷ xs) n ts) e = absurd (true≢false (sym e))
+static_is t e = absurd (true≢false (sym e))
+
+of_static : (W : VariableSet) (t m : Tree) (c : Bool) → is_static_block t ≡ true → Removed (open_in (with_part t 0 absent) W) (with_part t 0 absent) (part t 0) m c → (u : Tree) → u ≡ with_part t 0 m → Applied W Elsewhere t u c
+of_static W t m c h r u f =
+    let is = static_is t h in
+    let ts = children (part t 0) in
+    let there = subst (λ v. Removed (open_in (with_part v 0 absent) W) (with_part v 0 absent) (part v 0) m c) is r in
+    subst (λ v. Applied W Elsewhere v u c) (sym is) (subst (λ v. Applied W Elsewhere (static_block (number_of t) ts) v c) (sym (f ∙ ap (λ v. with_part v 0 m) is)) (static_applied W (number_of t) ts m c there))
+
+pub of_holder : (W : VariableSet) (t m : Tree) (c : Bool) → holds_list t ≡ true → Removed (open_in (with_part t 0 absent) W) (with_part t 0 absent) (part t 0) m c → (u : Tree) → u ≡ with_part t 0 m → Applied W Elsewhere t u c
+of_holder W t m c h r u f = by (is_module t) refl
+  where
+    by : (b : Bool) → is_module t ≡ b → Applied W Elsewhere t u c
+    by true e = of_module W t m c e r u f
+    by false e = of_static W t m c (sym (ap (λ b. b || is_static_block t) e) ∙ h) r u f
 
 -- ---- what has such statements
 
@@ -430,13 +488,14 @@ pub as_method : (W : VariableSet) (t u : Tree) (c : Bool) → AppliedInFunction 
 as_method W t u true r = several_moves W Method (FunctionBodyRow W) (λ t u f. f) t u r
 as_method W t u false r = r
 
-pub as_exported : (W : VariableSet) (t u : Tree) (c : Bool) → is_module t ≡ false → AppliedInFunction W t u c → Applied W Elsewhere t u c
+pub as_exported : (W : VariableSet) (t u : Tree) (c : Bool) → holds_list t ≡ false → AppliedInFunction W t u c → Applied W Elsewhere t u c
 as_exported W t u true e r = several_moves W Elsewhere (FunctionBodyRow W) (λ t u f. inl f) t u r
 as_exported W t u false e r = (r.0, by)
   where
     by : (w : Tree) → UnusedRow W Elsewhere t w → ⊥
     by w (inl f) = r.1 w f
-    by w (inr a) = no_module W t e w a
+    by w (inr (inl a)) = no_module W t (or_parts (is_module t) (is_static_block t) e).0 w a
+    by w (inr (inr a)) = no_static W t (or_parts (is_module t) (is_static_block t) e).1 w a
 
 -- ---- the context
 

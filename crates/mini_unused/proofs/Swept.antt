@@ -1,5 +1,5 @@
 -- Names that go from a list one after another.
-use Rattle.std.proofs.Common.{◌≡◌, ℕ, suc, ◌+◌, ◌<◌, Bool, true, false, [], ◌∷◌, sym, ap, ◌∙◌, subst, inl, inr, add-one, arith}
+use Rattle.std.proofs.Common.{◌≡◌, ℕ, suc, ◌+◌, ◌<◌, Bool, true, false, [], ◌∷◌, refl, sym, ap, ◌∙◌, subst, inl, inr, add-one, arith}
 use Rattle.std.specs.Prelude.{◌&&◌, ◌||◌, nat_eq, Some, Result, Ok, Err, OnOk}
 use Rattle.std.proofs.lemmas.Bool.{and_parts}
 use Rattle.mini_model.specs.Tree.{Tree, Trees, listed, shape_of, children, count, child_or_absent}
@@ -9,7 +9,7 @@ use Rattle.mini_node.specs.Children.{names_of, part, is_bare}
 use Rattle.mini_node.specs.Kinds.{is_block, is_block_shape, is_listed}
 use Rattle.mini_rows.specs.Unused.{resolved, may_move}
 use Rattle.mini_unused.specs.Chains.{Chain, still, Several}
-use Rattle.mini_unused.specs.RemoveUnusedDeclaration.{declares_name, may_lose, may_go, is_alone, declares_list, is_lexical_shape, is_free_at, is_unused_declarator, list_at, list_left, UnusedOf, UnusedAt, are_statements, are_no_names, is_body_shape, is_arrow_shape, has_statements, is_function_shape, is_function, is_module_shape, is_module}
+use Rattle.mini_unused.specs.RemoveUnusedDeclaration.{declares_name, may_lose, may_go, is_alone, declares_list, is_lexical_shape, is_free_at, is_unused_declarator, list_at, list_left, UnusedOf, UnusedAt, are_statements, are_no_names, is_body_shape, is_arrow_shape, has_statements, is_function_shape, is_function, is_module_shape, is_module, is_static_shape, is_static_block, holds_list}
 use Rattle.mini_unused.specs.SubstituteNext.{is_declarator, is_read_then, is_read_by_next, list_next, NextOf, NextAt}
 use Rattle.mini_unused.specs.SubstituteSingleUse.{is_read_once, is_single_declarator, is_single, last_place, list_single, SingleAt, Gone}
 use Rattle.mini_unused.specs.Sweep.{may_go_at, may_move_at, Calm, Swept}
@@ -152,10 +152,23 @@ in_block t e =
     let (a, b) = and_parts (is_block_shape (shape_of t)) (is_bare t 1 && is_listed (part t 0)) e in
     (and_parts (is_bare t 1) (is_listed (part t 0)) b).1
 
-pub in_module : (t : Tree) → is_module t ≡ true → is_listed (part t 0) ≡ true
+in_module : (t : Tree) → is_module t ≡ true → is_listed (part t 0) ≡ true
 in_module t e =
     let (a, b) = and_parts (is_module_shape (shape_of t)) (is_bare t 1 && is_listed (part t 0)) e in
     (and_parts (is_bare t 1) (is_listed (part t 0)) b).1
+
+in_static : (t : Tree) → is_static_block t ≡ true → is_listed (part t 0) ≡ true
+in_static t e =
+    let (a, p) = and_parts (is_static_shape (shape_of t)) (are_no_names (names_of t) && (nat_eq (count (children t)) 1 && is_listed (part t 0))) e in
+    let (b, q) = and_parts (are_no_names (names_of t)) (nat_eq (count (children t)) 1 && is_listed (part t 0)) p in
+    (and_parts (nat_eq (count (children t)) 1) (is_listed (part t 0)) q).1
+
+pub in_holder : (t : Tree) → holds_list t ≡ true → is_listed (part t 0) ≡ true
+in_holder t e = by (is_module t) refl
+  where
+    by : (b : Bool) → is_module t ≡ b → is_listed (part t 0) ≡ true
+    by true m = in_module t m
+    by false m = in_static t (sym (ap (λ b. b || is_static_block t) m) ∙ e)
 
 in_body : (t : Tree) → are_statements t ≡ true → is_listed (part t 0) ≡ true
 in_body t e =

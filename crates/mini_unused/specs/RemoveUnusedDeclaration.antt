@@ -1,5 +1,6 @@
 -- 72, `remove_unused_declaration`: `{ let x = a(); b(); }` becomes `{ a(); b(); }`, `{ let x = 1; b(); }` becomes `{ ; b(); }`, and
--- `{ let x, y = b(); c(y); }` becomes `{ let y = b(); c(y); }`; so do the statements of a function and of a module, and there each `var`, too.
+-- `{ let x, y = b(); c(y); }` becomes `{ let y = b(); c(y); }`; so do the statements of a function, of a module and of a static
+-- block, and there each `var`, too.
 use Rattle.std.specs.Prelude.{◌≡◌, ◌<◌, ℕ, suc, nat_eq, Bool, true, false, not, ◌&&◌, ◌||◌, List, [], ◌∷◌, Option, Some, None, is_some, if◌then◌else◌}
 use Rattle.mini_model.specs.declared.name.Name.{Name}
 use Rattle.mini_model.specs.declared.name.SymbolId.{SymbolId}
@@ -168,6 +169,18 @@ is_module_shape _ = false
 
 abbrev pub is_module : Tree → Bool
 is_module t = is_module_shape (shape_of t) && (is_bare t 1 && is_listed (part t 0))
+
+-- a static block with its statements
+abbrev pub is_static_shape : Shape → Bool
+is_static_shape shape.StaticBlock = true
+is_static_shape _ = false
+
+abbrev pub is_static_block : Tree → Bool
+is_static_block t = is_static_shape (shape_of t) && (are_no_names (names_of t) && (nat_eq (count (children t)) 1 && is_listed (part t 0)))
+
+-- either
+abbrev pub holds_list : Tree → Bool
+holds_list t = is_module t || is_static_block t
 
 -- no row of these variables reads it as anything
 abbrev pub RestsOver : VariableSet → Position → Tree → Type 0

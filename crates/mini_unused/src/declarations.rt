@@ -1,6 +1,6 @@
 //! Row 72: `{ let x = a(); b(); }` becomes `{ a(); b(); }`, and `{ let x = 1, y = b(); c(y); }` becomes `{ let y = b(); c(y); }`,
 //! where nothing else in the block has x's spelling or its symbol and no direct eval stands there. So do the statements of a function,
-//! wherever it stands, and of a module, and there each `var`, too, whose name can be written. It is lighter in every place.
+//! wherever it stands, of a module, and of a static block, and there each `var`, too, whose name can be written. It is lighter in every place.
 
 ghost use Rattle.std.specs.Prelude.{◌≡◌, ◌+◌, ◌<◌, ◌^◌, true, IfOk, OnOk};
 ghost use Rattle.mini_model.specs.declared.place.Position.TheVariants.{Expr, Stmt, Elsewhere};
@@ -447,8 +447,27 @@ fn is_module(node: &Node) -> bool
     matches!(node.shape(), Shape::Program(true, _)) && node.is_bare(1) && is_listed(node.child(0))
 }
 
-/// Of a module, as `import "a"; const x = f(); g();`, in which nothing else mentions x, and of a function that is exported. The answer
-/// says whether a name went; the only error is that memory runs out.
+// A static block with its statements.
+fn is_static_block(node: &Node) -> bool
+    ensures kind { result ≡ row.is_static_block node.now }
+    ensures parts { result ≡ true → count (children node.now) ≡ 1 }
+{
+    matches!(node.shape(), Shape::StaticBlock)
+        && has_no_name(node.name())
+        && node.children().len() == 1
+        && is_listed(node.child(0))
+}
+
+// A module or a static block.
+fn holds_list(node: &Node) -> bool
+    ensures kind { result ≡ row.holds_list node.now }
+    ensures parts { result ≡ true → count (children node.now) ≡ 1 }
+{
+    is_module(node) || is_static_block(node)
+}
+
+/// Of a module, as `import "a"; const x = f(); g();`, in which nothing else mentions x, of a static block of a class, and of a function
+/// that is exported. The answer says whether a name went; the only error is that memory runs out.
 #[tactic(auto, using(crate::proofs::Unused::same_parts, crate::proofs::Unused::part_twice))]
 pub fn remove_unused_in_module(
     alloc: Global,
@@ -457,7 +476,7 @@ pub fn remove_unused_in_module(
 ) -> Result<bool, OutOfMemory>
     ensures { IfOk result (λ changed. Applied (marked scopes.now) Elsewhere node.old node.new changed) }
 {
-    if !is_module(node) {
+    if !holds_list(node) {
         return remove_unused_in_function(alloc, node, scopes);
     }
     let mut list = take_child(node, 0);
@@ -466,7 +485,7 @@ pub fn remove_unused_in_module(
     changed
 }
 
-/// Rows 71 and 72 as a rule: of each block, of each function with statements, and of a module. Its context says which names the program
+/// Rows 71 and 72 as a rule: of each block, of each function with statements, of each static block, and of a module. Its context says which names the program
 /// that it knows lets be written.
 pub struct RemoveUnusedDeclarations;
 
