@@ -1,5 +1,5 @@
 -- A module that loses a name of its statements keeps what else a program has to keep.
-use Rattle.std.specs.Prelude.{ℕ, zero, ◌+◌, ◌≤◌, ◌≡◌, refl, ◌||◌, Bool, true, false, List, [], ◌∷◌, ◌++◌, Contains, Option}
+use Rattle.std.specs.Prelude.{ℕ, ◌+◌, ◌≤◌, ◌≡◌, refl, ◌||◌, Bool, true, false, List, [], ◌∷◌, ◌++◌, Contains, Option}
 use Rattle.std.proofs.Common.{ap, ◌∙◌, sym, subst, inl, arith}
 use Rattle.std.proofs.lemmas.List.{append-nil}
 use Rattle.mini_model.specs.declared.name.Name.{Name}
@@ -35,7 +35,7 @@ use Rattle.mini_kept.proofs.Fixed.{of_one}
 use Rattle.mini_kept.proofs.Unplaced.{as_body, all_as_body, body_same}
 use Rattle.mini_rows.specs.Unused.{any_names}
 use Rattle.mini_rows.proofs.FunctionBodyKept.{declared_append, clash_there, own_symbol, bind, scope, one_less, statements_scoped, hoists_too}
-use Rattle.mini_rows.proofs.UnusedKept.{LeavesThere, DeclaresThere, list_inner, list_scoped, list_symbols, list_numbers, list_once, list_targets, list_fixed, list_declares}
+use Rattle.mini_rows.proofs.UnusedKept.{LeavesThere, DeclaresThere, list_inner, list_symbols, list_numbers, list_once, list_targets, list_fixed, list_declares}
 
 module _ (x : Name) (before after d w : Trees) (l : LeavesThere x d w) (m : DeclaresThere x d w) (earlier : any_names x before ≡ false) (later : any_names x after ≡ false) (directives : List (List ℕ)) where
   abbrev A : Trees

@@ -1,5 +1,5 @@
 -- A static block that loses a name of its statements keeps what else a program has to keep: its scope is a module's.
-use Rattle.std.specs.Prelude.{ℕ, zero, ◌+◌, ◌≤◌, ◌≡◌, refl, ◌||◌, Bool, true, false, List, [], ◌∷◌, ◌++◌, Contains, Option}
+use Rattle.std.specs.Prelude.{ℕ, ◌+◌, ◌≤◌, ◌≡◌, refl, ◌||◌, Bool, true, false, [], ◌∷◌, ◌++◌, Contains, Option}
 use Rattle.std.proofs.Common.{ap, ◌∙◌, sym, subst, inl, arith}
 use Rattle.std.proofs.lemmas.List.{append-nil}
 use Rattle.mini_model.specs.declared.name.Name.{Name}
