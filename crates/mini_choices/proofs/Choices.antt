@@ -1,7 +1,7 @@
 -- What the rewrites of choices write is what a row says, and where they write nothing no row reads the expression.
 use borrow.Author.Tests.{ltb-true}
 use Rattle.std.proofs.Common.{◌≡◌, ◌<◌, ◌^◌, arith, true≢false, Bool, true, false, Option, Some, None, refl, sym, ap, subst, ◌∙◌, inl, inr}
-use Rattle.std.specs.Prelude.{◌⊎◌, ◌&&◌, not, nat_eq, is_none, is_some, unwrap_or, if◌then◌else◌}
+use Rattle.std.specs.Prelude.{◌⊎◌, ◌&&◌, ◌||◌, not, nat_eq, is_none, is_some, unwrap_or, if◌then◌else◌}
 use Rattle.std.proofs.lemmas.Bool.{and_parts}
 use Rattle.mini_model.specs.declared.name.Name.{Name}
 use Rattle.mini_model.specs.declared.operator.AssignmentOperator.{AssignmentOperator}
@@ -20,14 +20,14 @@ use Rattle.mini_node.specs.Children.{part}
 use Rattle.mini_node.specs.Equal.{same_tree}
 use Rattle.mini_node.specs.Kinds.{binary, assignment, is_logical, is_conditional, is_null, logical_operator, binary_operator, assignment_operator}
 use Rattle.mini_node.specs.Made.{assignment_is, logical_is, binary_is, conditional_is, null_is}
-use Rattle.mini_node.proofs.Equality.{tree_itself}
+use Rattle.mini_node.proofs.Equality.{tree_same, tree_itself}
 use Rattle.mini_terms.specs.Folds.{is_effect_free}
-use Rattle.mini_rows.specs.Choices.{assign, is_grouped, joined, strictly, joining, asks_object, null_compared, ended, deciding, may_choose, Row39, Row38, Row35, Row35Member, Row45, Row46Equal, Row46Unequal, Row44, Row13Both, LighterRow, OwnRow, ChoiceRow, ChoiceContracts}
+use Rattle.mini_rows.specs.Choices.{assign, is_grouped, joined, strictly, joining, asks_object, null_compared, ended, deciding, may_choose, Row39, Row38, Row35, Row35Member, Row45, Row45Member, Key, member_of, Row46Equal, Row46Unequal, Row44, Row13Both, LighterRow, OwnRow, ChoiceRow, ChoiceContracts}
 use Rattle.mini_rows.proofs.ChoiceCalls.{calls_lighter}
 use Rattle.mini_rows.proofs.ChoiceWeights as choice_weights
 use Rattle.mini_tree.specs.Rule.{Applied}
 use Rattle.mini_tree.proofs.Reaching.{moves_once}
-use Rattle.mini_choices.specs.Assigning.{assigns_name, is_same_operator, is_operator, is_same_name, is_declared}
+use Rattle.mini_choices.specs.Assigning.{is_plain, assigns_name, is_same_operator, is_operator, is_same_name, is_same_member, is_member_of_name, is_declared}
 use Rattle.mini_choices.specs.Calling.{calls_either, called}
 use Rattle.mini_choices.specs.SubstituteRotateLogicalExpression as rotate
 use Rattle.mini_choices.specs.MinimizeLogicalExpression as decide
@@ -39,7 +39,7 @@ use Rattle.mini_choices.specs.FoldChainExpr as folded
 use Rattle.mini_terms.specs.Parts.{leaves_nothing}
 use Rattle.mini_rows.specs.Spellings.{void_zero}
 use Rattle.mini_choices.specs.EvaluateBothSides as both
-use Rattle.mini_choices.proofs.CombinedAssignment.{combined_row, combined_passes, combined_member_passes}
+use Rattle.mini_choices.proofs.CombinedAssignment.{one_member, member_there, combined_row, combined_passes, combined_member_passes}
 use Rattle.mini_choices.proofs.BothSides.{both_row, both_passes}
 use Rattle.mini_choices.proofs.ChainLinks.{end_passes, chain_is, folded_row, folded_passes}
 use Rattle.mini_choices.proofs.OptionalChains.{chain_row, chain_passes}
@@ -120,37 +120,73 @@ decided_passes o x b = ap (λ g. decide.written_by (if g then Some o else None) 
 
 -- ---- 45
 
-chosen_row : (s : Seat) (n : Tree) → branches.is_seated s && branches.assigns_either n ≡ true → Row45 s n (branches.assigned n)
+chosen_row : (s : Seat) (n : Tree) → branches.is_seated s && branches.assigns_either n ≡ true → Row45 s n (branches.assigned n) ⊎ Row45Member s n (branches.assigned n)
 chosen_row s n k =
     let (seated, either) = and_parts (branches.is_seated s) (branches.assigns_either n) k in
-    let (chooses, alike) = and_parts (is_conditional n) (branches.assigns_alike (assignment_operator yes) (part n 0) yes no) either in
+    let (chooses, alike) = and_parts (is_conditional n) (branches.assigns_alike (assignment_operator yes) test yes no) either in
     go seated chooses (assignment_operator yes) refl alike
   where
+    test : Tree
+    test = part n 0
+
     yes : Tree
     yes = part n 1
 
     no : Tree
     no = part n 2
 
-    go : not (nat_eq s.level conditional_level) ≡ true → is_conditional n ≡ true → (o : Option AssignmentOperator) → assignment_operator (part n 1) ≡ o → branches.assigns_alike o (part n 0) (part n 1) (part n 2) ≡ true → Row45 s n (branches.assigned n)
-    go seated chooses (Some o) h e =
-        let test = part n 0 in
-        let x = part (part n 1) 0 in
-        let value = conditional test (part (part n 1) 1) (part (part n 2) 1) in
-        let (by, rest) = and_parts (is_operator o (assignment_operator (part n 2))) (is_same_name x (part (part n 2) 0) && may_choose o (is_declared x) (is_effect_free test)) e in
-        let (same, may) = and_parts (is_same_name x (part (part n 2) 0)) (may_choose o (is_declared x) (is_effect_free test)) rest in
-        let one = one_name x (part (part n 2) 0) same in
+    x : Tree
+    x = part yes 0
+
+    y : Tree
+    y = part no 0
+
+    value : Tree
+    value = conditional test (part yes 1) (part no 1)
+
+    of_name : not (nat_eq s.level conditional_level) ≡ true → is_conditional n ≡ true → (o : AssignmentOperator) → assignment_operator yes ≡ Some o → is_operator o (assignment_operator no) ≡ true → is_same_name x y && may_choose o (is_declared x) (is_effect_free test) ≡ true → Row45 s n (branches.assigned n)
+    of_name seated chooses o h by rest =
+        let (same, may) = and_parts (is_same_name x y) (may_choose o (is_declared x) (is_effect_free test)) rest in
+        let one = one_name x y same in
         record {
           operator = o;
           a = test;
           name = one.name;
-          b = part (part n 1) 1;
-          c = part (part n 2) 1;
+          b = part yes 1;
+          c = part no 1;
           chosen = sym (ap (λ t. may_choose o (is_declared t) (is_effect_free test)) one.first) ∙ may;
           seated = not_true (nat_eq s.level conditional_level) seated;
-          shape = conditional_is n chooses ∙ (λ i. conditional test ((assignment_is (part n 1) o h ∙ ap (λ t. assignment o t (part (part n 1) 1)) one.first) i) ((operator_is o (part n 2) by ∙ ap (λ t. assignment o t (part (part n 2) 1)) one.second) i));
+          shape = conditional_is n chooses ∙ (λ i. conditional test ((assignment_is yes o h ∙ ap (λ t. assignment o t (part yes 1)) one.first) i) ((operator_is o no by ∙ ap (λ t. assignment o t (part no 1)) one.second) i));
           written = ap (λ p. assignment (unwrap_or p Assign) x value) h ∙ ap (λ t. assignment o t value) one.first;
         }
+
+    of_member : not (nat_eq s.level conditional_level) ≡ true → is_conditional n ≡ true → assignment_operator yes ≡ Some Assign → is_operator Assign (assignment_operator no) ≡ true → is_same_member x y && is_effect_free test ≡ true → Row45Member s n (branches.assigned n)
+    of_member seated chooses h by rest =
+        let (same, free) = and_parts (is_same_member x y) (is_effect_free test) rest in
+        let (member, alike) = and_parts (is_member_of_name x) (same_tree x y) same in
+        let one = one_member x member in
+        record {
+          a = test;
+          name = one.name;
+          key = one.key;
+          b = part yes 1;
+          c = part no 1;
+          declared = one.declared;
+          effect_free = free;
+          seated = not_true (nat_eq s.level conditional_level) seated;
+          shape = conditional_is n chooses ∙ (λ i. conditional test ((assignment_is yes Assign h ∙ ap (λ t. assignment Assign t (part yes 1)) one.is) i) ((operator_is Assign no by ∙ ap (λ t. assignment Assign t (part no 1)) (sym (tree_same x y alike) ∙ one.is)) i));
+          written = ap (λ p. assignment (unwrap_or p Assign) x value) h ∙ ap (λ t. assignment Assign t value) one.is;
+        }
+
+    either_of : not (nat_eq s.level conditional_level) ≡ true → is_conditional n ≡ true → (o : AssignmentOperator) → assignment_operator yes ≡ Some o → is_operator o (assignment_operator no) ≡ true → (b : Bool) → is_same_name x y && may_choose o (is_declared x) (is_effect_free test) ≡ b → (b || (is_plain (Some o) && (is_same_member x y && is_effect_free test))) ≡ true → Row45 s n (branches.assigned n) ⊎ Row45Member s n (branches.assigned n)
+    either_of seated chooses o h by true k e = inl (of_name seated chooses o h by k)
+    either_of seated chooses Assign h by false k e = inr (of_member seated chooses h by e)
+    either_of seated chooses o h by false k e = absurd (cc e)
+
+    go : not (nat_eq s.level conditional_level) ≡ true → is_conditional n ≡ true → (o : Option AssignmentOperator) → assignment_operator yes ≡ o → branches.assigns_alike o test yes no ≡ true → Row45 s n (branches.assigned n) ⊎ Row45Member s n (branches.assigned n)
+    go seated chooses (Some o) h e =
+        let (by, may) = and_parts (is_operator o (assignment_operator no)) (branches.may_take o test x y) e in
+        either_of seated chooses o h by (is_same_name x y && may_choose o (is_declared x) (is_effect_free test)) refl may
     go seated chooses None h e = absurd (true≢false (sym e))
 
 -- ---- 46
@@ -250,13 +286,17 @@ called_lighter : (s : Seat) (n w : Tree) → Row44 n w → ChoiceContracts (Expr
 called_lighter s n w r = record { row = inr (inr (inr (inr (inl r)))); lighter = calls_lighter s n w r }
 
 module _ (s : Seat) (n w : Tree) where
+  assigned_lighter : Row45 s n (branches.assigned n) ⊎ Row45Member s n (branches.assigned n) → ChoiceContracts (Expr s) n (branches.assigned n)
+  assigned_lighter (inl r) = sure s n (branches.assigned n) (inr (inr (inr (inr (inr (inl r))))))
+  assigned_lighter (inr r) = sure s n (branches.assigned n) (inr (inr (inr (inr (inr (inr (inr (inr (inr (inr (inr r)))))))))))
+
   branch_row : branches.written s n ≡ Some w → ChoiceContracts (Expr s) n w
   branch_row =
       tried s n w (branches.is_own_if_equal n) (logical Coalesce (part n 2) (part n 1)) (branches.unequal_written s n) (λ h. sure s n (logical Coalesce (part n 2) (part n 1)) (inr (inr (inr (inl (equal_row n h))))))
       (tried s n w (branches.is_own_if_unequal n) (logical Coalesce (part n 1) (part n 2)) (branches.consequent_written s n) (λ h. sure s n (logical Coalesce (part n 1) (part n 2)) (inr (inr (inr (inr (inl (unequal_row n h)))))))
       (tried s n w (branches.is_own_consequent s n) (logical Or (part n 0) (part n 2)) (branches.alternate_written s n) (own_or_row s n)
       (tried s n w (branches.is_own_alternate s n) (logical And (part n 0) (part n 1)) (branches.assignment_written s n) (own_and_row s n)
-      (tried s n w (branches.is_seated s && branches.assigns_either n) (branches.assigned n) (branches.called_written n) (λ h. sure s n (branches.assigned n) (inr (inr (inr (inr (inr (inl (chosen_row s n h))))))))
+      (tried s n w (branches.is_seated s && branches.assigns_either n) (branches.assigned n) (branches.called_written n) (λ h. assigned_lighter (chosen_row s n h))
       (tried s n w (calls_either n) (called n) None (λ h. called_lighter s n (called n) (called_row n h)) (λ e. absurd (cc e)))))))
 
 module _ (s : Seat) (t : Tree) where
@@ -287,13 +327,23 @@ module _ (s : Seat) (t : Tree) where
   by_called : calls_either t ≡ true → is_some (branches.written s t) ≡ true
   by_called h = after_consequent (later_true (branches.is_own_alternate s t) (logical And (part t 0) (part t 1)) (branches.assignment_written s t) (later_true (branches.is_seated s && branches.assigns_either t) (branches.assigned t) (branches.called_written t) (first_true (calls_either t) (called t) None h)))
 
+or_true : (a b : Bool) → b ≡ true → (a || b) ≡ true
+or_true true b e = refl
+or_true false b e = e
+
 declared_passes : (x : Name) → is_none x.symbol ≡ false → same_tree (identifier x) (identifier x) && is_declared (identifier x) ≡ true
 declared_passes x d = both_true (same_tree (identifier x) (identifier x)) (is_declared (identifier x)) (tree_itself (identifier x)) (ap not d)
 
 chosen_passes : (s : Seat) → nat_eq s.level conditional_level ≡ false → (o : AssignmentOperator) (a : Tree) (x : Name) (b c : Tree) → may_choose o (not (is_none x.symbol)) (is_effect_free a) ≡ true → branches.is_seated s && branches.assigns_either (conditional a (assignment o (identifier x) b) (assignment o (identifier x) c)) ≡ true
 chosen_passes s seated o a x b c d =
     both_true (branches.is_seated s) (branches.assigns_either (conditional a (assignment o (identifier x) b) (assignment o (identifier x) c))) (ap not seated)
-    (both_true (is_same_operator o o) _ (tree_itself (leaf (shape.AssignmentExpression o))) (both_true (same_tree (identifier x) (identifier x)) _ (tree_itself (identifier x)) d))
+    (both_true (is_same_operator o o) _ (tree_itself (leaf (shape.AssignmentExpression o))) (ap (λ g. g || (is_plain (Some o) && (is_same_member (identifier x) (identifier x) && is_effect_free a))) (both_true (same_tree (identifier x) (identifier x)) _ (tree_itself (identifier x)) d)))
+
+chosen_member_passes : (s : Seat) → nat_eq s.level conditional_level ≡ false → (a : Tree) (x : Name) (k : Key) (b c : Tree) → is_none x.symbol ≡ false → is_effect_free a ≡ true → branches.is_seated s && branches.assigns_either (conditional a (assignment Assign (member_of x k) b) (assignment Assign (member_of x k) c)) ≡ true
+chosen_member_passes s seated a x k b c d free =
+    let m : Tree = member_of x k in
+    both_true (branches.is_seated s) (branches.assigns_either (conditional a (assignment Assign m b) (assignment Assign m c))) (ap not seated)
+    (both_true (is_same_operator Assign Assign) _ (tree_itself (leaf (shape.AssignmentExpression Assign))) (or_true (is_same_name m m && may_choose Assign (is_declared m) (is_effect_free a)) _ (both_true (is_same_member m m) _ (both_true (is_member_of_name m) _ (member_there x d k) (tree_itself m)) free)))
 
 -- ---- all
 
@@ -323,7 +373,7 @@ row_of s (node (shape.AssignmentExpression o) xs m ts) w e = assigned_row (combi
   where
     assigned_row : Row35 (node (shape.AssignmentExpression o) xs m ts) w ⊎ Row35Member (node (shape.AssignmentExpression o) xs m ts) w → ChoiceContracts (Expr s) (node (shape.AssignmentExpression o) xs m ts) w
     assigned_row (inl r) = sure s _ w (inr (inr (inl r)))
-    assigned_row (inr r) = sure s _ w (inr (inr (inr (inr (inr (inr (inr (inr (inr (inr r))))))))))
+    assigned_row (inr r) = sure s _ w (inr (inr (inr (inr (inr (inr (inr (inr (inr (inr (inl r)))))))))))
 row_of s (node shape.ConditionalExpression xs m ts) w e = any_row (either_some (chains.written s (node shape.ConditionalExpression xs m ts)) (first_of (held.written s (node shape.ConditionalExpression xs m ts)) (branches.written s (node shape.ConditionalExpression xs m ts))) w e)
   where
     conditional_row : (held.written s (node shape.ConditionalExpression xs m ts) ≡ Some w) ⊎ (branches.written s (node shape.ConditionalExpression xs m ts) ≡ Some w) → ChoiceContracts (Expr s) (node shape.ConditionalExpression xs m ts) w
@@ -412,7 +462,10 @@ sure_passes s n w (inr (inr (inr (inr (inr (inr (inr (inl r)))))))) =
 sure_passes s n w (inr (inr (inr (inr (inr (inr (inr (inr (inl r))))))))) =
     let t : Tree = logical (joining (not r.there)) (ended (joining (not r.there)) r.before (asks_object r.there r.name)) (null_compared r.strict (not r.there) r.name) in
     ap (λ t. is_some (written s t)) r.shape ∙ in_operands s t (by_object t (object_passes r.there r.strict r.before r.name r.declared))
-sure_passes s n w (inr (inr (inr (inr (inr (inr (inr (inr (inr (inr r)))))))))) = ap (λ t. is_some (written s t)) r.shape ∙ ap is_some (combined_member_passes r.operator r.combined r.computes r.name r.declared r.key r.b)
+sure_passes s n w (inr (inr (inr (inr (inr (inr (inr (inr (inr (inr (inr r))))))))))) =
+    let t : Tree = conditional r.a (assignment Assign (member_of r.name r.key) r.b) (assignment Assign (member_of r.name r.key) r.c) in
+    ap (λ t. is_some (written s t)) r.shape ∙ in_branches s t (by_assignment s t (chosen_member_passes s r.seated r.a r.name r.key r.b r.c r.declared r.effect_free))
+sure_passes s n w (inr (inr (inr (inr (inr (inr (inr (inr (inr (inr (inl r))))))))))) = ap (λ t. is_some (written s t)) r.shape ∙ ap is_some (combined_member_passes r.operator r.combined r.computes r.name r.declared r.key r.b)
 sure_passes s n w (inr (inr (inr (inr (inr (inr (inr (inr (inr (inl r)))))))))) =
     let t : Tree = logical (joining (not r.there)) (ended (joining (not r.there)) r.before (null_compared r.strict (not r.there) r.name)) (asks_object r.there r.name) in
     ap (λ t. is_some (written s t)) r.shape ∙ in_operands s t (by_object t (before_passes r.there r.strict r.before r.name r.declared))

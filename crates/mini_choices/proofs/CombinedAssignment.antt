@@ -53,13 +53,13 @@ keyed t false h e =
     let (member, key) = and_parts (is_computed_member t) (is_written_key (part t 1)) e in
     computed_key t member (string (part t 1)) refl (number (part t 1)) refl key
 
-record OneMember (t : Tree) : Type 0 where
-  name : Name
-  key : Key
-  declared : is_none name.symbol ≡ false
-  is : t ≡ member_of name key
+pub record OneMember (t : Tree) : Type 0 where
+  pub name : Name
+  pub key : Key
+  pub declared : is_none name.symbol ≡ false
+  pub is : t ≡ member_of name key
 
-one_member : (t : Tree) → is_member_of_name t ≡ true → OneMember t
+pub one_member : (t : Tree) → is_member_of_name t ≡ true → OneMember t
 one_member t e =
     let (written, named) = and_parts (has_written_key t) (is_identifier (part t 0) && is_declared (part t 0)) e in
     let (named', declared) = and_parts (is_identifier (part t 0)) (is_declared (part t 0)) named in
@@ -159,3 +159,8 @@ combined_member_passes o c h x d k b =
     ap (λ g. combine.written_by (if g && same_tree (member_of x k) (member_of x k) then computing o else None) n) (is_member x d k)
     ∙ ap (λ g. combine.written_by (if g then computing o else None) n) (tree_itself (member_of x k))
     ∙ ap (λ m. combine.written_by m n) h
+
+pub member_there : (x : Name) → is_none x.symbol ≡ false → (k : Key) → is_member_of_name (member_of x k) ≡ true
+member_there x d (Named s) = ap not d
+member_there x d (Spelled s) = ap not d
+member_there x d (Numbered n) = ap not d

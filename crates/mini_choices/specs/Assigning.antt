@@ -59,6 +59,10 @@ is_member_of_name t = has_written_key t && (is_identifier (part t 0) && is_decla
 abbrev pub is_same_target : Tree → Tree → Bool
 is_same_target t u = (is_identifier t || is_member_of_name t) && same_tree t u
 
+-- two members of names, and they are one
+abbrev pub is_same_member : Tree → Tree → Bool
+is_same_member t u = is_member_of_name t && same_tree t u
+
 -- two names, and they are one
 abbrev pub is_same_name : Tree → Tree → Bool
 is_same_name t u = is_identifier t && same_tree t u

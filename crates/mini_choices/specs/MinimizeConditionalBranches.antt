@@ -1,7 +1,7 @@
 -- 41, 44, 45 and 46, of `minimize_conditional_expression`: `x ? x : b` becomes `x || b`, `x ? b : x` becomes `x && b`,
 -- `a ? x = b : x = c` becomes `x = a ? b : c`, where a scope declares x or a has no effect, and so of `+=` where both hold, `x == null ? b : x` becomes `x ?? b`, where a
 -- scope declares x, and `a ? f(p, r) : f(q, r)` becomes `f(a ? p : q, r)`, where a scope declares f and a has no effect.
-use Rattle.std.specs.Prelude.{Bool, true, false, Option, Some, None, ◌&&◌, not, nat_eq, nat_lt, unwrap_or, if◌then◌else◌}
+use Rattle.std.specs.Prelude.{Bool, true, false, Option, Some, None, ◌&&◌, ◌||◌, not, nat_eq, nat_lt, unwrap_or, if◌then◌else◌}
 use Rattle.mini_model.specs.declared.operator.AssignmentOperator.{AssignmentOperator}
 use Rattle.mini_model.specs.declared.operator.AssignmentOperator.TheVariants.{Assign}
 use Rattle.mini_model.specs.declared.operator.BinaryOperator.{BinaryOperator}
@@ -16,17 +16,22 @@ use Rattle.mini_node.specs.Children.{part}
 use Rattle.mini_node.specs.Kinds.{assignment, assignment_operator, is_conditional, is_null, binary_operator}
 use Rattle.mini_terms.specs.Folds.{is_effect_free}
 use Rattle.mini_rows.specs.Choices.{may_choose}
-use Rattle.mini_choices.specs.Assigning.{is_operator, is_same_name, is_declared}
+use Rattle.mini_choices.specs.Assigning.{is_plain, is_operator, is_same_name, is_same_member, is_declared}
 use Rattle.mini_choices.specs.Calling.{calls_either, called}
 
 -- ---- 45
 
--- both are assignments to one name by this operator, between which this test may choose after the name is read
+-- both are one name, between writes of which by this operator this test may choose after it is read, or one member of a name, which is
+-- written after a test without an effect
+abbrev pub may_take : AssignmentOperator → Tree → Tree → Tree → Bool
+may_take o a x y = (is_same_name x y && may_choose o (is_declared x) (is_effect_free a)) || (is_plain (Some o) && (is_same_member x y && is_effect_free a))
+
+-- both are assignments to one by this operator
 abbrev pub assigns_alike : Option AssignmentOperator → Tree → Tree → Tree → Bool
-assigns_alike (Some o) a t u = is_operator o (assignment_operator u) && (is_same_name (part t 0) (part u 0) && may_choose o (is_declared (part t 0)) (is_effect_free a))
+assigns_alike (Some o) a t u = is_operator o (assignment_operator u) && may_take o a (part t 0) (part u 0)
 assigns_alike None a t u = false
 
--- `a ? x = b : x = c`, or `a ? x += b : x += c`
+-- `a ? x = b : x = c`, `a ? x += b : x += c`, or `a ? x.k = b : x.k = c`
 abbrev pub assigns_either : Tree → Bool
 assigns_either t = is_conditional t && assigns_alike (assignment_operator (part t 1)) (part t 0) (part t 1) (part t 2)
 

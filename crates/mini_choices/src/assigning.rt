@@ -5,7 +5,7 @@ ghost use Rattle.std.specs.Prelude.{◌≡◌, true};
 ghost use Rattle.mini_model.specs.Tree.{children, count};
 ghost use Rattle.mini_node.specs.Children.{names};
 ghost use Rattle.mini_node.specs.Kinds.{assignment_operator as its_operator};
-ghost use Rattle.mini_choices.specs.Assigning.{is_plain, is_property as is_it_property, is_written_key as is_it_written_key, has_written_key as has_it_written_key, is_member_of_name as is_it_member_of_name, is_same_target as is_it_same_target, assigns_name as it_assigns_name, is_same_operator as is_it_same_operator, is_operator, is_same_name as is_it_same_name, is_declared_in as is_it_declared_in, is_declared as is_it_declared};
+ghost use Rattle.mini_choices.specs.Assigning.{is_plain, is_property as is_it_property, is_written_key as is_it_written_key, has_written_key as has_it_written_key, is_member_of_name as is_it_member_of_name, is_same_target as is_it_same_target, is_same_member as is_it_same_member, assigns_name as it_assigns_name, is_same_operator as is_it_same_operator, is_operator, is_same_name as is_it_same_name, is_declared_in as is_it_declared_in, is_declared as is_it_declared};
 ghost use Rattle.mini_choices.specs.MinimizeNormalAssignmentToCombinedLogicalAssignment.{marked, may_write_in, writes_name as it_writes_name};
 
 use mini_context::Scopes;
@@ -85,6 +85,13 @@ fn is_member_of_name(node: &Node) -> bool
     ensures { result ≡ is_it_member_of_name node.now }
 {
     has_written_key(node) && is_identifier(node.child(0)) && is_declared(node.child(0))
+}
+
+/// Whether they are two members of names with keys that are written out, and one.
+pub fn is_same_member(first: &Node, second: &Node) -> bool
+    ensures { result ≡ is_it_same_member first.now second.now }
+{
+    is_member_of_name(first) && is_same_tree(first, second)
 }
 
 /// Whether they are two names, or members of names with keys that are written out, and one.

@@ -33,7 +33,7 @@ use Rattle.mini_kept.proofs.Quiet.{no_names, no_body_names, no_body_declarations
 use Rattle.mini_rows.specs.Arranged.{KeptAt, Vanishes}
 use Rattle.mini_rows.specs.Sketches.{Unary, Binary, Logical, Conditional, Assignment, Parts, Sketch, part, under, end, ◌▹◌, Free, Null, Sequence, list, no_items, item}
 use Rattle.mini_rows.specs.Spellings.{IsUndefined, void_zero, assignment}
-use Rattle.mini_rows.specs.Choices.{assign, deciding, strictly, loosely, joining, AreNullish, Row37, Row37After, asks_object, null_compared, held, ended, Row57, Row57Null, Key, Named, Spelled, Numbered, member_of, Row39, Row38, Row35, Row35Member, Row45, ChoiceRow, ChoiceContracts, Row46Equal, Row46Unequal, Row41Or, Row41And, Row42And, Row42Or, Row43Or, Row43And, Row43AndThen, Row43OrThen, Row49, Row13Both, LighterRow, OwnRow, HeldRow}
+use Rattle.mini_rows.specs.Choices.{assign, deciding, strictly, loosely, joining, AreNullish, Row37, Row37After, asks_object, null_compared, held, ended, Row57, Row57Null, Key, Named, Spelled, Numbered, member_of, Row39, Row38, Row35, Row35Member, Row45, Row45Member, ChoiceRow, ChoiceContracts, Row46Equal, Row46Unequal, Row41Or, Row41And, Row42And, Row42Or, Row43Or, Row43And, Row43AndThen, Row43OrThen, Row49, Row13Both, LighterRow, OwnRow, HeldRow}
 use Rattle.mini_rows.proofs.ChainLinkLawful.{chains_kept}
 use Rattle.mini_rows.proofs.ChainEndKept.{end_kept}
 use Rattle.mini_rows.proofs.ArrangedExpressions.{expressions_arranged, expressions_arranged_freely}
@@ -172,6 +172,10 @@ chosen_kept q n w r = by r.operator r.shape r.written
     by : (o : AssignmentOperator) → n ≡ conditional r.a (assignment o (identifier r.name) r.b) (assignment o (identifier r.name) r.c) → w ≡ assignment o (identifier r.name) (conditional r.a r.b r.c) → KeptAt (Expr q) n w
     by Assign f g = expressions_arranged (record { trees = identifier r.name ▸ r.a ▸ r.b ▸ r.c ▸ none; lists = [] }) (under Conditional (part 1 ▹ assigns_part Assign (part 2) ▹ assigns_part Assign (part 3) ▹ end)) (assigns_part Assign (under Conditional (part 1 ▹ part 2 ▹ part 3 ▹ end))) refl q n w f g
     by o f g = expressions_arranged (record { trees = identifier r.name ▸ r.a ▸ r.b ▸ r.c ▸ none; lists = [] }) (under Conditional (part 1 ▹ assigns_part o (part 2) ▹ assigns_part o (part 3) ▹ end)) (assigns_part o (under Conditional (part 1 ▹ part 2 ▹ part 3 ▹ end))) refl q n w f g
+
+chosen_member_kept : (q : Seat) (n w : Tree) → Row45Member q n w → KeptAt (Expr q) n w
+chosen_member_kept q n w r =
+    expressions_arranged_freely first_dropped (record { trees = member_of r.name r.key ▸ r.a ▸ r.b ▸ r.c ▸ none; lists = [] }) (tt, tt, (member_vanishes r.name r.key, tt)) (under Conditional (part 1 ▹ assigns_part Assign (part 2) ▹ assigns_part Assign (part 3) ▹ end)) (assigns_part Assign (under Conditional (part 1 ▹ part 2 ▹ part 3 ▹ end))) refl q n w r.shape r.written
 
 -- sketches of a conditional, of a logical expression, and of two parts in order
 abbrev choice : Sketch → Sketch → Sketch → Sketch
@@ -314,7 +318,8 @@ lighter_kept q n w (inr (inr (inr (inr (inr (inr (inl r))))))) = nullish_kept q 
 lighter_kept q n w (inr (inr (inr (inr (inr (inr (inr (inl r)))))))) = nullish_after_kept q n w r
 lighter_kept q n w (inr (inr (inr (inr (inr (inr (inr (inr (inl r))))))))) = type_kept q n w r
 lighter_kept q n w (inr (inr (inr (inr (inr (inr (inr (inr (inr (inl r)))))))))) = null_type_kept q n w r
-lighter_kept q n w (inr (inr (inr (inr (inr (inr (inr (inr (inr (inr r)))))))))) = computing_member_kept q n w r
+lighter_kept q n w (inr (inr (inr (inr (inr (inr (inr (inr (inr (inr (inl r))))))))))) = computing_member_kept q n w r
+lighter_kept q n w (inr (inr (inr (inr (inr (inr (inr (inr (inr (inr (inr r))))))))))) = chosen_member_kept q n w r
 
 own_kept : (q : Seat) (n w : Tree) → OwnRow n w → KeptAt (Expr q) n w
 own_kept q n w (inl r) = own_or_kept q n w r

@@ -1,12 +1,14 @@
--- What an operator makes of a member of a name, and an assignment to it, is what the one assignment of that operator does (35).
+-- What an operator makes of a member of a name, and an assignment to it, is what the one assignment of that operator does (35), and what
+-- a test chooses may be assigned to one (45).
 use Rattle.std.proofs.Common.{◌≡◌, ℕ, ℤ, Bool, true, false, Option, Some, None, List, [], ◌∷◌, refl, sym, ap, subst, ◌∙◌}
 use Rattle.mini_model.specs.declared.name.Name.{Name}
 use Rattle.mini_model.specs.declared.operator.AssignmentOperator.{AssignmentOperator}
 use Rattle.mini_model.specs.declared.operator.AssignmentOperator.TheVariants as assigning
 use Rattle.mini_model.specs.declared.operator.BinaryOperator.{BinaryOperator}
 use Rattle.mini_model.specs.declared.operator.BinaryOperator.TheVariants as binary_operator
+use Rattle.mini_model.specs.declared.seat.Seat.{Seat}
 use Rattle.mini_model.specs.declared.shape.Shape.TheVariants as shape
-use Rattle.mini_model.specs.Tree.{Tree, none, ◌▸◌, identifier}
+use Rattle.mini_model.specs.Tree.{Tree, none, ◌▸◌, identifier, conditional}
 use Rattle.mini_laws.specs.Value.{Value, Number, String, choose, is_nullish}
 use Rattle.mini_laws.specs.State.{GetOf, Entry, Item, State, Completion, ok, stop, either, Environment}
 use Rattle.mini_laws.specs.Demand.{Val, Demand, As, Target, Reference, AMember, AFetched, Prepare, Fetch, Put}
@@ -17,11 +19,13 @@ use Rattle.mini_laws.specs.Conversion.{key_value, known_member}
 use Rattle.mini_laws.specs.Expressions.{operate_by}
 use Rattle.mini_laws.specs.Targets.{AssignDemand, put_target, after_read}
 use Rattle.mini_laws.specs.Step.{step, means, meaning}
-use Rattle.mini_laws.proofs.Runs.{either_cong, either_eta, either_assoc, run_bind}
+use Rattle.mini_laws.proofs.Runs.{either_cong, either_eta, either_assoc, either_out, run_bind}
+use Rattle.mini_terms.specs.Folds.{is_effect_free}
 use Rattle.mini_rows.specs.Spellings.{binary, assignment}
-use Rattle.mini_rows.specs.Choices.{Key, Named, Spelled, Numbered, member_of, computing, Row35Member}
+use Rattle.mini_rows.specs.Choices.{Key, Named, Spelled, Numbered, member_of, computing, Row35Member, Row45Member}
 use Rattle.mini_rows.proofs.ChainRuns.{next}
-use Rattle.mini_rows.proofs.ChoiceRuns.{value, by_value, by_reading, operate_free, assignment_tells, binary_names, binary_value, sides}
+use Rattle.mini_rows.proofs.ChoiceFree.{free_told, goes_on_chosen, begins_alike}
+use Rattle.mini_rows.proofs.ChoiceRuns.{value, by_value, reading, by_reading, operate_free, conditional_tells, conditional_value, assignment_tells, binary_names, binary_value, sides}
 use Rattle.mini_rows.proofs.SpellAlike.{SameTree}
 use Rattle.mini_rows.proofs.SpellMeaning.{same_by}
 
@@ -158,3 +162,23 @@ member_same n w r =
     same_by n w _ _ r.shape r.written
     (by_value _ _ (assignment_tells assigning.Assign (member_of r.name r.key) (binary r.operator (member_of r.name r.key) r.b)) (assignment_tells r.combined (member_of r.name r.key) r.b) refl
     (λ e s. member_value_same e r.name r.operator r.combined r.computes r.key r.b s))
+
+-- ---- what a test without an effect chooses
+
+chosen_member : (e : Environment) (a : Tree) → is_effect_free a ≡ true → (x : Name) (k : Key) (b c : Tree) (s : State) → value e (conditional a (assignment assigning.Assign (member_of x k) b) (assignment assigning.Assign (member_of x k) c)) s ≡ value e (assignment assigning.Assign (member_of x k) (conditional a b c)) s
+chosen_member e a free x k b c s =
+    let m : Tree = member_of x k in
+    let quiet = free_told e a free s in
+    let goes_on : Value → Completion Value → Completion Value = λ v y. next y (λ u z. put e x k v u z) in
+    let follows : Tree → Value → State → Completion Value = λ t v z. goes_on v (value e t z) in
+    conditional_value e a (assignment assigning.Assign m b) (assignment assigning.Assign m c) s
+    ∙ begins_alike s (value e (identifier x) s) (value e a s) (reading e x s) quiet (follows b) (follows c) (follows (conditional a b c))
+    (λ v. ap (goes_on v) (conditional_value e a b c s) ∙ goes_on_chosen (goes_on v) (either_out _ _) (value e a s) s quiet (λ z. value e b z) (λ z. value e c z))
+    (λ z. value e (assignment assigning.Assign m b) z) (λ z. value e (assignment assigning.Assign m c) z) (assigned_value e x k b s) (assigned_value e x k c s)
+    ∙ sym (assigned_value e x k (conditional a b c) s)
+
+pub member_chosen_same : (s : Seat) (n w : Tree) → Row45Member s n w → SameTree n w
+member_chosen_same s n w r =
+    same_by n w _ _ r.shape r.written
+    (by_value _ _ (conditional_tells r.a _ _) (assignment_tells assigning.Assign (member_of r.name r.key) (conditional r.a r.b r.c)) refl
+    (λ e s. chosen_member e r.a r.effect_free r.name r.key r.b r.c s))

@@ -206,7 +206,14 @@ module _ (strict : Bool) where
         let (here, fit) = choice_taken strict s (a_logical o) (ended o r.before test ▸ right ▸ none) refl (subst Here r.shape e) in
         let (first, second) = of_two (ended o r.before test) right fit in
         subst Here (sym r.written) (expression_taken strict s (logical o (ended o r.before (held r.there r.name)) right) here (two_fit strict (ended o r.before (held r.there r.name)) right (ended_fits o r.before test (held r.there r.name) (λ f. held_fits_there r.there r.name (name_there r.strict (not r.there) r.name f)) first) second))
-    lighter_fits q n w (inr (inr (inr (inr (inr (inr (inr (inr (inr (inr r)))))))))) e =
+    lighter_fits q n w (inr (inr (inr (inr (inr (inr (inr (inr (inr (inr (inr r))))))))))) e =
+        let member : Tree = member_of r.name r.key in
+        let yes : Tree = assignment Assign member r.b in
+        let no : Tree = assignment Assign member r.c in
+        let (here, (test, first, second)) = of_conditional strict s r.a yes no (subst Here r.shape e) in
+        let (target, b) = of_member_assignment r.name r.key r.b first in
+        subst Here (sym r.written) (expression_taken strict s (assignment Assign member (conditional r.a r.b r.c)) here (member_assignment_fits Assign r.name r.key (conditional r.a r.b r.c) target (three_fit strict r.a r.b r.c test b (of_member_assignment r.name r.key r.c second).1)))
+    lighter_fits q n w (inr (inr (inr (inr (inr (inr (inr (inr (inr (inr (inl r))))))))))) e =
         let member : Tree = member_of r.name r.key in
         let (here, fit) = choice_taken strict s (an_assignment Assign) (member ▸ binary r.operator member r.b ▸ none) refl (subst Here r.shape e) in
         let (first, rest) = of_member_assignment r.name r.key (binary r.operator member r.b) fit in
@@ -258,7 +265,8 @@ row_formed q n w (inr (inr (inr (inr (inl r))))) = record { first = a_conditiona
 row_formed q n w (inr (inr (inr (inr (inr (inr (inl r))))))) = record { first = a_logical (joining r.equal); second = a_binary (loosely r.equal); parts = binary (strictly r.equal) (identifier r.name) r.first ▸ binary (strictly r.equal) (identifier r.name) r.second ▸ none; others = identifier r.name ▸ null_literal ▸ none; read = r.shape; made = r.written; optional = λ x. absurd (cc x) }
 row_formed q n w (inr (inr (inr (inr (inr (inr (inr (inl r)))))))) = record { first = a_logical (joining r.equal); second = a_logical (joining r.equal); parts = logical (joining r.equal) r.before (binary (strictly r.equal) (identifier r.name) r.first) ▸ binary (strictly r.equal) (identifier r.name) r.second ▸ none; others = r.before ▸ binary (loosely r.equal) (identifier r.name) null_literal ▸ none; read = r.shape; made = r.written; optional = λ x. absurd (cc x) }
 row_formed q n w (inr (inr (inr (inr (inr (inr (inr (inr (inl r))))))))) = record { first = a_logical (joining (not r.there)); second = a_logical (joining (not r.there)); parts = ended (joining (not r.there)) r.before (asks_object r.there r.name) ▸ null_compared r.strict (not r.there) r.name ▸ none; others = ended (joining (not r.there)) r.before (asks_object r.there r.name) ▸ held r.there r.name ▸ none; read = r.shape; made = r.written; optional = λ x. absurd (cc x) }
-row_formed q n w (inr (inr (inr (inr (inr (inr (inr (inr (inr (inr r)))))))))) = record { first = an_assignment Assign; second = an_assignment r.combined; parts = member_of r.name r.key ▸ binary r.operator (member_of r.name r.key) r.b ▸ none; others = member_of r.name r.key ▸ r.b ▸ none; read = r.shape; made = r.written; optional = λ x. absurd (cc x) }
+row_formed q n w (inr (inr (inr (inr (inr (inr (inr (inr (inr (inr (inr r))))))))))) = record { first = a_conditional; second = an_assignment Assign; parts = r.a ▸ assignment Assign (member_of r.name r.key) r.b ▸ assignment Assign (member_of r.name r.key) r.c ▸ none; others = member_of r.name r.key ▸ conditional r.a r.b r.c ▸ none; read = r.shape; made = r.written; optional = λ x. absurd (cc x) }
+row_formed q n w (inr (inr (inr (inr (inr (inr (inr (inr (inr (inr (inl r))))))))))) = record { first = an_assignment Assign; second = an_assignment r.combined; parts = member_of r.name r.key ▸ binary r.operator (member_of r.name r.key) r.b ▸ none; others = member_of r.name r.key ▸ r.b ▸ none; read = r.shape; made = r.written; optional = λ x. absurd (cc x) }
 row_formed q n w (inr (inr (inr (inr (inr (inr (inr (inr (inr (inl r)))))))))) = record { first = a_logical (joining (not r.there)); second = a_logical (joining (not r.there)); parts = ended (joining (not r.there)) r.before (null_compared r.strict (not r.there) r.name) ▸ asks_object r.there r.name ▸ none; others = ended (joining (not r.there)) r.before (held r.there r.name) ▸ asks_object r.there r.name ▸ none; read = r.shape; made = r.written; optional = λ x. absurd (cc x) }
 
 -- of a logical expression that becomes a sequence it asks nothing that the sequence hasn't

@@ -14,7 +14,7 @@ use Rattle.mini_model.specs.declared.shape.Shape.{Shape}
 use Rattle.mini_model.specs.declared.shape.Shape.TheVariants as shape
 use Rattle.mini_model.specs.Tree.{Tree, Trees, node, none, ◌▸◌, identifier, logical, conditional, null_literal}
 use Rattle.mini_model.specs.declared.place.Position.{Position}
-use Rattle.mini_model.specs.declared.place.Position.TheVariants.{Expr}
+use Rattle.mini_model.specs.declared.place.Position.TheVariants.{Expr, Target}
 use Rattle.mini_model.specs.Position.{left_operand_seat, right_operand_seat, argument_seat, branch_seat, binary_operand_seat, conditional_level}
 use Rattle.mini_model.specs.Weight.{Outline, outline, outlines, weight, place_weight, is_parenthesized, is_awkward, name_weight, spelled_weight, same_text}
 use Rattle.mini_laws.specs.Weights.{Lightens}
@@ -207,6 +207,18 @@ chosen_falls s e o a x b c =
     let second = placed 0 (branch_seat argument_seat) argument_seat refl (λ h os. omega arith) c in
     omega (arith, marks, first, second, name_heavy x)
 
+target_heavy : (x : Name) (k : Key) → 1 ≤ weight Target (member_of x k)
+target_heavy x (Named t) = omega arith
+target_heavy x (Spelled t) = omega arith
+target_heavy x (Numbered n) = omega arith
+
+chosen_member_falls : (s : Seat) → nat_eq s.level conditional_level ≡ false → (a : Tree) (x : Name) (k : Key) (b c : Tree) → weight (Expr s) (assignment assigning.Assign (member_of x k) (conditional a b c)) < weight (Expr s) (conditional a (assignment assigning.Assign (member_of x k) b) (assignment assigning.Assign (member_of x k) c))
+chosen_member_falls s e a x k b c =
+    let marks = loose_marks s assigning.Assign (outlines (member_of x k ▸ conditional a b c ▸ none)) (outlines (a ▸ assignment assigning.Assign (member_of x k) b ▸ assignment assigning.Assign (member_of x k) c ▸ none)) e in
+    let first = placed 0 (branch_seat argument_seat) argument_seat refl (λ h os. omega arith) b in
+    let second = placed 0 (branch_seat argument_seat) argument_seat refl (λ h os. omega arith) c in
+    omega (arith, marks, first, second, target_heavy x k)
+
 -- 46: the comparison and the second name weigh more than a pair of parentheses round each
 
 right_marks : (b : Bool) → (if b then 4 else 0) + (if false || (false || false) then 1 else 0) ≤ 4
@@ -332,7 +344,8 @@ lighter s n w (inr (inr (inr (inr (inr (inr (inl r))))))) = falls_by (Expr s) n 
 lighter s n w (inr (inr (inr (inr (inr (inr (inr (inl r)))))))) = falls_by (Expr s) n w _ _ r.shape r.written (compared_after_falls s r.equal r.before r.name r.first r.second r.nullish)
 lighter s n w (inr (inr (inr (inr (inr (inr (inr (inr (inl r))))))))) = falls_by (Expr s) n w _ _ r.shape r.written (type_falls s r.there r.strict r.before r.name)
 lighter s n w (inr (inr (inr (inr (inr (inr (inr (inr (inr (inl r)))))))))) = falls_by (Expr s) n w _ _ r.shape r.written (null_type_falls s r.there r.strict r.before r.name)
-lighter s n w (inr (inr (inr (inr (inr (inr (inr (inr (inr (inr r)))))))))) = falls_by (Expr s) n w _ _ r.shape r.written (computing_member_falls r.operator r.combined r.computes s r.name r.key r.b)
+lighter s n w (inr (inr (inr (inr (inr (inr (inr (inr (inr (inr (inr r))))))))))) = falls_by (Expr s) n w _ _ r.shape r.written (chosen_member_falls s r.seated r.a r.name r.key r.b r.c)
+lighter s n w (inr (inr (inr (inr (inr (inr (inr (inr (inr (inr (inl r))))))))))) = falls_by (Expr s) n w _ _ r.shape r.written (computing_member_falls r.operator r.combined r.computes s r.name r.key r.b)
 lighter s n w (inr (inr (inr (inr (inr (inl r)))))) = falls_by (Expr s) n w _ _ r.shape r.written (chosen_falls s r.seated r.operator r.a r.name r.b r.c)
 
 -- of none of these nodes a parent's weight reads more than that it is there
@@ -346,7 +359,8 @@ lighter_outline s n w (inr (inr (inr (inr (inr (inr (inl r))))))) = ap outline r
 lighter_outline s n w (inr (inr (inr (inr (inr (inr (inr (inl r)))))))) = ap outline r.shape ∙ sym (ap outline r.written)
 lighter_outline s n w (inr (inr (inr (inr (inr (inr (inr (inr (inl r))))))))) = ap outline r.shape ∙ sym (ap outline r.written)
 lighter_outline s n w (inr (inr (inr (inr (inr (inr (inr (inr (inr (inl r)))))))))) = ap outline r.shape ∙ sym (ap outline r.written)
-lighter_outline s n w (inr (inr (inr (inr (inr (inr (inr (inr (inr (inr r)))))))))) = ap outline r.shape ∙ sym (ap outline r.written)
+lighter_outline s n w (inr (inr (inr (inr (inr (inr (inr (inr (inr (inr (inl r))))))))))) = ap outline r.shape ∙ sym (ap outline r.written)
+lighter_outline s n w (inr (inr (inr (inr (inr (inr (inr (inr (inr (inr (inr r))))))))))) = ap outline r.shape ∙ sym (ap outline r.written)
 lighter_outline s n w (inr (inr (inr (inr (inr (inl r)))))) = ap outline r.shape ∙ sym (ap outline r.written)
 
 own_outline : (n w : Tree) → OwnRow n w → outline n ≡ outline w

@@ -190,6 +190,19 @@ pub record Row45 (s : Seat) (n w : Tree) : Type 0 where
   pub shape : n ≡ conditional a (assignment operator (identifier name) b) (assignment operator (identifier name) c)
   pub written : w ≡ assignment operator (identifier name) (conditional a b c)
 
+-- 45: `a ? x.k = b : x.k = c` becomes `x.k = a ? b : c`, where a scope declares x and a has no effect, so that x may be read before it
+pub record Row45Member (s : Seat) (n w : Tree) : Type 0 where
+  pub a : Tree
+  pub name : Name
+  pub key : Key
+  pub b : Tree
+  pub c : Tree
+  pub declared : is_none name.symbol ≡ false
+  pub effect_free : is_effect_free a ≡ true
+  pub seated : nat_eq s.level conditional_level ≡ false
+  pub shape : n ≡ conditional a (assignment assigning.Assign (member_of name key) b) (assignment assigning.Assign (member_of name key) c)
+  pub written : w ≡ assignment assigning.Assign (member_of name key) (conditional a b c)
+
 -- 46: `x == null ? b : x` becomes `x ?? b`, where a scope declares x, and so does `x != null ? x : b`
 pub record Row46Equal (n w : Tree) : Type 0 where
   pub name : Name
@@ -347,7 +360,7 @@ pub record Row13Both (n w : Tree) : Type 0 where
 
 -- rows of what is lighter in every seat
 abbrev pub LighterRow : Seat → Tree → Tree → Type 0
-LighterRow s n w = Row39 n w ⊎ (Row38 n w ⊎ (Row35 n w ⊎ (Row46Equal n w ⊎ (Row46Unequal n w ⊎ (Row45 s n w ⊎ (Row37 n w ⊎ (Row37After n w ⊎ (Row57 n w ⊎ (Row57Null n w ⊎ Row35Member n w)))))))))
+LighterRow s n w = Row39 n w ⊎ (Row38 n w ⊎ (Row35 n w ⊎ (Row46Equal n w ⊎ (Row46Unequal n w ⊎ (Row45 s n w ⊎ (Row37 n w ⊎ (Row37After n w ⊎ (Row57 n w ⊎ (Row57Null n w ⊎ (Row35Member n w ⊎ Row45Member s n w))))))))))
 
 -- of what may be heavier for its parentheses
 abbrev pub OwnRow : Tree → Tree → Type 0

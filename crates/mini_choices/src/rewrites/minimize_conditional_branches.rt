@@ -1,17 +1,18 @@
 //! Rows 41, 44, 45 and 46: `x ? x : b` becomes `x || b`, and `x ? b : x` becomes `x && b`, where that is lighter in the seat;
-//! `a ? x = b : x = c` becomes `x = a ? b : c`, where a scope declares x or a has no effect, and so of `+=` where both hold,
+//! `a ? x = b : x = c` becomes `x = a ? b : c`, where a scope declares x or a has no effect, and so of `+=` and of members where both hold,
 //! `x == null ? b : x` becomes `x ?? b`,
 //! where a scope declares x, and `a ? f(p, r) : f(q, r)` becomes `f(a ? p : q, r)`, where a scope declares f and a has no effect,
 //! which is lighter in every seat.
 
-ghost use Rattle.std.specs.Prelude.{◌≡◌, true, is_some, unwrap_or, OnOk, IfOk};
+ghost use Rattle.std.specs.Prelude.{◌≡◌, true, Some, is_some, unwrap_or, OnOk, IfOk};
 ghost use Rattle.mini_model.specs.Tree.{children, count, logical as logical_of};
 ghost use Rattle.mini_node.specs.Children.{part};
 ghost use Rattle.mini_node.specs.Kinds.{assignment_operator as operator_of, binary_operator as its_operator};
 ghost use Rattle.mini_rows.specs.Choices.{may_choose as may_it_choose};
-ghost use Rattle.mini_choices.specs.MinimizeConditionalBranches.{assigns_alike as they_assign_alike, assigns_either as it_assigns_either, is_seated as is_it_seated, assigned as assigned_of, is_equal_in, is_unequal_in, is_beside_null as is_it_beside_null, is_own_if_equal as is_it_own_if_equal, is_own_if_unequal as is_it_own_if_unequal, is_own_consequent as is_it_own_consequent, is_own_alternate as is_it_own_alternate, written};
+ghost use Rattle.mini_choices.specs.Assigning.{is_plain};
+ghost use Rattle.mini_choices.specs.MinimizeConditionalBranches.{may_take as may_it_take, assigns_alike as they_assign_alike, assigns_either as it_assigns_either, is_seated as is_it_seated, assigned as assigned_of, is_equal_in, is_unequal_in, is_beside_null as is_it_beside_null, is_own_if_equal as is_it_own_if_equal, is_own_if_unequal as is_it_own_if_unequal, is_own_consequent as is_it_own_consequent, is_own_alternate as is_it_own_alternate, written};
 
-use crate::assigning::{assigns_by, is_declared, is_same_name};
+use crate::assigning::{assigns_by, is_declared, is_same_member, is_same_name};
 use crate::calling::{called, calls_either};
 use mini_model::{AssignmentOperator, BinaryOperator, LogicalOperator, OutOfMemory, Seat};
 use mini_node::{
@@ -38,21 +39,35 @@ fn may_choose(operator: AssignmentOperator, declared: bool, free: bool) -> bool
     }
 }
 
-// Whether both are assignments to one name by one operator, between which the test may choose after the name is read.
+fn is_assign(operator: AssignmentOperator) -> bool
+    ensures { result ≡ is_plain (Some operator) }
+{
+    operator == AssignmentOperator::Assign
+}
+
+// Whether both are one name, between writes of which by the operator the test may choose after it is read, or one member of a name,
+// which is written after a test without an effect.
+fn may_take(operator: AssignmentOperator, test: &Node, first: &Node, second: &Node) -> bool
+    ensures { result ≡ may_it_take operator test.now first.now second.now }
+{
+    is_same_name(first, second) && may_choose(operator, is_declared(first), has_no_effect(test))
+        || is_assign(operator) && is_same_member(first, second) && has_no_effect(test)
+}
+
+// Whether both are assignments to one by one operator.
 fn assigns_alike(test: &Node, first: &Node, second: &Node) -> bool
     ensures { result ≡ they_assign_alike (operator_of first.now) test.now first.now second.now }
 {
     match assignment_operator(first) {
         Some(operator) => {
             assigns_by(operator, second)
-                && is_same_name(first.child(0), second.child(0))
-                && may_choose(operator, is_declared(first.child(0)), has_no_effect(test))
+                && may_take(operator, test, first.child(0), second.child(0))
         }
         None => false,
     }
 }
 
-// `a ? x = b : x = c`, or `a ? x += b : x += c`
+// `a ? x = b : x = c`, `a ? x += b : x += c`, or `a ? x.k = b : x.k = c`
 fn assigns_either(node: &Node) -> bool
     ensures { result ≡ it_assigns_either node.now }
 {
