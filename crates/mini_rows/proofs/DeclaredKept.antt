@@ -60,7 +60,7 @@ or_two : (a b : Bool) → (((a || false) || false) || b) ≡ (a || b)
 or_two true b = refl
 or_two false b = refl
 
-none_after : (ts : Trees) → append ts none ≡ ts
+pub none_after : (ts : Trees) → append ts none ≡ ts
 none_after none = refl
 none_after (t ▸ ts) = ap (λ us. t ▸ us) (none_after ts)
 
@@ -231,50 +231,50 @@ module _ (K : VariableDeclarationKind) (x : Name) (init : Tree) where
     abbrev left : Tree
     left = declared_left K first
 
-    scoped_both : (env : Environment) → Scoped Read env d → Scoped Read env left × Scoped Read env init
+    pub scoped_both : (env : Environment) → Scoped Read env d → Scoped Read env left × Scoped Read env init
     unfolding Scoped scopes_by
     scoped_both env s =
         let (a, b) = parted Any (ScopedAs (used Read K) env) (scoped_local (used Read K) env) first this (scoped_down K env (listed these) s) in
         (scoped_left K env first a, subst (λ r. Scoped Read r init) (append-nil _ ∙ append-nil _ ∙ append-nil _) b.1.0.1.1.0)
 
-    symbols_both : (y : Option SymbolId) → times y (declared_in Read left) + times y (declared_in Read init) ≤ times y (declared_in Read d)
+    pub symbols_both : (y : Option SymbolId) → times y (declared_in Read left) + times y (declared_in Read init) ≤ times y (declared_in Read d)
     unfolding declared_in scopes_by
     symbols_both y =
         let parts = sum_joined (symbol_times (used Read K) y) (symbols_summed (used Read K) y) first this in
         let own = ap (times y) (two (declared_in Read init)) in
         omega (arith, parts, own, symbols_down K y these, symbols_left K y first)
 
-    numbers_both : (n : ℕ) → count_of n (numbers left) + count_of n (numbers init) ≤ count_of n (numbers d)
+    pub numbers_both : (n : ℕ) → count_of n (numbers left) + count_of n (numbers init) ≤ count_of n (numbers d)
     unfolding numbers
     numbers_both n =
         let parts = sum_joined (number_times n) (numbers_summed n) first this in
         let own = ap (count_of n) (two (numbers init)) in
         omega (arith, parts, own, ap (count_of n) (numbers_are K (listed these)), numbers_left K n first)
 
-    inner_both : (b : Bool) → InnerIf b AsWholeItem d → InnerIf b AsWholeItem left × InnerIf b AsValue init
+    pub inner_both : (b : Bool) → InnerIf b AsWholeItem d → InnerIf b AsWholeItem left × InnerIf b AsValue init
     unfolding has_inner
     inner_both b q = let (r, t) = parted Any (InnerIf b) (inner_local b) first this (inner_down K b these q) in (inner_left K b first r, sym (or_two (has_inner init) b) ∙ t)
 
-    once_both : Once AsWholeItem d → Once AsWholeItem left × Once AsValue init
+    pub once_both : Once AsWholeItem d → Once AsWholeItem left × Once AsValue init
     unfolding early_names scope_declarations
     once_both q = let (r, t) = parted Any Once once_local first this (once_down K these q) in (once_left K first r, once_anywhere (0 ∷ 1 ∷ []) [] init (sym (two (early_names (0 ∷ 1 ∷ []) init)) ∙ t))
 
-    targets_both : (g : Targets) → Aimed g AsWholeItem d → Aimed g AsWholeItem left × Aimed g AsValue init
+    pub targets_both : (g : Targets) → Aimed g AsWholeItem d → Aimed g AsWholeItem left × Aimed g AsValue init
     unfolding early_jumps targets_of
     targets_both g q = let (r, t) = parted (HasTarget g) (Aimed g) (aimed_local g) first this (targets_down K g these q) in (targets_left K g first r, targets_anywhere g (0 ∷ 1 ∷ []) [] init (sym (two (early_jumps g (0 ∷ 1 ∷ []) init)) ∙ t))
 
-    frames_both : (all : List Frame) → HasFrames all AsWholeItem d → HasFrames all AsWholeItem left × HasFrames all AsValue init
+    pub frames_both : (all : List Frame) → HasFrames all AsWholeItem d → HasFrames all AsWholeItem left × HasFrames all AsValue init
     frames_both all q = let (r, t) = parted Any (HasFrames all) (frames_local all) first this (subst (FramesKept all) (frames_are K (listed these)) q) in (frames_left K all first r, subst (FramesKept all) (two (frames None init)) t)
 
-    bodies_both : (all : List Body) (a : Around) → HasBodies all a AsWholeItem d → HasBodies all a AsWholeItem left × HasBodies all a AsValue init
+    pub bodies_both : (all : List Body) (a : Around) → HasBodies all a AsWholeItem d → HasBodies all a AsWholeItem left × HasBodies all a AsValue init
     bodies_both all a q = let (r, t) = parted Any (HasBodies all a) (bodies_local all a) first this (subst (BodiesKept all) (bodies_are K a (listed these)) q) in (bodies_left K all a first r, subst (BodiesKept all) (two (bodies (quiet a) init)) t)
 
-    declares_both : (all : List Name) → Declares all AsWholeItem d → Declares all AsWholeItem left × Declares all AsValue init
+    pub declares_both : (all : List Name) → Declares all AsWholeItem d → Declares all AsWholeItem left × Declares all AsValue init
     declares_both all q =
         let (r, t) = parted Any (Declares all) (declares_local all) first this (subst (Among all) (declared_are K (listed these)) q) in
         (declares_left K all first r, λ y c. t y (subst (λ ys. Contains (x ∷ ys) y) (sym (two (names_declared init))) (Contains-append_right (x ∷ []) (names_declared init) y c)))
 
-    fixed_both : (y : Variable) (j : ℕ) → FixedBy y j AsWholeItem d → FixedBy y j AsWholeItem left × FixedBy y j AsValue init
+    pub fixed_both : (y : Variable) (j : ℕ) → FixedBy y j AsWholeItem d → FixedBy y j AsWholeItem left × FixedBy y j AsValue init
     fixed_both y j q =
         let (own_there, list_there) = fixed_down j K y these q in
         let kept = either_down j (fixity_by (shape.VariableDeclaration K)) (is_in y (lets first)) (is_in y (lets this)) (subst (λ g. rank g ≤ j) (own_both_fixed j K y first this) own_there) in
@@ -283,11 +283,11 @@ module _ (K : VariableDeclarationKind) (x : Name) (init : Tree) where
 
     -- and back
 
-    inner_back : (b : Bool) → InnerIf b AsWholeItem left → InnerIf b AsValue init → InnerIf b AsWholeItem d
+    pub inner_back : (b : Bool) → InnerIf b AsWholeItem left → InnerIf b AsValue init → InnerIf b AsWholeItem d
     unfolding has_inner
     inner_back b p q = inner_up K b these (joined Any (InnerIf b) (inner_local b) first this (inner_list K b first p) (or_two (has_inner init) b ∙ q))
 
-    fixed_back : (y : Variable) (j : ℕ) → variable_eq (variable_of x) y ≡ false → FixedBy y j AsWholeItem left → FixedBy y j AsValue init → FixedBy y j AsWholeItem d
+    pub fixed_back : (y : Variable) (j : ℕ) → variable_eq (variable_of x) y ≡ false → FixedBy y j AsWholeItem left → FixedBy y j AsValue init → FixedBy y j AsWholeItem d
     fixed_back y j o p q =
         let (own_there, list_there) = fixed_list K y j first p in
         let whole = joined Any (FixedBy y j) (fixed_local y j) first this list_there (subst (λ g. rank g ≤ j) (sym (init_fixed y)) q) in

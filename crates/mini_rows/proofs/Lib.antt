@@ -177,6 +177,8 @@ pub mod TemplateLawful
 pub mod NameWeights
 pub mod NextKept
 pub mod NextMeaning
+pub mod HeadKept
+pub mod HeadMeaning
 pub mod NameLawful
 pub mod CatchWeights
 pub mod CatchLawful

@@ -65,7 +65,7 @@ module _ (J : Leap → Type 0) (Q : Asked → Tree → Type 0) where
   of_all c i (t ▸ ts) a = (a.0, of_all c (suc i) ts a.1)
 
   module _ (l : Local J Q) where
-    items_of : (ts : Trees) → Q AsWholeList (listed ts) → All Q AsWholeItem ts
+    pub items_of : (ts : Trees) → Q AsWholeList (listed ts) → All Q AsWholeItem ts
     items_of ts q = all_of AsWholeItem 0 ts (l.down AList AsWholeList ts tt q).1
 
     list_of : (ts : Trees) → All Q AsWholeItem ts → Q AsWholeList (listed ts)
@@ -93,7 +93,7 @@ module _ (m : Asked → Tree → ℕ) (l : Summed m) where
   sum_items c i none = refl
   sum_items c i (t ▸ ts) = ap (λ k. m c t + k) (sum_items c (suc i) ts)
 
-  sum_list : (ts : Trees) → m AsWholeList (listed ts) ≡ sum_all m AsWholeItem ts
+  pub sum_list : (ts : Trees) → m AsWholeList (listed ts) ≡ sum_all m AsWholeItem ts
   sum_list ts = l AList AsWholeList ts tt ∙ sum_items AsWholeItem 0 ts
 
   pub sum_joined : (a b : Trees) → m AsWholeList (listed (append a b)) ≡ m AsWholeList (listed a) + m AsWholeList (listed b)

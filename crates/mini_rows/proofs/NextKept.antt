@@ -96,62 +96,62 @@ module _ (id v : Tree) where
 
   -- of its initializer
 
-  inner_value : (b : Bool) → InnerIf b AsWholeItem (given id v) → InnerIf b AsValue v
+  pub inner_value : (b : Bool) → InnerIf b AsWholeItem (given id v) → InnerIf b AsValue v
   inner_value b q = sym (ap (λ c. c || b) (or_nothing (has_inner v))) ∙ (or_both b (has_inner id) (has_inner v || false) (sym (ap (λ c. c || b) inner_given) ∙ q)).1
 
-  fixed_value : (z : Variable) (j : ℕ) → FixedBy z j AsWholeItem (given id v) → FixedBy z j AsValue v
+  pub fixed_value : (z : Variable) (j : ℕ) → FixedBy z j AsWholeItem (given id v) → FixedBy z j AsValue v
   fixed_value z j q =
       let (own, rest) = split_rank j (fixed_by id z) (stricter (fixed_by v z) Writable) (subst (λ h. rank h ≤ j) (fixed_given z) q) in
       (split_rank j (fixed_by v z) Writable rest).0
 
-  among_value : (all : List Name) → Among all (names_declared (given id v)) → Among all (names_declared v)
+  pub among_value : (all : List Name) → Among all (names_declared (given id v)) → Among all (names_declared v)
   among_value all q = (split_names all (names_declared v) [] (split_names all (names_declared id) (names_declared v ++ []) q).1).0
 
-  frames_value : (all : List Frame) → HasFrames all AsWholeItem (given id v) → HasFrames all AsValue v
+  pub frames_value : (all : List Frame) → HasFrames all AsWholeItem (given id v) → HasFrames all AsValue v
   frames_value all q = (split_frames all (frames None v) [] (split_frames all (frames None id) (frames None v ++ []) q).1).0
 
-  bodies_value : (all : List Body) (r : Around) → HasBodies all r AsWholeItem (given id v) → HasBodies all r AsValue v
+  pub bodies_value : (all : List Body) (r : Around) → HasBodies all r AsWholeItem (given id v) → HasBodies all r AsValue v
   bodies_value all r q = (split_bodies all (bodies (quiet r) v) [] (split_bodies all (bodies (quiet r) id) (bodies (quiet r) v ++ []) q).1).0
 
-  scoped_value : (u : Use) (env : Environment) → Scoped u env (given id v) → Scoped Read env v
+  pub scoped_value : (u : Use) (env : Environment) → Scoped u env (given id v) → Scoped Read env v
   unfolding Scoped scopes_by
   scoped_value u env a = subst (λ r. Scoped Read r v) (append-nil (env ++ []) ∙ append-nil env) a.1.1.0
 
-  once_value : Once AsWholeItem (given id v) → Once AsValue v
+  pub once_value : Once AsWholeItem (given id v) → Once AsValue v
   once_value q = once_anywhere (1 ∷ []) [] v (empty_both (early_names (1 ∷ []) v) [] (empty_both (early_names (0 ∷ []) id) (early_names (1 ∷ []) v ++ []) (sym once_given ∙ q)).1).0
 
-  aimed_value : (g : Targets) → Aimed g AsWholeItem (given id v) → Aimed g AsValue v
+  pub aimed_value : (g : Targets) → Aimed g AsWholeItem (given id v) → Aimed g AsValue v
   aimed_value g q = targets_anywhere g (1 ∷ []) [] v (empty_both (early_jumps g (1 ∷ []) v) [] (empty_both (early_jumps g (0 ∷ []) id) (early_jumps g (1 ∷ []) v ++ []) (sym (jumps_given g) ∙ q)).1).0
 
   -- with another initializer
   module _ (t : Tree) where
-    inner_other : (b : Bool) → InnerIf b AsWholeItem (given id v) → InnerIf b AsValue t → InnerIf b AsWholeItem (declarator id t)
+    pub inner_other : (b : Bool) → InnerIf b AsWholeItem (given id v) → InnerIf b AsValue t → InnerIf b AsWholeItem (declarator id t)
     unfolding has_inner
     inner_other b q p = both_or b (has_inner id) (has_inner t || false) (or_both b (has_inner id) (has_inner v || false) (sym (ap (λ c. c || b) inner_given) ∙ q)).0 (ap (λ c. c || b) (or_nothing (has_inner t)) ∙ p)
 
-    fixed_other : (z : Variable) (j : ℕ) → FixedBy z j AsWholeItem (given id v) → FixedBy z j AsValue t → FixedBy z j AsWholeItem (declarator id t)
+    pub fixed_other : (z : Variable) (j : ℕ) → FixedBy z j AsWholeItem (given id v) → FixedBy z j AsValue t → FixedBy z j AsWholeItem (declarator id t)
     fixed_other z j q p =
         let own = (split_rank j (fixed_by id z) (stricter (fixed_by v z) Writable) (subst (λ h. rank h ≤ j) (fixed_given z) q)).0 in
         subst (λ h. rank h ≤ j) (sym (of_children shape.VariableDeclarator [] 0 (id ▸ (t ▸ none)) z refl)) (both_rank j (fixed_by id z) (stricter (fixed_by t z) Writable) own (both_rank j (fixed_by t z) Writable p (omega arith)))
 
-    among_other : (all : List Name) → Among all (names_declared (given id v)) → Among all (names_declared t) → Among all (names_declared (declarator id t))
+    pub among_other : (all : List Name) → Among all (names_declared (given id v)) → Among all (names_declared t) → Among all (names_declared (declarator id t))
     among_other all q p = both_names all (names_declared id) (names_declared t ++ []) (split_names all (names_declared id) (names_declared v ++ []) q).0 (subst (Among all) (sym (append-nil (names_declared t))) p)
 
-    frames_other : (all : List Frame) → HasFrames all AsWholeItem (given id v) → HasFrames all AsValue t → HasFrames all AsWholeItem (declarator id t)
+    pub frames_other : (all : List Frame) → HasFrames all AsWholeItem (given id v) → HasFrames all AsValue t → HasFrames all AsWholeItem (declarator id t)
     frames_other all q p = both_frames all (frames None id) (frames None t ++ []) (split_frames all (frames None id) (frames None v ++ []) q).0 (subst (FramesKept all) (sym (append-nil (frames None t))) p)
 
-    bodies_other : (all : List Body) (r : Around) → HasBodies all r AsWholeItem (given id v) → HasBodies all r AsValue t → HasBodies all r AsWholeItem (declarator id t)
+    pub bodies_other : (all : List Body) (r : Around) → HasBodies all r AsWholeItem (given id v) → HasBodies all r AsValue t → HasBodies all r AsWholeItem (declarator id t)
     bodies_other all r q p = both_bodies all (bodies (quiet r) id) (bodies (quiet r) t ++ []) (split_bodies all (bodies (quiet r) id) (bodies (quiet r) v ++ []) q).0 (subst (BodiesKept all) (sym (append-nil (bodies (quiet r) t))) p)
 
-    scoped_other : (u : Use) (env : Environment) → Scoped u env (given id v) → Scoped Read env t → Scoped u env (declarator id t)
+    pub scoped_other : (u : Use) (env : Environment) → Scoped u env (given id v) → Scoped Read env t → Scoped u env (declarator id t)
     unfolding Scoped scopes_by
     scoped_other u env a b = (a.0, (a.1.0, (subst (λ r. Scoped Read r t) (sym (append-nil (env ++ []) ∙ append-nil env)) b, tt)))
 
-    once_other : Once AsWholeItem (given id v) → Once AsValue t → Once AsWholeItem (declarator id t)
+    pub once_other : Once AsWholeItem (given id v) → Once AsValue t → Once AsWholeItem (declarator id t)
     unfolding early_names scope_declarations
     once_other q p = both_empty (early_names (0 ∷ []) id) (early_names (1 ∷ []) t ++ []) (empty_both (early_names (0 ∷ []) id) (early_names (1 ∷ []) v ++ []) (sym once_given ∙ q)).0 (both_empty (early_names (1 ∷ []) t) [] (once_anywhere [] (1 ∷ []) t p) refl)
 
-    aimed_other : (g : Targets) → Aimed g AsWholeItem (given id v) → Aimed g AsValue t → Aimed g AsWholeItem (declarator id t)
+    pub aimed_other : (g : Targets) → Aimed g AsWholeItem (given id v) → Aimed g AsValue t → Aimed g AsWholeItem (declarator id t)
     unfolding early_jumps targets_of
     aimed_other g q p = both_empty (early_jumps g (0 ∷ []) id) (early_jumps g (1 ∷ []) t ++ []) (empty_both (early_jumps g (0 ∷ []) id) (early_jumps g (1 ∷ []) v ++ []) (sym (jumps_given g) ∙ q)).0 (both_empty (early_jumps g (1 ∷ []) t) [] (targets_anywhere g [] (1 ∷ []) t p) refl)
 
@@ -164,10 +164,10 @@ fixed_alone : (x : Name) (v : Tree) (z : Variable) (j : ℕ) → FixedBy z j AsV
 fixed_alone x v z j q = subst (λ h. rank h ≤ j) (sym (fixed_given (binding x) v z ∙ alone_stricter (fixed_by v z))) q
 
 -- how often a number or a symbol stands in it
-number_sum : (k : ℕ) (id v : Tree) → number_times k AsWholeItem (given id v) ≡ count_of k (numbers id) + number_times k AsValue v
+pub number_sum : (k : ℕ) (id v : Tree) → number_times k AsWholeItem (given id v) ≡ count_of k (numbers id) + number_times k AsValue v
 number_sum k id v = ap (count_of k) (numbers_given id v) ∙ both_counts k (numbers id) (numbers v ++ []) ∙ ap (λ ns. count_of k (numbers id) + count_of k ns) (append-nil (numbers v))
 
-symbol_sum : (u : Use) (z : Option SymbolId) (id v : Tree) → symbol_times u z AsWholeItem (given id v) ≡ times z (declared_in (use_of shape.VariableDeclarator u 0) id) + symbol_times u z AsValue v
+pub symbol_sum : (u : Use) (z : Option SymbolId) (id v : Tree) → symbol_times u z AsWholeItem (given id v) ≡ times z (declared_in (use_of shape.VariableDeclarator u 0) id) + symbol_times u z AsValue v
 symbol_sum u z id v =
     let own = declared_in (use_of shape.VariableDeclarator u 0) id in
     ap (times z) (symbols_given id v u) ∙ times_both z own (declared_in Read v ++ []) ∙ ap (λ ns. times z own + times z ns) (append-nil (declared_in Read v))

@@ -77,7 +77,7 @@ module _ (e : Environment) (id v : Tree) (there : (summary v).facts.absent ≡ f
         ∙ ap (λ c. either c (λ u z. others e id K last z) (λ x z. stop x z)) (alone_is s ∙ given (is_lexical K) s)
         ∙ either_assoc (means e v (As Val) tt s) _ _ _ _ ∙ either_cong (means e v (As Val) tt s) _ _ _ _ (λ a z. refl) (λ x z. either_stop x z _ _)
 
-module _ (e : Environment) (spelling : List ℕ) (k : ℕ) (z : Unseen (alone (Declared k)) e) (K : VariableDeclarationKind) (permit : is_lexical K ≡ false → e.fixed (Declared k) ≡ Writable) (init id value : Tree) (last : Trees) (moves : may_move init ≡ true) (once : is_first (resolved spelling k) false value ≡ true) where
+module _ (e : Environment) (spelling : List ℕ) (k : ℕ) (z : Unseen (alone (Declared k)) e) (K : VariableDeclarationKind) (init id value : Tree) (last : Trees) (moves : may_move init ≡ true) (once : is_first (resolved spelling k) false value ≡ true) where
   abbrev x : Name
   x = resolved spelling k
 
@@ -116,7 +116,7 @@ module _ (e : Environment) (spelling : List ℕ) (k : ℕ) (z : Unseen (alone (D
   put_there : (summary (put_first init value)).facts.absent ≡ false
   put_there = ap (λ t. (summary t).facts.absent) put_is ∙ led_there reading.steps init (sym (ap (λ i. i.facts.absent) plain))
 
-  module _ (first : Trees) (avoids_id : Avoids D id) (avoids_last : AllAvoid D last) where
+  module _ (avoids_id : Avoids D id) (avoids_last : AllAvoid D last) where
     abbrev run_of : Trees → State → Completion (Unit {0})
     run_of ds s = means e (declaration K ds) (Stat None) [] s
 
@@ -129,12 +129,10 @@ module _ (e : Environment) (spelling : List ℕ) (k : ℕ) (z : Unseen (alone (D
         (λ u s t g. insensitive e D z.shared (declaration K last) (tt, ((tt, avoids_last), tt)) (Stat None) [] s t g) (λ y s t g. stopped (Unit {0}) D y s t g)
 
     -- x holds the value where the next is run, or the next is run with the initializer in it
-    next_goes : (s : State) → Go (run_of (declarator (binding x) init ▸ (declarator id value ▸ last)) s) (run_of (declarator id (put_first init value) ▸ last) s)
-    next_goes s =
-        subst (λ c. Go c (run_of (declarator id (put_first init value) ▸ last) s)) (sym (declarations_join e K (declarator (binding x) init ▸ none) (declarator id value ▸ last) s))
-        (declared_then e spelling k z K permit init (ap (λ i. i.facts.absent) (sym plain)) (run_of (declarator id value ▸ last)) s (run_of (declarator id (put_first init value) ▸ last) s)
-        (subst₂ Go (sym earlier) (sym (with_others e id (put_first init value) put_there K last s))
-        (goes_either true (λ v. Agree D) (Agree D) (Agree D) (λ u. Agree D) (Agree D) valued (means e (put_first init value) (As Val) tt s) _ _ _ _ (value_goes s) on_goes (λ y s t g. stopped (Unit {0}) D y s t g))))
+    pub initial_goes : (s : State) → Go (either (means e init (As Val) tt s) (λ v t. run_of (declarator id value ▸ last) (after v t)) (λ y t. stop y t)) (run_of (declarator id (put_first init value) ▸ last) s)
+    initial_goes s =
+        subst₂ Go (sym earlier) (sym (with_others e id (put_first init value) put_there K last s))
+        (goes_either true (λ v. Agree D) (Agree D) (Agree D) (λ u. Agree D) (Agree D) valued (means e (put_first init value) (As Val) tt s) _ _ _ _ (value_goes s) on_goes (λ y s t g. stopped (Unit {0}) D y s t g))
       where
         valued : Completion Value
         valued = either (means e init (As Val) tt s) (λ v t. means e value (As Val) tt (after v t)) (λ y t. stop y t)
@@ -142,10 +140,17 @@ module _ (e : Environment) (spelling : List ℕ) (k : ℕ) (z : Unseen (alone (D
         earlier : either (means e init (As Val) tt s) (λ v t. run_of (declarator id value ▸ last) (after v t)) (λ y t. stop y t) ≡ either valued goes_on (λ y t. stop y t)
         earlier = either_cong (means e init (As Val) tt s) _ _ _ _ (λ v t. with_others e id value value_there K last (after v t)) (λ y t. refl) ∙ sym (either_assoc (means e init (As Val) tt s) _ _ _ _ ∙ either_cong (means e init (As Val) tt s) _ _ _ _ (λ v t. refl) (λ y t. either_stop y t _ _))
 
-    pub next_same : Same e D nothing (Stat None) (listed (declared_among K x first init (declarator id value ▸ last) ▸ none)) (listed (declaration K (append first (declarator id (put_first init value) ▸ last)) ▸ none))
-    next_same =
-        one_same e spelling k z (declared_among K x first init (declarator id value ▸ last)) (declaration K (append first (declarator id (put_first init value) ▸ last)))
-        (λ s. subst₂ Go (sym (declarations_join e K first (declarator (binding x) init ▸ (declarator id value ▸ last)) s)) (sym (declarations_join e K first (declarator id (put_first init value) ▸ last) s)) (both_go e spelling k z (run_of first s) (run_of (declarator (binding x) init ▸ (declarator id value ▸ last))) (run_of (declarator id (put_first init value) ▸ last)) next_goes))
+    -- in one declaration
+    module _ (permit : is_lexical K ≡ false → e.fixed (Declared k) ≡ Writable) (first : Trees) where
+      next_goes : (s : State) → Go (run_of (declarator (binding x) init ▸ (declarator id value ▸ last)) s) (run_of (declarator id (put_first init value) ▸ last) s)
+      next_goes s =
+          subst (λ c. Go c (run_of (declarator id (put_first init value) ▸ last) s)) (sym (declarations_join e K (declarator (binding x) init ▸ none) (declarator id value ▸ last) s))
+          (declared_then e spelling k z K permit init (ap (λ i. i.facts.absent) (sym plain)) (run_of (declarator id value ▸ last)) s (run_of (declarator id (put_first init value) ▸ last) s) (initial_goes s))
+
+      pub next_same : Same e D nothing (Stat None) (listed (declared_among K x first init (declarator id value ▸ last) ▸ none)) (listed (declaration K (append first (declarator id (put_first init value) ▸ last)) ▸ none))
+      next_same =
+          one_same e spelling k z (declared_among K x first init (declarator id value ▸ last)) (declaration K (append first (declarator id (put_first init value) ▸ last)))
+          (λ s. subst₂ Go (sym (declarations_join e K first (declarator (binding x) init ▸ (declarator id value ▸ last)) s)) (sym (declarations_join e K first (declarator id (put_first init value) ▸ last) s)) (both_go e spelling k z (run_of first s) (run_of (declarator (binding x) init ▸ (declarator id value ▸ last))) (run_of (declarator id (put_first init value) ▸ last)) next_goes))
 
 -- what is read of them
 pub next_read : (K : VariableDeclarationKind) (spelling : List ℕ) (k : ℕ) (first last : Trees) (init id value put : Tree) → ReadAs k (declared_among K (resolved spelling k) first init (declarator id value ▸ last)) (declaration K (append first (declarator id put ▸ last)))
@@ -171,5 +176,5 @@ row_71_next e k z n w r h t =
     let last = all_avoided x r.symbol refl r.last r.declared_later in
     let id = avoided x r.symbol refl r.binds r.other in
     let same = block_same e r.spelling r.symbol u r.before r.after (d ▸ none) (left ▸ none) (read_alone r.symbol d left (next_read r.kind r.spelling r.symbol r.first r.last r.init r.binds r.value (put_first r.init r.value))) (all_avoided x r.symbol refl r.before r.earlier) (next_avoids x r.symbol refl r.kind r.first r.init r.binds r.value r.last r.once r.declared_earlier r.initial r.other r.declared_later, tt) (all_avoided x r.symbol refl r.after r.later)
-    (next_same e r.spelling r.symbol u r.kind (never_written r.kind e r.symbol (lexical_alone r.kind r.goes)) r.init r.binds r.value r.last r.moves r.once r.first id last) t in
+    (next_same e r.spelling r.symbol u r.kind r.init r.binds r.value r.last r.moves r.once id last (never_written r.kind e r.symbol (lexical_alone r.kind r.goes)) r.first) t in
     subst (λ j. Same e (alone (Declared j)) nothing (Stat t) n w) (sym h) (subst₂ (Same e D nothing (Stat t)) (sym r.shape) (sym r.written) same)

@@ -1,19 +1,23 @@
 -- A tree that reads a variable before all else, as a path to that read: what leads there, and what stands beside it.
-use Rattle.std.specs.Prelude.{ℕ, zero, suc, ◌+◌, ◌≡◌, refl, not, ◌&&◌, ◌||◌, Bool, true, false, List, [], ◌∷◌}
-use Rattle.std.proofs.Common.{ap, ◌∙◌, sym, subst, arith, true≢false}
+use Rattle.std.specs.Prelude.{ℕ, zero, suc, ◌+◌, ◌≡◌, ◌⊎◌, refl, not, ◌&&◌, ◌||◌, Bool, true, false, List, [], ◌∷◌}
+use Rattle.std.proofs.Common.{ap, ◌∙◌, sym, subst, arith, inl, inr, true≢false}
 use Rattle.std.proofs.lemmas.Bool.{and_parts}
+use Rattle.mini_model.specs.declared.kind.VariableDeclarationKind.{VariableDeclarationKind}
 use Rattle.mini_model.specs.declared.name.Name.{Name}
 use Rattle.mini_model.specs.declared.operator.BinaryOperator.{BinaryOperator}
 use Rattle.mini_model.specs.declared.operator.LogicalOperator.{LogicalOperator}
 use Rattle.mini_model.specs.declared.operator.UnaryOperator.TheVariants.{LogicalNot, UnaryPlus, BitwiseNot}
 use Rattle.mini_model.specs.declared.shape.Shape.{Shape}
 use Rattle.mini_model.specs.declared.shape.Shape.TheVariants as shape
-use Rattle.mini_model.specs.Tree.{Tree, Trees, node, none, ◌▸◌, identifier}
+use Rattle.mini_model.specs.Tree.{Tree, Trees, node, none, ◌▸◌, listed, children, identifier}
 use Rattle.mini_laws.specs.Naming.{summary, summaries, summary_of}
 use Rattle.mini_laws.specs.Symbols.{is_same}
+use Rattle.mini_node.specs.Children.{part, rest_children}
 use Rattle.mini_node.specs.Kinds.{is_sequence_shape}
 use Rattle.mini_rows.specs.Sketches.{Head, AList, Unary, Binary, Logical, Conditional, Sequence, Call, New, StaticMember, ComputedMember, Yield, OfExpression, Throw, Return, If, shape_by, Asked, AsWholeItem, AsValue, AsValues, asked_below, Leap}
-use Rattle.mini_rows.specs.Unused.{names, any_names, leads, is_childless, reads, is_first, put_first, reads_first}
+use Rattle.mini_rows.specs.Lists.{declaration}
+use Rattle.mini_rows.specs.Declarations.{declarator}
+use Rattle.mini_rows.specs.Unused.{names, any_names, leads, is_childless, reads, is_first, put_first, reads_first, is_declarator, declares_list, reads_declarator, reads_declarators, reads_initially, reads_head, put_head}
 use Rattle.mini_rows.proofs.Arranging.{Plain, Local, Summed}
 
 -- ---- what leads there
@@ -199,6 +203,67 @@ statement x (node shape.ReturnStatement [] zero (t ▸ ts)) e = stated x Giving 
 statement x (node shape.ThrowStatement [] zero (t ▸ ts)) e = stated x Raising t ts (λ b. tt) (λ c. refl) e
 statement x (node shape.IfStatement [] zero (t ▸ ts)) e = stated x Testing t ts (λ b. tt) (λ c. refl) e
 statement x t e = absurd (true≢false (sym e))
+
+-- a declaration does in its first initializer
+pub record Initial (x : Name) (t : Tree) : Type 0 where
+  pub kind : VariableDeclarationKind
+  pub binds : Tree
+  pub value : Tree
+  pub last : Trees
+  pub once : is_first x false value ≡ true
+  pub other : names x binds ≡ false
+  pub later : any_names x last ≡ false
+  pub is : t ≡ declaration kind (declarator binds value ▸ last)
+  pub puts : (r : Tree) → put_head r t ≡ declaration kind (declarator binds (put_first r value) ▸ last)
+
+no_first : (ts : Trees) → rest_children 0 ts ≡ ts
+no_first none = refl
+no_first (t ▸ ts) = refl
+
+declarator_is : (d : Tree) → is_declarator d ≡ true → d ≡ declarator (part d 0) (part d 1)
+declarator_is (node shape.VariableDeclarator [] zero (a ▸ (b ▸ none))) e = refl
+declarator_is d e = absurd (true≢false (sym e))
+
+a_declaration : (t : Tree) → declares_list t ≡ true → (k : VariableDeclarationKind) × (t ≡ declaration k (children (part t 0)))
+a_declaration (node (shape.VariableDeclaration k) [] zero (node shape.Listed [] zero ds ▸ none)) e = (k, refl)
+a_declaration (node (shape.VariableDeclaration k) [] zero (u ▸ none)) e = absurd (true≢false (sym e))
+a_declaration t e = absurd (true≢false (sym e))
+
+of_declarators : (x : Name) (k : VariableDeclarationKind) (ds : Trees) → reads_declarators x (listed ds) ≡ true → Initial x (declaration k ds)
+of_declarators x k none e = absurd (true≢false (sym e))
+of_declarators x k (d ▸ ds) e =
+    let (p, q) = and_parts (reads_declarator x d) (not (any_names x (rest_children 0 ds))) e in
+    let (n, o) = and_parts (is_declarator d) (is_first x false (part d 1) && not (names x (part d 0))) p in
+    let (a, b) = and_parts (is_first x false (part d 1)) (not (names x (part d 0))) o in
+    let later = ap (any_names x) (sym (no_first ds)) ∙ not_true (any_names x (rest_children 0 ds)) q in
+    subst (λ u. Initial x (declaration k (u ▸ ds))) (sym (declarator_is d n)) (record { kind = k; binds = part d 0; value = part d 1; last = ds; once = a; other = not_true (names x (part d 0)) b; later = later; is = refl; puts = λ r. refl })
+
+initially : (x : Name) (t : Tree) → reads_initially x t ≡ true → Initial x t
+initially x t e =
+    let (d, s) = and_parts (declares_list t) (reads_declarators x (part t 0)) e in
+    let (k, is) = a_declaration t d in
+    subst (Initial x) (sym is) (of_declarators x k (children (part t 0)) (sym (ap (λ u. reads_declarators x (part u 0)) is) ∙ s))
+
+-- a statement is no declaration
+stays : (x : Name) (t : Tree) → reads_first x t ≡ true → (r : Tree) → put_head r t ≡ put_first r t
+stays x t e r =
+    let s = statement x t e in
+    ap (put_head r) s.is ∙ by s.lead (s.stands true) (s.inner ▸ s.rest) ∙ sym (ap (put_first r) s.is)
+  where
+    by : (l : Lead) → Stands AsWholeItem l true → (ts : Trees) → put_head r (node (shape_by (head_of l)) [] 0 ts) ≡ put_first r (node (shape_by (head_of l)) [] 0 ts)
+    by Doing s ts = refl
+    by Giving s ts = refl
+    by Raising s ts = refl
+    by Testing s ts = refl
+    by l s ts = absurd s
+
+-- a head is a statement or a declaration
+pub heads : (x : Name) (t : Tree) → reads_head x t ≡ true → ((reads_first x t ≡ true) × ((r : Tree) → put_head r t ≡ put_first r t)) ⊎ Initial x t
+heads x t e = by (reads_first x t) refl
+  where
+    by : (b : Bool) → reads_first x t ≡ b → ((reads_first x t ≡ true) × ((r : Tree) → put_head r t ≡ put_first r t)) ⊎ Initial x t
+    by true f = inl (f, stays x t f)
+    by false f = inr (initially x t (sym (ap (λ b. b || reads_initially x t) f) ∙ e))
 
 -- ---- what holds of it
 

@@ -1,5 +1,5 @@
 -- What a tree weighs with another in the place of what it reads first.
-use Rattle.std.proofs.Common.{◌≡◌, ℕ, suc, ◌+◌, ◌≤◌, Bool, true, false, [], ◌∷◌, List, Option, Some, None, refl, sym, ap, ◌∙◌, subst, true≢false, arith}
+use Rattle.std.proofs.Common.{◌≡◌, ◌⊎◌, inl, inr, ℕ, suc, ◌+◌, ◌≤◌, Bool, true, false, [], ◌∷◌, List, Option, Some, None, refl, sym, ap, ◌∙◌, subst, true≢false, arith}
 use Rattle.std.specs.Prelude.{is_none, if◌then◌else◌}
 use Rattle.mini_model.specs.declared.kind.VariableDeclarationKind.{VariableDeclarationKind}
 use Rattle.mini_model.specs.declared.kind.VariableDeclarationKind.TheVariants.{Var, Let, Const}
@@ -20,10 +20,10 @@ use Rattle.mini_terms.specs.Reading.{is_plain_part}
 use Rattle.mini_rows.specs.Declarations.{binding, declarator}
 use Rattle.mini_rows.specs.Lists.{block, declaration}
 use Rattle.mini_rows.specs.Sketches.{shape_by, Asked, AsWholeItem, AsValue, AsValues, asked_below}
-use Rattle.mini_rows.specs.Unused.{resolved, declared_among, declared_left, is_first, put_first, reads_first}
+use Rattle.mini_rows.specs.Unused.{resolved, declared_among, declared_left, is_first, put_first, reads_first, put_head, reads_head}
 use Rattle.mini_rows.proofs.BooleanWeights.{moved}
 use Rattle.mini_rows.proofs.ListWeights.{total, in_list, comma_list, declarators_append}
-use Rattle.mini_rows.proofs.SingleUse.{Lead, Not, Plus, Tilde, Beside, Deciding, Choosing, Passing, Called, Making, Waiting, Member, Keyed, Listing, Doing, Giving, Raising, Testing, head_of, Step, led, is_end, Stands, Well, path, statement}
+use Rattle.mini_rows.proofs.SingleUse.{Lead, Not, Plus, Tilde, Beside, Deciding, Choosing, Passing, Called, Making, Waiting, Member, Keyed, Listing, Doing, Giving, Raising, Testing, head_of, Step, led, is_end, Stands, Well, Initial, heads, path, statement}
 
 -- ---- where the steps stand
 
@@ -128,39 +128,6 @@ head_falls s k head e q r f =
     let put : put_first r head ≡ led steps r = ap (put_first r) t.is ∙ ap (λ u. led (record { lead = t.lead; rest = t.rest } ∷ []) u) (t.path.puts r) in
     omega (arith, falls, ap (weight (Stmt q)) there, ap (weight (Stmt q)) put)
 
--- ---- the declaration: a name and a comma less, or all but `;`
-
-commas_more : (t : Tree) (first : Trees) (d : Tree) → commas_weight (outlines (append (t ▸ first) (d ▸ none))) ≡ commas_weight (outlines (t ▸ first)) + 2
-commas_more t none d = refl
-commas_more t (c ▸ first) d = let rest = commas_more c first d in omega (arith, rest)
-
-left_falls : (K : VariableDeclarationKind) (x : Name) (first : Trees) (init : Tree) → total (declared_left K first ▸ none) + (weight (Expr argument_seat) init + 4) ≤ total (declared_among K x first init none ▸ none)
-left_falls Var x none init = omega arith
-left_falls Let x none init = omega arith
-left_falls Const x none init = omega arith
-left_falls K x (t ▸ first) init =
-    let d = declarator (binding x) init in
-    omega (arith, commas_more t first d, comma_list (t ▸ first), comma_list (append (t ▸ first) (d ▸ none)), declarators_append (t ▸ first) (d ▸ none))
-
--- ---- the block
-
-no_choice : (before after : Trees) (d e v w : Tree) → one_chooses (outlines (append before (d ▸ (e ▸ after)))) ≡ one_chooses (outlines (append before (v ▸ (w ▸ after))))
-no_choice none after d e v w = refl
-no_choice (t ▸ none) after d e v w = refl
-no_choice (t ▸ (u ▸ before)) after d e v w = refl
-
-pub single_falls : (q : StmtSeat) (before : Trees) (K : VariableDeclarationKind) (first : Trees) (s : List ℕ) (k : ℕ) (init head : Tree) (after : Trees) → is_plain_part init ≡ true → reads_first (resolved s k) head ≡ true → weight (Stmt q) (block (append before (declared_left K first ▸ (put_first init head ▸ after)))) + 1 ≤ weight (Stmt q) (block (append before (declared_among K (resolved s k) first init none ▸ (head ▸ after))))
-single_falls q before K first s k init head after f e =
-    let x = resolved s k in
-    let d = declared_among K x first init none in
-    let left = declared_left K first in
-    let one = left_falls K x first init in
-    let other = head_falls s k head e stmt_seat.List init f in
-    let less : total (left ▸ (put_first init head ▸ none)) + 1 ≤ total (d ▸ (head ▸ none)) = omega (arith, one, other) in
-    let falls = in_list before (d ▸ (head ▸ none)) (left ▸ (put_first init head ▸ none)) after 1 less in
-    let braces = ap (braces_weight q) (no_choice before after d head left (put_first init head)) in
-    omega (arith, falls, braces)
-
 -- ---- where the next declarator reads it
 
 led_stands : (ss : List Step) (t : Tree) → (outline t).absent ≡ false → (outline (led ss t)).absent ≡ false
@@ -211,3 +178,56 @@ next_falls K s k first init binds value last f e =
       declarators_append first (d ▸ (n ▸ last)),
       declarators_append first (put ▸ last),
     )
+
+-- ---- the declaration: a name and a comma less, or all but `;`
+
+commas_more : (t : Tree) (first : Trees) (d : Tree) → commas_weight (outlines (append (t ▸ first) (d ▸ none))) ≡ commas_weight (outlines (t ▸ first)) + 2
+commas_more t none d = refl
+commas_more t (c ▸ first) d = let rest = commas_more c first d in omega (arith, rest)
+
+left_falls : (K : VariableDeclarationKind) (x : Name) (first : Trees) (init : Tree) → total (declared_left K first ▸ none) + (weight (Expr argument_seat) init + 4) ≤ total (declared_among K x first init none ▸ none)
+left_falls Var x none init = omega arith
+left_falls Let x none init = omega arith
+left_falls Const x none init = omega arith
+left_falls K x (t ▸ first) init =
+    let d = declarator (binding x) init in
+    omega (arith, commas_more t first d, comma_list (t ▸ first), comma_list (append (t ▸ first) (d ▸ none)), declarators_append (t ▸ first) (d ▸ none))
+
+-- ---- what stands right after it
+
+as_many_commas : (d e : Tree) (last : Trees) → commas_weight (outlines (d ▸ last)) ≡ commas_weight (outlines (e ▸ last))
+as_many_commas d e none = refl
+as_many_commas d e (t ▸ last) = refl
+
+initial_falls : (s : List ℕ) (k : ℕ) (head : Tree) (t : Initial (resolved s k) head) (r : Tree) → is_plain_part r ≡ true → total (put_head r head ▸ none) ≤ total (head ▸ none) + (weight (Expr argument_seat) r + 3)
+initial_falls s k head t r f =
+    let d = declarator t.binds t.value in
+    let put = declarator t.binds (put_first r t.value) in
+    let falls = declarator_falls s k t.binds t.value t.once r f in
+    omega (arith, falls, comma_list (d ▸ t.last), comma_list (put ▸ t.last), as_many_commas d put t.last, ap (λ u. total (u ▸ none)) t.is, ap (λ u. total (u ▸ none)) (t.puts r))
+
+either_falls : (s : List ℕ) (k : ℕ) (head : Tree) → reads_head (resolved s k) head ≡ true → (r : Tree) → is_plain_part r ≡ true → total (put_head r head ▸ none) ≤ total (head ▸ none) + (weight (Expr argument_seat) r + 3)
+either_falls s k head e r f = by (heads (resolved s k) head e)
+  where
+    by : ((reads_first (resolved s k) head ≡ true) × ((r : Tree) → put_head r head ≡ put_first r head)) ⊎ Initial (resolved s k) head → total (put_head r head ▸ none) ≤ total (head ▸ none) + (weight (Expr argument_seat) r + 3)
+    by (inl (o, p)) = let falls = head_falls s k head o stmt_seat.List r f in omega (arith, falls, ap (λ u. total (u ▸ none)) (p r))
+    by (inr t) = initial_falls s k head t r f
+
+-- ---- the block
+
+no_choice : (before after : Trees) (d e v w : Tree) → one_chooses (outlines (append before (d ▸ (e ▸ after)))) ≡ one_chooses (outlines (append before (v ▸ (w ▸ after))))
+no_choice none after d e v w = refl
+no_choice (t ▸ none) after d e v w = refl
+no_choice (t ▸ (u ▸ before)) after d e v w = refl
+
+pub single_falls : (q : StmtSeat) (before : Trees) (K : VariableDeclarationKind) (first : Trees) (s : List ℕ) (k : ℕ) (init head : Tree) (after : Trees) → is_plain_part init ≡ true → reads_head (resolved s k) head ≡ true → weight (Stmt q) (block (append before (declared_left K first ▸ (put_head init head ▸ after)))) + 1 ≤ weight (Stmt q) (block (append before (declared_among K (resolved s k) first init none ▸ (head ▸ after))))
+single_falls q before K first s k init head after f e =
+    let x = resolved s k in
+    let d = declared_among K x first init none in
+    let left = declared_left K first in
+    let one = left_falls K x first init in
+    let other = either_falls s k head e init f in
+    let less : total (left ▸ (put_head init head ▸ none)) + 1 ≤ total (d ▸ (head ▸ none)) = omega (arith, one, other) in
+    let falls = in_list before (d ▸ (head ▸ none)) (left ▸ (put_head init head ▸ none)) after 1 less in
+    let braces = ap (braces_weight q) (no_choice before after d head left (put_head init head)) in
+    omega (arith, falls, braces)

@@ -495,20 +495,6 @@ row_72_idle e k z n w r h t =
 pub movable : (init : Tree) → may_move init ≡ true → is_plain_part init ≡ true
 movable init h = (and_parts (is_plain_part init) (not (is_definition (shape_of init))) h).0
 
-stated : (l : Lead) (b : Bool) → Stands AsWholeItem l b → (ts : Trees) → summary (node (shape_by (head_of l)) [] 0 ts) ≡ summary empty_statement
-stated Doing b s ts = refl
-stated Giving b s ts = refl
-stated Raising b s ts = refl
-stated Testing b s ts = refl
-stated l b s ts = absurd s
-
-pub head_read : (x : Name) (head : Tree) → reads_first x head ≡ true → (init : Tree) → (summary head ≡ summary empty_statement) × (summary (put_first init head) ≡ summary empty_statement)
-head_read x head e init =
-    let t = statement x head e in (
-      ap summary t.is ∙ stated t.lead true (t.stands true) (t.inner ▸ t.rest),
-      ap (λ u. summary (put_first init u)) t.is ∙ stated t.lead true (t.stands true) (put_first init t.inner ▸ t.rest),
-    )
-
 left_read : (K : VariableDeclarationKind) (first : Trees) → (summary (declared_left K first)).lets ≡ choose (is_lexical K) (lets_all (summaries first)) []
 left_read K none = no_lets (is_lexical K)
 left_read K (t ▸ first) = refl
@@ -517,22 +503,28 @@ left_plain : (K : VariableDeclarationKind) (first : Trees) → ((summary (declar
 left_plain K none = (refl, refl, refl)
 left_plain K (t ▸ first) = (refl, refl, refl)
 
--- with a statement that declares nothing
-less_beside : (k : ℕ) (xs ys zs ws : List Variable) → OneLess k xs ys → zs ≡ [] → ws ≡ [] → OneLess k (xs ++ (zs ++ [])) (ys ++ (ws ++ []))
-less_beside k xs ys zs ws (inl (first, last, f, g)) a b = inl (first, last, ap (λ l. xs ++ (l ++ [])) a ∙ append-nil xs ∙ f, ap (λ l. ys ++ (l ++ [])) b ∙ append-nil ys ∙ g)
-less_beside k xs ys zs ws (inr f) a b = inr (λ i. f i ++ ((a ∙ sym b) i ++ []))
+-- of two statements the same is read
+pub record SameRead (t u : Tree) : Type 0 where
+  pub lets : (summary t).lets ≡ (summary u).lets
+  pub functions : (summary t).functions ≡ (summary u).functions
+  pub facts : (summary t).facts.functions ≡ (summary u).facts.functions
+  pub texts : (summary t).facts.texts ≡ (summary u).facts.texts
 
-pub single_read : (spelling : List ℕ) (k : ℕ) (K : VariableDeclarationKind) (first : Trees) (init head w : Tree) → summary head ≡ summary empty_statement → summary w ≡ summary empty_statement → ReadThere k (declared_among K (resolved spelling k) first init none ▸ (head ▸ none)) (declared_left K first ▸ (w ▸ none))
-single_read spelling k K first init head w h g =
+less_beside : (k : ℕ) (xs ys zs ws : List Variable) → OneLess k xs ys → zs ≡ ws → OneLess k (xs ++ (zs ++ [])) (ys ++ (ws ++ []))
+less_beside k xs ys zs ws (inl (first, last, f, g)) a = inl (first, last ++ (ws ++ []), (λ i. f i ++ (a i ++ [])) ∙ append_assoc first (Declared k ∷ last) (ws ++ []), ap (λ l. l ++ (ws ++ [])) g ∙ append_assoc first last (ws ++ []))
+less_beside k xs ys zs ws (inr f) a = inr (λ i. f i ++ (a i ++ []))
+
+pub single_read : (spelling : List ℕ) (k : ℕ) (K : VariableDeclarationKind) (first : Trees) (init head w : Tree) → SameRead head w → ReadThere k (declared_among K (resolved spelling k) first init none ▸ (head ▸ none)) (declared_left K first ▸ (w ▸ none))
+single_read spelling k K first init head w r =
     let x = resolved spelling k in
     let d = declared_among K x first init none in
     let left = declared_left K first in
     let nothing_left = left_plain K first in
     record {
-      lets = less_beside k (summary d).lets (summary left).lets (summary head).lets (summary w).lets (declared_lets K k (append first (declarator (binding x) init ▸ none)) (lets_all (summaries first)) [] (summary left).lets (lets_append first (declarator (binding x) init ▸ none)) (left_read K first ∙ ap (λ l. choose (is_lexical K) l []) (sym (append-nil (lets_all (summaries first)))))) (ap (λ i. i.lets) h) (ap (λ i. i.lets) g);
-      functions = ap (λ i. i.functions ++ []) h ∙ sym (ap (λ i. (summary left).functions ++ (i.functions ++ [])) g ∙ ap (λ l. l ++ []) nothing_left.0);
-      facts = ap (λ i. i.facts.functions ++ []) h ∙ sym (ap (λ i. (summary left).facts.functions ++ (i.facts.functions ++ [])) g ∙ ap (λ l. l ++ []) nothing_left.1);
-      texts = ap (λ i. i.facts.texts ++ []) h ∙ sym (ap (λ i. (summary left).facts.texts ++ (i.facts.texts ++ [])) g ∙ ap (λ l. l ++ []) nothing_left.2);
+      lets = less_beside k (summary d).lets (summary left).lets (summary head).lets (summary w).lets (declared_lets K k (append first (declarator (binding x) init ▸ none)) (lets_all (summaries first)) [] (summary left).lets (lets_append first (declarator (binding x) init ▸ none)) (left_read K first ∙ ap (λ l. choose (is_lexical K) l []) (sym (append-nil (lets_all (summaries first)))))) r.lets;
+      functions = ap (λ l. l ++ []) r.functions ∙ sym (ap (λ l. l ++ ((summary w).functions ++ [])) nothing_left.0);
+      facts = ap (λ l. l ++ []) r.facts ∙ sym (ap (λ l. l ++ ((summary w).facts.functions ++ [])) nothing_left.1);
+      texts = ap (λ l. l ++ []) r.texts ∙ sym (ap (λ l. l ++ ((summary w).facts.texts ++ [])) nothing_left.2);
     }
 
 -- the name that is read has the symbol
@@ -544,31 +536,20 @@ pub first_avoids : (D : VariableSet) (K : VariableDeclarationKind) (first : Tree
 first_avoids D K none a = (tt, tt)
 first_avoids D K (t ▸ first) a = (tt, ((tt, a), tt))
 
-module _ (e : Environment) (spelling : List ℕ) (k : ℕ) (z : Unseen (alone (Declared k)) e) (first : Trees) (init head : Tree) (moves : may_move init ≡ true) (once : reads_first (resolved spelling k) head ≡ true) (K : VariableDeclarationKind) (permit : is_lexical K ≡ false → e.fixed (Declared k) ≡ Writable) where
+-- what holds the variable's value, where its declaration has been run, and what has the initializer in its place
+abbrev pub GoesWith : Environment → ℕ → Tree → Tree → Tree → State → Type 0
+GoesWith e k init head put s = Goes true (λ u. Agree (alone (Declared k))) (Agree (alone (Declared k))) (Agree (alone (Declared k))) (either (means e init (As Val) tt s) (λ v t. means e head (Stat None) [] (with_vars t (set_var t.vars (Declared k) (Holds v)))) (λ y t. stop y t)) (means e put (Stat None) [] s)
+
+module _ (e : Environment) (spelling : List ℕ) (k : ℕ) (z : Unseen (alone (Declared k)) e) (first : Trees) (init head put : Tree) (present : (summary init).facts.absent ≡ false) (K : VariableDeclarationKind) (permit : is_lexical K ≡ false → e.fixed (Declared k) ≡ Writable) (goes_with : (s : State) → GoesWith e k init head put s) where
   abbrev single_name : Name
   single_name = resolved spelling k
 
   abbrev single_set : VariableSet
   single_set = alone (Declared k)
 
-  plain_init : summary (identifier (resolved spelling k)) ≡ summary init
-  plain_init = sym (plain_read init (movable init moves))
-
   -- the declaration and the statement, run
   abbrev Run : Completion (Unit {0}) → Completion (Unit {0}) → Type 0
   Run a b = Goes true (λ u. Agree single_set) (Agree single_set) (Agree single_set) a b
-
-  head_goes : (s : State) → Run (either (means e init (As Val) tt s) (λ v t. means e head (Stat None) [] (with_vars t (set_var t.vars (Declared k) (Holds v)))) (λ y t. stop y t)) (means e (put_first init head) (Stat None) [] s)
-  head_goes s =
-      let t = statement single_name head once in
-      let steps : List Step = record { lead = t.lead; rest = t.rest } ∷ t.path.steps in
-      let reading = t.path.read in
-      let read_as : identifier reading ≡ identifier (resolved reading.spelling k) = ap (λ y. identifier (record { spelling = reading.spelling; symbol = y })) (same_symbol k reading.symbol t.path.same) in
-      let one = λ (u : Tree). led (record { lead = t.lead; rest = t.rest } ∷ []) u in
-      let there : head ≡ led steps (identifier (resolved reading.spelling k)) = t.is ∙ ap one (t.path.is ∙ ap (led t.path.steps) read_as) in
-      let put : put_first init head ≡ led steps init = ap (put_first init) t.is ∙ ap one (t.path.puts init) in
-      subst₂ (λ h w. Run (either (means e init (As Val) tt s) (λ v t. means e h (Stat None) [] (with_vars t (set_var t.vars (Declared k) (Holds v)))) (λ y t. stop y t)) (means e w (Stat None) [] s)) (sym there) (sym put)
-      (first_goes e k z single_name refl reading.spelling init plain_init AsWholeItem steps (t.stands (is_end t.path.steps), subst (λ c. Well c t.path.steps) (sym (t.below AsWholeItem)) t.path.well) (t.free, t.path.spared) (Stat None) tt [] s)
 
   -- what stands before the declarator, and the declarator alone
 
@@ -583,29 +564,14 @@ module _ (e : Environment) (spelling : List ℕ) (k : ℕ) (z : Unseen (alone (D
   abbrev head_then : Completion (Unit {0}) → Completion (Unit {0})
   head_then c = either c (λ u t. means e head (Stat None) [] t) (λ y t. stop y t)
 
-  single_goes : (s : State) → Run (head_then (means e (declared_among K single_name first init none) (Stat None) [] s)) (either (others first s) (λ u t. means e (put_first init head) (Stat None) [] t) (λ y t. stop y t))
+  single_goes : (s : State) → Run (head_then (means e (declared_among K single_name first init none) (Stat None) [] s)) (either (others first s) (λ u t. means e put (Stat None) [] t) (λ y t. stop y t))
   single_goes s =
-      subst (λ c. Run c (either (others first s) (λ u t. means e (put_first init head) (Stat None) [] t) (λ y t. stop y t)))
+      subst (λ c. Run c (either (others first s) (λ u t. means e put (Stat None) [] t) (λ y t. stop y t)))
       (sym (ap head_then (both_parts first s) ∙ either_assoc (others first s) _ _ _ _ ∙ either_cong (others first s) _ _ _ _ (λ u t. refl) (λ y t. either_stop y t _ _)))
-      (both_go e spelling k z (others first s) (λ t. head_then (means e (declared_one K single_name init) (Stat None) [] t)) (λ t. means e (put_first init head) (Stat None) [] t)
-      (λ t. declared_then e spelling k z K permit init (ap (λ i. i.facts.absent) (sym plain_init)) (λ t. means e head (Stat None) [] t) t (means e (put_first init head) (Stat None) [] t) (head_goes t)))
+      (both_go e spelling k z (others first s) (λ t. head_then (means e (declared_one K single_name init) (Stat None) [] t)) (λ t. means e put (Stat None) [] t)
+      (λ t. declared_then e spelling k z K permit init present (λ t. means e head (Stat None) [] t) t (means e put (Stat None) [] t) (goes_with t)))
 
-  pub single_same : Same e single_set nothing (Stat None) (listed (declared_among K single_name first init none ▸ (head ▸ none))) (listed (declared_left K first ▸ (put_first init head ▸ none)))
+  pub single_same : Same e single_set nothing (Stat None) (listed (declared_among K single_name first init none ▸ (head ▸ none))) (listed (declared_left K first ▸ (put ▸ none)))
   single_same = record {
-    by = λ r s i. subst₂ Run (sym (listed_is e (declared_among K single_name first init none ▸ (head ▸ none)) r s ∙ exec_two e (declared_among K single_name first init none) head s)) (sym (listed_is e (declared_left K first ▸ (put_first init head ▸ none)) r s ∙ exec_two e (declared_left K first) (put_first init head) s)) (single_goes s);
+    by = λ r s i. subst₂ Run (sym (listed_is e (declared_among K single_name first init none ▸ (head ▸ none)) r s ∙ exec_two e (declared_among K single_name first init none) head s)) (sym (listed_is e (declared_left K first ▸ (put ▸ none)) r s ∙ exec_two e (declared_left K first) put s)) (single_goes s);
   }
-
-pub head_unnamed : (x : Name) (head : Tree) → reads_first x head ≡ true → (init : Tree) → names x init ≡ false → names x (put_first init head) ≡ false
-head_unnamed x head e init f =
-    let t = statement x head e in
-    ap (λ u. names x (put_first init u)) t.is ∙ ap (λ u. names x u || any_names x t.rest) (t.path.puts init) ∙ ap (λ b. b || any_names x t.rest) (unnamed x t.path.steps t.path.spared init f) ∙ t.free
-
-pub row_71 : (e : Environment) (k : ℕ) → Unseen (alone (Declared k)) e → (n w : Tree) (r : Row71 nothing n w) → k ≡ r.symbol → (t : Option Tail) → Same e (alone (Declared k)) nothing (Stat t) n w
-row_71 e k z n w r h t =
-    let x = resolved r.spelling r.symbol in
-    let u : Unseen (alone (Declared r.symbol)) e = subst (λ j. Unseen (alone (Declared j)) e) h z in
-    let D = alone (Declared r.symbol) in
-    let (read, put) = head_read x r.head r.once r.init in
-    let same = block_same e r.spelling r.symbol u r.before r.after (declared_among r.kind x r.first r.init none ▸ (r.head ▸ none)) (declared_left r.kind r.first ▸ (put_first r.init r.head ▸ none)) (single_read r.spelling r.symbol r.kind r.first r.init r.head (put_first r.init r.head) read put) (all_avoided x r.symbol refl r.before r.earlier)
-    (first_avoids D r.kind r.first (all_avoided x r.symbol refl r.first r.declared_earlier), (avoided x r.symbol refl (put_first r.init r.head) (head_unnamed x r.head r.once r.init r.initial), tt)) (all_avoided x r.symbol refl r.after r.later) (single_same e r.spelling r.symbol u r.first r.init r.head r.moves r.once r.kind (never_written r.kind e r.symbol (lexical_alone r.kind r.goes))) t in
-    subst (λ j. Same e (alone (Declared j)) nothing (Stat t) n w) (sym h) (subst₂ (Same e D nothing (Stat t)) (sym r.shape) (sym r.written) same)

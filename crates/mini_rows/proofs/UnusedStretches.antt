@@ -1,8 +1,8 @@
 -- What the rows of blocks do to the statements that stand after the first child of a list: the parameters of an arrow function, with
 -- its statements after them, are read as such a list.
 use Rattle.mini_model.specs.declared.name.Name.{Name}
-use Rattle.std.specs.Prelude.{ℕ, ◌≡◌, refl, Bool, true, false, List, [], None}
-use Rattle.std.proofs.Common.{ap, ◌∙◌, sym, inl, inr, true≢false}
+use Rattle.std.specs.Prelude.{ℕ, ◌≡◌, ◌⊎◌, refl, Bool, true, false, List, [], None}
+use Rattle.std.proofs.Common.{ap, ◌∙◌, sym, subst, subst₂, inl, inr, true≢false}
 use Rattle.mini_model.specs.declared.kind.VariableDeclarationKind.{VariableDeclarationKind}
 use Rattle.mini_model.specs.Tree.{Tree, Trees, node, none, ◌▸◌, listed, shape_of, children, child_or_absent, empty_statement, expression_statement}
 use Rattle.mini_model.specs.Paths.{append}
@@ -19,15 +19,18 @@ use Rattle.mini_node.specs.Kinds.{is_listed_shape}
 use Rattle.mini_rows.specs.Lists.{block, declares_nothing, declaration}
 use Rattle.mini_rows.specs.Declarations.{binding, declarator}
 use Rattle.mini_rows.specs.Sketches.{shape_by, AsWholeItem}
-use Rattle.mini_rows.specs.Unused.{resolved, names, any_names, declared_one, declared_among, declared_left, is_idle, may_move, is_first, reads_first, put_first, lets_go, BlockRow}
+use Rattle.mini_rows.specs.Unused.{resolved, names, any_names, declared_one, declared_among, declared_left, is_idle, may_move, is_first, reads_first, put_first, reads_head, put_head, lets_go, BlockRow}
 use Rattle.mini_rows.proofs.ListShapes.{declaration_anywhere, first_fits, more_fit}
-use Rattle.mini_rows.proofs.SingleUse.{Lead, Doing, Giving, Raising, Testing, head_of, Stands, statement}
-use Rattle.mini_rows.proofs.DeclaredKept.{value_leaves, value_declares, idle_leaves, idle_declares, single_leaves, single_declares}
+use Rattle.mini_rows.proofs.SingleUse.{Lead, Doing, Giving, Raising, Testing, head_of, Stands, statement, Initial, heads}
+use Rattle.mini_rows.proofs.HeadKept.{head_leaves, head_declares}
+use Rattle.mini_rows.proofs.HeadMeaning.{head_read, head_goes, head_unnamed}
+use Rattle.mini_rows.proofs.FoldMeaning.{plain_read}
+use Rattle.mini_rows.proofs.DeclaredKept.{value_leaves, value_declares, idle_leaves, idle_declares}
 use Rattle.mini_rows.proofs.NextKept.{next_leaves, next_declares}
 use Rattle.mini_rows.proofs.NextMeaning.{next_read, next_same, next_avoids}
 use Rattle.mini_rows.proofs.UnusedKept.{LeavesThere, DeclaresThere}
 use Rattle.mini_rows.proofs.UnusedLawful.{item, value_fits, left_fits, single_fits, next_fits, idle_vanishes}
-use Rattle.mini_rows.proofs.UnusedMeaning.{ReadThere, read_alone, value_same, left_same, single_same, one_read, idle_read, left_avoids, single_read, head_read, head_unnamed, first_avoids, may_write, movable}
+use Rattle.mini_rows.proofs.UnusedMeaning.{ReadThere, read_alone, value_same, left_same, single_same, one_read, idle_read, left_avoids, single_read, first_avoids, may_write, movable}
 use Rattle.mini_rows.proofs.UnusedNames.{or_parts, avoided, all_avoided}
 
 -- a statement of a block, of a function's body, or of a module
@@ -138,6 +141,33 @@ led_ported Raising s ts rest = refl
 led_ported Testing s ts rest = refl
 led_ported l s ts rest = absurd s
 
+-- a head and what is written for it stand where a statement does, and are no import and no export
+record StandsThere (head put : Tree) : Type 0 where
+  head_in : (o : Depth) (strict : Bool) → fits strict (item_in o) head ≡ fits strict item head
+  put_in : (o : Depth) (strict : Bool) → fits strict (item_in o) put ≡ fits strict item put
+  head_ported : (rest : Trees) → ports true (head ▸ rest) ≡ ports true rest
+  put_ported : (rest : Trees) → ports true (put ▸ rest) ≡ ports true rest
+
+statement_there : (x : Name) (head : Tree) → reads_first x head ≡ true → (init : Tree) → StandsThere head (put_first init head)
+statement_there x head once init =
+    let t = statement x head once in
+    record {
+      head_in = λ o strict. ap (fits strict (item_in o)) t.is ∙ led_in t.lead (t.stands true) o strict (t.inner ▸ t.rest) ∙ sym (ap (fits strict item) t.is);
+      put_in = λ o strict. ap (λ u. fits strict (item_in o) (put_first init u)) t.is ∙ led_in t.lead (t.stands true) o strict (put_first init t.inner ▸ t.rest) ∙ sym (ap (λ u. fits strict item (put_first init u)) t.is);
+      head_ported = λ rest. ap (λ u. ports true (u ▸ rest)) t.is ∙ led_ported t.lead (t.stands true) (t.inner ▸ t.rest) rest;
+      put_ported = λ rest. ap (λ u. ports true (put_first init u ▸ rest)) t.is ∙ led_ported t.lead (t.stands true) (put_first init t.inner ▸ t.rest) rest;
+    }
+
+initial_there : (k : VariableDeclarationKind) (ds es : Trees) → StandsThere (declaration k ds) (declaration k es)
+initial_there k ds es = record { head_in = λ o strict. declaration_in o strict k ds; put_in = λ o strict. declaration_in o strict k es; head_ported = λ rest. refl; put_ported = λ rest. refl }
+
+stands_there : (x : Name) (head : Tree) → reads_head x head ≡ true → (init : Tree) → StandsThere head (put_head init head)
+stands_there x head once init = by (heads x head once)
+  where
+    by : ((reads_first x head ≡ true) × ((r : Tree) → put_head r head ≡ put_first r head)) ⊎ Initial x head → StandsThere head (put_head init head)
+    by (inl (f, p)) = subst (StandsThere head) (sym (p init)) (statement_there x head f init)
+    by (inr t) = subst₂ StandsThere (sym t.is) (sym (t.puts init)) (initial_there t.kind (declarator t.binds t.value ▸ t.last) (declarator t.binds (put_first init t.value) ▸ t.last))
+
 -- ---- the rows
 
 module _ (W : VariableSet) (K : VariableDeclarationKind) (s : List ℕ) (k : ℕ) (goes : lets_go W K k ≡ true) where
@@ -173,29 +203,24 @@ module _ (W : VariableSet) (K : VariableDeclarationKind) (s : List ℕ) (k : ℕ
         ported = left_ported K (append first last);
       }
 
-  of_71 : (first : Trees) (init head : Tree) → may_move init ≡ true → reads_first x head ≡ true → names x init ≡ false → any_names x first ≡ false → Loses W s k (declared_among K x first init none ▸ (head ▸ none)) (declared_left K first ▸ (put_first init head ▸ none))
+  of_71 : (first : Trees) (init head : Tree) → may_move init ≡ true → reads_head x head ≡ true → names x init ≡ false → any_names x first ≡ false → Loses W s k (declared_among K x first init none ▸ (head ▸ none)) (declared_left K first ▸ (put_head init head ▸ none))
   of_71 first init head moves once initial earlier =
       let d = declared_among K x first init none in
       let left = declared_left K first in
-      let put = put_first init head in
-      let t = statement x head once in
-      let (read, read_put) = head_read x head once init in
-      let head_in = λ (o : Depth) (strict : Bool). ap (fits strict (item_in o)) t.is ∙ led_in t.lead (t.stands true) o strict (t.inner ▸ t.rest) ∙ sym (ap (fits strict item) t.is) in
-      let put_in = λ (o : Depth) (strict : Bool). ap (λ u. fits strict (item_in o) (put_first init u)) t.is ∙ led_in t.lead (t.stands true) o strict (put_first init t.inner ▸ t.rest) ∙ sym (ap (λ u. fits strict item (put_first init u)) t.is) in
-      let head_ported = λ (rest : Trees). ap (λ u. ports true (u ▸ rest)) t.is ∙ led_ported t.lead (t.stands true) (t.inner ▸ t.rest) rest in
-      let put_ported = λ (rest : Trees). ap (λ u. ports true (put_first init u ▸ rest)) t.is ∙ led_ported t.lead (t.stands true) (put_first init t.inner ▸ t.rest) rest in
+      let put = put_head init head in
+      let there = stands_there x head once init in
       record {
-        leaves = single_leaves K x k refl first init head (movable init moves) once initial earlier;
-        declares = single_declares K x k refl first init head (movable init moves) once initial earlier;
-        read = single_read s k K first init head put read read_put;
-        same = λ e u. single_same e s k u.unseen first init head moves once K (may_write W K e k goes u);
+        leaves = head_leaves K x k refl first init head (movable init moves) once initial earlier;
+        declares = head_declares K x k refl first init head (movable init moves) once initial earlier;
+        read = single_read s k K first init head put (head_read x head once init);
+        same = λ e u. single_same e s k u.unseen first init head put (ap (λ i. i.facts.absent) (plain_read init (movable init moves))) K (may_write W K e k goes u) (head_goes e s k u.unseen init head moves once);
         avoids = (first_avoids (alone (Declared k)) K first (all_avoided x k refl first earlier), (avoided x k refl put (head_unnamed x head once init initial), tt));
         fits = λ o strict h.
             let (f, g) = first_fits strict (item_in o) d (head ▸ none) h in
             let (i, rest) = first_fits strict (item_in o) head none g in
-            let (v, w) = single_fits strict K x first init head moves once (sym (declaration_in o strict K (append first (declarator (binding x) init ▸ none))) ∙ f) (sym (head_in o strict) ∙ i) in
-            more_fit strict (item_in o) left (put ▸ none) (left_in o strict K first ∙ v) (more_fit strict (item_in o) put none (put_in o strict ∙ w) rest);
-        ported = λ rest. head_ported rest ∙ sym (put_ported rest) ∙ left_ported K first (put ▸ rest);
+            let (v, w) = single_fits strict K x first init head moves once (sym (declaration_in o strict K (append first (declarator (binding x) init ▸ none))) ∙ f) (sym (there.head_in o strict) ∙ i) in
+            more_fit strict (item_in o) left (put ▸ none) (left_in o strict K first ∙ v) (more_fit strict (item_in o) put none (there.put_in o strict ∙ w) rest);
+        ported = λ rest. there.head_ported rest ∙ sym (there.put_ported rest) ∙ left_ported K first (put ▸ rest);
       }
 
   of_next : (first : Trees) (init binds value : Tree) (last : Trees) → may_move init ≡ true → is_first x false value ≡ true → names x binds ≡ false → names x init ≡ false → any_names x first ≡ false → any_names x last ≡ false → Loses W s k (declared_among K x first init (declarator binds value ▸ last) ▸ none) (declaration K (append first (declarator binds (put_first init value) ▸ last)) ▸ none)
@@ -207,7 +232,7 @@ module _ (W : VariableSet) (K : VariableDeclarationKind) (s : List ℕ) (k : ℕ
         leaves = next_leaves K x k refl first init binds value last once earlier initial other later;
         declares = next_declares K x k refl first init binds value last once earlier initial other later;
         read = read_alone k d w (next_read K s k first last init binds value (put_first init value));
-        same = λ e u. next_same e s k u.unseen K (may_write W K e k goes u) init binds value last moves once first (avoided x k refl binds other) avoids_last;
+        same = λ e u. next_same e s k u.unseen K init binds value last moves once (avoided x k refl binds other) avoids_last (may_write W K e k goes u) first;
         avoids = (next_avoids x k refl K first init binds value last once earlier initial other later, tt);
         fits = λ o strict. one_fits o strict d w (next_fits strict K x first init binds value last moves once) (declaration_in o strict K (append first (declarator (binding x) init ▸ (declarator binds value ▸ last)))) (declaration_in o strict K (append first (declarator binds (put_first init value) ▸ last)));
         ported = λ rest. refl;
@@ -223,7 +248,7 @@ row_stretch W p a b e (inr (inl r)) =
     (ap list_of r.written)
 row_stretch W p a b e (inr (inr (inl r))) =
     let x = resolved r.spelling r.symbol in
-    stretch W p a b e r.spelling r.symbol r.before r.after (declared_among r.kind x r.first r.init none) (r.head ▸ none) (declared_left r.kind r.first ▸ (put_first r.init r.head ▸ none)) refl (of_71 W r.kind r.spelling r.symbol r.goes r.first r.init r.head r.moves r.once r.initial r.declared_earlier) r.earlier r.later (ap list_of r.shape)
+    stretch W p a b e r.spelling r.symbol r.before r.after (declared_among r.kind x r.first r.init none) (r.head ▸ none) (declared_left r.kind r.first ▸ (put_head r.init r.head ▸ none)) refl (of_71 W r.kind r.spelling r.symbol r.goes r.first r.init r.head r.moves r.once r.initial r.declared_earlier) r.earlier r.later (ap list_of r.shape)
     (ap list_of r.written)
 row_stretch W p a b e (inr (inr (inr r))) =
     let x = resolved r.spelling r.symbol in

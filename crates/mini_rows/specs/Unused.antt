@@ -1,6 +1,6 @@
 -- Rows of names that nothing mentions: each is a shape and what is written in its place, with the JavaScript before and after. W has
 -- the variables that the program mentions and that can be written in it.
-use Rattle.std.specs.Prelude.{◌≡◌, ◌<◌, ◌⊎◌, ◌||◌, ◌&&◌, not, ℕ, Bool, true, false, List, [], ◌∷◌}
+use Rattle.std.specs.Prelude.{◌≡◌, ◌<◌, ◌⊎◌, ◌||◌, ◌&&◌, not, ℕ, Bool, true, false, List, [], ◌∷◌, if◌then◌else◌}
 use Rattle.mini_model.specs.declared.kind.VariableDeclarationKind.{VariableDeclarationKind}
 use Rattle.mini_model.specs.declared.name.Name.{Name}
 use Rattle.mini_model.specs.declared.operator.UnaryOperator.TheVariants.{LogicalNot, UnaryPlus, BitwiseNot}
@@ -8,7 +8,7 @@ use Rattle.mini_model.specs.declared.place.Position.{Position}
 use Rattle.mini_model.specs.declared.place.Position.TheVariants.{Expr, Stmt, Method, Elsewhere}
 use Rattle.mini_model.specs.declared.shape.Shape.{Shape}
 use Rattle.mini_model.specs.declared.shape.Shape.TheVariants as shape
-use Rattle.mini_model.specs.Tree.{Tree, Trees, node, none, ◌▸◌, listed, shape_of, program, empty_statement, expression_statement}
+use Rattle.mini_model.specs.Tree.{Tree, Trees, node, none, ◌▸◌, listed, shape_of, children, program, empty_statement, expression_statement}
 use Rattle.mini_model.specs.Paths.{append}
 use Rattle.mini_model.specs.Weight.{same_text, weight}
 use Rattle.mini_laws.specs.Naming.{is_lexical}
@@ -17,8 +17,8 @@ use Rattle.mini_laws.specs.Symbols.{is_same}
 use Rattle.mini_laws.specs.Value.{Declared, VariableSet, nothing}
 use Rattle.mini_laws.specs.Weights.{Lightens}
 use Rattle.mini_kept.specs.Loosely.{LawfulWith}
-use Rattle.mini_node.specs.Children.{names_of, is_nameless}
-use Rattle.mini_node.specs.Kinds.{is_absent_part, is_listed_shape, is_sequence_shape, is_identifier}
+use Rattle.mini_node.specs.Children.{names_of, part, with_part, is_bare, is_nameless, rest_children}
+use Rattle.mini_node.specs.Kinds.{is_absent_part, is_listed, is_listed_shape, is_sequence_shape, is_identifier}
 use Rattle.mini_terms.specs.Folds.{is_effect_free}
 use Rattle.mini_terms.specs.Parts.{leaves_nothing}
 use Rattle.mini_terms.specs.Reading.{is_plain_part}
@@ -161,6 +161,55 @@ abbrev pub reads_first : Name → Tree → Bool
 reads_first x (node h ys n none) = false
 reads_first x (node h ys n (t ▸ ts)) = is_head_shape h && (is_nameless (node h ys n (t ▸ ts)) && (is_first x false t && not (any_names x ts)))
 
+-- a declarator, of a name or of a pattern
+abbrev pub is_declarator_shape : Shape → Bool
+is_declarator_shape shape.VariableDeclarator = true
+is_declarator_shape _ = false
+
+abbrev pub is_declarator : Tree → Bool
+is_declarator d = is_declarator_shape (shape_of d) && is_bare d 2
+
+abbrev pub is_variables_shape : Shape → Bool
+is_variables_shape (shape.VariableDeclaration k) = true
+is_variables_shape _ = false
+
+-- a declaration of variables, whose declarators are those of its list
+abbrev pub declares_list : Tree → Bool
+declares_list t = is_variables_shape (shape_of t) && (is_bare t 1 && is_listed (part t 0))
+
+-- a declarator does in its initializer, and what it declares isn't like it
+abbrev pub reads_declarator : Name → Tree → Bool
+reads_declarator x d = is_declarator d && (is_first x false (part d 1) && not (names x (part d 0)))
+
+-- of some declarators the first does
+abbrev pub reads_declarators : Name → Tree → Bool
+reads_declarators x l = not (is_childless l) && (reads_declarator x (part l 0) && not (any_names x (rest_children 1 (children l))))
+
+-- so does a declaration, of whatever kind
+abbrev pub reads_initially : Name → Tree → Bool
+reads_initially x t = declares_list t && reads_declarators x (part t 0)
+
+-- a head: what may stand right after the declaration
+abbrev pub reads_head : Name → Tree → Bool
+reads_head x t = reads_first x t || reads_initially x t
+
+-- another tree in the place of what the first initializer reads first
+abbrev pub put_declarator : Tree → Tree → Tree
+put_declarator r d = with_part d 1 (put_first r (part d 1))
+
+abbrev pub put_declarators : Tree → Tree → Tree
+put_declarators r l = with_part l 0 (put_declarator r (part l 0))
+
+abbrev pub put_initially : Tree → Tree → Tree
+put_initially r t = with_part t 0 (put_declarators r (part t 0))
+
+abbrev pub has_declarator : Tree → Bool
+has_declarator t = declares_list t && (not (is_childless (part t 0)) && is_declarator (part (part t 0) 0))
+
+-- in the place of what a head reads first
+abbrev pub put_head : Tree → Tree → Tree
+put_head r t = if has_declarator t then put_initially r t else put_first r t
+
 -- a function or a class without a name of its own gets the variable's (ECMA-262, "NamedEvaluation"): none of them moves
 abbrev pub is_definition : Shape → Bool
 is_definition (shape.Function is_declaration is_generator directives) = true
@@ -171,7 +220,8 @@ is_definition h = false
 abbrev pub may_move : Tree → Bool
 may_move t = is_plain_part t && not (is_definition (shape_of t))
 
--- 71: `{ let a, x = b(); return x + c; }` becomes `{ let a; return b() + c; }`, and `{ const x = b(); return x; }` `{ ; return b(); }`
+-- 71: `{ let a, x = b(); return x + c; }` becomes `{ let a; return b() + c; }`, `{ const x = b(); return x; }` `{ ; return b(); }`, and
+-- `{ let x = a(); const y = x.b; c(y); }` `{ ; const y = a().b; c(y); }`
 pub record Row71 (W : VariableSet) (n w : Tree) : Type 0 where
   pub before : Trees
   pub kind : VariableDeclarationKind
@@ -183,14 +233,14 @@ pub record Row71 (W : VariableSet) (n w : Tree) : Type 0 where
   pub after : Trees
   pub goes : lets_go W kind symbol ≡ true
   pub moves : may_move init ≡ true
-  pub once : reads_first (resolved spelling symbol) head ≡ true
+  pub once : reads_head (resolved spelling symbol) head ≡ true
   pub earlier : any_names (resolved spelling symbol) before ≡ false
   pub declared_earlier : any_names (resolved spelling symbol) first ≡ false
   pub initial : names (resolved spelling symbol) init ≡ false
   pub later : any_names (resolved spelling symbol) after ≡ false
   pub unseen : has_eval (block (append before (declared_among kind (resolved spelling symbol) first init none ▸ (head ▸ after)))) ≡ false
   pub shape : n ≡ block (append before (declared_among kind (resolved spelling symbol) first init none ▸ (head ▸ after)))
-  pub written : w ≡ block (append before (declared_left kind first ▸ (put_first init head ▸ after)))
+  pub written : w ≡ block (append before (declared_left kind first ▸ (put_head init head ▸ after)))
 
 -- where the next declarator reads it first: `{ let a, x = b(), y = x.c; d(y); }` becomes `{ let a, y = b().c; d(y); }`
 pub record Row71Next (W : VariableSet) (n w : Tree) : Type 0 where

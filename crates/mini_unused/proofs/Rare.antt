@@ -15,7 +15,8 @@ use Rattle.mini_node.specs.Walks.{next_child}
 use Rattle.mini_kept.proofs.SameScopes.{same_texts}
 use Rattle.mini_rows.specs.Lists.{declaration}
 use Rattle.mini_rows.specs.Declarations.{declarator}
-use Rattle.mini_rows.specs.Unused.{resolved, is_like_one, names, any_names, is_idle, leads, is_childless, reads, is_first, put_first, is_head_shape, reads_first}
+use Rattle.mini_rows.specs.Unused.{resolved, is_like_one, names, any_names, is_idle, leads, is_childless, reads, is_first, put_first, is_head_shape, reads_first, put_declarator, put_declarators, put_initially, has_declarator, put_head, reads_head}
+use Rattle.mini_rows.proofs.SingleUse.{Initial, heads}
 use Rattle.mini_unused.specs.declared.tallies.Tallies.{Tallies}
 use Rattle.mini_unused.specs.RemoveUnusedDeclaration.{declares_list, is_alone, list_at, let_left, statement_left, list_left}
 use Rattle.mini_unused.specs.SubstituteNext.{is_read_then, declarators_next, list_next, NextGone}
@@ -101,6 +102,22 @@ module _ (f : Name → ℕ) (b : ℕ) where
   put_there r (node h xs n none) = omega arith
   put_there r (node h xs n (t ▸ ts)) = let rest = put_there r t in omega (arith, rest)
 
+  put_declarator_there : (r d : Tree) → tally f b (put_declarator r d) ≤ tally f b r + tally f b d
+  put_declarator_there r d = let whole = with_there d 1 (put_first r (part d 1)) in let put = put_there r (part d 1) in omega (arith, whole, put)
+
+  put_declarators_there : (r l : Tree) → tally f b (put_declarators r l) ≤ tally f b r + tally f b l
+  put_declarators_there r l = let whole = with_there l 0 (put_declarator r (part l 0)) in let put = put_declarator_there r (part l 0) in omega (arith, whole, put)
+
+  put_initially_there : (r t : Tree) → tally f b (put_initially r t) ≤ tally f b r + tally f b t
+  put_initially_there r t = let whole = with_there t 0 (put_declarators r (part t 0)) in let put = put_declarators_there r (part t 0) in omega (arith, whole, put)
+
+  put_head_there : (r t : Tree) → tally f b (put_head r t) ≤ tally f b r + tally f b t
+  put_head_there r t = by (has_declarator t)
+    where
+      by : (c : Bool) → tally f b (if c then put_initially r t else put_first r t) ≤ tally f b r + tally f b t
+      by true = put_initially_there r t
+      by false = put_there r t
+
   list_without : (l : Tree) (i j : ℕ) → tally f b (list_left l i j) ≤ tally f b l
   list_without l i j =
       let whole = with_there l i (statement_left (part l i) j) in
@@ -112,9 +129,9 @@ module _ (f : Name → ℕ) (b : ℕ) where
       let left = declaration_left (part l i) j in
       let init = initializer l i j in
       let first = with_there l i left in
-      let second = with_there (with_part l i left) (suc i) (put_first init (part l (suc i))) in
+      let second = with_there (with_part l i left) (suc i) (put_head init (part l (suc i))) in
       let next = ap (tally f b) (next_part l i left) in
-      let put = put_there init (part l (suc i)) in
+      let put = put_head_there init (part l (suc i)) in
       let less = declaration_without (part l i) j in
       omega (arith, first, second, next, put, less)
 
@@ -194,13 +211,20 @@ first_counted n x c (node h ys k (t ▸ ts)) e =
     let rest = first_counted n x (is_sequence_shape h) t (and_parts (is_first x (is_sequence_shape h) t) (not (any_names x ts)) q).0 in
     omega (arith, rest)
 
-head_counted : (n : ℕ) (x : Name) (t : Tree) → reads_first x t ≡ true → 1 ≤ tally (bucket true n) (bucket true n x) t
-head_counted n x (node h ys k none) e = absurd (true≢false (sym e))
-head_counted n x (node h ys k (t ▸ ts)) e =
+statement_counted : (n : ℕ) (x : Name) (t : Tree) → reads_first x t ≡ true → 1 ≤ tally (bucket true n) (bucket true n x) t
+statement_counted n x (node h ys k none) e = absurd (true≢false (sym e))
+statement_counted n x (node h ys k (t ▸ ts)) e =
     let (l, p) = and_parts (is_head_shape h) (is_nameless (node h ys k (t ▸ ts)) && (is_first x false t && not (any_names x ts))) e in
     let (m, q) = and_parts (is_nameless (node h ys k (t ▸ ts))) (is_first x false t && not (any_names x ts)) p in
     let rest = first_counted n x false t (and_parts (is_first x false t) (not (any_names x ts)) q).0 in
     omega (arith, rest)
+
+head_counted : (n : ℕ) (x : Name) (t : Tree) → reads_head x t ≡ true → 1 ≤ tally (bucket true n) (bucket true n x) t
+head_counted n x t e = by (heads x t e)
+  where
+    by : ((reads_first x t ≡ true) × ((r : Tree) → put_head r t ≡ put_first r t)) ⊎ Initial x t → 1 ≤ tally (bucket true n) (bucket true n x) t
+    by (inl (f, p)) = statement_counted n x t f
+    by (inr i) = let read = first_counted n x false i.value i.once in let whole = ap (tally (bucket true n) (bucket true n x)) i.is in omega (arith, read, whole)
 
 -- in the buckets of x, of tables so large
 module _ (x : Name) (n r : ℕ) where
@@ -313,7 +337,7 @@ module _ (T : Tallies) (o : Tree) (ts : Trees) (i j : ℕ) (h : i < count ts) (d
 
   -- ---- and the next statement reads it
 
-  module _ (next : suc i < count ts) (reads : reads_first x (child_or_absent ts (suc i)) ≡ true) (spelled : 1 ≤ tally (bucket false r) (bucket false r x) (child_or_absent ts (suc i))) where
+  module _ (next : suc i < count ts) (reads : reads_head x (child_or_absent ts (suc i)) ≡ true) (spelled : 1 ≤ tally (bucket false r) (bucket false r x) (child_or_absent ts (suc i))) where
     abbrev head : Tree
     head = child_or_absent ts (suc i)
 
@@ -399,6 +423,14 @@ part_spelled x t u b e f h r =
     let one = f h r in
     let same = ap (tally (bucket false r) (bucket false r x)) e in
     let whole = part_of (bucket false r) (bucket false r x) t 0 in
+    omega (arith, one, same, whole)
+
+-- the second part
+pub initial_spelled : (x : Name) (t u : Tree) (b : Bool) → u ≡ part t 1 → (b ≡ true → (r : ℕ) → 1 ≤ tally (bucket false r) (bucket false r x) u) → b ≡ true → (r : ℕ) → 1 ≤ tally (bucket false r) (bucket false r x) t
+initial_spelled x t u b e f h r =
+    let one = f h r in
+    let same = ap (tally (bucket false r) (bucket false r x)) e in
+    let whole = part_of (bucket false r) (bucket false r x) t 1 in
     omega (arith, one, same, whole)
 
 pub text_counted : (r : ℕ) (x y : Name) → same_text x.spelling y.spelling ≡ true → 1 ≤ own_tally (bucket false r) (bucket false r x) (y ∷ [])

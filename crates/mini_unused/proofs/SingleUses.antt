@@ -15,9 +15,9 @@ use Rattle.mini_node.specs.Made.{block_is}
 use Rattle.mini_node.specs.Walks.{next_child}
 use Rattle.mini_rows.specs.Lists.{block, declaration}
 use Rattle.mini_rows.specs.Declarations.{binding, declarator}
-use Rattle.mini_rows.specs.Unused.{resolved, declared_among, declared_left, names, any_names, leads, is_childless, reads, is_first, put_first, is_head_shape, reads_first, may_move, lets_go, Row71}
+use Rattle.mini_rows.specs.Unused.{resolved, declared_among, declared_left, names, any_names, leads, is_childless, reads, is_first, put_first, is_head_shape, reads_first, reads_head, put_head, may_move, lets_go, Row71}
 use Rattle.mini_unused.specs.RemoveUnusedDeclaration.{declares_name, is_lexical_shape, declares_list, may_lose, is_free_at, list_at}
-use Rattle.mini_unused.specs.SubstituteSingleUse.{may_begin, is_head, last_place, is_declared_over, is_mentioned_around, reads_next, is_read_once, is_single_declarator, is_single, declaration_left, list_single}
+use Rattle.mini_unused.specs.SubstituteSingleUse.{may_begin, is_head, last_place, is_declared_over, is_mentioned_around, reads_next, is_read_once, is_single_declarator, is_single, declaration_left, initializer, list_single}
 use Rattle.mini_unused.proofs.Unused.{no_outside, parts_of, there_child, there_first, and_both, Declares, declares, a_declaration, left_is}
 
 -- ---- the first part
@@ -100,8 +100,8 @@ pub no_declarator : (free : Bool) (W : VariableSet) (l o : Tree) (ts : Trees) (i
 no_declarator free W (node h xs n none) o ts i j e = refl
 no_declarator free W (node h xs n (t ▸ us)) o ts i j e = absurd (omega (arith, e))
 
-pub read_next : (x : Name) (ts : Trees) (i : ℕ) → reads_first x (child_or_absent ts (i + 1)) ≡ reads_next x ts i
-read_next x ts i = ap (λ k. reads_first x (child_or_absent ts k)) (add-one i)
+pub read_next : (x : Name) (ts : Trees) (i : ℕ) → reads_head x (child_or_absent ts (i + 1)) ≡ reads_next x ts i
+read_next x ts i = ap (λ k. reads_head x (child_or_absent ts k)) (add-one i)
 
 pub single_by : (W : VariableSet) (o : Tree) (ts : Trees) (i : ℕ) (statement l : Tree) (n : ℕ) (free r : Bool) → statement ≡ child_or_absent ts i → declares_list statement ≡ true → l ≡ part statement 0 → n ≡ last_place (children l) → free ≡ is_lexical_shape (shape_of statement) → r ≡ is_single_declarator free W l n o ts i → r ≡ is_single W o ts i
 single_by W o ts i statement l n free r s e f g z h =
@@ -134,6 +134,11 @@ next_part (node h xs n ts) i x = go ts i
     go (t ▸ ts) zero = refl
     go (t ▸ ts) (suc i) = go ts i
 
+-- of a list, by the two that are written
+pub single_is : (l m n : Tree) (i j k : ℕ) (r : Tree) → m ≡ with_part l i (declaration_left (part l i) j) → r ≡ initializer l i j → k ≡ i + 1 → n ≡ with_part m k (put_head r (part m k)) → n ≡ list_single l i j
+single_is l m n i j k r e f g h =
+    h ∙ (λ a. with_part (e a) ((g ∙ add-one i) a) (put_head (f a) (part (e a) ((g ∙ add-one i) a)))) ∙ ap (λ u. with_part (with_part l i (declaration_left (part l i) j)) (suc i) (put_head (initializer l i j) u)) (next_part l i (declaration_left (part l i) j))
+
 with_two : (ts : Trees) (i : ℕ) (x y : Tree) → suc i < count ts → with_child (with_child ts i x) (suc i) y ≡ append (first_children i ts) (x ▸ (y ▸ rest_children (suc (suc i)) ts))
 with_two none i x y h = absurd (omega (arith, h))
 with_two (t ▸ none) i x y h = absurd (omega (arith, h))
@@ -155,7 +160,7 @@ within_there (t ▸ ts) d e us = let within = within_there ts d e us in omega (a
 -- ---- what is written is what the row says
 
 record Once (x : Name) (init : Tree) (ds : Trees) (j : ℕ) (ts : Trees) (i : ℕ) : Type 0 where
-  once : reads_first x (child_or_absent ts (suc i)) ≡ true
+  once : reads_head x (child_or_absent ts (suc i)) ≡ true
   initial : names x init ≡ false
   declared_earlier : any_names x (first_children j ds) ≡ false
   earlier : any_names x (first_children i ts) ≡ false
@@ -168,7 +173,7 @@ neither false false e = (refl, refl)
 
 read_once : (x : Name) (init : Tree) (ds : Trees) (j : ℕ) (ts : Trees) (i : ℕ) → is_read_once (x ∷ []) no_outside init ds j ts i ≡ true → Once x init ds j ts i
 read_once x init ds j ts i e =
-    let a = reads_first x (child_or_absent ts (suc i)) in
+    let a = reads_head x (child_or_absent ts (suc i)) in
     let (p, q) = and_parts a (not (is_declared_over x init ds j) && not (is_mentioned_around x ts i)) e in
     let (r, s) = and_parts (not (is_declared_over x init ds j)) (not (is_mentioned_around x ts i)) q in
     let (t, u) = neither (names x init) (any_names x (first_children j ds)) r in
@@ -253,9 +258,9 @@ module _ (t : Tree) (i : ℕ) (b : is_block t ≡ true) (next : suc i < count (c
   left_there : declaration_left statement j ≡ declared_left kind first
   left_there = ap (λ y. declaration_left y j) let_there ∙ left_is kind ds j last_within ∙ ap (λ us. declared_left kind (append first us)) (last_rest ds) ∙ ap (declared_left kind) (none_after first)
 
-  written_there : (u : Tree) → u ≡ block_single t i j → u ≡ block (append before (declared_left kind first ▸ (put_first init head ▸ after)))
+  written_there : (u : Tree) → u ≡ block_single t i j → u ≡ block (append before (declared_left kind first ▸ (put_head init head ▸ after)))
   written_there u f =
-      f ∙ ap (λ y. block_single y i j) (block_is t b) ∙ ap block (with_two ts i (declaration_left statement j) (put_first init head) next) ∙ ap (λ y. block (append before (y ▸ (put_first init head ▸ after)))) left_there
+      f ∙ ap (λ y. block_single y i j) (block_is t b) ∙ ap block (with_two ts i (declaration_left statement j) (put_head init head) next) ∙ ap (λ y. block (append before (y ▸ (put_head init head ▸ after)))) left_there
 
   pub row_there : (u : Tree) → u ≡ block_single t i j → Row71 W t u
   row_there u f = record {
@@ -301,7 +306,7 @@ module _ (W : VariableSet) (t w : Tree) (r : Row71 W t w) where
   once_is =
       let y = named in
       let all = λ (a b c d f : Bool). a && (not (b || c) && not (d || f)) in
-      let head_there = ap (reads_first y) (next_there r.before stated r.head r.after) ∙ r.once in
+      let head_there = ap (reads_head y) (next_there r.before stated r.head r.after) ∙ r.once in
       let first_ds = ap (any_names y) (there_first r.first declared none) ∙ r.declared_earlier in
       let first_ts = ap (any_names y) (there_first r.before stated (r.head ▸ r.after)) ∙ r.earlier in
       let rest_ts = ap (any_names y) (rest_there r.before stated r.head r.after) ∙ r.later in

@@ -12,7 +12,8 @@ use Rattle.mini_laws.specs.Value.{VariableSet}
 use Rattle.mini_node.specs.Children.{names_of, part, with_child, with_part, without, is_bare, is_nameless}
 use Rattle.mini_node.specs.Kinds.{is_listed, is_sequence_shape}
 use Rattle.mini_rows.specs.Lists.{declaration}
-use Rattle.mini_rows.specs.Unused.{is_idle, any_names, names, begins, leads, is_childless, is_first, put_first, is_head_shape, reads_first, may_move}
+use Rattle.mini_rows.specs.Unused.{is_idle, any_names, names, begins, leads, is_childless, is_first, put_first, is_head_shape, reads_first, put_head, reads_head, may_move}
+use Rattle.mini_rows.proofs.SingleUse.{Initial, heads}
 use Rattle.mini_unused.specs.RemoveUnusedDeclaration.{declares_list, declares_name, may_lose, is_free_at, is_unused_declarator, list_at, statement_left, let_left}
 use Rattle.mini_rows.specs.Declarations.{declarator}
 use Rattle.mini_unused.specs.SubstituteNext.{is_declarator, is_mentioned_beside, is_mentioned_elsewhere, is_read_then, declarators_next, NextGone}
@@ -134,9 +135,9 @@ put_there x b r (node h ys n (t ▸ ts)) f e g =
     let (a, c) = first_and_others t ts (below (node h ys n (t ▸ ts)) g) in
     over (node h ys n (put_first r t ▸ ts)) (called x b h r t ts l s) (all_of (put_first r t) ts (put_there x (is_sequence_shape h) r t s e a) c)
 
-heads : (h : Shape) → is_head_shape h ≡ true → (ts : Trees) → is_eval_call h ts ≡ false
-heads (shape.CallExpression false) e ts = absurd (true≢false (sym e))
-heads h e ts = refl
+no_call : (h : Shape) → is_head_shape h ≡ true → (ts : Trees) → is_eval_call h ts ≡ false
+no_call (shape.CallExpression false) e ts = absurd (true≢false (sym e))
+no_call h e ts = refl
 
 put_in_head : (x : Name) (r t : Tree) → reads_first x t ≡ true → has_eval r ≡ false → has_eval t ≡ false → has_eval (put_first r t) ≡ false
 put_in_head x r (node h ys n none) f e g = e
@@ -145,7 +146,24 @@ put_in_head x r (node h ys n (t ▸ ts)) f e g =
     let (m, q) = and_parts (is_nameless (node h ys n (t ▸ ts))) (is_first x false t && not (any_names x ts)) p in
     let (s, u) = and_parts (is_first x false t) (not (any_names x ts)) q in
     let (a, c) = first_and_others t ts (below (node h ys n (t ▸ ts)) g) in
-    over (node h ys n (put_first r t ▸ ts)) (heads h l (put_first r t ▸ ts)) (all_of (put_first r t) ts (put_there x false r t s e a) c)
+    over (node h ys n (put_first r t ▸ ts)) (no_call h l (put_first r t ▸ ts)) (all_of (put_first r t) ts (put_there x false r t s e a) c)
+
+-- in the first initializer of a declaration
+put_in_initial : (x : Name) (r t : Tree) → Initial x t → has_eval r ≡ false → has_eval t ≡ false → has_eval (put_head r t) ≡ false
+put_in_initial x r t i e g =
+    let d = declarator i.binds i.value in
+    let put = put_first r i.value in
+    let list = below (listed (d ▸ i.last)) (part_of (declaration i.kind (d ▸ i.last)) 0 (sym (ap has_eval i.is) ∙ g)) in
+    let (a, b) = first_and_others d i.last list in
+    let there = over (declarator i.binds put) refl (all_of i.binds (put ▸ none) (part_of d 0 a) (all_of put none (put_there x false r i.value i.once e (part_of d 1 a)) nothing_there)) in
+    ap has_eval (i.puts r) ∙ declared i.kind (declarator i.binds put ▸ i.last) (all_of (declarator i.binds put) i.last there b)
+
+put_there_head : (x : Name) (r t : Tree) → reads_head x t ≡ true → has_eval r ≡ false → has_eval t ≡ false → has_eval (put_head r t) ≡ false
+put_there_head x r t f e g = by (heads x t f)
+  where
+    by : ((reads_first x t ≡ true) × ((r : Tree) → put_head r t ≡ put_first r t)) ⊎ Initial x t → has_eval (put_head r t) ≡ false
+    by (inl (o, p)) = ap has_eval (p r) ∙ put_in_head x r t o e g
+    by (inr i) = put_in_initial x r t i e g
 
 -- ---- a declaration whose declarator has another tree in what it reads first
 
@@ -188,7 +206,7 @@ unseen_with o l i x c f =
 in_list : (o l : Tree) (i : ℕ) → Unseen o l → has_eval (part l i) ≡ false
 in_list o l i c = part_of l i (neither (has_eval o) (has_eval l) c.unseen).1
 
-once_reads : (xs : List Name) (o init : Tree) (ds : Trees) (j : ℕ) (ts : Trees) (i : ℕ) → is_read_once xs o init ds j ts i ≡ true → (x : Name) × (reads_first x (child_or_absent ts (suc i)) ≡ true)
+once_reads : (xs : List Name) (o init : Tree) (ds : Trees) (j : ℕ) (ts : Trees) (i : ℕ) → is_read_once xs o init ds j ts i ≡ true → (x : Name) × (reads_head x (child_or_absent ts (suc i)) ≡ true)
 once_reads [] o init ds j ts i e = absurd (true≢false (sym e))
 once_reads (x ∷ xs) o init ds j ts i e =
     let (a, p) = and_parts (not (names x o)) (reads_next x ts i && (not (is_declared_over x init ds j) && not (is_mentioned_around x ts i))) e in
@@ -221,8 +239,8 @@ module _ (W : VariableSet) (o l m : Tree) (c : Unseen o l) where
       let there = in_list o l g.at c in
       let value : has_eval init ≡ false = part_of d 1 (part_of ds j (part_of (part l g.at) 0 there)) in
       let left = unseen_with o l g.at (declaration_left (part l g.at) j) c (declaration_without (part l g.at) j declares there) in
-      let head = put_in_head x init (part l (suc g.at)) reads value (in_list o l (suc g.at) c) in
-      subst (Unseen o) (sym g.left) (unseen_with o (with_part l g.at (declaration_left (part l g.at) j)) (suc g.at) (put_first init (part l (suc g.at))) left head)
+      let head = put_there_head x init (part l (suc g.at)) reads value (in_list o l (suc g.at) c) in
+      subst (Unseen o) (sym g.left) (unseen_with o (with_part l g.at (declaration_left (part l g.at) j)) (suc g.at) (put_head init (part l (suc g.at))) left head)
 
   next_gone : NextGone W o l m → Unseen o m
   next_gone g =

@@ -14,6 +14,7 @@ use Rattle.mini_node.specs.Children.{names_of, like, part, with_part, without, i
 use Rattle.mini_node.specs.Kinds.{is_listed, is_named_leaf}
 use Rattle.mini_rows.specs.Lists.{declares_nothing}
 use Rattle.mini_rows.specs.Unused.{names, any_names, is_idle, FunctionBodyRow, UnusedRow, UnusedContracts}
+pub use Rattle.mini_rows.specs.Unused.{is_declarator_shape, is_variables_shape, declares_list}
 use Rattle.mini_tree.specs.declared.options.CompressOptions.{CompressOptions}
 use Rattle.mini_tree.specs.Rule as rule
 use Rattle.mini_context.specs.Facts.{Facts}
@@ -26,14 +27,6 @@ use Rattle.mini_unused.specs.Chains.{Several}
 abbrev pub is_binding_shape : Shape → Bool
 is_binding_shape shape.BindingIdentifier = true
 is_binding_shape _ = false
-
-abbrev pub is_declarator_shape : Shape → Bool
-is_declarator_shape shape.VariableDeclarator = true
-is_declarator_shape _ = false
-
-abbrev pub is_variables_shape : Shape → Bool
-is_variables_shape (shape.VariableDeclaration k) = true
-is_variables_shape _ = false
 
 abbrev pub is_lexical_shape : Shape → Bool
 is_lexical_shape (shape.VariableDeclaration k) = is_lexical k
@@ -50,10 +43,6 @@ is_resolved_binding t = is_binding_shape (shape_of t) && (is_named_leaf t && has
 -- `x = a()` or `x`, as a declarator
 abbrev pub declares_name : Tree → Bool
 declares_name d = is_declarator_shape (shape_of d) && (is_bare d 2 && is_resolved_binding (part d 0))
-
--- a declaration of variables, whose declarators are those of its list
-abbrev pub declares_list : Tree → Bool
-declares_list t = is_variables_shape (shape_of t) && (is_bare t 1 && is_listed (part t 0))
 
 -- the variables that a table marks, by symbol
 abbrev pub marked : Facts → VariableSet

@@ -6,11 +6,8 @@ use Rattle.mini_model.specs.Tree.{Tree, Trees, shape_of, count, child_or_absent,
 use Rattle.mini_laws.specs.Value.{VariableSet}
 use Rattle.mini_node.specs.Children.{names_of, like, part, with_part, without, is_bare, first_children, rest_children}
 use Rattle.mini_rows.specs.Unused.{names, any_names, is_first, may_move, put_first}
-use Rattle.mini_unused.specs.RemoveUnusedDeclaration.{is_declarator_shape, declares_name, declares_list, may_lose, is_free_at, list_at}
-
--- a declarator, of a name or of a pattern
-abbrev pub is_declarator : Tree → Bool
-is_declarator d = is_declarator_shape (shape_of d) && is_bare d 2
+pub use Rattle.mini_rows.specs.Unused.{is_declarator}
+use Rattle.mini_unused.specs.RemoveUnusedDeclaration.{declares_name, declares_list, may_lose, is_free_at, list_at}
 
 -- the initializer of the next declarator reads it first
 abbrev pub reads_then : Name → Tree → Bool

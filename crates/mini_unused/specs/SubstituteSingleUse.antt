@@ -1,5 +1,6 @@
--- 71, `substitute_single_use`: `{ let x = a(); return x + b; }` becomes `{ ; return a() + b; }`, and `{ const a = b(), x = c(); return x; }`
--- becomes `{ const a = b(); return c(); }`; so do the statements of a function, and there each `var`, too.
+-- 71, `substitute_single_use`: `{ let x = a(); return x + b; }` becomes `{ ; return a() + b; }`, `{ const a = b(), x = c(); return x; }`
+-- `{ const a = b(); return c(); }`, and `{ let x = a(); const y = x.b; c(y); }` `{ ; const y = a().b; c(y); }`; so do the statements of a
+-- function, and there each `var`, too.
 use Rattle.std.specs.Prelude.{◌≡◌, ◌<◌, ◌^◌, ◌⊎◌, ℕ, suc, Bool, true, false, not, ◌&&◌, ◌||◌, List, [], ◌∷◌, Option, Some, None, if◌then◌else◌}
 use Rattle.mini_model.specs.declared.name.Name.{Name}
 use Rattle.mini_model.specs.declared.shape.Shape.{Shape}
@@ -9,7 +10,7 @@ use Rattle.mini_laws.specs.ScopeList.{has_eval}
 use Rattle.mini_laws.specs.Value.{VariableSet}
 use Rattle.mini_node.specs.Children.{names_of, part, with_part, is_bare, is_nameless, first_children, rest_children}
 use Rattle.mini_node.specs.Kinds.{is_listed}
-use Rattle.mini_rows.specs.Unused.{names, any_names, leads, is_childless, is_head_shape, may_move, reads_first, put_first}
+use Rattle.mini_rows.specs.Unused.{names, any_names, leads, is_childless, is_head_shape, may_move, reads_head, put_head}
 use Rattle.mini_unused.specs.Chains.{Several}
 use Rattle.mini_unused.specs.SubstituteNext.{NextAt, NextGone}
 use Rattle.mini_unused.specs.RemoveUnusedDeclaration.{declares_name, declares_list, may_lose, is_free_at, list_at, let_left, list_left, UnusedAt}
@@ -38,7 +39,7 @@ is_mentioned_around x ts i = any_names x (rest_children (suc (suc i)) ts) || any
 
 -- the next statement reads it first
 abbrev pub reads_next : Name → Trees → ℕ → Bool
-reads_next x ts i = reads_first x (child_or_absent ts (suc i))
+reads_next x ts i = reads_head x (child_or_absent ts (suc i))
 
 -- the next statement reads the name first, and no name like it stands elsewhere, nor in what is outside of the statements
 abbrev pub is_read_once : List Name → Tree → Tree → Trees → ℕ → Trees → ℕ → Bool
@@ -68,7 +69,7 @@ initializer l i j = part (part (part (part l i) 0) j) 1
 
 -- with that in its place, and the initializer in the next statement
 abbrev pub list_single : Tree → ℕ → ℕ → Tree
-list_single l i j = with_part (with_part l i (declaration_left (part l i) j)) (suc i) (put_first (initializer l i j) (part l (suc i)))
+list_single l i j = with_part (with_part l i (declaration_left (part l i) j)) (suc i) (put_head (initializer l i j) (part l (suc i)))
 
 -- ---- one call, of a list of statements and what is outside of them
 

@@ -3,7 +3,7 @@ use Rattle.std.specs.Prelude.{ℕ, ◌+◌, ◌*◌, ◌%◌, ◌<◌, ◌≤◌
 use Rattle.mini_model.specs.declared.name.Name.{Name}
 use Rattle.mini_model.specs.declared.name.SymbolId.{SymbolId}
 use Rattle.mini_model.specs.Tree.{Tree, Trees, node, none, ◌▸◌}
-use Rattle.mini_rows.specs.Unused.{is_first, reads_first}
+use Rattle.mini_rows.specs.Unused.{is_first, reads_head}
 use Rattle.mini_unused.specs.declared.tallies.Tallies.{Tallies}
 
 abbrev pub hash_from : ℕ → List ℕ → ℕ
@@ -69,7 +69,7 @@ AreRare c xs k = ⊥
 
 -- and a statement reads it first, with its spelling: so it and its declaration are the only ones in its buckets
 abbrev pub AreRead : Tallies → List Name → Tree → Type 0
-AreRead c (x ∷ []) t = IsRare c x 2 × (reads_first x t ≡ true) × (1 ≤ tally (bucket false (length c.by_spelling.items)) (bucket false (length c.by_spelling.items) x) t)
+AreRead c (x ∷ []) t = IsRare c x 2 × (reads_head x t ≡ true) × (1 ≤ tally (bucket false (length c.by_spelling.items)) (bucket false (length c.by_spelling.items) x) t)
 AreRead c xs t = ⊥
 
 -- or an initializer does

@@ -1,13 +1,12 @@
-//! Row 71: `{ const x = a(); return x + b; }` becomes `{ ; return a() + b; }`, and `{ let a, x = b(); return x; }` becomes
-//! `{ let a; return b(); }`, where the statement evaluates x before all else and nothing else in the block has its spelling or its
-//! symbol, and no direct eval stands there.
+//! Row 71: `{ const x = a(); return x + b; }` becomes `{ ; return a() + b; }`, `{ let a, x = b(); return x; }` becomes
+//! `{ let a; return b(); }`, and `{ let x = a(); const y = x.b; c(y); }` becomes `{ ; const y = a().b; c(y); }`, where the next statement
+//! evaluates x before all else and nothing else in the block has its spelling or its symbol, and no direct eval stands there.
 
-ghost use Rattle.std.specs.Prelude.{◌≡◌, ◌+◌, ◌<◌, ◌^◌, true, None, IfOk, if◌then◌else◌};
+ghost use Rattle.std.specs.Prelude.{◌≡◌, ◌+◌, ◌<◌, ◌^◌, true, false, None, IfOk, if◌then◌else◌};
 ghost use Rattle.mini_model.specs.Tree.{child_or_absent, children, count, empty_statement};
 ghost use Rattle.mini_node.specs.Children.{names, part, with_part};
 ghost use Rattle.mini_node.specs.Kinds.{is_listed as is_it_listed, is_sequence_shape as is_it_sequence_shape};
 ghost use Rattle.mini_rows.specs.Unused as reading;
-ghost use Rattle.mini_rows.specs.Unused.{put_first as it_put_first};
 ghost use Rattle.mini_unused.specs.RemoveUnusedDeclaration.{list_at, marked, open_in, UnusedAt};
 ghost use Rattle.mini_unused.specs.SubstituteSingleUse as row;
 ghost use Rattle.mini_unused.specs.SubstituteSingleUse.{declaration_left, SingleAt, Removed};
@@ -17,7 +16,7 @@ use crate::declarations::{
 };
 use crate::evals::either_has_eval;
 use crate::mentions::{is_mentioned, is_mentioned_before, is_mentioned_from, is_same_symbol};
-use crate::next_uses::substitute_next_uses;
+use crate::next_uses::{is_declarator, substitute_next_uses};
 use crate::sweeping::sweep;
 use mini_context::Scopes;
 use mini_model::{Name, OutOfMemory, Shape, UnaryOperator};
@@ -74,7 +73,8 @@ fn reads(name: &Name, node: &Node) -> bool
 }
 
 fn is_childless(node: &Node) -> bool
-    ensures { result ≡ reading.is_childless node.now }
+    ensures value { result ≡ reading.is_childless node.now }
+    ensures some { result ≡ false → 0 < count (children node.now) }
 {
     node.children().len() == 0
 }
@@ -141,6 +141,38 @@ fn reads_first(name: &Name, node: &Node) -> bool
     !is_mentioned_from(name, node.children(), 1)
 }
 
+// A declarator does in its initializer.
+fn reads_declarator(name: &Name, node: &Node) -> bool
+    ensures { result ≡ reading.reads_declarator name.now node.now }
+{
+    is_declarator(node)
+        && is_first(name, false, node.child(1))
+        && !is_mentioned(name, node.child(0))
+}
+
+// Of some declarators the first does.
+fn reads_declarators(name: &Name, node: &Node) -> bool
+    ensures { result ≡ reading.reads_declarators name.now node.now }
+{
+    !is_childless(node)
+        && reads_declarator(name, node.child(0))
+        && !is_mentioned_from(name, node.children(), 1)
+}
+
+// So does a declaration, of whatever kind.
+fn reads_initially(name: &Name, node: &Node) -> bool
+    ensures { result ≡ reading.reads_initially name.now node.now }
+{
+    declares_list(node) && reads_declarators(name, node.child(0))
+}
+
+// What may stand right after the declaration.
+fn reads_head(name: &Name, node: &Node) -> bool
+    ensures { result ≡ reading.reads_head name.now node.now }
+{
+    reads_first(name, node) || reads_initially(name, node)
+}
+
 // A function or a class, which may get the variable's name.
 fn is_definition(shape: &Shape) -> bool
     ensures { result ≡ reading.is_definition shape.now }
@@ -182,7 +214,7 @@ pub fn reads_next(name: &Name, statements: &Nodes, at: usize) -> bool
     requires fits { at + 1 < 2 ^ 64 }
     ensures { result ≡ row.reads_next name.now statements.now at }
 {
-    reads_first(name, statements.child(at + 1))
+    reads_head(name, statements.child(at + 1))
 }
 
 /// The next statement reads the name first, and nothing else mentions it.
@@ -293,6 +325,63 @@ pub fn put_first(value: Node, mut node: Node) -> Node
     node
 }
 
+// In the place of what the initializer of a declarator reads first.
+#[tactic(auto, using(crate::proofs::Unused::same_parts, crate::proofs::Unused::part_twice))]
+fn put_declarator(value: Node, node: &mut Node)
+    requires { 1 < count (children node.old) }
+    ensures { node.new ≡ reading.put_declarator value node.old }
+{
+    let initial = take_child(node, 1);
+    put_child(node, 1, put_first(value, initial));
+}
+
+// Of that of the first of some declarators.
+#[tactic(auto, using(crate::proofs::Unused::same_parts, crate::proofs::Unused::part_twice))]
+fn put_declarators(value: Node, node: &mut Node)
+    requires some { 0 < count (children node.old) }
+    requires parts { 1 < count (children (part node.old 0)) }
+    ensures { node.new ≡ reading.put_declarators value node.old }
+{
+    let mut declarator = take_child(node, 0);
+    put_declarator(value, &mut declarator);
+    put_child(node, 0, declarator);
+}
+
+// Of that of a declaration.
+#[tactic(auto, using(crate::proofs::Unused::same_parts, crate::proofs::Unused::part_twice))]
+fn put_initially(value: Node, mut node: Node) -> Node
+    requires list { 0 < count (children node) }
+    requires some { 0 < count (children (part node 0)) }
+    requires parts { 1 < count (children (part (part node 0) 0)) }
+    ensures { result ≡ reading.put_initially value node }
+{
+    let mut declarators = take_child(&mut node, 0);
+    put_declarators(value, &mut declarators);
+    put_child(&mut node, 0, declarators);
+    node
+}
+
+/// A declaration with a first declarator.
+pub fn has_declarator(node: &Node) -> bool
+    ensures value { result ≡ reading.has_declarator node.now }
+    ensures list { result ≡ true → 0 < count (children node.now) }
+    ensures some { result ≡ true → 0 < count (children (part node.now 0)) }
+    ensures parts { result ≡ true → 1 < count (children (part (part node.now 0) 0)) }
+{
+    declares_list(node) && !is_childless(node.child(0)) && is_declarator(node.child(0).child(0))
+}
+
+// In the place of what a head reads first.
+fn put_head(value: Node, node: Node) -> Node
+    ensures { result ≡ reading.put_head value node }
+{
+    if has_declarator(&node) {
+        put_initially(value, node)
+    } else {
+        put_first(value, node)
+    }
+}
+
 // Of a declaration that has lost a declarator, what is written: `;` where it was the only one.
 fn left_of(alloc: Global, declaration: Node, is_only_one: bool) -> Node
     ensures { result ≡ if is_only_one then empty_statement else declaration }
@@ -325,14 +414,14 @@ fn take_initializer(alloc: Global, list: &mut Node, at: usize, which: usize) -> 
 #[tactic(auto, using(crate::proofs::Unused::same_parts, crate::proofs::Unused::part_twice))]
 fn put_in(list: &mut Node, at: usize, value: Node)
     requires { at < count (children list.old) }
-    ensures { list.new ≡ with_part list.old at (it_put_first value (part list.old at)) }
+    ensures { list.new ≡ with_part list.old at (reading.put_head value (part list.old at)) }
 {
     let head = take_child(list, at);
-    put_child(list, at, put_first(value, head));
+    put_child(list, at, put_head(value, head));
 }
 
 /// Of a list.
-#[tactic(auto, using(crate::proofs::Unused::same_parts, crate::proofs::SingleUses::next_part))]
+#[tactic(auto, using(crate::proofs::Unused::same_parts))]
 pub fn substitute_in_list(alloc: Global, list: &mut Node, at: usize, which: usize)
     requires next { at + 1 < count (children list.old) }
     requires fits { at + 1 < 2 ^ 64 }

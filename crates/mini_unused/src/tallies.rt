@@ -7,7 +7,8 @@ ghost use Rattle.mini_node.specs.Children.{names};
 ghost use Rattle.mini_unused.specs.Tallies.{hash_of, number_of, bucket, one_if, own_tally, tally, tallies, Counted, Covers, Tallied, HasFew, IsRare, AreRare, AreRead, AreReadIn};
 
 use crate::mentions::is_same_text;
-use crate::single_uses::{is_first, reads_next};
+use crate::next_uses::is_declarator;
+use crate::single_uses::{has_declarator, is_first, reads_next};
 use mini_model::{Name, OutOfMemory, SymbolId, Text};
 use mini_node::{Node, Nodes};
 use std::alloc::Global;
@@ -155,6 +156,26 @@ fn is_spelled_first(name: &Name, node: &Node) -> bool
     is_spelled_first(name, node.child(0))
 }
 
+// So does the initializer of a declarator.
+#[tactic(auto, using(crate::proofs::Rare::initial_spelled))]
+fn is_initial_spelled(name: &Name, node: &Node) -> bool
+    ensures { result ≡ true → (r : ℕ) → 1 ≤ tally (bucket false r) (bucket false r name.now) node.now }
+{
+    is_declarator(node) && is_spelled_first(name, node.child(1))
+}
+
+// So does what a head reads first.
+#[tactic(auto, using(crate::proofs::Rare::part_spelled))]
+fn is_spelled_in_head(name: &Name, node: &Node) -> bool
+    ensures { result ≡ true → (r : ℕ) → 1 ≤ tally (bucket false r) (bucket false r name.now) node.now }
+{
+    if has_declarator(node) {
+        is_initial_spelled(name, node.child(0).child(0))
+    } else {
+        is_spelled_first(name, node)
+    }
+}
+
 /// The statement after the place reads a name first, and the two are the only ones in its buckets.
 pub fn is_rarely_read(tallies: &Tallies, name: &Option<Name>, statements: &Nodes, at: usize) -> bool
     requires next { at + 1 < count statements.now }
@@ -165,7 +186,7 @@ pub fn is_rarely_read(tallies: &Tallies, name: &Option<Name>, statements: &Nodes
         Some(name) => {
             is_rare(tallies, name, 2)
                 && reads_next(name, statements, at)
-                && is_spelled_first(name, statements.child(at + 1))
+                && is_spelled_in_head(name, statements.child(at + 1))
         }
         None => false,
     }
