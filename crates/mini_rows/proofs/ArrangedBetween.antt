@@ -20,7 +20,7 @@ pub append_none : (ts : Trees) → append ts none ≡ ts
 append_none none = refl
 append_none (t ▸ ts) = ap (λ r. t ▸ r) (append_none ts)
 
-append_more : (ts us vs : Trees) → append (append ts us) vs ≡ append ts (append us vs)
+pub append_more : (ts us vs : Trees) → append (append ts us) vs ≡ append ts (append us vs)
 append_more none us vs = refl
 append_more (t ▸ ts) us vs = ap (λ r. t ▸ r) (append_more ts us vs)
 

@@ -32,6 +32,8 @@ pub mod ListKeptBegun
 pub mod ListEach
 pub mod ListKeptEach
 pub mod ListKeptLeaps
+pub mod UnreachedNames
+pub mod ListKeptUnreached
 pub mod ListLoops
 pub mod ListEnds
 pub mod ListTails

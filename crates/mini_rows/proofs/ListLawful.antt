@@ -22,6 +22,7 @@ use Rattle.mini_rows.proofs.ListKept.{plain_lists_kept, guards_kept, row_77_kept
 use Rattle.mini_rows.proofs.ListKeptBegun.{begun_kept}
 use Rattle.mini_rows.proofs.ListKeptEach.{each_kept}
 use Rattle.mini_rows.proofs.ListKeptLeaps.{leap_kept}
+use Rattle.mini_rows.proofs.ListKeptUnreached.{unreached_kept}
 use Rattle.mini_rows.proofs.ListKeptDeclarations.{declarations_kept}
 use Rattle.mini_rows.proofs.ListKeptHeads.{absent_for_kept, for_kept, switch_kept}
 use Rattle.mini_rows.proofs.ListKeptVars.{free_kept, init_kept}
@@ -73,7 +74,8 @@ module _ (o : Switches) (n w : Tree) (r : InList (NeighbourRow o) n w) where
   neighbours_kept (inr (inr (inr (inr m)))) = each_kept EachIn r.before r.after n w r.read r.put m.1 r.shape r.written
   neighbours_kept (inr (inr (inl m))) = begun_kept r.before r.after n w r.read r.put m r.shape r.written
   neighbours_kept (inr (inl (s, inl m))) = guards_kept n w (record { before = r.before; read = r.read; put = r.put; after = r.after; row = m; shape = r.shape; written = r.written })
-  neighbours_kept (inr (inl (s, inr (inr m)))) = leap_kept r.before r.after n w r.read r.put m r.shape r.written
+  neighbours_kept (inr (inl (s, inr (inr (inl m))))) = leap_kept r.before r.after n w r.read r.put m r.shape r.written
+  neighbours_kept (inr (inl (s, inr (inr (inr m))))) = unreached_kept r.before r.after n w r.read r.put m r.shape r.written
   neighbours_kept (inr (inl (s, inr (inl m)))) = subst (λ t. KeptAt StatementList t w) (sym r.shape) (subst (KeptAt StatementList (listed (append r.before (append r.read r.after)))) (sym r.written) (row_77_kept r.before r.after r.read r.put m))
 
   list_kept : KeptAt StatementList n w

@@ -1,5 +1,5 @@
 -- What the rows of lists write means the same.
-use Rattle.std.proofs.Common.{◌≡◌, true, [], None, refl, sym, ap, ◌∙◌, subst, inl, inr}
+use Rattle.std.proofs.Common.{◌≡◌, true, List, [], ◌∷◌, None, refl, sym, ap, ◌∙◌, subst, inl, inr}
 use Rattle.mini_model.specs.declared.kind.VariableDeclarationKind.TheVariants.{Var}
 use Rattle.mini_model.specs.declared.name.Name.{Name}
 use Rattle.mini_model.specs.declared.operator.LogicalOperator.TheVariants.{Or}
@@ -8,6 +8,8 @@ use Rattle.mini_model.specs.declared.place.Position.TheVariants.{StatementList, 
 use Rattle.std.proofs.lemmas.Bool.{and_parts}
 use Rattle.mini_model.specs.Tree.{shape_of, Tree, Trees, none, ◌▸◌, absent, empty_statement, expression_statement, if_else, if_alone, conditional, logical}
 use Rattle.mini_model.specs.Paths.{append}
+use Rattle.mini_laws.specs.declared.names.Declared.TheVariants as declared
+use Rattle.mini_laws.specs.DeclaredNames.{names_of}
 use Rattle.mini_laws.specs.Value.{Value, truth, choose}
 use Rattle.mini_laws.specs.State.{State, Stop, Thrown, Returned, Completion, ok, stop, either, Environment}
 use Rattle.mini_laws.specs.Demand.{FunctionTail, Want, Val, Test, Unused, Says, Demand, As, Stat, Request}
@@ -17,12 +19,14 @@ use Rattle.mini_laws.specs.Rows.{SameAt}
 use Rattle.mini_laws.specs.Step.{step, means, meaning}
 use Rattle.mini_laws.specs.Truth.{told}
 use Rattle.mini_laws.proofs.Runs.{either_cong, either_assoc, either_eta, either_ok, either_stop, each_bool}
+use Rattle.mini_laws.proofs.Stretching.{exec}
 use Rattle.mini_laws.proofs.Truth.{coherent}
 use Rattle.mini_laws.proofs.Rows.{Equal, equal_same}
+use Rattle.mini_node.specs.Walks.{append_none}
 use Rattle.mini_rows.specs.Switches.{Switches}
-use Rattle.mini_rows.specs.Lists.{declares_nothing, is_one_part_shape, are_parts, of_parts, block, return_statement, throw_statement, switch, for_loop, for_in, declaration, or_void, Head, Return, Throw, If, Switch, For, with_head, Row66Empty, Row66Joined, Row67, Row67Absent, Row67In, Row68, Row68Free, Row68Init, Row73, Row73Bare, Row76, Row79, SequencesRow, LoopRow, JoinRow, StretchRow, InList, ListRow, Row74, NeighbourRow, Saying, AsStatement, AsReturn, AsThrow, says, Row77, Leap, Breaks, Continues, leap, Row77Leap, is_unscoped, sequence, resolved, assigned, Statement, Heading, Beginning, Alone, Init, Before, begun, begun_without, begins_well, Row70, Each, EachIn, EachOf, Row69}
+use Rattle.mini_rows.specs.Lists.{declares_nothing, is_one_part_shape, are_parts, of_parts, block, return_statement, throw_statement, switch, for_loop, for_in, declaration, or_void, Head, Return, Throw, If, Switch, For, with_head, Row66Empty, Row66Joined, Row67, Row67Absent, Row67In, Row68, Row68Free, Row68Init, Row73, Row73Bare, Row76, Row79, SequencesRow, LoopRow, JoinRow, StretchRow, InList, ListRow, Row74, NeighbourRow, Saying, AsStatement, AsReturn, AsThrow, says, Row77, Leap, Breaks, Continues, leap, Row77Leap, Row77Unreached, declared_bare, left_behind, is_unscoped, sequence, resolved, assigned, Statement, Heading, Beginning, Alone, Init, Before, begun, begun_without, begins_well, Row70, Each, EachIn, EachOf, Row69}
 use Rattle.mini_rows.specs.ListLaws.{ListsMeanSame}
-use Rattle.mini_rows.proofs.ListStretches.{ReadSame, SameStretch, exec_one, exec_two, listed_is, in_list, list_does, list_reads, replaced, read_in_list}
+use Rattle.mini_rows.proofs.ListStretches.{ReadSame, SameStretch, exec_one, exec_two, exec_more, listed_is, in_list, list_does, list_reads, replaced, read_in_list}
 use Rattle.mini_rows.proofs.ListParts.{joined_is}
 use Rattle.mini_rows.proofs.ListStatements.{expression_is, if_is, absent_is, empty_is, return_is, throw_is, conditional_is, or_void_is, declarations_join, declarations_read, one_unscoped, read_nothing, block_is}
 use Rattle.mini_rows.proofs.ListHeads.{Nothing, nothing_by, switch_rest, switch_plain, for_rest, for_is, for_absent_is}
@@ -287,6 +291,28 @@ row_77_leap a b r = replaced a _ b _ r.shape r.written (record {
   read = read_in_list (r.first ▸ none) (leap r.leaping ▸ none) none none (one_unscoped (leap r.leaping) (leap_unscoped r.leaping));
 })
 
+left_unscoped : (xs : List Name) → ReadSame none (declared_bare xs)
+left_unscoped [] = record { lets = refl; functions = refl; facts = refl; texts = refl }
+left_unscoped (x ∷ xs) = record { lets = refl; functions = refl; facts = refl; texts = refl }
+
+gone_unscoped : (t : Tree) → is_unscoped t ≡ true → ReadSame (t ▸ none) (left_behind t)
+gone_unscoped t h =
+    let one = one_unscoped t h in
+    let left = left_unscoped (names_of declared.Hoisted t) in
+    record { lets = one.lets ∙ left.lets; functions = one.functions ∙ left.functions; facts = one.facts ∙ left.facts; texts = one.texts ∙ left.texts }
+
+read_behind : (pre a b : Trees) → ReadSame a b → ReadSame (append pre a) (append pre b)
+read_behind pre a b h = subst (λ x. ReadSame (append pre x) (append pre b)) (append_none a) (subst (λ x. ReadSame (append pre (append a none)) (append pre x)) (append_none b) (read_in_list pre a b none h))
+
+row_77_unreached : (a b : Trees) → Row77Unreached a b → SameStretch a b
+row_77_unreached a b r = replaced a _ b _ r.shape r.written (record {
+  by = λ e s. stops e (append r.between (r.gone ▸ none)) s ∙ sym (stops e (append r.between (left_behind r.gone)) s);
+  read = read_behind (r.first ▸ r.between) (r.gone ▸ none) (left_behind r.gone) (gone_unscoped r.gone r.unscoped);
+})
+  where
+    stops : (e : Environment) (ts : Trees) (s : State) → exec e (r.first ▸ ts) None s ≡ means e r.first (Stat None) [] s
+    stops e ts s = exec_more e r.first ts s ∙ never_goes (means e r.first (Stat None) [] s) (ended_tree e r.first r.terminated [] s) _
+
 -- `var a; a = b;`
 
 then_same : (a b c : Trees) → SameStretch a b → SameStretch b c → SameStretch a c
@@ -351,7 +377,8 @@ neighbours_same : (o : Switches) (a b : Trees) → NeighbourRow o a b → SameSt
 neighbours_same o a b (inl r) = stretch_same o a b r
 neighbours_same o a b (inr (inl (s, inl r))) = row_74 a b r
 neighbours_same o a b (inr (inl (s, inr (inl r)))) = row_77 a b r
-neighbours_same o a b (inr (inl (s, inr (inr r)))) = row_77_leap a b r
+neighbours_same o a b (inr (inl (s, inr (inr (inl r))))) = row_77_leap a b r
+neighbours_same o a b (inr (inl (s, inr (inr (inr r))))) = row_77_unreached a b r
 neighbours_same o a b (inr (inr (inl r))) = row_70 a b r
 neighbours_same o a b (inr (inr (inr (inl r)))) = row_69 EachOf a b r
 neighbours_same o a b (inr (inr (inr (inr r)))) = row_69 EachIn a b r.1

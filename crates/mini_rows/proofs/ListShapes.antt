@@ -1,5 +1,5 @@
 -- What a row of lists writes may stand wherever what it reads may.
-use Rattle.std.proofs.Common.{◌≡◌, ℕ, ◌≤◌, Bool, true, false, List, [], refl, sym, subst, ◌∙◌, inl, inr, arith}
+use Rattle.std.proofs.Common.{◌≡◌, ℕ, ◌≤◌, Bool, true, false, List, [], ◌∷◌, refl, sym, subst, ◌∙◌, inl, inr, arith}
 use Rattle.std.specs.Prelude.{◌&&◌, nat_le, if◌then◌else◌}
 use Rattle.std.proofs.lemmas.Bool.{and_parts, le-leb}
 use Rattle.mini_model.specs.declared.kind.VariableDeclarationKind.{VariableDeclarationKind}
@@ -9,14 +9,17 @@ use Rattle.mini_model.specs.declared.operator.LogicalOperator.TheVariants.{Or}
 use Rattle.mini_model.specs.declared.shape.Shape.TheVariants as shape
 use Rattle.mini_model.specs.Tree.{Tree, Trees, node, none, ◌▸◌, count, absent, listed, is_absent, identifier, expression_statement, if_else, if_alone, conditional, logical}
 use Rattle.mini_model.specs.Paths.{append}
-use Rattle.mini_accept.specs.WellShaped.{Depth, in_module, in_body, nested, Class, a_statement, a_case, a_loop_left, a_declarator, a_pattern, a_target, an_expression, an_init, Slot, one, one_or_absent, many, each, fits, fill}
+use Rattle.mini_accept.specs.WellShaped.{Depth, in_module, in_body, nested, Class, a_statement, a_case, a_loop_left, a_declarator, a_pattern, a_target, an_expression, an_init, Slot, one, one_or_absent, many, each, fits, fill, is_name}
 use Rattle.mini_model.specs.declared.place.Position.TheVariants.{StatementList}
+use Rattle.mini_laws.specs.declared.names.Declared.TheVariants as declared
+use Rattle.mini_laws.specs.DeclaredNames.{names_of}
 use Rattle.mini_kept.specs.Placed.{fits_place}
 use Rattle.mini_kept.proofs.Bools.{left, right, both}
 use Rattle.mini_kept.proofs.Expressions.{expression_taken, two_fit}
 use Rattle.mini_kept.proofs.Placed.{statements_slot}
 use Rattle.mini_rows.specs.Switches.{Switches}
-use Rattle.mini_rows.specs.Lists.{block, sequence, return_statement, throw_statement, switch, for_loop, declaration, or_void, void_zero, of_parts, is_one_part, are_parts, is_unscoped, are_unscoped, Head as ListHead, Return, Throw, If, Switch, For, with_head, for_in, SequencesRow, LoopRow, JoinRow, StretchRow, InList, NeighbourRow, says, leap, resolved, binding, declarator, assigned, declares_nothing, Statement, Heading, Beginning, Alone, Init, Before, begun, begun_without, begins_well, Each, EachIn, EachOf, each_loop, bare_var}
+use Rattle.mini_rows.specs.Lists.{block, sequence, return_statement, throw_statement, switch, for_loop, declaration, or_void, void_zero, of_parts, is_one_part, are_parts, is_unscoped, are_unscoped, Head as ListHead, Return, Throw, If, Switch, For, with_head, for_in, SequencesRow, LoopRow, JoinRow, StretchRow, InList, NeighbourRow, says, leap, resolved, binding, declarator, assigned, declares_nothing, Statement, Heading, Beginning, Alone, Init, Before, begun, begun_without, begins_well, Each, EachIn, EachOf, each_loop, bare_var, bare_declarators, declared_bare, left_behind}
+use Rattle.mini_rows.proofs.UnreachedNames.{AllNamed, names_named}
 
 abbrev pub expression : Slot
 expression = one an_expression
@@ -410,6 +413,27 @@ module _ (strict : Bool) where
       let (a, b) = and_parts (fits strict (one (a_loop_left false)) (identifier y)) (fits strict expression right && (fits strict (statement nested) body && true)) g in
       just d (each_loop EachOf (bare_var x) right body) (both (fits strict (one (a_loop_left false)) (bare_var x)) (fits strict expression right && (fits strict (statement nested) body && true)) (sym (declaration_anywhere strict d Var (declarator (binding x) absent ▸ none)) ∙ f) b)
 
+  -- the `var` names of what never runs
+
+  bare_fits : (x : Name) → is_name x.spelling ≡ true → Fits (one a_declarator) (declarator (binding x) absent)
+  bare_fits x e = both (fits strict (one a_pattern) (binding x)) true (both (is_name x.spelling && true) true (both (is_name x.spelling) true e refl) refl) refl
+
+  all_bare_fit : (xs : List Name) → AllNamed xs → AllFit (one a_declarator) (bare_declarators xs)
+  all_bare_fit [] a = refl
+  all_bare_fit (x ∷ xs) a = more_fit (one a_declarator) (declarator (binding x) absent) (bare_declarators xs) (bare_fits x a.0) (all_bare_fit xs a.1)
+
+  left_fits : (d : Depth) (xs : List Name) → AllNamed xs → AllFit (statement d) (declared_bare xs)
+  left_fits d [] a = refl
+  left_fits d (x ∷ xs) a =
+      let ds = bare_declarators (x ∷ xs) in
+      just d (declaration Var ds) (declaration_anywhere strict d Var ds ∙ both (nat_le 1 (count ds)) (fill strict (each (one a_declarator)) ds && true) (le-leb 1 (count ds) (omega arith)) (both (fill strict (each (one a_declarator)) ds) true (all_bare_fit (x ∷ xs) a) refl))
+
+  unreached_fits : (t : Tree) (between : Trees) (u : Tree) → Fitting (t ▸ append between (u ▸ none)) (t ▸ append between (left_behind u))
+  unreached_fits t between u d e =
+      let (first, rest) = first_fits (statement d) t (append between (u ▸ none)) e in
+      let (others, last) = both_fit (statement d) between (u ▸ none) rest in
+      more_fit (statement d) t (append between (left_behind u)) first (append_fits (statement d) between (left_behind u) others (left_fits d (names_of declared.Hoisted u) (names_named declared.Hoisted strict (statement d) u (one_of d u last))))
+
   -- whichever row it is
 
   sequences_fit : (a b : Trees) → SequencesRow a b → Fitting a b
@@ -443,7 +467,8 @@ module _ (strict : Bool) where
   neighbours_fit o a b (inr (inr (inl r))) = like r.shape r.written (begun_fit r.ds (resolved r.spelling r.symbol) (resolved r.target r.symbol) r.es r.value r.beginning r.plain r.parts)
   neighbours_fit o a b (inr (inl (s, inl r))) = like r.shape r.written (guards_fit r.left r.right r.s r.u)
   neighbours_fit o a b (inr (inl (s, inr (inl r)))) = like r.shape r.written (λ d e. just d r.first (two_of d r.first (says r.saying r.e) e).0)
-  neighbours_fit o a b (inr (inl (s, inr (inr r)))) = like r.shape r.written (λ d e. just d r.first (two_of d r.first (leap r.leaping) e).0)
+  neighbours_fit o a b (inr (inl (s, inr (inr (inl r))))) = like r.shape r.written (λ d e. just d r.first (two_of d r.first (leap r.leaping) e).0)
+  neighbours_fit o a b (inr (inl (s, inr (inr (inr r))))) = like r.shape r.written (unreached_fits r.first r.between r.gone)
 
 -- a list, with the stretch in it
 pub list_fits : (o : Switches) (n w : Tree) → InList (NeighbourRow o) n w → (strict : Bool) (s : Slot) → fits_place StatementList s ≡ true → fits strict s n ≡ true → fits strict s w ≡ true

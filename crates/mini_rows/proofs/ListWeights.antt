@@ -1,6 +1,6 @@
 -- What the rows of lists write is lighter.
-use Rattle.std.proofs.Common.{◌≡◌, ℕ, suc, ◌+◌, ◌*◌, ◌<◌, ◌≤◌, Bool, true, false, List, refl, sym, ap, ◌∙◌, subst, inl, inr, true≢false, length, arith}
-use Rattle.std.specs.Prelude.{◌⊎◌, ◌||◌, nat_eq, pos, negsuc, if◌then◌else◌}
+use Rattle.std.proofs.Common.{◌≡◌, ℕ, suc, ◌+◌, ◌*◌, ◌<◌, ◌≤◌, Bool, true, false, List, refl, sym, ap, ◌∙◌, subst, inl, inr, true≢false, ltb-true, length, arith}
+use Rattle.std.specs.Prelude.{◌⊎◌, ◌||◌, nat_eq, nat_lt, pos, negsuc, if◌then◌else◌}
 use Rattle.std.proofs.lemmas.Bool.{and_parts}
 use Rattle.std.specs.Fmt.{signed_decimal}
 use Rattle.std.proofs.lemmas.Fmt.{decimal_digit}
@@ -18,12 +18,12 @@ use Rattle.mini_model.specs.declared.shape.Shape.TheVariants as shape
 use Rattle.mini_model.specs.Tree.{Tree, Trees, node, none, ◌▸◌, count, shape_of, absent, listed, identifier, expression_statement, if_else, if_alone}
 use Rattle.mini_model.specs.Paths.{append}
 use Rattle.mini_model.specs.Position.{seat_of_level, argument_seat, statement_expression_seat, if_test_seat, conditional_test_seat, whole_seat, not_operand_seat, left_operand_seat, right_operand_seat, branch_seat, passed_part_seat, part_seat, item_position}
-use Rattle.mini_model.specs.Weight.{Outline, outline, outlines, one_chooses, is_parenthesized, commas_weight, declaring_weight, place_weight, weight, weights}
+use Rattle.mini_model.specs.Weight.{Outline, outline, outlines, one_chooses, is_parenthesized, commas_weight, declaring_weight, place_weight, weight, weights, capped}
 use Rattle.mini_laws.specs.Weights.{counts_items}
 use Rattle.mini_laws.proofs.Seats.{is_inner, placed, placed_node, moved}
 use Rattle.mini_node.specs.Walks.{append_none}
 use Rattle.mini_rows.specs.Switches.{Switches}
-use Rattle.mini_rows.specs.Lists.{of_parts, is_one_part_shape, declares_nothing, are_parts, sequence, or_void, return_statement, throw_statement, is_unscoped, Head, Return, Throw, If, Switch, For, with_head, Row66Empty, Row66Joined, Row67, Row67Absent, Row67In, Row68, Row68Free, Row68Init, Row73, Row73Bare, Row76, Row79, SequencesRow, LoopRow, JoinRow, StretchRow, InList, ListRow, ListsLighter, Row74, Row75, Row78, block, alternate_of, bare_return, AtEnd, EndRow, NeighbourRow, Saying, AsStatement, AsReturn, AsThrow, says, Row77, Leap, Breaks, Continues, leap, Row77Leap, declaration, resolved, binding, declarator, assigned, Holder, Statement, Heading, holding, Beginning, Alone, Init, Before, begun, begun_without, Row70, Each, EachIn, EachOf, each_loop, bare_var, Row69}
+use Rattle.mini_rows.specs.Lists.{of_parts, is_one_part_shape, declares_nothing, are_parts, sequence, or_void, return_statement, throw_statement, is_unscoped, Head, Return, Throw, If, Switch, For, with_head, Row66Empty, Row66Joined, Row67, Row67Absent, Row67In, Row68, Row68Free, Row68Init, Row73, Row73Bare, Row76, Row79, SequencesRow, LoopRow, JoinRow, StretchRow, InList, ListRow, ListsLighter, Row74, Row75, Row78, block, alternate_of, bare_return, AtEnd, EndRow, NeighbourRow, Saying, AsStatement, AsReturn, AsThrow, says, Row77, Leap, Breaks, Continues, leap, Row77Leap, left_behind, Row77Unreached, declaration, resolved, binding, declarator, assigned, Holder, Statement, Heading, holding, Beginning, Alone, Init, Before, begun, begun_without, Row70, Each, EachIn, EachOf, each_loop, bare_var, Row69}
 use Rattle.mini_rows.specs.ListLaws.{ListsLighten}
 
 -- the statements of a list, wherever in it they stand
@@ -318,6 +318,22 @@ leap_weighs Continues = omega arith
 row_77_leap : (a b : Trees) → Row77Leap a b → Falls a b
 row_77_leap a b r = let more = leap_weighs r.leaping in replaced a _ b _ r.shape r.written (record { lighter = omega (arith, more); chosen = inl refl; some = λ e. omega (arith, e) })
 
+several_choose : (t : Tree) (between : Trees) (u : Tree) → chooses (t ▸ append between (u ▸ none)) ≡ false
+several_choose t none u = refl
+several_choose t (c ▸ between) u = refl
+
+capped_lighter : (a b : ℕ) → nat_lt (capped a) (capped b) ≡ true → a < b
+capped_lighter a b e = omega (arith, ltb-true (capped a) (capped b) e)
+
+row_77_unreached : (a b : Trees) → Row77Unreached a b → Falls a b
+row_77_unreached a b r =
+    let left = left_behind r.gone in
+    let less = capped_lighter (weight StatementList (listed left)) (weight (Stmt stmt_seat.List) r.gone) r.lighter in
+    let made = list_is left in
+    let old = total_append r.between (r.gone ▸ none) in
+    let new = total_append r.between left in
+    replaced a _ b _ r.shape r.written (record { lighter = omega (arith, less, made, old, new); chosen = inl (several_choose r.first r.between r.gone); some = λ e. omega (arith, e) })
+
 -- `var a; a = b;`
 
 -- what is left of a sequence weighs no more alone
@@ -432,7 +448,8 @@ neighbours_fall : (o : Switches) (a b : Trees) → NeighbourRow o a b → Falls 
 neighbours_fall o a b (inl r) = stretch_falls o a b r
 neighbours_fall o a b (inr (inl (s, inl r))) = row_74 a b r
 neighbours_fall o a b (inr (inl (s, inr (inl r)))) = row_77 a b r
-neighbours_fall o a b (inr (inl (s, inr (inr r)))) = row_77_leap a b r
+neighbours_fall o a b (inr (inl (s, inr (inr (inl r))))) = row_77_leap a b r
+neighbours_fall o a b (inr (inl (s, inr (inr (inr r))))) = row_77_unreached a b r
 neighbours_fall o a b (inr (inr (inl r))) = row_70 a b r
 neighbours_fall o a b (inr (inr (inr (inl r)))) = row_69 EachOf a b r
 neighbours_fall o a b (inr (inr (inr (inr r)))) = row_69 EachIn a b r.1

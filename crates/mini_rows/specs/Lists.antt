@@ -1,7 +1,7 @@
 -- Rows of lists of statements: each reads some neighbours in a list and writes others in their place.
-use Rattle.std.specs.Prelude.{◌≡◌, ◌⊎◌, ◌<◌, ℕ, zero, suc, Bool, true, false, not, ◌&&◌, ◌||◌, nat_eq, pos, List, [], ◌∷◌, Some, if◌then◌else◌}
+use Rattle.std.specs.Prelude.{◌≡◌, ◌⊎◌, ◌<◌, nat_lt, ℕ, zero, suc, Bool, true, false, not, ◌&&◌, ◌||◌, nat_eq, pos, List, [], ◌∷◌, Some, if◌then◌else◌}
 use Rattle.mini_model.specs.declared.kind.VariableDeclarationKind.{VariableDeclarationKind}
-use Rattle.mini_model.specs.declared.kind.VariableDeclarationKind.TheVariants.{Var}
+use Rattle.mini_model.specs.declared.kind.VariableDeclarationKind.TheVariants.{Var, Const}
 use Rattle.mini_model.specs.declared.name.Name.{Name}
 use Rattle.mini_model.specs.declared.operator.AssignmentOperator.TheVariants.{Assign}
 use Rattle.mini_model.specs.declared.operator.LogicalOperator.TheVariants.{Or}
@@ -9,10 +9,13 @@ use Rattle.mini_model.specs.declared.operator.UnaryOperator.TheVariants.{Void, L
 use Rattle.mini_model.specs.declared.shape.Shape.{Shape}
 use Rattle.mini_model.specs.declared.shape.Shape.TheVariants as shape
 use Rattle.mini_model.specs.declared.place.Position.{Position}
-use Rattle.mini_model.specs.declared.place.Position.TheVariants.{StatementList, BodyList}
+use Rattle.mini_model.specs.declared.place.Position.TheVariants.{Stmt, StatementList, BodyList}
+use Rattle.mini_model.specs.declared.seat.StmtSeat.TheVariants as stmt_seat
 use Rattle.mini_model.specs.Tree.{Tree, Trees, node, none, ◌▸◌, count, leaf, absent, listed, unary, is_absent, shape_of, children, child_or_absent, empty_statement, expression_statement, identifier, if_else, if_alone, conditional, negation, logical}
 use Rattle.mini_model.specs.Paths.{append}
-use Rattle.mini_model.specs.Weight.{weight}
+use Rattle.mini_model.specs.Weight.{weight, capped}
+use Rattle.mini_laws.specs.declared.names.Declared.TheVariants as declared
+use Rattle.mini_laws.specs.DeclaredNames.{names_of}
 use Rattle.mini_rows.specs.Switches.{Switches}
 use Rattle.mini_terms.specs.Parts.{leaves_nothing}
 
@@ -402,6 +405,66 @@ pub record Row77Leap (a b : Trees) : Type 0 where
   pub shape : a ≡ first ▸ (leap leaping ▸ none)
   pub written : b ≡ first ▸ none
 
+-- What never runs
+
+-- whether the first of some children is absent
+abbrev pub first_is_absent : Trees → Bool
+first_is_absent none = false
+first_is_absent (t ▸ ts) = is_absent t
+
+-- a node that is no inner expression, and gives no name that can't be written: no constant, and no function expression or class with a
+-- name of its own (ECMA-262, "Runtime Semantics: InstantiateOrdinaryFunctionExpression", "ClassDefinitionEvaluation")
+abbrev pub keeps_no_name_by : Shape → Bool → Bool
+keeps_no_name_by shape.InnerExpression nameless = false
+keeps_no_name_by (shape.VariableDeclaration Const) nameless = false
+keeps_no_name_by (shape.Function false is_generator directives) nameless = nameless
+keeps_no_name_by (shape.Class false) nameless = nameless
+keeps_no_name_by (shape.Class true) nameless = false
+keeps_no_name_by shape.ImportSpecifier nameless = false
+keeps_no_name_by shape.ImportDefaultSpecifier nameless = false
+keeps_no_name_by shape.ImportNamespaceSpecifier nameless = false
+keeps_no_name_by h nameless = true
+
+-- no node in it does
+abbrev mutual
+  pub keeps_no_name : Tree → Bool
+  keeps_no_name (node h xs n ts) = keeps_no_name_by h (first_is_absent ts) && keep_no_name ts
+
+  pub keep_no_name : Trees → Bool
+  keep_no_name none = true
+  keep_no_name (t ▸ ts) = keeps_no_name t && keep_no_name ts
+
+-- `x, y`, each without an initializer
+abbrev pub bare_declarators : List Name → Trees
+bare_declarators [] = none
+bare_declarators (x ∷ xs) = declarator (binding x) absent ▸ bare_declarators xs
+
+-- `var x, y;`, or nothing where there is no name
+abbrev pub declared_bare : List Name → Trees
+declared_bare [] = none
+declared_bare (x ∷ xs) = declaration Var (bare_declarators (x ∷ xs)) ▸ none
+
+-- what is left of a statement that never runs: its `var` names, which are hoisted (ECMA-262, "VarDeclaredNames")
+abbrev pub left_behind : Tree → Trees
+left_behind t = declared_bare (names_of declared.Hoisted t)
+
+-- that is lighter
+abbrev pub is_lighter_left : Tree → Bool
+is_lighter_left t = nat_lt (capped (weight StatementList (listed (left_behind t)))) (capped (weight (Stmt stmt_seat.List) t))
+
+-- 77: `return a; let b; var x = c(), y;` becomes `return a; let b; var x, y;`, `return a; function f() {} if (b) { var x = 1; }` becomes
+-- `return a; function f() {} var x;`, and a statement in which no `var` stands goes
+pub record Row77Unreached (a b : Trees) : Type 0 where
+  pub first : Tree
+  pub between : Trees
+  pub gone : Tree
+  pub terminated : is_terminated first ≡ true
+  pub unscoped : is_unscoped gone ≡ true
+  pub dropped : keeps_no_name gone ≡ true
+  pub lighter : is_lighter_left gone ≡ true
+  pub shape : a ≡ first ▸ append between (gone ▸ none)
+  pub written : b ≡ first ▸ append between (left_behind gone)
+
 -- a declarator without an initializer
 abbrev pub is_declarator_shape : Shape → Bool
 is_declarator_shape shape.VariableDeclarator = true
@@ -539,7 +602,7 @@ StretchRow o a b = Row66Empty a b ⊎ (Row79 a b ⊎ (JoinRow o a b ⊎ ((o.sequ
 
 -- those on a jump and what follows: on an `if` that ends in one and the next one that has its branch, and on what never runs
 abbrev pub GuardsRow : Switches → Trees → Trees → Type 0
-GuardsRow o a b = (o.sequences ≡ true) × (Row74 a b ⊎ (Row77 a b ⊎ Row77Leap a b))
+GuardsRow o a b = (o.sequences ≡ true) × (Row74 a b ⊎ (Row77 a b ⊎ (Row77Leap a b ⊎ Row77Unreached a b)))
 
 -- those on a `var` and a statement that writes its name first
 abbrev pub EntersRow : Switches → Trees → Trees → Type 0

@@ -17,14 +17,15 @@ use Rattle.mini_node.specs.Walks.{from_first, next_child, no_rest, append_one}
 use Rattle.mini_node.proofs.Equality.{tree_same, tree_itself}
 use Rattle.mini_model.specs.declared.memory.OutOfMemory.{OutOfMemory}
 use Rattle.mini_rows.specs.Switches.{Switches}
-use Rattle.mini_rows.specs.Lists.{is_terminated, is_shallow, Row74, StretchRow, GuardsRow, NeighbourRow, InList, EntersRow, Saying, AsStatement, AsReturn, AsThrow, says, Row77, Leap, Breaks, Continues, leap, Row77Leap}
+use Rattle.mini_rows.specs.Lists.{is_terminated, is_shallow, Row74, StretchRow, GuardsRow, NeighbourRow, InList, EntersRow, Saying, AsStatement, AsReturn, AsThrow, says, Row77, Leap, Breaks, Continues, leap, Row77Leap, Row77Unreached}
 use Rattle.mini_stmt.specs.MinimizeStatements as list
 use Rattle.mini_stmt.specs.MinimizeStatements.{Changes, is_quiet, StretchRests, JoinsStatements}
-use Rattle.mini_stmt.specs.JoinGuards.{are_guards, both_guards, is_leap_shape, leaps, is_idle, may_go, ends_before, meets, met, meet_first, are_apart, is_apart, last_after, meets_last, PutJoined, Joined, Rests, JoinsGuards, JoinsOthers}
+use Rattle.mini_stmt.specs.JoinGuards.{are_guards, both_guards, is_leap_shape, leaps, is_idle, may_go, ends_before, meets, met, meet_first, are_apart, is_apart, last_after, meets_last, Changed, PutJoined, Joined, Settled, Rests, JoinsGuards, JoinsOthers}
+use Rattle.mini_stmt.specs.DropUnreached.{is_reached, Dropped}
 use Rattle.mini_stmt.specs.JoinAssignments as assignments
 use Rattle.mini_stmt.proofs.Parts.{not_true}
-use Rattle.mini_stmt.proofs.Quiet.{quiet_rests}
-use Rattle.mini_stmt.proofs.Stepping.{neighbours_in, steps_on}
+use Rattle.mini_stmt.proofs.Stepping.{neighbours_in, steps_on, changes_on}
+use Rattle.mini_stmt.proofs.Unreached.{unreached_goes}
 
 -- ---- two statements
 
@@ -149,12 +150,30 @@ meet_before : (t u : Tree) (after : Trees) (ts : Trees) → are_apart (append ts
 meet_before t u after none e = not_true (meets t u) (and_parts (not (meets t u)) (are_apart (u ▸ after)) e).0
 meet_before t u after (c ▸ ts) e = meet_before t u after ts (and_parts (not (meet_first (c ▸ append ts (t ▸ (u ▸ after))))) (are_apart (append ts (t ▸ (u ▸ after)))) e).1
 
+-- a row of two neighbours, or of what never runs
+split_row : (a b : Trees) → Row74 a b ⊎ (Row77 a b ⊎ (Row77Leap a b ⊎ Row77Unreached a b)) → (Row74 a b ⊎ (Row77 a b ⊎ Row77Leap a b)) ⊎ Row77Unreached a b
+split_row a b (inl r) = inl (inl r)
+split_row a b (inr (inl r)) = inl (inr (inl r))
+split_row a b (inr (inr (inl r))) = inl (inr (inr r))
+split_row a b (inr (inr (inr r))) = inr r
+
+joined_row : (a b : Trees) → Row74 a b ⊎ (Row77 a b ⊎ Row77Leap a b) → Row74 a b ⊎ (Row77 a b ⊎ (Row77Leap a b ⊎ Row77Unreached a b))
+joined_row a b (inl r) = inl r
+joined_row a b (inr (inl r)) = inr (inl r)
+joined_row a b (inr (inr r)) = inr (inr (inl r))
+
 guards_rest : (o : Switches) (ts : Trees) → is_apart o ts ≡ true → (w : Tree) → InList (GuardsRow o) (listed ts) w → ⊥
-guards_rest o ts e w r =
-    let m = row_meets r.read r.put r.row.1 in
-    let apart : are_apart ts ≡ true = sym (ap (λ b. not b || are_apart ts) r.row.0) ∙ e in
-    let is : ts ≡ append r.before (m.first ▸ (m.next ▸ r.after)) = ap children r.shape ∙ ap (λ a. append r.before (append a r.after)) m.is in
-    true≢false (sym m.meet ∙ meet_before m.first m.next r.after r.before (sym (ap are_apart is) ∙ apart))
+guards_rest o ts e w r = by (split_row r.read r.put r.row.1)
+  where
+    settled : (are_apart ts && is_reached ts) ≡ true
+    settled = sym (ap (λ b. not b || (are_apart ts && is_reached ts)) r.row.0) ∙ e
+
+    by : (Row74 r.read r.put ⊎ (Row77 r.read r.put ⊎ Row77Leap r.read r.put)) ⊎ Row77Unreached r.read r.put → ⊥
+    by (inl k) =
+        let m = row_meets r.read r.put k in
+        let is : ts ≡ append r.before (m.first ▸ (m.next ▸ r.after)) = ap children r.shape ∙ ap (λ a. append r.before (append a r.after)) m.is in
+        true≢false (sym m.meet ∙ meet_before m.first m.next r.after r.before (sym (ap are_apart is) ∙ (and_parts (are_apart ts) (is_reached ts) settled).0))
+    by (inr k) = true≢false (sym (and_parts (are_apart ts) (is_reached ts) settled).1 ∙ unreached_goes ts r.before r.read r.put r.after k (ap children r.shape))
 
 pub apart_rests : (o : Switches) (ts : Trees) → is_apart o ts ≡ true → (p : Position) → Rests o p (listed ts)
 apart_rests o ts e StatementList w r = guards_rest o ts e w r
@@ -254,7 +273,7 @@ put_met before init last t joined after e f g h =
       changes = λ rest o s.
           subst (λ x. Changes o x (append after rest) true) (sym (ap (λ x. append x (t ▸ rest)) f ∙ append_one init last (t ▸ rest)))
           (subst (λ x. Changes o (append init (last ▸ (t ▸ rest))) x true) (sym (ap (λ x. append x rest) made ∙ append_one init (met last t) rest))
-          (steps_on o (append init (last ▸ (t ▸ rest))) (append init (met last t ▸ rest)) (neighbours_in o init (last ▸ (t ▸ none)) (met last t ▸ none) rest (inr (inl (s, row))))));
+          (steps_on o (append init (last ▸ (t ▸ rest))) (append init (met last t ▸ rest)) (neighbours_in o init (last ▸ (t ▸ none)) (met last t ▸ none) rest (inr (inl (s, joined_row (last ▸ (t ▸ none)) (met last t ▸ none) row))))));
       apart = λ c. absurd (true≢false c);
     }
 
@@ -264,25 +283,39 @@ both_unchanged false b e = (refl, e)
 
 -- ---- the node
 
-pub apart_by : (o : Switches) (ts : Trees) → are_apart ts ≡ true → is_apart o ts ≡ true
-apart_by o ts e = or_true (not o.sequences)
+pub settled_neighbours : (t u : Trees) (a : Bool) → a ≡ true → Joined t u a → Settled t u true
+settled_neighbours t u a e m = record { changes = subst (λ b. Changed t u b) e m.changes; apart = λ c. absurd (true≢false c); reached = λ c. absurd (true≢false c) }
+
+settled_then : (t u v : Trees) (a b : Bool) → a ≡ false → Joined t u a → Dropped u v b → Settled t v b
+settled_then t u v a b e m d = record {
+  changes = λ o s. changes_on o t u v false b (subst (Changes o t u) e (m.changes o s)) (d.changes o s);
+  apart = λ c. ap are_apart (d.same c) ∙ m.apart e;
+  reached = d.reached;
+}
+
+pub settled_after : (t u v : Trees) (a : Bool) (r : Result Bool OutOfMemory) → a ≡ false → Joined t u a → IfOk r (λ b. Dropped u v b) → IfOk r (λ b. Settled t v b)
+settled_after t u v a (Err x) e m d = d
+settled_after t u v a (Ok b) e m d = settled_then t u v a b e m d
+
+pub not_apart : (t : Trees) → are_apart t ≡ true → Joined t t false
+not_apart t e = record { changes = λ o s. refl; apart = λ c. e }
+
+settled_by : (o : Switches) (ts : Trees) → are_apart ts ≡ true → is_reached ts ≡ true → is_apart o ts ≡ true
+settled_by o ts e f = or_true (not o.sequences)
   where
-    or_true : (a : Bool) → a || are_apart ts ≡ true
+    or_true : (a : Bool) → a || (are_apart ts && is_reached ts) ≡ true
     or_true true = refl
-    or_true false = e
+    or_true false = both_true (are_apart ts) (is_reached ts) e f
 
-list_joined : (o : Switches) (ts us : Trees) (b : Bool) → o.sequences ≡ true → Joined ts us b → JoinsGuards o (listed ts) (listed us) b
-list_joined o ts us true s m = m.changes o s
-list_joined o ts us false s m = let same = m.changes o s in (ap listed same, apart_rests o ts (apart_by o ts (sym (ap are_apart same) ∙ m.apart refl)) StatementList)
+list_settled : (o : Switches) (ts us : Trees) (b : Bool) → o.sequences ≡ true → Settled ts us b → JoinsGuards o (listed ts) (listed us) b
+list_settled o ts us true s m = m.changes o s
+list_settled o ts us false s m = let same = m.changes o s in (ap listed same, apart_rests o ts (settled_by o ts (sym (ap are_apart same) ∙ m.apart refl) (sym (ap is_reached same) ∙ m.reached refl)) StatementList)
 
-pub node_joined : (o : Switches) (t : Tree) (us : Trees) (r : Result Bool OutOfMemory) → o.sequences ≡ true → is_listed t ≡ true → IfOk r (λ b. Joined (children t) us b) → IfOk r (λ b. JoinsGuards o t (with_children t us) b)
-node_joined o t us (Err e) s l m = m
-node_joined o t us (Ok b) s l m =
+pub node_settled : (o : Switches) (t : Tree) (us : Trees) (r : Result Bool OutOfMemory) → o.sequences ≡ true → is_listed t ≡ true → IfOk r (λ b. Settled (children t) us b) → IfOk r (λ b. JoinsGuards o t (with_children t us) b)
+node_settled o t us (Err e) s l m = m
+node_settled o t us (Ok b) s l m =
     let is = listed_is t l in
-    subst (λ x. JoinsGuards o x (with_children t us) b) (sym is) (subst (λ x. JoinsGuards o (listed (children t)) x b) (sym (ap (λ x. with_children x us) is)) (list_joined o (children t) us b s m))
-
-pub not_joined : (o : Switches) (t : Tree) → is_listed t ≡ true → is_apart o (children t) ≡ true → JoinsGuards o t t false
-not_joined o t l e = (refl, subst (Rests o StatementList) (sym (listed_is t l)) (apart_rests o (children t) e StatementList))
+    subst (λ x. JoinsGuards o x (with_children t us) b) (sym is) (subst (λ x. JoinsGuards o (listed (children t)) x b) (sym (ap (λ x. with_children x us) is)) (list_settled o (children t) us b s m))
 
 pub no_list : (o : Switches) (t : Tree) → is_listed t ≡ false → JoinsGuards o t t false
 no_list o t l = (refl, λ w r. absurd (true≢false (sym (ap is_listed r.shape) ∙ l)))

@@ -5,7 +5,7 @@ use Rattle.mini_model.specs.declared.place.Position.{Position}
 use Rattle.mini_model.specs.declared.place.Position.TheVariants.{StatementList}
 use Rattle.mini_model.specs.declared.shape.Shape.{Shape}
 use Rattle.mini_model.specs.declared.shape.Shape.TheVariants as shape
-use Rattle.mini_model.specs.Tree.{Tree, Trees, none, ◌▸◌, shape_of, absent, listed, if_else, logical}
+use Rattle.mini_model.specs.Tree.{Tree, Trees, none, ◌▸◌, shape_of, absent, if_else, logical}
 use Rattle.mini_model.specs.Paths.{append}
 use Rattle.mini_node.specs.Children.{part, is_bare}
 use Rattle.mini_node.specs.Equal.{same_tree}
@@ -14,8 +14,8 @@ use Rattle.mini_terms.specs.Parts.{leaves_nothing}
 use Rattle.mini_tree.specs.Rule as rule
 use Rattle.mini_rows.specs.Switches.{Switches}
 use Rattle.mini_rows.specs.Lists.{is_terminated, is_shallow, GuardsRow, InList, ListContracts}
-use Rattle.mini_stmt.specs.MinimizeStatements.{Changes, is_quiet, StretchRests}
-use Rattle.mini_stmt.specs.MinimizeStatements as list
+use Rattle.mini_stmt.specs.MinimizeStatements.{Changes, StretchRests}
+use Rattle.mini_stmt.specs.DropUnreached.{is_reached}
 
 -- `if (a) s`, and then an `if` with the branch s, where a nests no deeper than 64
 abbrev pub are_guards : Tree → Tree → Bool
@@ -65,7 +65,7 @@ are_apart none = true
 are_apart (t ▸ ts) = not (meet_first (t ▸ ts)) && are_apart ts
 
 abbrev pub is_apart : Switches → Trees → Bool
-is_apart o ts = not o.sequences || are_apart ts
+is_apart o ts = not o.sequences || (are_apart ts && is_reached ts)
 
 -- the last one, or nothing
 abbrev pub last_after : Tree → Trees → Tree
@@ -88,6 +88,12 @@ pub record PutJoined (before : Trees) (t : Tree) (after : Trees) (changed : Bool
 pub record Joined (t u : Trees) (changed : Bool) : Type 0 where
   pub changes : Changed t u changed
   pub apart : changed ≡ false → are_apart u ≡ true
+
+-- a list changes, or none is left and what never runs is gone
+pub record Settled (t u : Trees) (changed : Bool) : Type 0 where
+  pub changes : Changed t u changed
+  pub apart : changed ≡ false → are_apart u ≡ true
+  pub reached : changed ≡ false → is_reached u ≡ true
 
 -- no row of these reads the list
 abbrev pub InGuards : Switches → Position → Tree → Tree → Type 0

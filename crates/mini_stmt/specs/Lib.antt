@@ -8,6 +8,7 @@ pub mod SpreadBlock
 pub mod MinimizeStatements
 pub mod Lighter
 pub mod JoinGuards
+pub mod DropUnreached
 pub mod JoinAssignments
 pub mod MinimizeBody
 pub mod TurnLoopGuards

@@ -1,3 +1,4 @@
+pub mod drop_unreached;
 pub mod join_assignments;
 pub mod join_expressions;
 pub mod join_guards;

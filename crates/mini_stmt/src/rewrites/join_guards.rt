@@ -1,12 +1,14 @@
-//! 74: `if (a) s; if (b) s;` becomes `if (a || b) s`, where s ends in a jump. 77: `return a; b();` becomes `return a;`.
+//! 74: `if (a) s; if (b) s;` becomes `if (a || b) s`, where s ends in a jump. 77: `return a; b();` becomes `return a;`, and what else never
+//! runs goes with it.
 
 ghost use Rattle.std.specs.Prelude.{◌≡◌, ◌<◌, IfOk};
 ghost use Rattle.mini_model.specs.Tree.{count};
 ghost use Rattle.mini_node.specs.Children.{rest_children};
 ghost use Rattle.mini_stmt.specs.JoinGuards as row;
-ghost use Rattle.mini_stmt.specs.JoinGuards.{Joined, JoinsGuards, PutJoined};
+ghost use Rattle.mini_stmt.specs.JoinGuards.{Joined, JoinsGuards, PutJoined, Settled};
 ghost use Rattle.mini_stmt.specs.MinimizeStatements.{switches_of};
 
+use crate::rewrites::drop_unreached::drop_unreached;
 use crate::statements::{put_reversed, take_last};
 use crate::terms::{is_shallow, is_terminated};
 use mini_model::{LogicalOperator, OutOfMemory, Shape};
@@ -155,8 +157,28 @@ fn join_all(alloc: Global, list: &mut Nodes) -> Result<bool, OutOfMemory>
     Ok(changed)
 }
 
+// As far as two neighbours are one.
+fn join_neighbours(alloc: Global, list: &mut Nodes) -> Result<bool, OutOfMemory>
+    ensures { IfOk result (λ changed. Joined list.old list.new changed) }
+{
+    if are_apart(list) {
+        return Ok(false);
+    }
+    join_all(alloc, list)
+}
+
+// Where no two are, what never runs goes.
+fn settle(alloc: Global, list: &mut Nodes) -> Result<bool, OutOfMemory>
+    ensures { IfOk result (λ changed. Settled list.old list.new changed) }
+{
+    if join_neighbours(alloc, list)? {
+        return Ok(true);
+    }
+    drop_unreached(alloc, list)
+}
+
 /// Each `if` that ends in a jump, and the next one with that branch, as one; and what ends in a jump without what never runs
-/// after it, as far as that is an expression's statement. The answer says whether there were two; the only
+/// after it, but for the names that it declares. The answer says whether there was anything to do; the only
 /// error is that memory runs out, and then the list is fit only to be dropped.
 pub fn join_guards(
     alloc: Global,
@@ -165,8 +187,8 @@ pub fn join_guards(
 ) -> Result<bool, OutOfMemory>
     ensures { IfOk result (λ changed. JoinsGuards (switches_of options) node.old node.new changed) }
 {
-    if !options.sequences || !is_listed(node) || are_apart(node.children()) {
+    if !options.sequences || !is_listed(node) {
         return Ok(false);
     }
-    join_all(alloc, node.children_mut())
+    settle(alloc, node.children_mut())
 }
