@@ -1,6 +1,6 @@
 -- What is lifted out or spread is what a row says, and where nothing is no row reads the expression.
 use Rattle.std.proofs.Common.{◌≡◌, ℕ, zero, suc, ◌<◌, ◌≤◌, Bool, true, false, Option, Some, None, refl, sym, ap, ◌∙◌, inl, inr, true≢false, arith}
-use Rattle.std.specs.Prelude.{◌+◌, [], not, ◌&&◌, ◌||◌, nat_eq, nat_le, is_some, if◌then◌else◌}
+use Rattle.std.specs.Prelude.{◌+◌, ◌==◌, List, [], ◌∷◌, not, ◌&&◌, ◌||◌, nat_eq, nat_le, is_some, if◌then◌else◌}
 use Rattle.std.proofs.lemmas.Bool.{and_parts, false≢true, le-leb, leb-true, eqb-true}
 use Rattle.mini_model.specs.declared.operator.BinaryOperator.{BinaryOperator}
 use Rattle.mini_model.specs.declared.operator.LogicalOperator.{LogicalOperator}
@@ -9,20 +9,23 @@ use Rattle.mini_model.specs.declared.operator.UnaryOperator.TheVariants.{UnaryPl
 use Rattle.mini_model.specs.declared.place.Position.{Position}
 use Rattle.mini_model.specs.declared.place.Position.TheVariants.{Expr}
 use Rattle.mini_model.specs.declared.seat.Seat.{Seat}
+use Rattle.mini_model.specs.declared.name.Name.{Name}
+use Rattle.mini_model.specs.declared.shape.Shape.{Shape}
 use Rattle.mini_model.specs.declared.shape.Shape.TheVariants as shape
-use Rattle.mini_model.specs.Tree.{Tree, Trees, node, none, ◌▸◌, count, children, child_or_absent, first_or_absent}
+use Rattle.mini_model.specs.Tree.{Tree, Trees, node, none, ◌▸◌, count, node_count, shape_of, children, child_or_absent, first_or_absent}
 use Rattle.mini_model.specs.Paths.{append}
-use Rattle.mini_node.specs.Children.{part, first_children, rest_children, without}
-use Rattle.mini_node.specs.Kinds.{logical_operator, binary_operator, unary_operator, is_conditional, is_negation, is_sequence, sequence}
+use Rattle.mini_node.specs.Children.{part, with_child, like, first_children, rest_children, with_inserted, without}
+use Rattle.mini_node.specs.Kinds.{logical_operator, binary_operator, unary_operator, is_conditional, is_negation, is_sequence_shape, is_sequence, sequence}
+use Rattle.mini_node.specs.Lends.{with_children}
 use Rattle.mini_node.specs.Made.{unary_is, binary_is, logical_is, conditional_is, negation_is, sequence_is}
 use Rattle.mini_node.specs.Walks.{from_first, next_child, no_rest}
 use Rattle.mini_terms.specs.Folds.{is_effect_free}
 use Rattle.mini_terms.specs.Parts.{is_number, leaves_nothing, weighs}
-use Rattle.mini_rows.specs.Sequences.{Plus, Minus, Complement, Operation, Decides, Chooses, Negates, Operates, Converts, Yields, over, takes_last, is_open_seat, takes_alone, stays_alone, Row20, Row21, Row21Idle, Row21Alone, SequenceRow}
+use Rattle.mini_rows.specs.Sequences.{Plus, Minus, Complement, Operation, Decides, Chooses, Negates, Operates, Converts, Yields, over, along, takes_last, takes_along, is_open_seat, takes_alone, stays_alone, Row20, Row21, Row21Idle, Row21Alone, SequenceRow}
 use Rattle.mini_rows.proofs.SequenceWeights.{lighter}
 use Rattle.mini_tree.specs.Rule.{Applied}
 use Rattle.mini_tree.proofs.Reaching.{moves_once}
-use Rattle.mini_fold.specs.FoldSequences.{has_several, is_several, last_of, but_last, converts, is_minus, is_operation, takes_last_of, is_yield, gives_parts, is_lifted, with_first, parts_of_first, lifted, any_of, is_nested, spread_at, is_idle, idle_before_last, is_left, loses_part, Gives, Rests}
+use Rattle.mini_fold.specs.FoldSequences.{has_several, is_several, last_of, but_last, converts, is_minus, is_operation, takes_last_of, is_yield, gives_parts, reaches_sequence, is_lifted, parts_before, left_of, lifted, any_of, is_nested, spread_at, is_idle, idle_before_last, is_left, loses_part, Gives, Rests}
 
 pub several_by_count : (ts : Trees) → nat_le 2 (count ts) ≡ has_several ts
 several_by_count none = refl
@@ -68,6 +71,10 @@ ends_in (t ▸ (u ▸ us)) (suc i) e = ends_in (u ▸ us) i (omega (arith, e))
 
 -- ---- 20
 
+-- the node over another first operand
+abbrev with_first : Tree → Tree → Tree
+with_first t q = like t (with_inserted (without (children t) 0) 0 q)
+
 -- a node over its first operand, and over any other; it takes what is no number behind a `-`
 record Operated (t : Tree) : Type 0 where
   operation : Operation
@@ -102,27 +109,107 @@ operated t e = go (logical_operator t) (is_conditional t) (is_negation t) (binar
     go None false false (Some o) h k l m e = record { operation = Operates o (part t 1); is = binary_is t o m; other = λ q. ap (λ u. with_first u q) (binary_is t o m); takes = λ q k. refl }
     go None false false None h k l m e = last_operated t e
 
+-- it is no sequence
+over_no_sequence : (o : Operation) (q : Tree) → is_sequence_shape (shape_of (over o q)) ≡ false
+over_no_sequence (Decides o b) q = refl
+over_no_sequence (Chooses b c) q = refl
+over_no_sequence Negates q = refl
+over_no_sequence (Operates o b) q = refl
+over_no_sequence (Converts c) q = refl
+over_no_sequence (Yields d) q = refl
+
+-- a node from which a sequence is reached is built so, and the parts of the sequence are before the last, and that in its place
+record Reached (t : Tree) : Type 0 where
+  operation : Operation
+  operations : List Operation
+  first : Tree
+  others : Trees
+  last : Tree
+  takes : takes_along operation operations last ≡ true
+  is : t ≡ over operation (along operations (sequence (first ▸ append others (last ▸ none))))
+  before : parts_before t ≡ first ▸ others
+  left : left_of t ≡ over operation (along operations last)
+
+put_first : (h : Shape) (xs : List Name) (n : ℕ) (ts : Trees) (a q : Tree) → with_first (node h xs n (a ▸ ts)) q ≡ node h xs n (q ▸ ts)
+put_first h xs n none a q = refl
+put_first h xs n (t ▸ ts) a q = refl
+
+module _ (h : Shape) (xs : List Name) (n : ℕ) (a : Tree) (ts : Trees) (o : Operated (node h xs n (a ▸ ts))) where
+  abbrev whole : Tree
+  whole = node h xs n (a ▸ ts)
+
+  plain : is_sequence_shape h ≡ false
+  plain = ap (λ t. is_sequence_shape (shape_of t)) o.is ∙ over_no_sequence o.operation a
+
+  before_is : parts_before whole ≡ parts_before a
+  before_is = ap (λ b. if b then but_last (children a) else parts_before a) plain
+
+  left_is : left_of whole ≡ over o.operation (left_of a)
+  left_is = ap (λ b. if b then last_of (children a) else node h xs n (left_of a ▸ ts)) plain ∙ sym (put_first h xs n ts a (left_of a)) ∙ o.other (left_of a)
+
+  -- the operand is the sequence
+  at_once : is_sequence a ≡ true → (us : Trees) → children (part a 0) ≡ us → has_several us ≡ true → takes_last_of whole us ≡ true → Reached whole
+  at_once is none f e k = absurd (true≢false (sym e))
+  at_once is (c ▸ none) f e k = absurd (true≢false (sym e))
+  at_once is (c ▸ (d ▸ us)) f e k =
+      let same : a ≡ sequence (c ▸ (d ▸ us)) = sequence_is a is ∙ ap sequence f in record {
+        operation = o.operation;
+        operations = [];
+        first = c;
+        others = but_last (d ▸ us);
+        last = last_of (d ▸ us);
+        takes = o.takes (last_of (d ▸ us)) k;
+        is = o.is ∙ ap (over o.operation) (same ∙ ap (λ vs. sequence (c ▸ vs)) (ended d us));
+        before = before_is ∙ ap parts_before same;
+        left = left_is ∙ ap (λ t. over o.operation (left_of t)) same;
+      }
+
+  -- or it is reached from the operand
+  further : Reached a → Reached whole
+  further r = record {
+    operation = o.operation;
+    operations = r.operation ∷ r.operations;
+    first = r.first;
+    others = r.others;
+    last = r.last;
+    takes = r.takes;
+    is = o.is ∙ ap (over o.operation) r.is;
+    before = before_is ∙ r.before;
+    left = left_is ∙ ap (over o.operation) r.left;
+  }
+
+or_else : (b c : Bool) → b || c ≡ true → b ≡ false → c ≡ true
+or_else true c e f = absurd (true≢false f)
+or_else false c e f = e
+
+-- at once, or from the operand
+by_operand : (h : Shape) (xs : List Name) (n : ℕ) (a : Tree) (ts : Trees) → Operated (node h xs n (a ▸ ts)) → (reaches_sequence a ≡ true → Reached a) → (b : Bool) → gives_parts (node h xs n (a ▸ ts)) a ≡ b → b || reaches_sequence a ≡ true → Reached (node h xs n (a ▸ ts))
+by_operand h xs n a ts o below false f k = further h xs n a ts o (below k)
+by_operand h xs n a ts o below true f k =
+    let (is, parts) = and_parts (is_sequence a) (has_several (children (part a 0)) && takes_last_of (node h xs n (a ▸ ts)) (children (part a 0))) f in
+    let (several, takes) = and_parts (has_several (children (part a 0))) (takes_last_of (node h xs n (a ▸ ts)) (children (part a 0))) parts in
+    at_once h xs n a ts o is (children (part a 0)) refl several takes
+
+reached : (t : Tree) → reaches_sequence t ≡ true → Reached t
+reached (node h xs n none) e = absurd (true≢false (sym e))
+reached (node h xs n (a ▸ ts)) e =
+    let (operates, rest) = and_parts (is_operation (node h xs n (a ▸ ts))) (gives_parts (node h xs n (a ▸ ts)) a || reaches_sequence a) e in
+    by_operand h xs n a ts (operated (node h xs n (a ▸ ts)) operates) (λ k. reached a k) (gives_parts (node h xs n (a ▸ ts)) a) refl rest
+
 lifted_row : (s : Seat) (t : Tree) → is_lifted s t ≡ true → Row20 s t (lifted t)
 lifted_row s t e =
-    let (seated, rest) = and_parts (is_open_seat s) (is_operation t && gives_parts t (part t 0)) e in
-    let (operates, nested) = and_parts (is_operation t) (gives_parts t (part t 0)) rest in
-    let (is, parts) = and_parts (is_sequence (part t 0)) (has_several (parts_of_first t) && takes_last_of t (parts_of_first t)) nested in
-    let (several, takes) = and_parts (has_several (parts_of_first t)) (takes_last_of t (parts_of_first t)) parts in
-    go (operated t operates) seated is (parts_of_first t) refl several takes
-  where
-    go : Operated t → is_open_seat s ≡ true → is_sequence (part t 0) ≡ true → (ts : Trees) → parts_of_first t ≡ ts → has_several ts ≡ true → takes_last_of t (parts_of_first t) ≡ true → Row20 s t (lifted t)
-    go o seated is (a ▸ (b ▸ us)) f h k = record {
-      operation = o.operation;
-      first = a;
-      others = but_last (b ▸ us);
-      last = last_of (b ▸ us);
+    let (seated, reaches) = and_parts (is_open_seat s) (reaches_sequence t) e in
+    let r = reached t reaches in record {
+      operation = r.operation;
+      operations = r.operations;
+      first = r.first;
+      others = r.others;
+      last = r.last;
       seated = seated;
-      takes = o.takes (last_of (b ▸ us)) (sym (ap (takes_last_of t) f) ∙ k);
-      shape = o.is ∙ ap (over o.operation) (sequence_is (part t 0) is ∙ ap sequence (f ∙ ap (λ vs. a ▸ vs) (ended b us)));
-      written = ap (λ vs. sequence (append (but_last vs) (with_first t (last_of vs) ▸ none))) f ∙ ap (λ u. sequence (a ▸ append (but_last (b ▸ us)) (u ▸ none))) (o.other (last_of (b ▸ us)));
+      takes = r.takes;
+      shape = r.is;
+      written = ap (λ ts. sequence (append ts (left_of t ▸ none))) r.before ∙ ap (λ u. sequence (r.first ▸ append r.others (u ▸ none))) r.left;
     }
-    go o seated is none f h k = absurd (true≢false (sym h))
-    go o seated is (a ▸ none) f h k = absurd (true≢false (sym h))
 
 pub lifted_applied : (s : Seat) (t : Tree) → is_lifted s t ≡ true → Applied Gives Rests (Expr s) t (lifted t) true
 lifted_applied s t e = let row = lifted_row s t e in moves_once Gives (Expr s) t (lifted t) (record { row = inl row; lighter = lighter (Expr s) t (lifted t) (inl row) })
@@ -172,22 +259,81 @@ several : (p : Tree) (ps : Trees) (l : Tree) → has_several (p ▸ append ps (l
 several p none l = refl
 several p (c ▸ ps) l = refl
 
-opened : (s : Seat) (p : Tree) (ps : Trees) (l : Tree) (takes : Bool) → is_open_seat s ≡ true → takes ≡ true → is_open_seat s && (has_several (p ▸ append ps (l ▸ none)) && takes) ≡ true
-opened s p ps l takes h k = both_true (is_open_seat s) (has_several (p ▸ append ps (l ▸ none)) && takes) h (both_true (has_several (p ▸ append ps (l ▸ none))) takes (several p ps l) k)
-
-lifts : (s : Seat) (r : Operation) (p : Tree) (ps : Trees) (l : Tree) → is_open_seat s ≡ true → takes_last r l ≡ true → is_lifted s (over r (sequence (p ▸ append ps (l ▸ none)))) ≡ true
-lifts s (Decides o b) p ps l h k = opened s p ps l true h refl
-lifts s (Chooses b c) p ps l h k = opened s p ps l true h refl
-lifts s Negates p ps l h k = opened s p ps l true h refl
-lifts s (Operates o b) p ps l h k = opened s p ps l true h refl
-lifts s (Converts Plus) p ps l h k = opened s p ps l true h refl
-lifts s (Converts Minus) p ps l h k = opened s p ps l (not (is_number (last_of (append (p ▸ ps) (l ▸ none))))) h (ap (λ t. not (is_number t)) (last_append (p ▸ ps) l) ∙ k)
-lifts s (Converts Complement) p ps l h k = opened s p ps l true h refl
-lifts s (Yields d) p ps l h k = opened s p ps l true h refl
-
 or_true : (b c : Bool) → c ≡ true → b || c ≡ true
 or_true true c e = refl
 or_true false c e = e
+
+is_one : (r : Operation) (q : Tree) → is_operation (over r q) ≡ true
+is_one (Decides o b) q = refl
+is_one (Chooses b c) q = refl
+is_one Negates q = refl
+is_one (Operates o b) q = refl
+is_one (Converts Plus) q = refl
+is_one (Converts Minus) q = refl
+is_one (Converts Complement) q = refl
+is_one (Yields d) q = refl
+
+gives : (r : Operation) (p : Tree) (ps : Trees) (l : Tree) → takes_last r l ≡ true → gives_parts (over r (sequence (p ▸ append ps (l ▸ none)))) (sequence (p ▸ append ps (l ▸ none))) ≡ true
+gives r p ps l k = both_true (has_several (p ▸ append ps (l ▸ none))) (takes_last_of (over r (sequence (p ▸ append ps (l ▸ none)))) (p ▸ append ps (l ▸ none))) (several p ps l) (taken r k)
+  where
+    taken : (r : Operation) → takes_last r l ≡ true → takes_last_of (over r (sequence (p ▸ append ps (l ▸ none)))) (p ▸ append ps (l ▸ none)) ≡ true
+    taken (Converts Minus) k = ap (λ t. not (is_number t)) (last_append (p ▸ ps) l) ∙ k
+    taken (Decides o b) k = refl
+    taken (Chooses b c) k = refl
+    taken Negates k = refl
+    taken (Operates o b) k = refl
+    taken (Converts Plus) k = refl
+    taken (Converts Complement) k = refl
+    taken (Yields d) k = refl
+
+by_first : (r : Operation) (q : Tree) → gives_parts (over r q) q || reaches_sequence q ≡ true → reaches_sequence (over r q) ≡ true
+by_first (Decides o b) q e = e
+by_first (Chooses b c) q e = e
+by_first Negates q e = e
+by_first (Operates o b) q e = e
+by_first (Converts Plus) q e = e
+by_first (Converts Minus) q e = e
+by_first (Converts Complement) q e = e
+by_first (Yields d) q e = e
+
+reaches : (r : Operation) (rs : List Operation) (p : Tree) (ps : Trees) (l : Tree) → takes_along r rs l ≡ true → reaches_sequence (over r (along rs (sequence (p ▸ append ps (l ▸ none))))) ≡ true
+reaches r [] p ps l k = by_first r (sequence (p ▸ append ps (l ▸ none))) (ap (λ b. b || reaches_sequence (sequence (p ▸ append ps (l ▸ none)))) (gives r p ps l k))
+reaches r (o ∷ rs) p ps l k =
+    let inner = over o (along rs (sequence (p ▸ append ps (l ▸ none)))) in
+    by_first r inner (or_true (gives_parts (over r inner) inner) (reaches_sequence inner) (reaches o rs p ps l k))
+
+lifts : (s : Seat) (r : Operation) (rs : List Operation) (p : Tree) (ps : Trees) (l : Tree) → is_open_seat s ≡ true → takes_along r rs l ≡ true → is_lifted s (over r (along rs (sequence (p ▸ append ps (l ▸ none))))) ≡ true
+lifts s r rs p ps l h k = both_true (is_open_seat s) (reaches_sequence (over r (along rs (sequence (p ▸ append ps (l ▸ none)))))) h (reaches r rs p ps l k)
+
+-- ---- a look along first operands, and what is taken out there
+
+pub part_fewer : (t : Tree) → 0 < count (children t) → node_count (part t 0) < node_count t
+part_fewer (node h xs n none) e = absurd (omega (arith, e))
+part_fewer (node h xs n (t ▸ ts)) e = omega arith
+
+pub reaches_by : (t : Tree) → reaches_sequence t ≡ (is_operation t && (gives_parts t (part t 0) || reaches_sequence (part t 0)))
+reaches_by (node h xs n none) = sym (go (is_operation (node h xs n none)))
+  where
+    go : (b : Bool) → b && false ≡ false
+    go true = refl
+    go false = refl
+reaches_by (node h xs n (a ▸ ts)) = refl
+
+pub split_leaf : (t : Tree) → count (children t) == 0 ≡ true → (parts_before t ≡ none) × (left_of t ≡ t)
+split_leaf (node h xs n none) e = (refl, refl)
+split_leaf (node h xs n (a ▸ ts)) e = let is = eqb-true (suc (count ts)) 0 e in absurd (omega (arith, is))
+
+pub some_children : (t : Tree) → count (children t) == 0 ≡ false → 0 < count (children t)
+some_children (node h xs n none) e = absurd (true≢false e)
+some_children (node h xs n (a ▸ ts)) e = omega arith
+
+pub split_here : (t : Tree) → 0 < count (children t) → is_sequence_shape (shape_of t) ≡ true → (parts_before t ≡ but_last (children (part t 0))) × (left_of t ≡ last_of (children (part t 0)))
+split_here (node h xs n none) k e = absurd (omega (arith, k))
+split_here (node h xs n (a ▸ ts)) k e = (ap (λ b. if b then but_last (children a) else parts_before a) e, ap (λ b. if b then last_of (children a) else node h xs n (left_of a ▸ ts)) e)
+
+pub split_below : (t : Tree) → 0 < count (children t) → is_sequence_shape (shape_of t) ≡ false → (parts_before t ≡ parts_before (part t 0)) × (left_of t ≡ with_children t (with_child (children t) 0 (left_of (part t 0))))
+split_below (node h xs n none) k e = absurd (omega (arith, k))
+split_below (node h xs n (a ▸ ts)) k e = (ap (λ b. if b then but_last (children a) else parts_before a) e, ap (λ b. if b then last_of (children a) else node h xs n (left_of a ▸ ts)) e)
 
 found : (before : Trees) (t : Tree) (after : Trees) → is_several t ≡ true → any_of is_several (append before (t ▸ after)) ≡ true
 found none t after e = ap (λ b. b || any_of is_several after) e
@@ -266,7 +412,7 @@ idle_parts : (a : Tree) → is_effect_free a ≡ true → leaves_nothing a ≡ t
 idle_parts a e f g = both_true (is_effect_free a) (leaves_nothing a && weighs a) e (both_true (leaves_nothing a) (weighs a) f g)
 
 pub rests : (s : Seat) (t : Tree) → is_lifted s t ≡ false → is_nested t ≡ false → loses_part s t ≡ false → Rests (Expr s) t
-rests s t h k l w (inl r) = true≢false (sym (lifts s r.operation r.first r.others r.last r.seated r.takes) ∙ sym (ap (is_lifted s) r.shape) ∙ h)
+rests s t h k l w (inl r) = true≢false (sym (lifts s r.operation r.operations r.first r.others r.last r.seated r.takes) ∙ sym (ap (is_lifted s) r.shape) ∙ h)
 rests s t h k l w (inr (inl r)) = true≢false (sym (found r.before (sequence (r.first ▸ (r.second ▸ r.others))) r.after refl) ∙ sym (ap is_nested r.shape) ∙ k)
 rests s t h k l w (inr (inr (inl r))) = true≢false (sym (loses_idle s r.before r.idle r.next r.after (idle_parts r.idle r.effect_free r.dropped r.heavy) r.several) ∙ sym (ap (loses_part s) r.shape) ∙ l)
 rests s t h k l w (inr (inr (inr r))) = true≢false (sym (both_true (takes_alone s) (is_idle r.idle && stays_alone s r.last) r.seated (both_true (is_idle r.idle) (stays_alone s r.last) (idle_parts r.idle r.effect_free r.dropped r.heavy) r.stays)) ∙ sym (ap (loses_part s) r.shape) ∙ l)

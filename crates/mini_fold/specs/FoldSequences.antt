@@ -1,5 +1,5 @@
--- The rewrites 20 and 21: `(a, b) && c` becomes `a, b && c`, `-(a, b)` becomes `a, -b`, `a, (b, c)` becomes `a, b, c`, and `a(), 1, b()`
--- becomes `a(), b()`.
+-- The rewrites 20 and 21: `(a, b) && c` becomes `a, b && c`, `-(a, b)` becomes `a, -b`, `(a, b) + c < d` becomes `a, b + c < d`,
+-- `a, (b, c)` becomes `a, b, c`, and `a(), 1, b()` becomes `a(), b()`.
 use Rattle.std.specs.Prelude.{ℕ, Bool, true, false, not, ◌&&◌, ◌||◌, nat_eq, nat_le, Option, Some, is_some, if◌then◌else◌}
 use Rattle.mini_model.specs.declared.operator.UnaryOperator.{UnaryOperator}
 use Rattle.mini_model.specs.declared.operator.UnaryOperator.TheVariants.{UnaryPlus, UnaryNegation, BitwiseNot}
@@ -7,10 +7,10 @@ use Rattle.mini_model.specs.declared.place.Position.{Position}
 use Rattle.mini_model.specs.declared.seat.Seat.{Seat}
 use Rattle.mini_model.specs.declared.shape.Shape.{Shape}
 use Rattle.mini_model.specs.declared.shape.Shape.TheVariants as shape
-use Rattle.mini_model.specs.Tree.{Tree, Trees, none, ◌▸◌, absent, shape_of, children, count, child_or_absent, first_or_absent}
+use Rattle.mini_model.specs.Tree.{Tree, Trees, node, none, ◌▸◌, absent, shape_of, children, count, child_or_absent, first_or_absent}
 use Rattle.mini_model.specs.Paths.{append}
-use Rattle.mini_node.specs.Children.{part, is_bare, like, first_children, rest_children, with_inserted, without}
-use Rattle.mini_node.specs.Kinds.{logical_operator, binary_operator, unary_operator, is_conditional, is_negation, is_sequence, sequence}
+use Rattle.mini_node.specs.Children.{part, is_bare, first_children, rest_children, without}
+use Rattle.mini_node.specs.Kinds.{logical_operator, binary_operator, unary_operator, is_conditional, is_negation, is_sequence_shape, is_sequence, sequence}
 use Rattle.mini_terms.specs.Folds.{is_effect_free}
 use Rattle.mini_terms.specs.Parts.{is_number, leaves_nothing, weighs}
 use Rattle.mini_rows.specs.Sequences.{is_open_seat, takes_alone, stays_alone, SequenceRow, SequenceContracts}
@@ -68,21 +68,28 @@ takes_last_of t ts = not (is_minus (unary_operator t)) || not (is_number (last_o
 abbrev pub gives_parts : Tree → Tree → Bool
 gives_parts t operand = is_sequence operand && (has_several (children (part operand 0)) && takes_last_of t (children (part operand 0)))
 
--- such a node over a sequence, which is to be lifted out here
+-- such nodes one in the first operand of the other, and a sequence in that of the last, whose last part may stand there
+abbrev pub reaches_sequence : Tree → Bool
+reaches_sequence (node h xs n none) = false
+reaches_sequence (node h xs n (a ▸ ts)) = is_operation (node h xs n (a ▸ ts)) && (gives_parts (node h xs n (a ▸ ts)) a || reaches_sequence a)
+
+-- which is to be lifted out here
 abbrev pub is_lifted : Seat → Tree → Bool
-is_lifted s t = is_open_seat s && (is_operation t && gives_parts t (part t 0))
+is_lifted s t = is_open_seat s && reaches_sequence t
 
--- the node over another first operand
-abbrev pub with_first : Tree → Tree → Tree
-with_first t q = like t (with_inserted (without (children t) 0) 0 q)
+-- the parts but the last of the sequence that it is, or of the one that it reaches
+abbrev pub parts_before : Tree → Trees
+parts_before (node h xs n none) = none
+parts_before (node h xs n (a ▸ ts)) = if is_sequence_shape h then but_last (children a) else parts_before a
 
--- the parts of the first operand
-abbrev pub parts_of_first : Tree → Trees
-parts_of_first t = children (part (part t 0) 0)
+-- and what is left without them
+abbrev pub left_of : Tree → Tree
+left_of (node h xs n none) = node h xs n none
+left_of (node h xs n (a ▸ ts)) = if is_sequence_shape h then last_of (children a) else node h xs n (left_of a ▸ ts)
 
 -- `a, b && c` of `(a, b) && c`
 abbrev pub lifted : Tree → Tree
-lifted t = sequence (append (but_last (parts_of_first t)) (with_first t (last_of (parts_of_first t)) ▸ none))
+lifted t = sequence (append (parts_before t) (left_of t ▸ none))
 
 -- ---- 21
 

@@ -1,25 +1,29 @@
 -- What is written by De Morgan's laws is what a row says, and where nothing is written no row makes the statement lighter.
-use Rattle.std.proofs.Common.{◌≡◌, ◌<◌, ◌^◌, Bool, true, false, refl, sym, ap, subst, ◌∙◌, arith}
-use Rattle.std.specs.Prelude.{not, ◌&&◌, nat_lt, Option, Some, None, is_some, unwrap_or, if◌then◌else◌}
-use Rattle.std.proofs.lemmas.Bool.{and_parts}
+use Rattle.std.proofs.Common.{◌≡◌, ℕ, zero, ◌<◌, ◌≤◌, ◌+◌, ◌^◌, Bool, true, false, [], refl, sym, ap, subst, ◌∙◌, true≢false, arith}
+use Rattle.std.specs.Prelude.{not, ◌&&◌, ◌||◌, nat_lt, Option, Some, None, is_some, unwrap_or, if◌then◌else◌}
+use Rattle.std.proofs.lemmas.Bool.{and_parts, false≢true}
 use borrow.Author.Tests.{ltb-true, ltb-false}
 use Rattle.mini_model.specs.declared.operator.LogicalOperator.{LogicalOperator}
 use Rattle.mini_model.specs.declared.place.Position.TheVariants.{Expr, Stmt}
 use Rattle.mini_model.specs.declared.seat.Seat.{Seat}
 use Rattle.mini_model.specs.declared.seat.StmtSeat.{StmtSeat}
-use Rattle.mini_model.specs.Tree.{Tree, logical, expression_statement}
+use Rattle.mini_model.specs.declared.shape.Shape.TheVariants as shape
+use Rattle.mini_model.specs.Tree.{Tree, node, none, ◌▸◌, children, logical}
 use Rattle.mini_model.specs.Position.{is_and_or, statement_expression_seat, left_operand_seat}
 use Rattle.mini_model.specs.Terms.{turned}
 use Rattle.mini_model.specs.Weight.{weight, capped}
-use Rattle.mini_node.specs.Children.{part}
+use Rattle.mini_node.specs.Children.{part, with_child, with_part}
+use Rattle.mini_node.specs.Lends.{with_children}
 use Rattle.mini_node.specs.Kinds.{logical_operator, is_logical, is_expression_statement}
 use Rattle.mini_node.specs.Made.{logical_is, expression_statement_is}
-use Rattle.mini_rows.specs.DeMorgan.{turned_logical, Row50, DeMorganContracts}
+use Rattle.mini_rows.specs.DeMorgan.{turned_logical, VoidPlace, Alone, Begins, Turns, void_of, Row50, DeMorganContracts}
+use Rattle.mini_rows.specs.Lists.{for_loop}
 use Rattle.mini_tree.specs.Rule.{Applied}
 use Rattle.mini_tree.proofs.Reaching.{moves_once}
 use Rattle.mini_rows.specs.Negations.{lightest}
 use Rattle.mini_logic.specs.MinimizeNegation.{told_lightest}
-use Rattle.mini_logic.specs.DeMorganForVoidExpr.{turned_over, turns, written_by, written, Gives, Rests, WrittenIsRow, UnwrittenRests}
+use Rattle.mini_logic.specs.DeMorganForVoidExpr.{turned_over, turns_by, is_turned, turned_by, turned_part, begins_void, turns_first, turns_third, turned_at, written, Gives, Rests, WrittenIsRow, UnwrittenRests}
+use Rattle.mini_logic.specs.MinimizeForStatement.{is_for}
 use Rattle.mini_logic.proofs.MinimizeNegation.{lightest_agrees}
 use Rattle.mini_logic.proofs.Weights.{weight_logical}
 
@@ -44,48 +48,145 @@ pub not_so : (b : Bool) → not b ≡ true → b ≡ false
 not_so true e = absurd (cc e)
 not_so false e = refl
 
-turned_row : (q : StmtSeat) (o : LogicalOperator) (x : Tree) → x ≡ logical o (part x 0) (part x 1) → turns o x ≡ true → DeMorganContracts (Stmt q) (expression_statement x) (expression_statement (turned_over o x))
-turned_row q o x is h =
-    let (asked, less) = and_parts (is_and_or o && not (is_logical o (part x 1))) _ h in
-    let (tells, apart) = and_parts (is_and_or o) _ asked in
-    let falls = ltb-true _ _ less in
-    record {
-      row = record { operator = o; a = part x 0; b = part x 1; tells = tells; apart = not_so (is_logical o (part x 1)) apart; shape = ap expression_statement is; written = ap expression_statement (made_same o (part x 0) (part x 1) (omega (arith, falls))) };
-      lighter = omega (arith, falls);
-    }
+-- ---- what turns where nobody asks for its value
 
-pub written_is_row : WrittenIsRow
-written_is_row q n w e = go (is_expression_statement n) refl e
+-- it is a logical expression, and what it is turned into is lighter
+record TurnsHere (x : Tree) : Type 0 where
+  operator : LogicalOperator
+  tells : is_and_or operator ≡ true
+  apart : is_logical operator (part x 1) ≡ false
+  is : x ≡ logical operator (part x 0) (part x 1)
+  turned : turned_part x ≡ turned_logical operator (part x 0) (part x 1)
+  falls : weight (Expr statement_expression_seat) (turned_part x) < weight (Expr statement_expression_seat) x
+
+turns_here : (x : Tree) → is_turned x ≡ true → TurnsHere x
+turns_here x e = go (logical_operator x) refl e
   where
-    by : (o : LogicalOperator) → logical_operator (part n 0) ≡ Some o → (b : Bool) → turns o (part n 0) ≡ b → (if b then Some (expression_statement (turned_over o (part n 0))) else None) ≡ Some w → DeMorganContracts (Stmt q) (expression_statement (part n 0)) w
-    by o h true k e = subst (DeMorganContracts (Stmt q) (expression_statement (part n 0))) (some_is (expression_statement (turned_over o (part n 0))) w e) (turned_row q o (part n 0) (logical_is (part n 0) o h) k)
-    by o h false k e = absurd (cc e)
-
-    of : (x : Option LogicalOperator) → logical_operator (part n 0) ≡ x → written_by x (part n 0) ≡ Some w → DeMorganContracts (Stmt q) (expression_statement (part n 0)) w
-    of (Some o) h e = by o h (turns o (part n 0)) refl e
-    of None h e = absurd (cc e)
-
-    go : (b : Bool) → is_expression_statement n ≡ b → (if b then written_by (logical_operator (part n 0)) (part n 0) else None) ≡ Some w → DeMorganContracts (Stmt q) n w
-    go true h e = subst (λ t. DeMorganContracts (Stmt q) t w) (sym (expression_statement_is n h)) (of (logical_operator (part n 0)) refl e)
-    go false h e = absurd (cc e)
+    go : (p : Option LogicalOperator) → logical_operator x ≡ p → turns_by p x ≡ true → TurnsHere x
+    go None k e = absurd (true≢false (sym e))
+    go (Some o) k h =
+        let (told, less) = and_parts (is_and_or o && not (is_logical o (part x 1))) _ h in
+        let (tells, apart) = and_parts (is_and_or o) _ told in
+        let falls = ltb-true _ _ less in
+        let written : turned_part x ≡ turned_over o x = ap (λ p. turned_by p x) k in
+        record {
+          operator = o;
+          tells = tells;
+          apart = not_so (is_logical o (part x 1)) apart;
+          is = logical_is x o k;
+          turned = written ∙ made_same o (part x 0) (part x 1) (omega (arith, falls));
+          falls = omega (arith, falls, ap (weight (Expr statement_expression_seat)) written);
+        }
 
 pub asked : (o : LogicalOperator) (b : Tree) → is_and_or o ≡ true → is_logical o b ≡ false → is_and_or o && not (is_logical o b) ≡ true
 asked o b h k = ap (λ z. z && not (is_logical o b)) h ∙ ap not k
 
-heavy_row : (o : LogicalOperator) (a b : Tree) → is_and_or o ≡ true → is_logical o b ≡ false → written (expression_statement (logical o a b)) ≡ None → nat_lt (capped (weight (Expr statement_expression_seat) (made o a b))) (capped (weight (Expr statement_expression_seat) (logical o a b))) ≡ false
-heavy_row o a b h k e = go (nat_lt (capped (weight (Expr statement_expression_seat) (made o a b))) (capped (weight (Expr statement_expression_seat) (logical o a b)))) (sym (ap (λ d. if d && nat_lt (capped (weight (Expr statement_expression_seat) (made o a b))) (capped (weight (Expr statement_expression_seat) (logical o a b))) then Some (expression_statement (made o a b)) else None) (asked o b h k)) ∙ e)
+-- and what is lighter turns
+lighter_is_turned : (o : LogicalOperator) (a b : Tree) → is_and_or o ≡ true → is_logical o b ≡ false → weight (Expr statement_expression_seat) (turned_logical o a b) < weight (Expr statement_expression_seat) (logical o a b) → weight (Expr statement_expression_seat) (logical o a b) < 18446744073709551616 → is_turned (logical o a b) ≡ true
+lighter_is_turned o a b h k less small =
+    ap (λ c. c && nat_lt (capped (weight (Expr statement_expression_seat) (made o a b))) (capped (weight (Expr statement_expression_seat) (logical o a b)))) (asked o b h k)
+    ∙ go (nat_lt (capped (weight (Expr statement_expression_seat) (made o a b))) (capped (weight (Expr statement_expression_seat) (logical o a b)))) refl
   where
-    go : (d : Bool) → (if d then Some (expression_statement (made o a b)) else None) ≡ None → d ≡ false
-    go true e = absurd (cc e)
-    go false e = refl
+    go : (c : Bool) → nat_lt (capped (weight (Expr statement_expression_seat) (made o a b))) (capped (weight (Expr statement_expression_seat) (logical o a b))) ≡ c → c ≡ true
+    go true f = refl
+    go false f =
+        let same = ap (weight (Expr statement_expression_seat)) (row_same o a b (omega (arith, less, small))) in
+        let heavy = ltb-false _ _ f in
+        absurd (omega (arith, less, small, same, heavy))
+
+-- ---- where it stands
+
+pub part_put : (t : Tree) (i : ℕ) (x : Tree) → with_children t (with_child (children t) i x) ≡ with_part t i x
+part_put (node h xs n ts) i x = refl
+
+for_is : (t : Tree) → is_for t ≡ true → t ≡ for_loop (part t 0) (part t 1) (part t 2) (part t 3)
+for_is (node shape.ForStatement [] zero (a ▸ (b ▸ (c ▸ (d ▸ none))))) e = refl
+for_is t e = absurd (false≢true e)
+
+-- the statement with a part of it, and with another
+record Placed (n : Tree) (i : ℕ) : Type 0 where
+  place : VoidPlace
+  is : n ≡ void_of place (part n i)
+  other : (x : Tree) → with_part n i x ≡ void_of place x
+
+placed_first : (n : Tree) → begins_void n ≡ true → Placed n 0
+placed_first n h = go (is_expression_statement n) refl h
+  where
+    go : (b : Bool) → is_expression_statement n ≡ b → b || is_for n ≡ true → Placed n 0
+    go true e h = record { place = Alone; is = expression_statement_is n e; other = λ x. ap (λ t. with_part t 0 x) (expression_statement_is n e) }
+    go false e h = record { place = Begins (part n 1) (part n 2) (part n 3); is = for_is n h; other = λ x. ap (λ t. with_part t 0 x) (for_is n h) }
+
+placed_third : (n : Tree) → is_for n ≡ true → Placed n 2
+placed_third n h = record { place = Turns (part n 0) (part n 1) (part n 3); is = for_is n h; other = λ x. ap (λ t. with_part t 2 x) (for_is n h) }
+
+-- it weighs what the part weighs more or less
+void_weighs : (q : StmtSeat) (v : VoidPlace) (x y : Tree) → weight (Stmt q) (void_of v x) + weight (Expr statement_expression_seat) y ≡ weight (Stmt q) (void_of v y) + weight (Expr statement_expression_seat) x
+void_weighs q Alone x y = omega arith
+void_weighs q (Begins t u b) x y = omega arith
+void_weighs q (Turns i t b) x y = omega arith
+
+turned_row : (q : StmtSeat) (n : Tree) (i : ℕ) → Placed n i → is_turned (part n i) ≡ true → DeMorganContracts (Stmt q) n (turned_at i n)
+turned_row q n i p e =
+    let t = turns_here (part n i) e in
+    let made = p.other (turned_part (part n i)) in
+    record {
+      row = record {
+        place = p.place;
+        operator = t.operator;
+        a = part (part n i) 0;
+        b = part (part n i) 1;
+        tells = t.tells;
+        apart = t.apart;
+        shape = p.is ∙ ap (void_of p.place) t.is;
+        written = made ∙ ap (void_of p.place) t.turned;
+      };
+      lighter = omega (arith, ap (weight (Stmt q)) p.is, ap (weight (Stmt q)) made, void_weighs q p.place (part n i) (turned_part (part n i)), t.falls);
+    }
+
+pub written_is_row : WrittenIsRow
+written_is_row q n w e = go (turns_first n) (turns_third n) refl refl e
+  where
+    go : (b c : Bool) → turns_first n ≡ b → turns_third n ≡ c → (if b then Some (turned_at 0 n) else (if c then Some (turned_at 2 n) else None)) ≡ Some w → DeMorganContracts (Stmt q) n w
+    go true c h k e =
+        let (there, turns) = and_parts (begins_void n) (is_turned (part n 0)) h in
+        subst (DeMorganContracts (Stmt q) n) (some_is (turned_at 0 n) w e) (turned_row q n 0 (placed_first n there) turns)
+    go false true h k e =
+        let (there, turns) = and_parts (is_for n) (is_turned (part n 2)) k in
+        subst (DeMorganContracts (Stmt q) n) (some_is (turned_at 2 n) w e) (turned_row q n 2 (placed_third n there) turns)
+    go false false h k e = absurd (cc e)
+
+-- ---- where nothing is written
+
+some_way : (b c : Bool) (x y : Tree) → (if b then Some x else (if c then Some y else None)) ≡ None → (b ≡ false) × (c ≡ false)
+some_way true c x y e = absurd (cc e)
+some_way false true x y e = absurd (cc e)
+some_way false false x y e = (refl, refl)
+
+not_first : (n : Tree) → written n ≡ None → turns_first n ≡ false
+not_first n e = (some_way (turns_first n) (turns_third n) (turned_at 0 n) (turned_at 2 n) e).0
+
+not_third : (n : Tree) → written n ≡ None → turns_third n ≡ false
+not_third n e = (some_way (turns_first n) (turns_third n) (turned_at 0 n) (turned_at 2 n) e).1
+
+place_turns : (v : VoidPlace) (x : Tree) → is_turned x ≡ true → written (void_of v x) ≡ None → ⊥
+place_turns Alone x h e = true≢false (sym h ∙ not_first (void_of Alone x) e)
+place_turns (Begins t u b) x h e = true≢false (sym h ∙ not_first (void_of (Begins t u b) x) e)
+place_turns (Turns i t b) x h e = true≢false (sym h ∙ not_third (void_of (Turns i t b) x) e)
+
+void_within : (q : StmtSeat) (v : VoidPlace) (x : Tree) → weight (Expr statement_expression_seat) x ≤ weight (Stmt q) (void_of v x)
+void_within q Alone x = omega arith
+void_within q (Begins t u b) x = omega arith
+void_within q (Turns i t b) x = omega arith
 
 missed : (q : StmtSeat) (n w : Tree) → Row50 n w → written n ≡ None → weight (Stmt q) n < 2 ^ 64 → weight (Stmt q) w < weight (Stmt q) n → ⊥
 missed q n w r e small less =
+    let x : Tree = logical r.operator r.a r.b in
+    let y : Tree = turned_logical r.operator r.a r.b in
     let whole = ap (weight (Stmt q)) r.shape in
     let row = ap (weight (Stmt q)) r.written in
-    let same = ap (weight (Expr statement_expression_seat)) (row_same r.operator r.a r.b (omega (arith, small, less, row))) in
-    let heavy = ltb-false _ _ (heavy_row r.operator r.a r.b r.tells r.apart (sym (ap written r.shape) ∙ e)) in
-    omega (arith, small, less, whole, row, same, heavy)
+    let change = void_weighs q r.place x y in
+    let within = void_within q r.place x in
+    place_turns r.place x (lighter_is_turned r.operator r.a r.b r.tells r.apart (omega (arith, less, whole, row, change)) (omega (arith, small, whole, within))) (sym (ap written r.shape) ∙ e)
 
 pub unwritten_rests : UnwrittenRests
 unwritten_rests q n e small w c = missed q n w c.row e small c.lighter

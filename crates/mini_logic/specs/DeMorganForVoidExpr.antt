@@ -1,17 +1,18 @@
--- 50, `de_morgan_for_void_expr`: `!a && b;` becomes `a || b;`, and `!a || b;` `a && b;`, where that is lighter; and so of a
--- part of a sequence but the last.
+-- 50, `de_morgan_for_void_expr`: `!a && b;` becomes `a || b;`, and `!a || b;` `a && b;`, where that is lighter; and so of what a `for` begins
+-- with or does after each turn, and of a part of a sequence but the last.
 use Rattle.std.specs.Prelude.{◌≡◌, ◌<◌, ◌^◌, ℕ, Bool, false, not, ◌&&◌, ◌||◌, Option, Some, None, nat_lt, if◌then◌else◌}
 use Rattle.mini_model.specs.declared.operator.LogicalOperator.{LogicalOperator}
 use Rattle.mini_model.specs.declared.place.Position.{Position}
 use Rattle.mini_model.specs.declared.place.Position.TheVariants.{Expr, Stmt}
 use Rattle.mini_model.specs.declared.seat.StmtSeat.{StmtSeat}
-use Rattle.mini_model.specs.Tree.{Tree, Trees, none, ◌▸◌, child_or_absent, logical, expression_statement}
+use Rattle.mini_model.specs.Tree.{Tree, Trees, none, ◌▸◌, child_or_absent, logical}
 use Rattle.mini_model.specs.Position.{is_and_or, statement_expression_seat, left_operand_seat}
 use Rattle.mini_model.specs.Terms.{turned}
 use Rattle.mini_model.specs.Weight.{weight, capped}
-use Rattle.mini_node.specs.Children.{part, with_child}
+use Rattle.mini_node.specs.Children.{part, with_child, with_part}
 use Rattle.mini_node.specs.Kinds.{logical_operator, is_logical, is_expression_statement}
 use Rattle.mini_rows.specs.DeMorgan.{DeMorganContracts}
+use Rattle.mini_logic.specs.MinimizeForStatement.{is_for}
 use Rattle.mini_logic.specs.MinimizeNegation.{told_lightest}
 
 -- the left side negated under the other operator
@@ -21,16 +22,6 @@ turned_over o x = logical (turned o) (told_lightest (left_operand_seat (turned o
 -- which is lighter, and nothing is joined instead
 abbrev pub turns : LogicalOperator → Tree → Bool
 turns o x = (is_and_or o && not (is_logical o (part x 1))) && nat_lt (capped (weight (Expr statement_expression_seat) (turned_over o x))) (capped (weight (Expr statement_expression_seat) x))
-
-abbrev pub written_by : Option LogicalOperator → Tree → Option Tree
-written_by (Some o) x = if turns o x then Some (expression_statement (turned_over o x)) else None
-written_by None x = None
-
--- of a statement
-abbrev pub written : Tree → Option Tree
-written t = if is_expression_statement t then written_by (logical_operator (part t 0)) (part t 0) else None
-
--- ---- of a part of a sequence but the last
 
 abbrev pub turns_by : Option LogicalOperator → Tree → Bool
 turns_by (Some o) x = turns o x
@@ -46,6 +37,28 @@ turned_by None x = x
 -- `b || c()` of `!b && c()`
 abbrev pub turned_part : Tree → Tree
 turned_part x = turned_by (logical_operator x) x
+
+-- ---- of a statement, and of the head of a `for`
+
+-- what stands first in it is a value that nobody asks for
+abbrev pub begins_void : Tree → Bool
+begins_void t = is_expression_statement t || is_for t
+
+abbrev pub turns_first : Tree → Bool
+turns_first t = begins_void t && is_turned (part t 0)
+
+-- so is what a `for` does after each turn
+abbrev pub turns_third : Tree → Bool
+turns_third t = is_for t && is_turned (part t 2)
+
+-- with the part at this place turned
+abbrev pub turned_at : ℕ → Tree → Tree
+turned_at i t = with_part t i (turned_part (part t i))
+
+abbrev pub written : Tree → Option Tree
+written t = if turns_first t then Some (turned_at 0 t) else (if turns_third t then Some (turned_at 2 t) else None)
+
+-- ---- of a part of a sequence but the last
 
 -- one of them turns, and not the last
 abbrev pub turns_before_last : Trees → Bool

@@ -211,6 +211,9 @@ alike strict (one k) t r i = alike_in strict k t r i
 alike strict (one_or_absent k) t r i = one_alike strict k t r ∙ alike_in strict k t r i
 alike strict s t r i = absurd i
 
+pub as_statement : (strict : Bool) (s : Slot) (t : Tree) → is_read (shape_of t) ≡ true → is_plain (shape_of t) ≡ true → fits strict s t ≡ true → fits strict statement t ≡ true
+as_statement strict s t r p e = sym (alike strict s t p (taken strict s t r e)) ∙ e
+
 -- so it is enough that what is written fits as a statement
 pub fits_there : (strict : Bool) (s : Slot) (n w : Tree) → is_read (shape_of n) ≡ true → is_plain (shape_of n) ≡ true → is_plain (shape_of w) ≡ true → (fits strict statement n ≡ true → fits strict statement w ≡ true) → fits strict s n ≡ true → fits strict s w ≡ true
 fits_there strict s n w r p q f e =

@@ -1,5 +1,5 @@
 -- What a row of De Morgan's laws writes means the same.
-use Rattle.std.proofs.Common.{◌≡◌, ℕ, zero, suc, ◌<◌, Bool, true, false, [], refl, sym, ap, ◌∙◌, subst, true≢false, arith}
+use Rattle.std.proofs.Common.{◌≡◌, ℕ, zero, suc, ◌<◌, Bool, true, false, [], refl, sym, ap, ◌∙◌, subst, inr, true≢false, arith}
 use Rattle.std.specs.Prelude.{not, nat_eq, Option, if◌then◌else◌}
 use Rattle.std.proofs.lemmas.Bool.{eqb-true}
 use Rattle.mini_model.specs.declared.operator.LogicalOperator.{LogicalOperator}
@@ -29,12 +29,14 @@ use Rattle.mini_laws.proofs.Runs.{tail_stop, either_cong}
 use Rattle.mini_terms.proofs.Dropping.{after_cong}
 use Rattle.mini_terms.proofs.Frame.{gives_any}
 use Rattle.mini_terms.proofs.Opened.{and_opened, or_opened, statement_opened}
-use Rattle.mini_rows.specs.DeMorgan.{turned_logical, DeMorganRow, DeMorganContracts}
-use Rattle.mini_rows.specs.Lists.{sequence}
+use Rattle.mini_rows.specs.DeMorgan.{turned_logical, VoidPlace, Alone, Begins, Turns, void_of, DeMorganRow, DeMorganContracts}
+use Rattle.mini_rows.specs.Lists.{sequence, for_loop}
 use Rattle.mini_rows.specs.Negations.{lightest}
 use Rattle.mini_rows.proofs.BooleanMeaning.{then_same}
+use Rattle.mini_rows.proofs.ForPartMeaning.{update_weaker, begun_weaker, weaker_same}
 use Rattle.mini_rows.proofs.NegationMeaning.{Stands, stands_means, left_stands, lightest_stands}
 use Rattle.mini_rows.proofs.ListParts.{in_row, sequence_in_row}
+use Rattle.mini_rows.proofs.PlainRead.{plain_read}
 use Rattle.mini_rows.proofs.SequenceMeaning.{same_value}
 use Rattle.mini_rows.proofs.SpellMeaning.{tree_same}
 use Rattle.mini_rows.proofs.BooleanRuns.{value, negated_and, negated_or}
@@ -66,28 +68,64 @@ module _ (D : VariableSet) (e : Environment) where
       ∙ sym (negated_and D e a b Unused s)
   unused_alike Coalesce a b h s = absurd (true≢false (sym h))
 
-  statement_alike : (o : LogicalOperator) (a b : Tree) → is_and_or o ≡ true → (t : Option Tail) (ls : LabelSet) (s : State) → means e (expression_statement (logical o a b)) (Stat t) ls s ≡ means e (expression_statement (negated_logical o a b)) (Stat t) ls s
-  statement_alike o a b h t ls s =
-      statement_opened e (logical o a b) t ls s
-      ∙ ap (λ x. either x (λ u z. ok tt z) (λ y z. tail_stop t y z)) (unused_alike o a b h s)
-      ∙ sym (statement_opened e (negated_logical o a b) t ls s)
+-- ---- where nobody asks for its value
 
-module _ (q : StmtSeat) (o : LogicalOperator) (a b : Tree) (h : is_and_or o ≡ true) where
-  negated_by : (e : Environment) (D X : VariableSet) (d : Demand) → Fits (Stmt q) d → Same e D X d (expression_statement (logical o a b)) (expression_statement (negated_logical o a b))
-  negated_by e D X (Stat t) f = by_equality e D X (Stat t) (expression_statement (logical o a b)) (expression_statement (negated_logical o a b)) (λ ls s. statement_alike D e o a b h t ls s)
-  negated_by e D X d f = absurd f
+abbrev Place : Position
+Place = Expr statement_expression_seat
 
-  inside_step : Step Stands (Stmt q) (expression_statement (negated_logical o a b)) (expression_statement (turned_logical o a b))
-  inside_step =
-      let left = left_operand_seat (turned o) statement_expression_seat in
-      inside (Stmt q) shape.ExpressionStatement [] 0 (negated_logical o a b ▸ none) (turned_logical o a b ▸ none)
-      (first (child_position shape.ExpressionStatement (Stmt q) 1) (negated_logical o a b) (turned_logical o a b) none (here (Expr statement_expression_seat) (negated_logical o a b) (turned_logical o a b) (left_stands (turned o) statement_expression_seat (negation a) (lightest left a) b (lightest_stands left a))))
+module _ (o : LogicalOperator) (a b : Tree) (h : is_and_or o ≡ true) where
+  abbrev read_there : Tree
+  read_there = logical o a b
 
-  turned_same : SameAt (Stmt q) (expression_statement (logical o a b)) (expression_statement (turned_logical o a b))
-  turned_same =
-      then_same (Stmt q) (expression_statement (logical o a b)) (expression_statement (negated_logical o a b)) (expression_statement (turned_logical o a b))
-      (record { by = negated_by })
-      (any_step_same Stands stands_means (Stmt q) (expression_statement (negated_logical o a b)) (expression_statement (turned_logical o a b)) inside_step)
+  abbrev negated_there : Tree
+  negated_there = negated_logical o a b
+
+  abbrev turned_there : Tree
+  turned_there = turned_logical o a b
+
+  statement_alike : (e : Environment) (t : Option Tail) (ls : LabelSet) (s : State) → means e (expression_statement read_there) (Stat t) ls s ≡ means e (expression_statement negated_there) (Stat t) ls s
+  statement_alike e t ls s =
+      statement_opened e read_there t ls s
+      ∙ ap (λ x. either x (λ u z. ok tt z) (λ y z. tail_stop t y z)) (unused_alike nothing e o a b h s)
+      ∙ sym (statement_opened e negated_there t ls s)
+
+  left_turned : Stands Place negated_there turned_there
+  left_turned = let left = left_operand_seat (turned o) statement_expression_seat in left_stands (turned o) statement_expression_seat (negation a) (lightest left a) b (lightest_stands left a)
+
+  module _ (q : StmtSeat) where
+    negated_by : (e : Environment) (D X : VariableSet) (d : Demand) → Fits (Stmt q) d → Same e D X d (expression_statement read_there) (expression_statement negated_there)
+    negated_by e D X (Stat t) f = by_equality e D X (Stat t) (expression_statement read_there) (expression_statement negated_there) (λ ls s. statement_alike e t ls s)
+    negated_by e D X d f = absurd f
+
+    -- the `!` is written first
+    place_alike : (v : VoidPlace) → SameAt (Stmt q) (void_of v read_there) (void_of v negated_there)
+    place_alike Alone = record { by = negated_by }
+    place_alike (Begins t u c) =
+        weaker_same q (for_loop read_there t u c) (for_loop negated_there t u c)
+        (λ e l r s. begun_weaker read_there negated_there t u c (λ e z. inr (unused_alike nothing e o a b h z)) (plain_read read_there refl) e l r s (plain_read negated_there refl))
+    place_alike (Turns i t c) = weaker_same q (for_loop i t read_there c) (for_loop i t negated_there c) (λ e l r s. update_weaker i t read_there negated_there c (λ e z. inr (unused_alike nothing e o a b h z)) e l r s)
+
+    place_step : (v : VoidPlace) → Step Stands (Stmt q) (void_of v negated_there) (void_of v turned_there)
+    place_step Alone = inside (Stmt q) shape.ExpressionStatement [] 0 (negated_there ▸ none) (turned_there ▸ none) (first (child_position shape.ExpressionStatement (Stmt q) 1) negated_there turned_there none (here Place negated_there turned_there left_turned))
+    place_step (Begins t u c) =
+        inside (Stmt q) shape.ForStatement [] 0 (negated_there ▸ (t ▸ (u ▸ (c ▸ none)))) (turned_there ▸ (t ▸ (u ▸ (c ▸ none))))
+        (first (child_position shape.ForStatement (Stmt q) 4) negated_there turned_there (t ▸ (u ▸ (c ▸ none))) (here Place negated_there turned_there left_turned))
+    place_step (Turns i t c) =
+        inside (Stmt q) shape.ForStatement [] 0 (i ▸ (t ▸ (negated_there ▸ (c ▸ none)))) (i ▸ (t ▸ (turned_there ▸ (c ▸ none))))
+        (later (child_position shape.ForStatement (Stmt q) 4) i (t ▸ (negated_there ▸ (c ▸ none))) (t ▸ (turned_there ▸ (c ▸ none)))
+        (later (λ j. child_position shape.ForStatement (Stmt q) 4 (suc j)) t (negated_there ▸ (c ▸ none)) (turned_there ▸ (c ▸ none))
+        (first (λ j. child_position shape.ForStatement (Stmt q) 4 (suc (suc j))) negated_there turned_there (c ▸ none) (here Place negated_there turned_there left_turned))))
+
+    turned_same : (v : VoidPlace) → SameAt (Stmt q) (void_of v read_there) (void_of v turned_there)
+    turned_same v =
+        then_same (Stmt q) (void_of v read_there) (void_of v negated_there) (void_of v turned_there)
+        (place_alike v)
+        (any_step_same Stands stands_means (Stmt q) (void_of v negated_there) (void_of v turned_there) (place_step v))
+
+place_read : (v : VoidPlace) (o p : LogicalOperator) (a b c : Tree) → summary (void_of v (logical o a b)) ≡ summary (void_of v (logical p c b))
+place_read Alone o p a b c = refl
+place_read (Begins t u d) o p a b c = refl
+place_read (Turns i t d) o p a b c = refl
 
 -- ---- a part of a sequence but the last
 
@@ -140,12 +178,12 @@ module _ (o : LogicalOperator) (a b : Tree) (h : is_and_or o ≡ true) (next : T
       (passed_step (child_position shape.Listed (SequenceList s) (count (append before negated_part))) before (subst (λ x. Stands x (negated_logical o a b) (turned_logical o a b)) (passed_seat s before) turned_stands))))))
 
 row_same : (p : Position) (n w : Tree) → DeMorganRow p n w → SameAt p n w
-row_same (Stmt q) n w r = subst (λ t. SameAt (Stmt q) t w) (sym r.shape) (subst (SameAt (Stmt q) (expression_statement (logical r.operator r.a r.b))) (sym r.written) (turned_same q r.operator r.a r.b r.tells))
+row_same (Stmt q) n w r = subst (λ t. SameAt (Stmt q) t w) (sym r.shape) (subst (SameAt (Stmt q) (void_of r.place (logical r.operator r.a r.b))) (sym r.written) (turned_same r.operator r.a r.b r.tells q r.place))
 row_same (Expr s) n w r = subst (λ t. SameAt (Expr s) t w) (sym r.shape) (subst (SameAt (Expr s) (sequence (append r.before (logical r.operator r.a r.b ▸ (r.next ▸ r.after))))) (sym r.written) (part_same r.operator r.a r.b r.tells r.next r.after s r.before))
 row_same p n w r = absurd r
 
 row_read : (p : Position) (n w : Tree) → DeMorganRow p n w → summary n ≡ summary w
-row_read (Stmt q) n w r = ap summary r.shape ∙ sym (ap summary r.written)
+row_read (Stmt q) n w r = ap summary r.shape ∙ place_read r.place r.operator (turned r.operator) r.a r.b _ ∙ sym (ap summary r.written)
 row_read (Expr s) n w r = ap summary r.shape ∙ sym (ap summary r.written)
 row_read p n w r = absurd r
 

@@ -1,12 +1,12 @@
 -- `--x` for `x -= 1` in the head of a `for` keeps what a program has to keep.
 use Rattle.std.proofs.Common.{◌≡◌, Bool, true, [], refl}
-use Rattle.std.specs.Prelude.{None, pos, negsuc, ◌&&◌}
+use Rattle.std.specs.Prelude.{None, pos, negsuc}
 use Rattle.mini_model.specs.declared.name.Name.{Name}
 use Rattle.mini_model.specs.declared.operator.AssignmentOperator.TheVariants.{Subtraction}
 use Rattle.mini_model.specs.declared.operator.UpdateOperator.{UpdateOperator}
 use Rattle.mini_model.specs.declared.operator.UpdateOperator.TheVariants.{Increment, Decrement}
 use Rattle.mini_model.specs.Position.{statement_expression_seat}
-use Rattle.mini_model.specs.Tree.{Tree, none, ◌▸◌, identifier}
+use Rattle.mini_model.specs.Tree.{none, ◌▸◌, identifier}
 use Rattle.mini_accept.specs.WellShaped.{an_expression, a_simple_target, one, one_or_absent, fits}
 use Rattle.mini_kept.specs.Frames.{frames}
 use Rattle.mini_kept.proofs.Bools.{both}
@@ -26,12 +26,12 @@ arranged : (o : UpdateOperator) (x : Name) → KeptAt Place (subtracts o x) (ste
 arranged Decrement x = expressions_arranged (record { trees = identifier x ▸ none; lists = [] }) (under (Assignment Subtraction) (part 0 ▹ counted Decrement ▹ end)) (under (Update Decrement true) (part 0 ▹ end)) refl statement_expression_seat (subtracts Decrement x) (steps Decrement x) refl refl
 arranged Increment x = expressions_arranged (record { trees = identifier x ▸ none; lists = [] }) (under (Assignment Subtraction) (part 0 ▹ counted Increment ▹ end)) (under (Update Increment true) (part 0 ▹ end)) refl statement_expression_seat (subtracts Increment x) (steps Increment x) refl refl
 
-pub step_kept : (o : UpdateOperator) (x : Name) → PartKept (subtracts o x) (steps o x)
+pub step_kept : (o : UpdateOperator) (x : Name) → PartKept an_expression (subtracts o x) (steps o x)
 step_kept o x = record {
   names = (arranged o x).keeps;
   piece = refl;
-  bodies_kept = λ a. tt;
-  frames_kept = λ f c. in_nothing (frames None (subtracts o x)) f c;
+  bodies_kept = λ strict e a k i. tt;
+  frames_kept = λ strict e f c. in_nothing (frames None (subtracts o x)) f c;
   fixed_same = (arranged o x).fixed;
   declared_kept = (arranged o x).declared;
 }

@@ -1,15 +1,14 @@
 -- A `for` without a part of its head that does nothing means the same.
-use Rattle.std.proofs.Common.{◌≡◌, ℕ, zero, suc, Bool, true, false, [], Option, Some, None, refl, sym, ap, subst, ◌∙◌, inl, inr, true≢false}
+use Rattle.std.proofs.Common.{◌≡◌, ℕ, zero, suc, true, [], Option, None, refl, sym, ap, subst, ◌∙◌, inl, inr, true≢false}
 use Rattle.std.specs.Prelude.{◌&&◌}
 use Rattle.std.proofs.lemmas.Bool.{and_parts}
 use Rattle.mini_model.specs.declared.place.Position.TheVariants.{Stmt}
 use Rattle.mini_model.specs.declared.seat.StmtSeat.{StmtSeat}
-use Rattle.mini_model.specs.declared.shape.Shape.TheVariants as shape
 use Rattle.mini_model.specs.Tree.{Tree, none, ◌▸◌, absent}
 use Rattle.mini_laws.specs.Value.{VariableSet}
 use Rattle.mini_laws.specs.State.{Completion, ok, stop, halt, out, State, Environment}
 use Rattle.mini_laws.specs.Demand.{Unused, Tail, Demand, As, Stat, LabelSet, Request}
-use Rattle.mini_laws.specs.Command.{Naming, run}
+use Rattle.mini_laws.specs.Command.{run}
 use Rattle.mini_laws.specs.Naming.{Summary, Declared, summary}
 use Rattle.mini_laws.specs.Asking.{for_demand}
 use Rattle.mini_laws.specs.Loops.{for_step}
@@ -24,7 +23,7 @@ use Rattle.mini_terms.specs.Reading.{is_plain_part}
 use Rattle.mini_terms.specs.Sound.{Quiet}
 use Rattle.mini_terms.proofs.EffectsTable.{effect_free_sound}
 use Rattle.mini_rows.specs.Lists.{for_loop}
-use Rattle.mini_rows.specs.ForParts.{is_idle, Row22Init, Row22Update, ForPartRow}
+use Rattle.mini_rows.specs.ForParts.{is_idle, ForPartRow}
 use Rattle.mini_rows.proofs.PlainRead.{plain_summary, plain_read}
 use Rattle.mini_rows.specs.Decrements.{subtracts, steps}
 use Rattle.mini_rows.proofs.DecrementMeaning.{step_unused}
@@ -89,8 +88,8 @@ module _ (i t u v b : Tree) (h : Alike u v) where
 
 -- ---- at first
 
-module _ (a t u b : Tree) (h : LikeNothing a) (plain : summary a ≡ plain_summary) where
-  head_kids : (e : Environment) (j : ℕ) (r : Request (for_demand None j)) (s : State) → Weaker (meaning e (a ▸ (t ▸ (u ▸ (b ▸ none)))) j (for_demand None j) r s) (meaning e (absent ▸ (t ▸ (u ▸ (b ▸ none)))) j (for_demand None j) r s)
+module _ (a o t u b : Tree) (h : Alike a o) (plain : summary a ≡ plain_summary) where
+  head_kids : (e : Environment) (j : ℕ) (r : Request (for_demand None j)) (s : State) → Weaker (meaning e (a ▸ (t ▸ (u ▸ (b ▸ none)))) j (for_demand None j) r s) (meaning e (o ▸ (t ▸ (u ▸ (b ▸ none)))) j (for_demand None j) r s)
   unfolding meaning
   head_kids e zero r s = h e s
   head_kids e (suc j) r s = inr refl
@@ -104,18 +103,22 @@ module _ (a t u b : Tree) (h : LikeNothing a) (plain : summary a ≡ plain_summa
     unfolding means step
     means_ran c = refl
 
-    ran_weaker : Weaker (ran a plain_summary) (ran absent plain_summary)
+    ran_weaker : Weaker (ran a plain_summary) (ran o plain_summary)
     ran_weaker =
         weaker_run e (for_names []) {q = for_demand None}
         (λ j r z. meaning e (a ▸ (t ▸ (u ▸ (b ▸ none)))) j (for_demand None j) r z)
-        (λ j r z. meaning e (absent ▸ (t ▸ (u ▸ (b ▸ none)))) j (for_demand None j) r z)
+        (λ j r z. meaning e (o ▸ (t ▸ (u ▸ (b ▸ none)))) j (for_demand None j) r z)
         (head_kids e)
         (statement (Stat x) r (for_step None (summary t).facts.absent)) s
 
-    pub init_weaker : Weaker (means e (for_loop a t u b) (Stat x) r s) (means e (for_loop absent t u b) (Stat x) r s)
-    init_weaker =
-        subst (λ y. Weaker y (means e (for_loop absent t u b) (Stat x) r s)) (sym (means_ran a ∙ ap (ran a) plain))
-        (subst (Weaker (ran a plain_summary)) (sym (means_ran absent)) ran_weaker)
+    -- of the other the loop reads no more than of a plain one
+    pub init_weaker : ran o (summary o) ≡ ran o plain_summary → Weaker (means e (for_loop a t u b) (Stat x) r s) (means e (for_loop o t u b) (Stat x) r s)
+    init_weaker other =
+        subst (λ y. Weaker y (means e (for_loop o t u b) (Stat x) r s)) (sym (means_ran a ∙ ap (ran a) plain))
+        (subst (Weaker (ran a plain_summary)) (sym (means_ran o ∙ other)) ran_weaker)
+
+    pub begun_weaker : summary o ≡ plain_summary → Weaker (means e (for_loop a t u b) (Stat x) r s) (means e (for_loop o t u b) (Stat x) r s)
+    begun_weaker other = init_weaker (ap (ran o) other)
 
 -- ---- the rows
 
@@ -131,7 +134,7 @@ pub parts_same : (q : StmtSeat) (n w : Tree) → ForPartRow n w → SameAt (Stmt
 parts_same q n w (inl r) =
     let idle = idle_is r.init r.idle in
     subst (λ t. SameAt (Stmt q) t w) (sym r.shape) (subst (SameAt (Stmt q) (for_loop r.init r.test r.update r.body)) (sym r.written)
-    (weaker_same q (for_loop r.init r.test r.update r.body) (for_loop absent r.test r.update r.body) (λ e x l s. init_weaker r.init r.test r.update r.body (like_nothing r.init idle.effect_free) (plain_read r.init idle.plain) e x l s)))
+    (weaker_same q (for_loop r.init r.test r.update r.body) (for_loop absent r.test r.update r.body) (λ e x l s. init_weaker r.init absent r.test r.update r.body (like_nothing r.init idle.effect_free) (plain_read r.init idle.plain) e x l s refl)))
 parts_same q n w (inr (inr r)) =
     subst (λ t. SameAt (Stmt q) t w) (sym r.shape) (subst (SameAt (Stmt q) (for_loop r.init r.test (subtracts r.operator r.name) r.body)) (sym r.written)
     (weaker_same q (for_loop r.init r.test (subtracts r.operator r.name) r.body) (for_loop r.init r.test (steps r.operator r.name) r.body) (λ e x l s. update_weaker r.init r.test (subtracts r.operator r.name) (steps r.operator r.name) r.body (step_unused r.operator r.name) e x l s)))

@@ -3,7 +3,7 @@ use Rattle.std.proofs.Common.{◌≡◌, Bool, true, refl, sym, subst, inl, inr}
 use Rattle.mini_model.specs.declared.place.Position.TheVariants.{Stmt}
 use Rattle.mini_model.specs.declared.seat.StmtSeat.{StmtSeat}
 use Rattle.mini_model.specs.Tree.{Tree, absent}
-use Rattle.mini_accept.specs.WellShaped.{fits}
+use Rattle.mini_accept.specs.WellShaped.{an_init, an_expression, fits}
 use Rattle.mini_kept.proofs.Rows.{statement}
 use Rattle.mini_rows.specs.Arranged.{KeptAt}
 use Rattle.mini_rows.specs.Lists.{for_loop}
@@ -18,14 +18,14 @@ pub parts_kept : (q : StmtSeat) (n w : Tree) → ForPartRow n w → KeptAt (Stmt
 parts_kept q n w (inl r) =
     let idle = idle_is r.init r.idle in
     subst (λ t. KeptAt (Stmt q) t w) (sym r.shape) (subst (KeptAt (Stmt q) (for_loop r.init r.test r.update r.body)) (sym r.written)
-    (init_kept q r.init absent (gone r.init idle.plain (vanishes r.init idle.dropped)) r.test r.update r.body))
+    (init_kept q r.init absent (gone an_init r.init idle.plain (vanishes r.init idle.dropped)) r.test r.update r.body))
 parts_kept q n w (inr (inr r)) =
     subst (λ t. KeptAt (Stmt q) t w) (sym r.shape) (subst (KeptAt (Stmt q) (for_loop r.init r.test (subtracts r.operator r.name) r.body)) (sym r.written)
     (update_kept q (subtracts r.operator r.name) (steps r.operator r.name) (step_kept r.operator r.name) r.init r.test r.body))
 parts_kept q n w (inr (inl r)) =
     let idle = idle_is r.update r.idle in
     subst (λ t. KeptAt (Stmt q) t w) (sym r.shape) (subst (KeptAt (Stmt q) (for_loop r.init r.test r.update r.body)) (sym r.written)
-    (update_kept q r.update absent (gone r.update idle.plain (vanishes r.update idle.dropped)) r.init r.test r.body))
+    (update_kept q r.update absent (gone an_expression r.update idle.plain (vanishes r.update idle.dropped)) r.init r.test r.body))
 
 -- ---- where it stands
 

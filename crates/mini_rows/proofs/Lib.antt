@@ -159,6 +159,7 @@ pub mod NegationLawful
 pub mod SequenceIdle
 pub mod SequenceCalls
 pub mod SequenceYields
+pub mod SequencePaths
 pub mod SequenceMeaning
 pub mod SequenceWeights
 pub mod SequenceLawful

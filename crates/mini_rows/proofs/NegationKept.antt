@@ -65,7 +65,7 @@ written_then t u w h k = record {
 same_or_less : (n : ℕ) → n ≤ n
 same_or_less n = omega arith
 
-junction_written : (a b : Tree) → WrittenFor (logical And a b) (logical Or a b) × WrittenFor (logical Or a b) (logical And a b)
+pub junction_written : (a b : Tree) → WrittenFor (logical And a b) (logical Or a b) × WrittenFor (logical Or a b) (logical And a b)
 unfolding has_inner Scoped scopes_by declared_in numbers early_names scope_declarations early_jumps targets_of
 junction_written a b = (
   record {
@@ -165,7 +165,7 @@ abbrev pub two : Tree → Tree → Parts
 two a b = record { trees = a ▸ b ▸ none; lists = [] }
 
 module _ (o : LogicalOperator) (a b x y : Tree) (l : WrittenFor a x) (r : WrittenFor b y) where
-  both_written : WrittenFor (logical o a b) (logical o x y)
+  pub both_written : WrittenFor (logical o a b) (logical o x y)
   both_written = record {
     fitting = λ strict e. let (p, q) = of_two strict o a b e in two_fit strict x y (l.fitting strict p) (r.fitting strict q);
     inner = new_inner still (two a b) (two x y) (tt, tt, tt) (tt, tt, tt) AsValue (sides o) refl (l, (r, tt));

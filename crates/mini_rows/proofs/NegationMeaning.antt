@@ -246,7 +246,7 @@ module _ (f : Seat → Tree → Tree) (h : (s : Seat) (t : Tree) → Stands (Exp
     parts_stand (q ▸ none) e p ps s =
         let first_made = sequence (p ▸ append ps (negation q ▸ none)) in
         stands_then s (negation (sequence (p ▸ append ps (q ▸ none)))) first_made (sequence (p ▸ append ps (whole_by f (branch_seat s) q ▸ none)))
-        (of_tree s (negation (sequence (p ▸ append ps (q ▸ none)))) first_made (lifted_same Negates p ps q))
+        (of_tree s (negation (sequence (p ▸ append ps (q ▸ none)))) first_made (lifted_same Negates [] p ps q))
         (last_part_stands s p ps (negation q) (whole_by f (branch_seat s) q) (negated_stands q (branch_seat s)))
     parts_stand (q ▸ (r ▸ us)) e p ps s =
         subst (λ x. Stands (Expr s) (negation (sequence (p ▸ x))) (sequence (p ▸ append ps (q ▸ last_by f (branch_seat s) (r ▸ us))))) (append_one ps q (r ▸ us))

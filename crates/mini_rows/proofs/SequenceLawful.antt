@@ -1,5 +1,5 @@
 -- What a row on sequences writes keeps all that a program has to keep: it is built anew of the same parts.
-use Rattle.std.proofs.Common.{◌≡◌, ◌≤◌, Bool, true, false, [], ◌∷◌, refl, sym, ap, subst, ◌∙◌, inl, inr, true≢false, arith}
+use Rattle.std.proofs.Common.{◌≡◌, ◌≤◌, Bool, true, false, List, [], ◌∷◌, refl, sym, ap, subst, ◌∙◌, inl, inr, true≢false, arith}
 use Rattle.std.specs.Prelude.{◌&&◌, not, None, nat_le}
 use Rattle.std.proofs.lemmas.Bool.{and_parts, leb-true}
 use Rattle.mini_model.specs.declared.place.Position.{Position}
@@ -17,10 +17,9 @@ use Rattle.mini_kept.proofs.Bools.{left, both}
 use Rattle.mini_kept.proofs.Expressions.{refused_here, expression, TakesExpressionIn, TakesExpression, expression_taken, of_negation, of_conditional, two_fit, three_fit}
 use Rattle.mini_node.specs.Walks.{append_none}
 use Rattle.mini_rows.specs.Arranged.{KeptAt}
-use Rattle.mini_rows.specs.Sketches.{Unary, Binary, Logical, Conditional, Sequence, Yield, Parts, Sketch, part, under, list, end, ◌▹◌, no_items, item, items}
+use Rattle.mini_rows.specs.Sketches.{Sequence, Parts, part, under, list, end, ◌▹◌, no_items, item, items}
 use Rattle.mini_rows.specs.Lists.{sequence}
-use Rattle.mini_rows.specs.Sequences.{Conversion, Plus, Minus, Complement, conversion_operator, Operation, Decides, Chooses, Negates, Operates, Converts, Yields, over, takes_last, stays_alone, Row21, Row21Idle, Row21Alone, SequenceRow, SequenceContracts}
-use Rattle.mini_model.specs.declared.operator.UnaryOperator.TheVariants.{LogicalNot, UnaryPlus, UnaryNegation, BitwiseNot}
+use Rattle.mini_rows.specs.Sequences.{Conversion, Plus, Minus, Complement, conversion_operator, Operation, Decides, Chooses, Negates, Operates, Converts, Yields, over, along, takes_last, takes_along, stays_alone, Row21, Row21Idle, Row21Alone, SequenceRow, SequenceContracts}
 use Rattle.mini_terms.specs.Parts.{is_number}
 use Rattle.mini_rows.proofs.ArrangedExpressions.{expressions_arranged, expressions_arranged_freely}
 use Rattle.mini_rows.proofs.ArrangedLawful.{kept_is_lawful}
@@ -28,24 +27,14 @@ use Rattle.mini_rows.proofs.ConstantLawful.{unary_at, binary_at}
 use Rattle.mini_rows.proofs.FoldLawful.{operands, expression_slot, vanishes, first_dropped, no_number}
 use Rattle.mini_rows.proofs.ListShapes.{AllFit, sequence_fits, parts_fit, of_parts_fits, append_fits, both_fit, first_fits, more_fit}
 use Rattle.mini_rows.proofs.SequenceCalls.{left_number}
+use Rattle.mini_rows.proofs.SequencePaths.{in_order, path, parts_along, path_rearranged, nested_filled, flat_filled}
 use Rattle.mini_rows.proofs.SequenceYields.{yield_at, yielded_fits}
 use Rattle.mini_rows.proofs.SequenceMeaning.{several, sequences_same}
 
 -- ---- the same parts
 
--- the first part, some others, and a last one
-abbrev in_order : Sketch → Sketch
-in_order last = under Sequence (list (item (part 0) (items 0 (item last no_items))) ▹ end)
-
-lifted_kept : (r : Operation) (p : Tree) (ps : Trees) (l : Tree) (q : Seat) (n w : Tree) → n ≡ over r (sequence (p ▸ append ps (l ▸ none))) → w ≡ sequence (p ▸ append ps (over r l ▸ none)) → KeptAt (Expr q) n w
-lifted_kept (Decides o b) p ps l q n w e f = expressions_arranged (record { trees = p ▸ l ▸ b ▸ none; lists = ps ∷ [] }) (under (Logical o) (in_order (part 1) ▹ part 2 ▹ end)) (in_order (under (Logical o) (part 1 ▹ part 2 ▹ end))) refl q n w e f
-lifted_kept (Chooses b c) p ps l q n w e f = expressions_arranged (record { trees = p ▸ l ▸ b ▸ c ▸ none; lists = ps ∷ [] }) (under Conditional (in_order (part 1) ▹ part 2 ▹ part 3 ▹ end)) (in_order (under Conditional (part 1 ▹ part 2 ▹ part 3 ▹ end))) refl q n w e f
-lifted_kept Negates p ps l q n w e f = expressions_arranged (record { trees = p ▸ l ▸ none; lists = ps ∷ [] }) (under (Unary LogicalNot) (in_order (part 1) ▹ end)) (in_order (under (Unary LogicalNot) (part 1 ▹ end))) refl q n w e f
-lifted_kept (Operates o b) p ps l q n w e f = expressions_arranged (record { trees = p ▸ l ▸ b ▸ none; lists = ps ∷ [] }) (under (Binary o) (in_order (part 1) ▹ part 2 ▹ end)) (in_order (under (Binary o) (part 1 ▹ part 2 ▹ end))) refl q n w e f
-lifted_kept (Converts Plus) p ps l q n w e f = expressions_arranged (record { trees = p ▸ l ▸ none; lists = ps ∷ [] }) (under (Unary UnaryPlus) (in_order (part 1) ▹ end)) (in_order (under (Unary UnaryPlus) (part 1 ▹ end))) refl q n w e f
-lifted_kept (Converts Minus) p ps l q n w e f = expressions_arranged (record { trees = p ▸ l ▸ none; lists = ps ∷ [] }) (under (Unary UnaryNegation) (in_order (part 1) ▹ end)) (in_order (under (Unary UnaryNegation) (part 1 ▹ end))) refl q n w e f
-lifted_kept (Converts Complement) p ps l q n w e f = expressions_arranged (record { trees = p ▸ l ▸ none; lists = ps ∷ [] }) (under (Unary BitwiseNot) (in_order (part 1) ▹ end)) (in_order (under (Unary BitwiseNot) (part 1 ▹ end))) refl q n w e f
-lifted_kept (Yields d) p ps l q n w e f = expressions_arranged (record { trees = p ▸ l ▸ none; lists = ps ∷ [] }) (under (Yield d) (in_order (part 1) ▹ end)) (in_order (under (Yield d) (part 1 ▹ end))) refl q n w e f
+lifted_kept : (r : Operation) (rs : List Operation) (p : Tree) (ps : Trees) (l : Tree) (q : Seat) (n w : Tree) → n ≡ over r (along rs (sequence (p ▸ append ps (l ▸ none)))) → w ≡ sequence (p ▸ append ps (over r (along rs l) ▸ none)) → KeptAt (Expr q) n w
+lifted_kept r rs p ps l q n w e f = expressions_arranged (parts_along (r ∷ rs) p ps l) (path 2 (r ∷ rs) (in_order (part 1))) (in_order (path 2 (r ∷ rs) (part 1))) (path_rearranged r rs) q n w (e ∙ sym (nested_filled (r ∷ rs) p ps l)) (f ∙ sym (flat_filled (r ∷ rs) p ps l))
 
 spread_kept : (q : Seat) (n w : Tree) → Row21 n w → KeptAt (Expr q) n w
 spread_kept q n w r =
@@ -74,7 +63,7 @@ alone_kept q n w r =
     (under Sequence (list (item (part 0) (item (part 1) no_items)) ▹ end)) (part 1) refl q n w r.shape r.written
 
 kept : (p : Position) (n w : Tree) → SequenceRow p n w → KeptAt p n w
-kept (Expr q) n w (inl r) = lifted_kept r.operation r.first r.others r.last q n w r.shape r.written
+kept (Expr q) n w (inl r) = lifted_kept r.operation r.operations r.first r.others r.last q n w r.shape r.written
 kept (Expr q) n w (inr (inl r)) = spread_kept q n w r
 kept (Expr q) n w (inr (inr (inl r))) = idle_kept q n w r
 kept (Expr q) n w (inr (inr (inr r))) = alone_kept q n w r
@@ -141,25 +130,51 @@ module _ (strict : Bool) where
   converted_fits Minus l h f = both (is_not_positive_number l) (fits strict expression l && true) (no_number l (not_true (is_number l) h)) (both (fits strict expression l) true f refl)
   converted_fits Complement l h f = both (fits strict expression l) true f refl
 
-  lifted_fits : (s : Slot) (r : Operation) (p : Tree) (ps : Trees) (l : Tree) → takes_last r l ≡ true → fits strict s (over r (sequence (p ▸ append ps (l ▸ none)))) ≡ true → TakesExpression s × Fits (sequence (p ▸ append ps (over r l ▸ none)))
-  lifted_fits s (Decides o b) p ps l h e =
-      let (takes, first, second) = operands strict s o (sequence (p ▸ append ps (l ▸ none))) b e in
-      (takes, last_fits p ps l first (over (Decides o b) l) (λ f. two_fit strict l b f second))
-  lifted_fits s (Chooses b c) p ps l h e =
-      let (takes, (first, second, third)) = of_conditional strict s (sequence (p ▸ append ps (l ▸ none))) b c e in
-      (takes, last_fits p ps l first (over (Chooses b c) l) (λ f. three_fit strict l b c f second third))
-  lifted_fits s Negates p ps l h e =
-      let (takes, first) = of_negation strict s (sequence (p ▸ append ps (l ▸ none))) e in
-      (takes, last_fits p ps l first (over Negates l) (λ f. both (fits strict expression l) true f refl))
-  lifted_fits s (Converts c) p ps l h e =
-      let (takes, first) = unary_at strict (conversion_operator c) (sequence (p ▸ append ps (l ▸ none))) s e in
-      (takes, last_fits p ps l first (over (Converts c) l) (λ f. converted_fits c l h f))
-  lifted_fits s (Operates o b) p ps l h e =
-      let (takes, (first, second)) = binary_at strict o (sequence (p ▸ append ps (l ▸ none))) b s e in
-      (takes, last_fits p ps l first (over (Operates o b) l) (λ f. two_fit strict l b f second))
-  lifted_fits s (Yields d) p ps l h e =
-      let (takes, first) = yield_at strict d (p ▸ append ps (l ▸ none)) s e in
-      (takes, last_fits p ps l first (over (Yields d) l) (λ f. yielded_fits strict d l f))
+  -- an operand is there
+  there : (rs : List Operation) (ts : Trees) → fits strict (one_or_absent an_expression) (along rs (sequence ts)) ≡ fits strict expression (along rs (sequence ts))
+  there [] ts = refl
+  there (Decides o b ∷ rs) ts = refl
+  there (Chooses b c ∷ rs) ts = refl
+  there (Negates ∷ rs) ts = refl
+  there (Operates o b ∷ rs) ts = refl
+  there (Converts c ∷ rs) ts = refl
+  there (Yields d ∷ rs) ts = refl
+
+  -- a node over an operand of which something is lifted out
+  module _ (s : Slot) (rs : List Operation) (ts : Trees) (p : Tree) (ps : Trees) (l : Tree) (f : Fits (along rs (sequence ts)) → Fits (sequence (p ▸ append ps (l ▸ none)))) where
+    over_fits : (r : Operation) → takes_last r l ≡ true → fits strict s (over r (along rs (sequence ts))) ≡ true → TakesExpression s × Fits (sequence (p ▸ append ps (over r l ▸ none)))
+    over_fits (Decides o b) h e =
+        let (takes, first, second) = operands strict s o (along rs (sequence ts)) b e in
+        (takes, last_fits p ps l (f first) (over (Decides o b) l) (λ g. two_fit strict l b g second))
+    over_fits (Chooses b c) h e =
+        let (takes, (first, second, third)) = of_conditional strict s (along rs (sequence ts)) b c e in
+        (takes, last_fits p ps l (f first) (over (Chooses b c) l) (λ g. three_fit strict l b c g second third))
+    over_fits Negates h e =
+        let (takes, first) = of_negation strict s (along rs (sequence ts)) e in
+        (takes, last_fits p ps l (f first) (over Negates l) (λ g. both (fits strict expression l) true g refl))
+    over_fits (Converts c) h e =
+        let (takes, first) = unary_at strict (conversion_operator c) (along rs (sequence ts)) s e in
+        (takes, last_fits p ps l (f first) (over (Converts c) l) (λ g. converted_fits c l h g))
+    over_fits (Operates o b) h e =
+        let (takes, (first, second)) = binary_at strict o (along rs (sequence ts)) b s e in
+        (takes, last_fits p ps l (f first) (over (Operates o b) l) (λ g. two_fit strict l b g second))
+    over_fits (Yields d) h e =
+        let (takes, first) = yield_at strict d (along rs (sequence ts)) (there rs ts) s e in
+        (takes, last_fits p ps l (f first) (over (Yields d) l) (λ g. yielded_fits strict d l g))
+
+  -- what is no number may stand behind a minus
+  takes_over : (r o : Operation) (l : Tree) → takes_last r (over o l) ≡ true
+  takes_over (Converts Minus) (Decides o b) l = refl
+  takes_over (Converts Minus) (Chooses b c) l = refl
+  takes_over (Converts Minus) Negates l = refl
+  takes_over (Converts Minus) (Operates o b) l = refl
+  takes_over (Converts Minus) (Converts c) l = refl
+  takes_over (Converts Minus) (Yields d) l = refl
+  takes_over r o l = refl
+
+  lifted_fits : (s : Slot) (r : Operation) (rs : List Operation) (p : Tree) (ps : Trees) (l : Tree) → takes_along r rs l ≡ true → fits strict s (over r (along rs (sequence (p ▸ append ps (l ▸ none))))) ≡ true → TakesExpression s × Fits (sequence (p ▸ append ps (over r (along rs l) ▸ none)))
+  lifted_fits s r [] p ps l h e = over_fits s [] (p ▸ append ps (l ▸ none)) p ps l (λ g. g) r h e
+  lifted_fits s r (o ∷ rs) p ps l h e = over_fits s (o ∷ rs) (p ▸ append ps (l ▸ none)) p ps (over o (along rs l)) (λ g. (lifted_fits expression o rs p ps l h g).1) r (takes_over r o (along rs l)) e
 
   pub items_fit : (ts : Trees) → Fits (sequence ts) → AllFit strict expression ts
   items_fit ts e = left (fill strict (each expression) ts) true (and_parts (nat_le 2 (count ts)) (fill strict (each expression) ts && true) e).1
@@ -185,8 +200,8 @@ module _ (strict : Bool) where
 
 row_fits : (p : Position) (n w : Tree) → SequenceRow p n w → (strict : Bool) (s : Slot) → fits strict s n ≡ true → fits strict s w ≡ true
 row_fits (Expr q) n w (inl r) strict s e =
-    let (takes, fit) = lifted_fits strict s r.operation r.first r.others r.last r.takes (subst (λ t. fits strict s t ≡ true) r.shape e) in
-    subst (λ t. fits strict s t ≡ true) (sym r.written) (expression_taken strict s (sequence (r.first ▸ append r.others (over r.operation r.last ▸ none))) takes fit)
+    let (takes, fit) = lifted_fits strict s r.operation r.operations r.first r.others r.last r.takes (subst (λ t. fits strict s t ≡ true) r.shape e) in
+    subst (λ t. fits strict s t ≡ true) (sym r.written) (expression_taken strict s (sequence (r.first ▸ append r.others (over r.operation (along r.operations r.last) ▸ none))) takes fit)
 row_fits (Expr q) n w (inr (inl r)) strict s e =
     let (takes, fit) = of_sequence strict s (append r.before (sequence (r.first ▸ (r.second ▸ r.others)) ▸ r.after)) (subst (λ t. fits strict s t ≡ true) r.shape e) in
     subst (λ t. fits strict s t ≡ true) (sym r.written) (expression_taken strict s (sequence (append r.before (r.first ▸ (r.second ▸ append r.others r.after)))) takes (spread_fits strict r.before r.first r.second r.others r.after fit))
@@ -199,7 +214,7 @@ row_fits (Expr q) n w (inr (inr (inr r))) strict s e =
 row_fits p n w r strict s e = absurd r
 
 row_slot : (p : Position) (n w : Tree) → SequenceRow p n w → (strict : Bool) (s : Slot) → fits strict s n ≡ true → is_body_slot p s ≡ true
-row_slot (Expr q) n w (inl r) strict s e = expression_slot (Expr q) s (lifted_fits strict s r.operation r.first r.others r.last r.takes (subst (λ t. fits strict s t ≡ true) r.shape e)).0
+row_slot (Expr q) n w (inl r) strict s e = expression_slot (Expr q) s (lifted_fits strict s r.operation r.operations r.first r.others r.last r.takes (subst (λ t. fits strict s t ≡ true) r.shape e)).0
 row_slot (Expr q) n w (inr (inl r)) strict s e = expression_slot (Expr q) s (of_sequence strict s (append r.before (sequence (r.first ▸ (r.second ▸ r.others)) ▸ r.after)) (subst (λ t. fits strict s t ≡ true) r.shape e)).0
 row_slot (Expr q) n w (inr (inr (inl r))) strict s e = expression_slot (Expr q) s (of_sequence strict s (append r.before (r.idle ▸ (r.next ▸ r.after))) (subst (λ t. fits strict s t ≡ true) r.shape e)).0
 row_slot (Expr q) n w (inr (inr (inr r))) strict s e = expression_slot (Expr q) s (of_sequence strict s (r.idle ▸ (r.last ▸ none)) (subst (λ t. fits strict s t ≡ true) r.shape e)).0
@@ -278,7 +293,7 @@ alone_asked q ts t h = record {
 }
 
 row_asked : (p : Position) (n w : Tree) → SequenceRow p n w → AskedAlike p n w
-row_asked (Expr q) n w (inl r) = subst (λ t. AskedAlike (Expr q) t w) (sym r.shape) (subst (AskedAlike (Expr q) (over r.operation (sequence (r.first ▸ append r.others (r.last ▸ none))))) (sym r.written) (over_asked (Expr q) r.operation (sequence (r.first ▸ append r.others (r.last ▸ none))) (r.first ▸ append r.others (over r.operation r.last ▸ none))))
+row_asked (Expr q) n w (inl r) = subst (λ t. AskedAlike (Expr q) t w) (sym r.shape) (subst (AskedAlike (Expr q) (over r.operation (along r.operations (sequence (r.first ▸ append r.others (r.last ▸ none)))))) (sym r.written) (over_asked (Expr q) r.operation (along r.operations (sequence (r.first ▸ append r.others (r.last ▸ none)))) (r.first ▸ append r.others (over r.operation (along r.operations r.last) ▸ none))))
 row_asked (Expr q) n w (inr (inl r)) = subst (λ t. AskedAlike (Expr q) t w) (sym r.shape) (subst (AskedAlike (Expr q) (sequence (append r.before (sequence (r.first ▸ (r.second ▸ r.others)) ▸ r.after)))) (sym r.written) (sequence_asked (Expr q) (append r.before (sequence (r.first ▸ (r.second ▸ r.others)) ▸ r.after)) (append r.before (r.first ▸ (r.second ▸ append r.others r.after)))))
 row_asked (Expr q) n w (inr (inr (inl r))) = subst (λ t. AskedAlike (Expr q) t w) (sym r.shape) (subst (AskedAlike (Expr q) (sequence (append r.before (r.idle ▸ (r.next ▸ r.after))))) (sym r.written) (sequence_asked (Expr q) (append r.before (r.idle ▸ (r.next ▸ r.after))) (append r.before (r.next ▸ r.after))))
 row_asked (Expr q) n w (inr (inr (inr r))) = subst (λ t. AskedAlike (Expr q) t w) (sym r.shape) (subst (AskedAlike (Expr q) (sequence (r.idle ▸ (r.last ▸ none)))) (sym r.written) (alone_asked q (r.idle ▸ (r.last ▸ none)) r.last r.stays))

@@ -1,5 +1,5 @@
 -- What a row on sequences writes means the same.
-use Rattle.std.proofs.Common.{◌≡◌, Bool, true, false, [], refl, sym, ap, subst, ◌∙◌, inl, inr}
+use Rattle.std.proofs.Common.{◌≡◌, Bool, true, false, List, [], ◌∷◌, refl, sym, ap, subst, ◌∙◌, inl, inr}
 use Rattle.std.specs.Prelude.{not, ◌&&◌, ◌||◌}
 use Rattle.mini_model.specs.declared.operator.UnaryOperator.{UnaryOperator}
 use Rattle.mini_model.specs.declared.place.Position.{Position}
@@ -21,11 +21,11 @@ use Rattle.mini_laws.specs.Rows.{SameAt}
 use Rattle.mini_laws.specs.Rewritten.{MeansSame}
 use Rattle.mini_laws.specs.Targets.{assigns}
 use Rattle.mini_laws.proofs.Runs.{either_cong, either_assoc, either_eta, run_bind}
-use Rattle.mini_terms.specs.Reading.{stands, by_value, is_item, is_unguarded}
+use Rattle.mini_terms.specs.Reading.{stands, by_value, is_item, is_plain_part, is_unguarded}
 use Rattle.mini_terms.proofs.Opened.{negation_opened}
 use Rattle.mini_terms.proofs.Reading.{read_by_value, same_in_seat}
 use Rattle.mini_rows.specs.Lists.{of_parts, sequence}
-use Rattle.mini_rows.specs.Sequences.{Conversion, Plus, Minus, Complement, conversion_operator, Operation, Decides, Chooses, Negates, Operates, Converts, Yields, over, Row20, Row21, Row21Idle, Row21Alone, SequenceRow, SequenceContracts}
+use Rattle.mini_rows.specs.Sequences.{Conversion, Plus, Minus, Complement, conversion_operator, Operation, Decides, Chooses, Negates, Operates, Converts, Yields, over, along, Row20, Row21, Row21Idle, Row21Alone, SequenceRow, SequenceContracts}
 use Rattle.mini_rows.proofs.ChoiceRuns.{value, conditional_value, logical_value, binary_value, binary_names, sides, bind_free, made_free, numeric_free, operate_by_free}
 use Rattle.mini_rows.proofs.PlainRead.{plain_read}
 use Rattle.mini_rows.proofs.SequenceCalls.{left_plain, left_same}
@@ -107,15 +107,42 @@ lifted_value r p ps q e s =
     ∙ either_cong (means e (of_parts p ps) (As Unused) tt s) _ _ _ _ (λ u z. sym (over_value e r q z)) (λ x z. refl)
     ∙ sym (in_order e p ps (over r q) s)
 
-pub lifted_same : (r : Operation) (p : Tree) (ps : Trees) (q : Tree) → SameTree (over r (sequence (p ▸ append ps (q ▸ none)))) (sequence (p ▸ append ps (over r q ▸ none)))
-lifted_same (Decides o b) p ps q = same_value _ _ refl refl refl (lifted_value (Decides o b) p ps q)
-lifted_same (Chooses b c) p ps q = same_value _ _ refl refl refl (lifted_value (Chooses b c) p ps q)
-lifted_same Negates p ps q = same_value _ _ refl refl refl (lifted_value Negates p ps q)
-lifted_same (Operates o b) p ps q = same_value _ _ refl refl refl (lifted_value (Operates o b) p ps q)
-lifted_same (Converts Plus) p ps q = same_value _ _ refl refl refl (lifted_value (Converts Plus) p ps q)
-lifted_same (Converts Minus) p ps q = same_value _ _ refl refl refl (lifted_value (Converts Minus) p ps q)
-lifted_same (Converts Complement) p ps q = same_value _ _ refl refl refl (lifted_value (Converts Complement) p ps q)
-lifted_same (Yields d) p ps q = same_value _ _ refl refl refl (lifted_value (Yields d) p ps q)
+-- so it is over one that has the value of a sequence
+over_same : (r : Operation) (t : Tree) (p : Tree) (ps : Trees) (q : Tree) → ((e : Environment) (s : State) → value e t s ≡ value e (sequence (p ▸ append ps (q ▸ none))) s) → (e : Environment) (s : State) → value e (over r t) s ≡ value e (sequence (p ▸ append ps (over r q ▸ none))) s
+over_same r t p ps q h e s =
+    over_value e r t s
+    ∙ ap (λ y. either y (λ v z. follows e r v z) (λ x z. stop x z)) (h e s)
+    ∙ sym (over_value e r (sequence (p ▸ append ps (q ▸ none))) s)
+    ∙ lifted_value r p ps q e s
+
+along_value : (rs : List Operation) (p : Tree) (ps : Trees) (q : Tree) (e : Environment) (s : State) → value e (along rs (sequence (p ▸ append ps (q ▸ none)))) s ≡ value e (sequence (p ▸ append ps (along rs q ▸ none))) s
+along_value [] p ps q e s = refl
+along_value (r ∷ rs) p ps q e s = over_same r (along rs (sequence (p ▸ append ps (q ▸ none)))) p ps (along rs q) (along_value rs p ps q) e s
+
+-- of each of them a parent reads nothing
+plain_along : (rs : List Operation) (ts : Trees) → is_plain_part (along rs (sequence ts)) ≡ true
+plain_along [] ts = refl
+plain_along (Decides o b ∷ rs) ts = refl
+plain_along (Chooses b c ∷ rs) ts = refl
+plain_along (Negates ∷ rs) ts = plain_along rs ts
+plain_along (Operates o b ∷ rs) ts = refl
+plain_along (Converts Plus ∷ rs) ts = refl
+plain_along (Converts Minus ∷ rs) ts = refl
+plain_along (Converts Complement ∷ rs) ts = refl
+plain_along (Yields d ∷ rs) ts = refl
+
+alike : (r : Operation) (t : Tree) (ts : Trees) → is_plain_part t ≡ true → ((e : Environment) (s : State) → value e (over r t) s ≡ value e (sequence ts) s) → SameTree (over r t) (sequence ts)
+alike (Decides o b) t ts p h = same_value _ _ refl refl refl h
+alike (Chooses b c) t ts p h = same_value _ _ refl refl refl h
+alike Negates t ts p h = same_value _ _ refl refl (plain_read t p) h
+alike (Operates o b) t ts p h = same_value _ _ refl refl refl h
+alike (Converts Plus) t ts p h = same_value _ _ refl refl refl h
+alike (Converts Minus) t ts p h = same_value _ _ refl refl refl h
+alike (Converts Complement) t ts p h = same_value _ _ refl refl refl h
+alike (Yields d) t ts p h = same_value _ _ refl refl refl h
+
+pub lifted_same : (r : Operation) (rs : List Operation) (p : Tree) (ps : Trees) (q : Tree) → SameTree (over r (along rs (sequence (p ▸ append ps (q ▸ none))))) (sequence (p ▸ append ps (over r (along rs q) ▸ none)))
+lifted_same r rs p ps q = alike r (along rs (sequence (p ▸ append ps (q ▸ none)))) (p ▸ append ps (over r (along rs q) ▸ none)) (plain_along rs (p ▸ append ps (q ▸ none))) (over_same r (along rs (sequence (p ▸ append ps (q ▸ none)))) p ps (along rs q) (along_value rs p ps q))
 
 -- ---- 21
 
@@ -125,7 +152,7 @@ spread_same before a b ps after = same_value _ _ refl refl refl (λ e s. spread_
 -- ---- all
 
 lifted_row : (n w : Tree) (s : Seat) → Row20 s n w → SameTree n w
-lifted_row n w s r = same_by n w _ _ r.shape r.written (lifted_same r.operation r.first r.others r.last)
+lifted_row n w s r = same_by n w _ _ r.shape r.written (lifted_same r.operation r.operations r.first r.others r.last)
 
 spread_row : (n w : Tree) → Row21 n w → SameTree n w
 spread_row n w r = same_by n w _ _ r.shape r.written (spread_same r.before r.first r.second r.others r.after)

@@ -1,10 +1,10 @@
 -- What a row on sequences writes weighs less wherever the expression stands.
-use Rattle.std.proofs.Common.{◌≡◌, ℕ, ◌+◌, ◌*◌, ◌<◌, ◌≤◌, Bool, true, false, List, refl, sym, ap, subst, ◌∙◌, ◌⊎◌, inl, inr, true≢false, ltb-true, ltb-false, arith}
+use Rattle.std.proofs.Common.{◌≡◌, ℕ, ◌+◌, ◌*◌, ◌<◌, ◌≤◌, Bool, true, false, List, [], ◌∷◌, refl, sym, ap, subst, ◌∙◌, ◌⊎◌, inl, inr, true≢false, ltb-true, ltb-false, arith}
 use Rattle.std.specs.Prelude.{◌&&◌, ◌||◌, not, nat_eq, nat_lt, if◌then◌else◌, pos, negsuc}
 use Rattle.std.proofs.lemmas.Bool.{and_parts, eqb-true}
 use Rattle.mini_model.specs.declared.operator.BinaryOperator.{BinaryOperator}
 use Rattle.mini_model.specs.declared.operator.BinaryOperator.TheVariants as binary_operator
-use Rattle.mini_model.specs.declared.operator.UnaryOperator.TheVariants.{UnaryPlus, UnaryNegation, BitwiseNot, Void}
+use Rattle.mini_model.specs.declared.operator.UnaryOperator.TheVariants.{LogicalNot, UnaryPlus, UnaryNegation, BitwiseNot, Void}
 use Rattle.mini_model.specs.declared.operator.LogicalOperator.{LogicalOperator}
 use Rattle.mini_model.specs.declared.operator.LogicalOperator.TheVariants.{Or, And, Coalesce}
 use Rattle.mini_model.specs.declared.place.Position.{Position}
@@ -16,14 +16,14 @@ use Rattle.mini_model.specs.declared.shape.Shape.{Shape}
 use Rattle.mini_model.specs.declared.shape.Shape.TheVariants as shape
 use Rattle.mini_model.specs.Tree.{Tree, Trees, node, none, ◌▸◌, count, listed}
 use Rattle.mini_model.specs.Paths.{append}
-use Rattle.mini_model.specs.Position.{seat_of_level, left_level, unary_level, unary_operand_seat, binary_operand_seat, left_operand_seat, right_operand_seat, conditional_test_seat, branch_seat, passed_part_seat, not_operand_seat, yield_argument_seat}
+use Rattle.mini_model.specs.Position.{seat_of_level, left_level, unary_level, unary_operand_seat, binary_operand_seat, left_operand_seat, conditional_test_seat, passed_part_seat, not_operand_seat, yield_argument_seat}
 use Rattle.mini_model.specs.Weight.{Outline, outline, outlines, weight, place_weight, nth_items, first_is_zero, level_of, mixes, is_chain, is_call, is_parenthesized, is_awkward}
 use Rattle.mini_laws.specs.Weights.{Lightens, counts_items}
 use Rattle.mini_laws.proofs.Seats.{placed, placed_node}
 use Rattle.mini_terms.specs.Parts.{weighs}
 use Rattle.mini_terms.specs.Reading.{first_of, is_plain_part, are_plain_parts}
 use Rattle.mini_rows.specs.Lists.{sequence}
-use Rattle.mini_rows.specs.Sequences.{Conversion, Plus, Minus, Complement, conversion_operator, Operation, Decides, Chooses, Negates, Operates, Converts, Yields, over, is_open_seat, is_unmixed, takes_alone, Row21Alone, SequenceRow, SequenceContracts, SequencesLighter}
+use Rattle.mini_rows.specs.Sequences.{Conversion, Plus, Minus, Complement, conversion_operator, Operation, Decides, Chooses, Negates, Operates, Converts, Yields, over, along, is_open_seat, is_unmixed, takes_alone, Row21Alone, SequenceRow, SequenceContracts, SequencesLighter}
 use Rattle.mini_rows.proofs.ListWeights.{parts_total, parts_weight, sequence_weighs}
 use Rattle.mini_rows.proofs.SequenceCalls.{left_plain}
 use Rattle.mini_rows.proofs.FoldWeights.{two, no_inner, there, no_choice}
@@ -119,6 +119,11 @@ operator_marks binary_operator.Equality os = refl
 operator_marks binary_operator.Exponential os = refl
 operator_marks o os = refl
 
+-- no operator's marks ask what it joins
+no_plain_operator : (s : Seat) (o : BinaryOperator) (os ps : List Outline) → place_weight (Expr s) (shape.BinaryExpression o) os ≡ place_weight (Expr s) (shape.BinaryExpression o) ps
+no_plain_operator s binary_operator.Equality os ps = refl
+no_plain_operator s o os ps = refl
+
 -- what a `-` stands before weighs as behind any other
 
 abbrev conversion_seat : Conversion → Seat
@@ -137,67 +142,88 @@ left_moved Or s t = placed 4 (left_operand_seat Or s) passed_part_seat refl (lef
 left_moved And s t = placed 4 (left_operand_seat And s) passed_part_seat refl (left_marks And s) t
 left_moved Coalesce s t = placed 4 (left_operand_seat Coalesce s) passed_part_seat refl (left_marks Coalesce s) t
 
-right_moved : (o : LogicalOperator) (s s' : Seat) (t : Tree) → weight (Expr (right_operand_seat o s)) t ≤ weight (Expr (right_operand_seat o s')) t + 0
-right_moved Or s s' t = placed 0 (right_operand_seat Or s) (right_operand_seat Or s') refl (λ h os. omega arith) t
-right_moved And s s' t = placed 0 (right_operand_seat And s) (right_operand_seat And s') refl (λ h os. omega arith) t
-right_moved Coalesce s s' t = placed 0 (right_operand_seat Coalesce s) (right_operand_seat Coalesce s') refl (λ h os. omega arith) t
+-- the seat of the first operand
+abbrev operand_seat : Operation → Seat → Seat
+operand_seat (Decides o b) s = left_operand_seat o s
+operand_seat (Chooses b c) s = conditional_test_seat
+operand_seat Negates s = not_operand_seat
+operand_seat (Operates o b) s = binary_operand_seat o 0
+operand_seat (Converts c) s = conversion_seat c
+operand_seat (Yields d) s = yield_argument_seat
 
-branch_moved : (s s' : Seat) (t : Tree) → weight (Expr (branch_seat s)) t ≤ weight (Expr (branch_seat s')) t + 0
-branch_moved s s' t = placed 0 (branch_seat s) (branch_seat s') refl (λ h os. omega arith) t
+-- with another operand a node weighs what the operand weighs more or less
+exchanged : (s : Seat) (r : Operation) (x y : Tree) → weight (Expr s) (over r x) + weight (Expr (operand_seat r s)) y ≡ weight (Expr s) (over r y) + weight (Expr (operand_seat r s)) x
+exchanged s (Decides Or b) x y = omega arith
+exchanged s (Decides And b) x y = omega arith
+exchanged s (Decides Coalesce b) x y = omega arith
+exchanged s (Chooses b c) x y = omega arith
+exchanged s Negates x y = omega arith
+exchanged s (Operates o b) x y = let same = no_plain_operator s o (outlines (x ▸ b ▸ none)) (outlines (y ▸ b ▸ none)) in omega (arith, same)
+exchanged s (Converts Plus) x y = omega arith
+exchanged s (Converts Minus) x y = omega arith
+exchanged s (Converts Complement) x y = omega arith
+exchanged s (Yields d) x y = omega arith
 
--- the node over an operand as a part of a sequence, and over a sequence that has the operand as its last part: the parentheses and the
--- mark of the sequence are 5
-abbrev Falls : Seat → Operation → Type 0
-Falls s r = (p : Tree) (ps : Trees) (q : Tree) → weight (Expr passed_part_seat) (over r q) + parts_weight p (append ps (q ▸ none)) + 1 ≤ weight (Expr s) (over r (sequence (p ▸ append ps (q ▸ none)))) + weight (Expr passed_part_seat) q
+-- as a part of a sequence it has neither parentheses nor a mark
+part_marks : (s : Seat) (h : Shape) (os : List Outline) → place_weight (Expr passed_part_seat) h os ≡ 0 → place_weight (Expr passed_part_seat) h os ≤ place_weight (Expr s) h os + 0
+part_marks s h os e = omega (arith, e)
 
-node_falls : (s : Seat) (r : Operation) → Falls s r
-node_falls s (Decides Or b) p ps q =
-    let inner = sequence_weighs (left_operand_seat Or s) p (append ps (q ▸ none)) in
-    let first = left_moved Or passed_part_seat q in
-    let second = right_moved Or passed_part_seat s b in
-    omega (arith, inner, first, second)
-node_falls s (Decides And b) p ps q =
-    let inner = sequence_weighs (left_operand_seat And s) p (append ps (q ▸ none)) in
-    let first = left_moved And passed_part_seat q in
-    let second = right_moved And passed_part_seat s b in
-    omega (arith, inner, first, second)
-node_falls s (Decides Coalesce b) p ps q =
-    let inner = sequence_weighs (left_operand_seat Coalesce s) p (append ps (q ▸ none)) in
-    let first = left_moved Coalesce passed_part_seat q in
-    let second = right_moved Coalesce passed_part_seat s b in
-    omega (arith, inner, first, second)
-node_falls s (Chooses b c) p ps q =
-    let inner = sequence_weighs conditional_test_seat p (append ps (q ▸ none)) in
-    let first = placed 4 conditional_test_seat passed_part_seat refl test_marks q in
-    let second = branch_moved passed_part_seat s b in
-    let third = branch_moved passed_part_seat s c in
-    omega (arith, inner, first, second, third)
-node_falls s Negates p ps q =
-    let inner = sequence_weighs not_operand_seat p (append ps (q ▸ none)) in
-    let first = placed 4 not_operand_seat passed_part_seat refl not_marks q in
-    omega (arith, inner, first)
-node_falls s (Operates o b) p ps q =
-    let inner = sequence_weighs (binary_operand_seat o 0) p (append ps (q ▸ none)) in
-    let marks = sequence_marks o (outlines (listed (p ▸ append ps (q ▸ none)) ▸ none)) in
-    let own = operator_marks o (outlines (q ▸ b ▸ none)) in
-    let first = operand_moved o q in
-    omega (arith, inner, marks, own, first)
-node_falls s (Converts Plus) p ps q =
-    let inner = sequence_weighs (unary_operand_seat UnaryPlus) p (append ps (q ▸ none)) in
-    let first = conversion_moved Plus q in
-    omega (arith, inner, first)
-node_falls s (Converts Minus) p ps q =
-    let inner = sequence_weighs (unary_operand_seat UnaryNegation) p (append ps (q ▸ none)) in
-    let first = conversion_moved Minus q in
-    omega (arith, inner, first)
-node_falls s (Converts Complement) p ps q =
-    let inner = sequence_weighs (unary_operand_seat BitwiseNot) p (append ps (q ▸ none)) in
-    let first = conversion_moved Complement q in
-    omega (arith, inner, first)
-node_falls s (Yields d) p ps q =
-    let inner = sequence_weighs yield_argument_seat p (append ps (q ▸ none)) in
-    let first = yield_moved q in
-    omega (arith, inner, first)
+as_part : (s : Seat) (r : Operation) (x : Tree) → weight (Expr passed_part_seat) (over r x) ≤ weight (Expr s) (over r x) + 0
+as_part s (Decides Or b) x = placed_node 0 passed_part_seat s (shape.LogicalExpression Or) refl [] 0 (x ▸ (b ▸ none)) (part_marks s (shape.LogicalExpression Or) (outlines (x ▸ (b ▸ none))) refl)
+as_part s (Decides And b) x = placed_node 0 passed_part_seat s (shape.LogicalExpression And) refl [] 0 (x ▸ (b ▸ none)) (part_marks s (shape.LogicalExpression And) (outlines (x ▸ (b ▸ none))) refl)
+as_part s (Decides Coalesce b) x = placed_node 0 passed_part_seat s (shape.LogicalExpression Coalesce) refl [] 0 (x ▸ (b ▸ none)) (part_marks s (shape.LogicalExpression Coalesce) (outlines (x ▸ (b ▸ none))) refl)
+as_part s (Chooses b c) x = placed_node 0 passed_part_seat s shape.ConditionalExpression refl [] 0 (x ▸ (b ▸ (c ▸ none))) (part_marks s shape.ConditionalExpression (outlines (x ▸ (b ▸ (c ▸ none)))) refl)
+as_part s Negates x = placed_node 0 passed_part_seat s (shape.UnaryExpression LogicalNot) refl [] 0 (x ▸ none) (part_marks s (shape.UnaryExpression LogicalNot) (outlines (x ▸ none)) refl)
+as_part s (Operates o b) x = placed_node 0 passed_part_seat s (shape.BinaryExpression o) refl [] 0 (x ▸ (b ▸ none)) (part_marks s (shape.BinaryExpression o) (outlines (x ▸ (b ▸ none))) (operator_marks o (outlines (x ▸ (b ▸ none)))))
+as_part s (Converts Plus) x = placed_node 0 passed_part_seat s (shape.UnaryExpression UnaryPlus) refl [] 0 (x ▸ none) (part_marks s (shape.UnaryExpression UnaryPlus) (outlines (x ▸ none)) refl)
+as_part s (Converts Minus) x = placed_node 0 passed_part_seat s (shape.UnaryExpression UnaryNegation) refl [] 0 (x ▸ none) (part_marks s (shape.UnaryExpression UnaryNegation) (outlines (x ▸ none)) refl)
+as_part s (Converts Complement) x = placed_node 0 passed_part_seat s (shape.UnaryExpression BitwiseNot) refl [] 0 (x ▸ none) (part_marks s (shape.UnaryExpression BitwiseNot) (outlines (x ▸ none)) refl)
+as_part s (Yields d) x = placed_node 0 passed_part_seat s (shape.YieldExpression d) refl [] 0 (x ▸ none) (part_marks s (shape.YieldExpression d) (outlines (x ▸ none)) refl)
+
+-- an operand has parentheses at most, where a sequence has 5, its parentheses and its mark
+operand_is : (r : Operation) (s : Seat) (t : Tree) → weight (Expr (operand_seat r s)) t ≤ weight (Expr passed_part_seat) t + 4
+operand_is (Decides o b) s t = left_moved o s t
+operand_is (Chooses b c) s t = placed 4 conditional_test_seat passed_part_seat refl test_marks t
+operand_is Negates s t = placed 4 not_operand_seat passed_part_seat refl not_marks t
+operand_is (Operates o b) s t = operand_moved o t
+operand_is (Converts c) s t = conversion_moved c t
+operand_is (Yields d) s t = yield_moved t
+
+sequence_is : (r : Operation) (s : Seat) (os : List Outline) → place_weight (Expr (operand_seat r s)) shape.SequenceExpression os ≡ 5
+sequence_is (Decides Or b) s os = refl
+sequence_is (Decides And b) s os = refl
+sequence_is (Decides Coalesce b) s os = refl
+sequence_is (Chooses b c) s os = refl
+sequence_is Negates s os = refl
+sequence_is (Operates o b) s os = sequence_marks o os
+sequence_is (Converts Plus) s os = refl
+sequence_is (Converts Minus) s os = refl
+sequence_is (Converts Complement) s os = refl
+sequence_is (Yields d) s os = refl
+
+module _ (p : Tree) (ps : Trees) (q : Tree) where
+  abbrev parts : Trees
+  parts = append ps (q ▸ none)
+
+  -- the last part in place of the sequence, however deep in first operands
+  operand_falls : (r : Operation) (s : Seat) (rs : List Operation) → weight (Expr (operand_seat r s)) (along rs q) + parts_weight p parts + 1 ≤ weight (Expr (operand_seat r s)) (along rs (sequence (p ▸ parts))) + weight (Expr passed_part_seat) q
+  operand_falls r s [] =
+      let inner = sequence_weighs (operand_seat r s) p parts in
+      let marks = sequence_is r s (outlines (listed (p ▸ parts) ▸ none)) in
+      let last = operand_is r s q in
+      omega (arith, inner, marks, last)
+  operand_falls r s (o ∷ rs) =
+      let same = exchanged (operand_seat r s) o (along rs q) (along rs (sequence (p ▸ parts))) in
+      let inner = operand_falls o (operand_seat r s) rs in
+      omega (arith, same, inner)
+
+  -- so the node over it as a part of a sequence
+  node_falls : (s : Seat) (r : Operation) (rs : List Operation) → weight (Expr passed_part_seat) (over r (along rs q)) + parts_weight p parts + 1 ≤ weight (Expr s) (over r (along rs (sequence (p ▸ parts)))) + weight (Expr passed_part_seat) q
+  node_falls s r rs =
+      let moved = as_part s r (along rs q) in
+      let same = exchanged s r (along rs q) (along rs (sequence (p ▸ parts))) in
+      let inner = operand_falls r s rs in
+      omega (arith, moved, same, inner)
 
 -- the parts of a list, and a comma for each
 
@@ -208,13 +234,14 @@ all_append : (a b : Trees) → all_weigh (append a b) ≡ all_weigh a + all_weig
 all_append none b = omega arith
 all_append (t ▸ a) b = let rest = all_append a b in omega (arith, rest)
 
-lifted_falls : (s : Seat) → is_open_seat s ≡ true → (r : Operation) (p : Tree) (ps : Trees) (q : Tree) → weight (Expr s) (sequence (p ▸ append ps (over r q ▸ none))) < weight (Expr s) (over r (sequence (p ▸ append ps (q ▸ none))))
-lifted_falls s h r p ps q =
-    let whole = sequence_weighs s p (append ps (over r q ▸ none)) in
-    let plain = open_marks s h (outlines (listed (p ▸ append ps (over r q ▸ none)) ▸ none)) in
+lifted_falls : (s : Seat) → is_open_seat s ≡ true → (r : Operation) (rs : List Operation) (p : Tree) (ps : Trees) (q : Tree) → weight (Expr s) (sequence (p ▸ append ps (over r (along rs q) ▸ none))) < weight (Expr s) (over r (along rs (sequence (p ▸ append ps (q ▸ none)))))
+lifted_falls s h r rs p ps q =
+    let last = over r (along rs q) in
+    let whole = sequence_weighs s p (append ps (last ▸ none)) in
+    let plain = open_marks s h (outlines (listed (p ▸ append ps (last ▸ none)) ▸ none)) in
     let inner = all_append ps (q ▸ none) in
-    let outer = all_append ps (over r q ▸ none) in
-    let falls = node_falls s r p ps q in
+    let outer = all_append ps (last ▸ none) in
+    let falls = node_falls p ps q s r rs in
     omega (arith, whole, plain, inner, outer, falls)
 
 -- ---- 21
@@ -319,7 +346,7 @@ module _ (s : Seat) (t : takes_alone s ≡ true) where
 -- ---- all
 
 pub lighter : SequencesLighter
-lighter (Expr s) n w (inl r) = falls_by (Expr s) n w _ _ r.shape r.written (lifted_falls s r.seated r.operation r.first r.others r.last)
+lighter (Expr s) n w (inl r) = falls_by (Expr s) n w _ _ r.shape r.written (lifted_falls s r.seated r.operation r.operations r.first r.others r.last)
 lighter (Expr s) n w (inr (inl r)) = falls_by (Expr s) n w _ _ r.shape r.written (spread_falls s r.before r.first r.second r.others r.after)
 lighter (Expr s) n w (inr (inr (inl r))) = falls_by (Expr s) n w _ _ r.shape r.written (idle_falls s r.before r.idle r.next r.after)
 lighter (Expr s) n w (inr (inr (inr r))) = let falls = alone_falls s r.seated r.idle r.last r.heavy (left_plain s r.last r.stays) in falls_by (Expr s) n w _ _ r.shape r.written (omega (arith, falls))
@@ -351,7 +378,7 @@ alone_alike s n w r =
     }
 
 read_lightly : (p : Position) (n w : Tree) → SequenceRow p n w → ReadLightly p n w
-read_lightly (Expr s) n w (inl r) = whole_alike (Expr s) n w (ap outline r.shape ∙ over_outline r.operation (sequence (r.first ▸ append r.others (r.last ▸ none))) (r.first ▸ append r.others (over r.operation r.last ▸ none)) ∙ sym (ap outline r.written))
+read_lightly (Expr s) n w (inl r) = whole_alike (Expr s) n w (ap outline r.shape ∙ over_outline r.operation (along r.operations (sequence (r.first ▸ append r.others (r.last ▸ none)))) (r.first ▸ append r.others (over r.operation (along r.operations r.last) ▸ none)) ∙ sym (ap outline r.written))
 read_lightly (Expr s) n w (inr (inl r)) = whole_alike (Expr s) n w (ap outline r.shape ∙ sym (ap outline r.written))
 read_lightly (Expr s) n w (inr (inr (inl r))) = whole_alike (Expr s) n w (ap outline r.shape ∙ sym (ap outline r.written))
 read_lightly (Expr s) n w (inr (inr (inr r))) = alone_alike s n w r

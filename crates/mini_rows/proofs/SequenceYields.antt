@@ -1,5 +1,5 @@
 -- A `yield` over a sequence: what it does, and where it stands.
-use Rattle.std.proofs.Common.{◌≡◌, Bool, true, false, [], ◌∷◌, refl, ap, ◌∙◌}
+use Rattle.std.proofs.Common.{◌≡◌, Bool, true, false, [], ◌∷◌, refl, sym, ap, ◌∙◌}
 use Rattle.std.specs.Prelude.{◌&&◌, None, if◌then◌else◌}
 use Rattle.mini_model.specs.declared.shape.Shape.TheVariants as shape
 use Rattle.mini_model.specs.Tree.{Tree, Trees, none, ◌▸◌, absent}
@@ -14,7 +14,6 @@ use Rattle.mini_laws.specs.Naming.{summaries, naming}
 use Rattle.mini_laws.specs.Replies.{reply}
 use Rattle.mini_laws.specs.Step.{step, means, meaning}
 use Rattle.mini_laws.proofs.Runs.{either_cong, either_eta, run_bind}
-use Rattle.mini_rows.specs.Lists.{sequence}
 use Rattle.mini_rows.specs.Sequences.{yielded}
 use Rattle.mini_rows.proofs.ChoiceRuns.{value}
 
@@ -54,18 +53,18 @@ yield_nowhere false d in_module = refl
 yield_nowhere false d in_body = refl
 yield_nowhere false d nested = refl
 
-module _ (strict d : Bool) (ts : Trees) where
+module _ (strict d : Bool) (t : Tree) (there : fits strict (one_or_absent an_expression) t ≡ fits strict expression t) where
   abbrev Fits : Tree → Type 0
-  Fits t = fits strict expression t ≡ true
+  Fits u = fits strict expression u ≡ true
 
   abbrev here : Trees
-  here = sequence ts ▸ none
+  here = t ▸ none
 
-  operand_fits : (b : Bool) → fits strict (if b then one an_expression else one_or_absent an_expression) (sequence ts) && true ≡ true → Fits (sequence ts)
-  operand_fits true e = left (fits strict expression (sequence ts)) true e
-  operand_fits false e = left (fits strict expression (sequence ts)) true e
+  operand_fits : (b : Bool) → fits strict (if b then one an_expression else one_or_absent an_expression) t && true ≡ true → Fits t
+  operand_fits true e = left (fits strict expression t) true e
+  operand_fits false e = sym there ∙ left (fits strict (one_or_absent an_expression) t) true e
 
-  yield_in : (k : Class) → fits strict (one k) (yielded d (sequence ts)) ≡ true → TakesExpressionIn k × Fits (sequence ts)
+  yield_in : (k : Class) → fits strict (one k) (yielded d t) ≡ true → TakesExpressionIn k × Fits t
   yield_in an_expression e = (tt, operand_fits d e)
   yield_in a_link e = (tt, operand_fits d e)
   yield_in an_argument e = (tt, operand_fits d e)
@@ -79,7 +78,7 @@ module _ (strict d : Bool) (ts : Trees) where
   yield_in (an_inner_key true) e = absurd (refused_here strict (one (an_inner_key true)) (shape.YieldExpression d) [] 0 here refl e)
   yield_in k e = absurd (refused_here strict (one k) (shape.YieldExpression d) [] 0 here refl e)
 
-  pub yield_at : (s : Slot) → fits strict s (yielded d (sequence ts)) ≡ true → TakesExpression s × Fits (sequence ts)
+  pub yield_at : (s : Slot) → fits strict s (yielded d t) ≡ true → TakesExpression s × Fits t
   yield_at (one k) e = yield_in k e
   yield_at (one_or_absent k) e = yield_in k e
   yield_at s e = absurd (refused_here strict s (shape.YieldExpression d) [] 0 here refl e)

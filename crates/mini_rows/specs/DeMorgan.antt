@@ -1,4 +1,4 @@
--- Rows of expressions whose values nobody uses, of statements and of parts of sequences: each is a shape and what is written in its place, with the JavaScript
+-- Rows of expressions whose values nobody uses, of statements, of the heads of `for` and of parts of sequences: each is a shape and what is written in its place, with the JavaScript
 -- before and after.
 use Rattle.std.specs.Prelude.{◌≡◌, ◌<◌, true, false}
 use Rattle.mini_model.specs.declared.operator.LogicalOperator.{LogicalOperator}
@@ -10,23 +10,36 @@ use Rattle.mini_model.specs.Position.{is_and_or, statement_expression_seat, left
 use Rattle.mini_model.specs.Terms.{turned}
 use Rattle.mini_model.specs.Weight.{weight}
 use Rattle.mini_node.specs.Kinds.{is_logical}
-use Rattle.mini_rows.specs.Lists.{sequence}
+use Rattle.mini_rows.specs.Lists.{sequence, for_loop}
 use Rattle.mini_rows.specs.Negations.{lightest}
 
 -- the left side negated under the other operator
 abbrev pub turned_logical : LogicalOperator → Tree → Tree → Tree
 turned_logical o a b = logical (turned o) (lightest (left_operand_seat (turned o) statement_expression_seat) a) b
 
--- 50: `!a && b;` becomes `a || b;`, and `!a || b;` `a && b;` (De Morgan): which side is evaluated stays, and nobody asks for the value.
--- `a && (b && c);` is joined instead, which is lighter
+-- where an expression stands whose value nobody asks for: as a statement, as what a `for` begins with, and as what it does after each
+-- turn (ECMA-262, "ExpressionStatement", "ForLoopEvaluation")
+pub data VoidPlace : Type 0 where
+  Alone : VoidPlace
+  Begins : Tree → Tree → Tree → VoidPlace
+  Turns : Tree → Tree → Tree → VoidPlace
+
+abbrev pub void_of : VoidPlace → Tree → Tree
+void_of Alone x = expression_statement x
+void_of (Begins test update body) x = for_loop x test update body
+void_of (Turns init test body) x = for_loop init test x body
+
+-- 50: `!a && b;` becomes `a || b;`, and `!a || b;` `a && b;` (De Morgan): which side is evaluated stays, and nobody asks for the value;
+-- and `for (!a && b;;) c` becomes `for (a || b;;) c`. `a && (b && c);` is joined instead, which is lighter
 pub record Row50 (n w : Tree) : Type 0 where
+  pub place : VoidPlace
   pub operator : LogicalOperator
   pub a : Tree
   pub b : Tree
   pub tells : is_and_or operator ≡ true
   pub apart : is_logical operator b ≡ false
-  pub shape : n ≡ expression_statement (logical operator a b)
-  pub written : w ≡ expression_statement (turned_logical operator a b)
+  pub shape : n ≡ void_of place (logical operator a b)
+  pub written : w ≡ void_of place (turned_logical operator a b)
 
 -- 50, of a part of a sequence but the last: `a(), !b && c(), d()` becomes `a(), b || c(), d()`
 pub record Row50Part (n w : Tree) : Type 0 where

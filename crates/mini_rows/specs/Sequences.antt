@@ -1,6 +1,6 @@
 -- Rows on sequences, as equations: each is a shape and what is written in its place, with the JavaScript before and after. No order of
 -- rewriting is meant.
-use Rattle.std.specs.Prelude.{◌≡◌, ◌<◌, ◌⊎◌, ◌&&◌, ◌||◌, Bool, true, false, not, nat_eq, nat_le, nat_lt, [], codes}
+use Rattle.std.specs.Prelude.{◌≡◌, ◌<◌, ◌⊎◌, ◌&&◌, ◌||◌, Bool, true, false, not, nat_eq, nat_le, nat_lt, List, [], ◌∷◌, codes}
 use Rattle.mini_model.specs.declared.operator.BinaryOperator.{BinaryOperator}
 use Rattle.mini_model.specs.declared.operator.LogicalOperator.{LogicalOperator}
 use Rattle.mini_model.specs.declared.operator.UnaryOperator.{UnaryOperator}
@@ -58,10 +58,20 @@ over (Operates o b) a = binary o a b
 over (Converts c) a = unary (conversion_operator c) a
 over (Yields is_delegate) a = yielded is_delegate a
 
+-- such nodes one in the first operand of the other, from the outside in, and this in the first operand of the last: `a + b < c` over a
+abbrev pub along : List Operation → Tree → Tree
+along [] a = a
+along (r ∷ rs) a = over r (along rs a)
+
 -- no number comes to stand behind a `-`, which would be one with it
 abbrev pub takes_last : Operation → Tree → Bool
 takes_last (Converts Minus) q = not (is_number q)
 takes_last r q = true
+
+-- so it is asked of the innermost of them
+abbrev pub takes_along : Operation → List Operation → Tree → Bool
+takes_along r [] q = takes_last r q
+takes_along r (o ∷ rs) q = takes_along o rs q
 
 -- a sequence stands there without parentheses, as the expression of a statement, a `return` or a test does, and is not to be
 -- lifted out of it again
@@ -92,16 +102,18 @@ stays_alone s t = suits s t || is_called_plainly s t
 -- ---- rows
 
 -- 20: `(a, b) && c` becomes `a, b && c`, `(a, b) ? c : d` becomes `a, b ? c : d`, `!(a, b)` becomes `a, !b`, `(a, b) + c` becomes
--- `a, b + c`, `-(a, b)` becomes `a, -b`, and `yield (a, b)` becomes `a, yield b`
+-- `a, b + c`, `-(a, b)` becomes `a, -b`, and `yield (a, b)` becomes `a, yield b`; so does a node over others over the sequence, whose first
+-- operands each is evaluated before all else: `(a, b) + c < d` becomes `a, b + c < d`, and `!((a, b) == c)` becomes `a, !(b == c)`
 pub record Row20 (s : Seat) (n w : Tree) : Type 0 where
   pub operation : Operation
+  pub operations : List Operation
   pub first : Tree
   pub others : Trees
   pub last : Tree
   pub seated : is_open_seat s ≡ true
-  pub takes : takes_last operation last ≡ true
-  pub shape : n ≡ over operation (sequence (first ▸ append others (last ▸ none)))
-  pub written : w ≡ sequence (first ▸ append others (over operation last ▸ none))
+  pub takes : takes_along operation operations last ≡ true
+  pub shape : n ≡ over operation (along operations (sequence (first ▸ append others (last ▸ none))))
+  pub written : w ≡ sequence (first ▸ append others (over operation (along operations last) ▸ none))
 
 -- 21: `a, (b, c), d` becomes `a, b, c, d`
 pub record Row21 (n w : Tree) : Type 0 where

@@ -1,15 +1,15 @@
 //! Rows 20 and 21: a sequence is lifted out of the first operand of a logical expression, a conditional, a `!`, `+`, `-` or `~`, an operator
-//! of two, or a `yield`, and spread in a sequence; parts that have no effect go, but the last. `(a, b) && c` becomes `a, b && c`, `-(a, b)` becomes
-//! `a, -b`, `a, (b, c)` becomes `a, b, c`, `a(), 1, b()` becomes `a(), b()`, and `(0, a)()` becomes `a()`. What is written is lighter in every place.
+//! of two, or a `yield`, or of such nodes one in the first operand of the other, and spread in a sequence; parts that have no effect go, but the last.
+//! `(a, b) && c` becomes `a, b && c`, `-(a, b)` becomes `a, -b`, `(a, b) + c < d` becomes `a, b + c < d`, `a, (b, c)` becomes `a, b, c`, `a(), 1, b()` becomes `a(), b()`, and `(0, a)()` becomes `a()`. What is written is lighter in every place.
 
-ghost use Rattle.std.specs.Prelude.{◌≡◌, ◌+◌, ◌<◌, ◌&&◌, true, false, nat_le, is_some, IfOk, IfSome};
-ghost use Rattle.mini_model.specs.Tree.{children, count, child_or_absent};
+ghost use Rattle.std.specs.Prelude.{◌≡◌, ◌+◌, ◌<◌, ◌==◌, ◌&&◌, true, false, nat_le, is_some, IfOk, IfSome};
+ghost use Rattle.mini_model.specs.Tree.{children, count, child_or_absent, shape_of};
 ghost use Rattle.mini_node.specs.Children.{part, without};
-ghost use Rattle.mini_node.specs.Kinds.{sequence as sequence_of, is_sequence as is_it_sequence, unary_operator as unary_operator_of};
+ghost use Rattle.mini_node.specs.Kinds.{sequence as sequence_of, is_sequence as is_it_sequence, is_sequence_shape, unary_operator as unary_operator_of};
 ghost use Rattle.mini_terms.specs.Parts.{is_number as is_it_number};
 ghost use Rattle.mini_rows.specs.Sequences.{is_open_seat as is_it_open_seat, is_unmixed as is_it_unmixed, takes_alone as takes_it_alone, is_callee as is_it_callee, is_called_plainly as is_it_called_plainly, stays_alone as stays_it_alone};
 ghost use Rattle.mini_tree.specs.Rule.{Applied};
-ghost use Rattle.mini_fold.specs.FoldSequences.{has_several as has_it_several, is_several as is_it_several, converts as converts_by, is_minus as is_it_minus, is_yield as is_it_yield, is_operation as is_it_operation, takes_last_of, gives_parts as it_gives_parts, is_lifted as is_it_lifted, last_of, but_last, lifted, any_of, spread_at, is_nested as is_it_nested, is_idle as is_it_idle, idle_before_last, is_left as is_it_left, Gives, Rests};
+ghost use Rattle.mini_fold.specs.FoldSequences.{has_several as has_it_several, is_several as is_it_several, converts as converts_by, is_minus as is_it_minus, is_yield as is_it_yield, is_operation as is_it_operation, takes_last_of, gives_parts as it_gives_parts, reaches_sequence as reaches_it_sequence, is_lifted as is_it_lifted, last_of, but_last, parts_before, left_of, lifted, any_of, spread_at, is_nested as is_it_nested, is_idle as is_it_idle, idle_before_last, is_left as is_it_left, Gives, Rests};
 ghost use Rattle.mini_fold.specs.Lighter.{sequences_lighter};
 
 use crate::rewrites::decrement_counter::is_spelled_eval;
@@ -130,11 +130,22 @@ fn gives_parts(node: &Node, operand: &Node) -> bool
         && takes_last(node, operand.child(0).children())
 }
 
+// Whether a sequence is reached along first operands, whose last part may stand in its place.
+#[tactic(auto, using(crate::proofs::Sequences::reaches_by, crate::proofs::Sequences::part_fewer))]
+fn reaches_sequence(node: &Node) -> bool
+    ensures { result ≡ reaches_it_sequence node.now }
+{
+    if !is_operation(node) {
+        return false;
+    }
+    gives_parts(node, node.child(0)) || reaches_sequence(node.child(0))
+}
+
 // Whether it stands over a sequence that is to be lifted out.
 fn is_lifted(node: &Node, seat: Seat) -> bool
     ensures { result ≡ is_it_lifted seat node.now }
 {
-    is_open_seat(seat) && is_operation(node) && gives_parts(node, node.child(0))
+    is_open_seat(seat) && reaches_sequence(node)
 }
 
 /// Takes the last node out; of none, an absent part.
@@ -149,16 +160,52 @@ pub fn take_last(alloc: Global, nodes: &mut Nodes) -> Node
     }
 }
 
-// `a, b && c` of `(a, b) && c`, and `a, -b` of `-(a, b)`
-fn lift_sequence(alloc: Global, node: Node) -> Result<Node, OutOfMemory>
+// Whether it is a sequence, of how many parts ever.
+fn has_parts(node: &Node) -> bool
+    ensures { result ≡ is_sequence_shape (shape_of node.now) }
+{
+    matches!(node.shape(), Shape::SequenceExpression)
+}
+
+// Whether nothing stands in it.
+fn is_leaf(node: &Node) -> bool
+    ensures { result ≡ (count (children node.now) == 0) }
+{
+    node.children().is_empty()
+}
+
+// The parts of a sequence but the last, which is left in its place.
+fn split_sequence(alloc: Global, node: &mut Node) -> Nodes
+    requires { 0 < count (children node.old) }
+    ensures before { result ≡ but_last (children (part node.old 0)) }
+    ensures left { node.new ≡ last_of (children (part node.old 0)) }
+{
+    let mut parts = one(taken(alloc, node)).into_children();
+    *node = take_last(alloc, &mut parts);
+    parts
+}
+
+// The parts but the last of the sequence that it is, or of the one that is reached along first operands.
+#[tactic(auto, using(crate::proofs::Sequences::split_leaf, crate::proofs::Sequences::split_here, crate::proofs::Sequences::split_below, crate::proofs::Sequences::part_fewer))]
+fn split_first(alloc: Global, node: &mut Node) -> Nodes
+    ensures before { result ≡ parts_before node.old }
+    ensures left { node.new ≡ left_of node.old }
+{
+    if is_leaf(node) {
+        return Nodes::new(alloc);
+    }
+    if has_parts(node) {
+        return split_sequence(alloc, node);
+    }
+    split_first(alloc, node.children_mut().child_mut(0))
+}
+
+// `a, b && c` of `(a, b) && c`, and `a, b + c < d` of `(a, b) + c < d`
+fn lift_sequence(alloc: Global, mut node: Node) -> Result<Node, OutOfMemory>
     ensures { IfOk result (λ w. w ≡ lifted node) }
 {
-    let (shape, name, number, operands) = node.into_parts();
-    let mut operands = operands;
-    let mut parts = one(take_first(&mut operands)).into_children();
-    let last = take_last(alloc, &mut parts);
-    operands.insert(0, last)?;
-    parts.push(Node::with(shape, name, number, operands))?;
+    let mut parts = split_first(alloc, &mut node);
+    parts.push(node)?;
     sequence(alloc, parts)
 }
 

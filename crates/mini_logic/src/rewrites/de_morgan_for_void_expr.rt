@@ -1,26 +1,28 @@
-//! Row 50: `!a && b;` becomes `a || b;`, and `!a || b;` `a && b;`, where that is lighter; and so of a part of a sequence but the
-//! last: `a(), !b && c(), d()` becomes `a(), b || c(), d()`.
+//! Row 50: `!a && b;` becomes `a || b;`, and `!a || b;` `a && b;`, where that is lighter; so of what a `for` begins with or does after
+//! each turn: `for (!a && b;;) c` becomes `for (a || b;;) c`; and of a part of a sequence but the last: `a(), !b && c(), d()` becomes
+//! `a(), b || c(), d()`.
 
 ghost use Rattle.std.specs.Prelude.{◌≡◌, ◌+◌, ◌<◌, true, is_some, unwrap_or, OnOk, IfOk, IfSome};
 ghost use Rattle.mini_model.specs.declared.place.Position.TheVariants.{Expr};
 ghost use Rattle.mini_model.specs.Position.{left_operand_seat as left_seat, statement_expression_seat as statement_seat};
-ghost use Rattle.mini_model.specs.Tree.{children, count, child_or_absent, expression_statement as expression_statement_of, logical as logical_of};
+ghost use Rattle.mini_model.specs.Tree.{children, count, child_or_absent, logical as logical_of};
 ghost use Rattle.mini_model.specs.Weight.{capped, weight as weight_at};
 ghost use Rattle.mini_model.specs.Terms.{turned as turned_operator};
 ghost use Rattle.mini_node.specs.Children.{part as part_of};
 ghost use Rattle.mini_node.specs.Kinds.{sequence as sequence_of};
 ghost use Rattle.mini_tree.specs.Rule.{Applied};
 ghost use Rattle.mini_logic.specs.Lighter.{de_morgan_lighter};
+ghost use Rattle.mini_logic.specs.MinimizeForStatement.{is_for as is_it_for};
 ghost use Rattle.mini_logic.specs.MinimizeNegation.{told_lightest};
-ghost use Rattle.mini_logic.specs.DeMorganForVoidExpr.{turned_over as it_turned_over, turns as it_turns, written, is_turned as is_it_turned, turns_before_last, turned_part as it_turned_part, with_turned as it_with_turned, Gives, Rests};
+ghost use Rattle.mini_logic.specs.DeMorganForVoidExpr.{turned_over as it_turned_over, turns as it_turns, written, begins_void as it_begins_void, turns_first as it_turns_first, turns_third as it_turns_third, turned_at as it_turned_at, is_turned as is_it_turned, turns_before_last, turned_part as it_turned_part, with_turned as it_with_turned, Gives, Rests};
 
 use crate::rewrites::minimize_expression_in_boolean_context::is_and_or;
 use crate::terms::own_weight;
 use crate::whole::{lightest_negation, lightest_negation_weight};
-use mini_model::{LogicalOperator, OutOfMemory, Position, Seat};
+use mini_model::{LogicalOperator, OutOfMemory, Position, Seat, Shape};
 use mini_node::{
-    Node, Nodes, discard, expression_statement, is_expression_statement, is_logical, is_sequence,
-    logical, logical_operator, one, sequence, taken, two,
+    Node, Nodes, discard, is_expression_statement, is_logical, is_sequence, logical,
+    logical_operator, one, sequence, taken, two,
 };
 use mini_tree::{Context, Rule, expr_weight, seats};
 use std::alloc::Global;
@@ -76,38 +78,6 @@ fn turned_over(
     logical(alloc, other, negated, right)
 }
 
-// That as a statement.
-fn turned_statement(
-    alloc: Global,
-    operator: LogicalOperator,
-    statement: Node,
-) -> Result<Node, OutOfMemory>
-    ensures { IfOk result (λ w. w ≡ expression_statement_of (it_turned_over operator (part_of statement 0))) }
-{
-    let expression = turned_over(alloc, operator, one(statement))?;
-    expression_statement(alloc, expression)
-}
-
-/// `!a && b;` becomes `a || b;`, and `!a || b;` `a && b;`, where that is lighter. The answer says whether it did; the only error is
-/// that memory runs out, and then the statement is fit only to be dropped.
-pub fn de_morgan_for_void_expr(alloc: Global, node: &mut Node) -> Result<bool, OutOfMemory>
-    ensures tree { OnOk result (node.new ≡ unwrap_or (written node.old) node.old) }
-    ensures said { IfOk result (λ changed. changed ≡ is_some (written node.old)) }
-{
-    if !is_expression_statement(node) {
-        return Ok(false);
-    }
-    let Some(operator) = logical_operator(node.child(0)) else {
-        return Ok(false);
-    };
-    if !turns(operator, node.child(0)) {
-        return Ok(false);
-    }
-    let written = turned_statement(alloc, operator, taken(alloc, node))?;
-    *node = written;
-    Ok(true)
-}
-
 // Whether it turns where nobody asks its value.
 fn is_turned(node: &Node) -> bool
     ensures { result ≡ is_it_turned node.now }
@@ -116,6 +86,82 @@ fn is_turned(node: &Node) -> bool
         Some(operator) => turns(operator, node),
         None => false,
     }
+}
+
+// `b || c()` of `!b && c()`
+fn turned_part(alloc: Global, part: Node) -> Result<Node, OutOfMemory>
+    ensures { IfOk result (λ w. w ≡ it_turned_part part) }
+{
+    match logical_operator(&part) {
+        Some(operator) => turned_over(alloc, operator, part),
+        None => Ok(part),
+    }
+}
+
+// Whether it is a `for`.
+fn is_for(node: &Node) -> bool
+    ensures kind { result ≡ is_it_for node.now }
+    ensures parts { result ≡ true → count (children node.now) ≡ 4 }
+{
+    matches!(node.shape(), Shape::ForStatement) && node.is_bare(4)
+}
+
+// Whether what stands first in it is a value that nobody asks for.
+fn begins_void(node: &Node) -> bool
+    ensures kind { result ≡ it_begins_void node.now }
+    ensures parts { result ≡ true → 0 < count (children node.now) }
+{
+    is_expression_statement(node) || is_for(node)
+}
+
+// Whether that turns.
+fn turns_first(node: &Node) -> bool
+    ensures kind { result ≡ it_turns_first node.now }
+    ensures parts { result ≡ true → 0 < count (children node.now) }
+{
+    begins_void(node) && is_turned(node.child(0))
+}
+
+// Whether what a `for` does after each turn does.
+fn turns_third(node: &Node) -> bool
+    ensures kind { result ≡ it_turns_third node.now }
+    ensures parts { result ≡ true → 2 < count (children node.now) }
+{
+    is_for(node) && is_turned(node.child(2))
+}
+
+// It turns.
+fn turn(alloc: Global, part: &mut Node) -> Result<(), OutOfMemory>
+    ensures { OnOk result (part.new ≡ it_turned_part part.old) }
+{
+    *part = turned_part(alloc, taken(alloc, part))?;
+    Ok(())
+}
+
+// The part at a place turns.
+#[tactic(auto, using(crate::proofs::DeMorganForVoidExpr::part_put))]
+fn turn_at(alloc: Global, node: &mut Node, at: usize) -> Result<(), OutOfMemory>
+    requires { at < count (children node.old) }
+    ensures { OnOk result (node.new ≡ it_turned_at at node.old) }
+{
+    turn(alloc, node.children_mut().child_mut(at))
+}
+
+/// `!a && b;` becomes `a || b;`, and `!a || b;` `a && b;`, where that is lighter, and so do what a `for` begins with and what it does after each
+/// turn. The answer says whether one did; the only error is that memory runs out, and then the statement is fit only to be dropped.
+pub fn de_morgan_for_void_expr(alloc: Global, node: &mut Node) -> Result<bool, OutOfMemory>
+    ensures tree { OnOk result (node.new ≡ unwrap_or (written node.old) node.old) }
+    ensures said { IfOk result (λ changed. changed ≡ is_some (written node.old)) }
+{
+    if turns_first(node) {
+        turn_at(alloc, node, 0)?;
+        return Ok(true);
+    }
+    if turns_third(node) {
+        turn_at(alloc, node, 2)?;
+        return Ok(true);
+    }
+    Ok(false)
 }
 
 // The place of the first part that turns, but for the last.
@@ -130,16 +176,6 @@ fn turned_at(nodes: &Nodes) -> Option<usize>
         }
     }
     None
-}
-
-// `b || c()` of `!b && c()`
-fn turned_part(alloc: Global, part: Node) -> Result<Node, OutOfMemory>
-    ensures { IfOk result (λ w. w ≡ it_turned_part part) }
-{
-    match logical_operator(&part) {
-        Some(operator) => turned_over(alloc, operator, part),
-        None => Ok(part),
-    }
 }
 
 // The sequence with the part at a place turned.
