@@ -44,6 +44,7 @@ use Rattle.mini_rows.proofs.ArrowBodyLawful.{Instance, list_fits, none_mention, 
 use Rattle.mini_rows.proofs.FunctionBodyKept.{function_less, function_keeps, function_fixed, statements_frames, function_frames, function_bodies, function_declares}
 use Rattle.mini_rows.proofs.ModuleLawful.{OfModule, modules_loose}
 use Rattle.mini_rows.proofs.StaticBlockLawful.{OfStaticBlock, static_blocks_loose}
+use Rattle.mini_rows.proofs.SwitchLawful.{OfSwitch, switches_loose}
 use Rattle.mini_rows.proofs.UnusedLawful.{OfBlock, blocks_loose}
 use Rattle.mini_rows.proofs.UnusedNames.{or_parts}
 use Rattle.mini_rows.proofs.UnusedStretches.{body_item, Stretch, row_stretch}
@@ -331,15 +332,20 @@ OfList W p n w = OfModule W p n w ⊎ OfStaticBlock W p n w
 abbrev OfBody : VariableSet → Position → Tree → Tree → Type 0
 OfBody W p n w = OfFunction W p n w ⊎ OfList W p n w
 
+-- of what holds statements and is no body
+abbrev OfInner : Position → Tree → Tree → Type 0
+OfInner p n w = OfBlock p n w ⊎ OfSwitch p n w
+
 abbrev OfUnused : VariableSet → Position → Tree → Tree → Type 0
-OfUnused W p n w = OfBlock p n w ⊎ (OfArrow W p n w ⊎ OfBody W p n w)
+OfUnused W p n w = OfInner p n w ⊎ (OfArrow W p n w ⊎ OfBody W p n w)
 
 either_holder : (W : VariableSet) (p : Position) (n w : Tree) → UnusedContracts W p n w → OfUnused W p n w
 either_holder W p n w c = by p c.row
   where
     by : (p : Position) → UnusedRow W p n w → OfUnused W p n w
-    by (Stmt q) (inl r) = inl r
-    by (Stmt q) (inr r) = inr (inr (inl (refl, r)))
+    by (Stmt q) (inl r) = inl (inl r)
+    by (Stmt q) (inr (inl r)) = inr (inr (inl (refl, r)))
+    by (Stmt q) (inr (inr r)) = inl (inr r)
     by (Expr s) (inl r) = inr (inl r)
     by (Expr s) (inr r) = inr (inr (inl (refl, r)))
     by Method r = inr (inr (inl (refl, r)))
@@ -351,4 +357,4 @@ either_holder W p n w c = by p c.row
 pub unused_loose : UnusedAreLawful
 unused_loose K W =
     loose_narrowed (UnusedContracts W) (OfUnused W) K W (either_holder W)
-    (loose_join OfBlock (λ p n w. OfArrow W p n w ⊎ OfBody W p n w) K W (loose_wider OfBlock K nothing W (nothing_part W) (blocks_loose K)) (loose_join (OfArrow W) (OfBody W) K W (arrows_loose K W) (loose_join (OfFunction W) (OfList W) K W (functions_loose K W) (loose_join (OfModule W) (OfStaticBlock W) K W (modules_loose K W) (static_blocks_loose K W)))))
+    (loose_join OfInner (λ p n w. OfArrow W p n w ⊎ OfBody W p n w) K W (loose_wider OfInner K nothing W (nothing_part W) (loose_join OfBlock OfSwitch K nothing (blocks_loose K) (switches_loose K))) (loose_join (OfArrow W) (OfBody W) K W (arrows_loose K W) (loose_join (OfFunction W) (OfList W) K W (functions_loose K W) (loose_join (OfModule W) (OfStaticBlock W) K W (modules_loose K W) (static_blocks_loose K W)))))

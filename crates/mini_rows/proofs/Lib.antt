@@ -150,6 +150,8 @@ pub mod ModuleKept
 pub mod ModuleLawful
 pub mod StaticBlockKept
 pub mod StaticBlockLawful
+pub mod SwitchKept
+pub mod SwitchLawful
 pub mod FunctionBodyLawful
 pub mod DeMorganMeaning
 pub mod DeMorganLawful

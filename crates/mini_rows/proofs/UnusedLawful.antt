@@ -224,14 +224,14 @@ unfolding Unmentioned
 all_join b none us p q = q
 all_join b (t ▸ ts) us p q = (p.0, all_join b ts us p.1 q)
 
-gone : (b : Binding) (ts us ws : Trees) → AllUnmentioned b ts → AllUnmentioned b ws → AllUnmentioned b us → Unmentioned b (listed (append ts (append ws us)))
+pub gone : (b : Binding) (ts us ws : Trees) → AllUnmentioned b ts → AllUnmentioned b ws → AllUnmentioned b us → Unmentioned b (listed (append ts (append ws us)))
 unfolding Unmentioned
 gone b ts us ws p q r = (tt, all_join b ts (append ws us) p (all_join b ws us q r))
 
-record Dropped (q : StmtSeat) (k : ℕ) (n w : Tree) : Type 0 where
-  keeps : KeepsLoosely (Stmt q) n w
-  drops : (K : Shape → Bool) → Drops K k (Stmt q) n w
-  declared_there : (x : Name) → Contains (declared w) x → Contains (declared n) x
+pub record Dropped (q : StmtSeat) (k : ℕ) (n w : Tree) : Type 0 where
+  pub keeps : KeepsLoosely (Stmt q) n w
+  pub drops : (K : Shape → Bool) → Drops K k (Stmt q) n w
+  pub declared_there : (x : Name) → Contains (declared w) x → Contains (declared n) x
 
 module _ (q : StmtSeat) (s : List ℕ) (k : ℕ) (before after d w : Trees) (l : LeavesThere (resolved s k) d w) (n : NamesThere (resolved s k) d w) (earlier : any_names (resolved s k) before ≡ false) (later : any_names (resolved s k) after ≡ false) where
   abbrev x : Name
@@ -279,7 +279,7 @@ module _ (q : StmtSeat) (s : List ℕ) (k : ℕ) (before after d w : Trees) (l :
 
 -- ---- the rows
 
-in_tails : (e : Environment) (q : StmtSeat) (D : Variable → Bool) (n w : Tree) → ((t : Option Tail) → Same e D nothing (Stat t) n w) → (d : Demand) → Fits (Stmt q) d → Same e D nothing d n w
+pub in_tails : (e : Environment) (q : StmtSeat) (D : Variable → Bool) (n w : Tree) → ((t : Option Tail) → Same e D nothing (Stat t) n w) → (d : Demand) → Fits (Stmt q) d → Same e D nothing d n w
 in_tails e q D n w h (Stat t) f = h t
 in_tails e q D n w h d f = elim f [ ]
 

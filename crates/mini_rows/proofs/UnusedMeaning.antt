@@ -21,7 +21,7 @@ use Rattle.mini_laws.specs.Asking.{demand, first_demand}
 use Rattle.mini_laws.specs.Replies.{by_fixity}
 use Rattle.mini_laws.specs.Declarations.{declares_by}
 use Rattle.mini_laws.specs.Skeleton.{hidden_all}
-use Rattle.mini_laws.specs.Path.{here, inside}
+use Rattle.mini_laws.specs.Path.{here, inside, join}
 use Rattle.mini_laws.specs.Same.{Goes, Agree, Same}
 use Rattle.mini_laws.specs.Step.{step, means, meaning}
 use Rattle.mini_laws.specs.Stretches as first
@@ -41,7 +41,8 @@ use Rattle.mini_terms.specs.Folds.{is_effect_free}
 use Rattle.mini_terms.specs.Parts.{leaves_nothing}
 use Rattle.mini_terms.specs.Reading.{is_plain_part}
 use Rattle.mini_terms.proofs.Dropping.{does_nothing, weak}
-use Rattle.mini_rows.specs.Lists.{block, declaration, declares_nothing}
+use Rattle.mini_rows.specs.Cases.{switch_case}
+use Rattle.mini_rows.specs.Lists.{block, switch, declaration, declares_nothing}
 use Rattle.mini_rows.specs.Declarations.{binding, declarator}
 use Rattle.mini_rows.specs.Sketches.{shape_by, AsWholeItem}
 use Rattle.mini_rows.specs.Unused.{resolved, names, any_names, declared_among, declared_one, is_idle, declared_left, is_definition, may_move, put_first, reads_first, statements, static_block, lets_go, Row72, Row72Idle, Row71}
@@ -71,6 +72,10 @@ same_append (t ▸ a) b = ap (λ ts. t ▸ ts) (same_append a b)
 all_join : (D : VariableSet) (a b : Trees) → AllAvoid D a → AllAvoid D b → AllAvoid D (append a b)
 all_join D none b p q = q
 all_join D (t ▸ a) b p q = (p.0, all_join D a b p.1 q)
+
+join_is : (pre : Trees) (c : Tree) (post : Trees) → join pre c post ≡ append pre (c ▸ post)
+join_is none c post = refl
+join_is (t ▸ pre) c post = ap (λ ts. t ▸ ts) (join_is pre c post)
 
 -- the later variables lack one of the earlier, or they are the same
 abbrev OneLess : ℕ → List Variable → List Variable → Type 0
@@ -417,6 +422,18 @@ module _ (e : Environment) (spelling : List ℕ) (k : ℕ) (z : Unseen (alone (D
       let same = list_same e spelling k z before after d w aa one None in
       congruent_same e D z.shared (inside shape.StaticBlock [] n none here none) (listed (append before (append d after))) (listed (append before (append w after))) (tt, tt, tt, tt) (tt, all_join D before (append w after) ab (all_join D w after aw aa)) list_read nothing q (no_off _)
       (weaker e D D nothing _ (within_refl D) (no_within _) (Stat None) (listed (append before (append d after))) (listed (append before (append w after))) same)
+
+  -- and so does a switch with such a case
+  pub switch_same : AllAvoid (alone (Declared k)) before → AllAvoid (alone (Declared k)) w → AllAvoid (alone (Declared k)) after → Same e (alone (Declared k)) nothing (Stat None) (listed d) (listed w)
+      → (discriminant : Tree) → Avoids (alone (Declared k)) discriminant → (first : Trees) → AllAvoid (alone (Declared k)) first → (test : Tree) → Avoids (alone (Declared k)) test → (last : Trees) → AllAvoid (alone (Declared k)) last
+      → (t : Option Tail) → Same e (alone (Declared k)) nothing (Stat t) (switch discriminant (listed (append first (switch_case test (append before (append d after)) ▸ last)))) (switch discriminant (listed (append first (switch_case test (append before (append w after)) ▸ last))))
+  switch_same ab aw aa one discriminant asked first earlier test tested last later t =
+      let D = alone (Declared k) in
+      let same = list_same e spelling k z before after d w aa one None in
+      let there = inside shape.SwitchStatement [] 0 (discriminant ▸ none) (inside shape.Listed [] 0 first (inside shape.SwitchCase [] 0 (test ▸ none) here none) last) none in
+      subst₂ (λ a b. Same e D nothing (Stat t) (switch discriminant (listed a)) (switch discriminant (listed b))) (join_is first (switch_case test (append before (append d after))) last) (join_is first (switch_case test (append before (append w after))) last)
+      (congruent_same e D z.shared there (listed (append before (append d after))) (listed (append before (append w after))) (tt, (asked, tt), (tt, earlier, (tt, (tested, tt), tt, tt), later), tt) (tt, all_join D before (append w after) ab (all_join D w after aw aa)) list_read nothing (Stat t) (no_off _)
+      (weaker e D D nothing _ (within_refl D) (no_within _) (Stat None) (listed (append before (append d after))) (listed (append before (append w after))) same))
 
 -- ---- the rows
 

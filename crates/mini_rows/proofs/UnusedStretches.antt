@@ -22,15 +22,15 @@ use Rattle.mini_rows.specs.Sketches.{shape_by, AsWholeItem}
 use Rattle.mini_rows.specs.Unused.{resolved, names, any_names, declared_one, declared_among, declared_left, is_idle, may_move, is_first, reads_first, put_first, reads_head, put_head, lets_go, BlockRow}
 use Rattle.mini_rows.proofs.ListShapes.{declaration_anywhere, first_fits, more_fit}
 use Rattle.mini_rows.proofs.SingleUse.{Lead, Doing, Giving, Raising, Testing, head_of, Stands, statement, Initial, heads}
-use Rattle.mini_rows.proofs.HeadKept.{head_leaves, head_declares}
+use Rattle.mini_rows.proofs.HeadKept.{head_leaves, head_declares, head_names}
 use Rattle.mini_rows.proofs.HeadMeaning.{head_read, head_goes, head_unnamed}
 use Rattle.mini_rows.proofs.FoldMeaning.{plain_read}
-use Rattle.mini_rows.proofs.DeclaredKept.{value_leaves, value_declares, idle_leaves, idle_declares}
-use Rattle.mini_rows.proofs.NextKept.{next_leaves, next_declares}
+use Rattle.mini_rows.proofs.DeclaredKept.{value_leaves, value_declares, idle_leaves, idle_declares, value_names, idle_names}
+use Rattle.mini_rows.proofs.NextKept.{next_leaves, next_declares, next_names}
 use Rattle.mini_rows.proofs.NextMeaning.{next_read, next_same, next_avoids}
-use Rattle.mini_rows.proofs.UnusedKept.{LeavesThere, DeclaresThere}
+use Rattle.mini_rows.proofs.UnusedKept.{LeavesThere, NamesThere, DeclaresThere}
 use Rattle.mini_rows.proofs.UnusedLawful.{item, value_fits, left_fits, single_fits, next_fits, idle_vanishes}
-use Rattle.mini_rows.proofs.UnusedMeaning.{ReadThere, read_alone, value_same, left_same, single_same, one_read, idle_read, left_avoids, single_read, first_avoids, may_write, movable}
+use Rattle.mini_rows.proofs.UnusedMeaning.{ReadThere, read_alone, value_same, left_same, single_same, one_read, idle_read, left_avoids, single_read, first_avoids, may_write, movable, lexical_alone}
 use Rattle.mini_rows.proofs.UnusedNames.{or_parts, avoided, all_avoided}
 
 -- a statement of a block, of a function's body, or of a module
@@ -254,3 +254,11 @@ row_stretch W p a b e (inr (inr (inr r))) =
     let x = resolved r.spelling r.symbol in
     stretch W p a b e r.spelling r.symbol r.before r.after (declared_among r.kind x r.first r.init (declarator r.binds r.value ▸ r.last)) none (declaration r.kind (append r.first (declarator r.binds (put_first r.init r.value) ▸ r.last)) ▸ none) refl (of_next W r.kind r.spelling r.symbol r.goes r.first r.init r.binds r.value r.last r.moves r.once r.other r.initial r.declared_earlier r.declared_later) r.earlier r.later (ap list_of r.shape)
     (ap list_of r.written)
+
+-- in a block, or in a switch, what is declared is a lexical name
+pub row_names : (p : Tree) (a b : Trees) (e : is_listed_shape (shape_of p) ≡ true) (r : BlockRow nothing (block (p ▸ a)) (block (p ▸ b))) → let t = row_stretch nothing p a b e r in NamesThere (resolved t.spelling t.symbol) t.d t.w
+unfolding row_stretch stretch
+row_names p a b e (inl r) = value_names r.kind (resolved r.spelling r.symbol) r.symbol refl r.init r.unused.initial (lexical_alone r.kind r.goes)
+row_names p a b e (inr (inl r)) = idle_names r.kind (resolved r.spelling r.symbol) r.symbol refl r.first r.init r.last (idle_vanishes r.init r.idle) r.unused.declared_earlier r.unused.declared_later (lexical_alone r.kind r.goes)
+row_names p a b e (inr (inr (inl r))) = head_names r.kind (resolved r.spelling r.symbol) r.symbol refl r.first r.init r.head (movable r.init r.moves) r.once r.initial r.declared_earlier (lexical_alone r.kind r.goes)
+row_names p a b e (inr (inr (inr r))) = next_names r.kind (resolved r.spelling r.symbol) r.symbol refl r.first r.init r.binds r.value r.last r.once r.declared_earlier r.initial r.other r.declared_later (lexical_alone r.kind r.goes)

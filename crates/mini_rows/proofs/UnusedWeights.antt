@@ -1,6 +1,6 @@
 -- What the rows of names that nothing mentions write is lighter.
 use Rattle.std.proofs.Common.{◌≡◌, ℕ, ◌+◌, ◌<◌, ◌≤◌, List, refl, sym, ap, ◌∙◌, inl, inr, arith}
-use Rattle.std.specs.Prelude.{not}
+use Rattle.std.specs.Prelude.{not, if◌then◌else◌}
 use Rattle.std.proofs.lemmas.Bool.{and_parts}
 use Rattle.mini_model.specs.declared.kind.VariableDeclarationKind.{VariableDeclarationKind}
 use Rattle.mini_model.specs.declared.kind.VariableDeclarationKind.TheVariants.{Var, Let, Const}
@@ -10,15 +10,16 @@ use Rattle.mini_model.specs.declared.place.Position.TheVariants.{Expr, Stmt, Met
 use Rattle.mini_model.specs.declared.seat.Seat.{Seat}
 use Rattle.mini_model.specs.declared.seat.StmtSeat.{StmtSeat}
 use Rattle.mini_model.specs.declared.seat.StmtSeat.TheVariants as stmt_seat
-use Rattle.mini_model.specs.Tree.{Tree, Trees, none, ◌▸◌, listed, shape_of, empty_statement, expression_statement}
+use Rattle.mini_model.specs.Tree.{Tree, Trees, none, ◌▸◌, count, listed, shape_of, empty_statement, expression_statement}
 use Rattle.mini_model.specs.Paths.{append}
-use Rattle.mini_model.specs.Position.{argument_seat, statement_expression_seat}
-use Rattle.mini_model.specs.Weight.{commas_weight, outline, outlines, one_chooses, braces_weight, weight}
+use Rattle.mini_model.specs.Position.{argument_seat, statement_expression_seat, whole_seat, item_position}
+use Rattle.mini_model.specs.Weight.{commas_weight, outline, outlines, one_chooses, braces_weight, weight, weights}
 use Rattle.mini_laws.specs.Value.{VariableSet}
 use Rattle.mini_laws.proofs.Seats.{moved}
 use Rattle.mini_rows.specs.Declarations.{binding, declarator}
-use Rattle.mini_rows.specs.Lists.{block, declaration}
-use Rattle.mini_rows.specs.Unused.{resolved, declared_among, declared_one, declared_left, put_first, is_definition, BlockRow, ArrowBodyRow, FunctionBodyRow, ModuleRow, StaticBlockRow, UnusedRow, UnusedLighten, UnusedLighter}
+use Rattle.mini_rows.specs.Cases.{switch_case}
+use Rattle.mini_rows.specs.Lists.{block, switch, declaration}
+use Rattle.mini_rows.specs.Unused.{resolved, declared_among, declared_one, declared_left, put_first, is_definition, BlockRow, ArrowBodyRow, FunctionBodyRow, ModuleRow, StaticBlockRow, switch_around, SwitchRow, UnusedRow, UnusedLighten, UnusedLighter}
 use Rattle.mini_terms.specs.Reading.{is_plain_part}
 use Rattle.mini_rows.proofs.SingleWeights.{single_falls, next_falls}
 use Rattle.mini_rows.proofs.ListWeights.{total, list_is, body_is, in_list, comma_list, declarators_append}
@@ -119,9 +120,50 @@ static_lighter n w r =
     let less = block_lighter stmt_seat.List (block (front ▸ r.before)) (block (front ▸ r.after)) r.row in
     omega (arith, less, list_is (front ▸ r.before), list_is (front ▸ r.after), list_is r.before, list_is r.after, ap (weight Elsewhere) r.shape, ap (weight Elsewhere) r.written)
 
+-- the cases of a switch
+heap : Trees → ℕ
+heap none = 0
+heap (t ▸ ts) = weight Elsewhere t + heap ts
+
+heap_is : (n : ℕ) (ts : Trees) → weights (item_position Elsewhere n) ts ≡ heap ts
+unfolding heap
+heap_is n none = refl
+heap_is n (t ▸ ts) = let rest = heap_is n ts in omega (arith, rest)
+
+heap_append : (ts us : Trees) → heap (append ts us) ≡ heap ts + heap us
+unfolding heap
+heap_append none us = omega arith
+heap_append (t ▸ ts) us = let rest = heap_append ts us in omega (arith, rest)
+
+switch_is : (q : StmtSeat) (d : Tree) (ts : Trees) → weight (Stmt q) (switch d (listed ts)) ≡ 20 + weight (Expr whole_seat) d + heap ts
+switch_is q d ts = let all = heap_is (count ts) ts in omega (arith, all)
+
+abbrev head : Tree → ℕ
+head t = if (outline t).absent then 16 else 12
+
+switch_weighs : (q : StmtSeat) (d : Tree) (first : Trees) (test : Tree) (ts last : Trees) → weight (Stmt q) (switch d (listed (append first (switch_case test ts ▸ last)))) ≡ 20 + weight (Expr whole_seat) d + heap first + (head test + weight (Expr whole_seat) test + total ts) + heap last
+unfolding heap
+switch_weighs q d first test ts last = omega (arith, switch_is q d (append first (switch_case test ts ▸ last)), heap_append first (switch_case test ts ▸ last), list_is ts)
+
+switch_lighter : (q : StmtSeat) (n w : Tree) → SwitchRow n w → weight (Stmt q) w < weight (Stmt q) n
+switch_lighter q n w r =
+    let front = listed (switch_around r.discriminant r.first r.test r.last ▸ none) in
+    let less = block_lighter stmt_seat.List (block (front ▸ r.before)) (block (front ▸ r.after)) r.row in
+    omega (
+      arith,
+      less,
+      list_is (front ▸ r.before),
+      list_is (front ▸ r.after),
+      switch_weighs q r.discriminant r.first r.test r.before r.last,
+      switch_weighs q r.discriminant r.first r.test r.after r.last,
+      ap (weight (Stmt q)) r.shape,
+      ap (weight (Stmt q)) r.written,
+    )
+
 pub unused_lighter : UnusedLighter
 unused_lighter W (Stmt q) n w (inl r) = block_lighter q n w r
-unused_lighter W (Stmt q) n w (inr r) = function_lighter (Stmt q) n w r
+unused_lighter W (Stmt q) n w (inr (inl r)) = function_lighter (Stmt q) n w r
+unused_lighter W (Stmt q) n w (inr (inr r)) = switch_lighter q n w r
 unused_lighter W (Expr s) n w (inl r) = arrow_lighter s n w r
 unused_lighter W (Expr s) n w (inr r) = function_lighter (Expr s) n w r
 unused_lighter W Method n w r = function_lighter Method n w r
@@ -140,7 +182,8 @@ same_outline W (Stmt q) n w (inl (inl r)) = ap outline r.shape ∙ sym (ap outli
 same_outline W (Stmt q) n w (inl (inr (inl r))) = ap outline r.shape ∙ sym (ap outline r.written)
 same_outline W (Stmt q) n w (inl (inr (inr (inl r)))) = ap outline r.shape ∙ sym (ap outline r.written)
 same_outline W (Stmt q) n w (inl (inr (inr (inr r)))) = ap outline r.shape ∙ sym (ap outline r.written)
-same_outline W (Stmt q) n w (inr r) = function_outline n w r
+same_outline W (Stmt q) n w (inr (inl r)) = function_outline n w r
+same_outline W (Stmt q) n w (inr (inr r)) = ap outline r.shape ∙ sym (ap outline r.written)
 same_outline W (Expr s) n w (inl r) = ap outline r.shape ∙ sym (ap outline r.written)
 same_outline W (Expr s) n w (inr r) = function_outline n w r
 same_outline W Method n w r = function_outline n w r

@@ -8,7 +8,7 @@ use Rattle.mini_model.specs.declared.place.Position.{Position}
 use Rattle.mini_model.specs.declared.place.Position.TheVariants.{Expr, Stmt, Method, Elsewhere}
 use Rattle.mini_model.specs.declared.shape.Shape.{Shape}
 use Rattle.mini_model.specs.declared.shape.Shape.TheVariants as shape
-use Rattle.mini_model.specs.Tree.{Tree, Trees, node, none, ◌▸◌, listed, shape_of, children, program, empty_statement, expression_statement}
+use Rattle.mini_model.specs.Tree.{Tree, Trees, node, none, ◌▸◌, absent, listed, shape_of, children, program, empty_statement, expression_statement}
 use Rattle.mini_model.specs.Paths.{append}
 use Rattle.mini_model.specs.Weight.{same_text, weight}
 use Rattle.mini_laws.specs.Naming.{is_lexical}
@@ -22,7 +22,8 @@ use Rattle.mini_node.specs.Kinds.{is_absent_part, is_listed, is_listed_shape, is
 use Rattle.mini_terms.specs.Folds.{is_effect_free}
 use Rattle.mini_terms.specs.Parts.{leaves_nothing}
 use Rattle.mini_terms.specs.Reading.{is_plain_part}
-use Rattle.mini_rows.specs.Lists.{block, declaration, declares_nothing}
+use Rattle.mini_rows.specs.Cases.{switch_case}
+use Rattle.mini_rows.specs.Lists.{block, switch, declaration, declares_nothing}
 pub use Rattle.mini_rows.specs.Lists.{resolved}
 use Rattle.mini_rows.specs.Declarations.{binding, declarator}
 
@@ -344,10 +345,31 @@ pub record StaticBlockRow (W : VariableSet) (n w : Tree) : Type 0 where
   pub shape : n ≡ static_block number before
   pub written : w ≡ static_block number after
 
+-- ---- in a switch
+
+-- a switch without the statements of one of its cases
+abbrev pub switch_around : Tree → Trees → Tree → Trees → Tree
+switch_around d first test last = switch d (listed (append first (node shape.SwitchCase [] 0 (test ▸ (absent ▸ none)) ▸ last)))
+
+-- 71 and 72 among the statements of a case: `switch (a) { case 1: let x = f(); g(); }` becomes `switch (a) { case 1: f(); g(); }`. All cases
+-- are one scope (ECMA-262, "Runtime Semantics: Evaluation" of SwitchStatement), so all else that stands in the switch is read like what
+-- stands before the declaration in a block
+pub record SwitchRow (n w : Tree) : Type 0 where
+  pub discriminant : Tree
+  pub first : Trees
+  pub test : Tree
+  pub before : Trees
+  pub last : Trees
+  pub after : Trees
+  pub row : BlockRow nothing (block (listed (switch_around discriminant first test last ▸ none) ▸ before)) (block (listed (switch_around discriminant first test last ▸ none) ▸ after))
+  pub shape : n ≡ switch discriminant (listed (append first (switch_case test before ▸ last)))
+  pub written : w ≡ switch discriminant (listed (append first (switch_case test after ▸ last)))
+
 -- a row reads n as w at this place: a function may be a statement, an expression, the value of a method, or exported, a program stands
--- nowhere else, and a static block in a class. A block that is no body keeps each `var`: its name is seen around it
+-- nowhere else, and a static block in a class. A block that is no body and a switch keep each
+-- `var`: its name is seen around it
 abbrev pub UnusedRow : VariableSet → Position → Tree → Tree → Type 0
-UnusedRow W (Stmt q) n w = BlockRow nothing n w ⊎ FunctionBodyRow W n w
+UnusedRow W (Stmt q) n w = BlockRow nothing n w ⊎ (FunctionBodyRow W n w ⊎ SwitchRow n w)
 UnusedRow W (Expr s) n w = ArrowBodyRow W n w ⊎ FunctionBodyRow W n w
 UnusedRow W Method n w = FunctionBodyRow W n w
 UnusedRow W Elsewhere n w = FunctionBodyRow W n w ⊎ (ModuleRow W n w ⊎ StaticBlockRow W n w)

@@ -16,13 +16,13 @@ use Rattle.mini_node.specs.Children.{names_of, number_of, part, with_part, first
 use Rattle.mini_node.specs.Kinds.{is_block, is_listed}
 use Rattle.mini_node.specs.Made.{block_is, listed_is}
 use Rattle.mini_rows.specs.Lists.{block}
-use Rattle.mini_rows.specs.Unused.{names, any_names, may_move, statements, arrow_with, ArrowBodyRow, function_with, FunctionBodyRow, ModuleRow, static_block, StaticBlockRow, BlockRow, UnusedRow}
+use Rattle.mini_rows.specs.Unused.{names, any_names, may_move, statements, arrow_with, ArrowBodyRow, function_with, FunctionBodyRow, ModuleRow, static_block, StaticBlockRow, SwitchRow, BlockRow, UnusedRow}
 use Rattle.mini_tree.specs.declared.options.CompressOptions.{CompressOptions}
 use Rattle.mini_tree.specs.Rule as rule
 use Rattle.mini_context.specs.declared.context.TraverseCtx.{TraverseCtx}
 use Rattle.mini_context.specs.Known.{Knows}
 use Rattle.mini_laws.specs.Writable.{writable_in}
-use Rattle.mini_unused.specs.RemoveUnusedDeclaration.{declares_name, declares_list, is_free_at, may_lose, may_go, open_in, is_alone, list_at, is_unused, UnusedAt, is_arrow_shape, are_statements, are_no_names, has_statements, is_function_shape, is_function, is_module, is_static_block, holds_list, marked, Applied, AppliedInFunction, Gives, Rests}
+use Rattle.mini_unused.specs.RemoveUnusedDeclaration.{declares_name, declares_list, is_free_at, may_lose, may_go, open_in, is_alone, list_at, is_unused, UnusedAt, is_arrow_shape, are_statements, are_no_names, has_statements, is_function_shape, is_function, is_module, is_static_block, holds_list, is_switch, marked, Applied, AppliedInFunction, Gives, Rests}
 use Rattle.mini_unused.specs.SubstituteNext.{is_declarator, reads_then, is_mentioned_beside, is_read_then, is_next, NextAt, NextGone}
 use Rattle.mini_unused.specs.SubstituteSingleUse.{last_place, is_declared_over, reads_next, is_read_once, is_single, SingleAt, NameGone, ReadGone, Gone, Removed}
 use Rattle.mini_unused.specs.Chains.{Several}
@@ -37,7 +37,7 @@ use Rattle.mini_unused.proofs.NextUses.{next_row, none_next}
 next_within : (i n : ℕ) → i < n → suc i < suc n
 next_within i n h = omega (arith, h)
 
-or_none : (b : Bool) → (b || false) ≡ b
+pub or_none : (b : Bool) → (b || false) ≡ b
 or_none true = refl
 or_none false = refl
 
@@ -64,7 +64,7 @@ rests W ts m r = by r.1
     by (inr u) = no_row W (block ts) (all_used W (block ts) u.0) (none_single W (block ts) u.1) (none_next W (block ts) u.2)
 
 -- what is left of a list is one
-left_listed : (W : VariableSet) (o : Tree) (ts : Trees) (m : Tree) → Gone W o (listed ts) m → m ≡ listed (children m)
+pub left_listed : (W : VariableSet) (o : Tree) (ts : Trees) (m : Tree) → Gone W o (listed ts) m → m ≡ listed (children m)
 left_listed W o ts m r = by r.name
   where
     by : NameGone W o (listed ts) m ⊎ (ReadGone W o (listed ts) m ⊎ NextGone W o (listed ts) m) → m ≡ listed (children m)
@@ -76,7 +76,7 @@ abbrev is_list : Tree → Type 0
 is_list l = l ≡ listed (children l)
 
 -- names that go from a list one after another go so from what holds it
-several_in : (W : VariableSet) (o : Tree) (S : Tree → Tree → Type 0) (over : Tree → Tree) → ((ts : Trees) (m : Tree) → Gone W o (listed ts) m → S (over (listed ts)) (over m)) → (ts : Trees) (m : Tree) → Several (Gone W o) (listed ts) m → Several S (over (listed ts)) (over m)
+pub several_in : (W : VariableSet) (o : Tree) (S : Tree → Tree → Type 0) (over : Tree → Tree) → ((ts : Trees) (m : Tree) → Gone W o (listed ts) m → S (over (listed ts)) (over m)) → (ts : Trees) (m : Tree) → Several (Gone W o) (listed ts) m → Several S (over (listed ts)) (over m)
 several_in W o S over on ts m = several_over (Gone W o) S is_list over by (listed ts) m refl
   where
     by : (t u : Tree) → is_list t → Gone W o t u → S (over t) (over u) × is_list u
@@ -85,11 +85,14 @@ several_in W o S over on ts m = several_over (Gone W o) S is_list over by (liste
         (subst (λ v. S (over v) (over u)) (sym i) (on (children t) u there), left_listed W o (children t) u there)
 
 -- no other holder
-no_function : (W : VariableSet) (t : Tree) → is_function t ≡ false → (w : Tree) → FunctionBodyRow W t w → ⊥
+pub no_function : (W : VariableSet) (t : Tree) → is_function t ≡ false → (w : Tree) → FunctionBodyRow W t w → ⊥
 no_function W t e w r = true≢false (sym (ap is_function r.shape) ∙ e)
 
 no_arrow : (W : VariableSet) (t : Tree) → has_statements t ≡ false → (w : Tree) → ArrowBodyRow W t w → ⊥
 no_arrow W t e w r = true≢false (sym (ap has_statements r.shape) ∙ e)
+
+pub no_switch : (t : Tree) → is_switch t ≡ false → (w : Tree) → SwitchRow t w → ⊥
+no_switch t e w r = true≢false (sym (ap is_switch r.shape) ∙ e)
 
 block_applied : (W : VariableSet) (ts : Trees) (m : Tree) (c : Bool) → Removed nothing no_outside (listed ts) m c → (q : StmtSeat) → Applied W (Stmt q) (block ts) (held m) c
 block_applied W ts m true r q = several_moves W (Stmt q) (BlockRow nothing) (λ t u b. inl b) (block ts) (held m) (several_in nothing no_outside (BlockRow nothing) held (gone_row nothing) ts m r)
@@ -97,7 +100,8 @@ block_applied W ts m false r q = (ap held r.0, by)
   where
     by : (w : Tree) → UnusedRow W (Stmt q) (block ts) w → ⊥
     by w (inl b) = rests nothing ts m r w b
-    by w (inr f) = no_function W (block ts) refl w f
+    by w (inr (inl f)) = no_function W (block ts) refl w f
+    by w (inr (inr s)) = no_switch (block ts) refl w s
 
 pub of_block : (W : VariableSet) (t m : Tree) (c : Bool) → is_block t ≡ true → Removed (open_in (with_part t 0 absent) W) (with_part t 0 absent) (part t 0) m c → (u : Tree) → u ≡ with_part t 0 m → (q : StmtSeat) → Applied W (Stmt q) t u c
 of_block W t m c b r u f q =
@@ -213,10 +217,10 @@ module _ (W : VariableSet) (outside : Tree) (front ts : Trees) (mentions : (x : 
       by (inl e) = inl (seen_there ∙ e)
       by (inr u) = inr (none_unused u.0, none_read u.1, none_by_next u.2)
 
-  row_behind : (m : Tree) → Gone W outside (listed ts) m → BlockRow W (block behind) (block (listed front ▸ children m))
+  pub row_behind : (m : Tree) → Gone W outside (listed ts) m → BlockRow W (block behind) (block (listed front ▸ children m))
   row_behind m r = gone_row W behind (left m) (gone_there m r)
 
-  none_behind : (m : Tree) → Removed W outside (listed ts) m false → (us : Trees) → us ≡ behind → (w : Tree) → BlockRow W (block us) w → ⊥
+  pub none_behind : (m : Tree) → Removed W outside (listed ts) m false → (us : Trees) → us ≡ behind → (w : Tree) → BlockRow W (block us) w → ⊥
   none_behind m r us e w row = rests W behind (left m) (stays_there m r) w (subst (λ v. BlockRow W (block v) w) e row)
 
 -- ---- an arrow function: its parameters stand before its statements
@@ -468,13 +472,14 @@ stays W t e = (refl, no_function W t e)
 
 -- ---- where a function stands
 
-pub as_statement : (W : VariableSet) (t u : Tree) (c : Bool) → is_block t ≡ false → AppliedInFunction W t u c → (q : StmtSeat) → Applied W (Stmt q) t u c
-as_statement W t u true e r q = several_moves W (Stmt q) (FunctionBodyRow W) (λ t u f. inr f) t u r
-as_statement W t u false e r q = (r.0, by)
+pub as_statement : (W : VariableSet) (t u : Tree) (c : Bool) → is_switch t ≡ false → is_block t ≡ false → AppliedInFunction W t u c → (q : StmtSeat) → Applied W (Stmt q) t u c
+as_statement W t u true s e r q = several_moves W (Stmt q) (FunctionBodyRow W) (λ t u f. inr (inl f)) t u r
+as_statement W t u false s e r q = (r.0, by)
   where
     by : (w : Tree) → UnusedRow W (Stmt q) t w → ⊥
     by w (inl b) = no_block nothing t e w b
-    by w (inr f) = r.1 w f
+    by w (inr (inl f)) = r.1 w f
+    by w (inr (inr v)) = no_switch t s w v
 
 pub as_expression : (W : VariableSet) (t u : Tree) (c : Bool) → has_statements t ≡ false → AppliedInFunction W t u c → (s : Seat) → Applied W (Expr s) t u c
 as_expression W t u true e r s = several_moves W (Expr s) (FunctionBodyRow W) (λ t u f. inr f) t u r

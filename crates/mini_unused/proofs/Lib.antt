@@ -9,5 +9,6 @@ pub mod Rare
 pub mod Chains
 pub mod Swept
 pub mod Holders
+pub mod Switches
 pub mod Nameless
 pub mod Catching

@@ -21,7 +21,7 @@ use Rattle.mini_node.specs.Made.{block_is}
 use Rattle.mini_rows.specs.Lists.{block, declaration, declares_nothing}
 use Rattle.mini_rows.specs.Declarations.{binding, declarator}
 use Rattle.mini_rows.specs.Unused.{resolved, declared_among, declared_left, names, any_names, is_idle, lets_go, Alone, Row72, Row72Idle, Row71, Row71Next, BlockRow}
-use Rattle.mini_unused.specs.RemoveUnusedDeclaration.{is_resolved_binding, is_declarator_shape, declares_name, is_lexical_shape, declares_list, is_block_shape, open_in, may_write, may_write_in, may_lose, is_free_at, may_go, is_alone, is_unused_declarator, list_at, is_unused, UnusedIn, UnusedOf, UnusedAt, let_left, statement_left, list_left, Applied}
+use Rattle.mini_unused.specs.RemoveUnusedDeclaration.{is_resolved_binding, is_declarator_shape, declares_name, is_lexical_shape, declares_list, shows_vars, open_in, may_write, may_write_in, may_lose, is_free_at, may_go, is_alone, is_unused_declarator, list_at, is_unused, UnusedIn, UnusedOf, UnusedAt, let_left, statement_left, list_left, Applied}
 
 -- ---- children
 
@@ -40,6 +40,14 @@ part_twice (node h xs n ts) i x y = ap (node h xs n) (go ts i)
     go none i = refl
     go (t ▸ ts) zero = refl
     go (t ▸ ts) (suc i) = ap (λ us. t ▸ us) (go ts i)
+
+pub part_with : (t : Tree) (i : ℕ) (x : Tree) → i < count (children t) → part (with_part t i x) i ≡ x
+part_with (node h xs n ts) i x l = go ts i l
+  where
+    go : (ts : Trees) (i : ℕ) → i < count ts → child_or_absent (with_child ts i x) i ≡ x
+    go none i h = absurd (omega (arith, h))
+    go (t ▸ ts) zero h = refl
+    go (t ▸ ts) (suc i) h = go ts i (omega (arith, h))
 
 pub parts_of : (ts : Trees) (i : ℕ) → i < count ts → ts ≡ append (first_children i ts) (child_or_absent ts i ▸ rest_children (suc i) ts)
 parts_of none i h = absurd (omega (arith, h))
@@ -115,14 +123,14 @@ a_declaration (node (shape.VariableDeclaration k) [] zero (u ▸ none)) e = absu
 a_declaration t e = absurd (true≢false (sym e))
 
 -- a name by where it stands
-pub open_name : (W : VariableSet) (o : Tree) (xs : List Name) → may_write_in (open_in o W) xs ≡ (not (is_block_shape (shape_of o)) && may_write_in W xs)
-open_name W o [] = sym (and_none (not (is_block_shape (shape_of o))))
+pub open_name : (W : VariableSet) (o : Tree) (xs : List Name) → may_write_in (open_in o W) xs ≡ (not (shows_vars (shape_of o)) && may_write_in W xs)
+open_name W o [] = sym (and_none (not (shows_vars (shape_of o))))
 open_name W o (x ∷ []) = by x.symbol
   where
-    by : (k : Option SymbolId) → may_write (open_in o W) k ≡ (not (is_block_shape (shape_of o)) && may_write W k)
+    by : (k : Option SymbolId) → may_write (open_in o W) k ≡ (not (shows_vars (shape_of o)) && may_write W k)
     by (Some k) = refl
-    by None = sym (and_none (not (is_block_shape (shape_of o))))
-open_name W o (x ∷ (y ∷ ys)) = sym (and_none (not (is_block_shape (shape_of o))))
+    by None = sym (and_none (not (shows_vars (shape_of o))))
+open_name W o (x ∷ (y ∷ ys)) = sym (and_none (not (shows_vars (shape_of o))))
 
 pub record Declares (d : Tree) : Type 0 where
   pub spelling : List ℕ

@@ -1,7 +1,7 @@
 -- 72, `remove_unused_declaration`: `{ let x = a(); b(); }` becomes `{ a(); b(); }`, `{ let x = 1; b(); }` becomes `{ ; b(); }`, and
 -- `{ let x, y = b(); c(y); }` becomes `{ let y = b(); c(y); }`; so do the statements of a function, of a module and of a static
--- block, and there each `var`, too.
-use Rattle.std.specs.Prelude.{◌≡◌, ◌<◌, ℕ, suc, nat_eq, Bool, true, false, not, ◌&&◌, ◌||◌, List, [], ◌∷◌, Option, Some, None, is_some, if◌then◌else◌}
+-- block, and there each `var`, too, and the cases of a switch.
+use Rattle.std.specs.Prelude.{◌≡◌, ◌<◌, ◌≤◌, ℕ, suc, nat_eq, Bool, true, false, not, ◌&&◌, ◌||◌, List, [], ◌∷◌, Option, Some, None, is_some, if◌then◌else◌}
 use Rattle.mini_model.specs.declared.name.Name.{Name}
 use Rattle.mini_model.specs.declared.name.SymbolId.{SymbolId}
 use Rattle.mini_model.specs.declared.place.Position.{Position}
@@ -13,7 +13,7 @@ use Rattle.mini_laws.specs.Value.{Declared, Global, VariableSet}
 use Rattle.mini_node.specs.Children.{names_of, like, part, with_part, without, is_bare, first_children, rest_children}
 use Rattle.mini_node.specs.Kinds.{is_listed, is_named_leaf}
 use Rattle.mini_rows.specs.Lists.{declares_nothing}
-use Rattle.mini_rows.specs.Unused.{names, any_names, is_idle, FunctionBodyRow, UnusedRow, UnusedContracts}
+use Rattle.mini_rows.specs.Unused.{names, any_names, is_idle, FunctionBodyRow, SwitchRow, UnusedRow, UnusedContracts}
 pub use Rattle.mini_rows.specs.Unused.{is_declarator_shape, is_variables_shape, declares_list}
 use Rattle.mini_tree.specs.declared.options.CompressOptions.{CompressOptions}
 use Rattle.mini_tree.specs.Rule as rule
@@ -49,13 +49,15 @@ abbrev pub marked : Facts → VariableSet
 marked f (Declared k) = mark_at f.writable k
 marked f (Global s) = false
 
-abbrev pub is_block_shape : Shape → Bool
-is_block_shape shape.BlockStatement = true
-is_block_shape _ = false
+-- what shows the `var`s in it to what is around it
+abbrev pub shows_vars : Shape → Bool
+shows_vars shape.BlockStatement = true
+shows_vars shape.SwitchStatement = true
+shows_vars _ = false
 
--- those of them whose `var` may go from statements with what stands outside of them: of a block that is no body, none
+-- those of them whose `var` may go from statements with what stands outside of them: of a block that is no body, and of a switch, none
 abbrev pub open_in : Tree → VariableSet → VariableSet
-open_in o W x = not (is_block_shape (shape_of o)) && W x
+open_in o W x = not (shows_vars (shape_of o)) && W x
 
 abbrev pub may_write : VariableSet → Option SymbolId → Bool
 may_write W (Some s) = W (Declared s.0)
@@ -170,6 +172,38 @@ is_static_block t = is_static_shape (shape_of t) && (are_no_names (names_of t) &
 -- either
 abbrev pub holds_list : Tree → Bool
 holds_list t = is_module t || is_static_block t
+
+-- a switch over a list of cases
+abbrev pub is_switch_shape : Shape → Bool
+is_switch_shape shape.SwitchStatement = true
+is_switch_shape _ = false
+
+abbrev pub is_switch : Tree → Bool
+is_switch t = is_switch_shape (shape_of t) && (is_bare t 2 && is_listed (part t 1))
+
+-- a case, with its statements in a list
+abbrev pub is_case_shape : Shape → Bool
+is_case_shape shape.SwitchCase = true
+is_case_shape _ = false
+
+abbrev pub is_case : Tree → Bool
+is_case t = is_case_shape (shape_of t) && (is_bare t 2 && is_listed (part t 1))
+
+-- of a switch the case at the place, and the switch with another list of statements there
+abbrev pub case_at : Tree → ℕ → Tree
+case_at t i = part (part t 1) i
+
+abbrev pub with_statements : Tree → ℕ → Tree → Tree
+with_statements t i l = with_part t 1 (with_part (part t 1) i (with_part (case_at t i) 1 l))
+
+-- one call of it for the case at the place, and for those from there on
+abbrev pub AppliedInCase : Tree → ℕ → Tree → Bool → Type 0
+AppliedInCase t i u true = Several SwitchRow t u
+AppliedInCase t i u false = (u ≡ t) × ((w : Tree) (r : SwitchRow t w) → count r.first ≡ i → ⊥)
+
+abbrev pub AppliedInCases : Tree → ℕ → Tree → Bool → Type 0
+AppliedInCases t i u true = Several SwitchRow t u
+AppliedInCases t i u false = (u ≡ t) × ((w : Tree) (r : SwitchRow t w) → i ≤ count r.first → ⊥)
 
 -- no row of these variables reads it as anything
 abbrev pub RestsOver : VariableSet → Position → Tree → Type 0

@@ -1,6 +1,7 @@
 //! Row 72: `{ let x = a(); b(); }` becomes `{ a(); b(); }`, and `{ let x = 1, y = b(); c(y); }` becomes `{ let y = b(); c(y); }`,
 //! where nothing else in the block has x's spelling or its symbol and no direct eval stands there. So do the statements of a function,
-//! wherever it stands, of a module, and of a static block, and there each `var`, too, whose name can be written. It is lighter in every place.
+//! wherever it stands, of a module, and of a static block, and there each `var`, too, whose name can be written, and so do the cases of a
+//! switch. It is lighter in every place.
 
 ghost use Rattle.std.specs.Prelude.{◌≡◌, ◌+◌, ◌<◌, ◌^◌, true, IfOk, OnOk};
 ghost use Rattle.mini_model.specs.declared.place.Position.TheVariants.{Expr, Stmt, Elsewhere};
@@ -13,7 +14,7 @@ ghost use Rattle.mini_node.specs.Kinds.{is_listed as is_it_listed};
 ghost use Rattle.mini_rows.specs.Unused.{is_idle as is_it_idle};
 ghost use Rattle.mini_unused.specs.Lighter.{unused_is_lighter};
 ghost use Rattle.mini_unused.specs.RemoveUnusedDeclaration as row;
-ghost use Rattle.mini_unused.specs.RemoveUnusedDeclaration.{declares_name as it_declares_name, declares_list as it_declares_list, is_lexical_shape, is_free_at, let_left, marked, open_in, UnusedIn, UnusedOf, UnusedAt, Applied, AppliedInFunction, Gives, Rests};
+ghost use Rattle.mini_unused.specs.RemoveUnusedDeclaration.{declares_name as it_declares_name, declares_list as it_declares_list, is_lexical_shape, is_free_at, let_left, marked, open_in, case_at, with_statements, UnusedIn, UnusedOf, UnusedAt, Applied, AppliedInCase, AppliedInCases, AppliedInFunction, Gives, Rests};
 ghost use Rattle.mini_unused.specs.SubstituteSingleUse.{Removed};
 
 use crate::declares::declares_nothing;
@@ -89,11 +90,11 @@ pub fn is_lexical(shape: &Shape) -> bool
     }
 }
 
-// What stands outside of a block's statements is a block.
-fn is_block_shape(shape: &Shape) -> bool
-    ensures { result ≡ row.is_block_shape shape.now }
+// A block and a switch show the `var`s in them to what is around them.
+fn shows_vars(shape: &Shape) -> bool
+    ensures { result ≡ row.shows_vars shape.now }
 {
-    matches!(shape, Shape::BlockStatement)
+    matches!(shape, Shape::BlockStatement | Shape::SwitchStatement)
 }
 
 // A name that a scope declares, and that can be written.
@@ -114,7 +115,7 @@ fn may_write(name: &Option<Name>, scopes: &Scopes) -> bool
 pub fn may_lose(is_free: bool, name: &Option<Name>, outside: &Node, scopes: &Scopes) -> bool
     ensures { result ≡ row.may_lose is_free (open_in outside.now (marked scopes.now)) (names name.now) }
 {
-    is_free || !is_block_shape(outside.shape()) && may_write(name, scopes)
+    is_free || !shows_vars(outside.shape()) && may_write(name, scopes)
 }
 
 // An initializer that nothing misses: none, or an expression that has no effect and leaves nothing behind.
@@ -334,9 +335,121 @@ fn remove_in_list(
     }
 }
 
+// A switch over a list of cases.
+fn is_switch(node: &Node) -> bool
+    ensures kind { result ≡ row.is_switch node.now }
+    ensures parts { result ≡ true → count (children node.now) ≡ 2 }
+{
+    matches!(node.shape(), Shape::SwitchStatement) && node.is_bare(2) && is_listed(node.child(1))
+}
+
+// A case, with its statements in a list.
+fn is_case(node: &Node) -> bool
+    ensures kind { result ≡ row.is_case node.now }
+    ensures parts { result ≡ true → count (children node.now) ≡ 2 }
+{
+    matches!(node.shape(), Shape::SwitchCase) && node.is_bare(2) && is_listed(node.child(1))
+}
+
+// Of a switch, what stands at the place is such a case.
+fn is_case_at(node: &Node, at: usize) -> bool
+    requires cases { 1 < count (children node.now) }
+    requires case { at < count (children (part node.now 1)) }
+    ensures kind { result ≡ row.is_case (case_at node.now at) }
+    ensures parts { result ≡ true → count (children (case_at node.now at)) ≡ 2 }
+{
+    is_case(node.child(1).child(at))
+}
+
+// Of a switch, the statements of the case at the place, taken out of it.
+#[tactic(auto, using(crate::proofs::Unused::same_parts, crate::proofs::Unused::part_twice))]
+fn take_statements(node: &mut Node, at: usize) -> Node
+    requires cases { 1 < count (children node.old) }
+    requires case { at < count (children (part node.old 1)) }
+    requires list { 1 < count (children (case_at node.old at)) }
+    ensures list { result ≡ part (case_at node.old at) 1 }
+    ensures left { node.new ≡ with_statements node.old at absent }
+{
+    let mut cases = take_child(node, 1);
+    let mut case = take_child(&mut cases, at);
+    let list = take_child(&mut case, 1);
+    put_child(&mut cases, at, case);
+    put_child(node, 1, cases);
+    list
+}
+
+// Of a switch, these are the statements of the case at the place.
+#[tactic(auto, using(crate::proofs::Unused::same_parts, crate::proofs::Unused::part_twice))]
+fn put_statements(node: &mut Node, at: usize, list: Node)
+    requires cases { 1 < count (children node.old) }
+    requires case { at < count (children (part node.old 1)) }
+    requires list { 1 < count (children (case_at node.old at)) }
+    ensures { node.new ≡ with_statements node.old at list }
+{
+    let mut cases = take_child(node, 1);
+    let mut case = take_child(&mut cases, at);
+    put_child(&mut case, 1, list);
+    put_child(&mut cases, at, case);
+    put_child(node, 1, cases);
+}
+
+// Of a switch, names go from the statements of the case at the place, which nothing else in the switch mentions.
+fn remove_in_case(
+    alloc: Global,
+    node: &mut Node,
+    at: usize,
+    scopes: &Scopes,
+) -> Result<bool, OutOfMemory>
+    requires switch { row.is_switch node.old ≡ true }
+    requires cases { 1 < count (children node.old) }
+    requires case { at < count (children (part node.old 1)) }
+    ensures { IfOk result (λ changed. AppliedInCase node.old at node.new changed) }
+{
+    if !is_case_at(node, at) {
+        return Ok(false);
+    }
+    let mut list = take_statements(node, at);
+    let changed = remove_in_list(alloc, node, &mut list, scopes);
+    put_statements(node, at, list);
+    changed
+}
+
+// From the case at the place on, of the first that has such names.
+fn remove_in_cases(
+    alloc: Global,
+    node: &mut Node,
+    from: usize,
+    scopes: &Scopes,
+) -> Result<bool, OutOfMemory>
+    requires switch { row.is_switch node.old ≡ true }
+    requires cases { 1 < count (children node.old) }
+    ensures { IfOk result (λ changed. AppliedInCases node.old from node.new changed) }
+{
+    if from >= node.child(1).children().len() {
+        return Ok(false);
+    }
+    if remove_in_case(alloc, node, from, scopes)? {
+        return Ok(true);
+    }
+    remove_in_cases(alloc, node, from + 1, scopes)
+}
+
+// Of a switch, names go from its cases.
+fn remove_unused_in_switch(
+    alloc: Global,
+    node: &mut Node,
+    scopes: &Scopes,
+) -> Result<bool, OutOfMemory>
+    requires switch { row.is_switch node.old ≡ true }
+    requires cases { 1 < count (children node.old) }
+    ensures { IfOk result (λ changed. (q : StmtSeat) → Applied (marked scopes.now) (Stmt q) node.old node.new changed) }
+{
+    remove_in_cases(alloc, node, 0, scopes)
+}
+
 /// Of a block, `let x = a();` becomes `a();`, `let x;` and `let x = 1;` become `;`, and `let x, y = b();` becomes `let y = b();`
-/// where nothing mentions x, and so do the statements of a function that is declared. The answer says whether one did; the only error
-/// is that memory runs out.
+/// where nothing mentions x, and so do the cases of a switch and the statements of a function that is declared. The answer says whether
+/// one did; the only error is that memory runs out.
 #[tactic(auto, using(crate::proofs::Unused::same_parts, crate::proofs::Unused::part_twice))]
 pub fn remove_unused_declaration(
     alloc: Global,
@@ -345,6 +458,9 @@ pub fn remove_unused_declaration(
 ) -> Result<bool, OutOfMemory>
     ensures { IfOk result (λ changed. (q : StmtSeat) → Applied (marked scopes.now) (Stmt q) node.old node.new changed) }
 {
+    if is_switch(node) {
+        return remove_unused_in_switch(alloc, node, scopes);
+    }
     if !is_block(node) {
         return remove_unused_in_function(alloc, node, scopes);
     }
@@ -485,7 +601,7 @@ pub fn remove_unused_in_module(
     changed
 }
 
-/// Rows 71 and 72 as a rule: of each block, of each function with statements, of each static block, and of a module. Its context says which names the program
+/// Rows 71 and 72 as a rule: of each block and each switch, of each function with statements, of each static block, and of a module. Its context says which names the program
 /// that it knows lets be written.
 pub struct RemoveUnusedDeclarations;
 

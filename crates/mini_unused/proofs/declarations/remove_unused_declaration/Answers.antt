@@ -21,4 +21,4 @@ returns c =
 pub returns-then-not-is_block : goal.returns-then-not-is_block
 returns-then-not-is_block c =
     where_ok c.remove_unused_in_function.result (λ changed. AppliedInFunction (marked c.args.scopes.now) c.args.node.now c.remove_unused_in_function.new.node changed) (λ changed. (q : StmtSeat) → Applied (marked c.args.scopes.now) (Stmt q) c.args.node.now c.remove_unused_in_function.new.node changed)
-    (λ changed r. as_statement (marked c.args.scopes.now) c.args.node.now c.remove_unused_in_function.new.node changed (sym c.if-not-is_block.ensures.kind) r) c.remove_unused_in_function.ensures
+    (λ changed r. as_statement (marked c.args.scopes.now) c.args.node.now c.remove_unused_in_function.new.node changed (sym c.if-is_switch.ensures.kind) (sym c.if-not-is_block.ensures.kind) r) c.remove_unused_in_function.ensures
